@@ -1,0 +1,3 @@
+pub mod Pushing
+pub mod Serving
+pub mod Writing

@@ -1,0 +1,23 @@
+//! Bytes that come in and bytes that go out: [`Source`] and [`Sink`], over memory, files and streams.
+//!
+//! Each of them counts its faults, and a failure is told only where that count rose. What a source
+//! has left and what a sink holds are known to contracts where the source or sink tells them.
+#![tactic(auto)]
+
+mod edge;
+mod errors;
+mod memory;
+mod serve;
+mod sink;
+mod source;
+mod steady;
+
+pub use edge::{ReadSource, WriteSink};
+pub use errors::{Failed, SinkError, WriteError};
+pub use memory::{MemSink, MemSource};
+pub use sink::Sink;
+pub use source::Source;
+pub use steady::{SteadySink, SteadySource};
+
+#[cfg(test)]
+mod tests;

@@ -1,0 +1,24 @@
+// Where bytes come from.
+ghost use Rattle.std.specs.Prelude.{ℕ, ◌<◌, List, Option, length};
+ghost use Rattle.std.specs.Io.{ReadsAtMost};
+ghost use Rattle.std.specs.Io.KnownBytes.{ReadConsumes};
+ghost use Rattle.outside.specs.Source.{HasCause};
+
+use super::errors::Failed;
+
+/// Bytes that come from outside.
+pub trait Source {
+    /// The bytes that are left, where the source tells them.
+    ghost left: { Self → Option (List ℕ) };
+
+    /// How often the source has failed. It stands still at `u64::MAX`.
+    ghost faults: { Self → ℕ };
+
+    /// Fills the front of `buf` with the next bytes and says how many. `Ok(0)` is the end, and comes
+    /// only there. `Failed` comes only where the count of faults rose, and takes no bytes.
+    fn pull(&mut self, buf: &mut [u8]) -> Result<usize, Failed>
+        requires { 0 < length buf.old }
+        ensures bound { ReadsAtMost result buf.new }
+        ensures bytes { ReadConsumes (left self.old) (left self.new) result buf.new }
+        ensures cause { HasCause (faults self.old) (faults self.new) result };
+}
