@@ -1,0 +1,19 @@
+use Rattle.std.proofs.Common.{refl, arith}
+use Rattle.lexical_core.proofs.ByteForms.{front_3, no_front_3, spells_3}
+use Rattle.lexical_core.proofs.utf8.Begun.with_third.Goals as goal
+
+pub returns-then-not-is_tail-clause-steps : goal.returns-then-not-is_tail-clause-steps
+returns-then-not-is_tail-clause-steps c =
+    (no_front_3 c.args.first c.args.second c.args.byte (omega arith) (λ s. let t = c.is_tail.ensures.1 s in cc), refl)
+
+pub returns-then-first-ge240-clause-steps : goal.returns-then-first-ge240-clause-steps
+returns-then-first-ge240-clause-steps c =
+    let tail = c.is_tail.ensures.0 c.if-not-is_tail.false in
+    (front_3 c.args.first c.args.second c.args.byte (omega arith) (omega arith) c.requires.2 tail, refl)
+
+pub returns-clause-steps : goal.returns-clause-steps
+returns-clause-steps c =
+    let tail = c.is_tail.ensures.0 c.if-not-is_tail.false in
+    let second = c.requires.2 in
+    let s = spells_3 c.args.first c.args.second c.args.byte c.char_of.result (omega arith) (omega arith) (omega arith) second tail in
+    (s.0, s.1, refl)

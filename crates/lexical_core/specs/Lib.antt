@@ -1,0 +1,13 @@
+pub mod Characters
+pub mod Utf8
+pub mod Begun
+pub mod Rules
+pub mod Decimals
+pub mod DecimalAnswers
+pub mod DecimalSoFar
+pub mod Reals
+pub mod FixedDigits
+pub mod CanonicalDecimals
+pub mod Exponents
+pub mod Escapes
+pub mod Tree

@@ -1,0 +1,136 @@
+// A decimal text read a character at a time: XML Schema part 2 §3.2.3.
+ghost use Rattle.std.specs.Prelude.{◌≡◌, ◌≢◌, ◌≤◌, ◌+◌, ◌<◌, ◌++◌, ◌∷◌, [], List, ℕ};
+ghost use Rattle.lexical_core.specs.DecimalAnswers.{IsDecimalAnswer};
+ghost use Rattle.lexical_core.specs.DecimalSoFar.{HasRead, ReadWhole, ReadFraction, IsNumberAnswer, HasDigits};
+
+use crate::decimal::Decimal;
+use crate::digits::Digits;
+
+/// What the characters of a text are.
+#[derive(Clone, Copy, Debug, PartialEq, Eq)]
+pub enum DecimalText {
+    /// A decimal text of this number.
+    Value(Decimal),
+    /// A decimal text of a number that is no `Decimal`.
+    TooLong,
+    /// No decimal text.
+    Bad,
+}
+
+/// Which part of the text comes.
+#[derive(Clone, Copy, Debug)]
+enum Stage {
+    Start,
+    Whole,
+    Fraction,
+    Failed,
+}
+
+/// A reader of decimal texts that takes a character at a time. It takes no memory.
+#[derive(Clone, Copy, Debug)]
+pub struct DecimalStep {
+    stage: Stage,
+    negative: bool,
+    digits: Digits,
+}
+
+impl DecimalStep {
+    /// A reader before the first character.
+    pub fn new() -> DecimalStep
+        ensures { HasRead result [] }
+    {
+        DecimalStep {
+            stage: Stage::Start,
+            negative: false,
+            digits: Digits::new(),
+        }
+    }
+
+    /// Takes a character.
+    pub fn take(&mut self, c: char)
+        ensures { (text : List ℕ) → HasRead self.old text → HasRead self.new (text ++ c ∷ []) }
+    {
+        match self.stage {
+            Stage::Start => self.take_first(c),
+            Stage::Whole => self.take_whole(c),
+            Stage::Fraction => self.take_fraction(c),
+            Stage::Failed => {}
+        }
+    }
+
+    /// Takes the first character.
+    fn take_first(&mut self, c: char)
+        ensures { (text : List ℕ) → ReadWhole self.old text → text ≡ []
+            → HasRead self.new (text ++ c ∷ []) }
+    {
+        match c {
+            '+' => self.stage = Stage::Whole,
+            '-' => {
+                self.negative = true;
+                self.stage = Stage::Whole;
+            }
+            _ => self.take_whole(c),
+        }
+    }
+
+    /// Takes a character before the point and after the sign.
+    fn take_whole(&mut self, c: char)
+        ensures { (text : List ℕ) → ReadWhole self.old text → (text ≡ [] → (c ≢ 43) × (c ≢ 45))
+            → HasRead self.new (text ++ c ∷ []) }
+    {
+        if c.is_ascii_digit() {
+            self.digits.push_whole(digit_of(c));
+            self.stage = Stage::Whole;
+        } else if c == '.' {
+            self.stage = Stage::Fraction;
+        } else {
+            self.stage = Stage::Failed;
+        }
+    }
+
+    /// Takes a character after the point.
+    fn take_fraction(&mut self, c: char)
+        requires { self.old.stage ≡ Stage.Fraction }
+        ensures { (text : List ℕ) → ReadFraction self.old text
+            → HasRead self.new (text ++ c ∷ []) }
+    {
+        if c.is_ascii_digit() {
+            self.digits.push_fraction(digit_of(c));
+        } else {
+            self.stage = Stage::Failed;
+        }
+    }
+
+    /// What the characters so far are as a whole text.
+    pub fn finish(&self) -> DecimalText
+        ensures { (text : List ℕ) → HasRead self.now text → IsDecimalAnswer text result }
+    {
+        match self.stage {
+            Stage::Whole | Stage::Fraction => number_of(&self.digits, self.negative),
+            Stage::Start | Stage::Failed => DecimalText::Bad,
+        }
+    }
+}
+
+/// The number of these digits and this sign.
+fn number_of(digits: &Digits, negative: bool) -> DecimalText
+    ensures { (value count : ℕ) → HasDigits digits.now value count
+        → IsNumberAnswer negative value count digits.now.some result }
+{
+    if !digits.some {
+        DecimalText::Bad
+    } else if digits.long {
+        DecimalText::TooLong
+    } else {
+        DecimalText::Value(Decimal::of(negative, digits.size, digits.scale))
+    }
+}
+
+/// The value of a digit.
+fn digit_of(c: char) -> u8
+    requires { (48 ≤ c) × (c ≤ 57) }
+    ensures code { result + 48 ≡ c }
+    ensures digit { result < 10 }
+{
+    (c as u32 - '0' as u32) as u8
+}
