@@ -1,0 +1,39 @@
+-- What the tokens of a text and their code tell of its trees.
+use Rattle.std.proofs.Common.{◌≡◌, ℕ, ◌≤◌, ◌<◌, Some, List, [], refl, sym, ap, ◌∙◌, subst, arith, append-nil, inl}
+use Rattle.pattern_match.specs.Expression.{Expression}
+use Rattle.pattern_match.specs.Positions.{positions}
+use Rattle.pattern_match.specs.Reading.{IsTreeOf, IsPattern, HasMorePositions, HasPositionsWithin}
+use Rattle.pattern_match.specs.Spelling.{spelling}
+use Rattle.pattern_match.specs.Tokens.{emitted}
+use Rattle.pattern_match.specs.Building.{capped, limit, built_whole}
+use Rattle.pattern_match.specs.Compiled.{tokens_of_text, code_of_text}
+use Rattle.pattern_match.specs.declared.control.Control.TheVariants.{Start}
+use Rattle.pattern_match.proofs.Tokens.{tokens_then}
+use Rattle.pattern_match.proofs.PlanOf.{whole}
+use Rattle.pattern_match.proofs.Leading.{tree_lead}
+use Rattle.pattern_match.proofs.CodeOf.{code, whole_built}
+
+-- the tokens of a text are those of each of its trees
+pub tree_tokens : (text : List ℕ) (t : Expression) → IsTreeOf text t → tokens_of_text text ≡ tokens_then t []
+tree_tokens text t h =
+    let l = tree_lead t Start 0 [] (inl refl) h.valid in
+    ap (λ x. emitted (Some Start) x) (sym (append-nil (spelling t) ∙ h.spelled)) ∙ l.2.tokens
+
+-- so is their code
+pub tree_code : (text : List ℕ) (t : Expression) → IsTreeOf text t → code_of_text text ≡ code (whole t)
+tree_code text t h = ap (λ x. (built_whole x).code) (tree_tokens text t h) ∙ (whole_built t).0
+
+pub tree_positions : (text : List ℕ) (t : Expression) → IsTreeOf text t → (built_whole (tokens_of_text text)).last ≡ capped (positions t)
+tree_positions text t h = ap (λ x. (built_whole x).last) (tree_tokens text t h) ∙ (whole_built t).1
+
+pub too_large : (text : List ℕ) → IsPattern text → limit < (built_whole (tokens_of_text text)).last → HasMorePositions text limit
+too_large text (t, h) l = (t, h, let e = tree_positions text t h in let x : limit < capped (positions t) = subst (λ y. limit < y) e l in omega arith)
+
+pub small_enough : (text : List ℕ) → IsPattern text → (built_whole (tokens_of_text text)).last ≤ limit → HasPositionsWithin text limit
+small_enough text (t, h) l = (t, h, let e = tree_positions text t h in let x : capped (positions t) ≤ limit = subst (λ y. y ≤ limit) e l in omega arith)
+
+-- all trees of a text are small enough where one is
+pub all_small : (text : List ℕ) (t : Expression) → IsTreeOf text t → HasPositionsWithin text limit → positions t ≤ limit
+all_small text t h (s, g, l) =
+    let e : capped (positions t) ≡ capped (positions s) = sym (tree_positions text t h) ∙ tree_positions text s g in
+    omega arith

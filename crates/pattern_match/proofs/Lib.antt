@@ -1,0 +1,14 @@
+pub mod Words
+pub mod PassLemmas
+pub mod Planning
+pub mod Tokens
+pub mod PlanOf
+pub mod CharacterLemmas
+pub mod ControlLemmas
+pub mod CodeOf
+pub mod Leading
+pub mod Finding
+pub mod Refusing
+pub mod Judging
+pub mod Matching
+pub mod OneTree

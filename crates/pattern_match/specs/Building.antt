@@ -1,0 +1,112 @@
+-- How a token goes on with the code of a pattern.
+use Rattle.std.specs.Prelude.{ℕ, zero, suc, ◌+◌, ◌-◌, ◌*◌, min, max, Bool, true, false, ◌==◌, nat_lt, if◌then◌else◌, Option, Some, None, List, [], ◌∷◌, ◌++◌, length, take, drop, slice_set}
+use Rattle.pattern_match.specs.declared.instruction.Instruction.{Instruction}
+use Rattle.pattern_match.specs.declared.instruction.Instruction.TheVariants.{Take, Open, Bar, Close}
+use Rattle.pattern_match.specs.declared.instruction.Begun.{Begun}
+use Rattle.pattern_match.specs.declared.token.Token.{Token}
+use Rattle.pattern_match.specs.declared.token.Token.TheVariants.{Open as OpenToken, Close as CloseToken, Bar as BarToken, Single as SingleToken, Dot as DotToken, Spaces as SpacesToken, ClassStart, Member, Times}
+
+-- the most positions of a pattern
+abbrev pub limit : ℕ
+limit = 65536
+
+-- positions are counted up to one more than the limit
+abbrev pub capped : ℕ → ℕ
+capped n = min n 65537
+
+-- the code so far, the groups that are begun, the innermost first, the positions of the innermost but its last piece, those of its last piece, and where that begins
+pub record Built : Type 0 where
+  pub code : List Instruction
+  pub begun : List Begun
+  pub total : ℕ
+  pub last : ℕ
+  pub start : ℕ
+
+-- an instruction with these flags
+abbrev pub flagged : Bool → Bool → Instruction → Instruction
+flagged optional repeated (Take at o r) = Take at optional repeated
+flagged optional repeated (Open length o r) = Open length optional repeated
+flagged optional repeated Bar = Bar
+flagged optional repeated Close = Close
+
+-- a fragment with these flags on its first instruction
+abbrev pub flagged_first : Bool → Bool → List Instruction → List Instruction
+flagged_first optional repeated [] = []
+flagged_first optional repeated (i ∷ code) = flagged optional repeated i ∷ code
+
+-- so many copies, one after the other
+abbrev pub copies_code : ℕ → List Instruction → List Instruction
+copies_code zero code = []
+copies_code (suc n) code = code ++ copies_code n code
+
+-- a fragment, repeated as the bounds say
+abbrev pub repeated_code : ℕ → Option ℕ → List Instruction → List Instruction
+repeated_code least (Some most) code = copies_code least (flagged_first false false code) ++ copies_code (most - least) (flagged_first true false code)
+repeated_code least None code =
+    if least == 0 then flagged_first true true code else copies_code (least - 1) (flagged_first false false code) ++ flagged_first false true code
+
+-- how many copies of a piece are kept
+abbrev pub kept : ℕ → Option ℕ → ℕ
+kept least None = max least 1
+kept least (Some most) = most
+
+abbrev pub begun_at : ℕ → ℕ → Begun
+begun_at start total = record { start = start; total = total }
+
+-- the positions of the innermost group
+abbrev pub sum_of : Built → ℕ
+sum_of b = capped (b.total + b.last)
+
+abbrev pub after_atom : ℕ → Built → Built
+after_atom at b = record { code = b.code ++ Take at false false ∷ []; begun = b.begun; total = sum_of b; last = 1; start = length b.code }
+
+abbrev pub after_open : Built → Built
+after_open b = record { code = b.code ++ Open 0 false false ∷ []; begun = begun_at (length b.code) (sum_of b) ∷ b.begun; total = 0; last = 0; start = 0 }
+
+abbrev pub after_bar : Built → Built
+after_bar b = record { code = b.code ++ Bar ∷ []; begun = b.begun; total = sum_of b; last = 0; start = 0 }
+
+-- the code of a group that ends: dropped where it has no positions
+abbrev pub closed_code : ℕ → List Instruction → ℕ → List Instruction
+closed_code start code positions =
+    if positions == 0 then take start code else slice_set code start (Open (length code - start - 1) false false) ++ Close ∷ []
+
+abbrev pub after_close_of : List Begun → Built → Built
+after_close_of [] b = b
+after_close_of (g ∷ begun) b = record { code = closed_code g.start b.code (sum_of b); begun = begun; total = g.total; last = sum_of b; start = g.start }
+
+abbrev pub after_close : Built → Built
+after_close b = after_close_of b.begun b
+
+-- the code of a piece of so many positions, repeated as the bounds say: dropped where nothing is kept of it, as it is where too much would be
+abbrev pub piece_code : ℕ → List Instruction → ℕ → ℕ → Option ℕ → List Instruction
+piece_code start code positions least most =
+    if positions == 0 then take start code else if nat_lt limit positions then code else take start code ++ repeated_code least most (drop start code)
+
+abbrev pub after_times : ℕ → Option ℕ → Built → Built
+after_times least most b =
+    record { code = piece_code b.start b.code (b.last * kept least most) least most; begun = b.begun; total = b.total; last = capped (b.last * kept least most); start = b.start }
+
+-- behind a token of this number
+abbrev pub after : Token → ℕ → Built → Built
+after OpenToken at b = after_open b
+after CloseToken at b = after_close b
+after BarToken at b = after_bar b
+after (SingleToken c) at b = after_atom at b
+after DotToken at b = after_atom at b
+after SpacesToken at b = after_atom at b
+after (ClassStart negated) at b = after_atom at b
+after (Member low high) at b = b
+after (Times least most) at b = after_times least most b
+
+-- behind tokens, the first of which has this number
+abbrev pub built : ℕ → List Token → Built → Built
+built at [] b = b
+built at (token ∷ tokens) b = built (at + 1) tokens (after token at b)
+
+abbrev pub nothing_built : Built
+nothing_built = record { code = []; begun = []; total = 0; last = 0; start = 0 }
+
+-- a whole pattern: one group
+abbrev pub built_whole : List Token → Built
+built_whole tokens = after_close (built 0 tokens (after_open nothing_built))

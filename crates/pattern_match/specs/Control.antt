@@ -1,0 +1,178 @@
+-- How a character leads the reading of a pattern on: XML Schema part 2, appendix F.
+use Rattle.std.specs.Prelude.{ℕ, ◌+◌, ◌*◌, ◌/◌, ◌≤◌, suc, zero, Bool, true, false, ◌&&◌, ◌==◌, nat_le, nat_lt, if◌then◌else◌, Option, Some, None, List, [], ◌∷◌}
+use Rattle.pattern_match.specs.Valid.{escaped}
+use Rattle.pattern_match.specs.Character.{outside, within, in_number, behind_backslash}
+use Rattle.pattern_match.specs.declared.character.Outside.{Outside}
+use Rattle.pattern_match.specs.declared.character.Outside.TheVariants.{Ordinary, Dot, Backslash, OpenClass, OpenGroup, CloseGroup, Bar, Optional, AnyNumber, OneOrMore, OpenBounds, Stray}
+use Rattle.pattern_match.specs.declared.character.Within.{Within}
+use Rattle.pattern_match.specs.declared.character.Within.TheVariants.{Plain, Backslash as BackslashWithin, Hyphen, CloseClass, Stray as StrayWithin}
+use Rattle.pattern_match.specs.declared.character.InNumber.{InNumber}
+use Rattle.pattern_match.specs.declared.character.InNumber.TheVariants.{Digit, Comma, CloseBounds, Stray as StrayInNumber}
+use Rattle.pattern_match.specs.declared.character.BehindBackslash.{BehindBackslash}
+use Rattle.pattern_match.specs.declared.character.BehindBackslash.TheVariants.{Space, Letter, Stray as StrayBehind}
+use Rattle.pattern_match.specs.declared.control.Control.{Control}
+use Rattle.pattern_match.specs.declared.control.Control.TheVariants.{Start, Atom, Escape, Least, Most, ClassStart, ClassNegated, ClassItem, ClassSingle, ClassDash, ClassEscape, RangeEscape, ClassEnd}
+use Rattle.pattern_match.specs.declared.control.Reading.{Reading}
+
+abbrev pub full : ℕ
+full = 1000000000
+
+abbrev pub outside_next : Outside → Option Control
+outside_next Ordinary = Some Atom
+outside_next Dot = Some Atom
+outside_next CloseGroup = Some Atom
+outside_next Backslash = Some Escape
+outside_next OpenClass = Some ClassStart
+outside_next OpenGroup = Some Start
+outside_next Bar = Some Start
+outside_next Optional = None
+outside_next AnyNumber = None
+outside_next OneOrMore = None
+outside_next OpenBounds = None
+outside_next Stray = None
+
+abbrev pub atom_next : Outside → Option Control
+atom_next Optional = Some Start
+atom_next AnyNumber = Some Start
+atom_next OneOrMore = Some Start
+atom_next OpenBounds = Some (Least full 0)
+atom_next Ordinary = Some Atom
+atom_next Dot = Some Atom
+atom_next CloseGroup = Some Atom
+atom_next Backslash = Some Escape
+atom_next OpenClass = Some ClassStart
+atom_next OpenGroup = Some Start
+atom_next Bar = Some Start
+atom_next Stray = None
+
+abbrev pub escape_next : BehindBackslash → Option Control
+escape_next Space = Some Atom
+escape_next Letter = Some Atom
+escape_next StrayBehind = None
+
+-- digits that stand for value leave room for those that the weight counts
+abbrev pub HasRoom : ℕ → ℕ → Type 0
+HasRoom weight value = (value + 1) * weight ≤ full
+
+abbrev pub least_next : ℕ → ℕ → InNumber → Option Control
+least_next weight value (Digit digit) = if nat_lt weight 10 then None else Some (Least (weight / 10) (10 * value + digit))
+least_next weight value CloseBounds = if nat_lt weight full then Some Start else None
+least_next weight value Comma = if nat_lt weight full then Some (Most value full 0) else None
+least_next weight value StrayInNumber = None
+
+abbrev pub most_next : ℕ → ℕ → ℕ → InNumber → Option Control
+most_next least weight value (Digit digit) =
+    if nat_lt weight 10 then None
+    else if nat_lt least ((10 * value + digit + 1) * (weight / 10)) then Some (Most least (weight / 10) (10 * value + digit)) else None
+most_next least weight value CloseBounds = if weight == full then Some Start else if nat_le least value then Some Start else None
+most_next least weight value Comma = None
+most_next least weight value StrayInNumber = None
+
+abbrev pub class_item_next : Within → ℕ → Option Control
+class_item_next Plain c = Some (ClassSingle c)
+class_item_next BackslashWithin c = Some ClassEscape
+class_item_next Hyphen c = Some ClassEnd
+class_item_next CloseClass c = Some Atom
+class_item_next StrayWithin c = None
+
+abbrev pub class_first_next : Within → ℕ → Option Control
+class_first_next Plain c = Some (ClassSingle c)
+class_first_next BackslashWithin c = Some ClassEscape
+class_first_next Hyphen c = Some ClassItem
+class_first_next CloseClass c = None
+class_first_next StrayWithin c = None
+
+abbrev pub class_single_next : ℕ → Within → ℕ → Option Control
+class_single_next low Plain c = Some (ClassSingle c)
+class_single_next low BackslashWithin c = Some ClassEscape
+class_single_next low Hyphen c = Some (ClassDash low)
+class_single_next low CloseClass c = Some Atom
+class_single_next low StrayWithin c = None
+
+abbrev pub class_dash_next : ℕ → Within → ℕ → Option Control
+class_dash_next low Plain c = if nat_le low c then Some ClassItem else None
+class_dash_next low BackslashWithin c = if nat_le low 125 then Some (RangeEscape low) else None
+class_dash_next low Hyphen c = None
+class_dash_next low CloseClass c = Some Atom
+class_dash_next low StrayWithin c = None
+
+abbrev pub class_end_next : Within → Option Control
+class_end_next Plain = None
+class_end_next BackslashWithin = None
+class_end_next Hyphen = None
+class_end_next CloseClass = Some Atom
+class_end_next StrayWithin = None
+
+abbrev pub class_escape_next : BehindBackslash → ℕ → Option Control
+class_escape_next Space c = Some ClassItem
+class_escape_next Letter c = Some (ClassSingle (escaped c))
+class_escape_next StrayBehind c = None
+
+abbrev pub range_escape_next : ℕ → BehindBackslash → ℕ → Option Control
+range_escape_next low Space c = None
+range_escape_next low Letter c = if nat_le low (escaped c) then Some ClassItem else None
+range_escape_next low StrayBehind c = None
+
+-- what stands before the character after c
+abbrev pub next : Control → ℕ → Option Control
+next Start c = outside_next (outside c)
+next Atom c = atom_next (outside c)
+next Escape c = escape_next (behind_backslash c)
+next (Least weight value) c = least_next weight value (in_number c)
+next (Most least weight value) c = most_next least weight value (in_number c)
+next ClassStart c = if c == 94 then Some ClassNegated else class_first_next (within c) c
+next ClassNegated c = class_first_next (within c) c
+next ClassItem c = class_item_next (within c) c
+next (ClassSingle low) c = class_single_next low (within c) c
+next (ClassDash low) c = class_dash_next low (within c) c
+next ClassEscape c = class_escape_next (behind_backslash c) c
+next (RangeEscape low) c = range_escape_next low (behind_backslash c) c
+next ClassEnd c = class_end_next (within c)
+
+-- how many groups are open then
+abbrev pub depth_outside : Outside → ℕ → Option ℕ
+depth_outside OpenGroup depth = Some (suc depth)
+depth_outside CloseGroup zero = None
+depth_outside CloseGroup (suc depth) = Some depth
+depth_outside meaning depth = Some depth
+
+abbrev pub depth_after : Control → ℕ → ℕ → Option ℕ
+depth_after Start c depth = depth_outside (outside c) depth
+depth_after Atom c depth = depth_outside (outside c) depth
+depth_after control c depth = Some depth
+
+abbrev pub reading : Control → ℕ → Reading
+reading control depth = record { control = control; depth = depth }
+
+abbrev pub joined : Option Control → Option ℕ → Option Reading
+joined None depth = None
+joined (Some control) None = None
+joined (Some control) (Some depth) = Some (reading control depth)
+
+-- where the reading stands behind c
+abbrev pub step : Reading → ℕ → Option Reading
+step r c = joined (next r.control c) (depth_after r.control c r.depth)
+
+abbrev pub step_from : Option Reading → ℕ → Option Reading
+step_from None c = None
+step_from (Some r) c = step r c
+
+-- where it stands behind characters
+abbrev pub run : Option Reading → List ℕ → Option Reading
+run r [] = r
+run r (c ∷ cs) = run (step_from r c) cs
+
+-- a pattern may end there
+abbrev pub ends_piece : Control → Bool
+ends_piece Start = true
+ends_piece Atom = true
+ends_piece control = false
+
+abbrev pub may_end : Reading → Bool
+may_end r = ends_piece r.control && (r.depth == 0)
+
+-- the digits read leave room for those that may follow
+abbrev pub IsSound : Control → Type 0
+IsSound (Least weight value) = HasRoom weight value
+IsSound (Most least weight value) = HasRoom weight value
+IsSound control = Unit {0}

@@ -1,0 +1,16 @@
+pub mod Expression
+pub mod Spelling
+pub mod Valid
+pub mod Positions
+pub mod Language
+pub mod Reading
+pub mod Plan
+pub mod Marking
+pub mod Carried
+pub mod Character
+pub mod Control
+pub mod Refusal
+pub mod Tokens
+pub mod Building
+pub mod Compiled
+pub mod Token

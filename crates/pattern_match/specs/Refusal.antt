@@ -1,0 +1,18 @@
+-- Where the reading of a text stops.
+use Rattle.std.specs.Prelude.{ℕ, ◌+◌, ◌-◌, if◌then◌else◌, Option, Some, None, List, [], ◌∷◌}
+use Rattle.pattern_match.specs.Control.{reading, step, may_end}
+use Rattle.pattern_match.specs.declared.control.Control.TheVariants.{Start}
+use Rattle.pattern_match.specs.declared.control.Reading.{Reading}
+
+-- before the first character
+abbrev pub start : Reading
+start = reading Start 0
+
+-- from a reading, or none, at the n-th character: where it stopped, or where the text may not end
+abbrev pub refused : Option Reading → ℕ → List ℕ → Option ℕ
+refused None n cs = Some (n - 1)
+refused (Some r) n [] = if may_end r then None else Some n
+refused (Some r) n (c ∷ cs) = refused (step r c) (n + 1) cs
+
+abbrev pub refused_from : Reading → ℕ → List ℕ → Option ℕ
+refused_from r n cs = refused (Some r) n cs

@@ -1,0 +1,324 @@
+// The code of a pattern, made token by token.
+ghost use Rattle.std.specs.Prelude.{◌≡◌, ℕ, ◌+◌, ◌*◌, Option, List, [], ◌∷◌, ◌++◌, take, drop, OnOk, IfOk};
+ghost use Rattle.pattern_match.specs.Building.{flagged, flagged_first, copies_code, repeated_code, kept, capped, closed_code, piece_code, after_atom, after_open, after_bar, after_close, after_times, after, nothing_built, built_whole, built};
+
+use crate::instruction::{Begun, Instruction};
+use crate::token::Token;
+use std::alloc::{AllocError, Global};
+use std::marker::Model;
+
+/// The most positions of a pattern.
+pub const LIMIT: u64 = 65_536;
+
+/// An instruction with these flags.
+fn with_flags(instruction: Instruction, optional: bool, repeated: bool) -> Instruction
+    ensures { result ≡ flagged optional repeated instruction }
+{
+    match instruction {
+        Instruction::Take { at, .. } => Instruction::Take {
+            at,
+            optional,
+            repeated,
+        },
+        Instruction::Open { length, .. } => Instruction::Open {
+            length,
+            optional,
+            repeated,
+        },
+        other => other,
+    }
+}
+
+/// Pushes a fragment with these flags on its first instruction.
+fn push_copy(
+    code: &mut Vec<Instruction>,
+    fragment: &[Instruction],
+    optional: bool,
+    repeated: bool,
+) -> Result<(), AllocError>
+    ensures { OnOk result (code.new.items ≡ code.old.items ++ flagged_first optional repeated fragment.now) }
+{
+    if fragment.len() == 0 {
+        return Ok(());
+    }
+    code.push(with_flags(fragment[0], optional, repeated))?;
+    for instruction in &fragment[1..] {
+        code.push(*instruction)?;
+    }
+    Ok(())
+}
+
+/// Pushes so many copies of a fragment.
+fn push_copies(
+    code: &mut Vec<Instruction>,
+    fragment: &[Instruction],
+    count: u64,
+    optional: bool,
+    repeated: bool,
+) -> Result<(), AllocError>
+    ensures { OnOk result (code.new.items ≡ code.old.items ++ copies_code count (flagged_first optional repeated fragment.now)) }
+{
+    for i in 0..count {
+        push_copy(code, fragment, optional, repeated)?;
+    }
+    Ok(())
+}
+
+/// Pushes a fragment, repeated as the bounds say.
+fn push_repeated(
+    code: &mut Vec<Instruction>,
+    fragment: &[Instruction],
+    least: u64,
+    most: Option<u64>,
+) -> Result<(), AllocError>
+    ensures { OnOk result (code.new.items ≡ code.old.items ++ repeated_code least most fragment.now) }
+{
+    match most {
+        Some(most) => {
+            push_copies(code, fragment, least, false, false)?;
+            push_copies(code, fragment, most.saturating_sub(least), true, false)
+        }
+        None => {
+            if least == 0 {
+                push_copy(code, fragment, true, true)
+            } else {
+                push_copies(code, fragment, least - 1, false, false)?;
+                push_copy(code, fragment, false, true)
+            }
+        }
+    }
+}
+
+/// The instructions from a place on.
+fn fragment_from(
+    alloc: Global,
+    code: &[Instruction],
+    start: usize,
+) -> Result<Vec<Instruction>, AllocError>
+    ensures { IfOk result (λ v. v.items ≡ drop start code.now) }
+{
+    let mut fragment = Vec::new(alloc);
+    if start < code.len() {
+        for instruction in &code[start..] {
+            fragment.push(*instruction)?;
+        }
+    }
+    Ok(fragment)
+}
+
+/// Repeats the piece of so many positions that begins at `start`, as the bounds say.
+fn repeat_piece(
+    alloc: Global,
+    code: &mut Vec<Instruction>,
+    start: usize,
+    positions: u64,
+    least: u64,
+    most: Option<u64>,
+) -> Result<(), AllocError>
+    ensures { OnOk result (code.new.items ≡ piece_code start code.old.items positions least most) }
+{
+    if positions == 0 {
+        code.truncate(start);
+        return Ok(());
+    }
+    if positions > LIMIT {
+        return Ok(());
+    }
+    let fragment = fragment_from(alloc, code.as_slice(), start)?;
+    code.truncate(start);
+    push_repeated(code, fragment.as_slice(), least, most)
+}
+
+/// Ends the group of so many positions that begins at `start`.
+fn close_group(code: &mut Vec<Instruction>, start: usize, positions: u64) -> Result<(), AllocError>
+    ensures { OnOk result (code.new.items ≡ closed_code start code.old.items positions) }
+{
+    if positions == 0 {
+        code.truncate(start);
+        return Ok(());
+    }
+    if start < code.len() {
+        let length = code.len() - start - 1;
+        code[start] = Instruction::Open {
+            length,
+            optional: false,
+            repeated: false,
+        };
+    }
+    code.push(Instruction::Close)?;
+    Ok(())
+}
+
+/// How many copies of a piece are kept.
+fn copies_kept(least: u64, most: Option<u64>) -> u64
+    ensures { result ≡ kept least most }
+{
+    match most {
+        Some(most) => most,
+        None => least.max(1),
+    }
+}
+
+/// Positions, up to one more than the limit.
+fn capped_sum(a: u64, b: u64) -> u64
+    ensures { result ≡ capped (a + b) }
+{
+    a.saturating_add(b).min(LIMIT + 1)
+}
+
+/// The code so far, the groups that are begun, and the positions of the innermost.
+#[derive(Drop)]
+pub struct Builder {
+    code: Vec<Instruction>,
+    begun: Vec<Begun>,
+    total: u64,
+    last: u64,
+    start: usize,
+}
+
+impl Model for Builder {
+    ghost use Rattle.std.specs.Prelude.{reverse};
+    ghost use Rattle.pattern_match.specs.Building.{Built};
+
+    ghost Value = { Built };
+
+    ghost view = { λ b. record { code = b.code.items; begun = reverse b.begun.items; total = b.total; last = b.last; start = b.start } };
+}
+
+impl Builder {
+    /// No code and no group.
+    fn new(alloc: Global) -> Builder
+        ensures { result ≡ nothing_built }
+    {
+        Builder {
+            code: Vec::new(alloc),
+            begun: Vec::new(alloc),
+            total: 0,
+            last: 0,
+            start: 0,
+        }
+    }
+
+    /// The positions of the last piece, or group.
+    fn last(&self) -> u64
+        ensures { result ≡ self.now.last }
+    {
+        self.last
+    }
+
+    fn into_code(self) -> Vec<Instruction>
+        ensures { result.items ≡ self.code }
+    {
+        let Builder {
+            code,
+            begun: _,
+            total: _,
+            last: _,
+            start: _,
+        } = self;
+        code
+    }
+
+    fn push_atom(&mut self, at: usize) -> Result<(), AllocError>
+        ensures { OnOk result (self.new ≡ after_atom at self.old) }
+    {
+        self.total = capped_sum(self.total, self.last);
+        self.last = 1;
+        self.start = self.code.len();
+        self.code.push(Instruction::Take {
+            at,
+            optional: false,
+            repeated: false,
+        })?;
+        Ok(())
+    }
+
+    fn open(&mut self) -> Result<(), AllocError>
+        ensures { OnOk result (self.new ≡ after_open self.old) }
+    {
+        self.begun.push(Begun {
+            start: self.code.len(),
+            total: capped_sum(self.total, self.last),
+        })?;
+        self.code.push(Instruction::Open {
+            length: 0,
+            optional: false,
+            repeated: false,
+        })?;
+        self.total = 0;
+        self.last = 0;
+        self.start = 0;
+        Ok(())
+    }
+
+    fn bar(&mut self) -> Result<(), AllocError>
+        ensures { OnOk result (self.new ≡ after_bar self.old) }
+    {
+        self.code.push(Instruction::Bar)?;
+        self.total = capped_sum(self.total, self.last);
+        self.last = 0;
+        self.start = 0;
+        Ok(())
+    }
+
+    fn close(&mut self) -> Result<(), AllocError>
+        ensures { OnOk result (self.new ≡ after_close self.old) }
+    {
+        if let Some(group) = self.begun.pop() {
+            let positions = capped_sum(self.total, self.last);
+            close_group(&mut self.code, group.start, positions)?;
+            self.total = group.total;
+            self.last = positions;
+            self.start = group.start;
+        }
+        Ok(())
+    }
+
+    fn repeat(&mut self, alloc: Global, least: u64, most: Option<u64>) -> Result<(), AllocError>
+        ensures { OnOk result (self.new ≡ after_times least most self.old) }
+    {
+        let positions = self.last.saturating_mul(copies_kept(least, most));
+        repeat_piece(alloc, &mut self.code, self.start, positions, least, most)?;
+        self.last = positions.min(LIMIT + 1);
+        Ok(())
+    }
+
+    /// Goes on with the token of this number.
+    fn take(&mut self, alloc: Global, token: Token, at: usize) -> Result<(), AllocError>
+        ensures { OnOk result (self.new ≡ after token at self.old) }
+    {
+        match token {
+            Token::Open => self.open(),
+            Token::Close => self.close(),
+            Token::Bar => self.bar(),
+            Token::Member { .. } => Ok(()),
+            Token::Times { least, most } => self.repeat(alloc, least, most),
+            _ => self.push_atom(at),
+        }
+    }
+}
+
+/// The code of a pattern, and its positions up to one more than the limit.
+#[derive(Drop)]
+pub struct Compiled {
+    pub code: Vec<Instruction>,
+    pub positions: u64,
+}
+
+/// Compiles the tokens of a whole pattern.
+pub fn compile(alloc: Global, tokens: &[Token]) -> Result<Compiled, AllocError>
+    ensures code { IfOk result (λ c. c.code.items ≡ (built_whole tokens.now).code) }
+    ensures positions { IfOk result (λ c. c.positions ≡ (built_whole tokens.now).last) }
+{
+    let mut builder = Builder::new(alloc);
+    builder.open()?;
+    for (at, token) in tokens.iter().enumerate() {
+        builder.take(alloc, *token, at)?;
+    }
+    builder.close()?;
+    let positions = builder.last();
+    Ok(Compiled {
+        code: builder.into_code(),
+        positions,
+    })
+}

@@ -1,0 +1,113 @@
+// What is carried from one instruction to the next, in memory that is taken once.
+ghost use Rattle.std.specs.Prelude.{◌≡◌, ℕ, ◌<◌, ◌≤◌, Bool, false, ◌||◌, ◌&&◌, List, [], ◌∷◌, length, IfOk, reverse, vec_capacity};
+ghost use Rattle.pattern_match.specs.Marking.{frame, now_at_bar, frames_at_bar, now_at_close, frames_at_close};
+
+use crate::instruction::Frame;
+use std::alloc::{AllocError, Global};
+use std::marker::Model;
+
+#[derive(Drop)]
+pub struct Flow {
+    live: bool,
+    frames: Vec<Frame>,
+}
+
+impl Model for Flow {
+    ghost use Rattle.std.specs.Prelude.{reverse, vec_capacity};
+    ghost use Rattle.pattern_match.specs.Carried.{Carried};
+
+    ghost Value = { Carried };
+
+    ghost view = { λ f. record { live = f.live; frames = reverse f.frames.items; capacity = vec_capacity f.frames } };
+}
+
+impl Flow {
+    /// Room for so many groups, one in the other.
+    pub fn new(alloc: Global, capacity: usize) -> Result<Flow, AllocError>
+        ensures { IfOk result (λ f. capacity ≤ f.capacity) }
+    {
+        Ok(Flow {
+            live: false,
+            frames: Vec::with_capacity(alloc, capacity)?,
+        })
+    }
+
+    /// Begins before the first instruction.
+    pub fn begin(&mut self, live: bool)
+        ensures live { self.new.live ≡ live }
+        ensures frames { self.new.frames ≡ [] }
+        ensures capacity { self.new.capacity ≡ self.old.capacity }
+    {
+        self.live = live;
+        self.frames.clear();
+    }
+
+    /// Whether a word may go on here.
+    pub fn is_live(&self) -> bool
+        ensures { result ≡ self.now.live }
+    {
+        self.live
+    }
+
+    pub fn set_live(&mut self, live: bool)
+        ensures live { self.new.live ≡ live }
+        ensures frames { self.new.frames ≡ self.old.frames }
+        ensures capacity { self.new.capacity ≡ self.old.capacity }
+    {
+        self.live = live;
+    }
+
+    /// Begins a group, which a word may also begin where it was left.
+    pub fn open(&mut self, optional: bool, again: bool)
+        requires { length self.old.frames < self.old.capacity }
+        ensures live { self.new.live ≡ (self.old.live || again) }
+        ensures frames { self.new.frames ≡ frame (self.old.live || again) (optional && self.old.live) ∷ self.old.frames }
+        ensures capacity { self.old.capacity ≤ self.new.capacity }
+    {
+        let left = optional && self.live;
+        self.live = self.live || again;
+        let begun = Frame {
+            entered: self.live,
+            left,
+        };
+        match self.frames.push(begun) {
+            Ok(()) => {}
+            Err(_) => unreachable!(),
+        }
+    }
+
+    /// Ends a branch of the innermost group, and begins the next.
+    pub fn bar(&mut self)
+        ensures live { self.new.live ≡ now_at_bar self.old.live self.old.frames }
+        ensures frames { self.new.frames ≡ frames_at_bar self.old.live self.old.frames }
+        ensures capacity { self.old.capacity ≤ self.new.capacity }
+    {
+        match self.frames.pop() {
+            None => {}
+            Some(group) => {
+                let left = group.left || self.live;
+                self.live = group.entered;
+                match self.frames.push(Frame {
+                    entered: group.entered,
+                    left,
+                }) {
+                    Ok(()) => {}
+                    Err(_) => unreachable!(),
+                }
+            }
+        }
+    }
+
+    /// Ends the innermost group, and says whether a word may leave it here.
+    pub fn close(&mut self) -> bool
+        ensures result { result ≡ now_at_close self.old.live self.old.frames }
+        ensures live { self.new.live ≡ now_at_close self.old.live self.old.frames }
+        ensures frames { self.new.frames ≡ frames_at_close self.old.frames }
+        ensures capacity { self.old.capacity ≤ self.new.capacity }
+    {
+        if let Some(group) = self.frames.pop() {
+            self.live = group.left || self.live;
+        }
+        self.live
+    }
+}

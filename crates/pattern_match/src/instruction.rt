@@ -1,0 +1,36 @@
+// The instructions that a pattern is compiled to.
+
+/// One instruction. They are passed from the first to the last, and carry whether a word may end there.
+#[derive(Clone, Copy, Drop)]
+pub enum Instruction {
+    /// Takes one character, of the atom whose token has the number `at`.
+    Take {
+        at: usize,
+        optional: bool,
+        repeated: bool,
+    },
+    /// Begins a group. `length` instructions stand between it and its `Close`.
+    Open {
+        length: usize,
+        optional: bool,
+        repeated: bool,
+    },
+    /// Ends a branch of a group, and begins the next.
+    Bar,
+    /// Ends a group.
+    Close,
+}
+
+/// What is kept of a group that is begun: whether a word may begin it here, and whether one may have left it.
+#[derive(Clone, Copy, Drop)]
+pub struct Frame {
+    pub entered: bool,
+    pub left: bool,
+}
+
+/// A group that is begun: where its `Open` stands, and the positions before it in the group around it.
+#[derive(Clone, Copy, Drop)]
+pub struct Begun {
+    pub start: usize,
+    pub total: u64,
+}

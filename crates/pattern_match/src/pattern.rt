@@ -1,0 +1,91 @@
+// A pattern that was read from its text.
+ghost use Rattle.std.specs.Prelude.{◌≡◌, ℕ, List, IfOk, IfErr, OnOk};
+ghost use Rattle.std.specs.Str.{chars};
+ghost use Rattle.pattern_match.specs.Reading.{HasPositionsWithin, Refuses};
+ghost use Rattle.pattern_match.specs.Building.{limit};
+ghost use Rattle.pattern_match.specs.Compiled.{IsCompiled, tokens_of_text, code_of_text};
+
+use crate::builder::{LIMIT, compile};
+use crate::error::PatternError;
+use crate::instruction::Instruction;
+use crate::lexer::tokens_of;
+use crate::refusal::refusal;
+use crate::token::Token;
+use lexical_core::Text;
+use std::alloc::{AllocError, Global};
+use std::marker::Model;
+
+/// A pattern: XML Schema part 2, appendix F, without `\d \w \i \c \p`, their negations and class subtraction. Contracts see its text.
+#[derive(Drop)]
+pub struct Pattern {
+    text: Text,
+    tokens: Vec<Token>,
+    code: Vec<Instruction>,
+}
+
+impl Model for Pattern {
+    ghost use Rattle.std.specs.Prelude.{ℕ, List};
+    ghost use Rattle.pattern_match.specs.Compiled.{IsCompiled};
+
+    ghost Value = { List ℕ };
+
+    ghost view = { λ p. p.text };
+
+    ghost invariant = { λ p. IsCompiled p.text p.tokens.items p.code.items };
+}
+
+/// The characters of a text.
+fn characters(alloc: Global, text: &str) -> Result<Vec<char>, AllocError>
+    ensures { IfOk result (λ v. v.items ≡ chars text.now) }
+{
+    text.chars().collect(alloc)
+}
+
+impl Pattern {
+    /// Reads a pattern from its whole text.
+    pub fn read(alloc: Global, text: &str) -> Result<Pattern, PatternError>
+        ensures text { IfOk result (λ p. p ≡ text.now) }
+        ensures positions { OnOk result (HasPositionsWithin (chars text.now) limit) }
+        ensures error { IfErr result (λ e. Refuses (chars text.now) e) }
+    {
+        let characters = characters(alloc, text)?;
+        match refusal(characters.as_slice()) {
+            Some(place) => return Err(PatternError::Refused { place }),
+            None => {}
+        }
+        let tokens = tokens_of(alloc, characters.as_slice())?;
+        let compiled = compile(alloc, tokens.as_slice())?;
+        if compiled.positions > LIMIT {
+            return Err(PatternError::TooLarge);
+        }
+        let mut kept = Text::new(alloc);
+        kept.extend(text.as_bytes())?;
+        Ok(Pattern {
+            text: kept,
+            tokens,
+            code: compiled.code,
+        })
+    }
+
+    /// The text that was read, as bytes. It takes no memory.
+    pub fn text(&self) -> &[u8]
+        ensures { result.now ≡ self.now }
+    {
+        self.text.bytes()
+    }
+
+    /// The tokens that the code speaks of.
+    pub(crate) fn tokens(&self) -> &[Token]
+        ensures { result.now ≡ tokens_of_text (chars self.now) }
+    {
+        self.tokens.as_slice()
+    }
+
+    /// The code of the pattern.
+    pub(crate) fn code(&self) -> &[Instruction]
+        ensures code { result.now ≡ code_of_text (chars self.now) }
+        ensures compiled { IsCompiled self.now (tokens_of_text (chars self.now)) result.now }
+    {
+        self.code.as_slice()
+    }
+}
