@@ -1,0 +1,54 @@
+-- Where the parts of a date's text end.
+use Rattle.std.proofs.Common.{◌≡◌, ◌≢◌, ℕ, ◌+◌, ◌<◌, ◌≤◌, inl, inr, Bool, true, List, [], ◌∷◌, ◌++◌, length, take, drop, get_or, slice_index, sym, ap, subst, ◌∙◌, arith, take-append-drop, lit≤}
+use Rattle.std.proofs.Math.Seq.{take-append_seam, drop-append_seam}
+use Rattle.std.proofs.lemmas.List.{length-take-le}
+use Rattle.std.specs.Char.{digit_value}
+use Rattle.std.specs.Str.Parse.{AllDigits}
+use Rattle.lexical_core.specs.Exponents.{NoDigit}
+use Rattle.lexical_core.proofs.DecimalTexts.{digits_split}
+use Rattle.data_types.specs.Dates.{HasForm, IsFraction, IsZone}
+use Rattle.data_types.specs.Kinds.{form_of}
+use Rattle.data_types.specs.declared.kind.Kind.{Kind}
+
+-- a zone begins with no digit and no point
+zone_start : (zone : List ℕ) → IsZone zone → NoDigit zone × (0 < length zone → slice_index zone 0 ≢ 46)
+zone_start zone (inl e) = (subst NoDigit (sym e) tt, λ some. absurd (omega (arith, ap length e)))
+zone_start zone (inr (inl e)) = (subst NoDigit (sym e) (lit≤ tt), λ some h. let first = ap (λ t. get_or t 0 0) e in omega arith)
+zone_start [] (inr (inr o)) = (tt, λ some. absurd (omega arith))
+zone_start (c ∷ cs) (inr (inr o)) = elim o.sign [
+  | inl e ↦ (subst (λ x. 10 ≤ digit_value x) (sym e) (lit≤ tt), λ some h. let same : c ≡ 43 = e in omega arith)
+  | inr e ↦ (subst (λ x. 10 ≤ digit_value x) (sym e) (lit≤ tt), λ some h. let same : c ≡ 45 = e in omega arith)
+]
+
+fraction_of_point : (text fraction zone : List ℕ) → IsFraction true fraction → IsZone zone → text ≡ fraction ++ zone → 0 < length text → slice_index text 0 ≡ 46
+    → (digits : List ℕ) × AllDigits 10 digits × (1 ≤ length digits) × (length digits ≤ 9) × (fraction ≡ 46 ∷ digits)
+fraction_of_point text fraction zone (inr f) z e some point = f
+fraction_of_point text fraction zone (inl none) z e some point =
+    absurd (
+    let same : text ≡ zone = e ∙ ap (λ x. x ++ zone) none in
+    let first = ap (λ t. get_or t 0 0) same in
+    let len = ap length same in
+    (zone_start zone z).1 (omega arith) (omega arith))
+
+-- after a point as many digits as there are belong to the fraction
+pub fraction_count : (text rest fraction zone : List ℕ) (seconds : Bool) (count : ℕ) → seconds ≡ true → IsFraction seconds fraction → IsZone zone
+    → text ≡ fraction ++ zone → 0 < length text → slice_index text 0 ≡ 46 → rest ≡ drop 1 text
+    → count ≤ length rest → AllDigits 10 (take count rest) → NoDigit (drop count rest) → (1 ≤ count) × (count ≤ 9) × (length fraction ≡ count + 1)
+fraction_count text rest fraction zone seconds count with_point f z e some point tail bound all none =
+    let parts = fraction_of_point text fraction zone (subst (λ b. IsFraction b fraction) with_point f) z e some point in
+    let ds = parts.0 in
+    let whole : rest ≡ ds ++ zone = tail ∙ ap (drop 1) (e ∙ ap (λ x. x ++ zone) parts.4) in
+    let same = digits_split (take count rest) ds (drop count rest) zone all parts.1 (take-append-drop count rest ∙ whole) none (zone_start zone z).0 in
+    let len = sym (length-take-le count rest bound) ∙ ap length same.0 in
+    let total = ap length parts.4 in
+    let low = parts.2 in let high = parts.3 in
+    (omega arith, omega arith, omega arith)
+
+-- the fixed part is where the form ends
+pub fixed_split : (kind : Kind) (text fixed fraction zone : List ℕ) (n : ℕ) → length (form_of kind) ≡ n → HasForm (form_of kind) fixed → text ≡ fixed ++ (fraction ++ zone)
+    → (take n text ≡ fixed) × (drop n text ≡ fraction ++ zone)
+fixed_split kind text fixed fraction zone n len form e =
+    let count : n ≡ length fixed = sym (form.same_length ∙ len) in (
+      ap (λ k. take k text) count ∙ (ap (take (length fixed)) e ∙ take-append_seam fixed (fraction ++ zone)),
+      ap (λ k. drop k text) count ∙ (ap (drop (length fixed)) e ∙ drop-append_seam fixed (fraction ++ zone)),
+    )

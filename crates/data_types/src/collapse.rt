@@ -1,0 +1,93 @@
+// White space collapsed, a character at a time: XML Schema part 2 §4.3.6.
+ghost use Rattle.std.specs.Prelude.{◌≡◌, ◌++◌, ◌∷◌, ◌↔◌, [], List, ℕ, IsTrue};
+ghost use Rattle.data_types.specs.WhiteSpace.{IsSpace, IsCollapsed};
+ghost use Rattle.data_types.specs.Collapsing.{gained, HasCollapsed, HasCollapsedAt};
+
+/// What the collapsed text gains at a character.
+#[derive(Clone, Copy, Debug, PartialEq, Eq)]
+pub enum Collapsed {
+    /// Nothing.
+    Nothing,
+    /// The character.
+    Char,
+    /// One space and the character.
+    SpaceAndChar,
+}
+
+/// Where the next character stands.
+#[derive(Clone, Copy, Debug)]
+enum Place {
+    Before,
+    Within,
+    Behind,
+}
+
+/// A reader that collapses white space and takes a character at a time. It takes no memory.
+#[derive(Clone, Copy, Debug)]
+pub struct Collapse {
+    place: Place,
+}
+
+impl Collapse {
+    /// A reader before the first character.
+    pub fn new() -> Collapse
+        ensures { HasCollapsed result [] [] }
+    {
+        Collapse {
+            place: Place::Before,
+        }
+    }
+
+    /// Takes a character, and tells what the collapsed text gains.
+    pub fn take(&mut self, c: char) -> Collapsed
+        ensures { (text collapsed : List ℕ) → HasCollapsed self.old text collapsed
+            → HasCollapsed self.new (text ++ c ∷ []) (collapsed ++ gained result c) }
+    {
+        if is_space(c) {
+            self.place = self.place.after_space();
+            return Collapsed::Nothing;
+        }
+        let gain = self.place.gain();
+        self.place = Place::Within;
+        gain
+    }
+
+    /// After any characters what was gained is the text collapsed.
+    pub fn finish(&self)
+        ensures { (text collapsed : List ℕ) → HasCollapsed self.now text collapsed
+            → IsCollapsed text collapsed }
+    {
+        let _ = &self.place;
+    }
+}
+
+impl Place {
+    /// The place behind white space.
+    fn after_space(self) -> Place
+        ensures { (c : ℕ) (text collapsed : List ℕ) → IsSpace c → HasCollapsedAt self text collapsed
+            → HasCollapsedAt result (text ++ c ∷ []) collapsed }
+    {
+        match self {
+            Place::Before => Place::Before,
+            Place::Within | Place::Behind => Place::Behind,
+        }
+    }
+
+    /// What the collapsed text gains at a character that is no white space.
+    fn gain(self) -> Collapsed
+        ensures { (c : ℕ) (text collapsed : List ℕ) → (IsSpace c → ⊥) → HasCollapsedAt self text collapsed
+            → HasCollapsedAt Place.Within (text ++ c ∷ []) (collapsed ++ gained result c) }
+    {
+        match self {
+            Place::Before | Place::Within => Collapsed::Char,
+            Place::Behind => Collapsed::SpaceAndChar,
+        }
+    }
+}
+
+/// Whether the character is white space: XML 1.0 §2.3, S.
+pub fn is_space(c: char) -> bool
+    ensures { IsTrue result ↔ IsSpace c }
+{
+    matches!(c, ' ' | '\t' | '\n' | '\r')
+}

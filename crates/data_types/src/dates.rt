@@ -1,0 +1,219 @@
+// Whether a collapsed text is one of a date or a time: XML Schema part 2 §3.2.7 to §3.2.14.
+ghost use Rattle.std.specs.Prelude.{◌≡◌, ◌≤◌, ◌<◌, ◌+◌, ◌-◌, ◌++◌, ◌↔◌, IsTrue, IfSome, length, take, drop, slice_index, List, ℕ};
+ghost use Rattle.std.specs.Str.Parse.{AllDigits};
+ghost use Rattle.data_types.specs.Kinds.{form_of, has_seconds};
+ghost use Rattle.data_types.specs.Dates.{IsDateText, HasForm, FitsPlace, HasParts, IsDay, IsClock, IsFraction, IsOffset, IsZone, two_at, four_at};
+ghost use Rattle.lexical_core.specs.Exponents.{NoDigit};
+
+use crate::kind::Kind;
+use jiff::civil::Date;
+
+/// Whether the text is one of this kind of date or time, with or without a zone. Texts of other kinds are
+/// none.
+pub fn is_date_text(kind: Kind, text: &[u8]) -> bool
+    ensures { IsTrue result ↔ IsDateText kind text.now }
+{
+    let form = form_of(kind);
+    if text.len() < form.len() {
+        return false;
+    }
+    let (fixed, rest) = text.split_at(form.len());
+    if !has_form(form, fixed) || !has_parts(kind, fixed) {
+        return false;
+    }
+    let Some(end) = fraction_end(has_seconds(kind), rest) else {
+        return false;
+    };
+    is_zone(rest.split_at(end).1)
+}
+
+/// The form of the part with a fixed length, with `d` for a digit.
+fn form_of(kind: Kind) -> &'static [u8]
+    ensures { result.now ≡ form_of kind }
+{
+    match kind {
+        Kind::Date => b"dddd-dd-dd".as_slice(),
+        Kind::DateTime => b"dddd-dd-ddTdd:dd:dd".as_slice(),
+        Kind::Time => b"dd:dd:dd".as_slice(),
+        Kind::Year => b"dddd".as_slice(),
+        Kind::YearMonth => b"dddd-dd".as_slice(),
+        Kind::MonthDay => b"--dd-dd".as_slice(),
+        Kind::Month => b"--dd".as_slice(),
+        Kind::Day => b"---dd".as_slice(),
+        Kind::Text | Kind::Decimal | Kind::Boolean | Kind::Binary | Kind::Envelope =>
+            b"".as_slice(),
+    }
+}
+
+/// Whether the kind has seconds.
+fn has_seconds(kind: Kind) -> bool
+    ensures { result ≡ has_seconds kind }
+{
+    matches!(kind, Kind::DateTime | Kind::Time)
+}
+
+/// Whether the text has the form, place by place.
+fn has_form(form: &[u8], text: &[u8]) -> bool
+    ensures { IsTrue result ↔ HasForm form.now text.now }
+{
+    if form.len() != text.len() {
+        return false;
+    }
+    for at in 0..form.len() {
+        if !fits_place(form[at], text[at]) {
+            return false;
+        }
+    }
+    true
+}
+
+/// Whether the byte may stand where the form has this one.
+fn fits_place(place: u8, byte: u8) -> bool
+    ensures { IsTrue result ↔ FitsPlace place byte }
+{
+    if place == b'd' {
+        byte.is_ascii_digit()
+    } else {
+        byte == place
+    }
+}
+
+/// Whether the numbers of the fixed part are in their ranges.
+fn has_parts(kind: Kind, text: &[u8]) -> bool
+    ensures { IsTrue result ↔ HasParts kind text.now }
+{
+    match kind {
+        Kind::Date => is_day(four_at(text, 0), two_at(text, 5), two_at(text, 8)),
+        Kind::DateTime => is_day_and_clock(text),
+        Kind::Time => is_clock(text, 0),
+        Kind::Year => four_at(text, 0) >= 1,
+        Kind::YearMonth => is_year_and_month(four_at(text, 0), two_at(text, 5)),
+        Kind::MonthDay => is_day(2000, two_at(text, 2), two_at(text, 5)),
+        Kind::Month => is_between(two_at(text, 2), 12),
+        Kind::Day => is_between(two_at(text, 3), 31),
+        Kind::Text | Kind::Decimal | Kind::Boolean | Kind::Binary | Kind::Envelope => false,
+    }
+}
+
+fn is_day_and_clock(text: &[u8]) -> bool
+    ensures { IsTrue result ↔ HasParts Kind.DateTime text.now }
+{
+    if !is_day(four_at(text, 0), two_at(text, 5), two_at(text, 8)) {
+        return false;
+    }
+    is_clock(text, 11)
+}
+
+fn is_year_and_month(year: u32, month: u32) -> bool
+    ensures { IsTrue result ↔ ((1 ≤ year) × (1 ≤ month) × (month ≤ 12)) }
+{
+    year >= 1 && month >= 1 && month <= 12
+}
+
+fn is_between(number: u32, most: u32) -> bool
+    ensures { IsTrue result ↔ ((1 ≤ number) × (number ≤ most)) }
+{
+    number >= 1 && number <= most
+}
+
+/// Whether the calendar has the day, in the years 1 to 9999.
+fn is_day(year: u32, month: u32, day: u32) -> bool
+    ensures { IsTrue result ↔ IsDay year month day }
+{
+    if year < 1 || year > 9999 || month > 12 || day > 31 {
+        return false;
+    }
+    Date::new(year as i16, month as i8, day as i8).is_ok()
+}
+
+/// Whether hours, minutes and seconds from that place on are a time of a day.
+fn is_clock(text: &[u8], at: usize) -> bool
+    requires { at < 12 }
+    ensures { IsTrue result ↔ IsClock text.now at }
+{
+    two_at(text, at) < 24 && two_at(text, at + 3) < 60 && two_at(text, at + 6) < 60
+}
+
+/// The number of the two digits at that place.
+fn two_at(text: &[u8], at: usize) -> u32
+    requires { at < 100 }
+    ensures value { result ≡ two_at text.now at }
+    ensures bound { result < 2500 }
+{
+    digit_at(text, at) * 10 + digit_at(text, at + 1)
+}
+
+/// The number of the four digits at that place.
+fn four_at(text: &[u8], at: usize) -> u32
+    requires { at < 90 }
+    ensures { result ≡ four_at text.now at }
+{
+    two_at(text, at) * 100 + two_at(text, at + 2)
+}
+
+/// The value of the digit at that place, and 0 behind the end.
+fn digit_at(text: &[u8], at: usize) -> u32
+    ensures value { result ≡ slice_index text.now at - 48 }
+    ensures bound { result < 208 }
+{
+    match text.get(at) {
+        Some(byte) => u32::from(byte.saturating_sub(b'0')),
+        None => 0,
+    }
+}
+
+/// Where the digits of a second end, which may stand at the start; `None` where a point has no one to
+/// nine digits behind it.
+fn fraction_end(seconds: bool, text: &[u8]) -> Option<usize>
+    ensures some { IfSome result
+        (λ end. (end ≤ length text.now) × IsFraction seconds (take end text.now)) }
+    ensures only { (fraction zone : List ℕ) → IsFraction seconds fraction → IsZone zone
+        → text.now ≡ fraction ++ zone → result ≡ Some (length fraction) }
+{
+    if !seconds || text.is_empty() || text[0] != b'.' {
+        return Some(0);
+    }
+    let count = digit_count(text.split_at(1).1);
+    if count >= 1 && count <= 9 {
+        Some(count + 1)
+    } else {
+        None
+    }
+}
+
+/// How many digits the bytes begin with.
+fn digit_count(bytes: &[u8]) -> usize
+    ensures bound { result ≤ length bytes.now }
+    ensures digits { AllDigits 10 (take result bytes.now) }
+    ensures rest { NoDigit (drop result bytes.now) }
+{
+    for (count, byte) in bytes.iter().enumerate() {
+        if !byte.is_ascii_digit() {
+            return count;
+        }
+    }
+    bytes.len()
+}
+
+/// Whether the text is a zone, or empty.
+fn is_zone(text: &[u8]) -> bool
+    ensures { IsTrue result ↔ IsZone text.now }
+{
+    if text.is_empty() || text == b"Z".as_slice() {
+        return true;
+    }
+    is_offset(text)
+}
+
+/// Whether the text is a sign, hours and minutes of at most 14:00.
+fn is_offset(text: &[u8]) -> bool
+    ensures { IsTrue result ↔ IsOffset text.now }
+{
+    if text.is_empty() || (text[0] != b'+' && text[0] != b'-') {
+        return false;
+    }
+    if !has_form(b"dd:dd".as_slice(), text.split_at(1).1) {
+        return false;
+    }
+    two_at(text, 4) <= 59 && two_at(text, 1) * 60 + two_at(text, 4) <= 14 * 60
+}
