@@ -1,0 +1,15 @@
+pub mod Attribute
+pub mod Chars
+pub mod Declaration
+pub mod Drafts
+pub mod Events
+pub mod Faults
+pub mod Marks
+pub mod Name
+pub mod Reference
+pub mod Token
+pub mod Tokenizers
+pub mod Words
+pub mod ReferenceScans
+pub mod ScanRuns
+pub mod Scans

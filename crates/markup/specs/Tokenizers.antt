@@ -1,0 +1,147 @@
+-- What the reader of tokens keeps and gives. Private functions alone cite this.
+use Rattle.std.specs.Prelude.{◌≡◌, ℕ, Bool, ◌==◌, ◌&&◌, ◌+◌, ◌-◌, ◌<◌, nat_le, not, true, false, List, [], ◌∷◌, ◌++◌, length, Option, Some, None, if◌then◌else◌, encode_utf8_all}
+use Rattle.lexical_core.specs.Utf8.{Steps, IsFront}
+use Rattle.lexical_core.specs.declared.utf8.Utf8.{Utf8}
+use Rattle.lexical_core.specs.declared.utf8.Utf8.TheVariants.{More as MoreBytes, Char, Bad}
+use Rattle.lexical_core.specs.declared.rule.Rule.{Rule}
+use Rattle.lexical_core.specs.declared.rule.Rule.TheVariants.{BadUtf8, BadMarkup, BadReference, BadChar}
+use Rattle.markup.specs.Chars.{is_xml_char}
+use Rattle.markup.specs.Token.{Token, token_bytes}
+use Rattle.markup.specs.Marks.{stands, is_short, tag_limit}
+use Rattle.markup.specs.Faults.{IsTagBegun, Next}
+use Rattle.markup.specs.Drafts.{no_draft, noted}
+use Rattle.markup.specs.Scans.{step}
+use Rattle.markup.specs.ScanRuns.{run, At, position, ended_of, draft_of}
+use Rattle.markup.specs.declared.draft.Draft.{Draft}
+use Rattle.markup.specs.declared.scan.Position.{Position}
+use Rattle.markup.specs.declared.scan.Position.TheVariants.{AfterMark, Text, Cdata}
+use Rattle.markup.specs.declared.scan.Scan.{Scan}
+use Rattle.markup.specs.declared.scan.Scan.TheVariants.{Begin, AfterReturn, Bracket, Brackets, Reference, StartName, Gap, AttributeName, BeforeEquals, AfterEquals, Value, ValueReference, AfterValue, Slash, EndOpened, EndName, EndGap}
+use Rattle.markup.specs.declared.scan.Ended.{Ended}
+use Rattle.markup.specs.declared.scan.Ended.TheVariants.{Mark, Opener, Closer}
+use Rattle.markup.specs.declared.scan.Turn.{Turn}
+use Rattle.markup.specs.declared.scan.Turn.TheVariants.{Goes, Whole, Stuck}
+use Rattle.markup.specs.declared.tokenizer.Tokenizer.{Tokenizer}
+use Rattle.markup.specs.declared.tokenizer.Progress.{Progress}
+use Rattle.markup.specs.declared.tokenizer.Progress.TheVariants.{More, Token as EndedToken, Refused}
+
+-- where a token begins behind others
+abbrev pub after_other : Position → Position
+after_other Cdata = Cdata
+after_other _ = Text
+
+-- where one begins behind a token that ended so
+abbrev pub behind : Position → Ended → Position
+behind p Mark = AfterMark
+behind p Opener = Cdata
+behind p Closer = Text
+behind p _ = after_other p
+
+-- a start tag or an end tag is open
+abbrev pub is_tag : Scan → Bool
+is_tag (StartName n) = true
+is_tag Gap = true
+is_tag (AttributeName n) = true
+is_tag BeforeEquals = true
+is_tag AfterEquals = true
+is_tag (Value q r) = true
+is_tag (ValueReference q r) = true
+is_tag AfterValue = true
+is_tag Slash = true
+is_tag EndOpened = true
+is_tag (EndName n) = true
+is_tag EndGap = true
+is_tag _ = false
+
+-- a reference is open
+abbrev pub is_reference : Scan → Bool
+is_reference (Reference r) = true
+is_reference (ValueReference q r) = true
+is_reference _ = false
+
+-- the rule that a character breaks with which no token goes on
+abbrev pub stuck_rule : Scan → ℕ → Rule
+stuck_rule s c = if not (is_xml_char c) then BadChar else (if is_reference s then BadReference else BadMarkup)
+
+-- A tag that has not ended has fewer bytes than the limit.
+abbrev pub bounded : Tokenizer → Progress
+bounded z = if is_tag z.scan && nat_le tag_limit (z.place - z.start) then Refused BadMarkup else More
+
+-- a token has ended
+abbrev pub ended : Tokenizer → Ended → Progress × Tokenizer
+ended z e = (EndedToken e z.draft, record { alloc = z.alloc; utf8 = z.utf8; position = behind z.position e; scan = Begin (behind z.position e); draft = no_draft; start = z.place; place = z.place })
+
+abbrev pub scanned : Tokenizer → Scan → Draft → Tokenizer
+scanned z s d = record { alloc = z.alloc; utf8 = z.utf8; position = z.position; scan = s; draft = d; start = z.start; place = z.place }
+
+abbrev pub on_turn : Tokenizer → ℕ → Turn → Progress × Tokenizer
+on_turn z c (Goes s) = (bounded (scanned z s (noted z.scan s c z.draft)), scanned z s (noted z.scan s c z.draft))
+on_turn z c (Whole e) = ended z e
+on_turn z c Stuck = (Refused (stuck_rule z.scan c), z)
+
+-- a character is taken
+abbrev pub charactered : Tokenizer → ℕ → Progress × Tokenizer
+charactered z c = on_turn z c (step z.scan c)
+
+abbrev pub counted : Tokenizer → Option (List ℕ) → Tokenizer
+counted z u = record { alloc = z.alloc; utf8 = u; position = z.position; scan = z.scan; draft = z.draft; start = z.start; place = z.place + 1 }
+
+abbrev pub on_utf8 : Tokenizer → Utf8 → Progress × Tokenizer
+on_utf8 z MoreBytes = (bounded z, z)
+on_utf8 z Bad = (Refused BadUtf8, z)
+on_utf8 z (Char c) = charactered z c
+
+-- a byte is taken
+pub record AdvancedBy (old new : Tokenizer) (byte : ℕ) (progress : Progress) : Type 0 where
+  pub utf8 : Utf8
+  pub begun : Option (List ℕ)
+  pub steps : Steps old.utf8 byte utf8 begun
+  pub value : progress ≡ (on_utf8 (counted old begun) utf8).0
+  pub after : new ≡ (on_utf8 (counted old begun) utf8).1
+
+-- what has been read may be a token or go on, as the next byte shows
+abbrev pub is_pending : Scan → Bool
+is_pending AfterReturn = true
+is_pending Bracket = true
+is_pending Brackets = true
+is_pending _ = false
+
+-- the byte is one with which it goes on
+abbrev pub IsAwaited : Scan → ℕ → Type 0
+IsAwaited AfterReturn byte = byte ≡ 10
+IsAwaited Bracket byte = byte ≡ 93
+IsAwaited Brackets byte = byte ≡ 62
+IsAwaited _ byte = Unit {0}
+
+-- the open token behind these tokens has these bytes so far
+pub record IsOpen (z : Tokenizer) (before : List Token) (bytes : List ℕ) : Type 0 where
+  pub chars : List ℕ
+  pub part : List ℕ
+  pub bytes_are : bytes ≡ encode_utf8_all chars ++ part
+  pub utf8_is : z.utf8 ≡ Some part
+  pub front : IsFront part
+  pub scan_is : run (Begin (position before)) no_draft chars ≡ At z.scan z.draft
+  pub position_is : z.position ≡ position before
+  pub place_is : z.place ≡ z.start + length bytes
+  pub short : IsTagBegun chars → length bytes < tag_limit
+  pub settled : is_pending z.scan ≡ true → part ≡ []
+
+-- a token that has ended with these bytes, and the next one that is open behind it
+pub record EndsToken (new : Tokenizer) (before : List Token) (bytes : List ℕ) (e : Ended) (d : Draft) : Type 0 where
+  pub token : Token
+  pub is : (after : List ℕ) → stands before token after ≡ true
+  pub bytes_are : token_bytes token ≡ bytes
+  pub short : is_short tag_limit token ≡ true
+  pub ended_is : ended_of token ≡ e
+  pub draft_is : draft_of token ≡ d
+  pub next : IsOpen new (token ∷ before) []
+
+-- what the byte that ends these bytes has made of the open token
+abbrev pub Advances : Tokenizer → List Token → List ℕ → Progress → Type 0
+Advances new before bytes More = IsOpen new before bytes
+Advances new before bytes (EndedToken e d) = EndsToken new before bytes e d
+Advances new before bytes (Refused rule) = (more : List ℕ) → Next tag_limit before (bytes ++ more) rule 0
+
+-- A byte gives the next token where it ends it, and the next fault where it shows it, behind any tokens.
+abbrev pub AdvancesBy : Tokenizer → Tokenizer → ℕ → Progress → Type 0
+AdvancesBy old new byte progress = (before : List Token) (bytes : List ℕ) → IsOpen old before bytes → IsAwaited old.scan byte → Advances new before (bytes ++ byte ∷ []) progress

@@ -1,0 +1,132 @@
+// What an open tag has said so far.
+ghost use Rattle.std.specs.Prelude.{◌≡◌, ◌++◌, OnOk, encode_utf8};
+ghost use Rattle.markup.specs.Drafts.{no_draft, literal_char, given_char, end_value, shift, add, noted, value_noted, add_value};
+
+use crate::characters::is_blank;
+use crate::reference::{ReferenceScan, ReferenceTurn};
+use crate::scan::{NameScan, Scan};
+use crate::tag::{Given, Spelled};
+use lexical_core::{Items, Text};
+use std::alloc::{AllocError, Global};
+use std::mem;
+
+/// What an open tag has said so far: its name, the attributes that have ended, and the name and
+/// value of the one that has not.
+#[derive(Drop)]
+pub(crate) struct Draft {
+    pub(crate) name: Spelled,
+    pub(crate) given: Items<Given>,
+    pub(crate) attribute: Spelled,
+    pub(crate) value: Text,
+}
+
+impl Spelled {
+    ghost use Rattle.markup.specs.Drafts.{no_name, shift, add};
+
+    /// No name yet. It takes no memory.
+    fn none(alloc: Global) -> Spelled
+        ensures { result ≡ no_name }
+    {
+        Spelled {
+            prefix: Text::new(alloc),
+            local: Text::new(alloc),
+        }
+    }
+
+    /// One more character of the name; at the colon what came before it is the prefix.
+    fn add(&mut self, part: NameScan, c: char, alloc: Global) -> Result<(), AllocError>
+        ensures { OnOk result (self.new ≡ add part c self.old) }
+    {
+        match part {
+            NameScan::Colon => {
+                self.prefix = mem::replace(&mut self.local, Text::new(alloc));
+                Ok(())
+            }
+            _ => push(&mut self.local, c),
+        }
+    }
+}
+
+/// Appends the character's bytes.
+pub(crate) fn push(text: &mut Text, c: char) -> Result<(), AllocError>
+    ensures { OnOk result (text.new ≡ text.old ++ encode_utf8 c) }
+{
+    let mut buffer = [0; 4];
+    text.extend(c.encode_utf8(&mut buffer).as_bytes())
+}
+
+impl Draft {
+    /// Nothing yet. It takes no memory.
+    pub(crate) fn new(alloc: Global) -> Draft
+        ensures { result ≡ no_draft }
+    {
+        Draft {
+            name: Spelled::none(alloc),
+            given: Items::new(alloc),
+            attribute: Spelled::none(alloc),
+            value: Text::new(alloc),
+        }
+    }
+
+    /// Notes what a character of an open token says, by the scans before it and behind it.
+    pub(crate) fn note(
+        &mut self,
+        from: Scan,
+        to: Scan,
+        c: char,
+        alloc: Global,
+    ) -> Result<(), AllocError>
+        ensures { OnOk result (self.new ≡ noted from to c self.old) }
+    {
+        match to {
+            Scan::StartName(part) => self.name.add(part, c, alloc),
+            Scan::EndName(part) => self.name.add(part, c, alloc),
+            Scan::AttributeName(part) => self.attribute.add(part, c, alloc),
+            Scan::Value(_, _) => self.note_value(from, c),
+            Scan::AfterValue => self.end_value(alloc),
+            _ => Ok(()),
+        }
+    }
+
+    /// A literal of the value, or the character of a reference that has ended.
+    fn note_value(&mut self, from: Scan, c: char) -> Result<(), AllocError>
+        ensures { OnOk result (self.new ≡ value_noted from c self.old) }
+    {
+        match from {
+            Scan::Value(_, after_return) => self.note_literal(after_return, c),
+            Scan::ValueReference(_, scan) => self.note_reference(scan, c),
+            _ => Ok(()),
+        }
+    }
+
+    /// White space is a space, and CR LF is one (XML 1.0 §2.11, §3.3.3).
+    fn note_literal(&mut self, after_return: bool, c: char) -> Result<(), AllocError>
+        ensures { OnOk result (self.new ≡ add_value (literal_char after_return c) self.old) }
+    {
+        if c == '\n' && after_return {
+            Ok(())
+        } else if is_blank(c) {
+            push(&mut self.value, ' ')
+        } else {
+            push(&mut self.value, c)
+        }
+    }
+
+    fn note_reference(&mut self, scan: ReferenceScan, c: char) -> Result<(), AllocError>
+        ensures { OnOk result (self.new ≡ add_value (given_char scan c) self.old) }
+    {
+        match scan.step(c) {
+            ReferenceTurn::Gives(given) => push(&mut self.value, given),
+            _ => Ok(()),
+        }
+    }
+
+    /// The attribute has ended.
+    fn end_value(&mut self, alloc: Global) -> Result<(), AllocError>
+        ensures { OnOk result (self.new ≡ end_value self.old) }
+    {
+        let name = mem::replace(&mut self.attribute, Spelled::none(alloc));
+        let value = mem::replace(&mut self.value, Text::new(alloc));
+        self.given.push(Given { name, value })
+    }
+}

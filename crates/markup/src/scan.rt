@@ -1,0 +1,281 @@
+// How far a token has come, and what one more character makes of it.
+ghost use Rattle.std.specs.Prelude.{◌≡◌};
+ghost use Rattle.markup.specs.ScanRuns.{ReadsGrammar};
+ghost use Rattle.markup.specs.Scans.{goes_if, name_step, step};
+
+use self::declaration::{
+    declaration_gap, field_after, field_before, field_end, field_gap, field_name, field_value,
+    field_word,
+};
+use self::instruction::{
+    bang, in_comment, in_fixed, instruction_mark, instruction_text, question, target, target_x,
+    target_xm, target_xml,
+};
+use self::tag::{
+    after_equals, attribute_name, before_equals, behind_attribute, end_gap, end_name, gap,
+    start_name, value, value_reference,
+};
+use self::text::{begin, in_reference, opened};
+use crate::characters::{begins_name, continues_name};
+use crate::reference::ReferenceScan;
+use crate::word::Word;
+
+mod declaration;
+mod instruction;
+mod tag;
+mod text;
+
+/// Where a token begins.
+#[derive(Clone, Copy)]
+pub(crate) enum Position {
+    /// At the start of the input.
+    Start,
+    /// Behind the byte order mark.
+    AfterMark,
+    /// Behind another token, in no CDATA section.
+    Text,
+    /// In a CDATA section.
+    Cdata,
+}
+
+/// How far a name has come.
+#[derive(Clone, Copy)]
+pub(crate) enum NameScan {
+    /// In its first part.
+    First,
+    /// Behind its colon.
+    Colon,
+    /// In its second part.
+    Second,
+}
+
+/// A field of the XML declaration.
+#[derive(Clone, Copy)]
+pub(crate) enum Field {
+    Version,
+    Encoding,
+    Standalone,
+}
+
+/// How far a token has come.
+#[derive(Clone, Copy)]
+pub(crate) enum Scan {
+    /// Nothing yet.
+    Begin(Position),
+    /// A CR.
+    AfterReturn,
+    /// A `]` in a CDATA section.
+    Bracket,
+    /// `]]` in a CDATA section.
+    Brackets,
+    /// `&` and what follows it.
+    Reference(ReferenceScan),
+    /// `<`; a declaration may follow or not.
+    Opened(bool),
+    /// `<!`.
+    Bang,
+    /// `<!-`.
+    BangHyphen,
+    /// `<!--` and the comment's text.
+    CommentText,
+    /// A hyphen in a comment.
+    CommentHyphen,
+    /// `--` in a comment.
+    CommentEnd,
+    /// So many letters of `CDATA[` or `DOCTYPE`.
+    Fixed(Word, u8),
+    /// `<?`; a declaration may follow or not.
+    Question(bool),
+    /// A target that is `x` so far.
+    TargetX(bool),
+    /// A target that is `xm` so far.
+    TargetXm(bool),
+    /// A target that is `xml` so far.
+    TargetXml(bool),
+    /// Another target.
+    Target,
+    /// A `?` right behind the target.
+    TargetMark,
+    /// An instruction's text.
+    InstructionText,
+    /// A `?` in an instruction's text.
+    InstructionMark,
+    /// White space behind `<?xml`.
+    DeclarationGap,
+    /// So many letters of a field's name.
+    FieldName(Field, u8),
+    /// White space behind a field's name.
+    FieldBefore(Field),
+    /// `=` behind a field's name.
+    FieldAfter(Field),
+    /// The quote before a field's value.
+    FieldValue(Field, char),
+    /// So many letters of a field's value, in these quotes.
+    FieldWord(Field, Word, char, u8),
+    /// A field.
+    FieldEnd(Field),
+    /// White space behind a field.
+    FieldGap(Field),
+    /// The `?` of a declaration's end.
+    DeclarationMark,
+    /// The name of a start tag.
+    StartName(NameScan),
+    /// White space behind a start tag's name or an attribute.
+    Gap,
+    /// An attribute's name.
+    AttributeName(NameScan),
+    /// White space behind an attribute's name.
+    BeforeEquals,
+    /// `=` behind an attribute's name.
+    AfterEquals,
+    /// An attribute's value in these quotes, behind a literal CR or not.
+    Value(char, bool),
+    /// A reference in an attribute's value in these quotes.
+    ValueReference(char, ReferenceScan),
+    /// An attribute.
+    AfterValue,
+    /// The `/` of an empty element's tag.
+    Slash,
+    /// `</`.
+    EndOpened,
+    /// The name of an end tag.
+    EndName(NameScan),
+    /// White space behind the name of an end tag.
+    EndGap,
+}
+
+/// The token that has ended.
+#[derive(Clone, Copy)]
+pub(crate) enum Ended {
+    Mark,
+    Declaration,
+    /// A comment or an instruction.
+    Passed,
+    Opener,
+    Closer,
+    TypeDeclaration,
+    /// A start tag, of an empty element or not.
+    Start(bool),
+    End,
+    /// A reference to this character.
+    Refer(char),
+    LineEnd,
+    Character(char),
+}
+
+/// What a character makes of a token.
+#[derive(Clone, Copy)]
+pub(crate) enum Turn {
+    /// It goes on.
+    Goes(Scan),
+    /// The character ends it.
+    Whole(Ended),
+    /// No token goes on so.
+    Stuck,
+}
+
+/// What a character makes of a name.
+#[derive(Clone, Copy)]
+pub(crate) enum NameTurn {
+    /// It goes on.
+    Remains(NameScan),
+    /// The name stands before the character.
+    Ends,
+    /// No name goes on so.
+    Fails,
+}
+
+impl NameScan {
+    pub(crate) fn step(self, c: char) -> NameTurn
+        ensures { result ≡ name_step self c }
+    {
+        match self {
+            NameScan::First => {
+                if continues_name(c) {
+                    NameTurn::Remains(NameScan::First)
+                } else if c == ':' {
+                    NameTurn::Remains(NameScan::Colon)
+                } else {
+                    NameTurn::Ends
+                }
+            }
+            NameScan::Colon => {
+                if begins_name(c) {
+                    NameTurn::Remains(NameScan::Second)
+                } else {
+                    NameTurn::Fails
+                }
+            }
+            NameScan::Second => {
+                if continues_name(c) {
+                    NameTurn::Remains(NameScan::Second)
+                } else {
+                    NameTurn::Ends
+                }
+            }
+        }
+    }
+}
+
+impl Scan {
+    /// What the character makes of the token.
+    pub(crate) fn step(self, c: char) -> Turn
+        ensures { result ≡ step self c }
+    {
+        match self {
+            Scan::Begin(position) => begin(position, c),
+            Scan::AfterReturn => goes_if(c == '\n', Turn::Whole(Ended::LineEnd)),
+            Scan::Bracket => goes_if(c == ']', Turn::Goes(Scan::Brackets)),
+            Scan::Brackets => goes_if(c == '>', Turn::Whole(Ended::Closer)),
+            Scan::Reference(scan) => in_reference(scan, c),
+            Scan::Opened(first) => opened(first, c),
+            Scan::Bang => bang(c),
+            Scan::BangHyphen => goes_if(c == '-', Turn::Goes(Scan::CommentText)),
+            Scan::CommentText => in_comment(Scan::CommentHyphen, c),
+            Scan::CommentHyphen => in_comment(Scan::CommentEnd, c),
+            Scan::CommentEnd => goes_if(c == '>', Turn::Whole(Ended::Passed)),
+            Scan::Fixed(word, at) => in_fixed(word, at, c),
+            Scan::Question(first) => question(first, c),
+            Scan::TargetX(first) => target_x(first, c),
+            Scan::TargetXm(first) => target_xm(first, c),
+            Scan::TargetXml(first) => target_xml(first, c),
+            Scan::Target => target(c),
+            Scan::TargetMark => goes_if(c == '>', Turn::Whole(Ended::Passed)),
+            Scan::InstructionText => instruction_text(c),
+            Scan::InstructionMark => instruction_mark(c),
+            Scan::DeclarationGap => declaration_gap(c),
+            Scan::FieldName(field, at) => field_name(field, at, c),
+            Scan::FieldBefore(field) => field_before(field, c),
+            Scan::FieldAfter(field) => field_after(field, c),
+            Scan::FieldValue(field, quote) => field_value(field, quote, c),
+            Scan::FieldWord(field, word, quote, at) => field_word(field, word, quote, at, c),
+            Scan::FieldEnd(field) => field_end(field, c),
+            Scan::FieldGap(field) => field_gap(field, c),
+            Scan::DeclarationMark => goes_if(c == '>', Turn::Whole(Ended::Declaration)),
+            Scan::StartName(scan) => start_name(scan, c),
+            Scan::Gap => gap(c),
+            Scan::AttributeName(scan) => attribute_name(scan, c),
+            Scan::BeforeEquals => before_equals(c),
+            Scan::AfterEquals => after_equals(c),
+            Scan::Value(quote, _) => value(quote, c),
+            Scan::ValueReference(quote, scan) => value_reference(quote, scan, c),
+            Scan::AfterValue => behind_attribute(c),
+            Scan::Slash => goes_if(c == '>', Turn::Whole(Ended::Start(true))),
+            Scan::EndOpened => goes_if(begins_name(c), Turn::Goes(Scan::EndName(NameScan::First))),
+            Scan::EndName(scan) => end_name(scan, c),
+            Scan::EndGap => end_gap(c),
+        }
+    }
+}
+
+/// The turn, where the test holds.
+pub(crate) fn goes_if(holds: bool, turn: Turn) -> Turn
+    ensures { result ≡ goes_if holds turn }
+{
+    if holds { turn } else { Turn::Stuck }
+}
+
+/// The scan reads the tokens of the grammar, and nothing else.
+fn reads_grammar()
+    ensures { ReadsGrammar }
+{}

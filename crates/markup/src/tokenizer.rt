@@ -1,0 +1,182 @@
+// Tokens of bytes that come one at a time.
+ghost use Rattle.std.specs.Prelude.{◌≡◌, ℕ, ◌<◌, ◌^◌, ◌+◌, List, [], IfOk};
+ghost use Rattle.markup.specs.Token.{Token};
+
+use crate::characters::is_allowed;
+use crate::draft::Draft;
+use crate::scan::{Ended, Position, Scan, Turn};
+use lexical_core::{Rule, Utf8, Utf8Step};
+use std::alloc::{AllocError, Global};
+use std::mem;
+
+/// The greatest length of a tag in bytes.
+const TAG_LIMIT: u64 = 1_048_576;
+
+/// What a byte gives.
+#[derive(Drop)]
+pub(crate) enum Progress {
+    /// The token goes on.
+    More,
+    /// The byte has ended this token, and the tag, where it is one, said this.
+    Token(Ended, Draft),
+    /// The byte shows that no token goes on so.
+    Refused(Rule),
+}
+
+/// A reader of tokens that takes a byte at a time.
+#[derive(Drop)]
+pub(crate) struct Tokenizer {
+    alloc: Global,
+    utf8: Utf8Step,
+    position: Position,
+    scan: Scan,
+    draft: Draft,
+    /// The place of the open token's first byte.
+    start: u64,
+    /// The number of bytes so far.
+    place: u64,
+}
+
+impl Position {
+    ghost use Rattle.markup.specs.Tokenizers.{behind};
+
+    /// Where a token begins behind one that ended so.
+    fn behind(self, ended: Ended) -> Position
+        ensures { result ≡ behind self ended }
+    {
+        match ended {
+            Ended::Mark => Position::AfterMark,
+            Ended::Opener => Position::Cdata,
+            Ended::Closer => Position::Text,
+            _ => match self {
+                Position::Cdata => Position::Cdata,
+                _ => Position::Text,
+            },
+        }
+    }
+}
+
+impl Scan {
+    ghost use Rattle.markup.specs.Tokenizers.{is_tag, is_reference, stuck_rule};
+
+    /// Whether a start tag or an end tag is open.
+    fn is_tag(self) -> bool
+        ensures { result ≡ is_tag self }
+    {
+        matches!(
+            self,
+            Scan::StartName(_)
+                | Scan::Gap
+                | Scan::AttributeName(_)
+                | Scan::BeforeEquals
+                | Scan::AfterEquals
+                | Scan::Value(_, _)
+                | Scan::ValueReference(_, _)
+                | Scan::AfterValue
+                | Scan::Slash
+                | Scan::EndOpened
+                | Scan::EndName(_)
+                | Scan::EndGap
+        )
+    }
+
+    /// Whether a reference is open.
+    fn is_reference(self) -> bool
+        ensures { result ≡ is_reference self }
+    {
+        matches!(self, Scan::Reference(_) | Scan::ValueReference(_, _))
+    }
+
+    /// The rule that a character breaks with which no token goes on.
+    fn stuck_rule(self, c: char) -> Rule
+        ensures { result ≡ stuck_rule self c }
+    {
+        if !is_allowed(c) {
+            Rule::BadChar
+        } else if self.is_reference() {
+            Rule::BadReference
+        } else {
+            Rule::BadMarkup
+        }
+    }
+}
+
+impl Tokenizer {
+    ghost use Rattle.markup.specs.Tokenizers.{bounded, ended, charactered, AdvancedBy, AdvancesBy, IsOpen};
+
+    /// A reader before the first byte. It takes no memory.
+    pub(crate) fn new(alloc: Global) -> Tokenizer
+        ensures { IsOpen result [] [] }
+    {
+        Tokenizer {
+            alloc,
+            utf8: Utf8Step::new(),
+            position: Position::Start,
+            scan: Scan::Begin(Position::Start),
+            draft: Draft::new(alloc),
+            start: 0,
+            place: 0,
+        }
+    }
+
+    /// A tag that has not ended may not have all the bytes that it may have.
+    fn bounded(&self) -> Progress
+        ensures { result ≡ bounded self.now }
+    {
+        if self.scan.is_tag() && self.place.saturating_sub(self.start) >= TAG_LIMIT {
+            Progress::Refused(Rule::BadMarkup)
+        } else {
+            Progress::More
+        }
+    }
+
+    /// The token has ended.
+    fn end(&mut self, token: Ended) -> Progress
+        ensures value { result ≡ (ended self.old token).0 }
+        ensures after { self.new ≡ (ended self.old token).1 }
+    {
+        self.position = self.position.behind(token);
+        self.scan = Scan::Begin(self.position);
+        self.start = self.place;
+        Progress::Token(token, mem::replace(&mut self.draft, Draft::new(self.alloc)))
+    }
+
+    /// Takes a character.
+    fn character(&mut self, c: char) -> Result<Progress, AllocError>
+        ensures value { IfOk result (λ p. p ≡ (charactered self.old c).0) }
+        ensures after { IfOk result (λ _. self.new ≡ (charactered self.old c).1) }
+    {
+        match self.scan.step(c) {
+            Turn::Goes(scan) => {
+                self.draft.note(self.scan, scan, c, self.alloc)?;
+                self.scan = scan;
+                Ok(self.bounded())
+            }
+            Turn::Whole(ended) => Ok(self.end(ended)),
+            Turn::Stuck => Ok(Progress::Refused(self.scan.stuck_rule(c))),
+        }
+    }
+
+    /// Takes a byte: it gives the next token where it ends it, and the next fault where it shows
+    /// it. A CR, or brackets in a CDATA section, that the byte does not go on with are settled
+    /// before.
+    pub(crate) fn advance(&mut self, byte: u8) -> Result<Progress, AllocError>
+        requires { self.old.place < 2 ^ 40 }
+        ensures { IfOk result (λ p. AdvancesBy self.old self.new byte p) }
+    {
+        self.take(byte)
+    }
+
+    /// Takes a byte.
+    fn take(&mut self, byte: u8) -> Result<Progress, AllocError>
+        requires { self.old.place < 2 ^ 40 }
+        ensures { IfOk result (λ p. AdvancedBy self.old self.new byte p) }
+    {
+        self.place += 1;
+        match self.utf8.take(byte) {
+            Utf8::More => Ok(self.bounded()),
+            Utf8::Bad => Ok(Progress::Refused(Rule::BadUtf8)),
+            Utf8::Char(c) => self.character(c),
+        }
+    }
+}
