@@ -1,0 +1,7 @@
+pub mod AddError
+pub mod Cut
+pub mod Laws
+pub mod MessageId
+pub mod Objects
+pub mod Repository
+pub mod Stored

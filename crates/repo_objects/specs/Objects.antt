@@ -1,0 +1,28 @@
+-- The texts of a repository are UTF-8 of characters of XML: XML 1.0 §2.2.
+use Rattle.std.specs.Prelude.{ℕ, List, Option, Some, None, All}
+use Rattle.lexical_core.specs.Characters.{IsXmlText}
+use Rattle.repo_objects.specs.declared.objects.Object.{Object}
+use Rattle.repo_objects.specs.declared.objects.ElementDef.{ElementDef}
+use Rattle.repo_objects.specs.declared.objects.MessageDef.{MessageDef}
+
+-- a text that may be absent
+abbrev pub IsXmlTextIfAny : Option (List ℕ) → Type 0
+IsXmlTextIfAny None = Unit {0}
+IsXmlTextIfAny (Some text) = IsXmlText text
+
+-- the texts of an entry of the data dictionary
+pub record HasObjectTexts (object : Object) : Type 0 where
+  pub name : IsXmlText object.name
+
+-- the texts of a building block
+pub record HasElementTexts (element : ElementDef) : Type 0 where
+  pub name : IsXmlText element.name
+  pub tag : IsXmlText element.tag
+  pub simple : IsXmlTextIfAny element.simple
+
+-- the texts of a message definition
+pub record HasMessageTexts (message : MessageDef) : Type 0 where
+  pub id : IsXmlText message.id
+  pub name : IsXmlText message.name
+  pub tag : IsXmlText message.tag
+  pub blocks : All HasElementTexts message.blocks

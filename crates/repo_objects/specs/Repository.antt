@@ -1,0 +1,35 @@
+-- What contracts see of a repository: the objects of its data dictionary under their ids, and its messages.
+use Rattle.std.specs.Prelude.{◌≢◌, ℕ, List, map, All, AllPairs, Contains}
+use Rattle.lexical_core.specs.Characters.{IsXmlText}
+use Rattle.repo_objects.specs.declared.objects.Object.{Object}
+use Rattle.repo_objects.specs.declared.objects.MessageDef.{MessageDef}
+use Rattle.repo_objects.specs.Objects.{HasObjectTexts, HasMessageTexts}
+
+-- an object and the id that names it
+pub record Entry : Type 0 where
+  pub id : List ℕ
+  pub object : Object
+
+-- both lists are in file order
+pub record Contents : Type 0 where
+  pub objects : List Entry
+  pub messages : List MessageDef
+
+-- the ids, in file order
+abbrev pub ids_of : List Entry → List (List ℕ)
+ids_of entries = map (λ (entry : Entry). entry.id) entries
+
+-- some object has that id
+abbrev pub HasId : List Entry → List ℕ → Type 0
+HasId entries id = Contains (ids_of entries) id
+
+-- the texts of an entry
+pub record HasEntryTexts (entry : Entry) : Type 0 where
+  pub id : IsXmlText entry.id
+  pub object : HasObjectTexts entry.object
+
+-- no two objects have one id, and all texts are UTF-8 of characters of XML
+pub record IsRepository (contents : Contents) : Type 0 where
+  pub distinct : AllPairs (λ one other. one ≢ other) (ids_of contents.objects)
+  pub object_texts : All HasEntryTexts contents.objects
+  pub message_texts : All HasMessageTexts contents.messages
