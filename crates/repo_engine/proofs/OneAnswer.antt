@@ -1,0 +1,98 @@
+-- Words and bytes have one answer and one text, where a plain repository is read in one way.
+use Rattle.std.proofs.Common.{◌≡◌, ◌⊎◌, inl, inr, ℕ, List, [], ◌∷◌, refl, sym, ◌∙◌, ap, subst, codes}
+use Rattle.repo_engine.specs.declared.status.Status.{Status}
+use Rattle.repo_engine.specs.declared.status.Status.TheVariants.{Done, Words, Repository, Codes, Message, Instance, ReadFault, WriteFault, Memory}
+use Rattle.repo_engine.specs.PlainRepository.{Plain, SpellsRepository}
+use Rattle.repo_engine.specs.Words.{HasForm, check_xml, IsUnlisted}
+use Rattle.repo_engine.specs.Answer.{Answer, Checks, ChecksWords, RefusesRepository}
+
+-- a plain repository is read in one way
+abbrev pub ReadsOneWay : Type 0
+ReadsOneWay = (bytes : List ℕ) (p q : Plain) → SpellsRepository bytes p → SpellsRepository bytes q → p ≡ q
+
+-- two statuses and their texts are one
+abbrev Same : Status → Status → List ℕ → List ℕ → Type 0
+Same s s' t t' = (s ≡ s') × (t ≡ t')
+
+abbrev fourth : List (List ℕ) → List ℕ
+fourth (a ∷ b ∷ c ∷ d ∷ rest) = d
+fourth ws = []
+
+-- the words name one identifier
+id_same : (ws : List (List ℕ)) (id id' : List ℕ) → HasForm ws (check_xml id) → HasForm ws (check_xml id') → id ≡ id'
+id_same ws id id' a b = ap fourth (sym a.1 ∙ b.1)
+
+-- a check of one instance against one repository comes to one thing
+one_check : (p : Plain) (id i : List ℕ) (s s' : Status) (t t' : List ℕ) → Checks p id i s t → Checks p id i s' t' → Same s s' t t'
+one_check p id i Message Message t t' a b = (refl, a.1 ∙ sym b.1)
+one_check p id i Message Instance t t' a b = absurd (a.0 b.0)
+one_check p id i Message Done t t' a b = absurd (a.0 b.0)
+one_check p id i Instance Message t t' a b = absurd (b.0 a.0)
+one_check p id i Instance Instance t t' a b = (refl, a.2 ∙ sym b.2)
+one_check p id i Instance Done t t' a b = absurd (a.1 b.1.0 b.1.1)
+one_check p id i Done Message t t' a b = absurd (b.0 a.0)
+one_check p id i Done Instance t t' a b = absurd (b.1 a.1.0 a.1.1)
+one_check p id i Done Done t t' a b = (refl, a.2 ∙ sym b.2)
+one_check p id i Words s' t t' a b = absurd a
+one_check p id i Repository s' t t' a b = absurd a
+one_check p id i Codes s' t t' a b = absurd a
+one_check p id i ReadFault s' t t' a b = absurd a
+one_check p id i WriteFault s' t t' a b = absurd a
+one_check p id i Memory s' t t' a b = absurd a
+one_check p id i Message Words t t' a b = absurd b
+one_check p id i Message Repository t t' a b = absurd b
+one_check p id i Message Codes t t' a b = absurd b
+one_check p id i Message ReadFault t t' a b = absurd b
+one_check p id i Message WriteFault t t' a b = absurd b
+one_check p id i Message Memory t t' a b = absurd b
+one_check p id i Instance Words t t' a b = absurd b
+one_check p id i Instance Repository t t' a b = absurd b
+one_check p id i Instance Codes t t' a b = absurd b
+one_check p id i Instance ReadFault t t' a b = absurd b
+one_check p id i Instance WriteFault t t' a b = absurd b
+one_check p id i Instance Memory t t' a b = absurd b
+one_check p id i Done Words t t' a b = absurd b
+one_check p id i Done Repository t t' a b = absurd b
+one_check p id i Done Codes t t' a b = absurd b
+one_check p id i Done ReadFault t t' a b = absurd b
+one_check p id i Done WriteFault t t' a b = absurd b
+one_check p id i Done Memory t t' a b = absurd b
+
+-- which of the three steps an answer comes from
+abbrev Kind : List (List ℕ) → List ℕ → List ℕ → Status → List ℕ → Type 0
+Kind ws r i s t = ((s ≡ Words) × IsUnlisted ws × (t ≡ codes "refused: words\n")) ⊎ ((s ≡ Repository) × RefusesRepository ws r t) ⊎ ChecksWords ws r i s t
+
+kind_of : (ws : List (List ℕ)) (r c i : List ℕ) (s : Status) (t : List ℕ) → Answer ws r c i s t → Kind ws r i s t
+kind_of ws r c i Words t a = inl (refl, a.0, a.1)
+kind_of ws r c i Repository t a = inr (inl (refl, a))
+kind_of ws r c i Message t a = inr (inr a)
+kind_of ws r c i Instance t a = inr (inr a)
+kind_of ws r c i Done t a = inr (inr a)
+kind_of ws r c i Codes t a = absurd a
+kind_of ws r c i ReadFault t a = absurd a
+kind_of ws r c i WriteFault t a = absurd a
+kind_of ws r c i Memory t a = absurd a
+
+module _ (one : ReadsOneWay) (ws : List (List ℕ)) (r i : List ℕ) where
+  -- two checks of the same words and bytes come to one thing
+  one_checked : (s s' : Status) (t t' : List ℕ) → ChecksWords ws r i s t → ChecksWords ws r i s' t' → Same s s' t t'
+  one_checked s s' t t' a b =
+      let says : b.says ≡ a.says = one r b.says a.says b.spelled a.spelled in
+      let id : b.id ≡ a.id = id_same ws b.id a.id b.form a.form in
+      let there : Checks a.says a.id i s' t' = subst (λ x. Checks a.says x i s' t') id (subst (λ p. Checks p b.id i s' t') says b.checks) in
+      one_check a.says a.id i s s' t t' a.checks there
+
+  one_kind : (s s' : Status) (t t' : List ℕ) → Kind ws r i s t → Kind ws r i s' t' → Same s s' t t'
+  one_kind s s' t t' (inl a) (inl b) = (a.0 ∙ sym b.0, a.2 ∙ sym b.2)
+  one_kind s s' t t' (inl a) (inr (inl b)) = absurd (a.1 (check_xml b.1.id) b.1.form)
+  one_kind s s' t t' (inl a) (inr (inr b)) = absurd (a.1 (check_xml b.id) b.form)
+  one_kind s s' t t' (inr (inl a)) (inl b) = absurd (b.1 (check_xml a.1.id) a.1.form)
+  one_kind s s' t t' (inr (inl a)) (inr (inl b)) = (a.0 ∙ sym b.0, a.1.line ∙ sym b.1.line)
+  one_kind s s' t t' (inr (inl a)) (inr (inr b)) = absurd (a.1.none b.says b.spelled)
+  one_kind s s' t t' (inr (inr a)) (inl b) = absurd (b.1 (check_xml a.id) a.form)
+  one_kind s s' t t' (inr (inr a)) (inr (inl b)) = absurd (b.1.none a.says a.spelled)
+  one_kind s s' t t' (inr (inr a)) (inr (inr b)) = one_checked s s' t t' a b
+
+pub one_answer : ReadsOneWay → (ws : List (List ℕ)) (r c i : List ℕ) (s s' : Status) (t t' : List ℕ)
+    → Answer ws r c i s t → Answer ws r c i s' t' → (s ≡ s') × (t ≡ t')
+one_answer one ws r c i s s' t t' a b = one_kind one ws r i s s' t t' (kind_of ws r c i s t a) (kind_of ws r c i s' t' b)

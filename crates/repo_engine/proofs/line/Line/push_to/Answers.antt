@@ -1,0 +1,16 @@
+use Rattle.outside.proofs.Pushing.{append_then_front, front_of_front}
+use Rattle.repo_engine.proofs.Parts.{error_leaves_front, push_behind}
+use Rattle.repo_engine.proofs.line.Line.push_to.Goals as goal
+
+pub returns-in_err-push_part-clause-bytes : goal.returns-in_err-push_part-clause-bytes
+returns-in_err-push_part-clause-bytes g c =
+    error_leaves_front _ _ _ _ c.from_residual.ensures.0 (front_of_front _ _ _ _ c.in_err-push_part.ensures.bytes)
+
+pub returns-in_err-push_part-2-clause-bytes : goal.returns-in_err-push_part-2-clause-bytes
+returns-in_err-push_part-2-clause-bytes g c =
+    error_leaves_front _ _ _ _ c.from_residual-in_err-push_part-2.ensures.0
+    (append_then_front _ _ _ _ _ c.in_ok-push_part.ensures.bytes (front_of_front _ _ _ _ c.in_err-push_part-2.ensures.bytes))
+
+pub returns-clause-bytes : goal.returns-clause-bytes
+returns-clause-bytes g c =
+    push_behind _ _ _ _ _ _ c.in_ok-push_part.ensures.bytes (push_behind _ _ _ _ _ _ c.in_ok-push_part-2.ensures.bytes c.push_part-3.ensures.bytes)

@@ -1,0 +1,19 @@
+use Rattle.std.proofs.Common.{◌≡◌, ◌++◌, ◌∷◌, [], map, sym}
+use Rattle.std.proofs.lemmas.List.{map_push}
+use Rattle.repo_engine.specs.PlainReading.{block_of, block_at, lines_at}
+use Rattle.repo_engine.proofs.RepositoryLists.{goes_on, stops, is_full}
+use Rattle.repo_engine.proofs.repository.lines.blocks.Goals as goal
+
+pub returns-in_default : goal.returns-in_default
+returns-in_default c =
+    let nothing = rw c.in_default.is at c.block.ensures in
+    stops block_at (map block_of c.loop.lines.items) 4096 c.loop.counter c.loop.rest.now (lines_at block_at 4096 c.args.bytes.now) c.loop-test.true (sym nothing) c.loop.invariant
+
+pub loop-preserved : goal.loop-preserved
+loop-preserved c =
+    let x = c.in-Some.found in
+    let e : map block_of c.push.new.self.items ≡ map block_of c.loop.lines.items ++ block_of x ∷ [] = rw c.in_ok-push.ensures.items (map_push _ c.loop.lines.items x) in
+    rw e (goes_on block_at (map block_of c.loop.lines.items) 4096 c.loop.counter c.loop.rest.now (block_of x) c.in-Some.after.now (lines_at block_at 4096 c.args.bytes.now) c.loop-test.true (sym c.in-Some.ensures) c.loop.invariant)
+
+pub returns : goal.returns
+returns c = is_full block_at (map block_of c.loop.lines.items) 4096 c.loop.counter c.loop.rest.now (lines_at block_at 4096 c.args.bytes.now) c.loop-test.false c.loop.invariant

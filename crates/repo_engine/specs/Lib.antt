@@ -1,0 +1,16 @@
+pub mod PlainNames
+pub mod PlainRepository
+pub mod PlainInstance
+pub mod PlainReading
+pub mod PlainContents
+pub mod Words
+pub mod Exit
+pub mod Reading
+pub mod Line
+pub mod Answer
+pub mod Run
+pub mod InstanceForm
+pub mod InstanceText
+pub mod InstanceChecker
+pub mod InstanceFields
+pub mod InstanceCheck
