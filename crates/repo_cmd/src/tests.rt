@@ -151,6 +151,21 @@ fn answers(rt: HostRuntime) -> Result<(), Fail> {
     Ok(())
 }
 
+#[test]
+fn refuses_a_line_before_the_first(rt: HostRuntime) -> Result<(), Fail> {
+    let mut repo = Vec::from_slice(rt.alloc(), b"\n".as_slice())?;
+    repo.extend_from_slice(NOTE)?;
+    let outcome = outcome_of(rt.alloc(), CHECK.as_slice(), repo.as_slice(), A1, 64)?;
+    expect_outcome(
+        &rt,
+        &outcome,
+        Status::Repository,
+        b"".as_slice(),
+        b"refused: repository not plain\n".as_slice(),
+    );
+    Ok(())
+}
+
 /// The numbers of the calls that fail.
 #[derive(Clone, Copy)]
 struct Failing<'a> {
