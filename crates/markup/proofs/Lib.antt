@@ -25,3 +25,6 @@ pub mod OneFault
 pub mod ReferencePlaces
 pub mod Placed
 pub mod TokenizerLemmas
+pub mod Pending
+pub mod SettleLemmas
+pub mod InputLemmas

@@ -301,7 +301,7 @@ past_reverse : (before ts : List Token) → past before ts ≡ reverse ts ++ bef
 past_reverse before [] = refl
 past_reverse before (t ∷ ts) = past_reverse (t ∷ before) ts ∙ (sym (append_assoc (reverse ts) (t ∷ []) before) ∙ ap (λ v. v ++ before) (sym (reverse-append (t ∷ []) ts)))
 
-behind : (ts : List Token) → reverse ts ≡ past [] ts
+pub behind : (ts : List Token) → reverse ts ≡ past [] ts
 behind ts = sym (past_reverse [] ts ∙ append-nil (reverse ts))
 
 -- a text has at most one first fault

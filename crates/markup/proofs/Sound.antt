@@ -215,7 +215,7 @@ at_start = record { outside = λ before e. first_outside before (firsts before e
   firsts [] e = refl
   firsts (t ∷ before) e = absurd (placed_no_start (is_first (t ∷ before)) (in_cdata (t ∷ before)) e)
 
-at_cdata : (before : List Token) → position before ≡ Cdata → in_cdata before ≡ true
+pub at_cdata : (before : List Token) → position before ≡ Cdata → in_cdata before ≡ true
 at_cdata [] e = absurd (cc)
 at_cdata (t ∷ before) e = placed_is_cdata (is_first (t ∷ before)) (in_cdata (t ∷ before)) e
 

@@ -46,7 +46,7 @@ use Rattle.markup.proofs.ReferencePlaces.{in_reference, in_tag}
 use Rattle.markup.proofs.Placed.{Placed, run_placed}
 
 -- nothing is a front of some character
-none_front : IsFront []
+pub none_front : IsFront []
 none_front = record { char = 65; rest = 65 ∷ []; scalar = refl; more = omega arith; spelled = a_bytes } where
   a_bytes : encode_utf8 65 ≡ 65 ∷ []
   a_bytes = ascii 65 (omega arith) where
@@ -76,7 +76,7 @@ tag_not_pending Brackets h = absurd (both_ways false refl h)
 tag_not_pending _ h = refl
 
 -- behind a token that opens and closes nothing
-other_place : (before : List Token) → placed false (in_cdata before) ≡ after_other (position before)
+pub other_place : (before : List Token) → placed false (in_cdata before) ≡ after_other (position before)
 other_place [] = refl
 other_place (t ∷ before) = by (is_first (t ∷ before)) (in_cdata (t ∷ before)) (first_outside (t ∷ before)) where
   by : (f g : Bool) → (f ≡ true → g ≡ false) → placed false g ≡ after_other (placed f g)

@@ -4,9 +4,9 @@ use Rattle.lexical_core.specs.Utf8.{Steps, IsFront}
 use Rattle.lexical_core.specs.declared.utf8.Utf8.{Utf8}
 use Rattle.lexical_core.specs.declared.utf8.Utf8.TheVariants.{More as MoreBytes, Char, Bad}
 use Rattle.lexical_core.specs.declared.rule.Rule.{Rule}
-use Rattle.lexical_core.specs.declared.rule.Rule.TheVariants.{BadUtf8, BadMarkup, BadReference, BadChar}
+use Rattle.lexical_core.specs.declared.rule.Rule.TheVariants.{BadUtf8, BadMarkup, BadReference, BadChar, Truncated}
 use Rattle.markup.specs.Chars.{is_xml_char}
-use Rattle.markup.specs.Token.{Token, token_bytes}
+use Rattle.markup.specs.Token.{Token, LineEnd, Character, Cr, token_bytes}
 use Rattle.markup.specs.Marks.{stands, is_short, tag_limit}
 use Rattle.markup.specs.Faults.{IsTagBegun, Next}
 use Rattle.markup.specs.Drafts.{no_draft, noted}
@@ -22,6 +22,10 @@ use Rattle.markup.specs.declared.scan.Ended.TheVariants.{Mark, Opener, Closer}
 use Rattle.markup.specs.declared.scan.Turn.{Turn}
 use Rattle.markup.specs.declared.scan.Turn.TheVariants.{Goes, Whole, Stuck}
 use Rattle.markup.specs.declared.tokenizer.Tokenizer.{Tokenizer}
+use Rattle.markup.specs.declared.tokenizer.Settled.{Settled}
+use Rattle.markup.specs.declared.tokenizer.Settled.TheVariants.{Nothing, Return, Bracket as OneBracket, Brackets as TwoBrackets}
+use Rattle.markup.specs.declared.tokenizer.Finish.{Finish}
+use Rattle.markup.specs.declared.tokenizer.Finish.TheVariants.{Nothing as NothingOpen, Return as ReturnOpen, Open}
 use Rattle.markup.specs.declared.tokenizer.Progress.{Progress}
 use Rattle.markup.specs.declared.tokenizer.Progress.TheVariants.{More, Token as EndedToken, Refused}
 
@@ -145,3 +149,60 @@ Advances new before bytes (Refused rule) = (more : List ℕ) → Next tag_limit 
 -- A byte gives the next token where it ends it, and the next fault where it shows it, behind any tokens.
 abbrev pub AdvancesBy : Tokenizer → Tokenizer → ℕ → Progress → Type 0
 AdvancesBy old new byte progress = (before : List Token) (bytes : List ℕ) → IsOpen old before bytes → IsAwaited old.scan byte → Advances new before (bytes ++ byte ∷ []) progress
+
+-- the next token begins
+abbrev pub restarted : Tokenizer → Tokenizer
+restarted z = record { alloc = z.alloc; utf8 = z.utf8; position = after_other z.position; scan = Begin (after_other z.position); draft = z.draft; start = z.place; place = z.place }
+
+-- the first of two brackets has ended
+abbrev pub second_bracket : Tokenizer → Tokenizer
+second_bracket z = record { alloc = z.alloc; utf8 = z.utf8; position = z.position; scan = Bracket; draft = z.draft; start = z.place - 1; place = z.place }
+
+-- what ends since it does not go on with the byte
+abbrev pub settled_at : Scan → Tokenizer → ℕ → Settled × Tokenizer
+settled_at AfterReturn z byte = if byte == 10 then (Nothing, z) else (Return, restarted z)
+settled_at Bracket z byte = if byte == 93 then (Nothing, z) else (OneBracket, restarted z)
+settled_at Brackets z byte = if byte == 62 then (Nothing, z) else (if byte == 93 then (OneBracket, second_bracket z) else (TwoBrackets, restarted z))
+settled_at s z byte = (Nothing, z)
+
+abbrev pub settled : Tokenizer → ℕ → Settled × Tokenizer
+settled z byte = settled_at z.scan z byte
+
+-- a token that stands before the byte, and those that are open behind it
+pub record SettlesOne (new : Tokenizer) (before : List Token) (bytes : List ℕ) (byte : ℕ) (t : Token) : Type 0 where
+  pub rest : List ℕ
+  pub bytes_are : bytes ≡ token_bytes t ++ rest
+  pub is : (more : List ℕ) → stands before t (rest ++ byte ∷ more) ≡ true
+  pub next : IsOpen new (t ∷ before) rest
+
+-- two brackets that stand before the byte
+pub record SettlesTwo (new : Tokenizer) (before : List Token) (bytes : List ℕ) (byte : ℕ) : Type 0 where
+  pub bytes_are : bytes ≡ 93 ∷ 93 ∷ []
+  pub first : (more : List ℕ) → stands before (Character 93) (93 ∷ byte ∷ more) ≡ true
+  pub second : (more : List ℕ) → stands (Character 93 ∷ before) (Character 93) (byte ∷ more) ≡ true
+  pub next : IsOpen new (Character 93 ∷ Character 93 ∷ before) []
+
+abbrev pub Settles : Tokenizer → Tokenizer → List Token → List ℕ → ℕ → Settled → Type 0
+Settles old new before bytes byte Nothing = new ≡ old
+Settles old new before bytes byte Return = SettlesOne new before bytes byte (LineEnd Cr)
+Settles old new before bytes byte OneBracket = SettlesOne new before bytes byte (Character 93)
+Settles old new before bytes byte TwoBrackets = SettlesTwo new before bytes byte
+
+-- What the byte does not go on with are tokens that stand before it, and what is left goes on with it.
+abbrev pub SettlesBy : Tokenizer → Tokenizer → ℕ → Settled → Type 0
+SettlesBy old new byte result = (before : List Token) (bytes : List ℕ) → IsOpen old before bytes → Settles old new before bytes byte result × IsAwaited new.scan byte
+
+-- what is open where the input ends
+abbrev pub open_at : Scan → Tokenizer → Finish
+open_at AfterReturn z = ReturnOpen
+open_at s z = if z.place == z.start then NothingOpen else Open
+
+-- and what it is to the input
+abbrev pub Finishes : List Token → List ℕ → Finish → Type 0
+Finishes before bytes NothingOpen = bytes ≡ []
+Finishes before bytes ReturnOpen = (bytes ≡ token_bytes (LineEnd Cr)) × (stands before (LineEnd Cr) [] ≡ true)
+Finishes before bytes Open = Next tag_limit before bytes Truncated (length bytes)
+
+-- At the end of the input nothing is open, or a CR ends, or the input is cut short there.
+abbrev pub FinishesBy : Tokenizer → Finish → Type 0
+FinishesBy z result = (before : List Token) (bytes : List ℕ) → IsOpen z before bytes → Finishes before bytes result

@@ -23,6 +23,30 @@ pub(crate) enum Progress {
     Refused(Rule),
 }
 
+/// The tokens that a byte ends, since they do not go on with it.
+#[derive(Clone, Copy)]
+pub(crate) enum Settled {
+    /// None: the byte belongs to the open token.
+    Nothing,
+    /// A CR that is a line end.
+    Return,
+    /// A `]` of a CDATA section.
+    Bracket,
+    /// Two of them.
+    Brackets,
+}
+
+/// What is open where the input ends.
+#[derive(Clone, Copy)]
+pub(crate) enum Finish {
+    /// Nothing.
+    Nothing,
+    /// A CR, which is a line end.
+    Return,
+    /// A token that has not ended.
+    Open,
+}
+
 /// A reader of tokens that takes a byte at a time.
 #[derive(Drop)]
 pub(crate) struct Tokenizer {
@@ -102,7 +126,7 @@ impl Scan {
 }
 
 impl Tokenizer {
-    ghost use Rattle.markup.specs.Tokenizers.{bounded, ended, charactered, AdvancedBy, AdvancesBy, IsOpen};
+    ghost use Rattle.markup.specs.Tokenizers.{bounded, ended, charactered, AdvancedBy, AdvancesBy, IsOpen, restarted, settled, SettlesBy, open_at, FinishesBy};
 
     /// A reader before the first byte. It takes no memory.
     pub(crate) fn new(alloc: Global) -> Tokenizer
@@ -117,6 +141,61 @@ impl Tokenizer {
             start: 0,
             place: 0,
         }
+    }
+
+    /// The next token begins behind one that opens and closes nothing.
+    fn restart(&mut self)
+        ensures { self.new ≡ restarted self.old }
+    {
+        self.position = self.position.behind(Ended::LineEnd);
+        self.scan = Scan::Begin(self.position);
+        self.start = self.place;
+    }
+
+    /// Ends what does not go on with the byte.
+    fn settle_open(&mut self, byte: u8) -> Settled
+        ensures value { result ≡ (settled self.old byte).0 }
+        ensures after { self.new ≡ (settled self.old byte).1 }
+    {
+        match self.scan {
+            Scan::AfterReturn => {
+                if byte == b'\n' {
+                    Settled::Nothing
+                } else {
+                    self.restart();
+                    Settled::Return
+                }
+            }
+            Scan::Bracket => {
+                if byte == b']' {
+                    Settled::Nothing
+                } else {
+                    self.restart();
+                    Settled::Bracket
+                }
+            }
+            Scan::Brackets => {
+                if byte == b'>' {
+                    Settled::Nothing
+                } else if byte == b']' {
+                    self.scan = Scan::Bracket;
+                    self.start = self.place.saturating_sub(1);
+                    Settled::Bracket
+                } else {
+                    self.restart();
+                    Settled::Brackets
+                }
+            }
+            _ => Settled::Nothing,
+        }
+    }
+
+    /// Ends a CR, or brackets in a CDATA section, that the byte does not go on with. The byte is
+    /// not taken.
+    pub(crate) fn settle(&mut self, byte: u8) -> Settled
+        ensures { SettlesBy self.old self.new byte result }
+    {
+        self.settle_open(byte)
     }
 
     /// A tag that has not ended may not have all the bytes that it may have.
@@ -155,6 +234,29 @@ impl Tokenizer {
             Turn::Whole(ended) => Ok(self.end(ended)),
             Turn::Stuck => Ok(Progress::Refused(self.scan.stuck_rule(c))),
         }
+    }
+
+    /// What is open where the input ends.
+    fn open(&self) -> Finish
+        ensures { result ≡ open_at self.now.scan self.now }
+    {
+        match self.scan {
+            Scan::AfterReturn => Finish::Return,
+            _ => {
+                if self.place == self.start {
+                    Finish::Nothing
+                } else {
+                    Finish::Open
+                }
+            }
+        }
+    }
+
+    /// The end of the input: it ends a CR, and cuts a token that has not ended.
+    pub(crate) fn finish(&self) -> Finish
+        ensures { FinishesBy self.now result }
+    {
+        self.open()
     }
 
     /// Takes a byte: it gives the next token where it ends it, and the next fault where it shows
