@@ -1,90 +1,22 @@
 -- The code that is built of the tokens of a syntax tree is that of its plan.
-use Rattle.std.proofs.Common.{◌≡◌, ℕ, zero, suc, ◌+◌, ◌-◌, ◌*◌, ◌≤◌, min, ◌⊎◌, inl, inr, Bool, true, false, cond, ◌==◌, nat_lt, Option, Some, None, List, [], ◌∷◌, ◌++◌, length, take, drop, set, refl, sym, ap, ap₂, ◌∙◌, subst, arith, append_assoc, append-nil, length-append, eqb-true, eq-eqb, lt-ltb, mul-zero, le-mul_of_pos_right, zero-lt-suc, le_trans, zero-mul}
+use Rattle.std.proofs.Common.{◌≡◌, ℕ, zero, suc, ◌+◌, ◌-◌, ◌*◌, ◌≤◌, min, ◌⊎◌, inl, inr, Bool, true, false, cond, ◌||◌, ◌==◌, nat_lt, Option, Some, None, List, [], ◌∷◌, ◌++◌, length, take, drop, set, refl, sym, ap, ap₂, ◌∙◌, subst, arith, append_assoc, append-nil, length-append, drop-drop, eqb-true, eq-eqb, lt-ltb, mul-zero, le-mul_of_pos_right, zero-lt-suc, le_trans, zero-mul}
 use Rattle.std.proofs.Math.Seq.{take-append_seam, drop-append_seam, set-append_seam}
 use Rattle.std.proofs.lemmas.Bool.{eqb-false, ne_eqb}
 use Rattle.pattern_match.specs.Expression.{Item, One as OneItem, Range, Spaces, Hyphen, Atom, Character, Dot, Escape, Space, Class, Quantifier, Once, Optional, AnyNumber, OneOrMore, Exactly, AtLeast, Between, Expression, Empty, Piece, Group, Choice}
+use Rattle.pattern_match.specs.Valid.{IsBranch, IsExpression}
 use Rattle.pattern_match.specs.Positions.{copies, positions}
-use Rattle.pattern_match.specs.Plan.{Plan, Nothing, One, Many, Either, size, code_then}
-use Rattle.pattern_match.specs.Building.{Built, capped, flagged_first, copies_code, repeated_code, kept, begun_at, sum_of, after_atom, after_open, after_bar, after_close_of, after_close, closed_code, piece_code, after_times, built, nothing_built, built_whole}
+use Rattle.pattern_match.specs.Plan.{Plan, Nothing, One, Either, size}
+use Rattle.pattern_match.specs.Building.{Built, capped, flagged_first, repeated_code, kept, sum_of, is_branch_empty, is_item, wrapped, after_atom, after_open, after_bar, after_close_of, after_close, closed_code, piece_code, after_times, built, nothing_built, built_whole}
 use Rattle.pattern_match.specs.declared.instruction.Instruction.{Instruction}
 use Rattle.pattern_match.specs.declared.instruction.Instruction.TheVariants.{Take, Open, Bar, Close}
 use Rattle.pattern_match.specs.declared.instruction.Begun.{Begun}
 use Rattle.pattern_match.specs.declared.token.Token.{Token}
 use Rattle.pattern_match.specs.declared.token.Token.TheVariants.{Close as CloseToken, Bar as BarToken}
-use Rattle.pattern_match.proofs.Planning.{least_of, most_of, copies_of, iterate, repeated, piece}
+use Rattle.pattern_match.proofs.Planning.{least_of, most_of, repeated, piece}
+use Rattle.pattern_match.proofs.Grouping.{is_nothing, single, group}
 use Rattle.pattern_match.proofs.Tokens.{items_tokens_then, atom_tokens_then, quantifier_tokens_then, tokens_then, items_width, atom_width, quantifier_width, width}
-use Rattle.pattern_match.proofs.PlanOf.{plan, whole}
-
--- the instructions of a plan
-abbrev pub code : Plan → List Instruction
-code p = code_then p []
-
-code_append : (p : Plan) (xs ys : List Instruction) → code_then p xs ++ ys ≡ code_then p (xs ++ ys)
-code_append Nothing xs ys = refl
-code_append (One at o r rest) xs ys = ap (λ c. Take at o r ∷ c) (code_append rest xs ys)
-code_append (Many inner o r rest) xs ys =
-    ap (λ c. Open (size inner) o r ∷ c) (code_append inner (Close ∷ code_then rest xs) ys ∙ ap (λ c. code_then inner (Close ∷ c)) (code_append rest xs ys))
-code_append (Either branch rest) xs ys = code_append branch (Bar ∷ code_then rest xs) ys ∙ ap (λ c. code_then branch (Bar ∷ c)) (code_append rest xs ys)
-
-code_split : (p : Plan) (xs : List Instruction) → code_then p xs ≡ code p ++ xs
-code_split p xs = sym (code_append p [] xs)
-
-pub code_length : (p : Plan) (xs : List Instruction) → length (code_then p xs) ≡ size p + length xs
-code_length Nothing xs = omega arith
-code_length (One at o r rest) xs = let h = code_length rest xs in omega arith
-code_length (Many inner o r rest) xs = let h = code_length inner (Close ∷ code_then rest xs) in let g = code_length rest xs in omega arith
-code_length (Either branch rest) xs = let h = code_length branch (Bar ∷ code_then rest xs) in let g = code_length rest xs in omega arith
-
--- an item has a fragment, to whose first instruction its flags go
-pub record ItemCode (item : Bool → Bool → Plan → Plan) (f : List Instruction) : Type 0 where
-  pub one : code (item false false Nothing) ≡ f
-  pub plain : flagged_first false false f ≡ f
-  pub flags : (o r : Bool) (rest : Plan) → code (item o r rest) ≡ flagged_first o r f ++ code rest
-
-one_item : (k : ℕ) → ItemCode (One k) (Take k false false ∷ [])
-one_item k = record { one = refl; plain = refl; flags = λ o r rest. refl }
-
-many_item : (p : Plan) → ItemCode (Many p) (Open (size p) false false ∷ (code p ++ Close ∷ []))
-many_item p = record {
-  one = ap (λ c. Open (size p) false false ∷ c) (code_split p (Close ∷ []));
-  plain = refl;
-  flags = λ o r rest. ap (λ c. Open (size p) o r ∷ c) (code_split p (Close ∷ code rest) ∙ sym (append_assoc (code p) (Close ∷ []) (code rest)));
-}
-
-module _ (item : Bool → Bool → Plan → Plan) (f : List Instruction) (h : ItemCode item f) where
-  iterate_code : (o r : Bool) (n : ℕ) (rest : Plan) → code (iterate n (item o r) rest) ≡ copies_code n (flagged_first o r f) ++ code rest
-  iterate_code o r zero rest = refl
-  iterate_code o r (suc n) rest =
-      h.flags o r (iterate n (item o r) rest) ∙ ap (λ c. flagged_first o r f ++ c) (iterate_code o r n rest)
-      ∙ sym (append_assoc (flagged_first o r f) (copies_code n (flagged_first o r f)) (code rest))
-
-  repeated_plan_code : (least : ℕ) (most : Option ℕ) (rest : Plan) → code (repeated item least most rest) ≡ repeated_code least most f ++ code rest
-  repeated_plan_code least (Some most) rest =
-      iterate_code false false least (iterate (most - least) (item true false) rest)
-      ∙ ap (λ c. copies_code least (flagged_first false false f) ++ c) (iterate_code true false (most - least) rest)
-      ∙ sym (append_assoc (copies_code least (flagged_first false false f)) (copies_code (most - least) (flagged_first true false f)) (code rest))
-  repeated_plan_code zero None rest = h.flags true true rest
-  repeated_plan_code (suc n) None rest =
-      iterate_code false false n (item false true rest)
-      ∙ ap (λ c. copies_code n (flagged_first false false f) ++ c) (h.flags false true rest)
-      ∙ sym (append_assoc (copies_code n (flagged_first false false f)) (flagged_first false true f) (code rest))
-      ∙ ap (λ c. c ++ code rest) (sym (positive (suc n == 0) (ne_eqb (suc n) 0 (λ e. absurd (omega arith)))))
-    where
-      positive : (b : Bool) → b ≡ false
-          → cond b (flagged_first true true f) (copies_code (suc n - 1) (flagged_first false false f) ++ flagged_first false true f)
-          ≡ copies_code n (flagged_first false false f) ++ flagged_first false true f
-      positive true e = absurd (cc)
-      positive false e = ap (λ k. copies_code k (flagged_first false false f) ++ flagged_first false true f) (let z : suc n - 1 ≡ n = omega arith in z)
-
-  -- a piece, and then the rest
-  piece_split : (n least : ℕ) (most : Option ℕ) (rest : Plan) → code (piece item n least most rest) ≡ code (piece item n least most Nothing) ++ code rest
-  piece_split n least most rest = choose (n * copies_of least most == 0) (nat_lt 65536 (n * copies_of least most))
-    where
-      choose : (a b : Bool) → code (cond a rest (cond b (item false false rest) (repeated item least most rest)))
-          ≡ code (cond a Nothing (cond b (item false false Nothing) (repeated item least most Nothing))) ++ code rest
-      choose true b = refl
-      choose false true = h.flags false false rest ∙ ap (λ c. c ++ code rest) (h.plain ∙ sym h.one)
-      choose false false = repeated_plan_code least most rest ∙ ap (λ c. c ++ code rest) (sym (repeated_plan_code least most Nothing ∙ append-nil (repeated_code least most f)))
+use Rattle.pattern_match.proofs.PlanOf.{gap, branch_gap, plan, plan_nothing, whole}
+use Rattle.pattern_match.proofs.PlanCode.{or_false, code, code_length, code_split, nothing_code, some_size, item_single, ItemCode, one_item, group_code, group_item, repeated_plan_code, piece_split}
 
 -- positions that are counted up to the limit tell the same of what is kept
 capped_cases : (n : ℕ) → (min n 65537 ≡ n) ⊎ ((min n 65537 ≡ 65537) × (65537 ≤ n))
@@ -120,18 +52,31 @@ same_zero n k = choose (capped_cases n)
 abbrev pub fragment : ℕ → List Instruction → List Instruction
 fragment n f = cond (n == 0) [] f
 
-pub record Ready (b : Built) (c f : List Instruction) (begun : List Begun) (total n : ℕ) : Type 0 where
+-- the groups around it, the positions before it, and the branch that it stands in
+pub record Around : Type 0 where
+  pub begun : List Begun
+  pub total : ℕ
+  pub branch : ℕ
+  pub empty : Bool
+
+-- what stands around the next piece
+abbrev pub around : Built → Around
+around b = record { begun = b.begun; total = sum_of b; branch = b.branch; empty = b.empty }
+
+-- what stands around the last piece
+abbrev pub around_last : Built → Around
+around_last b = record { begun = b.begun; total = b.total; branch = b.branch; empty = b.empty }
+
+pub record Ready (b : Built) (c f : List Instruction) (a : Around) (n : ℕ) : Type 0 where
   pub code_is : b.code ≡ c ++ fragment n f
-  pub begun_is : b.begun ≡ begun
-  pub total_is : b.total ≡ total
+  pub around_is : around_last b ≡ a
   pub last_is : b.last ≡ capped n
   pub start_is : b.start ≡ length c
 
 -- what a piece leaves
-pub record Done (b : Built) (c : List Instruction) (begun : List Begun) (total n : ℕ) : Type 0 where
+pub record Done (b : Built) (c : List Instruction) (a : Around) (n : ℕ) : Type 0 where
   pub code_is : b.code ≡ c
-  pub begun_is : b.begun ≡ begun
-  pub total_is : b.total ≡ total
+  pub around_is : around_last b ≡ a
   pub last_is : b.last ≡ capped n
 
 zero_product : (n k : ℕ) → n ≡ 0 → n * k ≡ 0
@@ -168,39 +113,37 @@ module _ (item : Bool → Bool → Plan → Plan) (f : List Instruction) (h : It
       choose false false e = let g : n * 1 == 0 ≡ false = ne_eqb (n * 1) 0 (λ x. eqb-false n 0 e (omega arith)) in rw g (ap (λ x. c ++ x) (sym h.one))
 
   -- behind a quantifier
-  times_done : (b : Built) (c : List Instruction) (begun : List Begun) (total n least : ℕ) (most : Option ℕ) → Ready b c f begun total n
-      → Done (after_times least most b) (c ++ code (piece item n least most Nothing)) begun total (n * kept least most)
-  times_done b c begun total n least most r = record {
+  times_done : (b : Built) (c : List Instruction) (a : Around) (n least : ℕ) (most : Option ℕ) → Ready b c f a n
+      → Done (after_times least most b) (c ++ code (piece item n least most Nothing)) a (n * kept least most)
+  times_done b c a n least most r = record {
     code_is = ap (λ x. piece_code x b.code (b.last * kept least most) least most) r.start_is
         ∙ ap (λ x. piece_code (length c) x (b.last * kept least most) least most) r.code_is
         ∙ ap (λ x. piece_code (length c) (c ++ fragment n f) (x * kept least most) least most) r.last_is
         ∙ repeated_is c n least most;
-    begun_is = r.begun_is;
-    total_is = r.total_is;
+    around_is = r.around_is;
     last_is = ap (λ x. capped (x * kept least most)) r.last_is ∙ (same_zero n (kept least most)).1.1;
   }
 
-  once_done : (b : Built) (c : List Instruction) (begun : List Begun) (total n : ℕ) → Ready b c f begun total n
-      → Done b (c ++ code (piece item n 1 (Some 1) Nothing)) begun total (n * 1)
-  once_done b c begun total n r = record {
+  once_done : (b : Built) (c : List Instruction) (a : Around) (n : ℕ) → Ready b c f a n
+      → Done b (c ++ code (piece item n 1 (Some 1) Nothing)) a (n * 1)
+  once_done b c a n r = record {
     code_is = r.code_is ∙ once_is c n;
-    begun_is = r.begun_is;
-    total_is = r.total_is;
+    around_is = r.around_is;
     last_is = r.last_is ∙ ap capped (let z : n ≡ n * 1 = omega arith in z);
   }
 
   -- behind the tokens of a quantifier
-  pub quantifier_done : (q : Quantifier) (at : ℕ) (more : List Token) (b : Built) (c : List Instruction) (begun : List Begun) (total n : ℕ) → Ready b c f begun total n
+  pub quantifier_done : (q : Quantifier) (at : ℕ) (more : List Token) (b : Built) (c : List Instruction) (a : Around) (n : ℕ) → Ready b c f a n
       → (d : Built) × (built at (quantifier_tokens_then q more) b ≡ built (at + quantifier_width q) more d)
-      × Done d (c ++ code (piece item n (least_of q) (most_of q) Nothing)) begun total (n * copies q)
-  quantifier_done Once at more b c begun total n r =
-      (b, ap (λ i. built i more b) (let z : at ≡ at + 0 = omega arith in z), once_done b c begun total n r)
-  quantifier_done Optional at more b c begun total n r = (after_times 0 (Some 1) b, refl, times_done b c begun total n 0 (Some 1) r)
-  quantifier_done AnyNumber at more b c begun total n r = (after_times 0 None b, refl, times_done b c begun total n 0 None r)
-  quantifier_done OneOrMore at more b c begun total n r = (after_times 1 None b, refl, times_done b c begun total n 1 None r)
-  quantifier_done (Exactly m) at more b c begun total n r = (after_times (least_of (Exactly m)) (most_of (Exactly m)) b, refl, times_done b c begun total n (least_of (Exactly m)) (most_of (Exactly m)) r)
-  quantifier_done (AtLeast m) at more b c begun total n r = (after_times (least_of (AtLeast m)) None b, refl, times_done b c begun total n (least_of (AtLeast m)) None r)
-  quantifier_done (Between l m) at more b c begun total n r = (after_times (least_of (Between l m)) (most_of (Between l m)) b, refl, times_done b c begun total n (least_of (Between l m)) (most_of (Between l m)) r)
+      × Done d (c ++ code (piece item n (least_of q) (most_of q) Nothing)) a (n * copies q)
+  quantifier_done Once at more b c a n r =
+      (b, ap (λ i. built i more b) (let z : at ≡ at + 0 = omega arith in z), once_done b c a n r)
+  quantifier_done Optional at more b c a n r = (after_times 0 (Some 1) b, refl, times_done b c a n 0 (Some 1) r)
+  quantifier_done AnyNumber at more b c a n r = (after_times 0 None b, refl, times_done b c a n 0 None r)
+  quantifier_done OneOrMore at more b c a n r = (after_times 1 None b, refl, times_done b c a n 1 None r)
+  quantifier_done (Exactly m) at more b c a n r = (after_times (least_of (Exactly m)) (most_of (Exactly m)) b, refl, times_done b c a n (least_of (Exactly m)) (most_of (Exactly m)) r)
+  quantifier_done (AtLeast m) at more b c a n r = (after_times (least_of (AtLeast m)) None b, refl, times_done b c a n (least_of (AtLeast m)) None r)
+  quantifier_done (Between l m) at more b c a n r = (after_times (least_of (Between l m)) (most_of (Between l m)) b, refl, times_done b c a n (least_of (Between l m)) (most_of (Between l m)) r)
 
 -- behind the tokens of an atom
 items_built : (items : List Item) (at : ℕ) (more : List Token) (b : Built) → built at (items_tokens_then items more) b ≡ built (at + items_width items) more b
@@ -220,86 +163,248 @@ atom_built Dot at more b = refl
 atom_built (Escape letter) at more b = refl
 atom_built Space at more b = refl
 
-atom_ready : (at : ℕ) (b : Built) → Ready (after_atom at b) b.code (Take at false false ∷ []) b.begun (sum_of b) 1
-atom_ready at b = record { code_is = refl; begun_is = refl; total_is = refl; last_is = refl; start_is = refl }
+atom_ready : (at : ℕ) (b : Built) → Ready (after_atom at b) b.code (Take at false false ∷ []) (around b) 1
+atom_ready at b = record { code_is = refl; around_is = refl; last_is = refl; start_is = refl }
 
 -- behind the end of a group
 capped_zero : (n : ℕ) → (capped n == 0) ≡ (n == 0)
 capped_zero zero = refl
 capped_zero (suc n) = ne_eqb (capped (suc n)) 0 (λ e. absurd (omega arith)) ∙ sym (ne_eqb (suc n) 0 (λ e. absurd (omega arith)))
 
-closed_is : (c : List Instruction) (p : Plan) (n : ℕ)
-    → closed_code (length c) ((c ++ Open 0 false false ∷ []) ++ code p) (capped n) ≡ c ++ fragment n (Open (size p) false false ∷ (code p ++ Close ∷ []))
-closed_is c p n =
-    ap (λ x. closed_code (length c) x (capped n)) (append_assoc c (Open 0 false false ∷ []) (code p))
-    ∙ ap (λ x. cond x (take (length c) (c ++ Open 0 false false ∷ code p))
-    (set (c ++ Open 0 false false ∷ code p) (length c) (Open (length (c ++ Open 0 false false ∷ code p) - length c - 1) false false) ++ Close ∷ [])) (capped_zero n)
-    ∙ choose (n == 0)
+-- the code of a group whose branches are p: it begins behind c
+wrapped_is : (c : List Instruction) (p : Plan) (empty : Bool) → wrapped (length c) empty ((c ++ Open 0 false false ∷ []) ++ code p) ≡ c ++ group_code p empty
+wrapped_is c p empty =
+    ap (λ x. wrapped (length c) empty x) (append_assoc c (Open 0 false false ∷ []) (code p))
+    ∙ ap (λ x. cond (is_item x) (take (length c) whole ++ flagged_first empty false x) (set whole (length c) (Open (length whole - length c - 1) empty false) ++ Close ∷ [])) inner
+    ∙ ap (λ x. cond x (take (length c) whole ++ flagged_first empty false (code p)) (set whole (length c) (Open (length whole - length c - 1) empty false) ++ Close ∷ [])) (item_single p)
+    ∙ choose (single p)
   where
-    inside : length (c ++ Open 0 false false ∷ code p) - length c - 1 ≡ size p
+    whole : List Instruction
+    whole = c ++ Open 0 false false ∷ code p
+
+    inner : drop (length c + 1) whole ≡ code p
+    inner = sym (drop-drop 1 (length c) whole) ∙ ap (λ x. drop 1 x) (drop-append_seam c (Open 0 false false ∷ code p))
+
+    inside : length whole - length c - 1 ≡ size p
     inside = let l = length-append c (Open 0 false false ∷ code p) in let s = code_length p [] in omega arith
 
-    choose : (z : Bool) → cond z (take (length c) (c ++ Open 0 false false ∷ code p))
-        (set (c ++ Open 0 false false ∷ code p) (length c) (Open (length (c ++ Open 0 false false ∷ code p) - length c - 1) false false) ++ Close ∷ [])
-        ≡ c ++ cond z [] (Open (size p) false false ∷ (code p ++ Close ∷ []))
-    choose true = take-append_seam c (Open 0 false false ∷ code p) ∙ sym (append-nil c)
+    choose : (z : Bool) → cond z (take (length c) whole ++ flagged_first empty false (code p)) (set whole (length c) (Open (length whole - length c - 1) empty false) ++ Close ∷ [])
+        ≡ c ++ cond z (flagged_first empty false (code p)) (Open (size p) empty false ∷ (code p ++ Close ∷ []))
+    choose true = ap (λ x. x ++ flagged_first empty false (code p)) (take-append_seam c (Open 0 false false ∷ code p))
     choose false =
-        ap (λ l. set (c ++ Open 0 false false ∷ code p) (length c) (Open l false false) ++ Close ∷ []) inside
-        ∙ ap (λ x. x ++ Close ∷ []) (set-append_seam c (Open 0 false false) (code p) (Open (size p) false false))
-        ∙ append_assoc c (Open (size p) false false ∷ code p) (Close ∷ [])
+        ap (λ l. set whole (length c) (Open l empty false) ++ Close ∷ []) inside
+        ∙ ap (λ x. x ++ Close ∷ []) (set-append_seam c (Open 0 false false) (code p) (Open (size p) empty false))
+        ∙ append_assoc c (Open (size p) empty false ∷ code p) (Close ∷ [])
 
-pub group_ready : (b d : Built) (p : Plan) (n : ℕ) → d.code ≡ (b.code ++ Open 0 false false ∷ []) ++ code p → d.begun ≡ begun_at (length b.code) (sum_of b) ∷ b.begun
-    → sum_of d ≡ capped n → Ready (after_close d) b.code (Open (size p) false false ∷ (code p ++ Close ∷ [])) b.begun (sum_of b) n
-group_ready b d p n c g s =
-    subst (λ x. Ready (after_close_of x d) b.code (Open (size p) false false ∷ (code p ++ Close ∷ [])) b.begun (sum_of b) n) (sym g)
-    (record {
-      code_is = ap (λ x. closed_code (length b.code) x (sum_of d)) c ∙ ap (λ x. closed_code (length b.code) ((b.code ++ Open 0 false false ∷ []) ++ code p) x) s
-          ∙ closed_is b.code p n;
-      begun_is = refl;
-      total_is = refl;
-      last_is = s;
-      start_is = refl;
-    })
-
--- what the tokens of a tree leave
+-- what the tokens of a branch leave
 pub record Behind (b d : Built) (p : Plan) (n : ℕ) : Type 0 where
   pub code_is : d.code ≡ b.code ++ code p
   pub begun_is : d.begun ≡ b.begun
   pub sum_is : sum_of d ≡ capped (sum_of b + n)
+  pub branch_is : d.branch ≡ b.branch
+  pub empty_is : d.empty ≡ b.empty
+
+-- the code without a last bar behind which nothing is kept, and whether an empty branch was left out
+abbrev trimmed : Built → List Instruction
+trimmed d = cond (is_branch_empty d) (take (d.branch - 1) d.code) d.code
+
+abbrev gapped : Built → Bool
+gapped d = is_branch_empty d || d.empty
+
+-- what the tokens of branches leave, the first of which begins here: p is what is kept of them, and empty whether one is left out
+pub record Left (b d : Built) (p : Plan) (empty : Bool) (n : ℕ) : Type 0 where
+  pub begun_is : d.begun ≡ b.begun
+  pub sum_is : sum_of d ≡ capped (sum_of b + n)
+  pub none : is_nothing p ≡ true → (d.code ≡ b.code) × (d.branch ≡ length b.code)
+  pub some : is_nothing p ≡ false → (trimmed d ≡ b.code ++ code p) × (gapped d ≡ (empty || b.empty))
+
+-- one branch
+left_one : (b d : Built) (p : Plan) (n : ℕ) → b.branch ≡ length b.code → Behind b d p n → Left b d p false n
+left_one b d p n e h = record {
+  begun_is = h.begun_is;
+  sum_is = h.sum_is;
+  none = λ z. (h.code_is ∙ ap (λ c. b.code ++ c) (nothing_code p z) ∙ append-nil b.code, h.branch_is ∙ e);
+  some = λ z. let f = longer z in (ap (λ x. cond x (take (d.branch - 1) d.code) d.code) f ∙ h.code_is, ap (λ x. x || d.empty) f ∙ h.empty_is);
+}
+  where
+    longer : is_nothing p ≡ false → is_branch_empty d ≡ false
+    longer z = ne_eqb (length d.code) d.branch (λ x. absurd (
+        let l : length d.code ≡ length b.code + length (code p) = ap length h.code_is ∙ length-append b.code (code p) in
+        let k = code_length p [] in
+        let s = some_size p z in
+        let y : d.branch ≡ length b.code = h.branch_is ∙ e in
+        omega arith
+        ))
+
+-- behind a bar, by whether the branch before it is empty
+barred : Bool → Built → Built
+barred true b = record { code = b.code; begun = b.begun; total = sum_of b; last = 0; start = 0; branch = b.branch; empty = true }
+barred false b = record { code = b.code ++ Bar ∷ []; begun = b.begun; total = sum_of b; last = 0; start = 0; branch = length b.code + 1; empty = b.empty }
+
+barred_is : (b : Built) (x : Bool) → is_branch_empty b ≡ x → after_bar b ≡ barred x b
+unfolding barred
+barred_is b true e = ap (λ y. cond y (barred true b) (barred false b)) e
+barred_is b false e = ap (λ y. cond y (barred true b) (barred false b)) e
+
+bar_sum : (s x y : ℕ) → capped (capped (capped (s + x) + 0) + y) ≡ capped (s + (x + y))
+bar_sum s x y = omega arith
+
+or_true : (x : Bool) → (x || true) ≡ true
+or_true false = refl
+or_true true = refl
+
+-- a branch and those after it
+join_left : (b d e : Built) (p q : Plan) (empty : Bool) (m n : ℕ) (x y : Bool) → is_nothing p ≡ x → is_nothing q ≡ y → b.branch ≡ length b.code
+    → Behind b d p m → Left (barred x d) e q empty n → Left b e (cond x q (cond y p (Either p q))) (x || (y || empty)) (m + n)
+unfolding barred
+join_left b d e p q empty m n true y i j f h k = record {
+  begun_is = k.begun_is ∙ h.begun_is;
+  sum_is = k.sum_is ∙ ap (λ s. capped (capped (s + 0) + n)) h.sum_is ∙ bar_sum (sum_of b) m n;
+  none = λ z. ((k.none z).0 ∙ same, (k.none z).1 ∙ ap length same);
+  some = λ z. ((k.some z).0 ∙ ap (λ c. c ++ code q) same, (k.some z).1 ∙ or_true empty);
+}
+  where
+    same : d.code ≡ b.code
+    same = h.code_is ∙ ap (λ c. b.code ++ c) (nothing_code p i) ∙ append-nil b.code
+join_left b d e p q empty m n false true i j f h k = record {
+  begun_is = k.begun_is ∙ h.begun_is;
+  sum_is = k.sum_is ∙ ap (λ s. capped (capped (s + 0) + n)) h.sum_is ∙ bar_sum (sum_of b) m n;
+  none = λ z. absurd (cc);
+  some = λ z. (
+    ap (λ t. cond t (take (e.branch - 1) e.code) e.code) at_end
+        ∙ ap₂ (λ t c. take (t - 1) c) (k.none j).1 (k.none j).0
+        ∙ ap (λ t. take t (d.code ++ Bar ∷ [])) (let l = length-append d.code (Bar ∷ []) in let g : length (d.code ++ Bar ∷ []) - 1 ≡ length d.code = omega arith in g)
+        ∙ take-append_seam d.code (Bar ∷ []) ∙ h.code_is,
+    ap (λ t. t || e.empty) at_end,
+  );
+}
+  where
+    at_end : is_branch_empty e ≡ true
+    at_end = eq-eqb (length e.code) e.branch (ap length (k.none j).0 ∙ sym (k.none j).1)
+join_left b d e p q empty m n false false i j f h k = record {
+  begun_is = k.begun_is ∙ h.begun_is;
+  sum_is = k.sum_is ∙ ap (λ s. capped (capped (s + 0) + n)) h.sum_is ∙ bar_sum (sum_of b) m n;
+  none = λ z. absurd (cc);
+  some = λ z. (
+    (k.some j).0 ∙ ap (λ c. (c ++ Bar ∷ []) ++ code q) h.code_is
+        ∙ append_assoc (b.code ++ code p) (Bar ∷ []) (code q)
+        ∙ append_assoc b.code (code p) (Bar ∷ code q)
+        ∙ ap (λ c. b.code ++ c) (sym (code_split p (Bar ∷ code q))),
+    (k.some j).1 ∙ ap (λ t. empty || t) h.empty_is,
+  );
+}
+
+-- the next branch begins behind the bar
+bar_here : (b d : Built) (p : Plan) (m : ℕ) (x : Bool) → is_nothing p ≡ x → b.branch ≡ length b.code → Behind b d p m
+    → (after_bar d ≡ barred x d) × ((barred x d).branch ≡ length (barred x d).code)
+unfolding barred
+bar_here b d p m true i f h =
+    let l : d.branch ≡ length d.code = h.branch_is ∙ f ∙ ap length (sym (h.code_is ∙ ap (λ c. b.code ++ c) (nothing_code p i) ∙ append-nil b.code)) in
+    (barred_is d true (eq-eqb (length d.code) d.branch (sym l)), l)
+bar_here b d p m false i f h =
+    (barred_is d false (longer i), sym (length-append d.code (Bar ∷ [])))
+  where
+    longer : is_nothing p ≡ false → is_branch_empty d ≡ false
+    longer z = ne_eqb (length d.code) d.branch (λ x. absurd (
+        let l : length d.code ≡ length b.code + length (code p) = ap length h.code_is ∙ length-append b.code (code p) in
+        let k = code_length p [] in
+        let s = some_size p z in
+        let y : d.branch ≡ length b.code = h.branch_is ∙ f in
+        omega arith
+        ))
+
+-- behind the end of a group of n positions
+closed_is : (b d : Built) (p : Plan) (empty : Bool) (n : ℕ) → is_nothing p ≡ (n == 0) → Left (after_open b) d p empty n
+    → closed_code (length b.code) d.branch d.empty d.code (capped n) ≡ b.code ++ fragment n (group_code p empty)
+closed_is b d p empty n i h =
+    ap (λ x. cond x (take (length b.code) d.code) (cond (is_branch_empty d) (wrapped (length b.code) true (take (d.branch - 1) d.code)) (wrapped (length b.code) d.empty d.code))) (capped_zero n)
+    ∙ choose (n == 0) refl
+  where
+    by_branch : (x : Bool) → cond x (wrapped (length b.code) true (take (d.branch - 1) d.code)) (wrapped (length b.code) d.empty d.code)
+        ≡ wrapped (length b.code) (x || d.empty) (cond x (take (d.branch - 1) d.code) d.code)
+    by_branch true = refl
+    by_branch false = refl
+
+    choose : (z : Bool) → (n == 0) ≡ z
+        → cond z (take (length b.code) d.code) (cond (is_branch_empty d) (wrapped (length b.code) true (take (d.branch - 1) d.code)) (wrapped (length b.code) d.empty d.code))
+        ≡ b.code ++ cond z [] (group_code p empty)
+    choose true z = ap (λ c. take (length b.code) c) (h.none (i ∙ z)).0 ∙ take-append_seam b.code (Open 0 false false ∷ []) ∙ sym (append-nil b.code)
+    choose false z =
+        by_branch (is_branch_empty d)
+        ∙ ap₂ (λ x c. wrapped (length b.code) x c) ((h.some (i ∙ z)).1 ∙ or_false empty) (h.some (i ∙ z)).0
+        ∙ wrapped_is b.code p empty
+
+group_ready : (b d : Built) (p : Plan) (empty : Bool) (n : ℕ) → is_nothing p ≡ (n == 0) → Left (after_open b) d p empty n
+    → Ready (after_close d) b.code (group_code p empty) (around b) n
+group_ready b d p empty n i h =
+    subst (λ x. Ready (after_close_of x d) b.code (group_code p empty) (around b) n) (sym h.begun_is)
+    (record {
+      code_is = ap (λ x. closed_code (length b.code) d.branch d.empty d.code x) sum ∙ closed_is b d p empty n i h;
+      around_is = refl;
+      last_is = sum;
+      start_is = refl;
+    })
+  where
+    zero_sum : (n : ℕ) → capped (capped (0 + 0) + n) ≡ capped n
+    zero_sum n = omega arith
+
+    sum : sum_of d ≡ capped n
+    sum = h.sum_is ∙ zero_sum n
 
 capped_twice : (s x y : ℕ) → capped (capped (s + capped x) + y) ≡ capped (s + (x + y))
 capped_twice s x y = omega arith
 
-capped_once : (x y : ℕ) → capped (capped x + y) ≡ capped (x + y)
-capped_once x y = omega arith
-
 -- a piece and the rest
 piece_behind : (item : Bool → Bool → Plan → Plan) (f : List Instruction) → ItemCode item f → (b d e : Built) (n least : ℕ) (most : Option ℕ) (rest : Plan) (x y : ℕ)
-    → Done d (b.code ++ code (piece item n least most Nothing)) b.begun (sum_of b) x → Behind d e rest y → Behind b e (piece item n least most rest) (x + y)
+    → Done d (b.code ++ code (piece item n least most Nothing)) (around b) x → Behind d e rest y → Behind b e (piece item n least most rest) (x + y)
 piece_behind item f h b d e n least most rest x y r k = record {
   code_is = k.code_is ∙ ap (λ c. c ++ code rest) r.code_is ∙ append_assoc b.code (code (piece item n least most Nothing)) (code rest)
       ∙ ap (λ c. b.code ++ c) (sym (piece_split item f h n least most rest));
-  begun_is = k.begun_is ∙ r.begun_is;
-  sum_is = k.sum_is ∙ ap₂ (λ s t. capped (capped (s + t) + y)) r.total_is r.last_is ∙ capped_twice (sum_of b) x y;
+  begun_is = k.begun_is ∙ ap (λ a. a.begun) r.around_is;
+  sum_is = k.sum_is ∙ ap₂ (λ s t. capped (capped (s + t) + y)) (ap (λ a. a.total) r.around_is) r.last_is ∙ capped_twice (sum_of b) x y;
+  branch_is = k.branch_is ∙ ap (λ a. a.branch) r.around_is;
+  empty_is = k.empty_is ∙ ap (λ a. a.empty) r.around_is;
 }
 
-pub tree_built : (t : Expression) (k : ℕ) (more : List Token) (b : Built)
-    → (d : Built) × (built k (tokens_then t more) b ≡ built (k + width t) more d) × Behind b d (plan t k) (positions t)
-tree_built Empty k more b = (
+-- what the tokens of a tree leave: of a branch, and of branches
+abbrev BuildsBranch : Expression → ℕ → List Token → Type 0
+BuildsBranch t k more = (b : Built) → (d : Built) × (built k (tokens_then t more) b ≡ built (k + width t) more d) × Behind b d (plan t k) (positions t)
+
+abbrev Builds : Expression → ℕ → List Token → Type 0
+Builds t k more =
+    (b : Built) → b.branch ≡ length b.code → (d : Built) × (built k (tokens_then t more) b ≡ built (k + width t) more d) × Left b d (plan t k) (gap t) (positions t)
+
+record BuildsTree (t : Expression) (k : ℕ) (more : List Token) : Type 0 where
+  branch : IsBranch t → BuildsBranch t k more
+  all : Builds t k more
+
+of_branch : (t : Expression) (k : ℕ) (more : List Token) → IsBranch t → BuildsBranch t k more → BuildsTree t k more
+of_branch t k more v h = record {
+  branch = λ z. h;
+  all = λ b e. let r = h b in (r.0, r.1, subst (λ g. Left b r.0 (plan t k) g (positions t)) (sym (branch_gap t v)) (left_one b r.0 (plan t k) (positions t) e r.2));
+}
+
+empty_built : (k : ℕ) (more : List Token) → BuildsBranch Empty k more
+empty_built k more b = (
   b,
   ap (λ i. built i more b) (let z : k ≡ k + 0 = omega arith in z),
   record {
     code_is = sym (append-nil b.code);
     begun_is = refl;
     sum_is = sum_same (b.total + b.last);
+    branch_is = refl;
+    empty_is = refl;
   },
 )
   where
     sum_same : (x : ℕ) → capped x ≡ capped (capped x + 0)
     sum_same x = omega arith
-tree_built (Piece a q r) k more b =
-    let d = quantifier_done (One k) (Take k false false ∷ []) (one_item k) q (k + atom_width a) (tokens_then r more) (after_atom k b) b.code b.begun (sum_of b) 1 (atom_ready k b) in
-    let e = tree_built r (k + (atom_width a + quantifier_width q)) more d.0 in (
+
+piece_built : (a : Atom) (q : Quantifier) (r : Expression) (k : ℕ) (more : List Token) → BuildsBranch r (k + (atom_width a + quantifier_width q)) more
+    → BuildsBranch (Piece a q r) k more
+piece_built a q r k more rest b =
+    let d = quantifier_done (One k) (Take k false false ∷ []) (one_item k) q (k + atom_width a) (tokens_then r more) (after_atom k b) b.code (around b) 1 (atom_ready k b) in
+    let e = rest d.0 in (
       e.0,
       atom_built a k (quantifier_tokens_then q (tokens_then r more)) b ∙ d.1
           ∙ ap (λ i. built i (tokens_then r more) d.0) (let z : k + atom_width a + quantifier_width q ≡ k + (atom_width a + quantifier_width q) = omega arith in z)
@@ -307,53 +412,61 @@ tree_built (Piece a q r) k more b =
       subst (λ x. Behind b e.0 (plan (Piece a q r) k) (x + positions r)) (let z : 1 * copies q ≡ copies q = omega arith in z)
           (piece_behind (One k) (Take k false false ∷ []) (one_item k) b d.0 e.0 1 (least_of q) (most_of q) (plan r (k + (atom_width a + quantifier_width q))) (1 * copies q) (positions r) d.2 e.2),
     )
-tree_built (Group p q r) k more b =
-    let g = tree_built p (k + 1) (CloseToken ∷ quantifier_tokens_then q (tokens_then r more)) (after_open b) in
-    let s : sum_of g.0 ≡ capped (positions p) = g.2.sum_is ∙ zero_sum (positions p) in
-    let i : plan p (k + 1) ≡ plan p (suc k) = ap (λ j. plan p j) (let z : k + 1 ≡ suc k = omega arith in z) in
-    let c : g.0.code ≡ (b.code ++ Open 0 false false ∷ []) ++ code (plan p (suc k)) = g.2.code_is ∙ ap (λ x. (b.code ++ Open 0 false false ∷ []) ++ code x) i in
-    let ready = group_ready b g.0 (plan p (suc k)) (positions p) c g.2.begun_is s in
-    let F = Open (size (plan p (suc k))) false false ∷ (code (plan p (suc k)) ++ Close ∷ []) in
-    let d = quantifier_done (Many (plan p (suc k))) F (many_item (plan p (suc k))) q (k + 1 + width p + 1) (tokens_then r more) (after_close g.0) b.code b.begun (sum_of b) (positions p) ready in
-    let e = tree_built r (suc k + (width p + suc (quantifier_width q))) more d.0 in (
+
+group_built : (p : Expression) (q : Quantifier) (r : Expression) (k : ℕ) (more : List Token)
+    → Builds p (suc k) (CloseToken ∷ quantifier_tokens_then q (tokens_then r more))
+    → BuildsBranch r (suc k + (width p + suc (quantifier_width q))) more → BuildsBranch (Group p q r) k more
+group_built p q r k more within rest b =
+    let g = within (after_open b) (sym (length-append b.code (Open 0 false false ∷ []))) in
+    let F = group_code (plan p (suc k)) (gap p) in
+    let I = group (plan p (suc k)) (gap p) in
+    let ready = group_ready b g.0 (plan p (suc k)) (gap p) (positions p) (plan_nothing p (suc k)) g.2 in
+    let d = quantifier_done I F (group_item (plan p (suc k)) (gap p)) q (suc k + width p + 1) (tokens_then r more) (after_close g.0) b.code (around b) (positions p) ready in
+    let e = rest d.0 in (
       e.0,
-      g.1 ∙ d.1
-          ∙ ap (λ j. built j (tokens_then r more) d.0) (let z : k + 1 + width p + 1 + quantifier_width q ≡ suc k + (width p + suc (quantifier_width q)) = omega arith in z)
+      ap (λ j. built j (tokens_then p (CloseToken ∷ quantifier_tokens_then q (tokens_then r more))) (after_open b)) (let z : k + 1 ≡ suc k = omega arith in z)
+          ∙ g.1 ∙ d.1
+          ∙ ap (λ j. built j (tokens_then r more) d.0) (let z : suc k + width p + 1 + quantifier_width q ≡ suc k + (width p + suc (quantifier_width q)) = omega arith in z)
           ∙ e.1 ∙ ap (λ j. built j more e.0) (let z : suc k + (width p + suc (quantifier_width q)) + width r ≡ k + suc (width p + suc (quantifier_width q + width r)) = omega arith in z),
-      piece_behind (Many (plan p (suc k))) F (many_item (plan p (suc k))) b d.0 e.0 (positions p) (least_of q) (most_of q) (plan r (suc k + (width p + suc (quantifier_width q))))
+      piece_behind I F (group_item (plan p (suc k)) (gap p)) b d.0 e.0 (positions p) (least_of q) (most_of q) (plan r (suc k + (width p + suc (quantifier_width q))))
           (positions p * copies q) (positions r) d.2 e.2,
     )
-  where
-    zero_sum : (n : ℕ) → capped (capped (0 + 0) + n) ≡ capped n
-    zero_sum n = omega arith
-tree_built (Choice l r) k more b =
-    let d = tree_built l k (BarToken ∷ tokens_then r more) b in
-    let e = tree_built r (k + suc (width l)) more (after_bar d.0) in (
+
+choice_built : (l r : Expression) (k : ℕ) (more : List Token) → BuildsBranch l k (BarToken ∷ tokens_then r more) → Builds r (k + suc (width l)) more
+    → Builds (Choice l r) k more
+choice_built l r k more first rest b f =
+    let d = first b in
+    let n : is_nothing (plan l k) ≡ (positions l == 0) = plan_nothing l k in
+    let h = bar_here b d.0 (plan l k) (positions l) (is_nothing (plan l k)) refl f d.2 in
+    let e = rest (barred (is_nothing (plan l k)) d.0) h.1 in (
       e.0,
       d.1 ∙ ap (λ j. built j (tokens_then r more) (after_bar d.0)) (let z : k + width l + 1 ≡ k + suc (width l) = omega arith in z)
+          ∙ ap (λ x. built (k + suc (width l)) (tokens_then r more) x) h.0
           ∙ e.1 ∙ ap (λ j. built j more e.0) (let z : k + suc (width l) + width r ≡ k + (width l + suc (width r)) = omega arith in z),
-      record {
-        code_is = e.2.code_is ∙ ap (λ c. (c ++ Bar ∷ []) ++ code (plan r (k + suc (width l)))) d.2.code_is
-            ∙ append_assoc (b.code ++ code (plan l k)) (Bar ∷ []) (code (plan r (k + suc (width l))))
-            ∙ append_assoc b.code (code (plan l k)) (Bar ∷ code (plan r (k + suc (width l))))
-            ∙ ap (λ c. b.code ++ c) (sym (code_split (plan l k) (Bar ∷ code (plan r (k + suc (width l))))));
-        begun_is = e.2.begun_is ∙ d.2.begun_is;
-        sum_is = e.2.sum_is ∙ ap (λ s. capped (capped (s + 0) + positions r)) d.2.sum_is ∙ bar_sum (sum_of b) (positions l) (positions r);
-      },
+      subst (λ x. Left b e.0 (plan (Choice l r) k) x (positions (Choice l r)))
+          (ap₂ (λ x y. x || (y || gap r)) n (plan_nothing r (k + suc (width l))))
+          (join_left b d.0 e.0 (plan l k) (plan r (k + suc (width l))) (gap r) (positions l) (positions r)
+          (is_nothing (plan l k)) (is_nothing (plan r (k + suc (width l)))) refl refl f d.2 e.2),
     )
-  where
-    bar_sum : (s x y : ℕ) → capped (capped (capped (s + x) + 0) + y) ≡ capped (s + (x + y))
-    bar_sum s x y = omega arith
+
+tree_built : (t : Expression) (k : ℕ) (more : List Token) → IsExpression t → BuildsTree t k more
+tree_built Empty k more v = of_branch Empty k more tt (empty_built k more)
+tree_built (Piece a q r) k more v =
+    of_branch (Piece a q r) k more tt (piece_built a q r k more ((tree_built r (k + (atom_width a + quantifier_width q)) more v.3).branch v.2))
+tree_built (Group p q r) k more v =
+    of_branch (Group p q r) k more tt
+    (group_built p q r k more ((tree_built p (suc k) (CloseToken ∷ quantifier_tokens_then q (tokens_then r more)) v.0).all)
+    ((tree_built r (suc k + (width p + suc (quantifier_width q))) more v.3).branch v.2))
+tree_built (Choice l r) k more v = record {
+  branch = λ z. absurd z;
+  all = choice_built l r k more ((tree_built l k (BarToken ∷ tokens_then r more) v.1).branch v.0) ((tree_built r (k + suc (width l)) more v.2).all);
+}
 
 -- the code and the positions of a whole pattern
-pub whole_built : (t : Expression) → ((built_whole (tokens_then t [])).code ≡ code (whole t)) × ((built_whole (tokens_then t [])).last ≡ capped (positions t))
-whole_built t =
-    let g = tree_built t 0 [] (after_open nothing_built) in
-    let s : sum_of g.0 ≡ capped (positions t) = g.2.sum_is ∙ zero_sum (positions t) in
-    let r = group_ready nothing_built g.0 (plan t 0) (positions t) g.2.code_is g.2.begun_is s in
-    let F = Open (size (plan t 0)) false false ∷ (code (plan t 0) ++ Close ∷ []) in
-    let d = once_done (Many (plan t 0)) F (many_item (plan t 0)) (after_close g.0) [] [] 0 (positions t) r in
+pub whole_built : (t : Expression) → IsExpression t
+    → ((built_whole (tokens_then t [])).code ≡ code (whole t)) × ((built_whole (tokens_then t [])).last ≡ capped (positions t))
+whole_built t v =
+    let g = (tree_built t 0 [] v).all (after_open nothing_built) refl in
+    let r = group_ready nothing_built g.0 (plan t 0) (gap t) (positions t) (plan_nothing t 0) g.2 in
+    let d = once_done (group (plan t 0) (gap t)) (group_code (plan t 0) (gap t)) (group_item (plan t 0) (gap t)) (after_close g.0) [] (around nothing_built) (positions t) r in
     (ap (λ b. (after_close b).code) g.1 ∙ d.code_is, ap (λ b. (after_close b).last) g.1 ∙ r.last_is)
-  where
-    zero_sum : (n : ℕ) → capped (capped (0 + 0) + n) ≡ capped n
-    zero_sum n = omega arith

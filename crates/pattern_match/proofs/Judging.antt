@@ -6,12 +6,15 @@ use Rattle.pattern_match.specs.Reading.{IsTreeOf, IsPattern, HasMorePositions, H
 use Rattle.pattern_match.specs.Spelling.{spelling}
 use Rattle.pattern_match.specs.Tokens.{emitted}
 use Rattle.pattern_match.specs.Building.{capped, limit, built_whole}
+use Rattle.pattern_match.specs.Counting.{counted_whole}
 use Rattle.pattern_match.specs.Compiled.{tokens_of_text, code_of_text}
 use Rattle.pattern_match.specs.declared.control.Control.TheVariants.{Start}
 use Rattle.pattern_match.proofs.Tokens.{tokens_then}
 use Rattle.pattern_match.proofs.PlanOf.{whole}
 use Rattle.pattern_match.proofs.Leading.{tree_lead}
-use Rattle.pattern_match.proofs.CodeOf.{code, whole_built}
+use Rattle.pattern_match.proofs.PlanCode.{code}
+use Rattle.pattern_match.proofs.CodeOf.{whole_built}
+use Rattle.pattern_match.proofs.Counted.{whole_counted}
 
 -- the tokens of a text are those of each of its trees
 pub tree_tokens : (text : List ℕ) (t : Expression) → IsTreeOf text t → tokens_of_text text ≡ tokens_then t []
@@ -21,15 +24,15 @@ tree_tokens text t h =
 
 -- so is their code
 pub tree_code : (text : List ℕ) (t : Expression) → IsTreeOf text t → code_of_text text ≡ code (whole t)
-tree_code text t h = ap (λ x. (built_whole x).code) (tree_tokens text t h) ∙ (whole_built t).0
+tree_code text t h = ap (λ x. (built_whole x).code) (tree_tokens text t h) ∙ (whole_built t h.valid).0
 
-pub tree_positions : (text : List ℕ) (t : Expression) → IsTreeOf text t → (built_whole (tokens_of_text text)).last ≡ capped (positions t)
-tree_positions text t h = ap (λ x. (built_whole x).last) (tree_tokens text t h) ∙ (whole_built t).1
+pub tree_positions : (text : List ℕ) (t : Expression) → IsTreeOf text t → counted_whole (tokens_of_text text) ≡ capped (positions t)
+tree_positions text t h = ap counted_whole (tree_tokens text t h) ∙ whole_counted (tokens_then t []) ∙ (whole_built t h.valid).1
 
-pub too_large : (text : List ℕ) → IsPattern text → limit < (built_whole (tokens_of_text text)).last → HasMorePositions text limit
+pub too_large : (text : List ℕ) → IsPattern text → limit < counted_whole (tokens_of_text text) → HasMorePositions text limit
 too_large text (t, h) l = (t, h, let e = tree_positions text t h in let x : limit < capped (positions t) = subst (λ y. limit < y) e l in omega arith)
 
-pub small_enough : (text : List ℕ) → IsPattern text → (built_whole (tokens_of_text text)).last ≤ limit → HasPositionsWithin text limit
+pub small_enough : (text : List ℕ) → IsPattern text → counted_whole (tokens_of_text text) ≤ limit → HasPositionsWithin text limit
 small_enough text (t, h) l = (t, h, let e = tree_positions text t h in let x : capped (positions t) ≤ limit = subst (λ y. y ≤ limit) e l in omega arith)
 
 -- all trees of a text are small enough where one is

@@ -10,16 +10,19 @@ use Rattle.pattern_match.specs.Plan.{Plan, Nothing, One, Many, Either, size, Fla
 use Rattle.pattern_match.specs.Marking.{first_pass, second_pass}
 use Rattle.pattern_match.specs.Token.{admits}
 use Rattle.pattern_match.specs.Building.{limit}
-use Rattle.pattern_match.specs.Compiled.{tokens_of_text, code_of_text, IsCompiled, first_marks, next_marks, marks_from, HasRead, IsMadeFor}
+use Rattle.pattern_match.specs.Compiled.{tokens_of_text, code_of_text, IsCompiled, first_marks, next_marks, marks_from, follows, IsMarked, IsMadeFor}
+use Rattle.pattern_match.specs.Recall.{Matching}
 use Rattle.pattern_match.specs.declared.instruction.Instruction.{Instruction}
 use Rattle.pattern_match.specs.declared.instruction.Frame.{Frame}
 use Rattle.pattern_match.specs.declared.token.Token.{Token}
 use Rattle.pattern_match.proofs.Words.{empty_ends}
 use Rattle.pattern_match.proofs.PassLemmas.{Hit, first_holds, second_holds}
 use Rattle.pattern_match.proofs.Planning.{least_of, most_of, copies_of, iterate, repeated, piece, piece_holds, no_positions, iff_both}
-use Rattle.pattern_match.proofs.Tokens.{tokens_then}
-use Rattle.pattern_match.proofs.PlanOf.{plan, whole, plan_lang, item_of, Takes}
-use Rattle.pattern_match.proofs.CodeOf.{code, code_length}
+use Rattle.pattern_match.proofs.Tokens.{tokens_then, width}
+use Rattle.pattern_match.proofs.Flags.{flagged_both}
+use Rattle.pattern_match.proofs.Grouping.{group, group_plan, group_lang, branches_plan}
+use Rattle.pattern_match.proofs.PlanOf.{gap, plan, whole, plan_lang, Takes}
+use Rattle.pattern_match.proofs.PlanCode.{code, code_length}
 use Rattle.pattern_match.proofs.Judging.{tree_tokens, tree_code, all_small}
 
 -- the lengths of the marks
@@ -85,13 +88,10 @@ piece_is_plan item h n least most rest b p = choose (n * copies_of least most ==
 one_plan : (k : ℕ) → PlanItem (One k)
 one_plan k o r rest b p = ((b, p), tt)
 
-many_plan : (inner : Plan) → IsPlan inner → PlanItem (Many inner)
-many_plan inner i o r rest b p = ((i, b, p), tt)
-
-abbrev PlanFor : Expression → Plan → Type 0
+abbrev pub PlanFor : Expression → Plan → Type 0
 PlanFor t p = IsPlan p × (IsBranch t → IsOneBranch p)
 
-tree_plan : (t : Expression) (k : ℕ) → IsExpression t → PlanFor t (plan t k)
+pub tree_plan : (t : Expression) (k : ℕ) → IsExpression t → PlanFor t (plan t k)
 tree_plan Empty k v = (tt, λ b. tt)
 tree_plan (Piece a q r) k v =
     let i = tree_plan r _ v.3 in
@@ -99,14 +99,14 @@ tree_plan (Piece a q r) k v =
 tree_plan (Group g q r) k v =
     let h = tree_plan g (suc k) v.0 in
     let i = tree_plan r _ v.3 in
-    let j = piece_is_plan (Many (plan g (suc k))) (many_plan (plan g (suc k)) h.0) (positions g) (least_of q) (most_of q) _ (i.1 v.2) i.0 in (j.0, λ b. j.1)
+    let j = piece_is_plan (group (plan g (suc k)) (gap g)) (group_plan (plan g (suc k)) (gap g) h.0) (positions g) (least_of q) (most_of q) _ (i.1 v.2) i.0 in (j.0, λ b. j.1)
 tree_plan (Choice l r) k v =
     let h = tree_plan l k v.1 in
     let i = tree_plan r _ v.2 in
-    ((h.1 v.0, h.0, i.0), λ b. b)
+    (branches_plan (plan l k) (plan r (k + suc (width l))) (h.1 v.0) h.0 i.0, λ b. absurd b)
 
 whole_plan : (t : Expression) → IsExpression t → IsPlan (whole t) × IsOneBranch (whole t)
-whole_plan t v = piece_is_plan (Many (plan t 0)) (many_plan (plan t 0) (tree_plan t 0 v).0) (positions t) 1 (Some 1) Nothing tt tt
+whole_plan t v = piece_is_plan (group (plan t 0) (gap t)) (group_plan (plan t 0) (gap t) (tree_plan t 0 v).0) (positions t) 1 (Some 1) Nothing tt tt
 
 -- marks none of which is set, before more
 falses : ℕ → List Bool → List Bool
@@ -218,13 +218,16 @@ holds_from tokens p v b (c ∷ w) u marks h =
 whole_lang : (t : Expression) → IsExpression t → positions t ≤ limit → (w : List ℕ) → PlanLang (Takes (tokens_then t [])) (whole t) w ↔ Lang t w
 whole_lang t v l w =
     iff_both
-    (piece_holds (Takes (tokens_then t [])) (Many (plan t 0)) (Lang t) (positions t) Once Nothing tt (let z : positions t * 1 ≤ limit = omega arith in z) (λ z. no_positions t v z)
-    (λ z o r rest u. many_item o r rest u) w)
+    (piece_holds (Takes (tokens_then t [])) (group (plan t 0) (gap t)) (Lang t) (positions t) Once Nothing tt (let z : positions t * 1 ≤ limit = omega arith in z) (λ z. no_positions t v z)
+    (λ z o r rest u. group_part o r rest u) w)
     once_lang
   where
-    many_item : (o r : Bool) (rest : Plan) (u : List ℕ) → PlanLang (Takes (tokens_then t [])) (Many (plan t 0) o r rest) u ↔ IsBoth (Flagged o r (Lang t)) (PlanLang (Takes (tokens_then t [])) rest) u
-    many_item o r rest u =
-        item_of (tokens_then t []) (PlanLang (Takes (tokens_then t [])) (plan t 0)) (Lang t) (λ y. plan_lang (tokens_then t []) t 0 [] v l refl tt y) rest o r u
+    group_part : (o r : Bool) (rest : Plan) (u : List ℕ)
+        → PlanLang (Takes (tokens_then t [])) (group (plan t 0) (gap t) o r rest) u ↔ IsBoth (Flagged o r (Lang t)) (PlanLang (Takes (tokens_then t [])) rest) u
+    group_part o r rest u =
+        iff_both (group_lang (Takes (tokens_then t [])) (plan t 0) (gap t) o r rest u)
+        (flagged_both o r (Flagged (gap t) false (PlanLang (Takes (tokens_then t [])) (plan t 0))) (Lang t) (PlanLang (Takes (tokens_then t [])) rest)
+        (λ y. plan_lang (tokens_then t []) t 0 [] v l refl tt y) u)
 
     once_lang : IsBoth (IsQuantified (Lang t) Once) (λ u. u ≡ []) w ↔ Lang t w
     once_lang = (λ x. forth x, λ p. (w, [], sym (append-nil w), (1, refl, (w, [], sym (append-nil w), p, refl)), refl))
@@ -260,20 +263,22 @@ for_tree text t w marks n h p m l =
         ∙ get-behind_marks (Takes (tokens_then t [])) (whole t) AtStart w (marks_from (tokens_then t []) (code (whole t)) (first_marks (code (whole t))) w) (all.0 ∷ []) 0 all.1
 
 -- the last mark tells whether the word is one of the pattern
-pub accepts_is : (bytes : List ℕ) (tokens : List Token) (c : List Instruction) (marks : List Bool) (w : List ℕ) → IsCompiled bytes tokens c → HasRead bytes marks w
+pub accepts_is : (bytes : List ℕ) (tokens : List Token) (c : List Instruction) (marks : List Bool) (w : List ℕ) → IsCompiled bytes tokens c → IsMarked bytes marks w
     → IsTrue (get_or marks (length c) false) ↔ Matches (chars bytes) w
 accepts_is bytes tokens c marks w i h = (
   λ x. (i.pattern.0, i.pattern.1, (for_tree (chars bytes) i.pattern.0 w marks (length c) i.pattern.1 i.pattern h.marks_are (ap length i.code_is)).0 x),
   λ x. (for_tree (chars bytes) x.0 w marks (length c) x.1 i.pattern h.marks_are (ap length i.code_is)).1 x.2,
 )
 
--- a matcher that was made for a pattern has a mark for each instruction, and one more
-pub made_length : (bytes : List ℕ) (marks : List Bool) → IsMadeFor bytes marks → length marks ≡ length (code_of_text (chars bytes)) + 1
-made_length bytes marks (w, h) = ap length h.marks_are ∙ read_length (tokens_of_text (chars bytes)) (code_of_text (chars bytes)) w
+-- marks behind a word are one for each instruction, and one more
+pub marked_length : (bytes : List ℕ) (marks : List Bool) (w : List ℕ) → IsMarked bytes marks w → length marks ≡ length (code_of_text (chars bytes)) + 1
+marked_length bytes marks w h = ap length h.marks_are ∙ read_length (tokens_of_text (chars bytes)) (code_of_text (chars bytes)) w
 
-pub has_read_more : (bytes : List ℕ) (old new : List Bool) (x : ℕ) (w : List ℕ)
-    → new ≡ next_marks (tokens_of_text (chars bytes)) (code_of_text (chars bytes)) x old → HasRead bytes old w → HasRead bytes new (w ++ x ∷ [])
-has_read_more bytes old new x w e h = record {
+pub made_length : (bytes : List ℕ) (m : Matching) → IsMadeFor bytes m → length m.marks ≡ length (code_of_text (chars bytes)) + 1
+made_length bytes m (w, h) = marked_length bytes m.marks w h.marked
+
+pub marked_more : (bytes : List ℕ) (old new : List Bool) (x : ℕ) (w : List ℕ) → new ≡ follows bytes x old → IsMarked bytes old w → IsMarked bytes new (w ++ x ∷ [])
+marked_more bytes old new x w e h = record {
   marks_are = e ∙ ap (λ m. next_marks (tokens_of_text (chars bytes)) (code_of_text (chars bytes)) x m) h.marks_are
       ∙ sym (marks_snoc (tokens_of_text (chars bytes)) (code_of_text (chars bytes)) w x (first_marks (code_of_text (chars bytes))));
 }

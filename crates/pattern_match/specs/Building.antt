@@ -1,5 +1,5 @@
--- How a token goes on with the code of a pattern.
-use Rattle.std.specs.Prelude.{ℕ, zero, suc, ◌+◌, ◌-◌, ◌*◌, min, max, Bool, true, false, ◌==◌, nat_lt, if◌then◌else◌, Option, Some, None, List, [], ◌∷◌, ◌++◌, length, take, drop, slice_set}
+-- How a token goes on with the code of a pattern: the state of a machine, which the contracts of private functions alone cite.
+use Rattle.std.specs.Prelude.{ℕ, zero, suc, ◌+◌, ◌-◌, ◌*◌, min, max, Bool, true, false, ◌||◌, ◌==◌, nat_lt, if◌then◌else◌, Option, Some, None, List, [], ◌∷◌, ◌++◌, length, take, drop, slice_set}
 use Rattle.pattern_match.specs.declared.instruction.Instruction.{Instruction}
 use Rattle.pattern_match.specs.declared.instruction.Instruction.TheVariants.{Take, Open, Bar, Close}
 use Rattle.pattern_match.specs.declared.instruction.Begun.{Begun}
@@ -14,22 +14,25 @@ limit = 65536
 abbrev pub capped : ℕ → ℕ
 capped n = min n 65537
 
--- the code so far, the groups that are begun, the innermost first, the positions of the innermost but its last piece, those of its last piece, and where that begins
+-- the code so far, the groups that are begun, the innermost first, the positions of the innermost but its last piece, those of its last piece, where that begins,
+-- where the last branch begins that may still be empty, and whether an empty one was left out
 pub record Built : Type 0 where
   pub code : List Instruction
   pub begun : List Begun
   pub total : ℕ
   pub last : ℕ
   pub start : ℕ
+  pub branch : ℕ
+  pub empty : Bool
 
--- an instruction with these flags
+-- an instruction with these flags too
 abbrev pub flagged : Bool → Bool → Instruction → Instruction
-flagged optional repeated (Take at o r) = Take at optional repeated
-flagged optional repeated (Open length o r) = Open length optional repeated
+flagged optional repeated (Take at o r) = Take at (optional || o) (repeated || r)
+flagged optional repeated (Open length o r) = Open length (optional || o) (repeated || r)
 flagged optional repeated Bar = Bar
 flagged optional repeated Close = Close
 
--- a fragment with these flags on its first instruction
+-- a fragment with these flags on its first instruction too
 abbrev pub flagged_first : Bool → Bool → List Instruction → List Instruction
 flagged_first optional repeated [] = []
 flagged_first optional repeated (i ∷ code) = flagged optional repeated i ∷ code
@@ -50,31 +53,76 @@ abbrev pub kept : ℕ → Option ℕ → ℕ
 kept least None = max least 1
 kept least (Some most) = most
 
-abbrev pub begun_at : ℕ → ℕ → Begun
-begun_at start total = record { start = start; total = total }
+-- a group that begins here, where this is built around it
+abbrev pub begun_at : ℕ → ℕ → ℕ → Bool → Begun
+begun_at start total branch empty = record { start = start; total = total; branch = branch; empty = empty }
 
 -- the positions of the innermost group
 abbrev pub sum_of : Built → ℕ
 sum_of b = capped (b.total + b.last)
 
+-- behind an atom
 abbrev pub after_atom : ℕ → Built → Built
-after_atom at b = record { code = b.code ++ Take at false false ∷ []; begun = b.begun; total = sum_of b; last = 1; start = length b.code }
+after_atom at b =
+    record { code = b.code ++ Take at false false ∷ []; begun = b.begun; total = sum_of b; last = 1; start = length b.code; branch = b.branch; empty = b.empty }
 
+-- behind the start of a group
 abbrev pub after_open : Built → Built
-after_open b = record { code = b.code ++ Open 0 false false ∷ []; begun = begun_at (length b.code) (sum_of b) ∷ b.begun; total = 0; last = 0; start = 0 }
+after_open b = record {
+  code = b.code ++ Open 0 false false ∷ [];
+  begun = begun_at (length b.code) (sum_of b) b.branch b.empty ∷ b.begun;
+  total = 0;
+  last = 0;
+  start = 0;
+  branch = length b.code + 1;
+  empty = false;
+}
 
+-- whether nothing is kept of the last branch
+abbrev pub is_branch_empty : Built → Bool
+is_branch_empty b = length b.code == b.branch
+
+-- behind a bar: a branch of which nothing is kept is left out
 abbrev pub after_bar : Built → Built
-after_bar b = record { code = b.code ++ Bar ∷ []; begun = b.begun; total = sum_of b; last = 0; start = 0 }
+after_bar b =
+    if is_branch_empty b then record { code = b.code; begun = b.begun; total = sum_of b; last = 0; start = 0; branch = b.branch; empty = true }
+    else record { code = b.code ++ Bar ∷ []; begun = b.begun; total = sum_of b; last = 0; start = 0; branch = length b.code + 1; empty = b.empty }
 
--- the code of a group that ends: dropped where it has no positions
-abbrev pub closed_code : ℕ → List Instruction → ℕ → List Instruction
-closed_code start code positions =
-    if positions == 0 then take start code else slice_set code start (Open (length code - start - 1) false false) ++ Close ∷ []
+-- the code is that of one atom or of one group
+abbrev pub is_item : List Instruction → Bool
+is_item [] = false
+is_item (Take at o r ∷ code) = length code == 0
+is_item (Open n o r ∷ code) = length code == suc n
+is_item (Bar ∷ code) = false
+is_item (Close ∷ code) = false
 
+-- the code of a group that begins here and may be left out or not: without marks where one atom or one group stands in it
+abbrev pub wrapped : ℕ → Bool → List Instruction → List Instruction
+wrapped start empty code =
+    if is_item (drop (start + 1) code) then take start code ++ flagged_first empty false (drop (start + 1) code)
+    else slice_set code start (Open (length code - start - 1) empty false) ++ Close ∷ []
+
+-- the code of a group that ends: dropped where it has no positions; else a last branch of which nothing is kept is left out, and so the group may be
+abbrev pub closed_code : ℕ → ℕ → Bool → List Instruction → ℕ → List Instruction
+closed_code start branch empty code positions =
+    if positions == 0 then take start code
+    else if length code == branch then wrapped start true (take (branch - 1) code)
+    else wrapped start empty code
+
+-- behind the end of a group
 abbrev pub after_close_of : List Begun → Built → Built
 after_close_of [] b = b
-after_close_of (g ∷ begun) b = record { code = closed_code g.start b.code (sum_of b); begun = begun; total = g.total; last = sum_of b; start = g.start }
+after_close_of (g ∷ begun) b = record {
+  code = closed_code g.start b.branch b.empty b.code (sum_of b);
+  begun = begun;
+  total = g.total;
+  last = sum_of b;
+  start = g.start;
+  branch = g.branch;
+  empty = g.empty;
+}
 
+-- behind the end of the innermost group
 abbrev pub after_close : Built → Built
 after_close b = after_close_of b.begun b
 
@@ -83,9 +131,17 @@ abbrev pub piece_code : ℕ → List Instruction → ℕ → ℕ → Option ℕ 
 piece_code start code positions least most =
     if positions == 0 then take start code else if nat_lt limit positions then code else take start code ++ repeated_code least most (drop start code)
 
+-- behind a quantifier
 abbrev pub after_times : ℕ → Option ℕ → Built → Built
-after_times least most b =
-    record { code = piece_code b.start b.code (b.last * kept least most) least most; begun = b.begun; total = b.total; last = capped (b.last * kept least most); start = b.start }
+after_times least most b = record {
+  code = piece_code b.start b.code (b.last * kept least most) least most;
+  begun = b.begun;
+  total = b.total;
+  last = capped (b.last * kept least most);
+  start = b.start;
+  branch = b.branch;
+  empty = b.empty;
+}
 
 -- behind a token of this number
 abbrev pub after : Token → ℕ → Built → Built
@@ -104,8 +160,9 @@ abbrev pub built : ℕ → List Token → Built → Built
 built at [] b = b
 built at (token ∷ tokens) b = built (at + 1) tokens (after token at b)
 
+-- before the first token
 abbrev pub nothing_built : Built
-nothing_built = record { code = []; begun = []; total = 0; last = 0; start = 0 }
+nothing_built = record { code = []; begun = []; total = 0; last = 0; start = 0; branch = 0; empty = false }
 
 -- a whole pattern: one group
 abbrev pub built_whole : List Token → Built

@@ -1,4 +1,4 @@
--- What is carried from one instruction to the next.
+-- What is carried from one instruction to the next: the state of a machine, which the contracts of private functions alone cite.
 use Rattle.std.specs.Prelude.{ℕ, Bool, List}
 use Rattle.pattern_match.specs.declared.instruction.Frame.{Frame}
 

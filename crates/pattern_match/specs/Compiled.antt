@@ -1,10 +1,12 @@
--- What a pattern is compiled to, and the marks of a matcher behind a word.
+-- What a pattern is compiled to, and the marks of a matcher behind a word: the state of a machine. The contracts of private functions alone cite it,
+-- but for HasRead and IsMadeFor: what the public ones say that a matcher has read, and with which pattern.
 use Rattle.std.specs.Prelude.{ℕ, ◌≡◌, ◌+◌, Bool, true, false, Some, List, [], ◌∷◌, length, replicate}
 use Rattle.std.specs.Str.{chars}
 use Rattle.pattern_match.specs.Token.{admits}
 use Rattle.pattern_match.specs.Tokens.{emitted}
 use Rattle.pattern_match.specs.Building.{built_whole, limit}
 use Rattle.pattern_match.specs.Marking.{first_pass, second_pass}
+use Rattle.pattern_match.specs.Recall.{Matching, IsRightTable, IsRow}
 use Rattle.pattern_match.specs.Reading.{HasPositionsWithin}
 use Rattle.pattern_match.specs.declared.control.Control.TheVariants.{Start}
 use Rattle.pattern_match.specs.declared.instruction.Instruction.{Instruction}
@@ -14,6 +16,7 @@ use Rattle.pattern_match.specs.declared.token.Token.{Token}
 abbrev pub tokens_of_text : List ℕ → List Token
 tokens_of_text text = emitted (Some Start) text
 
+-- the code of the tokens of a text
 abbrev pub code_of_text : List ℕ → List Instruction
 code_of_text text = (built_whole (tokens_of_text text)).code
 
@@ -36,10 +39,21 @@ abbrev pub marks_from : List Token → List Instruction → List Bool → List �
 marks_from tokens code marks [] = marks
 marks_from tokens code marks (c ∷ w) = marks_from tokens code (next_marks tokens code c marks) w
 
--- a matcher with these marks has read the word with the pattern of the text
-pub record HasRead (bytes : List ℕ) (marks : List Bool) (w : List ℕ) : Type 0 where
+-- the marks are those behind the word, of the pattern of the text
+pub record IsMarked (bytes : List ℕ) (marks : List Bool) (w : List ℕ) : Type 0 where
   pub marks_are : marks ≡ marks_from (tokens_of_text (chars bytes)) (code_of_text (chars bytes)) (first_marks (code_of_text (chars bytes))) w
 
--- a matcher with these marks was made for the pattern of the text: it has read some word with it
-abbrev pub IsMadeFor : List ℕ → List Bool → Type 0
-IsMadeFor bytes marks = (w : List ℕ) × HasRead bytes marks w
+-- the marks that follow by a character, in the pattern of the text
+abbrev pub follows : List ℕ → ℕ → List Bool → List Bool
+follows bytes c marks = next_marks (tokens_of_text (chars bytes)) (code_of_text (chars bytes)) c marks
+
+-- the matcher has read the word with the pattern of the text, and what it remembers is right
+pub record HasRead (bytes : List ℕ) (matcher : Matching) (w : List ℕ) : Type 0 where
+  pub marked : IsMarked bytes matcher.marks w
+  pub table : IsRightTable (follows bytes) matcher.known
+  pub at : IsRow matcher.known matcher.at matcher.marks
+  pub first : IsRow matcher.known matcher.first (first_marks (code_of_text (chars bytes)))
+
+-- the matcher was made for the pattern of the text: it has read some word with it
+abbrev pub IsMadeFor : List ℕ → Matching → Type 0
+IsMadeFor bytes matcher = (w : List ℕ) × HasRead bytes matcher w

@@ -1,4 +1,4 @@
--- How a character leads the reading of a pattern on: XML Schema part 2, appendix F.
+-- How a character leads the reading of a pattern on, XML Schema part 2, appendix F: the state of a machine, which the contracts of private functions alone cite.
 use Rattle.std.specs.Prelude.{ℕ, ◌+◌, ◌*◌, ◌/◌, ◌≤◌, suc, zero, Bool, true, false, ◌&&◌, ◌==◌, nat_le, nat_lt, if◌then◌else◌, Option, Some, None, List, [], ◌∷◌}
 use Rattle.pattern_match.specs.Valid.{escaped}
 use Rattle.pattern_match.specs.Character.{outside, within, in_number, behind_backslash}
@@ -14,9 +14,11 @@ use Rattle.pattern_match.specs.declared.control.Control.{Control}
 use Rattle.pattern_match.specs.declared.control.Control.TheVariants.{Start, Atom, Escape, Least, Most, ClassStart, ClassNegated, ClassItem, ClassSingle, ClassDash, ClassEscape, RangeEscape, ClassEnd}
 use Rattle.pattern_match.specs.declared.control.Reading.{Reading}
 
+-- what no digits of a bound weigh
 abbrev pub full : ℕ
 full = 1000000000
 
+-- from the start of a piece
 abbrev pub outside_next : Outside → Option Control
 outside_next Ordinary = Some Atom
 outside_next Dot = Some Atom
@@ -31,6 +33,7 @@ outside_next OneOrMore = None
 outside_next OpenBounds = None
 outside_next Stray = None
 
+-- from behind an atom
 abbrev pub atom_next : Outside → Option Control
 atom_next Optional = Some Start
 atom_next AnyNumber = Some Start
@@ -45,6 +48,7 @@ atom_next OpenGroup = Some Start
 atom_next Bar = Some Start
 atom_next Stray = None
 
+-- from behind a backslash outside a class
 abbrev pub escape_next : BehindBackslash → Option Control
 escape_next Space = Some Atom
 escape_next Letter = Some Atom
@@ -54,12 +58,14 @@ escape_next StrayBehind = None
 abbrev pub HasRoom : ℕ → ℕ → Type 0
 HasRoom weight value = (value + 1) * weight ≤ full
 
+-- in the first bound
 abbrev pub least_next : ℕ → ℕ → InNumber → Option Control
 least_next weight value (Digit digit) = if nat_lt weight 10 then None else Some (Least (weight / 10) (10 * value + digit))
 least_next weight value CloseBounds = if nat_lt weight full then Some Start else None
 least_next weight value Comma = if nat_lt weight full then Some (Most value full 0) else None
 least_next weight value StrayInNumber = None
 
+-- in the second bound: some number of nine digits at most goes on so and is not below the first
 abbrev pub most_next : ℕ → ℕ → ℕ → InNumber → Option Control
 most_next least weight value (Digit digit) =
     if nat_lt weight 10 then None
@@ -68,6 +74,7 @@ most_next least weight value CloseBounds = if weight == full then Some Start els
 most_next least weight value Comma = None
 most_next least weight value StrayInNumber = None
 
+-- from where an item of a class may begin
 abbrev pub class_item_next : Within → ℕ → Option Control
 class_item_next Plain c = Some (ClassSingle c)
 class_item_next BackslashWithin c = Some ClassEscape
@@ -75,6 +82,7 @@ class_item_next Hyphen c = Some ClassEnd
 class_item_next CloseClass c = Some Atom
 class_item_next StrayWithin c = None
 
+-- from where the first item of a class begins
 abbrev pub class_first_next : Within → ℕ → Option Control
 class_first_next Plain c = Some (ClassSingle c)
 class_first_next BackslashWithin c = Some ClassEscape
@@ -82,6 +90,7 @@ class_first_next Hyphen c = Some ClassItem
 class_first_next CloseClass c = None
 class_first_next StrayWithin c = None
 
+-- from behind a single of a class
 abbrev pub class_single_next : ℕ → Within → ℕ → Option Control
 class_single_next low Plain c = Some (ClassSingle c)
 class_single_next low BackslashWithin c = Some ClassEscape
@@ -89,6 +98,7 @@ class_single_next low Hyphen c = Some (ClassDash low)
 class_single_next low CloseClass c = Some Atom
 class_single_next low StrayWithin c = None
 
+-- from behind a single and a hyphen
 abbrev pub class_dash_next : ℕ → Within → ℕ → Option Control
 class_dash_next low Plain c = if nat_le low c then Some ClassItem else None
 class_dash_next low BackslashWithin c = if nat_le low 125 then Some (RangeEscape low) else None
@@ -96,6 +106,7 @@ class_dash_next low Hyphen c = None
 class_dash_next low CloseClass c = Some Atom
 class_dash_next low StrayWithin c = None
 
+-- from behind a hyphen that ends a class
 abbrev pub class_end_next : Within → Option Control
 class_end_next Plain = None
 class_end_next BackslashWithin = None
@@ -103,11 +114,13 @@ class_end_next Hyphen = None
 class_end_next CloseClass = Some Atom
 class_end_next StrayWithin = None
 
+-- from behind a backslash in a class
 abbrev pub class_escape_next : BehindBackslash → ℕ → Option Control
 class_escape_next Space c = Some ClassItem
 class_escape_next Letter c = Some (ClassSingle (escaped c))
 class_escape_next StrayBehind c = None
 
+-- from behind a backslash where a range ends
 abbrev pub range_escape_next : ℕ → BehindBackslash → ℕ → Option Control
 range_escape_next low Space c = None
 range_escape_next low Letter c = if nat_le low (escaped c) then Some ClassItem else None
@@ -136,14 +149,17 @@ depth_outside CloseGroup zero = None
 depth_outside CloseGroup (suc depth) = Some depth
 depth_outside meaning depth = Some depth
 
+-- how many groups are open behind a character, or none where none is open to be closed
 abbrev pub depth_after : Control → ℕ → ℕ → Option ℕ
 depth_after Start c depth = depth_outside (outside c) depth
 depth_after Atom c depth = depth_outside (outside c) depth
 depth_after control c depth = Some depth
 
+-- what stands before, and how many groups are open
 abbrev pub reading : Control → ℕ → Reading
 reading control depth = record { control = control; depth = depth }
 
+-- both, where there are both
 abbrev pub joined : Option Control → Option ℕ → Option Reading
 joined None depth = None
 joined (Some control) None = None
@@ -153,6 +169,7 @@ joined (Some control) (Some depth) = Some (reading control depth)
 abbrev pub step : Reading → ℕ → Option Reading
 step r c = joined (next r.control c) (depth_after r.control c r.depth)
 
+-- behind one more character, where there was a reading
 abbrev pub step_from : Option Reading → ℕ → Option Reading
 step_from None c = None
 step_from (Some r) c = step r c
@@ -168,6 +185,7 @@ ends_piece Start = true
 ends_piece Atom = true
 ends_piece control = false
 
+-- whether a pattern may end here
 abbrev pub may_end : Reading → Bool
 may_end r = ends_piece r.control && (r.depth == 0)
 

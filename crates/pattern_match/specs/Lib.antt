@@ -4,6 +4,7 @@ pub mod Valid
 pub mod Positions
 pub mod Language
 pub mod Reading
+pub mod ErrorText
 pub mod Plan
 pub mod Marking
 pub mod Carried
@@ -12,5 +13,7 @@ pub mod Control
 pub mod Refusal
 pub mod Tokens
 pub mod Building
+pub mod Counting
+pub mod Recall
 pub mod Compiled
 pub mod Token

@@ -1,4 +1,4 @@
--- How a character and the empty word pass through the instructions: two passes from the first to the last.
+-- How a character and the empty word pass through the instructions, in two passes from the first to the last: the state of a machine, which the contracts of private functions alone cite.
 use Rattle.std.specs.Prelude.{ℕ, Bool, false, ◌&&◌, ◌||◌, List, [], ◌∷◌, slice_index_or}
 use Rattle.pattern_match.specs.declared.instruction.Instruction.{Instruction}
 use Rattle.pattern_match.specs.declared.instruction.Instruction.TheVariants.{Take, Open, Bar, Close}
@@ -8,19 +8,22 @@ use Rattle.pattern_match.specs.declared.instruction.Frame.{Frame}
 abbrev pub frame : Bool → Bool → Frame
 frame entered left = record { entered = entered; left = left }
 
--- whether a word may go on behind a bar and behind the end of a group
+-- whether a word may go on behind a bar
 abbrev pub now_at_bar : Bool → List Frame → Bool
 now_at_bar now [] = now
 now_at_bar now (f ∷ frames) = f.entered
 
+-- the groups that are begun behind a bar
 abbrev pub frames_at_bar : Bool → List Frame → List Frame
 frames_at_bar now [] = []
 frames_at_bar now (f ∷ frames) = frame f.entered (f.left || now) ∷ frames
 
+-- whether a word may go on behind the end of a group
 abbrev pub now_at_close : Bool → List Frame → Bool
 now_at_close now [] = now
 now_at_close now (f ∷ frames) = f.left || now
 
+-- the groups that are begun behind the end of one
 abbrev pub frames_at_close : List Frame → List Frame
 frames_at_close [] = []
 frames_at_close (f ∷ frames) = frames
@@ -32,12 +35,14 @@ first_mark admits (Open length optional repeated) mark live frames = mark
 first_mark admits Bar mark live frames = mark
 first_mark admits Close mark live frames = now_at_close live frames
 
+-- whether a word may go on behind an instruction of the first pass
 abbrev pub first_live : (ℕ → Bool) → Instruction → Bool → Bool → List Frame → Bool
 first_live admits (Take at optional repeated) mark live frames = (mark && admits at) || (optional && live)
 first_live admits (Open length optional repeated) mark live frames = live || false
 first_live admits Bar mark live frames = now_at_bar live frames
 first_live admits Close mark live frames = now_at_close live frames
 
+-- the groups that are begun behind an instruction of the first pass
 abbrev pub first_frames : Instruction → Bool → List Frame → List Frame
 first_frames (Take at optional repeated) live frames = frames
 first_frames (Open length optional repeated) live frames = frame (live || false) (optional && live) ∷ frames
@@ -63,12 +68,14 @@ second_mark (Open length optional repeated) hit live frames = hit
 second_mark Bar hit live frames = hit
 second_mark Close hit live frames = now_at_close live frames
 
+-- whether a word may go on behind an instruction of the second pass
 abbrev pub second_live : Instruction → Bool → Bool → Bool → List Frame → Bool
 second_live (Take at optional repeated) hit end live frames = hit || (optional && live)
 second_live (Open length optional repeated) hit end live frames = live || (repeated && end)
 second_live Bar hit end live frames = now_at_bar live frames
 second_live Close hit end live frames = now_at_close live frames
 
+-- the groups that are begun behind an instruction of the second pass
 abbrev pub second_frames : Instruction → Bool → Bool → List Frame → List Frame
 second_frames (Take at optional repeated) end live frames = frames
 second_frames (Open length optional repeated) end live frames = frame (live || (repeated && end)) (optional && live) ∷ frames

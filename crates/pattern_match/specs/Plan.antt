@@ -1,4 +1,4 @@
--- A pattern with its repetitions written out, the instructions that it is compiled to, and what each instruction knows of a word.
+-- A pattern with its repetitions written out, the instructions that it is compiled to, and what each instruction knows of a word: no contract cites it, the proofs go over it.
 use Rattle.std.specs.Prelude.{ℕ, suc, ◌≡◌, ◌≢◌, ◌+◌, ◌⊎◌, ◌↔◌, Bool, true, false, IsTrue, List, [], ◌∷◌, ◌++◌}
 use Rattle.pattern_match.specs.Language.{Repeats, IsBoth}
 use Rattle.pattern_match.specs.declared.instruction.Instruction.{Instruction}

@@ -1,4 +1,4 @@
--- Where the reading of a text stops.
+-- Where the reading of a text stops: the state of a machine, which the contracts of private functions alone cite.
 use Rattle.std.specs.Prelude.{ℕ, ◌+◌, ◌-◌, if◌then◌else◌, Option, Some, None, List, [], ◌∷◌}
 use Rattle.pattern_match.specs.Control.{reading, step, may_end}
 use Rattle.pattern_match.specs.declared.control.Control.TheVariants.{Start}
@@ -14,5 +14,6 @@ refused None n cs = Some (n - 1)
 refused (Some r) n [] = if may_end r then None else Some n
 refused (Some r) n (c ∷ cs) = refused (step r c) (n + 1) cs
 
+-- from a reading at the n-th character
 abbrev pub refused_from : Reading → ℕ → List ℕ → Option ℕ
 refused_from r n cs = refused (Some r) n cs

@@ -1,4 +1,4 @@
--- Which characters the atom of a token has.
+-- Which characters the atom of a token has: the state of a machine, which the contracts of private functions alone cite.
 use Rattle.std.specs.Prelude.{ℕ, Bool, true, false, ◌&&◌, ◌||◌, not, ◌==◌, nat_le, List, [], ◌∷◌, drop}
 use Rattle.pattern_match.specs.declared.token.Token.{Token}
 use Rattle.pattern_match.specs.declared.token.Token.TheVariants.{Single, Dot, Spaces, ClassStart, Member}

@@ -1,4 +1,4 @@
--- The tokens of a pattern's text, character by character.
+-- The tokens of a pattern's text, character by character: the state of a machine, which the contracts of private functions alone cite.
 use Rattle.std.specs.Prelude.{ℕ, true, false, ◌==◌, if◌then◌else◌, Option, Some, None, List, [], ◌∷◌, ◌++◌}
 use Rattle.pattern_match.specs.Valid.{escaped}
 use Rattle.pattern_match.specs.Character.{outside, within, in_number, behind_backslash}
@@ -16,6 +16,7 @@ use Rattle.pattern_match.specs.declared.control.Control.TheVariants.{Start, Atom
 use Rattle.pattern_match.specs.declared.token.Token.{Token}
 use Rattle.pattern_match.specs.declared.token.Token.TheVariants.{Open as OpenToken, Close as CloseToken, Bar as BarToken, Single as SingleToken, Dot as DotToken, Spaces as SpacesToken, ClassStart, Member, Times}
 
+-- at the start of a piece
 abbrev pub outside_tokens : Outside → ℕ → List Token
 outside_tokens Ordinary c = SingleToken c ∷ []
 outside_tokens Dot c = DotToken ∷ []
@@ -30,6 +31,7 @@ outside_tokens OneOrMore c = []
 outside_tokens OpenBounds c = []
 outside_tokens Stray c = []
 
+-- behind an atom
 abbrev pub behind_atom_tokens : Outside → ℕ → List Token
 behind_atom_tokens Optional c = Times 0 (Some 1) ∷ []
 behind_atom_tokens AnyNumber c = Times 0 None ∷ []
@@ -44,23 +46,27 @@ behind_atom_tokens OpenClass c = []
 behind_atom_tokens OpenBounds c = []
 behind_atom_tokens Stray c = []
 
+-- behind a backslash outside a class
 abbrev pub escape_tokens : BehindBackslash → ℕ → List Token
 escape_tokens Space c = SpacesToken ∷ []
 escape_tokens Letter c = SingleToken (escaped c) ∷ []
 escape_tokens StrayBehind c = []
 
+-- in the first bound
 abbrev pub least_tokens : ℕ → InNumber → List Token
 least_tokens value (Digit digit) = []
 least_tokens value Comma = []
 least_tokens value CloseBounds = Times value (Some value) ∷ []
 least_tokens value StrayInNumber = []
 
+-- in the second bound
 abbrev pub most_tokens : ℕ → ℕ → ℕ → InNumber → List Token
 most_tokens least weight value (Digit digit) = []
 most_tokens least weight value Comma = []
 most_tokens least weight value CloseBounds = if weight == full then Times least None ∷ [] else Times least (Some value) ∷ []
 most_tokens least weight value StrayInNumber = []
 
+-- where an item of a class may begin
 abbrev pub item_tokens : Within → ℕ → List Token
 item_tokens Plain c = Member c c ∷ []
 item_tokens Hyphen c = Member 45 45 ∷ []
@@ -68,6 +74,7 @@ item_tokens BackslashWithin c = []
 item_tokens CloseClass c = []
 item_tokens StrayWithin c = []
 
+-- behind a single of a class, which may begin a range
 abbrev pub single_tokens : Within → ℕ → List Token
 single_tokens Plain c = Member c c ∷ []
 single_tokens Hyphen c = []
@@ -75,6 +82,7 @@ single_tokens BackslashWithin c = []
 single_tokens CloseClass c = []
 single_tokens StrayWithin c = []
 
+-- behind a single and a hyphen
 abbrev pub dash_tokens : ℕ → Within → ℕ → List Token
 dash_tokens low Plain c = Member low c ∷ []
 dash_tokens low Hyphen c = []
@@ -82,11 +90,13 @@ dash_tokens low BackslashWithin c = []
 dash_tokens low CloseClass c = Member 45 45 ∷ []
 dash_tokens low StrayWithin c = []
 
+-- behind a backslash in a class
 abbrev pub class_escape_tokens : BehindBackslash → ℕ → List Token
 class_escape_tokens Space c = Member 32 32 ∷ Member 9 10 ∷ Member 13 13 ∷ []
 class_escape_tokens Letter c = Member (escaped c) (escaped c) ∷ []
 class_escape_tokens StrayBehind c = []
 
+-- behind a backslash where a range ends
 abbrev pub range_escape_tokens : ℕ → BehindBackslash → ℕ → List Token
 range_escape_tokens low Space c = []
 range_escape_tokens low Letter c = Member low (escaped c) ∷ []

@@ -56,6 +56,7 @@ AreItems negated [] = ⊥
 AreItems negated (Hyphen ∷ items) = AreLaterItems items
 AreItems negated (i ∷ items) = IsItem i × (negated ≡ false → begins_with_caret i ≡ false) × AreLaterItems items
 
+-- atom [9]: an ordinary character, `.`, an escape, `\s` or a class; a group is judged with the expression
 abbrev pub IsAtom : Atom → Type 0
 IsAtom (Character c) = IsOrdinary c
 IsAtom Dot = Unit {0}
@@ -63,6 +64,7 @@ IsAtom (Escape letter) = IsEscapeLetter letter
 IsAtom Space = Unit {0}
 IsAtom (Class negated items) = AreItems negated items
 
+-- an ASCII digit: quantity [5] is written in them
 abbrev pub IsDigit : ℕ → Type 0
 IsDigit c = (48 ≤ c) × (c ≤ 57)
 

@@ -1,35 +1,41 @@
 // The code of a pattern, made token by token.
-ghost use Rattle.std.specs.Prelude.{◌≡◌, ℕ, ◌+◌, ◌*◌, Option, List, [], ◌∷◌, ◌++◌, take, drop, OnOk, IfOk};
-ghost use Rattle.pattern_match.specs.Building.{flagged, flagged_first, copies_code, repeated_code, kept, capped, closed_code, piece_code, after_atom, after_open, after_bar, after_close, after_times, after, nothing_built, built_whole, built};
+ghost use Rattle.std.specs.Prelude.{◌≡◌, ℕ, ◌+◌, ◌-◌, ◌*◌, ◌<◌, false, Option, List, [], ◌∷◌, ◌++◌, length, take, drop, slice_set, OnOk, IfOk};
+ghost use Rattle.pattern_match.specs.Building.{flagged, flagged_first, copies_code, repeated_code, is_item, wrapped, closed_code, piece_code, after_atom, after_open, after_bar, after_close, after_times, after, nothing_built, built_whole, built};
 
+use crate::counter::{LIMIT, capped_sum, copies_kept};
 use crate::instruction::{Begun, Instruction};
 use crate::token::Token;
 use std::alloc::{AllocError, Global};
 use std::marker::Model;
 
-/// The most positions of a pattern.
-pub const LIMIT: u64 = 65_536;
-
-/// An instruction with these flags.
+/// An instruction with these flags too.
 fn with_flags(instruction: Instruction, optional: bool, repeated: bool) -> Instruction
     ensures { result ≡ flagged optional repeated instruction }
 {
     match instruction {
-        Instruction::Take { at, .. } => Instruction::Take {
+        Instruction::Take {
             at,
-            optional,
-            repeated,
+            optional: o,
+            repeated: r,
+        } => Instruction::Take {
+            at,
+            optional: optional || o,
+            repeated: repeated || r,
         },
-        Instruction::Open { length, .. } => Instruction::Open {
+        Instruction::Open {
             length,
-            optional,
-            repeated,
+            optional: o,
+            repeated: r,
+        } => Instruction::Open {
+            length,
+            optional: optional || o,
+            repeated: repeated || r,
         },
         other => other,
     }
 }
 
-/// Pushes a fragment with these flags on its first instruction.
+/// Pushes a fragment with these flags on its first instruction too.
 fn push_copy(
     code: &mut Vec<Instruction>,
     fragment: &[Instruction],
@@ -129,19 +135,39 @@ fn repeat_piece(
     push_repeated(code, fragment.as_slice(), least, most)
 }
 
-/// Ends the group of so many positions that begins at `start`.
-fn close_group(code: &mut Vec<Instruction>, start: usize, positions: u64) -> Result<(), AllocError>
-    ensures { OnOk result (code.new.items ≡ closed_code start code.old.items positions) }
+/// Whether the code is that of one atom or of one group.
+fn is_one_item(code: &[Instruction]) -> bool
+    ensures { result ≡ is_item code.now }
 {
-    if positions == 0 {
-        code.truncate(start);
-        return Ok(());
+    if code.len() == 0 {
+        return false;
     }
+    let rest = &code[1..];
+    match code[0] {
+        Instruction::Take { .. } => rest.len() == 0,
+        Instruction::Open { length, .. } => rest.len() > 0 && rest.len() - 1 == length,
+        _ => false,
+    }
+}
+
+/// Drops the `Open` of a group of one item, which may be left out where the group may.
+fn drop_open(code: &mut Vec<Instruction>, start: usize, empty: bool)
+    requires { start + 1 < length code.old.items }
+    ensures { code.new.items ≡ take start code.old.items ++ flagged_first empty false (drop (start + 1) code.old.items) }
+{
+    code[start + 1] = with_flags(code[start + 1], empty, false);
+    code.remove(start);
+}
+
+/// Marks where a group begins and ends.
+fn mark_group(code: &mut Vec<Instruction>, start: usize, empty: bool) -> Result<(), AllocError>
+    ensures { OnOk result (code.new.items ≡ slice_set code.old.items start (Instruction.Open (length code.old.items - start - 1) empty false) ++ Instruction.Close ∷ []) }
+{
     if start < code.len() {
         let length = code.len() - start - 1;
         code[start] = Instruction::Open {
             length,
-            optional: false,
+            optional: empty,
             repeated: false,
         };
     }
@@ -149,21 +175,36 @@ fn close_group(code: &mut Vec<Instruction>, start: usize, positions: u64) -> Res
     Ok(())
 }
 
-/// How many copies of a piece are kept.
-fn copies_kept(least: u64, most: Option<u64>) -> u64
-    ensures { result ≡ kept least most }
+/// Marks a group that begins at `start`, where it has more than one item.
+fn wrap_group(code: &mut Vec<Instruction>, start: usize, empty: bool) -> Result<(), AllocError>
+    ensures { OnOk result (code.new.items ≡ wrapped start empty code.old.items) }
 {
-    match most {
-        Some(most) => most,
-        None => least.max(1),
+    if start < code.len().saturating_sub(1) && is_one_item(&code[start + 1..]) {
+        drop_open(code, start, empty);
+        return Ok(());
     }
+    mark_group(code, start, empty)
 }
 
-/// Positions, up to one more than the limit.
-fn capped_sum(a: u64, b: u64) -> u64
-    ensures { result ≡ capped (a + b) }
+/// Ends the group of so many positions that begins at `start`, and whose last branch begins at `branch`.
+fn close_group(
+    code: &mut Vec<Instruction>,
+    start: usize,
+    branch: usize,
+    empty: bool,
+    positions: u64,
+) -> Result<(), AllocError>
+    ensures { OnOk result (code.new.items ≡ closed_code start branch empty code.old.items positions) }
 {
-    a.saturating_add(b).min(LIMIT + 1)
+    if positions == 0 {
+        code.truncate(start);
+        return Ok(());
+    }
+    if code.len() == branch {
+        code.truncate(branch.saturating_sub(1));
+        return wrap_group(code, start, true);
+    }
+    wrap_group(code, start, empty)
 }
 
 /// The code so far, the groups that are begun, and the positions of the innermost.
@@ -174,6 +215,8 @@ pub struct Builder {
     total: u64,
     last: u64,
     start: usize,
+    branch: usize,
+    empty: bool,
 }
 
 impl Model for Builder {
@@ -182,7 +225,7 @@ impl Model for Builder {
 
     ghost Value = { Built };
 
-    ghost view = { λ b. record { code = b.code.items; begun = reverse b.begun.items; total = b.total; last = b.last; start = b.start } };
+    ghost view = { λ b. record { code = b.code.items; begun = reverse b.begun.items; total = b.total; last = b.last; start = b.start; branch = b.branch; empty = b.empty } };
 }
 
 impl Builder {
@@ -196,14 +239,9 @@ impl Builder {
             total: 0,
             last: 0,
             start: 0,
+            branch: 0,
+            empty: false,
         }
-    }
-
-    /// The positions of the last piece, or group.
-    fn last(&self) -> u64
-        ensures { result ≡ self.now.last }
-    {
-        self.last
     }
 
     fn into_code(self) -> Vec<Instruction>
@@ -215,6 +253,8 @@ impl Builder {
             total: _,
             last: _,
             start: _,
+            branch: _,
+            empty: _,
         } = self;
         code
     }
@@ -239,12 +279,16 @@ impl Builder {
         self.begun.push(Begun {
             start: self.code.len(),
             total: capped_sum(self.total, self.last),
+            branch: self.branch,
+            empty: self.empty,
         })?;
         self.code.push(Instruction::Open {
             length: 0,
             optional: false,
             repeated: false,
         })?;
+        self.branch = self.code.len();
+        self.empty = false;
         self.total = 0;
         self.last = 0;
         self.start = 0;
@@ -254,7 +298,12 @@ impl Builder {
     fn bar(&mut self) -> Result<(), AllocError>
         ensures { OnOk result (self.new ≡ after_bar self.old) }
     {
-        self.code.push(Instruction::Bar)?;
+        if self.code.len() == self.branch {
+            self.empty = true; // of a branch without code the group keeps that it may be left out
+        } else {
+            self.code.push(Instruction::Bar)?;
+            self.branch = self.code.len();
+        }
         self.total = capped_sum(self.total, self.last);
         self.last = 0;
         self.start = 0;
@@ -266,10 +315,18 @@ impl Builder {
     {
         if let Some(group) = self.begun.pop() {
             let positions = capped_sum(self.total, self.last);
-            close_group(&mut self.code, group.start, positions)?;
+            close_group(
+                &mut self.code,
+                group.start,
+                self.branch,
+                self.empty,
+                positions,
+            )?;
             self.total = group.total;
             self.last = positions;
             self.start = group.start;
+            self.branch = group.branch;
+            self.empty = group.empty;
         }
         Ok(())
     }
@@ -298,17 +355,9 @@ impl Builder {
     }
 }
 
-/// The code of a pattern, and its positions up to one more than the limit.
-#[derive(Drop)]
-pub struct Compiled {
-    pub code: Vec<Instruction>,
-    pub positions: u64,
-}
-
 /// Compiles the tokens of a whole pattern.
-pub fn compile(alloc: Global, tokens: &[Token]) -> Result<Compiled, AllocError>
-    ensures code { IfOk result (λ c. c.code.items ≡ (built_whole tokens.now).code) }
-    ensures positions { IfOk result (λ c. c.positions ≡ (built_whole tokens.now).last) }
+pub fn compile(alloc: Global, tokens: &[Token]) -> Result<Vec<Instruction>, AllocError>
+    ensures { IfOk result (λ c. c.items ≡ (built_whole tokens.now).code) }
 {
     let mut builder = Builder::new(alloc);
     builder.open()?;
@@ -316,9 +365,5 @@ pub fn compile(alloc: Global, tokens: &[Token]) -> Result<Compiled, AllocError>
         builder.take(alloc, *token, at)?;
     }
     builder.close()?;
-    let positions = builder.last();
-    Ok(Compiled {
-        code: builder.into_code(),
-        positions,
-    })
+    Ok(builder.into_code())
 }

@@ -28,9 +28,12 @@ pub struct Frame {
     pub left: bool,
 }
 
-/// A group that is begun: where its `Open` stands, and the positions before it in the group around it.
+/// A group that is begun: where its `Open` stands, and of the group around it the positions before it, where the
+/// branch begins that it stands in, and whether an empty branch was left out.
 #[derive(Clone, Copy, Drop)]
 pub struct Begun {
     pub start: usize,
     pub total: u64,
+    pub branch: usize,
+    pub empty: bool,
 }

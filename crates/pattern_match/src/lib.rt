@@ -4,6 +4,7 @@
 mod builder;
 mod character;
 mod control;
+mod counter;
 mod error;
 mod flow;
 mod instruction;
@@ -12,6 +13,7 @@ mod lexer;
 mod matcher;
 mod pass;
 mod pattern;
+mod recall;
 mod refusal;
 mod token;
 

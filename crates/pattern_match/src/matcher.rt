@@ -1,28 +1,35 @@
 // A matcher: which atoms of a pattern may take the next character.
-ghost use Rattle.std.specs.Prelude.{◌≡◌, ◌≤◌, ◌+◌, ℕ, ◌↔◌, IsTrue, List, [], ◌∷◌, ◌++◌, IfOk, length, replicate, false};
+ghost use Rattle.std.specs.Prelude.{◌≡◌, ◌≤◌, ◌+◌, ℕ, ◌↔◌, IsTrue, Bool, List, [], ◌∷◌, ◌++◌, IfOk, length, replicate, false};
 ghost use Rattle.std.specs.Str.{chars};
 ghost use Rattle.pattern_match.specs.Reading.{Matches};
-ghost use Rattle.pattern_match.specs.Compiled.{HasRead, IsMadeFor, tokens_of_text, code_of_text, first_marks, next_marks};
+ghost use Rattle.pattern_match.specs.Recall.{IsRightTable, IsRow};
+ghost use Rattle.pattern_match.specs.Compiled.{IsMarked, HasRead, IsMadeFor, tokens_of_text, code_of_text, first_marks, next_marks};
 
 use crate::flow::Flow;
 use crate::pass::{pass_first, pass_second};
 use crate::pattern::Pattern;
+use crate::recall::Recall;
 use std::alloc::{AllocError as Memory, Global};
 use std::marker::Model;
 
 /// A set of positions of a pattern, stepped one character at a time. It never goes back in the text.
+/// It remembers some of the sets that it has met, and which followed which by an ASCII character.
 #[derive(Drop)]
 pub struct Matcher {
     marks: Vec<bool>,
     flow: Flow,
+    recall: Recall,
+    at: Option<usize>,
+    first: Option<usize>,
 }
 
 impl Model for Matcher {
-    ghost use Rattle.std.specs.Prelude.{Bool, List, ◌≤◌, length};
+    ghost use Rattle.std.specs.Prelude.{◌≤◌, length};
+    ghost use Rattle.pattern_match.specs.Recall.{Matching};
 
-    ghost Value = { List Bool };
+    ghost Value = { Matching };
 
-    ghost view = { λ m. m.marks.items };
+    ghost view = { λ m. record { marks = m.marks.items; at = m.at; first = m.first; known = m.recall } };
 
     ghost invariant = { λ m. length m.marks.items ≤ m.flow.capacity };
 }
@@ -71,7 +78,7 @@ fn read_marks(pattern: &Pattern, c: char, marks: &mut [bool], flow: &mut Flow)
 /// The mark of the end.
 fn last_mark(pattern: &Pattern, marks: &[bool]) -> bool
     requires { length marks.now ≡ length (code_of_text (chars pattern.now)) + 1 }
-    ensures { (w : List ℕ) → HasRead pattern.now marks.now w → IsTrue result ↔ Matches (chars pattern.now) w }
+    ensures { (w : List ℕ) → IsMarked pattern.now marks.now w → IsTrue result ↔ Matches (chars pattern.now) w }
 {
     marks[pattern.code().len()]
 }
@@ -85,8 +92,55 @@ impl Matcher {
         let count = pattern.code().len() + 1;
         let mut marks = no_marks(alloc, count)?;
         let mut flow = Flow::new(alloc, count)?;
+        let mut recall = Recall::new(alloc, count)?;
         begin_marks(pattern, marks.as_mut_slice(), &mut flow);
-        Ok(Matcher { marks, flow })
+        let first = recall.number(marks.as_slice());
+        Ok(Matcher {
+            marks,
+            flow,
+            recall,
+            at: first,
+            first,
+        })
+    }
+
+    /// Whether what follows by the character is remembered: then it was read.
+    fn step_by_recall(&mut self, c: char) -> bool
+        ensures known { self.new.known ≡ self.old.known }
+        ensures first { self.new.first ≡ self.old.first }
+        ensures read { IsTrue result → (next : ℕ → List Bool → List Bool) → IsRightTable next self.old.known → IsRow self.old.known self.old.at self.old.marks → self.new.marks ≡ next c self.old.marks }
+        ensures at { IsTrue result → (next : ℕ → List Bool → List Bool) → IsRightTable next self.old.known → IsRow self.new.known self.new.at self.new.marks }
+        ensures kept { result ≡ false → self.new ≡ self.old }
+    {
+        let Some(at) = self.at else {
+            return false;
+        };
+        let Some(next) = self.recall.after(at, c) else {
+            return false;
+        };
+        if !self.recall.copy(next, self.marks.as_mut_slice()) {
+            return false;
+        }
+        self.at = Some(next);
+        true
+    }
+
+    /// Whether the marks before the first character are remembered: then they are set.
+    fn restart_by_recall(&mut self) -> bool
+        ensures known { self.new.known ≡ self.old.known }
+        ensures first { self.new.first ≡ self.old.first }
+        ensures read { IsTrue result → (marks : List Bool) → IsRow self.old.known self.old.first marks → self.new.marks ≡ marks }
+        ensures at { IsTrue result → (marks : List Bool) → IsRow self.old.known self.old.first marks → IsRow self.new.known self.new.at self.new.marks }
+        ensures kept { result ≡ false → self.new ≡ self.old }
+    {
+        let Some(first) = self.first else {
+            return false;
+        };
+        if !self.recall.copy(first, self.marks.as_mut_slice()) {
+            return false;
+        }
+        self.at = Some(first);
+        true
     }
 
     /// Reads one more character. It takes no memory.
@@ -95,7 +149,11 @@ impl Matcher {
         ensures read { (w : List ℕ) → HasRead pattern.now self.old w → HasRead pattern.now self.new (w ++ c ∷ []) }
         ensures made { IsMadeFor pattern.now self.new }
     {
+        if self.step_by_recall(c) {
+            return;
+        }
         read_marks(pattern, c, self.marks.as_mut_slice(), &mut self.flow);
+        self.at = self.recall.learn(self.at, c, self.marks.as_slice());
     }
 
     /// Whether the characters that were read are a word of the pattern. It takes no memory.
@@ -112,6 +170,10 @@ impl Matcher {
         ensures read { HasRead pattern.now self.new [] }
         ensures made { IsMadeFor pattern.now self.new }
     {
+        if self.restart_by_recall() {
+            return;
+        }
         begin_marks(pattern, self.marks.as_mut_slice(), &mut self.flow);
+        self.at = None;
     }
 }

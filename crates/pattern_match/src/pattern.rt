@@ -1,11 +1,14 @@
 // A pattern that was read from its text.
-ghost use Rattle.std.specs.Prelude.{◌≡◌, ℕ, List, IfOk, IfErr, OnOk};
+ghost use Rattle.std.specs.Prelude.{◌≡◌, ◌≤◌, ◌*◌, ℕ, List, length, IfOk, IfErr, OnOk};
 ghost use Rattle.std.specs.Str.{chars};
-ghost use Rattle.pattern_match.specs.Reading.{HasPositionsWithin, Refuses};
+ghost use Rattle.pattern_match.specs.Expression.{Expression};
+ghost use Rattle.pattern_match.specs.Positions.{positions};
+ghost use Rattle.pattern_match.specs.Reading.{IsTreeOf, HasPositionsWithin, Refuses};
 ghost use Rattle.pattern_match.specs.Building.{limit};
 ghost use Rattle.pattern_match.specs.Compiled.{IsCompiled, tokens_of_text, code_of_text};
 
-use crate::builder::{LIMIT, compile};
+use crate::builder::compile;
+use crate::counter::{Counter, LIMIT, count};
 use crate::error::PatternError;
 use crate::instruction::Instruction;
 use crate::lexer::tokens_of;
@@ -54,16 +57,18 @@ impl Pattern {
             None => {}
         }
         let tokens = tokens_of(alloc, characters.as_slice())?;
-        let compiled = compile(alloc, tokens.as_slice())?;
-        if compiled.positions > LIMIT {
-            return Err(PatternError::TooLarge);
+        let mut counter = Counter::new(alloc, tokens.len() + 2)?;
+        let positions = count(tokens.as_slice(), &mut counter);
+        if positions > LIMIT {
+            return Err(PatternError::TooLarge); // before any code is made
         }
+        let code = compile(alloc, tokens.as_slice())?;
         let mut kept = Text::new(alloc);
         kept.extend(text.as_bytes())?;
         Ok(Pattern {
             text: kept,
             tokens,
-            code: compiled.code,
+            code,
         })
     }
 
@@ -81,8 +86,9 @@ impl Pattern {
         self.tokens.as_slice()
     }
 
-    /// The code of the pattern.
+    /// The code of the pattern: at most four instructions for each position.
     pub(crate) fn code(&self) -> &[Instruction]
+        ensures size { (tree : Expression) → IsTreeOf (chars self.now) tree → length result.now ≤ 4 * positions tree }
         ensures code { result.now ≡ code_of_text (chars self.now) }
         ensures compiled { IsCompiled self.now (tokens_of_text (chars self.now)) result.now }
     {

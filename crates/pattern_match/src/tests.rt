@@ -16,7 +16,7 @@ enum Verdict {
 
 use Verdict::{At, Read, TooLarge};
 
-static TEXTS: [(&str, Verdict); 29] = [
+static TEXTS: [(&str, Verdict); 32] = [
     ("[A-Z]{3,3}", Read),
     ("[z-a]", At(3)),
     ("a{3,2}", At(5)),
@@ -32,6 +32,9 @@ static TEXTS: [(&str, Verdict); 29] = [
     ("a{999999999}(", At(13)),
     ("(a{256}){256}", Read),
     ("(a{256}){257}", TooLarge),
+    ("a{65536}a{65536}", TooLarge),
+    ("((a)){65536}", Read),
+    ("(((a{65536})))b", TooLarge),
     ("[^^]", Read),
     ("[^]", At(2)),
     ("[a^]", Read),
@@ -48,7 +51,7 @@ static TEXTS: [(&str, Verdict); 29] = [
     ("[a-c-e]", At(5)),
 ];
 
-static WORDS: [(&str, &str, bool); 19] = [
+static WORDS: [(&str, &str, bool); 31] = [
     ("[A-Z]{3,3}", "ABC", true),
     ("[A-Z]{3,3}", "AB", false),
     ("[A-Z]{3,3}", "ABCD", false),
@@ -68,6 +71,18 @@ static WORDS: [(&str, &str, bool); 19] = [
     ("([^a-c]|\\s)+", "xbz", false),
     ("(a*b){2,}", "abb", true),
     ("(a*b){2,}", "ab", false),
+    ("(|a||)", "", true),
+    ("(|a||)", "a", true),
+    ("(|a||)", "aa", false),
+    ("((a|)){2}", "aa", true),
+    ("((a|)){2}", "", true),
+    ("((a|)){2}", "aaa", false),
+    ("((a+)?b)*", "aabbab", true),
+    ("((a+)?b)*", "aabba", false),
+    ("((a?)+){2}", "aaaa", true),
+    ("((a+)){2}", "a", false),
+    ("(()|b{0}|(ab))+", "abab", true),
+    ("(()|b{0}|(ab))+", "aba", false),
 ];
 
 fn read_as(alloc: Global, text: &str) -> Verdict {

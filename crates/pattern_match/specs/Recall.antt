@@ -1,0 +1,30 @@
+-- What a matcher remembers of the marks that it has met: the state of a machine, which the contracts of private functions alone cite.
+use Rattle.std.specs.Prelude.{ℕ, suc, ◌≡◌, ◌+◌, ◌*◌, ◌<◌, Bool, Option, Some, List, [], length, slice_index_or}
+
+-- the marks that were met, and a table: for a number of these and an ASCII character one more than the number of those that follow, or 0
+pub record Known : Type 0 where
+  pub rows : List (List Bool)
+  pub table : List ℕ
+
+-- the marks of this number
+abbrev pub row : Known → ℕ → List Bool
+row k s = slice_index_or k.rows s []
+
+-- what the table has for marks of this number and a character
+abbrev pub cell : Known → ℕ → ℕ → ℕ
+cell k s c = slice_index_or k.table (128 * s + c) 0
+
+-- the table is right where this follows marks and a character
+abbrev pub IsRightTable : (ℕ → List Bool → List Bool) → Known → Type 0
+IsRightTable next k = (s c t : ℕ) → c < 128 → cell k s c ≡ suc t → (s < length k.rows) × (t < length k.rows) × (row k t ≡ next c (row k s))
+
+-- the number, where there is one, is that of the marks
+abbrev pub IsRow : Known → Option ℕ → List Bool → Type 0
+IsRow k at marks = (s : ℕ) → at ≡ Some s → (s < length k.rows) × (row k s ≡ marks)
+
+-- a matcher: its marks and their number, the number of the marks before the first character, and what it remembers
+pub record Matching : Type 0 where
+  pub marks : List Bool
+  pub at : Option ℕ
+  pub first : Option ℕ
+  pub known : Known
