@@ -1,2 +1,12 @@
 pub mod DateLemmas
 pub mod CollapseLemmas
+pub mod CollapseLaw
+pub mod LeafLaws
+pub mod OctetLemmas
+pub mod VisibleTexts
+pub mod ShortLeaves
+pub mod LeafLemmas
+pub mod PushedTexts
+pub mod EscapeLemmas
+pub mod CanonicalLemmas
+pub mod ValueLemmas

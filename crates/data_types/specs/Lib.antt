@@ -4,3 +4,11 @@ pub mod Dates
 pub mod Booleans
 pub mod Collapsing
 pub mod Binaries
+pub mod Leaf
+pub mod OctetSteps
+pub mod ShortTexts
+pub mod LeafAnswers
+pub mod LeafSteps
+pub mod Canonical
+pub mod Escaping
+pub mod Value

@@ -40,8 +40,9 @@ impl Collapse {
 
     /// Takes a character, and tells what the collapsed text gains.
     pub fn take(&mut self, c: char) -> Collapsed
-        ensures { (text collapsed : List ℕ) → HasCollapsed self.old text collapsed
+        ensures text { (text collapsed : List ℕ) → HasCollapsed self.old text collapsed
             → HasCollapsed self.new (text ++ c ∷ []) (collapsed ++ gained result c) }
+        ensures space { IsSpace c → result ≡ Collapsed.Nothing }
     {
         if is_space(c) {
             self.place = self.place.after_space();

@@ -1,0 +1,87 @@
+-- The leaf that is kept, a character at a time, and its answers.
+use Rattle.std.proofs.Common.{◌≡◌, ℕ, ◌⊎◌, inl, inr, false, List, [], ◌∷◌, ◌++◌, refl, sym, ap, subst, ◌∙◌, append_assoc, append-nil, arith, ◌==◌}
+use Rattle.std.proofs.lemmas.List.Elements.{filter-append}
+use Rattle.std.proofs.lemmas.Bool.Decides.{nat_tests}
+use Rattle.std.specs.Prelude.{encode_utf8, encode_utf8_all}
+use Rattle.std.specs.List.{AllByRecursion}
+use Rattle.base64.specs.Engines.{standard}
+use Rattle.base64.specs.GeneralPurpose.{IsBytes, encode_of}
+use Rattle.lexical_core.specs.Characters.{IsXmlChar}
+use Rattle.lexical_core.specs.Decimals.{Number as DecimalNumber, IsDecimal, IsDecimalText, SpellsDecimal}
+use Rattle.data_types.specs.declared.kind.Kind.{Kind}
+use Rattle.data_types.specs.declared.kind.Kind.TheVariants as kind
+use Rattle.data_types.specs.declared.collapse.Collapsed.{Collapsed}
+use Rattle.data_types.specs.declared.collapse.Collapsed.TheVariants.{Nothing, Char, SpaceAndChar}
+use Rattle.data_types.specs.declared.leaf_step.Body.{Body}
+use Rattle.data_types.specs.declared.leaf_step.Body.TheVariants.{Text, Octets}
+use Rattle.data_types.specs.declared.octets.OctetStep.{OctetStep}
+use Rattle.data_types.specs.WhiteSpace.{IsSpace, IsCollapsed}
+use Rattle.data_types.specs.Binaries.{IsBinaryText, without_spaces}
+use Rattle.data_types.specs.Collapsing.{gained}
+use Rattle.data_types.specs.OctetSteps.{HasDecoded}
+use Rattle.data_types.specs.Leaf.{Leaf, Bytes, Number, IsDecimalLeaf, IsBinaryLeaf, HasDecimalForm, HasLeafForm}
+use Rattle.data_types.specs.LeafSteps.{HasBody}
+use Rattle.data_types.proofs.CollapseLaw.{one_collapsed}
+
+-- ---- texts
+
+encode_push : (chars : List ℕ) (c : ℕ) → encode_utf8_all (chars ++ c ∷ []) ≡ encode_utf8_all chars ++ encode_utf8 c
+encode_push [] c = append-nil (encode_utf8 c)
+encode_push (x ∷ chars) c = ap (λ t. encode_utf8 x ++ t) (encode_push chars c) ∙ sym (append_assoc (encode_utf8 x) (encode_utf8_all chars) (encode_utf8 c))
+
+all_push : (P : ℕ → Type 0) (xs : List ℕ) (x : ℕ) → AllByRecursion P xs → P x → AllByRecursion P (xs ++ x ∷ [])
+all_push P [] x a p = (p, tt)
+all_push P (y ∷ ys) x a p = (a.0, all_push P ys x a.1 p)
+
+pub text_taken : (body : Body) (text bytes now : List ℕ) (c : ℕ) → body ≡ Text text → bytes ≡ encode_utf8 c → now ≡ text ++ bytes → IsXmlChar c
+    → (k : Kind) (chars collapsed : List ℕ) → HasBody k body chars collapsed
+    → (k ≡ kind.Text) × AllByRecursion IsXmlChar (chars ++ c ∷ []) × (now ≡ encode_utf8_all (chars ++ c ∷ []))
+text_taken body text bytes now c is code e xml k chars collapsed has =
+    let held = subst (λ (b : Body). HasBody k b chars collapsed) is has in (
+      held.0,
+      all_push IsXmlChar chars c held.1 xml,
+      e ∙ (ap (λ t. t ++ bytes) held.2 ∙ (ap (λ b. encode_utf8_all chars ++ b) code ∙ sym (encode_push chars c))),
+    )
+
+-- ---- octets
+
+-- a character that is gained is no space
+no_spaces_in : (gain : Collapsed) (c : ℕ) → (IsSpace c → gain ≡ Nothing) → (gain ≡ Char) ⊎ (gain ≡ SpaceAndChar) → without_spaces (gained gain c) ≡ c ∷ []
+no_spaces_in gain c space (inl e) = rw e (other c (λ s. let same = sym (space s) ∙ e in absurd cc))
+  where
+    other : (c : ℕ) → (IsSpace c → ⊥) → without_spaces (c ∷ []) ≡ c ∷ []
+    other c none = let no : (c == 32) ≡ false = grind (arith, nat_tests) in rw no refl
+no_spaces_in gain c space (inr e) = rw e (other c (λ s. let same = sym (space s) ∙ e in absurd cc))
+  where
+    other : (c : ℕ) → (IsSpace c → ⊥) → without_spaces (c ∷ []) ≡ c ∷ []
+    other c none = let no : (c == 32) ≡ false = grind (arith, nat_tests) in rw no refl
+
+pub octets_taken : (old now : OctetStep) (gain : Collapsed) (c : ℕ) → (IsSpace c → gain ≡ Nothing) → (gain ≡ Char) ⊎ (gain ≡ SpaceAndChar)
+    → ((text : List ℕ) → HasDecoded old text → HasDecoded now (text ++ c ∷ []))
+    → (text : List ℕ) → HasDecoded old (without_spaces text) → HasDecoded now (without_spaces (text ++ gained gain c))
+octets_taken old now gain c space some step text h =
+    let same : without_spaces (text ++ gained gain c) ≡ without_spaces text ++ c ∷ [] =
+    filter-append _ text (gained gain c) ∙ ap (λ t. without_spaces text ++ t) (no_spaces_in gain c space some) in
+    subst (HasDecoded now) (sym same) (step (without_spaces text) h)
+
+pub octets_kept : (body : Body) (step now : OctetStep) (gain : Collapsed) (c : ℕ) → body ≡ Octets step
+    → ((text : List ℕ) → HasDecoded step (without_spaces text) → HasDecoded now (without_spaces (text ++ gained gain c)))
+    → (k : Kind) (chars collapsed : List ℕ) → HasBody k body chars collapsed → (k ≡ kind.Binary) × HasDecoded now (without_spaces (collapsed ++ gained gain c))
+octets_kept body step now gain c is grows k chars collapsed has =
+    let held = subst (λ (b : Body). HasBody k b chars collapsed) is has in (held.0, grows collapsed held.1)
+
+binary_in : (chars text : List ℕ) (leaf : Leaf) → IsCollapsed chars text → IsBinaryLeaf chars leaf → (octets : List ℕ) × IsBinaryText octets text
+binary_in chars text (Bytes octets) collapsed (t, c, is) = (octets, subst (IsBinaryText octets) (one_collapsed chars t text c collapsed) is)
+binary_in chars text leaf collapsed h = absurd h
+
+pub binary_none : (chars text : List ℕ) → IsCollapsed chars text → ((octets : List ℕ) → IsBytes octets → without_spaces text ≡ encode_of standard octets → ⊥) → HasLeafForm kind.Binary chars → ⊥
+binary_none chars text collapsed none (leaf, h) = let b = binary_in chars text leaf collapsed h in none b.0 b.1.0 b.1.1
+
+-- ---- decimals
+
+pub decimal_none : (chars text : List ℕ) → IsCollapsed chars text → (IsDecimalText text → ⊥) → HasDecimalForm chars → ⊥
+decimal_none chars text collapsed none (t, c, is) = none (subst IsDecimalText (one_collapsed chars t text c collapsed) is)
+
+pub decimal_long : (chars text : List ℕ) → IsCollapsed chars text → ((n : DecimalNumber) → IsDecimal n → SpellsDecimal text n → ⊥) → (leaf : Leaf) → IsDecimalLeaf chars leaf → ⊥
+decimal_long chars text collapsed none (Number n) (t, c, is, spells) = none n is (subst (λ t. SpellsDecimal t n) (one_collapsed chars t text c collapsed) spells)
+decimal_long chars text collapsed none leaf h = absurd h

@@ -1,0 +1,24 @@
+-- The leaf that a reference stands for, and what the reader of a leaf's characters answers.
+use Rattle.std.specs.Prelude.{◌≡◌, ℕ, List, Result, Ok, Err}
+use Rattle.lexical_core.specs.declared.rule.Rule.{Rule}
+use Rattle.lexical_core.specs.declared.rule.Rule.TheVariants.{BadText, Digits}
+use Rattle.data_types.specs.declared.kind.Kind.{Kind}
+use Rattle.data_types.specs.declared.kind.Kind.TheVariants.{Decimal}
+use Rattle.data_types.specs.declared.leaf.LeafRef.{LeafRef}
+use Rattle.data_types.specs.declared.leaf.LeafRef.TheVariants as held
+use Rattle.data_types.specs.Leaf.{Leaf, Bytes, Number, Flag, Code, IsLeaf, HasLeafForm}
+
+-- the leaf that a reference stands for
+abbrev pub leaf_of : LeafRef → Leaf
+leaf_of (held.Bytes bytes) = Bytes bytes.now
+leaf_of (held.Number number) = Number number
+leaf_of (held.Flag flag) = Flag flag
+leaf_of (held.Code place) = Code place
+
+-- the answer on all of the characters: the leaf that they spell; BadText where they have not the form of the kind's texts; Digits
+-- where they have, and yet spell no leaf, as a decimal of too many digits
+abbrev pub IsLeafAnswer : Kind → List ℕ → Result LeafRef Rule → Type 0
+IsLeafAnswer kind chars (Ok leaf) = IsLeaf kind chars (leaf_of leaf)
+IsLeafAnswer kind chars (Err BadText) = HasLeafForm kind chars → ⊥
+IsLeafAnswer kind chars (Err Digits) = (kind ≡ Decimal) × HasLeafForm kind chars × ((leaf : Leaf) → IsLeaf kind chars leaf → ⊥)
+IsLeafAnswer kind chars (Err rule) = ⊥
