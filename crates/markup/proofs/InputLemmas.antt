@@ -1,12 +1,14 @@
 -- The tokens of a whole input, read a byte at a time.
-use Rattle.std.proofs.Common.{◌≡◌, ℕ, Bool, true, ◌+◌, List, [], ◌∷◌, ◌++◌, length, reverse, refl, sym, ◌∙◌, ap, subst, append_assoc, append-nil, length-append, arith}
+use Rattle.std.proofs.Common.{◌≡◌, ℕ, true, ◌+◌, List, [], ◌∷◌, ◌++◌, length, reverse, refl, sym, ◌∙◌, ap, subst, append_assoc, length-append, arith, None}
 use Rattle.std.specs.List.{flat_map}
+use Rattle.std.specs.Char.{encode_utf8}
 use Rattle.std.proofs.lemmas.List.{reverse-append}
 use Rattle.lexical_core.specs.declared.rule.Rule.{Rule}
-use Rattle.markup.specs.Token.{Token, LineEnd, Character, Cr, token_bytes}
+use Rattle.markup.specs.Token.{Token, Character, token_bytes}
 use Rattle.markup.specs.Marks.{stands, Cell, Front, is_short, tag_limit}
-use Rattle.markup.specs.Faults.{IsClean, Next, Fault, MarkFault}
+use Rattle.markup.specs.Faults.{rule_of, IsClean, Next, MarkFault}
 use Rattle.markup.specs.Tokenizers.{IsOpen, EndsToken, SettlesOne, SettlesTwo}
+use Rattle.markup.specs.Inputs.{Reads, Begins, Any}
 use Rattle.markup.specs.declared.draft.Draft.{Draft}
 use Rattle.markup.specs.declared.scan.Ended.{Ended}
 use Rattle.markup.specs.declared.tokenizer.Tokenizer.{Tokenizer}
@@ -17,22 +19,36 @@ pub front_snoc : (limit : ℕ) (before : List Token) (b y z : List ℕ) (ts : Li
 front_snoc limit before b y z [] t f c s = (z, subst (λ v. Cell before t v z) (sym f) c, s, refl)
 front_snoc limit before b y z (u ∷ ts) t f c s = (f.0, f.1, f.2, front_snoc limit (u ∷ before) f.0 y z ts t f.3 c s)
 
-reverse_snoc : (ts : List Token) (t : Token) → reverse (ts ++ t ∷ []) ≡ t ∷ reverse ts
+pub reverse_snoc : (ts : List Token) (t : Token) → reverse (ts ++ t ∷ []) ≡ t ∷ reverse ts
 reverse_snoc ts t = reverse-append ts (t ∷ [])
 
--- The reader has read these tokens of the input, and the rest of it is open; whatever may follow that the fact allows.
-pub record Reads (Follows : List ℕ → Type 0) (z : Tokenizer) (input : List ℕ) (ts : List Token) : Type 0 where
-  pub bytes : List ℕ
-  pub front : (more : List ℕ) → Follows more → Front tag_limit [] (input ++ more) ts (bytes ++ more)
-  pub opens : IsOpen z (reverse ts) bytes
+clean_past : (before ts : List Token) (t : Token) → IsClean before ts → rule_of (past before ts) t ≡ None → IsClean before (ts ++ t ∷ [])
+clean_past before [] t c e = (e, tt)
+clean_past before (u ∷ ts) t c e = (c.0, clean_past (u ∷ before) ts t c.1 e)
 
--- what follows begins with the byte
-abbrev pub Begins : ℕ → List ℕ → Type 0
-Begins byte more = (m : List ℕ) × (more ≡ byte ∷ m)
+-- one more token that breaks no rule
+pub clean_snoc : (ts : List Token) (t : Token) → IsClean [] ts → rule_of (reverse ts) t ≡ None → IsClean [] (ts ++ t ∷ [])
+clean_snoc ts t c e = clean_past [] ts t c (subst (λ b. rule_of b t ≡ None) (behind ts) e)
 
--- anything may follow
-abbrev pub Any : List ℕ → Type 0
-Any more = Unit {0}
+-- one literal `]`
+pub bracket_bytes : token_bytes (Character 93) ≡ 93 ∷ []
+unfolding encode_utf8
+bracket_bytes = refl
+
+-- the bytes of a list of tokens
+pub front_bytes : (limit : ℕ) (before : List Token) (b rest : List ℕ) (ts : List Token) → Front limit before b ts rest → b ≡ flat_map token_bytes ts ++ rest
+front_bytes limit before b rest [] f = f
+front_bytes limit before b rest (t ∷ ts) f = f.1.spelled ∙ (ap (λ v. token_bytes t ++ v) (front_bytes limit (t ∷ before) f.0 rest ts f.3) ∙ sym (append_assoc (token_bytes t) (flat_map token_bytes ts) rest))
+
+-- the open token begins where the tokens end
+pub reads_start : (Follows : List ℕ → Type 0) (z : Tokenizer) (input : List ℕ) (ts : List Token) (m : List ℕ) → Follows m → Reads Follows z input ts → z.place ≡ length input → z.start ≡ length (flat_map token_bytes ts)
+reads_start Follows z input ts m f r p = count input (flat_map token_bytes ts) r.bytes m z.start z.place p r.opens.place_is (front_bytes tag_limit [] (input ++ m) (r.bytes ++ m) ts (r.front m f)) where
+  count : (a b c m : List ℕ) (start place : ℕ) → place ≡ length a → place ≡ start + length c → a ++ m ≡ b ++ (c ++ m) → start ≡ length b
+  count a b c m start place p q e = omega (arith, ap length e, length-append a m, length-append b (c ++ m), length-append c m)
+
+-- nothing is read yet
+pub reads_none : (z : Tokenizer) → IsOpen z [] [] → Reads Any z [] []
+reads_none z o = record { bytes = []; front = λ more _. refl; opens = o }
 
 module _ (new : Tokenizer) (input : List ℕ) (byte : ℕ) (ts : List Token) where
   -- a byte that does not end the token
@@ -77,6 +93,20 @@ module _ (new : Tokenizer) (input : List ℕ) (byte : ℕ) (ts : List Token) whe
         (record { spelled = ap (λ v. v ++ more) k.bytes_are ∙ append_assoc (token_bytes t) k.rest more; is = subst (λ v. stands (reverse ts) t (k.rest ++ v) ≡ true) (sym b.1) (k.is b.0) }))
         s;
     opens = subst (λ b. IsOpen new b k.rest) (sym (reverse_snoc ts t)) k.next;
+  }
+
+  -- two brackets that the byte does not go on with
+  pub reads_settled_two : (old : Tokenizer) (r : Reads Any old input ts) → SettlesTwo new (reverse ts) r.bytes byte → Reads (Begins byte) new input (ts ++ Character 93 ∷ Character 93 ∷ [])
+  reads_settled_two old r k = record {
+    bytes = [];
+    front = λ more b. subst (λ v. Front tag_limit [] (input ++ more) v more) (append_assoc ts (Character 93 ∷ []) (Character 93 ∷ []))
+        (front_snoc tag_limit [] (input ++ more) (93 ∷ more) more (ts ++ Character 93 ∷ []) (Character 93)
+        (front_snoc tag_limit [] (input ++ more) (r.bytes ++ more) (93 ∷ more) ts (Character 93) (r.front more tt)
+        (subst (λ c. Cell c (Character 93) (r.bytes ++ more) (93 ∷ more)) (behind ts)
+        (record { spelled = ap (λ v. v ++ more) k.bytes_are ∙ ap (λ v. v ++ 93 ∷ more) (sym bracket_bytes); is = subst (λ v. stands (reverse ts) (Character 93) (93 ∷ v) ≡ true) (sym b.1) (k.first b.0) })) refl)
+        (subst (λ c. Cell c (Character 93) (93 ∷ more) more) (sym (reverse_snoc ts (Character 93)) ∙ behind (ts ++ Character 93 ∷ []))
+        (record { spelled = ap (λ v. v ++ more) (sym bracket_bytes); is = subst (λ v. stands (Character 93 ∷ reverse ts) (Character 93) v ≡ true) (sym b.1) (k.second b.0) })) refl);
+    opens = subst (λ b. IsOpen new b []) (sym (reverse-append ts (Character 93 ∷ Character 93 ∷ []))) k.next;
   }
 
 -- anything that may follow may follow with the byte first

@@ -252,7 +252,7 @@ regroup c p r bytes e = e ∙ append_assoc c p r
 
 module _ (limit : ℕ) (before : List Token) (bytes : List ℕ) where
   -- no token that breaks no rule stands where the list of tokens ends
-  next_none : (u : Token) (a : List ℕ) (rule : Rule) (at : ℕ) → Next limit before bytes rule at → Cell before u bytes a → is_short limit u ≡ true → rule_of before u ≡ None → ⊥
+  pub next_none : (u : Token) (a : List ℕ) (rule : Rule) (at : ℕ) → Next limit before bytes rule at → Cell before u bytes a → is_short limit u ≡ true → rule_of before u ≡ None → ⊥
   next_none u a rule at (broken t after cell short k p) c s n = none_some (sym n ∙ (ap (rule_of before) (sym (one_token before t u bytes after a cell c).0) ∙ k)) where
     none_some : None ≡ Some rule → ⊥
     none_some e = cc
@@ -317,7 +317,7 @@ some_bytes : (c : ℕ) (v : List ℕ) → [] ≡ encode_utf8 c ++ v → ⊥
 some_bytes c v e = omega (arith, length-append (encode_utf8 c) v, length-encode c, len_utf8_bounds c, ap length e)
 
 -- no bytes are no token
-nothing_stands : (before : List Token) → NoToken before []
+pub nothing_stands : (before : List Token) → NoToken before []
 nothing_stands before = no_token before [] [] (Begin (position before)) no_draft refl tt (λ c more after e g x. some_bytes c after e)
 
 none_stops : (before : List Token) (chars tail : List ℕ) (rule : Rule) (shown : ℕ) → Stops before chars tail rule shown → tail ≡ [] → ⊥

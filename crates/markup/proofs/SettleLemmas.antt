@@ -179,7 +179,7 @@ settles_by old new byte result e f before bytes o =
     (subst (λ y. Settles old y before bytes byte (settled old byte).0 × IsAwaited y.scan byte) (sym f) (settles old before bytes byte o old.scan refl))
 
 -- a CR at the end of the input
-end_stands : (before : List Token) → stands before (LineEnd Cr) [] ≡ true
+pub end_stands : (before : List Token) → stands before (LineEnd Cr) [] ≡ true
 end_stands before = by (in_cdata before) where
   by : (b : Bool) → (if b then true else true) ≡ true
   by true = refl
@@ -214,7 +214,7 @@ module _ (z : Tokenizer) (before : List Token) (bytes : List ℕ) (o : IsOpen z 
     by true h = no_bytes bytes (none_open z.place z.start (length bytes) o.place_is h)
     by false h = cut_here (λ k. n (sym e ∙ k)) (some_open z.place z.start bytes o.place_is h)
 
-  finish_return : z.scan ≡ AfterReturn → (bytes ≡ token_bytes (LineEnd Cr)) × (stands before (LineEnd Cr) [] ≡ true)
+  pub finish_return : z.scan ≡ AfterReturn → (bytes ≡ token_bytes (LineEnd Cr)) × (stands before (LineEnd Cr) [] ≡ true)
   finish_return e =
       let w : o.chars ≡ 13 ∷ [] = subst (Waits (position before) o.chars) e (run_waits (position before) o.chars z.scan no_draft z.draft o.scan_is) in
       (whole_bytes z before bytes 0 o (13 ∷ []) (token_bytes (LineEnd Cr)) (o.settled (ap is_pending e)) w refl, end_stands before)
@@ -264,3 +264,26 @@ module _ (z : Tokenizer) (before : List Token) (bytes : List ℕ) (o : IsOpen z 
 
 pub finishes_by : (z : Tokenizer) (result : Finish) → result ≡ open_at z.scan z → FinishesBy z result
 finishes_by z result e before bytes o = subst (Finishes before bytes) (sym e) (finishes z before bytes o z.scan refl)
+
+-- the byte is not taken
+abbrev place_of : Settled × Tokenizer → ℕ
+place_of r = r.1.place
+
+settled_at_place : (s : Scan) (z : Tokenizer) (byte : ℕ) → place_of (settled_at s z byte) ≡ z.place
+settled_at_place AfterReturn z byte = by (byte == 10) where
+  by : (b : Bool) → place_of (if b then (Nothing, z) else (Return, restarted z)) ≡ z.place
+  by true = refl
+  by false = refl
+settled_at_place Bracket z byte = by (byte == 93) where
+  by : (b : Bool) → place_of (if b then (Nothing, z) else (OneBracket, restarted z)) ≡ z.place
+  by true = refl
+  by false = refl
+settled_at_place Brackets z byte = by (byte == 62) (byte == 93) where
+  by : (b c : Bool) → place_of (if b then (Nothing, z) else (if c then (OneBracket, second_bracket z) else (TwoBrackets, restarted z))) ≡ z.place
+  by true c = refl
+  by false true = refl
+  by false false = refl
+settled_at_place s z byte = refl
+
+pub settled_place : (old new : Tokenizer) (byte : ℕ) → new ≡ (settled old byte).1 → new.place ≡ old.place
+settled_place old new byte e = ap (λ (z : Tokenizer). z.place) e ∙ settled_at_place old.scan old byte

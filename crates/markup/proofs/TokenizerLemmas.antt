@@ -362,3 +362,21 @@ advances_by old new byte progress a before bytes o w =
 pub if_advanced : (r : Result Progress AllocError) (old new : Tokenizer) (byte : ℕ) → IfOk r (λ p. AdvancedBy old new byte p) → IfOk r (λ p. AdvancesBy old new byte p)
 if_advanced (Ok p) old new byte h = advances_by old new byte p h
 if_advanced (Err e) old new byte h = tt
+
+-- a byte is counted
+turned_place : (z : Tokenizer) (c : ℕ) (t : Turn) → (on_turn z c t).1.place ≡ z.place
+turned_place z c (Goes s) = refl
+turned_place z c (Whole e) = refl
+turned_place z c Stuck = refl
+
+utf8_place : (z : Tokenizer) (u : Utf8) → (on_utf8 z u).1.place ≡ z.place
+utf8_place z MoreBytes = refl
+utf8_place z Bad = refl
+utf8_place z (Char c) = turned_place z c (step z.scan c)
+
+advanced_place : (old new : Tokenizer) (byte : ℕ) (progress : Progress) → AdvancedBy old new byte progress → new.place ≡ old.place + 1
+advanced_place old new byte progress a = ap (λ (z : Tokenizer). z.place) a.after ∙ utf8_place (counted old a.begun) a.utf8
+
+pub if_place : (r : Result Progress AllocError) (old new : Tokenizer) (byte : ℕ) → IfOk r (λ p. AdvancedBy old new byte p) → IfOk r (λ _. new.place ≡ old.place + 1)
+if_place (Ok p) old new byte h = advanced_place old new byte p h
+if_place (Err e) old new byte h = tt

@@ -184,3 +184,7 @@ OneFault = (bytes : List ℕ) (f g : Fault) → MarkFault bytes f → MarkFault 
 -- A whole text has none.
 abbrev pub WholeHasNone : Type 0
 WholeHasNone = (bytes : List ℕ) (f : Fault) → IsWhole bytes → MarkFault bytes f → ⊥
+
+-- A fault stands within the bytes or at their end.
+abbrev pub FaultWithin : Type 0
+FaultWithin = (bytes : List ℕ) (f : Fault) → MarkFault bytes f → f.place ≤ length bytes

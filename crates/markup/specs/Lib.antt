@@ -13,3 +13,12 @@ pub mod Words
 pub mod ReferenceScans
 pub mod ScanRuns
 pub mod Scans
+pub mod EventItems
+pub mod Scopes
+pub mod Contexts
+pub mod TokenRules
+pub mod Inputs
+pub mod Longest
+pub mod Reading
+pub mod ReaderSteps
+pub mod TagParts

@@ -102,3 +102,7 @@ Agree ts us = ((more : List Token) × (us ≡ ts ++ more)) ⊎ ((more : List Tok
 -- Two lists of tokens from the front of the same bytes agree as far as both go.
 abbrev pub FrontsAgree : Type 0
 FrontsAgree = (limit : ℕ) (bytes : List ℕ) (ts us : List Token) (x y : List ℕ) → Front limit [] bytes ts x → Front limit [] bytes us y → Agree ts us
+
+-- The bytes are at most one list of tokens.
+abbrev pub OneMarking : Type 0
+OneMarking = (bytes : List ℕ) (ts us : List Token) → Marks bytes ts → Marks bytes us → ts ≡ us

@@ -3,11 +3,24 @@
 //! XML read one byte at a time, exactly as the grammar has it (XML 1.0, fifth edition, and
 //! Namespaces in XML 1.0).
 
+mod attributes;
 mod characters;
+mod context;
 mod draft;
+pub mod event;
 pub mod laws;
+mod names;
+pub mod reader;
 mod reference;
 mod scan;
-pub mod tag;
+mod scope;
+mod tag;
+mod telling;
 mod tokenizer;
 mod word;
+
+pub use event::{Attr, Attrs, Event, Events, What};
+pub use reader::{MarkError, MarkFault, Reader};
+
+#[cfg(test)]
+mod tests;

@@ -126,11 +126,13 @@ impl Scan {
 }
 
 impl Tokenizer {
+    ghost use Rattle.markup.specs.TokenRules.{is_cdata};
     ghost use Rattle.markup.specs.Tokenizers.{bounded, ended, charactered, AdvancedBy, AdvancesBy, IsOpen, restarted, settled, SettlesBy, open_at, FinishesBy};
 
     /// A reader before the first byte. It takes no memory.
     pub(crate) fn new(alloc: Global) -> Tokenizer
-        ensures { IsOpen result [] [] }
+        ensures opens { IsOpen result [] [] }
+        ensures place { result.place ≡ 0 }
     {
         Tokenizer {
             alloc,
@@ -141,6 +143,27 @@ impl Tokenizer {
             start: 0,
             place: 0,
         }
+    }
+
+    /// The place of the open token's first byte.
+    pub(crate) fn start(&self) -> u64
+        ensures { result ≡ self.now.start }
+    {
+        self.start
+    }
+
+    /// The number of bytes so far.
+    pub(crate) fn place(&self) -> u64
+        ensures { result ≡ self.now.place }
+    {
+        self.place
+    }
+
+    /// Whether the open token stands in a CDATA section (XML 1.0 §2.7).
+    pub(crate) fn in_cdata(&self) -> bool
+        ensures { result ≡ is_cdata self.now.position }
+    {
+        matches!(self.position, Position::Cdata)
     }
 
     /// The next token begins behind one that opens and closes nothing.
@@ -193,7 +216,8 @@ impl Tokenizer {
     /// Ends a CR, or brackets in a CDATA section, that the byte does not go on with. The byte is
     /// not taken.
     pub(crate) fn settle(&mut self, byte: u8) -> Settled
-        ensures { SettlesBy self.old self.new byte result }
+        ensures settles { SettlesBy self.old self.new byte result }
+        ensures place { self.new.place ≡ self.old.place }
     {
         self.settle_open(byte)
     }
@@ -264,7 +288,8 @@ impl Tokenizer {
     /// before.
     pub(crate) fn advance(&mut self, byte: u8) -> Result<Progress, AllocError>
         requires { self.old.place < 2 ^ 40 }
-        ensures { IfOk result (λ p. AdvancesBy self.old self.new byte p) }
+        ensures advances { IfOk result (λ p. AdvancesBy self.old self.new byte p) }
+        ensures place { IfOk result (λ _. self.new.place ≡ self.old.place + 1) }
     {
         self.take(byte)
     }

@@ -1,0 +1,95 @@
+-- Which line end a byte ends.
+use Rattle.std.proofs.Common.{◌≡◌, ℕ, Bool, true, false, ◌⊎◌, inl, inr, List, [], ◌∷◌, ◌++◌, if◌then◌else◌, refl, sym, ◌∙◌, ap, subst, append_assoc, append-nil}
+use Rattle.std.specs.Char.{encode_utf8}
+use Rattle.std.specs.Str.{encode_utf8_all}
+use Rattle.std.proofs.lemmas.Bool.{both_ways}
+use Rattle.markup.specs.Token.{Token, Mark, Declaration, Comment, Instruction, Opener, Closer, TypeDeclaration, Start, End, Refer, LineEnd, Character, Line, Lf, Cr, CrLf, token_bytes}
+use Rattle.markup.specs.Marks.{in_cdata, stands}
+use Rattle.markup.specs.Drafts.{no_draft}
+use Rattle.markup.specs.ScanRuns.{At, run, position, ended_of}
+use Rattle.markup.specs.Tokenizers.{IsAwaited, IsOpen, EndsToken}
+use Rattle.markup.specs.declared.scan.Scan.{Scan}
+use Rattle.markup.specs.declared.scan.Scan.TheVariants.{Begin, AfterReturn}
+use Rattle.markup.specs.declared.scan.Ended.{Ended}
+use Rattle.markup.specs.declared.scan.Ended.TheVariants.{LineEnd as LineEnded}
+use Rattle.markup.specs.declared.draft.Draft.{Draft}
+use Rattle.markup.specs.declared.tokenizer.Tokenizer.{Tokenizer}
+use Rattle.markup.proofs.TokenKinds.{in_both}
+use Rattle.markup.proofs.TokenLaw.{one_token}
+use Rattle.markup.proofs.Complete.{return_run}
+use Rattle.markup.proofs.NoTokens.{Shorter, Longer, compare_texts, no_whole}
+use Rattle.markup.proofs.SettleLemmas.{finish_return}
+use Rattle.markup.proofs.TokenizerLemmas.{none_front}
+
+-- a CR that is open has this byte
+pub return_open : (z : Tokenizer) (before : List Token) (bytes : List ℕ) → IsOpen z before bytes → z.scan ≡ AfterReturn → bytes ≡ token_bytes (LineEnd Cr)
+return_open z before bytes o e = (finish_return z before bytes o e).0
+
+-- and where that byte is open, a CR is
+pub open_return : (z : Tokenizer) (before : List Token) (bytes : List ℕ) → IsOpen z before bytes → bytes ≡ token_bytes (LineEnd Cr) → z.scan ≡ AfterReturn
+open_return z before bytes o e = by (compare_texts o.chars (13 ∷ []) o.part [] (sym o.bytes_are ∙ (e ∙ sym (append-nil (token_bytes (LineEnd Cr)))))) where
+  scan_same : (s t : Scan) (d f : Draft) → At s d ≡ At t f → s ≡ t
+  scan_same s t d f h = cc
+
+  at_end : (more : List ℕ) → o.chars ≡ 13 ∷ more → [] ≡ encode_utf8_all more ++ o.part → z.scan ≡ AfterReturn
+  at_end [] h k = scan_same z.scan AfterReturn z.draft no_draft (sym o.scan_is ∙ (ap (run (Begin (position before)) no_draft) h ∙ return_run before []))
+  at_end (c ∷ more) h k = absurd (no_whole [] (encode_utf8_all more ++ o.part) c none_front (k ∙ append_assoc (encode_utf8 c) (encode_utf8_all more) o.part))
+
+  by : Shorter o.chars (13 ∷ []) o.part [] ⊎ Longer o.chars (13 ∷ []) o.part [] → z.scan ≡ AfterReturn
+  by (inl r) = at_end r.more r.text r.behind
+  by (inr r) = absurd (no_whole o.part (encode_utf8_all r.more ++ []) r.next o.front (r.behind ∙ append_assoc (encode_utf8 r.next) (encode_utf8_all r.more) []))
+
+-- a CR LF stands anywhere
+pub crlf_stands : (before : List Token) (after : List ℕ) → stands before (LineEnd CrLf) after ≡ true
+crlf_stands before after = by (in_cdata before) where
+  by : (b : Bool) → (if b then true else true) ≡ true
+  by true = refl
+  by false = refl
+
+return_stands_not : (before : List Token) → stands before (LineEnd Cr) (10 ∷ []) ≡ true → ⊥
+return_stands_not before h = both_ways false refl (in_both (in_cdata before) false h)
+
+-- the bytes of line ends
+pub line_bytes : (token_bytes (LineEnd Cr) ++ 10 ∷ [] ≡ token_bytes (LineEnd CrLf)) × (token_bytes (LineEnd CrLf) ≡ 13 ∷ 10 ∷ []) × (token_bytes (LineEnd Cr) ≡ 13 ∷ [])
+unfolding encode_utf8
+line_bytes = (refl, refl, refl)
+
+-- the byte that an open CR awaits makes a CR LF
+pub awaited_crlf : (z : Tokenizer) (before : List Token) (bytes : List ℕ) (byte : ℕ) → IsOpen z before bytes → bytes ≡ token_bytes (LineEnd Cr) → IsAwaited z.scan byte → bytes ++ byte ∷ [] ≡ token_bytes (LineEnd CrLf)
+awaited_crlf z before bytes byte o h w = both bytes (token_bytes (LineEnd Cr)) byte 10 h (subst (λ s. IsAwaited s byte) (open_return z before bytes o h) w) ∙ line_bytes.0 where
+  both : (v w : List ℕ) (x y : ℕ) → v ≡ w → x ≡ y → v ++ x ∷ [] ≡ w ++ y ∷ []
+  both v w x y e f = cc
+
+-- a byte that ends a CR that was open is the LF of a CR LF
+pub ends_crlf : (old new : Tokenizer) (before : List Token) (bytes : List ℕ) (byte : ℕ) (e : Ended) (d : Draft) → IsOpen old before bytes → bytes ≡ token_bytes (LineEnd Cr) → IsAwaited old.scan byte → (k : EndsToken new before (bytes ++ byte ∷ []) e d) → k.token ≡ LineEnd CrLf
+ends_crlf old new before bytes byte e d o h w k = (one_token before k.token (LineEnd CrLf) (token_bytes (LineEnd CrLf)) [] []
+    (record { spelled = sym (awaited_crlf old before bytes byte o h w) ∙ (sym k.bytes_are ∙ sym (append-nil (token_bytes k.token))); is = k.is [] })
+    (record { spelled = sym (append-nil (token_bytes (LineEnd CrLf))); is = crlf_stands before [] })).0
+
+-- any other line end that a byte ends is an LF
+pub ends_lf : (new : Tokenizer) (before : List Token) (bytes : List ℕ) (byte : ℕ) (d : Draft) → (bytes ≡ token_bytes (LineEnd Cr) → ⊥) → (k : EndsToken new before (bytes ++ byte ∷ []) LineEnded d) → k.token ≡ LineEnd Lf
+ends_lf new before bytes byte d n k = by k.token k.ended_is k.is k.bytes_are where
+  last : (v : List ℕ) (x : ℕ) → 13 ∷ 10 ∷ [] ≡ v ++ x ∷ [] → v ≡ 13 ∷ []
+  last [] x e = absurd (cc)
+  last (a ∷ []) x e = cc
+  last (a ∷ b ∷ []) x e = absurd (cc)
+  last (a ∷ b ∷ c ∷ v) x e = absurd (cc)
+
+  line : (l : Line) → ((after : List ℕ) → stands before (LineEnd l) after ≡ true) → token_bytes (LineEnd l) ≡ bytes ++ byte ∷ [] → LineEnd l ≡ LineEnd Lf
+  line Lf s e = refl
+  line Cr s e = absurd (return_stands_not before (s (10 ∷ [])))
+  line CrLf s e = absurd (n (last bytes byte (sym line_bytes.1 ∙ e) ∙ sym line_bytes.2))
+
+  by : (t : Token) → ended_of t ≡ LineEnded → ((after : List ℕ) → stands before t after ≡ true) → token_bytes t ≡ bytes ++ byte ∷ [] → t ≡ LineEnd Lf
+  by Mark h s e = absurd (cc)
+  by (Declaration fs g) h s e = absurd (cc)
+  by (Comment v) h s e = absurd (cc)
+  by (Instruction p v) h s e = absurd (cc)
+  by Opener h s e = absurd (cc)
+  by Closer h s e = absurd (cc)
+  by TypeDeclaration h s e = absurd (cc)
+  by (Start t) h s e = absurd (cc)
+  by (End m g) h s e = absurd (cc)
+  by (Refer r) h s e = absurd (cc)
+  by (LineEnd l) h s e = line l s e
+  by (Character c) h s e = absurd (cc)

@@ -1,0 +1,43 @@
+-- The two steps of a reader with a byte: what the byte does not go on with, and the byte itself. Private functions alone cite this.
+use Rattle.std.specs.Prelude.{◌≡◌, ℕ, List, [], ◌∷◌, ◌++◌, Option, Some, None, Result, MatchResult, if◌then◌else◌}
+use Rattle.lexical_core.specs.Tree.{Char}
+use Rattle.markup.specs.Token.{Token}
+use Rattle.markup.specs.Events.{Placed, items_of}
+use Rattle.markup.specs.Faults.{rule_of}
+use Rattle.markup.specs.EventItems.{Tells, TellsFront}
+use Rattle.markup.specs.Scopes.{placed_at}
+use Rattle.markup.specs.Contexts.{TakesToken}
+use Rattle.markup.specs.declared.context.Context.{Context}
+use Rattle.markup.specs.declared.reader.MarkError.{MarkError}
+use Rattle.markup.specs.declared.reader.MarkError.TheVariants.{Refused, Memory}
+use Rattle.markup.specs.declared.tokenizer.Finish.{Finish}
+use Rattle.markup.specs.Tokenizers.{IsAwaited}
+use Rattle.markup.specs.Inputs.{Begins, is_return}
+use Rattle.markup.specs.Reading.{Keeps}
+use Rattle.markup.specs.declared.event.Event.{Event}
+use Rattle.markup.specs.declared.reader.Reader.{Reader}
+
+-- The events of more tokens of the input are told; whatever may follow that the fact allows.
+pub record TellsMore (Follows : List ℕ → Type 0) (reader : Reader) (input : List ℕ) (told : List Placed) (old new : List Event) : Type 0 where
+  pub tokens : List Token
+  pub more : List Placed
+  pub tells : Tells old new more
+  pub keeps : Keeps Follows reader input tokens (told ++ more)
+
+-- What the byte does not go on with is told, and what is left goes on with it.
+pub record SettlesEvents (reader : Reader) (input : List ℕ) (told : List Placed) (byte : ℕ) (old new : List Event) : Type 0 where
+  pub tells : TellsMore (Begins byte) reader input told old new
+  pub awaited : IsAwaited reader.tokenizer.scan byte
+
+-- the event of a CR that has come
+abbrev pub returned : Finish → ℕ → List Placed
+returned f place = if is_return f then placed_at place (Char 10 ∷ []) else []
+
+-- A token is not taken, for this reason.
+abbrev pub TokenStopped : List Token → Token → ℕ → List Event → List Event → MarkError → Type 0
+TokenStopped before t place old new (Refused fault) = (rule_of before t ≡ Some fault.rule) × (fault.place ≡ place) × (new ≡ old)
+TokenStopped before t place old new Memory = TellsFront old new (placed_at place (items_of before t))
+
+-- A token at the place: its events are told, or the fault that it is.
+abbrev pub TokenAnswered : {T : Type 0} → List Token → Token → ℕ → List Event → List Event → Context → Result T MarkError → Type 0
+TokenAnswered before t place old new context result = MatchResult result (λ _. TakesToken before t place old new context) (λ e. TokenStopped before t place old new e)

@@ -1,0 +1,93 @@
+-- The declarations and the attributes of a start tag, apart. Private functions alone cite this.
+use Rattle.std.specs.Prelude.{◌≡◌, ℕ, length, Bool, ◌||◌, ◌&&◌, false, List, [], ◌∷◌, map, reverse, if◌then◌else◌, is_none, Option, Some, None}
+use Rattle.std.specs.List.{list_any, filter_map}
+use Rattle.std.specs.Str.{bytes_eq}
+use Rattle.lexical_core.specs.Tree.{Expanded, Entry}
+use Rattle.markup.specs.declared.tag.Given.{Given}
+use Rattle.markup.specs.declared.tag.Opening.{Opening}
+use Rattle.markup.specs.declared.scope.Resolved.{Resolved}
+use Rattle.markup.specs.declared.scope.Scope.{Scope}
+use Rattle.markup.specs.declared.attributes.Parted.{Parted}
+use Rattle.markup.specs.declared.attributes.Expanded.{Expanded as ExpandedAttributes}
+use Rattle.markup.specs.Events.{declared_prefix, namespace_of, attribute_name, put, entries}
+use Rattle.markup.specs.Faults.{same_declared, is_bad_declaration, has_clash, is_bad_attribute}
+use Rattle.markup.specs.EventItems.{entry_of}
+use Rattle.markup.specs.Scopes.{declarations, all_declarations, open_name}
+
+-- It declares no namespace.
+abbrev pub is_plain : Given → Bool
+is_plain a = is_none (declared_prefix a.name)
+
+-- the attributes of a tag that declare none
+abbrev pub plain_attributes : List Given → List Given
+plain_attributes [] = []
+plain_attributes (a ∷ more) = if is_plain a then a ∷ plain_attributes more else plain_attributes more
+
+-- two of these declare one prefix
+abbrev pub declares_twice : List Given → Bool
+declares_twice [] = false
+declares_twice (a ∷ more) = list_any (λ b. same_declared (declared_prefix a.name) (declared_prefix b.name)) more || declares_twice more
+
+-- a declaration that may not be
+abbrev pub declares_badly : Given → Bool
+declares_badly a = is_bad_declaration (declared_prefix a.name) a.value
+
+-- an attribute whose prefix is bound to nothing
+abbrev pub is_unbound : List Opening → Given → Bool
+is_unbound tags a = is_none (attribute_name tags a.name)
+
+-- an attribute of this expanded name
+abbrev pub is_named : Expanded → Entry → Bool
+is_named name e = bytes_eq name.namespace e.name.namespace && bytes_eq name.local e.name.local
+
+-- The first of the entries has the name.
+abbrev pub begins_with : Expanded → List Entry → Bool
+begins_with name [] = false
+begins_with name (e ∷ es) = is_named name e
+
+-- Two neighbours have one name.
+abbrev pub has_twins : List Entry → Bool
+has_twins [] = false
+has_twins (e ∷ es) = begins_with e.name es || has_twins es
+
+-- the entries in the order of their names
+abbrev pub sorted_entries : List Entry → List Entry
+sorted_entries [] = []
+sorted_entries (e ∷ es) = put e (sorted_entries es)
+
+-- an attribute's value under its expanded name, if there is one
+abbrev pub named_entry : List ℕ → Option Expanded → Option Entry
+named_entry value None = None
+named_entry value (Some name) = Some (record { name = name; value = value })
+
+-- an attribute of a tag as its event has it, if its name has an expanded one
+abbrev pub entry_under : List Opening → Given → Option Entry
+entry_under tags a = named_entry a.value (attribute_name tags a.name)
+
+-- the declarations and the attributes of a tag, the last first, and what is wrong with the declarations
+pub record IsParted (given : List Given) (parts : Parted) : Type 0 where
+  pub declared : reverse parts.declared.items ≡ declarations given
+  pub attributes : reverse parts.attributes.items ≡ plain_attributes given
+  pub clash : parts.has_clash ≡ declares_twice given
+  pub bad : parts.is_bad ≡ list_any declares_badly given
+
+-- the attributes of a tag under these tags, its own the first, in the order of the tag
+pub record IsCollected (tags : List Opening) (plain : List Given) (expanded : ExpandedAttributes) : Type 0 where
+  pub entries : map entry_of expanded.attrs.items ≡ filter_map (entry_under tags) plain
+  pub unbound : expanded.is_unbound ≡ list_any (is_unbound tags) plain
+
+-- the attributes of a tag under these tags, its own the first, as an event has them, and what is wrong with them
+pub record IsExpanded (tags : List Opening) (plain : List Given) (expanded : ExpandedAttributes) : Type 0 where
+  pub entries : map entry_of expanded.attrs.items ≡ entries tags plain
+  pub clash : expanded.has_clash ≡ has_clash tags plain
+  pub unbound : expanded.is_unbound ≡ list_any (is_unbound tags) plain
+
+-- a start tag under the tags that are open before it; the scope has its declarations, and not yet its name
+pub record IsResolved (tags : List Opening) (tag : Opening) (resolved : Resolved) (scope : Scope) : Type 0 where
+  pub names : reverse scope.names.items ≡ map open_name tags
+  pub declarations_are : reverse scope.declared.items ≡ all_declarations (tag ∷ tags)
+  pub count : resolved.declared ≡ length (declarations tag.given)
+  pub namespace : resolved.namespace ≡ namespace_of (tag ∷ tags) tag.name.prefix
+  pub entries : map entry_of resolved.attrs ≡ entries (tag ∷ tags) tag.given
+  pub clash : resolved.has_clash ≡ has_clash (tag ∷ tags) tag.given
+  pub bad : resolved.is_bad ≡ list_any (is_bad_attribute (tag ∷ tags)) tag.given

@@ -1,0 +1,201 @@
+// The declarations and attributes of a start tag, and the attributes with expanded names
+// (Namespaces in XML 1.0 §6.3).
+ghost use Rattle.std.specs.Prelude.{◌≡◌, ◌++◌, ◌∷◌, List, [], IfOk, OnOk, Some, map, if◌then◌else◌, true, reverse};
+ghost use Rattle.std.specs.List.{list_any, list_all};
+ghost use Rattle.std.specs.Option.{option_copied};
+ghost use Rattle.std.specs.Str.{bytes_eq};
+ghost use Rattle.markup.specs.Events.{declared_prefix, same_prefix, name_cmp, namespace_of};
+ghost use Rattle.markup.specs.EventItems.{entry_of};
+ghost use Rattle.markup.specs.Scopes.{IsDeclared};
+ghost use Rattle.markup.specs.TagParts.{IsParted, IsExpanded, IsCollected, is_plain, is_named, sorted_entries, begins_with, has_twins};
+
+use crate::event::Attr;
+use crate::names::{bound_by, declared_prefix, is_bad_declaration, is_empty, namespace_of};
+use crate::tag::{Given, Opening};
+use lexical_core::{Items, Text};
+use std::alloc::{AllocError, Global};
+use std::cmp::Ordering;
+
+/// The attributes of a start tag, those that declare a namespace apart.
+#[derive(Drop)]
+pub(crate) struct Parted {
+    /// The declarations, the last of the tag first.
+    pub(crate) declared: Vec<Given>,
+    /// The other attributes, the last of the tag first.
+    pub(crate) attributes: Vec<Given>,
+    /// Whether two declarations are of one prefix.
+    pub(crate) has_clash: bool,
+    /// Whether a declaration may not be.
+    pub(crate) is_bad: bool,
+}
+
+impl Parted {
+    /// The parts of a tag.
+    pub(crate) fn of(given: Items<Given>, alloc: Global) -> Result<Parted, AllocError>
+        ensures { IfOk result (IsParted given) }
+    {
+        let mut parts = Parted {
+            declared: Vec::new(alloc),
+            attributes: Vec::new(alloc),
+            has_clash: false,
+            is_bad: false,
+        };
+        let mut left = given.into_vec();
+        while let Some(last) = left.pop() {
+            parts.add(last)?;
+        }
+        Ok(parts)
+    }
+
+    /// One more attribute, which stands before the others.
+    fn add(&mut self, first: Given) -> Result<(), AllocError>
+        ensures { (given : List Given) → IsParted given self.old → OnOk result (IsParted (first ∷ given) self.new) }
+    {
+        match declared_prefix(&first.name) {
+            Some(prefix) => {
+                self.has_clash |= is_declared(self.declared.as_slice(), prefix);
+                self.is_bad |= is_bad_declaration(prefix, first.value.bytes());
+                self.declared.push(first)?;
+            }
+            None => self.attributes.push(first)?,
+        }
+        Ok(())
+    }
+}
+
+/// Whether one of these declares the prefix.
+fn is_declared(declared: &[Given], prefix: &[u8]) -> bool
+    ensures { result ≡ list_any (λ (a : Given). same_prefix (declared_prefix a.name) prefix.now) (reverse declared.now) }
+{
+    bound_by(declared, prefix).is_some()
+}
+
+/// The attributes of a start tag as its event has them.
+#[derive(Drop)]
+pub(crate) struct Expanded {
+    /// Those with an expanded name, sorted by it.
+    pub(crate) attrs: Vec<Attr>,
+    /// Whether two have one name.
+    pub(crate) has_clash: bool,
+    /// Whether one has a prefix that is bound to nothing.
+    pub(crate) is_unbound: bool,
+}
+
+impl Expanded {
+    /// The names of the attributes, expanded by the declarations of the open tags.
+    pub(crate) fn of(
+        attributes: Vec<Given>,
+        declared: &[Given],
+        alloc: Global,
+    ) -> Result<Expanded, AllocError>
+        requires { list_all is_plain (reverse attributes.items) ≡ true }
+        ensures { (tags : List Opening) → IsDeclared declared.now tags → IfOk result (IsExpanded tags (reverse attributes.items)) }
+    {
+        let mut expanded = Expanded::collected(attributes, declared, alloc)?;
+        sort(&mut expanded.attrs)?;
+        expanded.has_clash = has_twins(expanded.attrs.as_slice());
+        Ok(expanded)
+    }
+
+    /// The attributes in the order of the tag, and no clash told yet.
+    fn collected(
+        mut attributes: Vec<Given>,
+        declared: &[Given],
+        alloc: Global,
+    ) -> Result<Expanded, AllocError>
+        ensures { (tags : List Opening) → IsDeclared declared.now tags → IfOk result (IsCollected tags (reverse attributes.items)) }
+    {
+        let mut expanded = Expanded {
+            attrs: Vec::new(alloc),
+            has_clash: false,
+            is_unbound: false,
+        };
+        while let Some(next) = attributes.pop() {
+            expanded.add(next, declared, alloc)?;
+        }
+        Ok(expanded)
+    }
+
+    /// One more attribute, which stands behind the others.
+    fn add(&mut self, next: Given, declared: &[Given], alloc: Global) -> Result<(), AllocError>
+        ensures { (tags : List Opening) (plain : List Given) → IsDeclared declared.now tags → IsCollected tags plain self.old → OnOk result (IsCollected tags (plain ++ next ∷ []) self.new) }
+    {
+        let Some(namespace) = attribute_namespace(declared, next.name.prefix.bytes()) else {
+            self.is_unbound = true;
+            return Ok(());
+        };
+        let ns = text_of(namespace, alloc)?;
+        let Given { name, value } = next;
+        let local = name.local;
+        self.attrs.push(Attr { ns, local, value })?;
+        Ok(())
+    }
+}
+
+/// The namespace of an attribute with this prefix: a default namespace does not apply to it
+/// (Namespaces §6.2).
+fn attribute_namespace<'a>(declared: &'a [Given], prefix: &[u8]) -> Option<&'a [u8]>
+    ensures { (tags : List Opening) → IsDeclared declared.now tags → option_copied result ≡ (if bytes_eq prefix.now [] then Some [] else namespace_of tags prefix.now) }
+{
+    if is_empty(prefix) {
+        Some(b"")
+    } else {
+        namespace_of(declared, prefix)
+    }
+}
+
+/// A text of these bytes.
+pub(crate) fn text_of(bytes: &[u8], alloc: Global) -> Result<Text, AllocError>
+    ensures { IfOk result (λ t. t ≡ bytes.now) }
+{
+    Ok(Text::from_vec(Vec::from_slice(alloc, bytes)?))
+}
+
+/// How two attributes stand by their names.
+fn name_cmp(left: &Attr, right: &Attr) -> Ordering
+    ensures { result ≡ name_cmp (entry_of left.now).name (entry_of right.now).name }
+{
+    match left.ns.bytes().cmp(right.ns.bytes()) {
+        Ordering::Equal => left.local.bytes().cmp(right.local.bytes()),
+        apart => apart,
+    }
+}
+
+/// Puts the attributes into the order of their names; those of one name keep theirs.
+fn sort(attrs: &mut Vec<Attr>) -> Result<(), AllocError>
+    ensures { OnOk result (map entry_of attrs.new.items ≡ sorted_entries (map entry_of attrs.old.items)) }
+{
+    attrs.sort_by(|left, right| name_cmp(left, right))?;
+    Ok(())
+}
+
+/// Whether two attributes have one name.
+fn is_named(left: &Attr, right: &Attr) -> bool
+    ensures { result ≡ is_named (entry_of left.now).name (entry_of right.now) }
+{
+    left.ns.bytes() == right.ns.bytes() && left.local.bytes() == right.local.bytes()
+}
+
+/// Whether the first of the others has the name of this one.
+fn is_twin(attr: &Attr, others: &[Attr]) -> bool
+    ensures { result ≡ begins_with (entry_of attr.now).name (map entry_of others.now) }
+{
+    match others.first() {
+        Some(next) => is_named(attr, next),
+        None => false,
+    }
+}
+
+/// Whether two neighbours have one name.
+fn has_twins(attrs: &[Attr]) -> bool
+    ensures { result ≡ has_twins (map entry_of attrs.now) }
+{
+    let mut left = attrs;
+    while let Some((attr, others)) = left.split_first() {
+        if is_twin(attr, others) {
+            return true;
+        }
+        left = others;
+    }
+    false
+}

@@ -1,0 +1,112 @@
+// Names of tags: which ones declare a namespace, and what a prefix stands for (Namespaces in XML 1.0).
+ghost use Rattle.std.specs.Prelude.{◌≡◌, List, reverse, [], Some, codes, not, if◌then◌else◌};
+ghost use Rattle.std.specs.Str.{bytes_eq};
+ghost use Rattle.std.specs.Option.{option_copied};
+ghost use Rattle.markup.specs.Events.{declared_prefix, same_prefix, bound_by, namespace_of, xml_namespace};
+ghost use Rattle.markup.specs.Faults.{is_bad_declaration};
+ghost use Rattle.markup.specs.Scopes.{IsDeclared};
+
+use crate::tag::{Given, Opening, Spelled};
+
+/// The name and prefix of declarations (Namespaces §3).
+const XMLNS: &[u8] = b"xmlns";
+
+/// The prefix that is bound without a declaration (Namespaces §3).
+const XML: &[u8] = b"xml";
+
+/// The namespace that the prefix `xml` is bound to (Namespaces §3).
+const XML_NAMESPACE: &[u8] = b"http://www.w3.org/XML/1998/namespace";
+
+/// The namespace that the prefix `xmlns` stands for (Namespaces §3).
+const XMLNS_NAMESPACE: &[u8] = b"http://www.w3.org/2000/xmlns/";
+
+/// Whether there is no letter.
+pub(crate) fn is_empty(text: &[u8]) -> bool
+    ensures { result ≡ bytes_eq text.now [] }
+{
+    text.is_empty()
+}
+
+/// The prefix that an attribute of this name declares, the empty one for the default; `None` where
+/// it is no declaration (Namespaces §3).
+pub(crate) fn declared_prefix(name: &Spelled) -> Option<&[u8]>
+    ensures { option_copied result ≡ declared_prefix name.now }
+{
+    if name.prefix.bytes() == XMLNS {
+        Some(name.local.bytes())
+    } else if is_empty(name.prefix.bytes()) && name.local.bytes() == XMLNS {
+        Some(b"")
+    } else {
+        None
+    }
+}
+
+/// Whether the attribute declares this prefix.
+fn declares(given: &Given, prefix: &[u8]) -> bool
+    ensures { result ≡ same_prefix (declared_prefix given.now.name) prefix.now }
+{
+    match declared_prefix(&given.name) {
+        Some(declared) => declared == prefix,
+        None => false,
+    }
+}
+
+/// Whether of the prefix `xml` and its namespace one is bound without the other (Namespaces §3).
+fn is_xml_apart(prefix: &[u8], namespace: &[u8]) -> bool
+    ensures { result ≡ (if bytes_eq prefix.now (codes "xml") then not (bytes_eq namespace.now xml_namespace) else bytes_eq namespace.now xml_namespace) }
+{
+    if prefix == XML {
+        namespace != XML_NAMESPACE
+    } else {
+        namespace == XML_NAMESPACE
+    }
+}
+
+/// Whether a prefix may not be bound to the namespace: `xmlns`, `xml` to another one, any to a
+/// reserved one, or one that is not the default to none (Namespaces §3, §5).
+pub(crate) fn is_bad_declaration(prefix: &[u8], namespace: &[u8]) -> bool
+    ensures { result ≡ is_bad_declaration (Some prefix.now) namespace.now }
+{
+    if prefix == XMLNS || is_xml_apart(prefix, namespace) || namespace == XMLNS_NAMESPACE {
+        return true;
+    }
+    !is_empty(prefix) && is_empty(namespace)
+}
+
+/// The namespace that the last of these declarations of the prefix binds it to.
+pub(crate) fn bound_by<'a>(declared: &'a [Given], prefix: &[u8]) -> Option<&'a [u8]>
+    ensures { option_copied result ≡ bound_by (reverse declared.now) prefix.now }
+{
+    let mut left = declared;
+    while let Some((last, others)) = left.split_last() {
+        if declares(last, prefix) {
+            return Some(last.value.bytes());
+        }
+        left = others;
+    }
+    None
+}
+
+/// The namespace that a prefix has without a declaration (Namespaces §3, §6.2).
+fn bound_ahead(prefix: &[u8]) -> Option<&'static [u8]>
+    ensures { option_copied result ≡ namespace_of [] prefix.now }
+{
+    if is_empty(prefix) {
+        Some(b"")
+    } else if prefix == XML {
+        Some(XML_NAMESPACE)
+    } else {
+        None
+    }
+}
+
+/// The namespace of a prefix, the empty one for the default, by the declarations of the open tags,
+/// the innermost last; `None` where it is not bound (Namespaces §6.1, §6.2).
+pub(crate) fn namespace_of<'a>(declared: &'a [Given], prefix: &[u8]) -> Option<&'a [u8]>
+    ensures { (tags : List Opening) → IsDeclared declared.now tags → option_copied result ≡ namespace_of tags prefix.now }
+{
+    match bound_by(declared, prefix) {
+        Some(bound) => Some(bound),
+        None => bound_ahead(prefix),
+    }
+}

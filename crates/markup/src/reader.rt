@@ -1,0 +1,214 @@
+// A reader of XML that takes a byte at a time.
+ghost use Rattle.std.specs.Prelude.{◌≡◌, ◌<◌, ◌≤◌, ◌^◌, ◌+◌, ◌∷◌, ◌++◌, ℕ, List, [], IfOk, IfErr, OnOk, IsTrue, IsFalse, Some, None, Err};
+ghost use Rattle.lexical_core.specs.declared.rule.Rule.TheVariants.{Truncated};
+ghost use Rattle.markup.specs.Token.{Token};
+ghost use Rattle.markup.specs.Marks.{in_cdata};
+ghost use Rattle.markup.specs.Faults.{MarkFault as HasMarkFault};
+ghost use Rattle.markup.specs.ScanRuns.{ended_of, draft_of};
+ghost use Rattle.markup.specs.Contexts.{IsContext};
+ghost use Rattle.markup.specs.Tokenizers.{IsAwaited, FinishesBy};
+ghost use Rattle.markup.specs.ReaderSteps.{TellsMore, SettlesEvents, TokenAnswered, returned};
+ghost use Rattle.markup.specs.Events.{Placed};
+ghost use Rattle.markup.specs.EventItems.{Tells};
+ghost use Rattle.markup.specs.Reading.{taken, failed, HasTaken, Keeps, GoesOn, Stops, IsWholly, EndsEarly, RunsOut};
+ghost use Rattle.markup.specs.Inputs.{Any, Begins, is_return};
+
+use crate::context::Context;
+use crate::draft::Draft;
+use crate::event::Events;
+use crate::scan::Ended;
+use crate::scope::Stop;
+use crate::tokenizer::{Finish, Progress, Settled, Tokenizer};
+use lexical_core::Rule;
+use std::alloc::{AllocError, Global};
+
+/// A fault of markup: the least rule that is broken first, and its place in bytes from 0.
+#[derive(Clone, Copy, Debug, PartialEq, Eq)]
+pub struct MarkFault {
+    pub rule: Rule,
+    pub place: u64,
+}
+
+/// Why a reader does not go on.
+#[derive(Clone, Copy, Debug, PartialEq, Eq)]
+pub enum MarkError {
+    /// The bytes have this fault.
+    Refused(MarkFault),
+    /// There was no memory.
+    Memory,
+}
+
+/// A reader of the XML profile (XML 1.0, fifth edition, and Namespaces in XML 1.0). It keeps the
+/// open token and the names and declarations of the open elements, and nothing of closed ones.
+#[derive(Drop)]
+pub struct Reader {
+    tokenizer: Tokenizer,
+    context: Context,
+    failed: Option<MarkError>,
+}
+
+impl Reader {
+    /// A reader before the first byte. It takes no memory.
+    pub fn new(alloc: Global) -> Reader
+        ensures taken { HasTaken result [] [] }
+        ensures none { taken result ≡ 0 }
+    {
+        Reader {
+            tokenizer: Tokenizer::new(alloc),
+            context: Context::new(alloc),
+            failed: None,
+        }
+    }
+
+    /// Takes the next byte, and appends the events that it shows. After an error the reader gives
+    /// the same answer to every later call.
+    pub fn take(&mut self, byte: u8, out: &mut Events) -> Result<(), MarkError>
+        requires { failed self.old ≡ None → taken self.old < 2 ^ 40 }
+        ensures ok { (bytes : List ℕ) (told : List Placed) → HasTaken self.old bytes told →
+            IfOk result (λ _. GoesOn self.new (bytes ++ byte ∷ []) told out.old out.new) }
+        ensures err { (bytes : List ℕ) (told : List Placed) → HasTaken self.old bytes told →
+            IfErr result (λ e. Stops (bytes ++ byte ∷ []) told out.old out.new e) }
+        ensures failed { IfErr result (λ e. failed self.new ≡ Some e) }
+        ensures again { (e : MarkError) → failed self.old ≡ Some e → (result ≡ Err e) × (self.new ≡ self.old) × (out.new ≡ out.old) }
+        ensures count { IfOk result (λ _. taken self.new ≡ taken self.old + 1) }
+    {
+        if let Some(error) = self.failed {
+            return Err(error);
+        }
+        let result = self.step(byte, out);
+        if let Err(error) = result {
+            self.failed = Some(error);
+        }
+        result
+    }
+
+    /// The end of the input. It appends no event.
+    pub fn finish(&mut self, out: &mut Events) -> Result<(), MarkError>
+        ensures ok { (bytes : List ℕ) (told : List Placed) → HasTaken self.old bytes told →
+            IfOk result (λ _. IsWholly bytes told) }
+        ensures err { (bytes : List ℕ) (told : List Placed) → HasTaken self.old bytes told →
+            IfErr result (λ e. EndsEarly bytes e) }
+        ensures failed { IfErr result (λ e. failed self.new ≡ Some e) }
+        ensures again { (e : MarkError) → failed self.old ≡ Some e → (result ≡ Err e) × (self.new ≡ self.old) }
+        ensures same { out.new ≡ out.old }
+    {
+        let _ = out;
+        if let Some(error) = self.failed {
+            return Err(error);
+        }
+        if self.is_whole() {
+            return Ok(());
+        }
+        let error = MarkError::Refused(MarkFault {
+            rule: Rule::Truncated,
+            place: self.tokenizer.place(),
+        });
+        self.failed = Some(error);
+        Err(error)
+    }
+
+    /// Takes the next byte, where the reader has not failed.
+    fn step(&mut self, byte: u8, out: &mut Events) -> Result<(), MarkError>
+        requires { taken self.old < 2 ^ 40 }
+        ensures ok { (bytes : List ℕ) (told : List Placed) → HasTaken self.old bytes told →
+            IfOk result (λ _. GoesOn self.new (bytes ++ byte ∷ []) told out.old out.new) }
+        ensures err { (bytes : List ℕ) (told : List Placed) → HasTaken self.old bytes told →
+            IfErr result (λ e. Stops (bytes ++ byte ∷ []) told out.old out.new e) }
+        ensures count { IfOk result (λ _. taken self.new ≡ taken self.old + 1) }
+    {
+        if self.settle(byte, out).is_err() {
+            return Err(MarkError::Memory);
+        }
+        self.advance(byte, out)
+    }
+
+    /// Tells what the byte does not go on with.
+    fn settle(&mut self, byte: u8, out: &mut Events) -> Result<(), AllocError>
+        requires { taken self.old < 2 ^ 40 }
+        ensures ok { (bytes : List ℕ) (told : List Placed) → HasTaken self.old bytes told →
+            IfOk result (λ _. SettlesEvents self.new bytes told byte out.old out.new) }
+        ensures err { (bytes : List ℕ) (told : List Placed) → HasTaken self.old bytes told →
+            IfErr result (λ _. RunsOut (bytes ++ byte ∷ []) told out.old out.new) }
+        ensures place { taken self.new ≡ taken self.old }
+    {
+        let place = self.tokenizer.start();
+        let settled = self.tokenizer.settle(byte);
+        self.context.settle(settled, place, out)
+    }
+
+    /// Takes a byte that what is open goes on with.
+    fn advance(&mut self, byte: u8, out: &mut Events) -> Result<(), MarkError>
+        requires { taken self.old < 2 ^ 40 }
+        ensures ok { (bytes : List ℕ) (tokens : List Token) (told : List Placed) → Keeps (Begins byte) self.old bytes tokens told → IsAwaited self.old.tokenizer.scan byte →
+            IfOk result (λ _. TellsMore Any self.new (bytes ++ byte ∷ []) told out.old out.new) }
+        ensures err { (bytes : List ℕ) (tokens : List Token) (told : List Placed) → Keeps (Begins byte) self.old bytes tokens told → IsAwaited self.old.tokenizer.scan byte →
+            IfErr result (λ e. Stops (bytes ++ byte ∷ []) told out.old out.new e) }
+        ensures count { IfOk result (λ _. taken self.new ≡ taken self.old + 1) }
+    {
+        let place = self.tokenizer.start();
+        let cdata = self.tokenizer.in_cdata();
+        let is_told = self.has_open_return();
+        match self.tokenizer.advance(byte) {
+            Ok(Progress::More) => self.tell_return(place, out),
+            Ok(Progress::Token(ended, draft)) => {
+                if is_told {
+                    self.context.pass_line_end();
+                    Ok(())
+                } else {
+                    self.take_token(ended, draft, cdata, place, out)
+                }
+            }
+            Ok(Progress::Refused(rule)) => Err(MarkError::Refused(MarkFault { rule, place })),
+            Err(_) => Err(MarkError::Memory),
+        }
+    }
+
+    /// Whether a CR is open, which an LF may join.
+    fn has_open_return(&self) -> bool
+        ensures { (f : Finish) × FinishesBy self.now.tokenizer f × (result ≡ is_return f) }
+    {
+        matches!(self.tokenizer.finish(), Finish::Return)
+    }
+
+    /// Tells a CR that has come.
+    fn tell_return(&self, place: u64, out: &mut Events) -> Result<(), MarkError>
+        ensures ok { OnOk result ((f : Finish) × FinishesBy self.now.tokenizer f × Tells out.old out.new (returned f place)) }
+        ensures err { IfErr result (λ e. (e ≡ MarkError.Memory) × (out.new ≡ out.old)) }
+    {
+        if self.has_open_return() && self.context.tell_line_end(place, out).is_err() {
+            return Err(MarkError::Memory);
+        }
+        Ok(())
+    }
+
+    /// Takes a token that has ended.
+    fn take_token(
+        &mut self,
+        ended: Ended,
+        draft: Draft,
+        cdata: bool,
+        place: u64,
+        out: &mut Events,
+    ) -> Result<(), MarkError>
+        ensures token { (before : List Token) (t : Token) → IsContext self.old.context before → ended_of t ≡ ended → draft_of t ≡ draft → in_cdata before ≡ cdata →
+            TokenAnswered before t place out.old out.new self.new.context result }
+        ensures rest { (self.new.tokenizer ≡ self.old.tokenizer) × (self.new.failed ≡ self.old.failed) }
+    {
+        match self.context.take(ended, draft, cdata, place, out) {
+            Ok(()) => Ok(()),
+            Err(Stop::Rule(rule)) => Err(MarkError::Refused(MarkFault { rule, place })),
+            Err(Stop::Memory) => Err(MarkError::Memory),
+        }
+    }
+
+    /// Whether the bytes so far are whole.
+    fn is_whole(&self) -> bool
+        ensures whole { (bytes : List ℕ) (told : List Placed) → HasTaken self.now bytes told → IsTrue result → IsWholly bytes told }
+        ensures cut { (bytes : List ℕ) (told : List Placed) → HasTaken self.now bytes told → IsFalse result → HasMarkFault bytes (record { rule = Truncated; place = self.now.tokenizer.place }) }
+    {
+        match self.tokenizer.finish() {
+            Finish::Open => false,
+            _ => self.context.is_over(),
+        }
+    }
+}

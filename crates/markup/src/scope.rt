@@ -1,0 +1,250 @@
+// The elements that are open, with the namespaces that their tags declare.
+ghost use Rattle.std.specs.Prelude.{◌≡◌, ◌==◌, ◌-◌, ◌++◌, ◌∷◌, List, [], ℕ, length, take, IfOk, OnOk, OnErr, Some, Option, map, false, true, ◌&&◌};
+ghost use Rattle.markup.specs.Events.{namespace_of, element_name, started, ended, expanded};
+ghost use Rattle.markup.specs.EventItems.{entry_of, Tells, TellsFront};
+ghost use Rattle.markup.specs.Scopes.{IsDeclared, placed_at};
+ghost use Rattle.std.specs.Str.{bytes_eq};
+
+use crate::attributes::{Expanded, Parted, text_of};
+use crate::event::{Attrs, Events};
+use crate::names::namespace_of;
+use crate::tag::{Given, Opening, Spelled};
+use crate::telling::{tell_both, tell_end, tell_start};
+use lexical_core::{Items, Rule, Text};
+use std::alloc::{AllocError, Global};
+
+/// Why an element is not told.
+pub(crate) enum Stop {
+    /// A tag breaks this rule.
+    Rule(Rule),
+    /// There was no memory.
+    Memory,
+}
+
+/// The name of an open element as its start tag spells it, and how many namespaces that tag declares.
+#[derive(Drop)]
+pub(crate) struct OpenName {
+    name: Spelled,
+    declared: usize,
+}
+
+/// What a start tag says under the tags that are open before it.
+#[derive(Drop)]
+pub(crate) struct Resolved {
+    /// The namespace of the element; `None` where its prefix is bound to nothing.
+    namespace: Option<Text>,
+    attrs: Attrs,
+    /// How many namespaces the tag declares.
+    declared: usize,
+    /// Whether two declarations or two attributes have one name.
+    has_clash: bool,
+    /// Whether a declaration may not be, or an attribute's prefix is bound to nothing.
+    is_bad: bool,
+}
+
+/// The open elements, the outermost first.
+#[derive(Drop)]
+pub(crate) struct Scope {
+    alloc: Global,
+    names: Vec<OpenName>,
+    /// The declarations of the open tags: the outermost tag's first, and those of one tag in reverse.
+    declared: Vec<Given>,
+}
+
+impl Scope {
+    ghost use Rattle.markup.specs.Scopes.{IsScope, Begins, Closes};
+    ghost use Rattle.markup.specs.TagParts.{IsResolved};
+
+    /// No element is open. It takes no memory.
+    pub(crate) fn new(alloc: Global) -> Scope
+        ensures { IsScope result [] }
+    {
+        Scope {
+            alloc,
+            names: Vec::new(alloc),
+            declared: Vec::new(alloc),
+        }
+    }
+
+    /// Whether no element is open.
+    pub(crate) fn is_outside(&self) -> bool
+        ensures { (tags : List Opening) → IsScope self.now tags → result ≡ (length tags == 0) }
+    {
+        self.names.is_empty()
+    }
+
+    /// A start tag at the place: tells its events, or the least rule that it breaks. `over`: the root
+    /// has come and is closed. The tag of an empty element opens and closes it (XML 1.0 §3.1;
+    /// Namespaces §6). Behind an error the scope is of no more use.
+    pub(crate) fn begin(
+        &mut self,
+        tag: Opening,
+        over: bool,
+        place: u64,
+        out: &mut Events,
+    ) -> Result<(), Stop>
+        ensures { (tags : List Opening) → IsScope self.old tags → Begins over tags tag place out.old out.new self.new result }
+    {
+        let Opening {
+            name,
+            given,
+            is_empty,
+        } = tag;
+        let Ok(resolved) = self.resolve(&name, given) else {
+            return Err(Stop::Memory);
+        };
+        let Resolved {
+            namespace,
+            attrs,
+            declared,
+            has_clash,
+            is_bad,
+        } = resolved;
+        if has_clash {
+            return Err(Stop::Rule(Rule::DuplicateAttribute));
+        }
+        let Some(ns) = namespace else {
+            return Err(Stop::Rule(Rule::BadPrefix));
+        };
+        if is_bad {
+            return Err(Stop::Rule(Rule::BadPrefix));
+        }
+        if over {
+            return Err(Stop::Rule(Rule::AfterRoot));
+        }
+        if is_empty {
+            return match self.pass(name, declared, ns, attrs, place, out) {
+                Ok(()) => Ok(()),
+                Err(_) => Err(Stop::Memory),
+            };
+        }
+        match self.open(name, declared, ns, attrs, place, out) {
+            Ok(()) => Ok(()),
+            Err(_) => Err(Stop::Memory),
+        }
+    }
+
+    /// Takes up the declarations of a start tag, and expands its names.
+    fn resolve(&mut self, name: &Spelled, given: Items<Given>) -> Result<Resolved, AllocError>
+        ensures { (tags : List Opening) (tag : Opening) → IsScope self.old tags → tag.name ≡ name.now → tag.given ≡ given → IfOk result (λ r. IsResolved tags tag r self.new) }
+    {
+        let Parted {
+            mut declared,
+            attributes,
+            has_clash,
+            is_bad,
+        } = Parted::of(given, self.alloc)?;
+        let count = declared.len();
+        self.declared.append(&mut declared)?;
+        let all = self.declared.as_slice();
+        let namespace = namespace_text(all, name.prefix.bytes(), self.alloc)?;
+        let expanded = Expanded::of(attributes, all, self.alloc)?;
+        Ok(Resolved {
+            namespace,
+            attrs: Items::from_vec(expanded.attrs),
+            declared: count,
+            has_clash: has_clash | expanded.has_clash,
+            is_bad: is_bad | expanded.is_unbound,
+        })
+    }
+
+    /// Opens the element of a start tag that breaks no rule, and tells that it starts.
+    fn open(
+        &mut self,
+        name: Spelled,
+        declared: usize,
+        ns: Text,
+        attrs: Attrs,
+        place: u64,
+        out: &mut Events,
+    ) -> Result<(), AllocError>
+        ensures names { OnOk result (self.new.names.items ≡ self.old.names.items ++ (record { name = name; declared = declared }) ∷ []) }
+        ensures declared { self.new.declared.items ≡ self.old.declared.items }
+        ensures ok { OnOk result (Tells out.old out.new (placed_at place (started (expanded (Some ns) name.local) (map entry_of attrs) false))) }
+        ensures err { OnErr result (out.new ≡ out.old) }
+    {
+        let local = name.local.copy(self.alloc)?;
+        self.names.push(OpenName { name, declared })?;
+        tell_start(out, place, ns, local, attrs)
+    }
+
+    /// Tells that the empty element of a start tag that breaks no rule starts and ends, and forgets
+    /// the tag's declarations.
+    fn pass(
+        &mut self,
+        name: Spelled,
+        declared: usize,
+        ns: Text,
+        attrs: Attrs,
+        place: u64,
+        out: &mut Events,
+    ) -> Result<(), AllocError>
+        ensures names { self.new.names.items ≡ self.old.names.items }
+        ensures declared { self.new.declared.items ≡ take (length self.old.declared.items - declared) self.old.declared.items }
+        ensures ok { OnOk result (Tells out.old out.new (placed_at place (started (expanded (Some ns) name.local) (map entry_of attrs) true))) }
+        ensures err { OnErr result (TellsFront out.old out.new (placed_at place (started (expanded (Some ns) name.local) (map entry_of attrs) true))) }
+    {
+        self.forget(declared);
+        tell_both(out, place, ns, name.local, attrs, self.alloc)
+    }
+
+    /// Forgets this many declarations, the latest ones.
+    fn forget(&mut self, count: usize)
+        ensures names { self.new.names.items ≡ self.old.names.items }
+        ensures declared { self.new.declared.items ≡ take (length self.old.declared.items - count) self.old.declared.items }
+    {
+        let left = self.declared.len().saturating_sub(count);
+        self.declared.truncate(left);
+    }
+
+    /// An end tag at the place: tells its event, or the rule that it breaks (XML 1.0 §3.1, Element
+    /// Type Match). Behind an error the scope is of no more use.
+    pub(crate) fn close(&mut self, name: &Spelled, place: u64, out: &mut Events) -> Result<(), Stop>
+        ensures { (tags : List Opening) → IsScope self.old tags → Closes tags name.now place out.old out.new self.new result }
+    {
+        let Some(innermost) = self.names.pop() else {
+            return Err(Stop::Rule(Rule::TagMismatch));
+        };
+        if !is_spelled(&innermost.name, name) {
+            return Err(Stop::Rule(Rule::TagMismatch));
+        }
+        match self.end(innermost, place, out) {
+            Ok(()) => Ok(()),
+            Err(_) => Err(Stop::Memory),
+        }
+    }
+
+    /// Tells that the innermost element ends, whose name was taken away, and forgets its declarations.
+    fn end(&mut self, innermost: OpenName, place: u64, out: &mut Events) -> Result<(), AllocError>
+        ensures names { self.new.names.items ≡ self.old.names.items }
+        ensures declared { OnOk result (self.new.declared.items ≡ take (length self.old.declared.items - innermost.declared) self.old.declared.items) }
+        ensures ok { (tags : List Opening) → IsDeclared self.old.declared.items tags → OnOk result (Tells out.old out.new (placed_at place (ended (element_name tags innermost.name)))) }
+        ensures err { OnErr result (out.new ≡ out.old) }
+    {
+        let prefix = innermost.name.prefix.bytes();
+        let namespace = namespace_text(self.declared.as_slice(), prefix, self.alloc)?;
+        self.forget(innermost.declared);
+        tell_end(out, place, namespace, innermost.name.local)
+    }
+}
+
+/// The namespace of a prefix as a text of its own; `None` where it is not bound.
+fn namespace_text(
+    declared: &[Given],
+    prefix: &[u8],
+    alloc: Global,
+) -> Result<Option<Text>, AllocError>
+    ensures { (tags : List Opening) → IsDeclared declared.now tags → IfOk result (λ (n : Option (List ℕ)). n ≡ namespace_of tags prefix.now) }
+{
+    match namespace_of(declared, prefix) {
+        Some(namespace) => Ok(Some(text_of(namespace, alloc)?)),
+        None => Ok(None),
+    }
+}
+
+/// Whether two names are spelled alike.
+fn is_spelled(left: &Spelled, right: &Spelled) -> bool
+    ensures { result ≡ (bytes_eq left.now.prefix right.now.prefix && bytes_eq left.now.local right.now.local) }
+{
+    left.prefix.bytes() == right.prefix.bytes() && left.local.bytes() == right.local.bytes()
+}
