@@ -7,7 +7,7 @@ use Rattle.repo_engine.specs.declared.repository.document.EntryLine.{EntryLine}
 use Rattle.repo_engine.specs.PlainRepository.{Entry, IsEntry, AreDistinct, ids_of}
 use Rattle.repo_engine.specs.PlainReading.{entry_of}
 use Rattle.repo_engine.specs.PlainContents.{named_of}
-use Rattle.repo_engine.proofs.FormFields.{Contains-first, Contains-map}
+use Rattle.repo_engine.proofs.OneEntry.{Contains-first, Contains-map}
 
 -- the entry of a line is allowed
 pub entry_at : (es : List EntryLine) (i : ℕ) (d : EntryLine) → i < length es → AllByRecursion IsEntry (map entry_of es) → IsEntry (entry_of (get_or es i d))

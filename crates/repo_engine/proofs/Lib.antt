@@ -5,13 +5,10 @@ pub mod Checked
 pub mod Concluded
 pub mod Lines
 pub mod OneAnswer
-pub mod TextCharacters
-pub mod CharacterRuns
-pub mod FormCompletion
-pub mod FormFields
+pub mod OneEntry
 pub mod MessageFields
 pub mod MessageElements
-pub mod InstanceReading
+pub mod Consumed
 pub mod RepositoryFields
 pub mod RepositoryLines
 pub mod RepositoryLists
@@ -22,3 +19,8 @@ pub mod RepositoryValid
 pub mod RepositoryLaws
 pub mod DeclaredTexts
 pub mod DeclaredLists
+pub mod AdmissionGrammar
+pub mod AdmissionSteps
+pub mod XmlReadings
+pub mod XmlVerdicts
+pub mod XmlForms

@@ -10,10 +10,9 @@ use Rattle.repo_objects.specs.Repository.{Entry as Named, Contents, ids_of as na
 use Rattle.repo_engine.specs.declared.instance.fields.Field.{Field}
 use Rattle.repo_engine.specs.PlainRepository.{Entry, Block, Plain, ids_of}
 use Rattle.repo_engine.specs.PlainContents.{named_of, object_of, element_of, message_of, contents_of, Declares, HasType}
-use Rattle.repo_engine.specs.InstanceForm.{Outline, Completes}
-use Rattle.repo_engine.specs.InstanceFields.{IsFieldFor, IsFieldOf, IsInstance, HasInstances}
+use Rattle.repo_engine.specs.InstanceFields.{IsFieldFor, IsFieldOf}
 use Rattle.repo_engine.proofs.RepositoryFields.{some_is}
-use Rattle.repo_engine.proofs.FormFields.{Contains-first, Contains-after, instances_of}
+use Rattle.repo_engine.proofs.OneEntry.{Contains-first, Contains-after}
 
 -- the objects have the ids of the entries
 ids_same : (es : List Entry) → ids_of es ≡ named_ids (map named_of es)
@@ -67,20 +66,8 @@ field_for p f b h =
       most_is = h.most_is ∙ ap (λ (o : Object). unwrap_or o.facets.max_length 4294967295) (sym object);
     }
 
-fields_for : (p : Plain) (fs : List Field) (bs : List Block) → AllZip (IsFieldOf (contents_of p)) fs (map element_of bs) → AllZip (IsFieldFor p.entries) fs bs
+pub fields_for : (p : Plain) (fs : List Field) (bs : List Block) → AllZip (IsFieldOf (contents_of p)) fs (map element_of bs) → AllZip (IsFieldFor p.entries) fs bs
 fields_for p [] [] all = tt
 fields_for p [] (b ∷ bs) all = absurd all
 fields_for p (f ∷ fs) [] all = absurd all
 fields_for p (f ∷ fs) (b ∷ bs) all = (field_for p f b all.0, fields_for p fs bs all.1)
-
--- the form of these elements is that of the message's instances
-pub form_is : (contents : Contents) (message : MessageDef) (id tag : List ℕ) (blocks : List ElementDef) (fs : List Field) (form : Outline)
-    → Some message ≡ slice_get contents.messages 0 → id ≡ message.id → tag ≡ message.tag → blocks ≡ message.blocks
-    → AllZip (IsFieldOf contents) fs blocks → HasInstances id tag fs form
-    → (p : Plain) → Declares p contents → (bytes : List ℕ) → Completes form.parts form.last bytes ↔ IsInstance p bytes
-form_is contents message id tag blocks fs form found id_is tag_is blocks_are fields instances p declares =
-    let is : message ≡ message_of p = message_is p contents message declares.1 found in
-    let here : AllZip (IsFieldOf (contents_of p)) fs blocks = subst (λ (c : Contents). AllZip (IsFieldOf c) fs blocks) declares.1 fields in
-    let blocks_is : blocks ≡ map element_of p.blocks = blocks_are ∙ ap (λ (m : MessageDef). m.blocks) is in
-    instances_of p id tag fs form instances declares.0 (id_is ∙ ap (λ (m : MessageDef). m.id) is) (tag_is ∙ ap (λ (m : MessageDef). m.tag) is)
-    (fields_for p fs p.blocks (subst (λ (bs : List ElementDef). AllZip (IsFieldOf (contents_of p)) fs bs) blocks_is here))

@@ -3,7 +3,7 @@ use Rattle.std.specs.Prelude.{◌≡◌, ◌≢◌, ℕ, List, ◌++◌, codes}
 use Rattle.repo_engine.specs.declared.status.Status.{Status}
 use Rattle.repo_engine.specs.declared.status.Status.TheVariants.{Done, Words, Repository, Message, Instance, ReadFault, WriteFault, Memory}
 use Rattle.repo_engine.specs.PlainRepository.{Plain, id_of, SpellsRepository, IsNoRepository}
-use Rattle.repo_engine.specs.PlainInstance.{SpellsInstance, IsNoInstance}
+use Rattle.repo_engine.specs.XmlRefusal.{IsAccepted, RefusesInstance}
 use Rattle.repo_engine.specs.Words.{HasForm, check_xml, IsUnlisted}
 
 -- an answer that the words and the bytes decide
@@ -21,8 +21,8 @@ no_message id = codes "refused: message M1 at " ++ (id ++ codes "\n")
 -- the instance is refused, or it is accepted.
 abbrev pub Checks : Plain → List ℕ → List ℕ → Status → List ℕ → Type 0
 Checks p id i Message text = (id_of p ≢ id) × (text ≡ no_message id)
-Checks p id i Instance text = (id_of p ≡ id) × IsNoInstance p i × (text ≡ codes "refused: instance not plain\n")
-Checks p id i Done text = (id_of p ≡ id) × ((ts : List (List ℕ)) × SpellsInstance p i ts) × (text ≡ codes "accepted\n")
+Checks p id i Instance text = (id_of p ≡ id) × RefusesInstance p i text
+Checks p id i Done text = (id_of p ≡ id) × IsAccepted p i × (text ≡ codes "accepted\n")
 Checks p id i status text = ⊥
 
 -- the same where r spells the repository

@@ -3,6 +3,7 @@ use Rattle.std.specs.Prelude.{ℕ}
 use Rattle.repo_engine.specs.declared.status.Status.{Status}
 use Rattle.repo_engine.specs.declared.status.Status.TheVariants.{Done, Words, Repository, Codes, Message, Instance, ReadFault, WriteFault, Memory}
 
+-- the number that the program ends with
 abbrev pub code_of : Status → ℕ
 code_of Done = 0
 code_of Words = 1

@@ -1,6 +1,5 @@
 pub mod PlainNames
 pub mod PlainRepository
-pub mod PlainInstance
 pub mod PlainReading
 pub mod PlainContents
 pub mod Words
@@ -9,8 +8,11 @@ pub mod Reading
 pub mod Line
 pub mod Answer
 pub mod Run
-pub mod InstanceForm
-pub mod InstanceText
-pub mod InstanceChecker
 pub mod InstanceFields
-pub mod InstanceCheck
+pub mod XmlInstance
+pub mod XmlForm
+pub mod XmlRefusal
+pub mod XmlVerdict
+pub mod XmlReading
+pub mod XmlFormFields
+pub mod Admission

@@ -32,6 +32,7 @@ id_of p = id_spelling p.id
 
 -- ---- the spelling
 
+-- the lines before the dictionary's entries
 abbrev pub header : List ℕ
 header = codes "<iso20022:Repository xmlns:iso20022=\"urn:iso:std:iso:20022:2013:ecore\" xmlns:xmi=\"http://www.omg.org/XMI\" xmlns:xsi=\"http://www.w3.org/2001/XMLSchema-instance\">\n<dataDictionary>\n"
 
@@ -43,10 +44,12 @@ entry_then e rest = codes "<topLevelDictionaryEntry xsi:type=\"iso20022:Text\" x
     ++ (codes "\" maxLength=\"" ++ (e.most
     ++ (codes "\"/>\n" ++ rest))))))))
 
+-- the lines of the dictionary's entries, and what follows them
 abbrev pub entries_then : List Entry → List ℕ → List ℕ
 entries_then [] rest = rest
 entries_then (e ∷ es) rest = entry_then e (entries_then es rest)
 
+-- from the end of the dictionary to the name of the message
 abbrev pub middle : List ℕ
 middle = codes "</dataDictionary>\n<businessProcessCatalogue><topLevelCatalogueEntry>\n<messageDefinition name=\""
 
@@ -57,10 +60,12 @@ block_then b rest = codes "<messageBuildingBlock name=\"" ++ (b.name
     ++ (codes "\" minOccurs=\"1\" maxOccurs=\"1\" simpleType=\"" ++ (b.entry
     ++ (codes "\"/>\n" ++ rest))))))
 
+-- the lines of the building blocks, and what follows them
 abbrev pub blocks_then : List Block → List ℕ → List ℕ
 blocks_then [] rest = rest
 blocks_then (b ∷ bs) rest = block_then b (blocks_then bs rest)
 
+-- the lines after the identifier's version
 abbrev pub footer : List ℕ
 footer = codes "\"/>\n</messageDefinition>\n</topLevelCatalogueEntry></businessProcessCatalogue>\n</iso20022:Repository>\n"
 
@@ -80,6 +85,7 @@ repository_spelling p = header ++ entries_then p.entries (middle ++ (p.name
 
 -- ---- what makes it valid
 
+-- the id and the name of the entry are names, and its numbers are numbers of which the least is not above the greatest
 pub record IsEntry (e : Entry) : Type 0 where
   pub id_is : IsName e.id
   pub name_is : IsName e.name
@@ -87,6 +93,7 @@ pub record IsEntry (e : Entry) : Type 0 where
   pub most_is : IsNumber e.most
   pub ordered : number_of e.least ≤ number_of e.most
 
+-- the values of the building block are names
 pub record IsBlock (b : Block) : Type 0 where
   pub name_is : IsName b.name
   pub tag_is : IsName b.tag
@@ -97,9 +104,11 @@ abbrev pub AreDistinct : List (List ℕ) → Type 0
 AreDistinct [] = Unit {0}
 AreDistinct (x ∷ xs) = (Contains xs x → ⊥) × AreDistinct xs
 
+-- the ids of the entries
 abbrev pub ids_of : List Entry → List (List ℕ)
 ids_of es = map (λ (e : Entry). e.id) es
 
+-- the tags of the building blocks
 abbrev pub tags_of : List Block → List (List ℕ)
 tags_of bs = map (λ (b : Block). b.tag) bs
 
@@ -107,6 +116,8 @@ tags_of bs = map (λ (b : Block). b.tag) bs
 abbrev pub type_names_of : Plain → List (List ℕ)
 type_names_of p = codes "Document" ∷ (p.name ∷ map (λ (e : Entry). e.name) p.entries)
 
+-- each value is allowed, each list has 1 to 4,096 lines, no two ids, tags or type names are one, and the entry
+-- that a building block names is there
 pub record IsPlain (p : Plain) : Type 0 where
   pub entries_are : AllByRecursion IsEntry p.entries
   pub blocks_are : AllByRecursion IsBlock p.blocks

@@ -1,5 +1,5 @@
 -- What the top call promises.
-use Rattle.std.specs.Prelude.{◌≡◌, ℕ, ◌≤◌, ◌⊎◌, List, Option, Some, codes}
+use Rattle.std.specs.Prelude.{◌≡◌, ℕ, ◌<◌, ◌≤◌, ◌⊎◌, List, length, Option, Some, codes}
 use Rattle.std.specs.Io.KnownBytes.{Appends, Keeps}
 use Rattle.outside.specs.Sink.{AppendsFront}
 use Rattle.repo_engine.specs.declared.status.Status.{Status}
@@ -7,6 +7,7 @@ use Rattle.repo_engine.specs.declared.status.Status.TheVariants.{Done, Words, Re
 use Rattle.repo_objects.specs.MessageId.{IsMessageId}
 use Rattle.repo_engine.specs.Words.{HasForm, check_xml, Asks, PullsRepository, PullsCodes, PullsInstance}
 use Rattle.repo_engine.specs.PlainRepository.{Plain, id_of, SpellsRepository}
+use Rattle.repo_engine.specs.XmlRefusal.{IsInstanceLine}
 use Rattle.repo_engine.specs.Answer.{Answer, no_message}
 
 -- the sources that the words ask for have these bytes left
@@ -50,7 +51,7 @@ IsLineOf Words line = line ≡ codes "refused: words\n"
 IsLineOf Repository line = line ≡ codes "refused: repository not plain\n"
 IsLineOf Codes line = ⊥
 IsLineOf Message line = (id : List ℕ) × IsMessageId id × (line ≡ no_message id)
-IsLineOf Instance line = line ≡ codes "refused: instance not plain\n"
+IsLineOf Instance line = IsInstanceLine line
 IsLineOf ReadFault line = line ≡ codes "failed: read\n"
 IsLineOf WriteFault line = line ≡ codes "failed: write\n"
 IsLineOf Memory line = line ≡ codes "failed: memory\n"
@@ -62,6 +63,14 @@ IsNoted Done room = ⊥
 IsNoted Memory room = ⊥
 IsNoted WriteFault room = 14 ≤ room
 IsNoted _ room = Unit {0}
+
+-- some line that may be noted is longer than the room
+abbrev pub IsNarrow : ℕ → Type 0
+IsNarrow room = (status : Status) × (line : List ℕ) × IsLineOf status line × (room < length line)
+
+-- want of memory is noted, where the notes had room for each line
+abbrev pub IsMemoryNoted : ℕ → Option (List ℕ) → Option (List ℕ) → Type 0
+IsMemoryNoted room old new = IsNarrow room ⊎ Appends old new (codes "failed: memory\n")
 
 -- the answers after which out holds what it held
 abbrev pub LeavesOut : Status → Type 0

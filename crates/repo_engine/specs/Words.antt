@@ -19,13 +19,15 @@ HasForm ws (check_xml id) = (repository : List ℕ) × (ws ≡ codes "check-xml"
 abbrev pub IsUnlisted : List (List ℕ) → Type 0
 IsUnlisted ws = (command : Command) → HasForm ws command → ⊥
 
--- which sources a command pulls from
+-- the commands that pull from the repository
 abbrev pub PullsRepository : Command → Type 0
 PullsRepository (check_xml _) = Unit {0}
 
+-- the commands that pull from the external codes
 abbrev pub PullsCodes : Command → Type 0
 PullsCodes (check_xml _) = ⊥
 
+-- the commands that pull from the instance
 abbrev pub PullsInstance : Command → Type 0
 PullsInstance (check_xml _) = Unit {0}
 

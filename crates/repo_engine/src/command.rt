@@ -4,7 +4,7 @@ ghost use Rattle.std.specs.Io.KnownBytes.{Appends, IsAtEnd};
 ghost use Rattle.outside.specs.Source.{Rose};
 ghost use Rattle.outside.specs.Sink.{AppendsFront};
 ghost use Rattle.repo_engine.specs.Words.{texts, HasForm, check_xml, IsUnlisted, Asks, PullsRepository, PullsCodes, PullsInstance};
-ghost use Rattle.repo_engine.specs.Run.{AreLeft, Concludes, ComesToInstance, IsLineOf, IsNoted, LeavesOut};
+ghost use Rattle.repo_engine.specs.Run.{AreLeft, Concludes, ComesToInstance, IsLineOf, IsMemoryNoted, IsNoted, LeavesOut};
 ghost use Rattle.repo_engine.specs.Answer.{no_message};
 
 use super::conclude::conclude;
@@ -43,6 +43,8 @@ pub fn run<R: Source, C: Source, I: Source, O: Sink, N: Sink>(
         (line : List ℕ) × IsLineOf result line × Appends (N.held notes.old) (N.held notes.new) line }
     ensures noted_message { result ≡ Status.Message → (Rose (N.faults notes.old) (N.faults notes.new) → ⊥) →
         (id : List ℕ) × HasForm (texts words.now.items) (check_xml id) × Appends (N.held notes.old) (N.held notes.new) (no_message id) }
+    ensures noted_memory { result ≡ Status.Memory → (Rose (N.faults notes.old) (N.faults notes.new) → ⊥) →
+        IsMemoryNoted (N.room notes.old) (N.held notes.old) (N.held notes.new) }
     ensures noted_front { (status : Status) × (line : List ℕ) × IsLineOf status line ×
         AppendsFront (N.held notes.old) (N.held notes.new) line }
 

@@ -4,7 +4,7 @@ ghost use Rattle.std.specs.Io.KnownBytes.{Appends, Keeps};
 ghost use Rattle.outside.specs.Source.{Rose};
 ghost use Rattle.outside.specs.Sink.{AppendsFront};
 ghost use Rattle.repo_engine.specs.Line.{said};
-ghost use Rattle.repo_engine.specs.Run.{IsLineOf, IsNoted, IsRefusal, LeavesOut};
+ghost use Rattle.repo_engine.specs.Run.{IsLineOf, IsMemoryNoted, IsNoted, IsRefusal, LeavesOut};
 
 use super::line::Line;
 use super::note::note;
@@ -32,6 +32,8 @@ fn finish<O: Sink, N: Sink>(text: &Line, out: &mut O, notes: &mut N) -> Status
     ensures notes_later { N.faults notes.old ≤ N.faults notes.new }
     ensures noted { (Rose (N.faults notes.old) (N.faults notes.new) → ⊥) → IsNoted result (N.room notes.old) →
         (line : List ℕ) × IsLineOf result line × Appends (N.held notes.old) (N.held notes.new) line }
+    ensures noted_memory { result ≡ Status.Memory → (Rose (N.faults notes.old) (N.faults notes.new) → ⊥) →
+        IsMemoryNoted (N.room notes.old) (N.held notes.old) (N.held notes.new) }
     ensures noted_front { (status : Status) × (line : List ℕ) × IsLineOf status line × AppendsFront (N.held notes.old) (N.held notes.new) line }
 {
     match text.push_to(out) {
@@ -63,6 +65,8 @@ pub fn conclude<O: Sink, N: Sink>(decision: &Decision, out: &mut O, notes: &mut 
         Appends (N.held notes.old) (N.held notes.new) (said decision.now.text) }
     ensures noted { (Rose (N.faults notes.old) (N.faults notes.new) → ⊥) → IsNoted result (N.room notes.old) →
         (line : List ℕ) × IsLineOf result line × Appends (N.held notes.old) (N.held notes.new) line }
+    ensures noted_memory { result ≡ Status.Memory → (Rose (N.faults notes.old) (N.faults notes.new) → ⊥) →
+        IsMemoryNoted (N.room notes.old) (N.held notes.old) (N.held notes.new) }
     ensures noted_front { (status : Status) × (line : List ℕ) × IsLineOf status line × AppendsFront (N.held notes.old) (N.held notes.new) line }
     ensures write_fault { result ≡ Status.WriteFault → Rose (O.faults out.old) (O.faults out.new) ⊎ Rose (N.faults notes.old) (N.faults notes.new) }
     ensures out_told { result ≢ Status.WriteFault → O.faults out.new ≡ O.faults out.old }

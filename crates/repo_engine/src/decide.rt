@@ -9,15 +9,19 @@ ghost use Rattle.repo_engine.specs.Run.{AreLeft, ComesToInstance, IsLineOf};
 ghost use Rattle.repo_engine.specs.PlainContents.{Declares};
 ghost use Rattle.repo_objects.specs.MessageId.{IsMessageId};
 ghost use Rattle.repo_engine.specs.PlainRepository.{Plain, id_of};
+ghost use Rattle.repo_engine.specs.XmlRefusal.{fault_line};
+ghost use Rattle.repo_engine.specs.XmlVerdict.{Finds, IsPlaced};
+ghost use Rattle.markup.specs.Reading.{fault_of};
 
 use super::conclude::Decision;
-use super::instance::check_instance;
+use super::instance::{Verdict, check_instance};
 use super::line::Line;
 use super::read_error::ReadError;
 use super::reading::read_all;
 use super::repository::{has_id, read_repository};
 use super::status::Status;
 use super::words::message_to_check;
+use markup::MarkFault;
 use outside::Source;
 use repo_objects::Repository;
 use std::alloc::Global;
@@ -42,6 +46,44 @@ fn failed<'a>(error: ReadError) -> Decision<'a>
     match error {
         ReadError::Fault => decided(Status::ReadFault, b"failed: read\n".as_slice()),
         ReadError::Memory => decided(Status::Memory, b"failed: memory\n".as_slice()),
+    }
+}
+
+/// The decision for a fault of markup.
+fn faulty<'a>(fault: MarkFault) -> Decision<'a>
+    ensures status { result.status ≡ Status.Instance }
+    ensures text { said result.text ≡ fault_line (fault_of fault) }
+{
+    Decision {
+        status: Status::Instance,
+        text: Line {
+            front: b"refused: instance ".as_slice(),
+            middle: fault.rule.name().as_bytes(),
+            back: b" at ".as_slice(),
+            place: Some(fault.place),
+        },
+    }
+}
+
+/// The decision for what the check of an instance found.
+fn judged<'a>(verdict: Verdict) -> Decision<'a>
+    requires { IsPlaced verdict }
+    ensures status { (result.status ≡ Status.Done) ⊎ (result.status ≡ Status.Instance) }
+    ensures done { result.status ≡ Status.Done → verdict ≡ Verdict.Admitted }
+    ensures line { result.status ≢ Status.Done → IsLineOf result.status (said result.text) }
+    ensures checks { (p : Plain) (i : List ℕ) → Finds p i verdict → Checks p (id_of p) i result.status (said result.text) }
+{
+    match verdict {
+        Verdict::Admitted => decided(Status::Done, b"accepted\n".as_slice()),
+        Verdict::Refused(fault) => faulty(fault),
+        Verdict::TooLong => decided(
+            Status::Instance,
+            b"refused: instance InputTooLong at 2147483648\n".as_slice(),
+        ),
+        Verdict::NotAdmitted => decided(
+            Status::Instance,
+            b"refused: instance not admitted\n".as_slice(),
+        ),
     }
 }
 
@@ -74,15 +116,12 @@ fn decide_repository<'a, I: Source>(
                 front: b"refused: message M1 at ".as_slice(),
                 middle: id,
                 back: b"\n".as_slice(),
+                place: None,
             },
         };
     }
     match check_instance(alloc, repository, inst) {
-        Ok(true) => decided(Status::Done, b"accepted\n".as_slice()),
-        Ok(false) => decided(
-            Status::Instance,
-            b"refused: instance not plain\n".as_slice(),
-        ),
+        Ok(verdict) => judged(verdict),
         Err(error) => failed(error),
     }
 }

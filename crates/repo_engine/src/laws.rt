@@ -8,7 +8,10 @@ ghost use Rattle.repo_engine.specs.declared.status.Status.{Status};
 pub fn one_answer()
     ensures { (ws : List (List ℕ)) (r c i : List ℕ) (s other : Status) (text more : List ℕ) →
         Answer ws r c i s text → Answer ws r c i other more → (s ≡ other) × (text ≡ more) }
-{}
+{
+    markup::laws::one_fault();
+    markup::laws::whole_has_none();
+}
 
 /// Bytes say one thing, as a plain repository.
 pub fn one_repository()

@@ -21,6 +21,8 @@ pub fn note<N: Sink>(status: Status, line: &Line, notes: &mut N) -> Status
     ensures whole { (Rose (N.faults notes.old) (N.faults notes.new) → ⊥) → result ≢ Status.Memory →
         (status ≡ Status.WriteFault → length (said line.now) ≤ N.room notes.old) →
         Appends (N.held notes.old) (N.held notes.new) (said line.now) }
+    ensures fits { (Rose (N.faults notes.old) (N.faults notes.new) → ⊥) → length (said line.now) ≤ N.room notes.old →
+        Appends (N.held notes.old) (N.held notes.new) (said line.now) }
     ensures front { AppendsFront (N.held notes.old) (N.held notes.new) (said line.now) }
 {
     match line.push_to(notes) {

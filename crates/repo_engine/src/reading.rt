@@ -7,7 +7,7 @@ use super::read_error::ReadError;
 use outside::Source;
 use std::alloc::{AllocError, Global};
 
-/// How many bytes a plain repository has at most.
+/// How many bytes a plain repository or an instance has at most.
 pub const LIMIT: usize = 2147483648;
 
 /// How many bytes are asked of a source at once.

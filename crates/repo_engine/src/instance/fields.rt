@@ -1,9 +1,10 @@
-// The form of a message's instances, made from the message's elements.
-ghost use Rattle.std.specs.Prelude.{◌≡◌, ◌++◌, OnOk, IfOk};
-ghost use Rattle.repo_engine.specs.PlainInstance.{start_tag, end_tag};
-ghost use Rattle.repo_engine.specs.InstanceFields.{opening as opening_of, outline_of, HasInstances};
+// The elements of a message, from its building blocks.
+ghost use Rattle.std.specs.Prelude.{◌≡◌, IfOk, All};
+ghost use Rattle.std.specs.List.{AllZip};
+ghost use Rattle.repo_engine.specs.PlainContents.{HasType, IsTypeOf};
+ghost use Rattle.repo_engine.specs.InstanceFields.{IsFieldOf};
 
-use super::form::{Form, FormPart};
+use repo_objects::{ElementDef, Object, Repository};
 use std::alloc::{AllocError, Global};
 
 /// An element of the message: its tag, and how many characters its text has at least and at most.
@@ -14,49 +15,45 @@ pub struct Field<'a> {
     pub most: u32,
 }
 
-/// The form of the instances of the message with this identifier, tag and elements.
-pub fn form_of(alloc: Global, id: &[u8], tag: &[u8], fields: &[Field]) -> Result<Form, AllocError>
-    ensures form { IfOk result (λ f. f ≡ outline_of id.now tag.now fields.now) }
-    ensures instances { IfOk result (λ f. HasInstances id.now tag.now fields.now f) }
+/// The elements of the building blocks, whose texts have the bounds of their data types.
+pub fn fields<'a>(
+    alloc: Global,
+    repository: &Repository,
+    blocks: &'a [ElementDef],
+) -> Result<Vec<Field<'a>>, AllocError>
+    requires { All (HasType repository.now) blocks.now }
+    ensures { IfOk result (λ v. AllZip (IsFieldOf repository.now) v.items blocks.now) }
 {
-    let mut parts = Vec::new(alloc);
-    let mut literal = opening(alloc, id, tag)?;
-    for field in fields {
-        extend_start_tag(&mut literal, field.tag)?;
-        parts.push(FormPart::new(literal, field.least, field.most))?;
-        literal = Vec::new(alloc);
-        extend_end_tag(&mut literal, field.tag)?;
+    let mut fields = Vec::with_capacity(alloc, blocks.len())?;
+    for block in blocks {
+        fields.push(field_of(repository, block))?;
     }
-    extend_end_tag(&mut literal, tag)?;
-    literal.extend_from_slice(b"</Document>")?;
-    Ok(Form::new(parts, literal))
+    Ok(fields)
 }
 
-/// The start tags of the root and of the message.
-fn opening(alloc: Global, id: &[u8], tag: &[u8]) -> Result<Vec<u8>, AllocError>
-    ensures { IfOk result (λ v. v.items ≡ opening_of id.now tag.now) }
+/// The element of the building block. A bound that its data type does not give is the widest.
+fn field_of<'a>(repository: &Repository, block: &'a ElementDef) -> Field<'a>
+    requires { HasType repository.now block.now }
+    ensures { IsFieldOf repository.now result block.now }
 {
-    let mut bytes = Vec::from_slice(alloc, b"<Document xmlns=\"urn:iso:std:iso:20022:tech:xsd:")?;
-    bytes.extend_from_slice(id)?;
-    bytes.extend_from_slice(b"\">")?;
-    extend_start_tag(&mut bytes, tag)?;
-    Ok(bytes)
+    let facets = data_type(repository, block).facets;
+    Field {
+        tag: block.tag.bytes(),
+        least: facets.min_length.unwrap_or(0),
+        most: facets.max_length.unwrap_or(u32::MAX),
+    }
 }
 
-/// Appends a start tag.
-fn extend_start_tag(bytes: &mut Vec<u8>, tag: &[u8]) -> Result<(), AllocError>
-    ensures { OnOk result (bytes.new.items ≡ bytes.old.items ++ start_tag tag.now) }
+/// The data type of the building block.
+fn data_type<'a>(repository: &'a Repository, block: &ElementDef) -> &'a Object
+    requires { HasType repository.now block.now }
+    ensures { IsTypeOf repository.now block.now result.now }
 {
-    bytes.extend_from_slice(b"<")?;
-    bytes.extend_from_slice(tag)?;
-    bytes.extend_from_slice(b">")
-}
-
-/// Appends an end tag.
-fn extend_end_tag(bytes: &mut Vec<u8>, tag: &[u8]) -> Result<(), AllocError>
-    ensures { OnOk result (bytes.new.items ≡ bytes.old.items ++ end_tag tag.now) }
-{
-    bytes.extend_from_slice(b"</")?;
-    bytes.extend_from_slice(tag)?;
-    bytes.extend_from_slice(b">")
+    let Some(id) = &block.simple else {
+        unreachable!()
+    };
+    let Some(object) = repository.object(id.bytes()) else {
+        unreachable!()
+    };
+    object
 }

@@ -13,4 +13,4 @@ returns-in_err-push_part-2-clause-bytes g c =
 
 pub returns-clause-bytes : goal.returns-clause-bytes
 returns-clause-bytes g c =
-    push_behind _ _ _ _ _ _ c.in_ok-push_part.ensures.bytes (push_behind _ _ _ _ _ _ c.in_ok-push_part-2.ensures.bytes c.push_part-3.ensures.bytes)
+    push_behind _ _ _ _ _ _ c.in_ok-push_part.ensures.bytes (push_behind _ _ _ _ _ _ c.in_ok-push_part-2.ensures.bytes c.push_end.ensures.bytes)

@@ -1,0 +1,19 @@
+-- What the check of an instance finds.
+use Rattle.std.specs.Prelude.{ℕ, ◌≤◌, List}
+use Rattle.markup.specs.Reading.{fault_of}
+use Rattle.repo_engine.specs.PlainRepository.{Plain}
+use Rattle.repo_engine.specs.XmlRefusal.{limit, HasFault, IsTooLong, IsNotAdmitted, IsAccepted}
+use Rattle.repo_engine.specs.declared.instance.verdict.Verdict.{Verdict}
+use Rattle.repo_engine.specs.declared.instance.verdict.Verdict.TheVariants.{Admitted, Refused, TooLong, NotAdmitted}
+
+-- the verdict on these bytes, for the message
+abbrev pub Finds : Plain → List ℕ → Verdict → Type 0
+Finds p bytes Admitted = IsAccepted p bytes
+Finds p bytes (Refused fault) = HasFault bytes (fault_of fault)
+Finds p bytes TooLong = IsTooLong bytes
+Finds p bytes NotAdmitted = IsNotAdmitted p bytes
+
+-- a fault stands within the limit
+abbrev pub IsPlaced : Verdict → Type 0
+IsPlaced (Refused fault) = fault.place ≤ limit
+IsPlaced _ = Unit {0}
