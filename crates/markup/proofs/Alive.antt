@@ -1,17 +1,17 @@
 -- Each scan that a character leads to has a text that completes its token.
-use Rattle.std.proofs.Common.{◌≡◌, ℕ, Bool, true, false, not, ◌==◌, ◌||◌, ◌&&◌, ◌+◌, ◌*◌, ◌≤◌, ◌<◌, ◌⊎◌, inl, inr, List, [], ◌∷◌, ◌++◌, map, codes, drop, Option, Some, None, is_none, nat_le, if◌then◌else◌, refl, sym, ◌∙◌, ap, subst, append-nil, arith}
-use Rattle.std.specs.List.{list_all, flat_map}
+use Rattle.std.proofs.Common.{◌≡◌, ℕ, Bool, true, false, not, ◌==◌, ◌||◌, ◌&&◌, ◌+◌, ◌*◌, ◌≤◌, ◌<◌, inl, inr, List, [], ◌∷◌, ◌++◌, map, codes, drop, Option, Some, None, is_none, nat_le, if◌then◌else◌, refl, sym, ◌∙◌, ap, subst, arith}
+use Rattle.std.specs.List.{list_all}
 use Rattle.std.specs.Char.{is_digit, digit_value, to_ascii_lowercase}
-use Rattle.std.proofs.lemmas.Bool.{and_parts, and_from, both_ways, cases_Bool, leb-true, cases_lt}
+use Rattle.std.proofs.lemmas.Bool.{and_from, leb-true, cases_lt}
 use Rattle.std.proofs.lemmas.List.{drop-map}
 use Rattle.std.proofs.lemmas.Bool.Decides.{nat_tests}
 use Rattle.markup.specs.Chars.{is_xml_char, is_name_start, is_name_char, is_space}
 use Rattle.markup.specs.Name.{Plain}
-use Rattle.markup.specs.Reference.{Ampersand as AmpersandEntity, Less as LessEntity, Reference, Named, Numbered, is_reference, number}
-use Rattle.markup.specs.Token.{Comment, Instruction, TypeDeclaration, LineEnd, Line, Lf}
+use Rattle.markup.specs.Reference.{Ampersand as AmpersandEntity, Less as LessEntity, Named, Numbered, is_reference, number}
+use Rattle.markup.specs.Token.{Comment, Instruction, TypeDeclaration, Lf}
 use Rattle.markup.specs.Words.{word_text, letter_of}
-use Rattle.markup.specs.ReferenceScans.{reference_step, digit_step, first_digit, more_digits, digits_step, numbered, gives, letter_step, word_step}
-use Rattle.markup.specs.Scans.{step, fixed_ended, fits_letter, name_step, name_turn, name_word, referring, referring_in, behind_attribute_step, before_equals_step, end_gap_step, fixed_step, fixed_letter, field_letter, field_word_letter, field_end_step}
+use Rattle.markup.specs.ReferenceScans.{reference_step, digit_step, first_digit, more_digits, digits_step, numbered, gives, letter_step}
+use Rattle.markup.specs.Scans.{step, fixed_ended, fits_letter, name_step, name_turn, name_word, referring, referring_in, behind_attribute_step, fixed_letter, field_letter, field_word_letter, field_end_step}
 use Rattle.markup.specs.declared.word.Word.{Word}
 use Rattle.markup.specs.declared.word.Word.TheVariants.{Utf8, One, Yes}
 use Rattle.markup.specs.declared.reference.ReferenceScan.{ReferenceScan}
@@ -24,16 +24,14 @@ use Rattle.markup.specs.declared.scan.NameTurn.{NameTurn}
 use Rattle.markup.specs.declared.scan.NameTurn.TheVariants.{Remains, Ends, Fails}
 use Rattle.markup.specs.declared.scan.Field.{Field}
 use Rattle.markup.specs.declared.scan.Field.TheVariants.{Version, Encoding, Standalone}
-use Rattle.markup.specs.declared.scan.Position.{Position}
 use Rattle.markup.specs.declared.scan.Position.TheVariants.{Start as AtStart, AfterMark, Text, Cdata}
 use Rattle.markup.specs.declared.scan.Scan.{Scan}
 use Rattle.markup.specs.declared.scan.Scan.TheVariants.{Begin, AfterReturn, Bracket, Brackets, Reference as InReference, Opened, Bang, BangHyphen, CommentText, CommentHyphen, CommentEnd, Fixed, Question, TargetX, TargetXm, TargetXml, Target, TargetMark, InstructionText, InstructionMark, DeclarationGap, FieldName, FieldBefore, FieldAfter, FieldValue, FieldWord, FieldEnd, FieldGap, DeclarationMark, StartName, Gap, AttributeName, BeforeEquals, AfterEquals, Value, ValueReference, AfterValue, Slash, EndOpened, EndName, EndGap}
 use Rattle.markup.specs.declared.scan.Turn.{Turn}
 use Rattle.markup.specs.declared.scan.Turn.TheVariants.{Goes, Whole, Stuck}
 use Rattle.markup.proofs.CharLemmas.{x_starts, word_chars}
-use Rattle.markup.proofs.TokenLemmas.{close}
 use Rattle.markup.proofs.Complete.{is_none_left, begins_so}
-use Rattle.markup.proofs.Residuals.{InDigits, IsReference, FirstDigit, ReferenceRest, SecondRest, ColonRest, FirstRest, NameRest, NameThen, Spaced, Tail, InValue, Quoted, Equalled, GapThen, EndClose, CommentRest, InstructionRest, TargetRest, follows, FieldsRest, spells, WordRest, FieldValueRest, FieldQuoted, FieldEqualled, FieldNamed, FieldGapThen, LessToken, Rest}
+use Rattle.markup.proofs.Residuals.{ReferenceRest, NameRest, Spaced, Tail, InValue, Quoted, Equalled, GapThen, EndClose, TargetRest, follows, FieldsRest, spells, WordRest, FieldValueRest, FieldQuoted, FieldEqualled, FieldNamed, FieldGapThen, Rest}
 use Rattle.markup.proofs.Sound.{Completed, line_completed, instruction_is}
 use Rattle.markup.proofs.TagSound.{spaced_none}
 

@@ -1,7 +1,7 @@
 -- The classes of characters that do not meet.
 use Rattle.std.proofs.Common.{◌≡◌, ◌↔◌, ℕ, Bool, true, false, ◌||◌, ◌==◌, List, [], ◌∷◌, ◌≤◌, ◌⊎◌, inl, inr, refl, sym, arith}
 use Rattle.std.specs.Char.{is_digit, to_ascii_lowercase, IsScalar}
-use Rattle.std.specs.Prelude.{Option, Some, None}
+use Rattle.std.specs.Prelude.{None}
 use Rattle.markup.specs.ReferenceScans.{numbered}
 use Rattle.std.specs.Int.{is_in_range}
 use Rattle.std.proofs.lemmas.Bool.{or_left, or_right, or_cases, and_parts, and_from, leb-true, le-leb, true≢false, cases_Bool}

@@ -1,40 +1,35 @@
 -- Each token that stands somewhere is read by the scan to its end, and no further.
-use Rattle.std.proofs.Common.{◌≡◌, ℕ, Bool, true, false, not, ◌==◌, ◌||◌, ◌&&◌, List, [], ◌∷◌, ◌++◌, length, map, codes, Option, Some, None, if◌then◌else◌, refl, sym, ◌∙◌, ap, subst, append_assoc, arith, inl, inr}
+use Rattle.std.proofs.Common.{◌≡◌, ℕ, Bool, true, false, not, ◌==◌, ◌||◌, ◌&&◌, List, [], ◌∷◌, ◌++◌, length, if◌then◌else◌, refl, sym, ◌∙◌, ap, subst, arith, inl, inr}
 use Rattle.std.specs.List.{list_all, flat_map}
 use Rattle.std.specs.Char.{to_ascii_lowercase}
-use Rattle.std.proofs.lemmas.Bool.{and_parts, and_from, or_parts, or_cases, and_cases, and_right, not-true, not-false, not_from_false, both_ways, cases_Bool, eq-eqb, eqb-true, eqb-false, ne_eqb}
+use Rattle.std.proofs.lemmas.Bool.{and_parts, or_parts, and_right, not-true, both_ways, cases_Bool, eqb-true}
 use Rattle.std.proofs.lemmas.Bool.Decides.{nat_tests}
 use Rattle.markup.specs.Chars.{is_xml_char, is_name_start, is_name_char, is_space}
-use Rattle.markup.specs.Name.{Name, is_name, is_part, name_text}
+use Rattle.markup.specs.Name.{name_text}
 use Rattle.markup.specs.Reference.{Reference, is_reference, referred, reference_text}
-use Rattle.markup.specs.Attribute.{Attribute, attribute_text}
-use Rattle.markup.specs.Token.{Token, Mark, Declaration, Comment, Instruction, Opener, Closer, TypeDeclaration, Start, End, Refer, LineEnd, Character, Line, Lf, Cr, CrLf, StartTag, is_comment, is_instruction_text, is_instruction, is_xml_word, token_text}
+use Rattle.markup.specs.Attribute.{attribute_text}
+use Rattle.markup.specs.Token.{Token, Mark, Declaration, Comment, Instruction, Opener, Closer, TypeDeclaration, Start, End, Refer, LineEnd, Character, Line, Lf, Cr, CrLf, is_comment, is_instruction_text, is_instruction, is_xml_word, token_text}
 use Rattle.markup.specs.Marks.{in_cdata, is_first, stands, stands_in_cdata, stands_outside}
-use Rattle.markup.specs.Events.{spelled, given, opening}
-use Rattle.markup.specs.Drafts.{no_name, no_draft, noted, value_noted}
+use Rattle.markup.specs.Drafts.{no_draft, noted, value_noted}
 use Rattle.markup.specs.ScanRuns.{placed, position, ended_of, draft_of, ends_itself}
-use Rattle.markup.specs.Scans.{step, begin_step, text_step, cdata_step, line_step, referring, target_step}
+use Rattle.markup.specs.Scans.{step, text_step, cdata_step, line_step, referring, target_step}
 use Rattle.markup.specs.declared.draft.Draft.{Draft}
-use Rattle.markup.specs.declared.word.Word.TheVariants.{Cdata as CdataWord, Doctype as DoctypeWord}
 use Rattle.markup.specs.declared.reference.ReferenceScan.TheVariants.{Begun}
-use Rattle.markup.specs.declared.scan.Position.{Position}
-use Rattle.markup.specs.declared.scan.Position.TheVariants.{Start as AtStart, AfterMark, Text, Cdata}
 use Rattle.markup.specs.declared.scan.Scan.{Scan}
-use Rattle.markup.specs.declared.scan.Scan.TheVariants.{Begin, AfterReturn, Bracket, Brackets, Reference as InReference, Opened, Bang, BangHyphen, CommentText, CommentHyphen, CommentEnd, Fixed, Question, TargetX, TargetXm, TargetXml, Target, TargetMark, InstructionText, InstructionMark, EndOpened, Value, ValueReference}
-use Rattle.markup.specs.declared.scan.Ended.{Ended}
-use Rattle.markup.specs.declared.scan.Ended.TheVariants.{Mark as MarkEnded, Declaration as DeclarationEnded, Passed, Opener as OpenerEnded, Closer as CloserEnded, TypeDeclaration as TypeDeclarationEnded, Start as StartEnded, End as EndEnded, Refer as ReferEnded, LineEnd as LineEnded, Character as CharacterEnded}
+use Rattle.markup.specs.declared.scan.Scan.TheVariants.{Begin, AfterReturn, Bracket, Reference as InReference, Opened, CommentText, CommentHyphen, Question, TargetX, TargetXm, TargetXml, Target, TargetMark, InstructionText, InstructionMark, Value, ValueReference}
+use Rattle.markup.specs.declared.scan.Ended.TheVariants.{Passed, Refer as ReferEnded, LineEnd as LineEnded, Character as CharacterEnded}
 use Rattle.markup.specs.declared.scan.Turn.TheVariants.{Goes, Whole}
 use Rattle.markup.proofs.CharLemmas.{space_no_name, question_no_name, question_no_space}
 use Rattle.markup.proofs.ReferenceLemmas.{body, reference_then}
-use Rattle.markup.proofs.ReferenceRuns.{ReferenceEnd, reference_end, reference_goes}
-use Rattle.markup.proofs.TokenLemmas.{IsInstruction, instruction_facts, start_tag_then, close}
-use Rattle.markup.proofs.TokenKinds.{never_in, only_in, in_both, IsCdataChar, cdata_char_facts, IsTextChar, text_char_facts, first_outside}
+use Rattle.markup.proofs.ReferenceRuns.{reference_end, reference_goes}
+use Rattle.markup.proofs.TokenLemmas.{IsInstruction, instruction_facts, start_tag_then}
+use Rattle.markup.proofs.TokenKinds.{never_in, only_in, cdata_char_facts, text_char_facts, first_outside}
 use Rattle.markup.proofs.TokenLaw.{comment_then, instruction_then, declaration_then, end_then}
-use Rattle.markup.proofs.TagRuns.{draft, start_tag_run, end_tag_run}
+use Rattle.markup.proofs.TagRuns.{start_tag_run, end_tag_run}
 use Rattle.markup.proofs.DeclarationRuns.{declaration_run}
 use Rattle.markup.proofs.Runs.{goes, ends, alike_runs}
 use Rattle.markup.proofs.Spans.{heads}
-use Rattle.markup.specs.ScanRuns.{At, Failed, Over, Run, run}
+use Rattle.markup.specs.ScanRuns.{Over, run}
 
 -- the scans that say nothing of a value
 abbrev plain : Scan → Bool

@@ -1,5 +1,5 @@
 -- Runs of the scan over the XML declaration.
-use Rattle.std.proofs.Common.{◌≡◌, ℕ, Bool, true, false, not, ◌==◌, ◌||◌, ◌&&◌, ◌+◌, List, [], ◌∷◌, ◌++◌, map, codes, Option, Some, None, if◌then◌else◌, refl, sym, ◌∙◌, ap, subst, append_assoc, arith, inl, inr}
+use Rattle.std.proofs.Common.{◌≡◌, ℕ, Bool, true, ◌==◌, ◌||◌, ◌+◌, List, [], ◌∷◌, ◌++◌, map, codes, Some, None, refl, ◌∙◌, ap, arith, inl, inr}
 use Rattle.std.specs.List.{list_all, flat_map}
 use Rattle.std.specs.Str.{bytes_eq}
 use Rattle.std.specs.Char.{to_ascii_lowercase}
@@ -8,11 +8,11 @@ use Rattle.std.proofs.lemmas.Bool.Decides.{nat_tests}
 use Rattle.std.proofs.lemmas.Slice.Eq.{bytes_eq-Decides}
 use Rattle.markup.specs.Chars.{is_space, is_gap}
 use Rattle.markup.specs.Name.{name_text}
-use Rattle.markup.specs.Attribute.{Attribute, is_attribute, piece_text, attribute_text}
+use Rattle.markup.specs.Attribute.{Attribute, piece_text, attribute_text}
 use Rattle.markup.specs.Declaration.{is_field, is_version, is_encoding, is_standalone, is_declaration}
 use Rattle.markup.specs.Words.{letter_of}
 use Rattle.markup.specs.Drafts.{noted}
-use Rattle.markup.specs.Scans.{step, name_word, field_before_step, field_letter}
+use Rattle.markup.specs.Scans.{step, name_word, field_letter}
 use Rattle.markup.specs.declared.draft.Draft.{Draft}
 use Rattle.markup.specs.declared.word.Word.{Word}
 use Rattle.markup.specs.declared.word.Word.TheVariants.{One, Utf8, Yes, No}
@@ -25,7 +25,7 @@ use Rattle.markup.specs.declared.scan.Ended.TheVariants.{Declaration}
 use Rattle.markup.proofs.CharLemmas.{space_no_name, equals_no_space, quote_no_space, closes_no_space, space_no_letter, letter_no_space}
 use Rattle.markup.proofs.AttributeLemmas.{IsAttribute, attribute_facts, attribute_then, attributes_then}
 use Rattle.markup.proofs.Spans.{heads, tails}
-use Rattle.markup.proofs.Runs.{goes, ends, spaces_run}
+use Rattle.markup.proofs.Runs.{goes, spaces_run}
 use Rattle.markup.specs.ScanRuns.{Over, run}
 
 -- an attribute with this name and value, as they are written

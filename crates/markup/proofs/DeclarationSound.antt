@@ -1,19 +1,19 @@
 -- Fields of a declaration from their parts, and what completes a declaration.
-use Rattle.std.proofs.Common.{◌≡◌, ℕ, Bool, true, false, not, ◌==◌, ◌||◌, ◌&&◌, ◌+◌, ◌⊎◌, inl, inr, List, [], ◌∷◌, ◌++◌, map, codes, drop, if◌then◌else◌, refl, sym, ◌∙◌, ap, subst, append_assoc, arith}
+use Rattle.std.proofs.Common.{◌≡◌, ℕ, Bool, true, false, not, ◌==◌, ◌||◌, ◌&&◌, inl, inr, List, [], ◌∷◌, ◌++◌, map, codes, drop, refl, sym, ◌∙◌, ap, subst, arith}
 use Rattle.std.specs.List.{list_all, flat_map}
 use Rattle.std.specs.Char.{to_ascii_lowercase}
 use Rattle.std.specs.Str.{bytes_eq}
-use Rattle.std.proofs.lemmas.Bool.{and_parts, and_from, and_left, and_right, or_left, or_right, not_from_false, both_ways, eqb-true}
+use Rattle.std.proofs.lemmas.Bool.{and_parts, and_from, or_left, or_right, both_ways, eqb-true}
 use Rattle.std.proofs.lemmas.Bool.Decides.{nat_tests}
 use Rattle.std.proofs.lemmas.Slice.Eq.{bytes_eq-Decides}
 use Rattle.markup.specs.Chars.{is_xml_char, is_name_start, is_name_char, is_space}
 use Rattle.markup.specs.Name.{Plain, is_name, name_text}
-use Rattle.markup.specs.Attribute.{Piece, Literal, is_piece, piece_text, Attribute, is_attribute, attribute_text}
-use Rattle.markup.specs.Declaration.{is_field, is_version, is_encoding, is_standalone, is_declaration}
+use Rattle.markup.specs.Attribute.{Literal, is_piece, piece_text, Attribute, is_attribute, attribute_text}
+use Rattle.markup.specs.Declaration.{is_version, is_encoding, is_standalone, is_declaration}
 use Rattle.markup.specs.Words.{word_text}
 use Rattle.markup.specs.Scans.{name_word, field_end_step, field_gap_step}
 use Rattle.markup.specs.declared.word.Word.{Word}
-use Rattle.markup.specs.declared.word.Word.TheVariants.{Cdata as CdataWord, Doctype as DoctypeWord, Ampersand, Less, Greater, Apostrophe, Quote, Version as VersionWord, Encoding as EncodingWord, Standalone as StandaloneWord, One, Utf8, Yes, No}
+use Rattle.markup.specs.declared.word.Word.TheVariants.{One, Utf8, Yes, No}
 use Rattle.markup.specs.declared.scan.Field.{Field}
 use Rattle.markup.specs.declared.scan.Field.TheVariants.{Version, Encoding, Standalone}
 use Rattle.markup.specs.declared.scan.Position.{Position}
@@ -22,7 +22,7 @@ use Rattle.markup.proofs.Spans.{heads, tails}
 use Rattle.markup.proofs.AttributeLemmas.{attribute_then, attributes_then}
 use Rattle.markup.proofs.NameSound.{on_if}
 use Rattle.markup.proofs.TagSound.{cons_same, spaced_more, spaced_none, attribute_joined}
-use Rattle.markup.proofs.Residuals.{Spaced, Gapped, follows, FieldsRest, spells, WordRest, is_value_of, FieldValueRest, FieldQuoted, FieldEqualled, FieldNamed, is_next, FieldGapThen, Rest, Then}
+use Rattle.markup.proofs.Residuals.{Spaced, Gapped, follows, FieldsRest, spells, is_value_of, FieldNamed, is_next, FieldGapThen, Then}
 
 -- characters that values may have as they are, in either quote
 abbrev is_plain : ℕ → Bool

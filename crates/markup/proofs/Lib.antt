@@ -24,6 +24,7 @@ pub mod NoTokens
 pub mod OneFault
 pub mod ReferencePlaces
 pub mod Placed
+pub mod PlainLemmas
 pub mod TokenizerLemmas
 pub mod Pending
 pub mod SettleLemmas

@@ -1,28 +1,26 @@
 -- What completes a reference or a name behind one more character completes it with that character.
-use Rattle.std.proofs.Common.{◌≡◌, ℕ, Bool, true, false, not, ◌==◌, ◌||◌, ◌&&◌, ◌+◌, ◌*◌, ◌<◌, ◌⊎◌, inl, inr, List, [], ◌∷◌, ◌++◌, length, codes, drop, Option, Some, None, if◌then◌else◌, nat_le, get_or, refl, sym, ◌∙◌, ap, subst, append_assoc, append-nil, add-one, drop-cons, suc, arith}
+use Rattle.std.proofs.Common.{◌≡◌, ℕ, Bool, true, false, not, ◌==◌, ◌&&◌, ◌+◌, ◌*◌, ◌<◌, ◌⊎◌, inl, inr, List, [], ◌∷◌, ◌++◌, length, drop, Option, Some, None, if◌then◌else◌, nat_le, get_or, refl, sym, ◌∙◌, ap, subst, append_assoc, add-one, drop-cons, suc, arith}
 use Rattle.std.specs.List.{list_all, slice_get}
 use Rattle.std.specs.Char.{is_digit, digit_value}
-use Rattle.std.proofs.lemmas.Bool.{and_parts, and_from, both_ways, cases_Bool, cases_lt, eqb-true, ne_eqb, not_from_false}
+use Rattle.std.proofs.lemmas.Bool.{and_from, cases_lt, eqb-true, ne_eqb, not_from_false}
 use Rattle.std.proofs.Math.ListN.{drop_of_length-le}
 use Rattle.std.proofs.lemmas.Option.{slice_get_within, get_or_from_slice_get, slice_get-get_or}
-use Rattle.markup.specs.Chars.{is_xml_char, is_name_start, is_name_char, is_space}
-use Rattle.markup.specs.Name.{Name, Plain, Prefixed, is_name, is_part, name_text}
-use Rattle.markup.specs.Reference.{Ampersand as AmpersandEntity, Less as LessEntity, Greater as GreaterEntity, Apostrophe as ApostropheEntity, Quote as QuoteEntity, Reference, Named, Numbered, is_reference, number}
+use Rattle.markup.specs.Chars.{is_xml_char, is_name_start, is_name_char}
+use Rattle.markup.specs.Name.{Plain, Prefixed}
+use Rattle.markup.specs.Reference.{Ampersand as AmpersandEntity, Less as LessEntity, Greater as GreaterEntity, Apostrophe as ApostropheEntity, Quote as QuoteEntity, Reference, Named, Numbered, is_reference}
 use Rattle.markup.specs.Words.{word_text, letter_of}
 use Rattle.markup.specs.ReferenceScans.{reference_step, digit_step, first_digit, more_digits, digits_step, numbered, gives, letter_step}
 use Rattle.markup.specs.Scans.{name_step}
 use Rattle.markup.specs.declared.word.Word.{Word}
 use Rattle.markup.specs.declared.reference.ReferenceScan.{ReferenceScan}
 use Rattle.markup.specs.declared.reference.ReferenceScan.TheVariants.{Begun, LetterA, Name as NameOf, Hash, HashX, Decimal, Hexadecimal}
-use Rattle.markup.specs.declared.reference.ReferenceTurn.{ReferenceTurn}
-use Rattle.markup.specs.declared.reference.ReferenceTurn.TheVariants.{Continues, Gives, Breaks}
+use Rattle.markup.specs.declared.reference.ReferenceTurn.TheVariants.{Breaks}
 use Rattle.markup.specs.declared.scan.NameScan.{NameScan}
 use Rattle.markup.specs.declared.scan.NameScan.TheVariants.{First, Colon, Second}
 use Rattle.markup.specs.declared.scan.NameTurn.{NameTurn}
 use Rattle.markup.specs.declared.scan.NameTurn.TheVariants.{Remains, Ends, Fails}
 use Rattle.markup.proofs.ReferenceLemmas.{body}
-use Rattle.markup.proofs.Spans.{heads, tails}
-use Rattle.markup.proofs.Residuals.{InDigits, IsReference, FirstDigit, ReferenceRest, ReferenceThen, SecondRest, ColonRest, FirstRest, NameRest, NameThen}
+use Rattle.markup.proofs.Residuals.{InDigits, IsReference, FirstDigit, ReferenceRest, ReferenceThen, ColonRest, FirstRest, NameRest, NameThen}
 
 -- what a choice tells is told by one of its ways
 pub on_if : {X R : Type 0} (P : X → Type 0) (b : Bool) (x y : X) → P (if b then x else y) → (b ≡ true → P x → R) → (b ≡ false → P y → R) → R

@@ -1,15 +1,15 @@
 -- A fault that the bytes show, whatever follows them, is not that they end too early.
-use Rattle.std.proofs.Common.{◌≡◌, ◌≢◌, ℕ, Bool, true, false, not, ◌==◌, ◌&&◌, ◌||◌, ◌+◌, ◌≤◌, List, [], ◌∷◌, ◌++◌, length, reverse, Option, Some, None, if◌then◌else◌, is_none, refl, sym, ◌∙◌, ap, subst, append-nil, length-append, arith}
+use Rattle.std.proofs.Common.{◌≡◌, ◌≢◌, ℕ, Bool, true, false, not, ◌==◌, ◌&&◌, ◌||◌, ◌+◌, ◌≤◌, List, [], ◌∷◌, ◌++◌, length, reverse, Option, Some, None, if◌then◌else◌, is_none, refl, sym, ◌∙◌, ap, subst, length-append, arith}
 use Rattle.std.specs.List.{flat_map, list_any}
 use Rattle.std.specs.Str.{bytes_eq}
 use Rattle.std.proofs.lemmas.Bool.{both_ways}
 use Rattle.lexical_core.specs.declared.rule.Rule.{Rule}
-use Rattle.lexical_core.specs.declared.rule.Rule.TheVariants.{BadUtf8, BadMarkup, Doctype, BadReference, BadChar, DuplicateAttribute, BadPrefix, TagMismatch, TextOutside, Truncated, AfterRoot}
+use Rattle.lexical_core.specs.declared.rule.Rule.TheVariants.{BadMarkup, BadReference, DuplicateAttribute, BadPrefix, TagMismatch, TextOutside, Truncated, AfterRoot}
 use Rattle.markup.specs.declared.tag.Opening.{Opening}
 use Rattle.markup.specs.declared.tag.Spelled.{Spelled}
 use Rattle.markup.specs.Chars.{is_space}
 use Rattle.markup.specs.Token.{Token, Mark, Declaration, Comment, Instruction, Opener, Closer, TypeDeclaration, Start, End, Refer, LineEnd, Character, token_bytes}
-use Rattle.markup.specs.Marks.{in_cdata, Front, tag_limit}
+use Rattle.markup.specs.Marks.{in_cdata, tag_limit}
 use Rattle.markup.specs.Events.{opening, spelled, open_tags, element_name}
 use Rattle.markup.specs.Faults.{rule_of, start_rule, end_rule, outside_rule, is_outside, is_over, has_clash, is_bad_attribute, behind_brackets, Stops, no_char, bad_char, stuck, is_in_reference, Next, broken, halts, cut, too_long, Fault, MarkFault}
 use Rattle.markup.proofs.InputLemmas.{front_bytes}

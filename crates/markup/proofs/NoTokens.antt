@@ -1,27 +1,23 @@
 -- Where a token that is begun cannot go on, no token stands.
-use Rattle.std.proofs.Common.{◌≡◌, ◌≢◌, ℕ, Bool, true, false, not, ◌==◌, ◌&&◌, if◌then◌else◌, ◌<◌, ◌⊎◌, inl, inr, List, [], ◌∷◌, ◌++◌, length, refl, sym, ◌∙◌, ap, subst, append_assoc, append-nil, arith}
+use Rattle.std.proofs.Common.{◌≡◌, ℕ, Bool, true, false, not, ◌==◌, if◌then◌else◌, ◌<◌, ◌⊎◌, inl, inr, List, [], ◌∷◌, ◌++◌, length, refl, sym, ◌∙◌, ap, subst, append_assoc, append-nil, arith}
 use Rattle.std.specs.Char.{encode_utf8, IsScalar}
 use Rattle.std.specs.Str.{encode_utf8_all}
 use Rattle.std.proofs.lemmas.Bool.{and_parts, not-false, both_ways, cases_Bool, eqb-true}
 use Rattle.std.proofs.lemmas.Str.{encode_same}
 use Rattle.lexical_core.specs.Utf8.{IsFront, IsNoFront}
-use Rattle.markup.specs.Chars.{is_xml_char}
-use Rattle.markup.specs.Token.{Token, LineEnd, Character, Lf, Cr, CrLf, token_text, token_bytes}
-use Rattle.markup.specs.Marks.{in_cdata, begins_with, shows_no_closer, stands, Cell}
+use Rattle.markup.specs.Token.{Token, LineEnd, Character, Lf, Cr, CrLf, token_text}
+use Rattle.markup.specs.Marks.{in_cdata, begins_with, shows_no_closer, stands}
 use Rattle.markup.specs.Faults.{GoesOn, NoToken}
 use Rattle.markup.specs.Drafts.{no_draft, noted}
-use Rattle.markup.specs.Scans.{step}
-use Rattle.markup.specs.ScanRuns.{Run, At, Over, Failed, turned, run, position, ended_of, draft_of, ends_itself}
+use Rattle.markup.specs.ScanRuns.{Run, At, Over, turned, run, position, ended_of, draft_of, ends_itself}
 use Rattle.markup.specs.declared.draft.Draft.{Draft}
 use Rattle.markup.specs.declared.scan.Scan.{Scan}
 use Rattle.markup.specs.declared.scan.Scan.TheVariants.{Begin, AfterReturn, Bracket, Brackets}
-use Rattle.markup.specs.declared.scan.Ended.{Ended}
 use Rattle.markup.specs.declared.scan.Ended.TheVariants.{LineEnd as LineEnded, Closer as CloserEnded}
 use Rattle.markup.specs.declared.scan.Turn.TheVariants.{Goes, Whole, Stuck}
 use Rattle.markup.proofs.TokenKinds.{in_both, stands_bracket}
-use Rattle.markup.proofs.TokenChars.{token_all, last_xml, all_xml}
+use Rattle.markup.proofs.TokenChars.{token_all, all_xml}
 use Rattle.markup.proofs.Complete.{complete, return_run, bracket_run}
-use Rattle.markup.proofs.Exact.{no_more}
 use Rattle.markup.proofs.Spans.{heads, tails}
 
 -- one of two texts before bytes begins with the other

@@ -1,19 +1,18 @@
 -- A text has at most one first fault, and none where it is whole.
-use Rattle.std.proofs.Common.{◌≡◌, ◌≢◌, ℕ, Bool, true, false, not, ◌==◌, ◌&&◌, ◌+◌, ◌<◌, ◌≤◌, ◌⊎◌, inl, inr, List, [], ◌∷◌, ◌++◌, length, reverse, Option, Some, None, if◌then◌else◌, refl, sym, ◌∙◌, ap, subst, append_assoc, append-nil, length-append, arith}
+use Rattle.std.proofs.Common.{◌≡◌, ◌≢◌, ℕ, true, false, ◌==◌, ◌+◌, ◌<◌, ◌≤◌, ◌⊎◌, inl, inr, List, [], ◌∷◌, ◌++◌, length, reverse, Some, None, refl, sym, ◌∙◌, ap, subst, append_assoc, append-nil, length-append, arith}
 use Rattle.std.specs.List.{flat_map, list_all}
-use Rattle.std.specs.Char.{encode_utf8, IsScalar}
+use Rattle.std.specs.Char.{encode_utf8}
 use Rattle.std.specs.Str.{encode_utf8_all}
 use Rattle.std.proofs.lemmas.Bool.{both_ways, and_parts, not-false, cases_Bool, leb-true, eqb-true, eqb-false}
 use Rattle.std.proofs.lemmas.List.{reverse-append}
 use Rattle.std.proofs.lemmas.Str.{encode_same, encodes-append, length-encode, len_utf8_bounds}
-use Rattle.lexical_core.specs.Utf8.{IsFront, IsNoFront}
+use Rattle.lexical_core.specs.Utf8.{IsFront}
 use Rattle.lexical_core.specs.declared.rule.Rule.{Rule}
-use Rattle.lexical_core.specs.declared.rule.Rule.TheVariants.{BadUtf8, BadMarkup, BadReference, BadChar, Truncated}
 use Rattle.markup.specs.Chars.{is_xml_char}
 use Rattle.markup.specs.Token.{Token, Mark, Declaration, Comment, Instruction, Opener, Closer, TypeDeclaration, Start, End, Refer, LineEnd, Character, Lf, Cr, CrLf, token_text, token_bytes}
-use Rattle.markup.specs.Reference.{Reference, Named, Numbered}
+use Rattle.markup.specs.Reference.{Named, Numbered}
 use Rattle.markup.specs.Marks.{in_cdata, stands, Cell, Front, is_short, tag_limit}
-use Rattle.markup.specs.Faults.{rule_of, IsClean, NoToken, GoesOn, is_in_reference, is_over, Stops, no_char, bad_char, stuck, IsTagBegun, IsUnended, Fault, MarkFault, IsWhole, WholeHasNone, Next, broken, halts, cut, too_long}
+use Rattle.markup.specs.Faults.{rule_of, IsClean, NoToken, GoesOn, is_over, Stops, no_char, bad_char, stuck, IsTagBegun, IsUnended, Fault, MarkFault, WholeHasNone, Next, broken, halts, cut, too_long}
 use Rattle.markup.proofs.Spans.{heads, tails}
 use Rattle.markup.proofs.TokenLaw.{one_token}
 use Rattle.markup.proofs.TokenChars.{token_all, last_xml}
@@ -21,7 +20,7 @@ use Rattle.markup.proofs.NoTokens.{Shorter, Longer, compare_texts, no_whole, fro
 use Rattle.markup.proofs.CharLemmas.{xml_scalar}
 use Rattle.markup.proofs.Complete.{complete}
 use Rattle.markup.specs.Drafts.{no_draft}
-use Rattle.markup.specs.ScanRuns.{Run, Over, run, position, ended_of, draft_of, ends_itself}
+use Rattle.markup.specs.ScanRuns.{Over, run, position, ended_of, draft_of, ends_itself}
 use Rattle.markup.specs.declared.scan.Scan.TheVariants.{Begin}
 
 -- the tokens before, behind these

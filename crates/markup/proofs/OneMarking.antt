@@ -1,5 +1,5 @@
 -- Bytes are at most one list of tokens.
-use Rattle.std.proofs.Common.{◌≡◌, ℕ, List, [], reverse}
+use Rattle.std.proofs.Common.{◌≡◌, ℕ, List}
 use Rattle.markup.specs.Token.{Token}
 use Rattle.markup.specs.Marks.{Marks}
 use Rattle.markup.proofs.InputEnds.{marks_longest, one_longest}

@@ -1,12 +1,12 @@
 -- Which characters leave a token waiting for what follows: a CR, and brackets in a CDATA section.
-use Rattle.std.proofs.Common.{◌≡◌, ℕ, Bool, true, false, not, ◌==◌, ◌||◌, ◌&&◌, ◌+◌, List, [], ◌∷◌, Option, Some, None, is_none, if◌then◌else◌, refl, sym, ◌∙◌, ap, subst}
+use Rattle.std.proofs.Common.{◌≡◌, ℕ, Bool, true, false, not, ◌==◌, ◌||◌, ◌&&◌, ◌+◌, List, [], ◌∷◌, Option, Some, None, is_none, if◌then◌else◌, refl, sym, subst}
 use Rattle.std.proofs.lemmas.Bool.{both_ways, eqb-true}
 use Rattle.markup.specs.Chars.{is_xml_char, is_name_start, is_name_char, is_space}
 use Rattle.markup.specs.Words.{letter_of}
 use Rattle.markup.specs.ReferenceScans.{reference_step}
 use Rattle.markup.specs.Drafts.{noted}
 use Rattle.markup.specs.Scans.{step, name_step, name_turn, fixed_ended, fits_letter, fixed_letter, field_letter, field_word_letter, field_end_step, behind_attribute_step, referring, referring_in, text_step, line_step}
-use Rattle.markup.specs.ScanRuns.{Run, At, Over, Failed, turned, run}
+use Rattle.markup.specs.ScanRuns.{At, turned, run}
 use Rattle.markup.specs.declared.draft.Draft.{Draft}
 use Rattle.markup.specs.declared.word.Word.{Word}
 use Rattle.markup.specs.declared.reference.ReferenceTurn.{ReferenceTurn}

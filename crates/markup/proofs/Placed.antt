@@ -1,21 +1,20 @@
 -- Where the scan is in a reference, or in a tag, from a token's first character on.
-use Rattle.std.proofs.Common.{◌≡◌, ◌≢◌, ℕ, Bool, true, false, not, ◌==◌, ◌||◌, ◌&&◌, ◌+◌, List, [], ◌∷◌, ◌++◌, Option, Some, None, is_none, if◌then◌else◌, refl, sym, ◌∙◌, ap, subst}
-use Rattle.std.proofs.lemmas.Bool.{both_ways, eqb-true, eqb-false, cases_Bool}
+use Rattle.std.proofs.Common.{◌≡◌, ℕ, Bool, true, false, ◌==◌, ◌||◌, ◌&&◌, ◌+◌, List, [], ◌∷◌, Option, Some, None, is_none, if◌then◌else◌, refl, sym, ◌∙◌, ap, subst}
+use Rattle.std.proofs.lemmas.Bool.{both_ways, eqb-true, eqb-false}
 use Rattle.markup.specs.Chars.{is_xml_char, is_name_start, is_name_char, is_space}
 use Rattle.markup.specs.Faults.{ends_in_reference, is_in_reference, IsTagBegun}
 use Rattle.markup.specs.Words.{letter_of}
 use Rattle.markup.specs.ReferenceScans.{reference_step}
-use Rattle.markup.specs.Drafts.{no_draft, noted}
-use Rattle.markup.specs.Scans.{step, fixed_ended, fits_letter, fixed_letter, field_letter, field_word_letter, field_end_step, text_step, line_step, cdata_step, opened_step, referring}
+use Rattle.markup.specs.Drafts.{noted}
+use Rattle.markup.specs.Scans.{step, fixed_ended, fits_letter, fixed_letter, field_letter, field_word_letter, field_end_step, text_step, line_step, opened_step, referring}
 use Rattle.markup.specs.Tokenizers.{is_tag}
-use Rattle.markup.specs.ScanRuns.{Run, At, Over, Failed, turned, run}
+use Rattle.markup.specs.ScanRuns.{At, turned, run}
 use Rattle.markup.specs.declared.draft.Draft.{Draft}
 use Rattle.markup.specs.declared.word.Word.{Word}
 use Rattle.markup.specs.declared.reference.ReferenceScan.{ReferenceScan}
 use Rattle.markup.specs.declared.reference.ReferenceScan.TheVariants.{Begun}
 use Rattle.markup.specs.declared.reference.ReferenceTurn.{ReferenceTurn}
 use Rattle.markup.specs.declared.reference.ReferenceTurn.TheVariants.{Continues, Gives, Breaks}
-use Rattle.markup.specs.declared.scan.NameScan.{NameScan}
 use Rattle.markup.specs.declared.scan.NameScan.TheVariants.{First, Colon, Second}
 use Rattle.markup.specs.declared.scan.Field.{Field}
 use Rattle.markup.specs.declared.scan.Field.TheVariants.{Version, Encoding, Standalone}

@@ -1,33 +1,31 @@
 -- A reader behind one more byte, and at the end of the input.
-use Rattle.std.proofs.Common.{◌≡◌, ◌≢◌, ℕ, Bool, true, false, ◌+◌, ◌<◌, ◌≤◌, ◌^◌, List, [], ◌∷◌, ◌++◌, length, reverse, map, Option, Some, None, if◌then◌else◌, refl, sym, ◌∙◌, ap, subst, append_assoc, append-nil, length-append, arith}
+use Rattle.std.proofs.Common.{◌≡◌, ℕ, true, false, ◌+◌, ◌<◌, ◌^◌, List, [], ◌∷◌, ◌++◌, length, reverse, Some, None, if◌then◌else◌, refl, sym, ◌∙◌, ap, subst, append_assoc, append-nil, length-append, arith}
 use Rattle.std.specs.List.{flat_map}
 use Rattle.std.proofs.lemmas.Bool.{both_ways}
-use Rattle.lexical_core.specs.Tree.{Char}
 use Rattle.lexical_core.specs.declared.rule.Rule.{Rule}
 use Rattle.lexical_core.specs.declared.rule.Rule.TheVariants.{Truncated}
-use Rattle.markup.specs.Token.{Token, LineEnd, Line, Lf, Cr, CrLf, token_bytes}
-use Rattle.markup.specs.Marks.{in_cdata, Cell, Front, Marks, tag_limit}
+use Rattle.markup.specs.Token.{Token, LineEnd, Line, Cr, CrLf, token_bytes}
+use Rattle.markup.specs.Marks.{in_cdata, Cell, Front, tag_limit}
 use Rattle.markup.specs.Events.{Placed, events, items_of, open_tags}
-use Rattle.markup.specs.Faults.{rule_of, IsClean, Fault, MarkFault, is_over}
+use Rattle.markup.specs.Faults.{rule_of, MarkFault, is_over}
 use Rattle.markup.specs.Longest.{IsLongest}
-use Rattle.markup.specs.EventItems.{placed, Tells, TellsFront}
+use Rattle.markup.specs.EventItems.{Tells, TellsFront}
 use Rattle.markup.specs.Scopes.{placed_at}
 use Rattle.markup.specs.Contexts.{IsContext, TakesToken}
 use Rattle.markup.specs.ScanRuns.{ended_of, draft_of}
 use Rattle.markup.specs.TokenRules.{items_by, is_cdata}
 use Rattle.markup.specs.Tokenizers.{IsOpen, IsAwaited, Finishes, FinishesBy, SettlesBy, EndsToken, AdvancesBy, open_at}
-use Rattle.markup.specs.Inputs.{Reads, Any, Begins, with_pending, is_cut, is_return, settled_tokens, settled_events, SettlesInput, Shows, ReadsMore, ReadsToken, AdvancesInput}
-use Rattle.markup.specs.Reading.{fault_of, Keeps, HasTaken, AreEvents, GoesOn, Refuses, RunsOut, Stops, IsWholly}
+use Rattle.markup.specs.Inputs.{Reads, Any, Begins, with_pending, is_cut, is_return, settled_tokens, settled_events, SettlesInput, ReadsMore, ReadsToken}
+use Rattle.markup.specs.Reading.{Keeps, HasTaken, GoesOn, Refuses, RunsOut, Stops, IsWholly}
 use Rattle.markup.specs.declared.reader.MarkError.{MarkError}
 use Rattle.markup.specs.declared.reader.MarkError.TheVariants.{Refused as RefusedBy, Memory as NoMemory}
-use Rattle.markup.specs.ReaderSteps.{TellsMore, SettlesEvents, TokenStopped, TokenAnswered, returned}
+use Rattle.markup.specs.ReaderSteps.{TellsMore, SettlesEvents, TokenStopped, returned}
 use Rattle.markup.specs.declared.context.Context.{Context}
 use Rattle.markup.specs.declared.draft.Draft.{Draft}
 use Rattle.markup.specs.declared.event.Event.{Event}
 use Rattle.markup.specs.declared.reader.Reader.{Reader}
 use Rattle.markup.specs.declared.reader.MarkFault.{MarkFault as Told}
 use Rattle.markup.specs.declared.scan.Ended.{Ended}
-use Rattle.markup.specs.declared.scan.Ended.TheVariants.{LineEnd as LineEnded}
 use Rattle.markup.specs.declared.tokenizer.Settled.{Settled}
 use Rattle.markup.specs.declared.tokenizer.Finish.{Finish}
 use Rattle.markup.specs.declared.tokenizer.Finish.TheVariants.{Nothing, Return, Open}

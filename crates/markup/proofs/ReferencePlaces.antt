@@ -1,16 +1,15 @@
 -- Where the scan is in a reference, or in a tag, as the characters so far tell it.
-use Rattle.std.proofs.Common.{◌≡◌, ◌≢◌, ℕ, Bool, true, false, not, ◌==◌, ◌||◌, ◌&&◌, ◌+◌, ◌⊎◌, inl, inr, List, [], ◌∷◌, ◌++◌, drop, suc, zero, Option, Some, None, if◌then◌else◌, refl, sym, ◌∙◌, ap, subst, arith}
-use Rattle.std.specs.List.{list_all, slice_get}
-use Rattle.std.specs.Char.{is_digit}
-use Rattle.std.proofs.lemmas.Bool.{and_parts, and_from, both_ways, not-true, not_from_false, cases_Bool, eqb-true, eqb-false}
+use Rattle.std.proofs.Common.{◌≡◌, ℕ, Bool, true, false, not, ◌==◌, ◌||◌, ◌&&◌, ◌+◌, List, [], ◌∷◌, drop, suc, zero, Option, Some, None, if◌then◌else◌, refl, sym, ◌∙◌, ap, subst, arith}
+use Rattle.std.specs.List.{list_all}
+use Rattle.std.proofs.lemmas.Bool.{and_parts, both_ways, not-true, not_from_false, eqb-true}
 use Rattle.std.proofs.lemmas.Bool.Decides.{nat_tests}
 use Rattle.markup.specs.Chars.{is_xml_char, is_name_start, is_name_char, is_space}
-use Rattle.markup.specs.Faults.{ends_in_reference, is_in_reference, IsTagBegun}
+use Rattle.markup.specs.Faults.{ends_in_reference}
 use Rattle.markup.specs.Words.{word_text, letter_of}
 use Rattle.markup.specs.ReferenceScans.{reference_step, digit_step, first_digit, more_digits, digits_step, numbered, gives, letter_step}
-use Rattle.markup.specs.Drafts.{no_draft, noted}
+use Rattle.markup.specs.Drafts.{noted}
 use Rattle.markup.specs.Scans.{step, name_step, name_turn, behind_attribute_step, before_equals_step, after_equals_step, end_gap_step, value_step, referring_in}
-use Rattle.markup.specs.ScanRuns.{Run, At, Over, Failed, turned, run}
+use Rattle.markup.specs.ScanRuns.{At, turned, run}
 use Rattle.markup.specs.declared.draft.Draft.{Draft}
 use Rattle.markup.specs.declared.word.Word.{Word}
 use Rattle.markup.specs.declared.word.Word.TheVariants.{Cdata as CdataWord, Doctype as DoctypeWord, Ampersand, Less, Greater, Apostrophe, Quote, Version as VersionWord, Encoding as EncodingWord, Standalone as StandaloneWord, One, Utf8, Yes, No}
@@ -23,7 +22,7 @@ use Rattle.markup.specs.declared.scan.NameScan.TheVariants.{First, Colon, Second
 use Rattle.markup.specs.declared.scan.NameTurn.{NameTurn}
 use Rattle.markup.specs.declared.scan.NameTurn.TheVariants.{Remains, Ends, Fails}
 use Rattle.markup.specs.declared.scan.Scan.{Scan}
-use Rattle.markup.specs.declared.scan.Scan.TheVariants.{Begin, Reference as InReference, StartName, Gap, AttributeName, BeforeEquals, AfterEquals, Value, ValueReference, AfterValue, Slash, EndOpened, EndName, EndGap}
+use Rattle.markup.specs.declared.scan.Scan.TheVariants.{Reference as InReference, StartName, Gap, AttributeName, BeforeEquals, AfterEquals, Value, ValueReference, AfterValue, Slash, EndOpened, EndName, EndGap}
 use Rattle.markup.specs.declared.scan.Turn.{Turn}
 use Rattle.markup.specs.declared.scan.Turn.TheVariants.{Goes, Whole, Stuck}
 use Rattle.markup.proofs.CharLemmas.{digit_no_semicolon}

@@ -1,22 +1,21 @@
 -- Runs of the scan over references.
-use Rattle.std.proofs.Common.{◌≡◌, ℕ, Bool, true, false, not, ◌==◌, ◌||◌, ◌&&◌, ◌+◌, ◌*◌, ◌≤◌, List, [], ◌∷◌, ◌++◌, length, codes, Option, Some, None, if◌then◌else◌, nat_le, refl, sym, ◌∙◌, ap, subst, arith, inl, inr}
+use Rattle.std.proofs.Common.{◌≡◌, ℕ, true, not, ◌==◌, ◌+◌, ◌*◌, ◌≤◌, List, [], ◌∷◌, ◌++◌, length, Option, Some, None, nat_le, refl, sym, ◌∙◌, ap, subst, arith, inl, inr}
 use Rattle.std.specs.List.{list_all}
 use Rattle.std.specs.Char.{is_digit, digit_value}
-use Rattle.std.proofs.lemmas.Bool.{and_parts, and_from, or_cases, eqb-true, le-leb, not-true}
+use Rattle.std.proofs.lemmas.Bool.{and_parts, and_from, or_cases, eqb-true, le-leb}
 use Rattle.std.proofs.lemmas.Bool.Decides.{nat_tests}
 use Rattle.markup.specs.Chars.{is_xml_char}
-use Rattle.markup.specs.Reference.{Entity, Ampersand, Less, Greater, Apostrophe, Quote, Reference, Named, Numbered, is_reference, referred, number}
+use Rattle.markup.specs.Reference.{Ampersand, Less, Greater, Apostrophe, Quote, Reference, Named, Numbered, is_reference, referred, number}
 use Rattle.markup.specs.Drafts.{noted}
-use Rattle.markup.specs.ReferenceScans.{reference_step, digit_step, first_digit, more_digits, digits_step, gives, numbered}
+use Rattle.markup.specs.ReferenceScans.{reference_step, digit_step, first_digit, more_digits}
 use Rattle.markup.specs.Scans.{step}
 use Rattle.markup.specs.declared.draft.Draft.{Draft}
 use Rattle.markup.specs.declared.word.Word.TheVariants.{Ampersand as AmpersandWord, Less as LessWord, Greater as GreaterWord, Apostrophe as ApostropheWord, Quote as QuoteWord}
 use Rattle.markup.specs.declared.reference.ReferenceScan.{ReferenceScan}
-use Rattle.markup.specs.declared.reference.ReferenceScan.TheVariants.{Begun, LetterA, Name, Hash, HashX, Decimal, Hexadecimal}
+use Rattle.markup.specs.declared.reference.ReferenceScan.TheVariants.{Begun, Name, Hash, HashX, Decimal, Hexadecimal}
 use Rattle.markup.specs.declared.reference.ReferenceTurn.{ReferenceTurn}
 use Rattle.markup.specs.declared.reference.ReferenceTurn.TheVariants.{Continues, Gives, Breaks}
 use Rattle.markup.specs.declared.scan.Scan.{Scan}
-use Rattle.markup.specs.declared.scan.Turn.{Turn}
 use Rattle.markup.specs.declared.scan.Turn.TheVariants.{Goes}
 use Rattle.markup.proofs.CharLemmas.{digit_no_x}
 use Rattle.markup.proofs.ReferenceLemmas.{body, IsNumbered, numbered_facts}

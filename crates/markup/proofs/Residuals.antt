@@ -1,30 +1,26 @@
 -- What may complete a token that a scan is in, in the grammar's own terms, read from the front.
-use Rattle.std.proofs.Common.{◌≡◌, ℕ, Bool, true, false, not, ◌==◌, ◌||◌, ◌&&◌, ◌+◌, ◌⊎◌, List, [], ◌∷◌, ◌++◌, length, map, codes, drop, Option, Some, None, if◌then◌else◌}
+use Rattle.std.proofs.Common.{◌≡◌, ℕ, Bool, true, false, ◌==◌, ◌||◌, ◌&&◌, ◌⊎◌, List, [], ◌∷◌, ◌++◌, map, drop}
 use Rattle.std.specs.List.{list_all, flat_map}
 use Rattle.std.specs.Char.{is_digit, to_ascii_lowercase}
 use Rattle.markup.specs.Chars.{is_xml_char, is_name_start, is_name_char, is_space}
-use Rattle.markup.specs.Name.{Name, is_name, is_part, name_text}
+use Rattle.markup.specs.Name.{Name, is_name, name_text}
 use Rattle.markup.specs.Reference.{Reference, is_reference, number}
 use Rattle.markup.specs.Attribute.{Piece, is_piece, piece_text, Attribute, is_attribute, attribute_text}
 use Rattle.markup.specs.Declaration.{is_declaration, is_encoding, is_standalone}
 use Rattle.markup.specs.Token.{Token, Mark, Declaration, Comment, Instruction, Opener, Closer, TypeDeclaration, Start, End, Refer, LineEnd, Character, is_start_tag, is_comment, is_instruction, is_instruction_text, token_text}
-use Rattle.markup.specs.Marks.{in_cdata, is_first, stands}
 use Rattle.markup.specs.Words.{word_text}
 use Rattle.markup.specs.Scans.{name_word}
 use Rattle.markup.specs.declared.word.Word.{Word}
-use Rattle.markup.specs.declared.word.Word.TheVariants.{Cdata as CdataWord, Doctype as DoctypeWord, Version as VersionWord, Encoding as EncodingWord, Standalone as StandaloneWord, One, Utf8, Yes, No, Ampersand, Less, Greater, Apostrophe, Quote}
+use Rattle.markup.specs.declared.word.Word.TheVariants.{One, Utf8, Yes, No}
 use Rattle.markup.specs.declared.reference.ReferenceScan.{ReferenceScan}
 use Rattle.markup.specs.declared.reference.ReferenceScan.TheVariants.{Begun, LetterA, Name as NameOf, Hash, HashX, Decimal, Hexadecimal}
 use Rattle.markup.specs.declared.reference.ReferenceTurn.{ReferenceTurn}
 use Rattle.markup.specs.declared.reference.ReferenceTurn.TheVariants.{Continues, Gives, Breaks}
 use Rattle.markup.specs.declared.scan.NameScan.{NameScan}
 use Rattle.markup.specs.declared.scan.NameScan.TheVariants.{First, Colon, Second}
-use Rattle.markup.specs.declared.scan.NameTurn.{NameTurn}
-use Rattle.markup.specs.declared.scan.NameTurn.TheVariants.{Remains, Ends, Fails}
 use Rattle.markup.specs.declared.scan.Field.{Field}
 use Rattle.markup.specs.declared.scan.Field.TheVariants.{Version, Encoding, Standalone}
 use Rattle.markup.specs.declared.scan.Position.{Position}
-use Rattle.markup.specs.declared.scan.Position.TheVariants.{Start as AtStart, AfterMark, Text, Cdata}
 use Rattle.markup.specs.declared.scan.Scan.{Scan}
 use Rattle.markup.specs.declared.scan.Scan.TheVariants.{Begin, AfterReturn, Bracket, Brackets, Reference as InReference, Opened, Bang, BangHyphen, CommentText, CommentHyphen, CommentEnd, Fixed, Question, TargetX, TargetXm, TargetXml, Target, TargetMark, InstructionText, InstructionMark, DeclarationGap, FieldName, FieldBefore, FieldAfter, FieldValue, FieldWord, FieldEnd, FieldGap, DeclarationMark, StartName, Gap, AttributeName, BeforeEquals, AfterEquals, Value, ValueReference, AfterValue, Slash, EndOpened, EndName, EndGap}
 use Rattle.markup.specs.declared.scan.Turn.{Turn}

@@ -1,28 +1,26 @@
 -- Runs of the scan over characters, with what an open tag says.
-use Rattle.std.proofs.Common.{◌≡◌, ℕ, Bool, true, false, not, ◌==◌, ◌||◌, ◌&&◌, List, [], ◌∷◌, ◌++◌, Option, Some, None, if◌then◌else◌, refl, sym, ◌∙◌, ap, subst, append_assoc, append-nil}
+use Rattle.std.proofs.Common.{◌≡◌, ℕ, Bool, true, false, ◌==◌, ◌&&◌, List, [], ◌∷◌, ◌++◌, refl, sym, ◌∙◌, ap, append_assoc, append-nil}
 use Rattle.std.specs.List.{list_all}
 use Rattle.std.specs.Char.{encode_utf8}
 use Rattle.std.specs.Str.{encode_utf8_all}
-use Rattle.std.proofs.lemmas.Bool.{and_parts, or_parts, not-true}
-use Rattle.markup.specs.Chars.{is_xml_char, is_name_start, is_name_char, is_space}
-use Rattle.markup.specs.Name.{Name, Plain, Prefixed, is_name, is_part, name_text}
+use Rattle.std.proofs.lemmas.Bool.{and_parts, or_parts}
+use Rattle.markup.specs.Chars.{is_name_start, is_name_char, is_space}
+use Rattle.markup.specs.Name.{Name, Plain, Prefixed, is_name, name_text}
 use Rattle.markup.specs.Events.{spelled}
-use Rattle.markup.specs.Drafts.{no_name, add, noted, value_noted}
+use Rattle.markup.specs.Drafts.{no_name, add, noted}
 use Rattle.markup.specs.Scans.{step, name_step, name_turn}
-use Rattle.markup.specs.ScanRuns.{Run, At, Over, Failed, turned, run}
+use Rattle.markup.specs.ScanRuns.{Run, Over, turned, run}
 use Rattle.markup.specs.declared.tag.Spelled.{Spelled}
-use Rattle.markup.specs.declared.tag.Given.{Given}
 use Rattle.markup.specs.declared.draft.Draft.{Draft}
 use Rattle.markup.specs.declared.scan.NameScan.{NameScan}
 use Rattle.markup.specs.declared.scan.NameScan.TheVariants.{First, Colon, Second}
-use Rattle.markup.specs.declared.scan.NameTurn.{NameTurn}
-use Rattle.markup.specs.declared.scan.NameTurn.TheVariants.{Remains, Ends, Fails}
+use Rattle.markup.specs.declared.scan.NameTurn.TheVariants.{Remains, Ends}
 use Rattle.markup.specs.declared.scan.Scan.{Scan}
-use Rattle.markup.specs.declared.scan.Scan.TheVariants.{Value, ValueReference, AfterValue, StartName, AttributeName, EndName, BeforeEquals, EndGap}
+use Rattle.markup.specs.declared.scan.Scan.TheVariants.{Value, AfterValue, StartName, AttributeName, EndName, BeforeEquals, EndGap}
 use Rattle.markup.specs.declared.scan.Ended.{Ended}
 use Rattle.markup.specs.declared.scan.Turn.{Turn}
 use Rattle.markup.specs.declared.scan.Turn.TheVariants.{Goes, Whole, Stuck}
-use Rattle.markup.proofs.NameLemmas.{in_name, part_all}
+use Rattle.markup.proofs.NameLemmas.{in_name}
 use Rattle.markup.proofs.CharLemmas.{colon_no_name}
 
 -- one character leads on

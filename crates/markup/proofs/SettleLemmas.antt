@@ -1,22 +1,21 @@
 -- What a byte does not go on with are tokens that stand before it.
-use Rattle.std.proofs.Common.{◌≡◌, ℕ, Bool, true, false, not, ◌==◌, ◌||◌, ◌&&◌, ◌+◌, ◌-◌, List, [], ◌∷◌, ◌++◌, length, Option, Some, if◌then◌else◌, refl, sym, ◌∙◌, ap, subst, append-nil, add-zero, arith}
+use Rattle.std.proofs.Common.{◌≡◌, ℕ, Bool, true, false, not, ◌==◌, ◌+◌, ◌-◌, List, [], ◌∷◌, ◌++◌, length, Some, if◌then◌else◌, refl, sym, ◌∙◌, ap, subst, append-nil, add-zero, arith}
 use Rattle.std.specs.Str.{encode_utf8_all}
 use Rattle.std.specs.Char.{encode_utf8}
-use Rattle.std.proofs.lemmas.Bool.{and_from, and_left, not_from_false, both_ways, cases_Bool, eqb-true, eq-eqb}
+use Rattle.std.proofs.lemmas.Bool.{and_left, not_from_false, both_ways, eqb-true, eq-eqb}
 use Rattle.markup.specs.Chars.{is_xml_char}
 use Rattle.markup.specs.Token.{Token, LineEnd, Character, Cr, token_bytes}
-use Rattle.markup.specs.Marks.{in_cdata, begins_with, is_line_end, shows_no_closer, stands, tag_limit}
-use Rattle.markup.specs.Faults.{IsTagBegun, NoToken, Next, cut}
+use Rattle.markup.specs.Marks.{in_cdata, shows_no_closer, stands, tag_limit}
+use Rattle.markup.specs.Faults.{NoToken, Next, cut}
 use Rattle.markup.specs.Drafts.{no_draft}
-use Rattle.markup.specs.ScanRuns.{Run, At, Failed, run, position, placed}
+use Rattle.markup.specs.ScanRuns.{At, run, position, placed}
 use Rattle.markup.specs.Tokenizers.{after_other, is_pending, IsAwaited, IsOpen, restarted, second_bracket, settled_at, settled, SettlesOne, SettlesTwo, Settles, SettlesBy, open_at, Finishes, FinishesBy}
 use Rattle.markup.specs.declared.draft.Draft.{Draft}
-use Rattle.markup.specs.declared.scan.Position.{Position}
 use Rattle.markup.specs.declared.scan.Position.TheVariants.{Cdata}
 use Rattle.markup.specs.declared.scan.Scan.{Scan}
 use Rattle.markup.specs.declared.scan.Scan.TheVariants.{Begin, AfterReturn, Bracket, Brackets, Reference as InReference, Opened, Bang, BangHyphen, CommentText, CommentHyphen, CommentEnd, Fixed, Question, TargetX, TargetXm, TargetXml, Target, TargetMark, InstructionText, InstructionMark, DeclarationGap, FieldName, FieldBefore, FieldAfter, FieldValue, FieldWord, FieldEnd, FieldGap, DeclarationMark, StartName, Gap, AttributeName, BeforeEquals, AfterEquals, Value, ValueReference, AfterValue, Slash, EndOpened, EndName, EndGap}
 use Rattle.markup.specs.declared.tokenizer.Finish.{Finish}
-use Rattle.markup.specs.declared.tokenizer.Finish.TheVariants.{Nothing as NothingOpen, Return as ReturnOpen, Open}
+use Rattle.markup.specs.declared.tokenizer.Finish.TheVariants.{Nothing as NothingOpen, Open}
 use Rattle.lexical_core.specs.declared.rule.Rule.TheVariants.{Truncated}
 use Rattle.markup.proofs.Exact.{goes_on}
 use Rattle.markup.proofs.NoTokens.{Settled as SettledAt, no_token, no_whole}

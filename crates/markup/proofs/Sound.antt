@@ -1,18 +1,17 @@
 -- What the scan reads to its end is a token that stands there.
-use Rattle.std.proofs.Common.{◌≡◌, ℕ, Bool, true, false, not, ◌==◌, ◌||◌, ◌&&◌, ◌+◌, ◌⊎◌, inl, inr, List, [], ◌∷◌, ◌++◌, length, map, codes, drop, Option, Some, None, if◌then◌else◌, refl, sym, ◌∙◌, ap, subst, append_assoc, append-nil, arith}
-use Rattle.std.specs.List.{list_all, flat_map}
+use Rattle.std.proofs.Common.{◌≡◌, ℕ, Bool, true, false, ◌==◌, ◌&&◌, inl, inr, List, [], ◌∷◌, ◌++◌, length, codes, if◌then◌else◌, refl, sym, ◌∙◌, ap, subst, append-nil, arith}
+use Rattle.std.specs.List.{flat_map}
 use Rattle.std.specs.Char.{to_ascii_lowercase}
-use Rattle.std.proofs.lemmas.Bool.{and_parts, and_from, and_left, and_right, or_from, or_left, ne_eqb, not_from_false, both_ways, eqb-true}
-use Rattle.markup.specs.Chars.{is_xml_char, is_name_start, is_name_char, is_space}
+use Rattle.std.proofs.lemmas.Bool.{and_parts, and_from, and_left, and_right, or_left, ne_eqb, not_from_false, both_ways, eqb-true}
+use Rattle.markup.specs.Chars.{is_xml_char, is_name_start}
 use Rattle.markup.specs.Name.{Name, is_name, is_part, name_text}
-use Rattle.markup.specs.Reference.{Reference, is_reference, reference_text}
+use Rattle.markup.specs.Reference.{is_reference}
 use Rattle.markup.specs.Attribute.{attribute_text}
-use Rattle.markup.specs.Token.{Token, Mark, Declaration, Comment, Instruction, Opener, Closer, TypeDeclaration, Start, End, Refer, LineEnd, Character, Line, Lf, Cr, CrLf, StartTag, is_start_tag, is_comment, is_instruction, is_instruction_text, is_xml_word, token_text, start_tag_text}
+use Rattle.markup.specs.Token.{Token, Mark, Declaration, Comment, Instruction, Opener, Closer, TypeDeclaration, Start, End, Refer, LineEnd, Character, Line, Lf, CrLf, StartTag, is_instruction, is_instruction_text, is_xml_word, token_text}
 use Rattle.markup.specs.Marks.{in_cdata, is_first, is_line_end, stands}
-use Rattle.markup.specs.Drafts.{no_draft, noted}
-use Rattle.markup.specs.Scans.{step, begin_step, text_step, cdata_step, line_step, opened_step, bang_step, question_step}
+use Rattle.markup.specs.Drafts.{noted}
+use Rattle.markup.specs.Scans.{step, begin_step, text_step, line_step, opened_step, bang_step, question_step}
 use Rattle.markup.specs.declared.draft.Draft.{Draft}
-use Rattle.markup.specs.declared.scan.NameScan.TheVariants.{First}
 use Rattle.markup.specs.declared.scan.Field.TheVariants.{Version}
 use Rattle.markup.specs.declared.scan.Position.{Position}
 use Rattle.markup.specs.declared.scan.Position.TheVariants.{Start as AtStart, AfterMark, Text, Cdata}
@@ -22,17 +21,17 @@ use Rattle.markup.specs.declared.scan.Ended.{Ended}
 use Rattle.markup.specs.declared.scan.Turn.{Turn}
 use Rattle.markup.specs.declared.scan.Turn.TheVariants.{Goes, Whole, Stuck}
 use Rattle.markup.proofs.CharLemmas.{x_starts, other_x}
-use Rattle.markup.proofs.ReferenceLemmas.{body, reference_then}
+use Rattle.markup.proofs.ReferenceLemmas.{reference_then}
 use Rattle.markup.proofs.TokenLemmas.{close, start_tag_then}
 use Rattle.markup.proofs.TokenKinds.{first_outside}
-use Rattle.markup.proofs.TokenLaw.{comment_then, instruction_then, declaration_then, end_then}
+use Rattle.markup.proofs.TokenLaw.{instruction_then, declaration_then, end_then}
 use Rattle.markup.proofs.Complete.{starts_blank, is_none_left, begins_so}
 use Rattle.markup.proofs.NameSound.{on_if, at_char, name_begun}
-use Rattle.markup.proofs.TagSound.{cons_same, close_sound, behind_sound, gap_sound, before_equals_sound, after_equals_sound, value_sound, value_reference_sound, reference_turn_sound, end_gap_sound, start_name_sound, attribute_name_sound, end_name_sound}
+use Rattle.markup.proofs.TagSound.{cons_same, behind_sound, gap_sound, before_equals_sound, after_equals_sound, value_sound, value_reference_sound, reference_turn_sound, end_gap_sound, start_name_sound, attribute_name_sound, end_name_sound}
 use Rattle.markup.proofs.TextSound.{comment_text_sound, comment_hyphen_sound, fixed_sound, instruction_sound, mark_sound, target_sound, target_xml_sound, target_xm_sound, target_x_sound, declaration_gap_sound, field_before_sound, field_name_sound, field_after_sound, field_word_sound, field_value_sound}
 use Rattle.markup.proofs.DeclarationSound.{DeclarationMade, declaration_made, field_end_sound, field_gap_sound}
-use Rattle.markup.proofs.Residuals.{IsReference, ReferenceRest, NameRest, NameThen, Spaced, Gapped, Tail, EndClose, CommentRest, TargetRest, FieldNamed, stands_less, LessToken, Rest, Then}
-use Rattle.markup.specs.ScanRuns.{At, Failed, Over, Run, placed, position, run, turned}
+use Rattle.markup.proofs.Residuals.{IsReference, NameThen, Spaced, Gapped, Tail, EndClose, CommentRest, TargetRest, FieldNamed, stands_less, LessToken, Rest, Then}
+use Rattle.markup.specs.ScanRuns.{Over, placed, position, run, turned}
 
 -- a token from its whole text
 whole : (t : Token) (w : List ℕ) → token_text t ++ [] ≡ w → token_text t ≡ w

@@ -1,39 +1,35 @@
 -- Runs of the scan over attributes and tags.
-use Rattle.std.proofs.Common.{◌≡◌, ℕ, Bool, true, false, not, ◌==◌, ◌||◌, ◌&&◌, List, [], ◌∷◌, ◌++◌, map, codes, if◌then◌else◌, refl, sym, ◌∙◌, ap, subst, append_assoc, append-nil, inl, inr}
+use Rattle.std.proofs.Common.{◌≡◌, ℕ, Bool, true, false, ◌==◌, ◌||◌, ◌&&◌, List, [], ◌∷◌, ◌++◌, map, if◌then◌else◌, refl, sym, ◌∙◌, ap, subst, append_assoc, append-nil, inl, inr}
 use Rattle.std.specs.List.{list_all, flat_map}
 use Rattle.std.specs.Char.{encode_utf8}
 use Rattle.std.specs.Str.{encode_utf8_all}
-use Rattle.std.proofs.lemmas.Bool.{and_parts, and_from, or_from, or_parts, not-true, not_from_false, eqb-true, eqb-false, eq-eqb, ne_eqb, cases_Bool}
-use Rattle.markup.specs.Chars.{is_xml_char, is_name_start, is_name_char, is_space, is_gap}
+use Rattle.std.proofs.lemmas.Bool.{and_parts, or_from, eqb-true, eqb-false, eq-eqb, ne_eqb, cases_Bool}
+use Rattle.markup.specs.Chars.{is_name_start, is_space, is_gap}
 use Rattle.markup.specs.Name.{Name, is_name, name_text}
-use Rattle.markup.specs.Reference.{Reference, is_reference, reference_text, referred}
-use Rattle.markup.specs.Attribute.{Piece, Literal, Refers, is_piece, piece_text, Attribute, is_attribute, attribute_text, begins_lf, value_chars}
-use Rattle.markup.specs.Token.{StartTag, is_start_tag, start_tag_text}
-use Rattle.markup.specs.Events.{spelled, given, opening}
-use Rattle.markup.specs.Drafts.{add, no_name, no_draft, noted, literal_char, given_char, given_by}
-use Rattle.markup.specs.ReferenceScans.{reference_step}
-use Rattle.markup.specs.Scans.{step, name_step, name_turn, referring_in, value_step}
+use Rattle.markup.specs.Reference.{Reference, is_reference, referred}
+use Rattle.markup.specs.Attribute.{Piece, Literal, Refers, is_piece, piece_text, Attribute, is_attribute, attribute_text, value_chars}
+use Rattle.markup.specs.Token.{StartTag, is_start_tag}
+use Rattle.markup.specs.Events.{spelled, given}
+use Rattle.markup.specs.Drafts.{add, no_name, no_draft, noted, literal_char, given_by}
+use Rattle.markup.specs.Scans.{step, name_step, name_turn, referring_in}
 use Rattle.markup.specs.declared.tag.Spelled.{Spelled}
 use Rattle.markup.specs.declared.tag.Given.{Given}
 use Rattle.markup.specs.declared.draft.Draft.{Draft}
-use Rattle.markup.specs.declared.reference.ReferenceScan.{ReferenceScan}
 use Rattle.markup.specs.declared.reference.ReferenceScan.TheVariants.{Begun}
-use Rattle.markup.specs.declared.reference.ReferenceTurn.TheVariants.{Continues, Gives}
 use Rattle.markup.specs.declared.scan.NameScan.{NameScan}
 use Rattle.markup.specs.declared.scan.NameScan.TheVariants.{First}
 use Rattle.markup.specs.declared.scan.Scan.{Scan}
 use Rattle.markup.specs.declared.scan.Scan.TheVariants.{Opened, StartName, Gap, AttributeName, BeforeEquals, AfterEquals, Value, ValueReference, AfterValue, Slash, EndOpened, EndName, EndGap}
-use Rattle.markup.specs.declared.scan.Ended.{Ended}
 use Rattle.markup.specs.declared.scan.Ended.TheVariants.{Start, End}
 use Rattle.markup.specs.declared.scan.Turn.TheVariants.{Goes}
-use Rattle.markup.proofs.CharLemmas.{equals_no_name, equals_no_space, quote_no_ampersand, closes_no_name, closes_no_start, closes_no_space, return_is_space, space_no_start, space_no_name, space_not, start_not, quote_no_space, closes}
+use Rattle.markup.proofs.CharLemmas.{equals_no_name, equals_no_space, quote_no_ampersand, closes_no_name, closes_no_start, closes_no_space, return_is_space, space_no_start, space_no_name, space_not, start_not, quote_no_space}
 use Rattle.markup.proofs.NameLemmas.{in_name}
 use Rattle.markup.proofs.ReferenceLemmas.{body}
-use Rattle.markup.proofs.ReferenceRuns.{ReferenceEnd, reference_end, reference_goes}
-use Rattle.markup.proofs.AttributeLemmas.{IsAttribute, attribute_facts, gap_all, attribute_then, IsLiteral, literal_facts, refers_begins, value_then, attributes_then}
-use Rattle.markup.proofs.TokenLemmas.{close, IsStartTag, start_tag_facts, start_tag_then}
+use Rattle.markup.proofs.ReferenceRuns.{reference_end, reference_goes}
+use Rattle.markup.proofs.AttributeLemmas.{attribute_facts, attribute_then, IsLiteral, literal_facts, refers_begins, value_then, attributes_then}
+use Rattle.markup.proofs.TokenLemmas.{close, start_tag_facts}
 use Rattle.markup.proofs.Runs.{goes, ends, spaces_run, name_run, noted_start, noted_attribute, noted_end}
-use Rattle.markup.specs.ScanRuns.{Over, Run, run}
+use Rattle.markup.specs.ScanRuns.{Over, run}
 
 -- a draft by its parts
 abbrev pub draft : Spelled → List Given → Spelled → List ℕ → Draft

@@ -1,14 +1,13 @@
 -- What completes a tag behind one more character completes it with that character.
-use Rattle.std.proofs.Common.{◌≡◌, ℕ, Bool, true, false, not, ◌==◌, ◌||◌, ◌&&◌, ◌⊎◌, inl, inr, List, [], ◌∷◌, ◌++◌, codes, if◌then◌else◌, refl, sym, ◌∙◌, ap, subst, append_assoc, append-nil}
+use Rattle.std.proofs.Common.{◌≡◌, ℕ, Bool, true, false, not, ◌==◌, ◌||◌, ◌&&◌, inl, inr, List, [], ◌∷◌, ◌++◌, refl, sym, ◌∙◌, ap, subst}
 use Rattle.std.specs.List.{list_all, flat_map}
-use Rattle.std.proofs.lemmas.Bool.{and_parts, and_from, not_from_false, eqb-true}
+use Rattle.std.proofs.lemmas.Bool.{and_from, not_from_false, eqb-true}
 use Rattle.markup.specs.Chars.{is_xml_char, is_name_start, is_space}
-use Rattle.markup.specs.Name.{Name, name_text}
-use Rattle.markup.specs.Attribute.{Piece, Literal, Refers, is_piece, piece_text, Attribute, is_attribute, attribute_text}
+use Rattle.markup.specs.Name.{name_text}
+use Rattle.markup.specs.Attribute.{Literal, Refers, piece_text, Attribute, attribute_text}
 use Rattle.markup.specs.ReferenceScans.{reference_step}
 use Rattle.markup.specs.Scans.{name_step, name_turn, close_step, behind_attribute_step, gap_step, before_equals_step, after_equals_step, value_step, end_gap_step, referring, referring_in}
 use Rattle.markup.specs.declared.reference.ReferenceScan.{ReferenceScan}
-use Rattle.markup.specs.declared.reference.ReferenceScan.TheVariants.{Begun}
 use Rattle.markup.specs.declared.reference.ReferenceTurn.{ReferenceTurn}
 use Rattle.markup.specs.declared.reference.ReferenceTurn.TheVariants.{Continues, Gives, Breaks}
 use Rattle.markup.specs.declared.scan.NameScan.{NameScan}
@@ -16,14 +15,14 @@ use Rattle.markup.specs.declared.scan.NameTurn.{NameTurn}
 use Rattle.markup.specs.declared.scan.NameTurn.TheVariants.{Remains, Ends, Fails}
 use Rattle.markup.specs.declared.scan.Position.{Position}
 use Rattle.markup.specs.declared.scan.Scan.{Scan}
-use Rattle.markup.specs.declared.scan.Scan.TheVariants.{StartName, Gap, AttributeName, BeforeEquals, AfterEquals, Value, ValueReference, AfterValue, Slash, EndOpened, EndName, EndGap}
+use Rattle.markup.specs.declared.scan.Scan.TheVariants.{StartName, AttributeName, EndName}
 use Rattle.markup.specs.declared.scan.Turn.{Turn}
-use Rattle.markup.specs.declared.scan.Turn.TheVariants.{Goes, Whole, Stuck}
+use Rattle.markup.specs.declared.scan.Turn.TheVariants.{Stuck}
 use Rattle.markup.proofs.ReferenceLemmas.{body}
 use Rattle.markup.proofs.AttributeLemmas.{attribute_then, attributes_then, refers_begins}
 use Rattle.markup.proofs.TokenLemmas.{close}
 use Rattle.markup.proofs.NameSound.{on_if, at_char, reference_sound, NameTurnThen, name_sound, name_begun}
-use Rattle.markup.proofs.Residuals.{IsReference, ReferenceRest, ReferenceThen, NameRest, FirstRest, NameThen, Spaced, Tail, InValue, Quoted, Equalled, GapThen, EndClose, Rest, Then}
+use Rattle.markup.proofs.Residuals.{IsReference, ReferenceRest, ReferenceThen, NameRest, Spaced, Tail, InValue, Quoted, Equalled, GapThen, EndClose, Rest, Then}
 
 pub cons_same : (c d : ℕ) (x y : List ℕ) → c ≡ d → x ≡ y → (c ∷ x) ≡ (d ∷ y)
 cons_same c d x y e f = cc

@@ -1,33 +1,24 @@
 -- What completes a comment, an instruction or a declaration behind one more character completes it with that character.
-use Rattle.std.proofs.Common.{◌≡◌, ℕ, Bool, true, false, not, ◌==◌, ◌||◌, ◌&&◌, ◌+◌, ◌⊎◌, inl, inr, List, [], ◌∷◌, ◌++◌, map, codes, drop, Option, Some, None, is_none, if◌then◌else◌, refl, sym, ◌∙◌, ap, subst, append_assoc, append-nil, arith}
-use Rattle.std.specs.List.{list_all, flat_map}
+use Rattle.std.proofs.Common.{◌≡◌, ℕ, Bool, true, false, ◌==◌, ◌||◌, ◌&&◌, ◌+◌, inl, inr, List, [], ◌∷◌, ◌++◌, drop, Option, Some, None, is_none, if◌then◌else◌, refl, sym, ◌∙◌, ap, subst}
 use Rattle.std.specs.Char.{to_ascii_lowercase}
-use Rattle.std.specs.Str.{bytes_eq}
-use Rattle.std.proofs.lemmas.Bool.{and_parts, and_from, and_left, and_right, or_left, or_right, or_cases, not_from_false, both_ways, eqb-true, eq-eqb, cases_Bool}
-use Rattle.std.proofs.lemmas.Bool.Decides.{nat_tests}
-use Rattle.std.proofs.lemmas.Slice.Eq.{bytes_eq-Decides}
-use Rattle.markup.specs.Chars.{is_xml_char, is_name_start, is_name_char, is_space}
-use Rattle.markup.specs.Name.{Name, Plain, name_text}
-use Rattle.markup.specs.Attribute.{Piece, Literal, is_piece, piece_text, Attribute, is_attribute, attribute_text}
-use Rattle.markup.specs.Declaration.{is_field, is_version, is_encoding, is_standalone, is_declaration}
-use Rattle.markup.specs.Token.{Declaration, Instruction, is_comment, is_instruction_text, is_instruction, is_xml_word, token_text}
+use Rattle.std.proofs.lemmas.Bool.{and_parts, and_from, and_left, and_right, not_from_false, both_ways, eqb-true}
+use Rattle.markup.specs.Chars.{is_xml_char, is_name_char, is_space}
+use Rattle.markup.specs.Token.{is_comment, is_instruction_text}
 use Rattle.markup.specs.Words.{word_text, letter_of}
-use Rattle.markup.specs.Scans.{comment_step, fixed_ended, fixed_step, fixed_letter, question_step, target_step, target_x_step, target_xm_step, target_xml_step, instruction_step, mark_step, declaration_gap_step, name_word, field_letter, field_name_step, field_before_step, field_after_step, field_value_step, fits_letter, field_word_letter, field_word_step, field_end_step, field_gap_step}
+use Rattle.markup.specs.Scans.{comment_step, fixed_ended, fixed_step, fixed_letter, target_step, target_x_step, target_xm_step, target_xml_step, instruction_step, mark_step, declaration_gap_step, name_word, field_letter, field_name_step, field_before_step, field_after_step, field_value_step, fits_letter, field_word_letter, field_word_step}
 use Rattle.markup.specs.declared.word.Word.{Word}
 use Rattle.markup.specs.declared.word.Word.TheVariants.{Utf8, One, Yes, No}
 use Rattle.markup.specs.declared.scan.Field.{Field}
 use Rattle.markup.specs.declared.scan.Field.TheVariants.{Version, Encoding, Standalone}
 use Rattle.markup.specs.declared.scan.Position.{Position}
-use Rattle.markup.specs.declared.scan.Scan.{Scan}
-use Rattle.markup.specs.declared.scan.Scan.TheVariants.{CommentText, CommentHyphen, CommentEnd, Fixed, Question, TargetX, TargetXm, TargetXml, Target, TargetMark, InstructionText, InstructionMark}
-use Rattle.markup.specs.declared.scan.Turn.{Turn}
+use Rattle.markup.specs.declared.scan.Scan.TheVariants.{CommentHyphen, CommentEnd, Fixed, TargetX, TargetXm, TargetXml}
 use Rattle.markup.specs.declared.scan.Turn.TheVariants.{Goes, Whole, Stuck}
-use Rattle.markup.proofs.CharLemmas.{hyphen_xml, question_xml, space_xml, space_no_question, space_no_letter, word_chars, x_starts, other_x, other_m, other_l, letter_u}
-use Rattle.markup.proofs.Spans.{heads, tails}
-use Rattle.markup.proofs.Complete.{starts_blank, is_none_left, begins_so}
+use Rattle.markup.proofs.CharLemmas.{hyphen_xml, question_xml, space_xml, space_no_question, word_chars, other_m, other_l, letter_u}
+use Rattle.markup.proofs.Spans.{heads}
+use Rattle.markup.proofs.Complete.{is_none_left, begins_so}
 use Rattle.markup.proofs.NameSound.{on_if, at_char, drop_letter, drop_past}
 use Rattle.markup.proofs.TagSound.{cons_same, spaced_more, spaced_none}
-use Rattle.markup.proofs.Residuals.{Spaced, Gapped, CommentRest, InstructionRest, TargetRest, follows, FieldsRest, spells, WordRest, is_value_of, FieldValueRest, FieldQuoted, FieldEqualled, FieldNamed, is_next, FieldGapThen, LessToken, Rest, Then}
+use Rattle.markup.proofs.Residuals.{Spaced, CommentRest, InstructionRest, TargetRest, spells, WordRest, is_value_of, FieldValueRest, FieldQuoted, FieldEqualled, FieldNamed, Rest, Then}
 
 -- a comment's text with one more character before it
 comment_more : (c : ℕ) (s : List ℕ) → is_xml_char c ≡ true → (c == 45) ≡ false → is_comment s ≡ true → is_comment (c ∷ s) ≡ true

@@ -1,21 +1,21 @@
 -- The characters of a token that stands somewhere are XML characters.
-use Rattle.std.proofs.Common.{◌≡◌, ℕ, Bool, true, false, not, ◌==◌, ◌||◌, ◌&&◌, List, [], ◌∷◌, ◌++◌, length, codes, if◌then◌else◌, refl, sym, ◌∙◌, ap, subst, inl, inr, arith}
+use Rattle.std.proofs.Common.{◌≡◌, ℕ, Bool, true, false, ◌==◌, ◌||◌, ◌&&◌, List, [], ◌∷◌, ◌++◌, codes, if◌then◌else◌, refl, arith}
 use Rattle.std.specs.List.{list_all, flat_map}
 use Rattle.std.specs.Char.{is_digit}
-use Rattle.std.proofs.lemmas.Bool.{and_parts, and_from, or_cases, both_ways, cases_Bool}
+use Rattle.std.proofs.lemmas.Bool.{and_parts, and_from}
 use Rattle.std.proofs.lemmas.Bool.Decides.{nat_tests}
-use Rattle.markup.specs.Chars.{is_xml_char, is_name_start, is_name_char, is_space, is_gap}
-use Rattle.markup.specs.Name.{Name, Plain, Prefixed, is_name, is_part, name_text}
+use Rattle.markup.specs.Chars.{is_xml_char, is_name_start, is_name_char, is_space}
+use Rattle.markup.specs.Name.{Name, Plain, Prefixed, is_name, name_text}
 use Rattle.markup.specs.Reference.{Ampersand, Less, Greater, Apostrophe, Quote, Reference, Named, Numbered, is_reference, reference_text}
 use Rattle.markup.specs.Attribute.{Piece, Literal, Refers, is_piece, piece_text, Attribute, is_attribute, attribute_text}
-use Rattle.markup.specs.Token.{Token, Mark, Declaration, Comment, Instruction, Opener, Closer, TypeDeclaration, Start, End, Refer, LineEnd, Character, Line, Lf, Cr, CrLf, StartTag, is_comment, is_instruction_text, is_instruction, token_text}
+use Rattle.markup.specs.Token.{Token, Mark, Declaration, Comment, Instruction, Opener, Closer, TypeDeclaration, Start, End, Refer, LineEnd, Character, Lf, Cr, CrLf, is_comment, is_instruction_text, token_text}
 use Rattle.markup.specs.Marks.{in_cdata, stands, stands_in_cdata, stands_outside}
 use Rattle.markup.proofs.CharLemmas.{space_xml}
 use Rattle.markup.proofs.NameLemmas.{part_all}
-use Rattle.markup.proofs.ReferenceLemmas.{IsNumbered, numbered_facts}
-use Rattle.markup.proofs.AttributeLemmas.{IsAttribute, attribute_facts, gap_all, literal_facts}
-use Rattle.markup.proofs.TokenLemmas.{close, IsInstruction, instruction_facts, IsStartTag, start_tag_facts, declaration_all}
-use Rattle.markup.proofs.TokenKinds.{never_in, IsCdataChar, cdata_char_facts, IsTextChar, text_char_facts}
+use Rattle.markup.proofs.ReferenceLemmas.{numbered_facts}
+use Rattle.markup.proofs.AttributeLemmas.{attribute_facts, gap_all, literal_facts}
+use Rattle.markup.proofs.TokenLemmas.{close, instruction_facts, start_tag_facts, declaration_all}
+use Rattle.markup.proofs.TokenKinds.{never_in, cdata_char_facts, text_char_facts}
 
 -- all characters of a text are XML characters
 abbrev pub all_xml : List ℕ → Bool

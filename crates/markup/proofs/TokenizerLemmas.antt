@@ -1,30 +1,26 @@
 -- A byte gives the next token where it ends it, and the next fault where it shows it.
-use Rattle.std.proofs.Common.{◌≡◌, ◌≢◌, ℕ, Bool, true, false, not, ◌==◌, ◌||◌, ◌&&◌, ◌+◌, ◌-◌, ◌<◌, ◌≤◌, ◌⊎◌, inl, inr, List, [], ◌∷◌, ◌++◌, length, nat_le, Option, Some, None, if◌then◌else◌, refl, sym, ◌∙◌, ap, subst, append_assoc, append-nil, length-append, add-zero, arith}
+use Rattle.std.proofs.Common.{◌≡◌, ℕ, Bool, true, false, not, ◌&&◌, ◌+◌, ◌-◌, ◌<◌, ◌≤◌, ◌⊎◌, inl, inr, List, [], ◌∷◌, ◌++◌, length, nat_le, Option, Some, if◌then◌else◌, refl, sym, ◌∙◌, ap, subst, append_assoc, append-nil, length-append, add-zero, arith}
 use Rattle.std.specs.List.{flat_map, list_all}
 use Rattle.std.specs.Prelude.{Result, Ok, Err, IfOk}
 use Rattle.std.specs.declared.alloc.AllocError.{AllocError}
 use Rattle.std.specs.Char.{encode_utf8, IsScalar}
 use Rattle.std.specs.Str.{encode_utf8_all}
-use Rattle.std.proofs.lemmas.Bool.{and_parts, and_cases, both_ways, cases_Bool, not-true, not-false, not_from_false, eqb-true, eqb-false, leb-true, leb-false, le-leb}
+use Rattle.std.proofs.lemmas.Bool.{both_ways, cases_Bool, eqb-true, eqb-false, leb-true, leb-false, le-leb}
 use Rattle.std.proofs.lemmas.Str.{encode_same, encodes-append, encode_ascii, length-encode, len_utf8_bounds}
 use Rattle.lexical_core.specs.Utf8.{Steps, IsFront, IsNoFront}
 use Rattle.lexical_core.specs.declared.utf8.Utf8.{Utf8}
 use Rattle.lexical_core.specs.declared.utf8.Utf8.TheVariants.{More as MoreBytes, Char, Bad}
-use Rattle.lexical_core.specs.declared.rule.Rule.{Rule}
 use Rattle.lexical_core.specs.declared.rule.Rule.TheVariants.{BadUtf8, BadMarkup, BadReference, BadChar}
 use Rattle.markup.specs.Chars.{is_xml_char}
-use Rattle.markup.specs.Name.{Name, is_name, name_text}
+use Rattle.markup.specs.Name.{name_text}
 use Rattle.markup.specs.Attribute.{attribute_text}
-use Rattle.markup.specs.Token.{Token, Mark, Declaration, Comment, Instruction, Opener, Closer, TypeDeclaration, Start, End, Refer, LineEnd, Character, StartTag, token_text, token_bytes}
+use Rattle.markup.specs.Token.{Token, Mark, Declaration, Comment, Instruction, Opener, Closer, TypeDeclaration, Start, End, Refer, LineEnd, Character, token_text, token_bytes}
 use Rattle.markup.specs.Marks.{in_cdata, is_first, stands, is_short, tag_limit}
-use Rattle.markup.specs.Faults.{GoesOn, NoToken, IsUnended, is_in_reference, IsTagBegun, Stops, no_char, bad_char, stuck, Next, halts, too_long}
+use Rattle.markup.specs.Faults.{GoesOn, NoToken, IsTagBegun, no_char, bad_char, stuck, Next, halts, too_long}
 use Rattle.markup.specs.Drafts.{no_draft, noted}
 use Rattle.markup.specs.Scans.{step}
-use Rattle.markup.specs.ScanRuns.{Run, At, Over, Failed, turned, run, placed, position, ended_of, draft_of, ReadToken}
+use Rattle.markup.specs.ScanRuns.{At, turned, run, placed, position, ended_of, ReadToken}
 use Rattle.markup.specs.Tokenizers.{after_other, behind, is_tag, is_reference, stuck_rule, bounded, ended, scanned, on_turn, charactered, counted, on_utf8, AdvancedBy, is_pending, IsAwaited, IsOpen, EndsToken, Advances, AdvancesBy}
-use Rattle.markup.specs.declared.draft.Draft.{Draft}
-use Rattle.markup.specs.declared.scan.Position.{Position}
-use Rattle.markup.specs.declared.scan.Position.TheVariants.{AfterMark, Text, Cdata}
 use Rattle.markup.specs.declared.scan.Scan.{Scan}
 use Rattle.markup.specs.declared.scan.Scan.TheVariants.{Begin, AfterReturn, Bracket, Brackets, Value, ValueReference}
 use Rattle.markup.specs.declared.scan.Ended.{Ended}
@@ -32,7 +28,7 @@ use Rattle.markup.specs.declared.scan.Turn.{Turn}
 use Rattle.markup.specs.declared.scan.Turn.TheVariants.{Goes, Whole, Stuck}
 use Rattle.markup.specs.declared.tokenizer.Tokenizer.{Tokenizer}
 use Rattle.markup.specs.declared.tokenizer.Progress.{Progress}
-use Rattle.markup.specs.declared.tokenizer.Progress.TheVariants.{More, Token as EndedToken, Refused}
+use Rattle.markup.specs.declared.tokenizer.Progress.TheVariants.{More, Refused}
 use Rattle.markup.proofs.CharLemmas.{xml_scalar, start_not}
 use Rattle.markup.proofs.NameLemmas.{name_begins, BeginsName}
 use Rattle.markup.proofs.Spans.{heads, tails}

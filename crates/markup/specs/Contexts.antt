@@ -1,5 +1,5 @@
 -- What stands before a token, and what the token makes of it. Private functions alone cite this.
-use Rattle.std.specs.Prelude.{◌≡◌, ℕ, List, [], ◌∷◌, Option, Some, None, Result, MatchResult}
+use Rattle.std.specs.Prelude.{◌≡◌, ℕ, List, ◌∷◌, Some, None, Result, MatchResult}
 use Rattle.markup.specs.Token.{Token}
 use Rattle.markup.specs.Events.{open_tags, items_of}
 use Rattle.markup.specs.Faults.{has_start, rule_of}

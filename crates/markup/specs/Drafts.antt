@@ -3,13 +3,12 @@ use Rattle.std.specs.Prelude.{ℕ, Bool, ◌==◌, ◌&&◌, List, [], ◌∷◌
 use Rattle.markup.specs.Chars.{is_space}
 use Rattle.markup.specs.ReferenceScans.{reference_step}
 use Rattle.markup.specs.declared.tag.Spelled.{Spelled}
-use Rattle.markup.specs.declared.tag.Given.{Given}
 use Rattle.markup.specs.declared.draft.Draft.{Draft}
 use Rattle.markup.specs.declared.reference.ReferenceScan.{ReferenceScan}
 use Rattle.markup.specs.declared.reference.ReferenceTurn.{ReferenceTurn}
-use Rattle.markup.specs.declared.reference.ReferenceTurn.TheVariants.{Continues, Gives, Breaks}
+use Rattle.markup.specs.declared.reference.ReferenceTurn.TheVariants.{Gives}
 use Rattle.markup.specs.declared.scan.NameScan.{NameScan}
-use Rattle.markup.specs.declared.scan.NameScan.TheVariants.{First, Colon, Second}
+use Rattle.markup.specs.declared.scan.NameScan.TheVariants.{Colon}
 use Rattle.markup.specs.declared.scan.Scan.{Scan}
 use Rattle.markup.specs.declared.scan.Scan.TheVariants.{StartName, AttributeName, EndName, Value, ValueReference, AfterValue}
 

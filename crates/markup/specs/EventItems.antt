@@ -1,5 +1,5 @@
 -- The events that a reader tells, as the events of the definitions.
-use Rattle.std.specs.Prelude.{◌≡◌, ℕ, List, ◌++◌, map}
+use Rattle.std.specs.Prelude.{◌≡◌, List, ◌++◌, map}
 use Rattle.lexical_core.specs.Tree.{Item, Entry, Starts, Char, Ends, Skipped}
 use Rattle.markup.specs.Events.{Placed}
 use Rattle.markup.specs.declared.event.Attr.{Attr}

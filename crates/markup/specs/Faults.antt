@@ -64,7 +64,7 @@ start_rule over tags tag = if has_clash (tag ∷ tags) tag.given then Some Dupli
     (if is_none (element_name (tag ∷ tags) tag.name) || list_any (is_bad_attribute (tag ∷ tags)) tag.given then Some BadPrefix else
     (if over then Some AfterRoot else None))
 
--- An end tag is spelled as the innermost open start tag (XML 1.0 §3.1, Element Type Match).
+-- An end tag is spelled as the innermost open start tag (XML 1.0 §3, Element Type Match).
 abbrev pub end_rule : List Opening → Spelled → Option Rule
 end_rule [] n = Some TagMismatch
 end_rule (tag ∷ tags) n = if bytes_eq tag.name.prefix n.prefix && bytes_eq tag.name.local n.local then None else Some TagMismatch

@@ -1,5 +1,5 @@
 -- The two steps of a reader with a byte: what the byte does not go on with, and the byte itself. Private functions alone cite this.
-use Rattle.std.specs.Prelude.{◌≡◌, ℕ, List, [], ◌∷◌, ◌++◌, Option, Some, None, Result, MatchResult, if◌then◌else◌}
+use Rattle.std.specs.Prelude.{◌≡◌, ℕ, List, [], ◌∷◌, ◌++◌, Some, Result, MatchResult, if◌then◌else◌}
 use Rattle.lexical_core.specs.Tree.{Char}
 use Rattle.markup.specs.Token.{Token}
 use Rattle.markup.specs.Events.{Placed, items_of}

@@ -1,5 +1,5 @@
 -- What a reader has taken and told, and what it answers.
-use Rattle.std.specs.Prelude.{◌≡◌, ◌≢◌, ℕ, true, List, [], ◌∷◌, ◌++◌, length, reverse, Option, Some, None}
+use Rattle.std.specs.Prelude.{◌≡◌, ◌≢◌, ℕ, true, List, [], ◌++◌, length, reverse, Option, None}
 use Rattle.lexical_core.specs.declared.rule.Rule.TheVariants.{Truncated}
 use Rattle.std.specs.List.{flat_map}
 use Rattle.markup.specs.Token.{Token, token_bytes}

@@ -1,5 +1,5 @@
 -- What the reader of tokens keeps and gives. Private functions alone cite this.
-use Rattle.std.specs.Prelude.{◌≡◌, ℕ, Bool, ◌==◌, ◌&&◌, ◌+◌, ◌-◌, ◌<◌, nat_le, not, true, false, List, [], ◌∷◌, ◌++◌, length, Option, Some, None, if◌then◌else◌, encode_utf8_all}
+use Rattle.std.specs.Prelude.{◌≡◌, ℕ, Bool, ◌==◌, ◌&&◌, ◌+◌, ◌-◌, ◌<◌, nat_le, not, true, false, List, [], ◌∷◌, ◌++◌, length, Option, Some, if◌then◌else◌, encode_utf8_all}
 use Rattle.lexical_core.specs.Utf8.{Steps, IsFront}
 use Rattle.lexical_core.specs.declared.utf8.Utf8.{Utf8}
 use Rattle.lexical_core.specs.declared.utf8.Utf8.TheVariants.{More as MoreBytes, Char, Bad}
@@ -18,7 +18,7 @@ use Rattle.markup.specs.declared.scan.Position.TheVariants.{AfterMark, Text, Cda
 use Rattle.markup.specs.declared.scan.Scan.{Scan}
 use Rattle.markup.specs.declared.scan.Scan.TheVariants.{Begin, AfterReturn, Bracket, Brackets, Reference, StartName, Gap, AttributeName, BeforeEquals, AfterEquals, Value, ValueReference, AfterValue, Slash, EndOpened, EndName, EndGap}
 use Rattle.markup.specs.declared.scan.Ended.{Ended}
-use Rattle.markup.specs.declared.scan.Ended.TheVariants.{Mark, Opener, Closer}
+use Rattle.markup.specs.declared.scan.Ended.TheVariants.{Mark, Opener, Closer, Character as CharacterEnded}
 use Rattle.markup.specs.declared.scan.Turn.{Turn}
 use Rattle.markup.specs.declared.scan.Turn.TheVariants.{Goes, Whole, Stuck}
 use Rattle.markup.specs.declared.tokenizer.Tokenizer.{Tokenizer}
@@ -149,6 +149,26 @@ Advances new before bytes (Refused rule) = (more : List ℕ) → Next tag_limit 
 -- A byte gives the next token where it ends it, and the next fault where it shows it, behind any tokens.
 abbrev pub AdvancesBy : Tokenizer → Tokenizer → ℕ → Progress → Type 0
 AdvancesBy old new byte progress = (before : List Token) (bytes : List ℕ) → IsOpen old before bytes → IsAwaited old.scan byte → Advances new before (bytes ++ byte ∷ []) progress
+
+-- a byte that is a character by itself, in text and in a CDATA section (XML 1.0 §2.4, §2.7)
+abbrev pub is_plain : ℕ → Bool
+is_plain byte = nat_le 32 byte && nat_le byte 127 && not (byte == 60) && not (byte == 38) && not (byte == 93)
+
+-- a token begins behind another that is not the byte order mark
+abbrev pub is_between : Scan → Bool
+is_between (Begin Text) = true
+is_between (Begin Cdata) = true
+is_between _ = false
+
+-- none of its bytes has come, and this one is all of it
+abbrev pub starts_plain : Tokenizer → ℕ → Bool
+starts_plain z byte = is_between z.scan && z.place == z.start && is_plain byte
+
+-- The byte is a character that is the next token, and nothing was open before it.
+pub record TakesPlain (old new : Tokenizer) (byte : ℕ) : Type 0 where
+  pub advances : AdvancesBy old new byte (EndedToken (CharacterEnded byte) no_draft)
+  pub settled : is_pending old.scan ≡ false
+  pub place : new.place ≡ old.place + 1
 
 -- the next token begins
 abbrev pub restarted : Tokenizer → Tokenizer

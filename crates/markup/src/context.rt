@@ -36,6 +36,7 @@ pub(crate) struct Context {
 
 impl Ended {
     /// The event of a token that is no tag.
+    #[inline]
     fn what(self) -> What
         ensures { inner_items self ≡ item_of result ∷ [] }
     {
@@ -49,6 +50,7 @@ impl Ended {
 }
 
 /// Appends an event.
+#[inline]
 fn push_event(place: u64, what: What, out: &mut Events) -> Result<(), AllocError>
     ensures ok { OnOk result (Tells out.old out.new (record { place = place; item = item_of what } ∷ [])) }
     ensures err { OnErr result (out.new ≡ out.old) }
@@ -127,6 +129,7 @@ impl Context {
     }
 
     /// The rule of what stands inside the root alone.
+    #[inline]
     fn inside_rule(&self) -> Option<Rule>
         ensures { (before : List Token) → IsContext self.now before → result ≡ inside_alone (is_outside before) }
     {
@@ -138,6 +141,7 @@ impl Context {
     }
 
     /// The rule that a token breaks which is no tag.
+    #[inline]
     fn inner_rule(&self, ended: Ended, cdata: bool) -> Option<Rule>
         ensures { (before : List Token) → IsContext self.now before → result ≡ inner_rule cdata (is_outside before) (self.now.brackets == 2) ended }
     {
@@ -159,6 +163,7 @@ impl Context {
     }
 
     /// How many literal `]` stand last behind one more token.
+    #[inline]
     fn next_brackets(&self, ended: Ended) -> u8
         ensures { result ≡ brackets_by self.now.brackets ended }
     {
@@ -177,7 +182,7 @@ impl Context {
     }
 
     /// Takes a token that is no tag.
-    fn take_inner(
+    pub(crate) fn take_inner(
         &mut self,
         ended: Ended,
         cdata: bool,

@@ -23,7 +23,7 @@ pub enum What {
     Char(char),
     /// The innermost open element ends.
     End { ns: Text, local: Text },
-    /// Markup that says nothing of the tree: the XML declaration, a comment, an instruction, the
+    /// Markup that says nothing of the tree: the byte order mark, the XML declaration, a comment, an instruction, the
     /// ends of a CDATA section.
     Skipped,
 }

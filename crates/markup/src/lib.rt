@@ -1,7 +1,7 @@
 // The crate's table of contents.
 #![tactic(auto)]
-//! XML read one byte at a time, exactly as the grammar has it (XML 1.0, fifth edition, and
-//! Namespaces in XML 1.0).
+//! XML read one byte at a time, exactly as the profile has it: XML 1.0, fifth edition, and
+//! Namespaces in XML 1.0, in UTF-8, without document types, and with tags of at most a mebibyte.
 
 mod attributes;
 mod characters;

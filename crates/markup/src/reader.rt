@@ -5,6 +5,7 @@ ghost use Rattle.markup.specs.Token.{Token};
 ghost use Rattle.markup.specs.Marks.{in_cdata};
 ghost use Rattle.markup.specs.Faults.{MarkFault as HasMarkFault};
 ghost use Rattle.markup.specs.ScanRuns.{ended_of, draft_of};
+ghost use Rattle.markup.specs.declared.scan.Ended.TheVariants.{Character};
 ghost use Rattle.markup.specs.Contexts.{IsContext};
 ghost use Rattle.markup.specs.Tokenizers.{IsAwaited, FinishesBy};
 ghost use Rattle.markup.specs.ReaderSteps.{TellsMore, SettlesEvents, TokenAnswered, returned};
@@ -22,7 +23,8 @@ use crate::tokenizer::{Finish, Progress, Settled, Tokenizer};
 use lexical_core::Rule;
 use std::alloc::{AllocError, Global};
 
-/// A fault of markup: the least rule that is broken first, and its place in bytes from 0.
+/// A fault of markup: the rule that is broken first, of several at one place the least, and its
+/// place in bytes from 0.
 #[derive(Clone, Copy, Debug, PartialEq, Eq)]
 pub struct MarkFault {
     pub rule: Rule,
@@ -60,8 +62,10 @@ impl Reader {
         }
     }
 
-    /// Takes the next byte, and appends the events that it shows. After an error the reader gives
-    /// the same answer to every later call.
+    /// Takes the next byte, of at most 2^40, and appends the events that it shows. It refuses a
+    /// fault that no bytes behind it mend, and then appends the events before the fault that were
+    /// not told yet; where there is no memory it appends a front of the events. After an error it
+    /// gives the same answer to every later call.
     pub fn take(&mut self, byte: u8, out: &mut Events) -> Result<(), MarkError>
         requires { failed self.old ≡ None → taken self.old < 2 ^ 40 }
         ensures ok { (bytes : List ℕ) (told : List Placed) → HasTaken self.old bytes told →
@@ -82,7 +86,8 @@ impl Reader {
         result
     }
 
-    /// The end of the input. It appends no event.
+    /// The end of the input. It appends no event. It answers Ok where the bytes are whole, and
+    /// else refuses with their first fault, for good.
     pub fn finish(&mut self, out: &mut Events) -> Result<(), MarkError>
         ensures ok { (bytes : List ℕ) (told : List Placed) → HasTaken self.old bytes told →
             IfOk result (λ _. IsWholly bytes told) }
@@ -109,6 +114,23 @@ impl Reader {
 
     /// Takes the next byte, where the reader has not failed.
     fn step(&mut self, byte: u8, out: &mut Events) -> Result<(), MarkError>
+        requires { taken self.old < 2 ^ 40 }
+        ensures ok { (bytes : List ℕ) (told : List Placed) → HasTaken self.old bytes told →
+            IfOk result (λ _. GoesOn self.new (bytes ++ byte ∷ []) told out.old out.new) }
+        ensures err { (bytes : List ℕ) (told : List Placed) → HasTaken self.old bytes told →
+            IfErr result (λ e. Stops (bytes ++ byte ∷ []) told out.old out.new e) }
+        ensures count { IfOk result (λ _. taken self.new ≡ taken self.old + 1) }
+    {
+        let place = self.tokenizer.start();
+        let cdata = self.tokenizer.in_cdata();
+        if self.tokenizer.take_plain(byte) {
+            return self.take_character(byte, cdata, place, out);
+        }
+        self.step_any(byte, out)
+    }
+
+    /// Takes any next byte, where the reader has not failed.
+    fn step_any(&mut self, byte: u8, out: &mut Events) -> Result<(), MarkError>
         requires { taken self.old < 2 ^ 40 }
         ensures ok { (bytes : List ℕ) (told : List Placed) → HasTaken self.old bytes told →
             IfOk result (λ _. GoesOn self.new (bytes ++ byte ∷ []) told out.old out.new) }
@@ -164,6 +186,7 @@ impl Reader {
     }
 
     /// Whether a CR is open, which an LF may join.
+    #[inline]
     fn has_open_return(&self) -> bool
         ensures { (f : Finish) × FinishesBy self.now.tokenizer f × (result ≡ is_return f) }
     {
@@ -195,6 +218,27 @@ impl Reader {
         ensures rest { (self.new.tokenizer ≡ self.old.tokenizer) × (self.new.failed ≡ self.old.failed) }
     {
         match self.context.take(ended, draft, cdata, place, out) {
+            Ok(()) => Ok(()),
+            Err(Stop::Rule(rule)) => Err(MarkError::Refused(MarkFault { rule, place })),
+            Err(Stop::Memory) => Err(MarkError::Memory),
+        }
+    }
+
+    /// Takes a character of one byte that is a token.
+    #[inline]
+    fn take_character(
+        &mut self,
+        byte: u8,
+        cdata: bool,
+        place: u64,
+        out: &mut Events,
+    ) -> Result<(), MarkError>
+        ensures token { (before : List Token) (t : Token) → IsContext self.old.context before → ended_of t ≡ Character byte → in_cdata before ≡ cdata →
+            TokenAnswered before t place out.old out.new self.new.context result }
+        ensures rest { (self.new.tokenizer ≡ self.old.tokenizer) × (self.new.failed ≡ self.old.failed) }
+    {
+        let ended = Ended::Character(byte as char);
+        match self.context.take_inner(ended, cdata, place, out) {
             Ok(()) => Ok(()),
             Err(Stop::Rule(rule)) => Err(MarkError::Refused(MarkFault { rule, place })),
             Err(Stop::Memory) => Err(MarkError::Memory),

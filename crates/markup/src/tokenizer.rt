@@ -1,6 +1,7 @@
 // Tokens of bytes that come one at a time.
-ghost use Rattle.std.specs.Prelude.{◌≡◌, ℕ, ◌<◌, ◌^◌, ◌+◌, List, [], IfOk};
+ghost use Rattle.std.specs.Prelude.{◌≡◌, ℕ, ◌<◌, ◌^◌, ◌+◌, List, [], IfOk, IsTrue, IsFalse};
 ghost use Rattle.markup.specs.Token.{Token};
+ghost use Rattle.markup.specs.Tokenizers.{is_plain};
 
 use crate::characters::is_allowed;
 use crate::draft::Draft;
@@ -80,8 +81,28 @@ impl Position {
     }
 }
 
+/// Whether the byte is a character by itself, in text and in a CDATA section (XML 1.0 §2.4, §2.7):
+/// one from 0x20 to 0x7F that is not `<`, `&` or `]`.
+#[inline]
+fn is_plain(byte: u8) -> bool
+    ensures { result ≡ is_plain byte }
+{
+    byte >= 0x20 && byte <= 0x7F && byte != b'<' && byte != b'&' && byte != b']'
+}
+
 impl Scan {
-    ghost use Rattle.markup.specs.Tokenizers.{is_tag, is_reference, stuck_rule};
+    ghost use Rattle.markup.specs.Tokenizers.{is_between, is_tag, is_reference, stuck_rule};
+
+    /// Whether a token begins behind another that is not the byte order mark.
+    #[inline]
+    fn is_between(self) -> bool
+        ensures { result ≡ is_between self }
+    {
+        matches!(
+            self,
+            Scan::Begin(Position::Text) | Scan::Begin(Position::Cdata)
+        )
+    }
 
     /// Whether a start tag or an end tag is open.
     fn is_tag(self) -> bool
@@ -127,7 +148,7 @@ impl Scan {
 
 impl Tokenizer {
     ghost use Rattle.markup.specs.TokenRules.{is_cdata};
-    ghost use Rattle.markup.specs.Tokenizers.{bounded, ended, charactered, AdvancedBy, AdvancesBy, IsOpen, restarted, settled, SettlesBy, open_at, FinishesBy};
+    ghost use Rattle.markup.specs.Tokenizers.{bounded, ended, charactered, AdvancedBy, AdvancesBy, IsOpen, restarted, settled, SettlesBy, open_at, FinishesBy, starts_plain, TakesPlain};
 
     /// A reader before the first byte. It takes no memory.
     pub(crate) fn new(alloc: Global) -> Tokenizer
@@ -146,6 +167,7 @@ impl Tokenizer {
     }
 
     /// The place of the open token's first byte.
+    #[inline]
     pub(crate) fn start(&self) -> u64
         ensures { result ≡ self.now.start }
     {
@@ -160,6 +182,7 @@ impl Tokenizer {
     }
 
     /// Whether the open token stands in a CDATA section (XML 1.0 §2.7).
+    #[inline]
     pub(crate) fn in_cdata(&self) -> bool
         ensures { result ≡ is_cdata self.now.position }
     {
@@ -176,6 +199,7 @@ impl Tokenizer {
     }
 
     /// Ends what does not go on with the byte.
+    #[inline]
     fn settle_open(&mut self, byte: u8) -> Settled
         ensures value { result ≡ (settled self.old byte).0 }
         ensures after { self.new ≡ (settled self.old byte).1 }
@@ -215,6 +239,7 @@ impl Tokenizer {
 
     /// Ends a CR, or brackets in a CDATA section, that the byte does not go on with. The byte is
     /// not taken.
+    #[inline]
     pub(crate) fn settle(&mut self, byte: u8) -> Settled
         ensures settles { SettlesBy self.old self.new byte result }
         ensures place { self.new.place ≡ self.old.place }
@@ -261,6 +286,7 @@ impl Tokenizer {
     }
 
     /// What is open where the input ends.
+    #[inline]
     fn open(&self) -> Finish
         ensures { result ≡ open_at self.now.scan self.now }
     {
@@ -277,10 +303,35 @@ impl Tokenizer {
     }
 
     /// The end of the input: it ends a CR, and cuts a token that has not ended.
+    #[inline]
     pub(crate) fn finish(&self) -> Finish
         ensures { FinishesBy self.now result }
     {
         self.open()
+    }
+
+    /// Whether no token is open and this byte is one by itself.
+    #[inline]
+    fn starts_plain(&self, byte: u8) -> bool
+        ensures { result ≡ starts_plain self.now byte }
+    {
+        self.scan.is_between() && self.place == self.start && is_plain(byte)
+    }
+
+    /// Takes a byte that is a token by itself, where none is open; else nothing changes. It does
+    /// what `settle` and `advance` do, with no draft to hand out.
+    #[inline]
+    pub(crate) fn take_plain(&mut self, byte: u8) -> bool
+        requires { self.old.place < 2 ^ 40 }
+        ensures taken { IsTrue result → TakesPlain self.old self.new byte }
+        ensures same { IsFalse result → self.new ≡ self.old }
+    {
+        if !self.starts_plain(byte) {
+            return false;
+        }
+        self.place += 1;
+        self.start = self.place;
+        true
     }
 
     /// Takes a byte: it gives the next token where it ends it, and the next fault where it shows

@@ -1,9 +1,8 @@
-use Rattle.std.proofs.Common.{ℕ, ◌≡◌, ◌∷◌, ◌++◌, [], Err, refl, sym, ◌∙◌, ap, subst}
+use Rattle.std.proofs.Common.{◌∷◌, ◌++◌, [], refl, sym, ◌∙◌, subst}
 use Rattle.markup.specs.EventItems.{Tells}
 use Rattle.markup.specs.Reading.{Stops, Refuses}
 use Rattle.markup.specs.ReaderSteps.{returned, TokenAnswered}
 use Rattle.markup.specs.Tokenizers.{AdvancesBy}
-use Rattle.markup.specs.declared.reader.MarkFault.{MarkFault}
 use Rattle.markup.proofs.ResultLemmas.{on_ok_if, if_err_if, match_ok, match_err}
 use Rattle.markup.proofs.ReaderLemmas.{advance_more, advance_refused, advance_out, answered, token_here, token_stopped, return_ok}
 use Rattle.markup.proofs.reader.Reader.advance.Goals as goal

@@ -1,4 +1,4 @@
-use Rattle.std.proofs.Common.{ℕ, ◌<◌, ◌^◌, sym, subst}
+use Rattle.std.proofs.Common.{◌<◌, ◌^◌, sym, subst}
 use Rattle.markup.specs.Inputs.{settled_events}
 use Rattle.markup.specs.EventItems.{Tells, TellsFront}
 use Rattle.markup.proofs.ResultLemmas.{on_ok_both, on_err_if}

@@ -1,19 +1,20 @@
-use Rattle.std.proofs.Common.{◌≡◌, ◌∷◌, ◌++◌, [], sym, ◌∙◌}
-use Rattle.markup.proofs.ResultLemmas.{at_ok, at_err, if_ok_if, if_err_if}
-use Rattle.markup.proofs.ReaderLemmas.{step_ok, step_stops}
+use Rattle.std.proofs.Common.{refl, sym, ◌∙◌, subst}
+use Rattle.markup.specs.ReaderSteps.{TokenAnswered}
+use Rattle.markup.specs.Reading.{HasTaken}
+use Rattle.markup.specs.Tokenizers.{TakesPlain}
+use Rattle.markup.proofs.PlainLemmas.{plain_ok, plain_err}
 use Rattle.markup.proofs.reader.Reader.step.Goals as goal
 
-pub returns-then-is_err-clause-err : goal.returns-then-is_err-clause-err
-returns-then-is_err-clause-err c bytes told h = at_err c.settle.result _ _ (λ _ x. x) (c.settle.ensures.err bytes told h) (c.if-is_err.ensures).value
+pub returns-then-take_plain-clause-ok : goal.returns-then-take_plain-clause-ok
+returns-then-take_plain-clause-ok c bytes told h = plain_ok c.args.self.now c.take_character.new.self bytes told c.args.byte c.args.out.now c.take_character.new.out c.take_character.result h
+    (subst (λ z. TakesPlain c.args.self.now.tokenizer z c.args.byte) (sym c.take_character.ensures.rest.0) (c.if-take_plain.ensures.taken refl)) c.take_character.ensures.rest.1
+    (λ before t i e k. subst (λ v. TokenAnswered before t v c.args.out.now c.take_character.new.out c.take_character.new.self.context c.take_character.result) c.start-place.ensures (c.take_character.ensures.token before t i e (k ∙ sym c.in_cdata-cdata.ensures)))
 
-pub returns-clause-ok : goal.returns-clause-ok
-returns-clause-ok c bytes told h = at_ok c.settle.result _ _
-    (λ _ s. if_ok_if c.advance.result _ _ (λ _ a. step_ok c.settle.new.self c.advance.new.self bytes told c.args.byte c.args.out.now c.settle.new.out c.advance.new.out s a)
-    (c.advance.ensures.ok bytes s.tells.tokens _ s.tells.keeps s.awaited))
-    (c.settle.ensures.ok bytes told h) (c.if-is_err.ensures).value
+pub returns-then-take_plain-clause-err : goal.returns-then-take_plain-clause-err
+returns-then-take_plain-clause-err c bytes told h = plain_err c.args.self.now c.take_character.new.self bytes told c.args.byte c.args.out.now c.take_character.new.out c.take_character.result h
+    (subst (λ z. TakesPlain c.args.self.now.tokenizer z c.args.byte) (sym c.take_character.ensures.rest.0) (c.if-take_plain.ensures.taken refl)) c.take_character.ensures.rest.1
+    (λ before t i e k. subst (λ v. TokenAnswered before t v c.args.out.now c.take_character.new.out c.take_character.new.self.context c.take_character.result) c.start-place.ensures (c.take_character.ensures.token before t i e (k ∙ sym c.in_cdata-cdata.ensures)))
 
 pub returns-clause-err : goal.returns-clause-err
-returns-clause-err c bytes told h = at_ok c.settle.result _ _
-    (λ _ s. if_err_if c.advance.result _ _ (λ e a. step_stops (bytes ++ c.args.byte ∷ []) told s.tells.more c.args.out.now c.settle.new.out c.advance.new.out e s.tells.tells a)
-    (c.advance.ensures.err bytes s.tells.tokens _ s.tells.keeps s.awaited))
-    (c.settle.ensures.ok bytes told h) (c.if-is_err.ensures).value
+returns-clause-err c bytes told h = c.step_any.ensures.err bytes told
+    (subst (λ z. HasTaken (record { tokenizer = z; context = c.args.self.now.context; failed = c.args.self.now.failed }) bytes told) (sym (c.if-take_plain.ensures.same refl)) h)

@@ -1,0 +1,11 @@
+use Rattle.std.proofs.Common.{refl, subst, ap, ◌∙◌, Err}
+use Rattle.markup.specs.Contexts.{TokenTaken}
+use Rattle.markup.proofs.reader.Reader.take_character.Goals as goal
+
+pub returns-in-Err-Rule-clause-token : goal.returns-in-Err-Rule-clause-token
+returns-in-Err-Rule-clause-token c before t i e k =
+    let h = subst (λ r. TokenTaken before t c.args.place c.args.out.now c.take_inner.new.out c.take_inner.new.self r) (c.in-Err-Rule.is ∙ ap Err c.in-Err-Rule.field-0-is) (c.take_inner.ensures before t i e k) in
+    (h.0, refl, h.1)
+
+pub returns-in-Err-Memory-clause-token : goal.returns-in-Err-Memory-clause-token
+returns-in-Err-Memory-clause-token c before t i e k = subst (λ r. TokenTaken before t c.args.place c.args.out.now c.take_inner.new.out c.take_inner.new.self r) (c.in-Err-Memory.is ∙ ap Err c.in-Err-Memory.field-0-is) (c.take_inner.ensures before t i e k)
