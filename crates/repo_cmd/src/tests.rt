@@ -1,4 +1,4 @@
-// The worked rows of `check-xml`, through `run` over sources and sinks in memory.
+// Words and bytes with the answers of `check-xml`, through `run` over sources and sinks in memory.
 ghost use Rattle.std.specs.Prelude.{◌<◌};
 
 use outside::{MemSink, MemSource, SteadySink, SteadySource};

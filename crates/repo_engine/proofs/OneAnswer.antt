@@ -3,7 +3,7 @@ use Rattle.std.proofs.Common.{◌≡◌, ◌⊎◌, inl, inr, ℕ, ◌<◌, ◌�
 use Rattle.std.proofs.lemmas.List.{take_all}
 use Rattle.markup.specs.Faults.{Fault, MarkFault, IsWhole, OneFault, WholeHasNone}
 use Rattle.repo_engine.specs.XmlInstance.{SpellsXml}
-use Rattle.repo_engine.specs.XmlRefusal.{limit, fault_line, HasFault, IsTooLong, IsNotAdmitted, IsAccepted, RefusesInstance, faulty, too_long, not_admitted}
+use Rattle.repo_engine.specs.XmlRefusal.{limit, fault_line, HasFault, IsTooLong, IsAccepted, RefusesInstance, faulty, too_long, not_admitted}
 use Rattle.repo_engine.specs.declared.status.Status.{Status}
 use Rattle.repo_engine.specs.declared.status.Status.TheVariants.{Done, Words, Repository, Codes, Message, Instance, ReadFault, WriteFault, Memory}
 use Rattle.repo_engine.specs.PlainRepository.{Plain, SpellsRepository}

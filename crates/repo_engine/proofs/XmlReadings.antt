@@ -1,17 +1,16 @@
 -- An instance that is read a byte at a time: its events are compared with the form as they come.
-use Rattle.std.proofs.Common.{◌≡◌, ℕ, ◌+◌, ◌≤◌, ◌↔◌, List, [], ◌∷◌, ◌++◌, length, map, Option, Some, None, refl, sym, ◌∙◌, ap, subst, append_assoc, append-nil, length-append, arith}
+use Rattle.std.proofs.Common.{◌≡◌, ℕ, ◌+◌, ◌↔◌, List, [], ◌∷◌, ◌++◌, length, map, refl, sym, ◌∙◌, ap, subst, append_assoc, append-nil, length-append}
 use Rattle.std.proofs.lemmas.List.{map-append}
 use Rattle.lexical_core.specs.Tree.{Item}
 use Rattle.markup.specs.Events.{Placed}
 use Rattle.markup.specs.EventItems.{placed, item_of, Tells}
 use Rattle.markup.specs.Faults.{MarkFault}
-use Rattle.markup.specs.Reading.{HasTaken, GoesOn, Refuses, taken, fault_of}
+use Rattle.markup.specs.Reading.{GoesOn, Refuses, taken, fault_of}
 use Rattle.markup.specs.declared.event.Event.{Event}
 use Rattle.markup.specs.declared.reader.MarkFault.{MarkFault as Told}
-use Rattle.markup.specs.declared.reader.Reader.{Reader}
 use Rattle.repo_engine.specs.XmlForm.{Form, FitsItems}
-use Rattle.repo_engine.specs.Admission.{Status, Remains}
-use Rattle.repo_engine.specs.XmlReading.{items_told, items_of, HasRead, Shows, ReadsOn}
+use Rattle.repo_engine.specs.Admission.{Remains}
+use Rattle.repo_engine.specs.XmlReading.{items_told, items_of, HasRead, Shows}
 use Rattle.repo_engine.specs.declared.instance.xml_progress.XmlProgress.{XmlProgress}
 
 -- events that are placed are the items of their places

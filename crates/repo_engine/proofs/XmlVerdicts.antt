@@ -1,13 +1,11 @@
 -- What the bytes that were read of a source say of all that it had left.
-use Rattle.std.proofs.Common.{◌≡◌, ◌≢◌, ℕ, Bool, true, false, ◌+◌, ◌-◌, ◌<◌, ◌≤◌, ◌↔◌, List, [], ◌∷◌, ◌++◌, length, map, take, drop, reverse, Option, Some, None, IsTrue, refl, sym, ◌∙◌, ap, subst, append_assoc, append-nil, length-append, arith}
+use Rattle.std.proofs.Common.{◌≡◌, ℕ, ◌+◌, ◌-◌, ◌<◌, ◌≤◌, ◌↔◌, List, [], ◌++◌, length, take, drop, Option, Some, None, refl, sym, ◌∙◌, ap, subst, append_assoc, append-nil, length-append, arith}
 use Rattle.std.proofs.lemmas.List.{take_all, take-append-drop, length-take, length-drop}
 use Rattle.std.proofs.Math.Seq.{take-append-add, take-append_seam}
 use Rattle.std.specs.Io.KnownBytes.{Consumes, IsAtEnd}
-use Rattle.lexical_core.specs.declared.rule.Rule.TheVariants.{Truncated}
-use Rattle.markup.specs.Token.{Token}
-use Rattle.markup.specs.Marks.{Marks, OneMarking}
-use Rattle.markup.specs.Events.{Placed, events}
-use Rattle.markup.specs.Faults.{Fault, MarkFault, IsWhole, IsClean, is_over, FaultWithin}
+use Rattle.markup.specs.Marks.{OneMarking}
+use Rattle.markup.specs.Events.{events}
+use Rattle.markup.specs.Faults.{MarkFault}
 use Rattle.markup.specs.Reading.{IsWholly, NoFaultTaken, fault_of}
 use Rattle.markup.specs.declared.reader.MarkFault.{MarkFault as Told}
 use Rattle.lexical_core.specs.Tree.{Tree}
@@ -17,7 +15,7 @@ use Rattle.repo_engine.specs.XmlInstance.{IsInstanceTree, SpellsXml}
 use Rattle.repo_engine.specs.XmlVerdict.{Finds, IsPlaced}
 use Rattle.repo_engine.specs.XmlForm.{Form, Fits, FitsItems}
 use Rattle.repo_engine.specs.Admission.{Remains}
-use Rattle.repo_engine.specs.XmlRefusal.{limit, HasFault, IsTooLong}
+use Rattle.repo_engine.specs.XmlRefusal.{limit}
 use Rattle.repo_engine.specs.XmlReading.{items_told, HasRead, Shows, SpellsForm, IsOther, EndsAs, FindsForm, JudgesForm, HasRoom}
 use Rattle.repo_engine.specs.declared.instance.verdict.Verdict.{Verdict}
 use Rattle.repo_engine.specs.declared.instance.verdict.Verdict.TheVariants.{Admitted, Refused, TooLong, NotAdmitted}
@@ -154,23 +152,15 @@ module _ (form : Form) (p : Plain) (same : (tree : Tree) → Fits form tree ↔ 
   finds_message None v j = tt
   finds_message (Some bytes) v j = finds bytes v (j bytes refl)
 
--- ---- the place of a fault
+-- ---- a fault is one of bytes within the limit
 
-shows_placed : FaultWithin → (bytes : List ℕ) (fault : Told) → length bytes ≤ limit → Shows bytes fault → fault.place ≤ limit
-shows_placed within bytes fault l s = placed_in (within (bytes ++ []) (fault_of fault) (s.has_fault [])) (length-append bytes []) where
-  placed_in : fault.place ≤ length (bytes ++ []) → length (bytes ++ []) ≡ length bytes + 0 → fault.place ≤ limit
-  placed_in a b = omega (arith, a, b, l)
-
-pub fault_placed : FaultWithin → (form : Form) (old now : Option (List ℕ)) (xs : List ℕ) (w room : ℕ) (progress : XmlProgress) (fault : Told) (h : HasRoom form old now room progress) → w ≤ room → Shows (h.taken_are ++ take w xs) fault → fault.place ≤ limit
-fault_placed within form old now xs w room progress fault h fits s =
+pub fault_placed : (form : Form) (old now : Option (List ℕ)) (xs : List ℕ) (w room : ℕ) (progress : XmlProgress) (fault : Told) (h : HasRoom form old now room progress) → w ≤ room → Shows (h.taken_are ++ take w xs) fault → IsPlaced (Refused fault)
+fault_placed form old now xs w room progress fault h fits s =
     let c = h.counted in
-    shows_placed within (h.taken_are ++ take w xs) fault (omega (arith, c, fits, length-append h.taken_are (take w xs), length-take w xs)) s
+    (h.taken_are ++ take w xs, omega (arith, c, fits, length-append h.taken_are (take w xs), length-take w xs), subst (λ v. MarkFault v (fault_of fault)) (append-nil (h.taken_are ++ take w xs)) (s.has_fault []))
 
-pub end_placed : FaultWithin → (form : Form) (old now : Option (List ℕ)) (room : ℕ) (progress : XmlProgress) (verdict : Verdict) (h : HasRoom form old now room progress) → EndsAs form h.taken_are verdict → IsPlaced verdict
-end_placed within form old now room progress Admitted h e = tt
-end_placed within form old now room progress (Refused fault) h e =
-    let c = h.counted in
-    let p = within h.taken_are (fault_of fault) e in
-    omega (arith, c, p)
-end_placed within form old now room progress TooLong h e = tt
-end_placed within form old now room progress NotAdmitted h e = tt
+pub end_placed : (form : Form) (old now : Option (List ℕ)) (room : ℕ) (progress : XmlProgress) (verdict : Verdict) (h : HasRoom form old now room progress) → EndsAs form h.taken_are verdict → IsPlaced verdict
+end_placed form old now room progress Admitted h e = tt
+end_placed form old now room progress (Refused fault) h e = let c = h.counted in (h.taken_are, omega (arith, c), e)
+end_placed form old now room progress TooLong h e = tt
+end_placed form old now room progress NotAdmitted h e = tt

@@ -1,12 +1,12 @@
 -- The elements of a message, from its building blocks. Private functions alone cite this.
-use Rattle.std.specs.Prelude.{◌≡◌, ℕ, List, [], ◌∷◌, ◌++◌, ◌↔◌, codes, unwrap_or}
+use Rattle.std.specs.Prelude.{◌≡◌, ℕ, List, unwrap_or}
 use Rattle.repo_objects.specs.declared.objects.ElementDef.{ElementDef}
 use Rattle.repo_objects.specs.declared.objects.Object.{Object}
 use Rattle.repo_objects.specs.Repository.{Contents}
 use Rattle.repo_engine.specs.PlainContents.{IsTypeOf}
-use Rattle.std.specs.List.{AllZip, Contains}
+use Rattle.std.specs.List.{Contains}
 use Rattle.repo_engine.specs.PlainNames.{number_of}
-use Rattle.repo_engine.specs.PlainRepository.{Entry, Block, Plain, id_of, ids_of, AreDistinct}
+use Rattle.repo_engine.specs.PlainRepository.{Entry, Block}
 use Rattle.repo_engine.specs.declared.instance.fields.Field.{Field}
 
 -- the entry is one of these, and has the id

@@ -1,5 +1,5 @@
 -- An instance of a message: its texts, the tree that they are written as, and the bytes that spell it (ISO 20022-4).
-use Rattle.std.specs.Prelude.{◌≡◌, ◌≢◌, ◌⊎◌, ℕ, ◌≤◌, true, List, [], ◌∷◌, ◌++◌, length, map, reverse, codes}
+use Rattle.std.specs.Prelude.{◌≡◌, ◌⊎◌, ℕ, ◌≤◌, true, List, [], ◌∷◌, ◌++◌, length, map, reverse, codes}
 use Rattle.std.specs.List.{AllByRecursion, Contains}
 use Rattle.lexical_core.specs.Tree.{Expanded, Entry as Attribute, Nodes, Nothing, Element, Text, Tree, TreeIs}
 use Rattle.markup.specs.Chars.{is_space}
@@ -12,7 +12,7 @@ use Rattle.repo_engine.specs.PlainRepository.{Entry, Block, Plain, id_of}
 
 -- ---- the values
 
--- a text that the block admits: as many characters as the entry allows that it names
+-- a text that the block admits: as many characters as the entry that the block names allows
 abbrev pub AdmitsText : List Entry → Block → List ℕ → Type 0
 AdmitsText es b text = (e : Entry) × Contains es e × (e.id ≡ b.entry) × (number_of e.least ≤ length text) × (length text ≤ number_of e.most)
 
@@ -37,7 +37,7 @@ named namespace local = record { namespace = namespace; local = local }
 abbrev pub schema_instance : List ℕ
 schema_instance = codes "http://www.w3.org/2001/XMLSchema-instance"
 
--- an attribute that only hints where a schema is, which every element may have (XML Schema part 1 §2.6.3)
+-- an attribute that only hints where a schema is, which every element may have (XML Schema part 1 §2.6.3; profile: `xsi:type` and `xsi:nil` are none)
 abbrev pub IsHint : Attribute → Type 0
 IsHint a = (a.name ≡ named schema_instance (codes "schemaLocation")) ⊎ (a.name ≡ named schema_instance (codes "noNamespaceSchemaLocation"))
 
@@ -52,13 +52,13 @@ IsBlank Nothing = Unit {0}
 IsBlank (Text c rest) = (is_space c ≡ true) × IsBlank rest
 IsBlank (Element name attributes children rest) = ⊥
 
--- the nodes are one element of the name, whose content is as said, and white space round it
+-- the nodes are one element of the name with hints alone, whose content is as said, and white space round it
 abbrev pub IsOne : Expanded → (Nodes → Type 0) → Nodes → Type 0
 IsOne name Content Nothing = ⊥
 IsOne name Content (Text c rest) = (is_space c ≡ true) × IsOne name Content rest
 IsOne name Content (Element n attributes children rest) = (n ≡ name) × AllByRecursion IsHint attributes × Content children × IsBlank rest
 
--- the nodes are an element for each block in order, which holds its text, and white space round them
+-- the nodes are an element for each block in order, with hints alone, which holds its text, and white space round them
 abbrev pub WritesBlocks : List ℕ → List Block → List (List ℕ) → Nodes → Type 0
 WritesBlocks ns bs ts (Text c rest) = (is_space c ≡ true) × WritesBlocks ns bs ts rest
 WritesBlocks ns [] [] Nothing = Unit {0}
@@ -80,7 +80,7 @@ IsInstanceTree p tree = (texts : List (List ℕ)) × Admits p.entries p.blocks t
 
 -- ---- the bytes
 
--- The bytes spell an instance of the message: their tokens break no rule of XML and come to the root's end tag (XML 1.0 §2.1, document), and their events are those of its tree.
+-- The bytes spell an instance of the message: their tokens break no rule of XML and close the root (XML 1.0 §2.1, document), and their events are those of its tree.
 pub record SpellsXml (p : Plain) (bytes : List ℕ) : Type 0 where
   pub tokens : List Token
   pub marks : Marks bytes tokens

@@ -1,5 +1,5 @@
 -- How far the check of an instance has come. Private functions alone cite this.
-use Rattle.std.specs.Prelude.{◌≡◌, ◌≢◌, ℕ, true, ◌+◌, ◌≤◌, ◌↔◌, List, [], ◌∷◌, ◌++◌, length, map, reverse, Option, Some, None, MatchOption}
+use Rattle.std.specs.Prelude.{◌≡◌, ◌≢◌, ℕ, true, ◌+◌, ◌≤◌, ◌↔◌, List, [], ◌++◌, length, map, reverse, Option, Some, MatchOption}
 use Rattle.std.specs.Io.KnownBytes.{Consumes}
 use Rattle.lexical_core.specs.Tree.{Item}
 use Rattle.lexical_core.specs.declared.rule.Rule.TheVariants.{Truncated}
@@ -8,12 +8,11 @@ use Rattle.markup.specs.Marks.{Marks}
 use Rattle.markup.specs.Events.{Placed, events}
 use Rattle.markup.specs.EventItems.{item_of}
 use Rattle.markup.specs.Faults.{MarkFault, IsWhole, IsClean, is_over}
-use Rattle.markup.specs.Reading.{HasTaken, taken, failed, fault_of}
+use Rattle.markup.specs.Reading.{HasTaken, taken, fault_of}
 use Rattle.markup.specs.declared.event.Event.{Event}
 use Rattle.markup.specs.declared.reader.MarkFault.{MarkFault as Told}
-use Rattle.markup.specs.declared.reader.Reader.{Reader}
 use Rattle.repo_engine.specs.XmlForm.{Form, FitsItems}
-use Rattle.repo_engine.specs.Admission.{Status, Remains}
+use Rattle.repo_engine.specs.Admission.{Remains}
 use Rattle.repo_engine.specs.XmlRefusal.{limit, HasFault, IsTooLong}
 use Rattle.repo_engine.specs.declared.instance.verdict.Verdict.{Verdict}
 use Rattle.repo_engine.specs.declared.instance.verdict.Verdict.TheVariants.{Admitted, Refused, TooLong, NotAdmitted}

@@ -50,8 +50,8 @@ pub record IsAccepted (p : Plain) (bytes : List ℕ) : Type 0 where
   pub spells : SpellsXml p bytes
   pub short : length bytes ≤ limit
 
--- a line that may be noted where an instance is refused; no place is beyond the limit
+-- a line that may be noted where an instance is refused: a fault is one of some bytes within the limit
 pub data IsInstanceLine (line : List ℕ) : Type 0 where
-  of_fault : (f : Fault) → f.place ≤ limit → line ≡ fault_line f → IsInstanceLine line
+  of_fault : (bytes : List ℕ) (f : Fault) → length bytes ≤ limit → MarkFault bytes f → line ≡ fault_line f → IsInstanceLine line
   of_length : line ≡ too_long_line → IsInstanceLine line
   of_form : line ≡ not_admitted_line → IsInstanceLine line

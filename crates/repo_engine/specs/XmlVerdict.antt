@@ -1,5 +1,6 @@
 -- What the check of an instance finds.
-use Rattle.std.specs.Prelude.{ℕ, ◌≤◌, List}
+use Rattle.std.specs.Prelude.{ℕ, ◌≤◌, List, length}
+use Rattle.markup.specs.Faults.{MarkFault}
 use Rattle.markup.specs.Reading.{fault_of}
 use Rattle.repo_engine.specs.PlainRepository.{Plain}
 use Rattle.repo_engine.specs.XmlRefusal.{limit, HasFault, IsTooLong, IsNotAdmitted, IsAccepted}
@@ -13,7 +14,7 @@ Finds p bytes (Refused fault) = HasFault bytes (fault_of fault)
 Finds p bytes TooLong = IsTooLong bytes
 Finds p bytes NotAdmitted = IsNotAdmitted p bytes
 
--- a fault stands within the limit
+-- a fault is one of some bytes within the limit
 abbrev pub IsPlaced : Verdict → Type 0
-IsPlaced (Refused fault) = fault.place ≤ limit
+IsPlaced (Refused fault) = (bytes : List ℕ) × (length bytes ≤ limit) × MarkFault bytes (fault_of fault)
 IsPlaced _ = Unit {0}

@@ -1,5 +1,5 @@
 // The top call: one command, from words and bytes to a status and what is written.
-ghost use Rattle.std.specs.Prelude.{◌≡◌, ◌≢◌, ◌⊎◌, ◌<◌, ◌≤◌, ℕ, List};
+ghost use Rattle.std.specs.Prelude.{◌≡◌, ◌≢◌, ◌⊎◌, ◌<◌, ◌≤◌, ℕ, List, Some};
 ghost use Rattle.std.specs.Io.KnownBytes.{Appends, IsAtEnd};
 ghost use Rattle.outside.specs.Source.{Rose};
 ghost use Rattle.outside.specs.Sink.{AppendsFront};
@@ -84,8 +84,7 @@ pub fn run<R: Source, C: Source, I: Source, O: Sink, N: Sink>(
         (repo.new ≡ repo.old) × (codes.new ≡ codes.old) × (inst.new ≡ inst.old) }
     ensures inst_not_come_to { (result ≡ Status.Repository) ⊎ (result ≡ Status.Message) → inst.new ≡ inst.old }
     ensures inst_after_repo { (inst.new ≡ inst.old) ⊎ IsAtEnd (R.left repo.new) }
-    ensures inst_in_turn { (r c i : List ℕ) →
-        AreLeft (texts words.now.items) (R.left repo.old) (C.left codes.old) (I.left inst.old) r c i →
+    ensures inst_in_turn { (r : List ℕ) → R.left repo.old ≡ Some r →
         (inst.new ≡ inst.old) ⊎ ComesToInstance (texts words.now.items) r }
 {
     let _ = codes;

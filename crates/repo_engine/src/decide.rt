@@ -219,8 +219,7 @@ pub fn decide<'a, R: Source, I: Source>(
     ensures words_pull_nothing { result.status ≡ Status.Words → (repo.new ≡ repo.old) × (inst.new ≡ inst.old) }
     ensures not_come_to { (result.status ≡ Status.Repository) ⊎ (result.status ≡ Status.Message) → inst.new ≡ inst.old }
     ensures reached { (inst.new ≡ inst.old) ⊎ IsAtEnd (R.left repo.new) }
-    ensures in_turn { (r c i : List ℕ) (codes_left : Option (List ℕ)) →
-        AreLeft (texts words.now.items) (R.left repo.old) codes_left (I.left inst.old) r c i →
+    ensures in_turn { (r : List ℕ) → R.left repo.old ≡ Some r →
         (inst.new ≡ inst.old) ⊎ ComesToInstance (texts words.now.items) r }
     ensures fault { result.status ≡ Status.ReadFault →
         (Rose (R.faults repo.old) (R.faults repo.new) × (inst.new ≡ inst.old)) ⊎

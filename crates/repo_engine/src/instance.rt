@@ -22,7 +22,7 @@ use xml_check::check_form;
 use xml_form::xml_form;
 
 /// What the bytes that the source has left are to the repository's message. They are read to their
-/// end, or to the piece that shows a fault of markup. `Fault` comes only where the source failed.
+/// end, to the piece that shows a fault of markup, or to the first byte beyond the limit. `Fault` comes only where the source failed.
 pub fn check_instance<S: Source>(
     alloc: Global,
     repository: &Repository,

@@ -8,7 +8,7 @@ pub enum Verdict {
     Admitted,
     /// They have this fault of markup.
     Refused(MarkFault),
-    /// There are more bytes than an instance may have.
+    /// There are more bytes than an instance may have, and these have no other fault.
     TooLong,
     /// They are XML, but no instance of the message.
     NotAdmitted,

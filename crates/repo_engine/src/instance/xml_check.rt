@@ -14,8 +14,9 @@ use crate::reading::{LIMIT, piece_buffer};
 use outside::Source;
 use std::alloc::Global;
 
-/// What the bytes that the source has left are to the form. `Fault` comes only where the source
-/// failed.
+/// What the bytes that the source has left are to the form. They are read to their end, to the
+/// piece that shows a fault of markup, or to the first byte beyond the limit. `Fault` comes only
+/// where the source failed.
 pub fn check_form<S: Source>(
     alloc: Global,
     form: &XmlForm,
@@ -28,7 +29,6 @@ pub fn check_form<S: Source>(
     ensures later { S.faults source.old ≤ S.faults source.new }
 {
     markup::laws::no_fault_taken();
-    markup::laws::fault_within();
     let mut buffer = piece_buffer(alloc)?;
     let piece = buffer.as_mut_slice();
     let mut progress = XmlProgress::new(alloc, Admission::new(form));

@@ -17,6 +17,4 @@ pub returns-clause-inst_unused : goal.returns-clause-inst_unused
 returns-clause-inst_unused g c = λ unused. absurd (unused (check_xml c.in-Some.id.now, c.in-Some.ensures.found, tt))
 
 pub returns-clause-in_turn : goal.returns-clause-in_turn
-returns-clause-in_turn g c = λ r k i codes_left told.
-    let form : HasForm (texts c.args.words.now.items) (check_xml c.in-Some.id.now) = c.in-Some.ensures.found in
-    c.decide_check.ensures.in_turn r (told.repository (check_xml c.in-Some.id.now, form, tt)) _ form
+returns-clause-in_turn g c = λ r told. c.decide_check.ensures.in_turn r told _ c.in-Some.ensures.found

@@ -1,4 +1,4 @@
-use Rattle.std.proofs.Common.{rules, ℕ, List, ◌≡◌, ◌≤◌, ◌++◌, [], take, length, min, sym, subst, arith}
+use Rattle.std.proofs.Common.{rules, ◌++◌, take, sym, subst, arith}
 use Rattle.repo_engine.specs.XmlReading.{ReadsOn}
 use Rattle.repo_engine.proofs.XmlVerdicts.{room_whole, judges_end, fault_found, long_found, room_left, fault_placed, end_placed}
 use Rattle.repo_engine.proofs.instance.xml_check.check_form.Goals as goal
@@ -53,7 +53,7 @@ loop-count-preserved g c =
 pub returns-then-count-eq0-clause-placed : goal.returns-then-count-eq0-clause-placed
 returns-then-count-eq0-clause-placed g c =
     let h = c.loop-count.invariant.so_far in
-    end_placed c.fault_within.ensures c.args.form.now (g.S.Source.left c.args.source.now) (g.S.Source.left c.loop-count.source) c.loop-count.room c.loop-count.progress c.in_ok-finish.field-0 h
+    end_placed c.args.form.now (g.S.Source.left c.args.source.now) (g.S.Source.left c.loop-count.source) c.loop-count.room c.loop-count.progress c.in_ok-finish.field-0 h
     (c.in_ok-finish.ensures c.args.form.now h.taken_are h.read)
 
 pub returns-in-Some-clause-placed : goal.returns-in-Some-clause-placed
@@ -62,6 +62,6 @@ returns-in-Some-clause-placed g c =
     let xs = take c.in-Ok.count c.pull.new.buf in
     let k : ReadsOn c.args.form.now c.take_all.new.self (h.taken_are ++ take c.min.result xs) c.in_ok-fault.field-0 =
     subst (λ v. ReadsOn c.args.form.now c.take_all.new.self (h.taken_are ++ v) c.in_ok-fault.field-0) c.split_at.ensures.front (c.in_ok-fault.ensures.read c.args.form.now h.taken_are h.read) in
-    fault_placed c.fault_within.ensures c.args.form.now (g.S.Source.left c.args.source.now) (g.S.Source.left c.loop-count.source) xs c.min.result c.loop-count.room c.loop-count.progress c.in-Some.fault h
+    fault_placed c.args.form.now (g.S.Source.left c.args.source.now) (g.S.Source.left c.loop-count.source) xs c.min.result c.loop-count.room c.loop-count.progress c.in-Some.fault h
     (search rules)
     (subst (ReadsOn c.args.form.now c.take_all.new.self (h.taken_are ++ take c.min.result xs)) c.in-Some.is k)

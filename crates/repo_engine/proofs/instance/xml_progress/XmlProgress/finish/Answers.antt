@@ -1,4 +1,4 @@
-use Rattle.std.proofs.Common.{sym, subst, ◌∙◌, false, true}
+use Rattle.std.proofs.Common.{subst}
 use Rattle.std.proofs.lemmas.Bool.{both_ways}
 use Rattle.markup.specs.Reading.{EndsEarly}
 use Rattle.repo_engine.proofs.XmlVerdicts.{ends_admitted, ends_other}

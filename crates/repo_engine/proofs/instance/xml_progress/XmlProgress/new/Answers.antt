@@ -1,4 +1,4 @@
-use Rattle.std.proofs.Common.{refl, []}
+use Rattle.std.proofs.Common.{[]}
 use Rattle.repo_engine.proofs.instance.xml_progress.XmlProgress.new.Goals as goal
 
 pub returns-clause-read : goal.returns-clause-read

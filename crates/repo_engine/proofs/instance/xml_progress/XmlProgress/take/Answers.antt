@@ -1,6 +1,5 @@
-use Rattle.std.proofs.Common.{◌∷◌, ◌++◌, [], sym, subst, ap, ◌∙◌, ◌+◌}
-use Rattle.markup.specs.Reading.{GoesOn, Refuses, taken}
-use Rattle.markup.specs.declared.reader.MarkError.{MarkError}
+use Rattle.std.proofs.Common.{◌∷◌, ◌++◌, [], sym, subst, ap, ◌∙◌}
+use Rattle.markup.specs.Reading.{GoesOn, taken}
 use Rattle.markup.specs.Reading.{Stops}
 use Rattle.repo_engine.proofs.XmlReadings.{read_on, shows_of}
 use Rattle.repo_engine.proofs.instance.xml_progress.XmlProgress.take.Goals as goal

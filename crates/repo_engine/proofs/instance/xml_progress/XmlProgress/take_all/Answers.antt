@@ -1,4 +1,4 @@
-use Rattle.std.proofs.Common.{rules, ◌≡◌, ◌∷◌, ◌++◌, ◌+◌, [], ℕ, List, length, sym, subst, ap, ◌∙◌, arith}
+use Rattle.std.proofs.Common.{rules, ◌≡◌, ◌∷◌, ◌++◌, ◌+◌, [], length, subst, ap, arith}
 use Rattle.std.specs.Prelude.{IfNone}
 use Rattle.markup.specs.Reading.{taken}
 use Rattle.repo_engine.specs.XmlReading.{ReadsOn}

@@ -1,4 +1,4 @@
-use Rattle.std.proofs.Common.{◌≡◌, ◌+◌, ℕ, List, ◌++◌, length}
+use Rattle.std.proofs.Common.{◌≡◌, ◌+◌, ℕ, List, length}
 use Rattle.markup.specs.Reading.{taken}
 use Rattle.repo_engine.specs.XmlForm.{Form}
 use Rattle.repo_engine.specs.XmlReading.{HasRead}
