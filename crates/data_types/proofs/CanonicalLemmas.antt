@@ -74,7 +74,7 @@ pads_visible (suc n) = (pad_visible, pads_visible n)
 pub octets_visible : (octets : List ℕ) → IsBytes octets → AreVisible (encode_of standard octets)
 octets_visible octets bytes = join_visible (encode_symbols standard.encode_table octets) _ (symbols_visible octets bytes) (pads_visible (padding_len (length octets)))
 
-no_spaces : (text : List ℕ) → AreVisible text → without_spaces text ≡ text
+pub no_spaces : (text : List ℕ) → AreVisible text → without_spaces text ≡ text
 no_spaces [] v = refl
 no_spaces (c ∷ text) v =
     let low = v.0.low in
@@ -83,14 +83,14 @@ no_spaces (c ∷ text) v =
 
 -- ---- a canonical text spells its leaf
 
-own : (text : List ℕ) → AreVisible text → IsCollapsed text text
+pub own : (text : List ℕ) → AreVisible text → IsCollapsed text text
 own text v = own_collapsed text (no_space text v)
 
-spells_decimal : (leaf : Leaf) (chars : List ℕ) → IsCanonicalDecimal leaf chars → IsDecimalLeaf chars leaf
+pub spells_decimal : (leaf : Leaf) (chars : List ℕ) → IsCanonicalDecimal leaf chars → IsDecimalLeaf chars leaf
 spells_decimal (Number n) chars (is, (negative, p, spell, form, e)) = (chars, own chars (number_visible chars n (negative, p, spell, form, e)), is, (negative, p, spell, e))
 spells_decimal leaf chars h = absurd h
 
-spells_boolean : (leaf : Leaf) (chars : List ℕ) → IsCanonicalBoolean leaf chars → IsBooleanLeaf chars leaf
+pub spells_boolean : (leaf : Leaf) (chars : List ℕ) → IsCanonicalBoolean leaf chars → IsBooleanLeaf chars leaf
 spells_boolean (Flag flag) chars e = (chars, own chars (subst AreVisible (sym e) (flag_visible flag)), subst (IsBooleanText flag) (sym e) (flag_text flag))
 spells_boolean leaf chars h = absurd h
 

@@ -1,5 +1,5 @@
 -- The leaf that is kept, a character at a time, and its answers.
-use Rattle.std.proofs.Common.{◌≡◌, ℕ, ◌⊎◌, inl, inr, false, List, [], ◌∷◌, ◌++◌, refl, sym, ap, subst, ◌∙◌, append_assoc, append-nil, arith, ◌==◌}
+use Rattle.std.proofs.Common.{◌≡◌, ℕ, ◌+◌, ◌≤◌, ◌⊎◌, inl, inr, false, List, [], ◌∷◌, ◌++◌, length, Option, Err, refl, sym, ap, subst, ◌∙◌, append_assoc, append-nil, length-append, arith, ◌==◌}
 use Rattle.std.proofs.lemmas.List.Elements.{filter-append}
 use Rattle.std.proofs.lemmas.Bool.Decides.{nat_tests}
 use Rattle.std.specs.Prelude.{encode_utf8, encode_utf8_all}
@@ -8,6 +8,9 @@ use Rattle.base64.specs.Engines.{standard}
 use Rattle.base64.specs.GeneralPurpose.{IsBytes, encode_of}
 use Rattle.lexical_core.specs.Characters.{IsXmlChar}
 use Rattle.lexical_core.specs.Decimals.{Number as DecimalNumber, IsDecimal, IsDecimalText, SpellsDecimal}
+use Rattle.lexical_core.specs.declared.rule.Rule.{Rule}
+use Rattle.lexical_core.specs.declared.rule.Rule.TheVariants.{BadText, BadLength}
+use Rattle.data_types.specs.declared.kept.Kept.{Kept}
 use Rattle.data_types.specs.declared.kind.Kind.{Kind}
 use Rattle.data_types.specs.declared.kind.Kind.TheVariants as kind
 use Rattle.data_types.specs.declared.collapse.Collapsed.{Collapsed}
@@ -18,9 +21,12 @@ use Rattle.data_types.specs.declared.octets.OctetStep.{OctetStep}
 use Rattle.data_types.specs.WhiteSpace.{IsSpace, IsCollapsed}
 use Rattle.data_types.specs.Binaries.{IsBinaryText, without_spaces}
 use Rattle.data_types.specs.Collapsing.{gained}
-use Rattle.data_types.specs.OctetSteps.{HasDecoded}
+use Rattle.data_types.specs.Limits.{IsWithin}
+use Rattle.data_types.specs.Kept.{Holds}
+use Rattle.data_types.specs.OctetSteps.{HasDecoded, IsOctetFault}
 use Rattle.data_types.specs.Leaf.{Leaf, Bytes, Number, IsDecimalLeaf, IsBinaryLeaf, HasDecimalForm, HasLeafForm}
-use Rattle.data_types.specs.LeafSteps.{HasBody}
+use Rattle.data_types.specs.LeafAnswers.{IsLeafAnswer}
+use Rattle.data_types.specs.LeafSteps.{HasBody, IsText}
 use Rattle.data_types.proofs.CollapseLaw.{one_collapsed}
 
 -- ---- texts
@@ -33,15 +39,23 @@ all_push : (P : ℕ → Type 0) (xs : List ℕ) (x : ℕ) → AllByRecursion P x
 all_push P [] x a p = (p, tt)
 all_push P (y ∷ ys) x a p = (a.0, all_push P ys x a.1 p)
 
-pub text_taken : (body : Body) (text bytes now : List ℕ) (c : ℕ) → body ≡ Text text → bytes ≡ encode_utf8 c → now ≡ text ++ bytes → IsXmlChar c
-    → (k : Kind) (chars collapsed : List ℕ) → HasBody k body chars collapsed
-    → (k ≡ kind.Text) × AllByRecursion IsXmlChar (chars ++ c ∷ []) × (now ≡ encode_utf8_all (chars ++ c ∷ []))
-text_taken body text bytes now c is code e xml k chars collapsed has =
-    let held = subst (λ (b : Body). HasBody k b chars collapsed) is has in (
-      held.0,
-      all_push IsXmlChar chars c held.1 xml,
-      e ∙ (ap (λ t. t ++ bytes) held.2 ∙ (ap (λ b. encode_utf8_all chars ++ b) code ∙ sym (encode_push chars c))),
+pub text_taken : (old now : Kept) (bytes : List ℕ) (c : ℕ) → bytes ≡ encode_utf8 c → IsXmlChar c
+    → ((most : Option ℕ) (before : ℕ) (all : List ℕ) → Holds old most before all → Holds now most (before + 1) (all ++ bytes))
+    → (most : Option ℕ) (chars : List ℕ) → IsText old most chars → IsText now most (chars ++ c ∷ [])
+text_taken old now bytes c code xml takes most chars has =
+    let joined : encode_utf8_all chars ++ bytes ≡ encode_utf8_all (chars ++ c ∷ []) = ap (λ b. encode_utf8_all chars ++ b) code ∙ sym (encode_push chars c) in
+    let count : length chars + 1 ≡ length (chars ++ c ∷ []) = sym (length-append chars (c ∷ [])) in (
+      all_push IsXmlChar chars c has.0 xml,
+      subst (λ n. Holds now most n (encode_utf8_all (chars ++ c ∷ []))) count
+          (subst (λ t. Holds now most (length chars + 1) t) joined (takes most (length chars) (encode_utf8_all chars) has.1)),
     )
+
+pub text_kept : (body : Body) (old now : Kept) (c : ℕ) → body ≡ Text old
+    → ((most : Option ℕ) (chars : List ℕ) → IsText old most chars → IsText now most (chars ++ c ∷ []))
+    → (k : Kind) (most : Option ℕ) (chars collapsed : List ℕ) → HasBody k body most chars collapsed
+    → (k ≡ kind.Text) × IsText now most (chars ++ c ∷ [])
+text_kept body old now c is takes k most chars collapsed has =
+    let held = subst (λ (b : Body). HasBody k b most chars collapsed) is has in (held.0, takes most chars held.1)
 
 -- ---- octets
 
@@ -57,18 +71,22 @@ no_spaces_in gain c space (inr e) = rw e (other c (λ s. let same = sym (space s
     other c none = let no : (c == 32) ≡ false = grind (arith, nat_tests) in rw no refl
 
 pub octets_taken : (old now : OctetStep) (gain : Collapsed) (c : ℕ) → (IsSpace c → gain ≡ Nothing) → (gain ≡ Char) ⊎ (gain ≡ SpaceAndChar)
-    → ((text : List ℕ) → HasDecoded old text → HasDecoded now (text ++ c ∷ []))
-    → (text : List ℕ) → HasDecoded old (without_spaces text) → HasDecoded now (without_spaces (text ++ gained gain c))
-octets_taken old now gain c space some step text h =
+    → ((most : Option ℕ) (text : List ℕ) → HasDecoded old most text → HasDecoded now most (text ++ c ∷ []))
+    → (most : Option ℕ) (text : List ℕ) → HasDecoded old most (without_spaces text) → HasDecoded now most (without_spaces (text ++ gained gain c))
+octets_taken old now gain c space some step most text h =
     let same : without_spaces (text ++ gained gain c) ≡ without_spaces text ++ c ∷ [] =
     filter-append _ text (gained gain c) ∙ ap (λ t. without_spaces text ++ t) (no_spaces_in gain c space some) in
-    subst (HasDecoded now) (sym same) (step (without_spaces text) h)
+    subst (HasDecoded now most) (sym same) (step most (without_spaces text) h)
 
 pub octets_kept : (body : Body) (step now : OctetStep) (gain : Collapsed) (c : ℕ) → body ≡ Octets step
-    → ((text : List ℕ) → HasDecoded step (without_spaces text) → HasDecoded now (without_spaces (text ++ gained gain c)))
-    → (k : Kind) (chars collapsed : List ℕ) → HasBody k body chars collapsed → (k ≡ kind.Binary) × HasDecoded now (without_spaces (collapsed ++ gained gain c))
-octets_kept body step now gain c is grows k chars collapsed has =
-    let held = subst (λ (b : Body). HasBody k b chars collapsed) is has in (held.0, grows collapsed held.1)
+    → ((most : Option ℕ) (text : List ℕ) → HasDecoded step most (without_spaces text) → HasDecoded now most (without_spaces (text ++ gained gain c)))
+    → length now.kept.bytes.held + now.count ≤ length step.kept.bytes.held + step.count + 1
+    → (k : Kind) (most : Option ℕ) (chars collapsed : List ℕ) → HasBody k body most chars collapsed
+    → (k ≡ kind.Binary) × HasDecoded now most (without_spaces (collapsed ++ gained gain c)) × (length now.kept.bytes.held + now.count ≤ length (chars ++ c ∷ []))
+octets_kept body step now gain c is grows bound k most chars collapsed has =
+    let held = subst (λ (b : Body). HasBody k b most chars collapsed) is has in
+    let few = held.2 in
+    (held.0, grows most collapsed held.1, omega (arith, few, bound, length-append chars (c ∷ [])))
 
 binary_in : (chars text : List ℕ) (leaf : Leaf) → IsCollapsed chars text → IsBinaryLeaf chars leaf → (octets : List ℕ) × IsBinaryText octets text
 binary_in chars text (Bytes octets) collapsed (t, c, is) = (octets, subst (IsBinaryText octets) (one_collapsed chars t text c collapsed) is)
@@ -76,6 +94,18 @@ binary_in chars text leaf collapsed h = absurd h
 
 pub binary_none : (chars text : List ℕ) → IsCollapsed chars text → ((octets : List ℕ) → IsBytes octets → without_spaces text ≡ encode_of standard octets → ⊥) → HasLeafForm kind.Binary chars → ⊥
 binary_none chars text collapsed none (leaf, h) = let b = binary_in chars text leaf collapsed h in none b.0 b.1.0 b.1.1
+
+-- the octets are the leaf, within the limit or past it
+pub binary_within : (most : Option ℕ) (chars text octets : List ℕ) → IsCollapsed chars text
+    → IsBytes octets × (without_spaces text ≡ encode_of standard octets) × IsWithin most (length octets)
+    → IsBinaryLeaf chars (Bytes octets) × IsWithin most (length octets)
+binary_within most chars text octets collapsed (bytes, is, within) = ((text, collapsed, (bytes, is)), within)
+
+pub binary_fault : (most : Option ℕ) (chars text : List ℕ) (rule : Rule) → IsCollapsed chars text
+    → IsOctetFault most (without_spaces text) rule → IsLeafAnswer kind.Binary most chars (Err rule)
+binary_fault most chars text BadText collapsed none = binary_none chars text collapsed none
+binary_fault most chars text BadLength collapsed (octets, bytes, is, past) = (Bytes octets, (text, collapsed, (bytes, is)), past)
+binary_fault most chars text rule collapsed none = absurd none
 
 -- ---- decimals
 

@@ -2,6 +2,7 @@ pub mod DateLemmas
 pub mod CollapseLemmas
 pub mod CollapseLaw
 pub mod LeafLaws
+pub mod KeptLemmas
 pub mod OctetLemmas
 pub mod VisibleTexts
 pub mod ShortLeaves
@@ -9,4 +10,5 @@ pub mod LeafLemmas
 pub mod PushedTexts
 pub mod EscapeLemmas
 pub mod CanonicalLemmas
+pub mod LeavesByKind
 pub mod ValueLemmas

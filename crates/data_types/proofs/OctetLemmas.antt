@@ -1,5 +1,5 @@
 -- Base64 in groups of four characters.
-use Rattle.std.proofs.Common.{◌≡◌, ℕ, zero, suc, ◌<◌, ◌≤◌, ◌%◌, ◌↔◌, ◌⊎◌, inl, inr, List, [], ◌∷◌, ◌++◌, length, take, drop, set, slice_index, refl, sym, ap, subst, ◌∙◌, arith, append_assoc, length-append}
+use Rattle.std.proofs.Common.{◌≡◌, ℕ, zero, suc, Option, ◌<◌, ◌≤◌, ◌%◌, ◌↔◌, ◌⊎◌, inl, inr, List, [], ◌∷◌, ◌++◌, length, take, drop, set, slice_index, refl, sym, ap, subst, ◌∙◌, arith, append_assoc, length-append}
 use Rattle.std.proofs.Math.Seq.{take-append_seam, drop-append_seam}
 use Rattle.std.proofs.lemmas.List.{append-nil}
 use Rattle.base64.specs.Engines.{standard}
@@ -8,7 +8,8 @@ use Rattle.base64.specs.Rfc4648.{encode_symbols}
 use Rattle.base64.proofs.EngineFacts.{encode_of-append, encode_of-nil, front_bytes, IsAscii-encode_of}
 use Rattle.data_types.specs.declared.octets.Stage.{Stage}
 use Rattle.data_types.specs.declared.octets.Stage.TheVariants.{Open, Ended}
-use Rattle.data_types.specs.OctetSteps.{RestIn}
+use Rattle.data_types.specs.declared.octets.OctetStep.{OctetStep}
+use Rattle.data_types.specs.OctetSteps.{RestIn, HasDecoded, IsStep}
 use Rattle.data_types.proofs.LeafLaws.{one_encoded}
 
 -- the back of bytes is bytes
@@ -180,3 +181,23 @@ pub close_fewer : (stage : Stage) (octets begun group found now : List ℕ) (las
     → (more all : List ℕ) → IsBytes all → RestIn stage octets begun (last ∷ more) all ↔ RestIn Ended now [] more all
 close_fewer stage octets begun group found now last is_open four is fb text few e more all bytes =
     rw (is_open, e) (group_of_fewer octets begun group found last four is fb text few more all bytes)
+
+-- before any characters the rest is the whole text
+pub no_octets : IsBytes []
+no_octets = λ i. omega arith
+
+pub before_any : (more all : List ℕ) → IsBytes all → ([] ++ more ≡ encode_of standard all) ↔ RestIn Open [] [] more all
+before_any more all bytes = (λ e. (all, e, refl), λ (rest, e, whole). e ∙ ap (encode_of standard) (sym whole))
+
+-- the rest of all characters so far is the rest behind the last of them
+pub step_decoded : (old now : OctetStep) (c : ℕ) → IsStep old c now → (most : Option ℕ) (text : List ℕ) → HasDecoded old most text → HasDecoded now most (text ++ c ∷ [])
+step_decoded old now c step most text (octets, has, rest) =
+    let next = step most octets has in
+    let same = λ (more : List ℕ). append_assoc text (c ∷ []) more in (
+      next.0,
+      next.1,
+      λ more all bytes. (
+        λ e. (next.2 more all bytes).0 ((rest (c ∷ more) all bytes).0 (sym (same more) ∙ e)),
+        λ r. same more ∙ (rest (c ∷ more) all bytes).1 ((next.2 more all bytes).1 r),
+      ),
+    )

@@ -1,14 +1,16 @@
 -- The leaves of truth values, dates and times by their collapsed texts.
-use Rattle.std.proofs.Common.{◌≢◌, ℕ, Bool, List, refl, subst}
+use Rattle.std.proofs.Common.{◌≢◌, ℕ, Bool, List, Option, refl, subst}
 use Rattle.data_types.specs.declared.kind.Kind.{Kind}
 use Rattle.data_types.specs.declared.kind.Kind.TheVariants.{Text, Decimal, Boolean, Binary, Date, DateTime, Time, Year, YearMonth, MonthDay, Month, Day, Envelope}
 use Rattle.data_types.specs.WhiteSpace.{IsCollapsed}
 use Rattle.data_types.specs.Booleans.{IsBooleanText}
 use Rattle.data_types.specs.Dates.{IsDateText}
 use Rattle.data_types.specs.ShortTexts.{IsShort}
-use Rattle.data_types.specs.Leaf.{Leaf, Bytes, Flag, IsBooleanLeaf, IsDateLeaf, IsLeaf, HasLeafForm}
+use Rattle.data_types.specs.Leaf.{Leaf, Bytes, Flag, IsBooleanLeaf, IsDateLeaf, IsLeaf, HasLeafForm, length_of}
+use Rattle.data_types.specs.Limits.{IsWithin}
 use Rattle.data_types.specs.LeafSteps.{IsShortKind}
 use Rattle.data_types.proofs.CollapseLaw.{one_collapsed}
+use Rattle.data_types.proofs.KeptLemmas.{none_within}
 use Rattle.data_types.proofs.VisibleTexts.{date_short, boolean_short}
 
 boolean_in : (chars text : List ℕ) (leaf : Leaf) → IsCollapsed chars text → IsBooleanLeaf chars leaf → (flag : Bool) × IsBooleanText flag text
@@ -70,3 +72,19 @@ short_form MonthDay chars text short collapsed (leaf, h) = date_short MonthDay t
 short_form Month chars text short collapsed (leaf, h) = date_short Month text (date_in Month chars text leaf collapsed h)
 short_form Day chars text short collapsed (leaf, h) = date_short Day text (date_in Day chars text leaf collapsed h)
 short_form Envelope chars text short collapsed (leaf, h) = absurd h
+
+-- a leaf of these kinds has no length, and so is within any limit
+pub short_within : (kind : Kind) (most : Option ℕ) (chars : List ℕ) (leaf : Leaf) → IsShortKind kind → IsWithin most (length_of kind chars leaf)
+short_within Text most chars leaf short = absurd (short.no_text refl)
+short_within Decimal most chars leaf short = absurd (short.no_decimal refl)
+short_within Boolean most chars leaf short = none_within most
+short_within Binary most chars leaf short = absurd (short.no_binary refl)
+short_within Date most chars leaf short = none_within most
+short_within DateTime most chars leaf short = none_within most
+short_within Time most chars leaf short = none_within most
+short_within Year most chars leaf short = none_within most
+short_within YearMonth most chars leaf short = none_within most
+short_within MonthDay most chars leaf short = none_within most
+short_within Month most chars leaf short = none_within most
+short_within Day most chars leaf short = none_within most
+short_within Envelope most chars leaf short = none_within most

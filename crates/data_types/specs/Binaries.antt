@@ -1,5 +1,5 @@
--- The texts of octets: XML Schema part 2 §3.2.16, with the alphabet and the padding of RFC 4648 §4. Cut off are texts whose unused
--- bits are not zero (§3.5 there).
+-- The texts of octets: XML Schema part 2 §3.2.16, with the alphabet and the padding of RFC 4648 §4. Nothing is cut off: that section
+-- itself lets only a character whose unused bits are zero stand before the padding.
 use Rattle.std.specs.Prelude.{◌≡◌, ℕ, not, ◌==◌, List, filter}
 use Rattle.base64.specs.GeneralPurpose.{encode_of, IsBytes}
 use Rattle.base64.specs.Engines.{standard}

@@ -1,4 +1,5 @@
--- The one canonical text of a leaf: XML Schema part 2 §3.2.2.2, §3.2.3.2 and §3.2.16, and the collapsed text of a date as it is.
+-- The one canonical text of a leaf: XML Schema part 2 §3.2.2.2 and §3.2.16; of a decimal that of XML Schema 1.1 part 2 §3.3.3,
+-- decimalCanonicalMap, as 1 where §3.2.3.2 of the first version writes 1.0; and the collapsed text of a date as it is.
 use Rattle.std.specs.Prelude.{◌≡◌, ℕ, false, List, flat_map}
 use Rattle.lexical_core.specs.Decimals.{IsDecimal, IsCanonicalText}
 use Rattle.lexical_core.specs.Escapes.{escaped}
@@ -23,7 +24,7 @@ abbrev pub IsCanonicalBinary : Leaf → List ℕ → Type 0
 IsCanonicalBinary (Bytes octets) chars = chars ≡ binary_text octets
 IsCanonicalBinary leaf chars = ⊥
 
--- the date as it was written, collapsed
+-- the date as it was written, collapsed: its bytes are its characters, since a date's text is ASCII
 abbrev pub IsCanonicalDate : Leaf → List ℕ → Type 0
 IsCanonicalDate (Bytes text) chars = chars ≡ text
 IsCanonicalDate leaf chars = ⊥

@@ -1,6 +1,6 @@
 -- What an element without elements holds, and the characters that spell it: XML Schema part 2 §2.1 and §3.2, with the white space
 -- of §4.3.6 (kept in texts, collapsed in all others).
-use Rattle.std.specs.Prelude.{◌≡◌, ℕ, Bool, List, encode_utf8_all}
+use Rattle.std.specs.Prelude.{◌≡◌, ℕ, Bool, List, length, encode_utf8_all}
 use Rattle.std.specs.List.{AllByRecursion}
 use Rattle.lexical_core.specs.Characters.{IsXmlChar}
 use Rattle.lexical_core.specs.Decimals.{Number as DecimalNumber, IsDecimal, IsDecimalText, SpellsDecimal}
@@ -11,8 +11,8 @@ use Rattle.data_types.specs.Dates.{IsDateText}
 use Rattle.data_types.specs.declared.kind.Kind.{Kind}
 use Rattle.data_types.specs.declared.kind.Kind.TheVariants.{Text, Decimal, Boolean, Binary, Date, DateTime, Time, Year, YearMonth, MonthDay, Month, Day, Envelope}
 
--- the UTF-8 of a text, the octets of a binary value or a collapsed date; a number; a truth value; a code by its place among the
--- codes of its set, sorted by bytes
+-- the UTF-8 of a text, the octets of a binary value, a collapsed date or the canonical fragment of an envelope; a number; a truth
+-- value; a code by its place among the codes of its set, sorted by bytes
 pub data Leaf : Type 0 where
   Bytes : (bytes : List ℕ) → Leaf
   Number : (number : DecimalNumber) → Leaf
@@ -34,7 +34,7 @@ abbrev pub IsBooleanLeaf : List ℕ → Leaf → Type 0
 IsBooleanLeaf chars (Flag flag) = (text : List ℕ) × IsCollapsed chars text × IsBooleanText flag text
 IsBooleanLeaf chars leaf = ⊥
 
--- base64Binary, §3.2.16: cut off are texts whose unused bits are not zero
+-- base64Binary, §3.2.16, with nothing cut off: the section itself has no text whose unused bits are not zero
 abbrev pub IsBinaryLeaf : List ℕ → Leaf → Type 0
 IsBinaryLeaf chars (Bytes octets) = (text : List ℕ) × IsCollapsed chars text × IsBinaryText octets text
 IsBinaryLeaf chars leaf = ⊥
@@ -60,6 +60,17 @@ IsLeaf MonthDay chars leaf = IsDateLeaf MonthDay chars leaf
 IsLeaf Month chars leaf = IsDateLeaf Month chars leaf
 IsLeaf Day chars leaf = IsDateLeaf Day chars leaf
 IsLeaf Envelope chars leaf = ⊥
+
+-- how many octets a leaf has, where it is a binary value
+abbrev pub octet_count : Leaf → ℕ
+octet_count (Bytes octets) = length octets
+octet_count leaf = 0
+
+-- the length of the leaf that the characters spell: of a text in characters, of a binary value in octets, of all else none, §4.3.1
+abbrev pub length_of : Kind → List ℕ → Leaf → ℕ
+length_of Text chars leaf = length chars
+length_of Binary chars leaf = octet_count leaf
+length_of kind chars leaf = 0
 
 -- some characters spell this leaf of this kind
 abbrev pub IsLeafOf : Kind → Leaf → Type 0

@@ -1,12 +1,13 @@
 -- The leaf that a reference stands for, and what the reader of a leaf's characters answers.
-use Rattle.std.specs.Prelude.{◌≡◌, ℕ, List, Result, Ok, Err}
+use Rattle.std.specs.Prelude.{◌≡◌, ℕ, List, Option, Result, Ok, Err}
 use Rattle.lexical_core.specs.declared.rule.Rule.{Rule}
-use Rattle.lexical_core.specs.declared.rule.Rule.TheVariants.{BadText, Digits}
+use Rattle.lexical_core.specs.declared.rule.Rule.TheVariants.{BadText, BadLength, Digits}
 use Rattle.data_types.specs.declared.kind.Kind.{Kind}
 use Rattle.data_types.specs.declared.kind.Kind.TheVariants.{Decimal}
 use Rattle.data_types.specs.declared.leaf.LeafRef.{LeafRef}
 use Rattle.data_types.specs.declared.leaf.LeafRef.TheVariants as held
-use Rattle.data_types.specs.Leaf.{Leaf, Bytes, Number, Flag, Code, IsLeaf, HasLeafForm}
+use Rattle.data_types.specs.Leaf.{Leaf, Bytes, Number, Flag, Code, IsLeaf, HasLeafForm, length_of}
+use Rattle.data_types.specs.Limits.{IsWithin, IsPast}
 
 -- the leaf that a reference stands for
 abbrev pub leaf_of : LeafRef → Leaf
@@ -15,10 +16,12 @@ leaf_of (held.Number number) = Number number
 leaf_of (held.Flag flag) = Flag flag
 leaf_of (held.Code place) = Code place
 
--- the answer on all of the characters: the leaf that they spell; BadText where they have not the form of the kind's texts; Digits
--- where they have, and yet spell no leaf, as a decimal of too many digits
-abbrev pub IsLeafAnswer : Kind → List ℕ → Result LeafRef Rule → Type 0
-IsLeafAnswer kind chars (Ok leaf) = IsLeaf kind chars (leaf_of leaf)
-IsLeafAnswer kind chars (Err BadText) = HasLeafForm kind chars → ⊥
-IsLeafAnswer kind chars (Err Digits) = (kind ≡ Decimal) × HasLeafForm kind chars × ((leaf : Leaf) → IsLeaf kind chars leaf → ⊥)
-IsLeafAnswer kind chars (Err rule) = ⊥
+-- the answer on all of the characters under a limit on the length: the leaf that they spell; BadLength where they spell one that is
+-- longer; BadText where they have not the form of the kind's texts; Digits where they have, and yet spell no leaf, as a decimal of too
+-- many digits
+abbrev pub IsLeafAnswer : Kind → Option ℕ → List ℕ → Result LeafRef Rule → Type 0
+IsLeafAnswer kind most chars (Ok leaf) = IsLeaf kind chars (leaf_of leaf) × IsWithin most (length_of kind chars (leaf_of leaf))
+IsLeafAnswer kind most chars (Err BadLength) = (leaf : Leaf) × IsLeaf kind chars leaf × IsPast most (length_of kind chars leaf)
+IsLeafAnswer kind most chars (Err BadText) = HasLeafForm kind chars → ⊥
+IsLeafAnswer kind most chars (Err Digits) = (kind ≡ Decimal) × HasLeafForm kind chars × ((leaf : Leaf) → IsLeaf kind chars leaf → ⊥)
+IsLeafAnswer kind most chars (Err rule) = ⊥

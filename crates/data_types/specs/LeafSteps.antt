@@ -1,15 +1,18 @@
 -- What the reader of a leaf's characters keeps of those that it was given.
-use Rattle.std.specs.Prelude.{◌≡◌, ◌≢◌, ℕ, List, encode_utf8_all}
+use Rattle.std.specs.Prelude.{◌≡◌, ◌≢◌, ℕ, ◌+◌, ◌-◌, ◌^◌, ◌≤◌, List, [], length, Option, encode_utf8_all}
 use Rattle.std.specs.List.{AllByRecursion}
 use Rattle.lexical_core.specs.Characters.{IsXmlChar}
 use Rattle.lexical_core.specs.DecimalSoFar.{HasRead}
 use Rattle.data_types.specs.declared.kind.Kind.{Kind}
 use Rattle.data_types.specs.declared.kind.Kind.TheVariants as kind
+use Rattle.data_types.specs.declared.kept.Kept.{Kept}
 use Rattle.data_types.specs.declared.leaf_step.Body.{Body}
 use Rattle.data_types.specs.declared.leaf_step.Body.TheVariants.{Text, Decimal, Short, Octets}
 use Rattle.data_types.specs.declared.leaf_step.LeafStep.{LeafStep}
 use Rattle.data_types.specs.Binaries.{without_spaces}
 use Rattle.data_types.specs.Collapsing.{HasCollapsed}
+use Rattle.data_types.specs.KeptBytes.{Held}
+use Rattle.data_types.specs.Kept.{Holds}
 use Rattle.data_types.specs.OctetSteps.{HasDecoded}
 use Rattle.data_types.specs.ShortTexts.{HasKept}
 
@@ -19,13 +22,37 @@ pub record IsShortKind (k : Kind) : Type 0 where
   pub no_decimal : k ≢ kind.Decimal
   pub no_binary : k ≢ kind.Binary
 
--- what is kept is that of these characters, which collapse to the others so far
-abbrev pub HasBody : Kind → Body → List ℕ → List ℕ → Type 0
-HasBody k (Text bytes) chars collapsed = (k ≡ kind.Text) × AllByRecursion IsXmlChar chars × (bytes ≡ encode_utf8_all chars)
-HasBody k (Decimal step) chars collapsed = (k ≡ kind.Decimal) × HasRead step collapsed
-HasBody k (Short kept) chars collapsed = IsShortKind k × HasKept kept collapsed
-HasBody k (Octets step) chars collapsed = (k ≡ kind.Binary) × HasDecoded step (without_spaces collapsed)
+-- the bytes are those of these characters
+abbrev pub IsText : Kept → Option ℕ → List ℕ → Type 0
+IsText text most chars = AllByRecursion IsXmlChar chars × Holds text most (length chars) (encode_utf8_all chars)
 
--- the reader is one for this kind, and was given these characters since it was made or begun anew
-abbrev pub HasTaken : LeafStep → Kind → List ℕ → Type 0
-HasTaken s k chars = (collapsed : List ℕ) × (k ≡ s.kind) × HasCollapsed s.collapse chars collapsed × HasBody k s.body chars collapsed
+-- what is kept is that of these characters, which collapse to the others so far; a limit is of account for texts and binary values
+abbrev pub HasBody : Kind → Body → Option ℕ → List ℕ → List ℕ → Type 0
+HasBody k (Text text) most chars collapsed = (k ≡ kind.Text) × IsText text most chars
+HasBody k (Decimal step) most chars collapsed = (k ≡ kind.Decimal) × HasRead step collapsed
+HasBody k (Short kept) most chars collapsed = IsShortKind k × HasKept kept collapsed
+HasBody k (Octets step) most chars collapsed =
+    (k ≡ kind.Binary) × HasDecoded step most (without_spaces collapsed) × (length step.kept.bytes.held + step.count ≤ length chars)
+
+-- the reader is one for this kind with this limit on the length, and was given these characters since it was made or begun anew
+abbrev pub HasTaken : LeafStep → Kind → Option ℕ → List ℕ → Type 0
+HasTaken s k most chars = (collapsed : List ℕ) × (k ≡ s.kind) × HasCollapsed s.collapse chars collapsed × HasBody k s.body most chars collapsed
+
+-- the bytes that are kept in memory, and the room for them: more than any count of bytes where nothing is kept there
+abbrev pub memory_of : Body → Held
+memory_of (Text text) = text.bytes
+memory_of (Decimal step) = record { held = []; room = 2 ^ 64 }
+memory_of (Short kept) = record { held = []; room = 2 ^ 64 }
+memory_of (Octets step) = step.kept.bytes
+
+-- how many bytes a reader keeps in memory
+abbrev pub kept : LeafStep → ℕ
+kept s = length (memory_of s.body).held
+
+-- how many it may keep without asking for memory
+abbrev pub room : LeafStep → ℕ
+room s = (memory_of s.body).room
+
+-- how many more it may keep without asking for memory
+abbrev pub spare : LeafStep → ℕ
+spare s = room s - kept s

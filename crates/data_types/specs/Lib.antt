@@ -5,6 +5,9 @@ pub mod Booleans
 pub mod Collapsing
 pub mod Binaries
 pub mod Leaf
+pub mod Limits
+pub mod KeptBytes
+pub mod Kept
 pub mod OctetSteps
 pub mod ShortTexts
 pub mod LeafAnswers

@@ -18,23 +18,27 @@ mutual
     Nothing : Children
     Child : (slot : ℕ) (value : Value) (rest : Children) → Children
 
--- the slots of the children, in order
-abbrev pub slots_of : Children → List ℕ
-slots_of Nothing = []
-slots_of (Child slot value rest) = slot ∷ slots_of rest
-
 -- the values of one slot
 abbrev pub values_at : ℕ → Children → List Value
 values_at k Nothing = []
 values_at k (Child slot value rest) = if slot == k then value ∷ values_at k rest else values_at k rest
 
--- no slot stands behind a greater one, and none is below the first number
-abbrev pub AreInOrderFrom : ℕ → List ℕ → Type 0
-AreInOrderFrom low [] = Unit {0}
-AreInOrderFrom low (slot ∷ slots) = (low ≤ slot) × AreInOrderFrom slot slots
+abbrev mutual
+  -- in the value no slot stands behind a greater one, nor in any value below it
+  pub IsOrdered : Value → Type 0
+  IsOrdered (Component children) = AreOrderedFrom 0 children
+  IsOrdered (Simple leaf) = Unit {0}
+  IsOrdered (Amount code number) = Unit {0}
+  IsOrdered (External tree) = Unit {0}
 
-abbrev pub AreInOrder : Children → Type 0
-AreInOrder children = AreInOrderFrom 0 (slots_of children)
+  -- the same of children, and none of their slots is below the first number
+  pub AreOrderedFrom : ℕ → Children → Type 0
+  AreOrderedFrom low Nothing = Unit {0}
+  AreOrderedFrom low (Child slot value rest) = (low ≤ slot) × IsOrdered value × AreOrderedFrom slot rest
+
+-- no slot stands behind a greater one, here and in every value below
+abbrev pub AreOrdered : Children → Type 0
+AreOrdered children = AreOrderedFrom 0 children
 
 -- where an element stands: its slot in the type of its parent, its own type and that of its parent, by their numbers
 pub record Edge : Type 0 where

@@ -1,21 +1,21 @@
 // The kinds of data that elements without elements hold, and their texts: XML Schema part 2.
 #![tactic(auto)]
 
-pub mod binaries;
-pub mod booleans;
-pub mod canonical;
-pub mod collapse;
-pub mod dates;
-pub mod kind;
+mod booleans;
+mod canonical;
+mod collapse;
+mod dates;
+mod kept;
+mod kept_bytes;
+mod kind;
 pub mod laws;
-pub mod leaf;
-pub mod leaf_step;
+mod leaf;
+mod leaf_step;
 mod octet_writer;
-pub mod octets;
-pub mod short;
+mod octets;
+mod short;
 mod text_writer;
 
-pub use binaries::{octets_of, text_of_octets};
 pub use booleans::{boolean_of, boolean_text};
 pub use canonical::push_leaf;
 pub use collapse::{Collapse, Collapsed};

@@ -1,10 +1,12 @@
 // The octets of a base64 text that is taken a character at a time: XML Schema part 2 §3.2.16, as in RFC 4648 §4.
-ghost use Rattle.std.specs.Prelude.{◌≡◌, ◌≤◌, ◌++◌, ◌∷◌, [], take, List, ℕ, IfSome, IfNone, OnOk, OnErr};
+ghost use Rattle.std.specs.Prelude.{◌≡◌, ◌+◌, ◌≤◌, ◌++◌, ◌∷◌, [], length, take, Option, List, ℕ, IsTrue, IsOk, IfOk, IfErr, IfSome, IfNone, OnOk, OnErr};
 ghost use Rattle.base64.specs.Engines.{standard};
 ghost use Rattle.base64.specs.GeneralPurpose.{IsBytes, encode_of};
+ghost use Rattle.data_types.specs.Limits.{IsWithin};
 
+use crate::kept::Kept;
 use base64::engine::general_purpose::STANDARD;
-use lexical_core::Text;
+use lexical_core::Rule;
 use std::alloc::{AllocError, Global};
 
 /// Whether more characters may come.
@@ -19,10 +21,10 @@ enum Stage {
 }
 
 /// A reader of base64 texts without white space that takes a character at a time. It keeps the octets of
-/// the whole groups of four characters, and takes memory for these alone.
+/// the whole groups of four characters that are within the limit, and takes memory for these alone.
 #[derive(Debug, Drop)]
 pub struct OctetStep {
-    octets: Text,
+    kept: Kept,
     group: [u8; 4],
     count: usize,
     stage: Stage,
@@ -38,34 +40,42 @@ struct Decoded {
 }
 
 impl OctetStep {
-    ghost use Rattle.data_types.specs.OctetSteps.{HasDecoded, IsStep};
+    ghost use Rattle.data_types.specs.OctetSteps.{HasDecoded, IsStep, IsRest, IsOctetFault};
 
-    /// A reader before the first character. It takes no memory.
-    pub fn new(alloc: Global) -> OctetStep
-        ensures { HasDecoded result [] }
+    /// A reader before the first character, with a limit on the octets. It takes no memory.
+    pub fn new(alloc: Global, most: Option<u64>) -> OctetStep
+        ensures text { HasDecoded result most [] }
+        ensures count { length result.kept.bytes.held + result.count ≡ 0 }
     {
         OctetStep {
-            octets: Text::new(alloc),
+            kept: Kept::new(alloc, most),
             group: [0; 4],
             count: 0,
             stage: Stage::Open,
         }
     }
 
-    /// Begins anew, with the memory that there is.
+    /// Begins anew, with the same limit and the memory that there is.
     pub fn restart(&mut self)
-        ensures { HasDecoded self.new [] }
+        ensures text { (most : Option ℕ) (text : List ℕ) → HasDecoded self.old most text
+            → HasDecoded self.new most [] }
+        ensures count { length self.new.kept.bytes.held + self.new.count ≡ 0 }
+        ensures room { self.new.kept.bytes.room ≡ self.old.kept.bytes.room }
     {
-        self.octets.clear();
+        self.kept.restart();
         self.count = 0;
         self.stage = Stage::Open;
     }
 
     /// Takes a character. After want of memory all is as before.
     pub fn take(&mut self, c: char) -> Result<(), AllocError>
-        ensures ok { OnOk result ((text : List ℕ) → HasDecoded self.old text
-            → HasDecoded self.new (text ++ c ∷ [])) }
+        ensures ok { OnOk result ((most : Option ℕ) (text : List ℕ) → HasDecoded self.old most text
+            → HasDecoded self.new most (text ++ c ∷ [])) }
         ensures err { OnErr result (self.new ≡ self.old) }
+        ensures within { length self.old.kept.bytes.held + 3 ≤ self.old.kept.bytes.room → IsOk result }
+        ensures room { self.old.kept.bytes.room ≤ self.new.kept.bytes.room }
+        ensures count { length self.new.kept.bytes.held + self.new.count
+            ≤ length self.old.kept.bytes.held + self.old.count + 1 }
     {
         self.step(c)
     }
@@ -74,6 +84,10 @@ impl OctetStep {
     fn step(&mut self, c: char) -> Result<(), AllocError>
         ensures ok { OnOk result (IsStep self.old c self.new) }
         ensures err { OnErr result (self.new ≡ self.old) }
+        ensures within { length self.old.kept.bytes.held + 3 ≤ self.old.kept.bytes.room → IsOk result }
+        ensures room { self.old.kept.bytes.room ≤ self.new.kept.bytes.room }
+        ensures count { length self.new.kept.bytes.held + self.new.count
+            ≤ length self.old.kept.bytes.held + self.old.count + 1 }
     {
         match self.stage {
             Stage::Open => self.step_open(c),
@@ -88,6 +102,10 @@ impl OctetStep {
         requires { self.old.stage ≡ Stage.Open }
         ensures ok { OnOk result (IsStep self.old c self.new) }
         ensures err { OnErr result (self.new ≡ self.old) }
+        ensures within { length self.old.kept.bytes.held + 3 ≤ self.old.kept.bytes.room → IsOk result }
+        ensures room { self.old.kept.bytes.room ≤ self.new.kept.bytes.room }
+        ensures count { length self.new.kept.bytes.held + self.new.count
+            ≤ length self.old.kept.bytes.held + self.old.count + 1 }
     {
         if !c.is_ascii() {
             self.stage = Stage::Failed;
@@ -107,6 +125,10 @@ impl OctetStep {
         requires full { self.old.count ≡ 3 }
         ensures ok { OnOk result (IsStep self.old last self.new) }
         ensures err { OnErr result (self.new ≡ self.old) }
+        ensures within { length self.old.kept.bytes.held + 3 ≤ self.old.kept.bytes.room → IsOk result }
+        ensures room { self.old.kept.bytes.room ≤ self.new.kept.bytes.room }
+        ensures count { length self.new.kept.bytes.held + self.new.count
+            ≤ length self.old.kept.bytes.held + 4 }
     {
         let mut group = self.group;
         group[3] = last;
@@ -114,7 +136,8 @@ impl OctetStep {
             self.stage = Stage::Failed;
             return Ok(());
         };
-        self.octets.extend(&decoded.octets[..decoded.count])?;
+        self.kept
+            .take(&decoded.octets[..decoded.count], decoded.count as u64)?;
         self.count = 0;
         if decoded.count < 3 {
             self.stage = Stage::Ended;
@@ -122,18 +145,53 @@ impl OctetStep {
         Ok(())
     }
 
-    /// The octets that the characters so far spell; `None` where they are no base64 text.
-    pub fn octets(&self) -> Option<&[u8]>
-        ensures some { IfSome result (λ octets. (text : List ℕ) → HasDecoded self.now text
-            → IsBytes octets.now × (text ≡ encode_of standard octets.now)) }
-        ensures none { IfNone result ((text octets : List ℕ) → HasDecoded self.now text
-            → IsBytes octets → text ≡ encode_of standard octets → ⊥) }
+    /// Makes room for so many more octets.
+    pub fn reserve(&mut self, count: usize) -> Result<(), AllocError>
+        ensures ok { OnOk result (length self.new.kept.bytes.held + count ≤ self.new.kept.bytes.room) }
+        ensures text { (most : Option ℕ) (text : List ℕ) → HasDecoded self.old most text
+            → HasDecoded self.new most text }
+        ensures within { length self.old.kept.bytes.held + count ≤ self.old.kept.bytes.room → IsOk result }
+        ensures room { self.old.kept.bytes.room ≤ self.new.kept.bytes.room }
+        ensures held { self.new.kept.bytes.held ≡ self.old.kept.bytes.held }
+        ensures count { self.new.count ≡ self.old.count }
+    {
+        self.kept.reserve(count)
+    }
+
+    /// The octets that the characters so far spell. `BadText` where they are no base64 text, and `BadLength`
+    /// where the octets are more than the limit.
+    pub fn finish(&self) -> Result<&[u8], Rule>
+        ensures ok { IfOk result (λ octets. (most : Option ℕ) (text : List ℕ) → HasDecoded self.now most text
+            → IsBytes octets.now × (text ≡ encode_of standard octets.now) × IsWithin most (length octets.now)) }
+        ensures err { IfErr result (λ rule. (most : Option ℕ) (text : List ℕ) → HasDecoded self.now most text
+            → IsOctetFault most text rule) }
+    {
+        if !self.is_whole() {
+            return Err(Rule::BadText);
+        }
+        match self.kept.whole() {
+            Some(octets) => Ok(octets),
+            None => Err(Rule::BadLength),
+        }
+    }
+
+    /// Whether the characters so far are the text of the octets of their groups.
+    fn is_whole(&self) -> bool
+        ensures yes { IsTrue result → (octets : List ℕ) → IsRest self.now octets [] octets }
+        ensures no { (IsTrue result → ⊥) → (octets all : List ℕ) → IsRest self.now octets [] all → ⊥ }
     {
         match self.stage {
-            Stage::Open if self.count == 0 => Some(self.octets.bytes()),
-            Stage::Ended => Some(self.octets.bytes()),
-            _ => None,
+            Stage::Open => self.count == 0,
+            Stage::Ended => true,
+            Stage::Failed => false,
         }
+    }
+
+    /// How many octets are kept.
+    pub fn len(&self) -> usize
+        ensures { result ≡ length self.now.kept.bytes.held }
+    {
+        self.kept.len()
     }
 }
 

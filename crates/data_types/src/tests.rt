@@ -1,11 +1,10 @@
 // What no clause says: that the clauses mean what the standard's own examples say, and that calls which
 // may want memory succeed where there is some.
-ghost use Rattle.std.specs.Prelude.{IfOk, List, ℕ};
+ghost use Rattle.std.specs.Prelude.{IfOk, Option, List, ℕ};
 ghost use Rattle.data_types.specs.LeafSteps.{HasTaken};
+ghost use Rattle.data_types.specs.declared.kind.Kind.{Kind};
 
-use crate::{
-    Kind, LeafRef, LeafStep, boolean_of, is_date_text, octets_of, push_leaf, text_of_octets,
-};
+use crate::{Kind, LeafRef, LeafStep, boolean_of, is_date_text, push_leaf};
 use lexical_core::{Rule, is_xml_char};
 use outside::{MemSink, SinkError};
 use std::alloc::{AllocError, Global};
@@ -17,20 +16,21 @@ use std::test::Fail;
 enum Verdict {
     Leaf,
     Bad,
-    Long,
+    Digits,
+    Longer,
 }
 
-use Verdict::{Bad, Leaf, Long};
+use Verdict::{Bad, Digits, Leaf, Longer};
 
 static NUMBERS: [(&str, Verdict); 19] = [
     ("999999999999999999", Leaf),
     ("-999999999999999999", Leaf),
-    ("1000000000000000000", Long),
+    ("1000000000000000000", Digits),
     ("000000000000000000001", Leaf),
     ("0.000000000000000001", Leaf),
     ("0.0000000000000000010", Leaf),
-    ("0.0000000000000000001", Long),
-    ("9999999999999999.999", Long),
+    ("0.0000000000000000001", Digits),
+    ("9999999999999999.999", Digits),
     ("+.5", Leaf),
     ("5.", Leaf),
     ("-0", Leaf),
@@ -136,24 +136,26 @@ static PARTS: [(Kind, &str, Verdict); 19] = [
     (Kind::Envelope, "", Bad),
 ];
 
-/// A reader that was given the characters of the text.
-fn read(alloc: Global, kind: Kind, text: &str) -> Result<LeafStep, AllocError>
-    ensures { IfOk result (λ step. (chars : List ℕ) × HasTaken step kind chars) }
+/// The reader, given the characters of the text too.
+fn read(step: LeafStep, text: &str) -> Result<LeafStep, AllocError>
+    ensures { IfOk result (λ given. (kind : Kind) (most : Option ℕ) (chars : List ℕ)
+        → HasTaken step kind most chars → (all : List ℕ) × HasTaken given kind most all) }
 {
-    let mut step = LeafStep::new(alloc, kind);
+    let mut given = step;
     for c in text.chars() {
         if is_xml_char(c) {
-            step.take(c)?;
+            given.take(c)?;
         }
     }
-    Ok(step)
+    Ok(given)
 }
 
-fn judge(alloc: Global, kind: Kind, text: &str) -> Result<Verdict, AllocError> {
-    let step = read(alloc, kind, text)?;
-    Ok(match step.finish() {
+fn judge(step: LeafStep, text: &str) -> Result<Verdict, AllocError> {
+    let given = read(step, text)?;
+    Ok(match given.finish() {
         Ok(_) => Leaf,
-        Err(Rule::Digits) => Long,
+        Err(Rule::Digits) => Digits,
+        Err(Rule::BadLength) => Longer,
         Err(_) => Bad,
     })
 }
@@ -165,7 +167,7 @@ fn are(
     rows: &[(&str, Verdict)],
 ) -> Result<(), AllocError> {
     for (text, want) in rows {
-        assert!(rt; judge(alloc, kind, text)? == *want);
+        assert!(rt; judge(LeafStep::new(alloc, kind), text)? == *want);
     }
     Ok(())
 }
@@ -176,8 +178,53 @@ fn are_parts(
     rows: &[(Kind, &str, Verdict)],
 ) -> Result<(), AllocError> {
     for (kind, text, want) in rows {
-        assert!(rt; judge(alloc, *kind, text)? == *want);
+        assert!(rt; judge(LeafStep::new(alloc, *kind), text)? == *want);
     }
+    Ok(())
+}
+
+static LIMITED: [(Kind, u64, &str, Verdict); 13] = [
+    (Kind::Text, 3, "\u{20AC}\u{20AC}\u{1F600}", Leaf),
+    (Kind::Text, 3, "abcd", Longer),
+    (Kind::Text, 0, "", Leaf),
+    (Kind::Text, 0, " ", Longer),
+    (Kind::Binary, 4, "QUJDQQ==", Leaf),
+    (Kind::Binary, 4, "QUJDQUI=", Longer),
+    (Kind::Binary, 4, "QUJDQUJDQQ==", Longer),
+    (Kind::Binary, 4, "QUJDQUJDQQ=", Bad),
+    (Kind::Binary, 4, "QUJDQUJDQR==", Bad),
+    (Kind::Binary, 0, "", Leaf),
+    (Kind::Decimal, 0, "10", Leaf),
+    (Kind::Boolean, 0, "true", Leaf),
+    (Kind::Year, 0, "2024", Leaf),
+];
+
+fn are_limited(
+    rt: &impl Abort,
+    alloc: Global,
+    rows: &[(Kind, u64, &str, Verdict)],
+) -> Result<(), AllocError> {
+    for (kind, most, text, want) in rows {
+        assert!(rt; judge(LeafStep::within(alloc, *kind, *most), text)? == *want);
+    }
+    Ok(())
+}
+
+#[test]
+fn lengths_have_limits(rt: HostRuntime) -> Result<(), Fail> {
+    are_limited(&rt, rt.alloc(), LIMITED.as_slice())?;
+    Ok(())
+}
+
+#[test]
+fn a_reader_reserves(rt: HostRuntime) -> Result<(), Fail> {
+    let mut step = LeafStep::within(rt.alloc(), Kind::Text, 2);
+    step.reserve(8)?;
+    step.take('\u{20AC}')?;
+    step.take('a')?;
+    step.take('b')?;
+    assert_eq!(rt; step.kept(), 4);
+    assert!(rt; matches!(step.finish(), Err(Rule::BadLength)));
     Ok(())
 }
 
@@ -223,7 +270,7 @@ fn push(
     text: &str,
     sink: &mut MemSink,
 ) -> Result<Result<(), SinkError>, Fail> {
-    let step = read(alloc, kind, text)?;
+    let step = read(LeafStep::new(alloc, kind), text)?;
     match step.finish() {
         Ok(leaf) => Ok(push_leaf(kind, &leaf, sink)),
         Err(_) => Err(Fail::from("a leaf")),
@@ -254,7 +301,7 @@ fn a_push_fails_in_the_middle(rt: HostRuntime) -> Result<(), Fail> {
 
 #[test]
 fn a_reader_begins_anew(rt: HostRuntime) -> Result<(), Fail> {
-    let mut step = read(rt.alloc(), Kind::Binary, "Q*")?;
+    let mut step = read(LeafStep::new(rt.alloc(), Kind::Binary), "Q*")?;
     assert!(rt; matches!(step.finish(), Err(Rule::BadText)));
     step.restart();
     step.take('Q')?;
@@ -270,12 +317,5 @@ fn whole_texts_are_read(rt: HostRuntime) -> Result<(), Fail> {
     assert!(rt; is_date_text(Kind::Date, b"2024-02-29".as_slice()));
     assert!(rt; boolean_of(b"1".as_slice()) == Some(true));
     assert!(rt; boolean_of(b"TRUE".as_slice()) == None);
-    let Some(octets) = octets_of(rt.alloc(), b"QQ= =".as_slice())? else {
-        return Err(Fail::from("octets"));
-    };
-    assert_eq!(rt; octets.bytes(), b"A".as_slice());
-    assert!(rt; octets_of(rt.alloc(), b"QR==".as_slice())?.is_none());
-    let text = text_of_octets(rt.alloc(), b"A".as_slice())?;
-    assert_eq!(rt; text.bytes(), b"QQ==".as_slice());
     Ok(())
 }

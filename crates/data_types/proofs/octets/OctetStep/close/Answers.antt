@@ -1,7 +1,7 @@
-use Rattle.std.proofs.Common.{◌≡◌, ◌<◌, ◌∷◌, take, set, length, subst, sym, arith, rules}
+use Rattle.std.proofs.Common.{◌≡◌, ◌<◌, ◌∷◌, ◌++◌, take, set, length, refl, arith, rules}
 use Rattle.std.proofs.lemmas.List.{length-take-le}
-use Rattle.base64.specs.GeneralPurpose.{IsBytes}
 use Rattle.data_types.proofs.OctetLemmas.{group_whole, group_of_none, close_three, close_fewer, join_bytes, at_open}
+use Rattle.data_types.proofs.KeptLemmas.{joined_size}
 use Rattle.data_types.proofs.octets.OctetStep.close.Goals as goal
 
 pub returns-in_default-clause-ok : goal.returns-in_default-clause-ok
@@ -9,10 +9,12 @@ returns-in_default-clause-ok c =
     let s = c.args.self.now in
     let begun = take s.count s.group in
     let four : length s.group ≡ 4 = search rules in
-    let whole = group_whole s.group c.args.last s.count four c.requires.full in (
-      λ bytes. bytes,
-      λ more all bytes. at_open s.stage s.octets begun (c.args.last ∷ more) all ⊥ c.requires.open
-          (group_of_none s.octets begun (set s.group 3 c.args.last) c.args.last whole.0 whole.1 c.in_default.ensures.none more all bytes, λ none. absurd none),
+    let whole = group_whole s.group c.args.last s.count four c.requires.full in
+    λ most octets has. (
+      octets,
+      has,
+      λ more all bytes. at_open s.stage octets begun (c.args.last ∷ more) all ⊥ c.requires.open
+          (group_of_none octets begun (set s.group 3 c.args.last) c.args.last whole.0 whole.1 c.in_default.ensures.none more all bytes, λ none. absurd none),
     )
 
 pub returns-then-decoded-lt3-clause-ok : goal.returns-then-decoded-lt3-clause-ok
@@ -23,10 +25,12 @@ returns-then-decoded-lt3-clause-ok c =
     let found = take c.in-Some.decoded.count c.in-Some.decoded.octets in
     let four : length s.group ≡ 4 = search rules in
     let whole = group_whole s.group c.args.last s.count four c.requires.full in
-    let size : length found < 3 = omega (arith, length-take-le c.in-Some.decoded.count c.in-Some.decoded.octets (omega (arith, c.in-Some.decoded.few)), c.if-decoded-lt3.true) in
-    let octets = c.in_ok-extend.ensures.ok in (
-      λ bytes. subst IsBytes (sym octets) (join_bytes s.octets found bytes c.in-Some.ensures.bytes),
-      close_fewer s.stage s.octets begun group found c.extend.new.self c.args.last c.requires.open whole.0 whole.1 c.in-Some.ensures.bytes c.in-Some.ensures.some size octets,
+    let size : length found ≡ c.in-Some.decoded.count = length-take-le c.in-Some.decoded.count c.in-Some.decoded.octets (omega (arith, c.in-Some.decoded.few)) in
+    let few : length found < 3 = omega (arith, size, c.if-decoded-lt3.true) in
+    λ most octets (bytes, holds). (
+      octets ++ found,
+      (join_bytes octets found bytes c.in-Some.ensures.bytes, joined_size c.take.new.self most octets found c.in-Some.decoded.count size (c.in_ok-take.ensures.ok most (length octets) octets holds)),
+      close_fewer s.stage octets begun group found (octets ++ found) c.args.last c.requires.open whole.0 whole.1 c.in-Some.ensures.bytes c.in-Some.ensures.some few refl,
     )
 
 pub returns-else-decoded-lt3-clause-ok : goal.returns-else-decoded-lt3-clause-ok
@@ -37,8 +41,10 @@ returns-else-decoded-lt3-clause-ok c =
     let found = take c.in-Some.decoded.count c.in-Some.decoded.octets in
     let four : length s.group ≡ 4 = search rules in
     let whole = group_whole s.group c.args.last s.count four c.requires.full in
-    let size : length found ≡ 3 = let few = c.in-Some.decoded.few in omega (arith, length-take-le c.in-Some.decoded.count c.in-Some.decoded.octets (omega (arith, few)), c.if-decoded-lt3.false, few) in
-    let octets = c.in_ok-extend.ensures.ok in (
-      λ bytes. subst IsBytes (sym octets) (join_bytes s.octets found bytes c.in-Some.ensures.bytes),
-      close_three s.stage s.octets begun group found c.extend.new.self c.args.last c.requires.open whole.0 whole.1 c.in-Some.ensures.bytes c.in-Some.ensures.some size octets,
+    let size : length found ≡ c.in-Some.decoded.count = length-take-le c.in-Some.decoded.count c.in-Some.decoded.octets (omega (arith, c.in-Some.decoded.few)) in
+    let three : length found ≡ 3 = let few = c.in-Some.decoded.few in omega (arith, size, c.if-decoded-lt3.false, few) in
+    λ most octets (bytes, holds). (
+      octets ++ found,
+      (join_bytes octets found bytes c.in-Some.ensures.bytes, joined_size c.take.new.self most octets found c.in-Some.decoded.count size (c.in_ok-take.ensures.ok most (length octets) octets holds)),
+      close_three s.stage octets begun group found (octets ++ found) c.args.last c.requires.open whole.0 whole.1 c.in-Some.ensures.bytes c.in-Some.ensures.some three refl,
     )

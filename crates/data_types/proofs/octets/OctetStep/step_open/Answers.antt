@@ -7,7 +7,9 @@ pub returns-then-not-is_ascii-clause-ok : goal.returns-then-not-is_ascii-clause-
 returns-then-not-is_ascii-clause-ok c =
     let s = c.args.self.now in
     let begun = take s.count s.group in
-    let past : 128 ≤ c.args.c = grind (arith, nat_tests, c.if-not-is_ascii.ensures) in (
-      λ bytes. bytes,
-      λ more all bytes. at_open s.stage s.octets begun (c.args.c ∷ more) all ⊥ c.requires (no_ascii s.octets begun c.args.c past more all, λ none. absurd none),
+    let past : 128 ≤ c.args.c = grind (arith, nat_tests, c.if-not-is_ascii.ensures) in
+    λ most octets has. (
+      octets,
+      has,
+      λ more all bytes. at_open s.stage octets begun (c.args.c ∷ more) all ⊥ c.requires (no_ascii octets begun c.args.c past more all, λ none. absurd none),
     )
