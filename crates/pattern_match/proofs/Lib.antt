@@ -1,4 +1,5 @@
 pub mod Words
+pub mod Groups
 pub mod PassLemmas
 pub mod Planning
 pub mod Flags
@@ -14,7 +15,12 @@ pub mod Finding
 pub mod Refusing
 pub mod Counted
 pub mod Judging
+pub mod Listing
+pub mod Walking
+pub mod Starting
 pub mod Recalling
+pub mod Ended
+pub mod Quiet
 pub mod Matching
 pub mod Stepping
 pub mod Sizes

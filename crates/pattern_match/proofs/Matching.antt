@@ -10,8 +10,7 @@ use Rattle.pattern_match.specs.Plan.{Plan, Nothing, One, Many, Either, size, Fla
 use Rattle.pattern_match.specs.Marking.{first_pass, second_pass}
 use Rattle.pattern_match.specs.Token.{admits}
 use Rattle.pattern_match.specs.Building.{limit}
-use Rattle.pattern_match.specs.Compiled.{tokens_of_text, code_of_text, IsCompiled, first_marks, next_marks, marks_from, follows, IsMarked, IsMadeFor}
-use Rattle.pattern_match.specs.Recall.{Matching}
+use Rattle.pattern_match.specs.Compiled.{tokens_of_text, code_of_text, IsCompiled, first_marks, next_marks, marks_from, follows, IsMarked}
 use Rattle.pattern_match.specs.declared.instruction.Instruction.{Instruction}
 use Rattle.pattern_match.specs.declared.instruction.Frame.{Frame}
 use Rattle.pattern_match.specs.declared.token.Token.{Token}
@@ -273,9 +272,6 @@ accepts_is bytes tokens c marks w i h = (
 -- marks behind a word are one for each instruction, and one more
 pub marked_length : (bytes : List ℕ) (marks : List Bool) (w : List ℕ) → IsMarked bytes marks w → length marks ≡ length (code_of_text (chars bytes)) + 1
 marked_length bytes marks w h = ap length h.marks_are ∙ read_length (tokens_of_text (chars bytes)) (code_of_text (chars bytes)) w
-
-pub made_length : (bytes : List ℕ) (m : Matching) → IsMadeFor bytes m → length m.marks ≡ length (code_of_text (chars bytes)) + 1
-made_length bytes m (w, h) = marked_length bytes m.marks w h.marked
 
 pub marked_more : (bytes : List ℕ) (old new : List Bool) (x : ℕ) (w : List ℕ) → new ≡ follows bytes x old → IsMarked bytes old w → IsMarked bytes new (w ++ x ∷ [])
 marked_more bytes old new x w e h = record {

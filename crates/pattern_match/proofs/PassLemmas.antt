@@ -2,10 +2,11 @@
 use Rattle.std.proofs.Common.{◌≡◌, ℕ, suc, ◌+◌, ◌⊎◌, ◌↔◌, inl, inr, Bool, true, false, ◌||◌, ◌&&◌, IsTrue, List, [], ◌∷◌, ◌++◌, refl, sym, ap, ◌∙◌, subst, ⊎_elim, get_or, arith, zero-add, add-zero, suc-add, append-nil, append_assoc}
 use Rattle.pattern_match.specs.Language.{IsBoth}
 use Rattle.pattern_match.specs.Plan.{Plan, Nothing, One, Many, Either, size, code_then, Flagged, IsTaken, PlanLang, Begins, Ends, Marked, IsOneBranch, IsPlan}
-use Rattle.pattern_match.specs.Marking.{frame, first_pass, second_pass}
+use Rattle.pattern_match.specs.Marking.{frame, with_group, first_pass, second_pass}
 use Rattle.pattern_match.specs.declared.instruction.Instruction.{Instruction}
 use Rattle.pattern_match.specs.declared.instruction.Instruction.TheVariants.{Bar, Close}
 use Rattle.pattern_match.specs.declared.instruction.Frame.{Frame}
+use Rattle.pattern_match.proofs.Groups.{first_bar, first_close, second_bar, second_close}
 use Rattle.pattern_match.proofs.Words.{both_ends, ends_both, begins_cases, begins_first, begins_again, flagged_ends, ends_flagged, flagged_empty, empty_flagged, then_ends, ends_then, then_empty, empty_then, taken_ends, ends_taken}
 
 -- tests
@@ -94,8 +95,8 @@ module _ (admits : ℕ → ℕ → Bool) where
   abbrev pub PatternAt : ℕ → Plan → (List ℕ → Type 0) → List ℕ → List Bool → List Bool → List Instruction → Bool → Bool → List Frame → Type 0
   PatternAt c t A w marks more code now left frames =
       (after : Bool) × (leaves : Bool)
-      × Hit t A (w ++ c ∷ []) (first_pass (λ at. admits at c) (code_then t code) marks now (frame now left ∷ frames))
-      (first_pass (λ at. admits at c) code more after (frame now leaves ∷ frames))
+      × Hit t A (w ++ c ∷ []) (first_pass (λ at. admits at c) (code_then t code) marks now (with_group (frame now left) frames))
+      (first_pass (λ at. admits at c) code more after (with_group (frame now leaves) frames))
       × ((IsTrue leaves ⊎ IsTrue after) ↔ (IsTrue left ⊎ (Ends A (PlanLang Takes t) (w ++ c ∷ []) ⊎ (IsTrue now × PlanLang Takes t []))))
 
   abbrev pub FirstBranch : ℕ → Plan → Type 1
@@ -112,7 +113,7 @@ module _ (admits : ℕ → ℕ → Bool) where
 
   pattern_of_branch : (c : ℕ) (t : Plan) → FirstBranch c t → FirstPattern c t
   pattern_of_branch c t b A w marks more code now left frames m a =
-      let r = b A w marks more code now (frame now left ∷ frames) m a in
+      let r = b A w marks more code now (with_group (frame now left) frames) m a in
       (r.0, left, r.1, (λ x. ⊎_elim (λ l. inl l) (λ n. inr (r.2.0 n)) x, λ x. ⊎_elim (λ l. inl l) (λ n. inr (r.2.1 n)) x))
 
   both : (c : ℕ) (t : Plan) → FirstBranch c t → First c t
@@ -160,11 +161,12 @@ module _ (admits : ℕ → ℕ → Bool) where
         k.0,
         (
           mark,
-          first_pass (λ at. admits at c) (code_then inner (Close ∷ code_then rest code)) within start (frame start (o && now) ∷ frames),
+          first_pass (λ at. admits at c) (code_then inner (Close ∷ code_then rest code)) within start (with_group (frame start (o && now)) frames),
           out,
           first_pass (λ at. admits at c) (code_then rest code) later out frames,
           refl,
-          q.2,
+          subst (λ ms. Hit inner (Begins r A P) (w ++ c ∷ []) (first_pass (λ at. admits at c) (code_then inner (Close ∷ code_then rest code)) within start (with_group (frame start (o && now)) frames)) ms)
+              (first_close (λ at. admits at c) (code_then rest code) end later q.0 start q.1 frames) q.2,
           (λ z. i0.1 (inr (inl z))),
           ended,
           k.1,
@@ -204,10 +206,15 @@ module _ (admits : ℕ → ℕ → Bool) where
 
   first_either : (c : ℕ) (branch rest : Plan) → FirstBranch c branch → FirstPattern c rest → FirstPattern c (Either branch rest)
   first_either c branch rest b g A w marks more code now left frames (mark, later, mb, mr) a =
-      (q.0, q.1, (mark, first_pass (λ at. admits at c) (code_then rest code) later now (frame now (left || k.0) ∷ frames), k.1, q.2), i)
+      (q.0, q.1, (mark, first_pass (λ at. admits at c) (code_then rest code) later now (with_group (frame now (left || k.0)) frames), b1, q.2), i)
     where
-      k : BranchAt c branch A w marks (mark ∷ later) (Bar ∷ code_then rest code) now (frame now left ∷ frames)
-      k = b A w marks (mark ∷ later) (Bar ∷ code_then rest code) now (frame now left ∷ frames) mb a
+      k : BranchAt c branch A w marks (mark ∷ later) (Bar ∷ code_then rest code) now (with_group (frame now left) frames)
+      k = b A w marks (mark ∷ later) (Bar ∷ code_then rest code) now (with_group (frame now left) frames) mb a
+
+      b1 : Hit branch A (w ++ c ∷ []) (first_pass (λ at. admits at c) (code_then branch (Bar ∷ code_then rest code)) marks now (with_group (frame now left) frames))
+          (mark ∷ first_pass (λ at. admits at c) (code_then rest code) later now (with_group (frame now (left || k.0)) frames))
+      b1 = subst (λ ms. Hit branch A (w ++ c ∷ []) (first_pass (λ at. admits at c) (code_then branch (Bar ∷ code_then rest code)) marks now (with_group (frame now left) frames)) ms)
+          (first_bar (λ at. admits at c) (code_then rest code) mark later k.0 now left frames) k.1
 
       q : PatternAt c rest A w later more code now (left || k.0) frames
       q = g A w later more code now (left || k.0) frames mr a
@@ -268,7 +275,7 @@ module _ (admits : ℕ → ℕ → Bool) where
   abbrev pub MarkedPatternAt : Plan → (List ℕ → Type 0) → List ℕ → List Bool → List Bool → List Instruction → Bool → Bool → List Frame → Type 0
   MarkedPatternAt t A w hits more code now left frames =
       (after : Bool) × (leaves : Bool)
-      × Marked Takes t A w (second_pass (code_then t code) hits now (frame now left ∷ frames)) (second_pass code more after (frame now leaves ∷ frames))
+      × Marked Takes t A w (second_pass (code_then t code) hits now (with_group (frame now left) frames)) (second_pass code more after (with_group (frame now leaves) frames))
       × ((IsTrue leaves ⊎ IsTrue after) ↔ (IsTrue left ⊎ IsBoth A (PlanLang Takes t) w))
 
   abbrev pub SecondBranch : Plan → Type 1
@@ -285,7 +292,7 @@ module _ (admits : ℕ → ℕ → Bool) where
 
   marked_pattern_of_branch : (t : Plan) → SecondBranch t → SecondPattern t
   marked_pattern_of_branch t b A w hits more code now left frames m a =
-      let r = b A w hits more code now (frame now left ∷ frames) m a in
+      let r = b A w hits more code now (with_group (frame now left) frames) m a in
       (r.0, left, r.1, (λ x. ⊎_elim (λ l. inl l) (λ n. inr (r.2.0 n)) x, λ x. ⊎_elim (λ l. inl l) (λ n. inr (r.2.1 n)) x))
 
   marked_both : (t : Plan) → SecondBranch t → Second t
@@ -360,11 +367,12 @@ module _ (admits : ℕ → ℕ → Bool) where
         k.0,
         (
           mark,
-          second_pass (code_then inner (Close ∷ code_then rest code)) within start (frame start (o && now) ∷ frames),
-          out,
+          second_pass (code_then inner (Close ∷ code_then rest code)) within start (with_group (frame start (o && now)) frames),
+          false,
           second_pass (code_then rest code) later out frames,
           refl,
-          q.2,
+          subst (λ ms. Marked Takes inner (Begins r A P) w (second_pass (code_then inner (Close ∷ code_then rest code)) within start (with_group (frame start (o && now)) frames)) ms)
+              (second_close (code_then rest code) end later q.0 start q.1 frames) q.2,
           k.1,
         ),
         both_assoc A (Flagged o r P) (PlanLang Takes rest) w k.0 k.2,
@@ -410,10 +418,15 @@ module _ (admits : ℕ → ℕ → Bool) where
 
   second_either : (branch rest : Plan) → SecondBranch branch → SecondPattern rest → SecondPattern (Either branch rest)
   second_either branch rest b g A w hits more code now left frames (mark, later, mb, mr) a =
-      (q.0, q.1, (mark, second_pass (code_then rest code) later now (frame now (left || k.0) ∷ frames), k.1, q.2), i)
+      (q.0, q.1, (mark, second_pass (code_then rest code) later now (with_group (frame now (left || k.0)) frames), b1, q.2), i)
     where
-      k : MarkedBranchAt branch A w hits (mark ∷ later) (Bar ∷ code_then rest code) now (frame now left ∷ frames)
-      k = b A w hits (mark ∷ later) (Bar ∷ code_then rest code) now (frame now left ∷ frames) mb a
+      k : MarkedBranchAt branch A w hits (mark ∷ later) (Bar ∷ code_then rest code) now (with_group (frame now left) frames)
+      k = b A w hits (mark ∷ later) (Bar ∷ code_then rest code) now (with_group (frame now left) frames) mb a
+
+      b1 : Marked Takes branch A w (second_pass (code_then branch (Bar ∷ code_then rest code)) hits now (with_group (frame now left) frames))
+          (mark ∷ second_pass (code_then rest code) later now (with_group (frame now (left || k.0)) frames))
+      b1 = subst (λ ms. Marked Takes branch A w (second_pass (code_then branch (Bar ∷ code_then rest code)) hits now (with_group (frame now left) frames)) ms)
+          (second_bar (code_then rest code) mark later k.0 now left frames) k.1
 
       q : MarkedPatternAt rest A w later more code now (left || k.0) frames
       q = g A w later more code now (left || k.0) frames mr a

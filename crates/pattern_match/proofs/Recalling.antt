@@ -1,9 +1,8 @@
 -- What a matcher remembers stays right.
-use Rattle.std.proofs.Common.{◌≡◌, ◌≢◌, ℕ, suc, ◌+◌, ◌*◌, ◌<◌, ◌⊎◌, inl, inr, Bool, true, false, ◌==◌, Option, Some, List, [], ◌∷◌, ◌++◌, length, take, drop, set, get_or, refl, sym, ap, ap₂, ◌∙◌, subst, arith, length-append, eqb-true}
+use Rattle.std.proofs.Common.{◌≡◌, ◌≢◌, ℕ, suc, ◌+◌, ◌*◌, ◌<◌, ◌⊎◌, inl, inr, Bool, true, false, ◌==◌, Option, Some, None, List, [], ◌∷◌, ◌++◌, length, set, get_or, refl, sym, ap, ap₂, ◌∙◌, subst, arith, length-append, eqb-true}
 use Rattle.std.proofs.lemmas.Bool.{eqb-false}
-use Rattle.std.proofs.Math.Seq.{take-append_seam}
 use Rattle.std.proofs.lemmas.List.{get_or-set_same, get_or-set_other, get_or_append_left}
-use Rattle.pattern_match.specs.Recall.{Known, row, cell, IsRightTable, IsRow}
+use Rattle.pattern_match.specs.Recall.{Known, row, cell, IsRightTable, IsRow, Matching, marks_at, reached}
 
 -- rows that are as they were, and maybe one more
 abbrev pub Grows : Known → Known → List Bool → Type 0
@@ -73,10 +72,12 @@ pub here : (k : Known) (t : ℕ) (marks : List Bool) → t < length k.rows → r
 here k t marks l e s h = subst (λ x. (x < length k.rows) × (row k x ≡ marks)) (some_is t s h) (l, e)
 
 -- what a known cell tells
-pub recalled : (next : ℕ → List Bool → List Bool) (k : Known) (at : Option ℕ) (marks new : List Bool) (s c t : ℕ)
-    → IsRightTable next k → IsRow k at marks → at ≡ Some s → c < 128 → cell k s c ≡ suc t → new ≡ row k t → new ≡ next c marks
-recalled next k at marks new s c t h r a l i e = e ∙ (h s c t l i).2 ∙ ap (λ x. next c x) (r s a).1
+pub recalled : (next : ℕ → List Bool → List Bool) (old : Matching) (s c t : ℕ) → IsRightTable next old.known → IsRow old.known old.at (reached old) → old.at ≡ Some s
+    → c < 128 → cell old.known s c ≡ suc t → (row old.known t ≡ next c (reached old)) × IsRow old.known (Some t) (row old.known t)
+recalled next old s c t h r a l i =
+    let f = h s c t l i in (f.2 ∙ ap (λ x. next c x) (r s a).1, here old.known t (row old.known t) f.1 refl)
 
--- marks that were written over all others
-pub written : (old new : List Bool) (n : ℕ) → n ≡ length new → take n (new ++ drop (length new) old) ≡ new
-written old new n e = ap (λ k. take k (new ++ drop (length new) old)) e ∙ take-append_seam new (drop (length new) old)
+-- marks of which the number is known, if they have one
+pub reached_is : (at : Option ℕ) (known : Known) (cells marks : List Bool) → cells ≡ marks → IsRow known at marks → marks_at at known cells ≡ marks
+reached_is None known cells marks e r = e
+reached_is (Some s) known cells marks e r = (r s refl).1

@@ -1,9 +1,10 @@
 -- What a matcher has read after a step, and after it begins anew.
-use Rattle.std.proofs.Common.{◌≡◌, ℕ, ◌<◌, Bool, Some, List, [], ◌∷◌, ◌++◌, chars, length, sym, ap, ◌∙◌, subst}
-use Rattle.pattern_match.specs.Recall.{row, IsRightTable, IsRow, Matching}
-use Rattle.pattern_match.specs.Compiled.{code_of_text, first_marks, follows, HasRead}
-use Rattle.pattern_match.proofs.Recalling.{Grows, row_stays}
-use Rattle.pattern_match.proofs.Matching.{marked_more}
+use Rattle.std.proofs.Common.{◌≡◌, ℕ, ◌+◌, ◌<◌, Bool, Option, Some, None, List, [], ◌∷◌, ◌++◌, chars, length, refl, sym, ap, ap₂, ◌∙◌, subst}
+use Rattle.pattern_match.specs.Marks.{IsDone}
+use Rattle.pattern_match.specs.Recall.{Known, row, IsRightTable, IsRow, Matching, marks_at, reached}
+use Rattle.pattern_match.specs.Compiled.{code_of_text, first_marks, follows, IsMarked, IsStart, HasRead, IsMadeFor}
+use Rattle.pattern_match.proofs.Recalling.{Grows, row_stays, reached_is}
+use Rattle.pattern_match.proofs.Matching.{marked_more, marked_length}
 
 -- what is remembered, and its number for the first marks, stay right
 kept_first : (bytes : List ℕ) (old new : Matching) → new.known ≡ old.known → new.first ≡ old.first
@@ -13,40 +14,111 @@ kept_first bytes old new k f h =
     (subst (λ x. IsRow x old.first (first_marks (code_of_text (chars bytes)))) (sym k) h)
 
 -- a step that is remembered
-pub read_known : (bytes : List ℕ) (old new : Matching) (x : ℕ) (w : List ℕ) → new.known ≡ old.known → new.first ≡ old.first
-    → new.marks ≡ follows bytes x old.marks → IsRow new.known new.at new.marks → HasRead bytes old w → HasRead bytes new (w ++ x ∷ [])
-read_known bytes old new x w k f e r h = record {
-  marked = marked_more bytes old.marks new.marks x w e h.marked;
+pub read_known : (bytes : List ℕ) (old new : Matching) (x : ℕ) (w : List ℕ) → new.known ≡ old.known → new.first ≡ old.first → new.walk ≡ old.walk → new.start ≡ old.start
+    → (reached new ≡ follows bytes x (reached old)) × IsRow new.known new.at (reached new) → HasRead bytes old w → HasRead bytes new (w ++ x ∷ [])
+read_known bytes old new x w k f v z r h = record {
+  marked = marked_more bytes (reached old) (reached new) x w r.0 h.marked;
   table = subst (λ y. IsRightTable (follows bytes) y) (sym k) h.table;
-  at = r;
+  at = r.1;
   first = kept_first bytes old new k f h.first;
+  done = subst (λ y. IsDone (code_of_text (chars bytes)) y) (sym v) h.done;
+  start = subst (λ y. IsStart bytes y) (sym z) h.start;
 }
 
 -- a step that is learned: the marks that are seen are the new ones
-pub read_learned : (bytes : List ℕ) (old new : Matching) (seen : List Bool) (x : ℕ) (w : List ℕ) → seen ≡ new.marks → new.first ≡ old.first → new.marks ≡ follows bytes x old.marks
+pub read_learned : (bytes : List ℕ) (old new : Matching) (seen : List Bool) (x : ℕ) (w : List ℕ) → seen ≡ new.walk.cells → new.first ≡ old.first → new.start ≡ old.start → new.walk.cells ≡ follows bytes x (reached old)
     → Grows old.known new.known seen
     → ((next : ℕ → List Bool → List Bool) → IsRightTable next old.known → ((s : ℕ) → old.at ≡ Some s → (s < length old.known.rows) × (seen ≡ next x (row old.known s))) → IsRightTable next new.known)
-    → IsRow new.known new.at seen → HasRead bytes old w → HasRead bytes new (w ++ x ∷ [])
-read_learned bytes old new seen x w v f e g t r h = record {
-  marked = marked_more bytes old.marks new.marks x w e h.marked;
+    → IsRow new.known new.at seen → IsDone (code_of_text (chars bytes)) new.walk → HasRead bytes old w → HasRead bytes new (w ++ x ∷ [])
+read_learned bytes old new seen x w v f z e g t r d h = record {
+  marked = marked_more bytes (reached old) (reached new) x w (same ∙ v ∙ e) h.marked;
   table = t (follows bytes) h.table (λ s a. let q = h.at s a in (q.0, v ∙ e ∙ ap (λ y. follows bytes x y) (sym q.1)));
-  at = subst (λ y. IsRow new.known new.at y) v r;
+  at = subst (λ y. IsRow new.known new.at y) (sym same) r;
   first = subst (λ y. IsRow new.known y (first_marks (code_of_text (chars bytes)))) (sym f)
       (row_stays old.known new.known seen g old.first (first_marks (code_of_text (chars bytes))) h.first);
+  done = d;
+  start = subst (λ y. IsStart bytes y) (sym z) h.start;
 }
+  where
+    same : reached new ≡ seen
+    same = reached_is new.at new.known new.walk.cells seen (sym v) r
 
 -- the beginning
-pub begun : (bytes : List ℕ) (m : Matching) → m.marks ≡ first_marks (code_of_text (chars bytes)) → IsRightTable (follows bytes) m.known
-    → IsRow m.known m.at m.marks → IsRow m.known m.first (first_marks (code_of_text (chars bytes))) → HasRead bytes m []
-begun bytes m e t r f = record {
-  marked = record { marks_are = e };
+pub begun : (bytes : List ℕ) (m : Matching) (seen : List Bool) → seen ≡ first_marks (code_of_text (chars bytes)) → seen ≡ m.walk.cells → IsRightTable (follows bytes) m.known
+    → IsRow m.known m.at seen → IsRow m.known m.first seen → IsDone (code_of_text (chars bytes)) m.walk → IsStart bytes m.start → HasRead bytes m []
+begun bytes m seen e v t r f d z = record {
+  marked = record { marks_are = same ∙ e };
   table = t;
-  at = r;
-  first = f;
+  at = subst (λ y. IsRow m.known m.at y) (sym same) r;
+  first = subst (λ y. IsRow m.known m.first y) e f;
+  done = d;
+  start = z;
 }
+  where
+    same : reached m ≡ seen
+    same = reached_is m.at m.known m.walk.cells seen (sym v) r
 
 -- it begins anew, with what it remembers
-pub begun_again : (bytes : List ℕ) (old new : Matching) (w : List ℕ) → new.known ≡ old.known → new.first ≡ old.first
-    → new.marks ≡ first_marks (code_of_text (chars bytes)) → IsRow new.known new.at new.marks → HasRead bytes old w → HasRead bytes new []
-begun_again bytes old new w k f e r h =
-    begun bytes new e (subst (λ y. IsRightTable (follows bytes) y) (sym k) h.table) r (kept_first bytes old new k f h.first)
+pub begun_known : (bytes : List ℕ) (old new : Matching) (s : ℕ) (w : List ℕ) → new.known ≡ old.known → new.first ≡ old.first → new.walk ≡ old.walk → new.start ≡ old.start
+    → old.first ≡ Some s → new.at ≡ Some s → HasRead bytes old w → HasRead bytes new []
+begun_known bytes old new s w k f v z i j h = record {
+  marked = record { marks_are = same };
+  table = subst (λ y. IsRightTable (follows bytes) y) (sym k) h.table;
+  at = subst (λ y. IsRow new.known new.at y) (sym same) r;
+  first = kept_first bytes old new k f h.first;
+  done = subst (λ y. IsDone (code_of_text (chars bytes)) y) (sym v) h.done;
+  start = subst (λ y. IsStart bytes y) (sym z) h.start;
+}
+  where
+    r : IsRow new.known new.at (first_marks (code_of_text (chars bytes)))
+    r = subst (λ y. IsRow new.known y (first_marks (code_of_text (chars bytes)))) (f ∙ i ∙ sym j) (kept_first bytes old new k f h.first)
+
+    reached_row : (at : Option ℕ) → at ≡ Some s → IsRow new.known at (first_marks (code_of_text (chars bytes))) → marks_at at new.known new.walk.cells ≡ first_marks (code_of_text (chars bytes))
+    reached_row None e q = absurd (cc)
+    reached_row (Some z) e q = (q z refl).1
+
+    same : reached new ≡ first_marks (code_of_text (chars bytes))
+    same = reached_row new.at j r
+
+pub begun_again : (bytes : List ℕ) (old new : Matching) (w : List ℕ) → new.known ≡ old.known → new.first ≡ old.first → new.start ≡ old.start → new.at ≡ None
+    → new.walk.cells ≡ first_marks (code_of_text (chars bytes)) → IsDone (code_of_text (chars bytes)) new.walk → HasRead bytes old w → HasRead bytes new []
+begun_again bytes old new w k f z a e d h = record {
+  marked = record { marks_are = same };
+  table = subst (λ y. IsRightTable (follows bytes) y) (sym k) h.table;
+  at = none;
+  first = kept_first bytes old new k f h.first;
+  done = d;
+  start = subst (λ y. IsStart bytes y) (sym z) h.start;
+}
+  where
+    none : IsRow new.known new.at (reached new)
+    none s i = absurd (cc)
+
+    same : reached new ≡ first_marks (code_of_text (chars bytes))
+    same = ap (λ y. marks_at y new.known new.walk.cells) a ∙ e
+
+-- the marks that were reached are one for each instruction, and one more
+pub reached_length : (bytes : List ℕ) (m : Matching) → IsMadeFor bytes m → length (reached m) ≡ length (code_of_text (chars bytes)) + 1
+reached_length bytes m (w, h) = marked_length bytes (reached m) w h.marked
+
+-- the marks that were reached are set where only their number was known
+marks_again : (at : Option ℕ) (known : Known) (old new : List Bool) → new ≡ marks_at at known old → marks_at at known new ≡ new
+marks_again None known old new e = refl
+marks_again (Some s) known old new e = sym e
+
+pub recollected : (bytes : List ℕ) (old new : Matching) (w : List ℕ) → IsDone (code_of_text (chars bytes)) new.walk → new.walk.cells ≡ reached old → new.at ≡ old.at → new.first ≡ old.first
+    → new.known ≡ old.known → new.start ≡ old.start → HasRead bytes old w → HasRead bytes new w × (reached new ≡ new.walk.cells)
+recollected bytes old new w d e a f k z h = (
+  record {
+    marked = subst (λ y. IsMarked bytes y w) (sym (same ∙ e)) h.marked;
+    table = subst (λ y. IsRightTable (follows bytes) y) (sym k) h.table;
+    at = subst (λ y. IsRow new.known new.at y) (sym (same ∙ e)) (subst (λ y. IsRow y new.at (reached old)) (sym k) (subst (λ y. IsRow old.known y (reached old)) (sym a) h.at));
+    first = kept_first bytes old new k f h.first;
+    done = d;
+    start = subst (λ y. IsStart bytes y) (sym z) h.start;
+  },
+  same,
+)
+  where
+    same : reached new ≡ new.walk.cells
+    same = ap₂ (λ x y. marks_at x y new.walk.cells) a k ∙ marks_again old.at old.known old.walk.cells new.walk.cells e

@@ -6,7 +6,8 @@ use Rattle.pattern_match.specs.Token.{admits}
 use Rattle.pattern_match.specs.Tokens.{emitted}
 use Rattle.pattern_match.specs.Building.{built_whole, limit}
 use Rattle.pattern_match.specs.Marking.{first_pass, second_pass}
-use Rattle.pattern_match.specs.Recall.{Matching, IsRightTable, IsRow}
+use Rattle.pattern_match.specs.Recall.{Matching, reached, IsRightTable, IsRow}
+use Rattle.pattern_match.specs.Marks.{Walk, IsDone}
 use Rattle.pattern_match.specs.Reading.{HasPositionsWithin}
 use Rattle.pattern_match.specs.declared.control.Control.TheVariants.{Start}
 use Rattle.pattern_match.specs.declared.instruction.Instruction.{Instruction}
@@ -47,12 +48,19 @@ pub record IsMarked (bytes : List ℕ) (marks : List Bool) (w : List ℕ) : Type
 abbrev pub follows : List ℕ → ℕ → List Bool → List Bool
 follows bytes c marks = next_marks (tokens_of_text (chars bytes)) (code_of_text (chars bytes)) c marks
 
--- the matcher has read the word with the pattern of the text, and what it remembers is right
+-- the marks before the first character, of the pattern of the text
+pub record IsStart (bytes : List ℕ) (start : Walk) : Type 0 where
+  pub done : IsDone (code_of_text (chars bytes)) start
+  pub marks : start.cells ≡ first_marks (code_of_text (chars bytes))
+
+-- the matcher has read the word with the pattern of the text, what it remembers is right, and its marks are those of the pattern's code
 pub record HasRead (bytes : List ℕ) (matcher : Matching) (w : List ℕ) : Type 0 where
-  pub marked : IsMarked bytes matcher.marks w
+  pub marked : IsMarked bytes (reached matcher) w
   pub table : IsRightTable (follows bytes) matcher.known
-  pub at : IsRow matcher.known matcher.at matcher.marks
+  pub at : IsRow matcher.known matcher.at (reached matcher)
   pub first : IsRow matcher.known matcher.first (first_marks (code_of_text (chars bytes)))
+  pub done : IsDone (code_of_text (chars bytes)) matcher.walk
+  pub start : IsStart bytes matcher.start
 
 -- the matcher was made for the pattern of the text: it has read some word with it
 abbrev pub IsMadeFor : List ℕ → Matching → Type 0

@@ -14,6 +14,8 @@ pub mod Refusal
 pub mod Tokens
 pub mod Building
 pub mod Counting
+pub mod Marks
+pub mod Gaps
 pub mod Recall
 pub mod Compiled
 pub mod Token

@@ -1,5 +1,6 @@
 -- What a matcher remembers of the marks that it has met: the state of a machine, which the contracts of private functions alone cite.
-use Rattle.std.specs.Prelude.{ℕ, suc, ◌≡◌, ◌+◌, ◌*◌, ◌<◌, Bool, Option, Some, List, [], length, slice_index_or}
+use Rattle.std.specs.Prelude.{ℕ, suc, ◌≡◌, ◌+◌, ◌*◌, ◌<◌, Bool, Option, Some, None, List, [], length, slice_index_or}
+use Rattle.pattern_match.specs.Marks.{Walk}
 
 -- the marks that were met, and a table: for a number of these and an ASCII character one more than the number of those that follow, or 0
 pub record Known : Type 0 where
@@ -22,9 +23,19 @@ IsRightTable next k = (s c t : ℕ) → c < 128 → cell k s c ≡ suc t → (s 
 abbrev pub IsRow : Known → Option ℕ → List Bool → Type 0
 IsRow k at marks = (s : ℕ) → at ≡ Some s → (s < length k.rows) × (row k s ≡ marks)
 
--- a matcher: its marks and their number, the number of the marks before the first character, and what it remembers
+-- a matcher: the marks before the first character, its marks, as long as those that it has reached have no number, and that number, the number of the first, and what it remembers
 pub record Matching : Type 0 where
-  pub marks : List Bool
+  pub start : Walk
+  pub walk : Walk
   pub at : Option ℕ
   pub first : Option ℕ
   pub known : Known
+
+-- the marks of a number, or else these
+abbrev pub marks_at : Option ℕ → Known → List Bool → List Bool
+marks_at None known cells = cells
+marks_at (Some s) known cells = row known s
+
+-- the marks that a matcher has reached
+abbrev pub reached : Matching → List Bool
+reached m = marks_at m.at m.known m.walk.cells

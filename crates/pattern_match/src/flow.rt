@@ -1,6 +1,6 @@
 // What is carried from one instruction to the next, in memory that is taken once.
-ghost use Rattle.std.specs.Prelude.{◌≡◌, ℕ, ◌<◌, ◌≤◌, Bool, false, ◌||◌, ◌&&◌, List, [], ◌∷◌, length, IfOk, reverse, vec_capacity};
-ghost use Rattle.pattern_match.specs.Marking.{frame, now_at_bar, frames_at_bar, now_at_close, frames_at_close};
+ghost use Rattle.std.specs.Prelude.{◌≡◌, ℕ, ◌<◌, ◌≤◌, IsTrue, Bool, false, ◌||◌, ◌&&◌, List, [], ◌∷◌, length, IfOk, reverse, vec_capacity};
+ghost use Rattle.pattern_match.specs.Marking.{frame, innermost, around, with_group, now_at_bar, frames_at_bar, now_at_close};
 
 use crate::instruction::Frame;
 use std::alloc::{AllocError, Global};
@@ -57,57 +57,83 @@ impl Flow {
         self.live = live;
     }
 
-    /// Begins a group, which a word may also begin where it was left.
-    pub fn open(&mut self, optional: bool, again: bool)
+    /// Whether no word is anywhere on its way: none may go on here, and none has begun or left a group.
+    pub fn is_idle(&self) -> bool
+        ensures { IsTrue result → (self.now.live ≡ false) × (self.now.frames ≡ []) }
+    {
+        !self.live && self.frames.is_empty()
+    }
+
+    /// One group more: the first is not kept as long as no word has begun or left it.
+    fn keep(&mut self, group: Frame)
         requires { length self.old.frames < self.old.capacity }
-        ensures live { self.new.live ≡ (self.old.live || again) }
-        ensures frames { self.new.frames ≡ frame (self.old.live || again) (optional && self.old.live) ∷ self.old.frames }
+        ensures live { self.new.live ≡ self.old.live }
+        ensures frames { self.new.frames ≡ with_group group self.old.frames }
         ensures capacity { self.old.capacity ≤ self.new.capacity }
     {
-        let left = optional && self.live;
-        self.live = self.live || again;
-        let begun = Frame {
-            entered: self.live,
-            left,
-        };
-        match self.frames.push(begun) {
+        if self.frames.is_empty() && !(group.entered || group.left) {
+            return;
+        }
+        match self.frames.push(group) {
             Ok(()) => {}
             Err(_) => unreachable!(),
         }
     }
 
+    /// The innermost group, which is kept no longer.
+    fn leave(&mut self) -> Frame
+        ensures result { result ≡ innermost self.old.frames }
+        ensures live { self.new.live ≡ self.old.live }
+        ensures frames { self.new.frames ≡ around self.old.frames }
+        ensures capacity { self.new.capacity ≡ self.old.capacity }
+    {
+        match self.frames.pop() {
+            Some(group) => group,
+            None => Frame {
+                entered: false,
+                left: false,
+            },
+        }
+    }
+
+    /// Begins a group, which a word may also begin where it was left.
+    pub fn open(&mut self, optional: bool, again: bool)
+        requires { length self.old.frames < self.old.capacity }
+        ensures live { self.new.live ≡ (self.old.live || again) }
+        ensures frames { self.new.frames ≡ with_group (frame (self.old.live || again) (optional && self.old.live)) self.old.frames }
+        ensures capacity { self.old.capacity ≤ self.new.capacity }
+    {
+        let left = optional && self.live;
+        let entered = self.live || again;
+        self.live = entered;
+        self.keep(Frame { entered, left });
+    }
+
     /// Ends a branch of the innermost group, and begins the next.
     pub fn bar(&mut self)
-        ensures live { self.new.live ≡ now_at_bar self.old.live self.old.frames }
+        requires { length self.old.frames < self.old.capacity }
+        ensures live { self.new.live ≡ now_at_bar self.old.frames }
         ensures frames { self.new.frames ≡ frames_at_bar self.old.live self.old.frames }
         ensures capacity { self.old.capacity ≤ self.new.capacity }
     {
-        match self.frames.pop() {
-            None => {}
-            Some(group) => {
-                let left = group.left || self.live;
-                self.live = group.entered;
-                match self.frames.push(Frame {
-                    entered: group.entered,
-                    left,
-                }) {
-                    Ok(()) => {}
-                    Err(_) => unreachable!(),
-                }
-            }
-        }
+        let group = self.leave();
+        let left = group.left || self.live;
+        self.live = group.entered;
+        self.keep(Frame {
+            entered: group.entered,
+            left,
+        });
     }
 
     /// Ends the innermost group, and says whether a word may leave it here.
     pub fn close(&mut self) -> bool
         ensures result { result ≡ now_at_close self.old.live self.old.frames }
         ensures live { self.new.live ≡ now_at_close self.old.live self.old.frames }
-        ensures frames { self.new.frames ≡ frames_at_close self.old.frames }
+        ensures frames { self.new.frames ≡ around self.old.frames }
         ensures capacity { self.old.capacity ≤ self.new.capacity }
     {
-        if let Some(group) = self.frames.pop() {
-            self.live = group.left || self.live;
-        }
+        let group = self.leave();
+        self.live = group.left || self.live;
         self.live
     }
 }

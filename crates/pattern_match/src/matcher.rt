@@ -2,21 +2,25 @@
 ghost use Rattle.std.specs.Prelude.{◌≡◌, ◌≤◌, ◌+◌, ℕ, ◌↔◌, IsTrue, Bool, List, [], ◌∷◌, ◌++◌, IfOk, length, replicate, false};
 ghost use Rattle.std.specs.Str.{chars};
 ghost use Rattle.pattern_match.specs.Reading.{Matches};
-ghost use Rattle.pattern_match.specs.Recall.{IsRightTable, IsRow};
-ghost use Rattle.pattern_match.specs.Compiled.{IsMarked, HasRead, IsMadeFor, tokens_of_text, code_of_text, first_marks, next_marks};
+ghost use Rattle.pattern_match.specs.Recall.{IsRightTable, IsRow, reached};
+ghost use Rattle.pattern_match.specs.Marks.{IsDone};
+ghost use Rattle.pattern_match.specs.Compiled.{IsMarked, HasRead, IsStart, IsMadeFor, tokens_of_text, code_of_text, first_marks, next_marks};
 
 use crate::flow::Flow;
-use crate::pass::{pass_first, pass_second};
+use crate::marks::Marks;
+use crate::pass::{pass_first, pass_load, pass_second, pass_start, pass_tidy};
 use crate::pattern::Pattern;
 use crate::recall::Recall;
 use std::alloc::{AllocError as Memory, Global};
 use std::marker::Model;
 
 /// A set of positions of a pattern, stepped one character at a time. It never goes back in the text.
-/// It remembers some of the sets that it has met, and which followed which by an ASCII character.
+/// Of a pattern that is not long it remembers some of the sets that it has met, and which followed which by an ASCII
+/// character. Else a step takes as long as the positions of the set are many, and the groups around them.
 #[derive(Drop)]
 pub struct Matcher {
-    marks: Vec<bool>,
+    start: Marks,
+    marks: Marks,
     flow: Flow,
     recall: Recall,
     at: Option<usize>,
@@ -29,50 +33,44 @@ impl Model for Matcher {
 
     ghost Value = { Matching };
 
-    ghost view = { λ m. record { marks = m.marks.items; at = m.at; first = m.first; known = m.recall } };
+    ghost view = { λ m. record { start = m.start; walk = m.marks; at = m.at; first = m.first; known = m.recall } };
 
-    ghost invariant = { λ m. length m.marks.items ≤ m.flow.capacity };
-}
-
-/// So many marks, none of them set.
-fn no_marks(alloc: Global, count: usize) -> Result<Vec<bool>, Memory>
-    ensures { IfOk result (λ v. v.items ≡ replicate count false) }
-{
-    vec![in alloc; false; count]
-}
-
-/// Takes all marks away.
-fn clear(marks: &mut [bool])
-    ensures { marks.new ≡ replicate (length marks.old) false }
-{
-    for mark in marks.iter_mut() {
-        *mark = false;
-    }
+    ghost invariant = { λ m. length m.marks.cells ≤ m.flow.capacity };
 }
 
 /// The marks before the first character.
-fn begin_marks(pattern: &Pattern, marks: &mut [bool], flow: &mut Flow)
-    requires marks { length marks.old ≡ length (code_of_text (chars pattern.now)) + 1 }
-    requires capacity { length marks.old ≤ flow.old.capacity }
-    ensures marks { marks.new ≡ first_marks (code_of_text (chars pattern.now)) }
+fn begin_marks(pattern: &Pattern, marks: &mut Marks, flow: &mut Flow)
+    requires done { IsDone (code_of_text (chars pattern.now)) marks.old }
+    requires unset { marks.old.cells ≡ replicate (length (code_of_text (chars pattern.now)) + 1) false }
+    requires capacity { length marks.old.cells ≤ flow.old.capacity }
+    ensures start { IsStart pattern.now marks.new }
     ensures capacity { flow.old.capacity ≤ flow.new.capacity }
 {
-    clear(marks);
     flow.begin(true);
-    pass_second(pattern.code(), marks, flow);
+    pass_second(pattern.code(), pattern.gaps(), marks, flow);
+    pass_tidy(pattern.code(), marks);
+    pass_tidy(pattern.code(), marks); // of groups of which the innermost were listed
 }
 
 /// The marks behind one more character.
-fn read_marks(pattern: &Pattern, c: char, marks: &mut [bool], flow: &mut Flow)
-    requires marks { length marks.old ≡ length (code_of_text (chars pattern.now)) + 1 }
-    requires capacity { length marks.old ≤ flow.old.capacity }
-    ensures marks { marks.new ≡ next_marks (tokens_of_text (chars pattern.now)) (code_of_text (chars pattern.now)) c marks.old }
+fn read_marks(pattern: &Pattern, c: char, marks: &mut Marks, flow: &mut Flow)
+    requires done { IsDone (code_of_text (chars pattern.now)) marks.old }
+    requires capacity { length marks.old.cells ≤ flow.old.capacity }
+    ensures done { IsDone (code_of_text (chars pattern.now)) marks.new }
+    ensures marks { marks.new.cells ≡ next_marks (tokens_of_text (chars pattern.now)) (code_of_text (chars pattern.now)) c marks.old.cells }
     ensures capacity { flow.old.capacity ≤ flow.new.capacity }
 {
     flow.begin(false);
-    pass_first(pattern.code(), pattern.tokens(), c, marks, flow);
+    pass_first(
+        pattern.code(),
+        pattern.gaps(),
+        pattern.tokens(),
+        c,
+        marks,
+        flow,
+    );
     flow.begin(false); // no word begins behind the first character
-    pass_second(pattern.code(), marks, flow);
+    pass_second(pattern.code(), pattern.gaps(), marks, flow);
 }
 
 /// The mark of the end.
@@ -89,13 +87,16 @@ impl Matcher {
         ensures read { IfOk result (λ m. HasRead pattern.now m []) }
         ensures made { IfOk result (λ m. IsMadeFor pattern.now m) }
     {
-        let count = pattern.code().len() + 1;
-        let mut marks = no_marks(alloc, count)?;
-        let mut flow = Flow::new(alloc, count)?;
-        let mut recall = Recall::new(alloc, count)?;
-        begin_marks(pattern, marks.as_mut_slice(), &mut flow);
-        let first = recall.number(marks.as_slice());
+        let count = pattern.code().len();
+        let mut start = Marks::new(alloc, count)?;
+        let mut marks = Marks::new(alloc, count)?;
+        let mut flow = Flow::new(alloc, count + 1)?;
+        let mut recall = Recall::new(alloc, count + 1)?;
+        begin_marks(pattern, &mut start, &mut flow);
+        pass_start(pattern.code(), &start, &mut marks);
+        let first = recall.number(marks.cells());
         Ok(Matcher {
+            start,
             marks,
             flow,
             recall,
@@ -108,8 +109,9 @@ impl Matcher {
     fn step_by_recall(&mut self, c: char) -> bool
         ensures known { self.new.known ≡ self.old.known }
         ensures first { self.new.first ≡ self.old.first }
-        ensures read { IsTrue result → (next : ℕ → List Bool → List Bool) → IsRightTable next self.old.known → IsRow self.old.known self.old.at self.old.marks → self.new.marks ≡ next c self.old.marks }
-        ensures at { IsTrue result → (next : ℕ → List Bool → List Bool) → IsRightTable next self.old.known → IsRow self.new.known self.new.at self.new.marks }
+        ensures start { self.new.start ≡ self.old.start }
+        ensures walk { self.new.walk ≡ self.old.walk }
+        ensures read { IsTrue result → (next : ℕ → List Bool → List Bool) → IsRightTable next self.old.known → IsRow self.old.known self.old.at (reached self.old) → (reached self.new ≡ next c (reached self.old)) × IsRow self.new.known self.new.at (reached self.new) }
         ensures kept { result ≡ false → self.new ≡ self.old }
     {
         let Some(at) = self.at else {
@@ -118,29 +120,24 @@ impl Matcher {
         let Some(next) = self.recall.after(at, c) else {
             return false;
         };
-        if !self.recall.copy(next, self.marks.as_mut_slice()) {
-            return false;
-        }
         self.at = Some(next);
         true
     }
 
-    /// Whether the marks before the first character are remembered: then they are set.
-    fn restart_by_recall(&mut self) -> bool
-        ensures known { self.new.known ≡ self.old.known }
+    /// Sets the marks that were reached, where only their number is known.
+    fn recollect(&mut self, pattern: &Pattern)
+        requires { IsMadeFor pattern.now self.old }
+        ensures done { IsDone (code_of_text (chars pattern.now)) self.new.walk }
+        ensures marks { self.new.walk.cells ≡ reached self.old }
+        ensures at { self.new.at ≡ self.old.at }
         ensures first { self.new.first ≡ self.old.first }
-        ensures read { IsTrue result → (marks : List Bool) → IsRow self.old.known self.old.first marks → self.new.marks ≡ marks }
-        ensures at { IsTrue result → (marks : List Bool) → IsRow self.old.known self.old.first marks → IsRow self.new.known self.new.at self.new.marks }
-        ensures kept { result ≡ false → self.new ≡ self.old }
+        ensures start { self.new.start ≡ self.old.start }
+        ensures known { self.new.known ≡ self.old.known }
     {
-        let Some(first) = self.first else {
-            return false;
+        let Some(at) = self.at else {
+            return;
         };
-        if !self.recall.copy(first, self.marks.as_mut_slice()) {
-            return false;
-        }
-        self.at = Some(first);
-        true
+        pass_load(pattern.code(), self.recall.row(at), &mut self.marks);
     }
 
     /// Reads one more character. It takes no memory.
@@ -152,8 +149,9 @@ impl Matcher {
         if self.step_by_recall(c) {
             return;
         }
-        read_marks(pattern, c, self.marks.as_mut_slice(), &mut self.flow);
-        self.at = self.recall.learn(self.at, c, self.marks.as_slice());
+        self.recollect(pattern);
+        read_marks(pattern, c, &mut self.marks, &mut self.flow);
+        self.at = self.recall.learn(self.at, c, self.marks.cells());
     }
 
     /// Whether the characters that were read are a word of the pattern. It takes no memory.
@@ -161,7 +159,10 @@ impl Matcher {
         requires { IsMadeFor pattern.now self.now }
         ensures { (w : List ℕ) → HasRead pattern.now self.now w → IsTrue result ↔ Matches (chars pattern.now) w }
     {
-        last_mark(pattern, self.marks.as_slice())
+        match self.at {
+            Some(at) => last_mark(pattern, self.recall.row(at)),
+            None => last_mark(pattern, self.marks.cells()),
+        }
     }
 
     /// Begins anew, as if nothing had been read. It takes no memory.
@@ -170,10 +171,11 @@ impl Matcher {
         ensures read { HasRead pattern.now self.new [] }
         ensures made { IsMadeFor pattern.now self.new }
     {
-        if self.restart_by_recall() {
+        if let Some(first) = self.first {
+            self.at = Some(first);
             return;
         }
-        begin_marks(pattern, self.marks.as_mut_slice(), &mut self.flow);
+        pass_start(pattern.code(), &self.start, &mut self.marks);
         self.at = None;
     }
 }

@@ -5,11 +5,13 @@ ghost use Rattle.pattern_match.specs.Expression.{Expression};
 ghost use Rattle.pattern_match.specs.Positions.{positions};
 ghost use Rattle.pattern_match.specs.Reading.{IsTreeOf, HasPositionsWithin, Refuses};
 ghost use Rattle.pattern_match.specs.Building.{limit};
+ghost use Rattle.pattern_match.specs.Gaps.{HasGaps, gaps as gaps_from};
 ghost use Rattle.pattern_match.specs.Compiled.{IsCompiled, tokens_of_text, code_of_text};
 
 use crate::builder::compile;
 use crate::counter::{Counter, LIMIT, count};
 use crate::error::PatternError;
+use crate::gaps::gaps_of;
 use crate::instruction::Instruction;
 use crate::lexer::tokens_of;
 use crate::refusal::refusal;
@@ -24,17 +26,19 @@ pub struct Pattern {
     text: Text,
     tokens: Vec<Token>,
     code: Vec<Instruction>,
+    gaps: Vec<usize>,
 }
 
 impl Model for Pattern {
-    ghost use Rattle.std.specs.Prelude.{ℕ, List};
+    ghost use Rattle.std.specs.Prelude.{◌≡◌, ℕ, List};
     ghost use Rattle.pattern_match.specs.Compiled.{IsCompiled};
+    ghost use Rattle.pattern_match.specs.Gaps.{gaps as gaps_from};
 
     ghost Value = { List ℕ };
 
     ghost view = { λ p. p.text };
 
-    ghost invariant = { λ p. IsCompiled p.text p.tokens.items p.code.items };
+    ghost invariant = { λ p. IsCompiled p.text p.tokens.items p.code.items × (p.gaps.items ≡ gaps_from p.code.items) };
 }
 
 /// The characters of a text.
@@ -63,12 +67,14 @@ impl Pattern {
             return Err(PatternError::TooLarge); // before any code is made
         }
         let code = compile(alloc, tokens.as_slice())?;
+        let gaps = gaps_of(alloc, code.as_slice())?;
         let mut kept = Text::new(alloc);
         kept.extend(text.as_bytes())?;
         Ok(Pattern {
             text: kept,
             tokens,
             code,
+            gaps,
         })
     }
 
@@ -91,7 +97,15 @@ impl Pattern {
         ensures size { (tree : Expression) → IsTreeOf (chars self.now) tree → length result.now ≤ 4 * positions tree }
         ensures code { result.now ≡ code_of_text (chars self.now) }
         ensures compiled { IsCompiled self.now (tokens_of_text (chars self.now)) result.now }
+        ensures gaps { HasGaps result.now }
     {
         self.code.as_slice()
+    }
+
+    /// How many instructions stand from each on before the end of its branch.
+    pub(crate) fn gaps(&self) -> &[usize]
+        ensures { result.now ≡ gaps_from (code_of_text (chars self.now)) }
+    {
+        self.gaps.as_slice()
     }
 }

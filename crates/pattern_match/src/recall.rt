@@ -11,8 +11,9 @@ const WIDTH: usize = 128;
 /// The most marks that are remembered.
 const MOST: usize = 64;
 
-/// The most bytes that they take.
-const BYTES: usize = 65_536;
+/// The most instructions of a pattern whose marks are remembered. To look for marks among those that were met takes as
+/// long as they are, and a step over more of them is short where few are set.
+const WIDEST: usize = 1_024;
 
 #[derive(Drop)]
 pub struct Recall {
@@ -82,7 +83,7 @@ fn no_row(alloc: Global, width: usize) -> Result<Vec<bool>, AllocError>
 fn rows_for(width: usize) -> usize
     ensures { result ≤ 64 }
 {
-    (BYTES / width.max(1)).min(MOST)
+    if width > WIDEST { 0 } else { MOST }
 }
 
 impl Recall {
@@ -114,15 +115,12 @@ impl Recall {
         usize::from(self.table[place]).checked_sub(1)
     }
 
-    /// Whether the marks of this number were copied.
-    pub fn copy(&self, at: usize, marks: &mut [bool]) -> bool
-        ensures same { IsTrue result → marks.new ≡ row self.now at }
-        ensures kept { result ≡ false → marks.new ≡ marks.old }
+    /// The marks of this number.
+    pub fn row(&self, at: usize) -> &[bool]
+        requires { at < length self.now.rows }
+        ensures { result.now ≡ row self.now at }
     {
-        if at >= self.rows.len() {
-            return false;
-        }
-        copy_marks(self.rows[at].as_slice(), marks)
+        self.rows[at].as_slice()
     }
 
     /// The number of the marks, if they were met.

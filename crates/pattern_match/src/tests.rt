@@ -51,7 +51,7 @@ static TEXTS: [(&str, Verdict); 32] = [
     ("[a-c-e]", At(5)),
 ];
 
-static WORDS: [(&str, &str, bool); 31] = [
+static WORDS: [(&str, &str, bool); 36] = [
     ("[A-Z]{3,3}", "ABC", true),
     ("[A-Z]{3,3}", "AB", false),
     ("[A-Z]{3,3}", "ABCD", false),
@@ -83,6 +83,11 @@ static WORDS: [(&str, &str, bool); 31] = [
     ("((a+)){2}", "a", false),
     ("(()|b{0}|(ab))+", "abab", true),
     ("(()|b{0}|(ab))+", "aba", false),
+    ("(a|b{0,1500}c)+d", "abbcacd", true),
+    ("(a|b{0,1500}c)+d", "abbacd", false),
+    ("(x(y{1200}|(a|b)*c)*z)+", "xabcczxz", true),
+    ("(x(y{1200}|(a|b)*c)*z)+", "xabccxz", false),
+    (".*(ab{1100}|cd)e", "xabcde", true),
 ];
 
 fn read_as(alloc: Global, text: &str) -> Verdict {
