@@ -1,0 +1,9 @@
+pub mod CodeLemmas
+pub mod PatternLemmas
+pub mod CheckLemmas
+pub mod RuleLemmas
+pub mod TextRules
+pub mod OneAnswer
+pub mod FitLemmas
+pub mod ValueLemmas
+pub mod MeasureLemmas

@@ -1,0 +1,86 @@
+-- What the check of a leaf keeps of the characters that it was given.
+use Rattle.std.specs.Prelude.{◌≡◌, ℕ, ◌<◌, ◌≤◌, ◌^◌, List, length, Option, Some, None, MatchOption, Result, Ok, Err, Contains, slice_get, encode_utf8_all}
+use Rattle.std.specs.List.{AllByRecursion}
+use Rattle.lexical_core.specs.Characters.{IsXmlChar}
+use Rattle.lexical_core.specs.declared.rule.Rule.{Rule}
+use Rattle.lexical_core.specs.declared.rule.Rule.TheVariants.{NotACode}
+use Rattle.data_types.specs.LeafAnswers.{leaf_of}
+use Rattle.data_types.specs.declared.leaf.LeafRef.{LeafRef}
+use Rattle.data_types.specs.Leaf.{Leaf, Bytes, Number}
+use Rattle.facets.specs.LeafUnder.{IsCodeAt}
+use Rattle.facets.specs.Checks.{IsLengthAnswer, IsNumberAnswer}
+use Rattle.data_types.specs.LeafSteps.{HasTaken as HasTakenLeaf, kept as kept_by, room as room_of, spare as spare_of}
+use Rattle.data_types.specs.declared.kind.Kind.{Kind}
+use Rattle.data_types.specs.declared.kind.Kind.TheVariants as kind
+use Rattle.facets.specs.declared.leaf_check.LeafCheck.{LeafCheck}
+use Rattle.facets.specs.declared.simple.Simple.{Simple}
+use Rattle.facets.specs.CodeLists.{longest_of}
+use Rattle.facets.specs.Counts.{HasCounted}
+use Rattle.facets.specs.PatternChecks.{HasAsked}
+
+-- a code has a number of 32 bits, and a decimal no more digits than a number can have
+pub record IsWithinLimits (simple : Simple) : Type 0 where
+  pub codes : MatchOption simple.codes (Unit {0}) (λ codes. length codes < 2 ^ 32)
+  pub total : simple.kind ≡ kind.Decimal → simple.total ≤ 18
+
+-- the most characters of a text that can be a leaf: its greatest length, or where there are codes the bytes of the longest
+abbrev pub text_limit : Option ℕ → Option (List (List ℕ)) → Option ℕ
+text_limit most None = most
+text_limit most (Some codes) = Some (longest_of codes)
+
+abbrev pub limit_by : Kind → Option ℕ → Option (List (List ℕ)) → Option ℕ
+limit_by kind.Text most codes = text_limit most codes
+limit_by kind.Binary most codes = most
+limit_by k most codes = None
+
+-- the most characters of a text, or octets of a binary value, that are kept
+abbrev pub keep_limit : Simple → Option ℕ
+keep_limit simple = limit_by simple.kind simple.max simple.codes
+
+-- the check is one for the simple type, and was given these characters since it was made or begun anew
+pub record HasTaken (check : LeafCheck) (simple : Simple) (text : List ℕ) : Type 0 where
+  pub step : HasTakenLeaf check.step simple.kind (keep_limit simple) text
+  pub counted : HasCounted check.count (length text)
+  pub asked : HasAsked check.asked simple text
+  pub characters : AllByRecursion IsXmlChar text
+  pub limits : IsWithinLimits simple
+
+-- the check was made for the simple type
+abbrev pub IsMadeFor : LeafCheck → Simple → Type 0
+IsMadeFor check simple = (text : List ℕ) × HasTaken check simple text
+
+-- how many bytes a check keeps in memory
+abbrev pub kept : LeafCheck → ℕ
+kept check = kept_by check.step
+
+-- how many it may keep without asking for memory
+abbrev pub room : LeafCheck → ℕ
+room check = room_of check.step
+
+-- how many more it may keep without asking for memory
+abbrev pub spare : LeafCheck → ℕ
+spare check = spare_of check.step
+
+-- the leaf is bytes, which are the code at this place
+abbrev pub IsByteCode : List (List ℕ) → ℕ → Leaf → Type 0
+IsByteCode codes place (Bytes bytes) = slice_get codes place ≡ Some bytes
+IsByteCode codes place leaf = ⊥
+
+-- the answer on a text where there are codes: the place of the one that it is, or NotACode where it is none
+abbrev pub IsCodeAnswer : List (List ℕ) → List ℕ → Result LeafRef Rule → Type 0
+IsCodeAnswer codes text (Ok leaf) = IsCodeAt codes text (leaf_of leaf)
+IsCodeAnswer codes text (Err NotACode) = Contains codes (encode_utf8_all text) → ⊥
+IsCodeAnswer codes text (Err rule) = ⊥
+
+-- the kinds whose leaves are measured: a number by its digits and bounds, a binary value by its length
+abbrev pub IsMeasured : Kind → Type 0
+IsMeasured kind.Decimal = Unit {0}
+IsMeasured kind.Binary = Unit {0}
+IsMeasured k = ⊥
+
+-- what the measure of a leaf answers
+abbrev pub IsMeasureAnswer : {T : Type 0} → Simple → Leaf → Result T Rule → Type 0
+IsMeasureAnswer simple (Bytes octets) result = IsLengthAnswer simple (length octets) result
+IsMeasureAnswer simple (Number number) result = IsNumberAnswer simple number result
+IsMeasureAnswer simple leaf (Ok x) = Unit {0}
+IsMeasureAnswer simple leaf (Err rule) = ⊥

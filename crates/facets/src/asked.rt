@@ -1,0 +1,114 @@
+// The pattern of a simple type, asked of the characters of a text as they come.
+ghost use Rattle.std.specs.Prelude.{◌∷◌, ◌++◌, [], ℕ, List, IfOk};
+ghost use Rattle.data_types.specs.Collapsing.{gained, HasCollapsed};
+ghost use Rattle.pattern_match.specs.Compiled.{HasRead, IsMadeFor};
+ghost use Rattle.facets.specs.PatternChecks.{HasAsked, TellsPattern};
+
+use crate::simple::Simple;
+use data_types::{Collapse, Collapsed, Kind};
+use pattern_match::{Matcher, Pattern};
+use std::alloc::{AllocError, Global};
+
+/// What the pattern is asked of.
+#[derive(Drop)]
+pub(crate) enum Asked {
+    /// Nothing: there is no pattern, or it does not count.
+    Nothing,
+    /// The text as it is.
+    Text(Matcher),
+    /// The text collapsed.
+    Collapsed(Collapse, Matcher),
+}
+
+impl Asked {
+    /// Before the first character.
+    pub(crate) fn new(alloc: Global, simple: &Simple) -> Result<Asked, AllocError>
+        ensures { IfOk result (λ asked. HasAsked asked simple.now []) }
+    {
+        let Some(pattern) = &simple.pattern else {
+            return Ok(Asked::Nothing);
+        };
+        match simple.kind {
+            Kind::Decimal | Kind::Boolean | Kind::Binary | Kind::Envelope => Ok(Asked::Nothing),
+            Kind::Text => {
+                if simple.codes.is_some() {
+                    return Ok(Asked::Nothing);
+                }
+                Ok(Asked::Text(Matcher::new(alloc, pattern)?))
+            }
+            _ => Ok(Asked::Collapsed(Collapse::new(), Matcher::new(alloc, pattern)?)),
+        }
+    }
+
+    /// Begins anew. It takes no memory.
+    pub(crate) fn restart(&mut self, simple: &Simple)
+        requires { (text : List ℕ) × HasAsked self.old simple.now text }
+        ensures { HasAsked self.new simple.now [] }
+    {
+        let Some(pattern) = &simple.pattern else {
+            return;
+        };
+        match self {
+            Asked::Nothing => {}
+            Asked::Text(matcher) => matcher.restart(pattern),
+            Asked::Collapsed(collapse, matcher) => {
+                *collapse = Collapse::new();
+                matcher.restart(pattern);
+            }
+        }
+    }
+
+    /// Takes a character. It takes no memory.
+    pub(crate) fn take(&mut self, simple: &Simple, c: char)
+        requires { (text : List ℕ) × HasAsked self.old simple.now text }
+        ensures { (text : List ℕ) → HasAsked self.old simple.now text
+            → HasAsked self.new simple.now (text ++ c ∷ []) }
+    {
+        let Some(pattern) = &simple.pattern else {
+            return;
+        };
+        match self {
+            Asked::Nothing => {}
+            Asked::Text(matcher) => matcher.step(pattern, c),
+            Asked::Collapsed(collapse, matcher) => {
+                let gain = collapse.take(c);
+                take_gained(pattern, matcher, gain, c);
+            }
+        }
+    }
+
+    /// Whether the pattern has what it was asked of.
+    pub(crate) fn accepts(&self, simple: &Simple) -> bool
+        requires { (text : List ℕ) × HasAsked self.now simple.now text }
+        ensures { (text : List ℕ) → HasAsked self.now simple.now text → TellsPattern result simple.now text }
+    {
+        let Some(pattern) = &simple.pattern else {
+            return true;
+        };
+        match self {
+            Asked::Nothing => true,
+            Asked::Text(matcher) => matcher.accepts(pattern),
+            Asked::Collapsed(collapse, matcher) => {
+                data_types::laws::a_text_is_collapsed_one_way();
+                collapse.finish();
+                matcher.accepts(pattern)
+            }
+        }
+    }
+}
+
+/// Takes what the collapsed text gains at a character.
+fn take_gained(pattern: &Pattern, matcher: &mut Matcher, gain: Collapsed, c: char)
+    requires { IsMadeFor pattern.now matcher.old }
+    ensures { (text : List ℕ) → HasRead pattern.now matcher.old text
+        → HasRead pattern.now matcher.new (text ++ gained gain c) }
+{
+    match gain {
+        Collapsed::Nothing => {}
+        Collapsed::Char => matcher.step(pattern, c),
+        Collapsed::SpaceAndChar => {
+            matcher.step(pattern, ' ');
+            matcher.step(pattern, c);
+        }
+    }
+}

@@ -1,0 +1,17 @@
+// Laws on the definitions of leaves under a simple type: each is the contract of a function that does nothing.
+ghost use Rattle.std.specs.Prelude.{◌≡◌, Result, List, ℕ};
+ghost use Rattle.lexical_core.specs.declared.rule.Rule.{Rule};
+ghost use Rattle.data_types.specs.Leaf.{Leaf};
+ghost use Rattle.facets.specs.LeafUnder.{HasSortedCodes, LeafUnder, GivesLeaf, Fits};
+ghost use Rattle.facets.specs.declared.simple.Simple.{Simple};
+
+/// Characters spell one leaf under a simple type, or break one rule first, and not both.
+pub fn characters_have_one_answer()
+    ensures { (simple : Simple) (text : List ℕ) (one two : Result Leaf Rule) → HasSortedCodes simple
+        → LeafUnder simple text one → LeafUnder simple text two → one ≡ two }
+{}
+
+/// A leaf that some characters spell under a simple type fits it.
+pub fn what_is_spelled_fits()
+    ensures { (simple : Simple) (text : List ℕ) (leaf : Leaf) → GivesLeaf simple text leaf → Fits simple leaf }
+{}

@@ -1,0 +1,32 @@
+// Lengths of texts and binary values: XML Schema part 2 §4.3.1 to §4.3.3.
+ghost use Rattle.std.specs.Prelude.{◌≡◌, ◌↔◌, ℕ, List, length, IsTrue};
+ghost use Rattle.base64.specs.GeneralPurpose.{IsBytes};
+ghost use Rattle.data_types.specs.Leaf.{Bytes};
+ghost use Rattle.data_types.specs.declared.kind.Kind.TheVariants as kind;
+ghost use Rattle.facets.specs.Facets.{HasLength};
+ghost use Rattle.facets.specs.Checks.{IsLengthAnswer};
+ghost use Rattle.facets.specs.LeafUnder.{Judges};
+
+use crate::simple::Simple;
+use lexical_core::Rule;
+
+/// Whether a binary value of this number of octets has a length within the bounds of the simple type; `BadLength` where
+/// it has not. It takes no memory.
+pub fn check_octets(simple: &Simple, count: u64) -> Result<(), Rule>
+    ensures length { IsLengthAnswer simple.now count result }
+    ensures leaf { simple.now.kind ≡ kind.Binary → (octets : List ℕ) → IsBytes octets → length octets ≡ count
+        → Judges simple.now (Bytes octets) result }
+{
+    if has_length(simple, count) {
+        Ok(())
+    } else {
+        Err(Rule::BadLength)
+    }
+}
+
+/// Whether a length is within its bounds.
+pub(crate) fn has_length(simple: &Simple, count: u64) -> bool
+    ensures { IsTrue result ↔ HasLength simple.now count }
+{
+    simple.min <= count && simple.max.is_none_or(|max| count <= max)
+}

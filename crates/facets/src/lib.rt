@@ -1,0 +1,22 @@
+// Simple types with their facets: whether a leaf fits one, or the first rule that it breaks (XML Schema part 2 §4.3).
+#![tactic(auto)]
+
+mod asked;
+mod codes;
+mod count;
+mod digits;
+pub mod laws;
+mod leaf_check;
+mod lengths;
+mod simple;
+mod step;
+
+pub use codes::Codes;
+pub use digits::check_number;
+pub use leaf_check::LeafCheck;
+pub use lengths::check_octets;
+pub use simple::{Bound, Simple};
+pub use step::{Step, Texts};
+
+#[cfg(test)]
+mod tests;
