@@ -25,6 +25,7 @@ pub mod OneFault
 pub mod ReferencePlaces
 pub mod Placed
 pub mod PlainLemmas
+pub mod CharacterRuns
 pub mod TokenizerLemmas
 pub mod Pending
 pub mod SettleLemmas
@@ -41,6 +42,7 @@ pub mod EventTells
 pub mod ReaderLemmas
 pub mod ResultLemmas
 pub mod Lookups
+pub mod BindingLemmas
 pub mod TagPartLemmas
 pub mod ExpandedLemmas
 pub mod WholeTags

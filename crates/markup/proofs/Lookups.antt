@@ -1,12 +1,12 @@
 -- What a prefix stands for, by all declarations of the open tags in one list.
-use Rattle.std.proofs.Common.{◌≡◌, ℕ, Bool, true, false, List, [], ◌∷◌, ◌++◌, ◌==◌, length, reverse, Option, Some, None, refl, sym, ap, ◌∙◌, arith}
+use Rattle.std.proofs.Common.{◌≡◌, ℕ, Bool, true, false, List, [], ◌∷◌, ◌++◌, ◌==◌, length, Option, Some, None, refl, sym, ap, ◌∙◌, arith}
 use Rattle.std.specs.Option.{option_or}
 use Rattle.std.specs.Str.{bytes_eq}
 use Rattle.std.proofs.lemmas.Bool.Decides.{nat_tests}
 use Rattle.markup.specs.declared.tag.Given.{Given}
 use Rattle.markup.specs.declared.tag.Opening.{Opening}
 use Rattle.markup.specs.Events.{declared_prefix, same_prefix, bound_by, namespace_of}
-use Rattle.markup.specs.Scopes.{declarations, all_declarations, IsDeclared}
+use Rattle.markup.specs.Scopes.{declarations, all_declarations}
 
 pub empty_is : (xs : List ℕ) → (length xs == 0) ≡ bytes_eq xs []
 empty_is [] = refl
@@ -35,14 +35,11 @@ bound_by-append (a ∷ xs) ys prefix = case (same_prefix (declared_prefix a.name
     case true e so = simp e refl
     case false e so = simp e so
 
-namespace_is : (tags : List Opening) (prefix : List ℕ) → namespace_of tags prefix ≡ option_or (bound_by (all_declarations tags) prefix) (namespace_of [] prefix)
+-- the namespace of a prefix by all declarations of the open tags
+pub namespace_is : (tags : List Opening) (prefix : List ℕ) → namespace_of tags prefix ≡ option_or (bound_by (all_declarations tags) prefix) (namespace_of [] prefix)
 namespace_is [] prefix = refl
 namespace_is (t ∷ tags) prefix =
     ap (λ o. option_or (bound_by t.given prefix) o) (namespace_is tags prefix)
     ∙ sym (or_assoc (bound_by t.given prefix) (bound_by (all_declarations tags) prefix) (namespace_of [] prefix))
     ∙ ap (λ o. option_or (option_or o (bound_by (all_declarations tags) prefix)) (namespace_of [] prefix)) (sym (bound_by_declarations t.given prefix))
     ∙ ap (λ o. option_or o (namespace_of [] prefix)) (sym (bound_by-append (declarations t.given) (all_declarations tags) prefix))
-
--- the namespace of a prefix by the declarations in reverse
-pub looked_up : (declared : List Given) (tags : List Opening) (prefix : List ℕ) → IsDeclared declared tags → namespace_of tags prefix ≡ option_or (bound_by (reverse declared) prefix) (namespace_of [] prefix)
-looked_up declared tags prefix is = namespace_is tags prefix ∙ ap (λ ds. option_or (bound_by ds prefix) (namespace_of [] prefix)) (sym is.are)

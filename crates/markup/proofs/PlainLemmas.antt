@@ -71,12 +71,12 @@ plain_step (Begin Cdata) c b h = subst (λ (b : Bool). (if b then Goes Bracket e
 plain_step _ c b h = absurd (both_ways false refl b)
 
 -- no byte is open
-no_chars : (cs part : List ℕ) → length (encode_utf8_all cs ++ part) ≡ 0 → (cs ≡ []) × (part ≡ [])
+pub no_chars : (cs part : List ℕ) → length (encode_utf8_all cs ++ part) ≡ 0 → (cs ≡ []) × (part ≡ [])
 no_chars [] [] h = (refl, refl)
 no_chars [] (x ∷ part) h = absurd (omega (arith, h))
 no_chars (c ∷ cs) part h = absurd (omega (arith, h, length-append (encode_utf8 c ++ encode_utf8_all cs) part, length-append (encode_utf8 c) (encode_utf8_all cs), length-encode c, len_utf8_bounds c))
 
-at_same : (s t : Scan) (d e : Draft) → At s d ≡ At t e → (s ≡ t) × (d ≡ e)
+pub at_same : (s t : Scan) (d e : Draft) → At s d ≡ At t e → (s ≡ t) × (d ≡ e)
 at_same s t d e h = (cc, cc)
 
 stays : (p : Position) → is_between (Begin p) ≡ true → after_other p ≡ p

@@ -1,5 +1,5 @@
 -- A reader behind one more byte, and at the end of the input.
-use Rattle.std.proofs.Common.{◌≡◌, ℕ, true, false, ◌+◌, ◌<◌, ◌^◌, List, [], ◌∷◌, ◌++◌, length, reverse, Some, None, if◌then◌else◌, refl, sym, ◌∙◌, ap, subst, append_assoc, append-nil, length-append, arith}
+use Rattle.std.proofs.Common.{◌≡◌, ℕ, true, false, ◌+◌, ◌<◌, ◌^◌, List, [], ◌∷◌, ◌++◌, length, reverse, Some, None, ⊎_elim, if◌then◌else◌, refl, sym, ◌∙◌, ap, subst, append_assoc, append-nil, length-append, arith}
 use Rattle.std.specs.List.{flat_map}
 use Rattle.std.proofs.lemmas.Bool.{both_ways}
 use Rattle.lexical_core.specs.declared.rule.Rule.{Rule}
@@ -7,16 +7,16 @@ use Rattle.lexical_core.specs.declared.rule.Rule.TheVariants.{Truncated}
 use Rattle.markup.specs.Token.{Token, LineEnd, Line, Cr, CrLf, token_bytes}
 use Rattle.markup.specs.Marks.{in_cdata, Cell, Front, tag_limit}
 use Rattle.markup.specs.Events.{Placed, events, items_of, open_tags}
-use Rattle.markup.specs.Faults.{rule_of, MarkFault, is_over}
+use Rattle.markup.specs.Faults.{rule_of, IsClean, MarkFault, is_over}
 use Rattle.markup.specs.Longest.{IsLongest}
-use Rattle.markup.specs.EventItems.{Tells, TellsFront}
+use Rattle.markup.specs.EventItems.{Tells, TellsFront, TellsClean}
 use Rattle.markup.specs.Scopes.{placed_at}
 use Rattle.markup.specs.Contexts.{IsContext, TakesToken}
 use Rattle.markup.specs.ScanRuns.{ended_of, draft_of}
 use Rattle.markup.specs.TokenRules.{items_by, is_cdata}
 use Rattle.markup.specs.Tokenizers.{IsOpen, IsAwaited, Finishes, FinishesBy, SettlesBy, EndsToken, AdvancesBy, open_at}
 use Rattle.markup.specs.Inputs.{Reads, Any, Begins, with_pending, is_cut, is_return, settled_tokens, settled_events, SettlesInput, ReadsMore, ReadsToken}
-use Rattle.markup.specs.Reading.{Keeps, HasTaken, GoesOn, Refuses, RunsOut, Stops, IsWholly}
+use Rattle.markup.specs.Reading.{Keeps, HasTaken, HasTold, GoesOn, Refuses, RunsOut, Stops, IsWholly}
 use Rattle.markup.specs.declared.reader.MarkError.{MarkError}
 use Rattle.markup.specs.declared.reader.MarkError.TheVariants.{Refused as RefusedBy, Memory as NoMemory}
 use Rattle.markup.specs.ReaderSteps.{TellsMore, SettlesEvents, TokenStopped, returned}
@@ -71,29 +71,37 @@ new_taken z c o p k = (
   by Return h = absurd (none (h.0 ∙ line_bytes.2))
   by Open h = refl
 
--- tokens of the input whose events are told
-told_front : (z : Tokenizer) (input : List ℕ) (ts : List Token) (byte : ℕ) (f : Finish) → Reads (Begins byte) z input ts → IsAwaited z.scan byte → FinishesBy z f → (tokens : List Token) × (rest : List ℕ) × Front tag_limit [] (input ++ byte ∷ []) tokens rest × (events [] 0 (with_pending f ts) ≡ events [] 0 tokens)
-told_front z input ts byte f r w q = by f (q (reverse ts) r.bytes r.opens) where
-  by : (f : Finish) → Finishes (reverse ts) r.bytes f → (tokens : List Token) × (rest : List ℕ) × Front tag_limit [] (input ++ byte ∷ []) tokens rest × (events [] 0 (with_pending f ts) ≡ events [] 0 tokens)
-  by Nothing h = (ts, r.bytes ++ byte ∷ [], r.front (byte ∷ []) ([], refl), refl)
-  by Open h = (ts, r.bytes ++ byte ∷ [], r.front (byte ∷ []) ([], refl), refl)
-  by Return h = (
-    ts ++ LineEnd CrLf ∷ [],
-    [],
-    front_snoc tag_limit [] (input ++ byte ∷ []) (r.bytes ++ byte ∷ []) [] ts (LineEnd CrLf) (r.front (byte ∷ []) ([], refl))
-        (subst (λ b. Cell b (LineEnd CrLf) (r.bytes ++ byte ∷ []) []) (behind ts) (record { spelled = awaited_crlf z (reverse ts) r.bytes byte r.opens h.0 w ∙ sym (append-nil (token_bytes (LineEnd CrLf))); is = crlf_stands (reverse ts) [] })) refl,
-    events_return ts,
-  )
+-- tokens of the input whose events are told, and which break no rule
+record ToldFront (input : List ℕ) (told : List Placed) : Type 0 where
+  tokens : List Token
+  rest : List ℕ
+  front : Front tag_limit [] input tokens rest
+  clean : IsClean [] tokens
+  events_are : told ≡ events [] 0 tokens
+
+told_front : (z : Tokenizer) (input : List ℕ) (ts : List Token) (byte : ℕ) (f : Finish) → Reads (Begins byte) z input ts → IsClean [] ts → IsAwaited z.scan byte → FinishesBy z f → ToldFront (input ++ byte ∷ []) (events [] 0 (with_pending f ts))
+told_front z input ts byte f r l w q = by f (q (reverse ts) r.bytes r.opens) where
+  by : (f : Finish) → Finishes (reverse ts) r.bytes f → ToldFront (input ++ byte ∷ []) (events [] 0 (with_pending f ts))
+  by Nothing h = record { tokens = ts; rest = r.bytes ++ byte ∷ []; front = r.front (byte ∷ []) ([], refl); clean = l; events_are = refl }
+  by Open h = record { tokens = ts; rest = r.bytes ++ byte ∷ []; front = r.front (byte ∷ []) ([], refl); clean = l; events_are = refl }
+  by Return h = record {
+    tokens = ts ++ LineEnd CrLf ∷ [];
+    rest = [];
+    front = front_snoc tag_limit [] (input ++ byte ∷ []) (r.bytes ++ byte ∷ []) [] ts (LineEnd CrLf) (r.front (byte ∷ []) ([], refl))
+        (subst (λ b. Cell b (LineEnd CrLf) (r.bytes ++ byte ∷ []) []) (behind ts) (record { spelled = awaited_crlf z (reverse ts) r.bytes byte r.opens h.0 w ∙ sym (append-nil (token_bytes (LineEnd CrLf))); is = crlf_stands (reverse ts) [] })) refl;
+    clean = clean_snoc ts (LineEnd CrLf) l refl;
+    events_are = events_return ts;
+  }
 
 -- no memory, behind events that were told
-runs_out : (z : Tokenizer) (input : List ℕ) (ts : List Token) (byte : ℕ) (f : Finish) (told front behind : List Placed) (old new : List Event) → Reads (Begins byte) z input ts → IsAwaited z.scan byte → FinishesBy z f → told ++ (front ++ behind) ≡ events [] 0 (with_pending f ts) → Tells old new front → RunsOut (input ++ byte ∷ []) told old new
-runs_out z input ts byte f told front behind old new r w q e t =
-    let k = told_front z input ts byte f r w q in
-    record { front = front; behind = behind; tokens = k.0; rest = k.1; front_is = k.2; events_are = e ∙ k.3; tells = t }
+runs_out : (z : Tokenizer) (input : List ℕ) (ts : List Token) (byte : ℕ) (f : Finish) (told front behind : List Placed) (old new : List Event) → Reads (Begins byte) z input ts → IsClean [] ts → IsAwaited z.scan byte → FinishesBy z f → told ++ (front ++ behind) ≡ events [] 0 (with_pending f ts) → Tells old new front → RunsOut (input ++ byte ∷ []) told old new
+runs_out z input ts byte f told front behind old new r l w q e t =
+    let k : ToldFront (input ++ byte ∷ []) (events [] 0 (with_pending f ts)) = told_front z input ts byte f r l w q in
+    record { front = front; behind = behind; tokens = k.tokens; rest = k.rest; front_is = k.front; clean = k.clean; events_are = e ∙ k.events_are; tells = t }
 
 module _ (reader : Reader) (input : List ℕ) (ts : List Token) (told : List Placed) where
   -- where the open token begins
-  starts : (k : Keeps Any reader input ts told) → reader.tokenizer.start ≡ length (flat_map token_bytes ts)
+  pub starts : (k : Keeps Any reader input ts told) → reader.tokenizer.start ≡ length (flat_map token_bytes ts)
   starts k = reads_start Any reader.tokenizer input ts [] tt k.reads k.place
 
   starts_begins : (byte : ℕ) (k : Keeps (Begins byte) reader input ts told) → reader.tokenizer.start ≡ length (flat_map token_bytes ts)
@@ -127,12 +135,12 @@ module _ (reader : Reader) (input : List ℕ) (ts : List Token) (told : List Pla
     }
 
     pub settle_err : TellsFront old new (settled_events reader.tokenizer.start s) → RunsOut (input ++ byte ∷ []) told old new
-    settle_err t = runs_out z input (settled_tokens s ts) byte (finish_of z) told t.front t.behind old new settled.reads settled.awaited (finish_is z)
+    settle_err t = runs_out z input (settled_tokens s ts) byte (finish_of z) told t.front t.behind old new settled.reads settled.clean settled.awaited (finish_is z)
         (ap (λ v. told ++ v) (sym t.front_is) ∙ settled_told (finish_of z) (finish_is z)) t.tells
 
   -- no memory for the byte
   pub advance_out : (byte : ℕ) (old new : List Event) (k : Keeps (Begins byte) reader input ts told) → IsAwaited reader.tokenizer.scan byte → new ≡ old → RunsOut (input ++ byte ∷ []) told old new
-  advance_out byte old new k w e = runs_out reader.tokenizer input ts byte (finish_of reader.tokenizer) told [] [] old new k.reads w (finish_is reader.tokenizer) (append-nil told ∙ k.told_are (finish_of reader.tokenizer) (finish_is reader.tokenizer)) (tells_none old new e)
+  advance_out byte old new k w e = runs_out reader.tokenizer input ts byte (finish_of reader.tokenizer) told [] [] old new k.reads k.clean w (finish_is reader.tokenizer) (append-nil told ∙ k.told_are (finish_of reader.tokenizer) (finish_is reader.tokenizer)) (tells_none old new e)
 
   -- the byte itself
   module _ (z : Tokenizer) (byte : ℕ) (old new : List Event) (k : Keeps (Begins byte) reader input ts told) (w : IsAwaited reader.tokenizer.scan byte) (p : z.place ≡ reader.tokenizer.place + 1) where
@@ -223,8 +231,9 @@ module _ (reader : Reader) (input : List ℕ) (ts : List Token) (told : List Pla
         shown : (more : List ℕ) → MarkFault ((input ++ byte ∷ []) ++ more) (record { rule = rule; place = reader.tokenizer.start })
         shown more = subst (λ n. MarkFault ((input ++ byte ∷ []) ++ more) (record { rule = rule; place = n })) (sym (starts_begins byte k)) (m.broken rule b more)
 
-      pub token_out : TellsFront old new token_events → RunsOut (input ++ byte ∷ []) told old new
-      token_out t =
+      -- no memory for the events of the token
+      token_begun : rule_of (reverse ts) m.token ≡ None → TellsFront old new token_events → RunsOut (input ++ byte ∷ []) told old new
+      token_begun c t =
           let l : IsLongest (input ++ byte ∷ []) (with_pending (finish_of z) (ts ++ m.token ∷ [])) = reads_longest z (input ++ byte ∷ []) (ts ++ m.token ∷ []) m.reads (finish_of z) (finish_is z) in
           record {
             front = t.front;
@@ -232,9 +241,13 @@ module _ (reader : Reader) (input : List ℕ) (ts : List Token) (told : List Pla
             tokens = with_pending (finish_of z) (ts ++ m.token ∷ []);
             rest = l.rest;
             front_is = l.front;
+            clean = clean_pending (finish_of z) (ts ++ m.token ∷ []) (m.clean c);
             events_are = ap (λ v. told ++ v) (sym t.front_is) ∙ token_told (finish_of z) (finish_is z);
             tells = t.tells;
           }
+
+      pub token_out : TellsClean (rule_of (reverse ts) m.token) old new token_events → RunsOut (input ++ byte ∷ []) told old new
+      token_out t = ⊎_elim (λ c. token_begun c t.0) (λ s. advance_out byte old new k w s) t.1
 
       -- by the answer of the context
       module _ (Answers : (before : List Token) (t : Token) → IsContext reader.context before → ended_of t ≡ e → draft_of t ≡ d → in_cdata before ≡ is_cdata reader.tokenizer.position → Type 0)
@@ -320,9 +333,25 @@ step_out bytes told more o0 o1 o2 t k = record {
   tokens = k.tokens;
   rest = k.rest;
   front_is = k.front_is;
+  clean = k.clean;
   events_are = regrouped told more k.front k.behind ∙ k.events_are;
   tells = tells_twice o0 o1 o2 more k.front t k.tells;
 }
+
+-- what a reader has taken is all told
+pub told_so_far : (reader : Reader) (bytes : List ℕ) (told : List Placed) → HasTaken reader bytes told → HasTold reader bytes told
+told_so_far reader bytes told h =
+    let z = reader.tokenizer in
+    record {
+      taken_are = h;
+      are_events = (
+        with_pending (finish_of z) h.0,
+        reads_longest z bytes h.0 h.1.reads (finish_of z) (finish_is z),
+        clean_pending (finish_of z) h.0 h.1.clean,
+        h.1.told_are (finish_of z) (finish_is z),
+      );
+      only_cut = none_but_truncated z bytes h.0 h.1.reads h.1.clean;
+    }
 
 -- the end of the input
 not_cut : (f : Finish) → (f ≡ Open → ⊥) → is_cut f ≡ false

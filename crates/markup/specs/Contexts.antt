@@ -1,12 +1,13 @@
 -- What stands before a token, and what the token makes of it. Private functions alone cite this.
-use Rattle.std.specs.Prelude.{◌≡◌, ℕ, List, ◌∷◌, Some, None, Result, MatchResult}
+use Rattle.std.specs.Prelude.{◌≡◌, ℕ, ◌==◌, false, List, ◌∷◌, length, Some, None, Result, MatchResult}
 use Rattle.markup.specs.Token.{Token}
 use Rattle.markup.specs.Events.{open_tags, items_of}
 use Rattle.markup.specs.Faults.{has_start, rule_of}
-use Rattle.markup.specs.EventItems.{Tells, TellsFront}
+use Rattle.markup.specs.EventItems.{Tells, TellsClean}
 use Rattle.markup.specs.Scopes.{IsScope, placed_at}
 use Rattle.markup.specs.TokenRules.{brackets}
 use Rattle.markup.specs.declared.context.Context.{Context}
+use Rattle.markup.specs.declared.tag.Opening.{Opening}
 use Rattle.markup.specs.declared.event.Event.{Event}
 use Rattle.markup.specs.declared.scope.Stop.{Stop}
 use Rattle.markup.specs.declared.scope.Stop.TheVariants.{Rule as Breaks, Memory}
@@ -17,6 +18,14 @@ pub record IsContext (context : Context) (before : List Token) : Type 0 where
   pub root : context.has_root ≡ has_start before
   pub brackets_are : context.brackets ≡ brackets before
 
+-- no literal `]` stands last
+abbrev pub unbracketed : Context → Context
+unbracketed c = record { scope = c.scope; has_root = c.has_root; brackets = 0 }
+
+-- an element is open
+abbrev pub HasOpen : Context → Type 0
+HasOpen c = (tags : List Opening) → IsScope c.scope tags → (length tags == 0) ≡ false
+
 -- a token that breaks no rule
 pub record TakesToken (before : List Token) (t : Token) (place : ℕ) (old new : List Event) (context : Context) : Type 0 where
   pub clean : rule_of before t ≡ None
@@ -26,7 +35,7 @@ pub record TakesToken (before : List Token) (t : Token) (place : ℕ) (old new :
 -- A token is not taken, for this reason.
 abbrev pub StopsToken : List Token → Token → ℕ → List Event → List Event → Stop → Type 0
 StopsToken before t place old new (Breaks rule) = (rule_of before t ≡ Some rule) × (new ≡ old)
-StopsToken before t place old new Memory = TellsFront old new (placed_at place (items_of before t))
+StopsToken before t place old new Memory = TellsClean (rule_of before t) old new (placed_at place (items_of before t))
 
 -- A token at the place: its events are told, or the least rule that it breaks.
 abbrev pub TokenTaken : {T : Type 0} → List Token → Token → ℕ → List Event → List Event → Context → Result T Stop → Type 0

@@ -1,5 +1,6 @@
 -- The events that a reader tells, as the events of the definitions.
-use Rattle.std.specs.Prelude.{◌≡◌, List, ◌++◌, map}
+use Rattle.std.specs.Prelude.{◌≡◌, ◌⊎◌, List, ◌++◌, map, Option, None}
+use Rattle.lexical_core.specs.declared.rule.Rule.{Rule}
 use Rattle.lexical_core.specs.Tree.{Item, Entry, Starts, Char, Ends, Skipped}
 use Rattle.markup.specs.Events.{Placed}
 use Rattle.markup.specs.declared.event.Attr.{Attr}
@@ -34,3 +35,7 @@ pub record TellsFront (old new : List Event) (told : List Placed) : Type 0 where
   pub behind : List Placed
   pub front_is : told ≡ front ++ behind
   pub tells : Tells old new front
+
+-- A front of the events is told where memory has run out, and none of a token that breaks a rule.
+abbrev pub TellsClean : Option Rule → List Event → List Event → List Placed → Type 0
+TellsClean rule old new told = TellsFront old new told × ((rule ≡ None) ⊎ (new ≡ old))

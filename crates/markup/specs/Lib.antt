@@ -14,6 +14,7 @@ pub mod ReferenceScans
 pub mod ScanRuns
 pub mod Scans
 pub mod EventItems
+pub mod Literals
 pub mod Scopes
 pub mod Contexts
 pub mod TokenRules
@@ -22,3 +23,4 @@ pub mod Longest
 pub mod Reading
 pub mod ReaderSteps
 pub mod TagParts
+pub mod Bindings

@@ -1,17 +1,17 @@
 -- The two steps of a reader with a byte: what the byte does not go on with, and the byte itself. Private functions alone cite this.
-use Rattle.std.specs.Prelude.{◌≡◌, ℕ, List, [], ◌∷◌, ◌++◌, Some, Result, MatchResult, if◌then◌else◌}
+use Rattle.std.specs.Prelude.{◌≡◌, ℕ, true, List, [], ◌∷◌, ◌++◌, Some, Result, MatchResult, if◌then◌else◌}
 use Rattle.lexical_core.specs.Tree.{Char}
 use Rattle.markup.specs.Token.{Token}
 use Rattle.markup.specs.Events.{Placed, items_of}
 use Rattle.markup.specs.Faults.{rule_of}
-use Rattle.markup.specs.EventItems.{Tells, TellsFront}
+use Rattle.markup.specs.EventItems.{Tells, TellsClean}
 use Rattle.markup.specs.Scopes.{placed_at}
-use Rattle.markup.specs.Contexts.{TakesToken}
+use Rattle.markup.specs.Contexts.{TakesToken, HasOpen, unbracketed}
 use Rattle.markup.specs.declared.context.Context.{Context}
 use Rattle.markup.specs.declared.reader.MarkError.{MarkError}
 use Rattle.markup.specs.declared.reader.MarkError.TheVariants.{Refused, Memory}
 use Rattle.markup.specs.declared.tokenizer.Finish.{Finish}
-use Rattle.markup.specs.Tokenizers.{IsAwaited}
+use Rattle.markup.specs.Tokenizers.{IsAwaited, is_ready, passed}
 use Rattle.markup.specs.Inputs.{Begins, is_return}
 use Rattle.markup.specs.Reading.{Keeps}
 use Rattle.markup.specs.declared.event.Event.{Event}
@@ -36,8 +36,17 @@ returned f place = if is_return f then placed_at place (Char 10 ∷ []) else []
 -- A token is not taken, for this reason.
 abbrev pub TokenStopped : List Token → Token → ℕ → List Event → List Event → MarkError → Type 0
 TokenStopped before t place old new (Refused fault) = (rule_of before t ≡ Some fault.rule) × (fault.place ≡ place) × (new ≡ old)
-TokenStopped before t place old new Memory = TellsFront old new (placed_at place (items_of before t))
+TokenStopped before t place old new Memory = TellsClean (rule_of before t) old new (placed_at place (items_of before t))
 
 -- A token at the place: its events are told, or the fault that it is.
 abbrev pub TokenAnswered : {T : Type 0} → List Token → Token → ℕ → List Event → List Event → Context → Result T MarkError → Type 0
 TokenAnswered before t place old new context result = MatchResult result (λ _. TakesToken before t place old new context) (λ e. TokenStopped before t place old new e)
+
+-- A character may come next, and an element is open.
+pub record IsReady (reader : Reader) : Type 0 where
+  pub ready : is_ready reader.tokenizer ≡ true
+  pub inside : HasOpen reader.context
+
+-- so many bytes are taken, each of which is a character
+abbrev pub passed_over : Reader → ℕ → Reader
+passed_over r n = record { tokenizer = passed r.tokenizer n; context = unbracketed r.context; failed = r.failed }

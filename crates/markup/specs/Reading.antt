@@ -1,11 +1,11 @@
 -- What a reader has taken and told, and what it answers.
-use Rattle.std.specs.Prelude.{◌≡◌, ◌≢◌, ℕ, true, List, [], ◌++◌, length, reverse, Option, None}
+use Rattle.std.specs.Prelude.{◌≡◌, ◌≢◌, ℕ, true, false, List, [], ◌++◌, length, reverse, Option, None}
 use Rattle.lexical_core.specs.declared.rule.Rule.TheVariants.{Truncated}
 use Rattle.std.specs.List.{flat_map}
 use Rattle.markup.specs.Token.{Token, token_bytes}
 use Rattle.markup.specs.Marks.{Front, Marks, tag_limit}
 use Rattle.markup.specs.Events.{Placed, events}
-use Rattle.markup.specs.Faults.{IsClean, Fault, MarkFault, is_over}
+use Rattle.markup.specs.Faults.{IsClean, Fault, MarkFault, is_over, is_outside}
 use Rattle.markup.specs.Longest.{IsLongest}
 use Rattle.markup.specs.EventItems.{Tells}
 use Rattle.markup.specs.Tokenizers.{FinishesBy}
@@ -47,6 +47,16 @@ HasTaken reader bytes told = (tokens : List Token) × Keeps Any reader bytes tok
 abbrev pub AreEvents : List ℕ → List Placed → Type 0
 AreEvents bytes told = (tokens : List Token) × IsLongest bytes tokens × IsClean [] tokens × (told ≡ events [] 0 tokens)
 
+-- The bytes are whole tokens, whose events are told, and an element is open behind them.
+abbrev pub IsInside : Reader → List ℕ → List Placed → Type 0
+IsInside reader bytes told = (tokens : List Token) × Keeps Any reader bytes tokens told × (flat_map token_bytes tokens ≡ bytes) × (is_outside (reverse tokens) ≡ false)
+
+-- The reader has told the events of the bytes, which have no fault but that they end too early.
+pub record HasTold (reader : Reader) (bytes : List ℕ) (told : List Placed) : Type 0 where
+  pub taken_are : HasTaken reader bytes told
+  pub are_events : AreEvents bytes told
+  pub only_cut : (f : Fault) → MarkFault bytes f → f.rule ≡ Truncated
+
 -- The reader goes on: the new events are appended, and the bytes have no fault but that they end too early.
 pub record GoesOn (reader : Reader) (bytes : List ℕ) (told : List Placed) (old new : List Event) : Type 0 where
   pub more : List Placed
@@ -67,13 +77,14 @@ pub record Refuses (bytes : List ℕ) (told : List Placed) (old new : List Event
   pub has_fault : (behind : List ℕ) → MarkFault (bytes ++ behind) (fault_of fault)
   pub no_cut : fault.rule ≢ Truncated
 
--- There was no memory: a front of the events of some tokens of the bytes is appended.
+-- There was no memory: a front of the events of some tokens of the bytes, in which nothing breaks a rule, is appended.
 pub record RunsOut (bytes : List ℕ) (told : List Placed) (old new : List Event) : Type 0 where
   pub front : List Placed
   pub behind : List Placed
   pub tokens : List Token
   pub rest : List ℕ
   pub front_is : Front tag_limit [] bytes tokens rest
+  pub clean : IsClean [] tokens
   pub events_are : told ++ (front ++ behind) ≡ events [] 0 tokens
   pub tells : Tells old new front
 

@@ -11,7 +11,8 @@ use Rattle.markup.specs.declared.scope.Stop.{Stop}
 use Rattle.markup.specs.declared.scope.Stop.TheVariants.{Rule as Breaks, Memory}
 use Rattle.markup.specs.Events.{Placed, declared_prefix, start_items, end_items}
 use Rattle.markup.specs.Faults.{start_rule, end_rule}
-use Rattle.markup.specs.EventItems.{Tells, TellsFront}
+use Rattle.markup.specs.EventItems.{Tells, TellsClean}
+use Rattle.markup.specs.Bindings.{Binds}
 
 -- the attributes of a tag that declare a namespace
 abbrev pub declarations : List Given → List Given
@@ -27,14 +28,10 @@ abbrev pub all_declarations : List Opening → List Given
 all_declarations [] = []
 all_declarations (t ∷ tags) = declarations t.given ++ all_declarations tags
 
--- These are the declarations of these tags.
-pub record IsDeclared (declared : List Given) (tags : List Opening) : Type 0 where
-  pub are : reverse declared ≡ all_declarations tags
-
 -- These tags are open, the innermost first.
 pub record IsScope (scope : Scope) (tags : List Opening) : Type 0 where
   pub names : reverse scope.names.items ≡ map open_name tags
-  pub declared : reverse scope.declared.items ≡ all_declarations tags
+  pub declared : Binds scope.bindings (all_declarations tags)
 
 -- the items at one place
 abbrev pub placed_at : ℕ → List Item → List Placed
@@ -43,7 +40,7 @@ placed_at place items = map (λ i. record { place = place; item = i }) items
 -- A start tag is not told, for this reason.
 abbrev pub StopsStart : Bool → List Opening → Opening → ℕ → List Event → List Event → Stop → Type 0
 StopsStart over tags tag place old new (Breaks rule) = (start_rule over tags tag ≡ Some rule) × (new ≡ old)
-StopsStart over tags tag place old new Memory = TellsFront old new (placed_at place (start_items tags tag))
+StopsStart over tags tag place old new Memory = TellsClean (start_rule over tags tag) old new (placed_at place (start_items tags tag))
 
 -- a start tag that breaks no rule; the tag of an empty element opens and closes it
 pub record TakesStart (over : Bool) (tags : List Opening) (tag : Opening) (place : ℕ) (old new : List Event) (scope : Scope) : Type 0 where
@@ -58,7 +55,7 @@ Begins over tags tag place old new scope result = MatchResult result (λ _. Take
 -- An end tag is not told, for this reason.
 abbrev pub StopsEnd : List Opening → Spelled → ℕ → List Event → List Event → Stop → Type 0
 StopsEnd tags name place old new (Breaks rule) = (end_rule tags name ≡ Some rule) × (new ≡ old)
-StopsEnd tags name place old new Memory = TellsFront old new (placed_at place (end_items tags))
+StopsEnd tags name place old new Memory = TellsClean (end_rule tags name) old new (placed_at place (end_items tags))
 
 -- an end tag that breaks no rule
 pub record TakesEnd (tags : List Opening) (name : Spelled) (place : ℕ) (old new : List Event) (scope : Scope) : Type 0 where

@@ -1,5 +1,5 @@
 -- The declarations and the attributes of a start tag, apart. Private functions alone cite this.
-use Rattle.std.specs.Prelude.{◌≡◌, ℕ, length, Bool, ◌||◌, ◌&&◌, false, List, [], ◌∷◌, map, reverse, if◌then◌else◌, is_none, Option, Some, None}
+use Rattle.std.specs.Prelude.{◌≡◌, ℕ, length, Bool, ◌||◌, ◌&&◌, false, List, [], ◌∷◌, ◌++◌, map, reverse, if◌then◌else◌, is_none, Option, Some, None}
 use Rattle.std.specs.List.{list_any, filter_map}
 use Rattle.std.specs.Str.{bytes_eq}
 use Rattle.lexical_core.specs.Tree.{Expanded, Entry}
@@ -7,11 +7,13 @@ use Rattle.markup.specs.declared.tag.Given.{Given}
 use Rattle.markup.specs.declared.tag.Opening.{Opening}
 use Rattle.markup.specs.declared.scope.Resolved.{Resolved}
 use Rattle.markup.specs.declared.scope.Scope.{Scope}
+use Rattle.markup.specs.declared.bindings.Bindings.{Bindings}
 use Rattle.markup.specs.declared.attributes.Parted.{Parted}
 use Rattle.markup.specs.declared.attributes.Expanded.{Expanded as ExpandedAttributes}
 use Rattle.markup.specs.Events.{declared_prefix, namespace_of, attribute_name, put, entries}
 use Rattle.markup.specs.Faults.{same_declared, is_bad_declaration, has_clash, is_bad_attribute}
 use Rattle.markup.specs.EventItems.{entry_of}
+use Rattle.markup.specs.Bindings.{Binds}
 use Rattle.markup.specs.Scopes.{declarations, all_declarations, open_name}
 
 -- It declares no namespace.
@@ -64,12 +66,15 @@ named_entry value (Some name) = Some (record { name = name; value = value })
 abbrev pub entry_under : List Opening → Given → Option Entry
 entry_under tags a = named_entry a.value (attribute_name tags a.name)
 
--- the declarations and the attributes of a tag, the last first, and what is wrong with the declarations
+-- the attributes of a tag that declare none, the last first, and whether a declaration may not be
 pub record IsParted (given : List Given) (parts : Parted) : Type 0 where
-  pub declared : reverse parts.declared.items ≡ declarations given
   pub attributes : reverse parts.attributes.items ≡ plain_attributes given
-  pub clash : parts.has_clash ≡ declares_twice given
   pub bad : parts.is_bad ≡ list_any declares_badly given
+
+-- the declarations of a tag, open behind those before, and whether two are of one prefix
+pub record AreDeclared (before given : List Given) (parts : Parted) (kept : Bindings) : Type 0 where
+  pub kept_are : Binds kept (declarations given ++ before)
+  pub clash : parts.has_clash ≡ declares_twice given
 
 -- the attributes of a tag under these tags, its own the first, in the order of the tag
 pub record IsCollected (tags : List Opening) (plain : List Given) (expanded : ExpandedAttributes) : Type 0 where
@@ -85,7 +90,7 @@ pub record IsExpanded (tags : List Opening) (plain : List Given) (expanded : Exp
 -- a start tag under the tags that are open before it; the scope has its declarations, and not yet its name
 pub record IsResolved (tags : List Opening) (tag : Opening) (resolved : Resolved) (scope : Scope) : Type 0 where
   pub names : reverse scope.names.items ≡ map open_name tags
-  pub declarations_are : reverse scope.declared.items ≡ all_declarations (tag ∷ tags)
+  pub declarations_are : Binds scope.bindings (all_declarations (tag ∷ tags))
   pub count : resolved.declared ≡ length (declarations tag.given)
   pub namespace : resolved.namespace ≡ namespace_of (tag ∷ tags) tag.name.prefix
   pub entries : map entry_of resolved.attrs ≡ entries (tag ∷ tags) tag.given

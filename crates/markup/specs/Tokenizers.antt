@@ -164,6 +164,14 @@ is_between _ = false
 abbrev pub starts_plain : Tokenizer → ℕ → Bool
 starts_plain z byte = is_between z.scan && z.place == z.start && is_plain byte
 
+-- no token is open, and one begins behind another that is not the byte order mark
+abbrev pub is_ready : Tokenizer → Bool
+is_ready z = is_between z.scan && z.place == z.start
+
+-- so many bytes come, each of which is a token
+abbrev pub passed : Tokenizer → ℕ → Tokenizer
+passed z n = record { alloc = z.alloc; utf8 = z.utf8; position = z.position; scan = z.scan; draft = z.draft; start = z.place + n; place = z.place + n }
+
 -- The byte is a character that is the next token, and nothing was open before it.
 pub record TakesPlain (old new : Tokenizer) (byte : ℕ) : Type 0 where
   pub advances : AdvancesBy old new byte (EndedToken (CharacterEnded byte) no_draft)

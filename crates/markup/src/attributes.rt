@@ -1,27 +1,27 @@
 // The declarations and attributes of a start tag, and the attributes with expanded names
 // (Namespaces in XML 1.0 §6.3).
-ghost use Rattle.std.specs.Prelude.{◌≡◌, ◌++◌, ◌∷◌, List, [], IfOk, OnOk, Some, map, if◌then◌else◌, true, reverse};
-ghost use Rattle.std.specs.List.{list_any, list_all};
+ghost use Rattle.std.specs.Prelude.{◌≡◌, ◌++◌, ◌∷◌, List, [], IfOk, OnOk, Some, length, map, if◌then◌else◌, true, reverse};
+ghost use Rattle.std.specs.List.{list_all};
 ghost use Rattle.std.specs.Option.{option_copied};
 ghost use Rattle.std.specs.Str.{bytes_eq};
-ghost use Rattle.markup.specs.Events.{declared_prefix, same_prefix, name_cmp, namespace_of};
+ghost use Rattle.markup.specs.Events.{name_cmp, namespace_of};
 ghost use Rattle.markup.specs.EventItems.{entry_of};
-ghost use Rattle.markup.specs.Scopes.{IsDeclared};
-ghost use Rattle.markup.specs.TagParts.{IsParted, IsExpanded, IsCollected, is_plain, is_named, sorted_entries, begins_with, has_twins};
+ghost use Rattle.markup.specs.Bindings.{Binds};
+ghost use Rattle.markup.specs.Scopes.{all_declarations};
+ghost use Rattle.markup.specs.TagParts.{IsParted, AreDeclared, IsExpanded, IsCollected, is_plain, is_named, sorted_entries, begins_with, has_twins};
 
+use crate::bindings::Bindings;
 use crate::event::Attr;
-use crate::names::{bound_by, declared_prefix, is_bad_declaration, is_empty, namespace_of};
+use crate::names::{declared_prefix, is_bad_declaration, is_empty};
 use crate::tag::{Given, Opening};
 use lexical_core::{Items, Text};
 use std::alloc::{AllocError, Global};
 use std::cmp::Ordering;
 
-/// The attributes of a start tag, those that declare a namespace apart.
+/// The attributes of a start tag that declare no namespace, and what is wrong with those that do.
 #[derive(Drop)]
 pub(crate) struct Parted {
-    /// The declarations, the last of the tag first.
-    pub(crate) declared: Vec<Given>,
-    /// The other attributes, the last of the tag first.
+    /// The attributes, the last of the tag first.
     pub(crate) attributes: Vec<Given>,
     /// Whether two declarations are of one prefix.
     pub(crate) has_clash: bool,
@@ -30,44 +30,51 @@ pub(crate) struct Parted {
 }
 
 impl Parted {
-    /// The parts of a tag.
-    pub(crate) fn of(given: Items<Given>, alloc: Global) -> Result<Parted, AllocError>
-        ensures { IfOk result (IsParted given) }
+    /// The parts of a tag, whose declarations are opened.
+    pub(crate) fn of(
+        given: Items<Given>,
+        bindings: &mut Bindings,
+        alloc: Global,
+    ) -> Result<Parted, AllocError>
+        ensures parted { IfOk result (IsParted given) }
+        ensures declared { (before : List Given) → Binds bindings.old before → IfOk result (λ parts. AreDeclared before given parts bindings.new) }
     {
+        let outer = bindings.count();
         let mut parts = Parted {
-            declared: Vec::new(alloc),
             attributes: Vec::new(alloc),
             has_clash: false,
             is_bad: false,
         };
         let mut left = given.into_vec();
         while let Some(last) = left.pop() {
-            parts.add(last)?;
+            parts.add(last, outer, bindings, alloc)?;
         }
         Ok(parts)
     }
 
-    /// One more attribute, which stands before the others.
-    fn add(&mut self, first: Given) -> Result<(), AllocError>
-        ensures { (given : List Given) → IsParted given self.old → OnOk result (IsParted (first ∷ given) self.new) }
+    /// One more attribute, which stands before the others. `outer`: how many declarations were open
+    /// before the tag.
+    fn add(
+        &mut self,
+        first: Given,
+        outer: usize,
+        bindings: &mut Bindings,
+        alloc: Global,
+    ) -> Result<(), AllocError>
+        ensures parted { (given : List Given) → IsParted given self.old → OnOk result (IsParted (first ∷ given) self.new) }
+        ensures declared { (before given : List Given) → AreDeclared before given self.old bindings.old → outer ≡ length before → OnOk result (AreDeclared before (first ∷ given) self.new bindings.new) }
     {
         match declared_prefix(&first.name) {
             Some(prefix) => {
-                self.has_clash |= is_declared(self.declared.as_slice(), prefix);
+                self.has_clash |= bindings.is_declared_behind(outer, prefix);
                 self.is_bad |= is_bad_declaration(prefix, first.value.bytes());
-                self.declared.push(first)?;
+                let declared = text_of(prefix, alloc)?;
+                bindings.declare(declared, first.value)?;
             }
             None => self.attributes.push(first)?,
         }
         Ok(())
     }
-}
-
-/// Whether one of these declares the prefix.
-fn is_declared(declared: &[Given], prefix: &[u8]) -> bool
-    ensures { result ≡ list_any (λ (a : Given). same_prefix (declared_prefix a.name) prefix.now) (reverse declared.now) }
-{
-    bound_by(declared, prefix).is_some()
 }
 
 /// The attributes of a start tag as its event has them.
@@ -85,13 +92,13 @@ impl Expanded {
     /// The names of the attributes, expanded by the declarations of the open tags.
     pub(crate) fn of(
         attributes: Vec<Given>,
-        declared: &[Given],
+        bindings: &Bindings,
         alloc: Global,
     ) -> Result<Expanded, AllocError>
         requires { list_all is_plain (reverse attributes.items) ≡ true }
-        ensures { (tags : List Opening) → IsDeclared declared.now tags → IfOk result (IsExpanded tags (reverse attributes.items)) }
+        ensures { (tags : List Opening) → Binds bindings.now (all_declarations tags) → IfOk result (IsExpanded tags (reverse attributes.items)) }
     {
-        let mut expanded = Expanded::collected(attributes, declared, alloc)?;
+        let mut expanded = Expanded::collected(attributes, bindings, alloc)?;
         sort(&mut expanded.attrs)?;
         expanded.has_clash = has_twins(expanded.attrs.as_slice());
         Ok(expanded)
@@ -100,10 +107,10 @@ impl Expanded {
     /// The attributes in the order of the tag, and no clash told yet.
     fn collected(
         mut attributes: Vec<Given>,
-        declared: &[Given],
+        bindings: &Bindings,
         alloc: Global,
     ) -> Result<Expanded, AllocError>
-        ensures { (tags : List Opening) → IsDeclared declared.now tags → IfOk result (IsCollected tags (reverse attributes.items)) }
+        ensures { (tags : List Opening) → Binds bindings.now (all_declarations tags) → IfOk result (IsCollected tags (reverse attributes.items)) }
     {
         let mut expanded = Expanded {
             attrs: Vec::new(alloc),
@@ -111,16 +118,16 @@ impl Expanded {
             is_unbound: false,
         };
         while let Some(next) = attributes.pop() {
-            expanded.add(next, declared, alloc)?;
+            expanded.add(next, bindings, alloc)?;
         }
         Ok(expanded)
     }
 
     /// One more attribute, which stands behind the others.
-    fn add(&mut self, next: Given, declared: &[Given], alloc: Global) -> Result<(), AllocError>
-        ensures { (tags : List Opening) (plain : List Given) → IsDeclared declared.now tags → IsCollected tags plain self.old → OnOk result (IsCollected tags (plain ++ next ∷ []) self.new) }
+    fn add(&mut self, next: Given, bindings: &Bindings, alloc: Global) -> Result<(), AllocError>
+        ensures { (tags : List Opening) (plain : List Given) → Binds bindings.now (all_declarations tags) → IsCollected tags plain self.old → OnOk result (IsCollected tags (plain ++ next ∷ []) self.new) }
     {
-        let Some(namespace) = attribute_namespace(declared, next.name.prefix.bytes()) else {
+        let Some(namespace) = attribute_namespace(bindings, next.name.prefix.bytes()) else {
             self.is_unbound = true;
             return Ok(());
         };
@@ -134,13 +141,13 @@ impl Expanded {
 
 /// The namespace of an attribute with this prefix: a default namespace does not apply to it
 /// (Namespaces §6.2).
-fn attribute_namespace<'a>(declared: &'a [Given], prefix: &[u8]) -> Option<&'a [u8]>
-    ensures { (tags : List Opening) → IsDeclared declared.now tags → option_copied result ≡ (if bytes_eq prefix.now [] then Some [] else namespace_of tags prefix.now) }
+fn attribute_namespace<'a>(bindings: &'a Bindings, prefix: &[u8]) -> Option<&'a [u8]>
+    ensures { (tags : List Opening) → Binds bindings.now (all_declarations tags) → option_copied result ≡ (if bytes_eq prefix.now [] then Some [] else namespace_of tags prefix.now) }
 {
     if is_empty(prefix) {
         Some(b"")
     } else {
-        namespace_of(declared, prefix)
+        bindings.namespace_of(prefix)
     }
 }
 

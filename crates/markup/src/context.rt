@@ -1,13 +1,13 @@
 // What stands before a token: the open elements, whether the root has come, and the literal `]`
 // that stand last. It decides the rule that a token breaks and the events that it has.
-ghost use Rattle.std.specs.Prelude.{◌≡◌, ◌==◌, ◌<◌, ◌^◌, false, reverse, List, [], ◌∷◌, ℕ, OnOk, OnErr};
+ghost use Rattle.std.specs.Prelude.{◌≡◌, ◌==◌, ◌<◌, ◌^◌, false, reverse, List, [], ◌∷◌, ℕ, OnOk, OnErr, IsTrue};
 ghost use Rattle.lexical_core.specs.Tree.{Char};
 ghost use Rattle.markup.specs.Token.{Token, StartTag, Start, End, LineEnd, Line, Character};
 ghost use Rattle.markup.specs.Marks.{in_cdata};
 ghost use Rattle.markup.specs.Events.{opening, spelled};
 ghost use Rattle.markup.specs.EventItems.{Tells, TellsFront, item_of};
 ghost use Rattle.markup.specs.TokenRules.{inner_rule, inside_alone, inner_items, brackets_by, one_more, ends_tag};
-ghost use Rattle.markup.specs.Contexts.{IsContext, TokenTaken};
+ghost use Rattle.markup.specs.Contexts.{IsContext, TokenTaken, HasOpen, unbracketed};
 ghost use Rattle.markup.specs.Inputs.{settled_tokens, settled_events};
 ghost use Rattle.markup.specs.Scopes.{placed_at};
 ghost use Rattle.markup.specs.ScanRuns.{ended_of, draft_of};
@@ -75,6 +75,23 @@ impl Context {
         ensures { (before : List Token) → IsContext self.now before → result ≡ is_over before }
     {
         self.has_root && self.scope.is_outside()
+    }
+
+    /// Whether an element is open.
+    #[inline]
+    pub(crate) fn has_open(&self) -> bool
+        ensures open { IsTrue result → HasOpen self.now }
+        ensures inside { (before : List Token) → IsContext self.now before → is_outside before ≡ false → IsTrue result }
+    {
+        !self.scope.is_outside()
+    }
+
+    /// Passes over characters none of which is `]`.
+    #[inline]
+    pub(crate) fn pass_characters(&mut self)
+        ensures { self.new ≡ unbracketed self.old }
+    {
+        self.brackets = 0;
     }
 
     /// Tells the event of a CR that may go on with an LF.

@@ -4,11 +4,13 @@
 //! Namespaces in XML 1.0, in UTF-8, without document types, and with tags of at most a mebibyte.
 
 mod attributes;
+mod bindings;
 mod characters;
 mod context;
 mod draft;
 pub mod event;
 pub mod laws;
+mod literals;
 mod names;
 pub mod reader;
 mod reference;

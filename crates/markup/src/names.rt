@@ -1,12 +1,11 @@
 // Names of tags: which ones declare a namespace, and what a prefix stands for (Namespaces in XML 1.0).
-ghost use Rattle.std.specs.Prelude.{◌≡◌, List, reverse, [], Some, codes, not, if◌then◌else◌};
+ghost use Rattle.std.specs.Prelude.{◌≡◌, [], Some, codes, not, if◌then◌else◌};
 ghost use Rattle.std.specs.Str.{bytes_eq};
 ghost use Rattle.std.specs.Option.{option_copied};
-ghost use Rattle.markup.specs.Events.{declared_prefix, same_prefix, bound_by, namespace_of, xml_namespace};
+ghost use Rattle.markup.specs.Events.{declared_prefix, namespace_of, xml_namespace};
 ghost use Rattle.markup.specs.Faults.{is_bad_declaration};
-ghost use Rattle.markup.specs.Scopes.{IsDeclared};
 
-use crate::tag::{Given, Opening, Spelled};
+use crate::tag::Spelled;
 
 /// The name and prefix of declarations (Namespaces §3).
 const XMLNS: &[u8] = b"xmlns";
@@ -41,16 +40,6 @@ pub(crate) fn declared_prefix(name: &Spelled) -> Option<&[u8]>
     }
 }
 
-/// Whether the attribute declares this prefix.
-fn declares(given: &Given, prefix: &[u8]) -> bool
-    ensures { result ≡ same_prefix (declared_prefix given.now.name) prefix.now }
-{
-    match declared_prefix(&given.name) {
-        Some(declared) => declared == prefix,
-        None => false,
-    }
-}
-
 /// Whether of the prefix `xml` and its namespace one is bound without the other (Namespaces §3).
 fn is_xml_apart(prefix: &[u8], namespace: &[u8]) -> bool
     ensures { result ≡ (if bytes_eq prefix.now (codes "xml") then not (bytes_eq namespace.now xml_namespace) else bytes_eq namespace.now xml_namespace) }
@@ -73,22 +62,8 @@ pub(crate) fn is_bad_declaration(prefix: &[u8], namespace: &[u8]) -> bool
     !is_empty(prefix) && is_empty(namespace)
 }
 
-/// The namespace that the last of these declarations of the prefix binds it to.
-pub(crate) fn bound_by<'a>(declared: &'a [Given], prefix: &[u8]) -> Option<&'a [u8]>
-    ensures { option_copied result ≡ bound_by (reverse declared.now) prefix.now }
-{
-    let mut left = declared;
-    while let Some((last, others)) = left.split_last() {
-        if declares(last, prefix) {
-            return Some(last.value.bytes());
-        }
-        left = others;
-    }
-    None
-}
-
 /// The namespace that a prefix has without a declaration (Namespaces §3, §6.2).
-fn bound_ahead(prefix: &[u8]) -> Option<&'static [u8]>
+pub(crate) fn bound_ahead(prefix: &[u8]) -> Option<&'static [u8]>
     ensures { option_copied result ≡ namespace_of [] prefix.now }
 {
     if is_empty(prefix) {
@@ -97,16 +72,5 @@ fn bound_ahead(prefix: &[u8]) -> Option<&'static [u8]>
         Some(XML_NAMESPACE)
     } else {
         None
-    }
-}
-
-/// The namespace of a prefix, the empty one for the default, by the declarations of the open tags,
-/// the innermost last; `None` where it is not bound (Namespaces §6.1, §6.2).
-pub(crate) fn namespace_of<'a>(declared: &'a [Given], prefix: &[u8]) -> Option<&'a [u8]>
-    ensures { (tags : List Opening) → IsDeclared declared.now tags → option_copied result ≡ namespace_of tags prefix.now }
-{
-    match bound_by(declared, prefix) {
-        Some(bound) => Some(bound),
-        None => bound_ahead(prefix),
     }
 }

@@ -1,5 +1,6 @@
 // A reader of XML that takes a byte at a time.
-ghost use Rattle.std.specs.Prelude.{◌≡◌, ◌<◌, ◌≤◌, ◌^◌, ◌+◌, ◌∷◌, ◌++◌, ℕ, List, [], IfOk, IfErr, OnOk, IsTrue, IsFalse, Some, None, Err};
+ghost use Rattle.std.specs.Prelude.{◌≡◌, ◌<◌, ◌≤◌, ◌^◌, ◌+◌, ◌∷◌, ◌++◌, ℕ, List, [], IfOk, IfErr, OnOk, IsTrue, IsFalse, Some, None, Err, length, take};
+ghost use Rattle.std.specs.List.{prefix_len};
 ghost use Rattle.lexical_core.specs.declared.rule.Rule.TheVariants.{Truncated};
 ghost use Rattle.markup.specs.Token.{Token};
 ghost use Rattle.markup.specs.Marks.{in_cdata};
@@ -8,15 +9,17 @@ ghost use Rattle.markup.specs.ScanRuns.{ended_of, draft_of};
 ghost use Rattle.markup.specs.declared.scan.Ended.TheVariants.{Character};
 ghost use Rattle.markup.specs.Contexts.{IsContext};
 ghost use Rattle.markup.specs.Tokenizers.{IsAwaited, FinishesBy};
-ghost use Rattle.markup.specs.ReaderSteps.{TellsMore, SettlesEvents, TokenAnswered, returned};
+ghost use Rattle.markup.specs.ReaderSteps.{TellsMore, SettlesEvents, TokenAnswered, returned, IsReady};
+ghost use Rattle.markup.specs.Literals.{is_literal, characters_from};
 ghost use Rattle.markup.specs.Events.{Placed};
 ghost use Rattle.markup.specs.EventItems.{Tells};
-ghost use Rattle.markup.specs.Reading.{taken, failed, HasTaken, Keeps, GoesOn, Stops, IsWholly, EndsEarly, RunsOut};
+ghost use Rattle.markup.specs.Reading.{taken, failed, HasTaken, HasTold, IsInside, Keeps, GoesOn, Stops, IsWholly, EndsEarly, RunsOut};
 ghost use Rattle.markup.specs.Inputs.{Any, Begins, is_return};
 
 use crate::context::Context;
 use crate::draft::Draft;
 use crate::event::Events;
+use crate::literals::literal_length;
 use crate::scan::Ended;
 use crate::scope::Stop;
 use crate::tokenizer::{Finish, Progress, Settled, Tokenizer};
@@ -84,6 +87,49 @@ impl Reader {
             self.failed = Some(error);
         }
         result
+    }
+
+    /// Takes the bytes at the front of the piece that are characters by themselves, where an element
+    /// is open and no token is: those from 0x20 to 0x7F up to the first `<`, `&`, `]` or `>`. Each
+    /// is a character at its place, told by their number alone; any other byte is for `take`. It
+    /// answers how many they are, and after an error 0. It takes no memory.
+    pub fn take_characters(&mut self, piece: &[u8]) -> usize
+        requires { failed self.old ≡ None → taken self.old + length piece.now ≤ 2 ^ 40 }
+        ensures within { result ≤ length piece.now }
+        ensures only { result ≤ prefix_len is_literal piece.now }
+        ensures taken { (bytes : List ℕ) (told : List Placed) → HasTaken self.old bytes told →
+            HasTold self.new (bytes ++ take result piece.now) (told ++ characters_from (length bytes) (take result piece.now)) }
+        ensures all { (bytes : List ℕ) (told : List Placed) → IsInside self.old bytes told → result ≡ prefix_len is_literal piece.now }
+        ensures count { taken self.new ≡ taken self.old + result }
+        ensures failed { failed self.new ≡ failed self.old }
+        ensures again { (e : MarkError) → failed self.old ≡ Some e → (result ≡ 0) × (self.new ≡ self.old) }
+    {
+        let count = self.count_characters(piece);
+        if count > 0 {
+            self.tokenizer.pass(count as u64);
+            self.context.pass_characters();
+        }
+        count
+    }
+
+    /// How many bytes at the front of the piece are characters by themselves.
+    fn count_characters(&self, piece: &[u8]) -> usize
+        ensures within { result ≤ length piece.now }
+        ensures only { result ≤ prefix_len is_literal piece.now }
+        ensures ready { 0 < result → IsReady self.now }
+        ensures sound { 0 < result → failed self.now ≡ None }
+        ensures all { (bytes : List ℕ) (told : List Placed) → IsInside self.now bytes told → result ≡ prefix_len is_literal piece.now }
+    {
+        if self.failed.is_some() {
+            return 0;
+        }
+        if !self.tokenizer.is_ready() {
+            return 0;
+        }
+        if !self.context.has_open() {
+            return 0;
+        }
+        literal_length(piece)
     }
 
     /// The end of the input. It appends no event. It answers Ok where the bytes are whole, and

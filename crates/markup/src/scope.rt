@@ -1,13 +1,14 @@
 // The elements that are open, with the namespaces that their tags declare.
-ghost use Rattle.std.specs.Prelude.{◌≡◌, ◌==◌, ◌-◌, ◌++◌, ◌∷◌, List, [], ℕ, length, take, IfOk, OnOk, OnErr, Some, Option, map, false, true, ◌&&◌};
+ghost use Rattle.std.specs.Prelude.{◌≡◌, ◌==◌, ◌++◌, ◌∷◌, List, [], ℕ, length, drop, IfOk, OnOk, OnErr, Some, Option, map, false, true, ◌&&◌};
 ghost use Rattle.markup.specs.Events.{namespace_of, element_name, started, ended, expanded};
 ghost use Rattle.markup.specs.EventItems.{entry_of, Tells, TellsFront};
-ghost use Rattle.markup.specs.Scopes.{IsDeclared, placed_at};
+ghost use Rattle.markup.specs.Bindings.{Binds};
+ghost use Rattle.markup.specs.Scopes.{all_declarations, placed_at};
 ghost use Rattle.std.specs.Str.{bytes_eq};
 
 use crate::attributes::{Expanded, Parted, text_of};
+use crate::bindings::Bindings;
 use crate::event::{Attrs, Events};
-use crate::names::namespace_of;
 use crate::tag::{Given, Opening, Spelled};
 use crate::telling::{tell_both, tell_end, tell_start};
 use lexical_core::{Items, Rule, Text};
@@ -47,8 +48,8 @@ pub(crate) struct Resolved {
 pub(crate) struct Scope {
     alloc: Global,
     names: Vec<OpenName>,
-    /// The declarations of the open tags: the outermost tag's first, and those of one tag in reverse.
-    declared: Vec<Given>,
+    /// The declarations of the open tags.
+    bindings: Bindings,
 }
 
 impl Scope {
@@ -62,7 +63,7 @@ impl Scope {
         Scope {
             alloc,
             names: Vec::new(alloc),
-            declared: Vec::new(alloc),
+            bindings: Bindings::new(alloc),
         }
     }
 
@@ -128,23 +129,17 @@ impl Scope {
     fn resolve(&mut self, name: &Spelled, given: Items<Given>) -> Result<Resolved, AllocError>
         ensures { (tags : List Opening) (tag : Opening) → IsScope self.old tags → tag.name ≡ name.now → tag.given ≡ given → IfOk result (λ r. IsResolved tags tag r self.new) }
     {
-        let Parted {
-            mut declared,
-            attributes,
-            has_clash,
-            is_bad,
-        } = Parted::of(given, self.alloc)?;
-        let count = declared.len();
-        self.declared.append(&mut declared)?;
-        let all = self.declared.as_slice();
-        let namespace = namespace_text(all, name.prefix.bytes(), self.alloc)?;
-        let expanded = Expanded::of(attributes, all, self.alloc)?;
+        let outer = self.bindings.count();
+        let parts = Parted::of(given, &mut self.bindings, self.alloc)?;
+        let declared = self.bindings.count().saturating_sub(outer);
+        let namespace = namespace_text(&self.bindings, name.prefix.bytes(), self.alloc)?;
+        let expanded = Expanded::of(parts.attributes, &self.bindings, self.alloc)?;
         Ok(Resolved {
             namespace,
             attrs: Items::from_vec(expanded.attrs),
-            declared: count,
-            has_clash: has_clash | expanded.has_clash,
-            is_bad: is_bad | expanded.is_unbound,
+            declared,
+            has_clash: parts.has_clash | expanded.has_clash,
+            is_bad: parts.is_bad | expanded.is_unbound,
         })
     }
 
@@ -159,7 +154,7 @@ impl Scope {
         out: &mut Events,
     ) -> Result<(), AllocError>
         ensures names { OnOk result (self.new.names.items ≡ self.old.names.items ++ (record { name = name; declared = declared }) ∷ []) }
-        ensures declared { self.new.declared.items ≡ self.old.declared.items }
+        ensures declared { self.new.bindings ≡ self.old.bindings }
         ensures ok { OnOk result (Tells out.old out.new (placed_at place (started (expanded (Some ns) name.local) (map entry_of attrs) false))) }
         ensures err { OnErr result (out.new ≡ out.old) }
     {
@@ -180,21 +175,12 @@ impl Scope {
         out: &mut Events,
     ) -> Result<(), AllocError>
         ensures names { self.new.names.items ≡ self.old.names.items }
-        ensures declared { self.new.declared.items ≡ take (length self.old.declared.items - declared) self.old.declared.items }
+        ensures declared { (before : List Given) → Binds self.old.bindings before → Binds self.new.bindings (drop declared before) }
         ensures ok { OnOk result (Tells out.old out.new (placed_at place (started (expanded (Some ns) name.local) (map entry_of attrs) true))) }
         ensures err { OnErr result (TellsFront out.old out.new (placed_at place (started (expanded (Some ns) name.local) (map entry_of attrs) true))) }
     {
-        self.forget(declared);
+        self.bindings.forget(declared);
         tell_both(out, place, ns, name.local, attrs, self.alloc)
-    }
-
-    /// Forgets this many declarations, the latest ones.
-    fn forget(&mut self, count: usize)
-        ensures names { self.new.names.items ≡ self.old.names.items }
-        ensures declared { self.new.declared.items ≡ take (length self.old.declared.items - count) self.old.declared.items }
-    {
-        let left = self.declared.len().saturating_sub(count);
-        self.declared.truncate(left);
     }
 
     /// An end tag at the place: tells its event, or the rule that it breaks (XML 1.0 §3.1, Element
@@ -217,26 +203,26 @@ impl Scope {
     /// Tells that the innermost element ends, whose name was taken away, and forgets its declarations.
     fn end(&mut self, innermost: OpenName, place: u64, out: &mut Events) -> Result<(), AllocError>
         ensures names { self.new.names.items ≡ self.old.names.items }
-        ensures declared { OnOk result (self.new.declared.items ≡ take (length self.old.declared.items - innermost.declared) self.old.declared.items) }
-        ensures ok { (tags : List Opening) → IsDeclared self.old.declared.items tags → OnOk result (Tells out.old out.new (placed_at place (ended (element_name tags innermost.name)))) }
+        ensures declared { (before : List Given) → Binds self.old.bindings before → OnOk result (Binds self.new.bindings (drop innermost.declared before)) }
+        ensures ok { (tags : List Opening) → Binds self.old.bindings (all_declarations tags) → OnOk result (Tells out.old out.new (placed_at place (ended (element_name tags innermost.name)))) }
         ensures err { OnErr result (out.new ≡ out.old) }
     {
         let prefix = innermost.name.prefix.bytes();
-        let namespace = namespace_text(self.declared.as_slice(), prefix, self.alloc)?;
-        self.forget(innermost.declared);
+        let namespace = namespace_text(&self.bindings, prefix, self.alloc)?;
+        self.bindings.forget(innermost.declared);
         tell_end(out, place, namespace, innermost.name.local)
     }
 }
 
 /// The namespace of a prefix as a text of its own; `None` where it is not bound.
 fn namespace_text(
-    declared: &[Given],
+    bindings: &Bindings,
     prefix: &[u8],
     alloc: Global,
 ) -> Result<Option<Text>, AllocError>
-    ensures { (tags : List Opening) → IsDeclared declared.now tags → IfOk result (λ (n : Option (List ℕ)). n ≡ namespace_of tags prefix.now) }
+    ensures { (tags : List Opening) → Binds bindings.now (all_declarations tags) → IfOk result (λ (n : Option (List ℕ)). n ≡ namespace_of tags prefix.now) }
 {
-    match namespace_of(declared, prefix) {
+    match bindings.namespace_of(prefix) {
         Some(namespace) => Ok(Some(text_of(namespace, alloc)?)),
         None => Ok(None),
     }

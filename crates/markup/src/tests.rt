@@ -1,4 +1,6 @@
 // The worked texts: their faults and events; hostile texts, which are answered as well.
+mod runs;
+
 use crate::{Attr, Attrs, Events, MarkError, Reader, What};
 use lexical_core::Rule;
 use std::alloc::{AllocError, Global};

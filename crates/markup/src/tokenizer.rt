@@ -1,5 +1,5 @@
 // Tokens of bytes that come one at a time.
-ghost use Rattle.std.specs.Prelude.{◌≡◌, ℕ, ◌<◌, ◌^◌, ◌+◌, List, [], IfOk, IsTrue, IsFalse};
+ghost use Rattle.std.specs.Prelude.{◌≡◌, ℕ, ◌<◌, ◌≤◌, ◌^◌, ◌+◌, List, [], IfOk, IsTrue, IsFalse};
 ghost use Rattle.markup.specs.Token.{Token};
 ghost use Rattle.markup.specs.Tokenizers.{is_plain};
 
@@ -148,7 +148,7 @@ impl Scan {
 
 impl Tokenizer {
     ghost use Rattle.markup.specs.TokenRules.{is_cdata};
-    ghost use Rattle.markup.specs.Tokenizers.{bounded, ended, charactered, AdvancedBy, AdvancesBy, IsOpen, restarted, settled, SettlesBy, open_at, FinishesBy, starts_plain, TakesPlain};
+    ghost use Rattle.markup.specs.Tokenizers.{bounded, ended, charactered, AdvancedBy, AdvancesBy, IsOpen, restarted, settled, SettlesBy, open_at, FinishesBy, starts_plain, TakesPlain, is_ready, passed};
 
     /// A reader before the first byte. It takes no memory.
     pub(crate) fn new(alloc: Global) -> Tokenizer
@@ -332,6 +332,24 @@ impl Tokenizer {
         self.place += 1;
         self.start = self.place;
         true
+    }
+
+    /// Whether no token is open, and one begins behind another that is not the byte order mark.
+    #[inline]
+    pub(crate) fn is_ready(&self) -> bool
+        ensures { result ≡ is_ready self.now }
+    {
+        self.scan.is_between() && self.place == self.start
+    }
+
+    /// Passes over so many bytes, each of which is a token by itself.
+    #[inline]
+    pub(crate) fn pass(&mut self, count: u64)
+        requires { self.old.place + count ≤ 2 ^ 40 }
+        ensures { self.new ≡ passed self.old count }
+    {
+        self.place += count;
+        self.start = self.place;
     }
 
     /// Takes a byte: it gives the next token where it ends it, and the next fault where it shows

@@ -1,0 +1,135 @@
+// The declarations of the open tags, with a look-up by the prefix (Namespaces in XML 1.0 §6.1).
+ghost use Rattle.std.specs.Prelude.{◌≡◌, ◌∷◌, ◌++◌, List, [], ℕ, length, drop, Some, OnOk, IsSome, if◌then◌else◌};
+ghost use Rattle.std.specs.List.{list_any};
+ghost use Rattle.std.specs.Option.{option_copied};
+ghost use Rattle.std.specs.Str.{bytes_eq};
+ghost use Rattle.markup.specs.Events.{declared_prefix, bound_by, namespace_of};
+ghost use Rattle.markup.specs.Bindings.{Binds, place_in, declares};
+ghost use Rattle.markup.specs.Scopes.{all_declarations};
+
+use crate::names::bound_ahead;
+use crate::tag::{Given, Opening};
+use lexical_core::Text;
+use std::alloc::{AllocError, Global};
+use std::collections::BTreeMap;
+
+/// A declaration that is open.
+#[derive(Drop)]
+pub(crate) struct Binding {
+    prefix: Text,
+    namespace: Text,
+    /// The place of the latest declaration of the prefix before this one.
+    former: Option<usize>,
+}
+
+/// The declarations of the open tags. Of those of one prefix the latest binds it.
+#[derive(Drop)]
+pub(crate) struct Bindings {
+    alloc: Global,
+    /// The outermost tag's first, and those of one tag in reverse.
+    open: Vec<Binding>,
+    /// The place of each prefix's latest declaration.
+    latest: BTreeMap<Vec<u8>, usize>,
+}
+
+impl Bindings {
+    /// Nothing is declared. It takes no memory.
+    pub(crate) fn new(alloc: Global) -> Bindings
+        ensures { Binds result [] }
+    {
+        Bindings {
+            alloc,
+            open: Vec::new(alloc),
+            latest: BTreeMap::new(alloc),
+        }
+    }
+
+    /// How many declarations are open.
+    pub(crate) fn count(&self) -> usize
+        ensures { (declared : List Given) → Binds self.now declared → result ≡ length declared }
+    {
+        self.open.len()
+    }
+
+    /// Whether a declaration of the prefix is open behind the outermost ones, which are this many.
+    pub(crate) fn is_declared_behind(&self, outer: usize, prefix: &[u8]) -> bool
+        ensures { (own before : List Given) → Binds self.now (own ++ before) → outer ≡ length before → result ≡ list_any (declares prefix.now) own }
+    {
+        match self.latest.get(prefix) {
+            Some(place) => *place >= outer,
+            None => false,
+        }
+    }
+
+    /// Opens a declaration that binds the prefix to the namespace. Behind an error the declarations are
+    /// of no more use.
+    pub(crate) fn declare(&mut self, prefix: Text, namespace: Text) -> Result<(), AllocError>
+        ensures { (declared : List Given) (given : Given) → Binds self.old declared → declared_prefix given.name ≡ Some prefix → given.value ≡ namespace → OnOk result (Binds self.new (given ∷ declared)) }
+    {
+        let key = prefix.copy(self.alloc)?.into_vec();
+        let former = self.latest.insert(key, self.open.len())?;
+        self.open.push(Binding {
+            prefix,
+            namespace,
+            former,
+        })?;
+        Ok(())
+    }
+
+    /// Closes this many declarations, the latest ones.
+    pub(crate) fn forget(&mut self, count: usize)
+        ensures { (declared : List Given) → Binds self.old declared → Binds self.new (drop count declared) }
+    {
+        for _closed in 0..count {
+            self.forget_latest();
+        }
+    }
+
+    /// Closes the latest declaration, so that its prefix is bound as before.
+    fn forget_latest(&mut self)
+        ensures { (declared : List Given) → Binds self.old declared → Binds self.new (drop 1 declared) }
+    {
+        let Some(last) = self.open.pop() else {
+            return;
+        };
+        match last.former {
+            Some(place) => set_place(&mut self.latest, last.prefix.bytes(), place),
+            None => {
+                let _ = self.latest.remove(last.prefix.bytes());
+            }
+        }
+    }
+
+    /// The namespace that the latest declaration of the prefix binds it to.
+    fn bound_by<'a>(&'a self, prefix: &[u8]) -> Option<&'a [u8]>
+        ensures { (declared : List Given) → Binds self.now declared → option_copied result ≡ bound_by declared prefix.now }
+    {
+        let Some(place) = self.latest.get(prefix) else {
+            return None;
+        };
+        match self.open.get(*place) {
+            Some(binding) => Some(binding.namespace.bytes()),
+            None => None,
+        }
+    }
+
+    /// The namespace of a prefix, the empty one for the default; `None` where it is not bound
+    /// (Namespaces §6.1, §6.2).
+    pub(crate) fn namespace_of<'a>(&'a self, prefix: &[u8]) -> Option<&'a [u8]>
+        ensures { (tags : List Opening) → Binds self.now (all_declarations tags) → option_copied result ≡ namespace_of tags prefix.now }
+    {
+        match self.bound_by(prefix) {
+            Some(bound) => Some(bound),
+            None => bound_ahead(prefix),
+        }
+    }
+}
+
+/// Changes the place of a prefix that has one.
+fn set_place(places: &mut BTreeMap<Vec<u8>, usize>, prefix: &[u8], place: usize)
+    ensures { IsSome (place_in places.old prefix.now) → (q : List ℕ) → place_in places.new q ≡ (if bytes_eq prefix.now q then Some place else place_in places.old q) }
+{
+    if let Some(kept) = places.get_mut(prefix) {
+        *kept = place;
+    }
+}
