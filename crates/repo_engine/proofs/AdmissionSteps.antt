@@ -1,11 +1,11 @@
 -- What one event does to what is left of the events.
-use Rattle.std.proofs.Common.{◌≡◌, ℕ, ◌<◌, ◌↔◌, Bool, true, false, IsTrue, List, [], ◌∷◌, refl, sym, subst, ◌∙◌, arith, ltb}
+use Rattle.std.proofs.Common.{◌≡◌, ℕ, suc, ◌-◌, ◌<◌, ◌≤◌, ◌↔◌, Bool, true, false, IsTrue, List, [], ◌∷◌, ◌++◌, length, refl, sym, subst, ◌∙◌, arith, ltb, leb}
 use Rattle.std.proofs.lemmas.Bool.Decides.{nat_tests}
 use Rattle.lexical_core.specs.Tree.{Expanded, Entry as Attribute, Item, Starts, Char, Ends, Skipped}
 use Rattle.markup.specs.Chars.{is_space}
 use Rattle.repo_engine.specs.XmlInstance.{named}
 use Rattle.repo_engine.specs.XmlForm.{Field}
-use Rattle.repo_engine.specs.Admission.{Opens, one_more, Follows, stage_if}
+use Rattle.repo_engine.specs.Admission.{Opens, one_more, many_more, characters_of, Follows, stage_if}
 use Rattle.repo_engine.specs.declared.instance.admission.Stage.{Stage}
 use Rattle.repo_engine.specs.declared.instance.admission.Stage.TheVariants.{InMessage, InElement, BehindMessage, Stopped}
 
@@ -42,6 +42,50 @@ module _ (ns tag : List ℕ) where
   goes_more s f fs e is = goes (ltb 0 f.most) InElement s (one_more f) fs (0 < f.most) e (positive f.most) is where
     positive : (n : ℕ) → IsTrue (ltb 0 n) ↔ (0 < n)
     positive n = (λ t. grind (arith, nat_tests), λ t. grind (arith, nat_tests))
+
+  -- many more of them
+  field_same : (t : List ℕ) (a b c d : ℕ) → a ≡ c → b ≡ d → ◌≡◌ {A = Field} (record { tag = t; least = a; most = b }) (record { tag = t; least = c; most = d })
+  field_same t a b c d e k = cc
+
+  none_more : (f : Field) → many_more 0 f ≡ f
+  none_more f = field_same f.tag (f.least - 0) (f.most - 0) f.least f.most (omega arith) (omega arith)
+
+  follows_run : (cs : List ℕ) (f : Field) (fs : List Field) (is : List Item) → Follows ns tag InElement f fs (characters_of cs ++ is) ↔ ((length cs ≤ f.most) × Follows ns tag InElement (many_more (length cs) f) fs is)
+  follows_run [] f fs is = (
+    λ h. (omega arith, subst (λ (g : Field). Follows ns tag InElement g fs is) (sym (none_more f)) h),
+    λ h. subst (λ (g : Field). Follows ns tag InElement g fs is) (none_more f) h.1,
+  )
+  follows_run (c ∷ cs) f fs is =
+      let again = follows_run cs (one_more f) fs is in
+      let e : many_more (length cs) (one_more f) ≡ many_more (length (c ∷ cs)) f = one_longer cs c f in (
+        λ h. let k = again.0 h.1 in (room (length cs) f.most h.0 k.0, subst (λ (g : Field). Follows ns tag InElement g fs is) e k.1),
+        λ h. (some (length cs) f.most h.0, again.1 (left (length cs) f.most h.0, subst (λ (g : Field). Follows ns tag InElement g fs is) (sym e) h.1)),
+      ) where
+        one_longer : (cs : List ℕ) (c : ℕ) (f : Field) → many_more (length cs) (one_more f) ≡ many_more (length (c ∷ cs)) f
+        one_longer cs c f = field_same f.tag ((f.least - 1) - length cs) ((f.most - 1) - length cs) (f.least - length (c ∷ cs)) (f.most - length (c ∷ cs)) (omega arith) (omega arith)
+
+        room : (n m : ℕ) → 0 < m → n ≤ m - 1 → suc n ≤ m
+        room n m h k = omega arith
+
+        some : (n m : ℕ) → suc n ≤ m → 0 < m
+        some n m h = omega arith
+
+        left : (n m : ℕ) → suc n ≤ m → n ≤ m - 1
+        left n m h = omega arith
+
+  goes_run : (cs : List ℕ) (s : Stage) (f : Field) (fs : List Field) → s ≡ stage_if (leb (length cs) f.most) InElement → (is : List Item)
+      → Follows ns tag InElement f fs (characters_of cs ++ is) ↔ Follows ns tag s (many_more (length cs) f) fs is
+  goes_run cs s f fs e is =
+      let a = follows_run cs f fs is in
+      let b = goes (leb (length cs) f.most) InElement s (many_more (length cs) f) fs (length cs ≤ f.most) e (within (length cs) f.most) is in
+      (λ h. b.0 (a.0 h), λ h. a.1 (b.1 h)) where
+        within : (n m : ℕ) → IsTrue (leb n m) ↔ (n ≤ m)
+        within n m = (λ t. grind (arith, nat_tests), λ t. grind (arith, nat_tests))
+
+  pub goes_text : (cs : List ℕ) (n : ℕ) (s : Stage) (f : Field) (fs : List Field) → length cs ≡ n → s ≡ stage_if (leb n f.most) InElement → (is : List Item)
+      → Follows ns tag InElement f fs (characters_of cs ++ is) ↔ Follows ns tag s (many_more n f) fs is
+  goes_text cs n s f fs k e is =
+      subst (λ (m : ℕ). s ≡ stage_if (leb m f.most) InElement → Follows ns tag InElement f fs (characters_of cs ++ is) ↔ Follows ns tag s (many_more m f) fs is) k (λ d. goes_run cs s f fs d is) e
 
   -- ---- inside the message's element
 

@@ -1,15 +1,16 @@
 -- An instance that is read a byte at a time: its events are compared with the form as they come.
-use Rattle.std.proofs.Common.{◌≡◌, ℕ, ◌+◌, ◌↔◌, List, [], ◌∷◌, ◌++◌, length, map, refl, sym, ◌∙◌, ap, subst, append_assoc, append-nil, length-append}
-use Rattle.std.proofs.lemmas.List.{map-append}
-use Rattle.lexical_core.specs.Tree.{Item}
+use Rattle.std.proofs.Common.{◌≡◌, ℕ, ◌+◌, ◌↔◌, List, [], ◌∷◌, ◌++◌, length, map, take, drop, refl, sym, ◌∙◌, ap, subst, append_assoc, append-nil, length-append}
+use Rattle.std.proofs.lemmas.List.{map-append, take-append-drop}
+use Rattle.lexical_core.specs.Tree.{Item, Char}
 use Rattle.markup.specs.Events.{Placed}
 use Rattle.markup.specs.EventItems.{placed, item_of, Tells}
 use Rattle.markup.specs.Faults.{MarkFault}
-use Rattle.markup.specs.Reading.{GoesOn, Refuses, taken, fault_of}
+use Rattle.markup.specs.Literals.{characters_from}
+use Rattle.markup.specs.Reading.{GoesOn, HasTold, Refuses, taken, fault_of}
 use Rattle.markup.specs.declared.event.Event.{Event}
 use Rattle.markup.specs.declared.reader.MarkFault.{MarkFault as Told}
 use Rattle.repo_engine.specs.XmlForm.{Form, FitsItems}
-use Rattle.repo_engine.specs.Admission.{Remains}
+use Rattle.repo_engine.specs.Admission.{Remains, characters_of}
 use Rattle.repo_engine.specs.XmlReading.{items_told, items_of, HasRead, Shows}
 use Rattle.repo_engine.specs.declared.instance.xml_progress.XmlProgress.{XmlProgress}
 
@@ -39,6 +40,22 @@ read_on form old new bytes byte events h g n r e = record {
   none = e;
 }
 
+-- a run of characters, told by their number
+items_run : (place : ℕ) (cs : List ℕ) → items_told (characters_from place cs) ≡ characters_of cs
+items_run place [] = refl
+items_run place (c ∷ cs) = ap (λ v. Char c ∷ v) (items_run (place + 1) cs)
+
+pub read_run : (form : Form) (old new : XmlProgress) (bytes run : List ℕ) (h : HasRead form old bytes) → HasTold new.reader (bytes ++ run) (h.told ++ characters_from (length bytes) run)
+    → taken new.reader ≡ taken old.reader + length run → ((items : List Item) → Remains old.admission (characters_of run ++ items) ↔ Remains new.admission items) → new.events ≡ old.events → HasRead form new (bytes ++ run)
+read_run form old new bytes run h g n r e = record {
+  told = h.told ++ characters_from (length bytes) run;
+  given = g.taken_are;
+  counted = n ∙ (ap (λ v. v + length run) h.counted ∙ sym (length-append bytes run));
+  remains = λ items. subst (λ v. FitsItems form v ↔ Remains new.admission items) (sym (items_more h.told (characters_from (length bytes) run) items ∙ ap (λ v. items_told h.told ++ (v ++ items)) (items_run (length bytes) run)))
+      ((λ f. (r items).0 ((h.remains (characters_of run ++ items)).0 f)), (λ f. (h.remains (characters_of run ++ items)).1 ((r items).1 f)));
+  none = e ∙ h.none;
+}
+
 pub shows_of : (bytes : List ℕ) (told : List Placed) (old new : List Event) (fault : Told) → Refuses bytes told old new fault → Shows bytes fault
 shows_of bytes told old new fault k = record { has_fault = k.has_fault; no_cut = k.no_cut }
 
@@ -53,6 +70,14 @@ pub record ReadSoFar (form : Form) (progress : XmlProgress) (bytes piece rest : 
 
 pub nothing_seen : (form : Form) (progress : XmlProgress) (bytes piece : List ℕ) → HasRead form progress bytes → ReadSoFar form progress bytes piece piece
 nothing_seen form progress bytes piece h = record { seen = []; piece_is = refl; read = subst (HasRead form progress) (sym (append-nil bytes)) h }
+
+-- a run at the front of the rest is read
+pub run_seen : (form : Form) (old new : XmlProgress) (bytes piece rest left : List ℕ) (n : ℕ) (s : ReadSoFar form old bytes piece rest) → left ≡ drop n rest → HasRead form new ((bytes ++ s.seen) ++ take n rest) → ReadSoFar form new bytes piece left
+run_seen form old new bytes piece rest left n s e h = record {
+  seen = s.seen ++ take n rest;
+  piece_is = s.piece_is ∙ (ap (λ v. s.seen ++ v) (sym (take-append-drop n rest)) ∙ (sym (append_assoc s.seen (take n rest) (drop n rest)) ∙ ap (λ v. (s.seen ++ take n rest) ++ v) (sym e)));
+  read = subst (HasRead form new) (append_assoc bytes s.seen (take n rest)) h;
+}
 
 pub one_seen : (form : Form) (old new : XmlProgress) (bytes piece rest : List ℕ) (byte : ℕ) (s : ReadSoFar form old bytes piece (byte ∷ rest)) → HasRead form new ((bytes ++ s.seen) ++ byte ∷ []) → ReadSoFar form new bytes piece rest
 one_seen form old new bytes piece rest byte s h = record {

@@ -27,6 +27,15 @@ pub record Opens (name : Expanded) (attributes : List Attribute) (wanted : Expan
 abbrev pub one_more : Field → Field
 one_more f = record { tag = f.tag; least = f.least - 1; most = f.most - 1 }
 
+-- the element with so many characters more
+abbrev pub many_more : ℕ → Field → Field
+many_more n f = record { tag = f.tag; least = f.least - n; most = f.most - n }
+
+-- the events of these characters
+abbrev pub characters_of : List ℕ → List Item
+characters_of [] = []
+characters_of (c ∷ cs) = Char c ∷ characters_of cs
+
 -- the events go on from this stage to the end of the root: `starts_form` of the proofs says that from the start on they are those of a tree of the form
 abbrev pub Follows : List ℕ → List ℕ → Stage → Field → List Field → List Item → Type 0
 Follows ns tag stage f fs [] = stage ≡ BehindRoot

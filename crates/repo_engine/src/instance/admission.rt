@@ -1,12 +1,12 @@
 // Whether the events of a text are those of an instance: they are compared with the message's form one by one.
-ghost use Rattle.std.specs.Prelude.{◌≡◌, ◌↔◌, List, [], ◌∷◌, IsTrue, MatchOption, map};
+ghost use Rattle.std.specs.Prelude.{◌≡◌, ◌↔◌, ◌-◌, ◌∷◌, ◌++◌, ℕ, List, [], IsTrue, IsFalse, MatchOption, length, map};
 ghost use Rattle.std.specs.List.{AllByRecursion};
 ghost use Rattle.lexical_core.specs.Tree.{Item, Starts, Char, Ends};
 ghost use Rattle.markup.specs.Chars.{is_space as is_space_of};
 ghost use Rattle.markup.specs.EventItems.{entry_of, item_of};
 ghost use Rattle.repo_engine.specs.XmlInstance.{named, IsHint};
 ghost use Rattle.repo_engine.specs.XmlForm.{FitsItems};
-ghost use Rattle.repo_engine.specs.Admission.{Opens, Remains, stage_if};
+ghost use Rattle.repo_engine.specs.Admission.{Opens, Remains, characters_of, stage_if};
 
 use super::fields::Field;
 use super::xml_form::XmlForm;
@@ -82,6 +82,23 @@ impl<'a, 'b> Admission<'a, 'b> {
             What::Char(c) => self.take_char(*c),
             What::End { ns, local } => self.take_end(ns.bytes(), local.bytes()),
             What::Skipped => {}
+        }
+    }
+
+    /// Takes so many characters at once, where the text of an element is open; else nothing changes.
+    pub fn take_text(&mut self, count: u64) -> bool
+        ensures taken { IsTrue result → (run : List ℕ) (items : List Item) → length run ≡ count → Remains self.old (characters_of run ++ items) ↔ Remains self.new items }
+        ensures same { IsFalse result → self.new ≡ self.old }
+    {
+        match self.stage {
+            Stage::InElement => {
+                let fits = count <= self.opened.most as u64;
+                self.stage = next_if(fits, Stage::InElement);
+                self.opened.least = less(self.opened.least, count);
+                self.opened.most = less(self.opened.most, count);
+                true
+            }
+            _ => false,
         }
     }
 
@@ -183,6 +200,13 @@ fn next_field<'a, 'b>(left: &'a [Field<'b>]) -> Option<(Field<'b>, &'a [Field<'b
 {
     let (first, rest) = left.split_first()?;
     Some((*first, rest))
+}
+
+/// What is left of the bound behind so many characters.
+fn less(bound: u32, count: u64) -> u32
+    ensures { result ≡ bound - count }
+{
+    (bound as u64).saturating_sub(count) as u32
 }
 
 /// The stage where the test has passed.
