@@ -25,6 +25,8 @@ pub mod OneFault
 pub mod ReferencePlaces
 pub mod Placed
 pub mod PlainLemmas
+pub mod LiteralRuns
+pub mod WideLemmas
 pub mod CharacterRuns
 pub mod TokenizerLemmas
 pub mod Pending

@@ -17,7 +17,7 @@ use Rattle.markup.specs.Scans.{line_step, goes_if, step}
 use Rattle.markup.specs.ScanRuns.{At, run, position, ended_of}
 use Rattle.markup.specs.Contexts.{IsContext}
 use Rattle.markup.specs.TokenRules.{is_cdata}
-use Rattle.markup.specs.Tokenizers.{after_other, on_turn, ended, charactered, counted, is_plain, is_between, starts_plain, TakesPlain, AdvancedBy, is_pending, IsAwaited, IsOpen, Advances, SettlesBy, open_at, FinishesBy}
+use Rattle.markup.specs.Tokenizers.{after_other, on_turn, ended, charactered, counted, is_plain, is_between, starts_plain, TakesAlone, TakesPlain, AdvancedBy, is_pending, IsAwaited, IsOpen, Advances, SettlesBy, open_at, FinishesBy}
 use Rattle.markup.specs.Inputs.{is_return}
 use Rattle.markup.specs.Reading.{HasTaken, GoesOn, Stops}
 use Rattle.markup.specs.ReaderSteps.{SettlesEvents, TokenAnswered}
@@ -44,7 +44,7 @@ use Rattle.markup.proofs.SettleLemmas.{finishes_by}
 use Rattle.markup.proofs.TokenizerLemmas.{advances_by}
 
 -- a plain byte is ASCII, a character of XML, and none that opens or ends a line, a reference, markup or a section
-plain_ascii : (c : ℕ) → is_plain c ≡ true → c < 128
+pub plain_ascii : (c : ℕ) → is_plain c ≡ true → c < 128
 plain_ascii c h = grind (arith, nat_tests)
 
 plain_xml : (c : ℕ) → is_plain c ≡ true → is_xml_char c ≡ true
@@ -86,43 +86,57 @@ stays Text h = refl
 stays Cdata h = refl
 
 -- and no token waits for a byte
-not_waiting : (s : Scan) → is_between s ≡ true → is_pending s ≡ false
+pub not_waiting : (s : Scan) → is_between s ≡ true → is_pending s ≡ false
 not_waiting AfterReturn h = absurd (both_ways false refl h)
 not_waiting Bracket h = absurd (both_ways false refl h)
 not_waiting Brackets h = absurd (both_ways false refl h)
 not_waiting _ h = refl
 
--- the reader of tokens behind the byte
-abbrev behind_plain : Tokenizer → Tokenizer
-behind_plain z = record { alloc = z.alloc; utf8 = z.utf8; position = z.position; scan = z.scan; draft = z.draft; start = z.place + 1; place = z.place + 1 }
+-- where a token begins, nothing of it has come
+pub record IsFresh (z : Tokenizer) : Type 0 where
+  pub utf8_none : z.utf8 ≡ Some []
+  pub draft_none : no_draft ≡ z.draft
+  pub scan_here : Begin z.position ≡ z.scan
+  pub position_stays : after_other z.position ≡ z.position
 
-abbrev made : Tokenizer → Option (List ℕ) → Position → Scan → Draft → Tokenizer
+pub is_fresh : (z : Tokenizer) → is_between z.scan ≡ true → (z.place == z.start) ≡ true → (before : List Token) (bytes : List ℕ) → IsOpen z before bytes → IsFresh z
+is_fresh z between starts before bytes o = record { utf8_none = o.utf8_is ∙ ap (λ v. Some v) none.1; draft_none = same.1; scan_here = here; position_stays = stays z.position (ap is_between here ∙ between) } where
+  none : (o.chars ≡ []) × (o.part ≡ [])
+  none = no_chars o.chars o.part (ap length (sym o.bytes_are) ∙ count z.place z.start (length bytes) o.place_is (eqb-true z.place z.start starts)) where
+    count : (p s n : ℕ) → p ≡ s + n → p ≡ s → n ≡ 0
+    count p s n h k = omega arith
+
+  same : (Begin (position before) ≡ z.scan) × (no_draft ≡ z.draft)
+  same = at_same (Begin (position before)) z.scan no_draft z.draft (ap (run (Begin (position before)) no_draft) (sym none.0) ∙ o.scan_is)
+
+  here : Begin z.position ≡ z.scan
+  here = ap (λ p. Begin p) o.position_is ∙ same.0
+
+-- the reader of tokens behind a character
+abbrev pub made : Tokenizer → Option (List ℕ) → Position → Scan → Draft → Tokenizer
 made z u p s d = record { alloc = z.alloc; utf8 = u; position = p; scan = s; draft = d; start = z.place + 1; place = z.place + 1 }
+
+-- it begins the next token as it began that one
+pub behind_same : (z : Tokenizer) (u : Option (List ℕ)) → after_other z.position ≡ z.position → Begin z.position ≡ z.scan → no_draft ≡ z.draft → made z u (after_other z.position) (Begin (after_other z.position)) no_draft ≡ made z u z.position z.scan z.draft
+behind_same z u p s d =
+    ap (λ p. made z u p (Begin p) no_draft) p
+    ∙ (ap (λ s. made z u z.position s no_draft) s
+    ∙ ap (λ d. made z u z.position z.scan d) d)
+
+-- behind a byte by itself
+abbrev behind_plain : Tokenizer → Tokenizer
+behind_plain z = made z z.utf8 z.position z.scan z.draft
 
 module _ (z : Tokenizer) (byte : ℕ) (between : is_between z.scan ≡ true) (starts : (z.place == z.start) ≡ true) (plain : is_plain byte ≡ true) where
   module _ (before : List Token) (bytes : List ℕ) (o : IsOpen z before bytes) (w : IsAwaited z.scan byte) where
-    none : (o.chars ≡ []) × (o.part ≡ [])
-    none = no_chars o.chars o.part (ap length (sym o.bytes_are) ∙ count z.place z.start (length bytes) o.place_is (eqb-true z.place z.start starts)) where
-      count : (p s n : ℕ) → p ≡ s + n → p ≡ s → n ≡ 0
-      count p s n h k = omega arith
-
-    utf8_none : z.utf8 ≡ Some []
-    utf8_none = o.utf8_is ∙ ap (λ v. Some v) none.1
-
-    same : (Begin (position before) ≡ z.scan) × (no_draft ≡ z.draft)
-    same = at_same (Begin (position before)) z.scan no_draft z.draft (ap (run (Begin (position before)) no_draft) (sym none.0) ∙ o.scan_is)
-
-    scan_here : Begin z.position ≡ z.scan
-    scan_here = ap (λ p. Begin p) o.position_is ∙ same.0
-
-    position_stays : after_other z.position ≡ z.position
-    position_stays = stays z.position (ap is_between scan_here ∙ between)
+    fresh : IsFresh z
+    fresh = is_fresh z between starts before bytes o
 
     advanced : AdvancedBy z (charactered (counted z (Some [])) byte).1 byte (charactered (counted z (Some [])) byte).0
     advanced = record {
       utf8 = Char byte;
       begun = Some [];
-      steps = subst (λ u. Steps u byte (Char byte) (Some [])) (sym utf8_none) (xml_scalar byte (plain_xml byte plain), encode_ascii byte (plain_ascii byte plain), refl);
+      steps = subst (λ u. Steps u byte (Char byte) (Some [])) (sym fresh.utf8_none) (xml_scalar byte (plain_xml byte plain), encode_ascii byte (plain_ascii byte plain), refl);
       value = refl;
       after = refl;
     }
@@ -131,20 +145,18 @@ module _ (z : Tokenizer) (byte : ℕ) (between : is_between z.scan ≡ true) (st
     turn = ap (on_turn (counted z (Some [])) byte) (plain_step z.scan byte between plain)
 
     behind_is : (ended (counted z (Some [])) (Character byte)).1 ≡ behind_plain z
-    behind_is = ap (λ u. made z u (after_other z.position) (Begin (after_other z.position)) no_draft) (sym utf8_none)
-        ∙ (ap (λ p. made z z.utf8 p (Begin p) no_draft) position_stays
-        ∙ (ap (λ s. made z z.utf8 z.position s no_draft) scan_here
-        ∙ ap (λ d. made z z.utf8 z.position z.scan d) same.1))
+    behind_is = ap (λ u. made z u (after_other z.position) (Begin (after_other z.position)) no_draft) (sym fresh.utf8_none)
+        ∙ behind_same z z.utf8 fresh.position_stays fresh.scan_here fresh.draft_none
 
     plain_here : Advances (behind_plain z) before (bytes ++ byte ∷ []) (EndedToken (Character byte) no_draft)
     plain_here =
         subst (λ y. Advances y before (bytes ++ byte ∷ []) (EndedToken (Character byte) no_draft)) behind_is
-        (subst (λ d. Advances (ended (counted z (Some [])) (Character byte)).1 before (bytes ++ byte ∷ []) (EndedToken (Character byte) d)) (sym same.1)
+        (subst (λ d. Advances (ended (counted z (Some [])) (Character byte)).1 before (bytes ++ byte ∷ []) (EndedToken (Character byte) d)) (sym fresh.draft_none)
         (subst (λ r. Advances r.1 before (bytes ++ byte ∷ []) r.0) turn
         (advances_by z (charactered (counted z (Some [])) byte).1 byte (charactered (counted z (Some [])) byte).0 advanced before bytes o w)))
 
   takes_parts : TakesPlain z (behind_plain z) byte
-  takes_parts = record { advances = plain_here; settled = not_waiting z.scan between; place = refl }
+  takes_parts = record { advances = plain_here; settled = not_waiting z.scan between; leaves = not_waiting z.scan between; place = refl }
 
 pub takes_plain : (z : Tokenizer) (byte : ℕ) → starts_plain z byte ≡ true → TakesPlain z (behind_plain z) byte
 takes_plain z byte h =
@@ -153,27 +165,30 @@ takes_plain z byte h =
     takes_parts z byte b.0 b.1 a.1
 
 -- nothing waits for a byte, and no CR is open
-awaits_any : (s : Scan) (byte : ℕ) → is_pending s ≡ false → IsAwaited s byte
+pub awaits_any : (s : Scan) (byte : ℕ) → is_pending s ≡ false → IsAwaited s byte
 awaits_any AfterReturn byte h = absurd (both_ways true h refl)
 awaits_any Bracket byte h = absurd (both_ways true h refl)
 awaits_any Brackets byte h = absurd (both_ways true h refl)
 awaits_any _ byte h = tt
 
-no_return : (s : Scan) (z : Tokenizer) → is_pending s ≡ false → is_return (open_at s z) ≡ false
+pub no_return : (s : Scan) (z : Tokenizer) → is_pending s ≡ false → is_return (open_at s z) ≡ false
 no_return AfterReturn z h = absurd (both_ways true h refl)
 no_return s z h = by (z.place == z.start) where
   by : (b : Bool) → is_return (if b then Finish.Nothing else Finish.Open) ≡ false
   by true = refl
   by false = refl
 
--- the reader behind the byte
-module _ {T : Type 0} (r1 r2 : Reader) (bytes : List ℕ) (told : List Placed) (byte : ℕ) (old new : List Event) (result : Result T MarkError) (h : HasTaken r1 bytes told) (p : TakesPlain r1.tokenizer r2.tokenizer byte) (same : r2.failed ≡ r1.failed)
-    (token : (before : List Token) (t : Token) → IsContext r1.context before → ended_of t ≡ Character byte → in_cdata before ≡ is_cdata r1.tokenizer.position → TokenAnswered before t r1.tokenizer.start old new r2.context result) where
-  nothing : SettlesBy r1.tokenizer r1.tokenizer byte Nothing
-  nothing before v o = (refl, awaits_any r1.tokenizer.scan byte p.settled)
+-- the byte settles nothing
+pub settles_none : (r : Reader) (bytes : List ℕ) (told : List Placed) (byte : ℕ) (old : List Event) → HasTaken r bytes told → is_pending r.tokenizer.scan ≡ false → SettlesEvents r bytes told byte old old
+settles_none r bytes told byte old h n = settle_ok r bytes h.0 told r.tokenizer r.context byte Nothing old old h.1 nothing refl h.1.context (tells_none old old refl) where
+  nothing : SettlesBy r.tokenizer r.tokenizer byte Nothing
+  nothing before v o = (refl, awaits_any r.tokenizer.scan byte n)
 
+-- the reader behind the byte, which ends a character
+module _ {T : Type 0} (r1 r2 : Reader) (bytes : List ℕ) (told : List Placed) (byte c : ℕ) (old new : List Event) (result : Result T MarkError) (h : HasTaken r1 bytes told) (p : TakesAlone r1.tokenizer r2.tokenizer byte (EndedToken (Character c) no_draft)) (same : r2.failed ≡ r1.failed)
+    (token : (before : List Token) (t : Token) → IsContext r1.context before → ended_of t ≡ Character c → in_cdata before ≡ is_cdata r1.tokenizer.position → TokenAnswered before t r1.tokenizer.start old new r2.context result) where
   s : SettlesEvents r1 bytes told byte old old
-  s = settle_ok r1 bytes h.0 told r1.tokenizer r1.context byte Nothing old old h.1 nothing refl h.1.context (tells_none old old refl)
+  s = settles_none r1 bytes told byte old h p.settled
 
   abbrev f : Finish
   f = open_at r1.tokenizer.scan r1.tokenizer
@@ -184,14 +199,14 @@ module _ {T : Type 0} (r1 r2 : Reader) (bytes : List ℕ) (told : List Placed) (
   n : is_return f ≡ false
   n = no_return r1.tokenizer.scan r1.tokenizer p.settled
 
-  pub plain_ok : IfOk result (λ _. GoesOn r2 (bytes ++ byte ∷ []) told old new)
-  plain_ok = match_ok result _ _ _
-      (λ _ a. step_ok r1 r2 bytes told byte old old new s (token_here r1 bytes s.tells.tokens (told ++ s.tells.more) r2.tokenizer byte old new s.tells.keeps s.awaited p.place (Character byte) no_draft p.advances f ends n r2 refl same a))
-      (answered r1 bytes s.tells.tokens (told ++ s.tells.more) r2.tokenizer byte old new s.tells.keeps s.awaited p.place (Character byte) no_draft p.advances f ends n
+  pub alone_ok : IfOk result (λ _. GoesOn r2 (bytes ++ byte ∷ []) told old new)
+  alone_ok = match_ok result _ _ _
+      (λ _ a. step_ok r1 r2 bytes told byte old old new s (token_here r1 bytes s.tells.tokens (told ++ s.tells.more) r2.tokenizer byte old new s.tells.keeps s.awaited p.place (Character c) no_draft p.advances f ends n r2 refl same a))
+      (answered r1 bytes s.tells.tokens (told ++ s.tells.more) r2.tokenizer byte old new s.tells.keeps s.awaited p.place (Character c) no_draft p.advances f ends n
       (λ before t i x y v. TokenAnswered before t r1.tokenizer.start old new r2.context result) (λ before t i x y v. token before t i x v))
 
-  pub plain_err : IfErr result (λ e. Stops (bytes ++ byte ∷ []) told old new e)
-  plain_err = match_err result _ _ _
-      (λ e a. step_stops (bytes ++ byte ∷ []) told s.tells.more old old new e s.tells.tells (token_stopped r1 bytes s.tells.tokens (told ++ s.tells.more) r2.tokenizer byte old new s.tells.keeps s.awaited p.place (Character byte) no_draft p.advances f ends n e a))
-      (answered r1 bytes s.tells.tokens (told ++ s.tells.more) r2.tokenizer byte old new s.tells.keeps s.awaited p.place (Character byte) no_draft p.advances f ends n
+  pub alone_err : IfErr result (λ e. Stops (bytes ++ byte ∷ []) told old new e)
+  alone_err = match_err result _ _ _
+      (λ e a. step_stops (bytes ++ byte ∷ []) told s.tells.more old old new e s.tells.tells (token_stopped r1 bytes s.tells.tokens (told ++ s.tells.more) r2.tokenizer byte old new s.tells.keeps s.awaited p.place (Character c) no_draft p.advances f ends n e a))
+      (answered r1 bytes s.tells.tokens (told ++ s.tells.more) r2.tokenizer byte old new s.tells.keeps s.awaited p.place (Character c) no_draft p.advances f ends n
       (λ before t i x y v. TokenAnswered before t r1.tokenizer.start old new r2.context result) (λ before t i x y v. token before t i x v))

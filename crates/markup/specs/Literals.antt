@@ -1,13 +1,39 @@
--- Runs of bytes that are characters by themselves.
-use Rattle.std.specs.Prelude.{ℕ, Bool, ◌+◌, ◌==◌, ◌&&◌, nat_le, not, List, [], ◌∷◌}
+-- Runs of characters that stand by themselves.
+use Rattle.std.specs.Prelude.{◌≡◌, ℕ, Bool, ◌+◌, ◌==◌, ◌&&◌, ◌⊎◌, nat_le, not, true, List, [], ◌∷◌, ◌++◌, length, encode_utf8, encode_utf8_all}
+use Rattle.std.specs.List.{AllByRecursion}
 use Rattle.lexical_core.specs.Tree.{Char}
+use Rattle.markup.specs.Chars.{is_xml_char}
 use Rattle.markup.specs.Events.{Placed}
 
 -- a byte that is a character of an element's text wherever a token begins there, whatever stands before it and behind it (XML 1.0 §2.4, §2.7)
 abbrev pub is_literal : ℕ → Bool
 is_literal byte = nat_le 32 byte && nat_le byte 127 && not (byte == 60) && not (byte == 38) && not (byte == 93) && not (byte == 62)
 
--- these bytes as characters, the first at the place
+-- a character that is one of an element's text there: such a byte, or a character of several bytes that XML has (XML 1.0 §2.2)
+abbrev pub IsLiteral : ℕ → Type 0
+IsLiteral c = (is_literal c ≡ true) ⊎ ((nat_le 128 c ≡ true) × (is_xml_char c ≡ true))
+
+-- The bytes are those of so many such characters.
+pub record IsRun (bytes : List ℕ) (count : ℕ) : Type 0 where
+  pub characters : List ℕ
+  pub bytes_are : bytes ≡ encode_utf8_all characters
+  pub count_is : length characters ≡ count
+  pub literal : AllByRecursion IsLiteral characters
+
+-- these characters, the first at the place
 abbrev pub characters_from : ℕ → List ℕ → List Placed
 characters_from place [] = []
-characters_from place (c ∷ cs) = record { place = place; item = Char c } ∷ characters_from (place + 1) cs
+characters_from place (c ∷ cs) = record { place = place; item = Char c } ∷ characters_from (place + length (encode_utf8 c)) cs
+
+-- So many bytes at the front of the piece are a character that XML has.
+pub record IsAt (piece : List ℕ) (size : ℕ) : Type 0 where
+  pub char : ℕ
+  pub rest : List ℕ
+  pub joined : piece ≡ encode_utf8 char ++ rest
+  pub size_is : length (encode_utf8 char) ≡ size
+  pub allowed : is_xml_char char ≡ true
+
+-- And it is one of several bytes.
+pub record IsWideAt (piece : List ℕ) (size : ℕ) : Type 0 where
+  pub is_at : IsAt piece size
+  pub wide : nat_le 128 is_at.char ≡ true

@@ -168,15 +168,20 @@ starts_plain z byte = is_between z.scan && z.place == z.start && is_plain byte
 abbrev pub is_ready : Tokenizer → Bool
 is_ready z = is_between z.scan && z.place == z.start
 
--- so many bytes come, each of which is a token
+-- so many bytes come, which are whole tokens
 abbrev pub passed : Tokenizer → ℕ → Tokenizer
 passed z n = record { alloc = z.alloc; utf8 = z.utf8; position = z.position; scan = z.scan; draft = z.draft; start = z.place + n; place = z.place + n }
 
--- The byte is a character that is the next token, and nothing was open before it.
-pub record TakesPlain (old new : Tokenizer) (byte : ℕ) : Type 0 where
-  pub advances : AdvancesBy old new byte (EndedToken (CharacterEnded byte) no_draft)
+-- The byte makes this of the open token: it settles nothing, and leaves nothing for the next byte to settle.
+pub record TakesAlone (old new : Tokenizer) (byte : ℕ) (progress : Progress) : Type 0 where
+  pub advances : AdvancesBy old new byte progress
   pub settled : is_pending old.scan ≡ false
+  pub leaves : is_pending new.scan ≡ false
   pub place : new.place ≡ old.place + 1
+
+-- The byte is a character that is the next token, and nothing was open before it.
+abbrev pub TakesPlain : Tokenizer → Tokenizer → ℕ → Type 0
+TakesPlain old new byte = TakesAlone old new byte (EndedToken (CharacterEnded byte) no_draft)
 
 -- the next token begins
 abbrev pub restarted : Tokenizer → Tokenizer

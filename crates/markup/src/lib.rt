@@ -22,6 +22,7 @@ mod tokenizer;
 mod word;
 
 pub use event::{Attr, Attrs, Event, Events, What};
+pub use literals::Run;
 pub use reader::{MarkError, MarkFault, Reader};
 
 #[cfg(test)]

@@ -1,7 +1,17 @@
-// Runs of bytes that are characters by themselves.
-ghost use Rattle.std.specs.Prelude.{◌≡◌, ◌≤◌, length};
+// Runs of characters that stand by themselves.
+ghost use Rattle.std.specs.Prelude.{◌≡◌, ◌≤◌, IfSome, length, take};
 ghost use Rattle.std.specs.List.{prefix_len};
-ghost use Rattle.markup.specs.Literals.{is_literal};
+ghost use Rattle.markup.specs.Literals.{is_literal, IsAt, IsWideAt, IsRun};
+
+use crate::characters::is_allowed;
+use lexical_core::{Utf8, Utf8Step};
+
+/// A run of characters: how many bytes they have, and how many they are.
+#[derive(Clone, Copy, Debug, PartialEq, Eq)]
+pub struct Run {
+    pub bytes: usize,
+    pub characters: usize,
+}
 
 /// Whether the byte is a character of an element's text wherever a token begins there, whatever
 /// stands before it and behind it (XML 1.0 §2.4, §2.7): one from 0x20 to 0x7F that is not `<`, `&`,
@@ -13,8 +23,45 @@ fn is_literal(byte: u8) -> bool
     byte >= 0x20 && byte <= 0x7F && byte != b'<' && byte != b'&' && byte != b']' && byte != b'>'
 }
 
-/// How many bytes at the front of the piece are such characters.
-pub(crate) fn literal_length(piece: &[u8]) -> usize
+/// How many bytes the character at the front of the piece has, where XML has it and they are there.
+fn size_at(piece: &[u8]) -> Option<usize>
+    ensures { IfSome result (λ n. IsAt piece.now n) }
+{
+    let mut utf8 = Utf8Step::new();
+    let mut count = 0_usize;
+    let mut rest = piece;
+    while let Some((byte, after)) = rest.split_first() {
+        count += 1;
+        match utf8.take(*byte) {
+            Utf8::More => {}
+            Utf8::Bad => return None,
+            Utf8::Char(c) => {
+                if is_allowed(c) {
+                    return Some(count);
+                }
+                return None;
+            }
+        }
+        rest = after;
+    }
+    None
+}
+
+/// How many bytes the character at the front of the piece has, where it has several and XML has it.
+fn wide_size(piece: &[u8]) -> Option<usize>
+    ensures { IfSome result (λ n. IsWideAt piece.now n) }
+{
+    let Some((first, _)) = piece.split_first() else {
+        return None;
+    };
+    if *first < 0x80 {
+        return None;
+    }
+    size_at(piece)
+}
+
+/// How many bytes at the front of the piece are literal.
+fn literal_length(piece: &[u8]) -> usize
     ensures within { result ≤ length piece.now }
     ensures count { result ≡ prefix_len is_literal piece.now }
 {
@@ -24,4 +71,29 @@ pub(crate) fn literal_length(piece: &[u8]) -> usize
         }
     }
     piece.len()
+}
+
+/// The characters at the front of the piece that stand by themselves, up to the first byte that
+/// belongs to none.
+pub(crate) fn literal_run(piece: &[u8]) -> Run
+    ensures within { result.bytes ≤ length piece.now }
+    ensures only { IsRun (take result.bytes piece.now) result.characters }
+    ensures all { prefix_len is_literal piece.now ≤ result.bytes }
+{
+    let mut bytes = 0_usize;
+    let mut characters = 0_usize;
+    let mut rest = piece;
+    loop {
+        let plain = literal_length(rest);
+        let (_, behind) = rest.split_at(plain);
+        bytes += plain;
+        characters += plain;
+        let Some(size) = wide_size(behind) else {
+            return Run { bytes, characters };
+        };
+        let (_, after) = behind.split_at(size);
+        bytes += size;
+        characters += 1;
+        rest = after;
+    }
 }

@@ -10,7 +10,7 @@ ghost use Rattle.markup.specs.declared.scan.Ended.TheVariants.{Character};
 ghost use Rattle.markup.specs.Contexts.{IsContext};
 ghost use Rattle.markup.specs.Tokenizers.{IsAwaited, FinishesBy};
 ghost use Rattle.markup.specs.ReaderSteps.{TellsMore, SettlesEvents, TokenAnswered, returned, IsReady};
-ghost use Rattle.markup.specs.Literals.{is_literal, characters_from};
+ghost use Rattle.markup.specs.Literals.{is_literal, IsRun, characters_from};
 ghost use Rattle.markup.specs.Events.{Placed};
 ghost use Rattle.markup.specs.EventItems.{Tells};
 ghost use Rattle.markup.specs.Reading.{taken, failed, HasTaken, HasTold, IsInside, Keeps, GoesOn, Stops, IsWholly, EndsEarly, RunsOut};
@@ -19,7 +19,7 @@ ghost use Rattle.markup.specs.Inputs.{Any, Begins, is_return};
 use crate::context::Context;
 use crate::draft::Draft;
 use crate::event::Events;
-use crate::literals::literal_length;
+use crate::literals::{Run, literal_run};
 use crate::scan::Ended;
 use crate::scope::Stop;
 use crate::tokenizer::{Finish, Progress, Settled, Tokenizer};
@@ -89,47 +89,53 @@ impl Reader {
         result
     }
 
-    /// Takes the bytes at the front of the piece that are characters by themselves, where an element
-    /// is open and no token is: those from 0x20 to 0x7F up to the first `<`, `&`, `]` or `>`. Each
-    /// is a character at its place, told by their number alone; any other byte is for `take`. It
-    /// answers how many they are, and after an error 0. It takes no memory.
-    pub fn take_characters(&mut self, piece: &[u8]) -> usize
+    /// Takes the characters at the front of the piece that stand by themselves, where an element is
+    /// open and no token is: those from U+0020 on that XML has, up to the first `<`, `&`, `]` or
+    /// `>`, and to the first that is not whole. Each is a character at its place, told by their
+    /// number alone; any other byte is for `take`. It answers how many bytes and characters they
+    /// are, and after an error none. It takes no memory.
+    pub fn take_characters(&mut self, piece: &[u8]) -> Run
         requires { failed self.old ≡ None → taken self.old + length piece.now ≤ 2 ^ 40 }
-        ensures within { result ≤ length piece.now }
-        ensures only { result ≤ prefix_len is_literal piece.now }
+        ensures within { result.bytes ≤ length piece.now }
+        ensures only { IsRun (take result.bytes piece.now) result.characters }
         ensures taken { (bytes : List ℕ) (told : List Placed) → HasTaken self.old bytes told →
-            HasTold self.new (bytes ++ take result piece.now) (told ++ characters_from (length bytes) (take result piece.now)) }
-        ensures all { (bytes : List ℕ) (told : List Placed) → IsInside self.old bytes told → result ≡ prefix_len is_literal piece.now }
-        ensures count { taken self.new ≡ taken self.old + result }
+            (run : IsRun (take result.bytes piece.now) result.characters) × HasTold self.new (bytes ++ take result.bytes piece.now) (told ++ characters_from (length bytes) run.characters) }
+        ensures all { (bytes : List ℕ) (told : List Placed) → IsInside self.old bytes told → prefix_len is_literal piece.now ≤ result.bytes }
+        ensures count { taken self.new ≡ taken self.old + result.bytes }
         ensures failed { failed self.new ≡ failed self.old }
-        ensures again { (e : MarkError) → failed self.old ≡ Some e → (result ≡ 0) × (self.new ≡ self.old) }
+        ensures again { (e : MarkError) → failed self.old ≡ Some e → (result.bytes ≡ 0) × (result.characters ≡ 0) × (self.new ≡ self.old) }
     {
-        let count = self.count_characters(piece);
-        if count > 0 {
-            self.tokenizer.pass(count as u64);
+        let run = self.count_characters(piece);
+        if run.bytes > 0 {
+            self.tokenizer.pass(run.bytes as u64);
             self.context.pass_characters();
         }
-        count
+        run
     }
 
-    /// How many bytes at the front of the piece are characters by themselves.
-    fn count_characters(&self, piece: &[u8]) -> usize
-        ensures within { result ≤ length piece.now }
-        ensures only { result ≤ prefix_len is_literal piece.now }
-        ensures ready { 0 < result → IsReady self.now }
-        ensures sound { 0 < result → failed self.now ≡ None }
-        ensures all { (bytes : List ℕ) (told : List Placed) → IsInside self.now bytes told → result ≡ prefix_len is_literal piece.now }
+    /// The characters at the front of the piece that stand by themselves, where one may come.
+    fn count_characters(&self, piece: &[u8]) -> Run
+        ensures within { result.bytes ≤ length piece.now }
+        ensures only { IsRun (take result.bytes piece.now) result.characters }
+        ensures ready { 0 < result.bytes → IsReady self.now }
+        ensures sound { 0 < result.bytes → failed self.now ≡ None }
+        ensures all { (bytes : List ℕ) (told : List Placed) → IsInside self.now bytes told → prefix_len is_literal piece.now ≤ result.bytes }
+        ensures none { (e : MarkError) → failed self.now ≡ Some e → (result.bytes ≡ 0) × (result.characters ≡ 0) }
     {
+        let none = Run {
+            bytes: 0,
+            characters: 0,
+        };
         if self.failed.is_some() {
-            return 0;
+            return none;
         }
         if !self.tokenizer.is_ready() {
-            return 0;
+            return none;
         }
         if !self.context.has_open() {
-            return 0;
+            return none;
         }
-        literal_length(piece)
+        literal_run(piece)
     }
 
     /// The end of the input. It appends no event. It answers Ok where the bytes are whole, and

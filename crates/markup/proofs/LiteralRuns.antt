@@ -1,0 +1,153 @@
+-- A run of characters that stand by themselves, found from the front.
+use Rattle.std.proofs.Common.{◌≡◌, ℕ, zero, suc, Bool, true, false, ◌+◌, ◌<◌, ◌≤◌, inl, inr, nat_le, cond, List, [], ◌∷◌, ◌++◌, length, take, drop, Option, Some, refl, sym, ◌∙◌, ap, subst, append_assoc, append-nil, length-append, arith}
+use Rattle.std.specs.Char.{encode_utf8}
+use Rattle.std.specs.Str.{encode_utf8_all}
+use Rattle.std.specs.List.{AllByRecursion, prefix_len}
+use Rattle.std.proofs.lemmas.Bool.Decides.{nat_tests}
+use Rattle.std.proofs.lemmas.Str.{encode_ascii, length-encode, len_utf8_bounds}
+use Rattle.std.proofs.lemmas.List.{length-take-le, take-append-drop}
+use Rattle.std.proofs.Math.Seq.{take-append_seam, drop-append_seam}
+use Rattle.lexical_core.specs.Utf8.{Steps}
+use Rattle.lexical_core.specs.declared.utf8.Utf8.TheVariants.{More, Char}
+use Rattle.markup.specs.Chars.{is_xml_char}
+use Rattle.markup.specs.Literals.{is_literal, IsLiteral, IsRun, IsAt, IsWideAt}
+
+-- so many bytes of the piece have come, which are a front of one character
+pub record IsBegun (piece : List ℕ) (utf8 : Option (List ℕ)) (count : ℕ) (rest : List ℕ) : Type 0 where
+  pub seen : List ℕ
+  pub joined : piece ≡ seen ++ rest
+  pub count_is : length seen ≡ count
+  pub utf8_is : utf8 ≡ Some seen
+
+-- so many bytes of the piece have come, which are so many characters that stand by themselves
+pub record IsWalked (piece : List ℕ) (bytes characters : ℕ) (rest : List ℕ) : Type 0 where
+  pub seen : List ℕ
+  pub joined : piece ≡ seen ++ rest
+  pub bytes_are : length seen ≡ bytes
+  pub run : IsRun seen characters
+  pub few : characters ≤ bytes
+
+pub begun_none : (piece : List ℕ) (utf8 : Option (List ℕ)) → utf8 ≡ Some [] → IsBegun piece utf8 0 piece
+begun_none piece utf8 h = record { seen = []; joined = refl; count_is = refl; utf8_is = h }
+
+pub begun_more : (piece : List ℕ) (old new : Option (List ℕ)) (count byte : ℕ) (rest after : List ℕ) → IsBegun piece old count rest → rest ≡ byte ∷ after → Steps old byte More new → IsBegun piece new (count + 1) after
+begun_more piece old new count byte rest after b e s =
+    let t : Steps (Some b.seen) byte More new = subst (λ u. Steps u byte More new) b.utf8_is s in
+    record {
+      seen = b.seen ++ byte ∷ [];
+      joined = b.joined ∙ (ap (λ v. b.seen ++ v) e ∙ sym (append_assoc b.seen (byte ∷ []) after));
+      count_is = length-append b.seen (byte ∷ []) ∙ ap (λ n. n + 1) b.count_is;
+      utf8_is = t.1;
+    }
+
+pub begun_whole : (piece : List ℕ) (old new : Option (List ℕ)) (count byte c : ℕ) (rest after : List ℕ) → IsBegun piece old count rest → rest ≡ byte ∷ after → Steps old byte (Char c) new → is_xml_char c ≡ true → IsAt piece (count + 1)
+begun_whole piece old new count byte c rest after b e s x =
+    let t : Steps (Some b.seen) byte (Char c) new = subst (λ u. Steps u byte (Char c) new) b.utf8_is s in
+    record {
+      char = c;
+      rest = after;
+      joined = b.joined ∙ (ap (λ v. b.seen ++ v) e ∙ (sym (append_assoc b.seen (byte ∷ []) after) ∙ ap (λ v. v ++ after) (sym t.1)));
+      size_is = ap length t.1 ∙ (length-append b.seen (byte ∷ []) ∙ ap (λ n. n + 1) b.count_is);
+      allowed = x;
+    }
+
+-- a character whose first byte is none of ASCII is none either
+heads : (x c : ℕ) (xs ys : List ℕ) → nat_le 128 x ≡ true → x ∷ xs ≡ encode_utf8 c ++ ys → nat_le 128 c ≡ true
+heads x c xs ys high e = by (nat_le 128 c) refl where
+  head : List ℕ → ℕ
+  head [] = 0
+  head (y ∷ w) = y
+
+  two : x ≡ c → c < 128 → nat_le 128 x ≡ true → ⊥
+  two e l h = grind (arith, nat_tests)
+
+  below : nat_le 128 c ≡ false → c < 128
+  below h = grind (arith, nat_tests)
+
+  by : (t : Bool) → nat_le 128 c ≡ t → nat_le 128 c ≡ true
+  by true h = h
+  by false h = absurd (two (ap head (e ∙ ap (λ v. v ++ ys) (encode_ascii c (below h)))) (below h) high)
+
+pub wide_at : (x n : ℕ) (xs piece : List ℕ) → piece ≡ x ∷ xs → nat_le 128 x ≡ true → IsAt piece n → IsWideAt piece n
+wide_at x n xs piece e high a = record { is_at = a; wide = heads x a.char xs a.rest high (sym e ∙ a.joined) }
+
+pub walked_none : (piece : List ℕ) → IsWalked piece 0 0 piece
+walked_none piece = record { seen = []; joined = refl; bytes_are = refl; run = record { characters = []; bytes_are = refl; count_is = refl; literal = tt }; few = omega arith }
+
+encodes_append : (cs ds : List ℕ) → encode_utf8_all (cs ++ ds) ≡ encode_utf8_all cs ++ encode_utf8_all ds
+encodes_append [] ds = refl
+encodes_append (c ∷ cs) ds = ap (λ v. encode_utf8 c ++ v) (encodes_append cs ds) ∙ sym (append_assoc (encode_utf8 c) (encode_utf8_all cs) (encode_utf8_all ds))
+
+all_append : (cs ds : List ℕ) → AllByRecursion IsLiteral cs → AllByRecursion IsLiteral ds → AllByRecursion IsLiteral (cs ++ ds)
+all_append [] ds h k = k
+all_append (c ∷ cs) ds h k = (h.0, all_append cs ds h.1 k)
+
+literal_ascii : (c : ℕ) → is_literal c ≡ true → c < 128
+literal_ascii c h = grind (arith, nat_tests)
+
+-- literal bytes are their own characters
+literal_front : (xs : List ℕ) (n : ℕ) → n ≤ prefix_len is_literal xs → (encode_utf8_all (take n xs) ≡ take n xs) × AllByRecursion IsLiteral (take n xs)
+literal_front xs zero h = (refl, tt)
+literal_front [] (suc n) h = (refl, tt)
+literal_front (x ∷ xs) (suc n) h = by (is_literal x) refl h (λ k. literal_front xs n k) where
+  by : (b : Bool) → is_literal x ≡ b → suc n ≤ cond b (1 + prefix_len is_literal xs) 0 → (n ≤ prefix_len is_literal xs → (encode_utf8_all (take n xs) ≡ take n xs) × AllByRecursion IsLiteral (take n xs)) → (encode_utf8_all (x ∷ take n xs) ≡ x ∷ take n xs) × AllByRecursion IsLiteral (x ∷ take n xs)
+  by true e h more =
+      let k = more (omega arith) in
+      (ap (λ v. v ++ encode_utf8_all (take n xs)) (encode_ascii x (literal_ascii x e)) ∙ ap (λ v. x ∷ v) k.0, (inl e, k.1))
+  by false e h more = absurd (omega arith)
+
+-- more characters have come
+walked_on : (piece : List ℕ) (bytes characters m n : ℕ) (rest after cs : List ℕ) → IsWalked piece bytes characters rest → AllByRecursion IsLiteral cs → rest ≡ encode_utf8_all cs ++ after → length (encode_utf8_all cs) ≡ m → length cs ≡ n → n ≤ m → IsWalked piece (bytes + m) (characters + n) after
+walked_on piece bytes characters m n rest after cs w l e b k f = record {
+  seen = w.seen ++ encode_utf8_all cs;
+  joined = w.joined ∙ (ap (λ v. w.seen ++ v) e ∙ sym (append_assoc w.seen (encode_utf8_all cs) after));
+  bytes_are = length-append w.seen (encode_utf8_all cs) ∙ (ap (λ v. v + length (encode_utf8_all cs)) w.bytes_are ∙ ap (λ v. bytes + v) b);
+  run = record {
+    characters = w.run.characters ++ cs;
+    bytes_are = ap (λ v. v ++ encode_utf8_all cs) w.run.bytes_are ∙ sym (encodes_append w.run.characters cs);
+    count_is = length-append w.run.characters cs ∙ (ap (λ v. v + length cs) w.run.count_is ∙ ap (λ v. characters + v) k);
+    literal = all_append w.run.characters cs w.run.literal l;
+  };
+  few = omega (arith, w.few, f);
+}
+
+-- literal bytes
+pub walked_plain : (piece : List ℕ) (bytes characters n : ℕ) (rest after : List ℕ) → IsWalked piece bytes characters rest → n ≡ prefix_len is_literal rest → n ≤ length rest → after ≡ drop n rest → IsWalked piece (bytes + n) (characters + n) after
+walked_plain piece bytes characters n rest after w p h e =
+    let f = literal_front rest n (omega (arith, p)) in
+    let l : length (take n rest) ≡ n = length-take-le n rest h in
+    walked_on piece bytes characters n n rest after (take n rest) w f.1
+    (sym (take-append-drop n rest) ∙ (ap (λ v. v ++ drop n rest) (sym f.0) ∙ ap (λ v. encode_utf8_all (take n rest) ++ v) (sym e)))
+    (ap length f.0 ∙ l) l (omega arith)
+
+size_above : (c n : ℕ) → length (encode_utf8 c) ≡ n → 1 ≤ n
+size_above c n h = omega (arith, h, length-encode c, len_utf8_bounds c)
+
+wide_rest : (size : ℕ) (rest after : List ℕ) (a : IsAt rest size) → after ≡ drop size rest → after ≡ a.rest
+wide_rest size rest after a e = e ∙ (ap (λ n. drop n rest) (sym a.size_is) ∙ (ap (drop (length (encode_utf8 a.char))) a.joined ∙ drop-append_seam (encode_utf8 a.char) a.rest))
+
+pub is_shorter : (size : ℕ) (rest after : List ℕ) → IsWideAt rest size → after ≡ drop size rest → length after < length rest
+is_shorter size rest after w e =
+    let a = w.is_at in
+    omega (arith, ap length (wide_rest size rest after a e), ap length a.joined, length-append (encode_utf8 a.char) a.rest, a.size_is, size_above a.char size a.size_is)
+
+-- a character of several bytes
+pub walked_wide : (piece : List ℕ) (bytes characters size : ℕ) (rest after : List ℕ) → IsWalked piece bytes characters rest → IsWideAt rest size → after ≡ drop size rest → IsWalked piece (bytes + size) (characters + 1) after
+walked_wide piece bytes characters size rest after w a e =
+    let c = a.is_at.char in
+    let none : encode_utf8_all (c ∷ []) ≡ encode_utf8 c = append-nil (encode_utf8 c) in
+    walked_on piece bytes characters size 1 rest after (c ∷ []) w (inr (a.wide, a.is_at.allowed), tt)
+    (a.is_at.joined ∙ (ap (λ v. v ++ a.is_at.rest) (sym none) ∙ ap (λ v. encode_utf8_all (c ∷ []) ++ v) (sym (wide_rest size rest after a.is_at e))))
+    (ap length none ∙ a.is_at.size_is) refl (size_above c size a.is_at.size_is)
+
+pub walked_run : (piece : List ℕ) (bytes characters : ℕ) (rest : List ℕ) → IsWalked piece bytes characters rest → IsRun (take bytes piece) characters
+walked_run piece bytes characters rest w = subst (λ v. IsRun v characters) (sym front) w.run where
+  front : take bytes piece ≡ w.seen
+  front = ap (λ n. take n piece) (sym w.bytes_are) ∙ (ap (take (length w.seen)) w.joined ∙ take-append_seam w.seen rest)
+
+pub walked_within : (piece : List ℕ) (bytes characters : ℕ) (rest : List ℕ) → IsWalked piece bytes characters rest → bytes + length rest ≡ length piece
+walked_within piece bytes characters rest w = ap (λ n. n + length rest) (sym w.bytes_are) ∙ (sym (length-append w.seen rest) ∙ ap length (sym w.joined))
+
+-- no byte, and so no character
+pub run_none : (piece : List ℕ) → IsRun (take 0 piece) 0
+run_none piece = record { characters = []; bytes_are = refl; count_is = refl; literal = tt }
