@@ -1,11 +1,12 @@
 -- An instance that is read a byte at a time: its events are compared with the form as they come.
 use Rattle.std.proofs.Common.{◌≡◌, ℕ, ◌+◌, ◌↔◌, List, [], ◌∷◌, ◌++◌, length, map, take, drop, refl, sym, ◌∙◌, ap, subst, append_assoc, append-nil, length-append}
+use Rattle.std.specs.Char.{encode_utf8}
 use Rattle.std.proofs.lemmas.List.{map-append, take-append-drop}
 use Rattle.lexical_core.specs.Tree.{Item, Char}
 use Rattle.markup.specs.Events.{Placed}
 use Rattle.markup.specs.EventItems.{placed, item_of, Tells}
 use Rattle.markup.specs.Faults.{MarkFault}
-use Rattle.markup.specs.Literals.{characters_from}
+use Rattle.markup.specs.Literals.{IsRun, characters_from}
 use Rattle.markup.specs.Reading.{GoesOn, HasTold, Refuses, taken, fault_of}
 use Rattle.markup.specs.declared.event.Event.{Event}
 use Rattle.markup.specs.declared.reader.MarkFault.{MarkFault as Told}
@@ -43,18 +44,20 @@ read_on form old new bytes byte events h g n r e = record {
 -- a run of characters, told by their number
 items_run : (place : ℕ) (cs : List ℕ) → items_told (characters_from place cs) ≡ characters_of cs
 items_run place [] = refl
-items_run place (c ∷ cs) = ap (λ v. Char c ∷ v) (items_run (place + 1) cs)
+items_run place (c ∷ cs) = ap (λ v. Char c ∷ v) (items_run (place + length (encode_utf8 c)) cs)
 
-pub read_run : (form : Form) (old new : XmlProgress) (bytes run : List ℕ) (h : HasRead form old bytes) → HasTold new.reader (bytes ++ run) (h.told ++ characters_from (length bytes) run)
-    → taken new.reader ≡ taken old.reader + length run → ((items : List Item) → Remains old.admission (characters_of run ++ items) ↔ Remains new.admission items) → new.events ≡ old.events → HasRead form new (bytes ++ run)
-read_run form old new bytes run h g n r e = record {
-  told = h.told ++ characters_from (length bytes) run;
+pub read_run : (form : Form) (old new : XmlProgress) (bytes piece : List ℕ) (count : ℕ) (run : IsRun piece count) (h : HasRead form old bytes) → HasTold new.reader (bytes ++ piece) (h.told ++ characters_from (length bytes) run.characters)
+    → taken new.reader ≡ taken old.reader + length piece → ((cs : List ℕ) (items : List Item) → length cs ≡ count → Remains old.admission (characters_of cs ++ items) ↔ Remains new.admission items) → new.events ≡ old.events → HasRead form new (bytes ++ piece)
+read_run form old new bytes piece count run h g n r e = record {
+  told = h.told ++ characters_from (length bytes) cs;
   given = g.taken_are;
-  counted = n ∙ (ap (λ v. v + length run) h.counted ∙ sym (length-append bytes run));
-  remains = λ items. subst (λ v. FitsItems form v ↔ Remains new.admission items) (sym (items_more h.told (characters_from (length bytes) run) items ∙ ap (λ v. items_told h.told ++ (v ++ items)) (items_run (length bytes) run)))
-      ((λ f. (r items).0 ((h.remains (characters_of run ++ items)).0 f)), (λ f. (h.remains (characters_of run ++ items)).1 ((r items).1 f)));
+  counted = n ∙ (ap (λ v. v + length piece) h.counted ∙ sym (length-append bytes piece));
+  remains = λ items. subst (λ v. FitsItems form v ↔ Remains new.admission items) (sym (items_more h.told (characters_from (length bytes) cs) items ∙ ap (λ v. items_told h.told ++ (v ++ items)) (items_run (length bytes) cs)))
+      ((λ f. (r cs items run.count_is).0 ((h.remains (characters_of cs ++ items)).0 f)), (λ f. (h.remains (characters_of cs ++ items)).1 ((r cs items run.count_is).1 f)));
   none = e ∙ h.none;
-}
+} where
+  cs : List ℕ
+  cs = run.characters
 
 pub shows_of : (bytes : List ℕ) (told : List Placed) (old new : List Event) (fault : Told) → Refuses bytes told old new fault → Shows bytes fault
 shows_of bytes told old new fault k = record { has_fault = k.has_fault; no_cut = k.no_cut }

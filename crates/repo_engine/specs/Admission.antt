@@ -18,6 +18,10 @@ pub record Status : Type 0 where
   pub opened : Field
   pub left : List Field
 
+-- the text of an element is open
+abbrev pub IsInText : Status → Type 0
+IsInText s = s.stage ≡ InElement
+
 -- an element starts by this name, with attributes that only hint where a schema is
 pub record Opens (name : Expanded) (attributes : List Attribute) (wanted : Expanded) : Type 0 where
   pub name_is : name ≡ wanted

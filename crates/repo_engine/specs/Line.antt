@@ -1,4 +1,4 @@
--- The lines that a run writes.
+-- The lines that a run writes, as it puts them together. Private functions alone cite this.
 use Rattle.std.specs.Prelude.{ℕ, List, ◌++◌, Option, Some, None, codes}
 use Rattle.std.specs.Fmt.{decimal}
 use Rattle.repo_engine.specs.declared.line.Line.{Line}

@@ -1,4 +1,4 @@
--- What reading a source to its end gives.
+-- What reading a source to its end gives. Private functions alone cite this.
 use Rattle.std.specs.Prelude.{◌≡◌, ℕ, ◌<◌, List, length, Option, IfSome}
 use Rattle.std.specs.Io.KnownBytes.{IsAtEnd}
 

@@ -1,4 +1,4 @@
--- What the check of an instance finds.
+-- What the check of an instance finds. Private functions alone cite this.
 use Rattle.std.specs.Prelude.{ℕ, ◌≤◌, List, length}
 use Rattle.markup.specs.Faults.{MarkFault}
 use Rattle.markup.specs.Reading.{fault_of}

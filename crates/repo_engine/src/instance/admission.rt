@@ -1,12 +1,12 @@
 // Whether the events of a text are those of an instance: they are compared with the message's form one by one.
-ghost use Rattle.std.specs.Prelude.{◌≡◌, ◌↔◌, ◌-◌, ◌∷◌, ◌++◌, ℕ, List, [], IsTrue, IsFalse, MatchOption, length, map};
+ghost use Rattle.std.specs.Prelude.{◌≡◌, ◌↔◌, ◌-◌, ◌∷◌, ◌++◌, ℕ, List, [], IsTrue, MatchOption, length, map};
 ghost use Rattle.std.specs.List.{AllByRecursion};
 ghost use Rattle.lexical_core.specs.Tree.{Item, Starts, Char, Ends};
 ghost use Rattle.markup.specs.Chars.{is_space as is_space_of};
 ghost use Rattle.markup.specs.EventItems.{entry_of, item_of};
 ghost use Rattle.repo_engine.specs.XmlInstance.{named, IsHint};
 ghost use Rattle.repo_engine.specs.XmlForm.{FitsItems};
-ghost use Rattle.repo_engine.specs.Admission.{Opens, Remains, characters_of, stage_if};
+ghost use Rattle.repo_engine.specs.Admission.{IsInText, Opens, Remains, characters_of, stage_if};
 
 use super::fields::Field;
 use super::xml_form::XmlForm;
@@ -85,21 +85,22 @@ impl<'a, 'b> Admission<'a, 'b> {
         }
     }
 
-    /// Takes so many characters at once, where the text of an element is open; else nothing changes.
-    pub fn take_text(&mut self, count: u64) -> bool
-        ensures taken { IsTrue result → (run : List ℕ) (items : List Item) → length run ≡ count → Remains self.old (characters_of run ++ items) ↔ Remains self.new items }
-        ensures same { IsFalse result → self.new ≡ self.old }
+    /// Whether the text of an element is open.
+    pub fn is_in_text(&self) -> bool
+        ensures { IsTrue result → IsInText self.now }
     {
-        match self.stage {
-            Stage::InElement => {
-                let fits = count <= self.opened.most as u64;
-                self.stage = next_if(fits, Stage::InElement);
-                self.opened.least = less(self.opened.least, count);
-                self.opened.most = less(self.opened.most, count);
-                true
-            }
-            _ => false,
-        }
+        matches!(self.stage, Stage::InElement)
+    }
+
+    /// Takes so many characters of the text at once.
+    pub fn take_text(&mut self, count: u64)
+        requires { IsInText self.old }
+        ensures { (run : List ℕ) (items : List Item) → length run ≡ count → Remains self.old (characters_of run ++ items) ↔ Remains self.new items }
+    {
+        let fits = count <= self.opened.most as u64;
+        self.stage = next_if(fits, Stage::InElement);
+        self.opened.least = less(self.opened.least, count);
+        self.opened.most = less(self.opened.most, count);
     }
 
     /// Takes the start of an element.

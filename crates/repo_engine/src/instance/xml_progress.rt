@@ -3,12 +3,12 @@ ghost use Rattle.std.specs.Prelude.{◌≡◌, ◌<◌, ◌≤◌, ◌^◌, ◌+
 ghost use Rattle.lexical_core.specs.Tree.{Item};
 ghost use Rattle.markup.specs.Reading.{taken};
 ghost use Rattle.repo_engine.specs.XmlForm.{Form, FitsItems};
-ghost use Rattle.repo_engine.specs.Admission.{Remains, characters_of};
+ghost use Rattle.repo_engine.specs.Admission.{Remains};
 ghost use Rattle.repo_engine.specs.XmlReading.{items_of, HasRead, ReadsOn, Shows, EndsAs};
 
 use super::admission::Admission;
 use super::verdict::Verdict;
-use markup::{Event, Events, MarkError, MarkFault, Reader, What};
+use markup::{Event, Events, MarkError, MarkFault, Reader};
 use std::alloc::{AllocError, Global};
 
 /// Reads the bytes of an instance as XML, and compares their events with the form.
@@ -27,20 +27,6 @@ fn admit_all(admission: &mut Admission, events: &[Event])
     let mut rest = events;
     while let Some((event, after)) = rest.split_first() {
         admission.take(&event.what);
-        rest = after;
-    }
-}
-
-/// Compares a run of characters with the form.
-fn admit_run(admission: &mut Admission, run: &[u8])
-    ensures { (items : List Item) → Remains admission.old (characters_of run.now ++ items) ↔ Remains admission.new items }
-{
-    if admission.take_text(run.len() as u64) {
-        return;
-    }
-    let mut rest = run;
-    while let Some((byte, after)) = rest.split_first() {
-        admission.take(&What::Char(*byte as char));
         rest = after;
     }
 }
@@ -84,17 +70,20 @@ impl<'a, 'b> XmlProgress<'a, 'b> {
         }
     }
 
-    /// Takes the run of characters at the front of the piece that the reader tells by their number.
+    /// Takes the run of characters at the front of the piece that the reader tells by their number,
+    /// where they are the text of an element; else none.
     fn take_run(&mut self, piece: &[u8]) -> usize
         requires { taken self.old.reader + length piece.now < 2 ^ 40 }
         ensures within { result ≤ length piece.now }
         ensures read { (form : Form) (bytes : List ℕ) → HasRead form self.old bytes → HasRead form self.new (bytes ++ take result piece.now) }
         ensures count { taken self.new.reader ≡ taken self.old.reader + result }
     {
-        let count = self.reader.take_characters(piece);
-        let (run, _) = piece.split_at(count);
-        admit_run(&mut self.admission, run);
-        count
+        if !self.admission.is_in_text() {
+            return 0;
+        }
+        let run = self.reader.take_characters(piece);
+        self.admission.take_text(run.characters as u64);
+        run.bytes
     }
 
     /// Takes the next bytes, as far as the first that shows a fault of markup.
