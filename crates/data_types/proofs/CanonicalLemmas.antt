@@ -191,10 +191,10 @@ one_canonical Envelope leaf a b h g = absurd h
 
 -- ---- what is pushed is the canonical text, escaped
 
-text_at : (bytes chars : List ℕ) → IsTextLeaf chars (Bytes bytes) → escaped_bytes bytes ≡ escaped_text chars
-text_at bytes chars h = ap escaped_bytes h.1 ∙ escaped_chars chars
+text_at : (bytes chars : List ℕ) → IsTextLeaf chars (Bytes bytes) → escaped_bytes false bytes ≡ escaped_text chars
+text_at bytes chars h = ap (escaped_bytes false) h.1 ∙ escaped_chars chars
 
-pub text_pushed : (kind : Kind) (leaf : Leaf) (bytes chars : List ℕ) → kind ≡ Text → leaf ≡ Bytes bytes → IsCanonicalLeaf kind leaf chars → escaped_bytes bytes ≡ escaped_text chars
+pub text_pushed : (kind : Kind) (leaf : Leaf) (bytes chars : List ℕ) → kind ≡ Text → leaf ≡ Bytes bytes → IsCanonicalLeaf kind leaf chars → escaped_bytes false bytes ≡ escaped_text chars
 text_pushed kind leaf bytes chars k l h = text_at bytes chars (subst (λ x. IsTextLeaf chars x) l (subst (λ (y : Kind). IsCanonicalLeaf y leaf chars) k h))
 
 binary_at : (octets from chars : List ℕ) → IsBinaryLeaf from (Bytes octets) → IsCanonicalBinary (Bytes octets) chars → encode_of standard octets ≡ escaped_text chars

@@ -7,7 +7,7 @@ use Rattle.data_types.specs.declared.collapse.Place.TheVariants.{Before, Within,
 use Rattle.data_types.specs.WhiteSpace.{IsSpace, IsWord, Part, IsLaterPart, AreParts, part_text, joined, words_of, IsCollapsed}
 use Rattle.data_types.specs.Collapsing.{HasWords, HasCollapsedAt}
 
-all_push : {X : Type 0} (P : X → Type 0) (xs : List X) (x : X) → AllByRecursion P xs → P x → AllByRecursion P (xs ++ x ∷ [])
+pub all_push : {X : Type 0} (P : X → Type 0) (xs : List X) (x : X) → AllByRecursion P xs → P x → AllByRecursion P (xs ++ x ∷ [])
 all_push P [] x a p = (p, tt)
 all_push P (y ∷ ys) x a p = (a.0, all_push P ys x a.1 p)
 
@@ -136,3 +136,63 @@ is_collapsed Behind text collapsed (parts, rest, h, some, gap) = (parts, rest, h
 
 pub at_place : (place place' : Place) (text collapsed : List ℕ) → place ≡ place' → HasCollapsedAt place text collapsed → HasCollapsedAt place' text collapsed
 at_place place place' text collapsed e h = subst (λ (p : Place). HasCollapsedAt p text collapsed) e h
+
+-- ---- several characters at once
+
+all_on : {X : Type 0} (P : X → Type 0) (xs ys : List X) → AllByRecursion P xs → AllByRecursion P ys → AllByRecursion P (xs ++ ys)
+all_on P [] ys a b = b
+all_on P (x ∷ xs) ys a b = (a.0, all_on P xs ys a.1 b)
+
+-- white space behind white space
+spaces_more : (place : Place) (text collapsed spaces : List ℕ) → (place ≡ Within → ⊥) → AllByRecursion IsSpace spaces → HasCollapsedAt place text collapsed
+    → HasCollapsedAt place (text ++ spaces) collapsed
+spaces_more Before text collapsed spaces other are h = (all_on IsSpace text spaces h.0 are, h.1)
+spaces_more Within text collapsed spaces other are h = absurd (other refl)
+spaces_more Behind text collapsed spaces other are (parts, rest, h, some, gap) = (
+  parts,
+  rest ++ spaces,
+  record {
+    are = h.are;
+    spaces = all_on IsSpace rest spaces h.spaces are;
+    spelled = ap (λ t. t ++ spaces) h.spelled ∙ append_assoc (flat_map part_text parts) rest spaces;
+    joined_is = h.joined_is;
+  },
+  some,
+  omega (arith, length-append rest spaces, gap),
+)
+
+pub spaces_after : (old now : Place) (text collapsed spaces : List ℕ) → 0 < length spaces → AllByRecursion IsSpace spaces
+    → ((c : ℕ) (text collapsed : List ℕ) → IsSpace c → HasCollapsedAt old text collapsed → HasCollapsedAt now (text ++ c ∷ []) collapsed)
+    → (now ≡ Within → ⊥) → HasCollapsedAt old text collapsed → HasCollapsedAt now (text ++ spaces) collapsed
+spaces_after old now text collapsed [] some are first other h = absurd (omega (arith, some))
+spaces_after old now text collapsed (c ∷ spaces) some are first other h =
+    subst (λ t. HasCollapsedAt now t collapsed) (append_assoc text (c ∷ []) spaces)
+    (spaces_more now (text ++ c ∷ []) collapsed spaces other are.1 (first c text collapsed are.0 h))
+
+-- the rest of a word
+word_more : (text collapsed word : List ℕ) → AllByRecursion (λ c. IsSpace c → ⊥) word → HasCollapsedAt Within text collapsed
+    → HasCollapsedAt Within (text ++ word) (collapsed ++ word)
+word_more text collapsed [] are h = subst (λ t. HasCollapsedAt Within t (collapsed ++ [])) (sym (append-nil text)) (subst (λ t. HasCollapsedAt Within text t) (sym (append-nil collapsed)) h)
+word_more text collapsed (c ∷ word) are h =
+    subst (λ t. HasCollapsedAt Within t (collapsed ++ c ∷ word)) (append_assoc text (c ∷ []) word)
+    (subst (λ t. HasCollapsedAt Within ((text ++ c ∷ []) ++ word) t) (append_assoc collapsed (c ∷ []) word)
+    (word_more (text ++ c ∷ []) (collapsed ++ c ∷ []) word are.1 (char_within c text collapsed are.0 h)))
+
+word_on : (text collapsed begun word : List ℕ) (c : ℕ) → AllByRecursion (λ c. IsSpace c → ⊥) word → HasCollapsedAt Within (text ++ c ∷ []) (collapsed ++ begun)
+    → HasCollapsedAt Within (text ++ c ∷ word) (collapsed ++ (begun ++ word))
+word_on text collapsed begun word c are h =
+    subst (λ t. HasCollapsedAt Within t (collapsed ++ (begun ++ word))) (append_assoc text (c ∷ []) word)
+    (subst (λ t. HasCollapsedAt Within ((text ++ c ∷ []) ++ word) t) (append_assoc collapsed begun word)
+    (word_more (text ++ c ∷ []) (collapsed ++ begun) word are h))
+
+pub word_at : (place : Place) (text collapsed word : List ℕ) → (place ≡ Behind → ⊥) → IsWord word → HasCollapsedAt place text collapsed
+    → HasCollapsedAt Within (text ++ word) (collapsed ++ word)
+word_at place text collapsed [] other is h = absurd (let some = is.some in omega (arith, some))
+word_at Before text collapsed (c ∷ word) other is h = word_on text collapsed (c ∷ []) word c is.no_space.1 (char_before c text collapsed is.no_space.0 h)
+word_at Within text collapsed (c ∷ word) other is h = word_on text collapsed (c ∷ []) word c is.no_space.1 (char_within c text collapsed is.no_space.0 h)
+word_at Behind text collapsed (c ∷ word) other is h = absurd (other refl)
+
+pub word_behind : (text collapsed word : List ℕ) → IsWord word → HasCollapsedAt Behind text collapsed
+    → HasCollapsedAt Within (text ++ word) (collapsed ++ (32 ∷ [] ++ word))
+word_behind text collapsed [] is h = absurd (let some = is.some in omega (arith, some))
+word_behind text collapsed (c ∷ word) is h = word_on text collapsed (32 ∷ c ∷ []) word c is.no_space.1 (char_behind c text collapsed is.no_space.0 h)

@@ -1,5 +1,5 @@
 -- The bytes of a text, escaped, are its characters, escaped.
-use Rattle.std.proofs.Common.{◌≡◌, ℕ, zero, suc, ◌<◌, ◌≤◌, inl, inr, false, List, [], ◌∷◌, ◌++◌, length, take, drop, get_or, slice_index, refl, sym, ap, ap₂, ◌∙◌, arith, append_assoc, append-nil, take-append-drop}
+use Rattle.std.proofs.Common.{◌≡◌, ℕ, zero, suc, ◌<◌, ◌≤◌, inl, inr, Bool, true, false, flat_map, List, [], ◌∷◌, ◌++◌, length, take, drop, get_or, slice_index, refl, sym, ap, ap₂, ◌∙◌, arith, append_assoc, append-nil, take-append-drop}
 use Rattle.std.proofs.lemmas.Bool.{cases_lt}
 use Rattle.std.proofs.lemmas.Bool.Decides.{nat_tests}
 use Rattle.std.proofs.lemmas.Str.{encode_ascii, inside_one}
@@ -9,51 +9,56 @@ use Rattle.data_types.specs.Escaping.{escaped_byte, escaped_bytes, IsPlainByte}
 use Rattle.data_types.specs.Canonical.{escaped_text}
 use Rattle.data_types.proofs.VisibleTexts.{IsVisible, AreVisible}
 
-pub plain_byte : (b : ℕ) → IsPlainByte b → escaped_byte b ≡ b ∷ []
-plain_byte b p =
-    let n = p.no_ampersand in let l = p.no_less in let g = p.no_greater in let r = p.no_return in
-    grind (arith, nat_tests, n, l, g, r)
-
 -- bytes that all stand for themselves
-pub plain_front : (text : List ℕ) (count : ℕ) → count ≤ length text → ((k : ℕ) → k < count → IsPlainByte (slice_index text k)) → escaped_bytes (take count text) ≡ take count text
-plain_front text zero bound plain = refl
-plain_front [] (suc n) bound plain = refl
-plain_front (b ∷ text) (suc n) bound plain =
-    ap₂ (λ (x y : List ℕ). x ++ y) (plain_byte b (plain 0 (omega arith))) (plain_front text n (omega (arith, bound)) (λ k lt. plain (suc k) (omega (arith, lt))))
+pub plain_front : (attribute : Bool) (text : List ℕ) (count : ℕ) → count ≤ length text → ((k : ℕ) → k < count → IsPlainByte attribute (slice_index text k))
+    → escaped_bytes attribute (take count text) ≡ take count text
+plain_front attribute text zero bound plain = refl
+plain_front attribute [] (suc n) bound plain = refl
+plain_front attribute (b ∷ text) (suc n) bound plain =
+    ap₂ (λ (x y : List ℕ). x ++ y) (plain 0 (omega arith)) (plain_front attribute text n (omega (arith, bound)) (λ k lt. plain (suc k) (omega (arith, lt))))
 
-pub escaped_bytes-append : (a b : List ℕ) → escaped_bytes (a ++ b) ≡ escaped_bytes a ++ escaped_bytes b
-escaped_bytes-append [] b = refl
-escaped_bytes-append (x ∷ a) b = ap (λ l. escaped_byte x ++ l) (escaped_bytes-append a b) ∙ sym (append_assoc (escaped_byte x) (escaped_bytes a) (escaped_bytes b))
+pub escaped_bytes-append : (attribute : Bool) (a b : List ℕ) → escaped_bytes attribute (a ++ b) ≡ escaped_bytes attribute a ++ escaped_bytes attribute b
+escaped_bytes-append attribute [] b = refl
+escaped_bytes-append attribute (x ∷ a) b =
+    ap (λ l. escaped_byte attribute x ++ l) (escaped_bytes-append attribute a b) ∙ sym (append_assoc (escaped_byte attribute x) (escaped_bytes attribute a) (escaped_bytes attribute b))
 
 -- the first bytes, escaped, and what is behind them
-pub escaped_split : (text : List ℕ) (count : ℕ) → escaped_bytes text ≡ escaped_bytes (take count text) ++ escaped_bytes (drop count text)
-escaped_split text count = ap escaped_bytes (sym (take-append-drop count text)) ∙ escaped_bytes-append (take count text) (drop count text)
+pub escaped_split : (attribute : Bool) (text : List ℕ) (count : ℕ) → escaped_bytes attribute text ≡ escaped_bytes attribute (take count text) ++ escaped_bytes attribute (drop count text)
+escaped_split attribute text count =
+    ap (escaped_bytes attribute) (sym (take-append-drop count text)) ∙ escaped_bytes-append attribute (take count text) (drop count text)
 
-high_bytes : (bytes : List ℕ) → ((k : ℕ) → k < length bytes → 128 ≤ get_or bytes k 0) → escaped_bytes bytes ≡ bytes
-high_bytes [] h = refl
-high_bytes (b ∷ bytes) h =
-    let high : 128 ≤ b = h 0 (omega arith) in
-    let plain : IsPlainByte b = record { no_ampersand = λ e. omega (arith, e, high); no_less = λ e. omega (arith, e, high); no_greater = λ e. omega (arith, e, high); no_return = λ e. omega (arith, e, high) } in
-    ap₂ (λ (x y : List ℕ). x ++ y) (plain_byte b plain) (high_bytes bytes (λ k lt. h (suc k) (omega (arith, lt))))
+high_byte : (attribute : Bool) (b : ℕ) → 128 ≤ b → IsPlainByte attribute b
+high_byte true b high = grind (arith, nat_tests, high)
+high_byte false b high = grind (arith, nat_tests, high)
 
-ascii_char : (c : ℕ) → encode_utf8 c ≡ c ∷ [] → escaped_byte c ++ [] ≡ escaped false c
-ascii_char c e = rw (e, append-nil) refl
+high_bytes : (attribute : Bool) (bytes : List ℕ) → ((k : ℕ) → k < length bytes → 128 ≤ get_or bytes k 0) → escaped_bytes attribute bytes ≡ bytes
+high_bytes attribute [] h = refl
+high_bytes attribute (b ∷ bytes) h =
+    ap₂ (λ (x y : List ℕ). x ++ y) (high_byte attribute b (h 0 (omega arith))) (high_bytes attribute bytes (λ k lt. h (suc k) (omega (arith, lt))))
 
-high_char : (c : ℕ) → 128 ≤ c → escaped false c ≡ encode_utf8 c
-high_char c high = grind (arith, nat_tests, high)
+ascii_char : (attribute : Bool) (c : ℕ) → encode_utf8 c ≡ c ∷ [] → escaped_byte attribute c ++ [] ≡ escaped attribute c
+ascii_char attribute c e = rw (e, append-nil) refl
 
-one_char : (c : ℕ) → escaped_bytes (encode_utf8 c) ≡ escaped false c
-one_char c = elim (cases_lt c 128) [
-  | inl small ↦ ap escaped_bytes (encode_ascii c small) ∙ ascii_char c (encode_ascii c small)
-  | inr big ↦ high_bytes (encode_utf8 c) (λ k below. elim (cases_lt (get_or (encode_utf8 c) k 0) 128) [
+high_char : (attribute : Bool) (c : ℕ) → 128 ≤ c → escaped attribute c ≡ encode_utf8 c
+high_char true c high = grind (arith, nat_tests, high)
+high_char false c high = grind (arith, nat_tests, high)
+
+one_char : (attribute : Bool) (c : ℕ) → escaped_bytes attribute (encode_utf8 c) ≡ escaped attribute c
+one_char attribute c = elim (cases_lt c 128) [
+  | inl small ↦ ap (escaped_bytes attribute) (encode_ascii c small) ∙ ascii_char attribute c (encode_ascii c small)
+  | inr big ↦ high_bytes attribute (encode_utf8 c) (λ k below. elim (cases_lt (get_or (encode_utf8 c) k 0) 128) [
     | inl low ↦ absurd (omega (arith, inside_one c [] (encode_utf8 c) k (sym (append-nil _)) below low, big, low))
     | inr h ↦ h
-  ]) ∙ sym (high_char c big)
+  ]) ∙ sym (high_char attribute c big)
 ]
 
-pub escaped_chars : (chars : List ℕ) → escaped_bytes (encode_utf8_all chars) ≡ escaped_text chars
-escaped_chars [] = refl
-escaped_chars (c ∷ chars) = escaped_bytes-append (encode_utf8 c) (encode_utf8_all chars) ∙ ap₂ (λ (x y : List ℕ). x ++ y) (one_char c) (escaped_chars chars)
+pub escaped_by_chars : (attribute : Bool) (chars : List ℕ) → escaped_bytes attribute (encode_utf8_all chars) ≡ flat_map (escaped attribute) chars
+escaped_by_chars attribute [] = refl
+escaped_by_chars attribute (c ∷ chars) =
+    escaped_bytes-append attribute (encode_utf8 c) (encode_utf8_all chars) ∙ ap₂ (λ (x y : List ℕ). x ++ y) (one_char attribute c) (escaped_by_chars attribute chars)
+
+pub escaped_chars : (chars : List ℕ) → escaped_bytes false (encode_utf8_all chars) ≡ escaped_text chars
+escaped_chars chars = escaped_by_chars false chars
 
 -- characters that stand for themselves are their own bytes
 visible_char : (c : ℕ) → IsVisible c → escaped false c ≡ c ∷ []

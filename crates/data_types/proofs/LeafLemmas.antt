@@ -1,6 +1,8 @@
 -- The leaf that is kept, a character at a time, and its answers.
-use Rattle.std.proofs.Common.{◌≡◌, ℕ, ◌+◌, ◌≤◌, ◌⊎◌, inl, inr, false, List, [], ◌∷◌, ◌++◌, length, Option, Err, refl, sym, ap, subst, ◌∙◌, append_assoc, append-nil, length-append, arith, ◌==◌}
+use Rattle.std.proofs.Common.{◌≡◌, ℕ, ◌+◌, ◌≤◌, ◌⊎◌, inl, inr, Bool, true, false, List, [], ◌∷◌, ◌++◌, length, Option, Err, refl, sym, ap, subst, ◌∙◌, append_assoc, append-nil, length-append, arith, ◌==◌}
 use Rattle.std.proofs.lemmas.List.Elements.{filter-append}
+use Rattle.std.proofs.lemmas.Str.{encodes-append}
+use Rattle.lexical_core.proofs.ReadSoFar.{AllByRecursion-append}
 use Rattle.std.proofs.lemmas.Bool.Decides.{nat_tests}
 use Rattle.std.specs.Prelude.{encode_utf8, encode_utf8_all}
 use Rattle.std.specs.List.{AllByRecursion}
@@ -15,18 +17,18 @@ use Rattle.data_types.specs.declared.kind.Kind.{Kind}
 use Rattle.data_types.specs.declared.kind.Kind.TheVariants as kind
 use Rattle.data_types.specs.declared.collapse.Collapsed.{Collapsed}
 use Rattle.data_types.specs.declared.collapse.Collapsed.TheVariants.{Nothing, Char, SpaceAndChar}
-use Rattle.data_types.specs.declared.leaf_step.Body.{Body}
-use Rattle.data_types.specs.declared.leaf_step.Body.TheVariants.{Text, Octets}
+use Rattle.data_types.specs.declared.collapsed_step.Value.{Value}
+use Rattle.data_types.specs.declared.collapsed_step.Value.TheVariants.{Octets}
 use Rattle.data_types.specs.declared.octets.OctetStep.{OctetStep}
 use Rattle.data_types.specs.WhiteSpace.{IsSpace, IsCollapsed}
 use Rattle.data_types.specs.Binaries.{IsBinaryText, without_spaces}
-use Rattle.data_types.specs.Collapsing.{gained}
+use Rattle.data_types.specs.Collapsing.{gained, gap_text}
 use Rattle.data_types.specs.Limits.{IsWithin}
 use Rattle.data_types.specs.Kept.{Holds}
 use Rattle.data_types.specs.OctetSteps.{HasDecoded, IsOctetFault}
 use Rattle.data_types.specs.Leaf.{Leaf, Bytes, Number, IsDecimalLeaf, IsBinaryLeaf, HasDecimalForm, HasLeafForm}
 use Rattle.data_types.specs.LeafAnswers.{IsLeafAnswer}
-use Rattle.data_types.specs.LeafSteps.{HasBody, IsText}
+use Rattle.data_types.specs.LeafSteps.{HasValue, IsText}
 use Rattle.data_types.proofs.CollapseLaw.{one_collapsed}
 
 -- ---- texts
@@ -50,12 +52,16 @@ text_taken old now bytes c code xml takes most chars has =
           (subst (λ t. Holds now most (length chars + 1) t) joined (takes most (length chars) (encode_utf8_all chars) has.1)),
     )
 
-pub text_kept : (body : Body) (old now : Kept) (c : ℕ) → body ≡ Text old
-    → ((most : Option ℕ) (chars : List ℕ) → IsText old most chars → IsText now most (chars ++ c ∷ []))
-    → (k : Kind) (most : Option ℕ) (chars collapsed : List ℕ) → HasBody k body most chars collapsed
-    → (k ≡ kind.Text) × IsText now most (chars ++ c ∷ [])
-text_kept body old now c is takes k most chars collapsed has =
-    let held = subst (λ (b : Body). HasBody k b most chars collapsed) is has in (held.0, takes most chars held.1)
+pub run_taken : (old now : Kept) (bytes cs : List ℕ) (count : ℕ) → bytes ≡ encode_utf8_all cs → length cs ≡ count → AllByRecursion IsXmlChar cs
+    → ((most : Option ℕ) (before : ℕ) (all : List ℕ) → Holds old most before all → Holds now most (before + count) (all ++ bytes))
+    → (most : Option ℕ) (chars : List ℕ) → IsText old most chars → IsText now most (chars ++ cs)
+run_taken old now bytes cs count code size xml takes most chars has =
+    let joined : encode_utf8_all chars ++ bytes ≡ encode_utf8_all (chars ++ cs) = ap (λ b. encode_utf8_all chars ++ b) code ∙ sym (encodes-append chars cs) in
+    let total : length chars + count ≡ length (chars ++ cs) = omega (arith, size, length-append chars cs) in (
+      AllByRecursion-append IsXmlChar chars cs has.0 xml,
+      subst (λ n. Holds now most n (encode_utf8_all (chars ++ cs))) total
+          (subst (λ t. Holds now most (length chars + count) t) joined (takes most (length chars) (encode_utf8_all chars) has.1)),
+    )
 
 -- ---- octets
 
@@ -78,15 +84,40 @@ octets_taken old now gain c space some step most text h =
     filter-append _ text (gained gain c) ∙ ap (λ t. without_spaces text ++ t) (no_spaces_in gain c space some) in
     subst (HasDecoded now most) (sym same) (step most (without_spaces text) h)
 
-pub octets_kept : (body : Body) (step now : OctetStep) (gain : Collapsed) (c : ℕ) → body ≡ Octets step
+pub octets_kept : (body : Value) (step now : OctetStep) (gain : Collapsed) (c : ℕ) → body ≡ Octets step
     → ((most : Option ℕ) (text : List ℕ) → HasDecoded step most (without_spaces text) → HasDecoded now most (without_spaces (text ++ gained gain c)))
     → length now.kept.bytes.held + now.count ≤ length step.kept.bytes.held + step.count + 1
-    → (k : Kind) (most : Option ℕ) (chars collapsed : List ℕ) → HasBody k body most chars collapsed
+    → (k : Kind) (most : Option ℕ) (chars collapsed : List ℕ) → HasValue k body most chars collapsed
     → (k ≡ kind.Binary) × HasDecoded now most (without_spaces (collapsed ++ gained gain c)) × (length now.kept.bytes.held + now.count ≤ length (chars ++ c ∷ []))
 octets_kept body step now gain c is grows bound k most chars collapsed has =
-    let held = subst (λ (b : Body). HasBody k b most chars collapsed) is has in
+    let held = subst (λ (b : Value). HasValue k b most chars collapsed) is has in
     let few = held.2 in
     (held.0, grows most collapsed held.1, omega (arith, few, bound, length-append chars (c ∷ [])))
+
+-- a word has no spaces
+no_spaces_among : (word : List ℕ) → AllByRecursion (λ c. IsSpace c → ⊥) word → without_spaces word ≡ word
+no_spaces_among [] none = refl
+no_spaces_among (c ∷ word) none =
+    let no : (c == 32) ≡ false = not_space c none.0 in rw no (ap (λ t. c ∷ t) (no_spaces_among word none.1))
+  where
+    not_space : (c : ℕ) → (IsSpace c → ⊥) → (c == 32) ≡ false
+    not_space c none = grind (arith, nat_tests)
+
+no_space_gap : (gap : Bool) (word : List ℕ) → AllByRecursion (λ c. IsSpace c → ⊥) word → without_spaces (gap_text gap ++ word) ≡ word
+no_space_gap true word none = no_spaces_among word none
+no_space_gap false word none = no_spaces_among word none
+
+pub word_kept : (body : Value) (step now : OctetStep) (gap : Bool) (word : List ℕ) → body ≡ Octets step → AllByRecursion (λ c. IsSpace c → ⊥) word
+    → ((most : Option ℕ) (text : List ℕ) → HasDecoded step most text → HasDecoded now most (text ++ word))
+    → length now.kept.bytes.held + now.count ≤ length step.kept.bytes.held + step.count + length word
+    → (k : Kind) (most : Option ℕ) (chars collapsed : List ℕ) → HasValue k body most chars collapsed
+    → (k ≡ kind.Binary) × HasDecoded now most (without_spaces (collapsed ++ (gap_text gap ++ word))) × (length now.kept.bytes.held + now.count ≤ length (chars ++ word))
+word_kept body step now gap word is none grows bound k most chars collapsed has =
+    let held = subst (λ (b : Value). HasValue k b most chars collapsed) is has in
+    let few = held.2 in
+    let same : without_spaces (collapsed ++ (gap_text gap ++ word)) ≡ without_spaces collapsed ++ word =
+    filter-append _ collapsed (gap_text gap ++ word) ∙ ap (λ t. without_spaces collapsed ++ t) (no_space_gap gap word none) in
+    (held.0, subst (HasDecoded now most) (sym same) (grows most (without_spaces collapsed) held.1), omega (arith, few, bound, length-append chars word))
 
 binary_in : (chars text : List ℕ) (leaf : Leaf) → IsCollapsed chars text → IsBinaryLeaf chars leaf → (octets : List ℕ) × IsBinaryText octets text
 binary_in chars text (Bytes octets) collapsed (t, c, is) = (octets, subst (IsBinaryText octets) (one_collapsed chars t text c collapsed) is)

@@ -12,3 +12,5 @@ pub mod EscapeLemmas
 pub mod CanonicalLemmas
 pub mod LeavesByKind
 pub mod ValueLemmas
+pub mod RunLemmas
+pub mod Collapsible

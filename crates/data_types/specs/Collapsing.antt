@@ -1,5 +1,5 @@
 -- What is kept of a text while its white space is collapsed.
-use Rattle.std.specs.Prelude.{◌≡◌, ℕ, ◌<◌, ◌⊎◌, List, [], ◌∷◌, ◌++◌, length, flat_map}
+use Rattle.std.specs.Prelude.{◌≡◌, ℕ, Bool, true, false, ◌<◌, ◌⊎◌, List, [], ◌∷◌, ◌++◌, length, flat_map}
 use Rattle.std.specs.List.{AllByRecursion}
 use Rattle.data_types.specs.declared.collapse.Collapsed.{Collapsed}
 use Rattle.data_types.specs.declared.collapse.Collapsed.TheVariants.{Nothing, Char, SpaceAndChar}
@@ -13,6 +13,11 @@ abbrev pub gained : Collapsed → ℕ → List ℕ
 gained Nothing c = []
 gained Char c = c ∷ []
 gained SpaceAndChar c = 32 ∷ c ∷ []
+
+-- the space that a word has before it, where it has one
+abbrev pub gap_text : Bool → List ℕ
+gap_text true = 32 ∷ []
+gap_text false = []
 
 -- the whole words so far, and the white space after them
 pub record HasWords (text collapsed : List ℕ) (parts : List Part) (rest : List ℕ) : Type 0 where

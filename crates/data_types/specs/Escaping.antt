@@ -1,21 +1,21 @@
 -- How a writer spells the bytes of a text, which it does not take apart into characters.
-use Rattle.std.specs.Prelude.{ℕ, ◌≢◌, ◌==◌, if◌then◌else◌, List, [], ◌∷◌, codes, flat_map}
+use Rattle.std.specs.Prelude.{◌≡◌, ℕ, Bool, ◌==◌, ◌&&◌, if◌then◌else◌, List, [], ◌∷◌, codes, flat_map}
 
--- the spelling of a byte in an element's content
-abbrev pub escaped_byte : ℕ → List ℕ
-escaped_byte byte =
+-- the spelling of a byte in an element's content, and in the value of an attribute
+abbrev pub escaped_byte : Bool → ℕ → List ℕ
+escaped_byte attribute byte =
     if byte == 38 then codes "&amp;"
     else (if byte == 60 then codes "&lt;"
     else (if byte == 62 then codes "&gt;"
     else (if byte == 13 then codes "&#13;"
-    else byte ∷ [])))
+    else (if attribute && (byte == 34) then codes "&quot;"
+    else (if attribute && (byte == 9) then codes "&#9;"
+    else (if attribute && (byte == 10) then codes "&#10;"
+    else byte ∷ []))))))
 
-abbrev pub escaped_bytes : List ℕ → List ℕ
-escaped_bytes bytes = flat_map escaped_byte bytes
+abbrev pub escaped_bytes : Bool → List ℕ → List ℕ
+escaped_bytes attribute bytes = flat_map (escaped_byte attribute) bytes
 
 -- the byte stands for itself
-pub record IsPlainByte (byte : ℕ) : Type 0 where
-  pub no_ampersand : byte ≢ 38
-  pub no_less : byte ≢ 60
-  pub no_greater : byte ≢ 62
-  pub no_return : byte ≢ 13
+abbrev pub IsPlainByte : Bool → ℕ → Type 0
+IsPlainByte attribute byte = escaped_byte attribute byte ≡ byte ∷ []

@@ -5,6 +5,7 @@ pub mod Booleans
 pub mod Collapsing
 pub mod Binaries
 pub mod Leaf
+pub mod RunChars
 pub mod Limits
 pub mod KeptBytes
 pub mod Kept

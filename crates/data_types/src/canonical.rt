@@ -10,7 +10,7 @@ use crate::booleans::boolean_text;
 use crate::kind::Kind;
 use crate::leaf::LeafRef;
 use crate::octet_writer::push_octets;
-use crate::text_writer::push_text;
+use crate::text_writer::push_escaped;
 use lexical_core::Decimal;
 use outside::{Sink, SinkError};
 
@@ -27,7 +27,7 @@ pub fn push_leaf<O: Sink>(kind: Kind, leaf: &LeafRef<'_>, sink: &mut O) -> Resul
 {
     match leaf {
         LeafRef::Bytes(bytes) => match kind {
-            Kind::Text => push_text(bytes, sink),
+            Kind::Text => push_escaped(bytes, false, sink),
             Kind::Binary => push_octets(bytes, sink),
             _ => sink.push(bytes),
         },

@@ -1,7 +1,10 @@
 // White space collapsed, a character at a time: XML Schema part 2 §4.3.6.
-ghost use Rattle.std.specs.Prelude.{◌≡◌, ◌++◌, ◌∷◌, ◌↔◌, [], List, ℕ, IsTrue};
-ghost use Rattle.data_types.specs.WhiteSpace.{IsSpace, IsCollapsed};
-ghost use Rattle.data_types.specs.Collapsing.{gained, HasCollapsed, HasCollapsedAt};
+ghost use Rattle.std.specs.Prelude.{◌≡◌, ◌++◌, ◌∷◌, ◌≢◌, ◌<◌, [], List, ℕ, length};
+ghost use Rattle.std.specs.List.{AllByRecursion};
+ghost use Rattle.data_types.specs.WhiteSpace.{IsSpace, IsWord, IsCollapsed};
+ghost use Rattle.data_types.specs.Collapsing.{gained, gap_text, HasCollapsed, HasCollapsedAt};
+
+use lexical_core::is_space;
 
 /// What the collapsed text gains at a character.
 #[derive(Clone, Copy, Debug, PartialEq, Eq)]
@@ -53,6 +56,27 @@ impl Collapse {
         gain
     }
 
+    /// Takes some characters, all of them white space.
+    #[inline]
+    pub(crate) fn take_spaces(&mut self)
+        ensures { (text collapsed spaces : List ℕ) → 0 < length spaces → AllByRecursion IsSpace spaces
+            → HasCollapsed self.old text collapsed → HasCollapsed self.new (text ++ spaces) collapsed }
+    {
+        self.place = self.place.after_space();
+    }
+
+    /// Takes some characters, none of them white space, and tells whether the collapsed text gains a space
+    /// before them.
+    #[inline]
+    pub(crate) fn take_word(&mut self) -> bool
+        ensures { (text collapsed word : List ℕ) → IsWord word → HasCollapsed self.old text collapsed
+            → HasCollapsed self.new (text ++ word) (collapsed ++ (gap_text result ++ word)) }
+    {
+        let gap = self.place.has_gap();
+        self.place = Place::Within;
+        gap
+    }
+
     /// After any characters what was gained is the text collapsed.
     pub fn finish(&self)
         ensures { (text collapsed : List ℕ) → HasCollapsed self.now text collapsed
@@ -65,12 +89,25 @@ impl Collapse {
 impl Place {
     /// The place behind white space.
     fn after_space(self) -> Place
-        ensures { (c : ℕ) (text collapsed : List ℕ) → IsSpace c → HasCollapsedAt self text collapsed
+        ensures text { (c : ℕ) (text collapsed : List ℕ) → IsSpace c → HasCollapsedAt self text collapsed
             → HasCollapsedAt result (text ++ c ∷ []) collapsed }
+        ensures place { result ≢ Place.Within }
     {
         match self {
             Place::Before => Place::Before,
             Place::Within | Place::Behind => Place::Behind,
+        }
+    }
+
+    /// Whether the collapsed text gains a space before a word.
+    #[inline]
+    fn has_gap(self) -> bool
+        ensures { (text collapsed word : List ℕ) → IsWord word → HasCollapsedAt self text collapsed
+            → HasCollapsedAt Place.Within (text ++ word) (collapsed ++ (gap_text result ++ word)) }
+    {
+        match self {
+            Place::Before | Place::Within => false,
+            Place::Behind => true,
         }
     }
 
@@ -84,11 +121,4 @@ impl Place {
             Place::Behind => Collapsed::SpaceAndChar,
         }
     }
-}
-
-/// Whether the character is white space: XML 1.0 §2.3, S.
-pub fn is_space(c: char) -> bool
-    ensures { IsTrue result ↔ IsSpace c }
-{
-    matches!(c, ' ' | '\t' | '\n' | '\r')
 }

@@ -7,6 +7,7 @@ ghost use Rattle.lexical_core.specs.Exponents.{NoDigit};
 
 use crate::kind::Kind;
 use jiff::civil::Date;
+use lexical_core::digit_count;
 
 /// Whether the text is one of this kind of date or time, with or without a zone. Texts of other kinds are
 /// none.
@@ -179,20 +180,6 @@ fn fraction_end(seconds: bool, text: &[u8]) -> Option<usize>
     } else {
         None
     }
-}
-
-/// How many digits the bytes begin with.
-fn digit_count(bytes: &[u8]) -> usize
-    ensures bound { result ≤ length bytes.now }
-    ensures digits { AllDigits 10 (take result bytes.now) }
-    ensures rest { NoDigit (drop result bytes.now) }
-{
-    for (count, byte) in bytes.iter().enumerate() {
-        if !byte.is_ascii_digit() {
-            return count;
-        }
-    }
-    bytes.len()
 }
 
 /// Whether the text is a zone, or empty.

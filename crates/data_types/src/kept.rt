@@ -1,5 +1,5 @@
 // Bytes that are kept as long as their size, in characters or octets, is within a limit.
-ghost use Rattle.std.specs.Prelude.{◌≡◌, ◌+◌, ◌*◌, ◌≤◌, [], ◌++◌, length, Option, List, ℕ, OnOk, OnErr, IsOk, IfSome, IfNone};
+ghost use Rattle.std.specs.Prelude.{◌≡◌, ◌+◌, ◌*◌, ◌^◌, ◌<◌, ◌≤◌, [], ◌++◌, length, Option, List, ℕ, OnOk, OnErr, IsOk, IfSome, IfNone};
 ghost use Rattle.data_types.specs.Limits.{IsWithin, IsPast};
 
 use crate::kept_bytes::KeptBytes;
@@ -67,6 +67,7 @@ impl Kept {
     /// Makes room for so many more bytes.
     pub fn reserve(&mut self, count: usize) -> Result<(), AllocError>
         ensures ok { OnOk result (length self.new.bytes.held + count ≤ self.new.bytes.room) }
+        ensures err { OnErr result (self.new ≡ self.old) }
         ensures kept { (most : Option ℕ) (size : ℕ) (bytes : List ℕ) → Holds self.old most size bytes
             → Holds self.new most size bytes }
         ensures within { length self.old.bytes.held + count ≤ self.old.bytes.room → IsOk result }
@@ -91,7 +92,8 @@ impl Kept {
 
     /// How many bytes are kept.
     pub fn len(&self) -> usize
-        ensures { result ≡ length self.now.bytes.held }
+        ensures count { result ≡ length self.now.bytes.held }
+        ensures small { result < 2 ^ 63 }
     {
         self.bytes.len()
     }

@@ -1,5 +1,5 @@
 // Bytes that are kept in memory, with the room that there is for more.
-ghost use Rattle.std.specs.Prelude.{◌≡◌, ◌+◌, ◌≤◌, [], ◌∷◌, ◌++◌, length, OnOk, OnErr, IsOk};
+ghost use Rattle.std.specs.Prelude.{◌≡◌, ◌+◌, ◌≤◌, ◌<◌, ◌^◌, [], ◌∷◌, ◌++◌, length, OnOk, OnErr, IsOk};
 
 use std::alloc::{AllocError, Global};
 use std::marker::Model;
@@ -65,6 +65,7 @@ impl KeptBytes {
     /// Makes room for so many more bytes.
     pub fn reserve(&mut self, count: usize) -> Result<(), AllocError>
         ensures ok { OnOk result (length self.new.held + count ≤ self.new.room) }
+        ensures err { OnErr result (self.new ≡ self.old) }
         ensures within { length self.old.held + count ≤ self.old.room → IsOk result }
         ensures room { self.old.room ≤ self.new.room }
         ensures held { self.new.held ≡ self.old.held }
@@ -89,8 +90,9 @@ impl KeptBytes {
 
     /// How many bytes there are.
     pub fn len(&self) -> usize
-        ensures { result ≡ length self.now.held }
+        ensures count { result ≡ length self.now.held }
+        ensures small { result < 2 ^ 63 }
     {
-        self.bytes.len()
+        self.bytes.as_slice().len()
     }
 }

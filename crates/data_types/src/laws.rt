@@ -1,9 +1,10 @@
 // Laws on the definitions of leaves and their texts: each is the contract of a function that does nothing.
-ghost use Rattle.std.specs.Prelude.{◌≡◌, ◌≢◌, ◌↔◌, Bool, List, ℕ};
+ghost use Rattle.std.specs.Prelude.{◌≡◌, ◌≢◌, ◌↔◌, Bool, List, ℕ, length};
+ghost use Rattle.std.specs.List.{AllByRecursion};
 ghost use Rattle.base64.specs.GeneralPurpose.{IsBytes};
 ghost use Rattle.lexical_core.specs.Characters.{IsXmlText};
 ghost use Rattle.lexical_core.specs.Decimals.{Number as DecimalNumber, IsDecimal};
-ghost use Rattle.data_types.specs.WhiteSpace.{IsCollapsed};
+ghost use Rattle.data_types.specs.WhiteSpace.{IsSpace, IsCollapsed};
 ghost use Rattle.data_types.specs.Dates.{IsDateText};
 ghost use Rattle.data_types.specs.Leaf.{Leaf, Bytes, Number, Flag, IsLeaf, IsLeafOf};
 ghost use Rattle.data_types.specs.Canonical.{IsCanonicalLeaf};
@@ -13,6 +14,17 @@ ghost use Rattle.data_types.specs.declared.kind.Kind.{Kind};
 /// A text has one collapsed text.
 pub fn a_text_is_collapsed_one_way()
     ensures { (text one two : List ℕ) → IsCollapsed text one → IsCollapsed text two → one ≡ two }
+{}
+
+/// A text has a collapsed text.
+pub fn a_text_has_a_collapsed_text()
+    ensures { (text : List ℕ) → (collapsed : List ℕ) × IsCollapsed text collapsed }
+{}
+
+/// A collapsed text without white space that is as long as the text is the text.
+pub fn a_collapsed_word_of_the_same_length_is_the_text()
+    ensures { (text collapsed : List ℕ) → AllByRecursion (λ c. IsSpace c → ⊥) collapsed
+        → IsCollapsed text collapsed → length collapsed ≡ length text → collapsed ≡ text }
 {}
 
 /// Characters spell at most one leaf of a kind.

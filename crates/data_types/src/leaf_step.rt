@@ -1,45 +1,31 @@
 // The leaf that characters spell, taken one at a time: XML Schema part 2 §3.2.
-ghost use Rattle.std.specs.Prelude.{◌≡◌, ◌+◌, ◌*◌, ◌≤◌, ◌++◌, ◌∷◌, [], length, Option, List, ℕ, IsOk, OnOk, OnErr};
+ghost use Rattle.std.specs.Prelude.{◌≡◌, ◌+◌, ◌*◌, ◌^◌, ◌<◌, ◌≤◌, ◌++◌, ◌∷◌, [], length, Option, List, ℕ, IsOk, OnOk, OnErr};
 ghost use Rattle.lexical_core.specs.Characters.{IsXmlChar};
-ghost use Rattle.lexical_core.specs.DecimalSoFar.{HasRead};
-ghost use Rattle.data_types.specs.WhiteSpace.{IsSpace, IsCollapsed};
-ghost use Rattle.data_types.specs.Binaries.{without_spaces};
-ghost use Rattle.data_types.specs.Collapsing.{gained};
-ghost use Rattle.data_types.specs.OctetSteps.{HasDecoded};
-ghost use Rattle.data_types.specs.ShortTexts.{HasKept};
+ghost use Rattle.lexical_core.specs.XmlRuns.{IsXmlRun};
 ghost use Rattle.data_types.specs.LeafAnswers.{IsLeafAnswer};
-ghost use Rattle.data_types.specs.LeafSteps.{HasTaken, HasBody, IsText, IsShortKind, memory_of, kept, room, spare};
+ghost use Rattle.data_types.specs.LeafSteps.{HasTaken, HasBody, IsText, kept, in_place, room, spare};
 
-use crate::booleans::boolean_of;
-use crate::collapse::{Collapse, Collapsed};
-use crate::dates::is_date_text;
+use crate::collapsed_step::CollapsedStep;
 use crate::kept::Kept;
 use crate::kind::Kind;
 use crate::leaf::LeafRef;
-use crate::octets::OctetStep;
-use crate::short::ShortText;
-use lexical_core::{DecimalStep, DecimalText, Rule};
+use lexical_core::Rule;
 use std::alloc::{AllocError, Global};
 
-/// What is kept of the characters, by the kind.
+/// What is kept of the characters.
 #[derive(Debug, Drop)]
 enum Body {
-    /// A text, as it is.
+    /// Of a text: as it is.
     Text(Kept),
-    /// A decimal.
-    Decimal(DecimalStep),
-    /// A truth value, a date or a time.
-    Short(ShortText),
-    /// A binary value.
-    Octets(OctetStep),
+    /// Of any other kind: with white space collapsed.
+    Collapsed(CollapsedStep),
 }
 
-/// A reader of the text of a leaf that takes a character at a time. It takes memory for the bytes of texts
-/// and the octets of binary values alone.
+/// A reader of the text of a leaf that takes a character or a run of characters at a time. It takes memory for
+/// the bytes of texts and the octets of binary values alone.
 #[derive(Debug, Drop)]
 pub struct LeafStep {
     kind: Kind,
-    collapse: Collapse,
     body: Body,
 }
 
@@ -64,7 +50,6 @@ impl LeafStep {
     {
         LeafStep {
             kind,
-            collapse: Collapse::new(),
             body: Body::new(alloc, kind, most),
         }
     }
@@ -76,8 +61,10 @@ impl LeafStep {
         ensures spare { spare self.new ≡ room self.old }
         ensures room { room self.new ≡ room self.old }
     {
-        self.collapse = Collapse::new();
-        self.body.restart();
+        match &mut self.body {
+            Body::Text(text) => text.restart(),
+            Body::Collapsed(step) => step.restart(),
+        }
     }
 
     /// Makes room for so many more bytes of a text, or octets of a binary value. Whatever the answer, the
@@ -89,7 +76,10 @@ impl LeafStep {
         ensures room { room self.old ≤ room self.new }
         ensures kept { kept self.new ≡ kept self.old }
     {
-        self.body.reserve(bytes)
+        match &mut self.body {
+            Body::Text(text) => text.reserve(bytes),
+            Body::Collapsed(step) => step.reserve(bytes),
+        }
     }
 
     /// Takes a character. After want of memory all is as before.
@@ -102,23 +92,55 @@ impl LeafStep {
         ensures spare { spare self.old ≤ spare self.new + 4 }
         ensures room { room self.old ≤ room self.new }
     {
-        let mut collapse = self.collapse;
-        let gained = collapse.take(c);
-        self.body.take(gained, c)?;
-        self.collapse = collapse;
-        Ok(())
+        match &mut self.body {
+            Body::Text(text) => take_text(text, c),
+            Body::Collapsed(step) => step.take(c),
+        }
+    }
+
+    /// Takes a run of so many characters. After want of memory all is as before. It takes no memory while its
+    /// spare is at least the bytes of the run and 3.
+    pub fn take_run(&mut self, run: &[u8], count: usize) -> Result<(), AllocError>
+        requires { IsXmlRun run.now count }
+        ensures ok { OnOk result ((r : IsXmlRun run.now count) (kind : Kind) (most : Option ℕ) (chars : List ℕ)
+            → HasTaken self.old kind most chars → HasTaken self.new kind most (chars ++ r.chars)) }
+        ensures err { OnErr result (self.new ≡ self.old) }
+        ensures within { length run.now + 3 ≤ spare self.old → IsOk result }
+        ensures spare { spare self.old ≤ spare self.new + (length run.now + 3) }
+        ensures room { room self.old ≤ room self.new }
+    {
+        match &mut self.body {
+            Body::Text(text) => take_text_run(text, run, count),
+            Body::Collapsed(step) => step.take_run(run, count),
+        }
     }
 
     /// How many bytes are kept: at most four to each character that was taken, and at most four to each
     /// character or octet that the limit allows.
     pub fn kept(&self) -> usize
         ensures count { result ≡ kept self.now }
+        ensures small { result < 2 ^ 63 }
         ensures chars { (kind : Kind) (most : Option ℕ) (chars : List ℕ) → HasTaken self.now kind most chars
             → result ≤ 4 * length chars }
         ensures most { (kind : Kind) (most : ℕ) (chars : List ℕ)
             → HasTaken self.now kind (Some most) chars → result ≤ 4 * most }
     {
-        self.body.kept()
+        match &self.body {
+            Body::Text(text) => text.len(),
+            Body::Collapsed(step) => step.kept(),
+        }
+    }
+
+    /// How many bytes are held in place, in no memory of their own: those of a truth value, a date or a time, and of
+    /// the group of a binary value that is begun.
+    pub fn in_place(&self) -> usize
+        ensures count { result ≡ in_place self.now }
+        ensures few { result ≤ 35 }
+    {
+        match &self.body {
+            Body::Text(_) => 0,
+            Body::Collapsed(step) => step.in_place(),
+        }
     }
 
     /// The leaf that the characters spell. `BadText` where they have not the form of the kind, `BadLength`
@@ -128,84 +150,20 @@ impl LeafStep {
         ensures { (kind : Kind) (most : Option ℕ) (chars : List ℕ) → HasTaken self.now kind most chars
             → IsLeafAnswer kind most chars result }
     {
-        self.collapse.finish();
         match &self.body {
             Body::Text(text) => text_leaf(text),
-            Body::Decimal(step) => decimal_leaf(step),
-            Body::Short(text) => short_leaf(self.kind, text),
-            Body::Octets(step) => binary_leaf(step),
+            Body::Collapsed(step) => step.finish(self.kind),
         }
     }
 }
 
 impl Body {
     fn new(alloc: Global, kind: Kind, most: Option<u64>) -> Body
-        ensures { HasBody kind result most [] [] }
+        ensures { HasBody kind result most [] }
     {
         match kind {
             Kind::Text => Body::Text(Kept::new(alloc, most)),
-            Kind::Decimal => Body::Decimal(DecimalStep::new()),
-            Kind::Binary => Body::Octets(OctetStep::new(alloc, most)),
-            _ => Body::Short(ShortText::new()),
-        }
-    }
-
-    fn restart(&mut self)
-        ensures taken { (kind : Kind) (most : Option ℕ) (chars collapsed : List ℕ)
-            → HasBody kind self.old most chars collapsed → HasBody kind self.new most [] [] }
-        ensures held { (memory_of self.new).held ≡ [] }
-        ensures room { (memory_of self.new).room ≡ (memory_of self.old).room }
-    {
-        match self {
-            Body::Text(text) => text.restart(),
-            Body::Decimal(step) => *step = DecimalStep::new(),
-            Body::Short(text) => *text = ShortText::new(),
-            Body::Octets(step) => step.restart(),
-        }
-    }
-
-    fn reserve(&mut self, bytes: usize) -> Result<(), AllocError>
-        ensures ok { OnOk result (length (memory_of self.new).held + bytes ≤ (memory_of self.new).room) }
-        ensures taken { (kind : Kind) (most : Option ℕ) (chars collapsed : List ℕ)
-            → HasBody kind self.old most chars collapsed → HasBody kind self.new most chars collapsed }
-        ensures held { (memory_of self.new).held ≡ (memory_of self.old).held }
-        ensures room { (memory_of self.old).room ≤ (memory_of self.new).room }
-    {
-        match self {
-            Body::Text(text) => text.reserve(bytes),
-            Body::Decimal(_) | Body::Short(_) => Ok(()),
-            Body::Octets(step) => step.reserve(bytes),
-        }
-    }
-
-    /// Takes a character, and what the collapsed text gains at it.
-    fn take(&mut self, gain: Collapsed, c: char) -> Result<(), AllocError>
-        requires char { IsXmlChar c }
-        requires space { IsSpace c → gain ≡ Collapsed.Nothing }
-        ensures ok { OnOk result ((kind : Kind) (most : Option ℕ) (chars collapsed : List ℕ)
-            → HasBody kind self.old most chars collapsed
-            → HasBody kind self.new most (chars ++ c ∷ []) (collapsed ++ gained gain c)) }
-        ensures err { OnErr result (self.new ≡ self.old) }
-        ensures within { length (memory_of self.old).held + 4 ≤ (memory_of self.old).room → IsOk result }
-        ensures room { (memory_of self.old).room ≤ (memory_of self.new).room }
-        ensures count { length (memory_of self.new).held ≤ length (memory_of self.old).held + 4 }
-    {
-        match self {
-            Body::Text(text) => return take_text(text, c),
-            Body::Decimal(step) => take_decimal(step, gain, c),
-            Body::Short(text) => take_short(text, gain, c),
-            Body::Octets(step) => return take_octets(step, gain, c),
-        }
-        Ok(())
-    }
-
-    fn kept(&self) -> usize
-        ensures { result ≡ length (memory_of self.now).held }
-    {
-        match self {
-            Body::Text(text) => text.len(),
-            Body::Decimal(_) | Body::Short(_) => 0,
-            Body::Octets(step) => step.len(),
+            _ => Body::Collapsed(CollapsedStep::new(alloc, kind, most)),
         }
     }
 }
@@ -226,49 +184,18 @@ fn take_text(text: &mut Kept, c: char) -> Result<(), AllocError>
     text.take(c.encode_utf8(&mut [0; 4]).as_bytes(), 1)
 }
 
-/// Takes what a decimal's text gains.
-fn take_decimal(step: &mut DecimalStep, gain: Collapsed, c: char)
-    ensures { (text : List ℕ) → HasRead step.old text → HasRead step.new (text ++ gained gain c) }
+/// Takes a run of characters of a text.
+#[inline]
+fn take_text_run(text: &mut Kept, run: &[u8], count: usize) -> Result<(), AllocError>
+    requires { IsXmlRun run.now count }
+    ensures ok { OnOk result ((r : IsXmlRun run.now count) (most : Option ℕ) (chars : List ℕ) → IsText text.old most chars
+        → IsText text.new most (chars ++ r.chars)) }
+    ensures err { OnErr result (text.new ≡ text.old) }
+    ensures within { length text.old.bytes.held + length run.now ≤ text.old.bytes.room → IsOk result }
+    ensures room { text.old.bytes.room ≤ text.new.bytes.room }
+    ensures count { length text.new.bytes.held ≤ length text.old.bytes.held + length run.now }
 {
-    match gain {
-        Collapsed::Nothing => {}
-        Collapsed::Char => step.take(c),
-        Collapsed::SpaceAndChar => {
-            step.take(' ');
-            step.take(c);
-        }
-    }
-}
-
-/// Takes what the text of a truth value, a date or a time gains.
-fn take_short(kept: &mut ShortText, gain: Collapsed, c: char)
-    ensures { (text : List ℕ) → HasKept kept.old text → HasKept kept.new (text ++ gained gain c) }
-{
-    match gain {
-        Collapsed::Nothing => {}
-        Collapsed::Char => kept.take(c),
-        Collapsed::SpaceAndChar => {
-            kept.take(' ');
-            kept.take(c);
-        }
-    }
-}
-
-/// Takes what a binary value's text gains, without its spaces.
-fn take_octets(step: &mut OctetStep, gain: Collapsed, c: char) -> Result<(), AllocError>
-    requires { IsSpace c → gain ≡ Collapsed.Nothing }
-    ensures ok { OnOk result ((most : Option ℕ) (text : List ℕ) → HasDecoded step.old most (without_spaces text)
-        → HasDecoded step.new most (without_spaces (text ++ gained gain c))) }
-    ensures err { OnErr result (step.new ≡ step.old) }
-    ensures within { length step.old.kept.bytes.held + 4 ≤ step.old.kept.bytes.room → IsOk result }
-    ensures room { step.old.kept.bytes.room ≤ step.new.kept.bytes.room }
-    ensures count { length step.new.kept.bytes.held + step.new.count
-        ≤ length step.old.kept.bytes.held + step.old.count + 1 }
-{
-    match gain {
-        Collapsed::Nothing => Ok(()),
-        Collapsed::Char | Collapsed::SpaceAndChar => step.take(c),
-    }
+    text.take(run, count as u64)
 }
 
 /// The leaf of a text's characters.
@@ -279,49 +206,5 @@ fn text_leaf(text: &Kept) -> Result<LeafRef<'_>, Rule>
     match text.whole() {
         Some(bytes) => Ok(LeafRef::Bytes(bytes)),
         None => Err(Rule::BadLength),
-    }
-}
-
-/// The leaf of a decimal's characters.
-fn decimal_leaf(step: &DecimalStep) -> Result<LeafRef<'_>, Rule>
-    ensures { (most : Option ℕ) (chars text : List ℕ) → IsCollapsed chars text → HasRead step.now text
-        → IsLeafAnswer Kind.Decimal most chars result }
-{
-    match step.finish() {
-        DecimalText::Value(number) => Ok(LeafRef::Number(number)),
-        DecimalText::TooLong => Err(Rule::Digits),
-        DecimalText::Bad => Err(Rule::BadText),
-    }
-}
-
-/// The leaf of a binary value's characters.
-fn binary_leaf(step: &OctetStep) -> Result<LeafRef<'_>, Rule>
-    ensures { (most : Option ℕ) (chars text : List ℕ) → IsCollapsed chars text
-        → HasDecoded step.now most (without_spaces text) → IsLeafAnswer Kind.Binary most chars result }
-{
-    match step.finish() {
-        Ok(octets) => Ok(LeafRef::Bytes(octets)),
-        Err(rule) => Err(rule),
-    }
-}
-
-/// The leaf of the characters of a truth value, a date or a time.
-fn short_leaf(kind: Kind, kept: &ShortText) -> Result<LeafRef<'_>, Rule>
-    ensures { (most : Option ℕ) (chars text : List ℕ) → IsShortKind kind → IsCollapsed chars text
-        → HasKept kept.now text → IsLeafAnswer kind most chars result }
-{
-    let Some(text) = kept.text() else {
-        return Err(Rule::BadText);
-    };
-    if kind == Kind::Boolean {
-        return match boolean_of(text) {
-            Some(flag) => Ok(LeafRef::Flag(flag)),
-            None => Err(Rule::BadText),
-        };
-    }
-    if is_date_text(kind, text) {
-        Ok(LeafRef::Bytes(text))
-    } else {
-        Err(Rule::BadText)
     }
 }

@@ -4,6 +4,7 @@
 mod booleans;
 mod canonical;
 mod collapse;
+mod collapsed_step;
 mod dates;
 mod kept;
 mod kept_bytes;
@@ -13,6 +14,7 @@ mod leaf;
 mod leaf_step;
 mod octet_writer;
 mod octets;
+mod run;
 mod short;
 mod text_writer;
 
@@ -23,6 +25,8 @@ pub use dates::is_date_text;
 pub use kind::Kind;
 pub use leaf::LeafRef;
 pub use leaf_step::LeafStep;
+pub use run::{RunChars, run_chars};
+pub use text_writer::push_escaped;
 
 #[cfg(test)]
 mod tests;

@@ -1,5 +1,5 @@
 // The octets of a base64 text that is taken a character at a time: XML Schema part 2 §3.2.16, as in RFC 4648 §4.
-ghost use Rattle.std.specs.Prelude.{◌≡◌, ◌+◌, ◌≤◌, ◌++◌, ◌∷◌, [], length, take, Option, List, ℕ, IsTrue, IsOk, IfOk, IfErr, IfSome, IfNone, OnOk, OnErr};
+ghost use Rattle.std.specs.Prelude.{◌≡◌, ◌+◌, ◌≤◌, ◌<◌, ◌^◌, ◌++◌, ◌∷◌, [], length, take, Option, List, ℕ, IsTrue, IsOk, IfOk, IfErr, IfSome, IfNone, OnOk, OnErr};
 ghost use Rattle.base64.specs.Engines.{standard};
 ghost use Rattle.base64.specs.GeneralPurpose.{IsBytes, encode_of};
 ghost use Rattle.data_types.specs.Limits.{IsWithin};
@@ -72,7 +72,7 @@ impl OctetStep {
         ensures ok { OnOk result ((most : Option ℕ) (text : List ℕ) → HasDecoded self.old most text
             → HasDecoded self.new most (text ++ c ∷ [])) }
         ensures err { OnErr result (self.new ≡ self.old) }
-        ensures within { length self.old.kept.bytes.held + 3 ≤ self.old.kept.bytes.room → IsOk result }
+        ensures within { length self.old.kept.bytes.held + self.old.count + 1 ≤ self.old.kept.bytes.room → IsOk result }
         ensures room { self.old.kept.bytes.room ≤ self.new.kept.bytes.room }
         ensures count { length self.new.kept.bytes.held + self.new.count
             ≤ length self.old.kept.bytes.held + self.old.count + 1 }
@@ -80,11 +80,28 @@ impl OctetStep {
         self.step(c)
     }
 
+    /// Takes the characters of these codes, one after another; there is room for what they may spell.
+    pub fn take_codes(&mut self, codes: &[u8])
+        requires { length self.old.kept.bytes.held + self.old.count + length codes.now ≤ self.old.kept.bytes.room }
+        ensures text { (most : Option ℕ) (text : List ℕ) → HasDecoded self.old most text
+            → HasDecoded self.new most (text ++ codes.now) }
+        ensures room { self.old.kept.bytes.room ≤ self.new.kept.bytes.room }
+        ensures count { length self.new.kept.bytes.held + self.new.count
+            ≤ length self.old.kept.bytes.held + self.old.count + length codes.now }
+    {
+        for code in codes {
+            match self.take(*code as char) {
+                Ok(()) => {}
+                Err(_) => unreachable!(),
+            }
+        }
+    }
+
     /// What remains to come.
     fn step(&mut self, c: char) -> Result<(), AllocError>
         ensures ok { OnOk result (IsStep self.old c self.new) }
         ensures err { OnErr result (self.new ≡ self.old) }
-        ensures within { length self.old.kept.bytes.held + 3 ≤ self.old.kept.bytes.room → IsOk result }
+        ensures within { length self.old.kept.bytes.held + self.old.count + 1 ≤ self.old.kept.bytes.room → IsOk result }
         ensures room { self.old.kept.bytes.room ≤ self.new.kept.bytes.room }
         ensures count { length self.new.kept.bytes.held + self.new.count
             ≤ length self.old.kept.bytes.held + self.old.count + 1 }
@@ -102,7 +119,7 @@ impl OctetStep {
         requires { self.old.stage ≡ Stage.Open }
         ensures ok { OnOk result (IsStep self.old c self.new) }
         ensures err { OnErr result (self.new ≡ self.old) }
-        ensures within { length self.old.kept.bytes.held + 3 ≤ self.old.kept.bytes.room → IsOk result }
+        ensures within { length self.old.kept.bytes.held + self.old.count + 1 ≤ self.old.kept.bytes.room → IsOk result }
         ensures room { self.old.kept.bytes.room ≤ self.new.kept.bytes.room }
         ensures count { length self.new.kept.bytes.held + self.new.count
             ≤ length self.old.kept.bytes.held + self.old.count + 1 }
@@ -125,7 +142,7 @@ impl OctetStep {
         requires full { self.old.count ≡ 3 }
         ensures ok { OnOk result (IsStep self.old last self.new) }
         ensures err { OnErr result (self.new ≡ self.old) }
-        ensures within { length self.old.kept.bytes.held + 3 ≤ self.old.kept.bytes.room → IsOk result }
+        ensures within { length self.old.kept.bytes.held + self.old.count + 1 ≤ self.old.kept.bytes.room → IsOk result }
         ensures room { self.old.kept.bytes.room ≤ self.new.kept.bytes.room }
         ensures count { length self.new.kept.bytes.held + self.new.count
             ≤ length self.old.kept.bytes.held + 4 }
@@ -148,6 +165,7 @@ impl OctetStep {
     /// Makes room for so many more octets.
     pub fn reserve(&mut self, count: usize) -> Result<(), AllocError>
         ensures ok { OnOk result (length self.new.kept.bytes.held + count ≤ self.new.kept.bytes.room) }
+        ensures err { OnErr result (self.new ≡ self.old) }
         ensures text { (most : Option ℕ) (text : List ℕ) → HasDecoded self.old most text
             → HasDecoded self.new most text }
         ensures within { length self.old.kept.bytes.held + count ≤ self.old.kept.bytes.room → IsOk result }
@@ -156,6 +174,23 @@ impl OctetStep {
         ensures count { self.new.count ≡ self.old.count }
     {
         self.kept.reserve(count)
+    }
+
+    /// Makes room for the octets of so many more characters. After want of memory all is as before.
+    pub fn reserve_for(&mut self, count: usize) -> Result<(), AllocError>
+        requires { count < 2 ^ 63 }
+        ensures ok { OnOk result (length self.new.kept.bytes.held + self.new.count + count ≤ self.new.kept.bytes.room) }
+        ensures err { OnErr result (self.new ≡ self.old) }
+        ensures text { (most : Option ℕ) (text : List ℕ) → HasDecoded self.old most text
+            → HasDecoded self.new most text }
+        ensures within { length self.old.kept.bytes.held + self.old.count + count ≤ self.old.kept.bytes.room → IsOk result }
+        ensures room { self.old.kept.bytes.room ≤ self.new.kept.bytes.room }
+        ensures held { self.new.kept.bytes.held ≡ self.old.kept.bytes.held }
+        ensures count { self.new.count ≡ self.old.count }
+        ensures few { self.old.count ≤ 3 }
+    {
+        let octets = self.count + count;
+        self.reserve(octets)
     }
 
     /// The octets that the characters so far spell. `BadText` where they are no base64 text, and `BadLength`
@@ -187,9 +222,18 @@ impl OctetStep {
         }
     }
 
+    /// How many characters there are of the group that is begun.
+    pub fn begun(&self) -> usize
+        ensures count { result ≡ self.now.count }
+        ensures few { result ≤ 3 }
+    {
+        self.count
+    }
+
     /// How many octets are kept.
     pub fn len(&self) -> usize
-        ensures { result ≡ length self.now.kept.bytes.held }
+        ensures count { result ≡ length self.now.kept.bytes.held }
+        ensures small { result < 2 ^ 63 }
     {
         self.kept.len()
     }

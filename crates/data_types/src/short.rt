@@ -1,5 +1,6 @@
 // A short ASCII text that is taken a character at a time and kept in place.
-ghost use Rattle.std.specs.Prelude.{◌≡◌, ◌≤◌, ◌++◌, ◌∷◌, [], List, ℕ, IfSome, IfNone};
+ghost use Rattle.std.specs.Prelude.{◌≡◌, ◌≤◌, ◌<◌, ◌++◌, ◌∷◌, [], List, ℕ, IfSome, IfNone};
+ghost use Rattle.std.specs.List.{AllByRecursion};
 
 /// The most characters that are kept: no text of a truth value, a date or a time has more.
 const MOST: usize = 35;
@@ -38,6 +39,30 @@ impl ShortText {
             self.bytes[self.count] = c as u8;
             self.count += 1;
         }
+    }
+
+    /// Takes the characters of these codes, one after another.
+    #[inline]
+    pub fn take_codes(&mut self, codes: &[u8])
+        requires { AllByRecursion (λ c. c < 128) codes.now }
+        ensures { (text : List ℕ) → HasKept self.old text → HasKept self.new (text ++ codes.now) }
+    {
+        if codes.len() > MOST - self.count {
+            self.failed = true;
+        }
+        if !self.failed {
+            let end = self.count + codes.len();
+            self.bytes[self.count..end].copy_from_slice(codes);
+            self.count = end;
+        }
+    }
+
+    /// How many characters are kept.
+    pub fn len(&self) -> usize
+        ensures count { result ≡ self.now.count }
+        ensures few { result ≤ 35 }
+    {
+        self.count
     }
 
     /// The characters as bytes; `None` where they are not all ASCII or too many.

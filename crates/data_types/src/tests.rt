@@ -4,8 +4,8 @@ ghost use Rattle.std.specs.Prelude.{IfOk, Option, List, ℕ};
 ghost use Rattle.data_types.specs.LeafSteps.{HasTaken};
 ghost use Rattle.data_types.specs.declared.kind.Kind.{Kind};
 
-use crate::{Kind, LeafRef, LeafStep, boolean_of, is_date_text, push_leaf};
-use lexical_core::{Rule, is_xml_char};
+use crate::{Kind, LeafRef, LeafStep, boolean_of, is_date_text, push_escaped, push_leaf};
+use lexical_core::{Rule, xml_run};
 use outside::{MemSink, SinkError};
 use std::alloc::{AllocError, Global};
 use std::process::Abort;
@@ -136,17 +136,14 @@ static PARTS: [(Kind, &str, Verdict); 19] = [
     (Kind::Envelope, "", Bad),
 ];
 
-/// The reader, given the characters of the text too.
+/// The reader, given the characters of the text too, as one run.
 fn read(step: LeafStep, text: &str) -> Result<LeafStep, AllocError>
     ensures { IfOk result (λ given. (kind : Kind) (most : Option ℕ) (chars : List ℕ)
         → HasTaken step kind most chars → (all : List ℕ) × HasTaken given kind most all) }
 {
     let mut given = step;
-    for c in text.chars() {
-        if is_xml_char(c) {
-            given.take(c)?;
-        }
-    }
+    let run = xml_run(text.as_bytes());
+    given.take_run(text.as_bytes().split_at(run.bytes).0, run.characters)?;
     Ok(given)
 }
 
@@ -289,6 +286,14 @@ fn are_pushed(rt: &impl Abort, alloc: Global, rows: &[(Kind, &str, &str)]) -> Re
 #[test]
 fn leaves_are_pushed(rt: HostRuntime) -> Result<(), Fail> {
     are_pushed(&rt, rt.alloc(), PUSHED.as_slice())
+}
+
+#[test]
+fn attributes_are_pushed(rt: HostRuntime) -> Result<(), Fail> {
+    let mut sink = MemSink::new(rt.alloc(), [].as_slice())?;
+    assert!(rt; push_escaped(b"A\"\t<\n\xE2\x82\xAC".as_slice(), true, &mut sink) == Ok(()));
+    assert!(rt; sink.bytes() == b"A&quot;&#9;&lt;&#10;\xE2\x82\xAC".as_slice());
+    Ok(())
 }
 
 #[test]

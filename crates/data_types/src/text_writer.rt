@@ -1,6 +1,7 @@
-// The bytes of a text, pushed on a sink with what XML asks to be escaped: XML 1.0 §2.4 and §2.11.
-ghost use Rattle.std.specs.Prelude.{◌≡◌, ◌<◌, ◌≤◌, ◌↔◌, IsTrue, length, take, slice_index};
+// The bytes of a text, pushed on a sink with what XML asks to be escaped: XML 1.0 §2.4, §2.11 and §3.3.3.
+ghost use Rattle.std.specs.Prelude.{◌≡◌, ◌<◌, ◌≤◌, ℕ, List, true, false, IsTrue, IfSome, IfNone, encode_utf8_all, flat_map, length, take};
 ghost use Rattle.outside.specs.Sink.{PushAppends, HasSinkCause, HasRoom};
+ghost use Rattle.lexical_core.specs.Escapes.{escaped};
 ghost use Rattle.data_types.specs.Escaping.{escaped_byte, escaped_bytes, IsPlainByte};
 
 use outside::{Sink, SinkError};
@@ -12,15 +13,19 @@ struct Piece<'a> {
     spelled: &'a [u8],
 }
 
-/// Pushes the text, in pieces.
-pub fn push_text<O: Sink>(text: &[u8], sink: &mut O) -> Result<(), SinkError>
-    ensures bytes { PushAppends (O.held sink.old) (O.held sink.new) result (escaped_bytes text.now) }
+/// Pushes the text, in pieces, as it is spelled in the content of an element or in the value of an attribute between
+/// double quotes. `Failed` where the sink failed, `Memory` where it wanted memory; the bytes before the fault are
+/// pushed.
+pub fn push_escaped<O: Sink>(text: &[u8], attribute: bool, sink: &mut O) -> Result<(), SinkError>
+    ensures bytes { PushAppends (O.held sink.old) (O.held sink.new) result (escaped_bytes attribute text.now) }
+    ensures chars { (chars : List ℕ) → text.now ≡ encode_utf8_all chars
+        → escaped_bytes attribute text.now ≡ flat_map (escaped attribute) chars }
     ensures cause { HasSinkCause (O.faults sink.old) (O.faults sink.new) result }
-    ensures room { HasRoom (O.room sink.old) (O.room sink.new) result (escaped_bytes text.now) }
+    ensures room { HasRoom (O.room sink.old) (O.room sink.new) result (escaped_bytes attribute text.now) }
 {
     let mut rest = text;
     while !rest.is_empty() {
-        let piece = first_piece(rest);
+        let piece = first_piece(rest, attribute);
         if let Err(error) = sink.push(piece.spelled) {
             return Err(error);
         }
@@ -30,13 +35,13 @@ pub fn push_text<O: Sink>(text: &[u8], sink: &mut O) -> Result<(), SinkError>
 }
 
 /// The first piece of a text: the bytes that stand for themselves, or one that does not.
-fn first_piece(text: &[u8]) -> Piece<'_>
+fn first_piece(text: &[u8], attribute: bool) -> Piece<'_>
     requires { 0 < length text.now }
     ensures some { 0 < result.count }
     ensures bound { result.count ≤ length text.now }
-    ensures spelled { result.spelled.now ≡ escaped_bytes (take result.count text.now) }
+    ensures spelled { result.spelled.now ≡ escaped_bytes attribute (take result.count text.now) }
 {
-    let plain = plain_count(text);
+    let plain = plain_count(text, attribute);
     if plain > 0 {
         return Piece {
             count: plain,
@@ -45,18 +50,20 @@ fn first_piece(text: &[u8]) -> Piece<'_>
     }
     Piece {
         count: 1,
-        spelled: reference(text[0]),
+        spelled: match reference(text[0], attribute) {
+            Some(spelled) => spelled,
+            None => text.split_at(1).0,
+        },
     }
 }
 
 /// How many bytes the text begins with that stand for themselves.
-fn plain_count(text: &[u8]) -> usize
+fn plain_count(text: &[u8], attribute: bool) -> usize
     ensures bound { result ≤ length text.now }
-    ensures plain { escaped_bytes (take result text.now) ≡ take result text.now }
-    ensures rest { result < length text.now → IsPlainByte (slice_index text.now result) → ⊥ }
+    ensures plain { escaped_bytes attribute (take result text.now) ≡ take result text.now }
 {
     for (count, byte) in text.iter().enumerate() {
-        if !is_plain(*byte) {
+        if !is_plain(*byte, attribute) {
             return count;
         }
     }
@@ -65,21 +72,35 @@ fn plain_count(text: &[u8]) -> usize
 
 /// Whether the byte stands for itself.
 #[inline]
-fn is_plain(byte: u8) -> bool
-    ensures { IsTrue result ↔ IsPlainByte byte }
+fn is_plain(byte: u8, attribute: bool) -> bool
+    ensures { IsTrue result → IsPlainByte attribute byte }
 {
-    byte != b'&' && byte != b'<' && byte != b'>' && byte != b'\r'
+    reference(byte, attribute).is_none()
 }
 
-/// The reference to a character that does not stand for itself.
-fn reference(byte: u8) -> &'static [u8]
-    requires { IsPlainByte byte → ⊥ }
-    ensures { result.now ≡ escaped_byte byte }
+/// The reference to a character that does not stand for itself; `None` for one that does.
+#[inline]
+fn reference(byte: u8, attribute: bool) -> Option<&'static [u8]>
+    ensures some { IfSome result (λ spelled. spelled.now ≡ escaped_byte attribute byte) }
+    ensures none { IfNone result (IsPlainByte attribute byte) }
 {
     match byte {
-        b'&' => b"&amp;".as_slice(),
-        b'<' => b"&lt;".as_slice(),
-        b'>' => b"&gt;".as_slice(),
-        _ => b"&#13;".as_slice(),
+        b'&' => Some(b"&amp;".as_slice()),
+        b'<' => Some(b"&lt;".as_slice()),
+        b'>' => Some(b"&gt;".as_slice()),
+        b'\r' => Some(b"&#13;".as_slice()),
+        b'"' => only(attribute, b"&quot;".as_slice()),
+        b'\t' => only(attribute, b"&#9;".as_slice()),
+        b'\n' => only(attribute, b"&#10;".as_slice()),
+        _ => None,
     }
+}
+
+/// The reference where it is asked for.
+#[inline]
+fn only(wanted: bool, reference: &'static [u8]) -> Option<&'static [u8]>
+    ensures some { IfSome result (λ spelled. (wanted ≡ true) × (spelled.now ≡ reference.entry.now)) }
+    ensures none { IfNone result (wanted ≡ false) }
+{
+    if wanted { Some(reference) } else { None }
 }

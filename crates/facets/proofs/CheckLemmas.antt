@@ -1,23 +1,22 @@
 -- The answers of the check of a text, from what was kept and asked of it.
-use Rattle.std.proofs.Common.{◌≡◌, ℕ, ◌+◌, ◌<◌, ◌≤◌, List, length, get_or, Option, Some, None, Result, Ok, Err, refl, sym, ap, subst, ◌∙◌, arith}
-use Rattle.std.specs.Prelude.{Contains, slice_get, encode_utf8_all}
+use Rattle.std.proofs.Common.{◌≡◌, ℕ, ◌<◌, List, length, Option, Some, None, Err, refl, sym, ap, subst, ◌∙◌, arith}
+use Rattle.std.specs.Prelude.{Contains, encode_utf8_all}
 use Rattle.std.specs.List.{AllByRecursion}
-use Rattle.std.proofs.lemmas.Str.{length-le-encodes}
 use Rattle.std.proofs.lemmas.Option.{slice_get_read}
 use Rattle.lexical_core.specs.Characters.{IsXmlChar}
 use Rattle.lexical_core.specs.declared.rule.Rule.{Rule}
-use Rattle.lexical_core.specs.declared.rule.Rule.TheVariants.{BadText, BadLength, PatternFails, NotACode, Digits, OutOfRange}
-use Rattle.data_types.specs.Leaf.{Leaf, Bytes, Number, Flag, Code, IsTextLeaf, IsLeaf}
-use Rattle.data_types.specs.LeafAnswers.{leaf_of, IsLeafAnswer}
-use Rattle.data_types.specs.declared.leaf.LeafRef.{LeafRef}
+use Rattle.lexical_core.specs.declared.rule.Rule.TheVariants.{BadText, BadLength, Digits}
+use Rattle.data_types.specs.Leaf.{Leaf, Bytes, Code, IsLeaf}
+use Rattle.data_types.specs.LeafAnswers.{IsLeafAnswer}
 use Rattle.data_types.specs.LeafSteps.{HasTaken as HasTakenLeaf, IsShortKind}
 use Rattle.data_types.specs.declared.kind.Kind.{Kind}
 use Rattle.data_types.specs.declared.kind.Kind.TheVariants as kind
-use Rattle.facets.specs.declared.leaf_check.LeafCheck.{LeafCheck}
+use Rattle.facets.specs.declared.progress.Progress.{Progress}
 use Rattle.facets.specs.declared.simple.Simple.{Simple}
-use Rattle.facets.specs.CodeLists.{longest_of}
+use Rattle.facets.specs.CodeLists.{char_count, longest_of}
 use Rattle.facets.specs.LeafUnder.{IsCodeAt}
-use Rattle.facets.specs.LeafChecks.{IsByteCode, HasTaken, keep_limit, limit_by, text_limit}
+use Rattle.facets.specs.LeafChecks.{IsByteCode, HasSeen, keep_limit, limit_by, text_limit}
+use Rattle.facets.proofs.CharCounts.{count_encoded}
 use Rattle.facets.proofs.CodeLemmas.{no_longer}
 use Rattle.facets.proofs.TextRules.{short_limit}
 
@@ -32,12 +31,12 @@ no_code_at codes text (Bytes bytes) (characters, is) nowhere (k, lt, here) =
     nowhere k (slice_get_read codes (length codes) k (encode_utf8_all text) refl lt (sym here) ∙ ap (λ b. Some b) (sym is))
 no_code_at codes text leaf spelled nowhere contains = absurd spelled
 
--- a text of more characters than the longest code has bytes is no code
+-- a text of more characters than the longest code is no code
 pub too_long : (codes : List (List ℕ)) (text : List ℕ) → longest_of codes < length text → Contains codes (encode_utf8_all text) → ⊥
 too_long codes text more (k, lt, here) =
     let code = no_longer codes k (encode_utf8_all text) lt in
-    let same = ap (λ (b : List ℕ). length b) here in
-    omega (arith, more, code, same, length-le-encodes text)
+    let same = ap (λ (b : List ℕ). char_count b) here in
+    omega (arith, more, code, same, count_encoded text)
 
 -- where the reader gives no leaf of a text, it is longer than the longest code
 pub not_kept : (codes : List (List ℕ)) (text : List ℕ) (rule : Rule) → AllByRecursion IsXmlChar text → IsLeafAnswer kind.Text (Some (longest_of codes)) text (Err rule)
@@ -49,18 +48,18 @@ not_kept codes text rule characters none contains = absurd none
 
 -- ---- what the reader of a leaf was given, by the simple type
 
-pub coded_step : (check : LeafCheck) (simple : Simple) (text : List ℕ) (codes : List (List ℕ)) → simple.kind ≡ kind.Text → simple.codes ≡ Some codes → HasTaken check simple text
+pub coded_step : (check : Progress) (simple : Simple) (text : List ℕ) (codes : List (List ℕ)) → simple.kind ≡ kind.Text → simple.codes ≡ Some codes → HasSeen check (keep_limit simple) simple text
     → HasTakenLeaf check.step kind.Text (Some (longest_of codes)) text
 coded_step check simple text codes e some taken =
     let limit : keep_limit simple ≡ Some (longest_of codes) = ap (λ (k : Kind). limit_by k simple.max simple.codes) e ∙ ap (λ (o : Option (List (List ℕ))). text_limit simple.max o) some in
     subst (λ (k : Kind). HasTakenLeaf check.step k (Some (longest_of codes)) text) e (subst (λ (o : Option ℕ). HasTakenLeaf check.step simple.kind o text) limit taken.step)
 
-pub text_step : (check : LeafCheck) (simple : Simple) (text : List ℕ) → simple.kind ≡ kind.Text → simple.codes ≡ None → HasTaken check simple text
+pub text_step : (check : Progress) (simple : Simple) (text : List ℕ) → simple.kind ≡ kind.Text → simple.codes ≡ None → HasSeen check (keep_limit simple) simple text
     → HasTakenLeaf check.step kind.Text simple.max text
 text_step check simple text e none taken =
     let limit : keep_limit simple ≡ simple.max = ap (λ (k : Kind). limit_by k simple.max simple.codes) e ∙ ap (λ (o : Option (List (List ℕ))). text_limit simple.max o) none in
     subst (λ (k : Kind). HasTakenLeaf check.step k simple.max text) e (subst (λ (o : Option ℕ). HasTakenLeaf check.step simple.kind o text) limit taken.step)
 
-pub short_step : (check : LeafCheck) (simple : Simple) (text : List ℕ) → IsShortKind simple.kind → HasTaken check simple text → HasTakenLeaf check.step simple.kind None text
+pub short_step : (check : Progress) (simple : Simple) (text : List ℕ) → IsShortKind simple.kind → HasSeen check (keep_limit simple) simple text → HasTakenLeaf check.step simple.kind None text
 short_step check simple text short taken =
     subst (λ (o : Option ℕ). HasTakenLeaf check.step simple.kind o text) (short_limit simple.kind simple.max simple.codes short) taken.step

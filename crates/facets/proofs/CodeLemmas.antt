@@ -1,5 +1,5 @@
 -- Lists of codes: one more behind the last, and where a search ends.
-use Rattle.std.proofs.Common.{◌≡◌, ◌≢◌, ℕ, ◌+◌, ◌-◌, ◌<◌, ◌≤◌, max, Bool, true, false, List, [], ◌∷◌, ◌++◌, length, get_or, Result, Ok, Err, Some, refl, sym, ap, subst, ◌∙◌, arith, rules, inl, inr}
+use Rattle.std.proofs.Common.{◌≡◌, ℕ, ◌+◌, ◌-◌, ◌<◌, ◌≤◌, max, true, false, List, [], ◌∷◌, ◌++◌, length, get_or, Result, Ok, Err, Some, refl, sym, ap, subst, ◌∙◌, arith, rules, inl, inr}
 use Rattle.std.specs.Prelude.{Contains, slice_get}
 use Rattle.std.specs.Ordering.{nat_cmp, is_lt, is_eq, ordering_reverse}
 use Rattle.std.specs.declared.cmp.Ordering.{Ordering}
@@ -17,7 +17,7 @@ use Rattle.std.proofs.lemmas.List.Sorted.{searchable_from_sorted}
 use Rattle.std.proofs.lemmas.Option.{slice_get-get_or, slice_get_read}
 use Rattle.std.proofs.Math.Seq.{get_or-append_seam}
 use Rattle.std.proofs.Math.Nat.{max_comm}
-use Rattle.facets.specs.CodeLists.{ComesBefore, AreSorted, IsAboveLast, longest_of}
+use Rattle.facets.specs.CodeLists.{ComesBefore, AreSorted, IsAboveLast, char_count, longest_of}
 
 -- each code and the next, with one more at the end
 rises : (codes : List (List ℕ)) (text : List ℕ) → AreSorted codes → IsAboveLast codes text
@@ -41,16 +41,16 @@ rises codes text sorted above k lt =
 pub sorted_push : (codes : List (List ℕ)) (text : List ℕ) → AreSorted codes → IsAboveLast codes text → AreSorted (codes ++ text ∷ [])
 sorted_push codes text sorted above = sorted_from_all_adjacent nat_list_cmp_total (codes ++ text ∷ []) [] (rises codes text sorted above)
 
-pub longest_push : (codes : List (List ℕ)) (text : List ℕ) → longest_of (codes ++ text ∷ []) ≡ max (longest_of codes) (length text)
-longest_push [] text = max_comm (length text) 0
-longest_push (code ∷ codes) text = rw (longest_push codes text) (max_swap (length code) (longest_of codes) (length text))
+pub longest_push : (codes : List (List ℕ)) (text : List ℕ) → longest_of (codes ++ text ∷ []) ≡ max (longest_of codes) (char_count text)
+longest_push [] text = max_comm (char_count text) 0
+longest_push (code ∷ codes) text = rw (longest_push codes text) (max_swap (char_count code) (longest_of codes) (char_count text))
   where
     max_swap : (a b c : ℕ) → max a (max b c) ≡ max (max a b) c
     max_swap a b c = search rules
 
 -- no code is longer than the longest
-pub no_longer : (codes : List (List ℕ)) (at : ℕ) (d : List ℕ) → at < length codes → length (get_or codes at d) ≤ longest_of codes
-no_longer codes at d lt = max_bounds longest_of (λ code. length code) refl (λ x xs. refl) codes at d lt
+pub no_longer : (codes : List (List ℕ)) (at : ℕ) (d : List ℕ) → at < length codes → char_count (get_or codes at d) ≤ longest_of codes
+no_longer codes at d lt = max_bounds longest_of (λ code. char_count code) refl (λ x xs. refl) codes at d lt
 
 -- strictly sorted is sorted
 pub sorted_weakly : (codes : List (List ℕ)) → AreSorted codes → IsSorted (slice_cmp nat_cmp) codes

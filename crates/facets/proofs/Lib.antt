@@ -1,3 +1,4 @@
+pub mod CharCounts
 pub mod CodeLemmas
 pub mod PatternLemmas
 pub mod CheckLemmas
@@ -7,3 +8,4 @@ pub mod OneAnswer
 pub mod FitLemmas
 pub mod ValueLemmas
 pub mod MeasureLemmas
+pub mod HeldLemmas

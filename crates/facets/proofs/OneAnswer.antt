@@ -35,7 +35,7 @@ rule_at-number_of simple text Digits b = refl
 rule_at-number_of simple text OutOfRange b = refl
 rule_at-number_of simple text rule b = absurd b
 
-one_first : (simple : Simple) (text : List ℕ) (a b : Rule) → BreaksFirst simple text a → BreaksFirst simple text b → a ≡ b
+pub one_first : (simple : Simple) (text : List ℕ) (a b : Rule) → BreaksFirst simple text a → BreaksFirst simple text b → a ≡ b
 one_first simple text a b h g = sym (rule_at-number_of simple text a h.broken) ∙ ap rule_at same ∙ rule_at-number_of simple text b g.broken
   where
     no_less : (number_of a < number_of b) → ⊥

@@ -6,12 +6,12 @@ use Rattle.pattern_match.specs.Reading.{Matches}
 use Rattle.pattern_match.specs.Compiled.{HasRead}
 use Rattle.pattern_match.specs.Recall.{Matching}
 use Rattle.data_types.specs.WhiteSpace.{IsCollapsed}
-use Rattle.data_types.specs.Collapsing.{gained, HasCollapsed}
+use Rattle.data_types.specs.Collapsing.{HasCollapsed}
 use Rattle.data_types.specs.declared.collapse.Collapse.{Collapse}
 use Rattle.data_types.specs.declared.kind.Kind.{Kind}
 use Rattle.data_types.specs.declared.kind.Kind.TheVariants as kind
 use Rattle.facets.specs.declared.asked.Asked.{Asked}
-use Rattle.facets.specs.declared.asked.Asked.TheVariants.{Nothing, Text, Collapsed}
+use Rattle.facets.specs.declared.asked.Asked.TheVariants.{Text, Collapsed}
 use Rattle.facets.specs.declared.simple.Simple.{Simple}
 use Rattle.facets.specs.Rules.{IsAsked}
 use Rattle.facets.specs.PatternChecks.{HasAsked, IsDateKind, TellsPattern}

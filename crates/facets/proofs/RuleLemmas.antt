@@ -1,20 +1,16 @@
 -- What the rules that a text breaks say of the leaf that it spells.
-use Rattle.std.proofs.Common.{◌≡◌, ◌⊎◌, ◌≤◌, inl, inr, List, length, Option, Some, None, ℕ, refl, sym, ap, subst, arith}
-use Rattle.std.specs.Prelude.{Contains, encode_utf8_all}
-use Rattle.std.specs.List.{AllByRecursion}
-use Rattle.lexical_core.specs.Characters.{IsXmlChar}
+use Rattle.std.proofs.Common.{◌≡◌, ◌⊎◌, ◌≤◌, inl, inr, List, length, ℕ, refl, sym, ap, subst, arith}
 use Rattle.lexical_core.specs.Decimals.{Number as DecimalNumber}
 use Rattle.lexical_core.specs.Rules.{number_of}
 use Rattle.lexical_core.specs.declared.rule.Rule.{Rule}
 use Rattle.lexical_core.specs.declared.rule.Rule.TheVariants.{BadText, BadLength, PatternFails, NotACode, Digits, OutOfRange}
 use Rattle.data_types.specs.Leaf.{Leaf, Bytes, Number, IsDecimalLeaf, IsLeaf, HasDecimalForm, HasLeafForm, length_of}
-use Rattle.data_types.specs.LeafSteps.{IsShortKind}
 use Rattle.data_types.specs.declared.kind.Kind.{Kind}
 use Rattle.data_types.specs.declared.kind.Kind.TheVariants as kind
 use Rattle.data_types.proofs.LeafLaws.{one_leaf}
 use Rattle.facets.specs.declared.simple.Simple.{Simple}
 use Rattle.facets.specs.Facets.{HasLength, HasDigits, IsInRange}
-use Rattle.facets.specs.Rules.{HasLengths, IsAsked, BreaksForm, BreaksPattern, Breaks, BreaksFirst}
+use Rattle.facets.specs.Rules.{HasLengths, IsAsked, Breaks, BreaksFirst}
 use Rattle.facets.specs.LeafUnder.{IsLeafBy, GivesLeaf}
 
 -- what spells a decimal has the form of one

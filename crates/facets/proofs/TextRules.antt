@@ -1,6 +1,6 @@
 -- The rules that texts, truth values, dates and times can break, and what follows for the answer on them.
-use Rattle.std.proofs.Common.{◌≡◌, ◌⊎◌, ◌<◌, ℕ, inl, inr, List, length, get_or, ◌≤◌, Option, Some, None, Result, Ok, Err, refl, sym, ap, subst, ◌∙◌, arith}
-use Rattle.std.specs.Prelude.{Contains, slice_get, encode_utf8_all, MatchOption}
+use Rattle.std.proofs.Common.{◌≡◌, ◌⊎◌, ◌<◌, ℕ, inl, inr, List, length, ◌≤◌, Option, Some, None, Result, Ok, Err, refl, sym, ap, subst, ◌∙◌, arith}
+use Rattle.std.specs.Prelude.{Contains, encode_utf8_all, MatchOption}
 use Rattle.std.specs.List.{AllByRecursion}
 use Rattle.std.proofs.lemmas.Option.{slice_get_within, get_or_from_slice_get}
 use Rattle.lexical_core.specs.Characters.{IsXmlChar}
@@ -16,7 +16,7 @@ use Rattle.data_types.specs.declared.kind.Kind.{Kind}
 use Rattle.data_types.specs.declared.kind.Kind.TheVariants as kind
 use Rattle.facets.specs.declared.simple.Simple.{Simple}
 use Rattle.facets.specs.Facets.{HasLength}
-use Rattle.facets.specs.Rules.{HasLengths, IsAsked, Breaks, BreaksPattern, BreaksCodes, BreaksFirst}
+use Rattle.facets.specs.Rules.{HasLengths, IsAsked, Breaks, BreaksPattern, BreaksFirst}
 use Rattle.facets.specs.LeafUnder.{IsCodeAt, IsLeafBy, GivesLeaf, IsAnswer}
 use Rattle.facets.specs.LeafChecks.{IsCodeAnswer, limit_by}
 use Rattle.facets.proofs.RuleLemmas.{has_form}

@@ -1,5 +1,5 @@
 -- What each facet of a simple type asks: XML Schema part 2 §4.3.
-use Rattle.std.specs.Prelude.{◌≡◌, ℕ, ◌<◌, ◌≤◌, ◌*ℤ◌, ◌<ℤ◌, ◌^◌, pos, Bool, true, false, Option, MatchOption}
+use Rattle.std.specs.Prelude.{ℕ, ◌<◌, ◌≤◌, ◌*ℤ◌, ◌<ℤ◌, ◌^◌, pos, Bool, true, false, MatchOption}
 use Rattle.std.specs.Int.RustNames.{unsigned_abs}
 use Rattle.lexical_core.specs.Decimals.{Number}
 use Rattle.facets.specs.declared.simple.Bound.{Bound}

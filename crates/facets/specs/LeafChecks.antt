@@ -1,5 +1,5 @@
 -- What the check of a leaf keeps of the characters that it was given.
-use Rattle.std.specs.Prelude.{◌≡◌, ℕ, ◌<◌, ◌≤◌, ◌^◌, List, length, Option, Some, None, MatchOption, Result, Ok, Err, Contains, slice_get, encode_utf8_all}
+use Rattle.std.specs.Prelude.{◌≡◌, ℕ, ◌+◌, ◌*◌, ◌<◌, ◌≤◌, ◌^◌, min, List, length, Option, Some, None, MatchOption, Result, Ok, Err, Contains, slice_get, encode_utf8_all}
 use Rattle.std.specs.List.{AllByRecursion}
 use Rattle.lexical_core.specs.Characters.{IsXmlChar}
 use Rattle.lexical_core.specs.declared.rule.Rule.{Rule}
@@ -8,11 +8,14 @@ use Rattle.data_types.specs.LeafAnswers.{leaf_of}
 use Rattle.data_types.specs.declared.leaf.LeafRef.{LeafRef}
 use Rattle.data_types.specs.Leaf.{Leaf, Bytes, Number}
 use Rattle.facets.specs.LeafUnder.{IsCodeAt}
+use Rattle.facets.specs.Facets.{HasLength}
+use Rattle.facets.specs.Rules.{BreaksPattern, BreaksFirst}
 use Rattle.facets.specs.Checks.{IsLengthAnswer, IsNumberAnswer}
-use Rattle.data_types.specs.LeafSteps.{HasTaken as HasTakenLeaf, kept as kept_by, room as room_of, spare as spare_of}
+use Rattle.data_types.specs.LeafSteps.{HasTaken as HasTakenLeaf, kept as kept_by, in_place as in_place_of, room as room_of, spare as spare_of}
 use Rattle.data_types.specs.declared.kind.Kind.{Kind}
 use Rattle.data_types.specs.declared.kind.Kind.TheVariants as kind
 use Rattle.facets.specs.declared.leaf_check.LeafCheck.{LeafCheck}
+use Rattle.facets.specs.declared.progress.Progress.{Progress}
 use Rattle.facets.specs.declared.simple.Simple.{Simple}
 use Rattle.facets.specs.CodeLists.{longest_of}
 use Rattle.facets.specs.Counts.{HasCounted}
@@ -23,7 +26,7 @@ pub record IsWithinLimits (simple : Simple) : Type 0 where
   pub codes : MatchOption simple.codes (Unit {0}) (λ codes. length codes < 2 ^ 32)
   pub total : simple.kind ≡ kind.Decimal → simple.total ≤ 18
 
--- the most characters of a text that can be a leaf: its greatest length, or where there are codes the bytes of the longest
+-- the most characters of a text that can be a leaf: its greatest length, or where there are codes that of the longest
 abbrev pub text_limit : Option ℕ → Option (List (List ℕ)) → Option ℕ
 text_limit most None = most
 text_limit most (Some codes) = Some (longest_of codes)
@@ -37,13 +40,31 @@ limit_by k most codes = None
 abbrev pub keep_limit : Simple → Option ℕ
 keep_limit simple = limit_by simple.kind simple.max simple.codes
 
--- the check is one for the simple type, and was given these characters since it was made or begun anew
-pub record HasTaken (check : LeafCheck) (simple : Simple) (text : List ℕ) : Type 0 where
-  pub step : HasTakenLeaf check.step simple.kind (keep_limit simple) text
-  pub counted : HasCounted check.count (length text)
-  pub asked : HasAsked check.asked simple text
+-- the limit on the characters of which bytes are held: that of texts and binary values, and 64 where the texts of the kind are short
+abbrev pub leaf_limit_by : Kind → Option ℕ → Option (List (List ℕ)) → Option ℕ
+leaf_limit_by kind.Text most codes = text_limit most codes
+leaf_limit_by kind.Binary most codes = most
+leaf_limit_by k most codes = Some 64
+
+abbrev pub leaf_limit : Simple → Option ℕ
+leaf_limit simple = leaf_limit_by simple.kind simple.max simple.codes
+
+-- so many bytes are at most four to each of the characters within the limit, and 64
+abbrev pub IsHeldWithin : Option ℕ → ℕ → ℕ → Type 0
+IsHeldWithin None characters held = held ≤ 4 * characters + 64
+IsHeldWithin (Some most) characters held = held ≤ 4 * min characters most + 64
+
+-- these characters were given since it began; no more is kept than the limit allows
+pub record HasSeen (progress : Progress) (most : Option ℕ) (simple : Simple) (text : List ℕ) : Type 0 where
+  pub step : HasTakenLeaf progress.step simple.kind most text
+  pub counted : HasCounted progress.count (length text)
+  pub asked : HasAsked progress.asked simple text
   pub characters : AllByRecursion IsXmlChar text
   pub limits : IsWithinLimits simple
+
+-- the check is one for the simple type, and was given these characters since it was made or begun anew
+pub record HasTaken (check : LeafCheck) (simple : Simple) (text : List ℕ) : Type 0 where
+  pub seen : HasSeen check.progress (keep_limit simple) simple text
 
 -- the check was made for the simple type
 abbrev pub IsMadeFor : LeafCheck → Simple → Type 0
@@ -51,15 +72,19 @@ IsMadeFor check simple = (text : List ℕ) × HasTaken check simple text
 
 -- how many bytes a check keeps in memory
 abbrev pub kept : LeafCheck → ℕ
-kept check = kept_by check.step
+kept check = kept_by check.progress.step
+
+-- how many it holds in place
+abbrev pub in_place : LeafCheck → ℕ
+in_place check = in_place_of check.progress.step
 
 -- how many it may keep without asking for memory
 abbrev pub room : LeafCheck → ℕ
-room check = room_of check.step
+room check = room_of check.progress.step
 
 -- how many more it may keep without asking for memory
 abbrev pub spare : LeafCheck → ℕ
-spare check = spare_of check.step
+spare check = spare_of check.progress.step
 
 -- the leaf is bytes, which are the code at this place
 abbrev pub IsByteCode : List (List ℕ) → ℕ → Leaf → Type 0
@@ -84,3 +109,8 @@ IsMeasureAnswer simple (Bytes octets) result = IsLengthAnswer simple (length oct
 IsMeasureAnswer simple (Number number) result = IsNumberAnswer simple number result
 IsMeasureAnswer simple leaf (Ok x) = Unit {0}
 IsMeasureAnswer simple leaf (Err rule) = ⊥
+
+-- the answer on a text where there are no codes: its length and its pattern are right, or the first rule that it breaks
+abbrev pub IsTextAnswer : {T : Type 0} → Simple → List ℕ → Result T Rule → Type 0
+IsTextAnswer simple text (Ok x) = HasLength simple (length text) × (BreaksPattern simple text → ⊥)
+IsTextAnswer simple text (Err rule) = BreaksFirst simple text rule

@@ -1,10 +1,10 @@
 -- The leaf that characters spell under a simple type, or the least rule that they break; the canonical text of a leaf, and when a leaf fits.
-use Rattle.std.specs.Prelude.{◌≡◌, ◌⊎◌, ℕ, ◌≤◌, List, length, Option, Some, None, Result, Ok, Err, MatchOption, MatchResult, slice_get, encode_utf8_all}
+use Rattle.std.specs.Prelude.{◌≡◌, ◌⊎◌, ℕ, ◌≤◌, List, length, Option, Some, Result, Ok, Err, MatchOption, MatchResult, slice_get, encode_utf8_all}
 use Rattle.std.specs.List.{AllByRecursion}
 use Rattle.lexical_core.specs.Characters.{IsXmlChar}
 use Rattle.lexical_core.specs.declared.rule.Rule.{Rule}
 use Rattle.lexical_core.specs.declared.rule.Rule.TheVariants.{NotACode}
-use Rattle.data_types.specs.Leaf.{Leaf, Bytes, Number, Flag, Code, IsLeaf}
+use Rattle.data_types.specs.Leaf.{Leaf, Code, IsLeaf}
 use Rattle.data_types.specs.LeafAnswers.{leaf_of}
 use Rattle.data_types.specs.Canonical.{IsCanonicalLeaf}
 use Rattle.data_types.specs.declared.leaf.LeafRef.{LeafRef}

@@ -6,3 +6,4 @@ pub mod Checks
 pub mod Counts
 pub mod PatternChecks
 pub mod LeafChecks
+pub mod LeafVerdicts

@@ -1,11 +1,13 @@
 // The pattern of a simple type, asked of the characters of a text as they come.
 ghost use Rattle.std.specs.Prelude.{◌∷◌, ◌++◌, [], ℕ, List, IfOk};
+ghost use Rattle.std.specs.Str.{chars};
+ghost use Rattle.lexical_core.specs.XmlRuns.{IsXmlRun};
 ghost use Rattle.data_types.specs.Collapsing.{gained, HasCollapsed};
 ghost use Rattle.pattern_match.specs.Compiled.{HasRead, IsMadeFor};
 ghost use Rattle.facets.specs.PatternChecks.{HasAsked, TellsPattern};
 
 use crate::simple::Simple;
-use data_types::{Collapse, Collapsed, Kind};
+use data_types::{Collapse, Collapsed, Kind, RunChars, run_chars};
 use pattern_match::{Matcher, Pattern};
 use std::alloc::{AllocError, Global};
 
@@ -74,6 +76,44 @@ impl Asked {
                 let gain = collapse.take(c);
                 take_gained(pattern, matcher, gain, c);
             }
+        }
+    }
+
+    /// Takes a run of so many characters. It takes no memory.
+    pub(crate) fn take_run(&mut self, simple: &Simple, run: &[u8], count: usize)
+        requires run { IsXmlRun run.now count }
+        requires made { (text : List ℕ) × HasAsked self.old simple.now text }
+        ensures { (r : IsXmlRun run.now count) (text : List ℕ) → HasAsked self.old simple.now text
+            → HasAsked self.new simple.now (text ++ r.chars) }
+    {
+        if simple.pattern.is_none() {
+            return;
+        }
+        match run_chars(run, count) {
+            RunChars::Codes(codes) => self.take_codes(simple, codes),
+            RunChars::Text(text) => self.take_text(simple, text),
+        }
+    }
+
+    /// Takes the characters of these codes.
+    fn take_codes(&mut self, simple: &Simple, codes: &[u8])
+        requires { (text : List ℕ) × HasAsked self.old simple.now text }
+        ensures { (text : List ℕ) → HasAsked self.old simple.now text
+            → HasAsked self.new simple.now (text ++ codes.now) }
+    {
+        for code in codes {
+            self.take(simple, *code as char);
+        }
+    }
+
+    /// Takes the characters of a text.
+    fn take_text(&mut self, simple: &Simple, text: &str)
+        requires { (before : List ℕ) × HasAsked self.old simple.now before }
+        ensures { (before : List ℕ) → HasAsked self.old simple.now before
+            → HasAsked self.new simple.now (before ++ chars text.now) }
+    {
+        for c in text.chars() {
+            self.take(simple, c);
         }
     }
 

@@ -2,7 +2,7 @@
 ghost use Rattle.std.specs.Prelude.{◌≡◌, ◌<◌, [], ◌∷◌, ◌++◌, ◌↔◌, length, IsTrue, Some, IfSome, IfNone, OnOk, OnErr, slice_get};
 ghost use Rattle.std.specs.Option.{option_copied};
 ghost use Rattle.std.specs.List.{Contains};
-ghost use Rattle.facets.specs.CodeLists.{IsAboveLast, longest_of};
+ghost use Rattle.facets.specs.CodeLists.{IsAboveLast, char_count, longest_of};
 
 use lexical_core::Text;
 use std::alloc::{AllocError, Global};
@@ -12,7 +12,7 @@ use std::marker::Model;
 #[derive(Drop)]
 pub struct Codes {
     texts: Vec<Text>,
-    /// The bytes of the longest.
+    /// The characters of the longest.
     longest: usize,
 }
 
@@ -44,7 +44,7 @@ impl Codes {
         ensures ok { OnOk result (self.new ≡ self.old ++ text ∷ []) }
         ensures err { OnErr result (self.new ≡ self.old) }
     {
-        let length = text.bytes().len();
+        let length = char_count(text.bytes());
         self.texts.push(text)?;
         self.longest = self.longest.max(length);
         Ok(())
@@ -83,10 +83,19 @@ impl Codes {
         }
     }
 
-    /// The bytes of the longest code.
+    /// The characters of the longest code.
     pub(crate) fn longest(&self) -> usize
         ensures { result ≡ longest_of self.now }
     {
         self.longest
     }
+}
+
+/// How many characters a text has: its bytes but those that go on with one (RFC 3629 §3).
+fn char_count(text: &[u8]) -> usize
+    ensures { result ≡ char_count text.now }
+{
+    text.iter()
+        .filter(|byte| !matches!(**byte, 0x80..=0xBF))
+        .count()
 }

@@ -25,13 +25,17 @@ impl Count {
         }
     }
 
-    /// One more.
-    pub(crate) fn add_one(&mut self)
-        ensures { (n : ℕ) → HasCounted self.old n → HasCounted self.new (n + 1) }
+    /// So many more.
+    #[inline]
+    pub(crate) fn add(&mut self, more: u64)
+        ensures { (n : ℕ) → HasCounted self.old n → HasCounted self.new (n + more) }
     {
-        match self.number.checked_add(1) {
+        match self.number.checked_add(more) {
             Some(number) => self.number = number,
-            None => self.is_more = true,
+            None => {
+                self.number = u64::MAX;
+                self.is_more = true;
+            }
         }
     }
 

@@ -3,6 +3,7 @@ ghost use Rattle.std.specs.Prelude.{◌≡◌, Result, List, ℕ};
 ghost use Rattle.lexical_core.specs.declared.rule.Rule.{Rule};
 ghost use Rattle.data_types.specs.Leaf.{Leaf};
 ghost use Rattle.facets.specs.LeafUnder.{HasSortedCodes, LeafUnder, GivesLeaf, Fits};
+ghost use Rattle.facets.specs.Rules.{BreaksFirst};
 ghost use Rattle.facets.specs.declared.simple.Simple.{Simple};
 
 /// Characters spell one leaf under a simple type, or break one rule first, and not both.
@@ -14,4 +15,9 @@ pub fn characters_have_one_answer()
 /// A leaf that some characters spell under a simple type fits it.
 pub fn what_is_spelled_fits()
     ensures { (simple : Simple) (text : List ℕ) (leaf : Leaf) → GivesLeaf simple text leaf → Fits simple leaf }
+{}
+
+/// Of the rules that characters break under a simple type one is the first.
+pub fn one_rule_is_first()
+    ensures { (simple : Simple) (text : List ℕ) (one two : Rule) → BreaksFirst simple text one → BreaksFirst simple text two → one ≡ two }
 {}

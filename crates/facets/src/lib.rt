@@ -7,13 +7,16 @@ mod count;
 mod digits;
 pub mod laws;
 mod leaf_check;
+mod leaf_verdict;
 mod lengths;
+mod progress;
 mod simple;
 mod step;
 
 pub use codes::Codes;
 pub use digits::check_number;
 pub use leaf_check::LeafCheck;
+pub use leaf_verdict::LeafVerdict;
 pub use lengths::check_octets;
 pub use simple::{Bound, Simple};
 pub use step::{Step, Texts};

@@ -1,11 +1,11 @@
 // What no clause says: that the definitions mean what the standard means, row by row, and that calls which may
 // want memory succeed where there is some.
 ghost use Rattle.std.specs.Prelude.{◌≡◌, IfOk, length};
-ghost use Rattle.facets.specs.LeafChecks.{IsMadeFor, IsWithinLimits};
+ghost use Rattle.facets.specs.LeafChecks.{IsWithinLimits};
 
-use crate::{Bound, Codes, LeafCheck, Simple, check_number, check_octets};
+use crate::{Bound, Codes, LeafCheck, LeafVerdict, Simple, check_number, check_octets};
 use data_types::{Kind, LeafRef};
-use lexical_core::{Decimal, Rule, Text, is_xml_char};
+use lexical_core::{Decimal, Rule, Text, xml_run};
 use pattern_match::Pattern;
 use std::alloc::{AllocError, Global};
 use std::process::Abort;
@@ -28,29 +28,25 @@ fn simple_of(kind: Kind) -> Simple
     }
 }
 
-/// The check, given the characters of the text too.
-fn given(check: LeafCheck, simple: &Simple, text: &str) -> Result<LeafCheck, AllocError>
-    requires { IsMadeFor check simple.now }
-    ensures { IfOk result (λ given. IsMadeFor given simple.now) }
+/// What the check tells of a text, given as one run.
+fn verdict(alloc: Global, simple: &Simple, text: &str) -> Result<Result<(), Rule>, AllocError>
+    requires { IsWithinLimits simple.now }
 {
-    let mut given = check;
-    for c in text.chars() {
-        if is_xml_char(c) {
-            given.take(simple, c)?;
-        }
-    }
-    Ok(given)
+    let mut check = LeafVerdict::new(alloc, simple)?;
+    let run = xml_run(text.as_bytes());
+    check.take_run(
+        simple,
+        text.as_bytes().split_at(run.bytes).0,
+        run.characters,
+    )?;
+    Ok(check.finish(simple))
 }
 
 /// The rule that the text breaks first; `None` where it spells a leaf.
 fn broken(alloc: Global, simple: &Simple, text: &str) -> Result<Option<Rule>, AllocError>
     requires { IsWithinLimits simple.now }
 {
-    let check = given(LeafCheck::new(alloc, simple)?, simple, text)?;
-    Ok(match check.finish(simple) {
-        Ok(_) => None,
-        Err(rule) => Some(rule),
-    })
+    Ok(verdict(alloc, simple, text)?.err())
 }
 
 /// A kind, bounds of the length, a text, and what it breaks.
@@ -242,7 +238,13 @@ fn numbers_have_bounds(rt: HostRuntime) -> Result<(), Fail> {
 fn coded(alloc: Global, simple: &Simple, text: &str) -> Result<Result<u32, Rule>, AllocError>
     requires { IsWithinLimits simple.now }
 {
-    let check = given(LeafCheck::new(alloc, simple)?, simple, text)?;
+    let mut check = LeafCheck::new(alloc, simple)?;
+    let run = xml_run(text.as_bytes());
+    check.take_run(
+        simple,
+        text.as_bytes().split_at(run.bytes).0,
+        run.characters,
+    )?;
     Ok(match check.finish(simple) {
         Ok(LeafRef::Code(at)) => Ok(at),
         Ok(_) => Err(Rule::BadText),
@@ -324,6 +326,7 @@ fn a_check_reserves_and_begins_anew(rt: HostRuntime) -> Result<(), Fail> {
     check.take(&simple, 'A')?;
     check.take(&simple, '1')?;
     assert!(rt; matches!(check.finish(&simple), Ok(LeafRef::Bytes(b"A1"))));
+    assert_eq!(rt; check.scratch(), 2);
     assert_eq!(rt; check.kept(), 2);
     check.restart(&simple);
     assert!(rt; matches!(check.finish(&simple), Err(Rule::BadLength)));

@@ -1,5 +1,6 @@
 pub mod ByteForms
 pub mod ReadSoFar
+pub mod XmlRuns
 pub mod CharacterLemmas
 pub mod Scales
 pub mod Signed

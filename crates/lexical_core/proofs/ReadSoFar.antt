@@ -35,7 +35,7 @@ longer_front (y ∷ a) b (x ∷ c) d e h =
     (more.0, cc, more.2)
 
 -- no whole character stands at the start of what is begun
-no_char_in_front : (begun : List ℕ) → IsFront begun → (d : ℕ) (r : List ℕ) → begun ≡ encode_utf8 d ++ r → ⊥
+pub no_char_in_front : (begun : List ℕ) → IsFront begun → (d : ℕ) (r : List ℕ) → begun ≡ encode_utf8 d ++ r → ⊥
 no_char_in_front begun f d r e =
     let same = encode_same f.char d [] (r ++ f.rest) (append-nil (encode_utf8 f.char) ∙ (f.spelled ∙ (ap (λ t. t ++ f.rest) e ∙ append_assoc (encode_utf8 d) r f.rest))) in
     let none = ap length same.1 in
@@ -43,12 +43,12 @@ no_char_in_front begun f d r e =
     let sum = length-append r f.rest in
     omega arith
 
-AllByRecursion-append : (P : ℕ → Type 0) (xs ys : List ℕ) → AllByRecursion P xs → AllByRecursion P ys → AllByRecursion P (xs ++ ys)
+pub AllByRecursion-append : (P : ℕ → Type 0) (xs ys : List ℕ) → AllByRecursion P xs → AllByRecursion P ys → AllByRecursion P (xs ++ ys)
 AllByRecursion-append P [] ys a b = b
 AllByRecursion-append P (x ∷ xs) ys a b = (a.0, AllByRecursion-append P xs ys a.1 b)
 
 -- the characters after these, where these begin a text
-after_chars : (P : ℕ → Type 0) (ds cs tail : List ℕ) → AllByRecursion P cs → encode_utf8_all cs ≡ encode_utf8_all ds ++ tail → IsTextOf P tail
+pub after_chars : (P : ℕ → Type 0) (ds cs tail : List ℕ) → AllByRecursion P cs → encode_utf8_all cs ≡ encode_utf8_all ds ++ tail → IsTextOf P tail
 after_chars P [] cs tail all e = (cs, all, e)
 after_chars P (d ∷ ds) cs tail all e =
     let split = cons_from_encodes cs (encode_utf8_all ds ++ tail) d (e ∙ append_assoc (encode_utf8 d) (encode_utf8_all ds) tail) in
@@ -82,22 +82,27 @@ ReadSoFar-char P read chars begun byte c r p e =
 pub ReadSoFar-whole : (P : ℕ → Type 0) (read chars : List ℕ) → ReadSoFar P read chars [] → IsTextOf P read
 ReadSoFar-whole P read chars r = (chars, r.are, sym (r.spelled ∙ append-nil (encode_utf8_all chars)))
 
-no_text_begins : (P : ℕ → Type 0) (begun : List ℕ) (byte : ℕ) (rest : List ℕ) → (begun ≡ []) ⊎ IsFront begun → Stops P (Some begun) byte
-    → (ds : List ℕ) → AllByRecursion P ds → encode_utf8_all ds ≡ begun ++ byte ∷ rest → ⊥
-no_text_begins P begun byte rest begins stops [] all e = let n = ap length e in let m = length-append begun (byte ∷ rest) in omega arith
-no_text_begins P begun byte rest begins stops (d ∷ ds) all e =
+-- no character that P has stands before a byte with which nothing goes on, nor begins with it
+pub no_char_begins : (P : ℕ → Type 0) (begun : List ℕ) (byte : ℕ) (rest : List ℕ) → (begun ≡ []) ⊎ IsFront begun → Stops P (Some begun) byte
+    → (d : ℕ) (tail : List ℕ) → P d → encode_utf8 d ++ tail ≡ begun ++ byte ∷ rest → ⊥
+no_char_begins P begun byte rest begins stops d tail p e =
     elim (cases_lt (length begun) (length (encode_utf8 d))) [
       | inl below ↦
-          let flat : encode_utf8 d ++ encode_utf8_all ds ≡ (begun ++ byte ∷ []) ++ rest = e ∙ sym (append_assoc begun (byte ∷ []) rest) in
-          let more = longer_front (encode_utf8 d) (encode_utf8_all ds) (begun ++ byte ∷ []) rest flat (omega (arith, length-append begun (byte ∷ []))) in
-          stops d more.0 all.0 (more.1 ∙ append_assoc begun (byte ∷ []) more.0)
+          let flat : encode_utf8 d ++ tail ≡ (begun ++ byte ∷ []) ++ rest = e ∙ sym (append_assoc begun (byte ∷ []) rest) in
+          let more = longer_front (encode_utf8 d) tail (begun ++ byte ∷ []) rest flat (omega (arith, length-append begun (byte ∷ []))) in
+          stops d more.0 p (more.1 ∙ append_assoc begun (byte ∷ []) more.0)
       | inr above ↦
-          let more = longer_front begun (byte ∷ rest) (encode_utf8 d) (encode_utf8_all ds) (sym e) above in
+          let more = longer_front begun (byte ∷ rest) (encode_utf8 d) tail (sym e) above in
           elim begins [
             | inl none ↦ omega (arith, ap length none, length-encode d, len_utf8_bounds d)
             | inr front ↦ no_char_in_front begun front d more.0 more.1
           ]
     ]
+
+no_text_begins : (P : ℕ → Type 0) (begun : List ℕ) (byte : ℕ) (rest : List ℕ) → (begun ≡ []) ⊎ IsFront begun → Stops P (Some begun) byte
+    → (ds : List ℕ) → AllByRecursion P ds → encode_utf8_all ds ≡ begun ++ byte ∷ rest → ⊥
+no_text_begins P begun byte rest begins stops [] all e = let n = ap length e in let m = length-append begun (byte ∷ rest) in omega arith
+no_text_begins P begun byte rest begins stops (d ∷ ds) all e = no_char_begins P begun byte rest begins stops d (encode_utf8_all ds) all.0 e
 
 -- after a byte with which nothing goes on there is no text
 pub ReadSoFar-stops : (P : ℕ → Type 0) (read chars begun : List ℕ) (byte : ℕ) (rest : List ℕ) → ReadSoFar P read chars begun → Stops P (Some begun) byte

@@ -1,6 +1,7 @@
 -- REAL contents have one number, and a number has one contents.
-use Rattle.std.proofs.Common.{◌≡◌, ℕ, zero, suc, ◌+◌, ◌-◌, ◌*◌, ◌%◌, ◌^◌, ◌<◌, ◌≤◌, inl, inr, Bool, true, false, List, ◌∷◌, ◌++◌, ℤ, pos, negsuc, refl, sym, ap, subst, ◌∙◌, arith, lit≤}
+use Rattle.std.proofs.Common.{◌≡◌, ℕ, zero, suc, ◌+◌, ◌-◌, ◌*◌, ◌/◌, ◌%◌, ◌^◌, ◌<◌, ◌≤◌, inl, inr, Bool, true, false, List, [], ◌∷◌, ◌++◌, length, length-append, ℤ, pos, negsuc, refl, sym, ap, subst, ◌∙◌, arith, lit≤}
 use Rattle.std.proofs.lemmas.Bool.{cases_lt}
+use Rattle.std.proofs.lemmas.Fmt.{length-decimal-le}
 use Rattle.std.proofs.Math.Nat.{mul-le-mul_left}
 use Rattle.std.specs.Fmt.{decimal}
 use Rattle.std.specs.Int.RustNames.{unsigned_abs}
@@ -11,8 +12,9 @@ use Rattle.lexical_core.specs.Exponents.{IsPositiveNumeral}
 use Rattle.lexical_core.proofs.DecimalTexts.{digits_split}
 use Rattle.lexical_core.proofs.DecimalLaws.{same_least, number_same, one_number}
 use Rattle.lexical_core.proofs.Numerals.{value_ends, numeral_is_decimal}
-use Rattle.lexical_core.proofs.RealLemmas.{exponent_small, exponent_same, digits_begin}
+use Rattle.lexical_core.proofs.RealLemmas.{exponent_small, exponent_same, digits_begin, positive_text}
 use Rattle.lexical_core.proofs.Scales.{pow_positive, pow_more}
+use Rattle.lexical_core.proofs.Written.{contents_are}
 
 -- a number that is no zero has one sign
 one_sign : (b b' : Bool) (z : ℤ) → z ≡ signed b (unsigned_abs z) → z ≡ signed b' (unsigned_abs z) → 0 < unsigned_abs z → b ≡ b'
@@ -144,3 +146,60 @@ contents_number contents m n dm dn (inr (true, body, real, text)) (inr (false, b
     absurd (let both = sym text' ∙ text in no_minus false body' body n real' (let same : body' ≡ 45 ∷ body = cc in same))
 contents_number contents m n dm dn (inr (false, body, real, text)) (inr (true, body', real', text')) =
     absurd (let both = sym text ∙ text' in no_minus false body body' m real (let same : body ≡ 45 ∷ body' = cc in same))
+
+-- ---- each decimal has contents, and they are short
+
+-- a size without the zeros at its end
+without_zeros : (fuel size : ℕ) → 0 < size → size < 10 ^ fuel → (digits : ℕ) × (zeros : ℕ) × (size ≡ digits * 10 ^ zeros) × (0 < digits % 10)
+without_zeros zero size some small = absurd (omega arith)
+without_zeros (suc fuel) size some small =
+    elim (cases_lt 0 (size % 10)) [
+      | inl ends ↦ (size, 0, omega arith, ends)
+      | inr none ↦
+          let more : 10 ^ (fuel + 1) ≡ 10 * 10 ^ fuel = pow_more fuel in
+          let whole : size / 10 * 10 ≡ size = omega (arith, none) in
+          let less : size / 10 < 10 ^ fuel = omega (arith, small, more, whole) in
+          let (digits, zeros, same, ends) = without_zeros fuel (size / 10) (omega (arith, some, whole)) less in
+          let power = ap (λ p. digits * p) (pow_more zeros) in
+          let scaled : size / 10 * 10 ≡ digits * 10 ^ zeros * 10 = ap (λ v. v * 10) same in
+          (digits, zeros + 1, omega (arith, whole, scaled, power), ends)
+    ]
+
+zero_whole : (z : ℤ) → unsigned_abs z ≤ 0 → z ≡ pos 0
+zero_whole (pos zero) none = refl
+zero_whole (pos (suc n)) none = absurd (omega (arith, none))
+zero_whole (negsuc n) none = absurd (omega (arith, none))
+
+pub contents_there : (n : Number) → IsDecimal n → (contents : List ℕ) × IsReal contents n
+contents_there n d =
+    elim (cases_lt 0 (unsigned_abs n.whole)) [
+      | inl some ↦
+          let (digits, zeros, same, ends) = without_zeros 18 (unsigned_abs n.whole) some d.small in
+          (_, contents_are n digits zeros _ d same ends refl)
+      | inr none ↦ ([], inl (refl, zero_whole n.whole none))
+    ]
+
+minus_length : (b : Bool) → length (minus_text b) ≤ 1
+minus_length true = omega arith
+minus_length false = omega arith
+
+exponent_length : (e : ℤ) → unsigned_abs e ≤ 18 → length (exponent_text e) ≤ 3
+exponent_length (pos zero) small = omega arith
+exponent_length (pos (suc n)) small =
+    let text = ap length (positive_text (suc n) (omega arith)) in
+    omega (arith, text, length-decimal-le 2 (suc n) (omega arith) (omega (arith, small)) (omega (arith, small)))
+exponent_length (negsuc n) small = omega (arith, length-decimal-le 2 (n + 1) (omega arith) (omega (arith, small)) (omega (arith, small)))
+
+pub contents_short : (contents : List ℕ) (n : Number) → IsDecimal n → IsReal contents n → length contents ≤ 25
+contents_short contents n d (inl p) = omega (arith, ap length p.0)
+contents_short contents n d (inr (b, body, (ds, e, real, number, is), text)) =
+    let ends = value_ends ds real.are_digits real.ends in
+    let v = digits_value 10 ds in
+    let low = value_below b v e n d number ends in
+    let small : v < 10 ^ 18 = omega (arith, low, d.small) in
+    let digits = ap length (numeral_is_decimal ds (numeral_of ds real) (omega (arith, small))) in
+    let few = length-decimal-le 18 v (omega arith) small (omega (arith, small)) in
+    let power = exponent_length e (exponent_small b v e n d number ends) in
+    let size = ap length is ∙ length-append ds (46 ∷ 69 ∷ exponent_text e) in
+    let all = ap length text in
+    omega (arith, digits, few, power, size, all, minus_length b, length-append (minus_text b) body)

@@ -1,5 +1,5 @@
 -- The characters of XML 1.0 and of names in it, as tables of ranges of code points.
-use Rattle.std.specs.Prelude.{ℕ, ◌≤◌, ◌⊎◌, List, [], ◌∷◌, encode_utf8_all, ◌≡◌}
+use Rattle.std.specs.Prelude.{ℕ, Bool, ◌≤◌, ◌⊎◌, ◌==◌, ◌||◌, List, [], ◌∷◌, encode_utf8_all, ◌≡◌}
 use Rattle.std.specs.List.{AllByRecursion}
 
 -- the number stands in one of the ranges, whose two ends belong to them
@@ -19,6 +19,14 @@ IsNameStart = IsInSome ((65, 90) ∷ (95, 95) ∷ (97, 122) ∷ (0xC0, 0xD6) ∷
 -- the characters that a name may have after its first, and no colon: XML 1.0 §2.3, NameChar, and Namespaces in XML 1.0 §4, NCName
 abbrev pub IsNameChar : ℕ → Type 0
 IsNameChar c = IsNameStart c ⊎ IsInSome ((45, 46) ∷ (48, 57) ∷ (0xB7, 0xB7) ∷ (0x300, 0x36F) ∷ (0x203F, 0x2040) ∷ []) c
+
+-- white space: space, tab, LF or CR, XML 1.0 §2.3, S
+abbrev pub IsSpace : ℕ → Type 0
+IsSpace c = (c ≡ 32) ⊎ (c ≡ 9) ⊎ (c ≡ 10) ⊎ (c ≡ 13)
+
+-- the same as a test
+abbrev pub is_space : ℕ → Bool
+is_space c = c == 32 || c == 9 || c == 10 || c == 13
 
 -- the bytes are the UTF-8 of characters that P has: RFC 3629 §3
 abbrev pub IsTextOf : (ℕ → Type 0) → List ℕ → Type 0

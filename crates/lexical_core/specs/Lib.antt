@@ -1,4 +1,5 @@
 pub mod Characters
+pub mod XmlRuns
 pub mod Utf8
 pub mod Begun
 pub mod Rules

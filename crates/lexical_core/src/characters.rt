@@ -1,6 +1,6 @@
 // The characters of XML and of the names in it.
-ghost use Rattle.std.specs.Prelude.{◌↔◌, IsTrue};
-ghost use Rattle.lexical_core.specs.Characters.{IsXmlChar, IsNameStart, IsNameChar};
+ghost use Rattle.std.specs.Prelude.{◌≡◌, ◌↔◌, IsTrue};
+ghost use Rattle.lexical_core.specs.Characters.{IsXmlChar, IsNameStart, IsNameChar, IsSpace, is_space};
 
 /// Whether the character may stand in a document: XML 1.0 §2.2, Char.
 #[inline]
@@ -51,4 +51,13 @@ pub fn is_name_char(c: char) -> bool
 {
     is_name_start(c)
         || matches!(c, '-'..='.' | '0'..='9' | '\u{B7}' | '\u{300}'..='\u{36F}' | '\u{203F}'..='\u{2040}')
+}
+
+/// Whether the character is white space: XML 1.0 §2.3, S.
+#[inline]
+pub fn is_space(c: char) -> bool
+    ensures fact { IsTrue result ↔ IsSpace c }
+    ensures test { result ≡ is_space c }
+{
+    c == ' ' || c == '\t' || c == '\n' || c == '\r'
 }

@@ -47,6 +47,7 @@ impl DecimalStep {
     }
 
     /// Takes a character.
+    #[inline]
     pub fn take(&mut self, c: char)
         ensures { (text : List ℕ) → HasRead self.old text → HasRead self.new (text ++ c ∷ []) }
     {
@@ -55,6 +56,15 @@ impl DecimalStep {
             Stage::Whole => self.take_whole(c),
             Stage::Fraction => self.take_fraction(c),
             Stage::Failed => {}
+        }
+    }
+
+    /// Takes the characters of these codes, one after another.
+    pub fn take_codes(&mut self, codes: &[u8])
+        ensures { (text : List ℕ) → HasRead self.old text → HasRead self.new (text ++ codes.now) }
+    {
+        for code in codes {
+            self.take(*code as char);
         }
     }
 
@@ -74,6 +84,7 @@ impl DecimalStep {
     }
 
     /// Takes a character before the point and after the sign.
+    #[inline]
     fn take_whole(&mut self, c: char)
         ensures { (text : List ℕ) → ReadWhole self.old text → (text ≡ [] → (c ≢ 43) × (c ≢ 45))
             → HasRead self.new (text ++ c ∷ []) }
@@ -89,6 +100,7 @@ impl DecimalStep {
     }
 
     /// Takes a character after the point.
+    #[inline]
     fn take_fraction(&mut self, c: char)
         requires { self.old.stage ≡ Stage.Fraction }
         ensures { (text : List ℕ) → ReadFraction self.old text

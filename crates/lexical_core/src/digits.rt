@@ -1,5 +1,10 @@
-// The digits of a decimal text, as far as they were read.
-ghost use Rattle.std.specs.Prelude.{◌≡◌, ◌+◌, ◌*◌, ◌<◌, ◌≤◌, ◌^◌, ℕ, true, false, IfSome, IfNone};
+// Digits, and the number that those of a decimal text make as far as they were read.
+ghost use Rattle.std.specs.Prelude.{◌≡◌, ◌+◌, ◌*◌, ◌<◌, ◌≤◌, ◌^◌, ℕ, true, false, IfSome, IfNone, length, take, drop};
+ghost use Rattle.std.specs.Str.Parse.{AllDigits};
+ghost use Rattle.lexical_core.specs.Exponents.{NoDigit};
+
+/// The least size of more than 18 digits.
+const LIMIT: u64 = 1_000_000_000_000_000_000;
 
 /// The number that digits make, up to 18 of them, with the zeros at their end after the point set apart:
 /// they count only once another digit comes.
@@ -33,6 +38,7 @@ impl Digits {
     }
 
     /// One more digit before the point.
+    #[inline]
     pub fn push_whole(&mut self, digit: u8)
         requires { digit < 10 }
         ensures some { self.new.some ≡ true }
@@ -47,6 +53,7 @@ impl Digits {
     }
 
     /// One more digit after the point.
+    #[inline]
     pub fn push_fraction(&mut self, digit: u8)
         requires { digit < 10 }
         ensures some { self.new.some ≡ true }
@@ -94,25 +101,48 @@ pub fn with_digit(size: u64, zeros: u8, digit: u8) -> Option<u64>
     ensures some { IfSome result (λ n. (n ≡ size * 10 ^ (zeros + 1) + digit) × (n < 10 ^ 18)) }
     ensures none { IfNone result (10 ^ 18 ≤ size * 10 ^ (zeros + 1) + digit) }
 {
-    let longer = shifted(size, zeros) + u128::from(digit);
-    if longer < 1_000_000_000_000_000_000 {
-        Some(longer as u64)
-    } else {
-        None
-    }
+    let Some(shifted) = shifted(size, zeros) else {
+        return None;
+    };
+    let longer = shifted + u64::from(digit);
+    if longer < LIMIT { Some(longer) } else { None }
 }
 
-/// The number with one 0 more than these behind it.
+/// The number with one 0 more than these behind it; `None` only where it has more than 18 digits.
 #[inline]
-fn shifted(size: u64, zeros: u8) -> u128
+fn shifted(size: u64, zeros: u8) -> Option<u64>
     requires size { size < 10 ^ 18 }
     requires zeros { zeros < 18 }
-    ensures value { result ≡ size * 10 ^ (zeros + 1) }
-    ensures room { result < 10 ^ 36 }
+    ensures some { IfSome result (λ n. (n ≡ size * 10 ^ (zeros + 1)) × (n < 10 ^ 19)) }
+    ensures none { IfNone result (10 ^ 18 ≤ size * 10 ^ (zeros + 1)) }
 {
     if zeros == 0 {
-        u128::from(size) * 10
-    } else {
-        u128::from(size) * 10u128.pow(u32::from(zeros) + 1)
+        return Some(size * 10);
     }
+    let Some(shifted) = size.checked_mul(power(zeros + 1)) else {
+        return None;
+    };
+    if shifted < LIMIT { Some(shifted) } else { None }
+}
+
+/// Ten to this power.
+fn power(exponent: u8) -> u64
+    requires { exponent ≤ 18 }
+    ensures { result ≡ 10 ^ exponent }
+{
+    10u64.pow(u32::from(exponent))
+}
+
+/// How many digits the bytes begin with.
+pub fn digit_count(bytes: &[u8]) -> usize
+    ensures bound { result ≤ length bytes.now }
+    ensures digits { AllDigits 10 (take result bytes.now) }
+    ensures rest { NoDigit (drop result bytes.now) }
+{
+    for (count, byte) in bytes.iter().enumerate() {
+        if !byte.is_ascii_digit() {
+            return count;
+        }
+    }
+    bytes.len()
 }

@@ -1,5 +1,5 @@
 // Laws on the definitions of decimals: each is the contract of a function that does nothing.
-ghost use Rattle.std.specs.Prelude.{◌≡◌, List, ℕ};
+ghost use Rattle.std.specs.Prelude.{◌≡◌, ◌≤◌, List, ℕ, length};
 ghost use Rattle.lexical_core.specs.Decimals.{Number, IsDecimal, SpellsDecimal, IsCanonicalText};
 ghost use Rattle.lexical_core.specs.Reals.{IsReal};
 
@@ -25,4 +25,14 @@ pub fn contents_have_one_number()
 pub fn a_number_has_one_contents()
     ensures { (one two : List ℕ) (n : Number) → IsDecimal n
         → IsReal one n → IsReal two n → one ≡ two }
+{}
+
+/// A decimal has REAL contents.
+pub fn a_decimal_has_contents()
+    ensures { (n : Number) → IsDecimal n → (contents : List ℕ) × IsReal contents n }
+{}
+
+/// The REAL contents of a decimal are at most 25 octets.
+pub fn contents_are_short()
+    ensures { (contents : List ℕ) (n : Number) → IsDecimal n → IsReal contents n → length contents ≤ 25 }
 {}

@@ -8,7 +8,7 @@ ghost use Rattle.lexical_core.specs.Reals.{IsReal, IsRealBody, IsRealNumber, exp
 ghost use Rattle.lexical_core.specs.Exponents.{exponent_value, AreRealEnds, IsSmall, NoDigit, IsPositiveNumeral, exponent_for};
 
 use crate::decimal::Decimal;
-use crate::digits::with_digit;
+use crate::digits::{digit_count, with_digit};
 use crate::put::{put_byte, put_minus, put_number};
 
 /// A power of ten: up, or down by at least one.
@@ -129,20 +129,6 @@ fn read_body(negative: bool, body: &[u8]) -> Option<Decimal>
         return None;
     };
     decimal_of(negative, value, exponent)
-}
-
-/// How many digits the bytes begin with.
-fn digit_count(bytes: &[u8]) -> usize
-    ensures bound { result ≤ length bytes.now }
-    ensures digits { AllDigits 10 (take result bytes.now) }
-    ensures rest { NoDigit (drop result bytes.now) }
-{
-    for (count, byte) in bytes.iter().enumerate() {
-        if !byte.is_ascii_digit() {
-            return count;
-        }
-    }
-    bytes.len()
 }
 
 /// Whether there are digits, and they neither begin nor end with 0.

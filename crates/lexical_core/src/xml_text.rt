@@ -21,7 +21,7 @@ pub fn is_xml_text(bytes: &[u8]) -> bool
 
 /// Takes a byte; false where it ends another character than one of XML, or none can go on so.
 #[inline]
-fn takes_xml_char(step: &mut Utf8Step, byte: u8) -> bool
+pub(crate) fn takes_xml_char(step: &mut Utf8Step, byte: u8) -> bool
     ensures goes { IsTrue result → GoesOn IsXmlChar step.old byte step.new }
     ensures stops { (IsTrue result → ⊥) → Stops IsXmlChar step.old byte }
 {

@@ -6,13 +6,13 @@ use Rattle.data_types.proofs.canonical.push_leaf.Goals as goal
 
 pub returns-in-Text-clause-bytes : goal.returns-in-Text-clause-bytes
 returns-in-Text-clause-bytes g c = λ chars h.
-    subst (λ t. PushAppends (g.O.Sink.held c.args.sink.now) (g.O.Sink.held c.push_text.new.sink) c.push_text.result t)
-    (text_pushed c.args.kind (leaf_of c.args.leaf.now) c.in-Bytes.bytes.now chars c.in-Text.is (ap leaf_of c.in-Bytes.is) h) c.push_text.ensures.bytes
+    subst (λ t. PushAppends (g.O.Sink.held c.args.sink.now) (g.O.Sink.held c.push_escaped.new.sink) c.push_escaped.result t)
+    (text_pushed c.args.kind (leaf_of c.args.leaf.now) c.in-Bytes.bytes.now chars c.in-Text.is (ap leaf_of c.in-Bytes.is) h) c.push_escaped.ensures.bytes
 
 pub returns-in-Text-clause-room : goal.returns-in-Text-clause-room
 returns-in-Text-clause-room g c = λ chars h.
-    subst (λ t. HasRoom (g.O.Sink.room c.args.sink.now) (g.O.Sink.room c.push_text.new.sink) c.push_text.result t)
-    (text_pushed c.args.kind (leaf_of c.args.leaf.now) c.in-Bytes.bytes.now chars c.in-Text.is (ap leaf_of c.in-Bytes.is) h) c.push_text.ensures.room
+    subst (λ t. HasRoom (g.O.Sink.room c.args.sink.now) (g.O.Sink.room c.push_escaped.new.sink) c.push_escaped.result t)
+    (text_pushed c.args.kind (leaf_of c.args.leaf.now) c.in-Bytes.bytes.now chars c.in-Text.is (ap leaf_of c.in-Bytes.is) h) c.push_escaped.ensures.room
 
 pub returns-in-Binary-clause-bytes : goal.returns-in-Binary-clause-bytes
 returns-in-Binary-clause-bytes g c = λ chars h.

@@ -1,6 +1,0 @@
-use Rattle.std.proofs.Common.{take}
-use Rattle.std.specs.Str.Parse.{AllDigits}
-use Rattle.data_types.proofs.dates.digit_count.Given as goal
-
-abbrev pub invariant-loop-count : goal.invariant-loop-count
-invariant-loop-count l = AllDigits 10 (take l.count l.bytes)

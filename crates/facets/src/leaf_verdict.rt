@@ -1,0 +1,117 @@
+// The check of a leaf's text that tells no more than whether it spells a leaf: XML Schema part 2 §4.3.
+ghost use Rattle.std.specs.Prelude.{◌≡◌, ◌↔◌, ◌+◌, ◌≤◌, ◌++◌, ◌∷◌, [], ℕ, List, length, IsTrue, IsOk, IfOk, OnOk, OnErr};
+ghost use Rattle.lexical_core.specs.Characters.{IsXmlChar};
+ghost use Rattle.lexical_core.specs.XmlRuns.{IsXmlRun};
+ghost use Rattle.facets.specs.declared.simple.Simple.{Simple as SimpleType};
+ghost use Rattle.facets.specs.LeafChecks.{IsWithinLimits, IsHeldWithin, leaf_limit};
+ghost use Rattle.facets.specs.LeafVerdicts.{HasTaken, IsMadeFor, IsVerdict, IsFreeText, verdict_limit, kept, in_place, room, spare};
+
+use crate::leaf_check::limit;
+use crate::progress::Progress;
+use crate::simple::Simple;
+use data_types::Kind;
+use lexical_core::Rule;
+use std::alloc::{AllocError, Global};
+
+/// A check of the text of a leaf that takes a character or a run of characters at a time, and tells whether they
+/// spell a leaf. It keeps the bytes of a text only where there are codes, and as many as the longest of them allows.
+#[derive(Drop)]
+pub struct LeafVerdict {
+    progress: Progress,
+}
+
+impl LeafVerdict {
+    /// A check for the simple type before the first character. It has fewer than 2^32 codes, and a total of at most 18
+    /// where its kind is decimal.
+    pub fn new(alloc: Global, simple: &Simple) -> Result<LeafVerdict, AllocError>
+        requires { IsWithinLimits simple.now }
+        ensures { IfOk result (λ check. HasTaken check simple.now []) }
+    {
+        Ok(LeafVerdict {
+            progress: Progress::new(alloc, simple, verdict_limit(simple))?,
+        })
+    }
+
+    /// Makes the check as it was when it was new, with all its room as spare. It takes no memory.
+    pub fn restart(&mut self, simple: &Simple)
+        requires { IsMadeFor self.old simple.now }
+        ensures taken { HasTaken self.new simple.now [] }
+        ensures spare { spare self.new ≡ room self.old }
+        ensures room { room self.new ≡ room self.old }
+    {
+        self.progress.restart(simple);
+    }
+
+    /// Takes a character. After want of memory all is as before. It takes no memory while its spare is at least 4.
+    pub fn take(&mut self, simple: &Simple, c: char) -> Result<(), AllocError>
+        requires char { IsXmlChar c }
+        requires made { IsMadeFor self.old simple.now }
+        ensures ok { OnOk result ((text : List ℕ) → HasTaken self.old simple.now text
+            → HasTaken self.new simple.now (text ++ c ∷ [])) }
+        ensures err { OnErr result (self.new ≡ self.old) }
+        ensures within { 4 ≤ spare self.old → IsOk result }
+        ensures spare { spare self.old ≤ spare self.new + 4 }
+        ensures room { room self.old ≤ room self.new }
+    {
+        self.progress.take(simple, c)
+    }
+
+    /// Takes a run of so many characters. After want of memory all is as before. It takes no memory while its spare
+    /// is at least the bytes of the run and 3.
+    pub fn take_run(&mut self, simple: &Simple, run: &[u8], count: usize) -> Result<(), AllocError>
+        requires run { IsXmlRun run.now count }
+        requires made { IsMadeFor self.old simple.now }
+        ensures ok { OnOk result ((r : IsXmlRun run.now count) (text : List ℕ) → HasTaken self.old simple.now text
+            → HasTaken self.new simple.now (text ++ r.chars)) }
+        ensures err { OnErr result (self.new ≡ self.old) }
+        ensures within { length run.now + 3 ≤ spare self.old → IsOk result }
+        ensures spare { spare self.old ≤ spare self.new + (length run.now + 3) }
+        ensures room { room self.old ≤ room self.new }
+    {
+        self.progress.take_run(simple, run, count)
+    }
+
+    /// How many bytes are held for the leaf, in memory and in place: at most four to each character within the
+    /// limit, and 64; of a text without codes none.
+    pub fn scratch(&self) -> u64
+        ensures count { result ≡ kept self.now + in_place self.now }
+        ensures bound { (simple : SimpleType) (text : List ℕ) → HasTaken self.now simple text
+            → IsHeldWithin (leaf_limit simple) (length text) result }
+        ensures none { (simple : SimpleType) (text : List ℕ) → HasTaken self.now simple text → IsFreeText simple → kept self.now ≡ 0 }
+    {
+        self.progress.kept() as u64 + self.progress.in_place() as u64
+    }
+
+    /// Whether the characters spell a leaf under the simple type, or the least rule that they break, as
+    /// `LeafCheck::finish`. It takes no memory.
+    pub fn finish(&self, simple: &Simple) -> Result<(), Rule>
+        requires { IsMadeFor self.now simple.now }
+        ensures { (text : List ℕ) → HasTaken self.now simple.now text → IsVerdict simple.now text result }
+    {
+        if is_free_text(simple) {
+            return self.progress.check_text(simple);
+        }
+        match self.progress.leaf(simple) {
+            Ok(_) => Ok(()),
+            Err(rule) => Err(rule),
+        }
+    }
+}
+
+/// Whether the simple type has texts without codes.
+fn is_free_text(simple: &Simple) -> bool
+    ensures { IsTrue result ↔ IsFreeText simple.now }
+{
+    simple.kind == Kind::Text && simple.codes.is_none()
+}
+
+/// The most characters of a text, or octets of a binary value, that are needed to tell whether it is a leaf.
+fn verdict_limit(simple: &Simple) -> Option<u64>
+    ensures { result ≡ verdict_limit simple.now }
+{
+    if is_free_text(simple) {
+        Some(0)
+    } else {
+        limit(simple)
+    }
+}
