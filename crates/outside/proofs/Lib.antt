@@ -1,3 +1,5 @@
 pub mod Pushing
 pub mod Serving
 pub mod Writing
+pub mod Rendering
+pub mod ReadToEnd

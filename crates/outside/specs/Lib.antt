@@ -1,6 +1,9 @@
 pub mod Errors
 pub mod Source
+pub mod Reading
 pub mod Sink
+pub mod Pushes
+pub mod Parts
 pub mod Memory
 pub mod Steady
 pub mod Edge

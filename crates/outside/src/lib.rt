@@ -7,6 +7,8 @@
 mod edge;
 mod errors;
 mod memory;
+mod reading;
+mod render;
 mod serve;
 mod sink;
 mod source;
@@ -15,6 +17,8 @@ mod steady;
 pub use edge::{ReadSource, WriteSink};
 pub use errors::{Failed, SinkError, WriteError};
 pub use memory::{MemSink, MemSource};
+pub use reading::{ReadError, read_all};
+pub use render::{Part, Render, push_bytes, push_number, render_all, write_to};
 pub use sink::Sink;
 pub use source::Source;
 pub use steady::{SteadySink, SteadySource};

@@ -1,0 +1,120 @@
+// A source read to its end.
+ghost use Rattle.std.specs.Prelude.{◌≡◌, ◌+◌, ◌≤◌, ◌<◌, IfOk, IsErrOf, length};
+ghost use Rattle.std.specs.Io.{ReadsAtMost};
+ghost use Rattle.std.specs.Io.KnownBytes.{ReadConsumes};
+ghost use Rattle.outside.specs.Source.{Rose, HasCause};
+ghost use Rattle.outside.specs.Reading.{IsRead, IsLonger, PassesBy};
+ghost use Rattle.outside.specs.declared.reading.ReadError.TheVariants.{Memory};
+
+use super::errors::Failed;
+use super::source::Source;
+use std::alloc::{AllocError, Global};
+
+/// Why the bytes that a source has left are not given.
+#[derive(Clone, Copy, Debug, PartialEq, Eq)]
+pub enum ReadError {
+    /// They are more than the limit.
+    TooLong,
+    /// The source failed.
+    ReadFault,
+    /// Memory was wanted and not had.
+    Memory,
+}
+
+impl From<AllocError> for ReadError {
+    ghost from_gives = { λ _ e. e ≡ Memory };
+
+    fn from(_error: AllocError) -> ReadError {
+        ReadError::Memory
+    }
+}
+
+// How many bytes are asked of a source at once.
+const PIECE: usize = 65536;
+
+// A buffer for the pieces of a source.
+fn piece_buffer(alloc: Global) -> Result<Vec<u8>, AllocError>
+    ensures { IfOk result (λ v. 0 < length v.items) }
+{
+    Ok(vec![in alloc; 0u8; PIECE]?)
+}
+
+// Pulls at most this many bytes into the front of the buffer.
+fn pull_within<S: Source>(source: &mut S, buf: &mut [u8], most: usize) -> Result<usize, Failed>
+    requires some_room { 0 < length buf.old }
+    requires some { 0 < most }
+    ensures room { 0 < length buf.new }
+    ensures bound { ReadsAtMost result buf.new }
+    ensures within { IfOk result (λ n. n ≤ most) }
+    ensures bytes { ReadConsumes (S.left source.old) (S.left source.new) result buf.new }
+    ensures cause { HasCause (S.faults source.old) (S.faults source.new) result }
+{
+    if most < buf.len() {
+        source.pull(&mut buf[..most])
+    } else {
+        source.pull(buf)
+    }
+}
+
+/// The bytes that the source has left, where they are at most `limit`. It pulls one byte beyond the
+/// limit, to tell `TooLong`, and none behind it. `ReadFault` comes with the first pull that fails.
+pub fn read_all<S: Source>(
+    alloc: Global,
+    source: &mut S,
+    limit: usize,
+) -> Result<Vec<u8>, ReadError>
+    ensures bytes { IfOk result (λ v. IsRead (S.left source.old) (S.left source.new) v.items) }
+    ensures within { IfOk result (λ v. length v.items ≤ limit) }
+    ensures long { IsErrOf result ReadError.TooLong → IsLonger (S.left source.old) limit }
+    ensures stops { IsErrOf result ReadError.TooLong → PassesBy (S.left source.old) (S.left source.new) (limit + 1) }
+    ensures fault { IsErrOf result ReadError.ReadFault → Rose (S.faults source.old) (S.faults source.new) }
+    ensures later { S.faults source.old ≤ S.faults source.new }
+    ensures same { (IsErrOf result ReadError.ReadFault → ⊥) → S.faults source.new ≡ S.faults source.old }
+{
+    let mut buffer = piece_buffer(alloc)?;
+    let mut bytes = Vec::new(alloc);
+    loop {
+        let room = limit - bytes.len();
+        let Ok(count) = pull_within(source, &mut buffer, room.saturating_add(1)) else {
+            return Err(ReadError::ReadFault);
+        };
+        if count == 0 {
+            return Ok(bytes);
+        }
+        if count > room {
+            return Err(ReadError::TooLong);
+        }
+        bytes.extend_from_slice(&buffer[..count])?;
+    }
+}
+
+// What no contract says: that there is memory, and that a pull that failed is not tried again.
+#[cfg(test)]
+mod tests {
+    use super::{ReadError, read_all};
+    use crate::MemSource;
+    use std::test::Fail;
+
+    #[test]
+    fn bytes_are_read_up_to_the_limit(rt: HostRuntime) -> Result<(), Fail> {
+        for piece in 1..5 {
+            let mut source = MemSource::new(rt.alloc(), b"abc", piece, &[])?;
+            let bytes = read_all(rt.alloc(), &mut source, 3)?;
+            assert_eq!(rt; bytes.as_slice(), b"abc".as_slice());
+            let mut source = MemSource::new(rt.alloc(), b"abc", piece, &[])?;
+            let told = read_all(rt.alloc(), &mut source, 2);
+            assert_eq!(rt; told.err(), Some(ReadError::TooLong));
+        }
+        Ok(())
+    }
+
+    #[test]
+    fn failed_pull_is_not_tried_again(rt: HostRuntime) -> Result<(), Fail> {
+        let mut source = MemSource::new(rt.alloc(), b"abc", 1, &[1])?;
+        let told = read_all(rt.alloc(), &mut source, 3);
+        assert_eq!(rt; told.err(), Some(ReadError::ReadFault));
+        let rest = read_all(rt.alloc(), &mut source, 3)?;
+        assert_eq!(rt; rest.as_slice(), b"bc".as_slice());
+        Ok(())
+    }
+}
