@@ -1,85 +1,106 @@
 -- A run of characters by themselves is taken as each of them is.
-use Rattle.std.proofs.Common.{◌≡◌, ℕ, zero, suc, Bool, true, false, ◌==◌, ◌&&◌, not, nat_le, ◌+◌, ◌<◌, ◌≤◌, inl, inr, List, [], ◌∷◌, ◌++◌, length, take, reverse, map, Ok, None, Some, if◌then◌else◌, refl, sym, ◌∙◌, ap, subst, append_assoc, append-nil, add-zero, length-append, arith}
+use Rattle.std.proofs.Common.{◌≡◌, ℕ, zero, suc, Bool, true, false, ◌==◌, ◌&&◌, ◌||◌, not, nat_le, ◌+◌, ◌<◌, ◌≤◌, inl, inr, List, [], ◌∷◌, ◌++◌, length, take, reverse, None, Some, if◌then◌else◌, refl, sym, ◌∙◌, ap, subst, append_assoc, append-nil, add-zero, length-append, arith}
 use Rattle.std.specs.Char.{encode_utf8}
 use Rattle.std.specs.Str.{encode_utf8_all}
 use Rattle.std.specs.List.{AllByRecursion}
 use Rattle.std.proofs.lemmas.Bool.{and_parts, both_ways, eqb-true}
 use Rattle.std.proofs.lemmas.List.{length-take-le}
-use Rattle.std.proofs.lemmas.Str.{encode_ascii, length-encode, len_utf8_bounds}
 use Rattle.std.proofs.lemmas.Bool.Decides.{nat_tests}
 use Rattle.lexical_core.specs.Tree.{Char}
-use Rattle.lexical_core.specs.declared.rule.Rule.TheVariants.{BadMarkup}
+use Rattle.lexical_core.specs.declared.rule.Rule.TheVariants.{BadMarkup, TextOutside}
 use Rattle.markup.specs.Chars.{is_space, is_xml_char}
-use Rattle.markup.specs.Token.{Token, Mark}
-use Rattle.markup.specs.Marks.{in_cdata, is_first}
+use Rattle.markup.specs.Token.{Token, Mark, LineEnd, Lf, Character, token_bytes}
+use Rattle.markup.specs.Marks.{in_cdata, is_first, shows_no_closer, stands_in_cdata, stands_outside, stands}
 use Rattle.markup.specs.Events.{Placed, items_of, open_tags}
 use Rattle.markup.specs.Faults.{is_outside, behind_brackets, rule_of}
-use Rattle.markup.specs.EventItems.{placed, Tells}
 use Rattle.markup.specs.Literals.{is_literal, IsLiteral, IsRun, characters_from}
-use Rattle.markup.specs.Scopes.{IsScope, placed_at}
-use Rattle.markup.specs.ScanRuns.{run, position, placed as placed_by, ended_of, draft_of}
+use Rattle.markup.specs.Scopes.{placed_at}
+use Rattle.markup.specs.ScanRuns.{run, position, placed as placed_by}
 use Rattle.markup.specs.Drafts.{no_draft}
-use Rattle.markup.specs.Contexts.{IsContext, TakesToken, HasOpen, unbracketed}
-use Rattle.markup.specs.TokenRules.{inside_alone, one_more, brackets}
-use Rattle.markup.specs.Tokenizers.{is_between, is_plain, is_ready, TakesAlone}
-use Rattle.markup.specs.Reading.{HasTaken, HasTold, IsInside, GoesOn}
+use Rattle.markup.specs.Contexts.{IsContext, HasOpen, unbracketed}
+use Rattle.markup.specs.TokenRules.{one_more, brackets}
+use Rattle.markup.specs.Tokenizers.{is_between, is_ready}
+use Rattle.markup.specs.Reading.{HasTaken, HasTold, IsInside}
 use Rattle.markup.specs.ReaderSteps.{IsReady, passed_over}
 use Rattle.markup.specs.declared.context.Context.{Context}
-use Rattle.markup.specs.declared.event.Event.{Event}
-use Rattle.markup.specs.declared.event.What.TheVariants.{Char as CharTold}
 use Rattle.markup.specs.declared.reader.Reader.{Reader}
-use Rattle.markup.specs.declared.scan.Ended.TheVariants.{Character}
 use Rattle.markup.specs.declared.scan.Scan.TheVariants.{Begin}
-use Rattle.markup.specs.declared.tokenizer.Progress.TheVariants.{Token as EndedToken}
 use Rattle.markup.specs.declared.tokenizer.Tokenizer.{Tokenizer}
-use Rattle.markup.proofs.CharLemmas.{xml_scalar}
-use Rattle.markup.proofs.PlainLemmas.{IsFresh, is_fresh, made, takes_plain, plain_ascii, alone_ok, no_chars, at_same}
+use Rattle.markup.proofs.PlainLemmas.{no_chars, at_same}
 use Rattle.markup.proofs.ReaderLemmas.{told_so_far, starts}
-use Rattle.markup.proofs.WideLemmas.{inside, takes_whole, IsLast, to_last}
-use Rattle.markup.proofs.TokenRuleLemmas.{rule_ended, items_ended, tags_ended, started_ended, brackets_ended}
+use Rattle.markup.proofs.WholeTokens.{IsNext, takes_next}
 
 -- a character that is neither `]` nor `>`
-literal_plain : (c : ℕ) → is_literal c ≡ true → is_plain c ≡ true
-literal_plain c h = (and_parts (is_plain c) (not (c == 62)) h).0
-
 literal_not : (c : ℕ) → IsLiteral c → ((c == 62) ≡ false) × ((c == 93) ≡ false)
 literal_not c (inl h) = (grind (arith, nat_tests), grind (arith, nat_tests))
 literal_not c (inr h) = high c h.0 where
   high : (c : ℕ) → nat_le 128 c ≡ true → ((c == 62) ≡ false) × ((c == 93) ≡ false)
   high c h = (grind (arith, nat_tests), grind (arith, nat_tests))
 
--- the event of a character at the place
-abbrev event_at : ℕ → ℕ → Event
-event_at p c = record { place = p; what = CharTold c }
+-- ---- a character as a token
 
--- the context behind a character, as a token
-module _ (k : Context) (within : HasOpen k) (p c : ℕ) (h : IsLiteral c) (before : List Token) (t : Token) (i : IsContext k before) (e : ended_of t ≡ Character c) where
-  clean_character : rule_of before t ≡ None
-  clean_character =
-      rule_ended before t (Character c) e (draft_of t) refl
-      ∙ (ap (λ (b : Bool). if b && not (in_cdata before) && behind_brackets before then Some BadMarkup else (if is_space c then None else inside_alone (length (open_tags before) == 0))) (literal_not c h).0
-      ∙ (ap (λ (b : Bool). if is_space c then None else inside_alone b) (within (open_tags before) i.scope)
-      ∙ by (is_space c))) where
-        by : (b : Bool) → (if b then None else inside_alone false) ≡ None
+plain_not : (c : ℕ) → is_literal c ≡ true → (is_xml_char c ≡ true) × ((c == 13) ≡ false) × ((c == 60) ≡ false) × ((c == 38) ≡ false) × ((c == 93) ≡ false)
+unfolding is_xml_char
+plain_not c h = (grind (arith, nat_tests), grind (arith, nat_tests), grind (arith, nat_tests), grind (arith, nat_tests), grind (arith, nat_tests))
+
+wide_not : (c : ℕ) → nat_le 128 c ≡ true → ((c == 13) ≡ false) × ((c == 60) ≡ false) × ((c == 38) ≡ false) × ((c == 93) ≡ false)
+wide_not c h = (grind (arith, nat_tests), grind (arith, nat_tests), grind (arith, nat_tests), grind (arith, nat_tests))
+
+literal_facts : (c : ℕ) → IsLiteral c → (is_xml_char c ≡ true) × ((c == 13) ≡ false) × ((c == 60) ≡ false) × ((c == 38) ≡ false) × ((c == 93) ≡ false)
+literal_facts c (inl h) = plain_not c h
+literal_facts c (inr h) = let w = wide_not c h.0 in (h.1, w.0, w.1, w.2, w.3)
+
+cdata_test : (a l r b s : Bool) → a ≡ true → l ≡ false → r ≡ false → b ≡ false → (a && not l && not r && (not b || s)) ≡ true
+cdata_test a l r b s e f g h = cc
+
+text_test : (a l r m n o p : Bool) → a ≡ true → l ≡ false → r ≡ false → m ≡ false → n ≡ false → o ≡ false → ((a && not l && not r && not m && not n) && not (o && p)) ≡ true
+text_test a l r m n o p e f g h i j = cc
+
+not_zero : (n : ℕ) → (suc n == 0) ≡ false
+not_zero n = grind (arith, nat_tests)
+
+some_before : (before : List Token) → is_outside before ≡ false → (length before == 0) ≡ false
+some_before [] h = h
+some_before (t ∷ before) h = not_zero (length before)
+
+module _ (before : List Token) (inside : is_outside before ≡ false) (c : ℕ) (l : IsLiteral c) where
+  character_stands : (c == 10) ≡ false → (after : List ℕ) → stands before (Character c) after ≡ true
+  character_stands n after = by (in_cdata before) where
+    f : (is_xml_char c ≡ true) × ((c == 13) ≡ false) × ((c == 60) ≡ false) × ((c == 38) ≡ false) × ((c == 93) ≡ false)
+    f = literal_facts c l
+
+    by : (b : Bool) → (if b then stands_in_cdata (Character c) after else stands_outside (Character c) after && not (length before == 0 && c == 0xFEFF)) ≡ true
+    by true = cdata_test (is_xml_char c) (c == 10) (c == 13) (c == 93) (shows_no_closer after) f.0 n f.1 f.4
+    by false = text_test (is_xml_char c) (c == 10) (c == 13) (c == 60) (c == 38) (length before == 0) (c == 0xFEFF) f.0 n f.1 f.2 f.3 (some_before before inside)
+
+  character_clean : rule_of before (Character c) ≡ None
+  character_clean =
+      ap (λ (b : Bool). if b && not (in_cdata before) && behind_brackets before then Some BadMarkup else (if is_space c then None else (if is_outside before then Some TextOutside else None))) (literal_not c l).0
+      ∙ (ap (λ (b : Bool). if is_space c then None else (if b then Some TextOutside else None)) inside
+      ∙ by (is_space c)) where
+        by : (b : Bool) → (if b then None else (if false then Some TextOutside else None)) ≡ None
         by true = refl
         by false = refl
 
-  character_told : Tells [] (event_at p c ∷ []) (placed_at p (items_of before t))
-  character_told = record {
-    more = event_at p c ∷ [];
-    appended = refl;
-    told_are = ap (placed_at p) (sym (items_ended before t (Character c) e (draft_of t) refl));
-  }
+  character_next : (c == 10) ≡ false → IsNext before (Character c)
+  character_next n = record { is = character_stands n; short = refl; clean = character_clean; stays = λ p. refl }
 
-  behind_character : IsContext (unbracketed k) (t ∷ before)
-  behind_character = record {
-    scope = subst (IsScope k.scope) (sym (tags_ended before t (Character c) e (draft_of t) refl)) i.scope;
-    root = i.root ∙ sym (started_ended before t (Character c) e);
-    brackets_are = sym (brackets_ended before t (Character c) e ∙ ap (λ (b : Bool). if b then one_more (brackets before) else 0) (literal_not c h).1);
-  }
+line_stands : (before : List Token) (after : List ℕ) → stands before (LineEnd Lf) after ≡ true
+line_stands before after = by (in_cdata before) where
+  by : (b : Bool) → (if b then stands_in_cdata (LineEnd Lf) after else stands_outside (LineEnd Lf) after) ≡ true
+  by true = refl
+  by false = refl
 
-  takes_character : TakesToken before t p [] (event_at p c ∷ []) (unbracketed k)
-  takes_character = record { clean = clean_character; tells = character_told; context_is = behind_character }
+line_next : (before : List Token) → IsNext before (LineEnd Lf)
+line_next before = record { is = line_stands before; short = refl; clean = refl; stays = λ p. refl }
+
+character_context : (before : List Token) (k : Context) (c : ℕ) → (c == 93) ≡ false → IsContext k before → IsContext (unbracketed k) (Character c ∷ before)
+character_context before k c n i = record { scope = i.scope; root = i.root; brackets_are = sym (ap (λ (b : Bool). if b then one_more (brackets before) else 0) n) }
+
+line_context : (before : List Token) (k : Context) → IsContext k before → IsContext (unbracketed k) (LineEnd Lf ∷ before)
+line_context before k i = record { scope = i.scope; root = i.root; brackets_are = refl }
+
+-- ---- a reader behind them
 
 abbrev at_place : Tokenizer → ℕ → Tokenizer
 at_place z p = record { alloc = z.alloc; utf8 = z.utf8; position = z.position; scan = z.scan; draft = z.draft; start = p; place = p }
@@ -95,9 +116,6 @@ at r p b = record {
 same_place : (p : ℕ) → (p == p) ≡ true
 same_place p = grind (arith, nat_tests)
 
-one_told : (c p : ℕ) (more : List Placed) → Tells [] (event_at p c ∷ []) more → more ≡ record { place = p; item = Char c } ∷ []
-one_told c p more t = sym t.told_are ∙ ap (map placed) (sym t.appended)
-
 -- the count of literal `]` behind these characters
 abbrev after : ℕ → List ℕ → ℕ
 after b [] = b
@@ -107,56 +125,28 @@ after_none : (cs : List ℕ) → after 0 cs ≡ 0
 after_none [] = refl
 after_none (c ∷ cs) = refl
 
--- a character has bytes
-no_bytes : (c : ℕ) → encode_utf8 c ≡ [] → ⊥
-no_bytes c h = omega (arith, ap length h, length-encode c, len_utf8_bounds c)
-
--- the reader at a place where nothing of a token has come
-fresh_at : (r : Reader) (p b : ℕ) (bytes : List ℕ) (told : List Placed) → is_between r.tokenizer.scan ≡ true → HasTaken (at r p b) bytes told → IsFresh (at_place r.tokenizer p)
-fresh_at r p b bytes told between h = is_fresh (at_place r.tokenizer p) between (same_place p) (reverse h.0) h.1.reads.bytes h.1.reads.opens
-
 module _ (r : Reader) (between : is_between r.tokenizer.scan ≡ true) (within : HasOpen r.context) where
-  step_one : (p b c : ℕ) (bytes : List ℕ) (told : List Placed) → is_literal c ≡ true → HasTaken (at r p b) bytes told → HasTaken (at r (p + 1) 0) (bytes ++ c ∷ []) (told ++ record { place = p; item = Char c } ∷ [])
-  step_one p b c bytes told l h =
-      let starts : ((is_between r.tokenizer.scan && p == p) && is_plain c) ≡ true = joined (is_between r.tokenizer.scan) (p == p) (is_plain c) between (same_place p) (literal_plain c l) in
-      let g : GoesOn (at r (p + 1) 0) (bytes ++ c ∷ []) told [] (event_at p c ∷ []) = alone_ok {T = Unit {0}} (at r p b) (at r (p + 1) 0) bytes told c c [] (event_at p c ∷ []) (Ok tt) h (takes_plain (at r p b).tokenizer c starts) refl (λ before t i e k. takes_character (at r p b).context within p c (inl l) before t i e) in
-      subst (λ m. HasTaken (at r (p + 1) 0) (bytes ++ c ∷ []) (told ++ m)) (one_told c p g.more g.tells) g.taken_are where
-        joined : (x y z : Bool) → x ≡ true → y ≡ true → z ≡ true → ((x && y) && z) ≡ true
-        joined x y z e f g = cc
+  module _ (p b c : ℕ) (bytes : List ℕ) (told : List Placed) (l : IsLiteral c) (h : HasTaken (at r p b) bytes told) where
+    abbrev before : List Token
+    before = reverse h.0
 
-  -- a character of several bytes
-  module _ (p b c : ℕ) (bytes : List ℕ) (told : List Placed) (high : nat_le 128 c ≡ true) (allowed : is_xml_char c ≡ true) (f : IsFresh (at_place r.tokenizer p)) where
-    abbrev told_now : List Placed
-    told_now = told ++ record { place = p; item = Char c } ∷ []
+    inside : is_outside before ≡ false
+    inside = within (open_tags before) h.1.context.scope
 
-    step_last : IsLast (at r p b) p c bytes told → HasTaken (at r (p + length (encode_utf8 c)) 0) (bytes ++ encode_utf8 c) told_now
-    step_last w =
-        let z : Tokenizer = (inside (at r p b) p w.part).tokenizer in
-        let behind : Reader = record { tokenizer = made z (Some []) z.position z.scan z.draft; context = unbracketed r.context; failed = r.failed } in
-        let t : TakesAlone z behind.tokenizer w.byte (EndedToken (Character c) no_draft) = takes_whole z w.byte between c high allowed (xml_scalar c allowed, w.spelled, refl) f.position_stays f.scan_here f.draft_none in
-        let g : GoesOn behind ((bytes ++ w.part) ++ w.byte ∷ []) told [] (event_at p c ∷ []) = alone_ok {T = Unit {0}} (inside (at r p b) p w.part) behind (bytes ++ w.part) told w.byte c [] (event_at p c ∷ []) (Ok tt) w.taken_are t refl (λ before t i e k. takes_character (at r p b).context within p c (inr (high, allowed)) before t i e) in
-        let a : HasTaken behind ((bytes ++ w.part) ++ w.byte ∷ []) told_now = subst (λ m. HasTaken behind ((bytes ++ w.part) ++ w.byte ∷ []) (told ++ m)) (one_told c p g.more g.tells) g.taken_are in
-        subst (λ v. HasTaken (at r (p + length (encode_utf8 c)) 0) v told_now) (append_assoc bytes w.part (w.byte ∷ []) ∙ ap (λ v. bytes ++ v) (sym w.spelled))
-        (subst (λ u. HasTaken (record { tokenizer = record { alloc = z.alloc; utf8 = u; position = z.position; scan = z.scan; draft = z.draft; start = p + length (encode_utf8 c); place = p + length (encode_utf8 c) }; context = unbracketed r.context; failed = r.failed }) ((bytes ++ w.part) ++ w.byte ∷ []) told_now) (sym f.utf8_none)
-        (subst (λ q. HasTaken (record { tokenizer = record { alloc = z.alloc; utf8 = Some []; position = z.position; scan = z.scan; draft = z.draft; start = q; place = q }; context = unbracketed r.context; failed = r.failed }) ((bytes ++ w.part) ++ w.byte ∷ []) told_now) (count w.part w.byte (ap length w.spelled)) a)) where
-          count : (part : List ℕ) (byte : ℕ) → length (encode_utf8 c) ≡ length (part ++ byte ∷ []) → p + length part + 1 ≡ p + length (encode_utf8 c)
-          count part byte h = omega (arith, h, length-append part (byte ∷ []))
+    -- the token of the character
+    behind_token : (t : Token) → IsNext before t → token_bytes t ≡ encode_utf8 c → items_of before t ≡ Char c ∷ [] → IsContext (unbracketed (at r p b).context) (t ∷ before)
+        → HasTaken (at r (p + length (encode_utf8 c)) 0) (bytes ++ encode_utf8 c) (told ++ record { place = p; item = Char c } ∷ [])
+    behind_token t next e i k =
+        subst (λ q. HasTaken (at r (p + length (encode_utf8 c)) 0) (bytes ++ encode_utf8 c) (told ++ record { place = q; item = Char c } ∷ [])) (sym h.1.place)
+        (subst (λ v. HasTaken (at r (p + length (encode_utf8 c)) 0) (bytes ++ encode_utf8 c) (told ++ placed_at (length bytes) v)) i
+        (subst (λ v. HasTaken (at r (p + length (encode_utf8 c)) 0) (bytes ++ v) (told ++ placed_at (length bytes) (items_of before t))) e
+        (takes_next (at r p b) bytes told h between (same_place p) t (length (encode_utf8 c)) (unbracketed (at r p b).context) next (ap length (sym e)) k)))
 
-    step_wide : HasTaken (at r p b) bytes told → HasTaken (at r (p + length (encode_utf8 c)) 0) (bytes ++ encode_utf8 c) told_now
-    step_wide h = by (encode_utf8 c) refl where
-      begun : HasTaken (inside (at r p b) p []) (bytes ++ []) told
-      begun = subst (λ v. HasTaken (inside (at r p b) p []) v told) (sym (append-nil bytes))
-          (subst (λ q. HasTaken (record { tokenizer = record { alloc = r.tokenizer.alloc; utf8 = Some []; position = r.tokenizer.position; scan = r.tokenizer.scan; draft = r.tokenizer.draft; start = p; place = q }; context = (at r p b).context; failed = r.failed }) bytes told) (sym (add-zero p))
-          (subst (λ u. HasTaken (record { tokenizer = record { alloc = r.tokenizer.alloc; utf8 = u; position = r.tokenizer.position; scan = r.tokenizer.scan; draft = r.tokenizer.draft; start = p; place = p }; context = (at r p b).context; failed = r.failed }) bytes told) f.utf8_none h))
-
-      by : (xs : List ℕ) → encode_utf8 c ≡ xs → HasTaken (at r (p + length (encode_utf8 c)) 0) (bytes ++ encode_utf8 c) told_now
-      by [] e = absurd (no_bytes c e)
-      by (x ∷ xs) e = step_last (to_last (at r p b) p c between (xml_scalar c allowed) bytes told [] x xs e begun)
-
-  step_literal : (p b c : ℕ) (bytes : List ℕ) (told : List Placed) → IsLiteral c → HasTaken (at r p b) bytes told → HasTaken (at r (p + length (encode_utf8 c)) 0) (bytes ++ encode_utf8 c) (told ++ record { place = p; item = Char c } ∷ [])
-  step_literal p b c bytes told (inl l) h =
-      subst (λ v. HasTaken (at r (p + length v) 0) (bytes ++ v) (told ++ record { place = p; item = Char c } ∷ [])) (sym (encode_ascii c (plain_ascii c (literal_plain c l)))) (step_one p b c bytes told l h)
-  step_literal p b c bytes told (inr l) h = step_wide p b c bytes told l.0 l.1 (fresh_at r p b bytes told between h) h
+    step_literal : HasTaken (at r (p + length (encode_utf8 c)) 0) (bytes ++ encode_utf8 c) (told ++ record { place = p; item = Char c } ∷ [])
+    step_literal = by (c == 10) refl where
+      by : (n : Bool) → (c == 10) ≡ n → HasTaken (at r (p + length (encode_utf8 c)) 0) (bytes ++ encode_utf8 c) (told ++ record { place = p; item = Char c } ∷ [])
+      by true e = behind_token (LineEnd Lf) (line_next before) (append-nil (encode_utf8 10) ∙ ap encode_utf8 (sym (eqb-true c 10 e))) (ap (λ x. Char x ∷ []) (sym (eqb-true c 10 e))) (line_context before (at r p b).context h.1.context)
+      by false e = behind_token (Character c) (character_next before inside c l e) (append-nil (encode_utf8 c)) refl (character_context before (at r p b).context c (literal_facts c l).4 h.1.context)
 
   steps_all : (cs : List ℕ) (p b : ℕ) (bytes : List ℕ) (told : List Placed) → AllByRecursion IsLiteral cs → HasTaken (at r p b) bytes told → HasTaken (at r (p + length (encode_utf8_all cs)) (after b cs)) (bytes ++ encode_utf8_all cs) (told ++ characters_from p cs)
   steps_all [] p b bytes told l h =

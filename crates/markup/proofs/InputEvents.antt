@@ -81,7 +81,7 @@ pending_same z before bytes f g o h k ts = by f g (h before bytes o) (k before b
   by Open Nothing h k p q = refl
   by Open Open h k p q = refl
 
-no_return_none : [] ≡ token_bytes (LineEnd Cr) → ⊥
+pub no_return_none : [] ≡ token_bytes (LineEnd Cr) → ⊥
 no_return_none e = none (e ∙ line_bytes.2) where
   none : ◌≡◌ {A = List ℕ} [] (13 ∷ []) → ⊥
   none e = cc

@@ -25,8 +25,12 @@ pub mod OneFault
 pub mod ReferencePlaces
 pub mod Placed
 pub mod PlainLemmas
+pub mod NameBlocks
+pub mod OpenTags
+pub mod WholeTokens
+pub mod PlainTagLemmas
+pub mod TagScans
 pub mod LiteralRuns
-pub mod WideLemmas
 pub mod CharacterRuns
 pub mod TokenizerLemmas
 pub mod Pending
@@ -39,6 +43,7 @@ pub mod CdataLemmas
 pub mod LineEnds
 pub mod InputSteps
 pub mod InputEvents
+pub mod WholeOrFaulty
 pub mod NoCut
 pub mod EventTells
 pub mod ReaderLemmas
@@ -53,3 +58,4 @@ pub mod StableSort
 pub mod Twins
 pub mod SortedAttributes
 pub mod OneMarking
+pub mod Stays

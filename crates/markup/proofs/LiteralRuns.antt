@@ -1,15 +1,18 @@
 -- A run of characters that stand by themselves, found from the front.
-use Rattle.std.proofs.Common.{◌≡◌, ℕ, zero, suc, Bool, true, false, ◌+◌, ◌<◌, ◌≤◌, inl, inr, nat_le, cond, List, [], ◌∷◌, ◌++◌, length, take, drop, Option, Some, refl, sym, ◌∙◌, ap, subst, append_assoc, append-nil, length-append, arith}
+use Rattle.std.proofs.Common.{◌≡◌, ℕ, zero, suc, Bool, true, false, ◌&&◌, ◌+◌, ◌<◌, ◌≤◌, inl, inr, nat_le, cond, List, [], ◌∷◌, ◌++◌, length, take, drop, Option, Some, refl, sym, ◌∙◌, ap, subst, append_assoc, append-nil, length-append, arith}
 use Rattle.std.specs.Char.{encode_utf8}
 use Rattle.std.specs.Str.{encode_utf8_all}
-use Rattle.std.specs.List.{AllByRecursion, prefix_len}
+use Rattle.std.specs.List.{AllByRecursion, list_all, prefix_len}
+use Rattle.lexical_core.specs.Characters.{IsXmlChar}
 use Rattle.std.proofs.lemmas.Bool.Decides.{nat_tests}
-use Rattle.std.proofs.lemmas.Str.{encode_ascii, length-encode, len_utf8_bounds}
+use Rattle.std.proofs.lemmas.Str.{encode_ascii, encode_same, length-encode, len_utf8_bounds}
+use Rattle.std.proofs.lemmas.Bool.{cases_lt}
 use Rattle.std.proofs.lemmas.List.{length-take-le, take-append-drop}
 use Rattle.std.proofs.Math.Seq.{take-append_seam, drop-append_seam}
 use Rattle.lexical_core.specs.Utf8.{Steps}
 use Rattle.lexical_core.specs.declared.utf8.Utf8.TheVariants.{More, Char}
-use Rattle.markup.specs.Chars.{is_xml_char}
+use Rattle.markup.specs.Chars.{is_xml_char, is_space}
+use Rattle.markup.proofs.CharLemmas.{classes}
 use Rattle.markup.specs.Literals.{is_literal, IsLiteral, IsRun, IsAt, IsWideAt}
 
 -- so many bytes of the piece have come, which are a front of one character
@@ -72,7 +75,7 @@ pub wide_at : (x n : ℕ) (xs piece : List ℕ) → piece ≡ x ∷ xs → nat_l
 wide_at x n xs piece e high a = record { is_at = a; wide = heads x a.char xs a.rest high (sym e ∙ a.joined) }
 
 pub walked_none : (piece : List ℕ) → IsWalked piece 0 0 piece
-walked_none piece = record { seen = []; joined = refl; bytes_are = refl; run = record { characters = []; bytes_are = refl; count_is = refl; literal = tt }; few = omega arith }
+walked_none piece = record { seen = []; joined = refl; bytes_are = refl; run = record { characters = []; bytes_are = refl; count_is = refl; literal = tt; allowed = tt; blank_is = refl }; few = omega arith }
 
 encodes_append : (cs ds : List ℕ) → encode_utf8_all (cs ++ ds) ≡ encode_utf8_all cs ++ encode_utf8_all ds
 encodes_append [] ds = refl
@@ -81,6 +84,47 @@ encodes_append (c ∷ cs) ds = ap (λ v. encode_utf8 c ++ v) (encodes_append cs 
 all_append : (cs ds : List ℕ) → AllByRecursion IsLiteral cs → AllByRecursion IsLiteral ds → AllByRecursion IsLiteral (cs ++ ds)
 all_append [] ds h k = k
 all_append (c ∷ cs) ds h k = (h.0, all_append cs ds h.1 k)
+
+-- such characters are characters of XML
+plain_allowed : (c : ℕ) → is_literal c ≡ true → is_xml_char c ≡ true
+unfolding is_xml_char
+plain_allowed c h = grind (arith, nat_tests)
+
+literal_allowed : (c : ℕ) → IsLiteral c → is_xml_char c ≡ true
+literal_allowed c (inl h) = plain_allowed c h
+literal_allowed c (inr h) = h.1
+
+literals_allowed : (cs : List ℕ) → AllByRecursion IsLiteral cs → AllByRecursion IsXmlChar cs
+literals_allowed [] h = tt
+literals_allowed (c ∷ cs) h = ((classes.xml c).0 (literal_allowed c h.0), literals_allowed cs h.1)
+
+-- the bytes of a character are white space where it is
+space_ascii : (c : ℕ) → is_space c ≡ true → c < 128
+unfolding is_space
+space_ascii c h = grind (arith, nat_tests)
+
+no_space_above : (x : ℕ) → 128 ≤ x → is_space x ≡ false
+unfolding is_space
+no_space_above x h = grind (arith, nat_tests)
+
+wide_first : (c x : ℕ) (xs : List ℕ) → 128 ≤ c → encode_utf8 c ≡ x ∷ xs → 128 ≤ x
+wide_first c x xs h e = elim (cases_lt x 128) as (λ _. 128 ≤ x) [
+  | inl l ↦ absurd (omega (arith, h, l, (encode_same c x [] xs (append-nil (encode_utf8 c) ∙ (e ∙ ap (λ v. v ++ xs) (sym (encode_ascii x l))))).0))
+  | inr l ↦ l
+]
+
+blank_encoded : (c : ℕ) (ys : List ℕ) → list_all is_space (encode_utf8 c ++ ys) ≡ (is_space c && list_all is_space ys)
+blank_encoded c ys = elim (cases_lt c 128) as (λ _. list_all is_space (encode_utf8 c ++ ys) ≡ (is_space c && list_all is_space ys)) [
+  | inl l ↦ ap (λ v. list_all is_space (v ++ ys)) (encode_ascii c l)
+  | inr l ↦ wide (encode_utf8 c) refl l
+] where
+  wide : (v : List ℕ) → encode_utf8 c ≡ v → 128 ≤ c → list_all is_space (encode_utf8 c ++ ys) ≡ (is_space c && list_all is_space ys)
+  wide [] e l = absurd (omega (arith, ap length e, length-encode c, len_utf8_bounds c))
+  wide (x ∷ xs) e l = ap (λ v. list_all is_space (v ++ ys)) e ∙ (ap (λ b. b && list_all is_space (xs ++ ys)) (no_space_above x (wide_first c x xs l e)) ∙ sym (ap (λ b. b && list_all is_space ys) (no_space_above c l)))
+
+blanks_encoded : (cs : List ℕ) → list_all is_space (encode_utf8_all cs) ≡ list_all is_space cs
+blanks_encoded [] = refl
+blanks_encoded (c ∷ cs) = blank_encoded c (encode_utf8_all cs) ∙ ap (λ b. is_space c && b) (blanks_encoded cs)
 
 literal_ascii : (c : ℕ) → is_literal c ≡ true → c < 128
 literal_ascii c h = grind (arith, nat_tests)
@@ -107,6 +151,8 @@ walked_on piece bytes characters m n rest after cs w l e b k f = record {
     bytes_are = ap (λ v. v ++ encode_utf8_all cs) w.run.bytes_are ∙ sym (encodes_append w.run.characters cs);
     count_is = length-append w.run.characters cs ∙ (ap (λ v. v + length cs) w.run.count_is ∙ ap (λ v. characters + v) k);
     literal = all_append w.run.characters cs w.run.literal l;
+    allowed = literals_allowed (w.run.characters ++ cs) (all_append w.run.characters cs w.run.literal l);
+    blank_is = ap (list_all is_space) (ap (λ v. v ++ encode_utf8_all cs) w.run.bytes_are ∙ sym (encodes_append w.run.characters cs)) ∙ blanks_encoded (w.run.characters ++ cs);
   };
   few = omega (arith, w.few, f);
 }
@@ -150,4 +196,4 @@ walked_within piece bytes characters rest w = ap (λ n. n + length rest) (sym w.
 
 -- no byte, and so no character
 pub run_none : (piece : List ℕ) → IsRun (take 0 piece) 0
-run_none piece = record { characters = []; bytes_are = refl; count_is = refl; literal = tt }
+run_none piece = record { characters = []; bytes_are = refl; count_is = refl; literal = tt; allowed = tt; blank_is = refl }

@@ -187,9 +187,9 @@ too_long_none limit before u bytes a chars part rest cell short e g n b f l = by
         (tag_is before u t.0 (t.1 ++ r.next ∷ r.more) (r.text ∙ ap (λ v. v ++ r.next ∷ r.more) t.2) t.3 t.4 limit short)
 
 -- two reasons why tokens end at one place tell one rule, at one place
-record SameFault (r1 r2 : Rule) (a1 a2 : ℕ) : Type 0 where
-  rule : r1 ≡ r2
-  at : a1 ≡ a2
+pub record SameFault (r1 r2 : Rule) (a1 a2 : ℕ) : Type 0 where
+  pub rule : r1 ≡ r2
+  pub at : a1 ≡ a2
 
 swapped : (r1 r2 : Rule) (a1 a2 : ℕ) → SameFault r1 r2 a1 a2 → SameFault r2 r1 a2 a1
 swapped r1 r2 a1 a2 s = record { rule = sym s.rule; at = sym s.at }
@@ -259,7 +259,7 @@ module _ (limit : ℕ) (before : List Token) (bytes : List ℕ) where
   next_none u a rule at (cut chars part e n g f k o r p) c s _ = n u a c
   next_none u a rule at (too_long chars part rest e g n b f l r p) c s _ = too_long_none limit before u bytes a chars part rest c s e g n b f l
 
-  next_same : (r1 r2 : Rule) (a1 a2 : ℕ) → Next limit before bytes r1 a1 → Next limit before bytes r2 a2 → SameFault r1 r2 a1 a2
+  pub next_same : (r1 r2 : Rule) (a1 a2 : ℕ) → Next limit before bytes r1 a1 → Next limit before bytes r2 a2 → SameFault r1 r2 a1 a2
   next_same r1 r2 a1 a2 (broken t x c1 s1 k1 p1) (broken u y c2 s2 k2 p2) = record { rule = some_same r1 r2 (sym k1 ∙ (ap (rule_of before) (one_token before t u bytes x y c1 c2).0 ∙ k2)); at = p1 ∙ sym p2 } where
     some_same : (a b : Rule) → Some a ≡ Some b → a ≡ b
     some_same a b e = cc
@@ -312,7 +312,7 @@ one_fault bytes f g m n =
       fault_same a b p q e h = cc
 
 -- a character has bytes
-some_bytes : (c : ℕ) (v : List ℕ) → [] ≡ encode_utf8 c ++ v → ⊥
+pub some_bytes : (c : ℕ) (v : List ℕ) → [] ≡ encode_utf8 c ++ v → ⊥
 some_bytes c v e = omega (arith, length-append (encode_utf8 c) v, length-encode c, len_utf8_bounds c, ap length e)
 
 -- no bytes are no token
@@ -332,7 +332,7 @@ append_none [] y e = sym e
 append_none (c ∷ x) y e = absurd (cc)
 
 -- at the end of a whole text there is no fault
-next_over : (limit : ℕ) (before : List Token) (bytes : List ℕ) (rule : Rule) (at : ℕ) → Next limit before bytes rule at → bytes ≡ [] → is_over before ≡ true → ⊥
+pub next_over : (limit : ℕ) (before : List Token) (bytes : List ℕ) (rule : Rule) (at : ℕ) → Next limit before bytes rule at → bytes ≡ [] → is_over before ≡ true → ⊥
 next_over limit before bytes rule at (broken t after cell s k p) e o = nothing_stands before t after (subst (λ v. Cell before t v after) e cell)
 next_over limit before bytes rule at (halts chars tail shown b n g h k p) e o = none_stops before chars tail rule shown h (append_none (encode_utf8_all chars) tail (sym e ∙ b))
 next_over limit before bytes rule at (cut chars part b n g f k q r p) e o = both_ways _ (q e) o

@@ -165,13 +165,19 @@ module _ (reader : Reader) (input : List ℕ) (ts : List Token) (told : List Pla
           ap (λ v. told ++ returned g v) (starts_begins byte k) ∙ (ap (λ v. v ++ returned g (length (flat_map token_bytes ts))) (k.told_are f (finish_is reader.tokenizer))
           ∙ (sym (m.adds f g (finish_is reader.tokenizer) q) ∙ ap (events [] 0) (pending_same z (reverse ts) m.reads.bytes g h m.reads.opens q r ts)))
 
+    -- whatever follows the byte, the tokens stand at the front
+    fronts_behind : (behind : List ℕ) → Front tag_limit [] ((input ++ byte ∷ []) ++ behind) ts ((k.reads.bytes ++ byte ∷ []) ++ behind)
+    fronts_behind behind = subst (λ v. Front tag_limit [] v ts ((k.reads.bytes ++ byte ∷ []) ++ behind)) (sym (append_assoc input (byte ∷ []) behind))
+        (subst (λ v. Front tag_limit [] (input ++ byte ∷ behind) ts v) (sym (append_assoc k.reads.bytes (byte ∷ []) behind)) (k.reads.front (byte ∷ behind) (behind, refl)))
+
     pub advance_refused : (rule : Rule) → AdvancesBy reader.tokenizer z byte (Refused rule) → new ≡ old → Refuses (input ++ byte ∷ []) told old new (record { rule = rule; place = reader.tokenizer.start })
     advance_refused rule a e = record {
       more = [];
       tells = tells_none old new e;
       tokens = ts;
       rest = k.reads.bytes ++ byte ∷ [];
-      front = k.reads.front (byte ∷ []) ([], refl);
+      front = fronts_behind;
+      clean = k.clean;
       before = sym (starts_begins byte k);
       events_are = append-nil told ∙ told_now;
       has_fault = shown;
@@ -222,7 +228,8 @@ module _ (reader : Reader) (input : List ℕ) (ts : List Token) (told : List Pla
         tells = tells_none old new s;
         tokens = ts;
         rest = k.reads.bytes ++ byte ∷ [];
-        front = k.reads.front (byte ∷ []) ([], refl);
+        front = fronts_behind;
+        clean = k.clean;
         before = sym (starts_begins byte k);
         events_are = append-nil told ∙ (k.told_are h q ∙ ap (events [] 0) (none_pending h ts n));
         has_fault = shown;
@@ -317,6 +324,7 @@ step_refused bytes told more o0 o1 o2 fault t k = record {
   tokens = k.tokens;
   rest = k.rest;
   front = k.front;
+  clean = k.clean;
   before = k.before;
   events_are = sym (append_assoc told more k.more) ∙ k.events_are;
   has_fault = k.has_fault;

@@ -1,13 +1,12 @@
 -- The open elements before and behind a tag.
-use Rattle.std.proofs.Common.{◌≡◌, ℕ, ◌-◌, Bool, true, false, List, [], ◌∷◌, ◌++◌, ◌||◌, ◌&&◌, length, drop, reverse, map, Option, Some, None, sym, ap, subst, ◌∙◌, arith}
-use Rattle.std.specs.Global.{Vec}
+use Rattle.std.proofs.Common.{◌≡◌, ℕ, ◌-◌, Bool, true, false, List, [], ◌∷◌, ◌++◌, ◌||◌, ◌&&◌, length, drop, reverse, map, Option, Some, None, refl, sym, ap, subst, ◌∙◌, arith}
 use Rattle.std.specs.List.{list_any}
 use Rattle.std.specs.Bool.{if◌then◌else◌}
 use Rattle.std.specs.Option.{is_none}
 use Rattle.std.specs.Str.{bytes_eq}
 use Rattle.lexical_core.specs.declared.rule.Rule.TheVariants.{DuplicateAttribute, BadPrefix, AfterRoot, TagMismatch}
 use Rattle.markup.specs.declared.tag.Spelled.{Spelled}
-use Rattle.std.proofs.lemmas.List.{reverse-append, length-append}
+use Rattle.std.proofs.lemmas.List.{length-append}
 use Rattle.std.proofs.Math.Seq.{drop-append_seam}
 use Rattle.markup.specs.declared.tag.Given.{Given}
 use Rattle.markup.specs.declared.tag.Opening.{Opening}
@@ -15,17 +14,17 @@ use Rattle.markup.specs.declared.event.Event.{Event}
 use Rattle.markup.specs.declared.event.Attr.{Attr}
 use Rattle.markup.specs.declared.attributes.Parted.{Parted}
 use Rattle.markup.specs.declared.attributes.Expanded.{Expanded}
-use Rattle.markup.specs.declared.scope.OpenName.{OpenName}
+use Rattle.markup.specs.OpenNames.{OpenName, KeepsNames}
 use Rattle.markup.specs.declared.bindings.Bindings.{Bindings}
 use Rattle.markup.specs.declared.scope.Scope.{Scope}
 use Rattle.markup.specs.declared.scope.Resolved.{Resolved}
-use Rattle.markup.specs.Events.{namespace_of, element_name, expanded, entries, started, start_items, ended}
-use Rattle.markup.specs.Faults.{has_clash, is_bad_attribute, start_rule}
+use Rattle.markup.specs.Events.{namespace_of, element_name, expanded, entries, started, start_items, end_items}
+use Rattle.markup.specs.Faults.{has_clash, is_bad_attribute, start_rule, end_rule}
 use Rattle.markup.specs.EventItems.{entry_of, Tells}
 use Rattle.markup.specs.Bindings.{Binds}
 use Rattle.markup.specs.Scopes.{declarations, open_name, all_declarations, IsScope, placed_at, TakesStart, TakesEnd}
 use Rattle.markup.specs.TagParts.{plain_attributes, declares_twice, declares_badly, is_unbound, IsParted, AreDeclared, IsExpanded, IsResolved}
-use Rattle.markup.proofs.BindingLemmas.{popped_first, popped_none}
+use Rattle.std.proofs.lemmas.Slice.Eq.{bytes_eq-Decides}
 use Rattle.markup.proofs.WholeTags.{whole_entries, whole_clash, whole_bad}
 
 -- how many declarations are a tag's own
@@ -81,11 +80,11 @@ its_items tags tag r scope ns is_empty is bound so =
 
 pub takes_open : (over : Bool) (tags : List Opening) (tag : Opening) (place : ℕ) (old new : List Event) (r : Resolved) (before after : Scope) (ns : List ℕ)
     → IsResolved tags tag r before → r.has_clash ≡ false → r.namespace ≡ Some ns → r.is_bad ≡ false → over ≡ false → tag.is_empty ≡ false
-    → after.names.items ≡ before.names.items ++ (record { name = tag.name; declared = r.declared }) ∷ [] → after.bindings ≡ before.bindings
+    → ((names : List OpenName) → KeepsNames before.names names → KeepsNames after.names ((record { name = tag.name; declared = r.declared }) ∷ names)) → after.bindings ≡ before.bindings
     → Tells old new (placed_at place (started (expanded (Some ns) tag.name.local) (map entry_of r.attrs) false)) → TakesStart over tags tag place old new after
 takes_open over tags tag place old new r before after ns is no_clash bound fine inside so names_are declared_are tells =
     let opened : IsScope after (tag ∷ tags) = record {
-      names = ap reverse names_are ∙ reverse-append before.names.items ((record { name = tag.name; declared = r.declared }) ∷ []) ∙ ap (λ ns. (record { name = tag.name; declared = r.declared }) ∷ ns) is.names ∙ ap (λ n. (record { name = tag.name; declared = n }) ∷ map open_name tags) is.count;
+      names = subst (λ n. KeepsNames after.names ((record { name = tag.name; declared = n }) ∷ map open_name tags)) is.count (names_are (map open_name tags) is.names);
       declared = subst (λ (kept : Bindings). Binds kept (all_declarations (tag ∷ tags))) (sym declared_are) is.declarations_are;
     } in
     record {
@@ -96,11 +95,11 @@ takes_open over tags tag place old new r before after ns is no_clash bound fine 
 
 pub takes_empty : (over : Bool) (tags : List Opening) (tag : Opening) (place : ℕ) (old new : List Event) (r : Resolved) (before after : Scope) (ns : List ℕ)
     → IsResolved tags tag r before → r.has_clash ≡ false → r.namespace ≡ Some ns → r.is_bad ≡ false → over ≡ false → tag.is_empty ≡ true
-    → after.names.items ≡ before.names.items → ((declared : List Given) → Binds before.bindings declared → Binds after.bindings (drop r.declared declared))
+    → after.names ≡ before.names → ((declared : List Given) → Binds before.bindings declared → Binds after.bindings (drop r.declared declared))
     → Tells old new (placed_at place (started (expanded (Some ns) tag.name.local) (map entry_of r.attrs) true)) → TakesStart over tags tag place old new after
 takes_empty over tags tag place old new r before after ns is no_clash bound fine inside so names_are declared_are tells =
     let closed : IsScope after tags = record {
-      names = ap reverse names_are ∙ is.names;
+      names = subst (λ k. KeepsNames k (map open_name tags)) (sym names_are) is.names;
       declared = forgotten after.bindings (declarations tag.given) (all_declarations tags) r.declared is.count (declared_are (all_declarations (tag ∷ tags)) is.declarations_are);
     } in
     record {
@@ -111,22 +110,36 @@ takes_empty over tags tag place old new r before after ns is no_clash bound fine
 
 -- ---- an end tag that breaks no rule
 
-pub takes_end : (tags : List Opening) (name : Spelled) (place : ℕ) (old new : List Event) (before after : Scope) (left : Vec OpenName) (innermost : OpenName)
-    → IsScope before tags → before.names.items ≡ left.items ++ innermost ∷ []
-    → true ≡ (bytes_eq innermost.name.prefix name.prefix && bytes_eq innermost.name.local name.local)
-    → after.names.items ≡ left.items → ((declared : List Given) → Binds before.bindings declared → Binds after.bindings (drop innermost.declared declared))
-    → ((ts : List Opening) → Binds before.bindings (all_declarations ts) → Tells old new (placed_at place (ended (element_name ts innermost.name))))
+some_tag : Some TagMismatch ≡ None → ⊥
+some_tag e = cc
+
+-- a tag that is spelled as the innermost one
+pub spelled_alike : (tag : Opening) (tags : List Opening) (name : Spelled) → end_rule (tag ∷ tags) name ≡ None → tag.name ≡ name
+spelled_alike tag tags name e = by (bytes_eq tag.name.prefix name.prefix) (bytes_eq tag.name.local name.local) refl refl e where
+  same : (s t : Spelled) → s.prefix ≡ t.prefix → s.local ≡ t.local → s ≡ t
+  same s t p l =
+      let e : s ≡ record { prefix = t.prefix; local = s.local } = ap (λ v. let n : Spelled = record { prefix = v; local = s.local } in n) p in
+      e ∙ ap (λ v. let n : Spelled = record { prefix = t.prefix; local = v } in n) l
+
+  by : (b d : Bool) → bytes_eq tag.name.prefix name.prefix ≡ b → bytes_eq tag.name.local name.local ≡ d → (if b && d then None else Some TagMismatch) ≡ None → tag.name ≡ name
+  by true true p l e = same tag.name name ((bytes_eq-Decides tag.name.prefix name.prefix).0 p) ((bytes_eq-Decides tag.name.local name.local).0 l)
+  by true false p l e = absurd (some_tag e)
+  by false d p l e = absurd (some_tag e)
+
+pub takes_end : (tags : List Opening) (name : Spelled) (place : ℕ) (old new : List Event) (before after : Scope)
+    → IsScope before tags → end_rule tags name ≡ None
+    → ((tag : Opening) (outer : List Opening) → IsScope before (tag ∷ outer) → tag.name ≡ name → IsScope after outer)
+    → ((tag : Opening) (outer : List Opening) → IsScope before (tag ∷ outer) → tag.name ≡ name → Tells old new (placed_at place (end_items (tag ∷ outer))))
     → TakesEnd tags name place old new after
-takes_end [] name place old new before after left innermost is popped alike names_are declared_are tells = absurd (popped_none before.names.items left.items innermost popped is.names)
-takes_end (t ∷ ts) name place old new before after left innermost is popped alike names_are declared_are tells =
-    let parts = popped_first before.names.items left.items innermost (open_name t) (map open_name ts) popped is.names in
-    let spelled : innermost.name ≡ t.name = ap (λ (o : OpenName). o.name) parts.0 in
-    let count : innermost.declared ≡ length (declarations t.given) = ap (λ (o : OpenName). o.declared) parts.0 in
-    record {
-      clean = ap (λ b. if b then None else Some TagMismatch) (ap (λ (n : Spelled). bytes_eq n.prefix name.prefix && bytes_eq n.local name.local) (sym spelled) ∙ sym alike);
-      tells = subst (λ (n : Spelled). Tells old new (placed_at place (ended (element_name (t ∷ ts) n)))) spelled (tells (t ∷ ts) is.declared);
-      scope_is = record {
-        names = ap reverse names_are ∙ parts.1;
-        declared = forgotten after.bindings (declarations t.given) (all_declarations ts) innermost.declared count (declared_are (all_declarations (t ∷ ts)) is.declared);
-      };
-    }
+takes_end [] name place old new before after is clean closes tells = absurd (some_tag clean)
+takes_end (t ∷ ts) name place old new before after is clean closes tells =
+    let alike : t.name ≡ name = spelled_alike t ts name clean in
+    record { clean = clean; tells = tells t ts is alike; scope_is = closes t ts is alike }
+
+-- the declarations of the innermost tag are forgotten with its name
+pub closes_innermost : (before after : Scope) (tag : Opening) (tags : List Opening) (count : ℕ) → IsScope before (tag ∷ tags)
+    → ((name : OpenName) (outer : List OpenName) → KeepsNames before.names (name ∷ outer) → (count ≡ name.declared) × KeepsNames after.names outer)
+    → ((declared : List Given) → Binds before.bindings declared → Binds after.bindings (drop count declared)) → IsScope after tags
+closes_innermost before after tag tags count is popped forgot =
+    let p = popped (open_name tag) (map open_name tags) is.names in
+    record { names = p.1; declared = forgotten after.bindings (declarations tag.given) (all_declarations tags) count p.0 (forgot (all_declarations (tag ∷ tags)) is.declared) }

@@ -82,7 +82,7 @@ other_place (t ∷ before) = by (is_first (t ∷ before)) (in_cdata (t ∷ befor
   by false false h = refl
 
 -- where the next token begins
-position_behind : (before : List Token) (t : Token) (after : List ℕ) → stands before t after ≡ true → position (t ∷ before) ≡ behind (position before) (ended_of t)
+pub position_behind : (before : List Token) (t : Token) (after : List ℕ) → stands before t after ≡ true → position (t ∷ before) ≡ behind (position before) (ended_of t)
 position_behind [] Mark after h = refl
 position_behind (b ∷ before) Mark after h = absurd (omega (arith, eqb-true (length (b ∷ before)) 0 h))
 position_behind before Opener after h = refl
@@ -370,7 +370,7 @@ utf8_place z MoreBytes = refl
 utf8_place z Bad = refl
 utf8_place z (Char c) = turned_place z c (step z.scan c)
 
-advanced_place : (old new : Tokenizer) (byte : ℕ) (progress : Progress) → AdvancedBy old new byte progress → new.place ≡ old.place + 1
+pub advanced_place : (old new : Tokenizer) (byte : ℕ) (progress : Progress) → AdvancedBy old new byte progress → new.place ≡ old.place + 1
 advanced_place old new byte progress a = ap (λ (z : Tokenizer). z.place) a.after ∙ utf8_place (counted old a.begun) a.utf8
 
 pub if_place : (r : Result Progress AllocError) (old new : Tokenizer) (byte : ℕ) → IfOk r (λ p. AdvancedBy old new byte p) → IfOk r (λ _. new.place ≡ old.place + 1)

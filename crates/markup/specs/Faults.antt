@@ -1,5 +1,5 @@
 -- The markup rule that a token or its events break, and the first fault of a text.
-use Rattle.std.specs.Prelude.{◌≡◌, ◌≢◌, ℕ, Bool, ◌==◌, ◌||◌, ◌&&◌, ◌+◌, ◌<◌, ◌≤◌, not, true, false, List, [], ◌∷◌, ◌++◌, length, reverse, codes, Option, Some, None, if◌then◌else◌, encode_utf8, encode_utf8_all, is_none}
+use Rattle.std.specs.Prelude.{◌≡◌, ◌≢◌, ◌⊎◌, ℕ, Bool, ◌==◌, ◌||◌, ◌&&◌, ◌+◌, ◌<◌, ◌≤◌, not, true, false, List, [], ◌∷◌, ◌++◌, length, reverse, codes, Option, Some, None, if◌then◌else◌, encode_utf8, encode_utf8_all, is_none}
 use Rattle.std.specs.Char.{IsScalar}
 use Rattle.std.specs.List.{list_any, flat_map}
 use Rattle.std.specs.Str.{bytes_eq}
@@ -184,6 +184,10 @@ OneFault = (bytes : List ℕ) (f g : Fault) → MarkFault bytes f → MarkFault 
 -- A whole text has none.
 abbrev pub WholeHasNone : Type 0
 WholeHasNone = (bytes : List ℕ) (f : Fault) → IsWhole bytes → MarkFault bytes f → ⊥
+
+-- Every text is whole, or has a first fault.
+abbrev pub WholeOrFaulty : Type 0
+WholeOrFaulty = (bytes : List ℕ) → IsWhole bytes ⊎ ((f : Fault) × MarkFault bytes f)
 
 -- A fault stands within the bytes or at their end.
 abbrev pub FaultWithin : Type 0

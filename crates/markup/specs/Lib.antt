@@ -24,3 +24,6 @@ pub mod Reading
 pub mod ReaderSteps
 pub mod TagParts
 pub mod Bindings
+pub mod OpenNames
+pub mod PlainTags
+pub mod Standing

@@ -1,24 +1,27 @@
 -- Runs of characters that stand by themselves.
-use Rattle.std.specs.Prelude.{◌≡◌, ℕ, Bool, ◌+◌, ◌==◌, ◌&&◌, ◌⊎◌, nat_le, not, true, List, [], ◌∷◌, ◌++◌, length, encode_utf8, encode_utf8_all}
-use Rattle.std.specs.List.{AllByRecursion}
+use Rattle.std.specs.Prelude.{◌≡◌, ℕ, Bool, ◌+◌, ◌==◌, ◌&&◌, ◌||◌, ◌⊎◌, nat_le, not, true, List, [], ◌∷◌, ◌++◌, length, encode_utf8, encode_utf8_all}
+use Rattle.std.specs.List.{AllByRecursion, list_all}
+use Rattle.lexical_core.specs.Characters.{IsXmlChar}
 use Rattle.lexical_core.specs.Tree.{Char}
-use Rattle.markup.specs.Chars.{is_xml_char}
+use Rattle.markup.specs.Chars.{is_xml_char, is_space}
 use Rattle.markup.specs.Events.{Placed}
 
--- a byte that is a character of an element's text wherever a token begins there, whatever stands before it and behind it (XML 1.0 §2.4, §2.7)
+-- a byte that is a character of an element's text, or a line end, wherever a token begins there, whatever stands before it and behind it (XML 1.0 §2.4, §2.7, §2.11)
 abbrev pub is_literal : ℕ → Bool
-is_literal byte = nat_le 32 byte && nat_le byte 127 && not (byte == 60) && not (byte == 38) && not (byte == 93) && not (byte == 62)
+is_literal byte = (nat_le 32 byte && nat_le byte 127 && not (byte == 60) && not (byte == 38) && not (byte == 93) && not (byte == 62)) || byte == 9 || byte == 10
 
 -- a character that is one of an element's text there: such a byte, or a character of several bytes that XML has (XML 1.0 §2.2)
 abbrev pub IsLiteral : ℕ → Type 0
 IsLiteral c = (is_literal c ≡ true) ⊎ ((nat_le 128 c ≡ true) × (is_xml_char c ≡ true))
 
--- The bytes are those of so many such characters.
+-- The bytes are those of so many such characters, which are white space where the bytes are.
 pub record IsRun (bytes : List ℕ) (count : ℕ) : Type 0 where
   pub characters : List ℕ
   pub bytes_are : bytes ≡ encode_utf8_all characters
   pub count_is : length characters ≡ count
   pub literal : AllByRecursion IsLiteral characters
+  pub allowed : AllByRecursion IsXmlChar characters
+  pub blank_is : list_all is_space bytes ≡ list_all is_space characters
 
 -- these characters, the first at the place
 abbrev pub characters_from : ℕ → List ℕ → List Placed

@@ -1,10 +1,10 @@
 -- What a reader has taken and told, and what it answers.
-use Rattle.std.specs.Prelude.{◌≡◌, ◌≢◌, ℕ, true, false, List, [], ◌++◌, length, reverse, Option, None}
+use Rattle.std.specs.Prelude.{◌≡◌, ◌≢◌, ◌≤◌, ℕ, true, false, List, [], ◌++◌, length, reverse, Option, None}
 use Rattle.lexical_core.specs.declared.rule.Rule.TheVariants.{Truncated}
 use Rattle.std.specs.List.{flat_map}
 use Rattle.markup.specs.Token.{Token, token_bytes}
-use Rattle.markup.specs.Marks.{Front, Marks, tag_limit}
-use Rattle.markup.specs.Events.{Placed, events}
+use Rattle.markup.specs.Marks.{Front, Marks, in_cdata, tag_limit}
+use Rattle.markup.specs.Events.{Placed, events, open_tags}
 use Rattle.markup.specs.Faults.{IsClean, Fault, MarkFault, is_over, is_outside}
 use Rattle.markup.specs.Longest.{IsLongest}
 use Rattle.markup.specs.EventItems.{Tells}
@@ -12,6 +12,8 @@ use Rattle.markup.specs.Tokenizers.{FinishesBy}
 use Rattle.markup.specs.declared.tokenizer.Finish.{Finish}
 use Rattle.markup.specs.Inputs.{Reads, Any, with_pending}
 use Rattle.markup.specs.Contexts.{IsContext}
+use Rattle.markup.specs.PlainTags.{tag_text, may_be_named, IsPlainInside}
+use Rattle.markup.specs.declared.plain_tag.TagKind.{TagKind}
 use Rattle.markup.specs.declared.event.Event.{Event}
 use Rattle.markup.specs.declared.reader.MarkError.{MarkError}
 use Rattle.markup.specs.declared.reader.MarkError.TheVariants.{Refused, Memory}
@@ -71,7 +73,8 @@ pub record Refuses (bytes : List ℕ) (told : List Placed) (old new : List Event
   pub tells : Tells old new more
   pub tokens : List Token
   pub rest : List ℕ
-  pub front : Front tag_limit [] bytes tokens rest
+  pub front : (behind : List ℕ) → Front tag_limit [] (bytes ++ behind) tokens (rest ++ behind)
+  pub clean : IsClean [] tokens
   pub before : length (flat_map token_bytes tokens) ≡ fault.place
   pub events_are : told ++ more ≡ events [] 0 tokens
   pub has_fault : (behind : List ℕ) → MarkFault (bytes ++ behind) (fault_of fault)
@@ -105,3 +108,14 @@ EndsEarly bytes Memory = ⊥
 -- What a reader has taken has no fault but that it may end too early.
 abbrev pub NoFaultTaken : Type 0
 NoFaultTaken = (reader : Reader) (bytes : List ℕ) (told : List Placed) → HasTaken reader bytes told → (f : Fault) → MarkFault bytes f → f.rule ≡ Truncated
+
+-- The bytes are whole tokens, whose events are told, and behind them the plain tag of the name may come: outside CDATA sections, where the innermost open element has no prefix.
+pub record MayTakeTag (reader : Reader) (bytes : List ℕ) (told : List Placed) (kind : TagKind) (name : List ℕ) : Type 0 where
+  pub tokens : List Token
+  pub keeps : Keeps Any reader bytes tokens told
+  pub whole : flat_map token_bytes tokens ≡ bytes
+  pub in_text : in_cdata (reverse tokens) ≡ false
+  pub opened : List ℕ
+  pub inside : IsPlainInside (open_tags (reverse tokens)) opened
+  pub named : may_be_named kind opened name
+  pub short : length (tag_text kind name) ≤ tag_limit

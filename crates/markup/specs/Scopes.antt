@@ -1,11 +1,11 @@
 -- What the open elements of a reader are, and what a tag does to them. Private functions alone cite this.
-use Rattle.std.specs.Prelude.{◌≡◌, ℕ, Bool, List, [], ◌∷◌, ◌++◌, map, length, reverse, drop, if◌then◌else◌, is_none, Some, None, Result, MatchResult}
+use Rattle.std.specs.Prelude.{◌≡◌, ℕ, Bool, List, [], ◌∷◌, ◌++◌, map, length, drop, if◌then◌else◌, is_none, Some, None, Result, MatchResult}
 use Rattle.lexical_core.specs.Tree.{Item}
 use Rattle.markup.specs.declared.tag.Spelled.{Spelled}
 use Rattle.markup.specs.declared.tag.Given.{Given}
 use Rattle.markup.specs.declared.tag.Opening.{Opening}
 use Rattle.markup.specs.declared.event.Event.{Event}
-use Rattle.markup.specs.declared.scope.OpenName.{OpenName}
+use Rattle.markup.specs.OpenNames.{OpenName, KeepsNames}
 use Rattle.markup.specs.declared.scope.Scope.{Scope}
 use Rattle.markup.specs.declared.scope.Stop.{Stop}
 use Rattle.markup.specs.declared.scope.Stop.TheVariants.{Rule as Breaks, Memory}
@@ -30,7 +30,7 @@ all_declarations (t ∷ tags) = declarations t.given ++ all_declarations tags
 
 -- These tags are open, the innermost first.
 pub record IsScope (scope : Scope) (tags : List Opening) : Type 0 where
-  pub names : reverse scope.names.items ≡ map open_name tags
+  pub names : KeepsNames scope.names (map open_name tags)
   pub declared : Binds scope.bindings (all_declarations tags)
 
 -- the items at one place

@@ -14,6 +14,7 @@ use Rattle.markup.specs.Events.{declared_prefix, namespace_of, attribute_name, p
 use Rattle.markup.specs.Faults.{same_declared, is_bad_declaration, has_clash, is_bad_attribute}
 use Rattle.markup.specs.EventItems.{entry_of}
 use Rattle.markup.specs.Bindings.{Binds}
+use Rattle.markup.specs.OpenNames.{KeepsNames}
 use Rattle.markup.specs.Scopes.{declarations, all_declarations, open_name}
 
 -- It declares no namespace.
@@ -89,7 +90,7 @@ pub record IsExpanded (tags : List Opening) (plain : List Given) (expanded : Exp
 
 -- a start tag under the tags that are open before it; the scope has its declarations, and not yet its name
 pub record IsResolved (tags : List Opening) (tag : Opening) (resolved : Resolved) (scope : Scope) : Type 0 where
-  pub names : reverse scope.names.items ≡ map open_name tags
+  pub names : KeepsNames scope.names (map open_name tags)
   pub declarations_are : Binds scope.bindings (all_declarations (tag ∷ tags))
   pub count : resolved.declared ≡ length (declarations tag.given)
   pub namespace : resolved.namespace ≡ namespace_of (tag ∷ tags) tag.name.prefix

@@ -168,6 +168,15 @@ starts_plain z byte = is_between z.scan && z.place == z.start && is_plain byte
 abbrev pub is_ready : Tokenizer → Bool
 is_ready z = is_between z.scan && z.place == z.start
 
+-- a token begins behind another that is not the byte order mark, in no CDATA section
+abbrev pub is_text : Scan → Bool
+is_text (Begin Text) = true
+is_text _ = false
+
+-- none of its bytes has come
+abbrev pub is_in_text : Tokenizer → Bool
+is_in_text z = is_text z.scan && z.place == z.start
+
 -- so many bytes come, which are whole tokens
 abbrev pub passed : Tokenizer → ℕ → Tokenizer
 passed z n = record { alloc = z.alloc; utf8 = z.utf8; position = z.position; scan = z.scan; draft = z.draft; start = z.place + n; place = z.place + n }

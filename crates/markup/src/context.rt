@@ -1,6 +1,6 @@
 // What stands before a token: the open elements, whether the root has come, and the literal `]`
 // that stand last. It decides the rule that a token breaks and the events that it has.
-ghost use Rattle.std.specs.Prelude.{◌≡◌, ◌==◌, ◌<◌, ◌^◌, false, reverse, List, [], ◌∷◌, ℕ, OnOk, OnErr, IsTrue};
+ghost use Rattle.std.specs.Prelude.{◌≡◌, ◌==◌, ◌<◌, ◌≤◌, ◌^◌, false, reverse, length, List, [], ◌∷◌, ◌++◌, ℕ, OnOk, OnErr, IfSome, IsSome, IsTrue};
 ghost use Rattle.lexical_core.specs.Tree.{Char};
 ghost use Rattle.markup.specs.Token.{Token, StartTag, Start, End, LineEnd, Line, Character};
 ghost use Rattle.markup.specs.Marks.{in_cdata};
@@ -9,7 +9,9 @@ ghost use Rattle.markup.specs.EventItems.{Tells, TellsFront, item_of};
 ghost use Rattle.markup.specs.TokenRules.{inner_rule, inside_alone, inner_items, brackets_by, one_more, ends_tag};
 ghost use Rattle.markup.specs.Contexts.{IsContext, TokenTaken, HasOpen, unbracketed};
 ghost use Rattle.markup.specs.Inputs.{settled_tokens, settled_events};
-ghost use Rattle.markup.specs.Scopes.{placed_at};
+ghost use Rattle.markup.specs.Marks.{tag_limit};
+ghost use Rattle.markup.specs.PlainTags.{tag_text, may_be_named, IsPlainInside, tags_behind, IsTagAt, IsTagInside};
+ghost use Rattle.markup.specs.Scopes.{IsScope, placed_at};
 ghost use Rattle.markup.specs.ScanRuns.{ended_of, draft_of};
 ghost use Rattle.markup.specs.Faults.{is_over, is_outside};
 ghost use Rattle.markup.specs.Name.{Name};
@@ -17,6 +19,7 @@ ghost use Rattle.markup.specs.Name.{Name};
 use crate::characters::is_blank;
 use crate::draft::Draft;
 use crate::event::{Event, Events, What};
+use crate::plain_tag::{PlainTag, TagKind};
 use crate::scan::Ended;
 use crate::scope::{Scope, Stop};
 use crate::tag::{Opening, Spelled};
@@ -92,6 +95,28 @@ impl Context {
         ensures { self.new ≡ unbracketed self.old }
     {
         self.brackets = 0;
+    }
+
+    /// The plain tag at the front of the piece that breaks no rule, where the innermost element has
+    /// no prefix.
+    #[inline]
+    pub(crate) fn tag_at<'a>(&self, piece: &'a [u8]) -> Option<PlainTag<'a>>
+        ensures found { IfSome result (λ tag. (opened : List ℕ) × IsTagAt piece.now opened tag.kind tag.name.now tag.bytes) }
+        ensures only { (tags : List Opening) → IsScope self.now.scope tags → IfSome result (λ tag. IsTagInside piece.now tags tag.kind tag.name.now tag.bytes) }
+        ensures all { (tags : List Opening) (opened : List ℕ) (kind : TagKind) (name rest : List ℕ) → IsScope self.now.scope tags → IsPlainInside tags opened → may_be_named kind opened name → piece.now ≡ tag_text kind name ++ rest → length (tag_text kind name) ≤ tag_limit → IsSome result }
+    {
+        self.scope.tag_at(piece)
+    }
+
+    /// Takes a plain tag that breaks no rule. Where there is no memory the context is of no more use.
+    #[inline]
+    pub(crate) fn take_plain(&mut self, kind: TagKind, name: &[u8]) -> Result<(), AllocError>
+        ensures scope { (tags : List Opening) (opened : List ℕ) → IsScope self.old.scope tags → IsPlainInside tags opened → OnOk result (IsScope self.new.scope (tags_behind kind name.now tags)) }
+        ensures rest { OnOk result (self.new ≡ record { scope = self.new.scope; has_root = self.old.has_root; brackets = 0 }) }
+    {
+        self.scope.take_plain(kind, name)?;
+        self.brackets = 0;
+        Ok(())
     }
 
     /// Tells the event of a CR that may go on with an LF.
@@ -231,8 +256,8 @@ impl Context {
     }
 
     /// Takes an end tag.
-    fn take_end(&mut self, name: &Spelled, place: u64, out: &mut Events) -> Result<(), Stop>
-        ensures { (before : List Token) (n : Name) (gap : List ℕ) → IsContext self.old before → spelled n ≡ name.now → TokenTaken before (End n gap) place out.old out.new self.new result }
+    fn take_end(&mut self, name: Spelled, place: u64, out: &mut Events) -> Result<(), Stop>
+        ensures { (before : List Token) (n : Name) (gap : List ℕ) → IsContext self.old before → spelled n ≡ name → TokenTaken before (End n gap) place out.old out.new self.new result }
     {
         self.scope.close(name, place, out)?;
         self.brackets = 0;
@@ -260,7 +285,7 @@ impl Context {
                 };
                 self.take_start(tag, place, out)
             }
-            Ended::End => self.take_end(&draft.name, place, out),
+            Ended::End => self.take_end(draft.name, place, out),
             _ => self.take_inner(ended, cdata, place, out),
         }
     }

@@ -12,6 +12,8 @@ pub mod event;
 pub mod laws;
 mod literals;
 mod names;
+mod open_names;
+mod plain_tag;
 pub mod reader;
 mod reference;
 mod scan;
@@ -23,6 +25,7 @@ mod word;
 
 pub use event::{Attr, Attrs, Event, Events, What};
 pub use literals::Run;
+pub use plain_tag::{PlainTag, TagKind};
 pub use reader::{MarkError, MarkFault, Reader};
 
 #[cfg(test)]

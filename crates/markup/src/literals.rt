@@ -1,26 +1,42 @@
 // Runs of characters that stand by themselves.
 ghost use Rattle.std.specs.Prelude.{◌≡◌, ◌≤◌, IfSome, length, take};
-ghost use Rattle.std.specs.List.{prefix_len};
+ghost use Rattle.std.specs.List.{prefix_len, list_all};
+ghost use Rattle.markup.specs.Chars.{is_space};
 ghost use Rattle.markup.specs.Literals.{is_literal, IsAt, IsWideAt, IsRun};
 
-use crate::characters::is_allowed;
+use crate::characters::{is_allowed, is_blank};
 use lexical_core::{Utf8, Utf8Step};
 
-/// A run of characters: how many bytes they have, and how many they are.
+/// A run of characters.
 #[derive(Clone, Copy, Debug, PartialEq, Eq)]
 pub struct Run {
+    /// How many bytes they have.
     pub bytes: usize,
+    /// How many they are.
     pub characters: usize,
+    /// Whether all are white space (XML 1.0 §2.3, S).
+    pub blank: bool,
+}
+
+/// How far a run of characters goes.
+#[derive(Clone, Copy)]
+struct Extent {
+    bytes: usize,
+    characters: usize,
 }
 
 /// Whether the byte is a character of an element's text wherever a token begins there, whatever
-/// stands before it and behind it (XML 1.0 §2.4, §2.7): one from 0x20 to 0x7F that is not `<`, `&`,
-/// `]` or `>`.
+/// stands before it and behind it (XML 1.0 §2.4, §2.7, §2.11): a tab, an LF, and one from 0x20 to
+/// 0x7F that is not `<`, `&`, `]` or `>`.
 #[inline]
 fn is_literal(byte: u8) -> bool
     ensures { result ≡ is_literal byte }
 {
-    byte >= 0x20 && byte <= 0x7F && byte != b'<' && byte != b'&' && byte != b']' && byte != b'>'
+    if byte >= 0x20 {
+        byte <= 0x7F && byte != b'<' && byte != b'&' && byte != b']' && byte != b'>'
+    } else {
+        byte == b'\n' || byte == b'\t'
+    }
 }
 
 /// How many bytes the character at the front of the piece has, where XML has it and they are there.
@@ -73,9 +89,9 @@ fn literal_length(piece: &[u8]) -> usize
     piece.len()
 }
 
-/// The characters at the front of the piece that stand by themselves, up to the first byte that
-/// belongs to none.
-pub(crate) fn literal_run(piece: &[u8]) -> Run
+/// How far the characters at the front of the piece go that stand by themselves, up to the first
+/// byte that belongs to none.
+fn literal_extent(piece: &[u8]) -> Extent
     ensures within { result.bytes ≤ length piece.now }
     ensures only { IsRun (take result.bytes piece.now) result.characters }
     ensures all { prefix_len is_literal piece.now ≤ result.bytes }
@@ -89,11 +105,35 @@ pub(crate) fn literal_run(piece: &[u8]) -> Run
         bytes += plain;
         characters += plain;
         let Some(size) = wide_size(behind) else {
-            return Run { bytes, characters };
+            return Extent { bytes, characters };
         };
         let (_, after) = behind.split_at(size);
         bytes += size;
         characters += 1;
         rest = after;
+    }
+}
+
+/// Whether all of the bytes are white space.
+fn is_blank_run(bytes: &[u8]) -> bool
+    ensures { result ≡ list_all is_space bytes.now }
+{
+    bytes.iter().all(|byte| is_blank(*byte as char))
+}
+
+/// The characters at the front of the piece that stand by themselves, up to the first byte that
+/// belongs to none.
+pub(crate) fn literal_run(piece: &[u8]) -> Run
+    ensures within { result.bytes ≤ length piece.now }
+    ensures only { IsRun (take result.bytes piece.now) result.characters }
+    ensures blank { result.blank ≡ list_all is_space (take result.bytes piece.now) }
+    ensures all { prefix_len is_literal piece.now ≤ result.bytes }
+{
+    let Extent { bytes, characters } = literal_extent(piece);
+    let (front, _) = piece.split_at(bytes);
+    Run {
+        bytes,
+        characters,
+        blank: is_blank_run(front),
     }
 }

@@ -1,6 +1,7 @@
 // A reader of XML that takes a byte at a time.
-ghost use Rattle.std.specs.Prelude.{◌≡◌, ◌<◌, ◌≤◌, ◌^◌, ◌+◌, ◌∷◌, ◌++◌, ℕ, List, [], IfOk, IfErr, OnOk, IsTrue, IsFalse, Some, None, Err, length, take};
-ghost use Rattle.std.specs.List.{prefix_len};
+ghost use Rattle.std.specs.Prelude.{◌≡◌, ◌<◌, ◌≤◌, ◌^◌, ◌+◌, ◌∷◌, ◌++◌, ℕ, List, [], IfOk, IfErr, IfSome, IsSome, OnOk, IsTrue, IsFalse, true, Some, None, Err, length, take};
+ghost use Rattle.std.specs.List.{prefix_len, list_all};
+ghost use Rattle.markup.specs.Chars.{is_space};
 ghost use Rattle.lexical_core.specs.declared.rule.Rule.TheVariants.{Truncated};
 ghost use Rattle.markup.specs.Token.{Token};
 ghost use Rattle.markup.specs.Marks.{in_cdata};
@@ -13,13 +14,19 @@ ghost use Rattle.markup.specs.ReaderSteps.{TellsMore, SettlesEvents, TokenAnswer
 ghost use Rattle.markup.specs.Literals.{is_literal, IsRun, characters_from};
 ghost use Rattle.markup.specs.Events.{Placed};
 ghost use Rattle.markup.specs.EventItems.{Tells};
-ghost use Rattle.markup.specs.Reading.{taken, failed, HasTaken, HasTold, IsInside, Keeps, GoesOn, Stops, IsWholly, EndsEarly, RunsOut};
+ghost use Rattle.markup.specs.declared.tag.Opening.{Opening};
+ghost use Rattle.markup.specs.declared.plain_tag.TagKind.{TagKind};
+ghost use Rattle.markup.specs.PlainTags.{tag_text, tag_items, name_behind, IsTagAt, IsTagInside};
+ghost use Rattle.markup.specs.Scopes.{IsScope, placed_at};
+ghost use Rattle.markup.specs.Tokenizers.{is_in_text};
+ghost use Rattle.markup.specs.Reading.{taken, failed, HasTaken, HasTold, IsInside, MayTakeTag, Keeps, GoesOn, Stops, IsWholly, EndsEarly, RunsOut};
 ghost use Rattle.markup.specs.Inputs.{Any, Begins, is_return};
 
 use crate::context::Context;
 use crate::draft::Draft;
 use crate::event::Events;
 use crate::literals::{Run, literal_run};
+use crate::plain_tag::{PlainTag, TagKind};
 use crate::scan::Ended;
 use crate::scope::Stop;
 use crate::tokenizer::{Finish, Progress, Settled, Tokenizer};
@@ -90,14 +97,15 @@ impl Reader {
     }
 
     /// Takes the characters at the front of the piece that stand by themselves, where an element is
-    /// open and no token is: those from U+0020 on that XML has, up to the first `<`, `&`, `]` or
-    /// `>`, and to the first that is not whole. Each is a character at its place, told by their
-    /// number alone; any other byte is for `take`. It answers how many bytes and characters they
-    /// are, and after an error none. It takes no memory.
+    /// open and no token is: tabs, LFs, and those from U+0020 on that XML has, up to the first `<`,
+    /// `&`, `]` or `>`, and to the first that is not whole. Each is a character at its place, told by
+    /// their number alone; any other byte is for `take`. It answers how many bytes and characters
+    /// they are, and whether all are white space, and after an error none. It takes no memory.
     pub fn take_characters(&mut self, piece: &[u8]) -> Run
         requires { failed self.old ≡ None → taken self.old + length piece.now ≤ 2 ^ 40 }
         ensures within { result.bytes ≤ length piece.now }
         ensures only { IsRun (take result.bytes piece.now) result.characters }
+        ensures blank { result.blank ≡ list_all is_space (take result.bytes piece.now) }
         ensures taken { (bytes : List ℕ) (told : List Placed) → HasTaken self.old bytes told →
             (run : IsRun (take result.bytes piece.now) result.characters) × HasTold self.new (bytes ++ take result.bytes piece.now) (told ++ characters_from (length bytes) run.characters) }
         ensures all { (bytes : List ℕ) (told : List Placed) → IsInside self.old bytes told → prefix_len is_literal piece.now ≤ result.bytes }
@@ -113,10 +121,57 @@ impl Reader {
         run
     }
 
+    /// Takes the start tag or end tag that stands whole at the front of the piece, where no token and
+    /// an element without a prefix is open: without attributes, white space and prefix, in a start
+    /// tag of ASCII letters, digits, `-`, `.` and `_` (XML 1.0 §3.1). Its events are those that `take`
+    /// tells, with names in the namespace of the innermost open element. Any other token is for
+    /// `take`. Where there is no memory, and after an error, it answers as `take` does.
+    pub fn take_tag<'a>(&mut self, piece: &'a [u8]) -> Result<Option<PlainTag<'a>>, MarkError>
+        requires { failed self.old ≡ None → taken self.old + length piece.now ≤ 2 ^ 40 }
+        ensures none { IfOk result (λ o. o ≡ None → self.new ≡ self.old) }
+        ensures within { IfOk result (λ o. IfSome o (λ tag. (0 < tag.bytes) × (tag.bytes ≤ length piece.now))) }
+        ensures spelled { IfOk result (λ o. IfSome o (λ tag. take tag.bytes piece.now ≡ tag_text tag.kind tag.name.now)) }
+        ensures taken { (bytes : List ℕ) (told : List Placed) → HasTaken self.old bytes told → IfOk result (λ o. IfSome o (λ tag.
+            HasTold self.new (bytes ++ take tag.bytes piece.now) (told ++ placed_at (length bytes) (tag_items tag.kind (name_behind told tag.name.now))))) }
+        ensures all { (bytes : List ℕ) (told : List Placed) (kind : TagKind) (name rest : List ℕ) → MayTakeTag self.old bytes told kind name → piece.now ≡ tag_text kind name ++ rest → IfOk result (λ o. IsSome o) }
+        ensures count { IfOk result (λ o. IfSome o (λ tag. taken self.new ≡ taken self.old + tag.bytes)) }
+        ensures failed { IfErr result (λ e. failed self.new ≡ Some e) }
+        ensures memory { failed self.old ≡ None → IfErr result (λ e. e ≡ MarkError.Memory) }
+        ensures again { (e : MarkError) → failed self.old ≡ Some e → (result ≡ Err e) × (self.new ≡ self.old) }
+    {
+        if let Some(error) = self.failed {
+            return Err(error);
+        }
+        let Some(tag) = self.next_tag(piece) else {
+            return Ok(None);
+        };
+        if self.context.take_plain(tag.kind, tag.name).is_err() {
+            self.failed = Some(MarkError::Memory);
+            return Err(MarkError::Memory);
+        }
+        self.tokenizer.pass(tag.bytes as u64);
+        Ok(Some(tag))
+    }
+
+    /// The plain tag at the front of the piece, where one may come.
+    #[inline]
+    fn next_tag<'a>(&self, piece: &'a [u8]) -> Option<PlainTag<'a>>
+        ensures ready { IsSome result → is_in_text self.now.tokenizer ≡ true }
+        ensures found { IfSome result (λ tag. (opened : List ℕ) × IsTagAt piece.now opened tag.kind tag.name.now tag.bytes) }
+        ensures only { (tags : List Opening) → IsScope self.now.context.scope tags → IfSome result (λ tag. IsTagInside piece.now tags tag.kind tag.name.now tag.bytes) }
+        ensures all { (bytes : List ℕ) (told : List Placed) (kind : TagKind) (name rest : List ℕ) → MayTakeTag self.now bytes told kind name → piece.now ≡ tag_text kind name ++ rest → IsSome result }
+    {
+        if !self.tokenizer.is_in_text() {
+            return None;
+        }
+        self.context.tag_at(piece)
+    }
+
     /// The characters at the front of the piece that stand by themselves, where one may come.
     fn count_characters(&self, piece: &[u8]) -> Run
         ensures within { result.bytes ≤ length piece.now }
         ensures only { IsRun (take result.bytes piece.now) result.characters }
+        ensures blank { result.blank ≡ list_all is_space (take result.bytes piece.now) }
         ensures ready { 0 < result.bytes → IsReady self.now }
         ensures sound { 0 < result.bytes → failed self.now ≡ None }
         ensures all { (bytes : List ℕ) (told : List Placed) → IsInside self.now bytes told → prefix_len is_literal piece.now ≤ result.bytes }
@@ -125,6 +180,7 @@ impl Reader {
         let none = Run {
             bytes: 0,
             characters: 0,
+            blank: true,
         };
         if self.failed.is_some() {
             return none;
@@ -147,6 +203,7 @@ impl Reader {
             IfErr result (λ e. EndsEarly bytes e) }
         ensures failed { IfErr result (λ e. failed self.new ≡ Some e) }
         ensures again { (e : MarkError) → failed self.old ≡ Some e → (result ≡ Err e) × (self.new ≡ self.old) }
+        ensures still { IfOk result (λ _. self.new ≡ self.old) }
         ensures same { out.new ≡ out.old }
     {
         let _ = out;

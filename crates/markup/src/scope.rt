@@ -1,14 +1,21 @@
 // The elements that are open, with the namespaces that their tags declare.
-ghost use Rattle.std.specs.Prelude.{◌≡◌, ◌==◌, ◌++◌, ◌∷◌, List, [], ℕ, length, drop, IfOk, OnOk, OnErr, Some, Option, map, false, true, ◌&&◌};
-ghost use Rattle.markup.specs.Events.{namespace_of, element_name, started, ended, expanded};
+ghost use Rattle.std.specs.Prelude.{◌≡◌, ◌==◌, ◌≤◌, ◌++◌, ◌∷◌, List, [], ℕ, length, drop, IfOk, OnOk, OnErr, IfSome, IsSome, Some, None, Option, map, false, true, ◌&&◌, if◌then◌else◌};
+ghost use Rattle.markup.specs.Events.{namespace_of, started, expanded, end_items};
 ghost use Rattle.markup.specs.EventItems.{entry_of, Tells, TellsFront};
 ghost use Rattle.markup.specs.Bindings.{Binds};
+ghost use Rattle.lexical_core.specs.declared.rule.Rule.TheVariants.{TagMismatch};
+ghost use Rattle.markup.specs.Marks.{tag_limit};
+ghost use Rattle.markup.specs.Faults.{end_rule};
+ghost use Rattle.markup.specs.OpenNames.{OpenName, KeepsNames};
+ghost use Rattle.markup.specs.PlainTags.{tag_text, may_be_named, IsPlainInside, tags_behind, IsTagAt, IsTagInside};
 ghost use Rattle.markup.specs.Scopes.{all_declarations, placed_at};
 ghost use Rattle.std.specs.Str.{bytes_eq};
 
 use crate::attributes::{Expanded, Parted, text_of};
 use crate::bindings::Bindings;
 use crate::event::{Attrs, Events};
+use crate::open_names::{InnermostName, OpenNames};
+use crate::plain_tag::{PlainTag, TagKind, tag_at};
 use crate::tag::{Given, Opening, Spelled};
 use crate::telling::{tell_both, tell_end, tell_start};
 use lexical_core::{Items, Rule, Text};
@@ -20,13 +27,6 @@ pub(crate) enum Stop {
     Rule(Rule),
     /// There was no memory.
     Memory,
-}
-
-/// The name of an open element as its start tag spells it, and how many namespaces that tag declares.
-#[derive(Drop)]
-pub(crate) struct OpenName {
-    name: Spelled,
-    declared: usize,
 }
 
 /// What a start tag says under the tags that are open before it.
@@ -47,7 +47,7 @@ pub(crate) struct Resolved {
 #[derive(Drop)]
 pub(crate) struct Scope {
     alloc: Global,
-    names: Vec<OpenName>,
+    names: OpenNames,
     /// The declarations of the open tags.
     bindings: Bindings,
 }
@@ -62,7 +62,7 @@ impl Scope {
     {
         Scope {
             alloc,
-            names: Vec::new(alloc),
+            names: OpenNames::new(alloc),
             bindings: Bindings::new(alloc),
         }
     }
@@ -153,14 +153,14 @@ impl Scope {
         place: u64,
         out: &mut Events,
     ) -> Result<(), AllocError>
-        ensures names { OnOk result (self.new.names.items ≡ self.old.names.items ++ (record { name = name; declared = declared }) ∷ []) }
+        ensures names { (names : List OpenName) → KeepsNames self.old.names names → OnOk result (KeepsNames self.new.names ((record { name = name; declared = declared }) ∷ names)) }
         ensures declared { self.new.bindings ≡ self.old.bindings }
         ensures ok { OnOk result (Tells out.old out.new (placed_at place (started (expanded (Some ns) name.local) (map entry_of attrs) false))) }
         ensures err { OnErr result (out.new ≡ out.old) }
     {
-        let local = name.local.copy(self.alloc)?;
-        self.names.push(OpenName { name, declared })?;
-        tell_start(out, place, ns, local, attrs)
+        self.names
+            .push(name.prefix.bytes(), name.local.bytes(), declared)?;
+        tell_start(out, place, ns, name.local, attrs)
     }
 
     /// Tells that the empty element of a start tag that breaks no rule starts and ends, and forgets
@@ -174,7 +174,7 @@ impl Scope {
         place: u64,
         out: &mut Events,
     ) -> Result<(), AllocError>
-        ensures names { self.new.names.items ≡ self.old.names.items }
+        ensures names { self.new.names ≡ self.old.names }
         ensures declared { (before : List Given) → Binds self.old.bindings before → Binds self.new.bindings (drop declared before) }
         ensures ok { OnOk result (Tells out.old out.new (placed_at place (started (expanded (Some ns) name.local) (map entry_of attrs) true))) }
         ensures err { OnErr result (TellsFront out.old out.new (placed_at place (started (expanded (Some ns) name.local) (map entry_of attrs) true))) }
@@ -185,32 +185,77 @@ impl Scope {
 
     /// An end tag at the place: tells its event, or the rule that it breaks (XML 1.0 §3.1, Element
     /// Type Match). Behind an error the scope is of no more use.
-    pub(crate) fn close(&mut self, name: &Spelled, place: u64, out: &mut Events) -> Result<(), Stop>
-        ensures { (tags : List Opening) → IsScope self.old tags → Closes tags name.now place out.old out.new self.new result }
+    pub(crate) fn close(&mut self, name: Spelled, place: u64, out: &mut Events) -> Result<(), Stop>
+        ensures { (tags : List Opening) → IsScope self.old tags → Closes tags name place out.old out.new self.new result }
     {
-        let Some(innermost) = self.names.pop() else {
-            return Err(Stop::Rule(Rule::TagMismatch));
-        };
-        if !is_spelled(&innermost.name, name) {
+        if !self.is_innermost(&name) {
             return Err(Stop::Rule(Rule::TagMismatch));
         }
-        match self.end(innermost, place, out) {
+        match self.end(name, place, out) {
             Ok(()) => Ok(()),
             Err(_) => Err(Stop::Memory),
         }
     }
 
-    /// Tells that the innermost element ends, whose name was taken away, and forgets its declarations.
-    fn end(&mut self, innermost: OpenName, place: u64, out: &mut Events) -> Result<(), AllocError>
-        ensures names { self.new.names.items ≡ self.old.names.items }
-        ensures declared { (before : List Given) → Binds self.old.bindings before → OnOk result (Binds self.new.bindings (drop innermost.declared before)) }
-        ensures ok { (tags : List Opening) → Binds self.old.bindings (all_declarations tags) → OnOk result (Tells out.old out.new (placed_at place (ended (element_name tags innermost.name)))) }
+    /// Whether the innermost element is spelled so.
+    fn is_innermost(&self, name: &Spelled) -> bool
+        ensures { (tags : List Opening) → IsScope self.now tags → end_rule tags name.now ≡ (if result then None else Some TagMismatch) }
+    {
+        let Some(innermost) = self.names.innermost() else {
+            return false;
+        };
+        is_spelled(&innermost, name)
+    }
+
+    /// Tells that the innermost element ends, which has this name, and forgets its declarations.
+    fn end(&mut self, name: Spelled, place: u64, out: &mut Events) -> Result<(), AllocError>
+        ensures ok { (tag : Opening) (tags : List Opening) → IsScope self.old (tag ∷ tags) → tag.name ≡ name → OnOk result (IsScope self.new tags) }
+        ensures tells { (tag : Opening) (tags : List Opening) → IsScope self.old (tag ∷ tags) → tag.name ≡ name → OnOk result (Tells out.old out.new (placed_at place (end_items (tag ∷ tags)))) }
         ensures err { OnErr result (out.new ≡ out.old) }
     {
-        let prefix = innermost.name.prefix.bytes();
-        let namespace = namespace_text(&self.bindings, prefix, self.alloc)?;
-        self.bindings.forget(innermost.declared);
-        tell_end(out, place, namespace, innermost.name.local)
+        let namespace = namespace_text(&self.bindings, name.prefix.bytes(), self.alloc)?;
+        self.forget_innermost();
+        tell_end(out, place, namespace, name.local)
+    }
+
+    /// Forgets the innermost element and its declarations.
+    fn forget_innermost(&mut self)
+        ensures { (tag : Opening) (tags : List Opening) → IsScope self.old (tag ∷ tags) → IsScope self.new tags }
+    {
+        let declared = self.names.pop();
+        self.bindings.forget(declared);
+    }
+
+    /// The plain tag at the front of the piece that breaks no rule, where the innermost element has
+    /// no prefix.
+    #[inline]
+    pub(crate) fn tag_at<'a>(&self, piece: &'a [u8]) -> Option<PlainTag<'a>>
+        ensures found { IfSome result (λ tag. (opened : List ℕ) × IsTagAt piece.now opened tag.kind tag.name.now tag.bytes) }
+        ensures only { (tags : List Opening) → IsScope self.now tags → IfSome result (λ tag. IsTagInside piece.now tags tag.kind tag.name.now tag.bytes) }
+        ensures all { (tags : List Opening) (opened : List ℕ) (kind : TagKind) (name rest : List ℕ) → IsScope self.now tags → IsPlainInside tags opened → may_be_named kind opened name → piece.now ≡ tag_text kind name ++ rest → length (tag_text kind name) ≤ tag_limit → IsSome result }
+    {
+        let Some(innermost) = self.names.innermost() else {
+            return None;
+        };
+        if !innermost.prefix.is_empty() {
+            return None;
+        }
+        tag_at(piece, innermost.local)
+    }
+
+    /// Takes a plain tag that breaks no rule. Where there is no memory the scope is of no more use.
+    #[inline]
+    pub(crate) fn take_plain(&mut self, kind: TagKind, name: &[u8]) -> Result<(), AllocError>
+        ensures { (tags : List Opening) (opened : List ℕ) → IsScope self.old tags → IsPlainInside tags opened → OnOk result (IsScope self.new (tags_behind kind name.now tags)) }
+    {
+        match kind {
+            TagKind::Start => self.names.push(b"", name, 0),
+            TagKind::Empty => Ok(()),
+            TagKind::End => {
+                self.forget_innermost();
+                Ok(())
+            }
+        }
     }
 }
 
@@ -228,9 +273,9 @@ fn namespace_text(
     }
 }
 
-/// Whether two names are spelled alike.
-fn is_spelled(left: &Spelled, right: &Spelled) -> bool
-    ensures { result ≡ (bytes_eq left.now.prefix right.now.prefix && bytes_eq left.now.local right.now.local) }
+/// Whether the two names are spelled alike.
+fn is_spelled(left: &InnermostName<'_>, right: &Spelled) -> bool
+    ensures { result ≡ (bytes_eq left.now.prefix.now right.now.prefix && bytes_eq left.now.local.now right.now.local) }
 {
-    left.prefix.bytes() == right.prefix.bytes() && left.local.bytes() == right.local.bytes()
+    left.prefix == right.prefix.bytes() && left.local == right.local.bytes()
 }

@@ -11,7 +11,7 @@ use std::alloc::{AllocError, Global};
 use std::mem;
 
 /// The greatest length of a tag in bytes.
-const TAG_LIMIT: u64 = 1_048_576;
+pub(crate) const TAG_LIMIT: u64 = 1_048_576;
 
 /// What a byte gives.
 #[derive(Drop)]
@@ -91,7 +91,7 @@ fn is_plain(byte: u8) -> bool
 }
 
 impl Scan {
-    ghost use Rattle.markup.specs.Tokenizers.{is_between, is_tag, is_reference, stuck_rule};
+    ghost use Rattle.markup.specs.Tokenizers.{is_between, is_text, is_tag, is_reference, stuck_rule};
 
     /// Whether a token begins behind another that is not the byte order mark.
     #[inline]
@@ -102,6 +102,14 @@ impl Scan {
             self,
             Scan::Begin(Position::Text) | Scan::Begin(Position::Cdata)
         )
+    }
+
+    /// Whether a token begins behind another that is not the byte order mark, in no CDATA section.
+    #[inline]
+    fn is_text(self) -> bool
+        ensures { result ≡ is_text self }
+    {
+        matches!(self, Scan::Begin(Position::Text))
     }
 
     /// Whether a start tag or an end tag is open.
@@ -148,7 +156,7 @@ impl Scan {
 
 impl Tokenizer {
     ghost use Rattle.markup.specs.TokenRules.{is_cdata};
-    ghost use Rattle.markup.specs.Tokenizers.{bounded, ended, charactered, AdvancedBy, AdvancesBy, IsOpen, restarted, settled, SettlesBy, open_at, FinishesBy, starts_plain, TakesPlain, is_ready, passed};
+    ghost use Rattle.markup.specs.Tokenizers.{bounded, ended, charactered, AdvancedBy, AdvancesBy, IsOpen, restarted, settled, SettlesBy, open_at, FinishesBy, starts_plain, TakesPlain, is_ready, is_in_text, passed};
 
     /// A reader before the first byte. It takes no memory.
     pub(crate) fn new(alloc: Global) -> Tokenizer
@@ -342,7 +350,15 @@ impl Tokenizer {
         self.scan.is_between() && self.place == self.start
     }
 
-    /// Passes over so many bytes, each of which is a token by itself.
+    /// Whether no token is open, and one begins behind another in no CDATA section.
+    #[inline]
+    pub(crate) fn is_in_text(&self) -> bool
+        ensures { result ≡ is_in_text self.now }
+    {
+        self.scan.is_text() && self.place == self.start
+    }
+
+    /// Passes over so many bytes, which are whole tokens.
     #[inline]
     pub(crate) fn pass(&mut self, count: u64)
         requires { self.old.place + count ≤ 2 ^ 40 }

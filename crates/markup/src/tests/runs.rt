@@ -1,119 +1,208 @@
-// Texts of which a reader takes runs of characters at once.
-use super::{LIMIT, Verdict, refusal};
+// Texts that a reader takes by whole tags and runs of characters where it can.
+ghost use Rattle.std.specs.Prelude.{◌≡◌, ◌<◌, ◌≤◌, ◌+◌, ◌^◌, IfOk, IfSome, length};
+ghost use Rattle.markup.specs.Reading.{taken};
+
+use super::{ALONE, BEHIND_ROOT, LIMIT, ROOT, Verdict, answer, refusal, repeated};
 use crate::{Events, Reader, Run};
-use Rule::{BadChar, BadMarkup, TextOutside, Truncated};
-use Verdict::{At, Whole};
-use lexical_core::Rule;
-use std::alloc::Global;
+use Verdict::Whole;
+use std::alloc::{AllocError, Global};
+use std::process::Abort;
 
-/// Texts, what they are, and how many of their characters come in runs: those that no token is open
-/// before, inside the root.
-static RUNS: [(&str, Verdict, usize); 16] = [
-    ("<a>abc</a>", Whole, 3),
-    ("<a> b\u{7F}</a>", Whole, 3),
-    ("<a>b\tc\u{E9}d</a>", Whole, 4),
-    ("<a>\u{20AC}b\u{1F600}]\u{D7FF}</a>", Whole, 4),
-    ("<a>b\u{20AC}\u{FFFE}c</a>", At(BadChar, 7), 2),
-    ("<a>b&amp;cd</a>", Whole, 3),
-    ("<a>b]c</a>", Whole, 2),
-    ("<a>]]b></a>", Whole, 1),
-    ("<a>b]]></a>", At(BadMarkup, 6), 1),
-    ("<a><![CDATA[bc]d>e]]>f</a>", Whole, 4),
-    ("<a>b\rcd</a>", Whole, 2),
-    ("<a b='c'>d<!-- e -->f</a>", Whole, 2),
-    ("<a/> ", Whole, 0),
-    ("<a/>b", At(TextOutside, 4), 0),
-    ("b<a/>", At(TextOutside, 0), 0),
-    ("<a>bcd", At(Truncated, 6), 3),
-];
+/// Gives the reader what it takes at once of the piece, or its first byte, and answers how many
+/// bytes they are.
+fn take_some(reader: &mut Reader, out: &mut Events, piece: &[u8]) -> Result<usize, Verdict>
+    requires { taken reader.old + length piece.now ≤ 2 ^ 40 }
+    ensures within { IfOk result (λ n. n ≤ length piece.now) }
+    ensures some { IfOk result (λ n. 0 < length piece.now → 0 < n) }
+    ensures count { IfOk result (λ n. taken reader.new ≡ taken reader.old + n) }
+{
+    let run = reader.take_characters(piece);
+    if run.bytes > 0 {
+        return Ok(run.bytes);
+    }
+    match reader.take_tag(piece) {
+        Ok(Some(tag)) => return Ok(tag.bytes),
+        Ok(None) => {}
+        Err(error) => return Err(refusal(error)),
+    }
+    let Some((byte, _)) = piece.split_first() else {
+        return Ok(0);
+    };
+    match reader.take(*byte, out) {
+        Ok(()) => Ok(1),
+        Err(error) => Err(refusal(error)),
+    }
+}
 
-/// What a reader says of the bytes, and how many characters came in runs.
-fn answer_by_runs(alloc: Global, bytes: &[u8]) -> (Verdict, usize) {
-    if bytes.len() as u64 > LIMIT {
-        return (Verdict::TooLong, 0);
+/// What a reader says of the bytes in pieces of this size.
+fn answer_by_pieces(alloc: Global, bytes: &[u8], size: usize) -> Verdict {
+    if bytes.len() as u64 > LIMIT || size == 0 {
+        return Verdict::TooLong;
     }
     let mut out = Events::new(alloc);
     let mut reader = Reader::new(alloc);
-    let mut passed = 0_usize;
     let mut rest = bytes;
-    loop {
-        let run = reader.take_characters(rest);
-        passed = passed.saturating_add(run.characters);
-        let (_, left) = rest.split_at(run.bytes);
-        let Some((byte, behind)) = left.split_first() else {
-            break;
+    while !rest.is_empty() {
+        let (piece, _) = rest.split_at(size.min(rest.len()));
+        let taken = match take_some(&mut reader, &mut out, piece) {
+            Ok(taken) => taken,
+            Err(verdict) => return verdict,
         };
-        if let Err(error) = reader.take(*byte, &mut out) {
-            return (refusal(error), passed);
-        }
+        out.clear();
+        let (_, behind) = rest.split_at(taken);
         rest = behind;
     }
     match reader.finish(&mut out) {
-        Ok(()) => (Whole, passed),
-        Err(error) => (refusal(error), passed),
+        Ok(()) => Whole,
+        Err(error) => refusal(error),
     }
 }
 
-#[test]
-fn runs_of_characters(rt: HostRuntime) {
-    for (text, verdict, passed) in &RUNS {
-        let found = answer_by_runs(rt.alloc(), text.as_bytes());
-        assert!(rt; found == (*verdict, *passed), "{text}: {found:?}");
+/// Each text of the rows is answered as they say, in pieces of each size up to 7 and in one.
+fn check_texts(
+    rt: &impl Abort,
+    alloc: Global,
+    front: &str,
+    rows: &[(&str, Verdict)],
+) -> Result<(), AllocError> {
+    for (text, expected) in rows {
+        let bytes = repeated(alloc, &[(front, 1), (*text, 1)])?;
+        for size in [1, 2, 3, 4, 5, 6, 7, 4096] {
+            let found = answer_by_pieces(alloc, bytes.as_slice(), size);
+            assert!(rt; found == *expected, "{text}, {size}: {found:?}");
+        }
     }
+    Ok(())
 }
 
-/// After an error no characters are taken.
 #[test]
-fn no_run_after_an_error(rt: HostRuntime) {
-    let mut reader = Reader::new(rt.alloc());
-    let mut out = Events::new(rt.alloc());
-    assert!(rt; reader.take(b'a', &mut out).is_err());
-    let none = Run {
-        bytes: 0,
-        characters: 0,
-    };
-    assert!(rt; reader.take_characters(b"bc") == none);
+fn texts_in_pieces(rt: HostRuntime) -> Result<(), AllocError> {
+    check_texts(&rt, rt.alloc(), ROOT, &BEHIND_ROOT)?;
+    check_texts(&rt, rt.alloc(), "", &ALONE)
 }
 
-/// Pieces of an element's text, and how many bytes and characters the run at their front has.
-static PIECES: [(&[u8], usize, usize); 9] = [
-    (b"b\xE2\x82", 1, 1),
-    (b"b\xE2\x82\xAC", 4, 2),
-    (b"\xF0\x9F\x98", 0, 0),
-    (b"\xF0\x9F\x98\x80c]d", 5, 2),
-    (b"\xC2\x80\rb", 2, 1),
-    (b"b\xEF\xBF\xBEc", 1, 1),
-    (b"b\xC0\x80c", 1, 1),
-    (b"b\xED\xA0\x80", 1, 1),
-    (b"\x80b", 0, 0),
-];
+/// An instance with tags, runs and what stands between them.
+static SHAPES: &str =
+    "<a xmlns=\"u\">\n <b>x y\tz</b>\r\n<c/><p:d xmlns:p=\"v\"><e>]</e>]]<f.g-h_1>&lt;</f.g-h_1></p:d><!-- - --><?q ?><![CDATA[<>]]></a>";
 
-/// The run at the front of the piece behind these bytes, where they have no fault.
-fn run_behind(alloc: Global, bytes: &[u8], piece: &[u8]) -> Option<Run> {
-    if bytes.len() > 100 || piece.len() > 100 {
+/// With the byte at this place changed to another one, the text is answered as by single bytes.
+fn check_change(rt: &impl Abort, alloc: Global, at: usize, byte: u8) -> Result<(), AllocError> {
+    let mut bytes = Vec::from_slice(alloc, SHAPES.as_bytes())?;
+    if let Some(changed) = bytes.get_mut(at) {
+        *changed = byte;
+    }
+    let expected = answer(alloc, bytes.as_slice());
+    let found = answer_by_pieces(alloc, bytes.as_slice(), 4096);
+    assert!(rt; found == expected, "{at}, {byte}: {found:?}");
+    Ok(())
+}
+
+#[test]
+fn changes_in_one_piece(rt: HostRuntime) -> Result<(), AllocError> {
+    for at in 0..SHAPES.len() {
+        for byte in [0, b'<', b'&', b']', b'>', b':', 0xFF] {
+            check_change(&rt, rt.alloc(), at, byte)?;
+        }
+    }
+    Ok(())
+}
+
+/// A reader that has taken these bytes, where they have no fault.
+fn behind(alloc: Global, bytes: &[u8]) -> Option<Reader>
+    ensures { IfSome result (λ reader. taken reader ≤ 100) }
+{
+    if bytes.len() > 100 {
         return None;
     }
     let mut out = Events::new(alloc);
     let mut reader = Reader::new(alloc);
     let mut rest = bytes;
-    while let Some((byte, behind)) = rest.split_first() {
+    while let Some((byte, after)) = rest.split_first() {
         if reader.take(*byte, &mut out).is_err() {
             return None;
         }
-        rest = behind;
+        rest = after;
     }
-    Some(reader.take_characters(piece))
+    Some(reader)
 }
+
+/// Pieces of an element's text, and how many bytes and characters the run at their front has, and
+/// whether it is white space.
+static RUNS: [(&[u8], usize, usize, bool); 11] = [
+    (b"b\xE2\x82", 1, 1, false),
+    (b"b\xE2\x82\xAC", 4, 2, false),
+    (b"\xF0\x9F\x98", 0, 0, true),
+    (b"\xF0\x9F\x98\x80c]d", 5, 2, false),
+    (b"\xC2\x80\rb", 2, 1, false),
+    (b"b\xEF\xBF\xBEc", 1, 1, false),
+    (b"b\xC0\x80c", 1, 1, false),
+    (b"b\xED\xA0\x80", 1, 1, false),
+    (b"\x80b", 0, 0, true),
+    (b" \n\t<", 3, 3, true),
+    (b" \xC2\xA0<", 3, 2, false),
+];
 
 /// A run ends before a character that is cut, or that XML has not, or that is none.
 #[test]
 fn runs_of_whole_characters(rt: HostRuntime) {
-    for (piece, bytes, characters) in &PIECES {
+    for (piece, bytes, characters, blank) in &RUNS {
         let run = Run {
             bytes: *bytes,
             characters: *characters,
+            blank: *blank,
         };
-        let found = run_behind(rt.alloc(), b"<a>", piece);
-        assert!(rt; found == Some(run), "{found:?}");
+        let Some(mut reader) = behind(rt.alloc(), b"<a>") else {
+            continue;
+        };
+        if piece.len() > 100 {
+            continue;
+        }
+        let found = reader.take_characters(piece);
+        assert!(rt; found == run, "{found:?}");
     }
+}
+
+/// Pieces behind `<a>`, and how many bytes the tag has that is taken at their front.
+static TAGS: [(&str, usize); 14] = [
+    ("<b>", 3),
+    ("<b/>", 4),
+    ("</a>", 4),
+    ("<b", 0),
+    ("<b/", 0),
+    ("</a", 0),
+    ("</b>", 0),
+    ("</aa>", 0),
+    ("<b >", 0),
+    ("</a >", 0),
+    ("<b:c>", 0),
+    ("<1>", 0),
+    ("<\u{E9}>", 0),
+    ("<Dt.1-2_x>y", 10),
+];
+
+#[test]
+fn whole_tags(rt: HostRuntime) {
+    for (piece, bytes) in &TAGS {
+        let Some(mut reader) = behind(rt.alloc(), b"<a>") else {
+            continue;
+        };
+        if piece.len() > 100 {
+            continue;
+        }
+        let found = match reader.take_tag(piece.as_bytes()) {
+            Ok(Some(tag)) => tag.bytes,
+            _ => 0,
+        };
+        assert!(rt; found == *bytes, "{piece}: {found}");
+    }
+}
+
+/// After an error nothing is taken.
+#[test]
+fn nothing_after_an_error(rt: HostRuntime) {
+    let mut reader = Reader::new(rt.alloc());
+    let mut out = Events::new(rt.alloc());
+    assert!(rt; reader.take(b'a', &mut out).is_err());
+    assert!(rt; reader.take_characters(b"bc").bytes == 0);
+    assert!(rt; reader.take_tag(b"<b>").is_err());
 }

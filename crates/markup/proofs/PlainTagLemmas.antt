@@ -1,0 +1,294 @@
+-- A plain tag is a token that stands where an element without a prefix is open.
+use Rattle.std.proofs.Common.{◌≡◌, ℕ, suc, Bool, true, false, ◌==◌, ◌||◌, ◌&&◌, ◌+◌, ◌<◌, ◌≤◌, List, [], ◌∷◌, ◌++◌, length, take, reverse, Some, None, refl, sym, ◌∙◌, ap, subst, append-nil, arith}
+use Rattle.std.specs.Bool.{if◌then◌else◌}
+use Rattle.std.specs.Char.{encode_utf8}
+use Rattle.std.specs.Int.{is_in_range}
+use Rattle.std.specs.List.{list_all}
+use Rattle.std.specs.Option.{is_none}
+use Rattle.std.specs.Str.{encode_utf8_all, bytes_eq}
+use Rattle.std.proofs.lemmas.Bool.{and_parts, both_ways, eqb-true, le-leb}
+use Rattle.std.proofs.lemmas.Bool.Decides.{nat_tests}
+use Rattle.std.proofs.lemmas.List.{length-take-le}
+use Rattle.std.proofs.lemmas.Slice.Eq.{bytes_eq-Decides}
+use Rattle.std.proofs.lemmas.Str.{encode_ascii, encodes-append}
+use Rattle.lexical_core.specs.Tree.{Expanded, Ends}
+use Rattle.lexical_core.specs.declared.rule.Rule.TheVariants.{BadPrefix, AfterRoot, TagMismatch}
+use Rattle.markup.specs.Chars.{in_some, name_start_ranges, name_more_ranges, is_name_start, is_name_char}
+use Rattle.markup.specs.Name.{Plain, is_part}
+use Rattle.markup.specs.Token.{Token, Mark, Start, End, token_bytes}
+use Rattle.markup.specs.Marks.{in_cdata, is_first, stands, is_short, tag_limit}
+use Rattle.markup.specs.Events.{Placed, open_tags, namespace_of, expanded, started, events, items_of}
+use Rattle.markup.specs.Faults.{rule_of, is_over, is_outside, has_start, end_rule}
+use Rattle.markup.specs.Scopes.{IsScope, placed_at}
+use Rattle.markup.specs.Contexts.{IsContext}
+use Rattle.markup.specs.Drafts.{no_draft}
+use Rattle.markup.specs.ScanRuns.{run, position, placed as placed_by, ended_of}
+use Rattle.markup.specs.TokenRules.{is_cdata}
+use Rattle.markup.specs.Tokenizers.{after_other, behind as behind_token, is_between, is_in_text, is_text, passed}
+use Rattle.markup.specs.Reading.{HasTaken, HasTold, MayTakeTag}
+use Rattle.markup.specs.PlainTags.{begins_plain, continues_plain, is_plain_name, tag_text, tag_items, open_behind, innermost_namespace, name_behind, may_be_named, IsPlainInside, tags_behind, IsTagInside}
+use Rattle.markup.specs.declared.context.Context.{Context}
+use Rattle.markup.specs.declared.plain_tag.TagKind.{TagKind}
+use Rattle.markup.specs.declared.plain_tag.TagKind.TheVariants.{Start as StartKind, Empty as EmptyKind, End as EndKind}
+use Rattle.markup.specs.declared.reader.Reader.{Reader}
+use Rattle.markup.specs.declared.scan.Position.{Position}
+use Rattle.markup.specs.declared.scan.Position.TheVariants.{Start as AtStart, AfterMark, Text, Cdata}
+use Rattle.markup.specs.declared.scan.Scan.{Scan}
+use Rattle.markup.specs.declared.scan.Scan.TheVariants.{Begin}
+use Rattle.markup.specs.declared.scope.Scope.{Scope}
+use Rattle.markup.specs.declared.tag.Opening.{Opening}
+use Rattle.markup.specs.declared.tag.Spelled.{Spelled}
+use Rattle.markup.proofs.OpenTags.{IsPlainPart, innermost_part, AreExpanded, open_expanded, innermost_default, innermost_ends, inside_started}
+use Rattle.markup.proofs.PlainLemmas.{is_fresh, no_chars, at_same}
+use Rattle.markup.proofs.ReaderLemmas.{told_so_far, starts}
+use Rattle.markup.proofs.TokenRuleLemmas.{in_cdata-open}
+use Rattle.markup.proofs.WholeTokens.{IsNext, all_told, takes_next}
+
+not_zero : (n : ℕ) → (suc n == 0) ≡ false
+not_zero n = grind (arith, nat_tests)
+
+-- ---- names
+
+one_of : (x y z : Bool) (R : Type 0) → (x || y || z) ≡ true → (x ≡ true → R) → (y ≡ true → R) → (z ≡ true → R) → R
+one_of true y z R h f g k = f refl
+one_of false true z R h f g k = g refl
+one_of false false true R h f g k = k refl
+one_of false false false R h f g k = absurd (both_ways false refl h)
+
+first_holds : (x y : Bool) → x ≡ true → (x || y) ≡ true
+first_holds x y h = ap (λ b. b || y) h
+
+second_holds : (x y : Bool) → y ≡ true → (x || y) ≡ true
+second_holds true y h = refl
+second_holds false y h = h
+
+begins_name : (c : ℕ) → begins_plain c ≡ true → is_name_start c ≡ true
+unfolding is_name_start
+begins_name c h = one_of (is_in_range 97 122 c) (is_in_range 65 90 c) (c == 95) (in_some name_start_ranges c ≡ true) h
+    (λ e. second_holds (is_in_range 65 90 c) _ (second_holds (is_in_range 95 95 c) _ (first_holds (is_in_range 97 122 c) _ e)))
+    (λ e. first_holds (is_in_range 65 90 c) _ e)
+    (λ e. subst (λ d. in_some name_start_ranges d ≡ true) (sym (eqb-true c 95 e)) refl)
+
+continues_name : (c : ℕ) → continues_plain c ≡ true → is_name_char c ≡ true
+unfolding is_name_char
+continues_name c h = one_of (begins_plain c) (is_in_range 48 57 c) (is_in_range 45 46 c) ((is_name_start c || in_some name_more_ranges c) ≡ true) h
+    (λ e. first_holds (is_name_start c) (in_some name_more_ranges c) (begins_name c e))
+    (λ e. second_holds (is_name_start c) _ (second_holds (is_in_range 45 46 c) _ (first_holds (is_in_range 48 57 c) _ e)))
+    (λ e. second_holds (is_name_start c) _ (first_holds (is_in_range 45 46 c) _ e))
+
+continue_name : (cs : List ℕ) → list_all continues_plain cs ≡ true → list_all is_name_char cs ≡ true
+continue_name [] h = refl
+continue_name (c ∷ cs) h = let a = and_parts _ _ h in both _ _ (continues_name c a.0) (continue_name cs a.1) where
+  both : (x y : Bool) → x ≡ true → y ≡ true → (x && y) ≡ true
+  both x y e f = cc
+
+plain_ascii : (c : ℕ) → continues_plain c ≡ true → c < 128
+plain_ascii c h = grind (arith, nat_tests)
+
+ascii_all : (cs : List ℕ) → list_all continues_plain cs ≡ true → encode_utf8_all cs ≡ cs
+ascii_all [] h = refl
+ascii_all (c ∷ cs) h = let a = and_parts _ _ h in
+    ap (λ v. v ++ encode_utf8_all cs) (encode_ascii c (plain_ascii c a.0)) ∙ ap (λ v. c ∷ v) (ascii_all cs a.1)
+
+begins_continues : (c : ℕ) → begins_plain c ≡ true → continues_plain c ≡ true
+begins_continues c h = first_holds (begins_plain c || is_in_range 48 57 c) (is_in_range 45 46 c) (first_holds (begins_plain c) (is_in_range 48 57 c) h)
+
+-- a plain name is its own characters
+plain_name : (name : List ℕ) → is_plain_name name ≡ true → IsPlainPart name
+plain_name [] h = absurd (both_ways false refl h)
+plain_name (c ∷ cs) h = let a = and_parts _ _ h in record {
+  local = c ∷ cs;
+  part = both _ _ (begins_name c a.0) (continue_name cs a.1);
+  encoded = ap (λ v. v ++ encode_utf8_all cs) (encode_ascii c (plain_ascii c (begins_continues c a.0))) ∙ ap (λ v. c ∷ v) (ascii_all cs a.1);
+} where
+  both : (x y : Bool) → x ≡ true → y ≡ true → (x && y) ≡ true
+  both x y e f = cc
+
+-- ---- the token
+
+abbrev tag_token : TagKind → List ℕ → Token
+tag_token StartKind cs = Start (record { name = Plain cs; attributes = []; gap = []; is_empty = false })
+tag_token EmptyKind cs = Start (record { name = Plain cs; attributes = []; gap = []; is_empty = true })
+tag_token EndKind cs = End (Plain cs) []
+
+marks_bytes : (encode_utf8_all (60 ∷ []) ≡ 60 ∷ []) × (encode_utf8_all (60 ∷ 47 ∷ []) ≡ 60 ∷ 47 ∷ []) × (encode_utf8_all (62 ∷ []) ≡ 62 ∷ []) × (encode_utf8_all (47 ∷ 62 ∷ []) ≡ 47 ∷ 62 ∷ [])
+unfolding encode_utf8
+marks_bytes = (refl, refl, refl, refl)
+
+-- characters between marks
+between_marks : (front cs back name bytes more : List ℕ) → encode_utf8_all front ≡ bytes → encode_utf8_all back ≡ more → encode_utf8_all cs ≡ name → encode_utf8_all (front ++ (cs ++ back)) ≡ bytes ++ (name ++ more)
+between_marks front cs back name bytes more e f g =
+    encodes-append front (cs ++ back) ∙ (ap (λ v. v ++ encode_utf8_all (cs ++ back)) e ∙ ap (λ v. bytes ++ v) (encodes-append cs back ∙ (ap (λ v. v ++ encode_utf8_all back) g ∙ ap (λ v. name ++ v) f)))
+
+pub tag_bytes : (kind : TagKind) (cs name : List ℕ) → encode_utf8_all cs ≡ name → token_bytes (tag_token kind cs) ≡ tag_text kind name
+tag_bytes StartKind cs name e = ap (λ v. encode_utf8_all (60 ∷ (v ++ 62 ∷ []))) (append-nil (cs ++ []) ∙ append-nil cs) ∙ between_marks (60 ∷ []) cs (62 ∷ []) name (60 ∷ []) (62 ∷ []) marks_bytes.0 marks_bytes.2 e
+tag_bytes EmptyKind cs name e = ap (λ v. encode_utf8_all (60 ∷ (v ++ 47 ∷ 62 ∷ []))) (append-nil (cs ++ []) ∙ append-nil cs) ∙ between_marks (60 ∷ []) cs (47 ∷ 62 ∷ []) name (60 ∷ []) (47 ∷ 62 ∷ []) marks_bytes.0 marks_bytes.3 e
+tag_bytes EndKind cs name e = ap (λ v. encode_utf8_all (60 ∷ 47 ∷ (v ++ 62 ∷ []))) (append-nil cs) ∙ between_marks (60 ∷ 47 ∷ []) cs (62 ∷ []) name (60 ∷ 47 ∷ []) (62 ∷ []) marks_bytes.1 marks_bytes.2 e
+
+module _ (before : List Token) (opened : List ℕ) (es : List Expanded) (inside : IsPlainInside (open_tags before) opened) (expand : AreExpanded (open_tags before) es) where
+  some_open : (tags : List Opening) → IsPlainInside tags opened → (length tags == 0) ≡ false
+  some_open [] i = absurd i
+  some_open (tag ∷ tags) i = not_zero (length tags)
+
+  pub is_inside : is_outside before ≡ false
+  is_inside = some_open (open_tags before) inside
+
+  not_over : is_over before ≡ false
+  not_over = ap (λ b. has_start before && b) is_inside ∙ by (has_start before) where
+    by : (b : Bool) → (b && false) ≡ false
+    by true = refl
+    by false = refl
+
+  bound : namespace_of (open_tags before) [] ≡ Some (innermost_namespace es)
+  bound = innermost_default (open_tags before) es opened expand inside
+
+  module _ (cs name : List ℕ) (part : is_part cs ≡ true) (encoded : encode_utf8_all cs ≡ name) where
+    abbrev named : Expanded
+    named = record { namespace = innermost_namespace es; local = name }
+
+    started_rule : (if is_none (expanded (namespace_of (open_tags before) []) (encode_utf8_all cs)) || false then Some BadPrefix else (if is_over before then Some AfterRoot else None)) ≡ None
+    started_rule = ap (λ o. if is_none (expanded o (encode_utf8_all cs)) || false then Some BadPrefix else (if is_over before then Some AfterRoot else None)) bound ∙ ap (λ b. if b then Some AfterRoot else None) not_over
+
+    ended_rule : (tags : List Opening) → IsPlainInside tags opened → name ≡ opened → end_rule tags (record { prefix = []; local = encode_utf8_all cs }) ≡ None
+    ended_rule [] i e = absurd i
+    ended_rule (tag ∷ tags) i e =
+        ap (λ (n : Spelled). if bytes_eq n.prefix [] && bytes_eq n.local (encode_utf8_all cs) then None else Some TagMismatch) i
+        ∙ ap (λ b. if b then None else Some TagMismatch) ((bytes_eq-Decides opened (encode_utf8_all cs)).1 (sym (encoded ∙ e)))
+
+    clean : (kind : TagKind) → may_be_named kind opened name → rule_of before (tag_token kind cs) ≡ None
+    clean StartKind m = started_rule
+    clean EmptyKind m = started_rule
+    clean EndKind m = ended_rule (open_tags before) inside m
+
+    tells : (kind : TagKind) → may_be_named kind opened name → items_of before (tag_token kind cs) ≡ tag_items kind named
+    tells StartKind m = ap (λ o. started (expanded o (encode_utf8_all cs)) [] false) bound ∙ ap (λ v. started (Some (record { namespace = innermost_namespace es; local = v })) [] false) encoded
+    tells EmptyKind m = ap (λ o. started (expanded o (encode_utf8_all cs)) [] true) bound ∙ ap (λ v. started (Some (record { namespace = innermost_namespace es; local = v })) [] true) encoded
+    tells EndKind m = innermost_ends (open_tags before) es opened expand inside ∙ ap (λ v. Ends (record { namespace = innermost_namespace es; local = v }) ∷ []) (sym m)
+
+    stands_here : (kind : TagKind) → in_cdata before ≡ false → (after : List ℕ) → stands before (tag_token kind cs) after ≡ true
+    stands_here StartKind c after = ap (λ b. if b then false else ((is_part cs && true) && true)) c ∙ ap (λ b. (b && true) && true) part
+    stands_here EmptyKind c after = ap (λ b. if b then false else ((is_part cs && true) && true)) c ∙ ap (λ b. (b && true) && true) part
+    stands_here EndKind c after = ap (λ b. if b then false else (is_part cs && true)) c ∙ ap (λ b. b && true) part
+
+    short : (kind : TagKind) → length (tag_text kind name) ≤ tag_limit → is_short tag_limit (tag_token kind cs) ≡ true
+    short StartKind l = le-leb _ _ (subst (λ v. length v ≤ tag_limit) (sym (tag_bytes StartKind cs name encoded)) l)
+    short EmptyKind l = le-leb _ _ (subst (λ v. length v ≤ tag_limit) (sym (tag_bytes EmptyKind cs name encoded)) l)
+    short EndKind l = le-leb _ _ (subst (λ v. length v ≤ tag_limit) (sym (tag_bytes EndKind cs name encoded)) l)
+
+    stays : (kind : TagKind) (p : Position) → behind_token p (ended_of (tag_token kind cs)) ≡ after_other p
+    stays StartKind p = refl
+    stays EmptyKind p = refl
+    stays EndKind p = refl
+
+    pub is_next : (kind : TagKind) → may_be_named kind opened name → in_cdata before ≡ false → length (tag_text kind name) ≤ tag_limit → IsNext before (tag_token kind cs)
+    is_next kind m c l = record { is = stands_here kind c; short = short kind l; clean = clean kind m; stays = stays kind }
+
+    pub context_behind : (kind : TagKind) (k : Context) (scope : Scope) → IsContext k before → IsScope scope (tags_behind kind name (open_tags before)) → IsContext (record { scope = scope; has_root = k.has_root; brackets = 0 }) (tag_token kind cs ∷ before)
+    context_behind StartKind k scope i s = record { scope = subst (λ v. IsScope scope (tags_behind StartKind v (open_tags before))) (sym encoded) s; root = i.root ∙ inside_started before is_inside; brackets_are = refl }
+    context_behind EmptyKind k scope i s = record { scope = s; root = i.root ∙ inside_started before is_inside; brackets_are = refl }
+    context_behind EndKind k scope i s = record { scope = s; root = i.root; brackets_are = refl }
+
+-- ---- the reader
+
+text_place : (s : Scan) (p : Position) → is_text s ≡ true → Begin p ≡ s → is_cdata p ≡ false
+text_place s Cdata h e = absurd (both_ways false refl (ap is_text e ∙ h))
+text_place s AtStart h e = refl
+text_place s AfterMark h e = refl
+text_place s Text h e = refl
+
+text_between : (s : Scan) → is_text s ≡ true → is_between s ≡ true
+text_between (Begin Text) h = refl
+text_between _ h = absurd (both_ways false refl h)
+
+module _ (r : Reader) (scope : Scope) (bytes piece : List ℕ) (told : List Placed) (kind : TagKind) (name : List ℕ) (count : ℕ) (h : HasTaken r bytes told) (text : is_in_text r.tokenizer ≡ true)
+    (tag : (tags : List Opening) → IsScope r.context.scope tags → IsTagInside piece tags kind name count)
+    (scope_is : (tags : List Opening) (opened : List ℕ) → IsScope r.context.scope tags → IsPlainInside tags opened → IsScope scope (tags_behind kind name tags)) where
+  abbrev before : List Token
+  before = reverse h.0
+
+  abbrev tags : List Opening
+  tags = open_tags before
+
+  t : IsTagInside piece tags kind name count
+  t = tag tags h.1.context.scope
+
+  abbrev es : List Expanded
+  es = open_behind [] (events [] 0 h.0)
+
+  expand : AreExpanded tags es
+  expand = open_expanded h.0 h.1.clean
+
+  between : is_between r.tokenizer.scan ≡ true
+  between = text_between r.tokenizer.scan (and_parts _ _ text).0
+
+  part : IsPlainPart name
+  part = by kind t.at.named where
+    by : (kind : TagKind) → may_be_named kind t.opened name → IsPlainPart name
+    by StartKind m = plain_name name m
+    by EmptyKind m = plain_name name m
+    by EndKind m = subst IsPlainPart (sym m) (innermost_part tag_limit (bytes ++ []) (h.1.reads.bytes ++ []) h.0 t.opened (h.1.reads.front [] tt) t.inside)
+
+  no_cdata : in_cdata before ≡ false
+  no_cdata = in_cdata-open r.tokenizer before h.1.reads.bytes h.1.reads.opens ∙ text_place r.tokenizer.scan r.tokenizer.position (and_parts _ _ text).0 (is_fresh r.tokenizer between (and_parts _ _ text).1 before h.1.reads.bytes h.1.reads.opens).scan_here
+
+  size : length (tag_text kind name) ≡ count
+  size = ap length (sym t.at.spelled) ∙ length-take-le count piece t.at.within
+
+  abbrev token : Token
+  token = tag_token kind part.local
+
+  token_is : token_bytes token ≡ tag_text kind name
+  token_is = tag_bytes kind part.local name part.encoded
+
+  next : IsNext before token
+  next = is_next before t.opened es t.inside expand part.local name part.part part.encoded kind t.at.named no_cdata (subst (λ n. n ≤ tag_limit) (sym size) t.at.short)
+
+  abbrev context : Context
+  context = record { scope = scope; has_root = r.context.has_root; brackets = 0 }
+
+  taken : HasTaken (record { tokenizer = passed r.tokenizer count; context = context; failed = r.failed }) (bytes ++ token_bytes token) (told ++ placed_at (length bytes) (items_of before token))
+  taken = takes_next r bytes told h between (and_parts _ _ text).1 token count context next (sym (ap length token_is ∙ size))
+      (context_behind before t.opened es t.inside expand part.local name part.part part.encoded kind r.context scope h.1.context (scope_is tags t.opened h.1.context.scope t.inside))
+
+  items : items_of before token ≡ tag_items kind (name_behind told name)
+  items = tells before t.opened es t.inside expand part.local name part.part part.encoded kind t.at.named
+      ∙ ap (λ v. tag_items kind (record { namespace = innermost_namespace (open_behind [] v); local = name })) (sym (all_told r bytes told h between (and_parts _ _ text).1))
+
+  pub takes_tag : HasTold (record { tokenizer = passed r.tokenizer count; context = context; failed = r.failed }) (bytes ++ take count piece) (told ++ placed_at (length bytes) (tag_items kind (name_behind told name)))
+  takes_tag = told_so_far (record { tokenizer = passed r.tokenizer count; context = context; failed = r.failed }) (bytes ++ take count piece) (told ++ placed_at (length bytes) (tag_items kind (name_behind told name)))
+      (subst (λ v. HasTaken (record { tokenizer = passed r.tokenizer count; context = context; failed = r.failed }) (bytes ++ v) (told ++ placed_at (length bytes) (tag_items kind (name_behind told name)))) (token_is ∙ sym t.at.spelled)
+      (subst (λ v. HasTaken (record { tokenizer = passed r.tokenizer count; context = context; failed = r.failed }) (bytes ++ token_bytes token) (told ++ placed_at (length bytes) v)) items taken))
+
+-- a reader behind which the tag may come is where one begins
+first_is_outside : (before : List Token) (opened : List ℕ) → is_first before ≡ true → IsPlainInside (open_tags before) opened → ⊥
+first_is_outside [] opened h i = i
+first_is_outside (Mark ∷ []) opened h i = i
+first_is_outside (t ∷ before) opened h i = first_two t before h i where
+  first_two : (t : Token) (before : List Token) → is_first (t ∷ before) ≡ true → IsPlainInside (open_tags (t ∷ before)) opened → ⊥
+  first_two Mark [] h i = i
+  first_two _ _ h i = both_ways false refl h
+
+begins_text : (before : List Token) (opened : List ℕ) → in_cdata before ≡ false → IsPlainInside (open_tags before) opened → is_text (Begin (position before)) ≡ true
+begins_text [] opened c i = absurd i
+begins_text (t ∷ before) opened c i = by (is_first (t ∷ before)) (in_cdata (t ∷ before)) c (λ f. first_is_outside (t ∷ before) opened f i) where
+  by : (f g : Bool) → g ≡ false → (f ≡ true → ⊥) → is_text (Begin (placed_by f g)) ≡ true
+  by true g e n = absurd (n refl)
+  by false true e n = absurd (both_ways true e refl)
+  by false false e n = refl
+
+pub text_here : (r : Reader) (bytes : List ℕ) (told : List Placed) (kind : TagKind) (name : List ℕ) → MayTakeTag r bytes told kind name → is_in_text r.tokenizer ≡ true
+text_here r bytes told kind name m =
+    let ts = m.tokens in
+    let o = m.keeps.reads.opens in
+    let begun : r.tokenizer.place ≡ r.tokenizer.start = m.keeps.place ∙ (ap length (sym m.whole) ∙ sym (starts r bytes ts told m.keeps)) in
+    let none = no_chars o.chars o.part (ap length (sym o.bytes_are) ∙ count r.tokenizer.place r.tokenizer.start (length m.keeps.reads.bytes) o.place_is begun) in
+    let scan_is : (Begin (position (reverse ts)) ≡ r.tokenizer.scan) × (no_draft ≡ r.tokenizer.draft) = at_same (Begin (position (reverse ts))) r.tokenizer.scan no_draft r.tokenizer.draft (ap (run (Begin (position (reverse ts))) no_draft) (sym none.0) ∙ o.scan_is) in
+    both (is_text r.tokenizer.scan) (r.tokenizer.place == r.tokenizer.start) (ap is_text (sym scan_is.0) ∙ begins_text (reverse ts) m.opened m.in_text m.inside) (subst (λ v. (r.tokenizer.place == v) ≡ true) begun (same_place r.tokenizer.place)) where
+      count : (p s n : ℕ) → p ≡ s + n → p ≡ s → n ≡ 0
+      count p s n h k = omega arith
+
+      same_place : (p : ℕ) → (p == p) ≡ true
+      same_place p = grind (arith, nat_tests)
+
+      both : (x y : Bool) → x ≡ true → y ≡ true → (x && y) ≡ true
+      both x y e f = cc

@@ -1,0 +1,157 @@
+-- A plain tag that is found at the front of a piece.
+use Rattle.std.proofs.Common.{◌≡◌, ℕ, suc, Bool, true, false, ◌==◌, ◌||◌, ◌&&◌, cond, ◌+◌, ◌<◌, ◌≤◌, List, [], ◌∷◌, ◌++◌, length, take, drop, Option, Some, None, refl, sym, ◌∙◌, ap, subst, append_assoc, length-append, arith}
+use Rattle.std.specs.Bool.{if◌then◌else◌}
+use Rattle.std.specs.Int.{is_in_range}
+use Rattle.std.specs.List.{list_all, prefix_len}
+use Rattle.std.proofs.lemmas.Bool.{and_parts, eqb-true}
+use Rattle.std.proofs.lemmas.List.{take-append-drop}
+use Rattle.std.proofs.Math.Seq.{take-append_seam, drop-append_seam}
+use Rattle.markup.specs.Marks.{tag_limit}
+use Rattle.markup.specs.PlainTags.{begins_plain, continues_plain, is_plain_name, tag_text, mark_count, may_be_named, IsTagAt, closing, slashed}
+use Rattle.markup.specs.declared.plain_tag.PlainTag.{PlainTag}
+use Rattle.std.specs.Option.{IfSome}
+use Rattle.markup.specs.declared.plain_tag.TagKind.{TagKind}
+use Rattle.markup.specs.declared.plain_tag.TagKind.TheVariants.{Start, Empty, End}
+
+-- a tag has bytes
+some_text : (kind : TagKind) (name : List ℕ) → 0 < length (tag_text kind name)
+some_text Start name = omega arith
+some_text Empty name = omega arith
+some_text End name = omega arith
+
+-- a tag with what follows it
+pub found : (piece opened : List ℕ) (kind : TagKind) (name rest : List ℕ) (count : ℕ) → piece ≡ tag_text kind name ++ rest → count ≡ length (tag_text kind name) → count ≤ tag_limit → may_be_named kind opened name → IsTagAt piece opened kind name count
+found piece opened kind name rest count e c s m = record {
+  spelled = ap (λ v. take count v) e ∙ (ap (λ n. take n (tag_text kind name ++ rest)) c ∙ take-append_seam (tag_text kind name) rest);
+  some = subst (λ n. 0 < n) (sym c) (some_text kind name);
+  within = omega (arith, c, ap length e, length-append (tag_text kind name) rest);
+  short = s;
+  named = m;
+}
+
+pub tag_size : (kind : TagKind) (name : List ℕ) → length name + mark_count kind ≡ length (tag_text kind name)
+tag_size Start name = omega (arith, length-append name (62 ∷ []))
+tag_size Empty name = omega (arith, length-append name (47 ∷ 62 ∷ []))
+tag_size End name = omega (arith, length-append name (62 ∷ []))
+
+if_some : {X : Type 0} (o : Option X) (P Q : X → Type 0) → ((x : X) → P x → Q x) → IfSome o P → IfSome o Q
+if_some None P Q f h = h
+if_some (Some x) P Q f h = f x h
+
+-- what is found of a name
+pub bounded_found : (result : Option PlainTag) (piece opened : List ℕ) (kind : TagKind) (name rest : List ℕ) → piece ≡ tag_text kind name ++ rest → may_be_named kind opened name
+    → IfSome result (λ tag. (tag.kind ≡ kind) × (tag.name.now ≡ name) × (tag.bytes ≡ length name + mark_count kind) × (tag.bytes ≤ tag_limit))
+    → IfSome result (λ tag. IsTagAt piece opened tag.kind tag.name.now tag.bytes)
+bounded_found result piece opened kind name rest e m h = if_some result _ _
+    (λ tag f. subst (λ k. IsTagAt piece opened k tag.name.now tag.bytes) (sym f.0) (subst (λ n. IsTagAt piece opened kind n tag.bytes) (sym f.1) (found piece opened kind name rest tag.bytes e (f.2 ∙ tag_size kind name) f.3 m))) h
+
+-- ---- end tags
+
+-- the bytes of the front and of the back of a list
+two_parts : (xs front back : List ℕ) (n : ℕ) → front ≡ take n xs → back ≡ drop n xs → xs ≡ front ++ back
+two_parts xs front back n f b = sym (take-append-drop n xs) ∙ (ap (λ v. v ++ drop n xs) (sym f) ∙ ap (λ v. front ++ v) (sym b))
+
+pub end_parts : (behind name after rest : List ℕ) (n b : ℕ) → name ≡ take n behind → after ≡ drop n behind → after ≡ b ∷ rest → b ≡ 62 → 60 ∷ 47 ∷ behind ≡ tag_text End name ++ rest
+end_parts behind name after rest n b t d a e =
+    ap (λ v. 60 ∷ 47 ∷ v) (two_parts behind name after n t d ∙ (ap (λ v. name ++ v) (a ∙ ap (λ x. x ∷ rest) e) ∙ sym (append_assoc name (62 ∷ []) rest)))
+
+-- an end tag of the name stands there
+pub ends_there : (behind opened name after rest : List ℕ) → name ≡ take (length opened) behind → after ≡ drop (length opened) behind → behind ≡ opened ++ 62 ∷ rest → (name ≡ opened) × (after ≡ 62 ∷ rest)
+ends_there behind opened name after rest t d e = (t ∙ (ap (take (length opened)) e ∙ take-append_seam opened (62 ∷ rest)), d ∙ (ap (drop (length opened)) e ∙ drop-append_seam opened (62 ∷ rest)))
+
+-- ---- start tags
+
+begins_continues : (c : ℕ) → begins_plain c ≡ true → continues_plain c ≡ true
+begins_continues c h = ap (λ b. b || is_in_range 48 57 c || is_in_range 45 46 c) h
+
+names_continue : (xs : List ℕ) → list_all continues_plain (take (prefix_len continues_plain xs) xs) ≡ true
+names_continue [] = refl
+names_continue (x ∷ xs) = by (continues_plain x) refl (names_continue xs) where
+  by : (b : Bool) → continues_plain x ≡ b → list_all continues_plain (take (prefix_len continues_plain xs) xs) ≡ true → list_all continues_plain (take (cond b (1 + prefix_len continues_plain xs) 0) (x ∷ xs)) ≡ true
+  by true e h = subst (λ n. list_all continues_plain (take n (x ∷ xs)) ≡ true) (one (prefix_len continues_plain xs)) (ap (λ b. b && list_all continues_plain (take (prefix_len continues_plain xs) xs)) e ∙ h) where
+    one : (n : ℕ) → suc n ≡ 1 + n
+    one n = omega arith
+  by false e h = refl
+
+-- the name at the front of a piece that begins with one
+pub name_found : (b : ℕ) (behind xs name : List ℕ) (n : ℕ) → behind ≡ b ∷ xs → begins_plain b ≡ true → n ≡ prefix_len continues_plain behind → name ≡ take n behind → is_plain_name name ≡ true
+name_found b behind xs name n e h c t = subst (λ v. is_plain_name v ≡ true) (sym (t ∙ (ap (λ m. take m behind) (c ∙ (ap (prefix_len continues_plain) e ∙ (ap (λ t. cond t (1 + prefix_len continues_plain xs) 0) (begins_continues b h) ∙ one (prefix_len continues_plain xs)))) ∙ ap (take (suc (prefix_len continues_plain xs))) e)))
+    (ap (λ t. t && list_all continues_plain (take (prefix_len continues_plain xs) xs)) h ∙ names_continue xs) where
+      one : (n : ℕ) → 1 + n ≡ suc n
+      one n = omega arith
+
+-- what closes a start tag
+kind_same : (k l : TagKind) → Some k ≡ Some l → k ≡ l
+kind_same k l h = cc
+
+slashed_is : (after : List ℕ) (kind : TagKind) → slashed after ≡ Some kind → (rest : List ℕ) × (kind ≡ Empty) × (after ≡ 62 ∷ rest)
+slashed_is [] kind h = absurd (cc)
+slashed_is (b ∷ rest) kind h = by (b == 62) refl h where
+  by : (t : Bool) → (b == 62) ≡ t → (if t then Some Empty else None) ≡ Some kind → (r : List ℕ) × (kind ≡ Empty) × (b ∷ rest ≡ 62 ∷ r)
+  by true e h = (rest, sym (kind_same Empty kind h), ap (λ x. x ∷ rest) (eqb-true b 62 e))
+  by false e h = absurd (cc)
+
+pub closing_is : (name after : List ℕ) (kind : TagKind) → closing after ≡ Some kind → (rest : List ℕ) × (60 ∷ (name ++ after) ≡ tag_text kind name ++ rest) × ((opened : List ℕ) → is_plain_name name ≡ true → may_be_named kind opened name)
+closing_is name [] kind h = absurd (cc)
+closing_is name (b ∷ after) kind h = by (b == 62) (b == 47) refl refl h where
+  by : (t u : Bool) → (b == 62) ≡ t → (b == 47) ≡ u → (if t then Some Start else (if u then slashed after else None)) ≡ Some kind
+      → (rest : List ℕ) × (60 ∷ (name ++ b ∷ after) ≡ tag_text kind name ++ rest) × ((opened : List ℕ) → is_plain_name name ≡ true → may_be_named kind opened name)
+  by true u e f h = (
+    after,
+    ap (λ x. 60 ∷ (name ++ x ∷ after)) (eqb-true b 62 e) ∙ (ap (λ v. 60 ∷ v) (sym (append_assoc name (62 ∷ []) after)) ∙ ap (λ k. tag_text k name ++ after) (kind_same Start kind h)),
+    λ opened p. subst (λ k. may_be_named k opened name) (kind_same Start kind h) p,
+  )
+  by false true e f h = let s = slashed_is after kind h in (
+    s.0,
+    ap (λ x. 60 ∷ (name ++ x ∷ after)) (eqb-true b 47 f) ∙ (ap (λ v. 60 ∷ (name ++ 47 ∷ v)) s.2 ∙ (ap (λ v. 60 ∷ v) (sym (append_assoc name (47 ∷ 62 ∷ []) s.0)) ∙ ap (λ k. tag_text k name ++ s.0) (sym s.1))),
+    λ opened p. subst (λ k. may_be_named k opened name) (sym s.1) p,
+  )
+  by false false e f h = absurd (cc)
+
+-- a start tag stands there
+ends_name : (after : List ℕ) (kind : TagKind) → closing after ≡ Some kind → prefix_len continues_plain after ≡ 0
+ends_name [] kind h = refl
+ends_name (b ∷ after) kind h = by (b == 62) (b == 47) refl refl h where
+  by : (t u : Bool) → (b == 62) ≡ t → (b == 47) ≡ u → (if t then Some Start else (if u then slashed after else None)) ≡ Some kind → prefix_len continues_plain (b ∷ after) ≡ 0
+  by true u e f h = ap (λ x. prefix_len continues_plain (x ∷ after)) (eqb-true b 62 e)
+  by false true e f h = ap (λ x. prefix_len continues_plain (x ∷ after)) (eqb-true b 47 f)
+  by false false e f h = absurd (cc)
+
+name_length : (name after : List ℕ) (kind : TagKind) → list_all continues_plain name ≡ true → closing after ≡ Some kind → prefix_len continues_plain (name ++ after) ≡ length name
+name_length [] after kind h k = ends_name after kind k
+name_length (c ∷ cs) after kind h k = let a = and_parts _ _ h in
+    ap (λ t. cond t (1 + prefix_len continues_plain (cs ++ after)) 0) a.0 ∙ (ap (λ n. 1 + n) (name_length cs after kind a.1 k) ∙ one (length cs)) where
+      one : (n : ℕ) → 1 + n ≡ suc n
+      one n = omega arith
+
+all_continue : (name : List ℕ) → is_plain_name name ≡ true → list_all continues_plain name ≡ true
+all_continue [] h = refl
+all_continue (c ∷ cs) h = let a = and_parts _ _ h in ap (λ t. t && list_all continues_plain cs) (begins_continues c a.0) ∙ a.1
+
+pub starts_there : (behind name after found rest : List ℕ) (n : ℕ) (kind : TagKind) → is_plain_name name ≡ true → behind ≡ name ++ after → closing after ≡ Some kind → n ≡ prefix_len continues_plain behind → found ≡ take n behind → rest ≡ drop n behind → (found ≡ name) × (rest ≡ after)
+starts_there behind name after found rest n kind p e k c t d =
+    let s : n ≡ length name = c ∙ (ap (prefix_len continues_plain) e ∙ name_length name after kind (all_continue name p) k) in
+    (t ∙ (ap (λ m. take m behind) s ∙ (ap (take (length name)) e ∙ take-append_seam name after)), d ∙ (ap (λ m. drop m behind) s ∙ (ap (drop (length name)) e ∙ drop-append_seam name after)))
+
+none_some : (kind : TagKind) → None ≡ Some kind → ⊥
+none_some kind e = cc
+
+-- what closes it is not missed
+pub closed_there : (behind name after found rest : List ℕ) (n : ℕ) (kind : TagKind) → is_plain_name name ≡ true → behind ≡ name ++ after → closing after ≡ Some kind → n ≡ prefix_len continues_plain behind → found ≡ take n behind → rest ≡ drop n behind → closing rest ≡ None → ⊥
+closed_there behind name after found rest n kind p e k c t d h = none_some kind (sym h ∙ (ap closing (starts_there behind name after found rest n kind p e k c t d).1 ∙ k))
+
+-- and the tag is no longer than it is
+pub start_short : (behind name after found rest : List ℕ) (n : ℕ) (kind k2 : TagKind) → is_plain_name name ≡ true → behind ≡ name ++ after → closing after ≡ Some kind → n ≡ prefix_len continues_plain behind → found ≡ take n behind → rest ≡ drop n behind → closing rest ≡ Some k2
+    → length (tag_text kind name) ≤ tag_limit → length found + mark_count k2 ≤ tag_limit
+start_short behind name after found rest n kind k2 p e k c t d h l =
+    let s = starts_there behind name after found rest n kind p e k c t d in
+    let q : kind ≡ k2 = kind_same kind k2 (sym k ∙ (ap closing (sym s.1) ∙ h)) in
+    subst (λ m. length found + mark_count m ≤ tag_limit) q (subst (λ v. length v + mark_count kind ≤ tag_limit) (sym s.0) (subst (λ m. m ≤ tag_limit) (sym (tag_size kind name)) l))
+
+-- a start tag is what its bytes are
+pub start_found : (result : Option PlainTag) (behind opened xs found after : List ℕ) (n b : ℕ) (kind : TagKind) → behind ≡ b ∷ xs → begins_plain b ≡ true → n ≡ prefix_len continues_plain behind → found ≡ take n behind → after ≡ drop n behind → closing after ≡ Some kind
+    → IfSome result (λ tag. (tag.kind ≡ kind) × (tag.name.now ≡ found) × (tag.bytes ≡ length found + mark_count kind) × (tag.bytes ≤ tag_limit))
+    → IfSome result (λ tag. IsTagAt (60 ∷ behind) opened tag.kind tag.name.now tag.bytes)
+start_found result behind opened xs found after n b kind e s c t d h r =
+    let k = closing_is found after kind h in
+    bounded_found result (60 ∷ behind) opened kind found k.0 (ap (λ v. 60 ∷ v) (two_parts behind found after n t d) ∙ k.1) (k.2 opened (name_found b behind xs found n e s c t)) r
