@@ -1,3 +1,3 @@
 pub mod Additions
-pub mod Identifiers
 pub mod Lookups
+pub mod Codes

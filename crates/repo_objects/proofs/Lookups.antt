@@ -10,7 +10,11 @@ use Rattle.std.specs.Str.{bytes_eq}
 use Rattle.indexmap.specs.IndexMap.{IndexMap, get, insert_entry}
 use Rattle.indexmap.proofs.CallerLemmas.{insert_entry-new}
 use Rattle.repo_objects.specs.declared.objects.Object.{Object}
-use Rattle.repo_objects.specs.Repository.{Entry, HasId}
+use Rattle.repo_objects.specs.Repository.{Entry, HasId, HasIdAt}
+use Rattle.std.specs.Prelude.{position, map, slice_get}
+use Rattle.std.proofs.lemmas.List.Quantifiers.{position-Some}
+use Rattle.std.proofs.lemmas.List.{length-map, get_or-map}
+use Rattle.std.proofs.Common.{suc, zero, length, get_or, subst, ◌<◌}
 use Rattle.repo_objects.specs.Stored.{entry_of, entries_of}
 
 -- what the map stores
@@ -97,3 +101,24 @@ inserted_last dictionary id object new =
     none_of : (r : Option Object) → (is_some r ≡ true → ⊥) → r ≡ None
     none_of None h = refl
     none_of (Some x) h = absurd (h refl)
+
+-- a place that is found is that of an object with that id
+pub placed_at : (id : List ℕ) (stored : List Stored) (k : ℕ) → position (named id) (map (λ (e : Stored). e.0) stored) ≡ Some k → HasIdAt (entries_of stored) k id
+placed_at id [] k h = absurd (true≢false (sym (ap is_some h)))
+placed_at id (e ∷ es) k h =
+    let keys = map (λ (e : Stored). e.0) (e ∷ es) in
+    let at = position-Some (named id) keys k e.0 h in
+    let within : k < length (e ∷ es) = subst (λ n. k < n) (length-map (e ∷ es) (λ (e : Stored). e.0)) at.0 in
+    let stored = get_or (e ∷ es) k e in
+    let key : get_or keys k e.0 ≡ stored.0 = get_or-map (λ (e : Stored). e.0) (e ∷ es) k e e.0 within in
+    (entry_of stored, there (e ∷ es) k e within, sym ((bytes_eq-Decides id stored.0.items).0 (subst (λ v. named id v ≡ true) key at.1)))
+  where
+    there : (xs : List Stored) (k : ℕ) (d : Stored) → k < length xs → slice_get (entries_of xs) k ≡ Some (entry_of (get_or xs k d))
+    there [] k d l = absurd (omega (arith, l))
+    there (x ∷ xs) zero d l = refl
+    there (x ∷ xs) (suc k) d l = there xs k d (omega (arith, l))
+
+pub place_of_result : (id : List ℕ) (stored : List Stored) (result : Option ℕ) → result ≡ position (named id) (map (λ (e : Stored). e.0) stored)
+    → IfSome result (λ k. HasIdAt (entries_of stored) k id)
+place_of_result id stored None h = tt
+place_of_result id stored (Some k) h = placed_at id stored k (sym h)

@@ -1,5 +1,4 @@
 pub mod AddError
-pub mod Cut
 pub mod Laws
 pub mod MessageId
 pub mod Objects

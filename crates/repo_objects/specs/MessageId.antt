@@ -1,47 +1,39 @@
--- The form of a message identifier: four parts, each of its own length and characters, joined by points.
-use Rattle.std.specs.Prelude.{◌≡◌, ℕ, ◌≤◌, ◌⊎◌, List, ◌++◌, length, codes, All}
+-- The form of a message identifier (ISO 20022-4), as `pacs.008.001.08`: a business area, a functionality, a flavour and a version.
+use Rattle.std.specs.Prelude.{ℕ, Bool, IsTrue, ◌&&◌, ◌||◌, ◌==◌, nat_le, List, length, take, drop, get_or}
+use Rattle.std.specs.List.{list_all}
 
 -- an ASCII letter of lower case
-abbrev pub IsLowerLetter : ℕ → Type 0
-IsLowerLetter byte = (97 ≤ byte) × (byte ≤ 122)
+abbrev pub is_lower_letter : ℕ → Bool
+is_lower_letter byte = nat_le 97 byte && nat_le byte 122
 
 -- an ASCII letter of upper case
-abbrev pub IsUpperLetter : ℕ → Type 0
-IsUpperLetter byte = (65 ≤ byte) × (byte ≤ 90)
+abbrev pub is_upper_letter : ℕ → Bool
+is_upper_letter byte = nat_le 65 byte && nat_le byte 90
 
 -- an ASCII digit
-abbrev pub IsDigit : ℕ → Type 0
-IsDigit byte = (48 ≤ byte) × (byte ≤ 57)
+abbrev pub is_digit : ℕ → Bool
+is_digit byte = nat_le 48 byte && nat_le byte 57
 
 -- an ASCII letter or digit
-abbrev pub IsLetterOrDigit : ℕ → Type 0
-IsLetterOrDigit byte = IsDigit byte ⊎ IsUpperLetter byte ⊎ IsLowerLetter byte
+abbrev pub is_letter_or_digit : ℕ → Bool
+is_letter_or_digit byte = is_lower_letter byte || is_upper_letter byte || is_digit byte
 
--- that many bytes of a class
-pub record IsPart (IsOfClass : ℕ → Type 0) (count : ℕ) (bytes : List ℕ) : Type 0 where
-  pub as_long : length bytes ≡ count
-  pub of_class : All IsOfClass bytes
+-- the byte there is a point
+abbrev pub is_point_at : ℕ → List ℕ → Bool
+is_point_at at bytes = get_or bytes at 0 == 46
 
--- the parts of a message identifier
-pub record IdParts : Type 0 where
-  pub area : List ℕ
-  pub functionality : List ℕ
-  pub flavour : List ℕ
-  pub version : List ℕ
+-- four letters of lower case, three letters or digits, three digits and two digits, with points between them
+abbrev pub is_message_id : List ℕ → Bool
+is_message_id bytes =
+    (length bytes == 15)
+    && list_all is_lower_letter (take 4 bytes)
+    && is_point_at 4 bytes
+    && list_all is_letter_or_digit (take 3 (drop 5 bytes))
+    && is_point_at 8 bytes
+    && list_all is_digit (take 3 (drop 9 bytes))
+    && is_point_at 12 bytes
+    && list_all is_digit (take 2 (drop 13 bytes))
 
--- what each part may be: ISO 20022-4
-pub record AreIdParts (parts : IdParts) : Type 0 where
-  pub area : IsPart IsLowerLetter 4 parts.area
-  pub functionality : IsPart IsLetterOrDigit 3 parts.functionality
-  pub flavour : IsPart IsDigit 3 parts.flavour
-  pub version : IsPart IsDigit 2 parts.version
-
--- the parts joined by points
-abbrev pub id_spelling : IdParts → List ℕ
-id_spelling parts = parts.area ++ (codes "." ++ (parts.functionality ++ (codes "." ++ (parts.flavour ++ (codes "." ++ parts.version)))))
-
--- the bytes are four such parts, joined by points
-pub record IsMessageId (bytes : List ℕ) : Type 0 where
-  pub parts : IdParts
-  pub allowed : AreIdParts parts
-  pub spelled : bytes ≡ id_spelling parts
+-- the bytes have that form
+abbrev pub IsMessageId : List ℕ → Type 0
+IsMessageId bytes = IsTrue (is_message_id bytes)

@@ -3,6 +3,7 @@ use Rattle.std.specs.Prelude.{ℕ, List, Option, Some, None, All}
 use Rattle.lexical_core.specs.Characters.{IsXmlText}
 use Rattle.repo_objects.specs.declared.objects.Object.{Object}
 use Rattle.repo_objects.specs.declared.objects.ElementDef.{ElementDef}
+use Rattle.repo_objects.specs.declared.objects.CodeDef.{CodeDef}
 use Rattle.repo_objects.specs.declared.objects.MessageDef.{MessageDef}
 
 -- a text that may be absent
@@ -10,15 +11,28 @@ abbrev pub IsXmlTextIfAny : Option (List ℕ) → Type 0
 IsXmlTextIfAny None = Unit {0}
 IsXmlTextIfAny (Some text) = IsXmlText text
 
--- the texts of an entry of the data dictionary
-pub record HasObjectTexts (object : Object) : Type 0 where
-  pub name : IsXmlText object.name
-
--- the texts of a building block
+-- the texts of a building block or an element
 pub record HasElementTexts (element : ElementDef) : Type 0 where
   pub name : IsXmlText element.name
   pub tag : IsXmlText element.tag
   pub simple : IsXmlTextIfAny element.simple
+  pub complex : IsXmlTextIfAny element.complex
+  pub plain : IsXmlTextIfAny element.plain
+
+-- the texts of a code
+pub record HasCodeTexts (definition : CodeDef) : Type 0 where
+  pub name : IsXmlText definition.name
+  pub code : IsXmlTextIfAny definition.code
+
+-- the texts of an entry of the data dictionary
+pub record HasObjectTexts (object : Object) : Type 0 where
+  pub name : IsXmlText object.name
+  pub word : IsXmlText object.word
+  pub pattern : IsXmlTextIfAny object.facets.pattern
+  pub elements : All HasElementTexts object.elements
+  pub codes : All HasCodeTexts object.codes
+  pub trace : IsXmlTextIfAny object.trace
+  pub currency : IsXmlTextIfAny object.currency
 
 -- the texts of a message definition
 pub record HasMessageTexts (message : MessageDef) : Type 0 where

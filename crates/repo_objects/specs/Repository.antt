@@ -1,8 +1,9 @@
 -- What contracts see of a repository: the objects of its data dictionary under their ids, and its messages.
-use Rattle.std.specs.Prelude.{◌≢◌, ℕ, List, map, All, AllPairs, Contains}
+use Rattle.std.specs.Prelude.{◌≢◌, ℕ, zero, suc, List, [], ◌∷◌, map, All, AllPairs, Contains, slice_get, Some, ◌≡◌}
 use Rattle.lexical_core.specs.Characters.{IsXmlText}
 use Rattle.repo_objects.specs.declared.objects.Object.{Object}
 use Rattle.repo_objects.specs.declared.objects.MessageDef.{MessageDef}
+use Rattle.repo_objects.specs.declared.objects.CodeDef.{CodeDef}
 use Rattle.repo_objects.specs.Objects.{HasObjectTexts, HasMessageTexts}
 
 -- an object and the id that names it
@@ -22,6 +23,20 @@ ids_of entries = map (λ (entry : Entry). entry.id) entries
 -- some object has that id
 abbrev pub HasId : List Entry → List ℕ → Type 0
 HasId entries id = Contains (ids_of entries) id
+
+-- the object at that place has that id
+abbrev pub HasIdAt : List Entry → ℕ → List ℕ → Type 0
+HasIdAt entries at id = (e : Entry) × (slice_get entries at ≡ Some e) × (e.id ≡ id)
+
+-- the entry with these codes in the place of its own
+abbrev pub coded : List CodeDef → Entry → Entry
+coded codes entry = record entry { object = record entry.object { codes = codes } }
+
+-- the objects, where the one at that place has these codes in the place of its own
+abbrev pub with_codes : List Entry → ℕ → List CodeDef → List Entry
+with_codes [] at codes = []
+with_codes (entry ∷ entries) zero codes = coded codes entry ∷ entries
+with_codes (entry ∷ entries) (suc at) codes = entry ∷ with_codes entries at codes
 
 -- the texts of an entry
 pub record HasEntryTexts (entry : Entry) : Type 0 where

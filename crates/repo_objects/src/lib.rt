@@ -8,7 +8,9 @@ mod objects;
 mod repository;
 
 pub use message_id::MessageId;
-pub use objects::{ElementDef, Elements, Kinds, MessageDef, Object, ObjectKind, RawFacets};
+pub use objects::{
+    CodeDef, CodeDefs, ElementDef, Elements, Kinds, MessageDef, Object, ObjectKind, RawFacets,
+};
 pub use repository::{AddError, Repository};
 
 #[cfg(test)]

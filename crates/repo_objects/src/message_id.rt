@@ -1,7 +1,7 @@
 // The identifier of a message definition, as `pacs.008.001.08`.
-ghost use Rattle.std.specs.Prelude.{◌≡◌, ◌↔◌, List, ℕ, IsTrue, IsSome, IfSome, IfNone, All};
-ghost use Rattle.repo_objects.specs.MessageId.{IsMessageId, AreIdParts, IsLowerLetter, IsLetterOrDigit, IsDigit};
-ghost use Rattle.repo_objects.specs.Cut.{IsCut};
+ghost use Rattle.std.specs.Prelude.{◌≡◌, ◌↔◌, List, ℕ, IsSome, IsTrue, IfSome};
+ghost use Rattle.std.specs.List.{list_all};
+ghost use Rattle.repo_objects.specs.MessageId.{IsMessageId, is_lower_letter, is_letter_or_digit, is_digit};
 
 use std::marker::Model;
 
@@ -30,7 +30,15 @@ impl MessageId {
         ensures read { IfSome result (λ id. id ≡ word.now) }
         ensures form { IsSome result ↔ IsMessageId word.now }
     {
-        let octets: [u8; 15] = word.as_bytes().try_into().ok()?;
+        MessageId::of(word.as_bytes())
+    }
+
+    /// The identifier that the bytes are; `None` where they have not the form of one.
+    pub fn of(bytes: &[u8]) -> Option<MessageId>
+        ensures of { IfSome result (λ id. id ≡ bytes.now) }
+        ensures form { IsSome result ↔ IsMessageId bytes.now }
+    {
+        let octets: [u8; 15] = bytes.try_into().ok()?;
         if has_form(&octets) {
             Some(MessageId { octets })
         } else {
@@ -51,63 +59,30 @@ impl MessageId {
 fn has_form(bytes: &[u8]) -> bool
     ensures { IsTrue result ↔ IsMessageId bytes.now }
 {
-    let Some((area, rest)) = cut_at_point(bytes, 4) else {
-        return false;
-    };
-    let Some((functionality, rest)) = cut_at_point(rest, 3) else {
-        return false;
-    };
-    let Some((flavour, version)) = cut_at_point(rest, 3) else {
-        return false;
-    };
-    are_parts(area, functionality, flavour, version)
-}
-
-// The first `count` bytes and what stands behind the point after them; `None` where no point does.
-fn cut_at_point(bytes: &[u8], count: usize) -> Option<(&[u8], &[u8])>
-    ensures cut { IfSome result (λ parts. IsCut count bytes.now parts.0.now parts.1.now) }
-    ensures none { IfNone result ((part rest : List ℕ) → IsCut count bytes.now part rest → ⊥) }
-{
-    let (part, rest) = bytes.split_at_checked(count)?;
-    match rest {
-        [b'.', rest @ ..] => Some((part, rest)),
-        _ => None,
-    }
-}
-
-// Whether these are the parts of a message identifier.
-fn are_parts(area: &[u8], functionality: &[u8], flavour: &[u8], version: &[u8]) -> bool
-    ensures { IsTrue result ↔ AreIdParts (record {
-      area = area.now;
-      functionality = functionality.now;
-      flavour = flavour.now;
-      version = version.now;
-    }) }
-{
-    area.len() == 4
-        && are_lower_letters(area)
-        && functionality.len() == 3
-        && are_letters_or_digits(functionality)
-        && flavour.len() == 3
-        && are_digits(flavour)
-        && version.len() == 2
-        && are_digits(version)
+    bytes.len() == 15
+        && are_lower_letters(&bytes[..4])
+        && bytes[4] == b'.'
+        && are_letters_or_digits(&bytes[5..8])
+        && bytes[8] == b'.'
+        && are_digits(&bytes[9..12])
+        && bytes[12] == b'.'
+        && are_digits(&bytes[13..15])
 }
 
 fn are_lower_letters(bytes: &[u8]) -> bool
-    ensures { IsTrue result ↔ All IsLowerLetter bytes.now }
+    ensures { result ≡ list_all is_lower_letter bytes.now }
 {
     bytes.iter().all(|byte| byte.is_ascii_lowercase())
 }
 
 fn are_letters_or_digits(bytes: &[u8]) -> bool
-    ensures { IsTrue result ↔ All IsLetterOrDigit bytes.now }
+    ensures { result ≡ list_all is_letter_or_digit bytes.now }
 {
     bytes.iter().all(|byte| byte.is_ascii_alphanumeric())
 }
 
 fn are_digits(bytes: &[u8]) -> bool
-    ensures { IsTrue result ↔ All IsDigit bytes.now }
+    ensures { result ≡ list_all is_digit bytes.now }
 {
     bytes.iter().all(|byte| byte.is_ascii_digit())
 }

@@ -1,11 +1,25 @@
 // What a repository file says of an entry of its data dictionary and of a message.
-use lexical_core::{Items, Text};
+use lexical_core::{Decimal, Items, Text};
 
-/// The kind of a data type.
+/// The kind of a data type (ISO 20022-1, data types).
 #[derive(Clone, Copy, Debug, PartialEq, Eq)]
 pub enum Kinds {
-    /// Characters.
     Text,
+    CodeSet,
+    IdentifierSet,
+    Amount,
+    Rate,
+    Quantity,
+    Indicator,
+    Binary,
+    Date,
+    DateTime,
+    Time,
+    Year,
+    YearMonth,
+    MonthDay,
+    Month,
+    Day,
 }
 
 /// The kind of an entry of the data dictionary.
@@ -13,29 +27,54 @@ pub enum Kinds {
 pub enum ObjectKind {
     /// A data type, whose values have no parts.
     Simple(Kinds),
+    /// A message component, whose elements all stand in an instance.
+    Component,
+    /// A choice component, of whose elements one stands.
+    Choice,
+    /// An external schema: any element.
+    External,
+    /// A kind that no message uses here.
+    Other,
 }
 
 /// The facets of a data type as the file gives them.
-#[derive(Clone, Copy, Debug, PartialEq, Eq)]
+#[derive(Debug, Drop)]
 pub struct RawFacets {
-    /// The least number of characters.
+    /// The least length.
     pub min_length: Option<u32>,
-    /// The greatest number of characters.
+    /// The greatest length.
     pub max_length: Option<u32>,
+    /// The length, where it is fixed.
+    pub length: Option<u32>,
+    /// How many digits a number has at most.
+    pub total: Option<u32>,
+    /// How many digits stand after its point at most.
+    pub fraction: Option<u32>,
+    /// The least number.
+    pub min_in: Option<Decimal>,
+    /// The number that all are above.
+    pub min_ex: Option<Decimal>,
+    /// The greatest number.
+    pub max_in: Option<Decimal>,
+    /// The number that all are below.
+    pub max_ex: Option<Decimal>,
+    /// The pattern of its texts.
+    pub pattern: Option<Text>,
 }
 
-/// An entry of the data dictionary.
+/// A code of a code set.
 #[derive(Debug, Drop)]
-pub struct Object {
+pub struct CodeDef {
     /// Its name.
     pub name: Text,
-    /// What it is.
-    pub kind: ObjectKind,
-    /// Its facets.
-    pub facets: RawFacets,
+    /// Its text in an instance; `None` where the set that it is traced to has it.
+    pub code: Option<Text>,
 }
 
-/// A building block of a message.
+/// Codes in file order.
+pub type CodeDefs = Items<CodeDef>;
+
+/// A building block of a message, or an element of a component.
 #[derive(Debug, Drop)]
 pub struct ElementDef {
     /// Its name.
@@ -46,12 +85,37 @@ pub struct ElementDef {
     pub min: u32,
     /// How often it stands at most; `None` for any number.
     pub max: Option<u32>,
-    /// The id of its data type.
+    /// The id of its data type, as `simpleType` gives it.
     pub simple: Option<Text>,
+    /// The id of its component, as `complexType` gives it.
+    pub complex: Option<Text>,
+    /// The id of its external schema, as `type` gives it.
+    pub plain: Option<Text>,
 }
 
-/// Building blocks in file order.
+/// Building blocks or elements in file order.
 pub type Elements = Items<ElementDef>;
+
+/// An entry of the data dictionary.
+#[derive(Debug, Drop)]
+pub struct Object {
+    /// Its name.
+    pub name: Text,
+    /// What it is.
+    pub kind: ObjectKind,
+    /// The word that the file has for what it is.
+    pub word: Text,
+    /// Its facets.
+    pub facets: RawFacets,
+    /// Its elements, of a component.
+    pub elements: Elements,
+    /// Its codes, of a code set.
+    pub codes: CodeDefs,
+    /// The id of the code set that has the texts of its codes.
+    pub trace: Option<Text>,
+    /// The id of the set of an amount's currencies.
+    pub currency: Option<Text>,
+}
 
 /// A message definition.
 #[derive(Debug, Drop)]

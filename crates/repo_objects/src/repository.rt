@@ -1,12 +1,12 @@
 // A repository in memory.
-ghost use Rattle.std.specs.Prelude.{◌≡◌, ◌↔◌, [], ◌∷◌, ◌++◌, length, IsTrue, IsSome, IfSome, OnOk, OnErr, IsErrOf, Contains, slice_get, All};
+ghost use Rattle.std.specs.Prelude.{◌≡◌, ◌↔◌, ◌<◌, [], ◌∷◌, ◌++◌, length, IsTrue, IsSome, IfSome, OnOk, OnErr, IsErrOf, Contains, slice_get, All};
 ghost use Rattle.std.specs.Option.{option_copied, option_map};
 ghost use Rattle.lexical_core.specs.Characters.{IsXmlText};
-ghost use Rattle.repo_objects.specs.Objects.{HasObjectTexts, HasMessageTexts};
-ghost use Rattle.repo_objects.specs.Repository.{Entry, HasId, IsRepository};
+ghost use Rattle.repo_objects.specs.Objects.{HasObjectTexts, HasMessageTexts, HasCodeTexts};
+ghost use Rattle.repo_objects.specs.Repository.{Entry, HasId, HasIdAt, IsRepository, with_codes};
 ghost use Rattle.repo_objects.specs.Stored.{entries_of};
 
-use crate::objects::{MessageDef, Object};
+use crate::objects::{CodeDefs, MessageDef, Object};
 use indexmap::IndexMap;
 use lexical_core::{Items, Text};
 use std::alloc::{AllocError, Global};
@@ -109,6 +109,16 @@ impl Repository {
         self.messages.push(message)
     }
 
+    /// Gives the object at that place these codes in the place of its own. All else stays. It takes
+    /// no memory.
+    pub fn set_codes(&mut self, at: usize, codes: CodeDefs)
+        requires at { at < length self.old.objects }
+        requires texts { All HasCodeTexts codes }
+        ensures { self.new ≡ record self.old { objects = with_codes self.old.objects at codes } }
+    {
+        put_codes(&mut self.objects, at, codes);
+    }
+
     /// The object with that id; `None` where no object has it.
     pub fn object(&self, id: &[u8]) -> Option<&Object>
         ensures found { IfSome result (λ o. Contains self.now.objects (record { id = id.now; object = o.now })) }
@@ -116,6 +126,15 @@ impl Repository {
         ensures whole { IsRepository self.now }
     {
         self.objects.get(id)
+    }
+
+    /// The place of the object with that id; `None` where no object has it.
+    pub fn place(&self, id: &[u8]) -> Option<usize>
+        ensures found { IfSome result (λ k. HasIdAt self.now.objects k id.now) }
+        ensures there { IsSome result ↔ HasId self.now.objects id.now }
+        ensures whole { IsRepository self.now }
+    {
+        self.objects.get_index_of(id)
     }
 
     /// The id and the object at that place, counted from 0 in file order; `None` past the last.
@@ -157,6 +176,16 @@ fn has_id(objects: &Dictionary, id: &[u8]) -> bool
     ensures { IsTrue result ↔ HasId (entries_of objects.now.entries) id.now }
 {
     objects.contains_key(id)
+}
+
+// Gives the object at that place these codes.
+fn put_codes(objects: &mut Dictionary, at: usize, codes: CodeDefs)
+    requires { at < length objects.old.entries }
+    ensures { entries_of objects.new.entries ≡ with_codes (entries_of objects.old.entries) at codes }
+{
+    if let Some(object) = objects.get_index_mut(at) {
+        object.codes = codes;
+    }
 }
 
 // Puts the object at the end, under an id that no other has.

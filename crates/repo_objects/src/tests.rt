@@ -4,7 +4,8 @@ ghost use Rattle.lexical_core.specs.Characters.{IsXmlText};
 ghost use Rattle.repo_objects.specs.Objects.{HasObjectTexts, HasMessageTexts};
 
 use crate::{
-    AddError, Elements, Kinds, MessageDef, MessageId, Object, ObjectKind, RawFacets, Repository,
+    AddError, CodeDefs, Elements, Kinds, MessageDef, MessageId, Object, ObjectKind, RawFacets,
+    Repository,
 };
 use lexical_core::{Text, is_xml_text};
 use std::alloc::Global;
@@ -27,10 +28,23 @@ fn object_of(alloc: Global, name: &str) -> Result<Object, Fail>
     Ok(Object {
         name: text_of(alloc, name)?,
         kind: ObjectKind::Simple(Kinds::Text),
+        word: Text::new(alloc),
         facets: RawFacets {
             min_length: Some(1),
             max_length: Some(35),
+            length: None,
+            total: None,
+            fraction: None,
+            min_in: None,
+            min_ex: None,
+            max_in: None,
+            max_ex: None,
+            pattern: None,
         },
+        elements: Elements::new(alloc),
+        codes: CodeDefs::new(alloc),
+        trace: None,
+        currency: None,
     })
 }
 

@@ -1,0 +1,41 @@
+-- What follows of the definitions.
+use Rattle.std.specs.Prelude.{◌≡◌, ℕ, ◌⊎◌, List}
+use Rattle.repo_objects.specs.Repository.{Contents}
+use Rattle.code_sets.specs.declared.record.CodeRecord.{CodeRecord}
+use Rattle.code_sets.specs.Codes.{Fault, HasCodesFault, Joins, Reads, ReadFault}
+
+-- ---- the records of bytes
+
+-- Bytes say one list of codes.
+abbrev pub OneReading : Type 0
+OneReading = (bytes : List ℕ) (a b : List CodeRecord) → Reads bytes a → Reads bytes b → a ≡ b
+
+-- They have one first fault.
+abbrev pub OneReadFault : Type 0
+OneReadFault = (bytes : List ℕ) (r s m n : ℕ) → ReadFault bytes r m → ReadFault bytes s n → (r ≡ s) × (m ≡ n)
+
+-- And none where they say codes.
+abbrev pub ReadHasNone : Type 0
+ReadHasNone = (bytes : List ℕ) (lists : List CodeRecord) (r n : ℕ) → Reads bytes lists → ReadFault bytes r n → ⊥
+
+-- All bytes say codes or have a fault.
+abbrev pub ReadsOrHasFault : Type 0
+ReadsOrHasFault = (bytes : List ℕ) → ((lists : List CodeRecord) × Reads bytes lists) ⊎ ((rule : ℕ) × (number : ℕ) × ReadFault bytes rule number)
+
+-- ---- bytes and a repository
+
+-- They make one repository.
+abbrev pub OneJoined : Type 0
+OneJoined = (contents : Contents) (bytes : List ℕ) (a b : Contents) → Joins contents bytes a → Joins contents bytes b → a ≡ b
+
+-- They have one first fault.
+abbrev pub OneCodesFault : Type 0
+OneCodesFault = (contents : Contents) (bytes : List ℕ) (f g : Fault) → HasCodesFault contents bytes f → HasCodesFault contents bytes g → f ≡ g
+
+-- And none where they make a repository.
+abbrev pub JoinedHasNone : Type 0
+JoinedHasNone = (contents : Contents) (bytes : List ℕ) (new : Contents) (fault : Fault) → Joins contents bytes new → HasCodesFault contents bytes fault → ⊥
+
+-- All bytes make a repository or have a fault.
+abbrev pub JoinsOrHasFault : Type 0
+JoinsOrHasFault = (contents : Contents) (bytes : List ℕ) → ((new : Contents) × Joins contents bytes new) ⊎ ((fault : Fault) × HasCodesFault contents bytes fault)

@@ -1,0 +1,4 @@
+pub mod Codes
+pub mod CodesErrors
+pub mod Given
+pub mod Laws

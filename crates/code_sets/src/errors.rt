@@ -1,0 +1,38 @@
+// Why codes are refused.
+ghost use Rattle.std.specs.Prelude.{◌≡◌};
+ghost use Rattle.code_sets.specs.declared.errors.CodesError.TheVariants.{Memory};
+
+use std::alloc::{AllocError, AllocFailed};
+
+/// Why codes are refused.
+#[derive(Clone, Copy, Debug, PartialEq, Eq)]
+pub enum CodesError {
+    /// They break the rule of this number in the record of that number, counted from 1:
+    ///
+    /// 1. it has not two fields;
+    /// 2. a field is not UTF-8;
+    /// 3. its code is empty, or holds a character that is none of XML (XML 1.0 §2.2);
+    /// 4. it names a code set that has codes of its own;
+    /// 5. there are more than 2^28 bytes, which is of no record: its number is 0.
+    Refused { rule: u8, number: u64 },
+    /// The source failed.
+    ReadFault,
+    /// Memory was wanted and not had.
+    Memory,
+}
+
+impl From<AllocError> for CodesError {
+    ghost from_gives = { λ _ e. e ≡ Memory };
+
+    fn from(_error: AllocError) -> CodesError {
+        CodesError::Memory
+    }
+}
+
+impl<T: Drop> From<AllocFailed<T>> for CodesError {
+    ghost from_gives = { λ _ e. e ≡ Memory };
+
+    fn from(_error: AllocFailed<T>) -> CodesError {
+        CodesError::Memory
+    }
+}

@@ -1,0 +1,198 @@
+-- A repository file that is read a byte at a time: what its events say is read as they come.
+use Rattle.std.proofs.Common.{◌≡◌, ℕ, ◌+◌, ◌-◌, ◌≤◌, List, [], ◌∷◌, ◌++◌, length, map, take, drop, Option, Some, None, refl, sym, ap, ◌∙◌, subst, append_assoc, append-nil, length-append, inl, inr, arith}
+use Rattle.std.specs.List.{AllByRecursion, flat_map}
+use Rattle.std.specs.Prelude.{Result, Ok, Err, IfOk, IfNone}
+use Rattle.std.proofs.lemmas.List.{take-append-drop}
+use Rattle.std.proofs.Math.Seq.{take-append-add}
+use Rattle.lexical_core.specs.declared.rule.Rule.TheVariants.{Truncated}
+use Rattle.markup.specs.Token.{Token, token_bytes}
+use Rattle.markup.specs.Marks.{Front, tag_limit}
+use Rattle.markup.specs.Events.{Placed, events}
+use Rattle.markup.specs.EventItems.{placed, Tells}
+use Rattle.markup.specs.Faults.{Fault, MarkFault, IsClean, Next}
+use Rattle.markup.specs.Literals.{IsRun, characters_from}
+use Rattle.markup.specs.Reading.{HasTaken, HasTold, GoesOn, Refuses, taken, fault_of}
+use Rattle.markup.specs.declared.event.Event.{Event}
+use Rattle.markup.specs.declared.reader.MarkFault.{MarkFault as Told}
+use Rattle.markup.specs.declared.reader.Reader.{Reader}
+use Rattle.markup.proofs.OneFault.{behind}
+use Rattle.markup.proofs.Stays.{events_stay, tokens_have_bytes}
+use Rattle.repo_loader.specs.declared.fault.LoadFault.{LoadFault}
+use Rattle.repo_loader.specs.declared.progress.Progress.{Progress}
+use Rattle.repo_loader.specs.Selected.{event_tags}
+use Rattle.repo_loader.specs.FileFaults.{AreSound, IsFirstBroken}
+use Rattle.repo_loader.specs.Loaded.{limit, token_tags, HasLoadFault, broken, markup}
+use Rattle.repo_loader.specs.SelectionSteps.{HasItemTexts, HaveTexts, HasLoaded, IsBrokenBy, LoadsOn}
+use Rattle.repo_loader.specs.ProgressSteps.{markup_fault, HasRead, TellsFault, Shows, ReadsOn}
+use Rattle.repo_loader.proofs.Texts.{events_texts}
+use Rattle.repo_loader.proofs.EventSteps.{run_loaded}
+use Rattle.repo_loader.proofs.OneLoadFault.{front_before}
+
+-- ---- the values of attributes are texts
+
+abbrev PlacedTexts : List Placed → Type 0
+PlacedTexts es = AllByRecursion (λ (e : Placed). HasItemTexts e.item) es
+
+texts_behind : (xs ys : List Placed) → PlacedTexts (xs ++ ys) → PlacedTexts ys
+texts_behind [] ys h = h
+texts_behind (x ∷ xs) ys h = texts_behind xs ys h.1
+
+texts_of : (es : List Event) → PlacedTexts (map placed es) → HaveTexts es
+texts_of [] h = tt
+texts_of (e ∷ es) h = (h.0, texts_of es h.1)
+
+token_texts : (told : List Placed) (es : List Event) (bytes : List ℕ) (ts : List Token) (rest : List ℕ) → Front tag_limit [] bytes ts rest → told ++ map placed es ≡ events [] 0 ts → HaveTexts es
+token_texts told es bytes ts rest f e = texts_of es (texts_behind told (map placed es) (subst PlacedTexts (sym e) (events_texts tag_limit [] 0 bytes ts rest f)))
+
+-- the events that were appended to none
+pub new_events : (old new : List Event) (more : List Placed) → old ≡ [] → Tells old new more → more ≡ map placed new
+new_events old new more e t = sym t.told_are ∙ ap (map placed) (sym (t.appended ∙ ap (λ v. v ++ t.more) e))
+
+pub goes_texts : (reader : Reader) (bytes : List ℕ) (told : List Placed) (old new : List Event) → old ≡ [] → GoesOn reader bytes told old new → HaveTexts new
+goes_texts reader bytes told old new e g =
+    token_texts told new bytes g.are_events.0 g.are_events.1.rest g.are_events.1.front (ap (λ v. told ++ v) (sym (new_events old new g.more e g.tells)) ∙ g.are_events.3)
+
+pub refuses_texts : (bytes : List ℕ) (told : List Placed) (old new : List Event) (fault : Told) → old ≡ [] → Refuses bytes told old new fault → HaveTexts new
+refuses_texts bytes told old new fault e k =
+    token_texts told new (bytes ++ []) k.tokens (k.rest ++ []) (k.front []) (ap (λ v. told ++ v) (sym (new_events old new k.more e k.tells)) ∙ k.events_are)
+
+-- ---- what follows does not matter
+
+take_past : {A : Type 0} (xs ys : List A) (n : ℕ) → length xs ≤ n → take n (xs ++ ys) ≡ xs ++ take (n - length xs) ys
+take_past xs ys n h = ap (λ k. take k (xs ++ ys)) (gap (length xs) n h) ∙ take-append-add xs ys (n - length xs) where
+  gap : (a n : ℕ) → a ≤ n → n ≡ a + (n - a)
+  gap a n h = omega (arith, h)
+
+pub limit_of : (a rest : List ℕ) → length a ≤ limit → take limit (a ++ rest) ≡ a ++ take (limit - length a) rest
+limit_of a rest h = take_past a rest limit h
+
+-- Whatever follows the bytes, the events are those of tokens at the front, in which nothing breaks a rule.
+abbrev Stays : List ℕ → List Placed → Type 0
+Stays bytes told = (more : List ℕ) → (tokens : List Token) × (rest : List ℕ) × Front tag_limit [] (bytes ++ more) tokens rest × IsClean [] tokens × (told ≡ events [] 0 tokens)
+
+broken_shows : (bytes : List ℕ) (told : List Placed) (fault : LoadFault) → Stays bytes told → IsBrokenBy told fault → Shows bytes fault
+broken_shows bytes told fault stays b more short =
+    let s = stays (take (limit - length bytes) more) in
+    broken s.0 s.1 (subst (λ v. Front tag_limit [] v s.0 s.1) (sym (limit_of bytes more short)) s.2) s.3
+    (subst (λ es. IsFirstBroken (event_tags [] es) fault.rule fault.place) s.4 b.first) b.no_markup
+
+-- a fault of markup, where the elements before it break none
+pub markup_found : (all x : List ℕ) (fault : Told) → take limit all ≡ x → (m : MarkFault x (fault_of fault)) → AreSound [] (token_tags m.tokens) → (fault.rule ≡ Truncated → length all ≤ limit) → HasLoadFault all (markup_fault fault)
+markup_found all x fault e m s counts =
+    subst (λ v. (m : MarkFault v (fault_of fault)) → AreSound [] (token_tags m.tokens) → HasLoadFault all (markup_fault fault)) e (λ m s. markup (fault_of fault) m counts s refl) m s
+
+no_more : (more : List Token) → length (flat_map token_bytes more) ≡ 0 → more ≡ []
+no_more [] h = refl
+no_more (t ∷ ts) h = absurd (tokens_have_bytes t (none (token_bytes t) (flat_map token_bytes ts) h)) where
+  none : (xs ys : List ℕ) → length (xs ++ ys) ≡ 0 → xs ≡ []
+  none [] ys h = refl
+  none (x ∷ xs) ys h = absurd (omega (arith, h))
+
+bytes_more : (ts us : List Token) → length (flat_map token_bytes (ts ++ us)) ≡ length (flat_map token_bytes ts) + length (flat_map token_bytes us)
+bytes_more [] us = omega arith
+bytes_more (t ∷ ts) us =
+    let later = bytes_more ts us in
+    omega (arith, later, length-append (token_bytes t) (flat_map token_bytes (ts ++ us)), length-append (token_bytes t) (flat_map token_bytes ts))
+
+-- the tokens before a fault that is told are those whose events were told
+same_tokens : (bytes : List ℕ) (ts : List Token) (rest : List ℕ) (fault : Fault) (m : MarkFault bytes fault) → Front tag_limit [] bytes ts rest → IsClean [] ts → length (flat_map token_bytes ts) ≡ fault.place → m.tokens ≡ ts
+same_tokens bytes ts rest fault m f clean before =
+    let r = front_before tag_limit [] bytes rest m.rest ts m.tokens fault.rule m.at f clean m.front (subst (λ v. Next tag_limit v m.rest fault.rule m.at) (behind m.tokens) m.next) in
+    let place = m.place in
+    let long = ap (λ us. length (flat_map token_bytes us)) r.1 in
+    let more : r.0 ≡ [] = no_more r.0 (omega (arith, place, before, long, bytes_more ts r.0)) in
+    r.1 ∙ (ap (λ us. ts ++ us) more ∙ append-nil ts)
+
+markup_shows : (bytes : List ℕ) (told : List Placed) (old new : List Event) (fault : Told) → old ≡ [] → Refuses bytes told old new fault → AreSound [] (event_tags [] (told ++ map placed new)) → Shows bytes (markup_fault fault)
+markup_shows bytes told old new fault e k s more short =
+    let behind = take (limit - length bytes) more in
+    let m = k.has_fault behind in
+    let same = same_tokens (bytes ++ behind) k.tokens (k.rest ++ behind) (fault_of fault) m (k.front behind) k.clean k.before in
+    let are : told ++ map placed new ≡ events [] 0 m.tokens = ap (λ v. told ++ v) (sym (new_events old new k.more e k.tells)) ∙ k.events_are ∙ ap (events [] 0) (sym same) in
+    markup_found (bytes ++ more) (bytes ++ behind) fault (limit_of bytes more short) m (subst (λ es. AreSound [] (event_tags [] es)) are s) (λ t. absurd (k.no_cut t))
+
+-- ---- one byte more
+
+length_one : (bytes : List ℕ) (byte : ℕ) (n m : ℕ) → m ≡ length bytes → n ≡ m + 1 → n ≡ length (bytes ++ byte ∷ [])
+length_one bytes byte n m e f = f ∙ (ap (λ v. v + 1) e ∙ sym (length-append bytes (byte ∷ [])))
+
+module _ (old new : Progress) (bytes : List ℕ) (byte : ℕ) (es : List Event) (h : HasRead old bytes) (g : GoesOn new.reader (bytes ++ byte ∷ []) h.told old.events es) where
+  now_taken : HasTaken new.reader (bytes ++ byte ∷ []) (h.told ++ map placed es)
+  now_taken = subst (λ v. HasTaken new.reader (bytes ++ byte ∷ []) (h.told ++ v)) (new_events old.events es g.more h.none g.tells) g.taken_are
+
+  pub reads_on : taken new.reader ≡ taken old.reader + 1 → new.events ≡ [] → (o : Option LoadFault) → LoadsOn new.selection (h.told ++ map placed es) o → ReadsOn new (bytes ++ byte ∷ []) o
+  reads_on n none None l = record {
+    told = h.told ++ map placed es;
+    given = now_taken;
+    counted = length_one bytes byte (taken new.reader) (taken old.reader) h.counted n;
+    loaded = l;
+    none = none;
+  }
+  reads_on n none (Some fault) b = broken_shows (bytes ++ byte ∷ []) (h.told ++ map placed es) fault (events_stay new.reader (bytes ++ byte ∷ []) (h.told ++ map placed es) now_taken) b
+
+-- the byte shows a fault of markup
+pub first_shows : (bytes : List ℕ) (told : List Placed) (old new : List Event) (mark : Told) (fault : LoadFault) → old ≡ [] → Refuses bytes told old new mark → TellsFault (told ++ map placed new) mark fault → Shows bytes fault
+first_shows bytes told old new mark fault e k (inl b) =
+    broken_shows bytes (told ++ map placed new) fault (λ more. (k.tokens, k.rest ++ more, k.front more, k.clean, ap (λ v. told ++ v) (sym (new_events old new k.more e k.tells)) ∙ k.events_are)) b
+first_shows bytes told old new mark fault e k (inr (s, same)) =
+    subst (Shows bytes) (sym same) (markup_shows bytes told old new mark e k s)
+
+pub if_none : {A E : Type 0} {P : Type 0} (r : Result (Option A) E) → P → IfOk r (λ o. IfNone o P)
+if_none (Ok None) p = p
+if_none (Ok (Some x)) p = tt
+if_none (Err e) p = tt
+
+pub ok_map : {A E : Type 0} {P Q : A → Type 0} (r : Result A E) → ((x : A) → P x → Q x) → IfOk r P → IfOk r Q
+ok_map (Ok x) f p = f x p
+ok_map (Err e) f p = tt
+
+-- ---- a run of characters
+
+pub read_run : (old new : Progress) (bytes piece : List ℕ) (count : ℕ) (run : IsRun piece count) (h : HasRead old bytes) → HasTold new.reader (bytes ++ piece) (h.told ++ characters_from (length bytes) run.characters)
+    → taken new.reader ≡ taken old.reader + length piece → new.selection ≡ old.selection → new.events ≡ old.events → HasRead new (bytes ++ piece)
+read_run old new bytes piece count run h g n same none = record {
+  told = h.told ++ characters_from (length bytes) run.characters;
+  given = g.taken_are;
+  counted = n ∙ (ap (λ v. v + length piece) h.counted ∙ sym (length-append bytes piece));
+  loaded = subst (λ s. HasLoaded s (h.told ++ characters_from (length bytes) run.characters)) (sym same) (run_loaded old.selection h.told (length bytes) run.characters h.loaded);
+  none = none ∙ h.none;
+}
+
+-- ---- the bytes of a piece
+
+-- the bytes of the piece before the rest are read
+pub record ReadSoFar (p : Progress) (bytes piece rest : List ℕ) : Type 0 where
+  pub seen : List ℕ
+  pub piece_is : piece ≡ seen ++ rest
+  pub read : HasRead p (bytes ++ seen)
+
+pub nothing_seen : (p : Progress) (bytes piece : List ℕ) → HasRead p bytes → ReadSoFar p bytes piece piece
+nothing_seen p bytes piece h = record { seen = []; piece_is = refl; read = subst (HasRead p) (sym (append-nil bytes)) h }
+
+-- a run at the front of the rest is read
+pub run_seen : (old new : Progress) (bytes piece rest left : List ℕ) (n : ℕ) (s : ReadSoFar old bytes piece rest) → left ≡ drop n rest → HasRead new ((bytes ++ s.seen) ++ take n rest) → ReadSoFar new bytes piece left
+run_seen old new bytes piece rest left n s e h = record {
+  seen = s.seen ++ take n rest;
+  piece_is = s.piece_is ∙ (ap (λ v. s.seen ++ v) (sym (take-append-drop n rest)) ∙ (sym (append_assoc s.seen (take n rest) (drop n rest)) ∙ ap (λ v. (s.seen ++ take n rest) ++ v) (sym e)));
+  read = subst (HasRead new) (append_assoc bytes s.seen (take n rest)) h;
+}
+
+pub one_seen : (old new : Progress) (bytes piece rest : List ℕ) (byte : ℕ) (s : ReadSoFar old bytes piece (byte ∷ rest)) → HasRead new ((bytes ++ s.seen) ++ byte ∷ []) → ReadSoFar new bytes piece rest
+one_seen old new bytes piece rest byte s h = record {
+  seen = s.seen ++ byte ∷ [];
+  piece_is = s.piece_is ∙ sym (append_assoc s.seen (byte ∷ []) rest);
+  read = subst (HasRead new) (append_assoc bytes s.seen (byte ∷ [])) h;
+}
+
+shows_more : (bytes more : List ℕ) (fault : LoadFault) → Shows bytes fault → Shows (bytes ++ more) fault
+shows_more bytes more fault s rest short =
+    subst (λ v. HasLoadFault v fault) (sym (append_assoc bytes more rest)) (s (more ++ rest) (omega (arith, short, length-append bytes more)))
+
+pub fault_seen : (old : Progress) (bytes piece rest : List ℕ) (byte : ℕ) (fault : LoadFault) (s : ReadSoFar old bytes piece (byte ∷ rest)) → Shows ((bytes ++ s.seen) ++ byte ∷ []) fault → Shows (bytes ++ piece) fault
+fault_seen old bytes piece rest byte fault s k =
+    subst (λ v. Shows v fault) (regrouped bytes s.seen byte rest ∙ ap (λ v. bytes ++ v) (sym s.piece_is)) (shows_more ((bytes ++ s.seen) ++ byte ∷ []) rest fault k) where
+      regrouped : (a b : List ℕ) (c : ℕ) (d : List ℕ) → ((a ++ b) ++ c ∷ []) ++ d ≡ a ++ (b ++ c ∷ d)
+      regrouped a b c d = append_assoc (a ++ b) (c ∷ []) d ∙ append_assoc a b (c ∷ d)
+
+pub all_seen : (p : Progress) (bytes piece : List ℕ) → ReadSoFar p bytes piece [] → HasRead p (bytes ++ piece)
+all_seen p bytes piece s = subst (λ v. HasRead p (bytes ++ v)) (sym (s.piece_is ∙ append-nil s.seen)) s.read

@@ -1,0 +1,17 @@
+-- No count fell, and what was taken is read.
+use Rattle.std.proofs.Common.{◌<◌, ◌≤◌, length}
+use Rattle.repo_loader.specs.LoadErrors.{piece_limit}
+use Rattle.repo_loader.specs.ProgressSteps.{HasRoom}
+use Rattle.repo_loader.proofs.file.read_to_end.Given as goal
+
+abbrev pub invariant-loop-count : goal.invariant-loop-count
+invariant-loop-count g l = record {
+  later : g.R.Source.faults l.fn.source ≤ g.R.Source.faults l.source;
+  some : 0 < length l.piece;
+  few : length l.piece ≤ piece_limit;
+  so_far : HasRoom (g.R.Source.left l.fn.source) (g.R.Source.left l.source) l.room l.progress;
+}
+
+-- the bytes that may still come
+abbrev pub decreases-loop-count : goal.decreases-loop-count
+decreases-loop-count g l = l.room

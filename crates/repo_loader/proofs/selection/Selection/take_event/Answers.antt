@@ -1,0 +1,34 @@
+-- A start is taken; an end closes the innermost element; all else says nothing.
+use Rattle.std.proofs.Common.{◌≡◌, ◌+◌, [], ◌∷◌, List, length, refl, sym, ap, ◌∙◌, subst, arith}
+use Rattle.std.specs.Prelude.{MatchOption, Option, vec_len}
+use Rattle.markup.proofs.BindingLemmas.{counted}
+use Rattle.markup.specs.EventItems.{placed, item_of}
+use Rattle.repo_loader.specs.declared.part.Part.{Part}
+use Rattle.repo_loader.specs.Selected.{innermost, item_tags, open_behind, open_after}
+use Rattle.repo_loader.proofs.EventSteps.{close_one, quiet_event}
+use Rattle.repo_loader.proofs.selection.Selection.take_event.Goals as goal
+
+none_left : (xs : List Part) → length xs ≡ 0 → xs ≡ []
+none_left [] h = refl
+none_left (x ∷ xs) h = absurd (omega arith)
+
+pub returns-in-End : goal.returns-in-End
+returns-in-End c told h =
+    let old = c.args.self.now in
+    let shut = c.pop.new.self in
+    let around = open_after [] told in
+    quiet_event old (record { open_parts = shut; loading = old.loading }) told (placed c.args.event.now) h
+    (ap (λ w. item_tags (innermost around) (item_of w)) c.in-End.is) refl
+    (close_one around old.open_parts.items shut.items c.pop.result h.open_are c.pop.ensures.items
+    (λ n. none_left shut.items (sym (counted shut 0 (sym (subst (λ (o : Option Part). MatchOption o ((vec_len old.open_parts ≡ 0) × (vec_len shut ≡ 0)) (λ _. vec_len shut + 1 ≡ vec_len old.open_parts)) n c.pop.ensures.cases).1))))
+    ∙ sym (ap (λ w. open_behind around (item_of w)) c.in-End.is))
+
+pub returns-in-Char : goal.returns-in-Char
+returns-in-Char c told h =
+    quiet_event c.args.self.now c.args.self.now told (placed c.args.event.now) h (ap (λ w. item_tags (innermost (open_after [] told)) (item_of w)) c.in-Char.is) refl
+    (h.open_are ∙ sym (ap (λ w. open_behind (open_after [] told) (item_of w)) c.in-Char.is))
+
+pub returns-in-Skipped : goal.returns-in-Skipped
+returns-in-Skipped c told h =
+    quiet_event c.args.self.now c.args.self.now told (placed c.args.event.now) h (ap (λ w. item_tags (innermost (open_after [] told)) (item_of w)) c.in-Skipped.is) refl
+    (h.open_are ∙ sym (ap (λ w. open_behind (open_after [] told) (item_of w)) c.in-Skipped.is))

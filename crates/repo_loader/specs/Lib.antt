@@ -1,0 +1,14 @@
+pub mod ErrorTexts
+pub mod File
+pub mod FileFaults
+pub mod FileNames
+pub mod FileSteps
+pub mod FileValues
+pub mod Laws
+pub mod LoadingSteps
+pub mod LoadErrors
+pub mod Loaded
+pub mod ProgressSteps
+pub mod Selected
+pub mod SelectionSteps
+pub mod Stops

@@ -1,0 +1,99 @@
+// A repository file read from a source.
+ghost use Rattle.std.specs.Prelude.{◌≡◌, ◌<◌, ◌≤◌, [], IfOk, IfErr, IfSome, OnOk, IsErrOf, length};
+ghost use Rattle.std.specs.Io.KnownBytes.{IsAtEnd};
+ghost use Rattle.outside.specs.Source.{Rose};
+ghost use Rattle.repo_loader.specs.Loaded.{Spells};
+ghost use Rattle.repo_loader.specs.ProgressSteps.{HasRead, HasAll};
+ghost use Rattle.repo_loader.specs.LoadErrors.{RefusesFile, IsPlaced, PullsForFault, IsCaused};
+
+use crate::fault::{LoadError, LoadFault};
+use crate::progress::Progress;
+use outside::Source;
+use repo_objects::Repository;
+use std::alloc::{AllocError, Global};
+
+/// How many bytes a repository file has at most.
+const LIMIT: usize = 2147483648;
+
+/// How many bytes are asked of a source at once.
+const PIECE: usize = 65536;
+
+/// A buffer for the pieces of a source.
+fn piece_buffer(alloc: Global) -> Result<Vec<u8>, AllocError>
+    ensures some { IfOk result (λ v. 0 < length v.items) }
+    ensures few { IfOk result (λ v. length v.items ≤ PIECE) }
+{
+    Ok(vec![in alloc; 0u8; PIECE]?)
+}
+
+/// The fault where there are more bytes than the limit.
+fn too_long() -> LoadFault
+    ensures { result ≡ record { rule = 6; markup = None; place = LIMIT } }
+{
+    LoadFault {
+        rule: 6,
+        markup: None,
+        place: LIMIT as u64,
+    }
+}
+
+/// Reads the bytes that the source has left: to their end, to the piece that shows a fault, or to
+/// the first byte beyond the limit.
+fn read_to_end<R: Source>(
+    piece: &mut [u8],
+    progress: &mut Progress,
+    source: &mut R,
+) -> Result<(), LoadError>
+    requires some { 0 < length piece.old }
+    requires few { length piece.old ≤ PIECE }
+    requires read { HasRead progress.old [] }
+    ensures ok { OnOk result (HasAll (R.left source.old) progress.new) }
+    ensures whole { OnOk result (IsAtEnd (R.left source.new)) }
+    ensures err { IfErr result (λ e. IfSome (R.left source.old) (λ bytes. RefusesFile bytes e)) }
+    ensures placed { IfErr result (λ e. IsPlaced e) }
+    ensures pulled { IfErr result (λ e. PullsForFault (R.left source.old) (R.left source.new) e) }
+    ensures cause { IfErr result (λ e. IsCaused (R.faults source.old) (R.faults source.new) e) }
+    ensures later { R.faults source.old ≤ R.faults source.new }
+{
+    markup::laws::no_fault_taken();
+    let mut room = LIMIT;
+    loop {
+        let Ok(count) = source.pull(piece) else {
+            return Err(LoadError::ReadFault);
+        };
+        if count == 0 {
+            return match progress.finish()? {
+                Some(fault) => Err(LoadError::Refused(fault)),
+                None => Ok(()),
+            };
+        }
+        let within = piece[..count].split_at(count.min(room)).0;
+        if let Some(fault) = progress.take_all(within)? {
+            return Err(LoadError::Refused(fault));
+        }
+        if count > room {
+            let fault = too_long();
+            return Err(LoadError::Refused(fault));
+        }
+        room -= count;
+    }
+}
+
+/// The repository that the bytes spell which the source has left. They are read to their end, to
+/// the piece that shows a fault, or to the first byte beyond the limit.
+pub fn load<R: Source>(alloc: Global, source: &mut R) -> Result<Repository, LoadError>
+    ensures ok { IfOk result (λ r. IfSome (R.left source.old) (λ bytes. Spells bytes r)) }
+    ensures whole { OnOk result (IsAtEnd (R.left source.new)) }
+    ensures err { IfErr result (λ e. IfSome (R.left source.old) (λ bytes. RefusesFile bytes e)) }
+    ensures placed { IfErr result (λ e. IsPlaced e) }
+    ensures pulled { IfErr result (λ e. PullsForFault (R.left source.old) (R.left source.new) e) }
+    ensures fault { IsErrOf result LoadError.ReadFault → Rose (R.faults source.old) (R.faults source.new) }
+    ensures later { R.faults source.old ≤ R.faults source.new }
+{
+    let mut buffer = piece_buffer(alloc)?;
+    let mut progress = Progress::new(alloc);
+    if let Err(error) = read_to_end(buffer.as_mut_slice(), &mut progress, source) {
+        return Err(error);
+    }
+    Ok(progress.into_repository()?)
+}

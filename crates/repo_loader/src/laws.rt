@@ -1,0 +1,28 @@
+//! What follows of the definitions: functions that do nothing, whose contracts are laws.
+ghost use Rattle.repo_loader.specs.Laws.{SelectsTheTree, OneRepository, OneLoadFault, SpelledHasNone, OneOfBoth};
+
+/// What is read by the events of a tree is what is read of the tree.
+pub fn events_and_tree_agree()
+    ensures { SelectsTheTree }
+{}
+
+/// Bytes spell at most one repository.
+pub fn one_repository()
+    ensures { OneRepository }
+{}
+
+/// Bytes have at most one first fault.
+pub fn one_load_fault()
+    ensures { OneLoadFault }
+{}
+
+/// Bytes that spell a repository have no fault.
+pub fn spelled_has_none()
+    ensures { SpelledHasNone }
+{}
+
+/// Every input spells a repository or has a first fault, given that every input is whole markup or
+/// has a first fault of it.
+pub fn one_of_both()
+    ensures { OneOfBoth }
+{}

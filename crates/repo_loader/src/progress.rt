@@ -1,0 +1,139 @@
+// How far a repository file is read.
+ghost use Rattle.std.specs.Prelude.{◌≡◌, ◌<◌, ◌≤◌, ◌^◌, ◌+◌, [], ◌∷◌, ◌++◌, ℕ, List, Some, IfOk, IfNone, length, take, map};
+ghost use Rattle.markup.specs.Events.{Placed};
+ghost use Rattle.markup.specs.EventItems.{placed};
+ghost use Rattle.markup.specs.Reading.{taken, IsWholly};
+ghost use Rattle.repo_loader.specs.Loaded.{limit, Spells};
+ghost use Rattle.repo_loader.specs.SelectionSteps.{HasLoaded, LoadsOn, HaveTexts};
+ghost use Rattle.repo_loader.specs.ProgressSteps.{HasRead, ReadsOn, EndsAs, markup_fault, TellsFault};
+
+use crate::fault::LoadFault;
+use crate::selection::Selection;
+use markup::{Events, MarkError, MarkFault, Reader};
+use repo_objects::Repository;
+use std::alloc::{AllocError, Global};
+
+/// Reads the bytes of a repository file as XML, and what their events say.
+#[derive(Drop)]
+pub struct Progress {
+    reader: Reader,
+    /// The events of the last byte.
+    events: Events,
+    selection: Selection,
+}
+
+/// The fault of a file whose markup has this one.
+fn fault_of_markup(fault: MarkFault) -> LoadFault
+    ensures { result ≡ markup_fault fault }
+{
+    LoadFault {
+        rule: 1,
+        markup: Some(fault.rule),
+        place: fault.place,
+    }
+}
+
+impl Progress {
+    /// Before the first byte. It takes no memory.
+    pub fn new(alloc: Global) -> Progress
+        ensures read { HasRead result [] }
+        ensures none { taken result.reader ≡ 0 }
+    {
+        Progress {
+            reader: Reader::new(alloc),
+            events: Events::new(alloc),
+            selection: Selection::new(alloc),
+        }
+    }
+
+    /// Reads the events of the last byte. It answers the first fault of their elements.
+    fn take_events(&mut self) -> Result<Option<LoadFault>, AllocError>
+        requires loaded { (told : List Placed) × HasLoaded self.old.selection told }
+        requires texts { HaveTexts self.old.events }
+        ensures reader { self.new.reader ≡ self.old.reader }
+        ensures none { self.new.events ≡ [] }
+        ensures loaded { (told : List Placed) → HasLoaded self.old.selection told → IfOk result (λ o. LoadsOn self.new.selection (told ++ map placed self.old.events) o) }
+    {
+        let result = self.selection.take_events(self.events.as_slice());
+        self.events.clear();
+        result
+    }
+
+    /// The first fault, where the last byte shows this one of markup: an element before it may
+    /// break a rule.
+    fn first_fault(&mut self, fault: MarkFault) -> Result<LoadFault, AllocError>
+        requires loaded { (told : List Placed) × HasLoaded self.old.selection told }
+        requires texts { HaveTexts self.old.events }
+        ensures { (told : List Placed) → HasLoaded self.old.selection told → IfOk result (λ f. TellsFault (told ++ map placed self.old.events) fault f) }
+    {
+        match self.take_events()? {
+            Some(found) => Ok(found),
+            None => Ok(fault_of_markup(fault)),
+        }
+    }
+
+    /// Takes the next byte. It answers the fault that the byte shows.
+    fn take(&mut self, byte: u8) -> Result<Option<LoadFault>, AllocError>
+        requires count { taken self.old.reader < 2 ^ 40 }
+        requires read { (bytes : List ℕ) × HasRead self.old bytes }
+        ensures read { (bytes : List ℕ) → HasRead self.old bytes → IfOk result (λ o. ReadsOn self.new (bytes ++ byte ∷ []) o) }
+        ensures count { IfOk result (λ o. IfNone o (taken self.new.reader ≡ taken self.old.reader + 1)) }
+    {
+        match self.reader.take(byte, &mut self.events) {
+            Ok(()) => self.take_events(),
+            Err(MarkError::Refused(fault)) => Ok(Some(self.first_fault(fault)?)),
+            Err(MarkError::Memory) => Err(AllocError),
+        }
+    }
+
+    /// Takes the characters at the front of the piece that the reader tells by their number alone:
+    /// they say nothing.
+    fn take_run(&mut self, piece: &[u8]) -> usize
+        requires { taken self.old.reader + length piece.now < 2 ^ 40 }
+        ensures within { result ≤ length piece.now }
+        ensures read { (bytes : List ℕ) → HasRead self.old bytes → HasRead self.new (bytes ++ take result piece.now) }
+        ensures count { taken self.new.reader ≡ taken self.old.reader + result }
+    {
+        self.reader.take_characters(piece).bytes
+    }
+
+    /// Takes the next bytes, as far as the first that shows a fault.
+    pub fn take_all(&mut self, piece: &[u8]) -> Result<Option<LoadFault>, AllocError>
+        requires count { taken self.old.reader + length piece.now < 2 ^ 40 }
+        requires read { (bytes : List ℕ) × HasRead self.old bytes }
+        ensures read { (bytes : List ℕ) → HasRead self.old bytes → IfOk result (λ o. ReadsOn self.new (bytes ++ piece.now) o) }
+        ensures count { IfOk result (λ o. IfNone o (taken self.new.reader ≡ taken self.old.reader + length piece.now)) }
+    {
+        let mut rest = piece;
+        loop {
+            let count = self.take_run(rest);
+            let (_, left) = rest.split_at(count);
+            let Some((byte, after)) = left.split_first() else {
+                return Ok(None);
+            };
+            if let Some(fault) = self.take(*byte)? {
+                return Ok(Some(fault));
+            }
+            rest = after;
+        }
+    }
+
+    /// The end of the bytes. It answers the fault where they end too early.
+    pub fn finish(&mut self) -> Result<Option<LoadFault>, AllocError>
+        ensures { (bytes : List ℕ) → HasRead self.old bytes → IfOk result (λ o. EndsAs self.new bytes o) }
+    {
+        match self.reader.finish(&mut self.events) {
+            Ok(()) => Ok(None),
+            Err(MarkError::Refused(fault)) => Ok(Some(fault_of_markup(fault))),
+            Err(MarkError::Memory) => Err(AllocError),
+        }
+    }
+
+    /// The repository that the bytes spell, which are whole.
+    pub fn into_repository(self) -> Result<Repository, AllocError>
+        requires { (told : List Placed) × HasLoaded self.selection told }
+        ensures { (bytes : List ℕ) (told : List Placed) → HasLoaded self.selection told → IsWholly bytes told → length bytes ≤ limit → IfOk result (λ r. Spells bytes r) }
+    {
+        self.selection.into_repository()
+    }
+}

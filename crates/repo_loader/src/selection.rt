@@ -1,0 +1,119 @@
+// The elements of a repository file that are read, by its events.
+ghost use Rattle.std.specs.Prelude.{◌≡◌, [], ◌∷◌, ◌++◌, List, IfOk, map, reverse};
+ghost use Rattle.lexical_core.specs.Tree.{Starts};
+ghost use Rattle.markup.specs.Events.{Placed};
+ghost use Rattle.markup.specs.EventItems.{entry_of, item_of, placed};
+ghost use Rattle.repo_loader.specs.Selected.{innermost as spec_innermost};
+ghost use Rattle.repo_loader.specs.File.{contents_of};
+ghost use Rattle.repo_loader.specs.LoadingSteps.{AreTexts};
+ghost use Rattle.repo_loader.specs.SelectionSteps.{HasLoaded, LoadsOn, HasItemTexts, HaveTexts, tags_told};
+
+use crate::fault::LoadFault;
+use crate::loading::Loading;
+use crate::part::Part;
+use crate::parts::part_in;
+use crate::stop::Stop;
+use markup::{Attr, Event, What};
+use repo_objects::Repository;
+use std::alloc::{AllocError, Global};
+
+/// What the events so far say, and which elements are open.
+#[derive(Drop)]
+pub struct Selection {
+    /// What the open elements are, the innermost the last.
+    open_parts: Vec<Part>,
+    loading: Loading,
+}
+
+impl Selection {
+    /// Before the first event. It takes no memory.
+    pub fn new(alloc: Global) -> Selection
+        ensures { HasLoaded result [] }
+    {
+        Selection {
+            open_parts: Vec::new(alloc),
+            loading: Loading::new(alloc),
+        }
+    }
+
+    /// What the next element stands in.
+    fn innermost(&self) -> Part
+        ensures { result ≡ spec_innermost (reverse self.now.open_parts.items) }
+    {
+        match self.open_parts.split_last() {
+            Some((part, _)) => *part,
+            None => Part::File,
+        }
+    }
+
+    /// Takes the start of an element.
+    fn take_start(
+        &mut self,
+        place: u64,
+        ns: &[u8],
+        local: &[u8],
+        attributes: &[Attr],
+    ) -> Result<Option<LoadFault>, AllocError>
+        requires loaded { (told : List Placed) × HasLoaded self.old told }
+        requires texts { AreTexts (map entry_of attributes.now) }
+        ensures { (told : List Placed) → HasLoaded self.old told → IfOk result (λ o. LoadsOn self.new (told ++ (record { place = place; item = Starts (record { namespace = ns.now; local = local.now }) (map entry_of attributes.now) }) ∷ []) o) }
+    {
+        let part = part_in(self.innermost(), ns, local, attributes);
+        self.open_parts.push(part)?;
+        if let Part::LeftOut = part {
+            return Ok(None);
+        }
+        match self.loading.take_tag(part, attributes) {
+            Ok(()) => Ok(None),
+            Err(Stop::Rule(rule)) => Ok(Some(LoadFault {
+                rule,
+                markup: None,
+                place,
+            })),
+            Err(Stop::Memory) => Err(AllocError),
+        }
+    }
+
+    /// Takes the next event.
+    fn take_event(&mut self, event: &Event) -> Result<Option<LoadFault>, AllocError>
+        requires loaded { (told : List Placed) × HasLoaded self.old told }
+        requires texts { HasItemTexts (item_of event.now.what) }
+        ensures { (told : List Placed) → HasLoaded self.old told → IfOk result (λ o. LoadsOn self.new (told ++ placed event.now ∷ []) o) }
+    {
+        match &event.what {
+            What::Start { ns, local, attrs } => {
+                self.take_start(event.place, ns.bytes(), local.bytes(), attrs.as_slice())
+            }
+            What::End { .. } => {
+                self.open_parts.pop();
+                Ok(None)
+            }
+            What::Char(_) => Ok(None),
+            What::Skipped => Ok(None),
+        }
+    }
+
+    /// Takes the next events, as far as the first whose element breaks a rule.
+    pub fn take_events(&mut self, events: &[Event]) -> Result<Option<LoadFault>, AllocError>
+        requires loaded { (told : List Placed) × HasLoaded self.old told }
+        requires texts { HaveTexts events.now }
+        ensures { (told : List Placed) → HasLoaded self.old told → IfOk result (λ o. LoadsOn self.new (told ++ map placed events.now) o) }
+    {
+        let mut rest = events;
+        while let Some((event, after)) = rest.split_first() {
+            if let Some(fault) = self.take_event(event)? {
+                return Ok(Some(fault));
+            }
+            rest = after;
+        }
+        Ok(None)
+    }
+
+    /// The repository that the events say, which are all of a file.
+    pub fn into_repository(self) -> Result<Repository, AllocError>
+        requires { (told : List Placed) × HasLoaded self told }
+        ensures { (told : List Placed) → HasLoaded self told → IfOk result (λ r. r ≡ contents_of (tags_told told)) }
+    {
+        self.loading.into_repository()
+    }
+}
