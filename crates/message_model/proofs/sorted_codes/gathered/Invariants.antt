@@ -1,0 +1,10 @@
+use Rattle.std.proofs.Common.{◌≡◌, drop}
+use Rattle.std.specs.List.{fold}
+use Rattle.message_model.specs.SimpleTypes.{put_text, sorted_texts, texts_of}
+use Rattle.message_model.specs.Sorted.{texts_in}
+use Rattle.message_model.proofs.sorted_codes.gathered.Given as goal
+
+-- the texts so far, and then those of the rest
+abbrev pub invariant-loop-code : goal.invariant-loop-code
+invariant-loop-code l = fold put_text (texts_in l.texts) (texts_of l.repository.objects l.fn.object (drop l.code l.fn.object.codes))
+    ≡ sorted_texts (texts_of l.repository.objects l.fn.object l.fn.object.codes)

@@ -1,0 +1,15 @@
+pub mod Admits
+pub mod Writes
+pub mod Tables
+pub mod Sound
+pub mod Message
+pub mod Views
+pub mod Quick
+pub mod Continued
+pub mod FacetRules
+pub mod SimpleTypes
+pub mod Ready
+pub mod Compiled
+pub mod Numbers
+pub mod FirstPlaces
+pub mod Sorted

@@ -1,0 +1,442 @@
+// The compiled types of a message, by number.
+ghost use Rattle.std.specs.Prelude.{◌≡◌, ◌↔◌, ◌<◌, ◌≤◌, ℕ, IsSome, List, [], length, slice_get, drop, Some, true};
+ghost use Rattle.std.specs.Option.{option_copied, option_map};
+ghost use Rattle.std.specs.Str.{bytes_eq};
+ghost use Rattle.reference_check.specs.Forms.{form_slots, text_type};
+ghost use Rattle.message_model.specs.Tables.{TypeEntry, types_of, namespace_of, namespace_front};
+ghost use Rattle.message_model.specs.Sound.{AreSound, HaveCodes, AreLinked, IsSoundForm};
+ghost use Rattle.reference_check.specs.Steps.{Came, EndsWith, next, end_after, end_of, find_slot, first_lacking, has_room, after_order};
+ghost use Rattle.reference_check.specs.Forms.{Slot as Slotted};
+ghost use Rattle.message_model.specs.Quick.{quick_sequence_next, quick_choice_next, quick_sequence_end, quick_choice_end, quick_at, due, HasTagAt, AreTagged};
+ghost use Rattle.message_model.specs.Views.{layout_form, slot_view, slots_view, next_view, end_view, IsFormOf};
+
+use facets::Simple;
+use lexical_core::Text;
+use repo_objects::MessageId;
+
+/// What the namespaces of all messages begin with.
+const NAMESPACE_FRONT: &[u8] = b"urn:iso:std:iso:20022:tech:xsd:";
+
+/// An element of a component or a choice, as it is kept.
+#[derive(Drop)]
+pub(crate) struct SlotInfo {
+    pub(crate) tag: Text,
+    pub(crate) min: u32,
+    pub(crate) max: Option<u32>,
+    pub(crate) target: u32,
+}
+
+/// What a type is to an instance, as it is kept.
+#[derive(Drop)]
+pub(crate) enum Layout {
+    Sequence(Vec<SlotInfo>),
+    Choice(Vec<SlotInfo>),
+    Simple(Simple),
+    Money { code: u32, base: Simple },
+    Envelope,
+}
+
+/// A type, as it is kept.
+#[derive(Drop)]
+pub(crate) struct TypeInfo {
+    pub(crate) word: Text,
+    pub(crate) name: Text,
+    pub(crate) layout: Layout,
+}
+
+/// The compiled types of a message. Type 0 is `Document`, type 1 the message.
+#[derive(Drop)]
+pub struct Model {
+    pub(crate) id: MessageId,
+    pub(crate) types: Vec<TypeInfo>,
+}
+
+/// What a type is to an instance.
+#[derive(Clone, Copy)]
+pub enum Form<'a> {
+    Sequence,
+    Choice,
+    Simple(&'a Simple),
+    Money { code: u32, base: &'a Simple },
+    Envelope,
+}
+
+/// An element of a component or a choice.
+#[derive(Clone, Copy)]
+pub struct Slot<'a> {
+    pub tag: &'a [u8],
+    pub min: u32,
+    pub max: Option<u32>,
+    pub target: u32,
+}
+
+/// What a tag is behind the slots that have come.
+#[derive(Clone, Copy, Debug, PartialEq, Eq)]
+pub enum Next {
+    Slot(u32),
+    Unknown,
+    OutOfOrder,
+    TooMany,
+    Missing(u32),
+    Second,
+}
+
+/// What the end is behind the slots that have come.
+#[derive(Clone, Copy, Debug, PartialEq, Eq)]
+pub enum End {
+    Fine,
+    Missing(u32),
+    NoAlternative,
+}
+
+impl std::marker::Model for Model {
+    ghost use Rattle.std.specs.Prelude.{map, length, ◌≤◌};
+    ghost use Rattle.message_model.specs.Tables.{Tables, types_of};
+    ghost use Rattle.message_model.specs.Sound.{AreSound, HaveCodes, AreLinked};
+    ghost use Rattle.message_model.specs.Views.{type_entry, tables};
+
+    ghost Value = { Tables };
+
+    ghost view = { λ m. tables m.id (map type_entry m.types.items) };
+
+    ghost invariant = { λ m. AreSound (types_of (tables m.id (map type_entry m.types.items))) × HaveCodes (types_of (tables m.id (map type_entry m.types.items))) × AreLinked (tables m.id (map type_entry m.types.items)) × (length m.types.items ≤ 65538) };
+}
+
+impl Model {
+    /// The identifier of the message.
+    pub fn id(&self) -> &MessageId
+        ensures { result.now ≡ self.now.id }
+    {
+        &self.id
+    }
+
+    /// The number of types. Each element of a type leads to one of them.
+    pub fn type_count(&self) -> u32
+        ensures count { result ≡ length self.now.types }
+        ensures sound { AreSound (types_of self.now) }
+        ensures codes { HaveCodes (types_of self.now) }
+        ensures linked { AreLinked self.now }
+    {
+        self.types.len() as u32
+    }
+
+    /// The word for the kind of a type; `None` where there is no type of this number.
+    pub fn word(&self, number: u32) -> Option<&[u8]>
+        ensures { option_copied result ≡ option_map (λ (t : TypeEntry). t.word) (slice_get self.now.types number) }
+    {
+        let entry = self.types.get(number as usize)?;
+        Some(entry.word.bytes())
+    }
+
+    /// The name of a type; `None` where there is no type of this number.
+    pub fn name(&self, number: u32) -> Option<&[u8]>
+        ensures { option_copied result ≡ option_map (λ (t : TypeEntry). t.name) (slice_get self.now.types number) }
+    {
+        let entry = self.types.get(number as usize)?;
+        Some(entry.name.bytes())
+    }
+
+    /// What a type is to an instance; `None` where there is no type of this number.
+    pub fn form(&self, number: u32) -> Option<Form<'_>>
+        ensures form { IsFormOf result (types_of self.now number) }
+        ensures there { IsSome result ↔ (number < length self.now.types) }
+    {
+        let entry = self.types.get(number as usize)?;
+        Some(match &entry.layout {
+            Layout::Sequence(_) => Form::Sequence,
+            Layout::Choice(_) => Form::Choice,
+            Layout::Simple(simple) => Form::Simple(simple),
+            Layout::Money { code, base } => Form::Money { code: *code, base },
+            Layout::Envelope => Form::Envelope,
+        })
+    }
+
+    /// The facets of the text of an element of the type; `None` where it has elements, or there is no such type.
+    pub fn text_type(&self, number: u32) -> Option<&Simple>
+        ensures { option_copied result ≡ text_type (types_of self.now number) }
+    {
+        match self.form(number)? {
+            Form::Simple(simple) => Some(simple),
+            Form::Money { base, .. } => Some(base),
+            _ => None,
+        }
+    }
+
+    /// Whether this is the namespace of the message's elements.
+    #[tactic(auto, using(crate::proofs::Names::parts_eq))]
+    pub fn is_namespace(&self, namespace: &[u8]) -> bool
+        ensures { result ≡ bytes_eq namespace.now (namespace_of self.now) }
+    {
+        if namespace.len() < NAMESPACE_FRONT.len() {
+            return false;
+        }
+        let (front, rest) = namespace.split_at(NAMESPACE_FRONT.len());
+        front == NAMESPACE_FRONT && rest == self.id.bytes()
+    }
+
+    /// An element of a component or a choice; `None` where the type has none of this number.
+    pub fn slot(&self, number: u32, at: u32) -> Option<Slot<'_>>
+        ensures { slot_view result ≡ slice_get (form_slots (types_of self.now number)) at }
+    {
+        let entry = self.types.get(number as usize)?;
+        match &entry.layout {
+            Layout::Sequence(slots) => slot_of(slots, at),
+            Layout::Choice(slots) => slot_of(slots, at),
+            _ => None,
+        }
+    }
+
+    /// What the tag is in an element of the type, whose last slot came so many times.
+    #[tactic(auto, using(crate::proofs::Due::form_found))]
+    pub fn next(&self, number: u32, last: Option<u32>, count: u64, tag: &[u8]) -> Next
+        ensures { (d : List ℕ) → Came (types_of self.now number) d → EndsWith d last count → next_view result ≡ next (types_of self.now number) d tag.now }
+    {
+        match self.types.get(number as usize) {
+            None => Next::Unknown,
+            Some(entry) => layout_next(&entry.layout, last, count, tag),
+        }
+    }
+
+    /// What the end is in an element of the type, whose last slot came so many times.
+    #[tactic(auto, using(crate::proofs::Due::form_found))]
+    pub fn end(&self, number: u32, last: Option<u32>, count: u64) -> End
+        ensures { (d : List ℕ) → Came (types_of self.now number) d → EndsWith d last count → end_view result ≡ end_after (types_of self.now number) d }
+    {
+        match self.types.get(number as usize) {
+            None => End::NoAlternative,
+            Some(entry) => layout_end(&entry.layout, last, count),
+        }
+    }
+}
+
+/// The first slot of the tag.
+#[tactic(auto, using(crate::proofs::Views::find_rest, crate::proofs::Views::find_end))]
+fn find_tag(slots: &[SlotInfo], tag: &[u8]) -> Option<u32>
+    requires { length slots.now ≤ 4096 }
+    ensures { result ≡ find_slot 0 (slots_view slots.now) tag.now }
+{
+    for (at, slot) in slots.iter().enumerate() {
+        if slot.tag.bytes() == tag {
+            return Some(at as u32);
+        }
+    }
+    None
+}
+
+/// Whether the slot has the tag.
+#[tactic(auto, using(crate::proofs::Views::slice_get_map))]
+fn has_tag(slots: &[SlotInfo], at: u32, tag: &[u8]) -> bool
+    ensures { result ≡ true → HasTagAt (slots_view slots.now) at tag.now }
+{
+    match slots.get(at as usize) {
+        Some(slot) => slot.tag.bytes() == tag,
+        None => false,
+    }
+}
+
+/// The slot of the tag. The last that came and the one behind it are compared before all others, since tags mostly come in
+/// order.
+fn find_near(slots: &[SlotInfo], last: Option<u32>, tag: &[u8]) -> Option<u32>
+    requires short { length slots.now ≤ 4096 }
+    requires apart { AreTagged (slots_view slots.now) }
+    ensures { result ≡ find_slot 0 (slots_view slots.now) tag.now }
+{
+    let near = last.unwrap_or(0);
+    if has_tag(slots, near, tag) {
+        return Some(near);
+    }
+    let behind = near.saturating_add(1);
+    if has_tag(slots, behind, tag) {
+        return Some(behind);
+    }
+    find_tag(slots, tag)
+}
+
+/// The first slot from one on, and before another, that has to come.
+#[tactic(auto, using(crate::proofs::Views::due_rest, crate::proofs::Views::due_end))]
+fn first_due(slots: &[SlotInfo], from: u32, to: u32) -> Option<u32>
+    requires from { from ≤ to }
+    requires to { to ≤ length slots.now }
+    ensures { result ≡ first_lacking from to (slots_view (drop from slots.now)) [] }
+{
+    for at in from..to {
+        if slots[at as usize].min > 0 {
+            return Some(at);
+        }
+    }
+    None
+}
+
+/// One more may come.
+fn is_open(count: u64, max: Option<u32>) -> bool
+    ensures { result ≡ has_room count max }
+{
+    match max {
+        None => true,
+        Some(max) => count < max as u64,
+    }
+}
+
+/// The slot, where none before it is due.
+fn after(at: u32, due: Option<u32>) -> Next
+    ensures { next_view result ≡ after_order at due }
+{
+    match due {
+        None => Next::Slot(at),
+        Some(due) => Next::Missing(due),
+    }
+}
+
+#[tactic(auto, using(crate::proofs::Views::slice_get_map))]
+fn choice_next(slots: &[SlotInfo], last: Option<u32>, count: u64, tag: &[u8]) -> Next
+    requires short { length slots.now ≤ 4096 }
+    requires apart { AreTagged (slots_view slots.now) }
+    ensures { next_view result ≡ quick_choice_next (slots_view slots.now) last count tag.now }
+{
+    let Some(at) = find_near(slots, last, tag) else {
+        return Next::Unknown;
+    };
+    let Some(slot) = slots.get(at as usize) else {
+        return Next::Unknown;
+    };
+    let Some(last) = last else {
+        return Next::Slot(at);
+    };
+    if at != last {
+        Next::Second
+    } else if is_open(count, slot.max) {
+        Next::Slot(at)
+    } else {
+        Next::TooMany
+    }
+}
+
+/// The first slot from the last one on, and before another, that lacks some.
+#[tactic(auto, using(crate::proofs::Views::slice_get_map, crate::proofs::Views::drop_view))]
+fn due_from(slots: &[SlotInfo], last: u32, count: u64, to: u32) -> Option<u32>
+    requires last { last < to }
+    requires to { to ≤ length slots.now }
+    requires short { length slots.now ≤ 4096 }
+    ensures { result ≡ due (slots_view slots.now) last count to }
+{
+    let min = slots[last as usize].min;
+    if count < min as u64 {
+        Some(last)
+    } else {
+        first_due(slots, last + 1, to)
+    }
+}
+
+/// What the slot is behind the last one, which came so many times.
+#[tactic(auto, using(crate::proofs::Views::slice_get_map))]
+fn sequence_at(slots: &[SlotInfo], last: Option<u32>, count: u64, at: u32) -> Next
+    requires short { length slots.now ≤ 4096 }
+    requires at { at < length slots.now }
+    ensures { (s : Slotted ℕ) → slice_get (slots_view slots.now) at ≡ Some s → next_view result ≡ quick_at (slots_view slots.now) last count at s }
+{
+    let Some(last) = last else {
+        return after(at, first_due(slots, 0, at));
+    };
+    if at < last {
+        Next::OutOfOrder
+    } else if at > last {
+        after(at, due_from(slots, last, count, at))
+    } else if is_open(count, slots[at as usize].max) {
+        Next::Slot(at)
+    } else {
+        Next::TooMany
+    }
+}
+
+/// What the tag is in a sequence.
+fn sequence_next(slots: &[SlotInfo], last: Option<u32>, count: u64, tag: &[u8]) -> Next
+    requires short { length slots.now ≤ 4096 }
+    requires apart { AreTagged (slots_view slots.now) }
+    ensures { next_view result ≡ quick_sequence_next (slots_view slots.now) last count tag.now }
+{
+    match find_near(slots, last, tag) {
+        None => Next::Unknown,
+        Some(at) => sequence_at(slots, last, count, at),
+    }
+}
+
+/// What the tag is in an element of this layout.
+fn layout_next(layout: &Layout, last: Option<u32>, count: u64, tag: &[u8]) -> Next
+    requires { IsSoundForm (layout_form layout.now) }
+    ensures { (d : List ℕ) → Came (layout_form layout.now) d → EndsWith d last count → next_view result ≡ next (layout_form layout.now) d tag.now }
+{
+    match layout {
+        Layout::Sequence(slots) => sequence_next(slots, last, count, tag),
+        Layout::Choice(slots) => choice_next(slots, last, count, tag),
+        _ => Next::Unknown,
+    }
+}
+
+/// The end, where this slot is the first that is due.
+fn lacks(due: Option<u32>) -> End
+    ensures { end_view result ≡ end_of due }
+{
+    match due {
+        None => End::Fine,
+        Some(due) => End::Missing(due),
+    }
+}
+
+/// What the end is in a sequence.
+fn sequence_end(slots: &[SlotInfo], last: Option<u32>, count: u64) -> End
+    requires { length slots.now ≤ 4096 }
+    ensures { end_view result ≡ quick_sequence_end (slots_view slots.now) last count }
+{
+    let to = slots.len() as u32;
+    let Some(last) = last else {
+        return lacks(first_due(slots, 0, to));
+    };
+    if last < to {
+        lacks(due_from(slots, last, count, to))
+    } else {
+        End::Fine
+    }
+}
+
+/// What the end is in a choice.
+#[tactic(auto, using(crate::proofs::Views::slice_get_map))]
+fn choice_end(slots: &[SlotInfo], last: Option<u32>, count: u64) -> End
+    ensures { end_view result ≡ quick_choice_end (slots_view slots.now) last count }
+{
+    let Some(last) = last else {
+        return End::NoAlternative;
+    };
+    let Some(slot) = slots.get(last as usize) else {
+        return End::NoAlternative;
+    };
+    if count < slot.min as u64 {
+        End::Missing(last)
+    } else {
+        End::Fine
+    }
+}
+
+/// What the end is in an element of this layout.
+fn layout_end(layout: &Layout, last: Option<u32>, count: u64) -> End
+    requires { IsSoundForm (layout_form layout.now) }
+    ensures { (d : List ℕ) → Came (layout_form layout.now) d → EndsWith d last count → end_view result ≡ end_after (layout_form layout.now) d }
+{
+    match layout {
+        Layout::Sequence(slots) => sequence_end(slots, last, count),
+        Layout::Choice(slots) => choice_end(slots, last, count),
+        _ => End::NoAlternative,
+    }
+}
+
+#[tactic(auto, using(crate::proofs::Views::slice_get_map))]
+fn slot_of(slots: &[SlotInfo], at: u32) -> Option<Slot<'_>>
+    ensures { slot_view result ≡ slice_get (slots_view slots.now) at }
+{
+    let slot = slots.get(at as usize)?;
+    Some(Slot {
+        tag: slot.tag.bytes(),
+        min: slot.min,
+        max: slot.max,
+        target: slot.target,
+    })
+}
