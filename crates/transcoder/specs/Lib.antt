@@ -1,0 +1,4 @@
+pub mod Checked
+pub mod CheckErrors
+pub mod Laws
+pub mod Reading

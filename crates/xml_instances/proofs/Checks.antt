@@ -1,0 +1,138 @@
+-- A checker that goes from event to event, and from byte to byte.
+use Rattle.std.proofs.Common.{◌≡◌, ℕ, ◌+◌, ◌-◌, ◌^◌, ◌<◌, ◌≤◌, arith, List, [], ◌∷◌, ◌++◌, Some, None, refl, sym, ap, ◌∙◌, length, map, subst, append_assoc, append-nil, length-append}
+use Rattle.std.proofs.lemmas.List.{map-append}
+use Rattle.lexical_core.specs.Tree.{Item}
+use Rattle.markup.specs.Events.{Placed}
+use Rattle.markup.specs.EventItems.{item_of, placed, Tells}
+use Rattle.markup.specs.Reading.{GoesOn, IsWholly, taken}
+use Rattle.markup.specs.declared.event.Event.{Event}
+use Rattle.message_model.specs.Message.{Message}
+use Rattle.message_model.specs.Tables.{Tables, message_of, types_of}
+use Rattle.message_model.specs.Sound.{AreSound}
+use Rattle.xml_instances.specs.Levels.{Level, levels_after, levels_over}
+use Rattle.xml_instances.specs.EventFaults.{Broken, EventFault, AreFine}
+use Rattle.xml_instances.specs.XmlFaults.{XmlFault, items_told}
+use Rattle.xml_instances.specs.Laws.{FineIsSpelled}
+use Rattle.xml_instances.specs.Open.{IsOpen, IsTaken}
+use Rattle.xml_instances.specs.Checking.{items_of, IsTold, AreTaken, BreaksAt, Stops, fault_of, HasFed, IsSpelled, fed}
+use Rattle.xml_instances.specs.declared.content.Content.{Content}
+use Rattle.std.specs.Prelude.{Err, min}
+use Rattle.message_model.specs.declared.fault.InstanceError.{InstanceError}
+use Rattle.message_model.specs.declared.fault.InstanceError.TheVariants.{Refused, Memory}
+use Rattle.xml_instances.specs.declared.opened.Refusal.{Refusal}
+use Rattle.xml_instances.specs.declared.opened.Refusal.TheVariants.{Breaks, Memory as NoMemory}
+use Rattle.xml_instances.specs.declared.checker.XmlChecker.{XmlChecker}
+use Rattle.xml_instances.proofs.FaultAt.{fine_joined, over_joined}
+
+-- of the events those before the rest are taken
+pub record TakenSoFar (m : Message ℕ) (ls : List (Level ℕ)) (events rest : List Event) (content : Content) : Type 0 where
+  pub before : List Event
+  pub events_are : events ≡ before ++ rest
+  pub fine : AreFine m ls (items_of before)
+  pub opens : IsOpen content m (levels_over m ls (items_of before))
+
+pub none_taken : (m : Message ℕ) (ls : List (Level ℕ)) (events : List Event) (content : Content) → IsOpen content m ls → TakenSoFar m ls events events content
+none_taken m ls events content h = record { before = []; events_are = refl; fine = tt; opens = h }
+
+items_joined : (a b : List Event) → items_of (a ++ b) ≡ items_of a ++ items_of b
+items_joined a b = map-append (λ (e : Event). item_of e.what) a b
+
+pub one_taken : (m : Message ℕ) (ls : List (Level ℕ)) (events rest : List Event) (e : Event) (old new : Content) (t : TakenSoFar m ls events (e ∷ rest) old)
+    → EventFault m (levels_over m ls (items_of t.before)) (item_of e.what) None → IsOpen new m (levels_after m (levels_over m ls (items_of t.before)) (item_of e.what)) → TakenSoFar m ls events rest new
+one_taken m ls events rest e old new t h k = record {
+  before = t.before ++ e ∷ [];
+  events_are = t.events_are ∙ sym (append_assoc t.before (e ∷ []) rest);
+  fine = subst (λ (x : List Item). AreFine m ls x) (sym (items_joined t.before (e ∷ []))) (fine_joined m ls (items_of t.before) (item_of e.what ∷ []) t.fine (h, tt));
+  opens = subst (λ (x : List (Level ℕ)). IsOpen new m x) (sym (ap (levels_over m ls) (items_joined t.before (e ∷ [])) ∙ over_joined m ls (items_of t.before) (item_of e.what ∷ []))) k;
+}
+
+pub all_taken : (m : Message ℕ) (ls : List (Level ℕ)) (events : List Event) (content : Content) → TakenSoFar m ls events [] content → AreFine m ls (items_of events) × IsOpen content m (levels_over m ls (items_of events))
+all_taken m ls events content t =
+    let same : t.before ≡ events = sym (t.events_are ∙ append-nil t.before) in
+    (subst (λ (x : List Event). AreFine m ls (items_of x)) same t.fine, subst (λ (x : List Event). IsOpen content m (levels_over m ls (items_of x))) same t.opens)
+
+pub broken_at : (m : Message ℕ) (ls : List (Level ℕ)) (events rest : List Event) (e : Event) (content : Content) (b : Broken) (t : TakenSoFar m ls events (e ∷ rest) content)
+    → EventFault m (levels_over m ls (items_of t.before)) (item_of e.what) (Some b) → BreaksAt m ls events b e.place
+broken_at m ls events rest e content b t h = record { before = t.before; event = e; behind = rest; events_are = t.events_are; fine = t.fine; broken = h; place_is = refl }
+
+pub told_at : (m : Message ℕ) (ls : List (Level ℕ)) (events rest : List Event) (e : Event) (old new content : Content) (r : Refusal) (told : InstanceError) (t : TakenSoFar m ls events (e ∷ rest) old)
+    → IsTaken {T = Unit {0}} m (levels_over m ls (items_of t.before)) e.what new (Err r) → IsTold r e.place told → AreTaken {T = Unit {0}} m ls events content (Err told)
+told_at m ls events rest e old new content (Breaks rule path) (Refused fault) t h (same_rule, same_path, same_place) =
+    let b : BreaksAt m ls events (record { rule = rule; path = path }) e.place = broken_at m ls events rest e old (record { rule = rule; path = path }) t h in
+    rw (same_rule, same_path, same_place) b
+told_at m ls events rest e old new content (Breaks rule path) Memory t h k = absurd k
+told_at m ls events rest e old new content NoMemory (Refused fault) t h k = absurd k
+told_at m ls events rest e old new content NoMemory Memory t h k = tt
+
+-- ---- bytes
+
+pub items_placed : (events : List Event) → items_told (map placed events) ≡ items_of events
+items_placed [] = refl
+items_placed (e ∷ es) = ap (λ v. item_of e.what ∷ v) (items_placed es)
+
+pub items_new : (old new : List Event) (more : List Placed) → old ≡ [] → Tells old new more → items_told more ≡ items_of new
+items_new old new more e t = ap items_told (sym t.told_are) ∙ (items_placed t.more ∙ ap items_of (sym (t.appended ∙ ap (λ v. v ++ t.more) e)))
+
+pub told_joined : (a b : List Placed) → items_told (a ++ b) ≡ items_told a ++ items_told b
+told_joined a b = map-append (λ (e : Placed). e.item) a b
+
+length_one : (bytes : List ℕ) (byte : ℕ) (n m : ℕ) → m ≡ length bytes → n ≡ m + 1 → n ≡ length (bytes ++ byte ∷ [])
+length_one bytes byte n m e f = f ∙ (ap (λ v. v + 1) e ∙ sym (length-append bytes (byte ∷ [])))
+
+-- the place behind more bytes
+pub place_more : (bytes more : List ℕ) (place given n : ℕ) → place ≡ length bytes → given ≡ length bytes → n ≡ length more → given + n ≤ 2 ^ 40 → min (place + n) (2 ^ 64 - 1) ≡ length (bytes ++ more)
+place_more bytes more place given n e f g room = omega (arith, e, f, g, room, length-append bytes more)
+
+-- one more byte, whose events break no rule
+pub fed_on : (T : Tables) (old new : XmlChecker) (bytes : List ℕ) (byte : ℕ) (events : List Event) (h : HasFed old T bytes) → GoesOn new.reader (bytes ++ byte ∷ []) h.told old.events events
+    → taken new.reader ≡ taken old.reader + 1 → AreFine (message_of T) (levels_over (message_of T) [] (items_told h.told)) (items_of events)
+    → IsOpen new.content (message_of T) (levels_over (message_of T) (levels_over (message_of T) [] (items_told h.told)) (items_of events)) → new.events ≡ [] → new.failed ≡ None → new.place ≡ min (old.place + 1) (2 ^ 64 - 1) → fed old < 2 ^ 40 → HasFed new T (bytes ++ byte ∷ [])
+fed_on T old new bytes byte events h g n fine opens e sound place room = record {
+  told = h.told ++ g.more;
+  given = g.taken_are;
+  counted = length_one bytes byte (taken new.reader) (taken old.reader) h.counted n;
+  placed = place ∙ place_more bytes (byte ∷ []) old.place (taken old.reader) 1 h.placed h.counted refl (omega (arith, room));
+  fine = subst (λ (x : List Item). AreFine (message_of T) [] x) (sym items_are) (fine_joined (message_of T) [] (items_told h.told) (items_of events) h.fine fine);
+  open_are = subst (λ (x : List (Level ℕ)). IsOpen new.content (message_of T) x) (sym (ap (levels_over (message_of T) []) items_are ∙ over_joined (message_of T) [] (items_told h.told) (items_of events))) opens;
+  none = e;
+  sound = sound;
+}
+  where
+    items_are : items_told (h.told ++ g.more) ≡ items_told h.told ++ items_of events
+    items_are = told_joined h.told g.more ∙ ap (λ v. items_told h.told ++ v) (items_new old.events events g.more h.none g.tells)
+
+-- of a piece the bytes before the rest are fed
+pub record FedSoFar (T : Tables) (checker : XmlChecker) (bytes piece rest : List ℕ) : Type 0 where
+  pub seen : List ℕ
+  pub piece_is : piece ≡ seen ++ rest
+  pub fed_are : HasFed checker T (bytes ++ seen)
+
+pub none_fed : (T : Tables) (checker : XmlChecker) (bytes piece : List ℕ) → HasFed checker T bytes → FedSoFar T checker bytes piece piece
+none_fed T checker bytes piece h = record { seen = []; piece_is = refl; fed_are = subst (HasFed checker T) (sym (append-nil bytes)) h }
+
+pub one_fed : (T : Tables) (old new : XmlChecker) (bytes piece rest : List ℕ) (byte : ℕ) (s : FedSoFar T old bytes piece (byte ∷ rest)) → HasFed new T ((bytes ++ s.seen) ++ byte ∷ []) → FedSoFar T new bytes piece rest
+one_fed T old new bytes piece rest byte s h = record {
+  seen = s.seen ++ byte ∷ [];
+  piece_is = s.piece_is ∙ sym (append_assoc s.seen (byte ∷ []) rest);
+  fed_are = subst (HasFed new T) (append_assoc bytes s.seen (byte ∷ [])) h;
+}
+
+pub all_fed : (T : Tables) (checker : XmlChecker) (bytes piece : List ℕ) → FedSoFar T checker bytes piece [] → HasFed checker T (bytes ++ piece)
+all_fed T checker bytes piece s = subst (λ v. HasFed checker T (bytes ++ v)) (sym (s.piece_is ∙ append-nil s.seen)) s.fed_are
+
+-- the end
+pub spelled_at_end : (T : Tables) (checker : XmlChecker) (bytes : List ℕ) → FineIsSpelled → AreSound (types_of T) → (h : HasFed checker T bytes) → IsWholly bytes h.told → IsSpelled T bytes
+spelled_at_end T checker bytes law sound h (tokens, marks, clean, over, told) =
+    law (message_of T) bytes tokens sound marks clean over (subst (λ (x : List Placed). AreFine (message_of T) [] (items_told x)) told h.fine)
+
+-- a byte that shows a fault, in a piece
+pub fault_seen : (T : Tables) (checker : XmlChecker) (bytes piece rest : List ℕ) (byte : ℕ) (e : InstanceError) (s : FedSoFar T checker bytes piece (byte ∷ rest)) → Stops T ((bytes ++ s.seen) ++ byte ∷ []) e → Stops T (bytes ++ piece) e
+fault_seen T checker bytes piece rest byte Memory s h = tt
+fault_seen T checker bytes piece rest byte (Refused fault) s h = record {
+  has_fault = λ behind. subst (λ (v : List ℕ). XmlFault (message_of T) v (fault_of fault)) (regrouped behind) (h.has_fault (rest ++ behind));
+  no_cut = h.no_cut;
+}
+  where
+    regrouped : (behind : List ℕ) → ((bytes ++ s.seen) ++ byte ∷ []) ++ (rest ++ behind) ≡ (bytes ++ piece) ++ behind
+    regrouped behind = append_assoc (bytes ++ s.seen) (byte ∷ []) (rest ++ behind) ∙ (append_assoc bytes s.seen (byte ∷ (rest ++ behind))
+        ∙ (ap (λ v. bytes ++ v) (sym (append_assoc s.seen (byte ∷ rest) behind)) ∙ (ap (λ v. bytes ++ (v ++ behind)) (sym s.piece_is) ∙ sym (append_assoc bytes piece behind))))

@@ -1,0 +1,42 @@
+-- Runs of characters and whole tags, held to a message. Private functions alone cite this.
+use Rattle.std.specs.Prelude.{◌≡◌, ℕ, true, false, List, [], ◌∷◌, map, Option, Some, None, Result, Ok, Err}
+use Rattle.std.specs.List.{list_all}
+use Rattle.lexical_core.specs.Tree.{Expanded, Item, Char}
+use Rattle.markup.specs.Chars.{is_space}
+use Rattle.facets.specs.declared.simple.Simple.{Simple}
+use Rattle.reference_check.specs.Forms.{Graph}
+use Rattle.message_model.specs.Message.{Message}
+use Rattle.xml_instances.specs.Levels.{Level, Parent, Leaf, Envelope, Foreign, levels_over}
+use Rattle.xml_instances.specs.EventFaults.{AreFine, FirstFault, is_bare}
+use Rattle.xml_instances.specs.Open.{IsOpen}
+use Rattle.xml_instances.specs.declared.opened.Opened.{Opened}
+use Rattle.xml_instances.specs.declared.opened.Opened.TheVariants as opened
+use Rattle.xml_instances.specs.declared.opened.Refusal.{Refusal}
+use Rattle.xml_instances.specs.declared.opened.Refusal.TheVariants.{Breaks, Memory}
+use Rattle.xml_instances.specs.declared.content.Content.{Content}
+
+-- The bytes may be characters of the innermost element: between elements they are white space, where there is a place for it.
+abbrev pub MayTake : Graph ℕ Simple → Option Opened → List ℕ → Type 0
+MayTake types (Some (opened.Parent number last count)) bytes = (is_bare (types number) ≡ false) × (list_all is_space bytes ≡ true)
+MayTake types (Some (opened.Envelope filled)) bytes = list_all is_space bytes ≡ true
+MayTake types (Some opened.Text) bytes = Unit {0}
+MayTake types (Some opened.Foreign) bytes = Unit {0}
+MayTake types None bytes = Unit {0}
+
+-- the characters break no rule, and the content stands behind them
+abbrev pub IsRunTaken : Message ℕ → List (Level ℕ) → List ℕ → Content → Type 0
+IsRunTaken m ls cs content = AreFine m ls (map (λ c. Char c) cs) × IsOpen content m (levels_over m ls (map (λ c. Char c) cs))
+
+-- what the comparison of events answers that stand at one place
+abbrev pub AreItemsTaken : {T : Type 0} → Message ℕ → List (Level ℕ) → List Item → Content → Result T Refusal → Type 0
+AreItemsTaken m ls items content (Ok x) = AreFine m ls items × IsOpen content m (levels_over m ls items)
+AreItemsTaken m ls items content (Err (Breaks rule path)) = FirstFault m ls items (record { rule = rule; path = path })
+AreItemsTaken m ls items content (Err Memory) = Unit {0}
+
+-- the name is in the namespace of the innermost element, where that has elements of the message
+abbrev pub IsOurs : Message ℕ → List (Level ℕ) → Expanded → Type 0
+IsOurs m [] n = n.namespace ≡ []
+IsOurs m (Parent f d ∷ ls) n = n.namespace ≡ m.namespace
+IsOurs m (Leaf simple text ∷ ls) n = Unit {0}
+IsOurs m (Envelope filled ∷ ls) n = Unit {0}
+IsOurs m (Foreign ∷ ls) n = Unit {0}

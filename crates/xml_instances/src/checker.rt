@@ -1,0 +1,332 @@
+// A checker of XML instances that takes their bytes in pieces.
+ghost use Rattle.std.specs.Prelude.{◌≡◌, ◌<◌, ◌+◌, ◌≤◌, ◌^◌, ◌∷◌, ◌++◌, ℕ, List, [], IfOk, IfErr, Option, Some, None, Err, length};
+ghost use Rattle.markup.specs.Reading.{taken};
+ghost use Rattle.message_model.specs.Tables.{Tables, message_of, types_of};
+ghost use Rattle.xml_instances.specs.Levels.{Level, levels_over};
+ghost use Rattle.xml_instances.specs.XmlFaults.{items_told};
+ghost use Rattle.xml_instances.specs.Open.{IsOpen, AreMade};
+ghost use Rattle.xml_instances.specs.Checking.{HasFed, AreTaken, IsTold, IsMarkTold, Stops, IsSpelled, EndsAs, IsMadeFor, IsSameOrMemory, IsAgain, TakesFront, fed, failed};
+
+use crate::content::Content;
+use crate::opened::Refusal;
+use markup::{Event, Events, MarkError, MarkFault, Reader};
+use message_model::{Fault, InstanceError, Model};
+use std::alloc::{AllocError, Global};
+
+/// A checker of an instance. It keeps the open token, the open elements and the open leaf, and nothing of what is closed.
+#[derive(Drop)]
+pub struct XmlChecker {
+    alloc: Global,
+    reader: Reader,
+    /// The events of the last byte.
+    events: Events,
+    content: Content,
+    /// How many bytes it was given.
+    place: u64,
+    /// The answer that it gives for good, where there is one.
+    failed: Option<InstanceError>,
+}
+
+/// An equal error, in memory of its own.
+fn copy_of(alloc: Global, error: &InstanceError) -> Result<InstanceError, AllocError>
+    ensures { IfOk result (λ e. e ≡ error.now) }
+{
+    match error {
+        InstanceError::Refused(fault) => Ok(InstanceError::Refused(Fault {
+            rule: fault.rule,
+            place: fault.place,
+            path: fault.path.copy(alloc)?,
+        })),
+        InstanceError::Memory => Ok(InstanceError::Memory),
+    }
+}
+
+/// What an event at the place breaks, as it is told.
+fn told(refusal: Refusal, place: u64) -> InstanceError
+    ensures { IsTold refusal place result }
+{
+    match refusal {
+        Refusal::Breaks(rule, path) => InstanceError::Refused(Fault { rule, place, path }),
+        Refusal::Memory => InstanceError::Memory,
+    }
+}
+
+/// Holds events that were told together to the message.
+#[tactic(auto, using(crate::proofs::Checks::none_taken, crate::proofs::Checks::one_taken, crate::proofs::Checks::all_taken))]
+fn take_all(content: &mut Content, model: &Model, events: &[Event]) -> Result<(), InstanceError>
+    requires { AreMade (types_of model.now) content.old }
+    ensures made { AreMade (types_of model.now) content.new }
+    ensures taken { (ls : List (Level ℕ)) → IsOpen content.old (message_of model.now) ls → AreTaken (message_of model.now) ls events.now content.new result }
+{
+    let mut rest = events;
+    while let Some((event, after)) = rest.split_first() {
+        match content.take(model, &event.what) {
+            Ok(()) => {}
+            Err(refusal) => return Err(told(refusal, event.place)),
+        }
+        rest = after;
+    }
+    Ok(())
+}
+
+impl XmlChecker {
+    /// A checker for the message before the first byte.
+    pub fn new(alloc: Global, model: &Model) -> Result<XmlChecker, AllocError>
+        ensures fed { IfOk result (λ c. HasFed c model.now []) }
+        ensures made { IfOk result (λ c. IsMadeFor c model.now) }
+        ensures none { IfOk result (λ c. fed c ≡ 0) }
+    {
+        Ok(XmlChecker {
+            alloc,
+            reader: Reader::new(alloc),
+            events: Events::new(alloc),
+            content: Content::new(alloc, model),
+            place: 0,
+            failed: None,
+        })
+    }
+
+    /// How many elements are open, those in envelopes too.
+    pub fn depth(&self) -> usize
+        ensures { (T : Tables) (bytes : List ℕ) (h : HasFed self.now T bytes) → result ≡ length (levels_over (message_of T) [] (items_told h.told)) }
+    {
+        self.content.depth()
+    }
+
+    /// A fault of markup, with the path of the open elements.
+    fn mark_error(&self, model: &Model, fault: MarkFault) -> InstanceError
+        ensures { (ls : List (Level ℕ)) → IsOpen self.now.content (message_of model.now) ls → IsMarkTold fault ls result }
+    {
+        match self.content.path(self.alloc, model) {
+            Ok(path) => InstanceError::Refused(Fault {
+                rule: fault.rule,
+                place: fault.place,
+                path,
+            }),
+            Err(_) => InstanceError::Memory,
+        }
+    }
+
+    /// Takes the next bytes, of at most 2^40 in all. It answers the first fault at the byte that
+    /// shows it, its place a byte number from 0. After an error it gives the same answer to every
+    /// later call, or that there is no memory for it.
+    pub fn feed(&mut self, model: &Model, piece: &[u8]) -> Result<(), InstanceError>
+        requires room { failed self.old ≡ None → fed self.old + length piece.now ≤ 2 ^ 40 }
+        requires made { IsMadeFor self.old model.now }
+        ensures made { IsMadeFor self.new model.now }
+        ensures ok { (bytes : List ℕ) → HasFed self.old model.now bytes → IfOk result (λ _. HasFed self.new model.now (bytes ++ piece.now)) }
+        ensures err { (bytes : List ℕ) → HasFed self.old model.now bytes → IfErr result (λ e. Stops model.now (bytes ++ piece.now) e) }
+        ensures count { IfOk result (λ _. fed self.new ≡ fed self.old + length piece.now) }
+        ensures failed { failed self.old ≡ None → IfErr result (λ e. failed self.new ≡ Some e) }
+        ensures again { (e : InstanceError) → failed self.old ≡ Some e → IsAgain e result × (failed self.new ≡ failed self.old) }
+    {
+        if let Some(error) = &self.failed {
+            return Err(match copy_of(self.alloc, error) {
+                Ok(error) => error,
+                Err(_) => InstanceError::Memory,
+            });
+        }
+        match self.feed_all(model, piece) {
+            Ok(()) => Ok(()),
+            Err(error) => Err(self.stop(error)),
+        }
+    }
+
+    /// Goes on no more, and keeps why; where there is no memory for that, the error is that.
+    fn stop(&mut self, error: InstanceError) -> InstanceError
+        ensures same { IsSameOrMemory error result }
+        ensures kept { failed self.new ≡ Some result }
+        ensures content { self.new.content ≡ self.old.content }
+    {
+        match copy_of(self.alloc, &error) {
+            Ok(copy) => {
+                self.failed = Some(copy);
+                error
+            }
+            Err(_) => {
+                self.failed = Some(InstanceError::Memory);
+                InstanceError::Memory
+            }
+        }
+    }
+
+    /// Takes the next bytes, where nothing was refused.
+    #[tactic(auto, using(crate::proofs::Checks::none_fed, crate::proofs::Checks::all_fed))]
+    fn feed_all(&mut self, model: &Model, piece: &[u8]) -> Result<(), InstanceError>
+        requires room { fed self.old + length piece.now ≤ 2 ^ 40 }
+        requires made { IsMadeFor self.old model.now }
+        ensures made { IsMadeFor self.new model.now }
+        ensures ok { (bytes : List ℕ) → HasFed self.old model.now bytes → IfOk result (λ _. HasFed self.new model.now (bytes ++ piece.now)) }
+        ensures err { (bytes : List ℕ) → HasFed self.old model.now bytes → IfErr result (λ e. Stops model.now (bytes ++ piece.now) e) }
+        ensures count { IfOk result (λ _. fed self.new ≡ fed self.old + length piece.now) }
+    {
+        let mut rest = piece;
+        while !rest.is_empty() {
+            match self.take_front(model, rest) {
+                Ok(count) => {
+                    let (_, behind) = rest.split_at(count);
+                    rest = behind;
+                }
+                Err(error) => return Err(error),
+            }
+        }
+        Ok(())
+    }
+
+    /// Takes a run of characters, a whole tag or else a byte from the front of the piece, and answers
+    /// how many bytes that are.
+    fn take_front(&mut self, model: &Model, piece: &[u8]) -> Result<usize, InstanceError>
+        requires some { 0 < length piece.now }
+        requires room { fed self.old + length piece.now ≤ 2 ^ 40 }
+        requires made { IsMadeFor self.old model.now }
+        ensures made { IsMadeFor self.new model.now }
+        ensures front { TakesFront model.now self.old self.new piece.now result }
+        ensures some { IfOk result (λ n. 0 < n) }
+    {
+        let run = match self.take_run(model, piece) {
+            Ok(run) => run,
+            Err(error) => return Err(error),
+        };
+        if run > 0 {
+            return Ok(run);
+        }
+        let tag = match self.take_tag(model, piece) {
+            Ok(tag) => tag,
+            Err(error) => return Err(error),
+        };
+        if tag > 0 {
+            return Ok(tag);
+        }
+        self.take_first(model, piece)
+    }
+
+    /// Takes the run of characters at the front of the piece that may stand in the innermost element,
+    /// if there is one.
+    fn take_run(&mut self, model: &Model, piece: &[u8]) -> Result<usize, InstanceError>
+        requires room { fed self.old + length piece.now ≤ 2 ^ 40 }
+        requires made { IsMadeFor self.old model.now }
+        ensures made { IsMadeFor self.new model.now }
+        ensures front { TakesFront model.now self.old self.new piece.now result }
+    {
+        let room = self.content.run_room(model, piece);
+        let run = self.reader.take_characters(&piece[..room]);
+        if run.bytes == 0 {
+            return Ok(0);
+        }
+        match self
+            .content
+            .take_run(model, &piece[..run.bytes], run.characters)
+        {
+            Ok(()) => {
+                self.place = self.place.saturating_add(run.bytes as u64);
+                Ok(run.bytes)
+            }
+            Err(_) => Err(InstanceError::Memory),
+        }
+    }
+
+    /// Takes the whole tag at the front of the piece, if one stands there without attributes.
+    fn take_tag(&mut self, model: &Model, piece: &[u8]) -> Result<usize, InstanceError>
+        requires room { fed self.old + length piece.now ≤ 2 ^ 40 }
+        requires made { IsMadeFor self.old model.now }
+        ensures made { IsMadeFor self.new model.now }
+        ensures front { TakesFront model.now self.old self.new piece.now result }
+    {
+        markup::laws::events_stay();
+        let place = self.place;
+        let tag = match self.reader.take_tag(piece) {
+            Ok(Some(tag)) => tag,
+            Ok(None) => return Ok(0),
+            Err(_) => return Err(InstanceError::Memory),
+        };
+        match self.content.take_tag(model, tag.kind, tag.name) {
+            Ok(()) => {
+                self.place = self.place.saturating_add(tag.bytes as u64);
+                Ok(tag.bytes)
+            }
+            Err(refusal) => Err(told(refusal, place)),
+        }
+    }
+
+    /// Takes the first byte of the piece.
+    fn take_first(&mut self, model: &Model, piece: &[u8]) -> Result<usize, InstanceError>
+        requires some { 0 < length piece.now }
+        requires room { fed self.old + length piece.now ≤ 2 ^ 40 }
+        requires made { IsMadeFor self.old model.now }
+        ensures made { IsMadeFor self.new model.now }
+        ensures front { TakesFront model.now self.old self.new piece.now result }
+        ensures some { IfOk result (λ n. 0 < n) }
+    {
+        let Some((byte, _behind)) = piece.split_first() else {
+            return Ok(0);
+        };
+        match self.take(model, *byte) {
+            Ok(()) => Ok(1),
+            Err(error) => Err(error),
+        }
+    }
+
+    /// Takes the next byte.
+    #[tactic(auto, using(crate::proofs::Checks::fed_on))]
+    fn take(&mut self, model: &Model, byte: u8) -> Result<(), InstanceError>
+        requires room { fed self.old < 2 ^ 40 }
+        requires made { IsMadeFor self.old model.now }
+        ensures made { IsMadeFor self.new model.now }
+        ensures ok { (bytes : List ℕ) → HasFed self.old model.now bytes → IfOk result (λ _. HasFed self.new model.now (bytes ++ byte ∷ [])) }
+        ensures err { (bytes : List ℕ) → HasFed self.old model.now bytes → IfErr result (λ e. Stops model.now (bytes ++ byte ∷ []) e) }
+        ensures count { IfOk result (λ _. fed self.new ≡ fed self.old + 1) }
+    {
+        markup::laws::one_token();
+        markup::laws::fronts_agree();
+        markup::laws::events_stay();
+        markup::laws::nothing_at_clean();
+        markup::laws::tokens_have_bytes();
+        match self.reader.take(byte, &mut self.events) {
+            Ok(()) => {
+                if let Err(error) = take_all(&mut self.content, model, self.events.as_slice()) {
+                    return Err(error);
+                }
+                self.events.clear();
+                self.place = self.place.saturating_add(1);
+                Ok(())
+            }
+            Err(MarkError::Refused(fault)) => {
+                if let Err(error) = take_all(&mut self.content, model, self.events.as_slice()) {
+                    return Err(error);
+                }
+                Err(self.mark_error(model, fault))
+            }
+            Err(MarkError::Memory) => Err(InstanceError::Memory),
+        }
+    }
+
+    /// The end of the bytes: they spell an instance, or have a first fault. After an error of `feed`
+    /// it gives the same.
+    pub fn finish(mut self, model: &Model) -> Result<(), InstanceError>
+        ensures ok { (bytes : List ℕ) → HasFed self model.now bytes → IfOk result (λ _. IsSpelled model.now bytes) }
+        ensures err { (bytes : List ℕ) → HasFed self model.now bytes → IfErr result (λ e. EndsAs model.now bytes e) }
+        ensures again { (e : InstanceError) → failed self ≡ Some e → result ≡ Err e }
+    {
+        if let Some(error) = self.failed.take() {
+            return Err(error);
+        }
+        self.finish_all(model)
+    }
+
+    /// The end of the bytes, where nothing was refused.
+    fn finish_all(&mut self, model: &Model) -> Result<(), InstanceError>
+        ensures ok { (bytes : List ℕ) → HasFed self.old model.now bytes → IfOk result (λ _. IsSpelled model.now bytes) }
+        ensures err { (bytes : List ℕ) → HasFed self.old model.now bytes → IfErr result (λ e. EndsAs model.now bytes e) }
+    {
+        markup::laws::one_token();
+        markup::laws::events_are_all();
+        markup::laws::nothing_at_clean();
+        crate::laws::fine_is_spelled();
+        let _ = model.type_count();
+        match self.reader.finish(&mut self.events) {
+            Ok(()) => Ok(()),
+            Err(MarkError::Refused(fault)) => Err(self.mark_error(model, fault)),
+            Err(MarkError::Memory) => Err(InstanceError::Memory),
+        }
+    }
+}

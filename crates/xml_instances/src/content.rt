@@ -1,0 +1,620 @@
+// The elements of an instance that are open, held to the types of its message.
+ghost use Rattle.std.specs.Prelude.{◌≡◌, ℕ, List, [], ◌∷◌, ◌++◌, Option, Some, None, IfOk, IfSome, OnOk, IsOk, codes, length, map, not, ◌&&◌, option_to_list};
+ghost use Rattle.std.specs.Str.{chars};
+ghost use Rattle.lexical_core.specs.Tree.{Char, Ends, Starts, Expanded};
+ghost use Rattle.facets.specs.declared.simple.Simple.{Simple as SimpleType};
+ghost use Rattle.facets.specs.LeafChecks.{HasTaken};
+ghost use Rattle.markup.specs.EventItems.{entry_of};
+ghost use Rattle.reference_check.specs.Forms.{text_type, Form as FormType};
+ghost use Rattle.reference_check.specs.Steps.{Came, EndsWith, end_after};
+ghost use Rattle.message_model.specs.Message.{Message};
+ghost use Rattle.message_model.specs.Sound.{count_with};
+ghost use Rattle.message_model.specs.Views.{IsFormOf};
+ghost use Rattle.message_model.specs.Tables.{message_of, types_of};
+ghost use Rattle.message_model.specs.Writes.{named, value_of, currency};
+ghost use Rattle.xml_instances.specs.Levels.{Level, path_of};
+ghost use Rattle.xml_instances.specs.EventFaults.{space_fault, is_bare, has_currency, end_fault, EndFault, LeafFault, CurrencyFault, AttributeFault};
+ghost use Rattle.xml_instances.specs.declared.opened.Opened.{Opened as OpenedType};
+ghost use Rattle.xml_instances.specs.declared.opened.Opened.TheVariants.{Text as OpenedText};
+ghost use Rattle.xml_instances.specs.Open.{IsOpen, IsTaken, IsItemTaken, AreMade, IsRuleOf, names_of, Says, Refuses, IsPlaced, IsEntered, IsRound, form_at, HoldsText, StandsFor, IsFilled, IsChild, IsStepped, IsBegun, IsRoot, IsCode};
+
+mod quick;
+
+use crate::known::{currency_of, has_unknown};
+use crate::opened::{Opened, Refusal, breaks, missing, names};
+use crate::spare::Checks;
+use crate::texts::{is_space, rule_of, take_character, take_characters};
+use facets::{LeafCheck, Simple};
+use lexical_core::{Rule, Text};
+use markup::{Attr, What};
+use message_model::{End, Form, Model, Next};
+use std::alloc::{AllocError, Global};
+
+/// The tag of the root.
+const DOCUMENT: &[u8] = b"Document";
+
+/// A text that is open: the type of its element, and its check.
+#[derive(Drop)]
+pub(crate) struct OpenText {
+    number: u32,
+    check: LeafCheck,
+}
+
+/// The open elements.
+#[derive(Drop)]
+pub(crate) struct Content {
+    alloc: Global,
+    innermost: Option<Opened>,
+    /// Those round the innermost, the outermost first.
+    round: Vec<Opened>,
+    /// The text of the innermost, where it has one.
+    text: Option<OpenText>,
+    /// Checks for the texts to come.
+    checks: Checks,
+}
+
+impl Content {
+    /// No element is open. It takes no memory.
+    pub(crate) fn new(alloc: Global, model: &Model) -> Content
+        ensures open { IsOpen result (message_of model.now) [] }
+        ensures made { AreMade (types_of model.now) result }
+    {
+        let _ = model.type_count();
+        Content {
+            alloc,
+            innermost: None,
+            round: Vec::new(alloc),
+            text: None,
+            checks: Checks::new(alloc),
+        }
+    }
+
+    /// Holds the next event to the message: it breaks no rule, or the least that it breaks with the path that is told.
+    pub(crate) fn take(&mut self, model: &Model, what: &What) -> Result<(), Refusal>
+        requires { AreMade (types_of model.now) self.old }
+        ensures made { AreMade (types_of model.now) self.new }
+        ensures taken { (ls : List (Level ℕ)) → IsOpen self.old (message_of model.now) ls → IsTaken (message_of model.now) ls what.now self.new result }
+    {
+        match what {
+            What::Start { ns, local, attrs } => self.start(
+                model,
+                ns.bytes(),
+                local.bytes(),
+                attrs.as_slice(),
+            ),
+            What::Char(c) => self.character(model, *c),
+            What::End { .. } => self.end(model),
+            What::Skipped => Ok(()),
+        }
+    }
+
+    /// The path of the open elements.
+    pub(crate) fn path(&self, alloc: Global, model: &Model) -> Result<Text, AllocError>
+        ensures { (ls : List (Level ℕ)) → IsOpen self.now (message_of model.now) ls → IfOk result (λ t. t ≡ path_of ls) }
+    {
+        match self.innermost {
+            None => slash(alloc),
+            Some(_) => names(alloc, model, self.round.as_slice()),
+        }
+    }
+
+    /// How many elements are open.
+    pub(crate) fn depth(&self) -> usize
+        ensures { (m : Message ℕ) (ls : List (Level ℕ)) → IsOpen self.now m ls → result ≡ length ls }
+    {
+        match self.innermost {
+            None => 0,
+            Some(_) => self.round.len() + 1,
+        }
+    }
+
+    // ---- a character
+
+    /// A character.
+    fn character(&mut self, model: &Model, c: char) -> Result<(), Refusal>
+        requires { AreMade (types_of model.now) self.old }
+        ensures made { AreMade (types_of model.now) self.new }
+        ensures taken { (ls : List (Level ℕ)) → IsOpen self.old (message_of model.now) ls → IsItemTaken (message_of model.now) ls (Char c) self.new result }
+    {
+        match self.innermost {
+            None | Some(Opened::Foreign) => Ok(()),
+            Some(Opened::Text) => match self.text_character(model, c) {
+                Ok(()) => Ok(()),
+                Err(_) => Err(Refusal::Memory),
+            },
+            Some(Opened::Envelope { .. }) => self.space(model, is_space(c)),
+            Some(Opened::Parent { number, .. }) => {
+                let bare = is_bare(model, number);
+                self.space(model, may_stand(bare, is_space(c)))
+            }
+        }
+    }
+
+    /// A character between elements.
+    fn space(&self, model: &Model, fits: bool) -> Result<(), Refusal>
+        ensures { Says (λ o. o ≡ space_fault fits (names_of (types_of model.now) self.now.round.items)) result }
+    {
+        if fits {
+            Ok(())
+        } else {
+            Err(self.refused(model, Rule::TextInComplex, b""))
+        }
+    }
+
+    /// The rule, with the path of what is open, and more behind it.
+    fn refused(&self, model: &Model, rule: Rule, behind: &[u8]) -> Refusal
+        ensures { Refuses rule (names_of (types_of model.now) self.now.round.items ++ behind.now) result }
+    {
+        breaks(self.alloc, model, rule, self.round.as_slice(), behind)
+    }
+
+    /// A character of the open text.
+    fn text_character(&mut self, model: &Model, c: char) -> Result<(), AllocError>
+        requires { AreMade (types_of model.now) self.old }
+        ensures made { AreMade (types_of model.now) self.new }
+        ensures kept { self.new.innermost ≡ self.old.innermost }
+        ensures round { self.new.round ≡ self.old.round }
+        ensures taken { (simple : SimpleType) (text : List ℕ) → HoldsText (message_of model.now) self.old.text simple text
+            → OnOk result (HoldsText (message_of model.now) self.new.text simple (text ++ c ∷ [])) }
+    {
+        let Some(mut open) = self.text.take() else {
+            return Err(AllocError);
+        };
+        let Some(simple) = model.text_type(open.number) else {
+            return Err(AllocError);
+        };
+        let taken = take_character(&mut open.check, simple, c);
+        self.text = Some(open);
+        taken
+    }
+
+    // ---- the end of an element
+
+    /// The innermost element ends.
+    fn end(&mut self, model: &Model) -> Result<(), Refusal>
+        requires { AreMade (types_of model.now) self.old }
+        ensures made { AreMade (types_of model.now) self.new }
+        ensures taken { (ls : List (Level ℕ)) (n : Expanded) → IsOpen self.old (message_of model.now) ls → IsItemTaken (message_of model.now) ls (Ends n) self.new result }
+    {
+        match self.ending(model) {
+            Ok(()) => {
+                self.innermost = self.round.pop();
+                Ok(())
+            }
+            Err(refusal) => Err(refusal),
+        }
+    }
+
+    /// What the end of the innermost element breaks.
+    fn ending(&mut self, model: &Model) -> Result<(), Refusal>
+        requires { AreMade (types_of model.now) self.old }
+        ensures made { AreMade (types_of model.now) self.new }
+        ensures kept { self.new.innermost ≡ self.old.innermost }
+        ensures round { self.new.round ≡ self.old.round }
+        ensures out { self.old.innermost ≡ None → IsOk result }
+        ensures taken { (l : Level ℕ) (e : OpenedType) → self.old.innermost ≡ Some e → StandsFor (message_of model.now) self.old.text e l
+            → Says (EndFault l (names_of (types_of model.now) self.old.round.items)) result }
+    {
+        match self.innermost {
+            None | Some(Opened::Foreign) => Ok(()),
+            Some(Opened::Text) => self.text_ending(model),
+            Some(Opened::Envelope { filled }) => {
+                if filled {
+                    Ok(())
+                } else {
+                    Err(self.refused(model, Rule::Missing, b"/*"))
+                }
+            }
+            Some(
+                Opened::Parent {
+                    number,
+                    last,
+                    count,
+                },
+            ) => self.parent_ending(model, number, last, count),
+        }
+    }
+
+    /// The end of an element with elements.
+    fn parent_ending(
+        &self,
+        model: &Model,
+        number: u32,
+        last: Option<u32>,
+        count: u64,
+    ) -> Result<(), Refusal>
+        ensures { (d : List ℕ) → Came (types_of model.now number) d → EndsWith d last count
+            → Says (λ o. o ≡ end_fault (names_of (types_of model.now) self.now.round.items) (types_of model.now number) (end_after (types_of model.now number) d)) result }
+    {
+        match model.end(number, last, count) {
+            End::Fine => Ok(()),
+            End::Missing(at) => Err(missing(self.alloc, model, self.round.as_slice(), number, at)),
+            End::NoAlternative => Err(self.refused(model, Rule::Missing, b"/*")),
+        }
+    }
+
+    /// The end of the open text, whose check is kept for the next one.
+    fn text_ending(&mut self, model: &Model) -> Result<(), Refusal>
+        requires { AreMade (types_of model.now) self.old }
+        ensures made { AreMade (types_of model.now) self.new }
+        ensures kept { self.new.innermost ≡ self.old.innermost }
+        ensures round { self.new.round ≡ self.old.round }
+        ensures taken { (simple : SimpleType) (text : List ℕ) → HoldsText (message_of model.now) self.old.text simple text
+            → Says (LeafFault simple text (names_of (types_of model.now) self.old.round.items)) result }
+    {
+        let Some(open) = self.text.take() else {
+            return Err(Refusal::Memory);
+        };
+        let Some(simple) = model.text_type(open.number) else {
+            return Err(Refusal::Memory);
+        };
+        let rule = rule_of(&open.check, simple);
+        self.checks.keep(open.number, open.check);
+        self.answer(model, rule, b"")
+    }
+
+    /// What a text breaks, as it is told.
+    fn answer(&self, model: &Model, rule: Option<Rule>, behind: &[u8]) -> Result<(), Refusal>
+        ensures { (simple : SimpleType) (text : List ℕ) → IsRuleOf simple text rule
+            → Says (LeafFault simple text (names_of (types_of model.now) self.now.round.items ++ behind.now)) result }
+    {
+        match rule {
+            None => Ok(()),
+            Some(rule) => Err(self.refused(model, rule, behind)),
+        }
+    }
+
+    // ---- the start of an element
+
+    /// An element starts.
+    fn start(
+        &mut self,
+        model: &Model,
+        namespace: &[u8],
+        local: &[u8],
+        attrs: &[Attr],
+    ) -> Result<(), Refusal>
+        requires { AreMade (types_of model.now) self.old }
+        ensures made { AreMade (types_of model.now) self.new }
+        ensures taken { (ls : List (Level ℕ)) → IsOpen self.old (message_of model.now) ls → IsItemTaken (message_of model.now) ls (Starts (named namespace.now local.now) (map entry_of attrs.now)) self.new result }
+    {
+        match self.place(model, namespace, local) {
+            Ok(number) => self.enter(model, number, attrs),
+            Err(refusal) => Err(refusal),
+        }
+    }
+
+    /// Whether an element may stand here, and its type; none in an envelope.
+    fn place(
+        &mut self,
+        model: &Model,
+        namespace: &[u8],
+        local: &[u8],
+    ) -> Result<Option<u32>, Refusal>
+        requires { AreMade (types_of model.now) self.old }
+        ensures made { AreMade (types_of model.now) self.new }
+        ensures taken { (ls : List (Level ℕ)) → IsOpen self.old (message_of model.now) ls → IsPlaced (message_of model.now) ls (named namespace.now local.now) self.new result }
+    {
+        match self.innermost {
+            None => root(self.alloc, model, namespace, local),
+            Some(Opened::Foreign) => Ok(None),
+            Some(Opened::Text) => Err(self.refused(model, Rule::ElementInSimple, b"")),
+            Some(Opened::Envelope { filled }) => self.fill(model, filled),
+            Some(
+                Opened::Parent {
+                    number,
+                    last,
+                    count,
+                },
+            ) => {
+                if model.is_namespace(namespace) {
+                    self.child(model, number, last, count, local)
+                } else {
+                    Err(self.refused(model, Rule::UnknownElement, b""))
+                }
+            }
+        }
+    }
+
+    /// The element of an envelope.
+    fn fill(&mut self, model: &Model, filled: bool) -> Result<Option<u32>, Refusal>
+        ensures text { self.new.text ≡ self.old.text }
+        ensures checks { self.new.checks ≡ self.old.checks }
+        ensures round { self.new.round ≡ self.old.round }
+        ensures taken { IsFilled filled (names_of (types_of model.now) self.old.round.items) self.new.innermost result }
+    {
+        if filled {
+            return Err(self.refused(model, Rule::TooMany, b""));
+        }
+        self.innermost = Some(Opened::Envelope { filled: true });
+        Ok(None)
+    }
+
+    /// An element in one with elements of the message.
+    fn child(
+        &mut self,
+        model: &Model,
+        number: u32,
+        last: Option<u32>,
+        count: u64,
+        local: &[u8],
+    ) -> Result<Option<u32>, Refusal>
+        ensures text { self.new.text ≡ self.old.text }
+        ensures checks { self.new.checks ≡ self.old.checks }
+        ensures round { self.new.round ≡ self.old.round }
+        ensures taken { (d : List ℕ) → Came (types_of model.now number) d → EndsWith d last count
+            → IsChild (message_of model.now) (types_of model.now number) d (names_of (types_of model.now) self.old.round.items) local.now self.new.innermost result }
+    {
+        let _ = model.type_count();
+        message_model::laws::slot_comes();
+        match model.next(number, last, count, local) {
+            Next::Slot(at) => self.step(model, number, last, count, at),
+            Next::Unknown => Err(self.refused(model, Rule::UnknownElement, b"")),
+            Next::OutOfOrder => Err(self.refused(model, Rule::OutOfOrder, b"")),
+            Next::TooMany => Err(self.refused(model, Rule::TooMany, b"")),
+            Next::Missing(at) => Err(missing(self.alloc, model, self.round.as_slice(), number, at)),
+            Next::Second => Err(self.refused(model, Rule::SecondAlternative, b"")),
+        }
+    }
+
+    /// The slot comes.
+    fn step(
+        &mut self,
+        model: &Model,
+        number: u32,
+        last: Option<u32>,
+        count: u64,
+        at: u32,
+    ) -> Result<Option<u32>, Refusal>
+        ensures text { self.new.text ≡ self.old.text }
+        ensures checks { self.new.checks ≡ self.old.checks }
+        ensures round { self.new.round ≡ self.old.round }
+        ensures taken { IsStepped (types_of model.now) number last count at self.new.innermost result }
+    {
+        let Some(slot) = model.slot(number, at) else {
+            return Err(Refusal::Memory);
+        };
+        let Some(count) = counted(last, count, at) else {
+            return Err(Refusal::Memory);
+        };
+        self.innermost = Some(Opened::Parent {
+            number,
+            last: Some(at),
+            count,
+        });
+        Ok(Some(slot.target))
+    }
+
+    /// An element of the type, or in an envelope, with these attributes.
+    fn enter(&mut self, model: &Model, number: Option<u32>, attrs: &[Attr]) -> Result<(), Refusal>
+        requires { AreMade (types_of model.now) self.old }
+        ensures made { AreMade (types_of model.now) self.new }
+        ensures taken { (ls : List (Level ℕ)) → IsRound self.old (message_of model.now) ls
+            → IsEntered (message_of model.now) ls (form_at (message_of model.now) number) (map entry_of attrs.now) self.new result }
+    {
+        if self.go_in().is_err() {
+            return Err(Refusal::Memory);
+        }
+        match number {
+            None => {
+                self.innermost = Some(Opened::Foreign);
+                Ok(())
+            }
+            Some(number) => match self.attributes(model, number, attrs) {
+                Ok(()) => match self.begin(model, number) {
+                    Ok(()) => Ok(()),
+                    Err(_) => Err(Refusal::Memory),
+                },
+                Err(refusal) => Err(refusal),
+            },
+        }
+    }
+
+    /// What is open stands round the next element.
+    fn go_in(&mut self) -> Result<(), AllocError>
+        ensures text { self.new.text ≡ self.old.text }
+        ensures checks { self.new.checks ≡ self.old.checks }
+        ensures round { OnOk result (self.new.round.items ≡ self.old.round.items ++ option_to_list self.old.innermost) }
+    {
+        match self.innermost.take() {
+            None => Ok(()),
+            Some(opened) => match self.round.push(opened) {
+                Ok(()) => Ok(()),
+                Err(_) => Err(AllocError),
+            },
+        }
+    }
+
+    /// The attributes of an element of the type.
+    fn attributes(&mut self, model: &Model, number: u32, attrs: &[Attr]) -> Result<(), Refusal>
+        requires { AreMade (types_of model.now) self.old }
+        ensures made { AreMade (types_of model.now) self.new }
+        ensures kept { self.new.innermost ≡ self.old.innermost }
+        ensures round { self.new.round ≡ self.old.round }
+        ensures taken { Says (AttributeFault (message_of model.now) (Some (types_of model.now number)) (map entry_of attrs.now) (names_of (types_of model.now) self.old.round.items)) result }
+    {
+        let _ = model.type_count();
+        let form = model.form(number);
+        let money = is_money(&form);
+        if has_unknown(attrs, money) {
+            return Err(self.refused(model, Rule::UnknownAttribute, b""));
+        }
+        match form {
+            Some(Form::Money { code, .. }) => self.currency(model, code, attrs),
+            _ => Ok(()),
+        }
+    }
+
+    /// The currency of an amount, which has to be there.
+    fn currency(&mut self, model: &Model, code: u32, attrs: &[Attr]) -> Result<(), Refusal>
+        requires { AreMade (types_of model.now) self.old }
+        ensures made { AreMade (types_of model.now) self.new }
+        ensures kept { self.new.innermost ≡ self.old.innermost }
+        ensures round { self.new.round ≡ self.old.round }
+        ensures taken { IsCode (types_of model.now code) → Says (CurrencyFault (types_of model.now code) (value_of currency (map entry_of attrs.now)) (names_of (types_of model.now) self.old.round.items ++ codes "/@Ccy")) result }
+    {
+        let Some(value) = currency_of(attrs) else {
+            return Err(self.refused(model, Rule::MissingAttribute, b"/@Ccy"));
+        };
+        let Some(simple) = model.text_type(code) else {
+            return Err(Refusal::Memory);
+        };
+        match self.attribute_rule(model, code, simple, value) {
+            Ok(rule) => self.answer(model, rule, b"/@Ccy"),
+            Err(_) => Err(Refusal::Memory),
+        }
+    }
+
+    /// The rule that the value of an attribute breaks, if it breaks one.
+    fn attribute_rule(
+        &mut self,
+        model: &Model,
+        number: u32,
+        simple: &Simple,
+        value: &[u8],
+    ) -> Result<Option<Rule>, AllocError>
+        requires made { AreMade (types_of model.now) self.old }
+        requires simple { text_type (types_of model.now number) ≡ Some simple.now }
+        ensures made { AreMade (types_of model.now) self.new }
+        ensures kept { self.new.innermost ≡ self.old.innermost }
+        ensures round { self.new.round ≡ self.old.round }
+        ensures taken { IfOk result (λ rule. IsRuleOf simple.now (chars value.now) rule) }
+    {
+        let Ok(text) = std::str::from_utf8(value) else {
+            return Err(AllocError);
+        };
+        let mut check = self.check_for(model, number, simple)?;
+        take_characters(&mut check, simple, text)?;
+        let rule = rule_of(&check, simple);
+        self.checks.keep(number, check);
+        Ok(rule)
+    }
+
+    /// A check of a text of the type, before its first character.
+    fn check_for(
+        &mut self,
+        model: &Model,
+        number: u32,
+        simple: &Simple,
+    ) -> Result<LeafCheck, AllocError>
+        requires made { AreMade (types_of model.now) self.old }
+        requires simple { text_type (types_of model.now number) ≡ Some simple.now }
+        ensures made { AreMade (types_of model.now) self.new }
+        ensures kept { self.new.innermost ≡ self.old.innermost }
+        ensures round { self.new.round ≡ self.old.round }
+        ensures taken { IfOk result (λ check. HasTaken check simple.now []) }
+    {
+        let _ = model.type_count();
+        match self.checks.take(number) {
+            Some(mut check) => {
+                check.restart(simple);
+                Ok(check)
+            }
+            None => LeafCheck::new(self.alloc, simple),
+        }
+    }
+
+    /// The element of the type is open.
+    fn begin(&mut self, model: &Model, number: u32) -> Result<(), AllocError>
+        requires { AreMade (types_of model.now) self.old }
+        ensures made { AreMade (types_of model.now) self.new }
+        ensures round { self.new.round ≡ self.old.round }
+        ensures taken { IsBegun (message_of model.now) (types_of model.now number) self.new result }
+    {
+        match model.form(number) {
+            Some(Form::Simple(simple)) => self.begin_text(model, number, simple),
+            Some(Form::Money { base, .. }) => self.begin_text(model, number, base),
+            Some(Form::Envelope) => {
+                self.innermost = Some(Opened::Envelope { filled: false });
+                Ok(())
+            }
+            Some(Form::Sequence | Form::Choice) | None => {
+                self.innermost = Some(Opened::Parent {
+                    number,
+                    last: None,
+                    count: 0,
+                });
+                Ok(())
+            }
+        }
+    }
+
+    /// A text of the type is open.
+    fn begin_text(&mut self, model: &Model, number: u32, simple: &Simple) -> Result<(), AllocError>
+        requires made { AreMade (types_of model.now) self.old }
+        requires simple { text_type (types_of model.now number) ≡ Some simple.now }
+        ensures made { AreMade (types_of model.now) self.new }
+        ensures round { self.new.round ≡ self.old.round }
+        ensures taken { OnOk result ((self.new.innermost ≡ Some OpenedText) × HoldsText (message_of model.now) self.new.text simple.now []) }
+    {
+        match self.check_for(model, number, simple) {
+            Ok(check) => {
+                self.text = Some(OpenText { number, check });
+                self.innermost = Some(Opened::Text);
+                Ok(())
+            }
+            Err(error) => Err(error),
+        }
+    }
+}
+
+/// The path of no element.
+fn slash(alloc: Global) -> Result<Text, AllocError>
+    ensures { IfOk result (λ t. t ≡ codes "/") }
+{
+    let mut text = Text::new(alloc);
+    text.extend(b"/")?;
+    Ok(text)
+}
+
+/// The root, which is `Document`.
+fn root(
+    alloc: Global,
+    model: &Model,
+    namespace: &[u8],
+    local: &[u8],
+) -> Result<Option<u32>, Refusal>
+    ensures { IsRoot (message_of model.now) (named namespace.now local.now) result }
+{
+    if model.is_namespace(namespace) && local == DOCUMENT {
+        return Ok(Some(0));
+    }
+    match slash(alloc) {
+        Ok(path) => Err(Refusal::Breaks(Rule::WrongRoot, path)),
+        Err(_) => Err(Refusal::Memory),
+    }
+}
+
+/// Whether a character may stand between the elements of one: white space, unless there is no place for it.
+fn may_stand(bare: bool, space: bool) -> bool
+    ensures { result ≡ (not bare && space) }
+{
+    !bare && space
+}
+
+/// Whether elements of the type have no elements, and no white space.
+fn is_bare(model: &Model, number: u32) -> bool
+    ensures { result ≡ is_bare (types_of model.now number) }
+{
+    match model.form(number) {
+        Some(Form::Sequence) => model.slot(number, 0).is_none(),
+        _ => false,
+    }
+}
+
+/// Whether the form is that of amounts with a currency.
+fn is_money(form: &Option<Form<'_>>) -> bool
+    ensures { (f : FormType ℕ SimpleType) → IsFormOf form.now f → result ≡ has_currency f }
+{
+    matches!(form, Some(Form::Money { .. }))
+}
+
+/// How often a slot has come, where it comes behind the last; `None` where it is more than can be counted.
+fn counted(last: Option<u32>, count: u64, at: u32) -> Option<u64>
+    ensures { IfSome result (λ n. n ≡ count_with last count at) }
+{
+    match last {
+        Some(last) if last == at => count.checked_add(1),
+        _ => Some(1),
+    }
+}

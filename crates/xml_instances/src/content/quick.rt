@@ -1,0 +1,140 @@
+// Runs of characters and whole tags, held to the types of the message.
+ghost use Rattle.std.specs.Prelude.{◌≡◌, ◌<◌, ◌≤◌, ◌++◌, ℕ, List, [], OnOk, take, length};
+ghost use Rattle.lexical_core.specs.Tree.{Expanded, Starts};
+ghost use Rattle.facets.specs.declared.simple.Simple.{Simple as SimpleType};
+ghost use Rattle.markup.specs.Literals.{IsRun};
+ghost use Rattle.markup.specs.PlainTags.{tag_items};
+ghost use Rattle.message_model.specs.Tables.{message_of, types_of};
+ghost use Rattle.xml_instances.specs.Levels.{Level};
+ghost use Rattle.xml_instances.specs.Open.{IsOpen, AreMade, IsPlaced, IsItemTaken, HoldsText};
+ghost use Rattle.xml_instances.specs.Quick.{MayTake, IsRunTaken, AreItemsTaken, IsOurs};
+
+use super::{Content, is_bare, root};
+use crate::opened::{Opened, Refusal};
+use crate::texts::{blank_length, take_run};
+use lexical_core::Rule;
+use markup::TagKind;
+use message_model::Model;
+use std::alloc::AllocError;
+
+impl Content {
+    /// How many bytes at the front of the piece may be characters of the innermost element.
+    pub(crate) fn run_room(&self, model: &Model, piece: &[u8]) -> usize
+        ensures within { result ≤ length piece.now }
+        ensures only { (n : ℕ) → n ≤ result → 0 < n → MayTake (types_of model.now) self.now.innermost (take n piece.now) }
+    {
+        match self.innermost {
+            None | Some(Opened::Foreign | Opened::Text) => piece.len(),
+            Some(Opened::Envelope { .. }) => blank_length(piece),
+            Some(Opened::Parent { number, .. }) => {
+                if is_bare(model, number) {
+                    0
+                } else {
+                    blank_length(piece)
+                }
+            }
+        }
+    }
+
+    /// Takes a run of so many characters.
+    pub(crate) fn take_run(
+        &mut self,
+        model: &Model,
+        run: &[u8],
+        count: usize,
+    ) -> Result<(), AllocError>
+        requires made { AreMade (types_of model.now) self.old }
+        requires run { IsRun run.now count }
+        requires fits { MayTake (types_of model.now) self.old.innermost run.now }
+        ensures made { AreMade (types_of model.now) self.new }
+        ensures taken { OnOk result ((r : IsRun run.now count) (ls : List (Level ℕ)) → IsOpen self.old (message_of model.now) ls → IsRunTaken (message_of model.now) ls r.characters self.new) }
+    {
+        match self.innermost {
+            Some(Opened::Text) => self.text_run(model, run, count),
+            None => Ok(()),
+            Some(Opened::Foreign) => Ok(()),
+            Some(Opened::Envelope { .. }) => Ok(()),
+            Some(Opened::Parent { .. }) => Ok(()),
+        }
+    }
+
+    /// A run of characters of the open text.
+    fn text_run(&mut self, model: &Model, run: &[u8], count: usize) -> Result<(), AllocError>
+        requires made { AreMade (types_of model.now) self.old }
+        requires run { IsRun run.now count }
+        ensures made { AreMade (types_of model.now) self.new }
+        ensures kept { self.new.innermost ≡ self.old.innermost }
+        ensures round { self.new.round ≡ self.old.round }
+        ensures taken { (r : IsRun run.now count) (simple : SimpleType) (text : List ℕ) → HoldsText (message_of model.now) self.old.text simple text
+            → OnOk result (HoldsText (message_of model.now) self.new.text simple (text ++ r.characters)) }
+    {
+        let Some(mut open) = self.text.take() else {
+            return Err(AllocError);
+        };
+        let Some(simple) = model.text_type(open.number) else {
+            return Err(AllocError);
+        };
+        let taken = take_run(&mut open.check, simple, run, count);
+        self.text = Some(open);
+        taken
+    }
+
+    /// Holds a tag without attributes to the message, whose name is in the namespace of the
+    /// innermost element.
+    pub(crate) fn take_tag(
+        &mut self,
+        model: &Model,
+        kind: TagKind,
+        name: &[u8],
+    ) -> Result<(), Refusal>
+        requires { AreMade (types_of model.now) self.old }
+        ensures made { AreMade (types_of model.now) self.new }
+        ensures taken { (ls : List (Level ℕ)) (n : Expanded) → n.local ≡ name.now → IsOurs (message_of model.now) ls n → IsOpen self.old (message_of model.now) ls
+            → AreItemsTaken (message_of model.now) ls (tag_items kind n) self.new result }
+    {
+        match kind {
+            TagKind::Start => self.start_inside(model, name),
+            TagKind::Empty => match self.start_inside(model, name) {
+                Ok(()) => self.end(model),
+                Err(refusal) => Err(refusal),
+            },
+            TagKind::End => self.end(model),
+        }
+    }
+
+    /// An element without attributes starts, whose name is in the namespace of the innermost one.
+    fn start_inside(&mut self, model: &Model, local: &[u8]) -> Result<(), Refusal>
+        requires { AreMade (types_of model.now) self.old }
+        ensures made { AreMade (types_of model.now) self.new }
+        ensures taken { (ls : List (Level ℕ)) (n : Expanded) → n.local ≡ local.now → IsOurs (message_of model.now) ls n → IsOpen self.old (message_of model.now) ls
+            → IsItemTaken (message_of model.now) ls (Starts n []) self.new result }
+    {
+        match self.place_inside(model, local) {
+            Ok(number) => self.enter(model, number, &[]),
+            Err(refusal) => Err(refusal),
+        }
+    }
+
+    /// Whether an element of the innermost one's namespace may stand here, and its type; none in
+    /// an envelope.
+    fn place_inside(&mut self, model: &Model, local: &[u8]) -> Result<Option<u32>, Refusal>
+        requires { AreMade (types_of model.now) self.old }
+        ensures made { AreMade (types_of model.now) self.new }
+        ensures taken { (ls : List (Level ℕ)) (n : Expanded) → n.local ≡ local.now → IsOurs (message_of model.now) ls n → IsOpen self.old (message_of model.now) ls
+            → IsPlaced (message_of model.now) ls n self.new result }
+    {
+        match self.innermost {
+            None => root(self.alloc, model, b"", local),
+            Some(Opened::Foreign) => Ok(None),
+            Some(Opened::Text) => Err(self.refused(model, Rule::ElementInSimple, b"")),
+            Some(Opened::Envelope { filled }) => self.fill(model, filled),
+            Some(
+                Opened::Parent {
+                    number,
+                    last,
+                    count,
+                },
+            ) => self.child(model, number, last, count, local),
+        }
+    }
+}

@@ -1,0 +1,99 @@
+// The text of a leaf.
+ghost use Rattle.std.specs.Prelude.{◌≡◌, ◌≤◌, ℕ, List, [], ◌∷◌, ◌++◌, OnOk, length};
+ghost use Rattle.std.specs.List.{prefix_len};
+ghost use Rattle.std.specs.Str.{chars};
+ghost use Rattle.markup.specs.Chars.{is_space};
+ghost use Rattle.markup.specs.Literals.{IsRun};
+ghost use Rattle.facets.specs.LeafChecks.{HasTaken, IsMadeFor};
+ghost use Rattle.xml_instances.specs.Open.{IsRuleOf};
+
+use facets::{LeafCheck, Simple};
+use lexical_core::{Rule, is_xml_char};
+use std::alloc::AllocError;
+
+/// Whether the character is white space: XML 1.0 §2.3, S.
+#[tactic(auto, unfolding(markup::specs::Chars::is_space))]
+pub(crate) fn is_space(c: char) -> bool
+    ensures { result ≡ is_space c }
+{
+    c == ' ' || c == '\t' || c == '\n' || c == '\r'
+}
+
+/// Takes a character of a text.
+pub(crate) fn take_character(
+    check: &mut LeafCheck,
+    simple: &Simple,
+    c: char,
+) -> Result<(), AllocError>
+    requires { IsMadeFor check.old simple.now }
+    ensures made { IsMadeFor check.new simple.now }
+    ensures taken { OnOk result ((text : List ℕ) → HasTaken check.old simple.now text → HasTaken check.new simple.now (text ++ c ∷ [])) }
+{
+    if !is_xml_char(c) {
+        return Err(AllocError);
+    }
+    check.take(simple, c)
+}
+
+/// Takes the characters of a text.
+pub(crate) fn take_characters(
+    check: &mut LeafCheck,
+    simple: &Simple,
+    text: &str,
+) -> Result<(), AllocError>
+    requires { IsMadeFor check.old simple.now }
+    ensures made { IsMadeFor check.new simple.now }
+    ensures taken { HasTaken check.old simple.now [] → OnOk result (HasTaken check.new simple.now (chars text.now)) }
+{
+    for c in text.chars() {
+        take_character(check, simple, c)?;
+    }
+    Ok(())
+}
+
+/// Takes a run of so many characters of a text.
+pub(crate) fn take_run(
+    check: &mut LeafCheck,
+    simple: &Simple,
+    run: &[u8],
+    count: usize,
+) -> Result<(), AllocError>
+    requires run { IsRun run.now count }
+    requires made { IsMadeFor check.old simple.now }
+    ensures made { IsMadeFor check.new simple.now }
+    ensures taken { OnOk result ((r : IsRun run.now count) (text : List ℕ) → HasTaken check.old simple.now text → HasTaken check.new simple.now (text ++ r.characters)) }
+{
+    check.take_run(simple, run, count)
+}
+
+/// Whether the byte is white space: XML 1.0 §2.3, S.
+#[tactic(auto, unfolding(markup::specs::Chars::is_space))]
+fn is_blank(byte: u8) -> bool
+    ensures { result ≡ is_space byte }
+{
+    byte == b' ' || byte == b'\t' || byte == b'\n' || byte == b'\r'
+}
+
+/// How many bytes at the front of the piece are white space.
+pub(crate) fn blank_length(piece: &[u8]) -> usize
+    ensures within { result ≤ length piece.now }
+    ensures count { result ≡ prefix_len is_space piece.now }
+{
+    for (i, byte) in piece.iter().enumerate() {
+        if !is_blank(*byte) {
+            return i;
+        }
+    }
+    piece.len()
+}
+
+/// The rule that the text breaks, if it breaks one.
+pub(crate) fn rule_of(check: &LeafCheck, simple: &Simple) -> Option<Rule>
+    requires { IsMadeFor check.now simple.now }
+    ensures { (text : List ℕ) → HasTaken check.now simple.now text → IsRuleOf simple.now text result }
+{
+    match check.finish(simple) {
+        Ok(_) => None,
+        Err(rule) => Some(rule),
+    }
+}
