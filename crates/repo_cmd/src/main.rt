@@ -1,4 +1,4 @@
-//! `isorepo`: checks the messages of an ISO 20022 repository.
+//! `isorepo`: lists the messages of an ISO 20022 repository, and checks their instances.
 //!
 //! The program opens what its words name, calls `repo_engine::run` once, and ends with its status.
 #![tactic(auto)]
@@ -30,6 +30,9 @@ fn main(rt: HostRuntime) -> ExitCode {
         }
         Err(error) => return ExitCode::from(failure_of(&error)),
     }
+    // Where a standard stream is closed, this folder takes its place, and not a file that is opened
+    // later: it can be neither read nor written.
+    let _folder = fs::open(&rt, "/");
     let Ok(mut repo) = opened(&rt, words.get(1)) else {
         return ExitCode::from(NO_MEMORY);
     };

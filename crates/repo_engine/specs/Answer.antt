@@ -1,51 +1,88 @@
--- The answer to words and bytes, and its text: what goes out on Done, and the line of a refusal else.
-use Rattle.std.specs.Prelude.{◌≡◌, ◌≢◌, ℕ, List, ◌++◌, codes}
-use Rattle.repo_engine.specs.declared.status.Status.{Status}
-use Rattle.repo_engine.specs.declared.status.Status.TheVariants.{Done, Words, Repository, Message, Instance, ReadFault, WriteFault, Memory}
-use Rattle.repo_engine.specs.PlainRepository.{Plain, id_of, SpellsRepository, IsNoRepository}
-use Rattle.repo_engine.specs.XmlRefusal.{IsAccepted, RefusesInstance}
-use Rattle.repo_engine.specs.Words.{HasForm, check_xml, IsUnlisted}
+-- The answer to words and bytes: the steps of each command, of which the first that refuses decides.
+use Rattle.std.specs.Prelude.{◌≡◌, ◌≢◌, ◌⊎◌, ℕ, true, false, List, [], codes}
+use Rattle.repo_objects.specs.Repository.{Contents}
+use Rattle.repo_loader.specs.declared.fault.LoadFault.{LoadFault}
+use Rattle.repo_loader.specs.Loaded.{Spells, HasLoadFault}
+use Rattle.code_sets.specs.Codes.{HasCodesFault, Joins}
+use Rattle.code_sets.specs.Codes.{Fault as CodesFault}
+use Rattle.reference_check.specs.Graph.{Place}
+use Rattle.reference_check.specs.Reached.{place_id}
+use Rattle.message_model.specs.Compiled.{Compiles, IsReachedList}
+use Rattle.message_model.specs.Ready.{IsReady, IsRefused, MessageRule, number_of}
+use Rattle.message_model.specs.Tables.{Tables, message_of}
+use Rattle.message_model.specs.declared.fault.Fault.{Fault}
+use Rattle.xml_instances.specs.XmlFaults.{LimitedFault}
+use Rattle.xml_instances.specs.Checking.{fault_of}
+use Rattle.transcoder.specs.Checked.{IsAccepted}
+use Rattle.repo_engine.specs.declared.command.Verb.{Verb}
+use Rattle.repo_engine.specs.declared.command.Verb.TheVariants.{Types, CheckXml}
+use Rattle.repo_engine.specs.declared.refusal.Refusal.TheVariants.{Words, Repository, Codes, Message, Instance}
+use Rattle.repo_engine.specs.Command.{Command, list, message, HasForm, IsUnlisted, hands_in}
+use Rattle.repo_engine.specs.Steps.{Then}
+use Rattle.repo_engine.specs.Verdict.{Verdict, accepted, refused}
+use Rattle.repo_engine.specs.Texts.{list_text, types_text}
 
--- an answer that the words and the bytes decide
-abbrev pub IsVerdict : Status → Type 0
-IsVerdict ReadFault = ⊥
-IsVerdict WriteFault = ⊥
-IsVerdict Memory = ⊥
-IsVerdict _ = Unit {0}
+-- ---- the repository and its external codes
 
--- the line where the repository has no message of this identifier
-abbrev pub no_message : List ℕ → List ℕ
-no_message id = codes "refused: message M1 at " ++ (id ++ codes "\n")
+-- the file has this first fault
+abbrev pub RefusesFile : List ℕ → Verdict → Type 0
+RefusesFile r v = (f : LoadFault) × HasLoadFault r f × (v ≡ refused (Repository f) [])
 
--- What a check of the instance i against the message id comes to, where the repository says p: its message is another,
--- the instance is refused, or it is accepted.
-abbrev pub Checks : Plain → List ℕ → List ℕ → Status → List ℕ → Type 0
-Checks p id i Message text = (id_of p ≢ id) × (text ≡ no_message id)
-Checks p id i Instance text = (id_of p ≡ id) × RefusesInstance p i text
-Checks p id i Done text = (id_of p ≡ id) × IsAccepted p i × (text ≡ codes "accepted\n")
-Checks p id i status text = ⊥
+-- the codes have this first fault
+abbrev pub IsCodesRefusal : Contents → List ℕ → Verdict → Type 0
+IsCodesRefusal own c v = (f : CodesFault) × HasCodesFault own c f × (v ≡ refused (Codes f.rule f.number) [])
 
--- the same where r spells the repository
-pub record ChecksWords (ws : List (List ℕ)) (r i : List ℕ) (status : Status) (text : List ℕ) : Type 0 where
-  pub id : List ℕ
-  pub form : HasForm ws (check_xml id)
-  pub says : Plain
-  pub spelled : SpellsRepository r says
-  pub checks : Checks says id i status text
+-- codes are handed in, and are refused
+abbrev pub RefusesCodes : List ℕ → Contents → List ℕ → Verdict → Type 0
+RefusesCodes codes_word own c v = (hands_in codes_word ≡ true) × IsCodesRefusal own c v
 
--- the words ask for a check, and r spells no repository
-pub record RefusesRepository (ws : List (List ℕ)) (r text : List ℕ) : Type 0 where
-  pub id : List ℕ
-  pub form : HasForm ws (check_xml id)
-  pub none : IsNoRepository r
-  pub line : text ≡ codes "refused: repository not plain\n"
+-- the repository with the codes that are handed in, if any
+abbrev pub GivesJoined : List ℕ → Contents → List ℕ → Contents → Type 0
+GivesJoined codes_word own c R = ((hands_in codes_word ≡ false) × (R ≡ own)) ⊎ ((hands_in codes_word ≡ true) × Joins own c R)
 
--- One row for each status: the words ws, and the bytes r, c and i of the repository, the codes and the instance.
--- Each row names the steps before it, which refused nothing.
-abbrev pub Answer : List (List ℕ) → List ℕ → List ℕ → List ℕ → Status → List ℕ → Type 0
-Answer ws r c i Words text = IsUnlisted ws × (text ≡ codes "refused: words\n")
-Answer ws r c i Repository text = RefusesRepository ws r text
-Answer ws r c i Message text = ChecksWords ws r i Message text
-Answer ws r c i Instance text = ChecksWords ws r i Instance text
-Answer ws r c i Done text = ChecksWords ws r i Done text
-Answer ws r c i _ text = ⊥
+-- the repository is read, then the codes are joined to it
+abbrev pub FromRepository : List ℕ → List ℕ → List ℕ → (Contents → Verdict → Type 0) → Verdict → Type 0
+FromRepository codes_word r c Next =
+    Then Verdict Contents (RefusesFile r) (Spells r)
+    (λ own. Then Verdict Contents (RefusesCodes codes_word own c) (GivesJoined codes_word own c) Next)
+
+-- ---- the compiled message
+
+-- the message, or an object that it reaches, breaks this rule first
+abbrev pub RefusesMessage : Contents → List ℕ → Verdict → Type 0
+RefusesMessage R id v = (rule : MessageRule) × (p : Place) × IsRefused R id rule p × (v ≡ refused (Message (number_of rule) (place_id id p)) [])
+
+-- the tables of a message that breaks no rule
+abbrev pub GivesTables : Contents → List ℕ → Tables → Type 0
+GivesTables R id T = IsReady R id × ((ids : List (List ℕ)) × IsReachedList R id ids × Compiles R id ids T)
+
+-- the message is compiled behind the repository and its codes
+abbrev pub FromMessage : List ℕ → List ℕ → List ℕ → List ℕ → (Tables → Verdict → Type 0) → Verdict → Type 0
+FromMessage codes_word id r c Next = FromRepository codes_word r c (λ R. Then Verdict Tables (RefusesMessage R id) (GivesTables R id) Next)
+
+-- ---- the commands
+
+abbrev pub Lists : Contents → Verdict → Type 0
+Lists R v = v ≡ accepted (list_text R.messages)
+
+abbrev pub GivesTypes : Tables → Verdict → Type 0
+GivesTypes T v = v ≡ accepted (types_text 0 T.types)
+
+-- the bytes are an instance of the message, or have this first fault
+pub data ChecksXml (T : Tables) (i : List ℕ) (v : Verdict) : Type 0 where
+  spelled : IsAccepted T i → v ≡ accepted (codes "accepted\n") → ChecksXml T i v
+  faulty : (fault : Fault) → LimitedFault (message_of T) i (fault_of fault) → v ≡ refused (Instance fault) [] → ChecksXml T i v
+
+-- what a command of one message does with its tables
+abbrev pub OfVerb : Verb → List ℕ → Tables → Verdict → Type 0
+OfVerb Types i T v = GivesTypes T v
+OfVerb CheckXml i T v = ChecksXml T i v
+
+-- the verdict of a command on the bytes r, c and i of the repository, the codes and the instance
+abbrev pub Of : Command → List ℕ → List ℕ → List ℕ → Verdict → Type 0
+Of (list codes_word) r c i = FromRepository codes_word r c Lists
+Of (message verb codes_word id) r c i = FromMessage codes_word id r c (OfVerb verb i)
+
+-- the verdict on words and bytes
+abbrev pub Answer : List (List ℕ) → List ℕ → List ℕ → List ℕ → Verdict → Type 0
+Answer ws r c i v = (IsUnlisted ws × (v ≡ refused Words [])) ⊎ ((command : Command) × HasForm ws command × Of command r c i v)

@@ -1,78 +1,76 @@
 -- What the top call promises.
-use Rattle.std.specs.Prelude.{◌≡◌, ℕ, ◌<◌, ◌≤◌, ◌⊎◌, List, length, Option, Some, codes}
+use Rattle.std.specs.Prelude.{◌≡◌, ◌⊎◌, ◌↔◌, ℕ, ◌≤◌, Bool, true, List, Option, Some, Result, Ok, Err}
 use Rattle.std.specs.Io.KnownBytes.{Appends, Keeps}
+use Rattle.outside.specs.Source.{Rose}
 use Rattle.outside.specs.Sink.{AppendsFront}
+use Rattle.outside.specs.Pushes.{Pushes}
+use Rattle.outside.specs.declared.errors.SinkError.{SinkError}
+use Rattle.outside.specs.declared.errors.SinkError.TheVariants.{Failed}
+use Rattle.outside.specs.declared.errors.SinkError.TheVariants as sink
+use Rattle.repo_engine.specs.declared.refusal.Stop.{Stop}
+use Rattle.repo_engine.specs.declared.refusal.Stop.TheVariants.{Refused, ReadFault, WriteFault, Memory}
+use Rattle.repo_engine.specs.declared.refusal.Refusal.TheVariants.{Words}
 use Rattle.repo_engine.specs.declared.status.Status.{Status}
-use Rattle.repo_engine.specs.declared.status.Status.TheVariants.{Done, Words, Repository, Codes, Message, Instance, ReadFault, WriteFault, Memory}
-use Rattle.repo_objects.specs.MessageId.{IsMessageId}
-use Rattle.repo_engine.specs.Words.{HasForm, check_xml, Asks, PullsRepository, PullsCodes, PullsInstance}
-use Rattle.repo_engine.specs.PlainRepository.{Plain, id_of, SpellsRepository}
-use Rattle.repo_engine.specs.XmlRefusal.{IsInstanceLine}
-use Rattle.repo_engine.specs.Answer.{Answer, no_message}
+use Rattle.repo_engine.specs.declared.status.Status.TheVariants as status
+use Rattle.repo_engine.specs.Answer.{Answer}
+use Rattle.repo_engine.specs.Command.{Command, HasForm, IsUnlisted, pulled, Pulled}
+use Rattle.repo_engine.specs.Sources.{Use, Untouched, AreReadInTurn, ended_of}
+use Rattle.repo_engine.specs.Verdict.{Verdict, accepted, refused, stop_line, stop_status}
 
--- the sources that the words ask for have these bytes left
+-- how a command ends, before anything is noted
+abbrev pub End : Type 0
+End = Result (Unit {0}) Stop
+
+-- the sources that the command pulls from have these bytes left
 pub record AreLeft (ws : List (List ℕ)) (repo_left codes_left inst_left : Option (List ℕ)) (r c i : List ℕ) : Type 0 where
-  pub repository : Asks ws PullsRepository → repo_left ≡ Some r
-  pub codes : Asks ws PullsCodes → codes_left ≡ Some c
-  pub instance : Asks ws PullsInstance → inst_left ≡ Some i
+  pub repository : (command : Command) → HasForm ws command → repo_left ≡ Some r
+  pub codes : (command : Command) → HasForm ws command → (pulled command).codes ≡ true → codes_left ≡ Some c
+  pub instance : (command : Command) → HasForm ws command → (pulled command).instance ≡ true → inst_left ≡ Some i
 
--- the steps before the instance refuse nothing: the words ask for it, and the repository that r spells has the message
-abbrev pub ComesToInstance : List (List ℕ) → List ℕ → Type 0
-ComesToInstance ws r = (id : List ℕ) × HasForm ws (check_xml id) × ((p : Plain) × SpellsRepository r p × (id_of p ≡ id))
+-- The verdict that the end tells, and what went out with it: the whole text where it is Ok, and where a refusal has one. After a fault of a
+-- sink or want of memory, a front of the text that Ok would have brought, or nothing.
+abbrev pub Tells : (Verdict → Type 0) → End → Option (List ℕ) → Option (List ℕ) → Type 0
+Tells Is (Ok done) out out' = (text : List ℕ) × Is (accepted text) × Appends out out' text
+Tells Is (Err (Refused refusal)) out out' = (text : List ℕ) × Is (refused refusal text) × Appends out out' text
+Tells Is (Err ReadFault) out out' = Unit {0}
+Tells Is (Err WriteFault) out out' = Keeps out out' ⊎ ((text : List ℕ) × Is (accepted text) × AppendsFront out out' text)
+Tells Is (Err Memory) out out' = Keeps out out' ⊎ ((text : List ℕ) × Is (accepted text) × AppendsFront out out' text)
 
--- a refusal of the words or of the input
-abbrev pub IsRefusal : Status → Type 0
-IsRefusal Words = Unit {0}
-IsRefusal Repository = Unit {0}
-IsRefusal Codes = Unit {0}
-IsRefusal Message = Unit {0}
-IsRefusal Instance = Unit {0}
-IsRefusal _ = ⊥
+-- the sink is as it was
+abbrev pub LeavesOut : End → Type 0
+LeavesOut (Err (Refused refusal)) = Unit {0}
+LeavesOut (Err ReadFault) = Unit {0}
+LeavesOut _ = ⊥
 
--- the words and the bytes have this answer, with a text of which the effect holds
-pub record Decides (ws : List (List ℕ)) (r c i : List ℕ) (status : Status) (Effect : List ℕ → Type 0) : Type 0 where
-  pub text : List ℕ
-  pub answers : Answer ws r c i status text
-  pub effect : Effect text
+-- What becomes of the sink for what goes out: nothing at a refusal or a failed source; its count of faults rises exactly where the end is WriteFault.
+pub record GoesOut {O : Type 0} (held : O → Option (List ℕ)) (faults : O → ℕ) (old new : O) (end : End) : Type 0 where
+  pub same : LeavesOut end → new ≡ old
+  pub grows : (text : List ℕ) × Appends (held old) (held new) text
+  pub failed : end ≡ Err WriteFault → Rose (faults old) (faults new)
+  pub quiet : (end ≡ Err WriteFault → ⊥) → faults new ≡ faults old
+  pub later : faults old ≤ faults new
 
--- On Done the text went out. A refusal's line was noted, where the notes are quiet: their count of faults did not rise.
--- After a fault of a sink or want of memory out holds a front of the text that Done would have brought, or what it held.
-abbrev pub Concludes : List (List ℕ) → List ℕ → List ℕ → List ℕ → Status → Option (List ℕ) → Option (List ℕ) → Option (List ℕ) → Option (List ℕ) → Type 0 → Type 0
-Concludes ws r c i Done out out' notes notes' quiet = Decides ws r c i Done (λ text. Appends out out' text)
-Concludes ws r c i ReadFault out out' notes notes' quiet = Unit {0}
-Concludes ws r c i WriteFault out out' notes notes' quiet = Keeps out out' ⊎ Decides ws r c i Done (λ text. AppendsFront out out' text)
-Concludes ws r c i Memory out out' notes notes' quiet = Keeps out out' ⊎ Decides ws r c i Done (λ text. AppendsFront out out' text)
-Concludes ws r c i status out out' notes notes' quiet = Decides ws r c i status (λ text. quiet → Appends notes notes' text)
+-- the status behind the push of a stop's line
+abbrev pub status_behind : Stop → Result (Unit {0}) SinkError → Status
+status_behind stop (Ok done) = stop_status stop
+status_behind stop (Err Failed) = status.WriteFault
+status_behind WriteFault (Err sink.Memory) = status.WriteFault
+status_behind stop (Err sink.Memory) = status.Memory
 
--- the lines that may be noted at an answer
-abbrev pub IsLineOf : Status → List ℕ → Type 0
-IsLineOf Done line = ⊥
-IsLineOf Words line = line ≡ codes "refused: words\n"
-IsLineOf Repository line = line ≡ codes "refused: repository not plain\n"
-IsLineOf Codes line = ⊥
-IsLineOf Message line = (id : List ℕ) × IsMessageId id × (line ≡ no_message id)
-IsLineOf Instance line = IsInstanceLine line
-IsLineOf ReadFault line = line ≡ codes "failed: read\n"
-IsLineOf WriteFault line = line ≡ codes "failed: write\n"
-IsLineOf Memory line = line ≡ codes "failed: memory\n"
+-- What is noted, and the status: nothing where the command was done, and else the line of the stop, as far as the sink for notes took it.
+abbrev pub Notes : {N : Type 0} → (N → Option (List ℕ)) → (N → ℕ) → (N → ℕ) → N → N → End → Status → Type 0
+Notes held faults room old new (Ok done) result = (result ≡ status.Done) × (new ≡ old)
+Notes held faults room old new (Err stop) result =
+    (push : Result (Unit {0}) SinkError) × Pushes held faults room old new push (stop_line stop) × (result ≡ status_behind stop push)
 
--- The answers after which the notes hold the whole line, where their count of faults did not rise and they had this room:
--- the line of a fault of out wants its 14 bytes.
-abbrev pub IsNoted : Status → ℕ → Type 0
-IsNoted Done room = ⊥
-IsNoted Memory room = ⊥
-IsNoted WriteFault room = 14 ≤ room
-IsNoted _ room = Unit {0}
-
--- some line that may be noted is longer than the room
-abbrev pub IsNarrow : ℕ → Type 0
-IsNarrow room = (status : Status) × (line : List ℕ) × IsLineOf status line × (room < length line)
-
--- want of memory is noted, where the notes had room for each line
-abbrev pub IsMemoryNoted : ℕ → Option (List ℕ) → Option (List ℕ) → Type 0
-IsMemoryNoted room old new = IsNarrow room ⊎ Appends old new (codes "failed: memory\n")
-
--- the answers after which out holds what it held
-abbrev pub LeavesOut : Status → Type 0
-LeavesOut ReadFault = Unit {0}
-LeavesOut status = IsRefusal status
+-- What a command does before anything is noted.
+pub record Performs {R C I O : Type 0} (ws : List (List ℕ)) (repo : Use R) (codes : Use C) (inst : Use I)
+    (held : O → Option (List ℕ)) (faults : O → ℕ) (old new : O) (end : End) : Type 0 where
+  -- Words are refused exactly where they have the form of no command, and then nothing is touched.
+  pub words : IsUnlisted ws ↔ (end ≡ Err (Refused Words))
+  pub untouched : IsUnlisted ws → Untouched repo × Untouched codes × Untouched inst
+  -- The sources that the command uses are read in turn, and the others are not touched.
+  pub sources : (command : Command) → HasForm ws command → AreReadInTurn (pulled command).codes (pulled command).instance (ended_of end) repo codes inst
+  -- Where those sources tell their bytes, the end is the verdict on words and bytes.
+  pub verdict : (r c i : List ℕ) → AreLeft ws (repo.left repo.old) (codes.left codes.old) (inst.left inst.old) r c i → Tells (Answer ws r c i) end (held old) (held new)
+  pub out : GoesOut held faults old new end

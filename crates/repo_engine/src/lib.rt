@@ -1,18 +1,18 @@
 //! The commands of `isorepo`: from words and bytes to a status and what is written.
 #![tactic(auto)]
 
+mod check;
 mod command;
-mod conclude;
-mod decide;
-mod instance;
-pub mod laws;
-mod line;
+mod engine;
+mod list;
+mod message;
 mod note;
-mod read_error;
-mod reading;
+mod perform;
+mod refusal;
 mod repository;
 mod status;
-mod words;
+mod types;
 
-pub use command::run;
+pub use engine::run;
+pub use refusal::{Refusal, Stop};
 pub use status::Status;

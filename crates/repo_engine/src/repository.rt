@@ -1,57 +1,134 @@
-//! The plain repository: a small part of an ISO 20022 repository (ISO 20022-1, e-Repository) in
-//! one fixed spelling. What such a file says is read as slices of its bytes.
-ghost use Rattle.std.specs.Prelude.{◌≡◌, ◌≤◌, length, IfOk, IfSome, IfNone};
-ghost use Rattle.repo_engine.specs.PlainRepository.{Plain, SpellsRepository, IsNoRepository};
-ghost use Rattle.repo_engine.specs.PlainReading.{plain_of};
-ghost use Rattle.repo_engine.specs.PlainContents.{contents_of};
+//! A repository and its external codes, read from their sources.
+ghost use Rattle.std.specs.Prelude.{◌≡◌, List, ℕ, true, Some, IfOk, IfErr};
+ghost use Rattle.repo_engine.specs.Answer.{GivesJoined, IsCodesRefusal, RefusesCodes, RefusesFile};
+ghost use Rattle.repo_engine.specs.Arms.{FilesHaveLeft, GivesRepository, IsOfInput, IsReadIf, RefusesRepository, IsCodesText, StopsBy, codes_stop, load_stop};
+ghost use Rattle.repo_engine.specs.Command.{hands_in};
+ghost use Rattle.repo_engine.specs.Sources.{AreRead, Failing, IsRead, ended_of, of_source, stop_ended};
+ghost use Rattle.repo_loader.specs.Loaded.{Spells};
+ghost use Rattle.code_sets.specs.Codes.{Joins};
+ghost use Rattle.code_sets.specs.CodesErrors.{AreCodes};
+ghost use Rattle.repo_objects.specs.Repository.{Contents};
 
-mod declared;
-mod document;
-mod fields;
-mod lines;
-mod message_id;
-mod name_lists;
-mod names;
-mod reading;
-mod spelling;
-mod valid;
-
-use declared::declared;
-use document::Document;
-pub use message_id::has_id;
-use reading::document;
+use super::refusal::{Refusal, Stop};
+use code_sets::{CodeLists, CodesError, join, pull_codes};
+use outside::Source;
+use repo_loader::{LoadError, load};
 use repo_objects::Repository;
-use std::alloc::{AllocError, Global};
-use valid::is_allowed;
+use std::alloc::Global;
 
-/// The repository that the bytes spell, all of them; `None` where they are no plain repository. The
-/// one error is want of memory. It keeps none of the bytes.
-pub fn read_repository(alloc: Global, bytes: &[u8]) -> Result<Option<Repository>, AllocError>
-    requires { length bytes.now ≤ 2147483648 }
-    ensures found { IfOk result (λ o. IfSome o (λ r. (p : Plain) × SpellsRepository bytes.now p × (r ≡ contents_of p))) }
-    ensures none { IfOk result (λ o. IfNone o (IsNoRepository bytes.now)) }
+/// The repository that the first source has left, joined with the codes that the second has left;
+/// where the word for the codes is `-`, as it is.
+pub fn read_repository<R: Source, C: Source>(
+    alloc: Global,
+    codes_word: &[u8],
+    repo: &mut R,
+    codes: &mut C,
+) -> Result<Repository, Stop>
+    ensures gives { (r c : List ℕ) → FilesHaveLeft codes_word.now (R.left repo.old) (C.left codes.old) r c →
+        IfOk result (λ joined. GivesRepository codes_word.now r c joined) }
+    ensures refuses { (r c : List ℕ) → FilesHaveLeft codes_word.now (R.left repo.old) (C.left codes.old) r c →
+        IfErr result (λ stop. StopsBy (RefusesRepository codes_word.now r c) stop) }
+    ensures input { IfErr result (λ stop. IsOfInput stop) }
+    ensures sources { AreRead (hands_in codes_word.now) (ended_of result)
+        (of_source R.left R.faults repo.old repo.new) (of_source C.left C.faults codes.old codes.new) }
 {
-    let Some(document) = read_document(alloc, bytes)? else {
-        return Ok(None);
-    };
-    let repository = declared(alloc, &document)?;
-    Ok(Some(repository))
-}
-
-/// What the bytes say, as slices of them.
-fn read_document<'a>(alloc: Global, bytes: &'a [u8]) -> Result<Option<Document<'a>>, AllocError>
-    requires { length bytes.now ≤ 2147483648 }
-    ensures found { IfOk result (λ o. IfSome o (λ d. SpellsRepository bytes.now (plain_of d))) }
-    ensures none { IfOk result (λ o. IfNone o (IsNoRepository bytes.now)) }
-{
-    let Some(document) = document(alloc, bytes)? else {
-        return Ok(None);
-    };
-    if !is_allowed(alloc, &document)? {
-        return Ok(None);
+    match load_file(alloc, repo) {
+        Ok(own) => with_codes(alloc, codes_word, own, codes),
+        Err(stop) => Err(stop),
     }
-    Ok(Some(document))
 }
 
-#[cfg(test)]
-mod tests;
+/// The repository with the codes that are handed in, if any.
+fn with_codes<C: Source>(
+    alloc: Global,
+    codes_word: &[u8],
+    own: Repository,
+    codes: &mut C,
+) -> Result<Repository, Stop>
+    ensures gives { (c : List ℕ) → (hands_in codes_word.now ≡ true → C.left codes.old ≡ Some c) →
+        IfOk result (λ joined. GivesJoined codes_word.now own c joined) }
+    ensures refuses { (c : List ℕ) → (hands_in codes_word.now ≡ true → C.left codes.old ≡ Some c) →
+        IfErr result (λ stop. StopsBy (RefusesCodes codes_word.now own c) stop) }
+    ensures input { IfErr result (λ stop. IsOfInput stop) }
+    ensures source { IsReadIf (hands_in codes_word.now) (ended_of result) (of_source C.left C.faults codes.old codes.new) }
+{
+    if codes_word == b"-".as_slice() {
+        return Ok(own);
+    }
+    join_codes(alloc, own, codes)
+}
+
+/// The repository that the source has left.
+fn load_file<R: Source>(alloc: Global, repo: &mut R) -> Result<Repository, Stop>
+    ensures gives { (r : List ℕ) → R.left repo.old ≡ Some r → IfOk result (λ own. Spells r own) }
+    ensures refuses { (r : List ℕ) → R.left repo.old ≡ Some r → IfErr result (λ stop. StopsBy (RefusesFile r) stop) }
+    ensures input { IfErr result (λ stop. IsOfInput stop) }
+    ensures source { IsRead (ended_of result) (of_source R.left R.faults repo.old repo.new) }
+{
+    match load(alloc, repo) {
+        Ok(own) => Ok(own),
+        Err(error) => Err(stop_of_load(error)),
+    }
+}
+
+/// Why a repository is not loaded, as a stop.
+fn stop_of_load(error: LoadError) -> Stop
+    ensures { result ≡ load_stop error }
+{
+    match error {
+        LoadError::Refused(fault) => Stop::Refused(Refusal::Repository(fault)),
+        LoadError::ReadFault => Stop::ReadFault,
+        LoadError::Memory => Stop::Memory,
+    }
+}
+
+/// The repository with the codes that the source has left.
+fn join_codes<C: Source>(alloc: Global, own: Repository, codes: &mut C) -> Result<Repository, Stop>
+    ensures gives { (c : List ℕ) → C.left codes.old ≡ Some c → IfOk result (λ joined. Joins own c joined) }
+    ensures refuses { (c : List ℕ) → C.left codes.old ≡ Some c → IfErr result (λ stop. StopsBy (IsCodesRefusal own c) stop) }
+    ensures input { IfErr result (λ stop. IsOfInput stop) }
+    ensures source { IsRead (ended_of result) (of_source C.left C.faults codes.old codes.new) }
+{
+    match load_codes(alloc, codes) {
+        Ok(lists) => join_lists(alloc, own, &lists),
+        Err(stop) => Err(stop),
+    }
+}
+
+/// The codes that the source has left.
+fn load_codes<C: Source>(alloc: Global, codes: &mut C) -> Result<CodeLists, Stop>
+    ensures gives { (c : List ℕ) → C.left codes.old ≡ Some c → IfOk result (λ lists. IsCodesText c lists) }
+    ensures codes { IfOk result (λ lists. AreCodes lists) }
+    ensures refuses { (c : List ℕ) → C.left codes.old ≡ Some c → IfErr result (λ stop. (own : Contents) → StopsBy (IsCodesRefusal own c) stop) }
+    ensures input { IfErr result (λ stop. IsOfInput stop) }
+    ensures source { IsRead (ended_of result) (of_source C.left C.faults codes.old codes.new) }
+{
+    match pull_codes(alloc, codes) {
+        Ok(lists) => Ok(lists),
+        Err(error) => Err(stop_of_codes(error)),
+    }
+}
+
+/// The repository with these codes.
+fn join_lists(alloc: Global, own: Repository, lists: &CodeLists) -> Result<Repository, Stop>
+    requires { AreCodes lists.now }
+    ensures gives { (c : List ℕ) → IsCodesText c lists.now → IfOk result (λ joined. Joins own c joined) }
+    ensures refuses { (c : List ℕ) → IsCodesText c lists.now → IfErr result (λ stop. StopsBy (IsCodesRefusal own c) stop) }
+    ensures stops { IfErr result (λ stop. IsOfInput stop × (stop_ended stop ≡ Failing → ⊥)) }
+{
+    match join(alloc, own, lists) {
+        Ok(joined) => Ok(joined),
+        Err(error) => Err(stop_of_codes(error)),
+    }
+}
+
+/// Why codes are refused, as a stop.
+fn stop_of_codes(error: CodesError) -> Stop
+    ensures { result ≡ codes_stop error }
+{
+    match error {
+        CodesError::Refused { rule, number } => Stop::Refused(Refusal::Codes { rule, number }),
+        CodesError::ReadFault => Stop::ReadFault,
+        CodesError::Memory => Stop::Memory,
+    }
+}

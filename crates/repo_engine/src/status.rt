@@ -1,4 +1,4 @@
-// How a run ends.
+//! How a run ends.
 ghost use Rattle.std.specs.Prelude.{◌≡◌, ℕ};
 ghost use Rattle.repo_engine.specs.Exit.{code_of};
 

@@ -1,0 +1,86 @@
+-- What a command does is what the words ask for.
+use Rattle.std.proofs.Common.{◌≡◌, ◌≢◌, ◌⊎◌, inl, inr, ℕ, Bool, true, false, List, [], ◌∷◌, Option, Some, None, Result, Ok, Err, codes, length, refl, sym, ap, ◌∙◌, subst, append-nil, arith}
+use Rattle.std.specs.Io.KnownBytes.{Appends, Keeps}
+use Rattle.repo_engine.specs.Answer.{Answer, Of}
+use Rattle.repo_engine.specs.Arms.{Carries, HaveLeft}
+use Rattle.repo_engine.specs.Command.{Command, list, message, HasForm, IsUnlisted, pulled, verb_word}
+use Rattle.repo_engine.specs.Run.{AreLeft, End, GoesOut, Performs, Tells}
+use Rattle.repo_engine.specs.Sources.{Use, Untouched, AreReadInTurn, ended_of}
+use Rattle.repo_engine.specs.Verdict.{Verdict, accepted, refused}
+use Rattle.repo_engine.specs.declared.command.Verb.{Verb}
+use Rattle.repo_engine.specs.declared.command.Verb.TheVariants.{Types, CheckXml}
+use Rattle.repo_engine.specs.declared.refusal.Stop.{Stop}
+use Rattle.repo_engine.specs.declared.refusal.Stop.TheVariants.{Refused, ReadFault, WriteFault, Memory}
+use Rattle.repo_engine.specs.declared.refusal.Refusal.TheVariants.{Words}
+
+abbrev first_of : List (List ℕ) → List ℕ
+first_of (a ∷ rest) = a
+first_of [] = []
+
+abbrev third_of : List (List ℕ) → List ℕ
+third_of (a ∷ b ∷ c ∷ rest) = c
+third_of ws = []
+
+abbrev fourth_of : List (List ℕ) → List ℕ
+fourth_of (a ∷ b ∷ c ∷ d ∷ rest) = d
+fourth_of ws = []
+
+one_verb : (v w : Verb) → verb_word v ≡ verb_word w → v ≡ w
+one_verb Types Types e = refl
+one_verb Types CheckXml e = absurd (cc)
+one_verb CheckXml Types e = absurd (cc)
+one_verb CheckXml CheckXml e = refl
+
+-- words have the form of one command
+pub one_command : (ws : List (List ℕ)) (a b : Command) → HasForm ws a → HasForm ws b → a ≡ b
+one_command ws (list c) (list d) f g = ap list (ap third_of (sym f.1 ∙ g.1))
+one_command ws (list c) (message verb d id) f g = absurd (let n : 3 ≡ 4 = ap length (sym f.1 ∙ g.1) in omega (arith, n))
+one_command ws (message verb c id) (list d) f g = absurd (let n : 4 ≡ 3 = ap length (sym f.1 ∙ g.1) in omega (arith, n))
+one_command ws (message verb c id) (message word d other) f g =
+    let same = sym f.1 ∙ g.1 in
+    let verbs : verb ≡ word = one_verb verb word (ap first_of same) in
+    let words : c ≡ d = ap third_of same in
+    let ids : id ≡ other = ap fourth_of same in
+    λ i. message (verbs i) (words i) (ids i)
+
+appends_nothing : (a : Option (List ℕ)) → Appends a a []
+appends_nothing None = tt
+appends_nothing (Some s) = sym (append-nil s)
+
+-- words without the form of a command
+pub performs_nothing : {R C I O : Type 0} (ws : List (List ℕ)) (repo : Use R) (codes : Use C) (inst : Use I) (held : O → Option (List ℕ)) (faults : O → ℕ) (s : O)
+    → IsUnlisted ws → Untouched repo → Untouched codes → Untouched inst → Performs ws repo codes inst held faults s s (Err (Refused Words))
+performs_nothing ws repo codes inst held faults s unlisted a b c = record {
+  words = (λ _. refl, λ _. unlisted);
+  untouched = λ _. (a, b, c);
+  sources = λ command form. absurd (unlisted command form);
+  verdict = λ r cs i left. ([], inl (unlisted, refl), appends_nothing (held s));
+  out = record {
+    same = λ _. refl;
+    grows = ([], appends_nothing (held s));
+    failed = λ e. absurd (cc);
+    quiet = λ _. refl;
+    later = omega arith;
+  };
+}
+
+pub tells_more : (A B : Verdict → Type 0) (end : End) (h h' : Option (List ℕ)) → ((v : Verdict) → A v → B v) → Tells A end h h' → Tells B end h h'
+tells_more A B (Ok done) h h' f t = (t.0, f _ t.1, t.2)
+tells_more A B (Err (Refused refusal)) h h' f t = (t.0, f _ t.1, t.2)
+tells_more A B (Err ReadFault) h h' f t = tt
+tells_more A B (Err WriteFault) h h' f (inl keeps) = inl keeps
+tells_more A B (Err WriteFault) h h' f (inr t) = inr (t.0, f _ t.1, t.2)
+tells_more A B (Err Memory) h h' f (inl keeps) = inl keeps
+tells_more A B (Err Memory) h h' f (inr t) = inr (t.0, f _ t.1, t.2)
+
+-- words with the form of a command that is carried out
+pub performs_command : {R C I O : Type 0} (ws : List (List ℕ)) (command : Command) (repo : Use R) (codes : Use C) (inst : Use I) (held : O → Option (List ℕ)) (faults : O → ℕ) (old new : O) (end : End)
+    → HasForm ws command → Carries command repo codes inst held faults old new end → Performs ws repo codes inst held faults old new end
+performs_command ws command repo codes inst held faults old new end form carries = record {
+  words = (λ u. absurd (u command form), λ e. absurd (carries.no_words e));
+  untouched = λ u. absurd (u command form);
+  sources = λ other same. subst (λ k. AreReadInTurn (pulled k).codes (pulled k).instance (ended_of end) repo codes inst) (one_command ws command other form same) carries.sources;
+  verdict = λ r c i left. tells_more (Of command r c i) (Answer ws r c i) end _ _ (λ v h. inr (command, form, h))
+      (carries.verdict r c i (record { repository = left.repository command form; codes = left.codes command form; instance = left.instance command form }));
+  out = carries.out;
+}

@@ -1,0 +1,47 @@
+-- The steps that read a repository and its codes, and those that give one verdict alone.
+use Rattle.std.proofs.Common.{◌≡◌, ◌⊎◌, inl, inr, ℕ, Bool, true, false, List, Option, Some, Result, Ok, Err, refl, sym, ◌∙◌, subst}
+use Rattle.std.specs.Prelude.{IfOk, IfErr}
+use Rattle.repo_objects.specs.Repository.{Contents}
+use Rattle.repo_engine.specs.Answer.{FromRepository, RefusesFile, RefusesCodes}
+use Rattle.repo_engine.specs.Arms.{GivesRepository, RefusesRepository, FilesHaveLeft, StopsBy, IsReadIf, unasked, asked}
+use Rattle.repo_engine.specs.Steps.{Then, refused, goes_on}
+use Rattle.repo_engine.specs.Sources.{Use, Ended, IsRead, AreRead, one, both, Whole, Failing, Stopping}
+use Rattle.repo_engine.specs.Verdict.{Verdict}
+use Rattle.repo_engine.specs.declared.refusal.Stop.{Stop}
+use Rattle.repo_engine.specs.declared.refusal.Stop.TheVariants.{Refused, ReadFault, WriteFault, Memory}
+
+pub from_refused : (codes_word r c : List ℕ) (Next : Contents → Verdict → Type 0) (v : Verdict) → RefusesRepository codes_word r c v → FromRepository codes_word r c Next v
+from_refused codes_word r c Next v (inl file) = refused file
+from_refused codes_word r c Next v (inr (own, spells, codes)) = goes_on own spells (refused codes)
+
+pub from_given : (codes_word r c : List ℕ) (Next : Contents → Verdict → Type 0) (R : Contents) (v : Verdict) → GivesRepository codes_word r c R → Next R v → FromRepository codes_word r c Next v
+from_given codes_word r c Next R v (own, spells, joined) next = goes_on own spells (goes_on R joined next)
+
+-- a stop that tells one thing tells another that follows
+pub stops_by : (A B : Verdict → Type 0) (stop : Stop) → ((v : Verdict) → A v → B v) → StopsBy A stop → StopsBy B stop
+stops_by A B (Refused refusal) f h = f _ h
+stops_by A B ReadFault f h = tt
+stops_by A B WriteFault f h = tt
+stops_by A B Memory f h = tt
+
+-- the first source is read, and the second behind it if it is asked
+pub read_behind : {S T : Type 0} (second : Bool) (ended : Ended) (u : Use S) (v : Use T) → IsRead Whole u → IsReadIf second ended v → AreRead second ended u v
+read_behind second ended u v first (unasked no_codes whole same) = one (subst (λ e. IsRead e u) (sym whole) first) same (λ _. no_codes)
+read_behind second ended u v first (asked codes read) = both codes first read
+
+-- what is read to its end, and then stops
+pub stopping : {S : Type 0} (u : Use S) → IsRead Whole u → IsRead Stopping u
+stopping u read = record { later = read.later; whole = λ e. absurd (cc); failed = λ e. absurd (cc) }
+
+pub stopping_both : {S T : Type 0} (second : Bool) (u : Use S) (v : Use T) → AreRead second Whole u v → AreRead second Stopping u v
+stopping_both second u v (one read same none) = one (stopping u read) same (λ e. absurd (cc))
+stopping_both second u v (both codes first read) = both codes first (stopping v read)
+
+-- what follows of an answer
+pub if_ok : {T E : Type 0} (A B : T → Type 0) (r : Result T E) → ((x : T) → A x → B x) → IfOk r A → IfOk r B
+if_ok A B (Ok x) f h = f x h
+if_ok A B (Err e) f h = tt
+
+pub if_err : {T E : Type 0} (A B : E → Type 0) (r : Result T E) → ((e : E) → A e → B e) → IfErr r A → IfErr r B
+if_err A B (Ok x) f h = tt
+if_err A B (Err e) f h = f e h

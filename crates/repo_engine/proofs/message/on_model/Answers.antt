@@ -1,0 +1,18 @@
+use Rattle.std.proofs.Common.{◌≡◌, true, refl}
+use Rattle.repo_engine.specs.Arms.{unread, read}
+use Rattle.repo_engine.specs.Command.{reads_instance}
+use Rattle.repo_engine.proofs.message.on_model.Goals as goal
+
+pub returns-in-Types-clause-source : goal.returns-in-Types-clause-source
+returns-in-Types-clause-source g c = rw c.in-Types.is (unread refl c.give_types.ensures.ends.0 c.give_types.ensures.ends.1 refl)
+
+pub returns-in-Types-clause-verdict : goal.returns-in-Types-clause-verdict
+returns-in-Types-clause-verdict g c i told = rw c.in-Types.is c.give_types.ensures.verdict
+
+pub returns-in-CheckXml-clause-source : goal.returns-in-CheckXml-clause-source
+returns-in-CheckXml-clause-source g c = rw c.in-CheckXml.is (read refl c.check.ensures.source)
+
+pub returns-in-CheckXml-clause-verdict : goal.returns-in-CheckXml-clause-verdict
+returns-in-CheckXml-clause-verdict g c i told =
+    let reads : reads_instance c.args.verb ≡ true = rw c.in-CheckXml.is refl in
+    rw c.in-CheckXml.is (c.check.ensures.verdict i (told reads))

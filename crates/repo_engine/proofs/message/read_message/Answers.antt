@@ -1,0 +1,26 @@
+use Rattle.std.proofs.Common.{inl, inr}
+use Rattle.repo_engine.specs.Answer.{RefusesMessage}
+use Rattle.repo_engine.specs.Arms.{RefusesRepository, RefusesUpToMessage}
+use Rattle.repo_engine.specs.Sources.{ended_of}
+use Rattle.repo_engine.proofs.Steps.{if_ok, if_err, stops_by}
+use Rattle.repo_engine.proofs.Messages.{both_on, not_failing}
+use Rattle.repo_engine.proofs.message.read_message.Goals as goal
+
+pub returns-in-Ok-clause-gives : goal.returns-in-Ok-clause-gives
+returns-in-Ok-clause-gives g c r bytes left = if_ok _ _ c.compile.result (λ model h. (c.in-Ok.repository, c.in-Ok.ensures.gives r bytes left, h)) c.compile.ensures.gives
+
+pub returns-in-Ok-clause-refuses : goal.returns-in-Ok-clause-refuses
+returns-in-Ok-clause-refuses g c r bytes left =
+    if_err _ _ c.compile.result
+    (λ stop. stops_by (RefusesMessage c.in-Ok.repository c.args.id.now) (RefusesUpToMessage c.args.codes_word.now c.args.id.now r bytes) stop (λ v h. inr (c.in-Ok.repository, c.in-Ok.ensures.gives r bytes left, h)))
+    c.compile.ensures.refuses
+
+pub returns-in-Ok-clause-input : goal.returns-in-Ok-clause-input
+returns-in-Ok-clause-input g c = if_err _ _ c.compile.result (λ stop h. h.0) c.compile.ensures.stops
+
+pub returns-in-Ok-clause-sources : goal.returns-in-Ok-clause-sources
+returns-in-Ok-clause-sources g c = both_on _ (ended_of c.compile.result) _ _ (not_failing c.compile.result c.compile.ensures.stops) c.in-Ok.ensures.sources
+
+pub returns-in-Err-clause-refuses : goal.returns-in-Err-clause-refuses
+returns-in-Err-clause-refuses g c r bytes left =
+    stops_by (RefusesRepository c.args.codes_word.now r bytes) (RefusesUpToMessage c.args.codes_word.now c.args.id.now r bytes) c.in-Err.stop (λ v h. inl h) (c.in-Err.ensures.refuses r bytes left)

@@ -1,0 +1,28 @@
+use Rattle.std.proofs.Common.{rules, ◌≡◌, ◌≤◌, length, subst, IfSome}
+use Rattle.code_sets.specs.Codes.{Reads, limit}
+use Rattle.code_sets.specs.declared.errors.CodesError.TheVariants as codes_error
+use Rattle.repo_engine.proofs.Readings.{source_refuses_told, codes_failing, codes_not_whole}
+use Rattle.repo_engine.proofs.repository.load_codes.Goals as goal
+
+pub returns-in-Ok-clause-source : goal.returns-in-Ok-clause-source
+returns-in-Ok-clause-source g c = record {
+  later = c.pull_codes.ensures.later;
+  whole = λ _. c.in-Ok.ensures.whole;
+  failed = λ e. absurd (cc);
+}
+
+pub returns-in-Ok-clause-gives : goal.returns-in-Ok-clause-gives
+returns-in-Ok-clause-gives g c bytes told = (
+  subst (λ o. IfSome o (λ b. length b ≤ limit)) told c.in-Ok.ensures.short,
+  subst (λ o. IfSome o (λ b. Reads b c.in-Ok.lists)) told c.in-Ok.ensures.ok,
+)
+
+pub returns-in-Err-clause-refuses : goal.returns-in-Err-clause-refuses
+returns-in-Err-clause-refuses g c bytes told own = rw c.stop_of_codes.ensures (source_refuses_told own _ bytes _ told c.in-Err.ensures.err)
+
+pub returns-in-Err-clause-source : goal.returns-in-Err-clause-source
+returns-in-Err-clause-source g c = rw c.stop_of_codes.ensures (record {
+  later = c.pull_codes.ensures.later;
+  whole = λ e. absurd (codes_not_whole _ e);
+  failed = λ e. (let is : c.in-Err.error ≡ codes_error.ReadFault = codes_failing _ e in c.pull_codes.ensures.fault (search rules));
+})

@@ -1,0 +1,14 @@
+-- What a parsed command line stands for. Private functions alone cite this.
+use Rattle.std.specs.Prelude.{ℕ, List}
+use Rattle.repo_engine.specs.declared.command.Command.{Command}
+use Rattle.repo_engine.specs.declared.command.Command.TheVariants.{List as Listing, Message}
+use Rattle.repo_engine.specs.Command as line
+use Rattle.repo_engine.specs.Command.{HasForm}
+
+abbrev pub command_view : Command → line.Command
+command_view (Listing codes_word) = line.list codes_word.now
+command_view (Message verb codes_word id) = line.message verb codes_word.now id
+
+-- the words have its form
+abbrev pub AsksFor : List (List ℕ) → Command → Type 0
+AsksFor ws command = HasForm ws (command_view command)

@@ -1,0 +1,26 @@
+-- What goes out for a list of messages, and for the types of one.
+use Rattle.std.specs.Prelude.{ℕ, suc, List, [], ◌∷◌, ◌++◌, codes, flat_map, if◌then◌else◌}
+use Rattle.std.specs.Fmt.{decimal}
+use Rattle.repo_objects.specs.declared.objects.MessageDef.{MessageDef}
+use Rattle.repo_objects.specs.MessageId.{is_message_id}
+use Rattle.message_model.specs.Tables.{TypeEntry}
+
+-- a message of a list: its identifier and its name; none where the identifier has not the form of one
+abbrev pub message_line : MessageDef → List ℕ
+message_line d = if is_message_id d.id then d.id ++ (codes " " ++ (d.name ++ codes "\n")) else []
+
+-- the messages of a repository, in file order
+abbrev pub list_text : List MessageDef → List ℕ
+list_text messages = flat_map message_line messages
+
+-- a type by its number: the word for its kind, and its name
+abbrev pub type_text : ℕ → List ℕ → List ℕ → List ℕ
+type_text number word name = decimal number ++ (codes " " ++ (word ++ (codes " " ++ (name ++ codes "\n"))))
+
+abbrev pub type_line : ℕ → TypeEntry → List ℕ
+type_line number t = type_text number t.word t.name
+
+-- the types, numbered from this number on
+abbrev pub types_text : ℕ → List TypeEntry → List ℕ
+types_text number [] = []
+types_text number (t ∷ more) = type_line number t ++ types_text (suc number) more

@@ -1,0 +1,41 @@
+//! The check of an XML instance.
+ghost use Rattle.std.specs.Prelude.{◌≡◌, ◌≢◌, ℕ, List, Some, Err};
+ghost use Rattle.repo_engine.specs.Answer.{ChecksXml};
+ghost use Rattle.repo_engine.specs.Arms.{check_stop};
+ghost use Rattle.repo_engine.specs.Run.{GoesOut, Tells};
+ghost use Rattle.repo_engine.specs.Sources.{IsRead, ended_of, of_source};
+
+use super::refusal::{Refusal, Stop, ended};
+use message_model::Model;
+use outside::{Sink, Source, push_bytes};
+use std::alloc::Global;
+use transcoder::{CheckError, check_xml};
+
+/// Checks the XML instance that the source has left, and pushes `accepted`.
+pub fn check<I: Source, O: Sink>(
+    alloc: Global,
+    model: &Model,
+    inst: &mut I,
+    out: &mut O,
+) -> Result<(), Stop>
+    ensures no_words { result ≢ Err (Stop.Refused Refusal.Words) }
+    ensures source { IsRead (ended_of result) (of_source I.left I.faults inst.old inst.new) }
+    ensures verdict { (i : List ℕ) → I.left inst.old ≡ Some i → Tells (ChecksXml model.now i) result (O.held out.old) (O.held out.new) }
+    ensures goes_out { GoesOut O.held O.faults out.old out.new result }
+{
+    match check_xml(alloc, model, inst) {
+        Ok(()) => ended(push_bytes(b"accepted\n", out)),
+        Err(error) => Err(stop_of_check(error)),
+    }
+}
+
+/// Why an instance is refused, as a stop.
+fn stop_of_check(error: CheckError) -> Stop
+    ensures { result ≡ check_stop error }
+{
+    match error {
+        CheckError::Refused(fault) => Stop::Refused(Refusal::Instance(fault)),
+        CheckError::ReadFault => Stop::ReadFault,
+        CheckError::Memory => Stop::Memory,
+    }
+}

@@ -1,0 +1,36 @@
+//! The top call: one command, from words and bytes to a status and what is written.
+ghost use Rattle.std.specs.Prelude.{◌≡◌};
+ghost use Rattle.repo_engine.specs.Command.{texts};
+ghost use Rattle.repo_engine.specs.Run.{End, Notes, Performs};
+ghost use Rattle.repo_engine.specs.Sources.{of_source};
+
+use super::note::conclude;
+use super::perform::perform;
+use super::status::Status;
+use outside::{Sink, Source};
+use std::alloc::Global;
+
+/// Runs the command that the words ask for: reads the sources that it uses, pushes its text to `out`
+/// once the input was accepted, and notes one line on any answer but `Done`.
+///
+/// `words` is the command line without the program's name. `codes` is not pulled where the third
+/// word is `-`.
+pub fn run<R: Source, C: Source, I: Source, O: Sink, N: Sink>(
+    alloc: Global,
+    words: &Vec<String>,
+    repo: &mut R,
+    codes: &mut C,
+    inst: &mut I,
+    out: &mut O,
+    notes: &mut N,
+) -> Status
+    // There is an end that the command comes to, of which both hold.
+    ensures { (end : End)
+        × Performs (texts words.now.items)
+        (of_source R.left R.faults repo.old repo.new) (of_source C.left C.faults codes.old codes.new) (of_source I.left I.faults inst.old inst.new)
+        O.held O.faults out.old out.new end
+        × Notes N.held N.faults N.room notes.old notes.new end result }
+{
+    let end = perform(alloc, words, repo, codes, inst, out);
+    conclude(&end, notes)
+}
