@@ -15,11 +15,11 @@ use Rattle.markup.specs.Faults.{rule_of, start_rule, end_rule, outside_rule, is_
 use Rattle.markup.proofs.InputLemmas.{front_bytes}
 
 -- the rule is that of an input that ends too early
-abbrev is_cut_rule : Rule → Bool
+abbrev pub is_cut_rule : Rule → Bool
 is_cut_rule Truncated = true
 is_cut_rule _ = false
 
-abbrev NoCut : Option Rule → Type 0
+abbrev pub NoCut : Option Rule → Type 0
 NoCut None = Unit {0}
 NoCut (Some rule) = is_cut_rule rule ≡ false
 
@@ -39,7 +39,7 @@ end_no_cut : (tags : List Opening) (n : Spelled) → NoCut (end_rule tags n)
 end_no_cut [] n = refl
 end_no_cut (tag ∷ tags) n = no_cut_if (bytes_eq tag.name.prefix n.prefix && bytes_eq tag.name.local n.local) None (Some TagMismatch) tt refl
 
-rule_no_cut : (before : List Token) (t : Token) → NoCut (rule_of before t)
+pub rule_no_cut : (before : List Token) (t : Token) → NoCut (rule_of before t)
 rule_no_cut before Mark = tt
 rule_no_cut before (Declaration fs g) = tt
 rule_no_cut before (Comment s) = tt

@@ -1,19 +1,14 @@
 -- Every input spells a repository or has a first fault.
-use Rattle.std.proofs.Common.{◌≡◌, ℕ, zero, suc, ◌<◌, ◌≤◌, Bool, true, false, true≢false, not, List, [], ◌∷◌, ◌++◌, length, take, Option, Some, None, if◌then◌else◌, refl, sym, ap, ◌∙◌, subst, append_assoc, append-nil, ◌⊎◌, inl, inr, arith}
-use Rattle.std.specs.Prelude.{nat_le, is_none, ◌==◌, ◌&&◌, ◌||◌}
-use Rattle.std.specs.List.{list_any}
-use Rattle.std.specs.Str.{bytes_eq}
+use Rattle.std.proofs.Common.{◌≡◌, ℕ, zero, suc, ◌<◌, ◌≤◌, Bool, true, false, true≢false, List, [], ◌∷◌, ◌++◌, length, take, Some, None, refl, sym, ap, ◌∙◌, subst, append_assoc, append-nil, ◌⊎◌, inl, inr, arith}
+use Rattle.std.specs.Prelude.{nat_le}
 use Rattle.std.proofs.lemmas.Bool.Decides.{nat_tests}
 use Rattle.std.proofs.lemmas.List.{take_all}
 use Rattle.lexical_core.specs.declared.rule.Rule.{Rule}
-use Rattle.lexical_core.specs.declared.rule.Rule.TheVariants.{BadMarkup, DuplicateAttribute, BadPrefix, TagMismatch, TextOutside, Truncated, AfterRoot}
-use Rattle.markup.specs.declared.tag.Opening.{Opening}
-use Rattle.markup.specs.declared.tag.Spelled.{Spelled}
-use Rattle.markup.specs.Chars.{is_space}
-use Rattle.markup.specs.Token.{Token, Mark, Declaration, Comment, Instruction, Opener, Closer, TypeDeclaration, Start, End, Refer, LineEnd, Character}
-use Rattle.markup.specs.Marks.{Front, Cell, in_cdata, tag_limit}
-use Rattle.markup.specs.Events.{opening, spelled, open_tags, element_name}
-use Rattle.markup.specs.Faults.{Fault, MarkFault, IsWhole, IsClean, Next, broken as next_broken, halts, cut, too_long, rule_of, start_rule, end_rule, outside_rule, is_outside, is_over, has_clash, is_bad_attribute, behind_brackets}
+use Rattle.lexical_core.specs.declared.rule.Rule.TheVariants.{Truncated}
+use Rattle.markup.specs.Token.{Token}
+use Rattle.markup.specs.Marks.{Front, Cell, tag_limit}
+use Rattle.markup.specs.Faults.{Fault, MarkFault, IsWhole, IsClean, Next, broken as next_broken, halts, cut, too_long}
+use Rattle.markup.proofs.NoCut.{is_cut_rule, NoCut, rule_no_cut}
 use Rattle.markup.proofs.TokenLaw.{one_token}
 use Rattle.markup.proofs.OneFault.{past, behind, one_fault, whole_has_none}
 use Rattle.repo_objects.specs.Repository.{Contents}
@@ -78,46 +73,6 @@ sound_or_found acc (t ∷ ts) s f =
     }))
 
 -- ---- bytes that end too early
-
--- the rule is that of an input that ends too early
-abbrev is_cut_rule : Rule → Bool
-is_cut_rule Truncated = true
-is_cut_rule _ = false
-
-abbrev NoCut : Option Rule → Type 0
-NoCut None = Unit {0}
-NoCut (Some rule) = is_cut_rule rule ≡ false
-
-no_cut_if : (b : Bool) (x y : Option Rule) → NoCut x → NoCut y → NoCut (if b then x else y)
-no_cut_if true x y p q = p
-no_cut_if false x y p q = q
-
-outside_no_cut : (before : List Token) → NoCut (outside_rule before)
-outside_no_cut before = no_cut_if (is_outside before) (Some TextOutside) None refl tt
-
-start_no_cut : (over : Bool) (tags : List Opening) (tag : Opening) → NoCut (start_rule over tags tag)
-start_no_cut over tags tag = no_cut_if (has_clash (tag ∷ tags) tag.given) (Some DuplicateAttribute) _ refl
-    (no_cut_if (is_none (element_name (tag ∷ tags) tag.name) || list_any (is_bad_attribute (tag ∷ tags)) tag.given) (Some BadPrefix) _ refl
-    (no_cut_if over (Some AfterRoot) None refl tt))
-
-end_no_cut : (tags : List Opening) (n : Spelled) → NoCut (end_rule tags n)
-end_no_cut [] n = refl
-end_no_cut (tag ∷ tags) n = no_cut_if (bytes_eq tag.name.prefix n.prefix && bytes_eq tag.name.local n.local) None (Some TagMismatch) tt refl
-
-rule_no_cut : (before : List Token) (t : Token) → NoCut (rule_of before t)
-rule_no_cut before Mark = tt
-rule_no_cut before (Declaration fields gap) = tt
-rule_no_cut before (Comment text) = tt
-rule_no_cut before (Instruction target text) = tt
-rule_no_cut before Opener = outside_no_cut before
-rule_no_cut before Closer = tt
-rule_no_cut before TypeDeclaration = refl
-rule_no_cut before (Start tag) = start_no_cut (is_over before) (open_tags before) (opening tag)
-rule_no_cut before (End name gap) = end_no_cut (open_tags before) (spelled name)
-rule_no_cut before (Refer reference) = outside_no_cut before
-rule_no_cut before (LineEnd line) = tt
-rule_no_cut before (Character c) = no_cut_if (c == 62 && not (in_cdata before) && behind_brackets before) (Some BadMarkup) _ refl
-    (no_cut_if (is_space c) None (outside_rule before) tt (outside_no_cut before))
 
 -- where bytes are cut no token stands
 cut_none : (n : ℕ) (before : List Token) (bytes : List ℕ) (rule : Rule) (at : ℕ) → Next n before bytes rule at → rule ≡ Truncated → (t : Token) (after : List ℕ) → Cell before t bytes after → ⊥

@@ -7,6 +7,7 @@ use Rattle.lexical_core.specs.declared.rule.Rule.{Rule}
 use Rattle.lexical_core.specs.declared.rule.Rule.TheVariants.{Truncated, WrongRoot, UnknownElement, TooMany, TextInComplex, UnknownAttribute}
 use Rattle.lexical_core.specs.Tree.{Expanded, Entry, Item, Starts, Char, Ends, Skipped}
 use Rattle.markup.specs.Chars.{is_space}
+use Rattle.markup.proofs.NoCut.{is_cut_rule}
 use Rattle.facets.specs.declared.simple.Simple.{Simple}
 use Rattle.facets.specs.Rules.{Breaks}
 use Rattle.reference_check.specs.Forms.{Form}
@@ -17,11 +18,6 @@ use Rattle.message_model.specs.Writes.{named, currency, same_name, value_of}
 use Rattle.message_model.specs.Message.{Message}
 use Rattle.xml_instances.specs.Levels.{Level, Parent, Leaf, Envelope, Foreign, form_of_start, round_start, path_in}
 use Rattle.xml_instances.specs.EventFaults.{Broken, broken, Unless, next_fault, place_fault, is_known, LeafFault, CodeFault, CurrencyFault, RequiredFault, unknown_fault, AttributeFault, end_fault, EndFault, is_bare, space_fault, char_fault, EventFault}
-
--- the rule is that of an input that ends too early
-abbrev is_cut_rule : Rule → Bool
-is_cut_rule Truncated = true
-is_cut_rule _ = false
 
 abbrev NoCut : Option Broken → Type 0
 NoCut None = Unit {0}

@@ -1,30 +1,26 @@
 // The elements of an instance that are open, held to the types of its message.
-ghost use Rattle.std.specs.Prelude.{◌≡◌, ℕ, List, [], ◌∷◌, ◌++◌, Option, Some, None, IfOk, IfSome, OnOk, IsOk, codes, length, map, not, ◌&&◌, option_to_list};
-ghost use Rattle.std.specs.Str.{chars};
+ghost use Rattle.std.specs.Prelude.{◌≡◌, ℕ, List, [], ◌++◌, Option, Some, None, IfOk, IfSome, OnOk, IsOk, codes, length, map, not, ◌&&◌, option_to_list};
 ghost use Rattle.lexical_core.specs.Tree.{Char, Ends, Starts, Expanded};
 ghost use Rattle.facets.specs.declared.simple.Simple.{Simple as SimpleType};
-ghost use Rattle.facets.specs.LeafChecks.{HasTaken};
 ghost use Rattle.markup.specs.EventItems.{entry_of};
-ghost use Rattle.reference_check.specs.Forms.{text_type, Form as FormType};
 ghost use Rattle.reference_check.specs.Steps.{Came, EndsWith, end_after};
 ghost use Rattle.message_model.specs.Message.{Message};
 ghost use Rattle.message_model.specs.Sound.{count_with};
-ghost use Rattle.message_model.specs.Views.{IsFormOf};
 ghost use Rattle.message_model.specs.Tables.{message_of, types_of};
-ghost use Rattle.message_model.specs.Writes.{named, value_of, currency};
+ghost use Rattle.message_model.specs.Writes.{named};
 ghost use Rattle.xml_instances.specs.Levels.{Level, path_of};
-ghost use Rattle.xml_instances.specs.EventFaults.{space_fault, is_bare, has_currency, end_fault, EndFault, LeafFault, CurrencyFault, AttributeFault};
+ghost use Rattle.xml_instances.specs.EventFaults.{space_fault, is_bare, end_fault, EndFault, LeafFault};
 ghost use Rattle.xml_instances.specs.declared.opened.Opened.{Opened as OpenedType};
-ghost use Rattle.xml_instances.specs.declared.opened.Opened.TheVariants.{Text as OpenedText};
-ghost use Rattle.xml_instances.specs.Open.{IsOpen, IsTaken, IsItemTaken, AreMade, IsRuleOf, names_of, Says, Refuses, IsPlaced, IsEntered, IsRound, form_at, HoldsText, StandsFor, IsFilled, IsChild, IsStepped, IsBegun, IsRoot, IsCode};
+ghost use Rattle.xml_instances.specs.Open.{IsOpen, IsTaken, IsItemTaken, AreMade, IsRuleOf, names_of, Says, Refuses, IsPlaced, IsEntered, IsRound, form_at, StandsFor, IsFilled, IsChild, IsStepped, IsBegun, IsRoot};
 
+mod attributes;
+mod leaves;
 mod quick;
 
-use crate::known::{currency_of, has_unknown};
 use crate::opened::{Opened, Refusal, breaks, missing, names};
 use crate::spare::Checks;
-use crate::texts::{is_space, rule_of, take_character, take_characters};
-use facets::{LeafCheck, Simple};
+use crate::texts::is_space;
+use facets::LeafCheck;
 use lexical_core::{Rule, Text};
 use markup::{Attr, What};
 use message_model::{End, Form, Model, Next};
@@ -148,26 +144,6 @@ impl Content {
         breaks(self.alloc, model, rule, self.round.as_slice(), behind)
     }
 
-    /// A character of the open text.
-    fn text_character(&mut self, model: &Model, c: char) -> Result<(), AllocError>
-        requires { AreMade (types_of model.now) self.old }
-        ensures made { AreMade (types_of model.now) self.new }
-        ensures kept { self.new.innermost ≡ self.old.innermost }
-        ensures round { self.new.round ≡ self.old.round }
-        ensures taken { (simple : SimpleType) (text : List ℕ) → HoldsText (message_of model.now) self.old.text simple text
-            → OnOk result (HoldsText (message_of model.now) self.new.text simple (text ++ c ∷ [])) }
-    {
-        let Some(mut open) = self.text.take() else {
-            return Err(AllocError);
-        };
-        let Some(simple) = model.text_type(open.number) else {
-            return Err(AllocError);
-        };
-        let taken = take_character(&mut open.check, simple, c);
-        self.text = Some(open);
-        taken
-    }
-
     // ---- the end of an element
 
     /// The innermost element ends.
@@ -231,26 +207,6 @@ impl Content {
             End::Missing(at) => Err(missing(self.alloc, model, self.round.as_slice(), number, at)),
             End::NoAlternative => Err(self.refused(model, Rule::Missing, b"/*")),
         }
-    }
-
-    /// The end of the open text, whose check is kept for the next one.
-    fn text_ending(&mut self, model: &Model) -> Result<(), Refusal>
-        requires { AreMade (types_of model.now) self.old }
-        ensures made { AreMade (types_of model.now) self.new }
-        ensures kept { self.new.innermost ≡ self.old.innermost }
-        ensures round { self.new.round ≡ self.old.round }
-        ensures taken { (simple : SimpleType) (text : List ℕ) → HoldsText (message_of model.now) self.old.text simple text
-            → Says (LeafFault simple text (names_of (types_of model.now) self.old.round.items)) result }
-    {
-        let Some(open) = self.text.take() else {
-            return Err(Refusal::Memory);
-        };
-        let Some(simple) = model.text_type(open.number) else {
-            return Err(Refusal::Memory);
-        };
-        let rule = rule_of(&open.check, simple);
-        self.checks.keep(open.number, open.check);
-        self.answer(model, rule, b"")
     }
 
     /// What a text breaks, as it is told.
@@ -425,95 +381,6 @@ impl Content {
         }
     }
 
-    /// The attributes of an element of the type.
-    fn attributes(&mut self, model: &Model, number: u32, attrs: &[Attr]) -> Result<(), Refusal>
-        requires { AreMade (types_of model.now) self.old }
-        ensures made { AreMade (types_of model.now) self.new }
-        ensures kept { self.new.innermost ≡ self.old.innermost }
-        ensures round { self.new.round ≡ self.old.round }
-        ensures taken { Says (AttributeFault (message_of model.now) (Some (types_of model.now number)) (map entry_of attrs.now) (names_of (types_of model.now) self.old.round.items)) result }
-    {
-        let _ = model.type_count();
-        let form = model.form(number);
-        let money = is_money(&form);
-        if has_unknown(attrs, money) {
-            return Err(self.refused(model, Rule::UnknownAttribute, b""));
-        }
-        match form {
-            Some(Form::Money { code, .. }) => self.currency(model, code, attrs),
-            _ => Ok(()),
-        }
-    }
-
-    /// The currency of an amount, which has to be there.
-    fn currency(&mut self, model: &Model, code: u32, attrs: &[Attr]) -> Result<(), Refusal>
-        requires { AreMade (types_of model.now) self.old }
-        ensures made { AreMade (types_of model.now) self.new }
-        ensures kept { self.new.innermost ≡ self.old.innermost }
-        ensures round { self.new.round ≡ self.old.round }
-        ensures taken { IsCode (types_of model.now code) → Says (CurrencyFault (types_of model.now code) (value_of currency (map entry_of attrs.now)) (names_of (types_of model.now) self.old.round.items ++ codes "/@Ccy")) result }
-    {
-        let Some(value) = currency_of(attrs) else {
-            return Err(self.refused(model, Rule::MissingAttribute, b"/@Ccy"));
-        };
-        let Some(simple) = model.text_type(code) else {
-            return Err(Refusal::Memory);
-        };
-        match self.attribute_rule(model, code, simple, value) {
-            Ok(rule) => self.answer(model, rule, b"/@Ccy"),
-            Err(_) => Err(Refusal::Memory),
-        }
-    }
-
-    /// The rule that the value of an attribute breaks, if it breaks one.
-    fn attribute_rule(
-        &mut self,
-        model: &Model,
-        number: u32,
-        simple: &Simple,
-        value: &[u8],
-    ) -> Result<Option<Rule>, AllocError>
-        requires made { AreMade (types_of model.now) self.old }
-        requires simple { text_type (types_of model.now number) ≡ Some simple.now }
-        ensures made { AreMade (types_of model.now) self.new }
-        ensures kept { self.new.innermost ≡ self.old.innermost }
-        ensures round { self.new.round ≡ self.old.round }
-        ensures taken { IfOk result (λ rule. IsRuleOf simple.now (chars value.now) rule) }
-    {
-        let Ok(text) = std::str::from_utf8(value) else {
-            return Err(AllocError);
-        };
-        let mut check = self.check_for(model, number, simple)?;
-        take_characters(&mut check, simple, text)?;
-        let rule = rule_of(&check, simple);
-        self.checks.keep(number, check);
-        Ok(rule)
-    }
-
-    /// A check of a text of the type, before its first character.
-    fn check_for(
-        &mut self,
-        model: &Model,
-        number: u32,
-        simple: &Simple,
-    ) -> Result<LeafCheck, AllocError>
-        requires made { AreMade (types_of model.now) self.old }
-        requires simple { text_type (types_of model.now number) ≡ Some simple.now }
-        ensures made { AreMade (types_of model.now) self.new }
-        ensures kept { self.new.innermost ≡ self.old.innermost }
-        ensures round { self.new.round ≡ self.old.round }
-        ensures taken { IfOk result (λ check. HasTaken check simple.now []) }
-    {
-        let _ = model.type_count();
-        match self.checks.take(number) {
-            Some(mut check) => {
-                check.restart(simple);
-                Ok(check)
-            }
-            None => LeafCheck::new(self.alloc, simple),
-        }
-    }
-
     /// The element of the type is open.
     fn begin(&mut self, model: &Model, number: u32) -> Result<(), AllocError>
         requires { AreMade (types_of model.now) self.old }
@@ -536,24 +403,6 @@ impl Content {
                 });
                 Ok(())
             }
-        }
-    }
-
-    /// A text of the type is open.
-    fn begin_text(&mut self, model: &Model, number: u32, simple: &Simple) -> Result<(), AllocError>
-        requires made { AreMade (types_of model.now) self.old }
-        requires simple { text_type (types_of model.now number) ≡ Some simple.now }
-        ensures made { AreMade (types_of model.now) self.new }
-        ensures round { self.new.round ≡ self.old.round }
-        ensures taken { OnOk result ((self.new.innermost ≡ Some OpenedText) × HoldsText (message_of model.now) self.new.text simple.now []) }
-    {
-        match self.check_for(model, number, simple) {
-            Ok(check) => {
-                self.text = Some(OpenText { number, check });
-                self.innermost = Some(Opened::Text);
-                Ok(())
-            }
-            Err(error) => Err(error),
         }
     }
 }
@@ -600,13 +449,6 @@ fn is_bare(model: &Model, number: u32) -> bool
         Some(Form::Sequence) => model.slot(number, 0).is_none(),
         _ => false,
     }
-}
-
-/// Whether the form is that of amounts with a currency.
-fn is_money(form: &Option<Form<'_>>) -> bool
-    ensures { (f : FormType ℕ SimpleType) → IsFormOf form.now f → result ≡ has_currency f }
-{
-    matches!(form, Some(Form::Money { .. }))
 }
 
 /// How often a slot has come, where it comes behind the last; `None` where it is more than can be counted.

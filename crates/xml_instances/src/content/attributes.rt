@@ -1,0 +1,105 @@
+// The attributes of an element, and the currency of an amount: ISO 20022-4, XML Schema part 1 §3.4.4.
+ghost use Rattle.std.specs.Prelude.{◌≡◌, ◌++◌, ℕ, Some, IfOk, codes, map};
+ghost use Rattle.std.specs.Str.{chars};
+ghost use Rattle.facets.specs.declared.simple.Simple.{Simple as SimpleType};
+ghost use Rattle.markup.specs.EventItems.{entry_of};
+ghost use Rattle.reference_check.specs.Forms.{text_type, Form as FormType};
+ghost use Rattle.message_model.specs.Tables.{message_of, types_of};
+ghost use Rattle.message_model.specs.Views.{IsFormOf};
+ghost use Rattle.message_model.specs.Writes.{value_of, currency};
+ghost use Rattle.xml_instances.specs.EventFaults.{has_currency, CurrencyFault, AttributeFault};
+ghost use Rattle.xml_instances.specs.Open.{AreMade, IsRuleOf, names_of, Says, IsCode};
+
+use super::Content;
+use crate::known::{currency_of, has_unknown};
+use crate::opened::Refusal;
+use crate::texts::{rule_of, take_characters};
+use facets::Simple;
+use lexical_core::Rule;
+use markup::Attr;
+use message_model::{Form, Model};
+use std::alloc::AllocError;
+
+impl Content {
+    /// The attributes of an element of the type.
+    pub(crate) fn attributes(
+        &mut self,
+        model: &Model,
+        number: u32,
+        attrs: &[Attr],
+    ) -> Result<(), Refusal>
+        requires { AreMade (types_of model.now) self.old }
+        ensures made { AreMade (types_of model.now) self.new }
+        ensures kept { self.new.innermost ≡ self.old.innermost }
+        ensures round { self.new.round ≡ self.old.round }
+        ensures taken { Says (AttributeFault (message_of model.now) (Some (types_of model.now number)) (map entry_of attrs.now) (names_of (types_of model.now) self.old.round.items)) result }
+    {
+        let _ = model.type_count();
+        let form = model.form(number);
+        let money = is_money(&form);
+        if has_unknown(attrs, money) {
+            return Err(self.refused(model, Rule::UnknownAttribute, b""));
+        }
+        match form {
+            Some(Form::Money { code, .. }) => self.currency(model, code, attrs),
+            _ => Ok(()),
+        }
+    }
+
+    /// The currency of an amount, which has to be there.
+    pub(crate) fn currency(
+        &mut self,
+        model: &Model,
+        code: u32,
+        attrs: &[Attr],
+    ) -> Result<(), Refusal>
+        requires { AreMade (types_of model.now) self.old }
+        ensures made { AreMade (types_of model.now) self.new }
+        ensures kept { self.new.innermost ≡ self.old.innermost }
+        ensures round { self.new.round ≡ self.old.round }
+        ensures taken { IsCode (types_of model.now code) → Says (CurrencyFault (types_of model.now code) (value_of currency (map entry_of attrs.now)) (names_of (types_of model.now) self.old.round.items ++ codes "/@Ccy")) result }
+    {
+        let Some(value) = currency_of(attrs) else {
+            return Err(self.refused(model, Rule::MissingAttribute, b"/@Ccy"));
+        };
+        let Some(simple) = model.text_type(code) else {
+            return Err(Refusal::Memory);
+        };
+        match self.attribute_rule(model, code, simple, value) {
+            Ok(rule) => self.answer(model, rule, b"/@Ccy"),
+            Err(_) => Err(Refusal::Memory),
+        }
+    }
+
+    /// The rule that the value of an attribute breaks, if it breaks one.
+    pub(crate) fn attribute_rule(
+        &mut self,
+        model: &Model,
+        number: u32,
+        simple: &Simple,
+        value: &[u8],
+    ) -> Result<Option<Rule>, AllocError>
+        requires made { AreMade (types_of model.now) self.old }
+        requires simple { text_type (types_of model.now number) ≡ Some simple.now }
+        ensures made { AreMade (types_of model.now) self.new }
+        ensures kept { self.new.innermost ≡ self.old.innermost }
+        ensures round { self.new.round ≡ self.old.round }
+        ensures taken { IfOk result (λ rule. IsRuleOf simple.now (chars value.now) rule) }
+    {
+        let Ok(text) = std::str::from_utf8(value) else {
+            return Err(AllocError);
+        };
+        let mut check = self.check_for(model, number, simple)?;
+        take_characters(&mut check, simple, text)?;
+        let rule = rule_of(&check, simple);
+        self.checks.keep(number, check);
+        Ok(rule)
+    }
+}
+
+/// Whether the form is that of amounts with a currency.
+fn is_money(form: &Option<Form<'_>>) -> bool
+    ensures { (f : FormType ℕ SimpleType) → IsFormOf form.now f → result ≡ has_currency f }
+{
+    matches!(form, Some(Form::Money { .. }))
+}
