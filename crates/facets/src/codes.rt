@@ -1,5 +1,5 @@
 // The codes of a set.
-ghost use Rattle.std.specs.Prelude.{◌≡◌, ◌<◌, [], ◌∷◌, ◌++◌, ◌↔◌, length, IsTrue, Some, IfSome, IfNone, OnOk, OnErr, slice_get};
+ghost use Rattle.std.specs.Prelude.{◌≡◌, ◌<◌, [], ◌∷◌, ◌++◌, ◌↔◌, length, IsTrue, Some, IfSome, IfNone, IfOk, OnOk, OnErr, slice_get};
 ghost use Rattle.std.specs.Option.{option_copied};
 ghost use Rattle.std.specs.List.{Contains};
 ghost use Rattle.facets.specs.CodeLists.{IsAboveLast, char_count, longest_of};
@@ -50,6 +50,16 @@ impl Codes {
         Ok(())
     }
 
+    /// Equal codes in memory of their own.
+    pub fn copy(&self, alloc: Global) -> Result<Codes, AllocError>
+        ensures { IfOk result (λ copy. copy ≡ self.now) }
+    {
+        Ok(Codes {
+            texts: copied(alloc, &self.texts)?,
+            longest: self.longest,
+        })
+    }
+
     /// The number of codes.
     pub fn len(&self) -> usize
         ensures { result ≡ length self.now }
@@ -89,6 +99,17 @@ impl Codes {
     {
         self.longest
     }
+}
+
+/// Equal texts in memory of their own.
+fn copied(alloc: Global, texts: &[Text]) -> Result<Vec<Text>, AllocError>
+    ensures { IfOk result (λ copy. copy.items ≡ texts.now) }
+{
+    let mut copy = Vec::with_capacity(alloc, texts.len())?;
+    for text in texts {
+        copy.push(text.copy(alloc)?)?;
+    }
+    Ok(copy)
 }
 
 /// How many characters a text has: its bytes but those that go on with one (RFC 3629 §3).

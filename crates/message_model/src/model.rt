@@ -15,7 +15,7 @@ use lexical_core::Text;
 use repo_objects::MessageId;
 
 /// What the namespaces of all messages begin with.
-const NAMESPACE_FRONT: &[u8] = b"urn:iso:std:iso:20022:tech:xsd:";
+pub const NAMESPACE_FRONT: &[u8] = b"urn:iso:std:iso:20022:tech:xsd:";
 
 /// An element of a component or a choice, as it is kept.
 #[derive(Drop)]

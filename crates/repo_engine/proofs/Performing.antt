@@ -1,5 +1,7 @@
 -- What a command does is what the words ask for.
 use Rattle.std.proofs.Common.{◌≡◌, ◌≢◌, ◌⊎◌, inl, inr, ℕ, Bool, true, false, List, [], ◌∷◌, Option, Some, None, Result, Ok, Err, codes, length, refl, sym, ap, ◌∙◌, subst, append-nil, arith}
+use Rattle.std.specs.Prelude.{if◌then◌else◌}
+use Rattle.std.specs.Str.{bytes_eq}
 use Rattle.std.specs.Io.KnownBytes.{Appends, Keeps}
 use Rattle.repo_engine.specs.Answer.{Answer, Of}
 use Rattle.repo_engine.specs.Arms.{Carries, HaveLeft}
@@ -8,7 +10,7 @@ use Rattle.repo_engine.specs.Run.{AreLeft, End, GoesOut, Performs, Tells}
 use Rattle.repo_engine.specs.Sources.{Use, Untouched, AreReadInTurn, ended_of}
 use Rattle.repo_engine.specs.Verdict.{Verdict, accepted, refused}
 use Rattle.repo_engine.specs.declared.command.Verb.{Verb}
-use Rattle.repo_engine.specs.declared.command.Verb.TheVariants.{Types, CheckXml}
+use Rattle.repo_engine.specs.declared.command.Verb.TheVariants.{Types, Xsd, CheckXml}
 use Rattle.repo_engine.specs.declared.refusal.Stop.{Stop}
 use Rattle.repo_engine.specs.declared.refusal.Stop.TheVariants.{Refused, ReadFault, WriteFault, Memory}
 use Rattle.repo_engine.specs.declared.refusal.Refusal.TheVariants.{Words}
@@ -25,11 +27,20 @@ abbrev fourth_of : List (List ℕ) → List ℕ
 fourth_of (a ∷ b ∷ c ∷ d ∷ rest) = d
 fourth_of ws = []
 
+-- the command that a word is, and any where it is none
+abbrev verb_of : List ℕ → Verb
+verb_of word =
+    if bytes_eq word (verb_word Types) then Types
+    else (if bytes_eq word (verb_word Xsd) then Xsd
+    else CheckXml)
+
+verb_is : (v : Verb) → verb_of (verb_word v) ≡ v
+verb_is Types = refl
+verb_is Xsd = refl
+verb_is CheckXml = refl
+
 one_verb : (v w : Verb) → verb_word v ≡ verb_word w → v ≡ w
-one_verb Types Types e = refl
-one_verb Types CheckXml e = absurd (cc)
-one_verb CheckXml Types e = absurd (cc)
-one_verb CheckXml CheckXml e = refl
+one_verb v w e = sym (verb_is v) ∙ (ap verb_of e ∙ verb_is w)
 
 -- words have the form of one command
 pub one_command : (ws : List (List ℕ)) (a b : Command) → HasForm ws a → HasForm ws b → a ≡ b

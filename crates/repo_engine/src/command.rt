@@ -11,6 +11,8 @@ use repo_objects::MessageId;
 pub enum Verb {
     /// `types`: the types of the compiled message.
     Types,
+    /// `xsd`: the XML Schema of the message.
+    Xsd,
     /// `check-xml`: whether the bytes are an XML instance of the message.
     CheckXml,
 }
@@ -117,6 +119,8 @@ fn verb_of(word: &[u8]) -> Option<Verb>
 {
     if word == b"types".as_slice() {
         Some(Verb::Types)
+    } else if word == b"xsd".as_slice() {
+        Some(Verb::Xsd)
     } else if word == b"check-xml".as_slice() {
         Some(Verb::CheckXml)
     } else {

@@ -10,6 +10,7 @@ mod note;
 mod perform;
 mod refusal;
 mod repository;
+mod schema;
 mod status;
 mod types;
 

@@ -10,6 +10,7 @@ use super::check::check;
 use super::command::Verb;
 use super::refusal::{Refusal, Stop};
 use super::repository::read_repository;
+use super::schema::give_schema;
 use super::types::give_types;
 use message_model::Model;
 use outside::{Sink, Source};
@@ -102,6 +103,7 @@ fn on_model<I: Source, O: Sink>(
 {
     match verb {
         Verb::Types => give_types(model, out),
+        Verb::Xsd => give_schema(alloc, model, out),
         Verb::CheckXml => check(alloc, model, inst, out),
     }
 }

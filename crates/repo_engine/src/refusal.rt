@@ -1,14 +1,14 @@
 //! Why a run does not end with `Done`, and the line that says so.
 ghost use Rattle.std.specs.Prelude.{◌≡◌, ◌++◌};
 ghost use Rattle.std.specs.Fmt.{decimal};
-ghost use Rattle.outside.specs.Pushes.{Pushes};
+ghost use Rattle.outside.specs.Pushes.{Pushes, as_push};
 ghost use Rattle.repo_engine.specs.Arms.{end_of};
 ghost use Rattle.repo_engine.specs.Verdict.{codes_line, instance_line, line_end, line_of, message_line, place_text, record_text, refusal_status, repository_line, rule_text, stop_line, stop_status};
 
 use super::status::Status;
 use lexical_core::Text;
 use message_model::Fault;
-use outside::{Part, Render, Sink, SinkError, push_bytes, render_all};
+use outside::{Part, Render, Sink, SinkError, WriteError, push_bytes, render_all};
 use repo_loader::LoadFault;
 
 /// Why words or bytes are refused.
@@ -224,5 +224,16 @@ pub fn ended(push: Result<(), SinkError>) -> Result<(), Stop>
         Ok(()) => Ok(()),
         Err(SinkError::Failed) => Err(Stop::WriteFault),
         Err(SinkError::Memory) => Err(Stop::Memory),
+    }
+}
+
+/// How a command ends with the answer of the writer of its text.
+pub fn ended_by(writing: Result<(), WriteError>) -> Result<(), Stop>
+    ensures { result ≡ end_of (as_push writing) }
+{
+    match writing {
+        Ok(()) => Ok(()),
+        Err(WriteError::WriteFault) => Err(Stop::WriteFault),
+        Err(WriteError::Memory) => Err(Stop::Memory),
     }
 }

@@ -9,6 +9,12 @@ returns-in-Types-clause-source g c = rw c.in-Types.is (unread refl c.give_types.
 pub returns-in-Types-clause-verdict : goal.returns-in-Types-clause-verdict
 returns-in-Types-clause-verdict g c i told = rw c.in-Types.is c.give_types.ensures.verdict
 
+pub returns-in-Xsd-clause-source : goal.returns-in-Xsd-clause-source
+returns-in-Xsd-clause-source g c = rw c.in-Xsd.is (unread refl c.give_schema.ensures.ends.0 c.give_schema.ensures.ends.1 refl)
+
+pub returns-in-Xsd-clause-verdict : goal.returns-in-Xsd-clause-verdict
+returns-in-Xsd-clause-verdict g c i told = rw c.in-Xsd.is c.give_schema.ensures.verdict
+
 pub returns-in-CheckXml-clause-source : goal.returns-in-CheckXml-clause-source
 returns-in-CheckXml-clause-source g c = rw c.in-CheckXml.is (read refl c.check.ensures.source)
 

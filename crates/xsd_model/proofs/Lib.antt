@@ -1,0 +1,17 @@
+pub mod Decided
+pub mod SimpleAgrees
+pub mod DateProfiles
+pub mod Sequences
+pub mod Named
+pub mod Admitted
+pub mod SchemaNames
+pub mod SchemaLaw
+pub mod Rows
+pub mod Renamed
+pub mod StableSort
+pub mod Sorted
+pub mod DistinctNames
+pub mod ReadyFacets
+pub mod ReadyNames
+pub mod ReadySchema
+pub mod TypeLemmas

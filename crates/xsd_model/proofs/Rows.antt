@@ -1,0 +1,81 @@
+-- Worked schemas.
+use Rattle.std.proofs.Common.{◌≡◌, false, [], ◌∷◌, Some, None, pos, refl}
+use Rattle.std.proofs.Common.{Option, ℕ, List, ◌==◌, ◌<◌, cond, zero, suc, length, sym, ap, ◌∙◌, arith, lit≤}
+use Rattle.std.specs.Prelude.{slice_get}
+use Rattle.xsd_model.specs.SchemaOf.{HasSoundNames, HasSoundFacets, names, all_types}
+use Rattle.message_model.specs.Tables.{types_of}
+use Rattle.std.specs.Prelude.{codes, flat_map}
+use Rattle.std.specs.Fmt.{digits}
+use Rattle.data_types.specs.declared.kind.Kind.TheVariants as kind
+use Rattle.facets.specs.declared.simple.Simple.{Simple}
+use Rattle.reference_check.specs.Forms as form
+use Rattle.message_model.specs.Tables.{Tables}
+use Rattle.xsd_model.specs.SchemaOf.{schema_of, types_by}
+use Rattle.xsd_model.specs.SchemaText.{schema_text, type_text}
+
+text_type : Simple
+text_type = record { kind = kind.Text; min = 1; max = Some 35; total = 18; fraction = None; low = None; high = None; pattern = None; codes = None }
+
+note : Tables
+note = record {
+  id = codes "demo.001.001.01";
+  types = record { word = codes "Document"; name = codes "Document"; form = form.Sequence (record { tag = codes "Note"; min = 1; max = Some 1; target = 1 } ∷ []) }
+      ∷ record { word = codes "Message"; name = codes "NoteV01"; form = form.Sequence (record { tag = codes "Id"; min = 1; max = Some 1; target = 2 } ∷ []) }
+      ∷ record { word = codes "Text"; name = codes "Max35Text"; form = form.Simple text_type } ∷ [];
+}
+
+note_schema : schema_text (schema_of note) ≡ codes "<?xml version=\"1.0\" encoding=\"UTF-8\"?>\n<xs:schema xmlns=\"urn:iso:std:iso:20022:tech:xsd:demo.001.001.01\" xmlns:xs=\"http://www.w3.org/2001/XMLSchema\" elementFormDefault=\"qualified\" targetNamespace=\"urn:iso:std:iso:20022:tech:xsd:demo.001.001.01\">\n  <xs:element name=\"Document\" type=\"Document\"/>\n  <xs:complexType name=\"Document\">\n    <xs:sequence>\n      <xs:element name=\"Note\" type=\"NoteV01\"/>\n    </xs:sequence>\n  </xs:complexType>\n  <xs:simpleType name=\"Max35Text\">\n    <xs:restriction base=\"xs:string\">\n      <xs:minLength value=\"1\"/>\n      <xs:maxLength value=\"35\"/>\n    </xs:restriction>\n  </xs:simpleType>\n  <xs:complexType name=\"NoteV01\">\n    <xs:sequence>\n      <xs:element name=\"Id\" type=\"Max35Text\"/>\n    </xs:sequence>\n  </xs:complexType>\n</xs:schema>\n"
+unfolding note text_type digits
+note_schema = refl
+
+date_type : Simple
+date_type = record { kind = kind.DateTime; min = 0; max = None; total = 18; fraction = None; low = None; high = None; pattern = Some (codes ".*Z"); codes = None }
+
+normalised : flat_map type_text (types_by (λ n. []) (codes "ISONormalisedDateTime") (form.Simple date_type)) ≡ codes "  <xs:simpleType name=\"ISONormalisedDateTime\">\n    <xs:restriction>\n      <xs:simpleType>\n        <xs:restriction base=\"xs:dateTime\">\n          <xs:pattern value=\"[0-9]{4}-[0-9]{2}-[0-9]{2}T([01][0-9]|2[0-3]):[0-5][0-9]:[0-5][0-9](\\.[0-9]{1,9})?(Z|[+\\-][0-9]{2}:[0-9]{2})?\"/>\n        </xs:restriction>\n      </xs:simpleType>\n      <xs:pattern value=\".*Z\"/>\n    </xs:restriction>\n  </xs:simpleType>\n"
+unfolding date_type
+normalised = refl
+
+amount : Simple
+amount = record { kind = kind.Decimal; min = 0; max = None; total = 18; fraction = Some 5; low = Some (record { value = record { whole = pos 0; scale = 0 }; strict = false }); high = None; pattern = None; codes = None }
+
+amount_types : flat_map type_text (types_by (λ n. codes "ActiveCurrencyCode") (codes "ActiveCurrencyAndAmount") (form.Money 3 amount)) ≡ codes "  <xs:simpleType name=\"ActiveCurrencyAndAmount_SimpleType\">\n    <xs:restriction base=\"xs:decimal\">\n      <xs:totalDigits value=\"18\"/>\n      <xs:fractionDigits value=\"5\"/>\n      <xs:minInclusive value=\"0\"/>\n    </xs:restriction>\n  </xs:simpleType>\n  <xs:complexType name=\"ActiveCurrencyAndAmount\">\n    <xs:simpleContent>\n      <xs:extension base=\"ActiveCurrencyAndAmount_SimpleType\">\n        <xs:attribute name=\"Ccy\" type=\"ActiveCurrencyCode\" use=\"required\"/>\n      </xs:extension>\n    </xs:simpleContent>\n  </xs:complexType>\n"
+unfolding amount digits
+amount_types = refl
+
+-- ---- the law's premise is met
+
+length_or : Option (List ℕ) → ℕ
+length_or None = 0
+length_or (Some n) = length n
+
+-- the place of a name in this schema, by its length
+place_by : ℕ → ℕ
+place_by n = cond (n == 8) 0 (cond (n == 7) 1 2)
+
+place_is : (i : ℕ) (n : List ℕ) → slice_get (names (all_types note)) i ≡ Some n → place_by (length n) ≡ i
+unfolding place_by length_or note
+place_is zero n e = ap (λ o. place_by (length_or o)) (sym e)
+place_is (suc zero) n e = ap (λ o. place_by (length_or o)) (sym e)
+place_is (suc (suc zero)) n e = ap (λ o. place_by (length_or o)) (sym e)
+place_is (suc (suc (suc i))) n e = absurd cc
+
+note_sound : HasSoundNames note
+unfolding note text_type length_or
+note_sound = record {
+  root = refl;
+  distinct = λ i j n e f. sym (place_is i n e) ∙ place_is j n f;
+  some = some;
+  facets = facets;
+}
+  where
+    some : (i : ℕ) (n : List ℕ) → slice_get (names (all_types note)) i ≡ Some n → 0 < length n
+    some zero n e = (let h : 8 ≡ length n = ap length_or e in omega (arith, h))
+    some (suc zero) n e = (let h : 7 ≡ length n = ap length_or e in omega (arith, h))
+    some (suc (suc zero)) n e = (let h : 9 ≡ length n = ap length_or e in omega (arith, h))
+    some (suc (suc (suc i))) n e = absurd cc
+
+    facets : (k : ℕ) → k < 3 → HasSoundFacets (types_of note k)
+    facets zero lt = tt
+    facets (suc zero) lt = tt
+    facets (suc (suc zero)) lt = record { no_envelope = λ e. absurd cc; total = λ e. lit≤ tt; codes = tt; pattern = tt }
+    facets (suc (suc (suc k))) lt = absurd (omega (arith, lt))

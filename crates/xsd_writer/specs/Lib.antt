@@ -1,0 +1,5 @@
+pub mod Counted
+pub mod Fragments
+pub mod FacetLines
+pub mod StepLines
+pub mod TypeContents

@@ -1,0 +1,153 @@
+// The lines of the steps of a simple type: XML Schema part 2 §4.1.2. A step stands inside the one behind it.
+ghost use Rattle.std.specs.Prelude.{◌≡◌, ◌+◌, ◌∷◌, ◌++◌, [], codes};
+ghost use Rattle.outside.specs.Pushes.{Pushes};
+ghost use Rattle.xsd_model.specs.SchemaText.{base_text, first_text, has_facets, line, steps_text};
+ghost use Rattle.xsd_writer.specs.Counted.{texts_below};
+ghost use Rattle.xsd_writer.specs.Fragments.{step_level};
+ghost use Rattle.xsd_writer.specs.StepLines.{closing, closings, opening};
+
+use crate::facet_lines::push_facets;
+use crate::fragment::Fragment;
+use data_types::Kind;
+use facets::Step;
+use outside::{Sink, SinkError, render_all};
+use xsd_model::Steps;
+
+/// Pushes the steps of a simple type.
+pub fn push_steps<O: Sink>(steps: &Steps, sink: &mut O) -> Result<(), SinkError>
+    ensures { Pushes O.held O.faults O.room sink.old sink.new result (steps_text steps.now) }
+{
+    let Some((first, later)) = steps.as_slice().split_first() else {
+        return Ok(());
+    };
+    if let Err(error) = push_openings(later.len(), sink) {
+        return Err(error);
+    }
+    if let Err(error) = push_first(first, later.len(), sink) {
+        return Err(error);
+    }
+    push_closings(later, sink)
+}
+
+/// Pushes the lines that so many later steps begin with, from the last step on.
+fn push_openings<O: Sink>(count: usize, sink: &mut O) -> Result<(), SinkError>
+    ensures { Pushes O.held O.faults O.room sink.old sink.new result (texts_below opening count) }
+{
+    for steps in 0..count {
+        if let Err(error) = push_opening(steps, sink) {
+            return Err(error);
+        }
+    }
+    Ok(())
+}
+
+/// Pushes the lines that a later step begins with, inside so many others.
+fn push_opening<O: Sink>(steps: usize, sink: &mut O) -> Result<(), SinkError>
+    ensures { Pushes O.held O.faults O.room sink.old sink.new result (opening steps) }
+{
+    let fragments = [
+        Fragment::Inside { steps, more: 0 },
+        Fragment::Bytes(b"<xs:restriction>\n"),
+        Fragment::Inside { steps, more: 1 },
+        Fragment::Bytes(b"<xs:simpleType>\n"),
+    ];
+    render_all(fragments.as_slice(), sink)
+}
+
+/// Pushes the step with the base, inside so many others.
+fn push_first<O: Sink>(step: &Step, steps: usize, sink: &mut O) -> Result<(), SinkError>
+    ensures { Pushes O.held O.faults O.room sink.old sink.new result (first_text step.now (step_level steps)) }
+{
+    if !has_facets(step) {
+        return push_restriction(step.base, b"/>\n", steps, sink);
+    }
+    if let Err(error) = push_restriction(step.base, b">\n", steps, sink) {
+        return Err(error);
+    }
+    if let Err(error) = push_facets(step, steps, sink) {
+        return Err(error);
+    }
+    push_end(steps, sink)
+}
+
+/// Whether the step has facets.
+fn has_facets(step: &Step) -> bool
+    ensures { result ≡ has_facets step.now }
+{
+    step.total.is_some()
+        || step.fraction.is_some()
+        || step.low.is_some()
+        || step.high.is_some()
+        || step.min.is_some()
+        || step.max.is_some()
+        || !step.codes.is_empty()
+        || !step.patterns.is_empty()
+}
+
+/// Pushes the line that the step with the base begins with.
+fn push_restriction<O: Sink>(
+    base: Option<Kind>,
+    behind: &[u8],
+    steps: usize,
+    sink: &mut O,
+) -> Result<(), SinkError>
+    ensures { Pushes O.held O.faults O.room sink.old sink.new result
+        (line (step_level steps) (codes "<xs:restriction" ∷ base_text base ∷ behind.now ∷ [])) }
+{
+    let fragments = [
+        Fragment::Inside { steps, more: 0 },
+        Fragment::Bytes(b"<xs:restriction"),
+        Fragment::Base(base),
+        Fragment::Bytes(behind),
+    ];
+    render_all(fragments.as_slice(), sink)
+}
+
+/// Pushes the lines that later steps end with, from the first of them on.
+fn push_closings<O: Sink>(later: &[Step], sink: &mut O) -> Result<(), SinkError>
+    ensures { Pushes O.held O.faults O.room sink.old sink.new result (closings later.now) }
+{
+    let mut left = later;
+    while let Some((step, behind)) = left.split_first() {
+        if let Err(error) = push_closing(step, behind.len(), sink) {
+            return Err(error);
+        }
+        left = behind;
+    }
+    Ok(())
+}
+
+/// Pushes the lines that a later step ends with, inside so many others.
+fn push_closing<O: Sink>(step: &Step, steps: usize, sink: &mut O) -> Result<(), SinkError>
+    ensures { Pushes O.held O.faults O.room sink.old sink.new result (closing steps step.now) }
+{
+    if let Err(error) = push_type_end(steps, sink) {
+        return Err(error);
+    }
+    if let Err(error) = push_facets(step, steps, sink) {
+        return Err(error);
+    }
+    push_end(steps, sink)
+}
+
+/// Pushes the end of the type inside a step.
+fn push_type_end<O: Sink>(steps: usize, sink: &mut O) -> Result<(), SinkError>
+    ensures { Pushes O.held O.faults O.room sink.old sink.new result (line (step_level steps + 1) (codes "</xs:simpleType>\n" ∷ [])) }
+{
+    let fragments = [
+        Fragment::Inside { steps, more: 1 },
+        Fragment::Bytes(b"</xs:simpleType>\n"),
+    ];
+    render_all(fragments.as_slice(), sink)
+}
+
+/// Pushes the end of a step.
+fn push_end<O: Sink>(steps: usize, sink: &mut O) -> Result<(), SinkError>
+    ensures { Pushes O.held O.faults O.room sink.old sink.new result (line (step_level steps) (codes "</xs:restriction>\n" ∷ [])) }
+{
+    let fragments = [
+        Fragment::Inside { steps, more: 0 },
+        Fragment::Bytes(b"</xs:restriction>\n"),
+    ];
+    render_all(fragments.as_slice(), sink)
+}
