@@ -1,0 +1,1 @@
+cat ../examples/statement-latin-1.xml

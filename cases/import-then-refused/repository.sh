@@ -1,0 +1,1 @@
+../isorepo import tools/import-transfer/transfer.xsd

@@ -1,0 +1,155 @@
+"""What a message has at a place of an instance: its types by path, the tags that may come, the texts of a type."""
+import csv
+import difflib
+import re
+from xml.parsers import expat
+
+from repository_file import COMPONENTS, Entry, codes_of
+
+FORMS = {'Date': '2026-11-27', 'DateTime': '2026-11-27T09:30:00', 'Time': '09:30:00', 'Year': '2026', 'YearMonth': '2026-11',
+         'MonthDay': '--11-27', 'Month': '--11', 'Day': '---27'}
+FIRST_CODES = 8
+
+
+class Place:
+    """The elements that are open before a place, each with the tags of the children that came, and the last text."""
+
+    def __init__(self, data):
+        self.open = []
+        self.text = ''
+        self.root = ''
+        parser = expat.ParserCreate(namespace_separator=' ')
+        parser.StartElementHandler = self.start
+        parser.EndElementHandler = lambda _name: self.open.pop()
+        parser.CharacterDataHandler = self.characters
+        try:
+            parser.Parse(data, False)
+        except expat.ExpatError:
+            pass
+
+    def start(self, name, _attributes):
+        tag = name.rpartition(' ')[2]
+        if self.open:
+            self.open[-1][1].append(tag)
+        else:
+            self.root = name
+        self.open.append((tag, []))
+        self.text = ''
+
+    def characters(self, text):
+        self.text += text
+
+
+class Types:
+    """The types of one message, with its external codes."""
+
+    def __init__(self, entries, message, codes):
+        self.entries = entries
+        self.message = message
+        self.codes = codes
+        self.document = Entry('Message', message.name, elements=message.blocks)
+
+    def at(self, path):
+        """The entry of the element at a path; None within what has none. A part `@Ccy` is the currency."""
+        entry = None
+        for place, part in enumerate(path.strip('/').split('/')):
+            tag = re.sub(r'\[\d+\]$', '', part)
+            if place < 2:
+                entry = (None, self.document)[place]
+            elif tag == '@Ccy':
+                entry = self.entries.get(entry.currency)
+            elif entry is not None:
+                entry = next((self.entries.get(it.reference) for it in entry.elements if it.tag == tag), None)
+        return entry
+
+    def codes_of(self, entry):
+        own = codes_of(self.entries, next((key for key, it in self.entries.items() if it is entry), None)) if entry.codes else []
+        return own or self.codes.get(entry.name, [])
+
+    def texts(self, entry):
+        """The texts of a simple type, in words."""
+        if entry.kind in FORMS:
+            told = [f'as {FORMS[entry.kind]}']
+        elif entry.kind == 'Indicator':
+            told = ['true, false, 1 or 0']
+        elif entry.kind == 'Binary':
+            told = ['base64', *lengths(entry.facets, 'octets')]
+        elif entry.kind in ('Amount', 'Rate', 'Quantity'):
+            told = ['a number', *digits(entry.facets)]
+        elif entry.kind == 'CodeSet' and self.codes_of(entry):
+            codes = self.codes_of(entry)
+            more = f', and {len(codes) - FIRST_CODES} more' if len(codes) > FIRST_CODES else ''
+            return f'one of {", ".join(codes[:FIRST_CODES])}{more}'
+        else:
+            told = lengths(entry.facets, 'characters')
+        if 'pattern' in entry.facets and entry.kind not in ('Amount', 'Rate', 'Quantity', 'Indicator', 'Binary'):
+            told.append(f'of the pattern {entry.facets["pattern"]}')
+        return ', '.join(told) or 'any text'
+
+    def described(self, entry):
+        """A type by name and what it holds."""
+        if entry.kind == 'ExternalSchema':
+            return f'{entry.name}: one element of any name'
+        if entry.kind in (*COMPONENTS, 'Message'):
+            return f'{entry.name}: {"one of " if entry.kind == "ChoiceComponent" else ""}{tag_list(entry.elements)}'
+        currency = f', and Ccy={entry.currency and self.entries[entry.currency].name}' if entry.currency else ''
+        return f'{entry.name}: {self.texts(entry)}{currency}'
+
+
+def lengths(facets, unit):
+    least = facets.get('length', facets.get('minLength', '0'))
+    most = facets.get('length', facets.get('maxLength'))
+    if most is None:
+        return [f'at least {least} {unit}'] if int(least) else []
+    return [f'{most} {unit}' if least == most else f'{least} to {most} {unit}']
+
+
+def digits(facets):
+    told = []
+    if 'totalDigits' in facets:
+        told.append(f'at most {facets["totalDigits"]} digits')
+    if 'fractionDigits' in facets:
+        told.append(f'at most {facets["fractionDigits"]} behind the point')
+    words = {'minInclusive': 'at least', 'minExclusive': 'above', 'maxInclusive': 'at most', 'maxExclusive': 'below'}
+    return told + [f'{words[name]} {facets[name]}' for name in words if name in facets]
+
+
+def tag_list(elements):
+    return ', '.join(element.tag for element in elements) or 'nothing'
+
+
+def may_come(entry, came):
+    """The tags that may come next in a component, choice or message after these, and whether its end may."""
+    came = [tag for tag in came if any(it.tag == tag for it in entry.elements)]
+    last = next((place for place, it in enumerate(entry.elements) if came and it.tag == came[-1]), None)
+    tags = []
+    if last is not None:
+        count, slot = came.count(came[-1]), entry.elements[last]
+        if slot.most is None or count < slot.most:
+            tags.append(slot.tag)
+        if count < slot.least:
+            return tags, False
+    if entry.kind == 'ChoiceComponent':
+        return (tags, True) if last is not None else ([it.tag for it in entry.elements], False)
+    for slot in entry.elements[0 if last is None else last + 1:]:
+        tags.append(slot.tag)
+        if slot.least > 0:
+            return tags, False
+    return tags, True
+
+
+def closest(word, words):
+    """The word that may have been meant."""
+    found = difflib.get_close_matches(word, words, 1)
+    return found[0] if found else None
+
+
+def read_codes(path):
+    """The external codes of a file by the name of their set."""
+    codes = {}
+    if path != '-':
+        with open(path, encoding='utf-8-sig', errors='replace', newline='') as file:
+            for record in csv.reader(file):
+                if len(record) == 2 and record[1] not in codes.setdefault(record[0], []):
+                    codes[record[0]].append(record[1])
+    return codes

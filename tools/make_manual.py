@@ -1,0 +1,138 @@
+"""make_manual.py FOLDER: writes help.txt, isorepo.1 and isorepo.bash, made of docs/commands.txt, into FOLDER."""
+import sys
+import textwrap
+from pathlib import Path
+
+TABLE = Path(__file__).resolve().parent.parent / 'docs' / 'commands.txt'
+CODES = 'CODES is a file of external codes, a record `NAME,CODE` a line; `-` stands for none.'
+ANSWERS = 'An answer of the program other than what the command prints is one line on standard error, and nothing on standard output:'
+FIRST = 'The first fault is told; a PLACE is a byte number from 0. The exit status says which answer it is:'
+TOOLS = 'import, show and check-all are scripts of Python 3 round the program, whose lines and statuses they hand on. No proof is about them.'
+SHOW = ('show and check-all read FILE and REPO anew to say more than the line of the program: what they add is help, and the verdict is that of the program alone. '
+        'Colours and the progress of check-all come on a terminal alone. The status of check-all is the greatest of its files.')
+
+
+def rows(kind):
+    """The fields of each row of a kind."""
+    lines = TABLE.read_text().splitlines()
+    return [line.split(' | ')[1:] for line in lines if line.startswith(kind + ' | ')]
+
+
+def entries():
+    """The words and the purpose of each command, and of the words that the launcher answers."""
+    return [row[1:] for row in rows('command')], [row[1:] for row in rows('word')]
+
+
+# ---- help.txt
+
+def aligned(pairs, width):
+    """Pairs as two columns; a long first stands in a line of its own."""
+    lines = []
+    for first, second in pairs:
+        told = textwrap.wrap(second, 120 - width - 2)
+        if len(first) > width - 2:
+            lines.append('  ' + first)
+            first = ''
+        lines += [f'  {first if number == 0 else "":<{width}}{line}' for number, line in enumerate(told)]
+    return lines
+
+
+def help_text():
+    commands, words = entries()
+    statuses = [f'{number} {what}' for number, what in rows('status')]
+    lines = ['usage: isorepo COMMAND WORDS..', '', *aligned(commands, 34), '', CODES, '', ANSWERS, '', *aligned(rows('answer'), 40), '',
+             FIRST, '', *textwrap.wrap('; '.join(statuses), 116, initial_indent='  ', subsequent_indent='  '), '',
+             'Words that the launcher answers:', '', *aligned(words, 34), '', *textwrap.wrap(TOOLS, 118), *textwrap.wrap(SHOW, 118)]
+    return '\n'.join(lines) + '\n'
+
+
+# ---- isorepo.1
+
+def roff(text):
+    """A text in which nothing is a request; words in backquotes are bold."""
+    parts = text.replace('\\', '\\e').replace('-', '\\-').split('`')
+    made = ''.join(f'\\fB{part}\\fR' if number % 2 else part for number, part in enumerate(parts))
+    return '\\&' + made if made[:1] in ("'", '.') else made
+
+
+def usage(words):
+    """Bold the command, italic what stands for something."""
+    first, _, rest = words.partition(' ')
+    return f'\\fB{roff(first)}\\fR' + (f' \\fI{roff(rest)}\\fR' if rest else '')
+
+
+def listed(pairs):
+    return [line for first, second in pairs for line in ('.TP', usage(first) if first[:1].isalpha() or first[:1] == '-' else roff(first), roff(second))]
+
+
+def manual():
+    commands, words = entries()
+    lines = ['.\\" made of docs/commands.txt by tools/make_manual.py', '.TH ISOREPO 1', '.SH NAME',
+             'isorepo \\- check messages of ISO 20022 against a repository', '.SH SYNOPSIS']
+    for words_of, _ in commands + words:
+        lines += ['.br', f'\\fBisorepo\\fR {usage(words_of)}']
+    lines += ['.SH DESCRIPTION',
+              roff('`isorepo` reads an ISO 20022 repository, compiles one of its messages, and checks instances against it. It says that an instance is accepted, or what its first fault is: the rule, the byte, and the path of the element.'),
+              '.PP', roff(CODES), '.SH COMMANDS', *listed(commands), '.SH "OTHER WORDS"', *listed(words),
+              '.SH DIAGNOSTICS', roff(ANSWERS), *[line for first, second in rows('answer') for line in ('.TP', roff(f'`{first}`'), roff(second))],
+              '.PP', roff(FIRST.rpartition('. ')[0] + '.'), '.SH "EXIT STATUS"',
+              *[line for number, what in rows('status') for line in ('.TP', number, roff(what))],
+              '.SH NOTES', roff(TOOLS), '.PP', roff(SHOW),
+              '.SH EXAMPLES', '.nf', *[roff(line) for line in (
+                  'isorepo import pain.001.001.09.xsd > pain.repository',
+                  'isorepo check-xml pain.repository - pain.001.001.09 < message.xml',
+                  'isorepo show pain.repository - pain.001.001.09 message.xml',
+                  'isorepo check-all pain.repository - pain.001.001.09 inbox/ > verdicts.csv')], '.fi']
+    return '\n'.join(lines) + '\n'
+
+
+# ---- isorepo.bash
+
+COMPLETION = '''# Completions of bash for isorepo: made of docs/commands.txt by tools/make_manual.py
+_isorepo() {{
+    local word=${{COMP_WORDS[COMP_CWORD]}} wanted=
+    COMPREPLY=()
+    if [ "$COMP_CWORD" = 1 ]; then
+        COMPREPLY=($(compgen -W '{first}' -- "$word"))
+        return
+    fi
+    case ${{COMP_WORDS[1]}} in
+{cases}
+    esac
+    set -- $wanted
+    [ $# -gt 0 ] || return
+    local place=$((COMP_CWORD - 2))
+    if [ $place -ge $# ]; then
+        case ${{!#}} in
+        *..) place=$(($# - 1)) ;;
+        *) return ;;
+        esac
+    fi
+    shift $place
+    compopt -o filenames 2>/dev/null
+    case ${{1-}} in
+    MSGID) COMPREPLY=($(compgen -W "$("${{COMP_WORDS[0]}}" list "${{COMP_WORDS[2]}}" "${{COMP_WORDS[3]}}" 2>/dev/null | cut -d ' ' -f 1)" -- "$word")) ;;
+    DIR) COMPREPLY=($(compgen -d -- "$word")) ;;
+    RULE) COMPREPLY=($(compgen -W "$("${{COMP_WORDS[0]}}" explain 2>/dev/null)" -- "$word")) ;;
+    CODES) COMPREPLY=($(compgen -W - -- "$word") $(compgen -f -- "$word")) ;;
+    *) COMPREPLY=($(compgen -f -- "$word")) ;;
+    esac
+}}
+complete -F _isorepo isorepo ./isorepo
+'''
+
+
+def completions():
+    commands, words = entries()
+    named = [words_of.split(' ') for words_of, _ in commands + words]
+    cases = '\n'.join(f"    {first}) wanted='{' '.join(rest)}' ;;" for first, *rest in named if rest)
+    return COMPLETION.format(first=' '.join(first for first, *_ in named), cases=cases)
+
+
+def main(folder):
+    for name, text in (('help.txt', help_text()), ('isorepo.1', manual()), ('isorepo.bash', completions())):
+        (Path(folder) / name).write_text(text)
+
+
+if __name__ == '__main__':
+    main(sys.argv[1])

@@ -1,0 +1,196 @@
+"""The simple types of a schema as kind, facets and codes of a repository (docs/FORMATS.md, Simple types)."""
+import re
+from dataclasses import dataclass, field
+from decimal import Decimal
+
+from pattern_language import PatternFault, read_pattern
+from schema_file import XS, parts
+
+# the built-in types that a repository has, by what they are in it
+FAMILIES = {'string': 'text', 'decimal': 'number', 'boolean': 'Indicator', 'base64Binary': 'Binary', 'date': 'Date',
+            'dateTime': 'DateTime', 'time': 'Time', 'gYear': 'Year', 'gYearMonth': 'YearMonth',
+            'gMonthDay': 'MonthDay', 'gMonth': 'Month', 'gDay': 'Day'}
+DATES = ('Date', 'DateTime', 'Time', 'Year', 'YearMonth', 'MonthDay', 'Month', 'Day')
+LENGTHS = ('minLength', 'maxLength', 'length')
+DIGITS = ('totalDigits', 'fractionDigits')
+LOWER = ('minInclusive', 'minExclusive')
+UPPER = ('maxInclusive', 'maxExclusive')
+MOST_NUMBER = 2 ** 32 - 1
+MOST_DIGITS = 18
+MOST_CODES = 65536
+MOST_CHARACTERS = 65536
+
+
+@dataclass
+class SimpleType:
+    family: str
+    facets: dict = field(default_factory=dict)
+    codes: list = field(default_factory=list)
+
+
+def facets_of_family(family):
+    """The facets that a repository has for it."""
+    if family == 'text':
+        return (*LENGTHS, 'pattern', 'enumeration')
+    if family == 'number':
+        return (*DIGITS, *LOWER, *UPPER)
+    if family == 'Binary':
+        return LENGTHS
+    return ('pattern',) if family in DATES else ()
+
+
+class SimpleTypes:
+    """Reads simple types of one schema."""
+
+    def __init__(self, schema):
+        self.schema = schema
+
+    def of_reference(self, node, attribute, seen=()):
+        """The simple type that an attribute names; None where it was told that there is none."""
+        space, name = self.schema.named(node, attribute)
+        if space == XS:
+            if name not in FAMILIES:
+                self.schema.tell(node, f'the type xs:{name}')
+                return None
+            return SimpleType(FAMILIES[name])
+        declared = self.schema.types.get(name) if space == self.schema.space else None
+        if declared is None or declared.name != 'simpleType' or name in seen:
+            self.schema.tell(node, f'`{node.get(attribute)}` names no simple type of the schema')
+            return None
+        return self.of_node(declared, (*seen, name))
+
+    def of_node(self, node, seen=()):
+        """The simple type that a `simpleType` declares."""
+        self.schema.only(node, 'name')
+        inner = parts(node)
+        if [child.name for child in inner] != ['restriction']:
+            self.schema.tell(node, f'a simple type by {", ".join(child.name for child in inner) or "nothing"}')
+            return None
+        return self.restricted(inner[0], seen)
+
+    def restricted(self, node, seen):
+        self.schema.only(node, 'base')
+        steps = parts(node)
+        if node.get('base') is None and steps and steps[0].name == 'simpleType':
+            base = self.of_node(steps.pop(0), seen)
+        else:
+            base = self.of_reference(node, 'base', seen)
+        if base is None:
+            return None
+        result = SimpleType(base.family, dict(base.facets), list(base.codes))
+        for facet in steps:
+            self.check_facet(facet, base.family)
+        self.take_values(steps, base, result)
+        self.take_patterns([facet for facet in steps if facet.name == 'pattern'], base, result)
+        self.take_codes([facet for facet in steps if facet.name == 'enumeration'], result)
+        self.check(node, result)
+        return result
+
+    def check_facet(self, facet, family):
+        self.schema.only(facet, 'value', 'fixed')
+        white_space = 'preserve' if family == 'text' else 'collapse'
+        if facet.name == 'whiteSpace' and facet.get('value') == white_space:
+            return
+        if facet.name not in facets_of_family(family):
+            self.schema.tell(facet, f'the facet {facet.name} of a type of this kind')
+        elif facet.get('value') is None:
+            self.schema.tell(facet, f'{facet.name} without value')
+
+    def take_values(self, steps, base, result):
+        """Numbers and bounds; a bound takes the place of the base's bound on its side."""
+        for facet in steps:
+            if facet.name not in facets_of_family(base.family) or facet.get('value') is None:
+                continue
+            if facet.name in LENGTHS + DIGITS:
+                result.facets[facet.name] = self.number(facet)
+            for side in (LOWER, UPPER):
+                if facet.name in side:
+                    for name in side:
+                        result.facets.pop(name, None)
+                    result.facets[facet.name] = self.decimal(facet)
+
+    def number(self, facet):
+        text = facet.get('value').strip().lstrip('+')
+        if not re.fullmatch('[0-9]+', text) or int(text) > MOST_NUMBER:
+            self.schema.tell(facet, f'{facet.name} is not a number up to {MOST_NUMBER}')
+            return 0
+        return int(text)
+
+    def decimal(self, facet):
+        text = facet.get('value').strip()
+        if not re.fullmatch(r'[+-]?([0-9]+(\.[0-9]*)?|\.[0-9]+)', text):
+            self.schema.tell(facet, f'{facet.name} is not a decimal')
+            return Decimal(0)
+        value = Decimal(text)
+        digits = format(value.copy_abs(), 'f').strip('0') if '.' in text else str(abs(int(text)))
+        if sum(character.isdigit() for character in digits) > MOST_DIGITS:
+            self.schema.tell(facet, f'{facet.name} has more than {MOST_DIGITS} digits')
+        return value
+
+    def take_patterns(self, facets, base, result):
+        """Patterns of one restriction are alternatives; those of two restrictions both count."""
+        texts = [facet.get('value', '') for facet in facets]
+        if not texts or 'pattern' not in facets_of_family(base.family):
+            return
+        if 'pattern' in base.facets:
+            self.schema.tell(facets[0], 'a pattern beside that of the base type')
+        for facet, text in zip(facets, texts):
+            try:
+                read_pattern(text)
+            except PatternFault as fault:
+                self.schema.tell(facet, f'pattern `{text}`: {fault}')
+        pattern = '|'.join(texts)
+        if pattern == '':
+            self.schema.tell(facets[0], 'an empty pattern')
+        elif len(pattern) > MOST_CHARACTERS:
+            self.schema.tell(facets[0], f'a pattern of more than {MOST_CHARACTERS} characters')
+        result.facets['pattern'] = pattern
+
+    def take_codes(self, facets, result):
+        if not facets or result.family != 'text':
+            return
+        result.codes = list(dict.fromkeys(facet.get('value', '') for facet in facets))
+        for facet in facets:
+            if not 1 <= len(facet.get('value', '')) <= MOST_CHARACTERS:
+                self.schema.tell(facet, f'a code that has not 1 to {MOST_CHARACTERS} characters')
+        if len(result.codes) > MOST_CODES:
+            self.schema.tell(facets[0], f'more than {MOST_CODES} codes')
+
+    def check(self, node, result):
+        """Facets that stand together."""
+        facets = result.facets
+        if result.codes and facets:
+            self.schema.tell(node, f'codes beside {", ".join(facets)}: of a code set with codes these alone count')
+        lengths = [facets[name] for name in ('minLength', 'length') if name in facets]
+        most = [facets[name] for name in ('maxLength', 'length') if name in facets]
+        if lengths and most and max(lengths) > min(most):
+            self.schema.tell(node, 'a least length above the greatest')
+        total = facets.get('totalDigits', MOST_DIGITS)
+        if not 1 <= total <= MOST_DIGITS:
+            self.schema.tell(node, f'totalDigits is not 1 to {MOST_DIGITS}')
+        elif facets.get('fractionDigits', 0) > total:
+            self.schema.tell(node, 'more fraction digits than digits')
+        self.check_bounds(node, facets)
+
+    def check_bounds(self, node, facets):
+        lower = [facets[name] for name in LOWER if name in facets]
+        upper = [facets[name] for name in UPPER if name in facets]
+        strict = 'minExclusive' in facets or 'maxExclusive' in facets
+        if lower and upper and (lower[0] > upper[0] or (strict and lower[0] == upper[0])):
+            self.schema.tell(node, 'a lower bound above the upper one')
+
+
+def kind_of(simple, name):
+    """The kind of an entry of this name: repositories tell codes, identifiers, amounts and rates apart by their kind."""
+    if simple.family == 'text':
+        if simple.codes or 'Code' in name:
+            return 'CodeSet'
+        return 'IdentifierSet' if 'Identifier' in name else 'Text'
+    if simple.family == 'number':
+        return 'Amount' if 'Amount' in name else 'Rate' if 'Rate' in name else 'Quantity'
+    return simple.family
+
+
+def facet_texts(simple):
+    """The facets as a repository writes them."""
+    return {name: format(value, 'f') if isinstance(value, Decimal) else value for name, value in simple.facets.items()}
