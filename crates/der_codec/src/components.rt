@@ -1,0 +1,467 @@
+// What identifier octets and ends are where they stand.
+ghost use Rattle.std.specs.Prelude.{◌≡◌, ◌↔◌, ◌<◌, ℕ, List, length, slice_get, drop, Some, IfSome, IfNone, IsTrue, IsFalse, true, nat_lt, if◌then◌else◌};
+ghost use Rattle.der_octets.specs.Octets.{context, universal};
+ghost use Rattle.der_octets.specs.TagSteps.{tag_view};
+ghost use Rattle.reference_check.specs.Forms as graph;
+ghost use Rattle.reference_check.specs.Forms.{Graph, form_slots};
+ghost use Rattle.reference_check.specs.Steps.{has_room};
+ghost use Rattle.facets.specs.declared.simple.Simple.{Simple as SimpleType};
+ghost use Rattle.lexical_core.specs.Tree.{Tree};
+ghost use Rattle.message_model.specs.Tables.{types_of, message_of};
+ghost use Rattle.der_codec.specs.DerMessage.{in_der};
+ghost use Rattle.der_codec.specs.Structures.{components, item_components, amount_components, is_one, is_constructed, component, universal_tag, structure};
+ghost use Rattle.der_codec.specs.Structures as structures;
+ghost use Rattle.der_codec.specs.States as states;
+ghost use Rattle.der_codec.specs.States.{field_answer, any_answer, one_answer, item_answer, field_end, one_end, item_end, next_number, level_answer, end_answer};
+ghost use Rattle.der_codec.specs.Levels.{IsLevel, IsSpot};
+ghost use Rattle.der_codec.specs.Components.{IsFound, IsEnded, NoneDue, IsDue};
+
+use crate::level::{Level, Spot};
+use data_types::Kind;
+use der_octets::{Identifier, TagClass};
+use facets::Simple;
+use lexical_core::Rule;
+use message_model::{Form, Model};
+
+/// No component or choice has more elements.
+const MOST_SLOTS: u32 = 4096;
+
+/// What a fault adds to the path of what is open.
+#[derive(Clone, Copy, Debug)]
+pub enum Added {
+    Nothing,
+    /// The tag of a slot.
+    Slot { parent: u32, slot: u32 },
+    /// The attribute of an amount.
+    Currency,
+    /// Any alternative.
+    Any,
+}
+
+/// What identifier octets are.
+#[derive(Clone, Copy, Debug)]
+pub enum Found {
+    Begins { number: u16, spot: Spot },
+    Breaks { rule: Rule, added: Added },
+}
+
+/// What an end is.
+#[derive(Clone, Copy, Debug)]
+pub enum Ended {
+    Fine,
+    Breaks { rule: Rule, added: Added },
+}
+
+fn unexpected() -> Found
+    ensures { result ≡ Found.Breaks Rule.UnexpectedTag Added.Nothing }
+{
+    Found::Breaks {
+        rule: Rule::UnexpectedTag,
+        added: Added::Nothing,
+    }
+}
+
+/// In a sequence.
+fn in_fields(model: &Model, number: u32, next: u32, id: Identifier) -> Found
+    ensures { IsFound (types_of model.now) result (field_answer next (drop next (components (types_of model.now) number 0 (form_slots (types_of model.now number)))) id.constructed (tag_view id)) }
+{
+    let Some(found) = field_number(model, number, id) else {
+        return unexpected();
+    };
+    let at = u32::from(found);
+    if at < next {
+        return unexpected();
+    }
+    match first_due(model, number, next, at) {
+        Some(slot) => missing(number, slot),
+        None => Found::Begins {
+            number: found,
+            spot: spot_at(model, number, at),
+        },
+    }
+}
+
+fn missing(parent: u32, slot: u32) -> Found
+    ensures { result ≡ Found.Breaks Rule.DerMissing (Added.Slot parent slot) }
+{
+    Found::Breaks {
+        rule: Rule::DerMissing,
+        added: Added::Slot { parent, slot },
+    }
+}
+
+/// The slot of the type under which the identifier is, if there is one.
+fn field_number(model: &Model, number: u32, id: Identifier) -> Option<u16>
+    ensures some { IfSome result (λ at. tag_view id ≡ context at) }
+    ensures slot { IfSome result (λ at. (s : graph.Slot ℕ) × (slice_get (form_slots (types_of model.now number)) at ≡ Some s)
+        × ((component (types_of model.now) number at s).constructed ≡ id.constructed)) }
+    ensures none { IfNone result ((at : ℕ) (s : graph.Slot ℕ) → tag_view id ≡ context at → slice_get (form_slots (types_of model.now number)) at ≡ Some s
+        → (component (types_of model.now) number at s).constructed ≡ id.constructed → ⊥) }
+{
+    if id.class != TagClass::Context {
+        return None;
+    }
+    let slot = model.slot(number, u32::from(id.number))?;
+    if is_constructed_at(model, slot.max, slot.target) != id.constructed {
+        return None;
+    }
+    Some(id.number)
+}
+
+/// Whether what comes under the tag of the slot is constructed.
+fn is_constructed_at(model: &Model, max: Option<u32>, target: u32) -> bool
+    ensures { result ≡ (if is_one max then is_constructed (types_of model.now target) else true) }
+{
+    if !comes_once(max) {
+        return true;
+    }
+    is_constructed_form(model, target)
+}
+
+/// Whether the slot has a value in the place of a list.
+fn comes_once(max: Option<u32>) -> bool
+    ensures { result ≡ is_one max }
+{
+    match max {
+        None => false,
+        Some(most) => most == 1,
+    }
+}
+
+/// Whether a value of the type is constructed.
+fn is_constructed_form(model: &Model, number: u32) -> bool
+    ensures { result ≡ is_constructed (types_of model.now number) }
+{
+    match model.form(number) {
+        Some(Form::Sequence) => true,
+        Some(Form::Choice) => true,
+        Some(Form::Money { code: _, base: _ }) => true,
+        _ => false,
+    }
+}
+
+/// What comes in the slot.
+fn spot_at(model: &Model, number: u32, at: u32) -> Spot
+    ensures { (s : graph.Slot ℕ) → slice_get (form_slots (types_of model.now number)) at ≡ Some s
+        → IsSpot (types_of model.now) result (component (types_of model.now) number at s).spot }
+{
+    match model.slot(number, at) {
+        Some(slot) if comes_once(slot.max) => Spot::Value(slot.target),
+        _ => Spot::List {
+            parent: number,
+            slot: at,
+        },
+    }
+}
+
+/// Whether the slot has to come.
+fn is_due(min: u32, max: Option<u32>) -> bool
+    ensures { result ≡ (if is_one max then nat_lt 0 min else true) }
+{
+    if comes_once(max) {
+        return min > 0;
+    }
+    true
+}
+
+/// The first slot from one on, and before another, that has to come.
+#[tactic(auto, using(crate::proofs::ComponentsFound::none_further))]
+fn first_due(model: &Model, number: u32, from: u32, to: u32) -> Option<u32>
+    ensures some { IfSome result (λ at. IsDue (form_slots (types_of model.now number)) from to at) }
+    ensures none { IfNone result (NoneDue (form_slots (types_of model.now number)) from to) }
+{
+    for at in from..to {
+        let Some(slot) = model.slot(number, at) else {
+            return None;
+        };
+        if is_due(slot.min, slot.max) {
+            return Some(at);
+        }
+    }
+    None
+}
+
+/// Any alternative.
+fn alternative(model: &Model, number: u32, id: Identifier) -> Found
+    ensures { IsFound (types_of model.now) result (any_answer 0 (components (types_of model.now) number 0 (form_slots (types_of model.now number))) id.constructed (tag_view id)) }
+{
+    match field_number(model, number, id) {
+        None => unexpected(),
+        Some(at) => Found::Begins {
+            number: at,
+            spot: spot_at(model, number, u32::from(at)),
+        },
+    }
+}
+
+/// In a list, where so many items have come.
+fn in_list(model: &Model, parent: u32, slot: u32, count: u64, id: Identifier) -> Found
+    ensures { (s : graph.Slot ℕ) → slice_get (form_slots (types_of model.now parent)) slot ≡ Some s
+        → IsFound (types_of model.now) result (item_answer (has_room count s.max) (any_answer 0 (item_components (types_of model.now) s.target (types_of model.now s.target)) id.constructed (tag_view id))) }
+{
+    match model.slot(parent, slot) {
+        None => unexpected(),
+        Some(slot) => limited(is_open(count, slot.max), item(model, slot.target, id)),
+    }
+}
+
+/// One more may come.
+fn is_open(count: u64, max: Option<u32>) -> bool
+    ensures { result ≡ has_room count max }
+{
+    match max {
+        None => true,
+        Some(most) => count < u64::from(most),
+    }
+}
+
+/// One item more, where there may be one.
+fn limited(fits: bool, found: Found) -> Found
+    ensures { (types : Graph ℕ SimpleType) (answer : states.Answer ℕ) → IsFound types found answer → IsFound types result (item_answer fits answer) }
+{
+    if fits {
+        return found;
+    }
+    match found {
+        Found::Begins { number: _, spot: _ } => Found::Breaks {
+            rule: Rule::DerTooMany,
+            added: Added::Nothing,
+        },
+        Found::Breaks { rule, added } => Found::Breaks { rule, added },
+    }
+}
+
+/// An item of a list of the type: a value under its universal tag, or of a choice an alternative.
+fn item(model: &Model, number: u32, id: Identifier) -> Found
+    ensures { IsFound (types_of model.now) result (any_answer 0 (item_components (types_of model.now) number (types_of model.now number)) id.constructed (tag_view id)) }
+{
+    if is_choice(model, number) {
+        return alternative(model, number, id);
+    }
+    if id.class != TagClass::Universal
+        || id.number != universal_number(model, number)
+        || id.constructed != is_constructed_form(model, number)
+    {
+        return unexpected();
+    }
+    Found::Begins {
+        number: 0,
+        spot: Spot::Value(number),
+    }
+}
+
+/// Whether the type is a choice.
+fn is_choice(model: &Model, number: u32) -> bool
+    ensures yes { IsTrue result → types_of model.now number ≡ graph.Choice (form_slots (types_of model.now number)) }
+    ensures no { IsFalse result → (fs : List (graph.Slot ℕ)) → types_of model.now number ≡ graph.Choice fs → ⊥ }
+{
+    matches!(model.form(number), Some(Form::Choice))
+}
+
+/// The number of the type's universal tag.
+fn universal_number(model: &Model, number: u32) -> u16
+    ensures { universal_tag (types_of model.now number) ≡ universal result }
+{
+    match model.form(number) {
+        Some(Form::Simple(simple)) => simple_number(simple),
+        Some(Form::Envelope) => 12,
+        _ => 16,
+    }
+}
+
+/// The number of the universal tag of a simple type: X.680 §8.4.
+fn simple_number(simple: &Simple) -> u16
+    ensures { result ≡ structures.simple_number simple.now.kind simple.now.codes }
+{
+    match simple.kind {
+        Kind::Text => {
+            if simple.codes.is_some() {
+                return 10;
+            }
+            12
+        }
+        Kind::Decimal => 9,
+        Kind::Boolean => 1,
+        Kind::Binary => 4,
+        _ => 26,
+    }
+}
+
+/// In an amount of this code, whose next component has this number.
+fn in_amount(number: u32, code: u32, next: u32, id: Identifier) -> Found
+    ensures { (types : Graph ℕ SimpleType) → IsFound types result (field_answer next (drop next (amount_components number code)) id.constructed (tag_view id)) }
+{
+    if !is_context(id.class) {
+        return unexpected();
+    }
+    if id.constructed {
+        return unexpected();
+    }
+    if next > 1 {
+        return unexpected();
+    }
+    if id.number == 1 && next == 0 {
+        return Found::Breaks {
+            rule: Rule::DerMissing,
+            added: Added::Currency,
+        };
+    }
+    if u32::from(id.number) != next {
+        return unexpected();
+    }
+    if next == 0 {
+        return Found::Begins {
+            number: 0,
+            spot: Spot::Value(code),
+        };
+    }
+    Found::Begins {
+        number: 1,
+        spot: Spot::Number(number),
+    }
+}
+
+/// The end of a list, in which so many items have come.
+fn end_of_list(model: &Model, parent: u32, slot: u32, count: u64) -> Ended
+    ensures { (s : graph.Slot ℕ) → slice_get (form_slots (types_of model.now parent)) slot ≡ Some s → IsEnded (types_of model.now) result (item_end (nat_lt count s.min)) }
+{
+    match model.slot(parent, slot) {
+        None => Ended::Fine,
+        Some(slot) => {
+            if count < u64::from(slot.min) {
+                return Ended::Breaks {
+                    rule: Rule::TooFew,
+                    added: Added::Nothing,
+                };
+            }
+            Ended::Fine
+        }
+    }
+}
+
+/// The end of a sequence, whose next component would have this number.
+fn end_of_fields(model: &Model, number: u32, next: u32) -> Ended
+    ensures { IsEnded (types_of model.now) result (field_end (drop next (components (types_of model.now) number 0 (form_slots (types_of model.now number))))) }
+{
+    match first_due_from(model, number, next) {
+        None => Ended::Fine,
+        Some(slot) => Ended::Breaks {
+            rule: Rule::DerMissing,
+            added: Added::Slot {
+                parent: number,
+                slot,
+            },
+        },
+    }
+}
+
+/// The first slot from one on that has to come.
+#[tactic(auto, using(crate::proofs::ComponentsFound::due_within, crate::proofs::ComponentsFound::none_due_within))]
+fn first_due_from(model: &Model, number: u32, from: u32) -> Option<u32>
+    ensures some { IfSome result (λ at. IsDue (form_slots (types_of model.now number)) from (length (form_slots (types_of model.now number))) at) }
+    ensures none { IfNone result (NoneDue (form_slots (types_of model.now number)) from (length (form_slots (types_of model.now number)))) }
+{
+    let _types = model.type_count();
+    first_due(model, number, from, MOST_SLOTS)
+}
+
+/// The end of an amount, whose next component would have this number.
+fn end_of_amount(next: u32) -> Ended
+    ensures { (types : Graph ℕ SimpleType) (number code : ℕ) → IsEnded types result (field_end (drop next (amount_components number code))) }
+{
+    if next == 0 {
+        return Ended::Breaks {
+            rule: Rule::DerMissing,
+            added: Added::Currency,
+        };
+    }
+    if next == 1 {
+        return Ended::Breaks {
+            rule: Rule::DerMissing,
+            added: Added::Nothing,
+        };
+    }
+    Ended::Fine
+}
+
+/// Whether the class is that of the tags in a value.
+fn is_context(class: TagClass) -> bool
+    ensures { IsTrue result ↔ (class ≡ TagClass.Context) }
+{
+    matches!(class, TagClass::Context)
+}
+
+/// What the end is of an open value.
+pub fn end_of(model: &Model, level: &Level) -> Ended
+    ensures { (fragment : Tree → List ℕ) (l : states.Level ℕ) → IsLevel (types_of model.now) level.now l
+        → IsEnded (types_of model.now) result (end_answer (structure (in_der fragment (message_of model.now)) l.spot) l.came) }
+{
+    match level.spot {
+        Spot::Instance => end_of_type(model, 0, level.next),
+        Spot::Value(number) => end_of_type(model, number, level.next),
+        Spot::List { parent, slot } => end_of_list(model, parent, slot, level.count),
+        Spot::Number(_) => Ended::Fine,
+    }
+}
+
+/// The end of a value of a type, whose next component would have this number.
+fn end_of_type(model: &Model, number: u32, next: u32) -> Ended
+    ensures { (fragment : Tree → List ℕ) (came : List ℕ) → next ≡ next_number came → IsEnded (types_of model.now) result (end_answer (structure (in_der fragment (message_of model.now)) (structures.Value number)) came) }
+{
+    match model.form(number) {
+        Some(Form::Sequence) => end_of_fields(model, number, next),
+        Some(Form::Choice) => end_of_choice(next),
+        Some(Form::Money { code: _, base: _ }) => end_of_amount(next),
+        _ => Ended::Fine,
+    }
+}
+
+/// The end of a choice, in which an alternative has come where the number is not 0.
+fn end_of_choice(next: u32) -> Ended
+    ensures { (types : Graph ℕ SimpleType) (came : List ℕ) → next ≡ next_number came → IsEnded types result (one_end came) }
+{
+    if next == 0 {
+        return Ended::Breaks {
+            rule: Rule::DerMissing,
+            added: Added::Any,
+        };
+    }
+    Ended::Fine
+}
+
+/// What identifier octets are in an open value.
+pub fn identify(model: &Model, level: &Level, id: Identifier) -> Found
+    ensures { (fragment : Tree → List ℕ) (l : states.Level ℕ) → IsLevel (types_of model.now) level.now l
+        → IsFound (types_of model.now) result (level_answer (in_der fragment (message_of model.now)) l id.constructed (tag_view id)) }
+{
+    match level.spot {
+        Spot::Instance => in_type(model, 0, level.next, id),
+        Spot::Value(number) => in_type(model, number, level.next, id),
+        Spot::List { parent, slot } => in_list(model, parent, slot, level.count, id),
+        Spot::Number(_) => unexpected(),
+    }
+}
+
+/// In a value of a type, whose next component has this number.
+fn in_type(model: &Model, number: u32, next: u32, id: Identifier) -> Found
+    ensures { (fragment : Tree → List ℕ) (came : List ℕ) → next ≡ next_number came
+        → IsFound (types_of model.now) result (states.identifier_answer (structure (in_der fragment (message_of model.now)) (structures.Value number)) came id.constructed (tag_view id)) }
+{
+    match model.form(number) {
+        Some(Form::Sequence) => in_fields(model, number, next, id),
+        Some(Form::Choice) => in_choice(model, number, next, id),
+        Some(Form::Money { code, base: _ }) => in_amount(number, code, next, id),
+        _ => unexpected(),
+    }
+}
+
+/// In a choice, in which an alternative has come where the number is not 0.
+fn in_choice(model: &Model, number: u32, next: u32, id: Identifier) -> Found
+    ensures { (came : List ℕ) → next ≡ next_number came
+        → IsFound (types_of model.now) result (one_answer came (any_answer 0 (components (types_of model.now) number 0 (form_slots (types_of model.now number))) id.constructed (tag_view id))) }
+{
+    if next != 0 {
+        return unexpected();
+    }
+    alternative(model, number, id)
+}

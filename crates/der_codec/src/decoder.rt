@@ -1,0 +1,264 @@
+// The reader of DER, an octet at a time: X.690 §8.1.
+ghost use Rattle.std.specs.Prelude.{◌≡◌, ◌+◌, ◌<◌, ◌≤◌, ◌^◌, ◌++◌, ◌∷◌, [], ℕ, List, IfOk, IfErr, IsErrOf, IsTrue, IsFalse, true, false, Some, None, length, vec_capacity};
+ghost use Rattle.lexical_core.specs.Tree.{Tree};
+ghost use Rattle.message_model.specs.Tables.{message_of};
+ghost use Rattle.der_codec.specs.DerMessage.{DerMessage, in_der};
+ghost use Rattle.der_codec.specs.Levels.{inwards, first_of, rest_of};
+ghost use Rattle.der_codec.specs.Decoding.{HasRead, IsStopped, IsBelow, IsPast, end_of_levels, IsFresh, IsFreshOrOver, due_after, IsReady, IsOver, IsWaiting};
+ghost use Rattle.der_codec.specs.Faults.{IsWhole as WholeBytes};
+ghost use Rattle.der_codec.specs.Der.{SpellsDer};
+ghost use Rattle.der_codec.specs.Sound.{IsSound};
+ghost use Rattle.data_types.specs.Value.{Value};
+
+use crate::components::{Added, Ended, end_of};
+use crate::level::{Level, Spot};
+use der_octets::{LengthStep, TagStep};
+use lexical_core::Rule;
+use message_model::Model;
+use std::alloc::Global;
+
+/// What stands next.
+#[derive(Clone, Copy, Debug)]
+pub enum Due {
+    Tag(TagStep),
+    Length {
+        constructed: bool,
+        spot: Spot,
+        step: LengthStep,
+    },
+    Contents {
+        spot: Spot,
+        left: u64,
+    },
+    Over,
+}
+
+/// Why the reader stops.
+#[derive(Clone, Copy, Debug)]
+pub enum Stop {
+    Fault {
+        rule: Rule,
+        place: u64,
+        added: Added,
+    },
+    Memory,
+}
+
+/// The reader of DER.
+#[derive(Drop)]
+pub struct Decoder {
+    /// How many octets it has taken.
+    pub(crate) place: u64,
+    /// The place of the part that is due.
+    pub(crate) start: u64,
+    /// The open constructed values, the outermost first.
+    pub(crate) levels: Vec<Level>,
+    pub(crate) due: Due,
+}
+
+impl Decoder {
+    /// Before the first octet. It takes no memory.
+    #[tactic(auto, using(crate::proofs::InputEnds::begins_so))]
+    pub fn new(alloc: Global) -> Decoder
+        ensures read { (m : DerMessage ℕ) → HasRead m result [] }
+        ensures waits { IsWaiting result.due result.place (end_of_levels result.levels.items) }
+        ensures place { result.place ≡ 0 }
+    {
+        Decoder {
+            place: 0,
+            start: 0,
+            levels: Vec::new(alloc),
+            due: Due::Tag(TagStep::new()),
+        }
+    }
+
+    /// The innermost open value.
+    #[tactic(auto, using(crate::proofs::Inwards::last_inwards, crate::proofs::Inwards::none_inwards))]
+    pub(crate) fn innermost(&self) -> Option<Level>
+        ensures { result ≡ first_of (inwards self.now.levels.items) }
+    {
+        let count = self.levels.len();
+        if count == 0 {
+            return None;
+        }
+        Some(self.levels[count - 1])
+    }
+
+    /// Puts another level in the place of the innermost one.
+    #[tactic(auto, using(crate::proofs::Inwards::set_inwards))]
+    pub(crate) fn set_innermost(&mut self, level: Level)
+        requires { 0 < length self.old.levels.items }
+        ensures levels { inwards self.new.levels.items ≡ level ∷ rest_of (inwards self.old.levels.items) }
+        ensures place { self.new.place ≡ self.old.place }
+        ensures start { self.new.start ≡ self.old.start }
+        ensures due { self.new.due ≡ self.old.due }
+        ensures room { vec_capacity self.old.levels ≤ vec_capacity self.new.levels }
+    {
+        let count = self.levels.len();
+        self.levels[count - 1] = level;
+    }
+
+    /// A fault where the part begins that is due.
+    pub(crate) fn fault(&self, rule: Rule) -> Stop
+        ensures { result ≡ Stop.Fault rule self.now.start Added.Nothing }
+    {
+        Stop::Fault {
+            rule,
+            place: self.start,
+            added: Added::Nothing,
+        }
+    }
+
+    /// Where the innermost open value ends.
+    #[tactic(auto, using(crate::proofs::Inwards::end_first, crate::proofs::Inwards::end_none))]
+    pub(crate) fn limit(&self) -> Option<u64>
+        ensures { result ≡ end_of_levels self.now.levels.items }
+    {
+        match self.innermost() {
+            None => None,
+            Some(level) => Some(level.end),
+        }
+    }
+
+    /// An overrun where the value that is open ends here.
+    pub(crate) fn within(&self) -> Result<(), Stop>
+        ensures ok { IfOk result (λ _. IsBelow self.now.place (end_of_levels self.now.levels.items)) }
+        ensures err { IfErr result (λ stop. (stop ≡ Stop.Fault Rule.Overrun self.now.start Added.Nothing) × IsPast self.now.place (end_of_levels self.now.levels.items)) }
+    {
+        match self.limit() {
+            None => Ok(()),
+            Some(end) => {
+                if self.place < end {
+                    return Ok(());
+                }
+                Err(self.fault(Rule::Overrun))
+            }
+        }
+    }
+
+    /// Ends the innermost value where it ends at this place, and no identifier octet has come. It answers
+    /// whether it has.
+    pub fn end(&mut self, model: &Model) -> Result<bool, Stop>
+        requires { IsFresh self.old.due }
+        ensures ok { (fragment : Tree → List ℕ) (bytes : List ℕ) → HasRead (in_der fragment (message_of model.now)) self.old bytes → IfOk result (λ _. HasRead (in_der fragment (message_of model.now)) self.new bytes) }
+        ensures err { (fragment : Tree → List ℕ) (bytes : List ℕ) → HasRead (in_der fragment (message_of model.now)) self.old bytes → IfErr result (λ stop. IsStopped (in_der fragment (message_of model.now)) self.new bytes stop) }
+        ensures place { self.new.place ≡ self.old.place }
+        ensures ended { IfOk result (λ ended. ended ≡ true → IsFreshOrOver self.new.due) }
+        ensures less { IfOk result (λ ended. ended ≡ true → length self.new.levels.items < length self.old.levels.items) }
+        ensures open { (fragment : Tree → List ℕ) (bytes : List ℕ) → HasRead (in_der fragment (message_of model.now)) self.old bytes → IfOk result (λ ended. ended ≡ false → (self.new ≡ self.old) × IsBelow self.old.place (end_of_levels self.old.levels.items)) }
+        ensures fault { IsErrOf result Stop.Memory → ⊥ }
+        ensures room { vec_capacity self.old.levels ≤ vec_capacity self.new.levels }
+    {
+        let Some(level) = self.innermost() else {
+            return Ok(false);
+        };
+        if level.end != self.place {
+            return Ok(false);
+        }
+        match end_of(model, &level) {
+            Ended::Breaks { rule, added } => Err(Stop::Fault {
+                rule,
+                place: self.place,
+                added,
+            }),
+            Ended::Fine => {
+                self.close();
+                Ok(true)
+            }
+        }
+    }
+
+    /// Ends all values that end at this place, where no identifier octet has come.
+    pub fn end_all(&mut self, model: &Model) -> Result<(), Stop>
+        requires { IsFresh self.old.due }
+        ensures ok { (fragment : Tree → List ℕ) (bytes : List ℕ) → HasRead (in_der fragment (message_of model.now)) self.old bytes → IfOk result (λ _. HasRead (in_der fragment (message_of model.now)) self.new bytes) }
+        ensures err { (fragment : Tree → List ℕ) (bytes : List ℕ) → HasRead (in_der fragment (message_of model.now)) self.old bytes → IfErr result (λ stop. IsStopped (in_der fragment (message_of model.now)) self.new bytes stop) }
+        ensures place { self.new.place ≡ self.old.place }
+        ensures ready { (fragment : Tree → List ℕ) (bytes : List ℕ) → HasRead (in_der fragment (message_of model.now)) self.old bytes → IfOk result (λ _. IsReady self.new.due self.new.place (end_of_levels self.new.levels.items)) }
+        ensures fault { IsErrOf result Stop.Memory → ⊥ }
+        ensures room { vec_capacity self.old.levels ≤ vec_capacity self.new.levels }
+    {
+        loop {
+            let ended = match self.end(model) {
+                Ok(ended) => ended,
+                Err(stop) => return Err(stop),
+            };
+            if !ended {
+                return Ok(());
+            }
+            if self.is_over() {
+                return Ok(());
+            }
+        }
+    }
+
+    /// Whether the instance has ended.
+    pub fn is_over(&self) -> bool
+        ensures yes { IsTrue result → IsOver self.now.due }
+        ensures no { IsFalse result → IsFreshOrOver self.now.due → IsFresh self.now.due }
+        ensures open { IsFalse result → IsOver self.now.due → ⊥ }
+    {
+        matches!(self.due, Due::Over)
+    }
+
+    /// What the bytes are where they end here: whole, or cut.
+    #[tactic(auto, using(crate::proofs::InputEnds::is_whole, crate::proofs::InputEnds::is_cut, crate::proofs::InputEnds::is_spelled))]
+    pub fn finish(&self) -> Result<(), Stop>
+        requires { IsWaiting self.now.due self.now.place (end_of_levels self.now.levels.items) }
+        ensures whole { (m : DerMessage ℕ) (bytes : List ℕ) → HasRead m self.now bytes → IfOk result (λ _. WholeBytes m bytes) }
+        ensures ok { (m : DerMessage ℕ) (bytes : List ℕ) → IsSound m → length bytes < 2 ^ 63 → HasRead m self.now bytes → IfOk result (λ _. (v : Value) × SpellsDer m bytes v) }
+        ensures err { (m : DerMessage ℕ) (bytes : List ℕ) → HasRead m self.now bytes → IfErr result (λ stop. IsStopped m self.now bytes stop) }
+        ensures fault { IsErrOf result Stop.Memory → ⊥ }
+    {
+        if self.is_over() {
+            return Ok(());
+        }
+        Err(Stop::Fault {
+            rule: Rule::DerTruncated,
+            place: self.place,
+            added: Added::Nothing,
+        })
+    }
+
+    /// The fault of an octet behind the instance.
+    #[tactic(auto, using(crate::proofs::InputEnds::is_trailing))]
+    pub fn trailing(&self) -> Stop
+        requires { IsOver self.now.due }
+        ensures { (m : DerMessage ℕ) (bytes : List ℕ) (octet : ℕ) → HasRead m self.now bytes → IsStopped m self.now (bytes ++ octet ∷ []) result }
+    {
+        Stop::Fault {
+            rule: Rule::Trailing,
+            place: self.place,
+            added: Added::Nothing,
+        }
+    }
+
+    /// Whether identifier octets are due, and none have come.
+    pub(crate) fn is_fresh(&self) -> bool
+        ensures yes { IsTrue result → IsFresh self.now.due }
+        ensures no { IsFalse result → IsFresh self.now.due → ⊥ }
+    {
+        match self.due {
+            Due::Tag(step) => step.is_fresh(),
+            _ => false,
+        }
+    }
+
+    /// Closes the innermost value.
+    #[tactic(auto, using(crate::proofs::Inwards::pop_inwards))]
+    pub(crate) fn close(&mut self)
+        requires { IsFresh self.old.due }
+        ensures levels { inwards self.new.levels.items ≡ rest_of (inwards self.old.levels.items) }
+        ensures place { self.new.place ≡ self.old.place }
+        ensures start { self.new.start ≡ self.old.start }
+        ensures due { self.new.due ≡ due_after self.old.due self.new.levels.items }
+        ensures fresh { IsFreshOrOver self.new.due }
+        ensures less { 0 < length self.old.levels.items → length self.new.levels.items < length self.old.levels.items }
+        ensures room { vec_capacity self.old.levels ≤ vec_capacity self.new.levels }
+    {
+        let _ = self.levels.pop();
+        if self.levels.is_empty() {
+            self.due = Due::Over;
+        }
+    }
+}

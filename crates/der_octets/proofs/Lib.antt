@@ -1,0 +1,10 @@
+pub mod Digits
+pub mod Headers
+pub mod OneReading
+pub mod LengthsRead
+pub mod LengthFronts
+pub mod LengthStepLemmas
+pub mod TagFronts
+pub mod TagStepLemmas
+pub mod StepFronts
+pub mod Examples
