@@ -11,6 +11,7 @@ from rule_sentences import SENTENCES
 
 HEAD = ('file', 'status', 'rule', 'place', 'path', 'line')
 BAR = 40
+INTERRUPTED = 130
 
 
 def files_of(words):
@@ -60,14 +61,17 @@ def summary(counts):
 def check_files(words, files, table):
     """Writes a row for each file, in their order; the greatest status, and how many files have each rule."""
     worst, counts, progress = DONE, collections.Counter(), Progress(len(files))
-    with ThreadPoolExecutor(len(os.sched_getaffinity(0))) as pool:
+    pool = ThreadPoolExecutor(len(os.sched_getaffinity(0)))
+    try:
         for done, (path, given) in enumerate(zip(files, pool.map(lambda path: check(*words, path), files)), 1):
             row = row_of(path, given)
             table.writerow(row)
             worst = max(worst, given.status)
             counts[row[2] or ('accepted' if given.status == DONE else given.line or f'status {given.status}')] += 1
             progress.step(done, given.status)
-    progress.end()
+    finally:
+        pool.shutdown(cancel_futures=True)
+        progress.end()
     return worst, counts
 
 
@@ -91,6 +95,8 @@ def main(words):
         print('failed: write', file=sys.stderr)
         os.dup2(os.open(os.devnull, os.O_WRONLY), sys.stdout.fileno())
         return 7
+    except KeyboardInterrupt:
+        return INTERRUPTED
     print('\n'.join(summary(counts)), file=sys.stderr)
     return worst
 

@@ -34,6 +34,16 @@ INSTANCES = {
     'InputTooLong': 'the instance has more than 2^40 bytes',
 }
 
+OCTETS = {
+    'BadTagOctets': 'the tag is not in its shortest form, or too long',
+    'BadLengthOctets': 'the length is not in its shortest form, or too long',
+    'Overrun': 'the value passes the end of the one that holds it',
+    'UnexpectedTag': 'this tag does not belong here',
+    'TooFew': 'a list has fewer items than it must have',
+    'BadContents': 'these octets spell no value of their type',
+    'Trailing': 'octets stand behind the last value',
+}
+
 REPOSITORIES = {
     'L2': 'the root is not Repository in its namespace',
     'L3': 'an earlier entry has this id',
@@ -70,4 +80,4 @@ MESSAGES = {
     'M17': 'it is too large',
 }
 
-SENTENCES = {**MARKUP, **INSTANCES, **REPOSITORIES, **CODES, **MESSAGES}
+SENTENCES = {**MARKUP, **INSTANCES, **OCTETS, **REPOSITORIES, **CODES, **MESSAGES}

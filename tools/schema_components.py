@@ -171,6 +171,13 @@ class Components:
         else:
             entry.kind = KIND_OF_GROUP.get(content.kind, 'MessageComponent')
             entry.elements = self.elements(content, entry.name)
+            self.check_empty(node, entry.elements)
+
+    def check_empty(self, node, elements):
+        """In a complex type whose group has parts white space may stand, even if they are no elements."""
+        for group in parts(node):
+            if parts(group) and not elements:
+                self.schema.tell(group, f'a {group.name} with parts, but without elements: white space may stand in it')
 
     def envelope(self, entry, node):
         entry.kind = 'ExternalSchema'
@@ -227,6 +234,7 @@ class Components:
             self.schema.tell(block, f'the message `{name}` is no sequence of elements')
             return None
         message = Message(identifier, name, block.get('name', ''), self.elements(content, name), node.line)
+        self.check_empty(node, message.blocks)
         self.make_waiting()
         self.check_reached(message)
         self.name_apart(message)

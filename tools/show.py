@@ -151,22 +151,31 @@ def colours(is_terminal):
     return lambda kind, text: f'{COLOURS[kind]}{text}{COLOURS["end"]}' if is_terminal else text
 
 
+def rows(fault, told, colour):
+    """The path, the rule, and what was expected, by their labels."""
+    labelled = [('in', fault.path)] if fault.path else []
+    labelled += [('rule', SENTENCES.get(fault.rule, 'docs/FORMATS.md has this rule'))]
+    labelled += [('expected' if number == 0 else '', text) for number, text in enumerate(told)]
+    return [f'  {colour("label", f"{label:<8}")} {text}' for label, text in labelled]
+
+
 def page(path, spot, fault, told, colour):
-    where = f'{path}:{spot.line}:{spot.column}'
-    rows = [('in', fault.path)] if fault.path else []
-    rows += [('rule', SENTENCES.get(fault.rule, 'docs/FORMATS.md has this rule'))]
-    rows += [('expected' if number == 0 else '', text) for number, text in enumerate(told)]
-    return [colour('head', f'{where}: {fault.rule}'), *marked(spot, colour),
-            *(f'  {colour("label", f"{label:<8}")} {text}' for label, text in rows)]
+    head = colour('head', f'{path}:{spot.line}:{spot.column}: {fault.rule}')
+    return [head, *marked(spot, colour), *rows(fault, told, colour)]
+
+
+def types_of(words):
+    """The types of the message, which the program has compiled."""
+    repository, codes, message = words
+    with open(repository, 'rb') as file:
+        entries, messages = read_repository(file.read())
+    return Types(entries, next(it for it in messages if it.identifier == message), read_codes(codes))
 
 
 def instance_page(words, path, fault, colour):
-    repository, codes, message = words
     place = int(fault.where)
     spot = spot_of(path, place, fault.rule in LEAF_RULES)
-    with open(repository, 'rb') as file:
-        entries, messages = read_repository(file.read())
-    types = Types(entries, next(it for it in messages if it.identifier == message), read_codes(codes))
+    types = types_of(words)
     with open(path, 'rb') as file:
         came = Place(file.read(place))
     return page(path, spot, fault, expected(types, fault, came, spot.text[spot.column - 1:spot.column - 1 + spot.behind]), colour)
@@ -194,7 +203,7 @@ def record_page(words, fault, colour):
     return page(words[1], line_spot(words[1], line), fault, [], colour)
 
 
-def octets_page(path, fault, colour):
+def octets_page(words, path, fault, colour):
     """The octets round the place, sixteen a line."""
     place = int(fault.where)
     with open(path, 'rb') as file:
@@ -207,7 +216,9 @@ def octets_page(path, fault, colour):
         lines.append(f' {start + at:08x} | {row.hex(" "):<47} | {"".join(chr(c) if 32 <= c < 127 else "." for c in row)}')
         if at <= place - start < at + 16:
             lines.append(' ' * 10 + '| ' + ' ' * (3 * (place - start - at)) + colour('mark', '^^'))
-    return lines + [f'  in       {fault.path}', f'  rule     {SENTENCES.get(fault.rule, "docs/FORMATS.md has this rule")}']
+    types = types_of(words)
+    entry = types.at(fault.path)
+    return lines + rows(fault, [] if entry is None else [types.described(entry)], colour)
 
 
 def page_of(words, path, answer, is_der, colour):
@@ -215,7 +226,7 @@ def page_of(words, path, answer, is_der, colour):
     if fault is None:
         return []
     if answer.status == INSTANCE:
-        return octets_page(path, fault, colour) if is_der else instance_page(words, path, fault, colour)
+        return octets_page(words, path, fault, colour) if is_der else instance_page(words, path, fault, colour)
     if answer.status == REPOSITORY:
         return page(words[0], spot_of(words[0], int(fault.where), False), fault, [], colour)
     if answer.status == MESSAGE:

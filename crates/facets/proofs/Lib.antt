@@ -9,3 +9,4 @@ pub mod FitLemmas
 pub mod ValueLemmas
 pub mod MeasureLemmas
 pub mod HeldLemmas
+pub mod SomeAnswer

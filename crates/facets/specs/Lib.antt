@@ -1,5 +1,6 @@
 pub mod CodeLists
 pub mod Facets
+pub mod Steps
 pub mod Rules
 pub mod LeafUnder
 pub mod Checks

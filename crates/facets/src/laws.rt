@@ -12,6 +12,11 @@ pub fn characters_have_one_answer()
         → LeafUnder simple text one → LeafUnder simple text two → one ≡ two }
 {}
 
+/// No characters neither spell a leaf under a simple type nor break a rule first.
+pub fn characters_have_some_answer()
+    ensures { (simple : Simple) (text : List ℕ) → ¬ (¬ ((one : Result Leaf Rule) × LeafUnder simple text one)) }
+{}
+
 /// A leaf that some characters spell under a simple type fits it.
 pub fn what_is_spelled_fits()
     ensures { (simple : Simple) (text : List ℕ) (leaf : Leaf) → GivesLeaf simple text leaf → Fits simple leaf }

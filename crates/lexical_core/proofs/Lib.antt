@@ -12,3 +12,4 @@ pub mod RealLemmas
 pub mod Written
 pub mod DecimalLaws
 pub mod RealLaws
+pub mod StableSort

@@ -54,7 +54,6 @@ pub mod TagPartLemmas
 pub mod ExpandedLemmas
 pub mod WholeTags
 pub mod ScopeLemmas
-pub mod StableSort
 pub mod Twins
 pub mod SortedAttributes
 pub mod OneMarking

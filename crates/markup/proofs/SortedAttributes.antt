@@ -13,7 +13,7 @@ use Rattle.markup.specs.declared.event.Attr.{Attr}
 use Rattle.markup.specs.Events.{name_cmp, put}
 use Rattle.markup.specs.EventItems.{entry_of}
 use Rattle.markup.specs.TagParts.{sorted_entries}
-use Rattle.markup.proofs.StableSort.{put_by, sorted_by, by_less, sorted_is}
+use Rattle.lexical_core.proofs.StableSort.{put_by, sorted_by, by_less, sorted_is}
 use Rattle.markup.proofs.Twins.{entries_total, by_name}
 use Rattle.lexical_core.specs.Tree.{Entry}
 use denote.Param.Members.{Mut}

@@ -14,7 +14,7 @@ use Rattle.std.proofs.lemmas.Slice.Eq.{bytes_eq-Decides}
 use Rattle.lexical_core.specs.Tree.{Expanded, Entry}
 use Rattle.markup.specs.Events.{name_cmp, put}
 use Rattle.markup.specs.TagParts.{is_named, begins_with, has_twins, sorted_entries}
-use Rattle.markup.proofs.StableSort.{put_by, sorted_by, Climbs, NoneLess, climbs-sorted}
+use Rattle.lexical_core.proofs.StableSort.{put_by, sorted_by, Climbs, NoneLess, climbs-sorted}
 use Rattle.markup.proofs.TagPartLemmas.{or_assoc, or_swap}
 
 -- ---- names in order

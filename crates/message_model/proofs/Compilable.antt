@@ -10,7 +10,7 @@ use Rattle.reference_check.specs.declared.reached.Reach.{Reach}
 use Rattle.reference_check.specs.Graph.{Place, message, entry, references, find_entry, find_message}
 use Rattle.reference_check.specs.Reach.{Reaches, itself, element, currency, elements_of, elements_or_none, blocks_or_none, currency_or_none, rank_of}
 use Rattle.reference_check.specs.Reached.{HasReach}
-use Rattle.reference_check.specs.Rules.{Dangling, NotOneReference, LeftOutKind}
+use Rattle.reference_check.specs.Rules.{Breaks, Dangling, NotOneReference, LeftOutKind}
 use Rattle.message_model.specs.Ready.{IsReady, OnObjects, BadFacets}
 use Rattle.message_model.specs.Compiled.{IsReachedList}
 use Rattle.message_model.specs.Numbers.{StandsAt, NamesPlace, NamePlaces, IsCompilable, AreCompilable, ids_at}
@@ -23,22 +23,26 @@ contains_at xs x (i, lt, h) = (i, slice_get_read xs (length xs) i x refl lt (sym
 pub at_contains : {A : Type 0} (xs : List A) (x : A) (i : ℕ) → slice_get xs i ≡ Some x → Contains xs x
 at_contains xs x i h = (i, slice_get_within xs i x h, get_or_from_slice_get xs i x x h)
 
+-- where a reached object does not stand in the repository, what refers to it breaks a rule
+pub referrer : (R : Contents) (m : List ℕ) {p : Place} → Reaches R m p → (id : List ℕ) → p ≡ entry id → find_entry id R.objects ≡ None → (q : Place) × Reaches R m q × Breaks R m Dangling q
+referrer R m itself id k none = absurd cc
+referrer R m (element {p = p} {e = e} {id = i} reach inside names) id k none =
+    let same : i ≡ id = cc in
+    (p, reach, inl (e, i, inside, names, ap (λ x. find_entry x R.objects) same ∙ none))
+referrer R m (currency {p = p} {id = i} reach is) id k none =
+    let same : i ≡ id = cc in
+    (p, reach, inr (i, is, ap (λ x. find_entry x R.objects) same ∙ none))
+
 module _ (R : Contents) (m : List ℕ) (ready : IsReady R m) where
   -- what is reached stands in the repository
-  stands_if : {p : Place} → Reaches R m p → (id : List ℕ) → p ≡ entry id → find_entry id R.objects ≡ None → ⊥
-  stands_if itself id k none = absurd cc
-  stands_if (element {p = p} {e = e} {id = i} reach inside names) id k none =
-      let same : i ≡ id = cc in
-      ready (OnObjects Dangling) p reach (inl (e, i, inside, names, ap (λ x. find_entry x R.objects) same ∙ none))
-  stands_if (currency {p = p} {id = i} reach is) id k none =
-      let same : i ≡ id = cc in
-      ready (OnObjects Dangling) p reach (inr (i, is, ap (λ x. find_entry x R.objects) same ∙ none))
+  stands_if : (id : List ℕ) → Reaches R m (entry id) → find_entry id R.objects ≡ None → ⊥
+  stands_if id reach none = (let r = referrer R m reach id refl none in ready (OnObjects Dangling) r.0 r.1 r.2)
 
   pub object_there : (id : List ℕ) → Reaches R m (entry id) → (o : Object) × (find_entry id R.objects ≡ Some o)
   object_there id reach = by (find_entry id R.objects) refl
     where
       by : (o : Option Object) → find_entry id R.objects ≡ o → (x : Object) × (find_entry id R.objects ≡ Some x)
-      by None h = absurd (stands_if reach id refl h)
+      by None h = absurd (stands_if id reach h)
       by (Some x) h = (x, h)
 
   module _ (whole : IsRepository R) (r : Reach) (has : HasReach R m r) where

@@ -19,3 +19,8 @@ pub mod SlotLists
 pub mod XmlTexts
 pub mod SortedTexts
 pub mod TypeForms
+pub mod RankedLists
+pub mod OneForm
+pub mod OneModel
+pub mod OneRefusal
+pub mod SomeModel

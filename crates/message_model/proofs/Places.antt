@@ -11,6 +11,7 @@ use Rattle.repo_objects.specs.declared.objects.Object.{Object}
 use Rattle.repo_objects.specs.Repository.{Entry, Contents, ids_of, IsRepository}
 use Rattle.reference_check.specs.Graph.{entry, find_entry}
 use Rattle.reference_check.specs.Reach.{rank_of}
+use Rattle.reference_check.proofs.Lookups.{IsFound}
 
 same_bytes : (x y : List ℕ) → bytes_eq x y ≡ true → x ≡ y
 same_bytes x y h = (bytes_eq-Decides x y).0 h
@@ -73,6 +74,13 @@ found_entry (a ∷ es) id o h = by (bytes_eq a.id id) refl (λ k. found_entry es
 
 pub id_at : (es : List Entry) (k : ℕ) (e : Entry) → slice_get es k ≡ Some e → slice_get (ids_of es) k ≡ Some e.id
 id_at es k e h = slice_get-map (λ (x : Entry). x.id) es k ∙ ap (option_map (λ (x : Entry). x.id)) h
+
+-- two ids that are found at one rank are the same
+pub found_once : (es : List Entry) (id other : List ℕ) (x : IsFound id es) (y : IsFound other es) → x.place ≡ y.place → id ≡ other
+found_once es id other x y places =
+    let both : Some x.there ≡ Some y.there = sym x.at ∙ (ap (slice_get es) places ∙ y.at) in
+    let entries : x.there ≡ y.there = cc in
+    sym x.named ∙ (ap (λ (e : Entry). e.id) entries ∙ y.named)
 
 module _ (R : Contents) (whole : IsRepository R) where
   differ : (i j : ℕ) (a b : Entry) → i < j → slice_get R.objects i ≡ Some a → slice_get R.objects j ≡ Some b → a.id ≡ b.id → ⊥

@@ -20,7 +20,7 @@ use Rattle.message_model.proofs.Places.{found_entry, finds_at, ranks_at}
 use Rattle.message_model.proofs.Compilable.{contains_at, at_contains}
 
 -- a rule of structure, or one of the others
-part : (r : Rule) → IsStructure r ⊎ IsTail r
+pub part : (r : Rule) → IsStructure r ⊎ IsTail r
 part rules.NoMessage = inl (omega arith)
 part rules.TwoMessages = inl (omega arith)
 part rules.Dangling = inl (omega arith)

@@ -3,6 +3,7 @@ use Rattle.std.proofs.Common.{◌≡◌, ℕ, zero, suc, ◌+◌, ◌<◌, ◌�
 use Rattle.std.specs.Prelude.{slice_get, Contains}
 use Rattle.std.specs.Option.{option_map}
 use Rattle.std.proofs.lemmas.Bool.{cases_lt}
+use Rattle.std.proofs.lemmas.List.{length-map}
 use Rattle.std.proofs.lemmas.Option.{slice_get-map, slice_get_within, slice_get_past, get_or_from_slice_get}
 use Rattle.repo_objects.specs.Repository.{Entry, Contents, IsRepository}
 use Rattle.reference_check.specs.declared.reached.Reach.{Reach}
@@ -18,6 +19,7 @@ use Rattle.message_model.specs.Views.{tables, type_entry}
 use Rattle.message_model.specs.declared.model.TypeInfo.{TypeInfo}
 use Rattle.message_model.specs.Sound.{IsSoundForm, AreSound, HaveCodes, AreLinked}
 use Rattle.message_model.specs.Ready.{IsReady, OnObjects}
+use Rattle.message_model.specs.Laws.{CompiledAreSound}
 use Rattle.message_model.specs.Compiled.{IsReachedList, Compiles, types, places_of, place_of, place_or_nowhere, place_word, place_name}
 use Rattle.message_model.specs.Numbers.{AreTypesOf, ids_at}
 use Rattle.message_model.proofs.Compilable.{object_there, at_contains, reached_list}
@@ -60,6 +62,15 @@ module _ (R : Contents) (m places : List ℕ) where
 
 -- ---- what follows
 
+-- as many types as places
+pub type_count : (R : Contents) (m : List ℕ) (ids : List (List ℕ)) (T : Tables) → Compiles R m ids T → length T.types ≡ length ids + 2
+type_count R m ids T made =
+    let words = ap length made.words in
+    let types = length-map T.types (λ (t : TypeEntry). t.word) in
+    let places = length-map (places_of ids) (place_word R) in
+    let entries = length-map ids entry in
+    omega (arith, words, types, places, entries)
+
 simple_back : {P : Type 0} (h : ℕ → P) (f : Form ℕ Simple) (s : Simple) → form_to h (λ x. x) f ≡ form.Simple s → f ≡ form.Simple s
 simple_back h (form.Simple t) s e = (let same : t ≡ s = cc in ap form.Simple same)
 simple_back h (form.Sequence slots) s e = absurd cc
@@ -79,7 +90,7 @@ slots_to h form.LeftOut = refl
 slots_to h form.Missing = refl
 
 module _ (R : Contents) (m : List ℕ) (ready : IsReady R m) (ids : List (List ℕ)) (list : IsReachedList R m ids) where
-  type_place : (n : ℕ) → IsTypePlace R m ready (place_of ids n)
+  pub type_place : (n : ℕ) → IsTypePlace R m ready (place_of ids n)
   type_place zero = tt
   type_place (suc zero) = tt
   type_place (suc (suc i)) = by (slice_get ids i) refl
@@ -118,7 +129,7 @@ module _ (R : Contents) (m : List ℕ) (ready : IsReady R m) (ids : List (List �
         ]
 
   -- how many
-  each_once : (i j : ℕ) (a : List ℕ) → i < j → slice_get ids i ≡ Some a → slice_get ids j ≡ Some a → ⊥
+  pub each_once : (i j : ℕ) (a : List ℕ) → i < j → slice_get ids i ≡ Some a → slice_get ids j ≡ Some a → ⊥
   each_once i j a lt ga gb =
       let up = list.ordered i j [] lt (slice_get_within ids j a gb) in
       let ia = get_or_from_slice_get ids i a [] ga in
@@ -137,22 +148,7 @@ module _ (R : Contents) (m : List ℕ) (ready : IsReady R m) (ids : List (List �
       there id inside none = (let found = object_there R m ready id ((list.reached id).0 inside) in let some = found.1 in cc)
 
   pub tables_few : (T : Tables) → Compiles R m ids T → length T.types ≤ 65538
-  tables_few T made = (let size = ap length made.words in let few = few_ids in omega (arith, size, few, long_types T.types, long_places ids))
-    where
-      long_types : (ts : List TypeEntry) → length (map (λ (t : TypeEntry). t.word) ts) ≡ length ts
-      long_types [] = refl
-      long_types (t ∷ ts) = ap suc (long_types ts)
-
-      long_words : (ps : List Place) → length (map (place_word R) ps) ≡ length ps
-      long_words [] = refl
-      long_words (p ∷ ps) = ap suc (long_words ps)
-
-      long_entries : (ids : List (List ℕ)) → length (map entry ids) ≡ length ids
-      long_entries [] = refl
-      long_entries (id ∷ ids) = ap suc (long_entries ids)
-
-      long_places : (ids : List (List ℕ)) → length (map (place_word R) (places_of ids)) ≡ length ids + 2
-      long_places ids = (let w = long_words (places_of ids) in let e = long_entries ids in omega (arith, w, e))
+  tables_few T made = (let count = type_count R m ids T made in let few = few_ids in omega (arith, count, few))
 
 long_ids : (es : List Entry) (places : List ℕ) → length (ids_at es places) ≡ length places
 long_ids es [] = refl
@@ -172,3 +168,6 @@ kept_few R m ready ids list ts made = (let few = tables_few R m ready ids list (
     long : (ts : List TypeInfo) → length (map type_entry ts) ≡ length ts
     long [] = refl
     long (t ∷ ts) = ap suc (long ts)
+
+pub compiled_are_sound : CompiledAreSound
+compiled_are_sound R m ids T ready list made = (tables_sound R m ready ids list T made, tables_codes R m ready ids list T made)

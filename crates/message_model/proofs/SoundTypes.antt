@@ -224,22 +224,35 @@ module _ (R : Contents) (m : List ℕ) (ready : IsReady R m) where
   money_object o object.External q number is h = absurd cc
   money_object o object.Other q number is h = absurd cc
 
-  pub types_codes : (p q : Place) (number : Simple) → IsTypePlace p → types R m p ≡ Money q number → (simple : Simple) × (types R m q ≡ form.Simple simple)
-  types_codes document q number at h = absurd (none (find_message m R.messages) h)
+  no_document_code : (q : Place) (number : Simple) → types R m document ≡ Money q number → ⊥
+  no_document_code q number h = none (find_message m R.messages) h
     where
       none : (d : Option MessageDef) → form_to (λ x. x) (facets_of R) (document_form d) ≡ Money q number → ⊥
       none None h = cc
       none (Some d) h = cc
-  types_codes message q number at h = absurd (none (find_message m R.messages) h)
+
+  no_message_code : (q : Place) (number : Simple) → types R m message ≡ Money q number → ⊥
+  no_message_code q number h = none (find_message m R.messages) h
     where
       none : (d : Option MessageDef) → form_to (λ x. x) (facets_of R) (message_form d) ≡ Money q number → ⊥
       none None h = cc
       none (Some d) h = cc
-  types_codes (entry id) q number at h =
+
+  -- the currency set of an amount
+  currency_at : (id : List ℕ) (q : Place) (number : Simple) → Reaches R m (entry id) → types R m (entry id) ≡ Money q number
+      → (c : List ℕ) × (currency_of R (entry id) ≡ Some c) × (q ≡ entry c)
+  currency_at id q number at h =
       let there = object_there R m ready id at in
       let form : form_to (λ x. x) (facets_of R) (object_form R there.0 there.0.kind) ≡ Money q number = ap (λ x. form_to (λ q. q) (facets_of R) (entry_form R x)) (sym there.1) ∙ h in
       let r = money_object there.0 there.0.kind q number refl form in
-      let c = code_form id r.0 at (ap currency_or_none there.1 ∙ r.1) in
+      (r.0, ap currency_or_none there.1 ∙ r.1, r.2)
+
+  pub types_codes : (p q : Place) (number : Simple) → IsTypePlace p → types R m p ≡ Money q number → (simple : Simple) × (types R m q ≡ form.Simple simple)
+  types_codes document q number at h = absurd (no_document_code q number h)
+  types_codes message q number at h = absurd (no_message_code q number h)
+  types_codes (entry id) q number at h =
+      let r = currency_at id q number at h in
+      let c = code_form id r.0 at r.1 in
       (c.0, ap (types R m) r.2 ∙ c.1)
   types_codes nowhere q number at h = absurd cc
 
@@ -271,50 +284,71 @@ module _ (R : Contents) (m : List ℕ) (ready : IsReady R m) where
           let some : form_to (λ q. q) (facets_of R) (message_form (Some d)) ≡ Missing = ap (λ x. form_to (λ q. q) (facets_of R) (message_form x)) (sym f) ∙ h in
           cc
 
-  target_there : (p : Place) → Reaches R m p → (e : ElementDef) → Contains (elements_of R m p) e → types R m (slot_of e).target ≡ Missing → ⊥
-  target_there p reach e inside h = by (references e) refl
+  -- a type that is led to: the message, or an object that it reaches
+  abbrev pub IsTarget : Place → Type 0
+  IsTarget document = ⊥
+  IsTarget message = Unit {0}
+  IsTarget (entry id) = Reaches R m (entry id)
+  IsTarget nowhere = ⊥
+
+  target_there : (q : Place) → IsTarget q → types R m q ≡ Missing → ⊥
+  target_there document at h = at
+  target_there message at h = message_there h
+  target_there (entry id) at h = entry_there id at h
+  target_there nowhere at h = at
+
+  element_leads : (p : Place) → Reaches R m p → (e : ElementDef) → Contains (elements_of R m p) e → IsTarget (slot_of e).target
+  element_leads p reach e inside = by (references e) refl
     where
-      by : (ids : List (List ℕ)) → references e ≡ ids → ⊥
-      by [] k = ready (OnObjects NotOneReference) p reach (e, inside, λ one. omega (arith, one, ap length k))
+      by : (ids : List (List ℕ)) → references e ≡ ids → IsTarget (slot_of e).target
+      by [] k = absurd (ready (OnObjects NotOneReference) p reach (e, inside, λ one. omega (arith, one, ap length k)))
       by (id ∷ []) k =
           let named : Contains (references e) id = subst (λ ids. Contains ids id) (sym k) (0, omega arith, refl) in
-          entry_there id (element reach inside named) (ap (λ ids. types R m (one_of ids)) (sym k) ∙ h)
-      by (id ∷ (other ∷ ids)) k = ready (OnObjects NotOneReference) p reach (e, inside, λ one. omega (arith, one, ap length k))
+          subst (λ ids. IsTarget (one_of ids)) (sym k) (element reach inside named)
+      by (id ∷ (other ∷ ids)) k = absurd (ready (OnObjects NotOneReference) p reach (e, inside, λ one. omega (arith, one, ap length k)))
 
   -- of elements that are among those of a place
-  among_there : (p : Place) → Reaches R m p → (es : List ElementDef) → elements_of R m p ≡ es → (k : ℕ) (s : Slot Place) → slice_get (slots_by es) k ≡ Some s
-      → types R m s.target ≡ Missing → ⊥
-  among_there p reach es are k s at h =
+  among_leads : (p : Place) → Reaches R m p → (es : List ElementDef) → elements_of R m p ≡ es → (k : ℕ) (s : Slot Place) → slice_get (slots_by es) k ≡ Some s → IsTarget s.target
+  among_leads p reach es are k s at =
       let e = slot_from es k s at in
       let inside : Contains (elements_of R m p) e.0 = subst (λ xs. Contains xs e.0) (sym are) (at_contains es e.0 k e.1) in
-      target_there p reach e.0 inside (ap (λ (x : Slot Place). types R m x.target) (sym e.2) ∙ h)
+      subst (λ (x : Slot Place). IsTarget x.target) (sym e.2) (element_leads p reach e.0 inside)
 
-  kind_there : (id : List ℕ) (o : Object) (reach : Reaches R m (entry id)) (found : find_entry id R.objects ≡ Some o) (kind : ObjectKind) → o.kind ≡ kind
-      → (k : ℕ) (s : Slot Place) → slice_get (form_slots (form_to (λ q. q) (facets_of R) (object_form R o kind))) k ≡ Some s → types R m s.target ≡ Missing → ⊥
-  kind_there id o reach found (object.Simple kind) is k s at h = none kind o.currency at
+  kind_leads : (id : List ℕ) (o : Object) (reach : Reaches R m (entry id)) (found : find_entry id R.objects ≡ Some o) (kind : ObjectKind) → o.kind ≡ kind
+      → (k : ℕ) (s : Slot Place) → slice_get (form_slots (form_to (λ q. q) (facets_of R) (object_form R o kind))) k ≡ Some s → IsTarget s.target
+  kind_leads id o reach found (object.Simple kind) is k s at = absurd (none kind o.currency at)
     where
       none : (kind : Kinds) (c : Option (List ℕ)) → slice_get (form_slots (form_to (λ q. q) (facets_of R) (simple_form R o kind c))) k ≡ Some s → ⊥
       none kinds.Amount None at = cc
       none kinds.Amount (Some c) at = cc
       none _ c at = cc
-  kind_there id o reach found object.Component is k s at h = among_there (entry id) reach o.elements (ap elements_or_none found ∙ ap (λ x. kind_elements x o.elements) is) k s at h
-  kind_there id o reach found object.Choice is k s at h = among_there (entry id) reach o.elements (ap elements_or_none found ∙ ap (λ x. kind_elements x o.elements) is) k s at h
-  kind_there id o reach found object.External is k s at h = cc
-  kind_there id o reach found object.Other is k s at h = cc
+  kind_leads id o reach found object.Component is k s at = among_leads (entry id) reach o.elements (ap elements_or_none found ∙ ap (λ x. kind_elements x o.elements) is) k s at
+  kind_leads id o reach found object.Choice is k s at = among_leads (entry id) reach o.elements (ap elements_or_none found ∙ ap (λ x. kind_elements x o.elements) is) k s at
+  kind_leads id o reach found object.External is k s at = absurd cc
+  kind_leads id o reach found object.Other is k s at = absurd cc
+
+  pub types_lead : (p : Place) → IsTypePlace p → (k : ℕ) (s : Slot Place) → slice_get (form_slots (types R m p)) k ≡ Some s → IsTarget s.target
+  types_lead document at k s there = by (find_message m R.messages) k there
+    where
+      by : (d : Option MessageDef) (k : ℕ) → slice_get (form_slots (form_to (λ q. q) (facets_of R) (document_form d))) k ≡ Some s → IsTarget s.target
+      by None k there = absurd cc
+      by (Some d) zero there = subst (λ (x : Slot Place). IsTarget x.target) (same_Some (record { tag = d.tag; min = 1; max = Some 1; target = message }) s there) tt
+      by (Some d) (suc k) there = absurd cc
+  types_lead message at k s there = by (find_message m R.messages) refl there
+    where
+      by : (d : Option MessageDef) → find_message m R.messages ≡ d → slice_get (form_slots (form_to (λ q. q) (facets_of R) (message_form d))) k ≡ Some s → IsTarget s.target
+      by None f there = absurd cc
+      by (Some d) f there = among_leads message itself d.blocks (ap blocks_or_none f) k s there
+  types_lead (entry id) at k s there =
+      let found = object_there R m ready id at in
+      kind_leads id found.0 at found.1 found.0.kind refl k s (subst (λ x. slice_get (form_slots (form_to (λ q. q) (facets_of R) (entry_form R x))) k ≡ Some s) found.1 there)
+  types_lead nowhere at k s there = absurd cc
 
   pub types_linked : (p : Place) → IsTypePlace p → (k : ℕ) (s : Slot Place) → slice_get (form_slots (types R m p)) k ≡ Some s → types R m s.target ≡ Missing → ⊥
-  types_linked document at k s there h = by (find_message m R.messages) k there
-    where
-      by : (d : Option MessageDef) (k : ℕ) → slice_get (form_slots (form_to (λ q. q) (facets_of R) (document_form d))) k ≡ Some s → ⊥
-      by None k there = cc
-      by (Some d) zero there = message_there (ap (λ (x : Slot Place). types R m x.target) (same_Some (record { tag = d.tag; min = 1; max = Some 1; target = message }) s there) ∙ h)
-      by (Some d) (suc k) there = cc
-  types_linked message at k s there h = by (find_message m R.messages) refl there
-    where
-      by : (d : Option MessageDef) → find_message m R.messages ≡ d → slice_get (form_slots (form_to (λ q. q) (facets_of R) (message_form d))) k ≡ Some s → ⊥
-      by None f there = cc
-      by (Some d) f there = among_there message itself d.blocks (ap blocks_or_none f) k s there h
-  types_linked (entry id) at k s there h =
-      let found = object_there R m ready id at in
-      kind_there id found.0 at found.1 found.0.kind refl k s (subst (λ x. slice_get (form_slots (form_to (λ q. q) (facets_of R) (entry_form R x))) k ≡ Some s) found.1 there) h
-  types_linked nowhere at k s there h = cc
+  types_linked p at k s there h = target_there s.target (types_lead p at k s there) h
+
+  pub code_leads : (p q : Place) (number : Simple) → IsTypePlace p → types R m p ≡ Money q number → IsTarget q
+  code_leads document q number at h = absurd (no_document_code q number h)
+  code_leads message q number at h = absurd (no_message_code q number h)
+  code_leads (entry id) q number at h = (let c = currency_at id q number at h in subst IsTarget (sym c.2) (currency at c.1))
+  code_leads nowhere q number at h = absurd cc

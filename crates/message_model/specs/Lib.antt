@@ -13,3 +13,4 @@ pub mod Compiled
 pub mod Numbers
 pub mod FirstPlaces
 pub mod Sorted
+pub mod Laws

@@ -5,3 +5,5 @@ pub mod Steps
 pub mod Performing
 pub mod TypeLines
 pub mod Messages
+pub mod OneAnswer
+pub mod SomeAnswer

@@ -16,8 +16,10 @@ use Rattle.xml_instances.specs.Checking.{fault_of}
 use Rattle.transcoder.specs.Checked.{IsAccepted}
 use Rattle.xsd_model.specs.SchemaOf.{schema_of}
 use Rattle.xsd_model.specs.SchemaText.{schema_text}
+use Rattle.asn1_model.specs.ModuleOf.{module_of}
+use Rattle.asn1_model.specs.ModuleText.{module_text}
 use Rattle.repo_engine.specs.declared.command.Verb.{Verb}
-use Rattle.repo_engine.specs.declared.command.Verb.TheVariants.{Types, Xsd, CheckXml}
+use Rattle.repo_engine.specs.declared.command.Verb.TheVariants.{Types, Xsd, Asn1, CheckXml}
 use Rattle.repo_engine.specs.declared.refusal.Refusal.TheVariants.{Words, Repository, Codes, Message, Instance}
 use Rattle.repo_engine.specs.Command.{Command, list, message, HasForm, IsUnlisted, hands_in}
 use Rattle.repo_engine.specs.Steps.{Then}
@@ -73,6 +75,9 @@ GivesTypes T v = v ≡ accepted (types_text 0 T.types)
 abbrev pub GivesSchema : Tables → Verdict → Type 0
 GivesSchema T v = v ≡ accepted (schema_text (schema_of T))
 
+abbrev pub GivesModule : Tables → Verdict → Type 0
+GivesModule T v = v ≡ accepted (module_text (module_of T))
+
 -- the bytes are an instance of the message, or have this first fault
 pub data ChecksXml (T : Tables) (i : List ℕ) (v : Verdict) : Type 0 where
   spelled : IsAccepted T i → v ≡ accepted (codes "accepted\n") → ChecksXml T i v
@@ -82,6 +87,7 @@ pub data ChecksXml (T : Tables) (i : List ℕ) (v : Verdict) : Type 0 where
 abbrev pub OfVerb : Verb → List ℕ → Tables → Verdict → Type 0
 OfVerb Types i T v = GivesTypes T v
 OfVerb Xsd i T v = GivesSchema T v
+OfVerb Asn1 i T v = GivesModule T v
 OfVerb CheckXml i T v = ChecksXml T i v
 
 -- the verdict of a command on the bytes r, c and i of the repository, the codes and the instance

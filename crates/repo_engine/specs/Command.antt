@@ -4,7 +4,7 @@ use Rattle.std.specs.Global.{Global}
 use Rattle.std.specs.Str.{bytes_eq}
 use Rattle.repo_objects.specs.MessageId.{IsMessageId}
 use Rattle.repo_engine.specs.declared.command.Verb.{Verb}
-use Rattle.repo_engine.specs.declared.command.Verb.TheVariants.{Types, Xsd, CheckXml}
+use Rattle.repo_engine.specs.declared.command.Verb.TheVariants.{Types, Xsd, Asn1, CheckXml}
 
 -- the words, each by its bytes
 abbrev pub texts : List (String Global) → List (List ℕ)
@@ -20,12 +20,14 @@ pub data Command : Type 0 where
 abbrev pub verb_word : Verb → List ℕ
 verb_word Types = codes "types"
 verb_word Xsd = codes "xsd"
+verb_word Asn1 = codes "asn1"
 verb_word CheckXml = codes "check-xml"
 
 -- whether it reads an instance
 abbrev pub reads_instance : Verb → Bool
 reads_instance Types = false
 reads_instance Xsd = false
+reads_instance Asn1 = false
 reads_instance CheckXml = true
 
 -- the words have the form of the command, word for word

@@ -13,6 +13,8 @@ pub enum Verb {
     Types,
     /// `xsd`: the XML Schema of the message.
     Xsd,
+    /// `asn1`: the ASN.1 module of the message.
+    Asn1,
     /// `check-xml`: whether the bytes are an XML instance of the message.
     CheckXml,
 }
@@ -121,6 +123,8 @@ fn verb_of(word: &[u8]) -> Option<Verb>
         Some(Verb::Types)
     } else if word == b"xsd".as_slice() {
         Some(Verb::Xsd)
+    } else if word == b"asn1".as_slice() {
+        Some(Verb::Asn1)
     } else if word == b"check-xml".as_slice() {
         Some(Verb::CheckXml)
     } else {

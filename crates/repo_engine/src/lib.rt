@@ -1,9 +1,11 @@
 //! The commands of `isorepo`: from words and bytes to a status and what is written.
 #![tactic(auto)]
 
+mod asn1;
 mod check;
 mod command;
 mod engine;
+pub mod laws;
 mod list;
 mod message;
 mod note;

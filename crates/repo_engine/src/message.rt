@@ -6,6 +6,7 @@ ghost use Rattle.repo_engine.specs.Command.{hands_in, reads_instance};
 ghost use Rattle.repo_engine.specs.Run.{GoesOut, Tells};
 ghost use Rattle.repo_engine.specs.Sources.{AreRead, AreReadInTurn, Failing, ended_of, of_source, stop_ended};
 
+use super::asn1::give_module;
 use super::check::check;
 use super::command::Verb;
 use super::refusal::{Refusal, Stop};
@@ -104,6 +105,7 @@ fn on_model<I: Source, O: Sink>(
     match verb {
         Verb::Types => give_types(model, out),
         Verb::Xsd => give_schema(alloc, model, out),
+        Verb::Asn1 => give_module(alloc, model, out),
         Verb::CheckXml => check(alloc, model, inst, out),
     }
 }

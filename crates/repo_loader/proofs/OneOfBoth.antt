@@ -7,7 +7,7 @@ use Rattle.lexical_core.specs.declared.rule.Rule.{Rule}
 use Rattle.lexical_core.specs.declared.rule.Rule.TheVariants.{Truncated}
 use Rattle.markup.specs.Token.{Token}
 use Rattle.markup.specs.Marks.{Front, Cell, tag_limit}
-use Rattle.markup.specs.Faults.{Fault, MarkFault, IsWhole, IsClean, Next, broken as next_broken, halts, cut, too_long}
+use Rattle.markup.specs.Faults.{Fault, MarkFault, IsWhole, IsClean, Next, broken as next_broken, halts, cut, too_long, WholeOrFaulty}
 use Rattle.markup.proofs.NoCut.{is_cut_rule, NoCut, rule_no_cut}
 use Rattle.markup.proofs.TokenLaw.{one_token}
 use Rattle.markup.proofs.OneFault.{past, behind, one_fault, whole_has_none}
@@ -137,7 +137,7 @@ module _ (bytes : List ℕ) (none_spelled : (x : Contents) → Spells bytes x �
           (long m.tokens more (record { rest = m.rest; front = m.front; longest = λ us y g. cut_longest tag_limit [] (take limit bytes) y m.rest m.tokens us f.rule m.at m.front (subst (λ v. Next tag_limit v m.rest f.rule m.at) (behind m.tokens) m.next) e g }) m.clean
           (λ g k. ap (λ (x : Fault). x.rule) (one_fault (take limit bytes) g f k m) ∙ e) sound refl))
 
-pub one_of_both : OneOfBoth
+pub one_of_both : WholeOrFaulty → OneOfBoth
 one_of_both given bytes none_spelled none_fault = by (given (take limit bytes))
   where
     by : IsWhole (take limit bytes) ⊎ ((f : Fault) × MarkFault (take limit bytes) f) → ⊥

@@ -1,8 +1,7 @@
 -- What follows of the definitions.
-use Rattle.std.specs.Prelude.{◌≡◌, ◌⊎◌, ℕ, List, [], map}
+use Rattle.std.specs.Prelude.{◌≡◌, ℕ, List, [], map}
 use Rattle.lexical_core.specs.Tree.{Tree, TreeIs}
 use Rattle.markup.specs.Events.{Placed}
-use Rattle.markup.specs.Faults.{Fault, MarkFault, IsWhole}
 use Rattle.repo_objects.specs.Repository.{Contents}
 use Rattle.repo_loader.specs.declared.fault.LoadFault.{LoadFault}
 use Rattle.repo_loader.specs.Selected.{tree_tags, event_tags}
@@ -25,10 +24,6 @@ OneLoadFault = (bytes : List ℕ) (f g : LoadFault) → HasLoadFault bytes f →
 abbrev pub SpelledHasNone : Type 0
 SpelledHasNone = (bytes : List ℕ) (x : Contents) (f : LoadFault) → Spells bytes x → HasLoadFault bytes f → ⊥
 
--- Each input is whole markup, or has a first fault of it.
-abbrev pub IsWholeOrFaulty : Type 0
-IsWholeOrFaulty = (bytes : List ℕ) → IsWhole bytes ⊎ ((f : Fault) × MarkFault bytes f)
-
--- Where that is so, no bytes are without both a repository and a first fault.
+-- No bytes are without both a repository and a first fault.
 abbrev pub OneOfBoth : Type 0
-OneOfBoth = IsWholeOrFaulty → (bytes : List ℕ) → ((x : Contents) → Spells bytes x → ⊥) → ((f : LoadFault) → HasLoadFault bytes f → ⊥) → ⊥
+OneOfBoth = (bytes : List ℕ) → ((x : Contents) → Spells bytes x → ⊥) → ((f : LoadFault) → HasLoadFault bytes f → ⊥) → ⊥

@@ -21,8 +21,9 @@ pub fn spelled_has_none()
     ensures { SpelledHasNone }
 {}
 
-/// Every input spells a repository or has a first fault, given that every input is whole markup or
-/// has a first fault of it.
+/// No input neither spells a repository nor has a first fault.
 pub fn one_of_both()
     ensures { OneOfBoth }
-{}
+{
+    markup::laws::whole_or_faulty();
+}

@@ -1,2 +1,3 @@
 pub mod OneVerdict
 pub mod Readings
+pub mod SomeVerdict

@@ -1,7 +1,7 @@
 -- Bytes are accepted or have one first fault.
 use Rattle.std.proofs.Common.{◌≡◌, ℕ, ◌<◌, ◌≤◌, List, length, take, sym, ap, ◌∙◌, arith}
 use Rattle.message_model.specs.Message.{Message}
-use Rattle.message_model.specs.Tables.{Tables, message_of}
+use Rattle.message_model.specs.Tables.{message_of}
 use Rattle.xml_instances.specs.XmlFaults.{Fault, LimitedFault, whole, early, cut, behind, limit, too_long}
 use Rattle.xml_instances.specs.Laws.{OneXmlFault, SpelledHasNone}
 use Rattle.transcoder.specs.Checked.{IsAccepted}

@@ -4,7 +4,7 @@ use Rattle.message_model.specs.Tables.{Tables, message_of}
 use Rattle.xml_instances.specs.XmlFaults.{limit, LimitedFault}
 use Rattle.xml_instances.specs.Checking.{IsSpelled, fault_of}
 use Rattle.transcoder.specs.declared.check_error.CheckError.{CheckError}
-use Rattle.transcoder.specs.declared.check_error.CheckError.TheVariants.{Refused, ReadFault, Memory}
+use Rattle.transcoder.specs.declared.check_error.CheckError.TheVariants.{Refused}
 
 -- They spell a value that the message admits, and are no more than the limit.
 abbrev pub IsAccepted : Tables → List ℕ → Type 0

@@ -25,3 +25,4 @@ pub mod Completion
 pub mod OpenLaw
 pub mod CleanFronts
 pub mod OpenRows
+pub mod SomeFault

@@ -1,68 +1,51 @@
 -- Lists of names in which none stands twice.
-use Rattle.std.proofs.Common.{◌≡◌, ◌⊎◌, ℕ, zero, suc, ◌<◌, inl, inr, List, [], ◌∷◌, ◌++◌, flat_map, Some, refl, sym, ap, ◌∙◌, arith}
-use Rattle.std.specs.Prelude.{slice_get}
-use Rattle.std.proofs.lemmas.Option.{same_Some}
-use Rattle.xsd_model.specs.SchemaOf.{AreDistinct}
+use Rattle.std.proofs.Common.{◌≡◌, ℕ, suc, ◌<◌, false, inl, inr, List, [], ◌∷◌, ◌++◌, flat_map, Some, refl, sym, subst, arith}
+use Rattle.std.specs.Prelude.{slice_get, Contains}
+use Rattle.std.specs.List.{AllByRecursion, IsDistinct}
+use Rattle.std.specs.Str.{bytes_eq}
+use Rattle.std.proofs.lemmas.List.Elements.{Contains-append_right, Contains-append_cases}
+use Rattle.std.proofs.lemmas.Map.Keys.{IsDistinct-head, IsDistinct-tail, IsDistinct-cons, IsDistinct-from_apart}
+use Rattle.reference_check.proofs.Entries.{bytes_differ}
+use Rattle.reference_check.proofs.Lookups.{first_in}
 
--- the name stands in the list
-abbrev pub StandsIn : List ℕ → List (List ℕ) → Type 0
-StandsIn name list = (k : ℕ) × (slice_get list k ≡ Some name)
+-- what holds of each name in a list
+pub all_from : (P : List ℕ → Type 0) (xs : List (List ℕ)) → ((name : List ℕ) → Contains xs name → P name) → AllByRecursion P xs
+all_from P [] each = tt
+all_from P (x ∷ xs) each = (each x (first_in x xs), all_from P xs (λ name has. each name (Contains-append_right (x ∷ []) xs name has)))
 
-pub distinct_none : AreDistinct []
-distinct_none i j name e f = absurd cc
+all_append : (P : List ℕ → Type 0) (xs ys : List (List ℕ)) → AllByRecursion P xs → AllByRecursion P ys → AllByRecursion P (xs ++ ys)
+all_append P [] ys all later = later
+all_append P (x ∷ xs) ys all later = (all.0, all_append P xs ys all.1 later)
 
-pub distinct_one : (a : List ℕ) → AreDistinct (a ∷ [])
-distinct_one a zero zero name e f = refl
-distinct_one a zero (suc j) name e f = absurd cc
-distinct_one a (suc i) j name e f = absurd cc
+pub distinct_none : IsDistinct bytes_eq []
+distinct_none = IsDistinct-from_apart bytes_eq [] (λ i j d lt below. absurd (omega (arith, below)))
 
-pub distinct_two : (a b : List ℕ) → (a ≡ b → ⊥) → AreDistinct (a ∷ (b ∷ []))
-distinct_two a b apart zero zero name e f = refl
-distinct_two a b apart zero (suc zero) name e f = absurd (apart (same_Some a name e ∙ sym (same_Some b name f)))
-distinct_two a b apart (suc zero) zero name e f = absurd (apart (same_Some a name f ∙ sym (same_Some b name e)))
-distinct_two a b apart (suc zero) (suc zero) name e f = refl
-distinct_two a b apart zero (suc (suc j)) name e f = absurd cc
-distinct_two a b apart (suc zero) (suc (suc j)) name e f = absurd cc
-distinct_two a b apart (suc (suc i)) j name e f = absurd cc
+pub distinct_one : (a : List ℕ) → IsDistinct bytes_eq (a ∷ [])
+distinct_one a = IsDistinct-cons bytes_eq a [] tt distinct_none
 
--- ---- lists behind each other
+pub distinct_two : (a b : List ℕ) → (a ≡ b → ⊥) → IsDistinct bytes_eq (a ∷ (b ∷ []))
+distinct_two a b apart = IsDistinct-cons bytes_eq a (b ∷ []) (bytes_differ a b apart, tt) (distinct_one b)
 
-get_append : (xs ys : List (List ℕ)) (i : ℕ) (name : List ℕ) → slice_get (xs ++ ys) i ≡ Some name → StandsIn name xs ⊎ StandsIn name ys
-get_append [] ys i name e = inr (i, e)
-get_append (x ∷ xs) ys zero name e = inl (0, e)
-get_append (x ∷ xs) ys (suc i) name e = elim (get_append xs ys i name e) [ inl h ↦ inl (suc h.0, h.1) | inr h ↦ inr h ]
-
-abbrev Apart : List (List ℕ) → List (List ℕ) → Type 0
-Apart xs ys = (name : List ℕ) → StandsIn name xs → StandsIn name ys → ⊥
-
-first_apart : (x : List ℕ) (xs ys : List (List ℕ)) → AreDistinct (x ∷ xs) → Apart (x ∷ xs) ys → (j : ℕ) (name : List ℕ) → Some x ≡ Some name → slice_get (xs ++ ys) j ≡ Some name → ⊥
-first_apart x xs ys d apart j name e f = elim (get_append xs ys j name f) [
-  | inl h ↦ (let same : 0 ≡ suc h.0 = d 0 (suc h.0) name e h.1 in omega (arith, same))
-  | inr h ↦ apart name (0, e) h
-]
-
-distinct_append : (xs ys : List (List ℕ)) → AreDistinct xs → AreDistinct ys → Apart xs ys → AreDistinct (xs ++ ys)
-distinct_append [] ys d s apart i j name e f = s i j name e f
-distinct_append (x ∷ xs) ys d s apart zero zero name e f = refl
-distinct_append (x ∷ xs) ys d s apart zero (suc j) name e f = absurd (first_apart x xs ys d apart j name e f)
-distinct_append (x ∷ xs) ys d s apart (suc i) zero name e f = absurd (first_apart x xs ys d apart i name f e)
-distinct_append (x ∷ xs) ys d s apart (suc i) (suc j) name e f =
-    let tail : AreDistinct xs = λ a b n g h. (let same : suc a ≡ suc b = d (suc a) (suc b) n g h in omega (arith, same)) in
-    ap suc (distinct_append xs ys tail s (λ n g h. apart n (suc g.0, g.1) h) i j name e f)
+distinct_append : (xs ys : List (List ℕ)) → IsDistinct bytes_eq xs → IsDistinct bytes_eq ys → ((name : List ℕ) → Contains xs name → Contains ys name → ⊥) → IsDistinct bytes_eq (xs ++ ys)
+distinct_append [] ys own later apart = later
+distinct_append (x ∷ xs) ys own later apart =
+    let other : AllByRecursion (λ name. bytes_eq x name ≡ false) ys =
+    all_from (λ name. bytes_eq x name ≡ false) ys (λ name has. bytes_differ x name (λ same. apart x (first_in x xs) (subst (λ n. Contains ys n) (sym same) has))) in
+    IsDistinct-cons bytes_eq x (xs ++ ys) (all_append (λ name. bytes_eq x name ≡ false) xs ys (IsDistinct-head bytes_eq x xs own) other)
+    (distinct_append xs ys (IsDistinct-tail bytes_eq x xs own) later (λ name has. apart name (Contains-append_right (x ∷ []) xs name has)))
 
 -- ---- the names of one after the other
 
-pub get_flat : {A : Type 0} (f : A → List (List ℕ)) (xs : List A) (i : ℕ) (name : List ℕ) → slice_get (flat_map f xs) i ≡ Some name
-    → (a : ℕ) × (x : A) × (slice_get xs a ≡ Some x) × StandsIn name (f x)
-get_flat f [] i name e = absurd cc
-get_flat f (x ∷ xs) i name e = elim (get_append (f x) (flat_map f xs) i name e) [
-  | inl h ↦ (0, x, refl, h)
-  | inr h ↦ (let r = get_flat f xs h.0 name h.1 in (suc r.0, r.1, r.2, r.3))
+pub in_some : {A : Type 0} (f : A → List (List ℕ)) (xs : List A) (name : List ℕ) → Contains (flat_map f xs) name → (k : ℕ) × (x : A) × (slice_get xs k ≡ Some x) × Contains (f x) name
+in_some f [] name has = (let below = has.1 in absurd (omega (arith, below)))
+in_some f (x ∷ xs) name has = elim (Contains-append_cases (f x) (flat_map f xs) name has) [
+  | inl own ↦ (0, x, refl, own)
+  | inr later ↦ (let r = in_some f xs name later in (suc r.0, r.1, r.2, r.3))
 ]
 
-pub distinct_flat : {A : Type 0} (f : A → List (List ℕ)) (xs : List A) → ((x : A) → AreDistinct (f x))
-    → ((a b : ℕ) (x y : A) (name : List ℕ) → a < b → slice_get xs a ≡ Some x → slice_get xs b ≡ Some y → StandsIn name (f x) → StandsIn name (f y) → ⊥) → AreDistinct (flat_map f xs)
+pub distinct_flat : {A : Type 0} (f : A → List (List ℕ)) (xs : List A) → ((x : A) → IsDistinct bytes_eq (f x))
+    → ((a b : ℕ) (x y : A) (name : List ℕ) → a < b → slice_get xs a ≡ Some x → slice_get xs b ≡ Some y → Contains (f x) name → Contains (f y) name → ⊥) → IsDistinct bytes_eq (flat_map f xs)
 distinct_flat f [] own apart = distinct_none
 distinct_flat f (x ∷ xs) own apart =
     distinct_append (f x) (flat_map f xs) (own x) (distinct_flat f xs own (λ a b y z name lt. apart (suc a) (suc b) y z name (omega (arith, lt))))
-    (λ name g h. let r = get_flat f xs h.0 name h.1 in apart 0 (suc r.0) x r.1 name (omega arith) refl r.2 g r.3)
+    (λ name has later. let r = in_some f xs name later in apart 0 (suc r.0) x r.1 name (omega arith) refl r.2 has r.3)

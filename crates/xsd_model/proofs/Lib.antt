@@ -8,10 +8,9 @@ pub mod SchemaNames
 pub mod SchemaLaw
 pub mod Rows
 pub mod Renamed
-pub mod StableSort
 pub mod Sorted
+pub mod TypeLemmas
 pub mod DistinctNames
 pub mod ReadyFacets
 pub mod ReadyNames
 pub mod ReadySchema
-pub mod TypeLemmas

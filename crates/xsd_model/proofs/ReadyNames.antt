@@ -1,6 +1,8 @@
 -- The names that a schema gives the types of a message that breaks no rule: each once, and none is empty.
 use Rattle.std.proofs.Common.{◌≡◌, ◌⊎◌, ℕ, zero, suc, ◌<◌, false, inl, inr, List, [], ◌∷◌, ◌++◌, length, map, flat_map, get_or, Option, Some, None, refl, sym, ap, ap₂, subst, ◌∙◌, arith, length-append}
 use Rattle.std.specs.Prelude.{slice_get, codes, Contains}
+use Rattle.std.specs.List.{AllByRecursion, IsDistinct}
+use Rattle.std.specs.Str.{bytes_eq}
 use Rattle.std.proofs.lemmas.List.{map-append}
 use Rattle.std.proofs.lemmas.Option.{same_Some, slice_get_within, get_or_from_slice_get}
 use Rattle.facets.specs.declared.simple.Simple.{Simple}
@@ -23,8 +25,8 @@ use Rattle.message_model.specs.Tables.{Tables, TypeEntry, form_or_missing}
 use Rattle.message_model.specs.Compiled.{IsReachedList, types, places_of, place_or_nowhere, place_name, object_name, message_name}
 use Rattle.message_model.proofs.Compilable.{object_there, at_contains}
 use Rattle.xsd_model.specs.declared.schema.SchemaType.{SchemaType}
-use Rattle.xsd_model.specs.SchemaOf.{names, name_of, base_name, types_by, types_of_entry, AreDistinct}
-use Rattle.xsd_model.proofs.DistinctNames.{StandsIn, distinct_none, distinct_one, distinct_two, get_flat, distinct_flat}
+use Rattle.xsd_model.specs.SchemaOf.{names, name_of, base_name, types_by, types_of_entry}
+use Rattle.xsd_model.proofs.DistinctNames.{distinct_none, distinct_one, distinct_two, all_from, in_some, distinct_flat}
 use Rattle.xsd_model.proofs.ReadyFacets.{message_found}
 use Rattle.xsd_model.proofs.Sequences.{slice_get-back}
 
@@ -57,7 +59,7 @@ names_to h own form.Missing = refl
 base_apart : (own : List ℕ) → base_name own ≡ own → ⊥
 base_apart own e = (let long = length-append own (codes "_SimpleType") in let same = ap length e in omega (arith, long, same))
 
-distinct_by : {P : Type 0} (own : List ℕ) (F : Form P Simple) → AreDistinct (names_by own F)
+distinct_by : {P : Type 0} (own : List ℕ) (F : Form P Simple) → IsDistinct bytes_eq (names_by own F)
 distinct_by own (form.Sequence slots) = distinct_one own
 distinct_by own (form.Choice slots) = distinct_one own
 distinct_by own (form.Simple simple) = distinct_one own
@@ -67,20 +69,20 @@ distinct_by own form.LeftOut = distinct_none
 distinct_by own form.Missing = distinct_none
 
 -- what stands in a list of one or of two
-one_of : (a name : List ℕ) → StandsIn name (a ∷ []) → a ≡ name
-one_of a name (zero, e) = same_Some a name e
-one_of a name (suc k, e) = absurd cc
+one_of : (a name : List ℕ) → Contains (a ∷ []) name → a ≡ name
+one_of a name (zero, below, e) = e
+one_of a name (suc k, below, e) = absurd (omega (arith, below))
 
-two_of : (a b name : List ℕ) → StandsIn name (a ∷ (b ∷ [])) → (a ≡ name) ⊎ (b ≡ name)
-two_of a b name (zero, e) = inl (same_Some a name e)
-two_of a b name (suc zero, e) = inr (same_Some b name e)
-two_of a b name (suc (suc k), e) = absurd cc
+two_of : (a b name : List ℕ) → Contains (a ∷ (b ∷ [])) name → (a ≡ name) ⊎ (b ≡ name)
+two_of a b name (zero, below, e) = inl e
+two_of a b name (suc zero, below, e) = inr e
+two_of a b name (suc (suc k), below, e) = absurd (omega (arith, below))
 
-none_of : {T : Type 0} (name : List ℕ) → StandsIn name [] → T
-none_of name (k, e) = absurd cc
+none_of : {T : Type 0} (name : List ℕ) → Contains [] name → T
+none_of name (k, below, e) = absurd (omega (arith, below))
 
 -- none of the names is empty, where the type's own is not
-some_by : {P : Type 0} (own : List ℕ) (F : Form P Simple) (name : List ℕ) → 0 < length own → StandsIn name (names_by own F) → 0 < length name
+some_by : {P : Type 0} (own : List ℕ) (F : Form P Simple) (name : List ℕ) → 0 < length own → Contains (names_by own F) name → 0 < length name
 some_by own (form.Sequence slots) name some has = subst (λ x. 0 < length x) (one_of own name has) some
 some_by own (form.Choice slots) name some has = subst (λ x. 0 < length x) (one_of own name has) some
 some_by own (form.Simple simple) name some has = subst (λ x. 0 < length x) (one_of own name has) some
@@ -112,40 +114,40 @@ module _ (R : Contents) (m : List ℕ) where
 
   -- ---- what the rules say of the names
 
-  amount_in : (o : Object) (c : Option (List ℕ)) (name : List ℕ) → StandsIn name (names_by o.name (form_to (λ q. q) (facets_of R) (simple_form R o kinds.Amount c))) → Contains (with_currency o.name c) name
-  amount_in o None name has = at_contains (o.name ∷ []) name has.0 has.1
+  amount_in : (o : Object) (c : Option (List ℕ)) (name : List ℕ) → Contains (names_by o.name (form_to (λ q. q) (facets_of R) (simple_form R o kinds.Amount c))) name → Contains (with_currency o.name c) name
+  amount_in o None name has = has
   amount_in o (Some c) name has = elim (two_of (base_name o.name) o.name name has) [
-    | inl e ↦ at_contains (o.name ∷ (base_name o.name ∷ [])) name 1 (ap Some e)
-    | inr e ↦ at_contains (o.name ∷ (base_name o.name ∷ [])) name 0 (ap Some e)
+    | inl e ↦ (1, omega arith, e)
+    | inr e ↦ (0, omega arith, e)
   ]
 
-  simple_in : (o : Object) (k : Kinds) (name : List ℕ) → StandsIn name (names_by o.name (form_to (λ q. q) (facets_of R) (simple_form R o k o.currency)))
+  simple_in : (o : Object) (k : Kinds) (name : List ℕ) → Contains (names_by o.name (form_to (λ q. q) (facets_of R) (simple_form R o k o.currency))) name
       → Contains (with_currency o.name (kind_currency (object.Simple k) o.currency)) name
   simple_in o kinds.Amount name has = amount_in o o.currency name has
-  simple_in o _ name has = at_contains (o.name ∷ []) name has.0 has.1
+  simple_in o _ name has = has
 
-  object_in : (o : Object) (k : ObjectKind) (name : List ℕ) → StandsIn name (names_by o.name (form_to (λ q. q) (facets_of R) (object_form R o k)))
+  object_in : (o : Object) (k : ObjectKind) (name : List ℕ) → Contains (names_by o.name (form_to (λ q. q) (facets_of R) (object_form R o k))) name
       → Contains (with_currency o.name (kind_currency k o.currency)) name
   object_in o (object.Simple k) name has = simple_in o k name has
-  object_in o object.Component name has = at_contains (o.name ∷ []) name has.0 has.1
-  object_in o object.Choice name has = at_contains (o.name ∷ []) name has.0 has.1
-  object_in o object.External name has = at_contains (o.name ∷ []) name has.0 has.1
+  object_in o object.Component name has = has
+  object_in o object.Choice name has = has
+  object_in o object.External name has = has
   object_in o object.Other name has = none_of name has
 
-  entry_in : (o : Option Object) (name : List ℕ) → StandsIn name (names_by (object_name o) (form_to (λ q. q) (facets_of R) (entry_form R o))) → Contains (object_names o (currency_or_none o)) name
+  entry_in : (o : Option Object) (name : List ℕ) → Contains (names_by (object_name o) (form_to (λ q. q) (facets_of R) (entry_form R o))) name → Contains (object_names o (currency_or_none o)) name
   entry_in None name has = none_of name has
   entry_in (Some o) name has = object_in o o.kind name has
 
-  message_in : (d : Option MessageDef) (name : List ℕ) → StandsIn name (names_by (message_name d) (form_to (λ q. q) (facets_of R) (message_form d))) → Contains (message_names d) name
+  message_in : (d : Option MessageDef) (name : List ℕ) → Contains (names_by (message_name d) (form_to (λ q. q) (facets_of R) (message_form d))) name → Contains (message_names d) name
   message_in None name has = none_of name has
-  message_in (Some d) name has = at_contains (d.name ∷ []) name has.0 has.1
+  message_in (Some d) name has = has
 
-  document_in : (d : Option MessageDef) (name : List ℕ) → StandsIn name (names_by (codes "Document") (form_to (λ q. q) (facets_of R) (document_form d))) → codes "Document" ≡ name
+  document_in : (d : Option MessageDef) (name : List ℕ) → Contains (names_by (codes "Document") (form_to (λ q. q) (facets_of R) (document_form d))) name → codes "Document" ≡ name
   document_in None name has = none_of name has
   document_in (Some d) name has = one_of (codes "Document") name has
 
   -- they are those that the rules speak of
-  names_in : (p : Place) (name : List ℕ) → (p ≡ document → ⊥) → StandsIn name (place_names p) → Contains (schema_names R m p) name
+  names_in : (p : Place) (name : List ℕ) → (p ≡ document → ⊥) → Contains (place_names p) name → Contains (schema_names R m p) name
   names_in document name other has = absurd (other refl)
   names_in message name other has = message_in (find_message m R.messages) name has
   names_in (entry id) name other has = entry_in (find_entry id R.objects) name has
@@ -153,9 +155,9 @@ module _ (R : Contents) (m : List ℕ) where
 
   module _ (ready : IsReady R m) where
     -- two places have no name in common
-    pub apart : (p q : Place) (name : List ℕ) → Reaches R m q → (p ≡ document) ⊎ Reaches R m p → (p ≡ q → ⊥) → StandsIn name (place_names p) → StandsIn name (place_names q) → ⊥
+    pub apart : (p q : Place) (name : List ℕ) → Reaches R m q → (p ≡ document) ⊎ Reaches R m p → (p ≡ q → ⊥) → Contains (place_names p) name → Contains (place_names q) name → ⊥
     apart p q name reach (inl e) differ has other =
-        let first : codes "Document" ≡ name = document_in (find_message m R.messages) name (subst (λ x. StandsIn name (place_names x)) e has) in
+        let first : codes "Document" ≡ name = document_in (find_message m R.messages) name (subst (λ x. Contains (place_names x) name) e has) in
         let there = names_in q name (λ is. differ (e ∙ sym is)) other in
         ready (OnObjects NameTwice) q reach (name, there, inl (sym first))
     apart p q name reach (inr reached) differ has other =
@@ -219,7 +221,7 @@ module _ (R : Contents) (m : List ℕ) where
           let alike : r.0 ≡ s.0 = cc in
           ids_differ i j r.0 s.0 (omega (arith, lt)) r.1 s.1 alike
 
-      pub names_distinct : AreDistinct (flat_map place_names (places_of ids))
+      pub names_distinct : IsDistinct bytes_eq (flat_map place_names (places_of ids))
       names_distinct = distinct_flat place_names (places_of ids) (λ p. distinct_by (place_name R m p) (types R m p)) later
         where
           reached : (b : ℕ) (q : Place) → 0 < b → slice_get (places_of ids) b ≡ Some q → Reaches R m q
@@ -227,10 +229,11 @@ module _ (R : Contents) (m : List ℕ) where
           reached (suc b) q lt h = elim (listed (suc b) q h) [ inl e ↦ absurd (places_differ 0 (suc b) document q (omega arith) refl h (sym e)) | inr reach ↦ reach ]
 
           later : (a b : ℕ) (p q : Place) (name : List ℕ) → a < b → slice_get (places_of ids) a ≡ Some p → slice_get (places_of ids) b ≡ Some q
-              → StandsIn name (place_names p) → StandsIn name (place_names q) → ⊥
+              → Contains (place_names p) name → Contains (place_names q) name → ⊥
           later a b p q name lt g h has other = apart p q name (reached b q (omega (arith, lt)) h) (listed a p g) (places_differ a b p q lt g h) has other
 
-      pub names_some : (i : ℕ) (name : List ℕ) → slice_get (flat_map place_names (places_of ids)) i ≡ Some name → 0 < length name
-      names_some i name e =
-          let r = get_flat place_names (places_of ids) i name e in
-          some_by (place_name R m r.1) (types R m r.1) name (place_some r.1 (listed r.0 r.1 r.2)) r.3
+      pub names_some : AllByRecursion (λ name. 0 < length name) (flat_map place_names (places_of ids))
+      names_some = all_from (λ name. 0 < length name) (flat_map place_names (places_of ids)) each
+        where
+          each : (name : List ℕ) → Contains (flat_map place_names (places_of ids)) name → 0 < length name
+          each name has = (let r = in_some place_names (places_of ids) name has in some_by (place_name R m r.1) (types R m r.1) name (place_some r.1 (listed r.0 r.1 r.2)) r.3)

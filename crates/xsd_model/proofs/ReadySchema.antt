@@ -1,6 +1,8 @@
 -- The schema of a message that breaks no rule admits exactly the trees that write a value which the message admits.
 use Rattle.std.proofs.Common.{◌≡◌, ◌↔◌, ℕ, ◌<◌, ◌++◌, List, [], ◌∷◌, length, map, flat_map, get_or, Some, sym, ap, subst, ◌∙◌}
 use Rattle.std.specs.Prelude.{slice_get, codes}
+use Rattle.std.specs.List.{AllByRecursion, IsDistinct}
+use Rattle.std.specs.Str.{bytes_eq}
 use Rattle.std.proofs.lemmas.List.{length-map}
 use Rattle.std.proofs.lemmas.Option.{slice_get-get_or}
 use Rattle.lexical_core.specs.Tree.{Tree}
@@ -16,7 +18,7 @@ use Rattle.message_model.specs.Tables.{Tables, TypeEntry, types_of, namespace_fr
 use Rattle.message_model.specs.Compiled.{IsReachedList, Compiles, types, places_of, place_of, place_or_nowhere, place_name}
 use Rattle.message_model.proofs.SoundTables.{tables_sound}
 use Rattle.xsd_model.specs.Trees.{IsValid}
-use Rattle.xsd_model.specs.SchemaOf.{schema_of, names, all_types, name_of, AreDistinct, HasSoundNames, HasSoundFacets}
+use Rattle.xsd_model.specs.SchemaOf.{schema_of, names, all_types, name_of, HasSoundNames, HasSoundFacets}
 use Rattle.xsd_model.proofs.ReadyFacets.{facets_from, facets_at}
 use Rattle.xsd_model.proofs.ReadyNames.{place_names, names_listed, listed, names_distinct, names_some}
 use Rattle.xsd_model.proofs.SchemaLaw.{same_trees_of}
@@ -43,8 +45,8 @@ module _ (R : Contents) (m : List ℕ) (ready : IsReady R m) (ids : List (List �
   pub sound_names : HasSoundNames T
   sound_names = record {
     root = root T.types made.names;
-    distinct = subst (λ (xs : List (List ℕ)). AreDistinct xs) (sym all_names) (names_distinct R m ready ids list);
-    some = λ i name e. names_some R m ready ids list i name (ap (λ (xs : List (List ℕ)). slice_get xs i) (sym all_names) ∙ e);
+    distinct = subst (λ (xs : List (List ℕ)). IsDistinct bytes_eq xs) (sym all_names) (names_distinct R m ready ids list);
+    some = subst (λ (xs : List (List ℕ)). AllByRecursion (λ name. 0 < length name) xs) (sym all_names) (names_some R m ready ids list);
     facets = facets;
   }
 

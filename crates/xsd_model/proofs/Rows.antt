@@ -1,17 +1,19 @@
 -- Worked schemas.
 use Rattle.std.proofs.Common.{◌≡◌, false, [], ◌∷◌, Some, None, pos, refl}
-use Rattle.std.proofs.Common.{Option, ℕ, List, ◌==◌, ◌<◌, cond, zero, suc, length, sym, ap, ◌∙◌, arith, lit≤}
-use Rattle.std.specs.Prelude.{slice_get}
-use Rattle.xsd_model.specs.SchemaOf.{HasSoundNames, HasSoundFacets, names, all_types}
+use Rattle.std.proofs.Common.{ℕ, ◌<◌, zero, suc, arith, lit≤}
+use Rattle.xsd_model.specs.SchemaOf.{HasSoundNames, HasSoundFacets}
 use Rattle.message_model.specs.Tables.{types_of}
 use Rattle.std.specs.Prelude.{codes, flat_map}
 use Rattle.std.specs.Fmt.{digits}
+use Rattle.std.specs.Str.{bytes_eq}
+use Rattle.std.proofs.lemmas.Map.Keys.{IsDistinct-cons}
 use Rattle.data_types.specs.declared.kind.Kind.TheVariants as kind
 use Rattle.facets.specs.declared.simple.Simple.{Simple}
 use Rattle.reference_check.specs.Forms as form
 use Rattle.message_model.specs.Tables.{Tables}
 use Rattle.xsd_model.specs.SchemaOf.{schema_of, types_by}
 use Rattle.xsd_model.specs.SchemaText.{schema_text, type_text}
+use Rattle.xsd_model.proofs.DistinctNames.{distinct_two}
 
 text_type : Simple
 text_type = record { kind = kind.Text; min = 1; max = Some 35; total = 18; fraction = None; low = None; high = None; pattern = None; codes = None }
@@ -44,36 +46,15 @@ amount_types = refl
 
 -- ---- the law's premise is met
 
-length_or : Option (List ℕ) → ℕ
-length_or None = 0
-length_or (Some n) = length n
-
--- the place of a name in this schema, by its length
-place_by : ℕ → ℕ
-place_by n = cond (n == 8) 0 (cond (n == 7) 1 2)
-
-place_is : (i : ℕ) (n : List ℕ) → slice_get (names (all_types note)) i ≡ Some n → place_by (length n) ≡ i
-unfolding place_by length_or note
-place_is zero n e = ap (λ o. place_by (length_or o)) (sym e)
-place_is (suc zero) n e = ap (λ o. place_by (length_or o)) (sym e)
-place_is (suc (suc zero)) n e = ap (λ o. place_by (length_or o)) (sym e)
-place_is (suc (suc (suc i))) n e = absurd cc
-
 note_sound : HasSoundNames note
-unfolding note text_type length_or
+unfolding note text_type
 note_sound = record {
   root = refl;
-  distinct = λ i j n e f. sym (place_is i n e) ∙ place_is j n f;
-  some = some;
+  distinct = IsDistinct-cons bytes_eq _ _ (refl, (refl, tt)) (distinct_two _ _ (λ e. absurd cc));
+  some = (omega arith, (omega arith, (omega arith, tt)));
   facets = facets;
 }
   where
-    some : (i : ℕ) (n : List ℕ) → slice_get (names (all_types note)) i ≡ Some n → 0 < length n
-    some zero n e = (let h : 8 ≡ length n = ap length_or e in omega (arith, h))
-    some (suc zero) n e = (let h : 7 ≡ length n = ap length_or e in omega (arith, h))
-    some (suc (suc zero)) n e = (let h : 9 ≡ length n = ap length_or e in omega (arith, h))
-    some (suc (suc (suc i))) n e = absurd cc
-
     facets : (k : ℕ) → k < 3 → HasSoundFacets (types_of note k)
     facets zero lt = tt
     facets (suc zero) lt = tt

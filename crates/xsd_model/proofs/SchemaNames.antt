@@ -1,6 +1,6 @@
 -- Each type of a message stands in its schema under its name.
-use Rattle.std.proofs.Common.{◌≡◌, ◌≢◌, ◌⊎◌, ℕ, inl, inr, [], length, map, Option, Some, None, refl, sym, ap, subst, ◌∙◌, arith}
-use Rattle.std.specs.Prelude.{slice_get}
+use Rattle.std.proofs.Common.{◌≡◌, ◌≢◌, ◌⊎◌, ℕ, inl, inr, [], map, Option, Some, None, refl, sym, ap, subst, ◌∙◌, arith}
+use Rattle.std.specs.Prelude.{slice_get, Contains}
 use Rattle.std.proofs.lemmas.Option.{slice_get_within}
 use Rattle.data_types.specs.declared.kind.Kind.TheVariants as kind
 use Rattle.facets.specs.declared.simple.Simple.{Simple}
@@ -13,26 +13,27 @@ use Rattle.xsd_model.specs.declared.schema.SchemaType.{SchemaType}
 use Rattle.xsd_model.specs.StepsOf.{steps_of}
 use Rattle.xsd_model.specs.Trees.{find_type}
 use Rattle.xsd_model.specs.SchemaOf.{schema_of, sorted, all_types, name_of, name_or_none, base_name, part_of, types_by, types_of_entry, HasSoundNames, HasSoundFacets}
-use Rattle.xsd_model.proofs.Named.{IsIn, find_sorted, find_none, in_flat}
+use Rattle.xsd_model.proofs.Named.{find_sorted, found, none_found, in_flat}
 use Rattle.xsd_model.proofs.Admitted.{Agrees, shape_by}
 
 -- a type of an entry stands in the schema
 stands : (T : Tables) (p : ℕ) (entry : TypeEntry) (F : Form ℕ Simple) (a : SchemaType) → HasSoundNames T → slice_get T.types p ≡ Some entry → entry.form ≡ F
-    → IsIn a (types_by (name_of T) entry.name F) → find_type a.name (sorted (all_types T)) ≡ Some a.shape
+    → Contains (types_by (name_of T) entry.name F) a → find_type a.name (sorted (all_types T)) ≡ Some a.shape
 stands T p entry F a sound e is i =
-    find_sorted (all_types T) a sound.distinct (in_flat (types_of_entry T) T.types p entry a e (subst (λ f. IsIn a (types_by (name_of T) entry.name f)) (sym is) i))
+    find_sorted (all_types T) a.name sound.distinct
+    ∙ found (all_types T) a sound.distinct (in_flat (types_of_entry T) T.types p entry a e (subst (λ f. Contains (types_by (name_of T) entry.name f) a) (sym is) i))
 
 typed_form : (T : Tables) (p : ℕ) (entry : TypeEntry) (F : Form ℕ Simple) → HasSoundNames T → slice_get T.types p ≡ Some entry → entry.form ≡ F → HasSoundFacets F
     → find_type entry.name (sorted (all_types T)) ≡ shape_by (name_of T) (base_name entry.name) F
 typed_form T p entry (form.Sequence slots) sound e is f =
-    stands T p entry (form.Sequence slots) (record { name = entry.name; shape = shape.Sequence (map (part_of (name_of T)) slots) }) sound e is (inl refl)
+    stands T p entry (form.Sequence slots) (record { name = entry.name; shape = shape.Sequence (map (part_of (name_of T)) slots) }) sound e is (0, omega arith, refl)
 typed_form T p entry (form.Choice slots) sound e is f =
-    stands T p entry (form.Choice slots) (record { name = entry.name; shape = shape.Choice (map (part_of (name_of T)) slots) }) sound e is (inl refl)
+    stands T p entry (form.Choice slots) (record { name = entry.name; shape = shape.Choice (map (part_of (name_of T)) slots) }) sound e is (0, omega arith, refl)
 typed_form T p entry (form.Simple simple) sound e is f =
-    stands T p entry (form.Simple simple) (record { name = entry.name; shape = shape.Simple (steps_of simple) }) sound e is (inl refl)
+    stands T p entry (form.Simple simple) (record { name = entry.name; shape = shape.Simple (steps_of simple) }) sound e is (0, omega arith, refl)
 typed_form T p entry (form.Money code number) sound e is f =
-    stands T p entry (form.Money code number) (record { name = entry.name; shape = shape.Money (base_name entry.name) (name_of T code) }) sound e is (inr (inl refl))
-typed_form T p entry form.Envelope sound e is f = stands T p entry form.Envelope (record { name = entry.name; shape = shape.Any }) sound e is (inl refl)
+    stands T p entry (form.Money code number) (record { name = entry.name; shape = shape.Money (base_name entry.name) (name_of T code) }) sound e is (1, omega arith, refl)
+typed_form T p entry form.Envelope sound e is f = stands T p entry form.Envelope (record { name = entry.name; shape = shape.Any }) sound e is (0, omega arith, refl)
 typed_form T p entry form.LeftOut sound e is f = absurd f
 typed_form T p entry form.Missing sound e is f = absurd f
 
@@ -57,7 +58,7 @@ typed T p sound = elim (entry_of T p) [
       let name : name_of T p ≡ [] = ap name_or_none none in
       let own : types_of T p ≡ form.Missing = ap form_or_missing none in
       ap (λ n. find_type n (sorted (all_types T))) name
-      ∙ (find_none (all_types T) [] (λ i own there same. (let some = sound.some i own there in let len = ap length same in omega (arith, some, len)))
+      ∙ (find_sorted (all_types T) [] sound.distinct ∙ none_found (all_types T) sound.some
       ∙ ap (λ f. shape_by (name_of T) (base_name (name_of T p)) f) (sym own))
 ]
 
@@ -67,7 +68,7 @@ based T p code number sound is = elim (entry_of T p) [
       let name : name_of T p ≡ entry.name = ap name_or_none e in
       let own : entry.form ≡ form.Money code number = sym (ap form_or_missing e) ∙ is in
       ap (λ n. find_type (base_name n) (sorted (all_types T))) name
-      ∙ stands T p entry (form.Money code number) (record { name = base_name entry.name; shape = shape.Simple (steps_of number) }) sound e own (inl refl)
+      ∙ stands T p entry (form.Money code number) (record { name = base_name entry.name; shape = shape.Simple (steps_of number) }) sound e own (0, omega arith, refl)
   | inr none ↦ (let clash : form.Missing ≡ form.Money code number = sym (ap form_or_missing none) ∙ is in absurd cc)
 ]
 

@@ -12,7 +12,7 @@ use Rattle.std.proofs.lemmas.Fn.{always_returns_same}
 use Rattle.std.proofs.lemmas.List.Sorted.{ranks_by}
 use Rattle.xsd_model.specs.declared.schema.SchemaType.{SchemaType}
 use Rattle.xsd_model.specs.SchemaOf.{insert, placed, sorted}
-use Rattle.xsd_model.proofs.StableSort.{put_by, sorted_by, by_less, sorted_is}
+use Rattle.lexical_core.proofs.StableSort.{put_by, sorted_by, by_less, sorted_is}
 use denote.Param.Members.{Mut}
 
 abbrev by_name : SchemaType → SchemaType → Ordering

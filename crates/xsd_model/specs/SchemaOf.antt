@@ -1,5 +1,7 @@
 -- The schema of the compiled types of a message.
 use Rattle.std.specs.Prelude.{◌≡◌, ℕ, ◌<◌, List, [], ◌∷◌, ◌++◌, Option, Some, None, map, flat_map, length, slice_get, codes}
+use Rattle.std.specs.List.{AllByRecursion, IsDistinct}
+use Rattle.std.specs.Str.{bytes_eq}
 use Rattle.std.specs.Cmp.Lexicographic.{slice_cmp}
 use Rattle.std.specs.Ordering.{nat_cmp}
 use Rattle.std.specs.declared.cmp.Ordering.{Ordering}
@@ -68,10 +70,6 @@ schema_of tables = record { namespace = namespace_of tables; types = sorted (all
 abbrev pub names : List SchemaType → List (List ℕ)
 names types = map (λ (type : SchemaType). type.name) types
 
--- no name stands twice
-abbrev pub AreDistinct : List (List ℕ) → Type 0
-AreDistinct list = (i j : ℕ) (name : List ℕ) → slice_get list i ≡ Some name → slice_get list j ≡ Some name → i ≡ j
-
 -- a type of the message is one of instances, and its facets are sound
 abbrev pub HasSoundFacets : {P : Type 0} → Form P Simple → Type 0
 HasSoundFacets (form.Simple simple) = IsSoundSimple simple
@@ -84,6 +82,6 @@ HasSoundFacets other = Unit {0}
 -- type 0 is `Document`, and facets are sound.
 pub record HasSoundNames (tables : Tables) : Type 0 where
   pub root : name_of tables 0 ≡ codes "Document"
-  pub distinct : AreDistinct (names (all_types tables))
-  pub some : (i : ℕ) (name : List ℕ) → slice_get (names (all_types tables)) i ≡ Some name → 0 < length name
+  pub distinct : IsDistinct bytes_eq (names (all_types tables))
+  pub some : AllByRecursion (λ name. 0 < length name) (names (all_types tables))
   pub facets : (number : ℕ) → number < length tables.types → HasSoundFacets (types_of tables number)

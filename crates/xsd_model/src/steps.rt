@@ -1,6 +1,8 @@
 // The steps of a simple type, as a schema writes them (XML Schema part 2 §4.1.2).
 ghost use Rattle.std.specs.Prelude.{◌≡◌, [], ◌∷◌, Some, None, IfOk};
-ghost use Rattle.xsd_model.specs.StepsOf.{dated, least_written, list_of, plain_step, profile_pattern, steps_by, steps_of};
+ghost use Rattle.std.specs.Option.{option_to_list};
+ghost use Rattle.facets.specs.Steps.{least_written, plain_step};
+ghost use Rattle.xsd_model.specs.StepsOf.{dated, profile_pattern, steps_by, steps_of};
 
 use crate::names::text_of;
 use crate::schema::Steps;
@@ -71,7 +73,7 @@ fn coded_step(alloc: Global, codes: &Codes) -> Result<Step, AllocError>
 
 /// The step of texts without codes.
 fn free_step(alloc: Global, simple: &Simple) -> Result<Step, AllocError>
-    ensures { IfOk result (λ step. step ≡ record (plain_step (Some Kind.Text)) { min = least_written simple.now.min; max = simple.now.max; patterns = list_of simple.now.pattern }) }
+    ensures { IfOk result (λ step. step ≡ record (plain_step (Some Kind.Text)) { min = least_written simple.now.min; max = simple.now.max; patterns = option_to_list simple.now.pattern }) }
 {
     let mut step = plain_step(alloc, Some(Kind::Text));
     step.min = least_written(simple.min);
@@ -111,7 +113,7 @@ fn least_written(least: u64) -> Option<u64>
 
 /// The pattern, where there is one.
 fn own_pattern(alloc: Global, simple: &Simple) -> Result<Texts, AllocError>
-    ensures { IfOk result (λ patterns. patterns ≡ list_of simple.now.pattern) }
+    ensures { IfOk result (λ patterns. patterns ≡ option_to_list simple.now.pattern) }
 {
     let mut patterns = Items::new(alloc);
     if let Some(pattern) = &simple.pattern {

@@ -1,8 +1,8 @@
 pub mod Blocks
-pub mod Counting
-pub mod Counts
 pub mod Fronts
 pub mod Lines
 pub mod NestedSteps
+pub mod NumberedTexts
+pub mod Occurrences
 pub mod Spaces
 pub mod TypeTexts

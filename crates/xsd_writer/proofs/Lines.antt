@@ -1,13 +1,12 @@
 -- Lines as they are pushed: the parts of one after the other.
-use Rattle.std.proofs.Common.{◌≡◌, ℕ, ◌+◌, ◌*◌, true, false, List, Option, [], ◌∷◌, ◌++◌, codes, flat_map, replicate, refl, sym, ap, ◌∙◌, append_assoc, append-nil, arith}
+use Rattle.std.proofs.Common.{◌≡◌, ℕ, ◌+◌, ◌*◌, true, List, [], ◌∷◌, ◌++◌, codes, flat_map, replicate, refl, sym, ap, ◌∙◌, append_assoc, append-nil, arith}
 use Rattle.std.specs.List.{concat}
 use Rattle.data_types.specs.Escaping.{escaped_bytes}
-use Rattle.data_types.specs.declared.kind.Kind.{Kind}
 use Rattle.facets.specs.declared.step.Step.{Step}
 use Rattle.xsd_model.specs.declared.schema.Part.{Part}
-use Rattle.xsd_model.specs.SchemaText.{amount_text, base_text, facet_text, facets_text, first_text, has_facets, line, model_text, part_text}
+use Rattle.xsd_model.specs.SchemaText.{amount_text, facet_text, facets_text, first_text, has_facets, line, model_text, part_text}
 use Rattle.xsd_writer.specs.Fragments.{step_level}
-use Rattle.xsd_writer.specs.StepLines.{opening}
+use Rattle.xsd_writer.specs.StepLines.{opening, step_end, step_start}
 
 regroup : (a b c d e f : List ℕ) → (a ++ (b ++ (c ++ (d ++ [])))) ++ (e ++ f) ≡ a ++ (b ++ (c ++ (d ++ (e ++ f))))
 regroup a b c d e f = simp (append_assoc, append-nil)
@@ -60,20 +59,7 @@ amount_is base code =
     (replicate 6 space) (codes "</xs:extension>\n")
     (replicate 4 space) (codes "</xs:simpleContent>\n")
 
--- the end of the type inside a step, and the end of a step
-abbrev pub type_end : ℕ → List ℕ
-type_end steps = line (step_level steps + 1) (codes "</xs:simpleType>\n" ∷ [])
-
-abbrev pub step_end : ℕ → List ℕ
-step_end steps = line (step_level steps) (codes "</xs:restriction>\n" ∷ [])
-
--- the line that a step with the base begins with
-abbrev pub step_start : ℕ → Option Kind → List ℕ → List ℕ
-step_start steps base behind = line (step_level steps) (codes "<xs:restriction" ∷ base_text base ∷ behind ∷ [])
-
+-- the step with the base, where it has facets
 pub first_some : (steps : ℕ) (step : Step) → has_facets step ≡ true
     → step_start steps step.base (codes ">\n") ++ (facets_text (step_level steps + 1) step ++ step_end steps) ≡ first_text step (step_level steps)
 first_some steps step some = rw some refl
-
-pub first_none : (steps : ℕ) (step : Step) → has_facets step ≡ false → step_start steps step.base (codes "/>\n") ≡ first_text step (step_level steps)
-first_none steps step none = rw none refl

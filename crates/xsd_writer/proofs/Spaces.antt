@@ -1,7 +1,7 @@
 -- The spaces of a level, pushed so many at a time.
-use Rattle.std.proofs.Common.{◌≡◌, ℕ, zero, suc, ◌+◌, ◌*◌, List, [], ◌∷◌, ◌++◌, replicate, refl, sym, ap, ◌∙◌, arith}
+use Rattle.std.proofs.Common.{◌≡◌, ℕ, zero, suc, ◌+◌, ◌*◌, ◌++◌, replicate, ap, ◌∙◌, arith}
 use Rattle.std.proofs.lemmas.List.{replicate-append-replicate}
-use Rattle.xsd_writer.specs.Counted.{texts_below}
+use Rattle.xsd_writer.specs.NumberedTexts.{texts_below}
 use Rattle.xsd_writer.specs.Fragments.{step_level}
 
 -- so many spaces, so many times

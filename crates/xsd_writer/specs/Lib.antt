@@ -1,4 +1,4 @@
-pub mod Counted
+pub mod NumberedTexts
 pub mod Fragments
 pub mod FacetLines
 pub mod StepLines

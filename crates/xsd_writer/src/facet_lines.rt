@@ -16,8 +16,12 @@ pub enum Facet<'a> {
     Digits(&'a [u8], Option<u8>),
     /// How long a value may be.
     Length(&'a [u8], Option<u64>),
-    /// How low or high a value may be; the first name is for a strict bound.
-    Bound(&'a [u8], &'a [u8], Option<Bound>),
+    /// How low or high a value may be, with a name for a strict bound and one for another.
+    Bound {
+        strict: &'a [u8],
+        word: &'a [u8],
+        bound: Option<Bound>,
+    },
     /// The only values that there may be.
     Codes(&'a Codes),
     /// The patterns, of which a value matches one.
@@ -31,8 +35,16 @@ pub fn push_facets<O: Sink>(step: &Step, steps: usize, sink: &mut O) -> Result<(
     let facets = [
         Facet::Digits(b"totalDigits", step.total),
         Facet::Digits(b"fractionDigits", step.fraction),
-        Facet::Bound(b"minExclusive", b"minInclusive", step.low),
-        Facet::Bound(b"maxExclusive", b"maxInclusive", step.high),
+        Facet::Bound {
+            strict: b"minExclusive",
+            word: b"minInclusive",
+            bound: step.low,
+        },
+        Facet::Bound {
+            strict: b"maxExclusive",
+            word: b"maxInclusive",
+            bound: step.high,
+        },
         Facet::Length(b"minLength", step.min),
         Facet::Length(b"maxLength", step.max),
         Facet::Codes(&step.codes),
@@ -64,7 +76,11 @@ fn push_facet<O: Sink>(facet: &Facet<'_>, steps: usize, sink: &mut O) -> Result<
         Facet::Length(word, Some(number)) => {
             push_line(word, &Fragment::Number(*number), steps, sink)
         }
-        Facet::Bound(strict, word, Some(bound)) => {
+        Facet::Bound {
+            strict,
+            word,
+            bound: Some(bound),
+        } => {
             let word = if bound.strict { strict } else { word };
             push_line(word, &Fragment::Decimal(bound.value), steps, sink)
         }

@@ -1,10 +1,10 @@
 // The lines of the steps of a simple type: XML Schema part 2 §4.1.2. A step stands inside the one behind it.
-ghost use Rattle.std.specs.Prelude.{◌≡◌, ◌+◌, ◌∷◌, ◌++◌, [], codes};
+ghost use Rattle.std.specs.Prelude.{◌≡◌};
 ghost use Rattle.outside.specs.Pushes.{Pushes};
-ghost use Rattle.xsd_model.specs.SchemaText.{base_text, first_text, has_facets, line, steps_text};
-ghost use Rattle.xsd_writer.specs.Counted.{texts_below};
+ghost use Rattle.xsd_model.specs.SchemaText.{first_text, has_facets, steps_text};
+ghost use Rattle.xsd_writer.specs.NumberedTexts.{texts_below};
 ghost use Rattle.xsd_writer.specs.Fragments.{step_level};
-ghost use Rattle.xsd_writer.specs.StepLines.{closing, closings, opening};
+ghost use Rattle.xsd_writer.specs.StepLines.{closing, closings, inner_end, opening, step_end, step_start};
 
 use crate::facet_lines::push_facets;
 use crate::fragment::Fragment;
@@ -91,8 +91,7 @@ fn push_restriction<O: Sink>(
     steps: usize,
     sink: &mut O,
 ) -> Result<(), SinkError>
-    ensures { Pushes O.held O.faults O.room sink.old sink.new result
-        (line (step_level steps) (codes "<xs:restriction" ∷ base_text base ∷ behind.now ∷ [])) }
+    ensures { Pushes O.held O.faults O.room sink.old sink.new result (step_start steps base behind.now) }
 {
     let fragments = [
         Fragment::Inside { steps, more: 0 },
@@ -121,7 +120,7 @@ fn push_closings<O: Sink>(later: &[Step], sink: &mut O) -> Result<(), SinkError>
 fn push_closing<O: Sink>(step: &Step, steps: usize, sink: &mut O) -> Result<(), SinkError>
     ensures { Pushes O.held O.faults O.room sink.old sink.new result (closing steps step.now) }
 {
-    if let Err(error) = push_type_end(steps, sink) {
+    if let Err(error) = push_inner_end(steps, sink) {
         return Err(error);
     }
     if let Err(error) = push_facets(step, steps, sink) {
@@ -130,9 +129,9 @@ fn push_closing<O: Sink>(step: &Step, steps: usize, sink: &mut O) -> Result<(), 
     push_end(steps, sink)
 }
 
-/// Pushes the end of the type inside a step.
-fn push_type_end<O: Sink>(steps: usize, sink: &mut O) -> Result<(), SinkError>
-    ensures { Pushes O.held O.faults O.room sink.old sink.new result (line (step_level steps + 1) (codes "</xs:simpleType>\n" ∷ [])) }
+/// Pushes the end of the type that stands in a later step.
+fn push_inner_end<O: Sink>(steps: usize, sink: &mut O) -> Result<(), SinkError>
+    ensures { Pushes O.held O.faults O.room sink.old sink.new result (inner_end steps) }
 {
     let fragments = [
         Fragment::Inside { steps, more: 1 },
@@ -143,7 +142,7 @@ fn push_type_end<O: Sink>(steps: usize, sink: &mut O) -> Result<(), SinkError>
 
 /// Pushes the end of a step.
 fn push_end<O: Sink>(steps: usize, sink: &mut O) -> Result<(), SinkError>
-    ensures { Pushes O.held O.faults O.room sink.old sink.new result (line (step_level steps) (codes "</xs:restriction>\n" ∷ [])) }
+    ensures { Pushes O.held O.faults O.room sink.old sink.new result (step_end steps) }
 {
     let fragments = [
         Fragment::Inside { steps, more: 0 },

@@ -76,6 +76,9 @@ static WANTED: &str = r###"<?xml version="1.0" encoding="UTF-8"?>
 </xs:schema>
 "###;
 
+static FRONT: &str = r###"<?xml version="1.0" encoding="UTF-8"?>
+<xs:schema xmlns="urn:a"###;
+
 /// A part's tag, its type, and how often it comes.
 type PartRow = (&'static str, &'static str, u32, Option<u32>);
 
@@ -237,6 +240,6 @@ fn a_sink_fails_in_the_middle(rt: HostRuntime) -> Result<(), Fail> {
     let schema = schema(rt.alloc())?;
     let mut sink = MemSink::new(rt.alloc(), [2].as_slice())?;
     assert!(rt; write_schema(&schema, &mut sink) == Err(WriteError::WriteFault));
-    assert!(rt; sink.bytes() == WANTED.as_bytes().split_at(63).0);
+    assert!(rt; sink.bytes() == FRONT.as_bytes());
     Ok(())
 }

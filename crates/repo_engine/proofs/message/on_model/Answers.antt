@@ -15,6 +15,12 @@ returns-in-Xsd-clause-source g c = rw c.in-Xsd.is (unread refl c.give_schema.ens
 pub returns-in-Xsd-clause-verdict : goal.returns-in-Xsd-clause-verdict
 returns-in-Xsd-clause-verdict g c i told = rw c.in-Xsd.is c.give_schema.ensures.verdict
 
+pub returns-in-Asn1-clause-source : goal.returns-in-Asn1-clause-source
+returns-in-Asn1-clause-source g c = rw c.in-Asn1.is (unread refl c.give_module.ensures.ends.0 c.give_module.ensures.ends.1 refl)
+
+pub returns-in-Asn1-clause-verdict : goal.returns-in-Asn1-clause-verdict
+returns-in-Asn1-clause-verdict g c i told = rw c.in-Asn1.is c.give_module.ensures.verdict
+
 pub returns-in-CheckXml-clause-source : goal.returns-in-CheckXml-clause-source
 returns-in-CheckXml-clause-source g c = rw c.in-CheckXml.is (read refl c.check.ensures.source)
 

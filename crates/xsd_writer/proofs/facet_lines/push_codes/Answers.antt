@@ -1,9 +1,9 @@
 -- Each code follows those before it.
-use Rattle.std.proofs.Common.{◌≡◌, ◌<◌, ◌≤◌, ◌+◌, ◌∙◌, Some, ap, arith, codes, get_or, length, sym}
+use Rattle.std.proofs.Common.{◌≡◌, ◌+◌, ◌∙◌, Some, ap, codes, get_or, sym}
 use Rattle.std.specs.Prelude.{slice_get}
 use Rattle.std.specs.Option.{option_copied}
 use Rattle.std.proofs.lemmas.Option.{get_or_from_slice_get, slice_get_within}
-use Rattle.outside.proofs.Rendering.{one_more, one_stops, all_went}
+use Rattle.outside.proofs.Rendering.{one_more, one_stops}
 use Rattle.xsd_model.specs.SchemaText.{value_facet}
 use Rattle.xsd_writer.specs.Fragments.{step_level}
 use Rattle.xsd_writer.proofs.facet_lines.push_codes.Goals as goal

@@ -1,6 +1,5 @@
 -- What stands before the value, the value, and the end of the line.
-use Rattle.std.proofs.Common.{◌+◌, [], ◌∷◌, codes}
-use Rattle.xsd_model.specs.SchemaText.{line}
+use Rattle.std.proofs.Common.{◌+◌, codes}
 use Rattle.xsd_writer.proofs.Blocks.{first_stops, second_stops, third_ends}
 use Rattle.xsd_writer.proofs.Lines.{facet_is, facet_start}
 use Rattle.xsd_writer.specs.Fragments.{fragment_text, step_level}

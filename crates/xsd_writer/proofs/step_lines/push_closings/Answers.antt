@@ -1,6 +1,6 @@
 -- The end of each step follows those before it.
 use Rattle.std.proofs.Common.{◌≡◌, ◌++◌, ap, length}
-use Rattle.xsd_writer.proofs.Fronts.{front_all, front_more, front_none, front_stops}
+use Rattle.xsd_writer.proofs.Fronts.{front_more, front_stops}
 use Rattle.xsd_writer.specs.StepLines.{closing, closings}
 use Rattle.xsd_writer.proofs.step_lines.push_closings.Goals as goal
 

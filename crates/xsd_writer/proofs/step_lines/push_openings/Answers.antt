@@ -1,7 +1,7 @@
 -- Each step's lines follow those before it.
 use Rattle.std.proofs.Common.{arith}
 use Rattle.xsd_writer.specs.StepLines.{opening}
-use Rattle.xsd_writer.proofs.Counting.{number_more, number_stops}
+use Rattle.xsd_writer.proofs.NumberedTexts.{number_more, number_stops}
 use Rattle.xsd_writer.proofs.step_lines.push_openings.Goals as goal
 
 pub loop-steps-preserved : goal.loop-steps-preserved

@@ -1,7 +1,7 @@
 -- The lines so far went through.
 use Rattle.outside.specs.Pushes.{Pushes}
 use Rattle.outside.proofs.Pushing.{done}
-use Rattle.xsd_writer.specs.Counted.{texts_below}
+use Rattle.xsd_writer.specs.NumberedTexts.{texts_below}
 use Rattle.xsd_writer.specs.StepLines.{opening}
 use Rattle.xsd_writer.proofs.step_lines.push_openings.Given as goal
 

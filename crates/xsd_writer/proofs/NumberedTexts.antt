@@ -1,10 +1,10 @@
 -- Texts by number, pushed one after the other: those so far went through.
-use Rattle.std.proofs.Common.{◌≡◌, ℕ, zero, suc, ◌+◌, ◌*◌, ◌<◌, ◌≤◌, List, [], ◌∷◌, ◌++◌, Option, replicate, refl, sym, ap, ◌∙◌, subst, append_assoc, append-nil, arith, add-one, inl, inr}
+use Rattle.std.proofs.Common.{◌≡◌, ℕ, zero, suc, ◌+◌, ◌<◌, ◌≤◌, List, [], ◌++◌, Option, refl, sym, ap, ◌∙◌, subst, append_assoc, append-nil, arith, inl, inr}
 use Rattle.std.proofs.lemmas.Bool.{cases_lt}
 use Rattle.outside.specs.Pushes.{Pushes}
 use Rattle.outside.specs.declared.errors.SinkError.{SinkError}
 use Rattle.outside.proofs.Pushing.{done, stopped, then_push, fails_push}
-use Rattle.xsd_writer.specs.Counted.{texts_below}
+use Rattle.xsd_writer.specs.NumberedTexts.{texts_below}
 
 below_more : (text : ℕ → List ℕ) (i : ℕ) → texts_below text (i + 1) ≡ texts_below text i ++ text i
 below_more text i = ap (texts_below text) (let e : i + 1 ≡ suc i = omega arith in e)

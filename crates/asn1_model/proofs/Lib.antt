@@ -1,0 +1,6 @@
+mod FieldLemmas
+mod GivenLemmas
+mod NumberedTypes
+mod PlaceLemmas
+mod SortedTypes
+mod TypeNameLemmas

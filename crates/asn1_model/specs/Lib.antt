@@ -1,0 +1,9 @@
+pub mod Names
+pub mod ModuleOf
+pub mod ModuleText
+pub mod Joined
+pub mod Given
+pub mod Order
+pub mod Places
+pub mod TypeNames
+pub mod Fields

@@ -1,0 +1,19 @@
+//! The ASN.1 module of a compiled message, as a value (X.680).
+//!
+//! `module_of` gives the types that the message's types are in a module under automatic tags, sorted by name, with
+//! names that X.680 has: a name that would come twice gets an ending.
+#![tactic(auto)]
+
+mod fields;
+mod given;
+mod make;
+pub mod module;
+mod names;
+mod order;
+mod places;
+mod shapes;
+mod steps;
+mod type_names;
+
+pub use make::module_of;
+pub use module::{AsnShape, AsnType, AsnTypes, Field, Fields, Mode, Module, Names};

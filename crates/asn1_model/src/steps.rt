@@ -1,0 +1,66 @@
+// The facets that a simple type has in a module.
+ghost use Rattle.std.specs.Prelude.{◌≡◌, Some};
+ghost use Rattle.facets.specs.Steps.{plain_step, least_written};
+ghost use Rattle.asn1_model.specs.ModuleOf.{sized_step, number_step, step_of};
+
+use data_types::Kind;
+use facets::{Codes, Simple, Step};
+use lexical_core::Items;
+use std::alloc::Global;
+
+/// The facets that the kind has.
+pub(crate) fn step_of(alloc: Global, simple: &Simple) -> Step
+    ensures { result ≡ step_of simple.now }
+{
+    match simple.kind {
+        Kind::Text | Kind::Binary => sized_step(alloc, simple),
+        Kind::Decimal => number_step(alloc, simple),
+        kind => plain_step(alloc, kind),
+    }
+}
+
+/// A step without facets.
+fn plain_step(alloc: Global, kind: Kind) -> Step
+    ensures { result ≡ plain_step (Some kind) }
+{
+    Step {
+        base: Some(kind),
+        total: None,
+        fraction: None,
+        low: None,
+        high: None,
+        min: None,
+        max: None,
+        codes: Codes::new(alloc),
+        patterns: Items::new(alloc),
+    }
+}
+
+/// The lengths of a text or of octets.
+fn sized_step(alloc: Global, simple: &Simple) -> Step
+    ensures { result ≡ sized_step simple.now }
+{
+    let mut step = plain_step(alloc, simple.kind);
+    step.min = least_written(simple.min);
+    step.max = simple.max;
+    step
+}
+
+/// The digits and the bounds of a number.
+fn number_step(alloc: Global, simple: &Simple) -> Step
+    ensures { result ≡ number_step simple.now }
+{
+    let mut step = plain_step(alloc, simple.kind);
+    step.total = Some(simple.total);
+    step.fraction = simple.fraction;
+    step.low = simple.low;
+    step.high = simple.high;
+    step
+}
+
+/// A least length is written only above 0.
+fn least_written(least: u64) -> Option<u64>
+    ensures { result ≡ least_written least }
+{
+    if least == 0 { None } else { Some(least) }
+}

@@ -1,0 +1,2 @@
+pub mod PushedFront
+pub mod NumberedLines

@@ -1,0 +1,125 @@
+-- Words and bytes have at most one answer: each step refuses in one way or gives one thing, and not both.
+use Rattle.std.proofs.Common.{◌≡◌, ℕ, List, [], sym, ap, subst, ◌∙◌, inl, inr}
+use Rattle.repo_objects.specs.Repository.{Contents}
+use Rattle.repo_loader.specs.Laws.{OneRepository, OneLoadFault, SpelledHasNone}
+use Rattle.repo_loader.specs.Loaded.{Spells}
+use Rattle.code_sets.specs.Codes.{Fault as CodesFault}
+use Rattle.code_sets.specs.Laws.{OneJoined, OneCodesFault, JoinedHasNone}
+use Rattle.reference_check.specs.Reached.{place_id}
+use Rattle.message_model.specs.Laws.{OneModel, OneRefusal, ReadyIsNotRefused, CompiledAreSound}
+use Rattle.message_model.specs.Ready.{number_of}
+use Rattle.message_model.specs.Tables.{Tables}
+use Rattle.message_model.specs.declared.fault.Fault.{Fault}
+use Rattle.xml_instances.specs.Checking.{fault_of}
+use Rattle.xml_instances.specs.XmlFaults.{Fault as XmlFault}
+use Rattle.transcoder.specs.Laws.{OneVerdict, HaveOneVerdict}
+use Rattle.repo_engine.specs.Answer.{Answer, Of, OfVerb, ChecksXml, spelled, faulty, FromRepository, RefusesFile, RefusesCodes, GivesJoined, RefusesMessage, GivesTables}
+use Rattle.repo_engine.specs.Command.{Command, list, message}
+use Rattle.repo_engine.specs.Steps.{Then, refused, goes_on, One, IsStep}
+use Rattle.repo_engine.specs.Verdict.{Verdict}
+use Rattle.repo_engine.specs.Verdict as verdict
+use Rattle.repo_engine.specs.declared.command.Verb.{Verb}
+use Rattle.repo_engine.specs.declared.command.Verb.TheVariants.{Types, Xsd, Asn1, CheckXml}
+use Rattle.repo_engine.specs.declared.refusal.Refusal.TheVariants.{Repository, Codes, Message, Instance}
+use Rattle.repo_engine.proofs.Performing.{one_command}
+
+-- a step and what goes on from what it gives have one verdict
+pub one_then : (V A : Type 0) (Refuses : V → Type 0) (Gives : A → Type 0) (Next : A → V → Type 0) → IsStep V A Refuses Gives → ((a : A) → Gives a → One V (Next a)) → One V (Then V A Refuses Gives Next)
+one_then V A Refuses Gives Next step next v w (refused h) (refused k) = step.one_refusal v w h k
+one_then V A Refuses Gives Next step next v w (refused h) (goes_on b k more) = absurd (step.apart v b h k)
+one_then V A Refuses Gives Next step next v w (goes_on a h more) (refused k) = absurd (step.apart w a k h)
+one_then V A Refuses Gives Next step next v w (goes_on a h more) (goes_on b k also) =
+    next a h v w more (subst (λ x. Next x w) (step.one_gift b a k h) also)
+
+-- what is known of each step
+pub record StepLaws : Type 0 where
+  pub one_repository : OneRepository
+  pub one_load_fault : OneLoadFault
+  pub spelled_has_none : SpelledHasNone
+  pub one_joined : OneJoined
+  pub one_codes_fault : OneCodesFault
+  pub joined_has_none : JoinedHasNone
+  pub one_model : OneModel
+  pub one_refusal : OneRefusal
+  pub ready_is_not_refused : ReadyIsNotRefused
+  pub compiled_are_sound : CompiledAreSound
+  pub one_verdict : OneVerdict
+
+-- a fault as it is told is known by what it is
+told_once : (f g : Fault) → fault_of f ≡ fault_of g → f ≡ g
+told_once f g same =
+    let rules : f.rule ≡ g.rule = ap (λ (x : XmlFault). x.broken.rule) same in
+    let paths : f.path ≡ g.path = ap (λ (x : XmlFault). x.broken.path) same in
+    let places : f.place ≡ g.place = ap (λ (x : XmlFault). x.place) same in
+    λ i. record { rule = rules i; place = places i; path = paths i }
+
+module _ (laws : StepLaws) where
+  file_step : (r : List ℕ) → IsStep Verdict Contents (RefusesFile r) (Spells r)
+  file_step r = record {
+    one_refusal = λ v w (f, h, is) (g, k, also). is ∙ (ap (λ x. verdict.refused (Repository x) []) (laws.one_load_fault r f g h k) ∙ sym also);
+    one_gift = laws.one_repository r;
+    apart = λ v own (f, h, is) spells. laws.spelled_has_none r own f spells h;
+  }
+
+  codes_step : (codes_word : List ℕ) (own : Contents) (c : List ℕ) → IsStep Verdict Contents (RefusesCodes codes_word own c) (GivesJoined codes_word own c)
+  codes_step codes_word own c = record { one_refusal = one; one_gift = gift; apart = apart }
+    where
+      one : One Verdict (RefusesCodes codes_word own c)
+      one v w (on, (f, h, is)) (also_on, (g, k, also)) = is ∙ (ap (λ (x : CodesFault). verdict.refused (Codes x.rule x.number) []) (laws.one_codes_fault own c f g h k) ∙ sym also)
+
+      gift : One Contents (GivesJoined codes_word own c)
+      gift a b (inl (off, is)) (inl (also_off, also)) = is ∙ sym also
+      gift a b (inl (off, is)) (inr (on, joins)) = absurd cc
+      gift a b (inr (on, joins)) (inl (off, is)) = absurd cc
+      gift a b (inr (on, joins)) (inr (also_on, also)) = laws.one_joined own c a b joins also
+
+      apart : (v : Verdict) (R : Contents) → RefusesCodes codes_word own c v → GivesJoined codes_word own c R → ⊥
+      apart v R (on, (f, h, is)) (inl (off, same)) = cc
+      apart v R (on, (f, h, is)) (inr (also_on, joins)) = laws.joined_has_none own c R f joins h
+
+  message_step : (R : Contents) (id : List ℕ) → IsStep Verdict Tables (RefusesMessage R id) (GivesTables R id)
+  message_step R id = record { one_refusal = one; one_gift = gift; apart = λ v T (r, p, f, is) (ready, more). laws.ready_is_not_refused R id r p ready f }
+    where
+      one : One Verdict (RefusesMessage R id)
+      one v w (r, p, f, is) (s, q, g, also) =
+          let both = laws.one_refusal R id r s p q f g in
+          let same : verdict.refused (Message (number_of r) (place_id id p)) [] ≡ verdict.refused (Message (number_of s) (place_id id q)) [] =
+          λ i. verdict.refused (Message (number_of (both.0 i)) (place_id id (both.1 i))) [] in
+          is ∙ (same ∙ sym also)
+
+      gift : One Tables (GivesTables R id)
+      gift T U (ready, (ids, reached, made)) (also_ready, (others, more, also)) = laws.one_model R id ids others T U ready reached made more also
+
+  -- ---- what a command does with the tables
+
+  one_check : (T : Tables) (i : List ℕ) → HaveOneVerdict T i → One Verdict (ChecksXml T i)
+  one_check T i have v w (spelled s is) (spelled t also) = is ∙ sym also
+  one_check T i have v w (spelled s is) (faulty g k also) = absurd (have.none (fault_of g) s k)
+  one_check T i have v w (faulty f h is) (spelled t also) = absurd (have.none (fault_of f) t h)
+  one_check T i have v w (faulty f h is) (faulty g k also) = is ∙ (ap (λ x. verdict.refused (Instance x) []) (told_once f g (have.one (fault_of f) (fault_of g) h k)) ∙ sym also)
+
+  one_verb : (verb : Verb) (R : Contents) (id i : List ℕ) (T : Tables) → GivesTables R id T → One Verdict (OfVerb verb i T)
+  one_verb Types R id i T gives v w is also = is ∙ sym also
+  one_verb Xsd R id i T gives v w is also = is ∙ sym also
+  one_verb Asn1 R id i T gives v w is also = is ∙ sym also
+  one_verb CheckXml R id i T (ready, (ids, reached, made)) v w h k = one_check T i (laws.one_verdict T i (laws.compiled_are_sound R id ids T ready reached made).0) v w h k
+
+  -- ---- a command
+
+  one_from_repository : (codes_word r c : List ℕ) (Next : Contents → Verdict → Type 0) → ((R : Contents) → One Verdict (Next R)) → One Verdict (FromRepository codes_word r c Next)
+  one_from_repository codes_word r c Next next =
+      one_then Verdict Contents (RefusesFile r) (Spells r) (λ own. Then Verdict Contents (RefusesCodes codes_word own c) (GivesJoined codes_word own c) Next) (file_step r)
+      (λ own spells. one_then Verdict Contents (RefusesCodes codes_word own c) (GivesJoined codes_word own c) Next (codes_step codes_word own c) (λ R joined. next R))
+
+  one_of : (command : Command) (r c i : List ℕ) → One Verdict (Of command r c i)
+  one_of (list codes_word) r c i = one_from_repository codes_word r c _ (λ R v w is also. is ∙ sym also)
+  one_of (message verb codes_word id) r c i =
+      one_from_repository codes_word r c (λ R. Then Verdict Tables (RefusesMessage R id) (GivesTables R id) (OfVerb verb i))
+      (λ R. one_then Verdict Tables (RefusesMessage R id) (GivesTables R id) (OfVerb verb i) (message_step R id) (λ T gives. one_verb verb R id i T gives))
+
+  pub one_answer : (ws : List (List ℕ)) (r c i : List ℕ) (v w : Verdict) → Answer ws r c i v → Answer ws r c i w → v ≡ w
+  one_answer ws r c i v w (inl (unlisted, is)) (inl (also_unlisted, also)) = is ∙ sym also
+  one_answer ws r c i v w (inl (unlisted, is)) (inr (command, form, of)) = absurd (unlisted command form)
+  one_answer ws r c i v w (inr (command, form, of)) (inl (unlisted, is)) = absurd (unlisted command form)
+  one_answer ws r c i v w (inr (command, form, of)) (inr (other, also, more)) =
+      one_of command r c i v w of (subst (λ x. Of x r c i w) (one_command ws other command also form) more)

@@ -1,0 +1,91 @@
+-- No words and bytes are without an answer: no step is without both a refusal and something to go on with.
+use Rattle.std.proofs.Common.{◌≡◌, ◌⊎◌, ℕ, Bool, true, false, List, refl, inl, inr}
+use Rattle.repo_objects.specs.Repository.{Contents}
+use Rattle.repo_loader.specs.Laws.{OneOfBoth}
+use Rattle.repo_loader.specs.Loaded.{Spells}
+use Rattle.code_sets.specs.Codes.{Fault as CodesFault, HasCodesFault, Joins}
+use Rattle.code_sets.specs.Laws.{JoinsOrHasFault}
+use Rattle.reference_check.specs.Graph.{Place}
+use Rattle.message_model.specs.Laws.{SomeModel, ReadyOrRefused, CompiledAreSound}
+use Rattle.message_model.specs.Ready.{MessageRule, IsReady, IsRefused}
+use Rattle.message_model.specs.Tables.{Tables, message_of}
+use Rattle.message_model.specs.declared.fault.Fault.{Fault}
+use Rattle.xml_instances.specs.XmlFaults.{Fault as XmlFault, LimitedFault}
+use Rattle.transcoder.specs.Checked.{IsAccepted}
+use Rattle.transcoder.specs.Laws.{SomeVerdict}
+use Rattle.repo_engine.specs.Answer.{Answer, Of, OfVerb, spelled, faulty, FromRepository, RefusesFile, RefusesCodes, GivesJoined, RefusesMessage, GivesTables}
+use Rattle.repo_engine.specs.Command.{Command, list, message, hands_in}
+use Rattle.repo_engine.specs.Steps.{Then, refused, goes_on, IsTotal}
+use Rattle.repo_engine.specs.Verdict.{Verdict}
+use Rattle.repo_engine.specs.declared.command.Verb.{Verb}
+use Rattle.repo_engine.specs.declared.command.Verb.TheVariants.{Types, Xsd, Asn1, CheckXml}
+
+-- not without a verdict
+abbrev Told : (Verdict → Type 0) → Type 0
+Told Is = ¬ (¬ ((v : Verdict) × Is v))
+
+-- a step that does something, before what has a verdict
+some_then : (A : Type 0) (Refuses : Verdict → Type 0) (Gives : A → Type 0) (Next : A → Verdict → Type 0) → ¬ (¬ IsTotal Verdict A Refuses Gives) → ((a : A) → Gives a → Told (Next a))
+    → Told (Then Verdict A Refuses Gives Next)
+some_then A Refuses Gives Next total next lacks = total by
+  where
+    by : IsTotal Verdict A Refuses Gives → ⊥
+    by (inl (v, h)) = lacks (v, refused h)
+    by (inr (a, h)) = next a h (λ (v, more). lacks (v, goes_on a h more))
+
+-- what is known of each step
+pub record TotalLaws : Type 0 where
+  pub one_of_both : OneOfBoth
+  pub joins_or_has_fault : JoinsOrHasFault
+  pub some_model : SomeModel
+  pub ready_or_refused : ReadyOrRefused
+  pub compiled_are_sound : CompiledAreSound
+  pub some_verdict : SomeVerdict
+
+-- a fault as it is told
+abbrev told_fault : XmlFault → Fault
+told_fault f = record { rule = f.broken.rule; place = f.place; path = f.broken.path }
+
+module _ (laws : TotalLaws) where
+  file_total : (r : List ℕ) → ¬ (¬ IsTotal Verdict Contents (RefusesFile r) (Spells r))
+  file_total r lacks = laws.one_of_both r (λ own spells. lacks (inr (own, spells))) (λ f h. lacks (inl (_, (f, h, refl))))
+
+  codes_total : (codes_word : List ℕ) (own : Contents) (c : List ℕ) → IsTotal Verdict Contents (RefusesCodes codes_word own c) (GivesJoined codes_word own c)
+  codes_total codes_word own c = by (hands_in codes_word) refl (laws.joins_or_has_fault own c)
+    where
+      by : (b : Bool) → hands_in codes_word ≡ b → (((new : Contents) × Joins own c new) ⊎ ((fault : CodesFault) × HasCodesFault own c fault))
+          → IsTotal Verdict Contents (RefusesCodes codes_word own c) (GivesJoined codes_word own c)
+      by false off each = inr (own, inl (off, refl))
+      by true on (inl (new, joins)) = inr (new, inr (on, joins))
+      by true on (inr (f, h)) = inl (_, (on, (f, h, refl)))
+
+  message_total : (R : Contents) (id : List ℕ) → ¬ (¬ IsTotal Verdict Tables (RefusesMessage R id) (GivesTables R id))
+  message_total R id lacks = laws.ready_or_refused R id by
+    where
+      by : (IsReady R id ⊎ ((r : MessageRule) × (p : Place) × IsRefused R id r p)) → ⊥
+      by (inl ready) = laws.some_model R id ready (λ (ids, T, reached, made). lacks (inr (T, (ready, (ids, reached, made)))))
+      by (inr (r, p, f)) = lacks (inl (_, (r, p, f, refl)))
+
+  some_verb : (verb : Verb) (R : Contents) (id i : List ℕ) (T : Tables) → GivesTables R id T → Told (OfVerb verb i T)
+  some_verb Types R id i T gives lacks = lacks (_, refl)
+  some_verb Xsd R id i T gives lacks = lacks (_, refl)
+  some_verb Asn1 R id i T gives lacks = lacks (_, refl)
+  some_verb CheckXml R id i T (ready, (ids, reached, made)) lacks = laws.some_verdict T i (laws.compiled_are_sound R id ids T ready reached made).0 (laws.compiled_are_sound R id ids T ready reached made).1 by
+    where
+      by : (IsAccepted T i ⊎ ((f : XmlFault) × LimitedFault (message_of T) i f)) → ⊥
+      by (inl s) = lacks (_, spelled s refl)
+      by (inr (f, h)) = lacks (_, faulty (told_fault f) h refl)
+
+  some_from_repository : (codes_word r c : List ℕ) (Next : Contents → Verdict → Type 0) → ((R : Contents) → Told (Next R)) → Told (FromRepository codes_word r c Next)
+  some_from_repository codes_word r c Next next =
+      some_then Contents (RefusesFile r) (Spells r) (λ own. Then Verdict Contents (RefusesCodes codes_word own c) (GivesJoined codes_word own c) Next) (file_total r)
+      (λ own spells. some_then Contents (RefusesCodes codes_word own c) (GivesJoined codes_word own c) Next (λ lacks. lacks (codes_total codes_word own c)) (λ R joined. next R))
+
+  some_of : (command : Command) (r c i : List ℕ) → Told (Of command r c i)
+  some_of (list codes_word) r c i = some_from_repository codes_word r c _ (λ R lacks. lacks (_, refl))
+  some_of (message verb codes_word id) r c i =
+      some_from_repository codes_word r c (λ R. Then Verdict Tables (RefusesMessage R id) (GivesTables R id) (OfVerb verb i))
+      (λ R. some_then Tables (RefusesMessage R id) (GivesTables R id) (OfVerb verb i) (message_total R id) (λ T gives. some_verb verb R id i T gives))
+
+  pub some_answer : (ws : List (List ℕ)) (r c i : List ℕ) → Told (Answer ws r c i)
+  some_answer ws r c i lacks = lacks (_, inl ((λ command form. some_of command r c i (λ (v, of). lacks (v, inr (command, form, of)))), refl))

@@ -1,0 +1,33 @@
+//! What follows of the definitions: functions that do nothing, whose contracts are laws.
+ghost use Rattle.std.specs.Prelude.{◌≡◌, ℕ, List};
+ghost use Rattle.repo_engine.specs.Answer.{Answer};
+ghost use Rattle.repo_engine.specs.Verdict.{Verdict};
+
+/// Words and bytes have at most one answer.
+pub fn one_answer()
+    ensures { (ws : List (List ℕ)) (r c i : List ℕ) (v w : Verdict) → Answer ws r c i v → Answer ws r c i w → v ≡ w }
+{
+    repo_loader::laws::one_repository();
+    repo_loader::laws::one_load_fault();
+    repo_loader::laws::spelled_has_none();
+    code_sets::laws::one_joined();
+    code_sets::laws::one_codes_fault();
+    code_sets::laws::joined_has_none();
+    message_model::laws::one_model();
+    message_model::laws::one_refusal();
+    message_model::laws::ready_is_not_refused();
+    message_model::laws::compiled_are_sound();
+    transcoder::laws::one_verdict();
+}
+
+/// No words and bytes are without an answer.
+pub fn some_answer()
+    ensures { (ws : List (List ℕ)) (r c i : List ℕ) → ¬ (¬ ((v : Verdict) × Answer ws r c i v)) }
+{
+    repo_loader::laws::one_of_both();
+    code_sets::laws::joins_or_has_fault();
+    message_model::laws::some_model();
+    message_model::laws::ready_or_refused();
+    message_model::laws::compiled_are_sound();
+    transcoder::laws::some_verdict();
+}

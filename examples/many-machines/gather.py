@@ -1,0 +1,55 @@
+"""gather.py LIST: joins the tables of many calls of check-all, on standard input, to the one that a single call gives.
+
+Each file of LIST, a path a line, stands in it once, in their order. What was told twice is told once, where both say the
+same; a file that no table has is named on standard error. The status is the greatest of the files, and 10 where one is
+missing, or is told in two ways.
+"""
+import collections
+import csv
+import sys
+
+SHOWN = 8
+HEAD = ['file', 'status', 'rule', 'place', 'path', 'line']
+
+
+def read_rows(lines):
+    """The rows of all tables by their file, and the files that are told in two ways."""
+    rows, torn = {}, []
+    for row in csv.reader(lines):
+        if len(row) == len(HEAD) and row != HEAD and row[1].isdigit():
+            if rows.setdefault(row[0], row) != row:
+                torn.append(row[0])
+    return rows, torn
+
+
+def gather(names, rows):
+    """Writes the table; the names that it lacks."""
+    table = csv.writer(sys.stdout, lineterminator='\n')
+    table.writerow(HEAD)
+    table.writerows(rows[name] for name in names if name in rows)
+    return [name for name in names if name not in rows]
+
+
+def tell(names, rows, missing, torn):
+    counts = collections.Counter(rows[name][2] or rows[name][5] for name in names if name in rows)
+    print(f'{len(names)} files: {counts.pop("accepted", 0)} accepted', file=sys.stderr)
+    for rule, count in sorted(counts.items(), key=lambda item: (-item[1], item[0])):
+        print(f'{count:>7}  {rule}', file=sys.stderr)
+    for what, found in (('missing', missing), ('told in two ways', torn)):
+        if found:
+            print(f'{len(found)} {what}: {", ".join(found[:SHOWN])}{", .." if len(found) > SHOWN else ""}', file=sys.stderr)
+
+
+def main(path):
+    with open(path, encoding='utf-8', errors='surrogateescape') as file:
+        names = list(dict.fromkeys(line.rstrip('\n') for line in file if line.strip()))
+    for stream in (sys.stdin, sys.stdout, sys.stderr):
+        stream.reconfigure(encoding='utf-8', errors='surrogateescape')
+    rows, torn = read_rows(sys.stdin)
+    missing = gather(names, rows)
+    tell(names, rows, missing, torn)
+    return 10 if missing or torn else max((int(rows[name][1]) for name in names), default=0)
+
+
+if __name__ == '__main__':
+    sys.exit(main(sys.argv[1]))
