@@ -7,3 +7,4 @@ pub mod TypeLines
 pub mod Messages
 pub mod OneAnswer
 pub mod SomeAnswer
+pub mod AdmittedInstances

@@ -6,5 +6,6 @@ pub mod Exit
 pub mod Sources
 pub mod Texts
 pub mod Answer
+pub mod SchemaLaw
 pub mod Run
 pub mod Arms

@@ -1,6 +1,7 @@
 //! What follows of the definitions: functions that do nothing, whose contracts are laws.
 ghost use Rattle.std.specs.Prelude.{◌≡◌, ℕ, List};
 ghost use Rattle.repo_engine.specs.Answer.{Answer};
+ghost use Rattle.repo_engine.specs.SchemaLaw.{SchemaAdmitsWhatIsAccepted};
 ghost use Rattle.repo_engine.specs.Verdict.{Verdict};
 
 /// Words and bytes have at most one answer.
@@ -31,3 +32,9 @@ pub fn some_answer()
     message_model::laws::compiled_are_sound();
     transcoder::laws::some_verdict();
 }
+
+/// The schema that `xsd` writes of a message admits exactly what `check-xml` accepts: bytes of at most 2^40 are
+/// accepted exactly where they are XML of a tree that the schema admits.
+pub fn schema_admits_what_is_accepted()
+    ensures { SchemaAdmitsWhatIsAccepted }
+{}
