@@ -44,10 +44,10 @@ endings_updated p m n w h q = case (bytes_eq p q) refl
 
 -- ---- names that were given
 
-same_name : (a b : List ℕ) → bytes_eq a b ≡ true → a ≡ b
+pub same_name : (a b : List ℕ) → bytes_eq a b ≡ true → a ≡ b
 same_name a b e = (bytes_eq-Decides a b).0 e
 
-self_same : (a : List ℕ) → bytes_eq a a ≡ true
+pub self_same : (a : List ℕ) → bytes_eq a a ≡ true
 self_same a = (bytes_eq-Decides a a).1 refl
 
 turned : (a b : List ℕ) → bytes_eq a b ≡ bytes_eq b a

@@ -4,3 +4,16 @@ mod NumberedTypes
 mod PlaceLemmas
 mod SortedTypes
 mod TypeNameLemmas
+mod NamesApart
+mod Leaves
+mod Primitives
+mod Parts
+mod Instance
+mod Decoded
+mod Typed
+mod DocumentName
+mod Agreement
+mod Rows
+mod ReadyTypes
+mod Renamed
+mod ReadyModule

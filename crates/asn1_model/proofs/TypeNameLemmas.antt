@@ -15,7 +15,8 @@ use Rattle.asn1_model.specs.Places.{name_at}
 use Rattle.asn1_model.specs.TypeNames.{AreNames}
 use Rattle.asn1_model.proofs.NumberedTypes.{name_none}
 
-length-given : (taken names : List (List ℕ)) → length (given_after taken names) ≡ length names
+-- as many names are given as there are
+pub length-given : (taken names : List (List ℕ)) → length (given_after taken names) ≡ length names
 length-given taken [] = refl
 length-given taken (n ∷ ns) = ap (λ k. suc k) (length-given (first_free (length taken) taken n 0 ∷ taken) ns)
 

@@ -1,6 +1,11 @@
 pub mod Names
 pub mod ModuleOf
 pub mod ModuleText
+pub mod Constraints
+pub mod Values
+pub mod InstanceValues
+pub mod Agreement
+pub mod Sound
 pub mod Joined
 pub mod Given
 pub mod Order

@@ -1,11 +1,14 @@
 //! The ASN.1 module of a compiled message, as a value (X.680).
 //!
 //! `module_of` gives the types that the message's types are in a module under automatic tags, sorted by name, with
-//! names that X.680 has: a name that would come twice gets an ending.
+//! names that X.680 has: a name that would come twice gets an ending. What a module means, which values its types have
+//! and the DER of these, is defined of the module alone (`specs/Values.antt`), and `laws` says that the bytes of its
+//! `Document` are those of the instances that the message admits.
 #![tactic(auto)]
 
 mod fields;
 mod given;
+pub mod laws;
 mod make;
 pub mod module;
 mod names;

@@ -3,8 +3,9 @@
 //!
 //! `specs/` has the definitions, in reading order in `Lib.antt`: what DER an admitted value has
 //! (`Der`), which parts bytes are and what is open behind them (`States`, `Paths`), and the rule, the
-//! place and the path of what is wrong first (`Faults`). `laws` says that these agree. There is no reader
-//! and no writer yet.
+//! place and the path of what is wrong first (`Faults`). `laws` says that these agree. `Decoder` takes
+//! the octets of headers, the ends of values and the end of input, and `Components` of `specs/` says what it
+//! finds; contents are not read yet, and nothing is written.
 //!
 //! Tag numbers are below 2^14, lengths below 2^63.
 #![tactic(auto)]
