@@ -11,6 +11,12 @@ FAMILIES = {'string': 'text', 'decimal': 'number', 'boolean': 'Indicator', 'base
             'dateTime': 'DateTime', 'time': 'Time', 'gYear': 'Year', 'gYearMonth': 'YearMonth',
             'gMonthDay': 'MonthDay', 'gMonth': 'Month', 'gDay': 'Day'}
 DATES = ('Date', 'DateTime', 'Time', 'Year', 'YearMonth', 'MonthDay', 'Month', 'Day')
+ZONE = r'(Z|[+\-][0-9]{2}:[0-9]{2})?'
+CLOCK = r'([01][0-9]|2[0-3]):[0-5][0-9]:[0-5][0-9](\.[0-9]{1,9})?'
+# the patterns that `xsd` writes of all dates and times (docs/FORMATS.md, Written schemas): they ask nothing more here
+PROFILES = {'Date': '[0-9]{4}-[0-9]{2}-[0-9]{2}' + ZONE, 'DateTime': '[0-9]{4}-[0-9]{2}-[0-9]{2}T' + CLOCK + ZONE, 'Time': CLOCK + ZONE,
+            'Year': '[0-9]{4}' + ZONE, 'YearMonth': '[0-9]{4}-[0-9]{2}' + ZONE, 'MonthDay': '--[0-9]{2}-[0-9]{2}' + ZONE,
+            'Month': '--[0-9]{2}' + ZONE, 'Day': '---[0-9]{2}' + ZONE}
 LENGTHS = ('minLength', 'maxLength', 'length')
 DIGITS = ('totalDigits', 'fractionDigits')
 LOWER = ('minInclusive', 'minExclusive')
@@ -130,7 +136,7 @@ class SimpleTypes:
     def take_patterns(self, facets, base, result):
         """Patterns of one restriction are alternatives; those of two restrictions both count."""
         texts = [facet.get('value', '') for facet in facets]
-        if not texts or 'pattern' not in facets_of_family(base.family):
+        if not texts or 'pattern' not in facets_of_family(base.family) or texts == [PROFILES.get(base.family)]:
             return
         if 'pattern' in base.facets:
             self.schema.tell(facets[0], 'a pattern beside that of the base type')
