@@ -39,13 +39,13 @@ pub made_at : (types : Graph ℕ Simple) (n : ℕ) (check : LeafCheck) (simple :
 made_at types n check simple e made other q = (let same : simple ≡ other = (let h : Some simple ≡ Some other = sym e ∙ q in cc) in subst (IsMadeFor check) same made)
 
 -- what the open text has is what its check has
-pub text_simple : (m : Message ℕ) (t : OpenText) (s simple : Simple) (text : List ℕ) → text_type (m.forms t.number) ≡ Some s → HoldsText m (Some t) simple text → (s ≡ simple) × HasTaken t.check s text
-text_simple m t s simple text e h = (let same : s ≡ simple = (let q : Some s ≡ Some simple = sym e ∙ h.0 in cc) in (same, subst (λ (x : Simple). HasTaken t.check x text) (sym same) h.1))
+pub text_simple : (m : Message ℕ) (t : OpenText) (s simple : Simple) (text : List ℕ) → text_type (m.forms t.number) ≡ Some s → HoldsText m (Some t) simple text → (s ≡ simple) × HasTaken t.check.value s text
+text_simple m t s simple text e h = (let same : s ≡ simple = (let q : Some s ≡ Some simple = sym e ∙ h.0 in cc) in (same, subst (λ (x : Simple). HasTaken t.check.value x text) (sym same) h.1))
 
 pub held : (m : Message ℕ) (text : Option OpenText) (t : OpenText) (simple : Simple) (taken : List ℕ) → text ≡ Some t → HoldsText m text simple taken → HoldsText m (Some t) simple taken
 held m text t simple taken e h = subst (λ (x : Option OpenText). HoldsText m x simple taken) e h
 
-pub made_text : (types : Graph ℕ Simple) (text : Option OpenText) (t : OpenText) → text ≡ Some t → IsTextMade types text → IsMadeAt types t.number t.check
+pub made_text : (types : Graph ℕ Simple) (text : Option OpenText) (t : OpenText) → text ≡ Some t → IsTextMade types text → IsMadeAt types t.number t.check.value
 made_text types text t e h = subst (IsTextMade types) e h
 
 pub says_at : {T : Type 0} (simple s : Simple) (text path : List ℕ) (r : Result T Refusal) → s ≡ simple → Says (LeafFault s text (path ++ [])) r → Says (LeafFault simple text path) r

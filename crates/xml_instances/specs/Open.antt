@@ -1,5 +1,6 @@
 -- What the code keeps of the open elements.
 use Rattle.std.specs.Prelude.{◌≡◌, ℕ, Bool, true, false, List, [], ◌∷◌, ◌++◌, Option, Some, None, reverse, slice_get, option_to_list, codes, Result, Ok, Err}
+use Rattle.std.specs.Global.{Box}
 use Rattle.lexical_core.specs.declared.rule.Rule.{Rule}
 use Rattle.lexical_core.specs.declared.rule.Rule.TheVariants.{TooMany}
 use Rattle.lexical_core.specs.Tree.{Expanded, Entry, Item}
@@ -31,7 +32,7 @@ use Rattle.xml_instances.specs.declared.content.Content.{Content}
 -- the check of the open text has taken its characters
 abbrev pub HoldsText : Message ℕ → Option OpenText → Simple → List ℕ → Type 0
 HoldsText m None simple text = ⊥
-HoldsText m (Some t) simple text = (text_type (m.forms t.number) ≡ Some simple) × HasTaken t.check simple text
+HoldsText m (Some t) simple text = (text_type (m.forms t.number) ≡ Some simple) × HasTaken t.check.value simple text
 
 -- an element is kept as this; of one with elements its type, and the last slot with its count
 abbrev pub StandsFor : Message ℕ → Option OpenText → Opened → Level ℕ → Type 0
@@ -68,20 +69,20 @@ IsMadeAt types n check = (simple : Simple) → text_type (types n) ≡ Some simp
 
 -- each check that is kept was made for the type of its number
 abbrev pub AreKept : Graph ℕ Simple → Checks → Type 0
-AreKept types checks = (n : ℕ) (check : LeafCheck) → slice_get checks.entries.items n ≡ Some (Some check) → IsMadeAt types n check
+AreKept types checks = (n : ℕ) (check : Box LeafCheck) → slice_get checks.entries.items n ≡ Some (Some check) → IsMadeAt types n check.value
 
 abbrev pub IsTextMade : Graph ℕ Simple → Option OpenText → Type 0
 IsTextMade types None = Unit {0}
-IsTextMade types (Some t) = IsMadeAt types t.number t.check
+IsTextMade types (Some t) = IsMadeAt types t.number t.check.value
 
 -- the checks of the content were made for these types
 pub record AreMade (types : Graph ℕ Simple) (content : Content) : Type 0 where
   pub kept : AreKept types content.checks
   pub text : IsTextMade types content.text
 
-abbrev pub IsMade : Graph ℕ Simple → ℕ → Option LeafCheck → Type 0
+abbrev pub IsMade : Graph ℕ Simple → ℕ → Option (Box LeafCheck) → Type 0
 IsMade types n None = Unit {0}
-IsMade types n (Some check) = IsMadeAt types n check
+IsMade types n (Some check) = IsMadeAt types n check.value
 
 -- the rule that a text breaks, if it breaks one
 abbrev pub IsRuleOf : Simple → List ℕ → Option Rule → Type 0

@@ -33,7 +33,7 @@ const DOCUMENT: &[u8] = b"Document";
 #[derive(Drop)]
 pub(crate) struct OpenText {
     number: u32,
-    check: LeafCheck,
+    check: Box<LeafCheck>,
 }
 
 /// The open elements.

@@ -10,7 +10,7 @@ use std::alloc::Global;
 /// Checks by the number of their type.
 #[derive(Drop)]
 pub(crate) struct Checks {
-    entries: Vec<Option<LeafCheck>>,
+    entries: Vec<Option<Box<LeafCheck>>>,
 }
 
 impl Checks {
@@ -24,7 +24,7 @@ impl Checks {
     }
 
     /// Takes the check of the type away; `None` where there is none.
-    pub(crate) fn take(&mut self, number: u32) -> Option<LeafCheck>
+    pub(crate) fn take(&mut self, number: u32) -> Option<Box<LeafCheck>>
         ensures kept { (types : Graph ℕ SimpleType) → AreKept types self.old → AreKept types self.new }
         ensures made { (types : Graph ℕ SimpleType) → AreKept types self.old → IsMade types number result }
     {
@@ -37,8 +37,8 @@ impl Checks {
     }
 
     /// Keeps a check of the type, unless there is no memory for it.
-    pub(crate) fn keep(&mut self, number: u32, check: LeafCheck)
-        ensures { (types : Graph ℕ SimpleType) → AreKept types self.old → IsMadeAt types number check → AreKept types self.new }
+    pub(crate) fn keep(&mut self, number: u32, check: Box<LeafCheck>)
+        ensures { (types : Graph ℕ SimpleType) → AreKept types self.old → IsMadeAt types number check.value → AreKept types self.new }
     {
         let at = number as usize;
         if !self.grow(number) {

@@ -1,7 +1,7 @@
 // The text of an element: its characters, and its end.
 ghost use Rattle.std.specs.Prelude.{◌≡◌, ℕ, List, [], ◌∷◌, ◌++◌, Some, IfOk, OnOk};
 ghost use Rattle.facets.specs.declared.simple.Simple.{Simple as SimpleType};
-ghost use Rattle.facets.specs.LeafChecks.{HasTaken};
+ghost use Rattle.facets.specs.LeafChecks.{HasTaken, IsWithinLimits};
 ghost use Rattle.reference_check.specs.Forms.{text_type};
 ghost use Rattle.message_model.specs.Tables.{message_of, types_of};
 ghost use Rattle.xml_instances.specs.EventFaults.{LeafFault};
@@ -13,7 +13,7 @@ use crate::opened::{Opened, Refusal};
 use crate::texts::{rule_of, take_character};
 use facets::{LeafCheck, Simple};
 use message_model::Model;
-use std::alloc::AllocError;
+use std::alloc::{AllocError, Global};
 
 impl Content {
     /// A character of the open text.
@@ -62,13 +62,13 @@ impl Content {
         model: &Model,
         number: u32,
         simple: &Simple,
-    ) -> Result<LeafCheck, AllocError>
+    ) -> Result<Box<LeafCheck>, AllocError>
         requires made { AreMade (types_of model.now) self.old }
         requires simple { text_type (types_of model.now number) ≡ Some simple.now }
         ensures made { AreMade (types_of model.now) self.new }
         ensures kept { self.new.innermost ≡ self.old.innermost }
         ensures round { self.new.round ≡ self.old.round }
-        ensures taken { IfOk result (λ check. HasTaken check simple.now []) }
+        ensures taken { IfOk result (λ check. HasTaken check.value simple.now []) }
     {
         let _ = model.type_count();
         match self.checks.take(number) {
@@ -76,7 +76,7 @@ impl Content {
                 check.restart(simple);
                 Ok(check)
             }
-            None => LeafCheck::new(self.alloc, simple),
+            None => fresh(self.alloc, simple),
         }
     }
 
@@ -102,4 +102,12 @@ impl Content {
             Err(error) => Err(error),
         }
     }
+}
+
+/// A check of a text of the type that was never used.
+fn fresh(alloc: Global, simple: &Simple) -> Result<Box<LeafCheck>, AllocError>
+    requires { IsWithinLimits simple.now }
+    ensures { IfOk result (λ check. HasTaken check.value simple.now []) }
+{
+    Ok(Box::new(alloc, LeafCheck::new(alloc, simple)?)?)
 }

@@ -1,0 +1,14 @@
+use Rattle.std.proofs.Common.{rules}
+use Rattle.xml_instances.proofs.checker.XmlChecker.finish.Goals as goal
+
+pub returns-clause-err : goal.returns-clause-err
+returns-clause-err c bytes h = c.finish_all.ensures.err bytes (record {
+  told = h.told;
+  given = h.given;
+  counted = h.counted;
+  placed = h.placed;
+  fine = h.fine;
+  open_are = h.open_are;
+  none = h.none;
+  sound = search rules;
+})
