@@ -14,19 +14,20 @@ use Rattle.data_types.specs.Booleans.{IsBooleanText}
 use Rattle.data_types.specs.Dates.{FitsPlace, HasForm, IsFraction, IsZone, IsDateText}
 use Rattle.data_types.specs.ShortTexts.{IsShort}
 
--- a character of ASCII that is seen, and that stands for itself in XML
+-- a character of ASCII that is seen, and that stands for itself in XML, also in the value of an attribute
 pub record IsVisible (c : ℕ) : Type 0 where
   pub low : 33 ≤ c
   pub high : c < 127
   pub no_ampersand : c ≢ 38
   pub no_less : c ≢ 60
   pub no_greater : c ≢ 62
+  pub no_quote : c ≢ 34
 
 abbrev pub AreVisible : List ℕ → Type 0
 AreVisible text = AllByRecursion IsVisible text
 
 visible : ℕ → Bool
-visible c = nat_le 33 c && (nat_lt c 127 && (not (c == 38) && (not (c == 60) && not (c == 62))))
+visible c = nat_le 33 c && (nat_lt c 127 && (not (c == 38) && (not (c == 60) && (not (c == 62) && not (c == 34)))))
 
 all_visible : List ℕ → Bool
 all_visible [] = true
@@ -40,6 +41,7 @@ visible_is c h = record {
   no_ampersand = grind (arith, nat_tests);
   no_less = grind (arith, nat_tests);
   no_greater = grind (arith, nat_tests);
+  no_quote = grind (arith, nat_tests);
 }
 
 all_visible_are : (text : List ℕ) → all_visible text ≡ true → AreVisible text
@@ -85,6 +87,7 @@ digit_visible c h = record {
   no_ampersand = grind (arith, nat_tests);
   no_less = grind (arith, nat_tests);
   no_greater = grind (arith, nat_tests);
+  no_quote = grind (arith, nat_tests);
 }
 
 pub digits_visible : (digits : List ℕ) → AllDigits 10 digits → AreVisible digits

@@ -1,0 +1,246 @@
+-- A fragment is that of one tree, and no front of another's.
+use Rattle.std.proofs.Common.{◌≡◌, ℕ, ◌+◌, ◌≤◌, ◌⊎◌, inl, inr, true, List, [], ◌∷◌, ◌++◌, length, refl, sym, ap, ap₂, subst, ◌∙◌, Option, None, Some, arith, append_assoc, append-nil, length-append}
+use Rattle.std.specs.Prelude.{nat_le}
+use Rattle.std.specs.List.{flat_map, AllByRecursion}
+use Rattle.std.proofs.lemmas.Bool.{le-leb, leb-true}
+use Rattle.std.proofs.lemmas.List.{append_cancel_left}
+use Rattle.lexical_core.specs.Tree.{Expanded, Entry, Item, Starts, Char, Ends, Skipped, Nodes, Nothing, Element, Text, Tree, flat_nodes, flat}
+use Rattle.markup.specs.Token.{Token, Mark, Declaration, Comment, Instruction, Opener, Closer, TypeDeclaration, Start, End, Refer, LineEnd, Character, token_bytes}
+use Rattle.markup.specs.Marks.{Front, is_short, tag_limit}
+use Rattle.markup.specs.declared.tag.Opening.{Opening}
+use Rattle.markup.specs.Reference.{referred}
+use Rattle.markup.specs.Events.{open_tags, ended, end_items}
+use Rattle.markup.specs.Faults.{is_over, has_start}
+use Rattle.markup.proofs.TokenLaw.{fronts_agree}
+use Rattle.fragments.specs.Plain.{IsPlain}
+use Rattle.fragments.specs.Fragment.{fragment}
+use Rattle.respell.specs.ShortTags.{HaveShortTags, HasShortTags}
+use Rattle.respell.specs.Laws.{OneTree, NoProperFront, Reads, ReadBack}
+use Rattle.respell.proofs.Runs.{behind, items_in, items-append, runs_front, events_items, AllShort, short_parts}
+use Rattle.respell.proofs.Fronts.{front_of}
+use Rattle.respell.proofs.Trees.{Stays, fragment_stays}
+
+-- the events of children, up to an end, say the children
+pub record Same (ns ms : Nodes) (x y : Expanded) (r s : List Item) : Type 0 where
+  pub nodes : ns ≡ ms
+  pub ends : x ≡ y
+  pub rest : r ≡ s
+
+not_start : {A : Type 0} (x n : Expanded) (a : List Entry) (r s : List Item) → Ends x ∷ r ≡ Starts n a ∷ s → A
+not_start x n a r s e = absurd (let h : Ends x ≡ Starts n a = heads _ _ _ _ e in cc)
+  where
+    heads : (i j : Item) (r s : List Item) → i ∷ r ≡ j ∷ s → i ≡ j
+    heads i j r s e = cc
+
+not_char : {A : Type 0} (x : Expanded) (c : ℕ) (r s : List Item) → Ends x ∷ r ≡ Char c ∷ s → A
+not_char x c r s e = absurd (let h : Ends x ≡ Char c = heads _ _ _ _ e in cc)
+  where
+    heads : (i j : Item) (r s : List Item) → i ∷ r ≡ j ∷ s → i ≡ j
+    heads i j r s e = cc
+
+start_char : {A : Type 0} (n : Expanded) (a : List Entry) (c : ℕ) (r s : List Item) → Starts n a ∷ r ≡ Char c ∷ s → A
+start_char n a c r s e = absurd (let h : Starts n a ≡ Char c = heads _ _ _ _ e in cc)
+  where
+    heads : (i j : Item) (r s : List Item) → i ∷ r ≡ j ∷ s → i ≡ j
+    heads i j r s e = cc
+
+pub record SameStart (n m : Expanded) (a b : List Entry) (r s : List Item) : Type 0 where
+  pub name : n ≡ m
+  pub attributes : a ≡ b
+  pub rest : r ≡ s
+
+same_start : (n m : Expanded) (a b : List Entry) (r s : List Item) → Starts n a ∷ r ≡ Starts m b ∷ s → SameStart n m a b r s
+same_start n m a b r s e = (let h : Starts n a ≡ Starts m b = cc in record { name = cc; attributes = cc; rest = cc })
+
+same_end : (x y : Expanded) (r s : List Item) → Ends x ∷ r ≡ Ends y ∷ s → (x ≡ y) × (r ≡ s)
+same_end x y r s e = (let h : Ends x ≡ Ends y = cc in (cc, cc))
+
+same_char : (c d : ℕ) (r s : List Item) → Char c ∷ r ≡ Char d ∷ s → (c ≡ d) × (r ≡ s)
+same_char c d r s e = (let h : Char c ≡ Char d = cc in (cc, cc))
+
+same_nodes : (ns ms : Nodes) (x y : Expanded) (r s : List Item) → flat_nodes ns ++ Ends x ∷ r ≡ flat_nodes ms ++ Ends y ∷ s → Same ns ms x y r s
+same_nodes Nothing Nothing x y r s e = (let h = same_end x y r s e in record { nodes = refl; ends = h.0; rest = h.1 })
+same_nodes Nothing (Element n a c k) x y r s e = not_start x n a _ _ e
+same_nodes Nothing (Text c k) x y r s e = not_char x c _ _ e
+same_nodes (Element n a c k) Nothing x y r s e = not_start y n a _ _ (sym e)
+same_nodes (Text c k) Nothing x y r s e = not_char y c _ _ (sym e)
+same_nodes (Element n a c k) (Text d l) x y r s e = start_char n a d _ _ e
+same_nodes (Text d l) (Element n a c k) x y r s e = start_char n a d _ _ (sym e)
+same_nodes (Text c k) (Text d l) x y r s e =
+    let h = same_char c d _ _ e in let more = same_nodes k l x y r s h.1 in
+    record { nodes = ap₂ (λ (u : ℕ) (v : Nodes). Text u v) h.0 more.nodes; ends = more.ends; rest = more.rest }
+same_nodes (Element n a c k) (Element m b d l) x y r s e =
+    let h = same_start n m a b _ _ e in
+    let inner = same_nodes c d n m (flat_nodes k ++ Ends x ∷ r) (flat_nodes l ++ Ends y ∷ s)
+    (sym (append_assoc (flat_nodes c) (Ends n ∷ flat_nodes k) (Ends x ∷ r)) ∙ (h.rest ∙ append_assoc (flat_nodes d) (Ends m ∷ flat_nodes l) (Ends y ∷ s))) in
+    let more = same_nodes k l x y r s inner.rest in record {
+      nodes = whole n m a b c d k l h.name h.attributes inner.nodes more.nodes;
+      ends = more.ends;
+      rest = more.rest;
+    }
+  where
+    whole : (n m : Expanded) (a b : List Entry) (c d k l : Nodes) → n ≡ m → a ≡ b → c ≡ d → k ≡ l → Element n a c k ≡ Element m b d l
+    whole n m a b c d k l e f g h = cc
+
+-- events of a tree that begin with those of another
+same_tree : (t u : Tree) (more : List Item) → flat t ++ more ≡ flat u → t ≡ u
+same_tree t u more e =
+    let h = same_start t.name u.name t.attributes u.attributes _ _ e in
+    let inner = same_nodes t.children u.children t.name u.name more [] (sym (append_assoc (flat_nodes t.children) (Ends t.name ∷ []) more) ∙ h.rest) in
+    whole t u h.name h.attributes inner.nodes
+  where
+    whole : (t u : Tree) → t.name ≡ u.name → t.attributes ≡ u.attributes → t.children ≡ u.children → t ≡ u
+    whole t u e f g = ap₂ (λ (x : Expanded × List Entry) (y : Nodes). record { name = x.0; attributes = x.1; children = y }) (ap₂ (λ (x : Expanded) (y : List Entry). (x, y)) e f) g
+
+-- no tag is longer than all of the text
+within_all : (limit : ℕ) (t : Token) → length (token_bytes t) ≤ limit → is_short limit t ≡ true
+within_all limit Mark h = refl
+within_all limit (Declaration f g) h = refl
+within_all limit (Comment c) h = refl
+within_all limit (Instruction a b) h = refl
+within_all limit Opener h = refl
+within_all limit Closer h = refl
+within_all limit TypeDeclaration h = refl
+within_all limit (Start tag) h = le-leb _ _ h
+within_all limit (End n g) h = le-leb _ _ h
+within_all limit (Refer r) h = refl
+within_all limit (LineEnd l) h = refl
+within_all limit (Character c) h = refl
+
+pub all_within : (limit : ℕ) (ts : List Token) → length (flat_map token_bytes ts) ≤ limit → AllByRecursion (λ t. is_short limit t ≡ true) ts
+all_within limit [] h = tt
+all_within limit (t ∷ ts) h =
+    let l = length-append (token_bytes t) (flat_map token_bytes ts) in
+    (within_all limit t (omega (arith, l, h)), all_within limit ts (omega (arith, l, h)))
+
+abbrev pub FragmentStays : Tree → Type 0
+FragmentStays t = Stays [] (flat t) (fragment t) (λ limit. HaveShortTags limit None (Element t.name t.attributes t.children Nothing))
+
+short_front : (t : Tree) (s : FragmentStays t) (limit : ℕ) (rest : List ℕ) → AllShort limit s.run.tokens → Front limit [] (fragment t ++ rest) s.run.tokens rest
+short_front t s limit rest h = subst (λ (b : List ℕ). Front limit [] (b ++ rest) s.run.tokens rest) s.run.bytes (runs_front limit [] s.run.tokens rest s.run.stand h)
+
+fragment_front : (t : Tree) (s : FragmentStays t) (limit : ℕ) (rest : List ℕ) → length (fragment t) ≤ limit → Front limit [] (fragment t ++ rest) s.run.tokens rest
+fragment_front t s limit rest h = short_front t s limit rest (all_within limit s.run.tokens (subst (λ (b : List ℕ). length b ≤ limit) (sym s.run.bytes) h))
+
+-- a fragment at the front of another
+pub fronts_same : (t u : Tree) (rest : List ℕ) → IsPlain t → IsPlain u → fragment t ++ rest ≡ fragment u → t ≡ u
+fronts_same t u rest p q e =
+    let s = fragment_stays t p in let r = fragment_stays u q in
+    let limit = length (fragment u) in
+    let l = length-append (fragment t) rest in let k : length (fragment t ++ rest) ≡ length (fragment u) = ap length e in
+    let f : Front limit [] (fragment u) s.run.tokens rest = subst (λ (b : List ℕ). Front limit [] b s.run.tokens rest) e (fragment_front t s limit rest (omega (arith, l, k))) in
+    let g : Front limit [] (fragment u) r.run.tokens [] = subst (λ (b : List ℕ). Front limit [] b r.run.tokens []) (append-nil (fragment u)) (fragment_front u r limit [] (omega arith)) in
+    elim (fronts_agree limit [] (fragment u) s.run.tokens r.run.tokens rest [] f g) as (λ _. t ≡ u) [
+      | inl (more, is) ↦ same_tree t u (items_in (behind [] s.run.tokens) more) (ap (λ (x : List Item). x ++ items_in (behind [] s.run.tokens) more) (sym s.run.told) ∙ (sym (items-append [] s.run.tokens more) ∙ (ap (items_in []) (sym is) ∙ r.run.told)))
+      | inr (more, is) ↦ sym (same_tree u t (items_in (behind [] r.run.tokens) more) (ap (λ (x : List Item). x ++ items_in (behind [] r.run.tokens) more) (sym r.run.told) ∙ (sym (items-append [] r.run.tokens more) ∙ (ap (items_in []) (sym is) ∙ s.run.told))))
+    ]
+
+pub one_tree : OneTree
+one_tree t u p q e = fronts_same t u [] p q (append-nil (fragment t) ∙ e)
+
+pub no_proper_front : NoProperFront
+no_proper_front t u rest p q e =
+    let same = fronts_same t u rest p q e in
+    append_cancel_left (fragment t) rest [] (e ∙ (ap fragment (sym same) ∙ sym (append-nil (fragment t))))
+
+-- the root has come
+started : (before ts : List Token) → has_start before ≡ true → has_start (behind before ts) ≡ true
+started before [] h = h
+started before (Start tag ∷ ts) h = started (Start tag ∷ before) ts refl
+started before (Mark ∷ ts) h = started (Mark ∷ before) ts h
+started before (Declaration f g ∷ ts) h = started (Declaration f g ∷ before) ts h
+started before (Comment c ∷ ts) h = started (Comment c ∷ before) ts h
+started before (Instruction a b ∷ ts) h = started (Instruction a b ∷ before) ts h
+started before (Opener ∷ ts) h = started (Opener ∷ before) ts h
+started before (Closer ∷ ts) h = started (Closer ∷ before) ts h
+started before (TypeDeclaration ∷ ts) h = started (TypeDeclaration ∷ before) ts h
+started before (End n g ∷ ts) h = started (End n g ∷ before) ts h
+started before (Refer r ∷ ts) h = started (Refer r ∷ before) ts h
+started before (LineEnd l ∷ ts) h = started (LineEnd l ∷ before) ts h
+started before (Character c ∷ ts) h = started (Character c ∷ before) ts h
+
+heads_same : (i j : Item) (r s : List Item) → i ∷ r ≡ j ∷ s → i ≡ j
+heads_same i j r s e = cc
+
+ended_cases : (o : Option Expanded) → (ended o ≡ []) ⊎ ((n : Expanded) × (ended o ≡ Ends n ∷ []))
+ended_cases None = inl refl
+ended_cases (Some n) = inr (n, refl)
+
+end_cases : (tags : List Opening) → (end_items tags ≡ []) ⊎ ((n : Expanded) × (end_items tags ≡ Ends n ∷ []))
+end_cases [] = inl refl
+end_cases (t ∷ tags) = ended_cases _
+
+-- without a start tag nothing starts
+pub no_starts : (before ts : List Token) (n : Expanded) (a : List Entry) (r : List Item) → items_in before ts ≡ Starts n a ∷ r → has_start (behind before ts) ≡ true
+no_starts before [] n a r e = absurd (let h : [] ≡ Starts n a ∷ r = e in cc)
+no_starts before (Start tag ∷ ts) n a r e = started (Start tag ∷ before) ts refl
+no_starts before (Mark ∷ ts) n a r e = absurd (let h : Skipped ≡ Starts n a = heads_same _ _ _ _ e in cc)
+no_starts before (Declaration f g ∷ ts) n a r e = absurd (let h : Skipped ≡ Starts n a = heads_same _ _ _ _ e in cc)
+no_starts before (Comment c ∷ ts) n a r e = absurd (let h : Skipped ≡ Starts n a = heads_same _ _ _ _ e in cc)
+no_starts before (Instruction p q ∷ ts) n a r e = absurd (let h : Skipped ≡ Starts n a = heads_same _ _ _ _ e in cc)
+no_starts before (Opener ∷ ts) n a r e = absurd (let h : Skipped ≡ Starts n a = heads_same _ _ _ _ e in cc)
+no_starts before (Closer ∷ ts) n a r e = absurd (let h : Skipped ≡ Starts n a = heads_same _ _ _ _ e in cc)
+no_starts before (TypeDeclaration ∷ ts) n a r e = absurd (let h : Skipped ≡ Starts n a = heads_same _ _ _ _ e in cc)
+no_starts before (End m g ∷ ts) n a r e = elim (end_cases (open_tags before)) [
+  | inl z ↦ no_starts (End m g ∷ before) ts n a r (ap (λ (l : List Item). l ++ items_in (End m g ∷ before) ts) (sym z) ∙ e)
+  | inr (x, z) ↦ absurd (let h : Ends x ≡ Starts n a = heads_same _ _ _ _ (ap (λ (l : List Item). l ++ items_in (End m g ∷ before) ts) (sym z) ∙ e) in cc)
+]
+no_starts before (Refer x ∷ ts) n a r e = absurd (let h : Char (referred x) ≡ Starts n a = heads_same _ _ _ _ e in cc)
+no_starts before (LineEnd l ∷ ts) n a r e = absurd (let h : Char 10 ≡ Starts n a = heads_same _ _ _ _ e in cc)
+no_starts before (Character c ∷ ts) n a r e = absurd (let h : Char c ≡ Starts n a = heads_same _ _ _ _ e in cc)
+
+pub over_of : (before : List Token) → has_start before ≡ true → open_tags before ≡ [] → is_over before ≡ true
+over_of before h e = rw (h, e) refl
+
+reads_by : (t : Tree) (limit : ℕ) (s : FragmentStays t) → Front limit [] (fragment t ++ []) s.run.tokens [] → Reads limit (fragment t) t
+reads_by t limit s f =
+    record {
+      tokens = s.run.tokens;
+      marks = subst (λ (b : List ℕ). Front limit [] b s.run.tokens []) (append-nil (fragment t)) f;
+      clean = s.run.clean;
+      over = over_of (behind [] s.run.tokens) (no_starts [] s.run.tokens t.name t.attributes _ s.run.told) s.tags;
+      told = events_items [] 0 s.run.tokens ∙ s.run.told;
+    }
+
+pub read_back : ReadBack
+read_back t limit p h = let s = fragment_stays t p in reads_by t limit s (fragment_front t s limit [] h)
+
+-- a fragment with short tags is read back
+pub read_short : (t : Tree) → IsPlain t → HasShortTags t → Reads tag_limit (fragment t) t
+read_short t p h = let s = fragment_stays t p in reads_by t tag_limit s (short_front t s tag_limit [] ((s.short tag_limit).0 h))
+
+-- ---- the tags of a fragment are those of its tokens
+
+front_weaker : (limit more : ℕ) (before : List Token) (bytes : List ℕ) (ts : List Token) (rest : List ℕ) → limit ≤ more → Front limit before bytes ts rest → Front more before bytes ts rest
+front_weaker limit more before bytes [] rest le f = f
+front_weaker limit more before bytes (t ∷ ts) rest le (after, cell, short, f) = (after, cell, within t short, front_weaker limit more (t ∷ before) after ts rest le f)
+  where
+    longer : (n : ℕ) → nat_le n limit ≡ true → nat_le n more ≡ true
+    longer n h = le-leb n more (let l = leb-true n limit h in omega (arith, l, le))
+
+    within : (t : Token) → is_short limit t ≡ true → is_short more t ≡ true
+    within Mark h = refl
+    within (Declaration f g) h = refl
+    within (Comment c) h = refl
+    within (Instruction a b) h = refl
+    within Opener h = refl
+    within Closer h = refl
+    within TypeDeclaration h = refl
+    within (Start tag) h = longer (length (token_bytes (Start tag))) h
+    within (End n g) h = longer (length (token_bytes (End n g))) h
+    within (Refer r) h = refl
+    within (LineEnd l) h = refl
+    within (Character c) h = refl
+
+front_short : (limit : ℕ) (before : List Token) (bytes : List ℕ) (ts : List Token) (rest : List ℕ) → Front limit before bytes ts rest → AllShort limit ts
+front_short limit before bytes [] rest f = tt
+front_short limit before bytes (t ∷ ts) rest (after, cell, short, f) = (short, front_short limit (t ∷ before) after ts rest f)
+
+-- what a reader of XML takes whole has short tags
+pub short_of : (t : Tree) → IsPlain t → (tokens : List Token) → Front tag_limit [] (fragment t) tokens [] → HasShortTags t
+short_of t p tokens f =
+    let s = fragment_stays t p in
+    let limit : ℕ = tag_limit + length (fragment t) in
+    let g : Front limit [] (fragment t) s.run.tokens [] = subst (λ (b : List ℕ). Front limit [] b s.run.tokens []) (append-nil (fragment t)) (fragment_front t s limit [] (omega arith)) in
+    let m = front_of limit (fragment t) s.run.tokens tokens [] g (front_weaker tag_limit limit [] (fragment t) tokens [] (omega arith) f) in
+    (s.short tag_limit).1 (short_parts tag_limit s.run.tokens m.0 (subst (AllShort tag_limit) m.1 (front_short tag_limit [] (fragment t) tokens [] f))).0

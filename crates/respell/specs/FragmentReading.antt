@@ -1,0 +1,38 @@
+-- What a reader of a fragment has read. Private functions alone cite this.
+use Rattle.std.specs.Prelude.{◌≡◌, ℕ, ◌<◌, List, [], ◌∷◌, map}
+use Rattle.lexical_core.specs.Tree.{Item, Starts, Char, Ends, Skipped, Tree}
+use Rattle.markup.specs.Events.{Placed}
+use Rattle.markup.specs.EventItems.{item_of}
+use Rattle.markup.specs.Reading.{HasTaken as HasTakenBytes}
+use Rattle.markup.specs.declared.event.Event.{Event}
+use Rattle.fragments.specs.Plain.{IsPlain}
+use Rattle.fragments.specs.Fragment.{fragment}
+use Rattle.respell.specs.Kept.{HasWritten}
+use Rattle.respell.specs.ShortTags.{HasShortTags}
+use Rattle.respell.specs.declared.fragment_reader.FragmentReader.{FragmentReader}
+
+-- where so many elements are open, no character stands outside them
+abbrev pub NoneOutside : ℕ → List Item → Type 0
+NoneOutside n [] = Unit {0}
+NoneOutside n (Starts name attributes ∷ items) = NoneOutside (Prim.Native.Nat.suc n) items
+NoneOutside n (Ends name ∷ items) = NoneOutside (Prim.Native.Nat.pred n) items
+NoneOutside n (Char c ∷ items) = (0 < n) × NoneOutside n items
+NoneOutside n (Skipped ∷ items) = NoneOutside n items
+
+-- what events say
+abbrev pub event_items : List Event → List Item
+event_items events = map (λ e. item_of e.what) events
+
+-- The events of these bytes were taken, none a character outside the root, and of their text this front was forgotten.
+pub record HasReadFront (r : FragmentReader) (bytes forgotten : List ℕ) : Type 0 where
+  pub told : List Placed
+  pub reads : HasTakenBytes r.reader bytes told
+  pub writes : HasWritten r.respell forgotten (map (λ p. p.item) told)
+  pub inside : NoneOutside 0 (map (λ p. p.item) told)
+
+-- the bytes are the fragment of a plain tree with short tags
+pub record IsShortFragment (bytes : List ℕ) : Type 0 where
+  pub tree : Tree
+  pub plain : IsPlain tree
+  pub short : HasShortTags tree
+  pub spelled : fragment tree ≡ bytes

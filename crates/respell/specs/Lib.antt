@@ -1,0 +1,6 @@
+pub mod Respelling
+pub mod Kept
+pub mod ShortTags
+pub mod Laws
+pub mod Declaring
+pub mod FragmentReading

@@ -1,0 +1,91 @@
+// Rows of fragments: XML with the fragment of its root, and bytes that are fragments or not.
+use super::{Respell, is_fragment};
+use markup::{Event, Events, Reader};
+use std::alloc::{AllocError, Global};
+
+/// The most bytes that are read of a row.
+const LIMIT: u64 = 1024;
+
+/// XML, and the fragment of its root (XML 1.0 §2.3, §2.11, §3.3.3; Namespaces in XML 1.0 §6).
+static RESPELLED: [(&[u8], &[u8]); 6] = [
+    (b"<X xmlns=\"\"/>", b"<X xmlns=\"\"></X>"),
+    (
+        b"<q:X xmlns:q=\"u:a\" b=\"1\" p:c=\"2\" xmlns:p=\"u:p\"/>",
+        b"<X xmlns=\"u:a\" xmlns:a1=\"u:p\" b=\"1\" a1:c=\"2\"></X>",
+    ),
+    (
+        b"<x:X xmlns:x=\"urn:x\"><!-- c --><x:Y>7</x:Y></x:X>",
+        b"<X xmlns=\"urn:x\"><Y>7</Y></X>",
+    ),
+    (b"<xml:x><y/></xml:x>", b"<xml:x><y xmlns=\"\"></y></xml:x>"),
+    (
+        b"<a xmlns='u'><b xmlns=''><c xmlns='u'/></b><d>&#9;&amp;&#13;&lt;&gt;\"</d></a>",
+        b"<a xmlns=\"u\"><b xmlns=\"\"><c xmlns=\"u\"></c></b><d>\t&amp;&#13;&lt;&gt;\"</d></a>",
+    ),
+    (
+        b"<a xmlns:p='u1' xmlns:q='u2' q:x='1' p:y='2' q:w='3' xml:lang='e' n='&#9;&quot;'/>",
+        b"<a xmlns=\"\" xmlns:a1=\"u1\" xmlns:a2=\"u2\" n=\"&#9;&quot;\" xml:lang=\"e\" a1:y=\"2\" a2:w=\"3\" a2:x=\"1\"></a>",
+    ),
+];
+
+/// Bytes, and whether they are a fragment.
+static TOLD: [(&[u8], bool); 14] = [
+    (b"<a xmlns=\"\"></a>", true),
+    (b"<a/>", false),
+    (b"<a></a>", false),
+    (b"<a xmlns=\"\"></a> ", false),
+    (b"<a xmlns=\"\"></a><!-- -->", false),
+    (b"<a xmlns=\"\"><!-- --></a>", false),
+    (b"<a xmlns=\"\">\r</a>", false),
+    (b"<a xmlns=\"\">\n]]&gt;</a>", true),
+    (b"\n<a xmlns=\"\"></a>", false),
+    (b"<a xmlns=\"\">", false),
+    (b"", false),
+    (b"<a xmlns=\"\" c=\"1\" b=\"1\"></a>", false),
+    (b"<a xmlns=\"\" xmlns:a1=\"u\" a1:b=\"1\"></a>", true),
+    (b"<a xmlns=\"\" xmlns:a2=\"u\" a2:b=\"1\"></a>", false),
+];
+
+/// Hands the events on.
+fn take_all(respell: &mut Respell, events: &[Event]) -> Result<(), AllocError> {
+    for event in events {
+        respell.take(event)?;
+    }
+    Ok(())
+}
+
+/// Whether the XML is written again so.
+fn is_respelled(alloc: Global, bytes: &[u8], fragment: &[u8]) -> Result<bool, AllocError> {
+    let mut reader = Reader::new(alloc);
+    let mut respell = Respell::new(alloc);
+    let mut events = Events::new(alloc);
+    let mut given = 0;
+    for byte in bytes {
+        if given >= LIMIT {
+            return Ok(false);
+        }
+        events.clear();
+        if reader.take(*byte, &mut events).is_err() {
+            return Ok(false);
+        }
+        given += 1;
+        take_all(&mut respell, events.as_slice())?;
+    }
+    Ok(reader.finish(&mut events).is_ok() && respell.is_whole() && respell.text() == fragment)
+}
+
+#[test]
+fn xml_is_respelled(rt: HostRuntime) -> Result<(), AllocError> {
+    for (bytes, fragment) in &RESPELLED {
+        assert!(&rt; is_respelled(rt.alloc(), bytes, fragment)?);
+    }
+    Ok(())
+}
+
+#[test]
+fn fragments_are_told(rt: HostRuntime) -> Result<(), AllocError> {
+    for (bytes, told) in &TOLD {
+        assert!(&rt; is_fragment(rt.alloc(), bytes)? == *told);
+    }
+    Ok(())
+}
