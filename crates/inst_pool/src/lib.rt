@@ -1,0 +1,29 @@
+//! Instances of messages, each kept as a list of pieces in one region of memory.
+//!
+//! A [`Builder`] takes the pieces in order: an element begins, its leaf, it ends. [`Builder::finish`] gives the
+//! [`Instance`], whose pieces are read by place or by a [`Walk`], and beside each of which two numbers may be kept for a
+//! writer. [`Instance::reset`] empties it, and keeps the room for the next instance.
+//!
+//! An element with a text of two bytes in it is three pieces, and wants two bytes beside them: behind `reserve(3, 2)`
+//! neither `begin` nor `leaf` nor `close` asks for memory.
+//!
+//! A region has two blocks, one of pieces and one of the bytes of leaves, so that an instance is walked and dropped
+//! without recursion, however deep its elements stand. Neither block ever has room for more than 2^48 items; more is
+//! answered by want of memory, and the instance is then what it was. Which pieces a message allows is no matter of this
+//! crate: it asks only that elements end in order.
+#![tactic(auto)]
+
+mod builder;
+mod instance;
+mod node;
+mod piece;
+mod room;
+mod walk;
+
+pub use builder::Builder;
+pub use instance::Instance;
+pub use piece::{Edge, Piece};
+pub use walk::Walk;
+
+#[cfg(test)]
+mod tests;
