@@ -4,7 +4,7 @@ _isorepo() {
     local -a wanted=()
     COMPREPLY=()
     if [ "$COMP_CWORD" = 1 ]; then
-        mapfile -t COMPREPLY < <(compgen -W 'list types xsd asn1 check-xml import show check-all help --version explain install' -- "$word")
+        mapfile -t COMPREPLY < <(compgen -W 'list types xsd asn1 check-xml check-der canon-xml xml-to-der der-to-xml import show check-all help --version explain install' -- "$word")
         return
     fi
     case ${COMP_WORDS[1]} in
@@ -13,6 +13,10 @@ _isorepo() {
     xsd) wanted=(REPO CODES MSGID) ;;
     asn1) wanted=(REPO CODES MSGID) ;;
     check-xml) wanted=(REPO CODES MSGID) ;;
+    check-der) wanted=(REPO CODES MSGID) ;;
+    canon-xml) wanted=(REPO CODES MSGID) ;;
+    xml-to-der) wanted=(REPO CODES MSGID) ;;
+    der-to-xml) wanted=(REPO CODES MSGID) ;;
     import) wanted=(SCHEMA..) ;;
     show) wanted=(REPO CODES MSGID FILE) ;;
     check-all) wanted=(REPO CODES MSGID FILES..) ;;

@@ -9,8 +9,8 @@ use Rattle.reference_check.specs.Forms as form
 use Rattle.message_model.specs.Admits.{AdmitsAs}
 use Rattle.message_model.specs.Tables.{Tables, types_of, message_of}
 use Rattle.der_octets.specs.Octets.{Nothing, Constructed, universal, octets}
-use Rattle.der_codec.specs.DerMessage.{DerMessage, in_der}
-use Rattle.der_codec.specs.Der.{inner_of, body, der_of, SpellsDer}
+use Rattle.der_model.specs.DerMessage.{DerMessage, in_der}
+use Rattle.der_model.specs.Der.{inner_of, body, der_of, SpellsDer}
 use Rattle.asn1_model.specs.Values.{AsnValue, One, AsnHas, contents, untagged, asn_der, find_type}
 use Rattle.asn1_model.specs.InstanceValues.{instance_value}
 use Rattle.asn1_model.specs.ModuleOf.{module_of, name_of, shape_of}

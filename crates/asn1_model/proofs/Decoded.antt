@@ -15,10 +15,10 @@ use Rattle.reference_check.specs.Forms as form
 use Rattle.reference_check.specs.Words.{times, UpTo, IsWithin, IsOrderedFrom}
 use Rattle.reference_check.proofs.Words.{times-replicate, ordered-weaken}
 use Rattle.message_model.specs.Admits.{AdmitsAs, AdmitsChildren, FitsCode, numbers_of}
-use Rattle.der_codec.specs.DerMessage.{DerMessage}
-use Rattle.der_codec.specs.Structures.{is_single, is_one}
-use Rattle.der_codec.proofs.Spelled.{at_most_one}
-use Rattle.der_codec.proofs.ChildLists.{then_children, slots_then, admits_then, times_then, times_none, times_other, ordered_then}
+use Rattle.der_model.specs.DerMessage.{DerMessage}
+use Rattle.der_model.specs.Structures.{is_single, is_one}
+use Rattle.der_model.proofs.Spelled.{at_most_one}
+use Rattle.der_model.proofs.ChildLists.{then_children, slots_then, admits_then, times_then, times_none, times_other, ordered_then}
 use Rattle.asn1_model.specs.declared.module.Module.{Module}
 use Rattle.asn1_model.specs.declared.module.AsnShape.{AsnShape}
 use Rattle.asn1_model.specs.declared.module.AsnShape.TheVariants as shape
@@ -340,7 +340,7 @@ module _ {P : Type 0} (May : P → Type 0) (message : DerMessage P) (name : P �
       (amount_made c s a b (may, decimal, x, is, sound) p (rw zero_is at at) first q (rw one_is at there) second)))
 
   envelope_read : (l : Leaf) → asn.IsFragment message.fragment l → Comes form.Envelope (asn.Primitive l)
-  envelope_read (Bytes b) (t, e) = (value.External t, tt, ap (λ x. asn.Primitive (Bytes x)) (sym e))
+  envelope_read (Bytes b) (t, plain, e) = (value.External t, plain, ap (λ x. asn.Primitive (Bytes x)) (sym e))
   envelope_read l h = absurd h
 
   simple_read : (s : Simple) (a : AsnValue) → IsSoundSimpleType s → AsnHas message.fragment M (One (Some (simple_shape s))) a → Comes (form.Simple s) a

@@ -16,12 +16,12 @@ use Rattle.reference_check.specs.Words.{times, UpTo, IsWithin}
 use Rattle.reference_check.proofs.Words.{times-replicate}
 use Rattle.message_model.specs.Admits.{AdmitsAs, AdmitsChildren, FitsCode, numbers_of}
 use Rattle.der_octets.specs.Octets.{context, universal, Values, Nothing, Constructed, then_values}
-use Rattle.der_codec.specs.DerMessage.{DerMessage}
-use Rattle.der_codec.specs.LeafContents.{leaf_contents}
-use Rattle.der_codec.specs.Structures.{is_single, simple_number}
-use Rattle.der_codec.specs.Der.{Body, Octets, Inner, under, body, values_at, placed, slot_values, all_slots, chosen_slot, alternative}
-use Rattle.der_codec.specs.Der as der
-use Rattle.der_codec.proofs.Spelled.{at_most_one, then_under}
+use Rattle.der_model.specs.DerMessage.{DerMessage}
+use Rattle.der_model.specs.LeafContents.{leaf_contents}
+use Rattle.der_model.specs.Structures.{is_single, simple_number}
+use Rattle.der_model.specs.Der.{Body, Octets, Inner, under, body, values_at, placed, slot_values, all_slots, chosen_slot, alternative}
+use Rattle.der_model.specs.Der as der
+use Rattle.der_model.proofs.Spelled.{at_most_one, then_under}
 use Rattle.asn1_model.specs.declared.module.Module.{Module}
 use Rattle.asn1_model.specs.declared.module.AsnShape.{AsnShape}
 use Rattle.asn1_model.specs.declared.module.AsnShape.TheVariants as shape
@@ -257,7 +257,7 @@ module _ {P : Type 0} (May : P → Type 0) (message : DerMessage P) (name : P �
           (stands_by k s ks (subst (λ (m : ℕ). IsWithin m s) (sym (ap (times k) is ∙ times-replicate k n)) within) (list_items fs k s ks e each) (single_item fs k s ks e each))
       agrees (form.Simple s) ok (value.Simple l) a = leaf_there message.fragment M s l ok a
       agrees (form.Money c s) ok (value.Amount l n) (code, number) = amount_step c s l n ok code number
-      agrees form.Envelope ok (value.External t) a = ((t, refl), refl)
+      agrees form.Envelope ok (value.External t) a = ((t, a, refl), refl)
       agrees (form.Sequence fs) ok v a = absurd a
       agrees (form.Choice fs) ok v a = absurd a
       agrees (form.Simple s) ok v a = absurd a

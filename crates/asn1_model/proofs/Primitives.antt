@@ -15,8 +15,8 @@ use Rattle.facets.specs.declared.simple.Simple.{Simple}
 use Rattle.facets.specs.LeafUnder.{Fits, IsLeafBy, IsCodeAt}
 use Rattle.facets.proofs.FitLemmas.{given_fits}
 use Rattle.facets.proofs.TextRules.{coded_answer}
-use Rattle.der_codec.specs.LeafContents.{leaf_contents, integer_octets}
-use Rattle.der_codec.specs.Der.{Octets}
+use Rattle.der_model.specs.LeafContents.{leaf_contents, integer_octets}
+use Rattle.der_model.specs.Der.{Octets}
 use Rattle.asn1_model.specs.declared.module.Module.{Module}
 use Rattle.asn1_model.specs.Constraints.{IsTextValue, IsRealValue, IsOctetsValue, IsDateValue}
 use Rattle.asn1_model.specs.Values.{AsnValue, One, Primitive, Enumerated, Sequence, Chosen, Listed, AsnHas, contents, identifier_place}

@@ -9,8 +9,8 @@ use Rattle.message_model.specs.Admits.{AdmitsAs}
 use Rattle.message_model.specs.Ready.{IsReady}
 use Rattle.message_model.specs.Tables.{Tables, types_of, message_of}
 use Rattle.message_model.specs.Compiled.{IsReachedList, Compiles, types, place_of}
-use Rattle.der_codec.specs.DerMessage.{DerMessage, in_der}
-use Rattle.der_codec.specs.Der.{SpellsDer, der_of}
+use Rattle.der_model.specs.DerMessage.{DerMessage, in_der}
+use Rattle.der_model.specs.Der.{SpellsDer, der_of}
 use Rattle.asn1_model.specs.Values.{AsnValue}
 use Rattle.asn1_model.specs.Agreement.{EncodesAs}
 use Rattle.asn1_model.specs.Sound.{IsSound}

@@ -9,8 +9,8 @@ use Rattle.reference_check.specs.Forms as form
 use Rattle.reference_check.specs.Words.{UpTo}
 use Rattle.message_model.specs.Tables.{Tables, types_of}
 use Rattle.der_octets.specs.Octets.{identifier as tag_octets, length_octets, wrapped}
-use Rattle.der_codec.specs.LeafContents.{integer_octets}
-use Rattle.der_codec.specs.Der.{Octets}
+use Rattle.der_model.specs.LeafContents.{integer_octets}
+use Rattle.der_model.specs.Der.{Octets}
 use Rattle.asn1_model.specs.Names.{identifier, type_name, candidate}
 use Rattle.asn1_model.specs.ModuleOf.{module_of, code_names, simple_shape}
 use Rattle.asn1_model.specs.ModuleText.{module_text}

@@ -3,8 +3,8 @@ use Rattle.std.specs.Prelude.{◌≡◌, ◌↔◌, List, ℕ, codes}
 use Rattle.lexical_core.specs.Tree.{Tree}
 use Rattle.data_types.specs.Value.{Value}
 use Rattle.message_model.specs.Tables.{Tables, message_of}
-use Rattle.der_codec.specs.DerMessage.{in_der}
-use Rattle.der_codec.specs.Der.{SpellsDer}
+use Rattle.der_model.specs.DerMessage.{in_der}
+use Rattle.der_model.specs.Der.{SpellsDer}
 use Rattle.asn1_model.specs.ModuleOf.{module_of}
 use Rattle.asn1_model.specs.Values.{AsnValue, HasValue, asn_der}
 use Rattle.asn1_model.specs.InstanceValues.{instance_value}

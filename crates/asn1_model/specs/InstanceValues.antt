@@ -11,8 +11,8 @@ use Rattle.reference_check.specs.Forms.{Graph, Form, Slot}
 use Rattle.reference_check.specs.Forms as form
 use Rattle.message_model.specs.Admits.{numbers_of}
 use Rattle.message_model.specs.Tables.{Tables, types_of, message_of}
-use Rattle.der_codec.specs.DerMessage.{DerMessage, in_der}
-use Rattle.der_codec.specs.Structures.{is_single}
+use Rattle.der_model.specs.DerMessage.{DerMessage, in_der}
+use Rattle.der_model.specs.Structures.{is_single}
 use Rattle.asn1_model.specs.ModuleOf.{code_names}
 use Rattle.asn1_model.specs.Values.{AsnValue, Components, Items, Sequence, Chosen, Listed, Enumerated, Primitive, NoComponent, Component, NoItem, Item}
 

@@ -5,10 +5,11 @@ use Rattle.lexical_core.specs.Tree.{Tree}
 use Rattle.data_types.specs.Leaf.{Leaf, Bytes}
 use Rattle.data_types.specs.declared.kind.Kind.TheVariants as kind
 use Rattle.facets.specs.declared.step.Step.{Step}
+use Rattle.fragments.specs.Plain.{IsPlain}
 use Rattle.der_octets.specs.Octets.{Tag, universal, context, Values, Nothing, octets, then_values}
-use Rattle.der_codec.specs.LeafContents.{leaf_contents, integer_octets}
-use Rattle.der_codec.specs.Structures.{kind_number}
-use Rattle.der_codec.specs.Der.{Body, Octets, Inner, under, inner_of}
+use Rattle.der_model.specs.LeafContents.{leaf_contents, integer_octets}
+use Rattle.der_model.specs.Structures.{kind_number}
+use Rattle.der_model.specs.Der.{Body, Octets, Inner, under, inner_of}
 use Rattle.asn1_model.specs.declared.module.Module.{Module}
 use Rattle.asn1_model.specs.declared.module.AsnType.{AsnType}
 use Rattle.asn1_model.specs.declared.module.AsnShape.{AsnShape}
@@ -102,9 +103,9 @@ ArePresent k (p ∷ ps) d = ((rest : List ℕ) × (d ≡ k ∷ rest) × ArePrese
 abbrev pub HasCount : ℕ → Option ℕ → ℕ → Type 0
 HasCount min max n = (min ≤ n) × MatchOption max (Unit {0}) (λ most. n ≤ most)
 
--- the canonical fragment of some element, as the constraint says; how fragments are written is given
+-- the canonical fragment of some element that XML can spell, as the constraint says; how fragments are written is given
 abbrev pub IsFragment : (Tree → List ℕ) → Leaf → Type 0
-IsFragment fragment (Bytes bytes) = (tree : Tree) × (bytes ≡ fragment tree)
+IsFragment fragment (Bytes bytes) = (tree : Tree) × IsPlain tree × (bytes ≡ fragment tree)
 IsFragment fragment leaf = ⊥
 
 -- a value without components is one of the type

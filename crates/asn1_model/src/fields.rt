@@ -3,7 +3,7 @@ ghost use Rattle.std.specs.Prelude.{◌≡◌, IfOk, map};
 ghost use Rattle.reference_check.specs.Forms.{form_slots};
 ghost use Rattle.message_model.specs.Sound.{AreSound};
 ghost use Rattle.message_model.specs.Tables.{Tables, types_of};
-ghost use Rattle.der_codec.specs.Structures.{is_one};
+ghost use Rattle.der_model.specs.Structures.{is_one};
 ghost use Rattle.asn1_model.specs.ModuleOf.{name_of, mode_of, slot_identifier, field_of, fields_with, fields_of};
 ghost use Rattle.asn1_model.specs.Fields.{slot_in};
 ghost use Rattle.asn1_model.specs.TypeNames.{AreNames};

@@ -7,7 +7,7 @@ ghost use Rattle.reference_check.specs.Graph.{document};
 ghost use Rattle.message_model.specs.Tables.{Tables};
 ghost use Rattle.message_model.specs.Compiled.{IsReachedList, Compiles, types};
 ghost use Rattle.message_model.specs.Ready.{IsReady};
-ghost use Rattle.der_codec.specs.Der.{SpellsDer};
+ghost use Rattle.der_model.specs.Der.{SpellsDer};
 ghost use Rattle.asn1_model.specs.Values.{AsnValue};
 ghost use Rattle.asn1_model.specs.Sound.{IsSound};
 ghost use Rattle.asn1_model.specs.Agreement.{EncodesAs, AdmitsTheSame, HasInstanceValue, HasNoOthers};

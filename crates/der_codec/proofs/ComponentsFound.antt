@@ -8,12 +8,12 @@ use Rattle.der_octets.specs.TagSteps.{class_view}
 use Rattle.der_octets.specs.declared.tag_step.TagClass.{TagClass}
 use Rattle.der_octets.specs.declared.tag_step.TagClass.TheVariants as class
 use Rattle.reference_check.specs.Forms.{Graph, Slot}
-use Rattle.der_codec.specs.Structures.{Component, Label, Element, Listed, is_single, component, components, amount_components}
-use Rattle.der_codec.specs.States.{Answer, Begins, Breaks, Fine, EndBreaks, is_under, field_answer, any_answer, field_end, skipping, missing_text}
+use Rattle.der_model.specs.Structures.{Component, Label, Element, Listed, is_single, component, components, amount_components}
+use Rattle.der_model.specs.States.{Answer, Begins, Breaks, Fine, EndBreaks, is_under, field_answer, any_answer, field_end, skipping, missing_text}
 use Rattle.std.proofs.Math.ListN.{length-drop}
 use Rattle.std.proofs.lemmas.Bool.{cases_lt}
-use Rattle.der_codec.proofs.Fields.{under_own, under_other, any_found}
-use Rattle.der_codec.proofs.WholeValues.{under_same}
+use Rattle.der_model.proofs.Fields.{under_own, under_other, any_found}
+use Rattle.der_model.proofs.WholeValues.{under_same}
 use Rattle.der_codec.specs.Components.{has_to_come, NoneDue, IsDue}
 
 if_true : {A : Type 0} (b : Bool) (x y : A) → b ≡ true → (if b then x else y) ≡ x

@@ -1,11 +1,11 @@
 -- No more components have come in an open value than octets in all.
 use Rattle.std.proofs.Common.{◌≡◌, ℕ, ◌+◌, ◌≤◌, true, false, List, [], ◌∷◌, length, Some, sym, ap, subst, arith}
 use Rattle.der_octets.proofs.Headers.{some_identifier}
-use Rattle.der_codec.specs.DerMessage.{DerMessage}
-use Rattle.der_codec.specs.Structures.{structure}
-use Rattle.der_codec.specs.States as states
-use Rattle.der_codec.specs.States.{Part, Identifier, Length, End, part_octets, Level, State, Start, AwaitsLength, AwaitsContents, Within, level_answer, begun, names_in, state_after, Stands}
-use Rattle.der_codec.specs.Faults.{Front, IsClean}
+use Rattle.der_model.specs.DerMessage.{DerMessage}
+use Rattle.der_model.specs.Structures.{structure}
+use Rattle.der_model.specs.States as states
+use Rattle.der_model.specs.States.{Part, Identifier, Length, End, part_octets, Level, State, Start, AwaitsLength, AwaitsContents, Within, level_answer, begun, names_in, state_after, Stands}
+use Rattle.der_model.specs.Faults.{Front, IsClean}
 use Rattle.der_codec.specs.Levels.{AreLevels, first_of}
 use Rattle.der_codec.specs.Decoding.{IsOpen, Reads}
 use Rattle.der_codec.specs.declared.level.Level as levels
@@ -38,7 +38,7 @@ step_counted m (AwaitsContents spot names count around) place (states.Contents o
 step_counted m (Within (l ∷ ls)) place End (few, h) st c = counted_up place (place + length (part_octets End)) ls (omega arith) h
 step_counted m s place p h st c = absurd st
 
-front_counted : {P : Type 0} (m : DerMessage P) (s : State P) (place : ℕ) (bytes : List ℕ) (ps : List Part) (last : State P) (at : ℕ) (rest : List ℕ) → IsCounted place s → Front m s place bytes ps last at rest → IsCounted at last
+pub front_counted : {P : Type 0} (m : DerMessage P) (s : State P) (place : ℕ) (bytes : List ℕ) (ps : List Part) (last : State P) (at : ℕ) (rest : List ℕ) → IsCounted place s → Front m s place bytes ps last at rest → IsCounted at last
 front_counted m s place bytes [] last at rest h (p, q, r) = subst (λ z. IsCounted at z) p (subst (λ z. IsCounted z s) q h)
 front_counted m s place bytes (p ∷ ps) last at rest h (after, is, st, u, c, f) = front_counted m (state_after m s place p) (place + length (part_octets p)) after ps last at rest (step_counted m s place p h st c) f
 

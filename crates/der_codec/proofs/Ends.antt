@@ -1,10 +1,10 @@
 -- Ends, as the reader's functions have them.
 use Rattle.std.proofs.Common.{◌≡◌, ℕ, List, [], ◌∷◌, Some, sym, ap, ◌∙◌, subst}
 use Rattle.lexical_core.specs.declared.rule.Rule.{Rule}
-use Rattle.der_codec.specs.Structures.{structure}
-use Rattle.der_codec.specs.States as states
-use Rattle.der_codec.specs.States.{end_answer}
-use Rattle.der_codec.specs.DerMessage.{DerMessage}
+use Rattle.der_model.specs.Structures.{structure}
+use Rattle.der_model.specs.States as states
+use Rattle.der_model.specs.States.{end_answer}
+use Rattle.der_model.specs.DerMessage.{DerMessage}
 use Rattle.der_codec.specs.Levels.{IsLevel, first_of, rest_of, inwards}
 use Rattle.der_codec.specs.Components.{IsEnded, added_text}
 use Rattle.der_codec.specs.Decoding.{Reads, Fails, IsFresh, due_after}

@@ -4,15 +4,15 @@ use Rattle.lexical_core.specs.declared.rule.Rule.TheVariants.{DerTruncated, Trai
 use Rattle.der_octets.specs.TagSteps as tags
 use Rattle.der_octets.specs.declared.tag_step.TagStep.{TagStep}
 use Rattle.data_types.specs.Value.{Value}
-use Rattle.der_codec.specs.States.{State, Start, AwaitsContents, Within, innermost_end}
-use Rattle.der_codec.specs.Der.{SpellsDer}
-use Rattle.der_codec.specs.Sound.{IsSound}
-use Rattle.der_codec.specs.Faults as faults
-use Rattle.der_codec.specs.Faults.{Front, Next, cut, short, trailing, IsHeaderFront, Fault, DerFault}
-use Rattle.der_codec.proofs.Answered.{whole_is_spelled}
-use Rattle.der_codec.proofs.SoundMessages.{are_sorted}
-use Rattle.der_codec.proofs.Continued.{front_more, Waits, only_cut}
-use Rattle.der_codec.specs.DerMessage.{DerMessage}
+use Rattle.der_model.specs.States.{State, Start, AwaitsContents, Within, innermost_end}
+use Rattle.der_model.specs.Der.{SpellsDer}
+use Rattle.der_model.specs.Sound.{IsSound}
+use Rattle.der_model.specs.Faults as faults
+use Rattle.der_model.specs.Faults.{Front, Next, cut, short, trailing, IsHeaderFront, Fault, DerFault}
+use Rattle.der_model.proofs.Answered.{whole_is_spelled}
+use Rattle.der_model.proofs.SoundMessages.{are_sorted}
+use Rattle.der_model.proofs.Continued.{front_more, Waits, only_cut}
+use Rattle.der_model.specs.DerMessage.{DerMessage}
 use Rattle.der_codec.specs.Decoding.{IsOpen, IsBegun, Reads, Fails, IsBelow, IsWaiting, IsOver, end_of_first}
 use Rattle.der_codec.specs.declared.level.Level.{Level}
 use Rattle.der_codec.specs.declared.decoder.Due.{Due}

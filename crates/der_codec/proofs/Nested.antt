@@ -2,12 +2,12 @@
 use Rattle.std.proofs.Common.{◌≡◌, ℕ, ◌+◌, ◌≤◌, ◌<◌, Bool, true, false, List, [], ◌∷◌, ◌++◌, length, Option, Some, None, refl, sym, ap, ◌∙◌, subst, arith, append_assoc, length-append}
 use Rattle.der_octets.specs.declared.tag_step.TagStep.{TagStep}
 use Rattle.der_octets.proofs.TagStepLemmas.{taken_none}
-use Rattle.der_codec.specs.DerMessage.{DerMessage}
-use Rattle.der_codec.specs.Structures.{structure}
-use Rattle.der_codec.specs.States as states
-use Rattle.der_codec.specs.States.{Part, Identifier, Length, End, part_octets, Level, State, Start, AwaitsLength, AwaitsContents, Within, Answer, level_answer, begun, names_in, state_after, innermost_end, level_end, Stands, end_from}
+use Rattle.der_model.specs.DerMessage.{DerMessage}
+use Rattle.der_model.specs.Structures.{structure}
+use Rattle.der_model.specs.States as states
+use Rattle.der_model.specs.States.{Part, Identifier, Length, End, part_octets, Level, State, Start, AwaitsLength, AwaitsContents, Within, Answer, level_answer, begun, names_in, state_after, innermost_end, level_end, Stands, end_from}
 use Rattle.reference_check.specs.Words.{UpTo}
-use Rattle.der_codec.specs.Faults.{Front, IsClean}
+use Rattle.der_model.specs.Faults.{Front, IsClean}
 use Rattle.der_codec.specs.Nesting.{AreNested, IsNested}
 use Rattle.der_codec.specs.Decoding.{IsOpen, IsBegun, Reads, IsBelow, IsFresh, IsReady, IsWaiting, end_of_first}
 use Rattle.der_codec.specs.declared.level.Level as levels

@@ -10,10 +10,10 @@ use Rattle.der_octets.specs.LengthSteps as lengths
 use Rattle.der_octets.specs.declared.tag_step.TagStep.{TagStep}
 use Rattle.der_octets.specs.declared.tag_step.Identifier as ids
 use Rattle.der_octets.specs.declared.length_step.LengthStep.{LengthStep}
-use Rattle.der_codec.specs.States as states
-use Rattle.der_codec.specs.States.{level_answer}
+use Rattle.der_model.specs.States as states
+use Rattle.der_model.specs.States.{level_answer}
 use Rattle.reference_check.specs.Words.{UpTo}
-use Rattle.der_codec.specs.DerMessage.{DerMessage}
+use Rattle.der_model.specs.DerMessage.{DerMessage}
 use Rattle.der_codec.specs.Levels.{IsLevel, first_of, rest_of}
 use Rattle.der_codec.specs.Components.{IsFound, added_text}
 use Rattle.der_codec.specs.Decoding.{Reads, Fails, IsBelow, IsPast, end_of_first, IsAdvanced, HasIdentifier, HasLength, IsOutermost, AwaitsInstance}
@@ -115,3 +115,7 @@ open_constructed m x xs d spot fresh start place n bytes o r c is has fits a b e
 pub ok_both : {A E : Type 0} (r : Result A E) (P Q : Type 0) → IfOk r (λ _. P) → IfOk r (λ _. Q) → IfOk r (λ _. P × Q)
 ok_both (Ok a) P Q p q = (p, q)
 ok_both (Err e) P Q p q = tt
+
+pub ok_each : {A E : Type 0} (r : Result A E) (P Q : A → Type 0) → IfOk r P → ((a : A) → P a → Q a) → IfOk r Q
+ok_each (Ok a) P Q p f = f a p
+ok_each (Err e) P Q p f = tt

@@ -10,15 +10,15 @@ use Rattle.der_octets.specs.declared.tag_step.TagStep.{TagStep}
 use Rattle.der_octets.specs.declared.length_step.LengthStep.{LengthStep}
 use Rattle.der_octets.proofs.StepFronts.{tag_goes_on, length_goes_on}
 use Rattle.der_octets.proofs.TagStepLemmas.{taken_none}
-use Rattle.der_codec.specs.Structures as structures
-use Rattle.der_codec.specs.DerMessage.{DerMessage}
-use Rattle.der_codec.specs.Structures.{Component, structure}
-use Rattle.der_codec.specs.States as states
-use Rattle.der_codec.specs.States.{Part, Identifier, Length, End, part_octets, Name, State, Start, AwaitsLength, AwaitsContents, Within, Answer, level_answer, begun, names_in, state_after, innermost_end, level_end, IsHeader, Stands, end_from, next_number, is_under, end_answer, EndAnswer, Fine, EndBreaks}
+use Rattle.der_model.specs.Structures as structures
+use Rattle.der_model.specs.DerMessage.{DerMessage}
+use Rattle.der_model.specs.Structures.{Component, structure}
+use Rattle.der_model.specs.States as states
+use Rattle.der_model.specs.States.{Part, Identifier, Length, End, part_octets, Name, State, Start, AwaitsLength, AwaitsContents, Within, Answer, level_answer, begun, names_in, state_after, innermost_end, level_end, IsHeader, Stands, end_from, next_number, is_under, end_answer, EndAnswer, Fine, EndBreaks}
 use Rattle.reference_check.specs.Words.{UpTo}
-use Rattle.der_codec.specs.Faults.{Front, broken, halts, overruns, IsHeaderFront, IsNoHeader, header_rule, outermost}
-use Rattle.der_codec.proofs.Continued.{front_more}
-use Rattle.der_codec.proofs.WholeValues.{front_then, under_same}
+use Rattle.der_model.specs.Faults.{Front, broken, halts, overruns, IsHeaderFront, IsNoHeader, header_rule, outermost}
+use Rattle.der_model.proofs.Continued.{front_more}
+use Rattle.der_model.proofs.WholeValues.{front_then, under_same}
 use Rattle.der_codec.specs.Levels.{IsSpot, IsLevel, AreLevels}
 use Rattle.der_codec.specs.Components.{IsFound, IsEnded, added_text}
 use Rattle.der_codec.specs.Decoding.{IsOpen, IsBegun, Reads, Fails, IsBelow, IsPast, end_of_first, IsAdvanced}

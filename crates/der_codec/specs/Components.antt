@@ -3,8 +3,8 @@ use Rattle.std.specs.Prelude.{◌≡◌, ℕ, ◌<◌, ◌≤◌, Bool, true, fa
 use Rattle.reference_check.specs.Forms as graph
 use Rattle.reference_check.specs.Forms.{Graph, form_slots}
 use Rattle.facets.specs.declared.simple.Simple.{Simple}
-use Rattle.der_codec.specs.Structures.{is_single}
-use Rattle.der_codec.specs.States as states
+use Rattle.der_model.specs.Structures.{is_single}
+use Rattle.der_model.specs.States as states
 use Rattle.der_codec.specs.Levels.{IsSpot}
 use Rattle.der_codec.specs.declared.components.Added.{Added}
 use Rattle.der_codec.specs.declared.components.Added.TheVariants as added

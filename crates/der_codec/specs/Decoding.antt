@@ -1,18 +1,22 @@
 -- What a reader of DER has read, and how it stops.
-use Rattle.std.specs.Prelude.{◌≡◌, ℕ, ◌+◌, ◌<◌, ◌≤◌, Bool, true, List, [], ◌∷◌, ◌++◌, Option, Some, None, length, vec_len, vec_capacity}
+use Rattle.std.specs.Prelude.{◌≡◌, ◌≢◌, ℕ, ◌+◌, ◌<◌, ◌≤◌, Bool, true, List, [], ◌∷◌, ◌++◌, Option, Some, None, length, vec_len, vec_capacity}
 use Rattle.std.specs.Global.{Vec}
 use Rattle.lexical_core.specs.declared.rule.Rule.{Rule}
+use Rattle.lexical_core.specs.declared.rule.Rule.TheVariants.{DerTruncated}
 use Rattle.der_octets.specs.TagSteps as tags
 use Rattle.der_octets.specs.LengthSteps as lengths
 use Rattle.der_octets.specs.Octets.{universal, identifier, length_octets, IsShortTag, IsShortLength}
 use Rattle.der_octets.specs.declared.tag_step.Identifier.{Identifier}
 use Rattle.der_codec.specs.declared.level.Spot.{Spot}
 use Rattle.der_codec.specs.declared.level.Spot.TheVariants as spots
-use Rattle.der_codec.specs.States.{State, Start, AwaitsLength, AwaitsContents, Within, Part}
-use Rattle.der_codec.specs.Faults.{Front, Next}
-use Rattle.der_codec.specs.DerMessage.{DerMessage}
+use Rattle.der_model.specs.States.{State, Start, AwaitsLength, AwaitsContents, Within, Part}
+use Rattle.der_model.specs.Faults.{Front, Next}
+use Rattle.der_model.specs.DerMessage.{DerMessage}
 use Rattle.der_codec.specs.Levels.{IsSpot, AreLevels, inwards}
 use Rattle.der_codec.specs.Components.{added_text}
+use Rattle.der_codec.specs.declared.checks.Refusal.{Refusal}
+use Rattle.der_codec.specs.declared.checks.Refusal.TheVariants as refused
+use Rattle.der_codec.specs.declared.components.Added.TheVariants as added
 use Rattle.der_codec.specs.declared.level.Level.{Level}
 use Rattle.der_codec.specs.declared.decoder.Decoder.{Decoder}
 use Rattle.der_codec.specs.declared.decoder.Due.{Due}
@@ -161,3 +165,24 @@ IsWaiting d place end = IsBelow place end
 -- no more values can be opened without memory
 abbrev pub IsFull : Vec Level → Type 0
 IsFull levels = vec_capacity levels ≤ vec_len levels
+
+-- the stop is no fault that the bytes end too early
+abbrev pub IsNoCut : Stop → Type 0
+IsNoCut (stop.Fault rule place added) = rule ≢ DerTruncated
+IsNoCut stop.Memory = Unit {0}
+
+-- where contents are due, none of them has come
+abbrev pub BeginsContents : Due → ℕ → ℕ → Type 0
+BeginsContents (due.Contents spot left) start place = start ≡ place
+BeginsContents d start place = Unit {0}
+
+-- a value has begun whose contents octets, or whose length, are due
+abbrev pub AwaitsValue : Due → Type 0
+AwaitsValue (due.Length constructed spot step) = Unit {0}
+AwaitsValue (due.Contents spot left) = Unit {0}
+AwaitsValue _ = ⊥
+
+-- a refusal of contents, as it stops the reader
+abbrev pub IsRefusedAs : ℕ → Refusal → Stop → Type 0
+IsRefusedAs start (refused.Breaks rule) s = s ≡ stop.Fault rule start added.Nothing
+IsRefusedAs start refused.Memory s = s ≡ stop.Memory

@@ -1,40 +1,13 @@
--- What the laws on the DER of a message say.
-use Rattle.std.specs.Prelude.{◌≡◌, ◌≢◌, ◌↔◌, ℕ, ◌<◌, ◌^◌, List, [], ◌++◌, length, Result, Ok, Err}
+-- What the laws of this crate say.
+use Rattle.std.specs.Prelude.{◌≡◌, ℕ, List}
 use Rattle.lexical_core.specs.declared.rule.Rule.TheVariants.{DerTruncated}
-use Rattle.data_types.specs.Value.{Value}
-use Rattle.der_codec.specs.DerMessage.{DerMessage}
-use Rattle.der_codec.specs.Der.{SpellsDer}
-use Rattle.der_codec.specs.Faults.{Fault, DerFault, IsWhole}
+use Rattle.message_model.specs.Tables.{Tables}
+use Rattle.der_model.specs.DerMessage.{der_message}
+use Rattle.der_model.specs.Faults.{Fault, DerFault}
+use Rattle.der_model.specs.Sound.{IsSound}
+use Rattle.der_codec.specs.Checking.{HasFed}
+use Rattle.der_codec.specs.declared.checker.DerChecker.{DerChecker}
 
--- What bytes are: the DER of an instance that the message admits, or bytes with a first fault.
-abbrev pub DerAnswer : {P : Type 0} → DerMessage P → List ℕ → Result Value Fault → Type 0
-DerAnswer m bytes (Ok v) = SpellsDer m bytes v
-DerAnswer m bytes (Err fault) = DerFault m bytes fault
-
--- Bytes are the DER of at most one instance.
-abbrev pub OneValue : {P : Type 0} → DerMessage P → Type 0
-OneValue m = (bytes : List ℕ) (one two : Value) → SpellsDer m bytes one → SpellsDer m bytes two → one ≡ two
-
--- No DER of an instance begins that of another.
-abbrev pub NoProperFront : {P : Type 0} → DerMessage P → Type 0
-NoProperFront m = (front more : List ℕ) (one two : Value) → SpellsDer m front one → SpellsDer m (front ++ more) two → (one ≡ two) × (more ≡ [])
-
--- Bytes have at most one first fault.
-abbrev pub OneFault : {P : Type 0} → DerMessage P → Type 0
-OneFault m = (bytes : List ℕ) (one two : Fault) → DerFault m bytes one → DerFault m bytes two → one ≡ two
-
--- The DER of an instance has no fault.
-abbrev pub SpelledHasNone : {P : Type 0} → DerMessage P → Type 0
-SpelledHasNone m = (bytes : List ℕ) (v : Value) (fault : Fault) → length bytes < 2 ^ 63 → SpellsDer m bytes v → DerFault m bytes fault → ⊥
-
--- Whole bytes, and these alone, are the DER of an instance.
-abbrev pub WholeIsSpelled : {P : Type 0} → DerMessage P → Type 0
-WholeIsSpelled m = (bytes : List ℕ) → length bytes < 2 ^ 63 → IsWhole m bytes ↔ ((v : Value) × SpellsDer m bytes v)
-
--- Bytes have at most one answer.
-abbrev pub OneAnswer : {P : Type 0} → DerMessage P → Type 0
-OneAnswer m = (bytes : List ℕ) (one two : Result Value Fault) → length bytes < 2 ^ 63 → DerAnswer m bytes one → DerAnswer m bytes two → one ≡ two
-
--- A fault stays, whatever follows the bytes, but for one that the bytes end too early.
-abbrev pub FaultStays : {P : Type 0} → DerMessage P → Type 0
-FaultStays m = (bytes more : List ℕ) (fault : Fault) → fault.rule ≢ DerTruncated → DerFault m bytes fault → DerFault m (bytes ++ more) fault
+-- What a checker was given has no fault but that it may end too early.
+abbrev pub OnlyCut : Type 0
+OnlyCut = (T : Tables) (checker : DerChecker) (bytes : List ℕ) → IsSound (der_message T) → HasFed checker T bytes → (f : Fault) → DerFault (der_message T) bytes f → f.rule ≡ DerTruncated

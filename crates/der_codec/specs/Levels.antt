@@ -3,9 +3,9 @@ use Rattle.std.specs.Prelude.{◌≡◌, ℕ, List, [], ◌∷◌, ◌++◌, Opt
 use Rattle.reference_check.specs.Forms as graph
 use Rattle.reference_check.specs.Forms.{Graph, form_slots}
 use Rattle.facets.specs.declared.simple.Simple.{Simple}
-use Rattle.der_codec.specs.Structures as structures
-use Rattle.der_codec.specs.States as states
-use Rattle.der_codec.specs.States.{next_number}
+use Rattle.der_model.specs.Structures as structures
+use Rattle.der_model.specs.States as states
+use Rattle.der_model.specs.States.{next_number}
 use Rattle.der_codec.specs.declared.level.Spot.{Spot}
 use Rattle.der_codec.specs.declared.level.Spot.TheVariants as spot
 use Rattle.der_codec.specs.declared.level.Level.{Level}

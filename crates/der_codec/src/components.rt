@@ -8,11 +8,11 @@ ghost use Rattle.reference_check.specs.Steps.{has_room};
 ghost use Rattle.facets.specs.declared.simple.Simple.{Simple as SimpleType};
 ghost use Rattle.lexical_core.specs.Tree.{Tree};
 ghost use Rattle.message_model.specs.Tables.{types_of, message_of};
-ghost use Rattle.der_codec.specs.DerMessage.{in_der};
-ghost use Rattle.der_codec.specs.Structures.{components, item_components, amount_components, is_one, is_constructed, component, universal_tag, structure};
-ghost use Rattle.der_codec.specs.Structures as structures;
-ghost use Rattle.der_codec.specs.States as states;
-ghost use Rattle.der_codec.specs.States.{field_answer, any_answer, one_answer, item_answer, field_end, one_end, item_end, next_number, level_answer, end_answer};
+ghost use Rattle.der_model.specs.DerMessage.{in_der};
+ghost use Rattle.der_model.specs.Structures.{components, item_components, amount_components, is_one, is_constructed, component, universal_tag, structure};
+ghost use Rattle.der_model.specs.Structures as structures;
+ghost use Rattle.der_model.specs.States as states;
+ghost use Rattle.der_model.specs.States.{field_answer, any_answer, one_answer, item_answer, field_end, one_end, item_end, next_number, level_answer, end_answer};
 ghost use Rattle.der_codec.specs.Levels.{IsLevel, IsSpot};
 ghost use Rattle.der_codec.specs.Components.{IsFound, IsEnded, NoneDue, IsDue};
 
@@ -119,7 +119,7 @@ fn is_constructed_at(model: &Model, max: Option<u32>, target: u32) -> bool
 }
 
 /// Whether the slot has a value in the place of a list.
-fn comes_once(max: Option<u32>) -> bool
+pub(crate) fn comes_once(max: Option<u32>) -> bool
     ensures { result ≡ is_one max }
 {
     match max {
@@ -251,7 +251,7 @@ fn item(model: &Model, number: u32, id: Identifier) -> Found
 }
 
 /// Whether the type is a choice.
-fn is_choice(model: &Model, number: u32) -> bool
+pub(crate) fn is_choice(model: &Model, number: u32) -> bool
     ensures yes { IsTrue result → types_of model.now number ≡ graph.Choice (form_slots (types_of model.now number)) }
     ensures no { IsFalse result → (fs : List (graph.Slot ℕ)) → types_of model.now number ≡ graph.Choice fs → ⊥ }
 {

@@ -1,21 +1,28 @@
 // The reader of DER, an octet at a time: X.690 §8.1.
-ghost use Rattle.std.specs.Prelude.{◌≡◌, ◌+◌, ◌<◌, ◌≤◌, ◌^◌, ◌++◌, ◌∷◌, [], ℕ, List, IfOk, IfErr, IsErrOf, IsTrue, IsFalse, true, false, Some, None, length, vec_capacity};
+ghost use Rattle.std.specs.Prelude.{◌≡◌, ◌↔◌, ◌+◌, ◌-◌, ◌<◌, ◌≤◌, ◌^◌, ◌++◌, ◌∷◌, [], ℕ, List, IfOk, IfErr, IsErrOf, IsTrue, IsFalse, true, false, Some, None, length, drop, vec_capacity};
 ghost use Rattle.lexical_core.specs.Tree.{Tree};
-ghost use Rattle.message_model.specs.Tables.{message_of};
-ghost use Rattle.der_codec.specs.DerMessage.{DerMessage, in_der};
+ghost use Rattle.message_model.specs.Tables.{message_of, types_of};
+ghost use Rattle.der_model.specs.DerMessage.{DerMessage, in_der};
 ghost use Rattle.der_codec.specs.Levels.{inwards, first_of, rest_of};
-ghost use Rattle.der_codec.specs.Decoding.{HasRead, IsStopped, IsBelow, IsPast, end_of_levels, IsFresh, IsFreshOrOver, due_after, IsReady, IsOver, IsWaiting};
-ghost use Rattle.der_codec.specs.Faults.{IsWhole as WholeBytes};
-ghost use Rattle.der_codec.specs.Der.{SpellsDer};
-ghost use Rattle.der_codec.specs.Sound.{IsSound};
+ghost use Rattle.der_codec.specs.Decoding.{HasRead, IsStopped, IsBelow, IsPast, end_of_levels, IsFresh, IsFreshOrOver, due_after, IsReady, IsOver, IsWaiting, IsOpen, IsNoCut, AwaitsValue, IsRefusedAs};
+ghost use Rattle.der_codec.specs.Components.{added_text};
+ghost use Rattle.der_codec.specs.OpenNames.{IsNamed};
+ghost use Rattle.der_codec.specs.Judging.{HoldsContents};
+ghost use Rattle.der_model.specs.Paths.{path_of};
+ghost use Rattle.der_model.specs.States.{State};
+ghost use Rattle.der_model.specs.Faults.{IsWhole as WholeBytes};
+ghost use Rattle.der_model.specs.Der.{SpellsDer};
+ghost use Rattle.der_model.specs.Sound.{IsSound};
 ghost use Rattle.data_types.specs.Value.{Value};
 
+use crate::checks::Refusal;
 use crate::components::{Added, Ended, end_of};
 use crate::level::{Level, Spot};
+use crate::paths::{path_outside, path_within};
 use der_octets::{LengthStep, TagStep};
-use lexical_core::Rule;
+use lexical_core::{Rule, Text};
 use message_model::Model;
-use std::alloc::Global;
+use std::alloc::{AllocError, Global};
 
 /// What stands next.
 #[derive(Clone, Copy, Debug)]
@@ -148,6 +155,7 @@ impl Decoder {
         ensures open { (fragment : Tree → List ℕ) (bytes : List ℕ) → HasRead (in_der fragment (message_of model.now)) self.old bytes → IfOk result (λ ended. ended ≡ false → (self.new ≡ self.old) × IsBelow self.old.place (end_of_levels self.old.levels.items)) }
         ensures fault { IsErrOf result Stop.Memory → ⊥ }
         ensures room { vec_capacity self.old.levels ≤ vec_capacity self.new.levels }
+        ensures stays { (fragment : Tree → List ℕ) (bytes : List ℕ) → HasRead (in_der fragment (message_of model.now)) self.old bytes → IfErr result (λ stop. IsNoCut stop) }
     {
         let Some(level) = self.innermost() else {
             return Ok(false);
@@ -177,6 +185,7 @@ impl Decoder {
         ensures ready { (fragment : Tree → List ℕ) (bytes : List ℕ) → HasRead (in_der fragment (message_of model.now)) self.old bytes → IfOk result (λ _. IsReady self.new.due self.new.place (end_of_levels self.new.levels.items)) }
         ensures fault { IsErrOf result Stop.Memory → ⊥ }
         ensures room { vec_capacity self.old.levels ≤ vec_capacity self.new.levels }
+        ensures stays { (fragment : Tree → List ℕ) (bytes : List ℕ) → HasRead (in_der fragment (message_of model.now)) self.old bytes → IfErr result (λ stop. IsNoCut stop) }
     {
         loop {
             let ended = match self.end(model) {
@@ -220,11 +229,98 @@ impl Decoder {
         })
     }
 
+    /// What the bytes are where they end here, and the instance has not ended.
+    pub(crate) fn truncated(&self) -> Stop
+        ensures { (m : DerMessage ℕ) (bytes : List ℕ) → HasRead m self.now bytes → IsWaiting self.now.due self.now.place (end_of_levels self.now.levels.items) → (IsOver self.now.due → ⊥) → IsStopped m self.now bytes result }
+    {
+        Stop::Fault {
+            rule: Rule::DerTruncated,
+            place: self.place,
+            added: Added::Nothing,
+        }
+    }
+
+    /// How many constructed values are open.
+    pub(crate) fn depth(&self) -> usize
+        ensures { result ≡ length self.now.levels.items }
+    {
+        self.levels.len()
+    }
+
+    /// Goes on with contents, of which so many octets more have come.
+    pub(crate) fn pass(&mut self, spot: Spot, left: u64, count: u64)
+        requires room { self.old.place + count < 2 ^ 63 }
+        requires due { self.old.due ≡ Due.Contents spot left }
+        requires count { count ≤ left }
+        ensures read { (m : DerMessage ℕ) (bytes more : List ℕ) → HasRead m self.old bytes → length more ≡ count → HasRead m self.new (bytes ++ more) }
+        ensures due { self.new.due ≡ Due.Contents spot (left - count) }
+        ensures start { self.new.start ≡ self.old.start }
+        ensures place { self.new.place ≡ self.old.place + count }
+    {
+        self.place += count;
+        self.due = Due::Contents {
+            spot,
+            left: left - count,
+        };
+    }
+
+    /// Goes on behind contents that were judged, of which the last octets, so many, come now.
+    pub(crate) fn end_contents(&mut self, spot: Spot, left: u64)
+        requires room { self.old.place + left < 2 ^ 63 }
+        requires due { self.old.due ≡ Due.Contents spot left }
+        ensures read { (m : DerMessage ℕ) (bytes more : List ℕ) → HasRead m self.old bytes → length more ≡ left → HoldsContents m spot (drop self.old.start bytes ++ more) → HasRead m self.new (bytes ++ more) }
+        ensures fresh { IsFresh self.new.due }
+        ensures place { self.new.place ≡ self.old.place + left }
+    {
+        let _ = spot;
+        self.place += left;
+        self.start = self.place;
+        self.due = Due::Tag(TagStep::new());
+    }
+
+    /// The stop of contents that are refused.
+    pub(crate) fn refused(&self, refusal: Refusal) -> Stop
+        ensures { IsRefusedAs self.now.start refusal result }
+    {
+        match refusal {
+            Refusal::Breaks(rule) => self.fault(rule),
+            Refusal::Memory => Stop::Memory,
+        }
+    }
+
+    /// The path of what is open, with more behind it.
+    pub(crate) fn path(
+        &self,
+        alloc: Global,
+        model: &Model,
+        added: Added,
+    ) -> Result<Text, AllocError>
+        ensures { (fragment : Tree → List ℕ) (s : State ℕ) → IsOpen (in_der fragment (message_of model.now)) (inwards self.now.levels.items) self.now.due s → IsNamed (in_der fragment (message_of model.now)) s
+            → IfOk result (λ t. t ≡ path_of s ++ added_text (types_of model.now) added) }
+    {
+        if self.has_begun() {
+            return path_within(alloc, model, self.levels.as_slice(), added);
+        }
+        let count = self.levels.len();
+        if count == 0 {
+            return path_outside(alloc, model, added);
+        }
+        path_within(alloc, model, &self.levels[..count - 1], added)
+    }
+
+    /// Whether a value has begun whose length or contents octets are due.
+    fn has_begun(&self) -> bool
+        ensures { IsTrue result ↔ AwaitsValue self.now.due }
+    {
+        matches!(self.due, Due::Length { .. } | Due::Contents { .. })
+    }
+
     /// The fault of an octet behind the instance.
     #[tactic(auto, using(crate::proofs::InputEnds::is_trailing))]
     pub fn trailing(&self) -> Stop
         requires { IsOver self.now.due }
-        ensures { (m : DerMessage ℕ) (bytes : List ℕ) (octet : ℕ) → HasRead m self.now bytes → IsStopped m self.now (bytes ++ octet ∷ []) result }
+        ensures stopped { (m : DerMessage ℕ) (bytes : List ℕ) (octet : ℕ) → HasRead m self.now bytes → IsStopped m self.now (bytes ++ octet ∷ []) result }
+        ensures stays { IsNoCut result }
     {
         Stop::Fault {
             rule: Rule::Trailing,

@@ -4,9 +4,9 @@ ghost use Rattle.der_octets.specs.TagSteps as tags;
 ghost use Rattle.der_octets.specs.LengthSteps as lengths;
 ghost use Rattle.lexical_core.specs.Tree.{Tree};
 ghost use Rattle.message_model.specs.Tables.{message_of};
-ghost use Rattle.der_codec.specs.DerMessage.{DerMessage, in_der};
+ghost use Rattle.der_model.specs.DerMessage.{DerMessage, in_der};
 ghost use Rattle.der_codec.specs.Levels.{inwards};
-ghost use Rattle.der_codec.specs.Decoding.{HasRead, IsStopped, IsBelow, IsPast, end_of_levels, IsHeaderDue, IsAdvanced, IsSettled, IsOutermost, AwaitsInstance, HasIdentifier, HasLength, level_at, IsFull};
+ghost use Rattle.der_codec.specs.Decoding.{HasRead, IsStopped, IsBelow, IsPast, end_of_levels, IsHeaderDue, IsAdvanced, IsSettled, IsOutermost, AwaitsInstance, HasIdentifier, HasLength, level_at, IsFull, IsNoCut, BeginsContents};
 ghost use Rattle.reference_check.specs.Words.{UpTo};
 ghost use Rattle.der_octets.specs.declared.length_step.LengthStep.{LengthStep as Lengths};
 ghost use Rattle.der_octets.specs.declared.tag_step.TagStep.{TagStep as Steps};
@@ -46,6 +46,8 @@ impl Decoder {
         ensures low { IfOk result (λ _. IsSettled self.new.due self.new.place (end_of_levels self.new.levels.items)) }
         ensures full { IsErrOf result Stop.Memory → IsFull self.old.levels }
         ensures room { vec_capacity self.old.levels ≤ vec_capacity self.new.levels }
+        ensures stays { (fragment : Tree → List ℕ) (bytes : List ℕ) → HasRead (in_der fragment (message_of model.now)) self.old bytes → IfErr result (λ stop. IsNoCut stop) }
+        ensures begun { IfOk result (λ _. BeginsContents self.new.due self.new.start self.new.place) }
     {
         match self.due {
             Due::Tag(step) => self.take_tag(model, step, octet),
@@ -70,6 +72,8 @@ impl Decoder {
         ensures low { IfOk result (λ _. IsSettled self.new.due self.new.place (end_of_levels self.new.levels.items)) }
         ensures fault { IsErrOf result Stop.Memory → ⊥ }
         ensures room { vec_capacity self.old.levels ≤ vec_capacity self.new.levels }
+        ensures stays { (fragment : Tree → List ℕ) (bytes : List ℕ) → HasRead (in_der fragment (message_of model.now)) self.old bytes → IfErr result (λ stop. IsNoCut stop) }
+        ensures begun { IfOk result (λ _. BeginsContents self.new.due self.new.start self.new.place) }
     {
         let mut step = step;
         match step.take(octet) {
@@ -90,6 +94,8 @@ impl Decoder {
         ensures low { IfOk result (λ _. IsSettled self.new.due self.new.place (end_of_levels self.new.levels.items)) }
         ensures fault { IsErrOf result Stop.Memory → ⊥ }
         ensures room { vec_capacity self.old.levels ≤ vec_capacity self.new.levels }
+        ensures stays { (fragment : Tree → List ℕ) (bytes : List ℕ) → HasRead (in_der fragment (message_of model.now)) self.old bytes → IfErr result (λ stop. IsNoCut stop) }
+        ensures begun { IfOk result (λ _. BeginsContents self.new.due self.new.start self.new.place) }
     {
         let _ = octet;
         match self.innermost() {
@@ -164,6 +170,8 @@ impl Decoder {
         ensures low { IfOk result (λ _. IsSettled self.new.due self.new.place (end_of_levels self.new.levels.items)) }
         ensures full { IsErrOf result Stop.Memory → IsFull self.old.levels }
         ensures room { vec_capacity self.old.levels ≤ vec_capacity self.new.levels }
+        ensures stays { IfErr result (λ stop. IsNoCut stop) }
+        ensures begun { IfOk result (λ _. BeginsContents self.new.due self.new.start self.new.place) }
     {
         let mut step = step;
         match step.take(octet) {
@@ -188,6 +196,8 @@ impl Decoder {
         ensures low { IfOk result (λ _. IsSettled self.new.due self.new.place (end_of_levels self.new.levels.items)) }
         ensures full { IsErrOf result Stop.Memory → IsFull self.old.levels }
         ensures room { vec_capacity self.old.levels ≤ vec_capacity self.new.levels }
+        ensures stays { IfErr result (λ stop. IsNoCut stop) }
+        ensures begun { IfOk result (λ _. BeginsContents self.new.due self.new.start self.new.place) }
     {
         let _ = octet;
         let end = self.place + 1 + n;

@@ -1,17 +1,28 @@
-//! The DER of a message's instances (X.690 §8, §10, §11; X.680 for the types), and the first fault of bytes
-//! that are none.
+//! A checker of the DER of a message's instances (X.690 §8), which takes it in pieces.
 //!
-//! `specs/` has the definitions, in reading order in `Lib.antt`: what DER an admitted value has
-//! (`Der`), which parts bytes are and what is open behind them (`States`, `Paths`), and the rule, the
-//! place and the path of what is wrong first (`Faults`). `laws` says that these agree. `Decoder` takes
-//! the octets of headers, the ends of values and the end of input, and `Components` of `specs/` says what it
-//! finds; contents are not read yet, and nothing is written.
+//! `DerChecker` tells the first fault of the bytes at the byte that shows it, whatever the pieces. Beneath it
+//! `Decoder` takes the octets of headers and the ends of values, and `contents` judges the contents octets of
+//! leaves; a fault's path is made of what is open (`paths`). `Checking` of `specs/` says what a checker was
+//! given and what it answers, `Decoding` the same of the decoder.
 //!
 //! Tag numbers are below 2^14, lengths below 2^63.
 #![tactic(auto)]
 
+mod checker;
+mod checks;
 mod components;
+mod contents;
 mod decoder;
+mod elements;
+mod envelopes;
+mod filling;
+mod fronts;
 mod headers;
 pub mod laws;
+mod leaves;
 mod level;
+mod paths;
+mod reader;
+
+pub use checker::DerChecker;
+pub use reader::DerReader;

@@ -12,6 +12,7 @@ pub mod Compilable
 pub mod SoundElements
 pub mod SoundFacets
 pub mod SoundTypes
+pub mod SortedCodes
 pub mod SoundTables
 pub mod Refused
 pub mod TypeLists

@@ -12,19 +12,20 @@ use Rattle.reference_check.specs.Graph.{Place, message, entry, find_entry}
 use Rattle.reference_check.specs.Reach.{itself, rank_of}
 use Rattle.reference_check.specs.Rules.{TooMany}
 use Rattle.facets.specs.declared.simple.Simple.{Simple}
-use Rattle.reference_check.specs.Forms.{Slot, Form, Graph, Money, Missing, form_slots, form_to, slot_to}
+use Rattle.reference_check.specs.Forms.{Slot, Form, Graph, Money, Missing, form_slots, form_to, slot_to, text_type}
 use Rattle.reference_check.specs.Forms as form
 use Rattle.message_model.specs.Tables.{Tables, TypeEntry, types_of, form_or_missing}
 use Rattle.message_model.specs.Views.{tables, type_entry}
 use Rattle.message_model.specs.declared.model.TypeInfo.{TypeInfo}
-use Rattle.message_model.specs.Sound.{IsSoundForm, AreSound, HaveCodes, AreLinked}
+use Rattle.message_model.specs.Sound.{IsSoundForm, AreSound, HaveCodes, HaveSortedCodes, HasRoot, AreLinked}
 use Rattle.message_model.specs.Ready.{IsReady, OnObjects}
 use Rattle.message_model.specs.Laws.{CompiledAreSound}
 use Rattle.message_model.specs.Compiled.{IsReachedList, Compiles, types, places_of, place_of, place_or_nowhere, place_word, place_name}
 use Rattle.message_model.specs.Numbers.{AreTypesOf, ids_at}
 use Rattle.message_model.proofs.Compilable.{object_there, at_contains, reached_list}
 use Rattle.message_model.proofs.SoundElements.{sound_from}
-use Rattle.message_model.proofs.SoundTypes.{IsTypePlace, types_sound, types_codes, types_linked}
+use Rattle.message_model.proofs.SortedCodes.{types_sorted}
+use Rattle.message_model.proofs.SoundTypes.{IsTypePlace, types_sound, types_codes, types_root, types_linked}
 
 -- ---- the tables, type by type
 
@@ -80,6 +81,24 @@ simple_back h form.Envelope s e = absurd cc
 simple_back h form.LeftOut s e = absurd cc
 simple_back h form.Missing s e = absurd cc
 
+sequence_back : {P : Type 0} (h : ℕ → P) (f : Form ℕ Simple) (slots : List (Slot P)) → form_to h (λ x. x) f ≡ form.Sequence slots → (given : List (Slot ℕ)) × (f ≡ form.Sequence given)
+sequence_back h (form.Sequence given) slots e = (given, refl)
+sequence_back h (form.Simple t) slots e = absurd cc
+sequence_back h (form.Choice given) slots e = absurd cc
+sequence_back h (form.Money c t) slots e = absurd cc
+sequence_back h form.Envelope slots e = absurd cc
+sequence_back h form.LeftOut slots e = absurd cc
+sequence_back h form.Missing slots e = absurd cc
+
+text_to : {P : Type 0} (h : ℕ → P) (f : Form ℕ Simple) → text_type (form_to h (λ x. x) f) ≡ text_type f
+text_to h (form.Sequence slots) = refl
+text_to h (form.Choice slots) = refl
+text_to h (form.Simple s) = refl
+text_to h (form.Money c s) = refl
+text_to h form.Envelope = refl
+text_to h form.LeftOut = refl
+text_to h form.Missing = refl
+
 slots_to : {P : Type 0} (h : ℕ → P) (f : Form ℕ Simple) → form_slots (form_to h (λ x. x) f) ≡ map (slot_to h) (form_slots f)
 slots_to h (form.Sequence slots) = refl
 slots_to h (form.Choice slots) = refl
@@ -110,6 +129,13 @@ module _ (R : Contents) (m : List ℕ) (ready : IsReady R m) (ids : List (List �
         let there : types R m (place_of ids n) ≡ Money (place_of ids code) number = sym (made.forms n) ∙ ap (form_to (place_of ids) (λ x. x)) is in
         let c = types_codes R m ready (place_of ids n) (place_of ids code) number (type_place n) there in
         (c.0, simple_back (place_of ids) (types_of T code) c.0 (made.forms code ∙ c.1))
+
+    pub tables_sorted : HaveSortedCodes (types_of T)
+    tables_sorted n simple is =
+        types_sorted R m (place_of ids n) simple (ap text_type (sym (made.forms n)) ∙ (text_to (place_of ids) (types_of T n) ∙ is))
+
+    pub tables_root : HasRoot (types_of T)
+    tables_root = (let root = types_root R m ready in sequence_back (place_of ids) (types_of T 0) root.0 (made.forms 0 ∙ root.1))
 
     pub tables_linked : AreLinked T
     tables_linked n k s at =
@@ -170,4 +196,5 @@ kept_few R m ready ids list ts made = (let few = tables_few R m ready ids list (
     long (t ∷ ts) = ap suc (long ts)
 
 pub compiled_are_sound : CompiledAreSound
-compiled_are_sound R m ids T ready list made = (tables_sound R m ready ids list T made, tables_codes R m ready ids list T made)
+compiled_are_sound R m ids T ready list made =
+    (tables_sound R m ready ids list T made, tables_codes R m ready ids list T made, tables_sorted R m ready ids list T made, tables_root R m ready ids list T made)

@@ -186,6 +186,13 @@ module _ (R : Contents) (m : List ℕ) (ready : IsReady R m) where
   types_sound (entry id) at = entry_sound id at
   types_sound nowhere at = missing_sound
 
+  pub types_root : (slots : List (Slot Place)) × (types R m document ≡ form.Sequence slots)
+  types_root = by (find_message m R.messages) refl
+    where
+      by : (d : Option MessageDef) → find_message m R.messages ≡ d → (slots : List (Slot Place)) × (types R m document ≡ form.Sequence slots)
+      by None h = absurd (ready (OnObjects NoMessage) message itself (refl, h))
+      by (Some d) h = (only_slot d ∷ [], ap (λ x. form_to (λ q. q) (facets_of R) (document_form x)) h)
+
   -- ---- the codes of amounts
 
   text_form : (o : Object) (k : ObjectKind) → IsTextKind k → form_to (λ q. q) (facets_of R) (object_form R o k) ≡ form.Simple (facets_of R o)

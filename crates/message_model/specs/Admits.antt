@@ -1,10 +1,11 @@
--- Which values the types of a message admit (ISO 20022-1). No element has too few or too many of a slot, and each leaf fits its facets.
+-- Which values the types of a message admit (ISO 20022-1). No element has too few or too many of a slot, each leaf fits its facets, and an envelope has a tree that XML can spell.
 use Rattle.std.specs.Prelude.{◌≡◌, ℕ, List, [], ◌∷◌, Some, slice_get}
 use Rattle.data_types.specs.Leaf as leaf
 use Rattle.data_types.specs.Leaf.{Leaf}
 use Rattle.data_types.specs.Value.{Value, Children, Nothing, Child}
 use Rattle.data_types.specs.Value as value
 use Rattle.facets.specs.LeafUnder.{Fits}
+use Rattle.fragments.specs.Plain.{IsPlain}
 use Rattle.facets.specs.declared.simple.Simple.{Simple}
 use Rattle.reference_check.specs.Forms.{Graph, Form, Slot}
 use Rattle.reference_check.specs.Forms as form
@@ -27,7 +28,7 @@ abbrev mutual
   AdmitsAs types (form.Choice slots) (value.Component children) = IsChoice slots (numbers_of children) × AdmitsChildren types slots children
   AdmitsAs types (form.Simple simple) (value.Simple l) = Fits simple l
   AdmitsAs types (form.Money code number) (value.Amount l n) = FitsCode (types code) l × Fits number (leaf.Number n)
-  AdmitsAs types form.Envelope (value.External tree) = Unit {0}
+  AdmitsAs types form.Envelope (value.External tree) = IsPlain tree
   AdmitsAs types _ _ = ⊥
 
   -- each child is admitted by the type that its slot leads to

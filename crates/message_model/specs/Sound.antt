@@ -2,9 +2,10 @@
 use Rattle.std.specs.Prelude.{◌≡◌, ℕ, ◌<◌, ◌≤◌, ◌+◌, ◌==◌, if◌then◌else◌, true, List, [], ◌∷◌, ◌++◌, Option, Some, None, slice_get, length}
 use Rattle.data_types.specs.declared.kind.Kind.TheVariants as kind
 use Rattle.facets.specs.declared.simple.Simple.{Simple}
-use Rattle.reference_check.specs.Forms.{Graph, Form, Slot, Choice, Money, form_slots, text_type}
+use Rattle.reference_check.specs.Forms.{Graph, Form, Slot, Sequence, Choice, Money, form_slots, text_type}
 use Rattle.reference_check.specs.Forms.{Simple as SimpleForm}
 use Rattle.facets.specs.LeafChecks.{IsWithinLimits}
+use Rattle.facets.specs.LeafUnder.{HasSortedCodes}
 use Rattle.message_model.specs.Tables.{Tables, types_of}
 use Rattle.reference_check.specs.Words.{UpTo, IsWord}
 use Rattle.reference_check.specs.Steps.{Slotted, Fine, find_slot, has_room, next, next_of, end_after, Came, EndsWith}
@@ -35,6 +36,14 @@ AreSound {P} forms = (p : P) → IsSoundForm (forms p)
 -- the code of each amount is of a simple type
 abbrev pub HaveCodes : {P : Type 0} → Graph P Simple → Type 0
 HaveCodes {P} forms = (p code : P) (number : Simple) → forms p ≡ Money code number → (simple : Simple) × (forms code ≡ SimpleForm simple)
+
+-- the codes of each type are sorted
+abbrev pub HaveSortedCodes : {P : Type 0} → Graph P Simple → Type 0
+HaveSortedCodes {P} forms = (p : P) (simple : Simple) → text_type (forms p) ≡ Some simple → HasSortedCodes simple
+
+-- type 0, that of `Document`, is a sequence
+abbrev pub HasRoot : Graph ℕ Simple → Type 0
+HasRoot forms = (slots : List (Slot ℕ)) × (forms 0 ≡ Sequence slots)
 
 -- each element leads to a type that is there
 abbrev pub AreLinked : Tables → Type 0

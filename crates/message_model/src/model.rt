@@ -4,7 +4,7 @@ ghost use Rattle.std.specs.Option.{option_copied, option_map};
 ghost use Rattle.std.specs.Str.{bytes_eq};
 ghost use Rattle.reference_check.specs.Forms.{form_slots, text_type};
 ghost use Rattle.message_model.specs.Tables.{TypeEntry, types_of, namespace_of, namespace_front};
-ghost use Rattle.message_model.specs.Sound.{AreSound, HaveCodes, AreLinked, IsSoundForm};
+ghost use Rattle.message_model.specs.Sound.{AreSound, HaveCodes, HaveSortedCodes, HasRoot, AreLinked, IsSoundForm};
 ghost use Rattle.reference_check.specs.Steps.{Came, EndsWith, next, end_after, end_of, find_slot, first_lacking, has_room, after_order};
 ghost use Rattle.reference_check.specs.Forms.{Slot as Slotted};
 ghost use Rattle.message_model.specs.Quick.{quick_sequence_next, quick_choice_next, quick_sequence_end, quick_choice_end, quick_at, due, HasTagAt, AreTagged};
@@ -92,14 +92,14 @@ pub enum End {
 impl std::marker::Model for Model {
     ghost use Rattle.std.specs.Prelude.{map, length, ◌≤◌};
     ghost use Rattle.message_model.specs.Tables.{Tables, types_of};
-    ghost use Rattle.message_model.specs.Sound.{AreSound, HaveCodes, AreLinked};
+    ghost use Rattle.message_model.specs.Sound.{AreSound, HaveCodes, HaveSortedCodes, HasRoot, AreLinked};
     ghost use Rattle.message_model.specs.Views.{type_entry, tables};
 
     ghost Value = { Tables };
 
     ghost view = { λ m. tables m.id (map type_entry m.types.items) };
 
-    ghost invariant = { λ m. AreSound (types_of (tables m.id (map type_entry m.types.items))) × HaveCodes (types_of (tables m.id (map type_entry m.types.items))) × AreLinked (tables m.id (map type_entry m.types.items)) × (length m.types.items ≤ 65538) };
+    ghost invariant = { λ m. AreSound (types_of (tables m.id (map type_entry m.types.items))) × HaveCodes (types_of (tables m.id (map type_entry m.types.items))) × HaveSortedCodes (types_of (tables m.id (map type_entry m.types.items))) × HasRoot (types_of (tables m.id (map type_entry m.types.items))) × AreLinked (tables m.id (map type_entry m.types.items)) × (length m.types.items ≤ 65538) };
 }
 
 impl Model {
@@ -115,6 +115,8 @@ impl Model {
         ensures count { result ≡ length self.now.types }
         ensures sound { AreSound (types_of self.now) }
         ensures codes { HaveCodes (types_of self.now) }
+        ensures sorted { HaveSortedCodes (types_of self.now) }
+        ensures root { HasRoot (types_of self.now) }
         ensures linked { AreLinked self.now }
     {
         self.types.len() as u32

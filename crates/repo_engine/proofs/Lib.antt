@@ -8,3 +8,4 @@ pub mod Messages
 pub mod OneAnswer
 pub mod SomeAnswer
 pub mod AdmittedInstances
+pub mod Transcodings

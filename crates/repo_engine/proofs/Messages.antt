@@ -10,10 +10,11 @@ use Rattle.reference_check.specs.declared.reached.ReadyError.TheVariants as read
 use Rattle.reference_check.specs.Reached.{place_id}
 use Rattle.message_model.specs.Ready.{TellsRefused, number_of}
 use Rattle.message_model.specs.Tables.{Tables}
-use Rattle.transcoder.specs.Checked.{IsAccepted, RefusesXml}
+use Rattle.message_model.specs.declared.fault.Fault.{Fault}
+use Rattle.transcoder.specs.Reading.{RefusesBy}
 use Rattle.transcoder.specs.declared.check_error.CheckError.{CheckError}
 use Rattle.transcoder.specs.declared.check_error.CheckError.TheVariants as check
-use Rattle.repo_engine.specs.Answer.{ChecksXml, faulty, FromMessage, RefusesMessage, GivesTables}
+use Rattle.repo_engine.specs.Answer.{FromMessage, RefusesMessage, GivesTables}
 use Rattle.repo_engine.specs.Arms.{GivesMessage, GivesRepository, IsOfInput, IsReadAs, unread, read, RefusesRepository, RefusesUpToMessage, StopsBy, check_stop, end_of, ready_stop}
 use Rattle.repo_engine.specs.Run.{End, Tells}
 use Rattle.repo_engine.specs.Sources.{Use, Untouched, Ended, Whole, Failing, Refusing, IsRead, AreRead, one, both, AreReadInTurn, before, behind, ended_of, stop_ended}
@@ -116,11 +117,11 @@ keeps : (a : Option (List ℕ)) → Keeps a a
 keeps None = tt
 keeps (Some s) = refl
 
-pub check_tells : (T : Tables) (left : Option (List ℕ)) (i : List ℕ) (e : CheckError) (held : Option (List ℕ)) → left ≡ Some i → IfSome left (λ bytes. RefusesXml T bytes e)
-    → Tells (ChecksXml T i) (Err (check_stop e)) held held
-check_tells T left i e held told h = tells e (subst (λ o. IfSome o (λ bytes. RefusesXml T bytes e)) told h)
+pub check_tells : (Is : Verdict → Type 0) (HasFault : List ℕ → Fault → Type 0) (left : Option (List ℕ)) (i : List ℕ) (e : CheckError) (held : Option (List ℕ))
+    → ((fault : Fault) → HasFault i fault → Is (verdict.refused (refusal.Instance fault) [])) → left ≡ Some i → IfSome left (λ bytes. RefusesBy HasFault bytes e) → Tells Is (Err (check_stop e)) held held
+check_tells Is HasFault left i e held is told h = tells e (subst (λ o. IfSome o (λ bytes. RefusesBy HasFault bytes e)) told h)
   where
-    tells : (e : CheckError) → RefusesXml T i e → Tells (ChecksXml T i) (Err (check_stop e)) held held
-    tells (check.Refused fault) h = ([], faulty fault h refl, appends_nothing held)
+    tells : (e : CheckError) → RefusesBy HasFault i e → Tells Is (Err (check_stop e)) held held
+    tells (check.Refused fault) h = ([], is fault h, appends_nothing held)
     tells check.ReadFault h = tt
     tells check.Memory h = inl (keeps held)

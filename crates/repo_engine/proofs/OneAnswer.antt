@@ -8,18 +8,17 @@ use Rattle.code_sets.specs.Laws.{OneJoined, OneCodesFault, JoinedHasNone}
 use Rattle.reference_check.specs.Reached.{place_id}
 use Rattle.message_model.specs.Laws.{OneModel, OneRefusal, ReadyIsNotRefused, CompiledAreSound}
 use Rattle.message_model.specs.Ready.{number_of}
-use Rattle.message_model.specs.Tables.{Tables}
-use Rattle.message_model.specs.declared.fault.Fault.{Fault}
-use Rattle.xml_instances.specs.Checking.{fault_of}
-use Rattle.xml_instances.specs.XmlFaults.{Fault as XmlFault}
-use Rattle.transcoder.specs.Laws.{OneVerdict, HaveOneVerdict}
-use Rattle.repo_engine.specs.Answer.{Answer, Of, OfVerb, ChecksXml, spelled, faulty, FromRepository, RefusesFile, RefusesCodes, GivesJoined, RefusesMessage, GivesTables}
+use Rattle.message_model.specs.Tables.{Tables, message_of}
+use Rattle.data_types.specs.Value.{Value}
+use Rattle.transcoder.specs.Laws.{OneVerdict, HaveOneVerdict, OneDerVerdict, HaveOneDerVerdict, AreSoundTypes}
+use Rattle.xml_writer.specs.Laws.{OneCanonicalXml}
+use Rattle.repo_engine.specs.Answer.{Answer, Of, OfVerb, FromXml, RefusesAsXml, GivesXmlValue, FromDer, RefusesAsDer, GivesDerValue, IsFine, GivesXml, GivesDer, FromRepository, RefusesFile, RefusesCodes, GivesJoined, RefusesMessage, GivesTables}
 use Rattle.repo_engine.specs.Command.{Command, list, message}
 use Rattle.repo_engine.specs.Steps.{Then, refused, goes_on, One, IsStep}
 use Rattle.repo_engine.specs.Verdict.{Verdict}
 use Rattle.repo_engine.specs.Verdict as verdict
 use Rattle.repo_engine.specs.declared.command.Verb.{Verb}
-use Rattle.repo_engine.specs.declared.command.Verb.TheVariants.{Types, Xsd, Asn1, CheckXml}
+use Rattle.repo_engine.specs.declared.command.Verb.TheVariants.{Types, Xsd, Asn1, CheckXml, CheckDer, CanonXml, XmlToDer, DerToXml}
 use Rattle.repo_engine.specs.declared.refusal.Refusal.TheVariants.{Repository, Codes, Message, Instance}
 use Rattle.repo_engine.proofs.Performing.{one_command}
 
@@ -44,14 +43,8 @@ pub record StepLaws : Type 0 where
   pub ready_is_not_refused : ReadyIsNotRefused
   pub compiled_are_sound : CompiledAreSound
   pub one_verdict : OneVerdict
-
--- a fault as it is told is known by what it is
-told_once : (f g : Fault) → fault_of f ≡ fault_of g → f ≡ g
-told_once f g same =
-    let rules : f.rule ≡ g.rule = ap (λ (x : XmlFault). x.broken.rule) same in
-    let paths : f.path ≡ g.path = ap (λ (x : XmlFault). x.broken.path) same in
-    let places : f.place ≡ g.place = ap (λ (x : XmlFault). x.place) same in
-    λ i. record { rule = rules i; place = places i; path = paths i }
+  pub one_der_verdict : OneDerVerdict
+  pub one_canonical_xml : OneCanonicalXml
 
 module _ (laws : StepLaws) where
   file_step : (r : List ℕ) → IsStep Verdict Contents (RefusesFile r) (Spells r)
@@ -92,17 +85,41 @@ module _ (laws : StepLaws) where
 
   -- ---- what a command does with the tables
 
-  one_check : (T : Tables) (i : List ℕ) → HaveOneVerdict T i → One Verdict (ChecksXml T i)
-  one_check T i have v w (spelled s is) (spelled t also) = is ∙ sym also
-  one_check T i have v w (spelled s is) (faulty g k also) = absurd (have.none (fault_of g) s k)
-  one_check T i have v w (faulty f h is) (spelled t also) = absurd (have.none (fault_of f) t h)
-  one_check T i have v w (faulty f h is) (faulty g k also) = is ∙ (ap (λ x. verdict.refused (Instance x) []) (told_once f g (have.one (fault_of f) (fault_of g) h k)) ∙ sym also)
+  xml_step : (T : Tables) (i : List ℕ) → HaveOneVerdict T i → IsStep Verdict Value (RefusesAsXml T i) (GivesXmlValue T i)
+  xml_step T i have = record {
+    one_refusal = λ v w (f, h, is) (g, k, also). is ∙ (ap (λ x. verdict.refused (Instance x) []) (have.one f g h k) ∙ sym also);
+    one_gift = λ v w (s, short) (r, within). have.value v w s r;
+    apart = λ v value (f, h, is) (s, short). have.none f ((value, s), short) h;
+  }
+
+  der_step : (T : Tables) (i : List ℕ) → HaveOneDerVerdict T i → IsStep Verdict Value (RefusesAsDer T i) (GivesDerValue T i)
+  der_step T i have = record {
+    one_refusal = λ v w (f, h, is) (g, k, also). is ∙ (ap (λ x. verdict.refused (Instance x) []) (have.one f g h k) ∙ sym also);
+    one_gift = λ v w (s, short) (r, within). have.value v w s r;
+    apart = λ v value (f, h, is) (s, short). have.none f ((value, s), short) h;
+  }
+
+  one_xml : (T : Tables) (value : Value) → One Verdict (GivesXml T value)
+  one_xml T value v w (a, h, is) (b, k, also) = is ∙ (ap verdict.accepted (laws.one_canonical_xml (message_of T) value a b h k) ∙ sym also)
+
+  from_xml : (T : Tables) (i : List ℕ) (Next : Value → Verdict → Type 0) → AreSoundTypes T → ((value : Value) → One Verdict (Next value)) → One Verdict (FromXml T i Next)
+  from_xml T i Next sound next = one_then Verdict Value (RefusesAsXml T i) (GivesXmlValue T i) Next (xml_step T i (laws.one_verdict T i sound)) (λ value gives. next value)
+
+  from_der : (T : Tables) (i : List ℕ) (Next : Value → Verdict → Type 0) → AreSoundTypes T → ((value : Value) → One Verdict (Next value)) → One Verdict (FromDer T i Next)
+  from_der T i Next sound next = one_then Verdict Value (RefusesAsDer T i) (GivesDerValue T i) Next (der_step T i (laws.one_der_verdict T i sound)) (λ value gives. next value)
+
+  sound_types : (R : Contents) (id : List ℕ) (T : Tables) → GivesTables R id T → AreSoundTypes T
+  sound_types R id T (ready, (ids, reached, made)) = laws.compiled_are_sound R id ids T ready reached made
 
   one_verb : (verb : Verb) (R : Contents) (id i : List ℕ) (T : Tables) → GivesTables R id T → One Verdict (OfVerb verb i T)
-  one_verb Types R id i T gives v w is also = is ∙ sym also
-  one_verb Xsd R id i T gives v w is also = is ∙ sym also
-  one_verb Asn1 R id i T gives v w is also = is ∙ sym also
-  one_verb CheckXml R id i T (ready, (ids, reached, made)) v w h k = one_check T i (laws.one_verdict T i (laws.compiled_are_sound R id ids T ready reached made).0) v w h k
+  one_verb Types R id i T gives = λ v w is also. is ∙ sym also
+  one_verb Xsd R id i T gives = λ v w is also. is ∙ sym also
+  one_verb Asn1 R id i T gives = λ v w is also. is ∙ sym also
+  one_verb CheckXml R id i T gives = from_xml T i IsFine (sound_types R id T gives) (λ value v w is also. is ∙ sym also)
+  one_verb CheckDer R id i T gives = from_der T i IsFine (sound_types R id T gives) (λ value v w is also. is ∙ sym also)
+  one_verb CanonXml R id i T gives = from_xml T i (GivesXml T) (sound_types R id T gives) (one_xml T)
+  one_verb XmlToDer R id i T gives = from_xml T i (GivesDer T) (sound_types R id T gives) (λ value v w is also. is ∙ sym also)
+  one_verb DerToXml R id i T gives = from_der T i (GivesXml T) (sound_types R id T gives) (one_xml T)
 
   -- ---- a command
 

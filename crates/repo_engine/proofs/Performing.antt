@@ -10,7 +10,7 @@ use Rattle.repo_engine.specs.Run.{AreLeft, End, GoesOut, Performs, Tells}
 use Rattle.repo_engine.specs.Sources.{Use, Untouched, AreReadInTurn, ended_of}
 use Rattle.repo_engine.specs.Verdict.{Verdict, accepted, refused}
 use Rattle.repo_engine.specs.declared.command.Verb.{Verb}
-use Rattle.repo_engine.specs.declared.command.Verb.TheVariants.{Types, Xsd, Asn1, CheckXml}
+use Rattle.repo_engine.specs.declared.command.Verb.TheVariants.{Types, Xsd, Asn1, CheckXml, CheckDer, CanonXml, XmlToDer, DerToXml}
 use Rattle.repo_engine.specs.declared.refusal.Stop.{Stop}
 use Rattle.repo_engine.specs.declared.refusal.Stop.TheVariants.{Refused, ReadFault, WriteFault, Memory}
 use Rattle.repo_engine.specs.declared.refusal.Refusal.TheVariants.{Words}
@@ -33,13 +33,21 @@ verb_of word =
     if bytes_eq word (verb_word Types) then Types
     else (if bytes_eq word (verb_word Xsd) then Xsd
     else (if bytes_eq word (verb_word Asn1) then Asn1
-    else CheckXml))
+    else (if bytes_eq word (verb_word CheckXml) then CheckXml
+    else (if bytes_eq word (verb_word CheckDer) then CheckDer
+    else (if bytes_eq word (verb_word CanonXml) then CanonXml
+    else (if bytes_eq word (verb_word XmlToDer) then XmlToDer
+    else DerToXml))))))
 
 verb_is : (v : Verb) → verb_of (verb_word v) ≡ v
 verb_is Types = refl
 verb_is Xsd = refl
 verb_is Asn1 = refl
 verb_is CheckXml = refl
+verb_is CheckDer = refl
+verb_is CanonXml = refl
+verb_is XmlToDer = refl
+verb_is DerToXml = refl
 
 one_verb : (v w : Verb) → verb_word v ≡ verb_word w → v ≡ w
 one_verb v w e = sym (verb_is v) ∙ (ap verb_of e ∙ verb_is w)

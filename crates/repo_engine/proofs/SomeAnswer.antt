@@ -8,17 +8,20 @@ use Rattle.code_sets.specs.Laws.{JoinsOrHasFault}
 use Rattle.reference_check.specs.Graph.{Place}
 use Rattle.message_model.specs.Laws.{SomeModel, ReadyOrRefused, CompiledAreSound}
 use Rattle.message_model.specs.Ready.{MessageRule, IsReady, IsRefused}
-use Rattle.message_model.specs.Tables.{Tables, message_of}
+use Rattle.message_model.specs.Admits.{AdmitsAs}
+use Rattle.message_model.specs.Tables.{Tables, message_of, types_of}
 use Rattle.message_model.specs.declared.fault.Fault.{Fault}
-use Rattle.xml_instances.specs.XmlFaults.{Fault as XmlFault, LimitedFault}
-use Rattle.transcoder.specs.Checked.{IsAccepted}
-use Rattle.transcoder.specs.Laws.{SomeVerdict}
-use Rattle.repo_engine.specs.Answer.{Answer, Of, OfVerb, spelled, faulty, FromRepository, RefusesFile, RefusesCodes, GivesJoined, RefusesMessage, GivesTables}
+use Rattle.data_types.specs.Value.{Value}
+use Rattle.transcoder.specs.Checked.{IsAccepted, HasXmlFault, IsDerAccepted, HasDerFault}
+use Rattle.transcoder.specs.Laws.{SomeVerdict, SomeDerVerdict, AreSoundTypes}
+use Rattle.xml_writer.specs.Laws.{SomeCanonicalXml}
+use Rattle.der_model.specs.SomeAnswers.{HaveKinds, CompiledHaveKinds}
+use Rattle.repo_engine.specs.Answer.{Answer, Of, OfVerb, FromXml, RefusesAsXml, GivesXmlValue, FromDer, RefusesAsDer, GivesDerValue, IsFine, GivesXml, GivesDer, FromRepository, RefusesFile, RefusesCodes, GivesJoined, RefusesMessage, GivesTables}
 use Rattle.repo_engine.specs.Command.{Command, list, message, hands_in}
 use Rattle.repo_engine.specs.Steps.{Then, refused, goes_on, IsTotal}
 use Rattle.repo_engine.specs.Verdict.{Verdict}
 use Rattle.repo_engine.specs.declared.command.Verb.{Verb}
-use Rattle.repo_engine.specs.declared.command.Verb.TheVariants.{Types, Xsd, Asn1, CheckXml}
+use Rattle.repo_engine.specs.declared.command.Verb.TheVariants.{Types, Xsd, Asn1, CheckXml, CheckDer, CanonXml, XmlToDer, DerToXml}
 
 -- not without a verdict
 abbrev Told : (Verdict → Type 0) → Type 0
@@ -41,10 +44,9 @@ pub record TotalLaws : Type 0 where
   pub ready_or_refused : ReadyOrRefused
   pub compiled_are_sound : CompiledAreSound
   pub some_verdict : SomeVerdict
-
--- a fault as it is told
-abbrev told_fault : XmlFault → Fault
-told_fault f = record { rule = f.broken.rule; place = f.place; path = f.broken.path }
+  pub some_der_verdict : SomeDerVerdict
+  pub compiled_have_kinds : CompiledHaveKinds
+  pub some_canonical_xml : SomeCanonicalXml
 
 module _ (laws : TotalLaws) where
   file_total : (r : List ℕ) → ¬ (¬ IsTotal Verdict Contents (RefusesFile r) (Spells r))
@@ -66,15 +68,44 @@ module _ (laws : TotalLaws) where
       by (inl ready) = laws.some_model R id ready (λ (ids, T, reached, made). lacks (inr (T, (ready, (ids, reached, made)))))
       by (inr (r, p, f)) = lacks (inl (_, (r, p, f, refl)))
 
-  some_verb : (verb : Verb) (R : Contents) (id i : List ℕ) (T : Tables) → GivesTables R id T → Told (OfVerb verb i T)
-  some_verb Types R id i T gives lacks = lacks (_, refl)
-  some_verb Xsd R id i T gives lacks = lacks (_, refl)
-  some_verb Asn1 R id i T gives lacks = lacks (_, refl)
-  some_verb CheckXml R id i T (ready, (ids, reached, made)) lacks = laws.some_verdict T i (laws.compiled_are_sound R id ids T ready reached made).0 (laws.compiled_are_sound R id ids T ready reached made).1 by
+  xml_total : (T : Tables) (i : List ℕ) → AreSoundTypes T → ¬ (¬ IsTotal Verdict Value (RefusesAsXml T i) (GivesXmlValue T i))
+  xml_total T i sound lacks = laws.some_verdict T i sound by
     where
-      by : (IsAccepted T i ⊎ ((f : XmlFault) × LimitedFault (message_of T) i f)) → ⊥
-      by (inl s) = lacks (_, spelled s refl)
-      by (inr (f, h)) = lacks (_, faulty (told_fault f) h refl)
+      by : (IsAccepted T i ⊎ ((f : Fault) × HasXmlFault T i f)) → ⊥
+      by (inl ((v, s), short)) = lacks (inr (v, (s, short)))
+      by (inr (f, h)) = lacks (inl (_, (f, h, refl)))
+
+  der_total : (T : Tables) (i : List ℕ) → AreSoundTypes T → HaveKinds (types_of T) → ¬ (¬ IsTotal Verdict Value (RefusesAsDer T i) (GivesDerValue T i))
+  der_total T i sound kinds lacks = laws.some_der_verdict T i sound kinds by
+    where
+      by : (IsDerAccepted T i ⊎ ((f : Fault) × HasDerFault T i f)) → ⊥
+      by (inl ((v, s), short)) = lacks (inr (v, (s, short)))
+      by (inr (f, h)) = lacks (inl (_, (f, h, refl)))
+
+  some_xml : (T : Tables) (value : Value) → AdmitsAs (types_of T) (types_of T 0) value → Told (GivesXml T value)
+  some_xml T value admitted lacks = let text = laws.some_canonical_xml (message_of T) value admitted in lacks (_, (text.0, text.1, refl))
+
+  sound_types : (R : Contents) (id : List ℕ) (T : Tables) → GivesTables R id T → AreSoundTypes T
+  sound_types R id T (ready, (ids, reached, made)) = laws.compiled_are_sound R id ids T ready reached made
+
+  type_kinds : (R : Contents) (id : List ℕ) (T : Tables) → GivesTables R id T → HaveKinds (types_of T)
+  type_kinds R id T (ready, (ids, reached, made)) = laws.compiled_have_kinds R id ids T ready reached made
+
+  from_xml : (T : Tables) (i : List ℕ) (Next : Value → Verdict → Type 0) → AreSoundTypes T → ((value : Value) → GivesXmlValue T i value → Told (Next value)) → Told (FromXml T i Next)
+  from_xml T i Next sound next = some_then Value (RefusesAsXml T i) (GivesXmlValue T i) Next (xml_total T i sound) next
+
+  from_der : (T : Tables) (i : List ℕ) (Next : Value → Verdict → Type 0) → AreSoundTypes T → HaveKinds (types_of T) → ((value : Value) → GivesDerValue T i value → Told (Next value)) → Told (FromDer T i Next)
+  from_der T i Next sound kinds next = some_then Value (RefusesAsDer T i) (GivesDerValue T i) Next (der_total T i sound kinds) next
+
+  some_verb : (verb : Verb) (R : Contents) (id i : List ℕ) (T : Tables) → GivesTables R id T → Told (OfVerb verb i T)
+  some_verb Types R id i T gives = λ lacks. lacks (_, refl)
+  some_verb Xsd R id i T gives = λ lacks. lacks (_, refl)
+  some_verb Asn1 R id i T gives = λ lacks. lacks (_, refl)
+  some_verb CheckXml R id i T gives = from_xml T i IsFine (sound_types R id T gives) (λ value h lacks. lacks (_, refl))
+  some_verb CheckDer R id i T gives = from_der T i IsFine (sound_types R id T gives) (type_kinds R id T gives) (λ value h lacks. lacks (_, refl))
+  some_verb CanonXml R id i T gives = from_xml T i (GivesXml T) (sound_types R id T gives) (λ value (s, short). some_xml T value (let is = s.instance in is.admitted))
+  some_verb XmlToDer R id i T gives = from_xml T i (GivesDer T) (sound_types R id T gives) (λ value h lacks. lacks (_, refl))
+  some_verb DerToXml R id i T gives = from_der T i (GivesXml T) (sound_types R id T gives) (type_kinds R id T gives) (λ value ((admitted, is), short). some_xml T value admitted)
 
   some_from_repository : (codes_word r c : List ℕ) (Next : Contents → Verdict → Type 0) → ((R : Contents) → Told (Next R)) → Told (FromRepository codes_word r c Next)
   some_from_repository codes_word r c Next next =

@@ -1,5 +1,5 @@
 -- The answer to words and bytes: the steps of each command, of which the first that refuses decides.
-use Rattle.std.specs.Prelude.{◌≡◌, ◌≢◌, ◌⊎◌, ℕ, true, false, List, [], codes}
+use Rattle.std.specs.Prelude.{◌≡◌, ◌≢◌, ◌⊎◌, ◌≤◌, ℕ, true, false, List, [], length, codes}
 use Rattle.repo_objects.specs.Repository.{Contents}
 use Rattle.repo_loader.specs.declared.fault.LoadFault.{LoadFault}
 use Rattle.repo_loader.specs.Loaded.{Spells, HasLoadFault}
@@ -11,15 +11,19 @@ use Rattle.message_model.specs.Compiled.{Compiles, IsReachedList}
 use Rattle.message_model.specs.Ready.{IsReady, IsRefused, MessageRule, number_of}
 use Rattle.message_model.specs.Tables.{Tables, message_of}
 use Rattle.message_model.specs.declared.fault.Fault.{Fault}
-use Rattle.xml_instances.specs.XmlFaults.{LimitedFault}
-use Rattle.xml_instances.specs.Checking.{fault_of}
-use Rattle.transcoder.specs.Checked.{IsAccepted}
+use Rattle.data_types.specs.Value.{Value}
+use Rattle.xml_instances.specs.XmlFaults.{limit}
+use Rattle.xml_instances.specs.SpellsXml.{SpellsXml}
+use Rattle.xml_writer.specs.CanonXml.{IsCanonXml}
+use Rattle.der_model.specs.DerMessage.{der_message}
+use Rattle.der_model.specs.Der.{SpellsDer, der_of}
+use Rattle.transcoder.specs.Checked.{HasXmlFault, HasDerFault}
 use Rattle.xsd_model.specs.SchemaOf.{schema_of}
 use Rattle.xsd_model.specs.SchemaText.{schema_text}
 use Rattle.asn1_model.specs.ModuleOf.{module_of}
 use Rattle.asn1_model.specs.ModuleText.{module_text}
 use Rattle.repo_engine.specs.declared.command.Verb.{Verb}
-use Rattle.repo_engine.specs.declared.command.Verb.TheVariants.{Types, Xsd, Asn1, CheckXml}
+use Rattle.repo_engine.specs.declared.command.Verb.TheVariants.{Types, Xsd, Asn1, CheckXml, CheckDer, CanonXml, XmlToDer, DerToXml}
 use Rattle.repo_engine.specs.declared.refusal.Refusal.TheVariants.{Words, Repository, Codes, Message, Instance}
 use Rattle.repo_engine.specs.Command.{Command, list, message, HasForm, IsUnlisted, hands_in}
 use Rattle.repo_engine.specs.Steps.{Then}
@@ -78,17 +82,54 @@ GivesSchema T v = v ≡ accepted (schema_text (schema_of T))
 abbrev pub GivesModule : Tables → Verdict → Type 0
 GivesModule T v = v ≡ accepted (module_text (module_of T))
 
--- the bytes are an instance of the message, or have this first fault
-pub data ChecksXml (T : Tables) (i : List ℕ) (v : Verdict) : Type 0 where
-  spelled : IsAccepted T i → v ≡ accepted (codes "accepted\n") → ChecksXml T i v
-  faulty : (fault : Fault) → LimitedFault (message_of T) i (fault_of fault) → v ≡ refused (Instance fault) [] → ChecksXml T i v
+-- ---- the instance
+
+-- the bytes have this first fault as XML of an instance
+abbrev pub RefusesAsXml : Tables → List ℕ → Verdict → Type 0
+RefusesAsXml T i v = (fault : Fault) × HasXmlFault T i fault × (v ≡ refused (Instance fault) [])
+
+-- the bytes, no more than the limit, are XML of an instance with this value
+abbrev pub GivesXmlValue : Tables → List ℕ → Value → Type 0
+GivesXmlValue T i value = SpellsXml (message_of T) i value × (length i ≤ limit)
+
+-- an instance is read from XML
+abbrev pub FromXml : Tables → List ℕ → (Value → Verdict → Type 0) → Verdict → Type 0
+FromXml T i Next = Then Verdict Value (RefusesAsXml T i) (GivesXmlValue T i) Next
+
+-- the bytes have this first fault as DER of an instance
+abbrev pub RefusesAsDer : Tables → List ℕ → Verdict → Type 0
+RefusesAsDer T i v = (fault : Fault) × HasDerFault T i fault × (v ≡ refused (Instance fault) [])
+
+-- the bytes, no more than the limit, are the DER of an instance with this value
+abbrev pub GivesDerValue : Tables → List ℕ → Value → Type 0
+GivesDerValue T i value = SpellsDer (der_message T) i value × (length i ≤ limit)
+
+-- an instance is read from DER
+abbrev pub FromDer : Tables → List ℕ → (Value → Verdict → Type 0) → Verdict → Type 0
+FromDer T i Next = Then Verdict Value (RefusesAsDer T i) (GivesDerValue T i) Next
+
+-- an instance is accepted
+abbrev pub IsFine : Value → Verdict → Type 0
+IsFine value v = v ≡ accepted (codes "accepted\n")
+
+-- its canonical XML goes out
+abbrev pub GivesXml : Tables → Value → Verdict → Type 0
+GivesXml T value v = (text : List ℕ) × IsCanonXml (message_of T) value text × (v ≡ accepted text)
+
+-- its DER goes out
+abbrev pub GivesDer : Tables → Value → Verdict → Type 0
+GivesDer T value v = v ≡ accepted (der_of (der_message T) value)
 
 -- what a command of one message does with its tables
 abbrev pub OfVerb : Verb → List ℕ → Tables → Verdict → Type 0
-OfVerb Types i T v = GivesTypes T v
-OfVerb Xsd i T v = GivesSchema T v
-OfVerb Asn1 i T v = GivesModule T v
-OfVerb CheckXml i T v = ChecksXml T i v
+OfVerb Types i T = GivesTypes T
+OfVerb Xsd i T = GivesSchema T
+OfVerb Asn1 i T = GivesModule T
+OfVerb CheckXml i T = FromXml T i IsFine
+OfVerb CheckDer i T = FromDer T i IsFine
+OfVerb CanonXml i T = FromXml T i (GivesXml T)
+OfVerb XmlToDer i T = FromXml T i (GivesDer T)
+OfVerb DerToXml i T = FromDer T i (GivesXml T)
 
 -- the verdict of a command on the bytes r, c and i of the repository, the codes and the instance
 abbrev pub Of : Command → List ℕ → List ℕ → List ℕ → Verdict → Type 0

@@ -15,6 +15,8 @@ use Rattle.reference_check.specs.declared.reached.ReadyError.TheVariants as read
 use Rattle.message_model.specs.Tables.{Tables}
 use Rattle.transcoder.specs.declared.check_error.CheckError.{CheckError}
 use Rattle.transcoder.specs.declared.check_error.CheckError.TheVariants as check
+use Rattle.transcoder.specs.declared.trans_error.TransError.{TransError}
+use Rattle.transcoder.specs.declared.trans_error.TransError.TheVariants as trans
 use Rattle.repo_engine.specs.declared.refusal.Stop.{Stop}
 use Rattle.repo_engine.specs.declared.refusal.Stop.TheVariants.{Refused, ReadFault, WriteFault, Memory}
 use Rattle.repo_engine.specs.declared.refusal.Refusal.TheVariants.{Words, Repository, Codes, Message, Instance}
@@ -80,6 +82,18 @@ abbrev pub check_stop : CheckError → Stop
 check_stop (check.Refused fault) = Refused (Instance fault)
 check_stop check.ReadFault = ReadFault
 check_stop check.Memory = Memory
+
+-- why an instance is not transcoded, as a stop
+abbrev pub trans_stop : TransError → Stop
+trans_stop (trans.Refused fault) = Refused (Instance fault)
+trans_stop trans.ReadFault = ReadFault
+trans_stop trans.WriteFault = WriteFault
+trans_stop trans.Memory = Memory
+
+-- how a transcoding ends a command
+abbrev pub trans_end : Result (Unit {0}) TransError → End
+trans_end (Ok done) = Ok done
+trans_end (Err error) = Err (trans_stop error)
 
 -- a stop while input is read: no words are refused, and no sink is asked
 abbrev pub IsOfInput : Stop → Type 0

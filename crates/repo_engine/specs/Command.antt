@@ -4,7 +4,7 @@ use Rattle.std.specs.Global.{Global}
 use Rattle.std.specs.Str.{bytes_eq}
 use Rattle.repo_objects.specs.MessageId.{IsMessageId}
 use Rattle.repo_engine.specs.declared.command.Verb.{Verb}
-use Rattle.repo_engine.specs.declared.command.Verb.TheVariants.{Types, Xsd, Asn1, CheckXml}
+use Rattle.repo_engine.specs.declared.command.Verb.TheVariants.{Types, Xsd, Asn1, CheckXml, CheckDer, CanonXml, XmlToDer, DerToXml}
 
 -- the words, each by its bytes
 abbrev pub texts : List (String Global) → List (List ℕ)
@@ -22,6 +22,10 @@ verb_word Types = codes "types"
 verb_word Xsd = codes "xsd"
 verb_word Asn1 = codes "asn1"
 verb_word CheckXml = codes "check-xml"
+verb_word CheckDer = codes "check-der"
+verb_word CanonXml = codes "canon-xml"
+verb_word XmlToDer = codes "xml-to-der"
+verb_word DerToXml = codes "der-to-xml"
 
 -- whether it reads an instance
 abbrev pub reads_instance : Verb → Bool
@@ -29,6 +33,10 @@ reads_instance Types = false
 reads_instance Xsd = false
 reads_instance Asn1 = false
 reads_instance CheckXml = true
+reads_instance CheckDer = true
+reads_instance CanonXml = true
+reads_instance XmlToDer = true
+reads_instance DerToXml = true
 
 -- the words have the form of the command, word for word
 abbrev pub HasForm : List (List ℕ) → Command → Type 0

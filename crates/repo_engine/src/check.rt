@@ -1,6 +1,6 @@
-//! The check of an XML instance.
+//! The check of an instance.
 ghost use Rattle.std.specs.Prelude.{◌≡◌, ◌≢◌, ℕ, List, Some, Err};
-ghost use Rattle.repo_engine.specs.Answer.{ChecksXml};
+ghost use Rattle.repo_engine.specs.Answer.{FromDer, FromXml, IsFine};
 ghost use Rattle.repo_engine.specs.Arms.{check_stop};
 ghost use Rattle.repo_engine.specs.Run.{GoesOut, Tells};
 ghost use Rattle.repo_engine.specs.Sources.{IsRead, ended_of, of_source};
@@ -9,7 +9,7 @@ use super::refusal::{Refusal, Stop, ended};
 use message_model::Model;
 use outside::{Sink, Source, push_bytes};
 use std::alloc::Global;
-use transcoder::{CheckError, check_xml};
+use transcoder::{CheckError, check_der, check_xml};
 
 /// Checks the XML instance that the source has left, and pushes `accepted`.
 pub fn check<I: Source, O: Sink>(
@@ -20,10 +20,28 @@ pub fn check<I: Source, O: Sink>(
 ) -> Result<(), Stop>
     ensures no_words { result ≢ Err (Stop.Refused Refusal.Words) }
     ensures source { IsRead (ended_of result) (of_source I.left I.faults inst.old inst.new) }
-    ensures verdict { (i : List ℕ) → I.left inst.old ≡ Some i → Tells (ChecksXml model.now i) result (O.held out.old) (O.held out.new) }
+    ensures verdict { (i : List ℕ) → I.left inst.old ≡ Some i → Tells (FromXml model.now i IsFine) result (O.held out.old) (O.held out.new) }
     ensures goes_out { GoesOut O.held O.faults out.old out.new result }
 {
     match check_xml(alloc, model, inst) {
+        Ok(()) => ended(push_bytes(b"accepted\n", out)),
+        Err(error) => Err(stop_of_check(error)),
+    }
+}
+
+/// Checks the instance in DER that the source has left, and pushes `accepted`.
+pub fn check_in_der<I: Source, O: Sink>(
+    alloc: Global,
+    model: &Model,
+    inst: &mut I,
+    out: &mut O,
+) -> Result<(), Stop>
+    ensures no_words { result ≢ Err (Stop.Refused Refusal.Words) }
+    ensures source { IsRead (ended_of result) (of_source I.left I.faults inst.old inst.new) }
+    ensures verdict { (i : List ℕ) → I.left inst.old ≡ Some i → Tells (FromDer model.now i IsFine) result (O.held out.old) (O.held out.new) }
+    ensures goes_out { GoesOut O.held O.faults out.old out.new result }
+{
+    match check_der(alloc, model, inst) {
         Ok(()) => ended(push_bytes(b"accepted\n", out)),
         Err(error) => Err(stop_of_check(error)),
     }

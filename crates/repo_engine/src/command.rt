@@ -17,6 +17,14 @@ pub enum Verb {
     Asn1,
     /// `check-xml`: whether the bytes are an XML instance of the message.
     CheckXml,
+    /// `check-der`: whether the bytes are the DER of an instance of the message.
+    CheckDer,
+    /// `canon-xml`: the canonical XML of an XML instance.
+    CanonXml,
+    /// `xml-to-der`: the DER of an XML instance.
+    XmlToDer,
+    /// `der-to-xml`: the canonical XML of an instance in DER.
+    DerToXml,
 }
 
 /// What a command line asks for.
@@ -127,6 +135,14 @@ fn verb_of(word: &[u8]) -> Option<Verb>
         Some(Verb::Asn1)
     } else if word == b"check-xml".as_slice() {
         Some(Verb::CheckXml)
+    } else if word == b"check-der".as_slice() {
+        Some(Verb::CheckDer)
+    } else if word == b"canon-xml".as_slice() {
+        Some(Verb::CanonXml)
+    } else if word == b"xml-to-der".as_slice() {
+        Some(Verb::XmlToDer)
+    } else if word == b"der-to-xml".as_slice() {
+        Some(Verb::DerToXml)
     } else {
         None
     }

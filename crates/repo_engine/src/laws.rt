@@ -19,6 +19,8 @@ pub fn one_answer()
     message_model::laws::ready_is_not_refused();
     message_model::laws::compiled_are_sound();
     transcoder::laws::one_verdict();
+    transcoder::laws::one_der_verdict();
+    xml_writer::laws::a_value_has_one_canonical_xml();
 }
 
 /// No words and bytes are without an answer.
@@ -31,10 +33,15 @@ pub fn some_answer()
     message_model::laws::ready_or_refused();
     message_model::laws::compiled_are_sound();
     transcoder::laws::some_verdict();
+    transcoder::laws::some_der_verdict();
+    der_model::laws::compiled_have_kinds();
+    xml_writer::laws::a_value_has_a_canonical_xml();
 }
 
 /// The schema that `xsd` writes of a message admits exactly what `check-xml` accepts: bytes of at most 2^40 are
 /// accepted exactly where they are XML of a tree that the schema admits.
 pub fn schema_admits_what_is_accepted()
     ensures { SchemaAdmitsWhatIsAccepted }
-{}
+{
+    respell::laws::whole_is_plain();
+}

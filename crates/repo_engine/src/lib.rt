@@ -14,6 +14,7 @@ mod refusal;
 mod repository;
 mod schema;
 mod status;
+mod transcode;
 mod types;
 
 pub use engine::run;

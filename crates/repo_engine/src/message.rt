@@ -7,11 +7,12 @@ ghost use Rattle.repo_engine.specs.Run.{GoesOut, Tells};
 ghost use Rattle.repo_engine.specs.Sources.{AreRead, AreReadInTurn, Failing, ended_of, of_source, stop_ended};
 
 use super::asn1::give_module;
-use super::check::check;
+use super::check::{check, check_in_der};
 use super::command::Verb;
 use super::refusal::{Refusal, Stop};
 use super::repository::read_repository;
 use super::schema::give_schema;
+use super::transcode::{canonize, from_der, to_der};
 use super::types::give_types;
 use message_model::Model;
 use outside::{Sink, Source};
@@ -107,5 +108,9 @@ fn on_model<I: Source, O: Sink>(
         Verb::Xsd => give_schema(alloc, model, out),
         Verb::Asn1 => give_module(alloc, model, out),
         Verb::CheckXml => check(alloc, model, inst, out),
+        Verb::CheckDer => check_in_der(alloc, model, inst, out),
+        Verb::CanonXml => canonize(alloc, model, inst, out),
+        Verb::XmlToDer => to_der(alloc, model, inst, out),
+        Verb::DerToXml => from_der(alloc, model, inst, out),
     }
 }

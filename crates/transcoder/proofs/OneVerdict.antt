@@ -3,7 +3,9 @@ use Rattle.std.proofs.Common.{◌≡◌, ℕ, ◌<◌, ◌≤◌, List, length, 
 use Rattle.message_model.specs.Message.{Message}
 use Rattle.message_model.specs.Tables.{message_of}
 use Rattle.xml_instances.specs.XmlFaults.{Fault, LimitedFault, whole, early, cut, behind, limit, too_long}
-use Rattle.xml_instances.specs.Laws.{OneXmlFault, SpelledHasNone}
+use Rattle.xml_instances.specs.Laws.{OneSpelled, OneXmlFault, SpelledHasNone}
+use Rattle.xml_instances.specs.Checking.{fault_of}
+use Rattle.message_model.specs.declared.fault.Fault.{Fault as Told}
 use Rattle.transcoder.specs.Checked.{IsAccepted}
 use Rattle.transcoder.specs.Laws.{OneVerdict}
 
@@ -28,8 +30,20 @@ one_limited one m bytes f g (behind s w none d) (early t k n) = absurd (none g k
 one_limited one m bytes f g (behind s w none d) (cut b t k q e) = absurd (none b k)
 one_limited one m bytes f g (behind s w none d) (behind t v other e) = d ∙ sym e
 
-pub one_verdict : OneXmlFault → SpelledHasNone → OneVerdict
-one_verdict one none T bytes sound = record { one = one_limited one (message_of T) bytes; none = apart }
+-- a fault as it is told is known by what it is
+told_once : (f g : Told) → fault_of f ≡ fault_of g → f ≡ g
+told_once f g same =
+    let rules : f.rule ≡ g.rule = ap (λ (x : Fault). x.broken.rule) same in
+    let paths : f.path ≡ g.path = ap (λ (x : Fault). x.broken.path) same in
+    let places : f.place ≡ g.place = ap (λ (x : Fault). x.place) same in
+    λ i. record { rule = rules i; place = places i; path = paths i }
+
+pub one_verdict : OneSpelled → OneXmlFault → SpelledHasNone → OneVerdict
+one_verdict spelled one none T bytes (sound, money, sorted, root) = record {
+  value = λ v w s r. spelled (message_of T) bytes v w sound sorted s r;
+  one = λ f g h k. told_once f g (one_limited one (message_of T) bytes (fault_of f) (fault_of g) h k);
+  none = λ f s h. apart (fault_of f) s h;
+}
   where
     apart : (f : Fault) → IsAccepted T bytes → LimitedFault (message_of T) bytes f → ⊥
     apart f ((v, s), short) (whole t h) = none (message_of T) bytes v f sound s h

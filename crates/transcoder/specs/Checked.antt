@@ -1,21 +1,73 @@
--- What the check of an instance says of its bytes.
-use Rattle.std.specs.Prelude.{ℕ, ◌≤◌, List, length}
-use Rattle.message_model.specs.Tables.{Tables, message_of}
+-- What the readings of an instance say of its bytes.
+use Rattle.std.specs.Prelude.{◌≡◌, ℕ, ◌≤◌, List, length}
+use Rattle.data_types.specs.Value.{Value, Piece}
+use Rattle.inst_pool.specs.Pieces.{Held}
+use Rattle.fragments.specs.Fragment.{fragment}
+use Rattle.message_model.specs.Tables.{Tables, message_of, pieces_of}
+use Rattle.message_model.specs.declared.fault.Fault.{Fault}
 use Rattle.xml_instances.specs.XmlFaults.{limit, LimitedFault}
+use Rattle.xml_instances.specs.SpellsXml.{SpellsXml}
 use Rattle.xml_instances.specs.Checking.{IsSpelled, fault_of}
+use Rattle.xml_writer.specs.CanonXml.{IsCanonXml}
+use Rattle.der_model.specs.DerMessage.{der_message}
+use Rattle.der_model.specs.Der.{SpellsDer, der_of}
+use Rattle.der_model.specs.LimitedFaults as der
+use Rattle.der_codec.specs.Checking as der_checking
 use Rattle.transcoder.specs.declared.check_error.CheckError.{CheckError}
-use Rattle.transcoder.specs.declared.check_error.CheckError.TheVariants.{Refused}
+use Rattle.transcoder.specs.Reading.{RefusesBy, IsOfSome}
+
+-- ---- XML
 
 -- They spell a value that the message admits, and are no more than the limit.
 abbrev pub IsAccepted : Tables → List ℕ → Type 0
 IsAccepted T bytes = IsSpelled T bytes × (length bytes ≤ limit)
 
+-- their first fault as XML
+abbrev pub HasXmlFault : Tables → List ℕ → Fault → Type 0
+HasXmlFault T bytes fault = LimitedFault (message_of T) bytes (fault_of fault)
+
 -- They have the fault; that a source failed is said by its count.
 abbrev pub RefusesXml : Tables → List ℕ → CheckError → Type 0
-RefusesXml T bytes (Refused fault) = LimitedFault (message_of T) bytes (fault_of fault)
-RefusesXml T bytes _ = Unit {0}
+RefusesXml T = RefusesBy (HasXmlFault T)
 
 -- The fault is one of some bytes, also where the source does not tell its own.
 abbrev pub IsFaultOfSome : Tables → CheckError → Type 0
-IsFaultOfSome T (Refused fault) = (bytes : List ℕ) × LimitedFault (message_of T) bytes (fault_of fault)
-IsFaultOfSome T _ = Unit {0}
+IsFaultOfSome T = IsOfSome (HasXmlFault T)
+
+-- ---- DER
+
+abbrev pub IsDerAccepted : Tables → List ℕ → Type 0
+IsDerAccepted T bytes = der_checking.IsSpelled T bytes × (length bytes ≤ limit)
+
+abbrev pub HasDerFault : Tables → List ℕ → Fault → Type 0
+HasDerFault T bytes fault = der.LimitedFault (der_message T) bytes (der_checking.fault_of fault)
+
+abbrev pub RefusesDer : Tables → List ℕ → CheckError → Type 0
+RefusesDer T = RefusesBy (HasDerFault T)
+
+abbrev pub IsDerFaultOfSome : Tables → CheckError → Type 0
+IsDerFaultOfSome T = IsOfSome (HasDerFault T)
+
+-- ---- what is kept of an instance, and what is written of it
+
+-- the pieces are those of the value that the bytes are, by what it is to be a value's
+abbrev pub HoldsAs : (List ℕ → Value → Type 0) → Tables → List ℕ → List Piece → Type 0
+HoldsAs Spells T bytes pieces = (v : Value) × Spells bytes v × (pieces ≡ pieces_of fragment T v)
+
+-- the instance holds the value that the bytes spell as XML
+abbrev pub HoldsXml : Tables → List ℕ → Held → Type 0
+HoldsXml T bytes instance = HoldsAs (SpellsXml (message_of T)) T bytes instance.region.pieces
+
+-- the same of DER
+abbrev pub HoldsDer : Tables → List ℕ → Held → Type 0
+HoldsDer T bytes instance = HoldsAs (SpellsDer (der_message T)) T bytes instance.region.pieces
+
+-- the text is the DER of the value that the bytes, no more than the limit, spell as XML; its canonical XML; and the canonical XML of one in DER
+abbrev pub IsDerOfXml : Tables → List ℕ → List ℕ → Type 0
+IsDerOfXml T bytes text = (v : Value) × SpellsXml (message_of T) bytes v × (length bytes ≤ limit) × (text ≡ der_of (der_message T) v)
+
+abbrev pub IsXmlOfXml : Tables → List ℕ → List ℕ → Type 0
+IsXmlOfXml T bytes text = (v : Value) × SpellsXml (message_of T) bytes v × (length bytes ≤ limit) × IsCanonXml (message_of T) v text
+
+abbrev pub IsXmlOfDer : Tables → List ℕ → List ℕ → Type 0
+IsXmlOfDer T bytes text = (v : Value) × SpellsDer (der_message T) bytes v × (length bytes ≤ limit) × IsCanonXml (message_of T) v text

@@ -7,6 +7,7 @@ use Rattle.std.proofs.lemmas.Slice.Eq.{bytes_eq-Decides}
 use Rattle.std.proofs.lemmas.Bool.Decides.{nat_tests}
 use Rattle.lexical_core.specs.Tree.{Expanded, Entry, Nodes, Element, Text, Tree, Item, Starts, Char, Ends, flat, flat_nodes}
 use Rattle.lexical_core.specs.Tree as tree
+use Rattle.fragments.specs.Plain.{ArePlain, IsPlain}
 use Rattle.data_types.specs.WhiteSpace.{IsSpace}
 use Rattle.data_types.specs.Value.{Value, Children, Nothing, Child}
 use Rattle.data_types.specs.Value as value
@@ -200,16 +201,20 @@ module _ {P : Type 0} (m : Message P)
       ((space_of c (space_in _ _ h.0), r.0), r.1)
   blank_in (Element k attributes inner more) n above rest h = no_fault _ (sym h.0)
 
-  wraps_in : (nodes : Nodes) (n : Expanded) (above : List (Level P)) (rest : List Item) → AreFine m (Envelope false ∷ above) (flat_nodes nodes ++ (Ends n ∷ rest)) → (t : Tree) × Wraps t nodes × AreFine m above rest
-  wraps_in tree.Nothing n above rest h = no_fault _ (sym h.0)
-  wraps_in (Text c more) n above rest h =
-      let r : (t : Tree) × Wraps t more × AreFine m above rest = wraps_in more n above rest h.1 in
-      (r.0, (space_of c (space_in _ _ h.0), r.1), r.2)
-  wraps_in (Element k attributes inner more) n above rest h =
+  -- the tree of an envelope, and the end of the envelope
+  abbrev pub TreeOf : Nodes → List (Level P) → List Item → Type 0
+  TreeOf nodes above rest = (t : Tree) × IsPlain t × Wraps t nodes × AreFine m above rest
+
+  wraps_in : (nodes : Nodes) (n : Expanded) (above : List (Level P)) (rest : List Item) → ArePlain nodes → AreFine m (Envelope false ∷ above) (flat_nodes nodes ++ (Ends n ∷ rest)) → TreeOf nodes above rest
+  wraps_in tree.Nothing n above rest plain h = no_fault _ (sym h.0)
+  wraps_in (Text c more) n above rest plain h =
+      let r : TreeOf more above rest = wraps_in more n above rest plain.1 h.1 in
+      (r.0, r.1, (space_of c (space_in _ _ h.0), r.2), r.3)
+  wraps_in (Element k attributes inner more) n above rest (name, entries, within, later) h =
       let out : AreFine m (Envelope true ∷ above) (flat_nodes more ++ (Ends n ∷ rest)) =
       (foreign_out inner (Envelope true ∷ above) (Ends k ∷ (flat_nodes more ++ (Ends n ∷ rest))) (rw (append_assoc (flat_nodes inner) (Ends k ∷ flat_nodes more) (Ends n ∷ rest)) at h.1)).1 in
       let r : IsBlank more × AreFine m above rest = blank_in more n above rest out in
-      (record { name = k; attributes = attributes; children = inner }, (refl, r.0), r.1)
+      (record { name = k; attributes = attributes; children = inner }, record { name = name; attributes = entries; children = within }, (refl, r.0), r.1)
 
   -- the children that come behind those before, and the end of their element
   abbrev pub ChildrenOf : Form P Simple → List ℕ → Nodes → List (Level P) → List Item → Type 0
@@ -219,7 +224,7 @@ module _ {P : Type 0} (m : Message P)
 
   abbrev pub ChildrenIn : Nodes → Type 0
   ChildrenIn nodes =
-      (p : P) (f : Form P Simple) (before : List ℕ) (n : Expanded) (above : List (Level P)) (rest : List Item) → m.forms p ≡ f
+      ArePlain nodes → (p : P) (f : Form P Simple) (before : List ℕ) (n : Expanded) (above : List (Level P)) (rest : List Item) → m.forms p ≡ f
       → AreFine m (Parent f before ∷ above) (flat_nodes nodes ++ (Ends n ∷ rest)) → ChildrenOf f before nodes above rest
 
   abbrev pub ElementOf : Form P Simple → List Entry → Nodes → List (Level P) → List Item → Type 0
@@ -249,23 +254,23 @@ module _ {P : Type 0} (m : Message P)
       let r : (unknown_fault (form.Money c s) attributes path ≡ None) × RequiredFault m (form.Money c s) attributes path None = unless_in _ (RequiredFault m (form.Money c s) attributes path) known in
       (money_in c s attributes (if_in _ _ r.0), currency_in (m.forms c) (value_of currency attributes) (path ++ codes "/@Ccy") r.1)
 
-  element_in : (nodes : Nodes) (p : P) (f : Form P Simple) (attributes : List Entry) (path : List ℕ) (n : Expanded) (above : List (Level P)) (rest : List Item) → ChildrenIn nodes → m.forms p ≡ f
+  element_in : (nodes : Nodes) (p : P) (f : Form P Simple) (attributes : List Entry) (path : List ℕ) (n : Expanded) (above : List (Level P)) (rest : List Item) → ArePlain nodes → ChildrenIn nodes → m.forms p ≡ f
       → AttributeFault m (Some f) attributes path None → AreFine m (begun f ∷ above) (flat_nodes nodes ++ (Ends n ∷ rest)) → ElementOf f attributes nodes above rest
-  element_in nodes p (form.Sequence fs) attributes path n above rest children at known h = of_children (children p (form.Sequence fs) [] n above rest at h)
+  element_in nodes p (form.Sequence fs) attributes path n above rest plain children at known h = of_children (children plain p (form.Sequence fs) [] n above rest at h)
     where
       of_children : ChildrenOf (form.Sequence fs) [] nodes above rest → ElementOf (form.Sequence fs) attributes nodes above rest
       of_children (ks, written, admitted, came, ends, bare, fine) =
           (value.Component ks, (whole_at p (form.Sequence fs) (numbers_of ks) at came ends, admitted), hints_of (form.Sequence fs) attributes path refl known, holds_in fs nodes bare, written, fine)
-  element_in nodes p (form.Choice fs) attributes path n above rest children at known h = of_children (children p (form.Choice fs) [] n above rest at h)
+  element_in nodes p (form.Choice fs) attributes path n above rest plain children at known h = of_children (children plain p (form.Choice fs) [] n above rest at h)
     where
       of_children : ChildrenOf (form.Choice fs) [] nodes above rest → ElementOf (form.Choice fs) attributes nodes above rest
       of_children (ks, written, admitted, came, ends, bare, fine) =
           (value.Component ks, (whole_at p (form.Choice fs) (numbers_of ks) at came ends, admitted), hints_of (form.Choice fs) attributes path refl known, tt, written, fine)
-  element_in nodes p (form.Simple s) attributes path n above rest children at known h = of_text (text_in s [] nodes n above rest h)
+  element_in nodes p (form.Simple s) attributes path n above rest plain children at known h = of_text (text_in s [] nodes n above rest h)
     where
       of_text : TextOf s [] nodes above rest → ElementOf (form.Simple s) attributes nodes above rest
       of_text (w, e, (l, gives), fine) = (value.Simple l, fits s w l gives, hints_of (form.Simple s) attributes path refl known, tt, leaf_written (form.Simple s) l nodes (w, e, gives), fine)
-  element_in nodes p (form.Money c s) attributes path n above rest children at known h =
+  element_in nodes p (form.Money c s) attributes path n above rest plain children at known h =
       of_amount (currency_known c s attributes path known).1 (text_in s [] nodes n above rest h)
     where
       number_of : (u : List ℕ) (i : leaf.Leaf) (k : Number) → i ≡ leaf.Number k → GivesLeaf s u i → GivesLeaf s u (leaf.Number k)
@@ -281,15 +286,15 @@ module _ {P : Type 0} (m : Message P)
       of_amount : ((w : List ℕ) × (l : leaf.Leaf) × (value_of currency attributes ≡ Some w) × SpellsCode (m.forms c) (chars w) l) → TextOf s [] nodes above rest → ElementOf (form.Money c s) attributes nodes above rest
       of_amount (w, l, found, spelled) (u, e, (i, gives), fine) =
           of_number w l found spelled u i (number_at u i gives).0 (number_at u i gives).1 e gives fine
-  element_in nodes p form.Envelope attributes path n above rest children at known h = of_wraps (wraps_in nodes n above rest h)
+  element_in nodes p form.Envelope attributes path n above rest plain children at known h = of_wraps (wraps_in nodes n above rest plain h)
     where
-      of_wraps : ((t : Tree) × Wraps t nodes × AreFine m above rest) → ElementOf form.Envelope attributes nodes above rest
-      of_wraps (t, w, fine) = (value.External t, tt, hints_of form.Envelope attributes path refl known, tt, tree_written form.Envelope t nodes w, fine)
-  element_in nodes p form.LeftOut attributes path n above rest children at known h = none (children p form.LeftOut [] n above rest at h)
+      of_wraps : TreeOf nodes above rest → ElementOf form.Envelope attributes nodes above rest
+      of_wraps (t, is_plain, w, fine) = (value.External t, is_plain, hints_of form.Envelope attributes path refl known, tt, tree_written form.Envelope t nodes w, fine)
+  element_in nodes p form.LeftOut attributes path n above rest plain children at known h = none (children plain p form.LeftOut [] n above rest at h)
     where
       none : ChildrenOf form.LeftOut [] nodes above rest → ElementOf form.LeftOut attributes nodes above rest
       none (ks, written, admitted, came, ends, bare, fine) = absurd cc
-  element_in nodes p form.Missing attributes path n above rest children at known h = none (children p form.Missing [] n above rest at h)
+  element_in nodes p form.Missing attributes path n above rest plain children at known h = none (children plain p form.Missing [] n above rest at h)
     where
       none : ChildrenOf form.Missing [] nodes above rest → ElementOf form.Missing attributes nodes above rest
       none (ks, written, admitted, came, ends, bare, fine) = absurd cc
@@ -317,22 +322,22 @@ module _ {P : Type 0} (m : Message P)
   text_written f (Child k v ks) c more s h = (s, h)
 
   children_in : (nodes : Nodes) → ChildrenIn nodes
-  children_in tree.Nothing p f before n above rest at h = (Nothing, tt, tt, tt, rw append-nil (end_fine (path_in above) f (end_after f before) h.0), inr refl, h.1)
-  children_in (Text c more) p f before n above rest at h = of_children (children_in more p f before n above rest at h.1)
+  children_in tree.Nothing plain p f before n above rest at h = (Nothing, tt, tt, tt, rw append-nil (end_fine (path_in above) f (end_after f before) h.0), inr refl, h.1)
+  children_in (Text c more) plain p f before n above rest at h = of_children (children_in more plain.1 p f before n above rest at h.1)
     where
       here : (is_bare f ≡ false) × (is_space c ≡ true)
       here = bare_in _ _ (space_in _ _ h.0)
 
       of_children : ChildrenOf f before more above rest → ChildrenOf f before (Text c more) above rest
       of_children (ks, written, admitted, came, ends, bare, fine) = (ks, text_written f ks c more (space_of c here.1) written, admitted, came, ends, inl here.0, fine)
-  children_in (Element n attributes inner more) p f before k above rest at h =
+  children_in (Element n attributes inner more) (_, _, within, behind) p f before k above rest at h =
       of_start (start_in f before n attributes above (flat_nodes inner ++ (Ends n ∷ (flat_nodes more ++ (Ends k ∷ rest)))) (rw (append_assoc (flat_nodes inner) (Ends n ∷ flat_nodes more) (Ends k ∷ rest)) at h))
-      (children_in inner) (λ before. children_in more p f before k above rest at)
+      (children_in inner) (λ before. children_in more behind p f before k above rest at)
     where
       of_start : ((n.namespace ≡ m.namespace) × ((c : Comes f before n.local) × StartedIn f before n attributes above (flat_nodes inner ++ (Ends n ∷ (flat_nodes more ++ (Ends k ∷ rest)))) c))
           → ChildrenIn inner → ((before : List ℕ) → AreFine m (Parent f before ∷ above) (flat_nodes more ++ (Ends k ∷ rest)) → ChildrenOf f before more above rest) → ChildrenOf f before (Element n attributes inner more) above rest
       of_start (space, ((j, s, found, tag, fine, slotted), (path, known, clean))) inside later =
-          of_element (element_in inner s.target (m.forms s.target) attributes path n (Parent f (before ++ j ∷ []) ∷ above) (flat_nodes more ++ (Ends k ∷ rest)) inside refl known clean)
+          of_element (element_in inner s.target (m.forms s.target) attributes path n (Parent f (before ++ j ∷ []) ∷ above) (flat_nodes more ++ (Ends k ∷ rest)) within inside refl known clean)
         where
           of_rest : (v : Value) → AdmitsAs m.forms (m.forms s.target) v → WritesAttributes m.forms (m.forms s.target) v attributes → MayHold (m.forms s.target) inner → WritesContent m.forms m.namespace (m.forms s.target) v inner
               → ChildrenOf f (before ++ j ∷ []) more above rest → ChildrenOf f before (Element n attributes inner more) above rest
@@ -350,8 +355,8 @@ module _ {P : Type 0} (m : Message P)
           of_element (v, admits, attributes_are, holds, content, clean') = of_rest v admits attributes_are holds content (later (before ++ j ∷ []) clean')
 
   -- the root, before which nothing stands
-  pub root_in : (t : Tree) → AreFine m [] (flat t) → (v : Value) × IsInstance m v t
-  root_in t h = of_start (unless_in _ _ h.0) h.1
+  pub root_in : (t : Tree) → IsPlain t → AreFine m [] (flat t) → (v : Value) × IsInstance m v t
+  root_in t plain h = of_start (unless_in _ _ h.0) h.1
     where
       if_named : (b : Bool) (x : Broken) → cond b None (Some x) ≡ None → b ≡ true
       if_named true x e = refl
@@ -363,4 +368,4 @@ module _ {P : Type 0} (m : Message P)
       of_start : ((place_fault m [] t.name ≡ None) × AttributeFault m (Some (m.forms m.root)) t.attributes (codes "/Document[1]") None) → AreFine m (begun (m.forms m.root) ∷ []) (flat_nodes t.children ++ Ends t.name ∷ []) → (v : Value) × IsInstance m v t
       of_start (place, known) fine =
           of_element (name_in t.name _ (if_named _ _ place))
-          (element_in t.children m.root (m.forms m.root) t.attributes (codes "/Document[1]") t.name [] [] (children_in t.children) refl known fine)
+          (element_in t.children m.root (m.forms m.root) t.attributes (codes "/Document[1]") t.name [] [] plain.children (children_in t.children) refl known fine)

@@ -1,8 +1,16 @@
 -- A checker that goes from event to event, and from byte to byte.
-use Rattle.std.proofs.Common.{◌≡◌, ℕ, ◌+◌, ◌-◌, ◌^◌, ◌<◌, ◌≤◌, arith, List, [], ◌∷◌, ◌++◌, Some, None, refl, sym, ap, ◌∙◌, length, map, subst, append_assoc, append-nil, length-append}
+use Rattle.std.proofs.Common.{Option, ◌≡◌, ℕ, ◌+◌, ◌-◌, ◌^◌, ◌<◌, ◌≤◌, arith, List, [], ◌∷◌, ◌++◌, Some, None, refl, sym, ap, ◌∙◌, length, map, subst, append_assoc, append-nil, length-append}
 use Rattle.std.proofs.lemmas.List.{map-append}
 use Rattle.lexical_core.specs.Tree.{Item}
+use Rattle.lexical_core.specs.Tree.{Starts, Char, Ends, Skipped}
+use Rattle.markup.specs.Token.{Token}
+use Rattle.markup.specs.Marks.{Front, tag_limit}
+use Rattle.markup.specs.Faults.{IsClean}
+use Rattle.markup.specs.Standing.{EventsStay}
+use Rattle.markup.specs.declared.reader.Reader.{Reader}
+use Rattle.respell.specs.Laws.{EventsArePlain, IsPlainItem}
 use Rattle.markup.specs.Events.{Placed}
+use Rattle.markup.specs.Events.{events as placed_events}
 use Rattle.markup.specs.EventItems.{item_of, placed, Tells}
 use Rattle.markup.specs.Reading.{GoesOn, IsWholly, taken}
 use Rattle.markup.specs.declared.event.Event.{Event}
@@ -11,10 +19,10 @@ use Rattle.message_model.specs.Tables.{Tables, message_of, types_of}
 use Rattle.message_model.specs.Sound.{AreSound}
 use Rattle.xml_instances.specs.Levels.{Level, levels_after, levels_over}
 use Rattle.xml_instances.specs.EventFaults.{Broken, EventFault, AreFine}
-use Rattle.xml_instances.specs.XmlFaults.{XmlFault, items_told}
+use Rattle.xml_instances.specs.XmlFaults.{XmlFault, items, items_told}
 use Rattle.xml_instances.specs.Laws.{FineIsSpelled}
 use Rattle.xml_instances.specs.Open.{IsOpen, IsTaken}
-use Rattle.xml_instances.specs.Checking.{items_of, IsTold, AreTaken, BreaksAt, Stops, fault_of, HasFed, IsSpelled, fed}
+use Rattle.xml_instances.specs.Checking.{items_of, IsTold, AreTaken, BreaksAt, Stops, fault_of, HasFed, IsSpelled, IsSpelledBy, fed}
 use Rattle.xml_instances.specs.declared.content.Content.{Content}
 use Rattle.std.specs.Prelude.{Err, min}
 use Rattle.message_model.specs.declared.fault.InstanceError.{InstanceError}
@@ -22,7 +30,12 @@ use Rattle.message_model.specs.declared.fault.InstanceError.TheVariants.{Refused
 use Rattle.xml_instances.specs.declared.opened.Refusal.{Refusal}
 use Rattle.xml_instances.specs.declared.opened.Refusal.TheVariants.{Breaks, Memory as NoMemory}
 use Rattle.xml_instances.specs.declared.checker.XmlChecker.{XmlChecker}
+use Rattle.std.specs.List.{AllByRecursion}
+use Rattle.respell.specs.Respelling.{HasSortedAttributes}
+use Rattle.xml_instances.specs.Built.{EventShows, EventsShow}
+use Rattle.xml_instances.specs.Keeping.{PiecesKept, GoOn, IsBuilt}
 use Rattle.xml_instances.proofs.FaultAt.{fine_joined, over_joined}
+use Rattle.xml_instances.proofs.GoingOn.{go_still, go_on, go_one, built_on}
 
 -- of the events those before the rest are taken
 pub record TakenSoFar (m : Message ℕ) (ls : List (Level ℕ)) (events rest : List Event) (content : Content) : Type 0 where
@@ -33,6 +46,15 @@ pub record TakenSoFar (m : Message ℕ) (ls : List (Level ℕ)) (events rest : L
 
 pub none_taken : (m : Message ℕ) (ls : List (Level ℕ)) (events : List Event) (content : Content) → IsOpen content m ls → TakenSoFar m ls events events content
 none_taken m ls events content h = record { before = []; events_are = refl; fine = tt; opens = h }
+
+-- the same, with the pieces that they show
+pub record ShownSoFar (T : Tables) (ls : List (Level ℕ)) (events rest : List Event) (initial : Option PiecesKept) (content : Content) : Type 0 where
+  pub taken : TakenSoFar (message_of T) ls events rest content
+  pub shown : AllByRecursion HasSortedAttributes (items_of events) → GoOn initial content.pieces (EventsShow T ls (items_of taken.before))
+
+pub none_shown : (T : Tables) (ls : List (Level ℕ)) (events : List Event) (content : Content) → IsOpen content (message_of T) ls → ShownSoFar T ls events events content.pieces content
+unfolding none_taken
+none_shown T ls events content h = record { taken = none_taken (message_of T) ls events content h; shown = λ sorted. go_still content.pieces content.pieces refl }
 
 items_joined : (a b : List Event) → items_of (a ++ b) ≡ items_of a ++ items_of b
 items_joined a b = map-append (λ (e : Event). item_of e.what) a b
@@ -50,6 +72,27 @@ pub all_taken : (m : Message ℕ) (ls : List (Level ℕ)) (events : List Event) 
 all_taken m ls events content t =
     let same : t.before ≡ events = sym (t.events_are ∙ append-nil t.before) in
     (subst (λ (x : List Event). AreFine m ls (items_of x)) same t.fine, subst (λ (x : List Event). IsOpen content m (levels_over m ls (items_of x))) same t.opens)
+
+pub all_behind : (P : Item → Type 0) (a b : List Item) → AllByRecursion P (a ++ b) → AllByRecursion P b
+all_behind P [] b h = h
+all_behind P (x ∷ a) b h = all_behind P a b h.1
+
+pub one_shown : (T : Tables) (ls : List (Level ℕ)) (events rest : List Event) (e : Event) (initial : Option PiecesKept) (old new : Content) (t : ShownSoFar T ls events (e ∷ rest) initial old)
+    → EventFault (message_of T) (levels_over (message_of T) ls (items_of t.taken.before)) (item_of e.what) None → IsOpen new (message_of T) (levels_after (message_of T) (levels_over (message_of T) ls (items_of t.taken.before)) (item_of e.what))
+    → (HasSortedAttributes (item_of e.what) → GoOn old.pieces new.pieces (EventShows T (levels_over (message_of T) ls (items_of t.taken.before)) (item_of e.what))) → ShownSoFar T ls events rest initial new
+unfolding one_taken
+one_shown T ls events rest e initial old new t h k go = record {
+  taken = one_taken (message_of T) ls events rest e old new t.taken h k;
+  shown = λ sorted. subst (λ (x : List Item). GoOn initial new.pieces (EventsShow T ls x)) (sym (items_joined t.taken.before (e ∷ [])))
+      (go_on T ls (items_of t.taken.before) (item_of e.what ∷ []) initial old.pieces new.pieces (t.shown sorted)
+      (go_one T (levels_over (message_of T) ls (items_of t.taken.before)) (item_of e.what) old.pieces new.pieces (go (here sorted))));
+}
+  where
+    here : AllByRecursion HasSortedAttributes (items_of events) → HasSortedAttributes (item_of e.what)
+    here sorted = (all_behind HasSortedAttributes (items_of t.taken.before) (items_of (e ∷ rest)) (subst (λ (x : List Item). AllByRecursion HasSortedAttributes x) (ap items_of t.taken.events_are ∙ items_joined t.taken.before (e ∷ rest)) sorted)).0
+
+pub all_shown : (T : Tables) (ls : List (Level ℕ)) (events : List Event) (initial : Option PiecesKept) (content : Content) → ShownSoFar T ls events [] initial content → AllByRecursion HasSortedAttributes (items_of events) → GoOn initial content.pieces (EventsShow T ls (items_of events))
+all_shown T ls events initial content t sorted = subst (λ (x : List Event). GoOn initial content.pieces (EventsShow T ls (items_of x))) (sym (t.taken.events_are ∙ append-nil t.taken.before)) (t.shown sorted)
 
 pub broken_at : (m : Message ℕ) (ls : List (Level ℕ)) (events rest : List Event) (e : Event) (content : Content) (b : Broken) (t : TakenSoFar m ls events (e ∷ rest) content)
     → EventFault m (levels_over m ls (items_of t.before)) (item_of e.what) (Some b) → BreaksAt m ls events b e.place
@@ -86,20 +129,37 @@ place_more bytes more place given n e f g room = omega (arith, e, f, g, room, le
 -- one more byte, whose events break no rule
 pub fed_on : (T : Tables) (old new : XmlChecker) (bytes : List ℕ) (byte : ℕ) (events : List Event) (h : HasFed old T bytes) → GoesOn new.reader (bytes ++ byte ∷ []) h.told old.events events
     → taken new.reader ≡ taken old.reader + 1 → AreFine (message_of T) (levels_over (message_of T) [] (items_told h.told)) (items_of events)
-    → IsOpen new.content (message_of T) (levels_over (message_of T) (levels_over (message_of T) [] (items_told h.told)) (items_of events)) → new.events ≡ [] → new.failed ≡ None → new.place ≡ min (old.place + 1) (2 ^ 64 - 1) → fed old < 2 ^ 40 → HasFed new T (bytes ++ byte ∷ [])
-fed_on T old new bytes byte events h g n fine opens e sound place room = record {
+    → IsOpen new.content (message_of T) (levels_over (message_of T) (levels_over (message_of T) [] (items_told h.told)) (items_of events)) → GoOn old.content.pieces new.content.pieces (EventsShow T (levels_over (message_of T) [] (items_told h.told)) (items_of events)) → new.events ≡ [] → new.failed ≡ None → new.place ≡ min (old.place + 1) (2 ^ 64 - 1) → fed old < 2 ^ 40 → HasFed new T (bytes ++ byte ∷ [])
+fed_on T old new bytes byte events h g n fine opens go e sound place room = record {
   told = h.told ++ g.more;
   given = g.taken_are;
   counted = length_one bytes byte (taken new.reader) (taken old.reader) h.counted n;
   placed = place ∙ place_more bytes (byte ∷ []) old.place (taken old.reader) 1 h.placed h.counted refl (omega (arith, room));
   fine = subst (λ (x : List Item). AreFine (message_of T) [] x) (sym items_are) (fine_joined (message_of T) [] (items_told h.told) (items_of events) h.fine fine);
   open_are = subst (λ (x : List (Level ℕ)). IsOpen new.content (message_of T) x) (sym (ap (levels_over (message_of T) []) items_are ∙ over_joined (message_of T) [] (items_told h.told) (items_of events))) opens;
+  built = subst (λ (x : List Item). IsBuilt new.content.pieces T x) (sym items_are) (built_on T (items_told h.told) (items_of events) old.content.pieces new.content.pieces h.built go);
   none = e;
   sound = sound;
 }
   where
     items_are : items_told (h.told ++ g.more) ≡ items_told h.told ++ items_of events
     items_are = told_joined h.told g.more ∙ ap (λ v. items_told h.told ++ v) (items_new old.events events g.more h.none g.tells)
+
+-- the attributes of events that are told are sorted
+pub sorted_told : (reader : Reader) (bytes : List ℕ) (told : List Placed) (old events : List Event) → EventsStay → EventsArePlain → (g : GoesOn reader bytes told old events) → old ≡ [] → AllByRecursion HasSortedAttributes (items_of events)
+sorted_told reader bytes told old events stay plain g e = of_stay (stay reader bytes (told ++ g.more) g.taken_are [])
+  where
+    sorted : (items : List Item) → AllByRecursion IsPlainItem items → AllByRecursion HasSortedAttributes items
+    sorted [] h = tt
+    sorted (Starts n a ∷ items) h = (h.0.1.1, sorted items h.1)
+    sorted (Char c ∷ items) h = (tt, sorted items h.1)
+    sorted (Ends n ∷ items) h = (tt, sorted items h.1)
+    sorted (Skipped ∷ items) h = (tt, sorted items h.1)
+
+    of_stay : ((tokens : List Token) × (rest : List ℕ) × Front tag_limit [] (bytes ++ []) tokens rest × IsClean [] tokens × (told ++ g.more ≡ placed_events [] 0 tokens)) → AllByRecursion HasSortedAttributes (items_of events)
+    of_stay (tokens, rest, front, clean, is) =
+        sorted (items_of events) (all_behind IsPlainItem (items_told told) (items_of events)
+        (subst (λ (x : List Item). AllByRecursion IsPlainItem x) (sym (ap items_told is) ∙ (told_joined told g.more ∙ ap (λ v. items_told told ++ v) (items_new old events g.more e g.tells))) (plain tag_limit (bytes ++ []) tokens rest front clean)))
 
 -- of a piece the bytes before the rest are fed
 pub record FedSoFar (T : Tables) (checker : XmlChecker) (bytes piece rest : List ℕ) : Type 0 where
@@ -121,9 +181,13 @@ pub all_fed : (T : Tables) (checker : XmlChecker) (bytes piece : List ℕ) → F
 all_fed T checker bytes piece s = subst (λ v. HasFed checker T (bytes ++ v)) (sym (s.piece_is ∙ append-nil s.seen)) s.fed_are
 
 -- the end
+pub spelled_by_events : (T : Tables) (checker : XmlChecker) (bytes : List ℕ) → FineIsSpelled → AreSound (types_of T) → (h : HasFed checker T bytes) → IsWholly bytes h.told → IsSpelledBy T bytes (items_told h.told)
+spelled_by_events T checker bytes law sound h (tokens, marks, clean, over, told) =
+    let r = law (message_of T) bytes tokens sound marks clean over (subst (λ (x : List Placed). AreFine (message_of T) [] (items_told x)) told h.fine) in
+    (r.0, r.1, ap items r.2 ∙ ap items_told (sym told))
+
 pub spelled_at_end : (T : Tables) (checker : XmlChecker) (bytes : List ℕ) → FineIsSpelled → AreSound (types_of T) → (h : HasFed checker T bytes) → IsWholly bytes h.told → IsSpelled T bytes
-spelled_at_end T checker bytes law sound h (tokens, marks, clean, over, told) =
-    law (message_of T) bytes tokens sound marks clean over (subst (λ (x : List Placed). AreFine (message_of T) [] (items_told x)) told h.fine)
+spelled_at_end T checker bytes law sound h whole = (let r = spelled_by_events T checker bytes law sound h whole in (r.0, r.1))
 
 -- a byte that shows a fault, in a piece
 pub fault_seen : (T : Tables) (checker : XmlChecker) (bytes piece rest : List ℕ) (byte : ℕ) (e : InstanceError) (s : FedSoFar T checker bytes piece (byte ∷ rest)) → Stops T ((bytes ++ s.seen) ++ byte ∷ []) e → Stops T (bytes ++ piece) e

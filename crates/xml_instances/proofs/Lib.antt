@@ -26,3 +26,9 @@ pub mod OpenLaw
 pub mod CleanFronts
 pub mod OpenRows
 pub mod SomeFault
+pub mod SameTrees
+pub mod OneXmlValue
+pub mod ShownTrees
+pub mod KeptPieces
+pub mod GoingOn
+pub mod ReadPieces

@@ -4,7 +4,7 @@ use Rattle.std.specs.Prelude.{if◌then◌else◌, not, ◌&&◌, codes}
 use Rattle.std.specs.List.{list_any}
 use Rattle.std.specs.Str.{bytes_eq, chars}
 use Rattle.lexical_core.specs.declared.rule.Rule.{Rule}
-use Rattle.lexical_core.specs.declared.rule.Rule.TheVariants.{Truncated, WrongRoot, UnknownElement, TooMany, TextInComplex, UnknownAttribute}
+use Rattle.lexical_core.specs.declared.rule.Rule.TheVariants.{Truncated, WrongRoot, UnknownElement, TextInComplex, UnknownAttribute}
 use Rattle.lexical_core.specs.Tree.{Expanded, Entry, Item, Starts, Char, Ends, Skipped}
 use Rattle.markup.specs.Chars.{is_space}
 use Rattle.markup.proofs.NoCut.{is_cut_rule}

@@ -1,5 +1,5 @@
 -- The elements of a message that are open have names of its namespace.
-use Rattle.std.proofs.Common.{◌≡◌, ℕ, Bool, true, false, ◌&&◌, List, [], ◌∷◌, ◌++◌, Option, Some, None, refl, sym, ap, subst, ◌∙◌}
+use Rattle.std.proofs.Common.{◌≡◌, ℕ, Bool, true, false, List, [], ◌∷◌, Option, Some, None, refl}
 use Rattle.std.specs.Prelude.{if◌then◌else◌, codes}
 use Rattle.std.specs.Str.{bytes_eq}
 use Rattle.std.proofs.lemmas.Slice.Eq.{bytes_eq-Decides}
@@ -10,7 +10,7 @@ use Rattle.reference_check.specs.Steps.{next}
 use Rattle.message_model.specs.Message.{Message}
 use Rattle.message_model.specs.Writes.{named, same_name}
 use Rattle.xml_instances.specs.Levels.{Level, Parent, Leaf, Envelope, Foreign, levels_after, levels_over, with_char, form_of_start, level_of_start, round_start, path_in}
-use Rattle.xml_instances.specs.EventFaults.{Broken, EventFault, AttributeFault, AreFine, Unless, next_fault, broken}
+use Rattle.xml_instances.specs.EventFaults.{Broken, EventFault, AttributeFault, AreFine, Unless, next_fault}
 use Rattle.xml_instances.specs.XmlFaults.{items_told}
 use Rattle.xml_instances.specs.Quick.{IsOurs}
 use Rattle.lexical_core.specs.declared.rule.Rule.TheVariants.{WrongRoot, UnknownElement}

@@ -33,6 +33,9 @@ use Rattle.xml_instances.specs.declared.opened.Refusal.TheVariants.{Breaks, Memo
 use Rattle.xml_instances.specs.declared.checker.XmlChecker.{XmlChecker}
 use Rattle.xml_instances.proofs.Checks.{told_joined, place_more, FedSoFar}
 use Rattle.xml_instances.proofs.OurNames.{ours_behind}
+use Rattle.xml_instances.specs.Built.{EventsShow}
+use Rattle.xml_instances.specs.Keeping.{GoOn, IsBuilt, MayShow, MayShowText}
+use Rattle.xml_instances.proofs.GoingOn.{go_still, built_on, built_still, run_goes_on}
 use Rattle.xml_instances.proofs.NoCut.{event_no_cut}
 use Rattle.xml_instances.proofs.FaultAt.{event_fault, fine_joined, over_joined}
 
@@ -47,14 +50,16 @@ tag_told place (i ∷ is) = ap (λ v. i ∷ v) (tag_told place is)
 -- more bytes, whose events break no rule
 pub more_fed : (T : Tables) (old new : XmlChecker) (bytes more : List ℕ) (placed : List Placed) (items : List Item) (h : HasFed old T bytes) → items_told placed ≡ items → HasTold new.reader (bytes ++ more) (h.told ++ placed)
     → taken new.reader ≡ taken old.reader + length more → new.place ≡ length (bytes ++ more) → AreFine (message_of T) (levels_over (message_of T) [] (items_told h.told)) items
-    → IsOpen new.content (message_of T) (levels_over (message_of T) (levels_over (message_of T) [] (items_told h.told)) items) → new.events ≡ [] → new.failed ≡ None → HasFed new T (bytes ++ more)
-more_fed T old new bytes more placed items h same g n place fine opens e sound = record {
+    → IsOpen new.content (message_of T) (levels_over (message_of T) (levels_over (message_of T) [] (items_told h.told)) items)
+    → GoOn old.content.pieces new.content.pieces (EventsShow T (levels_over (message_of T) [] (items_told h.told)) items) → new.events ≡ [] → new.failed ≡ None → HasFed new T (bytes ++ more)
+more_fed T old new bytes more placed items h same g n place fine opens go e sound = record {
   told = h.told ++ placed;
   given = g.taken_are;
   counted = n ∙ (ap (λ v. v + length more) h.counted ∙ sym (length-append bytes more));
   placed = place;
   fine = subst (λ (x : List Item). AreFine (message_of T) [] x) (sym items_are) (fine_joined (message_of T) [] (items_told h.told) items h.fine fine);
   open_are = subst (λ (x : List (Level ℕ)). IsOpen new.content (message_of T) x) (sym (ap (levels_over (message_of T) []) items_are ∙ over_joined (message_of T) [] (items_told h.told) items)) opens;
+  built = subst (λ (x : List Item). IsBuilt new.content.pieces T x) (sym items_are) (built_on T (items_told h.told) items old.content.pieces new.content.pieces h.built go);
   none = e;
   sound = sound;
 }
@@ -126,12 +131,14 @@ RunTold old new run count = (bytes : List ℕ) (told : List Placed) → HasTaken
 
 run_fed : (T : Tables) (old new : XmlChecker) (run : List ℕ) (count n : ℕ) → RunTold old.reader new.reader run count → taken new.reader ≡ taken old.reader + n → n ≡ length run
     → ((bytes : List ℕ) → HasFed old T bytes → new.place ≡ length (bytes ++ run)) → new.events ≡ old.events → new.failed ≡ old.failed
-    → ((r : IsRun run count) (ls : List (Level ℕ)) → IsOpen old.content (message_of T) ls → IsRunTaken (message_of T) ls r.characters new.content) → (bytes : List ℕ) → HasFed old T bytes → HasFed new T (bytes ++ run)
-run_fed T old new run count n tells moved e place events failed taken_are bytes h =
+    → ((r : IsRun run count) (ls : List (Level ℕ)) → IsOpen old.content (message_of T) ls → IsRunTaken (message_of T) ls r.characters new.content)
+    → new.content.pieces ≡ old.content.pieces → MayShowText old.content.pieces old.content.innermost → (bytes : List ℕ) → HasFed old T bytes → HasFed new T (bytes ++ run)
+run_fed T old new run count n tells moved e place events failed taken_are pieces may bytes h =
     let k = tells bytes h.told h.given in
     let t = taken_are k.0 (levels_over (message_of T) [] (items_told h.told)) h.open_are in
     more_fed T old new bytes run (characters_from (length bytes) k.0.characters) (map (λ c. Char c) k.0.characters) h (chars_told (length bytes) k.0.characters) k.1
-    (moved ∙ ap (λ v. taken old.reader + v) e) (place bytes h) t.0 t.1 (events ∙ h.none) (failed ∙ h.sound)
+    (moved ∙ ap (λ v. taken old.reader + v) e) (place bytes h) t.0 t.1
+    (run_goes_on T (levels_over (message_of T) [] (items_told h.told)) k.0.characters old.content.innermost old.content.text old.content.round.items old.content.pieces new.content.pieces pieces h.open_are may) (events ∙ h.none) (failed ∙ h.sound)
 
 -- nothing is taken
 nothing_fed : (T : Tables) (old new : XmlChecker) (count : ℕ) → RunTold old.reader new.reader [] count → taken new.reader ≡ taken old.reader → new.place ≡ old.place → new.events ≡ old.events → new.failed ≡ old.failed → new.content ≡ old.content
@@ -140,13 +147,15 @@ nothing_fed T old new count tells moved place events failed content bytes h =
     let k = tells bytes h.told h.given in
     let none : k.0.characters ≡ [] = no_characters [] count k.0 refl in
     more_fed T old new bytes [] (characters_from (length bytes) k.0.characters) [] h (ap (λ v. items_told (characters_from (length bytes) v)) none) k.1
-    (moved ∙ omega arith) (place ∙ (h.placed ∙ ap length (sym (append-nil bytes)))) tt (subst (λ (v : Content). IsOpen v (message_of T) (levels_over (message_of T) [] (items_told h.told))) (sym content) h.open_are) (events ∙ h.none) (failed ∙ h.sound)
+    (moved ∙ omega arith) (place ∙ (h.placed ∙ ap length (sym (append-nil bytes)))) tt (subst (λ (v : Content). IsOpen v (message_of T) (levels_over (message_of T) [] (items_told h.told))) (sym content) h.open_are)
+    (go_still old.content.pieces new.content.pieces (ap (λ v. v.pieces) content)) (events ∙ h.none) (failed ∙ h.sound)
 
 pub front_run : (T : Tables) (old new : XmlChecker) (piece : List ℕ) (count n : ℕ) → n ≤ length piece → fed old + length piece ≤ 2 ^ 40 → RunTold old.reader new.reader (take n piece) count → taken new.reader ≡ taken old.reader + n
     → new.place ≡ min (old.place + n) (2 ^ 64 - 1) → new.events ≡ old.events → new.failed ≡ old.failed
-    → ((r : IsRun (take n piece) count) (ls : List (Level ℕ)) → IsOpen old.content (message_of T) ls → IsRunTaken (message_of T) ls r.characters new.content) → TakesFront T old new piece (Ok n)
-front_run T old new piece count n within room tells moved place events failed taken_are = record {
-  ok = run_fed T old new (take n piece) count n tells moved (sym long) (λ bytes h. place ∙ place_more bytes (take n piece) old.place (taken old.reader) n h.placed h.counted (sym long) (omega (arith, within, room))) events failed taken_are;
+    → ((r : IsRun (take n piece) count) (ls : List (Level ℕ)) → IsOpen old.content (message_of T) ls → IsRunTaken (message_of T) ls r.characters new.content)
+    → new.content.pieces ≡ old.content.pieces → MayShowText old.content.pieces old.content.innermost → TakesFront T old new piece (Ok n)
+front_run T old new piece count n within room tells moved place events failed taken_are pieces may = record {
+  ok = run_fed T old new (take n piece) count n tells moved (sym long) (λ bytes h. place ∙ place_more bytes (take n piece) old.place (taken old.reader) n h.placed h.counted (sym long) (omega (arith, within, room))) events failed taken_are pieces may;
   err = λ bytes h. tt;
   within = within;
   count = moved;
@@ -173,6 +182,7 @@ front_still T old new piece reader place events failed content = record {
     placed = place ∙ (h.placed ∙ ap length (sym (append-nil bytes)));
     fine = h.fine;
     open_are = subst (λ (v : Content). IsOpen v (message_of T) (levels_over (message_of T) [] (items_told h.told))) (sym content) h.open_are;
+    built = built_still T (items_told h.told) old.content.pieces new.content.pieces (ap (λ v. v.pieces) content) h.built;
     none = events ∙ h.none;
     sound = failed ∙ h.sound;
   };
@@ -204,9 +214,14 @@ tag_moved old new o tag e h = subst (λ (v : Option PlainTag). IfSome v (λ t. t
 abbrev pub TagTaken : {U : Type 0} → Message ℕ → Content → Content → TagKind → List ℕ → Result U Refusal → Type 0
 TagTaken m old new kind name r = (ls : List (Level ℕ)) (n : Expanded) → n.local ≡ name → IsOurs m ls n → IsOpen old m ls → AreItemsTaken m ls (tag_items kind n) new r
 
+-- what it shows
+abbrev pub TagShown : Tables → Content → Content → TagKind → List ℕ → Type 0
+TagShown T old new kind name = (ls : List (Level ℕ)) (n : Expanded) → n.local ≡ name → IsOurs (message_of T) ls n → IsOpen old (message_of T) ls → MayShow old.pieces old.innermost → GoOn old.pieces new.pieces (EventsShow T ls (tag_items kind n))
+
 pub front_tag : (T : Tables) (old new : XmlChecker) (piece name : List ℕ) (kind : TagKind) (n : ℕ) → n ≤ length piece → fed old + length piece ≤ 2 ^ 40 → TagTold old.reader new.reader (take n piece) kind name → taken new.reader ≡ taken old.reader + n
-    → new.place ≡ min (old.place + n) (2 ^ 64 - 1) → new.events ≡ old.events → new.failed ≡ old.failed → TagTaken {U = Unit {0}} (message_of T) old.content new.content kind name (Ok tt) → TakesFront T old new piece (Ok n)
-front_tag T old new piece name kind n within room tells moved place events failed taken_are = record { ok = ok; err = λ bytes h. tt; within = within; count = moved }
+    → new.place ≡ min (old.place + n) (2 ^ 64 - 1) → new.events ≡ old.events → new.failed ≡ old.failed → TagTaken {U = Unit {0}} (message_of T) old.content new.content kind name (Ok tt)
+    → TagShown T old.content new.content kind name → MayShow old.content.pieces old.content.innermost → TakesFront T old new piece (Ok n)
+front_tag T old new piece name kind n within room tells moved place events failed taken_are shown_are may = record { ok = ok; err = λ bytes h. tt; within = within; count = moved }
   where
     long : length (take n piece) ≡ n
     long = length-take-le n piece within
@@ -216,7 +231,8 @@ front_tag T old new piece name kind n within room tells moved place events faile
         let items = tag_items kind (name_behind h.told name) in
         let t = taken_are (levels_over (message_of T) [] (items_told h.told)) (name_behind h.told name) refl (ours_behind (message_of T) h.told name h.fine) h.open_are in
         more_fed T old new bytes (take n piece) (placed_at (length bytes) items) items h (tag_told (length bytes) items) (tells bytes h.told h.given) (moved ∙ ap (λ v. taken old.reader + v) (sym long))
-        (place ∙ place_more bytes (take n piece) old.place (taken old.reader) n h.placed h.counted (sym long) (omega (arith, within, room))) t.0 t.1 (events ∙ h.none) (failed ∙ h.sound)
+        (place ∙ place_more bytes (take n piece) old.place (taken old.reader) n h.placed h.counted (sym long) (omega (arith, within, room))) t.0 t.1
+        (shown_are (levels_over (message_of T) [] (items_told h.told)) (name_behind h.told name) refl (ours_behind (message_of T) h.told name h.fine) h.open_are may) (events ∙ h.none) (failed ∙ h.sound)
 
 pub front_tag_stops : (T : Tables) (old new : XmlChecker) (piece name : List ℕ) (kind : TagKind) (n : ℕ) (r : Refusal) (e : InstanceError) → EventsStay → TagTold old.reader new.reader (take n piece) kind name
     → TagTaken {U = Unit {0}} (message_of T) old.content new.content kind name (Err r) → IsTold r old.place e → TakesFront T old new piece (Err e)

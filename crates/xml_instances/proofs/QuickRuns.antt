@@ -1,8 +1,8 @@
 -- Runs of characters, and the events of a tag, held to the content.
-use Rattle.std.proofs.Common.{◌≡◌, ℕ, ◌+◌, ◌<◌, ◌≤◌, Bool, true, false, ◌&&◌, List, [], ◌∷◌, ◌++◌, Option, Some, None, length, take, refl, sym, ap, subst, ◌∙◌, reverse, append-nil, append_assoc, inl, inr, arith}
-use Rattle.std.specs.Prelude.{Result, Ok, Err, OnOk, OnErr, map, not, suc, zero, cond}
+use Rattle.std.proofs.Common.{◌≡◌, ℕ, ◌+◌, ◌≤◌, Bool, true, false, ◌&&◌, List, [], ◌∷◌, ◌++◌, Option, Some, None, take, refl, sym, ap, subst, ◌∙◌, reverse, append-nil, append_assoc, inl, inr, arith}
+use Rattle.std.specs.Prelude.{Result, Ok, Err, OnOk, OnErr, map, suc, zero, cond}
 use Rattle.std.specs.List.{list_all, prefix_len}
-use Rattle.lexical_core.specs.Tree.{Expanded, Item, Starts, Char, Ends}
+use Rattle.lexical_core.specs.Tree.{Item, Char}
 use Rattle.lexical_core.specs.XmlRuns.{IsXmlRun}
 use Rattle.markup.specs.Chars.{is_space}
 use Rattle.markup.specs.Literals.{IsRun}
@@ -12,7 +12,7 @@ use Rattle.facets.specs.declared.simple.Simple.{Simple}
 use Rattle.facets.specs.declared.leaf_check.LeafCheck.{LeafCheck}
 use Rattle.facets.specs.LeafChecks.{HasTaken, IsMadeFor}
 use Rattle.xml_instances.specs.Levels.{Level, Parent, Leaf, Envelope, Foreign, levels_after, levels_over, with_char, path_in}
-use Rattle.xml_instances.specs.EventFaults.{Broken, EventFault, AreFine, FirstFault, char_fault, space_fault, is_bare}
+use Rattle.xml_instances.specs.EventFaults.{AreFine, char_fault, is_bare}
 use Rattle.xml_instances.specs.Open.{IsOpen, HoldsText, StandsFor, StandFor, Stands, IsItemTaken}
 use Rattle.xml_instances.specs.Quick.{MayTake, IsRunTaken, AreItemsTaken}
 use Rattle.xml_instances.specs.declared.content.Content.{Content}

@@ -102,7 +102,7 @@ module _ {P : Type 0} (m : Message P) (steady : IsSteady m.forms) where
   attributes_fine form.LeftOut v attributes path a h = unless_none _ _ (if_false _ _ _ (hints_known {P = P} form.LeftOut attributes h)) refl
   attributes_fine form.Missing v attributes path a h = unless_none _ _ (if_false _ _ _ (hints_known {P = P} form.Missing attributes h)) refl
 
-  next_slotted : (p : P) (f : Form P Simple) (d e : List ℕ) (k : ℕ) (s : Slot P) → m.forms p ≡ f → slice_get (form_slots f) k ≡ Some s → IsWord f (d ++ k ∷ e) → next f d s.tag ≡ Slotted k
+  pub next_slotted : (p : P) (f : Form P Simple) (d e : List ℕ) (k : ℕ) (s : Slot P) → m.forms p ≡ f → slice_get (form_slots f) k ≡ Some s → IsWord f (d ++ k ∷ e) → next f d s.tag ≡ Slotted k
   next_slotted p f d e k s at = subst (λ (f : Form P Simple). slice_get (form_slots f) k ≡ Some s → IsWord f (d ++ k ∷ e) → next f d s.tag ≡ Slotted k) at of_place
     where
       of_place : slice_get (form_slots (m.forms p)) k ≡ Some s → IsWord (m.forms p) (d ++ k ∷ e) → next (m.forms p) d s.tag ≡ Slotted k

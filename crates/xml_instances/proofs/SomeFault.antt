@@ -143,7 +143,7 @@ pub spelled_or_faulty : HasLeafAnswers → WholeOrFaulty → FineIsSpelled → S
 spelled_or_faulty answers whole_or_faulty fine_is_spelled m bytes sound codes lacks = by (whole_or_faulty bytes)
   where
     of_whole : (w : IsWhole bytes) → (AreFine m [] (items_told (events [] 0 w.tokens)) ⊎ FirstBroken m codes answers [] (events [] 0 w.tokens)) → ⊥
-    of_whole w (inl fine) = lacks (inl (fine_is_spelled m bytes w.tokens sound w.marks w.clean w.over fine))
+    of_whole w (inl fine) = (let r = fine_is_spelled m bytes w.tokens sound w.marks w.clean w.over fine in lacks (inl (r.0, r.1)))
     of_whole w (inr f) =
         lacks (inr (record { broken = f.fault; place = f.event.place }, event_fault m bytes w.tokens [] f.before f.behind f.event f.fault w.marks w.clean f.split f.fine f.broken_is))
 

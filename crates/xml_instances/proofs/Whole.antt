@@ -12,6 +12,7 @@ use Rattle.markup.specs.Events.{Placed, events, items_of}
 use Rattle.reference_check.specs.Forms.{Form}
 use Rattle.reference_check.specs.Forms as form
 use Rattle.message_model.specs.Sound.{SoundFormsAgree, HasNumber}
+use Rattle.respell.specs.Laws.{WholeIsPlain}
 use Rattle.xml_instances.specs.EventFaults.{AreFine}
 use Rattle.xml_instances.specs.XmlFaults.{items, items_told}
 use Rattle.xml_instances.specs.SpellsXml.{SpellsXml, IsInstance}
@@ -45,15 +46,15 @@ items_are ts = items_behind [] 0 ts
 number_in : (f : Form ℕ Simple) (c : ℕ) (s : Simple) → HasNumber f → f ≡ form.Money c s → s.kind ≡ kind.Decimal
 number_in f c s h e = subst (λ (x : Form ℕ Simple). HasNumber x) e h
 
-pub fine_is_spelled : ((s : Simple) (w : List ℕ) (l : Leaf) → GivesLeaf s w l → Fits s l) → SoundFormsAgree → FineIsSpelled
-fine_is_spelled fits agree m bytes tokens sound marks clean over fine = of_tree (whole_tree tokens clean (rw (behind tokens) at over))
+pub fine_is_spelled : ((s : Simple) (w : List ℕ) (l : Leaf) → GivesLeaf s w l → Fits s l) → SoundFormsAgree → WholeIsPlain → FineIsSpelled
+fine_is_spelled fits agree is_plain m bytes tokens sound marks clean over fine = of_tree (whole_tree tokens clean (rw (behind tokens) at over))
   where
-    of_root : (t : Tree) → TreeIs (items_from [] tokens) t → ((v : Value) × IsInstance m v t) → (v : Value) × SpellsXml m bytes v
-    of_root t e (v, i) = (v, record { tokens = tokens; marks = marks; clean = clean; over = over; tree = t; tree_is = rw (items_are tokens) e; instance = i })
+    of_root : (t : Tree) → TreeIs (items_from [] tokens) t → ((v : Value) × IsInstance m v t) → (v : Value) × (s : SpellsXml m bytes v) × (s.tokens ≡ tokens)
+    of_root t e (v, i) = (v, record { tokens = tokens; marks = marks; clean = clean; over = over; tree = t; tree_is = rw (items_are tokens) e; instance = i }, refl)
 
-    of_tree : ((t : Tree) × TreeIs (items_from [] tokens) t) → (v : Value) × SpellsXml m bytes v
+    of_tree : ((t : Tree) × TreeIs (items_from [] tokens) t) → (v : Value) × (s : SpellsXml m bytes v) × (s.tokens ≡ tokens)
     of_tree (t, e) =
-        of_root t e (root_in m (λ p d came ends. (agree (m.forms p) (sound p)).whole d came ends) fits (λ p c s e. number_in (m.forms p) c s (sound p).number e) t
+        of_root t e (root_in m (λ p d came ends. (agree (m.forms p) (sound p)).whole d came ends) fits (λ p c s e. number_in (m.forms p) c s (sound p).number e) t (is_plain bytes tokens t marks clean over (rw (items_are tokens) e))
         (subst (λ (x : List Item). AreFine m [] x) e (fine_counted m 0 [] (items_from [] tokens) refl (rw (items_are tokens) at fine))))
 
 pub spelled_is_fine : SoundFormsAgree → SpelledIsFine

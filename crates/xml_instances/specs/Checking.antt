@@ -1,23 +1,25 @@
 -- What a checker of an instance was given, and what it answers.
 use Rattle.std.specs.Prelude.{◌≡◌, ◌≢◌, ◌⊎◌, ℕ, List, [], ◌∷◌, ◌++◌, ◌+◌, ◌≤◌, map, length, take, IfOk, IfErr, Option, Some, None, Result, Ok, Err}
 use Rattle.lexical_core.specs.declared.rule.Rule.TheVariants.{Truncated}
-use Rattle.data_types.specs.Value.{Value}
+use Rattle.data_types.specs.Value.{Value, Piece}
+use Rattle.fragments.specs.Fragment.{fragment}
 use Rattle.markup.specs.Events.{Placed}
 use Rattle.markup.specs.EventItems.{item_of}
 use Rattle.markup.specs.Reading.{HasTaken, taken}
 use Rattle.lexical_core.specs.Tree.{Item}
 use Rattle.markup.specs.declared.event.Event.{Event}
 use Rattle.message_model.specs.Message.{Message}
-use Rattle.message_model.specs.Tables.{Tables, message_of, types_of}
+use Rattle.message_model.specs.Tables.{Tables, message_of, types_of, pieces_of}
 use Rattle.message_model.specs.declared.fault.Fault.{Fault as Told}
 use Rattle.message_model.specs.declared.fault.InstanceError.{InstanceError}
 use Rattle.message_model.specs.declared.fault.InstanceError.TheVariants.{Refused, Memory}
 use Rattle.markup.specs.declared.reader.MarkFault.{MarkFault as MarkTold}
 use Rattle.xml_instances.specs.Levels.{Level, levels_over, path_of}
 use Rattle.xml_instances.specs.EventFaults.{Broken, AreFine, EventFault}
-use Rattle.xml_instances.specs.XmlFaults.{Fault, XmlFault, items_told}
+use Rattle.xml_instances.specs.XmlFaults.{Fault, XmlFault, items, items_told}
 use Rattle.xml_instances.specs.SpellsXml.{SpellsXml}
 use Rattle.xml_instances.specs.Open.{IsOpen, AreMade}
+use Rattle.xml_instances.specs.Keeping.{IsBuilt}
 use Rattle.xml_instances.specs.declared.content.Content.{Content}
 use Rattle.xml_instances.specs.declared.opened.Refusal.{Refusal}
 use Rattle.xml_instances.specs.declared.opened.Refusal.TheVariants.{Breaks, Memory as NoMemory}
@@ -38,6 +40,7 @@ pub record HasFed (checker : XmlChecker) (T : Tables) (bytes : List ℕ) : Type 
   pub placed : checker.place ≡ length bytes
   pub fine : AreFine (message_of T) [] (items_told told)
   pub open_are : IsOpen checker.content (message_of T) (levels_over (message_of T) [] (items_told told))
+  pub built : IsBuilt checker.content.pieces T (items_told told)
   pub none : checker.events ≡ []
   pub sound : checker.failed ≡ None
 
@@ -108,6 +111,14 @@ pub record TakesFront (T : Tables) (old new : XmlChecker) (piece : List ℕ) (re
 -- the bytes spell an instance
 abbrev pub IsSpelled : Tables → List ℕ → Type 0
 IsSpelled T bytes = (v : Value) × SpellsXml (message_of T) bytes v
+
+-- the same, where these are their events
+abbrev pub IsSpelledBy : Tables → List ℕ → List Item → Type 0
+IsSpelledBy T bytes told = (v : Value) × (s : SpellsXml (message_of T) bytes v) × (items s.tokens ≡ told)
+
+-- the bytes spell an instance with these pieces
+abbrev pub IsSpelledAs : Tables → List ℕ → List Piece → Type 0
+IsSpelledAs T bytes pieces = (v : Value) × SpellsXml (message_of T) bytes v × (pieces ≡ pieces_of fragment T v)
 
 -- why the bytes are refused at their end
 abbrev pub EndsAs : Tables → List ℕ → InstanceError → Type 0

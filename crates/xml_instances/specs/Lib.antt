@@ -2,12 +2,13 @@ pub mod Levels
 pub mod EventFaults
 pub mod XmlFaults
 pub mod SpellsXml
-pub mod CanonXml
 pub mod Open
 pub mod Quick
 pub mod Known
 pub mod Checking
+pub mod ReadInstances
 pub mod Built
+pub mod Keeping
 pub mod Laws
 pub mod OpenInstances
 pub mod OpenLaws

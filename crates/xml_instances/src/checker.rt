@@ -1,14 +1,19 @@
 // A checker of XML instances that takes their bytes in pieces.
-ghost use Rattle.std.specs.Prelude.{◌≡◌, ◌<◌, ◌+◌, ◌≤◌, ◌^◌, ◌∷◌, ◌++◌, ℕ, List, [], IfOk, IfErr, Option, Some, None, Err, length};
+ghost use Rattle.std.specs.Prelude.{◌≡◌, ◌<◌, ◌+◌, ◌≤◌, ◌^◌, ◌∷◌, ◌++◌, ℕ, List, [], IfOk, OnOk, IfErr, Option, Some, None, Err, length};
 ghost use Rattle.markup.specs.Reading.{taken};
 ghost use Rattle.message_model.specs.Tables.{Tables, message_of, types_of};
+ghost use Rattle.std.specs.List.{AllByRecursion};
+ghost use Rattle.respell.specs.Respelling.{HasSortedAttributes};
 ghost use Rattle.xml_instances.specs.Levels.{Level, levels_over};
 ghost use Rattle.xml_instances.specs.XmlFaults.{items_told};
 ghost use Rattle.xml_instances.specs.Open.{IsOpen, AreMade};
-ghost use Rattle.xml_instances.specs.Checking.{HasFed, AreTaken, IsTold, IsMarkTold, Stops, IsSpelled, EndsAs, IsMadeFor, IsSameOrMemory, IsAgain, TakesFront, fed, failed};
+ghost use Rattle.xml_instances.specs.Built.{EventsShow};
+ghost use Rattle.xml_instances.specs.Keeping.{GoOn};
+ghost use Rattle.xml_instances.specs.Checking.{items_of, HasFed, AreTaken, IsTold, IsMarkTold, Stops, IsSpelled, IsSpelledBy, EndsAs, IsSpelledAs, IsMadeFor, IsSameOrMemory, IsAgain, TakesFront, fed, failed};
 
 use crate::content::Content;
 use crate::opened::Refusal;
+use inst_pool::Instance;
 use markup::{Event, Events, MarkError, MarkFault, Reader};
 use message_model::{Fault, InstanceError, Model};
 use std::alloc::{AllocError, Global};
@@ -52,15 +57,15 @@ fn told(refusal: Refusal, place: u64) -> InstanceError
 }
 
 /// Holds events that were told together to the message.
-#[tactic(auto, using(crate::proofs::Checks::none_taken, crate::proofs::Checks::one_taken, crate::proofs::Checks::all_taken))]
 fn take_all(content: &mut Content, model: &Model, events: &[Event]) -> Result<(), InstanceError>
     requires { AreMade (types_of model.now) content.old }
     ensures made { AreMade (types_of model.now) content.new }
     ensures taken { (ls : List (Level ℕ)) → IsOpen content.old (message_of model.now) ls → AreTaken (message_of model.now) ls events.now content.new result }
+    ensures shown { (ls : List (Level ℕ)) → IsOpen content.old (message_of model.now) ls → AllByRecursion HasSortedAttributes (items_of events.now) → OnOk result (GoOn content.old.pieces content.new.pieces (EventsShow model.now ls (items_of events.now))) }
 {
     let mut rest = events;
     while let Some((event, after)) = rest.split_first() {
-        match content.take(model, &event.what) {
+        match content.take(model, event) {
             Ok(()) => {}
             Err(refusal) => return Err(told(refusal, event.place)),
         }
@@ -81,6 +86,24 @@ impl XmlChecker {
             reader: Reader::new(alloc),
             events: Events::new(alloc),
             content: Content::new(alloc, model),
+            place: 0,
+            failed: None,
+        })
+    }
+
+    /// The same, keeping the pieces of the instance.
+    pub(crate) fn with_pieces(alloc: Global, model: &Model) -> Result<XmlChecker, AllocError>
+        ensures fed { IfOk result (λ c. HasFed c model.now []) }
+        ensures made { IfOk result (λ c. IsMadeFor c model.now) }
+        ensures none { IfOk result (λ c. fed c ≡ 0) }
+    {
+        let mut content = Content::new(alloc, model);
+        content.keep_pieces();
+        Ok(XmlChecker {
+            alloc,
+            reader: Reader::new(alloc),
+            events: Events::new(alloc),
+            content,
             place: 0,
             failed: None,
         })
@@ -233,6 +256,9 @@ impl XmlChecker {
         ensures front { TakesFront model.now self.old self.new piece.now result }
     {
         markup::laws::events_stay();
+        if self.content.keeps_names() {
+            return Ok(0);
+        }
         let place = self.place;
         let tag = match self.reader.take_tag(piece) {
             Ok(Some(tag)) => tag,
@@ -281,6 +307,7 @@ impl XmlChecker {
         markup::laws::events_stay();
         markup::laws::nothing_at_clean();
         markup::laws::tokens_have_bytes();
+        respell::laws::events_are_plain();
         match self.reader.take(byte, &mut self.events) {
             Ok(()) => {
                 if let Err(error) = take_all(&mut self.content, model, self.events.as_slice()) {
@@ -313,9 +340,31 @@ impl XmlChecker {
         self.finish_all(model)
     }
 
+    /// The end of the bytes, as `finish`, with the pieces of the instance.
+    pub(crate) fn finish_pieces(mut self, model: &Model) -> Result<Instance, InstanceError>
+        ensures ok { (bytes : List ℕ) → HasFed self model.now bytes → IfOk result (λ i. IsSpelledAs model.now bytes i.region.pieces) }
+        ensures err { (bytes : List ℕ) → HasFed self model.now bytes → IfErr result (λ e. EndsAs model.now bytes e) }
+        ensures again { (e : InstanceError) → failed self ≡ Some e → result ≡ Err e }
+    {
+        crate::laws::pieces_are_shown();
+        let _ = model.type_count();
+        if let Some(error) = self.failed.take() {
+            return Err(error);
+        }
+        match self.finish_all(model) {
+            Ok(()) => match self.content.finish_pieces() {
+                Some(instance) => Ok(instance),
+                None => Err(InstanceError::Memory),
+            },
+            Err(error) => Err(error),
+        }
+    }
+
     /// The end of the bytes, where nothing was refused.
     fn finish_all(&mut self, model: &Model) -> Result<(), InstanceError>
         ensures ok { (bytes : List ℕ) → HasFed self.old model.now bytes → IfOk result (λ _. IsSpelled model.now bytes) }
+        ensures spelled_by { (bytes : List ℕ) (h : HasFed self.old model.now bytes) → IfOk result (λ _. IsSpelledBy model.now bytes (items_told h.told)) }
+        ensures content { self.new.content ≡ self.old.content }
         ensures err { (bytes : List ℕ) → HasFed self.old model.now bytes → IfErr result (λ e. EndsAs model.now bytes e) }
     {
         markup::laws::one_token();

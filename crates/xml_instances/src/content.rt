@@ -1,29 +1,33 @@
 // The elements of an instance that are open, held to the types of its message.
-ghost use Rattle.std.specs.Prelude.{◌≡◌, ℕ, List, [], ◌++◌, Option, Some, None, IfOk, IfSome, OnOk, IsOk, codes, length, map, not, ◌&&◌, option_to_list};
-ghost use Rattle.lexical_core.specs.Tree.{Char, Ends, Starts, Expanded};
-ghost use Rattle.facets.specs.declared.simple.Simple.{Simple as SimpleType};
-ghost use Rattle.markup.specs.EventItems.{entry_of};
-ghost use Rattle.reference_check.specs.Steps.{Came, EndsWith, end_after};
+ghost use Rattle.std.specs.Prelude.{◌≡◌, ℕ, List, [], ◌++◌, Option, Some, None, IfOk, IfSome, OnOk, codes, length, map, not, ◌&&◌, option_to_list};
+ghost use Rattle.lexical_core.specs.Tree.{Char, Starts};
+ghost use Rattle.xml_instances.specs.Built.{EventShows, ShowsBeside, StartShown, ChildShown, CodeShown};
+ghost use Rattle.xml_instances.specs.Keeping.{GoOn};
+ghost use Rattle.markup.specs.EventItems.{entry_of, item_of};
+ghost use Rattle.respell.specs.Respelling.{HasSortedAttributes};
+ghost use Rattle.reference_check.specs.Steps.{Came, EndsWith, Slotted, next};
 ghost use Rattle.message_model.specs.Message.{Message};
 ghost use Rattle.message_model.specs.Sound.{count_with};
 ghost use Rattle.message_model.specs.Tables.{message_of, types_of};
 ghost use Rattle.message_model.specs.Writes.{named};
 ghost use Rattle.xml_instances.specs.Levels.{Level, path_of};
-ghost use Rattle.xml_instances.specs.EventFaults.{space_fault, is_bare, end_fault, EndFault, LeafFault};
-ghost use Rattle.xml_instances.specs.declared.opened.Opened.{Opened as OpenedType};
-ghost use Rattle.xml_instances.specs.Open.{IsOpen, IsTaken, IsItemTaken, AreMade, IsRuleOf, names_of, Says, Refuses, IsPlaced, IsEntered, IsRound, form_at, StandsFor, IsFilled, IsChild, IsStepped, IsBegun, IsRoot};
+ghost use Rattle.xml_instances.specs.EventFaults.{space_fault, is_bare};
+ghost use Rattle.xml_instances.specs.Open.{IsOpen, IsTaken, IsItemTaken, AreMade, names_of, Says, Refuses, IsPlaced, IsEntered, IsRound, form_at, IsFilled, IsChild, IsStepped, IsBegun, IsRoot};
 
 mod attributes;
+mod endings;
 mod leaves;
 mod quick;
+mod showing;
 
 use crate::opened::{Opened, Refusal, breaks, missing, names};
+use crate::pieces::{Pieces, begin};
 use crate::spare::Checks;
 use crate::texts::is_space;
 use facets::LeafCheck;
 use lexical_core::{Rule, Text};
-use markup::{Attr, What};
-use message_model::{End, Form, Model, Next};
+use markup::{Attr, Event, What};
+use message_model::{Form, Model, Next};
 use std::alloc::{AllocError, Global};
 
 /// The tag of the root.
@@ -47,13 +51,16 @@ pub(crate) struct Content {
     text: Option<OpenText>,
     /// Checks for the texts to come.
     checks: Checks,
+    /// The pieces that events show, where they are kept.
+    pieces: Option<Pieces>,
 }
 
 impl Content {
-    /// No element is open. It takes no memory.
+    /// No element is open, and no pieces are kept. It takes no memory.
     pub(crate) fn new(alloc: Global, model: &Model) -> Content
         ensures open { IsOpen result (message_of model.now) [] }
         ensures made { AreMade (types_of model.now) result }
+        ensures bare { result.pieces ≡ None }
     {
         let _ = model.type_count();
         Content {
@@ -62,14 +69,31 @@ impl Content {
             round: Vec::new(alloc),
             text: None,
             checks: Checks::new(alloc),
+            pieces: None,
         }
     }
 
     /// Holds the next event to the message: it breaks no rule, or the least that it breaks with the path that is told.
-    pub(crate) fn take(&mut self, model: &Model, what: &What) -> Result<(), Refusal>
+    pub(crate) fn take(&mut self, model: &Model, event: &Event) -> Result<(), Refusal>
+        requires { AreMade (types_of model.now) self.old }
+        ensures made { AreMade (types_of model.now) self.new }
+        ensures taken { (ls : List (Level ℕ)) → IsOpen self.old (message_of model.now) ls → IsTaken (message_of model.now) ls event.now.what self.new result }
+        ensures shown { (ls : List (Level ℕ)) → IsOpen self.old (message_of model.now) ls → HasSortedAttributes (item_of event.now.what)
+            → OnOk result (GoOn self.old.pieces self.new.pieces (EventShows model.now ls (item_of event.now.what))) }
+    {
+        match self.keep_event(event) {
+            Ok(()) => self.take_what(model, &event.what),
+            Err(_) => Err(Refusal::Memory),
+        }
+    }
+
+    /// Holds what stands at a place to the message.
+    fn take_what(&mut self, model: &Model, what: &What) -> Result<(), Refusal>
         requires { AreMade (types_of model.now) self.old }
         ensures made { AreMade (types_of model.now) self.new }
         ensures taken { (ls : List (Level ℕ)) → IsOpen self.old (message_of model.now) ls → IsTaken (message_of model.now) ls what.now self.new result }
+        ensures shown { (ls : List (Level ℕ)) → IsOpen self.old (message_of model.now) ls
+            → OnOk result (GoOn self.old.pieces self.new.pieces (ShowsBeside model.now ls (item_of what.now))) }
     {
         match what {
             What::Start { ns, local, attrs } => self.start(
@@ -111,6 +135,7 @@ impl Content {
         requires { AreMade (types_of model.now) self.old }
         ensures made { AreMade (types_of model.now) self.new }
         ensures taken { (ls : List (Level ℕ)) → IsOpen self.old (message_of model.now) ls → IsItemTaken (message_of model.now) ls (Char c) self.new result }
+        ensures pieces { self.new.pieces ≡ self.old.pieces }
     {
         match self.innermost {
             None | Some(Opened::Foreign) => Ok(()),
@@ -144,82 +169,6 @@ impl Content {
         breaks(self.alloc, model, rule, self.round.as_slice(), behind)
     }
 
-    // ---- the end of an element
-
-    /// The innermost element ends.
-    fn end(&mut self, model: &Model) -> Result<(), Refusal>
-        requires { AreMade (types_of model.now) self.old }
-        ensures made { AreMade (types_of model.now) self.new }
-        ensures taken { (ls : List (Level ℕ)) (n : Expanded) → IsOpen self.old (message_of model.now) ls → IsItemTaken (message_of model.now) ls (Ends n) self.new result }
-    {
-        match self.ending(model) {
-            Ok(()) => {
-                self.innermost = self.round.pop();
-                Ok(())
-            }
-            Err(refusal) => Err(refusal),
-        }
-    }
-
-    /// What the end of the innermost element breaks.
-    fn ending(&mut self, model: &Model) -> Result<(), Refusal>
-        requires { AreMade (types_of model.now) self.old }
-        ensures made { AreMade (types_of model.now) self.new }
-        ensures kept { self.new.innermost ≡ self.old.innermost }
-        ensures round { self.new.round ≡ self.old.round }
-        ensures out { self.old.innermost ≡ None → IsOk result }
-        ensures taken { (l : Level ℕ) (e : OpenedType) → self.old.innermost ≡ Some e → StandsFor (message_of model.now) self.old.text e l
-            → Says (EndFault l (names_of (types_of model.now) self.old.round.items)) result }
-    {
-        match self.innermost {
-            None | Some(Opened::Foreign) => Ok(()),
-            Some(Opened::Text) => self.text_ending(model),
-            Some(Opened::Envelope { filled }) => {
-                if filled {
-                    Ok(())
-                } else {
-                    Err(self.refused(model, Rule::Missing, b"/*"))
-                }
-            }
-            Some(
-                Opened::Parent {
-                    number,
-                    last,
-                    count,
-                },
-            ) => self.parent_ending(model, number, last, count),
-        }
-    }
-
-    /// The end of an element with elements.
-    fn parent_ending(
-        &self,
-        model: &Model,
-        number: u32,
-        last: Option<u32>,
-        count: u64,
-    ) -> Result<(), Refusal>
-        ensures { (d : List ℕ) → Came (types_of model.now number) d → EndsWith d last count
-            → Says (λ o. o ≡ end_fault (names_of (types_of model.now) self.now.round.items) (types_of model.now number) (end_after (types_of model.now number) d)) result }
-    {
-        match model.end(number, last, count) {
-            End::Fine => Ok(()),
-            End::Missing(at) => Err(missing(self.alloc, model, self.round.as_slice(), number, at)),
-            End::NoAlternative => Err(self.refused(model, Rule::Missing, b"/*")),
-        }
-    }
-
-    /// What a text breaks, as it is told.
-    fn answer(&self, model: &Model, rule: Option<Rule>, behind: &[u8]) -> Result<(), Refusal>
-        ensures { (simple : SimpleType) (text : List ℕ) → IsRuleOf simple text rule
-            → Says (LeafFault simple text (names_of (types_of model.now) self.now.round.items ++ behind.now)) result }
-    {
-        match rule {
-            None => Ok(()),
-            Some(rule) => Err(self.refused(model, rule, behind)),
-        }
-    }
-
     // ---- the start of an element
 
     /// An element starts.
@@ -233,6 +182,8 @@ impl Content {
         requires { AreMade (types_of model.now) self.old }
         ensures made { AreMade (types_of model.now) self.new }
         ensures taken { (ls : List (Level ℕ)) → IsOpen self.old (message_of model.now) ls → IsItemTaken (message_of model.now) ls (Starts (named namespace.now local.now) (map entry_of attrs.now)) self.new result }
+        ensures shown { (ls : List (Level ℕ)) → IsOpen self.old (message_of model.now) ls
+            → OnOk result (GoOn self.old.pieces self.new.pieces (ShowsBeside model.now ls (Starts (named namespace.now local.now) (map entry_of attrs.now)))) }
     {
         match self.place(model, namespace, local) {
             Ok(number) => self.enter(model, number, attrs),
@@ -250,6 +201,8 @@ impl Content {
         requires { AreMade (types_of model.now) self.old }
         ensures made { AreMade (types_of model.now) self.new }
         ensures taken { (ls : List (Level ℕ)) → IsOpen self.old (message_of model.now) ls → IsPlaced (message_of model.now) ls (named namespace.now local.now) self.new result }
+        ensures shown { (ls : List (Level ℕ)) → IsOpen self.old (message_of model.now) ls
+            → OnOk result (GoOn self.old.pieces self.new.pieces (StartShown ls local.now)) }
     {
         match self.innermost {
             None => root(self.alloc, model, namespace, local),
@@ -277,6 +230,7 @@ impl Content {
         ensures text { self.new.text ≡ self.old.text }
         ensures checks { self.new.checks ≡ self.old.checks }
         ensures round { self.new.round ≡ self.old.round }
+        ensures pieces { self.new.pieces ≡ self.old.pieces }
         ensures taken { IsFilled filled (names_of (types_of model.now) self.old.round.items) self.new.innermost result }
     {
         if filled {
@@ -300,6 +254,8 @@ impl Content {
         ensures round { self.new.round ≡ self.old.round }
         ensures taken { (d : List ℕ) → Came (types_of model.now number) d → EndsWith d last count
             → IsChild (message_of model.now) (types_of model.now number) d (names_of (types_of model.now) self.old.round.items) local.now self.new.innermost result }
+        ensures shown { (d : List ℕ) → Came (types_of model.now number) d → EndsWith d last count
+            → OnOk result (GoOn self.old.pieces self.new.pieces (ChildShown (types_of model.now number) (next (types_of model.now number) d local.now))) }
     {
         let _ = model.type_count();
         message_model::laws::slot_comes();
@@ -326,6 +282,7 @@ impl Content {
         ensures checks { self.new.checks ≡ self.old.checks }
         ensures round { self.new.round ≡ self.old.round }
         ensures taken { IsStepped (types_of model.now) number last count at self.new.innermost result }
+        ensures shown { OnOk result (GoOn self.old.pieces self.new.pieces (ChildShown (types_of model.now number) (Slotted at))) }
     {
         let Some(slot) = model.slot(number, at) else {
             return Err(Refusal::Memory);
@@ -333,6 +290,9 @@ impl Content {
         let Some(count) = counted(last, count, at) else {
             return Err(Refusal::Memory);
         };
+        if begin(&mut self.pieces, at, slot.target).is_err() {
+            return Err(Refusal::Memory);
+        }
         self.innermost = Some(Opened::Parent {
             number,
             last: Some(at),
@@ -347,6 +307,7 @@ impl Content {
         ensures made { AreMade (types_of model.now) self.new }
         ensures taken { (ls : List (Level ℕ)) → IsRound self.old (message_of model.now) ls
             → IsEntered (message_of model.now) ls (form_at (message_of model.now) number) (map entry_of attrs.now) self.new result }
+        ensures shown { OnOk result (GoOn self.old.pieces self.new.pieces (CodeShown model.now (form_at (message_of model.now) number) (map entry_of attrs.now))) }
     {
         if self.go_in().is_err() {
             return Err(Refusal::Memory);
@@ -371,6 +332,7 @@ impl Content {
         ensures text { self.new.text ≡ self.old.text }
         ensures checks { self.new.checks ≡ self.old.checks }
         ensures round { OnOk result (self.new.round.items ≡ self.old.round.items ++ option_to_list self.old.innermost) }
+        ensures pieces { self.new.pieces ≡ self.old.pieces }
     {
         match self.innermost.take() {
             None => Ok(()),
@@ -386,6 +348,7 @@ impl Content {
         requires { AreMade (types_of model.now) self.old }
         ensures made { AreMade (types_of model.now) self.new }
         ensures round { self.new.round ≡ self.old.round }
+        ensures pieces { self.new.pieces ≡ self.old.pieces }
         ensures taken { IsBegun (message_of model.now) (types_of model.now number) self.new result }
     {
         match model.form(number) {

@@ -1,12 +1,15 @@
 // The text of a leaf.
-ghost use Rattle.std.specs.Prelude.{◌≡◌, ◌≤◌, ℕ, List, [], ◌∷◌, ◌++◌, OnOk, length};
+ghost use Rattle.std.specs.Prelude.{◌≡◌, ◌≤◌, ℕ, List, [], ◌∷◌, ◌++◌, None, IfOk, OnOk, length};
 ghost use Rattle.std.specs.List.{prefix_len};
 ghost use Rattle.std.specs.Str.{chars};
 ghost use Rattle.markup.specs.Chars.{is_space};
 ghost use Rattle.markup.specs.Literals.{IsRun};
 ghost use Rattle.facets.specs.LeafChecks.{HasTaken, IsMadeFor};
+ghost use Rattle.xml_instances.specs.Built.{TextShown};
+ghost use Rattle.xml_instances.specs.Keeping.{GoOn};
 ghost use Rattle.xml_instances.specs.Open.{IsRuleOf};
 
+use crate::pieces::{Pieces, leaf};
 use facets::{LeafCheck, Simple};
 use lexical_core::{Rule, is_xml_char};
 use std::alloc::AllocError;
@@ -87,13 +90,21 @@ pub(crate) fn blank_length(piece: &[u8]) -> usize
     piece.len()
 }
 
-/// The rule that the text breaks, if it breaks one.
-pub(crate) fn rule_of(check: &LeafCheck, simple: &Simple) -> Option<Rule>
+/// The rule that the text breaks, if it breaks one; else its leaf is shown, where pieces are kept.
+pub(crate) fn ending_of(
+    check: &LeafCheck,
+    simple: &Simple,
+    pieces: &mut Option<Pieces>,
+) -> Result<Option<Rule>, AllocError>
     requires { IsMadeFor check.now simple.now }
-    ensures { (text : List ℕ) → HasTaken check.now simple.now text → IsRuleOf simple.now text result }
+    ensures taken { (text : List ℕ) → HasTaken check.now simple.now text → IfOk result (λ rule. IsRuleOf simple.now text rule) }
+    ensures shown { (text : List ℕ) → HasTaken check.now simple.now text → IfOk result (λ rule. rule ≡ None → GoOn pieces.old pieces.new (TextShown simple.now text)) }
 {
     match check.finish(simple) {
-        Ok(_) => None,
-        Err(rule) => Some(rule),
+        Ok(found) => match leaf(pieces, &found) {
+            Ok(()) => Ok(None),
+            Err(error) => Err(error),
+        },
+        Err(rule) => Ok(Some(rule)),
     }
 }

@@ -1,5 +1,5 @@
 // The attributes of an element, and the currency of an amount: ISO 20022-4, XML Schema part 1 §3.4.4.
-ghost use Rattle.std.specs.Prelude.{◌≡◌, ◌++◌, ℕ, Some, IfOk, codes, map};
+ghost use Rattle.std.specs.Prelude.{◌≡◌, ◌++◌, ℕ, Some, None, IfOk, OnOk, codes, map};
 ghost use Rattle.std.specs.Str.{chars};
 ghost use Rattle.facets.specs.declared.simple.Simple.{Simple as SimpleType};
 ghost use Rattle.markup.specs.EventItems.{entry_of};
@@ -8,12 +8,14 @@ ghost use Rattle.message_model.specs.Tables.{message_of, types_of};
 ghost use Rattle.message_model.specs.Views.{IsFormOf};
 ghost use Rattle.message_model.specs.Writes.{value_of, currency};
 ghost use Rattle.xml_instances.specs.EventFaults.{has_currency, CurrencyFault, AttributeFault};
+ghost use Rattle.xml_instances.specs.Built.{CodeShown, CurrencyShown, TextShown};
+ghost use Rattle.xml_instances.specs.Keeping.{GoOn};
 ghost use Rattle.xml_instances.specs.Open.{AreMade, IsRuleOf, names_of, Says, IsCode};
 
 use super::Content;
 use crate::known::{currency_of, has_unknown};
 use crate::opened::Refusal;
-use crate::texts::{rule_of, take_characters};
+use crate::texts::{ending_of, take_characters};
 use facets::Simple;
 use lexical_core::Rule;
 use markup::Attr;
@@ -33,6 +35,7 @@ impl Content {
         ensures kept { self.new.innermost ≡ self.old.innermost }
         ensures round { self.new.round ≡ self.old.round }
         ensures taken { Says (AttributeFault (message_of model.now) (Some (types_of model.now number)) (map entry_of attrs.now) (names_of (types_of model.now) self.old.round.items)) result }
+        ensures shown { OnOk result (GoOn self.old.pieces self.new.pieces (CodeShown model.now (Some (types_of model.now number)) (map entry_of attrs.now))) }
     {
         let _ = model.type_count();
         let form = model.form(number);
@@ -58,6 +61,7 @@ impl Content {
         ensures kept { self.new.innermost ≡ self.old.innermost }
         ensures round { self.new.round ≡ self.old.round }
         ensures taken { IsCode (types_of model.now code) → Says (CurrencyFault (types_of model.now code) (value_of currency (map entry_of attrs.now)) (names_of (types_of model.now) self.old.round.items ++ codes "/@Ccy")) result }
+        ensures shown { IsCode (types_of model.now code) → OnOk result (GoOn self.old.pieces self.new.pieces (CurrencyShown (types_of model.now code) (map entry_of attrs.now))) }
     {
         let Some(value) = currency_of(attrs) else {
             return Err(self.refused(model, Rule::MissingAttribute, b"/@Ccy"));
@@ -85,15 +89,16 @@ impl Content {
         ensures kept { self.new.innermost ≡ self.old.innermost }
         ensures round { self.new.round ≡ self.old.round }
         ensures taken { IfOk result (λ rule. IsRuleOf simple.now (chars value.now) rule) }
+        ensures shown { IfOk result (λ rule. rule ≡ None → GoOn self.old.pieces self.new.pieces (TextShown simple.now (chars value.now))) }
     {
         let Ok(text) = std::str::from_utf8(value) else {
             return Err(AllocError);
         };
         let mut check = self.check_for(model, number, simple)?;
         take_characters(&mut check, simple, text)?;
-        let rule = rule_of(&check, simple);
+        let ended = ending_of(&check, simple, &mut self.pieces);
         self.checks.keep(number, check);
-        Ok(rule)
+        ended
     }
 }
 

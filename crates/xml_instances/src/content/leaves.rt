@@ -5,12 +5,14 @@ ghost use Rattle.facets.specs.LeafChecks.{HasTaken, IsWithinLimits};
 ghost use Rattle.reference_check.specs.Forms.{text_type};
 ghost use Rattle.message_model.specs.Tables.{message_of, types_of};
 ghost use Rattle.xml_instances.specs.EventFaults.{LeafFault};
+ghost use Rattle.xml_instances.specs.Built.{TextShown};
+ghost use Rattle.xml_instances.specs.Keeping.{GoOn};
 ghost use Rattle.xml_instances.specs.Open.{AreMade, names_of, Says, HoldsText};
 ghost use Rattle.xml_instances.specs.declared.opened.Opened.TheVariants.{Text as OpenedText};
 
 use super::{Content, OpenText};
 use crate::opened::{Opened, Refusal};
-use crate::texts::{rule_of, take_character};
+use crate::texts::{ending_of, take_character};
 use facets::{LeafCheck, Simple};
 use message_model::Model;
 use std::alloc::{AllocError, Global};
@@ -24,6 +26,7 @@ impl Content {
         ensures round { self.new.round ≡ self.old.round }
         ensures taken { (simple : SimpleType) (text : List ℕ) → HoldsText (message_of model.now) self.old.text simple text
             → OnOk result (HoldsText (message_of model.now) self.new.text simple (text ++ c ∷ [])) }
+        ensures pieces { self.new.pieces ≡ self.old.pieces }
     {
         let Some(mut open) = self.text.take() else {
             return Err(AllocError);
@@ -44,6 +47,8 @@ impl Content {
         ensures round { self.new.round ≡ self.old.round }
         ensures taken { (simple : SimpleType) (text : List ℕ) → HoldsText (message_of model.now) self.old.text simple text
             → Says (LeafFault simple text (names_of (types_of model.now) self.old.round.items)) result }
+        ensures shown { (simple : SimpleType) (text : List ℕ) → HoldsText (message_of model.now) self.old.text simple text
+            → OnOk result (GoOn self.old.pieces self.new.pieces (TextShown simple text)) }
     {
         let Some(open) = self.text.take() else {
             return Err(Refusal::Memory);
@@ -51,9 +56,12 @@ impl Content {
         let Some(simple) = model.text_type(open.number) else {
             return Err(Refusal::Memory);
         };
-        let rule = rule_of(&open.check, simple);
+        let ended = ending_of(&open.check, simple, &mut self.pieces);
         self.checks.keep(open.number, open.check);
-        self.answer(model, rule, b"")
+        match ended {
+            Ok(rule) => self.answer(model, rule, b""),
+            Err(_) => Err(Refusal::Memory),
+        }
     }
 
     /// A check of a text of the type, before its first character.
@@ -69,6 +77,7 @@ impl Content {
         ensures kept { self.new.innermost ≡ self.old.innermost }
         ensures round { self.new.round ≡ self.old.round }
         ensures taken { IfOk result (λ check. HasTaken check.value simple.now []) }
+        ensures pieces { self.new.pieces ≡ self.old.pieces }
     {
         let _ = model.type_count();
         match self.checks.take(number) {
@@ -91,6 +100,7 @@ impl Content {
         requires simple { text_type (types_of model.now number) ≡ Some simple.now }
         ensures made { AreMade (types_of model.now) self.new }
         ensures round { self.new.round ≡ self.old.round }
+        ensures pieces { self.new.pieces ≡ self.old.pieces }
         ensures taken { OnOk result ((self.new.innermost ≡ Some OpenedText) × HoldsText (message_of model.now) self.new.text simple.now []) }
     {
         match self.check_for(model, number, simple) {

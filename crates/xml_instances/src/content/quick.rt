@@ -6,6 +6,8 @@ ghost use Rattle.markup.specs.Literals.{IsRun};
 ghost use Rattle.markup.specs.PlainTags.{tag_items};
 ghost use Rattle.message_model.specs.Tables.{message_of, types_of};
 ghost use Rattle.xml_instances.specs.Levels.{Level};
+ghost use Rattle.xml_instances.specs.Built.{EventsShow, ShowsBeside, StartShown};
+ghost use Rattle.xml_instances.specs.Keeping.{GoOn, MayShow, MayShowText};
 ghost use Rattle.xml_instances.specs.Open.{IsOpen, AreMade, IsPlaced, IsItemTaken, HoldsText};
 ghost use Rattle.xml_instances.specs.Quick.{MayTake, IsRunTaken, AreItemsTaken, IsOurs};
 
@@ -22,9 +24,17 @@ impl Content {
     pub(crate) fn run_room(&self, model: &Model, piece: &[u8]) -> usize
         ensures within { result ≤ length piece.now }
         ensures only { (n : ℕ) → n ≤ result → 0 < n → MayTake (types_of model.now) self.now.innermost (take n piece.now) }
+        ensures shown { 0 < result → MayShowText self.now.pieces self.now.innermost }
     {
         match self.innermost {
-            None | Some(Opened::Foreign | Opened::Text) => piece.len(),
+            None | Some(Opened::Text) => piece.len(),
+            Some(Opened::Foreign) => {
+                if self.pieces.is_some() {
+                    0
+                } else {
+                    piece.len()
+                }
+            }
             Some(Opened::Envelope { .. }) => blank_length(piece),
             Some(Opened::Parent { number, .. }) => {
                 if is_bare(model, number) {
@@ -47,6 +57,7 @@ impl Content {
         requires run { IsRun run.now count }
         requires fits { MayTake (types_of model.now) self.old.innermost run.now }
         ensures made { AreMade (types_of model.now) self.new }
+        ensures pieces { self.new.pieces ≡ self.old.pieces }
         ensures taken { OnOk result ((r : IsRun run.now count) (ls : List (Level ℕ)) → IsOpen self.old (message_of model.now) ls → IsRunTaken (message_of model.now) ls r.characters self.new) }
     {
         match self.innermost {
@@ -65,6 +76,7 @@ impl Content {
         ensures made { AreMade (types_of model.now) self.new }
         ensures kept { self.new.innermost ≡ self.old.innermost }
         ensures round { self.new.round ≡ self.old.round }
+        ensures pieces { self.new.pieces ≡ self.old.pieces }
         ensures taken { (r : IsRun run.now count) (simple : SimpleType) (text : List ℕ) → HoldsText (message_of model.now) self.old.text simple text
             → OnOk result (HoldsText (message_of model.now) self.new.text simple (text ++ r.characters)) }
     {
@@ -91,6 +103,8 @@ impl Content {
         ensures made { AreMade (types_of model.now) self.new }
         ensures taken { (ls : List (Level ℕ)) (n : Expanded) → n.local ≡ name.now → IsOurs (message_of model.now) ls n → IsOpen self.old (message_of model.now) ls
             → AreItemsTaken (message_of model.now) ls (tag_items kind n) self.new result }
+        ensures shown { (ls : List (Level ℕ)) (n : Expanded) → n.local ≡ name.now → IsOurs (message_of model.now) ls n → IsOpen self.old (message_of model.now) ls
+            → MayShow self.old.pieces self.old.innermost → OnOk result (GoOn self.old.pieces self.new.pieces (EventsShow model.now ls (tag_items kind n))) }
     {
         match kind {
             TagKind::Start => self.start_inside(model, name),
@@ -108,6 +122,8 @@ impl Content {
         ensures made { AreMade (types_of model.now) self.new }
         ensures taken { (ls : List (Level ℕ)) (n : Expanded) → n.local ≡ local.now → IsOurs (message_of model.now) ls n → IsOpen self.old (message_of model.now) ls
             → IsItemTaken (message_of model.now) ls (Starts n []) self.new result }
+        ensures shown { (ls : List (Level ℕ)) (n : Expanded) → n.local ≡ local.now → IsOpen self.old (message_of model.now) ls → IsOurs (message_of model.now) ls n
+            → OnOk result (GoOn self.old.pieces self.new.pieces (ShowsBeside model.now ls (Starts n []))) }
     {
         match self.place_inside(model, local) {
             Ok(number) => self.enter(model, number, &[]),
@@ -122,6 +138,8 @@ impl Content {
         ensures made { AreMade (types_of model.now) self.new }
         ensures taken { (ls : List (Level ℕ)) (n : Expanded) → n.local ≡ local.now → IsOurs (message_of model.now) ls n → IsOpen self.old (message_of model.now) ls
             → IsPlaced (message_of model.now) ls n self.new result }
+        ensures shown { (ls : List (Level ℕ)) (n : Expanded) → n.local ≡ local.now → IsOpen self.old (message_of model.now) ls
+            → OnOk result (GoOn self.old.pieces self.new.pieces (StartShown ls n.local)) }
     {
         match self.innermost {
             None => root(self.alloc, model, b"", local),

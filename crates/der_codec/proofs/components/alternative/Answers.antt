@@ -3,7 +3,7 @@ use Rattle.std.proofs.Common.{◌≡◌, refl, sym, subst, Some}
 use Rattle.der_octets.specs.TagSteps.{tag_view}
 use Rattle.reference_check.specs.Forms.{form_slots}
 use Rattle.std.specs.Prelude.{slice_get}
-use Rattle.der_codec.specs.Structures.{component}
+use Rattle.der_model.specs.Structures.{component}
 use Rattle.der_codec.specs.Levels.{IsSpot}
 use Rattle.der_codec.proofs.ComponentsFound.{anys_none, anys_found}
 use Rattle.der_codec.proofs.components.alternative.Goals as goal

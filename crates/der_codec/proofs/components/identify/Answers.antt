@@ -1,10 +1,10 @@
 use Rattle.std.proofs.Common.{◌≡◌, sym, subst}
 use Rattle.message_model.specs.Tables.{types_of, message_of}
 use Rattle.der_octets.specs.TagSteps.{tag_view}
-use Rattle.der_codec.specs.DerMessage.{in_der}
-use Rattle.der_codec.specs.Structures as structures
-use Rattle.der_codec.specs.Structures.{structure}
-use Rattle.der_codec.specs.States.{identifier_answer}
+use Rattle.der_model.specs.DerMessage.{in_der}
+use Rattle.der_model.specs.Structures as structures
+use Rattle.der_model.specs.Structures.{structure}
+use Rattle.der_model.specs.States.{identifier_answer}
 use Rattle.der_codec.specs.Levels.{IsSpot}
 use Rattle.der_codec.specs.Components.{IsFound}
 use Rattle.der_codec.proofs.components.identify.Goals as goal

@@ -3,7 +3,7 @@ use Rattle.std.specs.Prelude.{slice_get}
 use Rattle.message_model.specs.Tables.{types_of}
 use Rattle.reference_check.specs.Forms.{form_slots}
 use Rattle.der_octets.specs.TagSteps.{tag_view}
-use Rattle.der_codec.specs.Structures.{component}
+use Rattle.der_model.specs.Structures.{component}
 use Rattle.der_codec.specs.Levels.{IsSpot}
 use Rattle.der_codec.specs.Components.{NoneDue, IsDue, slot_text}
 use Rattle.der_codec.proofs.ComponentsFound.{fields_none, fields_before, fields_found, fields_due}

@@ -4,7 +4,7 @@ use Rattle.message_model.specs.Numbers.{ids_at}
 use Rattle.message_model.specs.Tables.{Tables}
 use Rattle.message_model.specs.Views.{tables, type_entry}
 use Rattle.message_model.proofs.Compilable.{reached_list}
-use Rattle.message_model.proofs.SoundTables.{compiles, tables_sound, tables_codes, tables_linked, kept_few}
+use Rattle.message_model.proofs.SoundTables.{compiles, tables_sound, tables_codes, tables_sorted, tables_root, tables_linked, kept_few}
 use Rattle.message_model.proofs.compile.build.Goals as goal
 
 pub invariant_of-result : goal.invariant_of-result
@@ -18,6 +18,8 @@ invariant_of-result c =
     let made : Compiles R m ids T = compiles R m c.args.reached.now.objects T refl (c.in_ok-all_types.ensures.types m c.requires.reached c.requires.ready) in (
       tables_sound R m c.requires.ready ids list T made,
       tables_codes R m c.requires.ready ids list T made,
+      tables_sorted R m c.requires.ready ids list T made,
+      tables_root R m c.requires.ready ids list T made,
       tables_linked R m c.requires.ready ids list T made,
       kept_few R m c.requires.ready ids list c.in_ok-all_types.field-0.items made,
     )

@@ -1,10 +1,11 @@
 use Rattle.std.proofs.Common.{rules, ◌≡◌, refl, subst, IfSome, codes}
 use Rattle.repo_engine.proofs.Ends.{tells_pushed, goes_nowhere}
 use Rattle.repo_engine.proofs.Messages.{read_on, push_ends, push_words, check_failing, check_input, check_tells, no_words, stop_not_whole}
-use Rattle.repo_engine.specs.Answer.{ChecksXml, spelled}
+use Rattle.repo_engine.specs.Answer.{FromXml, IsFine}
+use Rattle.repo_engine.specs.Steps.{refused, goes_on}
 use Rattle.repo_engine.specs.Arms.{check_stop, end_of}
 use Rattle.repo_engine.specs.Sources.{ended_of}
-use Rattle.transcoder.specs.Checked.{IsAccepted}
+use Rattle.transcoder.specs.Checked.{IsAccepted, HasXmlFault}
 use Rattle.transcoder.specs.declared.check_error.CheckError.TheVariants as check
 use Rattle.repo_engine.proofs.check.check.Goals as goal
 
@@ -20,8 +21,8 @@ returns-in-Ok-clause-source g c = rw c.ended.ensures (read_on (ended_of (end_of 
 
 pub returns-in-Ok-clause-verdict : goal.returns-in-Ok-clause-verdict
 returns-in-Ok-clause-verdict g c i told = rw c.ended.ensures
-    (tells_pushed g.O.Sink.held g.O.Sink.faults g.O.Sink.room _ _ (ChecksXml c.args.model.now i) (codes "accepted\n") c.push_bytes.result
-    (spelled (subst (λ o. IfSome o (λ bytes. IsAccepted c.args.model.now bytes)) told c.in-Ok.ensures.ok) refl) c.push_bytes.ensures.push)
+    (tells_pushed g.O.Sink.held g.O.Sink.faults g.O.Sink.room _ _ (FromXml c.args.model.now i IsFine) (codes "accepted\n") c.push_bytes.result
+    (let a : IsAccepted c.args.model.now i = subst (λ o. IfSome o (λ bytes. IsAccepted c.args.model.now bytes)) told c.in-Ok.ensures.ok in goes_on a.0.0 (a.0.1, a.1) refl) c.push_bytes.ensures.push)
 
 pub returns-in-Err-clause-no_words : goal.returns-in-Err-clause-no_words
 returns-in-Err-clause-no_words g c = rw c.stop_of_check.ensures (no_words _ (check_input _))
@@ -34,7 +35,7 @@ returns-in-Err-clause-source g c = rw c.stop_of_check.ensures (record {
 })
 
 pub returns-in-Err-clause-verdict : goal.returns-in-Err-clause-verdict
-returns-in-Err-clause-verdict g c i told = rw c.stop_of_check.ensures (check_tells _ _ i _ _ told c.in-Err.ensures.refused)
+returns-in-Err-clause-verdict g c i told = rw c.stop_of_check.ensures (check_tells (FromXml c.args.model.now i IsFine) (HasXmlFault c.args.model.now) _ i _ _ (λ fault h. refused (fault, h, refl)) told c.in-Err.ensures.refused)
 
 pub returns-in-Err-clause-goes_out : goal.returns-in-Err-clause-goes_out
 returns-in-Err-clause-goes_out g c = rw c.stop_of_check.ensures (goes_nowhere g.O.Sink.held g.O.Sink.faults _ _ (check_input _))

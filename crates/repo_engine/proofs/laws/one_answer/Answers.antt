@@ -15,5 +15,7 @@ returns c =
       ready_is_not_refused = c.ready_is_not_refused.ensures;
       compiled_are_sound = c.compiled_are_sound.ensures;
       one_verdict = c.one_verdict.ensures;
+      one_der_verdict = c.one_der_verdict.ensures;
+      one_canonical_xml = c.a_value_has_one_canonical_xml.ensures;
     } in
     one_answer laws

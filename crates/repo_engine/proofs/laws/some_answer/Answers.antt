@@ -10,5 +10,8 @@ returns c =
       ready_or_refused = c.ready_or_refused.ensures;
       compiled_are_sound = c.compiled_are_sound.ensures;
       some_verdict = c.some_verdict.ensures;
+      some_der_verdict = c.some_der_verdict.ensures;
+      compiled_have_kinds = c.compiled_have_kinds.ensures;
+      some_canonical_xml = c.a_value_has_a_canonical_xml.ensures;
     } in
     some_answer laws

@@ -28,3 +28,35 @@ pub returns-in-CheckXml-clause-verdict : goal.returns-in-CheckXml-clause-verdict
 returns-in-CheckXml-clause-verdict g c i told =
     let reads : reads_instance c.args.verb ≡ true = rw c.in-CheckXml.is refl in
     rw c.in-CheckXml.is (c.check.ensures.verdict i (told reads))
+
+pub returns-in-CheckDer-clause-source : goal.returns-in-CheckDer-clause-source
+returns-in-CheckDer-clause-source g c = rw c.in-CheckDer.is (read refl c.check_in_der.ensures.source)
+
+pub returns-in-CheckDer-clause-verdict : goal.returns-in-CheckDer-clause-verdict
+returns-in-CheckDer-clause-verdict g c i told =
+    let reads : reads_instance c.args.verb ≡ true = rw c.in-CheckDer.is refl in
+    rw c.in-CheckDer.is (c.check_in_der.ensures.verdict i (told reads))
+
+pub returns-in-CanonXml-clause-source : goal.returns-in-CanonXml-clause-source
+returns-in-CanonXml-clause-source g c = rw c.in-CanonXml.is (read refl c.canonize.ensures.source)
+
+pub returns-in-CanonXml-clause-verdict : goal.returns-in-CanonXml-clause-verdict
+returns-in-CanonXml-clause-verdict g c i told =
+    let reads : reads_instance c.args.verb ≡ true = rw c.in-CanonXml.is refl in
+    rw c.in-CanonXml.is (c.canonize.ensures.verdict i (told reads))
+
+pub returns-in-XmlToDer-clause-source : goal.returns-in-XmlToDer-clause-source
+returns-in-XmlToDer-clause-source g c = rw c.in-XmlToDer.is (read refl c.to_der.ensures.source)
+
+pub returns-in-XmlToDer-clause-verdict : goal.returns-in-XmlToDer-clause-verdict
+returns-in-XmlToDer-clause-verdict g c i told =
+    let reads : reads_instance c.args.verb ≡ true = rw c.in-XmlToDer.is refl in
+    rw c.in-XmlToDer.is (c.to_der.ensures.verdict i (told reads))
+
+pub returns-in-DerToXml-clause-source : goal.returns-in-DerToXml-clause-source
+returns-in-DerToXml-clause-source g c = rw c.in-DerToXml.is (read refl c.from_der.ensures.source)
+
+pub returns-in-DerToXml-clause-verdict : goal.returns-in-DerToXml-clause-verdict
+returns-in-DerToXml-clause-verdict g c i told =
+    let reads : reads_instance c.args.verb ≡ true = rw c.in-DerToXml.is refl in
+    rw c.in-DerToXml.is (c.from_der.ensures.verdict i (told reads))

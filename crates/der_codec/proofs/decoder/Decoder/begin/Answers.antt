@@ -1,5 +1,5 @@
 use Rattle.message_model.specs.Tables.{message_of}
-use Rattle.der_codec.specs.DerMessage.{in_der}
+use Rattle.der_model.specs.DerMessage.{in_der}
 use Rattle.std.proofs.Common.{◌≡◌, ◌∷◌, ◌++◌, [], ◌+◌, sym, subst, refl, arith, ap, ◌∙◌, Some, None}
 use Rattle.lexical_core.specs.declared.rule.Rule.TheVariants.{Overrun, UnexpectedTag}
 use Rattle.der_codec.specs.Levels.{inwards, first_of, rest_of}
@@ -8,6 +8,8 @@ use Rattle.der_codec.specs.declared.decoder.Due.TheVariants as due
 use Rattle.der_codec.specs.declared.decoder.Stop.TheVariants as stop
 use Rattle.der_codec.specs.declared.components.Added.TheVariants as added
 use Rattle.der_codec.proofs.Counted.{count_below}
+use Rattle.der_octets.specs.TagSteps.{tag_view}
+use Rattle.der_codec.proofs.NoCuts.{identifier_stays}
 use Rattle.der_codec.proofs.StepTies.{begin_breaks, begin_read, begin_past, outer_read, outer_breaks, reads_as, fails_as, ok_always, ok_when, err_when}
 use Rattle.der_codec.proofs.decoder.Decoder.begin.Goals as goal
 
@@ -78,3 +80,10 @@ advanced-requires c =
     let room = c.requires.room in
     let low = count_below (in_der r.0 (message_of c.args.model.now)) (inwards s.levels.items) c.in-Some.level s.due s.start s.place r.1 r.2 c.in-Some.ensures in
     omega arith
+
+pub returns-in-Breaks-clause-stays : goal.returns-in-Breaks-clause-stays
+returns-in-Breaks-clause-stays c = λ fragment bytes r.
+    let s = c.args.self.now in
+    let xs = inwards s.levels.items in
+    let first : Some c.in-Some.level ≡ first_of xs = c.in-Some.ensures in
+    identifier_stays (in_der fragment (message_of c.args.model.now)) xs c.in-Some.level s.due s.start s.place bytes c.args.id.constructed (tag_view c.args.id) c.in-Breaks.rule c.in-Breaks.added r first (c.in-Breaks.ensures fragment)

@@ -53,3 +53,6 @@ returns-then-not-ended-clause-room c = (let before = c.loop-ended.invariant.2 in
 
 pub returns-then-is_over-clause-room : goal.returns-then-is_over-clause-room
 returns-then-is_over-clause-room c = (let before = c.loop-ended.invariant.2 in let more = c.in-Ok.ensures.room in omega arith)
+
+pub returns-in-Err-clause-stays : goal.returns-in-Err-clause-stays
+returns-in-Err-clause-stays c = λ fragment bytes r. c.in-Err.ensures.stays fragment bytes (c.loop-ended.invariant.3 fragment bytes r)

@@ -2,7 +2,7 @@ use Rattle.std.proofs.Common.{◌≡◌, ℕ, List, length}
 use Rattle.std.specs.Prelude.{◌≤◌, vec_capacity}
 use Rattle.lexical_core.specs.Tree.{Tree}
 use Rattle.message_model.specs.Tables.{message_of}
-use Rattle.der_codec.specs.DerMessage.{in_der}
+use Rattle.der_model.specs.DerMessage.{in_der}
 use Rattle.der_codec.specs.Decoding.{HasRead, IsFresh}
 use Rattle.der_codec.proofs.decoder.Decoder.end_all.Given as goal
 

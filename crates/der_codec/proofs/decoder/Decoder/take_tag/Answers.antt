@@ -1,5 +1,5 @@
 use Rattle.message_model.specs.Tables.{message_of}
-use Rattle.der_codec.specs.DerMessage.{in_der}
+use Rattle.der_model.specs.DerMessage.{in_der}
 use Rattle.std.proofs.Common.{◌∷◌, ◌++◌, [], ◌+◌, sym, subst, refl, arith, ap}
 use Rattle.lexical_core.specs.declared.rule.Rule.TheVariants.{Overrun, BadTagOctets}
 use Rattle.der_octets.specs.TagSteps.{tag_view}

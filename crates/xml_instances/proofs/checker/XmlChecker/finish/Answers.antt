@@ -9,6 +9,20 @@ returns-clause-err c bytes h = c.finish_all.ensures.err bytes (record {
   placed = h.placed;
   fine = h.fine;
   open_are = h.open_are;
+  built = h.built;
+  none = h.none;
+  sound = search rules;
+})
+
+pub returns-clause-ok : goal.returns-clause-ok
+returns-clause-ok c bytes h = c.finish_all.ensures.ok bytes (record {
+  told = h.told;
+  given = h.given;
+  counted = h.counted;
+  placed = h.placed;
+  fine = h.fine;
+  open_are = h.open_are;
+  built = h.built;
   none = h.none;
   sound = search rules;
 })

@@ -1,4 +1,4 @@
-use Rattle.std.proofs.Common.{List, [], ◌∷◌, ◌++◌, subst}
+use Rattle.std.proofs.Common.{List, [], ◌∷◌, ◌++◌, subst, sym}
 use Rattle.std.specs.Prelude.{Err}
 use Rattle.markup.specs.declared.event.Event.{Event}
 use Rattle.markup.specs.Reading.{Stops as MarkStops}
@@ -6,9 +6,13 @@ use Rattle.message_model.specs.Tables.{message_of}
 use Rattle.xml_instances.specs.Levels.{levels_over}
 use Rattle.xml_instances.specs.EventFaults.{AreFine}
 use Rattle.xml_instances.specs.XmlFaults.{items_told}
+use Rattle.std.specs.List.{AllByRecursion}
+use Rattle.respell.specs.Respelling.{HasSortedAttributes}
+use Rattle.xml_instances.specs.Built.{EventsShow}
+use Rattle.xml_instances.specs.Keeping.{GoOn}
 use Rattle.xml_instances.specs.Open.{IsOpen}
 use Rattle.xml_instances.specs.Checking.{items_of, AreTaken}
-use Rattle.xml_instances.proofs.Checks.{fed_on}
+use Rattle.xml_instances.proofs.Checks.{fed_on, sorted_told}
 use Rattle.xml_instances.proofs.Refusals.{stops_at_event, stops_before_mark, stops_at_mark}
 use Rattle.xml_instances.proofs.checker.XmlChecker.take.Goals as goal
 
@@ -17,10 +21,12 @@ returns-in_default-clause-ok c bytes h =
     let m = message_of c.args.model.now in
     let ls = levels_over m [] (items_told h.told) in
     let k = c.in_default.ensures.taken ls h.open_are in
+    let sorted = sorted_told c.take.new.self (bytes ++ c.args.byte ∷ []) h.told c.args.self.now.events c.take.new.out c.events_stay.ensures c.events_are_plain.ensures (c.in-Ok.ensures.ok bytes h.told h.given) h.none in
     fed_on c.args.model.now c.args.self.now (record { alloc = c.args.self.now.alloc; reader = c.take.new.self; events = c.clear.new.self; content = c.take_all.new.content; place = c.saturating_add-self.result; failed = c.args.self.now.failed }) bytes c.args.byte c.take.new.out h
     (c.in-Ok.ensures.ok bytes h.told h.given) c.in-Ok.ensures.count
     (subst (λ (es : List Event). AreFine m ls (items_of es)) c.as_slice.ensures k.0)
     (subst (λ (es : List Event). IsOpen c.take_all.new.content m (levels_over m ls (items_of es))) c.as_slice.ensures k.1)
+    (subst (λ (es : List Event). GoOn c.args.self.now.content.pieces c.take_all.new.content.pieces (EventsShow c.args.model.now ls (items_of es))) c.as_slice.ensures (c.in_default.ensures.shown ls h.open_are (subst (λ (es : List Event). AllByRecursion HasSortedAttributes (items_of es)) (sym c.as_slice.ensures) sorted)))
     c.clear.ensures
     h.sound c.saturating_add-self.ensures c.requires.room
 

@@ -1,4 +1,4 @@
-use Rattle.std.proofs.Common.{rules, ◌≡◌, ◌∷◌, arith}
+use Rattle.std.proofs.Common.{rules, ◌≡◌, ◌∷◌}
 use Rattle.xml_instances.proofs.QuickFed.{front_byte, front_byte_stops}
 use Rattle.xml_instances.proofs.checker.XmlChecker.take_first.Goals as goal
 

@@ -8,7 +8,7 @@ returns-in-Ok-clause-front c =
     let e = c.in-Ok-Some.field-0-is in
     front_tag c.args.model.now c.args.self.now _ c.args.piece.now t.name.now t.kind t.bytes (tag_within c.args.piece.now c.in-Ok-Some.field-0 t e c.in-Ok-Some.ensures.within) c.requires.room
     (told_tag c.args.self.now.reader c.take_tag.new.self c.args.piece.now c.in-Ok-Some.field-0 t e c.in-Ok-Some.ensures.taken) (tag_moved c.args.self.now.reader c.take_tag.new.self c.in-Ok-Some.field-0 t e c.in-Ok-Some.ensures.count)
-    c.saturating_add-self.ensures refl refl c.in-Ok.ensures.taken
+    c.saturating_add-self.ensures refl refl c.in-Ok.ensures.taken c.in-Ok.ensures.shown (c.keeps_names.ensures c.if-keeps_names.false)
 
 pub returns-in-Err-take_tag-clause-front : goal.returns-in-Err-take_tag-clause-front
 returns-in-Err-take_tag-clause-front c =

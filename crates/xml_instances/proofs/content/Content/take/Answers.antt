@@ -1,16 +1,18 @@
-use Rattle.std.proofs.Common.{subst, sym}
+use Rattle.std.proofs.Common.{◌≡◌, subst}
+use Rattle.markup.specs.EventItems.{item_of}
 use Rattle.message_model.specs.Tables.{message_of}
-use Rattle.markup.specs.declared.event.What.{What}
-use Rattle.xml_instances.specs.Open.{IsTaken}
-use Rattle.xml_instances.proofs.Contents.{start_at}
+use Rattle.xml_instances.specs.Built.{Shown, ShowsBeside, EventShows, with_event}
+use Rattle.xml_instances.proofs.GoingOn.{go_then, on_ok, open_same}
 use Rattle.xml_instances.proofs.content.Content.take.Goals as goal
 
-pub returns-in-Start-clause-taken : goal.returns-in-Start-clause-taken
-returns-in-Start-clause-taken c ls h = subst (λ (w : What). IsTaken (message_of c.args.model.now) ls w c.start.new.self c.start.result) (sym c.in-Start.is)
-    (start_at (message_of c.args.model.now) ls c.start.new.self c.start.result _ c.in-Start.ns _ c.in-Start.local _ c.in-Start.attrs c.bytes.ensures c.bytes-in-Start.ensures c.as_slice.ensures (c.start.ensures.taken ls h))
+pub returns-in-Ok-clause-taken : goal.returns-in-Ok-clause-taken
+returns-in-Ok-clause-taken c ls h =
+    c.take_what.ensures.taken ls (open_same (message_of c.args.model.now) c.args.self.now c.keep_event.new.self ls c.keep_event.ensures.text c.keep_event.ensures.innermost c.keep_event.ensures.round h)
 
-pub returns-in-Char-clause-taken : goal.returns-in-Char-clause-taken
-returns-in-Char-clause-taken c ls h = subst (λ (w : What). IsTaken (message_of c.args.model.now) ls w c.character.new.self c.character.result) (sym c.in-Char.is) (c.character.ensures.taken ls h)
-
-pub returns-in-End-clause-taken : goal.returns-in-End-clause-taken
-returns-in-End-clause-taken c ls h = subst (λ (w : What). IsTaken (message_of c.args.model.now) ls w c.end.new.self c.end.result) (sym c.in-End.is) (c.end.ensures.taken ls _ h)
+pub returns-in-Ok-clause-shown : goal.returns-in-Ok-clause-shown
+returns-in-Ok-clause-shown c ls h sorted =
+    let item = item_of c.args.event.now.what in
+    on_ok c.take_what.result (λ then_.
+    go_then {Q = EventShows c.args.model.now ls item} {R = λ s u. u ≡ with_event ls item s} {S = ShowsBeside c.args.model.now ls item} c.args.self.now.pieces c.keep_event.new.self.pieces c.take_what.new.self.pieces
+    (λ s u t e x. subst (λ (y : Shown). ShowsBeside c.args.model.now ls item y t) e x) (c.in-Ok.ensures.shown (message_of c.args.model.now) ls h sorted) then_)
+    (c.take_what.ensures.shown ls (open_same (message_of c.args.model.now) c.args.self.now c.keep_event.new.self ls c.keep_event.ensures.text c.keep_event.ensures.innermost c.keep_event.ensures.round h))

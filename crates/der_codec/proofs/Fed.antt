@@ -1,0 +1,321 @@
+-- What a checker was given, and what it then tells.
+use Rattle.std.specs.Prelude.{Result, Ok, Err, IfOk, IfErr}
+use Rattle.std.proofs.Common.{◌≡◌, ◌≢◌, ℕ, zero, suc, ◌+◌, ◌-◌, ◌≤◌, ◌<◌, ◌^◌, List, [], ◌∷◌, ◌++◌, length, take, drop, Option, Some, None, refl, sym, ap, ◌∙◌, subst, arith, append-nil, append_assoc, length-append, ◌⊎◌, inl, inr}
+use Rattle.lexical_core.specs.declared.rule.Rule.{Rule}
+use Rattle.lexical_core.specs.declared.rule.Rule.TheVariants.{DerTruncated}
+use Rattle.message_model.specs.Tables.{Tables, message_of, types_of}
+use Rattle.message_model.specs.declared.fault.Fault.{Fault as Told}
+use Rattle.message_model.specs.declared.fault.InstanceError.{InstanceError}
+use Rattle.message_model.specs.declared.fault.InstanceError.TheVariants.{Refused, Memory}
+use Rattle.fragments.specs.Fragment.{fragment}
+use Rattle.der_model.specs.DerMessage.{DerMessage, der_message, in_der}
+use Rattle.der_model.specs.Faults.{Fault, DerFault}
+use Rattle.der_model.specs.Paths.{path_of}
+use Rattle.der_model.specs.Sound.{IsSound}
+use Rattle.der_model.specs.Structures.{structure}
+use Rattle.der_model.specs.States as states
+use Rattle.der_model.specs.States.{State, Start, AwaitsLength, AwaitsContents, Within}
+use Rattle.der_model.proofs.Continued.{fault_stays}
+use Rattle.der_model.proofs.Answered.{whole_is_spelled, spelled_has_none}
+use Rattle.facets.specs.declared.simple.Simple.{Simple}
+use Rattle.reference_check.specs.Forms.{Graph}
+use Rattle.der_codec.specs.Levels.{AreLevels, inwards}
+use Rattle.der_codec.specs.Components.{added_text}
+use Rattle.der_codec.specs.Decoding.{Reads, Fails, HasRead, IsOpen, IsFault, IsStopped, IsOver, IsReady, IsWaiting, IsNoCut, IsRefusedAs, end_of_levels}
+use Rattle.der_codec.specs.Judging.{HoldsContents, BreaksContentsAt, IsVerdictFor}
+use Rattle.der_codec.specs.OpenNames.{IsNamed}
+use Rattle.der_codec.specs.Checking.{IsReading, KeepsContents, KeepsRead, HasFed, TakesFront, StopsWithin, Stops, IsSpelled, EndsAs, IsSameOrMemory, open_levels, fed}
+use Rattle.der_codec.specs.declared.checks.Refusal.{Refusal}
+use Rattle.der_codec.specs.declared.checks.Refusal.TheVariants as refused
+use Rattle.der_codec.specs.declared.components.Added.TheVariants as added
+use Rattle.der_codec.specs.declared.level.Spot.{Spot}
+use Rattle.der_codec.specs.declared.level.Level.{Level}
+use Rattle.der_codec.specs.declared.checker.DerChecker.{DerChecker}
+use Rattle.der_codec.specs.declared.components.Added.{Added}
+use Rattle.der_codec.specs.declared.decoder.Decoder.{Decoder}
+use Rattle.der_codec.specs.declared.decoder.Due.{Due}
+use Rattle.der_codec.specs.declared.decoder.Due.TheVariants as due
+use Rattle.der_codec.specs.declared.decoder.Stop.{Stop}
+use Rattle.der_codec.specs.declared.decoder.Stop.TheVariants as stop
+use Rattle.der_codec.proofs.InputEnds.{goes_on, is_whole, is_spelled}
+use Rattle.der_codec.proofs.Named.{front_named}
+use Rattle.der_codec.proofs.ContentsSteps.{place_counts, kept_more, none_kept, rest_from, some_before, contents_break}
+use Rattle.der_codec.proofs.NoCuts.{contents_stay}
+use Rattle.der_codec.proofs.Nested.{ready_waits}
+
+-- ---- what is told
+
+-- what the path is for every state that is open so
+abbrev pub TellsPath : Tables → Decoder → Added → List ℕ → Type 0
+TellsPath T d added path = (s : State ℕ) → IsOpen (der_message T) (inwards d.levels.items) d.due s → IsNamed (der_message T) s → path ≡ path_of s ++ added_text (types_of T) added
+
+-- a fault with its path is one of the definitions
+fault_told : (T : Tables) (d : Decoder) (bytes : List ℕ) (rule : Rule) (place : ℕ) (added : Added) (path : List ℕ) → TellsPath T d added path → IsFault (der_message T) d bytes rule place (added_text (types_of T) added)
+    → DerFault (der_message T) bytes (record { rule = rule; place = place; path = path })
+fault_told T d bytes rule place added path tells f = record {
+  parts = f.parts;
+  state = f.state;
+  at = f.at;
+  rest = f.rest;
+  off = f.off;
+  added = added_text (types_of T) added;
+  front = f.front;
+  next = f.next;
+  place = f.place_is;
+  path = tells f.state f.is_open (front_named (der_message T) Start 0 bytes f.parts f.state f.at f.rest tt f.front);
+}
+
+pub end_told : (T : Tables) (d : Decoder) (bytes : List ℕ) (rule : Rule) (place : ℕ) (added : Added) (path : List ℕ) → TellsPath T d added path → IsStopped (der_message T) d bytes (stop.Fault rule place added)
+    → EndsAs T bytes (Refused (record { rule = rule; place = place; path = path }))
+end_told T d bytes rule place added path tells f = fault_told T d bytes rule place added path tells f
+
+pub stop_told : (T : Tables) (d : Decoder) (bytes : List ℕ) (rule : Rule) (place : ℕ) (added : Added) (path : List ℕ) → TellsPath T d added path → StopsWithin T d bytes (stop.Fault rule place added)
+    → Stops T bytes (Refused (record { rule = rule; place = place; path = path }))
+stop_told T d bytes rule place added path tells (front, behind, is, f, other) = record {
+  has_fault = λ more.
+      subst (λ z. DerFault (der_message T) z (record { rule = rule; place = place; path = path })) (sym (ap (λ z. z ++ more) is ∙ append_assoc front behind more))
+      (fault_stays (der_message T) front (behind ++ more) (record { rule = rule; place = place; path = path }) other (fault_told T d front rule place added path tells f));
+  no_cut = other;
+}
+
+-- ---- what was given has no fault but a cut
+
+over_or_not : (d : Due) → (IsOver d) ⊎ (IsOver d → ⊥)
+over_or_not (due.Tag step) = inr (λ h. h)
+over_or_not (due.Length c spot step) = inr (λ h. h)
+over_or_not (due.Contents spot left) = inr (λ h. h)
+over_or_not due.Over = inl tt
+
+pub spelled : (T : Tables) (checker : DerChecker) (bytes : List ℕ) → IsSound (der_message T) → HasFed checker T bytes → IsOver checker.decoder.due → IsSpelled T bytes
+spelled T checker bytes sound h over =
+    let d = checker.decoder in let few = h.short in
+    is_spelled (der_message T) (inwards d.levels.items) d.due d.start d.place bytes sound (omega (arith, few)) h.reading.read over
+
+pub only_cut : (T : Tables) (checker : DerChecker) (bytes : List ℕ) → IsSound (der_message T) → HasFed checker T bytes → (f : Fault) → DerFault (der_message T) bytes f → f.rule ≡ DerTruncated
+only_cut T checker bytes sound h f fault = by (over_or_not checker.decoder.due)
+  where
+    by : (IsOver checker.decoder.due) ⊎ (IsOver checker.decoder.due → ⊥) → f.rule ≡ DerTruncated
+    by (inl over) = (let v = spelled T checker bytes sound h over in let few = h.short in absurd (spelled_has_none (der_message T) sound bytes v.0 f (omega (arith, few)) v.1 fault))
+    by (inr going) = (let d = checker.decoder in goes_on (der_message T) (inwards d.levels.items) d.due d.start d.place bytes sound h.reading.read h.reading.waits going f fault)
+
+-- ---- what stops at the front of bytes
+
+pub stop_within : (T : Tables) (d : Decoder) (front behind bytes : List ℕ) (s : Stop) → bytes ≡ front ++ behind → IsStopped (der_message T) d front s → IsNoCut s → StopsWithin T d bytes s
+stop_within T d front behind bytes (stop.Fault rule place added) e f other = (front, behind, e, f, other)
+stop_within T d front behind bytes stop.Memory e f other = tt
+
+pub err_within : {A : Type 0} (T : Tables) (d : Decoder) (bytes : List ℕ) (r : Result A Stop) → IfErr r (λ s. IsStopped (der_message T) d bytes s) → IfErr r IsNoCut → IfErr r (λ s. StopsWithin T d bytes s)
+err_within T d bytes (Ok a) f other = tt
+err_within T d bytes (Err s) f other = stop_within T d bytes [] bytes s (sym (append-nil bytes)) f other
+
+-- more bytes
+pub within_more : (T : Tables) (d : Decoder) (bytes more all : List ℕ) (s : Stop) → all ≡ bytes ++ more → StopsWithin T d bytes s → StopsWithin T d all s
+within_more T d bytes more all (stop.Fault rule place added) e (front, behind, is, f, other) =
+    (front, behind ++ more, e ∙ (ap (λ z. z ++ more) is ∙ append_assoc front behind more), f, other)
+within_more T d bytes more all stop.Memory e h = tt
+
+-- ---- the reader goes on
+
+keeps_ready : (d : Due) (place : ℕ) (o : Option ℕ) (start : ℕ) (bytes kept : List ℕ) → IsReady d place o → kept ≡ [] → KeepsContents d start bytes kept
+keeps_ready (due.Tag step) place o start bytes kept h e = e
+keeps_ready (due.Length c spot step) place o start bytes kept h e = e
+keeps_ready (due.Contents spot left) place o start bytes kept h e = absurd h
+keeps_ready due.Over place o start bytes kept h e = e
+
+pub ended : {A : Type 0} (T : Tables) (d : Decoder) (kept bytes : List ℕ) (r : Result A Stop) → IfOk r (λ _. HasRead (der_message T) d bytes) → IfOk r (λ _. IsReady d.due d.place (end_of_levels d.levels.items)) → kept ≡ []
+    → IfOk r (λ _. IsReading T d kept bytes)
+ended T d kept bytes (Ok a) read ready none = record {
+  read = read;
+  waits = ready_waits d.due d.place (end_of_levels d.levels.items) ready;
+  keeps = keeps_ready d.due d.place (end_of_levels d.levels.items) d.start bytes kept ready none;
+}
+ended T d kept bytes (Err s) read ready none = tt
+
+pub keep_reading : (T : Tables) (d e : Decoder) (kept kept2 bytes front : List ℕ) (spot : Spot) (left : ℕ) → d.due ≡ due.Contents spot left → length front < left → IsReading T d kept bytes → HasRead (der_message T) e (bytes ++ front)
+    → e.due ≡ due.Contents spot (left - length front) → e.start ≡ d.start → kept2 ≡ kept ++ front → IsReading T e kept2 (bytes ++ front)
+keep_reading T d e kept kept2 bytes front spot left is more h read now start both = record {
+  read = read;
+  waits = subst (λ z. IsWaiting z e.place (end_of_levels e.levels.items)) (sym now) (omega (arith, more));
+  keeps =
+      let before : kept ≡ drop d.start bytes = subst (λ z. KeepsContents z d.start bytes kept) is h.keeps in
+      subst (λ z. KeepsContents z e.start (bytes ++ front) kept2) (sym now)
+      (both ∙ (ap (λ z. z ++ front) before ∙ (sym (kept_more (der_message T) (inwards d.levels.items) d.due d.start d.place bytes front h.read) ∙ ap (λ z. drop z (bytes ++ front)) (sym start))));
+}
+
+-- before the first byte
+pub keeps_none : (d : Due) (start : ℕ) (kept : List ℕ) → kept ≡ [] → KeepsContents d start [] kept
+keeps_none (due.Tag step) start kept e = e
+keeps_none (due.Length c spot step) start kept e = e
+keeps_none (due.Contents spot left) zero kept e = e
+keeps_none (due.Contents spot left) (suc start) kept e = e
+keeps_none due.Over start kept e = e
+
+-- contents of which none has come
+pub fresh_keeps : (T : Tables) (d : Decoder) (kept bytes : List ℕ) (spot : Spot) (left : ℕ) → d.due ≡ due.Contents spot left → d.start ≡ d.place → kept ≡ [] → HasRead (der_message T) d bytes → KeepsContents d.due d.start bytes kept
+fresh_keeps T d kept bytes spot left is begun none r =
+    subst (λ z. KeepsContents z d.start bytes kept) (sym is) (none ∙ sym (none_kept (der_message T) (inwards d.levels.items) d.due d.start d.place bytes r begun))
+
+pub fresh_reading : (T : Tables) (d : Decoder) (kept bytes : List ℕ) (spot : Spot) (left : ℕ) → d.due ≡ due.Contents spot left → 0 < left → d.start ≡ d.place → kept ≡ [] → HasRead (der_message T) d bytes → IsReading T d kept bytes
+fresh_reading T d kept bytes spot left is some begun none r = record {
+  read = r;
+  waits = subst (λ z. IsWaiting z d.place (end_of_levels d.levels.items)) (sym is) some;
+  keeps = fresh_keeps T d kept bytes spot left is begun none r;
+}
+
+-- ---- the last octets of contents
+
+kept_is : (d : Due) (spot : Spot) (left start : ℕ) (bytes kept : List ℕ) → d ≡ due.Contents spot left → KeepsContents d start bytes kept → kept ≡ drop start bytes
+kept_is d spot left start bytes kept is h = subst (λ z. KeepsContents z start bytes kept) is h
+
+-- fewer octets are kept than were given
+pub kept_short : (T : Tables) (d : Decoder) (kept bytes : List ℕ) (spot : Spot) (left : ℕ) → d.due ≡ due.Contents spot left → KeepsRead T d kept bytes → length kept < d.place
+kept_short T d kept bytes spot left is (r, keeps) =
+    let m = der_message T in
+    let xs = inwards d.levels.items in
+    let before = some_before m xs spot left d.start d.place bytes (subst (λ z. Reads m xs z d.start d.place bytes) is r) in
+    let size = ap length (kept_is d.due spot left d.start bytes kept is keeps ∙ rest_from m xs d.due d.start d.place bytes r) in
+    let at = r.start_is in let place = r.place_is in
+    omega (arith, before, size, at, place)
+
+pub last_read : (T : Tables) (d e : Decoder) (kept bytes front : List ℕ) (spot : Spot) (left : ℕ) → e ≡ d → d.due ≡ due.Contents spot left → KeepsRead T d kept bytes → HoldsContents (der_message T) spot (kept ++ front)
+    → HasRead (der_message T) e bytes × HoldsContents (der_message T) spot (drop e.start bytes ++ front)
+last_read T d e kept bytes front spot left same is (r, keeps) held = (
+  subst (λ (z : Decoder). HasRead (der_message T) z bytes) (sym same) r,
+  subst (λ (z : Decoder). HoldsContents (der_message T) spot (drop z.start bytes ++ front)) (sym same)
+      (subst (λ z. HoldsContents (der_message T) spot (z ++ front)) (kept_is d.due spot left d.start bytes kept is keeps) held),
+)
+
+rule_stays : (m : DerMessage ℕ) (xs : List Level) (spot : Spot) (left start place : ℕ) (bytes octets : List ℕ) (rule : Rule) → Reads m xs (due.Contents spot left) start place bytes → BreaksContentsAt m spot octets rule → rule ≢ DerTruncated
+rule_stays m xs spot left start place bytes octets rule r breaks = by r.state r.is_open
+  where
+    by : (s : State ℕ) → IsOpen m xs (due.Contents spot left) s → rule ≢ DerTruncated
+    by (AwaitsContents of names count ls) op = contents_stay m (structure m of) octets rule (breaks of op.0)
+    by s op = absurd op
+
+breaks_within : (T : Tables) (d : Decoder) (kept bytes front : List ℕ) (spot : Spot) (left : ℕ) (rule : Rule) → d.due ≡ due.Contents spot left → KeepsRead T d kept bytes → length front ≡ left → BreaksContentsAt (der_message T) spot (kept ++ front) rule
+    → StopsWithin T d (bytes ++ front) (stop.Fault rule d.start added.Nothing)
+breaks_within T d kept bytes front spot left rule is (r, keeps) size breaks =
+    let m = der_message T in
+    let xs = inwards d.levels.items in
+    let reads = subst (λ z. Reads m xs z d.start d.place bytes) is r in
+    let here = subst (λ z. BreaksContentsAt m spot (z ++ front) rule) (kept_is d.due spot left d.start bytes kept is keeps) breaks in (
+      bytes ++ front,
+      [],
+      sym (append-nil (bytes ++ front)),
+      subst (λ z. Fails m xs z (bytes ++ front) rule d.start []) (sym is) (contents_break m xs spot left d.start d.place bytes front rule reads size here),
+      rule_stays m xs spot left d.start d.place bytes (kept ++ front) rule reads breaks,
+    )
+
+pub refused_within : (T : Tables) (d e : Decoder) (kept bytes front : List ℕ) (spot : Spot) (left : ℕ) (refusal : Refusal) (s : Stop) → e ≡ d → d.due ≡ due.Contents spot left → KeepsRead T d kept bytes → length front ≡ left
+    → IsVerdictFor {T = Unit {0}} (der_message T) spot (kept ++ front) (Err refusal) → IsRefusedAs e.start refusal s → StopsWithin T e (bytes ++ front) s
+refused_within T d e kept bytes front spot left (refused.Breaks rule) s same is h size breaks told =
+    subst (λ z. StopsWithin T e (bytes ++ front) z) (sym told)
+    (subst (λ (z : Decoder). StopsWithin T z (bytes ++ front) (stop.Fault rule z.start added.Nothing)) (sym same) (breaks_within T d kept bytes front spot left rule is h size breaks))
+refused_within T d e kept bytes front spot left refused.Memory s same is h size breaks told = subst (λ z. StopsWithin T e (bytes ++ front) z) (sym told) tt
+
+-- ---- the front of a piece
+
+few : (n : ℕ) (xs : List ℕ) → length (take n xs) ≤ length xs
+few zero xs = omega arith
+few (suc n) [] = omega arith
+few (suc n) (x ∷ xs) = (let rest = few n xs in omega arith)
+
+pub fed_is : (T : Tables) (checker : DerChecker) (bytes : List ℕ) → HasFed checker T bytes → fed checker ≡ length bytes
+fed_is T checker bytes h = (let d = checker.decoder in place_counts (der_message T) (inwards d.levels.items) d.due d.start d.place bytes h.reading.read)
+
+pub taken_front : (T : Tables) (old new : DerChecker) (piece front : List ℕ) (n : ℕ) → front ≡ take n piece → n ≤ length piece → fed old + length piece ≤ 2 ^ 40 → new.failed ≡ old.failed
+    → ((bytes : List ℕ) → HasFed old T bytes → IsReading T new.decoder new.kept.items (bytes ++ front)) → TakesFront T old new piece (Ok n)
+taken_front T old new piece front n is within room same go = record {
+  ok = λ bytes h. record {
+    reading = subst (λ z. IsReading T new.decoder new.kept.items (bytes ++ z)) is (go bytes h);
+    short = (let sum = length-append bytes (take n piece) in let part = few n piece in let size = fed_is T old bytes h in omega (arith, sum, part, size, room));
+    sound = same ∙ h.sound;
+  };
+  err = λ bytes h. tt;
+  within = within;
+}
+
+pub stopped_front : (T : Tables) (old new : DerChecker) (piece front behind : List ℕ) (s : Stop) → piece ≡ front ++ behind → ((bytes : List ℕ) → HasFed old T bytes → StopsWithin T new.decoder (bytes ++ front) s) → TakesFront T old new piece (Err s)
+stopped_front T old new piece front behind s is stops = record {
+  ok = λ bytes h. tt;
+  err = λ bytes h. within_more T new.decoder (bytes ++ front) behind (bytes ++ piece) s (ap (λ z. bytes ++ z) is ∙ sym (append_assoc bytes front behind)) (stops bytes h);
+  within = tt;
+}
+
+pub over_front : (T : Tables) (old new : DerChecker) (piece : List ℕ) (s : Stop) → 0 < length piece → new.decoder ≡ old.decoder → ((bytes : List ℕ) (octet : ℕ) → HasRead (der_message T) old.decoder bytes → IsStopped (der_message T) old.decoder (bytes ++ octet ∷ []) s) → IsNoCut s
+    → TakesFront T old new piece (Err s)
+over_front T old new [] s some same stops other = absurd (omega (arith, some))
+over_front T old new (x ∷ xs) s some same stops other =
+    stopped_front T old new (x ∷ xs) (x ∷ []) xs s refl
+    (λ bytes h. subst (λ (z : Decoder). StopsWithin T z (bytes ++ x ∷ []) s) (sym same) (stop_within T old.decoder (bytes ++ x ∷ []) [] (bytes ++ x ∷ []) s (sym (append-nil (bytes ++ x ∷ []))) (stops bytes x h.reading.read) other))
+
+pub nothing_left : (xs : List ℕ) → length xs ≡ 0 → xs ≡ []
+nothing_left [] e = refl
+nothing_left (x ∷ xs) e = absurd (omega arith)
+
+pub joined : (n : ℕ) (xs : List ℕ) → xs ≡ take n xs ++ drop n xs
+joined zero xs = refl
+joined (suc n) [] = refl
+joined (suc n) (x ∷ xs) = ap (λ z. x ∷ z) (joined n xs)
+
+-- ---- a whole piece
+
+-- these bytes and a front of the piece were given, and the rest is left
+pub record GivenSoFar (T : Tables) (checker : DerChecker) (bytes piece rest : List ℕ) : Type 0 where
+  pub seen : List ℕ
+  pub piece_is : piece ≡ seen ++ rest
+  pub fed_are : HasFed checker T (bytes ++ seen)
+
+pub none_given : (T : Tables) (checker : DerChecker) (bytes piece : List ℕ) → HasFed checker T bytes → GivenSoFar T checker bytes piece piece
+none_given T checker bytes piece h = record { seen = []; piece_is = refl; fed_are = subst (HasFed checker T) (sym (append-nil bytes)) h }
+
+pub all_given : (T : Tables) (checker : DerChecker) (bytes piece : List ℕ) → GivenSoFar T checker bytes piece [] → HasFed checker T (bytes ++ piece)
+all_given T checker bytes piece s = subst (λ z. HasFed checker T (bytes ++ z)) (sym (s.piece_is ∙ append-nil s.seen)) s.fed_are
+
+pub more_given : (T : Tables) (old new : DerChecker) (bytes piece rest behind : List ℕ) (n : ℕ) (s : GivenSoFar T old bytes piece rest) → rest ≡ take n rest ++ behind → HasFed new T ((bytes ++ s.seen) ++ take n rest) → GivenSoFar T new bytes piece behind
+more_given T old new bytes piece rest behind n s is h = record {
+  seen = s.seen ++ take n rest;
+  piece_is = s.piece_is ∙ (ap (λ z. s.seen ++ z) is ∙ sym (append_assoc s.seen (take n rest) behind));
+  fed_are = subst (HasFed new T) (append_assoc bytes s.seen (take n rest)) h;
+}
+
+pub stops_given : (T : Tables) (old : DerChecker) (d : Decoder) (bytes piece rest : List ℕ) (s : Stop) (g : GivenSoFar T old bytes piece rest) → StopsWithin T d ((bytes ++ g.seen) ++ rest) s → StopsWithin T d (bytes ++ piece) s
+stops_given T old d bytes piece rest s g h = subst (λ z. StopsWithin T d z s) (append_assoc bytes g.seen rest ∙ ap (λ z. bytes ++ z) (sym g.piece_is)) h
+
+pub room_left : (T : Tables) (first checker : DerChecker) (bytes piece rest : List ℕ) → HasFed first T bytes → fed first + length piece ≤ 2 ^ 40 → GivenSoFar T checker bytes piece rest → fed checker + length rest ≤ 2 ^ 40
+room_left T first checker bytes piece rest h room g =
+    let a = fed_is T first bytes h in let b = fed_is T checker (bytes ++ g.seen) g.fed_are in let c = length-append bytes g.seen in let d = ap length g.piece_is in let e = length-append g.seen rest in
+    omega (arith, a, b, c, d, e, room)
+
+pub count_is : (T : Tables) (old new : DerChecker) (bytes piece : List ℕ) → HasFed old T bytes → HasFed new T (bytes ++ piece) → fed new ≡ fed old + length piece
+count_is T old new bytes piece h k =
+    let a = fed_is T old bytes h in let b = fed_is T new (bytes ++ piece) k in let c = length-append bytes piece in omega (arith, a, b, c)
+
+pub stops_same : (T : Tables) (bytes : List ℕ) (e told : InstanceError) → IsSameOrMemory e told → Stops T bytes e → Stops T bytes told
+stops_same T bytes e told (inl same) h = subst (Stops T bytes) (sym same) h
+stops_same T bytes e told (inr none) h = subst (Stops T bytes) (sym none) tt
+
+-- ---- how deep it is
+
+same_length : (types : Graph ℕ Simple) (xs : List Level) (ls : List (states.Level ℕ)) → AreLevels types xs ls → length xs ≡ length ls
+same_length types [] [] are = refl
+same_length types (x ∷ xs) (l ∷ ls) are = ap suc (same_length types xs ls are.1)
+same_length types [] (l ∷ ls) are = absurd are
+same_length types (x ∷ xs) [] are = absurd are
+
+inwards_length : (xs : List Level) → length (inwards xs) ≡ length xs
+inwards_length [] = refl
+inwards_length (x ∷ xs) = (let sum = length-append (inwards xs) (x ∷ []) in let rest = inwards_length xs in omega (arith, sum, rest))
+
+open_length : (m : DerMessage ℕ) (xs : List Level) (d : Due) (s : State ℕ) → IsOpen m xs d s → length xs ≡ length (open_levels s)
+open_length m xs (due.Tag step) Start op = ap length op
+open_length m xs (due.Tag step) (Within (l ∷ ls)) op = same_length m.forms xs (l ∷ ls) op
+open_length m xs (due.Length c spot step) (AwaitsLength b of names ls) op = same_length m.forms xs ls op.2
+open_length m xs (due.Contents spot left) (AwaitsContents of names count ls) op = same_length m.forms xs ls op.1
+open_length m xs due.Over (Within []) op = ap length op
+open_length m xs d s op = absurd op
+
+pub depth_is : (T : Tables) (checker : DerChecker) (bytes : List ℕ) (h : HasFed checker T bytes) → length checker.decoder.levels.items ≡ length (open_levels h.reading.read.state)
+depth_is T checker bytes h =
+    let d = checker.decoder in
+    sym (inwards_length d.levels.items) ∙ open_length (der_message T) (inwards d.levels.items) d.due h.reading.read.state h.reading.read.is_open

@@ -1,0 +1,14 @@
+use Rattle.std.proofs.Common.{rules, ◌≡◌, ◌++◌, None}
+use Rattle.der_codec.specs.Checking.{failed}
+use Rattle.der_codec.proofs.Fed.{count_is, stops_same}
+use Rattle.der_codec.proofs.checker.DerChecker.feed.Goals as goal
+
+pub returns-in-Ok-feed_all-clause-count : goal.returns-in-Ok-feed_all-clause-count
+returns-in-Ok-feed_all-clause-count c =
+    let none : failed c.args.self.now ≡ None = search rules in
+    let g = c.requires.made.given none in
+    count_is c.args.model.now c.args.self.now c.feed_all.new.self g.0 c.args.piece.now g.1 (c.in-Ok-feed_all.ensures.ok g.0 g.1)
+
+pub returns-in-Err-feed_all-clause-err : goal.returns-in-Err-feed_all-clause-err
+returns-in-Err-feed_all-clause-err c = λ bytes h.
+    stops_same c.args.model.now (bytes ++ c.args.piece.now) c.told-error.result c.stop.result c.stop.ensures.same (c.told-error.ensures.within (bytes ++ c.args.piece.now) (c.in-Err-feed_all.ensures.err bytes h))

@@ -1,0 +1,31 @@
+use Rattle.std.proofs.Common.{rules, ◌≡◌, ◌++◌, ◌∙◌, sym, ap, take, subst}
+use Rattle.der_codec.proofs.Fed.{GivenSoFar, none_given, all_given, more_given, stops_given, room_left, joined, nothing_left}
+use Rattle.der_codec.proofs.checker.DerChecker.feed_all.Goals as goal
+
+pub loop-rest-init : goal.loop-rest-init
+loop-rest-init c = (c.requires.checks, λ bytes h. none_given c.args.model.now c.args.self.now bytes c.args.piece.now h)
+
+pub take_front-requires-clause-room : goal.take_front-requires-clause-room
+take_front-requires-clause-room c =
+    let g = c.requires.given in
+    room_left c.args.model.now c.args.self.now c.loop-rest.self g.0 c.args.piece.now c.loop-rest.rest.now g.1 c.requires.room (c.loop-rest.invariant.1 g.0 g.1)
+
+pub loop-rest-preserved : goal.loop-rest-preserved
+loop-rest-preserved c = (
+  c.take_front.ensures.checks,
+  λ bytes h.
+      let s = c.loop-rest.invariant.1 bytes h in
+      let rest = c.loop-rest.rest.now in
+      let whole : rest ≡ take c.in-Ok.count rest ++ c.split_at.result.1.now = joined c.in-Ok.count rest ∙ ap (λ z. take c.in-Ok.count rest ++ z) (sym c.split_at.ensures.back) in
+      more_given c.args.model.now c.loop-rest.self c.take_front.new.self bytes c.args.piece.now rest c.split_at.result.1.now c.in-Ok.count s whole (c.in-Ok.ensures.front.ok (bytes ++ s.seen) s.fed_are),
+)
+
+pub returns-in-Err-clause-err : goal.returns-in-Err-clause-err
+returns-in-Err-clause-err c = λ bytes h.
+    let s = c.loop-rest.invariant.1 bytes h in
+    stops_given c.args.model.now c.loop-rest.self c.take_front.new.self.decoder bytes c.args.piece.now c.loop-rest.rest.now c.in-Err.stop s (c.in-Err.ensures.front.err (bytes ++ s.seen) s.fed_are)
+
+pub returns-clause-ok : goal.returns-clause-ok
+returns-clause-ok c = λ bytes h.
+    let none = nothing_left c.loop-rest.rest.now (search rules) in
+    all_given c.args.model.now c.loop-rest.self bytes c.args.piece.now (subst (GivenSoFar c.args.model.now c.loop-rest.self bytes c.args.piece.now) none (c.loop-rest.invariant.1 bytes h))

@@ -1,0 +1,21 @@
+use Rattle.std.proofs.Common.{◌≡◌, ◌++◌, ◌∙◌, sym, ap, take}
+use Rattle.der_codec.proofs.Fed.{taken_front, stopped_front, joined}
+use Rattle.der_codec.proofs.checker.DerChecker.take_contents.Goals as goal
+
+pub returns-in-Ok-clause-front : goal.returns-in-Ok-clause-front
+returns-in-Ok-clause-front c =
+    taken_front c.args.model.now c.args.self.now c.keep.new.self c.args.piece.now c.split_at.result.0.now c.fewer-count.result c.split_at.ensures.front c.fewer-count.ensures.have c.requires.room c.keep.ensures.sound
+    (λ bytes h. c.in-Ok.ensures.ok c.args.model.now bytes h.reading)
+
+pub returns-in-Ok-take_last-clause-front : goal.returns-in-Ok-take_last-clause-front
+returns-in-Ok-take_last-clause-front c =
+    taken_front c.args.model.now c.args.self.now c.take_last.new.self c.args.piece.now c.split_at.result.0.now c.fewer-count.result c.split_at.ensures.front c.fewer-count.ensures.have c.requires.room c.take_last.ensures.sound
+    (λ bytes h. c.in-Ok-take_last.ensures.ok bytes (h.reading.read, h.reading.keeps))
+
+pub returns-in-Err-take_last-clause-front : goal.returns-in-Err-take_last-clause-front
+returns-in-Err-take_last-clause-front c =
+    let front = c.split_at.result.0.now in
+    let behind = c.split_at.result.1.now in
+    let whole : c.args.piece.now ≡ front ++ behind = joined c.fewer-count.result c.args.piece.now ∙ (ap (λ z. take c.fewer-count.result c.args.piece.now ++ z) (sym c.split_at.ensures.back) ∙ ap (λ z. z ++ behind) (sym c.split_at.ensures.front)) in
+    stopped_front c.args.model.now c.args.self.now c.take_last.new.self c.args.piece.now front behind c.in-Err-take_last.stop whole
+    (λ bytes h. c.in-Err-take_last.ensures.err bytes (h.reading.read, h.reading.keeps))

@@ -1,0 +1,6 @@
+use Rattle.std.proofs.Common.{rules}
+use Rattle.der_codec.proofs.KeptChecks.{taken_at}
+use Rattle.der_codec.proofs.checks.Checks.take.Goals as goal
+
+pub returns-then-at-len-clause-made : goal.returns-then-at-len-clause-made
+returns-then-at-len-clause-made c types h = taken_at types c.args.self.now.entries.items c.args.number c.take.result h (search rules) (search rules)

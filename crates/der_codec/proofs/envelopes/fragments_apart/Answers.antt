@@ -1,0 +1,4 @@
+use Rattle.der_codec.proofs.envelopes.fragments_apart.Goals as goal
+
+pub returns : goal.returns
+returns c = c.one_tree.ensures

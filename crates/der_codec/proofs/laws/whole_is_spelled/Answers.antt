@@ -1,5 +1,0 @@
-use Rattle.der_codec.proofs.laws.whole_is_spelled.Goals as goal
-use Rattle.der_codec.proofs.Answered as answered
-
-pub returns : goal.returns
-returns c = answered.whole_is_spelled

@@ -1,0 +1,7 @@
+use Rattle.std.proofs.Common.{◌≡◌, take}
+use Rattle.std.specs.Int.Digits.{number_from_digits}
+use Rattle.base64.specs.GeneralPurpose.{IsBytes}
+use Rattle.der_codec.proofs.leaves.value_of.Given as goal
+
+abbrev pub invariant-loop-digit : goal.invariant-loop-digit
+invariant-loop-digit l = (l.number ≡ number_from_digits 256 (take l.digit-index l.digits)) × IsBytes l.digits

@@ -1,0 +1,112 @@
+-- What a checker of DER was given, and what it answers.
+use Rattle.std.specs.Prelude.{◌≡◌, ◌≢◌, ◌⊎◌, ℕ, ◌≤◌, ◌^◌, List, [], ◌++◌, length, take, drop, IfOk, IfErr, Option, Some, None, Result, Ok, Err}
+use Rattle.lexical_core.specs.declared.rule.Rule.TheVariants.{DerTruncated}
+use Rattle.data_types.specs.Value.{Value}
+use Rattle.message_model.specs.Tables.{Tables, types_of}
+use Rattle.message_model.specs.declared.fault.Fault.{Fault as Told}
+use Rattle.message_model.specs.declared.fault.InstanceError.{InstanceError}
+use Rattle.message_model.specs.declared.fault.InstanceError.TheVariants.{Refused, Memory}
+use Rattle.der_model.specs.DerMessage.{der_message}
+use Rattle.der_model.specs.Der.{SpellsDer}
+use Rattle.der_model.specs.Faults.{Fault, DerFault}
+use Rattle.der_model.specs.States as states
+use Rattle.der_model.specs.States.{State, Start, AwaitsLength, AwaitsContents, Within}
+use Rattle.der_codec.specs.Checked.{CheckTypes}
+use Rattle.der_codec.specs.Components.{added_text}
+use Rattle.der_codec.specs.Decoding.{HasRead, IsFault, IsWaiting, end_of_levels}
+use Rattle.der_codec.specs.declared.decoder.Decoder.{Decoder}
+use Rattle.der_codec.specs.declared.decoder.Due.{Due}
+use Rattle.der_codec.specs.declared.decoder.Due.TheVariants as due
+use Rattle.der_codec.specs.declared.decoder.Stop.{Stop}
+use Rattle.der_codec.specs.declared.decoder.Stop.TheVariants as stop
+use Rattle.der_codec.specs.declared.checker.DerChecker.{DerChecker}
+
+-- of contents that are due those octets are kept that have come
+abbrev pub KeepsContents : Due → ℕ → List ℕ → List ℕ → Type 0
+KeepsContents (due.Contents spot left) start bytes kept = kept ≡ drop start bytes
+KeepsContents d start bytes kept = kept ≡ []
+
+-- no contents are due
+abbrev pub IsNoContents : Due → Type 0
+IsNoContents (due.Contents spot left) = ⊥
+IsNoContents d = Unit {0}
+
+-- the reader was given these bytes, and keeps what has come of contents
+abbrev pub KeepsRead : Tables → Decoder → List ℕ → List ℕ → Type 0
+KeepsRead T d kept bytes = HasRead (der_message T) d bytes × KeepsContents d.due d.start bytes kept
+
+-- The reader goes on: it was given these bytes, which break nothing so far.
+pub record IsReading (T : Tables) (d : Decoder) (kept bytes : List ℕ) : Type 0 where
+  pub read : HasRead (der_message T) d bytes
+  pub waits : IsWaiting d.due d.place (end_of_levels d.levels.items)
+  pub keeps : KeepsContents d.due d.start bytes kept
+
+-- the checker goes on: it was given these bytes, 2^40 at most, which break nothing so far
+pub record HasFed (checker : DerChecker) (T : Tables) (bytes : List ℕ) : Type 0 where
+  pub reading : IsReading T checker.decoder checker.kept.items bytes
+  pub short : length bytes ≤ 2 ^ 40
+  pub sound : checker.failed ≡ None
+
+-- how many bytes the checker was given
+abbrev pub fed : DerChecker → ℕ
+fed checker = checker.decoder.place
+
+-- the answer that it gives for good, where there is one
+abbrev pub failed : DerChecker → Option InstanceError
+failed checker = checker.failed
+
+-- the checker was made for the message of these tables, and was given no bytes that it refused without saying so
+pub record IsMadeFor (checker : DerChecker) (T : Tables) : Type 0 where
+  pub checks : CheckTypes (types_of T) checker.checks
+  pub given : failed checker ≡ None → (bytes : List ℕ) × HasFed checker T bytes
+
+-- the constructed values that are open
+abbrev pub open_levels : {P : Type 0} → State P → List (states.Level P)
+open_levels Start = []
+open_levels (AwaitsLength constructed spot names around) = around
+open_levels (AwaitsContents spot names count around) = around
+open_levels (Within levels) = levels
+
+-- the error itself, or that there is no memory for it
+abbrev pub IsSameOrMemory : InstanceError → InstanceError → Type 0
+IsSameOrMemory e told = (told ≡ e) ⊎ (told ≡ Memory)
+
+-- the answer is the error again, or that there is no memory for it
+abbrev pub IsAgain : {A : Type 0} → InstanceError → Result A InstanceError → Type 0
+IsAgain e (Ok x) = ⊥
+IsAgain e (Err told) = IsSameOrMemory e told
+
+-- a fault that is told, as one of the definitions
+abbrev pub fault_of : Told → Fault
+fault_of f = record { rule = f.rule; place = f.place; path = f.path }
+
+-- The bytes have this first fault, whatever follows them, and it is not that they end too early.
+pub record Shows (T : Tables) (bytes : List ℕ) (fault : Told) : Type 0 where
+  pub has_fault : (behind : List ℕ) → DerFault (der_message T) (bytes ++ behind) (fault_of fault)
+  pub no_cut : fault.rule ≢ DerTruncated
+
+-- why a checker does not go on
+abbrev pub Stops : Tables → List ℕ → InstanceError → Type 0
+Stops T bytes (Refused fault) = Shows T bytes fault
+Stops T bytes Memory = Unit {0}
+
+-- why a reader stops at the front of these bytes
+abbrev pub StopsWithin : Tables → Decoder → List ℕ → Stop → Type 0
+StopsWithin T d bytes (stop.Fault rule place added) =
+    (front behind : List ℕ) × (bytes ≡ front ++ behind) × IsFault (der_message T) d front rule place (added_text (types_of T) added) × (rule ≢ DerTruncated)
+StopsWithin T d bytes stop.Memory = Unit {0}
+
+-- A front of the piece is taken, of so many bytes.
+pub record TakesFront (T : Tables) (old new : DerChecker) (piece : List ℕ) (result : Result ℕ Stop) : Type 0 where
+  pub ok : (bytes : List ℕ) → HasFed old T bytes → IfOk result (λ n. HasFed new T (bytes ++ take n piece))
+  pub err : (bytes : List ℕ) → HasFed old T bytes → IfErr result (λ stop. StopsWithin T new.decoder (bytes ++ piece) stop)
+  pub within : IfOk result (λ n. n ≤ length piece)
+
+-- the bytes spell an instance
+abbrev pub IsSpelled : Tables → List ℕ → Type 0
+IsSpelled T bytes = (v : Value) × SpellsDer (der_message T) bytes v
+
+-- why the bytes are refused at their end
+abbrev pub EndsAs : Tables → List ℕ → InstanceError → Type 0
+EndsAs T bytes (Refused fault) = DerFault (der_message T) bytes (fault_of fault)
+EndsAs T bytes Memory = Unit {0}

@@ -1,0 +1,377 @@
+// A checker of the DER of instances that takes their bytes in pieces.
+ghost use Rattle.std.specs.Prelude.{◌≡◌, ◌<◌, ◌+◌, ◌≤◌, ◌^◌, ◌++◌, ◌⊎◌, ℕ, List, [], IfOk, IfErr, Some, None, Err, length};
+ghost use Rattle.message_model.specs.Tables.{Tables, types_of};
+ghost use Rattle.der_model.specs.DerMessage.{der_message};
+ghost use Rattle.der_codec.specs.Checked.{CheckTypes};
+ghost use Rattle.der_codec.specs.Decoding.{HasRead, IsStopped, IsSettled, BeginsContents, IsHeaderDue, end_of_levels};
+ghost use Rattle.der_codec.specs.Judging.{IsVerdictFor};
+ghost use Rattle.der_codec.specs.Checking.{HasFed, IsReading, IsNoContents, KeepsRead, IsMadeFor, StopsWithin, TakesFront, Stops, IsSpelled, EndsAs, IsSameOrMemory, IsAgain, open_levels, fed, failed};
+
+use crate::checks::{Checks, Refusal};
+use crate::contents::verdict;
+use crate::decoder::{Decoder, Due, Stop};
+use crate::envelopes::fragments_apart;
+use crate::level::Spot;
+use message_model::{Fault, InstanceError, Model};
+use std::alloc::{AllocError, Global};
+
+/// A checker of an instance. It keeps the open values and the contents octets of a leaf that are not whole, and
+/// nothing of what is closed.
+#[derive(Drop)]
+pub struct DerChecker {
+    alloc: Global,
+    decoder: Decoder,
+    /// The contents octets that have come, where more of them are due.
+    kept: Vec<u8>,
+    checks: Checks,
+    /// The answer that it gives for good, where there is one.
+    failed: Option<InstanceError>,
+}
+
+/// An equal error, in memory of its own.
+fn copy_of(alloc: Global, error: &InstanceError) -> Result<InstanceError, AllocError>
+    ensures { IfOk result (λ e. e ≡ error.now) }
+{
+    match error {
+        InstanceError::Refused(fault) => Ok(InstanceError::Refused(Fault {
+            rule: fault.rule,
+            place: fault.place,
+            path: fault.path.copy(alloc)?,
+        })),
+        InstanceError::Memory => Ok(InstanceError::Memory),
+    }
+}
+
+/// The lesser of two counts.
+fn fewer(have: usize, left: u64) -> usize
+    ensures have { result ≤ have }
+    ensures left { result ≤ left }
+    ensures one { (result ≡ have) ⊎ (result ≡ left) }
+{
+    if have as u64 <= left {
+        return have;
+    }
+    left as usize
+}
+
+impl DerChecker {
+    /// A checker for the message before the first byte. It takes no memory.
+    pub fn new(alloc: Global, model: &Model) -> Result<DerChecker, AllocError>
+        ensures fed { IfOk result (λ c. HasFed c model.now []) }
+        ensures made { IfOk result (λ c. IsMadeFor c model.now) }
+        ensures none { IfOk result (λ c. fed c ≡ 0) }
+    {
+        let _ = model;
+        Ok(DerChecker {
+            alloc,
+            decoder: Decoder::new(alloc),
+            kept: Vec::new(alloc),
+            checks: Checks::new(alloc),
+            failed: None,
+        })
+    }
+
+    /// How many constructed values are open.
+    pub fn depth(&self) -> usize
+        ensures { (T : Tables) (bytes : List ℕ) (h : HasFed self.now T bytes) → result ≡ length (open_levels h.reading.read.state) }
+    {
+        self.decoder.depth()
+    }
+
+    /// Takes the next bytes, of at most 2^40 in all. It answers the first fault at the byte that
+    /// shows it, its place a byte number from 0. After an error it gives the same answer to every
+    /// later call, or that there is no memory for it.
+    pub fn feed(&mut self, model: &Model, piece: &[u8]) -> Result<(), InstanceError>
+        requires room { failed self.old ≡ None → fed self.old + length piece.now ≤ 2 ^ 40 }
+        requires made { IsMadeFor self.old model.now }
+        ensures made { IsMadeFor self.new model.now }
+        ensures ok { (bytes : List ℕ) → HasFed self.old model.now bytes → IfOk result (λ _. HasFed self.new model.now (bytes ++ piece.now)) }
+        ensures err { (bytes : List ℕ) → HasFed self.old model.now bytes → IfErr result (λ e. Stops model.now (bytes ++ piece.now) e) }
+        ensures count { IfOk result (λ _. fed self.new ≡ fed self.old + length piece.now) }
+        ensures failed { failed self.old ≡ None → IfErr result (λ e. failed self.new ≡ Some e) }
+        ensures again { (e : InstanceError) → failed self.old ≡ Some e → IsAgain e result × (failed self.new ≡ failed self.old) }
+    {
+        if let Some(error) = &self.failed {
+            return Err(match copy_of(self.alloc, error) {
+                Ok(error) => error,
+                Err(_) => InstanceError::Memory,
+            });
+        }
+        match self.feed_all(model, piece) {
+            Ok(()) => Ok(()),
+            Err(stop) => {
+                let error = self.told(model, stop);
+                Err(self.stop(error))
+            }
+        }
+    }
+
+    /// Goes on no more, and keeps why; where there is no memory for that, the error is that.
+    fn stop(&mut self, error: InstanceError) -> InstanceError
+        ensures same { IsSameOrMemory error result }
+        ensures kept { failed self.new ≡ Some result }
+        ensures checks { self.new.checks ≡ self.old.checks }
+    {
+        match copy_of(self.alloc, &error) {
+            Ok(copy) => {
+                self.failed = Some(copy);
+                error
+            }
+            Err(_) => {
+                self.failed = Some(InstanceError::Memory);
+                InstanceError::Memory
+            }
+        }
+    }
+
+    /// Why the reader stops, as it is told.
+    fn told(&self, model: &Model, stop: Stop) -> InstanceError
+        ensures within { (bytes : List ℕ) → StopsWithin model.now self.now.decoder bytes stop → Stops model.now bytes result }
+        ensures end { (bytes : List ℕ) → IsStopped (der_message model.now) self.now.decoder bytes stop → EndsAs model.now bytes result }
+    {
+        match stop {
+            Stop::Memory => InstanceError::Memory,
+            Stop::Fault { rule, place, added } => {
+                match self.decoder.path(self.alloc, model, added) {
+                    Ok(path) => InstanceError::Refused(Fault { rule, place, path }),
+                    Err(_) => InstanceError::Memory,
+                }
+            }
+        }
+    }
+
+    /// Takes the next bytes, where nothing was refused.
+    fn feed_all(&mut self, model: &Model, piece: &[u8]) -> Result<(), Stop>
+        requires room { fed self.old + length piece.now ≤ 2 ^ 40 }
+        requires checks { CheckTypes (types_of model.now) self.old.checks }
+        requires given { (bytes : List ℕ) × HasFed self.old model.now bytes }
+        ensures checks { CheckTypes (types_of model.now) self.new.checks }
+        ensures ok { (bytes : List ℕ) → HasFed self.old model.now bytes → IfOk result (λ _. HasFed self.new model.now (bytes ++ piece.now)) }
+        ensures err { (bytes : List ℕ) → HasFed self.old model.now bytes → IfErr result (λ stop. StopsWithin model.now self.new.decoder (bytes ++ piece.now) stop) }
+    {
+        let mut rest = piece;
+        while !rest.is_empty() {
+            match self.take_front(model, rest) {
+                Ok(count) => {
+                    let (_, behind) = rest.split_at(count);
+                    rest = behind;
+                }
+                Err(stop) => return Err(stop),
+            }
+        }
+        Ok(())
+    }
+
+    /// Takes contents octets, or else a byte from the front of the piece, and answers how many bytes that are.
+    fn take_front(&mut self, model: &Model, piece: &[u8]) -> Result<usize, Stop>
+        requires some { 0 < length piece.now }
+        requires room { fed self.old + length piece.now ≤ 2 ^ 40 }
+        requires checks { CheckTypes (types_of model.now) self.old.checks }
+        requires given { (bytes : List ℕ) × HasFed self.old model.now bytes }
+        ensures checks { CheckTypes (types_of model.now) self.new.checks }
+        ensures front { TakesFront model.now self.old self.new piece.now result }
+        ensures some { IfOk result (λ n. 0 < n) }
+    {
+        match self.decoder.due {
+            Due::Over => Err(self.decoder.trailing()),
+            Due::Contents { spot, left } => self.take_contents(model, spot, left, piece),
+            _ => self.take_first(model, piece),
+        }
+    }
+
+    /// Takes the first byte of the piece, which is one of a header, and ends the values that end behind it.
+    fn take_first(&mut self, model: &Model, piece: &[u8]) -> Result<usize, Stop>
+        requires some { 0 < length piece.now }
+        requires room { fed self.old + length piece.now ≤ 2 ^ 40 }
+        requires due { IsHeaderDue self.old.decoder.due }
+        requires checks { CheckTypes (types_of model.now) self.old.checks }
+        requires given { (bytes : List ℕ) × HasFed self.old model.now bytes }
+        ensures checks { CheckTypes (types_of model.now) self.new.checks }
+        ensures front { TakesFront model.now self.old self.new piece.now result }
+        ensures some { IfOk result (λ n. 0 < n) }
+    {
+        let Some((byte, _behind)) = piece.split_first() else {
+            return Ok(0);
+        };
+        match self.decoder.take_header(model, *byte) {
+            Ok(()) => match self.settle(model) {
+                Ok(()) => Ok(1),
+                Err(stop) => Err(stop),
+            },
+            Err(stop) => Err(stop),
+        }
+    }
+
+    /// Judges contents of no octets, and ends the values that end here.
+    fn settle(&mut self, model: &Model) -> Result<(), Stop>
+        requires settled { IsSettled self.old.decoder.due self.old.decoder.place (end_of_levels self.old.decoder.levels.items) }
+        requires begun { BeginsContents self.old.decoder.due self.old.decoder.start self.old.decoder.place }
+        requires kept { self.old.kept.items ≡ [] }
+        requires checks { CheckTypes (types_of model.now) self.old.checks }
+        requires room { fed self.old ≤ 2 ^ 40 }
+        requires given { (bytes : List ℕ) × HasRead (der_message model.now) self.old.decoder bytes }
+        ensures checks { CheckTypes (types_of model.now) self.new.checks }
+        ensures sound { self.new.failed ≡ self.old.failed }
+        ensures ok { (bytes : List ℕ) → HasRead (der_message model.now) self.old.decoder bytes → IfOk result (λ _. IsReading model.now self.new.decoder self.new.kept.items bytes) }
+        ensures err { (bytes : List ℕ) → HasRead (der_message model.now) self.old.decoder bytes → IfErr result (λ stop. StopsWithin model.now self.new.decoder bytes stop) }
+    {
+        match self.decoder.due {
+            Due::Contents { spot, left } => self.begin_contents(model, spot, left),
+            _ => self.end_open(model),
+        }
+    }
+
+    /// Judges contents of no octets.
+    fn begin_contents(&mut self, model: &Model, spot: Spot, left: u64) -> Result<(), Stop>
+        requires due { self.old.decoder.due ≡ Due.Contents spot left }
+        requires begun { self.old.decoder.start ≡ self.old.decoder.place }
+        requires kept { self.old.kept.items ≡ [] }
+        requires checks { CheckTypes (types_of model.now) self.old.checks }
+        requires room { fed self.old ≤ 2 ^ 40 }
+        requires given { (bytes : List ℕ) × HasRead (der_message model.now) self.old.decoder bytes }
+        ensures checks { CheckTypes (types_of model.now) self.new.checks }
+        ensures sound { self.new.failed ≡ self.old.failed }
+        ensures ok { (bytes : List ℕ) → HasRead (der_message model.now) self.old.decoder bytes → IfOk result (λ _. IsReading model.now self.new.decoder self.new.kept.items bytes) }
+        ensures err { (bytes : List ℕ) → HasRead (der_message model.now) self.old.decoder bytes → IfErr result (λ stop. StopsWithin model.now self.new.decoder bytes stop) }
+    {
+        if left > 0 {
+            return Ok(());
+        }
+        self.take_last(model, spot, left, &[])
+    }
+
+    /// Ends the values that end here, where no identifier octet has come.
+    fn end_open(&mut self, model: &Model) -> Result<(), Stop>
+        requires settled { IsSettled self.old.decoder.due self.old.decoder.place (end_of_levels self.old.decoder.levels.items) }
+        requires header { IsNoContents self.old.decoder.due }
+        requires kept { self.old.kept.items ≡ [] }
+        ensures checks { self.new.checks ≡ self.old.checks }
+        ensures sound { self.new.failed ≡ self.old.failed }
+        ensures ok { (bytes : List ℕ) → HasRead (der_message model.now) self.old.decoder bytes → IfOk result (λ _. IsReading model.now self.new.decoder self.new.kept.items bytes) }
+        ensures err { (bytes : List ℕ) → HasRead (der_message model.now) self.old.decoder bytes → IfErr result (λ stop. StopsWithin model.now self.new.decoder bytes stop) }
+    {
+        if self.decoder.is_fresh() {
+            return self.decoder.end_all(model);
+        }
+        Ok(())
+    }
+
+    /// Takes as many contents octets as are due and the piece has, and answers how many bytes that are.
+    fn take_contents(
+        &mut self,
+        model: &Model,
+        spot: Spot,
+        left: u64,
+        piece: &[u8],
+    ) -> Result<usize, Stop>
+        requires some { 0 < length piece.now }
+        requires room { fed self.old + length piece.now ≤ 2 ^ 40 }
+        requires due { self.old.decoder.due ≡ Due.Contents spot left }
+        requires checks { CheckTypes (types_of model.now) self.old.checks }
+        requires given { (bytes : List ℕ) × HasFed self.old model.now bytes }
+        ensures checks { CheckTypes (types_of model.now) self.new.checks }
+        ensures front { TakesFront model.now self.old self.new piece.now result }
+        ensures some { IfOk result (λ n. 0 < n) }
+    {
+        let count = fewer(piece.len(), left);
+        let (front, _behind) = piece.split_at(count);
+        if (count as u64) < left {
+            return match self.keep(spot, left, front) {
+                Ok(()) => Ok(count),
+                Err(stop) => Err(stop),
+            };
+        }
+        match self.take_last(model, spot, left, front) {
+            Ok(()) => Ok(count),
+            Err(stop) => Err(stop),
+        }
+    }
+
+    /// Keeps contents octets, behind which more are due.
+    fn keep(&mut self, spot: Spot, left: u64, front: &[u8]) -> Result<(), Stop>
+        requires room { fed self.old + length front.now ≤ 2 ^ 40 }
+        requires due { self.old.decoder.due ≡ Due.Contents spot left }
+        requires more { length front.now < left }
+        ensures checks { self.new.checks ≡ self.old.checks }
+        ensures sound { self.new.failed ≡ self.old.failed }
+        ensures ok { (T : Tables) (bytes : List ℕ) → IsReading T self.old.decoder self.old.kept.items bytes → IfOk result (λ _. IsReading T self.new.decoder self.new.kept.items (bytes ++ front.now)) }
+        ensures err { IfErr result (λ stop. stop ≡ Stop.Memory) }
+    {
+        match self.kept.extend_from_slice(front) {
+            Ok(()) => {
+                self.decoder.pass(spot, left, front.len() as u64);
+                Ok(())
+            }
+            Err(_) => Err(Stop::Memory),
+        }
+    }
+
+    /// Takes the last contents octets of a leaf, judges it, and ends the values that end behind it.
+    fn take_last(&mut self, model: &Model, spot: Spot, left: u64, front: &[u8]) -> Result<(), Stop>
+        requires room { fed self.old + length front.now ≤ 2 ^ 40 }
+        requires due { self.old.decoder.due ≡ Due.Contents spot left }
+        requires last { length front.now ≡ left }
+        requires checks { CheckTypes (types_of model.now) self.old.checks }
+        requires given { (bytes : List ℕ) × KeepsRead model.now self.old.decoder self.old.kept.items bytes }
+        ensures checks { CheckTypes (types_of model.now) self.new.checks }
+        ensures sound { self.new.failed ≡ self.old.failed }
+        ensures ok { (bytes : List ℕ) → KeepsRead model.now self.old.decoder self.old.kept.items bytes → IfOk result (λ _. IsReading model.now self.new.decoder self.new.kept.items (bytes ++ front.now)) }
+        ensures err { (bytes : List ℕ) → KeepsRead model.now self.old.decoder self.old.kept.items bytes → IfErr result (λ stop. StopsWithin model.now self.new.decoder (bytes ++ front.now) stop) }
+    {
+        match self.judge_whole(model, spot, front) {
+            Ok(()) => {
+                self.decoder.end_contents(spot, left);
+                self.decoder.end_all(model)
+            }
+            Err(refusal) => Err(self.decoder.refused(refusal)),
+        }
+    }
+
+    /// Judges contents octets, of which these are the last. Where none were kept they are judged where they lie.
+    fn judge_whole(&mut self, model: &Model, spot: Spot, front: &[u8]) -> Result<(), Refusal>
+        requires short { length self.old.kept.items + length front.now < 2 ^ 40 }
+        requires checks { CheckTypes (types_of model.now) self.old.checks }
+        ensures checks { CheckTypes (types_of model.now) self.new.checks }
+        ensures judged { IsVerdictFor (der_message model.now) spot (self.old.kept.items ++ front.now) result }
+        ensures decoder { self.new.decoder ≡ self.old.decoder }
+        ensures sound { self.new.failed ≡ self.old.failed }
+        ensures kept { IfOk result (λ _. self.new.kept.items ≡ []) }
+    {
+        if self.kept.is_empty() {
+            return verdict(&mut self.checks, model, spot, front);
+        }
+        if self.kept.extend_from_slice(front).is_err() {
+            return Err(Refusal::Memory);
+        }
+        let result = verdict(&mut self.checks, model, spot, self.kept.as_slice());
+        self.kept.clear();
+        result
+    }
+
+    /// The end of the bytes: they spell an instance, or have a first fault. After an error of `feed`
+    /// it gives the same.
+    pub fn finish(mut self, model: &Model) -> Result<(), InstanceError>
+        ensures ok { (bytes : List ℕ) → HasFed self model.now bytes → IfOk result (λ _. IsSpelled model.now bytes) }
+        ensures err { (bytes : List ℕ) → HasFed self model.now bytes → IfErr result (λ e. EndsAs model.now bytes e) }
+        ensures again { (e : InstanceError) → failed self ≡ Some e → result ≡ Err e }
+    {
+        if let Some(error) = self.failed.take() {
+            return Err(error);
+        }
+        self.finish_all(model)
+    }
+
+    /// The end of the bytes, where nothing was refused.
+    fn finish_all(&self, model: &Model) -> Result<(), InstanceError>
+        ensures ok { (bytes : List ℕ) → HasFed self.now model.now bytes → IfOk result (λ _. IsSpelled model.now bytes) }
+        ensures err { (bytes : List ℕ) → HasFed self.now model.now bytes → IfErr result (λ e. EndsAs model.now bytes e) }
+    {
+        let _ = model.type_count();
+        fragments_apart();
+        if self.decoder.is_over() {
+            return Ok(());
+        }
+        let stop = self.decoder.truncated();
+        Err(self.told(model, stop))
+    }
+}

@@ -1,0 +1,105 @@
+// The contents of primitive values: X.690 §8.1.4.
+ghost use Rattle.std.specs.Prelude.{◌≡◌, ◌<◌, ◌^◌, ℕ, length};
+ghost use Rattle.fragments.specs.Fragment.{fragment};
+ghost use Rattle.message_model.specs.Tables.{types_of};
+ghost use Rattle.der_model.specs.DerMessage.{DerMessage, der_message};
+ghost use Rattle.der_model.specs.Structures as structures;
+ghost use Rattle.der_model.specs.Structures.{structure, Holds, Fragment};
+ghost use Rattle.der_codec.specs.Checked.{CheckTypes};
+ghost use Rattle.der_codec.specs.Judging.{IsJudgedAt, IsJudgedFor, IsVerdictFor};
+
+use crate::checks::{Checks, Refusal};
+use crate::leaves::judge_simple;
+use crate::level::Spot;
+use data_types::LeafRef;
+use lexical_core::Rule;
+use message_model::{Form, Model};
+use respell::is_fragment;
+
+/// The leaf of the contents octets of a primitive value, or the rule that they break. A constructed value
+/// has no contents octets: of one the answer is that there is no memory.
+pub fn judge<'a>(
+    checks: &mut Checks,
+    model: &Model,
+    spot: Spot,
+    octets: &'a [u8],
+) -> Result<LeafRef<'a>, Refusal>
+    requires short { length octets.now < 2 ^ 40 }
+    requires made { CheckTypes (types_of model.now) checks.old }
+    ensures made { CheckTypes (types_of model.now) checks.new }
+    ensures judged { IsJudgedFor (der_message model.now) spot octets.now result }
+{
+    match spot {
+        Spot::Value(number) => judge_value(checks, model, number, octets),
+        Spot::Number(number) => judge_number(checks, model, number, octets),
+        _ => Err(Refusal::Memory),
+    }
+}
+
+/// Whether octets are contents of a primitive value, or the rule that they break.
+pub(crate) fn verdict(
+    checks: &mut Checks,
+    model: &Model,
+    spot: Spot,
+    octets: &[u8],
+) -> Result<(), Refusal>
+    requires short { length octets.now < 2 ^ 40 }
+    requires made { CheckTypes (types_of model.now) checks.old }
+    ensures made { CheckTypes (types_of model.now) checks.new }
+    ensures judged { IsVerdictFor (der_message model.now) spot octets.now result }
+{
+    match judge(checks, model, spot, octets) {
+        Ok(_) => Ok(()),
+        Err(refusal) => Err(refusal),
+    }
+}
+
+/// The contents of a value of a type.
+fn judge_value<'a>(
+    checks: &mut Checks,
+    model: &Model,
+    number: u32,
+    octets: &'a [u8],
+) -> Result<LeafRef<'a>, Refusal>
+    requires short { length octets.now < 2 ^ 40 }
+    requires made { CheckTypes (types_of model.now) checks.old }
+    ensures made { CheckTypes (types_of model.now) checks.new }
+    ensures judged { IsJudgedAt (der_message model.now) (structure (der_message model.now) (structures.Value number)) octets.now result }
+{
+    let _ = model.type_count();
+    match model.form(number) {
+        Some(Form::Simple(simple)) => judge_simple(checks, number, simple, octets),
+        Some(Form::Envelope) => judge_envelope(checks, octets),
+        _ => Err(Refusal::Memory),
+    }
+}
+
+/// The contents of the number of an amount of a type.
+fn judge_number<'a>(
+    checks: &mut Checks,
+    model: &Model,
+    number: u32,
+    octets: &'a [u8],
+) -> Result<LeafRef<'a>, Refusal>
+    requires made { CheckTypes (types_of model.now) checks.old }
+    ensures made { CheckTypes (types_of model.now) checks.new }
+    ensures judged { IsJudgedAt (der_message model.now) (structure (der_message model.now) (structures.NumberOf number)) octets.now result }
+{
+    let _ = model.type_count();
+    match model.form(number) {
+        Some(Form::Money { code: _, base }) => judge_simple(checks, number, base, octets),
+        _ => Err(Refusal::Memory),
+    }
+}
+
+/// The contents of an envelope: the canonical fragment of its element.
+fn judge_envelope<'a>(checks: &Checks, octets: &'a [u8]) -> Result<LeafRef<'a>, Refusal>
+    requires { length octets.now < 2 ^ 40 }
+    ensures { (m : DerMessage ℕ) → (m.fragment ≡ fragment) → IsJudgedAt m (Holds Fragment) octets.now result }
+{
+    match is_fragment(checks.alloc, octets) {
+        Ok(true) => Ok(LeafRef::Bytes(octets)),
+        Ok(false) => Err(Refusal::Breaks(Rule::BadContents)),
+        Err(_) => Err(Refusal::Memory),
+    }
+}

@@ -1,0 +1,162 @@
+// The elements that begin and end with the components of open values.
+ghost use Rattle.std.specs.Prelude.{◌≡◌, ◌++◌, ℕ, List, OnOk, Some, slice_get, reverse};
+ghost use Rattle.data_types.specs.Value.{Edge as EdgeOf};
+ghost use Rattle.inst_pool.specs.Pieces.{open_in};
+ghost use Rattle.reference_check.specs.Forms as graph;
+ghost use Rattle.reference_check.specs.Forms.{form_slots};
+ghost use Rattle.message_model.specs.Tables.{types_of};
+ghost use Rattle.der_model.specs.DerMessage.{der_message};
+ghost use Rattle.der_model.specs.Structures as structures;
+ghost use Rattle.der_model.specs.States as states;
+ghost use Rattle.der_model.specs.ShownPieces.{begin_each, end_each, slot_elements, alternatives_of, component_elements, last_elements, elements_ended};
+ghost use Rattle.der_model.specs.NestedPieces.{elements_around};
+ghost use Rattle.der_codec.specs.Levels.{IsSpot, IsLevel, AreLevels, first_of};
+ghost use Rattle.der_codec.specs.Elements.{edge_if, edges_of};
+
+use crate::components::{comes_once, is_choice};
+use crate::level::{Level, Spot};
+use inst_pool::{Builder, Edge};
+use message_model::Model;
+use std::alloc::AllocError;
+
+/// The elements that begin with a component. Of an item of a list that is a choice there are two: that of the
+/// list's slot, and in it that of the alternative.
+#[derive(Clone, Copy, Debug)]
+pub(crate) struct Elements {
+    outer: Option<Edge>,
+    inner: Option<Edge>,
+}
+
+/// The element of the slot of the type; a list is none.
+fn slot_element(model: &Model, parent: u32, slot: u32) -> Option<Edge>
+    ensures { edge_if result ≡ slot_elements parent slot (slice_get (form_slots (types_of model.now parent)) slot) }
+{
+    let Some(found) = model.slot(parent, slot) else {
+        return None;
+    };
+    if !comes_once(found.max) {
+        return None;
+    }
+    Some(Edge {
+        slot,
+        target: found.target,
+        parent,
+    })
+}
+
+/// The element of the alternative of the type, where it is a choice.
+fn alternative_element(model: &Model, number: u32, slot: u32) -> Option<Edge>
+    ensures { edge_if result ≡ slot_elements number slot (slice_get (alternatives_of (types_of model.now number)) slot) }
+{
+    if !is_choice(model, number) {
+        return None;
+    }
+    slot_element(model, number, slot)
+}
+
+/// The elements of an item of the list in a slot, which is the alternative of this number where it is a choice.
+fn item_elements(model: &Model, parent: u32, slot: u32, alternative: u32) -> Elements
+    ensures { (s : graph.Slot ℕ) → slice_get (form_slots (types_of model.now parent)) slot ≡ Some s
+        → edges_of result ≡ component_elements (der_message model.now) (structures.ListOf parent slot s) alternative }
+{
+    let Some(found) = model.slot(parent, slot) else {
+        return one_element(None);
+    };
+    Elements {
+        outer: Some(Edge {
+            slot,
+            target: found.target,
+            parent,
+        }),
+        inner: alternative_element(model, found.target, alternative),
+    }
+}
+
+/// At most one element.
+fn one_element(outer: Option<Edge>) -> Elements
+    ensures { edges_of result ≡ edge_if outer }
+{
+    Elements { outer, inner: None }
+}
+
+/// The elements that begin with the component of this number in a value.
+pub(crate) fn elements_at(model: &Model, spot: Spot, number: u32) -> Elements
+    ensures { (of : structures.Spot ℕ) → IsSpot (types_of model.now) spot of → edges_of result ≡ component_elements (der_message model.now) of number }
+{
+    match spot {
+        Spot::Instance => one_element(slot_element(model, 0, number)),
+        Spot::Value(parent) => one_element(slot_element(model, parent, number)),
+        Spot::List { parent, slot } => item_elements(model, parent, slot, number),
+        Spot::Number(_) => one_element(None),
+    }
+}
+
+/// The elements that began with the component of an open value that came last.
+fn last_begun(model: &Model, level: &Level) -> Elements
+    ensures { (l : states.Level ℕ) → IsLevel (types_of model.now) level.now l → edges_of result ≡ last_elements (der_message model.now) l.spot l.came }
+{
+    if level.next == 0 {
+        return one_element(None);
+    }
+    elements_at(model, level.spot, level.next - 1)
+}
+
+/// An element begins, where there is one.
+fn begin_one(builder: &mut Builder, element: Option<Edge>) -> Result<(), AllocError>
+    ensures { OnOk result (builder.new.pieces ≡ builder.old.pieces ++ begin_each (edge_if element)) }
+{
+    match element {
+        None => Ok(()),
+        Some(edge) => builder.begin(edge),
+    }
+}
+
+/// The elements begin, the outermost first.
+pub(crate) fn begin_elements(builder: &mut Builder, begun: &Elements) -> Result<(), AllocError>
+    ensures { OnOk result (builder.new.pieces ≡ builder.old.pieces ++ begin_each (edges_of begun.now)) }
+{
+    match begin_one(builder, begun.outer) {
+        Err(error) => Err(error),
+        Ok(()) => begin_one(builder, begun.inner),
+    }
+}
+
+/// An element ends, where there is one.
+fn end_one(builder: &mut Builder, element: Option<Edge>) -> Result<(), AllocError>
+    requires { (around : List EdgeOf) × (open_in builder.old.pieces ≡ edge_if element ++ around) }
+    ensures ended { (around : List EdgeOf) → open_in builder.old.pieces ≡ edge_if element ++ around → OnOk result (builder.new.pieces ≡ builder.old.pieces ++ end_each (edge_if element)) }
+    ensures open { (around : List EdgeOf) → open_in builder.old.pieces ≡ edge_if element ++ around → OnOk result (open_in builder.new.pieces ≡ around) }
+{
+    match element {
+        None => Ok(()),
+        Some(_) => builder.close(),
+    }
+}
+
+/// The elements end, the innermost first.
+fn end_elements(builder: &mut Builder, ended: &Elements) -> Result<(), AllocError>
+    requires { (around : List EdgeOf) × (open_in builder.old.pieces ≡ reverse (edges_of ended.now) ++ around) }
+    ensures { (around : List EdgeOf) → open_in builder.old.pieces ≡ reverse (edges_of ended.now) ++ around → OnOk result (builder.new.pieces ≡ builder.old.pieces ++ end_each (edges_of ended.now)) }
+{
+    match end_one(builder, ended.inner) {
+        Err(error) => Err(error),
+        Ok(()) => end_one(builder, ended.outer),
+    }
+}
+
+/// The elements end that ended with a value, which is the last component of this one; none where it is the
+/// instance itself.
+pub(crate) fn end_component(
+    builder: &mut Builder,
+    model: &Model,
+    around: Option<Level>,
+) -> Result<(), AllocError>
+    requires { (xs : List Level) × (ls : List (states.Level ℕ)) × (around ≡ first_of xs) × AreLevels (types_of model.now) xs ls × (open_in builder.old.pieces ≡ elements_around (der_message model.now) ls) }
+    ensures { (xs : List Level) (ls : List (states.Level ℕ)) → around ≡ first_of xs → AreLevels (types_of model.now) xs ls → open_in builder.old.pieces ≡ elements_around (der_message model.now) ls
+        → OnOk result (builder.new.pieces ≡ builder.old.pieces ++ end_each (elements_ended (der_message model.now) ls)) }
+{
+    match around {
+        None => Ok(()),
+        Some(level) => end_elements(builder, &last_begun(model, &level)),
+    }
+}

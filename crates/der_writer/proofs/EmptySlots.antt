@@ -1,0 +1,47 @@
+-- Slots in which nothing has come, one after the other.
+use Rattle.std.proofs.Common.{◌≡◌, ℕ, zero, suc, ◌+◌, ◌-◌, ◌≤◌, ◌<◌, List, [], ◌∷◌, ◌++◌, length, take, drop, Some, None, refl, ap, ap₂, ◌∙◌, arith, length-drop}
+use Rattle.std.specs.Prelude.{slice_get}
+use Rattle.std.proofs.lemmas.List.{take_all}
+use Rattle.reference_check.specs.Forms.{Slot}
+use Rattle.message_model.specs.declared.model.Slot.{Slot as Told}
+use Rattle.der_writer.specs.PieceOctets.{empty_slot, empty_slots}
+use Rattle.der_writer.proofs.OctetLemmas.{drop_get}
+
+-- those from slot k on and before another
+abbrev pub empty_from : ℕ → ℕ → List (Slot ℕ) → List ℕ
+empty_from k to slots = empty_slots k (take (to - k) (drop k slots))
+
+pub empty_more : (k to : ℕ) (slots : List (Slot ℕ)) (s : Slot ℕ) → k < to → slice_get slots k ≡ Some s → empty_from k to slots ≡ empty_slot k s ++ empty_from (k + 1) to slots
+empty_more k to slots s l found =
+    let left : to - k ≡ suc (to - suc k) = omega arith in
+    let next : suc k ≡ k + 1 = omega arith in
+    ap₂ (λ c xs. empty_slots k (take c xs)) left (drop_get slots k s found) ∙ ap (λ z. empty_slot k s ++ empty_slots z (take (to - z) (drop z slots))) next
+
+drop_none : {A : Type 0} (xs : List A) (k : ℕ) → slice_get xs k ≡ None → drop k xs ≡ []
+drop_none [] zero e = refl
+drop_none [] (suc k) e = refl
+drop_none (x ∷ xs) zero e = absurd cc
+drop_none (x ∷ xs) (suc k) e = drop_none xs k e
+
+take_none : (c : ℕ) → ◌≡◌ {A = List (Slot ℕ)} (take c []) []
+take_none zero = refl
+take_none (suc c) = refl
+
+pub empty_past : (k to : ℕ) (slots : List (Slot ℕ)) → slice_get slots k ≡ None → empty_from k to slots ≡ []
+empty_past k to slots none = ap (λ xs. empty_slots k (take (to - k) xs)) (drop_none slots k none) ∙ ap (empty_slots k) (take_none (to - k))
+
+pub empty_end : (k to : ℕ) (slots : List (Slot ℕ)) → to ≤ k → empty_from k to slots ≡ []
+empty_end k to slots l = (let z : to - k ≡ 0 = omega arith in ap (λ c. empty_slots k (take c (drop k slots))) z)
+
+-- the slot that is told
+abbrev pub told : Told → Slot ℕ
+told t = record { tag = t.tag.now; min = t.min; max = t.max; target = t.target }
+
+pub get_below : {A : Type 0} (xs : List A) (k : ℕ) (x : A) → slice_get xs k ≡ Some x → k < length xs
+get_below [] k x e = absurd cc
+get_below (y ∷ xs) zero x e = omega arith
+get_below (y ∷ xs) (suc k) x e = (let r = get_below xs k x e in omega arith)
+
+-- all slots behind are before one that is past them
+pub all_taken : {A : Type 0} (xs : List A) (from top : ℕ) → length xs ≤ top → take (top - from) (drop from xs) ≡ drop from xs
+all_taken xs from top l = (let size = length-drop from xs in take_all (top - from) (drop from xs) (omega (arith, size)))

@@ -1,0 +1,13 @@
+pub mod OctetLemmas
+pub mod ChildOctets
+pub mod ValueOctets
+pub mod Stages
+pub mod Pairs
+pub mod HeadLemmas
+pub mod CodeOctets
+pub mod EmptySlots
+pub mod PushedFronts
+pub mod Whole
+pub mod StageBounds
+pub mod KnownStages
+pub mod CountsLast

@@ -1,0 +1,49 @@
+-- Facts on the stages of the pass: what follows is no more than what there is, and each beginning has its numbers.
+use Rattle.std.proofs.Common.{ℕ, ◌+◌, ◌-◌, ◌≤◌, Bool, true, false, List, [], ◌∷◌, length, drop, arith, length-append}
+use Rattle.std.specs.Prelude.{if◌then◌else◌, ◌==◌}
+use Rattle.data_types.specs.Value.{Piece, Begins, Holds, Ends}
+use Rattle.facets.specs.declared.simple.Simple.{Simple}
+use Rattle.reference_check.specs.Forms.{Graph}
+use Rattle.der_writer.specs.PieceOctets.{Before, Begun, Filled, Ended, octets_before, begin_octets, piece_octets}
+use Rattle.der_writer.specs.Passes.{Frame, Stage, following, innermost_frame, piece_step, stage}
+use Rattle.der_writer.specs.Measuring.{AreBeside, AreWithin}
+
+pub stage_beside : (g : Graph ℕ Simple) (b : Before) (ps : List Piece) → AreBeside ps (stage g b ps).beside
+stage_beside g b [] = tt
+stage_beside g b (Begins e ∷ ps) = stage_beside g (Begun e) ps
+stage_beside g b (Holds l ∷ ps) = stage_beside g Filled ps
+stage_beside g b (Ends e ∷ ps) = stage_beside g (Ended e) ps
+
+within_more : (x y : ℕ) (fs : List Frame) → x ≤ y → AreWithin x fs → AreWithin y fs
+within_more x y [] l w = tt
+within_more x y (f ∷ fs) l (a, k, w) = (omega arith, k, within_more x y fs l w)
+
+within_drop : (x : ℕ) (fs : List Frame) → AreWithin x fs → AreWithin x (drop 1 fs)
+within_drop x [] w = tt
+within_drop x (f ∷ fs) (a, k, w) = w
+
+pub innermost_within : (x : ℕ) (fs : List Frame) (k : ℕ) → AreWithin x fs → ((innermost_frame fs).behind ≤ x) × ((innermost_frame fs).following k ≤ (innermost_frame fs).behind)
+innermost_within x [] k w = (omega arith, omega arith)
+innermost_within x (f ∷ fs) k (a, h, w) = (a, h k)
+
+at_most : (b : Bool) (x y : ℕ) → x ≤ y → (if b then x else 0) ≤ y
+at_most true x y l = l
+at_most false x y l = omega arith
+
+pub stage_within : (g : Graph ℕ Simple) (b : Before) (ps : List Piece) → AreWithin (stage g b ps).sum (stage g b ps).frames × ((k : ℕ) → following ps (stage g b ps).beside k ≤ (stage g b ps).sum)
+stage_within g b [] = (tt, λ k. omega arith)
+stage_within g b (Holds l ∷ ps) = (let r = stage_within g Filled ps in (within_more (stage g Filled ps).sum _ _ (omega arith) r.0, λ k. omega arith))
+stage_within g b (Ends e ∷ ps) = (let r = stage_within g (Ended e) ps in ((omega arith, r.1, within_more (stage g (Ended e) ps).sum _ _ (omega arith) r.0), λ k. omega arith))
+stage_within g b (Begins e ∷ ps) = go (stage g (Begun e) ps) (stage_within g (Begun e) ps).0
+  where
+    go : (r : Stage) → AreWithin r.sum r.frames → AreWithin (piece_step g b (Begins e) ps r).sum (piece_step g b (Begins e) ps r).frames × ((k : ℕ) → following (Begins e ∷ ps) (piece_step g b (Begins e) ps r).beside k ≤ (piece_step g b (Begins e) ps r).sum)
+    go r w =
+        let f = innermost_frame r.frames in
+        let len = r.sum - f.behind in
+        let group = length (begin_octets g e len) + len + f.following e.slot in
+        let size = length-append (octets_before g b e group) (begin_octets g e len) in
+        let least = innermost_within r.sum r.frames e.slot w in
+        let behind = least.0 in
+        let next = least.1 in
+        let fits : group ≤ length (piece_octets g b (Begins e) len group) + r.sum = omega (arith, size, behind, next) in
+        (within_more r.sum _ _ (omega arith) (within_drop r.sum r.frames w), λ k. at_most (e.slot == k) group _ fits)

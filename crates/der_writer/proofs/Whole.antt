@@ -1,0 +1,157 @@
+-- The octets of a whole instance, by the numbers that stand beside its pieces.
+use Rattle.std.proofs.Common.{◌≡◌, ℕ, zero, suc, ◌+◌, ◌-◌, ◌≤◌, ◌<◌, true, List, [], ◌∷◌, ◌++◌, length, drop, Some, None, refl, sym, ap, ap₂, ◌∙◌, subst, arith, append-nil}
+use Rattle.std.specs.Prelude.{slice_get, slice_index}
+use Rattle.std.proofs.Math.ListN.{drop_of_length-le}
+use Rattle.data_types.specs.Value.{Value, Children, Edge, Piece, Begins, Holds, Ends}
+use Rattle.data_types.specs.Value as value
+use Rattle.facets.specs.declared.simple.Simple.{Simple}
+use Rattle.der_octets.specs.Octets.{universal, Nothing, Constructed, octets}
+use Rattle.fragments.specs.Fragment.{fragment}
+use Rattle.reference_check.specs.Forms.{Graph, Form, Slot, form_slots}
+use Rattle.reference_check.specs.Forms as form
+use Rattle.message_model.specs.Admits.{AdmitsAs}
+use Rattle.message_model.specs.Sound.{HasRoot}
+use Rattle.message_model.specs.Tables.{Tables, types_of, edge_at, pieces, child_pieces, pieces_of}
+use Rattle.der_model.specs.DerMessage.{DerMessage, der_message}
+use Rattle.der_model.specs.Der.{body, inner_of, der_of}
+use Rattle.inst_pool.specs.Pieces.{Held}
+use Rattle.der_writer.specs.Measured.{Beside, Free, Counts, contents_octets, value_counts, child_counts, IsMeasured}
+use Rattle.der_writer.specs.PieceOctets.{Before, Begun, before_of, head, document_edge, slots_behind, piece_octets, pieces_octets, counted_octets}
+use Rattle.der_writer.specs.Passes.{stage}
+use Rattle.der_writer.specs.Measuring.{AreBeside, NumbersAreKept}
+use Rattle.der_writer.proofs.OctetLemmas.{wrapped_is, drop_get, drop_twice}
+use Rattle.der_writer.proofs.ValueOctets.{children_octets}
+use Rattle.der_writer.proofs.Stages.{sum_is, children_staged}
+
+index_drop : (xs : List ℕ) (at : ℕ) → slice_index (drop 1 xs) at ≡ slice_index xs (suc at)
+index_drop [] at = refl
+index_drop (x ∷ xs) at = refl
+
+kept_behind : (b : Beside) (bs : List Beside) (lens groups : List ℕ) → NumbersAreKept (b ∷ bs) lens groups → NumbersAreKept bs (drop 1 lens) (drop 1 groups)
+kept_behind b bs lens groups k at len group e = (let r = k (suc at) len group e in (index_drop lens at ∙ r.0, index_drop groups at ∙ r.1))
+
+-- then what is written by the numbers that stand there is what is written by those that belong there
+pub numbers_agree : (g : Graph ℕ Simple) (b : Before) (ps : List Piece) (bs : List Beside) (lens groups : List ℕ) → AreBeside ps bs → NumbersAreKept bs lens groups → pieces_octets g b ps lens groups ≡ counted_octets g b ps bs
+numbers_agree g b [] bs lens groups m k = refl
+numbers_agree g b (p ∷ ps) [] lens groups m k = absurd m
+numbers_agree g b (Begins e ∷ ps) (Free ∷ bs) lens groups m k = absurd m
+numbers_agree g b (Begins e ∷ ps) (Counts len group ∷ bs) lens groups m k =
+    let r = k 0 len group refl in
+    ap₂ (λ x y. x ++ y) (ap₂ (piece_octets g b (Begins e)) r.0 r.1) (numbers_agree g (before_of (Begins e)) ps bs (drop 1 lens) (drop 1 groups) m (kept_behind (Counts len group) bs lens groups k))
+numbers_agree g b (Holds l ∷ ps) (c ∷ bs) lens groups m k = ap (λ y. piece_octets g b (Holds l) 0 0 ++ y) (numbers_agree g (before_of (Holds l)) ps bs (drop 1 lens) (drop 1 groups) m (kept_behind c bs lens groups k))
+numbers_agree g b (Ends e ∷ ps) (c ∷ bs) lens groups m k = ap (λ y. piece_octets g b (Ends e) 0 0 ++ y) (numbers_agree g (before_of (Ends e)) ps bs (drop 1 lens) (drop 1 groups) m (kept_behind c bs lens groups k))
+
+drop_one : {A : Type 0} (at : ℕ) (xs : List A) → drop 1 (drop at xs) ≡ drop (at + 1) xs
+drop_one at xs = drop_twice 1 at xs
+
+index_at : (at : ℕ) (xs : List ℕ) → slice_index (drop at xs) 0 ≡ slice_index xs at
+index_at zero xs = refl
+index_at (suc at) [] = refl
+index_at (suc at) (x ∷ xs) = index_at at xs
+
+-- what is written from a place on is what is written at its piece and behind it
+pub octets_from : (g : Graph ℕ Simple) (b : Before) (ps : List Piece) (lens groups : List ℕ) (at : ℕ) (p : Piece) → slice_get ps at ≡ Some p
+    → pieces_octets g b (drop at ps) (drop at lens) (drop at groups) ≡ piece_octets g b p (slice_index lens at) (slice_index groups at) ++ pieces_octets g (before_of p) (drop (at + 1) ps) (drop (at + 1) lens) (drop (at + 1) groups)
+octets_from g b ps lens groups at p e =
+    let next : suc at ≡ at + 1 = omega arith in
+    ap (λ z. pieces_octets g b z (drop at lens) (drop at groups)) (drop_get ps at p e)
+    ∙ ap₂ (λ x y. x ++ y) (ap₂ (piece_octets g b p) (index_at at lens) (index_at at groups))
+    (ap₂ (λ x y. pieces_octets g (before_of p) (drop (suc at) ps) x y) (drop_one at lens) (drop_one at groups) ∙ ap (λ z. pieces_octets g (before_of p) (drop z ps) (drop (at + 1) lens) (drop (at + 1) groups)) next)
+
+pub octets_end : (g : Graph ℕ Simple) (b : Before) (ps : List Piece) (lens groups : List ℕ) (at : ℕ) → length ps ≤ at → pieces_octets g b (drop at ps) (drop at lens) (drop at groups) ≡ slots_behind g 0 b
+octets_end g b ps lens groups at l = ap (λ z. pieces_octets g b z (drop at lens) (drop at groups)) (drop_of_length-le ps l)
+
+-- a piece that is told at a place before the end is there
+pub is_there : (at : ℕ) (ps : List Piece) → at < length ps → slice_get ps at ≡ None → ⊥
+is_there at [] l e = absurd (omega arith)
+is_there zero (p ∷ ps) l e = absurd cc
+is_there (suc at) (p ∷ ps) l e = is_there at ps (omega arith) e
+
+module _ (T : Tables) where
+  abbrev m : DerMessage ℕ
+  m = der_message T
+
+  abbrev g : Graph ℕ Simple
+  g = types_of T
+
+  beside_then : (ps qs : List Piece) (bs cs : List Beside) → length ps ≡ length bs → AreBeside ps bs → AreBeside qs cs → AreBeside (ps ++ qs) (bs ++ cs)
+  beside_then [] qs [] cs l p q = q
+  beside_then [] qs (b ∷ bs) cs l p q = absurd (omega arith)
+  beside_then (p ∷ ps) qs [] cs l r q = absurd r
+  beside_then (Begins e ∷ ps) qs (Free ∷ bs) cs l r q = absurd r
+  beside_then (Begins e ∷ ps) qs (Counts len group ∷ bs) cs l r q = beside_then ps qs bs cs (omega arith) r q
+  beside_then (Holds x ∷ ps) qs (b ∷ bs) cs l r q = beside_then ps qs bs cs (omega arith) r q
+  beside_then (Ends e ∷ ps) qs (b ∷ bs) cs l r q = beside_then ps qs bs cs (omega arith) r q
+
+  length-two : {A B : Type 0} (ps qs : List A) (bs cs : List B) → length ps ≡ length bs → length qs ≡ length cs → length (ps ++ qs) ≡ length (bs ++ cs)
+  length-two [] qs [] cs l k = k
+  length-two [] qs (b ∷ bs) cs l k = absurd (omega arith)
+  length-two (p ∷ ps) qs [] cs l k = absurd (omega arith)
+  length-two (p ∷ ps) qs (b ∷ bs) cs l k = ap suc (length-two ps qs bs cs (omega arith) k)
+
+  mutual
+    pub value_beside : (n : ℕ) (v : Value) → (length (pieces fragment g n v) ≡ length (value_counts m n v)) × AreBeside (pieces fragment g n v) (value_counts m n v)
+    value_beside n (value.Component cs) = child_beside n cs
+    value_beside n (value.Simple l) = (refl, tt)
+    value_beside n (value.Amount l x) = (refl, tt)
+    value_beside n (value.External t) = (refl, tt)
+
+    pub child_beside : (n : ℕ) (cs : Children) → (length (child_pieces fragment g n cs) ≡ length (child_counts m n cs)) × AreBeside (child_pieces fragment g n cs) (child_counts m n cs)
+    child_beside n value.Nothing = (refl, tt)
+    child_beside n (value.Child k v rest) =
+        let e = edge_at n k (slice_get (form_slots (g n)) k) in
+        let here = value_beside e.target v in
+        let more = child_beside n rest in (
+          ap suc (length-two (pieces fragment g e.target v) (Ends e ∷ child_pieces fragment g n rest) (value_counts m e.target v) (Free ∷ child_counts m n rest) here.0 (ap suc more.0)),
+          beside_then (pieces fragment g e.target v) (Ends e ∷ child_pieces fragment g n rest) (value_counts m e.target v) (Free ∷ child_counts m n rest) here.0 here.1 more.1,
+        )
+
+  -- what is written at the pieces of the whole is its contents
+  whole_form : (f : Form ℕ Simple) (v : Value) → g 0 ≡ f → (slots : List (Slot ℕ)) → f ≡ form.Sequence slots → AdmitsAs g f v
+      → (counted_octets g (Begun document_edge) (pieces_of fragment T v) (value_counts m 0 v) ≡ contents_octets (body m f v)) × ((stage g (Begun document_edge) (pieces_of fragment T v)).beside ≡ value_counts m 0 v)
+      × (octets (Constructed (universal 16) (inner_of (body m f v)) Nothing) ≡ head true (universal 16) (length (contents_octets (body m f v))) ++ contents_octets (body m f v))
+  whole_form (form.Sequence fs) (value.Component cs) at slots is a =
+      let written = children_octets T 0 (form.Sequence fs) cs (Begun document_edge) [] [] [] at a.1 a.0.ordered (λ c. sym (append-nil (slots_behind g 0 c))) in
+      let staged = children_staged T 0 (form.Sequence fs) cs (Begun document_edge) [] [] [] at a.1 a.0.ordered (λ k. refl) (λ c. (refl, refl)) in
+      let ps = append-nil (child_pieces fragment g 0 cs) in
+      let bs = append-nil (child_counts m 0 cs) in
+      (ap₂ (counted_octets g (Begun document_edge)) (sym ps) (sym bs) ∙ (written ∙ append-nil _), ap (λ z. (stage g (Begun document_edge) z).beside) (sym ps) ∙ (staged.0 ∙ bs), append-nil _ ∙ wrapped_is true (universal 16) _)
+  whole_form (form.Sequence fs) v at slots is a = absurd a
+  whole_form (form.Choice fs) v at slots is a = absurd cc
+  whole_form (form.Simple simple) v at slots is a = absurd cc
+  whole_form (form.Money code number) v at slots is a = absurd cc
+  whole_form form.Envelope v at slots is a = absurd cc
+  whole_form form.LeftOut v at slots is a = absurd cc
+  whole_form form.Missing v at slots is a = absurd cc
+
+  abbrev pub contents : Value → List ℕ
+  contents v = contents_octets (body m (g 0) v)
+
+  pub whole_counted : (v : Value) → HasRoot g → AdmitsAs g (g 0) v → counted_octets g (Begun document_edge) (pieces_of fragment T v) (value_counts m 0 v) ≡ contents v
+  whole_counted v (slots, is) a = (whole_form (g 0) v refl slots is a).0
+
+  pub whole_staged : (v : Value) → HasRoot g → AdmitsAs g (g 0) v → (stage g (Begun document_edge) (pieces_of fragment T v)).beside ≡ value_counts m 0 v
+  whole_staged v (slots, is) a = (whole_form (g 0) v refl slots is a).1
+
+  -- the sum of all is the length of the contents
+  pub whole_sum : (v : Value) → HasRoot g → AdmitsAs g (g 0) v → (stage g (Begun document_edge) (pieces_of fragment T v)).sum ≡ length (contents v)
+  whole_sum v root a =
+      sum_is g (Begun document_edge) (pieces_of fragment T v)
+      ∙ (ap (λ z. length (counted_octets g (Begun document_edge) (pieces_of fragment T v) z)) (whole_staged v root a) ∙ ap length (whole_counted v root a))
+
+  -- the DER of the instance is its head and what is written at its pieces
+  pub der_is : (v : Value) (held : Held) (len : ℕ) → HasRoot g → AdmitsAs g (g 0) v → held.region.pieces ≡ pieces_of fragment T v → IsMeasured T held
+      → (0 < length held.region.pieces → len ≡ slice_index held.lens (length held.region.pieces - 1)) → (length held.region.pieces ≡ 0 → len ≡ length (slots_behind g 0 (Begun document_edge)))
+      → head true (universal 16) len ++ pieces_octets g (Begun document_edge) held.region.pieces held.lens held.groups ≡ der_of m v
+  der_is v held len root a is measured some none =
+      let counts = measured v a is in
+      let written : pieces_octets g (Begun document_edge) held.region.pieces held.lens held.groups ≡ contents v =
+      ap (λ z. pieces_octets g (Begun document_edge) z held.lens held.groups) is
+      ∙ (numbers_agree g (Begun document_edge) (pieces_of fragment T v) (value_counts m 0 v) held.lens held.groups (value_beside 0 v).1 counts.counts ∙ whole_counted v root a) in
+      let length_is : len ≡ length (contents v) = size held.region.pieces refl written counts.whole in
+      ap₂ (λ x y. head true (universal 16) x ++ y) length_is written ∙ sym (whole_form (g 0) v refl root.0 root.1 a).2
+    where
+      size : (ps : List Piece) → held.region.pieces ≡ ps → pieces_octets g (Begun document_edge) held.region.pieces held.lens held.groups ≡ contents v
+          → (0 < length held.region.pieces → slice_index held.lens (length held.region.pieces - 1) ≡ length (contents v)) → len ≡ length (contents v)
+      size [] e written whole = none (ap length e) ∙ ap length (sym (ap (λ z. pieces_octets g (Begun document_edge) z held.lens held.groups) e) ∙ written)
+      size (p ∷ ps) e written whole = (let l : 0 < length held.region.pieces = subst (λ z. 0 < length z) (sym e) (omega arith) in some l ∙ whole l)

@@ -1,0 +1,5 @@
+pub mod Measured
+pub mod PieceOctets
+pub mod Passes
+pub mod Heads
+pub mod Measuring

@@ -1,0 +1,52 @@
+-- The numbers that stand beside the pieces of an instance, so that its DER is written in one pass (X.690 §8.1.3, §10.1: a length stands before its contents).
+use Rattle.std.specs.Prelude.{◌≡◌, ℕ, ◌-◌, ◌<◌, List, [], ◌∷◌, ◌++◌, length, Option, Some, None, slice_get, slice_index}
+use Rattle.data_types.specs.Value.{Value, Children, Nothing, Child}
+use Rattle.data_types.specs.Value as value
+use Rattle.der_octets.specs.Octets.{octets}
+use Rattle.fragments.specs.Fragment.{fragment}
+use Rattle.reference_check.specs.Forms.{Slot, form_slots}
+use Rattle.message_model.specs.Admits.{AdmitsAs}
+use Rattle.message_model.specs.Tables.{Tables, types_of, edge_at, pieces_of}
+use Rattle.der_model.specs.DerMessage.{DerMessage, der_message}
+use Rattle.der_model.specs.Der.{Body, Octets, Inner, body, values_at}
+use Rattle.inst_pool.specs.Pieces.{Held}
+
+-- what stands beside a piece: any two numbers, or these
+pub data Beside : Type 0 where
+  Free : Beside
+  Counts : (len group : ℕ) → Beside
+
+-- the contents octets of a value
+abbrev pub contents_octets : Body → List ℕ
+contents_octets (Octets contents) = contents
+contents_octets (Inner inner) = octets inner
+
+-- the octets of the children in slot k
+abbrev pub slot_octets : DerMessage ℕ → ℕ → Option (Slot ℕ) → Children → List ℕ
+slot_octets m k None children = []
+slot_octets m k (Some s) children = octets (values_at m k s children)
+
+abbrev mutual
+  -- Where an element begins, the number of its contents octets, and that of the octets of its slot from the element on: of a list's first
+  -- item the length of the list's contents. Beside leaves and ends anything.
+  pub value_counts : DerMessage ℕ → ℕ → Value → List Beside
+  value_counts m n (value.Component children) = child_counts m n children
+  value_counts m n (value.Simple leaf) = Free ∷ []
+  value_counts m n (value.Amount code number) = Free ∷ Free ∷ []
+  value_counts m n (value.External tree) = Free ∷ []
+
+  pub child_counts : DerMessage ℕ → ℕ → Children → List Beside
+  child_counts m n Nothing = []
+  child_counts m n (Child k v rest) =
+      let slot = slice_get (form_slots (m.forms n)) k in
+      let target = (edge_at n k slot).target in
+      Counts (length (contents_octets (body m (m.forms target) v))) (length (slot_octets m k slot (Child k v rest))) ∷ (value_counts m target v ++ (Free ∷ child_counts m n rest))
+
+-- These numbers stand beside the pieces of the instance, and beside its last piece the number of the contents octets of the whole.
+pub record HasCounts (m : DerMessage ℕ) (v : Value) (held : Held) : Type 0 where
+  pub counts : (at len group : ℕ) → slice_get (value_counts m m.root v) at ≡ Some (Counts len group) → (slice_index held.lens at ≡ len) × (slice_index held.groups at ≡ group)
+  pub whole : 0 < length held.region.pieces → slice_index held.lens (length held.region.pieces - 1) ≡ length (contents_octets (body m (m.forms m.root) v))
+
+-- The lengths of the instance that the pieces are have been filled in.
+abbrev pub IsMeasured : Tables → Held → Type 0
+IsMeasured T held = (v : Value) → AdmitsAs (types_of T) (types_of T 0) v → held.region.pieces ≡ pieces_of fragment T v → HasCounts (der_message T) v held

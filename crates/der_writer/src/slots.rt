@@ -1,0 +1,118 @@
+// The slots in which nothing has come: X.690 §8.10, a list of no items.
+ghost use Rattle.std.specs.Prelude.{◌≡◌, ◌-◌, ◌≤◌, true, false, [], take, drop, length};
+ghost use Rattle.outside.specs.Pushes.{Pushes};
+ghost use Rattle.reference_check.specs.Forms.{form_slots};
+ghost use Rattle.message_model.specs.Tables.{types_of};
+ghost use Rattle.der_writer.specs.PieceOctets.{empty_slots, sequence_slots, slots_behind};
+ghost use Rattle.der_writer.specs.Heads.{before_view};
+
+use crate::heads::{head_size, push_head};
+use crate::pieces::{Before, empty_head, next_slot};
+use message_model::{Form, Model};
+use outside::{Sink, SinkError};
+
+/// No type has more slots.
+const ALL: u32 = 4096;
+
+/// Whether the type is a sequence.
+fn is_sequence(model: &Model, number: u32) -> bool
+    ensures yes { result ≡ true → form_slots (types_of model.now number) ≡ sequence_slots (types_of model.now number) }
+    ensures no { result ≡ false → sequence_slots (types_of model.now number) ≡ [] }
+{
+    match model.form(number) {
+        Some(Form::Sequence) => true,
+        Some(Form::Choice) => false,
+        Some(Form::Simple(_)) => false,
+        Some(Form::Money { .. }) => false,
+        Some(Form::Envelope) => false,
+        None => false,
+    }
+}
+
+/// Pushes the slots of a type from one on and before another, in which nothing has come.
+fn push_empty<O: Sink>(
+    model: &Model,
+    number: u32,
+    from: u64,
+    to: u32,
+    sink: &mut O,
+) -> Result<(), SinkError>
+    ensures { Pushes O.held O.faults O.room sink.old sink.new result (empty_slots from (take (to - from) (drop from (form_slots (types_of model.now number))))) }
+{
+    let _count = model.type_count();
+    for k in from..to as u64 {
+        let Some(slot) = model.slot(number, k as u32) else {
+            return Ok(());
+        };
+        if let Err(error) = push_head(empty_head(k as u32, slot.max), 0, sink) {
+            return Err(error);
+        }
+    }
+    Ok(())
+}
+
+/// How many octets that are.
+fn empty_size(model: &Model, number: u32, from: u64, to: u32) -> u64
+    ensures size { result ≡ length (empty_slots from (take (to - from) (drop from (form_slots (types_of model.now number))))) }
+    ensures most { result ≤ 49152 }
+{
+    let _count = model.type_count();
+    let mut size = 0;
+    for k in from..to as u64 {
+        let Some(slot) = model.slot(number, k as u32) else {
+            return size;
+        };
+        size += head_size(empty_head(k as u32, slot.max), 0);
+    }
+    size
+}
+
+/// Pushes the slots of a sequence from one on and before another, in which nothing has come.
+pub(crate) fn push_slots<O: Sink>(
+    model: &Model,
+    number: u32,
+    from: u64,
+    to: u32,
+    sink: &mut O,
+) -> Result<(), SinkError>
+    ensures { Pushes O.held O.faults O.room sink.old sink.new result (empty_slots from (take (to - from) (drop from (sequence_slots (types_of model.now number))))) }
+{
+    if !is_sequence(model, number) {
+        return Ok(());
+    }
+    push_empty(model, number, from, to, sink)
+}
+
+/// How many octets that are.
+pub(crate) fn slots_size(model: &Model, number: u32, from: u64, to: u32) -> u64
+    ensures size { result ≡ length (empty_slots from (take (to - from) (drop from (sequence_slots (types_of model.now number))))) }
+    ensures most { result ≤ 49152 }
+{
+    if is_sequence(model, number) {
+        empty_size(model, number, from, to)
+    } else {
+        0
+    }
+}
+
+/// Pushes the slots of a sequence behind a piece, in which nothing has come.
+pub(crate) fn push_behind<O: Sink>(
+    model: &Model,
+    number: u32,
+    before: Before,
+    sink: &mut O,
+) -> Result<(), SinkError>
+    ensures { Pushes O.held O.faults O.room sink.old sink.new result (slots_behind (types_of model.now) number (before_view before)) }
+{
+    let _count = model.type_count();
+    push_slots(model, number, next_slot(before), ALL, sink)
+}
+
+/// How many octets that are.
+pub(crate) fn behind_size(model: &Model, number: u32, before: Before) -> u64
+    ensures size { result ≡ length (slots_behind (types_of model.now) number (before_view before)) }
+    ensures most { result ≤ 49152 }
+{
+    let _count = model.type_count();
+    slots_size(model, number, next_slot(before), ALL)
+}

@@ -1,0 +1,156 @@
+// The DER of an instance, pushed piece by piece: X.690 §8.1, §10.1.
+ghost use Rattle.std.specs.Prelude.{◌≡◌, ◌<◌, ◌-◌, ℕ, length, slice_index};
+ghost use Rattle.data_types.specs.Value.{Value, Begins};
+ghost use Rattle.outside.specs.Pushes.{Pushes, as_push};
+ghost use Rattle.fragments.specs.Fragment.{fragment};
+ghost use Rattle.message_model.specs.Admits.{AdmitsAs};
+ghost use Rattle.message_model.specs.Tables.{types_of, pieces_of};
+ghost use Rattle.der_model.specs.DerMessage.{der_message};
+ghost use Rattle.der_model.specs.Der.{der_of};
+ghost use Rattle.inst_pool.specs.Pieces.{edge_of, piece_of};
+ghost use Rattle.der_writer.specs.Measured.{IsMeasured};
+ghost use Rattle.der_writer.specs.PieceOctets.{Begun, document_edge, octets_before, piece_octets, pieces_octets, slots_behind};
+ghost use Rattle.der_writer.specs.Heads.{before_view};
+
+use crate::contents::push_leaf;
+use crate::head::Head;
+use crate::heads::push_head;
+use crate::pieces::{Before, behind, element_head, leaf_head, list_head, next_slot};
+use crate::slots::{behind_size, push_behind, push_slots};
+use inst_pool::{Edge, Instance, Piece};
+use message_model::Model;
+use outside::{Sink, SinkError, WriteError};
+
+/// `Document`, which no piece begins or ends.
+const DOCUMENT: Edge = Edge {
+    slot: 0,
+    target: 0,
+    parent: 0,
+};
+
+/// Nothing has come in `Document`.
+pub(crate) fn start() -> Before
+    ensures { before_view result ≡ Begun document_edge }
+{
+    Before::Begun(DOCUMENT)
+}
+
+/// Pushes what stands before an element that begins.
+fn push_before<O: Sink>(
+    model: &Model,
+    before: Before,
+    edge: Edge,
+    group: u64,
+    sink: &mut O,
+) -> Result<(), SinkError>
+    ensures { Pushes O.held O.faults O.room sink.old sink.new result (octets_before (types_of model.now) (before_view before) (edge_of edge) group) }
+{
+    if let Err(error) = push_slots(model, edge.parent, next_slot(before), edge.slot, sink) {
+        return Err(error);
+    }
+    push_head(list_head(model, before, edge), group, sink)
+}
+
+/// Pushes what is written where an element begins.
+fn push_begin<O: Sink>(
+    model: &Model,
+    before: Before,
+    edge: Edge,
+    len: u64,
+    group: u64,
+    sink: &mut O,
+) -> Result<(), SinkError>
+    ensures { Pushes O.held O.faults O.room sink.old sink.new result (piece_octets (types_of model.now) (before_view before) (Begins (edge_of edge)) len group) }
+{
+    if let Err(error) = push_before(model, before, edge, group, sink) {
+        return Err(error);
+    }
+    push_head(element_head(model, edge), len, sink)
+}
+
+/// Pushes what is written at a piece, beside which these numbers stand.
+fn push_piece<O: Sink>(
+    model: &Model,
+    before: Before,
+    piece: &Piece<'_>,
+    len: u64,
+    group: u64,
+    sink: &mut O,
+) -> Result<(), SinkError>
+    ensures { Pushes O.held O.faults O.room sink.old sink.new result (piece_octets (types_of model.now) (before_view before) (piece_of piece.now) len group) }
+{
+    match piece {
+        Piece::Open(edge) => push_begin(model, before, *edge, len, group, sink),
+        Piece::Leaf(leaf) => push_leaf(leaf_head(model, before), leaf, sink),
+        Piece::Close(edge) => push_behind(model, edge.target, before, sink),
+    }
+}
+
+/// Pushes what is written at all pieces, and at the end of the whole.
+fn push_pieces<O: Sink>(model: &Model, instance: &Instance, sink: &mut O) -> Result<(), SinkError>
+    ensures { Pushes O.held O.faults O.room sink.old sink.new result (pieces_octets (types_of model.now) (Begun document_edge) instance.now.region.pieces instance.now.lens instance.now.groups) }
+{
+    let mut before = start();
+    for at in 0..instance.count() {
+        let Some(piece) = instance.piece(at) else {
+            unreachable!()
+        };
+        if let Err(error) = push_piece(
+            model,
+            before,
+            &piece,
+            instance.len(at),
+            instance.group(at),
+            sink,
+        ) {
+            return Err(error);
+        }
+        before = behind(&piece);
+    }
+    push_behind(model, 0, before, sink)
+}
+
+/// The number of contents octets of the whole.
+fn whole_len(model: &Model, instance: &Instance) -> u64
+    ensures some { 0 < length instance.now.region.pieces → result ≡ slice_index instance.now.lens (length instance.now.region.pieces - 1) }
+    ensures none { length instance.now.region.pieces ≡ 0 → result ≡ length (slots_behind (types_of model.now) 0 (Begun document_edge)) }
+{
+    let count = instance.count();
+    if count > 0 {
+        instance.len(count - 1)
+    } else {
+        behind_size(model, 0, start())
+    }
+}
+
+/// Pushes the instance to a sink.
+fn push_instance<O: Sink>(model: &Model, instance: &Instance, sink: &mut O) -> Result<(), SinkError>
+    requires { IsMeasured model.now instance.now }
+    ensures { (v : Value) → AdmitsAs (types_of model.now) (types_of model.now 0) v → instance.now.region.pieces ≡ pieces_of fragment model.now v
+        → Pushes O.held O.faults O.room sink.old sink.new result (der_of (der_message model.now) v) }
+{
+    let _count = model.type_count();
+    let len = whole_len(model, instance);
+    if let Err(error) = push_head(Some(Head::universal(true, 16)), len, sink) {
+        return Err(error);
+    }
+    push_pieces(model, instance, sink)
+}
+
+/// Pushes the DER of the instance, whose lengths have been filled in by `measure`. After an error the sink holds a front
+/// of it behind what it held. It takes no memory of its own.
+pub fn write_der<O: Sink>(
+    model: &Model,
+    instance: &Instance,
+    sink: &mut O,
+) -> Result<(), WriteError>
+    requires measured { IsMeasured model.now instance.now }
+    ensures { (v : Value) → AdmitsAs (types_of model.now) (types_of model.now 0) v → instance.now.region.pieces ≡ pieces_of fragment model.now v
+        → Pushes O.held O.faults O.room sink.old sink.new (as_push result) (der_of (der_message model.now) v) }
+{
+    match push_instance(model, instance, sink) {
+        Ok(()) => Ok(()),
+        Err(SinkError::Failed) => Err(WriteError::WriteFault),
+        Err(SinkError::Memory) => Err(WriteError::Memory),
+    }
+}

@@ -1,0 +1,20 @@
+use Rattle.std.proofs.Common.{refl, ap}
+use Rattle.transcoder.specs.Checked.{IsXmlOfXml, HasXmlFault}
+use Rattle.repo_engine.specs.Answer.{FromXml, GivesXml}
+use Rattle.repo_engine.specs.Steps.{refused, goes_on}
+use Rattle.repo_engine.specs.Verdict.{accepted}
+use Rattle.repo_engine.proofs.Transcodings.{tells_transcoded, goes_transcoded, words_transcoded, read_transcoded}
+use Rattle.repo_engine.proofs.transcode.canonize.Goals as goal
+
+pub returns-clause-no_words : goal.returns-clause-no_words
+returns-clause-no_words g c = rw c.ended_so.ensures (words_transcoded g.O.Sink.held g.O.Sink.faults g.O.Sink.room (IsXmlOfXml c.args.model.now) (HasXmlFault c.args.model.now) _ _ _ _ c.xml_to_xml.result c.xml_to_xml.ensures.transcoded)
+
+pub returns-clause-source : goal.returns-clause-source
+returns-clause-source g c = rw c.ended_so.ensures (read_transcoded g.O.Sink.held g.O.Sink.faults g.O.Sink.room (IsXmlOfXml c.args.model.now) (HasXmlFault c.args.model.now) _ _ _ _ c.xml_to_xml.result _ refl c.xml_to_xml.ensures.later c.xml_to_xml.ensures.fault c.xml_to_xml.ensures.transcoded)
+
+pub returns-clause-verdict : goal.returns-clause-verdict
+returns-clause-verdict g c i told = rw c.ended_so.ensures (tells_transcoded g.O.Sink.held g.O.Sink.faults g.O.Sink.room (IsXmlOfXml c.args.model.now) (HasXmlFault c.args.model.now) _ _ _ _ c.xml_to_xml.result (FromXml c.args.model.now i (GivesXml c.args.model.now)) i
+    (λ fault h. refused (fault, h, refl)) (λ text k. goes_on k.0 (k.1, k.2) (text, k.3, refl)) told c.xml_to_xml.ensures.transcoded)
+
+pub returns-clause-goes_out : goal.returns-clause-goes_out
+returns-clause-goes_out g c = rw c.ended_so.ensures (goes_transcoded g.O.Sink.held g.O.Sink.faults g.O.Sink.room (IsXmlOfXml c.args.model.now) (HasXmlFault c.args.model.now) _ _ _ _ c.xml_to_xml.result c.xml_to_xml.ensures.transcoded)

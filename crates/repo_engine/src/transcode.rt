@@ -1,0 +1,70 @@
+//! Instances in one form, written in another.
+ghost use Rattle.std.specs.Prelude.{◌≡◌, ◌≢◌, ℕ, List, Some, Err};
+ghost use Rattle.repo_engine.specs.Answer.{FromDer, FromXml, GivesDer, GivesXml};
+ghost use Rattle.repo_engine.specs.Arms.{trans_end};
+ghost use Rattle.repo_engine.specs.Run.{GoesOut, Tells};
+ghost use Rattle.repo_engine.specs.Sources.{IsRead, ended_of, of_source};
+
+use super::refusal::{Refusal, Stop};
+use message_model::Model;
+use outside::{Sink, Source};
+use std::alloc::Global;
+use transcoder::{TransError, der_to_xml, xml_to_der, xml_to_xml};
+
+/// Pushes the canonical XML of the XML instance that the source has left.
+pub fn canonize<I: Source, O: Sink>(
+    alloc: Global,
+    model: &Model,
+    inst: &mut I,
+    out: &mut O,
+) -> Result<(), Stop>
+    ensures no_words { result ≢ Err (Stop.Refused Refusal.Words) }
+    ensures source { IsRead (ended_of result) (of_source I.left I.faults inst.old inst.new) }
+    ensures verdict { (i : List ℕ) → I.left inst.old ≡ Some i → Tells (FromXml model.now i (GivesXml model.now)) result (O.held out.old) (O.held out.new) }
+    ensures goes_out { GoesOut O.held O.faults out.old out.new result }
+{
+    ended_so(xml_to_xml(alloc, model, inst, out))
+}
+
+/// Pushes the DER of the XML instance that the source has left.
+pub fn to_der<I: Source, O: Sink>(
+    alloc: Global,
+    model: &Model,
+    inst: &mut I,
+    out: &mut O,
+) -> Result<(), Stop>
+    ensures no_words { result ≢ Err (Stop.Refused Refusal.Words) }
+    ensures source { IsRead (ended_of result) (of_source I.left I.faults inst.old inst.new) }
+    ensures verdict { (i : List ℕ) → I.left inst.old ≡ Some i → Tells (FromXml model.now i (GivesDer model.now)) result (O.held out.old) (O.held out.new) }
+    ensures goes_out { GoesOut O.held O.faults out.old out.new result }
+{
+    ended_so(xml_to_der(alloc, model, inst, out))
+}
+
+/// Pushes the canonical XML of the instance in DER that the source has left.
+pub fn from_der<I: Source, O: Sink>(
+    alloc: Global,
+    model: &Model,
+    inst: &mut I,
+    out: &mut O,
+) -> Result<(), Stop>
+    ensures no_words { result ≢ Err (Stop.Refused Refusal.Words) }
+    ensures source { IsRead (ended_of result) (of_source I.left I.faults inst.old inst.new) }
+    ensures verdict { (i : List ℕ) → I.left inst.old ≡ Some i → Tells (FromDer model.now i (GivesXml model.now)) result (O.held out.old) (O.held out.new) }
+    ensures goes_out { GoesOut O.held O.faults out.old out.new result }
+{
+    ended_so(der_to_xml(alloc, model, inst, out))
+}
+
+/// How a transcoding ends a command.
+fn ended_so(end: Result<(), TransError>) -> Result<(), Stop>
+    ensures { result ≡ trans_end end }
+{
+    match end {
+        Ok(()) => Ok(()),
+        Err(TransError::Refused(fault)) => Err(Stop::Refused(Refusal::Instance(fault))),
+        Err(TransError::ReadFault) => Err(Stop::ReadFault),
+        Err(TransError::WriteFault) => Err(Stop::WriteFault),
+        Err(TransError::Memory) => Err(Stop::Memory),
+    }
+}

@@ -1,0 +1,17 @@
+use Rattle.std.proofs.Common.{◌≡◌, refl, rules, ℕ, List}
+use Rattle.data_types.specs.Value.{Value}
+use Rattle.transcoder.specs.Checked.{HasXmlFault}
+use Rattle.transcoder.specs.Transcoding.{unread}
+use Rattle.xml_instances.specs.SpellsXml.{SpellsXml}
+use Rattle.xml_writer.specs.CanonXml.{IsCanonXml}
+use Rattle.message_model.specs.Tables.{message_of}
+use Rattle.transcoder.proofs.Transcodings.{transcoded}
+use Rattle.transcoder.proofs.transcode.xml_to_xml.Goals as goal
+
+pub returns-in-Ok-clause-transcoded : goal.returns-in-Ok-clause-transcoded
+returns-in-Ok-clause-transcoded g c =
+    transcoded (SpellsXml (message_of c.args.model.now)) c.args.model.now (λ bytes v s. let is = s.instance in is.admitted) c.in-Ok.instance.region.pieces g.O.Sink.held g.O.Sink.faults g.O.Sink.room (HasXmlFault c.args.model.now) (IsCanonXml (message_of c.args.model.now)) _ _ _ _ _
+    c.in-Ok.ensures.ok c.in-Ok.ensures.given c.in-Ok.ensures.whole c.push_xml.ensures
+
+pub returns-in-Err-clause-transcoded : goal.returns-in-Err-clause-transcoded
+returns-in-Err-clause-transcoded g c = unread c.in-Err.error (search rules) refl c.in-Err.ensures.refused

@@ -1,0 +1,53 @@
+// The readers of DER, as readers that are fed from a source.
+ghost use Rattle.std.specs.Prelude.{◌≡◌, ℕ, List};
+ghost use Rattle.lexical_core.specs.declared.rule.Rule.TheVariants.{DerTruncated};
+ghost use Rattle.der_model.specs.DerMessage.{der_message};
+ghost use Rattle.der_model.specs.Faults.{DerFault};
+ghost use Rattle.der_codec.specs.Checking.{HasFed, IsMadeFor, IsSpelled, fault_of};
+ghost use Rattle.der_codec.specs.ReadInstances.{HasKept, IsReaderFor};
+ghost use Rattle.transcoder.specs.Checked.{HoldsDer};
+
+use crate::intake::Intake;
+use der_codec::{DerChecker, DerReader};
+use inst_pool::Instance;
+use message_model::{InstanceError, Model};
+
+impl Intake<()> for DerChecker {
+    ghost has_fed = { λ checker T bytes. HasFed checker T bytes };
+
+    ghost is_made_for = { λ checker T. IsMadeFor checker T };
+
+    ghost is_faulty = { λ T bytes fault. DerFault (der_message T) bytes (fault_of fault) };
+
+    ghost gives = { λ T bytes _. IsSpelled T bytes };
+
+    ghost cut_rule = { DerTruncated };
+
+    fn feed(&mut self, model: &Model, piece: &[u8]) -> Result<(), InstanceError> {
+        DerChecker::feed(self, model, piece)
+    }
+
+    fn finish(self, model: &Model) -> Result<(), InstanceError> {
+        DerChecker::finish(self, model)
+    }
+}
+
+impl Intake<Instance> for DerReader {
+    ghost has_fed = { λ reader T bytes. HasKept reader T bytes };
+
+    ghost is_made_for = { λ reader T. IsReaderFor reader T };
+
+    ghost is_faulty = { λ T bytes fault. DerFault (der_message T) bytes (fault_of fault) };
+
+    ghost gives = { λ T bytes instance. HoldsDer T bytes instance };
+
+    ghost cut_rule = { DerTruncated };
+
+    fn feed(&mut self, model: &Model, piece: &[u8]) -> Result<(), InstanceError> {
+        DerReader::feed(self, model, piece)
+    }
+
+    fn finish(self, model: &Model) -> Result<Instance, InstanceError> {
+        DerReader::finish(self, model)
+    }
+}

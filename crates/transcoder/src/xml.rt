@@ -1,0 +1,53 @@
+// The readers of XML instances, as readers that are fed from a source.
+ghost use Rattle.std.specs.Prelude.{ℕ, List};
+ghost use Rattle.lexical_core.specs.declared.rule.Rule.TheVariants.{Truncated};
+ghost use Rattle.message_model.specs.Tables.{message_of};
+ghost use Rattle.xml_instances.specs.XmlFaults.{XmlFault};
+ghost use Rattle.xml_instances.specs.Checking.{HasFed, IsMadeFor, IsSpelled, fault_of};
+ghost use Rattle.xml_instances.specs.ReadInstances.{HasFedReader, IsReaderFor};
+ghost use Rattle.transcoder.specs.Checked.{HoldsXml};
+
+use crate::intake::Intake;
+use inst_pool::Instance;
+use message_model::{InstanceError, Model};
+use xml_instances::{XmlChecker, XmlReader};
+
+impl Intake<()> for XmlChecker {
+    ghost has_fed = { λ checker T bytes. HasFed checker T bytes };
+
+    ghost is_made_for = { λ checker T. IsMadeFor checker T };
+
+    ghost is_faulty = { λ T bytes fault. XmlFault (message_of T) bytes (fault_of fault) };
+
+    ghost gives = { λ T bytes _. IsSpelled T bytes };
+
+    ghost cut_rule = { Truncated };
+
+    fn feed(&mut self, model: &Model, piece: &[u8]) -> Result<(), InstanceError> {
+        XmlChecker::feed(self, model, piece)
+    }
+
+    fn finish(self, model: &Model) -> Result<(), InstanceError> {
+        XmlChecker::finish(self, model)
+    }
+}
+
+impl Intake<Instance> for XmlReader {
+    ghost has_fed = { λ reader T bytes. HasFedReader reader T bytes };
+
+    ghost is_made_for = { λ reader T. IsReaderFor reader T };
+
+    ghost is_faulty = { λ T bytes fault. XmlFault (message_of T) bytes (fault_of fault) };
+
+    ghost gives = { λ T bytes instance. HoldsXml T bytes instance };
+
+    ghost cut_rule = { Truncated };
+
+    fn feed(&mut self, model: &Model, piece: &[u8]) -> Result<(), InstanceError> {
+        XmlReader::feed(self, model, piece)
+    }
+
+    fn finish(self, model: &Model) -> Result<Instance, InstanceError> {
+        XmlReader::finish(self, model)
+    }
+}

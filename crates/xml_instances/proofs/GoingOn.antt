@@ -1,0 +1,291 @@
+-- Pieces that are kept, from one step to the next.
+use Rattle.std.proofs.Common.{◌≡◌, ℕ, Bool, true, false, List, [], ◌∷◌, ◌++◌, Option, Some, None, refl, sym, ap, ◌∙◌, subst}
+use Rattle.std.specs.Prelude.{Result, Ok, Err, OnOk, map}
+use Rattle.std.specs.Str.{bytes_eq, chars}
+use Rattle.lexical_core.specs.Tree.{Expanded, Entry, Item, Starts, Char, Ends, Skipped}
+use Rattle.lexical_core.specs.declared.rule.Rule.{Rule}
+use Rattle.facets.specs.LeafUnder.{GivesLeaf}
+use Rattle.facets.specs.declared.simple.Simple.{Simple}
+use Rattle.reference_check.specs.Forms.{Graph, Form, Slot, form_slots, text_type}
+use Rattle.reference_check.specs.Forms as form
+use Rattle.reference_check.specs.Steps.{next}
+use Rattle.message_model.specs.Message.{Message}
+use Rattle.message_model.specs.Tables.{Tables, message_of, types_of}
+use Rattle.message_model.specs.Writes.{named, currency, value_of, SpellsCode}
+use Rattle.markup.specs.EventItems.{entry_of}
+use Rattle.markup.specs.declared.event.Attr.{Attr}
+use Rattle.xml_instances.specs.Levels.{Level, Parent, Leaf, Envelope, Foreign, begun, levels_after, levels_over, form_of_start, round_start, path_in}
+use Rattle.xml_instances.specs.EventFaults.{EventFault, AttributeFault, place_fault, next_fault}
+use Rattle.xml_instances.specs.Built.{Shown, nothing_shown, with_event, TextShown, CurrencyShown, CodeShown, LeafShown, EndShown, StartShown, ShowsBeside, EventShows, EventsShow}
+use Rattle.xml_instances.specs.Keeping.{PiecesKept, GoOn, KeepsShown, IsBuilt, is_within, MayShow, MayShowText}
+use Rattle.xml_instances.specs.Open.{Stands, StandsFor, HoldsText, IsOpen, IsCode, form_at, AreMade, AreKept, IsTextMade}
+use Rattle.xml_instances.specs.declared.spare.Checks.{Checks}
+use Rattle.xml_instances.specs.declared.content.Content.{Content}
+use Rattle.xml_instances.specs.declared.content.OpenText.{OpenText}
+use Rattle.xml_instances.specs.declared.opened.Opened.{Opened}
+use Rattle.xml_instances.specs.declared.opened.Opened.TheVariants as opened
+use Rattle.xml_instances.proofs.Accepts.{Comes, comes, no_fault, unless_in, if_else}
+
+-- one step after another
+pub go_then : {Q R S : Shown → Shown → Type 0} (a b c : Option PiecesKept) → ((s u t : Shown) → R s u → S u t → Q s t) → GoOn a b R → GoOn b c S → GoOn a c Q
+go_then None None None join f g = tt
+go_then (Some p) (Some q) (Some r) join f g = λ s h.
+    let x = f s h in
+    let y = g x.0 x.2 in
+    (y.0, join s x.0 y.0 x.1 y.1, y.2)
+go_then None None (Some r) join f g = absurd g
+go_then None (Some q) c join f g = absurd f
+go_then (Some p) None c join f g = absurd f
+go_then (Some p) (Some q) None join f g = absurd g
+
+pub go_as : {R S : Shown → Shown → Type 0} (a b : Option PiecesKept) → ((s t : Shown) → R s t → S s t) → GoOn a b R → GoOn a b S
+go_as None None as_ f = tt
+go_as (Some p) (Some q) as_ f = λ s h. (let x = f s h in (x.0, as_ s x.0 x.1, x.2))
+go_as None (Some q) as_ f = absurd f
+go_as (Some p) None as_ f = absurd f
+
+pub go_still : (a b : Option PiecesKept) → b ≡ a → GoOn a b (λ s t. t ≡ s)
+go_still a b e = subst (λ (x : Option PiecesKept). GoOn a x (λ s t. t ≡ s)) (sym e) (same a)
+  where
+    same : (a : Option PiecesKept) → GoOn a a (λ s t. t ≡ s)
+    same None = tt
+    same (Some p) = λ s h. (s, refl, h)
+
+pub on_ok : {T E : Type 0} {P Q : Type 0} (r : Result T E) → (P → Q) → OnOk r P → OnOk r Q
+on_ok (Ok x) f h = f h
+on_ok (Err e) f h = tt
+
+-- ---- the end of an element
+
+pub text_leaf : {T E : Type 0} (m : Message ℕ) (text : Option OpenText) (o : Option Opened) (e : Opened) (l : Level ℕ) (r : Result T E) (a b : Option PiecesKept) → o ≡ Some opened.Text → o ≡ Some e → StandsFor m text e l
+    → ((simple : Simple) (t : List ℕ) → HoldsText m text simple t → OnOk r (GoOn a b (TextShown simple t))) → OnOk r (GoOn a b (LeafShown l))
+text_leaf {T} {E} m text o e l r a b is same h k = go l (subst (λ (x : Opened). StandsFor m text x l) (let q : Some e ≡ Some opened.Text = sym same ∙ is in let q2 : e ≡ opened.Text = cc in q2) h)
+  where
+    go : (l : Level ℕ) → StandsFor m text opened.Text l → OnOk r (GoOn a b (LeafShown l))
+    go (Leaf simple t) h = k simple t h
+    go (Parent f d) h = absurd h
+    go (Envelope has) h = absurd h
+    go Foreign h = absurd h
+
+pub text_shown : {T E : Type 0} (simple other : Simple) (text : List ℕ) (rule : Option Rule) (r : Result T E) (a b : Option PiecesKept) → other ≡ simple → OnOk r (rule ≡ None) → (rule ≡ None → GoOn a b (TextShown other text)) → OnOk r (GoOn a b (TextShown simple text))
+text_shown simple other text rule r a b same ok shown = on_ok r (λ none. subst (λ (x : Simple). GoOn a b (TextShown x text)) same (shown none)) ok
+
+pub end_shown : (T : Tables) (ls : List (Level ℕ)) (n : Expanded) (o : Option Opened) (text : Option OpenText) (round : List Opened) (a b : Option PiecesKept) → Stands (message_of T) text o round ls
+    → (o ≡ None → b ≡ a) → ((l : Level ℕ) (e : Opened) → o ≡ Some e → StandsFor (message_of T) text e l → GoOn a b (EndShown l)) → GoOn a b (ShowsBeside T ls (Ends n))
+end_shown T [] n None text round a b h out ends = go_still a b (out refl)
+end_shown T [] n (Some e) text round a b h out ends = absurd h
+end_shown T (l ∷ ls) n None text round a b h out ends = absurd h
+end_shown T (l ∷ ls) n (Some e) text round a b h out ends = ends l e refl h.0
+
+-- ---- the start of one
+
+pub start_shown : {T E : Type 0} (tables : Tables) (ls : List (Level ℕ)) (n : Expanded) (attributes : List Entry) (type : Option ℕ) (a b c : Option PiecesKept) (r : Result T E) → form_of_start (message_of tables) ls n ≡ form_at (message_of tables) type
+    → GoOn a b (StartShown ls n.local) → OnOk r (GoOn b c (CodeShown tables (form_at (message_of tables) type) attributes)) → OnOk r (GoOn a c (ShowsBeside tables ls (Starts n attributes)))
+start_shown tables ls n attributes type a b c r is first = on_ok r (λ then_.
+    go_then {Q = ShowsBeside tables ls (Starts n attributes)} {R = StartShown ls n.local} {S = CodeShown tables (form_at (message_of tables) type) attributes} a b c
+    (λ s u t x y. (u, x, subst (λ (f : Option (Form ℕ Simple)). CodeShown tables f attributes u t) (sym is) y)) first then_)
+
+pub start_shown_at : {T E : Type 0} (tables : Tables) (ls : List (Level ℕ)) (a b : Option PiecesKept) (r : Result T E) (ns space local tag : List ℕ) (attrs more : List Attr) → ns ≡ space → local ≡ tag → attrs ≡ more
+    → OnOk r (GoOn a b (ShowsBeside tables ls (Starts (named ns local) (map entry_of attrs)))) → OnOk r (GoOn a b (ShowsBeside tables ls (Starts (named space tag) (map entry_of more))))
+start_shown_at tables ls a b r ns space local tag attrs more e f g h =
+    subst (λ (x : List ℕ). OnOk r (GoOn a b (ShowsBeside tables ls (Starts (named x tag) (map entry_of more))))) e
+    (subst (λ (x : List ℕ). OnOk r (GoOn a b (ShowsBeside tables ls (Starts (named ns x) (map entry_of more))))) f
+    (subst (λ (x : List Attr). OnOk r (GoOn a b (ShowsBeside tables ls (Starts (named ns local) (map entry_of x))))) g h))
+
+pub currency_shown : {T E : Type 0} (f : Form ℕ Simple) (simple : Simple) (value : List ℕ) (attributes : List Entry) (rule : Option Rule) (r : Result T E) (a b : Option PiecesKept) → IsCode f → Some simple ≡ text_type f → Some value ≡ value_of currency attributes
+    → OnOk r (rule ≡ None) → (rule ≡ None → GoOn a b (TextShown simple (chars value))) → OnOk r (GoOn a b (CurrencyShown f attributes))
+currency_shown f simple value attributes rule r a b (s, code) e found ok shown = on_ok r (λ none.
+    go_as {R = TextShown simple (chars value)} {S = CurrencyShown f attributes} a b
+    (λ x y (l, gives, is). (value, l, sym found, subst (λ (g : Form ℕ Simple). SpellsCode g (chars value) l) (sym code) (subst (λ (z : Simple). GivesLeaf z (chars value) l) same gives), is)) (shown none)) ok
+  where
+    same : simple ≡ s
+    same = (let k : Some simple ≡ Some s = e ∙ ap text_type code in cc)
+
+pub code_of_form : {T E : Type 0} (tables : Tables) (f : Form ℕ Simple) (code : ℕ) (number : Simple) (attributes : List Entry) (a b : Option PiecesKept) (r : Result T E) → f ≡ form.Money code number
+    → OnOk r (GoOn a b (CurrencyShown (types_of tables code) attributes)) → OnOk r (GoOn a b (CodeShown tables (Some f) attributes))
+code_of_form tables f code number attributes a b r is h = subst (λ (g : Form ℕ Simple). OnOk r (GoOn a b (CodeShown tables (Some g) attributes))) (sym is) h
+
+-- ---- events of the element of an envelope
+
+within_at : (m : Message ℕ) (text : Option OpenText) (e : Opened) (l : Level ℕ) (ls : List (Level ℕ)) (item : Item) (s : Shown) → StandsFor m text e l → is_within (Some e) item ≡ false → with_event (l ∷ ls) item s ≡ s
+within_at m text opened.Foreign Foreign ls Skipped s h w = refl
+within_at m text opened.Foreign Foreign ls (Starts n a) s h w = cc
+within_at m text opened.Foreign Foreign ls (Char c) s h w = cc
+within_at m text opened.Foreign Foreign ls (Ends n) s h w = cc
+within_at m text opened.Foreign (Parent f d) ls item s h w = absurd h
+within_at m text opened.Foreign (Leaf simple t) ls item s h w = absurd h
+within_at m text opened.Foreign (Envelope has) ls item s h w = absurd h
+within_at m text (opened.Envelope filled) (Envelope has) ls (Starts n a) s h w = cc
+within_at m text (opened.Envelope filled) (Envelope has) ls (Char c) s h w = refl
+within_at m text (opened.Envelope filled) (Envelope has) ls (Ends n) s h w = refl
+within_at m text (opened.Envelope filled) (Envelope has) ls Skipped s h w = refl
+within_at m text (opened.Envelope filled) (Parent f d) ls item s h w = absurd h
+within_at m text (opened.Envelope filled) (Leaf simple t) ls item s h w = absurd h
+within_at m text (opened.Envelope filled) Foreign ls item s h w = absurd h
+within_at m text opened.Text (Leaf simple t) ls item s h w = refl
+within_at m text opened.Text (Parent f d) ls item s h w = absurd h
+within_at m text opened.Text (Envelope has) ls item s h w = absurd h
+within_at m text opened.Text Foreign ls item s h w = absurd h
+within_at m text (opened.Parent n last count) (Parent f d) ls item s h w = refl
+within_at m text (opened.Parent n last count) (Leaf simple t) ls item s h w = absurd h
+within_at m text (opened.Parent n last count) (Envelope has) ls item s h w = absurd h
+within_at m text (opened.Parent n last count) Foreign ls item s h w = absurd h
+
+-- an event that is none of them is not kept with them
+pub not_within : (m : Message ℕ) (text : Option OpenText) (o : Option Opened) (round : List Opened) (ls : List (Level ℕ)) (item : Item) (s : Shown) → Stands m text o round ls → is_within o item ≡ false → with_event ls item s ≡ s
+not_within m text None round [] item s h w = refl
+not_within m text (Some e) round (l ∷ ls) item s h w = within_at m text e l ls item s h.0 w
+not_within m text None round (l ∷ ls) item s h w = absurd h
+not_within m text (Some e) round [] item s h w = absurd h
+
+-- in an element that may show its events as they stand no event is kept with them
+may_show : (p : PiecesKept) (o : Option Opened) (item : Item) → MayShow (Some p) o → is_within o item ≡ false
+may_show p None item may = refl
+may_show p (Some opened.Text) item may = refl
+may_show p (Some opened.Foreign) item may = absurd may
+may_show p (Some (opened.Envelope filled)) item may = absurd may
+may_show p (Some (opened.Parent n last count)) item may = refl
+
+-- one event that is shown as it stands
+pub single_shown : (T : Tables) (ls : List (Level ℕ)) (item : Item) (o : Option Opened) (text : Option OpenText) (round : List Opened) (a b : Option PiecesKept) → Stands (message_of T) text o round ls → MayShow a o
+    → GoOn a b (ShowsBeside T ls item) → GoOn a b (EventsShow T ls (item ∷ []))
+single_shown T ls item o text round None None h may go = tt
+single_shown T ls item o text round None (Some q) h may go = absurd go
+single_shown T ls item o text round (Some p) None h may go = absurd go
+single_shown T ls item o text round (Some p) (Some q) h may go =
+    go_as {R = ShowsBeside T ls item} {S = EventsShow T ls (item ∷ [])} (Some p) (Some q)
+    (λ s t x. (t, subst (λ (y : Shown). ShowsBeside T ls item y t) (sym (not_within (message_of T) text o round ls item s h (may_show p o item may))) x, refl)) go
+
+-- ---- an element without content
+
+begun_ends : (f : Form ℕ Simple) (ls : List (Level ℕ)) (n : Expanded) (s : Shown) → with_event (begun f ∷ ls) (Ends n) s ≡ s
+begun_ends (form.Sequence fs) ls n s = refl
+begun_ends (form.Choice fs) ls n s = refl
+begun_ends (form.Simple simple) ls n s = refl
+begun_ends (form.Money c simple) ls n s = refl
+begun_ends form.Envelope ls n s = refl
+begun_ends form.LeftOut ls n s = refl
+begun_ends form.Missing ls n s = refl
+
+-- behind a start that breaks no rule the end of the element is none of the element of an envelope
+end_behind : (m : Message ℕ) (ls : List (Level ℕ)) (n : Expanded) (attributes : List Entry) (o : Option Opened) (text : Option OpenText) (round : List Opened) (p : PiecesKept) (k : Expanded) (s : Shown) → Stands m text o round ls → MayShow (Some p) o
+    → EventFault m ls (Starts n attributes) None → with_event (levels_after m ls (Starts n attributes)) (Ends k) s ≡ s
+end_behind m [] n attributes o text round p k s h may fine = begun_ends (m.forms m.root) [] k s
+end_behind m (Parent f d ∷ ls) n attributes o text round p k s h may fine =
+    let place : (bytes_eq n.namespace m.namespace ≡ true) × (next_fault (path_in ls) f (next f d n.local) ≡ None) =
+    if_else _ _ _ (unless_in (place_fault m (Parent f d ∷ ls) n) (AttributeFault m (form_of_start m (Parent f d ∷ ls) n) attributes (path_in (round_start (Parent f d ∷ ls) n))) fine).0 in
+    of_comes (comes (path_in ls) f d n.local place.1)
+  where
+    of_comes : Comes f d n.local → with_event (levels_after m (Parent f d ∷ ls) (Starts n attributes)) (Ends k) s ≡ s
+    of_comes (j, slot, found, tag, fine, slotted) = rw (slotted, found) (begun_ends (m.forms slot.target) _ k s)
+end_behind m (Leaf simple t ∷ ls) n attributes o text round p k s h may fine = no_fault _ (sym fine)
+end_behind m (Envelope has ∷ ls) n attributes None text round p k s h may fine = absurd h
+end_behind m (Envelope has ∷ ls) n attributes (Some (opened.Envelope filled)) text round p k s h may fine = absurd may
+end_behind m (Envelope has ∷ ls) n attributes (Some opened.Foreign) text round p k s h may fine = absurd may
+end_behind m (Envelope has ∷ ls) n attributes (Some opened.Text) text round p k s h may fine = absurd h.0
+end_behind m (Envelope has ∷ ls) n attributes (Some (opened.Parent x last count)) text round p k s h may fine = absurd h.0
+end_behind m (Foreign ∷ ls) n attributes None text round p k s h may fine = absurd h
+end_behind m (Foreign ∷ ls) n attributes (Some (opened.Envelope filled)) text round p k s h may fine = absurd may
+end_behind m (Foreign ∷ ls) n attributes (Some opened.Foreign) text round p k s h may fine = absurd may
+end_behind m (Foreign ∷ ls) n attributes (Some opened.Text) text round p k s h may fine = absurd h.0
+end_behind m (Foreign ∷ ls) n attributes (Some (opened.Parent x last count)) text round p k s h may fine = absurd h.0
+
+pub empty_shown : (T : Tables) (ls : List (Level ℕ)) (n : Expanded) (o : Option Opened) (text : Option OpenText) (round : List Opened) (a b c : Option PiecesKept) → Stands (message_of T) text o round ls → MayShow a o
+    → EventFault (message_of T) ls (Starts n []) None → GoOn a b (ShowsBeside T ls (Starts n [])) → GoOn b c (ShowsBeside T (levels_after (message_of T) ls (Starts n [])) (Ends n)) → GoOn a c (EventsShow T ls (Starts n [] ∷ Ends n ∷ []))
+empty_shown T ls n o text round None None None h may fine go on = tt
+empty_shown T ls n o text round None None (Some r) h may fine go on = absurd on
+empty_shown T ls n o text round None (Some q) c h may fine go on = absurd go
+empty_shown T ls n o text round (Some p) None c h may fine go on = absurd go
+empty_shown T ls n o text round (Some p) (Some q) None h may fine go on = absurd on
+empty_shown T ls n o text round (Some p) (Some q) (Some r) h may fine go on =
+    let m : Message ℕ = message_of T in
+    let after : List (Level ℕ) = levels_after m ls (Starts n []) in
+    go_then {Q = EventsShow T ls (Starts n [] ∷ Ends n ∷ [])} {R = ShowsBeside T ls (Starts n [])} {S = ShowsBeside T after (Ends n)} (Some p) (Some q) (Some r)
+    (λ s u t x y. (
+      u,
+      subst (λ (z : Shown). ShowsBeside T ls (Starts n []) z u) (sym (not_within m text o round ls (Starts n []) s h (may_show p o (Starts n []) may))) x,
+      (t, subst (λ (z : Shown). ShowsBeside T after (Ends n) z t) (sym (end_behind m ls n [] o text round p n u h may fine)) y, refl),
+    )) go on
+
+-- ---- characters
+
+-- a run of characters that may be shown as they stand shows nothing
+pub run_shown : (T : Tables) (ls : List (Level ℕ)) (cs : List ℕ) (o : Option Opened) (text : Option OpenText) (round : List Opened) (p : PiecesKept) (s : Shown) → Stands (message_of T) text o round ls → MayShowText (Some p) o → EventsShow T ls (map (λ c. Char c) cs) s s
+run_shown T ls cs o text round p s h may = by o ls h may
+  where
+    none : (cs : List ℕ) → EventsShow T [] (map (λ c. Char c) cs) s s
+    none [] = refl
+    none (c ∷ cs) = (s, refl, none cs)
+
+    parent : (f : Form ℕ Simple) (d : List ℕ) (ls : List (Level ℕ)) (cs : List ℕ) → EventsShow T (Parent f d ∷ ls) (map (λ c. Char c) cs) s s
+    parent f d ls [] = refl
+    parent f d ls (c ∷ cs) = (s, refl, parent f d ls cs)
+
+    envelope : (has : Bool) (ls : List (Level ℕ)) (cs : List ℕ) → EventsShow T (Envelope has ∷ ls) (map (λ c. Char c) cs) s s
+    envelope has ls [] = refl
+    envelope has ls (c ∷ cs) = (s, refl, envelope has ls cs)
+
+    in_text : (simple : Simple) (t : List ℕ) (ls : List (Level ℕ)) (cs : List ℕ) → EventsShow T (Leaf simple t ∷ ls) (map (λ c. Char c) cs) s s
+    in_text simple t ls [] = refl
+    in_text simple t ls (c ∷ cs) = (s, refl, in_text simple (t ++ c ∷ []) ls cs)
+
+    at : (e : Opened) (l : Level ℕ) (ls : List (Level ℕ)) → StandsFor (message_of T) text e l → MayShowText (Some p) (Some e) → EventsShow T (l ∷ ls) (map (λ c. Char c) cs) s s
+    at e (Parent f d) ls h may = parent f d ls cs
+    at e (Envelope has) ls h may = envelope has ls cs
+    at e (Leaf simple t) ls h may = in_text simple t ls cs
+    at opened.Foreign Foreign ls h may = absurd may
+    at opened.Text Foreign ls h may = absurd h
+    at (opened.Envelope filled) Foreign ls h may = absurd h
+    at (opened.Parent n last count) Foreign ls h may = absurd h
+
+    by : (o : Option Opened) (ls : List (Level ℕ)) → Stands (message_of T) text o round ls → MayShowText (Some p) o → EventsShow T ls (map (λ c. Char c) cs) s s
+    by None [] h may = none cs
+    by None (l ∷ ls) h may = absurd h
+    by (Some e) [] h may = absurd h
+    by (Some e) (l ∷ ls) h may = at e l ls h.0 may
+
+-- ---- the content as it stands, where only pieces changed
+
+pub open_same : (m : Message ℕ) (old new : Content) (ls : List (Level ℕ)) → new.text ≡ old.text → new.innermost ≡ old.innermost → new.round ≡ old.round → IsOpen old m ls → IsOpen new m ls
+open_same m old new ls t i r h =
+    subst (λ (x : Option OpenText). Stands m x new.innermost new.round.items ls) (sym t)
+    (subst (λ (x : Option Opened). Stands m old.text x new.round.items ls) (sym i) (subst (λ (x : List Opened). Stands m old.text old.innermost x ls) (sym (ap (λ v. v.items) r)) h))
+
+-- ---- several events
+
+pub shown_joined : (T : Tables) (ls : List (Level ℕ)) (a b : List Item) (s u t : Shown) → EventsShow T ls a s u → EventsShow T (levels_over (message_of T) ls a) b u t → EventsShow T ls (a ++ b) s t
+shown_joined T ls [] b s u t h k = subst (λ (x : Shown). EventsShow T ls b x t) h k
+shown_joined T ls (item ∷ a) b s u t (v, x, h) k = (v, x, shown_joined T (levels_after (message_of T) ls item) a b v u t h k)
+
+pub go_on : (T : Tables) (ls : List (Level ℕ)) (before more : List Item) (a b c : Option PiecesKept) → GoOn a b (EventsShow T ls before) → GoOn b c (EventsShow T (levels_over (message_of T) ls before) more) → GoOn a c (EventsShow T ls (before ++ more))
+go_on T ls before more a b c f g =
+    go_then {Q = EventsShow T ls (before ++ more)} {R = EventsShow T ls before} {S = EventsShow T (levels_over (message_of T) ls before) more} a b c (λ s u t x y. shown_joined T ls before more s u t x y) f g
+
+-- one event more
+pub go_one : (T : Tables) (ls : List (Level ℕ)) (item : Item) (a b : Option PiecesKept) → GoOn a b (EventShows T ls item) → GoOn a b (EventsShow T ls (item ∷ []))
+go_one T ls item a b f = go_as {R = EventShows T ls item} {S = EventsShow T ls (item ∷ [])} a b (λ s t x. (t, x, refl)) f
+
+pub built_on : (T : Tables) (before more : List Item) (a b : Option PiecesKept) → IsBuilt a T before → GoOn a b (EventsShow T (levels_over (message_of T) [] before) more) → IsBuilt b T (before ++ more)
+built_on T before more None None h go = tt
+built_on T before more None (Some q) h go = absurd go
+built_on T before more (Some p) None h go = absurd go
+built_on T before more (Some p) (Some q) (s, shows, kept) go = (let x = go s kept in (x.0, shown_joined T [] before more nothing_shown s x.0 shows x.1, x.2))
+
+pub built_still : (T : Tables) (items : List Item) (a b : Option PiecesKept) → b ≡ a → IsBuilt a T items → IsBuilt b T items
+built_still T items a b e h = subst (λ (x : Option PiecesKept). IsBuilt x T items) (sym e) h
+
+-- a run of characters
+pub run_goes_on : (T : Tables) (ls : List (Level ℕ)) (cs : List ℕ) (o : Option Opened) (text : Option OpenText) (round : List Opened) (a b : Option PiecesKept) → b ≡ a → Stands (message_of T) text o round ls → MayShowText a o → GoOn a b (EventsShow T ls (map (λ c. Char c) cs))
+run_goes_on T ls cs o text round a b e h may = subst (λ (x : Option PiecesKept). GoOn a x (EventsShow T ls (map (λ c. Char c) cs))) (sym e) (by a may)
+  where
+    by : (a : Option PiecesKept) → MayShowText a o → GoOn a a (EventsShow T ls (map (λ c. Char c) cs))
+    by None may = tt
+    by (Some p) may = λ s k. (s, run_shown T ls cs o text round p s h may, k)
+
+-- pieces are kept from the start
+pub built_first : (T : Tables) (a : Option PiecesKept) → KeepsShown a nothing_shown → IsBuilt a T []
+built_first T None h = absurd h
+built_first T (Some p) h = (nothing_shown, refl, h)
+
+pub made_same : (types : Graph ℕ Simple) (old new : Content) → new.checks ≡ old.checks → new.text ≡ old.text → AreMade types old → AreMade types new
+made_same types old new c t h = record { kept = subst (λ (x : Checks). AreKept types x) (sym c) h.kept; text = subst (λ (x : Option OpenText). IsTextMade types x) (sym t) h.text }

@@ -1,0 +1,17 @@
+use Rattle.std.proofs.Common.{refl}
+use Rattle.data_types.specs.Leaf.{Bytes}
+use Rattle.xml_instances.proofs.KeptPieces.{held_types, told_flat, envelope_shown, kept_as}
+use Rattle.xml_instances.proofs.pieces.Pieces.envelope.Goals as goal
+
+pub invariant_of-self : goal.invariant_of-self
+invariant_of-self c = held_types c.self.inside.types.items c.self.inside.builder.pieces c.hold_bytes.new.builder.pieces (Bytes c.text.result.now) c.hold_bytes.result c.self.invariant c.hold_bytes.ensures.ok c.hold_bytes.ensures.err
+
+pub invariant_of-self-2 : goal.invariant_of-self-2
+invariant_of-self-2 c = held_types c.self.inside.types.items c.self.inside.builder.pieces c.hold_bytes.new.builder.pieces (Bytes c.text.result.now) c.hold_bytes.result c.self.invariant c.hold_bytes.ensures.ok c.hold_bytes.ensures.err
+
+pub returns : goal.returns
+returns c = rw (← c.self.view_is) (λ s h. (
+  _,
+  (c.text.result.now, (λ tree is. c.text.ensures s.inside tree h.inside_are (told_flat tree s.inside is)), refl),
+  envelope_shown (kept_as c.self.inside.builder.pieces c.self.inside.element) s c.text.result.now c.hold_bytes.new.builder.pieces c.new.result h c.new.ensures c.in_ok-hold_bytes.ensures.ok,
+))

@@ -1,0 +1,22 @@
+-- What a reader of an instance was given: it is a checker that keeps pieces.
+use Rattle.std.specs.Prelude.{ℕ, List, Option}
+use Rattle.message_model.specs.Tables.{Tables}
+use Rattle.message_model.specs.declared.fault.InstanceError.{InstanceError}
+use Rattle.xml_instances.specs.Checking.{HasFed, IsMadeFor, fed, failed}
+use Rattle.xml_instances.specs.declared.reader.XmlReader.{XmlReader}
+
+-- the reader goes on: it was given these bytes, and none of their events breaks a rule
+abbrev pub HasFedReader : XmlReader → Tables → List ℕ → Type 0
+HasFedReader reader T bytes = HasFed reader.checker T bytes
+
+-- the reader was made for the message of these tables
+abbrev pub IsReaderFor : XmlReader → Tables → Type 0
+IsReaderFor reader T = IsMadeFor reader.checker T
+
+-- how many bytes the reader was given
+abbrev pub reader_fed : XmlReader → ℕ
+reader_fed reader = fed reader.checker
+
+-- the answer that it gives for good, where there is one
+abbrev pub reader_failed : XmlReader → Option InstanceError
+reader_failed reader = failed reader.checker

@@ -1,0 +1,221 @@
+// The pieces of an instance, kept as its events come.
+ghost use Rattle.std.specs.Prelude.{◌≡◌, ◌++◌, ◌∷◌, [], Some, OnOk, OnErr, IfSome, true, false, ◌<◌, length};
+ghost use Rattle.data_types.specs.Leaf.{Bytes};
+ghost use Rattle.data_types.specs.LeafAnswers.{leaf_of};
+ghost use Rattle.data_types.specs.Value.{Holds};
+ghost use Rattle.inst_pool.specs.Pieces.{open_in};
+ghost use Rattle.markup.specs.EventItems.{item_of};
+ghost use Rattle.respell.specs.Respelling.{HasSortedAttributes};
+ghost use Rattle.xml_instances.specs.Built.{Shown, nothing_shown, type_at, with_begun, with_leaf, with_inside, closed, FragmentShown};
+ghost use Rattle.xml_instances.specs.Keeping.{HasShown, GoOn};
+
+use data_types::LeafRef;
+use inst_pool::{Builder, Edge, Instance};
+use markup::Event;
+use respell::Respell;
+use std::alloc::{AllocError, Global};
+use std::marker::Model;
+
+/// The pieces so far, and what writes the element of an envelope that is open.
+#[derive(Drop)]
+pub(crate) struct Pieces {
+    alloc: Global,
+    builder: Builder,
+    /// The types of the open elements, the innermost last. `Document` is not among them.
+    types: Vec<u32>,
+    element: Respell,
+}
+
+impl Model for Pieces {
+    ghost use Rattle.std.specs.Prelude.{◌≡◌, map, reverse};
+    ghost use Rattle.inst_pool.specs.Pieces.{open_in};
+    ghost use Rattle.xml_instances.specs.Keeping.{PiecesKept};
+
+    ghost Value = { PiecesKept };
+
+    ghost view = { λ p. record { pieces = p.builder.pieces; element = p.element } };
+
+    ghost invariant = { λ p. map (λ e. e.target) (open_in p.builder.pieces) ≡ reverse p.types.items };
+}
+
+impl Pieces {
+    /// Nothing was shown. It takes no memory.
+    pub(crate) fn new(alloc: Global) -> Pieces
+        ensures { HasShown result nothing_shown }
+    {
+        Pieces {
+            alloc,
+            builder: Builder::new(alloc),
+            types: Vec::new(alloc),
+            element: Respell::new(alloc),
+        }
+    }
+
+    /// The type of the innermost open element, which is `Document` where no other is open.
+    fn innermost(&self) -> u32
+        ensures { result ≡ type_at (open_in self.now.pieces) }
+    {
+        match self.types.last() {
+            Some(number) => *number,
+            None => 0,
+        }
+    }
+
+    /// An element begins: its slot in the innermost one, and its type.
+    fn begin(&mut self, slot: u32, target: u32) -> Result<(), AllocError>
+        ensures { (s : Shown) → HasShown self.old s
+            → OnOk result (HasShown self.new (with_begun (Some (record { slot = slot; target = target; parent = type_at s.edges })) s)) }
+    {
+        let parent = self.innermost();
+        self.types.push(target)?;
+        match self.builder.begin(Edge {
+            slot,
+            target,
+            parent,
+        }) {
+            Ok(()) => Ok(()),
+            Err(error) => {
+                self.types.pop();
+                Err(error)
+            }
+        }
+    }
+
+    /// Whether no element but `Document` is open.
+    fn is_closed(&self) -> bool
+        ensures closed { result ≡ true → open_in self.now.pieces ≡ [] }
+        ensures open { result ≡ false → 0 < length (open_in self.now.pieces) }
+    {
+        self.types.is_empty()
+    }
+
+    /// The leaf of the innermost element.
+    fn leaf(&mut self, leaf: &LeafRef<'_>) -> Result<(), AllocError>
+        ensures { (s : Shown) → HasShown self.old s → OnOk result (HasShown self.new (with_leaf (leaf_of leaf.now) s)) }
+    {
+        hold(&mut self.builder, leaf)
+    }
+
+    /// The innermost element ends.
+    fn close(&mut self) -> Result<(), AllocError>
+        ensures { (s : Shown) → HasShown self.old s → OnOk result (HasShown self.new (closed s)) }
+    {
+        if self.is_closed() {
+            return Ok(());
+        }
+        match self.builder.close() {
+            Ok(()) => {
+                self.types.pop();
+                Ok(())
+            }
+            Err(error) => Err(error),
+        }
+    }
+
+    /// An event of the element of an envelope. The attributes of an element that starts have to be sorted.
+    fn inside(&mut self, event: &Event) -> Result<(), AllocError>
+        ensures { (s : Shown) → HasShown self.old s → HasSortedAttributes (item_of event.now.what) → OnOk result (HasShown self.new (with_inside (item_of event.now.what) s)) }
+    {
+        self.element.take(event)
+    }
+
+    /// The element of the envelope is its leaf.
+    fn envelope(&mut self) -> Result<(), AllocError>
+        ensures { (s : Shown) → HasShown self.old s → OnOk result ((t : Shown) × FragmentShown s t × HasShown self.new t) }
+    {
+        hold_bytes(&mut self.builder, self.element.text())?;
+        self.element = Respell::new(self.alloc);
+        Ok(())
+    }
+
+    /// The instance; `None` where an element is open.
+    pub(crate) fn finish(self) -> Option<Instance>
+        ensures { IfSome result (λ i. i.region.pieces ≡ self.pieces) }
+    {
+        let Pieces { builder, types, .. } = self;
+        if types.is_empty() {
+            Some(builder.finish())
+        } else {
+            None
+        }
+    }
+}
+
+/// Appends a leaf.
+fn hold(builder: &mut Builder, leaf: &LeafRef<'_>) -> Result<(), AllocError>
+    ensures ok { OnOk result (builder.new.pieces ≡ builder.old.pieces ++ Holds (leaf_of leaf.now) ∷ []) }
+    ensures err { OnErr result (builder.new.pieces ≡ builder.old.pieces) }
+{
+    match leaf {
+        LeafRef::Bytes(bytes) => builder.leaf(LeafRef::Bytes(bytes)),
+        LeafRef::Number(number) => builder.leaf(LeafRef::Number(*number)),
+        LeafRef::Flag(flag) => builder.leaf(LeafRef::Flag(*flag)),
+        LeafRef::Code(place) => builder.leaf(LeafRef::Code(*place)),
+    }
+}
+
+/// A leaf of bytes.
+fn leaf_of_bytes(bytes: &[u8]) -> LeafRef<'_>
+    ensures { leaf_of result ≡ Bytes bytes.now }
+{
+    LeafRef::Bytes(bytes)
+}
+
+/// Appends a leaf of bytes.
+fn hold_bytes(builder: &mut Builder, bytes: &[u8]) -> Result<(), AllocError>
+    ensures ok { OnOk result (builder.new.pieces ≡ builder.old.pieces ++ Holds (Bytes bytes.now) ∷ []) }
+    ensures err { OnErr result (builder.new.pieces ≡ builder.old.pieces) }
+{
+    let leaf = leaf_of_bytes(bytes);
+    hold(builder, &leaf)
+}
+
+/// An element begins, where pieces are kept.
+pub(crate) fn begin(pieces: &mut Option<Pieces>, slot: u32, target: u32) -> Result<(), AllocError>
+    ensures { OnOk result (GoOn pieces.old pieces.new (λ s t. t ≡ with_begun (Some (record { slot = slot; target = target; parent = type_at s.edges })) s)) }
+{
+    match pieces {
+        None => Ok(()),
+        Some(pieces) => pieces.begin(slot, target),
+    }
+}
+
+/// The leaf of the innermost element, where pieces are kept.
+pub(crate) fn leaf(pieces: &mut Option<Pieces>, leaf: &LeafRef<'_>) -> Result<(), AllocError>
+    ensures { OnOk result (GoOn pieces.old pieces.new (λ s t. t ≡ with_leaf (leaf_of leaf.now) s)) }
+{
+    match pieces {
+        None => Ok(()),
+        Some(pieces) => pieces.leaf(leaf),
+    }
+}
+
+/// The innermost element ends, where pieces are kept.
+pub(crate) fn close(pieces: &mut Option<Pieces>) -> Result<(), AllocError>
+    ensures { OnOk result (GoOn pieces.old pieces.new (λ s t. t ≡ closed s)) }
+{
+    match pieces {
+        None => Ok(()),
+        Some(pieces) => pieces.close(),
+    }
+}
+
+/// An event of the element of an envelope, where pieces are kept.
+pub(crate) fn inside(pieces: &mut Option<Pieces>, event: &Event) -> Result<(), AllocError>
+    ensures { HasSortedAttributes (item_of event.now.what) → OnOk result (GoOn pieces.old pieces.new (λ s t. t ≡ with_inside (item_of event.now.what) s)) }
+{
+    match pieces {
+        None => Ok(()),
+        Some(pieces) => pieces.inside(event),
+    }
+}
+
+/// The element of the envelope is its leaf, where pieces are kept.
+pub(crate) fn envelope(pieces: &mut Option<Pieces>) -> Result<(), AllocError>
+    ensures { OnOk result (GoOn pieces.old pieces.new FragmentShown) }
+{
+    match pieces {
+        None => Ok(()),
+        Some(pieces) => pieces.envelope(),
+    }
+}

@@ -1,0 +1,65 @@
+// A reader of XML instances that takes their bytes in pieces, and keeps the pieces of the instance.
+ghost use Rattle.std.specs.Prelude.{◌≡◌, ◌+◌, ◌≤◌, ◌^◌, ◌++◌, ℕ, List, [], IfOk, IfErr, Some, None, Err, length};
+ghost use Rattle.message_model.specs.Tables.{Tables, message_of};
+ghost use Rattle.xml_instances.specs.Levels.{levels_over};
+ghost use Rattle.xml_instances.specs.XmlFaults.{items_told};
+ghost use Rattle.xml_instances.specs.Checking.{Stops, EndsAs, IsAgain, IsSpelledAs};
+ghost use Rattle.xml_instances.specs.ReadInstances.{HasFedReader, IsReaderFor, reader_fed, reader_failed};
+
+use crate::checker::XmlChecker;
+use inst_pool::Instance;
+use message_model::{InstanceError, Model};
+use std::alloc::{AllocError, Global};
+
+/// A reader of an instance. Beside what `XmlChecker` keeps it has the pieces of the elements so far, and the canonical
+/// fragment so far of the element of an envelope.
+#[derive(Drop)]
+pub struct XmlReader {
+    checker: XmlChecker,
+}
+
+impl XmlReader {
+    /// A reader for the message before the first byte.
+    pub fn new(alloc: Global, model: &Model) -> Result<XmlReader, AllocError>
+        ensures fed { IfOk result (λ r. HasFedReader r model.now []) }
+        ensures made { IfOk result (λ r. IsReaderFor r model.now) }
+        ensures none { IfOk result (λ r. reader_fed r ≡ 0) }
+    {
+        Ok(XmlReader {
+            checker: XmlChecker::with_pieces(alloc, model)?,
+        })
+    }
+
+    /// How many elements are open, those in envelopes too.
+    pub fn depth(&self) -> usize
+        ensures { (T : Tables) (bytes : List ℕ) (h : HasFedReader self.now T bytes) → result ≡ length (levels_over (message_of T) [] (items_told h.told)) }
+    {
+        self.checker.depth()
+    }
+
+    /// Takes the next bytes, of at most 2^40 in all. It answers the first fault at the byte that
+    /// shows it, its place a byte number from 0. After an error it gives the same answer to every
+    /// later call, or that there is no memory for it.
+    pub fn feed(&mut self, model: &Model, piece: &[u8]) -> Result<(), InstanceError>
+        requires room { reader_failed self.old ≡ None → reader_fed self.old + length piece.now ≤ 2 ^ 40 }
+        requires made { IsReaderFor self.old model.now }
+        ensures made { IsReaderFor self.new model.now }
+        ensures ok { (bytes : List ℕ) → HasFedReader self.old model.now bytes → IfOk result (λ _. HasFedReader self.new model.now (bytes ++ piece.now)) }
+        ensures err { (bytes : List ℕ) → HasFedReader self.old model.now bytes → IfErr result (λ e. Stops model.now (bytes ++ piece.now) e) }
+        ensures count { IfOk result (λ _. reader_fed self.new ≡ reader_fed self.old + length piece.now) }
+        ensures failed { reader_failed self.old ≡ None → IfErr result (λ e. reader_failed self.new ≡ Some e) }
+        ensures again { (e : InstanceError) → reader_failed self.old ≡ Some e → IsAgain e result × (reader_failed self.new ≡ reader_failed self.old) }
+    {
+        self.checker.feed(model, piece)
+    }
+
+    /// The end of the bytes: the pieces of the instance that they spell, or their first fault. After
+    /// an error of `feed` it gives the same.
+    pub fn finish(self, model: &Model) -> Result<Instance, InstanceError>
+        ensures ok { (bytes : List ℕ) → HasFedReader self model.now bytes → IfOk result (λ i. IsSpelledAs model.now bytes i.region.pieces) }
+        ensures err { (bytes : List ℕ) → HasFedReader self model.now bytes → IfErr result (λ e. EndsAs model.now bytes e) }
+        ensures again { (e : InstanceError) → reader_failed self ≡ Some e → result ≡ Err e }
+    {
+        self.checker.finish_pieces(model)
+    }
+}

@@ -1,0 +1,15 @@
+pub mod Blocks
+pub mod Fronts
+pub mod ValueTexts
+pub mod Gathered
+pub mod Ahead
+pub mod SomeText
+pub mod OneText
+pub mod WrittenValues
+pub mod TagTexts
+pub mod SpelledLeaves
+pub mod SpelledValues
+pub mod SpelledDocuments
+pub mod Example
+pub mod MessageNames
+pub mod CompiledNames

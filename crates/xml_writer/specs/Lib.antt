@@ -1,0 +1,6 @@
+pub mod CanonXml
+pub mod SpellingLaw
+pub mod CanonXmlExample
+pub mod PieceTexts
+pub mod Laws
+pub mod Gathering
