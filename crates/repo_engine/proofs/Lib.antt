@@ -9,3 +9,4 @@ pub mod OneAnswer
 pub mod SomeAnswer
 pub mod AdmittedInstances
 pub mod Transcodings
+pub mod RoundTrips

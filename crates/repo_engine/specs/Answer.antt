@@ -1,5 +1,5 @@
 -- The answer to words and bytes: the steps of each command, of which the first that refuses decides.
-use Rattle.std.specs.Prelude.{◌≡◌, ◌≢◌, ◌⊎◌, ◌≤◌, ℕ, true, false, List, [], length, codes}
+use Rattle.std.specs.Prelude.{◌≡◌, ◌⊎◌, ◌≤◌, ℕ, true, false, List, [], length, codes}
 use Rattle.repo_objects.specs.Repository.{Contents}
 use Rattle.repo_loader.specs.declared.fault.LoadFault.{LoadFault}
 use Rattle.repo_loader.specs.Loaded.{Spells, HasLoadFault}

@@ -7,5 +7,7 @@ pub mod Sources
 pub mod Texts
 pub mod Answer
 pub mod SchemaLaw
+pub mod ModuleLaw
+pub mod RoundTrips
 pub mod Run
 pub mod Arms

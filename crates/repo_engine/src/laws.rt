@@ -1,6 +1,8 @@
 //! What follows of the definitions: functions that do nothing, whose contracts are laws.
 ghost use Rattle.std.specs.Prelude.{◌≡◌, ℕ, List};
 ghost use Rattle.repo_engine.specs.Answer.{Answer};
+ghost use Rattle.repo_engine.specs.ModuleLaw.{ModuleAdmitsWhatIsAccepted};
+ghost use Rattle.repo_engine.specs.RoundTrips.{XmlComesBack, DerComesBack};
 ghost use Rattle.repo_engine.specs.SchemaLaw.{SchemaAdmitsWhatIsAccepted};
 ghost use Rattle.repo_engine.specs.Verdict.{Verdict};
 
@@ -44,4 +46,33 @@ pub fn schema_admits_what_is_accepted()
     ensures { SchemaAdmitsWhatIsAccepted }
 {
     respell::laws::whole_is_plain();
+}
+
+/// The ASN.1 module that `asn1` writes of a message admits exactly what `check-der` accepts: bytes of at most 2^40 are
+/// accepted exactly where they are the DER of a value of the module's `Document` (X.680, X.690).
+pub fn module_admits_what_is_accepted()
+    ensures { ModuleAdmitsWhatIsAccepted }
+{
+    asn1_model::laws::compiled_types_are_sound();
+    asn1_model::laws::a_module_admits_the_same();
+}
+
+/// To the DER that `xml-to-der` writes of an instance, `der-to-xml` answers as `canon-xml` answers to the instance,
+/// where it has at most 2^40 bytes.
+pub fn xml_comes_back()
+    ensures { XmlComesBack }
+{
+    message_model::laws::compiled_are_sound();
+    transcoder::laws::one_verdict();
+    transcoder::laws::one_der_verdict();
+}
+
+/// To the XML that `der-to-xml` writes of an instance, `xml-to-der` answers with the same DER, where it has at most 2^40
+/// bytes, and no tag of more than 1,048,576.
+pub fn der_comes_back()
+    ensures { DerComesBack }
+{
+    message_model::laws::compiled_are_sound();
+    transcoder::laws::one_verdict();
+    xml_writer::laws::canonical_xml_of_a_message_spells_its_value();
 }
