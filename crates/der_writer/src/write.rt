@@ -1,5 +1,5 @@
 // The DER of an instance, pushed piece by piece: X.690 §8.1, §10.1.
-ghost use Rattle.std.specs.Prelude.{◌≡◌, ◌<◌, ◌-◌, ℕ, length, slice_index};
+ghost use Rattle.std.specs.Prelude.{◌≡◌, ◌++◌, ◌<◌, ◌-◌, ℕ, IsTrue, false, length, slice_index};
 ghost use Rattle.data_types.specs.Value.{Value, Begins};
 ghost use Rattle.outside.specs.Pushes.{Pushes, as_push};
 ghost use Rattle.fragments.specs.Fragment.{fragment};
@@ -8,15 +8,18 @@ ghost use Rattle.message_model.specs.Tables.{types_of, pieces_of};
 ghost use Rattle.der_model.specs.DerMessage.{der_message};
 ghost use Rattle.der_model.specs.Der.{der_of};
 ghost use Rattle.inst_pool.specs.Pieces.{edge_of, piece_of};
+ghost use Rattle.der_writer.specs.Gathering.{Gathers};
 ghost use Rattle.der_writer.specs.Measured.{IsMeasured};
 ghost use Rattle.der_writer.specs.PieceOctets.{Begun, document_edge, octets_before, piece_octets, pieces_octets, slots_behind};
 ghost use Rattle.der_writer.specs.Heads.{before_view};
 
+use crate::buffer::Buffer;
 use crate::contents::push_leaf;
 use crate::head::Head;
 use crate::heads::push_head;
 use crate::pieces::{Before, behind, element_head, leaf_head, list_head, next_slot};
 use crate::slots::{behind_size, push_behind, push_slots};
+use data_types::LeafRef;
 use inst_pool::{Edge, Instance, Piece};
 use message_model::Model;
 use outside::{Sink, SinkError, WriteError};
@@ -86,26 +89,97 @@ fn push_piece<O: Sink>(
     }
 }
 
-/// Pushes what is written at all pieces, and at the end of the whole.
+/// Whether what is written at the piece may have so few octets.
+fn is_within(piece: &Piece<'_>, spare: usize) -> bool {
+    match piece {
+        Piece::Leaf(LeafRef::Bytes(bytes)) => bytes.len() <= spare,
+        _ => true,
+    }
+}
+
+/// Puts what is written at a piece into the buffer. `false` where it has not the room; it is as before.
+fn put_piece(
+    model: &Model,
+    before: Before,
+    piece: &Piece<'_>,
+    len: u64,
+    group: u64,
+    buffer: &mut Buffer,
+) -> bool
+    ensures put { IsTrue result → buffer.new ≡ buffer.old ++ piece_octets (types_of model.now) (before_view before) (piece_of piece.now) len group }
+    ensures kept { result ≡ false → buffer.new ≡ buffer.old }
+{
+    if !is_within(piece, buffer.spare()) {
+        return false;
+    }
+    let count = buffer.len();
+    match push_piece(model, before, piece, len, group, buffer) {
+        Ok(()) => true,
+        Err(_) => {
+            buffer.truncate(count);
+            false
+        }
+    }
+}
+
+/// Puts what is written at a piece into the buffer, where it has room, and else pushes both.
+fn gather_piece<O: Sink>(
+    model: &Model,
+    before: Before,
+    piece: &Piece<'_>,
+    len: u64,
+    group: u64,
+    buffer: &mut Buffer,
+    sink: &mut O,
+) -> Result<(), SinkError>
+    ensures { Gathers O.held O.faults O.room sink.old sink.new buffer.old buffer.new result (piece_octets (types_of model.now) (before_view before) (piece_of piece.now) len group) }
+{
+    if put_piece(model, before, piece, len, group, buffer) {
+        return Ok(());
+    }
+    if let Err(error) = buffer.flush(sink) {
+        return Err(error);
+    }
+    push_piece(model, before, piece, len, group, sink)
+}
+
+/// Pushes what is written at all pieces, by way of a buffer, and at the end of the whole.
 fn push_pieces<O: Sink>(model: &Model, instance: &Instance, sink: &mut O) -> Result<(), SinkError>
     ensures { Pushes O.held O.faults O.room sink.old sink.new result (pieces_octets (types_of model.now) (Begun document_edge) instance.now.region.pieces instance.now.lens instance.now.groups) }
 {
+    let mut buffer = Buffer::new();
     let mut before = start();
     for at in 0..instance.count() {
         let Some(piece) = instance.piece(at) else {
             unreachable!()
         };
-        if let Err(error) = push_piece(
+        if let Err(error) = gather_piece(
             model,
             before,
             &piece,
             instance.len(at),
             instance.group(at),
+            &mut buffer,
             sink,
         ) {
             return Err(error);
         }
         before = behind(&piece);
+    }
+    push_rest(model, before, buffer, sink)
+}
+
+/// Pushes the buffer, and what is written at the end of the whole.
+fn push_rest<O: Sink>(
+    model: &Model,
+    before: Before,
+    mut buffer: Buffer,
+    sink: &mut O,
+) -> Result<(), SinkError>
+    ensures { Pushes O.held O.faults O.room sink.old sink.new result (buffer ++ slots_behind (types_of model.now) 0 (before_view before)) }
+{
+    if let Err(error) = buffer.flush(sink) {
+        return Err(error);
     }
     push_behind(model, 0, before, sink)
 }

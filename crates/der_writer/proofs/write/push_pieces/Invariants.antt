@@ -1,5 +1,5 @@
--- What was written so far stands before what is still to be written.
-use Rattle.std.proofs.Common.{drop}
+-- What went to the sink stands before the buffer, and that before what is still to be written.
+use Rattle.std.proofs.Common.{drop, ◌++◌}
 use Rattle.message_model.specs.Tables.{types_of}
 use Rattle.der_writer.specs.PieceOctets.{Begun, document_edge, pieces_octets}
 use Rattle.der_writer.specs.Heads.{before_view}
@@ -9,4 +9,4 @@ use Rattle.der_writer.proofs.write.push_pieces.Given as goal
 abbrev pub invariant-loop-at : goal.invariant-loop-at
 invariant-loop-at g l =
     IsPushedTo g.O.Sink.held g.O.Sink.faults g.O.Sink.room l.fn.sink l.sink (pieces_octets (types_of l.model) (Begun document_edge) l.instance.region.pieces l.instance.lens l.instance.groups)
-    (pieces_octets (types_of l.model) (before_view l.before) (drop l.at l.instance.region.pieces) (drop l.at l.instance.lens) (drop l.at l.instance.groups))
+    (l.buffer ++ pieces_octets (types_of l.model) (before_view l.before) (drop l.at l.instance.region.pieces) (drop l.at l.instance.lens) (drop l.at l.instance.groups))
