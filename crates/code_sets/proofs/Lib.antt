@@ -5,3 +5,4 @@ pub mod Rows
 pub mod OneAnswer
 pub mod SomeAnswer
 pub mod JoinAnswer
+pub mod JoinedRepository

@@ -19,7 +19,7 @@ use Rattle.code_sets.proofs.Records.{least_one, least_two, least_three, sound_tw
 -- ---- texts
 
 -- P holds, or it does not
-abbrev Decided : Type 0 → Type 0
+abbrev pub Decided : Type 0 → Type 0
 Decided P = P ⊎ (P → ⊥)
 
 in_some : (rs : List (ℕ × ℕ)) (c : ℕ) → Decided (IsInSome rs c)
@@ -68,7 +68,7 @@ decide_text bytes = by (decide_utf8 bytes)
     by (inl u) = with_chars u.0 u.1.0 u.1.1 (all_chars u.0)
     by (inr n) = inr (λ text. n (text.0, (scalars_xml text.0 text.1, text.2)))
 
-decide_code : (code : List ℕ) → Decided (IsCode code)
+pub decide_code : (code : List ℕ) → Decided (IsCode code)
 decide_code [] = inr (λ h. h.0 refl)
 decide_code (b ∷ bs) = by (decide_text (b ∷ bs))
   where

@@ -1,6 +1,6 @@
 -- What follows of the definitions.
 use Rattle.std.specs.Prelude.{◌≡◌, ℕ, ◌⊎◌, List}
-use Rattle.repo_objects.specs.Repository.{Contents}
+use Rattle.repo_objects.specs.Repository.{Contents, IsRepository}
 use Rattle.code_sets.specs.declared.record.CodeRecord.{CodeRecord}
 use Rattle.code_sets.specs.Codes.{Fault, HasCodesFault, Joins, Reads, ReadFault}
 
@@ -39,3 +39,7 @@ JoinedHasNone = (contents : Contents) (bytes : List ℕ) (new : Contents) (fault
 -- All bytes make a repository or have a fault.
 abbrev pub JoinsOrHasFault : Type 0
 JoinsOrHasFault = (contents : Contents) (bytes : List ℕ) → ((new : Contents) × Joins contents bytes new) ⊎ ((fault : Fault) × HasCodesFault contents bytes fault)
+
+-- What they make of a repository is one: no two objects have one id, and all texts are UTF-8 of characters of XML.
+abbrev pub JoinedIsARepository : Type 0
+JoinedIsARepository = (contents : Contents) (bytes : List ℕ) (new : Contents) → IsRepository contents → Joins contents bytes new → IsRepository new

@@ -1,5 +1,5 @@
 //! What follows of the definitions: functions that do nothing, whose contracts are laws.
-ghost use Rattle.code_sets.specs.Laws.{JoinedHasNone, JoinsOrHasFault, OneCodesFault, OneJoined, OneReadFault, OneReading, ReadHasNone, ReadsOrHasFault};
+ghost use Rattle.code_sets.specs.Laws.{JoinedHasNone, JoinedIsARepository, JoinsOrHasFault, OneCodesFault, OneJoined, OneReadFault, OneReading, ReadHasNone, ReadsOrHasFault};
 
 /// Bytes say one list of codes.
 pub fn one_reading()
@@ -39,4 +39,10 @@ pub fn joined_has_none()
 /// All bytes make a repository of one, or have a fault.
 pub fn joins_or_has_fault()
     ensures { JoinsOrHasFault }
+{}
+
+/// What bytes make of a repository is a repository: no two objects have one id, and all texts are UTF-8 of characters
+/// of XML.
+pub fn joined_is_a_repository()
+    ensures { JoinedIsARepository }
 {}
