@@ -12,6 +12,8 @@ pub mod ColonTexts
 pub mod Messages
 pub mod OneLoadFault
 pub mod OneRepository
+pub mod SpelledTexts
+pub mod SpelledRepository
 pub mod EntryRules
 pub mod EntryTexts
 pub mod MessageSteps

@@ -27,7 +27,7 @@ whole_longest n before bytes x (u ∷ us) (t ∷ ts) f g =
     (r.0, λ i. o.0 i ∷ r.1 i)
 
 -- the contents by the tokens
-contents_by_tokens : (bytes : List ℕ) (x : Contents) (h : Spells bytes x) → x ≡ contents_of (tags_of (token_tags h.tokens))
+pub contents_by_tokens : (bytes : List ℕ) (x : Contents) (h : Spells bytes x) → x ≡ contents_of (tags_of (token_tags h.tokens))
 contents_by_tokens bytes x h = h.contents_are ∙ ap contents_of (sym (selects_the_tree (events [] 0 h.tokens) h.tree h.tree_is))
 
 pub one_repository : (bytes : List ℕ) (x y : Contents) → Spells bytes x → Spells bytes y → x ≡ y

@@ -2,7 +2,7 @@
 use Rattle.std.specs.Prelude.{◌≡◌, ℕ, List, [], map}
 use Rattle.lexical_core.specs.Tree.{Tree, TreeIs}
 use Rattle.markup.specs.Events.{Placed}
-use Rattle.repo_objects.specs.Repository.{Contents}
+use Rattle.repo_objects.specs.Repository.{Contents, IsRepository}
 use Rattle.repo_loader.specs.declared.fault.LoadFault.{LoadFault}
 use Rattle.repo_loader.specs.Selected.{tree_tags, event_tags}
 use Rattle.repo_loader.specs.FileFaults.{tags_of}
@@ -16,7 +16,11 @@ SelectsTheTree = (es : List Placed) (tree : Tree) → TreeIs (map (λ (e : Place
 abbrev pub OneRepository : Type 0
 OneRepository = (bytes : List ℕ) (x y : Contents) → Spells bytes x → Spells bytes y → x ≡ y
 
--- They have at most one first fault.
+-- The contents that bytes spell are a repository: no two objects have one id, and all texts are UTF-8 of characters of XML.
+abbrev pub SpelledIsARepository : Type 0
+SpelledIsARepository = (bytes : List ℕ) (x : Contents) → Spells bytes x → IsRepository x
+
+-- Bytes have at most one first fault.
 abbrev pub OneLoadFault : Type 0
 OneLoadFault = (bytes : List ℕ) (f g : LoadFault) → HasLoadFault bytes f → HasLoadFault bytes g → f ≡ g
 

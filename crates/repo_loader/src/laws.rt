@@ -1,5 +1,5 @@
 //! What follows of the definitions: functions that do nothing, whose contracts are laws.
-ghost use Rattle.repo_loader.specs.Laws.{SelectsTheTree, OneRepository, OneLoadFault, SpelledHasNone, OneOfBoth};
+ghost use Rattle.repo_loader.specs.Laws.{SelectsTheTree, OneRepository, SpelledIsARepository, OneLoadFault, SpelledHasNone, OneOfBoth};
 
 /// What is read by the events of a tree is what is read of the tree.
 pub fn events_and_tree_agree()
@@ -9,6 +9,11 @@ pub fn events_and_tree_agree()
 /// Bytes spell at most one repository.
 pub fn one_repository()
     ensures { OneRepository }
+{}
+
+/// What bytes spell is a repository: no two objects have one id, and all texts are UTF-8 of characters of XML.
+pub fn spelled_is_a_repository()
+    ensures { SpelledIsARepository }
 {}
 
 /// Bytes have at most one first fault.
