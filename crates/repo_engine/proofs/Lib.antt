@@ -10,3 +10,4 @@ pub mod SomeAnswer
 pub mod AdmittedInstances
 pub mod Transcodings
 pub mod RoundTrips
+pub mod GivenRepository

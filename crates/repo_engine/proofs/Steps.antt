@@ -2,8 +2,8 @@
 use Rattle.std.proofs.Common.{◌≡◌, ◌⊎◌, inl, inr, ℕ, Bool, true, false, List, Option, Some, Result, Ok, Err, refl, sym, ◌∙◌, subst}
 use Rattle.std.specs.Prelude.{IfOk, IfErr}
 use Rattle.repo_objects.specs.Repository.{Contents}
-use Rattle.repo_engine.specs.Answer.{FromRepository, RefusesFile, RefusesCodes}
-use Rattle.repo_engine.specs.Arms.{GivesRepository, RefusesRepository, FilesHaveLeft, StopsBy, IsReadIf, unasked, asked}
+use Rattle.repo_engine.specs.Answer.{FromRepository, GivesRepository, RefusesFile, RefusesCodes}
+use Rattle.repo_engine.specs.Arms.{RefusesRepository, FilesHaveLeft, StopsBy, IsReadIf, unasked, asked}
 use Rattle.repo_engine.specs.Steps.{Then, refused, goes_on}
 use Rattle.repo_engine.specs.Sources.{Use, Ended, IsRead, AreRead, one, both, Whole, Failing, Stopping}
 use Rattle.repo_engine.specs.Verdict.{Verdict}

@@ -48,6 +48,10 @@ RefusesCodes codes_word own c v = (hands_in codes_word ≡ true) × IsCodesRefus
 abbrev pub GivesJoined : List ℕ → Contents → List ℕ → Contents → Type 0
 GivesJoined codes_word own c R = ((hands_in codes_word ≡ false) × (R ≡ own)) ⊎ ((hands_in codes_word ≡ true) × Joins own c R)
 
+-- the repository that the bytes r give with the codes that are handed in, if any
+abbrev pub GivesRepository : List ℕ → List ℕ → List ℕ → Contents → Type 0
+GivesRepository codes_word r c R = (own : Contents) × Spells r own × GivesJoined codes_word own c R
+
 -- the repository is read, then the codes are joined to it
 abbrev pub FromRepository : List ℕ → List ℕ → List ℕ → (Contents → Verdict → Type 0) → Verdict → Type 0
 FromRepository codes_word r c Next =

@@ -20,7 +20,7 @@ use Rattle.transcoder.specs.declared.trans_error.TransError.TheVariants as trans
 use Rattle.repo_engine.specs.declared.refusal.Stop.{Stop}
 use Rattle.repo_engine.specs.declared.refusal.Stop.TheVariants.{Refused, ReadFault, WriteFault, Memory}
 use Rattle.repo_engine.specs.declared.refusal.Refusal.TheVariants.{Words, Repository, Codes, Message, Instance}
-use Rattle.repo_engine.specs.Answer.{Of, RefusesFile, RefusesCodes, RefusesMessage, GivesJoined, GivesTables}
+use Rattle.repo_engine.specs.Answer.{Of, RefusesFile, RefusesCodes, RefusesMessage, GivesRepository, GivesTables}
 use Rattle.repo_engine.specs.Command.{Command, pulled, hands_in}
 use Rattle.repo_engine.specs.Run.{End, GoesOut, Tells}
 use Rattle.repo_engine.specs.Sources.{Use, AreReadInTurn, Ended, IsRead, Untouched, Failing, Refusing, Whole, ended_of}
@@ -108,10 +108,7 @@ pub data IsReadIf {S : Type 0} (asked : Bool) (ended : Ended) (u : Use S) : Type
   unasked : asked ≡ false → ended ≡ Whole → Untouched u → IsReadIf asked ended u
   asked : asked ≡ true → IsRead ended u → IsReadIf asked ended u
 
--- the repository with its codes, or why there is none
-abbrev pub GivesRepository : List ℕ → List ℕ → List ℕ → Contents → Type 0
-GivesRepository codes_word r c R = (own : Contents) × Spells r own × GivesJoined codes_word own c R
-
+-- why there is no repository with its codes
 abbrev pub RefusesRepository : List ℕ → List ℕ → List ℕ → Verdict → Type 0
 RefusesRepository codes_word r c v = RefusesFile r v ⊎ ((own : Contents) × Spells r own × RefusesCodes codes_word own c v)
 

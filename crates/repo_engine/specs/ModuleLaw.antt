@@ -1,15 +1,16 @@
 -- What the ASN.1 module of a message says of the bytes that are accepted.
 use Rattle.std.specs.Prelude.{◌↔◌, ◌≤◌, ℕ, List, length}
-use Rattle.repo_objects.specs.Repository.{Contents, IsRepository}
+use Rattle.repo_objects.specs.Repository.{Contents}
 use Rattle.message_model.specs.Tables.{Tables}
 use Rattle.fragments.specs.Fragment.{fragment}
 use Rattle.asn1_model.specs.Values.{AsnValue}
 use Rattle.asn1_model.specs.Agreement.{EncodesAs}
 use Rattle.xml_instances.specs.XmlFaults.{limit}
 use Rattle.transcoder.specs.Checked.{IsDerAccepted}
-use Rattle.repo_engine.specs.Answer.{GivesTables}
+use Rattle.repo_engine.specs.Answer.{GivesRepository, GivesTables}
 
--- Bytes of at most the limit are accepted exactly where they are the DER of a value of the module's `Document`.
+-- Of a message of the repository that the bytes r give with the codes c: bytes of at most the limit are accepted exactly where they are the DER
+-- of a value of the module's `Document`.
 abbrev pub ModuleAdmitsWhatIsAccepted : Type 0
-ModuleAdmitsWhatIsAccepted = (R : Contents) (id : List ℕ) (T : Tables) (bytes : List ℕ) → IsRepository R → GivesTables R id T → length bytes ≤ limit
+ModuleAdmitsWhatIsAccepted = (codes_word r c : List ℕ) (R : Contents) (id : List ℕ) (T : Tables) (bytes : List ℕ) → GivesRepository codes_word r c R → GivesTables R id T → length bytes ≤ limit
     → IsDerAccepted T bytes ↔ ((a : AsnValue) × EncodesAs fragment T bytes a)

@@ -48,11 +48,14 @@ pub fn schema_admits_what_is_accepted()
     respell::laws::whole_is_plain();
 }
 
-/// The ASN.1 module that `asn1` writes of a message admits exactly what `check-der` accepts: bytes of at most 2^40 are
-/// accepted exactly where they are the DER of a value of the module's `Document` (X.680, X.690).
+/// The ASN.1 module that `asn1` writes of a message admits exactly what `check-der` accepts, whatever bytes gave the
+/// repository and its codes: bytes of at most 2^40 are accepted exactly where they are the DER of a value of the module's
+/// `Document` (X.680, X.690).
 pub fn module_admits_what_is_accepted()
     ensures { ModuleAdmitsWhatIsAccepted }
 {
+    repo_loader::laws::spelled_is_a_repository();
+    code_sets::laws::joined_is_a_repository();
     asn1_model::laws::compiled_types_are_sound();
     asn1_model::laws::a_module_admits_the_same();
 }
