@@ -21,3 +21,5 @@ pub mod PathsOpen
 pub mod ContentsSteps
 pub mod Fed
 pub mod KeptInstances
+pub mod CompiledFinite
+pub mod ToldAtParts

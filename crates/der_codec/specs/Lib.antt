@@ -9,4 +9,5 @@ pub mod Elements
 pub mod Filling
 pub mod Checking
 pub mod Laws
+pub mod ReadyLaws
 pub mod ReadInstances

@@ -25,6 +25,9 @@ pub mod Completion
 pub mod OpenLaw
 pub mod CleanFronts
 pub mod OpenRows
+pub mod CompiledFinite
+pub mod MarkupRules
+pub mod ToldAtEvents
 pub mod SomeFault
 pub mod SameTrees
 pub mod OneXmlValue

@@ -12,3 +12,4 @@ pub mod Keeping
 pub mod Laws
 pub mod OpenInstances
 pub mod OpenLaws
+pub mod ReadyLaws
