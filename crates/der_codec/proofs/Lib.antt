@@ -21,3 +21,6 @@ pub mod PathsOpen
 pub mod ContentsSteps
 pub mod Fed
 pub mod KeptInstances
+pub mod CutTexts
+pub mod CutContents
+pub mod CutSpots
