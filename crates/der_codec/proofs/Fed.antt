@@ -1,14 +1,12 @@
 -- What a checker was given, and what it then tells.
 use Rattle.std.specs.Prelude.{Result, Ok, Err, IfOk, IfErr}
-use Rattle.std.proofs.Common.{◌≡◌, ◌≢◌, ℕ, zero, suc, ◌+◌, ◌-◌, ◌≤◌, ◌<◌, ◌^◌, List, [], ◌∷◌, ◌++◌, length, take, drop, Option, Some, None, refl, sym, ap, ◌∙◌, subst, arith, append-nil, append_assoc, length-append, ◌⊎◌, inl, inr}
+use Rattle.std.proofs.Common.{◌≡◌, ◌≢◌, ℕ, zero, suc, ◌+◌, ◌-◌, ◌≤◌, ◌<◌, ◌^◌, List, [], ◌∷◌, ◌++◌, length, take, drop, Option, refl, sym, ap, ◌∙◌, subst, arith, append-nil, append_assoc, length-append, ◌⊎◌, inl, inr}
 use Rattle.lexical_core.specs.declared.rule.Rule.{Rule}
 use Rattle.lexical_core.specs.declared.rule.Rule.TheVariants.{DerTruncated}
-use Rattle.message_model.specs.Tables.{Tables, message_of, types_of}
-use Rattle.message_model.specs.declared.fault.Fault.{Fault as Told}
+use Rattle.message_model.specs.Tables.{Tables, types_of}
 use Rattle.message_model.specs.declared.fault.InstanceError.{InstanceError}
-use Rattle.message_model.specs.declared.fault.InstanceError.TheVariants.{Refused, Memory}
-use Rattle.fragments.specs.Fragment.{fragment}
-use Rattle.der_model.specs.DerMessage.{DerMessage, der_message, in_der}
+use Rattle.message_model.specs.declared.fault.InstanceError.TheVariants.{Refused}
+use Rattle.der_model.specs.DerMessage.{DerMessage, der_message}
 use Rattle.der_model.specs.Faults.{Fault, DerFault}
 use Rattle.der_model.specs.Paths.{path_of}
 use Rattle.der_model.specs.Sound.{IsSound}
@@ -16,7 +14,8 @@ use Rattle.der_model.specs.Structures.{structure}
 use Rattle.der_model.specs.States as states
 use Rattle.der_model.specs.States.{State, Start, AwaitsLength, AwaitsContents, Within}
 use Rattle.der_model.proofs.Continued.{fault_stays}
-use Rattle.der_model.proofs.Answered.{whole_is_spelled, spelled_has_none}
+use Rattle.der_model.proofs.Answered.{spelled_has_none}
+use Rattle.facets.specs.LeafChecks.{IsHeldWithin}
 use Rattle.facets.specs.declared.simple.Simple.{Simple}
 use Rattle.reference_check.specs.Forms.{Graph}
 use Rattle.der_codec.specs.Levels.{AreLevels, inwards}
@@ -24,7 +23,7 @@ use Rattle.der_codec.specs.Components.{added_text}
 use Rattle.der_codec.specs.Decoding.{Reads, Fails, HasRead, IsOpen, IsFault, IsStopped, IsOver, IsReady, IsWaiting, IsNoCut, IsRefusedAs, end_of_levels}
 use Rattle.der_codec.specs.Judging.{HoldsContents, BreaksContentsAt, IsVerdictFor}
 use Rattle.der_codec.specs.OpenNames.{IsNamed}
-use Rattle.der_codec.specs.Checking.{IsReading, KeepsContents, KeepsRead, HasFed, TakesFront, StopsWithin, Stops, IsSpelled, EndsAs, IsSameOrMemory, open_levels, fed}
+use Rattle.der_codec.specs.Checking.{IsReading, KeepsContents, KeepsRead, HasFed, TakesFront, StopsWithin, Stops, IsSpelled, EndsAs, IsSameOrMemory, open_levels, fed, token_held}
 use Rattle.der_codec.specs.declared.checks.Refusal.{Refusal}
 use Rattle.der_codec.specs.declared.checks.Refusal.TheVariants as refused
 use Rattle.der_codec.specs.declared.components.Added.TheVariants as added
@@ -37,8 +36,10 @@ use Rattle.der_codec.specs.declared.decoder.Due.{Due}
 use Rattle.der_codec.specs.declared.decoder.Due.TheVariants as due
 use Rattle.der_codec.specs.declared.decoder.Stop.{Stop}
 use Rattle.der_codec.specs.declared.decoder.Stop.TheVariants as stop
-use Rattle.der_codec.proofs.InputEnds.{goes_on, is_whole, is_spelled}
+use Rattle.der_codec.proofs.InputEnds.{goes_on, is_spelled}
 use Rattle.der_codec.proofs.Named.{front_named}
+use Rattle.der_codec.specs.Limits.{IsKeptAt, open_limit, leaf_come, token_come}
+use Rattle.der_codec.proofs.CutSpots.{none_held, held_then, held_open, token_open}
 use Rattle.der_codec.proofs.ContentsSteps.{place_counts, kept_more, none_kept, rest_from, some_before, contents_break}
 use Rattle.der_codec.proofs.NoCuts.{contents_stay}
 use Rattle.der_codec.proofs.Nested.{ready_waits}
@@ -116,44 +117,48 @@ within_more T d bytes more all stop.Memory e h = tt
 
 -- ---- the reader goes on
 
-keeps_ready : (d : Due) (place : ℕ) (o : Option ℕ) (start : ℕ) (bytes kept : List ℕ) → IsReady d place o → kept ≡ [] → KeepsContents d start bytes kept
-keeps_ready (due.Tag step) place o start bytes kept h e = e
-keeps_ready (due.Length c spot step) place o start bytes kept h e = e
-keeps_ready (due.Contents spot left) place o start bytes kept h e = absurd h
-keeps_ready due.Over place o start bytes kept h e = e
+keeps_ready : (T : Tables) (d : Due) (place : ℕ) (o : Option ℕ) (start : ℕ) (bytes kept : List ℕ) → IsReady d place o → kept ≡ [] → KeepsContents T d start bytes kept
+keeps_ready T (due.Tag step) place o start bytes kept h e = e
+keeps_ready T (due.Length c spot step) place o start bytes kept h e = e
+keeps_ready T (due.Contents spot left) place o start bytes kept h e = absurd h
+keeps_ready T due.Over place o start bytes kept h e = e
 
 pub ended : {A : Type 0} (T : Tables) (d : Decoder) (kept bytes : List ℕ) (r : Result A Stop) → IfOk r (λ _. HasRead (der_message T) d bytes) → IfOk r (λ _. IsReady d.due d.place (end_of_levels d.levels.items)) → kept ≡ []
     → IfOk r (λ _. IsReading T d kept bytes)
 ended T d kept bytes (Ok a) read ready none = record {
   read = read;
   waits = ready_waits d.due d.place (end_of_levels d.levels.items) ready;
-  keeps = keeps_ready d.due d.place (end_of_levels d.levels.items) d.start bytes kept ready none;
+  keeps = keeps_ready T d.due d.place (end_of_levels d.levels.items) d.start bytes kept ready none;
 }
 ended T d kept bytes (Err s) read ready none = tt
 
-pub keep_reading : (T : Tables) (d e : Decoder) (kept kept2 bytes front : List ℕ) (spot : Spot) (left : ℕ) → d.due ≡ due.Contents spot left → length front < left → IsReading T d kept bytes → HasRead (der_message T) e (bytes ++ front)
-    → e.due ≡ due.Contents spot (left - length front) → e.start ≡ d.start → kept2 ≡ kept ++ front → IsReading T e kept2 (bytes ++ front)
-keep_reading T d e kept kept2 bytes front spot left is more h read now start both = record {
+kept_at : (T : Tables) (d : Due) (spot : Spot) (left start : ℕ) (bytes kept : List ℕ) → d ≡ due.Contents spot left → KeepsContents T d start bytes kept → IsKeptAt (der_message T) spot kept (drop start bytes)
+kept_at T d spot left start bytes kept is h = subst (λ z. KeepsContents T z start bytes kept) is h
+
+pub keep_reading : (T : Tables) (d e : Decoder) (kept less bytes front : List ℕ) (spot : Spot) (left : ℕ) → d.due ≡ due.Contents spot left → length front < left → IsReading T d kept bytes → HasRead (der_message T) e (bytes ++ front)
+    → e.due ≡ due.Contents spot (left - length front) → e.start ≡ d.start → IsKeptAt (der_message T) spot less (kept ++ front) → IsReading T e less (bytes ++ front)
+keep_reading T d e kept less bytes front spot left is more h read now start short = record {
   read = read;
   waits = subst (λ z. IsWaiting z e.place (end_of_levels e.levels.items)) (sym now) (omega (arith, more));
   keeps =
-      let before : kept ≡ drop d.start bytes = subst (λ z. KeepsContents z d.start bytes kept) is h.keeps in
-      subst (λ z. KeepsContents z e.start (bytes ++ front) kept2) (sym now)
-      (both ∙ (ap (λ z. z ++ front) before ∙ (sym (kept_more (der_message T) (inwards d.levels.items) d.due d.start d.place bytes front h.read) ∙ ap (λ z. drop z (bytes ++ front)) (sym start))));
+      let m = der_message T in
+      let before = kept_at T d.due spot left d.start bytes kept is h.keeps in
+      let octets : drop d.start bytes ++ front ≡ drop e.start (bytes ++ front) = sym (kept_more m (inwards d.levels.items) d.due d.start d.place bytes front h.read) ∙ ap (λ z. drop z (bytes ++ front)) (sym start) in
+      subst (λ z. KeepsContents T z e.start (bytes ++ front) less) (sym now) (subst (IsKeptAt m spot less) octets (held_then m spot kept (drop d.start bytes) front less before short));
 }
 
 -- before the first byte
-pub keeps_none : (d : Due) (start : ℕ) (kept : List ℕ) → kept ≡ [] → KeepsContents d start [] kept
-keeps_none (due.Tag step) start kept e = e
-keeps_none (due.Length c spot step) start kept e = e
-keeps_none (due.Contents spot left) zero kept e = e
-keeps_none (due.Contents spot left) (suc start) kept e = e
-keeps_none due.Over start kept e = e
+pub keeps_none : (T : Tables) (d : Due) (start : ℕ) (kept : List ℕ) → kept ≡ [] → KeepsContents T d start [] kept
+keeps_none T (due.Tag step) start kept e = e
+keeps_none T (due.Length c spot step) start kept e = e
+keeps_none T (due.Contents spot left) zero kept e = none_held (der_message T) spot kept [] e refl
+keeps_none T (due.Contents spot left) (suc start) kept e = none_held (der_message T) spot kept [] e refl
+keeps_none T due.Over start kept e = e
 
 -- contents of which none has come
-pub fresh_keeps : (T : Tables) (d : Decoder) (kept bytes : List ℕ) (spot : Spot) (left : ℕ) → d.due ≡ due.Contents spot left → d.start ≡ d.place → kept ≡ [] → HasRead (der_message T) d bytes → KeepsContents d.due d.start bytes kept
+pub fresh_keeps : (T : Tables) (d : Decoder) (kept bytes : List ℕ) (spot : Spot) (left : ℕ) → d.due ≡ due.Contents spot left → d.start ≡ d.place → kept ≡ [] → HasRead (der_message T) d bytes → KeepsContents T d.due d.start bytes kept
 fresh_keeps T d kept bytes spot left is begun none r =
-    subst (λ z. KeepsContents z d.start bytes kept) (sym is) (none ∙ sym (none_kept (der_message T) (inwards d.levels.items) d.due d.start d.place bytes r begun))
+    subst (λ z. KeepsContents T z d.start bytes kept) (sym is) (none_held (der_message T) spot kept (drop d.start bytes) none (none_kept (der_message T) (inwards d.levels.items) d.due d.start d.place bytes r begun))
 
 pub fresh_reading : (T : Tables) (d : Decoder) (kept bytes : List ℕ) (spot : Spot) (left : ℕ) → d.due ≡ due.Contents spot left → 0 < left → d.start ≡ d.place → kept ≡ [] → HasRead (der_message T) d bytes → IsReading T d kept bytes
 fresh_reading T d kept bytes spot left is some begun none r = record {
@@ -164,25 +169,23 @@ fresh_reading T d kept bytes spot left is some begun none r = record {
 
 -- ---- the last octets of contents
 
-kept_is : (d : Due) (spot : Spot) (left start : ℕ) (bytes kept : List ℕ) → d ≡ due.Contents spot left → KeepsContents d start bytes kept → kept ≡ drop start bytes
-kept_is d spot left start bytes kept is h = subst (λ z. KeepsContents z start bytes kept) is h
-
 -- fewer octets are kept than were given
 pub kept_short : (T : Tables) (d : Decoder) (kept bytes : List ℕ) (spot : Spot) (left : ℕ) → d.due ≡ due.Contents spot left → KeepsRead T d kept bytes → length kept < d.place
 kept_short T d kept bytes spot left is (r, keeps) =
     let m = der_message T in
     let xs = inwards d.levels.items in
     let before = some_before m xs spot left d.start d.place bytes (subst (λ z. Reads m xs z d.start d.place bytes) is r) in
-    let size = ap length (kept_is d.due spot left d.start bytes kept is keeps ∙ rest_from m xs d.due d.start d.place bytes r) in
+    let few = (kept_at T d.due spot left d.start bytes kept is keeps).few in
+    let size = ap length (rest_from m xs d.due d.start d.place bytes r) in
     let at = r.start_is in let place = r.place_is in
-    omega (arith, before, size, at, place)
+    omega (arith, before, few, size, at, place)
 
 pub last_read : (T : Tables) (d e : Decoder) (kept bytes front : List ℕ) (spot : Spot) (left : ℕ) → e ≡ d → d.due ≡ due.Contents spot left → KeepsRead T d kept bytes → HoldsContents (der_message T) spot (kept ++ front)
     → HasRead (der_message T) e bytes × HoldsContents (der_message T) spot (drop e.start bytes ++ front)
 last_read T d e kept bytes front spot left same is (r, keeps) held = (
   subst (λ (z : Decoder). HasRead (der_message T) z bytes) (sym same) r,
   subst (λ (z : Decoder). HoldsContents (der_message T) spot (drop z.start bytes ++ front)) (sym same)
-      (subst (λ z. HoldsContents (der_message T) spot (z ++ front)) (kept_is d.due spot left d.start bytes kept is keeps) held),
+      (λ of at. ((kept_at T d.due spot left d.start bytes kept is keeps).stands of at).held front (held of at)),
 )
 
 rule_stays : (m : DerMessage ℕ) (xs : List Level) (spot : Spot) (left start place : ℕ) (bytes octets : List ℕ) (rule : Rule) → Reads m xs (due.Contents spot left) start place bytes → BreaksContentsAt m spot octets rule → rule ≢ DerTruncated
@@ -198,7 +201,7 @@ breaks_within T d kept bytes front spot left rule is (r, keeps) size breaks =
     let m = der_message T in
     let xs = inwards d.levels.items in
     let reads = subst (λ z. Reads m xs z d.start d.place bytes) is r in
-    let here = subst (λ z. BreaksContentsAt m spot (z ++ front) rule) (kept_is d.due spot left d.start bytes kept is keeps) breaks in (
+    let here : BreaksContentsAt m spot (drop d.start bytes ++ front) rule = λ of at. ((kept_at T d.due spot left d.start bytes kept is keeps).stands of at).broken front rule (breaks of at) in (
       bytes ++ front,
       [],
       sym (append-nil (bytes ++ front)),
@@ -319,3 +322,11 @@ pub depth_is : (T : Tables) (checker : DerChecker) (bytes : List ℕ) (h : HasFe
 depth_is T checker bytes h =
     let d = checker.decoder in
     sym (inwards_length d.levels.items) ∙ open_length (der_message T) (inwards d.levels.items) d.due h.reading.read.state h.reading.read.is_open
+
+-- ---- what is held
+
+pub scratch_is : (T : Tables) (checker : DerChecker) (bytes : List ℕ) (h : HasFed checker T bytes) → IsHeldWithin (open_limit (der_message T) h.reading.read.state) (leaf_come h.reading.read.state h.reading.read.rest) (length checker.kept.items)
+scratch_is T checker bytes h = (let d = checker.decoder in held_open T (inwards d.levels.items) d.due d.start d.place bytes checker.kept.items h.reading.read h.reading.keeps)
+
+pub token_is : (T : Tables) (checker : DerChecker) (bytes : List ℕ) (h : HasFed checker T bytes) → (token_held checker ≡ token_come h.reading.read.state h.reading.read.rest) × (token_held checker ≤ 8)
+token_is T checker bytes h = (let d = checker.decoder in token_open (der_message T) (inwards d.levels.items) d.due d.start d.place bytes h.reading.read)

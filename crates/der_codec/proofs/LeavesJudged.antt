@@ -163,7 +163,7 @@ date_refused simple octets (refused.Breaks rule) d is told =
     date_breaks simple octets rule d is (subst (λ z. BreaksFirst simple z rule) run.1 (told run.0))
 date_refused simple octets refused.Memory d is told = tt
 
-text_form : (k : Kind) (codes : Option (List (List ℕ))) (octets : List ℕ) → IsDateKind k → (HasContentsForm k codes octets → IsXmlText octets) × (IsXmlText octets → HasContentsForm k codes octets)
+pub text_form : (k : Kind) (codes : Option (List (List ℕ))) (octets : List ℕ) → IsDateKind k → (HasContentsForm k codes octets → IsXmlText octets) × (IsXmlText octets → HasContentsForm k codes octets)
 text_form kind.Text codes octets d = absurd d
 text_form kind.Decimal codes octets d = absurd d
 text_form kind.Boolean codes octets d = absurd d

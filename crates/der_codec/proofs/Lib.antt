@@ -23,3 +23,6 @@ pub mod Fed
 pub mod KeptInstances
 pub mod CompiledFinite
 pub mod ToldAtParts
+pub mod CutTexts
+pub mod CutContents
+pub mod CutSpots

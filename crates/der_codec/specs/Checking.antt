@@ -1,5 +1,5 @@
 -- What a checker of DER was given, and what it answers.
-use Rattle.std.specs.Prelude.{◌≡◌, ◌≢◌, ◌⊎◌, ℕ, ◌≤◌, ◌^◌, List, [], ◌++◌, length, take, drop, IfOk, IfErr, Option, Some, None, Result, Ok, Err}
+use Rattle.std.specs.Prelude.{◌≡◌, ◌≢◌, ◌⊎◌, ℕ, ◌≤◌, ◌^◌, List, [], ◌++◌, length, take, drop, IfOk, IfErr, Option, None, Result, Ok, Err}
 use Rattle.lexical_core.specs.declared.rule.Rule.TheVariants.{DerTruncated}
 use Rattle.data_types.specs.Value.{Value}
 use Rattle.message_model.specs.Tables.{Tables, types_of}
@@ -13,7 +13,8 @@ use Rattle.der_model.specs.States as states
 use Rattle.der_model.specs.States.{State, Start, AwaitsLength, AwaitsContents, Within}
 use Rattle.der_codec.specs.Checked.{CheckTypes}
 use Rattle.der_codec.specs.Components.{added_text}
-use Rattle.der_codec.specs.Decoding.{HasRead, IsFault, IsWaiting, end_of_levels}
+use Rattle.der_codec.specs.Limits.{IsKeptAt}
+use Rattle.der_codec.specs.Decoding.{HasRead, header_come, IsFault, IsWaiting, end_of_levels}
 use Rattle.der_codec.specs.declared.decoder.Decoder.{Decoder}
 use Rattle.der_codec.specs.declared.decoder.Due.{Due}
 use Rattle.der_codec.specs.declared.decoder.Due.TheVariants as due
@@ -21,10 +22,10 @@ use Rattle.der_codec.specs.declared.decoder.Stop.{Stop}
 use Rattle.der_codec.specs.declared.decoder.Stop.TheVariants as stop
 use Rattle.der_codec.specs.declared.checker.DerChecker.{DerChecker}
 
--- of contents that are due those octets are kept that have come
-abbrev pub KeepsContents : Due → ℕ → List ℕ → List ℕ → Type 0
-KeepsContents (due.Contents spot left) start bytes kept = kept ≡ drop start bytes
-KeepsContents d start bytes kept = kept ≡ []
+-- of contents that are due octets are kept that stand for those that have come
+abbrev pub KeepsContents : Tables → Due → ℕ → List ℕ → List ℕ → Type 0
+KeepsContents T (due.Contents spot left) start bytes kept = IsKeptAt (der_message T) spot kept (drop start bytes)
+KeepsContents T d start bytes kept = kept ≡ []
 
 -- no contents are due
 abbrev pub IsNoContents : Due → Type 0
@@ -33,13 +34,13 @@ IsNoContents d = Unit {0}
 
 -- the reader was given these bytes, and keeps what has come of contents
 abbrev pub KeepsRead : Tables → Decoder → List ℕ → List ℕ → Type 0
-KeepsRead T d kept bytes = HasRead (der_message T) d bytes × KeepsContents d.due d.start bytes kept
+KeepsRead T d kept bytes = HasRead (der_message T) d bytes × KeepsContents T d.due d.start bytes kept
 
 -- The reader goes on: it was given these bytes, which break nothing so far.
 pub record IsReading (T : Tables) (d : Decoder) (kept bytes : List ℕ) : Type 0 where
   pub read : HasRead (der_message T) d bytes
   pub waits : IsWaiting d.due d.place (end_of_levels d.levels.items)
-  pub keeps : KeepsContents d.due d.start bytes kept
+  pub keeps : KeepsContents T d.due d.start bytes kept
 
 -- the checker goes on: it was given these bytes, 2^40 at most, which break nothing so far
 pub record HasFed (checker : DerChecker) (T : Tables) (bytes : List ℕ) : Type 0 where
@@ -50,6 +51,14 @@ pub record HasFed (checker : DerChecker) (T : Tables) (bytes : List ℕ) : Type 
 -- how many bytes the checker was given
 abbrev pub fed : DerChecker → ℕ
 fed checker = checker.decoder.place
+
+-- how many octets it keeps of the contents that are due
+abbrev pub held : DerChecker → ℕ
+held checker = length checker.kept.items
+
+-- how many octets of a header have come, where more of them are due
+abbrev pub token_held : DerChecker → ℕ
+token_held checker = header_come checker.decoder.due checker.decoder.start checker.decoder.place
 
 -- the answer that it gives for good, where there is one
 abbrev pub failed : DerChecker → Option InstanceError

@@ -1,5 +1,5 @@
 -- What a reader of DER has read, and how it stops.
-use Rattle.std.specs.Prelude.{◌≡◌, ◌≢◌, ℕ, ◌+◌, ◌<◌, ◌≤◌, Bool, true, List, [], ◌∷◌, ◌++◌, Option, Some, None, length, vec_len, vec_capacity}
+use Rattle.std.specs.Prelude.{◌≡◌, ◌≢◌, ℕ, ◌+◌, ◌-◌, ◌<◌, ◌≤◌, Bool, true, List, [], ◌∷◌, ◌++◌, Option, Some, None, length, vec_len, vec_capacity}
 use Rattle.std.specs.Global.{Vec}
 use Rattle.lexical_core.specs.declared.rule.Rule.{Rule}
 use Rattle.lexical_core.specs.declared.rule.Rule.TheVariants.{DerTruncated}
@@ -186,3 +186,9 @@ AwaitsValue _ = ⊥
 abbrev pub IsRefusedAs : ℕ → Refusal → Stop → Type 0
 IsRefusedAs start (refused.Breaks rule) s = s ≡ stop.Fault rule start added.Nothing
 IsRefusedAs start refused.Memory s = s ≡ stop.Memory
+
+-- of the part that is due, the octets that have come of its identifier or its length
+abbrev pub header_come : Due → ℕ → ℕ → ℕ
+header_come (due.Tag step) start place = place - start
+header_come (due.Length constructed spot step) start place = place - start
+header_come d start place = 0

@@ -7,6 +7,7 @@ pub mod Judging
 pub mod OpenNames
 pub mod Elements
 pub mod Filling
+pub mod Limits
 pub mod Checking
 pub mod Laws
 pub mod ReadyLaws

@@ -1,27 +1,30 @@
 // A checker of the DER of instances that takes their bytes in pieces.
-ghost use Rattle.std.specs.Prelude.{◌≡◌, ◌<◌, ◌+◌, ◌≤◌, ◌^◌, ◌++◌, ◌⊎◌, ℕ, List, [], IfOk, IfErr, Some, None, Err, length};
+ghost use Rattle.std.specs.Prelude.{◌≡◌, ◌<◌, ◌+◌, ◌≤◌, ◌^◌, ◌++◌, ◌⊎◌, ℕ, List, [], IfOk, IfErr, OnOk, Some, None, Err, length};
 ghost use Rattle.message_model.specs.Tables.{Tables, types_of};
 ghost use Rattle.der_model.specs.DerMessage.{der_message};
 ghost use Rattle.der_codec.specs.Checked.{CheckTypes};
 ghost use Rattle.der_codec.specs.Decoding.{HasRead, IsStopped, IsSettled, BeginsContents, IsHeaderDue, end_of_levels};
 ghost use Rattle.der_codec.specs.Judging.{IsVerdictFor};
-ghost use Rattle.der_codec.specs.Checking.{HasFed, IsReading, IsNoContents, KeepsRead, IsMadeFor, StopsWithin, TakesFront, Stops, IsSpelled, EndsAs, IsSameOrMemory, IsAgain, open_levels, fed, failed};
+ghost use Rattle.der_codec.specs.Limits.{IsKeptAt, open_limit, leaf_come, token_come};
+ghost use Rattle.facets.specs.LeafChecks.{IsHeldWithin};
+ghost use Rattle.der_codec.specs.Checking.{HasFed, IsReading, IsNoContents, KeepsRead, IsMadeFor, StopsWithin, TakesFront, Stops, IsSpelled, EndsAs, IsSameOrMemory, IsAgain, open_levels, fed, failed, held, token_held};
 
 use crate::checks::{Checks, Refusal};
 use crate::contents::verdict;
 use crate::decoder::{Decoder, Due, Stop};
 use crate::envelopes::fragments_apart;
 use crate::level::Spot;
+use crate::limits::shorten;
 use message_model::{Fault, InstanceError, Model};
 use std::alloc::{AllocError, Global};
 
-/// A checker of an instance. It keeps the open values and the contents octets of a leaf that are not whole, and
-/// nothing of what is closed.
+/// A checker of an instance. It keeps the open values, of contents octets that are not whole no more than tell what
+/// they are, and nothing of what is closed.
 #[derive(Drop)]
 pub struct DerChecker {
     alloc: Global,
     decoder: Decoder,
-    /// The contents octets that have come, where more of them are due.
+    /// Of the contents octets that have come, where more of them are due, as many as tell what they are.
     kept: Vec<u8>,
     checks: Checks,
     /// The answer that it gives for good, where there is one.
@@ -76,6 +79,27 @@ impl DerChecker {
         ensures { (T : Tables) (bytes : List ℕ) (h : HasFed self.now T bytes) → result ≡ length (open_levels h.reading.read.state) }
     {
         self.decoder.depth()
+    }
+
+    /// How many bytes are held of the leaf that is open: of its contents octets those that are kept, where more are
+    /// due. At most four are held for each that has come, within the limit of the leaf, and 64. Its check begins
+    /// when all have come, and holds nothing before.
+    pub fn scratch(&self) -> u64
+        ensures count { result ≡ held self.now }
+        ensures bound { (T : Tables) (bytes : List ℕ) (h : HasFed self.now T bytes)
+            → IsHeldWithin (open_limit (der_message T) h.reading.read.state) (leaf_come h.reading.read.state h.reading.read.rest) result }
+    {
+        self.kept.len() as u64
+    }
+
+    /// How many bytes are held of identifier or length octets, where more of them are due: eight at most.
+    pub fn token(&self) -> u64
+        ensures count { result ≡ token_held self.now }
+        ensures come { (T : Tables) (bytes : List ℕ) (h : HasFed self.now T bytes)
+            → result ≡ token_come h.reading.read.state h.reading.read.rest }
+        ensures bound { (T : Tables) (bytes : List ℕ) → HasFed self.now T bytes → result ≤ 8 }
+    {
+        self.decoder.header_come()
     }
 
     /// Takes the next bytes, of at most 2^40 in all. It answers the first fault at the byte that
@@ -276,7 +300,7 @@ impl DerChecker {
         let count = fewer(piece.len(), left);
         let (front, _behind) = piece.split_at(count);
         if (count as u64) < left {
-            return match self.keep(spot, left, front) {
+            return match self.keep(model, spot, left, front) {
                 Ok(()) => Ok(count),
                 Err(stop) => Err(stop),
             };
@@ -288,22 +312,33 @@ impl DerChecker {
     }
 
     /// Keeps contents octets, behind which more are due.
-    fn keep(&mut self, spot: Spot, left: u64, front: &[u8]) -> Result<(), Stop>
+    fn keep(&mut self, model: &Model, spot: Spot, left: u64, front: &[u8]) -> Result<(), Stop>
         requires room { fed self.old + length front.now ≤ 2 ^ 40 }
         requires due { self.old.decoder.due ≡ Due.Contents spot left }
         requires more { length front.now < left }
         ensures checks { self.new.checks ≡ self.old.checks }
         ensures sound { self.new.failed ≡ self.old.failed }
-        ensures ok { (T : Tables) (bytes : List ℕ) → IsReading T self.old.decoder self.old.kept.items bytes → IfOk result (λ _. IsReading T self.new.decoder self.new.kept.items (bytes ++ front.now)) }
+        ensures ok { (bytes : List ℕ) → IsReading model.now self.old.decoder self.old.kept.items bytes → IfOk result (λ _. IsReading model.now self.new.decoder self.new.kept.items (bytes ++ front.now)) }
         ensures err { IfErr result (λ stop. stop ≡ Stop.Memory) }
     {
-        match self.kept.extend_from_slice(front) {
+        match self.hold(model, spot, front) {
             Ok(()) => {
                 self.decoder.pass(spot, left, front.len() as u64);
                 Ok(())
             }
             Err(_) => Err(Stop::Memory),
         }
+    }
+
+    /// Keeps contents octets, and of all that are kept no more than tell what they are.
+    fn hold(&mut self, model: &Model, spot: Spot, front: &[u8]) -> Result<(), AllocError>
+        ensures kept { OnOk result (IsKeptAt (der_message model.now) spot self.new.kept.items (self.old.kept.items ++ front.now)) }
+        ensures decoder { self.new.decoder ≡ self.old.decoder }
+        ensures checks { self.new.checks ≡ self.old.checks }
+        ensures sound { self.new.failed ≡ self.old.failed }
+    {
+        self.kept.extend_from_slice(front)?;
+        shorten(self.alloc, model, spot, &mut self.kept)
     }
 
     /// Takes the last contents octets of a leaf, judges it, and ends the values that end behind it.

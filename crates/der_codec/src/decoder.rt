@@ -4,7 +4,7 @@ ghost use Rattle.lexical_core.specs.Tree.{Tree};
 ghost use Rattle.message_model.specs.Tables.{message_of, types_of};
 ghost use Rattle.der_model.specs.DerMessage.{DerMessage, in_der};
 ghost use Rattle.der_codec.specs.Levels.{inwards, first_of, rest_of};
-ghost use Rattle.der_codec.specs.Decoding.{HasRead, IsStopped, IsBelow, IsPast, end_of_levels, IsFresh, IsFreshOrOver, due_after, IsReady, IsOver, IsWaiting, IsOpen, IsNoCut, AwaitsValue, IsRefusedAs};
+ghost use Rattle.der_codec.specs.Decoding.{HasRead, IsStopped, IsBelow, IsPast, end_of_levels, IsFresh, IsFreshOrOver, due_after, IsReady, IsOver, IsWaiting, IsOpen, IsNoCut, AwaitsValue, IsRefusedAs, header_come};
 ghost use Rattle.der_codec.specs.Components.{added_text};
 ghost use Rattle.der_codec.specs.OpenNames.{IsNamed};
 ghost use Rattle.der_codec.specs.Judging.{HoldsContents};
@@ -245,6 +245,17 @@ impl Decoder {
         ensures { result ≡ length self.now.levels.items }
     {
         self.levels.len()
+    }
+
+    /// How many identifier or length octets have come, where more of them are due.
+    pub(crate) fn header_come(&self) -> u64
+        ensures { result ≡ header_come self.now.due self.now.start self.now.place }
+    {
+        match self.due {
+            Due::Tag(_) => self.place.saturating_sub(self.start),
+            Due::Length { .. } => self.place.saturating_sub(self.start),
+            _ => 0,
+        }
     }
 
     /// Goes on with contents, of which so many octets more have come.

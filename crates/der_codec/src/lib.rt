@@ -2,8 +2,10 @@
 //!
 //! `DerChecker` tells the first fault of the bytes at the byte that shows it, whatever the pieces. Beneath it
 //! `Decoder` takes the octets of headers and the ends of values, and `contents` judges the contents octets of
-//! leaves; a fault's path is made of what is open (`paths`). `Checking` of `specs/` says what a checker was
-//! given and what it answers, `Decoding` the same of the decoder.
+//! leaves; of those that come in pieces `limits` keeps no more than tell what they are, so that no length which
+//! is declared decides how much is held (`scratch`, `token`). A fault's path is made of what is open (`paths`).
+//! `Checking` of `specs/` says what a checker was given and what it answers, `Decoding` the same of the decoder,
+//! `Limits` what octets that are kept stand for.
 //!
 //! Tag numbers are below 2^14, lengths below 2^63.
 #![tactic(auto)]
@@ -21,6 +23,7 @@ mod headers;
 pub mod laws;
 mod leaves;
 mod level;
+mod limits;
 mod paths;
 mod reader;
 

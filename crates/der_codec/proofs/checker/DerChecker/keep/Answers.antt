@@ -1,10 +1,18 @@
-use Rattle.std.proofs.Common.{refl}
+use Rattle.std.proofs.Common.{refl, sym, subst, ◌≡◌}
 use Rattle.der_model.specs.DerMessage.{der_message}
+use Rattle.der_codec.specs.Checking.{IsReading}
+use Rattle.der_codec.specs.declared.decoder.Decoder.{Decoder}
+use Rattle.der_codec.specs.declared.decoder.Due.TheVariants as due
 use Rattle.der_codec.proofs.Fed.{keep_reading}
 use Rattle.der_codec.proofs.checker.DerChecker.keep.Goals as goal
 
 pub returns-in-Ok-clause-ok : goal.returns-in-Ok-clause-ok
-returns-in-Ok-clause-ok c = λ T bytes h.
+returns-in-Ok-clause-ok c = λ bytes h.
+    let T = c.args.model.now in
     let s = c.args.self.now in
-    keep_reading T s.decoder c.pass.new.self s.kept.items c.extend_from_slice.new.self.items bytes c.args.front.now c.args.spot c.args.left c.requires.due c.requires.more h
-    (c.pass.ensures.read (der_message T) bytes c.args.front.now h.read refl) c.pass.ensures.due c.pass.ensures.start c.in-Ok.ensures.items
+    let d = c.hold.new.self.decoder in
+    let same = c.hold.ensures.decoder in
+    let g = subst (λ (z : Decoder). IsReading T z s.kept.items bytes) (sym same) h in
+    let is : d.due ≡ due.Contents c.args.spot c.args.left = subst (λ (z : Decoder). z.due ≡ due.Contents c.args.spot c.args.left) (sym same) c.requires.due in
+    keep_reading T d c.pass.new.self s.kept.items c.hold.new.self.kept.items bytes c.args.front.now c.args.spot c.args.left is c.requires.more g
+    (c.pass.ensures.read (der_message T) bytes c.args.front.now g.read refl) c.pass.ensures.due c.pass.ensures.start c.in-Ok.ensures.kept

@@ -10,7 +10,7 @@ returns-clause-made c = record {
   given = λ none. (
     [],
     record {
-      reading = record { read = c.new.ensures.read (der_message c.args.model.now); waits = c.new.ensures.waits; keeps = keeps_none c.new.result.due c.new.result.start c.new-2.result.items c.new-2.ensures.items };
+      reading = record { read = c.new.ensures.read (der_message c.args.model.now); waits = c.new.ensures.waits; keeps = keeps_none c.args.model.now c.new.result.due c.new.result.start c.new-2.result.items c.new-2.ensures.items };
       short = omega arith;
       sound = refl;
     },
@@ -19,7 +19,7 @@ returns-clause-made c = record {
 
 pub returns-clause-fed : goal.returns-clause-fed
 returns-clause-fed c = record {
-  reading = record { read = c.new.ensures.read (der_message c.args.model.now); waits = c.new.ensures.waits; keeps = keeps_none c.new.result.due c.new.result.start c.new-2.result.items c.new-2.ensures.items };
+  reading = record { read = c.new.ensures.read (der_message c.args.model.now); waits = c.new.ensures.waits; keeps = keeps_none c.args.model.now c.new.result.due c.new.result.start c.new-2.result.items c.new-2.ensures.items };
   short = omega arith;
   sound = refl;
 }

@@ -5,7 +5,7 @@ use Rattle.der_codec.proofs.checker.DerChecker.take_contents.Goals as goal
 pub returns-in-Ok-clause-front : goal.returns-in-Ok-clause-front
 returns-in-Ok-clause-front c =
     taken_front c.args.model.now c.args.self.now c.keep.new.self c.args.piece.now c.split_at.result.0.now c.fewer-count.result c.split_at.ensures.front c.fewer-count.ensures.have c.requires.room c.keep.ensures.sound
-    (λ bytes h. c.in-Ok.ensures.ok c.args.model.now bytes h.reading)
+    (λ bytes h. c.in-Ok.ensures.ok bytes h.reading)
 
 pub returns-in-Ok-take_last-clause-front : goal.returns-in-Ok-take_last-clause-front
 returns-in-Ok-take_last-clause-front c =

@@ -1,0 +1,135 @@
+-- What is kept of contents in values, and what is held of what is open.
+use Rattle.std.proofs.Common.{◌≡◌, ℕ, zero, suc, ◌-◌, ◌≤◌, List, [], ◌∷◌, ◌++◌, length, drop, Option, Some, None, Ok, Err, refl, sym, ap, ◌∙◌, subst, arith, append_assoc, length-append, Bor}
+use Rattle.der_octets.specs.TagSteps as tags
+use Rattle.der_octets.specs.LengthSteps as lengths
+use Rattle.facets.specs.LeafChecks.{IsHeldWithin}
+use Rattle.facets.specs.declared.simple.Simple.{Simple}
+use Rattle.message_model.specs.Sound.{AreSound, HaveSortedCodes}
+use Rattle.message_model.specs.Tables.{Tables, types_of}
+use Rattle.message_model.specs.Views.{IsFormOf}
+use Rattle.message_model.specs.declared.model.Form.TheVariants as form
+use Rattle.reference_check.specs.Forms as graph
+use Rattle.reference_check.specs.Forms.{Graph, text_type}
+use Rattle.der_model.specs.DerMessage.{DerMessage, der_message}
+use Rattle.der_model.specs.Faults.{IsHeldIn, BreaksIn}
+use Rattle.der_model.specs.Structures.{Structure, Holds, LeafOf, structure, form_structure, number_structure}
+use Rattle.der_model.specs.States.{State, Start, AwaitsLength, AwaitsContents, Within}
+use Rattle.der_codec.specs.Limits.{IsKeptUnder, IsKeptIn, IsKeptAt, IsLeafAt, contents_limit, open_limit, leaf_come, token_come}
+use Rattle.der_codec.specs.Decoding.{Reads, IsOpen, IsBegun, header_come}
+use Rattle.der_codec.specs.Checking.{KeepsContents}
+use Rattle.der_codec.specs.declared.level.Spot.{Spot}
+use Rattle.der_codec.specs.declared.level.Spot.TheVariants as spots
+use Rattle.der_codec.specs.declared.level.Level.{Level}
+use Rattle.der_codec.specs.declared.decoder.Due.{Due}
+use Rattle.der_codec.specs.declared.decoder.Due.TheVariants as due
+use Rattle.der_codec.proofs.ContentsJudged.{simple_text, money_text}
+use Rattle.der_codec.proofs.ContentsSteps.{rest_from}
+
+held_more : (o : Option ℕ) (n k held : ℕ) → n ≤ k → IsHeldWithin o n held → IsHeldWithin o k held
+held_more None n k held more h = omega (arith, more, h)
+held_more (Some m) n k held more h = omega (arith, more, h)
+
+held_none : (o : Option ℕ) (n : ℕ) → IsHeldWithin o n 0
+held_none None n = omega arith
+held_none (Some m) n = omega arith
+
+-- ---- by the value
+
+same_kept : (m : DerMessage ℕ) (s : Structure ℕ) (octets : List ℕ) → IsHeldWithin (contents_limit s) (length octets) (length octets) → IsKeptIn m s octets octets
+same_kept m s octets within = record { held = λ more h. h; broken = λ more rule h. h; within = within }
+
+-- nothing is kept of nothing
+pub none_held : (m : DerMessage ℕ) (spot : Spot) (kept octets : List ℕ) → kept ≡ [] → octets ≡ [] → IsKeptAt m spot kept octets
+none_held m spot kept octets e f = subst (λ z. IsKeptAt m spot z octets) (sym e) (subst (λ z. IsKeptAt m spot [] z) (sym f) (record { few = omega arith; stands = λ of is. same_kept m (structure m of) [] (held_none (contents_limit (structure m of)) 0) }))
+
+-- what is kept under a simple type is kept of the leaf
+under_kept : (m : DerMessage ℕ) (simple : Simple) (kept octets : List ℕ) → IsKeptUnder simple kept octets → IsKeptIn m (Holds (LeafOf simple)) kept octets
+under_kept m simple kept octets k = record {
+  held = λ more h. (h.0, k.stands more (Ok h.0) h.1);
+  broken = λ more rule h. k.stands more (Err rule) h;
+  within = k.within;
+}
+
+pub leaf_held : (m : DerMessage ℕ) (spot : Spot) (simple : Simple) (kept octets : List ℕ) → IsLeafAt m spot simple → IsKeptUnder simple kept octets → IsKeptAt m spot kept octets
+leaf_held m spot simple kept octets l k = record {
+  few = k.few;
+  stands = λ of is. subst (λ s. IsKeptIn m s kept octets) (sym (l.leaf of is)) (under_kept m simple kept octets k);
+}
+
+-- what is kept with more behind it, of which again so many are kept
+pub held_then : (m : DerMessage ℕ) (spot : Spot) (kept octets front less : List ℕ) → IsKeptAt m spot kept octets → IsKeptAt m spot less (kept ++ front) → IsKeptAt m spot less (octets ++ front)
+held_then m spot kept octets front less k l = record {
+  few = (let a = k.few in let b = l.few in let s = length-append kept front in let t = length-append octets front in omega (arith, a, b, s, t));
+  stands = λ of is.
+      let x = k.stands of is in let y = l.stands of is in record {
+        held = λ more h. subst (IsHeldIn m (structure m of)) (sym (append_assoc octets front more)) (x.held (front ++ more) (subst (IsHeldIn m (structure m of)) (append_assoc kept front more) (y.held more h)));
+        broken = λ more rule h. subst (λ z. BreaksIn m (structure m of) z rule) (sym (append_assoc octets front more)) (x.broken (front ++ more) rule (subst (λ z. BreaksIn m (structure m of) z rule) (append_assoc kept front more) (y.broken more rule h)));
+        within = held_more (contents_limit (structure m of)) (length (kept ++ front)) (length (octets ++ front)) (length less)
+            (let a = k.few in let s = length-append kept front in let t = length-append octets front in omega (arith, a, s, t)) y.within;
+      };
+}
+
+-- ---- the simple type at a spot
+
+simple_structure : (g : Graph ℕ Simple) (p : ℕ) (f : graph.Form ℕ Simple) (told : Bor Simple) → IsFormOf (Some (form.Simple told)) f → form_structure g p f ≡ Holds (LeafOf told.now)
+simple_structure g p (graph.Simple simple) told is = ap (λ z. Holds (LeafOf z)) (sym is)
+simple_structure g p f told is = absurd is
+
+money_structure : (f : graph.Form ℕ Simple) (told : ℕ) (base : Bor Simple) → IsFormOf (Some (form.Money told base)) f → number_structure f ≡ Holds (LeafOf base.now)
+money_structure (graph.Money code number) told base is = ap (λ z. Holds (LeafOf z)) (sym is.1)
+money_structure f told base is = absurd is
+
+pub value_leaf : (T : Tables) (p : ℕ) (told : Bor Simple) → AreSound (types_of T) → HaveSortedCodes (types_of T) → IsFormOf (Some (form.Simple told)) (types_of T p) → IsLeafAt (der_message T) (spots.Value p) told.now
+value_leaf T p told sound sorted is = record {
+  leaf = λ of e. ap (structure (der_message T)) e ∙ simple_structure (types_of T) p (types_of T p) told is;
+  limits = (sound p).limits told.now (simple_text (types_of T p) told is);
+  sorted = sorted p told.now (simple_text (types_of T p) told is);
+}
+
+pub number_leaf : (T : Tables) (p told : ℕ) (base : Bor Simple) → AreSound (types_of T) → HaveSortedCodes (types_of T) → IsFormOf (Some (form.Money told base)) (types_of T p) → IsLeafAt (der_message T) (spots.Number p) base.now
+number_leaf T p told base sound sorted is = record {
+  leaf = λ of e. ap (structure (der_message T)) e ∙ money_structure (types_of T p) told base is;
+  limits = (sound p).limits base.now (money_text (types_of T p) told base is);
+  sorted = sorted p base.now (money_text (types_of T p) told base is);
+}
+
+-- ---- what is held of what is open
+
+pub held_open : (T : Tables) (xs : List Level) (d : Due) (start place : ℕ) (bytes kept : List ℕ) (r : Reads (der_message T) xs d start place bytes) → KeepsContents T d start bytes kept
+    → IsHeldWithin (open_limit (der_message T) r.state) (leaf_come r.state r.rest) (length kept)
+held_open T xs d start place bytes kept r keeps = by d r.state r.is_open keeps (rest_from (der_message T) xs d start place bytes r)
+  where
+    nothing : (s : State ℕ) → kept ≡ [] → IsHeldWithin (open_limit (der_message T) s) (leaf_come s r.rest) (length kept)
+    nothing s e = subst (λ z. IsHeldWithin (open_limit (der_message T) s) (leaf_come s r.rest) (length z)) (sym e) (held_none (open_limit (der_message T) s) (leaf_come s r.rest))
+
+    by : (d : Due) (s : State ℕ) → IsOpen (der_message T) xs d s → KeepsContents T d start bytes kept → drop start bytes ≡ r.rest → IsHeldWithin (open_limit (der_message T) s) (leaf_come s r.rest) (length kept)
+    by (due.Contents spot left) (AwaitsContents of names count ls) op k e =
+        subst (λ z. IsHeldWithin (contents_limit (structure (der_message T) of)) (length z) (length kept)) e (k.stands of op.0).within
+    by (due.Contents spot left) s op k e = absurd op
+    by (due.Tag step) s op k e = nothing s k
+    by (due.Length c spot step) s op k e = nothing s k
+    by due.Over s op k e = nothing s k
+
+tag_few : (come first high : ℕ) (rest : List ℕ) → tags.HasTakenIn come first high rest → length rest ≤ 8
+tag_few zero first high rest h = (let none = ap length h in omega (arith, none))
+tag_few (suc zero) first high rest h = (let one = ap length h.octets_are in omega (arith, one))
+tag_few (suc (suc come)) first high rest h = (let two = ap length h.octets_are in omega (arith, two))
+
+length_few : (count come value : ℕ) (rest : List ℕ) → lengths.HasTakenIn count come value rest → length rest ≤ 8
+length_few zero come value rest h = (let none = ap length h in omega (arith, none))
+length_few (suc count) come value rest h = (let all = ap length h.octets_are in let others = h.come_is in let few = h.fewer in let most = h.most in omega (arith, all, others, few, most))
+
+-- the octets of a header that have come are as many as there are of the part that has begun, and few
+pub token_open : (m : DerMessage ℕ) (xs : List Level) (d : Due) (start place : ℕ) (bytes : List ℕ) (r : Reads m xs d start place bytes) → (header_come d start place ≡ token_come r.state r.rest) × (header_come d start place ≤ 8)
+token_open m xs d start place bytes r = by d r.state r.is_open r.is_begun
+  where
+    come : place - start ≡ length r.rest
+    come = (let a = r.start_is in let b = r.place_is in omega (arith, a, b))
+
+    by : (d : Due) (s : State ℕ) → IsOpen m xs d s → IsBegun d s r.rest → (header_come d start place ≡ token_come s r.rest) × (header_come d start place ≤ 8)
+    by (due.Tag step) Start op beg = (come, (let few = tag_few step.come step.first step.high r.rest beg in let c = come in omega (arith, few, c)))
+    by (due.Tag step) (Within (l ∷ ls)) op beg = (come, (let few = tag_few step.come step.first step.high r.rest beg in let c = come in omega (arith, few, c)))
+    by (due.Length c spot step) (AwaitsLength b of names ls) op beg = (come, (let few = length_few step.count step.come step.value r.rest beg in let c = come in omega (arith, few, c)))
+    by (due.Contents spot left) (AwaitsContents of names count ls) op beg = (refl, omega arith)
+    by due.Over (Within []) op beg = (sym (ap length beg), omega arith)
+    by d s op beg = absurd op

@@ -1,0 +1,200 @@
+// How many octets are kept of contents that come in pieces: no more than tell what the contents are.
+ghost use Rattle.std.specs.Prelude.{◌≡◌, ◌+◌, ◌*◌, ◌<◌, ◌≤◌, ◌^◌, ◌++◌, ◌∷◌, [], ℕ, List, length, take, replicate, OnOk, IfOk, IfSome, IfNone, IsSome, IsTrue, IsFalse, Some, None};
+ghost use Rattle.base64.specs.GeneralPurpose.{IsBytes};
+ghost use Rattle.data_types.specs.declared.kind.Kind.TheVariants as kind;
+ghost use Rattle.facets.specs.LeafChecks.{IsWithinLimits};
+ghost use Rattle.facets.specs.LeafUnder.{HasSortedCodes};
+ghost use Rattle.facets.specs.PatternChecks.{IsDateKind};
+ghost use Rattle.der_model.specs.DerMessage.{der_message};
+ghost use Rattle.der_codec.specs.Limits.{IsKeptUnder, IsKeptAt, IsLeafAt, HasNoLimit, IsShortForm, IsTextKept};
+
+use crate::level::Spot;
+use data_types::Kind;
+use facets::Simple;
+use lexical_core::xml_run;
+use message_model::{Form, Model};
+use std::alloc::{AllocError, Global};
+
+/// Cuts down the contents octets at the spot that have come, behind which more are due. What they are with those
+/// is not changed.
+pub(crate) fn shorten(
+    alloc: Global,
+    model: &Model,
+    spot: Spot,
+    kept: &mut Vec<u8>,
+) -> Result<(), AllocError>
+    ensures { OnOk result (IsKeptAt (der_message model.now) spot kept.new.items kept.old.items) }
+{
+    match simple_at(model, spot) {
+        Some(simple) => shorten_leaf(alloc, simple, kept),
+        None => Ok(()),
+    }
+}
+
+/// The simple type of the leaf at the spot; `None` where there is no leaf.
+fn simple_at(model: &Model, spot: Spot) -> Option<&Simple>
+    ensures some { IfSome result (λ simple. IsLeafAt (der_message model.now) spot simple.now) }
+    ensures none { IfNone result (HasNoLimit (der_message model.now) spot) }
+{
+    let _ = model.type_count();
+    match spot {
+        Spot::Instance => None,
+        Spot::Value(number) => value_at(model, number),
+        Spot::List { parent: _, slot: _ } => None,
+        Spot::Number(number) => number_at(model, number),
+    }
+}
+
+/// The simple type of a leaf that is the value of a type.
+fn value_at(model: &Model, number: u32) -> Option<&Simple>
+    ensures some { IfSome result (λ simple. IsLeafAt (der_message model.now) (Spot.Value number) simple.now) }
+    ensures none { IfNone result (HasNoLimit (der_message model.now) (Spot.Value number)) }
+{
+    let _ = model.type_count();
+    match model.form(number) {
+        Some(Form::Simple(simple)) => Some(simple),
+        _ => None,
+    }
+}
+
+/// The simple type of the number of an amount.
+fn number_at(model: &Model, number: u32) -> Option<&Simple>
+    ensures some { IfSome result (λ simple. IsLeafAt (der_message model.now) (Spot.Number number) simple.now) }
+    ensures none { IfNone result (HasNoLimit (der_message model.now) (Spot.Number number)) }
+{
+    let _ = model.type_count();
+    match model.form(number) {
+        Some(Form::Money { code: _, base }) => Some(base),
+        _ => None,
+    }
+}
+
+/// Cuts down the contents octets of a leaf.
+fn shorten_leaf(alloc: Global, simple: &Simple, kept: &mut Vec<u8>) -> Result<(), AllocError>
+    requires limits { IsWithinLimits simple.now }
+    requires sorted { HasSortedCodes simple.now }
+    ensures { OnOk result (IsKeptUnder simple.now kept.new.items kept.old.items) }
+{
+    match simple.kind {
+        Kind::Text => match &simple.codes {
+            Some(_) => cut_code(simple, kept),
+            None => cut_text(alloc, simple, kept),
+        },
+        Kind::Binary => cut_octets(simple, kept),
+        Kind::Decimal | Kind::Boolean | Kind::Envelope => cut_short(simple, kept),
+        _ => cut_date(alloc, simple, kept),
+    }
+}
+
+/// Of contents that are short, or are none, the first octets tell which.
+fn cut_short(simple: &Simple, kept: &mut Vec<u8>) -> Result<(), AllocError>
+    requires kind { IsShortForm simple.now.kind }
+    requires sorted { HasSortedCodes simple.now }
+    ensures { OnOk result (IsKeptUnder simple.now kept.new.items kept.old.items) }
+{
+    let _ = simple;
+    kept.truncate(64);
+    Ok(())
+}
+
+/// Of the number of a code the first octets tell whether it is too great.
+fn cut_code(simple: &Simple, kept: &mut Vec<u8>) -> Result<(), AllocError>
+    requires kind { simple.now.kind ≡ kind.Text }
+    requires codes { (codes : List (List ℕ)) × (simple.now.codes ≡ Some codes) }
+    requires limits { IsWithinLimits simple.now }
+    requires sorted { HasSortedCodes simple.now }
+    ensures { OnOk result (IsKeptUnder simple.now kept.new.items kept.old.items) }
+{
+    let _ = simple;
+    kept.truncate(64);
+    Ok(())
+}
+
+/// Of a binary value only its length counts.
+fn cut_octets(simple: &Simple, kept: &mut Vec<u8>) -> Result<(), AllocError>
+    requires kind { simple.now.kind ≡ kind.Binary }
+    requires sorted { HasSortedCodes simple.now }
+    ensures { OnOk result (IsKeptUnder simple.now kept.new.items kept.old.items) }
+{
+    are_octets(kept.as_slice());
+    let Some(most) = simple.max else {
+        return Ok(());
+    };
+    if kept.len() as u64 > most {
+        kept.truncate(most as usize + 1);
+    }
+    Ok(())
+}
+
+/// They are octets.
+fn are_octets(octets: &[u8])
+    ensures { IsBytes octets.now }
+{
+    let _ = octets;
+}
+
+/// Of a text that is too long only that it is one counts.
+fn cut_text(alloc: Global, simple: &Simple, kept: &mut Vec<u8>) -> Result<(), AllocError>
+    requires kind { simple.now.kind ≡ kind.Text }
+    requires codes { simple.now.codes ≡ None }
+    requires sorted { HasSortedCodes simple.now }
+    ensures { OnOk result (IsKeptUnder simple.now kept.new.items kept.old.items) }
+{
+    let Some(most) = simple.max else {
+        return Ok(());
+    };
+    shorten_text(alloc, most, kept)
+}
+
+/// The same of a text that is too long for a date or a time.
+fn cut_date(alloc: Global, simple: &Simple, kept: &mut Vec<u8>) -> Result<(), AllocError>
+    requires kind { IsDateKind simple.now.kind }
+    requires sorted { HasSortedCodes simple.now }
+    ensures { OnOk result (IsKeptUnder simple.now kept.new.items kept.old.items) }
+{
+    let _ = simple;
+    shorten_text(alloc, 64, kept)
+}
+
+/// Where a text has more characters than so many, these are cut down to one more.
+fn shorten_text(alloc: Global, most: u64, kept: &mut Vec<u8>) -> Result<(), AllocError>
+    ensures { OnOk result (IsTextKept most kept.new.items kept.old.items) }
+{
+    if is_held(kept.len(), most) {
+        return Ok(());
+    }
+    let run = xml_run(kept.as_slice());
+    if kept.len() - run.bytes > 3 {
+        return no_text(kept);
+    }
+    let short = spaces(alloc, most, kept.as_slice().split_at(run.bytes).1)?;
+    *kept = short;
+    Ok(())
+}
+
+/// Whether so many octets are few enough to be held of a text of so many characters.
+fn is_held(count: usize, most: u64) -> bool
+    ensures yes { IsTrue result → count ≤ 4 * most + 64 }
+    ensures no { IsFalse result → 4 * most + 64 < count }
+{
+    count.saturating_sub(61) as u64 / 4 <= most
+}
+
+/// An octet that begins no text, in the place of octets of which no text comes.
+fn no_text(kept: &mut Vec<u8>) -> Result<(), AllocError>
+    ensures { OnOk result (kept.new.items ≡ 0 ∷ []) }
+{
+    kept.clear();
+    kept.push(0)?;
+    Ok(())
+}
+
+/// One space more than so many, and octets behind them.
+fn spaces(alloc: Global, most: u64, behind: &[u8]) -> Result<Vec<u8>, AllocError>
+    requires { most + 1 < 2 ^ 63 }
+    ensures { IfOk result (λ v. v.items ≡ replicate (most + 1) 32 ++ behind.now) }
+{
+    let mut short = vec![in alloc; b' '; most as usize + 1]?;
+    short.extend_from_slice(behind)?;
+    Ok(short)
+}
