@@ -4,13 +4,13 @@ use Rattle.std.proofs.lemmas.Option.{slice_get_read}
 use Rattle.std.specs.Global.{Box}
 use Rattle.std.specs.Prelude.{slice_get, slice_set}
 use Rattle.facets.specs.declared.simple.Simple.{Simple}
-use Rattle.facets.specs.declared.leaf_check.LeafCheck.{LeafCheck}
+use Rattle.xml_instances.specs.declared.judge.Judge.{Judge}
 use Rattle.reference_check.specs.Forms.{Graph}
 use Rattle.xml_instances.specs.Open.{IsMade, IsMadeAt}
 
 -- a check, as it is kept
 abbrev pub Held : Type 0
-Held = Box LeafCheck
+Held = Box Judge
 
 abbrev pub KeptIn : Graph ℕ Simple → List (Option Held) → Type 0
 KeptIn types xs = (n : ℕ) (check : Held) → slice_get xs n ≡ Some (Some check) → IsMadeAt types n check.value

@@ -10,6 +10,7 @@ ghost use Rattle.xml_instances.specs.Open.{IsOpen, AreMade};
 ghost use Rattle.xml_instances.specs.Built.{EventsShow};
 ghost use Rattle.xml_instances.specs.Keeping.{GoOn};
 ghost use Rattle.xml_instances.specs.Checking.{items_of, HasFed, AreTaken, IsTold, IsMarkTold, Stops, IsSpelled, IsSpelledBy, EndsAs, IsSpelledAs, IsMadeFor, IsSameOrMemory, IsAgain, TakesFront, fed, failed};
+ghost use Rattle.xml_instances.specs.Scratch.{scratch, IsScratchWithin};
 
 use crate::content::Content;
 use crate::opened::Refusal;
@@ -114,6 +115,15 @@ impl XmlChecker {
         ensures { (T : Tables) (bytes : List ℕ) (h : HasFed self.now T bytes) → result ≡ length (levels_over (message_of T) [] (items_told h.told)) }
     {
         self.content.depth()
+    }
+
+    /// How many bytes are held for the text of the open leaf: at most four to each of its characters so
+    /// far, of which no more count than the limit of its type, and 64. It takes no memory.
+    pub fn scratch(&self) -> u64
+        ensures count { result ≡ scratch self.now }
+        ensures bound { (T : Tables) (bytes : List ℕ) (h : HasFed self.now T bytes) → IsScratchWithin (levels_over (message_of T) [] (items_told h.told)) result }
+    {
+        self.content.scratch()
     }
 
     /// A fault of markup, with the path of the open elements.

@@ -20,11 +20,11 @@ mod leaves;
 mod quick;
 mod showing;
 
+use crate::judge::Judge;
 use crate::opened::{Opened, Refusal, breaks, missing, names};
 use crate::pieces::{Pieces, begin};
 use crate::spare::Checks;
 use crate::texts::is_space;
-use facets::LeafCheck;
 use lexical_core::{Rule, Text};
 use markup::{Attr, Event, What};
 use message_model::{Form, Model, Next};
@@ -33,11 +33,11 @@ use std::alloc::{AllocError, Global};
 /// The tag of the root.
 const DOCUMENT: &[u8] = b"Document";
 
-/// A text that is open: the type of its element, and its check.
+/// A text that is open: the type of its element, and what judges it.
 #[derive(Drop)]
 pub(crate) struct OpenText {
     number: u32,
-    check: Box<LeafCheck>,
+    judge: Box<Judge>,
 }
 
 /// The open elements.

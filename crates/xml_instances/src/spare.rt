@@ -4,13 +4,13 @@ ghost use Rattle.facets.specs.declared.simple.Simple.{Simple as SimpleType};
 ghost use Rattle.reference_check.specs.Forms.{Graph};
 ghost use Rattle.xml_instances.specs.Open.{AreKept, IsMade, IsMadeAt};
 
-use facets::LeafCheck;
+use crate::judge::Judge;
 use std::alloc::Global;
 
 /// Checks by the number of their type.
 #[derive(Drop)]
 pub(crate) struct Checks {
-    entries: Vec<Option<Box<LeafCheck>>>,
+    entries: Vec<Option<Box<Judge>>>,
 }
 
 impl Checks {
@@ -24,7 +24,7 @@ impl Checks {
     }
 
     /// Takes the check of the type away; `None` where there is none.
-    pub(crate) fn take(&mut self, number: u32) -> Option<Box<LeafCheck>>
+    pub(crate) fn take(&mut self, number: u32) -> Option<Box<Judge>>
         ensures kept { (types : Graph ℕ SimpleType) → AreKept types self.old → AreKept types self.new }
         ensures made { (types : Graph ℕ SimpleType) → AreKept types self.old → IsMade types number result }
     {
@@ -37,7 +37,7 @@ impl Checks {
     }
 
     /// Keeps a check of the type, unless there is no memory for it.
-    pub(crate) fn keep(&mut self, number: u32, check: Box<LeafCheck>)
+    pub(crate) fn keep(&mut self, number: u32, check: Box<Judge>)
         ensures { (types : Graph ℕ SimpleType) → AreKept types self.old → IsMadeAt types number check.value → AreKept types self.new }
     {
         let at = number as usize;

@@ -86,7 +86,7 @@ impl Content {
         let Some(simple) = model.text_type(open.number) else {
             return Err(AllocError);
         };
-        let taken = take_run(&mut open.check, simple, run, count);
+        let taken = take_run(&mut open.judge, simple, run, count);
         self.text = Some(open);
         taken
     }
