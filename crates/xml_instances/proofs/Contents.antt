@@ -26,6 +26,7 @@ use Rattle.xml_instances.specs.Levels.{Level, Parent, Leaf, Envelope, Foreign, l
 use Rattle.xml_instances.specs.EventFaults.{Broken, broken, EventFault, AttributeFault, EndFault, LeafFault, place_fault, next_fault, Unless, space_fault, is_bare, char_fault, has_currency, CurrencyFault}
 use Rattle.xml_instances.specs.Known.{has_unknown}
 use Rattle.xml_instances.specs.Open.{IsOpen, IsCode, HoldsText, StandsFor, StandFor, Stands, IsRound, IsMadeAt, IsTextMade, names_of, Refuses, Says, IsItemTaken, form_at, IsPlaced, IsEntered, IsFilled, IsChild, IsStepped, IsBegun}
+use Rattle.xml_instances.specs.Verdicts.{IsVerdict, IsTextVerdict}
 use Rattle.xml_instances.specs.declared.content.Content.{Content}
 use Rattle.xml_instances.specs.declared.content.OpenText.{OpenText}
 use Rattle.xml_instances.specs.declared.opened.Opened.{Opened}
@@ -47,6 +48,9 @@ held m text t simple taken e h = subst (λ (x : Option OpenText). HoldsText m x 
 
 pub made_text : (types : Graph ℕ Simple) (text : Option OpenText) (t : OpenText) → text ≡ Some t → IsTextMade types text → IsMadeAt types t.number t.judge.value
 made_text types text t e h = subst (IsTextMade types) e h
+
+pub verdict_text : (text : Option OpenText) (t : OpenText) → text ≡ Some t → IsTextVerdict text → IsVerdict t.judge.value
+verdict_text text t e h = subst IsTextVerdict e h
 
 pub says_at : {T : Type 0} (simple s : Simple) (text path : List ℕ) (r : Result T Refusal) → s ≡ simple → Says (LeafFault s text (path ++ [])) r → Says (LeafFault simple text path) r
 says_at simple s text path r e h = subst (λ (x : Simple). Says (LeafFault x text path) r) e (subst (λ (p : List ℕ). Says (LeafFault s text p) r) (append-nil path) h)

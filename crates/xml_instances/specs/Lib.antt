@@ -4,6 +4,7 @@ pub mod XmlFaults
 pub mod SpellsXml
 pub mod Judges
 pub mod Open
+pub mod Verdicts
 pub mod Quick
 pub mod Known
 pub mod Checking

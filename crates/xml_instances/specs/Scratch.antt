@@ -3,6 +3,7 @@ use Rattle.std.specs.Prelude.{◌≡◌, ℕ, List, ◌∷◌, Option, Some, len
 use Rattle.facets.specs.LeafChecks.{IsHeldWithin, leaf_limit}
 use Rattle.xml_instances.specs.Levels.{Level, Leaf}
 use Rattle.xml_instances.specs.Judges.{held}
+use Rattle.xml_instances.specs.Verdicts.{IsLean}
 use Rattle.xml_instances.specs.declared.checker.XmlChecker.{XmlChecker}
 use Rattle.xml_instances.specs.declared.content.Content.{Content}
 use Rattle.xml_instances.specs.declared.content.OpenText.{OpenText}
@@ -16,6 +17,10 @@ held_by innermost text = 0
 
 abbrev pub held_in : Content → ℕ
 held_in content = held_by content.innermost content.text
+
+-- the checker keeps no pieces, and no more of a text than is needed to tell whether it is a leaf
+abbrev pub KeepsNoLeaf : XmlChecker → Type 0
+KeepsNoLeaf checker = IsLean checker.content
 
 abbrev pub scratch : XmlChecker → ℕ
 scratch checker = held_in checker.content

@@ -12,8 +12,8 @@ use inst_pool::Instance;
 use message_model::{InstanceError, Model};
 use std::alloc::{AllocError, Global};
 
-/// A reader of an instance. Beside what `XmlChecker` keeps it has the pieces of the elements so far, and the canonical
-/// fragment so far of the element of an envelope.
+/// A reader of an instance. Beside what `XmlChecker` keeps it has the bytes of the open leaf, the pieces of the elements
+/// so far, and the canonical fragment so far of the element of an envelope.
 #[derive(Drop)]
 pub struct XmlReader {
     checker: XmlChecker,

@@ -10,6 +10,7 @@ ghost use Rattle.xml_instances.specs.Built.{TextShown};
 ghost use Rattle.xml_instances.specs.Judges.{HasTaken, IsMadeFor};
 ghost use Rattle.xml_instances.specs.Keeping.{GoOn};
 ghost use Rattle.xml_instances.specs.Open.{IsRuleOf};
+ghost use Rattle.xml_instances.specs.Verdicts.{IsVerdict};
 
 use crate::judge::Judge;
 use crate::pieces::{Pieces, leaf};
@@ -29,6 +30,7 @@ pub(crate) fn is_space(c: char) -> bool
 pub(crate) fn take_character(check: &mut Judge, simple: &Simple, c: char) -> Result<(), AllocError>
     requires { IsMadeFor check.old simple.now }
     ensures made { IsMadeFor check.new simple.now }
+    ensures verdict { IsVerdict check.old → IsVerdict check.new }
     ensures taken { OnOk result ((text : List ℕ) → HasTaken check.old simple.now text → HasTaken check.new simple.now (text ++ c ∷ [])) }
 {
     if !is_xml_char(c) {
@@ -45,6 +47,7 @@ pub(crate) fn take_characters(
 ) -> Result<(), AllocError>
     requires { IsMadeFor check.old simple.now }
     ensures made { IsMadeFor check.new simple.now }
+    ensures verdict { IsVerdict check.old → IsVerdict check.new }
     ensures taken { HasTaken check.old simple.now [] → OnOk result (HasTaken check.new simple.now (chars text.now)) }
 {
     for c in text.chars() {
@@ -63,6 +66,7 @@ pub(crate) fn take_run(
     requires run { IsRun run.now count }
     requires made { IsMadeFor check.old simple.now }
     ensures made { IsMadeFor check.new simple.now }
+    ensures verdict { IsVerdict check.old → IsVerdict check.new }
     ensures taken { OnOk result ((r : IsRun run.now count) (text : List ℕ) → HasTaken check.old simple.now text → HasTaken check.new simple.now (text ++ r.characters)) }
 {
     check.take_run(simple, run, count)
@@ -96,6 +100,7 @@ pub(crate) fn ending_of(
     pieces: &mut Option<Pieces>,
 ) -> Result<Option<Rule>, AllocError>
     requires { IsMadeFor judge.now simple.now }
+    ensures bare { pieces.old ≡ None → pieces.new ≡ None }
     ensures taken { (text : List ℕ) → HasTaken judge.now simple.now text → IfOk result (λ rule. IsRuleOf simple.now text rule) }
     ensures shown { (text : List ℕ) → HasTaken judge.now simple.now text → IfOk result (λ rule. rule ≡ None → GoOn pieces.old pieces.new (TextShown simple.now text)) }
 {
@@ -112,6 +117,7 @@ fn show_leaf(
     pieces: &mut Option<Pieces>,
 ) -> Result<Option<Rule>, AllocError>
     requires { checks.IsMadeFor check.now simple.now }
+    ensures bare { pieces.old ≡ None → pieces.new ≡ None }
     ensures taken { (text : List ℕ) → checks.HasTaken check.now simple.now text → IfOk result (λ rule. IsRuleOf simple.now text rule) }
     ensures shown { (text : List ℕ) → checks.HasTaken check.now simple.now text → IfOk result (λ rule. rule ≡ None → GoOn pieces.old pieces.new (TextShown simple.now text)) }
 {

@@ -1,5 +1,5 @@
 // The text of an element: its characters, and its end.
-ghost use Rattle.std.specs.Prelude.{◌≡◌, ℕ, List, [], ◌∷◌, ◌++◌, Some, IfOk, OnOk, length};
+ghost use Rattle.std.specs.Prelude.{◌≡◌, ℕ, List, [], ◌∷◌, ◌++◌, Some, None, IfOk, OnOk, length};
 ghost use Rattle.facets.specs.declared.simple.Simple.{Simple as SimpleType};
 ghost use Rattle.facets.specs.LeafChecks.{IsWithinLimits, IsHeldWithin, leaf_limit};
 ghost use Rattle.reference_check.specs.Forms.{text_type};
@@ -13,6 +13,8 @@ ghost use Rattle.message_model.specs.Message.{Message};
 ghost use Rattle.xml_instances.specs.Keeping.{GoOn};
 ghost use Rattle.xml_instances.specs.Open.{IsOpen, AreMade, names_of, Says, HoldsText};
 ghost use Rattle.xml_instances.specs.declared.opened.Opened.TheVariants.{Text as OpenedText};
+ghost use Rattle.xml_instances.specs.Verdicts.{IsVerdict, IsTextVerdict, IsLean, HasFreeText};
+ghost use Rattle.facets.specs.LeafVerdicts.{IsFreeText};
 
 use super::{Content, OpenText};
 use crate::judge::Judge;
@@ -28,6 +30,7 @@ impl Content {
     pub(crate) fn text_character(&mut self, model: &Model, c: char) -> Result<(), AllocError>
         requires { AreMade (types_of model.now) self.old }
         ensures made { AreMade (types_of model.now) self.new }
+        ensures lean { IsLean self.old → IsLean self.new }
         ensures kept { self.new.innermost ≡ self.old.innermost }
         ensures round { self.new.round ≡ self.old.round }
         ensures taken { (simple : SimpleType) (text : List ℕ) → HoldsText (message_of model.now) self.old.text simple text
@@ -49,6 +52,7 @@ impl Content {
     pub(crate) fn text_ending(&mut self, model: &Model) -> Result<(), Refusal>
         requires { AreMade (types_of model.now) self.old }
         ensures made { AreMade (types_of model.now) self.new }
+        ensures lean { IsLean self.old → IsLean self.new }
         ensures kept { self.new.innermost ≡ self.old.innermost }
         ensures round { self.new.round ≡ self.old.round }
         ensures taken { (simple : SimpleType) (text : List ℕ) → HoldsText (message_of model.now) self.old.text simple text
@@ -80,9 +84,11 @@ impl Content {
         requires made { AreMade (types_of model.now) self.old }
         requires simple { text_type (types_of model.now number) ≡ Some simple.now }
         ensures made { AreMade (types_of model.now) self.new }
+        ensures lean { IsLean self.old → IsLean self.new }
         ensures kept { self.new.innermost ≡ self.old.innermost }
         ensures round { self.new.round ≡ self.old.round }
         ensures taken { IfOk result (λ judge. HasTaken judge.value simple.now []) }
+        ensures verdict { IsLean self.old → IfOk result (λ judge. IsVerdict judge.value) }
         ensures pieces { self.new.pieces ≡ self.old.pieces }
     {
         let _ = model.type_count();
@@ -99,6 +105,7 @@ impl Content {
     pub(crate) fn scratch(&self) -> u64
         ensures count { result ≡ held_in self.now }
         ensures bound { (m : Message ℕ) (ls : List (Level ℕ)) → IsOpen self.now m ls → IsScratchWithin ls result }
+        ensures free { (m : Message ℕ) (ls : List (Level ℕ)) → IsOpen self.now m ls → IsLean self.now → HasFreeText ls → result ≡ 0 }
     {
         match self.innermost {
             Some(Opened::Text) => text_scratch(&self.text),
@@ -119,6 +126,7 @@ impl Content {
         requires made { AreMade (types_of model.now) self.old }
         requires simple { text_type (types_of model.now number) ≡ Some simple.now }
         ensures made { AreMade (types_of model.now) self.new }
+        ensures lean { IsLean self.old → IsLean self.new }
         ensures round { self.new.round ≡ self.old.round }
         ensures pieces { self.new.pieces ≡ self.old.pieces }
         ensures taken { OnOk result ((self.new.innermost ≡ Some OpenedText) × HoldsText (message_of model.now) self.new.text simple.now []) }
@@ -138,6 +146,7 @@ impl Content {
 fn text_scratch(text: &Option<OpenText>) -> u64
     ensures count { result ≡ held_by (Some OpenedText) text.now }
     ensures bound { (m : Message ℕ) (simple : SimpleType) (taken : List ℕ) → HoldsText m text.now simple taken → IsHeldWithin (leaf_limit simple) (length taken) result }
+    ensures free { (m : Message ℕ) (simple : SimpleType) (taken : List ℕ) → HoldsText m text.now simple taken → IsTextVerdict text.now → IsFreeText simple → result ≡ 0 }
 {
     match text {
         Some(open) => open.judge.scratch(),
@@ -148,7 +157,8 @@ fn text_scratch(text: &Option<OpenText>) -> u64
 /// What judges a text of the type, and was never used. It gives the leaf where pieces are kept.
 fn fresh(alloc: Global, simple: &Simple, pieces: &Option<Pieces>) -> Result<Box<Judge>, AllocError>
     requires { IsWithinLimits simple.now }
-    ensures { IfOk result (λ judge. HasTaken judge.value simple.now []) }
+    ensures taken { IfOk result (λ judge. HasTaken judge.value simple.now []) }
+    ensures verdict { pieces.now ≡ None → IfOk result (λ judge. IsVerdict judge.value) }
 {
     if pieces.is_none() {
         return Ok(Box::new(alloc, Judge::verdict(alloc, simple)?)?);
