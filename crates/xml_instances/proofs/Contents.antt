@@ -7,8 +7,8 @@ use Rattle.lexical_core.specs.declared.rule.Rule.{Rule}
 use Rattle.lexical_core.specs.declared.rule.Rule.TheVariants as rule
 use Rattle.lexical_core.specs.Tree.{Expanded, Entry, Starts, Char, Ends}
 use Rattle.facets.specs.declared.simple.Simple.{Simple}
-use Rattle.facets.specs.declared.leaf_check.LeafCheck.{LeafCheck}
-use Rattle.facets.specs.LeafChecks.{HasTaken, IsMadeFor}
+use Rattle.xml_instances.specs.declared.judge.Judge.{Judge}
+use Rattle.xml_instances.specs.Judges.{HasTaken, IsMadeFor}
 use Rattle.reference_check.specs.Forms.{Graph, Form, Slot, form_slots, text_type}
 use Rattle.reference_check.specs.Forms as form
 use Rattle.message_model.specs.Message.{Message}
@@ -26,6 +26,7 @@ use Rattle.xml_instances.specs.Levels.{Level, Parent, Leaf, Envelope, Foreign, l
 use Rattle.xml_instances.specs.EventFaults.{Broken, broken, EventFault, AttributeFault, EndFault, LeafFault, place_fault, next_fault, Unless, space_fault, is_bare, char_fault, has_currency, CurrencyFault}
 use Rattle.xml_instances.specs.Known.{has_unknown}
 use Rattle.xml_instances.specs.Open.{IsOpen, IsCode, HoldsText, StandsFor, StandFor, Stands, IsRound, IsMadeAt, IsTextMade, names_of, Refuses, Says, IsItemTaken, form_at, IsPlaced, IsEntered, IsFilled, IsChild, IsStepped, IsBegun}
+use Rattle.xml_instances.specs.Verdicts.{IsVerdict, IsTextVerdict}
 use Rattle.xml_instances.specs.declared.content.Content.{Content}
 use Rattle.xml_instances.specs.declared.content.OpenText.{OpenText}
 use Rattle.xml_instances.specs.declared.opened.Opened.{Opened}
@@ -35,18 +36,21 @@ use Rattle.xml_instances.specs.declared.opened.Refusal.TheVariants.{Breaks, Memo
 use Rattle.xml_instances.proofs.Paths.{names_are}
 
 -- a check that was made for one simple type of a number was made for each that the number has
-pub made_at : (types : Graph ℕ Simple) (n : ℕ) (check : LeafCheck) (simple : Simple) → text_type (types n) ≡ Some simple → IsMadeFor check simple → IsMadeAt types n check
+pub made_at : (types : Graph ℕ Simple) (n : ℕ) (check : Judge) (simple : Simple) → text_type (types n) ≡ Some simple → IsMadeFor check simple → IsMadeAt types n check
 made_at types n check simple e made other q = (let same : simple ≡ other = (let h : Some simple ≡ Some other = sym e ∙ q in cc) in subst (IsMadeFor check) same made)
 
 -- what the open text has is what its check has
-pub text_simple : (m : Message ℕ) (t : OpenText) (s simple : Simple) (text : List ℕ) → text_type (m.forms t.number) ≡ Some s → HoldsText m (Some t) simple text → (s ≡ simple) × HasTaken t.check.value s text
-text_simple m t s simple text e h = (let same : s ≡ simple = (let q : Some s ≡ Some simple = sym e ∙ h.0 in cc) in (same, subst (λ (x : Simple). HasTaken t.check.value x text) (sym same) h.1))
+pub text_simple : (m : Message ℕ) (t : OpenText) (s simple : Simple) (text : List ℕ) → text_type (m.forms t.number) ≡ Some s → HoldsText m (Some t) simple text → (s ≡ simple) × HasTaken t.judge.value s text
+text_simple m t s simple text e h = (let same : s ≡ simple = (let q : Some s ≡ Some simple = sym e ∙ h.0 in cc) in (same, subst (λ (x : Simple). HasTaken t.judge.value x text) (sym same) h.1))
 
 pub held : (m : Message ℕ) (text : Option OpenText) (t : OpenText) (simple : Simple) (taken : List ℕ) → text ≡ Some t → HoldsText m text simple taken → HoldsText m (Some t) simple taken
 held m text t simple taken e h = subst (λ (x : Option OpenText). HoldsText m x simple taken) e h
 
-pub made_text : (types : Graph ℕ Simple) (text : Option OpenText) (t : OpenText) → text ≡ Some t → IsTextMade types text → IsMadeAt types t.number t.check.value
+pub made_text : (types : Graph ℕ Simple) (text : Option OpenText) (t : OpenText) → text ≡ Some t → IsTextMade types text → IsMadeAt types t.number t.judge.value
 made_text types text t e h = subst (IsTextMade types) e h
+
+pub verdict_text : (text : Option OpenText) (t : OpenText) → text ≡ Some t → IsTextVerdict text → IsVerdict t.judge.value
+verdict_text text t e h = subst IsTextVerdict e h
 
 pub says_at : {T : Type 0} (simple s : Simple) (text path : List ℕ) (r : Result T Refusal) → s ≡ simple → Says (LeafFault s text (path ++ [])) r → Says (LeafFault simple text path) r
 says_at simple s text path r e h = subst (λ (x : Simple). Says (LeafFault x text path) r) e (subst (λ (p : List ℕ). Says (LeafFault s text p) r) (append-nil path) h)

@@ -15,6 +15,7 @@ pub mod Paths
 pub mod Spares
 pub mod Contents
 pub mod QuickRuns
+pub mod OpenScratch
 pub mod QuickTags
 pub mod OurNames
 pub mod QuickFed

@@ -9,8 +9,8 @@ use Rattle.markup.specs.Literals.{IsRun}
 use Rattle.reference_check.specs.Forms.{Form}
 use Rattle.message_model.specs.Message.{Message}
 use Rattle.facets.specs.declared.simple.Simple.{Simple}
-use Rattle.facets.specs.declared.leaf_check.LeafCheck.{LeafCheck}
-use Rattle.facets.specs.LeafChecks.{HasTaken, IsMadeFor}
+use Rattle.xml_instances.specs.declared.judge.Judge.{Judge}
+use Rattle.xml_instances.specs.Judges.{HasTaken, IsMadeFor}
 use Rattle.xml_instances.specs.Levels.{Level, Parent, Leaf, Envelope, Foreign, levels_after, levels_over, with_char, path_in}
 use Rattle.xml_instances.specs.EventFaults.{AreFine, char_fault, is_bare}
 use Rattle.xml_instances.specs.Open.{IsOpen, HoldsText, StandsFor, StandFor, Stands, IsItemTaken}
@@ -144,15 +144,15 @@ run_text_all m bytes count (Err x) content old o round is kept same taken = tt
 
 -- ---- the check of a text
 
-pub run_taken : {T E : Type 0} (res : Result T E) (bytes : List ℕ) (count : ℕ) (old new : LeafCheck) (simple : Simple) → OnOk res ((r : IsXmlRun bytes count) (text : List ℕ) → HasTaken old simple text → HasTaken new simple (text ++ r.chars))
+pub run_taken : {T E : Type 0} (res : Result T E) (bytes : List ℕ) (count : ℕ) (old new : Judge) (simple : Simple) → OnOk res ((r : IsXmlRun bytes count) (text : List ℕ) → HasTaken old simple text → HasTaken new simple (text ++ r.chars))
     → OnOk res ((r : IsRun bytes count) (text : List ℕ) → HasTaken old simple text → HasTaken new simple (text ++ r.characters))
 run_taken (Ok x) bytes count old new simple h = λ r text t. h (xml_run bytes count r) text t
 run_taken (Err x) bytes count old new simple h = tt
 
-pub run_made : {T E : Type 0} (res : Result T E) (bytes : List ℕ) (count : ℕ) (old new : LeafCheck) (simple : Simple) → IsXmlRun bytes count → OnOk res ((r : IsXmlRun bytes count) (text : List ℕ) → HasTaken old simple text → HasTaken new simple (text ++ r.chars))
+pub run_made : {T E : Type 0} (res : Result T E) (bytes : List ℕ) (count : ℕ) (old new : Judge) (simple : Simple) → IsXmlRun bytes count → OnOk res ((r : IsXmlRun bytes count) (text : List ℕ) → HasTaken old simple text → HasTaken new simple (text ++ r.chars))
     → OnErr res (new ≡ old) → IsMadeFor old simple → IsMadeFor new simple
 run_made (Ok x) bytes count old new simple r h e (text, t) = (text ++ r.chars, h r text t)
-run_made (Err x) bytes count old new simple r h e made = subst (λ (v : LeafCheck). IsMadeFor v simple) (sym e) made
+run_made (Err x) bytes count old new simple r h e made = subst (λ (v : Judge). IsMadeFor v simple) (sym e) made
 
 -- ---- the events of a tag
 

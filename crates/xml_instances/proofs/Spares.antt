@@ -4,16 +4,22 @@ use Rattle.std.proofs.lemmas.Option.{slice_get_read}
 use Rattle.std.specs.Global.{Box}
 use Rattle.std.specs.Prelude.{slice_get, slice_set}
 use Rattle.facets.specs.declared.simple.Simple.{Simple}
-use Rattle.facets.specs.declared.leaf_check.LeafCheck.{LeafCheck}
+use Rattle.xml_instances.specs.declared.judge.Judge.{Judge}
 use Rattle.reference_check.specs.Forms.{Graph}
 use Rattle.xml_instances.specs.Open.{IsMade, IsMadeAt}
+use Rattle.xml_instances.specs.Verdicts.{IsVerdict, IsGivenVerdict}
 
 -- a check, as it is kept
 abbrev pub Held : Type 0
-Held = Box LeafCheck
+Held = Box Judge
 
-abbrev pub KeptIn : Graph ℕ Simple → List (Option Held) → Type 0
-KeptIn types xs = (n : ℕ) (check : Held) → slice_get xs n ≡ Some (Some check) → IsMadeAt types n check.value
+-- what each of them is
+abbrev pub KeptIn : (ℕ → Judge → Type 0) → List (Option Held) → Type 0
+KeptIn P xs = (n : ℕ) (check : Held) → slice_get xs n ≡ Some (Some check) → P n check.value
+
+abbrev pub IsAt : (ℕ → Judge → Type 0) → ℕ → Option Held → Type 0
+IsAt P n None = Unit {0}
+IsAt P n (Some check) = P n check.value
 
 get_before : (xs : List (Option Held)) (n : ℕ) (check : Held) → slice_get (xs ++ None ∷ []) n ≡ Some (Some check) → slice_get xs n ≡ Some (Some check)
 get_before [] zero check e = cc
@@ -21,9 +27,9 @@ get_before [] (suc n) check e = cc
 get_before (x ∷ xs) zero check e = e
 get_before (x ∷ xs) (suc n) check e = get_before xs n check e
 
-pub pushed : (types : Graph ℕ Simple) (xs ys : List (Option Held)) (b : Bool) → ys ≡ cond b (xs ++ None ∷ []) xs → KeptIn types xs → KeptIn types ys
-pushed types xs ys true e h n check found = h n check (get_before xs n check (ap (λ v. slice_get v n) (sym e) ∙ found))
-pushed types xs ys false e h n check found = h n check (ap (λ v. slice_get v n) (sym e) ∙ found)
+pub pushed : (P : ℕ → Judge → Type 0) (xs ys : List (Option Held)) (b : Bool) → ys ≡ cond b (xs ++ None ∷ []) xs → KeptIn P xs → KeptIn P ys
+pushed P xs ys true e h n check found = h n check (get_before xs n check (ap (λ v. slice_get v n) (sym e) ∙ found))
+pushed P xs ys false e h n check found = h n check (ap (λ v. slice_get v n) (sym e) ∙ found)
 
 get_set : (xs : List (Option Held)) (k n : ℕ) (o : Option Held) (check : Held) → slice_get (slice_set xs k o) n ≡ Some (Some check) → ((n ≡ k) × (o ≡ Some check)) ⊎ (slice_get xs n ≡ Some (Some check))
 get_set [] k n o check e = inr e
@@ -32,13 +38,21 @@ get_set (x ∷ xs) zero (suc n) o check e = inr e
 get_set (x ∷ xs) (suc k) zero o check e = inr e
 get_set (x ∷ xs) (suc k) (suc n) o check e = elim (get_set xs k n o check e) [ inl h ↦ inl (ap suc h.0, h.1) | inr h ↦ inr h ]
 
-pub set_one : (types : Graph ℕ Simple) (xs : List (Option Held)) (k : ℕ) (o : Option Held) → IsMade types k o → KeptIn types xs → KeptIn types (slice_set xs k o)
-set_one types xs k o made h n check found = go (get_set xs k n o check found)
+pub set_one : (P : ℕ → Judge → Type 0) (xs : List (Option Held)) (k : ℕ) (o : Option Held) → IsAt P k o → KeptIn P xs → KeptIn P (slice_set xs k o)
+set_one P xs k o made h n check found = go (get_set xs k n o check found)
   where
-    go : ((n ≡ k) × (o ≡ Some check)) ⊎ (slice_get xs n ≡ Some (Some check)) → IsMadeAt types n check.value
-    go (inl (e, q)) = subst (λ (i : ℕ). IsMadeAt types i check.value) (sym e) (subst (IsMade types k) q made)
+    go : ((n ≡ k) × (o ≡ Some check)) ⊎ (slice_get xs n ≡ Some (Some check)) → P n check.value
+    go (inl (e, q)) = subst (λ (i : ℕ). P i check.value) (sym e) (subst (IsAt P k) q made)
     go (inr q) = h n check q
 
-pub taken_at : (types : Graph ℕ Simple) (xs : List (Option Held)) (n : ℕ) (o : Option Held) → KeptIn types xs → n < length xs → o ≡ get_or xs n o → IsMade types n o
-taken_at types xs n None h l e = tt
-taken_at types xs n (Some check) h l e = h n check (slice_get_read xs (length xs) n (Some check) refl l e)
+pub taken_at : (P : ℕ → Judge → Type 0) (xs : List (Option Held)) (n : ℕ) (o : Option Held) → KeptIn P xs → n < length xs → o ≡ get_or xs n o → IsAt P n o
+taken_at P xs n None h l e = tt
+taken_at P xs n (Some check) h l e = h n check (slice_get_read xs (length xs) n (Some check) refl l e)
+
+pub made_of : (types : Graph ℕ Simple) (n : ℕ) (o : Option Held) → IsAt (IsMadeAt types) n o → IsMade types n o
+made_of types n None h = tt
+made_of types n (Some check) h = h
+
+pub verdict_of : (n : ℕ) (o : Option Held) → IsAt (λ _ j. IsVerdict j) n o → IsGivenVerdict o
+verdict_of n None h = tt
+verdict_of n (Some check) h = h

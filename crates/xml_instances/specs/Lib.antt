@@ -2,10 +2,13 @@ pub mod Levels
 pub mod EventFaults
 pub mod XmlFaults
 pub mod SpellsXml
+pub mod Judges
 pub mod Open
+pub mod Verdicts
 pub mod Quick
 pub mod Known
 pub mod Checking
+pub mod Scratch
 pub mod ReadInstances
 pub mod Built
 pub mod Keeping

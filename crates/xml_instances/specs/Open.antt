@@ -8,8 +8,6 @@ use Rattle.data_types.specs.Leaf as leaf
 use Rattle.markup.specs.EventItems.{item_of}
 use Rattle.markup.specs.declared.event.What.{What}
 use Rattle.facets.specs.declared.simple.Simple.{Simple}
-use Rattle.facets.specs.declared.leaf_check.LeafCheck.{LeafCheck}
-use Rattle.facets.specs.LeafChecks.{HasTaken, IsMadeFor}
 use Rattle.facets.specs.LeafUnder.{GivesLeaf}
 use Rattle.facets.specs.Rules.{BreaksFirst}
 use Rattle.reference_check.specs.Forms.{Graph, Form, Slot, form_slots, text_type}
@@ -19,6 +17,8 @@ use Rattle.reference_check.specs.Steps.{Slotted, next, Came, EndsWith}
 use Rattle.message_model.specs.Message.{Message}
 use Rattle.xml_instances.specs.Levels.{Level, Parent, Leaf, Envelope, Foreign, levels_after, level_of_start, begun, slot_form, form_of_start, round_start, numbered, path_in}
 use Rattle.xml_instances.specs.EventFaults.{Broken, EventFault, AttributeFault, place_fault, next_fault}
+use Rattle.xml_instances.specs.Judges.{HasTaken, IsMadeFor}
+use Rattle.xml_instances.specs.declared.judge.Judge.{Judge}
 use Rattle.xml_instances.specs.declared.spare.Checks.{Checks}
 use Rattle.xml_instances.specs.declared.opened.Opened.{Opened}
 use Rattle.xml_instances.specs.declared.opened.Opened.TheVariants as opened
@@ -32,7 +32,7 @@ use Rattle.xml_instances.specs.declared.content.Content.{Content}
 -- the check of the open text has taken its characters
 abbrev pub HoldsText : Message ℕ → Option OpenText → Simple → List ℕ → Type 0
 HoldsText m None simple text = ⊥
-HoldsText m (Some t) simple text = (text_type (m.forms t.number) ≡ Some simple) × HasTaken t.check.value simple text
+HoldsText m (Some t) simple text = (text_type (m.forms t.number) ≡ Some simple) × HasTaken t.judge.value simple text
 
 -- an element is kept as this; of one with elements its type, and the last slot with its count
 abbrev pub StandsFor : Message ℕ → Option OpenText → Opened → Level ℕ → Type 0
@@ -64,23 +64,23 @@ IsRound content m ls = StandFor m (reverse (content.round.items ++ option_to_lis
 
 -- ---- checks of leaves
 
-abbrev pub IsMadeAt : Graph ℕ Simple → ℕ → LeafCheck → Type 0
+abbrev pub IsMadeAt : Graph ℕ Simple → ℕ → Judge → Type 0
 IsMadeAt types n check = (simple : Simple) → text_type (types n) ≡ Some simple → IsMadeFor check simple
 
 -- each check that is kept was made for the type of its number
 abbrev pub AreKept : Graph ℕ Simple → Checks → Type 0
-AreKept types checks = (n : ℕ) (check : Box LeafCheck) → slice_get checks.entries.items n ≡ Some (Some check) → IsMadeAt types n check.value
+AreKept types checks = (n : ℕ) (check : Box Judge) → slice_get checks.entries.items n ≡ Some (Some check) → IsMadeAt types n check.value
 
 abbrev pub IsTextMade : Graph ℕ Simple → Option OpenText → Type 0
 IsTextMade types None = Unit {0}
-IsTextMade types (Some t) = IsMadeAt types t.number t.check.value
+IsTextMade types (Some t) = IsMadeAt types t.number t.judge.value
 
 -- the checks of the content were made for these types
 pub record AreMade (types : Graph ℕ Simple) (content : Content) : Type 0 where
   pub kept : AreKept types content.checks
   pub text : IsTextMade types content.text
 
-abbrev pub IsMade : Graph ℕ Simple → ℕ → Option (Box LeafCheck) → Type 0
+abbrev pub IsMade : Graph ℕ Simple → ℕ → Option (Box Judge) → Type 0
 IsMade types n None = Unit {0}
 IsMade types n (Some check) = IsMadeAt types n check.value
 

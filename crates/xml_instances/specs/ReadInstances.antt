@@ -3,6 +3,7 @@ use Rattle.std.specs.Prelude.{ℕ, List, Option}
 use Rattle.message_model.specs.Tables.{Tables}
 use Rattle.message_model.specs.declared.fault.InstanceError.{InstanceError}
 use Rattle.xml_instances.specs.Checking.{HasFed, IsMadeFor, fed, failed}
+use Rattle.xml_instances.specs.Scratch.{scratch}
 use Rattle.xml_instances.specs.declared.reader.XmlReader.{XmlReader}
 
 -- the reader goes on: it was given these bytes, and none of their events breaks a rule
@@ -20,3 +21,7 @@ reader_fed reader = fed reader.checker
 -- the answer that it gives for good, where there is one
 abbrev pub reader_failed : XmlReader → Option InstanceError
 reader_failed reader = failed reader.checker
+
+-- how many bytes it holds for the text of the open leaf
+abbrev pub reader_scratch : XmlReader → ℕ
+reader_scratch reader = scratch reader.checker

@@ -10,6 +10,8 @@ ghost use Rattle.xml_instances.specs.Open.{IsOpen, AreMade};
 ghost use Rattle.xml_instances.specs.Built.{EventsShow};
 ghost use Rattle.xml_instances.specs.Keeping.{GoOn};
 ghost use Rattle.xml_instances.specs.Checking.{items_of, HasFed, AreTaken, IsTold, IsMarkTold, Stops, IsSpelled, IsSpelledBy, EndsAs, IsSpelledAs, IsMadeFor, IsSameOrMemory, IsAgain, TakesFront, fed, failed};
+ghost use Rattle.xml_instances.specs.Scratch.{scratch, KeepsNoLeaf, IsScratchWithin};
+ghost use Rattle.xml_instances.specs.Verdicts.{IsLean, HasFreeText};
 
 use crate::content::Content;
 use crate::opened::Refusal;
@@ -18,7 +20,8 @@ use markup::{Event, Events, MarkError, MarkFault, Reader};
 use message_model::{Fault, InstanceError, Model};
 use std::alloc::{AllocError, Global};
 
-/// A checker of an instance. It keeps the open token, the open elements and the open leaf, and nothing of what is closed.
+/// A checker of an instance. It keeps the open token, the open elements and of the open leaf what tells whether it is
+/// one, and nothing of what is closed.
 #[derive(Drop)]
 pub struct XmlChecker {
     alloc: Global,
@@ -60,6 +63,7 @@ fn told(refusal: Refusal, place: u64) -> InstanceError
 fn take_all(content: &mut Content, model: &Model, events: &[Event]) -> Result<(), InstanceError>
     requires { AreMade (types_of model.now) content.old }
     ensures made { AreMade (types_of model.now) content.new }
+    ensures lean { IsLean content.old → IsLean content.new }
     ensures taken { (ls : List (Level ℕ)) → IsOpen content.old (message_of model.now) ls → AreTaken (message_of model.now) ls events.now content.new result }
     ensures shown { (ls : List (Level ℕ)) → IsOpen content.old (message_of model.now) ls → AllByRecursion HasSortedAttributes (items_of events.now) → OnOk result (GoOn content.old.pieces content.new.pieces (EventsShow model.now ls (items_of events.now))) }
 {
@@ -80,6 +84,7 @@ impl XmlChecker {
         ensures fed { IfOk result (λ c. HasFed c model.now []) }
         ensures made { IfOk result (λ c. IsMadeFor c model.now) }
         ensures none { IfOk result (λ c. fed c ≡ 0) }
+        ensures lean { IfOk result (λ c. KeepsNoLeaf c) }
     {
         Ok(XmlChecker {
             alloc,
@@ -116,6 +121,17 @@ impl XmlChecker {
         self.content.depth()
     }
 
+    /// How many bytes are held for the text of the open leaf: at most four to each of its characters so
+    /// far, of which no more count than the limit of its type, and 64; none of a text without codes.
+    /// It takes no memory.
+    pub fn scratch(&self) -> u64
+        ensures count { result ≡ scratch self.now }
+        ensures free { (T : Tables) (bytes : List ℕ) (h : HasFed self.now T bytes) → KeepsNoLeaf self.now → HasFreeText (levels_over (message_of T) [] (items_told h.told)) → result ≡ 0 }
+        ensures bound { (T : Tables) (bytes : List ℕ) (h : HasFed self.now T bytes) → IsScratchWithin (levels_over (message_of T) [] (items_told h.told)) result }
+    {
+        self.content.scratch()
+    }
+
     /// A fault of markup, with the path of the open elements.
     fn mark_error(&self, model: &Model, fault: MarkFault) -> InstanceError
         ensures { (ls : List (Level ℕ)) → IsOpen self.now.content (message_of model.now) ls → IsMarkTold fault ls result }
@@ -137,6 +153,7 @@ impl XmlChecker {
         requires room { failed self.old ≡ None → fed self.old + length piece.now ≤ 2 ^ 40 }
         requires made { IsMadeFor self.old model.now }
         ensures made { IsMadeFor self.new model.now }
+        ensures lean { KeepsNoLeaf self.old → KeepsNoLeaf self.new }
         ensures ok { (bytes : List ℕ) → HasFed self.old model.now bytes → IfOk result (λ _. HasFed self.new model.now (bytes ++ piece.now)) }
         ensures err { (bytes : List ℕ) → HasFed self.old model.now bytes → IfErr result (λ e. Stops model.now (bytes ++ piece.now) e) }
         ensures count { IfOk result (λ _. fed self.new ≡ fed self.old + length piece.now) }
@@ -179,6 +196,7 @@ impl XmlChecker {
         requires room { fed self.old + length piece.now ≤ 2 ^ 40 }
         requires made { IsMadeFor self.old model.now }
         ensures made { IsMadeFor self.new model.now }
+        ensures lean { KeepsNoLeaf self.old → KeepsNoLeaf self.new }
         ensures ok { (bytes : List ℕ) → HasFed self.old model.now bytes → IfOk result (λ _. HasFed self.new model.now (bytes ++ piece.now)) }
         ensures err { (bytes : List ℕ) → HasFed self.old model.now bytes → IfErr result (λ e. Stops model.now (bytes ++ piece.now) e) }
         ensures count { IfOk result (λ _. fed self.new ≡ fed self.old + length piece.now) }
@@ -203,6 +221,7 @@ impl XmlChecker {
         requires room { fed self.old + length piece.now ≤ 2 ^ 40 }
         requires made { IsMadeFor self.old model.now }
         ensures made { IsMadeFor self.new model.now }
+        ensures lean { KeepsNoLeaf self.old → KeepsNoLeaf self.new }
         ensures front { TakesFront model.now self.old self.new piece.now result }
         ensures some { IfOk result (λ n. 0 < n) }
     {
@@ -229,6 +248,7 @@ impl XmlChecker {
         requires room { fed self.old + length piece.now ≤ 2 ^ 40 }
         requires made { IsMadeFor self.old model.now }
         ensures made { IsMadeFor self.new model.now }
+        ensures lean { KeepsNoLeaf self.old → KeepsNoLeaf self.new }
         ensures front { TakesFront model.now self.old self.new piece.now result }
     {
         let room = self.content.run_room(model, piece);
@@ -253,6 +273,7 @@ impl XmlChecker {
         requires room { fed self.old + length piece.now ≤ 2 ^ 40 }
         requires made { IsMadeFor self.old model.now }
         ensures made { IsMadeFor self.new model.now }
+        ensures lean { KeepsNoLeaf self.old → KeepsNoLeaf self.new }
         ensures front { TakesFront model.now self.old self.new piece.now result }
     {
         markup::laws::events_stay();
@@ -280,6 +301,7 @@ impl XmlChecker {
         requires room { fed self.old + length piece.now ≤ 2 ^ 40 }
         requires made { IsMadeFor self.old model.now }
         ensures made { IsMadeFor self.new model.now }
+        ensures lean { KeepsNoLeaf self.old → KeepsNoLeaf self.new }
         ensures front { TakesFront model.now self.old self.new piece.now result }
         ensures some { IfOk result (λ n. 0 < n) }
     {
@@ -298,6 +320,7 @@ impl XmlChecker {
         requires room { fed self.old < 2 ^ 40 }
         requires made { IsMadeFor self.old model.now }
         ensures made { IsMadeFor self.new model.now }
+        ensures lean { KeepsNoLeaf self.old → KeepsNoLeaf self.new }
         ensures ok { (bytes : List ℕ) → HasFed self.old model.now bytes → IfOk result (λ _. HasFed self.new model.now (bytes ++ byte ∷ [])) }
         ensures err { (bytes : List ℕ) → HasFed self.old model.now bytes → IfErr result (λ e. Stops model.now (bytes ++ byte ∷ []) e) }
         ensures count { IfOk result (λ _. fed self.new ≡ fed self.old + 1) }

@@ -13,6 +13,7 @@ ghost use Rattle.message_model.specs.Writes.{named};
 ghost use Rattle.xml_instances.specs.Levels.{Level, path_of};
 ghost use Rattle.xml_instances.specs.EventFaults.{space_fault, is_bare};
 ghost use Rattle.xml_instances.specs.Open.{IsOpen, IsTaken, IsItemTaken, AreMade, names_of, Says, Refuses, IsPlaced, IsEntered, IsRound, form_at, IsFilled, IsChild, IsStepped, IsBegun, IsRoot};
+ghost use Rattle.xml_instances.specs.Verdicts.{IsLean};
 
 mod attributes;
 mod endings;
@@ -20,11 +21,11 @@ mod leaves;
 mod quick;
 mod showing;
 
+use crate::judge::Judge;
 use crate::opened::{Opened, Refusal, breaks, missing, names};
 use crate::pieces::{Pieces, begin};
 use crate::spare::Checks;
 use crate::texts::is_space;
-use facets::LeafCheck;
 use lexical_core::{Rule, Text};
 use markup::{Attr, Event, What};
 use message_model::{Form, Model, Next};
@@ -33,11 +34,11 @@ use std::alloc::{AllocError, Global};
 /// The tag of the root.
 const DOCUMENT: &[u8] = b"Document";
 
-/// A text that is open: the type of its element, and its check.
+/// A text that is open: the type of its element, and what judges it.
 #[derive(Drop)]
 pub(crate) struct OpenText {
     number: u32,
-    check: Box<LeafCheck>,
+    judge: Box<Judge>,
 }
 
 /// The open elements.
@@ -61,6 +62,7 @@ impl Content {
         ensures open { IsOpen result (message_of model.now) [] }
         ensures made { AreMade (types_of model.now) result }
         ensures bare { result.pieces ≡ None }
+        ensures lean { IsLean result }
     {
         let _ = model.type_count();
         Content {
@@ -77,6 +79,7 @@ impl Content {
     pub(crate) fn take(&mut self, model: &Model, event: &Event) -> Result<(), Refusal>
         requires { AreMade (types_of model.now) self.old }
         ensures made { AreMade (types_of model.now) self.new }
+        ensures lean { IsLean self.old → IsLean self.new }
         ensures taken { (ls : List (Level ℕ)) → IsOpen self.old (message_of model.now) ls → IsTaken (message_of model.now) ls event.now.what self.new result }
         ensures shown { (ls : List (Level ℕ)) → IsOpen self.old (message_of model.now) ls → HasSortedAttributes (item_of event.now.what)
             → OnOk result (GoOn self.old.pieces self.new.pieces (EventShows model.now ls (item_of event.now.what))) }
@@ -91,6 +94,7 @@ impl Content {
     fn take_what(&mut self, model: &Model, what: &What) -> Result<(), Refusal>
         requires { AreMade (types_of model.now) self.old }
         ensures made { AreMade (types_of model.now) self.new }
+        ensures lean { IsLean self.old → IsLean self.new }
         ensures taken { (ls : List (Level ℕ)) → IsOpen self.old (message_of model.now) ls → IsTaken (message_of model.now) ls what.now self.new result }
         ensures shown { (ls : List (Level ℕ)) → IsOpen self.old (message_of model.now) ls
             → OnOk result (GoOn self.old.pieces self.new.pieces (ShowsBeside model.now ls (item_of what.now))) }
@@ -134,6 +138,7 @@ impl Content {
     fn character(&mut self, model: &Model, c: char) -> Result<(), Refusal>
         requires { AreMade (types_of model.now) self.old }
         ensures made { AreMade (types_of model.now) self.new }
+        ensures lean { IsLean self.old → IsLean self.new }
         ensures taken { (ls : List (Level ℕ)) → IsOpen self.old (message_of model.now) ls → IsItemTaken (message_of model.now) ls (Char c) self.new result }
         ensures pieces { self.new.pieces ≡ self.old.pieces }
     {
@@ -181,6 +186,7 @@ impl Content {
     ) -> Result<(), Refusal>
         requires { AreMade (types_of model.now) self.old }
         ensures made { AreMade (types_of model.now) self.new }
+        ensures lean { IsLean self.old → IsLean self.new }
         ensures taken { (ls : List (Level ℕ)) → IsOpen self.old (message_of model.now) ls → IsItemTaken (message_of model.now) ls (Starts (named namespace.now local.now) (map entry_of attrs.now)) self.new result }
         ensures shown { (ls : List (Level ℕ)) → IsOpen self.old (message_of model.now) ls
             → OnOk result (GoOn self.old.pieces self.new.pieces (ShowsBeside model.now ls (Starts (named namespace.now local.now) (map entry_of attrs.now)))) }
@@ -200,6 +206,7 @@ impl Content {
     ) -> Result<Option<u32>, Refusal>
         requires { AreMade (types_of model.now) self.old }
         ensures made { AreMade (types_of model.now) self.new }
+        ensures lean { IsLean self.old → IsLean self.new }
         ensures taken { (ls : List (Level ℕ)) → IsOpen self.old (message_of model.now) ls → IsPlaced (message_of model.now) ls (named namespace.now local.now) self.new result }
         ensures shown { (ls : List (Level ℕ)) → IsOpen self.old (message_of model.now) ls
             → OnOk result (GoOn self.old.pieces self.new.pieces (StartShown ls local.now)) }
@@ -252,6 +259,7 @@ impl Content {
         ensures text { self.new.text ≡ self.old.text }
         ensures checks { self.new.checks ≡ self.old.checks }
         ensures round { self.new.round ≡ self.old.round }
+        ensures bare { self.old.pieces ≡ None → self.new.pieces ≡ None }
         ensures taken { (d : List ℕ) → Came (types_of model.now number) d → EndsWith d last count
             → IsChild (message_of model.now) (types_of model.now number) d (names_of (types_of model.now) self.old.round.items) local.now self.new.innermost result }
         ensures shown { (d : List ℕ) → Came (types_of model.now number) d → EndsWith d last count
@@ -281,6 +289,7 @@ impl Content {
         ensures text { self.new.text ≡ self.old.text }
         ensures checks { self.new.checks ≡ self.old.checks }
         ensures round { self.new.round ≡ self.old.round }
+        ensures bare { self.old.pieces ≡ None → self.new.pieces ≡ None }
         ensures taken { IsStepped (types_of model.now) number last count at self.new.innermost result }
         ensures shown { OnOk result (GoOn self.old.pieces self.new.pieces (ChildShown (types_of model.now number) (Slotted at))) }
     {
@@ -305,6 +314,7 @@ impl Content {
     fn enter(&mut self, model: &Model, number: Option<u32>, attrs: &[Attr]) -> Result<(), Refusal>
         requires { AreMade (types_of model.now) self.old }
         ensures made { AreMade (types_of model.now) self.new }
+        ensures lean { IsLean self.old → IsLean self.new }
         ensures taken { (ls : List (Level ℕ)) → IsRound self.old (message_of model.now) ls
             → IsEntered (message_of model.now) ls (form_at (message_of model.now) number) (map entry_of attrs.now) self.new result }
         ensures shown { OnOk result (GoOn self.old.pieces self.new.pieces (CodeShown model.now (form_at (message_of model.now) number) (map entry_of attrs.now))) }
@@ -347,6 +357,7 @@ impl Content {
     fn begin(&mut self, model: &Model, number: u32) -> Result<(), AllocError>
         requires { AreMade (types_of model.now) self.old }
         ensures made { AreMade (types_of model.now) self.new }
+        ensures lean { IsLean self.old → IsLean self.new }
         ensures round { self.new.round ≡ self.old.round }
         ensures pieces { self.new.pieces ≡ self.old.pieces }
         ensures taken { IsBegun (message_of model.now) (types_of model.now number) self.new result }

@@ -1,5 +1,5 @@
 // The pieces of an instance, kept as its events come.
-ghost use Rattle.std.specs.Prelude.{◌≡◌, ◌++◌, ◌∷◌, [], Some, OnOk, OnErr, IfSome, true, false, ◌<◌, length};
+ghost use Rattle.std.specs.Prelude.{◌≡◌, ◌++◌, ◌∷◌, [], Some, None, OnOk, OnErr, IfSome, true, false, ◌<◌, length};
 ghost use Rattle.data_types.specs.Leaf.{Bytes};
 ghost use Rattle.data_types.specs.LeafAnswers.{leaf_of};
 ghost use Rattle.data_types.specs.Value.{Holds};
@@ -172,7 +172,8 @@ fn hold_bytes(builder: &mut Builder, bytes: &[u8]) -> Result<(), AllocError>
 
 /// An element begins, where pieces are kept.
 pub(crate) fn begin(pieces: &mut Option<Pieces>, slot: u32, target: u32) -> Result<(), AllocError>
-    ensures { OnOk result (GoOn pieces.old pieces.new (λ s t. t ≡ with_begun (Some (record { slot = slot; target = target; parent = type_at s.edges })) s)) }
+    ensures bare { pieces.old ≡ None → pieces.new ≡ None }
+    ensures shown { OnOk result (GoOn pieces.old pieces.new (λ s t. t ≡ with_begun (Some (record { slot = slot; target = target; parent = type_at s.edges })) s)) }
 {
     match pieces {
         None => Ok(()),
@@ -182,7 +183,8 @@ pub(crate) fn begin(pieces: &mut Option<Pieces>, slot: u32, target: u32) -> Resu
 
 /// The leaf of the innermost element, where pieces are kept.
 pub(crate) fn leaf(pieces: &mut Option<Pieces>, leaf: &LeafRef<'_>) -> Result<(), AllocError>
-    ensures { OnOk result (GoOn pieces.old pieces.new (λ s t. t ≡ with_leaf (leaf_of leaf.now) s)) }
+    ensures bare { pieces.old ≡ None → pieces.new ≡ None }
+    ensures shown { OnOk result (GoOn pieces.old pieces.new (λ s t. t ≡ with_leaf (leaf_of leaf.now) s)) }
 {
     match pieces {
         None => Ok(()),
@@ -192,7 +194,8 @@ pub(crate) fn leaf(pieces: &mut Option<Pieces>, leaf: &LeafRef<'_>) -> Result<()
 
 /// The innermost element ends, where pieces are kept.
 pub(crate) fn close(pieces: &mut Option<Pieces>) -> Result<(), AllocError>
-    ensures { OnOk result (GoOn pieces.old pieces.new (λ s t. t ≡ closed s)) }
+    ensures bare { pieces.old ≡ None → pieces.new ≡ None }
+    ensures shown { OnOk result (GoOn pieces.old pieces.new (λ s t. t ≡ closed s)) }
 {
     match pieces {
         None => Ok(()),
@@ -202,7 +205,8 @@ pub(crate) fn close(pieces: &mut Option<Pieces>) -> Result<(), AllocError>
 
 /// An event of the element of an envelope, where pieces are kept.
 pub(crate) fn inside(pieces: &mut Option<Pieces>, event: &Event) -> Result<(), AllocError>
-    ensures { HasSortedAttributes (item_of event.now.what) → OnOk result (GoOn pieces.old pieces.new (λ s t. t ≡ with_inside (item_of event.now.what) s)) }
+    ensures bare { pieces.old ≡ None → pieces.new ≡ None }
+    ensures shown { HasSortedAttributes (item_of event.now.what) → OnOk result (GoOn pieces.old pieces.new (λ s t. t ≡ with_inside (item_of event.now.what) s)) }
 {
     match pieces {
         None => Ok(()),
@@ -212,7 +216,8 @@ pub(crate) fn inside(pieces: &mut Option<Pieces>, event: &Event) -> Result<(), A
 
 /// The element of the envelope is its leaf, where pieces are kept.
 pub(crate) fn envelope(pieces: &mut Option<Pieces>) -> Result<(), AllocError>
-    ensures { OnOk result (GoOn pieces.old pieces.new FragmentShown) }
+    ensures bare { pieces.old ≡ None → pieces.new ≡ None }
+    ensures shown { OnOk result (GoOn pieces.old pieces.new FragmentShown) }
 {
     match pieces {
         None => Ok(()),

@@ -4,15 +4,16 @@ ghost use Rattle.message_model.specs.Tables.{Tables, message_of};
 ghost use Rattle.xml_instances.specs.Levels.{levels_over};
 ghost use Rattle.xml_instances.specs.XmlFaults.{items_told};
 ghost use Rattle.xml_instances.specs.Checking.{Stops, EndsAs, IsAgain, IsSpelledAs};
-ghost use Rattle.xml_instances.specs.ReadInstances.{HasFedReader, IsReaderFor, reader_fed, reader_failed};
+ghost use Rattle.xml_instances.specs.ReadInstances.{HasFedReader, IsReaderFor, reader_fed, reader_failed, reader_scratch};
+ghost use Rattle.xml_instances.specs.Scratch.{IsScratchWithin};
 
 use crate::checker::XmlChecker;
 use inst_pool::Instance;
 use message_model::{InstanceError, Model};
 use std::alloc::{AllocError, Global};
 
-/// A reader of an instance. Beside what `XmlChecker` keeps it has the pieces of the elements so far, and the canonical
-/// fragment so far of the element of an envelope.
+/// A reader of an instance. Beside what `XmlChecker` keeps it has the bytes of the open leaf, the pieces of the elements
+/// so far, and the canonical fragment so far of the element of an envelope.
 #[derive(Drop)]
 pub struct XmlReader {
     checker: XmlChecker,
@@ -35,6 +36,14 @@ impl XmlReader {
         ensures { (T : Tables) (bytes : List ℕ) (h : HasFedReader self.now T bytes) → result ≡ length (levels_over (message_of T) [] (items_told h.told)) }
     {
         self.checker.depth()
+    }
+
+    /// How many bytes are held for the text of the open leaf, as by `XmlChecker`.
+    pub fn scratch(&self) -> u64
+        ensures count { result ≡ reader_scratch self.now }
+        ensures bound { (T : Tables) (bytes : List ℕ) (h : HasFedReader self.now T bytes) → IsScratchWithin (levels_over (message_of T) [] (items_told h.told)) result }
+    {
+        self.checker.scratch()
     }
 
     /// Takes the next bytes, of at most 2^40 in all. It answers the first fault at the byte that

@@ -1,16 +1,20 @@
 // The text of a leaf.
-ghost use Rattle.std.specs.Prelude.{◌≡◌, ◌≤◌, ℕ, List, [], ◌∷◌, ◌++◌, None, IfOk, OnOk, length};
+ghost use Rattle.std.specs.Prelude.{◌≡◌, ◌≤◌, ℕ, List, [], ◌∷◌, ◌++◌, None, IsOk, IfOk, OnOk, length};
 ghost use Rattle.std.specs.List.{prefix_len};
 ghost use Rattle.std.specs.Str.{chars};
 ghost use Rattle.markup.specs.Chars.{is_space};
 ghost use Rattle.markup.specs.Literals.{IsRun};
-ghost use Rattle.facets.specs.LeafChecks.{HasTaken, IsMadeFor};
+ghost use Rattle.facets.specs.LeafChecks as checks;
+ghost use Rattle.facets.specs.LeafVerdicts as verdicts;
 ghost use Rattle.xml_instances.specs.Built.{TextShown};
+ghost use Rattle.xml_instances.specs.Judges.{HasTaken, IsMadeFor};
 ghost use Rattle.xml_instances.specs.Keeping.{GoOn};
 ghost use Rattle.xml_instances.specs.Open.{IsRuleOf};
+ghost use Rattle.xml_instances.specs.Verdicts.{IsVerdict};
 
+use crate::judge::Judge;
 use crate::pieces::{Pieces, leaf};
-use facets::{LeafCheck, Simple};
+use facets::{LeafCheck, LeafVerdict, Simple};
 use lexical_core::{Rule, is_xml_char};
 use std::alloc::AllocError;
 
@@ -23,13 +27,10 @@ pub(crate) fn is_space(c: char) -> bool
 }
 
 /// Takes a character of a text.
-pub(crate) fn take_character(
-    check: &mut LeafCheck,
-    simple: &Simple,
-    c: char,
-) -> Result<(), AllocError>
+pub(crate) fn take_character(check: &mut Judge, simple: &Simple, c: char) -> Result<(), AllocError>
     requires { IsMadeFor check.old simple.now }
     ensures made { IsMadeFor check.new simple.now }
+    ensures verdict { IsVerdict check.old → IsVerdict check.new }
     ensures taken { OnOk result ((text : List ℕ) → HasTaken check.old simple.now text → HasTaken check.new simple.now (text ++ c ∷ [])) }
 {
     if !is_xml_char(c) {
@@ -40,12 +41,13 @@ pub(crate) fn take_character(
 
 /// Takes the characters of a text.
 pub(crate) fn take_characters(
-    check: &mut LeafCheck,
+    check: &mut Judge,
     simple: &Simple,
     text: &str,
 ) -> Result<(), AllocError>
     requires { IsMadeFor check.old simple.now }
     ensures made { IsMadeFor check.new simple.now }
+    ensures verdict { IsVerdict check.old → IsVerdict check.new }
     ensures taken { HasTaken check.old simple.now [] → OnOk result (HasTaken check.new simple.now (chars text.now)) }
 {
     for c in text.chars() {
@@ -56,7 +58,7 @@ pub(crate) fn take_characters(
 
 /// Takes a run of so many characters of a text.
 pub(crate) fn take_run(
-    check: &mut LeafCheck,
+    check: &mut Judge,
     simple: &Simple,
     run: &[u8],
     count: usize,
@@ -64,6 +66,7 @@ pub(crate) fn take_run(
     requires run { IsRun run.now count }
     requires made { IsMadeFor check.old simple.now }
     ensures made { IsMadeFor check.new simple.now }
+    ensures verdict { IsVerdict check.old → IsVerdict check.new }
     ensures taken { OnOk result ((r : IsRun run.now count) (text : List ℕ) → HasTaken check.old simple.now text → HasTaken check.new simple.now (text ++ r.characters)) }
 {
     check.take_run(simple, run, count)
@@ -92,19 +95,56 @@ pub(crate) fn blank_length(piece: &[u8]) -> usize
 
 /// The rule that the text breaks, if it breaks one; else its leaf is shown, where pieces are kept.
 pub(crate) fn ending_of(
+    judge: &Judge,
+    simple: &Simple,
+    pieces: &mut Option<Pieces>,
+) -> Result<Option<Rule>, AllocError>
+    requires { IsMadeFor judge.now simple.now }
+    ensures bare { pieces.old ≡ None → pieces.new ≡ None }
+    ensures taken { (text : List ℕ) → HasTaken judge.now simple.now text → IfOk result (λ rule. IsRuleOf simple.now text rule) }
+    ensures shown { (text : List ℕ) → HasTaken judge.now simple.now text → IfOk result (λ rule. rule ≡ None → GoOn pieces.old pieces.new (TextShown simple.now text)) }
+{
+    match judge {
+        Judge::Check(check) => show_leaf(check, simple, pieces),
+        Judge::Verdict(verdict) => rule_of(verdict, simple, pieces),
+    }
+}
+
+/// The same by a check that gives the leaf.
+fn show_leaf(
     check: &LeafCheck,
     simple: &Simple,
     pieces: &mut Option<Pieces>,
 ) -> Result<Option<Rule>, AllocError>
-    requires { IsMadeFor check.now simple.now }
-    ensures taken { (text : List ℕ) → HasTaken check.now simple.now text → IfOk result (λ rule. IsRuleOf simple.now text rule) }
-    ensures shown { (text : List ℕ) → HasTaken check.now simple.now text → IfOk result (λ rule. rule ≡ None → GoOn pieces.old pieces.new (TextShown simple.now text)) }
+    requires { checks.IsMadeFor check.now simple.now }
+    ensures bare { pieces.old ≡ None → pieces.new ≡ None }
+    ensures taken { (text : List ℕ) → checks.HasTaken check.now simple.now text → IfOk result (λ rule. IsRuleOf simple.now text rule) }
+    ensures shown { (text : List ℕ) → checks.HasTaken check.now simple.now text → IfOk result (λ rule. rule ≡ None → GoOn pieces.old pieces.new (TextShown simple.now text)) }
 {
     match check.finish(simple) {
         Ok(found) => match leaf(pieces, &found) {
             Ok(()) => Ok(None),
             Err(error) => Err(error),
         },
+        Err(rule) => Ok(Some(rule)),
+    }
+}
+
+/// The same by one that gives no leaf, where no pieces are kept.
+fn rule_of(
+    verdict: &LeafVerdict,
+    simple: &Simple,
+    pieces: &Option<Pieces>,
+) -> Result<Option<Rule>, AllocError>
+    requires { verdicts.IsMadeFor verdict.now simple.now }
+    ensures taken { (text : List ℕ) → verdicts.HasTaken verdict.now simple.now text → IfOk result (λ rule. IsRuleOf simple.now text rule) }
+    ensures bare { IsOk result → pieces.now ≡ None }
+{
+    if pieces.is_some() {
+        return Err(AllocError);
+    }
+    match verdict.finish(simple) {
+        Ok(()) => Ok(None),
         Err(rule) => Ok(Some(rule)),
     }
 }

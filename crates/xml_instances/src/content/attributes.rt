@@ -11,6 +11,7 @@ ghost use Rattle.xml_instances.specs.EventFaults.{has_currency, CurrencyFault, A
 ghost use Rattle.xml_instances.specs.Built.{CodeShown, CurrencyShown, TextShown};
 ghost use Rattle.xml_instances.specs.Keeping.{GoOn};
 ghost use Rattle.xml_instances.specs.Open.{AreMade, IsRuleOf, names_of, Says, IsCode};
+ghost use Rattle.xml_instances.specs.Verdicts.{IsLean};
 
 use super::Content;
 use crate::known::{currency_of, has_unknown};
@@ -32,6 +33,7 @@ impl Content {
     ) -> Result<(), Refusal>
         requires { AreMade (types_of model.now) self.old }
         ensures made { AreMade (types_of model.now) self.new }
+        ensures lean { IsLean self.old → IsLean self.new }
         ensures kept { self.new.innermost ≡ self.old.innermost }
         ensures round { self.new.round ≡ self.old.round }
         ensures taken { Says (AttributeFault (message_of model.now) (Some (types_of model.now number)) (map entry_of attrs.now) (names_of (types_of model.now) self.old.round.items)) result }
@@ -58,6 +60,7 @@ impl Content {
     ) -> Result<(), Refusal>
         requires { AreMade (types_of model.now) self.old }
         ensures made { AreMade (types_of model.now) self.new }
+        ensures lean { IsLean self.old → IsLean self.new }
         ensures kept { self.new.innermost ≡ self.old.innermost }
         ensures round { self.new.round ≡ self.old.round }
         ensures taken { IsCode (types_of model.now code) → Says (CurrencyFault (types_of model.now code) (value_of currency (map entry_of attrs.now)) (names_of (types_of model.now) self.old.round.items ++ codes "/@Ccy")) result }
@@ -86,6 +89,7 @@ impl Content {
         requires made { AreMade (types_of model.now) self.old }
         requires simple { text_type (types_of model.now number) ≡ Some simple.now }
         ensures made { AreMade (types_of model.now) self.new }
+        ensures lean { IsLean self.old → IsLean self.new }
         ensures kept { self.new.innermost ≡ self.old.innermost }
         ensures round { self.new.round ≡ self.old.round }
         ensures taken { IfOk result (λ rule. IsRuleOf simple.now (chars value.now) rule) }

@@ -10,6 +10,7 @@ ghost use Rattle.xml_instances.specs.Built.{ShowsBeside, EndShown, LeafShown};
 ghost use Rattle.xml_instances.specs.Keeping.{GoOn};
 ghost use Rattle.xml_instances.specs.Open.{IsOpen, IsItemTaken, AreMade, IsRuleOf, names_of, Says, StandsFor};
 ghost use Rattle.xml_instances.specs.declared.opened.Opened.{Opened as OpenedType};
+ghost use Rattle.xml_instances.specs.Verdicts.{IsLean};
 
 use super::Content;
 use crate::opened::{Opened, Refusal, missing};
@@ -22,6 +23,7 @@ impl Content {
     pub(crate) fn end(&mut self, model: &Model) -> Result<(), Refusal>
         requires { AreMade (types_of model.now) self.old }
         ensures made { AreMade (types_of model.now) self.new }
+        ensures lean { IsLean self.old → IsLean self.new }
         ensures taken { (ls : List (Level ℕ)) (n : Expanded) → IsOpen self.old (message_of model.now) ls → IsItemTaken (message_of model.now) ls (Ends n) self.new result }
         ensures shown { (ls : List (Level ℕ)) (n : Expanded) → IsOpen self.old (message_of model.now) ls
             → OnOk result (GoOn self.old.pieces self.new.pieces (ShowsBeside model.now ls (Ends n))) }
@@ -39,6 +41,7 @@ impl Content {
     fn ending(&mut self, model: &Model) -> Result<(), Refusal>
         requires { AreMade (types_of model.now) self.old }
         ensures made { AreMade (types_of model.now) self.new }
+        ensures lean { IsLean self.old → IsLean self.new }
         ensures kept { self.new.innermost ≡ self.old.innermost }
         ensures round { self.new.round ≡ self.old.round }
         ensures out { self.old.innermost ≡ None → IsOk result × (self.new.pieces ≡ self.old.pieces) }
@@ -60,6 +63,7 @@ impl Content {
     fn leaf_ending(&mut self, model: &Model) -> Result<(), Refusal>
         requires { AreMade (types_of model.now) self.old }
         ensures made { AreMade (types_of model.now) self.new }
+        ensures lean { IsLean self.old → IsLean self.new }
         ensures kept { self.new.innermost ≡ self.old.innermost }
         ensures round { self.new.round ≡ self.old.round }
         ensures out { self.old.innermost ≡ None → IsOk result × (self.new.pieces ≡ self.old.pieces) }

@@ -1,19 +1,27 @@
 // The text of an element: its characters, and its end.
-ghost use Rattle.std.specs.Prelude.{◌≡◌, ℕ, List, [], ◌∷◌, ◌++◌, Some, IfOk, OnOk};
+ghost use Rattle.std.specs.Prelude.{◌≡◌, ℕ, List, [], ◌∷◌, ◌++◌, Some, None, IfOk, OnOk, length};
 ghost use Rattle.facets.specs.declared.simple.Simple.{Simple as SimpleType};
-ghost use Rattle.facets.specs.LeafChecks.{HasTaken, IsWithinLimits};
+ghost use Rattle.facets.specs.LeafChecks.{IsWithinLimits, IsHeldWithin, leaf_limit};
 ghost use Rattle.reference_check.specs.Forms.{text_type};
 ghost use Rattle.message_model.specs.Tables.{message_of, types_of};
 ghost use Rattle.xml_instances.specs.EventFaults.{LeafFault};
 ghost use Rattle.xml_instances.specs.Built.{TextShown};
+ghost use Rattle.xml_instances.specs.Judges.{HasTaken};
+ghost use Rattle.xml_instances.specs.Levels.{Level};
+ghost use Rattle.xml_instances.specs.Scratch.{held_by, held_in, IsScratchWithin};
+ghost use Rattle.message_model.specs.Message.{Message};
 ghost use Rattle.xml_instances.specs.Keeping.{GoOn};
-ghost use Rattle.xml_instances.specs.Open.{AreMade, names_of, Says, HoldsText};
+ghost use Rattle.xml_instances.specs.Open.{IsOpen, AreMade, names_of, Says, HoldsText};
 ghost use Rattle.xml_instances.specs.declared.opened.Opened.TheVariants.{Text as OpenedText};
+ghost use Rattle.xml_instances.specs.Verdicts.{IsVerdict, IsTextVerdict, IsLean, HasFreeText};
+ghost use Rattle.facets.specs.LeafVerdicts.{IsFreeText};
 
 use super::{Content, OpenText};
+use crate::judge::Judge;
 use crate::opened::{Opened, Refusal};
+use crate::pieces::Pieces;
 use crate::texts::{ending_of, take_character};
-use facets::{LeafCheck, Simple};
+use facets::Simple;
 use message_model::Model;
 use std::alloc::{AllocError, Global};
 
@@ -22,6 +30,7 @@ impl Content {
     pub(crate) fn text_character(&mut self, model: &Model, c: char) -> Result<(), AllocError>
         requires { AreMade (types_of model.now) self.old }
         ensures made { AreMade (types_of model.now) self.new }
+        ensures lean { IsLean self.old → IsLean self.new }
         ensures kept { self.new.innermost ≡ self.old.innermost }
         ensures round { self.new.round ≡ self.old.round }
         ensures taken { (simple : SimpleType) (text : List ℕ) → HoldsText (message_of model.now) self.old.text simple text
@@ -34,15 +43,16 @@ impl Content {
         let Some(simple) = model.text_type(open.number) else {
             return Err(AllocError);
         };
-        let taken = take_character(&mut open.check, simple, c);
+        let taken = take_character(&mut open.judge, simple, c);
         self.text = Some(open);
         taken
     }
 
-    /// The end of the open text, whose check is kept for the next one.
+    /// The end of the open text, whose judge is kept for the next one.
     pub(crate) fn text_ending(&mut self, model: &Model) -> Result<(), Refusal>
         requires { AreMade (types_of model.now) self.old }
         ensures made { AreMade (types_of model.now) self.new }
+        ensures lean { IsLean self.old → IsLean self.new }
         ensures kept { self.new.innermost ≡ self.old.innermost }
         ensures round { self.new.round ≡ self.old.round }
         ensures taken { (simple : SimpleType) (text : List ℕ) → HoldsText (message_of model.now) self.old.text simple text
@@ -56,36 +66,53 @@ impl Content {
         let Some(simple) = model.text_type(open.number) else {
             return Err(Refusal::Memory);
         };
-        let ended = ending_of(&open.check, simple, &mut self.pieces);
-        self.checks.keep(open.number, open.check);
+        let ended = ending_of(&open.judge, simple, &mut self.pieces);
+        self.checks.keep(open.number, open.judge);
         match ended {
             Ok(rule) => self.answer(model, rule, b""),
             Err(_) => Err(Refusal::Memory),
         }
     }
 
-    /// A check of a text of the type, before its first character.
+    /// What judges a text of the type, before its first character.
     pub(crate) fn check_for(
         &mut self,
         model: &Model,
         number: u32,
         simple: &Simple,
-    ) -> Result<Box<LeafCheck>, AllocError>
+    ) -> Result<Box<Judge>, AllocError>
         requires made { AreMade (types_of model.now) self.old }
         requires simple { text_type (types_of model.now number) ≡ Some simple.now }
         ensures made { AreMade (types_of model.now) self.new }
+        ensures lean { IsLean self.old → IsLean self.new }
         ensures kept { self.new.innermost ≡ self.old.innermost }
         ensures round { self.new.round ≡ self.old.round }
-        ensures taken { IfOk result (λ check. HasTaken check.value simple.now []) }
+        ensures taken { IfOk result (λ judge. HasTaken judge.value simple.now []) }
+        ensures verdict { IsLean self.old → IfOk result (λ judge. IsVerdict judge.value) }
         ensures pieces { self.new.pieces ≡ self.old.pieces }
     {
         let _ = model.type_count();
         match self.checks.take(number) {
-            Some(mut check) => {
-                check.restart(simple);
-                Ok(check)
+            Some(mut judge) => {
+                judge.restart(simple);
+                Ok(judge)
             }
-            None => fresh(self.alloc, simple),
+            None => fresh(self.alloc, simple, &self.pieces),
+        }
+    }
+
+    /// How many bytes are held for the text of the innermost element; none where it has no text.
+    pub(crate) fn scratch(&self) -> u64
+        ensures count { result ≡ held_in self.now }
+        ensures bound { (m : Message ℕ) (ls : List (Level ℕ)) → IsOpen self.now m ls → IsScratchWithin ls result }
+        ensures free { (m : Message ℕ) (ls : List (Level ℕ)) → IsOpen self.now m ls → IsLean self.now → HasFreeText ls → result ≡ 0 }
+    {
+        match self.innermost {
+            Some(Opened::Text) => text_scratch(&self.text),
+            None => 0,
+            Some(Opened::Foreign) => 0,
+            Some(Opened::Envelope { .. }) => 0,
+            Some(Opened::Parent { .. }) => 0,
         }
     }
 
@@ -99,13 +126,14 @@ impl Content {
         requires made { AreMade (types_of model.now) self.old }
         requires simple { text_type (types_of model.now number) ≡ Some simple.now }
         ensures made { AreMade (types_of model.now) self.new }
+        ensures lean { IsLean self.old → IsLean self.new }
         ensures round { self.new.round ≡ self.old.round }
         ensures pieces { self.new.pieces ≡ self.old.pieces }
         ensures taken { OnOk result ((self.new.innermost ≡ Some OpenedText) × HoldsText (message_of model.now) self.new.text simple.now []) }
     {
         match self.check_for(model, number, simple) {
-            Ok(check) => {
-                self.text = Some(OpenText { number, check });
+            Ok(judge) => {
+                self.text = Some(OpenText { number, judge });
                 self.innermost = Some(Opened::Text);
                 Ok(())
             }
@@ -114,10 +142,26 @@ impl Content {
     }
 }
 
-/// A check of a text of the type that was never used.
-fn fresh(alloc: Global, simple: &Simple) -> Result<Box<LeafCheck>, AllocError>
-    requires { IsWithinLimits simple.now }
-    ensures { IfOk result (λ check. HasTaken check.value simple.now []) }
+/// How many bytes are held for the open text.
+fn text_scratch(text: &Option<OpenText>) -> u64
+    ensures count { result ≡ held_by (Some OpenedText) text.now }
+    ensures bound { (m : Message ℕ) (simple : SimpleType) (taken : List ℕ) → HoldsText m text.now simple taken → IsHeldWithin (leaf_limit simple) (length taken) result }
+    ensures free { (m : Message ℕ) (simple : SimpleType) (taken : List ℕ) → HoldsText m text.now simple taken → IsTextVerdict text.now → IsFreeText simple → result ≡ 0 }
 {
-    Ok(Box::new(alloc, LeafCheck::new(alloc, simple)?)?)
+    match text {
+        Some(open) => open.judge.scratch(),
+        None => 0,
+    }
+}
+
+/// What judges a text of the type, and was never used. It gives the leaf where pieces are kept.
+fn fresh(alloc: Global, simple: &Simple, pieces: &Option<Pieces>) -> Result<Box<Judge>, AllocError>
+    requires { IsWithinLimits simple.now }
+    ensures taken { IfOk result (λ judge. HasTaken judge.value simple.now []) }
+    ensures verdict { pieces.now ≡ None → IfOk result (λ judge. IsVerdict judge.value) }
+{
+    if pieces.is_none() {
+        return Ok(Box::new(alloc, Judge::verdict(alloc, simple)?)?);
+    }
+    Ok(Box::new(alloc, Judge::check(alloc, simple)?)?)
 }

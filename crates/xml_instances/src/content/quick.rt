@@ -10,6 +10,7 @@ ghost use Rattle.xml_instances.specs.Built.{EventsShow, ShowsBeside, StartShown}
 ghost use Rattle.xml_instances.specs.Keeping.{GoOn, MayShow, MayShowText};
 ghost use Rattle.xml_instances.specs.Open.{IsOpen, AreMade, IsPlaced, IsItemTaken, HoldsText};
 ghost use Rattle.xml_instances.specs.Quick.{MayTake, IsRunTaken, AreItemsTaken, IsOurs};
+ghost use Rattle.xml_instances.specs.Verdicts.{IsLean};
 
 use super::{Content, is_bare, root};
 use crate::opened::{Opened, Refusal};
@@ -57,6 +58,7 @@ impl Content {
         requires run { IsRun run.now count }
         requires fits { MayTake (types_of model.now) self.old.innermost run.now }
         ensures made { AreMade (types_of model.now) self.new }
+        ensures lean { IsLean self.old → IsLean self.new }
         ensures pieces { self.new.pieces ≡ self.old.pieces }
         ensures taken { OnOk result ((r : IsRun run.now count) (ls : List (Level ℕ)) → IsOpen self.old (message_of model.now) ls → IsRunTaken (message_of model.now) ls r.characters self.new) }
     {
@@ -74,6 +76,7 @@ impl Content {
         requires made { AreMade (types_of model.now) self.old }
         requires run { IsRun run.now count }
         ensures made { AreMade (types_of model.now) self.new }
+        ensures lean { IsLean self.old → IsLean self.new }
         ensures kept { self.new.innermost ≡ self.old.innermost }
         ensures round { self.new.round ≡ self.old.round }
         ensures pieces { self.new.pieces ≡ self.old.pieces }
@@ -86,7 +89,7 @@ impl Content {
         let Some(simple) = model.text_type(open.number) else {
             return Err(AllocError);
         };
-        let taken = take_run(&mut open.check, simple, run, count);
+        let taken = take_run(&mut open.judge, simple, run, count);
         self.text = Some(open);
         taken
     }
@@ -101,6 +104,7 @@ impl Content {
     ) -> Result<(), Refusal>
         requires { AreMade (types_of model.now) self.old }
         ensures made { AreMade (types_of model.now) self.new }
+        ensures lean { IsLean self.old → IsLean self.new }
         ensures taken { (ls : List (Level ℕ)) (n : Expanded) → n.local ≡ name.now → IsOurs (message_of model.now) ls n → IsOpen self.old (message_of model.now) ls
             → AreItemsTaken (message_of model.now) ls (tag_items kind n) self.new result }
         ensures shown { (ls : List (Level ℕ)) (n : Expanded) → n.local ≡ name.now → IsOurs (message_of model.now) ls n → IsOpen self.old (message_of model.now) ls
@@ -120,6 +124,7 @@ impl Content {
     fn start_inside(&mut self, model: &Model, local: &[u8]) -> Result<(), Refusal>
         requires { AreMade (types_of model.now) self.old }
         ensures made { AreMade (types_of model.now) self.new }
+        ensures lean { IsLean self.old → IsLean self.new }
         ensures taken { (ls : List (Level ℕ)) (n : Expanded) → n.local ≡ local.now → IsOurs (message_of model.now) ls n → IsOpen self.old (message_of model.now) ls
             → IsItemTaken (message_of model.now) ls (Starts n []) self.new result }
         ensures shown { (ls : List (Level ℕ)) (n : Expanded) → n.local ≡ local.now → IsOpen self.old (message_of model.now) ls → IsOurs (message_of model.now) ls n
@@ -136,6 +141,7 @@ impl Content {
     fn place_inside(&mut self, model: &Model, local: &[u8]) -> Result<Option<u32>, Refusal>
         requires { AreMade (types_of model.now) self.old }
         ensures made { AreMade (types_of model.now) self.new }
+        ensures lean { IsLean self.old → IsLean self.new }
         ensures taken { (ls : List (Level ℕ)) (n : Expanded) → n.local ≡ local.now → IsOurs (message_of model.now) ls n → IsOpen self.old (message_of model.now) ls
             → IsPlaced (message_of model.now) ls n self.new result }
         ensures shown { (ls : List (Level ℕ)) (n : Expanded) → n.local ≡ local.now → IsOpen self.old (message_of model.now) ls

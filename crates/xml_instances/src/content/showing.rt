@@ -45,6 +45,7 @@ impl Content {
         ensures round { self.new.round ≡ self.old.round }
         ensures text { self.new.text ≡ self.old.text }
         ensures checks { self.new.checks ≡ self.old.checks }
+        ensures bare { self.old.pieces ≡ None → self.new.pieces ≡ None }
         ensures shown { (m : Message ℕ) (ls : List (Level ℕ)) → IsOpen self.old m ls → HasSortedAttributes (item_of event.now.what)
             → OnOk result (GoOn self.old.pieces self.new.pieces (λ s t. t ≡ with_event ls (item_of event.now.what) s)) }
     {
@@ -76,6 +77,7 @@ impl Content {
         ensures round { self.new.round ≡ self.old.round }
         ensures text { self.new.text ≡ self.old.text }
         ensures checks { self.new.checks ≡ self.old.checks }
+        ensures bare { self.old.pieces ≡ None → self.new.pieces ≡ None }
         ensures out { self.old.innermost ≡ None → IsOk result × (self.new.pieces ≡ self.old.pieces) }
         ensures shown { (m : Message ℕ) (text : Option OpenTextType) (l : Level ℕ) (e : OpenedType) → self.old.innermost ≡ Some e → StandsFor m text e l
             → OnOk result (GoOn self.old.pieces self.new.pieces (λ s t. t ≡ with_end l s)) }

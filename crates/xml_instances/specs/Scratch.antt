@@ -1,0 +1,32 @@
+-- How many bytes are held for the text of the open leaf.
+use Rattle.std.specs.Prelude.{◌≡◌, ℕ, List, ◌∷◌, Option, Some, length}
+use Rattle.facets.specs.LeafChecks.{IsHeldWithin, leaf_limit}
+use Rattle.xml_instances.specs.Levels.{Level, Leaf}
+use Rattle.xml_instances.specs.Judges.{held}
+use Rattle.xml_instances.specs.Verdicts.{IsLean}
+use Rattle.xml_instances.specs.declared.checker.XmlChecker.{XmlChecker}
+use Rattle.xml_instances.specs.declared.content.Content.{Content}
+use Rattle.xml_instances.specs.declared.content.OpenText.{OpenText}
+use Rattle.xml_instances.specs.declared.opened.Opened.{Opened}
+use Rattle.xml_instances.specs.declared.opened.Opened.TheVariants as opened
+
+-- those that its judge holds; none where no leaf is open
+abbrev pub held_by : Option Opened → Option OpenText → ℕ
+held_by (Some opened.Text) (Some t) = held t.judge.value
+held_by innermost text = 0
+
+abbrev pub held_in : Content → ℕ
+held_in content = held_by content.innermost content.text
+
+-- the checker keeps no pieces, and no more of a text than is needed to tell whether it is a leaf
+abbrev pub KeepsNoLeaf : XmlChecker → Type 0
+KeepsNoLeaf checker = IsLean checker.content
+
+abbrev pub scratch : XmlChecker → ℕ
+scratch checker = held_in checker.content
+
+-- Where these elements are open, so many bytes are at most four to each character so far of a leaf, within the limit of its type, and 64. Where the innermost is no
+-- leaf there are none.
+abbrev pub IsScratchWithin : List (Level ℕ) → ℕ → Type 0
+IsScratchWithin (Leaf simple text ∷ ls) bytes = IsHeldWithin (leaf_limit simple) (length text) bytes
+IsScratchWithin ls bytes = bytes ≡ 0
