@@ -24,7 +24,7 @@ use Rattle.facets.proofs.TextRules.{length_broken}
 use Rattle.facets.proofs.ValueLemmas.{length_breaks}
 use Rattle.der_model.specs.LeafContents.{IsInteger, IsDecimalContents, IsBooleanContents, IsContents, HasContentsForm, HasCodes, ContentsUnder}
 use Rattle.der_model.proofs.ContentsLaws.{has_form, one_contents}
-use Rattle.der_codec.specs.Limits.{IsKeptUnder, IsPassed, IsShortForm, IsTextKept}
+use Rattle.der_codec.specs.KeptOctets.{IsKeptUnder, IsPassed, IsShortForm, IsTextKept}
 use Rattle.der_codec.proofs.CodeNumbers.{no_longer}
 use Rattle.der_codec.proofs.LeavesJudged.{date_run, no_code, no_date, place_low, text_breaks_as, text_form}
 use Rattle.der_codec.proofs.CutTexts.{run_of, held_within}

@@ -14,7 +14,8 @@ use Rattle.der_model.specs.DerMessage.{DerMessage, der_message}
 use Rattle.der_model.specs.Faults.{IsHeldIn, BreaksIn}
 use Rattle.der_model.specs.Structures.{Structure, Holds, LeafOf, structure, form_structure, number_structure}
 use Rattle.der_model.specs.States.{State, Start, AwaitsLength, AwaitsContents, Within}
-use Rattle.der_codec.specs.Limits.{IsKeptUnder, IsKeptIn, IsKeptAt, IsLeafAt, contents_limit, open_limit, leaf_come, token_come}
+use Rattle.der_codec.specs.KeptOctets.{IsKeptUnder, IsKeptIn, IsKeptAt, IsLeafAt}
+use Rattle.der_codec.specs.Limits.{contents_limit, open_limit, leaf_come, token_come}
 use Rattle.der_codec.specs.Decoding.{Reads, IsOpen, IsBegun, header_come}
 use Rattle.der_codec.specs.Checking.{KeepsContents}
 use Rattle.der_codec.specs.declared.level.Spot.{Spot}

@@ -9,7 +9,7 @@ use Rattle.lexical_core.specs.XmlRuns.{IsXmlRun, IsPlain}
 use Rattle.lexical_core.proofs.XmlRuns.{plain_encoded}
 use Rattle.data_types.proofs.RunLemmas.{run_short}
 use Rattle.facets.specs.LeafChecks.{IsHeldWithin}
-use Rattle.der_codec.specs.Limits.{IsPassed, IsTextKept}
+use Rattle.der_codec.specs.KeptOctets.{IsPassed, IsTextKept}
 
 -- ---- characters behind others
 

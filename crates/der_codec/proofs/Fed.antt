@@ -20,10 +20,10 @@ use Rattle.facets.specs.declared.simple.Simple.{Simple}
 use Rattle.reference_check.specs.Forms.{Graph}
 use Rattle.der_codec.specs.Levels.{AreLevels, inwards}
 use Rattle.der_codec.specs.Components.{added_text}
-use Rattle.der_codec.specs.Decoding.{Reads, Fails, HasRead, IsOpen, IsFault, IsStopped, IsOver, IsReady, IsWaiting, IsNoCut, IsRefusedAs, end_of_levels}
+use Rattle.der_codec.specs.Decoding.{due_depth, Reads, Fails, HasRead, IsOpen, IsFault, IsStopped, IsOver, IsReady, IsWaiting, IsNoCut, IsRefusedAs, end_of_levels}
 use Rattle.der_codec.specs.Judging.{HoldsContents, BreaksContentsAt, IsVerdictFor}
 use Rattle.der_codec.specs.OpenNames.{IsNamed}
-use Rattle.der_codec.specs.Checking.{IsReading, KeepsContents, KeepsRead, HasFed, TakesFront, StopsWithin, Stops, IsSpelled, EndsAs, IsSameOrMemory, open_levels, fed, token_held}
+use Rattle.der_codec.specs.Checking.{IsReading, KeepsContents, KeepsRead, HasFed, TakesFront, StopsWithin, Stops, IsSpelled, EndsAs, IsSameOrMemory, open_count, fed, token_held}
 use Rattle.der_codec.specs.declared.checks.Refusal.{Refusal}
 use Rattle.der_codec.specs.declared.checks.Refusal.TheVariants as refused
 use Rattle.der_codec.specs.declared.components.Added.TheVariants as added
@@ -38,7 +38,8 @@ use Rattle.der_codec.specs.declared.decoder.Stop.{Stop}
 use Rattle.der_codec.specs.declared.decoder.Stop.TheVariants as stop
 use Rattle.der_codec.proofs.InputEnds.{goes_on, is_spelled}
 use Rattle.der_codec.proofs.Named.{front_named}
-use Rattle.der_codec.specs.Limits.{IsKeptAt, open_limit, leaf_come, token_come}
+use Rattle.der_codec.specs.KeptOctets.{IsKeptAt}
+use Rattle.der_codec.specs.Limits.{open_limit, leaf_come, token_come}
 use Rattle.der_codec.proofs.CutSpots.{none_held, held_then, held_open, token_open}
 use Rattle.der_codec.proofs.ContentsSteps.{place_counts, kept_more, none_kept, rest_from, some_before, contents_break}
 use Rattle.der_codec.proofs.NoCuts.{contents_stay}
@@ -310,18 +311,18 @@ inwards_length : (xs : List Level) → length (inwards xs) ≡ length xs
 inwards_length [] = refl
 inwards_length (x ∷ xs) = (let sum = length-append (inwards xs) (x ∷ []) in let rest = inwards_length xs in omega (arith, sum, rest))
 
-open_length : (m : DerMessage ℕ) (xs : List Level) (d : Due) (s : State ℕ) → IsOpen m xs d s → length xs ≡ length (open_levels s)
-open_length m xs (due.Tag step) Start op = ap length op
-open_length m xs (due.Tag step) (Within (l ∷ ls)) op = same_length m.forms xs (l ∷ ls) op
-open_length m xs (due.Length c spot step) (AwaitsLength b of names ls) op = same_length m.forms xs ls op.2
-open_length m xs (due.Contents spot left) (AwaitsContents of names count ls) op = same_length m.forms xs ls op.1
-open_length m xs due.Over (Within []) op = ap length op
+open_length : (m : DerMessage ℕ) (xs : List Level) (d : Due) (s : State ℕ) → IsOpen m xs d s → length xs + due_depth d ≡ open_count s
+open_length m xs (due.Tag step) Start op = (let e = ap length op in omega (arith, e))
+open_length m xs (due.Tag step) (Within (l ∷ ls)) op = (let e = same_length m.forms xs (l ∷ ls) op in omega (arith, e))
+open_length m xs (due.Length c spot step) (AwaitsLength b of names ls) op = (let e = same_length m.forms xs ls op.2 in omega (arith, e))
+open_length m xs (due.Contents spot left) (AwaitsContents of names count ls) op = (let e = same_length m.forms xs ls op.1 in omega (arith, e))
+open_length m xs due.Over (Within []) op = (let e = ap length op in omega (arith, e))
 open_length m xs d s op = absurd op
 
-pub depth_is : (T : Tables) (checker : DerChecker) (bytes : List ℕ) (h : HasFed checker T bytes) → length checker.decoder.levels.items ≡ length (open_levels h.reading.read.state)
+pub depth_is : (T : Tables) (checker : DerChecker) (bytes : List ℕ) (h : HasFed checker T bytes) → length checker.decoder.levels.items + due_depth checker.decoder.due ≡ open_count h.reading.read.state
 depth_is T checker bytes h =
     let d = checker.decoder in
-    sym (inwards_length d.levels.items) ∙ open_length (der_message T) (inwards d.levels.items) d.due h.reading.read.state h.reading.read.is_open
+    ap (λ n. n + due_depth d.due) (sym (inwards_length d.levels.items)) ∙ open_length (der_message T) (inwards d.levels.items) d.due h.reading.read.state h.reading.read.is_open
 
 -- ---- what is held
 

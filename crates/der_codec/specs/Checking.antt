@@ -1,5 +1,5 @@
 -- What a checker of DER was given, and what it answers.
-use Rattle.std.specs.Prelude.{◌≡◌, ◌≢◌, ◌⊎◌, ℕ, ◌≤◌, ◌^◌, List, [], ◌++◌, length, take, drop, IfOk, IfErr, Option, None, Result, Ok, Err}
+use Rattle.std.specs.Prelude.{◌≡◌, ◌≢◌, ◌⊎◌, ℕ, suc, ◌≤◌, ◌^◌, List, [], ◌++◌, length, take, drop, IfOk, IfErr, Option, None, Result, Ok, Err}
 use Rattle.lexical_core.specs.declared.rule.Rule.TheVariants.{DerTruncated}
 use Rattle.data_types.specs.Value.{Value}
 use Rattle.message_model.specs.Tables.{Tables, types_of}
@@ -9,11 +9,10 @@ use Rattle.message_model.specs.declared.fault.InstanceError.TheVariants.{Refused
 use Rattle.der_model.specs.DerMessage.{der_message}
 use Rattle.der_model.specs.Der.{SpellsDer}
 use Rattle.der_model.specs.Faults.{Fault, DerFault}
-use Rattle.der_model.specs.States as states
 use Rattle.der_model.specs.States.{State, Start, AwaitsLength, AwaitsContents, Within}
 use Rattle.der_codec.specs.Checked.{CheckTypes}
 use Rattle.der_codec.specs.Components.{added_text}
-use Rattle.der_codec.specs.Limits.{IsKeptAt}
+use Rattle.der_codec.specs.KeptOctets.{IsKeptAt}
 use Rattle.der_codec.specs.Decoding.{HasRead, header_come, IsFault, IsWaiting, end_of_levels}
 use Rattle.der_codec.specs.declared.decoder.Decoder.{Decoder}
 use Rattle.der_codec.specs.declared.decoder.Due.{Due}
@@ -69,12 +68,12 @@ pub record IsMadeFor (checker : DerChecker) (T : Tables) : Type 0 where
   pub checks : CheckTypes (types_of T) checker.checks
   pub given : failed checker ≡ None → (bytes : List ℕ) × HasFed checker T bytes
 
--- the constructed values that are open
-abbrev pub open_levels : {P : Type 0} → State P → List (states.Level P)
-open_levels Start = []
-open_levels (AwaitsLength constructed spot names around) = around
-open_levels (AwaitsContents spot names count around) = around
-open_levels (Within levels) = levels
+-- how many values and lists have begun and not ended, that of which a length or contents are due among them
+abbrev pub open_count : {P : Type 0} → State P → ℕ
+open_count Start = 0
+open_count (AwaitsLength constructed spot names around) = suc (length around)
+open_count (AwaitsContents spot names count around) = suc (length around)
+open_count (Within levels) = length levels
 
 -- the error itself, or that there is no memory for it
 abbrev pub IsSameOrMemory : InstanceError → InstanceError → Type 0

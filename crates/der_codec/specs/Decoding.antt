@@ -187,6 +187,12 @@ abbrev pub IsRefusedAs : ℕ → Refusal → Stop → Type 0
 IsRefusedAs start (refused.Breaks rule) s = s ≡ stop.Fault rule start added.Nothing
 IsRefusedAs start refused.Memory s = s ≡ stop.Memory
 
+-- a value of which the length or contents are due is open, beside those round it
+abbrev pub due_depth : Due → ℕ
+due_depth (due.Length constructed spot step) = 1
+due_depth (due.Contents spot left) = 1
+due_depth d = 0
+
 -- of the part that is due, the octets that have come of its identifier or its length
 abbrev pub header_come : Due → ℕ → ℕ → ℕ
 header_come (due.Tag step) start place = place - start

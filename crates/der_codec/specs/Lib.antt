@@ -8,6 +8,7 @@ pub mod OpenNames
 pub mod Elements
 pub mod Filling
 pub mod Limits
+pub mod KeptOctets
 pub mod Checking
 pub mod Laws
 pub mod ReadyLaws

@@ -5,9 +5,10 @@ ghost use Rattle.der_model.specs.DerMessage.{der_message};
 ghost use Rattle.der_codec.specs.Checked.{CheckTypes};
 ghost use Rattle.der_codec.specs.Decoding.{HasRead, IsStopped, IsSettled, BeginsContents, IsHeaderDue, end_of_levels};
 ghost use Rattle.der_codec.specs.Judging.{IsVerdictFor};
-ghost use Rattle.der_codec.specs.Limits.{IsKeptAt, open_limit, leaf_come, token_come};
+ghost use Rattle.der_codec.specs.KeptOctets.{IsKeptAt};
+ghost use Rattle.der_codec.specs.Limits.{open_limit, leaf_come, token_come};
 ghost use Rattle.facets.specs.LeafChecks.{IsHeldWithin};
-ghost use Rattle.der_codec.specs.Checking.{HasFed, IsReading, IsNoContents, KeepsRead, IsMadeFor, StopsWithin, TakesFront, Stops, IsSpelled, EndsAs, IsSameOrMemory, IsAgain, open_levels, fed, failed, held, token_held};
+ghost use Rattle.der_codec.specs.Checking.{HasFed, IsReading, IsNoContents, KeepsRead, IsMadeFor, StopsWithin, TakesFront, Stops, IsSpelled, EndsAs, IsSameOrMemory, IsAgain, open_count, fed, failed, held, token_held};
 
 use crate::checks::{Checks, Refusal};
 use crate::contents::verdict;
@@ -74,9 +75,9 @@ impl DerChecker {
         })
     }
 
-    /// How many constructed values are open.
+    /// How many values and lists have begun and not ended.
     pub fn depth(&self) -> usize
-        ensures { (T : Tables) (bytes : List ℕ) (h : HasFed self.now T bytes) → result ≡ length (open_levels h.reading.read.state) }
+        ensures { (T : Tables) (bytes : List ℕ) (h : HasFed self.now T bytes) → result ≡ open_count h.reading.read.state }
     {
         self.decoder.depth()
     }

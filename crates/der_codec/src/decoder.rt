@@ -4,7 +4,7 @@ ghost use Rattle.lexical_core.specs.Tree.{Tree};
 ghost use Rattle.message_model.specs.Tables.{message_of, types_of};
 ghost use Rattle.der_model.specs.DerMessage.{DerMessage, in_der};
 ghost use Rattle.der_codec.specs.Levels.{inwards, first_of, rest_of};
-ghost use Rattle.der_codec.specs.Decoding.{HasRead, IsStopped, IsBelow, IsPast, end_of_levels, IsFresh, IsFreshOrOver, due_after, IsReady, IsOver, IsWaiting, IsOpen, IsNoCut, AwaitsValue, IsRefusedAs, header_come};
+ghost use Rattle.der_codec.specs.Decoding.{HasRead, IsStopped, IsBelow, IsPast, end_of_levels, IsFresh, IsFreshOrOver, due_after, IsReady, IsOver, IsWaiting, IsOpen, IsNoCut, AwaitsValue, IsRefusedAs, due_depth, header_come};
 ghost use Rattle.der_codec.specs.Components.{added_text};
 ghost use Rattle.der_codec.specs.OpenNames.{IsNamed};
 ghost use Rattle.der_codec.specs.Judging.{HoldsContents};
@@ -240,11 +240,16 @@ impl Decoder {
         }
     }
 
-    /// How many constructed values are open.
+    /// How many values and lists are open.
     pub(crate) fn depth(&self) -> usize
-        ensures { result ≡ length self.now.levels.items }
+        ensures { result ≡ length self.now.levels.items + due_depth self.now.due }
     {
-        self.levels.len()
+        let around = self.levels.len();
+        match self.due {
+            Due::Length { .. } => around + 1,
+            Due::Contents { .. } => around + 1,
+            _ => around,
+        }
     }
 
     /// How many identifier or length octets have come, where more of them are due.

@@ -6,7 +6,7 @@ ghost use Rattle.facets.specs.LeafChecks.{IsWithinLimits};
 ghost use Rattle.facets.specs.LeafUnder.{HasSortedCodes};
 ghost use Rattle.facets.specs.PatternChecks.{IsDateKind};
 ghost use Rattle.der_model.specs.DerMessage.{der_message};
-ghost use Rattle.der_codec.specs.Limits.{IsKeptUnder, IsKeptAt, IsLeafAt, HasNoLimit, IsShortForm, IsTextKept};
+ghost use Rattle.der_codec.specs.KeptOctets.{IsKeptUnder, IsKeptAt, IsLeafAt, HasNoLimit, IsShortForm, IsTextKept};
 
 use crate::level::Spot;
 use data_types::Kind;

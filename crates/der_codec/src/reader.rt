@@ -1,7 +1,7 @@
 // A reader of the DER of instances that takes their bytes in pieces, and keeps the pieces of the instance.
 ghost use Rattle.std.specs.Prelude.{◌≡◌, ◌+◌, ◌≤◌, ◌^◌, ◌++◌, ℕ, List, [], IfOk, IfErr, OnOk, Some, None, Err, length, true, false};
 ghost use Rattle.message_model.specs.Tables.{Tables};
-ghost use Rattle.der_codec.specs.Checking.{Stops, EndsAs, IsAgain, open_levels};
+ghost use Rattle.der_codec.specs.Checking.{Stops, EndsAs, IsAgain, open_count};
 ghost use Rattle.der_codec.specs.ReadInstances.{HasKept, IsReaderFor, IsRead, read_so_far, refused};
 
 use crate::checker::DerChecker;
@@ -39,9 +39,9 @@ impl DerReader {
         }
     }
 
-    /// How many constructed values are open.
+    /// How many values and lists have begun and not ended.
     pub fn depth(&self) -> usize
-        ensures { (T : Tables) (bytes : List ℕ) (h : HasKept self.now T bytes) → result ≡ length (open_levels h.given.reading.read.state) }
+        ensures { (T : Tables) (bytes : List ℕ) (h : HasKept self.now T bytes) → result ≡ open_count h.given.reading.read.state }
     {
         self.checker.depth()
     }

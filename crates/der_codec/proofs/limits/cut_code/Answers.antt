@@ -1,5 +1,5 @@
 use Rattle.std.proofs.Common.{sym, subst}
-use Rattle.der_codec.specs.Limits.{IsKeptUnder}
+use Rattle.der_codec.specs.KeptOctets.{IsKeptUnder}
 use Rattle.der_codec.proofs.CutContents.{code_kept}
 use Rattle.der_codec.proofs.limits.cut_code.Goals as goal
 

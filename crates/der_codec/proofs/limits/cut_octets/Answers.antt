@@ -1,6 +1,6 @@
 use Rattle.std.proofs.Common.{rules, sym, subst, ◌<◌, length}
 use Rattle.base64.specs.GeneralPurpose.{IsBytes}
-use Rattle.der_codec.specs.Limits.{IsKeptUnder}
+use Rattle.der_codec.specs.KeptOctets.{IsKeptUnder}
 use Rattle.der_codec.proofs.CutContents.{octets_kept}
 use Rattle.der_codec.proofs.limits.cut_octets.Goals as goal
 

@@ -1,5 +1,5 @@
 use Rattle.std.proofs.Common.{sym, subst}
-use Rattle.der_codec.specs.Limits.{IsKeptUnder}
+use Rattle.der_codec.specs.KeptOctets.{IsKeptUnder}
 use Rattle.der_codec.proofs.CutContents.{short_kept}
 use Rattle.der_codec.proofs.limits.cut_short.Goals as goal
 

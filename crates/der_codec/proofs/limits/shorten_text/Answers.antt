@@ -1,6 +1,6 @@
 use Rattle.std.proofs.Common.{rules, ◌≡◌, subst, ◌<◌, ◌≤◌, ◌+◌, ◌*◌, ◌-◌, ◌++◌, replicate, drop, length}
 use Rattle.std.proofs.lemmas.Result.{on_ok_weaker}
-use Rattle.der_codec.specs.Limits.{IsTextKept}
+use Rattle.der_codec.specs.KeptOctets.{IsTextKept}
 use Rattle.der_codec.proofs.CutTexts.{none_kept, spaces_kept}
 use Rattle.der_codec.proofs.limits.shorten_text.Goals as goal
 
