@@ -1,19 +1,15 @@
 -- Contents in a value, by those of its simple type.
-use Rattle.std.proofs.Common.{◌≡◌, ℕ, List, Option, Some, Result, Ok, Err, sym, ap, ◌∙◌, subst, Bor}
-use Rattle.lexical_core.specs.Tree.{Tree}
+use Rattle.std.proofs.Common.{◌≡◌, ℕ, List, Some, Result, Ok, Err, sym, ap, subst, Bor}
 use Rattle.data_types.specs.Leaf.{Leaf}
 use Rattle.data_types.specs.declared.leaf.LeafRef.{LeafRef}
-use Rattle.facets.specs.LeafChecks.{IsWithinLimits}
 use Rattle.facets.specs.declared.simple.Simple.{Simple}
-use Rattle.fragments.specs.Plain.{IsPlain}
-use Rattle.message_model.specs.Sound.{AreSound}
 use Rattle.message_model.specs.Views.{IsFormOf}
 use Rattle.message_model.specs.declared.model.Form.TheVariants as form
 use Rattle.reference_check.specs.Forms as graph
 use Rattle.reference_check.specs.Forms.{Graph, text_type}
 use Rattle.der_model.specs.DerMessage.{DerMessage}
 use Rattle.der_model.specs.Faults.{IsHeldIn}
-use Rattle.der_model.specs.Structures.{Structure, Holds, LeafOf, Fragment, Fields, OneOf, Items, Empty, form_structure, number_structure}
+use Rattle.der_model.specs.Structures.{Structure, Holds, LeafOf, Fragment, form_structure, number_structure}
 use Rattle.der_codec.specs.Judging.{IsJudged, HoldsLeaf, IsJudgedAt}
 use Rattle.der_codec.specs.declared.checks.Refusal.TheVariants as refused
 use Rattle.der_codec.specs.declared.checks.Refusal.{Refusal}

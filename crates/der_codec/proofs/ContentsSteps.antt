@@ -1,20 +1,18 @@
 -- The steps of contents.
-use Rattle.std.proofs.Common.{◌≡◌, ℕ, zero, suc, ◌+◌, ◌-◌, ◌≤◌, ◌<◌, Bool, true, false, List, [], ◌∷◌, ◌++◌, length, drop, Option, Some, None, refl, sym, ap, ◌∙◌, subst, arith, append-nil, append_assoc, length-append}
+use Rattle.std.proofs.Common.{◌≡◌, ℕ, ◌+◌, ◌-◌, ◌≤◌, ◌<◌, true, false, List, [], ◌∷◌, ◌++◌, length, drop, refl, sym, ap, ◌∙◌, subst, arith, append-nil, append_assoc, length-append}
 use Rattle.lexical_core.specs.declared.rule.Rule.{Rule}
 use Rattle.der_octets.specs.TagSteps as tags
 use Rattle.der_octets.specs.declared.tag_step.TagStep.{TagStep}
 use Rattle.der_octets.proofs.Headers.{some_identifier}
 use Rattle.der_model.specs.DerMessage.{DerMessage}
-use Rattle.der_model.specs.Structures as structures
 use Rattle.der_model.specs.Structures.{structure}
 use Rattle.der_model.specs.States as states
 use Rattle.der_model.specs.States.{Part, Identifier, Length, End, Contents, part_octets, State, Start, AwaitsLength, AwaitsContents, Within, level_end, level_answer, begun, names_in, state_after, Stands}
 use Rattle.reference_check.specs.Words.{UpTo}
-use Rattle.der_model.specs.Faults.{Front, Next, broken, IsClean, IsHeldIn, BreaksIn}
+use Rattle.der_model.specs.Faults.{Front, broken, IsClean, IsHeldIn, BreaksIn}
 use Rattle.der_model.proofs.Continued.{front_more}
 use Rattle.der_model.proofs.WholeValues.{front_then}
-use Rattle.der_codec.specs.Levels.{IsSpot, AreLevels}
-use Rattle.der_codec.specs.Nesting.{AreNested, IsNested}
+use Rattle.der_codec.specs.Nesting.{AreNested}
 use Rattle.der_codec.specs.Judging.{HoldsContents, BreaksContentsAt}
 use Rattle.der_codec.specs.Decoding.{IsOpen, IsBegun, Reads, Fails}
 use Rattle.der_codec.specs.declared.level.Spot.{Spot}

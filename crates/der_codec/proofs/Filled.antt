@@ -1,9 +1,9 @@
 -- The steps of the reader of whole DER, as its functions have them.
-use Rattle.std.proofs.Common.{◌≡◌, ℕ, suc, ◌+◌, ◌-◌, ◌≤◌, ◌<◌, ◌^◌, Bool, true, false, List, [], ◌∷◌, ◌++◌, length, drop, take, Some, None, refl, sym, ap, ◌∙◌, subst, arith, append_assoc, append-nil, length-append}
+use Rattle.std.proofs.Common.{◌≡◌, ℕ, ◌+◌, ◌-◌, ◌≤◌, ◌<◌, ◌^◌, Bool, true, false, List, [], ◌∷◌, ◌++◌, length, drop, take, Some, None, refl, sym, ap, ◌∙◌, subst, arith, append_assoc}
 use Rattle.std.specs.Prelude.{nat_lt}
 use Rattle.std.proofs.Math.Seq.{take-append_seam}
 use Rattle.data_types.specs.Leaf.{Leaf}
-use Rattle.data_types.specs.Value.{Value, Edge, Piece, Begins, Holds, Ends}
+use Rattle.data_types.specs.Value.{Value, Edge, Piece, Holds}
 use Rattle.message_model.specs.Tables.{pieces}
 use Rattle.inst_pool.specs.Pieces.{open_in}
 use Rattle.der_octets.specs.Octets.{Tag, identifier, length_octets, IsShortTag, IsShortLength}
@@ -13,11 +13,11 @@ use Rattle.der_model.specs.Structures as structures
 use Rattle.der_model.specs.Structures.{structure, Structure, Holds as HoldsOctets, Fields, OneOf, Items, Empty, LeafOf, Fragment}
 use Rattle.der_model.specs.States as states
 use Rattle.der_model.specs.States.{Part, Identifier, Length, End, part_octets, Name, State, Start, AwaitsLength, AwaitsContents, Within, Answer, level_answer, names_in, state_after, end_from}
-use Rattle.der_model.specs.Faults.{Front, IsWhole, BreaksIn}
+use Rattle.der_model.specs.Faults.{Front, BreaksIn}
 use Rattle.der_model.specs.Der.{SpellsDer}
 use Rattle.der_model.specs.Sound.{IsSound}
 use Rattle.der_model.specs.ShownPieces.{begin_each, end_each, component_elements, elements_ended, IsLeafIn}
-use Rattle.der_model.specs.NestedPieces.{open_elements, elements_around}
+use Rattle.der_model.specs.NestedPieces.{elements_around}
 use Rattle.der_model.proofs.Answered.{one_value, whole_is_spelled}
 use Rattle.der_model.proofs.OneFault.{clean_breaks}
 use Rattle.der_model.proofs.ShownPieces.{whole_shows_pieces}
@@ -35,7 +35,7 @@ use Rattle.der_codec.specs.declared.level.Spot.TheVariants as spots
 use Rattle.der_codec.specs.declared.level.Level.{Level}
 use Rattle.der_codec.proofs.Inwards.{inwards_some}
 use Rattle.der_codec.proofs.PiecesOpen.{held_open}
-use Rattle.der_codec.proofs.Counted.{IsCounted, AreCounted, front_counted}
+use Rattle.der_codec.proofs.Counted.{IsCounted, front_counted}
 use Rattle.der_codec.proofs.Reached.{within_part, part_reached, reaches_as, reached_open, end_reached, tag_reached, component_reached, outermost_reached, length_reached}
 
 -- the innermost level of the reader is that of the state

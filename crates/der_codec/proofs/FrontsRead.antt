@@ -1,5 +1,5 @@
 -- Headers that are read octet by octet, where they stand as a whole.
-use Rattle.std.proofs.Common.{◌≡◌, ℕ, ◌+◌, ◌<◌, Bool, true, List, [], ◌∷◌, ◌++◌, length, refl, sym, ap, ◌∙◌, arith, length-append}
+use Rattle.std.proofs.Common.{◌≡◌, ℕ, Bool, true, List, [], ◌∷◌, ◌++◌, length, refl, sym, ap, arith, length-append}
 use Rattle.der_octets.specs.Octets.{Tag, identifier, length_octets, IsShortTag, IsShortLength}
 use Rattle.der_octets.specs.TagSteps as tags
 use Rattle.der_octets.specs.LengthSteps as lengths

@@ -1,7 +1,6 @@
 -- Behind clean parts the names are those that what is open tells.
-use Rattle.std.proofs.Common.{◌≡◌, ℕ, zero, suc, ◌+◌, Bool, true, false, List, [], ◌∷◌, ◌++◌, length, drop, Option, Some, None, refl, sym, ap, ◌∙◌, subst, arith}
+use Rattle.std.proofs.Common.{◌≡◌, ℕ, suc, ◌+◌, Bool, true, false, List, [], ◌∷◌, length, drop, Some, refl, sym, ap, ◌∙◌, subst, arith}
 use Rattle.std.specs.Prelude.{if◌then◌else◌, slice_get}
-use Rattle.lexical_core.specs.declared.rule.Rule.{Rule}
 use Rattle.der_octets.specs.Octets.{Tag}
 use Rattle.der_model.specs.DerMessage.{DerMessage}
 use Rattle.der_model.specs.Structures.{Component, Label, Structure, Holds, Fields, OneOf, Items, Empty, structure}
@@ -11,7 +10,7 @@ use Rattle.lexical_core.specs.declared.rule.Rule.TheVariants.{UnexpectedTag}
 use Rattle.reference_check.specs.Steps.{has_room}
 use Rattle.der_model.specs.Faults.{Front, IsClean}
 use Rattle.der_model.specs.OpenParts.{components_of}
-use Rattle.der_codec.specs.OpenNames.{names_of_part, names_at, names_within, AreNamed, IsNamed}
+use Rattle.der_codec.specs.OpenNames.{names_of_part, IsNamed}
 use Rattle.der_codec.proofs.ComponentsFound.{get_drop}
 
 no_begin : {P : Type 0} (label : Label) (x : Answer P) (k : ℕ) (c : Component P) → skipping label x ≡ Begins k c → ⊥

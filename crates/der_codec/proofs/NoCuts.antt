@@ -1,5 +1,5 @@
 -- What breaks a rule of the message is no cut.
-use Rattle.std.proofs.Common.{◌≡◌, ◌≢◌, ℕ, suc, Bool, true, false, List, [], ◌∷◌, length, drop, Option, Some, None, Err, refl, sym, ap, ◌∙◌, subst, inl, inr}
+use Rattle.std.proofs.Common.{◌≡◌, ◌≢◌, ℕ, suc, Bool, true, false, List, [], ◌∷◌, length, drop, Some, Err, sym, ◌∙◌, subst, inl, inr}
 use Rattle.std.specs.Prelude.{if◌then◌else◌, nat_lt}
 use Rattle.lexical_core.specs.declared.rule.Rule.{Rule}
 use Rattle.lexical_core.specs.declared.rule.Rule.TheVariants.{UnexpectedTag, DerMissing, DerTruncated}
@@ -13,7 +13,7 @@ use Rattle.der_model.specs.LeafContents.{ContentsUnder}
 use Rattle.der_model.specs.Faults.{BreaksIn}
 use Rattle.der_model.specs.Structures.{LeafOf, Fragment}
 use Rattle.der_codec.specs.Levels.{IsLevel, AreLevels, first_of}
-use Rattle.der_codec.specs.Components.{IsFound, IsEnded, added_text}
+use Rattle.der_codec.specs.Components.{IsFound, IsEnded}
 use Rattle.der_codec.specs.Decoding.{IsOpen, Reads}
 use Rattle.der_codec.specs.declared.components.Found.TheVariants as found
 use Rattle.der_codec.specs.declared.components.Ended.TheVariants as ended

@@ -1,5 +1,5 @@
 -- The names of what is open are those that a reader's levels tell.
-use Rattle.std.proofs.Common.{◌≡◌, ℕ, zero, suc, ◌<◌, ◌-◌, Bool, true, false, List, [], ◌∷◌, ◌++◌, length, take, Option, Some, None, refl, sym, ap, ◌∙◌, subst, arith, append_assoc}
+use Rattle.std.proofs.Common.{◌≡◌, ℕ, zero, suc, ◌<◌, ◌-◌, Bool, true, false, List, [], ◌∷◌, ◌++◌, length, take, Some, refl, sym, ap, ◌∙◌, arith}
 use Rattle.std.specs.Prelude.{slice_get, if◌then◌else◌, codes}
 use Rattle.facets.specs.declared.simple.Simple.{Simple}
 use Rattle.reference_check.specs.Forms as graph
@@ -9,7 +9,7 @@ use Rattle.der_model.specs.Structures as structures
 use Rattle.der_model.specs.Structures.{Component, Label, Element, Listed, Unnamed, is_single, component, components, item_components, amount_components, form_structure, number_structure, structure}
 use Rattle.der_model.specs.States as states
 use Rattle.der_model.specs.States.{Name, Numbered, ListName, State, Start, AwaitsLength, AwaitsContents, Within, label_names, next_number}
-use Rattle.der_model.specs.Paths.{path_text, path_of, names_of, state_names}
+use Rattle.der_model.specs.Paths.{path_text, path_of, names_of}
 use Rattle.der_codec.specs.Levels.{IsSpot, IsLevel, AreLevels, inwards, rest_of}
 use Rattle.der_codec.specs.Decoding.{IsOpen, AwaitsValue}
 use Rattle.der_model.specs.OpenParts.{components_of}

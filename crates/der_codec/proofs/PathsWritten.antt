@@ -1,12 +1,10 @@
 -- A path, name by name.
-use Rattle.std.specs.Prelude.{Result, Ok, Err, OnOk, slice_get, if◌then◌else◌, codes}
-use Rattle.std.proofs.Common.{◌≡◌, ℕ, zero, suc, ◌<◌, ◌+◌, Bool, true, false, List, [], ◌∷◌, ◌++◌, length, Option, Some, None, refl, sym, ap, ◌∙◌, subst, arith, append-nil, append_assoc, length-append}
+use Rattle.std.specs.Prelude.{Result, Ok, Err, OnOk, slice_get, if◌then◌else◌}
+use Rattle.std.proofs.Common.{◌≡◌, ℕ, true, false, List, [], ◌∷◌, ◌++◌, Option, Some, refl, sym, ap, ◌∙◌, subst, arith, append-nil, append_assoc, length-append}
 use Rattle.std.specs.Fmt.{decimal}
 use Rattle.facets.specs.declared.simple.Simple.{Simple}
 use Rattle.reference_check.specs.Forms as graph
 use Rattle.reference_check.specs.Forms.{Graph, form_slots}
-use Rattle.message_model.specs.Views.{slot_view}
-use Rattle.message_model.specs.declared.model.Slot.{Slot as Told}
 use Rattle.der_model.specs.Structures.{is_single}
 use Rattle.der_model.specs.States.{Name, Numbered, ListName, AttributeName}
 use Rattle.der_model.specs.Paths.{name_text, names_text, path_text}

@@ -1,11 +1,10 @@
 -- The walk over the parts of whole DER: what is known behind one part more.
-use Rattle.std.proofs.Common.{◌≡◌, ℕ, suc, ◌+◌, ◌-◌, ◌≤◌, ◌<◌, ◌^◌, Bool, true, false, List, [], ◌∷◌, ◌++◌, length, drop, take, Some, None, refl, sym, ap, ◌∙◌, subst, arith, append_assoc, append-nil, length-append}
+use Rattle.std.proofs.Common.{◌≡◌, ℕ, ◌+◌, ◌-◌, ◌≤◌, Bool, true, List, [], ◌∷◌, ◌++◌, length, drop, take, refl, sym, ap, ◌∙◌, subst, arith, append_assoc, append-nil, length-append}
 use Rattle.std.proofs.lemmas.List.{length-drop, length-take, drop_at, take-append-drop}
-use Rattle.data_types.specs.Leaf.{Leaf}
-use Rattle.data_types.specs.Value.{Edge, Piece, Begins, Holds, Ends}
+use Rattle.data_types.specs.Value.{Piece}
 use Rattle.inst_pool.specs.Pieces.{open_in, open_behind}
-use Rattle.der_octets.specs.Octets.{Tag, universal, identifier, length_octets, IsShortTag, IsShortLength}
-use Rattle.der_octets.proofs.Headers.{identifier_end, length_octets_end, some_identifier}
+use Rattle.der_octets.specs.Octets.{Tag, identifier, length_octets, IsShortTag, IsShortLength}
+use Rattle.der_octets.proofs.Headers.{identifier_end}
 use Rattle.reference_check.specs.Words.{UpTo}
 use Rattle.der_model.specs.DerMessage.{DerMessage}
 use Rattle.der_model.specs.Structures as structures
@@ -13,20 +12,12 @@ use Rattle.der_model.specs.Structures.{structure}
 use Rattle.der_model.specs.States as states
 use Rattle.der_model.specs.States.{Part, Identifier, Length, End, part_octets, Name, State, Start, AwaitsLength, AwaitsContents, Within, Answer, level_answer, begun, names_in, state_after, innermost_end, Stands, end_from}
 use Rattle.der_model.specs.Faults.{Front, IsClean}
-use Rattle.der_model.specs.ShownPieces.{PartShows, PartsShow, begin_each, end_each, component_elements, elements_begun, elements_ended, IsLeafIn}
-use Rattle.der_model.specs.NestedPieces.{Nests, open_elements, elements_around}
+use Rattle.der_model.specs.ShownPieces.{PartShows, begin_each, end_each, component_elements, elements_begun, elements_ended}
+use Rattle.der_model.specs.NestedPieces.{open_elements}
 use Rattle.der_model.proofs.WholeValues.{front_then}
 use Rattle.der_model.proofs.ShownPieces.{one_more_shows}
 use Rattle.der_model.proofs.NestedPieces.{front_nests, nests_found}
-use Rattle.der_codec.specs.Decoding.{IsAdvanced}
-use Rattle.der_codec.specs.Components.{IsFound}
-use Rattle.der_codec.specs.Levels.{IsSpot, IsLevel, AreLevels}
 use Rattle.der_codec.specs.Filling.{Reaches}
-use Rattle.der_codec.specs.declared.components.Found.TheVariants as found
-use Rattle.der_codec.specs.declared.components.Added.{Added}
-use Rattle.lexical_core.specs.declared.rule.Rule.{Rule}
-use Rattle.der_codec.specs.declared.level.Spot.{Spot}
-use Rattle.der_codec.specs.declared.level.Level.{Level}
 
 pub behind_part : (bytes : List ℕ) (place : ℕ) (part after : List ℕ) → place ≤ length bytes → drop place bytes ≡ part ++ after → drop (place + length part) bytes ≡ after
 behind_part bytes place part after low e =

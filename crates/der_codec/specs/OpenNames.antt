@@ -4,7 +4,7 @@ use Rattle.facets.specs.declared.simple.Simple.{Simple}
 use Rattle.reference_check.specs.Forms as graph
 use Rattle.reference_check.specs.Forms.{Graph, form_slots}
 use Rattle.der_model.specs.DerMessage.{DerMessage}
-use Rattle.der_model.specs.Structures.{Component, Label, Unnamed, Structure, Holds, Fields, OneOf, Items, Empty, structure, is_single}
+use Rattle.der_model.specs.Structures.{Component, Label, Unnamed, Structure, structure, is_single}
 use Rattle.der_model.specs.States.{Name, Numbered, ListName, AttributeName, State, Start, AwaitsLength, AwaitsContents, Within, names_in}
 use Rattle.der_model.specs.States as states
 use Rattle.der_model.specs.OpenParts.{components_of}

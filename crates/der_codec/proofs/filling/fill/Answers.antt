@@ -1,7 +1,4 @@
-use Rattle.std.proofs.Common.{◌≡◌, [], sym, ◌∙◌, ap, subst, refl}
-use Rattle.data_types.specs.Value.{Piece}
-use Rattle.inst_pool.specs.Pieces.{Region}
-use Rattle.message_model.specs.Tables.{types_of}
+use Rattle.std.proofs.Common.{sym, ◌∙◌, ap, subst}
 use Rattle.der_model.specs.DerMessage.{der_message}
 use Rattle.der_model.specs.States.{Start}
 use Rattle.der_codec.specs.Levels.{inwards}

@@ -1,4 +1,4 @@
-use Rattle.std.proofs.Common.{sym, ◌∙◌, ap, ◌++◌, ◌∷◌}
+use Rattle.std.proofs.Common.{sym, ◌∙◌, ap, ◌++◌}
 use Rattle.der_codec.proofs.FrontsRead.{no_length_cut, no_length_bad, left_none}
 use Rattle.der_codec.proofs.fronts.length_at.Goals as goal
 

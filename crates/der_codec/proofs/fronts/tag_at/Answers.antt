@@ -1,4 +1,4 @@
-use Rattle.std.proofs.Common.{sym, ◌∙◌, ap, ◌++◌, ◌∷◌}
+use Rattle.std.proofs.Common.{sym, ◌∙◌, ap, ◌++◌}
 use Rattle.der_codec.proofs.FrontsRead.{no_tag_cut, no_tag_bad, left_none}
 use Rattle.der_codec.proofs.fronts.tag_at.Goals as goal
 

@@ -1,4 +1,4 @@
-use Rattle.std.proofs.Common.{◌≡◌, ◌+◌, ◌-◌, ◌∷◌, ◌++◌, length, sym, ◌∙◌, ap, arith}
+use Rattle.std.proofs.Common.{◌-◌, ◌∷◌, ◌++◌, length, sym, ◌∙◌, ap, arith}
 use Rattle.fragments.specs.Fragment.{fragment}
 use Rattle.inst_pool.specs.Pieces.{Region}
 use Rattle.der_octets.specs.TagSteps.{tag_view}

@@ -1,8 +1,7 @@
-use Rattle.std.proofs.Common.{◌≡◌, sym, ◌∙◌, ap, subst, ◌++◌}
-use Rattle.message_model.specs.Tables.{types_of}
+use Rattle.std.proofs.Common.{sym, ◌∙◌, ap, subst}
 use Rattle.der_model.specs.DerMessage.{der_message}
 use Rattle.der_model.specs.States.{Within}
-use Rattle.der_codec.specs.Levels.{inwards, first_of, rest_of}
+use Rattle.der_codec.specs.Levels.{inwards, first_of}
 use Rattle.der_codec.specs.Filling.{Reaches}
 use Rattle.der_codec.proofs.PiecesOpen.{on_ok_when}
 use Rattle.der_codec.proofs.Filled.{value_ends}
