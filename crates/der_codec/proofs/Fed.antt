@@ -262,6 +262,49 @@ joined zero xs = refl
 joined (suc n) [] = refl
 joined (suc n) (x ∷ xs) = ap (λ z. x ∷ z) (joined n xs)
 
+-- ---- what is taken behind a byte of a header
+
+pub none_more : (T : Tables) (d : Decoder) (kept bytes behind : List ℕ) → IsReading T d kept bytes → IsReading T d kept (bytes ++ take 0 behind)
+none_more T d kept bytes behind h = subst (IsReading T d kept) (sym (append-nil bytes)) h
+
+pub further_stops : (T : Tables) (d : Decoder) (bytes front behind all : List ℕ) (s : Stop) → all ≡ front ++ behind → StopsWithin T d (bytes ++ front) s → StopsWithin T d (bytes ++ all) s
+further_stops T d bytes front behind all s is h = within_more T d (bytes ++ front) behind (bytes ++ all) s (ap (λ z. bytes ++ z) is ∙ sym (append_assoc bytes front behind)) h
+
+take_none : (n : ℕ) → take {A = ℕ} n [] ≡ []
+take_none zero = refl
+take_none (suc n) = refl
+
+-- a front, and a front of what is behind it
+take_further : (n k : ℕ) (xs : List ℕ) → take (n + k) xs ≡ take n xs ++ take k (drop n xs)
+take_further zero k xs = (let e : 0 + k ≡ k = omega arith in ap (λ z. take z xs) e)
+take_further (suc n) k [] = take_none (suc n + k) ∙ sym (take_none k)
+take_further (suc n) k (x ∷ xs) = (let e : suc n + k ≡ suc (n + k) = omega arith in ap (λ z. take z (x ∷ xs)) e ∙ ap (λ z. x ∷ z) (take_further n k xs))
+
+pub taken_further : (T : Tables) (d : Decoder) (kept bytes behind left : List ℕ) (n k : ℕ) → left ≡ drop n behind → IsReading T d kept ((bytes ++ take n behind) ++ take k left) → IsReading T d kept (bytes ++ take (n + k) behind)
+taken_further T d kept bytes behind left n k is h =
+    subst (IsReading T d kept) (append_assoc bytes (take n behind) (take k left) ∙ ap (λ z. bytes ++ z) (ap (λ z. take n behind ++ take k z) is ∙ sym (take_further n k behind))) h
+
+pub stopped_further : (T : Tables) (d : Decoder) (bytes behind left : List ℕ) (n : ℕ) (s : Stop) → left ≡ drop n behind → StopsWithin T d ((bytes ++ take n behind) ++ left) s → StopsWithin T d (bytes ++ behind) s
+stopped_further T d bytes behind left n s is h =
+    subst (λ z. StopsWithin T d z s) (append_assoc bytes (take n behind) left ∙ ap (λ z. bytes ++ z) (ap (λ z. take n behind ++ z) is ∙ sym (joined n behind))) h
+
+pub stopped_early : (T : Tables) (d : Decoder) (bytes behind : List ℕ) (n : ℕ) (s : Stop) → IsStopped (der_message T) d (bytes ++ take n behind) s → IsNoCut s → StopsWithin T d (bytes ++ behind) s
+stopped_early T d bytes behind n s stops other =
+    stop_within T d (bytes ++ take n behind) (drop n behind) (bytes ++ behind) s (ap (λ z. bytes ++ z) (joined n behind) ∙ sym (append_assoc bytes (take n behind) (drop n behind))) stops other
+
+-- a byte, and a front of what is behind it
+pub taken_behind : (T : Tables) (old new : DerChecker) (piece behind : List ℕ) (o n : ℕ) → piece ≡ o ∷ behind → n ≤ length behind → fed old + length piece ≤ 2 ^ 40 → new.failed ≡ old.failed
+    → ((bytes : List ℕ) → HasFed old T bytes → IsReading T new.decoder new.kept.items ((bytes ++ o ∷ []) ++ take n behind)) → TakesFront T old new piece (Ok (1 + n))
+taken_behind T old new piece behind o n is within room same go =
+    let e : suc n ≡ 1 + n = omega arith in
+    let size = ap length is in
+    taken_front T old new piece (o ∷ take n behind) (1 + n) (ap (λ z. take z (o ∷ behind)) e ∙ ap (take (1 + n)) (sym is)) (omega (arith, size, within)) room same
+    (λ bytes h. subst (IsReading T new.decoder new.kept.items) (append_assoc bytes (o ∷ []) (take n behind)) (go bytes h))
+
+pub stopped_behind : (T : Tables) (old new : DerChecker) (piece behind : List ℕ) (o : ℕ) (s : Stop) → piece ≡ o ∷ behind → ((bytes : List ℕ) → HasFed old T bytes → StopsWithin T new.decoder ((bytes ++ o ∷ []) ++ behind) s) → TakesFront T old new piece (Err s)
+stopped_behind T old new piece behind o s is stops =
+    stopped_front T old new piece piece [] s (sym (append-nil piece)) (λ bytes h. subst (λ z. StopsWithin T new.decoder z s) (append_assoc bytes (o ∷ []) behind ∙ ap (λ z. bytes ++ z) (sym is)) (stops bytes h))
+
 -- ---- a whole piece
 
 -- these bytes and a front of the piece were given, and the rest is left

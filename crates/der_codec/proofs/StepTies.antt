@@ -1,6 +1,6 @@
 -- The steps of the reader, as its functions have them.
 use Rattle.std.specs.Prelude.{Result, Ok, Err, IfOk, IfErr}
-use Rattle.std.proofs.Common.{◌≡◌, ℕ, ◌+◌, ◌<◌, Bool, true, false, List, [], ◌∷◌, ◌++◌, Some, None, refl, sym, ap, ◌∙◌, subst, arith}
+use Rattle.std.proofs.Common.{◌≡◌, ℕ, ◌+◌, ◌<◌, Bool, true, false, List, [], ◌∷◌, ◌++◌, length, take, Some, None, refl, sym, ap, ◌∙◌, subst, arith, append-nil}
 use Rattle.lexical_core.specs.declared.rule.Rule.{Rule}
 use Rattle.lexical_core.specs.declared.rule.Rule.TheVariants.{Overrun, UnexpectedTag}
 use Rattle.der_octets.specs.Octets.{universal, identifier}
@@ -10,18 +10,20 @@ use Rattle.der_octets.specs.LengthSteps as lengths
 use Rattle.der_octets.specs.declared.tag_step.TagStep.{TagStep}
 use Rattle.der_octets.specs.declared.tag_step.Identifier as ids
 use Rattle.der_octets.specs.declared.length_step.LengthStep.{LengthStep}
+use Rattle.der_octets.proofs.LengthStepLemmas.{one_octet}
 use Rattle.der_model.specs.States as states
 use Rattle.der_model.specs.States.{level_answer}
 use Rattle.reference_check.specs.Words.{UpTo}
 use Rattle.der_model.specs.DerMessage.{DerMessage}
 use Rattle.der_codec.specs.Levels.{IsLevel, first_of, rest_of}
 use Rattle.der_codec.specs.Components.{IsFound, added_text}
-use Rattle.der_codec.specs.Decoding.{Reads, Fails, IsBelow, IsPast, end_of_first, IsAdvanced, HasIdentifier, HasLength, IsOutermost, AwaitsInstance}
+use Rattle.der_codec.specs.Decoding.{Reads, Fails, HasRead, IsBelow, IsPast, end_of_first, IsAdvanced, HasIdentifier, HasLength, IsOutermost, AwaitsInstance}
 use Rattle.der_codec.specs.declared.components.Found.TheVariants as found
 use Rattle.der_codec.specs.declared.components.Added.{Added}
 use Rattle.der_codec.specs.declared.level.Spot.{Spot}
 use Rattle.der_codec.specs.declared.level.Spot.TheVariants as spots
 use Rattle.der_codec.specs.declared.level.Level.{Level}
+use Rattle.der_codec.specs.declared.decoder.Decoder.{Decoder}
 use Rattle.der_codec.specs.declared.decoder.Due.{Due}
 use Rattle.der_codec.specs.declared.decoder.Due.TheVariants as due
 use Rattle.der_codec.proofs.Steps.{overrun_length, begun_read, tag_breaks, outermost_read, outermost_breaks, opened_read, primitive_read, too_long}
@@ -111,6 +113,21 @@ pub open_constructed : (m : DerMessage ℕ) (x : Level) (xs : List Level) (d : D
 open_constructed m x xs (due.Length false spot1 step) spot fresh start place n bytes o r c is has fits a b e f new = absurd (let q = has.0 ∙ is in cc)
 open_constructed m x xs (due.Length true spot1 step) spot fresh start place n bytes o r c is has fits a b e f new = opened_read m x xs spot1 step fresh start place n bytes o r has.2 has.3 fits (a ∙ sym has.1) b e f new
 open_constructed m x xs d spot fresh start place n bytes o r c is has fits a b e f new = absurd has
+
+empty : (xs : List ℕ) → length xs ≡ 0 → xs ≡ []
+empty [] e = refl
+empty (x ∷ xs) e = absurd (omega arith)
+
+-- an octet below 128 is a whole length, where none of it has come
+pub short_has : (m : DerMessage ℕ) (xs : List Level) (d : Due) (c : Bool) (spot : Spot) (step : LengthStep) (start place : ℕ) (bytes : List ℕ) (o n : ℕ) (r : Reads m xs d start place bytes) → d ≡ due.Length c spot step → start ≡ place → o < 128 → n ≡ o → HasLength d c spot r.rest o n
+short_has m xs d c spot step start place bytes o n r is none low same =
+    let rest : r.rest ≡ [] = empty r.rest (let a = r.start_is in let b = r.place_is in omega arith) in
+    let one = one_octet o low in
+    subst (λ z. HasLength d c spot r.rest o z) (sym same) (subst (λ z. HasLength z c spot r.rest o o) (sym is) (refl, refl, one.0, ap (λ z. z ++ o ∷ []) rest ∙ one.1))
+
+-- no octet more
+pub none_read : (m : DerMessage ℕ) (d : Decoder) (bytes octets : List ℕ) → HasRead m d bytes → HasRead m d (bytes ++ take 0 octets)
+none_read m d bytes octets r = subst (HasRead m d) (sym (append-nil bytes)) r
 
 pub ok_both : {A E : Type 0} (r : Result A E) (P Q : Type 0) → IfOk r (λ _. P) → IfOk r (λ _. Q) → IfOk r (λ _. P × Q)
 ok_both (Ok a) P Q p q = (p, q)

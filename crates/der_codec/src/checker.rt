@@ -1,5 +1,5 @@
 // A checker of the DER of instances that takes their bytes in pieces.
-ghost use Rattle.std.specs.Prelude.{◌≡◌, ◌<◌, ◌+◌, ◌≤◌, ◌^◌, ◌++◌, ◌⊎◌, ℕ, List, [], IfOk, IfErr, OnOk, Some, None, Err, length};
+ghost use Rattle.std.specs.Prelude.{◌≡◌, ◌<◌, ◌+◌, ◌≤◌, ◌^◌, ◌++◌, ◌⊎◌, ℕ, List, [], IfOk, IfErr, OnOk, Some, None, Err, length, take};
 ghost use Rattle.message_model.specs.Tables.{Tables, types_of};
 ghost use Rattle.der_model.specs.DerMessage.{der_message};
 ghost use Rattle.der_codec.specs.Checked.{CheckTypes};
@@ -187,7 +187,8 @@ impl DerChecker {
         Ok(())
     }
 
-    /// Takes contents octets, or else a byte from the front of the piece, and answers how many bytes that are.
+    /// Takes contents octets, or else a byte of a header and what can be taken with it, and answers how many bytes that
+    /// are.
     fn take_front(&mut self, model: &Model, piece: &[u8]) -> Result<usize, Stop>
         requires some { 0 < length piece.now }
         requires room { fed self.old + length piece.now ≤ 2 ^ 40 }
@@ -204,7 +205,8 @@ impl DerChecker {
         }
     }
 
-    /// Takes the first byte of the piece, which is one of a header, and ends the values that end behind it.
+    /// Takes the first byte of the piece, which is one of a header, with it a length of one byte and the contents where
+    /// all of them stand in the piece, and ends the values that end behind them.
     fn take_first(&mut self, model: &Model, piece: &[u8]) -> Result<usize, Stop>
         requires some { 0 < length piece.now }
         requires room { fed self.old + length piece.now ≤ 2 ^ 40 }
@@ -215,54 +217,98 @@ impl DerChecker {
         ensures front { TakesFront model.now self.old self.new piece.now result }
         ensures some { IfOk result (λ n. 0 < n) }
     {
-        let Some((byte, _behind)) = piece.split_first() else {
+        let Some((byte, behind)) = piece.split_first() else {
             return Ok(0);
         };
         match self.decoder.take_header(model, *byte) {
-            Ok(()) => match self.settle(model) {
-                Ok(()) => Ok(1),
+            Ok(()) => match self.take_behind(model, behind) {
+                Ok(count) => Ok(1 + count),
                 Err(stop) => Err(stop),
             },
             Err(stop) => Err(stop),
         }
     }
 
-    /// Judges contents of no octets, and ends the values that end here.
-    fn settle(&mut self, model: &Model) -> Result<(), Stop>
+    /// Goes on behind a byte of a header: takes a length of one byte, where one is due, and contents that stand here as
+    /// a whole, and ends the values that end behind them. It answers how many bytes more are taken.
+    fn take_behind(&mut self, model: &Model, behind: &[u8]) -> Result<usize, Stop>
+        requires room { fed self.old + length behind.now ≤ 2 ^ 40 }
         requires settled { IsSettled self.old.decoder.due self.old.decoder.place (end_of_levels self.old.decoder.levels.items) }
         requires begun { BeginsContents self.old.decoder.due self.old.decoder.start self.old.decoder.place }
         requires kept { self.old.kept.items ≡ [] }
         requires checks { CheckTypes (types_of model.now) self.old.checks }
-        requires room { fed self.old ≤ 2 ^ 40 }
         requires given { (bytes : List ℕ) × HasRead (der_message model.now) self.old.decoder bytes }
         ensures checks { CheckTypes (types_of model.now) self.new.checks }
         ensures sound { self.new.failed ≡ self.old.failed }
-        ensures ok { (bytes : List ℕ) → HasRead (der_message model.now) self.old.decoder bytes → IfOk result (λ _. IsReading model.now self.new.decoder self.new.kept.items bytes) }
-        ensures err { (bytes : List ℕ) → HasRead (der_message model.now) self.old.decoder bytes → IfErr result (λ stop. StopsWithin model.now self.new.decoder bytes stop) }
+        ensures within { IfOk result (λ n. n ≤ length behind.now) }
+        ensures ok { (bytes : List ℕ) → HasRead (der_message model.now) self.old.decoder bytes → IfOk result (λ n. IsReading model.now self.new.decoder self.new.kept.items (bytes ++ take n behind.now)) }
+        ensures err { (bytes : List ℕ) → HasRead (der_message model.now) self.old.decoder bytes → IfErr result (λ stop. StopsWithin model.now self.new.decoder (bytes ++ behind.now) stop) }
     {
-        match self.decoder.due {
-            Due::Contents { spot, left } => self.begin_contents(model, spot, left),
-            _ => self.end_open(model),
+        match self.decoder.take_short(behind) {
+            Ok(count) => {
+                let (_front, left) = behind.split_at(count);
+                match self.settle(model, left) {
+                    Ok(more) => Ok(count + more),
+                    Err(stop) => Err(stop),
+                }
+            }
+            Err(stop) => Err(stop),
         }
     }
 
-    /// Judges contents of no octets.
-    fn begin_contents(&mut self, model: &Model, spot: Spot, left: u64) -> Result<(), Stop>
+    /// Judges contents octets where all that are due stand here, and ends the values that end behind them. It answers
+    /// how many bytes are taken.
+    fn settle(&mut self, model: &Model, behind: &[u8]) -> Result<usize, Stop>
+        requires settled { IsSettled self.old.decoder.due self.old.decoder.place (end_of_levels self.old.decoder.levels.items) }
+        requires begun { BeginsContents self.old.decoder.due self.old.decoder.start self.old.decoder.place }
+        requires kept { self.old.kept.items ≡ [] }
+        requires checks { CheckTypes (types_of model.now) self.old.checks }
+        requires room { fed self.old + length behind.now ≤ 2 ^ 40 }
+        requires given { (bytes : List ℕ) × HasRead (der_message model.now) self.old.decoder bytes }
+        ensures checks { CheckTypes (types_of model.now) self.new.checks }
+        ensures sound { self.new.failed ≡ self.old.failed }
+        ensures within { IfOk result (λ n. n ≤ length behind.now) }
+        ensures ok { (bytes : List ℕ) → HasRead (der_message model.now) self.old.decoder bytes → IfOk result (λ n. IsReading model.now self.new.decoder self.new.kept.items (bytes ++ take n behind.now)) }
+        ensures err { (bytes : List ℕ) → HasRead (der_message model.now) self.old.decoder bytes → IfErr result (λ stop. StopsWithin model.now self.new.decoder (bytes ++ behind.now) stop) }
+    {
+        match self.decoder.due {
+            Due::Contents { spot, left } => self.begin_contents(model, spot, left, behind),
+            _ => match self.end_open(model) {
+                Ok(()) => Ok(0),
+                Err(stop) => Err(stop),
+            },
+        }
+    }
+
+    /// Judges contents octets of which none has come, where all of them stand here. It answers how many bytes are taken.
+    fn begin_contents(
+        &mut self,
+        model: &Model,
+        spot: Spot,
+        left: u64,
+        behind: &[u8],
+    ) -> Result<usize, Stop>
         requires due { self.old.decoder.due ≡ Due.Contents spot left }
         requires begun { self.old.decoder.start ≡ self.old.decoder.place }
         requires kept { self.old.kept.items ≡ [] }
         requires checks { CheckTypes (types_of model.now) self.old.checks }
-        requires room { fed self.old ≤ 2 ^ 40 }
+        requires room { fed self.old + length behind.now ≤ 2 ^ 40 }
         requires given { (bytes : List ℕ) × HasRead (der_message model.now) self.old.decoder bytes }
         ensures checks { CheckTypes (types_of model.now) self.new.checks }
         ensures sound { self.new.failed ≡ self.old.failed }
-        ensures ok { (bytes : List ℕ) → HasRead (der_message model.now) self.old.decoder bytes → IfOk result (λ _. IsReading model.now self.new.decoder self.new.kept.items bytes) }
-        ensures err { (bytes : List ℕ) → HasRead (der_message model.now) self.old.decoder bytes → IfErr result (λ stop. StopsWithin model.now self.new.decoder bytes stop) }
+        ensures within { IfOk result (λ n. n ≤ length behind.now) }
+        ensures ok { (bytes : List ℕ) → HasRead (der_message model.now) self.old.decoder bytes → IfOk result (λ n. IsReading model.now self.new.decoder self.new.kept.items (bytes ++ take n behind.now)) }
+        ensures err { (bytes : List ℕ) → HasRead (der_message model.now) self.old.decoder bytes → IfErr result (λ stop. StopsWithin model.now self.new.decoder (bytes ++ behind.now) stop) }
     {
-        if left > 0 {
-            return Ok(());
+        if (behind.len() as u64) < left {
+            return Ok(0);
         }
-        self.take_last(model, spot, left, &[])
+        let count = left as usize;
+        let (front, _behind) = behind.split_at(count);
+        match self.take_last(model, spot, left, front) {
+            Ok(()) => Ok(count),
+            Err(stop) => Err(stop),
+        }
     }
 
     /// Ends the values that end here, where no identifier octet has come.

@@ -1,5 +1,5 @@
 // The octets of headers, as the reader of DER takes them: X.690 §8.1.2, §8.1.3.
-ghost use Rattle.std.specs.Prelude.{◌≡◌, ◌↔◌, ◌+◌, ◌<◌, ◌≤◌, ◌^◌, ◌++◌, ◌∷◌, [], ℕ, List, IfOk, IfErr, IsErrOf, IsTrue, IsFalse, true, false, Some, None, length, take, vec_capacity};
+ghost use Rattle.std.specs.Prelude.{◌≡◌, ◌↔◌, ◌+◌, ◌<◌, ◌≤◌, ◌^◌, ◌++◌, ◌∷◌, [], ℕ, List, IfOk, IfErr, IfSome, IsErrOf, IsTrue, IsFalse, true, false, Some, None, length, take, drop, vec_capacity};
 ghost use Rattle.der_octets.specs.TagSteps as tags;
 ghost use Rattle.der_octets.specs.LengthSteps as lengths;
 ghost use Rattle.lexical_core.specs.Tree.{Tree};
@@ -185,6 +185,39 @@ impl Decoder {
         }
     }
 
+    /// Takes the length octet at the front, where a length is due of which none has come, and that octet is the
+    /// whole of it. It answers how many octets it takes.
+    pub(crate) fn take_short(&mut self, octets: &[u8]) -> Result<usize, Stop>
+        requires room { self.old.place < 2 ^ 63 }
+        requires low { IsSettled self.old.due self.old.place (end_of_levels self.old.levels.items) }
+        requires begun { BeginsContents self.old.due self.old.start self.old.place }
+        ensures ok { (m : DerMessage ℕ) (bytes : List ℕ) → HasRead m self.old bytes → IfOk result (λ n. HasRead m self.new (bytes ++ take n octets.now)) }
+        ensures err { (m : DerMessage ℕ) (bytes : List ℕ) → HasRead m self.old bytes → IfErr result (λ stop. IsStopped m self.new (bytes ++ take 1 octets.now) stop) }
+        ensures place { IfOk result (λ n. self.new.place ≡ self.old.place + n) }
+        ensures within { IfOk result (λ n. n ≤ length octets.now) }
+        ensures low { IfOk result (λ _. IsSettled self.new.due self.new.place (end_of_levels self.new.levels.items)) }
+        ensures stays { IfErr result (λ stop. IsNoCut stop) }
+        ensures begun { IfOk result (λ _. BeginsContents self.new.due self.new.start self.new.place) }
+    {
+        if self.start != self.place {
+            return Ok(0);
+        }
+        let Some(octet) = short_at(octets) else {
+            return Ok(0);
+        };
+        match self.due {
+            Due::Length {
+                constructed,
+                spot,
+                step: _,
+            } => match self.open(constructed, spot, u64::from(octet), octet) {
+                Ok(()) => Ok(1),
+                Err(stop) => Err(stop),
+            },
+            _ => Ok(0),
+        }
+    }
+
     /// Opens a value whose length has come, with this octet as the last.
     fn open(&mut self, constructed: bool, spot: Spot, n: u64, octet: u8) -> Result<(), Stop>
         requires room { self.old.place < 2 ^ 63 }
@@ -253,6 +286,17 @@ impl Decoder {
             }
         }
     }
+}
+
+/// The octet at the front, where it is a whole length.
+fn short_at(octets: &[u8]) -> Option<u8>
+    ensures { IfSome result (λ n. (n < 128) × (octets.now ≡ n ∷ drop 1 octets.now)) }
+{
+    let (octet, _behind) = octets.split_first()?;
+    if *octet < 128 {
+        return Some(*octet);
+    }
+    None
 }
 
 /// Whether these are the identifier octets of a sequence.

@@ -1,13 +1,14 @@
-use Rattle.std.proofs.Common.{append-nil, subst}
-use Rattle.std.specs.Prelude.{IfOk, IfErr}
-use Rattle.der_codec.specs.Checking.{IsReading, StopsWithin}
-use Rattle.der_codec.proofs.Fed.{fresh_keeps, fresh_reading}
+use Rattle.std.proofs.Common.{◌≡◌, ◌++◌, ◌∙◌, take, ap, sym, subst, arith}
+use Rattle.der_codec.specs.Checking.{IsReading}
+use Rattle.der_codec.proofs.Fed.{fresh_keeps, fresh_reading, none_more, further_stops, joined}
 use Rattle.der_codec.proofs.checker.DerChecker.begin_contents.Goals as goal
 
-pub returns-then-left-gt0-clause-ok : goal.returns-then-left-gt0-clause-ok
-returns-then-left-gt0-clause-ok c = λ bytes r.
+pub returns-then-behind-left-clause-ok : goal.returns-then-behind-left-clause-ok
+returns-then-behind-left-clause-ok c = λ bytes r.
     let s = c.args.self.now in
-    fresh_reading c.args.model.now s.decoder s.kept.items bytes c.args.spot c.args.left c.requires.due c.if-left-gt0.true c.requires.begun c.requires.kept r
+    let T = c.args.model.now in
+    let fewer = c.if-behind-left.true in
+    none_more T s.decoder s.kept.items bytes c.args.behind.now (fresh_reading T s.decoder s.kept.items bytes c.args.spot c.args.left c.requires.due (omega (arith, fewer)) c.requires.begun c.requires.kept r)
 
 pub take_last-requires-clause-given : goal.take_last-requires-clause-given
 take_last-requires-clause-given c =
@@ -15,16 +16,19 @@ take_last-requires-clause-given c =
     let g = c.requires.given in
     (g.0, (g.1, fresh_keeps c.args.model.now s.decoder s.kept.items g.0 c.args.spot c.args.left c.requires.due c.requires.begun c.requires.kept g.1))
 
-pub returns-clause-ok : goal.returns-clause-ok
-returns-clause-ok c = λ bytes r.
+pub returns-in-Ok-clause-ok : goal.returns-in-Ok-clause-ok
+returns-in-Ok-clause-ok c = λ bytes r.
     let s = c.args.self.now in
     let T = c.args.model.now in
     let keeps = fresh_keeps T s.decoder s.kept.items bytes c.args.spot c.args.left c.requires.due c.requires.begun c.requires.kept r in
-    subst (λ z. IfOk c.take_last.result (λ _. IsReading T c.take_last.new.self.decoder c.take_last.new.self.kept.items z)) (append-nil bytes) (c.take_last.ensures.ok bytes (r, keeps))
+    subst (λ z. IsReading T c.take_last.new.self.decoder c.take_last.new.self.kept.items (bytes ++ z)) c.split_at.ensures.front (c.in-Ok.ensures.ok bytes (r, keeps))
 
-pub returns-clause-err : goal.returns-clause-err
-returns-clause-err c = λ bytes r.
+pub returns-in-Err-clause-err : goal.returns-in-Err-clause-err
+returns-in-Err-clause-err c = λ bytes r.
     let s = c.args.self.now in
     let T = c.args.model.now in
+    let front = c.split_at.result.0.now in
+    let behind = c.split_at.result.1.now in
     let keeps = fresh_keeps T s.decoder s.kept.items bytes c.args.spot c.args.left c.requires.due c.requires.begun c.requires.kept r in
-    subst (λ z. IfErr c.take_last.result (λ stop. StopsWithin T c.take_last.new.self.decoder z stop)) (append-nil bytes) (c.take_last.ensures.err bytes (r, keeps))
+    let whole : c.args.behind.now ≡ front ++ behind = joined c.args.left c.args.behind.now ∙ (ap (λ z. take c.args.left c.args.behind.now ++ z) (sym c.split_at.ensures.back) ∙ ap (λ z. z ++ behind) (sym c.split_at.ensures.front)) in
+    further_stops T c.take_last.new.self.decoder bytes front behind c.args.behind.now c.in-Err.stop whole (c.in-Err.ensures.err bytes (r, keeps))

@@ -1,0 +1,23 @@
+use Rattle.std.proofs.Common.{◌++◌, refl, sym, subst, arith}
+use Rattle.message_model.specs.Tables.{types_of}
+use Rattle.der_codec.specs.Checked.{CheckTypes}
+use Rattle.der_codec.proofs.Fed.{none_more, within_more}
+use Rattle.der_codec.proofs.checker.DerChecker.settle.Goals as goal
+
+pub returns-in-Ok : goal.returns-in-Ok
+returns-in-Ok c = record {
+  checks = subst (CheckTypes (types_of c.args.model.now)) (sym c.in-Ok.ensures.checks) c.requires.checks;
+  sound = c.in-Ok.ensures.sound;
+  within = omega arith;
+  ok = λ bytes r. none_more c.args.model.now c.end_open.new.self.decoder c.end_open.new.self.kept.items bytes c.args.behind.now (c.in-Ok.ensures.ok bytes r);
+  err = λ bytes r. tt;
+}
+
+pub returns-in-Err : goal.returns-in-Err
+returns-in-Err c = record {
+  checks = subst (CheckTypes (types_of c.args.model.now)) (sym c.in-Err.ensures.checks) c.requires.checks;
+  sound = c.in-Err.ensures.sound;
+  within = tt;
+  ok = λ bytes r. tt;
+  err = λ bytes r. within_more c.args.model.now c.end_open.new.self.decoder bytes c.args.behind.now (bytes ++ c.args.behind.now) c.in-Err.stop refl (c.in-Err.ensures.err bytes r);
+}
