@@ -1,6 +1,6 @@
 -- The steps of the reader, as its functions have them.
 use Rattle.std.specs.Prelude.{Result, Ok, Err, IfOk, IfErr}
-use Rattle.std.proofs.Common.{◌≡◌, ℕ, ◌+◌, ◌<◌, Bool, true, false, List, [], ◌∷◌, ◌++◌, length, take, Some, None, refl, sym, ap, ◌∙◌, subst, arith, append-nil}
+use Rattle.std.proofs.Common.{◌≡◌, ℕ, ◌+◌, ◌<◌, Bool, true, false, List, [], ◌∷◌, ◌++◌, length, Some, None, refl, sym, ap, ◌∙◌, subst, arith}
 use Rattle.lexical_core.specs.declared.rule.Rule.{Rule}
 use Rattle.lexical_core.specs.declared.rule.Rule.TheVariants.{Overrun, UnexpectedTag}
 use Rattle.der_octets.specs.Octets.{universal, identifier}
@@ -17,13 +17,12 @@ use Rattle.reference_check.specs.Words.{UpTo}
 use Rattle.der_model.specs.DerMessage.{DerMessage}
 use Rattle.der_codec.specs.Levels.{IsLevel, first_of, rest_of}
 use Rattle.der_codec.specs.Components.{IsFound, added_text}
-use Rattle.der_codec.specs.Decoding.{Reads, Fails, HasRead, IsBelow, IsPast, end_of_first, IsAdvanced, HasIdentifier, HasLength, IsOutermost, AwaitsInstance}
+use Rattle.der_codec.specs.Decoding.{Reads, Fails, IsBelow, IsPast, end_of_first, IsAdvanced, HasIdentifier, HasLength, IsOutermost, AwaitsInstance}
 use Rattle.der_codec.specs.declared.components.Found.TheVariants as found
 use Rattle.der_codec.specs.declared.components.Added.{Added}
 use Rattle.der_codec.specs.declared.level.Spot.{Spot}
 use Rattle.der_codec.specs.declared.level.Spot.TheVariants as spots
 use Rattle.der_codec.specs.declared.level.Level.{Level}
-use Rattle.der_codec.specs.declared.decoder.Decoder.{Decoder}
 use Rattle.der_codec.specs.declared.decoder.Due.{Due}
 use Rattle.der_codec.specs.declared.decoder.Due.TheVariants as due
 use Rattle.der_codec.proofs.Steps.{overrun_length, begun_read, tag_breaks, outermost_read, outermost_breaks, opened_read, primitive_read, too_long}
@@ -124,10 +123,6 @@ short_has m xs d c spot step start place bytes o n r is none low same =
     let rest : r.rest ≡ [] = empty r.rest (let a = r.start_is in let b = r.place_is in omega arith) in
     let one = one_octet o low in
     subst (λ z. HasLength d c spot r.rest o z) (sym same) (subst (λ z. HasLength z c spot r.rest o o) (sym is) (refl, refl, one.0, ap (λ z. z ++ o ∷ []) rest ∙ one.1))
-
--- no octet more
-pub none_read : (m : DerMessage ℕ) (d : Decoder) (bytes octets : List ℕ) → HasRead m d bytes → HasRead m d (bytes ++ take 0 octets)
-none_read m d bytes octets r = subst (HasRead m d) (sym (append-nil bytes)) r
 
 pub ok_both : {A E : Type 0} (r : Result A E) (P Q : Type 0) → IfOk r (λ _. P) → IfOk r (λ _. Q) → IfOk r (λ _. P × Q)
 ok_both (Ok a) P Q p q = (p, q)
