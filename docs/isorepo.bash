@@ -4,7 +4,7 @@ _isorepo() {
     local -a wanted=()
     COMPREPLY=()
     if [ "$COMP_CWORD" = 1 ]; then
-        mapfile -t COMPREPLY < <(compgen -W 'list types xsd asn1 check-xml check-der canon-xml xml-to-der der-to-xml import show check-all help --version explain install' -- "$word")
+        mapfile -t COMPREPLY < <(compgen -W 'list types xsd asn1 check-xml check-der canon-xml xml-to-der der-to-xml drill import show check-all help try --version explain install' -- "$word")
         return
     fi
     case ${COMP_WORDS[1]} in
@@ -17,9 +17,11 @@ _isorepo() {
     canon-xml) wanted=(REPO CODES MSGID) ;;
     xml-to-der) wanted=(REPO CODES MSGID) ;;
     der-to-xml) wanted=(REPO CODES MSGID) ;;
+    drill) wanted=(NUMBER SIZE) ;;
     import) wanted=(SCHEMA..) ;;
     show) wanted=(REPO CODES MSGID FILE) ;;
     check-all) wanted=(REPO CODES MSGID FILES..) ;;
+    try) wanted=(COMMAND WORDS..) ;;
     explain) wanted=(RULE) ;;
     install) wanted=(DIR) ;;
     esac

@@ -33,7 +33,7 @@ fn main(rt: HostRuntime) -> ExitCode {
     // Where a standard stream is closed, this folder takes its place, and not a file that is opened
     // later: it can be neither read nor written.
     let _folder = fs::open(&rt, "/");
-    let Ok(mut repo) = opened(&rt, words.get(1)) else {
+    let Ok(mut repo) = opened(&rt, repository_word(&words)) else {
         return ExitCode::from(NO_MEMORY);
     };
     let Ok(mut codes) = opened(&rt, codes_word(&words)) else {
@@ -62,10 +62,26 @@ fn failure_of(error: &io::Error) -> u8 {
     }
 }
 
-/// The word that names the file of external codes: the third, but for `-`, which names none.
+/// Whether the words ask for a drill, whose other words name no file.
+fn is_drill(words: &Vec<String>) -> bool {
+    match words.get(0) {
+        Some(word) => word.as_str() == "drill",
+        None => false,
+    }
+}
+
+/// The word that names the repository: the second, but for a drill.
+fn repository_word(words: &Vec<String>) -> Option<&String> {
+    if is_drill(words) {
+        return None;
+    }
+    words.get(1)
+}
+
+/// The word that names the file of external codes: the third, but for `-`, which names none, and for a drill.
 fn codes_word(words: &Vec<String>) -> Option<&String> {
     let word = words.get(2)?;
-    if word.as_str() == "-" {
+    if word.as_str() == "-" || is_drill(words) {
         None
     } else {
         Some(word)

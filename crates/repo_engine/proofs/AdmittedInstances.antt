@@ -1,20 +1,12 @@
 -- The bytes that are accepted are XML of the trees that the schema admits.
-use Rattle.std.proofs.Common.{◌≡◌, ◌↔◌, ◌≤◌, ℕ, List, length}
 use Rattle.lexical_core.specs.Tree.{Tree}
-use Rattle.data_types.specs.Value.{Value}
-use Rattle.repo_objects.specs.Repository.{Contents}
-use Rattle.message_model.specs.Admits.{AdmitsAs}
-use Rattle.message_model.specs.Tables.{Tables, types_of, namespace_of}
-use Rattle.message_model.specs.Writes.{WritesAs}
 use Rattle.message_model.proofs.SoundTables.{tables_sound}
 use Rattle.xsd_model.specs.SchemaOf.{schema_of}
 use Rattle.xsd_model.specs.Trees.{IsValid}
 use Rattle.xsd_model.proofs.ReadySchema.{sound_names}
 use Rattle.xsd_model.proofs.SchemaLaw.{admitted_trees, written_trees}
-use Rattle.xml_instances.specs.XmlFaults.{limit}
 use Rattle.respell.specs.Laws.{WholeIsPlain}
 use Rattle.transcoder.specs.Checked.{IsAccepted}
-use Rattle.repo_engine.specs.Answer.{GivesTables}
 use Rattle.repo_engine.specs.SchemaLaw.{SpellsTree, SchemaAdmitsWhatIsAccepted}
 
 pub schema_admits_what_is_accepted : WholeIsPlain → SchemaAdmitsWhatIsAccepted

@@ -1,16 +1,13 @@
 -- How a push ends a command, and what an earlier step's stop is to the whole.
-use Rattle.std.proofs.Common.{◌≡◌, ◌≢◌, ◌⊎◌, inl, inr, ℕ, ◌≤◌, Bool, true, false, List, [], Option, Some, None, Result, Ok, Err, refl, sym, ap, ◌∙◌, subst, length, take, append-nil, arith}
+use Rattle.std.proofs.Common.{◌≡◌, inl, inr, ℕ, List, [], Option, Some, None, Result, Ok, Err, refl, sym, take, append-nil, arith}
 use Rattle.std.specs.Io.KnownBytes.{Appends, Keeps}
-use Rattle.outside.specs.Source.{Rose}
-use Rattle.outside.specs.Sink.{AppendsFront}
 use Rattle.outside.specs.Pushes.{Pushes}
 use Rattle.outside.specs.declared.errors.SinkError.{SinkError}
 use Rattle.outside.specs.declared.errors.SinkError.TheVariants as sink
 use Rattle.repo_engine.specs.declared.refusal.Stop.{Stop}
 use Rattle.repo_engine.specs.declared.refusal.Stop.TheVariants.{Refused, ReadFault, WriteFault, Memory}
-use Rattle.repo_engine.specs.declared.refusal.Refusal.{Refusal}
-use Rattle.repo_engine.specs.Arms.{IsOfInput, StopsBy, end_of, sink_stop}
-use Rattle.repo_engine.specs.Run.{End, GoesOut, LeavesOut, Tells}
+use Rattle.repo_engine.specs.Arms.{IsOfInput, StopsBy, end_of}
+use Rattle.repo_engine.specs.Run.{End, GoesOut, Tells}
 use Rattle.repo_engine.specs.Verdict.{Verdict, accepted, refused}
 
 -- the push of the text of an accepted command ends it

@@ -1,5 +1,6 @@
 pub mod Readings
 pub mod Lists
+pub mod NumberDigits
 pub mod Ends
 pub mod Steps
 pub mod Performing

@@ -1,5 +1,5 @@
 -- The steps of the commands of one message.
-use Rattle.std.proofs.Common.{◌≡◌, ◌≢◌, ◌⊎◌, inl, inr, ℕ, Bool, true, false, List, [], Option, Some, None, Result, Ok, Err, codes, refl, sym, ap, ◌∙◌, subst, append-nil}
+use Rattle.std.proofs.Common.{◌≡◌, ◌≢◌, inl, inr, ℕ, Bool, List, [], Option, Some, None, Result, Ok, Err, codes, refl, sym, subst, append-nil}
 use Rattle.std.specs.Prelude.{IfErr, IfSome}
 use Rattle.std.specs.Io.KnownBytes.{Appends, Keeps}
 use Rattle.outside.specs.declared.errors.SinkError.{SinkError}
@@ -7,15 +7,14 @@ use Rattle.outside.specs.declared.errors.SinkError.TheVariants as sink
 use Rattle.repo_objects.specs.Repository.{Contents}
 use Rattle.reference_check.specs.declared.reached.ReadyError.{ReadyError}
 use Rattle.reference_check.specs.declared.reached.ReadyError.TheVariants as ready
-use Rattle.reference_check.specs.Reached.{place_id}
-use Rattle.message_model.specs.Ready.{TellsRefused, number_of}
+use Rattle.message_model.specs.Ready.{TellsRefused}
 use Rattle.message_model.specs.Tables.{Tables}
 use Rattle.message_model.specs.declared.fault.Fault.{Fault}
 use Rattle.transcoder.specs.Reading.{RefusesBy}
 use Rattle.transcoder.specs.declared.check_error.CheckError.{CheckError}
 use Rattle.transcoder.specs.declared.check_error.CheckError.TheVariants as check
 use Rattle.repo_engine.specs.Answer.{FromMessage, RefusesMessage, GivesTables}
-use Rattle.repo_engine.specs.Arms.{GivesMessage, IsOfInput, IsReadAs, unread, read, RefusesRepository, RefusesUpToMessage, StopsBy, check_stop, end_of, ready_stop}
+use Rattle.repo_engine.specs.Arms.{GivesMessage, IsOfInput, IsReadAs, unread, read, RefusesUpToMessage, StopsBy, check_stop, end_of, ready_stop}
 use Rattle.repo_engine.specs.Run.{End, Tells}
 use Rattle.repo_engine.specs.Sources.{Use, Untouched, Ended, Whole, Failing, Refusing, IsRead, AreRead, one, both, AreReadInTurn, before, behind, ended_of, stop_ended}
 use Rattle.repo_engine.specs.Steps.{Then, refused, goes_on}
@@ -23,7 +22,6 @@ use Rattle.repo_engine.specs.Verdict.{Verdict, accepted}
 use Rattle.repo_engine.specs.Verdict as verdict
 use Rattle.repo_engine.specs.declared.refusal.Stop.{Stop}
 use Rattle.repo_engine.specs.declared.refusal.Stop.TheVariants.{Refused, ReadFault, WriteFault, Memory}
-use Rattle.repo_engine.specs.declared.refusal.Refusal.{Refusal}
 use Rattle.repo_engine.specs.declared.refusal.Refusal.TheVariants as refusal
 use Rattle.repo_engine.proofs.Steps.{from_refused, from_given}
 

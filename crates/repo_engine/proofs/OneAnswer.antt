@@ -1,5 +1,5 @@
 -- Words and bytes have at most one answer: each step refuses in one way or gives one thing, and not both.
-use Rattle.std.proofs.Common.{◌≡◌, ℕ, List, [], sym, ap, subst, ◌∙◌, inl, inr}
+use Rattle.std.proofs.Common.{◌≡◌, ℕ, List, [], length, sym, ap, subst, ◌∙◌, inl, inr}
 use Rattle.repo_objects.specs.Repository.{Contents}
 use Rattle.repo_loader.specs.Laws.{OneRepository, OneLoadFault, SpelledHasNone}
 use Rattle.repo_loader.specs.Loaded.{Spells}
@@ -12,8 +12,13 @@ use Rattle.message_model.specs.Tables.{Tables, message_of}
 use Rattle.data_types.specs.Value.{Value}
 use Rattle.transcoder.specs.Laws.{OneVerdict, HaveOneVerdict, OneDerVerdict, HaveOneDerVerdict, AreSoundTypes}
 use Rattle.xml_writer.specs.Laws.{OneCanonicalXml}
-use Rattle.repo_engine.specs.Answer.{Answer, Of, OfVerb, FromXml, RefusesAsXml, GivesXmlValue, FromDer, RefusesAsDer, GivesDerValue, IsFine, GivesXml, GivesDer, FromRepository, RefusesFile, RefusesCodes, GivesJoined, RefusesMessage, GivesTables}
-use Rattle.repo_engine.specs.Command.{Command, list, message}
+use Rattle.drill.specs.BuiltIn.{tables}
+use Rattle.drill.specs.Drilled.{IsDrilled}
+use Rattle.drill.specs.Growing.{instance}
+use Rattle.drill.specs.declared.drilling.Drilled.{Drilled}
+use Rattle.repo_engine.specs.Texts.{drill_text}
+use Rattle.repo_engine.specs.Answer.{Answer, Of, OfVerb, Drills, FromXml, RefusesAsXml, GivesXmlValue, FromDer, RefusesAsDer, GivesDerValue, IsFine, GivesXml, GivesDer, FromRepository, RefusesFile, RefusesCodes, GivesJoined, RefusesMessage, GivesTables}
+use Rattle.repo_engine.specs.Command.{Command, list, message, drill}
 use Rattle.repo_engine.specs.Steps.{Then, refused, goes_on, One, IsStep}
 use Rattle.repo_engine.specs.Verdict.{Verdict}
 use Rattle.repo_engine.specs.Verdict as verdict
@@ -128,11 +133,24 @@ module _ (laws : StepLaws) where
       one_then Verdict Contents (RefusesFile r) (Spells r) (λ own. Then Verdict Contents (RefusesCodes codes_word own c) (GivesJoined codes_word own c) Next) (file_step r)
       (λ own spells. one_then Verdict Contents (RefusesCodes codes_word own c) (GivesJoined codes_word own c) Next (codes_step codes_word own c) (λ R joined. next R))
 
+  one_drilled : (number size : ℕ) (a b : Drilled) → IsDrilled number size a → IsDrilled number size b → a ≡ b
+  one_drilled number size a b is also =
+      let nodes : a.nodes ≡ b.nodes = is.nodes ∙ sym also.nodes in
+      let depth : a.depth ≡ b.depth = is.depth ∙ sym also.depth in
+      let texts = laws.one_canonical_xml (message_of tables) (instance number size) is.xml.0 also.xml.0 is.xml.1 also.xml.1 in
+      let xml : a.xml ≡ b.xml = is.xml.2 ∙ (ap length texts ∙ sym also.xml.2) in
+      let der : a.der ≡ b.der = is.der ∙ sym also.der in
+      λ i. record { nodes = nodes i; depth = depth i; xml = xml i; der = der i }
+
+  one_drill : (number size : ℕ) → One Verdict (Drills number size)
+  one_drill number size v w (a, h, is) (b, k, also) = is ∙ (ap (λ d. verdict.accepted (drill_text d)) (one_drilled number size a b h k) ∙ sym also)
+
   one_of : (command : Command) (r c i : List ℕ) → One Verdict (Of command r c i)
   one_of (list codes_word) r c i = one_from_repository codes_word r c _ (λ R v w is also. is ∙ sym also)
   one_of (message verb codes_word id) r c i =
       one_from_repository codes_word r c (λ R. Then Verdict Tables (RefusesMessage R id) (GivesTables R id) (OfVerb verb i))
       (λ R. one_then Verdict Tables (RefusesMessage R id) (GivesTables R id) (OfVerb verb i) (message_step R id) (λ T gives. one_verb verb R id i T gives))
+  one_of (drill number size) r c i = one_drill number size
 
   pub one_answer : (ws : List (List ℕ)) (r c i : List ℕ) (v w : Verdict) → Answer ws r c i v → Answer ws r c i w → v ≡ w
   one_answer ws r c i v w (inl (unlisted, is)) (inl (also_unlisted, also)) = is ∙ sym also

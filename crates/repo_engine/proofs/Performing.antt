@@ -1,23 +1,30 @@
 -- What a command does is what the words ask for.
-use Rattle.std.proofs.Common.{◌≡◌, ◌≢◌, ◌⊎◌, inl, inr, ℕ, Bool, true, false, List, [], ◌∷◌, Option, Some, None, Result, Ok, Err, codes, length, refl, sym, ap, ◌∙◌, subst, append-nil, arith}
+use Rattle.std.proofs.Common.{◌≡◌, inl, inr, ℕ, List, [], ◌∷◌, Option, Some, None, Ok, Err, codes, length, refl, sym, ap, ◌∙◌, subst, append-nil, arith}
 use Rattle.std.specs.Prelude.{if◌then◌else◌}
 use Rattle.std.specs.Str.{bytes_eq}
-use Rattle.std.specs.Io.KnownBytes.{Appends, Keeps}
+use Rattle.std.specs.Str.Parse.{digits_value}
+use Rattle.std.specs.Io.KnownBytes.{Appends}
 use Rattle.repo_engine.specs.Answer.{Answer, Of}
-use Rattle.repo_engine.specs.Arms.{Carries, HaveLeft}
-use Rattle.repo_engine.specs.Command.{Command, list, message, HasForm, IsUnlisted, pulled, verb_word}
-use Rattle.repo_engine.specs.Run.{AreLeft, End, GoesOut, Performs, Tells}
-use Rattle.repo_engine.specs.Sources.{Use, Untouched, AreReadInTurn, ended_of}
-use Rattle.repo_engine.specs.Verdict.{Verdict, accepted, refused}
+use Rattle.repo_engine.specs.Arms.{Carries}
+use Rattle.repo_engine.specs.Commands.{AsksFor, IsBounded}
+use Rattle.repo_engine.specs.declared.command.Command as declared
+use Rattle.repo_engine.specs.declared.command.Command.TheVariants as asked
+use Rattle.repo_engine.specs.Command.{Command, list, message, drill, HasForm, IsUnlisted, pulled, verb_word}
+use Rattle.repo_engine.specs.Run.{End, Performs, Tells}
+use Rattle.repo_engine.specs.Sources.{Use, Untouched, AreUsed, ended_of}
+use Rattle.repo_engine.specs.Verdict.{Verdict}
 use Rattle.repo_engine.specs.declared.command.Verb.{Verb}
 use Rattle.repo_engine.specs.declared.command.Verb.TheVariants.{Types, Xsd, Asn1, CheckXml, CheckDer, CanonXml, XmlToDer, DerToXml}
-use Rattle.repo_engine.specs.declared.refusal.Stop.{Stop}
 use Rattle.repo_engine.specs.declared.refusal.Stop.TheVariants.{Refused, ReadFault, WriteFault, Memory}
 use Rattle.repo_engine.specs.declared.refusal.Refusal.TheVariants.{Words}
 
 abbrev first_of : List (List ℕ) → List ℕ
 first_of (a ∷ rest) = a
 first_of [] = []
+
+abbrev second_of : List (List ℕ) → List ℕ
+second_of (a ∷ b ∷ rest) = b
+second_of ws = []
 
 abbrev third_of : List (List ℕ) → List ℕ
 third_of (a ∷ b ∷ c ∷ rest) = c
@@ -63,6 +70,15 @@ one_command ws (message verb c id) (message word d other) f g =
     let words : c ≡ d = ap third_of same in
     let ids : id ≡ other = ap fourth_of same in
     λ i. message (verbs i) (words i) (ids i)
+one_command ws (drill n s) (drill m t) (a, b, e, says_n, says_s, small) (c, d, also, says_m, says_t, within) =
+    let same = sym e ∙ also in
+    let numbers : n ≡ m = sym says_n.1 ∙ (ap (digits_value 10) (ap second_of same) ∙ says_m.1) in
+    let sizes : s ≡ t = sym says_s.1 ∙ (ap (digits_value 10) (ap third_of same) ∙ says_t.1) in
+    λ i. drill (numbers i) (sizes i)
+one_command ws (drill n s) (list d) (a, b, e, x, y, z) g = absurd (let k : 5 ≡ 4 = ap (λ x. length (first_of x)) (sym e ∙ g.1) in omega (arith, k))
+one_command ws (list c) (drill n s) f (a, b, e, x, y, z) = absurd (let k : 4 ≡ 5 = ap (λ x. length (first_of x)) (sym f.1 ∙ e) in omega (arith, k))
+one_command ws (drill n s) (message verb d id) (a, b, e, x, y, z) g = absurd (let k : 3 ≡ 4 = ap length (sym e ∙ g.1) in omega (arith, k))
+one_command ws (message verb c id) (drill n s) f (a, b, e, x, y, z) = absurd (let k : 4 ≡ 3 = ap length (sym f.1 ∙ e) in omega (arith, k))
 
 appends_nothing : (a : Option (List ℕ)) → Appends a a []
 appends_nothing None = tt
@@ -100,8 +116,14 @@ pub performs_command : {R C I O : Type 0} (ws : List (List ℕ)) (command : Comm
 performs_command ws command repo codes inst held faults old new end form carries = record {
   words = (λ u. absurd (u command form), λ e. absurd (carries.no_words e));
   untouched = λ u. absurd (u command form);
-  sources = λ other same. subst (λ k. AreReadInTurn (pulled k).codes (pulled k).instance (ended_of end) repo codes inst) (one_command ws command other form same) carries.sources;
+  sources = λ other same. subst (λ k. AreUsed (pulled k).repository (pulled k).codes (pulled k).instance (ended_of end) repo codes inst) (one_command ws command other form same) carries.sources;
   verdict = λ r c i left. tells_more (Of command r c i) (Answer ws r c i) end _ _ (λ v h. inr (command, form, h))
       (carries.verdict r c i (record { repository = left.repository command form; codes = left.codes command form; instance = left.instance command form }));
   out = carries.out;
 }
+
+-- a command that words ask for is bounded
+pub asked_bounded : (ws : List (List ℕ)) (command : declared.Command) → AsksFor ws command → IsBounded command
+asked_bounded ws (asked.List codes_word) h = tt
+asked_bounded ws (asked.Message verb codes_word id) h = tt
+asked_bounded ws (asked.Drill number size) (one, other, is, x, y, small) = small

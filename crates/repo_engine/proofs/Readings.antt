@@ -1,8 +1,5 @@
 -- What reading a repository and its codes tells of its sources and of the bytes.
-use Rattle.std.proofs.Common.{◌≡◌, ◌⊎◌, inl, inr, ℕ, ◌≤◌, ◌<◌, Bool, true, List, [], length, Option, Some, None, Result, Ok, Err, refl, sym, ap, ◌∙◌, subst, IfSome}
-use Rattle.std.specs.Prelude.{IfErr, IfOk, OnOk, IsErrOf}
-use Rattle.std.specs.Io.KnownBytes.{IsAtEnd}
-use Rattle.outside.specs.Source.{Rose}
+use Rattle.std.proofs.Common.{◌≡◌, inl, inr, ℕ, List, Option, Some, refl, subst, IfSome}
 use Rattle.repo_objects.specs.Repository.{Contents, Entry}
 use Rattle.repo_loader.specs.declared.fault.LoadError.{LoadError}
 use Rattle.repo_loader.specs.declared.fault.LoadError.TheVariants as load_error
@@ -10,11 +7,11 @@ use Rattle.repo_loader.specs.LoadErrors.{RefusesFile as LoadRefuses}
 use Rattle.code_sets.specs.declared.errors.CodesError.{CodesError}
 use Rattle.code_sets.specs.declared.errors.CodesError.TheVariants as codes_error
 use Rattle.code_sets.specs.declared.record.CodeRecord.{CodeRecord}
-use Rattle.code_sets.specs.Codes.{Joins, Reads, JoinsAll, joined, limit, long, reading, joining}
+use Rattle.code_sets.specs.Codes.{long, reading, joining}
 use Rattle.code_sets.specs.CodesErrors.{RefusesJoin, RefusesSource}
 use Rattle.repo_engine.specs.Answer.{RefusesFile, IsCodesRefusal}
 use Rattle.repo_engine.specs.Arms.{IsCodesText, IsOfInput, StopsBy, load_stop, codes_stop}
-use Rattle.repo_engine.specs.Sources.{Use, IsRead, Ended, Whole, Failing, ended_of, stop_ended}
+use Rattle.repo_engine.specs.Sources.{Whole, Failing, stop_ended}
 
 -- a file is refused as it is loaded
 pub load_refuses : (bytes : List ℕ) (e : LoadError) → LoadRefuses bytes e → StopsBy (RefusesFile bytes) (load_stop e)

@@ -1,5 +1,5 @@
 -- No words and bytes are without an answer: no step is without both a refusal and something to go on with.
-use Rattle.std.proofs.Common.{◌≡◌, ◌⊎◌, ℕ, Bool, true, false, List, refl, inl, inr}
+use Rattle.std.proofs.Common.{◌≡◌, ◌⊎◌, ℕ, ◌+◌, ◌≤◌, length, Bool, true, false, List, refl, inl, inr}
 use Rattle.repo_objects.specs.Repository.{Contents}
 use Rattle.repo_loader.specs.Laws.{OneOfBoth}
 use Rattle.repo_loader.specs.Loaded.{Spells}
@@ -14,10 +14,16 @@ use Rattle.message_model.specs.declared.fault.Fault.{Fault}
 use Rattle.data_types.specs.Value.{Value}
 use Rattle.transcoder.specs.Checked.{IsAccepted, HasXmlFault, IsDerAccepted, HasDerFault}
 use Rattle.transcoder.specs.Laws.{SomeVerdict, SomeDerVerdict, AreSoundTypes}
+use Rattle.xml_writer.specs.CanonXml.{IsCanonXml}
 use Rattle.xml_writer.specs.Laws.{SomeCanonicalXml}
 use Rattle.der_model.specs.SomeAnswers.{HaveKinds, CompiledHaveKinds}
-use Rattle.repo_engine.specs.Answer.{Answer, Of, OfVerb, FromXml, RefusesAsXml, GivesXmlValue, FromDer, RefusesAsDer, GivesDerValue, IsFine, GivesXml, GivesDer, FromRepository, RefusesFile, RefusesCodes, GivesJoined, RefusesMessage, GivesTables}
-use Rattle.repo_engine.specs.Command.{Command, list, message, hands_in}
+use Rattle.drill.specs.BuiltIn.{tables}
+use Rattle.drill.specs.Drilled.{IsAdmitted}
+use Rattle.drill.specs.Growing.{instance, deepest, most_beside}
+use Rattle.der_model.specs.Der.{der_of}
+use Rattle.der_model.specs.DerMessage.{der_message}
+use Rattle.repo_engine.specs.Answer.{Answer, Of, OfVerb, Drills, FromXml, RefusesAsXml, GivesXmlValue, FromDer, RefusesAsDer, GivesDerValue, IsFine, GivesXml, GivesDer, FromRepository, RefusesFile, RefusesCodes, GivesJoined, RefusesMessage, GivesTables}
+use Rattle.repo_engine.specs.Command.{Command, list, message, drill, HasForm, hands_in}
 use Rattle.repo_engine.specs.Steps.{Then, refused, goes_on, IsTotal}
 use Rattle.repo_engine.specs.Verdict.{Verdict}
 use Rattle.repo_engine.specs.declared.command.Verb.{Verb}
@@ -47,6 +53,7 @@ pub record TotalLaws : Type 0 where
   pub some_der_verdict : SomeDerVerdict
   pub compiled_have_kinds : CompiledHaveKinds
   pub some_canonical_xml : SomeCanonicalXml
+  pub instances_are_admitted : IsAdmitted
 
 module _ (laws : TotalLaws) where
   file_total : (r : List ℕ) → ¬ (¬ IsTotal Verdict Contents (RefusesFile r) (Spells r))
@@ -112,11 +119,25 @@ module _ (laws : TotalLaws) where
       some_then Contents (RefusesFile r) (Spells r) (λ own. Then Verdict Contents (RefusesCodes codes_word own c) (GivesJoined codes_word own c) Next) (file_total r)
       (λ own spells. some_then Contents (RefusesCodes codes_word own c) (GivesJoined codes_word own c) Next (λ lacks. lacks (codes_total codes_word own c)) (λ R joined. next R))
 
-  some_of : (command : Command) (r c i : List ℕ) → Told (Of command r c i)
-  some_of (list codes_word) r c i = some_from_repository codes_word r c _ (λ R lacks. lacks (_, refl))
-  some_of (message verb codes_word id) r c i =
+  some_drill : (number size : ℕ) → size ≤ most_beside → Told (Drills number size)
+  some_drill number size small = some_xml_of (laws.some_canonical_xml (message_of tables) (instance number size) (laws.instances_are_admitted number size small))
+    where
+      some_xml_of : ((text : List ℕ) × IsCanonXml (message_of tables) (instance number size) text) → Told (Drills number size)
+      some_xml_of (text, is) lacks = lacks (
+        _,
+        (
+          record { nodes = size + 1; depth = deepest number size; xml = length text; der = length (der_of (der_message tables) (instance number size)) },
+          record { nodes = refl; depth = refl; xml = (text, is, refl); der = refl },
+          refl,
+        ),
+      )
+
+  some_of : (ws : List (List ℕ)) (command : Command) (r c i : List ℕ) → HasForm ws command → Told (Of command r c i)
+  some_of ws (list codes_word) r c i form = some_from_repository codes_word r c _ (λ R lacks. lacks (_, refl))
+  some_of ws (message verb codes_word id) r c i form =
       some_from_repository codes_word r c (λ R. Then Verdict Tables (RefusesMessage R id) (GivesTables R id) (OfVerb verb i))
       (λ R. some_then Tables (RefusesMessage R id) (GivesTables R id) (OfVerb verb i) (message_total R id) (λ T gives. some_verb verb R id i T gives))
+  some_of ws (drill number size) r c i (one, other, is, says, counts, small) = some_drill number size small
 
   pub some_answer : (ws : List (List ℕ)) (r c i : List ℕ) → Told (Answer ws r c i)
-  some_answer ws r c i lacks = lacks (_, inl ((λ command form. some_of command r c i (λ (v, of). lacks (v, inr (command, form, of)))), refl))
+  some_answer ws r c i lacks = lacks (_, inl ((λ command form. some_of ws command r c i form (λ (v, of). lacks (v, inr (command, form, of)))), refl))

@@ -1,11 +1,11 @@
 -- The steps that read a repository and its codes, and those that give one verdict alone.
-use Rattle.std.proofs.Common.{◌≡◌, ◌⊎◌, inl, inr, ℕ, Bool, true, false, List, Option, Some, Result, Ok, Err, refl, sym, ◌∙◌, subst}
+use Rattle.std.proofs.Common.{inl, inr, ℕ, Bool, List, Result, Ok, Err, sym, subst}
 use Rattle.std.specs.Prelude.{IfOk, IfErr}
 use Rattle.repo_objects.specs.Repository.{Contents}
-use Rattle.repo_engine.specs.Answer.{FromRepository, GivesRepository, RefusesFile, RefusesCodes}
-use Rattle.repo_engine.specs.Arms.{RefusesRepository, FilesHaveLeft, StopsBy, IsReadIf, unasked, asked}
-use Rattle.repo_engine.specs.Steps.{Then, refused, goes_on}
-use Rattle.repo_engine.specs.Sources.{Use, Ended, IsRead, AreRead, one, both, Whole, Failing, Stopping}
+use Rattle.repo_engine.specs.Answer.{FromRepository, GivesRepository}
+use Rattle.repo_engine.specs.Arms.{RefusesRepository, StopsBy, IsReadIf, unasked, asked}
+use Rattle.repo_engine.specs.Steps.{refused, goes_on}
+use Rattle.repo_engine.specs.Sources.{Use, Ended, IsRead, AreRead, one, both, Whole, Stopping}
 use Rattle.repo_engine.specs.Verdict.{Verdict}
 use Rattle.repo_engine.specs.declared.refusal.Stop.{Stop}
 use Rattle.repo_engine.specs.declared.refusal.Stop.TheVariants.{Refused, ReadFault, WriteFault, Memory}

@@ -1,9 +1,9 @@
 -- How a transcoding ends a command.
-use Rattle.std.proofs.Common.{◌≡◌, ◌≢◌, ◌≤◌, ◌⊎◌, inl, inr, ℕ, List, [], Option, Some, None, Result, Ok, Err, refl, sym, ap, ◌∙◌, subst}
+use Rattle.std.proofs.Common.{◌≡◌, ◌≢◌, ◌≤◌, ℕ, List, [], Option, Some, Result, Ok, Err, refl, sym, ap, ◌∙◌, subst}
 use Rattle.std.specs.Prelude.{IfSome}
 use Rattle.std.specs.Io.KnownBytes.{IsAtEnd}
 use Rattle.outside.specs.Source.{Rose}
-use Rattle.outside.specs.Pushes.{Pushes, as_push}
+use Rattle.outside.specs.Pushes.{as_push}
 use Rattle.outside.specs.declared.errors.WriteError.{WriteError}
 use Rattle.outside.specs.declared.errors.WriteError.TheVariants as written
 use Rattle.message_model.specs.declared.fault.Fault.{Fault}
@@ -13,13 +13,12 @@ use Rattle.transcoder.specs.declared.trans_error.TransError.{TransError}
 use Rattle.transcoder.specs.declared.trans_error.TransError.TheVariants as trans
 use Rattle.transcoder.specs.Transcoding.{IsTranscoded, unread, pushed}
 use Rattle.transcoder.specs.TransErrors.{trans_error, written_end}
-use Rattle.repo_engine.specs.Arms.{IsOfInput, check_stop, end_of, trans_end}
+use Rattle.repo_engine.specs.Arms.{check_stop, end_of, trans_end}
 use Rattle.repo_engine.specs.Run.{End, GoesOut, Tells}
-use Rattle.repo_engine.specs.Sources.{Use, IsRead, Ended, Whole, Failing, ended_of}
+use Rattle.repo_engine.specs.Sources.{Use, IsRead, Whole, Failing, ended_of}
 use Rattle.repo_engine.specs.Verdict.{Verdict, accepted}
 use Rattle.repo_engine.specs.Verdict as verdict
-use Rattle.repo_engine.specs.declared.refusal.Stop.{Stop}
-use Rattle.repo_engine.specs.declared.refusal.Stop.TheVariants.{Refused, ReadFault, WriteFault, Memory}
+use Rattle.repo_engine.specs.declared.refusal.Stop.TheVariants.{Refused}
 use Rattle.repo_engine.specs.declared.refusal.Refusal.TheVariants as refusal
 use Rattle.repo_engine.proofs.Ends.{tells_pushed, goes_pushed, goes_nowhere}
 use Rattle.repo_engine.proofs.Messages.{check_tells, check_input, no_words, push_words}

@@ -25,10 +25,12 @@ use Rattle.asn1_model.specs.ModuleText.{module_text}
 use Rattle.repo_engine.specs.declared.command.Verb.{Verb}
 use Rattle.repo_engine.specs.declared.command.Verb.TheVariants.{Types, Xsd, Asn1, CheckXml, CheckDer, CanonXml, XmlToDer, DerToXml}
 use Rattle.repo_engine.specs.declared.refusal.Refusal.TheVariants.{Words, Repository, Codes, Message, Instance}
-use Rattle.repo_engine.specs.Command.{Command, list, message, HasForm, IsUnlisted, hands_in}
+use Rattle.drill.specs.Drilled.{IsDrilled}
+use Rattle.drill.specs.declared.drilling.Drilled.{Drilled}
+use Rattle.repo_engine.specs.Command.{Command, list, message, drill, HasForm, IsUnlisted, hands_in}
 use Rattle.repo_engine.specs.Steps.{Then}
 use Rattle.repo_engine.specs.Verdict.{Verdict, accepted, refused}
-use Rattle.repo_engine.specs.Texts.{list_text, types_text}
+use Rattle.repo_engine.specs.Texts.{list_text, types_text, drill_text}
 
 -- ---- the repository and its external codes
 
@@ -135,10 +137,19 @@ OfVerb CanonXml i T = FromXml T i (GivesXml T)
 OfVerb XmlToDer i T = FromXml T i (GivesDer T)
 OfVerb DerToXml i T = FromDer T i (GivesXml T)
 
+-- ---- the drill
+
+-- what it tells of its instance goes out
+abbrev pub Drills : ℕ → ℕ → Verdict → Type 0
+Drills number size v = (told : Drilled) × IsDrilled number size told × (v ≡ accepted (drill_text told))
+
+-- ---- words and bytes
+
 -- the verdict of a command on the bytes r, c and i of the repository, the codes and the instance
 abbrev pub Of : Command → List ℕ → List ℕ → List ℕ → Verdict → Type 0
 Of (list codes_word) r c i = FromRepository codes_word r c Lists
 Of (message verb codes_word id) r c i = FromMessage codes_word id r c (OfVerb verb i)
+Of (drill number size) r c i = Drills number size
 
 -- the verdict on words and bytes
 abbrev pub Answer : List (List ℕ) → List ℕ → List ℕ → List ℕ → Verdict → Type 0

@@ -23,12 +23,12 @@ use Rattle.repo_engine.specs.declared.refusal.Refusal.TheVariants.{Words, Reposi
 use Rattle.repo_engine.specs.Answer.{Of, RefusesFile, RefusesCodes, RefusesMessage, GivesRepository, GivesTables}
 use Rattle.repo_engine.specs.Command.{Command, pulled, hands_in}
 use Rattle.repo_engine.specs.Run.{End, GoesOut, Tells}
-use Rattle.repo_engine.specs.Sources.{Use, AreReadInTurn, Ended, IsRead, Untouched, Failing, Refusing, Whole, ended_of}
+use Rattle.repo_engine.specs.Sources.{Use, AreUsed, Ended, IsRead, Untouched, Failing, Refusing, Whole, ended_of}
 use Rattle.repo_engine.specs.Verdict.{Verdict, refused}
 
 -- the sources that a command pulls from have these bytes left
 pub record HaveLeft (command : Command) (repo_left codes_left inst_left : Option (List ℕ)) (r c i : List ℕ) : Type 0 where
-  pub repository : repo_left ≡ Some r
+  pub repository : (pulled command).repository ≡ true → repo_left ≡ Some r
   pub codes : (pulled command).codes ≡ true → codes_left ≡ Some c
   pub instance : (pulled command).instance ≡ true → inst_left ≡ Some i
 
@@ -36,7 +36,7 @@ pub record HaveLeft (command : Command) (repo_left codes_left inst_left : Option
 pub record Carries {R C I O : Type 0} (command : Command) (repo : Use R) (codes : Use C) (inst : Use I)
     (held : O → Option (List ℕ)) (faults : O → ℕ) (old new : O) (end : End) : Type 0 where
   pub no_words : end ≢ Err (Refused Words)
-  pub sources : AreReadInTurn (pulled command).codes (pulled command).instance (ended_of end) repo codes inst
+  pub sources : AreUsed (pulled command).repository (pulled command).codes (pulled command).instance (ended_of end) repo codes inst
   pub verdict : (r c i : List ℕ) → HaveLeft command (repo.left repo.old) (codes.left codes.old) (inst.left inst.old) r c i
       → Tells (Of command r c i) end (held old) (held new)
   pub out : GoesOut held faults old new end

@@ -1,5 +1,5 @@
 -- What the top call promises.
-use Rattle.std.specs.Prelude.{◌≡◌, ◌⊎◌, ◌↔◌, ℕ, ◌≤◌, Bool, true, List, Option, Some, Result, Ok, Err}
+use Rattle.std.specs.Prelude.{◌≡◌, ◌⊎◌, ◌↔◌, ℕ, ◌≤◌, true, List, Option, Some, Result, Ok, Err}
 use Rattle.std.specs.Io.KnownBytes.{Appends, Keeps}
 use Rattle.outside.specs.Source.{Rose}
 use Rattle.outside.specs.Sink.{AppendsFront}
@@ -13,8 +13,8 @@ use Rattle.repo_engine.specs.declared.refusal.Refusal.TheVariants.{Words}
 use Rattle.repo_engine.specs.declared.status.Status.{Status}
 use Rattle.repo_engine.specs.declared.status.Status.TheVariants as status
 use Rattle.repo_engine.specs.Answer.{Answer}
-use Rattle.repo_engine.specs.Command.{Command, HasForm, IsUnlisted, pulled, Pulled}
-use Rattle.repo_engine.specs.Sources.{Use, Untouched, AreReadInTurn, ended_of}
+use Rattle.repo_engine.specs.Command.{Command, HasForm, IsUnlisted, pulled}
+use Rattle.repo_engine.specs.Sources.{Use, Untouched, AreUsed, ended_of}
 use Rattle.repo_engine.specs.Verdict.{Verdict, accepted, refused, stop_line, stop_status}
 
 -- how a command ends, before anything is noted
@@ -23,7 +23,7 @@ End = Result (Unit {0}) Stop
 
 -- the sources that the command pulls from have these bytes left
 pub record AreLeft (ws : List (List ℕ)) (repo_left codes_left inst_left : Option (List ℕ)) (r c i : List ℕ) : Type 0 where
-  pub repository : (command : Command) → HasForm ws command → repo_left ≡ Some r
+  pub repository : (command : Command) → HasForm ws command → (pulled command).repository ≡ true → repo_left ≡ Some r
   pub codes : (command : Command) → HasForm ws command → (pulled command).codes ≡ true → codes_left ≡ Some c
   pub instance : (command : Command) → HasForm ws command → (pulled command).instance ≡ true → inst_left ≡ Some i
 
@@ -70,7 +70,7 @@ pub record Performs {R C I O : Type 0} (ws : List (List ℕ)) (repo : Use R) (co
   pub words : IsUnlisted ws ↔ (end ≡ Err (Refused Words))
   pub untouched : IsUnlisted ws → Untouched repo × Untouched codes × Untouched inst
   -- The sources that the command uses are read in turn, and the others are not touched.
-  pub sources : (command : Command) → HasForm ws command → AreReadInTurn (pulled command).codes (pulled command).instance (ended_of end) repo codes inst
+  pub sources : (command : Command) → HasForm ws command → AreUsed (pulled command).repository (pulled command).codes (pulled command).instance (ended_of end) repo codes inst
   -- Where those sources tell their bytes, the end is the verdict on words and bytes.
   pub verdict : (r c i : List ℕ) → AreLeft ws (repo.left repo.old) (codes.left codes.old) (inst.left inst.old) r c i → Tells (Answer ws r c i) end (held old) (held new)
   pub out : GoesOut held faults old new end

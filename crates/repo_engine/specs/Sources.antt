@@ -1,5 +1,5 @@
 -- What a run leaves of its sources: one is read after the other, each to its end before the next is touched.
-use Rattle.std.specs.Prelude.{◌≡◌, ℕ, ◌≤◌, Bool, true, false, List, Option}
+use Rattle.std.specs.Prelude.{◌≡◌, ◌≢◌, ℕ, ◌≤◌, Bool, true, false, List, Option}
 use Rattle.std.specs.Io.KnownBytes.{IsAtEnd}
 use Rattle.outside.specs.Source.{Rose}
 use Rattle.std.specs.Prelude.{Result, Ok, Err}
@@ -52,3 +52,8 @@ pub data AreRead {S T : Type 0} (second : Bool) (ended : Ended) (u : Use S) (v :
 pub data AreReadInTurn {S T U : Type 0} (second third : Bool) (ended : Ended) (u : Use S) (v : Use T) (w : Use U) : Type 0 where
   before : AreRead second ended u v → Untouched w → (ended ≡ Whole → third ≡ false) → AreReadInTurn second third ended u v w
   behind : third ≡ true → AreRead second Whole u v → IsRead ended w → AreReadInTurn second third ended u v w
+
+-- No source is touched, where none is asked; and then the end is none of input.
+pub data AreUsed {S T U : Type 0} (first second third : Bool) (ended : Ended) (u : Use S) (v : Use T) (w : Use U) : Type 0 where
+  unused : first ≡ false → Untouched u → Untouched v → Untouched w → (ended ≢ Refusing) → (ended ≢ Failing) → AreUsed first second third ended u v w
+  used : first ≡ true → AreReadInTurn second third ended u v w → AreUsed first second third ended u v w

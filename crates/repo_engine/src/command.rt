@@ -1,10 +1,15 @@
 //! What a command line asks for.
-ghost use Rattle.std.specs.Prelude.{◌≡◌, ℕ, List, [], ◌∷◌, length, IfSome, IfNone, codes as text_codes};
+ghost use Rattle.std.specs.Prelude.{◌≡◌, ◌≤◌, ℕ, List, [], ◌∷◌, length, IfSome, IfNone};
 ghost use Rattle.repo_objects.specs.MessageId.{IsMessageId};
-ghost use Rattle.repo_engine.specs.Command.{texts, IsUnlisted, verb_word, list, message};
+ghost use Rattle.drill.specs.Growing.{most_beside};
+ghost use Rattle.repo_engine.specs.Command.{texts, HasForm, IsNumberWord, IsUnlisted, verb_word, message, drill};
 ghost use Rattle.repo_engine.specs.Commands.{AsksFor, command_view};
 
+use super::number::number_of;
 use repo_objects::MessageId;
+
+/// The most nodes that a drill makes beside the first.
+const MOST_BESIDE: u64 = 1_000_000;
 
 /// A command of one message.
 #[derive(Clone, Copy, Debug, PartialEq, Eq)]
@@ -40,6 +45,11 @@ pub enum Command<'a> {
         codes: &'a [u8],
         id: MessageId,
     },
+    /// `drill NUMBER SIZE`: a large instance made of two numbers, brought from each form into the other and compared.
+    Drill {
+        number: u64,
+        size: u32,
+    },
 }
 
 /// The command that the words ask for; `None` where they have the form of none. The words are
@@ -49,7 +59,7 @@ pub fn command_of(words: &Vec<String>) -> Option<Command<'_>>
     ensures none { IfNone result (IsUnlisted (texts words.now.items)) }
 {
     if let Some(three) = three_words(words) {
-        return list_command(three.word, three.codes);
+        return three_command(three);
     }
     let Some(four) = four_words(words) else {
         return None;
@@ -57,11 +67,12 @@ pub fn command_of(words: &Vec<String>) -> Option<Command<'_>>
     message_command(four.word, four.codes, four.id)
 }
 
-/// The first and the last of three words.
+/// Three words.
 #[derive(Clone, Copy)]
 struct Three<'a> {
     word: &'a [u8],
-    codes: &'a [u8],
+    second: &'a [u8],
+    third: &'a [u8],
 }
 
 /// The first, the third and the last of four words.
@@ -74,15 +85,16 @@ struct Four<'a> {
 
 /// Three words; `None` where there are more or fewer.
 fn three_words(words: &Vec<String>) -> Option<Three<'_>>
-    ensures found { IfSome result (λ three. (repository : List ℕ) × (texts words.now.items ≡ three.word.now ∷ (repository ∷ (three.codes.now ∷ [])))) }
+    ensures found { IfSome result (λ three. texts words.now.items ≡ three.word.now ∷ (three.second.now ∷ (three.third.now ∷ []))) }
     ensures none { IfNone result (length words.now.items ≡ 3 → ⊥) }
 {
-    let [word, _repository, codes] = words.as_slice() else {
+    let [word, second, third] = words.as_slice() else {
         return None;
     };
     Some(Three {
         word: word.as_bytes(),
-        codes: codes.as_bytes(),
+        second: second.as_bytes(),
+        third: third.as_bytes(),
     })
 }
 
@@ -101,15 +113,34 @@ fn four_words(words: &Vec<String>) -> Option<Four<'_>>
     })
 }
 
-/// The command of three words, of which the second is the repository's.
-fn list_command<'a>(word: &[u8], codes: &'a [u8]) -> Option<Command<'a>>
-    ensures found { IfSome result (λ command. (word.now ≡ text_codes "list") × (command_view command ≡ list codes.now)) }
-    ensures none { IfNone result (word.now ≡ text_codes "list" → ⊥) }
+/// The command of three words.
+fn three_command(three: Three<'_>) -> Option<Command<'_>>
+    ensures found { IfSome result (λ command. HasForm (three.entry.word.now ∷ (three.entry.second.now ∷ (three.entry.third.now ∷ []))) (command_view command)) }
+    ensures none { IfNone result (IsUnlisted (three.entry.word.now ∷ (three.entry.second.now ∷ (three.entry.third.now ∷ [])))) }
 {
-    if word != b"list".as_slice() {
+    if three.word == b"list".as_slice() {
+        return Some(Command::List { codes: three.third });
+    }
+    if three.word == b"drill".as_slice() {
+        return drill_command(three.second, three.third);
+    }
+    None
+}
+
+/// The drill on two numbers, of which the second is at most 1,000,000.
+fn drill_command<'a>(one: &[u8], other: &[u8]) -> Option<Command<'a>>
+    ensures found { IfSome result (λ command. (number : ℕ) × (size : ℕ) × IsNumberWord one.now number × IsNumberWord other.now size × (size ≤ most_beside) × (command_view command ≡ drill number size)) }
+    ensures none { IfNone result ((number size : ℕ) → IsNumberWord one.now number → IsNumberWord other.now size → size ≤ most_beside → ⊥) }
+{
+    let number = number_of(one)?;
+    let size = number_of(other)?;
+    if size > MOST_BESIDE {
         return None;
     }
-    Some(Command::List { codes })
+    Some(Command::Drill {
+        number,
+        size: size as u32,
+    })
 }
 
 /// The command of four words, of which the second is the repository's.

@@ -38,6 +38,7 @@ pub fn some_answer()
     transcoder::laws::some_der_verdict();
     der_model::laws::compiled_have_kinds();
     xml_writer::laws::a_value_has_a_canonical_xml();
+    drill::laws::instances_are_admitted();
 }
 
 /// The schema that `xsd` writes of a message admits exactly what `check-xml` accepts: bytes of at most 2^40 are

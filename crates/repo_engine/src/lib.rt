@@ -4,11 +4,13 @@
 mod asn1;
 mod check;
 mod command;
+mod drilling;
 mod engine;
 pub mod laws;
 mod list;
 mod message;
 mod note;
+mod number;
 mod perform;
 mod refusal;
 mod repository;

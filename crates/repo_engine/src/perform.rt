@@ -1,12 +1,13 @@
 //! What a command does before anything is noted.
 ghost use Rattle.std.specs.Prelude.{◌≡◌, Err};
 ghost use Rattle.repo_engine.specs.Command.{texts};
-ghost use Rattle.repo_engine.specs.Commands.{command_view};
+ghost use Rattle.repo_engine.specs.Commands.{IsBounded, command_view};
 ghost use Rattle.repo_engine.specs.Run.{Performs};
 ghost use Rattle.repo_engine.specs.Arms.{Carries};
 ghost use Rattle.repo_engine.specs.Sources.{of_source};
 
 use super::command::{Command, command_of};
+use super::drilling::give_drill;
 use super::list::list;
 use super::message::message;
 use super::refusal::{Refusal, Stop};
@@ -42,6 +43,7 @@ fn carry<R: Source, C: Source, I: Source, O: Sink>(
     inst: &mut I,
     out: &mut O,
 ) -> Result<(), Stop>
+    requires { IsBounded command }
     ensures { Carries (command_view command.entry)
         (of_source R.left R.faults repo.old repo.new) (of_source C.left C.faults codes.old codes.new) (of_source I.left I.faults inst.old inst.new)
         O.held O.faults out.old out.new result }
@@ -53,5 +55,6 @@ fn carry<R: Source, C: Source, I: Source, O: Sink>(
             codes: word,
             id,
         } => message(alloc, verb, word, &id, repo, codes, inst, out),
+        Command::Drill { number, size } => give_drill(alloc, number, size, out),
     }
 }

@@ -13,5 +13,6 @@ returns c =
       some_der_verdict = c.some_der_verdict.ensures;
       compiled_have_kinds = c.compiled_have_kinds.ensures;
       some_canonical_xml = c.a_value_has_a_canonical_xml.ensures;
+      instances_are_admitted = c.instances_are_admitted.ensures;
     } in
     some_answer laws

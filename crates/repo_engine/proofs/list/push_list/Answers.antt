@@ -1,5 +1,5 @@
-use Rattle.std.proofs.Common.{rules, ◌≡◌, ◌<◌, arith, length, get_or, ap, sym, ◌∙◌}
-use Rattle.outside.proofs.Rendering.{one_more, one_stops, all_went}
+use Rattle.std.proofs.Common.{◌≡◌, ◌<◌, arith, length, get_or, ap}
+use Rattle.outside.proofs.Rendering.{one_more, one_stops}
 use Rattle.repo_engine.proofs.Lists.{here}
 use Rattle.repo_engine.specs.Texts.{message_line}
 use Rattle.repo_engine.proofs.list.push_list.Goals as goal

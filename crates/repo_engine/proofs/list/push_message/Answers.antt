@@ -1,4 +1,4 @@
-use Rattle.std.proofs.Common.{rules, sym, subst}
+use Rattle.std.proofs.Common.{rules}
 use Rattle.outside.proofs.Pushing.{nothing}
 use Rattle.repo_engine.proofs.Lists.{not_listed}
 use Rattle.repo_engine.proofs.list.push_message.Goals as goal

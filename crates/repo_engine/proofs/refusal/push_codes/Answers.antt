@@ -1,4 +1,4 @@
-use Rattle.std.proofs.Common.{rules, ◌≡◌, ◌==◌, ◌++◌, Bool, true, false, arith, subst}
+use Rattle.std.proofs.Common.{◌≡◌, ◌==◌, ◌++◌, true, false, arith, subst}
 use Rattle.std.proofs.lemmas.Bool.Decides.{nat_tests}
 use Rattle.std.specs.Fmt.{decimal}
 use Rattle.outside.specs.Pushes.{Pushes}

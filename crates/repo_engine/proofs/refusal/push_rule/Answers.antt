@@ -1,4 +1,4 @@
-use Rattle.std.proofs.Common.{subst, flat_map, rules}
+use Rattle.std.proofs.Common.{subst, flat_map}
 use Rattle.outside.specs.Pushes.{Pushes}
 use Rattle.outside.specs.Parts.{part_text}
 use Rattle.repo_engine.proofs.refusal.push_rule.Goals as goal

@@ -1,4 +1,4 @@
-use Rattle.std.proofs.Common.{ap, refl}
+use Rattle.std.proofs.Common.{ap}
 use Rattle.outside.specs.Pushes.{as_push}
 use Rattle.xsd_model.specs.SchemaText.{schema_text}
 use Rattle.repo_engine.proofs.Ends.{tells_pushed, goes_pushed, goes_nowhere, tells_stopped}

@@ -1,8 +1,7 @@
-use Rattle.std.proofs.Common.{refl, ap}
+use Rattle.std.proofs.Common.{refl}
 use Rattle.transcoder.specs.Checked.{IsXmlOfDer, HasDerFault}
 use Rattle.repo_engine.specs.Answer.{FromDer, GivesXml}
 use Rattle.repo_engine.specs.Steps.{refused, goes_on}
-use Rattle.repo_engine.specs.Verdict.{accepted}
 use Rattle.repo_engine.proofs.Transcodings.{tells_transcoded, goes_transcoded, words_transcoded, read_transcoded}
 use Rattle.repo_engine.proofs.transcode.from_der.Goals as goal
 

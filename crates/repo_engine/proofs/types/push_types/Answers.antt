@@ -1,4 +1,4 @@
-use Rattle.std.proofs.Common.{rules, ◌≡◌, ◌<◌, arith, length}
+use Rattle.std.proofs.Common.{◌<◌, arith, length}
 use Rattle.repo_engine.proofs.TypeLines.{type_at, line_more, line_stops}
 use Rattle.repo_engine.proofs.types.push_types.Goals as goal
 

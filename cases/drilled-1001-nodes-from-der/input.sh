@@ -1,0 +1,1 @@
+python3 shared/drilled.py der 7 1000

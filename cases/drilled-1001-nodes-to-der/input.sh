@@ -1,0 +1,1 @@
+python3 shared/drilled.py xml 7 1000

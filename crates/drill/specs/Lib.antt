@@ -1,0 +1,5 @@
+pub mod BuiltIn
+pub mod Growing
+pub mod Drilled
+pub mod Forms
+pub mod PathPieces

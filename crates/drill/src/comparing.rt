@@ -1,0 +1,100 @@
+// Both forms of an instance, brought into each other and compared.
+ghost use Rattle.std.specs.Prelude.{◌≡◌, ◌≤◌, IfOk, length};
+ghost use Rattle.data_types.specs.Value.{Value};
+ghost use Rattle.der_model.specs.Der.{der_of, SpellsDer};
+ghost use Rattle.der_model.specs.DerMessage.{der_message};
+ghost use Rattle.message_model.specs.Tables.{message_of};
+ghost use Rattle.xml_instances.specs.SpellsXml.{SpellsXml};
+ghost use Rattle.xml_instances.specs.XmlFaults.{limit};
+ghost use Rattle.xml_writer.specs.CanonXml.{IsCanonXml};
+ghost use Rattle.drill.specs.Forms.{AreForms};
+
+use message_model::Model;
+use outside::{SteadySink, SteadySource};
+use std::alloc::{AllocError, Global};
+use transcoder::{TransError, der_to_xml, xml_to_der};
+
+/// How many bytes are read at once.
+const PIECE: usize = 65536;
+
+/// Brings both forms of an instance into each other, and compares what comes with the other form.
+pub(crate) fn compare_both(
+    alloc: Global,
+    model: &Model,
+    xml: &[u8],
+    der: &[u8],
+) -> Result<(), AllocError>
+    requires { (v : Value) × AreForms model.now v xml.now der.now }
+{
+    xml_writer::laws::a_value_has_one_canonical_xml();
+    compare_der(alloc, model, xml, der)?;
+    compare_xml(alloc, model, xml, der)
+}
+
+/// Brings the XML of an instance into DER, and compares.
+fn compare_der(alloc: Global, model: &Model, xml: &[u8], der: &[u8]) -> Result<(), AllocError>
+    requires { (v : Value) × AreForms model.now v xml.now der.now }
+{
+    let again = der_again(alloc, model, xml)?;
+    compare(again.bytes(), der);
+    Ok(())
+}
+
+/// Brings the DER of an instance into XML, and compares.
+fn compare_xml(alloc: Global, model: &Model, xml: &[u8], der: &[u8]) -> Result<(), AllocError>
+    requires { (v : Value) × AreForms model.now v xml.now der.now }
+{
+    xml_writer::laws::a_value_has_one_canonical_xml();
+    let again = xml_again(alloc, model, der)?;
+    compare(again.bytes(), xml);
+    Ok(())
+}
+
+/// The DER of an instance in XML.
+fn der_again(alloc: Global, model: &Model, xml: &[u8]) -> Result<SteadySink, AllocError>
+    requires { (v : Value) × SpellsXml (message_of model.now) xml.now v × (length xml.now ≤ limit) }
+    ensures { (v : Value) → SpellsXml (message_of model.now) xml.now v → IfOk result (λ sink. sink.held ≡ der_of (der_message model.now) v) }
+{
+    transcoder::laws::one_verdict();
+    let _ = model.type_count();
+    let mut source = SteadySource::new(alloc, xml, PIECE)?;
+    let mut sink = SteadySink::with_room(alloc, 0)?;
+    match xml_to_der(alloc, model, &mut source, &mut sink) {
+        Ok(()) => Ok(sink),
+        Err(error) => Err(wanting(error)),
+    }
+}
+
+/// The canonical XML of an instance in DER.
+fn xml_again(alloc: Global, model: &Model, der: &[u8]) -> Result<SteadySink, AllocError>
+    requires { (v : Value) × SpellsDer (der_message model.now) der.now v × (length der.now ≤ limit) }
+    ensures { (v : Value) → SpellsDer (der_message model.now) der.now v → IfOk result (λ sink. IsCanonXml (message_of model.now) v sink.held) }
+{
+    transcoder::laws::one_der_verdict();
+    let _ = model.type_count();
+    let mut source = SteadySource::new(alloc, der, PIECE)?;
+    let mut sink = SteadySink::with_room(alloc, 0)?;
+    match der_to_xml(alloc, model, &mut source, &mut sink) {
+        Ok(()) => Ok(sink),
+        Err(error) => Err(wanting(error)),
+    }
+}
+
+/// Want of memory, which alone stops a transcoding of an instance in memory.
+fn wanting(error: TransError) -> AllocError
+    requires { error ≡ TransError.Memory }
+{
+    match error {
+        TransError::Memory => AllocError,
+        _ => unreachable!(),
+    }
+}
+
+/// Compares two texts, which are the same.
+fn compare(one: &[u8], other: &[u8])
+    requires { one.now ≡ other.now }
+{
+    if one != other {
+        unreachable!()
+    }
+}
