@@ -2,8 +2,11 @@
 ghost use Rattle.std.specs.Prelude.{◌≡◌};
 ghost use Rattle.repo_engine.specs.Command.{texts};
 ghost use Rattle.repo_engine.specs.Run.{End, Notes, Performs};
+ghost use Rattle.repo_engine.specs.ModuleLaw.{ModuleAdmitsWhatIsAccepted};
+ghost use Rattle.repo_engine.specs.SchemaLaw.{SchemaAdmitsWhatIsAccepted};
 ghost use Rattle.repo_engine.specs.Sources.{of_source};
 
+use super::laws;
 use super::note::conclude;
 use super::perform::perform;
 use super::status::Status;
@@ -25,12 +28,17 @@ pub fn run<R: Source, C: Source, I: Source, O: Sink, N: Sink>(
     notes: &mut N,
 ) -> Status
     // There is an end that the command comes to, of which both hold.
-    ensures { (end : End)
+    ensures answer { (end : End)
         × Performs (texts words.now.items)
         (of_source R.left R.faults repo.old repo.new) (of_source C.left C.faults codes.old codes.new) (of_source I.left I.faults inst.old inst.new)
         O.held O.faults out.old out.new end
         × Notes N.held N.faults N.room notes.old notes.new end result }
+    // The schema that `xsd` writes of a message, and the module that `asn1` writes, admit exactly what is accepted.
+    ensures schema { SchemaAdmitsWhatIsAccepted }
+    ensures module { ModuleAdmitsWhatIsAccepted }
 {
+    laws::schema_admits_what_is_accepted();
+    laws::module_admits_what_is_accepted();
     let end = perform(alloc, words, repo, codes, inst, out);
     conclude(&end, notes)
 }
