@@ -153,6 +153,26 @@ impl Reader {
         Ok(Some(tag))
     }
 
+    /// Takes bytes at the front of the piece that go on with the open token and end none: of the names and values of a tag,
+    /// of a comment, of an instruction. They show no event. It answers how many they are, 0 where there are none; any
+    /// other byte is for `take`. Where there is no memory, and after an error, it answers as `take` does.
+    pub fn take_inside(&mut self, piece: &[u8]) -> Result<usize, MarkError>
+        requires { failed self.old ≡ None → taken self.old + length piece.now ≤ 2 ^ 40 }
+        ensures none { IfOk result (λ n. n ≡ 0 → self.new ≡ self.old) }
+        ensures within { IfOk result (λ n. n ≤ length piece.now) }
+        ensures taken { (bytes : List ℕ) (told : List Placed) → HasTaken self.old bytes told → IfOk result (λ n. 0 < n → HasTold self.new (bytes ++ take n piece.now) told) }
+        ensures count { IfOk result (λ n. taken self.new ≡ taken self.old + n) }
+        ensures failed { IfErr result (λ e. failed self.new ≡ Some e) }
+        ensures memory { failed self.old ≡ None → IfErr result (λ e. e ≡ MarkError.Memory) }
+        ensures again { (e : MarkError) → failed self.old ≡ Some e → (result ≡ Err e) × (self.new ≡ self.old) }
+    {
+        let _ = piece;
+        if let Some(error) = self.failed {
+            return Err(error);
+        }
+        Ok(0)
+    }
+
     /// The plain tag at the front of the piece, where one may come.
     #[inline]
     fn next_tag<'a>(&self, piece: &'a [u8]) -> Option<PlainTag<'a>>
