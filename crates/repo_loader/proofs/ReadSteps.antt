@@ -1,8 +1,8 @@
 -- A repository file that is read a byte at a time: what its events say is read as they come.
-use Rattle.std.proofs.Common.{◌≡◌, ℕ, ◌+◌, ◌-◌, ◌≤◌, List, [], ◌∷◌, ◌++◌, length, map, take, drop, Option, Some, None, refl, sym, ap, ◌∙◌, subst, append_assoc, append-nil, length-append, inl, inr, arith}
+use Rattle.std.proofs.Common.{◌≡◌, ℕ, ◌+◌, ◌-◌, ◌<◌, ◌≤◌, suc, zero, List, [], ◌∷◌, ◌++◌, length, map, take, drop, Option, Some, None, refl, sym, ap, ◌∙◌, subst, append_assoc, append-nil, length-append, inl, inr, arith}
 use Rattle.std.specs.List.{AllByRecursion, flat_map}
 use Rattle.std.specs.Prelude.{Result, Ok, Err, IfOk, IfNone}
-use Rattle.std.proofs.lemmas.List.{take-append-drop}
+use Rattle.std.proofs.lemmas.List.{take-append-drop, length-take-le}
 use Rattle.std.proofs.Math.Seq.{take-append-add}
 use Rattle.lexical_core.specs.declared.rule.Rule.TheVariants.{Truncated}
 use Rattle.markup.specs.Token.{Token, token_bytes}
@@ -155,6 +155,25 @@ read_run old new bytes piece count run h g n same none = record {
   given = g.taken_are;
   counted = n ∙ (ap (λ v. v + length piece) h.counted ∙ sym (length-append bytes piece));
   loaded = subst (λ s. HasLoaded s (h.told ++ characters_from (length bytes) run.characters)) (sym same) (run_loaded old.selection h.told (length bytes) run.characters h.loaded);
+  none = none ∙ h.none;
+}
+
+-- bytes inside a token show no event
+pub read_inside : (old new : Progress) (bytes piece : List ℕ) (n : ℕ) (h : HasRead old bytes) → n ≤ length piece
+    → (n ≡ 0 → new.reader ≡ old.reader) → (0 < n → HasTold new.reader (bytes ++ take n piece) h.told)
+    → taken new.reader ≡ taken old.reader + n → new.selection ≡ old.selection → new.events ≡ old.events → HasRead new (bytes ++ take n piece)
+read_inside old new bytes piece zero h within still told counted same none = record {
+  told = h.told;
+  given = subst (λ b. HasTaken new.reader b h.told) (sym (append-nil bytes)) (subst (λ r. HasTaken r bytes h.told) (sym (still refl)) h.given);
+  counted = ap taken (still refl) ∙ (h.counted ∙ ap length (sym (append-nil bytes)));
+  loaded = subst (λ s. HasLoaded s h.told) (sym same) h.loaded;
+  none = none ∙ h.none;
+}
+read_inside old new bytes piece (suc n) h within still told counted same none = record {
+  told = h.told;
+  given = (told (omega arith)).taken_are;
+  counted = counted ∙ (ap (λ v. v + suc n) h.counted ∙ (ap (λ v. length bytes + v) (sym (length-take-le (suc n) piece within)) ∙ sym (length-append bytes (take (suc n) piece))));
+  loaded = subst (λ s. HasLoaded s h.told) (sym same) h.loaded;
   none = none ∙ h.none;
 }
 

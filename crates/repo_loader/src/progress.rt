@@ -88,13 +88,41 @@ impl Progress {
 
     /// Takes the characters at the front of the piece that the reader tells by their number alone:
     /// they say nothing.
-    fn take_run(&mut self, piece: &[u8]) -> usize
+    fn take_characters(&mut self, piece: &[u8]) -> usize
         requires { taken self.old.reader + length piece.now < 2 ^ 40 }
         ensures within { result ≤ length piece.now }
         ensures read { (bytes : List ℕ) → HasRead self.old bytes → HasRead self.new (bytes ++ take result piece.now) }
         ensures count { taken self.new.reader ≡ taken self.old.reader + result }
     {
         self.reader.take_characters(piece).bytes
+    }
+
+    /// Takes the bytes at the front of the piece that go on with a tag, a comment or an instruction:
+    /// they say nothing yet.
+    fn take_inside(&mut self, piece: &[u8]) -> Result<usize, AllocError>
+        requires { taken self.old.reader + length piece.now < 2 ^ 40 }
+        ensures within { IfOk result (λ n. n ≤ length piece.now) }
+        ensures read { (bytes : List ℕ) → HasRead self.old bytes → IfOk result (λ n. HasRead self.new (bytes ++ take n piece.now)) }
+        ensures count { IfOk result (λ n. taken self.new.reader ≡ taken self.old.reader + n) }
+    {
+        match self.reader.take_inside(piece) {
+            Ok(count) => Ok(count),
+            Err(_) => Err(AllocError),
+        }
+    }
+
+    /// Takes the bytes at the front of the piece that say nothing by themselves.
+    fn take_run(&mut self, piece: &[u8]) -> Result<usize, AllocError>
+        requires { taken self.old.reader + length piece.now < 2 ^ 40 }
+        ensures within { IfOk result (λ n. n ≤ length piece.now) }
+        ensures read { (bytes : List ℕ) → HasRead self.old bytes → IfOk result (λ n. HasRead self.new (bytes ++ take n piece.now)) }
+        ensures count { IfOk result (λ n. taken self.new.reader ≡ taken self.old.reader + n) }
+    {
+        let characters = self.take_characters(piece);
+        if characters > 0 {
+            return Ok(characters);
+        }
+        self.take_inside(piece)
     }
 
     /// Takes the next bytes, as far as the first that shows a fault.
@@ -106,7 +134,7 @@ impl Progress {
     {
         let mut rest = piece;
         loop {
-            let count = self.take_run(rest);
+            let count = self.take_run(rest)?;
             let (_, left) = rest.split_at(count);
             let Some((byte, after)) = left.split_first() else {
                 return Ok(None);

@@ -5,12 +5,12 @@ use Rattle.repo_loader.specs.ProgressSteps.{HasRead}
 use Rattle.repo_loader.proofs.ReadSteps.{ReadSoFar}
 use Rattle.repo_loader.proofs.progress.Progress.take_all.Given as goal
 
-abbrev pub invariant-loop-byte : goal.invariant-loop-byte
-invariant-loop-byte l = record {
+abbrev pub invariant-loop-count : goal.invariant-loop-count
+invariant-loop-count l = record {
   some : (bytes : List ℕ) × HasRead l.self bytes;
   read : (bytes : List ℕ) → HasRead l.initial.self bytes → ReadSoFar l.self bytes l.piece l.rest;
   counted : taken l.self.reader + length l.rest ≡ taken l.initial.self.reader + length l.piece;
 }
 
-abbrev pub decreases-loop-byte : goal.decreases-loop-byte
-decreases-loop-byte l = length l.rest
+abbrev pub decreases-loop-count : goal.decreases-loop-count
+decreases-loop-count l = length l.rest

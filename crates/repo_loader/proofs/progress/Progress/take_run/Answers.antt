@@ -1,15 +1,11 @@
--- Characters say nothing.
-use Rattle.std.proofs.Common.{◌+◌, take, refl, sym, ap, ◌∙◌}
-use Rattle.std.proofs.lemmas.List.{length-take-le}
-use Rattle.markup.specs.Reading.{taken}
-use Rattle.repo_loader.proofs.ReadSteps.{read_run}
+-- Where no character came, what goes on with a token.
+use Rattle.std.proofs.Common.{◌≡◌, ◌++◌, take, subst, arith}
+use Rattle.std.proofs.lemmas.List.{append-nil}
+use Rattle.repo_loader.specs.ProgressSteps.{HasRead}
 use Rattle.repo_loader.proofs.progress.Progress.take_run.Goals as goal
 
 pub returns-clause-read : goal.returns-clause-read
 returns-clause-read c bytes h =
-    let n = c.take_characters.result.bytes in
-    let xs = c.args.piece.now in
-    let t = c.take_characters.ensures.taken bytes h.told h.given in
-    read_run c.args.self.now (record { reader = c.take_characters.new.self; events = c.args.self.now.events; selection = c.args.self.now.selection }) bytes (take n xs) c.take_characters.result.characters t.0 h t.1
-    (c.take_characters.ensures.count ∙ ap (λ v. taken c.args.self.now.reader + v) (sym (length-take-le n xs c.take_characters.ensures.within)))
-    refl refl
+    let none : c.take_characters-characters.result ≡ 0 = omega (arith, c.if-characters-gt0.false) in
+    let read = subst (λ n. HasRead c.take_characters-characters.new.self (bytes ++ take n c.args.piece.now)) none (c.take_characters-characters.ensures.read bytes h) in
+    c.take_inside.ensures.read bytes (subst (HasRead c.take_characters-characters.new.self) (append-nil bytes) read)
