@@ -28,7 +28,9 @@ pub mod PlainLemmas
 pub mod NameBlocks
 pub mod OpenTags
 pub mod WholeTokens
+pub mod InsideLemmas
 pub mod PlainTagLemmas
+pub mod InsideRuns
 pub mod TagScans
 pub mod LiteralRuns
 pub mod CharacterRuns

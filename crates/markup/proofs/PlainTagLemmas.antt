@@ -69,7 +69,7 @@ begins_name c h = one_of (is_in_range 97 122 c) (is_in_range 65 90 c) (c == 95) 
     (λ e. first_holds (is_in_range 65 90 c) _ e)
     (λ e. subst (λ d. in_some name_start_ranges d ≡ true) (sym (eqb-true c 95 e)) refl)
 
-continues_name : (c : ℕ) → continues_plain c ≡ true → is_name_char c ≡ true
+pub continues_name : (c : ℕ) → continues_plain c ≡ true → is_name_char c ≡ true
 unfolding is_name_char
 continues_name c h = one_of (begins_plain c) (is_in_range 48 57 c) (is_in_range 45 46 c) ((is_name_start c || in_some name_more_ranges c) ≡ true) h
     (λ e. first_holds (is_name_start c) (in_some name_more_ranges c) (begins_name c e))
@@ -82,7 +82,7 @@ continue_name (c ∷ cs) h = let a = and_parts _ _ h in both _ _ (continues_name
   both : (x y : Bool) → x ≡ true → y ≡ true → (x && y) ≡ true
   both x y e f = cc
 
-plain_ascii : (c : ℕ) → continues_plain c ≡ true → c < 128
+pub plain_ascii : (c : ℕ) → continues_plain c ≡ true → c < 128
 plain_ascii c h = grind (arith, nat_tests)
 
 ascii_all : (cs : List ℕ) → list_all continues_plain cs ≡ true → encode_utf8_all cs ≡ cs

@@ -50,7 +50,7 @@ none_front = record { char = 65; rest = 65 ∷ []; scalar = refl; more = omega a
     ascii c h = encode_ascii c h
 
 -- a scan in a tag
-tag_scan : (s : Scan) → in_tag s ≡ true → is_tag s ≡ true
+pub tag_scan : (s : Scan) → in_tag s ≡ true → is_tag s ≡ true
 tag_scan (Value q r) h = refl
 tag_scan (ValueReference q r) h = refl
 tag_scan _ h = h

@@ -19,6 +19,7 @@ pub mod Scopes
 pub mod Contexts
 pub mod TokenRules
 pub mod Inputs
+pub mod Inside
 pub mod Longest
 pub mod Reading
 pub mod ReaderSteps

@@ -1,5 +1,6 @@
 // What an open tag has said so far.
 ghost use Rattle.std.specs.Prelude.{◌≡◌, ◌++◌, OnOk, encode_utf8};
+ghost use Rattle.markup.specs.Inside.{noted_all};
 ghost use Rattle.markup.specs.Drafts.{no_draft, literal_char, given_char, end_value, shift, add, noted, value_noted, add_value};
 
 use crate::characters::is_blank;
@@ -84,6 +85,20 @@ impl Draft {
             Scan::AttributeName(part) => self.attribute.add(part, c, alloc),
             Scan::Value(_, _) => self.note_value(from, c),
             Scan::AfterValue => self.end_value(alloc),
+            _ => Ok(()),
+        }
+    }
+
+    /// Notes what bytes of an open token say that leave its scan as it is.
+    #[inline]
+    pub(crate) fn note_all(&mut self, scan: Scan, bytes: &[u8]) -> Result<(), AllocError>
+        ensures { OnOk result (self.new ≡ noted_all scan bytes.now self.old) }
+    {
+        match scan {
+            Scan::StartName(_) => self.name.local.extend(bytes),
+            Scan::EndName(_) => self.name.local.extend(bytes),
+            Scan::AttributeName(_) => self.attribute.local.extend(bytes),
+            Scan::Value(_, _) => self.value.extend(bytes),
             _ => Ok(()),
         }
     }

@@ -9,6 +9,7 @@ mod characters;
 mod context;
 mod draft;
 pub mod event;
+mod inside;
 pub mod laws;
 mod literals;
 mod names;

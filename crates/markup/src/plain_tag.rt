@@ -47,7 +47,7 @@ fn continues_plain(byte: u8) -> bool
 
 /// How many bytes at the front of the piece a name may go on with.
 #[inline]
-fn name_length(piece: &[u8]) -> usize
+pub(crate) fn name_length(piece: &[u8]) -> usize
     ensures within { result ≤ length piece.now }
     ensures count { result ≡ prefix_len continues_plain piece.now }
 {

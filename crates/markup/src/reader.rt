@@ -153,9 +153,11 @@ impl Reader {
         Ok(Some(tag))
     }
 
-    /// Takes bytes at the front of the piece that go on with the open token and end none: of the names and values of a tag,
-    /// of a comment, of an instruction. They show no event. It answers how many they are, 0 where there are none; any
-    /// other byte is for `take`. Where there is no memory, and after an error, it answers as `take` does.
+    /// Takes bytes at the front of the piece that go on with the open token and end none: of the names
+    /// and values of a tag, of a comment, of an instruction, up to the one that ends it and to the
+    /// first that is none of ASCII. They show no event. It answers how many they are, 0 where there
+    /// are none; any other byte is for `take`. Where there is no memory, and after an error, it
+    /// answers as `take` does.
     pub fn take_inside(&mut self, piece: &[u8]) -> Result<usize, MarkError>
         requires { failed self.old ≡ None → taken self.old + length piece.now ≤ 2 ^ 40 }
         ensures none { IfOk result (λ n. n ≡ 0 → self.new ≡ self.old) }
@@ -166,11 +168,16 @@ impl Reader {
         ensures memory { failed self.old ≡ None → IfErr result (λ e. e ≡ MarkError.Memory) }
         ensures again { (e : MarkError) → failed self.old ≡ Some e → (result ≡ Err e) × (self.new ≡ self.old) }
     {
-        let _ = piece;
         if let Some(error) = self.failed {
             return Err(error);
         }
-        Ok(0)
+        match self.tokenizer.take_inside(piece) {
+            Ok(count) => Ok(count),
+            Err(_) => {
+                self.failed = Some(MarkError::Memory);
+                Err(MarkError::Memory)
+            }
+        }
     }
 
     /// The plain tag at the front of the piece, where one may come.

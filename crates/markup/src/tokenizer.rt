@@ -1,5 +1,5 @@
 // Tokens of bytes that come one at a time.
-ghost use Rattle.std.specs.Prelude.{◌≡◌, ℕ, ◌<◌, ◌≤◌, ◌^◌, ◌+◌, List, [], IfOk, IsTrue, IsFalse};
+ghost use Rattle.std.specs.Prelude.{◌≡◌, ℕ, ◌<◌, ◌≤◌, ◌^◌, ◌+◌, ◌-◌, true, List, [], IfOk, IsTrue, IsFalse, length, take};
 ghost use Rattle.markup.specs.Token.{Token};
 ghost use Rattle.markup.specs.Tokenizers.{is_plain};
 
@@ -113,7 +113,7 @@ impl Scan {
     }
 
     /// Whether a start tag or an end tag is open.
-    fn is_tag(self) -> bool
+    pub(crate) fn is_tag(self) -> bool
         ensures { result ≡ is_tag self }
     {
         matches!(
@@ -155,6 +155,8 @@ impl Scan {
 }
 
 impl Tokenizer {
+    ghost use Rattle.markup.specs.Inside.{is_inside, may_be_tag, GoesOver, GoesInside};
+    ghost use Rattle.markup.specs.Marks.{tag_limit};
     ghost use Rattle.markup.specs.TokenRules.{is_cdata};
     ghost use Rattle.markup.specs.Tokenizers.{bounded, ended, charactered, AdvancedBy, AdvancesBy, IsOpen, restarted, settled, SettlesBy, open_at, FinishesBy, starts_plain, TakesPlain, is_ready, is_in_text, passed};
 
@@ -390,5 +392,95 @@ impl Tokenizer {
             Utf8::Bad => Ok(Progress::Refused(Rule::BadUtf8)),
             Utf8::Char(c) => self.character(c),
         }
+    }
+
+    /// Takes bytes at the front of the piece that go on with the open token and end none, and
+    /// answers how many they are. Where it is 0, nothing changes.
+    pub(crate) fn take_inside(&mut self, piece: &[u8]) -> Result<usize, AllocError>
+        requires { self.old.place + length piece.now ≤ 2 ^ 40 }
+        ensures none { IfOk result (λ n. n ≡ 0 → self.new ≡ self.old) }
+        ensures within { IfOk result (λ n. n ≤ length piece.now) }
+        ensures inside { IfOk result (λ n. 0 < n → GoesInside self.old self.new (take n piece.now)) }
+        ensures place { IfOk result (λ n. self.new.place ≡ self.old.place + n) }
+    {
+        if !self.scan.is_inside() || !self.utf8.is_whole() {
+            return Ok(0);
+        }
+        let room = self.room(piece.len());
+        let (front, _) = piece.split_at(room);
+        let count = self.go_over(front)?;
+        self.place += count as u64;
+        Ok(count)
+    }
+
+    /// How many of so many bytes the open token may take and go on: a tag that has not ended has
+    /// fewer bytes than its limit.
+    fn room(&self, count: usize) -> usize
+        ensures within { result ≤ count }
+        ensures short { may_be_tag self.now.scan ≡ true → 0 < result → (self.now.place - self.now.start) + result < tag_limit }
+    {
+        if !self.scan.may_be_tag() {
+            return count;
+        }
+        let left = (TAG_LIMIT - 1).saturating_sub(self.place.saturating_sub(self.start));
+        if count as u64 <= left {
+            count
+        } else {
+            left as usize
+        }
+    }
+
+    /// Goes over the bytes at the front of the piece with which the open token goes on.
+    fn go_over(&mut self, piece: &[u8]) -> Result<usize, AllocError>
+        ensures within { IfOk result (λ n. n ≤ length piece.now) }
+        ensures over { IfOk result (λ n. GoesOver self.old self.new (take n piece.now)) }
+    {
+        let mut rest = piece;
+        loop {
+            let count = match self.go_on(rest) {
+                Ok(count) => count,
+                Err(error) => return Err(error),
+            };
+            if count == 0 {
+                return Ok(piece.len() - rest.len());
+            }
+            let (_, behind) = rest.split_at(count);
+            rest = behind;
+        }
+    }
+
+    /// Goes over the bytes at the front of the piece that leave the scan as it is, or over the first
+    /// byte, where the open token goes on with it.
+    fn go_on(&mut self, piece: &[u8]) -> Result<usize, AllocError>
+        ensures within { IfOk result (λ n. n ≤ length piece.now) }
+        ensures over { IfOk result (λ n. GoesOver self.old self.new (take n piece.now)) }
+    {
+        let count = self.scan.still_length(piece);
+        if count == 0 {
+            return self.go_on_by_one(piece);
+        }
+        let (front, _) = piece.split_at(count);
+        self.draft.note_all(self.scan, front)?;
+        Ok(count)
+    }
+
+    /// Goes over the first byte, where it is a character with which the open token goes on.
+    fn go_on_by_one(&mut self, piece: &[u8]) -> Result<usize, AllocError>
+        ensures within { IfOk result (λ n. n ≤ length piece.now) }
+        ensures over { IfOk result (λ n. GoesOver self.old self.new (take n piece.now)) }
+    {
+        let Some((byte, _)) = piece.split_first() else {
+            return Ok(0);
+        };
+        if *byte > 0x7F {
+            return Ok(0);
+        }
+        let c = *byte as char;
+        let Turn::Goes(scan) = self.scan.step(c) else {
+            return Ok(0);
+        };
+        self.draft.note(self.scan, scan, c, self.alloc)?;
+        self.scan = scan;
+        Ok(1)
     }
 }

@@ -25,6 +25,13 @@ fn take_some(reader: &mut Reader, out: &mut Events, piece: &[u8]) -> Result<usiz
         Ok(None) => {}
         Err(error) => return Err(refusal(error)),
     }
+    let inside = match reader.take_inside(piece) {
+        Ok(count) => count,
+        Err(error) => return Err(refusal(error)),
+    };
+    if inside > 0 {
+        return Ok(inside);
+    }
     let Some((byte, _)) = piece.split_first() else {
         return Ok(0);
     };
@@ -83,7 +90,7 @@ fn texts_in_pieces(rt: HostRuntime) -> Result<(), AllocError> {
 
 /// An instance with tags, runs and what stands between them.
 static SHAPES: &str =
-    "<a xmlns=\"u\">\n <b>x y\tz</b>\r\n<c/><p:d xmlns:p=\"v\"><e>]</e>]]<f.g-h_1>&lt;</f.g-h_1></p:d><!-- - --><?q ?><![CDATA[<>]]></a>";
+    "<a xmlns=\"u\">\n <b>x y\tz</b>\r\n<c/><p:d xmlns:p=\"v\"><e>]</e>]]<f.g-h_1>&lt;</f.g-h_1></p:d><!-- - --><?q ?><i j='k&#65;\"l\t' m = \"'n\"/><![CDATA[<>]]></a>";
 
 /// With the byte at this place changed to another one, the text is answered as by single bytes.
 fn check_change(rt: &impl Abort, alloc: Global, at: usize, byte: u8) -> Result<(), AllocError> {
@@ -197,6 +204,42 @@ fn whole_tags(rt: HostRuntime) {
     }
 }
 
+/// What was taken, pieces behind it, and how many bytes at their front go on with the open token.
+static INSIDE: [(&str, &str, usize); 14] = [
+    ("<a>", "<b c", 0),
+    ("<a><", "b c='d'", 7),
+    ("<a><b c='", "d\"\t\r\ne'/>", 8),
+    ("<a><b c='", "d<e", 1),
+    ("<a><b c='", "d&lt;&#65;e&f", 12),
+    ("<a><b c='", "d\u{E9}", 1),
+    ("<a><b", ":d>", 2),
+    ("<a></b", "-.c >", 4),
+    ("<a><!--", " - b\n-->", 7),
+    ("<a><!-", "-b-c--d", 6),
+    ("<a><?b", " c? d?>", 6),
+    ("<a>&", "amp;", 3),
+    ("<", "?xml version='1.0'?>", 19),
+    ("<a><![CDATA[", "b]", 0),
+];
+
+/// The bytes inside a token go up to the one that ends it, or with which it does not go on.
+#[test]
+fn bytes_inside(rt: HostRuntime) {
+    for (front, piece, bytes) in &INSIDE {
+        let Some(mut reader) = behind(rt.alloc(), front.as_bytes()) else {
+            continue;
+        };
+        if piece.len() > 100 {
+            continue;
+        }
+        let found = match reader.take_inside(piece.as_bytes()) {
+            Ok(count) => count,
+            Err(_) => 100,
+        };
+        assert!(rt; found == *bytes, "{front}, {piece}: {found}");
+    }
+}
+
 /// After an error nothing is taken.
 #[test]
 fn nothing_after_an_error(rt: HostRuntime) {
@@ -205,4 +248,5 @@ fn nothing_after_an_error(rt: HostRuntime) {
     assert!(rt; reader.take(b'a', &mut out).is_err());
     assert!(rt; reader.take_characters(b"bc").bytes == 0);
     assert!(rt; reader.take_tag(b"<b>").is_err());
+    assert!(rt; reader.take_inside(b"bc").is_err());
 }

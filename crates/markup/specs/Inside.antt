@@ -1,0 +1,68 @@
+-- Bytes that go on with an open token and end none. Private functions alone cite this.
+use Rattle.std.specs.Prelude.{◌≡◌, ℕ, Bool, ◌+◌, ◌-◌, ◌<◌, ◌==◌, ◌&&◌, ◌||◌, nat_le, not, true, false, List, [], ◌++◌, length, Some, encode_utf8_all}
+use Rattle.markup.specs.Marks.{tag_limit}
+use Rattle.markup.specs.Drafts.{add_value}
+use Rattle.markup.specs.ScanRuns.{run, At}
+use Rattle.markup.specs.Tokenizers.{is_tag, scanned}
+use Rattle.markup.specs.declared.draft.Draft.{Draft}
+use Rattle.markup.specs.declared.tag.Spelled.{Spelled}
+use Rattle.markup.specs.declared.scan.Scan.{Scan}
+use Rattle.markup.specs.declared.scan.Scan.TheVariants.{Begin, AfterReturn, Bracket, Brackets, Opened, StartName, AttributeName, Value, EndName}
+use Rattle.markup.specs.declared.tokenizer.Tokenizer.{Tokenizer}
+
+-- a byte that stands for itself in a value in these quotes, and neither ends it nor begins a reference (XML 1.0 §2.3, AttValue; §3.3.3)
+abbrev pub is_literal_of : ℕ → ℕ → Bool
+is_literal_of quote byte = nat_le 32 byte && nat_le byte 127 && not (byte == 60) && not (byte == 38) && not (byte == quote)
+
+-- a character of a comment or an instruction that does not begin its end (XML 1.0 §2.5, §2.6)
+abbrev pub is_passed : ℕ → ℕ → Bool
+is_passed end byte = (nat_le 32 byte && nat_le byte 127 && not (byte == end)) || byte == 10 || byte == 9 || byte == 13
+
+-- more characters of a name
+abbrev pub extended : List ℕ → Spelled → Spelled
+extended bytes n = record { prefix = n.prefix; local = n.local ++ bytes }
+
+-- what bytes say that leave the scan as it is
+abbrev pub noted_all : Scan → List ℕ → Draft → Draft
+noted_all (StartName part) bytes d = record { name = extended bytes d.name; given = d.given; attribute = d.attribute; value = d.value }
+noted_all (EndName part) bytes d = record { name = extended bytes d.name; given = d.given; attribute = d.attribute; value = d.value }
+noted_all (AttributeName part) bytes d = record { name = d.name; given = d.given; attribute = extended bytes d.attribute; value = d.value }
+noted_all (Value q after_return) bytes d = add_value bytes d
+noted_all _ bytes d = d
+
+-- The bytes are their own characters, with which the token goes on as it stands.
+pub record IsStill (scan : Scan) (bytes : List ℕ) : Type 0 where
+  pub encoded : encode_utf8_all bytes ≡ bytes
+  pub scans : (d : Draft) → run scan d bytes ≡ At scan (noted_all scan bytes d)
+
+-- The bytes are their own characters, with which the token goes on; they are not counted yet.
+pub record GoesOver (old new : Tokenizer) (bytes : List ℕ) : Type 0 where
+  pub encoded : encode_utf8_all bytes ≡ bytes
+  pub scans : run old.scan old.draft bytes ≡ At new.scan new.draft
+  pub after : new ≡ scanned old new.scan new.draft
+
+-- a token is open, of which the next byte settles nothing
+abbrev pub is_inside : Scan → Bool
+is_inside (Begin p) = false
+is_inside AfterReturn = false
+is_inside Bracket = false
+is_inside Brackets = false
+is_inside _ = true
+
+-- it is a tag, or may become one
+abbrev pub may_be_tag : Scan → Bool
+may_be_tag (Opened first) = true
+may_be_tag s = is_tag s
+
+-- so many bytes are counted
+abbrev pub moved : Tokenizer → ℕ → Tokenizer
+moved z n = record { alloc = z.alloc; utf8 = z.utf8; position = z.position; scan = z.scan; draft = z.draft; start = z.start; place = z.place + n }
+
+-- Bytes go on with the open token, and end none; a tag stays shorter than its limit.
+pub record GoesInside (old new : Tokenizer) (bytes : List ℕ) : Type 0 where
+  pub inside : is_inside old.scan ≡ true
+  pub whole : old.utf8 ≡ Some []
+  pub between : Tokenizer
+  pub over : GoesOver old between bytes
+  pub after : new ≡ moved between (length bytes)
+  pub short : may_be_tag old.scan ≡ true → (old.place - old.start) + length bytes < tag_limit

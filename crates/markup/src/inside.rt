@@ -1,0 +1,117 @@
+// Bytes with which an open token goes on as it stands: of a name, a value, a comment, an instruction.
+ghost use Rattle.std.specs.Prelude.{◌≡◌, ◌≤◌, length, take};
+ghost use Rattle.std.specs.List.{prefix_len};
+ghost use Rattle.markup.specs.Inside.{is_literal_of, is_passed, IsStill};
+
+use crate::plain_tag::name_length;
+use crate::scan::{NameScan, Scan};
+
+/// Whether the byte stands for itself in a value in these quotes, and neither ends it nor begins a
+/// reference: one from 0x20 to 0x7F that is not `<`, `&` or the quote (XML 1.0 §2.3, §3.3.3).
+#[inline]
+fn is_literal_of(quote: char, byte: u8) -> bool
+    ensures { result ≡ is_literal_of quote byte }
+{
+    byte >= 0x20 && byte <= 0x7F && byte != b'<' && byte != b'&' && byte as char != quote
+}
+
+/// Whether the byte is a character of a comment or an instruction that does not begin its end: a
+/// tab, a line end, and one from 0x20 to 0x7F but this one (XML 1.0 §2.5, §2.6).
+#[inline]
+fn is_passed(end: u8, byte: u8) -> bool
+    ensures { result ≡ is_passed end byte }
+{
+    if byte >= 0x20 {
+        byte <= 0x7F && byte != end
+    } else {
+        byte == b'\n' || byte == b'\t' || byte == b'\r'
+    }
+}
+
+/// How many bytes at the front of the piece stand for themselves in a value in these quotes.
+#[inline]
+fn value_length(quote: char, piece: &[u8]) -> usize
+    ensures within { result ≤ length piece.now }
+    ensures count { result ≡ prefix_len (is_literal_of quote) piece.now }
+{
+    for (i, byte) in piece.iter().enumerate() {
+        if !is_literal_of(quote, *byte) {
+            return i;
+        }
+    }
+    piece.len()
+}
+
+/// How many bytes at the front of the piece do not begin the end of a comment or an instruction.
+#[inline]
+fn passed_length(end: u8, piece: &[u8]) -> usize
+    ensures within { result ≤ length piece.now }
+    ensures count { result ≡ prefix_len (is_passed end) piece.now }
+{
+    for (i, byte) in piece.iter().enumerate() {
+        if !is_passed(end, *byte) {
+            return i;
+        }
+    }
+    piece.len()
+}
+
+/// How many bytes at the front of the piece a part of a name goes on with.
+#[inline]
+fn part_length(part: NameScan, piece: &[u8]) -> usize
+    ensures within { result ≤ length piece.now }
+    ensures name { IsStill (Scan.StartName part) (take result piece.now) }
+    ensures attribute { IsStill (Scan.AttributeName part) (take result piece.now) }
+    ensures end { IsStill (Scan.EndName part) (take result piece.now) }
+{
+    match part {
+        NameScan::Colon => 0,
+        _ => name_length(piece),
+    }
+}
+
+impl Scan {
+    ghost use Rattle.markup.specs.Inside.{is_inside, may_be_tag};
+
+    /// Whether a token is open of which the next byte settles nothing.
+    #[inline]
+    pub(crate) fn is_inside(self) -> bool
+        ensures { result ≡ is_inside self }
+    {
+        !matches!(
+            self,
+            Scan::Begin(_) | Scan::AfterReturn | Scan::Bracket | Scan::Brackets
+        )
+    }
+
+    /// Whether the open token is a tag, or may become one.
+    #[inline]
+    pub(crate) fn may_be_tag(self) -> bool
+        ensures { result ≡ may_be_tag self }
+    {
+        matches!(self, Scan::Opened(_)) || self.is_tag()
+    }
+
+    /// How many bytes at the front of the piece leave the scan as it is.
+    #[inline]
+    pub(crate) fn still_length(self, piece: &[u8]) -> usize
+        ensures within { result ≤ length piece.now }
+        ensures still { IsStill self (take result piece.now) }
+    {
+        match self {
+            Scan::Value(quote, after_return) => {
+                if after_return {
+                    0
+                } else {
+                    value_length(quote, piece)
+                }
+            }
+            Scan::StartName(part) => part_length(part, piece),
+            Scan::AttributeName(part) => part_length(part, piece),
+            Scan::EndName(part) => part_length(part, piece),
+            Scan::CommentText => passed_length(b'-', piece),
+            Scan::InstructionText => passed_length(b'?', piece),
+            _ => 0,
+        }
+    }
+}
