@@ -2,7 +2,7 @@
 use Rattle.std.proofs.Common.{◌≡◌, ℕ, ◌≤◌, ◌<◌, Some, List, [], refl, sym, ap, ◌∙◌, subst, arith, append-nil, inl}
 use Rattle.pattern_match.specs.Expression.{Expression}
 use Rattle.pattern_match.specs.Positions.{positions}
-use Rattle.pattern_match.specs.Reading.{IsTreeOf, IsPattern, HasMorePositions, HasPositionsWithin}
+use Rattle.pattern_match.specs.Reading.{IsTreeOf, IsPattern, HasMorePositions, HasPositionsWithin, HasPositions}
 use Rattle.pattern_match.specs.Spelling.{spelling}
 use Rattle.pattern_match.specs.Tokens.{emitted}
 use Rattle.pattern_match.specs.Building.{capped, limit, built_whole}
@@ -34,6 +34,14 @@ too_large text (t, h) l = (t, h, let e = tree_positions text t h in let x : limi
 
 pub small_enough : (text : List ℕ) → IsPattern text → counted_whole (tokens_of_text text) ≤ limit → HasPositionsWithin text limit
 small_enough text (t, h) l = (t, h, let e = tree_positions text t h in let x : capped (positions t) ≤ limit = subst (λ y. y ≤ limit) e l in omega arith)
+
+-- the positions that are counted are those of the pattern, as long as they are within the limit
+pub measured_positions : (text : List ℕ) → IsPattern text → counted_whole (tokens_of_text text) ≤ limit → HasPositions text (counted_whole (tokens_of_text text))
+measured_positions text (t, h) l = (t, h, let e = tree_positions text t h in omega arith)
+
+-- and then they are within it
+pub within_limit : (text : List ℕ) (n : ℕ) → HasPositions text n → n ≤ limit → HasPositionsWithin text limit
+within_limit text n (t, h, e) l = (t, h, subst (λ m. m ≤ limit) (sym e) l)
 
 -- all trees of a text are small enough where one is
 pub all_small : (text : List ℕ) (t : Expression) → IsTreeOf text t → HasPositionsWithin text limit → positions t ≤ limit

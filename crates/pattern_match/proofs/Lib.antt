@@ -19,6 +19,7 @@ pub mod Listing
 pub mod Walking
 pub mod Starting
 pub mod Recalling
+pub mod RecallRows
 pub mod Ended
 pub mod Quiet
 pub mod Matching

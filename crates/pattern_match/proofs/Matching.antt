@@ -1,11 +1,11 @@
 -- The marks of a matcher tell the words of a pattern.
-use Rattle.std.proofs.Common.{◌≡◌, ℕ, zero, suc, ◌+◌, ◌-◌, ◌*◌, ◌≤◌, ◌↔◌, Bool, true, false, cond, ◌==◌, nat_lt, IsTrue, Option, Some, None, List, [], ◌∷◌, ◌++◌, length, replicate, get_or, refl, sym, ap, ap₂, ◌∙◌, subst, arith, append-nil, append_assoc, zero-add, suc-add}
+use Rattle.std.proofs.Common.{◌≡◌, ℕ, zero, suc, ◌+◌, ◌-◌, ◌*◌, ◌≤◌, ◌↔◌, Bool, true, false, cond, ◌==◌, nat_lt, IsTrue, Option, Some, None, List, [], ◌∷◌, ◌++◌, length, replicate, get_or, refl, sym, ap, ap₂, ◌∙◌, subst, arith, inl, inr, append-nil, append_assoc, zero-add, suc-add}
 use Rattle.std.specs.Str.{chars}
 use Rattle.pattern_match.specs.Expression.{Expression, Empty, Piece, Group, Choice, Once}
 use Rattle.pattern_match.specs.Valid.{IsExpression, IsBranch}
 use Rattle.pattern_match.specs.Positions.{positions}
 use Rattle.pattern_match.specs.Language.{IsBoth, Lang, IsQuantified, Repeats}
-use Rattle.pattern_match.specs.Reading.{IsTreeOf, HasPositionsWithin, Matches}
+use Rattle.pattern_match.specs.Reading.{IsTreeOf, HasPositionsWithin, Matches, IsDecided}
 use Rattle.pattern_match.specs.Plan.{Plan, Nothing, One, Many, Either, size, Flagged, IsTaken, PlanLang, Begins, Ends, Marked, IsOneBranch, IsPlan}
 use Rattle.pattern_match.specs.Marking.{first_pass, second_pass}
 use Rattle.pattern_match.specs.Token.{admits}
@@ -268,6 +268,22 @@ accepts_is bytes tokens c marks w i h = (
   λ x. (i.pattern.0, i.pattern.1, (for_tree (chars bytes) i.pattern.0 w marks (length c) i.pattern.1 i.pattern h.marks_are (ap length i.code_is)).0 x),
   λ x. (for_tree (chars bytes) x.0 w marks (length c) x.1 i.pattern h.marks_are (ap length i.code_is)).1 x.2,
 )
+
+-- so a word is one of the pattern, or it is none
+pub decided : (bytes : List ℕ) (w : List ℕ) → HasPositionsWithin (chars bytes) limit → IsDecided (chars bytes) w
+decided bytes w within = choose (get_or marks (length (code_of_text (chars bytes))) false) refl
+  where
+    marks : List Bool
+    marks = marks_from (tokens_of_text (chars bytes)) (code_of_text (chars bytes)) (first_marks (code_of_text (chars bytes))) w
+
+    tells : IsTrue (get_or marks (length (code_of_text (chars bytes))) false) ↔ Matches (chars bytes) w
+    tells =
+        accepts_is bytes (tokens_of_text (chars bytes)) (code_of_text (chars bytes)) marks w (record { pattern = within; tokens_are = refl; code_is = refl })
+        (record { marks_are = refl })
+
+    choose : (b : Bool) → get_or marks (length (code_of_text (chars bytes))) false ≡ b → IsDecided (chars bytes) w
+    choose true e = inl (tells.0 e)
+    choose false e = inr (λ m. let both = sym e ∙ tells.1 m in absurd cc)
 
 -- marks behind a word are one for each instruction, and one more
 pub marked_length : (bytes : List ℕ) (marks : List Bool) (w : List ℕ) → IsMarked bytes marks w → length marks ≡ length (code_of_text (chars bytes)) + 1

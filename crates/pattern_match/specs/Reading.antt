@@ -1,5 +1,5 @@
 -- Which texts are a pattern, and where a text is none: as lists of characters.
-use Rattle.std.specs.Prelude.{ℕ, ◌≡◌, ◌+◌, ◌≤◌, ◌<◌, List, ◌++◌, length, take}
+use Rattle.std.specs.Prelude.{ℕ, ◌≡◌, ◌⊎◌, ◌+◌, ◌≤◌, ◌<◌, List, ◌++◌, length, take}
 use Rattle.pattern_match.specs.Expression.{Expression}
 use Rattle.pattern_match.specs.Spelling.{spelling}
 use Rattle.pattern_match.specs.Valid.{IsExpression}
@@ -25,6 +25,10 @@ HasMorePositions text n = (tree : Expression) × IsTreeOf text tree × (n < posi
 abbrev pub HasPositionsWithin : List ℕ → ℕ → Type 0
 HasPositionsWithin text n = (tree : Expression) × IsTreeOf text tree × (positions tree ≤ n)
 
+-- the text is a pattern of so many positions
+abbrev pub HasPositions : List ℕ → ℕ → Type 0
+HasPositions text n = (tree : Expression) × IsTreeOf text tree × (positions tree ≡ n)
+
 -- some pattern goes on so: the text is the front of one
 abbrev pub GoesOn : List ℕ → Type 0
 GoesOn front = (rest : List ℕ) × IsPattern (front ++ rest)
@@ -39,6 +43,10 @@ pub record IsRefusedAt (text : List ℕ) (place : ℕ) : Type 0 where
 -- the word is one of the pattern that the text is
 abbrev pub Matches : List ℕ → List ℕ → Type 0
 Matches text w = (tree : Expression) × IsTreeOf text tree × Lang tree w
+
+-- the word is one of the pattern that the text is, or it is none
+abbrev pub IsDecided : List ℕ → List ℕ → Type 0
+IsDecided text w = Matches text w ⊎ (Matches text w → ⊥)
 
 -- what an error of reading tells
 abbrev pub Refuses : List ℕ → PatternError → Type 0

@@ -1,11 +1,16 @@
 -- What a matcher remembers of the marks that it has met: the state of a machine, which the contracts of private functions alone cite.
-use Rattle.std.specs.Prelude.{ℕ, suc, ◌≡◌, ◌+◌, ◌*◌, ◌<◌, Bool, Option, Some, None, List, [], length, slice_index_or}
+use Rattle.std.specs.Prelude.{ℕ, zero, suc, ◌≡◌, ◌+◌, ◌*◌, ◌<◌, Bool, Option, Some, None, List, [], ◌∷◌, length, take, drop, slice_index_or}
 use Rattle.pattern_match.specs.Marks.{Walk}
 
 -- the marks that were met, and a table: for a number of these and an ASCII character one more than the number of those that follow, or 0
 pub record Known : Type 0 where
   pub rows : List (List Bool)
   pub table : List ℕ
+
+-- so many rows of this width, one after another
+abbrev pub rows_of : ℕ → ℕ → List Bool → List (List Bool)
+rows_of zero width cells = []
+rows_of (suc n) width cells = take width cells ∷ rows_of n width (drop width cells)
 
 -- the marks of this number
 abbrev pub row : Known → ℕ → List Bool

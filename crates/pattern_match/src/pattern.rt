@@ -3,7 +3,7 @@ ghost use Rattle.std.specs.Prelude.{◌≡◌, ◌≤◌, ◌*◌, ℕ, List, le
 ghost use Rattle.std.specs.Str.{chars};
 ghost use Rattle.pattern_match.specs.Expression.{Expression};
 ghost use Rattle.pattern_match.specs.Positions.{positions};
-ghost use Rattle.pattern_match.specs.Reading.{IsTreeOf, HasPositionsWithin, Refuses};
+ghost use Rattle.pattern_match.specs.Reading.{IsTreeOf, HasPositionsWithin, HasPositions, Refuses};
 ghost use Rattle.pattern_match.specs.Building.{limit};
 ghost use Rattle.pattern_match.specs.Gaps.{HasGaps, gaps as gaps_from};
 ghost use Rattle.pattern_match.specs.Compiled.{IsCompiled, tokens_of_text, code_of_text};
@@ -41,6 +41,34 @@ impl Model for Pattern {
     ghost invariant = { λ p. IsCompiled p.text p.tokens.items p.code.items × (p.gaps.items ≡ gaps_from p.code.items) };
 }
 
+/// The tokens of a pattern, and its positions.
+#[derive(Drop)]
+struct Measured {
+    tokens: Vec<Token>,
+    positions: u64,
+}
+
+/// The tokens of a pattern that is not too large, and its positions. No code is made.
+fn measure_tokens(alloc: Global, text: &str) -> Result<Measured, PatternError>
+    ensures tokens { IfOk result (λ m. m.tokens.items ≡ tokens_of_text (chars text.now)) }
+    ensures positions { IfOk result (λ m. HasPositions (chars text.now) m.positions) }
+    ensures within { IfOk result (λ m. m.positions ≤ limit) }
+    ensures error { IfErr result (λ e. Refuses (chars text.now) e) }
+{
+    let characters = characters(alloc, text)?;
+    match refusal(characters.as_slice()) {
+        Some(place) => return Err(PatternError::Refused { place }),
+        None => {}
+    }
+    let tokens = tokens_of(alloc, characters.as_slice())?;
+    let mut counter = Counter::new(alloc, tokens.len() + 2)?;
+    let positions = count(tokens.as_slice(), &mut counter);
+    if positions > LIMIT {
+        return Err(PatternError::TooLarge);
+    }
+    Ok(Measured { tokens, positions })
+}
+
 /// The characters of a text.
 fn characters(alloc: Global, text: &str) -> Result<Vec<char>, AllocError>
     ensures { IfOk result (λ v. v.items ≡ chars text.now) }
@@ -55,17 +83,10 @@ impl Pattern {
         ensures positions { OnOk result (HasPositionsWithin (chars text.now) limit) }
         ensures error { IfErr result (λ e. Refuses (chars text.now) e) }
     {
-        let characters = characters(alloc, text)?;
-        match refusal(characters.as_slice()) {
-            Some(place) => return Err(PatternError::Refused { place }),
-            None => {}
-        }
-        let tokens = tokens_of(alloc, characters.as_slice())?;
-        let mut counter = Counter::new(alloc, tokens.len() + 2)?;
-        let positions = count(tokens.as_slice(), &mut counter);
-        if positions > LIMIT {
-            return Err(PatternError::TooLarge); // before any code is made
-        }
+        let tokens = match measure_tokens(alloc, text) {
+            Ok(measured) => measured.tokens,
+            Err(error) => return Err(error), // before any code is made
+        };
         let code = compile(alloc, tokens.as_slice())?;
         let gaps = gaps_of(alloc, code.as_slice())?;
         let mut kept = Text::new(alloc);
@@ -76,6 +97,19 @@ impl Pattern {
             code,
             gaps,
         })
+    }
+
+    /// The positions of a pattern, from its whole text, which `read` then reads: the errors are its own. No code is
+    /// made, and the time that it takes is bounded by the characters of the text alone.
+    pub fn measure(alloc: Global, text: &str) -> Result<u64, PatternError>
+        ensures positions { IfOk result (λ n. HasPositions (chars text.now) n) }
+        ensures within { IfOk result (λ n. n ≤ limit) }
+        ensures error { IfErr result (λ e. Refuses (chars text.now) e) }
+    {
+        match measure_tokens(alloc, text) {
+            Ok(measured) => Ok(measured.positions),
+            Err(error) => Err(error),
+        }
     }
 
     /// The text that was read, as bytes. It takes no memory.

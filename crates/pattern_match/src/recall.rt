@@ -1,6 +1,6 @@
 // What a matcher remembers: marks that it has met, and which follow them by an ASCII character.
 ghost use Rattle.std.specs.Prelude.{◌≡◌, ℕ, suc, ◌+◌, ◌*◌, ◌<◌, ◌≤◌, ◌⊎◌, IsTrue, Bool, false, Some, List, [], ◌∷◌, ◌++◌, length, slice_index_or, slice_set, IfOk, IfSome};
-ghost use Rattle.pattern_match.specs.Recall.{Known, row, cell, IsRightTable, IsRow};
+ghost use Rattle.pattern_match.specs.Recall.{Known, row, rows_of, cell, IsRightTable, IsRow};
 
 use std::alloc::{AllocError, Global};
 use std::marker::Model;
@@ -17,22 +17,25 @@ const WIDEST: usize = 1_024;
 
 #[derive(Drop)]
 pub struct Recall {
-    rows: Vec<Vec<bool>>,
-    spare: Vec<Vec<bool>>,
+    /// The marks that were met, one after another, as many as `count`, and each of them of this width.
+    cells: Vec<bool>,
+    count: usize,
+    width: usize,
+    /// For how many more cells there is room.
+    spare: usize,
     table: Vec<u8>,
 }
 
 impl Model for Recall {
-    ghost use Rattle.std.specs.Prelude.{map};
-    ghost use Rattle.pattern_match.specs.Recall.{Known};
+    ghost use Rattle.pattern_match.specs.Recall.{Known, rows_of};
 
     ghost Value = { Known };
 
-    ghost view = { λ r. record { rows = map (λ v. v.items) r.rows.items; table = r.table.items } };
+    ghost view = { λ r. record { rows = rows_of r.count r.width r.cells.items; table = r.table.items } };
 
-    ghost use Rattle.std.specs.Prelude.{◌+◌, ◌≤◌, length, vec_capacity};
+    ghost use Rattle.std.specs.Prelude.{◌≡◌, ◌*◌, ◌+◌, ◌≤◌, length, vec_capacity};
 
-    ghost invariant = { λ r. length r.rows.items + length r.spare.items ≤ vec_capacity r.rows };
+    ghost invariant = { λ r. (length r.cells.items ≡ r.count * r.width) × (length r.cells.items + r.spare ≤ vec_capacity r.cells) };
 }
 
 /// So many cells, none of them known.
@@ -49,41 +52,25 @@ fn are_same(xs: &[bool], ys: &[bool]) -> bool
     xs == ys
 }
 
-/// Whether the marks were copied: only where there are as many.
-fn copy_marks(from: &[bool], to: &mut [bool]) -> bool
-    ensures same { IsTrue result → to.new ≡ from.now }
-    ensures kept { result ≡ false → to.new ≡ to.old }
+/// The row of this number, of so many rows of this width.
+fn row_of(cells: &[bool], width: usize, count: usize, at: usize) -> &[bool]
+    requires at { at < count }
+    requires cells { length cells.now ≡ count * width }
+    ensures { result.now ≡ slice_index_or (rows_of count width cells.now) at [] }
 {
-    if from.len() != to.len() {
-        return false;
-    }
-    to.copy_from_slice(from);
-    true
-}
-
-/// So many rows of so many marks, at most.
-fn spare_rows(alloc: Global, count: usize, width: usize) -> Result<Vec<Vec<bool>>, AllocError>
-    ensures { IfOk result (λ v. length v.items ≤ count) }
-{
-    let mut rows = Vec::new(alloc);
-    for i in 0..count {
-        rows.push(no_row(alloc, width)?)?;
-    }
-    Ok(rows)
-}
-
-/// A row of so many marks.
-fn no_row(alloc: Global, width: usize) -> Result<Vec<bool>, AllocError>
-    ensures { IfOk result (λ v. length v.items ≡ width) }
-{
-    vec![in alloc; false; width]
+    let (_, behind) = cells.split_at(at * width);
+    behind.split_at(width).0
 }
 
 /// How many rows of so many marks are remembered.
 fn rows_for(width: usize) -> usize
     ensures { result ≤ 64 }
 {
-    if width > WIDEST { 0 } else { MOST }
+    if width > WIDEST {
+        0
+    } else {
+        MOST.min(width + 2) // where a character marks one place at most, no more than these are met
+    }
 }
 
 impl Recall {
@@ -93,14 +80,18 @@ impl Recall {
         ensures table { IfOk result (λ r. (i : ℕ) → slice_index_or r.table i 0 ≡ 0) }
     {
         let count = rows_for(width);
+        let spare = count.saturating_mul(width);
         Ok(Recall {
-            spare: spare_rows(alloc, count, width)?,
-            rows: Vec::with_capacity(alloc, count)?,
+            cells: Vec::with_capacity(alloc, spare)?,
+            count: 0,
+            width,
+            spare,
             table: no_cells(alloc, WIDTH * count)?,
         })
     }
 
     /// The number of the marks that follow these by the character, if it is known.
+    #[inline]
     pub fn after(&self, at: usize, c: char) -> Option<usize>
         ensures { IfSome result (λ t. (c < 128) × (cell self.now at c ≡ suc t)) }
     {
@@ -120,16 +111,23 @@ impl Recall {
         requires { at < length self.now.rows }
         ensures { result.now ≡ row self.now at }
     {
-        self.rows[at].as_slice()
+        row_of(self.cells.as_slice(), self.width, self.count, at)
+    }
+
+    /// How many marks were met.
+    fn len(&self) -> usize
+        ensures { result ≡ length self.now.rows }
+    {
+        self.count
     }
 
     /// The number of the marks, if they were met.
     fn find(&self, marks: &[bool]) -> Option<usize>
         ensures { IsRow self.now result marks.now }
     {
-        for (i, met) in self.rows.iter().enumerate() {
-            if are_same(met.as_slice(), marks) {
-                return Some(i);
+        for at in 0..self.len() {
+            if are_same(self.row(at), marks) {
+                return Some(at);
             }
         }
         None
@@ -141,16 +139,19 @@ impl Recall {
         ensures table { self.new.table ≡ self.old.table }
         ensures rows { (self.new.rows ≡ self.old.rows) ⊎ (self.new.rows ≡ self.old.rows ++ marks.now ∷ []) }
     {
-        let mut new = self.spare.pop()?;
-        if !copy_marks(marks, new.as_mut_slice()) {
+        let at = self.count;
+        if at == usize::MAX || marks.len() != self.width || self.spare < self.width {
             return None;
         }
-        let at = self.rows.len();
-        match self.rows.push(new) {
-            Ok(()) => Some(at),
-            Err(_) => unreachable!(),
+        match self.cells.extend_from_slice(marks) {
+            Ok(()) => {}
+            Err(_) => unreachable!(), // there is room
         }
+        self.spare -= self.width;
+        self.count += 1;
+        Some(at)
     }
+
     /// The number of the marks, if they were met or there is room for them.
     pub fn number(&mut self, marks: &[bool]) -> Option<usize>
         ensures row { IsRow self.new result marks.now }
