@@ -29,3 +29,5 @@ pub mod FragmentFronts
 pub mod FragmentSteps
 pub mod Within
 pub mod ShortWithin
+pub mod TakenRuns
+pub mod TakenTags

@@ -10,6 +10,8 @@ ghost use Rattle.respell.specs.Respelling.{AreFront, AreOf, HasSortedAttributes,
 ghost use Rattle.respell.specs.Kept.{HasTaken, HasWritten, HasDefaults};
 ghost use Rattle.respell.specs.FragmentReading.{NoneOutside};
 
+mod plain;
+
 use crate::spelling::{is_xml, push_attributes, push_declarations, push_name, push_written};
 use lexical_core::{Text, escape};
 use markup::{Attr, Event, What};
@@ -25,6 +27,8 @@ pub struct Respell {
     prefix: Text,
     defaults: Vec<Text>,
     declares: Vec<bool>,
+    /// Whether an element has come that is written with a prefix, in the namespace of `xml`.
+    prefixed: bool,
     failed: bool,
 }
 
@@ -39,6 +43,7 @@ impl Respell {
             prefix: Text::new(alloc),
             defaults: Vec::new(alloc),
             declares: Vec::new(alloc),
+            prefixed: false,
             failed: false,
         }
     }
@@ -126,6 +131,7 @@ impl Respell {
         ensures text { (defaults : List (Option (List ℕ))) → HasDefaults self.old defaults → AreSorted (map entry_of attrs.now) → OnOk result (self.new.text ≡ self.old.text ++ start_text (nearest defaults) (record { namespace = ns.now; local = local.now }) (map entry_of attrs.now)) }
         ensures kept { (defaults : List (Option (List ℕ))) → HasDefaults self.old defaults → OnOk result (HasDefaults self.new (default_within (nearest defaults) (record { namespace = ns.now; local = local.now }) ∷ defaults)) }
         ensures failed { self.new.failed ≡ self.old.failed }
+        ensures prefixed { OnOk result (self.new.prefixed ≡ (self.old.prefixed || is_xml ns.now)) }
     {
         self.text.extend(b"<")?;
         self.name(ns, local)?;
@@ -133,7 +139,15 @@ impl Respell {
         push_declarations(&mut self.text, &mut self.prefix, attrs)?;
         push_attributes(&mut self.text, &mut self.prefix, attrs)?;
         self.text.extend(b">")?;
+        self.prefixed = self.is_prefixed(ns);
         Ok(())
+    }
+
+    /// Whether an element has come that is written with a prefix, with one of this namespace.
+    fn is_prefixed(&self, ns: &[u8]) -> bool
+        ensures { result ≡ (self.now.prefixed || is_xml ns.now) }
+    {
+        self.prefixed || is_xml(ns)
     }
 
     /// Writes the declaration of an element's default if it needs one, and keeps the default within it.
@@ -141,6 +155,7 @@ impl Respell {
         ensures text { (defaults : List (Option (List ℕ))) (local : List ℕ) → HasDefaults self.old defaults → OnOk result (self.new.text ≡ self.old.text ++ flat_map written_text (default_declaration (nearest defaults) (record { namespace = ns.now; local = local }))) }
         ensures kept { (defaults : List (Option (List ℕ))) (local : List ℕ) → HasDefaults self.old defaults → OnOk result (HasDefaults self.new (default_within (nearest defaults) (record { namespace = ns.now; local = local }) ∷ defaults)) }
         ensures failed { self.new.failed ≡ self.old.failed }
+        ensures prefixed { self.new.prefixed ≡ self.old.prefixed }
     {
         if self.is_declared(ns) {
             self.declares.push(false)?;
@@ -173,6 +188,7 @@ impl Respell {
         ensures text { OnOk result (self.new.text ≡ self.old.text ++ written_text (record { name = record { prefix = []; local = xmlns }; value = ns.now })) }
         ensures defaults { OnOk result (self.new.defaults.items ≡ self.old.defaults.items ++ ns.now ∷ []) }
         ensures rest { (self.new.declares ≡ self.old.declares) × (self.new.failed ≡ self.old.failed) }
+        ensures prefixed { self.new.prefixed ≡ self.old.prefixed }
     {
         push_written(&mut self.text, b"", b"xmlns", ns)?;
         self.defaults
@@ -184,6 +200,7 @@ impl Respell {
     fn name(&mut self, ns: &[u8], local: &[u8]) -> Result<(), AllocError>
         ensures text { OnOk result (self.new.text ≡ self.old.text ++ spelling_text (element_spelling (record { namespace = ns.now; local = local.now }))) }
         ensures rest { (self.new.defaults ≡ self.old.defaults) × (self.new.declares ≡ self.old.declares) × (self.new.failed ≡ self.old.failed) }
+        ensures prefixed { self.new.prefixed ≡ self.old.prefixed }
     {
         if is_xml(ns) {
             push_name(&mut self.text, b"xml", local)
@@ -196,6 +213,7 @@ impl Respell {
     fn character(&mut self, c: char) -> Result<(), AllocError>
         ensures text { OnOk result (self.new.text ≡ self.old.text ++ escaped false c) }
         ensures rest { (self.new.defaults ≡ self.old.defaults) × (self.new.declares ≡ self.old.declares) × (self.new.failed ≡ self.old.failed) }
+        ensures prefixed { self.new.prefixed ≡ self.old.prefixed }
     {
         let mut buf = [0; 8];
         let length = escape(c, false, &mut buf);
@@ -207,6 +225,7 @@ impl Respell {
         ensures text { OnOk result (self.new.text ≡ self.old.text ++ end_text (record { namespace = ns.now; local = local.now })) }
         ensures kept { (defaults : List (Option (List ℕ))) → HasDefaults self.old defaults → OnOk result (HasDefaults self.new (drop 1 defaults)) }
         ensures failed { self.new.failed ≡ self.old.failed }
+        ensures prefixed { self.new.prefixed ≡ self.old.prefixed }
     {
         self.text.extend(b"</")?;
         self.name(ns, local)?;
@@ -219,6 +238,7 @@ impl Respell {
     fn leave(&mut self)
         ensures kept { (defaults : List (Option (List ℕ))) → HasDefaults self.old defaults → HasDefaults self.new (drop 1 defaults) }
         ensures rest { (self.new.text ≡ self.old.text) × (self.new.failed ≡ self.old.failed) }
+        ensures prefixed { self.new.prefixed ≡ self.old.prefixed }
     {
         let Some(declared) = self.declares.pop() else {
             return;

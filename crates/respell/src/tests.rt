@@ -1,6 +1,7 @@
 // Rows of fragments: XML with the fragment of its root, and bytes that are fragments or not.
 use super::{Respell, is_fragment};
-use markup::{Event, Events, Reader};
+use lexical_core::Text;
+use markup::{Attrs, Event, Events, Reader, TagKind, What};
 use std::alloc::{AllocError, Global};
 
 /// The most bytes that are read of a row.
@@ -79,6 +80,31 @@ fn xml_is_respelled(rt: HostRuntime) -> Result<(), AllocError> {
     for (bytes, fragment) in &RESPELLED {
         assert!(&rt; is_respelled(rt.alloc(), bytes, fragment)?);
     }
+    Ok(())
+}
+
+/// An event at which an element starts.
+fn start_of(alloc: Global, ns: &[u8], local: &[u8]) -> Result<Event, AllocError> {
+    Ok(Event {
+        place: 0,
+        what: What::Start {
+            ns: Text::from_vec(Vec::from_slice(alloc, ns)?),
+            local: Text::from_vec(Vec::from_slice(alloc, local)?),
+            attrs: Attrs::new(alloc),
+        },
+    })
+}
+
+#[test]
+fn runs_and_tags_are_respelled(rt: HostRuntime) -> Result<(), AllocError> {
+    let mut respell = Respell::new(rt.alloc());
+    respell.take(&start_of(rt.alloc(), b"urn:x", b"X")?)?;
+    assert!(&rt; respell.is_in_default());
+    respell.take_run(b"7 ")?;
+    respell.take_tag(TagKind::Empty, b"Y")?;
+    respell.take_tag(TagKind::End, b"X")?;
+    assert!(&rt; respell.is_whole());
+    assert!(&rt; respell.text() == b"<X xmlns=\"urn:x\">7 <Y></Y></X>".as_slice());
     Ok(())
 }
 
