@@ -29,6 +29,7 @@ pub mod NameBlocks
 pub mod OpenTags
 pub mod WholeTokens
 pub mod InsideLemmas
+pub mod HeldBytes
 pub mod PlainTagLemmas
 pub mod InsideRuns
 pub mod TagScans

@@ -27,7 +27,7 @@ use Rattle.markup.specs.declared.scan.Turn.TheVariants.{Goes, Whole, Stuck}
 use Rattle.markup.proofs.ReferencePlaces.{in_reference, in_tag, tag_run, reference_fact, ReferenceFact, if_intro, start_quiet, IsQuiet}
 
 -- the scans of comments, instructions, words and the declaration, and of what may end with what follows
-abbrev is_other : Scan → Bool
+abbrev pub is_other : Scan → Bool
 is_other AfterReturn = true
 is_other Bracket = true
 is_other Brackets = true
@@ -56,12 +56,12 @@ is_other (FieldGap f) = true
 is_other DeclarationMark = true
 is_other _ = false
 
-abbrev other_goes : Turn → Bool
+abbrev pub other_goes : Turn → Bool
 other_goes (Goes s) = is_other s
 other_goes _ = true
 
-record OtherTurn (t : Turn) : Type 0 where
-  is : other_goes t ≡ true
+pub record OtherTurn (t : Turn) : Type 0 where
+  pub is : other_goes t ≡ true
 
 oo : (t : Turn) → other_goes t ≡ true → OtherTurn t
 oo t h = record { is = h }
@@ -91,7 +91,7 @@ target_other c = oi (is_name_char c) _ _ (oo _ refl) (oi (is_space c) _ _ (oo _ 
 instruction_other : (c : ℕ) → OtherTurn (step InstructionText c)
 instruction_other c = oi (c == 63) _ _ (oo _ refl) (oi (is_xml_char c) _ _ (oo _ refl) (oo _ refl))
 
-other_turn : (s : Scan) (c : ℕ) → is_other s ≡ true → OtherTurn (step s c)
+pub other_turn : (s : Scan) (c : ℕ) → is_other s ≡ true → OtherTurn (step s c)
 other_turn AfterReturn c h = oi (c == 10) _ _ (oo _ refl) (oo _ refl)
 other_turn Bracket c h = oi (c == 93) _ _ (oo _ refl) (oo _ refl)
 other_turn Brackets c h = oi (c == 62) _ _ (oo _ refl) (oo _ refl)

@@ -1,7 +1,8 @@
 -- What an open tag has said so far. Private functions alone cite this.
-use Rattle.std.specs.Prelude.{ℕ, Bool, ◌==◌, ◌&&◌, List, [], ◌∷◌, ◌++◌, if◌then◌else◌, encode_utf8}
+use Rattle.std.specs.Prelude.{ℕ, Bool, ◌==◌, ◌&&◌, ◌+◌, List, [], ◌∷◌, ◌++◌, length, if◌then◌else◌, encode_utf8}
 use Rattle.markup.specs.Chars.{is_space}
 use Rattle.markup.specs.ReferenceScans.{reference_step}
+use Rattle.markup.specs.declared.tag.Given.{Given}
 use Rattle.markup.specs.declared.tag.Spelled.{Spelled}
 use Rattle.markup.specs.declared.draft.Draft.{Draft}
 use Rattle.markup.specs.declared.reference.ReferenceScan.{ReferenceScan}
@@ -63,3 +64,14 @@ noted from (AttributeName part) c d = record { name = d.name; given = d.given; a
 noted from (Value q after_return) c d = value_noted from c d
 noted from AfterValue c d = end_value d
 noted from _ c d = d
+
+-- how many bytes are held for a name, for attributes, and for an open tag
+abbrev pub held_name : Spelled → ℕ
+held_name n = length n.prefix + length n.local
+
+abbrev pub held_all : List Given → ℕ
+held_all [] = 0
+held_all (g ∷ gs) = held_name g.name + length g.value + held_all gs
+
+abbrev pub held : Draft → ℕ
+held d = held_name d.name + held_name d.attribute + length d.value + held_all d.given

@@ -1,5 +1,5 @@
 -- What a reader has taken and told, and what it answers.
-use Rattle.std.specs.Prelude.{◌≡◌, ◌≢◌, ◌≤◌, ℕ, true, false, List, [], ◌++◌, length, reverse, Option, None}
+use Rattle.std.specs.Prelude.{◌≡◌, ◌≢◌, ◌≤◌, ℕ, ◌-◌, true, false, List, [], ◌++◌, length, reverse, Option, None}
 use Rattle.lexical_core.specs.declared.rule.Rule.TheVariants.{Truncated}
 use Rattle.std.specs.List.{flat_map}
 use Rattle.markup.specs.Token.{Token, token_bytes}
@@ -8,6 +8,7 @@ use Rattle.markup.specs.Events.{Placed, events, open_tags}
 use Rattle.markup.specs.Faults.{IsClean, Fault, MarkFault, is_over, is_outside}
 use Rattle.markup.specs.Longest.{IsLongest}
 use Rattle.markup.specs.EventItems.{Tells}
+use Rattle.markup.specs.Drafts.{held}
 use Rattle.markup.specs.Tokenizers.{FinishesBy}
 use Rattle.markup.specs.declared.tokenizer.Finish.{Finish}
 use Rattle.markup.specs.Inputs.{Reads, Any, with_pending}
@@ -23,6 +24,14 @@ use Rattle.markup.specs.declared.reader.Reader.{Reader}
 -- how many bytes the reader has taken
 abbrev pub taken : Reader → ℕ
 taken r = r.tokenizer.place
+
+-- how many bytes it holds for the open token: those of the names and values that a tag has said
+abbrev pub token : Reader → ℕ
+token r = held r.tokenizer.draft
+
+-- and how many the open token has
+abbrev pub token_length : Reader → ℕ
+token_length r = r.tokenizer.place - r.tokenizer.start
 
 -- the answer that it gives for good, where there is one
 abbrev pub failed : Reader → Option MarkError

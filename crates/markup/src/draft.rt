@@ -1,7 +1,7 @@
 // What an open tag has said so far.
-ghost use Rattle.std.specs.Prelude.{◌≡◌, ◌++◌, OnOk, encode_utf8};
+ghost use Rattle.std.specs.Prelude.{◌≡◌, ◌++◌, ◌<◌, ◌^◌, OnOk, encode_utf8};
 ghost use Rattle.markup.specs.Inside.{noted_all};
-ghost use Rattle.markup.specs.Drafts.{no_draft, literal_char, given_char, end_value, shift, add, noted, value_noted, add_value};
+ghost use Rattle.markup.specs.Drafts.{no_draft, literal_char, given_char, end_value, shift, add, noted, value_noted, add_value, held_all, held};
 
 use crate::characters::is_blank;
 use crate::reference::{ReferenceScan, ReferenceTurn};
@@ -48,6 +48,34 @@ impl Spelled {
     }
 }
 
+impl Spelled {
+    ghost use Rattle.std.specs.Prelude.{◌<◌, ◌^◌};
+    ghost use Rattle.markup.specs.Drafts.{held_name};
+
+    /// How many bytes are held for the name.
+    fn held(&self) -> u64
+        ensures { held_name self.now < 2 ^ 64 → result ≡ held_name self.now }
+    {
+        let prefix = self.prefix.bytes().len() as u64;
+        prefix.saturating_add(self.local.bytes().len() as u64)
+    }
+}
+
+/// How many bytes are held for the attributes.
+fn held_all(given: &[Given]) -> u64
+    ensures { held_all given.now < 2 ^ 64 → result ≡ held_all given.now }
+{
+    let mut count = 0_u64;
+    let mut rest = given;
+    while let Some((first, behind)) = rest.split_first() {
+        count = count
+            .saturating_add(first.name.held())
+            .saturating_add(first.value.bytes().len() as u64);
+        rest = behind;
+    }
+    count
+}
+
 /// Appends the character's bytes.
 pub(crate) fn push(text: &mut Text, c: char) -> Result<(), AllocError>
     ensures { OnOk result (text.new ≡ text.old ++ encode_utf8 c) }
@@ -67,6 +95,16 @@ impl Draft {
             attribute: Spelled::none(alloc),
             value: Text::new(alloc),
         }
+    }
+
+    /// How many bytes are held for the open tag.
+    pub(crate) fn held(&self) -> u64
+        ensures { held self.now < 2 ^ 64 → result ≡ held self.now }
+    {
+        let names = self.name.held().saturating_add(self.attribute.held());
+        names
+            .saturating_add(self.value.bytes().len() as u64)
+            .saturating_add(held_all(self.given.as_slice()))
     }
 
     /// Notes what a character of an open token says, by the scans before it and behind it.

@@ -4,7 +4,7 @@ ghost use Rattle.std.specs.List.{prefix_len, list_all};
 ghost use Rattle.markup.specs.Chars.{is_space};
 ghost use Rattle.lexical_core.specs.declared.rule.Rule.TheVariants.{Truncated};
 ghost use Rattle.markup.specs.Token.{Token};
-ghost use Rattle.markup.specs.Marks.{in_cdata};
+ghost use Rattle.markup.specs.Marks.{in_cdata, tag_limit};
 ghost use Rattle.markup.specs.Faults.{MarkFault as HasMarkFault};
 ghost use Rattle.markup.specs.ScanRuns.{ended_of, draft_of};
 ghost use Rattle.markup.specs.declared.scan.Ended.TheVariants.{Character};
@@ -19,7 +19,7 @@ ghost use Rattle.markup.specs.declared.plain_tag.TagKind.{TagKind};
 ghost use Rattle.markup.specs.PlainTags.{tag_text, tag_items, name_behind, IsTagAt, IsTagInside};
 ghost use Rattle.markup.specs.Scopes.{IsScope, placed_at};
 ghost use Rattle.markup.specs.Tokenizers.{is_in_text};
-ghost use Rattle.markup.specs.Reading.{taken, failed, HasTaken, HasTold, IsInside, MayTakeTag, Keeps, GoesOn, Stops, IsWholly, EndsEarly, RunsOut};
+ghost use Rattle.markup.specs.Reading.{taken, failed, token, token_length, HasTaken, HasTold, IsInside, MayTakeTag, Keeps, GoesOn, Stops, IsWholly, EndsEarly, RunsOut};
 ghost use Rattle.markup.specs.Inputs.{Any, Begins, is_return};
 
 use crate::context::Context;
@@ -178,6 +178,17 @@ impl Reader {
                 Err(MarkError::Memory)
             }
         }
+    }
+
+    /// How many bytes are held for the open token: those of the names and values that a tag has said
+    /// so far. It takes no memory.
+    pub fn token(&self) -> u64
+        ensures count { token self.now < 2 ^ 64 → result ≡ token self.now }
+        ensures held { (bytes : List ℕ) (told : List Placed) → HasTaken self.now bytes told → result ≡ token self.now }
+        ensures within { (bytes : List ℕ) (told : List Placed) → HasTaken self.now bytes told → result ≤ token_length self.now }
+        ensures bound { (bytes : List ℕ) (told : List Placed) → HasTaken self.now bytes told → result ≤ tag_limit }
+    {
+        self.tokenizer.held()
     }
 
     /// The plain tag at the front of the piece, where one may come.

@@ -157,6 +157,7 @@ impl Scan {
 impl Tokenizer {
     ghost use Rattle.markup.specs.Inside.{is_inside, may_be_tag, GoesOver, GoesInside};
     ghost use Rattle.markup.specs.Marks.{tag_limit};
+    ghost use Rattle.markup.specs.Drafts.{held};
     ghost use Rattle.markup.specs.TokenRules.{is_cdata};
     ghost use Rattle.markup.specs.Tokenizers.{bounded, ended, charactered, AdvancedBy, AdvancesBy, IsOpen, restarted, settled, SettlesBy, open_at, FinishesBy, starts_plain, TakesPlain, is_ready, is_in_text, passed};
 
@@ -189,6 +190,13 @@ impl Tokenizer {
         ensures { result ≡ self.now.place }
     {
         self.place
+    }
+
+    /// How many bytes are held for the open token.
+    pub(crate) fn held(&self) -> u64
+        ensures { held self.now.draft < 2 ^ 64 → result ≡ held self.now.draft }
+    {
+        self.draft.held()
     }
 
     /// Whether the open token stands in a CDATA section (XML 1.0 §2.7).
