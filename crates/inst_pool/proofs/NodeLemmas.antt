@@ -1,139 +1,69 @@
--- The pieces that nodes keep.
-use Rattle.std.proofs.Common.{◌≡◌, ℕ, zero, suc, ◌+◌, ◌-◌, ◌<◌, ◌≤◌, List, [], ◌∷◌, ◌++◌, length, take, drop, get_or, slice_index, slice_set, slice_get, slice_range, Option, Some, None, refl, sym, ap, ap₂, subst, ◌∙◌, arith, length-drop}
+-- The contents that nodes stand for.
+use Rattle.std.proofs.Common.{◌≡◌, ℕ, zero, suc, ◌≤◌, List, [], ◌∷◌, ◌++◌, length, slice_get, Some, None, refl, ap, ap₂, subst, ◌∙◌, arith}
 use Rattle.std.specs.Option.{option_map}
-use Rattle.std.proofs.lemmas.List.{take-append-le, drop-append-le}
-use Rattle.data_types.specs.Value.{Edge, Piece, Begins, Holds, Ends}
-use Rattle.inst_pool.specs.Pieces.{bytes_of, open_behind}
-use Rattle.inst_pool.specs.Nodes.{piece_in, IsInside, node_piece, pieces_in, AreInside, lens_in, groups_in, AreOpen}
-use Rattle.inst_pool.specs.declared.node.Content.{Content}
-use Rattle.inst_pool.specs.declared.node.Content.TheVariants.{Open, Bytes, Number, Flag, Code, Close}
+use Rattle.std.proofs.Math.Seq.{get_or-append_seam}
+use Rattle.std.proofs.lemmas.List.{get_or_append_left}
+use Rattle.inst_pool.specs.Nodes.{place_in, content_of, IsWithin, AreWithin, contents_in}
+use Rattle.inst_pool.specs.declared.content.Content.{Content}
+use Rattle.inst_pool.specs.declared.content.Content.TheVariants as long
 use Rattle.inst_pool.specs.declared.node.Node.{Node}
+use Rattle.inst_pool.specs.declared.node.Node.TheVariants.{Open, Bytes, Flag, Code, Close, Long}
 
-pub length_pieces : (bytes : List ℕ) (nodes : List Node) → length (pieces_in bytes nodes) ≡ length nodes
-length_pieces bytes [] = refl
-length_pieces bytes (n ∷ nodes) = ap suc (length_pieces bytes nodes)
+pub length_contents : (block : List Content) (nodes : List Node) → length (contents_in block nodes) ≡ length nodes
+length_contents block [] = refl
+length_contents block (n ∷ nodes) = ap suc (length_contents block nodes)
 
-pub length-lens : (nodes : List Node) → length (lens_in nodes) ≡ length nodes
-length-lens [] = refl
-length-lens (n ∷ nodes) = ap suc (length-lens nodes)
+contents-append : (block : List Content) (a b : List Node) → contents_in block (a ++ b) ≡ contents_in block a ++ contents_in block b
+contents-append block [] b = refl
+contents-append block (n ∷ a) b = ap (λ l. content_of block n ∷ l) (contents-append block a b)
 
-pub length-groups : (nodes : List Node) → length (groups_in nodes) ≡ length nodes
-length-groups [] = refl
-length-groups (n ∷ nodes) = ap suc (length-groups nodes)
+-- a node stands for the same content over a longer block
+content_grow : (block more : List Content) (n : Node) → IsWithin (length block) n → content_of (block ++ more) n ≡ content_of block n
+content_grow block more (Open s) h = refl
+content_grow block more (Bytes s) h = refl
+content_grow block more (Flag f) h = refl
+content_grow block more (Code s) h = refl
+content_grow block more (Close s) h = refl
+content_grow block more (Long s) h = get_or_append_left block more (long.Code 0) (place_in s) h
 
-pub pieces-append : (bytes : List ℕ) (a b : List Node) → pieces_in bytes (a ++ b) ≡ pieces_in bytes a ++ pieces_in bytes b
-pieces-append bytes [] b = refl
-pieces-append bytes (n ∷ a) b = ap (λ l. node_piece bytes n ∷ l) (pieces-append bytes a b)
+contents_grow : (block more : List Content) (nodes : List Node) → AreWithin (length block) nodes → contents_in (block ++ more) nodes ≡ contents_in block nodes
+contents_grow block more [] h = refl
+contents_grow block more (n ∷ nodes) h = ap₂ (λ (c : Content) (l : List Content). c ∷ l) (content_grow block more n h.0) (contents_grow block more nodes h.1)
 
--- a part of a block is the same part of a longer one
-range_grow : (bytes more : List ℕ) (s e : ℕ) → s ≤ e → e ≤ length bytes → slice_range (bytes ++ more) s e ≡ slice_range bytes s e
-range_grow bytes more s e low high =
-    let within : s ≤ length bytes = omega (arith, low, high) in
-    let left : length (drop s bytes) ≡ length bytes - s = length-drop s bytes in
-    ap (λ l. take (e - s) l) (drop-append-le s bytes more within) ∙ take-append-le (e - s) (drop s bytes) more (omega (arith, left, low, high))
+within_more : (n m : ℕ) (x : Node) → n ≤ m → IsWithin n x → IsWithin m x
+within_more n m (Open s) le h = tt
+within_more n m (Bytes s) le h = tt
+within_more n m (Flag f) le h = tt
+within_more n m (Code s) le h = tt
+within_more n m (Close s) le h = tt
+within_more n m (Long s) le h = omega (arith, le, h)
 
-pub piece-grow : (bytes more : List ℕ) (c : Content) → IsInside (length bytes) c → piece_in (bytes ++ more) c ≡ piece_in bytes c
-piece-grow bytes more (Open e o) h = refl
-piece-grow bytes more (Bytes s e) h = ap (λ b. Holds (Rattle.data_types.specs.Leaf.Bytes b)) (range_grow bytes more s e h.0 h.1)
-piece-grow bytes more (Number n) h = refl
-piece-grow bytes more (Flag f) h = refl
-piece-grow bytes more (Code k) h = refl
-piece-grow bytes more (Close e) h = refl
+within_grow : (n m : ℕ) (nodes : List Node) → n ≤ m → AreWithin n nodes → AreWithin m nodes
+within_grow n m [] le h = tt
+within_grow n m (x ∷ nodes) le h = (within_more n m x le h.0, within_grow n m nodes le h.1)
 
-pub pieces-grow : (bytes more : List ℕ) (nodes : List Node) → AreInside (length bytes) nodes → pieces_in (bytes ++ more) nodes ≡ pieces_in bytes nodes
-pieces-grow bytes more [] h = refl
-pieces-grow bytes more (n ∷ nodes) h = ap₂ (λ (p : Piece) (l : List Piece). p ∷ l) (piece-grow bytes more n.content h.0) (pieces-grow bytes more nodes h.1)
+-- one more node, over a block that may be longer
+pub within-push : (n m : ℕ) (nodes : List Node) (x : Node) → n ≤ m → AreWithin n nodes → IsWithin m x → AreWithin m (nodes ++ x ∷ [])
+within-push n m [] x le h i = (i, tt)
+within-push n m (y ∷ nodes) x le h i = (within_more n m y le h.0, within-push n m nodes x le h.1 i)
 
-inside_more : (n m : ℕ) (c : Content) → n ≤ m → IsInside n c → IsInside m c
-inside_more n m (Open e o) le h = tt
-inside_more n m (Bytes s e) le h = (h.0, omega (arith, h.1, le))
-inside_more n m (Number k) le h = tt
-inside_more n m (Flag f) le h = tt
-inside_more n m (Code k) le h = tt
-inside_more n m (Close e) le h = tt
+pub pushed_short : (block : List Content) (nodes : List Node) (x : Node) (c : Content) → content_of block x ≡ c → contents_in block (nodes ++ x ∷ []) ≡ contents_in block nodes ++ c ∷ []
+pushed_short block nodes x c e = contents-append block nodes (x ∷ []) ∙ ap (λ (d : Content). contents_in block nodes ++ d ∷ []) e
 
-pub inside-grow : (n m : ℕ) (nodes : List Node) → n ≤ m → AreInside n nodes → AreInside m nodes
-inside-grow n m [] le h = tt
-inside-grow n m (x ∷ nodes) le h = (inside_more n m x.content le h.0, inside-grow n m nodes le h.1)
+pub pushed_long : (block : List Content) (nodes : List Node) (x : Node) (c : Content) → AreWithin (length block) nodes
+    → content_of (block ++ c ∷ []) x ≡ Rattle.std.proofs.Math.ListN.get_or (block ++ c ∷ []) (length block) (long.Code 0) → contents_in (block ++ c ∷ []) (nodes ++ x ∷ []) ≡ contents_in block nodes ++ c ∷ []
+pushed_long block nodes x c h e =
+    pushed_short (block ++ c ∷ []) nodes x c (e ∙ get_or-append_seam block c [] (long.Code 0)) ∙ ap (λ (l : List Content). l ++ c ∷ []) (contents_grow block (c ∷ []) nodes h)
 
-pub inside-push : (n : ℕ) (nodes : List Node) (x : Node) → AreInside n nodes → IsInside n x.content → AreInside n (nodes ++ x ∷ [])
-inside-push n [] x h i = (i, tt)
-inside-push n (y ∷ nodes) x h i = (h.0, inside-push n nodes x h.1 i)
+pub get_content : (block : List Content) (nodes : List Node) (at : ℕ) → slice_get (contents_in block nodes) at ≡ option_map (content_of block) (slice_get nodes at)
+get_content block [] at = refl
+get_content block (n ∷ nodes) zero = refl
+get_content block (n ∷ nodes) (suc at) = get_content block nodes at
 
 some_injective : (y x : Node) → Some y ≡ Some x → y ≡ x
 some_injective y x e = cc
 
-pub inside-at : (n : ℕ) (nodes : List Node) (at : ℕ) (x : Node) → AreInside n nodes → slice_get nodes at ≡ Some x → IsInside n x.content
-inside-at n [] at x h e = absurd (let e' : None ≡ Some x = e in cc)
-inside-at n (y ∷ nodes) zero x h e = (let e' : y ≡ x = some_injective y x e in subst (λ (z : Node). IsInside n z.content) e' h.0)
-inside-at n (y ∷ nodes) (suc at) x h e = inside-at n nodes at x h.1 e
-
-pub bytes_of-append : (a b : List Piece) → bytes_of (a ++ b) ≡ bytes_of a + bytes_of b
-bytes_of-append [] b = omega arith
-bytes_of-append (p ∷ a) b = (let e = bytes_of-append a b in omega (arith, e))
-
-pub get_piece : (bytes : List ℕ) (nodes : List Node) (at : ℕ) → slice_get (pieces_in bytes nodes) at ≡ option_map (node_piece bytes) (slice_get nodes at)
-get_piece bytes [] at = refl
-get_piece bytes (n ∷ nodes) zero = refl
-get_piece bytes (n ∷ nodes) (suc at) = get_piece bytes nodes at
-
-pub open-append : (outer : List Edge) (a b : List Piece) → open_behind outer (a ++ b) ≡ open_behind (open_behind outer a) b
-open-append outer [] b = refl
-open-append outer (Begins e ∷ a) b = open-append (e ∷ outer) a b
-open-append outer (Holds l ∷ a) b = open-append outer a b
-open-append outer (Ends e ∷ a) b = open-append (drop 1 outer) a b
-
-pub get-grow : (nodes more : List Node) (at : ℕ) (x : Node) → slice_get nodes at ≡ Some x → slice_get (nodes ++ more) at ≡ Some x
-get-grow [] more at x e = absurd (let e' : None ≡ Some x = e in cc)
-get-grow (y ∷ nodes) more zero x e = e
-get-grow (y ∷ nodes) more (suc at) x e = get-grow nodes more at x e
-
-pub get-seam : (nodes : List Node) (x : Node) → slice_get (nodes ++ x ∷ []) (length nodes) ≡ Some x
-get-seam [] x = refl
-get-seam (y ∷ nodes) x = get-seam nodes x
-
-pub open-grow : (nodes more : List Node) (at : Option ℕ) (edges : List Edge) → AreOpen nodes at edges → AreOpen (nodes ++ more) at edges
-open-grow nodes more at [] h = h
-open-grow nodes more at (e ∷ edges) (place, node, told, outer, is, get, content, edge, rest) =
-    (place, node, told, outer, is, get-grow nodes more place node get, content, edge, open-grow nodes more outer edges rest)
-
--- a number that is set beside a node
-pub set_lens : (nodes : List Node) (at : ℕ) (x : Node) → lens_in (slice_set nodes at x) ≡ slice_set (lens_in nodes) at x.len
-set_lens [] at x = refl
-set_lens (n ∷ nodes) zero x = refl
-set_lens (n ∷ nodes) (suc at) x = ap (λ l. n.len ∷ l) (set_lens nodes at x)
-
-pub set_groups : (nodes : List Node) (at : ℕ) (x : Node) → groups_in (slice_set nodes at x) ≡ slice_set (groups_in nodes) at x.group
-set_groups [] at x = refl
-set_groups (n ∷ nodes) zero x = refl
-set_groups (n ∷ nodes) (suc at) x = ap (λ l. n.group ∷ l) (set_groups nodes at x)
-
-pub same_lens : (nodes : List Node) (at : ℕ) (x d : Node) → at < length nodes → x.len ≡ (get_or nodes at d).len → lens_in (slice_set nodes at x) ≡ lens_in nodes
-same_lens [] at x d lt e = refl
-same_lens (n ∷ nodes) zero x d lt e = ap (λ k. k ∷ lens_in nodes) e
-same_lens (n ∷ nodes) (suc at) x d lt e = ap (λ l. n.len ∷ l) (same_lens nodes at x d (omega (arith, lt)) e)
-
-pub same_groups : (nodes : List Node) (at : ℕ) (x d : Node) → at < length nodes → x.group ≡ (get_or nodes at d).group → groups_in (slice_set nodes at x) ≡ groups_in nodes
-same_groups [] at x d lt e = refl
-same_groups (n ∷ nodes) zero x d lt e = ap (λ k. k ∷ groups_in nodes) e
-same_groups (n ∷ nodes) (suc at) x d lt e = ap (λ l. n.group ∷ l) (same_groups nodes at x d (omega (arith, lt)) e)
-
-pub same_pieces : (bytes : List ℕ) (nodes : List Node) (at : ℕ) (x d : Node) → at < length nodes → x.content ≡ (get_or nodes at d).content → pieces_in bytes (slice_set nodes at x) ≡ pieces_in bytes nodes
-same_pieces bytes [] at x d lt e = refl
-same_pieces bytes (n ∷ nodes) zero x d lt e = ap (λ c. piece_in bytes c ∷ pieces_in bytes nodes) e
-same_pieces bytes (n ∷ nodes) (suc at) x d lt e = ap (λ l. node_piece bytes n ∷ l) (same_pieces bytes nodes at x d (omega (arith, lt)) e)
-
-pub same_inside : (k : ℕ) (nodes : List Node) (at : ℕ) (x d : Node) → at < length nodes → x.content ≡ (get_or nodes at d).content → AreInside k nodes → AreInside k (slice_set nodes at x)
-same_inside k [] at x d lt e h = h
-same_inside k (n ∷ nodes) zero x d lt e h = (subst (IsInside k) (sym e) h.0, h.1)
-same_inside k (n ∷ nodes) (suc at) x d lt e h = (h.0, same_inside k nodes at x d (omega (arith, lt)) e h.1)
-
-pub lens_at : (nodes : List Node) (at : ℕ) (d : Node) → at < length nodes → slice_index (lens_in nodes) at ≡ (get_or nodes at d).len
-lens_at [] at d lt = absurd (omega (arith, lt))
-lens_at (n ∷ nodes) zero d lt = refl
-lens_at (n ∷ nodes) (suc at) d lt = lens_at nodes at d (omega (arith, lt))
-
-pub groups_at : (nodes : List Node) (at : ℕ) (d : Node) → at < length nodes → slice_index (groups_in nodes) at ≡ (get_or nodes at d).group
-groups_at [] at d lt = absurd (omega (arith, lt))
-groups_at (n ∷ nodes) zero d lt = refl
-groups_at (n ∷ nodes) (suc at) d lt = groups_at nodes at d (omega (arith, lt))
+pub within_at : (n : ℕ) (nodes : List Node) (at : ℕ) (x : Node) → AreWithin n nodes → slice_get nodes at ≡ Some x → IsWithin n x
+within_at n [] at x h e = absurd (let e' : None ≡ Some x = e in cc)
+within_at n (y ∷ nodes) zero x h e = (let e' : y ≡ x = some_injective y x e in subst (IsWithin n) e' h.0)
+within_at n (y ∷ nodes) (suc at) x h e = within_at n nodes at x h.1 e

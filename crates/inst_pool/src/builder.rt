@@ -1,38 +1,38 @@
 // A builder of instances.
-ghost use Rattle.std.specs.Prelude.{◌≡◌, ◌+◌, ◌<◌, ◌≤◌, ℕ, List, [], ◌∷◌, ◌++◌, length, Some, OnOk, OnErr, IsOk, vec_len, vec_capacity};
+ghost use Rattle.std.specs.Prelude.{◌≡◌, ◌+◌, ◌<◌, ◌≤◌, List, [], ◌∷◌, ◌++◌, length, Some, OnOk, OnErr, IfOk, IsOk, vec_capacity};
 ghost use Rattle.data_types.specs.Leaf.{Leaf, Bytes as BytesLeaf};
 ghost use Rattle.data_types.specs.LeafAnswers.{leaf_of};
 ghost use Rattle.data_types.specs.Value.{Edge as EdgeOf, Begins, Holds, Ends};
-ghost use Rattle.inst_pool.specs.Nodes.{fresh, stored, room_of, plain_leaf};
-ghost use Rattle.inst_pool.specs.Pieces.{edge_of, leaf_bytes, open_in, spare_nodes, spare_bytes, emptied, room_limit};
+ghost use Rattle.inst_pool.specs.Blocks.{AreBuilding, region_of};
+ghost use Rattle.inst_pool.specs.Contents.{plain_leaf, room_of};
+ghost use Rattle.inst_pool.specs.Pieces.{edge_of, leaf_bytes, open_in, spare_nodes, spare_bytes, room_limit};
 
+use crate::blocks::{Blocks, make_piece_room};
+use crate::content::Content;
+use crate::contents::Contents;
 use crate::instance::Instance;
-use crate::node::{Content, Node};
+use crate::numbers::Numbers;
 use crate::piece::Edge;
 use crate::room::make_room;
 use data_types::LeafRef;
 use std::alloc::{AllocError, Global};
 use std::marker::Model;
 
-/// An instance that is being made: pieces in order, in one block of nodes and one of bytes.
+/// An instance that is being made: pieces in order, in one block, and in another the bytes of leaves.
 #[derive(Debug, Drop)]
 pub struct Builder {
-    nodes: Vec<Node>,
-    bytes: Vec<u8>,
-    /// The place where the innermost open element begins.
-    innermost: Option<usize>,
+    blocks: Blocks,
 }
 
 impl Model for Builder {
-    ghost use Rattle.std.specs.Prelude.{vec_capacity};
-    ghost use Rattle.inst_pool.specs.Pieces.{Region, open_in};
-    ghost use Rattle.inst_pool.specs.Nodes.{pieces_in, AreBlocks, AreOpen, room_of};
+    ghost use Rattle.inst_pool.specs.Pieces.{Region};
+    ghost use Rattle.inst_pool.specs.Blocks.{AreBuilding, region_of};
 
     ghost Value = { Region };
 
-    ghost view = { λ b. record { pieces = pieces_in b.bytes.items b.nodes.items; node_room = room_of (vec_capacity b.nodes); byte_room = room_of (vec_capacity b.bytes) } };
+    ghost view = { λ b. region_of b.blocks };
 
-    ghost invariant = { λ b. AreBlocks b.nodes.items b.bytes.items × AreOpen b.nodes.items b.innermost (open_in (pieces_in b.bytes.items b.nodes.items)) };
+    ghost invariant = { λ b. AreBuilding b.blocks };
 }
 
 impl Builder {
@@ -40,23 +40,22 @@ impl Builder {
     pub fn new(alloc: Global) -> Builder
         ensures { result.pieces ≡ [] }
     {
-        Builder {
-            nodes: Vec::new(alloc),
+        Builder::over(Blocks {
+            contents: Contents::new(alloc),
             bytes: Vec::new(alloc),
-            innermost: None,
-        }
+            opened: Vec::new(alloc),
+            lens: Numbers::new(alloc),
+            groups: Numbers::new(alloc),
+            room: 0,
+        })
     }
 
-    /// No piece, in blocks that are empty.
-    pub(crate) fn over(nodes: Vec<Node>, bytes: Vec<u8>) -> Builder
-        requires empty { (nodes.items ≡ []) × (bytes.items ≡ []) }
-        ensures { result ≡ emptied (room_of (vec_capacity nodes)) (room_of (vec_capacity bytes)) }
+    /// The builder of these blocks.
+    pub(crate) fn over(blocks: Blocks) -> Builder
+        requires { AreBuilding blocks }
+        ensures { result ≡ region_of blocks }
     {
-        Builder {
-            nodes,
-            bytes,
-            innermost: None,
-        }
+        Builder { blocks }
     }
 
     /// Makes room for so many more pieces, and so many more bytes of leaves.
@@ -66,8 +65,8 @@ impl Builder {
         ensures pieces { self.new.pieces ≡ self.old.pieces }
         ensures room { (self.old.node_room ≤ self.new.node_room) × (self.old.byte_room ≤ self.new.byte_room) }
     {
-        make_room(&mut self.nodes, nodes)?;
-        make_room(&mut self.bytes, bytes)?;
+        make_piece_room(&mut self.blocks, nodes)?;
+        make_room(&mut self.blocks.bytes, bytes)?;
         Ok(())
     }
 
@@ -78,10 +77,9 @@ impl Builder {
         ensures within { 0 < spare_nodes self.old → IsOk result }
         ensures room { (self.old.node_room ≤ self.new.node_room) × (self.old.byte_room ≤ self.new.byte_room) }
     {
-        let place = self.nodes.len();
-        let outer = self.innermost;
-        add(&mut self.nodes, Content::Open(edge, outer))?;
-        self.innermost = Some(place);
+        make_piece_room(&mut self.blocks, 1)?;
+        self.blocks.opened.push_reserved(edge);
+        self.blocks.contents.push(Content::Open(edge));
         Ok(())
     }
 
@@ -93,14 +91,11 @@ impl Builder {
         ensures within { 0 < spare_nodes self.old → IsOk result }
         ensures room { (self.old.node_room ≤ self.new.node_room) × (self.old.byte_room ≤ self.new.byte_room) }
     {
-        let Some(place) = self.innermost else {
+        make_piece_room(&mut self.blocks, 1)?;
+        let Some(edge) = self.blocks.opened.pop() else {
             unreachable!()
         };
-        let Content::Open(edge, outer) = self.nodes[place].content else {
-            unreachable!()
-        };
-        add(&mut self.nodes, Content::Close(edge))?;
-        self.innermost = outer;
+        self.blocks.contents.push(Content::Close(edge));
         Ok(())
     }
 
@@ -127,7 +122,8 @@ impl Builder {
         ensures within { 0 < spare_nodes self.old → IsOk result }
         ensures room { (self.old.node_room ≤ self.new.node_room) × (self.old.byte_room ≤ self.new.byte_room) }
     {
-        add(&mut self.nodes, content)?;
+        make_piece_room(&mut self.blocks, 1)?;
+        self.blocks.contents.push(content);
         Ok(())
     }
 
@@ -138,7 +134,11 @@ impl Builder {
         ensures within { 0 < spare_nodes self.old → length bytes.now ≤ spare_bytes self.old → IsOk result }
         ensures room { (self.old.node_room ≤ self.new.node_room) × (self.old.byte_room ≤ self.new.byte_room) }
     {
-        add_bytes(&mut self.nodes, &mut self.bytes, bytes)?;
+        make_piece_room(&mut self.blocks, 1)?;
+        let start = add_bytes(&mut self.blocks.bytes, bytes)?;
+        self.blocks
+            .contents
+            .push(Content::Bytes(start, start + bytes.len()));
         Ok(())
     }
 
@@ -147,43 +147,23 @@ impl Builder {
         requires { open_in self.pieces ≡ [] }
         ensures { result.region ≡ self }
     {
-        Instance::of(self.nodes, self.bytes)
+        Instance::of(self.blocks)
     }
 }
 
-/// Adds a node.
-fn add(nodes: &mut Vec<Node>, content: Content) -> Result<(), AllocError>
-    requires { length nodes.old.items ≤ room_limit }
-    ensures ok { OnOk result ((nodes.new.items ≡ nodes.old.items ++ fresh content ∷ []) × (length nodes.old.items + 1 ≤ room_limit)) }
-    ensures err { OnErr result (nodes.new.items ≡ nodes.old.items) }
-    ensures within { length nodes.old.items < room_of (vec_capacity nodes.old) → IsOk result }
-    ensures room { vec_capacity nodes.old ≤ vec_capacity nodes.new }
-{
-    make_room(nodes, 1)?;
-    match nodes.push(Node {
-        content,
-        len: 0,
-        group: 0,
-    }) {
-        Ok(()) => Ok(()),
-        Err(_) => unreachable!(),
-    }
-}
-
-/// Adds bytes and their node.
-fn add_bytes(nodes: &mut Vec<Node>, block: &mut Vec<u8>, bytes: &[u8]) -> Result<(), AllocError>
-    requires { (length nodes.old.items ≤ room_limit) × (length block.old.items ≤ room_limit) }
-    ensures ok { OnOk result ((nodes.new.items ≡ nodes.old.items ++ fresh (stored block.old.items bytes.now) ∷ []) × (length nodes.old.items + 1 ≤ room_limit)) }
-    ensures bytes { OnOk result ((block.new.items ≡ block.old.items ++ bytes.now) × (length block.old.items + length bytes.now ≤ room_limit)) }
-    ensures err { OnErr result ((nodes.new.items ≡ nodes.old.items) × (block.new.items ≡ block.old.items)) }
-    ensures within { length nodes.old.items < room_of (vec_capacity nodes.old) → length block.old.items + length bytes.now ≤ room_of (vec_capacity block.old) → IsOk result }
-    ensures room { (vec_capacity nodes.old ≤ vec_capacity nodes.new) × (vec_capacity block.old ≤ vec_capacity block.new) }
+/// Appends bytes to a block, and says where they begin.
+fn add_bytes(block: &mut Vec<u8>, bytes: &[u8]) -> Result<usize, AllocError>
+    requires { length block.old.items ≤ room_limit }
+    ensures ok { OnOk result ((block.new.items ≡ block.old.items ++ bytes.now) × (length block.old.items + length bytes.now ≤ room_limit)) }
+    ensures start { IfOk result (λ start. start ≡ length block.old.items) }
+    ensures err { OnErr result (block.new.items ≡ block.old.items) }
+    ensures within { length block.old.items + length bytes.now ≤ room_of (vec_capacity block.old) → IsOk result }
+    ensures room { vec_capacity block.old ≤ vec_capacity block.new }
 {
     make_room(block, bytes.len())?;
     let start = block.len();
-    add(nodes, Content::Bytes(start, start + bytes.len()))?;
     match block.extend_from_slice(bytes) {
-        Ok(()) => Ok(()),
+        Ok(()) => Ok(start),
         Err(_) => unreachable!(),
     }
 }

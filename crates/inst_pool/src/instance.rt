@@ -1,41 +1,44 @@
 // An instance in its region.
-ghost use Rattle.std.specs.Prelude.{◌≡◌, ◌<◌, ◌≤◌, ◌^◌, [], ◌++◌, ◌∷◌, length, slice_get, slice_index, slice_set, vec_capacity};
+ghost use Rattle.std.specs.Prelude.{◌≡◌, ◌<◌, [], length, slice_get, slice_index, slice_set};
 ghost use Rattle.std.specs.Option.{option_map};
+ghost use Rattle.inst_pool.specs.Blocks.{AreBuilding, region_of};
 ghost use Rattle.inst_pool.specs.Pieces.{piece_of, emptied, IsBounded};
-ghost use Rattle.inst_pool.specs.Nodes.{pieces_in, lens_in, groups_in, AreBlocks, room_of};
 
+use crate::blocks::Blocks;
 use crate::builder::Builder;
-use crate::node::{Node, piece_of};
+use crate::content::piece_of;
 use crate::piece::Piece;
 use crate::walk::Walk;
 use std::marker::Model;
 
-/// An instance: pieces in order, in one block of nodes and one of bytes.
+/// An instance: pieces in order, in one block, and in another the bytes of leaves.
 #[derive(Debug, Drop)]
 pub struct Instance {
-    nodes: Vec<Node>,
-    bytes: Vec<u8>,
+    blocks: Blocks,
 }
 
 impl Model for Instance {
-    ghost use Rattle.std.specs.Prelude.{vec_capacity};
     ghost use Rattle.inst_pool.specs.Pieces.{Held};
-    ghost use Rattle.inst_pool.specs.Nodes.{pieces_in, lens_in, groups_in, AreBlocks, room_of};
+    ghost use Rattle.inst_pool.specs.Blocks.{AreWhole, held_of};
 
     ghost Value = { Held };
 
-    ghost view = { λ i. record { region = record { pieces = pieces_in i.bytes.items i.nodes.items; node_room = room_of (vec_capacity i.nodes); byte_room = room_of (vec_capacity i.bytes) }; lens = lens_in i.nodes.items; groups = groups_in i.nodes.items } };
+    ghost view = { λ i. held_of i.blocks };
 
-    ghost invariant = { λ i. AreBlocks i.nodes.items i.bytes.items };
+    ghost invariant = { λ i. AreWhole i.blocks };
 }
 
 impl Instance {
     /// The instance of these blocks.
-    pub(crate) fn of(nodes: Vec<Node>, bytes: Vec<u8>) -> Instance
-        requires { AreBlocks nodes.items bytes.items }
-        ensures { result.region ≡ record { pieces = pieces_in bytes.items nodes.items; node_room = room_of (vec_capacity nodes); byte_room = room_of (vec_capacity bytes) } }
+    pub(crate) fn of(mut blocks: Blocks) -> Instance
+        requires building { AreBuilding blocks }
+        requires opened { blocks.opened.items ≡ [] }
+        ensures { result.region ≡ region_of blocks }
     {
-        Instance { nodes, bytes }
+        let count = blocks.contents.len();
+        blocks.lens.begin(count);
+        blocks.groups.begin(count);
+        Instance { blocks }
     }
 
     /// The number of pieces, beside each of which there are two numbers.
@@ -45,17 +48,18 @@ impl Instance {
         ensures groups { result ≡ length self.now.groups }
         ensures bounded { IsBounded self.now.region }
     {
-        self.nodes.len()
+        self.blocks.contents.len()
     }
 
     /// The piece at that place, from 0; `None` where there is none.
     pub fn piece(&self, at: usize) -> Option<Piece<'_>>
         ensures { option_map piece_of result ≡ slice_get self.now.region.pieces at }
     {
-        if at >= self.nodes.len() {
+        if at >= self.blocks.contents.len() {
             return None;
         }
-        Some(piece_of(self.nodes[at].content, self.bytes.as_slice()))
+        let content = self.blocks.contents.get(at);
+        Some(piece_of(content, self.blocks.bytes.as_slice()))
     }
 
     /// The pieces in order.
@@ -70,7 +74,7 @@ impl Instance {
         requires { at < length self.now.region.pieces }
         ensures { result ≡ slice_index self.now.lens at }
     {
-        self.nodes[at].len
+        self.blocks.lens.get(at)
     }
 
     /// The second number beside the piece at that place, 0 at first.
@@ -78,7 +82,7 @@ impl Instance {
         requires { at < length self.now.region.pieces }
         ensures { result ≡ slice_index self.now.groups at }
     {
-        self.nodes[at].group
+        self.blocks.groups.get(at)
     }
 
     /// Keeps the first number beside the piece at that place.
@@ -87,7 +91,7 @@ impl Instance {
         ensures lens { self.new.lens ≡ slice_set self.old.lens at len }
         ensures rest { (self.new.region ≡ self.old.region) × (self.new.groups ≡ self.old.groups) }
     {
-        self.nodes[at].len = len;
+        self.blocks.lens.set(at, len);
     }
 
     /// Keeps the second number beside the piece at that place.
@@ -96,19 +100,18 @@ impl Instance {
         ensures groups { self.new.groups ≡ slice_set self.old.groups at len }
         ensures rest { (self.new.region ≡ self.old.region) × (self.new.lens ≡ self.old.lens) }
     {
-        self.nodes[at].group = len;
+        self.blocks.groups.set(at, len);
     }
 
     /// An empty builder with all the room.
-    pub fn reset(mut self) -> Builder
+    pub fn reset(self) -> Builder
         ensures { result ≡ emptied self.region.node_room self.region.byte_room }
     {
-        let Instance {
-            mut nodes,
-            mut bytes,
-        } = self;
-        nodes.clear();
-        bytes.clear();
-        Builder::over(nodes, bytes)
+        let Instance { mut blocks } = self;
+        blocks.contents.clear();
+        blocks.bytes.clear();
+        blocks.lens.begin(0);
+        blocks.groups.begin(0);
+        Builder::over(blocks)
     }
 }

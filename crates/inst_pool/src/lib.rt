@@ -13,9 +13,13 @@
 //! crate: it asks only that elements end in order.
 #![tactic(auto)]
 
+mod blocks;
 mod builder;
+mod content;
+mod contents;
 mod instance;
 mod node;
+mod numbers;
 mod piece;
 mod room;
 mod walk;

@@ -1,45 +1,162 @@
-// What is kept of a piece.
-ghost use Rattle.std.specs.Prelude.{◌≡◌, length};
-ghost use Rattle.inst_pool.specs.Nodes.{piece_in, IsInside};
-ghost use Rattle.inst_pool.specs.Pieces.{piece_of};
+// Contents in eight bytes each. What does not fit stands in a block of its own, of which the node has the place.
+ghost use Rattle.std.specs.Prelude.{◌≡◌, ◌<◌, ◌≤◌, ◌^◌, ℕ, List, true, length, slice_index_or, IfSome};
+ghost use Rattle.inst_pool.specs.Nodes.{edge_in, low_in, content_of, IsWithin, bytes_in};
+ghost use Rattle.inst_pool.specs.declared.content.Content.{Content};
 
-use crate::piece::{Edge, Piece};
-use data_types::LeafRef;
-use lexical_core::Decimal;
+use crate::content::Content;
+use crate::piece::Edge;
 
-/// A piece, whose bytes stand in the block of bytes.
+/// The greatest number of 16 bits.
+const MOST: u32 = 0xFFFF;
+
+/// Three numbers of 16 bits.
 #[derive(Clone, Copy, Debug)]
-pub(crate) enum Content {
-    /// An element begins; the place of the node where the element round it begins.
-    Open(Edge, Option<usize>),
-    /// Bytes: where they begin and end.
-    Bytes(usize, usize),
-    Number(Decimal),
+pub(crate) struct Short {
+    pub(crate) first: u16,
+    pub(crate) second: u16,
+    pub(crate) third: u16,
+}
+
+/// A content in short.
+#[derive(Clone, Copy, Debug)]
+pub(crate) enum Node {
+    /// An element begins, with its slot, its type and that of its parent.
+    Open(Short),
+    /// Bytes: two numbers say where they begin, and the third how many there are.
+    Bytes(Short),
     Flag(bool),
-    Code(u32),
+    /// A code: two numbers say its place.
+    Code(Short),
     /// An element ends.
-    Close(Edge),
+    Close(Short),
+    /// Any other: three numbers say its place in the block of long contents.
+    Long(Short),
 }
 
-/// A piece with the two numbers that are kept beside it.
-#[derive(Clone, Copy, Debug)]
-pub(crate) struct Node {
-    pub(crate) content: Content,
-    pub(crate) len: u64,
-    pub(crate) group: u64,
+const _: () = prove!(size_of::<Node>() == 8);
+
+/// Whether the numbers of the edge have 16 bits.
+fn is_short(edge: Edge) -> bool
+    ensures { result ≡ true → (edge.slot < 65536) × (edge.target < 65536) × (edge.parent < 65536) }
+{
+    edge.slot <= MOST && edge.target <= MOST && edge.parent <= MOST
 }
 
-/// The piece that a node keeps.
-pub(crate) fn piece_of<'a>(content: Content, bytes: &'a [u8]) -> Piece<'a>
-    requires { IsInside (length bytes.now) content }
-    ensures { piece_of result ≡ piece_in bytes.now content }
+/// The numbers of an edge, where they have 16 bits.
+fn short_edge(edge: Edge) -> Option<Short>
+    ensures { IfSome result (λ s. edge_in s ≡ edge) }
+{
+    if is_short(edge) {
+        return Some(Short {
+            first: edge.slot as u16,
+            second: edge.target as u16,
+            third: edge.parent as u16,
+        });
+    }
+    None
+}
+
+/// Where bytes begin and how many there are, where 32 and 16 bits say it.
+fn short_bytes(start: usize, end: usize) -> Option<Short>
+    ensures { IfSome result (λ s. bytes_in s ≡ Content.Bytes start end) }
+{
+    if start > 0xFFFF_FFFF || end < start || end - start > 0xFFFF {
+        return None;
+    }
+    Some(Short {
+        first: (start % 65536) as u16,
+        second: (start / 65536) as u16,
+        third: (end - start) as u16,
+    })
+}
+
+/// A number of 32 bits.
+fn short_number(number: u32) -> Short
+    ensures { low_in result ≡ number }
+{
+    Short {
+        first: (number % 65536) as u16,
+        second: (number / 65536) as u16,
+        third: 0,
+    }
+}
+
+/// The node of a content at that place of the block of long ones.
+pub(crate) fn long_at(place: usize) -> Node
+    requires { place < 2 ^ 48 }
+    ensures content { (long : List Content) → content_of long result ≡ slice_index_or long place (Content.Code 0) }
+    ensures within { (count : ℕ) → place < count → IsWithin count result }
+{
+    Node::Long(Short {
+        first: (place % 65536) as u16,
+        second: (place / 65536 % 65536) as u16,
+        third: (place / 0x1_0000_0000) as u16,
+    })
+}
+
+/// The content in short, where it fits.
+pub(crate) fn shortened(content: &Content) -> Option<Node>
+    ensures content { IfSome result (λ n. (long : List Content) → content_of long n ≡ content.now) }
+    ensures within { IfSome result (λ n. (count : ℕ) → IsWithin count n) }
 {
     match content {
-        Content::Open(edge, _) => Piece::Open(edge),
-        Content::Bytes(start, end) => Piece::Leaf(LeafRef::Bytes(&bytes[start..end])),
-        Content::Number(number) => Piece::Leaf(LeafRef::Number(number)),
-        Content::Flag(flag) => Piece::Leaf(LeafRef::Flag(flag)),
-        Content::Code(place) => Piece::Leaf(LeafRef::Code(place)),
-        Content::Close(edge) => Piece::Close(edge),
+        Content::Open(edge) => {
+            let Some(short) = short_edge(*edge) else {
+                return None;
+            };
+            Some(Node::Open(short))
+        }
+        Content::Bytes(start, end) => {
+            let Some(short) = short_bytes(*start, *end) else {
+                return None;
+            };
+            Some(Node::Bytes(short))
+        }
+        Content::Number(_) => None,
+        Content::Flag(flag) => Some(Node::Flag(*flag)),
+        Content::Code(place) => Some(Node::Code(short_number(*place))),
+        Content::Close(edge) => {
+            let Some(short) = short_edge(*edge) else {
+                return None;
+            };
+            Some(Node::Close(short))
+        }
     }
+}
+
+/// The content that a node stands for.
+pub(crate) fn content_of(node: Node, long: &[Content]) -> Content
+    requires { IsWithin (length long.now) node }
+    ensures { result ≡ content_of long.now node }
+{
+    match node {
+        Node::Open(short) => Content::Open(edge_of(short)),
+        Node::Bytes(short) => {
+            let start = low_of(short);
+            Content::Bytes(start, start + short.third as usize)
+        }
+        Node::Flag(flag) => Content::Flag(flag),
+        Node::Code(short) => Content::Code(short.first as u32 + short.second as u32 * 65536),
+        Node::Close(short) => Content::Close(edge_of(short)),
+        Node::Long(short) => long[low_of(short) + short.third as usize * 0x1_0000_0000],
+    }
+}
+
+/// The edge that three numbers tell.
+fn edge_of(short: Short) -> Edge
+    ensures { result ≡ edge_in short }
+{
+    Edge {
+        slot: short.first as u32,
+        target: short.second as u32,
+        parent: short.third as u32,
+    }
+}
+
+/// The number of 32 bits that the first two tell.
+fn low_of(short: Short) -> usize
+    ensures low { result ≡ low_in short }
+    ensures most { result < 2 ^ 32 }
+{
+    short.first as usize + short.second as usize * 65536
 }

@@ -1,6 +1,6 @@
-use Rattle.std.proofs.Common.{◌≡◌, List, [], ◌∷◌, ◌++◌, refl, ap, ◌∙◌}
+use Rattle.std.proofs.Common.{◌≡◌, List, [], ◌∷◌, ◌++◌, ap, ◌∙◌}
 use Rattle.data_types.specs.Value.{Edge, Piece, Begins, Holds, Ends}
-use Rattle.inst_pool.specs.Pieces.{edge_of, open_in}
+use Rattle.inst_pool.specs.Pieces.{open_in}
 use Rattle.inst_pool.proofs.tests.note.Goals as goal
 
 -- an element with a leaf in it is open until it is closed

@@ -1,15 +1,27 @@
-use Rattle.std.proofs.Common.{◌≡◌, ◌∷◌, ◌++◌, [], ap, ◌∙◌, arith, true, false}
-use Rattle.inst_pool.proofs.NodeLemmas.{length_pieces, pieces-append}
-use Rattle.inst_pool.proofs.BlockLemmas.{plain-held, plain_piece}
-use Rattle.data_types.specs.Value.{Piece}
-use Rattle.inst_pool.specs.Nodes.{pieces_in}
+use Rattle.std.proofs.Common.{◌≡◌, ◌++◌, ◌∷◌, [], refl, ap, ◌∙◌, arith, true, false}
+use Rattle.data_types.specs.Value.{Holds}
+use Rattle.inst_pool.proofs.ContentLemmas.{length_pieces}
+use Rattle.inst_pool.proofs.BuildingLemmas.{same_building, same_pieces, held_pieces, building_hold}
 use Rattle.inst_pool.proofs.builder.Builder.hold.Goals as goal
 
-pub returns-in_err-add-clause-within : goal.returns-in_err-add-clause-within
-returns-in_err-add-clause-within c = rw (← c.self.view_is) (λ h. absurd (let e : false ≡ true = c.in_err-add.ensures.within (let l = length_pieces c.self.inside.bytes.items c.self.inside.nodes.items in omega (arith, h, l)) in cc))
+pub returns-in_err-make_piece_room-clause-within : goal.returns-in_err-make_piece_room-clause-within
+returns-in_err-make_piece_room-clause-within c =
+    let l = length_pieces c.self.inside.blocks.bytes.items c.self.inside.blocks.contents.items in let n = c.self.invariant.room.pieces in
+    rw (← c.self.view_is) (λ h. absurd (let e : false ≡ true = c.in_err-make_piece_room.ensures.within (omega (arith, h, l, n)) in cc))
 
 pub invariant_of-self-2 : goal.invariant_of-self-2
-invariant_of-self-2 c = rw c.in_ok-add.ensures.ok.0 (plain-held c.self.inside.nodes.items c.self.inside.bytes.items c.self.inside.innermost c.args.content c.requires.0 c.requires.1 c.self.invariant.0 c.self.invariant.1 c.in_ok-add.ensures.ok.1)
+invariant_of-self-2 c =
+    let m = c.make_piece_room.new.blocks in
+    let items = c.in_ok-make_piece_room.ensures.items in
+    let building = same_building c.self.inside.blocks m c.self.invariant items c.in_ok-make_piece_room.ensures.fits in
+    building_hold m _ c.args.content c.requires.0 c.requires.1 building c.in_ok-make_piece_room.ensures.ok
+    (record { contents = c.push.ensures.items; contents_room = c.push.ensures.room; opened_room = refl; lens = refl; groups = refl; room = refl }) refl refl
 
 pub returns-clause-ok : goal.returns-clause-ok
-returns-clause-ok c = rw (c.in_ok-add.ensures.ok.0, ← c.self.view_is) (λ leaf is. pieces-append c.self.inside.bytes.items c.self.inside.nodes.items _ ∙ ap (λ (p : Piece). pieces_in c.self.inside.bytes.items c.self.inside.nodes.items ++ p ∷ []) (plain_piece c.self.inside.bytes.items c.args.content leaf is))
+returns-clause-ok c =
+    let m = c.make_piece_room.new.blocks in
+    let items = c.in_ok-make_piece_room.ensures.items in
+    let building = same_building c.self.inside.blocks m c.self.invariant items c.in_ok-make_piece_room.ensures.fits in
+    rw (← c.self.view_is) (λ leaf is. held_pieces m (record m { contents = c.push.new.self }) c.args.content leaf is
+    (record { contents = c.push.ensures.items; contents_room = c.push.ensures.room; opened_room = refl; lens = refl; groups = refl; room = refl }) refl
+    ∙ ap (λ (l : _). l ++ Holds leaf ∷ []) (same_pieces c.self.inside.blocks m items))

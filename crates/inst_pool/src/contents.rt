@@ -1,0 +1,100 @@
+// A list of contents.
+ghost use Rattle.std.specs.Prelude.{◌≡◌, ◌<◌, ◌≤◌, ◌++◌, [], ◌∷◌, length, slice_get, Some, OnOk, vec_len, vec_capacity};
+ghost use Rattle.inst_pool.specs.Pieces.{room_limit};
+
+use crate::content::Content;
+use crate::node::{Node, content_of, long_at, shortened};
+use crate::room::widen;
+use std::alloc::{AllocError, Global};
+use std::marker::Model;
+
+/// A list of contents, most of them in eight bytes.
+#[derive(Debug, Drop)]
+pub(crate) struct Contents {
+    nodes: Vec<Node>,
+    /// Those that do not fit in a node.
+    long: Vec<Content>,
+}
+
+impl Model for Contents {
+    ghost use Rattle.std.specs.Prelude.{◌≤◌, length, min, vec_capacity};
+    ghost use Rattle.inst_pool.specs.Nodes.{Packed, contents_in, AreWithin};
+
+    ghost Value = { Packed };
+
+    ghost view = { λ c. record { items = contents_in c.long.items c.nodes.items; room = min (vec_capacity c.nodes) (vec_capacity c.long) } };
+
+    ghost invariant = { λ c. AreWithin (length c.long.items) c.nodes.items × (length c.long.items ≤ length c.nodes.items) };
+}
+
+impl Contents {
+    /// No content. It takes no memory.
+    pub(crate) fn new(alloc: Global) -> Contents
+        ensures { result.items ≡ [] }
+    {
+        Contents {
+            nodes: Vec::new(alloc),
+            long: Vec::new(alloc),
+        }
+    }
+
+    /// The number of contents.
+    pub(crate) fn len(&self) -> usize
+        ensures { result ≡ length self.now.items }
+    {
+        self.nodes.len()
+    }
+
+    /// The content at that place, from 0.
+    pub(crate) fn get(&self, at: usize) -> Content
+        requires { at < length self.now.items }
+        ensures { slice_get self.now.items at ≡ Some result }
+    {
+        content_of(self.nodes[at], self.long.as_slice())
+    }
+
+    /// Makes room for so many in all.
+    pub(crate) fn widen(&mut self, room: usize) -> Result<(), AllocError>
+        ensures ok { OnOk result (room ≤ self.new.room) }
+        ensures room { self.old.room ≤ self.new.room }
+        ensures items { self.new.items ≡ self.old.items }
+    {
+        widen(&mut self.nodes, room)?;
+        widen(&mut self.long, room)?;
+        Ok(())
+    }
+
+    /// Appends a content, for which there is room.
+    pub(crate) fn push(&mut self, content: Content)
+        requires room { length self.old.items < self.old.room }
+        requires limit { length self.old.items < room_limit }
+        ensures items { self.new.items ≡ self.old.items ++ content ∷ [] }
+        ensures room { self.new.room ≡ self.old.room }
+    {
+        let Some(node) = shortened(&content) else {
+            let place = self.long.len();
+            push_long(&mut self.long, content);
+            self.nodes.push_reserved(long_at(place));
+            return;
+        };
+        self.nodes.push_reserved(node);
+    }
+
+    /// Leaves no content, and all the room.
+    pub(crate) fn clear(&mut self)
+        ensures items { self.new.items ≡ [] }
+        ensures room { self.new.room ≡ self.old.room }
+    {
+        self.nodes.clear();
+        self.long.clear();
+    }
+}
+
+/// Appends a long content.
+fn push_long(long: &mut Vec<Content>, content: Content)
+    requires { vec_len long.old < vec_capacity long.old }
+    ensures items { long.new.items ≡ long.old.items ++ content ∷ [] }
+    ensures room { vec_capacity long.new ≡ vec_capacity long.old }
+{
+    long.push_reserved(content);
+}
