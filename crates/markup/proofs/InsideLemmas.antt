@@ -1,5 +1,5 @@
 -- A reader behind bytes that go on with the open token and end none.
-use Rattle.std.proofs.Common.{◌≡◌, ℕ, Bool, true, false, ◌+◌, ◌-◌, ◌<◌, ◌≤◌, ◌⊎◌, inl, inr, List, [], ◌∷◌, ◌++◌, length, take, drop, reverse, Some, refl, sym, ◌∙◌, ap, subst, append_assoc, append-nil, length-append, add-zero, arith}
+use Rattle.std.proofs.Common.{◌≡◌, ℕ, true, false, ◌+◌, ◌-◌, ◌<◌, ◌≤◌, ◌⊎◌, inl, inr, List, [], ◌∷◌, ◌++◌, length, take, drop, reverse, Some, refl, sym, ◌∙◌, ap, subst, append_assoc, append-nil, length-append, arith}
 use Rattle.std.specs.Str.{encode_utf8_all}
 use Rattle.std.proofs.lemmas.Bool.{both_ways, cases_Bool}
 use Rattle.std.proofs.lemmas.List.{length-take-le, take-append-drop, take-append-le}
@@ -11,7 +11,7 @@ use Rattle.markup.specs.Marks.{Front, tag_limit}
 use Rattle.markup.specs.Events.{Placed, events}
 use Rattle.markup.specs.Faults.{IsTagBegun}
 use Rattle.markup.specs.Drafts.{no_draft, noted}
-use Rattle.markup.specs.Inputs.{Any, Reads, with_pending, is_return}
+use Rattle.markup.specs.Inputs.{Any, with_pending}
 use Rattle.markup.specs.Inside.{noted_all, IsStill, GoesOver, is_inside, may_be_tag, moved, GoesInside}
 use Rattle.markup.specs.Reading.{HasTaken, HasTold}
 use Rattle.markup.specs.Scans.{step}
@@ -29,7 +29,7 @@ use Rattle.markup.specs.declared.tokenizer.Tokenizer.{Tokenizer}
 use Rattle.markup.proofs.Exact.{run_on}
 use Rattle.markup.proofs.InputEvents.{none_pending, not_return}
 use Rattle.markup.proofs.LineEnds.{line_bytes}
-use Rattle.markup.proofs.Placed.{Placed as ScanPlaced, run_placed}
+use Rattle.markup.proofs.Placed.{run_placed}
 use Rattle.markup.proofs.PlainLemmas.{at_same, no_chars, no_return}
 use Rattle.markup.proofs.ReaderLemmas.{told_so_far}
 use Rattle.markup.proofs.ReferencePlaces.{in_tag}

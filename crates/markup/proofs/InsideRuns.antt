@@ -1,26 +1,23 @@
 -- Bytes that leave the scan of an open token as it is.
-use Rattle.std.proofs.Common.{◌≡◌, ℕ, zero, suc, Bool, true, false, ◌==◌, ◌&&◌, ◌+◌, ◌<◌, ◌≤◌, cond, List, [], ◌∷◌, ◌++◌, take, if◌then◌else◌, refl, sym, ◌∙◌, ap, subst, append_assoc, append-nil, arith}
+use Rattle.std.proofs.Common.{◌≡◌, ℕ, zero, suc, Bool, true, false, ◌==◌, ◌+◌, ◌<◌, ◌≤◌, cond, List, [], ◌∷◌, ◌++◌, take, if◌then◌else◌, refl, sym, ◌∙◌, ap, append_assoc, append-nil, arith}
 use Rattle.std.specs.Char.{encode_utf8}
 use Rattle.std.specs.Str.{encode_utf8_all}
 use Rattle.std.specs.List.{prefix_len}
 use Rattle.std.proofs.lemmas.Bool.{both_ways}
 use Rattle.std.proofs.lemmas.Bool.Decides.{nat_tests}
 use Rattle.std.proofs.lemmas.Str.{encode_ascii}
-use Rattle.markup.specs.Chars.{is_xml_char, is_space, is_name_char}
+use Rattle.markup.specs.Chars.{is_xml_char, is_space}
 use Rattle.markup.specs.PlainTags.{continues_plain}
 use Rattle.markup.specs.Drafts.{noted, literal_char, add_value}
 use Rattle.markup.specs.Inside.{is_literal_of, is_passed, extended, noted_all, IsStill}
-use Rattle.markup.specs.Scans.{step, goes_if, name_turn, behind_attribute_step, before_equals_step, end_gap_step}
+use Rattle.markup.specs.Scans.{step}
 use Rattle.markup.specs.ScanRuns.{At, turned, run}
 use Rattle.markup.specs.declared.draft.Draft.{Draft}
 use Rattle.markup.specs.declared.tag.Spelled.{Spelled}
-use Rattle.markup.specs.declared.reference.ReferenceScan.TheVariants.{Begun}
 use Rattle.markup.specs.declared.scan.NameScan.{NameScan}
 use Rattle.markup.specs.declared.scan.NameScan.TheVariants.{First, Colon, Second}
-use Rattle.markup.specs.declared.scan.NameTurn.TheVariants.{Remains, Ends}
 use Rattle.markup.specs.declared.scan.Scan.{Scan}
-use Rattle.markup.specs.declared.scan.Scan.TheVariants.{CommentText, CommentHyphen, InstructionText, InstructionMark, StartName, AttributeName, Value, ValueReference, AfterValue, EndName}
-use Rattle.markup.specs.declared.scan.Turn.{Turn}
+use Rattle.markup.specs.declared.scan.Scan.TheVariants.{CommentText, InstructionText, StartName, AttributeName, Value, EndName}
 use Rattle.markup.specs.declared.scan.Turn.TheVariants.{Goes}
 use Rattle.markup.proofs.PlainTagLemmas.{continues_name, plain_ascii}
 

@@ -1,17 +1,19 @@
 -- A run of characters that stand by themselves, found from the front.
-use Rattle.std.proofs.Common.{◌≡◌, ℕ, zero, suc, Bool, true, false, ◌&&◌, ◌+◌, ◌<◌, ◌≤◌, inl, inr, nat_le, cond, List, [], ◌∷◌, ◌++◌, length, take, drop, Option, Some, refl, sym, ◌∙◌, ap, subst, append_assoc, append-nil, length-append, arith}
+use Rattle.std.proofs.Common.{◌≡◌, ℕ, zero, suc, Bool, true, false, ◌&&◌, ◌+◌, ◌-◌, ◌*◌, ◌<◌, ◌≤◌, ◌⊎◌, inl, inr, nat_le, cond, List, [], ◌∷◌, ◌++◌, length, take, drop, Option, Some, refl, sym, ◌∙◌, ap, subst, append_assoc, append-nil, length-append, arith}
 use Rattle.std.specs.Char.{encode_utf8}
 use Rattle.std.specs.Str.{encode_utf8_all}
 use Rattle.std.specs.List.{AllByRecursion, list_all, prefix_len}
 use Rattle.lexical_core.specs.Characters.{IsXmlChar}
 use Rattle.std.proofs.lemmas.Bool.Decides.{nat_tests}
 use Rattle.std.proofs.lemmas.Str.{encode_ascii, encode_same, length-encode, len_utf8_bounds}
-use Rattle.std.proofs.lemmas.Bool.{cases_lt}
+use Rattle.std.proofs.lemmas.Bool.{cases_lt, le-leb}
 use Rattle.std.proofs.lemmas.List.{length-take-le, take-append-drop}
 use Rattle.std.proofs.Math.Seq.{take-append_seam, drop-append_seam}
+use Rattle.lexical_core.specs.Begun.{IsTail}
 use Rattle.lexical_core.specs.Utf8.{Steps}
 use Rattle.lexical_core.specs.declared.utf8.Utf8.TheVariants.{More, Char}
 use Rattle.markup.specs.Chars.{is_xml_char, is_space}
+use Rattle.lexical_core.proofs.ByteForms.{Spells, spells_2, spells_3}
 use Rattle.markup.proofs.CharLemmas.{classes}
 use Rattle.markup.specs.Literals.{is_literal, IsLiteral, IsRun, IsAt, IsWideAt}
 
@@ -73,6 +75,28 @@ heads x c xs ys high e = by (nat_le 128 c) refl where
 
 pub wide_at : (x n : ℕ) (xs piece : List ℕ) → piece ≡ x ∷ xs → nat_le 128 x ≡ true → IsAt piece n → IsWideAt piece n
 wide_at x n xs piece e high a = record { is_at = a; wide = heads x a.char xs a.rest high (sym e ∙ a.joined) }
+
+-- the characters of two bytes, and of three from U+0800 to U+CFFF
+two_allowed : (x : ℕ) → 0x80 ≤ x → x ≤ 0xCFFF → is_xml_char x ≡ true
+unfolding is_xml_char
+two_allowed x h k = grind (arith, nat_tests)
+
+spelled_at : (x n : ℕ) (bytes rest piece : List ℕ) → Spells x bytes → length bytes ≡ n → piece ≡ bytes ++ rest → 0x80 ≤ x → x ≤ 0xCFFF → IsWideAt piece n
+spelled_at x n bytes rest piece s l e h k = record {
+  is_at = record { char = x; rest = rest; joined = e ∙ ap (λ v. v ++ rest) (sym s.1); size_is = ap length s.1 ∙ l; allowed = two_allowed x h k };
+  wide = le-leb 128 x h;
+}
+
+pub two_at : (a b : ℕ) (rest piece : List ℕ) → piece ≡ a ∷ b ∷ rest → 0xC2 ≤ a → a ≤ 0xDF → IsTail b → IsWideAt piece 2
+two_at a b rest piece e low high tail = spelled_at ((a - 0xC0) * 0x40 + (b - 0x80)) 2 (a ∷ b ∷ []) rest piece (spells_2 a b _ refl low high tail) refl e (omega arith) (omega arith)
+
+pub three_at : (a b c : ℕ) (rest piece : List ℕ) → piece ≡ a ∷ b ∷ c ∷ rest → 0xE0 ≤ a → a ≤ 0xEC → (a ≡ 0xE0 → 0xA0 ≤ b) → IsTail b → IsTail c → IsWideAt piece 3
+three_at a b c rest piece e low high over second third = spelled_at ((a - 0xE0) * 0x1000 + (b - 0x80) * 0x40 + (c - 0x80)) 3 (a ∷ b ∷ c ∷ []) rest piece
+    (spells_3 a b c _ refl low (omega arith) (record { tail = second; no_overlong_3 = over; no_surrogate = λ h. absurd (omega arith); no_overlong_4 = λ h. absurd (omega arith); in_range = λ h. absurd (omega arith) }) third) refl e
+    (least (cases_lt a 0xE1)) (omega arith) where
+      least : (a < 0xE1) ⊎ (0xE1 ≤ a) → 0x80 ≤ (a - 0xE0) * 0x1000 + (b - 0x80) * 0x40 + (c - 0x80)
+      least (inl h) = omega (arith, over (omega arith))
+      least (inr h) = omega arith
 
 pub walked_none : (piece : List ℕ) → IsWalked piece 0 0 piece
 walked_none piece = record { seen = []; joined = refl; bytes_are = refl; run = record { characters = []; bytes_are = refl; count_is = refl; literal = tt; allowed = tt; blank_is = refl }; few = omega arith }

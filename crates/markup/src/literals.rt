@@ -1,5 +1,6 @@
 // Runs of characters that stand by themselves.
-ghost use Rattle.std.specs.Prelude.{◌≡◌, ◌≤◌, IfSome, length, take};
+ghost use Rattle.std.specs.Prelude.{◌≡◌, ◌≤◌, ◌↔◌, IfSome, IsTrue, length, take};
+ghost use Rattle.lexical_core.specs.Begun.{IsTail};
 ghost use Rattle.std.specs.List.{prefix_len, list_all};
 ghost use Rattle.markup.specs.Chars.{is_space};
 ghost use Rattle.markup.specs.Literals.{is_literal, IsAt, IsWideAt, IsRun};
@@ -63,8 +64,54 @@ fn size_at(piece: &[u8]) -> Option<usize>
     None
 }
 
+/// Whether the byte may stand third in UTF-8, or second where the first byte says no more (RFC 3629 §4).
+#[inline]
+fn is_tail(byte: u8) -> bool
+    ensures { IsTrue result ↔ IsTail byte }
+{
+    byte >= 0x80 && byte <= 0xBF
+}
+
+/// How many bytes the character at the front of the piece has, where it is one from U+0080 to
+/// U+CFFF, all of which XML has (XML 1.0 §2.2).
+#[inline]
+fn common_size(piece: &[u8]) -> Option<usize>
+    ensures { IfSome result (λ n. IsWideAt piece.now n) }
+{
+    let Some((first, behind)) = piece.split_first() else {
+        return None;
+    };
+    let Some((second, after)) = behind.split_first() else {
+        return None;
+    };
+    if *first < 0xC2 || *first > 0xEC || !is_tail(*second) {
+        return None;
+    }
+    if *first <= 0xDF {
+        return Some(2);
+    }
+    if *first == 0xE0 && *second < 0xA0 {
+        return None;
+    }
+    let Some((third, _)) = after.split_first() else {
+        return None;
+    };
+    if is_tail(*third) { Some(3) } else { None }
+}
+
 /// How many bytes the character at the front of the piece has, where it has several and XML has it.
+#[inline]
 fn wide_size(piece: &[u8]) -> Option<usize>
+    ensures { IfSome result (λ n. IsWideAt piece.now n) }
+{
+    match common_size(piece) {
+        Some(size) => Some(size),
+        None => rare_size(piece),
+    }
+}
+
+/// The same, a byte at a time.
+fn rare_size(piece: &[u8]) -> Option<usize>
     ensures { IfSome result (λ n. IsWideAt piece.now n) }
 {
     let Some((first, _)) = piece.split_first() else {

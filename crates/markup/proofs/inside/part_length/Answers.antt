@@ -1,4 +1,4 @@
-use Rattle.std.proofs.Common.{◌≡◌, ◌≤◌, arith}
+use Rattle.std.proofs.Common.{◌≤◌, arith}
 use Rattle.std.specs.List.{prefix_len}
 use Rattle.markup.specs.PlainTags.{continues_plain}
 use Rattle.markup.proofs.InsideRuns.{in_part, start_still, end_still, attribute_still}

@@ -1,7 +1,7 @@
 use Rattle.std.proofs.Common.{rules, ◌≡◌, ◌∷◌, nat_le, true}
 use Rattle.std.proofs.lemmas.Option.{IfSome_then}
 use Rattle.markup.proofs.LiteralRuns.{wide_at}
-use Rattle.markup.proofs.literals.wide_size.Goals as goal
+use Rattle.markup.proofs.literals.rare_size.Goals as goal
 
 pub returns : goal.returns
 returns c =
