@@ -106,6 +106,7 @@ impl Matcher {
     }
 
     /// Whether what follows by the character is remembered: then it was read.
+    #[inline]
     fn step_by_recall(&mut self, c: char) -> bool
         ensures known { self.new.known ≡ self.old.known }
         ensures first { self.new.first ≡ self.old.first }
@@ -141,6 +142,7 @@ impl Matcher {
     }
 
     /// Reads one more character. It takes no memory.
+    #[inline]
     pub fn step(&mut self, pattern: &Pattern, c: char)
         requires { IsMadeFor pattern.now self.old }
         ensures read { (w : List ℕ) → HasRead pattern.now self.old w → HasRead pattern.now self.new (w ++ c ∷ []) }
@@ -149,9 +151,29 @@ impl Matcher {
         if self.step_by_recall(c) {
             return;
         }
+        self.step_by_marks(pattern, c);
+    }
+
+    /// Reads one more character by the marks, and remembers which follow.
+    fn step_by_marks(&mut self, pattern: &Pattern, c: char)
+        requires { IsMadeFor pattern.now self.old }
+        ensures read { (w : List ℕ) → HasRead pattern.now self.old w → HasRead pattern.now self.new (w ++ c ∷ []) }
+        ensures made { IsMadeFor pattern.now self.new }
+    {
         self.recollect(pattern);
         read_marks(pattern, c, &mut self.marks, &mut self.flow);
         self.at = self.recall.learn(self.at, c, self.marks.cells());
+    }
+
+    /// Reads the characters of these codes, one after another. It takes no memory.
+    pub fn step_codes(&mut self, pattern: &Pattern, codes: &[u8])
+        requires { IsMadeFor pattern.now self.old }
+        ensures read { (w : List ℕ) → HasRead pattern.now self.old w → HasRead pattern.now self.new (w ++ codes.now) }
+        ensures made { IsMadeFor pattern.now self.new }
+    {
+        for code in codes {
+            self.step(pattern, *code as char);
+        }
     }
 
     /// Whether the characters that were read are a word of the pattern. It takes no memory.

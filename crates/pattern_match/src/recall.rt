@@ -91,6 +91,7 @@ impl Recall {
     }
 
     /// The number of the marks that follow these by the character, if it is known.
+    #[inline]
     pub fn after(&self, at: usize, c: char) -> Option<usize>
         ensures { IfSome result (λ t. (c < 128) × (cell self.now at c ≡ suc t)) }
     {

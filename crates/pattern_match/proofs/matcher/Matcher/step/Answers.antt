@@ -1,7 +1,6 @@
-use Rattle.std.proofs.Common.{◌≡◌, ◌++◌, ◌∷◌, [], refl, sym, ap, ◌∙◌, subst}
-use Rattle.pattern_match.specs.Recall.{reached}
-use Rattle.pattern_match.specs.Compiled.{follows, HasRead}
-use Rattle.pattern_match.proofs.Stepping.{read_known, read_learned, recollected}
+use Rattle.std.proofs.Common.{◌++◌, ◌∷◌, [], sym, subst}
+use Rattle.pattern_match.specs.Compiled.{follows, HasRead, IsMadeFor}
+use Rattle.pattern_match.proofs.Stepping.{read_known}
 use Rattle.pattern_match.proofs.matcher.Matcher.step.Goals as goal
 
 pub returns-then-step_by_recall-clause-read : goal.returns-then-step_by_recall-clause-read
@@ -13,16 +12,8 @@ returns-then-step_by_recall-clause-read c w h =
 pub returns-then-step_by_recall-clause-made : goal.returns-then-step_by_recall-clause-made
 returns-then-step_by_recall-clause-made c = (c.requires.0 ++ c.args.c ∷ [], returns-then-step_by_recall-clause-read c c.requires.0 c.requires.1)
 
-pub returns-clause-read : goal.returns-clause-read
-returns-clause-read c w h =
-    let kept = c.step_by_recall.ensures.kept c.if-step_by_recall.false in
-    let e = c.recollect.ensures in
-    let r = subst (λ m. HasRead c.args.pattern.now m w × (reached m ≡ m.walk.cells)) (sym c.self.view_is)
-    (recollected c.args.pattern.now c.step_by_recall.new.self c.recollect.new.self w e.done e.marks e.at e.first e.known e.start
-    (subst (λ m. HasRead c.args.pattern.now m w) (sym kept) h)) in
-    read_learned c.args.pattern.now _ _ c.cells.result.now c.args.c w c.cells.ensures refl refl
-    (c.read_marks.ensures.marks ∙ ap (λ x. follows c.args.pattern.now c.args.c x) (sym r.1))
-    c.learn-self-inside.ensures.rows c.learn-self-inside.ensures.table c.learn-self-inside.ensures.row c.read_marks.ensures.done r.0
+pub step_by_marks-requires : goal.step_by_marks-requires
+step_by_marks-requires c = subst (IsMadeFor c.args.pattern.now) (sym (c.step_by_recall.ensures.kept c.if-step_by_recall.false)) c.requires
 
-pub returns-clause-made : goal.returns-clause-made
-returns-clause-made c = (c.requires.0 ++ c.args.c ∷ [], returns-clause-read c c.requires.0 c.requires.1)
+pub returns-clause-read : goal.returns-clause-read
+returns-clause-read c w h = c.step_by_marks.ensures.read w (subst (λ m. HasRead c.args.pattern.now m w) (sym (c.step_by_recall.ensures.kept c.if-step_by_recall.false)) h)
