@@ -10,3 +10,4 @@ pub mod ValueLemmas
 pub mod MeasureLemmas
 pub mod HeldLemmas
 pub mod SomeAnswer
+pub mod CodeVerdicts

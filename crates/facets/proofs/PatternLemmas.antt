@@ -73,3 +73,16 @@ takes_collapsed asked simple text c collapse after matcher pattern more next is 
     from (date, own, what, e, collapsed, read) =
         let same : own ≡ pattern = let both : Some own ≡ Some pattern = sym e ∙ has in cc in
         (date, pattern, what ++ more, has, takes text what collapsed, reads what (subst (λ p. HasRead p matcher what) same read))
+
+-- the same for more characters at once
+pub takes_codes : (asked : Asked) (simple : Simple) (text codes : List ℕ) (collapse after : Collapse) (matcher : Matching) (pattern : List ℕ) (next : Matching)
+    → asked ≡ Collapsed collapse matcher → simple.pattern ≡ Some pattern
+    → ((t w : List ℕ) → HasCollapsed collapse t w → HasRead pattern matcher w → (more : List ℕ) × HasCollapsed after (t ++ codes) more × HasRead pattern next more)
+    → HasAsked asked simple text → HasAsked (Collapsed after next) simple (text ++ codes)
+takes_codes asked simple text codes collapse after matcher pattern next is has takes h = from (subst (λ a. HasAsked a simple text) is h)
+  where
+    from : HasAsked (Collapsed collapse matcher) simple text → HasAsked (Collapsed after next) simple (text ++ codes)
+    from (date, own, what, e, collapsed, read) =
+        let same : own ≡ pattern = let both : Some own ≡ Some pattern = sym e ∙ has in cc in
+        let all = takes text what collapsed (subst (λ p. HasRead p matcher what) same read) in
+        (date, pattern, all.0, has, all.1, all.2)

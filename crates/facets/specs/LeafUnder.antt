@@ -1,7 +1,7 @@
 -- The leaf that characters spell under a simple type, or the least rule that they break; the canonical text of a leaf, and when a leaf fits.
 use Rattle.std.specs.Prelude.{◌≡◌, ◌⊎◌, ℕ, ◌≤◌, List, length, Option, Some, Result, Ok, Err, MatchOption, MatchResult, slice_get, encode_utf8_all}
 use Rattle.std.specs.List.{AllByRecursion}
-use Rattle.lexical_core.specs.Characters.{IsXmlChar}
+use Rattle.lexical_core.specs.Characters.{IsXmlChar, IsXmlText}
 use Rattle.lexical_core.specs.declared.rule.Rule.{Rule}
 use Rattle.lexical_core.specs.declared.rule.Rule.TheVariants.{NotACode}
 use Rattle.data_types.specs.Leaf.{Leaf, Code, IsLeaf}
@@ -17,6 +17,10 @@ use Rattle.facets.specs.Rules.{Breaks, BreaksFirst}
 -- the codes of the simple type, where there are any, are sorted
 abbrev pub HasSortedCodes : Simple → Type 0
 HasSortedCodes simple = MatchOption simple.codes (Unit {0}) (λ codes. AreSorted codes)
+
+-- each of the codes is a text of XML: any other fits nothing and breaks no rule
+abbrev pub HasXmlCodes : Simple → Type 0
+HasXmlCodes simple = MatchOption simple.codes (Unit {0}) (λ codes. AllByRecursion IsXmlText codes)
 
 -- the characters are the text of the code at this place, counted from 0
 abbrev pub IsCodeAt : List (List ℕ) → List ℕ → Leaf → Type 0

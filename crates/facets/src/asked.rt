@@ -101,8 +101,13 @@ impl Asked {
         ensures { (text : List ℕ) → HasAsked self.old simple.now text
             → HasAsked self.new simple.now (text ++ codes.now) }
     {
-        for code in codes {
-            self.take(simple, *code as char);
+        let Some(pattern) = &simple.pattern else {
+            return;
+        };
+        match self {
+            Asked::Nothing => {}
+            Asked::Text(matcher) => matcher.step_codes(pattern, codes),
+            Asked::Collapsed(collapse, matcher) => take_gains(pattern, collapse, matcher, codes),
         }
     }
 
@@ -134,6 +139,19 @@ impl Asked {
                 matcher.accepts(pattern)
             }
         }
+    }
+}
+
+/// Takes what the collapsed text gains at the characters of these codes.
+fn take_gains(pattern: &Pattern, collapse: &mut Collapse, matcher: &mut Matcher, codes: &[u8])
+    requires { IsMadeFor pattern.now matcher.old }
+    ensures { (text collapsed : List ℕ) → HasCollapsed collapse.old text collapsed → HasRead pattern.now matcher.old collapsed
+        → (more : List ℕ) × HasCollapsed collapse.new (text ++ codes.now) more × HasRead pattern.now matcher.new more }
+{
+    for code in codes {
+        let c = *code as char;
+        let gain = collapse.take(c);
+        take_gained(pattern, matcher, gain, c);
     }
 }
 

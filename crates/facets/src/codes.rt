@@ -2,7 +2,7 @@
 ghost use Rattle.std.specs.Prelude.{◌≡◌, ◌<◌, [], ◌∷◌, ◌++◌, ◌↔◌, length, IsTrue, Some, IfSome, IfNone, IfOk, OnOk, OnErr, slice_get};
 ghost use Rattle.std.specs.Option.{option_copied};
 ghost use Rattle.std.specs.List.{Contains};
-ghost use Rattle.facets.specs.CodeLists.{IsAboveLast, char_count, longest_of};
+ghost use Rattle.facets.specs.CodeLists.{AreSorted, IsAboveLast, char_count, longest_of};
 
 use lexical_core::Text;
 use std::alloc::{AllocError, Global};
@@ -36,6 +36,23 @@ impl Codes {
             texts: Vec::new(alloc),
             longest: 0,
         }
+    }
+
+    /// The codes of these texts, which are sorted by bytes, each once. They are moved and not copied.
+    pub fn from_vec(texts: Vec<Text>) -> Codes
+        requires { AreSorted texts.items }
+        ensures { result ≡ texts.items }
+    {
+        let longest = longest_count(texts.as_slice());
+        Codes { texts, longest }
+    }
+
+    /// The texts, sorted by bytes, each once. They are moved and not copied.
+    pub fn into_vec(self) -> Vec<Text>
+        ensures texts { result.items ≡ self }
+        ensures sorted { AreSorted result.items }
+    {
+        self.texts
     }
 
     /// Appends a code, which is above the last one by bytes.
@@ -99,6 +116,17 @@ impl Codes {
     {
         self.longest
     }
+}
+
+/// The characters of the longest of these texts.
+fn longest_count(texts: &[Text]) -> usize
+    ensures { result ≡ longest_of texts.now }
+{
+    let mut longest = 0_usize;
+    for text in texts {
+        longest = longest.max(char_count(text.bytes()));
+    }
+    longest
 }
 
 /// Equal texts in memory of their own.

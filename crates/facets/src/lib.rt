@@ -9,6 +9,7 @@ pub mod laws;
 mod leaf_check;
 mod leaf_verdict;
 mod lengths;
+mod places;
 mod progress;
 mod simple;
 mod step;
@@ -18,6 +19,7 @@ pub use digits::check_number;
 pub use leaf_check::LeafCheck;
 pub use leaf_verdict::LeafVerdict;
 pub use lengths::check_octets;
+pub use places::check_code;
 pub use simple::{Bound, Simple};
 pub use step::{Step, Texts};
 
