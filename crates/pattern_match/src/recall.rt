@@ -69,7 +69,7 @@ fn rows_for(width: usize) -> usize
     if width > WIDEST {
         0
     } else {
-        MOST.min(width + 2) // where a character marks one place at most, no more than these are met
+        MOST.min(width + 2) // no more are met where a character is taken by one position at most
     }
 }
 
