@@ -19,14 +19,23 @@ _isorepo() {
     der-to-xml) wanted=(REPO CODES MSGID) ;;
     drill) wanted=(NUMBER SIZE) ;;
     import) wanted=(SCHEMA..) ;;
-    show) wanted=(REPO CODES MSGID FILE) ;;
-    check-all) wanted=(REPO CODES MSGID FILES..) ;;
+    show) wanted=('[--der]' REPO CODES MSGID FILE) ;;
+    check-all) wanted=('[--der]' REPO CODES MSGID FILES..) ;;
+    help) wanted=('[COMMAND]') ;;
     try) wanted=(COMMAND WORDS..) ;;
     explain) wanted=(RULE) ;;
     install) wanted=(DIR) ;;
     esac
-    local count=${#wanted[@]} place=$((COMP_CWORD - 2))
+    local count=${#wanted[@]} place=$((COMP_CWORD - 2)) named=2
     [ "$count" -gt 0 ] || return
+    if [ "${wanted[0]}" = '[--der]' ]; then
+        if [ "$place" = 0 ] && [[ $word == -* ]]; then
+            COMPREPLY=(--der)
+            return
+        fi
+        wanted=("${wanted[@]:1}") count=$((count - 1))
+        [ "${COMP_WORDS[2]}" != --der ] || [ "$place" = 0 ] || place=$((place - 1)) named=3
+    fi
     if [ "$place" -ge "$count" ]; then
         case ${wanted[count - 1]} in
         *..) place=$((count - 1)) ;;
@@ -35,8 +44,9 @@ _isorepo() {
     fi
     compopt -o filenames 2>/dev/null
     case ${wanted[place]} in
-    MSGID) mapfile -t COMPREPLY < <(compgen -W "$("${COMP_WORDS[0]}" list "${COMP_WORDS[2]}" "${COMP_WORDS[3]}" 2>/dev/null | cut -d ' ' -f 1)" -- "$word") ;;
+    MSGID) mapfile -t COMPREPLY < <(compgen -W "$("${COMP_WORDS[0]}" list "${COMP_WORDS[named]}" "${COMP_WORDS[named + 1]}" 2>/dev/null | cut -d ' ' -f 1)" -- "$word") ;;
     DIR) mapfile -t COMPREPLY < <(compgen -d -- "$word") ;;
+    '[COMMAND]') mapfile -t COMPREPLY < <(compgen -W 'list types xsd asn1 check-xml check-der canon-xml xml-to-der der-to-xml drill import show check-all help try --version explain install' -- "$word") ;;
     RULE) mapfile -t COMPREPLY < <(compgen -W "$("${COMP_WORDS[0]}" explain 2>/dev/null)" -- "$word") ;;
     CODES) mapfile -t COMPREPLY < <(compgen -W - -- "$word"; compgen -f -- "$word") ;;
     *) mapfile -t COMPREPLY < <(compgen -f -- "$word") ;;

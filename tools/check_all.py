@@ -1,4 +1,4 @@
-"""isorepo check-all REPO CODES MSGID FILES..: a table of the program's answers for many files."""
+"""isorepo check-all [--der] REPO CODES MSGID FILES..: a table of the program's answers for many files."""
 import collections
 import csv
 import os
@@ -14,11 +14,11 @@ BAR = 40
 INTERRUPTED = 130
 
 
-def files_of(words):
-    """The files that are named, and of each folder those below it whose names end in .xml, in order."""
+def files_of(words, ending):
+    """The files that are named, and of each folder those below it whose names have the ending, in order."""
     for word in words:
         if os.path.isdir(word):
-            yield from sorted(str(path) for path in Path(word).rglob('*') if path.suffix.lower() == '.xml' and path.is_file())
+            yield from sorted(str(path) for path in Path(word).rglob('*') if path.suffix.lower() == ending and path.is_file())
         else:
             yield word
 
@@ -58,12 +58,12 @@ def summary(counts):
     return lines
 
 
-def check_files(words, files, table):
+def check_files(verb, words, files, table):
     """Writes a row for each file, in their order; the greatest status, and how many files have each rule."""
     worst, counts, progress = DONE, collections.Counter(), Progress(len(files))
     pool = ThreadPoolExecutor(len(os.sched_getaffinity(0)))
     try:
-        for done, (path, given) in enumerate(zip(files, pool.map(lambda path: check(*words, path), files)), 1):
+        for done, (path, given) in enumerate(zip(files, pool.map(lambda path: check(*words, path, verb), files)), 1):
             row = row_of(path, given)
             table.writerow(row)
             worst = max(worst, given.status)
@@ -76,20 +76,23 @@ def check_files(words, files, table):
 
 
 def main(words):
+    is_der = words[:1] == ['--der']
+    words = words[is_der:]
     if len(words) < 4:
-        print('isorepo: check-all REPO CODES MSGID FILES..', file=sys.stderr)
+        print('usage: isorepo check-all [--der] REPO CODES MSGID FILES..', file=sys.stderr)
         return 1
     *named, = words[:3]
     first = answer(['types', *named])
     if first.status != DONE:
         print(first.line, file=sys.stderr)
         return first.status
-    files = list(files_of(words[3:]))
+    verb, ending = ('check-der', '.der') if is_der else ('check-xml', '.xml')
+    files = list(files_of(words[3:], ending))
     sys.stdout.reconfigure(encoding='utf-8', errors='surrogateescape', newline='')
     table = csv.writer(sys.stdout, lineterminator='\n')
     try:
         table.writerow(HEAD)
-        worst, counts = check_files(named, files, table)
+        worst, counts = check_files(verb, named, files, table)
         sys.stdout.flush()
     except OSError:
         print('failed: write', file=sys.stderr)

@@ -99,7 +99,7 @@ def read_messages(paths, problems):
 def main(paths):
     problems = Problems()
     if not paths:
-        print('isorepo: import SCHEMA..: files of message schemas', file=sys.stderr)
+        print('usage: isorepo import SCHEMA..', file=sys.stderr)
         return 1
     try:
         messages = read_messages(paths, problems)

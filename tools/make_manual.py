@@ -1,4 +1,5 @@
 """make_manual.py FOLDER: writes help.txt, isorepo.1 and isorepo.bash, made of docs/commands.txt, into FOLDER."""
+import shlex
 import sys
 import textwrap
 from pathlib import Path
@@ -62,7 +63,7 @@ def usage(words):
 
 
 def listed(pairs):
-    return [line for first, second in pairs for line in ('.TP', usage(first) if first[:1].isalpha() or first[:1] == '-' else roff(first), roff(second))]
+    return [line for first, second in pairs for line in ('.TP', usage(first), roff(second))]
 
 
 def manual():
@@ -100,8 +101,16 @@ _isorepo() {{
     case ${{COMP_WORDS[1]}} in
 {cases}
     esac
-    local count=${{#wanted[@]}} place=$((COMP_CWORD - 2))
+    local count=${{#wanted[@]}} place=$((COMP_CWORD - 2)) named=2
     [ "$count" -gt 0 ] || return
+    if [ "${{wanted[0]}}" = '[--der]' ]; then
+        if [ "$place" = 0 ] && [[ $word == -* ]]; then
+            COMPREPLY=(--der)
+            return
+        fi
+        wanted=("${{wanted[@]:1}}") count=$((count - 1))
+        [ "${{COMP_WORDS[2]}}" != --der ] || [ "$place" = 0 ] || place=$((place - 1)) named=3
+    fi
     if [ "$place" -ge "$count" ]; then
         case ${{wanted[count - 1]}} in
         *..) place=$((count - 1)) ;;
@@ -110,8 +119,9 @@ _isorepo() {{
     fi
     compopt -o filenames 2>/dev/null
     case ${{wanted[place]}} in
-    MSGID) mapfile -t COMPREPLY < <(compgen -W "$("${{COMP_WORDS[0]}}" list "${{COMP_WORDS[2]}}" "${{COMP_WORDS[3]}}" 2>/dev/null | cut -d ' ' -f 1)" -- "$word") ;;
+    MSGID) mapfile -t COMPREPLY < <(compgen -W "$("${{COMP_WORDS[0]}}" list "${{COMP_WORDS[named]}}" "${{COMP_WORDS[named + 1]}}" 2>/dev/null | cut -d ' ' -f 1)" -- "$word") ;;
     DIR) mapfile -t COMPREPLY < <(compgen -d -- "$word") ;;
+    '[COMMAND]') mapfile -t COMPREPLY < <(compgen -W '{first}' -- "$word") ;;
     RULE) mapfile -t COMPREPLY < <(compgen -W "$("${{COMP_WORDS[0]}}" explain 2>/dev/null)" -- "$word") ;;
     CODES) mapfile -t COMPREPLY < <(compgen -W - -- "$word"; compgen -f -- "$word") ;;
     *) mapfile -t COMPREPLY < <(compgen -f -- "$word") ;;
@@ -124,7 +134,7 @@ complete -F _isorepo isorepo ./isorepo
 def completions():
     commands, words = entries()
     named = [words_of.split(' ') for words_of, _ in commands + words]
-    cases = '\n'.join(f"    {first}) wanted=({' '.join(rest)}) ;;" for first, *rest in named if rest)
+    cases = '\n'.join(f"    {first}) wanted=({' '.join(map(shlex.quote, rest))}) ;;" for first, *rest in named if rest)
     return COMPLETION.format(first=' '.join(first for first, *_ in named), cases=cases)
 
 

@@ -51,11 +51,16 @@ def line_spot(path, number):
     return Spot(number, indent + 1, text, 0, max(1, len(text) - indent))
 
 
+def printable(text):
+    """The text with a space for each character that a terminal would obey."""
+    return ''.join(character if character.isprintable() else ' ' for character in text)
+
+
 def marked(spot, colour):
     """The line and the marks under it; of a long line what stands round the place."""
     column = spot.column - 1
     start = max(0, column - BEFORE) if len(spot.text) > WIDTH else 0
-    shown = ''.join(character if character.isprintable() else ' ' for character in spot.text[start:start + WIDTH])
+    shown = printable(spot.text[start:start + WIDTH])
     head = '…' if start else ''
     tail = '…' if len(spot.text) > start + WIDTH else ''
     before = min(spot.before, column - start)
@@ -117,9 +122,26 @@ def leaf_expected(types, fault, place):
     return told
 
 
+def markup_expected(fault, data, token):
+    """What XML has there; `data` are the octets up to the fault and some behind."""
+    octet = data[int(fault.where):][:1]
+    if fault.rule == 'BadUtf8' and data[:2] in (b'\xfe\xff', b'\xff\xfe'):
+        return ['UTF-8; the file is in UTF-16']
+    if fault.rule == 'BadUtf8':
+        character = octet.decode('cp1252', 'replace')
+        return ['UTF-8' + (f'; the octet {octet.hex()} is {character} in Windows-1252' if character.isprintable() else '')]
+    if fault.rule == 'BadMarkup' and re.match(r'<\?xml\s', token):
+        return ['<?xml version="1.0" encoding="UTF-8"?>, the one version and encoding that is read']
+    if fault.rule == 'BadReference':
+        return ['&amp; &lt; &gt; &quot; &apos; or the number of a character, as &#233;; the sign & itself is &amp;']
+    if fault.rule in ('TagMismatch', 'Truncated') and fault.path != '/':
+        return [f'the end of {fault.path.rpartition("/")[2]}']
+    return []
+
+
 def expected(types, fault, place, token):
     """Lines that say what the message has there."""
-    if fault.rule in MARKUP or fault.path is None:
+    if fault.path is None:
         return []
     if fault.rule == 'WrongRoot':
         return root_expected(types, place, token)
@@ -156,7 +178,7 @@ def rows(fault, told, colour):
     labelled = [('in', fault.path)] if fault.path else []
     labelled += [('rule', SENTENCES.get(fault.rule, 'docs/FORMATS.md has this rule'))]
     labelled += [('expected' if number == 0 else '', text) for number, text in enumerate(told)]
-    return [f'  {colour("label", f"{label:<8}")} {text}' for label, text in labelled]
+    return [f'  {colour("label", f"{label:<8}")} {printable(text)}' for label, text in labelled]
 
 
 def page(path, spot, fault, told, colour):
@@ -175,10 +197,11 @@ def types_of(words):
 def instance_page(words, path, fault, colour):
     place = int(fault.where)
     spot = spot_of(path, place, fault.rule in LEAF_RULES)
-    types = types_of(words)
+    token = spot.text[spot.column - 1:spot.column - 1 + spot.behind]
     with open(path, 'rb') as file:
-        came = Place(file.read(place))
-    return page(path, spot, fault, expected(types, fault, came, spot.text[spot.column - 1:spot.column - 1 + spot.behind]), colour)
+        data = file.read(place + 2)
+    told = markup_expected(fault, data, token) if fault.rule in MARKUP else expected(types_of(words), fault, Place(data[:place]), token)
+    return page(path, spot, fault, told, colour)
 
 
 def object_page(words, fault, colour):
@@ -238,7 +261,7 @@ def main(words):
     is_der = words[:1] == ['--der']
     words = words[is_der:]
     if len(words) != 4:
-        print('isorepo: show [--der] REPO CODES MSGID FILE', file=sys.stderr)
+        print('usage: isorepo show [--der] REPO CODES MSGID FILE', file=sys.stderr)
         return 1
     *words, path = words
     answer = check(*words, path, 'check-der' if is_der else 'check-xml')
@@ -249,7 +272,7 @@ def main(words):
     except (OSError, NotXml, StopIteration):
         lines = []
     try:
-        sys.stdout.buffer.write((answer.out + ''.join(line + '\n' for line in lines)).encode())
+        sys.stdout.buffer.write((answer.out + ''.join(line + '\n' for line in lines)).encode(errors='surrogateescape'))
         sys.stdout.buffer.flush()
     except OSError:
         print('failed: write', file=sys.stderr)

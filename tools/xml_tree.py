@@ -78,4 +78,6 @@ def read_tree(data):
         parser.Parse(data, True)
     except expat.ExpatError as error:
         raise NotXml(error.lineno, f'not well-formed: {expat.ErrorString(error.code)}') from None
+    except LookupError:
+        raise NotXml(1, 'an encoding that is not known') from None
     return builder.root
