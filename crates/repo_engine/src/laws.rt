@@ -45,9 +45,7 @@ pub fn some_answer()
 /// accepted exactly where they are XML of a tree that the schema admits.
 pub fn schema_admits_what_is_accepted()
     ensures { SchemaAdmitsWhatIsAccepted }
-{
-    respell::laws::whole_is_plain();
-}
+{}
 
 /// The ASN.1 module that `asn1` writes of a message admits exactly what `check-der` accepts, whatever bytes gave the
 /// repository and its codes: bytes of at most 2^40 are accepted exactly where they are the DER of a value of the module's

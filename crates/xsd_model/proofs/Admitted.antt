@@ -1,4 +1,4 @@
--- A tree that XML can spell is valid for the schema of a message exactly where it writes a value that the message admits.
+-- A tree is valid for the schema of a message exactly where it writes a value that the message admits.
 use Rattle.std.proofs.Common.{◌≡◌, ℕ, List, [], ◌∷◌, map, Option, Some, None, refl, sym, ap, subst, ◌∙◌}
 use Rattle.std.specs.Prelude.{slice_get, codes}
 use Rattle.std.specs.Str.{chars}
@@ -13,7 +13,7 @@ use Rattle.data_types.specs.declared.kind.Kind.TheVariants as kind
 use Rattle.facets.specs.declared.simple.Simple.{Simple}
 use Rattle.facets.specs.LeafUnder.{GivesLeaf}
 use Rattle.facets.proofs.FitLemmas.{given_fits}
-use Rattle.fragments.specs.Plain.{ArePlain, IsPlain}
+use Rattle.fragments.specs.Plain.{IsPlain}
 use Rattle.reference_check.specs.Forms.{Graph, Form, Slot, form_slots}
 use Rattle.reference_check.specs.Forms as form
 use Rattle.message_model.specs.Admits.{AdmitsAs, AdmitsChildren, FitsCode, numbers_of}
@@ -48,16 +48,15 @@ pub record Agrees (g : Graph ℕ Simple) (name base : ℕ → List ℕ) (S : Sch
 
 -- ---- envelopes
 
-one_wrapped : (nodes : Nodes) → ArePlain nodes → HasOneElement nodes → (t : Tree) × IsPlain t × Wraps t nodes
-one_wrapped tree.Nothing plain h = absurd h
-one_wrapped (Text c rest) plain h = (let r = one_wrapped rest plain.1 h.1 in (r.0, r.1, (h.0, r.2)))
-one_wrapped (Element n attributes children rest) (name, entries, inner, behind) h =
-    (record { name = n; attributes = attributes; children = children }, record { name = name; attributes = entries; children = inner }, (refl, h))
+one_wrapped : (nodes : Nodes) → HasOneElement nodes → (t : Tree) × IsPlain t × Wraps t nodes
+one_wrapped tree.Nothing h = absurd h
+one_wrapped (Text c rest) h = (let r = one_wrapped rest h.1 in (r.0, r.1, (h.0, r.2)))
+one_wrapped (Element n attributes children rest) h = (record { name = n; attributes = attributes; children = children }, h.0, (refl, h.1))
 
-wrapped_one : (t : Tree) (nodes : Nodes) → Wraps t nodes → HasOneElement nodes
-wrapped_one t tree.Nothing h = absurd h
-wrapped_one t (Text c rest) h = (h.0, wrapped_one t rest h.1)
-wrapped_one t (Element n attributes children rest) h = h.1
+wrapped_one : (t : Tree) (nodes : Nodes) → IsPlain t → Wraps t nodes → HasOneElement nodes
+wrapped_one t tree.Nothing plain h = absurd h
+wrapped_one t (Text c rest) plain h = (h.0, wrapped_one t rest plain h.1)
+wrapped_one t (Element n attributes children rest) plain h = (subst IsPlain h.0 plain, h.1)
 
 may_hold : (name : ℕ → List ℕ) (slots : List (Slot ℕ)) (nodes : Nodes) → MayHave (map (part_of name) slots) nodes → MayHold (form.Sequence slots) nodes
 may_hold name [] nodes h = h
@@ -134,40 +133,40 @@ module _ (g : Graph ℕ Simple) (name base : ℕ → List ℕ) (S : Schema) (agr
   SpelledChildren F d nodes =
       (children : Children) × (numbers_of children ≡ d) × AdmitsChildren g (form_slots F) children × WritesContent g S.namespace F (value.Component children) nodes
 
-  of_type : (p : ℕ) (F : Form ℕ Simple) (attributes : List Entry) (nodes : Nodes) (C : List Part → List ℕ → Type 0) → g p ≡ F → ArePlain nodes
+  of_type : (p : ℕ) (F : Form ℕ Simple) (attributes : List Entry) (nodes : Nodes) (C : List Part → List ℕ → Type 0) → g p ≡ F
       → ((H : Form ℕ Simple) (d : List ℕ) → C (map (part_of name) (form_slots H)) d → SpelledChildren H d nodes)
       → HasType S.types (shape_by name (base p) F) attributes nodes C → Spelled F attributes nodes
-  of_type p (form.Sequence slots) attributes nodes C is plain below (hints, may, d, word, each) = go (below (form.Sequence slots) d each)
+  of_type p (form.Sequence slots) attributes nodes C is below (hints, may, d, word, each) = go (below (form.Sequence slots) d each)
     where
       go : SpelledChildren (form.Sequence slots) d nodes → Spelled (form.Sequence slots) attributes nodes
       go (children, at, admitted, written) = (value.Component children, (rw at (sequence_from name slots d word), admitted), hints, may_hold name slots nodes may, written)
-  of_type p (form.Choice slots) attributes nodes C is plain below (hints, d, word, each) = go (below (form.Choice slots) d each)
+  of_type p (form.Choice slots) attributes nodes C is below (hints, d, word, each) = go (below (form.Choice slots) d each)
     where
       go : SpelledChildren (form.Choice slots) d nodes → Spelled (form.Choice slots) attributes nodes
       go (children, at, admitted, written) = (value.Component children, (rw at (choice_from name slots d word), admitted), hints, tt, written)
-  of_type p (form.Simple simple) attributes nodes C is plain below (hints, (text, e, h)) =
+  of_type p (form.Simple simple) attributes nodes C is below (hints, (text, e, h)) =
       let r : (l : Leaf) × GivesLeaf simple text l = valid_given simple text (agree.simple p simple is) h in
       (value.Simple r.0, given_fits simple text r.0 r.1, hints, tt, simple_content (form.Simple simple) r.0 nodes (text, e, r.1))
-  of_type p (form.Money code number) attributes nodes C is plain below ((w, has, coded), (text, e, h)) =
+  of_type p (form.Money code number) attributes nodes C is below ((w, has, coded), (text, e, h)) =
       let c : (l : Leaf) × SpellsCode (g code) (chars w) l × FitsCode (g code) l =
       code_spelled code (g code) (base code) (chars w) refl (subst (λ o. IsTextAt o (chars w)) (agree.typed code) coded) in
       let valid : IsSimpleText (steps_of number) text = subst (λ o. IsTextAt o text) (agree.based p code number is) h in
       let sound : IsSoundSimple number × (number.kind ≡ kind.Decimal) = agree.number p code number is in
       let m : (m : DecimalNumber) × GivesLeaf number text (Number m) = valid_spells_number number text sound.0 sound.1 valid in
       (value.Amount c.0 m.0, (c.2, given_fits number text (Number m.0) m.1), (w, has, c.1), tt, amount_content (form.Money code number) c.0 m.0 nodes (text, e, m.1))
-  of_type p form.Envelope attributes nodes C is plain below (hints, h) =
-      let r : (t : Tree) × IsPlain t × Wraps t nodes = one_wrapped nodes plain h in (value.External r.0, r.1, hints, tt, tree_content form.Envelope r.0 nodes r.2)
-  of_type p form.LeftOut attributes nodes C is plain below h = absurd h
-  of_type p form.Missing attributes nodes C is plain below h = absurd h
+  of_type p form.Envelope attributes nodes C is below (hints, h) =
+      let r : (t : Tree) × IsPlain t × Wraps t nodes = one_wrapped nodes h in (value.External r.0, r.1, hints, tt, tree_content form.Envelope r.0 nodes r.2)
+  of_type p form.LeftOut attributes nodes C is below h = absurd h
+  of_type p form.Missing attributes nodes C is below h = absurd h
 
-  spelled_children : (F : Form ℕ Simple) (d : List ℕ) (nodes : Nodes) → ArePlain nodes → AreValid S (map (part_of name) (form_slots F)) d nodes → SpelledChildren F d nodes
-  spelled_children F [] tree.Nothing plain h = (value.Nothing, refl, tt, tt)
-  spelled_children F (k ∷ d) tree.Nothing plain h = absurd h
-  spelled_children F d (Text c rest) plain h = (let r = spelled_children F d rest plain.1 h.1 in (r.0, r.1, r.2, space_content F r.0 c rest h.0 r.3))
-  spelled_children F [] (Element n attributes children rest) plain h = absurd h
-  spelled_children F (k ∷ d) (Element n attributes children rest) (spelled, entries, inside, behind) ((part, e, named_so, valid), more) =
-      one (slice_get-back (part_of name) (form_slots F) k part e) (spelled_children F d rest behind more)
-      (λ s type. of_type s (g s) attributes children (λ inner own. AreValid S inner own children) refl inside (λ H j c. spelled_children H j children inside c) type)
+  spelled_children : (F : Form ℕ Simple) (d : List ℕ) (nodes : Nodes) → AreValid S (map (part_of name) (form_slots F)) d nodes → SpelledChildren F d nodes
+  spelled_children F [] tree.Nothing h = (value.Nothing, refl, tt, tt)
+  spelled_children F (k ∷ d) tree.Nothing h = absurd h
+  spelled_children F d (Text c rest) h = (let r = spelled_children F d rest h.1 in (r.0, r.1, r.2, space_content F r.0 c rest h.0 r.3))
+  spelled_children F [] (Element n attributes children rest) h = absurd h
+  spelled_children F (k ∷ d) (Element n attributes children rest) ((part, e, named_so, valid), more) =
+      one (slice_get-back (part_of name) (form_slots F) k part e) (spelled_children F d rest more)
+      (λ s type. of_type s (g s) attributes children (λ inner own. AreValid S inner own children) refl (λ H j c. spelled_children H j children c) type)
     where
       one : (s : Slot ℕ) × (slice_get (form_slots F) k ≡ Some s) × (part_of name s ≡ part) → SpelledChildren F d rest
           → ((s : ℕ) → HasType S.types (shape_by name (base s) (g s)) attributes children (λ inner own. AreValid S inner own children) → Spelled (g s) attributes children)
@@ -198,7 +197,7 @@ module _ (g : Graph ℕ Simple) (name base : ℕ → List ℕ) (S : Schema) (agr
         (w, has, subst (λ o. IsTextAt o (chars w)) (sym (agree.typed code)) coded),
         (t.0, t.1, subst (λ o. IsTextAt o t.0) (sym (agree.based p code number is)) (given_valid number t.0 (Number m) (agree.number p code number is).0 t.2)),
       )
-  to_type p form.Envelope (value.External t) attributes nodes C is below fits hints may written = (hints, wrapped_one t nodes (content_tree form.Envelope t nodes written))
+  to_type p form.Envelope (value.External t) attributes nodes C is below fits hints may written = (hints, wrapped_one t nodes fits (content_tree form.Envelope t nodes written))
   to_type p F v attributes nodes C is below a hints may written = absurd a
 
   valid_children : (F : Form ℕ Simple) (children : Children) (nodes : Nodes) → AdmitsChildren g (form_slots F) children → WritesContent g S.namespace F (value.Component children) nodes
@@ -223,13 +222,13 @@ module _ (g : Graph ℕ Simple) (name base : ℕ → List ℕ) (S : Schema) (agr
 
   -- ---- whole trees
 
-  pub valid_written : (t : Tree) → name 0 ≡ codes "Document" → IsPlain t → IsValid S t → (v : Value) × AdmitsAs g (g 0) v × WritesAs g S.namespace (g 0) v t
-  valid_written t root plain h =
+  pub valid_written : (t : Tree) → name 0 ≡ codes "Document" → IsValid S t → (v : Value) × AdmitsAs g (g 0) v × WritesAs g S.namespace (g 0) v t
+  valid_written t root h =
       let type : HasType S.types (shape_by name (base 0) (g 0)) t.attributes t.children (λ parts own. AreValid S parts own t.children) =
       subst (λ o. HasType S.types o t.attributes t.children (λ parts own. AreValid S parts own t.children))
       (ap (λ n. find_type n S.types) (sym root) ∙ agree.typed 0) h.valid in
       let r : Spelled (g 0) t.attributes t.children =
-      of_type 0 (g 0) t.attributes t.children (λ parts own. AreValid S parts own t.children) refl plain.children (λ H d c. spelled_children H d t.children plain.children c) type in
+      of_type 0 (g 0) t.attributes t.children (λ parts own. AreValid S parts own t.children) refl (λ H d c. spelled_children H d t.children c) type in
       (r.0, r.1, record { name = h.name; attributes = r.2; holds = r.3; content = r.4 })
 
   pub written_valid : (t : Tree) (v : Value) → name 0 ≡ codes "Document" → AdmitsAs g (g 0) v → WritesAs g S.namespace (g 0) v t → IsValid S t

@@ -1,12 +1,11 @@
 -- The schema of a message that breaks no rule admits exactly the trees that write a value which the message admits.
-use Rattle.std.proofs.Common.{◌≡◌, ℕ, ◌<◌, ◌++◌, List, [], ◌∷◌, length, map, flat_map, get_or, Some, sym, ap, subst, ◌∙◌}
+use Rattle.std.proofs.Common.{◌≡◌, ◌↔◌, ℕ, ◌<◌, ◌++◌, List, [], ◌∷◌, length, map, flat_map, get_or, Some, sym, ap, subst, ◌∙◌}
 use Rattle.std.specs.Prelude.{slice_get, codes}
 use Rattle.std.specs.List.{AllByRecursion, IsDistinct}
 use Rattle.std.specs.Str.{bytes_eq}
 use Rattle.std.proofs.lemmas.List.{length-map}
 use Rattle.std.proofs.lemmas.Option.{slice_get-get_or}
 use Rattle.lexical_core.specs.Tree.{Tree}
-use Rattle.fragments.specs.Plain.{IsPlain}
 use Rattle.data_types.specs.Value.{Value}
 use Rattle.facets.specs.declared.simple.Simple.{Simple}
 use Rattle.repo_objects.specs.Repository.{Contents}
@@ -22,7 +21,7 @@ use Rattle.xsd_model.specs.Trees.{IsValid}
 use Rattle.xsd_model.specs.SchemaOf.{schema_of, names, all_types, name_of, HasSoundNames, HasSoundFacets}
 use Rattle.xsd_model.proofs.ReadyFacets.{facets_from, facets_at}
 use Rattle.xsd_model.proofs.ReadyNames.{place_names, names_listed, listed, names_distinct, names_some}
-use Rattle.xsd_model.proofs.SchemaLaw.{admitted_trees_of, written_trees_of}
+use Rattle.xsd_model.proofs.SchemaLaw.{same_trees_of}
 
 module _ (R : Contents) (m : List ℕ) (ready : IsReady R m) (ids : List (List ℕ)) (list : IsReachedList R m ids) (T : Tables) (made : Compiles R m ids T) where
   root : (ts : List TypeEntry) → map (λ (t : TypeEntry). t.name) ts ≡ map (place_name R m) (places_of ids) → name_of (record { id = T.id; types = ts }) 0 ≡ codes "Document"
@@ -51,14 +50,9 @@ module _ (R : Contents) (m : List ℕ) (ready : IsReady R m) (ids : List (List �
     facets = facets;
   }
 
--- the trees that are valid, and those that write a value of the message
+-- the trees that are valid are those that write a value of the message
 module _ (R : Contents) (m : List ℕ) (ids : List (List ℕ)) (T : Tables) (t : Tree) (ready : IsReady R m) (list : IsReachedList R m ids) (made : Compiles R m ids T) where
-  pub admitted_instances : IsPlain t → IsValid (schema_of T) t → (v : Value) × AdmitsAs (types R m) (types R m document) v × WritesAs (types R m) (namespace_front ++ m) (types R m document) v t
-  admitted_instances plain valid =
-      subst (λ (id : List ℕ). (v : Value) × AdmitsAs (types R m) (types R m document) v × WritesAs (types R m) (namespace_front ++ id) (types R m document) v t) made.id
-      (admitted_trees_of T t (sound_names R m ready ids list T made) (tables_sound R m ready ids list T made) Place (types R m) (place_of ids) (λ number. sym (made.forms number)) plain valid)
-
-  pub written_instances : (v : Value) × AdmitsAs (types R m) (types R m document) v × WritesAs (types R m) (namespace_front ++ m) (types R m document) v t → IsValid (schema_of T) t
-  written_instances some =
-      written_trees_of T t (sound_names R m ready ids list T made) (tables_sound R m ready ids list T made) Place (types R m) (place_of ids) (λ number. sym (made.forms number))
-      (subst (λ (id : List ℕ). (v : Value) × AdmitsAs (types R m) (types R m document) v × WritesAs (types R m) (namespace_front ++ id) (types R m document) v t) (sym made.id) some)
+  pub same_instances : IsValid (schema_of T) t ↔ ((v : Value) × AdmitsAs (types R m) (types R m document) v × WritesAs (types R m) (namespace_front ++ m) (types R m document) v t)
+  same_instances =
+      subst (λ (id : List ℕ). IsValid (schema_of T) t ↔ ((v : Value) × AdmitsAs (types R m) (types R m document) v × WritesAs (types R m) (namespace_front ++ id) (types R m document) v t)) made.id
+      (same_trees_of T t (sound_names R m ready ids list T made) (tables_sound R m ready ids list T made) Place (types R m) (place_of ids) (λ number. sym (made.forms number)))
