@@ -11,6 +11,7 @@ use crate::numbers::number_of;
 use crate::simple_types::simple_of;
 use crate::slots::slots_of;
 use facets::Simple;
+use reference_check::CodeTexts;
 use repo_objects::{Kinds, Object, ObjectKind, Repository};
 use std::alloc::{AllocError, Global};
 
@@ -18,20 +19,23 @@ use std::alloc::{AllocError, Global};
 pub(crate) fn layout_of(
     alloc: Global,
     repository: &Repository,
+    texts: &mut CodeTexts<'_>,
     numbers: &[u32],
     at: usize,
     object: &Object,
 ) -> Result<Layout, AllocError>
+    requires same { texts.old ≡ repository.now }
     requires object { (id : List ℕ) × (slice_get repository.now.objects at ≡ Some (record { id = id; object = object.now })) }
     requires facets { HasBadFacets object.now → ⊥ }
     requires text { IsXmlTextIfAny object.now.facets.pattern }
     requires kind { object.now.kind ≡ Other → ⊥ }
-    ensures { (places : List ℕ) → AreNumbers places numbers.now → IsCompilable repository.now places object.now
+    ensures stays { texts.new ≡ texts.old }
+    ensures layout { (places : List ℕ) → AreNumbers places numbers.now → IsCompilable repository.now places object.now
         → IfOk result (λ layout. IsLayoutOf repository.now places object.now (layout_form layout)) }
 {
     match object.kind {
         ObjectKind::Simple(kind) => {
-            let base = simple_of(alloc, repository, at, object)?;
+            let base = simple_of(alloc, texts, at, object)?;
             Ok(simple_layout(repository, numbers, object, kind, base))
         }
         ObjectKind::Component => Ok(Layout::Sequence(slots_of(

@@ -14,6 +14,7 @@ mod patterns;
 mod simple_types;
 mod slots;
 mod sorted_codes;
+mod tag_order;
 
 pub use fault::{Fault, InstanceError};
 pub use model::{End, Form, Model, Next, Slot};

@@ -10,6 +10,7 @@ ghost use Rattle.reference_check.specs.Forms.{Slot as Slotted};
 ghost use Rattle.message_model.specs.Quick.{quick_sequence_next, quick_choice_next, quick_sequence_end, quick_choice_end, quick_at, due, HasTagAt, AreTagged};
 ghost use Rattle.message_model.specs.Views.{layout_form, slot_view, slots_view, next_view, end_view, IsFormOf};
 
+use crate::tag_order::TagOrder;
 use facets::Simple;
 use lexical_core::Text;
 use repo_objects::MessageId;
@@ -42,6 +43,7 @@ pub(crate) struct TypeInfo {
     pub(crate) word: Text,
     pub(crate) name: Text,
     pub(crate) layout: Layout,
+    pub(crate) order: TagOrder,
 }
 
 /// The compiled types of a message. Type 0 is `Document`, type 1 the message.
@@ -195,7 +197,7 @@ impl Model {
     {
         match self.types.get(number as usize) {
             None => Next::Unknown,
-            Some(entry) => layout_next(&entry.layout, last, count, tag),
+            Some(entry) => layout_next(&entry.layout, &entry.order, last, count, tag),
         }
     }
 
@@ -227,7 +229,7 @@ fn find_tag(slots: &[SlotInfo], tag: &[u8]) -> Option<u32>
 
 /// Whether the slot has the tag.
 #[tactic(auto, using(crate::proofs::Views::slice_get_map))]
-fn has_tag(slots: &[SlotInfo], at: u32, tag: &[u8]) -> bool
+pub(crate) fn has_tag(slots: &[SlotInfo], at: u32, tag: &[u8]) -> bool
     ensures { result ≡ true → HasTagAt (slots_view slots.now) at tag.now }
 {
     match slots.get(at as usize) {
@@ -236,22 +238,28 @@ fn has_tag(slots: &[SlotInfo], at: u32, tag: &[u8]) -> bool
     }
 }
 
-/// The slot of the tag. The last that came and the one behind it are compared before all others, since tags mostly come in
-/// order.
-fn find_near(slots: &[SlotInfo], last: Option<u32>, tag: &[u8]) -> Option<u32>
+/// The slot of the tag. The one behind the last that came and the last are compared before all others, since tags mostly
+/// come in order; of many others the order of their tags leads to it.
+fn find_near(slots: &[SlotInfo], order: &TagOrder, last: Option<u32>, tag: &[u8]) -> Option<u32>
     requires short { length slots.now ≤ 4096 }
     requires apart { AreTagged (slots_view slots.now) }
     ensures { result ≡ find_slot 0 (slots_view slots.now) tag.now }
 {
+    let behind = match last {
+        Some(last) => last.saturating_add(1),
+        None => 0,
+    };
+    if has_tag(slots, behind, tag) {
+        return Some(behind);
+    }
     let near = last.unwrap_or(0);
     if has_tag(slots, near, tag) {
         return Some(near);
     }
-    let behind = near.saturating_add(1);
-    if has_tag(slots, behind, tag) {
-        return Some(behind);
+    match order.find(slots, tag) {
+        Some(at) => Some(at),
+        None => find_tag(slots, tag),
     }
-    find_tag(slots, tag)
 }
 
 /// The first slot from one on, and before another, that has to come.
@@ -290,12 +298,18 @@ fn after(at: u32, due: Option<u32>) -> Next
 }
 
 #[tactic(auto, using(crate::proofs::Views::slice_get_map))]
-fn choice_next(slots: &[SlotInfo], last: Option<u32>, count: u64, tag: &[u8]) -> Next
+fn choice_next(
+    slots: &[SlotInfo],
+    order: &TagOrder,
+    last: Option<u32>,
+    count: u64,
+    tag: &[u8],
+) -> Next
     requires short { length slots.now ≤ 4096 }
     requires apart { AreTagged (slots_view slots.now) }
     ensures { next_view result ≡ quick_choice_next (slots_view slots.now) last count tag.now }
 {
-    let Some(at) = find_near(slots, last, tag) else {
+    let Some(at) = find_near(slots, order, last, tag) else {
         return Next::Unknown;
     };
     let Some(slot) = slots.get(at as usize) else {
@@ -351,25 +365,31 @@ fn sequence_at(slots: &[SlotInfo], last: Option<u32>, count: u64, at: u32) -> Ne
 }
 
 /// What the tag is in a sequence.
-fn sequence_next(slots: &[SlotInfo], last: Option<u32>, count: u64, tag: &[u8]) -> Next
+fn sequence_next(
+    slots: &[SlotInfo],
+    order: &TagOrder,
+    last: Option<u32>,
+    count: u64,
+    tag: &[u8],
+) -> Next
     requires short { length slots.now ≤ 4096 }
     requires apart { AreTagged (slots_view slots.now) }
     ensures { next_view result ≡ quick_sequence_next (slots_view slots.now) last count tag.now }
 {
-    match find_near(slots, last, tag) {
+    match find_near(slots, order, last, tag) {
         None => Next::Unknown,
         Some(at) => sequence_at(slots, last, count, at),
     }
 }
 
 /// What the tag is in an element of this layout.
-fn layout_next(layout: &Layout, last: Option<u32>, count: u64, tag: &[u8]) -> Next
+fn layout_next(layout: &Layout, order: &TagOrder, last: Option<u32>, count: u64, tag: &[u8]) -> Next
     requires { IsSoundForm (layout_form layout.now) }
     ensures { (d : List ℕ) → Came (layout_form layout.now) d → EndsWith d last count → next_view result ≡ next (layout_form layout.now) d tag.now }
 {
     match layout {
-        Layout::Sequence(slots) => sequence_next(slots, last, count, tag),
-        Layout::Choice(slots) => choice_next(slots, last, count, tag),
+        Layout::Sequence(slots) => sequence_next(slots, order, last, count, tag),
+        Layout::Choice(slots) => choice_next(slots, order, last, count, tag),
         _ => Next::Unknown,
     }
 }

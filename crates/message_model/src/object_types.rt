@@ -5,7 +5,8 @@ ghost use Rattle.reference_check.specs.Reached.{HasReach};
 ghost use Rattle.repo_objects.specs.Repository.{Contents, IsRepository};
 ghost use Rattle.repo_objects.specs.declared.objects.ObjectKind.TheVariants.{Other};
 ghost use Rattle.repo_objects.specs.Objects.{IsXmlTextIfAny};
-ghost use Rattle.message_model.specs.Views.{type_entry};
+ghost use Rattle.reference_check.specs.Forms.{form_slots};
+ghost use Rattle.message_model.specs.Views.{type_entry, layout_form, slots_view};
 ghost use Rattle.message_model.specs.FacetRules.{HasBadFacets};
 ghost use Rattle.message_model.specs.Ready.{IsReady};
 ghost use Rattle.message_model.specs.Compiled.{places_of};
@@ -15,8 +16,9 @@ use crate::layouts::layout_of;
 use crate::model::{Layout, SlotInfo, TypeInfo};
 use crate::numbers::number_places;
 use crate::slots::slots_of;
+use crate::tag_order::TagOrder;
 use lexical_core::Text;
-use reference_check::Reach;
+use reference_check::{CodeTexts, Reach};
 use repo_objects::{MessageDef, Object, Repository};
 use std::alloc::{AllocError, Global};
 
@@ -46,6 +48,7 @@ fn document_type(alloc: Global, definition: &MessageDef) -> Result<TypeInfo, All
     Ok(TypeInfo {
         word: text_of(alloc, b"Document")?,
         name: text_of(alloc, b"Document")?,
+        order: TagOrder::new(alloc, &slots)?,
         layout: Layout::Sequence(slots),
     })
 }
@@ -64,6 +67,7 @@ fn message_type(
     Ok(TypeInfo {
         word: text_of(alloc, b"Message")?,
         name: definition.name.copy(alloc)?,
+        order: TagOrder::new(alloc, &slots)?,
         layout: Layout::Sequence(slots),
     })
 }
@@ -72,22 +76,38 @@ fn message_type(
 fn object_type(
     alloc: Global,
     repository: &Repository,
+    texts: &mut CodeTexts<'_>,
     numbers: &[u32],
     at: usize,
     object: &Object,
 ) -> Result<TypeInfo, AllocError>
+    requires same { texts.old ≡ repository.now }
     requires object { (id : List ℕ) × (slice_get repository.now.objects at ≡ Some (record { id = id; object = object.now })) }
     requires facets { HasBadFacets object.now → ⊥ }
     requires text { IsXmlTextIfAny object.now.facets.pattern }
     requires kind { object.now.kind ≡ Other → ⊥ }
-    ensures { (m id : List ℕ) (places : List ℕ) → find_entry id repository.now.objects ≡ Some object.now → AreNumbers places numbers.now
+    ensures stays { texts.new ≡ texts.old }
+    ensures typed { (m id : List ℕ) (places : List ℕ) → find_entry id repository.now.objects ≡ Some object.now → AreNumbers places numbers.now
         → IsCompilable repository.now places object.now → IfOk result (λ t. IsTypeOf repository.now m places (entry id) (type_entry t)) }
 {
+    let layout = layout_of(alloc, repository, texts, numbers, at, object)?;
     Ok(TypeInfo {
         word: object.word.copy(alloc)?,
         name: object.name.copy(alloc)?,
-        layout: layout_of(alloc, repository, numbers, at, object)?,
+        order: TagOrder::new(alloc, slots_in(&layout))?,
+        layout,
     })
+}
+
+/// The slots of a layout.
+fn slots_in(layout: &Layout) -> &[SlotInfo]
+    ensures { slots_view result.now ≡ form_slots (layout_form layout.now) }
+{
+    match layout {
+        Layout::Sequence(slots) => slots.as_slice(),
+        Layout::Choice(slots) => slots.as_slice(),
+        _ => &[],
+    }
 }
 
 /// The types of the objects at these places, behind those of `Document` and the message.
@@ -103,11 +123,12 @@ fn with_objects(
         → AreTypesOf repository.now m places.now (document ∷ (message ∷ [])) (map type_entry types.items)
         → IfOk result (λ ts. AreTypesOf repository.now m places.now (places_of (ids_at repository.now.objects places.now)) (map type_entry ts.items)) }
 {
+    let mut texts = CodeTexts::new(alloc, repository);
     for place in places {
         let Some((_, object)) = repository.object_at(*place) else {
             unreachable!();
         };
-        types.push(object_type(alloc, repository, numbers, *place, object)?)?;
+        types.push(object_type(alloc, repository, &mut texts, numbers, *place, object)?)?;
     }
     Ok(types)
 }

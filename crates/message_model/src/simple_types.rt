@@ -10,7 +10,8 @@ use crate::sorted_codes::sorted_codes;
 use data_types::Kind;
 use facets::{Bound, Codes, Simple};
 use lexical_core::Decimal;
-use repo_objects::{Kinds, Object, ObjectKind, RawFacets, Repository};
+use reference_check::CodeTexts;
+use repo_objects::{Kinds, Object, ObjectKind, RawFacets};
 use std::alloc::{AllocError, Global};
 
 /// The base of the texts of a data type.
@@ -139,17 +140,18 @@ fn enumerated(codes: Codes) -> Simple
 /// The simple type of the data type at that place.
 pub(crate) fn simple_of(
     alloc: Global,
-    repository: &Repository,
+    texts: &mut CodeTexts<'_>,
     at: usize,
     object: &Object,
 ) -> Result<Simple, AllocError>
-    requires object { (id : List ℕ) × (slice_get repository.now.objects at ≡ Some (record { id = id; object = object.now })) }
+    requires object { (id : List ℕ) × (slice_get texts.old.objects at ≡ Some (record { id = id; object = object.now })) }
     requires facets { HasBadFacets object.now → ⊥ }
     requires text { IsXmlTextIfAny object.now.facets.pattern }
-    ensures { IfOk result (λ s. s ≡ facets_of repository.now object.now) }
+    ensures stays { texts.new ≡ texts.old }
+    ensures simple { IfOk result (λ s. s ≡ facets_of texts.old object.now) }
 {
     if has_codes(object) {
-        return Ok(enumerated(sorted_codes(alloc, repository, at, object)?));
+        return Ok(enumerated(sorted_codes(alloc, texts, at, object)?));
     }
     faceted(alloc, object)
 }

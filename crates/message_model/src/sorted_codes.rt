@@ -7,39 +7,41 @@ ghost use Rattle.message_model.specs.Sorted.{texts_in};
 
 use facets::Codes;
 use lexical_core::Text;
-use reference_check::code_text;
-use repo_objects::{Object, Repository};
+use reference_check::CodeTexts;
+use repo_objects::Object;
 use std::alloc::{AllocError, Global};
 use std::collections::BTreeSet;
 
 /// The texts of the codes of the set at that place, sorted.
 pub(crate) fn sorted_codes(
     alloc: Global,
-    repository: &Repository,
+    texts: &mut CodeTexts<'_>,
     at: usize,
     object: &Object,
 ) -> Result<Codes, AllocError>
-    requires { (id : List ℕ) × (slice_get repository.now.objects at ≡ Some (record { id = id; object = object.now })) }
-    ensures { IfOk result (λ codes. codes ≡ sorted_texts (texts_of repository.now.objects object.now object.now.codes)) }
+    requires { (id : List ℕ) × (slice_get texts.old.objects at ≡ Some (record { id = id; object = object.now })) }
+    ensures stays { texts.new ≡ texts.old }
+    ensures codes { IfOk result (λ codes. codes ≡ sorted_texts (texts_of texts.old.objects object.now object.now.codes)) }
 {
-    codes_in(alloc, gathered(alloc, repository, at, object)?)
+    codes_in(alloc, gathered(alloc, texts, at, object)?)
 }
 
 /// The texts of the codes, each once.
 fn gathered(
     alloc: Global,
-    repository: &Repository,
+    texts: &mut CodeTexts<'_>,
     at: usize,
     object: &Object,
 ) -> Result<BTreeSet<Vec<u8>>, AllocError>
-    requires { (id : List ℕ) × (slice_get repository.now.objects at ≡ Some (record { id = id; object = object.now })) }
-    ensures { IfOk result (λ texts. texts_in texts ≡ sorted_texts (texts_of repository.now.objects object.now object.now.codes)) }
+    requires { (id : List ℕ) × (slice_get texts.old.objects at ≡ Some (record { id = id; object = object.now })) }
+    ensures stays { texts.new ≡ texts.old }
+    ensures sorted { IfOk result (λ sorted. texts_in sorted ≡ sorted_texts (texts_of texts.old.objects object.now object.now.codes)) }
 {
-    let mut texts = BTreeSet::new(alloc);
+    let mut sorted = BTreeSet::new(alloc);
     for code in 0..object.codes.len() {
-        put_if_any(alloc, &mut texts, code_text(repository, at, code))?;
+        put_if_any(alloc, &mut sorted, texts.text(at, code)?)?;
     }
-    Ok(texts)
+    Ok(sorted)
 }
 
 /// Adds a text, where there is one.
