@@ -22,6 +22,7 @@ pub mod ContentsSteps
 pub mod Fed
 pub mod KeptInstances
 pub mod CompiledFinite
+pub mod TextLengths
 pub mod ToldAtParts
 pub mod CutTexts
 pub mod CutContents

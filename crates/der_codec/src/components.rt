@@ -45,6 +45,13 @@ pub enum Found {
     Breaks { rule: Rule, added: Added },
 }
 
+/// A slot of a type by its number, and what comes in it.
+#[derive(Clone, Copy, Debug)]
+struct Field {
+    number: u16,
+    spot: Spot,
+}
+
 /// What an end is.
 #[derive(Clone, Copy, Debug)]
 pub enum Ended {
@@ -65,18 +72,18 @@ fn unexpected() -> Found
 fn in_fields(model: &Model, number: u32, next: u32, id: Identifier) -> Found
     ensures { IsFound (types_of model.now) result (field_answer next (drop next (components (types_of model.now) number 0 (form_slots (types_of model.now number)))) id.constructed (tag_view id)) }
 {
-    let Some(found) = field_number(model, number, id) else {
+    let Some(found) = field_at(model, number, id) else {
         return unexpected();
     };
-    let at = u32::from(found);
+    let at = u32::from(found.number);
     if at < next {
         return unexpected();
     }
     match first_due(model, number, next, at) {
         Some(slot) => missing(number, slot),
         None => Found::Begins {
-            number: found,
-            spot: spot_at(model, number, at),
+            number: found.number,
+            spot: found.spot,
         },
     }
 }
@@ -90,22 +97,28 @@ fn missing(parent: u32, slot: u32) -> Found
     }
 }
 
-/// The slot of the type under which the identifier is, if there is one.
-fn field_number(model: &Model, number: u32, id: Identifier) -> Option<u16>
-    ensures some { IfSome result (λ at. tag_view id ≡ context at) }
-    ensures slot { IfSome result (λ at. (s : graph.Slot ℕ) × (slice_get (form_slots (types_of model.now number)) at ≡ Some s)
-        × ((component (types_of model.now) number at s).constructed ≡ id.constructed)) }
+/// The slot of the type under which the identifier is, if there is one, and what comes in it.
+fn field_at(model: &Model, number: u32, id: Identifier) -> Option<Field>
+    ensures some { IfSome result (λ field. tag_view id ≡ context field.number) }
+    ensures slot { IfSome result (λ field. (s : graph.Slot ℕ) × (slice_get (form_slots (types_of model.now number)) field.number ≡ Some s)
+        × ((component (types_of model.now) number field.number s).constructed ≡ id.constructed)) }
+    ensures spot { IfSome result (λ field. (s : graph.Slot ℕ) → slice_get (form_slots (types_of model.now number)) field.number ≡ Some s
+        → IsSpot (types_of model.now) field.spot (component (types_of model.now) number field.number s).spot) }
     ensures none { IfNone result ((at : ℕ) (s : graph.Slot ℕ) → tag_view id ≡ context at → slice_get (form_slots (types_of model.now number)) at ≡ Some s
         → (component (types_of model.now) number at s).constructed ≡ id.constructed → ⊥) }
 {
     if id.class != TagClass::Context {
         return None;
     }
-    let slot = model.slot(number, u32::from(id.number))?;
+    let at = u32::from(id.number);
+    let slot = model.slot(number, at)?;
     if is_constructed_at(model, slot.max, slot.target) != id.constructed {
         return None;
     }
-    Some(id.number)
+    Some(Field {
+        number: id.number,
+        spot: spot_at(number, at, slot.max, slot.target),
+    })
 }
 
 /// Whether what comes under the tag of the slot is constructed.
@@ -140,17 +153,17 @@ fn is_constructed_form(model: &Model, number: u32) -> bool
     }
 }
 
-/// What comes in the slot.
-fn spot_at(model: &Model, number: u32, at: u32) -> Spot
-    ensures { (s : graph.Slot ℕ) → slice_get (form_slots (types_of model.now number)) at ≡ Some s
-        → IsSpot (types_of model.now) result (component (types_of model.now) number at s).spot }
+/// What comes in the slot of this number, of which so many may come.
+fn spot_at(number: u32, at: u32, max: Option<u32>, target: u32) -> Spot
+    ensures { (types : Graph ℕ SimpleType) (s : graph.Slot ℕ) → slice_get (form_slots (types number)) at ≡ Some s → s.max ≡ max → s.target ≡ target
+        → IsSpot types result (component types number at s).spot }
 {
-    match model.slot(number, at) {
-        Some(slot) if comes_once(slot.max) => Spot::Value(slot.target),
-        _ => Spot::List {
-            parent: number,
-            slot: at,
-        },
+    if comes_once(max) {
+        return Spot::Value(target);
+    }
+    Spot::List {
+        parent: number,
+        slot: at,
     }
 }
 
@@ -185,11 +198,11 @@ fn first_due(model: &Model, number: u32, from: u32, to: u32) -> Option<u32>
 fn alternative(model: &Model, number: u32, id: Identifier) -> Found
     ensures { IsFound (types_of model.now) result (any_answer 0 (components (types_of model.now) number 0 (form_slots (types_of model.now number))) id.constructed (tag_view id)) }
 {
-    match field_number(model, number, id) {
+    match field_at(model, number, id) {
         None => unexpected(),
-        Some(at) => Found::Begins {
-            number: at,
-            spot: spot_at(model, number, u32::from(at)),
+        Some(found) => Found::Begins {
+            number: found.number,
+            spot: found.spot,
         },
     }
 }

@@ -10,7 +10,7 @@ ghost use Rattle.facets.specs.LeafChecks.{IsWithinLimits};
 ghost use Rattle.facets.specs.PatternChecks.{IsDateKind};
 ghost use Rattle.reference_check.specs.Forms.{Graph, text_type};
 ghost use Rattle.der_model.specs.LeafContents.{integer_octets, IsInteger, flag_octet};
-ghost use Rattle.der_codec.specs.Checked.{CheckTypes};
+ghost use Rattle.der_codec.specs.Checked.{CheckTypes, IsToldOf};
 ghost use Rattle.der_codec.specs.Judging.{IsJudged, IsXmlCode, IsNoDate};
 
 use crate::checks::{Checks, Refusal};
@@ -117,9 +117,35 @@ fn judge_text<'a>(
     let Some(count) = characters(octets) else {
         return Err(Refusal::Breaks(Rule::BadContents));
     };
-    match checks.tell(number, simple, octets, count) {
+    match tell_text(checks, number, simple, octets, count) {
         Ok(()) => Ok(LeafRef::Bytes(octets)),
         Err(refusal) => Err(refusal),
+    }
+}
+
+/// What a run of so many characters is under the simple type without codes, which is that of this number. Where there is
+/// no pattern only how many characters they are counts, and there is no check to be kept.
+fn tell_text(
+    checks: &mut Checks,
+    number: u32,
+    simple: &Simple,
+    run: &[u8],
+    count: usize,
+) -> Result<(), Refusal>
+    requires run { IsXmlRun run.now count }
+    requires kind { simple.now.kind ≡ kind.Text }
+    requires codes { simple.now.codes ≡ None }
+    requires limits { IsWithinLimits simple.now }
+    requires made { (types : Graph ℕ SimpleType) × (text_type (types number) ≡ Some simple.now) × CheckTypes types checks.old }
+    ensures made { (types : Graph ℕ SimpleType) → text_type (types number) ≡ Some simple.now → CheckTypes types checks.old → CheckTypes types checks.new }
+    ensures told { (r : IsXmlRun run.now count) → IsToldOf simple.now r.chars result }
+{
+    if simple.pattern.is_some() {
+        return checks.tell(number, simple, run, count);
+    }
+    match check_octets(simple, count as u64) {
+        Ok(()) => Ok(()),
+        Err(rule) => Err(Refusal::Breaks(rule)),
     }
 }
 

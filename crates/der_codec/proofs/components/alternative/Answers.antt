@@ -1,10 +1,7 @@
 use Rattle.message_model.specs.Tables.{types_of}
-use Rattle.std.proofs.Common.{◌≡◌, refl, sym, subst, Some}
+use Rattle.std.proofs.Common.{refl}
 use Rattle.der_octets.specs.TagSteps.{tag_view}
 use Rattle.reference_check.specs.Forms.{form_slots}
-use Rattle.std.specs.Prelude.{slice_get}
-use Rattle.der_model.specs.Structures.{component}
-use Rattle.der_codec.specs.Levels.{IsSpot}
 use Rattle.der_codec.proofs.ComponentsFound.{anys_none, anys_found}
 use Rattle.der_codec.proofs.components.alternative.Goals as goal
 
@@ -18,7 +15,5 @@ pub returns-in-Some : goal.returns-in-Some
 returns-in-Some c =
     let types = types_of c.args.model.now in
     let slot = c.in-Some.ensures.slot in
-    let e = anys_found types c.args.number (form_slots (types c.args.number)) c.in-Some.at slot.0 c.args.id.constructed (tag_view c.args.id) c.in-Some.ensures.some slot.1 slot.2 in
-    let at = c.from.ensures in
-    let spot = subst (λ z. IsSpot types c.spot_at.result (component types c.args.number z slot.0).spot) at (c.spot_at.ensures slot.0 (subst (λ z. slice_get (form_slots (types c.args.number)) z ≡ Some slot.0) (sym at) slot.1)) in
-    rw e (refl, spot)
+    let e = anys_found types c.args.number (form_slots (types c.args.number)) c.in-Some.found.number slot.0 c.args.id.constructed (tag_view c.args.id) c.in-Some.ensures.some slot.1 slot.2 in
+    rw e (refl, c.in-Some.ensures.spot slot.0 slot.1)
