@@ -248,5 +248,4 @@ fn nothing_after_an_error(rt: HostRuntime) {
     assert!(rt; reader.take(b'a', &mut out).is_err());
     assert!(rt; reader.take_characters(b"bc").bytes == 0);
     assert!(rt; reader.take_tag(b"<b>").is_err());
-    assert!(rt; reader.take_inside(b"bc").is_err());
 }
