@@ -1,8 +1,8 @@
 -- Pieces that are kept, from one step to the next.
-use Rattle.std.proofs.Common.{◌≡◌, ℕ, Bool, true, false, List, [], ◌∷◌, ◌++◌, Option, Some, None, refl, sym, ap, ◌∙◌, subst}
+use Rattle.std.proofs.Common.{◌≡◌, ℕ, Bool, true, List, [], ◌∷◌, ◌++◌, Option, Some, None, refl, sym, ap, ◌∙◌, subst, append_assoc, append-nil}
 use Rattle.std.specs.Prelude.{Result, Ok, Err, OnOk, map}
 use Rattle.std.specs.Str.{bytes_eq, chars}
-use Rattle.lexical_core.specs.Tree.{Expanded, Entry, Item, Starts, Char, Ends, Skipped}
+use Rattle.lexical_core.specs.Tree.{Expanded, Entry, Item, Starts, Char, Ends}
 use Rattle.lexical_core.specs.declared.rule.Rule.{Rule}
 use Rattle.facets.specs.LeafUnder.{GivesLeaf}
 use Rattle.facets.specs.declared.simple.Simple.{Simple}
@@ -13,18 +13,28 @@ use Rattle.message_model.specs.Message.{Message}
 use Rattle.message_model.specs.Tables.{Tables, message_of, types_of}
 use Rattle.message_model.specs.Writes.{named, currency, value_of, SpellsCode}
 use Rattle.markup.specs.EventItems.{entry_of}
+use Rattle.markup.specs.PlainTags.{tag_items}
+use Rattle.markup.specs.declared.plain_tag.TagKind.{TagKind}
+use Rattle.markup.specs.declared.plain_tag.TagKind.TheVariants.{Start, Empty, End}
 use Rattle.markup.specs.declared.event.Attr.{Attr}
 use Rattle.xml_instances.specs.Levels.{Level, Parent, Leaf, Envelope, Foreign, begun, levels_after, levels_over, form_of_start, round_start, path_in}
-use Rattle.xml_instances.specs.EventFaults.{EventFault, AttributeFault, place_fault, next_fault}
-use Rattle.xml_instances.specs.Built.{Shown, nothing_shown, with_event, TextShown, CurrencyShown, CodeShown, LeafShown, EndShown, StartShown, ShowsBeside, EventShows, EventsShow}
-use Rattle.xml_instances.specs.Keeping.{PiecesKept, GoOn, KeepsShown, IsBuilt, is_within, MayShow, MayShowText}
+use Rattle.xml_instances.specs.EventFaults.{EventFault, AreFine, AttributeFault, place_fault, next_fault}
+use Rattle.xml_instances.specs.Built.{Shown, nothing_shown, with_event, with_inside, TextShown, CurrencyShown, CodeShown, LeafShown, EndShown, StartShown, ShowsBeside, EventShows, EventsShow}
+use Rattle.xml_instances.specs.Keeping.{PiecesKept, GoOn, KeepsShown, IsBuilt, MayShowName, TagShowsBeside, with_all_inside, with_events}
 use Rattle.xml_instances.specs.Open.{Stands, StandsFor, HoldsText, IsOpen, IsCode, form_at, AreMade, AreKept, IsTextMade}
+use Rattle.xml_instances.specs.Quick.{AreItemsTaken}
+use Rattle.xml_instances.specs.declared.opened.Refusal.{Refusal}
 use Rattle.xml_instances.specs.declared.spare.Checks.{Checks}
 use Rattle.xml_instances.specs.declared.content.Content.{Content}
 use Rattle.xml_instances.specs.declared.content.OpenText.{OpenText}
 use Rattle.xml_instances.specs.declared.opened.Opened.{Opened}
 use Rattle.xml_instances.specs.declared.opened.Opened.TheVariants as opened
 use Rattle.xml_instances.proofs.Accepts.{Comes, comes, no_fault, unless_in, if_else}
+
+-- the innermost element is none in an envelope
+abbrev pub IsNoForeign : Option Opened → Type 0
+IsNoForeign (Some opened.Foreign) = ⊥
+IsNoForeign o = Unit {0}
 
 -- one step after another
 pub go_then : {Q R S : Shown → Shown → Type 0} (a b c : Option PiecesKept) → ((s u t : Shown) → R s u → S u t → Q s t) → GoOn a b R → GoOn b c S → GoOn a c Q
@@ -105,57 +115,6 @@ pub code_of_form : {T E : Type 0} (tables : Tables) (f : Form ℕ Simple) (code 
     → OnOk r (GoOn a b (CurrencyShown (types_of tables code) attributes)) → OnOk r (GoOn a b (CodeShown tables (Some f) attributes))
 code_of_form tables f code number attributes a b r is h = subst (λ (g : Form ℕ Simple). OnOk r (GoOn a b (CodeShown tables (Some g) attributes))) (sym is) h
 
--- ---- events of the element of an envelope
-
-within_at : (m : Message ℕ) (text : Option OpenText) (e : Opened) (l : Level ℕ) (ls : List (Level ℕ)) (item : Item) (s : Shown) → StandsFor m text e l → is_within (Some e) item ≡ false → with_event (l ∷ ls) item s ≡ s
-within_at m text opened.Foreign Foreign ls Skipped s h w = refl
-within_at m text opened.Foreign Foreign ls (Starts n a) s h w = cc
-within_at m text opened.Foreign Foreign ls (Char c) s h w = cc
-within_at m text opened.Foreign Foreign ls (Ends n) s h w = cc
-within_at m text opened.Foreign (Parent f d) ls item s h w = absurd h
-within_at m text opened.Foreign (Leaf simple t) ls item s h w = absurd h
-within_at m text opened.Foreign (Envelope has) ls item s h w = absurd h
-within_at m text (opened.Envelope filled) (Envelope has) ls (Starts n a) s h w = cc
-within_at m text (opened.Envelope filled) (Envelope has) ls (Char c) s h w = refl
-within_at m text (opened.Envelope filled) (Envelope has) ls (Ends n) s h w = refl
-within_at m text (opened.Envelope filled) (Envelope has) ls Skipped s h w = refl
-within_at m text (opened.Envelope filled) (Parent f d) ls item s h w = absurd h
-within_at m text (opened.Envelope filled) (Leaf simple t) ls item s h w = absurd h
-within_at m text (opened.Envelope filled) Foreign ls item s h w = absurd h
-within_at m text opened.Text (Leaf simple t) ls item s h w = refl
-within_at m text opened.Text (Parent f d) ls item s h w = absurd h
-within_at m text opened.Text (Envelope has) ls item s h w = absurd h
-within_at m text opened.Text Foreign ls item s h w = absurd h
-within_at m text (opened.Parent n last count) (Parent f d) ls item s h w = refl
-within_at m text (opened.Parent n last count) (Leaf simple t) ls item s h w = absurd h
-within_at m text (opened.Parent n last count) (Envelope has) ls item s h w = absurd h
-within_at m text (opened.Parent n last count) Foreign ls item s h w = absurd h
-
--- an event that is none of them is not kept with them
-pub not_within : (m : Message ℕ) (text : Option OpenText) (o : Option Opened) (round : List Opened) (ls : List (Level ℕ)) (item : Item) (s : Shown) → Stands m text o round ls → is_within o item ≡ false → with_event ls item s ≡ s
-not_within m text None round [] item s h w = refl
-not_within m text (Some e) round (l ∷ ls) item s h w = within_at m text e l ls item s h.0 w
-not_within m text None round (l ∷ ls) item s h w = absurd h
-not_within m text (Some e) round [] item s h w = absurd h
-
--- in an element that may show its events as they stand no event is kept with them
-may_show : (p : PiecesKept) (o : Option Opened) (item : Item) → MayShow (Some p) o → is_within o item ≡ false
-may_show p None item may = refl
-may_show p (Some opened.Text) item may = refl
-may_show p (Some opened.Foreign) item may = absurd may
-may_show p (Some (opened.Envelope filled)) item may = absurd may
-may_show p (Some (opened.Parent n last count)) item may = refl
-
--- one event that is shown as it stands
-pub single_shown : (T : Tables) (ls : List (Level ℕ)) (item : Item) (o : Option Opened) (text : Option OpenText) (round : List Opened) (a b : Option PiecesKept) → Stands (message_of T) text o round ls → MayShow a o
-    → GoOn a b (ShowsBeside T ls item) → GoOn a b (EventsShow T ls (item ∷ []))
-single_shown T ls item o text round None None h may go = tt
-single_shown T ls item o text round None (Some q) h may go = absurd go
-single_shown T ls item o text round (Some p) None h may go = absurd go
-single_shown T ls item o text round (Some p) (Some q) h may go =
-    go_as {R = ShowsBeside T ls item} {S = EventsShow T ls (item ∷ [])} (Some p) (Some q)
-    (λ s t x. (t, subst (λ (y : Shown). ShowsBeside T ls item y t) (sym (not_within (message_of T) text o round ls item s h (may_show p o item may))) x, refl)) go
-
 -- ---- an element without content
 
 begun_ends : (f : Form ℕ Simple) (ls : List (Level ℕ)) (n : Expanded) (s : Shown) → with_event (begun f ∷ ls) (Ends n) s ≡ s
@@ -167,51 +126,139 @@ begun_ends form.Envelope ls n s = refl
 begun_ends form.LeftOut ls n s = refl
 begun_ends form.Missing ls n s = refl
 
+-- the innermost element is neither an envelope nor in one
+abbrev IsBeside : List (Level ℕ) → Type 0
+IsBeside [] = Unit {0}
+IsBeside (Parent f d ∷ ls) = Unit {0}
+IsBeside (Leaf simple t ∷ ls) = Unit {0}
+IsBeside (Envelope has ∷ ls) = ⊥
+IsBeside (Foreign ∷ ls) = ⊥
+
+beside_event : (ls : List (Level ℕ)) (item : Item) (s : Shown) → IsBeside ls → with_event ls item s ≡ s
+beside_event [] item s h = refl
+beside_event (Parent f d ∷ ls) item s h = refl
+beside_event (Leaf simple t ∷ ls) item s h = refl
+beside_event (Envelope has ∷ ls) item s h = absurd h
+beside_event (Foreign ∷ ls) item s h = absurd h
+
+beside_events : (ls : List (Level ℕ)) (items : List Item) (s : Shown) → IsBeside ls → with_events ls items s ≡ s
+beside_events [] items s h = refl
+beside_events (Parent f d ∷ ls) items s h = refl
+beside_events (Leaf simple t ∷ ls) items s h = refl
+beside_events (Envelope has ∷ ls) items s h = absurd h
+beside_events (Foreign ∷ ls) items s h = absurd h
+
 -- behind a start that breaks no rule the end of the element is none of the element of an envelope
-end_behind : (m : Message ℕ) (ls : List (Level ℕ)) (n : Expanded) (attributes : List Entry) (o : Option Opened) (text : Option OpenText) (round : List Opened) (p : PiecesKept) (k : Expanded) (s : Shown) → Stands m text o round ls → MayShow (Some p) o
-    → EventFault m ls (Starts n attributes) None → with_event (levels_after m ls (Starts n attributes)) (Ends k) s ≡ s
-end_behind m [] n attributes o text round p k s h may fine = begun_ends (m.forms m.root) [] k s
-end_behind m (Parent f d ∷ ls) n attributes o text round p k s h may fine =
+end_behind : (m : Message ℕ) (ls : List (Level ℕ)) (n : Expanded) (attributes : List Entry) (k : Expanded) (s : Shown) → IsBeside ls → EventFault m ls (Starts n attributes) None → with_event (levels_after m ls (Starts n attributes)) (Ends k) s ≡ s
+end_behind m [] n attributes k s h fine = begun_ends (m.forms m.root) [] k s
+end_behind m (Parent f d ∷ ls) n attributes k s h fine =
     let place : (bytes_eq n.namespace m.namespace ≡ true) × (next_fault (path_in ls) f (next f d n.local) ≡ None) =
     if_else _ _ _ (unless_in (place_fault m (Parent f d ∷ ls) n) (AttributeFault m (form_of_start m (Parent f d ∷ ls) n) attributes (path_in (round_start (Parent f d ∷ ls) n))) fine).0 in
     of_comes (comes (path_in ls) f d n.local place.1)
   where
     of_comes : Comes f d n.local → with_event (levels_after m (Parent f d ∷ ls) (Starts n attributes)) (Ends k) s ≡ s
     of_comes (j, slot, found, tag, fine, slotted) = rw (slotted, found) (begun_ends (m.forms slot.target) _ k s)
-end_behind m (Leaf simple t ∷ ls) n attributes o text round p k s h may fine = no_fault _ (sym fine)
-end_behind m (Envelope has ∷ ls) n attributes None text round p k s h may fine = absurd h
-end_behind m (Envelope has ∷ ls) n attributes (Some (opened.Envelope filled)) text round p k s h may fine = absurd may
-end_behind m (Envelope has ∷ ls) n attributes (Some opened.Foreign) text round p k s h may fine = absurd may
-end_behind m (Envelope has ∷ ls) n attributes (Some opened.Text) text round p k s h may fine = absurd h.0
-end_behind m (Envelope has ∷ ls) n attributes (Some (opened.Parent x last count)) text round p k s h may fine = absurd h.0
-end_behind m (Foreign ∷ ls) n attributes None text round p k s h may fine = absurd h
-end_behind m (Foreign ∷ ls) n attributes (Some (opened.Envelope filled)) text round p k s h may fine = absurd may
-end_behind m (Foreign ∷ ls) n attributes (Some opened.Foreign) text round p k s h may fine = absurd may
-end_behind m (Foreign ∷ ls) n attributes (Some opened.Text) text round p k s h may fine = absurd h.0
-end_behind m (Foreign ∷ ls) n attributes (Some (opened.Parent x last count)) text round p k s h may fine = absurd h.0
+end_behind m (Leaf simple t ∷ ls) n attributes k s h fine = no_fault _ (sym fine)
+end_behind m (Envelope has ∷ ls) n attributes k s h fine = absurd h
+end_behind m (Foreign ∷ ls) n attributes k s h fine = absurd h
 
-pub empty_shown : (T : Tables) (ls : List (Level ℕ)) (n : Expanded) (o : Option Opened) (text : Option OpenText) (round : List Opened) (a b c : Option PiecesKept) → Stands (message_of T) text o round ls → MayShow a o
-    → EventFault (message_of T) ls (Starts n []) None → GoOn a b (ShowsBeside T ls (Starts n [])) → GoOn b c (ShowsBeside T (levels_after (message_of T) ls (Starts n [])) (Ends n)) → GoOn a c (EventsShow T ls (Starts n [] ∷ Ends n ∷ []))
-empty_shown T ls n o text round None None None h may fine go on = tt
-empty_shown T ls n o text round None None (Some r) h may fine go on = absurd on
-empty_shown T ls n o text round None (Some q) c h may fine go on = absurd go
-empty_shown T ls n o text round (Some p) None c h may fine go on = absurd go
-empty_shown T ls n o text round (Some p) (Some q) None h may fine go on = absurd on
-empty_shown T ls n o text round (Some p) (Some q) (Some r) h may fine go on =
-    let m : Message ℕ = message_of T in
-    let after : List (Level ℕ) = levels_after m ls (Starts n []) in
-    go_then {Q = EventsShow T ls (Starts n [] ∷ Ends n ∷ [])} {R = ShowsBeside T ls (Starts n [])} {S = ShowsBeside T after (Ends n)} (Some p) (Some q) (Some r)
-    (λ s u t x y. (
-      u,
-      subst (λ (z : Shown). ShowsBeside T ls (Starts n []) z u) (sym (not_within m text o round ls (Starts n []) s h (may_show p o (Starts n []) may))) x,
-      (t, subst (λ (z : Shown). ShowsBeside T after (Ends n) z t) (sym (end_behind m ls n [] o text round p n u h may fine)) y, refl),
-    )) go on
+-- ---- a tag
+
+beside_tag : (T : Tables) (ls : List (Level ℕ)) (kind : TagKind) (n : Expanded) (s t : Shown) → IsBeside ls → AreFine (message_of T) ls (tag_items kind n) → TagShowsBeside T ls kind n s t → EventsShow T ls (tag_items kind n) s t
+beside_tag T ls Start n s t h fine x = (t, subst (λ (y : Shown). ShowsBeside T ls (Starts n []) y t) (sym (beside_event ls (Starts n []) s h)) x, refl)
+beside_tag T ls End n s t h fine x = (t, subst (λ (y : Shown). ShowsBeside T ls (Ends n) y t) (sym (beside_event ls (Ends n) s h)) x, refl)
+beside_tag T ls Empty n s t h fine (u, x, y) = (
+  u,
+  subst (λ (z : Shown). ShowsBeside T ls (Starts n []) z u) (sym (beside_event ls (Starts n []) s h)) x,
+  (t, subst (λ (z : Shown). ShowsBeside T (levels_after (message_of T) ls (Starts n [])) (Ends n) z t) (sym (end_behind (message_of T) ls n [] n u h fine.0)) y, refl),
+)
+
+foreign_tag : (T : Tables) (ls : List (Level ℕ)) (kind : TagKind) (n : Expanded) (s u t : Shown) → u ≡ with_all_inside (tag_items kind n) s → TagShowsBeside T (Foreign ∷ ls) kind n u t → EventsShow T (Foreign ∷ ls) (tag_items kind n) s t
+foreign_tag T ls Start n s u t e x = (t, subst (λ (y : Shown). ShowsBeside T (Foreign ∷ ls) (Starts n []) y t) e x, refl)
+foreign_tag T ls End n s u t e x = (t, subst (λ (y : Shown). ShowsBeside T (Foreign ∷ ls) (Ends n) y t) e x, refl)
+foreign_tag T ls Empty n s u t e (v, (a, x1, x2), (b, y1, y2)) = (
+  with_inside (Starts n []) s,
+  (with_inside (Starts n []) s, refl, refl),
+  (
+    with_inside (Ends n) (with_inside (Starts n []) s),
+    (with_inside (Ends n) (with_inside (Starts n []) s), refl, refl),
+    y2 ∙ (y1 ∙ (x2 ∙ (x1 ∙ (e ∙ ap (λ (is : List Item). record { edges = s.edges; inside = is; pieces = s.pieces }) (sym (append_assoc s.inside (Starts n [] ∷ []) (Ends n ∷ []))))))),
+  ),
+)
+
+tag_shown : (T : Tables) (ls : List (Level ℕ)) (kind : TagKind) (n : Expanded) (o : Option Opened) (text : Option OpenText) (round : List Opened) (p : PiecesKept) (s u t : Shown) → Stands (message_of T) text o round ls → MayShowName (Some p) o n
+    → AreFine (message_of T) ls (tag_items kind n) → u ≡ with_events ls (tag_items kind n) s → TagShowsBeside T ls kind n u t → EventsShow T ls (tag_items kind n) s t
+tag_shown T ls kind n o text round p s u t h may fine e x = by ls o h may fine e x
+  where
+    beside : (ls : List (Level ℕ)) → IsBeside ls → AreFine (message_of T) ls (tag_items kind n) → u ≡ with_events ls (tag_items kind n) s → TagShowsBeside T ls kind n u t → EventsShow T ls (tag_items kind n) s t
+    beside ls b fine e x = beside_tag T ls kind n s t b fine (subst (λ (y : Shown). TagShowsBeside T ls kind n y t) (e ∙ beside_events ls (tag_items kind n) s b) x)
+
+    envelope : (e : Opened) (has : Bool) → StandsFor (message_of T) text e (Envelope has) → MayShowName (Some p) (Some e) n → ⊥
+    envelope (opened.Envelope filled) has h may = may
+    envelope opened.Foreign has h may = h
+    envelope opened.Text has h may = h
+    envelope (opened.Parent x last count) has h may = h
+
+    by : (ls : List (Level ℕ)) (o : Option Opened) → Stands (message_of T) text o round ls → MayShowName (Some p) o n → AreFine (message_of T) ls (tag_items kind n) → u ≡ with_events ls (tag_items kind n) s → TagShowsBeside T ls kind n u t
+        → EventsShow T ls (tag_items kind n) s t
+    by [] o h may fine e x = beside [] tt fine e x
+    by (Parent f d ∷ ls) o h may fine e x = beside (Parent f d ∷ ls) tt fine e x
+    by (Leaf simple w ∷ ls) o h may fine e x = beside (Leaf simple w ∷ ls) tt fine e x
+    by (Envelope has ∷ ls) None h may fine e x = absurd h
+    by (Envelope has ∷ ls) (Some k) h may fine e x = absurd (envelope k has h.0 may)
+    by (Foreign ∷ ls) o h may fine e x = foreign_tag T ls kind n s u t e x
+
+-- a tag whose events are kept first
+pub tag_goes_on : (T : Tables) (ls : List (Level ℕ)) (kind : TagKind) (n : Expanded) (o : Option Opened) (text : Option OpenText) (round : List Opened) (a b c : Option PiecesKept) → Stands (message_of T) text o round ls → MayShowName a o n
+    → AreFine (message_of T) ls (tag_items kind n) → GoOn a b (λ s u. u ≡ with_events ls (tag_items kind n) s) → GoOn b c (TagShowsBeside T ls kind n) → GoOn a c (EventsShow T ls (tag_items kind n))
+tag_goes_on T ls kind n o text round None None None h may fine f g = tt
+tag_goes_on T ls kind n o text round None None (Some r) h may fine f g = absurd g
+tag_goes_on T ls kind n o text round None (Some q) c h may fine f g = absurd f
+tag_goes_on T ls kind n o text round (Some p) b c h may fine f g =
+    go_then {Q = EventsShow T ls (tag_items kind n)} {R = λ s u. u ≡ with_events ls (tag_items kind n) s} {S = TagShowsBeside T ls kind n} (Some p) b c (λ s u t e x. tag_shown T ls kind n o text round p s u t h may fine e x) f g
+
+pub tag_held : (T : Tables) (ls : List (Level ℕ)) (kind : TagKind) (n : Expanded) (o : Option Opened) (text : Option OpenText) (round : List Opened) (a b : Option PiecesKept) (new : Content) (r : Result (Unit {0}) Refusal) → Stands (message_of T) text o round ls → MayShowName a o n
+    → GoOn a b (λ s u. u ≡ with_events ls (tag_items kind n) s) → AreItemsTaken (message_of T) ls (tag_items kind n) new r → OnOk r (GoOn b new.pieces (TagShowsBeside T ls kind n)) → OnOk r (GoOn a new.pieces (EventsShow T ls (tag_items kind n)))
+tag_held T ls kind n o text round a b new (Ok x) h may f taken g = tag_goes_on T ls kind n o text round a b new.pieces h may taken.0 f g
+tag_held T ls kind n o text round a b new (Err e) h may f taken g = tt
+
+-- the events of a tag in an envelope are kept, of another none
+pub tag_kept : (m : Message ℕ) (ls : List (Level ℕ)) (items : List Item) (o : Option Opened) (text : Option OpenText) (round : List Opened) (a b : Option PiecesKept) → Stands m text o round ls → o ≡ Some opened.Foreign → GoOn a b (λ s t. t ≡ with_all_inside items s)
+    → GoOn a b (λ s t. t ≡ with_events ls items s)
+tag_kept m ls items o text round a b h is go = by ls (subst (λ (x : Option Opened). Stands m text x round ls) is h)
+  where
+    by : (ls : List (Level ℕ)) → Stands m text (Some opened.Foreign) round ls → GoOn a b (λ s t. t ≡ with_events ls items s)
+    by [] h = absurd h
+    by (Foreign ∷ ls) h = go
+    by (Parent f d ∷ ls) h = absurd h.0
+    by (Leaf simple t ∷ ls) h = absurd h.0
+    by (Envelope has ∷ ls) h = absurd h.0
+
+pub tag_not_kept : (m : Message ℕ) (ls : List (Level ℕ)) (items : List Item) (o : Option Opened) (text : Option OpenText) (round : List Opened) (a : Option PiecesKept) → Stands m text o round ls → IsNoForeign o → GoOn a a (λ s t. t ≡ with_events ls items s)
+tag_not_kept m ls items o text round a h none = by o ls h none
+  where
+    same : (ls : List (Level ℕ)) → ((s : Shown) → with_events ls items s ≡ s) → GoOn a a (λ s t. t ≡ with_events ls items s)
+    same ls e = go_as {R = λ s t. t ≡ s} {S = λ s t. t ≡ with_events ls items s} a a (λ s t x. x ∙ sym (e s)) (go_still a a refl)
+
+    foreign : (e : Opened) → StandsFor m text e Foreign → IsNoForeign (Some e) → ⊥
+    foreign opened.Foreign h none = none
+    foreign opened.Text h none = h
+    foreign (opened.Envelope filled) h none = h
+    foreign (opened.Parent n last count) h none = h
+
+    by : (o : Option Opened) (ls : List (Level ℕ)) → Stands m text o round ls → IsNoForeign o → GoOn a a (λ s t. t ≡ with_events ls items s)
+    by o [] h none = same [] (λ s. refl)
+    by o (Parent f d ∷ ls) h none = same (Parent f d ∷ ls) (λ s. refl)
+    by o (Leaf simple t ∷ ls) h none = same (Leaf simple t ∷ ls) (λ s. refl)
+    by o (Envelope has ∷ ls) h none = same (Envelope has ∷ ls) (λ s. refl)
+    by None (Foreign ∷ ls) h none = absurd h
+    by (Some e) (Foreign ∷ ls) h none = absurd (foreign e h.0 none)
 
 -- ---- characters
 
--- a run of characters that may be shown as they stand shows nothing
-pub run_shown : (T : Tables) (ls : List (Level ℕ)) (cs : List ℕ) (o : Option Opened) (text : Option OpenText) (round : List Opened) (p : PiecesKept) (s : Shown) → Stands (message_of T) text o round ls → MayShowText (Some p) o → EventsShow T ls (map (λ c. Char c) cs) s s
-run_shown T ls cs o text round p s h may = by o ls h may
+-- a run of characters beside the elements in an envelope shows nothing
+run_shown : (T : Tables) (ls : List (Level ℕ)) (cs : List ℕ) (o : Option Opened) (text : Option OpenText) (round : List Opened) (s : Shown) → Stands (message_of T) text o round ls → IsNoForeign o → EventsShow T ls (map (λ c. Char c) cs) s s
+run_shown T ls cs o text round s h may = by o ls h may
   where
     none : (cs : List ℕ) → EventsShow T [] (map (λ c. Char c) cs) s s
     none [] = refl
@@ -229,7 +276,7 @@ run_shown T ls cs o text round p s h may = by o ls h may
     in_text simple t ls [] = refl
     in_text simple t ls (c ∷ cs) = (s, refl, in_text simple (t ++ c ∷ []) ls cs)
 
-    at : (e : Opened) (l : Level ℕ) (ls : List (Level ℕ)) → StandsFor (message_of T) text e l → MayShowText (Some p) (Some e) → EventsShow T (l ∷ ls) (map (λ c. Char c) cs) s s
+    at : (e : Opened) (l : Level ℕ) (ls : List (Level ℕ)) → StandsFor (message_of T) text e l → IsNoForeign (Some e) → EventsShow T (l ∷ ls) (map (λ c. Char c) cs) s s
     at e (Parent f d) ls h may = parent f d ls cs
     at e (Envelope has) ls h may = envelope has ls cs
     at e (Leaf simple t) ls h may = in_text simple t ls cs
@@ -238,7 +285,7 @@ run_shown T ls cs o text round p s h may = by o ls h may
     at (opened.Envelope filled) Foreign ls h may = absurd h
     at (opened.Parent n last count) Foreign ls h may = absurd h
 
-    by : (o : Option Opened) (ls : List (Level ℕ)) → Stands (message_of T) text o round ls → MayShowText (Some p) o → EventsShow T ls (map (λ c. Char c) cs) s s
+    by : (o : Option Opened) (ls : List (Level ℕ)) → Stands (message_of T) text o round ls → IsNoForeign o → EventsShow T ls (map (λ c. Char c) cs) s s
     by None [] h may = none cs
     by None (l ∷ ls) h may = absurd h
     by (Some e) [] h may = absurd h
@@ -275,12 +322,33 @@ pub built_still : (T : Tables) (items : List Item) (a b : Option PiecesKept) →
 built_still T items a b e h = subst (λ (x : Option PiecesKept). IsBuilt x T items) (sym e) h
 
 -- a run of characters
-pub run_goes_on : (T : Tables) (ls : List (Level ℕ)) (cs : List ℕ) (o : Option Opened) (text : Option OpenText) (round : List Opened) (a b : Option PiecesKept) → b ≡ a → Stands (message_of T) text o round ls → MayShowText a o → GoOn a b (EventsShow T ls (map (λ c. Char c) cs))
-run_goes_on T ls cs o text round a b e h may = subst (λ (x : Option PiecesKept). GoOn a x (EventsShow T ls (map (λ c. Char c) cs))) (sym e) (by a may)
+pub run_goes_on : (T : Tables) (ls : List (Level ℕ)) (cs : List ℕ) (o : Option Opened) (text : Option OpenText) (round : List Opened) (a b : Option PiecesKept) → b ≡ a → Stands (message_of T) text o round ls → IsNoForeign o → GoOn a b (EventsShow T ls (map (λ c. Char c) cs))
+run_goes_on T ls cs o text round a b e h may = subst (λ (x : Option PiecesKept). GoOn a x (EventsShow T ls (map (λ c. Char c) cs))) (sym e) (by a)
   where
-    by : (a : Option PiecesKept) → MayShowText a o → GoOn a a (EventsShow T ls (map (λ c. Char c) cs))
-    by None may = tt
-    by (Some p) may = λ s k. (s, run_shown T ls cs o text round p s h may, k)
+    by : (a : Option PiecesKept) → GoOn a a (EventsShow T ls (map (λ c. Char c) cs))
+    by None = tt
+    by (Some p) = λ s k. (s, run_shown T ls cs o text round s h may, k)
+
+-- in an element in an envelope it is kept
+foreign_run : (T : Tables) (ls : List (Level ℕ)) (cs : List ℕ) (s : Shown) → EventsShow T (Foreign ∷ ls) (map (λ c. Char c) cs) s (with_all_inside (map (λ c. Char c) cs) s)
+foreign_run T ls [] s = ap (λ (is : List Item). record { edges = s.edges; inside = is; pieces = s.pieces }) (append-nil s.inside)
+foreign_run T ls (c ∷ cs) s = (
+  with_inside (Char c) s,
+  refl,
+  subst (λ (is : List Item). EventsShow T (Foreign ∷ ls) (map (λ c. Char c) cs) (with_inside (Char c) s) (record { edges = s.edges; inside = is; pieces = s.pieces })) (append_assoc s.inside (Char c ∷ []) (map (λ c. Char c) cs)) (foreign_run T ls cs (with_inside (Char c) s)),
+)
+
+pub run_kept : (T : Tables) (ls : List (Level ℕ)) (cs : List ℕ) (o : Option Opened) (text : Option OpenText) (round : List Opened) (a b : Option PiecesKept) → Stands (message_of T) text o round ls → o ≡ Some opened.Foreign → GoOn a b (λ s t. t ≡ with_all_inside (map (λ c. Char c) cs) s)
+    → GoOn a b (EventsShow T ls (map (λ c. Char c) cs))
+run_kept T ls cs o text round a b h is go = by ls (subst (λ (x : Option Opened). Stands (message_of T) text x round ls) is h)
+  where
+    by : (ls : List (Level ℕ)) → Stands (message_of T) text (Some opened.Foreign) round ls → GoOn a b (EventsShow T ls (map (λ c. Char c) cs))
+    by [] h = absurd h
+    by (Foreign ∷ ls) h = go_as {R = λ s t. t ≡ with_all_inside (map (λ c. Char c) cs) s} {S = EventsShow T (Foreign ∷ ls) (map (λ c. Char c) cs)} a b
+        (λ s t e. subst (λ (x : Shown). EventsShow T (Foreign ∷ ls) (map (λ c. Char c) cs) s x) (sym e) (foreign_run T ls cs s)) go
+    by (Parent f d ∷ ls) h = absurd h.0
+    by (Leaf simple t ∷ ls) h = absurd h.0
+    by (Envelope has ∷ ls) h = absurd h.0
 
 -- pieces are kept from the start
 pub built_first : (T : Tables) (a : Option PiecesKept) → KeepsShown a nothing_shown → IsBuilt a T []

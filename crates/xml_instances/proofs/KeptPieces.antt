@@ -12,7 +12,7 @@ use Rattle.inst_pool.specs.Pieces.{open_in, open_behind}
 use Rattle.respell.specs.Kept.{HasTaken}
 use Rattle.respell.specs.declared.respell.Respell.{Respell}
 use Rattle.xml_instances.specs.Built.{Shown, type_at, with_begun, with_leaf, without_inside, closed, closed_at}
-use Rattle.xml_instances.specs.Keeping.{PiecesKept, HasShown}
+use Rattle.xml_instances.specs.Keeping.{PiecesKept, HasShown, GoOn, with_all_inside}
 
 -- ---- the open elements behind more pieces
 
@@ -103,6 +103,16 @@ envelope_shown old s bytes more element h empty appended = record {
   open_are = ap open_in appended ∙ (open-append [] old.pieces (Holds (leaf.Bytes bytes) ∷ []) ∙ h.open_are);
   inside_are = empty;
 }
+
+-- events of the element of an envelope
+pub inside_ok : {T E : Type 0} (old : PiecesKept) (s : Shown) (items : List Item) (element : Respell) (r : Result T E) → HasShown old s → OnOk r (HasTaken element (s.inside ++ items)) → OnOk r (HasShown (kept_as old.pieces element) (with_all_inside items s))
+inside_ok old s items element (Ok x) h taken = record { pieces_are = h.pieces_are; open_are = h.open_are; inside_are = taken }
+inside_ok old s items element (Err e) h taken = tt
+
+-- one step of the pieces that are kept
+pub one_step : {T E : Type 0} (a : Option PiecesKept) (old new : PiecesKept) (f : Shown → Shown) (r : Result T E) → a ≡ Some old → ((s : Shown) → HasShown old s → OnOk r (HasShown new (f s))) → OnOk r (GoOn a (Some new) (λ s t. t ≡ f s))
+one_step a old new f (Ok x) is h = subst (λ (v : Option PiecesKept). GoOn v (Some new) (λ s t. t ≡ f s)) (sym is) (λ s k. (f s, refl, h s k))
+one_step a old new f (Err e) is h = tt
 
 told_nodes : (nodes : Nodes) (rest : List Item) → told_of rest ≡ rest → told_of (flat_nodes nodes ++ rest) ≡ flat_nodes nodes ++ rest
 told_nodes tree.Nothing rest h = h

@@ -36,3 +36,4 @@ pub mod ShownTrees
 pub mod KeptPieces
 pub mod GoingOn
 pub mod ReadPieces
+pub mod InsideNames

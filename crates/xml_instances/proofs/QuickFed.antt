@@ -34,8 +34,9 @@ use Rattle.xml_instances.specs.declared.checker.XmlChecker.{XmlChecker}
 use Rattle.xml_instances.proofs.Checks.{told_joined, place_more, FedSoFar}
 use Rattle.xml_instances.proofs.OurNames.{ours_behind}
 use Rattle.xml_instances.specs.Built.{EventsShow}
-use Rattle.xml_instances.specs.Keeping.{GoOn, IsBuilt, MayShow, MayShowText}
-use Rattle.xml_instances.proofs.GoingOn.{go_still, built_on, built_still, run_goes_on}
+use Rattle.xml_instances.specs.Keeping.{GoOn, IsBuilt, MayShow, MayShowName}
+use Rattle.xml_instances.proofs.GoingOn.{go_still, built_on, built_still}
+use Rattle.xml_instances.proofs.InsideNames.{may_show_name}
 use Rattle.xml_instances.proofs.NoCut.{event_no_cut}
 use Rattle.xml_instances.proofs.FaultAt.{event_fault, fine_joined, over_joined}
 
@@ -129,16 +130,20 @@ take_within (x ∷ xs) (suc n) (suc k) h = ap (λ v. x ∷ v) (take_within xs n 
 abbrev pub RunTold : Reader → Reader → List ℕ → ℕ → Type 0
 RunTold old new run count = (bytes : List ℕ) (told : List Placed) → HasTaken old bytes told → (r : IsRun run count) × HasTold new (bytes ++ run) (told ++ characters_from (length bytes) r.characters)
 
+-- what the content shows of it
+abbrev pub RunShown : Tables → Content → Content → List ℕ → ℕ → Type 0
+RunShown T old new run count = (r : IsRun run count) (ls : List (Level ℕ)) → IsOpen old (message_of T) ls → GoOn old.pieces new.pieces (EventsShow T ls (map (λ c. Char c) r.characters))
+
 run_fed : (T : Tables) (old new : XmlChecker) (run : List ℕ) (count n : ℕ) → RunTold old.reader new.reader run count → taken new.reader ≡ taken old.reader + n → n ≡ length run
     → ((bytes : List ℕ) → HasFed old T bytes → new.place ≡ length (bytes ++ run)) → new.events ≡ old.events → new.failed ≡ old.failed
     → ((r : IsRun run count) (ls : List (Level ℕ)) → IsOpen old.content (message_of T) ls → IsRunTaken (message_of T) ls r.characters new.content)
-    → new.content.pieces ≡ old.content.pieces → MayShowText old.content.pieces old.content.innermost → (bytes : List ℕ) → HasFed old T bytes → HasFed new T (bytes ++ run)
-run_fed T old new run count n tells moved e place events failed taken_are pieces may bytes h =
+    → RunShown T old.content new.content run count → (bytes : List ℕ) → HasFed old T bytes → HasFed new T (bytes ++ run)
+run_fed T old new run count n tells moved e place events failed taken_are shown_are bytes h =
     let k = tells bytes h.told h.given in
     let t = taken_are k.0 (levels_over (message_of T) [] (items_told h.told)) h.open_are in
     more_fed T old new bytes run (characters_from (length bytes) k.0.characters) (map (λ c. Char c) k.0.characters) h (chars_told (length bytes) k.0.characters) k.1
     (moved ∙ ap (λ v. taken old.reader + v) e) (place bytes h) t.0 t.1
-    (run_goes_on T (levels_over (message_of T) [] (items_told h.told)) k.0.characters old.content.innermost old.content.text old.content.round.items old.content.pieces new.content.pieces pieces h.open_are may) (events ∙ h.none) (failed ∙ h.sound)
+    (shown_are k.0 (levels_over (message_of T) [] (items_told h.told)) h.open_are) (events ∙ h.none) (failed ∙ h.sound)
 
 -- nothing is taken
 nothing_fed : (T : Tables) (old new : XmlChecker) (count : ℕ) → RunTold old.reader new.reader [] count → taken new.reader ≡ taken old.reader → new.place ≡ old.place → new.events ≡ old.events → new.failed ≡ old.failed → new.content ≡ old.content
@@ -153,9 +158,9 @@ nothing_fed T old new count tells moved place events failed content bytes h =
 pub front_run : (T : Tables) (old new : XmlChecker) (piece : List ℕ) (count n : ℕ) → n ≤ length piece → fed old + length piece ≤ 2 ^ 40 → RunTold old.reader new.reader (take n piece) count → taken new.reader ≡ taken old.reader + n
     → new.place ≡ min (old.place + n) (2 ^ 64 - 1) → new.events ≡ old.events → new.failed ≡ old.failed
     → ((r : IsRun (take n piece) count) (ls : List (Level ℕ)) → IsOpen old.content (message_of T) ls → IsRunTaken (message_of T) ls r.characters new.content)
-    → new.content.pieces ≡ old.content.pieces → MayShowText old.content.pieces old.content.innermost → TakesFront T old new piece (Ok n)
-front_run T old new piece count n within room tells moved place events failed taken_are pieces may = record {
-  ok = run_fed T old new (take n piece) count n tells moved (sym long) (λ bytes h. place ∙ place_more bytes (take n piece) old.place (taken old.reader) n h.placed h.counted (sym long) (omega (arith, within, room))) events failed taken_are pieces may;
+    → RunShown T old.content new.content (take n piece) count → TakesFront T old new piece (Ok n)
+front_run T old new piece count n within room tells moved place events failed taken_are shown_are = record {
+  ok = run_fed T old new (take n piece) count n tells moved (sym long) (λ bytes h. place ∙ place_more bytes (take n piece) old.place (taken old.reader) n h.placed h.counted (sym long) (omega (arith, within, room))) events failed taken_are shown_are;
   err = λ bytes h. tt;
   within = within;
   count = moved;
@@ -216,7 +221,7 @@ TagTaken m old new kind name r = (ls : List (Level ℕ)) (n : Expanded) → n.lo
 
 -- what it shows
 abbrev pub TagShown : Tables → Content → Content → TagKind → List ℕ → Type 0
-TagShown T old new kind name = (ls : List (Level ℕ)) (n : Expanded) → n.local ≡ name → IsOurs (message_of T) ls n → IsOpen old (message_of T) ls → MayShow old.pieces old.innermost → GoOn old.pieces new.pieces (EventsShow T ls (tag_items kind n))
+TagShown T old new kind name = (ls : List (Level ℕ)) (n : Expanded) → n.local ≡ name → IsOurs (message_of T) ls n → IsOpen old (message_of T) ls → MayShowName old.pieces old.innermost n → GoOn old.pieces new.pieces (EventsShow T ls (tag_items kind n))
 
 pub front_tag : (T : Tables) (old new : XmlChecker) (piece name : List ℕ) (kind : TagKind) (n : ℕ) → n ≤ length piece → fed old + length piece ≤ 2 ^ 40 → TagTold old.reader new.reader (take n piece) kind name → taken new.reader ≡ taken old.reader + n
     → new.place ≡ min (old.place + n) (2 ^ 64 - 1) → new.events ≡ old.events → new.failed ≡ old.failed → TagTaken {U = Unit {0}} (message_of T) old.content new.content kind name (Ok tt)
@@ -232,7 +237,8 @@ front_tag T old new piece name kind n within room tells moved place events faile
         let t = taken_are (levels_over (message_of T) [] (items_told h.told)) (name_behind h.told name) refl (ours_behind (message_of T) h.told name h.fine) h.open_are in
         more_fed T old new bytes (take n piece) (placed_at (length bytes) items) items h (tag_told (length bytes) items) (tells bytes h.told h.given) (moved ∙ ap (λ v. taken old.reader + v) (sym long))
         (place ∙ place_more bytes (take n piece) old.place (taken old.reader) n h.placed h.counted (sym long) (omega (arith, within, room))) t.0 t.1
-        (shown_are (levels_over (message_of T) [] (items_told h.told)) (name_behind h.told name) refl (ours_behind (message_of T) h.told name h.fine) h.open_are may) (events ∙ h.none) (failed ∙ h.sound)
+        (shown_are (levels_over (message_of T) [] (items_told h.told)) (name_behind h.told name) refl (ours_behind (message_of T) h.told name h.fine) h.open_are
+        (may_show_name T h.told name old.content.text old.content.round.items old.content.innermost old.content.pieces h.fine h.open_are h.built may)) (events ∙ h.none) (failed ∙ h.sound)
 
 pub front_tag_stops : (T : Tables) (old new : XmlChecker) (piece name : List ℕ) (kind : TagKind) (n : ℕ) (r : Refusal) (e : InstanceError) → EventsStay → TagTold old.reader new.reader (take n piece) kind name
     → TagTaken {U = Unit {0}} (message_of T) old.content new.content kind name (Err r) → IsTold r old.place e → TakesFront T old new piece (Err e)

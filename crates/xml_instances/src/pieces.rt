@@ -1,17 +1,21 @@
 // The pieces of an instance, kept as its events come.
-ghost use Rattle.std.specs.Prelude.{◌≡◌, ◌++◌, ◌∷◌, [], Some, None, OnOk, OnErr, IfSome, true, false, ◌<◌, length};
+ghost use Rattle.std.specs.Prelude.{◌≡◌, ◌++◌, ◌∷◌, [], ℕ, Some, None, OnOk, OnErr, IfSome, IsTrue, true, false, ◌<◌, length, map};
 ghost use Rattle.data_types.specs.Leaf.{Bytes};
 ghost use Rattle.data_types.specs.LeafAnswers.{leaf_of};
 ghost use Rattle.data_types.specs.Value.{Holds};
 ghost use Rattle.inst_pool.specs.Pieces.{open_in};
+ghost use Rattle.lexical_core.specs.Tree.{Char, Expanded};
 ghost use Rattle.markup.specs.EventItems.{item_of};
+ghost use Rattle.markup.specs.Literals.{IsRun};
+ghost use Rattle.markup.specs.PlainTags.{tag_items};
+ghost use Rattle.respell.specs.Kept.{IsInDefault};
 ghost use Rattle.respell.specs.Respelling.{HasSortedAttributes};
 ghost use Rattle.xml_instances.specs.Built.{Shown, nothing_shown, type_at, with_begun, with_leaf, with_inside, closed, FragmentShown};
-ghost use Rattle.xml_instances.specs.Keeping.{HasShown, GoOn};
+ghost use Rattle.xml_instances.specs.Keeping.{HasShown, GoOn, IsInnermostDefault, IsKeptDefault, with_all_inside};
 
 use data_types::LeafRef;
 use inst_pool::{Builder, Edge, Instance};
-use markup::Event;
+use markup::{Event, TagKind};
 use respell::Respell;
 use std::alloc::{AllocError, Global};
 use std::marker::Model;
@@ -119,6 +123,27 @@ impl Pieces {
         self.element.take(event)
     }
 
+    /// A run of characters of the element of an envelope.
+    fn inside_run(&mut self, run: &[u8]) -> Result<(), AllocError>
+        ensures { (s : Shown) (count : ℕ) (r : IsRun run.now count) → HasShown self.old s → OnOk result (HasShown self.new (with_all_inside (map (λ c. Char c) r.characters) s)) }
+    {
+        self.element.take_run(run)
+    }
+
+    /// A tag of the element of an envelope, whose name is in the default namespace so far.
+    fn inside_tag(&mut self, kind: TagKind, local: &[u8]) -> Result<(), AllocError>
+        ensures { (s : Shown) (n : Expanded) → n.local ≡ local.now → IsInDefault self.old.element n.namespace → HasShown self.old s → OnOk result (HasShown self.new (with_all_inside (tag_items kind n) s)) }
+    {
+        self.element.take_tag(kind, local)
+    }
+
+    /// Whether the element of an envelope that is open is known to be in the default namespace so far.
+    pub(crate) fn is_in_default(&self) -> bool
+        ensures { IsTrue result → IsInnermostDefault self.now }
+    {
+        self.element.is_in_default()
+    }
+
     /// The element of the envelope is its leaf.
     fn envelope(&mut self) -> Result<(), AllocError>
         ensures { (s : Shown) → HasShown self.old s → OnOk result ((t : Shown) × FragmentShown s t × HasShown self.new t) }
@@ -211,6 +236,32 @@ pub(crate) fn inside(pieces: &mut Option<Pieces>, event: &Event) -> Result<(), A
     match pieces {
         None => Ok(()),
         Some(pieces) => pieces.inside(event),
+    }
+}
+
+/// A run of characters of the element of an envelope, where pieces are kept.
+pub(crate) fn inside_run(pieces: &mut Option<Pieces>, run: &[u8]) -> Result<(), AllocError>
+    ensures bare { pieces.old ≡ None → pieces.new ≡ None }
+    ensures shown { (count : ℕ) (r : IsRun run.now count) → OnOk result (GoOn pieces.old pieces.new (λ s t. t ≡ with_all_inside (map (λ c. Char c) r.characters) s)) }
+{
+    match pieces {
+        None => Ok(()),
+        Some(pieces) => pieces.inside_run(run),
+    }
+}
+
+/// A tag of the element of an envelope, where pieces are kept.
+pub(crate) fn inside_tag(
+    pieces: &mut Option<Pieces>,
+    kind: TagKind,
+    local: &[u8],
+) -> Result<(), AllocError>
+    ensures bare { pieces.old ≡ None → pieces.new ≡ None }
+    ensures shown { (n : Expanded) → n.local ≡ local.now → IsKeptDefault pieces.old n → OnOk result (GoOn pieces.old pieces.new (λ s t. t ≡ with_all_inside (tag_items kind n) s)) }
+{
+    match pieces {
+        None => Ok(()),
+        Some(pieces) => pieces.inside_tag(kind, local),
     }
 }
 

@@ -1,19 +1,20 @@
 // Runs of characters and whole tags, held to the types of the message.
-ghost use Rattle.std.specs.Prelude.{◌≡◌, ◌<◌, ◌≤◌, ◌++◌, ℕ, List, [], OnOk, take, length};
-ghost use Rattle.lexical_core.specs.Tree.{Expanded, Starts};
+ghost use Rattle.std.specs.Prelude.{◌≡◌, ◌<◌, ◌≤◌, ◌++◌, ℕ, List, [], OnOk, take, length, map};
+ghost use Rattle.lexical_core.specs.Tree.{Expanded, Starts, Char};
 ghost use Rattle.facets.specs.declared.simple.Simple.{Simple as SimpleType};
 ghost use Rattle.markup.specs.Literals.{IsRun};
 ghost use Rattle.markup.specs.PlainTags.{tag_items};
 ghost use Rattle.message_model.specs.Tables.{message_of, types_of};
 ghost use Rattle.xml_instances.specs.Levels.{Level};
 ghost use Rattle.xml_instances.specs.Built.{EventsShow, ShowsBeside, StartShown};
-ghost use Rattle.xml_instances.specs.Keeping.{GoOn, MayShow, MayShowText};
+ghost use Rattle.xml_instances.specs.Keeping.{GoOn, MayShowName, TagShowsBeside};
 ghost use Rattle.xml_instances.specs.Open.{IsOpen, AreMade, IsPlaced, IsItemTaken, HoldsText};
 ghost use Rattle.xml_instances.specs.Quick.{MayTake, IsRunTaken, AreItemsTaken, IsOurs};
 ghost use Rattle.xml_instances.specs.Verdicts.{IsLean};
 
 use super::{Content, is_bare, root};
 use crate::opened::{Opened, Refusal};
+use crate::pieces::inside_run;
 use crate::texts::{blank_length, take_run};
 use lexical_core::Rule;
 use markup::TagKind;
@@ -25,17 +26,9 @@ impl Content {
     pub(crate) fn run_room(&self, model: &Model, piece: &[u8]) -> usize
         ensures within { result ≤ length piece.now }
         ensures only { (n : ℕ) → n ≤ result → 0 < n → MayTake (types_of model.now) self.now.innermost (take n piece.now) }
-        ensures shown { 0 < result → MayShowText self.now.pieces self.now.innermost }
     {
         match self.innermost {
-            None | Some(Opened::Text) => piece.len(),
-            Some(Opened::Foreign) => {
-                if self.pieces.is_some() {
-                    0
-                } else {
-                    piece.len()
-                }
-            }
+            None | Some(Opened::Text | Opened::Foreign) => piece.len(),
             Some(Opened::Envelope { .. }) => blank_length(piece),
             Some(Opened::Parent { number, .. }) => {
                 if is_bare(model, number) {
@@ -59,13 +52,14 @@ impl Content {
         requires fits { MayTake (types_of model.now) self.old.innermost run.now }
         ensures made { AreMade (types_of model.now) self.new }
         ensures lean { IsLean self.old → IsLean self.new }
-        ensures pieces { self.new.pieces ≡ self.old.pieces }
         ensures taken { OnOk result ((r : IsRun run.now count) (ls : List (Level ℕ)) → IsOpen self.old (message_of model.now) ls → IsRunTaken (message_of model.now) ls r.characters self.new) }
+        ensures shown { (r : IsRun run.now count) (ls : List (Level ℕ)) → IsOpen self.old (message_of model.now) ls
+            → OnOk result (GoOn self.old.pieces self.new.pieces (EventsShow model.now ls (map (λ c. Char c) r.characters))) }
     {
         match self.innermost {
             Some(Opened::Text) => self.text_run(model, run, count),
             None => Ok(()),
-            Some(Opened::Foreign) => Ok(()),
+            Some(Opened::Foreign) => inside_run(&mut self.pieces, run),
             Some(Opened::Envelope { .. }) => Ok(()),
             Some(Opened::Parent { .. }) => Ok(()),
         }
@@ -94,8 +88,7 @@ impl Content {
         taken
     }
 
-    /// Holds a tag without attributes to the message, whose name is in the namespace of the
-    /// innermost element.
+    /// Takes a tag without attributes, whose name is in the namespace of the innermost element.
     pub(crate) fn take_tag(
         &mut self,
         model: &Model,
@@ -108,7 +101,24 @@ impl Content {
         ensures taken { (ls : List (Level ℕ)) (n : Expanded) → n.local ≡ name.now → IsOurs (message_of model.now) ls n → IsOpen self.old (message_of model.now) ls
             → AreItemsTaken (message_of model.now) ls (tag_items kind n) self.new result }
         ensures shown { (ls : List (Level ℕ)) (n : Expanded) → n.local ≡ name.now → IsOurs (message_of model.now) ls n → IsOpen self.old (message_of model.now) ls
-            → MayShow self.old.pieces self.old.innermost → OnOk result (GoOn self.old.pieces self.new.pieces (EventsShow model.now ls (tag_items kind n))) }
+            → MayShowName self.old.pieces self.old.innermost n → OnOk result (GoOn self.old.pieces self.new.pieces (EventsShow model.now ls (tag_items kind n))) }
+    {
+        match self.keep_tag(kind, name) {
+            Ok(()) => self.hold_tag(model, kind, name),
+            Err(_) => Err(Refusal::Memory),
+        }
+    }
+
+    /// Holds a tag without attributes to the message, whose name is in the namespace of the
+    /// innermost element.
+    fn hold_tag(&mut self, model: &Model, kind: TagKind, name: &[u8]) -> Result<(), Refusal>
+        requires { AreMade (types_of model.now) self.old }
+        ensures made { AreMade (types_of model.now) self.new }
+        ensures lean { IsLean self.old → IsLean self.new }
+        ensures taken { (ls : List (Level ℕ)) (n : Expanded) → n.local ≡ name.now → IsOurs (message_of model.now) ls n → IsOpen self.old (message_of model.now) ls
+            → AreItemsTaken (message_of model.now) ls (tag_items kind n) self.new result }
+        ensures shown { (ls : List (Level ℕ)) (n : Expanded) → n.local ≡ name.now → IsOurs (message_of model.now) ls n → IsOpen self.old (message_of model.now) ls
+            → OnOk result (GoOn self.old.pieces self.new.pieces (TagShowsBeside model.now ls kind n)) }
     {
         match kind {
             TagKind::Start => self.start_inside(model, name),

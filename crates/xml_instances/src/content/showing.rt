@@ -1,20 +1,22 @@
 // The pieces that events show, where they are kept.
 ghost use Rattle.std.specs.Prelude.{◌≡◌, ℕ, List, Option, Some, None, OnOk, IfSome, IsOk, false};
+ghost use Rattle.lexical_core.specs.Tree.{Expanded};
 ghost use Rattle.markup.specs.EventItems.{item_of};
+ghost use Rattle.markup.specs.PlainTags.{tag_items};
 ghost use Rattle.message_model.specs.Message.{Message};
 ghost use Rattle.respell.specs.Respelling.{HasSortedAttributes};
 ghost use Rattle.xml_instances.specs.Levels.{Level};
 ghost use Rattle.xml_instances.specs.Built.{nothing_shown, with_event, with_end};
 ghost use Rattle.xml_instances.specs.Open.{IsOpen, StandsFor};
-ghost use Rattle.xml_instances.specs.Keeping.{GoOn, KeepsShown, AreKeptPieces, MayShow, is_within};
+ghost use Rattle.xml_instances.specs.Keeping.{GoOn, KeepsShown, AreKeptPieces, MayShow, MayShowName, is_within, with_events};
 ghost use Rattle.xml_instances.specs.declared.content.OpenText.{OpenText as OpenTextType};
 ghost use Rattle.xml_instances.specs.declared.opened.Opened.{Opened as OpenedType};
 
 use super::Content;
 use crate::opened::Opened;
-use crate::pieces::{Pieces, close, inside};
+use crate::pieces::{Pieces, close, inside, inside_tag};
 use inst_pool::Instance;
-use markup::{Event, What};
+use markup::{Event, TagKind, What};
 use std::alloc::AllocError;
 
 impl Content {
@@ -58,17 +60,35 @@ impl Content {
         inside(&mut self.pieces, event)
     }
 
-    /// Whether the names of events have to be known: those of the element of an envelope are written again.
+    /// Whether the names of tags have to be known whole: where one may begin the element of an envelope, or is written
+    /// in another namespace than the default so far.
     pub(crate) fn keeps_names(&self) -> bool
         ensures { result ≡ false → MayShow self.now.pieces self.now.innermost }
     {
-        if self.pieces.is_none() {
+        let Some(pieces) = &self.pieces else {
             return false;
+        };
+        match self.innermost {
+            Some(Opened::Foreign) => !pieces.is_in_default(),
+            Some(Opened::Envelope { .. }) => true,
+            None | Some(Opened::Text | Opened::Parent { .. }) => false,
         }
-        matches!(
-            self.innermost,
-            Some(Opened::Foreign | Opened::Envelope { .. })
-        )
+    }
+
+    /// Keeps a tag of an element in an envelope, where pieces are kept.
+    pub(crate) fn keep_tag(&mut self, kind: TagKind, name: &[u8]) -> Result<(), AllocError>
+        ensures innermost { self.new.innermost ≡ self.old.innermost }
+        ensures round { self.new.round ≡ self.old.round }
+        ensures text { self.new.text ≡ self.old.text }
+        ensures checks { self.new.checks ≡ self.old.checks }
+        ensures bare { self.old.pieces ≡ None → self.new.pieces ≡ None }
+        ensures shown { (m : Message ℕ) (ls : List (Level ℕ)) (n : Expanded) → n.local ≡ name.now → IsOpen self.old m ls → MayShowName self.old.pieces self.old.innermost n
+            → OnOk result (GoOn self.old.pieces self.new.pieces (λ s t. t ≡ with_events ls (tag_items kind n) s)) }
+    {
+        match self.innermost {
+            Some(Opened::Foreign) => inside_tag(&mut self.pieces, kind, name),
+            None | Some(Opened::Text | Opened::Envelope { .. } | Opened::Parent { .. }) => Ok(()),
+        }
     }
 
     /// The innermost element ends, where pieces are kept.

@@ -1,4 +1,4 @@
-use Rattle.std.proofs.Common.{◌≡◌, ◌<◌, List, ℕ, ◌+◌, ◌≤◌, length, take, refl, ap, ◌∙◌, subst, arith}
+use Rattle.std.proofs.Common.{◌≡◌, List, ℕ, ◌+◌, ◌≤◌, length, take, refl, ap, ◌∙◌, subst, arith}
 use Rattle.std.proofs.lemmas.List.{length-take-le}
 use Rattle.markup.specs.Reading.{taken}
 use Rattle.xml_instances.proofs.QuickFed.{RunTold, front_run, front_nothing, take_within}
@@ -19,8 +19,7 @@ returns-in-Ok-clause-front c =
     let fits : n ≤ length (take room xs) = c.take_characters-run.ensures.within in
     let a : room ≤ length xs = c.run_room-room.ensures.within in
     let within : n ≤ length xs = omega (arith, fits, long, a) in
-    let some : 0 < room = (let k = c.if-run-eq0.false in omega (arith, fits, long, k)) in
     let tells : RunTold c.args.self.now.reader c.take_characters-run.new.self (take n (take room xs)) c.take_characters-run.result.characters = c.take_characters-run.ensures.taken in
     front_run c.args.model.now c.args.self.now _ xs c.take_characters-run.result.characters n within c.requires.room
     (subst (λ (v : List ℕ). RunTold c.args.self.now.reader c.take_characters-run.new.self v c.take_characters-run.result.characters) (take_within xs n room fits) tells) c.take_characters-run.ensures.count c.saturating_add-self.ensures refl refl
-    c.in-Ok.ensures.taken c.take_run.ensures.pieces (c.run_room-room.ensures.shown some)
+    c.in-Ok.ensures.taken c.in-Ok.ensures.shown
