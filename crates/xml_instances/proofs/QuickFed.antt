@@ -249,6 +249,20 @@ front_tag_stops T old new piece name kind n r e stay tells taken_are told = reco
         (stops_more T (bytes ++ take n piece) (drop n piece) e (stops_at_tag T old new.reader bytes (take n piece) (tag_items kind (name_behind h.told name)) new.content r e h stay (tells bytes h.told h.given)
         (taken_are (levels_over (message_of T) [] (items_told h.told)) (name_behind h.told name) refl (ours_behind (message_of T) h.told name h.fine) h.open_are) told))
 
+-- ---- bytes inside a token
+
+pub front_inside : (T : Tables) (old new : XmlChecker) (piece : List ℕ) (n : ℕ) → n ≤ length piece → fed old + length piece ≤ 2 ^ 40 → ((bytes : List ℕ) (told : List Placed) → HasTaken old.reader bytes told → HasTold new.reader (bytes ++ take n piece) told)
+    → taken new.reader ≡ taken old.reader + n → new.place ≡ min (old.place + n) (2 ^ 64 - 1) → new.events ≡ old.events → new.failed ≡ old.failed → new.content ≡ old.content → TakesFront T old new piece (Ok n)
+front_inside T old new piece n within room tells moved place events failed content = record { ok = ok; err = λ bytes h. tt; within = within; count = moved }
+  where
+    long : length (take n piece) ≡ n
+    long = length-take-le n piece within
+
+    ok : (bytes : List ℕ) → HasFed old T bytes → HasFed new T (bytes ++ take n piece)
+    ok bytes h = more_fed T old new bytes (take n piece) [] [] h refl (subst (λ (x : List Placed). HasTold new.reader (bytes ++ take n piece) x) (sym (append-nil h.told)) (tells bytes h.told h.given))
+        (moved ∙ ap (λ v. taken old.reader + v) (sym long)) (place ∙ place_more bytes (take n piece) old.place (taken old.reader) n h.placed h.counted (sym long) (omega (arith, within, room))) tt
+        (subst (λ (v : Content). IsOpen v (message_of T) (levels_over (message_of T) [] (items_told h.told))) (sym content) h.open_are) (go_still old.content.pieces new.content.pieces (ap (λ v. v.pieces) content)) (events ∙ h.none) (failed ∙ h.sound)
+
 -- ---- a byte
 
 pub front_byte : (T : Tables) (old new : XmlChecker) (piece rest : List ℕ) (byte : ℕ) → piece ≡ byte ∷ rest → ((bytes : List ℕ) → HasFed old T bytes → HasFed new T (bytes ++ byte ∷ [])) → fed new ≡ fed old + 1 → TakesFront T old new piece (Ok 1)

@@ -214,8 +214,8 @@ impl XmlChecker {
         Ok(())
     }
 
-    /// Takes a run of characters, a whole tag or else a byte from the front of the piece, and answers
-    /// how many bytes that are.
+    /// Takes a run of characters, a whole tag, bytes inside a token or else a byte from the front of the
+    /// piece, and answers how many bytes that are.
     fn take_front(&mut self, model: &Model, piece: &[u8]) -> Result<usize, InstanceError>
         requires some { 0 < length piece.now }
         requires room { fed self.old + length piece.now ≤ 2 ^ 40 }
@@ -238,6 +238,13 @@ impl XmlChecker {
         };
         if tag > 0 {
             return Ok(tag);
+        }
+        let inside = match self.take_inside(model, piece) {
+            Ok(inside) => inside,
+            Err(error) => return Err(error),
+        };
+        if inside > 0 {
+            return Ok(inside);
         }
         self.take_first(model, piece)
     }
@@ -293,6 +300,26 @@ impl XmlChecker {
             }
             Err(refusal) => Err(told(refusal, place)),
         }
+    }
+
+    /// Takes the bytes at the front of the piece that go on with an open token and show no event, if there are some.
+    fn take_inside(&mut self, model: &Model, piece: &[u8]) -> Result<usize, InstanceError>
+        requires room { fed self.old + length piece.now ≤ 2 ^ 40 }
+        requires made { IsMadeFor self.old model.now }
+        ensures made { IsMadeFor self.new model.now }
+        ensures lean { KeepsNoLeaf self.old → KeepsNoLeaf self.new }
+        ensures front { TakesFront model.now self.old self.new piece.now result }
+    {
+        let _ = model.type_count();
+        let count = match self.reader.take_inside(piece) {
+            Ok(count) => count,
+            Err(_) => return Err(InstanceError::Memory),
+        };
+        if count == 0 {
+            return Ok(0);
+        }
+        self.place = self.place.saturating_add(count as u64);
+        Ok(count)
     }
 
     /// Takes the first byte of the piece.
