@@ -3,7 +3,7 @@ use Rattle.std.specs.Prelude.{ℕ, List, Option}
 use Rattle.message_model.specs.Tables.{Tables}
 use Rattle.message_model.specs.declared.fault.InstanceError.{InstanceError}
 use Rattle.xml_instances.specs.Checking.{HasFed, IsMadeFor, fed, failed}
-use Rattle.xml_instances.specs.Scratch.{scratch}
+use Rattle.xml_instances.specs.Scratch.{scratch, token}
 use Rattle.xml_instances.specs.declared.reader.XmlReader.{XmlReader}
 
 -- the reader goes on: it was given these bytes, and none of their events breaks a rule
@@ -25,3 +25,7 @@ reader_failed reader = failed reader.checker
 -- how many bytes it holds for the text of the open leaf
 abbrev pub reader_scratch : XmlReader → ℕ
 reader_scratch reader = scratch reader.checker
+
+-- and for the open token
+abbrev pub reader_token : XmlReader → ℕ
+reader_token reader = token reader.checker

@@ -1,6 +1,7 @@
--- How many bytes are held for the text of the open leaf.
+-- How many bytes are held for the text of the open leaf, and for the open token.
 use Rattle.std.specs.Prelude.{◌≡◌, ℕ, List, ◌∷◌, Option, Some, length}
 use Rattle.facets.specs.LeafChecks.{IsHeldWithin, leaf_limit}
+use Rattle.markup.specs.Reading.{token as held_open}
 use Rattle.xml_instances.specs.Levels.{Level, Leaf}
 use Rattle.xml_instances.specs.Judges.{held}
 use Rattle.xml_instances.specs.Verdicts.{IsLean}
@@ -24,6 +25,10 @@ KeepsNoLeaf checker = IsLean checker.content
 
 abbrev pub scratch : XmlChecker → ℕ
 scratch checker = held_in checker.content
+
+-- how many bytes it holds for the open token
+abbrev pub token : XmlChecker → ℕ
+token checker = held_open checker.reader
 
 -- Where these elements are open, so many bytes are at most four to each character so far of a leaf, within the limit of its type, and 64. Where the innermost is no
 -- leaf there are none.

@@ -1,6 +1,7 @@
 // A checker of XML instances that takes their bytes in pieces.
 ghost use Rattle.std.specs.Prelude.{◌≡◌, ◌<◌, ◌+◌, ◌≤◌, ◌^◌, ◌∷◌, ◌++◌, ℕ, List, [], IfOk, OnOk, IfErr, Option, Some, None, Err, length};
 ghost use Rattle.markup.specs.Reading.{taken};
+ghost use Rattle.markup.specs.Marks.{tag_limit};
 ghost use Rattle.message_model.specs.Tables.{Tables, message_of, types_of};
 ghost use Rattle.std.specs.List.{AllByRecursion};
 ghost use Rattle.respell.specs.Respelling.{HasSortedAttributes};
@@ -10,7 +11,7 @@ ghost use Rattle.xml_instances.specs.Open.{IsOpen, AreMade};
 ghost use Rattle.xml_instances.specs.Built.{EventsShow};
 ghost use Rattle.xml_instances.specs.Keeping.{GoOn};
 ghost use Rattle.xml_instances.specs.Checking.{items_of, HasFed, AreTaken, IsTold, IsMarkTold, Stops, IsSpelled, IsSpelledBy, EndsAs, IsSpelledAs, IsMadeFor, IsSameOrMemory, IsAgain, TakesFront, fed, failed};
-ghost use Rattle.xml_instances.specs.Scratch.{scratch, KeepsNoLeaf, IsScratchWithin};
+ghost use Rattle.xml_instances.specs.Scratch.{scratch, token, KeepsNoLeaf, IsScratchWithin};
 ghost use Rattle.xml_instances.specs.Verdicts.{IsLean, HasFreeText};
 
 use crate::content::Content;
@@ -130,6 +131,15 @@ impl XmlChecker {
         ensures bound { (T : Tables) (bytes : List ℕ) (h : HasFed self.now T bytes) → IsScratchWithin (levels_over (message_of T) [] (items_told h.told)) result }
     {
         self.content.scratch()
+    }
+
+    /// How many bytes are held for the open token: those of the names and values that a tag has said so far.
+    /// It takes no memory.
+    pub fn token(&self) -> u64
+        ensures count { (T : Tables) (bytes : List ℕ) → HasFed self.now T bytes → result ≡ token self.now }
+        ensures bound { (T : Tables) (bytes : List ℕ) → HasFed self.now T bytes → result ≤ tag_limit }
+    {
+        self.reader.token()
     }
 
     /// A fault of markup, with the path of the open elements.

@@ -4,7 +4,8 @@ ghost use Rattle.message_model.specs.Tables.{Tables, message_of};
 ghost use Rattle.xml_instances.specs.Levels.{levels_over};
 ghost use Rattle.xml_instances.specs.XmlFaults.{items_told};
 ghost use Rattle.xml_instances.specs.Checking.{Stops, EndsAs, IsAgain, IsSpelledAs};
-ghost use Rattle.xml_instances.specs.ReadInstances.{HasFedReader, IsReaderFor, reader_fed, reader_failed, reader_scratch};
+ghost use Rattle.markup.specs.Marks.{tag_limit};
+ghost use Rattle.xml_instances.specs.ReadInstances.{HasFedReader, IsReaderFor, reader_fed, reader_failed, reader_scratch, reader_token};
 ghost use Rattle.xml_instances.specs.Scratch.{IsScratchWithin};
 
 use crate::checker::XmlChecker;
@@ -44,6 +45,14 @@ impl XmlReader {
         ensures bound { (T : Tables) (bytes : List ℕ) (h : HasFedReader self.now T bytes) → IsScratchWithin (levels_over (message_of T) [] (items_told h.told)) result }
     {
         self.checker.scratch()
+    }
+
+    /// How many bytes are held for the open token, as by `XmlChecker`.
+    pub fn token(&self) -> u64
+        ensures count { (T : Tables) (bytes : List ℕ) → HasFedReader self.now T bytes → result ≡ reader_token self.now }
+        ensures bound { (T : Tables) (bytes : List ℕ) → HasFedReader self.now T bytes → result ≤ tag_limit }
+    {
+        self.checker.token()
     }
 
     /// Takes the next bytes, of at most 2^40 in all. It answers the first fault at the byte that
