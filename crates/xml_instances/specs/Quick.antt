@@ -1,5 +1,5 @@
 -- Runs of characters and whole tags, held to a message. Private functions alone cite this.
-use Rattle.std.specs.Prelude.{◌≡◌, ℕ, true, false, List, [], ◌∷◌, map, Option, Some, None, Result, Ok, Err}
+use Rattle.std.specs.Prelude.{◌≡◌, ◌==◌, ◌&&◌, ℕ, Bool, not, true, false, List, [], ◌∷◌, map, Option, Some, None, Result, Ok, Err}
 use Rattle.std.specs.List.{list_all}
 use Rattle.lexical_core.specs.Tree.{Expanded, Item, Char}
 use Rattle.markup.specs.Chars.{is_space}
@@ -14,6 +14,10 @@ use Rattle.xml_instances.specs.declared.opened.Opened.TheVariants as opened
 use Rattle.xml_instances.specs.declared.opened.Refusal.{Refusal}
 use Rattle.xml_instances.specs.declared.opened.Refusal.TheVariants.{Breaks, Memory}
 use Rattle.xml_instances.specs.declared.content.Content.{Content}
+
+-- white space that stands by itself: a CR does not, which an LF may join (XML 1.0 §2.11)
+abbrev pub is_still_space : ℕ → Bool
+is_still_space c = is_space c && not (c == 13)
 
 -- The bytes may be characters of the innermost element: between elements they are white space, where there is a place for it.
 abbrev pub MayTake : Graph ℕ Simple → Option Opened → List ℕ → Type 0

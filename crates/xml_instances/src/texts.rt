@@ -10,6 +10,7 @@ ghost use Rattle.xml_instances.specs.Built.{TextShown};
 ghost use Rattle.xml_instances.specs.Judges.{HasTaken, IsMadeFor};
 ghost use Rattle.xml_instances.specs.Keeping.{GoOn};
 ghost use Rattle.xml_instances.specs.Open.{IsRuleOf};
+ghost use Rattle.xml_instances.specs.Quick.{is_still_space};
 ghost use Rattle.xml_instances.specs.Verdicts.{IsVerdict};
 
 use crate::judge::Judge;
@@ -80,13 +81,21 @@ fn is_blank(byte: u8) -> bool
     byte == b' ' || byte == b'\t' || byte == b'\n' || byte == b'\r'
 }
 
-/// How many bytes at the front of the piece are white space.
+/// Whether the byte is white space that stands by itself: a CR does not, which an LF may join
+/// (XML 1.0 §2.11).
+fn is_still_blank(byte: u8) -> bool
+    ensures { result ≡ is_still_space byte }
+{
+    is_blank(byte) && byte != b'\r'
+}
+
+/// How many bytes at the front of the piece are white space that stands by itself.
 pub(crate) fn blank_length(piece: &[u8]) -> usize
     ensures within { result ≤ length piece.now }
-    ensures count { result ≡ prefix_len is_space piece.now }
+    ensures count { result ≡ prefix_len is_still_space piece.now }
 {
     for (i, byte) in piece.iter().enumerate() {
-        if !is_blank(*byte) {
+        if !is_still_blank(*byte) {
             return i;
         }
     }
