@@ -29,7 +29,7 @@ pub fn one_rule_is_first()
     ensures { (simple : Simple) (text : List ℕ) (one two : Rule) → BreaksFirst simple text one → BreaksFirst simple text two → one ≡ two }
 {}
 
-/// A leaf fits a simple type, or breaks one rule, and not both.
+/// A leaf has at most one verdict under a simple type: that it fits, or the one rule that it breaks.
 pub fn a_leaf_has_one_verdict()
     ensures { (simple : Simple) (leaf : Leaf) (one two : Result (Unit {0}) Rule) → Judges simple leaf one → Judges simple leaf two → one ≡ two }
 {}
