@@ -8,7 +8,8 @@ use Rattle.std.specs.List.{list_any}
 use Rattle.std.specs.Map.{lookup, IsKeyTest, AreApart, KeepsOthers}
 use Rattle.std.specs.Option.{unwrap_or, is_some, IsSome}
 use Rattle.std.specs.declared.cmp.Ordering.{Ordering}
-use Rattle.std.specs.Ordering.{is_eq, nat_cmp, eq_by_cmp}
+use Rattle.std.specs.declared.cmp.Ordering.TheVariants.{Less, Equal, Greater}
+use Rattle.std.specs.Ordering.{is_eq, nat_cmp, eq_by_cmp, ordering_reverse}
 use Rattle.std.specs.Str.{bytes_eq}
 use Rattle.std.specs.Vec.{vec_len}
 use Rattle.std.proofs.lemmas.Cmp.{eq_by_cmp_equiv, nat_list_cmp_total, nat_list_eq_equiv}
@@ -24,7 +25,9 @@ use Rattle.markup.specs.declared.tag.Given.{Given}
 use Rattle.markup.specs.declared.bindings.Binding.{Binding}
 use Rattle.markup.specs.declared.bindings.Bindings.{Bindings}
 use Rattle.markup.specs.Events.{declared_prefix, same_prefix, bound_by}
+use Rattle.markup.specs.declared.origin.Origin.{Origin}
 use Rattle.markup.specs.Bindings.{declares, place_of, prefix_of, binding, bindings, place_in, Binds}
+use Rattle.markup.specs.Origins.{no_binding, declared_namespace, namespace_from}
 
 -- ---- vectors as stacks
 
@@ -133,6 +136,10 @@ pub namespace_at : (declared : List Given) (kept : List Binding) (p : List ℕ) 
 namespace_at declared kept p i e is found =
     ap (λ (bs : List Binding). Some (get_or bs i e).namespace) (sym (reverse-reverse kept) ∙ ap reverse is) ∙ turned_at declared p i e found
 
+-- what is found at a place has the namespace of the declaration there
+pub found_namespace : (kept : Bindings) (seen : List Binding) (i : ℕ) (b : Binding) → seen ≡ kept.open.items → b ≡ get_or seen i no_binding → b.namespace ≡ declared_namespace kept i
+found_namespace kept seen i b same is = ap (λ (x : Binding). x.namespace) is ∙ ap (λ (bs : List Binding). (get_or bs i no_binding).namespace) same
+
 pub unbound : (declared : List Given) (p : List ℕ) → place_of declared p ≡ None → bound_by declared p ≡ None
 unbound [] p e = refl
 unbound (d ∷ before) p e = case (declares p d) refl (unbound before p)
@@ -140,6 +147,21 @@ unbound (d ∷ before) p e = case (declares p d) refl (unbound before p)
     case : (b : Bool) → declares p d ≡ b → (place_of before p ≡ None → bound_by before p ≡ None) → bound_by (d ∷ before) p ≡ None
     case true is so = let some : Some (length before) ≡ None = sym (placed_here d before p is) ∙ e in absurd cc
     case false is so = bound_behind d before p is ∙ so (sym (placed_behind d before p is) ∙ e)
+
+-- ---- namespaces of one origin
+
+reversed_same : (r : Ordering) → r ≡ ordering_reverse r → r ≡ Equal
+reversed_same Less e = absurd cc
+reversed_same Equal e = refl
+reversed_same Greater e = absurd cc
+
+pub one_compared : (kept : Bindings) (left right : Origin) → left ≡ right → Equal ≡ slice_cmp nat_cmp (namespace_from kept left) (namespace_from kept right)
+one_compared kept left right same =
+    let here : List ℕ = namespace_from kept left in
+    sym (reversed_same (slice_cmp nat_cmp here here) (nat_list_cmp_total.antisymm here here)) ∙ ap (λ (o : Origin). slice_cmp nat_cmp (namespace_from kept left) (namespace_from kept o)) same
+
+pub one_same : (kept : Bindings) (left right : Origin) → left ≡ right → true ≡ bytes_eq (namespace_from kept left) (namespace_from kept right)
+one_same kept left right same = sym (nat_list_eq_equiv.refl (namespace_from kept left)) ∙ ap (λ (o : Origin). bytes_eq (namespace_from kept left) (namespace_from kept o)) same
 
 -- ---- what is open behind the outer declarations
 

@@ -1,11 +1,11 @@
 -- The attributes of a tag with expanded names, one after another from the end of the tag.
-use Rattle.std.proofs.Common.{◌≡◌, ℕ, Bool, true, false, List, [], ◌∷◌, ◌++◌, ◌||◌, map, Option, Some, None, refl, sym, ap, ◌∙◌}
+use Rattle.std.proofs.Common.{◌≡◌, ℕ, Bool, true, false, List, [], ◌∷◌, ◌++◌, ◌||◌, map, reverse, Option, Some, None, refl, sym, ap, ◌∙◌}
 use Rattle.std.specs.Bool.{if◌then◌else◌}
 use Rattle.std.specs.Global.{Vec}
 use Rattle.std.specs.Option.{is_none}
 use Rattle.std.specs.List.{list_any, list_all, filter_map, cons_option}
 use Rattle.std.proofs.lemmas.Bool.{and_parts}
-use Rattle.std.proofs.lemmas.List.{append-nil, map-append}
+use Rattle.std.proofs.lemmas.List.{append-nil, append_assoc, map-append, reverse-append}
 use Rattle.std.proofs.lemmas.List.Elements.{filter_map-append}
 use Rattle.std.proofs.lemmas.List.Folds.{list_any-append}
 use Rattle.lexical_core.specs.Tree.{Expanded as FullName, Entry}
@@ -14,11 +14,14 @@ use Rattle.markup.specs.declared.tag.Spelled.{Spelled}
 use Rattle.markup.specs.declared.tag.Given.{Given}
 use Rattle.markup.specs.declared.tag.Opening.{Opening}
 use Rattle.markup.specs.declared.event.Attr.{Attr}
+use Rattle.markup.specs.declared.attributes.BoundAttr.{BoundAttr}
+use Rattle.markup.specs.declared.attributes.Collected.{Collected}
 use Rattle.markup.specs.declared.attributes.Expanded.{Expanded}
+use Rattle.markup.specs.declared.bindings.Bindings.{Bindings}
 use Rattle.markup.specs.Events.{declared_prefix, attribute_name, put, put_named, entries, expanded, namespace_of}
 use Rattle.markup.specs.Faults.{has_clash, clash, same_expanded}
 use Rattle.markup.specs.EventItems.{entry_of}
-use Rattle.markup.specs.TagParts.{is_plain, is_unbound, is_named, IsCollected, IsExpanded, entry_under, named_entry, sorted_entries, has_twins}
+use Rattle.markup.specs.TagParts.{is_plain, is_unbound, is_named, IsCollected, IsExpanded, entry_from, entry_under, named_entry, sorted_entries, has_twins}
 use Rattle.markup.proofs.Twins.{any-put, any_twins, any_twins-put, twins_next}
 use Rattle.markup.proofs.TagPartLemmas.{or-false, or_comm}
 
@@ -66,9 +69,9 @@ pub attribute_name_is : (tags : List Opening) (name : Spelled) (prefix : List �
 attribute_name_is tags name prefix found same is =
     ap (λ p. expanded (if bytes_eq p [] then Some [] else namespace_of tags p) name.local) (sym same) ∙ ap (λ o. expanded o name.local) (sym is)
 
-pub collect_unbound : (tags : List Opening) (next : Given) (plain : List Given) (old : Expanded) → attribute_name tags next.name ≡ None → IsCollected tags plain old
-    → IsCollected tags (plain ++ next ∷ []) (record { attrs = old.attrs; has_clash = old.has_clash; is_unbound = true })
-collect_unbound tags next plain old unbound was =
+pub collect_unbound : (tags : List Opening) (next : Given) (plain : List Given) (kept : Bindings) (old : Collected) → attribute_name tags next.name ≡ None → IsCollected tags plain kept old
+    → IsCollected tags (plain ++ next ∷ []) kept (record { attrs = old.attrs; is_unbound = true })
+collect_unbound tags next plain kept old unbound was =
     let nothing : filter_map (entry_under tags) (next ∷ []) ≡ [] = ap (λ n. cons_option (named_entry next.value n) []) unbound in
     let found : list_any (is_unbound tags) (next ∷ []) ≡ true = ap (λ n. is_none n || false) unbound in
     record {
@@ -76,16 +79,27 @@ collect_unbound tags next plain old unbound was =
       unbound = sym (list_any-append (is_unbound tags) plain (next ∷ []) ∙ ap (λ b. list_any (is_unbound tags) plain || b) found ∙ or_comm (list_any (is_unbound tags) plain) true);
     }
 
-pub collect_bound : (tags : List Opening) (next : Given) (plain : List Given) (old : Expanded) (attr : Attr) (pushed : Vec Attr) → attribute_name tags next.name ≡ Some (entry_of attr).name → attr.value ≡ next.value
-    → pushed.items ≡ old.attrs.items ++ attr ∷ [] → IsCollected tags plain old
-    → IsCollected tags (plain ++ next ∷ []) (record { attrs = pushed; has_clash = old.has_clash; is_unbound = old.is_unbound })
-collect_bound tags next plain old attr pushed bound same is_pushed was =
-    let one : filter_map (entry_under tags) (next ∷ []) ≡ entry_of attr ∷ [] = ap (λ n. cons_option (named_entry next.value n) []) bound ∙ ap (λ v. (record { name = (entry_of attr).name; value = v }) ∷ []) (sym same) in
+pub collect_bound : (tags : List Opening) (next : Given) (plain : List Given) (kept : Bindings) (old : Collected) (attr : BoundAttr) (pushed : Vec BoundAttr)
+    → attribute_name tags next.name ≡ Some (entry_from kept attr).name → attr.value ≡ next.value
+    → pushed.items ≡ old.attrs.items ++ attr ∷ [] → IsCollected tags plain kept old
+    → IsCollected tags (plain ++ next ∷ []) kept (record { attrs = pushed; is_unbound = old.is_unbound })
+collect_bound tags next plain kept old attr pushed bound same is_pushed was =
+    let one : filter_map (entry_under tags) (next ∷ []) ≡ entry_from kept attr ∷ [] = ap (λ n. cons_option (named_entry next.value n) []) bound ∙ ap (λ v. (record { name = (entry_from kept attr).name; value = v }) ∷ []) (sym same) in
     let fine : list_any (is_unbound tags) (next ∷ []) ≡ false = ap (λ n. is_none n || false) bound in
     record {
-      entries = ap (map entry_of) is_pushed ∙ map-append entry_of old.attrs.items (attr ∷ []) ∙ ap (λ es. es ++ entry_of attr ∷ []) was.entries ∙ ap (λ es. filter_map (entry_under tags) plain ++ es) (sym one) ∙ sym (filter_map-append (entry_under tags) plain (next ∷ []));
+      entries = ap (map (entry_from kept)) is_pushed ∙ map-append (entry_from kept) old.attrs.items (attr ∷ []) ∙ ap (λ es. es ++ entry_from kept attr ∷ []) was.entries ∙ ap (λ es. filter_map (entry_under tags) plain ++ es) (sym one) ∙ sym (filter_map-append (entry_under tags) plain (next ∷ []));
       unbound = was.unbound ∙ sym (list_any-append (is_unbound tags) plain (next ∷ []) ∙ ap (λ b. list_any (is_unbound tags) plain || b) fine ∙ or-false (list_any (is_unbound tags) plain));
     }
+
+-- one more of those with their origins is told with its namespace
+pub named_more : (kept : Bindings) (old new : List Attr) (left rest : List BoundAttr) (next : BoundAttr) (attr : Attr) (whole : List Entry)
+    → left ≡ rest ++ next ∷ [] → new ≡ old ++ attr ∷ [] → entry_of attr ≡ entry_from kept next
+    → map entry_of old ++ map (entry_from kept) (reverse left) ≡ whole → map entry_of new ++ map (entry_from kept) (reverse rest) ≡ whole
+named_more kept old new left rest next attr whole popped pushed same was =
+    let behind : List Entry = map (entry_from kept) (reverse rest) in
+    let turned : reverse left ≡ next ∷ reverse rest = ap reverse popped ∙ reverse-append rest (next ∷ []) in
+    ap (λ told. map entry_of told ++ behind) pushed ∙ ap (λ es. es ++ behind) (map-append entry_of old (attr ∷ [])) ∙ append_assoc (map entry_of old) (entry_of attr ∷ []) behind
+    ∙ ap (λ e. map entry_of old ++ e ∷ behind) same ∙ sym (ap (λ next_on. map entry_of old ++ map (entry_from kept) next_on) turned) ∙ was
 
 -- ---- all of them
 
@@ -117,14 +131,14 @@ clash_twins tags (a ∷ more) all =
     twins_named None = refl
     twins_named (Some name) = sym (any_twins-put (record { name = name; value = a.value }) (entries tags more))
 
-pub expanded_is : (tags : List Opening) (plain : List Given) (collected expanded : Expanded) → list_all is_plain plain ≡ true → IsCollected tags plain collected
-    → map entry_of expanded.attrs.items ≡ sorted_entries (map entry_of collected.attrs.items) → expanded.has_clash ≡ has_twins (map entry_of expanded.attrs.items) → expanded.is_unbound ≡ collected.is_unbound
+pub expanded_is : (tags : List Opening) (plain : List Given) (kept : Bindings) (collected : Collected) (sorted : List BoundAttr) (expanded : Expanded) → list_all is_plain plain ≡ true → IsCollected tags plain kept collected
+    → map (entry_from kept) sorted ≡ sorted_entries (map (entry_from kept) collected.attrs.items) → map entry_of expanded.attrs.items ≡ map (entry_from kept) sorted
+    → expanded.has_clash ≡ has_twins (map (entry_from kept) sorted) → expanded.is_unbound ≡ collected.is_unbound
     → IsExpanded tags plain expanded
-expanded_is tags plain collected expanded all was is_sorted is_clash is_unbound =
-    let whole : map entry_of expanded.attrs.items ≡ sorted_entries (filter_map (entry_under tags) plain) = is_sorted ∙ ap sorted_entries was.entries in
-    let same : map entry_of expanded.attrs.items ≡ entries tags plain = whole ∙ sym (entries_sorted tags plain all) in
+expanded_is tags plain kept collected sorted expanded all was is_sorted is_named is_clash is_unbound =
+    let whole : map (entry_from kept) sorted ≡ sorted_entries (filter_map (entry_under tags) plain) = is_sorted ∙ ap sorted_entries was.entries in
     record {
-      entries = same;
+      entries = is_named ∙ whole ∙ sym (entries_sorted tags plain all);
       clash = is_clash ∙ ap has_twins whole ∙ sym (twins_next (filter_map (entry_under tags) plain)) ∙ ap any_twins (sym (entries_sorted tags plain all)) ∙ sym (clash_twins tags plain all);
       unbound = is_unbound ∙ was.unbound;
     }

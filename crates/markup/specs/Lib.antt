@@ -25,6 +25,7 @@ pub mod Reading
 pub mod ReaderSteps
 pub mod TagParts
 pub mod Bindings
+pub mod Origins
 pub mod OpenNames
 pub mod PlainTags
 pub mod Standing

@@ -9,11 +9,14 @@ use Rattle.markup.specs.declared.scope.Resolved.{Resolved}
 use Rattle.markup.specs.declared.scope.Scope.{Scope}
 use Rattle.markup.specs.declared.bindings.Bindings.{Bindings}
 use Rattle.markup.specs.declared.attributes.Parted.{Parted}
+use Rattle.markup.specs.declared.attributes.BoundAttr.{BoundAttr}
+use Rattle.markup.specs.declared.attributes.Collected.{Collected}
 use Rattle.markup.specs.declared.attributes.Expanded.{Expanded as ExpandedAttributes}
 use Rattle.markup.specs.Events.{declared_prefix, namespace_of, attribute_name, put, entries}
 use Rattle.markup.specs.Faults.{same_declared, is_bad_declaration, has_clash, is_bad_attribute}
 use Rattle.markup.specs.EventItems.{entry_of}
 use Rattle.markup.specs.Bindings.{Binds}
+use Rattle.markup.specs.Origins.{namespace_from}
 use Rattle.markup.specs.OpenNames.{KeepsNames}
 use Rattle.markup.specs.Scopes.{declarations, all_declarations, open_name}
 
@@ -77,10 +80,14 @@ pub record AreDeclared (before given : List Given) (parts : Parted) (kept : Bind
   pub kept_are : Binds kept (declarations given ++ before)
   pub clash : parts.has_clash ≡ declares_twice given
 
+-- an attribute with its expanded name, by the declarations that are open
+abbrev pub entry_from : Bindings → BoundAttr → Entry
+entry_from kept a = record { name = record { namespace = namespace_from kept a.origin; local = a.local }; value = a.value }
+
 -- the attributes of a tag under these tags, its own the first, in the order of the tag
-pub record IsCollected (tags : List Opening) (plain : List Given) (expanded : ExpandedAttributes) : Type 0 where
-  pub entries : map entry_of expanded.attrs.items ≡ filter_map (entry_under tags) plain
-  pub unbound : expanded.is_unbound ≡ list_any (is_unbound tags) plain
+pub record IsCollected (tags : List Opening) (plain : List Given) (kept : Bindings) (collected : Collected) : Type 0 where
+  pub entries : map (entry_from kept) collected.attrs.items ≡ filter_map (entry_under tags) plain
+  pub unbound : collected.is_unbound ≡ list_any (is_unbound tags) plain
 
 -- the attributes of a tag under these tags, its own the first, as an event has them, and what is wrong with them
 pub record IsExpanded (tags : List Opening) (plain : List Given) (expanded : ExpandedAttributes) : Type 0 where

@@ -2,17 +2,19 @@
 // (Namespaces in XML 1.0 §6.3).
 ghost use Rattle.std.specs.Prelude.{◌≡◌, ◌++◌, ◌∷◌, List, [], IfOk, OnOk, Some, length, map, if◌then◌else◌, true, reverse};
 ghost use Rattle.std.specs.List.{list_all};
-ghost use Rattle.std.specs.Option.{option_copied};
+ghost use Rattle.std.specs.Option.{option_map};
 ghost use Rattle.std.specs.Str.{bytes_eq};
 ghost use Rattle.markup.specs.Events.{name_cmp, namespace_of};
 ghost use Rattle.markup.specs.EventItems.{entry_of};
 ghost use Rattle.markup.specs.Bindings.{Binds};
+ghost use Rattle.markup.specs.Origins.{namespace_from};
 ghost use Rattle.markup.specs.Scopes.{all_declarations};
-ghost use Rattle.markup.specs.TagParts.{IsParted, AreDeclared, IsExpanded, IsCollected, is_plain, is_named, sorted_entries, begins_with, has_twins};
+ghost use Rattle.markup.specs.TagParts.{IsParted, AreDeclared, IsExpanded, IsCollected, is_plain, is_named, entry_from, sorted_entries, begins_with, has_twins};
 
 use crate::bindings::Bindings;
 use crate::event::Attr;
 use crate::names::{declared_prefix, is_bad_declaration, is_empty};
+use crate::origin::Origin;
 use crate::tag::{Given, Opening};
 use lexical_core::{Items, Text};
 use std::alloc::{AllocError, Global};
@@ -77,6 +79,60 @@ impl Parted {
     }
 }
 
+/// An attribute with what gives its prefix a namespace.
+#[derive(Drop)]
+pub(crate) struct BoundAttr {
+    pub(crate) origin: Origin,
+    pub(crate) local: Text,
+    pub(crate) value: Text,
+}
+
+/// The attributes of a start tag that have an expanded name, in the order of the tag.
+#[derive(Drop)]
+pub(crate) struct Collected {
+    pub(crate) attrs: Vec<BoundAttr>,
+    /// Whether one more has a prefix that is bound to nothing.
+    pub(crate) is_unbound: bool,
+}
+
+impl Collected {
+    /// Those of these attributes, by the declarations of the open tags.
+    fn of(
+        mut attributes: Vec<Given>,
+        bindings: &Bindings,
+        alloc: Global,
+    ) -> Result<Collected, AllocError>
+        ensures { (tags : List Opening) → Binds bindings.now (all_declarations tags) → IfOk result (IsCollected tags (reverse attributes.items) bindings.now) }
+    {
+        let mut collected = Collected {
+            attrs: Vec::new(alloc),
+            is_unbound: false,
+        };
+        while let Some(next) = attributes.pop() {
+            collected.add(next, bindings)?;
+        }
+        Ok(collected)
+    }
+
+    /// One more attribute, which stands behind the others.
+    fn add(&mut self, next: Given, bindings: &Bindings) -> Result<(), AllocError>
+        ensures { (tags : List Opening) (plain : List Given) → Binds bindings.now (all_declarations tags) → IsCollected tags plain bindings.now self.old → OnOk result (IsCollected tags (plain ++ next ∷ []) bindings.now self.new) }
+    {
+        let Some(origin) = attribute_origin(bindings, next.name.prefix.bytes()) else {
+            self.is_unbound = true;
+            return Ok(());
+        };
+        let Given { name, value } = next;
+        let local = name.local;
+        self.attrs.push(BoundAttr {
+            origin,
+            local,
+            value,
+        })?;
+        Ok(())
+    }
+}
+
 /// The attributes of a start tag as its event has them.
 #[derive(Drop)]
 pub(crate) struct Expanded {
@@ -98,108 +154,97 @@ impl Expanded {
         requires { list_all is_plain (reverse attributes.items) ≡ true }
         ensures { (tags : List Opening) → Binds bindings.now (all_declarations tags) → IfOk result (IsExpanded tags (reverse attributes.items)) }
     {
-        let mut expanded = Expanded::collected(attributes, bindings, alloc)?;
-        sort(&mut expanded.attrs)?;
-        expanded.has_clash = has_twins(expanded.attrs.as_slice());
-        Ok(expanded)
-    }
-
-    /// The attributes in the order of the tag, and no clash told yet.
-    fn collected(
-        mut attributes: Vec<Given>,
-        bindings: &Bindings,
-        alloc: Global,
-    ) -> Result<Expanded, AllocError>
-        ensures { (tags : List Opening) → Binds bindings.now (all_declarations tags) → IfOk result (IsCollected tags (reverse attributes.items)) }
-    {
-        let mut expanded = Expanded {
-            attrs: Vec::new(alloc),
-            has_clash: false,
-            is_unbound: false,
-        };
-        while let Some(next) = attributes.pop() {
-            expanded.add(next, bindings, alloc)?;
-        }
-        Ok(expanded)
-    }
-
-    /// One more attribute, which stands behind the others.
-    fn add(&mut self, next: Given, bindings: &Bindings, alloc: Global) -> Result<(), AllocError>
-        ensures { (tags : List Opening) (plain : List Given) → Binds bindings.now (all_declarations tags) → IsCollected tags plain self.old → OnOk result (IsCollected tags (plain ++ next ∷ []) self.new) }
-    {
-        let Some(namespace) = attribute_namespace(bindings, next.name.prefix.bytes()) else {
-            self.is_unbound = true;
-            return Ok(());
-        };
-        let ns = text_of(namespace, alloc)?;
-        let Given { name, value } = next;
-        let local = name.local;
-        self.attrs.push(Attr { ns, local, value })?;
-        Ok(())
+        let mut collected = Collected::of(attributes, bindings, alloc)?;
+        sort(&mut collected.attrs, bindings)?;
+        let has_clash = has_twins(collected.attrs.as_slice(), bindings);
+        let attrs = named(collected.attrs, bindings, alloc)?;
+        Ok(Expanded {
+            attrs,
+            has_clash,
+            is_unbound: collected.is_unbound,
+        })
     }
 }
 
-/// The namespace of an attribute with this prefix: a default namespace does not apply to it
+/// What gives an attribute with this prefix its namespace: a default namespace does not apply to it
 /// (Namespaces §6.2).
-fn attribute_namespace<'a>(bindings: &'a Bindings, prefix: &[u8]) -> Option<&'a [u8]>
-    ensures { (tags : List Opening) → Binds bindings.now (all_declarations tags) → option_copied result ≡ (if bytes_eq prefix.now [] then Some [] else namespace_of tags prefix.now) }
+fn attribute_origin(bindings: &Bindings, prefix: &[u8]) -> Option<Origin>
+    ensures { (tags : List Opening) → Binds bindings.now (all_declarations tags) → option_map (namespace_from bindings.now) result ≡ (if bytes_eq prefix.now [] then Some [] else namespace_of tags prefix.now) }
 {
     if is_empty(prefix) {
-        Some(b"")
+        Some(Origin::Nothing)
     } else {
-        bindings.namespace_of(prefix)
+        bindings.origin_of(prefix)
     }
+}
+
+/// The attributes with their namespaces.
+fn named(
+    mut attrs: Vec<BoundAttr>,
+    bindings: &Bindings,
+    alloc: Global,
+) -> Result<Vec<Attr>, AllocError>
+    ensures { IfOk result (λ named. map entry_of named.items ≡ map (entry_from bindings.now) attrs.items) }
+{
+    let mut named = Vec::new(alloc);
+    attrs.as_mut_slice().reverse();
+    while let Some(next) = attrs.pop() {
+        let ns = bindings.share(next.origin)?;
+        let BoundAttr { local, value, .. } = next;
+        named.push(Attr { ns, local, value })?;
+    }
+    Ok(named)
 }
 
 /// A text of these bytes.
-pub(crate) fn text_of(bytes: &[u8], alloc: Global) -> Result<Text, AllocError>
+fn text_of(bytes: &[u8], alloc: Global) -> Result<Text, AllocError>
     ensures { IfOk result (λ t. t ≡ bytes.now) }
 {
     Ok(Text::from_vec(Vec::from_slice(alloc, bytes)?))
 }
 
 /// How two attributes stand by their names.
-fn name_cmp(left: &Attr, right: &Attr) -> Ordering
-    ensures { result ≡ name_cmp (entry_of left.now).name (entry_of right.now).name }
+fn name_cmp(left: &BoundAttr, right: &BoundAttr, bindings: &Bindings) -> Ordering
+    ensures { result ≡ name_cmp (entry_from bindings.now left.now).name (entry_from bindings.now right.now).name }
 {
-    match left.ns.bytes().cmp(right.ns.bytes()) {
+    match bindings.namespace_cmp(left.origin, right.origin) {
         Ordering::Equal => left.local.bytes().cmp(right.local.bytes()),
         apart => apart,
     }
 }
 
 /// Puts the attributes into the order of their names; those of one name keep theirs.
-fn sort(attrs: &mut Vec<Attr>) -> Result<(), AllocError>
-    ensures { OnOk result (map entry_of attrs.new.items ≡ sorted_entries (map entry_of attrs.old.items)) }
+fn sort(attrs: &mut Vec<BoundAttr>, bindings: &Bindings) -> Result<(), AllocError>
+    ensures { OnOk result (map (entry_from bindings.now) attrs.new.items ≡ sorted_entries (map (entry_from bindings.now) attrs.old.items)) }
 {
-    attrs.sort_by(|left, right| name_cmp(left, right))?;
+    attrs.sort_by(|left, right| name_cmp(left, right, bindings))?;
     Ok(())
 }
 
 /// Whether two attributes have one name.
-fn is_named(left: &Attr, right: &Attr) -> bool
-    ensures { result ≡ is_named (entry_of left.now).name (entry_of right.now) }
+fn is_named(left: &BoundAttr, right: &BoundAttr, bindings: &Bindings) -> bool
+    ensures { result ≡ is_named (entry_from bindings.now left.now).name (entry_from bindings.now right.now) }
 {
-    left.ns.bytes() == right.ns.bytes() && left.local.bytes() == right.local.bytes()
+    bindings.is_same(left.origin, right.origin) && left.local.bytes() == right.local.bytes()
 }
 
 /// Whether the first of the others has the name of this one.
-fn is_twin(attr: &Attr, others: &[Attr]) -> bool
-    ensures { result ≡ begins_with (entry_of attr.now).name (map entry_of others.now) }
+fn is_twin(attr: &BoundAttr, others: &[BoundAttr], bindings: &Bindings) -> bool
+    ensures { result ≡ begins_with (entry_from bindings.now attr.now).name (map (entry_from bindings.now) others.now) }
 {
     match others.first() {
-        Some(next) => is_named(attr, next),
+        Some(next) => is_named(attr, next, bindings),
         None => false,
     }
 }
 
 /// Whether two neighbours have one name.
-fn has_twins(attrs: &[Attr]) -> bool
-    ensures { result ≡ has_twins (map entry_of attrs.now) }
+fn has_twins(attrs: &[BoundAttr], bindings: &Bindings) -> bool
+    ensures { result ≡ has_twins (map (entry_from bindings.now) attrs.now) }
 {
     let mut left = attrs;
     while let Some((attr, others)) = left.split_first() {
-        if is_twin(attr, others) {
+        if is_twin(attr, others, bindings) {
             return true;
         }
         left = others;

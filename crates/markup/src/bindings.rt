@@ -1,23 +1,29 @@
 // The declarations of the open tags, with a look-up by the prefix (Namespaces in XML 1.0 §6.1).
-ghost use Rattle.std.specs.Prelude.{◌≡◌, ◌∷◌, ◌++◌, List, [], ℕ, length, drop, Some, OnOk, IsSome, if◌then◌else◌};
+ghost use Rattle.std.specs.Prelude.{◌≡◌, ◌∷◌, ◌++◌, List, [], ℕ, length, drop, Some, OnOk, IsSome, if◌then◌else◌, Option, IfOk};
 ghost use Rattle.std.specs.List.{list_any};
-ghost use Rattle.std.specs.Option.{option_copied};
+ghost use Rattle.std.specs.Option.{option_copied, option_map, unwrap_or};
 ghost use Rattle.std.specs.Str.{bytes_eq};
-ghost use Rattle.markup.specs.Events.{declared_prefix, bound_by, namespace_of};
+ghost use Rattle.std.specs.Cmp.Lexicographic.{slice_cmp};
+ghost use Rattle.std.specs.Ordering.{nat_cmp};
+ghost use Rattle.markup.specs.Events.{declared_prefix, namespace_of};
 ghost use Rattle.markup.specs.Bindings.{Binds, place_in, declares};
+ghost use Rattle.markup.specs.Origins.{declared_namespace, namespace_from};
 ghost use Rattle.markup.specs.Scopes.{all_declarations};
 
-use crate::names::bound_ahead;
+use crate::names::XML_NAMESPACE;
+use crate::namespace::Namespace;
+use crate::origin::{Origin, is_one, origin_ahead};
 use crate::tag::{Given, Opening};
 use lexical_core::Text;
 use std::alloc::{AllocError, Global};
+use std::cmp::Ordering;
 use std::collections::BTreeMap;
 
 /// A declaration that is open.
 #[derive(Drop)]
 pub(crate) struct Binding {
     prefix: Text,
-    namespace: Text,
+    namespace: Namespace,
     /// The place of the latest declaration of the prefix before this one.
     former: Option<usize>,
 }
@@ -67,6 +73,7 @@ impl Bindings {
         ensures { (declared : List Given) (given : Given) → Binds self.old declared → declared_prefix given.name ≡ Some prefix → given.value ≡ namespace → OnOk result (Binds self.new (given ∷ declared)) }
     {
         let key = prefix.copy(self.alloc)?.into_vec();
+        let namespace = Namespace::from_text(namespace)?;
         let former = self.latest.insert(key, self.open.len())?;
         self.open.push(Binding {
             prefix,
@@ -100,27 +107,83 @@ impl Bindings {
         }
     }
 
-    /// The namespace that the latest declaration of the prefix binds it to.
-    fn bound_by<'a>(&'a self, prefix: &[u8]) -> Option<&'a [u8]>
-        ensures { (declared : List Given) → Binds self.now declared → option_copied result ≡ bound_by declared prefix.now }
+    /// What gives the prefix its namespace, the empty one for the default; `None` where it is not
+    /// bound (Namespaces §6.1, §6.2).
+    pub(crate) fn origin_of(&self, prefix: &[u8]) -> Option<Origin>
+        ensures { (tags : List Opening) → Binds self.now (all_declarations tags) → option_map (namespace_from self.now) result ≡ namespace_of tags prefix.now }
     {
-        let Some(place) = self.latest.get(prefix) else {
-            return None;
-        };
-        match self.open.get(*place) {
-            Some(binding) => Some(binding.namespace.bytes()),
+        match self.latest.get(prefix) {
+            Some(place) => Some(Origin::Declared(*place)),
+            None => origin_ahead(prefix),
+        }
+    }
+
+    /// The namespace of the declaration at the place.
+    fn declared_at(&self, place: usize) -> Option<&Namespace>
+        ensures { unwrap_or (option_copied result) [] ≡ declared_namespace self.now place }
+    {
+        match self.open.get(place) {
+            Some(binding) => Some(&binding.namespace),
             None => None,
+        }
+    }
+
+    /// The bytes of a namespace.
+    fn bytes_of(&self, origin: Origin) -> &[u8]
+        ensures { result.now ≡ namespace_from self.now origin }
+    {
+        match origin {
+            Origin::Nothing => b"",
+            Origin::Xml => XML_NAMESPACE,
+            Origin::Declared(place) => match self.declared_at(place) {
+                Some(namespace) => namespace.bytes(),
+                None => b"",
+            },
+        }
+    }
+
+    /// How two namespaces stand by their bytes. Those of one origin are the same, however long.
+    pub(crate) fn namespace_cmp(&self, left: Origin, right: Origin) -> Ordering
+        ensures { result ≡ slice_cmp nat_cmp (namespace_from self.now left) (namespace_from self.now right) }
+    {
+        if is_one(left, right) {
+            return Ordering::Equal;
+        }
+        self.bytes_of(left).cmp(self.bytes_of(right))
+    }
+
+    /// Whether two namespaces are one. Those of one origin are, however long.
+    pub(crate) fn is_same(&self, left: Origin, right: Origin) -> bool
+        ensures { result ≡ bytes_eq (namespace_from self.now left) (namespace_from self.now right) }
+    {
+        if is_one(left, right) {
+            return true;
+        }
+        self.bytes_of(left) == self.bytes_of(right)
+    }
+
+    /// The namespace of an origin, shared with its declaration.
+    pub(crate) fn share(&self, origin: Origin) -> Result<Namespace, AllocError>
+        ensures { IfOk result (λ n. n ≡ namespace_from self.now origin) }
+    {
+        match origin {
+            Origin::Nothing => Ok(Namespace::none()),
+            Origin::Xml => Namespace::from_slice(XML_NAMESPACE, self.alloc),
+            Origin::Declared(place) => match self.declared_at(place) {
+                Some(namespace) => namespace.share(),
+                None => Ok(Namespace::none()),
+            },
         }
     }
 
     /// The namespace of a prefix, the empty one for the default; `None` where it is not bound
     /// (Namespaces §6.1, §6.2).
-    pub(crate) fn namespace_of<'a>(&'a self, prefix: &[u8]) -> Option<&'a [u8]>
-        ensures { (tags : List Opening) → Binds self.now (all_declarations tags) → option_copied result ≡ namespace_of tags prefix.now }
+    pub(crate) fn namespace_of(&self, prefix: &[u8]) -> Result<Option<Namespace>, AllocError>
+        ensures { (tags : List Opening) → Binds self.now (all_declarations tags) → IfOk result (λ (n : Option (List ℕ)). n ≡ namespace_of tags prefix.now) }
     {
-        match self.bound_by(prefix) {
-            Some(bound) => Some(bound),
-            None => bound_ahead(prefix),
+        match self.origin_of(prefix) {
+            Some(origin) => Ok(Some(self.share(origin)?)),
+            None => Ok(None),
         }
     }
 }

@@ -1,11 +1,12 @@
 // What a reader tells: the events of a text, with their places.
+use crate::namespace::Namespace;
 use lexical_core::{Items, Text};
 
 /// An attribute that is no declaration: its expanded name and its value as bytes of UTF-8
 /// (Namespaces in XML 1.0 §2.1).
 #[derive(Drop)]
 pub struct Attr {
-    pub ns: Text,
+    pub ns: Namespace,
     pub local: Text,
     pub value: Text,
 }
@@ -17,12 +18,19 @@ pub type Attrs = Items<Attr>;
 #[derive(Drop)]
 pub enum What {
     /// An element starts.
-    Start { ns: Text, local: Text, attrs: Attrs },
+    Start {
+        ns: Namespace,
+        local: Text,
+        attrs: Attrs,
+    },
     /// A character of the text, a literal one or one that a reference gives. A line end is an LF
     /// (XML 1.0 §2.11).
     Char(char),
     /// The innermost open element ends.
-    End { ns: Text, local: Text },
+    End {
+        ns: Namespace,
+        local: Text,
+    },
     /// Markup that says nothing of the tree: the byte order mark, the XML declaration, a comment, an instruction, the
     /// ends of a CDATA section.
     Skipped,

@@ -13,7 +13,9 @@ mod inside;
 pub mod laws;
 mod literals;
 mod names;
+mod namespace;
 mod open_names;
+mod origin;
 mod plain_tag;
 pub mod reader;
 mod reference;
@@ -26,6 +28,7 @@ mod word;
 
 pub use event::{Attr, Attrs, Event, Events, What};
 pub use literals::Run;
+pub use namespace::Namespace;
 pub use plain_tag::{PlainTag, TagKind};
 pub use reader::{MarkError, MarkFault, Reader};
 

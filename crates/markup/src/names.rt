@@ -2,7 +2,7 @@
 ghost use Rattle.std.specs.Prelude.{◌≡◌, [], Some, codes, not, if◌then◌else◌};
 ghost use Rattle.std.specs.Str.{bytes_eq};
 ghost use Rattle.std.specs.Option.{option_copied};
-ghost use Rattle.markup.specs.Events.{declared_prefix, namespace_of, xml_namespace};
+ghost use Rattle.markup.specs.Events.{declared_prefix, xml_namespace};
 ghost use Rattle.markup.specs.Faults.{is_bad_declaration};
 
 use crate::tag::Spelled;
@@ -11,10 +11,10 @@ use crate::tag::Spelled;
 const XMLNS: &[u8] = b"xmlns";
 
 /// The prefix that is bound without a declaration (Namespaces §3).
-const XML: &[u8] = b"xml";
+pub(crate) const XML: &[u8] = b"xml";
 
 /// The namespace that the prefix `xml` is bound to (Namespaces §3).
-const XML_NAMESPACE: &[u8] = b"http://www.w3.org/XML/1998/namespace";
+pub(crate) const XML_NAMESPACE: &[u8] = b"http://www.w3.org/XML/1998/namespace";
 
 /// The namespace that the prefix `xmlns` stands for (Namespaces §3).
 const XMLNS_NAMESPACE: &[u8] = b"http://www.w3.org/2000/xmlns/";
@@ -60,17 +60,4 @@ pub(crate) fn is_bad_declaration(prefix: &[u8], namespace: &[u8]) -> bool
         return true;
     }
     !is_empty(prefix) && is_empty(namespace)
-}
-
-/// The namespace that a prefix has without a declaration (Namespaces §3, §6.2).
-pub(crate) fn bound_ahead(prefix: &[u8]) -> Option<&'static [u8]>
-    ensures { option_copied result ≡ namespace_of [] prefix.now }
-{
-    if is_empty(prefix) {
-        Some(b"")
-    } else if prefix == XML {
-        Some(XML_NAMESPACE)
-    } else {
-        None
-    }
 }

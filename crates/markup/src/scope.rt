@@ -11,14 +11,15 @@ ghost use Rattle.markup.specs.PlainTags.{tag_text, may_be_named, IsPlainInside, 
 ghost use Rattle.markup.specs.Scopes.{all_declarations, placed_at};
 ghost use Rattle.std.specs.Str.{bytes_eq};
 
-use crate::attributes::{Expanded, Parted, text_of};
+use crate::attributes::{Expanded, Parted};
 use crate::bindings::Bindings;
 use crate::event::{Attrs, Events};
+use crate::namespace::Namespace;
 use crate::open_names::{InnermostName, OpenNames};
 use crate::plain_tag::{PlainTag, TagKind, tag_at};
 use crate::tag::{Given, Opening, Spelled};
 use crate::telling::{tell_both, tell_end, tell_start};
-use lexical_core::{Items, Rule, Text};
+use lexical_core::{Items, Rule};
 use std::alloc::{AllocError, Global};
 
 /// Why an element is not told.
@@ -33,7 +34,7 @@ pub(crate) enum Stop {
 #[derive(Drop)]
 pub(crate) struct Resolved {
     /// The namespace of the element; `None` where its prefix is bound to nothing.
-    namespace: Option<Text>,
+    namespace: Option<Namespace>,
     attrs: Attrs,
     /// How many namespaces the tag declares.
     declared: usize,
@@ -132,7 +133,7 @@ impl Scope {
         let outer = self.bindings.count();
         let parts = Parted::of(given, &mut self.bindings, self.alloc)?;
         let declared = self.bindings.count().saturating_sub(outer);
-        let namespace = namespace_text(&self.bindings, name.prefix.bytes(), self.alloc)?;
+        let namespace = self.bindings.namespace_of(name.prefix.bytes())?;
         let expanded = Expanded::of(parts.attributes, &self.bindings, self.alloc)?;
         Ok(Resolved {
             namespace,
@@ -148,7 +149,7 @@ impl Scope {
         &mut self,
         name: Spelled,
         declared: usize,
-        ns: Text,
+        ns: Namespace,
         attrs: Attrs,
         place: u64,
         out: &mut Events,
@@ -169,7 +170,7 @@ impl Scope {
         &mut self,
         name: Spelled,
         declared: usize,
-        ns: Text,
+        ns: Namespace,
         attrs: Attrs,
         place: u64,
         out: &mut Events,
@@ -213,7 +214,7 @@ impl Scope {
         ensures tells { (tag : Opening) (tags : List Opening) → IsScope self.old (tag ∷ tags) → tag.name ≡ name → OnOk result (Tells out.old out.new (placed_at place (end_items (tag ∷ tags)))) }
         ensures err { OnErr result (out.new ≡ out.old) }
     {
-        let namespace = namespace_text(&self.bindings, name.prefix.bytes(), self.alloc)?;
+        let namespace = self.bindings.namespace_of(name.prefix.bytes())?;
         self.forget_innermost();
         tell_end(out, place, namespace, name.local)
     }
@@ -256,20 +257,6 @@ impl Scope {
                 Ok(())
             }
         }
-    }
-}
-
-/// The namespace of a prefix as a text of its own; `None` where it is not bound.
-fn namespace_text(
-    bindings: &Bindings,
-    prefix: &[u8],
-    alloc: Global,
-) -> Result<Option<Text>, AllocError>
-    ensures { (tags : List Opening) → Binds bindings.now (all_declarations tags) → IfOk result (λ (n : Option (List ℕ)). n ≡ namespace_of tags prefix.now) }
-{
-    match bindings.namespace_of(prefix) {
-        Some(namespace) => Ok(Some(text_of(namespace, alloc)?)),
-        None => Ok(None),
     }
 }
 

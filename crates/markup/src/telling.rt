@@ -6,6 +6,7 @@ ghost use Rattle.markup.specs.EventItems.{entry_of, Tells, TellsFront};
 ghost use Rattle.markup.specs.Scopes.{placed_at};
 
 use crate::event::{Attrs, Event, Events, What};
+use crate::namespace::Namespace;
 use lexical_core::Text;
 use std::alloc::{AllocError, Global};
 
@@ -21,7 +22,7 @@ fn tell(out: &mut Events, place: u64, what: What) -> Result<(), AllocError>
 pub(crate) fn tell_start(
     out: &mut Events,
     place: u64,
-    ns: Text,
+    ns: Namespace,
     local: Text,
     attrs: Attrs,
 ) -> Result<(), AllocError>
@@ -35,7 +36,7 @@ pub(crate) fn tell_start(
 pub(crate) fn tell_end(
     out: &mut Events,
     place: u64,
-    namespace: Option<Text>,
+    namespace: Option<Namespace>,
     local: Text,
 ) -> Result<(), AllocError>
     ensures ok { OnOk result (Tells out.old out.new (placed_at place (ended (expanded namespace local)))) }
@@ -51,7 +52,7 @@ pub(crate) fn tell_end(
 pub(crate) fn tell_both(
     out: &mut Events,
     place: u64,
-    ns: Text,
+    ns: Namespace,
     local: Text,
     attrs: Attrs,
     alloc: Global,
@@ -59,7 +60,7 @@ pub(crate) fn tell_both(
     ensures ok { OnOk result (Tells out.old out.new (placed_at place (started (expanded (Some ns) local) (map entry_of attrs) true))) }
     ensures err { OnErr result (TellsFront out.old out.new (placed_at place (started (expanded (Some ns) local) (map entry_of attrs) true))) }
 {
-    let ns_again = ns.copy(alloc)?;
+    let ns_again = ns.share()?;
     let local_again = local.copy(alloc)?;
     tell_start(out, place, ns, local, attrs)?;
     tell_end(out, place, Some(ns_again), local_again)

@@ -96,7 +96,7 @@ static BEHIND_ROOT: [(&str, Verdict); 37] = [
 ];
 
 /// Texts by themselves.
-static ALONE: [(&str, Verdict); 16] = [
+static ALONE: [(&str, Verdict); 18] = [
     ("", At(Truncated, 0)),
     ("<!DOCTYPE a>", At(Doctype, 0)),
     ("<Em><![CDATA[]]></Em>", Whole),
@@ -112,6 +112,14 @@ static ALONE: [(&str, Verdict); 16] = [
     ("<?xmlx?><a/>", Whole),
     (
         "<a xmlns:xml=\"u\" xmlns:q=\"u\" xml:b=\"\" q:b=\"\"/>",
+        At(DuplicateAttribute, 0),
+    ),
+    (
+        "<a xmlns:p=\"u\" p:b=\"\" c=\"\" p:b=\"\"/>",
+        At(DuplicateAttribute, 0),
+    ),
+    (
+        "<a xmlns:p=\"u\" xmlns:q=\"u\" p:b=\"\" p:c=\"\" q:b=\"\"/>",
         At(DuplicateAttribute, 0),
     ),
     ("<a xmlns:xml=\"u\"/>", At(BadPrefix, 0)),
@@ -266,6 +274,27 @@ static SMALL_EVENTS: [(u64, Told); 8] = [
     (89, Told::End(("u", "a"))),
 ];
 
+static SHARED: &str =
+    "<p:a xmlns:p=\"u\" xmlns:q=\"u\" q:c=\"3\" p:b=\"2\" a=\"1\" xml:d=\"4\" p:e=\"5\"/>";
+
+/// Attributes of one namespace stand together, whatever declares it, and each is told with it.
+static SHARED_EVENTS: [(u64, Told); 2] = [
+    (
+        0,
+        Told::Start(
+            ("u", "a"),
+            &[
+                (("", "a"), "1"),
+                (("http://www.w3.org/XML/1998/namespace", "d"), "4"),
+                (("u", "b"), "2"),
+                (("u", "c"), "3"),
+                (("u", "e"), "5"),
+            ],
+        ),
+    ),
+    (0, Told::End(("u", "a"))),
+];
+
 static LINES: &str = "<a>\r\n\r\n\n\r\r&#13;\r</a>";
 
 /// Each line end is one LF (XML 1.0 §2.11), and a reference gives the CR that it names.
@@ -341,6 +370,7 @@ fn check_events(rt: &impl Abort, alloc: Global, text: &str, rows: &[(u64, Told)]
 fn events_of_texts(rt: HostRuntime) {
     check_events(&rt, rt.alloc(), PREFIXED, &PREFIXED_EVENTS);
     check_events(&rt, rt.alloc(), SMALL, &SMALL_EVENTS);
+    check_events(&rt, rt.alloc(), SHARED, &SHARED_EVENTS);
     check_events(&rt, rt.alloc(), LINES, &LINE_EVENTS);
 }
 

@@ -1,7 +1,7 @@
 // Rows of fragments: XML with the fragment of its root, and bytes that are fragments or not.
 use super::{Respell, is_fragment};
 use lexical_core::Text;
-use markup::{Attrs, Event, Events, Reader, TagKind, What};
+use markup::{Attrs, Event, Events, Namespace, Reader, TagKind, What};
 use std::alloc::{AllocError, Global};
 
 /// The most bytes that are read of a row.
@@ -88,7 +88,7 @@ fn start_of(alloc: Global, ns: &[u8], local: &[u8]) -> Result<Event, AllocError>
     Ok(Event {
         place: 0,
         what: What::Start {
-            ns: Text::from_vec(Vec::from_slice(alloc, ns)?),
+            ns: Namespace::from_slice(ns, alloc)?,
             local: Text::from_vec(Vec::from_slice(alloc, local)?),
             attrs: Attrs::new(alloc),
         },

@@ -1,7 +1,7 @@
 -- One more attribute is collected.
 use Rattle.std.proofs.Common.{[], ◌∷◌, ◌++◌, reverse}
 use Rattle.markup.proofs.TagPartLemmas.{reverse_popped}
-use Rattle.markup.proofs.attributes.Expanded.collected.Goals as goal
+use Rattle.markup.proofs.attributes.Collected.of.Goals as goal
 
 pub loop-next-preserved : goal.loop-next-preserved
 loop-next-preserved c =
