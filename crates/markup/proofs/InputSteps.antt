@@ -7,15 +7,13 @@ use Rattle.markup.specs.Token.{Token, LineEnd, Character, Cr, token_bytes}
 use Rattle.markup.specs.Marks.{tag_limit}
 use Rattle.markup.specs.Events.{open_tags}
 use Rattle.markup.specs.Faults.{has_start, IsClean, Next, broken, MarkFault}
-use Rattle.markup.specs.Tokenizers.{IsAwaited, EndsToken, Advances, AdvancesBy, Settles, SettlesBy}
+use Rattle.markup.specs.Tokenizers.{Outcome, More, EndedToken, Refused, IsAwaited, EndsToken, Advances, AdvancesBy, Settles, SettlesBy}
 use Rattle.markup.specs.TokenRules.{one_more, brackets, settled_brackets}
 use Rattle.markup.specs.Inputs.{Reads, Begins, Any, settled_tokens, SettlesInput, Shows, ReadsToken, AdvancesInput}
 use Rattle.markup.specs.declared.draft.Draft.{Draft}
 use Rattle.markup.specs.declared.scan.Ended.{Ended}
 use Rattle.markup.specs.declared.tokenizer.Settled.{Settled}
 use Rattle.markup.specs.declared.tokenizer.Settled.TheVariants.{Nothing as NothingSettled, Return as ReturnSettled, Bracket as BracketSettled, Brackets as BracketsSettled}
-use Rattle.markup.specs.declared.tokenizer.Progress.{Progress}
-use Rattle.markup.specs.declared.tokenizer.Progress.TheVariants.{More, Token as EndedToken, Refused}
 use Rattle.markup.specs.declared.tokenizer.Tokenizer.{Tokenizer}
 use Rattle.markup.proofs.InputLemmas.{reverse_snoc, clean_snoc, reads_more, reads_token, reads_fault, reads_settled, reads_settled_two, reads_begins}
 use Rattle.markup.proofs.InputEvents.{events-settled, events-more, events-ended}
@@ -50,13 +48,13 @@ module _ (old new : Tokenizer) (input : List ℕ) (ts : List Token) (byte : ℕ)
     adds = λ f g p q. events-ended old new ts r.bytes byte f g r.opens p q w e d k;
   }
 
-  advanced_input : (r : Reads (Begins byte) old input ts) → IsAwaited old.scan byte → IsClean [] ts → (progress : Progress) → Advances new (reverse ts) (r.bytes ++ byte ∷ []) progress → AdvancesInput old new (input ++ byte ∷ []) ts progress
+  advanced_input : (r : Reads (Begins byte) old input ts) → IsAwaited old.scan byte → IsClean [] ts → (progress : Outcome) → Advances new (reverse ts) (r.bytes ++ byte ∷ []) progress → AdvancesInput old new (input ++ byte ∷ []) ts progress
   advanced_input r w c More k = record { reads = reads_more new input byte ts old r k; adds = λ f g p q. events-more old new ts r.bytes byte f g r.opens p q w k }
   advanced_input r w c (EndedToken e d) k = token_read r w c e d k
   advanced_input r w c (Refused rule) k = fault_shown r rule c k
 
   -- what a byte that is taken makes of the tokens
-  pub advances_input : (progress : Progress) → AdvancesBy old new byte progress → Reads (Begins byte) old input ts → IsAwaited old.scan byte → IsClean [] ts → AdvancesInput old new (input ++ byte ∷ []) ts progress
+  pub advances_input : (progress : Outcome) → AdvancesBy old new byte progress → Reads (Begins byte) old input ts → IsAwaited old.scan byte → IsClean [] ts → AdvancesInput old new (input ++ byte ∷ []) ts progress
   advances_input progress a r w c = advanced_input r w c progress (a (reverse ts) r.bytes r.opens w)
 
 -- tokens that a byte settles open and close no element

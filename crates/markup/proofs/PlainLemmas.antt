@@ -17,7 +17,7 @@ use Rattle.markup.specs.Scans.{line_step, goes_if, step}
 use Rattle.markup.specs.ScanRuns.{At, run, position, ended_of}
 use Rattle.markup.specs.Contexts.{IsContext}
 use Rattle.markup.specs.TokenRules.{is_cdata}
-use Rattle.markup.specs.Tokenizers.{after_other, on_turn, ended, charactered, counted, is_plain, is_between, starts_plain, TakesAlone, TakesPlain, AdvancedBy, is_pending, IsAwaited, IsOpen, Advances, SettlesBy, open_at, FinishesBy}
+use Rattle.markup.specs.Tokenizers.{EndedToken, after_other, on_turn, ended, charactered, counted, is_plain, is_between, is_text, starts_plain, TakesAlone, TakesPlain, AdvancedBy, is_pending, IsAwaited, IsOpen, Advances, SettlesBy, open_at, FinishesBy}
 use Rattle.markup.specs.Inputs.{is_return}
 use Rattle.markup.specs.Reading.{HasTaken, GoesOn, Stops}
 use Rattle.markup.specs.ReaderSteps.{SettlesEvents, TokenAnswered}
@@ -34,7 +34,6 @@ use Rattle.markup.specs.declared.scan.Scan.TheVariants.{Begin, AfterReturn, Brac
 use Rattle.markup.specs.declared.scan.Turn.TheVariants.{Goes, Whole}
 use Rattle.markup.specs.declared.tokenizer.Finish.{Finish}
 use Rattle.markup.specs.declared.tokenizer.Settled.TheVariants.{Nothing}
-use Rattle.markup.specs.declared.tokenizer.Progress.TheVariants.{Token as EndedToken}
 use Rattle.markup.specs.declared.tokenizer.Tokenizer.{Tokenizer}
 use Rattle.markup.proofs.CharLemmas.{xml_scalar}
 use Rattle.markup.proofs.EventTells.{tells_none}
@@ -44,30 +43,34 @@ use Rattle.markup.proofs.SettleLemmas.{finishes_by}
 use Rattle.markup.proofs.TokenizerLemmas.{advances_by}
 
 -- a plain byte is ASCII, a character of XML, and none that opens or ends a line, a reference, markup or a section
-pub plain_ascii : (c : ℕ) → is_plain c ≡ true → c < 128
-plain_ascii c h = grind (arith, nat_tests)
+pub plain_ascii : (text : Bool) (c : ℕ) → is_plain text c ≡ true → c < 128
+plain_ascii text c h = grind (arith, nat_tests)
 
-plain_xml : (c : ℕ) → is_plain c ≡ true → is_xml_char c ≡ true
+plain_xml : (text : Bool) (c : ℕ) → is_plain text c ≡ true → is_xml_char c ≡ true
 unfolding is_xml_char
-plain_xml c h = grind (arith, nat_tests)
+plain_xml text c h = grind (arith, nat_tests)
 
-plain_not : (c : ℕ) → is_plain c ≡ true → ((c == 60) ≡ false) × ((c == 38) ≡ false) × ((c == 93) ≡ false) × ((c == 13) ≡ false) × ((c == 10) ≡ false)
-plain_not c h = (grind (arith, nat_tests), grind (arith, nat_tests), grind (arith, nat_tests), grind (arith, nat_tests), grind (arith, nat_tests))
+plain_not : (text : Bool) (c : ℕ) → is_plain text c ≡ true → ((c == 60) ≡ false) × ((c == 38) ≡ false) × ((c == 13) ≡ false) × ((c == 10) ≡ false)
+plain_not text c h = (grind (arith, nat_tests), grind (arith, nat_tests), grind (arith, nat_tests), grind (arith, nat_tests))
+
+-- in a CDATA section it begins no end of the section
+plain_inside : (c : ℕ) → is_plain false c ≡ true → (c == 93) ≡ false
+plain_inside c h = grind (arith, nat_tests)
 
 -- so it is a token where one begins
-line_plain : (c : ℕ) → is_plain c ≡ true → line_step c ≡ Whole (Character c)
-line_plain c h =
-    let n = plain_not c h in
-    subst (λ (b : Bool). (if b then Goes AfterReturn else (if c == 10 then Whole LineEnd else goes_if (is_xml_char c) (Whole (Character c)))) ≡ Whole (Character c)) (sym n.3)
-    (subst (λ (b : Bool). (if b then Whole LineEnd else goes_if (is_xml_char c) (Whole (Character c))) ≡ Whole (Character c)) (sym n.4)
-    (subst (λ (b : Bool). goes_if b (Whole (Character c)) ≡ Whole (Character c)) (sym (plain_xml c h)) refl))
+line_plain : (text : Bool) (c : ℕ) → is_plain text c ≡ true → line_step c ≡ Whole (Character c)
+line_plain text c h =
+    let n = plain_not text c h in
+    subst (λ (b : Bool). (if b then Goes AfterReturn else (if c == 10 then Whole LineEnd else goes_if (is_xml_char c) (Whole (Character c)))) ≡ Whole (Character c)) (sym n.2)
+    (subst (λ (b : Bool). (if b then Whole LineEnd else goes_if (is_xml_char c) (Whole (Character c))) ≡ Whole (Character c)) (sym n.3)
+    (subst (λ (b : Bool). goes_if b (Whole (Character c)) ≡ Whole (Character c)) (sym (plain_xml text c h)) refl))
 
-plain_step : (s : Scan) (c : ℕ) → is_between s ≡ true → is_plain c ≡ true → step s c ≡ Whole (Character c)
+plain_step : (s : Scan) (c : ℕ) → is_between s ≡ true → is_plain (is_text s) c ≡ true → step s c ≡ Whole (Character c)
 plain_step (Begin Text) c b h =
-    let n = plain_not c h in
+    let n = plain_not true c h in
     subst (λ (b : Bool). (if b then Goes (Opened false) else (if c == 38 then Goes (Reference Begun) else line_step c)) ≡ Whole (Character c)) (sym n.0)
-    (subst (λ (b : Bool). (if b then Goes (Reference Begun) else line_step c) ≡ Whole (Character c)) (sym n.1) (line_plain c h))
-plain_step (Begin Cdata) c b h = subst (λ (b : Bool). (if b then Goes Bracket else line_step c) ≡ Whole (Character c)) (sym (plain_not c h).2) (line_plain c h)
+    (subst (λ (b : Bool). (if b then Goes (Reference Begun) else line_step c) ≡ Whole (Character c)) (sym n.1) (line_plain true c h))
+plain_step (Begin Cdata) c b h = subst (λ (b : Bool). (if b then Goes Bracket else line_step c) ≡ Whole (Character c)) (sym (plain_inside c h)) (line_plain false c h)
 plain_step _ c b h = absurd (both_ways false refl b)
 
 -- no byte is open
@@ -127,7 +130,7 @@ behind_same z u p s d =
 abbrev behind_plain : Tokenizer → Tokenizer
 behind_plain z = made z z.utf8 z.position z.scan z.draft
 
-module _ (z : Tokenizer) (byte : ℕ) (between : is_between z.scan ≡ true) (starts : (z.place == z.start) ≡ true) (plain : is_plain byte ≡ true) where
+module _ (z : Tokenizer) (byte : ℕ) (between : is_between z.scan ≡ true) (starts : (z.place == z.start) ≡ true) (plain : is_plain (is_text z.scan) byte ≡ true) where
   module _ (before : List Token) (bytes : List ℕ) (o : IsOpen z before bytes) (w : IsAwaited z.scan byte) where
     fresh : IsFresh z
     fresh = is_fresh z between starts before bytes o
@@ -136,7 +139,7 @@ module _ (z : Tokenizer) (byte : ℕ) (between : is_between z.scan ≡ true) (st
     advanced = record {
       utf8 = Char byte;
       begun = Some [];
-      steps = subst (λ u. Steps u byte (Char byte) (Some [])) (sym fresh.utf8_none) (xml_scalar byte (plain_xml byte plain), encode_ascii byte (plain_ascii byte plain), refl);
+      steps = subst (λ u. Steps u byte (Char byte) (Some [])) (sym fresh.utf8_none) (xml_scalar byte (plain_xml (is_text z.scan) byte plain), encode_ascii byte (plain_ascii (is_text z.scan) byte plain), refl);
       value = refl;
       after = refl;
     }
@@ -160,7 +163,7 @@ module _ (z : Tokenizer) (byte : ℕ) (between : is_between z.scan ≡ true) (st
 
 pub takes_plain : (z : Tokenizer) (byte : ℕ) → starts_plain z byte ≡ true → TakesPlain z (behind_plain z) byte
 takes_plain z byte h =
-    let a = and_parts (is_between z.scan && z.place == z.start) (is_plain byte) h in
+    let a = and_parts (is_between z.scan && z.place == z.start) (is_plain (is_text z.scan) byte) h in
     let b = and_parts (is_between z.scan) (z.place == z.start) a.0 in
     takes_parts z byte b.0 b.1 a.1
 

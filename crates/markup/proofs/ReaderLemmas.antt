@@ -1,10 +1,11 @@
 -- A reader behind one more byte, and at the end of the input.
-use Rattle.std.proofs.Common.{◌≡◌, ℕ, true, false, ◌+◌, ◌<◌, ◌^◌, List, [], ◌∷◌, ◌++◌, length, reverse, Some, None, ⊎_elim, if◌then◌else◌, refl, sym, ◌∙◌, ap, subst, append_assoc, append-nil, length-append, arith}
+use Rattle.std.proofs.Common.{◌≡◌, ℕ, Bool, true, false, ◌+◌, ◌<◌, ◌^◌, List, [], ◌∷◌, ◌++◌, length, reverse, Some, None, ⊎_elim, if◌then◌else◌, refl, sym, ◌∙◌, ap, subst, append_assoc, append-nil, length-append, arith}
 use Rattle.std.specs.List.{flat_map}
 use Rattle.std.proofs.lemmas.Bool.{both_ways}
 use Rattle.lexical_core.specs.declared.rule.Rule.{Rule}
 use Rattle.lexical_core.specs.declared.rule.Rule.TheVariants.{Truncated}
-use Rattle.markup.specs.Token.{Token, LineEnd, Line, Cr, CrLf, token_bytes}
+use Rattle.markup.specs.Drafts.{no_draft}
+use Rattle.markup.specs.Token.{Token, Start, End, LineEnd, Line, Cr, CrLf, token_bytes}
 use Rattle.markup.specs.Marks.{in_cdata, Cell, Front, tag_limit}
 use Rattle.markup.specs.Events.{Placed, events, items_of, open_tags}
 use Rattle.markup.specs.Faults.{rule_of, IsClean, MarkFault, is_over}
@@ -13,8 +14,8 @@ use Rattle.markup.specs.EventItems.{Tells, TellsFront, TellsClean}
 use Rattle.markup.specs.Scopes.{placed_at}
 use Rattle.markup.specs.Contexts.{IsContext, TakesToken}
 use Rattle.markup.specs.ScanRuns.{ended_of, draft_of}
-use Rattle.markup.specs.TokenRules.{items_by, is_cdata}
-use Rattle.markup.specs.Tokenizers.{IsOpen, IsAwaited, Finishes, FinishesBy, SettlesBy, EndsToken, AdvancesBy, open_at}
+use Rattle.markup.specs.TokenRules.{items_by, is_cdata, ends_tag}
+use Rattle.markup.specs.Tokenizers.{More, EndedToken, Refused, undrafted, handed_out, IsOpen, IsAwaited, Finishes, FinishesBy, SettlesBy, EndsToken, AdvancesBy, open_at}
 use Rattle.markup.specs.Inputs.{Reads, Any, Begins, with_pending, is_cut, is_return, settled_tokens, settled_events, SettlesInput, ReadsMore, ReadsToken}
 use Rattle.markup.specs.Reading.{Keeps, HasTaken, HasTold, GoesOn, Refuses, RunsOut, Stops, IsWholly}
 use Rattle.markup.specs.declared.reader.MarkError.{MarkError}
@@ -30,7 +31,6 @@ use Rattle.markup.specs.declared.tokenizer.Settled.{Settled}
 use Rattle.markup.specs.declared.tokenizer.Finish.{Finish}
 use Rattle.markup.specs.declared.tokenizer.Finish.TheVariants.{Nothing, Return, Open}
 use Rattle.markup.specs.declared.tokenizer.Tokenizer.{Tokenizer}
-use Rattle.markup.specs.declared.tokenizer.Progress.TheVariants.{More, Token as EndedToken, Refused}
 use Rattle.markup.proofs.SettleLemmas.{finishes_by}
 use Rattle.markup.proofs.InputLemmas.{front_snoc, reverse_snoc, clean_snoc, reads_start, reads_none, reads_token}
 use Rattle.markup.proofs.OneFault.{behind}
@@ -52,6 +52,23 @@ finish_is z = finishes_by z (finish_of z) refl
 
 none : ◌≡◌ {A = List ℕ} [] (13 ∷ []) → ⊥
 none h = cc
+
+-- nothing is handed out where nothing is held
+pub kept : (z : Tokenizer) → z.draft ≡ no_draft → undrafted z ≡ z
+kept z h = ap (λ d. record { alloc = z.alloc; utf8 = z.utf8; position = z.position; scan = z.scan; draft = d; start = z.start; place = z.place }) (sym h)
+
+-- a token that is no tag says nothing
+no_tag : (t : Token) → ends_tag (ended_of t) ≡ false → draft_of t ≡ no_draft
+no_tag (Start t) h = absurd (both_ways true h refl)
+no_tag (End n g) h = absurd (both_ways true h refl)
+no_tag _ h = refl
+
+-- so it is left as it stands
+pub handed : (e : Ended) (z : Tokenizer) (before : List Token) (bytes : List ℕ) → EndsToken (undrafted z) before bytes e z.draft → handed_out e z ≡ undrafted z
+handed e z before bytes t = by (ends_tag e) refl where
+  by : (b : Bool) → ends_tag e ≡ b → (if b then undrafted z else z) ≡ undrafted z
+  by true h = refl
+  by false h = sym (kept z (sym t.draft_is ∙ no_tag t.token (ap ends_tag t.ended_is ∙ h)))
 
 -- before the first byte
 pub new_taken : (z : Tokenizer) (c : Context) → IsOpen z [] [] → z.place ≡ 0 → IsContext c [] → HasTaken (record { tokenizer = z; context = c; failed = None }) [] []
@@ -267,37 +284,41 @@ module _ (reader : Reader) (input : List ℕ) (ts : List Token) (told : List Pla
       token_stopped NoMemory h = token_out h
 
     -- a line end whose CR was told
-    pub return_ok : (e : Ended) (d : Draft) → AdvancesBy reader.tokenizer z byte (EndedToken e d) → (h : Finish) → FinishesBy reader.tokenizer h → is_return h ≡ true → (c : Context) → ((before : List Token) (line : Line) → IsContext reader.context before → IsContext c (LineEnd line ∷ before)) → new ≡ old → TellsMore Any (record { tokenizer = z; context = c; failed = reader.failed }) (input ++ byte ∷ []) told old new
-    return_ok e d a h q n c i s = record {
-      tokens = ts ++ LineEnd CrLf ∷ [];
-      more = [];
-      tells = tells_none old new s;
-      keeps = record {
-        reads = subst (λ t. Reads Any z (input ++ byte ∷ []) (ts ++ t ∷ [])) joined (reads_token z input byte ts reader.tokenizer k.reads e d t);
-        clean = clean_snoc ts (LineEnd CrLf) k.clean refl;
-        place = place_now;
-        context = subst (IsContext c) (sym (reverse_snoc ts (LineEnd CrLf))) (i (reverse ts) CrLf k.context);
-        told_are = told_now;
-        sound = k.sound;
-      };
-    } where
-      t : EndsToken z (reverse ts) (k.reads.bytes ++ byte ∷ []) e d
-      t = a (reverse ts) k.reads.bytes k.reads.opens w
+    module _ (e : Ended) (d : Draft) (a : AdvancesBy reader.tokenizer z byte (EndedToken e d)) (h : Finish) (q : FinishesBy reader.tokenizer h) (n : is_return h ≡ true) where
+      line : EndsToken z (reverse ts) (k.reads.bytes ++ byte ∷ []) e d
+      line = a (reverse ts) k.reads.bytes k.reads.opens w
 
       return_bytes : (h : Finish) → Finishes (reverse ts) k.reads.bytes h → is_return h ≡ true → k.reads.bytes ≡ token_bytes (LineEnd Cr)
       return_bytes Nothing g n = absurd (both_ways false refl n)
       return_bytes Open g n = absurd (both_ways false refl n)
       return_bytes Return g n = g.0
 
-      joined : t.token ≡ LineEnd CrLf
-      joined = ends_crlf reader.tokenizer z (reverse ts) k.reads.bytes byte e d k.reads.opens (return_bytes h (q (reverse ts) k.reads.bytes k.reads.opens) n) w t
+      joined : line.token ≡ LineEnd CrLf
+      joined = ends_crlf reader.tokenizer z (reverse ts) k.reads.bytes byte e d k.reads.opens (return_bytes h (q (reverse ts) k.reads.bytes k.reads.opens) n) w line
 
-      told_now : (g : Finish) → FinishesBy z g → told ++ [] ≡ events [] 0 (with_pending g (ts ++ LineEnd CrLf ∷ []))
-      told_now g r =
-          ap (λ v. v ++ []) (k.told_are h q)
-          ∙ (ap (λ b. events [] 0 (with_pending h ts) ++ (if b then [] else placed_at (length (flat_map token_bytes ts)) (items_by (open_tags (reverse ts)) e d))) (sym n)
-          ∙ (sym (events-ended reader.tokenizer z ts k.reads.bytes byte h g k.reads.opens q r w e d t)
-          ∙ ap (λ v. events [] 0 (with_pending g (ts ++ v ∷ []))) joined))
+      pub return_draft : d ≡ no_draft
+      return_draft = sym line.draft_is ∙ ap draft_of joined
+
+      pub return_ok : (c : Context) → ((before : List Token) (line : Line) → IsContext reader.context before → IsContext c (LineEnd line ∷ before)) → new ≡ old → TellsMore Any (record { tokenizer = z; context = c; failed = reader.failed }) (input ++ byte ∷ []) told old new
+      return_ok c i s = record {
+        tokens = ts ++ LineEnd CrLf ∷ [];
+        more = [];
+        tells = tells_none old new s;
+        keeps = record {
+          reads = subst (λ t. Reads Any z (input ++ byte ∷ []) (ts ++ t ∷ [])) joined (reads_token z input byte ts reader.tokenizer k.reads e d line);
+          clean = clean_snoc ts (LineEnd CrLf) k.clean refl;
+          place = place_now;
+          context = subst (IsContext c) (sym (reverse_snoc ts (LineEnd CrLf))) (i (reverse ts) CrLf k.context);
+          told_are = told_now;
+          sound = k.sound;
+        };
+      } where
+        told_now : (g : Finish) → FinishesBy z g → told ++ [] ≡ events [] 0 (with_pending g (ts ++ LineEnd CrLf ∷ []))
+        told_now g r =
+            ap (λ v. v ++ []) (k.told_are h q)
+            ∙ (ap (λ b. events [] 0 (with_pending h ts) ++ (if b then [] else placed_at (length (flat_map token_bytes ts)) (items_by (open_tags (reverse ts)) e d))) (sym n)
+            ∙ (sym (events-ended reader.tokenizer z ts k.reads.bytes byte h g k.reads.opens q r w e d line)
+            ∙ ap (λ v. events [] 0 (with_pending g (ts ++ v ∷ []))) joined))
 
 -- both steps
 pub step_ok : (r1 r2 : Reader) (bytes : List ℕ) (told : List Placed) (byte : ℕ) (o0 o1 o2 : List Event) (s : SettlesEvents r1 bytes told byte o0 o1) → TellsMore Any r2 (bytes ++ byte ∷ []) (told ++ s.tells.more) o1 o2 → GoesOn r2 (bytes ++ byte ∷ []) told o0 o2

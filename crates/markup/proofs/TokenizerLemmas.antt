@@ -20,7 +20,7 @@ use Rattle.markup.specs.Faults.{GoesOn, NoToken, IsTagBegun, no_char, bad_char, 
 use Rattle.markup.specs.Drafts.{no_draft, noted}
 use Rattle.markup.specs.Scans.{step}
 use Rattle.markup.specs.ScanRuns.{At, turned, run, placed, position, ended_of, ReadToken}
-use Rattle.markup.specs.Tokenizers.{after_other, behind, is_tag, is_reference, stuck_rule, bounded, ended, scanned, on_turn, charactered, counted, on_utf8, AdvancedBy, is_pending, IsAwaited, IsOpen, EndsToken, Advances, AdvancesBy}
+use Rattle.markup.specs.Tokenizers.{Outcome, More, Refused, outcome, after_other, behind, is_tag, is_reference, stuck_rule, bounded, ended, scanned, on_turn, charactered, counted, on_utf8, AdvancedBy, is_pending, IsAwaited, IsOpen, EndsToken, Advances, AdvancesBy}
 use Rattle.markup.specs.declared.scan.Scan.{Scan}
 use Rattle.markup.specs.declared.scan.Scan.TheVariants.{Begin, AfterReturn, Bracket, Brackets, Value, ValueReference}
 use Rattle.markup.specs.declared.scan.Ended.{Ended}
@@ -28,7 +28,7 @@ use Rattle.markup.specs.declared.scan.Turn.{Turn}
 use Rattle.markup.specs.declared.scan.Turn.TheVariants.{Goes, Whole, Stuck}
 use Rattle.markup.specs.declared.tokenizer.Tokenizer.{Tokenizer}
 use Rattle.markup.specs.declared.tokenizer.Progress.{Progress}
-use Rattle.markup.specs.declared.tokenizer.Progress.TheVariants.{More, Refused}
+use Rattle.markup.specs.declared.tokenizer.Progress.TheVariants.{More as Continues, Token as Ends, Refused as Refuses}
 use Rattle.markup.proofs.CharLemmas.{xml_scalar, start_not}
 use Rattle.markup.proofs.NameLemmas.{name_begins, BeginsName}
 use Rattle.markup.proofs.Spans.{heads, tails}
@@ -349,14 +349,14 @@ module _ (z : Tokenizer) (before : List Token) (bytes : List ℕ) (byte : ℕ) (
   utf8_here (Char c) begun s = subst (λ v. Advances (charactered (counted z v) c).1 before (bytes ++ byte ∷ []) (charactered (counted z v) c).0) (sym s.2) (char_here c s.0 s.1)
 
 -- a byte gives the next token, or the next fault
-pub advances_by : (old new : Tokenizer) (byte : ℕ) (progress : Progress) → AdvancedBy old new byte progress → AdvancesBy old new byte progress
+pub advances_by : (old new : Tokenizer) (byte : ℕ) (progress : Outcome) → AdvancedBy old new byte progress → AdvancesBy old new byte progress
 advances_by old new byte progress a before bytes o w =
     subst (λ p. Advances new before (bytes ++ byte ∷ []) p) (sym a.value)
     (subst (λ y. Advances y before (bytes ++ byte ∷ []) (on_utf8 (counted old a.begun) a.utf8).0) (sym a.after)
     (utf8_here old before bytes byte o w a.utf8 a.begun (subst (λ u. Steps u byte a.utf8 a.begun) o.utf8_is a.steps)))
 
-pub if_advanced : (r : Result Progress AllocError) (old new : Tokenizer) (byte : ℕ) → IfOk r (λ p. AdvancedBy old new byte p) → IfOk r (λ p. AdvancesBy old new byte p)
-if_advanced (Ok p) old new byte h = advances_by old new byte p h
+pub if_advanced : (r : Result Progress AllocError) (old new : Tokenizer) (byte : ℕ) → IfOk r (λ p. AdvancedBy old (outcome p new).1 byte (outcome p new).0) → IfOk r (λ p. AdvancesBy old (outcome p new).1 byte (outcome p new).0)
+if_advanced (Ok p) old new byte h = advances_by old (outcome p new).1 byte (outcome p new).0 h
 if_advanced (Err e) old new byte h = tt
 
 -- a byte is counted
@@ -370,9 +370,14 @@ utf8_place z MoreBytes = refl
 utf8_place z Bad = refl
 utf8_place z (Char c) = turned_place z c (step z.scan c)
 
-pub advanced_place : (old new : Tokenizer) (byte : ℕ) (progress : Progress) → AdvancedBy old new byte progress → new.place ≡ old.place + 1
+pub advanced_place : (old new : Tokenizer) (byte : ℕ) (progress : Outcome) → AdvancedBy old new byte progress → new.place ≡ old.place + 1
 advanced_place old new byte progress a = ap (λ (z : Tokenizer). z.place) a.after ∙ utf8_place (counted old a.begun) a.utf8
 
-pub if_place : (r : Result Progress AllocError) (old new : Tokenizer) (byte : ℕ) → IfOk r (λ p. AdvancedBy old new byte p) → IfOk r (λ _. new.place ≡ old.place + 1)
-if_place (Ok p) old new byte h = advanced_place old new byte p h
+outcome_place : (p : Progress) (z : Tokenizer) → (outcome p z).1.place ≡ z.place
+outcome_place Continues z = refl
+outcome_place (Ends e) z = refl
+outcome_place (Refuses rule) z = refl
+
+pub if_place : (r : Result Progress AllocError) (old new : Tokenizer) (byte : ℕ) → IfOk r (λ p. AdvancedBy old (outcome p new).1 byte (outcome p new).0) → IfOk r (λ _. new.place ≡ old.place + 1)
+if_place (Ok p) old new byte h = sym (outcome_place p new) ∙ advanced_place old (outcome p new).1 byte (outcome p new).0 h
 if_place (Err e) old new byte h = tt

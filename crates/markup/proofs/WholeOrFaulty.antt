@@ -11,15 +11,13 @@ use Rattle.lexical_core.specs.declared.utf8.Utf8.TheVariants.{More as MoreBytes,
 use Rattle.markup.specs.Token.{Token}
 use Rattle.markup.specs.Faults.{rule_of, is_over, IsClean, Fault, MarkFault, IsWhole, WholeOrFaulty}
 use Rattle.markup.specs.Drafts.{no_draft}
-use Rattle.markup.specs.Tokenizers.{AdvancedBy, on_utf8, counted, settled, open_at, FinishesBy}
+use Rattle.markup.specs.Tokenizers.{Outcome, More, EndedToken, Refused, AdvancedBy, on_utf8, counted, settled, open_at, FinishesBy}
 use Rattle.markup.specs.Inputs.{Reads, Any, is_cut, AdvancesInput, SettlesInput, settled_tokens}
 use Rattle.markup.specs.declared.scan.Position.TheVariants.{Start as AtStart}
 use Rattle.markup.specs.declared.scan.Scan.TheVariants.{Begin}
 use Rattle.markup.specs.declared.tokenizer.Settled.{Settled}
 use Rattle.markup.specs.declared.tokenizer.Finish.{Finish}
 use Rattle.markup.specs.declared.tokenizer.Finish.TheVariants.{Nothing, Return, Open}
-use Rattle.markup.specs.declared.tokenizer.Progress.{Progress}
-use Rattle.markup.specs.declared.tokenizer.Progress.TheVariants.{More, Token as EndedToken, Refused}
 use Rattle.markup.specs.declared.tokenizer.Tokenizer.{Tokenizer}
 use Rattle.markup.proofs.InputEnds.{ends_whole, ends_open, ends_cut}
 use Rattle.markup.proofs.InputLemmas.{reads_none}
@@ -128,7 +126,7 @@ module _ (input : List ℕ) (byte : ℕ) (h : HasRead input) where
   ts = settled_tokens s h.tokens
 
   -- what the byte makes of the open token
-  advanced : (progress : Progress) (z2 : Tokenizer) → z2.place ≡ length (input ++ byte ∷ []) → AdvancesInput z1 z2 (input ++ byte ∷ []) ts progress → HasRead (input ++ byte ∷ []) ⊎ IsFaulty (input ++ byte ∷ [])
+  advanced : (progress : Outcome) (z2 : Tokenizer) → z2.place ≡ length (input ++ byte ∷ []) → AdvancesInput z1 z2 (input ++ byte ∷ []) ts progress → HasRead (input ++ byte ∷ []) ⊎ IsFaulty (input ++ byte ∷ [])
   advanced More z2 p a = inl (record { z = z2; tokens = ts; reads = a.reads; clean = ready.clean; place = p })
   advanced (EndedToken e d) z2 p a = by (rule_of (reverse ts) a.token) refl where
     by : (o : Option Rule) → rule_of (reverse ts) a.token ≡ o → HasRead (input ++ byte ∷ []) ⊎ IsFaulty (input ++ byte ∷ [])
@@ -141,7 +139,7 @@ module _ (input : List ℕ) (byte : ℕ) (h : HasRead input) where
       let part : List ℕ = ready.reads.opens.part in
       let u : Stepped part byte = stepped part byte in
       let z2 : Tokenizer = (on_utf8 (counted z1 u.new) u.utf8).1 in
-      let progress : Progress = (on_utf8 (counted z1 u.new) u.utf8).0 in
+      let progress : Outcome = (on_utf8 (counted z1 u.new) u.utf8).0 in
       let a : AdvancedBy z1 z2 byte progress = record { utf8 = u.utf8; begun = u.new; steps = subst (λ v. Steps v byte u.utf8 u.new) (sym ready.reads.opens.utf8_is) u.steps; value = refl; after = refl } in
       advanced progress z2 (advanced_place z1 z2 byte progress a ∙ (ap (λ n. n + 1) (settled_place h.z z1 byte refl ∙ h.place) ∙ sym (length-append input (byte ∷ []))))
       (advances_input z1 z2 input ts byte progress (advances_by z1 z2 byte progress a) ready.reads ready.awaited ready.clean)

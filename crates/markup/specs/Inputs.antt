@@ -9,7 +9,7 @@ use Rattle.lexical_core.specs.Tree.{Char}
 use Rattle.markup.specs.Events.{Placed, open_tags, events}
 use Rattle.markup.specs.Scopes.{placed_at}
 use Rattle.markup.specs.ScanRuns.{ended_of, draft_of}
-use Rattle.markup.specs.Tokenizers.{IsOpen, IsAwaited, FinishesBy}
+use Rattle.markup.specs.Tokenizers.{Outcome, More, EndedToken, Refused, IsOpen, IsAwaited, FinishesBy}
 use Rattle.markup.specs.TokenRules.{items_by}
 use Rattle.markup.specs.declared.draft.Draft.{Draft}
 use Rattle.markup.specs.declared.scan.Ended.{Ended}
@@ -17,8 +17,6 @@ use Rattle.markup.specs.declared.tokenizer.Settled.{Settled}
 use Rattle.markup.specs.declared.tokenizer.Settled.TheVariants.{Nothing as NothingSettled, Return as ReturnSettled, Bracket as BracketSettled, Brackets as BracketsSettled}
 use Rattle.markup.specs.declared.tokenizer.Finish.{Finish}
 use Rattle.markup.specs.declared.tokenizer.Finish.TheVariants.{Return, Open}
-use Rattle.markup.specs.declared.tokenizer.Progress.{Progress}
-use Rattle.markup.specs.declared.tokenizer.Progress.TheVariants.{More, Token as EndedToken, Refused}
 use Rattle.markup.specs.declared.tokenizer.Tokenizer.{Tokenizer}
 
 -- The reader has read these tokens of the input, and the rest of it is open; whatever may follow that the fact allows.
@@ -94,7 +92,7 @@ pub record ReadsToken (old new : Tokenizer) (input : List ℕ) (ts : List Token)
   pub adds : Adds old new ts (ts ++ token ∷ []) (λ f g. if is_return f then [] else placed_at (length (flat_map token_bytes ts)) (items_by (open_tags (reverse ts)) e d))
 
 -- what the last byte of the input has made of these tokens
-abbrev pub AdvancesInput : Tokenizer → Tokenizer → List ℕ → List Token → Progress → Type 0
+abbrev pub AdvancesInput : Tokenizer → Tokenizer → List ℕ → List Token → Outcome → Type 0
 AdvancesInput old new input ts More = ReadsMore old new input ts
 AdvancesInput old new input ts (EndedToken e d) = ReadsToken old new input ts e d
 AdvancesInput old new input ts (Refused rule) = Shows input ts rule

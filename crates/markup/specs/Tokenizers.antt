@@ -1,5 +1,5 @@
 -- What the reader of tokens keeps and gives. Private functions alone cite this.
-use Rattle.std.specs.Prelude.{◌≡◌, ℕ, Bool, ◌==◌, ◌&&◌, ◌+◌, ◌-◌, ◌<◌, nat_le, not, true, false, List, [], ◌∷◌, ◌++◌, length, Option, Some, if◌then◌else◌, encode_utf8_all}
+use Rattle.std.specs.Prelude.{◌≡◌, ℕ, Bool, ◌==◌, ◌&&◌, ◌||◌, ◌+◌, ◌-◌, ◌<◌, nat_le, not, true, false, List, [], ◌∷◌, ◌++◌, length, Option, Some, if◌then◌else◌, encode_utf8_all}
 use Rattle.lexical_core.specs.Utf8.{Steps, IsFront}
 use Rattle.lexical_core.specs.declared.utf8.Utf8.{Utf8}
 use Rattle.lexical_core.specs.declared.utf8.Utf8.TheVariants.{More as MoreBytes, Char, Bad}
@@ -11,6 +11,7 @@ use Rattle.markup.specs.Marks.{stands, is_short, tag_limit}
 use Rattle.markup.specs.Faults.{IsTagBegun, Next}
 use Rattle.markup.specs.Drafts.{no_draft, noted}
 use Rattle.markup.specs.Scans.{step}
+use Rattle.markup.specs.TokenRules.{ends_tag}
 use Rattle.markup.specs.ScanRuns.{run, At, position, ended_of, draft_of}
 use Rattle.markup.specs.declared.draft.Draft.{Draft}
 use Rattle.markup.specs.declared.scan.Position.{Position}
@@ -27,7 +28,13 @@ use Rattle.markup.specs.declared.tokenizer.Settled.TheVariants.{Nothing, Return,
 use Rattle.markup.specs.declared.tokenizer.Finish.{Finish}
 use Rattle.markup.specs.declared.tokenizer.Finish.TheVariants.{Nothing as NothingOpen, Return as ReturnOpen, Open}
 use Rattle.markup.specs.declared.tokenizer.Progress.{Progress}
-use Rattle.markup.specs.declared.tokenizer.Progress.TheVariants.{More, Token as EndedToken, Refused}
+use Rattle.markup.specs.declared.tokenizer.Progress.TheVariants.{More as Continues, Token as Ends, Refused as Refuses}
+
+-- what a byte makes of the open token, with what it has said, where it is a tag that has ended
+pub data Outcome : Type 0 where
+  More : Outcome
+  EndedToken : (ended : Ended) (draft : Draft) → Outcome
+  Refused : (rule : Rule) → Outcome
 
 -- where a token begins behind others
 abbrev pub after_other : Position → Position
@@ -68,35 +75,49 @@ abbrev pub stuck_rule : Scan → ℕ → Rule
 stuck_rule s c = if not (is_xml_char c) then BadChar else (if is_reference s then BadReference else BadMarkup)
 
 -- A tag that has not ended has fewer bytes than the limit.
-abbrev pub bounded : Tokenizer → Progress
+abbrev pub bounded : Tokenizer → Outcome
 bounded z = if is_tag z.scan && nat_le tag_limit (z.place - z.start) then Refused BadMarkup else More
 
+-- what a tag has said is handed out
+abbrev pub undrafted : Tokenizer → Tokenizer
+undrafted z = record { alloc = z.alloc; utf8 = z.utf8; position = z.position; scan = z.scan; draft = no_draft; start = z.start; place = z.place }
+
+-- where it has ended
+abbrev pub handed_out : Ended → Tokenizer → Tokenizer
+handed_out e z = if ends_tag e then undrafted z else z
+
+-- It is part of what the byte makes of the open token.
+abbrev pub outcome : Progress → Tokenizer → Outcome × Tokenizer
+outcome Continues z = (More, z)
+outcome (Ends e) z = (EndedToken e z.draft, undrafted z)
+outcome (Refuses rule) z = (Refused rule, z)
+
 -- a token has ended
-abbrev pub ended : Tokenizer → Ended → Progress × Tokenizer
+abbrev pub ended : Tokenizer → Ended → Outcome × Tokenizer
 ended z e = (EndedToken e z.draft, record { alloc = z.alloc; utf8 = z.utf8; position = behind z.position e; scan = Begin (behind z.position e); draft = no_draft; start = z.place; place = z.place })
 
 abbrev pub scanned : Tokenizer → Scan → Draft → Tokenizer
 scanned z s d = record { alloc = z.alloc; utf8 = z.utf8; position = z.position; scan = s; draft = d; start = z.start; place = z.place }
 
-abbrev pub on_turn : Tokenizer → ℕ → Turn → Progress × Tokenizer
+abbrev pub on_turn : Tokenizer → ℕ → Turn → Outcome × Tokenizer
 on_turn z c (Goes s) = (bounded (scanned z s (noted z.scan s c z.draft)), scanned z s (noted z.scan s c z.draft))
 on_turn z c (Whole e) = ended z e
 on_turn z c Stuck = (Refused (stuck_rule z.scan c), z)
 
 -- a character is taken
-abbrev pub charactered : Tokenizer → ℕ → Progress × Tokenizer
+abbrev pub charactered : Tokenizer → ℕ → Outcome × Tokenizer
 charactered z c = on_turn z c (step z.scan c)
 
 abbrev pub counted : Tokenizer → Option (List ℕ) → Tokenizer
 counted z u = record { alloc = z.alloc; utf8 = u; position = z.position; scan = z.scan; draft = z.draft; start = z.start; place = z.place + 1 }
 
-abbrev pub on_utf8 : Tokenizer → Utf8 → Progress × Tokenizer
+abbrev pub on_utf8 : Tokenizer → Utf8 → Outcome × Tokenizer
 on_utf8 z MoreBytes = (bounded z, z)
 on_utf8 z Bad = (Refused BadUtf8, z)
 on_utf8 z (Char c) = charactered z c
 
 -- a byte is taken
-pub record AdvancedBy (old new : Tokenizer) (byte : ℕ) (progress : Progress) : Type 0 where
+pub record AdvancedBy (old new : Tokenizer) (byte : ℕ) (progress : Outcome) : Type 0 where
   pub utf8 : Utf8
   pub begun : Option (List ℕ)
   pub steps : Steps old.utf8 byte utf8 begun
@@ -141,18 +162,18 @@ pub record EndsToken (new : Tokenizer) (before : List Token) (bytes : List ℕ) 
   pub next : IsOpen new (token ∷ before) []
 
 -- what the byte that ends these bytes has made of the open token
-abbrev pub Advances : Tokenizer → List Token → List ℕ → Progress → Type 0
+abbrev pub Advances : Tokenizer → List Token → List ℕ → Outcome → Type 0
 Advances new before bytes More = IsOpen new before bytes
 Advances new before bytes (EndedToken e d) = EndsToken new before bytes e d
 Advances new before bytes (Refused rule) = (more : List ℕ) → Next tag_limit before (bytes ++ more) rule 0
 
 -- A byte gives the next token where it ends it, and the next fault where it shows it, behind any tokens.
-abbrev pub AdvancesBy : Tokenizer → Tokenizer → ℕ → Progress → Type 0
+abbrev pub AdvancesBy : Tokenizer → Tokenizer → ℕ → Outcome → Type 0
 AdvancesBy old new byte progress = (before : List Token) (bytes : List ℕ) → IsOpen old before bytes → IsAwaited old.scan byte → Advances new before (bytes ++ byte ∷ []) progress
 
--- a byte that is a character by itself, in text and in a CDATA section (XML 1.0 §2.4, §2.7)
-abbrev pub is_plain : ℕ → Bool
-is_plain byte = nat_le 32 byte && nat_le byte 127 && not (byte == 60) && not (byte == 38) && not (byte == 93)
+-- a byte that is a character by itself, in text or in a CDATA section (XML 1.0 §2.4, §2.7)
+abbrev pub is_plain : Bool → ℕ → Bool
+is_plain text byte = nat_le 32 byte && nat_le byte 127 && not (byte == 60) && not (byte == 38) && (text || not (byte == 93))
 
 -- a token begins behind another that is not the byte order mark
 abbrev pub is_between : Scan → Bool
@@ -160,18 +181,18 @@ is_between (Begin Text) = true
 is_between (Begin Cdata) = true
 is_between _ = false
 
--- none of its bytes has come, and this one is all of it
-abbrev pub starts_plain : Tokenizer → ℕ → Bool
-starts_plain z byte = is_between z.scan && z.place == z.start && is_plain byte
-
--- no token is open, and one begins behind another that is not the byte order mark
-abbrev pub is_ready : Tokenizer → Bool
-is_ready z = is_between z.scan && z.place == z.start
-
 -- a token begins behind another that is not the byte order mark, in no CDATA section
 abbrev pub is_text : Scan → Bool
 is_text (Begin Text) = true
 is_text _ = false
+
+-- none of its bytes has come, and this one is all of it
+abbrev pub starts_plain : Tokenizer → ℕ → Bool
+starts_plain z byte = is_between z.scan && z.place == z.start && is_plain (is_text z.scan) byte
+
+-- no token is open, and one begins behind another that is not the byte order mark
+abbrev pub is_ready : Tokenizer → Bool
+is_ready z = is_between z.scan && z.place == z.start
 
 -- none of its bytes has come
 abbrev pub is_in_text : Tokenizer → Bool
@@ -182,7 +203,7 @@ abbrev pub passed : Tokenizer → ℕ → Tokenizer
 passed z n = record { alloc = z.alloc; utf8 = z.utf8; position = z.position; scan = z.scan; draft = z.draft; start = z.place + n; place = z.place + n }
 
 -- The byte makes this of the open token: it settles nothing, and leaves nothing for the next byte to settle.
-pub record TakesAlone (old new : Tokenizer) (byte : ℕ) (progress : Progress) : Type 0 where
+pub record TakesAlone (old new : Tokenizer) (byte : ℕ) (progress : Outcome) : Type 0 where
   pub advances : AdvancesBy old new byte progress
   pub settled : is_pending old.scan ≡ false
   pub leaves : is_pending new.scan ≡ false

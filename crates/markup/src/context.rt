@@ -38,6 +38,14 @@ pub(crate) struct Context {
 }
 
 impl Ended {
+    /// Whether a start tag or an end tag has ended.
+    #[inline]
+    pub(crate) fn is_tag(self) -> bool
+        ensures { result ≡ ends_tag self }
+    {
+        matches!(self, Ended::Start(_) | Ended::End)
+    }
+
     /// The event of a token that is no tag.
     #[inline]
     fn what(self) -> What

@@ -1,5 +1,5 @@
 // A reader of XML that takes a byte at a time.
-ghost use Rattle.std.specs.Prelude.{◌≡◌, ◌<◌, ◌≤◌, ◌^◌, ◌+◌, ◌∷◌, ◌++◌, ℕ, List, [], IfOk, IfErr, IfSome, IsSome, OnOk, IsTrue, IsFalse, true, Some, None, Err, length, take};
+ghost use Rattle.std.specs.Prelude.{◌≡◌, ◌<◌, ◌≤◌, ◌^◌, ◌+◌, ◌∷◌, ◌++◌, ℕ, List, [], IfOk, IfErr, IfSome, IsSome, OnOk, IsTrue, IsFalse, true, Some, None, Err, false, length, take};
 ghost use Rattle.std.specs.List.{prefix_len, list_all};
 ghost use Rattle.markup.specs.Chars.{is_space};
 ghost use Rattle.lexical_core.specs.declared.rule.Rule.TheVariants.{Truncated};
@@ -7,9 +7,9 @@ ghost use Rattle.markup.specs.Token.{Token};
 ghost use Rattle.markup.specs.Marks.{in_cdata, tag_limit};
 ghost use Rattle.markup.specs.Faults.{MarkFault as HasMarkFault};
 ghost use Rattle.markup.specs.ScanRuns.{ended_of, draft_of};
-ghost use Rattle.markup.specs.declared.scan.Ended.TheVariants.{Character};
 ghost use Rattle.markup.specs.Contexts.{IsContext};
-ghost use Rattle.markup.specs.Tokenizers.{IsAwaited, FinishesBy};
+ghost use Rattle.markup.specs.TokenRules.{ends_tag};
+ghost use Rattle.markup.specs.Tokenizers.{IsAwaited, FinishesBy, undrafted, handed_out};
 ghost use Rattle.markup.specs.ReaderSteps.{TellsMore, SettlesEvents, TokenAnswered, returned, IsReady};
 ghost use Rattle.markup.specs.Literals.{is_literal, IsRun, characters_from};
 ghost use Rattle.markup.specs.Events.{Placed};
@@ -23,7 +23,6 @@ ghost use Rattle.markup.specs.Reading.{taken, failed, token, token_length, HasTa
 ghost use Rattle.markup.specs.Inputs.{Any, Begins, is_return};
 
 use crate::context::Context;
-use crate::draft::Draft;
 use crate::event::Events;
 use crate::literals::{Run, literal_run};
 use crate::plain_tag::{PlainTag, TagKind};
@@ -271,7 +270,7 @@ impl Reader {
         let place = self.tokenizer.start();
         let cdata = self.tokenizer.in_cdata();
         if self.tokenizer.take_plain(byte) {
-            return self.take_character(byte, cdata, place, out);
+            return self.take_inner(Ended::Character(byte as char), cdata, place, out);
         }
         self.step_any(byte, out)
     }
@@ -319,12 +318,12 @@ impl Reader {
         let is_told = self.has_open_return();
         match self.tokenizer.advance(byte) {
             Ok(Progress::More) => self.tell_return(place, out),
-            Ok(Progress::Token(ended, draft)) => {
+            Ok(Progress::Token(ended)) => {
                 if is_told {
                     self.context.pass_line_end();
                     Ok(())
                 } else {
-                    self.take_token(ended, draft, cdata, place, out)
+                    self.take_token(ended, cdata, place, out)
                 }
             }
             Ok(Progress::Refused(rule)) => Err(MarkError::Refused(MarkFault { rule, place })),
@@ -352,18 +351,38 @@ impl Reader {
     }
 
     /// Takes a token that has ended.
+    #[inline]
     fn take_token(
         &mut self,
         ended: Ended,
-        draft: Draft,
         cdata: bool,
         place: u64,
         out: &mut Events,
     ) -> Result<(), MarkError>
-        ensures token { (before : List Token) (t : Token) → IsContext self.old.context before → ended_of t ≡ ended → draft_of t ≡ draft → in_cdata before ≡ cdata →
+        ensures token { (before : List Token) (t : Token) → IsContext self.old.context before → ended_of t ≡ ended → draft_of t ≡ self.old.tokenizer.draft → in_cdata before ≡ cdata →
             TokenAnswered before t place out.old out.new self.new.context result }
-        ensures rest { (self.new.tokenizer ≡ self.old.tokenizer) × (self.new.failed ≡ self.old.failed) }
+        ensures rest { (self.new.tokenizer ≡ handed_out ended self.old.tokenizer) × (self.new.failed ≡ self.old.failed) }
     {
+        if ended.is_tag() {
+            self.take_whole_tag(ended, cdata, place, out)
+        } else {
+            self.take_inner(ended, cdata, place, out)
+        }
+    }
+
+    /// Takes a tag that has ended.
+    fn take_whole_tag(
+        &mut self,
+        ended: Ended,
+        cdata: bool,
+        place: u64,
+        out: &mut Events,
+    ) -> Result<(), MarkError>
+        ensures token { (before : List Token) (t : Token) → IsContext self.old.context before → ended_of t ≡ ended → draft_of t ≡ self.old.tokenizer.draft → in_cdata before ≡ cdata →
+            TokenAnswered before t place out.old out.new self.new.context result }
+        ensures rest { (self.new.tokenizer ≡ undrafted self.old.tokenizer) × (self.new.failed ≡ self.old.failed) }
+    {
+        let draft = self.tokenizer.take_draft();
         match self.context.take(ended, draft, cdata, place, out) {
             Ok(()) => Ok(()),
             Err(Stop::Rule(rule)) => Err(MarkError::Refused(MarkFault { rule, place })),
@@ -371,20 +390,20 @@ impl Reader {
         }
     }
 
-    /// Takes a character of one byte that is a token.
+    /// Takes a token that is no tag.
     #[inline]
-    fn take_character(
+    fn take_inner(
         &mut self,
-        byte: u8,
+        ended: Ended,
         cdata: bool,
         place: u64,
         out: &mut Events,
     ) -> Result<(), MarkError>
-        ensures token { (before : List Token) (t : Token) → IsContext self.old.context before → ended_of t ≡ Character byte → in_cdata before ≡ cdata →
+        requires { ends_tag ended ≡ false }
+        ensures token { (before : List Token) (t : Token) → IsContext self.old.context before → ended_of t ≡ ended → in_cdata before ≡ cdata →
             TokenAnswered before t place out.old out.new self.new.context result }
         ensures rest { (self.new.tokenizer ≡ self.old.tokenizer) × (self.new.failed ≡ self.old.failed) }
     {
-        let ended = Ended::Character(byte as char);
         match self.context.take_inner(ended, cdata, place, out) {
             Ok(()) => Ok(()),
             Err(Stop::Rule(rule)) => Err(MarkError::Refused(MarkFault { rule, place })),

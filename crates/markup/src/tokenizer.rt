@@ -14,12 +14,12 @@ use std::mem;
 pub(crate) const TAG_LIMIT: u64 = 1_048_576;
 
 /// What a byte gives.
-#[derive(Drop)]
+#[derive(Clone, Copy)]
 pub(crate) enum Progress {
     /// The token goes on.
     More,
-    /// The byte has ended this token, and the tag, where it is one, said this.
-    Token(Ended, Draft),
+    /// The byte has ended this token. Where it is a tag, what it said is still held.
+    Token(Ended),
     /// The byte shows that no token goes on so.
     Refused(Rule),
 }
@@ -81,13 +81,13 @@ impl Position {
     }
 }
 
-/// Whether the byte is a character by itself, in text and in a CDATA section (XML 1.0 §2.4, §2.7):
-/// one from 0x20 to 0x7F that is not `<`, `&` or `]`.
+/// Whether the byte is a character by itself, in text or in a CDATA section (XML 1.0 §2.4, §2.7):
+/// one from 0x20 to 0x7F that is not `<` or `&`, and in a CDATA section not `]`.
 #[inline]
-fn is_plain(byte: u8) -> bool
-    ensures { result ≡ is_plain byte }
+fn is_plain(is_text: bool, byte: u8) -> bool
+    ensures { result ≡ is_plain is_text byte }
 {
-    byte >= 0x20 && byte <= 0x7F && byte != b'<' && byte != b'&' && byte != b']'
+    byte >= 0x20 && byte <= 0x7F && byte != b'<' && byte != b'&' && (is_text || byte != b']')
 }
 
 impl Scan {
@@ -159,7 +159,7 @@ impl Tokenizer {
     ghost use Rattle.markup.specs.Marks.{tag_limit};
     ghost use Rattle.markup.specs.Drafts.{held};
     ghost use Rattle.markup.specs.TokenRules.{is_cdata};
-    ghost use Rattle.markup.specs.Tokenizers.{bounded, ended, charactered, AdvancedBy, AdvancesBy, IsOpen, restarted, settled, SettlesBy, open_at, FinishesBy, starts_plain, TakesPlain, is_ready, is_in_text, passed};
+    ghost use Rattle.markup.specs.Tokenizers.{bounded, ended, undrafted, outcome, charactered, AdvancedBy, AdvancesBy, IsOpen, restarted, settled, SettlesBy, open_at, FinishesBy, starts_plain, TakesPlain, is_ready, is_in_text, passed};
 
     /// A reader before the first byte. It takes no memory.
     pub(crate) fn new(alloc: Global) -> Tokenizer
@@ -266,8 +266,9 @@ impl Tokenizer {
     }
 
     /// A tag that has not ended may not have all the bytes that it may have.
+    #[inline]
     fn bounded(&self) -> Progress
-        ensures { result ≡ bounded self.now }
+        ensures { outcome result self.now ≡ (bounded self.now, self.now) }
     {
         if self.scan.is_tag() && self.place.saturating_sub(self.start) >= TAG_LIMIT {
             Progress::Refused(Rule::BadMarkup)
@@ -277,20 +278,28 @@ impl Tokenizer {
     }
 
     /// The token has ended.
+    #[inline]
     fn end(&mut self, token: Ended) -> Progress
-        ensures value { result ≡ (ended self.old token).0 }
-        ensures after { self.new ≡ (ended self.old token).1 }
+        ensures { outcome result self.new ≡ ended self.old token }
     {
         self.position = self.position.behind(token);
         self.scan = Scan::Begin(self.position);
         self.start = self.place;
-        Progress::Token(token, mem::replace(&mut self.draft, Draft::new(self.alloc)))
+        Progress::Token(token)
+    }
+
+    /// What the tag said that has ended.
+    #[inline]
+    pub(crate) fn take_draft(&mut self) -> Draft
+        ensures value { result ≡ self.old.draft }
+        ensures after { self.new ≡ undrafted self.old }
+    {
+        mem::replace(&mut self.draft, Draft::new(self.alloc))
     }
 
     /// Takes a character.
     fn character(&mut self, c: char) -> Result<Progress, AllocError>
-        ensures value { IfOk result (λ p. p ≡ (charactered self.old c).0) }
-        ensures after { IfOk result (λ _. self.new ≡ (charactered self.old c).1) }
+        ensures { IfOk result (λ p. outcome p self.new ≡ charactered self.old c) }
     {
         match self.scan.step(c) {
             Turn::Goes(scan) => {
@@ -333,7 +342,7 @@ impl Tokenizer {
     fn starts_plain(&self, byte: u8) -> bool
         ensures { result ≡ starts_plain self.now byte }
     {
-        self.scan.is_between() && self.place == self.start && is_plain(byte)
+        self.scan.is_between() && self.place == self.start && is_plain(self.scan.is_text(), byte)
     }
 
     /// Takes a byte that is a token by itself, where none is open; else nothing changes. It does
@@ -383,7 +392,7 @@ impl Tokenizer {
     /// before.
     pub(crate) fn advance(&mut self, byte: u8) -> Result<Progress, AllocError>
         requires { self.old.place < 2 ^ 40 }
-        ensures advances { IfOk result (λ p. AdvancesBy self.old self.new byte p) }
+        ensures advances { IfOk result (λ p. AdvancesBy self.old (outcome p self.new).1 byte (outcome p self.new).0) }
         ensures place { IfOk result (λ _. self.new.place ≡ self.old.place + 1) }
     {
         self.take(byte)
@@ -392,7 +401,7 @@ impl Tokenizer {
     /// Takes a byte.
     fn take(&mut self, byte: u8) -> Result<Progress, AllocError>
         requires { self.old.place < 2 ^ 40 }
-        ensures { IfOk result (λ p. AdvancedBy self.old self.new byte p) }
+        ensures { IfOk result (λ p. AdvancedBy self.old (outcome p self.new).1 byte (outcome p self.new).0) }
     {
         self.place += 1;
         match self.utf8.take(byte) {

@@ -1,6 +1,6 @@
 use Rattle.std.proofs.Common.{refl, subst, ap, ◌∙◌, Err}
 use Rattle.markup.specs.Contexts.{TokenTaken}
-use Rattle.markup.proofs.reader.Reader.take_character.Goals as goal
+use Rattle.markup.proofs.reader.Reader.take_inner.Goals as goal
 
 pub returns-in-Err-Rule-clause-token : goal.returns-in-Err-Rule-clause-token
 returns-in-Err-Rule-clause-token c before t i e k =
