@@ -108,6 +108,7 @@ impl Draft {
     }
 
     /// Notes what a character of an open token says, by the scans before it and behind it.
+    #[inline]
     pub(crate) fn note(
         &mut self,
         from: Scan,

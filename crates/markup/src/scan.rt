@@ -218,6 +218,19 @@ impl NameScan {
 }
 
 impl Scan {
+    /// What the character makes of the token. A token's first character and those of a reference are
+    /// told apart before all else, since most that are taken one at a time are such.
+    #[inline]
+    pub(crate) fn turn(self, c: char) -> Turn
+        ensures { result ≡ step self c }
+    {
+        match self {
+            Scan::Begin(position) => begin(position, c),
+            Scan::Reference(scan) => in_reference(scan, c),
+            _ => self.step(c),
+        }
+    }
+
     /// What the character makes of the token.
     pub(crate) fn step(self, c: char) -> Turn
         ensures { result ≡ step self c }

@@ -301,7 +301,7 @@ impl Tokenizer {
     fn character(&mut self, c: char) -> Result<Progress, AllocError>
         ensures { IfOk result (λ p. outcome p self.new ≡ charactered self.old c) }
     {
-        match self.scan.step(c) {
+        match self.scan.turn(c) {
             Turn::Goes(scan) => {
                 self.draft.note(self.scan, scan, c, self.alloc)?;
                 self.scan = scan;
@@ -493,7 +493,7 @@ impl Tokenizer {
             return Ok(0);
         }
         let c = *byte as char;
-        let Turn::Goes(scan) = self.scan.step(c) else {
+        let Turn::Goes(scan) = self.scan.turn(c) else {
             return Ok(0);
         };
         self.draft.note(self.scan, scan, c, self.alloc)?;

@@ -6,6 +6,7 @@ use crate::characters::{begins_name, is_allowed};
 use crate::reference::{ReferenceScan, ReferenceTurn};
 use crate::scan::{Ended, NameScan, Position, Scan, Turn, goes_if};
 
+#[inline]
 pub(super) fn begin(position: Position, c: char) -> Turn
     ensures { result ≡ begin_step position c }
 {
@@ -23,6 +24,7 @@ pub(super) fn begin(position: Position, c: char) -> Turn
     }
 }
 
+#[inline]
 pub(super) fn in_text(first: bool, c: char) -> Turn
     ensures { result ≡ text_step first c }
 {
@@ -35,6 +37,7 @@ pub(super) fn in_text(first: bool, c: char) -> Turn
     }
 }
 
+#[inline]
 pub(super) fn in_line(c: char) -> Turn
     ensures { result ≡ line_step c }
 {
@@ -47,6 +50,7 @@ pub(super) fn in_line(c: char) -> Turn
     }
 }
 
+#[inline]
 pub(super) fn in_cdata(c: char) -> Turn
     ensures { result ≡ cdata_step c }
 {
@@ -57,6 +61,7 @@ pub(super) fn in_cdata(c: char) -> Turn
     }
 }
 
+#[inline]
 pub(super) fn in_reference(scan: ReferenceScan, c: char) -> Turn
     ensures { result ≡ reference_turn scan c }
 {
