@@ -13,3 +13,4 @@ pub mod Written
 pub mod DecimalLaws
 pub mod RealLaws
 pub mod StableSort
+pub mod LaneRuns

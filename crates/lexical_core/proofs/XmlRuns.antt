@@ -1,15 +1,16 @@
 -- A run of whole characters, found from the front.
-use Rattle.std.proofs.Common.{◌≡◌, ℕ, ◌+◌, ◌-◌, ◌<◌, ◌≤◌, ◌⊎◌, inl, inr, List, [], ◌∷◌, ◌++◌, length, take, drop, get_or, Option, Some, refl, sym, ◌∙◌, ap, subst, append_assoc, append-nil, length-append, take_all, arith, add-one, drop-cons}
+use Rattle.std.proofs.Common.{◌≡◌, ℕ, zero, suc, Bool, true, false, cond, ◌+◌, ◌-◌, ◌<◌, ◌≤◌, ◌≢◌, ◌⊎◌, inl, inr, List, [], ◌∷◌, ◌++◌, length, take, drop, get_or, Option, Some, refl, sym, ◌∙◌, ap, subst, append_assoc, append-nil, length-append, take_all, arith, add-one, drop-cons}
 use Rattle.std.specs.Char.{encode_utf8}
 use Rattle.std.specs.Str.{encode_utf8_all}
-use Rattle.std.specs.List.{AllByRecursion}
-use Rattle.std.proofs.lemmas.Bool.{cases_lt}
+use Rattle.std.specs.List.{AllByRecursion, prefix_len}
+use Rattle.std.proofs.lemmas.Bool.{cases_eq, cases_lt}
+use Rattle.std.proofs.lemmas.Bool.Decides.{nat_tests}
 use Rattle.std.proofs.lemmas.Str.{encode_ascii, length-encode, len_utf8_bounds, encodes-append}
 use Rattle.std.proofs.lemmas.List.{length-take-le, take-append-drop, take_more}
 use Rattle.std.proofs.Math.Seq.{take-append_seam, drop-append_seam, take-append-add}
 use Rattle.lexical_core.specs.Characters.{IsXmlChar, IsXmlText}
 use Rattle.lexical_core.specs.Utf8.{IsFront, GoesOn, Stops}
-use Rattle.lexical_core.specs.XmlRuns.{IsXmlRun, IsPlain, IsCharAt, BeginsNoChar}
+use Rattle.lexical_core.specs.XmlRuns.{IsXmlRun, IsPlain, is_plain, IsCharAt, BeginsNoChar}
 use Rattle.lexical_core.proofs.ReadSoFar.{AllByRecursion-append, after_chars, no_char_begins, no_char_in_front}
 
 -- ---- the character at the front
@@ -70,6 +71,35 @@ begun_ends piece at old over b c rest xml e = by b.begins where
   by (inl none) =
       omega (arith, ap length (sym none ∙ (all ∙ e)), length-append (encode_utf8 c) rest, length-encode c, len_utf8_bounds c)
   by (inr front) = no_char_in_front piece (subst IsFront all front) c rest e
+
+-- ---- bytes that are characters by themselves
+
+upper_is : (byte : ℕ) → is_plain byte ≡ true → 32 ≤ byte → byte ≤ 127
+upper_is byte h high = grind (arith, nat_tests)
+
+lower_is : (byte : ℕ) → is_plain byte ≡ true → byte < 32 → byte ≢ 13 → (9 ≤ byte) × (byte ≤ 10)
+lower_is byte h low other = (grind (arith, nat_tests), grind (arith, nat_tests))
+
+plain_is : (byte : ℕ) → is_plain byte ≡ true → IsPlain byte
+plain_is byte h =
+    elim (cases_lt byte 32) [
+      | inl low ↦
+          elim (cases_eq byte 13) [
+            | inl return ↦ record { ascii = omega (arith, low); xml = inr (inr (inl (omega (arith, return), omega (arith, return)))) }
+            | inr other ↦ record { ascii = omega (arith, low); xml = inr (inl (lower_is byte h low other)) }
+          ]
+      | inr high ↦ record { ascii = omega (arith, upper_is byte h high); xml = inl (high, omega (arith, upper_is byte h high)) }
+    ]
+
+front_by : (x : ℕ) (xs : List ℕ) (n : ℕ) (b : Bool) → is_plain x ≡ b → suc n ≤ cond b (1 + prefix_len is_plain xs) 0 → (n ≤ prefix_len is_plain xs → AllByRecursion IsPlain (take n xs))
+    → AllByRecursion IsPlain (x ∷ take n xs)
+front_by x xs n true e k rest = (plain_is x e, rest (omega (arith, k)))
+front_by x xs n false e k rest = absurd (omega (arith, k))
+
+pub plain_front : (piece : List ℕ) (n : ℕ) → n ≤ prefix_len is_plain piece → AllByRecursion IsPlain (take n piece)
+plain_front piece zero h = tt
+plain_front [] (suc n) h = tt
+plain_front (x ∷ xs) (suc n) h = front_by x xs n (is_plain x) refl h (plain_front xs n)
 
 -- ---- the run so far
 

@@ -1,5 +1,5 @@
 -- Runs of whole characters of XML: XML 1.0 §2.2, in UTF-8 (RFC 3629 §3).
-use Rattle.std.specs.Prelude.{◌≡◌, ℕ, ◌<◌, List, ◌++◌, length, encode_utf8, encode_utf8_all}
+use Rattle.std.specs.Prelude.{◌≡◌, ℕ, ◌<◌, Bool, ◌&&◌, ◌||◌, ◌==◌, nat_le, List, ◌++◌, length, encode_utf8, encode_utf8_all}
 use Rattle.std.specs.List.{AllByRecursion}
 use Rattle.lexical_core.specs.Characters.{IsXmlChar}
 
@@ -14,6 +14,10 @@ pub record IsXmlRun (bytes : List ℕ) (count : ℕ) : Type 0 where
 pub record IsPlain (byte : ℕ) : Type 0 where
   pub ascii : byte < 128
   pub xml : IsXmlChar byte
+
+-- the same, as a test
+abbrev pub is_plain : ℕ → Bool
+is_plain byte = (nat_le 32 byte && nat_le byte 127) || (byte == 9) || (byte == 10) || (byte == 13)
 
 -- the piece begins with a character of XML, which has so many bytes
 pub record IsCharAt (piece : List ℕ) (size : ℕ) : Type 0 where

@@ -2,10 +2,12 @@
 ghost use Rattle.std.specs.Prelude.{◌≤◌, ◌↔◌, ℕ, IsTrue, IfSome, IfNone, length, take};
 ghost use Rattle.std.specs.List.{AllByRecursion};
 ghost use Rattle.lexical_core.specs.Characters.{IsXmlText};
-ghost use Rattle.lexical_core.specs.XmlRuns.{IsXmlRun, IsPlain, IsCharAt, BeginsNoChar};
+ghost use Rattle.lexical_core.specs.XmlRuns.{IsXmlRun, IsPlain, is_plain, IsCharAt, BeginsNoChar};
 
+use crate::lanes::{ByteClass, run_length};
 use crate::utf8::Utf8Step;
 use crate::xml_text::takes_xml_char;
+use std::simd::prelude::*;
 
 /// A run of whole characters: how many bytes they have, and how many they are.
 #[derive(Clone, Copy, Debug, PartialEq, Eq)]
@@ -42,25 +44,40 @@ pub fn xml_run(bytes: &[u8]) -> Run
     }
 }
 
+/// The bytes that are characters of XML by themselves.
+struct Plain;
+
+impl ByteClass for Plain {
+    ghost class = { λ _. is_plain };
+
+    #[inline]
+    fn has(&self, byte: u8) -> bool {
+        matches!(byte, 0x20..=0x7F | b'\t'..=b'\n' | b'\r')
+    }
+
+    #[inline]
+    fn others(&self, bytes: u8x16) -> u64 {
+        ((bytes - u8x16::splat(0x20)).simd_ge(u8x16::splat(0x60))
+            & bytes.simd_ne(u8x16::splat(b'\t'))
+            & bytes.simd_ne(u8x16::splat(b'\n'))
+            & bytes.simd_ne(u8x16::splat(b'\r'))).to_bitmask()
+    }
+
+    #[inline]
+    fn others_of_eight(&self, bytes: u8x8) -> u64 {
+        ((bytes - u8x8::splat(0x20)).simd_ge(u8x8::splat(0x60))
+            & bytes.simd_ne(u8x8::splat(b'\t'))
+            & bytes.simd_ne(u8x8::splat(b'\n'))
+            & bytes.simd_ne(u8x8::splat(b'\r'))).to_bitmask()
+    }
+}
+
 /// How many bytes at the front are characters of XML by themselves.
 fn plain_count(piece: &[u8]) -> usize
     ensures within { result ≤ length piece.now }
     ensures plain { AllByRecursion IsPlain (take result piece.now) }
 {
-    for (at, byte) in piece.iter().enumerate() {
-        if !is_plain(*byte) {
-            return at;
-        }
-    }
-    piece.len()
-}
-
-/// Whether the byte is a character of XML by itself.
-#[inline]
-fn is_plain(byte: u8) -> bool
-    ensures { IsTrue result ↔ IsPlain byte }
-{
-    matches!(byte, 0x20..=0x7F | b'\t'..=b'\n' | b'\r')
+    run_length(&Plain, piece)
 }
 
 /// How many bytes the character at the front has; `None` where no character of XML stands there whole.

@@ -1,0 +1,11 @@
+-- The bytes so far are in the class.
+use Rattle.std.proofs.Common.{◌≡◌, ◌+◌, ◌-◌, ◌≤◌, length, drop}
+use Rattle.std.specs.List.{prefix_len}
+use Rattle.lexical_core.proofs.lanes.run_length.Given as goal
+
+abbrev pub invariant-loop-at : goal.invariant-loop-at
+invariant-loop-at g l =
+    (prefix_len (g.C.ByteClass.class l.class) l.bytes ≡ l.at + prefix_len (g.C.ByteClass.class l.class) (drop l.at l.bytes)) × (l.at ≤ length l.bytes)
+
+abbrev pub decreases-loop-at : goal.decreases-loop-at
+decreases-loop-at g l = length l.bytes - l.at
