@@ -1,11 +1,11 @@
 -- From the mask of a vector to the run of bytes of a class.
-use Rattle.std.proofs.Common.{◌≡◌, ℕ, ◌+◌, ◌*◌, ◌%◌, ◌^◌, ◌<◌, ◌≤◌, Bool, true, false, not, cond, eqb, List, [], ◌∷◌, map, length, get_or, drop, replicate, Fits, w8, refl, sym, ap, ap₂, ◌∙◌, arith}
-use Rattle.std.proofs.lemmas.Bool.{agree_below, agree_below_at, eq-eqb, ne_eqb}
-use Rattle.std.proofs.lemmas.Simd.{map-map, mask_l-mod, chunk-drop, length-chunk, leading_from_mask_l, trailing_mask_l, Each1-get_or}
+use Rattle.std.proofs.Common.{◌≡◌, ℕ, suc, ◌+◌, ◌*◌, ◌%◌, ◌^◌, ◌<◌, ◌≤◌, Bool, true, false, not, ◌&&◌, cond, eqb, List, [], ◌∷◌, map, length, drop, replicate, Fits, w8, refl, sym, ap, ap₂, ◌∙◌, arith, inl, inr}
+use Rattle.std.proofs.lemmas.Bool.{agree_below, agree_below_at, cases_eq, eq-eqb, ne_eqb}
+use Rattle.std.proofs.lemmas.Simd.{map-map, mask_l-mod, chunk-drop, length-chunk, leading_from_mask_l, trailing_mask_l}
 use Rattle.std.proofs.lemmas.List.{length-map, length-drop}
 use Rattle.std.proofs.lemmas.List.Folds.{prefix_len-append}
 use Rattle.std.proofs.lemmas.List.Sums.{prefix_len-le-length}
-use Rattle.std.specs.List.{prefix_len}
+use Rattle.std.specs.List.{prefix_len, list_all}
 use lib.Lanes.{chunk, zip2, mask_l, top, Each1}
 use lib.Count.{count_trailing_zeros}
 
@@ -76,3 +76,16 @@ module _ (q : ℕ → Bool) where
       let c = chunk i n d in
       split d i n ∙ ap (λ b. cond b (length c + prefix_len q (drop (i + n) d)) (prefix_len q c)) (ne_eqb _ _ (λ (e : prefix_len q c ≡ length c). omega (arith, all_pass c (sym (same_run c) ∙ e))))
       ∙ same_run c ∙ sym (trailing_mask_l other 64 c (omega (arith, length-chunk i n d room)) some)
+
+-- a run that is the whole list, where each has the property
+run_of : (b all : Bool) (n l : ℕ) → eqb n l ≡ all → eqb (cond b (1 + n) 0) (suc l) ≡ (b && all)
+run_of true all n l h =
+    elim (cases_eq n l) [
+      | inl e ↦ eq-eqb (1 + n) (suc l) (omega (arith, e)) ∙ (sym (eq-eqb n l e) ∙ h)
+      | inr other ↦ ne_eqb (1 + n) (suc l) (λ e. other (omega (arith, e))) ∙ (sym (ne_eqb n l other) ∙ h)
+    ]
+run_of false all n l h = ne_eqb 0 (suc l) (λ e. omega (arith, e))
+
+pub whole_run : (p : ℕ → Bool) (xs : List ℕ) → eqb (prefix_len p xs) (length xs) ≡ list_all p xs
+whole_run p [] = refl
+whole_run p (x ∷ xs) = run_of (p x) (list_all p xs) (prefix_len p xs) (length xs) (whole_run p xs)

@@ -6,6 +6,7 @@
 mod attributes;
 mod bindings;
 mod characters;
+mod classes;
 mod context;
 mod draft;
 pub mod event;

@@ -5,8 +5,9 @@ ghost use Rattle.std.specs.List.{prefix_len, list_all};
 ghost use Rattle.markup.specs.Chars.{is_space};
 ghost use Rattle.markup.specs.Literals.{is_literal, IsAt, IsWideAt, IsRun};
 
-use crate::characters::{is_allowed, is_blank};
-use lexical_core::{Utf8, Utf8Step};
+use crate::characters::is_allowed;
+use crate::classes::{Blank, Literal};
+use lexical_core::{Utf8, Utf8Step, run_length};
 
 /// A run of characters.
 #[derive(Clone, Copy, Debug, PartialEq, Eq)]
@@ -24,20 +25,6 @@ pub struct Run {
 struct Extent {
     bytes: usize,
     characters: usize,
-}
-
-/// Whether the byte is a character of an element's text wherever a token begins there, whatever
-/// stands before it and behind it (XML 1.0 §2.4, §2.7, §2.11): a tab, an LF, and one from 0x20 to
-/// 0x7F that is not `<`, `&`, `]` or `>`.
-#[inline]
-fn is_literal(byte: u8) -> bool
-    ensures { result ≡ is_literal byte }
-{
-    if byte >= 0x20 {
-        byte <= 0x7F && byte != b'<' && byte != b'&' && byte != b']' && byte != b'>'
-    } else {
-        byte == b'\n' || byte == b'\t'
-    }
 }
 
 /// How many bytes the character at the front of the piece has, where XML has it and they are there.
@@ -128,12 +115,7 @@ fn literal_length(piece: &[u8]) -> usize
     ensures within { result ≤ length piece.now }
     ensures count { result ≡ prefix_len is_literal piece.now }
 {
-    for (i, byte) in piece.iter().enumerate() {
-        if !is_literal(*byte) {
-            return i;
-        }
-    }
-    piece.len()
+    run_length(&Literal, piece)
 }
 
 /// How far the characters at the front of the piece go that stand by themselves, up to the first
@@ -165,7 +147,7 @@ fn literal_extent(piece: &[u8]) -> Extent
 fn is_blank_run(bytes: &[u8]) -> bool
     ensures { result ≡ list_all is_space bytes.now }
 {
-    bytes.iter().all(|byte| is_blank(*byte as char))
+    run_length(&Blank, bytes) == bytes.len()
 }
 
 /// The characters at the front of the piece that stand by themselves, up to the first byte that

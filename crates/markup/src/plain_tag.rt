@@ -6,7 +6,9 @@ ghost use Rattle.markup.specs.declared.plain_tag.TagKind.{TagKind};
 ghost use Rattle.markup.specs.declared.plain_tag.TagKind.TheVariants.{End};
 ghost use Rattle.markup.specs.PlainTags.{begins_plain, continues_plain, is_plain_name, tag_text, mark_count, may_be_named, IsTagAt, closing};
 
+use crate::classes::PlainName;
 use crate::tokenizer::TAG_LIMIT;
+use lexical_core::run_length;
 
 /// What a tag does.
 #[derive(Clone, Copy, Debug, PartialEq, Eq)]
@@ -37,26 +39,13 @@ fn begins_plain(byte: u8) -> bool
     byte.is_ascii_lowercase() || byte.is_ascii_uppercase() || byte == b'_'
 }
 
-/// Whether a name may go on with the byte.
-#[inline]
-fn continues_plain(byte: u8) -> bool
-    ensures { result ≡ continues_plain byte }
-{
-    begins_plain(byte) || byte.is_ascii_digit() || byte == b'-' || byte == b'.'
-}
-
 /// How many bytes at the front of the piece a name may go on with.
 #[inline]
 pub(crate) fn name_length(piece: &[u8]) -> usize
     ensures within { result ≤ length piece.now }
     ensures count { result ≡ prefix_len continues_plain piece.now }
 {
-    for (i, byte) in piece.iter().enumerate() {
-        if !continues_plain(*byte) {
-            return i;
-        }
-    }
-    piece.len()
+    run_length(&PlainName, piece)
 }
 
 /// The kind of start tag that ends with the bytes behind its name.

@@ -1,0 +1,112 @@
+// Classes of bytes that runs are made of.
+ghost use Rattle.std.specs.Prelude.{◌≡◌};
+ghost use Rattle.markup.specs.Chars.{is_space};
+ghost use Rattle.markup.specs.Literals.{is_literal};
+ghost use Rattle.markup.specs.PlainTags.{continues_plain};
+
+use lexical_core::ByteClass;
+use std::simd::prelude::*;
+
+/// Characters of an element's text wherever a token begins there, whatever stands before them and
+/// behind them (XML 1.0 §2.4, §2.7, §2.11): a tab, an LF, and those from 0x20 to 0x7F that are not
+/// `<`, `&`, `]` or `>`.
+pub(crate) struct Literal;
+
+impl ByteClass for Literal {
+    ghost class = { λ _. is_literal };
+
+    #[inline]
+    fn has(&self, byte: u8) -> bool {
+        if byte >= 0x20 {
+            byte <= 0x7F && byte != b'<' && byte != b'&' && byte != b']' && byte != b'>'
+        } else {
+            byte == b'\n' || byte == b'\t'
+        }
+    }
+
+    #[inline]
+    fn others(&self, bytes: u8x16) -> u64 {
+        ((bytes - u8x16::splat(0x20)).simd_ge(u8x16::splat(0x60))
+            & bytes.simd_ne(u8x16::splat(b'\t'))
+            & bytes.simd_ne(u8x16::splat(b'\n'))
+            | bytes.simd_eq(u8x16::splat(b'<'))
+            | bytes.simd_eq(u8x16::splat(b'&'))
+            | bytes.simd_eq(u8x16::splat(b']'))
+            | bytes.simd_eq(u8x16::splat(b'>'))).to_bitmask()
+    }
+
+    #[inline]
+    fn others_of_eight(&self, bytes: u8x8) -> u64 {
+        ((bytes - u8x8::splat(0x20)).simd_ge(u8x8::splat(0x60))
+            & bytes.simd_ne(u8x8::splat(b'\t'))
+            & bytes.simd_ne(u8x8::splat(b'\n'))
+            | bytes.simd_eq(u8x8::splat(b'<'))
+            | bytes.simd_eq(u8x8::splat(b'&'))
+            | bytes.simd_eq(u8x8::splat(b']'))
+            | bytes.simd_eq(u8x8::splat(b'>'))).to_bitmask()
+    }
+}
+
+/// White space (XML 1.0 §2.3, S).
+pub(crate) struct Blank;
+
+impl ByteClass for Blank {
+    ghost class = { λ _. is_space };
+
+    #[inline]
+    #[tactic(auto, unfolding(crate::specs::Chars::is_space))]
+    fn has(&self, byte: u8) -> bool {
+        byte == b' ' || byte == b'\t' || byte == b'\n' || byte == b'\r'
+    }
+
+    #[inline]
+    fn others(&self, bytes: u8x16) -> u64 {
+        (bytes.simd_ne(u8x16::splat(b' '))
+            & bytes.simd_ne(u8x16::splat(b'\t'))
+            & bytes.simd_ne(u8x16::splat(b'\n'))
+            & bytes.simd_ne(u8x16::splat(b'\r'))).to_bitmask()
+    }
+
+    #[inline]
+    fn others_of_eight(&self, bytes: u8x8) -> u64 {
+        (bytes.simd_ne(u8x8::splat(b' '))
+            & bytes.simd_ne(u8x8::splat(b'\t'))
+            & bytes.simd_ne(u8x8::splat(b'\n'))
+            & bytes.simd_ne(u8x8::splat(b'\r'))).to_bitmask()
+    }
+}
+
+/// What a plain name goes on with: ASCII letters, digits, `-`, `.` and `_`.
+pub(crate) struct PlainName;
+
+impl ByteClass for PlainName {
+    ghost class = { λ _. continues_plain };
+
+    #[inline]
+    fn has(&self, byte: u8) -> bool {
+        byte.is_ascii_lowercase()
+            || byte.is_ascii_uppercase()
+            || byte == b'_'
+            || byte.is_ascii_digit()
+            || byte == b'-'
+            || byte == b'.'
+    }
+
+    #[inline]
+    fn others(&self, bytes: u8x16) -> u64 {
+        (((bytes | u8x16::splat(0x20)) - u8x16::splat(b'a')).simd_ge(u8x16::splat(26))
+            & (bytes - u8x16::splat(b'0')).simd_ge(u8x16::splat(10))
+            & bytes.simd_ne(u8x16::splat(b'_'))
+            & bytes.simd_ne(u8x16::splat(b'-'))
+            & bytes.simd_ne(u8x16::splat(b'.'))).to_bitmask()
+    }
+
+    #[inline]
+    fn others_of_eight(&self, bytes: u8x8) -> u64 {
+        (((bytes | u8x8::splat(0x20)) - u8x8::splat(b'a')).simd_ge(u8x8::splat(26))
+            & (bytes - u8x8::splat(b'0')).simd_ge(u8x8::splat(10))
+            & bytes.simd_ne(u8x8::splat(b'_'))
+            & bytes.simd_ne(u8x8::splat(b'-'))
+            & bytes.simd_ne(u8x8::splat(b'.'))).to_bitmask()
+    }
+}
