@@ -78,7 +78,7 @@ told_sorted reader bytes told h =
     let (tokens, rest, front, clean, is) = events_stay reader bytes told h [] in
     subst (λ (l : List Placed). AllByRecursion HasSortedAttributes (items l)) (sym is) (sorted_of (items (events [] 0 tokens)) (events_are_plain tag_limit (bytes ++ []) tokens rest front clean))
 
-items-append_placed : (a b : List Placed) → items (a ++ b) ≡ items a ++ items b
+pub items-append_placed : (a b : List Placed) → items (a ++ b) ≡ items a ++ items b
 items-append_placed [] b = refl
 items-append_placed (p ∷ a) b = ap (λ (l : List Item). p.item ∷ l) (items-append_placed a b)
 

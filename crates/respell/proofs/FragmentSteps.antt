@@ -113,11 +113,6 @@ ends_refused bytes Memory early f = early
 pub never : (bytes : List ℕ) → (IsShortFragment bytes → ⊥) → IsTrue false ↔ IsShortFragment bytes
 never bytes k = (λ met. absurd (true≢false (sym met)), λ f. absurd (k f))
 
--- ---- all bytes
-
-pub byte_front : (front bytes left others : List ℕ) (byte : ℕ) → front ++ left ≡ bytes → left ≡ byte ∷ others → (front ++ byte ∷ []) ++ others ≡ bytes
-byte_front front bytes left others byte e is = append_assoc front (byte ∷ []) others ∙ (ap (λ (l : List ℕ). front ++ l) (sym is) ∙ e)
-
 -- ---- the text so far
 
 -- bytes that begin with the text begin with its characters
@@ -128,6 +123,5 @@ pub joins_taken : (bytes text rest : List ℕ) → bytes_eq (take (length text) 
 joins_taken bytes text rest same is = ap₂ (λ (a b : List ℕ). a ++ b) (sym (bytes_same (take (length text) bytes) text same)) is ∙ take-append-drop (length text) bytes
 
 -- nothing is left
-pub front_all : (front left bytes : List ℕ) → front ++ left ≡ bytes → length left ≡ 0 → front ≡ bytes
-front_all front [] bytes e h = sym (append-nil front) ∙ e
-front_all front (x ∷ left) bytes e h = absurd cc
+pub front_all : (front left bytes : List ℕ) (b : Bool) → front ++ left ≡ bytes → b ≡ (length left == 0) → IsTrue b → front ≡ bytes
+front_all front left bytes b e is none = sym (append-nil front) ∙ (ap (λ (l : List ℕ). front ++ l) (sym (empty_from left (sym is ∙ none))) ∙ e)

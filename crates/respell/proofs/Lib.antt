@@ -31,3 +31,4 @@ pub mod Within
 pub mod ShortWithin
 pub mod TakenRuns
 pub mod TakenTags
+pub mod FragmentParts

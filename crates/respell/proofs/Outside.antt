@@ -1,5 +1,5 @@
 -- Characters outside the root, among events.
-use Rattle.std.proofs.Common.{◌≡◌, ℕ, zero, suc, ◌<◌, Bool, true, false, List, [], ◌∷◌, ◌++◌, length, reverse, Option, refl, sym, ap, subst, ◌∙◌, append_assoc, arith}
+use Rattle.std.proofs.Common.{◌≡◌, ℕ, zero, suc, ◌<◌, Bool, true, false, List, [], ◌∷◌, ◌++◌, length, reverse, map, Option, refl, sym, ap, subst, ◌∙◌, append_assoc, arith}
 use Rattle.std.specs.Prelude.{◌==◌, IsTrue, IsFalse}
 use Rattle.std.proofs.lemmas.Bool.Decides.{nat_tests}
 use Rattle.std.proofs.lemmas.List.{length-reverse}
@@ -113,6 +113,17 @@ char_inside r forgotten items w c b is test h inside unmet =
     let some : 0 < length r.declares.items = none_test (length r.declares.items) b test unmet in
     let d = taken_depth r forgotten items h in
     subst (λ (v : What). NoneOutside 0 (items ++ item_of v ∷ [])) (sym is) (outside-append 0 items (Char c ∷ []) inside (subst (λ (n : ℕ). 0 < n) (sym d) some, tt))
+
+-- characters of an open element
+chars_within : (n : ℕ) (cs : List ℕ) → 0 < n → NoneOutside n (map (λ c. Char c) cs)
+chars_within n [] h = tt
+chars_within n (c ∷ cs) h = (h, chars_within n cs h)
+
+pub chars_inside : (r : Respell) (forgotten : List ℕ) (items : List Item) (characters : List ℕ) (b : Bool) → b ≡ (length r.declares.items == 0) → HasWritten r forgotten items → NoneOutside 0 items → IsFalse b → NoneOutside 0 (items ++ map (λ c. Char c) characters)
+chars_inside r forgotten items characters b test h inside unmet =
+    let some : 0 < length r.declares.items = none_test (length r.declares.items) b test unmet in
+    let d = taken_depth r forgotten items h in
+    outside-append 0 items (map (λ c. Char c) characters) inside (chars_within (depth 0 items) characters (subst (λ (n : ℕ). 0 < n) (sym d) some))
 
 -- any other event
 pub what_inside : (items : List Item) (w : What) → ((c : ℕ) → w ≡ CharTold c → ⊥) → NoneOutside 0 items → NoneOutside 0 (items ++ item_of w ∷ [])

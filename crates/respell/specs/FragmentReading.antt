@@ -1,15 +1,17 @@
 -- What a reader of a fragment has read. Private functions alone cite this.
-use Rattle.std.specs.Prelude.{◌≡◌, ℕ, ◌<◌, List, [], ◌∷◌, map}
+use Rattle.std.specs.Prelude.{◌≡◌, ℕ, ◌<◌, ◌≤◌, ◌+◌, List, [], ◌∷◌, ◌++◌, map, take, length}
 use Rattle.lexical_core.specs.Tree.{Item, Starts, Char, Ends, Skipped, Tree}
 use Rattle.markup.specs.Events.{Placed}
 use Rattle.markup.specs.EventItems.{item_of}
-use Rattle.markup.specs.Reading.{HasTaken as HasTakenBytes}
+use Rattle.markup.specs.Reading.{taken, HasTaken as HasTakenBytes}
 use Rattle.markup.specs.declared.event.Event.{Event}
 use Rattle.fragments.specs.Plain.{IsPlain}
 use Rattle.fragments.specs.Fragment.{fragment}
 use Rattle.respell.specs.Kept.{HasWritten}
 use Rattle.respell.specs.ShortTags.{HasShortTags}
 use Rattle.respell.specs.declared.fragment_reader.FragmentReader.{FragmentReader}
+use Rattle.respell.specs.declared.fragment_reader.Advance.{Advance}
+use Rattle.respell.specs.declared.fragment_reader.Advance.TheVariants.{Taken, NoFragment}
 
 -- where so many elements are open, no character stands outside them
 abbrev pub NoneOutside : ℕ → List Item → Type 0
@@ -36,3 +38,14 @@ pub record IsShortFragment (bytes : List ℕ) : Type 0 where
   pub plain : IsPlain tree
   pub short : HasShortTags tree
   pub spelled : fragment tree ≡ bytes
+
+-- The reader takes so many of the bytes, and a fragment may begin with what it has read then.
+pub record ReadsOn (old new : FragmentReader) (bytes : List ℕ) (count : ℕ) : Type 0 where
+  pub within : count ≤ length bytes
+  pub moved : taken new.reader ≡ taken old.reader + count
+  pub reads : (front forgotten : List ℕ) → HasReadFront old front forgotten → HasReadFront new (front ++ take count bytes) forgotten
+
+-- Some of the bytes are taken, or no fragment goes on with them.
+abbrev pub AdvancesSo : FragmentReader → FragmentReader → List ℕ → Advance → Type 0
+AdvancesSo old new bytes (Taken count) = (0 < count) × ReadsOn old new bytes count
+AdvancesSo old new bytes NoFragment = (front forgotten : List ℕ) → HasReadFront old front forgotten → IsShortFragment (front ++ bytes) → ⊥

@@ -1,5 +1,5 @@
 // Fragments told from other bytes: these are read as XML, and their events are written again.
-ghost use Rattle.std.specs.Prelude.{◌≡◌, ◌+◌, ◌<◌, ◌^◌, ◌↔◌, ℕ, List, [], ◌∷◌, ◌++◌, IsTrue, IsFalse, IfOk, IfSome, IfNone, length};
+ghost use Rattle.std.specs.Prelude.{◌≡◌, ◌+◌, ◌<◌, ◌≤◌, ◌^◌, ◌↔◌, ℕ, List, [], ◌∷◌, ◌++◌, IsTrue, IsFalse, IfOk, IfSome, IfNone, length};
 ghost use Rattle.std.specs.List.{AllByRecursion};
 ghost use Rattle.lexical_core.specs.Tree.{Item, Tree};
 ghost use Rattle.markup.specs.Events.{Placed};
@@ -9,7 +9,7 @@ ghost use Rattle.fragments.specs.Fragment.{fragment};
 ghost use Rattle.respell.specs.Respelling.{HasSortedAttributes};
 ghost use Rattle.respell.specs.Kept.{HasWritten};
 ghost use Rattle.respell.specs.ShortTags.{HasShortTags};
-ghost use Rattle.respell.specs.FragmentReading.{NoneOutside, event_items, HasReadFront, IsShortFragment};
+ghost use Rattle.respell.specs.FragmentReading.{NoneOutside, event_items, HasReadFront, IsShortFragment, ReadsOn, AdvancesSo};
 
 use crate::respell::Respell;
 use markup::{Event, Events, MarkError, Reader};
@@ -18,8 +18,11 @@ use std::alloc::{AllocError, Global};
 /// How many bytes a tag has at most that a reader of XML takes.
 const TAG_LIMIT: usize = 1_048_576;
 
+/// How many bytes of a run of characters are written again at once.
+const RUN_LIMIT: usize = 4096;
+
 /// Whether the bytes are the canonical fragment of some element. They are read, written again, and compared as they come,
-/// so that no more text is kept than one event's. No reader of XML takes a tag of more than 1,048,576 bytes: bytes that
+/// so that no more text is kept than one tag's, or 4,096 bytes of a run of characters. No reader of XML takes a tag of more than 1,048,576 bytes: bytes that
 /// could have one, and are no fragment with shorter tags, are not decided, and the answer is that there is no memory.
 pub fn is_fragment(alloc: Global, bytes: &[u8]) -> Result<bool, AllocError>
     requires { length bytes.now < 2 ^ 40 }
@@ -45,6 +48,15 @@ fn is_short_fragment(alloc: Global, bytes: &[u8]) -> Result<bool, AllocError>
 {
     let mut reader = FragmentReader::new(alloc);
     reader.read(bytes)
+}
+
+/// What comes of the front of bytes.
+#[derive(Clone, Copy)]
+enum Advance {
+    /// So many of them are taken, and a fragment may begin with the bytes so far.
+    Taken(usize),
+    /// No fragment goes on with them.
+    NoFragment,
 }
 
 /// A reader of a fragment, which writes it again.
@@ -75,20 +87,115 @@ impl FragmentReader {
     {
         let mut left = bytes;
         let mut uncompared = bytes;
-        while let Some((byte, others)) = left.split_first() {
-            if !self.take(*byte)? {
-                return Ok(false);
-            }
+        while !left.is_empty() {
+            let count = match self.advance(left)? {
+                Advance::Taken(count) => count,
+                Advance::NoFragment => return Ok(false),
+            };
             let Some(rest) = self.compare(uncompared) else {
                 return Ok(false);
             };
             uncompared = rest;
-            left = others;
+            let (_, behind) = left.split_at(count);
+            left = behind;
         }
         if !self.finish() {
             return Ok(false);
         }
         Ok(uncompared.is_empty())
+    }
+
+    /// Takes a whole part from the front of the bytes, or else the first of them.
+    fn advance(&mut self, bytes: &[u8]) -> Result<Advance, AllocError>
+        requires some { 0 < length bytes.now }
+        requires room { taken self.old.reader + length bytes.now ≤ 2 ^ 40 }
+        ensures { IfOk result (λ a. AdvancesSo self.old self.new bytes.now a) }
+    {
+        let count = self.take_part(bytes)?;
+        if count > 0 {
+            return Ok(Advance::Taken(count));
+        }
+        self.take_first(bytes)
+    }
+
+    /// Takes a run of characters, a whole tag or bytes inside a token from the front of the bytes, and answers how many
+    /// bytes that are, 0 where none of them stands there.
+    fn take_part(&mut self, bytes: &[u8]) -> Result<usize, AllocError>
+        requires { taken self.old.reader + length bytes.now ≤ 2 ^ 40 }
+        ensures { IfOk result (λ n. ReadsOn self.old self.new bytes.now n) }
+    {
+        let run = self.take_run(bytes)?;
+        if run > 0 {
+            return Ok(run);
+        }
+        let tag = self.take_tag(bytes)?;
+        if tag > 0 {
+            return Ok(tag);
+        }
+        self.take_inside(bytes)
+    }
+
+    /// Takes the run of characters at the front of the bytes, of at most 4,096 bytes, and answers how many they are.
+    fn take_run(&mut self, bytes: &[u8]) -> Result<usize, AllocError>
+        requires { taken self.old.reader + length bytes.now ≤ 2 ^ 40 }
+        ensures { IfOk result (λ n. ReadsOn self.old self.new bytes.now n) }
+    {
+        if self.respell.is_closed() {
+            return Ok(0);
+        }
+        let room = bytes.len().min(RUN_LIMIT);
+        let run = self.reader.take_characters(&bytes[..room]);
+        match self.respell.run(&bytes[..run.bytes]) {
+            Ok(()) => Ok(run.bytes),
+            Err(error) => Err(error),
+        }
+    }
+
+    /// Takes the whole tag at the front of the bytes, if one stands there without attributes and in the default namespace
+    /// so far, and answers how many bytes it has.
+    fn take_tag(&mut self, bytes: &[u8]) -> Result<usize, AllocError>
+        requires { taken self.old.reader + length bytes.now ≤ 2 ^ 40 }
+        ensures { IfOk result (λ n. ReadsOn self.old self.new bytes.now n) }
+    {
+        if !self.respell.is_in_default() {
+            return Ok(0);
+        }
+        let tag = match self.reader.take_tag(bytes) {
+            Ok(Some(tag)) => tag,
+            Ok(None) => return Ok(0),
+            Err(_) => return Err(AllocError),
+        };
+        match self.respell.tag(tag.kind, tag.name) {
+            Ok(()) => Ok(tag.bytes),
+            Err(error) => Err(error),
+        }
+    }
+
+    /// Takes the bytes at the front that go on with an open token and show no event, and answers how many they are.
+    fn take_inside(&mut self, bytes: &[u8]) -> Result<usize, AllocError>
+        requires { taken self.old.reader + length bytes.now ≤ 2 ^ 40 }
+        ensures { IfOk result (λ n. ReadsOn self.old self.new bytes.now n) }
+    {
+        match self.reader.take_inside(bytes) {
+            Ok(count) => Ok(count),
+            Err(_) => Err(AllocError),
+        }
+    }
+
+    /// Takes the first of the bytes.
+    fn take_first(&mut self, bytes: &[u8]) -> Result<Advance, AllocError>
+        requires some { 0 < length bytes.now }
+        requires room { taken self.old.reader + length bytes.now ≤ 2 ^ 40 }
+        ensures { IfOk result (λ a. AdvancesSo self.old self.new bytes.now a) }
+    {
+        let Some((byte, _behind)) = bytes.split_first() else {
+            return Ok(Advance::NoFragment);
+        };
+        if self.take(*byte)? {
+            Ok(Advance::Taken(1))
+        } else {
+            Ok(Advance::NoFragment)
+        }
     }
 
     /// Takes the next byte, and answers whether a fragment may begin with the bytes so far.

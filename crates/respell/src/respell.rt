@@ -1,7 +1,7 @@
 // Events written again.
 ghost use Rattle.std.specs.Prelude.{◌≡◌, ◌↔◌, ◌||◌, ℕ, List, [], ◌∷◌, ◌++◌, Option, IsTrue, IsFalse, OnOk, IsErr, map, drop, true, false};
 ghost use Rattle.std.specs.List.{flat_map};
-ghost use Rattle.lexical_core.specs.Tree.{Item, Tree};
+ghost use Rattle.lexical_core.specs.Tree.{Item, Tree, Char};
 ghost use Rattle.lexical_core.specs.Escapes.{escaped};
 ghost use Rattle.markup.specs.EventItems.{item_of, entry_of};
 ghost use Rattle.fragments.specs.Plain.{AreSorted, xmlns};
@@ -88,6 +88,13 @@ impl Respell {
             What::Char(_) => self.declares.as_slice().is_empty(),
             _ => false,
         }
+    }
+
+    /// Whether no element is open.
+    pub(crate) fn is_closed(&self) -> bool
+        ensures { (forgotten : List ℕ) (items : List Item) (characters : List ℕ) → HasWritten self.now forgotten items → NoneOutside 0 items → IsFalse result → NoneOutside 0 (items ++ map (λ c. Char c) characters) }
+    {
+        self.declares.as_slice().is_empty()
     }
 
     /// The text so far, behind what was forgotten.

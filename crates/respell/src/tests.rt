@@ -30,7 +30,7 @@ static RESPELLED: [(&[u8], &[u8]); 6] = [
 ];
 
 /// Bytes, and whether they are a fragment.
-static TOLD: [(&[u8], bool); 14] = [
+static TOLD: [(&[u8], bool); 18] = [
     (b"<a xmlns=\"\"></a>", true),
     (b"<a/>", false),
     (b"<a></a>", false),
@@ -45,6 +45,10 @@ static TOLD: [(&[u8], bool); 14] = [
     (b"<a xmlns=\"\" c=\"1\" b=\"1\"></a>", false),
     (b"<a xmlns=\"\" xmlns:a1=\"u\" a1:b=\"1\"></a>", true),
     (b"<a xmlns=\"\" xmlns:a2=\"u\" a2:b=\"1\"></a>", false),
+    (b"<a xmlns=\"u\"><b>x\t\n</b> y</a>", true),
+    (b"<a xmlns=\"u\"><b/></a>", false),
+    (b"<a xmlns=\"u\"><b>x</b></a>y", false),
+    (b"<xml:x><y xmlns=\"\">x</y></xml:x>", true),
 ];
 
 /// Hands the events on.
