@@ -1,6 +1,7 @@
 // Classes of bytes that runs are made of.
 ghost use Rattle.std.specs.Prelude.{◌≡◌};
 ghost use Rattle.markup.specs.Chars.{is_space};
+ghost use Rattle.markup.specs.Inside.{is_literal_of};
 ghost use Rattle.markup.specs.Literals.{is_literal};
 ghost use Rattle.markup.specs.PlainTags.{continues_plain};
 
@@ -108,5 +109,63 @@ impl ByteClass for PlainName {
             & bytes.simd_ne(u8x8::splat(b'_'))
             & bytes.simd_ne(u8x8::splat(b'-'))
             & bytes.simd_ne(u8x8::splat(b'.'))).to_bitmask()
+    }
+}
+
+/// Bytes that stand for themselves in a value in double quotes, and neither end it nor begin a reference:
+/// those from 0x20 to 0x7F that are not `<`, `&` or the quote (XML 1.0 §2.3, §3.3.3).
+pub(crate) struct DoubleQuoted;
+
+impl ByteClass for DoubleQuoted {
+    ghost class = { λ _. is_literal_of 34 };
+
+    #[inline]
+    fn has(&self, byte: u8) -> bool {
+        byte >= 0x20 && byte <= 0x7F && byte != b'<' && byte != b'&' && byte != b'"'
+    }
+
+    #[inline]
+    fn others(&self, bytes: u8x16) -> u64 {
+        ((bytes - u8x16::splat(0x20)).simd_ge(u8x16::splat(0x60))
+            | bytes.simd_eq(u8x16::splat(b'<'))
+            | bytes.simd_eq(u8x16::splat(b'&'))
+            | bytes.simd_eq(u8x16::splat(b'"'))).to_bitmask()
+    }
+
+    #[inline]
+    fn others_of_eight(&self, bytes: u8x8) -> u64 {
+        ((bytes - u8x8::splat(0x20)).simd_ge(u8x8::splat(0x60))
+            | bytes.simd_eq(u8x8::splat(b'<'))
+            | bytes.simd_eq(u8x8::splat(b'&'))
+            | bytes.simd_eq(u8x8::splat(b'"'))).to_bitmask()
+    }
+}
+
+/// Bytes that stand for themselves in a value in single quotes, and neither end it nor begin a reference:
+/// those from 0x20 to 0x7F that are not `<`, `&` or the quote (XML 1.0 §2.3, §3.3.3).
+pub(crate) struct SingleQuoted;
+
+impl ByteClass for SingleQuoted {
+    ghost class = { λ _. is_literal_of 39 };
+
+    #[inline]
+    fn has(&self, byte: u8) -> bool {
+        byte >= 0x20 && byte <= 0x7F && byte != b'<' && byte != b'&' && byte != b'\''
+    }
+
+    #[inline]
+    fn others(&self, bytes: u8x16) -> u64 {
+        ((bytes - u8x16::splat(0x20)).simd_ge(u8x16::splat(0x60))
+            | bytes.simd_eq(u8x16::splat(b'<'))
+            | bytes.simd_eq(u8x16::splat(b'&'))
+            | bytes.simd_eq(u8x16::splat(b'\''))).to_bitmask()
+    }
+
+    #[inline]
+    fn others_of_eight(&self, bytes: u8x8) -> u64 {
+        ((bytes - u8x8::splat(0x20)).simd_ge(u8x8::splat(0x60))
+            | bytes.simd_eq(u8x8::splat(b'<'))
+            | bytes.simd_eq(u8x8::splat(b'&'))
+            | bytes.simd_eq(u8x8::splat(b'\''))).to_bitmask()
     }
 }

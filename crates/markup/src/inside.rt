@@ -3,17 +3,10 @@ ghost use Rattle.std.specs.Prelude.{◌≡◌, ◌≤◌, length, take};
 ghost use Rattle.std.specs.List.{prefix_len};
 ghost use Rattle.markup.specs.Inside.{is_literal_of, is_passed, IsStill};
 
+use crate::classes::{DoubleQuoted, SingleQuoted};
 use crate::plain_tag::name_length;
 use crate::scan::{NameScan, Scan};
-
-/// Whether the byte stands for itself in a value in these quotes, and neither ends it nor begins a
-/// reference: one from 0x20 to 0x7F that is not `<`, `&` or the quote (XML 1.0 §2.3, §3.3.3).
-#[inline]
-fn is_literal_of(quote: char, byte: u8) -> bool
-    ensures { result ≡ is_literal_of quote byte }
-{
-    byte >= 0x20 && byte <= 0x7F && byte != b'<' && byte != b'&' && byte as char != quote
-}
+use lexical_core::run_length;
 
 /// Whether the byte is a character of a comment or an instruction that does not begin its end: a
 /// tab, a line end, and one from 0x20 to 0x7F but this one (XML 1.0 §2.5, §2.6).
@@ -32,14 +25,13 @@ fn is_passed(end: u8, byte: u8) -> bool
 #[inline]
 fn value_length(quote: char, piece: &[u8]) -> usize
     ensures within { result ≤ length piece.now }
-    ensures count { result ≡ prefix_len (is_literal_of quote) piece.now }
+    ensures count { result ≤ prefix_len (is_literal_of quote) piece.now }
 {
-    for (i, byte) in piece.iter().enumerate() {
-        if !is_literal_of(quote, *byte) {
-            return i;
-        }
+    match quote {
+        '"' => run_length(&DoubleQuoted, piece),
+        '\'' => run_length(&SingleQuoted, piece),
+        _ => 0,
     }
-    piece.len()
 }
 
 /// How many bytes at the front of the piece do not begin the end of a comment or an instruction.

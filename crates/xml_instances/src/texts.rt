@@ -16,8 +16,9 @@ ghost use Rattle.xml_instances.specs.Verdicts.{IsVerdict};
 use crate::judge::Judge;
 use crate::pieces::{Pieces, leaf};
 use facets::{LeafCheck, LeafVerdict, Simple};
-use lexical_core::{Rule, is_xml_char};
+use lexical_core::{ByteClass, Rule, is_xml_char, run_length};
 use std::alloc::AllocError;
+use std::simd::prelude::*;
 
 /// Whether the character is white space: XML 1.0 §2.3, S.
 #[tactic(auto, unfolding(markup::specs::Chars::is_space))]
@@ -73,20 +74,32 @@ pub(crate) fn take_run(
     check.take_run(simple, run, count)
 }
 
-/// Whether the byte is white space: XML 1.0 §2.3, S.
-#[tactic(auto, unfolding(markup::specs::Chars::is_space))]
-fn is_blank(byte: u8) -> bool
-    ensures { result ≡ is_space byte }
-{
-    byte == b' ' || byte == b'\t' || byte == b'\n' || byte == b'\r'
-}
+/// White space that stands by itself: spaces, tabs and LFs, and no CR, which an LF may join
+/// (XML 1.0 §2.3, S; §2.11).
+struct StillBlank;
 
-/// Whether the byte is white space that stands by itself: a CR does not, which an LF may join
-/// (XML 1.0 §2.11).
-fn is_still_blank(byte: u8) -> bool
-    ensures { result ≡ is_still_space byte }
-{
-    is_blank(byte) && byte != b'\r'
+impl ByteClass for StillBlank {
+    ghost class = { λ _. is_still_space };
+
+    #[inline]
+    #[tactic(auto, unfolding(markup::specs::Chars::is_space))]
+    fn has(&self, byte: u8) -> bool {
+        byte == b' ' || byte == b'\t' || byte == b'\n'
+    }
+
+    #[inline]
+    fn others(&self, bytes: u8x16) -> u64 {
+        (bytes.simd_ne(u8x16::splat(b' '))
+            & bytes.simd_ne(u8x16::splat(b'\t'))
+            & bytes.simd_ne(u8x16::splat(b'\n'))).to_bitmask()
+    }
+
+    #[inline]
+    fn others_of_eight(&self, bytes: u8x8) -> u64 {
+        (bytes.simd_ne(u8x8::splat(b' '))
+            & bytes.simd_ne(u8x8::splat(b'\t'))
+            & bytes.simd_ne(u8x8::splat(b'\n'))).to_bitmask()
+    }
 }
 
 /// How many bytes at the front of the piece are white space that stands by itself.
@@ -94,12 +107,7 @@ pub(crate) fn blank_length(piece: &[u8]) -> usize
     ensures within { result ≤ length piece.now }
     ensures count { result ≡ prefix_len is_still_space piece.now }
 {
-    for (i, byte) in piece.iter().enumerate() {
-        if !is_still_blank(*byte) {
-            return i;
-        }
-    }
-    piece.len()
+    run_length(&StillBlank, piece)
 }
 
 /// The rule that the text breaks, if it breaks one; else its leaf is shown, where pieces are kept.
