@@ -208,14 +208,6 @@ date_in kind.Binary codes text leaf d h = absurd d
 date_in kind.Envelope codes text leaf d h = absurd d
 date_in k codes text leaf d h = h
 
-in_date : (k : Kind) (text : List ℕ) (leaf : Leaf) → IsDate k → IsDateLeaf k text leaf → IsLeaf k text leaf
-in_date kind.Text text leaf d h = absurd d
-in_date kind.Decimal text leaf d h = absurd d
-in_date kind.Boolean text leaf d h = absurd d
-in_date kind.Binary text leaf d h = absurd d
-in_date kind.Envelope text leaf d h = absurd d
-in_date k text leaf d h = h
-
 date_short : (k : Kind) → IsDate k → IsShortKind k
 date_short k d = record {
   no_text = λ e. subst IsDate e d;

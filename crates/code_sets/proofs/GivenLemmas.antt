@@ -16,9 +16,8 @@ use Rattle.std.proofs.Math.Seq.{take-suc}
 use Rattle.std.proofs.lemmas.Map.Text.{is_eq-slice_cmp}
 use Rattle.std.proofs.lemmas.Slice.Eq.{bytes_eq-Decides}
 use Rattle.indexmap.specs.IndexSet.{IndexSet, insert_key}
-use Rattle.repo_objects.specs.declared.objects.CodeDef.{CodeDef}
 use Rattle.code_sets.specs.declared.record.CodeRecord.{CodeRecord}
-use Rattle.code_sets.specs.Codes.{code_of, codes_for, once}
+use Rattle.code_sets.specs.Codes.{codes_for, once}
 use Rattle.code_sets.specs.Given.{texts_of, with_text, codes_in}
 
 -- what follows where a result is Ok
@@ -35,9 +34,6 @@ any_map f p (x ∷ xs) = ap (λ b. p (f x) || b) (any_map f p xs)
 -- a key is found where its text is
 pub text_found : (text : List ℕ) (keys : List (Vec ℕ)) → list_any (λ (k : Vec ℕ). bytes_eq text k.items) keys ≡ list_any (bytes_eq text) (texts_of keys)
 text_found text keys = sym (any_map (λ (k : Vec ℕ). k.items) (bytes_eq text) keys)
-
-key_eq : Vec ℕ → Vec ℕ → Bool
-key_eq x y = bytes_eq x.items y.items
 
 -- one more key
 pub key_added : (keys : List (Vec ℕ)) (k : Vec ℕ) → texts_of (insert_key (λ x y. bytes_eq x.items y.items) keys k) ≡ with_text (texts_of keys) k.items
@@ -160,10 +156,6 @@ record_added old new rs r was more q = more q ∙ case (bytes_eq r.set q) refl �
     case false e = was q
 
 -- ---- codes of texts
-
-pub def_added : (keys : List (Vec ℕ)) (k : Vec ℕ) (defs : List CodeDef) (d : CodeDef) → defs ≡ map code_of (texts_of keys) → d ≡ code_of k.items → defs ++ d ∷ [] ≡ map code_of (texts_of (keys ++ k ∷ []))
-def_added keys k defs d e f =
-    (λ i. e i ++ f i ∷ []) ∙ sym (map-append code_of (texts_of keys) (k.items ∷ [])) ∙ ap (map code_of) (sym (map-append (λ (k : Vec ℕ). k.items) keys (k ∷ [])))
 
 -- ---- lists that a loop has gone over
 

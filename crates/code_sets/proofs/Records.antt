@@ -50,9 +50,6 @@ least_one fs h = (not_two h refl, λ other b. by other b)
     by other (no_text k e) = omega (arith, e)
     by other (no_code k l e) = omega (arith, e)
 
-two_long : (fs : Fields) (a b : List ℕ) → fs ≡ a ∷ (b ∷ []) → length fs ≡ 2
-two_long fs a b e = ap length e
-
 pub least_two : (fs : Fields) (a b : List ℕ) → fs ≡ a ∷ (b ∷ []) → (IsUtf8 a → IsUtf8 b → ⊥) → IsLeastBroken fs 2
 unfolding AllText
 least_two fs a b e h = (no_text (λ t. let u : AllText (a ∷ (b ∷ [])) = subst AllText e t in h u.0 u.1.0) refl, λ other b'. by other b')

@@ -236,13 +236,6 @@ pub number_pushed : (kind : Kind) (leaf : Leaf) (n : DecimalNumber) (chars : Lis
     → IsDecimal n × IsCanonicalText chars n × (chars ≡ escaped_text chars)
 number_pushed kind leaf n chars l h = number_at kind n chars (subst (λ x. IsCanonicalLeaf kind x chars) l h)
 
-flag_at : (kind : Kind) (flag : Bool) (chars : List ℕ) → IsCanonicalLeaf kind (Flag flag) chars → boolean_text flag ≡ escaped_text chars
-flag_at Boolean flag chars e = sym e ∙ sym (visible_text chars (subst AreVisible (sym e) (flag_visible flag)))
-flag_at kind flag chars h = absurd h
-
-pub flag_pushed : (kind : Kind) (leaf : Leaf) (flag : Bool) (chars : List ℕ) → leaf ≡ Flag flag → IsCanonicalLeaf kind leaf chars → boolean_text flag ≡ escaped_text chars
-flag_pushed kind leaf flag chars l h = flag_at kind flag chars (subst (λ x. IsCanonicalLeaf kind x chars) l h)
-
 -- no leaf of a kind is a code
 pub no_code : (kind : Kind) (leaf : Leaf) (place : ℕ) → leaf ≡ Code place → IsLeafOf kind leaf → ⊥
 no_code kind leaf place l (from, of) = at_code kind (subst (λ x. IsLeaf kind from x) l of)

@@ -1,8 +1,7 @@
 -- A text that is pushed in pieces.
-use Rattle.std.proofs.Common.{◌≡◌, ℕ, ◌+◌, ◌≤◌, List, [], ◌++◌, Option, Some, None, Result, Ok, Err, length, refl, sym, ap, subst, ◌∙◌, arith, append_assoc, length-append}
-use Rattle.std.proofs.lemmas.List.{append-nil}
+use Rattle.std.proofs.Common.{◌≡◌, ℕ, ◌+◌, ◌≤◌, List, ◌++◌, Option, Result, Ok, Err, length, sym, ap, subst, ◌∙◌, arith, append_assoc, length-append}
 use Rattle.std.specs.Io.KnownBytes.{Appends}
-use Rattle.outside.specs.Sink.{AppendsFront, PushAppends, HasSinkCause, HasRoom}
+use Rattle.outside.specs.Sink.{AppendsFront, PushAppends, HasRoom}
 use Rattle.outside.specs.declared.errors.SinkError.{SinkError}
 use Rattle.outside.proofs.Pushing.{append_twice, append_then_front, front_of_front}
 
@@ -13,13 +12,6 @@ pub record HasPushed (old now : Option (List ℕ)) (faults faults' room room' : 
   pub same : faults' ≡ faults
   pub falls : room ≤ room' + length text
   pub whole_is : whole ≡ text ++ rest
-
-nothing_appended : (a : Option (List ℕ)) → Appends a a []
-nothing_appended None = tt
-nothing_appended (Some s) = sym (append-nil s)
-
-pub pushed_none : (a : Option (List ℕ)) (faults room : ℕ) (whole : List ℕ) → HasPushed a a faults faults room room whole whole
-pushed_none a faults room whole = record { text = []; written = nothing_appended a; same = refl; falls = omega arith; whole_is = refl }
 
 -- a piece goes through
 pub pushed_more : (a b c : Option (List ℕ)) (fa fb fc ra rb rc : ℕ) (whole rest piece behind : List ℕ) → HasPushed a b fa fb ra rb whole rest → rest ≡ piece ++ behind
@@ -37,18 +29,6 @@ pub pushed_bytes : (a b c : Option (List ℕ)) (fa fb ra rb : ℕ) (whole rest :
     → PushAppends b c r rest → PushAppends a c r whole
 pushed_bytes a b c fa fb ra rb whole rest (Ok x) h p = subst (Appends a c) (sym h.whole_is) (append_twice a b c h.text rest h.written p)
 pushed_bytes a b c fa fb ra rb whole rest (Err e) h p = subst (AppendsFront a c) (sym h.whole_is) (append_then_front a b c h.text rest h.written p)
-
-pub pushed_cause : (a b : Option (List ℕ)) (fa fb fc ra rb : ℕ) (whole rest : List ℕ) (r : Result (Unit {0}) SinkError) → HasPushed a b fa fb ra rb whole rest
-    → HasSinkCause fb fc r → HasSinkCause fa fc r
-pushed_cause a b fa fb fc ra rb whole rest r h p = subst (λ f. HasSinkCause f fc r) h.same p
-
-pub pushed_room : (a b : Option (List ℕ)) (fa fb ra rb rc : ℕ) (whole rest : List ℕ) (r : Result (Unit {0}) SinkError) → HasPushed a b fa fb ra rb whole rest
-    → HasRoom rb rc r rest → HasRoom ra rc r whole
-pushed_room a b fa fb ra rb rc whole rest r h p =
-    let len : length whole ≡ length h.text + length rest = ap length h.whole_is ∙ length-append h.text rest in
-    let f = h.falls in
-    let g = p.falls in
-    record { falls = omega (arith, len, f, g); memory = λ m. let lt = p.memory m in omega (arith, len, f, lt) }
 
 -- an error at a piece of what is left
 pub piece_fails : (a b c : Option (List ℕ)) (fa fb ra rb : ℕ) (whole rest piece behind : List ℕ) → HasPushed a b fa fb ra rb whole rest → rest ≡ piece ++ behind

@@ -197,11 +197,6 @@ anys_found g p fs at s b t tag is form =
     ap (λ z. any_answer 0 (components g p 0 fs) b z) tag ∙ (ap (λ z. any_answer 0 (components g p 0 fs) z (context at)) (sym form)
     ∙ subst (λ z. any_answer 0 (components g p 0 fs) (component g p z s).constructed (context z) ≡ Begins z (component g p z s)) same (any_found g p 0 at fs s is))
 
--- an amount
-pub dropped_nothing : {A : Type 0} (n : ℕ) → drop {A = A} n [] ≡ []
-dropped_nothing zero = refl
-dropped_nothing (suc n) = refl
-
 field_nothing : (k : ℕ) (cs : List (Component ℕ)) (b : Bool) (t : Tag) → ((d : ℕ) (c : Component ℕ) → slice_get cs d ≡ Some c → is_under c b t ≡ false) → field_answer k cs b t ≡ Breaks UnexpectedTag []
 field_nothing k [] b t none = refl
 field_nothing k (c ∷ cs) b t none =
@@ -255,9 +250,6 @@ none_within : {A : Type 0} (fs : List A) (k : ℕ) → slice_get fs k ≡ None �
 none_within [] k e = omega arith
 none_within (f ∷ fs) zero e = absurd cc
 none_within (f ∷ fs) (suc k) e = (let r = none_within fs k e in omega arith)
-
-pub not_due_behind : (fs : List (Slot ℕ)) (n : ℕ) → length fs ≤ n → NoneDue fs n (length fs)
-not_due_behind fs n h i s low high e = absurd (omega arith)
 
 pub context_class : (k : TagClass) → class_view k ≡ Context → k ≡ class.Context
 context_class class.Universal e = absurd cc

@@ -141,9 +141,6 @@ spaces_run n =
 pub held_within : (m n k : ℕ) → k ≤ 4 * n + 64 → k ≤ 4 * m + 64 → IsHeldWithin (Some m) n k
 held_within m n k few low = omega (arith, few, low)
 
-pub all_kept : (most : ℕ) (octets : List ℕ) → length octets ≤ 4 * most + 64 → IsTextKept most octets octets
-all_kept most octets fits = record { few = omega arith; within = held_within most (length octets) (length octets) (omega arith) fits; text = inl refl }
-
 pub none_kept : (most : ℕ) (kept octets : List ℕ) (bytes count : ℕ) → kept ≡ 0 ∷ [] → 4 * most + 64 < length octets → IsXmlRun (take bytes octets) count
     → ((n : ℕ) → n ≤ length octets → IsXmlText (take n octets) → n ≤ bytes) → 3 < length octets - bytes → IsTextKept most kept octets
 none_kept most kept octets bytes count is long run longest some =

@@ -211,10 +211,6 @@ pub code_fits : (simple : Simple) (codes : List (List ℕ)) (octets : List ℕ) 
 code_fits simple codes octets place e some is there =
     (code_contents simple.kind simple.codes codes octets place e some is, given_fits simple there.0 (Code place) (code_given simple codes place e some there))
 
--- octets that are other integer are other contents
-pub no_integer : (simple : Simple) (codes : List (List ℕ)) (octets : List ℕ) → simple.kind ≡ kind.Text → simple.codes ≡ Some codes → (IsInteger octets → ⊥) → ContentsUnder simple octets (Err BadContents)
-no_integer simple codes octets e some other = λ h. other (subst (λ z. HasContentsForm kind.Text z octets) some (subst (λ z. HasContentsForm z simple.codes octets) e h))
-
 code_text : (simple : Simple) (codes : List (List ℕ)) (place : ℕ) → simple.kind ≡ kind.Text → simple.codes ≡ Some codes → Fits simple (Code place) → IsXmlCode codes place
 code_text simple codes place e some (text, canonical, gives) =
     let is : IsCodeAt codes text (Code place) = subst (λ z. IsCanonicalBy kind.Text z (Code place) text) some (subst (λ z. IsCanonicalBy z simple.codes (Code place) text) e canonical) in

@@ -1,6 +1,6 @@
 -- A path, name by name.
 use Rattle.std.specs.Prelude.{Result, Ok, Err, OnOk, slice_get, if◌then◌else◌}
-use Rattle.std.proofs.Common.{◌≡◌, ℕ, true, false, List, [], ◌∷◌, ◌++◌, Option, Some, refl, sym, ap, ◌∙◌, subst, arith, append-nil, append_assoc, length-append}
+use Rattle.std.proofs.Common.{◌≡◌, ℕ, false, List, [], ◌∷◌, ◌++◌, Option, Some, refl, sym, ap, ◌∙◌, subst, arith, append-nil, append_assoc, length-append}
 use Rattle.std.specs.Fmt.{decimal}
 use Rattle.facets.specs.declared.simple.Simple.{Simple}
 use Rattle.reference_check.specs.Forms as graph
@@ -36,9 +36,6 @@ put_one types p q names n h text held = record {
   held = held ∙ sym (last_behind names n);
 }
 
-pub put_none : (types : Graph ℕ Simple) (p : Path) (names : List Name) → HasNames types p names → HasNames types p (names ++ [])
-put_none types p names h = subst (HasNames types p) (sym (append-nil names)) h
-
 -- as it is written
 whole : (n : Name) (ns : List Name) → names_text (n ∷ ns) ≡ closed_text (n ∷ ns) ++ last_list (n ∷ ns)
 whole (Numbered tag number) [] = sym (append-nil ((47 ∷ name_text (Numbered tag number)) ++ []) ∙ append-nil (47 ∷ name_text (Numbered tag number)))
@@ -57,10 +54,6 @@ whole_path types p (n ∷ ns) h = ap (λ z. z ++ held_text types p.list) h.writt
 -- the text of one name
 pub numbered_text : (tag : List ℕ) (number : ℕ) → closed_text (Numbered tag number ∷ []) ≡ 47 ∷ (tag ++ (91 ∷ (decimal number ++ (93 ∷ []))))
 numbered_text tag number = append-nil (47 ∷ (tag ++ (91 ∷ (decimal number ++ (93 ∷ [])))))
-
--- a slot's names
-pub slot_alone : (s : graph.Slot ℕ) (o : Option (graph.Slot ℕ)) → o ≡ Some s → is_single s ≡ true → Numbered s.tag 1 ∷ [] ≡ slot_names o
-slot_alone s o e is = sym (ap slot_names e ∙ ap (λ z. if z then Numbered s.tag 1 ∷ [] else ListName s.tag ∷ []) is)
 
 pub slot_listed : (s : graph.Slot ℕ) (o : Option (graph.Slot ℕ)) → o ≡ Some s → is_single s ≡ false → ListName s.tag ∷ [] ≡ slot_names o
 slot_listed s o e is = sym (ap slot_names e ∙ ap (λ z. if z then Numbered s.tag 1 ∷ [] else ListName s.tag ∷ []) is)

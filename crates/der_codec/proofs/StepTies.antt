@@ -48,9 +48,6 @@ pub fails_as : (m : DerMessage ℕ) (xs ys : List Level) (d e : Due) (bytes : Li
 fails_as m xs ys d e bytes rule place place2 added a b c f =
     subst (λ z. Fails m z d bytes rule place added) (sym a) (subst (λ z. Fails m ys z bytes rule place added) (sym b) (subst (λ z. Fails m ys e bytes rule z added) (sym c) f))
 
-below_of : (xs : List Level) (y : Level) (ys : List Level) (place : ℕ) → xs ≡ y ∷ ys → IsBelow place (end_of_first xs) → place < y.end
-below_of xs y ys place e low = (let h = subst (λ z. IsBelow place (end_of_first z)) e low in h)
-
 -- identifier octets that begin nothing
 pub begin_breaks : (m : DerMessage ℕ) (xs : List Level) (level : Level) (d : Due) (start place : ℕ) (bytes : List ℕ) (o : ℕ) (id : ids.Identifier) (rule : Rule) (added : Added) (r : Reads m xs d start place bytes) → Some level ≡ first_of xs → HasIdentifier d r.rest o id → IsBelow place (end_of_first xs)
     → ((l : states.Level ℕ) → IsLevel m.forms level l → IsFound m.forms (found.Breaks rule added) (level_answer m l id.constructed (tag_view id))) → Fails m xs d (bytes ++ o ∷ []) rule start (added_text m.forms added)

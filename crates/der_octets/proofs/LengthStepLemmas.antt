@@ -91,25 +91,9 @@ pub begun_taken : (count come value : ℕ) (octets : List ℕ) → HasBegun coun
 begun_taken zero come value octets b = absurd (let few = b.fewer in omega arith)
 begun_taken (suc count) come value octets b = b
 
-pub taken_begun : (count come value : ℕ) (octets : List ℕ) → (count ≡ 0 → ⊥) → HasTakenIn count come value octets → HasBegun count come value octets
-taken_begun zero come value octets some h = absurd (some refl)
-taken_begun (suc count) come value octets some h = h
-
 pub taken_none : (count come value : ℕ) (octets : List ℕ) → count ≡ 0 → HasTakenIn count come value octets → octets ≡ []
 taken_none zero come value octets none h = h
 taken_none (suc count) come value octets none h = absurd (omega arith)
-
-pub count_taken : (count octet : ℕ) → count ≡ octet - 128 → 128 < octet → octet ≤ 136 → HasTakenIn count 0 0 (octet ∷ [])
-count_taken count octet is low high = begun_taken count 0 0 (octet ∷ []) (record {
-  others = [];
-  octets_are = ap (λ z. z ∷ []) (let e : octet ≡ 128 + count = omega arith in e);
-  come_is = refl;
-  fewer = omega arith;
-  most = omega arith;
-  value_is = refl;
-  below = tt;
-  led = tt;
-})
 
 pub and_more : (count come value result octet : ℕ) (octets : List ℕ) → HasBegun count come value octets → (come ≡ 0 → IsLead count octet) → octet < 256 → (come + 1 ≡ count → ⊥) → result ≡ value * 256 + octet → HasTakenIn count (come + 1) result (octets ++ octet ∷ [])
 and_more count come value result octet octets b lead low other is =

@@ -1,19 +1,8 @@
 -- The reader of identifier octets.
-use Rattle.std.proofs.Common.{◌≡◌, ◌≢◌, ℕ, zero, suc, ◌+◌, ◌-◌, ◌*◌, ◌/◌, ◌%◌, ◌≤◌, ◌<◌, Bool, true, false, List, [], ◌∷◌, ◌++◌, refl, sym, ap, ◌∙◌, arith}
-use Rattle.der_octets.specs.Octets.{Class, Universal, Application, Context, Private, Tag, class_bits, form_bit, identifier, IsShortTag}
+use Rattle.std.proofs.Common.{◌≡◌, ◌≢◌, ℕ, zero, suc, ◌+◌, ◌-◌, ◌*◌, ◌/◌, ◌%◌, ◌≤◌, ◌<◌, Bool, List, [], ◌∷◌, ◌++◌, refl, sym, ap, ◌∙◌, arith}
+use Rattle.der_octets.specs.Octets.{Tag, class_bits, form_bit, identifier, IsShortTag}
 use Rattle.der_octets.specs.TagSteps.{HasFirst, HasSecond, HasTakenIn}
 use Rattle.der_octets.proofs.TagFronts.{tag_bits, one_octet, two_octets, three_octets, TagBegun, one, two, three, tag_begun}
-
--- the bits of a class and a form leave no remainder
-pub bits_even : (b : Bool) (c : Class) → (class_bits c + form_bit b) % 32 ≡ 0
-bits_even true Universal = refl
-bits_even true Application = refl
-bits_even true Context = refl
-bits_even true Private = refl
-bits_even false Universal = refl
-bits_even false Application = refl
-bits_even false Context = refl
-bits_even false Private = refl
 
 heads : (x y : ℕ) (xs ys : List ℕ) → x ∷ xs ≡ y ∷ ys → (x ≡ y) × (xs ≡ ys)
 heads x y xs ys e = (cc, cc)
@@ -76,13 +65,3 @@ second_more first octet high octets has is some small = record {
 pub taken_none : (come first high : ℕ) (octets : List ℕ) → come ≡ 0 → HasTakenIn come first high octets → octets ≡ []
 taken_none zero first high octets is h = h
 taken_none (suc come) first high octets is h = absurd (omega arith)
-
-pub taken_first : (come first high : ℕ) (octets : List ℕ) → come ≡ 1 → HasTakenIn come first high octets → HasFirst first octets
-taken_first zero first high octets is h = absurd (omega arith)
-taken_first (suc zero) first high octets is h = h
-taken_first (suc (suc come)) first high octets is h = absurd (omega arith)
-
-pub taken_second : (come first high : ℕ) (octets : List ℕ) → (come ≡ 0 → ⊥) → (come ≡ 1 → ⊥) → HasTakenIn come first high octets → HasSecond first high octets
-taken_second zero first high octets a b h = absurd (a refl)
-taken_second (suc zero) first high octets a b h = absurd (b refl)
-taken_second (suc (suc come)) first high octets a b h = h

@@ -30,9 +30,6 @@ take_none (suc c) = refl
 pub empty_past : (k to : ℕ) (slots : List (Slot ℕ)) → slice_get slots k ≡ None → empty_from k to slots ≡ []
 empty_past k to slots none = ap (λ xs. empty_slots k (take (to - k) xs)) (drop_none slots k none) ∙ ap (empty_slots k) (take_none (to - k))
 
-pub empty_end : (k to : ℕ) (slots : List (Slot ℕ)) → to ≤ k → empty_from k to slots ≡ []
-empty_end k to slots l = (let z : to - k ≡ 0 = omega arith in ap (λ c. empty_slots k (take c (drop k slots))) z)
-
 -- the slot that is told
 abbrev pub told : Told → Slot ℕ
 told t = record { tag = t.tag.now; min = t.min; max = t.max; target = t.target }

@@ -1,11 +1,10 @@
 -- A leaf has one verdict; and the places of codes, and truth values, fit.
-use Rattle.std.proofs.Common.{◌≡◌, ◌<◌, ◌≤◌, ℕ, zero, suc, inl, inr, Bool, List, [], ◌∷◌, length, get_or, Option, Some, MatchOption, Result, Ok, Err, refl, sym, ap, subst, ◌∙◌, arith}
+use Rattle.std.proofs.Common.{◌≡◌, ◌<◌, ℕ, zero, suc, inl, inr, Bool, List, [], ◌∷◌, length, get_or, Option, Some, MatchOption, Result, Ok, Err, refl, sym, ap, subst, ◌∙◌, arith}
 use Rattle.std.specs.Prelude.{slice_get, encode_utf8_all}
 use Rattle.std.specs.List.{AllByRecursion}
 use Rattle.std.proofs.lemmas.Option.{slice_get-get_or, slice_get_within}
 use Rattle.lexical_core.specs.Characters.{IsXmlText}
 use Rattle.lexical_core.specs.declared.rule.Rule.{Rule}
-use Rattle.lexical_core.specs.declared.rule.Rule.TheVariants.{NotACode}
 use Rattle.data_types.specs.Leaf.{Leaf, Bytes, Flag, Code, IsLeaf}
 use Rattle.data_types.specs.declared.kind.Kind.{Kind}
 use Rattle.data_types.specs.declared.kind.Kind.TheVariants as kind
@@ -83,13 +82,6 @@ code_fits_by simple place k codes e some all lt = absurd (omega (arith, lt))
 
 pub code_fits : (simple : Simple) (place : ℕ) → HasXmlCodes simple → place < place_count simple → Fits simple (Code place)
 code_fits simple place all lt = code_fits_by simple place simple.kind simple.codes refl refl all lt
-
-no_code_by : (k : Kind) (codes : Option (List (List ℕ))) (place : ℕ) → place_count_by k codes ≤ place → IsNoCode k codes (Code place)
-no_code_by kind.Text (Some codes) place past = past
-no_code_by k codes place past = tt
-
-pub no_code_breaks : (simple : Simple) (place : ℕ) → place_count simple ≤ place → BreaksAs simple (Code place) NotACode
-no_code_breaks simple place past = inr (no_code_by simple.kind simple.codes place past, refl)
 
 -- ---- truth values
 

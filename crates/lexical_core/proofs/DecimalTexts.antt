@@ -63,10 +63,6 @@ pub NoSign-digits : (ds tail : List ℕ) → AllDigits 10 ds → NoSign tail →
 NoSign-digits [] tail all n = n
 NoSign-digits (d ∷ ds) tail all n = digit_no_sign d all.0
 
-NoSign-some_digits : (ds tail : List ℕ) → AllDigits 10 ds → 0 < length ds → NoSign (ds ++ tail)
-NoSign-some_digits [] tail all some = absurd (omega arith)
-NoSign-some_digits (d ∷ ds) tail all some = digit_no_sign d all.0
-
 pub NoSign-point : (o : Option (List ℕ)) → NoSign (point_text o)
 NoSign-point None = tt
 NoSign-point (Some ds) = (λ e. omega arith, λ e. omega arith)
@@ -144,21 +140,6 @@ whole_digit s s' text c digit w e low same some grows =
       },
       omega (arith, length-append text (c ∷ [])),
     )
-
-pub whole_point : (s s' : DecimalStep) (text : List ℕ) → ReadWhole s text → s'.negative ≡ s.negative → s'.digits ≡ s.digits → ReadFraction s' (text ++ 46 ∷ [])
-whole_point s s' text w same digits =
-    record {
-      sign = w.sign;
-      digits = w.digits;
-      after = [];
-      sign_is = subst (λ b. IsSign b w.sign) (sym same) w.sign_is;
-      are_digits = w.are_digits;
-      are_after = tt;
-      spelled = ap (λ t. t ++ 46 ∷ []) w.spelled ∙ append_assoc w.sign w.digits (46 ∷ []);
-      some = λ h. let more = w.some (sym (ap (λ (d : _). d.some) digits) ∙ h) in omega arith;
-      none = λ h. (w.none (sym (ap (λ (d : _). d.some) digits) ∙ h), refl);
-      number = subst (λ v. HasDigits s'.digits v 0) (ap (digits_value 10) (sym (append-nil w.digits))) (subst (λ d. HasDigits d (digits_value 10 w.digits) 0) (sym digits) w.number);
-    }
 
 pub fraction_digit : (s s' : DecimalStep) (text : List ℕ) (c digit : ℕ) → ReadFraction s text → digit + 48 ≡ c → digit < 10 → s'.negative ≡ s.negative
     → s'.digits.some ≡ true → ((value count : ℕ) → HasDigits s.digits value count → HasDigits s'.digits (value * 10 + digit) (count + 1))

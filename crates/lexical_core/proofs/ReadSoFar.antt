@@ -55,9 +55,6 @@ after_chars P (d ∷ ds) cs tail all e =
     let these : AllByRecursion P (d ∷ split.0) = subst (AllByRecursion P) split.1 all in
     after_chars P ds split.0 tail these.1 split.2
 
-pub ReadSoFar-start : (P : ℕ → Type 0) → ReadSoFar P [] [] []
-ReadSoFar-start P = record { begins = inl refl; are = tt; spelled = refl }
-
 -- a byte that goes on with a character
 pub ReadSoFar-more : (P : ℕ → Type 0) (read chars begun : List ℕ) (byte : ℕ) → ReadSoFar P read chars begun → IsFront (begun ++ byte ∷ [])
     → ReadSoFar P (read ++ byte ∷ []) chars (begun ++ byte ∷ [])
@@ -125,9 +122,6 @@ ReadSoFar-cut P read chars (b ∷ begun) r some text =
       | inl none ↦ some none
       | inr front ↦ no_text_is_begun P (b ∷ begun) front (omega arith) tail.0 tail.2
     ]
-
-pub ReadTo-start : (P : ℕ → Type 0) (bytes : List ℕ) → ReadTo P 0 bytes (Some [])
-ReadTo-start P bytes = record { begun = []; chars = []; step_is = refl; so_far = ReadSoFar-start P }
 
 ReadTo-next : (P : ℕ → Type 0) (place : ℕ) (bytes begun chars next : List ℕ) (step : Option (List ℕ)) → place < length bytes → step ≡ Some begun
     → ReadSoFar P (take place bytes ++ get_or bytes place 0 ∷ []) chars begun → ReadTo P (place + 1) bytes step

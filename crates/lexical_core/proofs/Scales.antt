@@ -111,9 +111,3 @@ IsNumber-same negative size scale size' scale' n same number =
 
 pub pow_split : (j k : ℕ) → 10 ^ (j + k) ≡ 10 ^ j * 10 ^ k
 pow_split j k = pow-add 10 j k
-
-pub grown_small : (size k : ℕ) → size < 10 ^ 18 → k ≤ 18 → size * 10 ^ k < 10 ^ 36
-grown_small size k small short =
-    let p = pow_le k 18 short in
-    let one = mul-le-mul_left size p in
-    omega arith

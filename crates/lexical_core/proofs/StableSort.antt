@@ -64,11 +64,6 @@ none_less_on : {X : Type 0} {R : X → X → Ordering} → IsTotalOrder R → (x
 none_less_on o x y [] low all = tt
 none_less_on o x y (z ∷ zs) low all = ((order o).chain z y x all.0 low, none_less_on o x y zs low all.1)
 
-not_less_back : (r s : Ordering) → s ≡ ordering_reverse r → is_lt r ≡ true → is_lt s ≡ false
-not_less_back Less s e less = ap is_lt e
-not_less_back Equal s e less = absurd cc
-not_less_back Greater s e less = absurd cc
-
 climbs-put : {X : Type 0} {R : X → X → Ordering} → IsTotalOrder R → (x : X) (ys : List X) → Climbs R ys → Climbs R (put_by R x ys)
 climbs-put o x [] up = (tt, tt)
 climbs-put {X} {R} o x (y ∷ ys) up = case (R x y) refl (climbs-put o x ys up.1)

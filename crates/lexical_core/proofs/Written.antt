@@ -211,9 +211,6 @@ joined minus digits exponent e5 e4 e3 e2 e1 e0 =
 exponent_down : (scale zeros : ℕ) → 0 < scale → exponent_for scale zeros ≡ negsuc (scale - 1)
 exponent_down scale ending some = grind (arith, nat_tests)
 
-exponent_up : (zeros : ℕ) → exponent_for 0 zeros ≡ pos zeros
-exponent_up ending = refl
-
 real_digits : (digits : ℕ) → 0 < digits % 10 → digits < 10 ^ 18 → AreRealDigits (decimal digits) × (digits_value 10 (decimal digits) ≡ digits)
 real_digits digits ends small =
     let is = decimal_is_numeral digits (omega arith) (omega arith) in

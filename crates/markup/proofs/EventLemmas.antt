@@ -37,12 +37,3 @@ events_brackets ts = events-append ts (Character 93 ∷ Character 93 ∷ [])
 -- a CR has the events of a CR LF
 pub events_return : (ts : List Token) → events [] 0 (ts ++ LineEnd Cr ∷ []) ≡ events [] 0 (ts ++ LineEnd CrLf ∷ [])
 events_return ts = events_snoc ts (LineEnd Cr) ∙ sym (events_snoc ts (LineEnd CrLf))
-
--- the place behind one more token
-pub place_snoc : (ts : List Token) (t : Token) → length (flat_map token_bytes (ts ++ t ∷ [])) ≡ length (flat_map token_bytes ts) + length (token_bytes t)
-place_snoc ts t = by ts where
-  by : (ts : List Token) → length (flat_map token_bytes (ts ++ t ∷ [])) ≡ length (flat_map token_bytes ts) + length (token_bytes t)
-  by [] = ap length (append-nil (token_bytes t)) ∙ sym (zero_first (length (token_bytes t)))
-  by (u ∷ ts) = count (token_bytes u) (flat_map token_bytes (ts ++ t ∷ [])) (flat_map token_bytes ts) (length (token_bytes t)) (by ts) where
-    count : (a b c : List ℕ) (n : ℕ) → length b ≡ length c + n → length (a ++ b) ≡ length (a ++ c) + n
-    count a b c n h = omega (arith, length-append a b, length-append a c)

@@ -2,7 +2,7 @@
 use Rattle.std.proofs.Common.{◌≡◌, List, [], ◌++◌, map, refl, sym, ◌∙◌, ap, append_assoc, append-nil}
 use Rattle.std.proofs.lemmas.List.{map-append}
 use Rattle.markup.specs.Events.{Placed}
-use Rattle.markup.specs.EventItems.{placed, Tells, TellsFront}
+use Rattle.markup.specs.EventItems.{placed, Tells}
 use Rattle.markup.specs.declared.event.Event.{Event}
 
 pub tells_none : (old new : List Event) → new ≡ old → Tells old new []
@@ -14,6 +14,3 @@ tells_twice a b c x y k l = record {
   appended = l.appended ∙ (ap (λ v. v ++ l.more) k.appended ∙ append_assoc a k.more l.more);
   told_are = map-append placed k.more l.more ∙ (ap (λ v. v ++ map placed l.more) k.told_are ∙ ap (λ v. x ++ v) l.told_are);
 }
-
-pub tells_front_none : (old new : List Event) (told : List Placed) → new ≡ old → TellsFront old new told
-tells_front_none old new told e = record { front = []; behind = told; front_is = refl; tells = tells_none old new e }

@@ -65,11 +65,6 @@ none_pending Nothing ts h = refl
 none_pending Return ts h = absurd (both_ways true h refl)
 none_pending Open ts h = refl
 
-is_return_only : (result : Finish) → is_return result ≡ true → result ≡ Return
-is_return_only Nothing h = absurd (both_ways false refl h)
-is_return_only Return h = refl
-is_return_only Open h = absurd (both_ways false refl h)
-
 -- what is open tells alone whether a CR is
 pub pending_same : (z : Tokenizer) (before : List Token) (bytes : List ℕ) (f g : Finish) → IsOpen z before bytes → FinishesBy z f → FinishesBy z g → (ts : List Token) → with_pending f ts ≡ with_pending g ts
 pending_same z before bytes f g o h k ts = by f g (h before bytes o) (k before bytes o) (λ e. finish_is_return z before bytes [] f o h (e ∙ sym (append-nil (token_bytes (LineEnd Cr)))) (end_stands before)) (λ e. finish_is_return z before bytes [] g o k (e ∙ sym (append-nil (token_bytes (LineEnd Cr)))) (end_stands before)) where

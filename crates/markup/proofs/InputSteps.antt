@@ -1,21 +1,18 @@
 -- What a byte makes of the tokens that have been read of an input.
-use Rattle.std.proofs.Common.{◌≡◌, ℕ, Bool, true, false, ◌==◌, List, [], ◌∷◌, ◌++◌, length, reverse, if◌then◌else◌, refl, sym, ◌∙◌, ap, subst, add-zero}
+use Rattle.std.proofs.Common.{ℕ, List, [], ◌∷◌, ◌++◌, length, reverse, refl, sym, ap, subst, add-zero}
 use Rattle.std.specs.List.{flat_map}
-use Rattle.std.proofs.lemmas.List.{reverse-append}
 use Rattle.lexical_core.specs.declared.rule.Rule.{Rule}
 use Rattle.markup.specs.Token.{Token, LineEnd, Character, Cr, token_bytes}
 use Rattle.markup.specs.Marks.{tag_limit}
-use Rattle.markup.specs.Events.{open_tags}
-use Rattle.markup.specs.Faults.{has_start, IsClean, Next, broken, MarkFault}
+use Rattle.markup.specs.Faults.{IsClean, Next, broken, MarkFault}
 use Rattle.markup.specs.Tokenizers.{Outcome, More, EndedToken, Refused, IsAwaited, EndsToken, Advances, AdvancesBy, Settles, SettlesBy}
-use Rattle.markup.specs.TokenRules.{one_more, brackets, settled_brackets}
 use Rattle.markup.specs.Inputs.{Reads, Begins, Any, settled_tokens, SettlesInput, Shows, ReadsToken, AdvancesInput}
 use Rattle.markup.specs.declared.draft.Draft.{Draft}
 use Rattle.markup.specs.declared.scan.Ended.{Ended}
 use Rattle.markup.specs.declared.tokenizer.Settled.{Settled}
 use Rattle.markup.specs.declared.tokenizer.Settled.TheVariants.{Nothing as NothingSettled, Return as ReturnSettled, Bracket as BracketSettled, Brackets as BracketsSettled}
 use Rattle.markup.specs.declared.tokenizer.Tokenizer.{Tokenizer}
-use Rattle.markup.proofs.InputLemmas.{reverse_snoc, clean_snoc, reads_more, reads_token, reads_fault, reads_settled, reads_settled_two, reads_begins}
+use Rattle.markup.proofs.InputLemmas.{clean_snoc, reads_more, reads_token, reads_fault, reads_settled, reads_settled_two, reads_begins}
 use Rattle.markup.proofs.InputEvents.{events-settled, events-more, events-ended}
 use Rattle.markup.proofs.CdataLemmas.{settled_clean, settled_two_clean}
 
@@ -56,25 +53,3 @@ module _ (old new : Tokenizer) (input : List ℕ) (ts : List Token) (byte : ℕ)
   -- what a byte that is taken makes of the tokens
   pub advances_input : (progress : Outcome) → AdvancesBy old new byte progress → Reads (Begins byte) old input ts → IsAwaited old.scan byte → IsClean [] ts → AdvancesInput old new (input ++ byte ∷ []) ts progress
   advances_input progress a r w c = advanced_input r w c progress (a (reverse ts) r.bytes r.opens w)
-
--- tokens that a byte settles open and close no element
-pub tags-settled : (result : Settled) (ts : List Token) → open_tags (reverse (settled_tokens result ts)) ≡ open_tags (reverse ts)
-tags-settled NothingSettled ts = refl
-tags-settled ReturnSettled ts = ap open_tags (reverse_snoc ts (LineEnd Cr))
-tags-settled BracketSettled ts = ap open_tags (reverse_snoc ts (Character 93))
-tags-settled BracketsSettled ts = ap open_tags (reverse-append ts (Character 93 ∷ Character 93 ∷ []))
-
-pub started-settled : (result : Settled) (ts : List Token) → has_start (reverse (settled_tokens result ts)) ≡ has_start (reverse ts)
-started-settled NothingSettled ts = refl
-started-settled ReturnSettled ts = ap has_start (reverse_snoc ts (LineEnd Cr))
-started-settled BracketSettled ts = ap has_start (reverse_snoc ts (Character 93))
-started-settled BracketsSettled ts = ap has_start (reverse-append ts (Character 93 ∷ Character 93 ∷ []))
-
-pub brackets-settled : (result : Settled) (ts : List Token) → brackets (reverse (settled_tokens result ts)) ≡ settled_brackets (brackets (reverse ts)) result
-brackets-settled NothingSettled ts = refl
-brackets-settled ReturnSettled ts = ap brackets (reverse_snoc ts (LineEnd Cr))
-brackets-settled BracketSettled ts = ap brackets (reverse_snoc ts (Character 93))
-brackets-settled BracketsSettled ts = ap brackets (reverse-append ts (Character 93 ∷ Character 93 ∷ [])) ∙ by (brackets (reverse ts) == 0) where
-  by : (z : Bool) → one_more (if z then 1 else 2) ≡ 2
-  by true = refl
-  by false = refl

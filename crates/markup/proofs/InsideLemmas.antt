@@ -3,19 +3,19 @@ use Rattle.std.proofs.Common.{◌≡◌, ℕ, true, false, ◌+◌, ◌-◌, ◌
 use Rattle.std.specs.Str.{encode_utf8_all}
 use Rattle.std.proofs.lemmas.Bool.{both_ways, cases_Bool}
 use Rattle.std.proofs.lemmas.List.{length-take-le, take-append-drop, take-append-le}
-use Rattle.std.proofs.lemmas.Str.{encode_ascii, encodes-append}
+use Rattle.std.proofs.lemmas.Str.{encodes-append}
 use Rattle.std.proofs.Math.Seq.{take-append_seam}
 use Rattle.markup.specs.Chars.{is_xml_char}
 use Rattle.markup.specs.Token.{Token, LineEnd, Cr, token_bytes}
 use Rattle.markup.specs.Marks.{Front, tag_limit}
 use Rattle.markup.specs.Events.{Placed, events}
 use Rattle.markup.specs.Faults.{IsTagBegun}
-use Rattle.markup.specs.Drafts.{no_draft, noted}
+use Rattle.markup.specs.Drafts.{no_draft}
 use Rattle.markup.specs.Inputs.{Any, with_pending}
-use Rattle.markup.specs.Inside.{noted_all, IsStill, GoesOver, is_inside, may_be_tag, moved, GoesInside}
+use Rattle.markup.specs.Inside.{GoesOver, is_inside, may_be_tag, moved, GoesInside}
 use Rattle.markup.specs.Reading.{HasTaken, HasTold}
 use Rattle.markup.specs.Scans.{step}
-use Rattle.markup.specs.ScanRuns.{At, turned, run, position}
+use Rattle.markup.specs.ScanRuns.{At, run, position}
 use Rattle.markup.specs.Tokenizers.{is_tag, scanned, is_pending, IsOpen, open_at, FinishesBy}
 use Rattle.markup.specs.declared.draft.Draft.{Draft}
 use Rattle.markup.specs.declared.reader.Reader.{Reader}
@@ -48,18 +48,6 @@ over_then a b c xs ys g h = record {
   after = h.after ∙ ap (λ z. scanned z c.scan c.draft) g.after;
 }
 
--- bytes that leave the scan as it is
-pub over_still : (z : Tokenizer) (bytes : List ℕ) → IsStill z.scan bytes → GoesOver z (scanned z z.scan (noted_all z.scan bytes z.draft)) bytes
-over_still z bytes s = record { encoded = s.encoded; scans = s.scans z.draft; after = refl }
-
--- a character with which the token goes on
-pub over_one : (z : Tokenizer) (scan : Scan) (byte : ℕ) → byte < 128 → step z.scan byte ≡ Goes scan → GoesOver z (scanned z scan (noted z.scan scan byte z.draft)) (byte ∷ [])
-over_one z scan byte l e = record {
-  encoded = append-nil _ ∙ encode_ascii byte l;
-  scans = ap (turned (λ t. run t (noted z.scan t byte z.draft) []) z.draft []) e;
-  after = refl;
-}
-
 -- nothing changes over no bytes
 pub over_same : (old new : Tokenizer) → GoesOver old new [] → new ≡ old
 over_same old new g =
@@ -82,14 +70,6 @@ front_more a b c piece rest behind n f g e = record {
   joined = f.joined ∙ (ap (λ v. f.seen ++ v) (sym (take-append-drop n rest) ∙ ap (λ v. take n rest ++ v) (sym e)) ∙ sym (append_assoc f.seen (take n rest) behind));
   over = over_then a b c f.seen (take n rest) f.over g;
 }
-
-pub front_count : (a b : Tokenizer) (piece rest : List ℕ) (f : IsOverFront a b piece rest) → length piece ≡ length f.seen + length rest
-front_count a b piece rest f = ap length f.joined ∙ length-append f.seen rest
-
-pub front_over : (a b : Tokenizer) (piece rest : List ℕ) (n : ℕ) → IsOverFront a b piece rest → n ≡ length piece - length rest → GoesOver a b (take n piece)
-front_over a b piece rest n f e = subst (GoesOver a b) (sym front) f.over where
-  size : n ≡ length f.seen
-  size = omega (arith, e, front_count a b piece rest f)
 
   front : take n piece ≡ f.seen
   front = ap (λ k. take k piece) size ∙ (ap (take (length f.seen)) f.joined ∙ take-append_seam f.seen rest)

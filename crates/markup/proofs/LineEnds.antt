@@ -18,12 +18,7 @@ use Rattle.markup.proofs.TokenKinds.{in_both}
 use Rattle.markup.proofs.TokenLaw.{one_token}
 use Rattle.markup.proofs.Complete.{return_run}
 use Rattle.markup.proofs.NoTokens.{Shorter, Longer, compare_texts, no_whole}
-use Rattle.markup.proofs.SettleLemmas.{finish_return}
 use Rattle.markup.proofs.TokenizerLemmas.{none_front}
-
--- a CR that is open has this byte
-pub return_open : (z : Tokenizer) (before : List Token) (bytes : List ℕ) → IsOpen z before bytes → z.scan ≡ AfterReturn → bytes ≡ token_bytes (LineEnd Cr)
-return_open z before bytes o e = (finish_return z before bytes o e).0
 
 -- and where that byte is open, a CR is
 pub open_return : (z : Tokenizer) (before : List Token) (bytes : List ℕ) → IsOpen z before bytes → bytes ≡ token_bytes (LineEnd Cr) → z.scan ≡ AfterReturn
@@ -65,15 +60,6 @@ pub ends_crlf : (old new : Tokenizer) (before : List Token) (bytes : List ℕ) (
 ends_crlf old new before bytes byte e d o h w k = (one_token before k.token (LineEnd CrLf) (token_bytes (LineEnd CrLf)) [] []
     (record { spelled = sym (awaited_crlf old before bytes byte o h w) ∙ (sym k.bytes_are ∙ sym (append-nil (token_bytes k.token))); is = k.is [] })
     (record { spelled = sym (append-nil (token_bytes (LineEnd CrLf))); is = crlf_stands before [] })).0
-
--- any other line end that a byte ends is an LF
-pub ends_lf : (new : Tokenizer) (before : List Token) (bytes : List ℕ) (byte : ℕ) (d : Draft) → (bytes ≡ token_bytes (LineEnd Cr) → ⊥) → (k : EndsToken new before (bytes ++ byte ∷ []) LineEnded d) → k.token ≡ LineEnd Lf
-ends_lf new before bytes byte d n k = by k.token k.ended_is k.is k.bytes_are where
-  last : (v : List ℕ) (x : ℕ) → 13 ∷ 10 ∷ [] ≡ v ++ x ∷ [] → v ≡ 13 ∷ []
-  last [] x e = absurd (cc)
-  last (a ∷ []) x e = cc
-  last (a ∷ b ∷ []) x e = absurd (cc)
-  last (a ∷ b ∷ c ∷ v) x e = absurd (cc)
 
   line : (l : Line) → ((after : List ℕ) → stands before (LineEnd l) after ≡ true) → token_bytes (LineEnd l) ≡ bytes ++ byte ∷ [] → LineEnd l ≡ LineEnd Lf
   line Lf s e = refl

@@ -217,7 +217,3 @@ walked_run piece bytes characters rest w = subst (λ v. IsRun v characters) (sym
 
 pub walked_within : (piece : List ℕ) (bytes characters : ℕ) (rest : List ℕ) → IsWalked piece bytes characters rest → bytes + length rest ≡ length piece
 walked_within piece bytes characters rest w = ap (λ n. n + length rest) (sym w.bytes_are) ∙ (sym (length-append w.seen rest) ∙ ap length (sym w.joined))
-
--- no byte, and so no character
-pub run_none : (piece : List ℕ) → IsRun (take 0 piece) 0
-run_none piece = record { characters = []; bytes_are = refl; count_is = refl; literal = tt; allowed = tt; blank_is = refl }

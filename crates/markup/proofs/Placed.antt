@@ -212,12 +212,6 @@ quiet_ends c cs q = rw (q.no_ampersand, q.no_semicolon) refl
 tag_chars : (c : ℕ) (cs : List ℕ) → (c == 33) ≡ false → (c == 63) ≡ false → is_in_reference (60 ∷ c ∷ cs) ≡ ends_in_reference false (60 ∷ c ∷ cs)
 tag_chars c cs n m = rw (n, m) refl
 
-bang_chars : (cs : List ℕ) → is_in_reference (60 ∷ 33 ∷ cs) ≡ false
-bang_chars cs = refl
-
-question_chars : (cs : List ℕ) → is_in_reference (60 ∷ 63 ∷ cs) ≡ false
-question_chars cs = refl
-
 opened_placed : (first : Bool) (cs : List ℕ) (t : Scan) (d e : Draft) → run (Opened first) d cs ≡ At t e → Placed (60 ∷ cs) t
 opened_placed first [] t d e h = subst (Placed (60 ∷ [])) (scan_same (Opened first) t d e h) (record { reference = refl; tag = λ k. both_ways false refl k; no_tag = λ _ k. k; same = λ k. absurd (both_ways false refl k) }) where
   scan_same : (s t : Scan) (d e : Draft) → At s d ≡ At t e → s ≡ t

@@ -1,11 +1,10 @@
 -- The open elements before and behind a tag.
-use Rattle.std.proofs.Common.{◌≡◌, ℕ, ◌-◌, Bool, true, false, List, [], ◌∷◌, ◌++◌, ◌||◌, ◌&&◌, length, drop, reverse, map, Option, Some, None, refl, sym, ap, subst, ◌∙◌, arith}
+use Rattle.std.proofs.Common.{◌≡◌, ℕ, ◌-◌, Bool, true, false, List, ◌∷◌, ◌++◌, ◌||◌, ◌&&◌, length, drop, reverse, map, Option, Some, None, sym, ap, subst, ◌∙◌, arith}
 use Rattle.std.specs.List.{list_any}
 use Rattle.std.specs.Bool.{if◌then◌else◌}
 use Rattle.std.specs.Option.{is_none}
 use Rattle.std.specs.Str.{bytes_eq}
 use Rattle.lexical_core.specs.declared.rule.Rule.TheVariants.{DuplicateAttribute, BadPrefix, AfterRoot, TagMismatch}
-use Rattle.markup.specs.declared.tag.Spelled.{Spelled}
 use Rattle.std.proofs.lemmas.List.{length-append}
 use Rattle.std.proofs.Math.Seq.{drop-append_seam}
 use Rattle.markup.specs.declared.tag.Given.{Given}
@@ -18,11 +17,11 @@ use Rattle.markup.specs.OpenNames.{OpenName, KeepsNames}
 use Rattle.markup.specs.declared.bindings.Bindings.{Bindings}
 use Rattle.markup.specs.declared.scope.Scope.{Scope}
 use Rattle.markup.specs.declared.scope.Resolved.{Resolved}
-use Rattle.markup.specs.Events.{namespace_of, element_name, expanded, entries, started, start_items, end_items}
-use Rattle.markup.specs.Faults.{has_clash, is_bad_attribute, start_rule, end_rule}
+use Rattle.markup.specs.Events.{namespace_of, element_name, expanded, entries, started, start_items}
+use Rattle.markup.specs.Faults.{has_clash, is_bad_attribute, start_rule}
 use Rattle.markup.specs.EventItems.{entry_of, Tells}
 use Rattle.markup.specs.Bindings.{Binds}
-use Rattle.markup.specs.Scopes.{declarations, open_name, all_declarations, IsScope, placed_at, TakesStart, TakesEnd}
+use Rattle.markup.specs.Scopes.{declarations, open_name, all_declarations, IsScope, placed_at, TakesStart}
 use Rattle.markup.specs.TagParts.{plain_attributes, declares_twice, declares_badly, is_unbound, IsParted, AreDeclared, IsExpanded, IsResolved}
 use Rattle.std.proofs.lemmas.Slice.Eq.{bytes_eq-Decides}
 use Rattle.markup.proofs.WholeTags.{whole_entries, whole_clash, whole_bad}
@@ -113,28 +112,10 @@ takes_empty over tags tag place old new r before after ns is no_clash bound fine
 some_tag : Some TagMismatch ≡ None → ⊥
 some_tag e = cc
 
--- a tag that is spelled as the innermost one
-pub spelled_alike : (tag : Opening) (tags : List Opening) (name : Spelled) → end_rule (tag ∷ tags) name ≡ None → tag.name ≡ name
-spelled_alike tag tags name e = by (bytes_eq tag.name.prefix name.prefix) (bytes_eq tag.name.local name.local) refl refl e where
-  same : (s t : Spelled) → s.prefix ≡ t.prefix → s.local ≡ t.local → s ≡ t
-  same s t p l =
-      let e : s ≡ record { prefix = t.prefix; local = s.local } = ap (λ v. let n : Spelled = record { prefix = v; local = s.local } in n) p in
-      e ∙ ap (λ v. let n : Spelled = record { prefix = t.prefix; local = v } in n) l
-
   by : (b d : Bool) → bytes_eq tag.name.prefix name.prefix ≡ b → bytes_eq tag.name.local name.local ≡ d → (if b && d then None else Some TagMismatch) ≡ None → tag.name ≡ name
   by true true p l e = same tag.name name ((bytes_eq-Decides tag.name.prefix name.prefix).0 p) ((bytes_eq-Decides tag.name.local name.local).0 l)
   by true false p l e = absurd (some_tag e)
   by false d p l e = absurd (some_tag e)
-
-pub takes_end : (tags : List Opening) (name : Spelled) (place : ℕ) (old new : List Event) (before after : Scope)
-    → IsScope before tags → end_rule tags name ≡ None
-    → ((tag : Opening) (outer : List Opening) → IsScope before (tag ∷ outer) → tag.name ≡ name → IsScope after outer)
-    → ((tag : Opening) (outer : List Opening) → IsScope before (tag ∷ outer) → tag.name ≡ name → Tells old new (placed_at place (end_items (tag ∷ outer))))
-    → TakesEnd tags name place old new after
-takes_end [] name place old new before after is clean closes tells = absurd (some_tag clean)
-takes_end (t ∷ ts) name place old new before after is clean closes tells =
-    let alike : t.name ≡ name = spelled_alike t ts name clean in
-    record { clean = clean; tells = tells t ts is alike; scope_is = closes t ts is alike }
 
 -- the declarations of the innermost tag are forgotten with its name
 pub closes_innermost : (before after : Scope) (tag : Opening) (tags : List Opening) (count : ℕ) → IsScope before (tag ∷ tags)

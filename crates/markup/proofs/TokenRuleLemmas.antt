@@ -1,17 +1,14 @@
 -- What a token breaks, tells and changes, by what the scan says of it.
-use Rattle.std.proofs.Common.{◌≡◌, ℕ, Bool, true, false, ◌==◌, ◌&&◌, List, [], ◌∷◌, if◌then◌else◌, refl, sym, ◌∙◌, ap, length}
-use Rattle.std.proofs.lemmas.Bool.{both_ways}
+use Rattle.std.proofs.Common.{◌≡◌, ℕ, Bool, true, false, List, [], ◌∷◌, refl, sym, ◌∙◌, ap}
 use Rattle.markup.specs.Token.{Token, Mark, Declaration, Comment, Instruction, Opener, Closer, TypeDeclaration, Start, End, Refer, LineEnd, Character}
 use Rattle.markup.specs.Marks.{in_cdata, is_first}
 use Rattle.markup.specs.Events.{open_tags, items_of}
-use Rattle.markup.specs.Faults.{has_start, is_over, is_bracket, behind_brackets, rule_of}
+use Rattle.markup.specs.Faults.{has_start, is_over, behind_brackets, rule_of}
 use Rattle.markup.specs.ScanRuns.{position, placed, ended_of, draft_of}
 use Rattle.markup.specs.Tokenizers.{IsOpen}
-use Rattle.markup.specs.TokenRules.{ends_tag, inner_rule, rule_by, inner_items, items_by, tags_by, started_by, one_more, brackets, brackets_by, is_cdata}
-use Rattle.markup.specs.declared.tag.Opening.{Opening}
+use Rattle.markup.specs.TokenRules.{rule_by, items_by, tags_by, started_by, brackets, brackets_by, is_cdata}
 use Rattle.markup.specs.declared.draft.Draft.{Draft}
 use Rattle.markup.specs.declared.scan.Ended.{Ended}
-use Rattle.markup.specs.declared.scan.Ended.TheVariants.{Start as StartEnded, End as EndEnded}
 use Rattle.markup.specs.declared.tokenizer.Tokenizer.{Tokenizer}
 use Rattle.markup.proofs.TokenKinds.{first_outside}
 
@@ -85,20 +82,6 @@ brackets_are before (Refer r) = refl
 brackets_are before (LineEnd l) = refl
 brackets_are before (Character c) = refl
 
--- the two tokens before are literal `]`
-pub behind_brackets-brackets : (before : List Token) → behind_brackets before ≡ (brackets before == 2)
-behind_brackets-brackets [] = refl
-behind_brackets-brackets (t ∷ []) = by (is_bracket t) where
-  by : (b : Bool) → false ≡ ((if b then one_more 0 else 0) == 2)
-  by true = refl
-  by false = refl
-behind_brackets-brackets (t ∷ u ∷ before) = by (is_bracket t) (is_bracket u) (brackets before == 0) where
-  by : (b c z : Bool) → (b && c) ≡ ((if b then one_more (if c then (if z then 1 else 2) else 0) else 0) == 2)
-  by true true true = refl
-  by true true false = refl
-  by true false z = refl
-  by false c z = refl
-
 -- the place of the next token tells whether a CDATA section is open
 pub in_cdata-position : (before : List Token) → in_cdata before ≡ is_cdata (position before)
 in_cdata-position [] = refl
@@ -110,22 +93,6 @@ in_cdata-position (t ∷ before) = by (is_first (t ∷ before)) (in_cdata (t ∷
 
 pub in_cdata-open : (z : Tokenizer) (before : List Token) (bytes : List ℕ) → IsOpen z before bytes → in_cdata before ≡ is_cdata z.position
 in_cdata-open z before bytes o = in_cdata-position before ∙ ap is_cdata (sym o.position_is)
-
--- a token that is no tag
-pub rule_by-inner : (cdata over : Bool) (tags : List Opening) (behind : Bool) (e : Ended) (d : Draft) → ends_tag e ≡ false → rule_by cdata over tags behind e d ≡ inner_rule cdata (length tags == 0) behind e
-rule_by-inner cdata over tags behind (StartEnded is_empty) d h = absurd (both_ways true h refl)
-rule_by-inner cdata over tags behind EndEnded d h = absurd (both_ways true h refl)
-rule_by-inner cdata over tags behind _ d h = refl
-
-pub items_by-inner : (tags : List Opening) (e : Ended) (d : Draft) → ends_tag e ≡ false → items_by tags e d ≡ inner_items e
-items_by-inner tags (StartEnded is_empty) d h = absurd (both_ways true h refl)
-items_by-inner tags EndEnded d h = absurd (both_ways true h refl)
-items_by-inner tags _ d h = refl
-
-pub tags_by-inner : (tags : List Opening) (e : Ended) (d : Draft) → ends_tag e ≡ false → tags_by tags e d ≡ tags
-tags_by-inner tags (StartEnded is_empty) d h = absurd (both_ways true h refl)
-tags_by-inner tags EndEnded d h = absurd (both_ways true h refl)
-tags_by-inner tags _ d h = refl
 
 -- a token of which the scan says this
 module _ (before : List Token) (t : Token) (e : Ended) (p : ended_of t ≡ e) where

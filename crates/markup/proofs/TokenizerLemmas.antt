@@ -38,7 +38,7 @@ use Rattle.markup.proofs.TokenLaw.{end_then}
 use Rattle.markup.proofs.TokenChars.{last_xml}
 use Rattle.markup.proofs.Exact.{run_on, goes_on, no_more, found}
 use Rattle.markup.proofs.NoTokens.{Settled, no_whole, none_within, no_token, char_no_front}
-use Rattle.markup.proofs.ReferencePlaces.{in_reference, in_tag}
+use Rattle.markup.proofs.ReferencePlaces.{in_tag}
 use Rattle.markup.proofs.Placed.{Placed, run_placed}
 
 -- nothing is a front of some character
@@ -54,9 +54,6 @@ pub tag_scan : (s : Scan) → in_tag s ≡ true → is_tag s ≡ true
 tag_scan (Value q r) h = refl
 tag_scan (ValueReference q r) h = refl
 tag_scan _ h = h
-
-reference_scan : (s : Scan) → in_reference s ≡ is_reference s
-reference_scan s = refl
 
 -- a scan that waits for nothing leaves nothing open
 not_pending : (s : Scan) (tail : List ℕ) → is_pending s ≡ false → Settled s tail

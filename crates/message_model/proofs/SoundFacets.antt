@@ -1,7 +1,7 @@
 -- The simple types of data types whose facets are within bounds.
 use Rattle.std.proofs.Common.{◌≡◌, ℕ, ◌+◌, ◌<◌, ◌≤◌, ◌^◌, List, [], ◌∷◌, ◌++◌, length, Option, Some, None, refl, ap, subst, arith, inl, inr, lit<}
 use Rattle.std.specs.List.{fold}
-use Rattle.std.specs.Option.{MatchOption, option_to_list}
+use Rattle.std.specs.Option.{option_to_list}
 use Rattle.std.specs.Cmp.Lexicographic.{slice_cmp}
 use Rattle.std.specs.Ordering.{nat_cmp, match_ordering}
 use Rattle.std.specs.declared.cmp.Ordering.{Ordering}
@@ -58,17 +58,6 @@ total_within o none good =
       | inr below ↦ below
     ]
 
-pub fraction_within : (o : Object) → set_codes o ≡ [] → (HasBadFacets o → ⊥) → MatchOption o.facets.fraction (Unit {0}) (λ n. n < 256)
-fraction_within o none good = by o.facets.fraction refl
-  where
-    by : (f : Option ℕ) → o.facets.fraction ≡ f → MatchOption f (Unit {0}) (λ n. n < 256)
-    by None h = tt
-    by (Some n) h =
-        elim (cases_lt (total_of o.facets.total) n) [
-          | inl above ↦ absurd (good (none, inr (inl (inr (inr (rw h above))))))
-          | inr below ↦ (let total = total_within o none good in omega (arith, below, total))
-        ]
-
 -- ---- what holds of the simple type
 
 pub facets_limits : (R : Contents) (o : Object) → (HasBadFacets o → ⊥) → length (set_codes o) ≤ 65536 → IsWithinLimits (facets_of R o)
@@ -81,9 +70,6 @@ facets_limits R o good few = by (set_codes o) refl
         let size : length (c ∷ cs) ≤ 65536 = subst (λ xs. length xs ≤ 65536) h few in
         let top : 65536 < 2 ^ 32 = lit< tt in
         record { codes = omega (arith, short, size, top); total = λ is. omega arith }
-
-amount_codes : (o : Object) → o.kind ≡ object.Simple kinds.Amount → set_codes o ≡ []
-amount_codes o h = (let same : o ≡ record o { kind = object.Simple kinds.Amount } = ap (λ k. record o { kind = k }) h in ap set_codes same)
 
 -- an amount is a number
 pub amount_number : (R : Contents) (o : Object) → o.kind ≡ object.Simple kinds.Amount → (facets_of R o).kind ≡ kind.Decimal

@@ -1,9 +1,9 @@
 -- Pushes one after another: what writers over a sink cite.
-use Rattle.std.proofs.Common.{◌≡◌, ℕ, ◌+◌, ◌<◌, ◌≤◌, List, [], ◌++◌, Some, None, Option, Result, Ok, Err, length, take, refl, sym, ap, ◌∙◌, subst, append-nil, append_assoc, length-append, arith, inl, inr}
+use Rattle.std.proofs.Common.{◌≡◌, ℕ, ◌+◌, List, [], ◌++◌, Some, None, Option, Result, Ok, Err, length, take, refl, sym, ap, ◌∙◌, subst, append-nil, append_assoc, length-append, arith, inl, inr}
 use Rattle.std.specs.Prelude.{IsErrOf}
 use Rattle.std.proofs.lemmas.Bool.{cases_lt}
 use Rattle.std.proofs.lemmas.List.{take-append-le, take_all}
-use Rattle.std.proofs.Math.Seq.{take-append-add, take-append_seam, take-length}
+use Rattle.std.proofs.Math.Seq.{take-append-add, take-append_seam}
 use Rattle.std.specs.Io.KnownBytes.{Appends}
 use Rattle.outside.specs.Source.{Rose}
 use Rattle.outside.specs.Sink.{AppendsFront, PushAppends}
@@ -29,15 +29,6 @@ front_of_front a b xs ys p =
       | inl fits ↦ (p.0, subst (Appends a b) (sym (take-append-le p.0 xs ys (omega arith))) p.1)
       | inr past ↦ (length xs, subst (Appends a b) (take_all p.0 xs past ∙ sym (take-append_seam xs ys)) p.1)
     ]
-
--- the whole text is a front of it
-pub all_is_front : (a b : Option (List ℕ)) (xs : List ℕ) → Appends a b xs → AppendsFront a b xs
-all_is_front a b xs p = (length xs, subst (Appends a b) (sym (take-length xs)) p)
-
--- nothing is a front of any text
-pub none_is_front : (a : Option (List ℕ)) (xs : List ℕ) → AppendsFront a a xs
-none_is_front None xs = (0, tt)
-none_is_front (Some s) xs = (0, sym (append-nil s))
 
 -- nothing behind what is held
 pub appends_nothing : (a : Option (List ℕ)) → Appends a a []

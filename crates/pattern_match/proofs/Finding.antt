@@ -355,9 +355,6 @@ one_before s d cs v (inr (more, e, (high, items, more2, vh, l, va, e2, rest))) =
   rest,
 )
 
-close_items : (d : ℕ) (cs : List ℕ) → CloseRest d cs → ItemsRest d cs
-close_items d cs (more, e, rest) = ([], more, tt, e, rest)
-
 hyphen_last : (d : ℕ) (cs : List ℕ) → CloseRest d cs → ItemsRest d (45 ∷ cs)
 hyphen_last d cs (more, e, rest) = (Hyphen ∷ [], more, refl, ap (λ x. 45 ∷ x) e, rest)
 

@@ -1,6 +1,6 @@
 -- Rows of marks that stand one after another.
 use Rattle.std.proofs.Common.{◌≡◌, Some, ℕ, zero, suc, ◌+◌, ◌*◌, ◌<◌, ◌≤◌, Bool, List, [], ◌∷◌, ◌++◌, length, take, drop, get_or, refl, sym, ap, ap₂, ◌∙◌, subst, arith, take_all, length-append}
-use Rattle.std.proofs.Math.Nat.{suc-mul, mul-le-mul_right}
+use Rattle.std.proofs.Math.Nat.{suc-mul}
 use Rattle.std.proofs.Math.Seq.{get_or-append_seam}
 use Rattle.std.proofs.lemmas.List.{length-drop, take-append-le, drop-append-le, drop-drop}
 use Rattle.pattern_match.specs.Recall.{rows_of}
@@ -9,10 +9,6 @@ use Rattle.pattern_match.proofs.Recalling.{here}
 pub count_rows : (count width : ℕ) (cells : List Bool) → length (rows_of count width cells) ≡ count
 count_rows zero width cells = refl
 count_rows (suc n) width cells = ap (λ k. suc k) (count_rows n width (drop width cells))
-
--- the cells of a row stand among all
-pub row_inside : (count width at : ℕ) → at < count → at * width + width ≤ count * width
-row_inside count width at lt = let all : suc at * width ≤ count * width = mul-le-mul_right width (omega (arith, lt)) in let step = suc-mul at width in omega (arith, all, step)
 
 pub row_at : (count width : ℕ) (cells : List Bool) (at : ℕ) → at < count → get_or (rows_of count width cells) at [] ≡ take width (drop (at * width) cells)
 row_at zero width cells at lt = absurd (omega (arith, lt))

@@ -303,9 +303,6 @@ plain_end : (k : Control) → IsPlainAt k → may_end (reading k 0) ≡ true
 plain_end k (inl p) = ap (λ x. may_end (reading x 0)) p
 plain_end k (inr p) = ap (λ x. may_end (reading x 0)) p
 
-pub pattern_accepted : (text : List ℕ) → IsPattern text → Accepted (Some start) text
-pattern_accepted text p = let r = pattern_run text p in (reading r.0 0, r.2, plain_end r.0 r.1)
-
 -- a front that is read goes on, and one that is not does not
 live_goes : (front : List ℕ) (r : Reading) → run (Some start) front ≡ Some r → GoesOn front
 live_goes front r e =

@@ -305,10 +305,6 @@ ends code old new mark h l e = subst (λ w. IsDone code w) (sym e) (record {
     none [] x = subst (λ c. Lists old.at c (drop old.at (set old.cells old.at mark)) []) (sym (drop_of_length-le code l)) (drop old.at (set old.cells old.at mark), refl, tt)
     none (p ∷ ps) x = absurd (let z = x.4 in omega arith)
 
-pub done_first : (admits : ℕ → Bool) (code : List Instruction) (walk : Walk) (live : Bool) (frames : List Frame) → length code ≤ walk.at → first_rest admits code walk live frames ≡ walk.cells
-done_first admits code walk live frames l =
-    ap (λ c. take walk.at walk.cells ++ first_pass admits c (drop walk.at walk.cells) live frames) (drop_of_length-le code l) ∙ take-append-drop walk.at walk.cells
-
 set_last : (xs : List Bool) (n : ℕ) (v : Bool) → length xs ≡ n + 1 → set xs n v ≡ take n xs ++ v ∷ []
 set_last [] n v e = absurd (omega arith)
 set_last (x ∷ []) zero v e = refl

@@ -1,15 +1,14 @@
 -- Objects by their ids and by their places.
-use Rattle.std.proofs.Common.{◌≡◌, ◌≢◌, ℕ, zero, suc, ◌<◌, Bool, true, false, true≢false, ◌↔◌, List, [], ◌∷◌, length, Option, Some, None, IsSome, IfSome, is_some, Contains, AllPairs, Bor, refl, sym, ap, subst, ◌∙◌, arith}
+use Rattle.std.proofs.Common.{◌≡◌, ◌≢◌, ℕ, zero, suc, ◌<◌, Bool, true, false, true≢false, List, [], ◌∷◌, length, Some, None, is_some, Contains, AllPairs, refl, sym, ap, subst, ◌∙◌, arith}
 use Rattle.std.specs.Prelude.{slice_get}
-use Rattle.std.specs.Option.{option_copied}
 use Rattle.std.specs.List.{position_or_len}
 use Rattle.std.specs.Str.{bytes_eq}
 use Rattle.std.proofs.lemmas.List.{get_or-map, length-map}
 use Rattle.std.proofs.lemmas.List.Elements.{Contains-append_right}
-use Rattle.std.proofs.lemmas.Option.{slice_get_within, get_or_from_slice_get, slice_get-get_or}
+use Rattle.std.proofs.lemmas.Option.{slice_get_within, get_or_from_slice_get}
 use Rattle.std.proofs.lemmas.Slice.Eq.{bytes_eq-Decides}
 use Rattle.repo_objects.specs.declared.objects.Object.{Object}
-use Rattle.repo_objects.specs.Repository.{Entry, Contents, HasId, IsRepository, ids_of}
+use Rattle.repo_objects.specs.Repository.{Entry, HasId, ids_of}
 use Rattle.reference_check.specs.Graph.{find_entry}
 
 pub nothing_at : {A : Type 0} {x : A} (k : ℕ) → slice_get [] k ≡ Some x → ⊥
@@ -63,13 +62,3 @@ nothing_found [] id h = refl
 nothing_found (e ∷ es) id h =
     let differ : bytes_eq e.id id ≡ false = bytes_differ e.id id (λ same. h (0, omega arith, same)) in
     rw differ (nothing_found es id (λ has. h (Contains-append_right (e.id ∷ []) (ids_of es) id has)))
-
--- an object that is among the others is found by its id
-pub entry_among : (es : List Entry) (e : Entry) → AllPairs (λ one other. one ≢ other) (ids_of es) → Contains es e → find_entry e.id es ≡ Some e.object
-entry_among es e apart (k, within, is) = entry_at es k e apart (slice_get-get_or es k e within ∙ ap Some is)
-
--- what a look-up in a repository gives
-pub object_found : (R : Contents) (id : List ℕ) (result : Option (Bor Object)) → IfSome result (λ o. Contains R.objects (record { id = id; object = o.now }))
-    → IsSome result ↔ HasId R.objects id → IsRepository R → option_copied result ≡ find_entry id R.objects
-object_found R id None found there whole = sym (nothing_found R.objects id (λ has. true≢false (sym (there.1 has))))
-object_found R id (Some o) found there whole = sym (entry_among R.objects (record { id = id; object = o.now }) whole.distinct found)

@@ -23,9 +23,6 @@ found_child {P} g F fs j k v ks s (t, e, holds) rest found some = go (eqb_tells 
         rw same at holds
     go (inr h) = rest (let e : eqb j k ≡ false = h.0 in grind (arith, nat_tests))
 
-some_from_min : (n m : ℕ) → m ≤ n → (m ≡ 0 → ⊥) → 0 < n
-some_from_min n m h e = grind arith
-
 reached : {P : Type 0} (F : P → Type 0) (k : ℕ) (fs : List (Slot P)) (d : List ℕ) → ((i j : ℕ) (s : Slot P) → j ≡ k + i → slice_get fs i ≡ Some s → s.min ≤ times j d) → ((i j : ℕ) (s : Slot P) → j ≡ k + i → slice_get fs i ≡ Some s → 0 < times j d → F s.target) → AllByRecursion (IsReached F) fs
 reached F k [] d enough each = tt
 reached F k (s ∷ fs) d enough each =

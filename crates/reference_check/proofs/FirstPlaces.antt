@@ -50,9 +50,6 @@ lt_cases (suc j) (suc i) = elim (lt_cases j i) [ inl a ↦ inl (omega arith) | i
 
 -- ---- none so far
 
-pub none_at_first : (R : Contents) (m : List ℕ) (rule : Rule) (ks : List ℕ) → NoneBreaks R m rule (take 0 ks)
-none_at_first R m rule ks k (j, l, e) b = absurd (omega (arith, l))
-
 pub none_more : (R : Contents) (m : List ℕ) (rule : Rule) (ks : List ℕ) (i at : ℕ) → i < length ks → at ≡ get_or ks i at
     → NoneBreaks R m rule (take i ks) → (Breaks R m rule (place_at R at) → ⊥) → NoneBreaks R m rule (take (i + 1) ks)
 none_more R m rule ks i at l is none fine k h b =

@@ -1,11 +1,11 @@
 -- The places of marks, rising.
-use Rattle.std.proofs.Common.{◌≡◌, ℕ, ◌+◌, ◌<◌, ◌≤◌, Bool, true, false, List, [], ◌∷◌, ◌++◌, length, get_or, subst, arith, inl, inr, Contains}
-use Rattle.std.specs.Prelude.{AllPairs, ◌↔◌}
+use Rattle.std.proofs.Common.{◌≡◌, ℕ, ◌+◌, ◌<◌, Bool, true, false, List, [], ◌∷◌, ◌++◌, get_or, subst, arith, inl, inr, Contains}
+use Rattle.std.specs.Prelude.{AllPairs}
 use Rattle.std.proofs.lemmas.Bool.{cases_lt}
 use Rattle.std.proofs.lemmas.List.Elements.{Contains-append_left, Contains-append_right, Contains-append_cases, Contains-get_or}
 use Rattle.std.proofs.lemmas.List.Quantifiers.{all_pairs_push}
 use Rattle.reference_check.specs.Marking.{IsMarked}
-use Rattle.reference_check.proofs.Marking.{mark_within, only_one, none_in}
+use Rattle.reference_check.proofs.Marking.{only_one}
 use Rattle.reference_check.proofs.Lookups.{first_in}
 
 -- the marked places below a bound
@@ -13,9 +13,6 @@ pub record ArePlaces (n : ℕ) (marked : List Bool) (places : List ℕ) : Type 0
   pub rising : AllPairs (λ i j. i < j) places
   pub within : (k : ℕ) → Contains places k → (k < n) × IsMarked marked k
   pub all : (k : ℕ) → k < n → IsMarked marked k → Contains places k
-
-pub no_places : (marked : List Bool) → ArePlaces 0 marked []
-no_places marked = record { rising = λ i j d l within. absurd (omega arith); within = λ k has. absurd (none_in k has); all = λ k l is. absurd (omega arith) }
 
 pub place_more : (n : ℕ) (marked : List Bool) (places : List ℕ) → ArePlaces n marked places → IsMarked marked n → ArePlaces (n + 1) marked (places ++ n ∷ [])
 place_more n marked places so_far is = record {
@@ -45,6 +42,3 @@ place_not n marked places so_far off = record {
       | inl lt ↦ so_far.all k lt is
       | inr past ↦ (let same : k ≡ n = omega arith in absurd (let on : get_or marked n false ≡ true = subst (λ j. IsMarked marked j) same is in cc))
     ]
-
-pub all_places : (n : ℕ) (marked : List Bool) (places : List ℕ) → length marked ≤ n → ArePlaces n marked places → (k : ℕ) → Contains places k ↔ IsMarked marked k
-all_places n marked places l so_far k = (λ has. (so_far.within k has).1, λ is. so_far.all k (let w : k < length marked = mark_within marked k is in omega arith) is)

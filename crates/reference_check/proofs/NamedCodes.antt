@@ -1,5 +1,5 @@
 -- The first code of each name, from the last code of a set to its first.
-use Rattle.std.proofs.Common.{◌≡◌, ℕ, Bool, true, false, List, [], ◌∷◌, Some, Bor, refl, ap, ◌∙◌}
+use Rattle.std.proofs.Common.{◌≡◌, ℕ, Bool, true, false, List, ◌∷◌, Some, Bor, refl, ap, ◌∙◌}
 use Rattle.std.specs.Bool.{if◌then◌else◌}
 use Rattle.std.specs.HashMap.{HashMap}
 use Rattle.std.specs.Map.{lookup}
@@ -19,6 +19,3 @@ finds_one_more m n key code cs named step before name =
     by : (b : Bool) → option_copied (if b then Some code else lookup (λ k. bytes_eq name k.now) m.entries) ≡ (if b then Some code.now else find_code name cs)
     by true = refl
     by false = before name
-
-pub finds_nothing : {S : Type 0} (m : HashMap (Bor (List ℕ)) (Bor CodeDef) S) → m.entries ≡ [] → FindsCodes m []
-finds_nothing m empty name = ap (λ es. option_copied (lookup (λ k. bytes_eq name k.now) es)) empty

@@ -77,10 +77,6 @@ owned_one_more names i name q rank first old new l is step before =
 
 -- ---- the names of places
 
-pub names_without : (name : List ℕ) (r : Option (List ℕ)) → is_some r ≡ false → name ∷ [] ≡ with_currency name r
-names_without name None h = refl
-names_without name (Some id) h = absurd (true≢false h)
-
 pub names_with : (name : List ℕ) (r : Option (List ℕ)) → is_some r ≡ true → name ∷ ((name ++ codes "_SimpleType") ∷ []) ≡ with_currency name r
 names_with name None h = absurd (true≢false (sym h))
 names_with name (Some id) h = refl

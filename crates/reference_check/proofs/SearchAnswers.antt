@@ -1,6 +1,6 @@
 -- What the functions of the search answer, by their parts.
 use Rattle.std.proofs.Common.{◌≡◌, ℕ, zero, suc, ◌+◌, ◌<◌, Bool, true, false, IsTrue, true≢false, List, [], ◌∷◌, ◌++◌, length, Option, Some, None, is_some, Result, Ok, Err, refl, sym, ap, ◌∙◌, subst, arith, ◌⊎◌, inl, inr, ◌↔◌}
-use Rattle.std.specs.Prelude.{slice_get, slice_set, slice_index_or, Contains, IfSome, IsSome, OnOk, replicate}
+use Rattle.std.specs.Prelude.{slice_get, slice_set, slice_index_or, Contains, IfSome, IsSome, OnOk}
 use Rattle.std.proofs.lemmas.Option.{slice_get_within, slice_get-get_or, get_or_from_slice_get}
 use Rattle.std.proofs.lemmas.List.Elements.{Contains-append_left, Contains-append_right, Contains-append_cases}
 use native.Mathlib.Decide.{dec_lt}
@@ -14,7 +14,7 @@ use Rattle.reference_check.specs.declared.finite.Mark.TheVariants.{Unreached, Op
 use Rattle.reference_check.specs.Graph.{references}
 use Rattle.reference_check.specs.FiniteSearch.{only_one, TellsTarget, IsFoundAt, IsFree, IsBlocked, TellsFree, AreFree, TellsBlocked, LetThrough, HoldBack, TellsHeld, IsUser, IsListedFor, IsListedForAll, IsListed, AreListed, KeepsUsers, free_of, IsStart, AreStart}
 use Rattle.reference_check.proofs.Targets.{target_found, target_missing}
-use Rattle.reference_check.proofs.Freed.{same_or_not, get_set_same, get_set_other, none_in}
+use Rattle.reference_check.proofs.Freed.{same_or_not, get_set_same, get_set_other}
 
 -- ---- what an element leads to
 
@@ -38,24 +38,11 @@ free_one_more es marks ds low at d is free before i x l h got = go (same_or_not 
 abbrev pub AreBlocked : List Entry → List Mark → List ElementDef → ℕ → Type 0
 AreBlocked es marks ds high = (i : ℕ) (d : ElementDef) → i < high → slice_get ds i ≡ Some d → IsBlocked es marks [] d
 
-pub blocked_one_more : (es : List Entry) (marks : List Mark) (ds : List ElementDef) (at : ℕ) (d : ElementDef) → slice_get ds at ≡ Some d → IsBlocked es marks [] d → AreBlocked es marks ds at → AreBlocked es marks ds (at + 1)
-blocked_one_more es marks ds at d is blocked before i x h got = go (same_or_not i at)
-  where
-    go : (i ≡ at) ⊎ (i ≡ at → ⊥) → IsBlocked es marks [] x
-    go (inl same) = (let e : d ≡ x = (let q : ◌≡◌ {A = Option ElementDef} (Some d) (Some x) = sym is ∙ (ap (slice_get ds) (sym same) ∙ got) in cc) in subst (λ (y : ElementDef). IsBlocked es marks [] y) e blocked)
-    go (inr other) = before i x (omega arith) got
-
 -- the element that a loop reads
 pub read : {A : Type 0} (xs : List A) (i : ℕ) (x : A) → i < length xs → x ≡ slice_index_or xs i x → slice_get xs i ≡ Some x
 read xs i x h e = slice_get-get_or xs i x h ∙ ap Some (sym e)
 
 -- ---- open objects
-
-pub open_there : (o : Option Mark) → is_some (free_of o) ≡ true → (n : ℕ) × (o ≡ Some (Open n))
-open_there None e = absurd (true≢false (sym e))
-open_there (Some Unreached) e = absurd (true≢false (sym e))
-open_there (Some (Open n)) e = (n, refl)
-open_there (Some Finite) e = absurd (true≢false (sym e))
 
 pub open_is : (o : Option Mark) (n : ℕ) → free_of o ≡ Some n → o ≡ Some (Open n)
 open_is None n e = absurd cc
@@ -72,22 +59,7 @@ none_open o n e is = true≢false (sym (ap (λ x. is_some (free_of x)) is) ∙ a
 abbrev pub NoneOpen : List Mark → ℕ → Type 0
 NoneOpen marks high = (k n : ℕ) → k < high → slice_get marks k ≡ Some (Open n) → ⊥
 
-pub none_open_more : (marks : List Mark) (at : ℕ) → is_some (free_of (slice_get marks at)) ≡ false → NoneOpen marks at → NoneOpen marks (at + 1)
-none_open_more marks at no_more before k n h got = go (same_or_not k at)
-  where
-    go : (k ≡ at) ⊎ (k ≡ at → ⊥) → ⊥
-    go (inl same) = not_there (slice_get marks at) n no_more (ap (slice_get marks) (sym same) ∙ got)
-    go (inr other) = before k n (omega arith) got
-
 -- ---- the first marks
-
-pub no_start : (count : ℕ) (marks : List Mark) → marks ≡ replicate count Unreached → AreStart [] marks
-no_start count marks e k x got = subst (λ (y : Mark). IsStart [] k y) (each count k x (ap (λ xs. slice_get xs k) (sym e) ∙ got)) (none_in k)
-  where
-    each : (count k : ℕ) (x : Mark) → slice_get (replicate count Unreached) k ≡ Some x → Unreached ≡ x
-    each zero k x e = absurd cc
-    each (suc count) zero x e = cc
-    each (suc count) (suc k) x e = each count k x e
 
 contains_more : (places : List ℕ) (p k : ℕ) → Contains (places ++ p ∷ []) k → (k ≡ p → ⊥) → Contains places k
 contains_more places p k h other = go (Contains-append_cases places (p ∷ []) k h)

@@ -50,9 +50,6 @@ target_found R d id k whole one at = ((id, one, at), λ j (i, o, h). one_place R
 pub target_missing : (es : List Entry) (d : ElementDef) (id : List ℕ) → only_one (references d) ≡ Some id → (HasId es id → ⊥) → TellsTarget es d None
 target_missing es d id one none = λ j (i, o, h). none (subst (λ (x : List ℕ). HasId es x) (some_some i id (sym o ∙ one)) (has_id es j i h))
 
-pub target_none : (es : List Entry) (d : ElementDef) → only_one (references d) ≡ None → TellsTarget es d None
-target_none es d none = λ j (i, o, h). absurd (let e : ◌≡◌ {A = Option (List ℕ)} None (Some i) = sym none ∙ o in cc)
-
 -- the place that the graph names
 one_of_only : (ids : List (List ℕ)) (id : List ℕ) → only_one ids ≡ Some id → one_of ids ≡ entry id
 one_of_only [] id e = absurd cc

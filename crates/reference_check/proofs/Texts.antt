@@ -1,21 +1,11 @@
 -- The text of a code, trace by trace.
-use Rattle.std.proofs.Common.{◌≡◌, ℕ, zero, suc, ◌<◌, ◌≤◌, ◌+◌, ◌-◌, true, false, length, drop, get_or, add-one, drop-cons, List, [], ◌∷◌, Option, Some, None, refl, sym, ap, ◌∙◌, arith}
-use Rattle.std.specs.Str.{bytes_eq}
+use Rattle.std.proofs.Common.{◌≡◌, ℕ, zero, suc, ◌<◌, ◌≤◌, ◌+◌, ◌-◌, length, drop, List, [], ◌∷◌, Option, Some, None, refl, sym, ap, ◌∙◌, arith}
 use Rattle.repo_objects.specs.declared.objects.CodeDef.{CodeDef}
 use Rattle.repo_objects.specs.declared.objects.Object.{Object}
 use Rattle.repo_objects.specs.Repository.{Entry}
 use Rattle.reference_check.specs.Graph.{find_entry}
 use Rattle.reference_check.specs.CodeTexts.{find_code, text_in, text_in_object, text_in_trace, own_or, text_behind}
 use Rattle.reference_check.specs.Traces.{with_object, code_in, code_traced}
-
--- the codes that are left, behind one that has not the name and at one that has
-pub later_codes : (name : List ℕ) (cs : List CodeDef) (i : ℕ) (c : CodeDef) → i < length cs → c ≡ get_or cs i c → bytes_eq c.name name ≡ false
-    → find_code name (drop (i + 1) cs) ≡ find_code name (drop i cs)
-later_codes name cs i c l is differs = rw (add-one, drop-cons cs i c l, ← is, differs) refl
-
-pub first_code : (name : List ℕ) (cs : List CodeDef) (i : ℕ) (c : CodeDef) → i < length cs → c ≡ get_or cs i c → bytes_eq c.name name ≡ true
-    → find_code name (drop i cs) ≡ Some c
-first_code name cs i c l is same = rw (drop-cons cs i c l, ← is, same) refl
 
 pub no_code : (name : List ℕ) (cs : List CodeDef) (i : ℕ) → length cs ≤ i → find_code name (drop i cs) ≡ None
 no_code name [] zero l = refl

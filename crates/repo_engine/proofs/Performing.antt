@@ -9,14 +9,13 @@ use Rattle.repo_engine.specs.Arms.{Carries}
 use Rattle.repo_engine.specs.Commands.{AsksFor, IsBounded}
 use Rattle.repo_engine.specs.declared.command.Command as declared
 use Rattle.repo_engine.specs.declared.command.Command.TheVariants as asked
-use Rattle.repo_engine.specs.Command.{Command, list, message, drill, HasForm, IsUnlisted, pulled, verb_word}
+use Rattle.repo_engine.specs.Command.{Command, list, message, drill, HasForm, pulled, verb_word}
 use Rattle.repo_engine.specs.Run.{End, Performs, Tells}
-use Rattle.repo_engine.specs.Sources.{Use, Untouched, AreUsed, ended_of}
+use Rattle.repo_engine.specs.Sources.{Use, AreUsed, ended_of}
 use Rattle.repo_engine.specs.Verdict.{Verdict}
 use Rattle.repo_engine.specs.declared.command.Verb.{Verb}
 use Rattle.repo_engine.specs.declared.command.Verb.TheVariants.{Types, Xsd, Asn1, CheckXml, CheckDer, CanonXml, XmlToDer, DerToXml}
 use Rattle.repo_engine.specs.declared.refusal.Stop.TheVariants.{Refused, ReadFault, WriteFault, Memory}
-use Rattle.repo_engine.specs.declared.refusal.Refusal.TheVariants.{Words}
 
 abbrev first_of : List (List ℕ) → List ℕ
 first_of (a ∷ rest) = a
@@ -83,23 +82,6 @@ one_command ws (message verb c id) (drill n s) f (a, b, e, x, y, z) = absurd (le
 appends_nothing : (a : Option (List ℕ)) → Appends a a []
 appends_nothing None = tt
 appends_nothing (Some s) = sym (append-nil s)
-
--- words without the form of a command
-pub performs_nothing : {R C I O : Type 0} (ws : List (List ℕ)) (repo : Use R) (codes : Use C) (inst : Use I) (held : O → Option (List ℕ)) (faults : O → ℕ) (s : O)
-    → IsUnlisted ws → Untouched repo → Untouched codes → Untouched inst → Performs ws repo codes inst held faults s s (Err (Refused Words))
-performs_nothing ws repo codes inst held faults s unlisted a b c = record {
-  words = (λ _. refl, λ _. unlisted);
-  untouched = λ _. (a, b, c);
-  sources = λ command form. absurd (unlisted command form);
-  verdict = λ r cs i left. ([], inl (unlisted, refl), appends_nothing (held s));
-  out = record {
-    same = λ _. refl;
-    grows = ([], appends_nothing (held s));
-    failed = λ e. absurd (cc);
-    quiet = λ _. refl;
-    later = omega arith;
-  };
-}
 
 pub tells_more : (A B : Verdict → Type 0) (end : End) (h h' : Option (List ℕ)) → ((v : Verdict) → A v → B v) → Tells A end h h' → Tells B end h h'
 tells_more A B (Ok done) h h' f t = (t.0, f _ t.1, t.2)

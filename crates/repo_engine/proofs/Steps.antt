@@ -1,11 +1,11 @@
 -- The steps that read a repository and its codes, and those that give one verdict alone.
-use Rattle.std.proofs.Common.{inl, inr, ℕ, Bool, List, Result, Ok, Err, sym, subst}
+use Rattle.std.proofs.Common.{inl, inr, ℕ, List, Result, Ok, Err}
 use Rattle.std.specs.Prelude.{IfOk, IfErr}
 use Rattle.repo_objects.specs.Repository.{Contents}
 use Rattle.repo_engine.specs.Answer.{FromRepository, GivesRepository}
-use Rattle.repo_engine.specs.Arms.{RefusesRepository, StopsBy, IsReadIf, unasked, asked}
+use Rattle.repo_engine.specs.Arms.{RefusesRepository, StopsBy}
 use Rattle.repo_engine.specs.Steps.{refused, goes_on}
-use Rattle.repo_engine.specs.Sources.{Use, Ended, IsRead, AreRead, one, both, Whole, Stopping}
+use Rattle.repo_engine.specs.Sources.{one}
 use Rattle.repo_engine.specs.Verdict.{Verdict}
 use Rattle.repo_engine.specs.declared.refusal.Stop.{Stop}
 use Rattle.repo_engine.specs.declared.refusal.Stop.TheVariants.{Refused, ReadFault, WriteFault, Memory}
@@ -23,19 +23,6 @@ stops_by A B (Refused refusal) f h = f _ h
 stops_by A B ReadFault f h = tt
 stops_by A B WriteFault f h = tt
 stops_by A B Memory f h = tt
-
--- the first source is read, and the second behind it if it is asked
-pub read_behind : {S T : Type 0} (second : Bool) (ended : Ended) (u : Use S) (v : Use T) → IsRead Whole u → IsReadIf second ended v → AreRead second ended u v
-read_behind second ended u v first (unasked no_codes whole same) = one (subst (λ e. IsRead e u) (sym whole) first) same (λ _. no_codes)
-read_behind second ended u v first (asked codes read) = both codes first read
-
--- what is read to its end, and then stops
-pub stopping : {S : Type 0} (u : Use S) → IsRead Whole u → IsRead Stopping u
-stopping u read = record { later = read.later; whole = λ e. absurd (cc); failed = λ e. absurd (cc) }
-
-pub stopping_both : {S T : Type 0} (second : Bool) (u : Use S) (v : Use T) → AreRead second Whole u v → AreRead second Stopping u v
-stopping_both second u v (one read same none) = one (stopping u read) same (λ e. absurd (cc))
-stopping_both second u v (both codes first read) = both codes first (stopping v read)
 
 -- what follows of an answer
 pub if_ok : {T E : Type 0} (A B : T → Type 0) (r : Result T E) → ((x : T) → A x → B x) → IfOk r A → IfOk r B

@@ -1,5 +1,5 @@
 -- Which rules an element breaks, by what it is.
-use Rattle.std.proofs.Common.{◌≡◌, ℕ, ◌≤◌, true, false, true≢false, List, Option, Some, None, is_some, refl, sym, ap, ◌∙◌, arith, ◌⊎◌, inl, inr}
+use Rattle.std.proofs.Common.{◌≡◌, ℕ, ◌≤◌, true, false, true≢false, List, Some, None, refl, sym, ap, ◌∙◌, arith, ◌⊎◌, inl, inr}
 use Rattle.lexical_core.specs.Tree.{Entry as Attribute}
 use Rattle.repo_objects.specs.declared.objects.ObjectKind.{ObjectKind}
 use Rattle.repo_objects.specs.Repository.{HasId}
@@ -14,9 +14,6 @@ use Rattle.repo_loader.specs.Stops.{IsSoundTag, IsLeastBroken}
 
 no_root : (kind : ObjectKind) → ◌≡◌ {A = Part} (Entry kind) OtherRoot → ⊥
 no_root kind e = true≢false (ap is_entry e)
-
-some_none : {A : Type 0} (x : A) (o : Option A) → o ≡ Some x → o ≡ None → ⊥
-some_none x o e f = true≢false (ap is_some (sym e ∙ f))
 
 module _ (tags : List Tag) (kind : ObjectKind) (attributes : List Attribute) where
   abbrev tag : Tag
@@ -103,14 +100,3 @@ least_other tags t other root h = (no_number h refl, by)
     by rule (lacks_id k e r) = absurd (no_entry t.part other k)
     by rule (lacks_type k e r) = absurd (no_entry t.part other k)
     by rule (lacks_name k e r) = absurd (no_entry t.part other k)
-
-pub least_root : (tags : List Tag) (t : Tag) → t.part ≡ OtherRoot → IsLeastBroken tags t 2
-least_root tags t e = (other_root e refl, by)
-  where
-    by : (rule : ℕ) → Breaks tags t rule → 2 ≤ rule
-    by rule (other_root f r) = omega (arith, r)
-    by rule (twice id k e l r) = omega (arith, r)
-    by rule (no_number k r) = omega (arith, r)
-    by rule (lacks_id k e r) = omega (arith, r)
-    by rule (lacks_type k e r) = omega (arith, r)
-    by rule (lacks_name k e r) = omega (arith, r)

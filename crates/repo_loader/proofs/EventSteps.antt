@@ -134,9 +134,6 @@ pub one_broken : (old : Selection) (told : List Placed) (all rest : List Event) 
 one_broken old told all rest e fault h k =
     subst (λ es. IsBrokenBy es fault) (append_assoc h.so_far (placed e ∷ []) (map placed rest) ∙ sym h.all_are) (broken_more (h.so_far ++ placed e ∷ []) (map placed rest) fault k)
 
-pub all_loaded : (s : Selection) (told : List Placed) (all : List Event) → LoadedSoFar s told all [] → HasLoaded s (told ++ map placed all)
-all_loaded s told all h = subst (HasLoaded s) (sym (h.all_are ∙ append-nil h.so_far)) h.loaded
-
 -- ---- characters alone
 
 run_tags : (parts : List Part) (place : ℕ) (cs : List ℕ) → event_tags parts (characters_from place cs) ≡ []

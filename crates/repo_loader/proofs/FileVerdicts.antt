@@ -189,8 +189,3 @@ module _ (old now : Option (List ℕ)) (room : ℕ) (p : Progress) (h : HasRoom 
     short = short;
     whole = w;
   }
-
--- what is left is spelled where all of it is
-pub all_spelled : (left : Option (List ℕ)) (p : Progress) (h : HasAll left p) (r : Contents) → Spells h.bytes r → IfSome left (λ bytes. Spells bytes r)
-all_spelled None p h r s = tt
-all_spelled (Some known) p h r s = subst (λ v. Spells v r) (sym h.all) s

@@ -164,12 +164,3 @@ taken_end r q forgotten items w ns local n l h is en el text kept failed prefixe
 
 pub taken_skipped : (r : Respell) (forgotten : List ℕ) (items : List Item) (w : What) → HasWritten r forgotten items → w ≡ SkippedTold → HasWritten r forgotten (items ++ item_of w ∷ [])
 taken_skipped r forgotten items w h is = subst (λ (v : What). HasWritten r forgotten (items ++ item_of v ∷ [])) (sym is) (taken_more r r forgotten items Skipped h refl (sym (append-nil r.text)) h.defaults_are h.own_are)
-
--- the text is forgotten
-pub taken_forgotten : (r q : Respell) (forgotten : List ℕ) (items : List Item) → HasWritten r forgotten items → q.failed ≡ r.failed → q.text ≡ [] → q.defaults ≡ r.defaults → q.declares ≡ r.declares → q.prefixed ≡ r.prefixed → HasWritten q (forgotten ++ r.text) items
-taken_forgotten r q forgotten items h failed text defaults declares prefixed = record {
-  sound = failed ∙ h.sound;
-  text_is = ap (λ (l : List ℕ). (forgotten ++ r.text) ++ l) text ∙ (append-nil (forgotten ++ r.text) ∙ h.text_is);
-  defaults_are = same_defaults r q (defaults_behind [] items) defaults declares h.defaults_are;
-  own_are = own_same r q forgotten items h prefixed;
-}

@@ -1,5 +1,5 @@
 -- Runs of tokens that stand whatever follows them.
-use Rattle.std.proofs.Common.{◌≡◌, ℕ, ◌+◌, true, List, [], ◌∷◌, ◌++◌, length, reverse, map, ◌≤◌, refl, sym, ap, ap₂, subst, ◌∙◌, append_assoc}
+use Rattle.std.proofs.Common.{◌≡◌, ℕ, ◌+◌, true, List, [], ◌∷◌, ◌++◌, length, map, ◌≤◌, refl, sym, ap, ap₂, subst, ◌∙◌, append_assoc}
 use Rattle.std.specs.Prelude.{◌↔◌, nat_le}
 use Rattle.std.specs.List.{flat_map, AllByRecursion}
 use Rattle.std.proofs.lemmas.Bool.{le-leb, leb-true}
@@ -80,10 +80,6 @@ events_items before place (t ∷ ts) = map-append (λ (p : Placed). p.item) (map
     unplaced : (place : ℕ) (is : List Item) → map (λ (p : Placed). p.item) (map (λ (i : Item). record { place = place; item = i }) is) ≡ is
     unplaced place [] = refl
     unplaced place (i ∷ is) = ap (λ (l : List Item). i ∷ l) (unplaced place is)
-
--- behind the first token
-pub behind_reverse : (ts : List Token) → behind [] ts ≡ reverse ts
-behind_reverse ts = refl
 
 -- ---- how long their tags are
 

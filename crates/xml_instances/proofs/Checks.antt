@@ -170,13 +170,6 @@ pub record FedSoFar (T : Tables) (checker : XmlChecker) (bytes piece rest : List
 pub none_fed : (T : Tables) (checker : XmlChecker) (bytes piece : List ℕ) → HasFed checker T bytes → FedSoFar T checker bytes piece piece
 none_fed T checker bytes piece h = record { seen = []; piece_is = refl; fed_are = subst (HasFed checker T) (sym (append-nil bytes)) h }
 
-pub one_fed : (T : Tables) (old new : XmlChecker) (bytes piece rest : List ℕ) (byte : ℕ) (s : FedSoFar T old bytes piece (byte ∷ rest)) → HasFed new T ((bytes ++ s.seen) ++ byte ∷ []) → FedSoFar T new bytes piece rest
-one_fed T old new bytes piece rest byte s h = record {
-  seen = s.seen ++ byte ∷ [];
-  piece_is = s.piece_is ∙ sym (append_assoc s.seen (byte ∷ []) rest);
-  fed_are = subst (HasFed new T) (append_assoc bytes s.seen (byte ∷ [])) h;
-}
-
 pub all_fed : (T : Tables) (checker : XmlChecker) (bytes piece : List ℕ) → FedSoFar T checker bytes piece [] → HasFed checker T (bytes ++ piece)
 all_fed T checker bytes piece s = subst (λ v. HasFed checker T (bytes ++ v)) (sym (s.piece_is ∙ append-nil s.seen)) s.fed_are
 

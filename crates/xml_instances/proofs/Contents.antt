@@ -9,7 +9,7 @@ use Rattle.lexical_core.specs.Tree.{Expanded, Entry, Starts, Char, Ends}
 use Rattle.facets.specs.declared.simple.Simple.{Simple}
 use Rattle.xml_instances.specs.declared.judge.Judge.{Judge}
 use Rattle.xml_instances.specs.Judges.{HasTaken, IsMadeFor}
-use Rattle.reference_check.specs.Forms.{Graph, Form, Slot, form_slots, text_type}
+use Rattle.reference_check.specs.Forms.{Graph, Form, Slot, text_type}
 use Rattle.reference_check.specs.Forms as form
 use Rattle.message_model.specs.Message.{Message}
 use Rattle.message_model.specs.Views.{IsFormOf}
@@ -363,21 +363,6 @@ money_said {T} m f code number attributes path money r is e h told = subst (λ (
 
 pub in_round : (m : Message ℕ) (ls : List (Level ℕ)) (old new : Content) → IsRound old m ls → new.round.items ≡ old.round.items ++ option_to_list old.innermost → StandFor m (reverse new.round.items) ls
 in_round m ls old new h e = subst (λ (x : List Opened). StandFor m (reverse x) ls) (sym e) h
-
-pub entered_out : (m : Message ℕ) (ls : List (Level ℕ)) (attributes : List Entry) (content : Content) (round : List Opened) (number : Option ℕ) → number ≡ None → content.innermost ≡ Some opened.Foreign → content.round.items ≡ round → StandFor m (reverse round) ls
-    → AttributeFault m (form_at m number) attributes (path_in ls) None × IsOpen content m (level_of_start (form_at m number) ∷ ls)
-entered_out m ls attributes content round number none i q h =
-    subst (λ (o : Option ℕ). AttributeFault m (form_at m o) attributes (path_in ls) None × IsOpen content m (level_of_start (form_at m o) ∷ ls)) (sym none)
-    (refl, subst (λ (x : Option Opened). Stands m content.text x content.round.items (Foreign ∷ ls)) (sym i) (tt, subst (λ (x : List Opened). StandFor m (reverse x) ls) (sym q) h))
-
-pub entered_in : (m : Message ℕ) (ls : List (Level ℕ)) (attributes : List Entry) (content : Content) (round : List Opened) (number : Option ℕ) (n : ℕ) → number ≡ Some n → content.round.items ≡ round → StandFor m (reverse round) ls
-    → AttributeFault m (Some (m.forms n)) attributes (names_of m.forms round) None → ((e : Opened) × (content.innermost ≡ Some e) × StandsFor m content.text e (begun (m.forms n)))
-    → AttributeFault m (form_at m number) attributes (path_in ls) None × IsOpen content m (level_of_start (form_at m number) ∷ ls)
-entered_in m ls attributes content round number n is q h fine (e, i, s) =
-    subst (λ (o : Option ℕ). AttributeFault m (form_at m o) attributes (path_in ls) None × IsOpen content m (level_of_start (form_at m o) ∷ ls)) (sym is) (
-      subst (λ (p : List ℕ). AttributeFault m (Some (m.forms n)) attributes p None) (names_are m (reverse round) ls h) fine,
-      subst (λ (x : Option Opened). Stands m content.text x content.round.items (begun (m.forms n) ∷ ls)) (sym i) (s, subst (λ (x : List Opened). StandFor m (reverse x) ls) (sym q) h),
-    )
 
 pub entered_wrong : (T : Type 0) (m : Message ℕ) (ls : List (Level ℕ)) (attributes : List Entry) (content : Content) (round : List Opened) (number : Option ℕ) (n : ℕ) (r : Refusal) → number ≡ Some n → StandFor m (reverse round) ls
     → Says {T = T} (AttributeFault m (Some (m.forms n)) attributes (names_of m.forms round)) (Err r) → IsEntered {T = T} m ls (form_at m number) attributes content (Err r)

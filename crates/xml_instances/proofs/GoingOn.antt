@@ -6,7 +6,7 @@ use Rattle.lexical_core.specs.Tree.{Expanded, Entry, Item, Starts, Char, Ends}
 use Rattle.lexical_core.specs.declared.rule.Rule.{Rule}
 use Rattle.facets.specs.LeafUnder.{GivesLeaf}
 use Rattle.facets.specs.declared.simple.Simple.{Simple}
-use Rattle.reference_check.specs.Forms.{Graph, Form, Slot, form_slots, text_type}
+use Rattle.reference_check.specs.Forms.{Graph, Form, text_type}
 use Rattle.reference_check.specs.Forms as form
 use Rattle.reference_check.specs.Steps.{next}
 use Rattle.message_model.specs.Message.{Message}
@@ -233,12 +233,6 @@ tag_kept m ls items o text round a b h is go = by ls (subst (λ (x : Option Open
     by (Parent f d ∷ ls) h = absurd h.0
     by (Leaf simple t ∷ ls) h = absurd h.0
     by (Envelope has ∷ ls) h = absurd h.0
-
-pub tag_not_kept : (m : Message ℕ) (ls : List (Level ℕ)) (items : List Item) (o : Option Opened) (text : Option OpenText) (round : List Opened) (a : Option PiecesKept) → Stands m text o round ls → IsNoForeign o → GoOn a a (λ s t. t ≡ with_events ls items s)
-tag_not_kept m ls items o text round a h none = by o ls h none
-  where
-    same : (ls : List (Level ℕ)) → ((s : Shown) → with_events ls items s ≡ s) → GoOn a a (λ s t. t ≡ with_events ls items s)
-    same ls e = go_as {R = λ s t. t ≡ s} {S = λ s t. t ≡ with_events ls items s} a a (λ s t x. x ∙ sym (e s)) (go_still a a refl)
 
     foreign : (e : Opened) → StandsFor m text e Foreign → IsNoForeign (Some e) → ⊥
     foreign opened.Foreign h none = none

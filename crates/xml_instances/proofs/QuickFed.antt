@@ -196,9 +196,6 @@ front_still T old new piece reader place events failed content = record {
   count = ap taken reader ∙ omega arith;
 }
 
-pub front_memory : (T : Tables) (old new : XmlChecker) (piece : List ℕ) → TakesFront T old new piece (Err Memory)
-front_memory T old new piece = record { ok = λ bytes h. tt; err = λ bytes h. tt; within = tt; count = tt }
-
 -- ---- whole tags
 
 -- what the reader answers for a tag
