@@ -22,8 +22,9 @@ const TAG_LIMIT: usize = 1_048_576;
 const RUN_LIMIT: usize = 4096;
 
 /// Whether the bytes are the canonical fragment of some element. They are read, written again, and compared as they come,
-/// so that no more text is kept than one tag's, or 4,096 bytes of a run of characters. No reader of XML takes a tag of more than 1,048,576 bytes: bytes that
-/// could have one, and are no fragment with shorter tags, are not decided, and the answer is that there is no memory.
+/// so that no more text is kept than one tag's, or 4,096 bytes of a run of characters. No reader of XML takes a tag of
+/// more than 1,048,576 bytes: bytes that could have one, and are no fragment with shorter tags, are not decided, and the
+/// answer is that there is no memory.
 pub fn is_fragment(alloc: Global, bytes: &[u8]) -> Result<bool, AllocError>
     requires { length bytes.now < 2 ^ 40 }
     ensures { IfOk result (λ b. IsTrue b ↔ ((t : Tree) × IsPlain t × (fragment t ≡ bytes.now))) }
