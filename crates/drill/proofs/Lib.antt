@@ -1,6 +1,7 @@
 pub mod Transcoded
 mod Held
 mod BothForms
+mod KnownTexts
 mod PathLemmas
 mod Depths
 mod NameLemmas

@@ -9,13 +9,11 @@ ghost use Rattle.xml_instances.specs.XmlFaults.{limit};
 ghost use Rattle.xml_writer.specs.CanonXml.{IsCanonXml};
 ghost use Rattle.drill.specs.Forms.{AreForms};
 
+use crate::known_sink::KnownSink;
+use crate::lent_source::LentSource;
 use message_model::Model;
-use outside::{SteadySink, SteadySource};
 use std::alloc::{AllocError, Global};
 use transcoder::{TransError, der_to_xml, xml_to_der};
-
-/// How many bytes are read at once.
-const PIECE: usize = 65536;
 
 /// Brings both forms of an instance into each other, and compares what comes with the other form.
 pub(crate) fn compare_both(
@@ -35,8 +33,8 @@ pub(crate) fn compare_both(
 fn compare_der(alloc: Global, model: &Model, xml: &[u8], der: &[u8]) -> Result<(), AllocError>
     requires { (v : Value) × AreForms model.now v xml.now der.now }
 {
-    let again = der_again(alloc, model, xml)?;
-    compare(again.bytes(), der);
+    let again = der_again(alloc, model, xml, der)?;
+    compare(&again, der);
     Ok(())
 }
 
@@ -45,35 +43,45 @@ fn compare_xml(alloc: Global, model: &Model, xml: &[u8], der: &[u8]) -> Result<(
     requires { (v : Value) × AreForms model.now v xml.now der.now }
 {
     xml_writer::laws::a_value_has_one_canonical_xml();
-    let again = xml_again(alloc, model, der)?;
-    compare(again.bytes(), xml);
+    let again = xml_again(alloc, model, der, xml)?;
+    compare(&again, xml);
     Ok(())
 }
 
-/// The DER of an instance in XML.
-fn der_again(alloc: Global, model: &Model, xml: &[u8]) -> Result<SteadySink, AllocError>
+/// The DER of an instance in XML, in a sink that is to get that text.
+fn der_again<'a>(
+    alloc: Global,
+    model: &Model,
+    xml: &[u8],
+    text: &'a [u8],
+) -> Result<KnownSink<'a>, AllocError>
     requires { (v : Value) × SpellsXml (message_of model.now) xml.now v × (length xml.now ≤ limit) }
-    ensures { (v : Value) → SpellsXml (message_of model.now) xml.now v → IfOk result (λ sink. sink.held ≡ der_of (der_message model.now) v) }
+    ensures { (v : Value) → SpellsXml (message_of model.now) xml.now v → IfOk result (λ sink. sink ≡ der_of (der_message model.now) v) }
 {
     transcoder::laws::one_verdict();
     let _ = model.type_count();
-    let mut source = SteadySource::new(alloc, xml, PIECE)?;
-    let mut sink = SteadySink::with_room(alloc, 0)?;
+    let mut source = LentSource::new(xml);
+    let mut sink = KnownSink::new(alloc, text);
     match xml_to_der(alloc, model, &mut source, &mut sink) {
         Ok(()) => Ok(sink),
         Err(error) => Err(wanting(error)),
     }
 }
 
-/// The canonical XML of an instance in DER.
-fn xml_again(alloc: Global, model: &Model, der: &[u8]) -> Result<SteadySink, AllocError>
+/// The canonical XML of an instance in DER, in a sink that is to get that text.
+fn xml_again<'a>(
+    alloc: Global,
+    model: &Model,
+    der: &[u8],
+    text: &'a [u8],
+) -> Result<KnownSink<'a>, AllocError>
     requires { (v : Value) × SpellsDer (der_message model.now) der.now v × (length der.now ≤ limit) }
-    ensures { (v : Value) → SpellsDer (der_message model.now) der.now v → IfOk result (λ sink. IsCanonXml (message_of model.now) v sink.held) }
+    ensures { (v : Value) → SpellsDer (der_message model.now) der.now v → IfOk result (λ sink. IsCanonXml (message_of model.now) v sink) }
 {
     transcoder::laws::one_der_verdict();
     let _ = model.type_count();
-    let mut source = SteadySource::new(alloc, der, PIECE)?;
-    let mut sink = SteadySink::with_room(alloc, 0)?;
+    let mut source = LentSource::new(der);
+    let mut sink = KnownSink::new(alloc, text);
     match der_to_xml(alloc, model, &mut source, &mut sink) {
         Ok(()) => Ok(sink),
         Err(error) => Err(wanting(error)),
@@ -90,11 +98,11 @@ fn wanting(error: TransError) -> AllocError
     }
 }
 
-/// Compares two texts, which are the same.
-fn compare(one: &[u8], other: &[u8])
-    requires { one.now ≡ other.now }
+/// Compares what a sink holds with a text, which is the same.
+fn compare(again: &KnownSink<'_>, text: &[u8])
+    requires { again.now ≡ text.now }
 {
-    if one != other {
+    if !again.holds(text) {
         unreachable!()
     }
 }

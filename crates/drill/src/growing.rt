@@ -37,19 +37,19 @@ pub(crate) fn grow(alloc: Global, number: u64, size: u32) -> Result<Grown, Alloc
     requires { size ≤ most_beside }
     ensures { IfOk result (λ g. (g.instance.region.pieces ≡ pieces_of fragment tables (instance number size)) × (g.depth ≡ deepest number size)) }
 {
-    let mut sprout = Sprout::sow(alloc, number)?;
+    let mut sprout = Sprout::sow(alloc, number, size)?;
     sprout.grow_all(size)?;
     sprout.finish()
 }
 
 impl Sprout {
-    /// Node 0 is open.
-    fn sow(alloc: Global, number: u64) -> Result<Sprout, AllocError>
+    /// Node 0 is open, and there is room for so many beside it.
+    fn sow(alloc: Global, number: u64, size: u32) -> Result<Sprout, AllocError>
         ensures { IfOk result (λ s. HasGrown (first_growth (generator_of number)) s) }
     {
         let mut name = Vec::new(alloc);
         write_name(&mut name, 0)?;
-        let stem = Stem::sow(alloc, name.as_slice())?;
+        let stem = Stem::sow(alloc, name.as_slice(), size)?;
         Ok(Sprout {
             stem,
             deepest: 1,

@@ -42,6 +42,15 @@ const CHILD: Edge = Edge {
     parent: 3,
 };
 
+/// How many pieces a node has.
+const PIECES_OF_NODE: usize = 5;
+
+/// How many pieces the message's element has.
+const PIECES_OF_MESSAGE: usize = 2;
+
+/// How many bytes a name has at most.
+const MOST_OF_NAME: usize = 8;
+
 /// The pieces of open nodes, one in the other, and how many are open.
 #[derive(Drop)]
 pub(crate) struct Stem {
@@ -50,12 +59,12 @@ pub(crate) struct Stem {
 }
 
 impl Stem {
-    /// Node 0 is open.
-    pub(crate) fn sow(alloc: Global, name: &[u8]) -> Result<Stem, AllocError>
+    /// Node 0 is open, and there is room for so many beside it.
+    pub(crate) fn sow(alloc: Global, name: &[u8], size: u32) -> Result<Stem, AllocError>
         requires { name.now ≡ name_of 0 }
         ensures { IfOk result (λ s. HasPath first_path s) }
     {
-        let mut builder = Builder::new(alloc);
+        let mut builder = roomy_builder(alloc, size)?;
         builder.begin(MESSAGE)?;
         builder.begin(ROOT)?;
         push_name(&mut builder, name)?;
@@ -117,6 +126,20 @@ impl Stem {
         builder.close()?;
         Ok(builder.finish())
     }
+}
+
+/// A builder with room for so many nodes beside the first. One that grows to their number leaves blocks behind that are
+/// too small for what comes later.
+fn roomy_builder(alloc: Global, size: u32) -> Result<Builder, AllocError>
+    ensures { IfOk result (λ b. b.pieces ≡ []) }
+{
+    let nodes = size as usize + 1;
+    let mut builder = Builder::new(alloc);
+    builder.reserve(
+        nodes * PIECES_OF_NODE + PIECES_OF_MESSAGE,
+        nodes * MOST_OF_NAME,
+    )?;
+    Ok(builder)
 }
 
 /// The element of a name.

@@ -15,6 +15,12 @@ use outside::SteadySink;
 use std::alloc::{AllocError, Global};
 use xml_writer::write_xml;
 
+/// How many bytes of XML a piece is taken to make, on an average: a block that grows would keep room beside what it holds.
+const XML_OF_PIECE: usize = 6;
+
+/// The same of DER.
+const DER_OF_PIECE: usize = 3;
+
 /// An instance in both forms.
 #[derive(Drop)]
 pub(crate) struct Written {
@@ -46,7 +52,8 @@ fn written_xml(alloc: Global, model: &Model, instance: &Instance) -> Result<Stea
     ensures { (v : Value) → AdmitsAs (types_of model.now) (types_of model.now 0) v → instance.now.region.pieces ≡ pieces_of fragment model.now v
         → IfOk result (λ sink. IsCanonXml (message_of model.now) v sink.held) }
 {
-    let mut sink = SteadySink::with_room(alloc, 0)?;
+    let room = instance.count().saturating_mul(XML_OF_PIECE);
+    let mut sink = SteadySink::with_room(alloc, room)?;
     match write_xml(model, instance, &mut sink) {
         Ok(()) => Ok(sink),
         Err(_) => Err(AllocError),
@@ -62,7 +69,8 @@ fn written_der(
     ensures { (v : Value) → AdmitsAs (types_of model.now) (types_of model.now 0) v → instance.old.region.pieces ≡ pieces_of fragment model.now v
         → IfOk result (λ sink. sink.held ≡ der_of (der_message model.now) v) }
 {
-    let mut sink = SteadySink::with_room(alloc, 0)?;
+    let room = instance.count().saturating_mul(DER_OF_PIECE);
+    let mut sink = SteadySink::with_room(alloc, room)?;
     measure(model, instance);
     match write_der(model, instance, &mut sink) {
         Ok(()) => Ok(sink),
