@@ -4,7 +4,7 @@ ghost use Rattle.inst_pool.specs.Pieces.{room_limit};
 
 use crate::content::Content;
 use crate::node::{Node, content_of, long_at, shortened};
-use crate::room::widen;
+use crate::room::{lengthen, widen};
 use std::alloc::{AllocError, Global};
 use std::marker::Model;
 
@@ -59,7 +59,7 @@ impl Contents {
         ensures room { self.old.room ≤ self.new.room }
         ensures items { self.new.items ≡ self.old.items }
     {
-        widen(&mut self.nodes, room)?;
+        lengthen(&mut self.nodes, room)?;
         widen(&mut self.long, room)?;
         Ok(())
     }
