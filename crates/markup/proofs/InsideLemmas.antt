@@ -4,7 +4,6 @@ use Rattle.std.specs.Str.{encode_utf8_all}
 use Rattle.std.proofs.lemmas.Bool.{both_ways, cases_Bool}
 use Rattle.std.proofs.lemmas.List.{length-take-le, take-append-drop, take-append-le}
 use Rattle.std.proofs.lemmas.Str.{encodes-append}
-use Rattle.std.proofs.Math.Seq.{take-append_seam}
 use Rattle.markup.specs.Chars.{is_xml_char}
 use Rattle.markup.specs.Token.{Token, LineEnd, Cr, token_bytes}
 use Rattle.markup.specs.Marks.{Front, tag_limit}
@@ -70,9 +69,6 @@ front_more a b c piece rest behind n f g e = record {
   joined = f.joined ∙ (ap (λ v. f.seen ++ v) (sym (take-append-drop n rest) ∙ ap (λ v. take n rest ++ v) (sym e)) ∙ sym (append_assoc f.seen (take n rest) behind));
   over = over_then a b c f.seen (take n rest) f.over g;
 }
-
-  front : take n piece ≡ f.seen
-  front = ap (λ k. take k piece) size ∙ (ap (take (length f.seen)) f.joined ∙ take-append_seam f.seen rest)
 
 -- the front of a piece, so long that a tag stays shorter than its limit
 pub goes_front : (old between : Tokenizer) (piece front : List ℕ) (room count : ℕ) → is_inside old.scan ≡ true → old.utf8 ≡ Some [] → room ≤ length piece → front ≡ take room piece → count ≤ length front → (may_be_tag old.scan ≡ true → 0 < room → (old.place - old.start) + room < tag_limit) → GoesOver old between (take count front) → 0 < count → GoesInside old (moved between count) (take count piece)

@@ -2,19 +2,16 @@
 use Rattle.std.proofs.Common.{◌≡◌, ℕ, Bool, true, false, ◌⊎◌, inl, inr, List, [], ◌∷◌, ◌++◌, if◌then◌else◌, refl, sym, ◌∙◌, ap, subst, append_assoc, append-nil}
 use Rattle.std.specs.Char.{encode_utf8}
 use Rattle.std.specs.Str.{encode_utf8_all}
-use Rattle.std.proofs.lemmas.Bool.{both_ways}
-use Rattle.markup.specs.Token.{Token, Mark, Declaration, Comment, Instruction, Opener, Closer, TypeDeclaration, Start, End, Refer, LineEnd, Character, Line, Lf, Cr, CrLf, token_bytes}
+use Rattle.markup.specs.Token.{Token, End, LineEnd, Line, Lf, Cr, CrLf, token_bytes}
 use Rattle.markup.specs.Marks.{in_cdata, stands}
 use Rattle.markup.specs.Drafts.{no_draft}
-use Rattle.markup.specs.ScanRuns.{At, run, position, ended_of}
+use Rattle.markup.specs.ScanRuns.{At, run, position}
 use Rattle.markup.specs.Tokenizers.{IsAwaited, IsOpen, EndsToken}
 use Rattle.markup.specs.declared.scan.Scan.{Scan}
 use Rattle.markup.specs.declared.scan.Scan.TheVariants.{Begin, AfterReturn}
 use Rattle.markup.specs.declared.scan.Ended.{Ended}
-use Rattle.markup.specs.declared.scan.Ended.TheVariants.{LineEnd as LineEnded}
 use Rattle.markup.specs.declared.draft.Draft.{Draft}
 use Rattle.markup.specs.declared.tokenizer.Tokenizer.{Tokenizer}
-use Rattle.markup.proofs.TokenKinds.{in_both}
 use Rattle.markup.proofs.TokenLaw.{one_token}
 use Rattle.markup.proofs.Complete.{return_run}
 use Rattle.markup.proofs.NoTokens.{Shorter, Longer, compare_texts, no_whole}
@@ -41,9 +38,6 @@ crlf_stands before after = by (in_cdata before) where
   by true = refl
   by false = refl
 
-return_stands_not : (before : List Token) → stands before (LineEnd Cr) (10 ∷ []) ≡ true → ⊥
-return_stands_not before h = both_ways false refl (in_both (in_cdata before) false h)
-
 -- the bytes of line ends
 pub line_bytes : (token_bytes (LineEnd Cr) ++ 10 ∷ [] ≡ token_bytes (LineEnd CrLf)) × (token_bytes (LineEnd CrLf) ≡ 13 ∷ 10 ∷ []) × (token_bytes (LineEnd Cr) ≡ 13 ∷ [])
 unfolding encode_utf8
@@ -60,22 +54,3 @@ pub ends_crlf : (old new : Tokenizer) (before : List Token) (bytes : List ℕ) (
 ends_crlf old new before bytes byte e d o h w k = (one_token before k.token (LineEnd CrLf) (token_bytes (LineEnd CrLf)) [] []
     (record { spelled = sym (awaited_crlf old before bytes byte o h w) ∙ (sym k.bytes_are ∙ sym (append-nil (token_bytes k.token))); is = k.is [] })
     (record { spelled = sym (append-nil (token_bytes (LineEnd CrLf))); is = crlf_stands before [] })).0
-
-  line : (l : Line) → ((after : List ℕ) → stands before (LineEnd l) after ≡ true) → token_bytes (LineEnd l) ≡ bytes ++ byte ∷ [] → LineEnd l ≡ LineEnd Lf
-  line Lf s e = refl
-  line Cr s e = absurd (return_stands_not before (s (10 ∷ [])))
-  line CrLf s e = absurd (n (last bytes byte (sym line_bytes.1 ∙ e) ∙ sym line_bytes.2))
-
-  by : (t : Token) → ended_of t ≡ LineEnded → ((after : List ℕ) → stands before t after ≡ true) → token_bytes t ≡ bytes ++ byte ∷ [] → t ≡ LineEnd Lf
-  by Mark h s e = absurd (cc)
-  by (Declaration fs g) h s e = absurd (cc)
-  by (Comment v) h s e = absurd (cc)
-  by (Instruction p v) h s e = absurd (cc)
-  by Opener h s e = absurd (cc)
-  by Closer h s e = absurd (cc)
-  by TypeDeclaration h s e = absurd (cc)
-  by (Start t) h s e = absurd (cc)
-  by (End m g) h s e = absurd (cc)
-  by (Refer r) h s e = absurd (cc)
-  by (LineEnd l) h s e = line l s e
-  by (Character c) h s e = absurd (cc)

@@ -1,10 +1,9 @@
 -- The open elements before and behind a tag.
-use Rattle.std.proofs.Common.{◌≡◌, ℕ, ◌-◌, Bool, true, false, List, ◌∷◌, ◌++◌, ◌||◌, ◌&&◌, length, drop, reverse, map, Option, Some, None, sym, ap, subst, ◌∙◌, arith}
+use Rattle.std.proofs.Common.{◌≡◌, ℕ, ◌-◌, Bool, true, false, List, ◌∷◌, ◌++◌, ◌||◌, length, drop, reverse, map, Option, Some, None, sym, ap, subst, ◌∙◌, arith}
 use Rattle.std.specs.List.{list_any}
 use Rattle.std.specs.Bool.{if◌then◌else◌}
 use Rattle.std.specs.Option.{is_none}
-use Rattle.std.specs.Str.{bytes_eq}
-use Rattle.lexical_core.specs.declared.rule.Rule.TheVariants.{DuplicateAttribute, BadPrefix, AfterRoot, TagMismatch}
+use Rattle.lexical_core.specs.declared.rule.Rule.TheVariants.{DuplicateAttribute, BadPrefix, AfterRoot}
 use Rattle.std.proofs.lemmas.List.{length-append}
 use Rattle.std.proofs.Math.Seq.{drop-append_seam}
 use Rattle.markup.specs.declared.tag.Given.{Given}
@@ -23,7 +22,6 @@ use Rattle.markup.specs.EventItems.{entry_of, Tells}
 use Rattle.markup.specs.Bindings.{Binds}
 use Rattle.markup.specs.Scopes.{declarations, open_name, all_declarations, IsScope, placed_at, TakesStart}
 use Rattle.markup.specs.TagParts.{plain_attributes, declares_twice, declares_badly, is_unbound, IsParted, AreDeclared, IsExpanded, IsResolved}
-use Rattle.std.proofs.lemmas.Slice.Eq.{bytes_eq-Decides}
 use Rattle.markup.proofs.WholeTags.{whole_entries, whole_clash, whole_bad}
 
 -- how many declarations are a tag's own
@@ -108,14 +106,6 @@ takes_empty over tags tag place old new r before after ns is no_clash bound fine
     }
 
 -- ---- an end tag that breaks no rule
-
-some_tag : Some TagMismatch ≡ None → ⊥
-some_tag e = cc
-
-  by : (b d : Bool) → bytes_eq tag.name.prefix name.prefix ≡ b → bytes_eq tag.name.local name.local ≡ d → (if b && d then None else Some TagMismatch) ≡ None → tag.name ≡ name
-  by true true p l e = same tag.name name ((bytes_eq-Decides tag.name.prefix name.prefix).0 p) ((bytes_eq-Decides tag.name.local name.local).0 l)
-  by true false p l e = absurd (some_tag e)
-  by false d p l e = absurd (some_tag e)
 
 -- the declarations of the innermost tag are forgotten with its name
 pub closes_innermost : (before after : Scope) (tag : Opening) (tags : List Opening) (count : ℕ) → IsScope before (tag ∷ tags)

@@ -234,20 +234,6 @@ tag_kept m ls items o text round a b h is go = by ls (subst (λ (x : Option Open
     by (Leaf simple t ∷ ls) h = absurd h.0
     by (Envelope has ∷ ls) h = absurd h.0
 
-    foreign : (e : Opened) → StandsFor m text e Foreign → IsNoForeign (Some e) → ⊥
-    foreign opened.Foreign h none = none
-    foreign opened.Text h none = h
-    foreign (opened.Envelope filled) h none = h
-    foreign (opened.Parent n last count) h none = h
-
-    by : (o : Option Opened) (ls : List (Level ℕ)) → Stands m text o round ls → IsNoForeign o → GoOn a a (λ s t. t ≡ with_events ls items s)
-    by o [] h none = same [] (λ s. refl)
-    by o (Parent f d ∷ ls) h none = same (Parent f d ∷ ls) (λ s. refl)
-    by o (Leaf simple t ∷ ls) h none = same (Leaf simple t ∷ ls) (λ s. refl)
-    by o (Envelope has ∷ ls) h none = same (Envelope has ∷ ls) (λ s. refl)
-    by None (Foreign ∷ ls) h none = absurd h
-    by (Some e) (Foreign ∷ ls) h none = absurd (foreign e h.0 none)
-
 -- ---- characters
 
 -- a run of characters beside the elements in an envelope shows nothing
