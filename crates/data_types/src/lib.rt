@@ -1,4 +1,5 @@
-// The kinds of data that elements without elements hold, and their texts: XML Schema part 2.
+//! The kinds of data that elements without elements hold, and their texts (XML Schema part 2): `LeafStep` reads a leaf from
+//! its characters, one at a time or by runs, `push_leaf` and `push_escaped` push its canonical text.
 #![tactic(auto)]
 
 mod booleans;

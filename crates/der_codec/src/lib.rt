@@ -5,7 +5,8 @@
 //! leaves; of those that come in pieces `limits` keeps no more than tell what they are, so that no length which
 //! is declared decides how much is held (`scratch`, `token`). A fault's path is made of what is open (`paths`).
 //! `Checking` of `specs/` says what a checker was given and what it answers, `Decoding` the same of the decoder,
-//! `Limits` what octets that are kept stand for.
+//! `Limits` what octets that are kept stand for. `DerReader` answers the same, keeps what it was given, and gives the pieces
+//! of the instance.
 //!
 //! Tag numbers are below 2^14, lengths below 2^63.
 #![tactic(auto)]

@@ -1,4 +1,6 @@
-// Simple types with their facets: whether a leaf fits one, or the first rule that it breaks (XML Schema part 2 §4.3).
+//! Simple types with their facets (XML Schema part 2 §4.3): `LeafCheck` gives the leaf that characters spell, or the first
+//! rule that it breaks, `LeafVerdict` no more than whether there is one; `check_number`, `check_octets` and `check_code`
+//! judge a leaf that is known.
 #![tactic(auto)]
 
 mod asked;

@@ -1,17 +1,18 @@
 //! Instances of messages, each kept as a list of pieces in one region of memory.
 //!
-//! A [`Builder`] takes the pieces in order: an element begins, its leaf, it ends. [`Builder::finish`] gives the
-//! [`Instance`], whose pieces are read by place or by a [`Walk`], and beside each of which two numbers may be kept for a
-//! writer. [`Instance::reset`] empties it, and keeps the room for the next instance.
+//! A [`Builder`] takes the pieces in order: `begin` an element, `leaf` what it holds, `close` the innermost open one.
+//! [`Builder::finish`] gives the [`Instance`], whose pieces are read by place (`piece`) or in order (`walk`, a [`Walk`]).
+//! Beside each piece a writer may keep two numbers (`set_len`, `set_group`), 0 at first. [`Instance::reset`] gives an empty
+//! builder with all the room.
 //!
 //! An element with a text of two bytes in it is three pieces, and wants two bytes beside them: behind `reserve(3, 2)`
 //! neither `begin` nor `leaf` nor `close` asks for memory.
 //!
 //! A region has a block of pieces, of eight bytes each, one of those that do not fit into eight, one of the bytes of
-//! leaves, and one for each of the two numbers, so that an instance is walked and dropped without recursion, however deep
-//! its elements stand. No block ever has room for more than 2^48 items; more is answered by want of memory, and the
-//! instance is then what it was. Which pieces a message allows is no matter of this crate: it asks only that elements end
-//! in order.
+//! leaves, one of the elements that are open, and blocks for the two numbers, not written to before one is set. So an
+//! instance is walked and dropped without recursion, however deep its elements stand. No block ever has room for more than
+//! 2^48 items; more is answered by want of memory, and the instance is then what it was. Which pieces a message allows is
+//! no matter of this crate: it asks only that elements end in order.
 #![tactic(auto)]
 
 mod blocks;

@@ -1,5 +1,16 @@
-// What every crate above reads and writes with: texts and lists; the characters of XML, and UTF-8 read a
-// byte at a time; decimals, their texts and their REAL contents; the rules of instance faults.
+//! What every crate above reads and writes with: texts and lists, characters and UTF-8, runs of bytes, decimals, and the
+//! rules of instance faults.
+//!
+//! `Text` and `Items` are bytes and lists that grow, and answer want of memory. `Utf8Step` takes UTF-8 a byte at a time;
+//! `is_xml_char`, `is_name_start`, `is_name_char` and `is_space` are classes of characters (XML 1.0 §2.2, §2.3),
+//! `is_xml_text` says whether bytes are a text of them, `escape` spells one in canonical XML. `DecimalStep` reads a decimal
+//! text a character at a time, `read_nr3` the contents of a REAL (X.690 §8.5). `Rule` names the rules, of which the least
+//! at one place is told.
+//!
+//! A `ByteClass` says of a byte, of eight and of sixteen at once which are in it, and `run_length` how many at the front
+//! are: of `ab<c` and a class of letters 2. `xml_run` gives the longest front that is whole characters of XML.
+//!
+//! Limits: a `Decimal` has at most 18 digits and a scale of at most 18. Nothing says that a `Text` is UTF-8.
 #![tactic(auto)]
 
 mod canonical;

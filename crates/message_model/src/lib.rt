@@ -1,4 +1,5 @@
-// The types of a message.
+//! The types of a message, compiled: `Model::compile` gives them by number, or the lowest of the rules M1 to M17 that is
+//! broken; `next` and `end` say which slot may come and what an end lacks.
 #![tactic(auto)]
 
 mod compile;

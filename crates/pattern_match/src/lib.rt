@@ -1,4 +1,5 @@
-// The patterns of XML Schema that facets use: read from their text, and matched against words a character at a time.
+//! The patterns that facets use (XML Schema part 2, appendix F): `Pattern` reads one from its text, `Matcher` holds words
+//! against it a character at a time, and by runs.
 #![tactic(auto)]
 
 mod builder;

@@ -1,16 +1,20 @@
-// The crate's table of contents.
-#![tactic(auto)]
 //! Canonical fragments, written and told. A canonical fragment is the one spelling of an element as XML that an envelope
 //! holds in canonical XML and in DER (`fragments`; XML 1.0 §2 and §3, Namespaces in XML 1.0 §3 and §6).
 //!
 //! `Respell` takes the events of an element, as `markup`'s `Reader` tells them, and writes its fragment: the events of
 //! `<q:X xmlns:q="u:a" b="1" p:c="2" xmlns:p="u:p"/>` are written as
-//! `<X xmlns="u:a" xmlns:a1="u:p" b="1" a1:c="2"></X>`. `is_fragment` tells whether bytes are a fragment. `laws` has what
+//! `<X xmlns="u:a" xmlns:a1="u:p" b="1" a1:c="2"></X>`. `take` takes an event, `take_run` a run of characters, and `take_tag`
+//! a tag without attributes in the default namespace so far, where `is_in_default` says that one is known. `is_whole` says
+//! whether the events are all of an element, and `text` is then its fragment.
+//!
+//! `is_fragment` says whether bytes are a fragment: they are read, written again and compared as they come. `laws` has what
 //! holds of fragments: one is that of one tree, none is a proper front of another, and each is read back as its tree.
 //!
-//! Limits: `is_fragment` takes no tag of more than 1,048,576 bytes, as `Reader` does, while `Respell` writes tags of any
-//! length. `Respell` keeps the text, and of each open element whether it declares a default namespace; `is_fragment` keeps
-//! that without the text, and what a `Reader` keeps.
+//! Limits: `Respell` writes tags of any length. `is_fragment` takes fewer than 2^40 bytes, and no tag of more than 1,048,576
+//! as `Reader` does: where there are more bytes than that, which are no fragment with shorter tags, it answers want of
+//! memory. `Respell` keeps the text, the defaults that open elements declare, and whether each declares one; `is_fragment`
+//! keeps of the text one tag's or 4,096 bytes of a run at most, and what a `Reader` keeps.
+#![tactic(auto)]
 
 mod fragment_reader;
 pub mod laws;
