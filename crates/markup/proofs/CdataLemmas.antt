@@ -6,7 +6,7 @@ use Rattle.std.proofs.lemmas.Bool.{both_ways, cases_Bool}
 use Rattle.lexical_core.specs.declared.rule.Rule.TheVariants.{TextOutside}
 use Rattle.markup.specs.Chars.{is_space}
 use Rattle.markup.specs.Token.{Token, Mark, Declaration, Comment, Instruction, Opener, Closer, TypeDeclaration, Start, End, Refer, LineEnd, Character, token_bytes}
-use Rattle.markup.specs.Marks.{in_cdata, stands, Front, tag_limit}
+use Rattle.markup.specs.Marks.{in_cdata, stands, Front}
 use Rattle.markup.specs.Faults.{is_outside, rule_of, IsClean}
 use Rattle.markup.specs.Drafts.{no_draft}
 use Rattle.markup.specs.ScanRuns.{At, Over, run, position, ended_of, draft_of, ends_itself}
@@ -63,7 +63,7 @@ bracket_clean before h = by (is_space 93) (is_outside before) h where
   by false false h = refl
 
 -- a `]` that waits for what follows it stands in a CDATA section
-pub waits_in_cdata : (z : Tokenizer) (before : List Token) (bytes rest after : List ℕ) → IsOpen z before bytes → bytes ≡ token_bytes (Character 93) ++ rest → stands before (Character 93) after ≡ true → in_cdata before ≡ true
+pub waits_in_cdata : {limit : ℕ} (z : Tokenizer) (before : List Token) (bytes rest after : List ℕ) → IsOpen limit z before bytes → bytes ≡ token_bytes (Character 93) ++ rest → stands before (Character 93) after ≡ true → in_cdata before ≡ true
 waits_in_cdata z before bytes rest after o e s = by (cases_Bool (in_cdata before)) where
   not_over : (s : Scan) (d f : Draft) (k : Ended) (w : List ℕ) → At s d ≡ Over k f w → ⊥
   not_over s d f k w h = cc
@@ -80,16 +80,16 @@ waits_in_cdata z before bytes rest after o e s = by (cases_Bool (in_cdata before
   by (inl h) = h
   by (inr h) = absurd (outside h (compare_texts o.chars (93 ∷ []) o.part rest (sym o.bytes_are ∙ e)))
 
-module _ (old new : Tokenizer) (input : List ℕ) (ts : List Token) (byte : ℕ) (r : Reads Any old input ts) (c : IsClean [] ts) where
+module _ {limit : ℕ} (old new : Tokenizer) (input : List ℕ) (ts : List Token) (byte : ℕ) (r : Reads limit Any old input ts) (c : IsClean [] ts) where
   inside : in_cdata (reverse ts) ≡ true → is_outside (reverse ts) ≡ false
-  inside = cdata_inside tag_limit ts (input ++ []) (r.bytes ++ []) (r.front [] tt) c
+  inside = cdata_inside limit ts (input ++ []) (r.bytes ++ []) (r.front [] tt) c
 
   -- a `]` that the next byte settles breaks no rule
-  pub settled_clean : SettlesOne new (reverse ts) r.bytes byte (Character 93) → IsClean [] (ts ++ Character 93 ∷ [])
+  pub settled_clean : SettlesOne limit new (reverse ts) r.bytes byte (Character 93) → IsClean [] (ts ++ Character 93 ∷ [])
   settled_clean k = clean_snoc ts (Character 93) c (bracket_clean (reverse ts) (inside (waits_in_cdata old (reverse ts) r.bytes k.rest (k.rest ++ byte ∷ []) r.opens k.bytes_are (k.is []))))
 
   -- nor do two of them
-  pub settled_two_clean : SettlesTwo new (reverse ts) r.bytes byte → IsClean [] (ts ++ Character 93 ∷ Character 93 ∷ [])
+  pub settled_two_clean : SettlesTwo limit new (reverse ts) r.bytes byte → IsClean [] (ts ++ Character 93 ∷ Character 93 ∷ [])
   settled_two_clean k =
       subst (λ v. IsClean [] v) (append_assoc ts (Character 93 ∷ []) (Character 93 ∷ []))
       (clean_snoc (ts ++ Character 93 ∷ []) (Character 93) (clean_snoc ts (Character 93) c (bracket_clean (reverse ts) here))

@@ -20,7 +20,7 @@ use Rattle.markup.specs.Drafts.{no_draft}
 use Rattle.markup.specs.Contexts.{IsContext, HasOpen, unbracketed}
 use Rattle.markup.specs.TokenRules.{one_more, brackets}
 use Rattle.markup.specs.Tokenizers.{is_between, is_ready}
-use Rattle.markup.specs.Reading.{HasTaken, HasTold, IsInside}
+use Rattle.markup.specs.Reading.{HasTakenUnder, HasToldUnder, IsInsideUnder}
 use Rattle.markup.specs.ReaderSteps.{IsReady, passed_over}
 use Rattle.markup.specs.declared.context.Context.{Context}
 use Rattle.markup.specs.declared.reader.Reader.{Reader}
@@ -82,7 +82,7 @@ module _ (before : List Token) (inside : is_outside before ≡ false) (c : ℕ) 
         by true = refl
         by false = refl
 
-  character_next : (c == 10) ≡ false → IsNext before (Character c)
+  character_next : {limit : ℕ} → (c == 10) ≡ false → IsNext limit before (Character c)
   character_next n = record { is = character_stands n; short = refl; clean = character_clean; stays = λ p. refl }
 
 line_stands : (before : List Token) (after : List ℕ) → stands before (LineEnd Lf) after ≡ true
@@ -91,7 +91,7 @@ line_stands before after = by (in_cdata before) where
   by true = refl
   by false = refl
 
-line_next : (before : List Token) → IsNext before (LineEnd Lf)
+line_next : {limit : ℕ} (before : List Token) → IsNext limit before (LineEnd Lf)
 line_next before = record { is = line_stands before; short = refl; clean = refl; stays = λ p. refl }
 
 character_context : (before : List Token) (k : Context) (c : ℕ) → (c == 93) ≡ false → IsContext k before → IsContext (unbracketed k) (Character c ∷ before)
@@ -103,7 +103,7 @@ line_context before k i = record { scope = i.scope; root = i.root; brackets_are 
 -- ---- a reader behind them
 
 abbrev at_place : Tokenizer → ℕ → Tokenizer
-at_place z p = record { alloc = z.alloc; utf8 = z.utf8; position = z.position; scan = z.scan; draft = z.draft; start = p; place = p }
+at_place z p = record { alloc = z.alloc; limit = z.limit; utf8 = z.utf8; position = z.position; scan = z.scan; draft = z.draft; start = p; place = p }
 
 -- the reader at a place between tokens, behind so many literal `]`
 abbrev at : Reader → ℕ → ℕ → Reader
@@ -125,8 +125,8 @@ after_none : (cs : List ℕ) → after 0 cs ≡ 0
 after_none [] = refl
 after_none (c ∷ cs) = refl
 
-module _ (r : Reader) (between : is_between r.tokenizer.scan ≡ true) (within : HasOpen r.context) where
-  module _ (p b c : ℕ) (bytes : List ℕ) (told : List Placed) (l : IsLiteral c) (h : HasTaken (at r p b) bytes told) where
+module _ {limit : ℕ} (r : Reader) (between : is_between r.tokenizer.scan ≡ true) (within : HasOpen r.context) where
+  module _ (p b c : ℕ) (bytes : List ℕ) (told : List Placed) (l : IsLiteral c) (h : HasTakenUnder limit (at r p b) bytes told) where
     abbrev before : List Token
     before = reverse h.0
 
@@ -134,34 +134,34 @@ module _ (r : Reader) (between : is_between r.tokenizer.scan ≡ true) (within :
     inside = within (open_tags before) h.1.context.scope
 
     -- the token of the character
-    behind_token : (t : Token) → IsNext before t → token_bytes t ≡ encode_utf8 c → items_of before t ≡ Char c ∷ [] → IsContext (unbracketed (at r p b).context) (t ∷ before)
-        → HasTaken (at r (p + length (encode_utf8 c)) 0) (bytes ++ encode_utf8 c) (told ++ record { place = p; item = Char c } ∷ [])
+    behind_token : (t : Token) → IsNext limit before t → token_bytes t ≡ encode_utf8 c → items_of before t ≡ Char c ∷ [] → IsContext (unbracketed (at r p b).context) (t ∷ before)
+        → HasTakenUnder limit (at r (p + length (encode_utf8 c)) 0) (bytes ++ encode_utf8 c) (told ++ record { place = p; item = Char c } ∷ [])
     behind_token t next e i k =
-        subst (λ q. HasTaken (at r (p + length (encode_utf8 c)) 0) (bytes ++ encode_utf8 c) (told ++ record { place = q; item = Char c } ∷ [])) (sym h.1.place)
-        (subst (λ v. HasTaken (at r (p + length (encode_utf8 c)) 0) (bytes ++ encode_utf8 c) (told ++ placed_at (length bytes) v)) i
-        (subst (λ v. HasTaken (at r (p + length (encode_utf8 c)) 0) (bytes ++ v) (told ++ placed_at (length bytes) (items_of before t))) e
+        subst (λ q. HasTakenUnder limit (at r (p + length (encode_utf8 c)) 0) (bytes ++ encode_utf8 c) (told ++ record { place = q; item = Char c } ∷ [])) (sym h.1.place)
+        (subst (λ v. HasTakenUnder limit (at r (p + length (encode_utf8 c)) 0) (bytes ++ encode_utf8 c) (told ++ placed_at (length bytes) v)) i
+        (subst (λ v. HasTakenUnder limit (at r (p + length (encode_utf8 c)) 0) (bytes ++ v) (told ++ placed_at (length bytes) (items_of before t))) e
         (takes_next (at r p b) bytes told h between (same_place p) t (length (encode_utf8 c)) (unbracketed (at r p b).context) next (ap length (sym e)) k)))
 
-    step_literal : HasTaken (at r (p + length (encode_utf8 c)) 0) (bytes ++ encode_utf8 c) (told ++ record { place = p; item = Char c } ∷ [])
+    step_literal : HasTakenUnder limit (at r (p + length (encode_utf8 c)) 0) (bytes ++ encode_utf8 c) (told ++ record { place = p; item = Char c } ∷ [])
     step_literal = by (c == 10) refl where
-      by : (n : Bool) → (c == 10) ≡ n → HasTaken (at r (p + length (encode_utf8 c)) 0) (bytes ++ encode_utf8 c) (told ++ record { place = p; item = Char c } ∷ [])
+      by : (n : Bool) → (c == 10) ≡ n → HasTakenUnder limit (at r (p + length (encode_utf8 c)) 0) (bytes ++ encode_utf8 c) (told ++ record { place = p; item = Char c } ∷ [])
       by true e = behind_token (LineEnd Lf) (line_next before) (append-nil (encode_utf8 10) ∙ ap encode_utf8 (sym (eqb-true c 10 e))) (ap (λ x. Char x ∷ []) (sym (eqb-true c 10 e))) (line_context before (at r p b).context h.1.context)
       by false e = behind_token (Character c) (character_next before inside c l e) (append-nil (encode_utf8 c)) refl (character_context before (at r p b).context c (literal_facts c l).4 h.1.context)
 
-  steps_all : (cs : List ℕ) (p b : ℕ) (bytes : List ℕ) (told : List Placed) → AllByRecursion IsLiteral cs → HasTaken (at r p b) bytes told → HasTaken (at r (p + length (encode_utf8_all cs)) (after b cs)) (bytes ++ encode_utf8_all cs) (told ++ characters_from p cs)
+  steps_all : (cs : List ℕ) (p b : ℕ) (bytes : List ℕ) (told : List Placed) → AllByRecursion IsLiteral cs → HasTakenUnder limit (at r p b) bytes told → HasTakenUnder limit (at r (p + length (encode_utf8_all cs)) (after b cs)) (bytes ++ encode_utf8_all cs) (told ++ characters_from p cs)
   steps_all [] p b bytes told l h =
-      subst (λ q. HasTaken (at r q b) (bytes ++ []) (told ++ [])) (sym (add-zero p))
-      (subst (λ v. HasTaken (at r p b) v (told ++ [])) (sym (append-nil bytes))
-      (subst (λ v. HasTaken (at r p b) bytes v) (sym (append-nil told)) h))
+      subst (λ q. HasTakenUnder limit (at r q b) (bytes ++ []) (told ++ [])) (sym (add-zero p))
+      (subst (λ v. HasTakenUnder limit (at r p b) v (told ++ [])) (sym (append-nil bytes))
+      (subst (λ v. HasTakenUnder limit (at r p b) bytes v) (sym (append-nil told)) h))
   steps_all (c ∷ cs) p b bytes told l h =
       let d : Placed = record { place = p; item = Char c } in
       let n : ℕ = p + length (encode_utf8 c) in
       let m : List ℕ = encode_utf8_all cs in
-      let k : HasTaken (at r (n + length m) (after 0 cs)) ((bytes ++ encode_utf8 c) ++ m) ((told ++ d ∷ []) ++ characters_from n cs) = steps_all cs n 0 (bytes ++ encode_utf8 c) (told ++ d ∷ []) l.1 (step_literal p b c bytes told l.0 h) in
-      subst (λ q. HasTaken (at r q 0) (bytes ++ encode_utf8_all (c ∷ cs)) (told ++ d ∷ characters_from n cs)) (count p (encode_utf8 c) m)
-      (subst (λ v. HasTaken (at r (n + length m) v) (bytes ++ encode_utf8_all (c ∷ cs)) (told ++ d ∷ characters_from n cs)) (after_none cs)
-      (subst (λ v. HasTaken (at r (n + length m) (after 0 cs)) v (told ++ d ∷ characters_from n cs)) (append_assoc bytes (encode_utf8 c) m)
-      (subst (λ v. HasTaken (at r (n + length m) (after 0 cs)) ((bytes ++ encode_utf8 c) ++ m) v) (append_assoc told (d ∷ []) (characters_from n cs)) k))) where
+      let k : HasTakenUnder limit (at r (n + length m) (after 0 cs)) ((bytes ++ encode_utf8 c) ++ m) ((told ++ d ∷ []) ++ characters_from n cs) = steps_all cs n 0 (bytes ++ encode_utf8 c) (told ++ d ∷ []) l.1 (step_literal p b c bytes told l.0 h) in
+      subst (λ q. HasTakenUnder limit (at r q 0) (bytes ++ encode_utf8_all (c ∷ cs)) (told ++ d ∷ characters_from n cs)) (count p (encode_utf8 c) m)
+      (subst (λ v. HasTakenUnder limit (at r (n + length m) v) (bytes ++ encode_utf8_all (c ∷ cs)) (told ++ d ∷ characters_from n cs)) (after_none cs)
+      (subst (λ v. HasTakenUnder limit (at r (n + length m) (after 0 cs)) v (told ++ d ∷ characters_from n cs)) (append_assoc bytes (encode_utf8 c) m)
+      (subst (λ v. HasTakenUnder limit (at r (n + length m) (after 0 cs)) ((bytes ++ encode_utf8 c) ++ m) v) (append_assoc told (d ∷ []) (characters_from n cs)) k))) where
         count : (p : ℕ) (xs ys : List ℕ) → p + length xs + length ys ≡ p + length (xs ++ ys)
         count p xs ys = omega (arith, length-append xs ys)
 
@@ -170,31 +170,31 @@ after_some b [] h = absurd (omega arith)
 after_some b (c ∷ cs) h = refl
 
 -- a run of them is taken
-pub passes : (r : Reader) (xs bytes : List ℕ) (told : List Placed) (n m : ℕ) → n ≤ length xs → (run : IsRun (take n xs) m) → IsReady r → 0 < n → HasTaken r bytes told → HasTold (passed_over r n) (bytes ++ take n xs) (told ++ characters_from (length bytes) run.characters)
-passes r xs bytes told n m w run i s h =
+pub passes : {limit : ℕ} (r : Reader) (xs bytes : List ℕ) (told : List Placed) (n m : ℕ) → n ≤ length xs → (run : IsRun (take n xs) m) → IsReady r → 0 < n → HasTakenUnder limit r bytes told → HasToldUnder limit (passed_over r n) (bytes ++ take n xs) (told ++ characters_from (length bytes) run.characters)
+passes {limit} r xs bytes told n m w run i s h =
     let z = r.tokenizer in
     let k = r.context in
     let cs = run.characters in
     let a = and_parts (is_between z.scan) (z.place == z.start) i.ready in
-    let b : HasTaken (at r z.place k.brackets) bytes told =
-    subst (λ v. HasTaken (record { tokenizer = record { alloc = z.alloc; utf8 = z.utf8; position = z.position; scan = z.scan; draft = z.draft; start = v; place = z.place }; context = k; failed = r.failed }) bytes told) (sym (eqb-true z.place z.start a.1)) h in
-    let t : HasTaken (at r (z.place + length (encode_utf8_all cs)) (after k.brackets cs)) (bytes ++ encode_utf8_all cs) (told ++ characters_from z.place cs) = steps_all r a.0 i.inside cs z.place k.brackets bytes told run.literal b in
+    let b : HasTakenUnder limit (at r z.place k.brackets) bytes told =
+    subst (λ v. HasTakenUnder limit (record { tokenizer = record { alloc = z.alloc; limit = z.limit; utf8 = z.utf8; position = z.position; scan = z.scan; draft = z.draft; start = v; place = z.place }; context = k; failed = r.failed }) bytes told) (sym (eqb-true z.place z.start a.1)) h in
+    let t : HasTakenUnder limit (at r (z.place + length (encode_utf8_all cs)) (after k.brackets cs)) (bytes ++ encode_utf8_all cs) (told ++ characters_from z.place cs) = steps_all r a.0 i.inside cs z.place k.brackets bytes told run.literal b in
     let l : length (encode_utf8_all cs) ≡ n = ap length (sym run.bytes_are) ∙ length-take-le n xs w in
     told_so_far (passed_over r n) (bytes ++ take n xs) (told ++ characters_from (length bytes) cs)
-    (subst (λ v. HasTaken (passed_over r n) (bytes ++ v) (told ++ characters_from (length bytes) cs)) (sym run.bytes_are)
-    (subst (λ v. HasTaken (passed_over r n) (bytes ++ encode_utf8_all cs) (told ++ characters_from v cs)) h.1.place
-    (subst (λ v. HasTaken (at r (z.place + v) 0) (bytes ++ encode_utf8_all cs) (told ++ characters_from z.place cs)) l
-    (subst (λ v. HasTaken (at r (z.place + length (encode_utf8_all cs)) v) (bytes ++ encode_utf8_all cs) (told ++ characters_from z.place cs)) (after_some k.brackets cs (subst (λ v. 0 < v) (sym l) s)) t))))
+    (subst (λ v. HasTakenUnder limit (passed_over r n) (bytes ++ v) (told ++ characters_from (length bytes) cs)) (sym run.bytes_are)
+    (subst (λ v. HasTakenUnder limit (passed_over r n) (bytes ++ encode_utf8_all cs) (told ++ characters_from v cs)) h.1.place
+    (subst (λ v. HasTakenUnder limit (at r (z.place + v) 0) (bytes ++ encode_utf8_all cs) (told ++ characters_from z.place cs)) l
+    (subst (λ v. HasTakenUnder limit (at r (z.place + length (encode_utf8_all cs)) v) (bytes ++ encode_utf8_all cs) (told ++ characters_from z.place cs)) (after_some k.brackets cs (subst (λ v. 0 < v) (sym l) s)) t))))
 
 -- no character is told
 no_characters : (cs : List ℕ) → [] ≡ encode_utf8_all cs → cs ≡ []
 no_characters cs h = (no_chars cs [] (ap length (append-nil (encode_utf8_all cs) ∙ sym h))).0
 
-pub passes_none : (r : Reader) (xs bytes : List ℕ) (told : List Placed) (n m : ℕ) → n ≤ 0 → (run : IsRun (take n xs) m) → HasTaken r bytes told → HasTold r (bytes ++ take n xs) (told ++ characters_from (length bytes) run.characters)
-passes_none r xs bytes told zero m w run h =
-    subst (λ v. HasTold r (bytes ++ []) (told ++ characters_from (length bytes) v)) (sym (no_characters run.characters run.bytes_are))
-    (subst (λ v. HasTold r v (told ++ [])) (sym (append-nil bytes))
-    (subst (λ v. HasTold r bytes v) (sym (append-nil told)) (told_so_far r bytes told h)))
+pub passes_none : {limit : ℕ} (r : Reader) (xs bytes : List ℕ) (told : List Placed) (n m : ℕ) → n ≤ 0 → (run : IsRun (take n xs) m) → HasTakenUnder limit r bytes told → HasToldUnder limit r (bytes ++ take n xs) (told ++ characters_from (length bytes) run.characters)
+passes_none {limit} r xs bytes told zero m w run h =
+    subst (λ v. HasToldUnder limit r (bytes ++ []) (told ++ characters_from (length bytes) v)) (sym (no_characters run.characters run.bytes_are))
+    (subst (λ v. HasToldUnder limit r v (told ++ [])) (sym (append-nil bytes))
+    (subst (λ v. HasToldUnder limit r bytes v) (sym (append-nil told)) (told_so_far r bytes told h)))
 passes_none r xs bytes told (suc n) m w run h = absurd (omega arith)
 
 -- behind whole tokens, where an element is open, a token begins that may be such a character
@@ -214,7 +214,7 @@ inside_between (t ∷ before) h = by (is_first (t ∷ before)) (in_cdata (t ∷ 
   by false true n = refl
   by false false n = refl
 
-pub inside_ready : (r : Reader) (bytes : List ℕ) (told : List Placed) → IsInside r bytes told → is_ready r.tokenizer ≡ true
+pub inside_ready : {limit : ℕ} (r : Reader) (bytes : List ℕ) (told : List Placed) → IsInsideUnder limit r bytes told → is_ready r.tokenizer ≡ true
 inside_ready r bytes told h =
     let ts = h.0 in
     let k = h.1 in

@@ -13,7 +13,7 @@ use Rattle.markup.specs.ReferenceScans.{entity_char_of, letter_step, gives, numb
 use Rattle.markup.specs.Scans.{step, name_step, name_turn, referring, referring_in, text_step, line_step, behind_attribute_step, before_equals_step, end_gap_step}
 use Rattle.markup.specs.ScanRuns.{At, turned, run, position}
 use Rattle.markup.specs.Tokenizers.{is_tag, IsOpen}
-use Rattle.markup.specs.Reading.{HasTaken, token}
+use Rattle.markup.specs.Reading.{HasTakenUnder, token}
 use Rattle.markup.specs.declared.draft.Draft.{Draft}
 use Rattle.markup.specs.declared.reader.Reader.{Reader}
 use Rattle.markup.specs.declared.tag.Given.{Given}
@@ -323,8 +323,8 @@ run_outside s t d e (c ∷ cs) h k = by (step s c) h (λ u k. run_outside u t (n
 
 -- ---- the reader
 
-module _ (r : Reader) (bytes : List ℕ) (told : List Placed) (h : HasTaken r bytes told) where
-  abbrev o : IsOpen r.tokenizer (reverse h.0) h.1.reads.bytes
+module _ {limit : ℕ} (r : Reader) (bytes : List ℕ) (told : List Placed) (h : HasTakenUnder limit r bytes told) where
+  abbrev o : IsOpen limit r.tokenizer (reverse h.0) h.1.reads.bytes
   o = h.1.reads.opens
 
   within_chars : token r ≤ length (encode_utf8_all o.chars)
@@ -338,7 +338,7 @@ module _ (r : Reader) (bytes : List ℕ) (told : List Placed) (h : HasTaken r by
   token_within = omega (arith, within_bytes, o.place_is)
 
   -- and no more than a tag may have
-  pub token_bounded : token r ≤ tag_limit
+  pub token_bounded : token r ≤ limit
   token_bounded = by (cases_Bool (is_tag r.tokenizer.scan)) where
     here : ScanPlaced o.chars r.tokenizer.scan
     here = run_placed (position (reverse h.0)) o.chars r.tokenizer.scan no_draft r.tokenizer.draft o.scan_is
@@ -349,6 +349,6 @@ module _ (r : Reader) (bytes : List ℕ) (told : List Placed) (h : HasTaken r by
     none : (n limit : ℕ) → n ≡ 0 → n ≤ limit
     none n limit h = omega arith
 
-    by : (is_tag r.tokenizer.scan ≡ true) ⊎ (is_tag r.tokenizer.scan ≡ false) → token r ≤ tag_limit
-    by (inl y) = count (token r) (length h.1.reads.bytes) tag_limit within_bytes (o.short (here.tag (here.same y)))
-    by (inr n) = none (token r) tag_limit (ap held (run_outside (Begin (position (reverse h.0))) r.tokenizer.scan no_draft r.tokenizer.draft o.chars o.scan_is n))
+    by : (is_tag r.tokenizer.scan ≡ true) ⊎ (is_tag r.tokenizer.scan ≡ false) → token r ≤ limit
+    by (inl y) = count (token r) (length h.1.reads.bytes) limit within_bytes (o.short (here.tag (here.same y)))
+    by (inr n) = none (token r) limit (ap held (run_outside (Begin (position (reverse h.0))) r.tokenizer.scan no_draft r.tokenizer.draft o.chars o.scan_is n))

@@ -6,13 +6,13 @@ use Rattle.std.proofs.lemmas.List.{length-take-le, take-append-drop, take-append
 use Rattle.std.proofs.lemmas.Str.{encodes-append}
 use Rattle.markup.specs.Chars.{is_xml_char}
 use Rattle.markup.specs.Token.{Token, LineEnd, Cr, token_bytes}
-use Rattle.markup.specs.Marks.{Front, tag_limit}
+use Rattle.markup.specs.Marks.{Front}
 use Rattle.markup.specs.Events.{Placed, events}
 use Rattle.markup.specs.Faults.{IsTagBegun}
 use Rattle.markup.specs.Drafts.{no_draft}
 use Rattle.markup.specs.Inputs.{Any, with_pending}
 use Rattle.markup.specs.Inside.{GoesOver, is_inside, may_be_tag, moved, GoesInside}
-use Rattle.markup.specs.Reading.{HasTaken, HasTold}
+use Rattle.markup.specs.Reading.{HasTakenUnder, HasToldUnder}
 use Rattle.markup.specs.Scans.{step}
 use Rattle.markup.specs.ScanRuns.{At, run, position}
 use Rattle.markup.specs.Tokenizers.{is_tag, scanned, is_pending, IsOpen, open_at, FinishesBy}
@@ -71,7 +71,7 @@ front_more a b c piece rest behind n f g e = record {
 }
 
 -- the front of a piece, so long that a tag stays shorter than its limit
-pub goes_front : (old between : Tokenizer) (piece front : List ℕ) (room count : ℕ) → is_inside old.scan ≡ true → old.utf8 ≡ Some [] → room ≤ length piece → front ≡ take room piece → count ≤ length front → (may_be_tag old.scan ≡ true → 0 < room → (old.place - old.start) + room < tag_limit) → GoesOver old between (take count front) → 0 < count → GoesInside old (moved between count) (take count piece)
+pub goes_front : (old between : Tokenizer) (piece front : List ℕ) (room count : ℕ) → is_inside old.scan ≡ true → old.utf8 ≡ Some [] → room ≤ length piece → front ≡ take room piece → count ≤ length front → (may_be_tag old.scan ≡ true → 0 < room → (old.place - old.start) + room < old.limit) → GoesOver old between (take count front) → 0 < count → GoesInside old (moved between count) (take count piece)
 goes_front old between piece front room count i w r f c s g some = record {
   inside = i;
   whole = w;
@@ -123,7 +123,7 @@ begun_may p s d (a ∷ b ∷ chars) more r i t = tag_may s (by (cases_Bool (in_t
   by (inl h) = tag_scan s h
   by (inr h) = absurd ((run_placed p (a ∷ b ∷ chars) s no_draft d r).no_tag h t)
 
-module _ (old new : Tokenizer) (before : List Token) (bytes more : List ℕ) (o : IsOpen old before bytes) (g : GoesInside old new more) where
+module _ {limit : ℕ} (old new : Tokenizer) (before : List Token) (bytes more : List ℕ) (o : IsOpen limit old before bytes) (g : GoesInside old new more) where
   abbrev z : Tokenizer
   z = g.between
 
@@ -146,8 +146,8 @@ module _ (old new : Tokenizer) (before : List Token) (bytes more : List ℕ) (o 
       none : (cs : List ℕ) → [] ≡ encode_utf8_all cs → cs ≡ []
       none cs e = (no_chars cs [] (ap length (append-nil (encode_utf8_all cs) ∙ sym e))).0
 
-  pub goes_open : IsOpen new before (bytes ++ more)
-  goes_open = subst (λ y. IsOpen y before (bytes ++ more)) (sym g.after) (subst (λ y. IsOpen (moved y (length more)) before (bytes ++ more)) (sym g.over.after) (record {
+  pub goes_open : IsOpen limit new before (bytes ++ more)
+  goes_open = subst (λ y. IsOpen limit y before (bytes ++ more)) (sym g.after) (subst (λ y. IsOpen limit (moved y (length more)) before (bytes ++ more)) (sym g.over.after) (record {
     chars = o.chars ++ more;
     part = [];
     bytes_are = more_are ∙ sym (append-nil (encode_utf8_all (o.chars ++ more)));
@@ -156,14 +156,16 @@ module _ (old new : Tokenizer) (before : List Token) (bytes more : List ℕ) (o 
     scan_is = run_on (Begin (position before)) old.scan no_draft old.draft o.chars more o.scan_is ∙ g.over.scans;
     position_is = o.position_is;
     place_is = place_more old.place old.start bytes more o.place_is;
-    short = λ t. short_more (g.short (begun_may (position before) old.scan old.draft o.chars more o.scan_is g.inside t));
+    limit_is = o.limit_is;
+    limited = o.limited;
+    short = λ t. short_more (subst (λ n. (old.place - old.start) + length more < n) o.limit_is (g.short (begun_may (position before) old.scan old.draft o.chars more o.scan_is g.inside t)));
     settled = λ _. refl;
   })) where
     place_more : (p q : ℕ) (v w : List ℕ) → p ≡ q + length v → p + length w ≡ q + length (v ++ w)
     place_more p q v w h = omega (arith, h, length-append v w)
 
-    short_more : (old.place - old.start) + length more < tag_limit → length (bytes ++ more) < tag_limit
-    short_more h = count old.place old.start (length bytes) (length more) (length (bytes ++ more)) tag_limit o.place_is (length-append bytes more) h where
+    short_more : (old.place - old.start) + length more < limit → length (bytes ++ more) < limit
+    short_more h = count old.place old.start (length bytes) (length more) (length (bytes ++ more)) limit o.place_is (length-append bytes more) h where
       count : (p q n m k limit : ℕ) → p ≡ q + n → k ≡ n + m → (p - q) + m < limit → k < limit
       count p q n m k limit e f h = omega arith
 
@@ -175,19 +177,19 @@ inside_not_pending Bracket h = absurd (both_ways false refl h)
 inside_not_pending Brackets h = absurd (both_ways false refl h)
 inside_not_pending _ h = refl
 
-module _ (r : Reader) (new : Tokenizer) (bytes more : List ℕ) (told : List Placed) (some : 0 < length more) (place : new.place ≡ r.tokenizer.place + length more) (g : GoesInside r.tokenizer new more) (h : HasTaken r bytes told) where
+module _ {limit : ℕ} (r : Reader) (new : Tokenizer) (bytes more : List ℕ) (told : List Placed) (some : 0 < length more) (place : new.place ≡ r.tokenizer.place + length more) (g : GoesInside r.tokenizer new more) (h : HasTakenUnder limit r bytes told) where
   abbrev ts : List Token
   ts = h.0
 
   abbrev opened : List ℕ
   opened = h.1.reads.bytes
 
-  opens : IsOpen new (reverse ts) (opened ++ more)
+  opens : IsOpen limit new (reverse ts) (opened ++ more)
   opens = goes_open r.tokenizer new (reverse ts) opened more h.1.reads.opens g
 
-  front : (m : List ℕ) → Any m → Front tag_limit [] ((bytes ++ more) ++ m) ts ((opened ++ more) ++ m)
-  front m _ = subst (λ v. Front tag_limit [] v ts ((opened ++ more) ++ m)) (sym (append_assoc bytes more m))
-      (subst (λ v. Front tag_limit [] (bytes ++ (more ++ m)) ts v) (sym (append_assoc opened more m)) (h.1.reads.front (more ++ m) tt))
+  front : (m : List ℕ) → Any m → Front limit [] ((bytes ++ more) ++ m) ts ((opened ++ more) ++ m)
+  front m _ = subst (λ v. Front limit [] v ts ((opened ++ more) ++ m)) (sym (append_assoc bytes more m))
+      (subst (λ v. Front limit [] (bytes ++ (more ++ m)) ts v) (sym (append_assoc opened more m)) (h.1.reads.front (more ++ m) tt))
 
   told_before : told ≡ events [] 0 ts
   told_before = h.1.told_are (open_at r.tokenizer.scan r.tokenizer) (finishes_by r.tokenizer (open_at r.tokenizer.scan r.tokenizer) refl)
@@ -200,7 +202,7 @@ module _ (r : Reader) (new : Tokenizer) (bytes more : List ℕ) (told : List Pla
   told_now f q = told_before ∙ ap (events [] 0) (sym (none_pending f ts (not_return new (reverse ts) (opened ++ more) f opens q no_line)))
 
   -- nothing is told of the bytes
-  pub goes_told : HasTold (record { tokenizer = new; context = r.context; failed = r.failed }) (bytes ++ more) told
+  pub goes_told : HasToldUnder limit (record { tokenizer = new; context = r.context; failed = r.failed }) (bytes ++ more) told
   goes_told = told_so_far (record { tokenizer = new; context = r.context; failed = r.failed }) (bytes ++ more) told (
     ts,
     record {
@@ -214,7 +216,7 @@ module _ (r : Reader) (new : Tokenizer) (bytes more : List ℕ) (told : List Pla
   )
 
 -- the front of a piece
-pub takes_inside : (r : Reader) (new : Tokenizer) (bytes piece : List ℕ) (told : List Placed) (count : ℕ) → count ≤ length piece → 0 < count → new.place ≡ r.tokenizer.place + count → GoesInside r.tokenizer new (take count piece) → HasTaken r bytes told → HasTold (record { tokenizer = new; context = r.context; failed = r.failed }) (bytes ++ take count piece) told
+pub takes_inside : {limit : ℕ} (r : Reader) (new : Tokenizer) (bytes piece : List ℕ) (told : List Placed) (count : ℕ) → count ≤ length piece → 0 < count → new.place ≡ r.tokenizer.place + count → GoesInside r.tokenizer new (take count piece) → HasTakenUnder limit r bytes told → HasToldUnder limit (record { tokenizer = new; context = r.context; failed = r.failed }) (bytes ++ take count piece) told
 takes_inside r new bytes piece told count within some place g h = goes_told r new bytes (take count piece) told (omega (arith, size, some)) (place ∙ ap (λ n. r.tokenizer.place + n) (sym size)) g h where
   size : length (take count piece) ≡ count
   size = length-take-le count piece within

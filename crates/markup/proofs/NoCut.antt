@@ -9,9 +9,9 @@ use Rattle.markup.specs.declared.tag.Opening.{Opening}
 use Rattle.markup.specs.declared.tag.Spelled.{Spelled}
 use Rattle.markup.specs.Chars.{is_space}
 use Rattle.markup.specs.Token.{Token, Mark, Declaration, Comment, Instruction, Opener, Closer, TypeDeclaration, Start, End, Refer, LineEnd, Character, token_bytes}
-use Rattle.markup.specs.Marks.{in_cdata, tag_limit}
+use Rattle.markup.specs.Marks.{in_cdata}
 use Rattle.markup.specs.Events.{opening, spelled, open_tags, element_name}
-use Rattle.markup.specs.Faults.{rule_of, start_rule, end_rule, outside_rule, is_outside, is_over, has_clash, is_bad_attribute, behind_brackets, Stops, no_char, bad_char, stuck, is_in_reference, Next, broken, halts, cut, too_long, Fault, MarkFault}
+use Rattle.markup.specs.Faults.{rule_of, start_rule, end_rule, outside_rule, is_outside, is_over, has_clash, is_bad_attribute, behind_brackets, Stops, no_char, bad_char, stuck, is_in_reference, Next, broken, halts, cut, too_long, Fault, MarkFaultUnder}
 use Rattle.markup.proofs.InputLemmas.{front_bytes}
 
 -- the rule is that of an input that ends too early
@@ -64,18 +64,18 @@ stops_no_cut before chars tail rule shown (bad_char c x e s n r h) = ap is_cut_r
 stops_no_cut before chars tail rule shown (stuck c x e s n r h) = ap is_cut_rule r ∙ stuck_no_cut (is_in_reference chars)
 
 -- a fault stands at the end of the bytes where they end too early
-at_end : (before : List Token) (bytes : List ℕ) (rule : Rule) (at : ℕ) → Next tag_limit before bytes rule at → is_cut_rule rule ≡ true → at ≡ length bytes
+at_end : {limit : ℕ} (before : List Token) (bytes : List ℕ) (rule : Rule) (at : ℕ) → Next limit before bytes rule at → is_cut_rule rule ≡ true → at ≡ length bytes
 at_end before bytes rule at (broken t a c s b e) k = absurd (both_ways (is_cut_rule rule) (subst NoCut b (rule_no_cut before t)) k)
 at_end before bytes rule at (halts cs tl n b m g s l e) k = absurd (both_ways (is_cut_rule rule) (stops_no_cut before cs tl rule n s) k)
 at_end before bytes rule at (cut cs p b n g f l o r e) k = e
 at_end before bytes rule at (too_long cs p x b g u t f l r e) k = absurd (both_ways (is_cut_rule rule) (ap is_cut_rule r) k)
 
-cut_place : (bytes : List ℕ) (f : Fault) → MarkFault bytes f → is_cut_rule f.rule ≡ true → f.place ≡ length bytes
-cut_place bytes f m k = m.place ∙ (ap (λ n. length (flat_map token_bytes m.tokens) + n) (at_end (reverse m.tokens) m.rest f.rule m.at m.next k)
-    ∙ (sym (length-append (flat_map token_bytes m.tokens) m.rest) ∙ sym (ap length (front_bytes tag_limit [] bytes m.rest m.tokens m.front))))
+cut_place : {limit : ℕ} (bytes : List ℕ) (f : Fault) → MarkFaultUnder limit bytes f → is_cut_rule f.rule ≡ true → f.place ≡ length bytes
+cut_place {limit} bytes f m k = m.place ∙ (ap (λ n. length (flat_map token_bytes m.tokens) + n) (at_end (reverse m.tokens) m.rest f.rule m.at m.next k)
+    ∙ (sym (length-append (flat_map token_bytes m.tokens) m.rest) ∙ sym (ap length (front_bytes limit [] bytes m.rest m.tokens m.front))))
 
 -- A fault that stays, whatever follows, is no cut.
-pub stays_no_cut : (bytes : List ℕ) (f : Fault) → ((more : List ℕ) → MarkFault (bytes ++ more) f) → f.rule ≢ Truncated
+pub stays_no_cut : {limit : ℕ} (bytes : List ℕ) (f : Fault) → ((more : List ℕ) → MarkFaultUnder limit (bytes ++ more) f) → f.rule ≢ Truncated
 stays_no_cut bytes f m e =
     let k : is_cut_rule f.rule ≡ true = ap is_cut_rule e in
     let p : f.place ≡ length (bytes ++ []) = cut_place (bytes ++ []) f (m []) k in
@@ -83,13 +83,13 @@ stays_no_cut bytes f m e =
     omega (arith, p, q, length-append bytes [], length-append bytes (0 ∷ []))
 
 -- a fault stands within the bytes or at their end
-at_within : (before : List Token) (bytes : List ℕ) (rule : Rule) (at : ℕ) → Next tag_limit before bytes rule at → at ≤ length bytes
+at_within : {limit : ℕ} (before : List Token) (bytes : List ℕ) (rule : Rule) (at : ℕ) → Next limit before bytes rule at → at ≤ length bytes
 at_within before bytes rule at (broken t a c s b e) = omega (arith, e)
 at_within before bytes rule at (halts cs tl n b m g s l e) = omega (arith, e)
 at_within before bytes rule at (cut cs p b n g f l o r e) = omega (arith, e)
 at_within before bytes rule at (too_long cs p x b g u t f l r e) = omega (arith, e)
 
-pub fault_within : (bytes : List ℕ) (f : Fault) → MarkFault bytes f → f.place ≤ length bytes
-fault_within bytes f m = within f.place m.at (flat_map token_bytes m.tokens) m.rest bytes m.place (front_bytes tag_limit [] bytes m.rest m.tokens m.front) (at_within (reverse m.tokens) m.rest f.rule m.at m.next) where
+pub fault_within : {limit : ℕ} (bytes : List ℕ) (f : Fault) → MarkFaultUnder limit bytes f → f.place ≤ length bytes
+fault_within {limit} bytes f m = within f.place m.at (flat_map token_bytes m.tokens) m.rest bytes m.place (front_bytes limit [] bytes m.rest m.tokens m.front) (at_within (reverse m.tokens) m.rest f.rule m.at m.next) where
   within : (p a : ℕ) (x y b : List ℕ) → p ≡ length x + a → b ≡ x ++ y → a ≤ length y → p ≤ length b
   within p a x y b e f h = omega (arith, e, ap length f, length-append x y, h)

@@ -11,8 +11,8 @@ use Rattle.lexical_core.specs.declared.rule.Rule.{Rule}
 use Rattle.markup.specs.Chars.{is_xml_char}
 use Rattle.markup.specs.Token.{Token, Mark, Declaration, Comment, Instruction, Opener, Closer, TypeDeclaration, Start, End, Refer, LineEnd, Character, Lf, Cr, CrLf, token_text, token_bytes}
 use Rattle.markup.specs.Reference.{Named, Numbered}
-use Rattle.markup.specs.Marks.{in_cdata, stands, Cell, Front, is_short, tag_limit}
-use Rattle.markup.specs.Faults.{rule_of, IsClean, NoToken, GoesOn, is_over, Stops, no_char, bad_char, stuck, IsTagBegun, IsUnended, Fault, MarkFault, WholeHasNone, Next, broken, halts, cut, too_long}
+use Rattle.markup.specs.Marks.{in_cdata, stands, Cell, Front, is_short}
+use Rattle.markup.specs.Faults.{rule_of, IsClean, NoToken, GoesOn, is_over, Stops, no_char, bad_char, stuck, IsTagBegun, IsUnended, Fault, MarkFaultUnder, IsWholeUnder, Next, broken, halts, cut, too_long}
 use Rattle.markup.proofs.Spans.{heads, tails}
 use Rattle.markup.proofs.TokenLaw.{one_token}
 use Rattle.markup.proofs.TokenChars.{token_all, last_xml}
@@ -304,9 +304,9 @@ pub behind : (ts : List Token) → reverse ts ≡ past [] ts
 behind ts = sym (past_reverse [] ts ∙ append-nil (reverse ts))
 
 -- a text has at most one first fault
-pub one_fault : (bytes : List ℕ) (f g : Fault) → MarkFault bytes f → MarkFault bytes g → f ≡ g
-one_fault bytes f g m n =
-    let s = same_from tag_limit [] bytes m.rest n.rest m.tokens n.tokens f.rule g.rule m.at n.at m.front m.clean (subst (λ v. Next tag_limit v m.rest f.rule m.at) (behind m.tokens) m.next) n.front n.clean (subst (λ v. Next tag_limit v n.rest g.rule n.at) (behind n.tokens) n.next) in
+pub one_fault : {limit : ℕ} (bytes : List ℕ) (f g : Fault) → MarkFaultUnder limit bytes f → MarkFaultUnder limit bytes g → f ≡ g
+one_fault {limit} bytes f g m n =
+    let s = same_from limit [] bytes m.rest n.rest m.tokens n.tokens f.rule g.rule m.at n.at m.front m.clean (subst (λ v. Next limit v m.rest f.rule m.at) (behind m.tokens) m.next) n.front n.clean (subst (λ v. Next limit v n.rest g.rule n.at) (behind n.tokens) n.next) in
     fault_same f.rule g.rule f.place g.place s.rule (m.place ∙ (s.at ∙ sym n.place)) where
       fault_same : (a b : Rule) (p q : ℕ) → a ≡ b → p ≡ q → ◌≡◌ {A = Fault} (record { rule = a; place = p }) (record { rule = b; place = q })
       fault_same a b p q e h = cc
@@ -353,5 +353,5 @@ none_from limit before bytes y (t ∷ ts) (u ∷ us) rule at f c o g d m =
     (subst (λ (v : Token). Next limit (past (v ∷ before) us) y rule at) (sym k.0) m)
 
 -- a whole text has no fault
-pub whole_has_none : WholeHasNone
-whole_has_none bytes f w n = none_from tag_limit [] bytes n.rest w.tokens n.tokens f.rule n.at w.marks w.clean (subst (λ v. is_over v ≡ true) (behind w.tokens) w.over) n.front n.clean (subst (λ v. Next tag_limit v n.rest f.rule n.at) (behind n.tokens) n.next)
+pub whole_has_none : {limit : ℕ} (bytes : List ℕ) (f : Fault) → IsWholeUnder limit bytes → MarkFaultUnder limit bytes f → ⊥
+whole_has_none {limit} bytes f w n = none_from limit [] bytes n.rest w.tokens n.tokens f.rule n.at w.marks w.clean (subst (λ v. is_over v ≡ true) (behind w.tokens) w.over) n.front n.clean (subst (λ v. Next limit v n.rest f.rule n.at) (behind n.tokens) n.next)

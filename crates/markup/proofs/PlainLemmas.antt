@@ -19,7 +19,7 @@ use Rattle.markup.specs.Contexts.{IsContext}
 use Rattle.markup.specs.TokenRules.{is_cdata}
 use Rattle.markup.specs.Tokenizers.{EndedToken, after_other, on_turn, ended, charactered, counted, is_plain, is_between, is_text, starts_plain, TakesAlone, TakesPlain, AdvancedBy, is_pending, IsAwaited, IsOpen, Advances, SettlesBy, open_at, FinishesBy}
 use Rattle.markup.specs.Inputs.{is_return}
-use Rattle.markup.specs.Reading.{HasTaken, GoesOn, Stops}
+use Rattle.markup.specs.Reading.{HasTakenUnder, GoesOnUnder, StopsUnder}
 use Rattle.markup.specs.ReaderSteps.{SettlesEvents, TokenAnswered}
 use Rattle.markup.specs.declared.draft.Draft.{Draft}
 use Rattle.markup.specs.declared.event.Event.{Event}
@@ -102,7 +102,7 @@ pub record IsFresh (z : Tokenizer) : Type 0 where
   pub scan_here : Begin z.position ≡ z.scan
   pub position_stays : after_other z.position ≡ z.position
 
-pub is_fresh : (z : Tokenizer) → is_between z.scan ≡ true → (z.place == z.start) ≡ true → (before : List Token) (bytes : List ℕ) → IsOpen z before bytes → IsFresh z
+pub is_fresh : {limit : ℕ} (z : Tokenizer) → is_between z.scan ≡ true → (z.place == z.start) ≡ true → (before : List Token) (bytes : List ℕ) → IsOpen limit z before bytes → IsFresh z
 is_fresh z between starts before bytes o = record { utf8_none = o.utf8_is ∙ ap (λ v. Some v) none.1; draft_none = same.1; scan_here = here; position_stays = stays z.position (ap is_between here ∙ between) } where
   none : (o.chars ≡ []) × (o.part ≡ [])
   none = no_chars o.chars o.part (ap length (sym o.bytes_are) ∙ count z.place z.start (length bytes) o.place_is (eqb-true z.place z.start starts)) where
@@ -117,7 +117,7 @@ is_fresh z between starts before bytes o = record { utf8_none = o.utf8_is ∙ ap
 
 -- the reader of tokens behind a character
 abbrev pub made : Tokenizer → Option (List ℕ) → Position → Scan → Draft → Tokenizer
-made z u p s d = record { alloc = z.alloc; utf8 = u; position = p; scan = s; draft = d; start = z.place + 1; place = z.place + 1 }
+made z u p s d = record { alloc = z.alloc; limit = z.limit; utf8 = u; position = p; scan = s; draft = d; start = z.place + 1; place = z.place + 1 }
 
 -- it begins the next token as it began that one
 pub behind_same : (z : Tokenizer) (u : Option (List ℕ)) → after_other z.position ≡ z.position → Begin z.position ≡ z.scan → no_draft ≡ z.draft → made z u (after_other z.position) (Begin (after_other z.position)) no_draft ≡ made z u z.position z.scan z.draft
@@ -131,7 +131,7 @@ abbrev behind_plain : Tokenizer → Tokenizer
 behind_plain z = made z z.utf8 z.position z.scan z.draft
 
 module _ (z : Tokenizer) (byte : ℕ) (between : is_between z.scan ≡ true) (starts : (z.place == z.start) ≡ true) (plain : is_plain (is_text z.scan) byte ≡ true) where
-  module _ (before : List Token) (bytes : List ℕ) (o : IsOpen z before bytes) (w : IsAwaited z.scan byte) where
+  module _ (limit : ℕ) (before : List Token) (bytes : List ℕ) (o : IsOpen limit z before bytes) (w : IsAwaited z.scan byte) where
     fresh : IsFresh z
     fresh = is_fresh z between starts before bytes o
 
@@ -151,12 +151,12 @@ module _ (z : Tokenizer) (byte : ℕ) (between : is_between z.scan ≡ true) (st
     behind_is = ap (λ u. made z u (after_other z.position) (Begin (after_other z.position)) no_draft) (sym fresh.utf8_none)
         ∙ behind_same z z.utf8 fresh.position_stays fresh.scan_here fresh.draft_none
 
-    plain_here : Advances (behind_plain z) before (bytes ++ byte ∷ []) (EndedToken (Character byte) no_draft)
+    plain_here : Advances limit (behind_plain z) before (bytes ++ byte ∷ []) (EndedToken (Character byte) no_draft)
     plain_here =
-        subst (λ y. Advances y before (bytes ++ byte ∷ []) (EndedToken (Character byte) no_draft)) behind_is
-        (subst (λ d. Advances (ended (counted z (Some [])) (Character byte)).1 before (bytes ++ byte ∷ []) (EndedToken (Character byte) d)) (sym fresh.draft_none)
-        (subst (λ r. Advances r.1 before (bytes ++ byte ∷ []) r.0) turn
-        (advances_by z (charactered (counted z (Some [])) byte).1 byte (charactered (counted z (Some [])) byte).0 advanced before bytes o w)))
+        subst (λ y. Advances limit y before (bytes ++ byte ∷ []) (EndedToken (Character byte) no_draft)) behind_is
+        (subst (λ d. Advances limit (ended (counted z (Some [])) (Character byte)).1 before (bytes ++ byte ∷ []) (EndedToken (Character byte) d)) (sym fresh.draft_none)
+        (subst (λ r. Advances limit r.1 before (bytes ++ byte ∷ []) r.0) turn
+        (advances_by z (charactered (counted z (Some [])) byte).1 byte (charactered (counted z (Some [])) byte).0 advanced limit before bytes o w)))
 
   takes_parts : TakesPlain z (behind_plain z) byte
   takes_parts = record { advances = plain_here; settled = not_waiting z.scan between; leaves = not_waiting z.scan between; place = refl }
@@ -182,15 +182,15 @@ no_return s z h = by (z.place == z.start) where
   by false = refl
 
 -- the byte settles nothing
-pub settles_none : (r : Reader) (bytes : List ℕ) (told : List Placed) (byte : ℕ) (old : List Event) → HasTaken r bytes told → is_pending r.tokenizer.scan ≡ false → SettlesEvents r bytes told byte old old
+pub settles_none : {limit : ℕ} (r : Reader) (bytes : List ℕ) (told : List Placed) (byte : ℕ) (old : List Event) → HasTakenUnder limit r bytes told → is_pending r.tokenizer.scan ≡ false → SettlesEvents limit r bytes told byte old old
 settles_none r bytes told byte old h n = settle_ok r bytes h.0 told r.tokenizer r.context byte Nothing old old h.1 nothing refl h.1.context (tells_none old old refl) where
   nothing : SettlesBy r.tokenizer r.tokenizer byte Nothing
-  nothing before v o = (refl, awaits_any r.tokenizer.scan byte n)
+  nothing limit before v o = (refl, awaits_any r.tokenizer.scan byte n)
 
 -- the reader behind the byte, which ends a character
-module _ {T : Type 0} (r1 r2 : Reader) (bytes : List ℕ) (told : List Placed) (byte c : ℕ) (old new : List Event) (result : Result T MarkError) (h : HasTaken r1 bytes told) (p : TakesAlone r1.tokenizer r2.tokenizer byte (EndedToken (Character c) no_draft)) (same : r2.failed ≡ r1.failed)
+module _ {T : Type 0} {limit : ℕ} (r1 r2 : Reader) (bytes : List ℕ) (told : List Placed) (byte c : ℕ) (old new : List Event) (result : Result T MarkError) (h : HasTakenUnder limit r1 bytes told) (p : TakesAlone r1.tokenizer r2.tokenizer byte (EndedToken (Character c) no_draft)) (same : r2.failed ≡ r1.failed)
     (token : (before : List Token) (t : Token) → IsContext r1.context before → ended_of t ≡ Character c → in_cdata before ≡ is_cdata r1.tokenizer.position → TokenAnswered before t r1.tokenizer.start old new r2.context result) where
-  s : SettlesEvents r1 bytes told byte old old
+  s : SettlesEvents limit r1 bytes told byte old old
   s = settles_none r1 bytes told byte old h p.settled
 
   abbrev f : Finish
@@ -202,14 +202,14 @@ module _ {T : Type 0} (r1 r2 : Reader) (bytes : List ℕ) (told : List Placed) (
   n : is_return f ≡ false
   n = no_return r1.tokenizer.scan r1.tokenizer p.settled
 
-  pub alone_ok : IfOk result (λ _. GoesOn r2 (bytes ++ byte ∷ []) told old new)
+  pub alone_ok : IfOk result (λ _. GoesOnUnder limit r2 (bytes ++ byte ∷ []) told old new)
   alone_ok = match_ok result _ _ _
       (λ _ a. step_ok r1 r2 bytes told byte old old new s (token_here r1 bytes s.tells.tokens (told ++ s.tells.more) r2.tokenizer byte old new s.tells.keeps s.awaited p.place (Character c) no_draft p.advances f ends n r2 refl same a))
       (answered r1 bytes s.tells.tokens (told ++ s.tells.more) r2.tokenizer byte old new s.tells.keeps s.awaited p.place (Character c) no_draft p.advances f ends n
       (λ before t i x y v. TokenAnswered before t r1.tokenizer.start old new r2.context result) (λ before t i x y v. token before t i x v))
 
-  pub alone_err : IfErr result (λ e. Stops (bytes ++ byte ∷ []) told old new e)
+  pub alone_err : IfErr result (λ e. StopsUnder limit (bytes ++ byte ∷ []) told old new e)
   alone_err = match_err result _ _ _
-      (λ e a. step_stops (bytes ++ byte ∷ []) told s.tells.more old old new e s.tells.tells (token_stopped r1 bytes s.tells.tokens (told ++ s.tells.more) r2.tokenizer byte old new s.tells.keeps s.awaited p.place (Character c) no_draft p.advances f ends n e a))
+      (λ e a. step_stops limit (bytes ++ byte ∷ []) told s.tells.more old old new e s.tells.tells (token_stopped r1 bytes s.tells.tokens (told ++ s.tells.more) r2.tokenizer byte old new s.tells.keeps s.awaited p.place (Character c) no_draft p.advances f ends n e a))
       (answered r1 bytes s.tells.tokens (told ++ s.tells.more) r2.tokenizer byte old new s.tells.keeps s.awaited p.place (Character c) no_draft p.advances f ends n
       (λ before t i x y v. TokenAnswered before t r1.tokenizer.start old new r2.context result) (λ before t i x y v. token before t i x v))

@@ -16,7 +16,7 @@ use Rattle.lexical_core.specs.declared.rule.Rule.TheVariants.{BadPrefix, AfterRo
 use Rattle.markup.specs.Chars.{in_some, name_start_ranges, name_more_ranges, is_name_start, is_name_char}
 use Rattle.markup.specs.Name.{Plain, is_part}
 use Rattle.markup.specs.Token.{Token, Mark, Start, End, token_bytes}
-use Rattle.markup.specs.Marks.{in_cdata, is_first, stands, is_short, tag_limit}
+use Rattle.markup.specs.Marks.{in_cdata, is_first, stands, is_short}
 use Rattle.markup.specs.Events.{Placed, open_tags, namespace_of, expanded, started, events, items_of}
 use Rattle.markup.specs.Faults.{rule_of, is_over, is_outside, has_start, end_rule}
 use Rattle.markup.specs.Scopes.{IsScope, placed_at}
@@ -25,7 +25,7 @@ use Rattle.markup.specs.Drafts.{no_draft}
 use Rattle.markup.specs.ScanRuns.{run, position, placed as placed_by, ended_of}
 use Rattle.markup.specs.TokenRules.{is_cdata}
 use Rattle.markup.specs.Tokenizers.{after_other, behind as behind_token, is_between, is_in_text, is_text, passed}
-use Rattle.markup.specs.Reading.{HasTaken, HasTold, MayTakeTag}
+use Rattle.markup.specs.Reading.{HasTakenUnder, HasToldUnder, MayTakeTagUnder}
 use Rattle.markup.specs.PlainTags.{begins_plain, continues_plain, is_plain_name, tag_text, tag_items, open_behind, innermost_namespace, name_behind, may_be_named, IsPlainInside, tags_behind, IsTagInside}
 use Rattle.markup.specs.declared.context.Context.{Context}
 use Rattle.markup.specs.declared.plain_tag.TagKind.{TagKind}
@@ -170,17 +170,17 @@ module _ (before : List Token) (opened : List ℕ) (es : List Expanded) (inside 
     stands_here EmptyKind c after = ap (λ b. if b then false else ((is_part cs && true) && true)) c ∙ ap (λ b. (b && true) && true) part
     stands_here EndKind c after = ap (λ b. if b then false else (is_part cs && true)) c ∙ ap (λ b. b && true) part
 
-    short : (kind : TagKind) → length (tag_text kind name) ≤ tag_limit → is_short tag_limit (tag_token kind cs) ≡ true
-    short StartKind l = le-leb _ _ (subst (λ v. length v ≤ tag_limit) (sym (tag_bytes StartKind cs name encoded)) l)
-    short EmptyKind l = le-leb _ _ (subst (λ v. length v ≤ tag_limit) (sym (tag_bytes EmptyKind cs name encoded)) l)
-    short EndKind l = le-leb _ _ (subst (λ v. length v ≤ tag_limit) (sym (tag_bytes EndKind cs name encoded)) l)
+    short : {limit : ℕ} (kind : TagKind) → length (tag_text kind name) ≤ limit → is_short limit (tag_token kind cs) ≡ true
+    short {limit} StartKind l = le-leb _ _ (subst (λ v. length v ≤ limit) (sym (tag_bytes StartKind cs name encoded)) l)
+    short {limit} EmptyKind l = le-leb _ _ (subst (λ v. length v ≤ limit) (sym (tag_bytes EmptyKind cs name encoded)) l)
+    short {limit} EndKind l = le-leb _ _ (subst (λ v. length v ≤ limit) (sym (tag_bytes EndKind cs name encoded)) l)
 
     stays : (kind : TagKind) (p : Position) → behind_token p (ended_of (tag_token kind cs)) ≡ after_other p
     stays StartKind p = refl
     stays EmptyKind p = refl
     stays EndKind p = refl
 
-    pub is_next : (kind : TagKind) → may_be_named kind opened name → in_cdata before ≡ false → length (tag_text kind name) ≤ tag_limit → IsNext before (tag_token kind cs)
+    pub is_next : {limit : ℕ} (kind : TagKind) → may_be_named kind opened name → in_cdata before ≡ false → length (tag_text kind name) ≤ limit → IsNext limit before (tag_token kind cs)
     is_next kind m c l = record { is = stands_here kind c; short = short kind l; clean = clean kind m; stays = stays kind }
 
     pub context_behind : (kind : TagKind) (k : Context) (scope : Scope) → IsContext k before → IsScope scope (tags_behind kind name (open_tags before)) → IsContext (record { scope = scope; has_root = k.has_root; brackets = 0 }) (tag_token kind cs ∷ before)
@@ -200,7 +200,7 @@ text_between : (s : Scan) → is_text s ≡ true → is_between s ≡ true
 text_between (Begin Text) h = refl
 text_between _ h = absurd (both_ways false refl h)
 
-module _ (r : Reader) (scope : Scope) (bytes piece : List ℕ) (told : List Placed) (kind : TagKind) (name : List ℕ) (count : ℕ) (h : HasTaken r bytes told) (text : is_in_text r.tokenizer ≡ true)
+module _ {limit : ℕ} (r : Reader) (scope : Scope) (bytes piece : List ℕ) (told : List Placed) (kind : TagKind) (name : List ℕ) (count : ℕ) (h : HasTakenUnder limit r bytes told) (text : is_in_text r.tokenizer ≡ true)
     (tag : (tags : List Opening) → IsScope r.context.scope tags → IsTagInside piece tags kind name count)
     (scope_is : (tags : List Opening) (opened : List ℕ) → IsScope r.context.scope tags → IsPlainInside tags opened → IsScope scope (tags_behind kind name tags)) where
   abbrev before : List Token
@@ -226,7 +226,7 @@ module _ (r : Reader) (scope : Scope) (bytes piece : List ℕ) (told : List Plac
     by : (kind : TagKind) → may_be_named kind t.opened name → IsPlainPart name
     by StartKind m = plain_name name m
     by EmptyKind m = plain_name name m
-    by EndKind m = subst IsPlainPart (sym m) (innermost_part tag_limit (bytes ++ []) (h.1.reads.bytes ++ []) h.0 t.opened (h.1.reads.front [] tt) t.inside)
+    by EndKind m = subst IsPlainPart (sym m) (innermost_part limit (bytes ++ []) (h.1.reads.bytes ++ []) h.0 t.opened (h.1.reads.front [] tt) t.inside)
 
   no_cdata : in_cdata before ≡ false
   no_cdata = in_cdata-open r.tokenizer before h.1.reads.bytes h.1.reads.opens ∙ text_place r.tokenizer.scan r.tokenizer.position (and_parts _ _ text).0 (is_fresh r.tokenizer between (and_parts _ _ text).1 before h.1.reads.bytes h.1.reads.opens).scan_here
@@ -240,13 +240,13 @@ module _ (r : Reader) (scope : Scope) (bytes piece : List ℕ) (told : List Plac
   token_is : token_bytes token ≡ tag_text kind name
   token_is = tag_bytes kind part.local name part.encoded
 
-  next : IsNext before token
-  next = is_next before t.opened es t.inside expand part.local name part.part part.encoded kind t.at.named no_cdata (subst (λ n. n ≤ tag_limit) (sym size) t.at.short)
+  next : IsNext limit before token
+  next = is_next before t.opened es t.inside expand part.local name part.part part.encoded kind t.at.named no_cdata (omega (arith, size, t.at.short, h.1.reads.opens.limited.0))
 
   abbrev context : Context
   context = record { scope = scope; has_root = r.context.has_root; brackets = 0 }
 
-  taken : HasTaken (record { tokenizer = passed r.tokenizer count; context = context; failed = r.failed }) (bytes ++ token_bytes token) (told ++ placed_at (length bytes) (items_of before token))
+  taken : HasTakenUnder limit (record { tokenizer = passed r.tokenizer count; context = context; failed = r.failed }) (bytes ++ token_bytes token) (told ++ placed_at (length bytes) (items_of before token))
   taken = takes_next r bytes told h between (and_parts _ _ text).1 token count context next (sym (ap length token_is ∙ size))
       (context_behind before t.opened es t.inside expand part.local name part.part part.encoded kind r.context scope h.1.context (scope_is tags t.opened h.1.context.scope t.inside))
 
@@ -254,10 +254,10 @@ module _ (r : Reader) (scope : Scope) (bytes piece : List ℕ) (told : List Plac
   items = tells before t.opened es t.inside expand part.local name part.part part.encoded kind t.at.named
       ∙ ap (λ v. tag_items kind (record { namespace = innermost_namespace (open_behind [] v); local = name })) (sym (all_told r bytes told h between (and_parts _ _ text).1))
 
-  pub takes_tag : HasTold (record { tokenizer = passed r.tokenizer count; context = context; failed = r.failed }) (bytes ++ take count piece) (told ++ placed_at (length bytes) (tag_items kind (name_behind told name)))
+  pub takes_tag : HasToldUnder limit (record { tokenizer = passed r.tokenizer count; context = context; failed = r.failed }) (bytes ++ take count piece) (told ++ placed_at (length bytes) (tag_items kind (name_behind told name)))
   takes_tag = told_so_far (record { tokenizer = passed r.tokenizer count; context = context; failed = r.failed }) (bytes ++ take count piece) (told ++ placed_at (length bytes) (tag_items kind (name_behind told name)))
-      (subst (λ v. HasTaken (record { tokenizer = passed r.tokenizer count; context = context; failed = r.failed }) (bytes ++ v) (told ++ placed_at (length bytes) (tag_items kind (name_behind told name)))) (token_is ∙ sym t.at.spelled)
-      (subst (λ v. HasTaken (record { tokenizer = passed r.tokenizer count; context = context; failed = r.failed }) (bytes ++ token_bytes token) (told ++ placed_at (length bytes) v)) items taken))
+      (subst (λ v. HasTakenUnder limit (record { tokenizer = passed r.tokenizer count; context = context; failed = r.failed }) (bytes ++ v) (told ++ placed_at (length bytes) (tag_items kind (name_behind told name)))) (token_is ∙ sym t.at.spelled)
+      (subst (λ v. HasTakenUnder limit (record { tokenizer = passed r.tokenizer count; context = context; failed = r.failed }) (bytes ++ token_bytes token) (told ++ placed_at (length bytes) v)) items taken))
 
 -- a reader behind which the tag may come is where one begins
 first_is_outside : (before : List Token) (opened : List ℕ) → is_first before ≡ true → IsPlainInside (open_tags before) opened → ⊥
@@ -276,7 +276,7 @@ begins_text (t ∷ before) opened c i = by (is_first (t ∷ before)) (in_cdata (
   by false true e n = absurd (both_ways true e refl)
   by false false e n = refl
 
-pub text_here : (r : Reader) (bytes : List ℕ) (told : List Placed) (kind : TagKind) (name : List ℕ) → MayTakeTag r bytes told kind name → is_in_text r.tokenizer ≡ true
+pub text_here : {limit : ℕ} (r : Reader) (bytes : List ℕ) (told : List Placed) (kind : TagKind) (name : List ℕ) → MayTakeTagUnder limit r bytes told kind name → is_in_text r.tokenizer ≡ true
 text_here r bytes told kind name m =
     let ts = m.tokens in
     let o = m.keeps.reads.opens in

@@ -6,10 +6,10 @@ use Rattle.lexical_core.specs.declared.rule.Rule.{Rule}
 use Rattle.lexical_core.specs.declared.rule.Rule.TheVariants.{Truncated}
 use Rattle.markup.specs.Drafts.{no_draft}
 use Rattle.markup.specs.Token.{Token, Start, End, LineEnd, Line, Cr, CrLf, token_bytes}
-use Rattle.markup.specs.Marks.{in_cdata, Cell, Front, tag_limit}
+use Rattle.markup.specs.Marks.{in_cdata, Cell, Front}
 use Rattle.markup.specs.Events.{Placed, events, items_of, open_tags}
-use Rattle.markup.specs.Faults.{rule_of, IsClean, MarkFault, is_over}
-use Rattle.markup.specs.Longest.{IsLongest}
+use Rattle.markup.specs.Faults.{rule_of, IsClean, MarkFaultUnder, is_over}
+use Rattle.markup.specs.Longest.{IsLongestUnder}
 use Rattle.markup.specs.EventItems.{Tells, TellsFront, TellsClean}
 use Rattle.markup.specs.Scopes.{placed_at}
 use Rattle.markup.specs.Contexts.{IsContext, TakesToken}
@@ -17,7 +17,7 @@ use Rattle.markup.specs.ScanRuns.{ended_of, draft_of}
 use Rattle.markup.specs.TokenRules.{items_by, is_cdata, ends_tag}
 use Rattle.markup.specs.Tokenizers.{More, EndedToken, Refused, undrafted, handed_out, IsOpen, IsAwaited, Finishes, FinishesBy, SettlesBy, EndsToken, AdvancesBy, open_at}
 use Rattle.markup.specs.Inputs.{Reads, Any, Begins, with_pending, is_cut, is_return, settled_tokens, settled_events, SettlesInput, ReadsMore, ReadsToken}
-use Rattle.markup.specs.Reading.{Keeps, HasTaken, HasTold, GoesOn, Refuses, RunsOut, Stops, IsWholly}
+use Rattle.markup.specs.Reading.{Keeps, HasTakenUnder, HasToldUnder, GoesOnUnder, RefusesUnder, RunsOutUnder, StopsUnder, IsWhollyUnder}
 use Rattle.markup.specs.declared.reader.MarkError.{MarkError}
 use Rattle.markup.specs.declared.reader.MarkError.TheVariants.{Refused as RefusedBy, Memory as NoMemory}
 use Rattle.markup.specs.ReaderSteps.{TellsMore, SettlesEvents, TokenStopped, returned}
@@ -55,7 +55,7 @@ none h = cc
 
 -- nothing is handed out where nothing is held
 pub kept : (z : Tokenizer) → z.draft ≡ no_draft → undrafted z ≡ z
-kept z h = ap (λ d. record { alloc = z.alloc; utf8 = z.utf8; position = z.position; scan = z.scan; draft = d; start = z.start; place = z.place }) (sym h)
+kept z h = ap (λ d. record { alloc = z.alloc; limit = z.limit; utf8 = z.utf8; position = z.position; scan = z.scan; draft = d; start = z.start; place = z.place }) (sym h)
 
 -- a token that is no tag says nothing
 no_tag : (t : Token) → ends_tag (ended_of t) ≡ false → draft_of t ≡ no_draft
@@ -64,74 +64,74 @@ no_tag (End n g) h = absurd (both_ways true h refl)
 no_tag _ h = refl
 
 -- so it is left as it stands
-pub handed : (e : Ended) (z : Tokenizer) (before : List Token) (bytes : List ℕ) → EndsToken (undrafted z) before bytes e z.draft → handed_out e z ≡ undrafted z
+pub handed : {limit : ℕ} (e : Ended) (z : Tokenizer) (before : List Token) (bytes : List ℕ) → EndsToken limit (undrafted z) before bytes e z.draft → handed_out e z ≡ undrafted z
 handed e z before bytes t = by (ends_tag e) refl where
   by : (b : Bool) → ends_tag e ≡ b → (if b then undrafted z else z) ≡ undrafted z
   by true h = refl
   by false h = sym (kept z (sym t.draft_is ∙ no_tag t.token (ap ends_tag t.ended_is ∙ h)))
 
 -- before the first byte
-pub new_taken : (z : Tokenizer) (c : Context) → IsOpen z [] [] → z.place ≡ 0 → IsContext c [] → HasTaken (record { tokenizer = z; context = c; failed = None }) [] []
-new_taken z c o p k = (
+pub new_taken : {limit : ℕ} (z : Tokenizer) (c : Context) → IsOpen limit z [] [] → z.place ≡ 0 → IsContext c [] → HasTakenUnder limit (record { tokenizer = z; context = c; failed = None }) [] []
+new_taken {limit} z c o p k = (
   [],
   record {
     reads = reads_none z o;
     clean = tt;
     place = p;
     context = k;
-    told_are = λ f q. by f (q [] [] o);
+    told_are = λ f q. by f (q limit [] [] o);
     sound = refl;
   },
 ) where
-  by : (f : Finish) → Finishes [] [] f → [] ≡ events [] 0 (with_pending f [])
+  by : (f : Finish) → Finishes limit [] [] f → [] ≡ events [] 0 (with_pending f [])
   by Nothing h = refl
   by Return h = absurd (none (h.0 ∙ line_bytes.2))
   by Open h = refl
 
 -- tokens of the input whose events are told, and which break no rule
-record ToldFront (input : List ℕ) (told : List Placed) : Type 0 where
+record ToldFront (limit : ℕ) (input : List ℕ) (told : List Placed) : Type 0 where
   tokens : List Token
   rest : List ℕ
-  front : Front tag_limit [] input tokens rest
+  front : Front limit [] input tokens rest
   clean : IsClean [] tokens
   events_are : told ≡ events [] 0 tokens
 
-told_front : (z : Tokenizer) (input : List ℕ) (ts : List Token) (byte : ℕ) (f : Finish) → Reads (Begins byte) z input ts → IsClean [] ts → IsAwaited z.scan byte → FinishesBy z f → ToldFront (input ++ byte ∷ []) (events [] 0 (with_pending f ts))
-told_front z input ts byte f r l w q = by f (q (reverse ts) r.bytes r.opens) where
-  by : (f : Finish) → Finishes (reverse ts) r.bytes f → ToldFront (input ++ byte ∷ []) (events [] 0 (with_pending f ts))
+told_front : {limit : ℕ} (z : Tokenizer) (input : List ℕ) (ts : List Token) (byte : ℕ) (f : Finish) → Reads limit (Begins byte) z input ts → IsClean [] ts → IsAwaited z.scan byte → FinishesBy z f → ToldFront limit (input ++ byte ∷ []) (events [] 0 (with_pending f ts))
+told_front {limit} z input ts byte f r l w q = by f (q limit (reverse ts) r.bytes r.opens) where
+  by : (f : Finish) → Finishes limit (reverse ts) r.bytes f → ToldFront limit (input ++ byte ∷ []) (events [] 0 (with_pending f ts))
   by Nothing h = record { tokens = ts; rest = r.bytes ++ byte ∷ []; front = r.front (byte ∷ []) ([], refl); clean = l; events_are = refl }
   by Open h = record { tokens = ts; rest = r.bytes ++ byte ∷ []; front = r.front (byte ∷ []) ([], refl); clean = l; events_are = refl }
   by Return h = record {
     tokens = ts ++ LineEnd CrLf ∷ [];
     rest = [];
-    front = front_snoc tag_limit [] (input ++ byte ∷ []) (r.bytes ++ byte ∷ []) [] ts (LineEnd CrLf) (r.front (byte ∷ []) ([], refl))
+    front = front_snoc limit [] (input ++ byte ∷ []) (r.bytes ++ byte ∷ []) [] ts (LineEnd CrLf) (r.front (byte ∷ []) ([], refl))
         (subst (λ b. Cell b (LineEnd CrLf) (r.bytes ++ byte ∷ []) []) (behind ts) (record { spelled = awaited_crlf z (reverse ts) r.bytes byte r.opens h.0 w ∙ sym (append-nil (token_bytes (LineEnd CrLf))); is = crlf_stands (reverse ts) [] })) refl;
     clean = clean_snoc ts (LineEnd CrLf) l refl;
     events_are = events_return ts;
   }
 
 -- no memory, behind events that were told
-runs_out : (z : Tokenizer) (input : List ℕ) (ts : List Token) (byte : ℕ) (f : Finish) (told front behind : List Placed) (old new : List Event) → Reads (Begins byte) z input ts → IsClean [] ts → IsAwaited z.scan byte → FinishesBy z f → told ++ (front ++ behind) ≡ events [] 0 (with_pending f ts) → Tells old new front → RunsOut (input ++ byte ∷ []) told old new
-runs_out z input ts byte f told front behind old new r l w q e t =
-    let k : ToldFront (input ++ byte ∷ []) (events [] 0 (with_pending f ts)) = told_front z input ts byte f r l w q in
+runs_out : {limit : ℕ} (z : Tokenizer) (input : List ℕ) (ts : List Token) (byte : ℕ) (f : Finish) (told front behind : List Placed) (old new : List Event) → Reads limit (Begins byte) z input ts → IsClean [] ts → IsAwaited z.scan byte → FinishesBy z f → told ++ (front ++ behind) ≡ events [] 0 (with_pending f ts) → Tells old new front → RunsOutUnder limit (input ++ byte ∷ []) told old new
+runs_out {limit} z input ts byte f told front behind old new r l w q e t =
+    let k : ToldFront limit (input ++ byte ∷ []) (events [] 0 (with_pending f ts)) = told_front z input ts byte f r l w q in
     record { front = front; behind = behind; tokens = k.tokens; rest = k.rest; front_is = k.front; clean = k.clean; events_are = e ∙ k.events_are; tells = t }
 
-module _ (reader : Reader) (input : List ℕ) (ts : List Token) (told : List Placed) where
+module _ {limit : ℕ} (reader : Reader) (input : List ℕ) (ts : List Token) (told : List Placed) where
   -- where the open token begins
-  pub starts : (k : Keeps Any reader input ts told) → reader.tokenizer.start ≡ length (flat_map token_bytes ts)
+  pub starts : (k : Keeps limit Any reader input ts told) → reader.tokenizer.start ≡ length (flat_map token_bytes ts)
   starts k = reads_start Any reader.tokenizer input ts [] tt k.reads k.place
 
-  starts_begins : (byte : ℕ) (k : Keeps (Begins byte) reader input ts told) → reader.tokenizer.start ≡ length (flat_map token_bytes ts)
+  starts_begins : (byte : ℕ) (k : Keeps limit (Begins byte) reader input ts told) → reader.tokenizer.start ≡ length (flat_map token_bytes ts)
   starts_begins byte k = reads_start (Begins byte) reader.tokenizer input ts (byte ∷ []) ([], refl) k.reads k.place
 
-  pub start_below : (k : Keeps Any reader input ts told) → reader.tokenizer.place < 2 ^ 40 → reader.tokenizer.start < 2 ^ 40
+  pub start_below : (k : Keeps limit Any reader input ts told) → reader.tokenizer.place < 2 ^ 40 → reader.tokenizer.start < 2 ^ 40
   start_below k p = below reader.tokenizer.place reader.tokenizer.start (length k.reads.bytes) (2 ^ 40) k.reads.opens.place_is p where
     below : (p s n m : ℕ) → p ≡ s + n → p < m → s < m
     below p s n m e l = omega (arith, e, l)
 
   -- what a byte does not go on with
-  module _ (z : Tokenizer) (c : Context) (byte : ℕ) (s : Settled) (old new : List Event) (k : Keeps Any reader input ts told) (b : SettlesBy reader.tokenizer z byte s) where
-    settled : SettlesInput reader.tokenizer z input ts byte s
+  module _ (z : Tokenizer) (c : Context) (byte : ℕ) (s : Settled) (old new : List Event) (k : Keeps limit Any reader input ts told) (b : SettlesBy reader.tokenizer z byte s) where
+    settled : SettlesInput limit reader.tokenizer z input ts byte s
     settled = settles_input reader.tokenizer z input ts byte s b k.reads k.clean
 
     settled_told : (g : Finish) → FinishesBy z g → told ++ settled_events reader.tokenizer.start s ≡ events [] 0 (with_pending g (settled_tokens s ts))
@@ -140,7 +140,7 @@ module _ (reader : Reader) (input : List ℕ) (ts : List Token) (told : List Pla
         = settled.adds (finish_of reader.tokenizer) g (finish_is reader.tokenizer) q in
         ap (λ v. told ++ settled_events v s) (starts k) ∙ (ap (λ v. v ++ settled_events (length (flat_map token_bytes ts)) s) (k.told_are (finish_of reader.tokenizer) (finish_is reader.tokenizer)) ∙ sym a)
 
-    pub settle_ok : z.place ≡ reader.tokenizer.place → IsContext c (reverse (settled_tokens s ts)) → Tells old new (settled_events reader.tokenizer.start s) → SettlesEvents (record { tokenizer = z; context = c; failed = reader.failed }) input told byte old new
+    pub settle_ok : z.place ≡ reader.tokenizer.place → IsContext c (reverse (settled_tokens s ts)) → Tells old new (settled_events reader.tokenizer.start s) → SettlesEvents limit (record { tokenizer = z; context = c; failed = reader.failed }) input told byte old new
     settle_ok p h t = record {
       tells = record {
         tokens = settled_tokens s ts;
@@ -151,30 +151,30 @@ module _ (reader : Reader) (input : List ℕ) (ts : List Token) (told : List Pla
       awaited = settled.awaited;
     }
 
-    pub settle_err : TellsFront old new (settled_events reader.tokenizer.start s) → RunsOut (input ++ byte ∷ []) told old new
+    pub settle_err : TellsFront old new (settled_events reader.tokenizer.start s) → RunsOutUnder limit (input ++ byte ∷ []) told old new
     settle_err t = runs_out z input (settled_tokens s ts) byte (finish_of z) told t.front t.behind old new settled.reads settled.clean settled.awaited (finish_is z)
         (ap (λ v. told ++ v) (sym t.front_is) ∙ settled_told (finish_of z) (finish_is z)) t.tells
 
   -- no memory for the byte
-  pub advance_out : (byte : ℕ) (old new : List Event) (k : Keeps (Begins byte) reader input ts told) → IsAwaited reader.tokenizer.scan byte → new ≡ old → RunsOut (input ++ byte ∷ []) told old new
+  pub advance_out : (byte : ℕ) (old new : List Event) (k : Keeps limit (Begins byte) reader input ts told) → IsAwaited reader.tokenizer.scan byte → new ≡ old → RunsOutUnder limit (input ++ byte ∷ []) told old new
   advance_out byte old new k w e = runs_out reader.tokenizer input ts byte (finish_of reader.tokenizer) told [] [] old new k.reads k.clean w (finish_is reader.tokenizer) (append-nil told ∙ k.told_are (finish_of reader.tokenizer) (finish_is reader.tokenizer)) (tells_none old new e)
 
   -- the byte itself
-  module _ (z : Tokenizer) (byte : ℕ) (old new : List Event) (k : Keeps (Begins byte) reader input ts told) (w : IsAwaited reader.tokenizer.scan byte) (p : z.place ≡ reader.tokenizer.place + 1) where
+  module _ (z : Tokenizer) (byte : ℕ) (old new : List Event) (k : Keeps limit (Begins byte) reader input ts told) (w : IsAwaited reader.tokenizer.scan byte) (p : z.place ≡ reader.tokenizer.place + 1) where
     abbrev f : Finish
     f = finish_of reader.tokenizer
 
     place_now : z.place ≡ length (input ++ byte ∷ [])
     place_now = p ∙ (ap (λ n. n + 1) k.place ∙ sym (length-append input (byte ∷ [])))
 
-    pub advance_more : (g : Finish) → FinishesBy z g → AdvancesBy reader.tokenizer z byte More → Tells old new (returned g reader.tokenizer.start) → TellsMore Any (record { tokenizer = z; context = reader.context; failed = reader.failed }) (input ++ byte ∷ []) told old new
+    pub advance_more : (g : Finish) → FinishesBy z g → AdvancesBy reader.tokenizer z byte More → Tells old new (returned g reader.tokenizer.start) → TellsMore limit Any (record { tokenizer = z; context = reader.context; failed = reader.failed }) (input ++ byte ∷ []) told old new
     advance_more g q a t = record {
       tokens = ts;
       more = returned g reader.tokenizer.start;
       tells = t;
       keeps = record { reads = m.reads; clean = k.clean; place = place_now; context = k.context; told_are = told_now; sound = k.sound };
     } where
-      m : ReadsMore reader.tokenizer z (input ++ byte ∷ []) ts
+      m : ReadsMore limit reader.tokenizer z (input ++ byte ∷ []) ts
       m = advances_input reader.tokenizer z input ts byte More a k.reads w k.clean
 
       told_now : (h : Finish) → FinishesBy z h → told ++ returned g reader.tokenizer.start ≡ events [] 0 (with_pending h ts)
@@ -183,11 +183,11 @@ module _ (reader : Reader) (input : List ℕ) (ts : List Token) (told : List Pla
           ∙ (sym (m.adds f g (finish_is reader.tokenizer) q) ∙ ap (events [] 0) (pending_same z (reverse ts) m.reads.bytes g h m.reads.opens q r ts)))
 
     -- whatever follows the byte, the tokens stand at the front
-    fronts_behind : (behind : List ℕ) → Front tag_limit [] ((input ++ byte ∷ []) ++ behind) ts ((k.reads.bytes ++ byte ∷ []) ++ behind)
-    fronts_behind behind = subst (λ v. Front tag_limit [] v ts ((k.reads.bytes ++ byte ∷ []) ++ behind)) (sym (append_assoc input (byte ∷ []) behind))
-        (subst (λ v. Front tag_limit [] (input ++ byte ∷ behind) ts v) (sym (append_assoc k.reads.bytes (byte ∷ []) behind)) (k.reads.front (byte ∷ behind) (behind, refl)))
+    fronts_behind : (behind : List ℕ) → Front limit [] ((input ++ byte ∷ []) ++ behind) ts ((k.reads.bytes ++ byte ∷ []) ++ behind)
+    fronts_behind behind = subst (λ v. Front limit [] v ts ((k.reads.bytes ++ byte ∷ []) ++ behind)) (sym (append_assoc input (byte ∷ []) behind))
+        (subst (λ v. Front limit [] (input ++ byte ∷ behind) ts v) (sym (append_assoc k.reads.bytes (byte ∷ []) behind)) (k.reads.front (byte ∷ behind) (behind, refl)))
 
-    pub advance_refused : (rule : Rule) → AdvancesBy reader.tokenizer z byte (Refused rule) → new ≡ old → Refuses (input ++ byte ∷ []) told old new (record { rule = rule; place = reader.tokenizer.start })
+    pub advance_refused : (rule : Rule) → AdvancesBy reader.tokenizer z byte (Refused rule) → new ≡ old → RefusesUnder limit (input ++ byte ∷ []) told old new (record { rule = rule; place = reader.tokenizer.start })
     advance_refused rule a e = record {
       more = [];
       tells = tells_none old new e;
@@ -200,19 +200,19 @@ module _ (reader : Reader) (input : List ℕ) (ts : List Token) (told : List Pla
       has_fault = shown;
       no_cut = stays_no_cut (input ++ byte ∷ []) (record { rule = rule; place = reader.tokenizer.start }) shown;
     } where
-      shown : (more : List ℕ) → MarkFault ((input ++ byte ∷ []) ++ more) (record { rule = rule; place = reader.tokenizer.start })
-      shown more = subst (λ n. MarkFault ((input ++ byte ∷ []) ++ more) (record { rule = rule; place = n })) (sym (starts_begins byte k)) (advances_input reader.tokenizer z input ts byte (Refused rule) a k.reads w k.clean more)
+      shown : (more : List ℕ) → MarkFaultUnder limit ((input ++ byte ∷ []) ++ more) (record { rule = rule; place = reader.tokenizer.start })
+      shown more = subst (λ n. MarkFaultUnder limit ((input ++ byte ∷ []) ++ more) (record { rule = rule; place = n })) (sym (starts_begins byte k)) (advances_input reader.tokenizer z input ts byte (Refused rule) a k.reads w k.clean more)
 
       told_now : told ≡ events [] 0 ts
-      told_now = k.told_are f (finish_is reader.tokenizer) ∙ by f (finish_is reader.tokenizer (reverse ts) k.reads.bytes k.reads.opens) where
-        by : (f : Finish) → Finishes (reverse ts) k.reads.bytes f → events [] 0 (with_pending f ts) ≡ events [] 0 ts
+      told_now = k.told_are f (finish_is reader.tokenizer) ∙ by f (finish_is reader.tokenizer limit (reverse ts) k.reads.bytes k.reads.opens) where
+        by : (f : Finish) → Finishes limit (reverse ts) k.reads.bytes f → events [] 0 (with_pending f ts) ≡ events [] 0 ts
         by Nothing h = refl
         by Open h = refl
-        by Return h = absurd (no_fault_behind reader.tokenizer z ts k.reads.bytes byte f (finish_of z) k.reads.opens (finish_is reader.tokenizer) (finish_is z) w h.0 rule (a (reverse ts) k.reads.bytes k.reads.opens w))
+        by Return h = absurd (no_fault_behind reader.tokenizer z ts k.reads.bytes byte f (finish_of z) k.reads.opens (finish_is reader.tokenizer) (finish_is z) w h.0 rule (a limit (reverse ts) k.reads.bytes k.reads.opens w))
 
     -- a token that ends, whose events are to be told
     module _ (e : Ended) (d : Draft) (a : AdvancesBy reader.tokenizer z byte (EndedToken e d)) (h : Finish) (q : FinishesBy reader.tokenizer h) (n : is_return h ≡ false) where
-      abbrev pub m : ReadsToken reader.tokenizer z (input ++ byte ∷ []) ts e d
+      abbrev pub m : ReadsToken limit reader.tokenizer z (input ++ byte ∷ []) ts e d
       m = advances_input reader.tokenizer z input ts byte (EndedToken e d) a k.reads w k.clean
 
       abbrev pub token_events : List Placed
@@ -226,7 +226,7 @@ module _ (reader : Reader) (input : List ℕ) (ts : List Token) (told : List Pla
           ∙ (ap (λ b. events [] 0 (with_pending h ts) ++ (if b then [] else placed_at (length (flat_map token_bytes ts)) (items_by (open_tags (reverse ts)) e d))) (sym n)
           ∙ sym (m.adds h g q r))))
 
-      pub token_ok : (c : Context) → TakesToken (reverse ts) m.token reader.tokenizer.start old new c → TellsMore Any (record { tokenizer = z; context = c; failed = reader.failed }) (input ++ byte ∷ []) told old new
+      pub token_ok : (c : Context) → TakesToken (reverse ts) m.token reader.tokenizer.start old new c → TellsMore limit Any (record { tokenizer = z; context = c; failed = reader.failed }) (input ++ byte ∷ []) told old new
       token_ok c t = record {
         tokens = ts ++ m.token ∷ [];
         more = token_events;
@@ -235,11 +235,11 @@ module _ (reader : Reader) (input : List ℕ) (ts : List Token) (told : List Pla
       }
 
       -- the reader that the token leaves
-      pub token_here : (r : Reader) → r.tokenizer ≡ z → r.failed ≡ reader.failed → TakesToken (reverse ts) m.token reader.tokenizer.start old new r.context → TellsMore Any r (input ++ byte ∷ []) told old new
-      token_here r x y t = subst (λ v. TellsMore Any (record { tokenizer = v; context = r.context; failed = r.failed }) (input ++ byte ∷ []) told old new) (sym x)
-          (subst (λ v. TellsMore Any (record { tokenizer = z; context = r.context; failed = v }) (input ++ byte ∷ []) told old new) (sym y) (token_ok r.context t))
+      pub token_here : (r : Reader) → r.tokenizer ≡ z → r.failed ≡ reader.failed → TakesToken (reverse ts) m.token reader.tokenizer.start old new r.context → TellsMore limit Any r (input ++ byte ∷ []) told old new
+      token_here r x y t = subst (λ v. TellsMore limit Any (record { tokenizer = v; context = r.context; failed = r.failed }) (input ++ byte ∷ []) told old new) (sym x)
+          (subst (λ v. TellsMore limit Any (record { tokenizer = z; context = r.context; failed = v }) (input ++ byte ∷ []) told old new) (sym y) (token_ok r.context t))
 
-      pub token_broken : (rule : Rule) → rule_of (reverse ts) m.token ≡ Some rule → new ≡ old → Refuses (input ++ byte ∷ []) told old new (record { rule = rule; place = reader.tokenizer.start })
+      pub token_broken : (rule : Rule) → rule_of (reverse ts) m.token ≡ Some rule → new ≡ old → RefusesUnder limit (input ++ byte ∷ []) told old new (record { rule = rule; place = reader.tokenizer.start })
       token_broken rule b s = record {
         more = [];
         tells = tells_none old new s;
@@ -252,13 +252,13 @@ module _ (reader : Reader) (input : List ℕ) (ts : List Token) (told : List Pla
         has_fault = shown;
         no_cut = stays_no_cut (input ++ byte ∷ []) (record { rule = rule; place = reader.tokenizer.start }) shown;
       } where
-        shown : (more : List ℕ) → MarkFault ((input ++ byte ∷ []) ++ more) (record { rule = rule; place = reader.tokenizer.start })
-        shown more = subst (λ n. MarkFault ((input ++ byte ∷ []) ++ more) (record { rule = rule; place = n })) (sym (starts_begins byte k)) (m.broken rule b more)
+        shown : (more : List ℕ) → MarkFaultUnder limit ((input ++ byte ∷ []) ++ more) (record { rule = rule; place = reader.tokenizer.start })
+        shown more = subst (λ n. MarkFaultUnder limit ((input ++ byte ∷ []) ++ more) (record { rule = rule; place = n })) (sym (starts_begins byte k)) (m.broken rule b more)
 
       -- no memory for the events of the token
-      token_begun : rule_of (reverse ts) m.token ≡ None → TellsFront old new token_events → RunsOut (input ++ byte ∷ []) told old new
+      token_begun : rule_of (reverse ts) m.token ≡ None → TellsFront old new token_events → RunsOutUnder limit (input ++ byte ∷ []) told old new
       token_begun c t =
-          let l : IsLongest (input ++ byte ∷ []) (with_pending (finish_of z) (ts ++ m.token ∷ [])) = reads_longest z (input ++ byte ∷ []) (ts ++ m.token ∷ []) m.reads (finish_of z) (finish_is z) in
+          let l : IsLongestUnder limit (input ++ byte ∷ []) (with_pending (finish_of z) (ts ++ m.token ∷ [])) = reads_longest z (input ++ byte ∷ []) (ts ++ m.token ∷ []) m.reads (finish_of z) (finish_is z) in
           record {
             front = t.front;
             behind = t.behind;
@@ -270,7 +270,7 @@ module _ (reader : Reader) (input : List ℕ) (ts : List Token) (told : List Pla
             tells = t.tells;
           }
 
-      pub token_out : TellsClean (rule_of (reverse ts) m.token) old new token_events → RunsOut (input ++ byte ∷ []) told old new
+      pub token_out : TellsClean (rule_of (reverse ts) m.token) old new token_events → RunsOutUnder limit (input ++ byte ∷ []) told old new
       token_out t = ⊎_elim (λ c. token_begun c t.0) (λ s. advance_out byte old new k w s) t.1
 
       -- by the answer of the context
@@ -279,33 +279,33 @@ module _ (reader : Reader) (input : List ℕ) (ts : List Token) (told : List Pla
         pub answered : Answers (reverse ts) m.token k.context m.ended_is m.draft_is (in_cdata-open reader.tokenizer (reverse ts) k.reads.bytes k.reads.opens)
         answered = answers (reverse ts) m.token k.context m.ended_is m.draft_is (in_cdata-open reader.tokenizer (reverse ts) k.reads.bytes k.reads.opens)
 
-      pub token_stopped : (x : MarkError) → TokenStopped (reverse ts) m.token reader.tokenizer.start old new x → Stops (input ++ byte ∷ []) told old new x
-      token_stopped (RefusedBy fault) h = subst (λ v. Refuses (input ++ byte ∷ []) told old new (record { rule = fault.rule; place = v })) (sym h.1) (token_broken fault.rule h.0 h.2)
+      pub token_stopped : (x : MarkError) → TokenStopped (reverse ts) m.token reader.tokenizer.start old new x → StopsUnder limit (input ++ byte ∷ []) told old new x
+      token_stopped (RefusedBy fault) h = subst (λ v. RefusesUnder limit (input ++ byte ∷ []) told old new (record { rule = fault.rule; place = v })) (sym h.1) (token_broken fault.rule h.0 h.2)
       token_stopped NoMemory h = token_out h
 
     -- a line end whose CR was told
     module _ (e : Ended) (d : Draft) (a : AdvancesBy reader.tokenizer z byte (EndedToken e d)) (h : Finish) (q : FinishesBy reader.tokenizer h) (n : is_return h ≡ true) where
-      line : EndsToken z (reverse ts) (k.reads.bytes ++ byte ∷ []) e d
-      line = a (reverse ts) k.reads.bytes k.reads.opens w
+      line : EndsToken limit z (reverse ts) (k.reads.bytes ++ byte ∷ []) e d
+      line = a limit (reverse ts) k.reads.bytes k.reads.opens w
 
-      return_bytes : (h : Finish) → Finishes (reverse ts) k.reads.bytes h → is_return h ≡ true → k.reads.bytes ≡ token_bytes (LineEnd Cr)
+      return_bytes : (h : Finish) → Finishes limit (reverse ts) k.reads.bytes h → is_return h ≡ true → k.reads.bytes ≡ token_bytes (LineEnd Cr)
       return_bytes Nothing g n = absurd (both_ways false refl n)
       return_bytes Open g n = absurd (both_ways false refl n)
       return_bytes Return g n = g.0
 
       joined : line.token ≡ LineEnd CrLf
-      joined = ends_crlf reader.tokenizer z (reverse ts) k.reads.bytes byte e d k.reads.opens (return_bytes h (q (reverse ts) k.reads.bytes k.reads.opens) n) w line
+      joined = ends_crlf reader.tokenizer z (reverse ts) k.reads.bytes byte e d k.reads.opens (return_bytes h (q limit (reverse ts) k.reads.bytes k.reads.opens) n) w line
 
       pub return_draft : d ≡ no_draft
       return_draft = sym line.draft_is ∙ ap draft_of joined
 
-      pub return_ok : (c : Context) → ((before : List Token) (line : Line) → IsContext reader.context before → IsContext c (LineEnd line ∷ before)) → new ≡ old → TellsMore Any (record { tokenizer = z; context = c; failed = reader.failed }) (input ++ byte ∷ []) told old new
+      pub return_ok : (c : Context) → ((before : List Token) (line : Line) → IsContext reader.context before → IsContext c (LineEnd line ∷ before)) → new ≡ old → TellsMore limit Any (record { tokenizer = z; context = c; failed = reader.failed }) (input ++ byte ∷ []) told old new
       return_ok c i s = record {
         tokens = ts ++ LineEnd CrLf ∷ [];
         more = [];
         tells = tells_none old new s;
         keeps = record {
-          reads = subst (λ t. Reads Any z (input ++ byte ∷ []) (ts ++ t ∷ [])) joined (reads_token z input byte ts reader.tokenizer k.reads e d line);
+          reads = subst (λ t. Reads limit Any z (input ++ byte ∷ []) (ts ++ t ∷ [])) joined (reads_token z input byte ts reader.tokenizer k.reads e d line);
           clean = clean_snoc ts (LineEnd CrLf) k.clean refl;
           place = place_now;
           context = subst (IsContext c) (sym (reverse_snoc ts (LineEnd CrLf))) (i (reverse ts) CrLf k.context);
@@ -321,14 +321,14 @@ module _ (reader : Reader) (input : List ℕ) (ts : List Token) (told : List Pla
             ∙ ap (λ v. events [] 0 (with_pending g (ts ++ v ∷ []))) joined))
 
 -- both steps
-pub step_ok : (r1 r2 : Reader) (bytes : List ℕ) (told : List Placed) (byte : ℕ) (o0 o1 o2 : List Event) (s : SettlesEvents r1 bytes told byte o0 o1) → TellsMore Any r2 (bytes ++ byte ∷ []) (told ++ s.tells.more) o1 o2 → GoesOn r2 (bytes ++ byte ∷ []) told o0 o2
-step_ok r1 r2 bytes told byte o0 o1 o2 s a =
+pub step_ok : {limit : ℕ} (r1 r2 : Reader) (bytes : List ℕ) (told : List Placed) (byte : ℕ) (o0 o1 o2 : List Event) (s : SettlesEvents limit r1 bytes told byte o0 o1) → TellsMore limit Any r2 (bytes ++ byte ∷ []) (told ++ s.tells.more) o1 o2 → GoesOnUnder limit r2 (bytes ++ byte ∷ []) told o0 o2
+step_ok {limit} r1 r2 bytes told byte o0 o1 o2 s a =
     let z = r2.tokenizer in
     let e : (told ++ s.tells.more) ++ a.more ≡ told ++ (s.tells.more ++ a.more) = append_assoc told s.tells.more a.more in
     record {
       more = s.tells.more ++ a.more;
       tells = tells_twice o0 o1 o2 s.tells.more a.more s.tells.tells a.tells;
-      taken_are = (a.tokens, subst (Keeps Any r2 (bytes ++ byte ∷ []) a.tokens) e a.keeps);
+      taken_are = (a.tokens, subst (Keeps limit Any r2 (bytes ++ byte ∷ []) a.tokens) e a.keeps);
       are_events = (
         with_pending (finish_of z) a.tokens,
         reads_longest z (bytes ++ byte ∷ []) a.tokens a.keeps.reads (finish_of z) (finish_is z),
@@ -338,7 +338,7 @@ step_ok r1 r2 bytes told byte o0 o1 o2 s a =
       only_cut = none_but_truncated z (bytes ++ byte ∷ []) a.tokens a.keeps.reads a.keeps.clean;
     }
 
-pub step_refused : (bytes : List ℕ) (told more : List Placed) (o0 o1 o2 : List Event) (fault : Told) → Tells o0 o1 more → Refuses bytes (told ++ more) o1 o2 fault → Refuses bytes told o0 o2 fault
+pub step_refused : {limit : ℕ} (bytes : List ℕ) (told more : List Placed) (o0 o1 o2 : List Event) (fault : Told) → Tells o0 o1 more → RefusesUnder limit bytes (told ++ more) o1 o2 fault → RefusesUnder limit bytes told o0 o2 fault
 step_refused bytes told more o0 o1 o2 fault t k = record {
   more = more ++ k.more;
   tells = tells_twice o0 o1 o2 more k.more t k.tells;
@@ -355,7 +355,7 @@ step_refused bytes told more o0 o1 o2 fault t k = record {
 regrouped : (a b c d : List Placed) → a ++ ((b ++ c) ++ d) ≡ (a ++ b) ++ (c ++ d)
 regrouped a b c d = ap (λ v. a ++ v) (append_assoc b c d) ∙ sym (append_assoc a b (c ++ d))
 
-pub step_out : (bytes : List ℕ) (told more : List Placed) (o0 o1 o2 : List Event) → Tells o0 o1 more → RunsOut bytes (told ++ more) o1 o2 → RunsOut bytes told o0 o2
+pub step_out : {limit : ℕ} (bytes : List ℕ) (told more : List Placed) (o0 o1 o2 : List Event) → Tells o0 o1 more → RunsOutUnder limit bytes (told ++ more) o1 o2 → RunsOutUnder limit bytes told o0 o2
 step_out bytes told more o0 o1 o2 t k = record {
   front = more ++ k.front;
   behind = k.behind;
@@ -368,7 +368,7 @@ step_out bytes told more o0 o1 o2 t k = record {
 }
 
 -- what a reader has taken is all told
-pub told_so_far : (reader : Reader) (bytes : List ℕ) (told : List Placed) → HasTaken reader bytes told → HasTold reader bytes told
+pub told_so_far : {limit : ℕ} (reader : Reader) (bytes : List ℕ) (told : List Placed) → HasTakenUnder limit reader bytes told → HasToldUnder limit reader bytes told
 told_so_far reader bytes told h =
     let z = reader.tokenizer in
     record {
@@ -388,31 +388,31 @@ not_cut Nothing n = refl
 not_cut Return n = refl
 not_cut Open n = absurd (n refl)
 
-module _ (reader : Reader) (input : List ℕ) (told : List Placed) (h : HasTaken reader input told) (f : Finish) (q : FinishesBy reader.tokenizer f) where
+module _ {limit : ℕ} (reader : Reader) (input : List ℕ) (told : List Placed) (h : HasTakenUnder limit reader input told) (f : Finish) (q : FinishesBy reader.tokenizer f) where
   abbrev ts : List Token
   ts = h.0
 
-  abbrev k : Keeps Any reader input ts told
+  abbrev k : Keeps limit Any reader input ts told
   k = h.1
 
-  cut_here : MarkFault input (record { rule = Truncated; place = length input }) → MarkFault input (record { rule = Truncated; place = reader.tokenizer.place })
-  cut_here m = subst (λ n. MarkFault input (record { rule = Truncated; place = n })) (sym k.place) m
+  cut_here : MarkFaultUnder limit input (record { rule = Truncated; place = length input }) → MarkFaultUnder limit input (record { rule = Truncated; place = reader.tokenizer.place })
+  cut_here m = subst (λ n. MarkFaultUnder limit input (record { rule = Truncated; place = n })) (sym k.place) m
 
-  pub finish_open : f ≡ Open → MarkFault input (record { rule = Truncated; place = reader.tokenizer.place })
+  pub finish_open : f ≡ Open → MarkFaultUnder limit input (record { rule = Truncated; place = reader.tokenizer.place })
   finish_open e = cut_here (ends_open reader.tokenizer input ts k.reads (subst (FinishesBy reader.tokenizer) e q) k.clean)
 
-  pub finish_cut : (f ≡ Open → ⊥) → is_over (reverse ts) ≡ false → MarkFault input (record { rule = Truncated; place = reader.tokenizer.place })
+  pub finish_cut : (f ≡ Open → ⊥) → is_over (reverse ts) ≡ false → MarkFaultUnder limit input (record { rule = Truncated; place = reader.tokenizer.place })
   finish_cut n o = cut_here (ends_cut reader.tokenizer input ts k.reads f q k.clean (not_cut f n) o)
 
-  pub finish_whole : (f ≡ Open → ⊥) → is_over (reverse ts) ≡ true → IsWholly input told
+  pub finish_whole : (f ≡ Open → ⊥) → is_over (reverse ts) ≡ true → IsWhollyUnder limit input told
   finish_whole n o = (
     with_pending f ts,
-    to_end reader.tokenizer input ts k.reads f q f (q (reverse ts) k.reads.bytes k.reads.opens) (not_cut f n),
+    to_end reader.tokenizer input ts k.reads f q f (q limit (reverse ts) k.reads.bytes k.reads.opens) (not_cut f n),
     clean_pending f ts k.clean,
     over_pending f ts ∙ o,
     k.told_are f q,
   )
 
-pub step_stops : (bytes : List ℕ) (told more : List Placed) (o0 o1 o2 : List Event) (e : MarkError) → Tells o0 o1 more → Stops bytes (told ++ more) o1 o2 e → Stops bytes told o0 o2 e
-step_stops bytes told more o0 o1 o2 (RefusedBy fault) t k = step_refused bytes told more o0 o1 o2 fault t k
-step_stops bytes told more o0 o1 o2 NoMemory t k = step_out bytes told more o0 o1 o2 t k
+pub step_stops : (limit : ℕ) (bytes : List ℕ) (told more : List Placed) (o0 o1 o2 : List Event) (e : MarkError) → Tells o0 o1 more → StopsUnder limit bytes (told ++ more) o1 o2 e → StopsUnder limit bytes told o0 o2 e
+step_stops limit bytes told more o0 o1 o2 (RefusedBy fault) t k = step_refused bytes told more o0 o1 o2 fault t k
+step_stops limit bytes told more o0 o1 o2 NoMemory t k = step_out bytes told more o0 o1 o2 t k

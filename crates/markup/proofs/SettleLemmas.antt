@@ -5,7 +5,7 @@ use Rattle.std.specs.Char.{encode_utf8}
 use Rattle.std.proofs.lemmas.Bool.{and_left, not_from_false, both_ways, eqb-true, eq-eqb}
 use Rattle.markup.specs.Chars.{is_xml_char}
 use Rattle.markup.specs.Token.{Token, LineEnd, Character, Cr, token_bytes}
-use Rattle.markup.specs.Marks.{in_cdata, shows_no_closer, stands, tag_limit}
+use Rattle.markup.specs.Marks.{in_cdata, shows_no_closer, stands}
 use Rattle.markup.specs.Faults.{NoToken, Next, cut}
 use Rattle.markup.specs.Drafts.{no_draft}
 use Rattle.markup.specs.ScanRuns.{At, run, position, placed}
@@ -56,15 +56,15 @@ draft_same : (s t : Scan) (d e : Draft) → At s d ≡ At t e → d ≡ e
 draft_same s t d e h = cc
 
 -- what has been settled and what is left fit together
-abbrev Fits : Tokenizer → List Token → List ℕ → ℕ → Settled × Tokenizer → Type 0
-Fits z before bytes byte r = Settles z r.1 before bytes byte r.0 × IsAwaited r.1.scan byte
+abbrev Fits : ℕ → Tokenizer → List Token → List ℕ → ℕ → Settled × Tokenizer → Type 0
+Fits limit z before bytes byte r = Settles limit z r.1 before bytes byte r.0 × IsAwaited r.1.scan byte
 
-module _ (z : Tokenizer) (before : List Token) (bytes : List ℕ) (byte : ℕ) (o : IsOpen z before bytes) where
+module _ {limit : ℕ} (z : Tokenizer) (before : List Token) (bytes : List ℕ) (byte : ℕ) (o : IsOpen limit z before bytes) where
   whole_bytes : (cs v : List ℕ) → o.part ≡ [] → o.chars ≡ cs → encode_utf8_all cs ≡ v → bytes ≡ v
   whole_bytes cs v p c e = o.bytes_are ∙ (ap (λ x. encode_utf8_all o.chars ++ x) p ∙ (append-nil (encode_utf8_all o.chars) ∙ (ap encode_utf8_all c ∙ e)))
 
   -- the next token is open behind one that opens and closes nothing
-  reopened : (ts : List Token) → o.part ≡ [] → z.draft ≡ no_draft → after_other z.position ≡ position ts → IsOpen (restarted z) ts []
+  reopened : (ts : List Token) → o.part ≡ [] → z.draft ≡ no_draft → after_other z.position ≡ position ts → IsOpen limit (restarted z) ts []
   reopened ts p d q = record {
     chars = [];
     part = [];
@@ -74,6 +74,8 @@ module _ (z : Tokenizer) (before : List Token) (bytes : List ℕ) (byte : ℕ) (
     scan_is = at_next (sym q) (sym d);
     position_is = q;
     place_is = sym (add-zero z.place);
+    limit_is = o.limit_is;
+    limited = o.limited;
     short = λ t. absurd t;
     settled = λ _. refl;
   } where
@@ -89,7 +91,7 @@ module _ (z : Tokenizer) (before : List Token) (bytes : List ℕ) (byte : ℕ) (
   waits : Waits (position before) o.chars z.scan
   waits = run_waits (position before) o.chars z.scan no_draft z.draft o.scan_is
 
-  settle_return : z.scan ≡ AfterReturn → (byte == 10) ≡ false → SettlesOne (restarted z) before bytes byte (LineEnd Cr)
+  settle_return : z.scan ≡ AfterReturn → (byte == 10) ≡ false → SettlesOne limit (restarted z) before bytes byte (LineEnd Cr)
   settle_return e n =
       let w : o.chars ≡ 13 ∷ [] = subst (Waits (position before) o.chars) e waits in
       let p = o.settled (ap is_pending e) in
@@ -103,7 +105,7 @@ module _ (z : Tokenizer) (before : List Token) (bytes : List ℕ) (byte : ℕ) (
   in_section : (position before ≡ Cdata) → in_cdata before ≡ true
   in_section e = at_cdata before e
 
-  settle_bracket : z.scan ≡ Bracket → (byte == 93) ≡ false → SettlesOne (restarted z) before bytes byte (Character 93)
+  settle_bracket : z.scan ≡ Bracket → (byte == 93) ≡ false → SettlesOne limit (restarted z) before bytes byte (Character 93)
   settle_bracket e n =
       let w : (o.chars ≡ 93 ∷ []) × (position before ≡ Cdata) = subst (Waits (position before) o.chars) e waits in
       let p = o.settled (ap is_pending e) in
@@ -117,7 +119,7 @@ module _ (z : Tokenizer) (before : List Token) (bytes : List ℕ) (byte : ℕ) (
   two_run : in_cdata before ≡ true → run (Begin (position before)) no_draft (93 ∷ 93 ∷ []) ≡ At Brackets no_draft
   two_run h = bracket_run before (93 ∷ []) h
 
-  settle_brackets : z.scan ≡ Brackets → (byte == 62) ≡ false → (byte == 93) ≡ false → SettlesTwo (restarted z) before bytes byte
+  settle_brackets : z.scan ≡ Brackets → (byte == 62) ≡ false → (byte == 93) ≡ false → SettlesTwo limit (restarted z) before bytes byte
   settle_brackets e n m =
       let w : (o.chars ≡ 93 ∷ 93 ∷ []) × (position before ≡ Cdata) = subst (Waits (position before) o.chars) e waits in
       let p = o.settled (ap is_pending e) in
@@ -128,7 +130,7 @@ module _ (z : Tokenizer) (before : List Token) (bytes : List ℕ) (byte : ℕ) (
         next = reopened (Character 93 ∷ Character 93 ∷ before) p (sym (draft_same Brackets z.scan no_draft z.draft (sym (two_run (in_section w.1)) ∙ (ap (run (Begin (position before)) no_draft) (sym w.0) ∙ o.scan_is)))) place_behind;
       }
 
-  settle_first : z.scan ≡ Brackets → (byte == 93) ≡ true → SettlesOne (second_bracket z) before bytes byte (Character 93)
+  settle_first : z.scan ≡ Brackets → (byte == 93) ≡ true → SettlesOne limit (second_bracket z) before bytes byte (Character 93)
   settle_first e n =
       let w : (o.chars ≡ 93 ∷ 93 ∷ []) × (position before ≡ Cdata) = subst (Waits (position before) o.chars) e waits in
       let p = o.settled (ap is_pending e) in
@@ -146,6 +148,8 @@ module _ (z : Tokenizer) (before : List Token) (bytes : List ℕ) (byte : ℕ) (
           scan_is = bracket_run (Character 93 ∷ before) [] (in_section w.1) ∙ ap (At Bracket) (draft_same Brackets z.scan no_draft z.draft (sym (two_run (in_section w.1)) ∙ (ap (run (Begin (position before)) no_draft) (sym w.0) ∙ o.scan_is)));
           position_is = o.position_is ∙ (w.1 ∙ ap (placed false) (sym (in_section w.1)));
           place_is = place_one z.place z.start bytes o.place_is b;
+          limit_is = o.limit_is;
+          limited = o.limited;
           short = λ t. absurd t;
           settled = λ _. refl;
         };
@@ -156,26 +160,26 @@ module _ (z : Tokenizer) (before : List Token) (bytes : List ℕ) (byte : ℕ) (
         place_one : (p q : ℕ) (v : List ℕ) → p ≡ q + length v → v ≡ 93 ∷ 93 ∷ [] → p ≡ (p - 1) + 1
         place_one p q v h k = omega (arith, h, ap length k)
 
-  settles : (s : Scan) → z.scan ≡ s → Fits z before bytes byte (settled_at s z byte)
+  settles : (s : Scan) → z.scan ≡ s → Fits limit z before bytes byte (settled_at s z byte)
   settles AfterReturn e = by (byte == 10) refl where
-    by : (b : Bool) → (byte == 10) ≡ b → Fits z before bytes byte (if b then (Nothing, z) else (Return, restarted z))
+    by : (b : Bool) → (byte == 10) ≡ b → Fits limit z before bytes byte (if b then (Nothing, z) else (Return, restarted z))
     by true h = (refl, subst (λ s. IsAwaited s byte) (sym e) (eqb-true byte 10 h))
     by false h = (settle_return e h, tt)
   settles Bracket e = by (byte == 93) refl where
-    by : (b : Bool) → (byte == 93) ≡ b → Fits z before bytes byte (if b then (Nothing, z) else (OneBracket, restarted z))
+    by : (b : Bool) → (byte == 93) ≡ b → Fits limit z before bytes byte (if b then (Nothing, z) else (OneBracket, restarted z))
     by true h = (refl, subst (λ s. IsAwaited s byte) (sym e) (eqb-true byte 93 h))
     by false h = (settle_bracket e h, tt)
   settles Brackets e = by (byte == 62) (byte == 93) refl refl where
-    by : (b c : Bool) → (byte == 62) ≡ b → (byte == 93) ≡ c → Fits z before bytes byte (if b then (Nothing, z) else (if c then (OneBracket, second_bracket z) else (TwoBrackets, restarted z)))
+    by : (b c : Bool) → (byte == 62) ≡ b → (byte == 93) ≡ c → Fits limit z before bytes byte (if b then (Nothing, z) else (if c then (OneBracket, second_bracket z) else (TwoBrackets, restarted z)))
     by true c h k = (refl, subst (λ s. IsAwaited s byte) (sym e) (eqb-true byte 62 h))
     by false true h k = (settle_first e k, eqb-true byte 93 k)
     by false false h k = (settle_brackets e h k, tt)
   settles s e = (refl, subst (λ u. IsAwaited u byte) (sym e) tt)
 
 pub settles_by : (old new : Tokenizer) (byte : ℕ) (result : Settled) → result ≡ (settled old byte).0 → new ≡ (settled old byte).1 → SettlesBy old new byte result
-settles_by old new byte result e f before bytes o =
-    subst (λ r. Settles old new before bytes byte r × IsAwaited new.scan byte) (sym e)
-    (subst (λ y. Settles old y before bytes byte (settled old byte).0 × IsAwaited y.scan byte) (sym f) (settles old before bytes byte o old.scan refl))
+settles_by old new byte result e f limit before bytes o =
+    subst (λ r. Settles limit old new before bytes byte r × IsAwaited new.scan byte) (sym e)
+    (subst (λ y. Settles limit old y before bytes byte (settled old byte).0 × IsAwaited y.scan byte) (sym f) (settles old before bytes byte o old.scan refl))
 
 -- a CR at the end of the input
 pub end_stands : (before : List Token) → stands before (LineEnd Cr) [] ≡ true
@@ -191,8 +195,8 @@ cut_settled Bracket part n p = subst (λ v. shows_no_closer v ≡ false) (sym (p
 cut_settled Brackets part n p = subst (λ v. shows_no_closer (93 ∷ v) ≡ false) (sym (p refl)) refl
 cut_settled _ part n p = tt
 
-module _ (z : Tokenizer) (before : List Token) (bytes : List ℕ) (o : IsOpen z before bytes) where
-  cut_here : (z.scan ≡ AfterReturn → ⊥) → (bytes ≡ [] → ⊥) → Next tag_limit before bytes Truncated (length bytes)
+module _ {limit : ℕ} (z : Tokenizer) (before : List Token) (bytes : List ℕ) (o : IsOpen limit z before bytes) where
+  cut_here : (z.scan ≡ AfterReturn → ⊥) → (bytes ≡ [] → ⊥) → Next limit before bytes Truncated (length bytes)
   cut_here n m = cut o.chars o.part o.bytes_are
       (subst (NoToken before) (sym o.bytes_are) (no_token before o.chars o.part z.scan z.draft o.scan_is (cut_settled z.scan o.part n o.settled) (λ c m after e g x. no_whole o.part after c o.front e)))
       (goes_on before o.chars z.scan z.draft o.scan_is) o.front o.short (λ e. absurd (m e)) refl refl
@@ -207,9 +211,9 @@ module _ (z : Tokenizer) (before : List Token) (bytes : List ℕ) (o : IsOpen z 
   no_bytes [] h = refl
   no_bytes (c ∷ v) h = absurd (omega (arith, h))
 
-  other_open : (s : Scan) → z.scan ≡ s → (s ≡ AfterReturn → ⊥) → Finishes before bytes (if z.place == z.start then NothingOpen else Open)
+  other_open : (s : Scan) → z.scan ≡ s → (s ≡ AfterReturn → ⊥) → Finishes limit before bytes (if z.place == z.start then NothingOpen else Open)
   other_open s e n = by (z.place == z.start) refl where
-    by : (b : Bool) → (z.place == z.start) ≡ b → Finishes before bytes (if b then NothingOpen else Open)
+    by : (b : Bool) → (z.place == z.start) ≡ b → Finishes limit before bytes (if b then NothingOpen else Open)
     by true h = no_bytes bytes (none_open z.place z.start (length bytes) o.place_is h)
     by false h = cut_here (λ k. n (sym e ∙ k)) (some_open z.place z.start bytes o.place_is h)
 
@@ -218,7 +222,7 @@ module _ (z : Tokenizer) (before : List Token) (bytes : List ℕ) (o : IsOpen z 
       let w : o.chars ≡ 13 ∷ [] = subst (Waits (position before) o.chars) e (run_waits (position before) o.chars z.scan no_draft z.draft o.scan_is) in
       (whole_bytes z before bytes 0 o (13 ∷ []) (token_bytes (LineEnd Cr)) (o.settled (ap is_pending e)) w refl, end_stands before)
 
-  finishes : (s : Scan) → z.scan ≡ s → Finishes before bytes (open_at s z)
+  finishes : (s : Scan) → z.scan ≡ s → Finishes limit before bytes (open_at s z)
   finishes AfterReturn e = finish_return e
   finishes (Begin p) e = other_open (Begin p) e (λ k. cc)
   finishes Bracket e = other_open Bracket e (λ k. cc)
@@ -262,7 +266,7 @@ module _ (z : Tokenizer) (before : List Token) (bytes : List ℕ) (o : IsOpen z 
   finishes EndGap e = other_open EndGap e (λ k. cc)
 
 pub finishes_by : (z : Tokenizer) (result : Finish) → result ≡ open_at z.scan z → FinishesBy z result
-finishes_by z result e before bytes o = subst (Finishes before bytes) (sym e) (finishes z before bytes o z.scan refl)
+finishes_by z result e limit before bytes o = subst (Finishes limit before bytes) (sym e) (finishes z before bytes o z.scan refl)
 
 -- the byte is not taken
 abbrev place_of : Settled × Tokenizer → ℕ

@@ -91,7 +91,7 @@ in_cdata-position (t ∷ before) = by (is_first (t ∷ before)) (in_cdata (t ∷
   by false true h = refl
   by false false h = refl
 
-pub in_cdata-open : (z : Tokenizer) (before : List Token) (bytes : List ℕ) → IsOpen z before bytes → in_cdata before ≡ is_cdata z.position
+pub in_cdata-open : {limit : ℕ} (z : Tokenizer) (before : List Token) (bytes : List ℕ) → IsOpen limit z before bytes → in_cdata before ≡ is_cdata z.position
 in_cdata-open z before bytes o = in_cdata-position before ∙ ap is_cdata (sym o.position_is)
 
 -- a token of which the scan says this

@@ -15,7 +15,7 @@ use Rattle.markup.specs.Chars.{is_xml_char}
 use Rattle.markup.specs.Name.{name_text}
 use Rattle.markup.specs.Attribute.{attribute_text}
 use Rattle.markup.specs.Token.{Token, Mark, Declaration, Comment, Instruction, Opener, Closer, TypeDeclaration, Start, End, Refer, LineEnd, Character, token_text, token_bytes}
-use Rattle.markup.specs.Marks.{in_cdata, is_first, stands, is_short, tag_limit}
+use Rattle.markup.specs.Marks.{in_cdata, is_first, stands, is_short, IsLimit}
 use Rattle.markup.specs.Faults.{GoesOn, NoToken, IsTagBegun, no_char, bad_char, stuck, Next, halts, too_long}
 use Rattle.markup.specs.Drafts.{no_draft, noted}
 use Rattle.markup.specs.Scans.{step}
@@ -105,7 +105,7 @@ nonempty [] x w = (x, w, refl)
 nonempty (y ∷ v) x w = (y, v ++ x ∷ w, refl)
 
 -- a tag that has ended is short where it was before its last character
-ended_short : (before : List Token) (t : Token) (chars : List ℕ) (c : ℕ) → stands before t [] ≡ true → token_text t ≡ chars ++ c ∷ [] → (IsTagBegun chars → length (token_bytes t) ≤ tag_limit) → is_short tag_limit t ≡ true
+ended_short : {limit : ℕ} (before : List Token) (t : Token) (chars : List ℕ) (c : ℕ) → stands before t [] ≡ true → token_text t ≡ chars ++ c ∷ [] → (IsTagBegun chars → length (token_bytes t) ≤ limit) → is_short limit t ≡ true
 ended_short before (Start t) chars c h e f = le-leb _ _ (f (begun (name_text t.name) (name_begins t.name (start_tag_facts t (never_in (in_cdata before) _ h).1).name) (sym (append-nil (token_text (Start t))) ∙ start_tag_then t []))) where
   begun : (n : List ℕ) → BeginsName n → token_text (Start t) ≡ 60 ∷ (n ++ (flat_map attribute_text t.attributes ++ (t.gap ++ (close t.is_empty ++ [])))) → IsTagBegun chars
   begun n b q =
@@ -125,35 +125,40 @@ ended_short before (End n g) chars c h e f =
 ended_short before _ chars c h e f = refl
 
 -- the token that is open behind a byte that does not end it, or a tag that is too long
-open_bounded : (y : Tokenizer) (before : List Token) (bytes chars part : List ℕ) → bytes ≡ encode_utf8_all chars ++ part → y.utf8 ≡ Some part → IsFront part → run (Begin (position before)) no_draft chars ≡ At y.scan y.draft → y.position ≡ position before → y.place ≡ y.start + length bytes → (IsTagBegun chars → length bytes ≤ tag_limit) → (is_pending y.scan ≡ true → part ≡ []) → Advances y before bytes (bounded y)
-open_bounded y before bytes chars part e u f r p l t q = by (is_tag y.scan) (nat_le tag_limit (y.place - y.start)) refl refl where
-  here : Placed chars y.scan
-  here = run_placed (position before) chars y.scan no_draft y.draft r
+open_bounded : {limit : ℕ} (y : Tokenizer) (before : List Token) (bytes chars part : List ℕ) → bytes ≡ encode_utf8_all chars ++ part → y.utf8 ≡ Some part → IsFront part → run (Begin (position before)) no_draft chars ≡ At y.scan y.draft → y.position ≡ position before → y.place ≡ y.start + length bytes → (IsTagBegun chars → length bytes ≤ limit) → (is_pending y.scan ≡ true → part ≡ []) → y.limit ≡ limit → IsLimit limit → Advances limit y before bytes (bounded y)
+open_bounded {limit} y before bytes chars part e u f r p l t q m i =
+    subst (λ (n : ℕ). Advances limit y before bytes (if is_tag y.scan && nat_le n (y.place - y.start) then Refused BadMarkup else More)) (sym m) (by (is_tag y.scan) (nat_le limit (y.place - y.start)) refl refl) where
+      here : Placed chars y.scan
+      here = run_placed (position before) chars y.scan no_draft y.draft r
 
-  far : (place start n limit : ℕ) → place ≡ start + n → limit ≤ place - start → n ≤ limit → n ≡ limit
-  far place start n limit h k m = omega arith
+      far : (place start n limit : ℕ) → place ≡ start + n → limit ≤ place - start → n ≤ limit → n ≡ limit
+      far place start n limit h k m = omega arith
 
-  near : (place start n limit : ℕ) → place ≡ start + n → place - start < limit → n < limit
-  near place start n limit h k = omega arith
+      near : (place start n limit : ℕ) → place ≡ start + n → place - start < limit → n < limit
+      near place start n limit h k = omega arith
 
-  long : is_tag y.scan ≡ true → nat_le tag_limit (y.place - y.start) ≡ true → (more : List ℕ) → Next tag_limit before (bytes ++ more) BadMarkup 0
-  long a b more = too_long chars part more (ap (λ v. v ++ more) e) (goes_on before chars y.scan y.draft r)
-      (λ v after h k. none_within before v chars [] after y.scan y.draft r (not_pending y.scan after (tag_not_pending y.scan a)) (sym k ∙ sym (append-nil (token_text v))) h)
-      (here.tag (here.same a)) f (ap length (sym e) ∙ far y.place y.start (length bytes) tag_limit l (leb-true _ _ b) (t (here.tag (here.same a)))) refl refl
+      long : is_tag y.scan ≡ true → nat_le limit (y.place - y.start) ≡ true → (more : List ℕ) → Next limit before (bytes ++ more) BadMarkup 0
+      long a b more = too_long chars part more (ap (λ v. v ++ more) e) (goes_on before chars y.scan y.draft r)
+          (λ v after h k. none_within before v chars [] after y.scan y.draft r (not_pending y.scan after (tag_not_pending y.scan a)) (sym k ∙ sym (append-nil (token_text v))) h)
+          (here.tag (here.same a)) f (ap length (sym e) ∙ far y.place y.start (length bytes) limit l (leb-true _ _ b) (t (here.tag (here.same a)))) refl refl
 
-  opened : (IsTagBegun chars → length bytes < tag_limit) → IsOpen y before bytes
-  opened s = record { chars = chars; part = part; bytes_are = e; utf8_is = u; front = f; scan_is = r; position_is = p; place_is = l; short = s; settled = q }
+      opened : (IsTagBegun chars → length bytes < limit) → IsOpen limit y before bytes
+      opened s = record { chars = chars; part = part; bytes_are = e; utf8_is = u; front = f; scan_is = r; position_is = p; place_is = l; limit_is = m; limited = i; short = s; settled = q }
 
-  tag_here : IsTagBegun chars → is_tag y.scan ≡ true
-  tag_here b = in_one (cases_Bool (in_tag y.scan)) where
-    in_one : (in_tag y.scan ≡ true) ⊎ (in_tag y.scan ≡ false) → is_tag y.scan ≡ true
-    in_one (inl h) = tag_scan y.scan h
-    in_one (inr h) = absurd (here.no_tag h b)
+      tag_here : IsTagBegun chars → is_tag y.scan ≡ true
+      tag_here b = in_one (cases_Bool (in_tag y.scan)) where
+        in_one : (in_tag y.scan ≡ true) ⊎ (in_tag y.scan ≡ false) → is_tag y.scan ≡ true
+        in_one (inl h) = tag_scan y.scan h
+        in_one (inr h) = absurd (here.no_tag h b)
 
-  by : (a b : Bool) → is_tag y.scan ≡ a → nat_le tag_limit (y.place - y.start) ≡ b → Advances y before bytes (if a && b then Refused BadMarkup else More)
-  by true true a b = long a b
-  by true false a b = opened (λ _. near y.place y.start (length bytes) tag_limit l (leb-false _ _ b))
-  by false b a _ = opened (λ k. absurd (both_ways _ a (tag_here k)))
+      by : (a b : Bool) → is_tag y.scan ≡ a → nat_le limit (y.place - y.start) ≡ b → Advances limit y before bytes (if a && b then Refused BadMarkup else More)
+      by true true a b = long a b
+      by true false a b = opened (λ _. near y.place y.start (length bytes) limit l (leb-false _ _ b))
+      by false b a _ = opened (λ k. absurd (both_ways _ a (tag_here k)))
+
+-- a limit is not nothing
+pub some_limit : {limit : ℕ} (z : Tokenizer) (before : List Token) (bytes : List ℕ) → IsOpen limit z before bytes → 0 < limit
+some_limit z before bytes o = omega (arith, o.limited.0)
 
 -- the scans that wait for a byte take it
 pending_step : (s : Scan) (byte : ℕ) → is_pending s ≡ true → IsAwaited s byte → step s byte ≡ Stuck → ⊥
@@ -182,7 +187,7 @@ one_char (c ∷ d ∷ chars) h = absurd (omega arith)
 part_short : (part : List ℕ) → IsFront part → length part ≤ 4
 part_short part f = omega (arith, ap length f.spelled, length-append part f.rest, length-encode f.char, len_utf8_bounds f.char)
 
-module _ (z : Tokenizer) (before : List Token) (bytes : List ℕ) (byte : ℕ) (o : IsOpen z before bytes) (w : IsAwaited z.scan byte) where
+module _ {limit : ℕ} (z : Tokenizer) (before : List Token) (bytes : List ℕ) (byte : ℕ) (o : IsOpen limit z before bytes) (w : IsAwaited z.scan byte) where
   here : Placed o.chars z.scan
   here = run_placed (position before) o.chars z.scan no_draft z.draft o.scan_is
 
@@ -220,8 +225,8 @@ module _ (z : Tokenizer) (before : List Token) (bytes : List ℕ) (byte : ℕ) (
     by (inr h) = g h
 
   -- the bytes so far are within a tag's limit
-  within : (shown : ℕ) → shown ≡ length o.part + 1 → IsTagBegun o.chars → length (encode_utf8_all o.chars) + shown ≤ tag_limit
-  within shown h t = count (length (encode_utf8_all o.chars)) (length o.part) (length bytes) tag_limit shown h (ap length o.bytes_are ∙ length-append (encode_utf8_all o.chars) o.part) (o.short t) where
+  within : (shown : ℕ) → shown ≡ length o.part + 1 → IsTagBegun o.chars → length (encode_utf8_all o.chars) + shown ≤ limit
+  within shown h t = count (length (encode_utf8_all o.chars)) (length o.part) (length bytes) limit shown h (ap length o.bytes_are ∙ length-append (encode_utf8_all o.chars) o.part) (o.short t) where
     count : (a b n limit shown : ℕ) → shown ≡ b + 1 → n ≡ a + b → n < limit → a + shown ≤ limit
     count a b n limit shown h k m = omega arith
 
@@ -229,7 +234,7 @@ module _ (z : Tokenizer) (before : List Token) (bytes : List ℕ) (byte : ℕ) (
   xml_next c m x = last_xml o.chars m c (subst (λ v. list_all is_xml_char v ≡ true) (sym (append_assoc o.chars (c ∷ []) m)) x)
 
   -- a byte with which no character goes on
-  no_utf8 : IsNoFront (o.part ++ byte ∷ []) → (more : List ℕ) → Next tag_limit before ((bytes ++ byte ∷ []) ++ more) BadUtf8 0
+  no_utf8 : IsNoFront (o.part ++ byte ∷ []) → (more : List ℕ) → Next limit before ((bytes ++ byte ∷ []) ++ more) BadUtf8 0
   no_utf8 n more = halts o.chars (o.part ++ byte ∷ more) (length o.part + 1) (more_bytes more)
       (subst (NoToken before) (sym (more_bytes more)) (no_token before o.chars (o.part ++ byte ∷ more) z.scan z.draft o.scan_is
       (pending_or (λ h. absurd (n byte [] (awaited_char h).1 (sym (awaited_char h).0 ∙ sym (append-nil (o.part ++ byte ∷ []))))) (not_pending z.scan (o.part ++ byte ∷ more)))
@@ -253,7 +258,7 @@ module _ (z : Tokenizer) (before : List Token) (bytes : List ℕ) (byte : ℕ) (
     char_bytes = ap (λ v. v ++ byte ∷ []) o.bytes_are ∙ (append_assoc (encode_utf8_all o.chars) o.part (byte ∷ []) ∙ (ap (λ v. encode_utf8_all o.chars ++ v) (sym spelled ∙ sym (append-nil (encode_utf8 c))) ∙ sym (encodes-append o.chars (c ∷ []))))
 
     -- a character with which no token goes on
-    stuck_here : step z.scan c ≡ Stuck → (more : List ℕ) → Next tag_limit before ((bytes ++ byte ∷ []) ++ more) (stuck_rule z.scan c) 0
+    stuck_here : step z.scan c ≡ Stuck → (more : List ℕ) → Next limit before ((bytes ++ byte ∷ []) ++ more) (stuck_rule z.scan c) 0
     stuck_here e more = by (is_xml_char c) refl where
       settled : Settled z.scan (o.part ++ byte ∷ more)
       settled = pending_or (λ h. absurd (pending_step z.scan byte h w (ap (step z.scan) (sym (pending_char h)) ∙ e))) (not_pending z.scan (o.part ++ byte ∷ more))
@@ -267,7 +272,7 @@ module _ (z : Tokenizer) (before : List Token) (bytes : List ℕ) (byte : ℕ) (
       none : ((x : ℕ) (m after : List ℕ) → o.part ++ byte ∷ more ≡ encode_utf8 x ++ after → GoesOn before (o.chars ++ x ∷ []) → list_all is_xml_char (o.chars ++ x ∷ m) ≡ true → ⊥) → NoToken before ((bytes ++ byte ∷ []) ++ more)
       none f = subst (NoToken before) (sym (more_bytes more)) (no_token before o.chars (o.part ++ byte ∷ more) z.scan z.draft o.scan_is settled f)
 
-      by : (b : Bool) → is_xml_char c ≡ b → Next tag_limit before ((bytes ++ byte ∷ []) ++ more) (if not b then BadChar else (if is_reference z.scan then BadReference else BadMarkup)) 0
+      by : (b : Bool) → is_xml_char c ≡ b → Next limit before ((bytes ++ byte ∷ []) ++ more) (if not b then BadChar else (if is_reference z.scan then BadReference else BadMarkup)) 0
       by false k = halts o.chars (o.part ++ byte ∷ more) (length (encode_utf8 c)) (more_bytes more)
           (none (λ x m after q g a. both_ways (is_xml_char c) k (subst (λ v. is_xml_char v ≡ true) (same x after q) (xml_next x m a))))
           goes (bad_char c more (tail_is more) scalar k refl refl) (within (length (encode_utf8 c)) shown_is) refl
@@ -276,29 +281,29 @@ module _ (z : Tokenizer) (before : List Token) (bytes : List ℕ) (byte : ℕ) (
           goes (stuck c more (tail_is more) k no_more_here (ap (λ (b : Bool). if b then BadReference else BadMarkup) (sym here.reference)) refl) (within (length (encode_utf8 c)) shown_is) refl
 
     -- the token goes on
-    goes_here : (s : Scan) → step z.scan c ≡ Goes s → Advances (scanned (counted z (Some [])) s (noted z.scan s c z.draft)) before (bytes ++ byte ∷ []) (bounded (scanned (counted z (Some [])) s (noted z.scan s c z.draft)))
-    goes_here s e = open_bounded (scanned (counted z (Some [])) s (noted z.scan s c z.draft)) before (bytes ++ byte ∷ []) (o.chars ++ c ∷ []) [] (char_bytes ∙ sym (append-nil (encode_utf8_all (o.chars ++ c ∷ [])))) refl none_front (run_more (Goes s) e) o.position_is (place_more z.place z.start bytes byte o.place_is) (λ t. limited (tag_or_short o.chars c t)) (λ _. refl) where
+    goes_here : (s : Scan) → step z.scan c ≡ Goes s → Advances limit (scanned (counted z (Some [])) s (noted z.scan s c z.draft)) before (bytes ++ byte ∷ []) (bounded (scanned (counted z (Some [])) s (noted z.scan s c z.draft)))
+    goes_here s e = open_bounded (scanned (counted z (Some [])) s (noted z.scan s c z.draft)) before (bytes ++ byte ∷ []) (o.chars ++ c ∷ []) [] (char_bytes ∙ sym (append-nil (encode_utf8_all (o.chars ++ c ∷ [])))) refl none_front (run_more (Goes s) e) o.position_is (place_more z.place z.start bytes byte o.place_is) (λ t. limited (tag_or_short o.chars c t)) (λ _. refl) o.limit_is o.limited where
       place_more : (p q : ℕ) (v : List ℕ) (x : ℕ) → p ≡ q + length v → p + 1 ≡ q + length (v ++ x ∷ [])
       place_more p q v x h = omega (arith, length-append v (x ∷ []))
 
-      limited : IsTagBegun o.chars ⊎ (length o.chars ≤ 1) → length (bytes ++ byte ∷ []) ≤ tag_limit
+      limited : IsTagBegun o.chars ⊎ (length o.chars ≤ 1) → length (bytes ++ byte ∷ []) ≤ limit
       limited (inl t) = count (length bytes) (o.short t) where
-        count : (n : ℕ) → n < tag_limit → length (bytes ++ byte ∷ []) ≤ tag_limit
+        count : (n : ℕ) → n < limit → length (bytes ++ byte ∷ []) ≤ limit
         count n h = omega (arith, length-append bytes (byte ∷ []), o.short t)
-      limited (inr l) = omega (arith, length-append bytes (byte ∷ []), ap length o.bytes_are, length-append (encode_utf8_all o.chars) o.part, one_char o.chars l, part_short o.part o.front)
+      limited (inr l) = omega (arith, length-append bytes (byte ∷ []), ap length o.bytes_are, length-append (encode_utf8_all o.chars) o.part, one_char o.chars l, part_short o.part o.front, o.limited.0)
 
     -- the token has ended
-    whole_here : (e : Ended) → step z.scan c ≡ Whole e → EndsToken (ended (counted z (Some [])) e).1 before (bytes ++ byte ∷ []) e z.draft
+    whole_here : (e : Ended) → step z.scan c ≡ Whole e → EndsToken limit (ended (counted z (Some [])) e).1 before (bytes ++ byte ∷ []) e z.draft
     whole_here e k = by (found before (o.chars ++ c ∷ []) e z.draft (run_more (Whole e) k)) where
       count : (n m limit : ℕ) → m ≡ n + 1 → n < limit → m ≤ limit
       count n m limit h l = omega arith
 
-      by : ReadToken before (o.chars ++ c ∷ []) e z.draft → EndsToken (ended (counted z (Some [])) e).1 before (bytes ++ byte ∷ []) e z.draft
+      by : ReadToken before (o.chars ++ c ∷ []) e z.draft → EndsToken limit (ended (counted z (Some [])) e).1 before (bytes ++ byte ∷ []) e z.draft
       by r = record {
         token = r.token;
         is = r.is;
         bytes_are = ap encode_utf8_all r.text ∙ sym char_bytes;
-        short = ended_short before r.token o.chars c (r.is []) r.text (λ t. count (length bytes) (length (token_bytes r.token)) tag_limit (ap length (ap encode_utf8_all r.text ∙ sym char_bytes) ∙ length-append bytes (byte ∷ [])) (o.short t));
+        short = ended_short before r.token o.chars c (r.is []) r.text (λ t. count (length bytes) (length (token_bytes r.token)) limit (ap length (ap encode_utf8_all r.text ∙ sym char_bytes) ∙ length-append bytes (byte ∷ [])) (o.short t));
         ended_is = r.ended_is;
         draft_is = r.draft_is;
         next = record {
@@ -310,6 +315,8 @@ module _ (z : Tokenizer) (before : List Token) (bytes : List ℕ) (byte : ℕ) (
           scan_is = ap (λ p. At (Begin p) no_draft) place_next;
           position_is = sym place_next;
           place_is = sym (add-zero _);
+          limit_is = o.limit_is;
+          limited = o.limited;
           short = λ t. absurd t;
           settled = λ _. refl;
         };
@@ -317,20 +324,20 @@ module _ (z : Tokenizer) (before : List Token) (bytes : List ℕ) (byte : ℕ) (
         place_next : position (r.token ∷ before) ≡ behind z.position e
         place_next = position_behind before r.token [] (r.is []) ∙ (ap (λ p. behind p (ended_of r.token)) (sym o.position_is) ∙ ap (behind z.position) r.ended_is)
 
-    char_here : Advances (charactered (counted z (Some [])) c).1 before (bytes ++ byte ∷ []) (charactered (counted z (Some [])) c).0
+    char_here : Advances limit (charactered (counted z (Some [])) c).1 before (bytes ++ byte ∷ []) (charactered (counted z (Some [])) c).0
     char_here = by (step z.scan c) refl where
-      by : (t : Turn) → step z.scan c ≡ t → Advances (on_turn (counted z (Some [])) c t).1 before (bytes ++ byte ∷ []) (on_turn (counted z (Some [])) c t).0
+      by : (t : Turn) → step z.scan c ≡ t → Advances limit (on_turn (counted z (Some [])) c t).1 before (bytes ++ byte ∷ []) (on_turn (counted z (Some [])) c t).0
       by (Goes s) e = goes_here s e
       by (Whole e) k = whole_here e k
       by Stuck e = stuck_here e
 
   -- a byte that does not end its character
-  more_here : IsFront (o.part ++ byte ∷ []) → Advances (counted z (Some (o.part ++ byte ∷ []))) before (bytes ++ byte ∷ []) (bounded (counted z (Some (o.part ++ byte ∷ []))))
+  more_here : IsFront (o.part ++ byte ∷ []) → Advances limit (counted z (Some (o.part ++ byte ∷ []))) before (bytes ++ byte ∷ []) (bounded (counted z (Some (o.part ++ byte ∷ []))))
   more_here f = open_bounded (counted z (Some (o.part ++ byte ∷ []))) before (bytes ++ byte ∷ []) o.chars (o.part ++ byte ∷ [])
       (ap (λ v. v ++ byte ∷ []) o.bytes_are ∙ append_assoc (encode_utf8_all o.chars) o.part (byte ∷ [])) refl f o.scan_is o.position_is
       (place_more z.place z.start bytes byte o.place_is)
-      (λ t. count (length bytes) (length (bytes ++ byte ∷ [])) tag_limit (length-append bytes (byte ∷ [])) (o.short t))
-      (λ h. absurd (whole_front h)) where
+      (λ t. count (length bytes) (length (bytes ++ byte ∷ [])) limit (length-append bytes (byte ∷ [])) (o.short t))
+      (λ h. absurd (whole_front h)) o.limit_is o.limited where
         place_more : (p q : ℕ) (v : List ℕ) (x : ℕ) → p ≡ q + length v → p + 1 ≡ q + length (v ++ x ∷ [])
         place_more p q v x h = omega (arith, length-append v (x ∷ []))
 
@@ -340,16 +347,16 @@ module _ (z : Tokenizer) (before : List Token) (bytes : List ℕ) (byte : ℕ) (
         whole_front : is_pending z.scan ≡ true → ⊥
         whole_front h = no_whole (o.part ++ byte ∷ []) [] byte f ((awaited_char h).0 ∙ sym (append-nil (encode_utf8 byte)))
 
-  utf8_here : (u : Utf8) (begun : Option (List ℕ)) → Steps (Some o.part) byte u begun → Advances (on_utf8 (counted z begun) u).1 before (bytes ++ byte ∷ []) (on_utf8 (counted z begun) u).0
-  utf8_here MoreBytes begun s = subst (λ v. Advances (counted z v) before (bytes ++ byte ∷ []) (bounded (counted z v))) (sym s.1) (more_here s.0)
+  utf8_here : (u : Utf8) (begun : Option (List ℕ)) → Steps (Some o.part) byte u begun → Advances limit (on_utf8 (counted z begun) u).1 before (bytes ++ byte ∷ []) (on_utf8 (counted z begun) u).0
+  utf8_here MoreBytes begun s = subst (λ v. Advances limit (counted z v) before (bytes ++ byte ∷ []) (bounded (counted z v))) (sym s.1) (more_here s.0)
   utf8_here Bad begun s = no_utf8 s.0
-  utf8_here (Char c) begun s = subst (λ v. Advances (charactered (counted z v) c).1 before (bytes ++ byte ∷ []) (charactered (counted z v) c).0) (sym s.2) (char_here c s.0 s.1)
+  utf8_here (Char c) begun s = subst (λ v. Advances limit (charactered (counted z v) c).1 before (bytes ++ byte ∷ []) (charactered (counted z v) c).0) (sym s.2) (char_here c s.0 s.1)
 
 -- a byte gives the next token, or the next fault
 pub advances_by : (old new : Tokenizer) (byte : ℕ) (progress : Outcome) → AdvancedBy old new byte progress → AdvancesBy old new byte progress
-advances_by old new byte progress a before bytes o w =
-    subst (λ p. Advances new before (bytes ++ byte ∷ []) p) (sym a.value)
-    (subst (λ y. Advances y before (bytes ++ byte ∷ []) (on_utf8 (counted old a.begun) a.utf8).0) (sym a.after)
+advances_by old new byte progress a limit before bytes o w =
+    subst (λ p. Advances limit new before (bytes ++ byte ∷ []) p) (sym a.value)
+    (subst (λ y. Advances limit y before (bytes ++ byte ∷ []) (on_utf8 (counted old a.begun) a.utf8).0) (sym a.after)
     (utf8_here old before bytes byte o w a.utf8 a.begun (subst (λ u. Steps u byte a.utf8 a.begun) o.utf8_is a.steps)))
 
 pub if_advanced : (r : Result Progress AllocError) (old new : Tokenizer) (byte : ℕ) → IfOk r (λ p. AdvancedBy old (outcome p new).1 byte (outcome p new).0) → IfOk r (λ p. AdvancesBy old (outcome p new).1 byte (outcome p new).0)

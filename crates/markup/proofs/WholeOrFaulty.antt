@@ -9,6 +9,7 @@ use Rattle.lexical_core.specs.declared.rule.Rule.{Rule}
 use Rattle.lexical_core.specs.declared.utf8.Utf8.{Utf8}
 use Rattle.lexical_core.specs.declared.utf8.Utf8.TheVariants.{More as MoreBytes, Char, Bad}
 use Rattle.markup.specs.Token.{Token}
+use Rattle.markup.specs.Marks.{tag_limit}
 use Rattle.markup.specs.Faults.{rule_of, is_over, IsClean, Fault, MarkFault, IsWhole, WholeOrFaulty}
 use Rattle.markup.specs.Drafts.{no_draft}
 use Rattle.markup.specs.Tokenizers.{Outcome, More, EndedToken, Refused, AdvancedBy, on_utf8, counted, settled, open_at, FinishesBy}
@@ -93,7 +94,7 @@ stepped begun byte = by (begins_so (begun ++ byte ∷ [])) where
 record HasRead (input : List ℕ) : Type 0 where
   z : Tokenizer
   tokens : List Token
-  reads : Reads Any z input tokens
+  reads : Reads tag_limit Any z input tokens
   clean : IsClean [] tokens
   place : z.place ≡ length input
 
@@ -101,12 +102,12 @@ none_read : HasRead []
 none_read = record {
   z = z;
   tokens = [];
-  reads = reads_none z (record { chars = []; part = []; bytes_are = refl; utf8_is = refl; front = none_front; scan_is = refl; position_is = refl; place_is = refl; short = λ b. absurd b; settled = λ _. refl });
+  reads = reads_none z (record { chars = []; part = []; bytes_are = refl; utf8_is = refl; front = none_front; scan_is = refl; position_is = refl; place_is = refl; limit_is = refl; limited = (omega arith, omega arith); short = λ b. absurd b; settled = λ _. refl });
   clean = tt;
   place = refl;
 } where
   z : Tokenizer
-  z = record { alloc = record { memory = record { seal = tt } }; utf8 = Some []; position = AtStart; scan = Begin AtStart; draft = no_draft; start = 0; place = 0 }
+  z = record { alloc = record { memory = record { seal = tt } }; limit = tag_limit; utf8 = Some []; position = AtStart; scan = Begin AtStart; draft = no_draft; start = 0; place = 0 }
 
 -- a fault is there, whatever follows
 abbrev IsFaulty : List ℕ → Type 0
@@ -119,14 +120,14 @@ module _ (input : List ℕ) (byte : ℕ) (h : HasRead input) where
   abbrev z1 : Tokenizer
   z1 = (settled h.z byte).1
 
-  ready : SettlesInput h.z z1 input h.tokens byte s
+  ready : SettlesInput tag_limit h.z z1 input h.tokens byte s
   ready = settles_input h.z z1 input h.tokens byte s (settles_by h.z z1 byte s refl refl) h.reads h.clean
 
   abbrev ts : List Token
   ts = settled_tokens s h.tokens
 
   -- what the byte makes of the open token
-  advanced : (progress : Outcome) (z2 : Tokenizer) → z2.place ≡ length (input ++ byte ∷ []) → AdvancesInput z1 z2 (input ++ byte ∷ []) ts progress → HasRead (input ++ byte ∷ []) ⊎ IsFaulty (input ++ byte ∷ [])
+  advanced : (progress : Outcome) (z2 : Tokenizer) → z2.place ≡ length (input ++ byte ∷ []) → AdvancesInput tag_limit z1 z2 (input ++ byte ∷ []) ts progress → HasRead (input ++ byte ∷ []) ⊎ IsFaulty (input ++ byte ∷ [])
   advanced More z2 p a = inl (record { z = z2; tokens = ts; reads = a.reads; clean = ready.clean; place = p })
   advanced (EndedToken e d) z2 p a = by (rule_of (reverse ts) a.token) refl where
     by : (o : Option Rule) → rule_of (reverse ts) a.token ≡ o → HasRead (input ++ byte ∷ []) ⊎ IsFaulty (input ++ byte ∷ [])

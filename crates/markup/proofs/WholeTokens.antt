@@ -4,7 +4,7 @@ use Rattle.std.specs.List.{flat_map}
 use Rattle.std.specs.Bool.{if◌then◌else◌}
 use Rattle.std.proofs.lemmas.Bool.{eqb-true, both_ways}
 use Rattle.markup.specs.Token.{Token, token_bytes}
-use Rattle.markup.specs.Marks.{Cell, Front, stands, is_short, tag_limit}
+use Rattle.markup.specs.Marks.{Cell, Front, stands, is_short}
 use Rattle.markup.specs.Events.{Placed, events, items_of}
 use Rattle.markup.specs.Faults.{rule_of}
 use Rattle.markup.specs.Scopes.{placed_at}
@@ -13,7 +13,7 @@ use Rattle.markup.specs.Drafts.{no_draft}
 use Rattle.markup.specs.ScanRuns.{At, position, ended_of}
 use Rattle.markup.specs.Tokenizers.{after_other, behind as behind_token, is_between, passed, IsOpen, open_at, FinishesBy}
 use Rattle.markup.specs.Inputs.{Any, Reads, with_pending}
-use Rattle.markup.specs.Reading.{HasTaken}
+use Rattle.markup.specs.Reading.{HasTakenUnder}
 use Rattle.markup.specs.declared.context.Context.{Context}
 use Rattle.markup.specs.declared.reader.Reader.{Reader}
 use Rattle.markup.specs.declared.scan.Position.{Position}
@@ -35,14 +35,14 @@ no_bytes [] place start e s = refl
 no_bytes (b ∷ bytes) place start e s = absurd (omega (arith, e, s))
 
 -- a token that stands there whatever follows, and breaks no rule
-pub record IsNext (before : List Token) (t : Token) : Type 0 where
+pub record IsNext (limit : ℕ) (before : List Token) (t : Token) : Type 0 where
   pub is : (after : List ℕ) → stands before t after ≡ true
-  pub short : is_short tag_limit t ≡ true
+  pub short : is_short limit t ≡ true
   pub clean : rule_of before t ≡ None
   pub stays : (p : Position) → behind_token p (ended_of t) ≡ after_other p
 
 -- where no token is open
-module _ (r : Reader) (bytes : List ℕ) (told : List Placed) (h : HasTaken r bytes told) (between : is_between r.tokenizer.scan ≡ true) (starts : (r.tokenizer.place == r.tokenizer.start) ≡ true) where
+module _ {limit : ℕ} (r : Reader) (bytes : List ℕ) (told : List Placed) (h : HasTakenUnder limit r bytes told) (between : is_between r.tokenizer.scan ≡ true) (starts : (r.tokenizer.place == r.tokenizer.start) ≡ true) where
   abbrev ts : List Token
   ts = h.0
 
@@ -64,7 +64,7 @@ module _ (r : Reader) (bytes : List ℕ) (told : List Placed) (h : HasTaken r by
     by (Begin p) b = ap (λ v. events [] 0 (with_pending (if v then Nothing else Open) ts)) starts
     by _ b = absurd (both_ways false refl b)
 
-  module _ (t : Token) (n : ℕ) (c : Context) (next : IsNext (reverse ts) t) (size : n ≡ length (token_bytes t)) (context : IsContext c (t ∷ reverse ts)) where
+  module _ (t : Token) (n : ℕ) (c : Context) (next : IsNext limit (reverse ts) t) (size : n ≡ length (token_bytes t)) (context : IsContext c (t ∷ reverse ts)) where
     abbrev after : Tokenizer
     after = passed z n
 
@@ -74,7 +74,7 @@ module _ (r : Reader) (bytes : List ℕ) (told : List Placed) (h : HasTaken r by
     position_is : z.position ≡ position (t ∷ reverse ts)
     position_is = sym fresh.position_stays ∙ (ap after_other h.1.reads.opens.position_is ∙ (sym (next.stays (position (reverse ts))) ∙ sym (position_behind (reverse ts) t [] (next.is []))))
 
-    opens : IsOpen after (t ∷ reverse ts) []
+    opens : IsOpen limit after (t ∷ reverse ts) []
     opens = record {
       chars = [];
       part = [];
@@ -84,18 +84,20 @@ module _ (r : Reader) (bytes : List ℕ) (told : List Placed) (h : HasTaken r by
       scan_is = ap (λ p. At (Begin p) no_draft) (sym position_is) ∙ (ap (λ s. At s no_draft) fresh.scan_here ∙ ap (λ d. At z.scan d) fresh.draft_none);
       position_is = position_is;
       place_is = sym (add-zero (z.place + n));
+      limit_is = h.1.reads.opens.limit_is;
+      limited = h.1.reads.opens.limited;
       short = λ b. absurd b;
       settled = λ _. refl;
     }
 
-    front : (more : List ℕ) → Front tag_limit [] ((bytes ++ token_bytes t) ++ more) (ts ++ t ∷ []) more
+    front : (more : List ℕ) → Front limit [] ((bytes ++ token_bytes t) ++ more) (ts ++ t ∷ []) more
     front more =
-        let old : Front tag_limit [] (bytes ++ (token_bytes t ++ more)) ts (token_bytes t ++ more) = subst (λ v. Front tag_limit [] (bytes ++ (token_bytes t ++ more)) ts (v ++ (token_bytes t ++ more))) none_open (h.1.reads.front (token_bytes t ++ more) tt) in
-        subst (λ v. Front tag_limit [] v (ts ++ t ∷ []) more) (sym (append_assoc bytes (token_bytes t) more))
-        (front_snoc tag_limit [] (bytes ++ (token_bytes t ++ more)) (token_bytes t ++ more) more ts t old (subst (λ b. Cell b t (token_bytes t ++ more) more) (behind ts) (record { spelled = refl; is = next.is more })) next.short)
+        let old : Front limit [] (bytes ++ (token_bytes t ++ more)) ts (token_bytes t ++ more) = subst (λ v. Front limit [] (bytes ++ (token_bytes t ++ more)) ts (v ++ (token_bytes t ++ more))) none_open (h.1.reads.front (token_bytes t ++ more) tt) in
+        subst (λ v. Front limit [] v (ts ++ t ∷ []) more) (sym (append_assoc bytes (token_bytes t) more))
+        (front_snoc limit [] (bytes ++ (token_bytes t ++ more)) (token_bytes t ++ more) more ts t old (subst (λ b. Cell b t (token_bytes t ++ more) more) (behind ts) (record { spelled = refl; is = next.is more })) next.short)
 
-    reads : Reads Any after (bytes ++ token_bytes t) (ts ++ t ∷ [])
-    reads = record { bytes = []; front = λ more _. front more; opens = subst (λ b. IsOpen after b []) (sym (reverse_snoc ts t)) opens }
+    reads : Reads limit Any after (bytes ++ token_bytes t) (ts ++ t ∷ [])
+    reads = record { bytes = []; front = λ more _. front more; opens = subst (λ b. IsOpen limit after b []) (sym (reverse_snoc ts t)) opens }
 
     told_now : (f : Finish) → FinishesBy after f → told ++ placed_at (length bytes) (items_of (reverse ts) t) ≡ events [] 0 (with_pending f (ts ++ t ∷ []))
     told_now f q =
@@ -104,7 +106,7 @@ module _ (r : Reader) (bytes : List ℕ) (told : List Placed) (h : HasTaken r by
         ∙ (sym (events_snoc ts t)
         ∙ ap (events [] 0) (sym (none_pending f (ts ++ t ∷ []) (not_return after (t ∷ reverse ts) [] f opens q no_return_none)))))
 
-    pub takes_next : HasTaken (record { tokenizer = after; context = c; failed = r.failed }) (bytes ++ token_bytes t) (told ++ placed_at (length bytes) (items_of (reverse ts) t))
+    pub takes_next : HasTakenUnder limit (record { tokenizer = after; context = c; failed = r.failed }) (bytes ++ token_bytes t) (told ++ placed_at (length bytes) (items_of (reverse ts) t))
     takes_next = (
       ts ++ t ∷ [],
       record {

@@ -10,7 +10,7 @@ use Rattle.markup.specs.declared.tag.Given.{Given}
 use Rattle.markup.specs.declared.tag.Opening.{Opening}
 use Rattle.markup.specs.Chars.{is_xml_char, is_space}
 use Rattle.markup.specs.Token.{Token, Mark, Declaration, Comment, Instruction, Opener, Closer, TypeDeclaration, Start, End, Refer, LineEnd, Character, token_text, token_bytes}
-use Rattle.markup.specs.Marks.{in_cdata, stands, Cell, Front, is_short, tag_limit, Marks}
+use Rattle.markup.specs.Marks.{in_cdata, stands, Cell, Front, is_short, tag_limit}
 use Rattle.markup.specs.Events.{spelled, opening, open_tags, xmlns, xml_namespace, xmlns_namespace, declared_prefix, same_prefix, element_name, attribute_name}
 use Rattle.lexical_core.specs.Tree.{Expanded}
 use Rattle.lexical_core.specs.Utf8.{IsFront, IsNoFront}
@@ -160,22 +160,30 @@ pub record Fault : Type 0 where
   pub rule : Rule
   pub place : ℕ
 
--- The fault is the first of the bytes: the longest list of tokens from the front in which nothing breaks a rule, and what is wrong behind them.
-pub record MarkFault (bytes : List ℕ) (fault : Fault) : Type 0 where
+-- The fault is the first of the bytes, where a tag has at most so many: the longest list of tokens from the front in which nothing breaks a rule, and what is wrong behind them.
+pub record MarkFaultUnder (limit : ℕ) (bytes : List ℕ) (fault : Fault) : Type 0 where
   pub tokens : List Token
   pub rest : List ℕ
   pub at : ℕ
-  pub front : Front tag_limit [] bytes tokens rest
+  pub front : Front limit [] bytes tokens rest
   pub clean : IsClean [] tokens
-  pub next : Next tag_limit (reverse tokens) rest fault.rule at
+  pub next : Next limit (reverse tokens) rest fault.rule at
   pub place : fault.place ≡ length (flat_map token_bytes tokens) + at
 
--- The bytes are a list of tokens in which nothing breaks a rule, up to the root's end.
-pub record IsWhole (bytes : List ℕ) : Type 0 where
+-- in XML
+abbrev pub MarkFault : List ℕ → Fault → Type 0
+MarkFault bytes fault = MarkFaultUnder tag_limit bytes fault
+
+-- The bytes are a list of tokens, in which tags have at most so many bytes and nothing breaks a rule, up to the root's end.
+pub record IsWholeUnder (limit : ℕ) (bytes : List ℕ) : Type 0 where
   pub tokens : List Token
-  pub marks : Marks bytes tokens
+  pub marks : Front limit [] bytes tokens []
   pub clean : IsClean [] tokens
   pub over : is_over (reverse tokens) ≡ true
+
+-- in XML
+abbrev pub IsWhole : List ℕ → Type 0
+IsWhole bytes = IsWholeUnder tag_limit bytes
 
 -- A text has at most one first fault.
 abbrev pub OneFault : Type 0

@@ -3,8 +3,8 @@ use Rattle.std.specs.Prelude.{◌≡◌, ℕ, ◌+◌, Bool, true, false, List, 
 use Rattle.std.specs.List.{flat_map}
 use Rattle.lexical_core.specs.declared.rule.Rule.{Rule}
 use Rattle.markup.specs.Token.{Token, LineEnd, Character, Cr, token_bytes}
-use Rattle.markup.specs.Marks.{Front, tag_limit}
-use Rattle.markup.specs.Faults.{rule_of, IsClean, MarkFault}
+use Rattle.markup.specs.Marks.{Front}
+use Rattle.markup.specs.Faults.{rule_of, IsClean, MarkFaultUnder}
 use Rattle.lexical_core.specs.Tree.{Char}
 use Rattle.markup.specs.Events.{Placed, open_tags, events}
 use Rattle.markup.specs.Scopes.{placed_at}
@@ -19,11 +19,11 @@ use Rattle.markup.specs.declared.tokenizer.Finish.{Finish}
 use Rattle.markup.specs.declared.tokenizer.Finish.TheVariants.{Return, Open}
 use Rattle.markup.specs.declared.tokenizer.Tokenizer.{Tokenizer}
 
--- The reader has read these tokens of the input, and the rest of it is open; whatever may follow that the fact allows.
-pub record Reads (Follows : List ℕ → Type 0) (z : Tokenizer) (input : List ℕ) (ts : List Token) : Type 0 where
+-- The reader has read these tokens of the input, in which tags have at most so many bytes, and the rest of it is open; whatever may follow that the fact allows.
+pub record Reads (limit : ℕ) (Follows : List ℕ → Type 0) (z : Tokenizer) (input : List ℕ) (ts : List Token) : Type 0 where
   pub bytes : List ℕ
-  pub front : (more : List ℕ) → Follows more → Front tag_limit [] (input ++ more) ts (bytes ++ more)
-  pub opens : IsOpen z (reverse ts) bytes
+  pub front : (more : List ℕ) → Follows more → Front limit [] (input ++ more) ts (bytes ++ more)
+  pub opens : IsOpen limit z (reverse ts) bytes
 
 -- what follows begins with the byte
 abbrev pub Begins : ℕ → List ℕ → Type 0
@@ -66,33 +66,33 @@ abbrev pub Adds : Tokenizer → Tokenizer → List Token → List Token → (Fin
 Adds old new before after added = (f g : Finish) → FinishesBy old f → FinishesBy new g → events [] 0 (with_pending g after) ≡ events [] 0 (with_pending f before) ++ added f g
 
 -- What the byte does not go on with are further tokens that break no rule, and what is left of the input goes on with it.
-pub record SettlesInput (old new : Tokenizer) (input : List ℕ) (ts : List Token) (byte : ℕ) (result : Settled) : Type 0 where
-  pub reads : Reads (Begins byte) new input (settled_tokens result ts)
+pub record SettlesInput (limit : ℕ) (old new : Tokenizer) (input : List ℕ) (ts : List Token) (byte : ℕ) (result : Settled) : Type 0 where
+  pub reads : Reads limit (Begins byte) new input (settled_tokens result ts)
   pub clean : IsClean [] (settled_tokens result ts)
   pub awaited : IsAwaited new.scan byte
   pub adds : Adds old new ts (settled_tokens result ts) (λ f g. settled_events (length (flat_map token_bytes ts)) result)
 
 -- Whatever follows the input, this rule is the first that is broken, behind these tokens.
-abbrev pub Shows : List ℕ → List Token → Rule → Type 0
-Shows input ts rule = (more : List ℕ) → MarkFault (input ++ more) (record { rule = rule; place = length (flat_map token_bytes ts) })
+abbrev pub Shows : ℕ → List ℕ → List Token → Rule → Type 0
+Shows limit input ts rule = (more : List ℕ) → MarkFaultUnder limit (input ++ more) (record { rule = rule; place = length (flat_map token_bytes ts) })
 
 -- no more tokens of the input; where a CR has come it is told as a line end
-pub record ReadsMore (old new : Tokenizer) (input : List ℕ) (ts : List Token) : Type 0 where
-  pub reads : Reads Any new input ts
+pub record ReadsMore (limit : ℕ) (old new : Tokenizer) (input : List ℕ) (ts : List Token) : Type 0 where
+  pub reads : Reads limit Any new input ts
   pub adds : Adds old new ts ts (λ f g. if is_return g then placed_at (length (flat_map token_bytes ts)) (Char 10 ∷ []) else [])
 
 -- one more token of the input, of which the scan says this: it breaks a rule or none, and its events are told but for a CR LF whose CR was told
-pub record ReadsToken (old new : Tokenizer) (input : List ℕ) (ts : List Token) (e : Ended) (d : Draft) : Type 0 where
+pub record ReadsToken (limit : ℕ) (old new : Tokenizer) (input : List ℕ) (ts : List Token) (e : Ended) (d : Draft) : Type 0 where
   pub token : Token
   pub ended_is : ended_of token ≡ e
   pub draft_is : draft_of token ≡ d
-  pub reads : Reads Any new input (ts ++ token ∷ [])
+  pub reads : Reads limit Any new input (ts ++ token ∷ [])
   pub clean : rule_of (reverse ts) token ≡ None → IsClean [] (ts ++ token ∷ [])
-  pub broken : (rule : Rule) → rule_of (reverse ts) token ≡ Some rule → Shows input ts rule
+  pub broken : (rule : Rule) → rule_of (reverse ts) token ≡ Some rule → Shows limit input ts rule
   pub adds : Adds old new ts (ts ++ token ∷ []) (λ f g. if is_return f then [] else placed_at (length (flat_map token_bytes ts)) (items_by (open_tags (reverse ts)) e d))
 
 -- what the last byte of the input has made of these tokens
-abbrev pub AdvancesInput : Tokenizer → Tokenizer → List ℕ → List Token → Outcome → Type 0
-AdvancesInput old new input ts More = ReadsMore old new input ts
-AdvancesInput old new input ts (EndedToken e d) = ReadsToken old new input ts e d
-AdvancesInput old new input ts (Refused rule) = Shows input ts rule
+abbrev pub AdvancesInput : ℕ → Tokenizer → Tokenizer → List ℕ → List Token → Outcome → Type 0
+AdvancesInput limit old new input ts More = ReadsMore limit old new input ts
+AdvancesInput limit old new input ts (EndedToken e d) = ReadsToken limit old new input ts e d
+AdvancesInput limit old new input ts (Refused rule) = Shows limit input ts rule

@@ -1,6 +1,5 @@
 -- Bytes that go on with an open token and end none. Private functions alone cite this.
 use Rattle.std.specs.Prelude.{◌≡◌, ℕ, Bool, ◌+◌, ◌-◌, ◌<◌, ◌==◌, ◌&&◌, ◌||◌, nat_le, not, true, false, List, [], ◌++◌, length, Some, encode_utf8_all}
-use Rattle.markup.specs.Marks.{tag_limit}
 use Rattle.markup.specs.Drafts.{add_value}
 use Rattle.markup.specs.ScanRuns.{run, At}
 use Rattle.markup.specs.Tokenizers.{is_tag, scanned}
@@ -56,7 +55,7 @@ may_be_tag s = is_tag s
 
 -- so many bytes are counted
 abbrev pub moved : Tokenizer → ℕ → Tokenizer
-moved z n = record { alloc = z.alloc; utf8 = z.utf8; position = z.position; scan = z.scan; draft = z.draft; start = z.start; place = z.place + n }
+moved z n = record { alloc = z.alloc; limit = z.limit; utf8 = z.utf8; position = z.position; scan = z.scan; draft = z.draft; start = z.start; place = z.place + n }
 
 -- Bytes go on with the open token, and end none; a tag stays shorter than its limit.
 pub record GoesInside (old new : Tokenizer) (bytes : List ℕ) : Type 0 where
@@ -65,4 +64,4 @@ pub record GoesInside (old new : Tokenizer) (bytes : List ℕ) : Type 0 where
   pub between : Tokenizer
   pub over : GoesOver old between bytes
   pub after : new ≡ moved between (length bytes)
-  pub short : may_be_tag old.scan ≡ true → (old.place - old.start) + length bytes < tag_limit
+  pub short : may_be_tag old.scan ≡ true → (old.place - old.start) + length bytes < old.limit

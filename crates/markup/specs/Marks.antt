@@ -1,5 +1,5 @@
 -- Which token may stand where, and the list of tokens that a byte list is.
-use Rattle.std.specs.Prelude.{◌≡◌, ◌⊎◌, ℕ, Bool, ◌==◌, ◌||◌, ◌&&◌, nat_le, not, true, false, List, [], ◌∷◌, ◌++◌, length, if◌then◌else◌}
+use Rattle.std.specs.Prelude.{◌≡◌, ◌⊎◌, ◌≤◌, ◌^◌, ℕ, Bool, ◌==◌, ◌||◌, ◌&&◌, nat_le, not, true, false, List, [], ◌∷◌, ◌++◌, length, if◌then◌else◌}
 use Rattle.std.specs.List.{list_all}
 use Rattle.markup.specs.Chars.{is_xml_char, is_space}
 use Rattle.markup.specs.Name.{is_name}
@@ -83,9 +83,17 @@ abbrev pub Front : ℕ → List Token → List ℕ → List Token → List ℕ �
 Front limit before bytes [] rest = bytes ≡ rest
 Front limit before bytes (t ∷ ts) rest = (after : List ℕ) × Cell before t bytes after × (is_short limit t ≡ true) × Front limit (t ∷ before) after ts rest
 
--- the greatest length of a tag in bytes
+-- the greatest length in bytes of a tag of XML
 abbrev pub tag_limit : ℕ
 tag_limit = 1048576
+
+-- as many bytes as a reader takes of an input at most: with this limit a tag may have any length
+abbrev pub no_limit : ℕ
+no_limit = 2 ^ 40
+
+-- a limit that a reader may have
+abbrev pub IsLimit : ℕ → Type 0
+IsLimit limit = (tag_limit ≤ limit) × (limit ≤ no_limit)
 
 -- The bytes are these tokens.
 abbrev pub Marks : List ℕ → List Token → Type 0

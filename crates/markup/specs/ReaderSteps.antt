@@ -18,15 +18,15 @@ use Rattle.markup.specs.declared.event.Event.{Event}
 use Rattle.markup.specs.declared.reader.Reader.{Reader}
 
 -- The events of more tokens of the input are told; whatever may follow that the fact allows.
-pub record TellsMore (Follows : List ℕ → Type 0) (reader : Reader) (input : List ℕ) (told : List Placed) (old new : List Event) : Type 0 where
+pub record TellsMore (limit : ℕ) (Follows : List ℕ → Type 0) (reader : Reader) (input : List ℕ) (told : List Placed) (old new : List Event) : Type 0 where
   pub tokens : List Token
   pub more : List Placed
   pub tells : Tells old new more
-  pub keeps : Keeps Follows reader input tokens (told ++ more)
+  pub keeps : Keeps limit Follows reader input tokens (told ++ more)
 
 -- What the byte does not go on with is told, and what is left goes on with it.
-pub record SettlesEvents (reader : Reader) (input : List ℕ) (told : List Placed) (byte : ℕ) (old new : List Event) : Type 0 where
-  pub tells : TellsMore (Begins byte) reader input told old new
+pub record SettlesEvents (limit : ℕ) (reader : Reader) (input : List ℕ) (told : List Placed) (byte : ℕ) (old new : List Event) : Type 0 where
+  pub tells : TellsMore limit (Begins byte) reader input told old new
   pub awaited : IsAwaited reader.tokenizer.scan byte
 
 -- the event of a CR that has come

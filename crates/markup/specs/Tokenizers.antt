@@ -7,7 +7,7 @@ use Rattle.lexical_core.specs.declared.rule.Rule.{Rule}
 use Rattle.lexical_core.specs.declared.rule.Rule.TheVariants.{BadUtf8, BadMarkup, BadReference, BadChar, Truncated}
 use Rattle.markup.specs.Chars.{is_xml_char}
 use Rattle.markup.specs.Token.{Token, LineEnd, Character, Cr, token_bytes}
-use Rattle.markup.specs.Marks.{stands, is_short, tag_limit}
+use Rattle.markup.specs.Marks.{stands, is_short, IsLimit}
 use Rattle.markup.specs.Faults.{IsTagBegun, Next}
 use Rattle.markup.specs.Drafts.{no_draft, noted}
 use Rattle.markup.specs.Scans.{step}
@@ -76,11 +76,11 @@ stuck_rule s c = if not (is_xml_char c) then BadChar else (if is_reference s the
 
 -- A tag that has not ended has fewer bytes than the limit.
 abbrev pub bounded : Tokenizer → Outcome
-bounded z = if is_tag z.scan && nat_le tag_limit (z.place - z.start) then Refused BadMarkup else More
+bounded z = if is_tag z.scan && nat_le z.limit (z.place - z.start) then Refused BadMarkup else More
 
 -- what a tag has said is handed out
 abbrev pub undrafted : Tokenizer → Tokenizer
-undrafted z = record { alloc = z.alloc; utf8 = z.utf8; position = z.position; scan = z.scan; draft = no_draft; start = z.start; place = z.place }
+undrafted z = record { alloc = z.alloc; limit = z.limit; utf8 = z.utf8; position = z.position; scan = z.scan; draft = no_draft; start = z.start; place = z.place }
 
 -- where it has ended
 abbrev pub handed_out : Ended → Tokenizer → Tokenizer
@@ -94,10 +94,10 @@ outcome (Refuses rule) z = (Refused rule, z)
 
 -- a token has ended
 abbrev pub ended : Tokenizer → Ended → Outcome × Tokenizer
-ended z e = (EndedToken e z.draft, record { alloc = z.alloc; utf8 = z.utf8; position = behind z.position e; scan = Begin (behind z.position e); draft = no_draft; start = z.place; place = z.place })
+ended z e = (EndedToken e z.draft, record { alloc = z.alloc; limit = z.limit; utf8 = z.utf8; position = behind z.position e; scan = Begin (behind z.position e); draft = no_draft; start = z.place; place = z.place })
 
 abbrev pub scanned : Tokenizer → Scan → Draft → Tokenizer
-scanned z s d = record { alloc = z.alloc; utf8 = z.utf8; position = z.position; scan = s; draft = d; start = z.start; place = z.place }
+scanned z s d = record { alloc = z.alloc; limit = z.limit; utf8 = z.utf8; position = z.position; scan = s; draft = d; start = z.start; place = z.place }
 
 abbrev pub on_turn : Tokenizer → ℕ → Turn → Outcome × Tokenizer
 on_turn z c (Goes s) = (bounded (scanned z s (noted z.scan s c z.draft)), scanned z s (noted z.scan s c z.draft))
@@ -109,7 +109,7 @@ abbrev pub charactered : Tokenizer → ℕ → Outcome × Tokenizer
 charactered z c = on_turn z c (step z.scan c)
 
 abbrev pub counted : Tokenizer → Option (List ℕ) → Tokenizer
-counted z u = record { alloc = z.alloc; utf8 = u; position = z.position; scan = z.scan; draft = z.draft; start = z.start; place = z.place + 1 }
+counted z u = record { alloc = z.alloc; limit = z.limit; utf8 = u; position = z.position; scan = z.scan; draft = z.draft; start = z.start; place = z.place + 1 }
 
 abbrev pub on_utf8 : Tokenizer → Utf8 → Outcome × Tokenizer
 on_utf8 z MoreBytes = (bounded z, z)
@@ -138,8 +138,8 @@ IsAwaited Bracket byte = byte ≡ 93
 IsAwaited Brackets byte = byte ≡ 62
 IsAwaited _ byte = Unit {0}
 
--- the open token behind these tokens has these bytes so far
-pub record IsOpen (z : Tokenizer) (before : List Token) (bytes : List ℕ) : Type 0 where
+-- the open token behind these tokens has these bytes so far, where a tag has at most so many
+pub record IsOpen (limit : ℕ) (z : Tokenizer) (before : List Token) (bytes : List ℕ) : Type 0 where
   pub chars : List ℕ
   pub part : List ℕ
   pub bytes_are : bytes ≡ encode_utf8_all chars ++ part
@@ -148,28 +148,30 @@ pub record IsOpen (z : Tokenizer) (before : List Token) (bytes : List ℕ) : Typ
   pub scan_is : run (Begin (position before)) no_draft chars ≡ At z.scan z.draft
   pub position_is : z.position ≡ position before
   pub place_is : z.place ≡ z.start + length bytes
-  pub short : IsTagBegun chars → length bytes < tag_limit
+  pub limit_is : z.limit ≡ limit
+  pub limited : IsLimit limit
+  pub short : IsTagBegun chars → length bytes < limit
   pub settled : is_pending z.scan ≡ true → part ≡ []
 
 -- a token that has ended with these bytes, and the next one that is open behind it
-pub record EndsToken (new : Tokenizer) (before : List Token) (bytes : List ℕ) (e : Ended) (d : Draft) : Type 0 where
+pub record EndsToken (limit : ℕ) (new : Tokenizer) (before : List Token) (bytes : List ℕ) (e : Ended) (d : Draft) : Type 0 where
   pub token : Token
   pub is : (after : List ℕ) → stands before token after ≡ true
   pub bytes_are : token_bytes token ≡ bytes
-  pub short : is_short tag_limit token ≡ true
+  pub short : is_short limit token ≡ true
   pub ended_is : ended_of token ≡ e
   pub draft_is : draft_of token ≡ d
-  pub next : IsOpen new (token ∷ before) []
+  pub next : IsOpen limit new (token ∷ before) []
 
 -- what the byte that ends these bytes has made of the open token
-abbrev pub Advances : Tokenizer → List Token → List ℕ → Outcome → Type 0
-Advances new before bytes More = IsOpen new before bytes
-Advances new before bytes (EndedToken e d) = EndsToken new before bytes e d
-Advances new before bytes (Refused rule) = (more : List ℕ) → Next tag_limit before (bytes ++ more) rule 0
+abbrev pub Advances : ℕ → Tokenizer → List Token → List ℕ → Outcome → Type 0
+Advances limit new before bytes More = IsOpen limit new before bytes
+Advances limit new before bytes (EndedToken e d) = EndsToken limit new before bytes e d
+Advances limit new before bytes (Refused rule) = (more : List ℕ) → Next limit before (bytes ++ more) rule 0
 
 -- A byte gives the next token where it ends it, and the next fault where it shows it, behind any tokens.
 abbrev pub AdvancesBy : Tokenizer → Tokenizer → ℕ → Outcome → Type 0
-AdvancesBy old new byte progress = (before : List Token) (bytes : List ℕ) → IsOpen old before bytes → IsAwaited old.scan byte → Advances new before (bytes ++ byte ∷ []) progress
+AdvancesBy old new byte progress = (limit : ℕ) (before : List Token) (bytes : List ℕ) → IsOpen limit old before bytes → IsAwaited old.scan byte → Advances limit new before (bytes ++ byte ∷ []) progress
 
 -- a byte that is a character by itself, in text or in a CDATA section (XML 1.0 §2.4, §2.7)
 abbrev pub is_plain : Bool → ℕ → Bool
@@ -200,7 +202,7 @@ is_in_text z = is_text z.scan && z.place == z.start
 
 -- so many bytes come, which are whole tokens
 abbrev pub passed : Tokenizer → ℕ → Tokenizer
-passed z n = record { alloc = z.alloc; utf8 = z.utf8; position = z.position; scan = z.scan; draft = z.draft; start = z.place + n; place = z.place + n }
+passed z n = record { alloc = z.alloc; limit = z.limit; utf8 = z.utf8; position = z.position; scan = z.scan; draft = z.draft; start = z.place + n; place = z.place + n }
 
 -- The byte makes this of the open token: it settles nothing, and leaves nothing for the next byte to settle.
 pub record TakesAlone (old new : Tokenizer) (byte : ℕ) (progress : Outcome) : Type 0 where
@@ -215,11 +217,11 @@ TakesPlain old new byte = TakesAlone old new byte (EndedToken (CharacterEnded by
 
 -- the next token begins
 abbrev pub restarted : Tokenizer → Tokenizer
-restarted z = record { alloc = z.alloc; utf8 = z.utf8; position = after_other z.position; scan = Begin (after_other z.position); draft = z.draft; start = z.place; place = z.place }
+restarted z = record { alloc = z.alloc; limit = z.limit; utf8 = z.utf8; position = after_other z.position; scan = Begin (after_other z.position); draft = z.draft; start = z.place; place = z.place }
 
 -- the first of two brackets has ended
 abbrev pub second_bracket : Tokenizer → Tokenizer
-second_bracket z = record { alloc = z.alloc; utf8 = z.utf8; position = z.position; scan = Bracket; draft = z.draft; start = z.place - 1; place = z.place }
+second_bracket z = record { alloc = z.alloc; limit = z.limit; utf8 = z.utf8; position = z.position; scan = Bracket; draft = z.draft; start = z.place - 1; place = z.place }
 
 -- what ends since it does not go on with the byte
 abbrev pub settled_at : Scan → Tokenizer → ℕ → Settled × Tokenizer
@@ -232,28 +234,28 @@ abbrev pub settled : Tokenizer → ℕ → Settled × Tokenizer
 settled z byte = settled_at z.scan z byte
 
 -- a token that stands before the byte, and those that are open behind it
-pub record SettlesOne (new : Tokenizer) (before : List Token) (bytes : List ℕ) (byte : ℕ) (t : Token) : Type 0 where
+pub record SettlesOne (limit : ℕ) (new : Tokenizer) (before : List Token) (bytes : List ℕ) (byte : ℕ) (t : Token) : Type 0 where
   pub rest : List ℕ
   pub bytes_are : bytes ≡ token_bytes t ++ rest
   pub is : (more : List ℕ) → stands before t (rest ++ byte ∷ more) ≡ true
-  pub next : IsOpen new (t ∷ before) rest
+  pub next : IsOpen limit new (t ∷ before) rest
 
 -- two brackets that stand before the byte
-pub record SettlesTwo (new : Tokenizer) (before : List Token) (bytes : List ℕ) (byte : ℕ) : Type 0 where
+pub record SettlesTwo (limit : ℕ) (new : Tokenizer) (before : List Token) (bytes : List ℕ) (byte : ℕ) : Type 0 where
   pub bytes_are : bytes ≡ 93 ∷ 93 ∷ []
   pub first : (more : List ℕ) → stands before (Character 93) (93 ∷ byte ∷ more) ≡ true
   pub second : (more : List ℕ) → stands (Character 93 ∷ before) (Character 93) (byte ∷ more) ≡ true
-  pub next : IsOpen new (Character 93 ∷ Character 93 ∷ before) []
+  pub next : IsOpen limit new (Character 93 ∷ Character 93 ∷ before) []
 
-abbrev pub Settles : Tokenizer → Tokenizer → List Token → List ℕ → ℕ → Settled → Type 0
-Settles old new before bytes byte Nothing = new ≡ old
-Settles old new before bytes byte Return = SettlesOne new before bytes byte (LineEnd Cr)
-Settles old new before bytes byte OneBracket = SettlesOne new before bytes byte (Character 93)
-Settles old new before bytes byte TwoBrackets = SettlesTwo new before bytes byte
+abbrev pub Settles : ℕ → Tokenizer → Tokenizer → List Token → List ℕ → ℕ → Settled → Type 0
+Settles limit old new before bytes byte Nothing = new ≡ old
+Settles limit old new before bytes byte Return = SettlesOne limit new before bytes byte (LineEnd Cr)
+Settles limit old new before bytes byte OneBracket = SettlesOne limit new before bytes byte (Character 93)
+Settles limit old new before bytes byte TwoBrackets = SettlesTwo limit new before bytes byte
 
 -- What the byte does not go on with are tokens that stand before it, and what is left goes on with it.
 abbrev pub SettlesBy : Tokenizer → Tokenizer → ℕ → Settled → Type 0
-SettlesBy old new byte result = (before : List Token) (bytes : List ℕ) → IsOpen old before bytes → Settles old new before bytes byte result × IsAwaited new.scan byte
+SettlesBy old new byte result = (limit : ℕ) (before : List Token) (bytes : List ℕ) → IsOpen limit old before bytes → Settles limit old new before bytes byte result × IsAwaited new.scan byte
 
 -- what is open where the input ends
 abbrev pub open_at : Scan → Tokenizer → Finish
@@ -261,11 +263,11 @@ open_at AfterReturn z = ReturnOpen
 open_at s z = if z.place == z.start then NothingOpen else Open
 
 -- and what it is to the input
-abbrev pub Finishes : List Token → List ℕ → Finish → Type 0
-Finishes before bytes NothingOpen = bytes ≡ []
-Finishes before bytes ReturnOpen = (bytes ≡ token_bytes (LineEnd Cr)) × (stands before (LineEnd Cr) [] ≡ true)
-Finishes before bytes Open = Next tag_limit before bytes Truncated (length bytes)
+abbrev pub Finishes : ℕ → List Token → List ℕ → Finish → Type 0
+Finishes limit before bytes NothingOpen = bytes ≡ []
+Finishes limit before bytes ReturnOpen = (bytes ≡ token_bytes (LineEnd Cr)) × (stands before (LineEnd Cr) [] ≡ true)
+Finishes limit before bytes Open = Next limit before bytes Truncated (length bytes)
 
 -- At the end of the input nothing is open, or a CR ends, or the input is cut short there.
 abbrev pub FinishesBy : Tokenizer → Finish → Type 0
-FinishesBy z result = (before : List Token) (bytes : List ℕ) → IsOpen z before bytes → Finishes before bytes result
+FinishesBy z result = (limit : ℕ) (before : List Token) (bytes : List ℕ) → IsOpen limit z before bytes → Finishes limit before bytes result

@@ -12,8 +12,9 @@
 //! end of `a` at 18. A `Namespace` is shared by all that stands in it: a copy takes no memory of its own. `laws` says that
 //! every input is whole or has one first fault, and not both.
 //!
-//! Limits: a tag has at most 1,048,576 bytes, an input 2^40. A reader keeps the open token, and the names and declarations
-//! of the open elements.
+//! Limits: a tag has at most 1,048,576 bytes, an input 2^40. A `Reader` made by `without_limit` takes tags of any length: it
+//! is for bytes that are part of something other than a document in XML, and its clauses are stated for every limit. A
+//! reader keeps the open token, and the names and declarations of the open elements.
 #![tactic(auto)]
 
 mod attributes;

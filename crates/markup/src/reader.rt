@@ -4,8 +4,8 @@ ghost use Rattle.std.specs.List.{prefix_len, list_all};
 ghost use Rattle.markup.specs.Chars.{is_space};
 ghost use Rattle.lexical_core.specs.declared.rule.Rule.TheVariants.{Truncated};
 ghost use Rattle.markup.specs.Token.{Token};
-ghost use Rattle.markup.specs.Marks.{in_cdata, tag_limit};
-ghost use Rattle.markup.specs.Faults.{MarkFault as HasMarkFault};
+ghost use Rattle.markup.specs.Marks.{in_cdata, no_limit, IsLimit};
+ghost use Rattle.markup.specs.Faults.{MarkFaultUnder as HasMarkFault};
 ghost use Rattle.markup.specs.ScanRuns.{ended_of, draft_of};
 ghost use Rattle.markup.specs.Contexts.{IsContext};
 ghost use Rattle.markup.specs.TokenRules.{ends_tag};
@@ -19,7 +19,7 @@ ghost use Rattle.markup.specs.declared.plain_tag.TagKind.{TagKind};
 ghost use Rattle.markup.specs.PlainTags.{tag_text, tag_items, name_behind, IsTagAt, IsTagInside};
 ghost use Rattle.markup.specs.Scopes.{IsScope, placed_at};
 ghost use Rattle.markup.specs.Tokenizers.{is_in_text};
-ghost use Rattle.markup.specs.Reading.{taken, failed, token, token_length, HasTaken, HasTold, IsInside, MayTakeTag, Keeps, GoesOn, Stops, IsWholly, EndsEarly, RunsOut};
+ghost use Rattle.markup.specs.Reading.{taken, failed, token, token_length, HasTaken, HasTakenUnder, HasToldUnder, IsInsideUnder, MayTakeTagUnder, Keeps, GoesOnUnder, StopsUnder, IsWhollyUnder, EndsEarlyUnder, RunsOutUnder};
 ghost use Rattle.markup.specs.Inputs.{Any, Begins, is_return};
 
 use crate::context::Context;
@@ -28,7 +28,7 @@ use crate::literals::{Run, literal_run};
 use crate::plain_tag::{PlainTag, TagKind};
 use crate::scan::Ended;
 use crate::scope::Stop;
-use crate::tokenizer::{Finish, Progress, Settled, Tokenizer};
+use crate::tokenizer::{Finish, NO_LIMIT, Progress, Settled, TAG_LIMIT, Tokenizer};
 use lexical_core::Rule;
 use std::alloc::{AllocError, Global};
 
@@ -59,13 +59,31 @@ pub struct Reader {
 }
 
 impl Reader {
-    /// A reader before the first byte. It takes no memory.
+    /// A reader before the first byte, of tags of at most 1,048,576 bytes. It takes no memory.
     pub fn new(alloc: Global) -> Reader
         ensures taken { HasTaken result [] [] }
         ensures none { taken result ≡ 0 }
     {
+        Reader::under(alloc, TAG_LIMIT)
+    }
+
+    /// A reader before the first byte, of tags of any length: of bytes that are part of something other
+    /// than a document in XML. It takes no memory.
+    pub fn without_limit(alloc: Global) -> Reader
+        ensures taken { HasTakenUnder no_limit result [] [] }
+        ensures none { taken result ≡ 0 }
+    {
+        Reader::under(alloc, NO_LIMIT)
+    }
+
+    /// A reader before the first byte, of tags of at most so many bytes.
+    fn under(alloc: Global, limit: u64) -> Reader
+        requires { IsLimit limit }
+        ensures taken { HasTakenUnder limit result [] [] }
+        ensures none { taken result ≡ 0 }
+    {
         Reader {
-            tokenizer: Tokenizer::new(alloc),
+            tokenizer: Tokenizer::new(alloc, limit),
             context: Context::new(alloc),
             failed: None,
         }
@@ -77,10 +95,10 @@ impl Reader {
     /// gives the same answer to every later call.
     pub fn take(&mut self, byte: u8, out: &mut Events) -> Result<(), MarkError>
         requires { failed self.old ≡ None → taken self.old < 2 ^ 40 }
-        ensures ok { (bytes : List ℕ) (told : List Placed) → HasTaken self.old bytes told →
-            IfOk result (λ _. GoesOn self.new (bytes ++ byte ∷ []) told out.old out.new) }
-        ensures err { (bytes : List ℕ) (told : List Placed) → HasTaken self.old bytes told →
-            IfErr result (λ e. Stops (bytes ++ byte ∷ []) told out.old out.new e) }
+        ensures ok { (limit : ℕ) (bytes : List ℕ) (told : List Placed) → HasTakenUnder limit self.old bytes told →
+            IfOk result (λ _. GoesOnUnder limit self.new (bytes ++ byte ∷ []) told out.old out.new) }
+        ensures err { (limit : ℕ) (bytes : List ℕ) (told : List Placed) → HasTakenUnder limit self.old bytes told →
+            IfErr result (λ e. StopsUnder limit (bytes ++ byte ∷ []) told out.old out.new e) }
         ensures failed { IfErr result (λ e. failed self.new ≡ Some e) }
         ensures again { (e : MarkError) → failed self.old ≡ Some e → (result ≡ Err e) × (self.new ≡ self.old) × (out.new ≡ out.old) }
         ensures count { IfOk result (λ _. taken self.new ≡ taken self.old + 1) }
@@ -105,9 +123,9 @@ impl Reader {
         ensures within { result.bytes ≤ length piece.now }
         ensures only { IsRun (take result.bytes piece.now) result.characters }
         ensures blank { result.blank ≡ list_all is_space (take result.bytes piece.now) }
-        ensures taken { (bytes : List ℕ) (told : List Placed) → HasTaken self.old bytes told →
-            (run : IsRun (take result.bytes piece.now) result.characters) × HasTold self.new (bytes ++ take result.bytes piece.now) (told ++ characters_from (length bytes) run.characters) }
-        ensures all { (bytes : List ℕ) (told : List Placed) → IsInside self.old bytes told → prefix_len is_literal piece.now ≤ result.bytes }
+        ensures taken { (limit : ℕ) (bytes : List ℕ) (told : List Placed) → HasTakenUnder limit self.old bytes told →
+            (run : IsRun (take result.bytes piece.now) result.characters) × HasToldUnder limit self.new (bytes ++ take result.bytes piece.now) (told ++ characters_from (length bytes) run.characters) }
+        ensures all { (limit : ℕ) (bytes : List ℕ) (told : List Placed) → IsInsideUnder limit self.old bytes told → prefix_len is_literal piece.now ≤ result.bytes }
         ensures count { taken self.new ≡ taken self.old + result.bytes }
         ensures failed { failed self.new ≡ failed self.old }
         ensures again { (e : MarkError) → failed self.old ≡ Some e → (result.bytes ≡ 0) × (result.characters ≡ 0) × (self.new ≡ self.old) }
@@ -130,9 +148,9 @@ impl Reader {
         ensures none { IfOk result (λ o. o ≡ None → self.new ≡ self.old) }
         ensures within { IfOk result (λ o. IfSome o (λ tag. (0 < tag.bytes) × (tag.bytes ≤ length piece.now))) }
         ensures spelled { IfOk result (λ o. IfSome o (λ tag. take tag.bytes piece.now ≡ tag_text tag.kind tag.name.now)) }
-        ensures taken { (bytes : List ℕ) (told : List Placed) → HasTaken self.old bytes told → IfOk result (λ o. IfSome o (λ tag.
-            HasTold self.new (bytes ++ take tag.bytes piece.now) (told ++ placed_at (length bytes) (tag_items tag.kind (name_behind told tag.name.now))))) }
-        ensures all { (bytes : List ℕ) (told : List Placed) (kind : TagKind) (name rest : List ℕ) → MayTakeTag self.old bytes told kind name → piece.now ≡ tag_text kind name ++ rest → IfOk result (λ o. IsSome o) }
+        ensures taken { (limit : ℕ) (bytes : List ℕ) (told : List Placed) → HasTakenUnder limit self.old bytes told → IfOk result (λ o. IfSome o (λ tag.
+            HasToldUnder limit self.new (bytes ++ take tag.bytes piece.now) (told ++ placed_at (length bytes) (tag_items tag.kind (name_behind told tag.name.now))))) }
+        ensures all { (limit : ℕ) (bytes : List ℕ) (told : List Placed) (kind : TagKind) (name rest : List ℕ) → MayTakeTagUnder limit self.old bytes told kind name → piece.now ≡ tag_text kind name ++ rest → IfOk result (λ o. IsSome o) }
         ensures count { IfOk result (λ o. IfSome o (λ tag. taken self.new ≡ taken self.old + tag.bytes)) }
         ensures failed { IfErr result (λ e. failed self.new ≡ Some e) }
         ensures memory { failed self.old ≡ None → IfErr result (λ e. e ≡ MarkError.Memory) }
@@ -161,7 +179,7 @@ impl Reader {
         requires { failed self.old ≡ None → taken self.old + length piece.now ≤ 2 ^ 40 }
         ensures none { IfOk result (λ n. n ≡ 0 → self.new ≡ self.old) }
         ensures within { IfOk result (λ n. n ≤ length piece.now) }
-        ensures taken { (bytes : List ℕ) (told : List Placed) → HasTaken self.old bytes told → IfOk result (λ n. 0 < n → HasTold self.new (bytes ++ take n piece.now) told) }
+        ensures taken { (limit : ℕ) (bytes : List ℕ) (told : List Placed) → HasTakenUnder limit self.old bytes told → IfOk result (λ n. 0 < n → HasToldUnder limit self.new (bytes ++ take n piece.now) told) }
         ensures count { IfOk result (λ n. taken self.new ≡ taken self.old + n) }
         ensures failed { IfErr result (λ e. failed self.new ≡ Some e) }
         ensures memory { failed self.old ≡ None → IfErr result (λ e. e ≡ MarkError.Memory) }
@@ -183,9 +201,9 @@ impl Reader {
     /// so far. It takes no memory.
     pub fn token(&self) -> u64
         ensures count { token self.now < 2 ^ 64 → result ≡ token self.now }
-        ensures held { (bytes : List ℕ) (told : List Placed) → HasTaken self.now bytes told → result ≡ token self.now }
-        ensures within { (bytes : List ℕ) (told : List Placed) → HasTaken self.now bytes told → result ≤ token_length self.now }
-        ensures bound { (bytes : List ℕ) (told : List Placed) → HasTaken self.now bytes told → result ≤ tag_limit }
+        ensures held { (limit : ℕ) (bytes : List ℕ) (told : List Placed) → HasTakenUnder limit self.now bytes told → result ≡ token self.now }
+        ensures within { (limit : ℕ) (bytes : List ℕ) (told : List Placed) → HasTakenUnder limit self.now bytes told → result ≤ token_length self.now }
+        ensures bound { (limit : ℕ) (bytes : List ℕ) (told : List Placed) → HasTakenUnder limit self.now bytes told → result ≤ limit }
     {
         self.tokenizer.held()
     }
@@ -196,7 +214,7 @@ impl Reader {
         ensures ready { IsSome result → is_in_text self.now.tokenizer ≡ true }
         ensures found { IfSome result (λ tag. (opened : List ℕ) × IsTagAt piece.now opened tag.kind tag.name.now tag.bytes) }
         ensures only { (tags : List Opening) → IsScope self.now.context.scope tags → IfSome result (λ tag. IsTagInside piece.now tags tag.kind tag.name.now tag.bytes) }
-        ensures all { (bytes : List ℕ) (told : List Placed) (kind : TagKind) (name rest : List ℕ) → MayTakeTag self.now bytes told kind name → piece.now ≡ tag_text kind name ++ rest → IsSome result }
+        ensures all { (limit : ℕ) (bytes : List ℕ) (told : List Placed) (kind : TagKind) (name rest : List ℕ) → MayTakeTagUnder limit self.now bytes told kind name → piece.now ≡ tag_text kind name ++ rest → IsSome result }
     {
         if !self.tokenizer.is_in_text() {
             return None;
@@ -211,7 +229,7 @@ impl Reader {
         ensures blank { result.blank ≡ list_all is_space (take result.bytes piece.now) }
         ensures ready { 0 < result.bytes → IsReady self.now }
         ensures sound { 0 < result.bytes → failed self.now ≡ None }
-        ensures all { (bytes : List ℕ) (told : List Placed) → IsInside self.now bytes told → prefix_len is_literal piece.now ≤ result.bytes }
+        ensures all { (limit : ℕ) (bytes : List ℕ) (told : List Placed) → IsInsideUnder limit self.now bytes told → prefix_len is_literal piece.now ≤ result.bytes }
         ensures none { (e : MarkError) → failed self.now ≡ Some e → (result.bytes ≡ 0) × (result.characters ≡ 0) }
     {
         let none = Run {
@@ -234,10 +252,10 @@ impl Reader {
     /// The end of the input. It appends no event. It answers Ok where the bytes are whole, and
     /// else refuses with their first fault, for good.
     pub fn finish(&mut self, out: &mut Events) -> Result<(), MarkError>
-        ensures ok { (bytes : List ℕ) (told : List Placed) → HasTaken self.old bytes told →
-            IfOk result (λ _. IsWholly bytes told) }
-        ensures err { (bytes : List ℕ) (told : List Placed) → HasTaken self.old bytes told →
-            IfErr result (λ e. EndsEarly bytes e) }
+        ensures ok { (limit : ℕ) (bytes : List ℕ) (told : List Placed) → HasTakenUnder limit self.old bytes told →
+            IfOk result (λ _. IsWhollyUnder limit bytes told) }
+        ensures err { (limit : ℕ) (bytes : List ℕ) (told : List Placed) → HasTakenUnder limit self.old bytes told →
+            IfErr result (λ e. EndsEarlyUnder limit bytes e) }
         ensures failed { IfErr result (λ e. failed self.new ≡ Some e) }
         ensures again { (e : MarkError) → failed self.old ≡ Some e → (result ≡ Err e) × (self.new ≡ self.old) }
         ensures still { IfOk result (λ _. self.new ≡ self.old) }
@@ -261,10 +279,10 @@ impl Reader {
     /// Takes the next byte, where the reader has not failed.
     fn step(&mut self, byte: u8, out: &mut Events) -> Result<(), MarkError>
         requires { taken self.old < 2 ^ 40 }
-        ensures ok { (bytes : List ℕ) (told : List Placed) → HasTaken self.old bytes told →
-            IfOk result (λ _. GoesOn self.new (bytes ++ byte ∷ []) told out.old out.new) }
-        ensures err { (bytes : List ℕ) (told : List Placed) → HasTaken self.old bytes told →
-            IfErr result (λ e. Stops (bytes ++ byte ∷ []) told out.old out.new e) }
+        ensures ok { (limit : ℕ) (bytes : List ℕ) (told : List Placed) → HasTakenUnder limit self.old bytes told →
+            IfOk result (λ _. GoesOnUnder limit self.new (bytes ++ byte ∷ []) told out.old out.new) }
+        ensures err { (limit : ℕ) (bytes : List ℕ) (told : List Placed) → HasTakenUnder limit self.old bytes told →
+            IfErr result (λ e. StopsUnder limit (bytes ++ byte ∷ []) told out.old out.new e) }
         ensures count { IfOk result (λ _. taken self.new ≡ taken self.old + 1) }
     {
         let place = self.tokenizer.start();
@@ -278,10 +296,10 @@ impl Reader {
     /// Takes any next byte, where the reader has not failed.
     fn step_any(&mut self, byte: u8, out: &mut Events) -> Result<(), MarkError>
         requires { taken self.old < 2 ^ 40 }
-        ensures ok { (bytes : List ℕ) (told : List Placed) → HasTaken self.old bytes told →
-            IfOk result (λ _. GoesOn self.new (bytes ++ byte ∷ []) told out.old out.new) }
-        ensures err { (bytes : List ℕ) (told : List Placed) → HasTaken self.old bytes told →
-            IfErr result (λ e. Stops (bytes ++ byte ∷ []) told out.old out.new e) }
+        ensures ok { (limit : ℕ) (bytes : List ℕ) (told : List Placed) → HasTakenUnder limit self.old bytes told →
+            IfOk result (λ _. GoesOnUnder limit self.new (bytes ++ byte ∷ []) told out.old out.new) }
+        ensures err { (limit : ℕ) (bytes : List ℕ) (told : List Placed) → HasTakenUnder limit self.old bytes told →
+            IfErr result (λ e. StopsUnder limit (bytes ++ byte ∷ []) told out.old out.new e) }
         ensures count { IfOk result (λ _. taken self.new ≡ taken self.old + 1) }
     {
         if self.settle(byte, out).is_err() {
@@ -293,10 +311,10 @@ impl Reader {
     /// Tells what the byte does not go on with.
     fn settle(&mut self, byte: u8, out: &mut Events) -> Result<(), AllocError>
         requires { taken self.old < 2 ^ 40 }
-        ensures ok { (bytes : List ℕ) (told : List Placed) → HasTaken self.old bytes told →
-            IfOk result (λ _. SettlesEvents self.new bytes told byte out.old out.new) }
-        ensures err { (bytes : List ℕ) (told : List Placed) → HasTaken self.old bytes told →
-            IfErr result (λ _. RunsOut (bytes ++ byte ∷ []) told out.old out.new) }
+        ensures ok { (limit : ℕ) (bytes : List ℕ) (told : List Placed) → HasTakenUnder limit self.old bytes told →
+            IfOk result (λ _. SettlesEvents limit self.new bytes told byte out.old out.new) }
+        ensures err { (limit : ℕ) (bytes : List ℕ) (told : List Placed) → HasTakenUnder limit self.old bytes told →
+            IfErr result (λ _. RunsOutUnder limit (bytes ++ byte ∷ []) told out.old out.new) }
         ensures place { taken self.new ≡ taken self.old }
     {
         let place = self.tokenizer.start();
@@ -307,10 +325,10 @@ impl Reader {
     /// Takes a byte that what is open goes on with.
     fn advance(&mut self, byte: u8, out: &mut Events) -> Result<(), MarkError>
         requires { taken self.old < 2 ^ 40 }
-        ensures ok { (bytes : List ℕ) (tokens : List Token) (told : List Placed) → Keeps (Begins byte) self.old bytes tokens told → IsAwaited self.old.tokenizer.scan byte →
-            IfOk result (λ _. TellsMore Any self.new (bytes ++ byte ∷ []) told out.old out.new) }
-        ensures err { (bytes : List ℕ) (tokens : List Token) (told : List Placed) → Keeps (Begins byte) self.old bytes tokens told → IsAwaited self.old.tokenizer.scan byte →
-            IfErr result (λ e. Stops (bytes ++ byte ∷ []) told out.old out.new e) }
+        ensures ok { (limit : ℕ) (bytes : List ℕ) (tokens : List Token) (told : List Placed) → Keeps limit (Begins byte) self.old bytes tokens told → IsAwaited self.old.tokenizer.scan byte →
+            IfOk result (λ _. TellsMore limit Any self.new (bytes ++ byte ∷ []) told out.old out.new) }
+        ensures err { (limit : ℕ) (bytes : List ℕ) (tokens : List Token) (told : List Placed) → Keeps limit (Begins byte) self.old bytes tokens told → IsAwaited self.old.tokenizer.scan byte →
+            IfErr result (λ e. StopsUnder limit (bytes ++ byte ∷ []) told out.old out.new e) }
         ensures count { IfOk result (λ _. taken self.new ≡ taken self.old + 1) }
     {
         let place = self.tokenizer.start();
@@ -413,8 +431,8 @@ impl Reader {
 
     /// Whether the bytes so far are whole.
     fn is_whole(&self) -> bool
-        ensures whole { (bytes : List ℕ) (told : List Placed) → HasTaken self.now bytes told → IsTrue result → IsWholly bytes told }
-        ensures cut { (bytes : List ℕ) (told : List Placed) → HasTaken self.now bytes told → IsFalse result → HasMarkFault bytes (record { rule = Truncated; place = self.now.tokenizer.place }) }
+        ensures whole { (limit : ℕ) (bytes : List ℕ) (told : List Placed) → HasTakenUnder limit self.now bytes told → IsTrue result → IsWhollyUnder limit bytes told }
+        ensures cut { (limit : ℕ) (bytes : List ℕ) (told : List Placed) → HasTakenUnder limit self.now bytes told → IsFalse result → HasMarkFault limit bytes (record { rule = Truncated; place = self.now.tokenizer.place }) }
     {
         match self.tokenizer.finish() {
             Finish::Open => false,

@@ -10,8 +10,11 @@ use lexical_core::{Rule, Utf8, Utf8Step};
 use std::alloc::{AllocError, Global};
 use std::mem;
 
-/// The greatest length of a tag in bytes.
+/// The greatest length in bytes of a tag of XML.
 pub(crate) const TAG_LIMIT: u64 = 1_048_576;
+
+/// As many bytes as are taken of an input at most: with this limit a tag may have any length.
+pub(crate) const NO_LIMIT: u64 = 1 << 40;
 
 /// What a byte gives.
 #[derive(Clone, Copy)]
@@ -52,6 +55,8 @@ pub(crate) enum Finish {
 #[derive(Drop)]
 pub(crate) struct Tokenizer {
     alloc: Global,
+    /// The greatest length of a tag in bytes.
+    limit: u64,
     utf8: Utf8Step,
     position: Position,
     scan: Scan,
@@ -156,18 +161,20 @@ impl Scan {
 
 impl Tokenizer {
     ghost use Rattle.markup.specs.Inside.{is_inside, may_be_tag, GoesOver, GoesInside};
-    ghost use Rattle.markup.specs.Marks.{tag_limit};
+    ghost use Rattle.markup.specs.Marks.{IsLimit};
     ghost use Rattle.markup.specs.Drafts.{held};
     ghost use Rattle.markup.specs.TokenRules.{is_cdata};
     ghost use Rattle.markup.specs.Tokenizers.{bounded, ended, undrafted, outcome, charactered, AdvancedBy, AdvancesBy, IsOpen, restarted, settled, SettlesBy, open_at, FinishesBy, starts_plain, TakesPlain, is_ready, is_in_text, passed};
 
-    /// A reader before the first byte. It takes no memory.
-    pub(crate) fn new(alloc: Global) -> Tokenizer
-        ensures opens { IsOpen result [] [] }
+    /// A reader before the first byte, of tags of at most so many bytes. It takes no memory.
+    pub(crate) fn new(alloc: Global, limit: u64) -> Tokenizer
+        requires { IsLimit limit }
+        ensures opens { IsOpen limit result [] [] }
         ensures place { result.place ≡ 0 }
     {
         Tokenizer {
             alloc,
+            limit,
             utf8: Utf8Step::new(),
             position: Position::Start,
             scan: Scan::Begin(Position::Start),
@@ -270,7 +277,7 @@ impl Tokenizer {
     fn bounded(&self) -> Progress
         ensures { outcome result self.now ≡ (bounded self.now, self.now) }
     {
-        if self.scan.is_tag() && self.place.saturating_sub(self.start) >= TAG_LIMIT {
+        if self.scan.is_tag() && self.place.saturating_sub(self.start) >= self.limit {
             Progress::Refused(Rule::BadMarkup)
         } else {
             Progress::More
@@ -434,12 +441,13 @@ impl Tokenizer {
     /// fewer bytes than its limit.
     fn room(&self, count: usize) -> usize
         ensures within { result ≤ count }
-        ensures short { may_be_tag self.now.scan ≡ true → 0 < result → (self.now.place - self.now.start) + result < tag_limit }
+        ensures short { may_be_tag self.now.scan ≡ true → 0 < result → (self.now.place - self.now.start) + result < self.now.limit }
     {
         if !self.scan.may_be_tag() {
             return count;
         }
-        let left = (TAG_LIMIT - 1).saturating_sub(self.place.saturating_sub(self.start));
+        let begun = self.place.saturating_sub(self.start);
+        let left = self.limit.saturating_sub(begun).saturating_sub(1);
         if count as u64 <= left {
             count
         } else {

@@ -41,13 +41,14 @@ fn take_some(reader: &mut Reader, out: &mut Events, piece: &[u8]) -> Result<usiz
     }
 }
 
-/// What a reader says of the bytes in pieces of this size.
-fn answer_by_pieces(alloc: Global, bytes: &[u8], size: usize) -> Verdict {
+/// What a reader before the first byte says of the bytes in pieces of this size.
+fn answer_by_pieces(mut reader: Reader, alloc: Global, bytes: &[u8], size: usize) -> Verdict
+    requires { taken reader ≡ 0 }
+{
     if bytes.len() as u64 > LIMIT || size == 0 {
         return Verdict::TooLong;
     }
     let mut out = Events::new(alloc);
-    let mut reader = Reader::new(alloc);
     let mut rest = bytes;
     while !rest.is_empty() {
         let (piece, _) = rest.split_at(size.min(rest.len()));
@@ -75,7 +76,7 @@ fn check_texts(
     for (text, expected) in rows {
         let bytes = repeated(alloc, &[(front, 1), (*text, 1)])?;
         for size in [1, 2, 3, 4, 5, 6, 7, 4096] {
-            let found = answer_by_pieces(alloc, bytes.as_slice(), size);
+            let found = answer_by_pieces(Reader::new(alloc), alloc, bytes.as_slice(), size);
             assert!(rt; found == *expected, "{text}, {size}: {found:?}");
         }
     }
@@ -99,7 +100,7 @@ fn check_change(rt: &impl Abort, alloc: Global, at: usize, byte: u8) -> Result<(
         *changed = byte;
     }
     let expected = answer(alloc, bytes.as_slice());
-    let found = answer_by_pieces(alloc, bytes.as_slice(), 4096);
+    let found = answer_by_pieces(Reader::new(alloc), alloc, bytes.as_slice(), 4096);
     assert!(rt; found == expected, "{at}, {byte}: {found:?}");
     Ok(())
 }
@@ -110,6 +111,20 @@ fn changes_in_one_piece(rt: HostRuntime) -> Result<(), AllocError> {
         for byte in [0, b'<', b'&', b']', b'>', b':', 0xFF] {
             check_change(&rt, rt.alloc(), at, byte)?;
         }
+    }
+    Ok(())
+}
+
+/// A tag that is longer than one of XML may be is taken by a reader without limit, in one piece and
+/// in pieces.
+#[test]
+fn tags_of_any_length(rt: HostRuntime) -> Result<(), AllocError> {
+    let alloc = rt.alloc();
+    let bytes = repeated(alloc, &[("<a", 1), (" ", 1_048_573), ("/>", 1)])?;
+    for size in [4096, 2_000_000] {
+        let reader = Reader::without_limit(alloc);
+        let found = answer_by_pieces(reader, alloc, bytes.as_slice(), size);
+        assert!(&rt; found == Whole, "{size}: {found:?}");
     }
     Ok(())
 }

@@ -4,4 +4,4 @@ use Rattle.markup.proofs.CharacterRuns.{inside_ready}
 use Rattle.markup.proofs.reader.Reader.count_characters.Goals as goal
 
 pub returns-then-not-is_ready-clause-all : goal.returns-then-not-is_ready-clause-all
-returns-then-not-is_ready-clause-all c bytes told h = absurd (both_ways c.is_ready.result c.if-not-is_ready.true (c.is_ready.ensures ∙ inside_ready c.args.self.now bytes told h))
+returns-then-not-is_ready-clause-all c limit bytes told h = absurd (both_ways c.is_ready.result c.if-not-is_ready.true (c.is_ready.ensures ∙ inside_ready c.args.self.now bytes told h))

@@ -4,5 +4,5 @@ use Rattle.markup.proofs.PlainTagLemmas.{text_here}
 use Rattle.markup.proofs.reader.Reader.next_tag.Goals as goal
 
 pub returns-then-not-is_in_text-clause-all : goal.returns-then-not-is_in_text-clause-all
-returns-then-not-is_in_text-clause-all c bytes told kind name rest m e =
+returns-then-not-is_in_text-clause-all c limit bytes told kind name rest m e =
     sym c.if-not-is_in_text.true ∙ (c.is_in_text.ensures ∙ text_here c.args.self.now bytes told kind name m)

@@ -14,7 +14,7 @@ pub pass-requires : goal.pass-requires
 pass-requires c = omega (arith, c.requires c.in_default.is, c.in-Some-next_tag.ensures.found.1.within)
 
 pub returns-clause-taken : goal.returns-clause-taken
-returns-clause-taken c bytes told h =
+returns-clause-taken c limit bytes told h =
     let e = sym c.is_err.ensures.value ∙ c.if-is_err.false in
     let t = c.in-Some-next_tag.tag in
     rw (c.pass.ensures, holds c.take_plain.result _ e c.take_plain.ensures.rest)
