@@ -6,7 +6,6 @@ use Rattle.std.proofs.lemmas.Bool.{and_parts, both_ways, cases_Bool}
 use Rattle.std.proofs.lemmas.Str.{encode_ascii, length-encode, len_utf8_bounds}
 use Rattle.markup.specs.Chars.{is_xml_char, is_name_start, is_space}
 use Rattle.markup.specs.Events.{Placed}
-use Rattle.markup.specs.Marks.{tag_limit}
 use Rattle.markup.specs.Words.{letter_of}
 use Rattle.markup.specs.Drafts.{no_draft, literal_char, given_by, given_char, add, value_noted, noted, held_name, held_all, held}
 use Rattle.markup.specs.ReferenceScans.{entity_char_of, letter_step, gives, numbered, digit_step, first_digit, more_digits, reference_step}

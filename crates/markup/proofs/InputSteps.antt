@@ -3,7 +3,6 @@ use Rattle.std.proofs.Common.{ℕ, List, [], ◌∷◌, ◌++◌, length, revers
 use Rattle.std.specs.List.{flat_map}
 use Rattle.lexical_core.specs.declared.rule.Rule.{Rule}
 use Rattle.markup.specs.Token.{Token, LineEnd, Character, Cr, token_bytes}
-use Rattle.markup.specs.Marks.{tag_limit}
 use Rattle.markup.specs.Faults.{IsClean, Next, broken, MarkFaultUnder}
 use Rattle.markup.specs.Tokenizers.{Outcome, More, EndedToken, Refused, IsAwaited, EndsToken, Advances, AdvancesBy, Settles, SettlesBy}
 use Rattle.markup.specs.Inputs.{Reads, Begins, Any, settled_tokens, SettlesInput, Shows, ReadsToken, AdvancesInput}

@@ -13,7 +13,6 @@ use Rattle.markup.specs.Drafts.{no_draft}
 use Rattle.markup.specs.Inputs.{Any, with_pending}
 use Rattle.markup.specs.Inside.{GoesOver, is_inside, may_be_tag, moved, GoesInside}
 use Rattle.markup.specs.Reading.{HasTakenUnder, HasToldUnder}
-use Rattle.markup.specs.Scans.{step}
 use Rattle.markup.specs.ScanRuns.{At, run, position}
 use Rattle.markup.specs.Tokenizers.{is_tag, scanned, is_pending, IsOpen, open_at, FinishesBy}
 use Rattle.markup.specs.declared.draft.Draft.{Draft}
@@ -22,7 +21,6 @@ use Rattle.markup.specs.declared.scan.Position.{Position}
 use Rattle.markup.specs.declared.scan.Position.TheVariants.{Start as AtStart, AfterMark, Text, Cdata}
 use Rattle.markup.specs.declared.scan.Scan.{Scan}
 use Rattle.markup.specs.declared.scan.Scan.TheVariants.{Begin, AfterReturn, Bracket, Brackets, Opened}
-use Rattle.markup.specs.declared.scan.Turn.TheVariants.{Goes}
 use Rattle.markup.specs.declared.tokenizer.Finish.{Finish}
 use Rattle.markup.specs.declared.tokenizer.Tokenizer.{Tokenizer}
 use Rattle.markup.proofs.Exact.{run_on}

@@ -2,7 +2,7 @@
 use Rattle.std.proofs.Common.{◌≡◌, ℕ, Bool, true, false, ◌⊎◌, inl, inr, List, [], ◌∷◌, ◌++◌, if◌then◌else◌, refl, sym, ◌∙◌, ap, subst, append_assoc, append-nil}
 use Rattle.std.specs.Char.{encode_utf8}
 use Rattle.std.specs.Str.{encode_utf8_all}
-use Rattle.markup.specs.Token.{Token, End, LineEnd, Line, Lf, Cr, CrLf, token_bytes}
+use Rattle.markup.specs.Token.{Token, LineEnd, Cr, CrLf, token_bytes}
 use Rattle.markup.specs.Marks.{in_cdata, stands}
 use Rattle.markup.specs.Drafts.{no_draft}
 use Rattle.markup.specs.ScanRuns.{At, run, position}

@@ -3,16 +3,17 @@ use Rattle.std.proofs.Common.{◌≡◌, ℕ, zero, suc, ◌+◌, ◌<◌, ◌�
 use Rattle.std.specs.Prelude.{IfSome, encode_utf8}
 use Rattle.std.proofs.lemmas.List.{take-append-drop}
 use Rattle.lexical_core.specs.Tree.{Expanded, Item, Starts, Char, Ends}
+use Rattle.markup.specs.Marks.{no_limit}
 use Rattle.markup.specs.Events.{Placed}
 use Rattle.markup.specs.Literals.{IsRun, characters_from}
 use Rattle.markup.specs.PlainTags.{tag_items, name_behind, open_behind, open_after, innermost_namespace}
 use Rattle.markup.specs.Scopes.{placed_at}
-use Rattle.markup.specs.Reading.{taken, HasTaken as HasTakenBytes, HasTold}
+use Rattle.markup.specs.Reading.{taken, HasTakenUnder, HasToldUnder}
 use Rattle.markup.specs.declared.plain_tag.TagKind.{TagKind}
 use Rattle.markup.specs.declared.plain_tag.TagKind.TheVariants as kind
 use Rattle.markup.specs.declared.reader.Reader.{Reader}
 use Rattle.respell.specs.Kept.{HasWritten, IsInDefault, opened_by}
-use Rattle.respell.specs.FragmentReading.{NoneOutside, HasReadFront, IsShortFragment, ReadsOn, AdvancesSo}
+use Rattle.respell.specs.FragmentReading.{NoneOutside, HasReadFront, IsFragment, ReadsOn, AdvancesSo}
 use Rattle.respell.specs.declared.respell.Respell.{Respell}
 use Rattle.respell.specs.declared.fragment_reader.FragmentReader.{FragmentReader}
 use Rattle.respell.specs.declared.fragment_reader.Advance.{Advance}
@@ -22,7 +23,7 @@ use Rattle.respell.proofs.Outside.{outside-append}
 
 -- ---- more bytes, and their events
 
-more_read : (old new : FragmentReader) (front forgotten more : List ℕ) (placed : List Placed) (is : List Item) (h : HasReadFront old front forgotten) → items placed ≡ is → HasTakenBytes new.reader (front ++ more) (h.told ++ placed)
+more_read : (old new : FragmentReader) (front forgotten more : List ℕ) (placed : List Placed) (is : List Item) (h : HasReadFront old front forgotten) → items placed ≡ is → HasTakenUnder no_limit new.reader (front ++ more) (h.told ++ placed)
     → HasWritten new.respell forgotten (items h.told ++ is) → NoneOutside 0 (items h.told ++ is) → HasReadFront new (front ++ more) forgotten
 more_read old new front forgotten more placed is h same reads writes inside =
     let e : items h.told ++ is ≡ items (h.told ++ placed) = ap (λ (l : List Item). items h.told ++ l) (sym same) ∙ sym (items-append_placed h.told placed) in record {
@@ -56,7 +57,7 @@ run_within (b ∷ bytes) (suc n) (suc room) h = let r = run_within bytes n room 
 
 -- what the reader of XML tells of a run
 abbrev pub RunRead : Reader → Reader → List ℕ → ℕ → Type 0
-RunRead old new run count = (bytes : List ℕ) (told : List Placed) → HasTakenBytes old bytes told → (r : IsRun run count) × HasTold new (bytes ++ run) (told ++ characters_from (length bytes) r.characters)
+RunRead old new run count = (bytes : List ℕ) (told : List Placed) → HasTakenUnder no_limit old bytes told → (r : IsRun run count) × HasToldUnder no_limit new (bytes ++ run) (told ++ characters_from (length bytes) r.characters)
 
 -- what is written of it
 abbrev pub RunWritten : Respell → Respell → List ℕ → ℕ → Type 0
@@ -98,7 +99,7 @@ tag_inside kind.End n is h = outside-append 0 is (Ends n ∷ []) h tt
 
 -- what the reader of XML tells of a tag
 abbrev pub TagRead : Reader → Reader → List ℕ → TagKind → List ℕ → Type 0
-TagRead old new tag k name = (bytes : List ℕ) (told : List Placed) → HasTakenBytes old bytes told → HasTold new (bytes ++ tag) (told ++ placed_at (length bytes) (tag_items k (name_behind told name)))
+TagRead old new tag k name = (bytes : List ℕ) (told : List Placed) → HasTakenUnder no_limit old bytes told → HasToldUnder no_limit new (bytes ++ tag) (told ++ placed_at (length bytes) (tag_items k (name_behind told name)))
 
 -- what is written of it
 abbrev pub TagWritten : Respell → Respell → TagKind → List ℕ → Type 0
@@ -121,7 +122,7 @@ reads_tag old new bytes name k n within moved told written default = record {
 -- ---- bytes inside a token
 
 pub reads_inside : (old new : FragmentReader) (bytes : List ℕ) (n : ℕ) → n ≤ length bytes → taken new.reader ≡ taken old.reader + n → (n ≡ 0 → new.reader ≡ old.reader)
-    → ((front : List ℕ) (told : List Placed) → HasTakenBytes old.reader front told → 0 < n → HasTold new.reader (front ++ take n bytes) told) → new.respell ≡ old.respell → ReadsOn old new bytes n
+    → ((front : List ℕ) (told : List Placed) → HasTakenUnder no_limit old.reader front told → 0 < n → HasToldUnder no_limit new.reader (front ++ take n bytes) told) → new.respell ≡ old.respell → ReadsOn old new bytes n
 reads_inside old new bytes n within moved none some same = record {
   within = within;
   moved = moved;
@@ -133,9 +134,9 @@ reads_inside old new bytes n within moved none some same = record {
   };
 }
   where
-    reads : (n : ℕ) → (n ≡ 0 → new.reader ≡ old.reader) → ((front : List ℕ) (told : List Placed) → HasTakenBytes old.reader front told → 0 < n → HasTold new.reader (front ++ take n bytes) told)
-        → (front : List ℕ) (told : List Placed) → HasTakenBytes old.reader front told → HasTakenBytes new.reader (front ++ take n bytes) told
-    reads zero none some front told h = subst (λ (r : Reader). HasTakenBytes r (front ++ []) told) (sym (none refl)) (subst (λ (l : List ℕ). HasTakenBytes old.reader l told) (sym (append-nil front)) h)
+    reads : (n : ℕ) → (n ≡ 0 → new.reader ≡ old.reader) → ((front : List ℕ) (told : List Placed) → HasTakenUnder no_limit old.reader front told → 0 < n → HasToldUnder no_limit new.reader (front ++ take n bytes) told)
+        → (front : List ℕ) (told : List Placed) → HasTakenUnder no_limit old.reader front told → HasTakenUnder no_limit new.reader (front ++ take n bytes) told
+    reads zero none some front told h = subst (λ (r : Reader). HasTakenUnder no_limit r (front ++ []) told) (sym (none refl)) (subst (λ (l : List ℕ). HasTakenUnder no_limit old.reader l told) (sym (append-nil front)) h)
     reads (suc n) none some front told h = (some front told h (omega arith)).taken_are
 
 -- ---- one byte
@@ -145,8 +146,8 @@ pub reads_first : (old new : FragmentReader) (bytes behind : List ℕ) (byte : �
 reads_first old new bytes behind byte e moved reads = rw e ((omega arith), record { within = omega arith; moved = moved; reads = reads })
 
 pub refuses_first : (old new : FragmentReader) (bytes behind : List ℕ) (byte : ℕ) → bytes ≡ byte ∷ behind
-    → ((front forgotten : List ℕ) → HasReadFront old front forgotten → IsShortFragment ((front ++ byte ∷ []) ++ behind) → ⊥) → AdvancesSo old new bytes NoFragment
-refuses_first old new bytes behind byte e stops = rw e (λ front forgotten h f. stops front forgotten h (subst IsShortFragment (sym (append_assoc front (byte ∷ []) behind)) f))
+    → ((front forgotten : List ℕ) → HasReadFront old front forgotten → IsFragment ((front ++ byte ∷ []) ++ behind) → ⊥) → AdvancesSo old new bytes NoFragment
+refuses_first old new bytes behind byte e stops = rw e (λ front forgotten h f. stops front forgotten h (subst IsFragment (sym (append_assoc front (byte ∷ []) behind)) f))
 
 -- ---- one after another
 

@@ -1,5 +1,5 @@
 -- A reader of a fragment, byte by byte.
-use Rattle.std.proofs.Common.{◌≡◌, refl, ℕ, true, arith, append-nil, length, Bool, false, List, [], ◌∷◌, ◌++◌, take, drop, sym, ap, ap₂, subst, ◌∙◌, append_assoc}
+use Rattle.std.proofs.Common.{◌≡◌, ◌<◌, ◌≤◌, ◌^◌, refl, ℕ, true, arith, append-nil, length, Bool, false, List, [], ◌∷◌, ◌++◌, take, drop, sym, ap, ap₂, subst, ◌∙◌, append_assoc}
 use Rattle.std.specs.Prelude.{◌↔◌, ◌==◌, IsTrue, IfOk, Result, Ok, Err}
 use Rattle.std.specs.List.{AllByRecursion}
 use Rattle.std.specs.Str.{bytes_eq}
@@ -9,15 +9,17 @@ use Rattle.std.proofs.Math.Seq.{take-append_seam}
 use Rattle.std.proofs.lemmas.List.{append_cancel_left, take-append-drop}
 use Rattle.respell.proofs.Prefixes.{same_bytes, bytes_same}
 use Rattle.lexical_core.specs.Tree.{Item, Tree}
-use Rattle.markup.specs.Reading.{GoesOn, Refuses, IsWholly, Stops, EndsEarly, fault_of}
+use Rattle.markup.specs.Marks.{no_limit}
+use Rattle.markup.specs.Reading.{GoesOnUnder, RefusesUnder, IsWhollyUnder, StopsUnder, EndsEarlyUnder, fault_of}
 use Rattle.markup.specs.declared.event.Event.{Event}
 use Rattle.markup.specs.declared.reader.MarkError.{MarkError}
 use Rattle.markup.specs.declared.reader.MarkError.TheVariants.{Refused, Memory}
 use Rattle.markup.specs.declared.reader.MarkFault.{MarkFault as Told}
+use Rattle.fragments.specs.Plain.{IsPlain}
 use Rattle.fragments.specs.Fragment.{fragment}
 use Rattle.respell.specs.Respelling.{HasSortedAttributes, AreOf, respelled, defaults_behind}
 use Rattle.respell.specs.Kept.{HasWritten}
-use Rattle.respell.specs.FragmentReading.{NoneOutside, HasReadFront, IsShortFragment, event_items}
+use Rattle.respell.specs.FragmentReading.{NoneOutside, HasReadFront, IsFragment, event_items}
 use Rattle.respell.specs.declared.fragment_reader.FragmentReader.{FragmentReader}
 use Rattle.respell.proofs.Outside.{outside_parts}
 use Rattle.respell.proofs.RespelledTrees.{respelled_tree, respelled-append, whole_text}
@@ -47,7 +49,7 @@ pub if_ok : {A E : Type 0} (P Q : A → Type 0) (r : Result A E) → IfOk r P �
 if_ok P Q (Ok x) h f = f x h
 if_ok P Q (Err e) h f = h
 
-pub read_more : (old new : FragmentReader) (bytes forgotten : List ℕ) (byte : ℕ) (before after given : List Event) (h : HasReadFront old bytes forgotten) → GoesOn new.reader (bytes ++ byte ∷ []) h.told before after → before ≡ [] → given ≡ after
+pub read_more : (old new : FragmentReader) (bytes forgotten : List ℕ) (byte : ℕ) (before after given : List Event) (h : HasReadFront old bytes forgotten) → GoesOnUnder no_limit new.reader (bytes ++ byte ∷ []) h.told before after → before ≡ [] → given ≡ after
     → HasWritten new.respell forgotten (items h.told ++ event_items given) × NoneOutside 0 (items h.told ++ event_items given) → HasReadFront new (bytes ++ byte ∷ []) forgotten
 read_more old new bytes forgotten byte before after given h g none same t =
     let is : items h.told ++ event_items given ≡ items (h.told ++ g.more) = ap (λ (es : List Event). items h.told ++ event_items es) same ∙ sym (items_more new.reader (bytes ++ byte ∷ []) h.told before after g none) in record {
@@ -57,35 +59,35 @@ read_more old new bytes forgotten byte before after given h g none same t =
       inside = subst (λ (l : List Item). NoneOutside 0 l) is t.1;
     }
 
-pub given_sorted : (old new : FragmentReader) (bytes forgotten : List ℕ) (byte : ℕ) (before after given : List Event) (h : HasReadFront old bytes forgotten) → GoesOn new.reader (bytes ++ byte ∷ []) h.told before after → before ≡ [] → given ≡ after
+pub given_sorted : (old new : FragmentReader) (bytes forgotten : List ℕ) (byte : ℕ) (before after given : List Event) (h : HasReadFront old bytes forgotten) → GoesOnUnder no_limit new.reader (bytes ++ byte ∷ []) h.told before after → before ≡ [] → given ≡ after
     → AllByRecursion HasSortedAttributes (event_items given)
 given_sorted old new bytes forgotten byte before after given h g none same = subst (λ (es : List Event). AllByRecursion HasSortedAttributes (event_items es)) (sym same) (more_sorted new.reader (bytes ++ byte ∷ []) h.told before after g none)
 
-pub given_inside : (old new : FragmentReader) (bytes forgotten more : List ℕ) (byte : ℕ) (before after given : List Event) (h : HasReadFront old bytes forgotten) → GoesOn new.reader (bytes ++ byte ∷ []) h.told before after → before ≡ [] → given ≡ after
-    → IsShortFragment ((bytes ++ byte ∷ []) ++ more) → NoneOutside 0 (items h.told ++ event_items given)
+pub given_inside : (old new : FragmentReader) (bytes forgotten more : List ℕ) (byte : ℕ) (before after given : List Event) (h : HasReadFront old bytes forgotten) → GoesOnUnder no_limit new.reader (bytes ++ byte ∷ []) h.told before after → before ≡ [] → given ≡ after
+    → IsFragment ((bytes ++ byte ∷ []) ++ more) → NoneOutside 0 (items h.told ++ event_items given)
 given_inside old new bytes forgotten more byte before after given h g none same f =
     subst (λ (l : List Item). NoneOutside 0 l) (items_more new.reader (bytes ++ byte ∷ []) h.told before after g none ∙ ap (λ (es : List Event). items h.told ++ event_items es) (sym same))
     (told_inside new.reader (bytes ++ byte ∷ []) more (h.told ++ g.more) g.taken_are f)
 
-pub byte_refused : (old : FragmentReader) (bytes forgotten more : List ℕ) (before after : List Event) (e : MarkError) (fault : Told) (h : HasReadFront old bytes forgotten) (byte : ℕ) → e ≡ Refused fault → Stops (bytes ++ byte ∷ []) h.told before after e
-    → IsShortFragment ((bytes ++ byte ∷ []) ++ more) → ⊥
+pub byte_refused : (old : FragmentReader) (bytes forgotten more : List ℕ) (before after : List Event) (e : MarkError) (fault : Told) (h : HasReadFront old bytes forgotten) (byte : ℕ) → e ≡ Refused fault → StopsUnder no_limit (bytes ++ byte ∷ []) h.told before after e
+    → IsFragment ((bytes ++ byte ∷ []) ++ more) → ⊥
 byte_refused old bytes forgotten more before after e fault h byte is stops f =
-    let r : Refuses (bytes ++ byte ∷ []) h.told before after fault = subst (λ (x : MarkError). Stops (bytes ++ byte ∷ []) h.told before after x) is stops in
+    let r : RefusesUnder no_limit (bytes ++ byte ∷ []) h.told before after fault = subst (λ (x : MarkError). StopsUnder no_limit (bytes ++ byte ∷ []) h.told before after x) is stops in
     no_fault ((bytes ++ byte ∷ []) ++ more) (fault_of fault) (r.has_fault more) f
 
 -- ---- what was written
 
 -- the text is a front of the fragment
-text_front : (r : FragmentReader) (front forgotten others : List ℕ) (h : HasReadFront r front forgotten) → IsShortFragment (front ++ others) → (more : List ℕ) × ((forgotten ++ r.respell.text) ++ more ≡ front ++ others)
+text_front : (r : FragmentReader) (front forgotten others : List ℕ) (h : HasReadFront r front forgotten) → IsFragment (front ++ others) → (more : List ℕ) × ((forgotten ++ r.respell.text) ++ more ≡ front ++ others)
 text_front r front forgotten others h f =
     let m = told_front r.reader front others h.told h.reads f in (
       respelled (defaults_behind [] (items h.told)) m.0,
       ap (λ (l : List ℕ). l ++ respelled (defaults_behind [] (items h.told)) m.0) h.writes.text_is ∙ (sym (respelled-append [] (items h.told) m.0) ∙ (ap (respelled []) m.1 ∙ (respelled_tree f.tree ∙ f.spelled))),
     )
 
-pub front_differs : (r : FragmentReader) (front forgotten others bytes uncompared : List ℕ) → HasReadFront r front forgotten → front ++ others ≡ bytes → forgotten ++ uncompared ≡ bytes → ((rest : List ℕ) → uncompared ≡ r.respell.text ++ rest → ⊥) → IsShortFragment bytes → ⊥
+pub front_differs : (r : FragmentReader) (front forgotten others bytes uncompared : List ℕ) → HasReadFront r front forgotten → front ++ others ≡ bytes → forgotten ++ uncompared ≡ bytes → ((rest : List ℕ) → uncompared ≡ r.respell.text ++ rest → ⊥) → IsFragment bytes → ⊥
 front_differs r front forgotten others bytes uncompared h e u k f =
-    let m = text_front r front forgotten others h (subst IsShortFragment (sym e) f) in
+    let m = text_front r front forgotten others h (subst IsFragment (sym e) f) in
     k m.0 (append_cancel_left forgotten uncompared (r.respell.text ++ m.0) (u ∙ (sym e ∙ (sym m.1 ∙ append_assoc forgotten r.respell.text m.0))))
 
 -- the rest behind what is forgotten
@@ -98,19 +100,22 @@ empty_from : (l : List ℕ) → (length l == 0) ≡ true → l ≡ []
 empty_from [] h = refl
 empty_from (x ∷ l) h = absurd (let n : ℕ = length l in grind (arith, nat_tests, h))
 
-pub ends_whole : (r : FragmentReader) (bytes forgotten uncompared : List ℕ) (b : Bool) (h : HasReadFront r bytes forgotten) → IsWholly bytes h.told → r.respell.text ≡ [] → forgotten ++ uncompared ≡ bytes → b ≡ (length uncompared == 0) → IsTrue b ↔ IsShortFragment bytes
-ends_whole r bytes forgotten uncompared b h w none u is =
+pub ends_whole : (r : FragmentReader) (bytes forgotten uncompared : List ℕ) (b : Bool) (h : HasReadFront r bytes forgotten) → IsWhollyUnder no_limit bytes h.told → r.respell.text ≡ [] → forgotten ++ uncompared ≡ bytes → b ≡ (length uncompared == 0) → length bytes ≤ no_limit → IsTrue b ↔ IsFragment bytes
+ends_whole r bytes forgotten uncompared b h w none u is within =
     let e = ends_tree bytes h.told w h.inside in
     let written : (t : Tree) → AreOf (items h.told) t → forgotten ≡ fragment t = λ t are. sym (append-nil forgotten) ∙ (ap (λ (l : List ℕ). forgotten ++ l) (sym none) ∙ (h.writes.text_is ∙ whole_text (items h.told) t are)) in (
-      λ met. let same : fragment e.tree ≡ bytes = sym (written e.tree e.are) ∙ (sym (append-nil forgotten) ∙ (ap (λ (l : List ℕ). forgotten ++ l) (sym (empty_from uncompared (sym is ∙ met))) ∙ u)) in record { tree = e.tree; plain = e.plain; short = e.short same; spelled = same },
+      λ met. let same : fragment e.tree ≡ bytes = sym (written e.tree e.are) ∙ (sym (append-nil forgotten) ∙ (ap (λ (l : List ℕ). forgotten ++ l) (sym (empty_from uncompared (sym is ∙ met))) ∙ u)) in record { tree = e.tree; plain = e.plain; within = within; spelled = same },
       λ f. let all : forgotten ≡ bytes = written f.tree (fragment_told bytes h.told w f) ∙ f.spelled in is ∙ ap (λ (l : List ℕ). length l == 0) (append_cancel_left forgotten uncompared [] (u ∙ (sym all ∙ sym (append-nil forgotten)))),
     )
 
-pub ends_refused : (bytes : List ℕ) (e : MarkError) → EndsEarly bytes e → IsShortFragment bytes → ⊥
+pub ends_refused : (bytes : List ℕ) (e : MarkError) → EndsEarlyUnder no_limit bytes e → IsFragment bytes → ⊥
 ends_refused bytes (Refused fault) early f = no_fault bytes (fault_of fault) early f
 ends_refused bytes Memory early f = early
 
-pub never : (bytes : List ℕ) → (IsShortFragment bytes → ⊥) → IsTrue false ↔ IsShortFragment bytes
+pub read_whole : (b : Bool) (bytes : List ℕ) → length bytes < 2 ^ 40 → IsTrue b ↔ IsFragment bytes → IsTrue b ↔ ((t : Tree) × IsPlain t × (fragment t ≡ bytes))
+read_whole b bytes short each = (λ met. let f = each.0 met in (f.tree, f.plain, f.spelled), λ (t, plain, is). each.1 (record { tree = t; plain = plain; within = omega (arith, short); spelled = is }))
+
+pub never : (bytes : List ℕ) → (IsFragment bytes → ⊥) → IsTrue false ↔ IsFragment bytes
 never bytes k = (λ met. absurd (true≢false (sym met)), λ f. absurd (k f))
 
 -- ---- the text so far

@@ -28,7 +28,6 @@ pub mod Fronts
 pub mod FragmentFronts
 pub mod FragmentSteps
 pub mod Within
-pub mod ShortWithin
 pub mod TakenRuns
 pub mod TakenTags
 pub mod FragmentParts

@@ -1,12 +1,11 @@
 -- A fragment is that of one tree, and no front of another's.
-use Rattle.std.proofs.Common.{◌≡◌, ℕ, ◌+◌, ◌≤◌, ◌⊎◌, inl, inr, true, List, [], ◌∷◌, ◌++◌, length, refl, sym, ap, ap₂, subst, ◌∙◌, Option, None, Some, arith, append_assoc, append-nil, length-append}
-use Rattle.std.specs.Prelude.{nat_le}
+use Rattle.std.proofs.Common.{◌≡◌, ℕ, ◌≤◌, ◌⊎◌, inl, inr, true, List, [], ◌∷◌, ◌++◌, length, refl, sym, ap, ap₂, subst, ◌∙◌, Option, None, Some, arith, append_assoc, append-nil, length-append}
 use Rattle.std.specs.List.{flat_map, AllByRecursion}
-use Rattle.std.proofs.lemmas.Bool.{le-leb, leb-true}
+use Rattle.std.proofs.lemmas.Bool.{le-leb}
 use Rattle.std.proofs.lemmas.List.{append_cancel_left}
 use Rattle.lexical_core.specs.Tree.{Expanded, Entry, Item, Starts, Char, Ends, Skipped, Nodes, Nothing, Element, Text, Tree, flat_nodes, flat}
 use Rattle.markup.specs.Token.{Token, Mark, Declaration, Comment, Instruction, Opener, Closer, TypeDeclaration, Start, End, Refer, LineEnd, Character, token_bytes}
-use Rattle.markup.specs.Marks.{Front, is_short, tag_limit}
+use Rattle.markup.specs.Marks.{Front, is_short}
 use Rattle.markup.specs.declared.tag.Opening.{Opening}
 use Rattle.markup.specs.Reference.{referred}
 use Rattle.markup.specs.Events.{open_tags, ended, end_items}
@@ -14,10 +13,9 @@ use Rattle.markup.specs.Faults.{is_over, has_start}
 use Rattle.markup.proofs.TokenLaw.{fronts_agree}
 use Rattle.fragments.specs.Plain.{IsPlain}
 use Rattle.fragments.specs.Fragment.{fragment}
-use Rattle.respell.specs.ShortTags.{HaveShortTags, HasShortTags}
-use Rattle.respell.specs.Laws.{OneTree, NoProperFront, Reads, ReadBack}
-use Rattle.respell.proofs.Runs.{behind, items_in, items-append, runs_front, events_items, AllShort, short_parts}
-use Rattle.respell.proofs.Fronts.{front_of}
+use Rattle.respell.specs.ShortTags.{HaveShortTags}
+use Rattle.respell.specs.Laws.{OneTree, NoProperFront, ReadBack}
+use Rattle.respell.proofs.Runs.{behind, items_in, items-append, runs_front, events_items}
 use Rattle.respell.proofs.Trees.{Stays, fragment_stays}
 
 -- the events of children, up to an end, say the children
@@ -116,11 +114,10 @@ all_within limit (t ∷ ts) h =
 abbrev pub FragmentStays : Tree → Type 0
 FragmentStays t = Stays [] (flat t) (fragment t) (λ limit. HaveShortTags limit None (Element t.name t.attributes t.children Nothing))
 
-short_front : (t : Tree) (s : FragmentStays t) (limit : ℕ) (rest : List ℕ) → AllShort limit s.run.tokens → Front limit [] (fragment t ++ rest) s.run.tokens rest
-short_front t s limit rest h = subst (λ (b : List ℕ). Front limit [] (b ++ rest) s.run.tokens rest) s.run.bytes (runs_front limit [] s.run.tokens rest s.run.stand h)
-
 fragment_front : (t : Tree) (s : FragmentStays t) (limit : ℕ) (rest : List ℕ) → length (fragment t) ≤ limit → Front limit [] (fragment t ++ rest) s.run.tokens rest
-fragment_front t s limit rest h = short_front t s limit rest (all_within limit s.run.tokens (subst (λ (b : List ℕ). length b ≤ limit) (sym s.run.bytes) h))
+fragment_front t s limit rest h =
+    subst (λ (b : List ℕ). Front limit [] (b ++ rest) s.run.tokens rest) s.run.bytes
+    (runs_front limit [] s.run.tokens rest s.run.stand (all_within limit s.run.tokens (subst (λ (b : List ℕ). length b ≤ limit) (sym s.run.bytes) h)))
 
 -- a fragment at the front of another
 pub fronts_same : (t u : Tree) (rest : List ℕ) → IsPlain t → IsPlain u → fragment t ++ rest ≡ fragment u → t ≡ u
@@ -192,55 +189,12 @@ no_starts before (Character c ∷ ts) n a r e = absurd (let h : Char c ≡ Start
 pub over_of : (before : List Token) → has_start before ≡ true → open_tags before ≡ [] → is_over before ≡ true
 over_of before h e = rw (h, e) refl
 
-reads_by : (t : Tree) (limit : ℕ) (s : FragmentStays t) → Front limit [] (fragment t ++ []) s.run.tokens [] → Reads limit (fragment t) t
-reads_by t limit s f =
-    record {
+pub read_back : ReadBack
+read_back t limit p h =
+    let s = fragment_stays t p in record {
       tokens = s.run.tokens;
-      marks = subst (λ (b : List ℕ). Front limit [] b s.run.tokens []) (append-nil (fragment t)) f;
+      marks = subst (λ (b : List ℕ). Front limit [] b s.run.tokens []) (append-nil (fragment t)) (fragment_front t s limit [] h);
       clean = s.run.clean;
       over = over_of (behind [] s.run.tokens) (no_starts [] s.run.tokens t.name t.attributes _ s.run.told) s.tags;
       told = events_items [] 0 s.run.tokens ∙ s.run.told;
     }
-
-pub read_back : ReadBack
-read_back t limit p h = let s = fragment_stays t p in reads_by t limit s (fragment_front t s limit [] h)
-
--- a fragment with short tags is read back
-pub read_short : (t : Tree) → IsPlain t → HasShortTags t → Reads tag_limit (fragment t) t
-read_short t p h = let s = fragment_stays t p in reads_by t tag_limit s (short_front t s tag_limit [] ((s.short tag_limit).0 h))
-
--- ---- the tags of a fragment are those of its tokens
-
-front_weaker : (limit more : ℕ) (before : List Token) (bytes : List ℕ) (ts : List Token) (rest : List ℕ) → limit ≤ more → Front limit before bytes ts rest → Front more before bytes ts rest
-front_weaker limit more before bytes [] rest le f = f
-front_weaker limit more before bytes (t ∷ ts) rest le (after, cell, short, f) = (after, cell, within t short, front_weaker limit more (t ∷ before) after ts rest le f)
-  where
-    longer : (n : ℕ) → nat_le n limit ≡ true → nat_le n more ≡ true
-    longer n h = le-leb n more (let l = leb-true n limit h in omega (arith, l, le))
-
-    within : (t : Token) → is_short limit t ≡ true → is_short more t ≡ true
-    within Mark h = refl
-    within (Declaration f g) h = refl
-    within (Comment c) h = refl
-    within (Instruction a b) h = refl
-    within Opener h = refl
-    within Closer h = refl
-    within TypeDeclaration h = refl
-    within (Start tag) h = longer (length (token_bytes (Start tag))) h
-    within (End n g) h = longer (length (token_bytes (End n g))) h
-    within (Refer r) h = refl
-    within (LineEnd l) h = refl
-    within (Character c) h = refl
-
-front_short : (limit : ℕ) (before : List Token) (bytes : List ℕ) (ts : List Token) (rest : List ℕ) → Front limit before bytes ts rest → AllShort limit ts
-front_short limit before bytes [] rest f = tt
-front_short limit before bytes (t ∷ ts) rest (after, cell, short, f) = (short, front_short limit (t ∷ before) after ts rest f)
-
--- what a reader of XML takes whole has short tags
-pub short_of : (t : Tree) → IsPlain t → (tokens : List Token) → Front tag_limit [] (fragment t) tokens [] → HasShortTags t
-short_of t p tokens f =
-    let s = fragment_stays t p in
-    let limit : ℕ = tag_limit + length (fragment t) in
-    let g : Front limit [] (fragment t) s.run.tokens [] = subst (λ (b : List ℕ). Front limit [] b s.run.tokens []) (append-nil (fragment t)) (fragment_front t s limit [] (omega arith)) in
-    let m = front_of limit (fragment t) s.run.tokens tokens [] g (front_weaker tag_limit limit [] (fragment t) tokens [] (omega arith) f) in
-    (s.short tag_limit).1 (short_parts tag_limit s.run.tokens m.0 (subst (AllShort tag_limit) m.1 (front_short tag_limit [] (fragment t) tokens [] f))).0

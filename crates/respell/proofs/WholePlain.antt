@@ -1,16 +1,16 @@
 -- What tokens tell that break no rule is plain, and so is the tree of a whole input.
-use Rattle.std.proofs.Common.{◌≡◌, ℕ, zero, suc, Bool, true, false, ◌||◌, List, [], ◌∷◌, ◌++◌, drop, Option, Some, None, refl, sym, subst, cond, append_assoc, if◌then◌else◌}
+use Rattle.std.proofs.Common.{◌≡◌, ℕ, zero, suc, Bool, true, false, ◌||◌, List, [], ◌∷◌, ◌++◌, drop, Option, Some, None, refl, sym, subst, cond, append_assoc, if◌then◌else◌, map}
 use Rattle.std.specs.Prelude.{is_none}
 use Rattle.std.specs.List.{list_any, AllByRecursion}
 use Rattle.std.proofs.lemmas.Bool.{and_parts}
 use Rattle.lexical_core.specs.declared.rule.Rule.{Rule}
 use Rattle.lexical_core.specs.declared.rule.Rule.TheVariants.{DuplicateAttribute, BadPrefix, AfterRoot}
-use Rattle.lexical_core.specs.Tree.{Expanded, Entry, Item, Starts, Char, Ends, Skipped, Nodes, Nothing, Element, Text, Tree, flat_nodes, flat, counted}
+use Rattle.lexical_core.specs.Tree.{Expanded, Entry, Item, Starts, Char, Ends, Skipped, Nodes, Nothing, Element, Text, Tree, flat_nodes, flat, counted, TreeIs}
 use Rattle.markup.specs.Chars.{is_xml_char}
 use Rattle.markup.specs.declared.tag.Opening.{Opening}
 use Rattle.markup.specs.Token.{Token, Mark, Declaration, Comment, Instruction, Opener, Closer, TypeDeclaration, Start, End, Refer, LineEnd, Character, StartTag}
 use Rattle.markup.specs.Marks.{stands, Front, in_cdata, tag_limit}
-use Rattle.markup.specs.Events.{open_tags, opening, items_of, started, ended, end_items, element_name, entries}
+use Rattle.markup.specs.Events.{Placed, events, open_tags, opening, items_of, started, ended, end_items, element_name, entries}
 use Rattle.markup.specs.Faults.{rule_of, IsClean, has_clash, is_bad_attribute, is_over}
 use Rattle.markup.proofs.CharLemmas.{classes}
 use Rattle.markup.proofs.TokenKinds.{never_in}
@@ -148,5 +148,8 @@ told_plain (Skipped ∷ items) h = told_plain items h.1
 pub tree_is_plain : TreeIsPlain
 tree_is_plain items t h are = flat_plain t (subst AllPlain are (told_plain items h))
 
+pub plain_tree : (limit : ℕ) (bytes : List ℕ) (tokens : List Token) (t : Tree) → Front limit [] bytes tokens [] → IsClean [] tokens → TreeIs (map (λ (p : Placed). p.item) (events [] 0 tokens)) t → IsPlain t
+plain_tree limit bytes tokens t marks clean is = flat_plain t (subst AllPlain is (counted_plain 0 _ (events_are_plain limit bytes tokens [] marks clean)))
+
 pub whole_is_plain : WholeIsPlain
-whole_is_plain bytes tokens t marks clean over is = flat_plain t (subst AllPlain is (counted_plain 0 _ (events_are_plain tag_limit bytes tokens [] marks clean)))
+whole_is_plain bytes tokens t marks clean over is = plain_tree tag_limit bytes tokens t marks clean is

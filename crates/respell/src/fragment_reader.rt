@@ -2,50 +2,27 @@
 ghost use Rattle.std.specs.Prelude.{◌≡◌, ◌+◌, ◌<◌, ◌≤◌, ◌^◌, ◌↔◌, ℕ, List, [], ◌∷◌, ◌++◌, IsTrue, IsFalse, IfOk, IfSome, IfNone, length};
 ghost use Rattle.std.specs.List.{AllByRecursion};
 ghost use Rattle.lexical_core.specs.Tree.{Item, Tree};
+ghost use Rattle.markup.specs.Marks.{no_limit};
 ghost use Rattle.markup.specs.Events.{Placed};
-ghost use Rattle.markup.specs.Reading.{taken, HasTaken as HasTakenBytes, IsWholly};
+ghost use Rattle.markup.specs.Reading.{taken, HasTakenUnder, IsWhollyUnder};
 ghost use Rattle.fragments.specs.Plain.{IsPlain};
 ghost use Rattle.fragments.specs.Fragment.{fragment};
 ghost use Rattle.respell.specs.Respelling.{HasSortedAttributes};
 ghost use Rattle.respell.specs.Kept.{HasWritten};
-ghost use Rattle.respell.specs.ShortTags.{HasShortTags};
-ghost use Rattle.respell.specs.FragmentReading.{NoneOutside, event_items, HasReadFront, IsShortFragment, ReadsOn, AdvancesSo};
+ghost use Rattle.respell.specs.FragmentReading.{NoneOutside, event_items, HasReadFront, IsFragment, ReadsOn, AdvancesSo};
 
 use crate::respell::Respell;
 use markup::{Event, Events, MarkError, Reader};
 use std::alloc::{AllocError, Global};
 
-/// How many bytes a tag has at most that a reader of XML takes.
-const TAG_LIMIT: usize = 1_048_576;
-
 /// How many bytes of a run of characters are written again at once.
 const RUN_LIMIT: usize = 4096;
 
 /// Whether the bytes are the canonical fragment of some element. They are read, written again, and compared as they come,
-/// so that no more text is kept than one tag's, or 4,096 bytes of a run of characters. No reader of XML takes a tag of
-/// more than 1,048,576 bytes: bytes that could have one, and are no fragment with shorter tags, are not decided, and the
-/// answer is that there is no memory.
+/// so that no more text is kept than one tag's, or 4,096 bytes of a run of characters. A tag may have any length.
 pub fn is_fragment(alloc: Global, bytes: &[u8]) -> Result<bool, AllocError>
     requires { length bytes.now < 2 ^ 40 }
     ensures { IfOk result (λ b. IsTrue b ↔ ((t : Tree) × IsPlain t × (fragment t ≡ bytes.now))) }
-{
-    let is_short = match is_short_fragment(alloc, bytes) {
-        Ok(is_short) => is_short,
-        Err(error) => return Err(error),
-    };
-    if is_short {
-        return Ok(true);
-    }
-    if bytes.len() > TAG_LIMIT {
-        return Err(AllocError);
-    }
-    Ok(false)
-}
-
-/// Whether the bytes are the canonical fragment of some element, none of whose tags has more than 1,048,576 bytes.
-fn is_short_fragment(alloc: Global, bytes: &[u8]) -> Result<bool, AllocError>
-    requires { length bytes.now < 2 ^ 40 }
-    ensures { IfOk result (λ b. IsTrue b ↔ ((t : Tree) × IsPlain t × HasShortTags t × (fragment t ≡ bytes.now))) }
 {
     let mut reader = FragmentReader::new(alloc);
     reader.read(bytes)
@@ -75,7 +52,7 @@ impl FragmentReader {
         ensures none { (taken result.reader ≡ 0) × (result.respell.text ≡ []) }
     {
         FragmentReader {
-            reader: Reader::new(alloc),
+            reader: Reader::without_limit(alloc),
             events: Events::new(alloc),
             respell: Respell::new(alloc),
         }
@@ -84,7 +61,7 @@ impl FragmentReader {
     /// Reads all bytes, and answers whether they are a fragment.
     fn read(&mut self, bytes: &[u8]) -> Result<bool, AllocError>
         requires { (taken self.old.reader ≡ 0) × (self.old.respell.text ≡ []) × (length bytes.now < 2 ^ 40) }
-        ensures { HasReadFront self.old [] [] → IfOk result (λ b. IsTrue b ↔ IsShortFragment bytes.now) }
+        ensures { HasReadFront self.old [] [] → IfOk result (λ b. IsTrue b ↔ IsFragment bytes.now) }
     {
         let mut left = bytes;
         let mut uncompared = bytes;
@@ -203,7 +180,7 @@ impl FragmentReader {
     fn take(&mut self, byte: u8) -> Result<bool, AllocError>
         requires { taken self.old.reader < 2 ^ 40 }
         ensures goes_on { (bytes forgotten : List ℕ) → HasReadFront self.old bytes forgotten → IfOk result (λ b. IsTrue b → HasReadFront self.new (bytes ++ byte ∷ []) forgotten) }
-        ensures stops { (bytes forgotten behind : List ℕ) → HasReadFront self.old bytes forgotten → IfOk result (λ b. IsFalse b → IsShortFragment ((bytes ++ byte ∷ []) ++ behind) → ⊥) }
+        ensures stops { (bytes forgotten behind : List ℕ) → HasReadFront self.old bytes forgotten → IfOk result (λ b. IsFalse b → IsFragment ((bytes ++ byte ∷ []) ++ behind) → ⊥) }
         ensures count { IfOk result (λ b. IsTrue b → taken self.new.reader ≡ taken self.old.reader + 1) }
     {
         self.events.clear();
@@ -231,8 +208,8 @@ impl FragmentReader {
 
     /// The end of the bytes: whether they are whole.
     fn finish(&mut self) -> bool
-        ensures whole { (bytes : List ℕ) (told : List Placed) → HasTakenBytes self.old.reader bytes told → IsTrue result → IsWholly bytes told }
-        ensures stops { (bytes : List ℕ) (told : List Placed) → HasTakenBytes self.old.reader bytes told → IsFalse result → IsShortFragment bytes → ⊥ }
+        ensures whole { (bytes : List ℕ) (told : List Placed) → HasTakenUnder no_limit self.old.reader bytes told → IsTrue result → IsWhollyUnder no_limit bytes told }
+        ensures stops { (bytes : List ℕ) (told : List Placed) → HasTakenUnder no_limit self.old.reader bytes told → IsFalse result → IsFragment bytes → ⊥ }
         ensures respell { self.new.respell ≡ self.old.respell }
     {
         match self.reader.finish(&mut self.events) {

@@ -10,10 +10,9 @@
 //! `is_fragment` says whether bytes are a fragment: they are read, written again and compared as they come. `laws` has what
 //! holds of fragments: one is that of one tree, none is a proper front of another, and each is read back as its tree.
 //!
-//! Limits: `Respell` writes tags of any length. `is_fragment` takes fewer than 2^40 bytes, and no tag of more than 1,048,576
-//! as `Reader` does: where there are more bytes than that, which are no fragment with shorter tags, it answers want of
-//! memory. `Respell` keeps the text, the defaults that open elements declare, and whether each declares one; `is_fragment`
-//! keeps of the text one tag's or 4,096 bytes of a run at most, and what a `Reader` keeps.
+//! Limits: a fragment's tags have any length, where those of a document in XML have at most 1,048,576 bytes. `is_fragment`
+//! takes fewer than 2^40 bytes. `Respell` keeps the text, the defaults that open elements declare, and whether each declares
+//! one; `is_fragment` keeps of the text one tag's or 4,096 bytes of a run at most, and what a `Reader` keeps.
 #![tactic(auto)]
 
 mod fragment_reader;

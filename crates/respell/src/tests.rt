@@ -119,3 +119,24 @@ fn fragments_are_told(rt: HostRuntime) -> Result<(), AllocError> {
     }
     Ok(())
 }
+
+/// Whether an empty element with an attribute of 1,100,000 characters is a fragment, where its start tag ends so.
+fn is_long_fragment(alloc: Global, end: &[u8]) -> Result<bool, AllocError> {
+    let mut bytes = Vec::from_slice(alloc, b"<a xmlns=\"\" b=\"")?;
+    for _ in 0..1_100_000 {
+        bytes.push(b'x')?;
+    }
+    bytes.extend_from_slice(end)?;
+    if bytes.len() > 2_000_000 {
+        return Ok(false);
+    }
+    is_fragment(alloc, bytes.as_slice())
+}
+
+/// A fragment's tag may be longer than one of a document in XML.
+#[test]
+fn long_tags_are_told(rt: HostRuntime) -> Result<(), AllocError> {
+    assert!(&rt; is_long_fragment(rt.alloc(), b"\"></a>")?);
+    assert!(&rt; !is_long_fragment(rt.alloc(), b"\"/>")?);
+    Ok(())
+}

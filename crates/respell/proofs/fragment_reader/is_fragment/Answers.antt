@@ -1,6 +1,5 @@
-use Rattle.std.proofs.Common.{rules, arith}
-use Rattle.respell.proofs.ShortWithin.{is_none}
+use Rattle.respell.proofs.FragmentSteps.{if_ok, read_whole}
 use Rattle.respell.proofs.fragment_reader.is_fragment.Goals as goal
 
 pub returns : goal.returns
-returns c = is_none c.in-Ok.is_short c.args.bytes.now (search rules) c.in-Ok.ensures (omega arith)
+returns c = if_ok _ _ c.read.result (c.read.ensures c.new-reader.ensures.read) (λ b each. read_whole b c.args.bytes.now c.requires each)

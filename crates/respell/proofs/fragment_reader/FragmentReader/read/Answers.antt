@@ -1,6 +1,6 @@
-use Rattle.std.proofs.Common.{◌≡◌, ◌++◌, ℕ, List, refl, sym, subst, arith, ◌∙◌, take, drop}
+use Rattle.std.proofs.Common.{◌≡◌, ◌++◌, ℕ, List, length, ap, refl, sym, subst, arith, ◌∙◌, take, drop}
 use Rattle.std.specs.Prelude.{◌↔◌, IsTrue}
-use Rattle.respell.specs.FragmentReading.{IsShortFragment, AdvancesSo}
+use Rattle.respell.specs.FragmentReading.{IsFragment, AdvancesSo}
 use Rattle.respell.proofs.FragmentSteps.{never, front_differs, rest_uncompared, front_all, ends_whole}
 use Rattle.respell.proofs.FragmentParts.{front_taken}
 use Rattle.respell.proofs.fragment_reader.FragmentReader.read.Goals as goal
@@ -9,7 +9,7 @@ pub returns-in-NoFragment : goal.returns-in-NoFragment
 returns-in-NoFragment c h =
     let (front, e, forgotten, u, now) = c.loop-left.invariant.2 h in
     let refused = subst (λ a. AdvancesSo c.loop-left.self c.advance.new.self c.loop-left.left.now a) c.in-NoFragment.is c.in_ok-count.ensures in
-    never c.args.bytes.now (λ f. refused front forgotten now (subst IsShortFragment (sym e) f))
+    never c.args.bytes.now (λ f. refused front forgotten now (subst IsFragment (sym e) f))
 
 pub returns-in_default : goal.returns-in_default
 returns-in_default c h =
@@ -40,11 +40,12 @@ pub returns-then-not-finish : goal.returns-then-not-finish
 returns-then-not-finish c h =
     let (front, e, forgotten, u, now) = c.loop-left.invariant.2 h in
     let all : front ≡ c.args.bytes.now = front_all front c.loop-left.left.now c.args.bytes.now c.is_empty.result e c.is_empty.ensures c.loop-left-test.false in
-    never c.args.bytes.now (λ f. c.finish.ensures.stops front now.told now.reads c.if-not-finish.true (subst IsShortFragment (sym all) f))
+    never c.args.bytes.now (λ f. c.finish.ensures.stops front now.told now.reads c.if-not-finish.true (subst IsFragment (sym all) f))
 
 pub returns : goal.returns
 returns c h =
     let (front, e, forgotten, u, now) = c.loop-left.invariant.2 h in
     let all : front ≡ c.args.bytes.now = front_all front c.loop-left.left.now c.args.bytes.now c.is_empty.result e c.is_empty.ensures c.loop-left-test.false in
-    subst (λ (b : List ℕ). IsTrue c.is_empty-2.result ↔ IsShortFragment b) all
-    (ends_whole c.loop-left.self front forgotten c.loop-left.uncompared.now c.is_empty-2.result now (c.finish.ensures.whole front now.told now.reads c.if-not-finish.false) c.loop-left.invariant.1 (u ∙ sym all) c.is_empty-2.ensures)
+    subst (λ (b : List ℕ). IsTrue c.is_empty-2.result ↔ IsFragment b) all
+    (ends_whole c.loop-left.self front forgotten c.loop-left.uncompared.now c.is_empty-2.result now (c.finish.ensures.whole front now.told now.reads c.if-not-finish.false) c.loop-left.invariant.1 (u ∙ sym all) c.is_empty-2.ensures
+    (let fits = c.requires.2 in omega (arith, fits, ap length all)))
