@@ -9,7 +9,7 @@ take_events-requires c =
     let h = c.requires.read.1 in
     record {
       loaded = (h.told, h.loaded);
-      texts = goes_texts c.take.new.self (c.requires.read.0 ++ c.args.byte ∷ []) h.told c.args.self.now.events c.take.new.out h.none (c.in-Ok.ensures.ok c.requires.read.0 h.told h.given);
+      texts = goes_texts c.take.new.self (c.requires.read.0 ++ c.args.byte ∷ []) h.told c.args.self.now.events c.take.new.out h.none (c.in-Ok.ensures.ok _ c.requires.read.0 h.told h.given);
     }
 
 pub first_fault-requires : goal.first_fault-requires
@@ -18,14 +18,14 @@ first_fault-requires c =
     record {
       loaded = (h.told, h.loaded);
       texts = refuses_texts (c.requires.read.0 ++ c.args.byte ∷ []) h.told c.args.self.now.events c.take.new.out c.in-Err-Refused.fault h.none
-          (subst (Stops (c.requires.read.0 ++ c.args.byte ∷ []) h.told c.args.self.now.events c.take.new.out) c.in-Err-Refused.field-0-is (c.in-Err-Refused.ensures.err c.requires.read.0 h.told h.given));
+          (subst (Stops (c.requires.read.0 ++ c.args.byte ∷ []) h.told c.args.self.now.events c.take.new.out) c.in-Err-Refused.field-0-is (c.in-Err-Refused.ensures.err _ c.requires.read.0 h.told h.given));
     }
 
 pub returns-in-Ok : goal.returns-in-Ok
 returns-in-Ok c = record {
   read = λ bytes h. ok_map c.take_events.result
       (reads_on c.args.self.now c.take_events.new.self bytes c.args.byte c.take.new.out h
-      (subst (λ r. GoesOn r (bytes ++ c.args.byte ∷ []) h.told c.args.self.now.events c.take.new.out) (sym c.take_events.ensures.reader) (c.in-Ok.ensures.ok bytes h.told h.given))
+      (subst (λ r. GoesOn r (bytes ++ c.args.byte ∷ []) h.told c.args.self.now.events c.take.new.out) (sym c.take_events.ensures.reader) (c.in-Ok.ensures.ok _ bytes h.told h.given))
       (ap taken c.take_events.ensures.reader ∙ c.in-Ok.ensures.count) c.take_events.ensures.none)
       (c.take_events.ensures.loaded h.told h.loaded);
   count = if_none c.take_events.result (ap taken c.take_events.ensures.reader ∙ c.in-Ok.ensures.count);
@@ -34,5 +34,5 @@ returns-in-Ok c = record {
 pub returns-in_ok-first_fault-in-Err-Refused-clause-read : goal.returns-in_ok-first_fault-in-Err-Refused-clause-read
 returns-in_ok-first_fault-in-Err-Refused-clause-read c bytes h =
     first_shows (bytes ++ c.args.byte ∷ []) h.told c.args.self.now.events c.take.new.out c.in-Err-Refused.fault c.in_ok-first_fault-in-Err-Refused.field-0 h.none
-    (subst (Stops (bytes ++ c.args.byte ∷ []) h.told c.args.self.now.events c.take.new.out) c.in-Err-Refused.field-0-is (c.in-Err-Refused.ensures.err bytes h.told h.given))
+    (subst (Stops (bytes ++ c.args.byte ∷ []) h.told c.args.self.now.events c.take.new.out) c.in-Err-Refused.field-0-is (c.in-Err-Refused.ensures.err _ bytes h.told h.given))
     (c.in_ok-first_fault-in-Err-Refused.ensures h.told h.loaded)
