@@ -4,7 +4,7 @@ ghost use Rattle.std.specs.Prelude.{◌≡◌, ◌==◌, ◌<◌, ◌≤◌, ◌
 ghost use Rattle.lexical_core.specs.Tree.{Char};
 ghost use Rattle.markup.specs.Token.{Token, StartTag, Start, End, LineEnd, Line, Character};
 ghost use Rattle.markup.specs.Marks.{in_cdata};
-ghost use Rattle.markup.specs.Events.{opening, spelled};
+ghost use Rattle.markup.specs.Events.{opening, open_tags, spelled};
 ghost use Rattle.markup.specs.EventItems.{Tells, TellsFront, item_of};
 ghost use Rattle.markup.specs.TokenRules.{inner_rule, inside_alone, inner_items, brackets_by, one_more, ends_tag};
 ghost use Rattle.markup.specs.Contexts.{IsContext, TokenTaken, HasOpen, unbracketed};
@@ -95,6 +95,13 @@ impl Context {
         ensures inside { (before : List Token) → IsContext self.now before → is_outside before ≡ false → IsTrue result }
     {
         !self.scope.is_outside()
+    }
+
+    /// How many elements are open.
+    pub(crate) fn depth(&self) -> usize
+        ensures { (before : List Token) → IsContext self.now before → result ≡ length (open_tags before) }
+    {
+        self.scope.depth()
     }
 
     /// Passes over characters none of which is `]`.

@@ -47,6 +47,13 @@ impl OpenNames {
         self.sizes.is_empty()
     }
 
+    /// How many elements are open.
+    pub(crate) fn count(&self) -> usize
+        ensures { (names : List OpenName) → KeepsNames self.now names → result ≡ length names }
+    {
+        self.sizes.len()
+    }
+
     /// One more element is open. Where there is no memory the names are of no more use.
     pub(crate) fn push(
         &mut self,

@@ -1,5 +1,5 @@
 // A reader of XML that takes a byte at a time, or many at once.
-ghost use Rattle.std.specs.Prelude.{◌≡◌, ◌<◌, ◌≤◌, ◌^◌, ◌+◌, ◌∷◌, ◌++◌, ℕ, List, [], IfOk, IfErr, IfSome, IsSome, OnOk, IsTrue, IsFalse, true, Some, None, Err, false, length, take};
+ghost use Rattle.std.specs.Prelude.{◌≡◌, ◌<◌, ◌≤◌, ◌^◌, ◌+◌, ◌∷◌, ◌++◌, ℕ, List, [], IfOk, IfErr, IfSome, IsSome, OnOk, IsTrue, IsFalse, true, Some, None, Err, false, length, reverse, take};
 ghost use Rattle.std.specs.List.{prefix_len, list_all};
 ghost use Rattle.markup.specs.Chars.{is_space};
 ghost use Rattle.lexical_core.specs.declared.rule.Rule.TheVariants.{Truncated};
@@ -12,7 +12,7 @@ ghost use Rattle.markup.specs.TokenRules.{ends_tag};
 ghost use Rattle.markup.specs.Tokenizers.{IsAwaited, FinishesBy, undrafted, handed_out};
 ghost use Rattle.markup.specs.ReaderSteps.{TellsMore, SettlesEvents, TokenAnswered, returned, IsReady};
 ghost use Rattle.markup.specs.Literals.{is_literal, IsRun, characters_from};
-ghost use Rattle.markup.specs.Events.{Placed};
+ghost use Rattle.markup.specs.Events.{open_tags, Placed};
 ghost use Rattle.markup.specs.EventItems.{Tells};
 ghost use Rattle.markup.specs.declared.tag.Opening.{Opening};
 ghost use Rattle.markup.specs.declared.plain_tag.TagKind.{TagKind};
@@ -195,6 +195,13 @@ impl Reader {
                 Err(MarkError::Memory)
             }
         }
+    }
+
+    /// How many elements are open, whose start tags have ended and whose end tags have not.
+    pub fn depth(&self) -> usize
+        ensures { (limit : ℕ) (bytes : List ℕ) (tokens : List Token) (told : List Placed) → Keeps limit Any self.now bytes tokens told → result ≡ length (open_tags (reverse tokens)) }
+    {
+        self.context.depth()
     }
 
     /// How many bytes are held for the open token: those of the names and values that a tag has said

@@ -75,6 +75,13 @@ impl Scope {
         self.names.is_empty()
     }
 
+    /// How many elements are open.
+    pub(crate) fn depth(&self) -> usize
+        ensures { (tags : List Opening) → IsScope self.now tags → result ≡ length tags }
+    {
+        self.names.count()
+    }
+
     /// A start tag at the place: tells its events, or the least rule that it breaks. `over`: the root
     /// has come and is closed. The tag of an empty element opens and closes it (XML 1.0 §3.1;
     /// Namespaces §6). Behind an error the scope is of no more use.
