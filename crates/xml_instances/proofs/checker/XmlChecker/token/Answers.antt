@@ -2,7 +2,7 @@
 use Rattle.xml_instances.proofs.checker.XmlChecker.token.Goals as goal
 
 pub returns-clause-count : goal.returns-clause-count
-returns-clause-count c T bytes h = c.token.ensures.held bytes h.told h.given
+returns-clause-count c T bytes h = c.token.ensures.held _ bytes h.told h.given
 
 pub returns-clause-bound : goal.returns-clause-bound
-returns-clause-bound c T bytes h = c.token.ensures.bound bytes h.told h.given
+returns-clause-bound c T bytes h = c.token.ensures.bound _ bytes h.told h.given
