@@ -15,7 +15,7 @@ use Rattle.lexical_core.specs.declared.utf8.Utf8.TheVariants.{More, Char}
 use Rattle.markup.specs.Chars.{is_xml_char, is_space}
 use Rattle.lexical_core.proofs.ByteForms.{Spells, spells_2, spells_3}
 use Rattle.markup.proofs.CharLemmas.{classes}
-use Rattle.markup.specs.Literals.{is_literal, IsLiteral, IsRun, IsAt, IsWideAt}
+use Rattle.markup.specs.Literals.{is_literal, is_still_space, IsLiteral, IsRun, IsAt, IsWideAt}
 
 -- so many bytes of the piece have come, which are a front of one character
 pub record IsBegun (piece : List ℕ) (utf8 : Option (List ℕ)) (count : ℕ) (rest : List ℕ) : Type 0 where
@@ -217,3 +217,40 @@ walked_run piece bytes characters rest w = subst (λ v. IsRun v characters) (sym
 
 pub walked_within : (piece : List ℕ) (bytes characters : ℕ) (rest : List ℕ) → IsWalked piece bytes characters rest → bytes + length rest ≡ length piece
 walked_within piece bytes characters rest w = ap (λ n. n + length rest) (sym w.bytes_are) ∙ (sym (length-append w.seen rest) ∙ ap length (sym w.joined))
+
+-- ---- white space
+
+pub still_literal : (x : ℕ) → is_still_space x ≡ true → is_literal x ≡ true
+unfolding is_space
+still_literal x h = grind (arith, nat_tests)
+
+still_blank : (x : ℕ) → is_still_space x ≡ true → is_space x ≡ true
+unfolding is_space
+still_blank x h = grind (arith, nat_tests)
+
+still_front : (xs : List ℕ) (n : ℕ) → n ≤ prefix_len is_still_space xs → (n ≤ prefix_len is_literal xs) × (list_all is_space (take n xs) ≡ true)
+still_front xs zero h = (omega arith, refl)
+still_front [] (suc n) h = (h, refl)
+still_front (x ∷ xs) (suc n) h = by (is_still_space x) refl h (λ k. still_front xs n k) where
+  by : (b : Bool) → is_still_space x ≡ b → suc n ≤ cond b (1 + prefix_len is_still_space xs) 0 → (n ≤ prefix_len is_still_space xs → (n ≤ prefix_len is_literal xs) × (list_all is_space (take n xs) ≡ true))
+      → (suc n ≤ cond (is_literal x) (1 + prefix_len is_literal xs) 0) × ((is_space x && list_all is_space (take n xs)) ≡ true)
+  by true e h more =
+      let k = more (omega arith) in
+      (rw (still_literal x e) (omega (arith, k.0)), rw (still_blank x e) k.1)
+  by false e h more = absurd (omega arith)
+
+-- so much white space is a run of so many characters
+pub blank_run : (xs : List ℕ) (n : ℕ) → n ≡ prefix_len is_still_space xs → n ≤ length xs → IsRun (take n xs) n × (list_all is_space (take n xs) ≡ true)
+blank_run xs n e within =
+    let s = still_front xs n (omega (arith, e)) in
+    let f = literal_front xs n s.0 in (
+      record {
+        characters = take n xs;
+        bytes_are = sym f.0;
+        count_is = length-take-le n xs within;
+        literal = f.1;
+        allowed = literals_allowed (take n xs) f.1;
+        blank_is = refl;
+      },
+      s.1,
+    )

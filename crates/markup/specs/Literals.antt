@@ -10,6 +10,10 @@ use Rattle.markup.specs.Events.{Placed}
 abbrev pub is_literal : ℕ → Bool
 is_literal byte = (nat_le 32 byte && nat_le byte 127 && not (byte == 60) && not (byte == 38) && not (byte == 93) && not (byte == 62)) || byte == 9 || byte == 10
 
+-- white space that stands by itself: a CR does not, which an LF may join (XML 1.0 §2.3, S; §2.11)
+abbrev pub is_still_space : ℕ → Bool
+is_still_space byte = is_space byte && not (byte == 13)
+
 -- a character that is one of an element's text there: such a byte, or a character of several bytes that XML has (XML 1.0 §2.2)
 abbrev pub IsLiteral : ℕ → Type 0
 IsLiteral c = (is_literal c ≡ true) ⊎ ((nat_le 128 c ≡ true) × (is_xml_char c ≡ true))

@@ -2,7 +2,7 @@
 ghost use Rattle.std.specs.Prelude.{◌≡◌};
 ghost use Rattle.markup.specs.Chars.{is_space};
 ghost use Rattle.markup.specs.Inside.{is_literal_of};
-ghost use Rattle.markup.specs.Literals.{is_literal};
+ghost use Rattle.markup.specs.Literals.{is_literal, is_still_space};
 ghost use Rattle.markup.specs.PlainTags.{continues_plain};
 
 use lexical_core::ByteClass;
@@ -74,6 +74,34 @@ impl ByteClass for Blank {
             & bytes.simd_ne(u8x8::splat(b'\t'))
             & bytes.simd_ne(u8x8::splat(b'\n'))
             & bytes.simd_ne(u8x8::splat(b'\r'))).to_bitmask()
+    }
+}
+
+/// White space that stands by itself: spaces, tabs and LFs, and no CR, which an LF may join
+/// (XML 1.0 §2.3, S; §2.11).
+pub(crate) struct StillBlank;
+
+impl ByteClass for StillBlank {
+    ghost class = { λ _. is_still_space };
+
+    #[inline]
+    #[tactic(auto, unfolding(crate::specs::Chars::is_space))]
+    fn has(&self, byte: u8) -> bool {
+        byte == b' ' || byte == b'\t' || byte == b'\n'
+    }
+
+    #[inline]
+    fn others(&self, bytes: u8x16) -> u64 {
+        (bytes.simd_ne(u8x16::splat(b' '))
+            & bytes.simd_ne(u8x16::splat(b'\t'))
+            & bytes.simd_ne(u8x16::splat(b'\n'))).to_bitmask()
+    }
+
+    #[inline]
+    fn others_of_eight(&self, bytes: u8x8) -> u64 {
+        (bytes.simd_ne(u8x8::splat(b' '))
+            & bytes.simd_ne(u8x8::splat(b'\t'))
+            & bytes.simd_ne(u8x8::splat(b'\n'))).to_bitmask()
     }
 }
 

@@ -1,13 +1,13 @@
 // Runs of characters that stand by themselves.
-ghost use Rattle.std.specs.Prelude.{◌≡◌, ◌≤◌, ◌↔◌, IfSome, IsTrue, length, take};
+ghost use Rattle.std.specs.Prelude.{◌≡◌, ◌≤◌, ◌↔◌, IfSome, IsTrue, true, length, take};
 ghost use Rattle.lexical_core.specs.Begun.{IsTail};
 ghost use Rattle.std.specs.List.{prefix_len, list_all};
 ghost use Rattle.markup.specs.Chars.{is_space};
-ghost use Rattle.markup.specs.Literals.{is_literal, IsAt, IsWideAt, IsRun};
+ghost use Rattle.markup.specs.Literals.{is_literal, is_still_space, IsAt, IsWideAt, IsRun};
 
 use crate::characters::is_allowed;
-use crate::classes::{Blank, Literal};
-use lexical_core::{Utf8, Utf8Step, run_length};
+use crate::classes::{Blank, Literal, StillBlank};
+use lexical_core::{ByteClass, Utf8, Utf8Step, run_length};
 
 /// A run of characters.
 #[derive(Clone, Copy, Debug, PartialEq, Eq)]
@@ -147,7 +147,10 @@ fn literal_extent(piece: &[u8]) -> Extent
 fn is_blank_run(bytes: &[u8]) -> bool
     ensures { result ≡ list_all is_space bytes.now }
 {
-    run_length(&Blank, bytes) == bytes.len()
+    match bytes.split_first() {
+        Some((first, rest)) => Blank.has(*first) && run_length(&Blank, rest) == rest.len(),
+        None => true,
+    }
 }
 
 /// The characters at the front of the piece that stand by themselves, up to the first byte that
@@ -165,4 +168,15 @@ pub(crate) fn literal_run(piece: &[u8]) -> Run
         characters,
         blank: is_blank_run(front),
     }
+}
+
+/// How many bytes at the front of the piece are white space that stands by itself.
+#[inline]
+pub(crate) fn blank_length(piece: &[u8]) -> usize
+    ensures within { result ≤ length piece.now }
+    ensures count { result ≡ prefix_len is_still_space piece.now }
+    ensures only { IsRun (take result piece.now) result }
+    ensures blank { list_all is_space (take result piece.now) ≡ true }
+{
+    run_length(&StillBlank, piece)
 }

@@ -1,5 +1,5 @@
 // The names of the open elements, in one block of bytes.
-ghost use Rattle.std.specs.Prelude.{◌≡◌, ◌==◌, ◌∷◌, List, [], ℕ, length, OnOk, MatchOption};
+ghost use Rattle.std.specs.Prelude.{◌≡◌, ◌==◌, ◌∷◌, ◌++◌, List, [], ℕ, length, OnOk, MatchOption};
 ghost use Rattle.markup.specs.OpenNames.{OpenName, KeepsNames, IsInnermost};
 
 use std::alloc::{AllocError, Global};
@@ -26,6 +26,17 @@ pub(crate) struct OpenNames {
 pub(crate) struct InnermostName<'a> {
     pub(crate) prefix: &'a [u8],
     pub(crate) local: &'a [u8],
+}
+
+/// Appends the bytes, of which there are mostly none.
+#[inline]
+fn append(bytes: &mut Vec<u8>, more: &[u8]) -> Result<(), AllocError>
+    ensures { OnOk result (bytes.new.items ≡ bytes.old.items ++ more.now) }
+{
+    if more.is_empty() {
+        return Ok(());
+    }
+    bytes.extend_from_slice(more)
 }
 
 impl OpenNames {
@@ -63,7 +74,7 @@ impl OpenNames {
     ) -> Result<(), AllocError>
         ensures { (names : List OpenName) → KeepsNames self.old names → OnOk result (KeepsNames self.new ((record { name = record { prefix = prefix.now; local = local.now }; declared = declared }) ∷ names)) }
     {
-        self.bytes.extend_from_slice(prefix)?;
+        append(&mut self.bytes, prefix)?;
         self.bytes.extend_from_slice(local)?;
         self.sizes.push(NameSize {
             prefix: prefix.len(),

@@ -11,7 +11,7 @@ ghost use Rattle.markup.specs.Contexts.{IsContext};
 ghost use Rattle.markup.specs.TokenRules.{ends_tag};
 ghost use Rattle.markup.specs.Tokenizers.{IsAwaited, FinishesBy, undrafted, handed_out};
 ghost use Rattle.markup.specs.ReaderSteps.{TellsMore, SettlesEvents, TokenAnswered, returned, IsReady};
-ghost use Rattle.markup.specs.Literals.{is_literal, IsRun, characters_from};
+ghost use Rattle.markup.specs.Literals.{is_literal, is_still_space, IsRun, characters_from};
 ghost use Rattle.markup.specs.Events.{open_tags, Placed};
 ghost use Rattle.markup.specs.EventItems.{Tells};
 ghost use Rattle.markup.specs.declared.tag.Opening.{Opening};
@@ -24,7 +24,7 @@ ghost use Rattle.markup.specs.Inputs.{Any, Begins, is_return};
 
 use crate::context::Context;
 use crate::event::Events;
-use crate::literals::{Run, literal_run};
+use crate::literals::{Run, blank_length, literal_run};
 use crate::plain_tag::{PlainTag, TagKind};
 use crate::scan::Ended;
 use crate::scope::Stop;
@@ -136,6 +136,31 @@ impl Reader {
             self.context.pass_characters();
         }
         run
+    }
+
+    /// Takes the white space at the front of the piece that stands by itself, where an element is open
+    /// and no token is: spaces, tabs and LFs (XML 1.0 §2.3, S). A CR, which an LF may join, is for
+    /// `take`. Each is a character at its place. It answers how many they are, and after an error
+    /// none. It takes no memory.
+    #[inline]
+    pub fn take_blanks(&mut self, piece: &[u8]) -> usize
+        requires { failed self.old ≡ None → taken self.old + length piece.now ≤ 2 ^ 40 }
+        ensures within { result ≤ length piece.now }
+        ensures only { IsRun (take result piece.now) result }
+        ensures blank { list_all is_space (take result piece.now) ≡ true }
+        ensures taken { (limit : ℕ) (bytes : List ℕ) (told : List Placed) → HasTakenUnder limit self.old bytes told →
+            (run : IsRun (take result piece.now) result) × HasToldUnder limit self.new (bytes ++ take result piece.now) (told ++ characters_from (length bytes) run.characters) }
+        ensures all { (limit : ℕ) (bytes : List ℕ) (told : List Placed) → IsInsideUnder limit self.old bytes told → result ≡ prefix_len is_still_space piece.now }
+        ensures count { taken self.new ≡ taken self.old + result }
+        ensures failed { failed self.new ≡ failed self.old }
+        ensures again { (e : MarkError) → failed self.old ≡ Some e → (result ≡ 0) × (self.new ≡ self.old) }
+    {
+        let count = self.count_blanks(piece);
+        if count > 0 {
+            self.tokenizer.pass(count as u64);
+            self.context.pass_characters();
+        }
+        count
     }
 
     /// Takes the start tag or end tag that stands whole at the front of the piece, where no token and
@@ -254,6 +279,29 @@ impl Reader {
             return none;
         }
         literal_run(piece)
+    }
+
+    /// How much white space that stands by itself is at the front of the piece, where it may come.
+    #[inline]
+    fn count_blanks(&self, piece: &[u8]) -> usize
+        ensures within { result ≤ length piece.now }
+        ensures only { IsRun (take result piece.now) result }
+        ensures blank { list_all is_space (take result piece.now) ≡ true }
+        ensures ready { 0 < result → IsReady self.now }
+        ensures sound { 0 < result → failed self.now ≡ None }
+        ensures all { (limit : ℕ) (bytes : List ℕ) (told : List Placed) → IsInsideUnder limit self.now bytes told → result ≡ prefix_len is_still_space piece.now }
+        ensures none { (e : MarkError) → failed self.now ≡ Some e → result ≡ 0 }
+    {
+        if self.failed.is_some() {
+            return 0;
+        }
+        if !self.tokenizer.is_ready() {
+            return 0;
+        }
+        if !self.context.has_open() {
+            return 0;
+        }
+        blank_length(piece)
     }
 
     /// The end of the input. It appends no event. It answers Ok where the bytes are whole, and

@@ -37,3 +37,4 @@ pub mod KeptPieces
 pub mod GoingOn
 pub mod ReadPieces
 pub mod InsideNames
+pub mod Passing

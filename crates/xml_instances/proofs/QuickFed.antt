@@ -1,6 +1,6 @@
 -- A checker that takes runs of characters and whole tags.
 use Rattle.std.proofs.Common.{◌≡◌, ℕ, ◌+◌, ◌-◌, ◌^◌, ◌<◌, ◌≤◌, arith, take, drop, List, [], ◌∷◌, ◌++◌, Some, None, refl, sym, ap, ◌∙◌, length, map, subst, append_assoc, append-nil, length-append, inl, inr}
-use Rattle.std.specs.Prelude.{Result, Ok, Err, Option, IfOk, IfSome, ◌≢◌, encode_utf8, min, zero, suc}
+use Rattle.std.specs.Prelude.{Result, Ok, Err, Option, IfOk, IfSome, ◌≢◌, encode_utf8, min}
 use Rattle.std.proofs.lemmas.List.{length-take-le, take-append-drop}
 use Rattle.std.proofs.lemmas.Str.{length-le-encodes}
 use Rattle.lexical_core.specs.declared.rule.Rule.TheVariants.{Truncated}
@@ -118,13 +118,6 @@ no_characters bytes count r e = of_length r.characters (omega (arith, length-le-
     of_length : (cs : List ℕ) → length cs ≤ 0 → cs ≡ []
     of_length [] h = refl
     of_length (c ∷ cs) h = absurd (omega (arith, h))
-
-pub take_within : (xs : List ℕ) (n k : ℕ) → n ≤ length (take k xs) → take n (take k xs) ≡ take n xs
-take_within xs zero k h = refl
-take_within [] (suc n) zero h = refl
-take_within [] (suc n) (suc k) h = refl
-take_within (x ∷ xs) (suc n) zero h = absurd (omega (arith, h))
-take_within (x ∷ xs) (suc n) (suc k) h = ap (λ v. x ∷ v) (take_within xs n k (omega (arith, h)))
 
 -- what the reader answers for a run
 abbrev pub RunTold : Reader → Reader → List ℕ → ℕ → Type 0

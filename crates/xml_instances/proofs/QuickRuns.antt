@@ -1,7 +1,7 @@
 -- Runs of characters, and the events of a tag, held to the content.
-use Rattle.std.proofs.Common.{◌≡◌, ℕ, ◌+◌, ◌≤◌, Bool, true, false, ◌&&◌, List, [], ◌∷◌, ◌++◌, Option, Some, None, take, refl, sym, ap, subst, ◌∙◌, reverse, append-nil, append_assoc, inl, inr, arith}
-use Rattle.std.specs.Prelude.{Result, Ok, Err, OnOk, OnErr, map, suc, zero, cond, not, ◌==◌}
-use Rattle.std.specs.List.{list_all, prefix_len}
+use Rattle.std.proofs.Common.{◌≡◌, ℕ, Bool, true, false, ◌&&◌, List, [], ◌∷◌, ◌++◌, Option, Some, None, refl, sym, ap, subst, ◌∙◌, reverse, append-nil, append_assoc, inl, inr}
+use Rattle.std.specs.Prelude.{Result, Ok, Err, OnOk, OnErr, map}
+use Rattle.std.specs.List.{list_all}
 use Rattle.lexical_core.specs.Tree.{Item, Char}
 use Rattle.lexical_core.specs.XmlRuns.{IsXmlRun}
 use Rattle.markup.specs.Chars.{is_space}
@@ -14,7 +14,7 @@ use Rattle.xml_instances.specs.Judges.{HasTaken, IsMadeFor}
 use Rattle.xml_instances.specs.Levels.{Level, Parent, Leaf, Envelope, Foreign, levels_after, levels_over, with_char, path_in}
 use Rattle.xml_instances.specs.EventFaults.{AreFine, char_fault, is_bare}
 use Rattle.xml_instances.specs.Open.{IsOpen, HoldsText, StandsFor, StandFor, Stands, IsItemTaken}
-use Rattle.xml_instances.specs.Quick.{MayTake, IsRunTaken, AreItemsTaken, is_still_space}
+use Rattle.xml_instances.specs.Quick.{MayTake, IsRunTaken, AreItemsTaken}
 use Rattle.xml_instances.specs.declared.content.Content.{Content}
 use Rattle.xml_instances.specs.declared.content.OpenText.{OpenText}
 use Rattle.xml_instances.specs.declared.opened.Opened.{Opened}
@@ -22,28 +22,12 @@ use Rattle.xml_instances.specs.declared.opened.Opened.TheVariants as opened
 use Rattle.xml_instances.specs.declared.opened.Refusal.{Refusal}
 use Rattle.xml_instances.specs.declared.opened.Refusal.TheVariants.{Breaks, Memory}
 
--- ---- white space at the front
-
 pub both_true : (a b : Bool) → (a && b) ≡ true → (a ≡ true) × (b ≡ true)
 both_true true b h = (refl, h)
 both_true false b h = absurd (differ h)
   where
     differ : false ≡ true → ⊥
     differ k = cc
-
-blank_more : (b : Bool) (x n : ℕ) (xs : List ℕ) → is_still_space x ≡ b → suc n ≤ cond b (1 + prefix_len is_still_space xs) 0
-    → (n ≤ prefix_len is_still_space xs → list_all is_space (take n xs) ≡ true) → (is_space x && list_all is_space (take n xs)) ≡ true
-blank_more true x n xs e h rest = rw (both_true (is_space x) (not (x == 13)) e).0 (rest (omega (arith, h)))
-blank_more false x n xs e h rest = absurd (omega (arith, h))
-
-blank_take : (xs : List ℕ) (n : ℕ) → n ≤ prefix_len is_still_space xs → list_all is_space (take n xs) ≡ true
-blank_take [] zero h = refl
-blank_take [] (suc n) h = refl
-blank_take (x ∷ xs) zero h = refl
-blank_take (x ∷ xs) (suc n) h = blank_more (is_still_space x) x n xs refl h (λ k. blank_take xs n k)
-
-pub blank_front : (xs : List ℕ) (n k : ℕ) → n ≤ k → k ≡ prefix_len is_still_space xs → list_all is_space (take n xs) ≡ true
-blank_front xs n k h e = blank_take xs n (omega (arith, h, e))
 
 -- ---- a run of characters
 

@@ -1,23 +1,21 @@
 -- Runs of characters and whole tags, held to a message. Private functions alone cite this.
-use Rattle.std.specs.Prelude.{◌≡◌, ◌==◌, ◌&&◌, ℕ, Bool, not, true, false, List, [], ◌∷◌, map, Option, Some, None, Result, Ok, Err}
+use Rattle.std.specs.Prelude.{◌≡◌, ℕ, true, false, List, [], ◌∷◌, map, Option, Some, None, Result, Ok, Err, slice_get}
 use Rattle.std.specs.List.{list_all}
 use Rattle.lexical_core.specs.Tree.{Expanded, Item, Char}
 use Rattle.markup.specs.Chars.{is_space}
 use Rattle.facets.specs.declared.simple.Simple.{Simple}
-use Rattle.reference_check.specs.Forms.{Graph}
+use Rattle.reference_check.specs.Forms.{Graph, Slot, form_slots}
 use Rattle.message_model.specs.Message.{Message}
 use Rattle.xml_instances.specs.Levels.{Level, Parent, Leaf, Envelope, Foreign, levels_over}
-use Rattle.xml_instances.specs.EventFaults.{AreFine, FirstFault, is_bare}
-use Rattle.xml_instances.specs.Open.{IsOpen}
+use Rattle.xml_instances.specs.EventFaults.{AreFine, FirstFault, is_bare, has_currency}
+use Rattle.xml_instances.specs.Open.{IsOpen, IsItemTaken}
 use Rattle.xml_instances.specs.declared.opened.Opened.{Opened}
 use Rattle.xml_instances.specs.declared.opened.Opened.TheVariants as opened
 use Rattle.xml_instances.specs.declared.opened.Refusal.{Refusal}
 use Rattle.xml_instances.specs.declared.opened.Refusal.TheVariants.{Breaks, Memory}
 use Rattle.xml_instances.specs.declared.content.Content.{Content}
-
--- white space that stands by itself: a CR does not, which an LF may join (XML 1.0 §2.11)
-abbrev pub is_still_space : ℕ → Bool
-is_still_space c = is_space c && not (c == 13)
+use Rattle.xml_instances.specs.declared.content.quick.Room.{Room}
+use Rattle.xml_instances.specs.declared.content.quick.Room.TheVariants.{All, Blanks, Nothing}
 
 -- The bytes may be characters of the innermost element: between elements they are white space, where there is a place for it.
 abbrev pub MayTake : Graph ℕ Simple → Option Opened → List ℕ → Type 0
@@ -26,6 +24,12 @@ MayTake types (Some (opened.Envelope filled)) bytes = list_all is_space bytes �
 MayTake types (Some opened.Text) bytes = Unit {0}
 MayTake types (Some opened.Foreign) bytes = Unit {0}
 MayTake types None bytes = Unit {0}
+
+-- what may be characters of the innermost element
+abbrev pub HasRoom : Graph ℕ Simple → Option Opened → Room → Type 0
+HasRoom types innermost All = (bytes : List ℕ) → MayTake types innermost bytes
+HasRoom types innermost Blanks = (bytes : List ℕ) → list_all is_space bytes ≡ true → MayTake types innermost bytes
+HasRoom types innermost Nothing = Unit {0}
 
 -- the characters break no rule, and the content stands behind them
 abbrev pub IsRunTaken : Message ℕ → List (Level ℕ) → List ℕ → Content → Type 0
@@ -36,6 +40,18 @@ abbrev pub AreItemsTaken : {T : Type 0} → Message ℕ → List (Level ℕ) →
 AreItemsTaken m ls items content (Ok x) = AreFine m ls items × IsOpen content m (levels_over m ls items)
 AreItemsTaken m ls items content (Err (Breaks rule path)) = FirstFault m ls items (record { rule = rule; path = path })
 AreItemsTaken m ls items content (Err Memory) = Unit {0}
+
+-- the item breaks no rule, and the content stands behind it
+abbrev pub Passes : Message ℕ → List (Level ℕ) → Item → Content → Type 0
+Passes m ls item content = IsItemTaken {T = Unit {0}} m ls item content (Ok tt)
+
+-- the same of several
+abbrev pub PassAll : Message ℕ → List (Level ℕ) → List Item → Content → Type 0
+PassAll m ls items content = AreItemsTaken {T = Unit {0}} m ls items content (Ok tt)
+
+-- the slot has this type, whose elements may be without attributes
+abbrev pub IsTargetOf : Graph ℕ Simple → ℕ → ℕ → ℕ → Type 0
+IsTargetOf types number k target = (s : Slot ℕ) × (slice_get (form_slots (types number)) k ≡ Some s) × (target ≡ s.target) × (has_currency (types target) ≡ false)
 
 -- the name is in the namespace of the innermost element, where that has elements of the message
 abbrev pub IsOurs : Message ℕ → List (Level ℕ) → Expanded → Type 0

@@ -10,9 +10,11 @@ ghost use Rattle.xml_instances.specs.XmlFaults.{items_told};
 ghost use Rattle.xml_instances.specs.Open.{IsOpen, AreMade};
 ghost use Rattle.xml_instances.specs.Built.{EventsShow};
 ghost use Rattle.xml_instances.specs.Keeping.{GoOn};
-ghost use Rattle.xml_instances.specs.Checking.{items_of, HasFed, AreTaken, IsTold, IsMarkTold, Stops, IsSpelled, IsSpelledBy, EndsAs, IsSpelledAs, IsMadeFor, IsSameOrMemory, IsAgain, TakesFront, fed, failed};
+ghost use Rattle.xml_instances.specs.Checking.{items_of, HasFed, AreTaken, IsTold, IsMarkTold, Stops, IsSpelled, IsSpelledBy, EndsAs, IsSpelledAs, IsMadeFor, IsSameOrMemory, IsAgain, fed, failed};
 ghost use Rattle.xml_instances.specs.Scratch.{scratch, token, KeepsNoLeaf, IsScratchWithin};
 ghost use Rattle.xml_instances.specs.Verdicts.{IsLean, HasFreeText};
+
+mod fronts;
 
 use crate::content::Content;
 use crate::opened::Refusal;
@@ -222,133 +224,6 @@ impl XmlChecker {
             }
         }
         Ok(())
-    }
-
-    /// Takes a run of characters, a whole tag, bytes inside a token or else a byte from the front of the
-    /// piece, and answers how many bytes that are.
-    fn take_front(&mut self, model: &Model, piece: &[u8]) -> Result<usize, InstanceError>
-        requires some { 0 < length piece.now }
-        requires room { fed self.old + length piece.now ≤ 2 ^ 40 }
-        requires made { IsMadeFor self.old model.now }
-        ensures made { IsMadeFor self.new model.now }
-        ensures lean { KeepsNoLeaf self.old → KeepsNoLeaf self.new }
-        ensures front { TakesFront model.now self.old self.new piece.now result }
-        ensures some { IfOk result (λ n. 0 < n) }
-    {
-        let run = match self.take_run(model, piece) {
-            Ok(run) => run,
-            Err(error) => return Err(error),
-        };
-        if run > 0 {
-            return Ok(run);
-        }
-        let tag = match self.take_tag(model, piece) {
-            Ok(tag) => tag,
-            Err(error) => return Err(error),
-        };
-        if tag > 0 {
-            return Ok(tag);
-        }
-        let inside = match self.take_inside(model, piece) {
-            Ok(inside) => inside,
-            Err(error) => return Err(error),
-        };
-        if inside > 0 {
-            return Ok(inside);
-        }
-        self.take_first(model, piece)
-    }
-
-    /// Takes the run of characters at the front of the piece that may stand in the innermost element,
-    /// if there is one.
-    fn take_run(&mut self, model: &Model, piece: &[u8]) -> Result<usize, InstanceError>
-        requires room { fed self.old + length piece.now ≤ 2 ^ 40 }
-        requires made { IsMadeFor self.old model.now }
-        ensures made { IsMadeFor self.new model.now }
-        ensures lean { KeepsNoLeaf self.old → KeepsNoLeaf self.new }
-        ensures front { TakesFront model.now self.old self.new piece.now result }
-    {
-        let room = self.content.run_room(model, piece);
-        let run = self.reader.take_characters(&piece[..room]);
-        if run.bytes == 0 {
-            return Ok(0);
-        }
-        match self
-            .content
-            .take_run(model, &piece[..run.bytes], run.characters)
-        {
-            Ok(()) => {
-                self.place = self.place.saturating_add(run.bytes as u64);
-                Ok(run.bytes)
-            }
-            Err(_) => Err(InstanceError::Memory),
-        }
-    }
-
-    /// Takes the whole tag at the front of the piece, if one stands there without attributes.
-    fn take_tag(&mut self, model: &Model, piece: &[u8]) -> Result<usize, InstanceError>
-        requires room { fed self.old + length piece.now ≤ 2 ^ 40 }
-        requires made { IsMadeFor self.old model.now }
-        ensures made { IsMadeFor self.new model.now }
-        ensures lean { KeepsNoLeaf self.old → KeepsNoLeaf self.new }
-        ensures front { TakesFront model.now self.old self.new piece.now result }
-    {
-        markup::laws::events_stay();
-        if self.content.keeps_names() {
-            return Ok(0);
-        }
-        let place = self.place;
-        let tag = match self.reader.take_tag(piece) {
-            Ok(Some(tag)) => tag,
-            Ok(None) => return Ok(0),
-            Err(_) => return Err(InstanceError::Memory),
-        };
-        match self.content.take_tag(model, tag.kind, tag.name) {
-            Ok(()) => {
-                self.place = self.place.saturating_add(tag.bytes as u64);
-                Ok(tag.bytes)
-            }
-            Err(refusal) => Err(told(refusal, place)),
-        }
-    }
-
-    /// Takes the bytes at the front of the piece that go on with an open token and show no event, if there are some.
-    fn take_inside(&mut self, model: &Model, piece: &[u8]) -> Result<usize, InstanceError>
-        requires room { fed self.old + length piece.now ≤ 2 ^ 40 }
-        requires made { IsMadeFor self.old model.now }
-        ensures made { IsMadeFor self.new model.now }
-        ensures lean { KeepsNoLeaf self.old → KeepsNoLeaf self.new }
-        ensures front { TakesFront model.now self.old self.new piece.now result }
-    {
-        let _ = model.type_count();
-        let count = match self.reader.take_inside(piece) {
-            Ok(count) => count,
-            Err(_) => return Err(InstanceError::Memory),
-        };
-        if count == 0 {
-            return Ok(0);
-        }
-        self.place = self.place.saturating_add(count as u64);
-        Ok(count)
-    }
-
-    /// Takes the first byte of the piece.
-    fn take_first(&mut self, model: &Model, piece: &[u8]) -> Result<usize, InstanceError>
-        requires some { 0 < length piece.now }
-        requires room { fed self.old + length piece.now ≤ 2 ^ 40 }
-        requires made { IsMadeFor self.old model.now }
-        ensures made { IsMadeFor self.new model.now }
-        ensures lean { KeepsNoLeaf self.old → KeepsNoLeaf self.new }
-        ensures front { TakesFront model.now self.old self.new piece.now result }
-        ensures some { IfOk result (λ n. 0 < n) }
-    {
-        let Some((byte, _behind)) = piece.split_first() else {
-            return Ok(0);
-        };
-        match self.take(model, *byte) {
-            Ok(()) => Ok(1),
-            Err(error) => Err(error),
-        }
     }
 
     /// Takes the next byte.

@@ -18,6 +18,7 @@ ghost use Rattle.xml_instances.specs.Verdicts.{IsLean};
 mod attributes;
 mod endings;
 mod leaves;
+mod passing;
 mod quick;
 mod showing;
 
@@ -29,6 +30,7 @@ use crate::texts::is_space;
 use lexical_core::{Rule, Text};
 use markup::{Attr, Event, What};
 use message_model::{Form, Model, Next};
+pub(crate) use quick::Room;
 use std::alloc::{AllocError, Global};
 
 /// The tag of the root.

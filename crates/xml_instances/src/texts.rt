@@ -1,6 +1,5 @@
 // The text of a leaf.
-ghost use Rattle.std.specs.Prelude.{◌≡◌, ◌≤◌, ℕ, List, [], ◌∷◌, ◌++◌, None, IsOk, IfOk, OnOk, length};
-ghost use Rattle.std.specs.List.{prefix_len};
+ghost use Rattle.std.specs.Prelude.{◌≡◌, ℕ, List, [], ◌∷◌, ◌++◌, None, true, IsOk, IfOk, OnOk};
 ghost use Rattle.std.specs.Str.{chars};
 ghost use Rattle.markup.specs.Chars.{is_space};
 ghost use Rattle.markup.specs.Literals.{IsRun};
@@ -10,15 +9,13 @@ ghost use Rattle.xml_instances.specs.Built.{TextShown};
 ghost use Rattle.xml_instances.specs.Judges.{HasTaken, IsMadeFor};
 ghost use Rattle.xml_instances.specs.Keeping.{GoOn};
 ghost use Rattle.xml_instances.specs.Open.{IsRuleOf};
-ghost use Rattle.xml_instances.specs.Quick.{is_still_space};
 ghost use Rattle.xml_instances.specs.Verdicts.{IsVerdict};
 
 use crate::judge::Judge;
 use crate::pieces::{Pieces, leaf};
 use facets::{LeafCheck, LeafVerdict, Simple};
-use lexical_core::{ByteClass, Rule, is_xml_char, run_length};
+use lexical_core::{Rule, is_xml_char};
 use std::alloc::AllocError;
-use std::simd::prelude::*;
 
 /// Whether the character is white space: XML 1.0 §2.3, S.
 #[tactic(auto, unfolding(markup::specs::Chars::is_space))]
@@ -74,42 +71,6 @@ pub(crate) fn take_run(
     check.take_run(simple, run, count)
 }
 
-/// White space that stands by itself: spaces, tabs and LFs, and no CR, which an LF may join
-/// (XML 1.0 §2.3, S; §2.11).
-struct StillBlank;
-
-impl ByteClass for StillBlank {
-    ghost class = { λ _. is_still_space };
-
-    #[inline]
-    #[tactic(auto, unfolding(markup::specs::Chars::is_space))]
-    fn has(&self, byte: u8) -> bool {
-        byte == b' ' || byte == b'\t' || byte == b'\n'
-    }
-
-    #[inline]
-    fn others(&self, bytes: u8x16) -> u64 {
-        (bytes.simd_ne(u8x16::splat(b' '))
-            & bytes.simd_ne(u8x16::splat(b'\t'))
-            & bytes.simd_ne(u8x16::splat(b'\n'))).to_bitmask()
-    }
-
-    #[inline]
-    fn others_of_eight(&self, bytes: u8x8) -> u64 {
-        (bytes.simd_ne(u8x8::splat(b' '))
-            & bytes.simd_ne(u8x8::splat(b'\t'))
-            & bytes.simd_ne(u8x8::splat(b'\n'))).to_bitmask()
-    }
-}
-
-/// How many bytes at the front of the piece are white space that stands by itself.
-pub(crate) fn blank_length(piece: &[u8]) -> usize
-    ensures within { result ≤ length piece.now }
-    ensures count { result ≡ prefix_len is_still_space piece.now }
-{
-    run_length(&StillBlank, piece)
-}
-
 /// The rule that the text breaks, if it breaks one; else its leaf is shown, where pieces are kept.
 pub(crate) fn ending_of(
     judge: &Judge,
@@ -163,5 +124,27 @@ fn rule_of(
     match verdict.finish(simple) {
         Ok(()) => Ok(None),
         Err(rule) => Ok(Some(rule)),
+    }
+}
+
+/// Whether the text is a leaf, as a judge tells that gives none; false of one that gives it.
+pub(crate) fn is_leaf(judge: &Judge, simple: &Simple) -> bool
+    requires { IsMadeFor judge.now simple.now }
+    ensures { (text : List ℕ) → HasTaken judge.now simple.now text → result ≡ true → IsRuleOf simple.now text None }
+{
+    match judge {
+        Judge::Check(_) => false,
+        Judge::Verdict(verdict) => is_fine(verdict, simple),
+    }
+}
+
+/// The same by one that gives no leaf.
+fn is_fine(verdict: &LeafVerdict, simple: &Simple) -> bool
+    requires { verdicts.IsMadeFor verdict.now simple.now }
+    ensures { (text : List ℕ) → verdicts.HasTaken verdict.now simple.now text → result ≡ true → IsRuleOf simple.now text None }
+{
+    match verdict.finish(simple) {
+        Ok(()) => true,
+        Err(_) => false,
     }
 }

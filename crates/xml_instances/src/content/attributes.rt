@@ -107,7 +107,7 @@ impl Content {
 }
 
 /// Whether the form is that of amounts with a currency.
-fn is_money(form: &Option<Form<'_>>) -> bool
+pub(crate) fn is_money(form: &Option<Form<'_>>) -> bool
     ensures { (f : FormType ℕ SimpleType) → IsFormOf form.now f → result ≡ has_currency f }
 {
     matches!(form, Some(Form::Money { .. }))

@@ -1,5 +1,5 @@
 // Runs of characters and whole tags, held to the types of the message.
-ghost use Rattle.std.specs.Prelude.{◌≡◌, ◌<◌, ◌≤◌, ◌++◌, ℕ, List, [], OnOk, take, length, map};
+ghost use Rattle.std.specs.Prelude.{◌≡◌, ◌++◌, ℕ, List, [], OnOk, map};
 ghost use Rattle.lexical_core.specs.Tree.{Expanded, Starts, Char};
 ghost use Rattle.facets.specs.declared.simple.Simple.{Simple as SimpleType};
 ghost use Rattle.markup.specs.Literals.{IsRun};
@@ -9,32 +9,43 @@ ghost use Rattle.xml_instances.specs.Levels.{Level};
 ghost use Rattle.xml_instances.specs.Built.{EventsShow, ShowsBeside, StartShown};
 ghost use Rattle.xml_instances.specs.Keeping.{GoOn, MayShowName, TagShowsBeside};
 ghost use Rattle.xml_instances.specs.Open.{IsOpen, AreMade, IsPlaced, IsItemTaken, HoldsText};
-ghost use Rattle.xml_instances.specs.Quick.{MayTake, IsRunTaken, AreItemsTaken, IsOurs};
+ghost use Rattle.xml_instances.specs.Quick.{MayTake, HasRoom, IsRunTaken, AreItemsTaken, IsOurs};
 ghost use Rattle.xml_instances.specs.Verdicts.{IsLean};
 
 use super::{Content, is_bare, root};
 use crate::opened::{Opened, Refusal};
 use crate::pieces::inside_run;
-use crate::texts::{blank_length, take_run};
+use crate::texts::take_run;
 use lexical_core::Rule;
 use markup::TagKind;
 use message_model::Model;
 use std::alloc::AllocError;
 
+/// Which characters may stand in an element.
+#[derive(Clone, Copy)]
+pub(crate) enum Room {
+    /// All.
+    All,
+    /// White space.
+    Blanks,
+    /// None.
+    Nothing,
+}
+
 impl Content {
-    /// How many bytes at the front of the piece may be characters of the innermost element.
-    pub(crate) fn run_room(&self, model: &Model, piece: &[u8]) -> usize
-        ensures within { result ≤ length piece.now }
-        ensures only { (n : ℕ) → n ≤ result → 0 < n → MayTake (types_of model.now) self.now.innermost (take n piece.now) }
+    /// Which characters may stand in the innermost element.
+    #[inline]
+    pub(crate) fn room(&self, model: &Model) -> Room
+        ensures { HasRoom (types_of model.now) self.now.innermost result }
     {
         match self.innermost {
-            None | Some(Opened::Text | Opened::Foreign) => piece.len(),
-            Some(Opened::Envelope { .. }) => blank_length(piece),
+            None | Some(Opened::Text | Opened::Foreign) => Room::All,
+            Some(Opened::Envelope { .. }) => Room::Blanks,
             Some(Opened::Parent { number, .. }) => {
                 if is_bare(model, number) {
-                    0
+                    Room::Nothing
                 } else {
-                    blank_length(piece)
+                    Room::Blanks
                 }
             }
         }
@@ -95,6 +106,27 @@ impl Content {
         kind: TagKind,
         name: &[u8],
     ) -> Result<(), Refusal>
+        requires { AreMade (types_of model.now) self.old }
+        ensures made { AreMade (types_of model.now) self.new }
+        ensures lean { IsLean self.old → IsLean self.new }
+        ensures taken { (ls : List (Level ℕ)) (n : Expanded) → n.local ≡ name.now → IsOurs (message_of model.now) ls n → IsOpen self.old (message_of model.now) ls
+            → AreItemsTaken (message_of model.now) ls (tag_items kind n) self.new result }
+        ensures shown { (ls : List (Level ℕ)) (n : Expanded) → n.local ≡ name.now → IsOurs (message_of model.now) ls n → IsOpen self.old (message_of model.now) ls
+            → MayShowName self.old.pieces self.old.innermost n → OnOk result (GoOn self.old.pieces self.new.pieces (EventsShow model.now ls (tag_items kind n))) }
+    {
+        match self.pass_tag(model, kind, name) {
+            Ok(done) => {
+                if done {
+                    return Ok(());
+                }
+                self.take_any_tag(model, kind, name)
+            }
+            Err(_) => Err(Refusal::Memory),
+        }
+    }
+
+    /// Takes any such tag.
+    fn take_any_tag(&mut self, model: &Model, kind: TagKind, name: &[u8]) -> Result<(), Refusal>
         requires { AreMade (types_of model.now) self.old }
         ensures made { AreMade (types_of model.now) self.new }
         ensures lean { IsLean self.old → IsLean self.new }

@@ -1,14 +1,23 @@
+use Rattle.std.proofs.Common.{subst}
+use Rattle.std.specs.Prelude.{OnOk}
+use Rattle.markup.specs.PlainTags.{tag_items}
 use Rattle.message_model.specs.Tables.{message_of}
-use Rattle.xml_instances.proofs.GoingOn.{tag_held, open_same}
+use Rattle.xml_instances.specs.Built.{EventsShow}
+use Rattle.xml_instances.specs.Keeping.{GoOn, MayShowName}
+use Rattle.xml_instances.specs.Open.{IsOpen}
+use Rattle.xml_instances.specs.declared.content.Content.{Content}
 use Rattle.xml_instances.proofs.content.Content.take_tag.Goals as goal
+use Rattle.std.proofs.Common.{sym}
 
-pub returns-in-Ok-clause-taken : goal.returns-in-Ok-clause-taken
-returns-in-Ok-clause-taken c ls n e ours h =
-    c.hold_tag.ensures.taken ls n e ours (open_same (message_of c.args.model.now) c.args.self.now c.keep_tag.new.self ls c.keep_tag.ensures.text c.keep_tag.ensures.innermost c.keep_tag.ensures.round h)
+pub returns-then-done-clause-taken : goal.returns-then-done-clause-taken
+returns-then-done-clause-taken c ls n e ours h = c.in-Ok.ensures.taken ls n e ours h c.if-done.true
 
-pub returns-in-Ok-clause-shown : goal.returns-in-Ok-clause-shown
-returns-in-Ok-clause-shown c ls n e ours h may =
-    let m = message_of c.args.model.now in
-    let same = open_same m c.args.self.now c.keep_tag.new.self ls c.keep_tag.ensures.text c.keep_tag.ensures.innermost c.keep_tag.ensures.round h in
-    tag_held c.args.model.now ls c.args.kind n c.args.self.now.innermost c.args.self.now.text c.args.self.now.round.items c.args.self.now.pieces c.keep_tag.new.self.pieces c.hold_tag.new.self c.hold_tag.result h may
-    (c.in-Ok.ensures.shown m ls n e h may) (c.hold_tag.ensures.taken ls n e ours same) (c.hold_tag.ensures.shown ls n e ours same)
+pub returns-else-done-clause-taken : goal.returns-else-done-clause-taken
+returns-else-done-clause-taken c ls n e ours h =
+    c.take_any_tag.ensures.taken ls n e ours (subst (λ (x : Content). IsOpen x (message_of c.args.model.now) ls) (sym (c.in-Ok.ensures.kept c.if-done.false)) h)
+
+pub returns-else-done-clause-shown : goal.returns-else-done-clause-shown
+returns-else-done-clause-shown c ls n e ours h may =
+    let same = c.in-Ok.ensures.kept c.if-done.false in
+    subst (λ (x : Content). OnOk c.take_any_tag.result (GoOn x.pieces c.take_any_tag.new.self.pieces (EventsShow c.args.model.now ls (tag_items c.args.kind n)))) same
+    (c.take_any_tag.ensures.shown ls n e ours (subst (λ (x : Content). IsOpen x (message_of c.args.model.now) ls) (sym same) h) (subst (λ (x : Content). MayShowName x.pieces x.innermost n) (sym same) may))

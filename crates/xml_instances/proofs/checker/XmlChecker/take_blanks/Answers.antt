@@ -1,0 +1,18 @@
+use Rattle.std.proofs.Common.{◌+◌, take, refl, ap, ◌∙◌}
+use Rattle.markup.specs.Reading.{taken}
+use Rattle.xml_instances.proofs.QuickFed.{front_run, front_nothing}
+use Rattle.xml_instances.proofs.checker.XmlChecker.take_blanks.Goals as goal
+
+pub returns-then-count-eq0-clause-front : goal.returns-then-count-eq0-clause-front
+returns-then-count-eq0-clause-front c =
+    let xs = c.args.piece.now in
+    let n = c.take_blanks-count.result in
+    front_nothing c.args.model.now c.args.self.now _ xs (take n xs) n (ap (λ n. take n xs) c.if-count-eq0.true) (c.take_blanks-count.ensures.taken _)
+    (c.take_blanks-count.ensures.count ∙ ap (λ v. taken c.args.self.now.reader + v) c.if-count-eq0.true) refl refl refl refl
+
+pub returns-in-Ok-clause-front : goal.returns-in-Ok-clause-front
+returns-in-Ok-clause-front c =
+    let n = c.take_blanks-count.result in
+    front_run c.args.model.now c.args.self.now _ c.args.piece.now n n c.take_blanks-count.ensures.within c.requires.room
+    (c.take_blanks-count.ensures.taken _) c.take_blanks-count.ensures.count c.saturating_add-self.ensures refl refl
+    c.in-Ok.ensures.taken c.in-Ok.ensures.shown

@@ -1,0 +1,14 @@
+use Rattle.std.proofs.Common.{◌≡◌, [], true, sym, subst}
+use Rattle.std.specs.Prelude.{IfOk}
+use Rattle.lexical_core.specs.Tree.{Starts}
+use Rattle.markup.specs.PlainTags.{tag_items}
+use Rattle.markup.specs.declared.plain_tag.TagKind.{TagKind}
+use Rattle.message_model.specs.Tables.{message_of}
+use Rattle.xml_instances.specs.Quick.{PassAll}
+use Rattle.xml_instances.proofs.Passing.{passes_one}
+use Rattle.xml_instances.proofs.content.Content.pass_tag.Goals as goal
+
+pub returns-in-Start-clause-taken : goal.returns-in-Start-clause-taken
+returns-in-Start-clause-taken c ls n e ours h =
+    subst (λ (k : TagKind). IfOk c.pass_start.result (λ done. done ≡ true → PassAll (message_of c.args.model.now) ls (tag_items k n) c.pass_start.new.self)) (sym c.in-Start.is)
+    (passes_one (message_of c.args.model.now) ls (Starts n []) c.pass_start.new.self c.pass_start.result (c.pass_start.ensures.taken ls n e ours h))

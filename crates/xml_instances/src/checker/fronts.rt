@@ -1,0 +1,220 @@
+// Fronts of a piece that a checker takes: whole tags, runs of characters, bytes inside tokens, single bytes.
+ghost use Rattle.std.specs.Prelude.{◌≡◌, ◌<◌, ◌+◌, ◌≤◌, ◌^◌, IfOk, length};
+ghost use Rattle.message_model.specs.Tables.{types_of};
+ghost use Rattle.xml_instances.specs.Checking.{IsMadeFor, TakesFront, fed};
+ghost use Rattle.xml_instances.specs.Quick.{HasRoom};
+ghost use Rattle.xml_instances.specs.Scratch.{KeepsNoLeaf};
+ghost use Rattle.xml_instances.specs.declared.content.quick.Room.TheVariants.{All as AllCharacters, Blanks as BlankCharacters};
+
+use super::{XmlChecker, told};
+use crate::content::Room;
+use message_model::{InstanceError, Model};
+
+impl XmlChecker {
+    /// Takes a whole tag, a run of characters, bytes inside a token or else a byte from the front of the
+    /// piece, and answers how many bytes that are. Its first byte says which is tried.
+    pub(crate) fn take_front(&mut self, model: &Model, piece: &[u8]) -> Result<usize, InstanceError>
+        requires some { 0 < length piece.now }
+        requires room { fed self.old + length piece.now ≤ 2 ^ 40 }
+        requires made { IsMadeFor self.old model.now }
+        ensures made { IsMadeFor self.new model.now }
+        ensures lean { KeepsNoLeaf self.old → KeepsNoLeaf self.new }
+        ensures front { TakesFront model.now self.old self.new piece.now result }
+        ensures some { IfOk result (λ n. 0 < n) }
+    {
+        if piece[0] == b'<' {
+            self.take_mark(model, piece)
+        } else {
+            self.take_plain(model, piece)
+        }
+    }
+
+    /// Takes a whole tag, bytes inside a token or else a byte from the front of the piece.
+    fn take_mark(&mut self, model: &Model, piece: &[u8]) -> Result<usize, InstanceError>
+        requires some { 0 < length piece.now }
+        requires room { fed self.old + length piece.now ≤ 2 ^ 40 }
+        requires made { IsMadeFor self.old model.now }
+        ensures made { IsMadeFor self.new model.now }
+        ensures lean { KeepsNoLeaf self.old → KeepsNoLeaf self.new }
+        ensures front { TakesFront model.now self.old self.new piece.now result }
+        ensures some { IfOk result (λ n. 0 < n) }
+    {
+        let tag = match self.take_tag(model, piece) {
+            Ok(tag) => tag,
+            Err(error) => return Err(error),
+        };
+        if tag > 0 {
+            return Ok(tag);
+        }
+        self.take_slowly(model, piece)
+    }
+
+    /// Takes a run of characters, bytes inside a token or else a byte from the front of the piece.
+    fn take_plain(&mut self, model: &Model, piece: &[u8]) -> Result<usize, InstanceError>
+        requires some { 0 < length piece.now }
+        requires room { fed self.old + length piece.now ≤ 2 ^ 40 }
+        requires made { IsMadeFor self.old model.now }
+        ensures made { IsMadeFor self.new model.now }
+        ensures lean { KeepsNoLeaf self.old → KeepsNoLeaf self.new }
+        ensures front { TakesFront model.now self.old self.new piece.now result }
+        ensures some { IfOk result (λ n. 0 < n) }
+    {
+        let run = match self.take_run(model, piece) {
+            Ok(run) => run,
+            Err(error) => return Err(error),
+        };
+        if run > 0 {
+            return Ok(run);
+        }
+        self.take_slowly(model, piece)
+    }
+
+    /// Takes bytes inside a token or else a byte from the front of the piece.
+    fn take_slowly(&mut self, model: &Model, piece: &[u8]) -> Result<usize, InstanceError>
+        requires some { 0 < length piece.now }
+        requires room { fed self.old + length piece.now ≤ 2 ^ 40 }
+        requires made { IsMadeFor self.old model.now }
+        ensures made { IsMadeFor self.new model.now }
+        ensures lean { KeepsNoLeaf self.old → KeepsNoLeaf self.new }
+        ensures front { TakesFront model.now self.old self.new piece.now result }
+        ensures some { IfOk result (λ n. 0 < n) }
+    {
+        let inside = match self.take_inside(model, piece) {
+            Ok(inside) => inside,
+            Err(error) => return Err(error),
+        };
+        if inside > 0 {
+            return Ok(inside);
+        }
+        self.take_first(model, piece)
+    }
+
+    /// Takes the run of characters at the front of the piece that may stand in the innermost element,
+    /// if there is one.
+    fn take_run(&mut self, model: &Model, piece: &[u8]) -> Result<usize, InstanceError>
+        requires room { fed self.old + length piece.now ≤ 2 ^ 40 }
+        requires made { IsMadeFor self.old model.now }
+        ensures made { IsMadeFor self.new model.now }
+        ensures lean { KeepsNoLeaf self.old → KeepsNoLeaf self.new }
+        ensures front { TakesFront model.now self.old self.new piece.now result }
+    {
+        match self.content.room(model) {
+            Room::All => self.take_characters(model, piece),
+            Room::Blanks => self.take_blanks(model, piece),
+            Room::Nothing => Ok(0),
+        }
+    }
+
+    /// Takes the run of characters at the front of the piece, where all may stand.
+    fn take_characters(&mut self, model: &Model, piece: &[u8]) -> Result<usize, InstanceError>
+        requires room { fed self.old + length piece.now ≤ 2 ^ 40 }
+        requires made { IsMadeFor self.old model.now }
+        requires fits { HasRoom (types_of model.now) self.old.content.innermost AllCharacters }
+        ensures made { IsMadeFor self.new model.now }
+        ensures lean { KeepsNoLeaf self.old → KeepsNoLeaf self.new }
+        ensures front { TakesFront model.now self.old self.new piece.now result }
+    {
+        let run = self.reader.take_characters(piece);
+        if run.bytes == 0 {
+            return Ok(0);
+        }
+        match self
+            .content
+            .take_run(model, &piece[..run.bytes], run.characters)
+        {
+            Ok(()) => {
+                self.place = self.place.saturating_add(run.bytes as u64);
+                Ok(run.bytes)
+            }
+            Err(_) => Err(InstanceError::Memory),
+        }
+    }
+
+    /// Takes the white space at the front of the piece, where that may stand.
+    fn take_blanks(&mut self, model: &Model, piece: &[u8]) -> Result<usize, InstanceError>
+        requires room { fed self.old + length piece.now ≤ 2 ^ 40 }
+        requires made { IsMadeFor self.old model.now }
+        requires fits { HasRoom (types_of model.now) self.old.content.innermost BlankCharacters }
+        ensures made { IsMadeFor self.new model.now }
+        ensures lean { KeepsNoLeaf self.old → KeepsNoLeaf self.new }
+        ensures front { TakesFront model.now self.old self.new piece.now result }
+    {
+        let count = self.reader.take_blanks(piece);
+        if count == 0 {
+            return Ok(0);
+        }
+        match self.content.take_run(model, &piece[..count], count) {
+            Ok(()) => {
+                self.place = self.place.saturating_add(count as u64);
+                Ok(count)
+            }
+            Err(_) => Err(InstanceError::Memory),
+        }
+    }
+
+    /// Takes the whole tag at the front of the piece, if one stands there without attributes.
+    fn take_tag(&mut self, model: &Model, piece: &[u8]) -> Result<usize, InstanceError>
+        requires room { fed self.old + length piece.now ≤ 2 ^ 40 }
+        requires made { IsMadeFor self.old model.now }
+        ensures made { IsMadeFor self.new model.now }
+        ensures lean { KeepsNoLeaf self.old → KeepsNoLeaf self.new }
+        ensures front { TakesFront model.now self.old self.new piece.now result }
+    {
+        markup::laws::events_stay();
+        if self.content.keeps_names() {
+            return Ok(0);
+        }
+        let place = self.place;
+        let tag = match self.reader.take_tag(piece) {
+            Ok(Some(tag)) => tag,
+            Ok(None) => return Ok(0),
+            Err(_) => return Err(InstanceError::Memory),
+        };
+        match self.content.take_tag(model, tag.kind, tag.name) {
+            Ok(()) => {
+                self.place = self.place.saturating_add(tag.bytes as u64);
+                Ok(tag.bytes)
+            }
+            Err(refusal) => Err(told(refusal, place)),
+        }
+    }
+
+    /// Takes the bytes at the front of the piece that go on with an open token and show no event, if there are some.
+    fn take_inside(&mut self, model: &Model, piece: &[u8]) -> Result<usize, InstanceError>
+        requires room { fed self.old + length piece.now ≤ 2 ^ 40 }
+        requires made { IsMadeFor self.old model.now }
+        ensures made { IsMadeFor self.new model.now }
+        ensures lean { KeepsNoLeaf self.old → KeepsNoLeaf self.new }
+        ensures front { TakesFront model.now self.old self.new piece.now result }
+    {
+        let _ = model.type_count();
+        let count = match self.reader.take_inside(piece) {
+            Ok(count) => count,
+            Err(_) => return Err(InstanceError::Memory),
+        };
+        if count == 0 {
+            return Ok(0);
+        }
+        self.place = self.place.saturating_add(count as u64);
+        Ok(count)
+    }
+
+    /// Takes the first byte of the piece.
+    fn take_first(&mut self, model: &Model, piece: &[u8]) -> Result<usize, InstanceError>
+        requires some { 0 < length piece.now }
+        requires room { fed self.old + length piece.now ≤ 2 ^ 40 }
+        requires made { IsMadeFor self.old model.now }
+        ensures made { IsMadeFor self.new model.now }
+        ensures lean { KeepsNoLeaf self.old → KeepsNoLeaf self.new }
+        ensures front { TakesFront model.now self.old self.new piece.now result }
+        ensures some { IfOk result (λ n. 0 < n) }
+    {
+        let Some((byte, _behind)) = piece.split_first() else {
+            return Ok(0);
+        };
+        match self.take(model, *byte) {
+            Ok(()) => Ok(1),
+            Err(error) => Err(error),
+        }
+    }
+}

@@ -1,0 +1,211 @@
+// Tags that break no rule, where no pieces are kept: taken without what a refusal needs.
+ghost use Rattle.std.specs.Prelude.{◌≡◌, ℕ, List, [], IfOk, IfSome, None, Some, true, false};
+ghost use Rattle.lexical_core.specs.Tree.{Expanded, Starts, Ends};
+ghost use Rattle.facets.specs.declared.simple.Simple.{Simple as SimpleType};
+ghost use Rattle.markup.specs.PlainTags.{tag_items};
+ghost use Rattle.reference_check.specs.Steps.{Came, EndsWith, Fine, end_after};
+ghost use Rattle.message_model.specs.Tables.{message_of, types_of};
+ghost use Rattle.xml_instances.specs.Levels.{Level};
+ghost use Rattle.xml_instances.specs.Open.{IsOpen, AreMade, IsRuleOf, HoldsText, IsTextMade};
+ghost use Rattle.xml_instances.specs.EventFaults.{has_currency};
+ghost use Rattle.xml_instances.specs.declared.opened.Opened.TheVariants.{Text as OpenedText, Parent as OpenedParent};
+ghost use Rattle.xml_instances.specs.Quick.{IsOurs, Passes, PassAll, IsTargetOf};
+ghost use Rattle.xml_instances.specs.Verdicts.{IsLean};
+
+use super::attributes::is_money;
+use super::{Content, OpenText, counted};
+use crate::opened::Opened;
+use crate::texts::is_leaf;
+use markup::TagKind;
+use message_model::{End, Model, Next};
+use std::alloc::AllocError;
+
+impl Content {
+    /// Takes a tag without attributes of an element of the message, whose name is in the namespace of the innermost
+    /// element, where it breaks no rule and no pieces are kept. Else it answers false, and nothing changes.
+    pub(crate) fn pass_tag(
+        &mut self,
+        model: &Model,
+        kind: TagKind,
+        name: &[u8],
+    ) -> Result<bool, AllocError>
+        requires { AreMade (types_of model.now) self.old }
+        ensures kept { IfOk result (λ done. done ≡ false → self.new ≡ self.old) }
+        ensures made { AreMade (types_of model.now) self.new }
+        ensures lean { IsLean self.old → IsLean self.new }
+        ensures bare { IfOk result (λ done. done ≡ true → (self.old.pieces ≡ None) × (self.new.pieces ≡ None)) }
+        ensures taken { (ls : List (Level ℕ)) (n : Expanded) → n.local ≡ name.now → IsOurs (message_of model.now) ls n → IsOpen self.old (message_of model.now) ls
+            → IfOk result (λ done. done ≡ true → PassAll (message_of model.now) ls (tag_items kind n) self.new) }
+    {
+        if self.pieces.is_some() {
+            return Ok(false);
+        }
+        match kind {
+            TagKind::Start => self.pass_start(model, name),
+            TagKind::Empty => Ok(false),
+            TagKind::End => Ok(self.pass_end(model)),
+        }
+    }
+
+    /// An element starts, as in `pass_tag`.
+    fn pass_start(&mut self, model: &Model, local: &[u8]) -> Result<bool, AllocError>
+        requires { AreMade (types_of model.now) self.old }
+        ensures kept { IfOk result (λ done. done ≡ false → self.new ≡ self.old) }
+        ensures made { AreMade (types_of model.now) self.new }
+        ensures lean { IsLean self.old → IsLean self.new }
+        ensures pieces { self.new.pieces ≡ self.old.pieces }
+        ensures taken { (ls : List (Level ℕ)) (n : Expanded) → n.local ≡ local.now → IsOurs (message_of model.now) ls n → IsOpen self.old (message_of model.now) ls
+            → IfOk result (λ done. done ≡ true → Passes (message_of model.now) ls (Starts n []) self.new) }
+    {
+        let _ = model.type_count();
+        message_model::laws::slot_comes();
+        let Some(
+            Opened::Parent {
+                number,
+                last,
+                count,
+            },
+        ) = self.innermost
+        else {
+            return Ok(false);
+        };
+        let Next::Slot(at) = model.next(number, last, count, local) else {
+            return Ok(false);
+        };
+        let Some(target) = target_of(model, number, at) else {
+            return Ok(false);
+        };
+        let Some(count) = counted(last, count, at) else {
+            return Ok(false);
+        };
+        self.innermost = Some(Opened::Parent {
+            number,
+            last: Some(at),
+            count,
+        });
+        self.go_in()?;
+        self.begin(model, target)?;
+        Ok(true)
+    }
+
+    /// The innermost element ends, as in `pass_tag`.
+    fn pass_end(&mut self, model: &Model) -> bool
+        requires { AreMade (types_of model.now) self.old }
+        ensures kept { result ≡ false → self.new ≡ self.old }
+        ensures made { AreMade (types_of model.now) self.new }
+        ensures lean { IsLean self.old → IsLean self.new }
+        ensures pieces { self.new.pieces ≡ self.old.pieces }
+        ensures taken { (ls : List (Level ℕ)) (n : Expanded) → IsOpen self.old (message_of model.now) ls → result ≡ true → Passes (message_of model.now) ls (Ends n) self.new }
+    {
+        match self.innermost {
+            Some(Opened::Text) => self.pass_text_end(model),
+            Some(
+                Opened::Parent {
+                    number,
+                    last,
+                    count,
+                },
+            ) => self.pass_parent_end(model, number, last, count),
+            _ => false,
+        }
+    }
+
+    /// An element with a text ends, as in `pass_tag`.
+    fn pass_text_end(&mut self, model: &Model) -> bool
+        requires made { AreMade (types_of model.now) self.old }
+        requires text { self.old.innermost ≡ Some OpenedText }
+        ensures kept { result ≡ false → self.new ≡ self.old }
+        ensures made { AreMade (types_of model.now) self.new }
+        ensures lean { IsLean self.old → IsLean self.new }
+        ensures pieces { self.new.pieces ≡ self.old.pieces }
+        ensures taken { (ls : List (Level ℕ)) (n : Expanded) → IsOpen self.old (message_of model.now) ls → result ≡ true → Passes (message_of model.now) ls (Ends n) self.new }
+    {
+        if !self.pass_text(model) {
+            return false;
+        }
+        self.innermost = self.round.pop();
+        true
+    }
+
+    /// An element with elements ends, as in `pass_tag`.
+    fn pass_parent_end(&mut self, model: &Model, number: u32, last: Option<u32>, count: u64) -> bool
+        requires made { AreMade (types_of model.now) self.old }
+        requires parent { self.old.innermost ≡ Some (OpenedParent number last count) }
+        ensures kept { result ≡ false → self.new ≡ self.old }
+        ensures made { AreMade (types_of model.now) self.new }
+        ensures lean { IsLean self.old → IsLean self.new }
+        ensures pieces { self.new.pieces ≡ self.old.pieces }
+        ensures taken { (ls : List (Level ℕ)) (n : Expanded) → IsOpen self.old (message_of model.now) ls → result ≡ true → Passes (message_of model.now) ls (Ends n) self.new }
+    {
+        if !is_complete(model, number, last, count) {
+            return false;
+        }
+        self.innermost = self.round.pop();
+        true
+    }
+
+    /// The open text ends, and its judge is kept for the next one, where it is a leaf; else nothing changes.
+    fn pass_text(&mut self, model: &Model) -> bool
+        requires { AreMade (types_of model.now) self.old }
+        ensures kept { result ≡ false → self.new ≡ self.old }
+        ensures made { AreMade (types_of model.now) self.new }
+        ensures lean { IsLean self.old → IsLean self.new }
+        ensures innermost { self.new.innermost ≡ self.old.innermost }
+        ensures round { self.new.round ≡ self.old.round }
+        ensures pieces { self.new.pieces ≡ self.old.pieces }
+        ensures taken { (simple : SimpleType) (text : List ℕ) → HoldsText (message_of model.now) self.old.text simple text → result ≡ true → IsRuleOf simple text None }
+    {
+        if !is_passed(model, &self.text) {
+            return false;
+        }
+        if let Some(open) = self.text.take() {
+            self.checks.keep(open.number, open.judge);
+        }
+        true
+    }
+}
+
+/// Whether the open text is a leaf, as one that gives none tells.
+fn is_passed(model: &Model, text: &Option<OpenText>) -> bool
+    requires { IsTextMade (types_of model.now) text.now }
+    ensures { (simple : SimpleType) (taken : List ℕ) → HoldsText (message_of model.now) text.now simple taken → result ≡ true → IsRuleOf simple taken None }
+{
+    let Some(open) = text else {
+        return false;
+    };
+    let Some(simple) = model.text_type(open.number) else {
+        return false;
+    };
+    is_leaf(&open.judge, simple)
+}
+
+/// The type of a slot, where its elements may be without attributes.
+fn target_of(model: &Model, number: u32, at: u32) -> Option<u32>
+    ensures { IfSome result (λ target. IsTargetOf (types_of model.now) number at target) }
+{
+    let Some(slot) = model.slot(number, at) else {
+        return None;
+    };
+    if is_amount(model, slot.target) {
+        return None;
+    }
+    Some(slot.target)
+}
+
+/// Whether the type is that of amounts with a currency.
+fn is_amount(model: &Model, number: u32) -> bool
+    ensures { result ≡ has_currency (types_of model.now number) }
+{
+    is_money(&model.form(number))
+}
+
+/// Whether nothing is missing in an element of the type, whose last slot came so many times.
+fn is_complete(model: &Model, number: u32, last: Option<u32>, count: u64) -> bool
+    ensures { (d : List ℕ) → Came (types_of model.now number) d → EndsWith d last count → result ≡ true → end_after (types_of model.now number) d ≡ Fine }
+{
+    match model.end(number, last, count) {
+        End::Fine => true,
+        End::Missing(_) => false,
+        End::NoAlternative => false,
+    }
+}
