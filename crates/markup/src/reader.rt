@@ -240,6 +240,16 @@ impl Reader {
         self.tokenizer.held()
     }
 
+    /// Forgets what the open token has said, so that no bytes are held for it. It is for a reader that
+    /// takes no more bytes.
+    pub fn forget_token(&mut self)
+        ensures token { token self.new ≡ 0 }
+        ensures count { taken self.new ≡ taken self.old }
+        ensures failed { failed self.new ≡ failed self.old }
+    {
+        let _ = self.tokenizer.take_draft();
+    }
+
     /// The plain tag at the front of the piece, where one may come.
     #[inline]
     fn next_tag<'a>(&self, piece: &'a [u8]) -> Option<PlainTag<'a>>

@@ -38,3 +38,4 @@ pub mod GoingOn
 pub mod ReadPieces
 pub mod InsideNames
 pub mod Passing
+pub mod Blanks

@@ -28,7 +28,9 @@ MayTake types None bytes = Unit {0}
 -- what may be characters of the innermost element
 abbrev pub HasRoom : Graph ℕ Simple → Option Opened → Room → Type 0
 HasRoom types innermost All = (bytes : List ℕ) → MayTake types innermost bytes
-HasRoom types innermost Blanks = (bytes : List ℕ) → list_all is_space bytes ≡ true → MayTake types innermost bytes
+HasRoom types (Some (opened.Parent number last count)) Blanks = is_bare (types number) ≡ false
+HasRoom types (Some (opened.Envelope filled)) Blanks = Unit {0}
+HasRoom types innermost Blanks = ⊥
 HasRoom types innermost Nothing = Unit {0}
 
 -- the characters break no rule, and the content stands behind them

@@ -2,6 +2,8 @@
 ghost use Rattle.std.specs.Prelude.{◌≡◌, ◌<◌, ◌+◌, ◌≤◌, ◌^◌, ◌∷◌, ◌++◌, ℕ, List, [], IfOk, OnOk, IfErr, Option, Some, None, Err, length};
 ghost use Rattle.markup.specs.Reading.{taken};
 ghost use Rattle.markup.specs.Marks.{tag_limit};
+ghost use Rattle.facets.specs.declared.simple.Simple.{Simple as SimpleType};
+ghost use Rattle.reference_check.specs.Forms.{Graph};
 ghost use Rattle.message_model.specs.Tables.{Tables, message_of, types_of};
 ghost use Rattle.std.specs.List.{AllByRecursion};
 ghost use Rattle.respell.specs.Respelling.{HasSortedAttributes};
@@ -160,7 +162,7 @@ impl XmlChecker {
 
     /// Takes the next bytes, of at most 2^40 in all. It answers the first fault at the byte that
     /// shows it, its place a byte number from 0. After an error it gives the same answer to every
-    /// later call, or that there is no memory for it.
+    /// later call, or that there is no memory for it, and holds no bytes of a leaf and of a token.
     pub fn feed(&mut self, model: &Model, piece: &[u8]) -> Result<(), InstanceError>
         requires room { failed self.old ≡ None → fed self.old + length piece.now ≤ 2 ^ 40 }
         requires made { IsMadeFor self.old model.now }
@@ -171,6 +173,8 @@ impl XmlChecker {
         ensures count { IfOk result (λ _. fed self.new ≡ fed self.old + length piece.now) }
         ensures failed { failed self.old ≡ None → IfErr result (λ e. failed self.new ≡ Some e) }
         ensures again { (e : InstanceError) → failed self.old ≡ Some e → IsAgain e result × (failed self.new ≡ failed self.old) }
+        ensures still { (e : InstanceError) → failed self.old ≡ Some e → self.new ≡ self.old }
+        ensures freed { failed self.old ≡ None → IfErr result (λ _. (scratch self.new ≡ 0) × (token self.new ≡ 0)) }
     {
         if let Some(error) = &self.failed {
             return Err(match copy_of(self.alloc, error) {
@@ -184,12 +188,16 @@ impl XmlChecker {
         }
     }
 
-    /// Goes on no more, and keeps why; where there is no memory for that, the error is that.
+    /// Goes on no more, and keeps why; where there is no memory for that, the error is that. What is open is let go.
     fn stop(&mut self, error: InstanceError) -> InstanceError
         ensures same { IsSameOrMemory error result }
         ensures kept { failed self.new ≡ Some result }
-        ensures content { self.new.content ≡ self.old.content }
+        ensures made { (types : Graph ℕ SimpleType) → AreMade types self.old.content → AreMade types self.new.content }
+        ensures lean { KeepsNoLeaf self.old → KeepsNoLeaf self.new }
+        ensures freed { (scratch self.new ≡ 0) × (token self.new ≡ 0) }
     {
+        self.content.let_go();
+        self.reader.forget_token();
         match copy_of(self.alloc, &error) {
             Ok(copy) => {
                 self.failed = Some(copy);

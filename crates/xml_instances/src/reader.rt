@@ -57,7 +57,7 @@ impl XmlReader {
 
     /// Takes the next bytes, of at most 2^40 in all. It answers the first fault at the byte that
     /// shows it, its place a byte number from 0. After an error it gives the same answer to every
-    /// later call, or that there is no memory for it.
+    /// later call, or that there is no memory for it, and holds no bytes of a leaf and of a token.
     pub fn feed(&mut self, model: &Model, piece: &[u8]) -> Result<(), InstanceError>
         requires room { reader_failed self.old ≡ None → reader_fed self.old + length piece.now ≤ 2 ^ 40 }
         requires made { IsReaderFor self.old model.now }
@@ -67,6 +67,8 @@ impl XmlReader {
         ensures count { IfOk result (λ _. reader_fed self.new ≡ reader_fed self.old + length piece.now) }
         ensures failed { reader_failed self.old ≡ None → IfErr result (λ e. reader_failed self.new ≡ Some e) }
         ensures again { (e : InstanceError) → reader_failed self.old ≡ Some e → IsAgain e result × (reader_failed self.new ≡ reader_failed self.old) }
+        ensures still { (e : InstanceError) → reader_failed self.old ≡ Some e → self.new ≡ self.old }
+        ensures freed { reader_failed self.old ≡ None → IfErr result (λ _. (reader_scratch self.new ≡ 0) × (reader_token self.new ≡ 0)) }
     {
         self.checker.feed(model, piece)
     }

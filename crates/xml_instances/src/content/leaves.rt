@@ -2,7 +2,7 @@
 ghost use Rattle.std.specs.Prelude.{◌≡◌, ℕ, List, [], ◌∷◌, ◌++◌, Some, None, IfOk, OnOk, length};
 ghost use Rattle.facets.specs.declared.simple.Simple.{Simple as SimpleType};
 ghost use Rattle.facets.specs.LeafChecks.{IsWithinLimits, IsHeldWithin, leaf_limit};
-ghost use Rattle.reference_check.specs.Forms.{text_type};
+ghost use Rattle.reference_check.specs.Forms.{Graph, text_type};
 ghost use Rattle.message_model.specs.Tables.{message_of, types_of};
 ghost use Rattle.xml_instances.specs.EventFaults.{LeafFault};
 ghost use Rattle.xml_instances.specs.Built.{TextShown};
@@ -114,6 +114,16 @@ impl Content {
             Some(Opened::Envelope { .. }) => 0,
             Some(Opened::Parent { .. }) => 0,
         }
+    }
+
+    /// Lets go of the open text. It is for what takes no more events.
+    pub(crate) fn let_go(&mut self)
+        ensures made { (types : Graph ℕ SimpleType) → AreMade types self.old → AreMade types self.new }
+        ensures lean { IsLean self.old → IsLean self.new }
+        ensures none { held_in self.new ≡ 0 }
+    {
+        self.innermost = None;
+        self.text = None;
     }
 
     /// A text of the type is open.

@@ -1,5 +1,5 @@
 // Tags that break no rule, where no pieces are kept: taken without what a refusal needs.
-ghost use Rattle.std.specs.Prelude.{◌≡◌, ℕ, List, [], IfOk, IfSome, None, Some, true, false};
+ghost use Rattle.std.specs.Prelude.{◌≡◌, ◌++◌, ◌∷◌, ℕ, List, [], IfOk, OnOk, IfSome, None, Some, true, false};
 ghost use Rattle.lexical_core.specs.Tree.{Expanded, Starts, Ends};
 ghost use Rattle.facets.specs.declared.simple.Simple.{Simple as SimpleType};
 ghost use Rattle.markup.specs.PlainTags.{tag_items};
@@ -78,14 +78,26 @@ impl Content {
         let Some(count) = counted(last, count, at) else {
             return Ok(false);
         };
-        self.innermost = Some(Opened::Parent {
+        self.push_round(Opened::Parent {
             number,
             last: Some(at),
             count,
-        });
-        self.go_in()?;
+        })?;
         self.begin(model, target)?;
         Ok(true)
+    }
+
+    /// One more element stands round the next.
+    fn push_round(&mut self, opened: Opened) -> Result<(), AllocError>
+        ensures text { self.new.text ≡ self.old.text }
+        ensures checks { self.new.checks ≡ self.old.checks }
+        ensures round { OnOk result (self.new.round.items ≡ self.old.round.items ++ opened ∷ []) }
+        ensures pieces { self.new.pieces ≡ self.old.pieces }
+    {
+        match self.round.push(opened) {
+            Ok(()) => Ok(()),
+            Err(_) => Err(AllocError),
+        }
     }
 
     /// The innermost element ends, as in `pass_tag`.

@@ -14,7 +14,7 @@ returns-clause-taken c ls n e ours h done =
     let again : c.in-Some-counted.count ≡ count_with last count k = c.in-Some-counted.ensures in
     started (message_of c.args.model.now) ls n c.args.local.now c.args.self.now
     (record { alloc = c.args.self.now.alloc; innermost = Some (opened.Parent number (Some k) c.in-Some-counted.count); round = c.args.self.now.round; text = c.args.self.now.text; checks = c.args.self.now.checks; pieces = c.args.self.now.pieces })
-    c.go_in.new.self c.begin.new.self number c.in-Some.target k last count c.in-Some-counted.count (search rules) refl again refl h ours e c.in-Some.ensures
+    c.push_round.new.self c.begin.new.self number c.in-Some.target k last count c.in-Some-counted.count (search rules) refl again refl h ours e c.in-Some.ensures
     (λ d came ends. sym (c.in-Slot.ensures d came ends))
     (λ d came ends longer. c.slot_comes.ensures (types_of c.args.model.now number) d last count c.args.local.now k (c.type_count.ensures.sound number) came ends longer)
-    c.in_ok-go_in.ensures.round c.in_ok-begin.ensures.round c.in_ok-begin.ensures.taken
+    c.in_ok-push_round.ensures.round c.in_ok-begin.ensures.round c.in_ok-begin.ensures.taken
