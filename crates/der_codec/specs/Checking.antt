@@ -1,5 +1,5 @@
 -- What a checker of DER was given, and what it answers.
-use Rattle.std.specs.Prelude.{◌≡◌, ◌≢◌, ◌⊎◌, ℕ, suc, ◌≤◌, ◌^◌, List, [], ◌++◌, length, take, drop, IfOk, IfErr, Option, None, Result, Ok, Err}
+use Rattle.std.specs.Prelude.{◌≡◌, ◌≢◌, ◌⊎◌, ℕ, suc, ◌≤◌, ◌^◌, List, [], ◌++◌, length, take, drop, IfOk, IfErr, Option, Some, None, Result, Ok, Err}
 use Rattle.lexical_core.specs.declared.rule.Rule.TheVariants.{DerTruncated}
 use Rattle.data_types.specs.Value.{Value}
 use Rattle.message_model.specs.Tables.{Tables, types_of}
@@ -63,10 +63,16 @@ token_held checker = header_come checker.decoder.due checker.decoder.start check
 abbrev pub failed : DerChecker → Option InstanceError
 failed checker = checker.failed
 
--- the checker was made for the message of these tables, and was given no bytes that it refused without saying so
+-- no octets are held
+pub record IsFreed (checker : DerChecker) : Type 0 where
+  pub leaf : held checker ≡ 0
+  pub header : token_held checker ≡ 0
+
+-- the checker was made for the message of these tables, and was given no bytes that it refused without saying so; where it has refused some it holds none
 pub record IsMadeFor (checker : DerChecker) (T : Tables) : Type 0 where
   pub checks : CheckTypes (types_of T) checker.checks
   pub given : failed checker ≡ None → (bytes : List ℕ) × HasFed checker T bytes
+  pub freed : (e : InstanceError) → failed checker ≡ Some e → IsFreed checker
 
 -- how many values and lists have begun and not ended, that of which a length or contents are due among them
 abbrev pub open_count : {P : Type 0} → State P → ℕ

@@ -8,7 +8,7 @@ ghost use Rattle.der_codec.specs.Judging.{IsVerdictFor};
 ghost use Rattle.der_codec.specs.KeptOctets.{IsKeptAt};
 ghost use Rattle.der_codec.specs.Limits.{open_limit, leaf_come, token_come};
 ghost use Rattle.facets.specs.LeafChecks.{IsHeldWithin};
-ghost use Rattle.der_codec.specs.Checking.{HasFed, IsReading, IsNoContents, KeepsRead, IsMadeFor, StopsWithin, TakesFront, Stops, IsSpelled, EndsAs, IsSameOrMemory, IsAgain, open_count, fed, failed, held, token_held};
+ghost use Rattle.der_codec.specs.Checking.{HasFed, IsReading, IsNoContents, KeepsRead, IsMadeFor, StopsWithin, TakesFront, Stops, IsSpelled, EndsAs, IsSameOrMemory, IsAgain, IsFreed, open_count, fed, failed, held, token_held};
 
 use crate::checks::{Checks, Refusal};
 use crate::contents::verdict;
@@ -84,7 +84,7 @@ impl DerChecker {
 
     /// How many bytes are held of the leaf that is open: of its contents octets those that are kept, where more are
     /// due. At most four are held for each that has come, within the limit of the leaf, and 64. Its check begins
-    /// when all have come, and holds nothing before.
+    /// when all have come, and holds nothing before. None are held after an error.
     pub fn scratch(&self) -> u64
         ensures count { result ≡ held self.now }
         ensures bound { (T : Tables) (bytes : List ℕ) (h : HasFed self.now T bytes)
@@ -93,7 +93,8 @@ impl DerChecker {
         self.kept.len() as u64
     }
 
-    /// How many bytes are held of identifier or length octets, where more of them are due: eight at most.
+    /// How many bytes are held of identifier or length octets, where more of them are due: eight at most, and none
+    /// after an error.
     pub fn token(&self) -> u64
         ensures count { result ≡ token_held self.now }
         ensures come { (T : Tables) (bytes : List ℕ) (h : HasFed self.now T bytes)
@@ -105,7 +106,7 @@ impl DerChecker {
 
     /// Takes the next bytes, of at most 2^40 in all. It answers the first fault at the byte that
     /// shows it, its place a byte number from 0. After an error it gives the same answer to every
-    /// later call, or that there is no memory for it.
+    /// later call, or that there is no memory for it, and holds nothing of what has come.
     pub fn feed(&mut self, model: &Model, piece: &[u8]) -> Result<(), InstanceError>
         requires room { failed self.old ≡ None → fed self.old + length piece.now ≤ 2 ^ 40 }
         requires made { IsMadeFor self.old model.now }
@@ -115,6 +116,7 @@ impl DerChecker {
         ensures count { IfOk result (λ _. fed self.new ≡ fed self.old + length piece.now) }
         ensures failed { failed self.old ≡ None → IfErr result (λ e. failed self.new ≡ Some e) }
         ensures again { (e : InstanceError) → failed self.old ≡ Some e → IsAgain e result × (failed self.new ≡ failed self.old) }
+        ensures freed { IfErr result (λ _. IsFreed self.new) }
     {
         if let Some(error) = &self.failed {
             return Err(match copy_of(self.alloc, error) {
@@ -131,12 +133,14 @@ impl DerChecker {
         }
     }
 
-    /// Goes on no more, and keeps why; where there is no memory for that, the error is that.
+    /// Goes on no more, holds nothing of what has come, and keeps why; where there is no memory for that, the error is that.
     fn stop(&mut self, error: InstanceError) -> InstanceError
         ensures same { IsSameOrMemory error result }
         ensures kept { failed self.new ≡ Some result }
         ensures checks { self.new.checks ≡ self.old.checks }
+        ensures freed { IsFreed self.new }
     {
+        self.free();
         match copy_of(self.alloc, &error) {
             Ok(copy) => {
                 self.failed = Some(copy);
@@ -147,6 +151,15 @@ impl DerChecker {
                 InstanceError::Memory
             }
         }
+    }
+
+    /// Holds nothing more of what has come: neither octets nor open values.
+    fn free(&mut self)
+        ensures freed { IsFreed self.new }
+        ensures checks { self.new.checks ≡ self.old.checks }
+    {
+        self.kept = Vec::new(self.alloc);
+        self.decoder = Decoder::new(self.alloc);
     }
 
     /// Why the reader stops, as it is told.

@@ -70,6 +70,7 @@ impl Decoder {
         ensures read { (m : DerMessage ℕ) → HasRead m result [] }
         ensures waits { IsWaiting result.due result.place (end_of_levels result.levels.items) }
         ensures place { result.place ≡ 0 }
+        ensures none { header_come result.due result.start result.place ≡ 0 }
     {
         Decoder {
             place: 0,

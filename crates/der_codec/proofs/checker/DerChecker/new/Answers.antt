@@ -15,6 +15,7 @@ returns-clause-made c = record {
       sound = refl;
     },
   );
+  freed = λ e failed. absurd cc;
 }
 
 pub returns-clause-fed : goal.returns-clause-fed
