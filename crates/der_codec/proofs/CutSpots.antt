@@ -14,6 +14,7 @@ use Rattle.der_model.specs.DerMessage.{DerMessage, der_message}
 use Rattle.der_model.specs.Faults.{IsHeldIn, BreaksIn}
 use Rattle.der_model.specs.Structures.{Structure, Holds, LeafOf, structure, form_structure, number_structure}
 use Rattle.der_model.specs.States.{State, Start, AwaitsLength, AwaitsContents, Within}
+use Rattle.der_codec.specs.Judging.{HoldsLeaf}
 use Rattle.der_codec.specs.KeptOctets.{IsKeptUnder, IsKeptIn, IsKeptAt, IsLeafAt}
 use Rattle.der_codec.specs.Limits.{contents_limit, open_limit, leaf_come, token_come}
 use Rattle.der_codec.specs.Decoding.{Reads, IsOpen, IsBegun, header_come}
@@ -37,7 +38,7 @@ held_none (Some m) n = omega arith
 -- ---- by the value
 
 same_kept : (m : DerMessage ℕ) (s : Structure ℕ) (octets : List ℕ) → IsHeldWithin (contents_limit s) (length octets) (length octets) → IsKeptIn m s octets octets
-same_kept m s octets within = record { held = λ more h. h; broken = λ more rule h. h; within = within }
+same_kept m s octets within = record { held = λ more h. h; leaf = λ more leaf h. h; broken = λ more rule h. h; within = within }
 
 -- nothing is kept of nothing
 pub none_held : (m : DerMessage ℕ) (spot : Spot) (kept octets : List ℕ) → kept ≡ [] → octets ≡ [] → IsKeptAt m spot kept octets
@@ -47,6 +48,7 @@ none_held m spot kept octets e f = subst (λ z. IsKeptAt m spot z octets) (sym e
 under_kept : (m : DerMessage ℕ) (simple : Simple) (kept octets : List ℕ) → IsKeptUnder simple kept octets → IsKeptIn m (Holds (LeafOf simple)) kept octets
 under_kept m simple kept octets k = record {
   held = λ more h. (h.0, k.stands more (Ok h.0) h.1);
+  leaf = λ more leaf h. k.stands more (Ok leaf) h;
   broken = λ more rule h. k.stands more (Err rule) h;
   within = k.within;
 }
@@ -64,6 +66,7 @@ held_then m spot kept octets front less k l = record {
   stands = λ of is.
       let x = k.stands of is in let y = l.stands of is in record {
         held = λ more h. subst (IsHeldIn m (structure m of)) (sym (append_assoc octets front more)) (x.held (front ++ more) (subst (IsHeldIn m (structure m of)) (append_assoc kept front more) (y.held more h)));
+        leaf = λ more leaf h. subst (λ z. HoldsLeaf m (structure m of) z leaf) (sym (append_assoc octets front more)) (x.leaf (front ++ more) leaf (subst (λ z. HoldsLeaf m (structure m of) z leaf) (append_assoc kept front more) (y.leaf more leaf h)));
         broken = λ more rule h. subst (λ z. BreaksIn m (structure m of) z rule) (sym (append_assoc octets front more)) (x.broken (front ++ more) rule (subst (λ z. BreaksIn m (structure m of) z rule) (append_assoc kept front more) (y.broken more rule h)));
         within = held_more (contents_limit (structure m of)) (length (kept ++ front)) (length (octets ++ front)) (length less)
             (let a = k.few in let s = length-append kept front in let t = length-append octets front in omega (arith, a, s, t)) y.within;

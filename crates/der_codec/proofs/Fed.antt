@@ -1,5 +1,5 @@
 -- What a checker was given, and what it then tells.
-use Rattle.std.specs.Prelude.{Result, Ok, Err, IfOk, IfErr}
+use Rattle.std.specs.Prelude.{Result, Ok, Err, IfErr}
 use Rattle.std.proofs.Common.{◌≡◌, ◌≢◌, ℕ, zero, suc, ◌+◌, ◌-◌, ◌≤◌, ◌<◌, ◌^◌, List, [], ◌∷◌, ◌++◌, length, take, drop, Option, refl, sym, ap, ◌∙◌, subst, arith, append-nil, append_assoc, length-append, ◌⊎◌, inl, inr}
 use Rattle.lexical_core.specs.declared.rule.Rule.{Rule}
 use Rattle.lexical_core.specs.declared.rule.Rule.TheVariants.{DerTruncated}
@@ -11,16 +11,13 @@ use Rattle.der_model.specs.Faults.{Fault, DerFault}
 use Rattle.der_model.specs.Paths.{path_of}
 use Rattle.der_model.specs.Sound.{IsSound}
 use Rattle.der_model.specs.Structures.{structure}
-use Rattle.der_model.specs.States as states
-use Rattle.der_model.specs.States.{State, Start, AwaitsLength, AwaitsContents, Within}
+use Rattle.der_model.specs.States.{State, Start, AwaitsContents}
 use Rattle.der_model.proofs.Continued.{fault_stays}
 use Rattle.der_model.proofs.Answered.{spelled_has_none}
 use Rattle.facets.specs.LeafChecks.{IsHeldWithin}
-use Rattle.facets.specs.declared.simple.Simple.{Simple}
-use Rattle.reference_check.specs.Forms.{Graph}
-use Rattle.der_codec.specs.Levels.{AreLevels, inwards}
+use Rattle.der_codec.specs.Levels.{inwards}
 use Rattle.der_codec.specs.Components.{added_text}
-use Rattle.der_codec.specs.Decoding.{due_depth, Reads, Fails, HasRead, IsOpen, IsFault, IsStopped, IsOver, IsReady, IsWaiting, IsNoCut, IsRefusedAs, end_of_levels}
+use Rattle.der_codec.specs.Decoding.{due_depth, Reads, Fails, HasRead, IsOpen, IsFresh, IsFault, IsStopped, IsOver, IsReady, IsWaiting, IsNoCut, IsRefusedAs, end_of_levels}
 use Rattle.der_codec.specs.Judging.{HoldsContents, BreaksContentsAt, IsVerdictFor}
 use Rattle.der_codec.specs.OpenNames.{IsNamed}
 use Rattle.der_codec.specs.Checking.{IsReading, KeepsContents, KeepsRead, HasFed, TakesFront, StopsWithin, Stops, IsSpelled, EndsAs, IsSameOrMemory, open_count, fed, token_held}
@@ -39,11 +36,15 @@ use Rattle.der_codec.specs.declared.decoder.Stop.TheVariants as stop
 use Rattle.der_codec.proofs.InputEnds.{goes_on, is_spelled}
 use Rattle.der_codec.proofs.Named.{front_named}
 use Rattle.der_codec.specs.KeptOctets.{IsKeptAt}
+use Rattle.der_codec.specs.KeptPieces.{KeepsShown, HoldsLeafAt, GoesOnByLeaf, EndsLeaf}
+use Rattle.inst_pool.specs.Pieces.{Region}
+use Rattle.data_types.specs.Leaf.{Leaf}
 use Rattle.der_codec.specs.Limits.{open_limit, leaf_come, token_come}
 use Rattle.der_codec.proofs.CutSpots.{none_held, held_then, held_open, token_open}
 use Rattle.der_codec.proofs.ContentsSteps.{place_counts, kept_more, none_kept, rest_from, some_before, contents_break}
 use Rattle.der_codec.proofs.NoCuts.{contents_stay}
 use Rattle.der_codec.proofs.Nested.{ready_waits}
+use Rattle.der_codec.proofs.ShownFed.{depth_counts, pass_shown, leaf_ends}
 
 -- ---- what is told
 
@@ -124,22 +125,28 @@ keeps_ready T (due.Length c spot step) place o start bytes kept h e = e
 keeps_ready T (due.Contents spot left) place o start bytes kept h e = absurd h
 keeps_ready T due.Over place o start bytes kept h e = e
 
-pub ended : {A : Type 0} (T : Tables) (d : Decoder) (kept bytes : List ℕ) (r : Result A Stop) → IfOk r (λ _. HasRead (der_message T) d bytes) → IfOk r (λ _. IsReady d.due d.place (end_of_levels d.levels.items)) → kept ≡ []
-    → IfOk r (λ _. IsReading T d kept bytes)
-ended T d kept bytes (Ok a) read ready none = record {
+pub over_ready : (d : Due) (place : ℕ) (o : Option ℕ) → IsOver d → IsReady d place o
+over_ready due.Over place o over = tt
+over_ready (due.Tag step) place o over = absurd over
+over_ready (due.Length c spot step) place o over = absurd over
+over_ready (due.Contents spot left) place o over = absurd over
+
+pub ready_reading : (T : Tables) (d : Decoder) (kept : List ℕ) (pieces : Option Region) (bytes : List ℕ) → HasRead (der_message T) d bytes → KeepsShown (der_message T) d pieces bytes → IsReady d.due d.place (end_of_levels d.levels.items) → kept ≡ [] → IsReading T d kept pieces bytes
+ready_reading T d kept pieces bytes read shows ready none = record {
   read = read;
   waits = ready_waits d.due d.place (end_of_levels d.levels.items) ready;
   keeps = keeps_ready T d.due d.place (end_of_levels d.levels.items) d.start bytes kept ready none;
+  shows = shows;
 }
-ended T d kept bytes (Err s) read ready none = tt
 
 kept_at : (T : Tables) (d : Due) (spot : Spot) (left start : ℕ) (bytes kept : List ℕ) → d ≡ due.Contents spot left → KeepsContents T d start bytes kept → IsKeptAt (der_message T) spot kept (drop start bytes)
 kept_at T d spot left start bytes kept is h = subst (λ z. KeepsContents T z start bytes kept) is h
 
-pub keep_reading : (T : Tables) (d e : Decoder) (kept less bytes front : List ℕ) (spot : Spot) (left : ℕ) → d.due ≡ due.Contents spot left → length front < left → IsReading T d kept bytes → HasRead (der_message T) e (bytes ++ front)
-    → e.due ≡ due.Contents spot (left - length front) → e.start ≡ d.start → IsKeptAt (der_message T) spot less (kept ++ front) → IsReading T e less (bytes ++ front)
-keep_reading T d e kept less bytes front spot left is more h read now start short = record {
+pub keep_reading : (T : Tables) (d e : Decoder) (kept less : List ℕ) (pieces : Option Region) (bytes front : List ℕ) (spot : Spot) (left : ℕ) → d.due ≡ due.Contents spot left → length front < left → IsReading T d kept pieces bytes → HasRead (der_message T) e (bytes ++ front)
+    → e.due ≡ due.Contents spot (left - length front) → e.start ≡ d.start → IsKeptAt (der_message T) spot less (kept ++ front) → IsReading T e less pieces (bytes ++ front)
+keep_reading T d e kept less pieces bytes front spot left is more h read now start short = record {
   read = read;
+  shows = pass_shown (der_message T) d e pieces bytes front spot left is now more h.read h.shows;
   waits = subst (λ z. IsWaiting z e.place (end_of_levels e.levels.items)) (sym now) (omega (arith, more));
   keeps =
       let m = der_message T in
@@ -161,9 +168,10 @@ pub fresh_keeps : (T : Tables) (d : Decoder) (kept bytes : List ℕ) (spot : Spo
 fresh_keeps T d kept bytes spot left is begun none r =
     subst (λ z. KeepsContents T z d.start bytes kept) (sym is) (none_held (der_message T) spot kept (drop d.start bytes) none (none_kept (der_message T) (inwards d.levels.items) d.due d.start d.place bytes r begun))
 
-pub fresh_reading : (T : Tables) (d : Decoder) (kept bytes : List ℕ) (spot : Spot) (left : ℕ) → d.due ≡ due.Contents spot left → 0 < left → d.start ≡ d.place → kept ≡ [] → HasRead (der_message T) d bytes → IsReading T d kept bytes
-fresh_reading T d kept bytes spot left is some begun none r = record {
+pub fresh_reading : (T : Tables) (d : Decoder) (kept : List ℕ) (pieces : Option Region) (bytes : List ℕ) (spot : Spot) (left : ℕ) → d.due ≡ due.Contents spot left → 0 < left → d.start ≡ d.place → kept ≡ [] → HasRead (der_message T) d bytes → KeepsShown (der_message T) d pieces bytes → IsReading T d kept pieces bytes
+fresh_reading T d kept pieces bytes spot left is some begun none r shows = record {
   read = r;
+  shows = shows;
   waits = subst (λ z. IsWaiting z d.place (end_of_levels d.levels.items)) (sym is) some;
   keeps = fresh_keeps T d kept bytes spot left is begun none r;
 }
@@ -181,13 +189,28 @@ kept_short T d kept bytes spot left is (r, keeps) =
     let at = r.start_is in let place = r.place_is in
     omega (arith, before, few, size, at, place)
 
-pub last_read : (T : Tables) (d e : Decoder) (kept bytes front : List ℕ) (spot : Spot) (left : ℕ) → e ≡ d → d.due ≡ due.Contents spot left → KeepsRead T d kept bytes → HoldsContents (der_message T) spot (kept ++ front)
-    → HasRead (der_message T) e bytes × HoldsContents (der_message T) spot (drop e.start bytes ++ front)
-last_read T d e kept bytes front spot left same is (r, keeps) held = (
-  subst (λ (z : Decoder). HasRead (der_message T) z bytes) (sym same) r,
-  subst (λ (z : Decoder). HoldsContents (der_message T) spot (drop z.start bytes ++ front)) (sym same)
-      (λ of at. ((kept_at T d.due spot left d.start bytes kept is keeps).stands of at).held front (held of at)),
-)
+pub last_read : (T : Tables) (d : Decoder) (kept bytes front : List ℕ) (spot : Spot) (left : ℕ) → d.due ≡ due.Contents spot left → KeepsRead T d kept bytes → HoldsContents (der_message T) spot (kept ++ front) → HoldsContents (der_message T) spot (drop d.start bytes ++ front)
+last_read T d kept bytes front spot left is (r, keeps) held = λ of at. ((kept_at T d.due spot left d.start bytes kept is keeps).stands of at).held front (held of at)
+
+pub last_leaf : (T : Tables) (d : Decoder) (kept bytes front : List ℕ) (spot : Spot) (left : ℕ) (leaf : Leaf) → d.due ≡ due.Contents spot left → KeepsRead T d kept bytes → HoldsLeafAt (der_message T) spot (kept ++ front) leaf → HoldsLeafAt (der_message T) spot (drop d.start bytes ++ front) leaf
+last_leaf T d kept bytes front spot left leaf is (r, keeps) held = λ of at. ((kept_at T d.due spot left d.start bytes kept is keeps).stands of at).leaf front leaf (held of at)
+
+-- behind the last contents octets of a leaf
+pub last_has : (T : Tables) (d j e : Decoder) (kept bytes front : List ℕ) (spot : Spot) (left : ℕ) → j ≡ d → d.due ≡ due.Contents spot left → KeepsRead T d kept bytes → length front ≡ left → HoldsContents (der_message T) spot (kept ++ front)
+    → ((m : DerMessage ℕ) (bytes more : List ℕ) → HasRead m j bytes → length more ≡ left → HoldsContents m spot (drop j.start bytes ++ more) → HasRead m e (bytes ++ more)) → HasRead (der_message T) e (bytes ++ front)
+last_has T d j e kept bytes front spot left same is h size held reads =
+    reads (der_message T) bytes front (subst (λ (z : Decoder). HasRead (der_message T) z bytes) (sym same) h.0) size
+    (subst (λ (z : Decoder). HoldsContents (der_message T) spot (drop z.start bytes ++ front)) (sym same) (last_read T d kept bytes front spot left is h held))
+
+pub last_ends : (T : Tables) (d j e : Decoder) (kept : List ℕ) (old mid : Option Region) (bytes front : List ℕ) (spot : Spot) (left : ℕ) → j ≡ d → d.due ≡ due.Contents spot left → KeepsRead T d kept bytes → KeepsShown (der_message T) d old bytes
+    → length front ≡ left → HoldsContents (der_message T) spot (kept ++ front) → GoesOnByLeaf (der_message T) spot (kept ++ front) old mid → IsFresh e.due → e.levels ≡ j.levels
+    → ((m : DerMessage ℕ) (bytes more : List ℕ) → HasRead m j bytes → length more ≡ left → HoldsContents m spot (drop j.start bytes ++ more) → HasRead m e (bytes ++ more)) → EndsLeaf (der_message T) e mid (bytes ++ front)
+last_ends T d j e kept old mid bytes front spot left same is h shows size held (leaf, at, goes) fresh levels reads =
+    leaf_ends (der_message T) d e old mid bytes front spot left leaf is fresh (levels ∙ ap (λ (z : Decoder). z.levels) same) size (last_leaf T d kept bytes front spot left leaf is h at) goes h.0 shows
+    (last_has T d j e kept bytes front spot left same is h size held reads)
+
+pub at_memory : (T : Tables) (d : Decoder) (bytes : List ℕ) (s : Stop) → s ≡ stop.Memory → StopsWithin T d bytes s
+at_memory T d bytes s is = subst (StopsWithin T d bytes) (sym is) tt
 
 rule_stays : (m : DerMessage ℕ) (xs : List Level) (spot : Spot) (left start place : ℕ) (bytes octets : List ℕ) (rule : Rule) → Reads m xs (due.Contents spot left) start place bytes → BreaksContentsAt m spot octets rule → rule ≢ DerTruncated
 rule_stays m xs spot left start place bytes octets rule r breaks = by r.state r.is_open
@@ -228,10 +251,10 @@ pub fed_is : (T : Tables) (checker : DerChecker) (bytes : List ℕ) → HasFed c
 fed_is T checker bytes h = (let d = checker.decoder in place_counts (der_message T) (inwards d.levels.items) d.due d.start d.place bytes h.reading.read)
 
 pub taken_front : (T : Tables) (old new : DerChecker) (piece front : List ℕ) (n : ℕ) → front ≡ take n piece → n ≤ length piece → fed old + length piece ≤ 2 ^ 40 → new.failed ≡ old.failed
-    → ((bytes : List ℕ) → HasFed old T bytes → IsReading T new.decoder new.kept.items (bytes ++ front)) → TakesFront T old new piece (Ok n)
+    → ((bytes : List ℕ) → HasFed old T bytes → IsReading T new.decoder new.kept.items new.pieces (bytes ++ front)) → TakesFront T old new piece (Ok n)
 taken_front T old new piece front n is within room same go = record {
   ok = λ bytes h. record {
-    reading = subst (λ z. IsReading T new.decoder new.kept.items (bytes ++ z)) is (go bytes h);
+    reading = subst (λ z. IsReading T new.decoder new.kept.items new.pieces (bytes ++ z)) is (go bytes h);
     short = (let sum = length-append bytes (take n piece) in let part = few n piece in let size = fed_is T old bytes h in omega (arith, sum, part, size, room));
     sound = same ∙ h.sound;
   };
@@ -264,8 +287,8 @@ joined (suc n) (x ∷ xs) = ap (λ z. x ∷ z) (joined n xs)
 
 -- ---- what is taken behind a byte of a header
 
-pub none_more : (T : Tables) (d : Decoder) (kept bytes behind : List ℕ) → IsReading T d kept bytes → IsReading T d kept (bytes ++ take 0 behind)
-none_more T d kept bytes behind h = subst (IsReading T d kept) (sym (append-nil bytes)) h
+pub none_more : (T : Tables) (d : Decoder) (kept : List ℕ) (pieces : Option Region) (bytes behind : List ℕ) → IsReading T d kept pieces bytes → IsReading T d kept pieces (bytes ++ take 0 behind)
+none_more T d kept pieces bytes behind h = subst (IsReading T d kept pieces) (sym (append-nil bytes)) h
 
 pub further_stops : (T : Tables) (d : Decoder) (bytes front behind all : List ℕ) (s : Stop) → all ≡ front ++ behind → StopsWithin T d (bytes ++ front) s → StopsWithin T d (bytes ++ all) s
 further_stops T d bytes front behind all s is h = within_more T d (bytes ++ front) behind (bytes ++ all) s (ap (λ z. bytes ++ z) is ∙ sym (append_assoc bytes front behind)) h
@@ -280,9 +303,10 @@ take_further zero k xs = (let e : 0 + k ≡ k = omega arith in ap (λ z. take z 
 take_further (suc n) k [] = take_none (suc n + k) ∙ sym (take_none k)
 take_further (suc n) k (x ∷ xs) = (let e : suc n + k ≡ suc (n + k) = omega arith in ap (λ z. take z (x ∷ xs)) e ∙ ap (λ z. x ∷ z) (take_further n k xs))
 
-pub taken_further : (T : Tables) (d : Decoder) (kept bytes behind left : List ℕ) (n k : ℕ) → left ≡ drop n behind → IsReading T d kept ((bytes ++ take n behind) ++ take k left) → IsReading T d kept (bytes ++ take (n + k) behind)
-taken_further T d kept bytes behind left n k is h =
-    subst (IsReading T d kept) (append_assoc bytes (take n behind) (take k left) ∙ ap (λ z. bytes ++ z) (ap (λ z. take n behind ++ take k z) is ∙ sym (take_further n k behind))) h
+pub taken_further : (T : Tables) (d : Decoder) (kept : List ℕ) (pieces : Option Region) (bytes behind left : List ℕ) (n k : ℕ) → left ≡ drop n behind → IsReading T d kept pieces ((bytes ++ take n behind) ++ take k left)
+    → IsReading T d kept pieces (bytes ++ take (n + k) behind)
+taken_further T d kept pieces bytes behind left n k is h =
+    subst (IsReading T d kept pieces) (append_assoc bytes (take n behind) (take k left) ∙ ap (λ z. bytes ++ z) (ap (λ z. take n behind ++ take k z) is ∙ sym (take_further n k behind))) h
 
 pub stopped_further : (T : Tables) (d : Decoder) (bytes behind left : List ℕ) (n : ℕ) (s : Stop) → left ≡ drop n behind → StopsWithin T d ((bytes ++ take n behind) ++ left) s → StopsWithin T d (bytes ++ behind) s
 stopped_further T d bytes behind left n s is h =
@@ -294,12 +318,12 @@ stopped_early T d bytes behind n s stops other =
 
 -- a byte, and a front of what is behind it
 pub taken_behind : (T : Tables) (old new : DerChecker) (piece behind : List ℕ) (o n : ℕ) → piece ≡ o ∷ behind → n ≤ length behind → fed old + length piece ≤ 2 ^ 40 → new.failed ≡ old.failed
-    → ((bytes : List ℕ) → HasFed old T bytes → IsReading T new.decoder new.kept.items ((bytes ++ o ∷ []) ++ take n behind)) → TakesFront T old new piece (Ok (1 + n))
+    → ((bytes : List ℕ) → HasFed old T bytes → IsReading T new.decoder new.kept.items new.pieces ((bytes ++ o ∷ []) ++ take n behind)) → TakesFront T old new piece (Ok (1 + n))
 taken_behind T old new piece behind o n is within room same go =
     let e : suc n ≡ 1 + n = omega arith in
     let size = ap length is in
     taken_front T old new piece (o ∷ take n behind) (1 + n) (ap (λ z. take z (o ∷ behind)) e ∙ ap (take (1 + n)) (sym is)) (omega (arith, size, within)) room same
-    (λ bytes h. subst (IsReading T new.decoder new.kept.items) (append_assoc bytes (o ∷ []) (take n behind)) (go bytes h))
+    (λ bytes h. subst (IsReading T new.decoder new.kept.items new.pieces) (append_assoc bytes (o ∷ []) (take n behind)) (go bytes h))
 
 pub stopped_behind : (T : Tables) (old new : DerChecker) (piece behind : List ℕ) (o : ℕ) (s : Stop) → piece ≡ o ∷ behind → ((bytes : List ℕ) → HasFed old T bytes → StopsWithin T new.decoder ((bytes ++ o ∷ []) ++ behind) s) → TakesFront T old new piece (Err s)
 stopped_behind T old new piece behind o s is stops =
@@ -344,28 +368,8 @@ stops_same T bytes e told (inr none) h = subst (Stops T bytes) (sym none) tt
 
 -- ---- how deep it is
 
-same_length : (types : Graph ℕ Simple) (xs : List Level) (ls : List (states.Level ℕ)) → AreLevels types xs ls → length xs ≡ length ls
-same_length types [] [] are = refl
-same_length types (x ∷ xs) (l ∷ ls) are = ap suc (same_length types xs ls are.1)
-same_length types [] (l ∷ ls) are = absurd are
-same_length types (x ∷ xs) [] are = absurd are
-
-inwards_length : (xs : List Level) → length (inwards xs) ≡ length xs
-inwards_length [] = refl
-inwards_length (x ∷ xs) = (let sum = length-append (inwards xs) (x ∷ []) in let rest = inwards_length xs in omega (arith, sum, rest))
-
-open_length : (m : DerMessage ℕ) (xs : List Level) (d : Due) (s : State ℕ) → IsOpen m xs d s → length xs + due_depth d ≡ open_count s
-open_length m xs (due.Tag step) Start op = (let e = ap length op in omega (arith, e))
-open_length m xs (due.Tag step) (Within (l ∷ ls)) op = (let e = same_length m.forms xs (l ∷ ls) op in omega (arith, e))
-open_length m xs (due.Length c spot step) (AwaitsLength b of names ls) op = (let e = same_length m.forms xs ls op.2 in omega (arith, e))
-open_length m xs (due.Contents spot left) (AwaitsContents of names count ls) op = (let e = same_length m.forms xs ls op.1 in omega (arith, e))
-open_length m xs due.Over (Within []) op = (let e = ap length op in omega (arith, e))
-open_length m xs d s op = absurd op
-
 pub depth_is : (T : Tables) (checker : DerChecker) (bytes : List ℕ) (h : HasFed checker T bytes) → length checker.decoder.levels.items + due_depth checker.decoder.due ≡ open_count h.reading.read.state
-depth_is T checker bytes h =
-    let d = checker.decoder in
-    ap (λ n. n + due_depth d.due) (sym (inwards_length d.levels.items)) ∙ open_length (der_message T) (inwards d.levels.items) d.due h.reading.read.state h.reading.read.is_open
+depth_is T checker bytes h = (let d = checker.decoder in depth_counts (der_message T) d.levels.items d.due d.start d.place bytes h.reading.read)
 
 -- ---- what is held
 

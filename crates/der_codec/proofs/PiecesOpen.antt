@@ -1,5 +1,5 @@
 -- Elements that are open behind pieces, with one piece more.
-use Rattle.std.specs.Prelude.{Result, Ok, Err, OnOk}
+use Rattle.std.specs.Prelude.{Result, Ok, Err, OnOk, IfOk}
 use Rattle.std.proofs.Common.{◌≡◌, List, [], ◌∷◌, ◌++◌, refl, ap, ◌∙◌, drop}
 use Rattle.data_types.specs.Leaf.{Leaf}
 use Rattle.data_types.specs.Value.{Edge, Piece, Begins, Holds, Ends}
@@ -20,3 +20,8 @@ closed_open shown edge outer e = open_then [] shown (Ends edge ∷ []) ∙ ap (d
 
 pub held_open : (shown : List Piece) (leaf : Leaf) → open_in (shown ++ Holds leaf ∷ []) ≡ open_in shown
 held_open shown leaf = open_then [] shown (Holds leaf ∷ [])
+
+-- what holds for each of these where it is Ok
+pub ok_for : {A E S : Type 0} (r : Result A E) (X G : S → Type 0) (Q : Type 0) → ((s : S) → X s → OnOk r (G s)) → (((s : S) → X s → G s) → Q) → IfOk r (λ _. Q)
+ok_for (Ok a) X G Q h f = f h
+ok_for (Err e) X G Q h f = tt

@@ -1,7 +1,8 @@
 -- What a checker of DER was given, and what it answers.
-use Rattle.std.specs.Prelude.{◌≡◌, ◌≢◌, ◌⊎◌, ℕ, suc, ◌≤◌, ◌^◌, List, [], ◌++◌, length, take, drop, IfOk, IfErr, Option, None, Result, Ok, Err}
+use Rattle.std.specs.Prelude.{◌≡◌, ◌≢◌, ◌⊎◌, ℕ, suc, ◌≤◌, ◌^◌, List, [], ◌++◌, length, take, drop, IfOk, IfErr, Option, Some, None, Result, Ok, Err}
 use Rattle.lexical_core.specs.declared.rule.Rule.TheVariants.{DerTruncated}
 use Rattle.data_types.specs.Value.{Value}
+use Rattle.inst_pool.specs.Pieces.{Region}
 use Rattle.message_model.specs.Tables.{Tables, types_of}
 use Rattle.message_model.specs.declared.fault.Fault.{Fault as Told}
 use Rattle.message_model.specs.declared.fault.InstanceError.{InstanceError}
@@ -13,6 +14,7 @@ use Rattle.der_model.specs.States.{State, Start, AwaitsLength, AwaitsContents, W
 use Rattle.der_codec.specs.Checked.{CheckTypes}
 use Rattle.der_codec.specs.Components.{added_text}
 use Rattle.der_codec.specs.KeptOctets.{IsKeptAt}
+use Rattle.der_codec.specs.KeptPieces.{KeepsShown}
 use Rattle.der_codec.specs.Decoding.{HasRead, header_come, IsFault, IsWaiting, end_of_levels}
 use Rattle.der_codec.specs.declared.decoder.Decoder.{Decoder}
 use Rattle.der_codec.specs.declared.decoder.Due.{Due}
@@ -36,14 +38,15 @@ abbrev pub KeepsRead : Tables → Decoder → List ℕ → List ℕ → Type 0
 KeepsRead T d kept bytes = HasRead (der_message T) d bytes × KeepsContents T d.due d.start bytes kept
 
 -- The reader goes on: it was given these bytes, which break nothing so far.
-pub record IsReading (T : Tables) (d : Decoder) (kept bytes : List ℕ) : Type 0 where
+pub record IsReading (T : Tables) (d : Decoder) (kept : List ℕ) (pieces : Option Region) (bytes : List ℕ) : Type 0 where
   pub read : HasRead (der_message T) d bytes
   pub waits : IsWaiting d.due d.place (end_of_levels d.levels.items)
   pub keeps : KeepsContents T d.due d.start bytes kept
+  pub shows : KeepsShown (der_message T) d pieces bytes
 
 -- the checker goes on: it was given these bytes, 2^40 at most, which break nothing so far
 pub record HasFed (checker : DerChecker) (T : Tables) (bytes : List ℕ) : Type 0 where
-  pub reading : IsReading T checker.decoder checker.kept.items bytes
+  pub reading : IsReading T checker.decoder checker.kept.items checker.pieces bytes
   pub short : length bytes ≤ 2 ^ 40
   pub sound : checker.failed ≡ None
 
@@ -63,10 +66,16 @@ token_held checker = header_come checker.decoder.due checker.decoder.start check
 abbrev pub failed : DerChecker → Option InstanceError
 failed checker = checker.failed
 
--- the checker was made for the message of these tables, and was given no bytes that it refused without saying so
+-- no octets are held
+pub record IsFreed (checker : DerChecker) : Type 0 where
+  pub leaf : held checker ≡ 0
+  pub header : token_held checker ≡ 0
+
+-- the checker was made for the message of these tables, and was given no bytes that it refused without saying so; where it has refused some it holds none
 pub record IsMadeFor (checker : DerChecker) (T : Tables) : Type 0 where
   pub checks : CheckTypes (types_of T) checker.checks
   pub given : failed checker ≡ None → (bytes : List ℕ) × HasFed checker T bytes
+  pub freed : (e : InstanceError) → failed checker ≡ Some e → IsFreed checker
 
 -- how many values and lists have begun and not ended, that of which a length or contents are due among them
 abbrev pub open_count : {P : Type 0} → State P → ℕ

@@ -97,6 +97,11 @@ IsHeaderDue (due.Tag step) = Unit {0}
 IsHeaderDue (due.Length constructed spot step) = Unit {0}
 IsHeaderDue _ = ⊥
 
+-- length octets are due
+abbrev pub IsLengthDue : Due → Type 0
+IsLengthDue (due.Length constructed spot step) = Unit {0}
+IsLengthDue _ = ⊥
+
 -- identifier octets are due, and none have come
 abbrev pub IsFresh : Due → Type 0
 IsFresh (due.Tag step) = step.come ≡ 0
@@ -192,6 +197,10 @@ abbrev pub due_depth : Due → ℕ
 due_depth (due.Length constructed spot step) = 1
 due_depth (due.Contents spot left) = 1
 due_depth d = 0
+
+-- how many values are open, that of which the length or contents are due among them
+abbrev pub depth_of : Decoder → ℕ
+depth_of d = length d.levels.items + due_depth d.due
 
 -- of the part that is due, the octets that have come of its identifier or its length
 abbrev pub header_come : Due → ℕ → ℕ → ℕ

@@ -14,6 +14,7 @@ use Rattle.der_model.specs.Faults.{IsHeldIn, BreaksIn}
 use Rattle.der_model.specs.LeafContents.{ContentsUnder}
 use Rattle.der_model.specs.Structures as structures
 use Rattle.der_model.specs.Structures.{Structure, Holds, LeafOf, structure}
+use Rattle.der_codec.specs.Judging.{HoldsLeaf}
 use Rattle.der_codec.specs.Levels.{IsSpot}
 use Rattle.der_codec.specs.declared.level.Spot.{Spot}
 use Rattle.der_codec.specs.Limits.{contents_limit}
@@ -27,6 +28,7 @@ pub record IsKeptUnder (simple : Simple) (kept octets : List ℕ) : Type 0 where
 -- The same in a value of this structure.
 pub record IsKeptIn {P : Type 0} (m : DerMessage P) (s : Structure P) (kept octets : List ℕ) : Type 0 where
   pub held : (more : List ℕ) → IsHeldIn m s (kept ++ more) → IsHeldIn m s (octets ++ more)
+  pub leaf : (more : List ℕ) (leaf : Leaf) → HoldsLeaf m s (kept ++ more) leaf → HoldsLeaf m s (octets ++ more) leaf
   pub broken : (more : List ℕ) (rule : Rule) → BreaksIn m s (kept ++ more) rule → BreaksIn m s (octets ++ more) rule
   pub within : IsHeldWithin (contents_limit s) (length octets) (length kept)
 

@@ -6,9 +6,9 @@ pub mod Checked
 pub mod Judging
 pub mod OpenNames
 pub mod Elements
-pub mod Filling
 pub mod Limits
 pub mod KeptOctets
+pub mod KeptPieces
 pub mod Checking
 pub mod Laws
 pub mod ReadyLaws

@@ -3,31 +3,36 @@ ghost use Rattle.std.specs.Prelude.{◌≡◌, ◌<◌, ◌+◌, ◌≤◌, ◌^
 ghost use Rattle.message_model.specs.Tables.{Tables, types_of};
 ghost use Rattle.der_model.specs.DerMessage.{der_message};
 ghost use Rattle.der_codec.specs.Checked.{CheckTypes};
+ghost use Rattle.der_codec.specs.ReadInstances.{IsRead};
 ghost use Rattle.der_codec.specs.Decoding.{HasRead, IsStopped, IsSettled, BeginsContents, IsHeaderDue, end_of_levels};
+ghost use Rattle.der_codec.specs.KeptPieces.{KeepsShown, AreNone, GoesOnByLeaf};
 ghost use Rattle.der_codec.specs.Judging.{IsVerdictFor};
 ghost use Rattle.der_codec.specs.KeptOctets.{IsKeptAt};
 ghost use Rattle.der_codec.specs.Limits.{open_limit, leaf_come, token_come};
 ghost use Rattle.facets.specs.LeafChecks.{IsHeldWithin};
-ghost use Rattle.der_codec.specs.Checking.{HasFed, IsReading, IsNoContents, KeepsRead, IsMadeFor, StopsWithin, TakesFront, Stops, IsSpelled, EndsAs, IsSameOrMemory, IsAgain, open_count, fed, failed, held, token_held};
+ghost use Rattle.der_codec.specs.Checking.{HasFed, IsReading, KeepsRead, IsMadeFor, StopsWithin, TakesFront, Stops, IsSpelled, EndsAs, IsSameOrMemory, IsAgain, IsFreed, open_count, fed, failed, held, token_held};
 
 use crate::checks::{Checks, Refusal};
-use crate::contents::verdict;
+use crate::contents::tell;
 use crate::decoder::{Decoder, Due, Stop};
 use crate::envelopes::fragments_apart;
 use crate::level::Spot;
 use crate::limits::shorten;
+use inst_pool::{Builder, Instance};
 use message_model::{Fault, InstanceError, Model};
 use std::alloc::{AllocError, Global};
 
 /// A checker of an instance. It keeps the open values, of contents octets that are not whole no more than tell what
-/// they are, and nothing of what is closed.
+/// they are, and nothing of what is closed; for a reader the pieces of what has come, too.
 #[derive(Drop)]
 pub struct DerChecker {
     alloc: Global,
-    decoder: Decoder,
+    pub(crate) decoder: Decoder,
     /// Of the contents octets that have come, where more of them are due, as many as tell what they are.
     kept: Vec<u8>,
     checks: Checks,
+    /// The pieces of what has come, where they are kept.
+    pub(crate) pieces: Option<Builder>,
     /// The answer that it gives for good, where there is one.
     failed: Option<InstanceError>,
 }
@@ -66,13 +71,34 @@ impl DerChecker {
         ensures none { IfOk result (λ c. fed c ≡ 0) }
     {
         let _ = model;
-        Ok(DerChecker {
+        Ok(DerChecker::start(alloc, None))
+    }
+
+    /// The same of one that keeps the pieces of what has come.
+    pub(crate) fn with_pieces(alloc: Global, model: &Model) -> Result<DerChecker, AllocError>
+        ensures fed { IfOk result (λ c. HasFed c model.now []) }
+        ensures made { IfOk result (λ c. IsMadeFor c model.now) }
+        ensures none { IfOk result (λ c. fed c ≡ 0) }
+    {
+        let _ = model;
+        Ok(DerChecker::start(alloc, Some(Builder::new(alloc))))
+    }
+
+    /// A checker before the first byte, with these pieces, of which there are none yet.
+    fn start(alloc: Global, pieces: Option<Builder>) -> DerChecker
+        requires { AreNone pieces }
+        ensures fed { (T : Tables) → HasFed result T [] }
+        ensures made { (T : Tables) → IsMadeFor result T }
+        ensures none { fed result ≡ 0 }
+    {
+        DerChecker {
             alloc,
             decoder: Decoder::new(alloc),
             kept: Vec::new(alloc),
             checks: Checks::new(alloc),
+            pieces,
             failed: None,
-        })
+        }
     }
 
     /// How many values and lists have begun and not ended.
@@ -84,7 +110,7 @@ impl DerChecker {
 
     /// How many bytes are held of the leaf that is open: of its contents octets those that are kept, where more are
     /// due. At most four are held for each that has come, within the limit of the leaf, and 64. Its check begins
-    /// when all have come, and holds nothing before.
+    /// when all have come, and holds nothing before. None are held after an error.
     pub fn scratch(&self) -> u64
         ensures count { result ≡ held self.now }
         ensures bound { (T : Tables) (bytes : List ℕ) (h : HasFed self.now T bytes)
@@ -93,7 +119,8 @@ impl DerChecker {
         self.kept.len() as u64
     }
 
-    /// How many bytes are held of identifier or length octets, where more of them are due: eight at most.
+    /// How many bytes are held of identifier or length octets, where more of them are due: eight at most, and none
+    /// after an error.
     pub fn token(&self) -> u64
         ensures count { result ≡ token_held self.now }
         ensures come { (T : Tables) (bytes : List ℕ) (h : HasFed self.now T bytes)
@@ -105,7 +132,7 @@ impl DerChecker {
 
     /// Takes the next bytes, of at most 2^40 in all. It answers the first fault at the byte that
     /// shows it, its place a byte number from 0. After an error it gives the same answer to every
-    /// later call, or that there is no memory for it.
+    /// later call, or that there is no memory for it, and holds nothing of what has come.
     pub fn feed(&mut self, model: &Model, piece: &[u8]) -> Result<(), InstanceError>
         requires room { failed self.old ≡ None → fed self.old + length piece.now ≤ 2 ^ 40 }
         requires made { IsMadeFor self.old model.now }
@@ -115,6 +142,7 @@ impl DerChecker {
         ensures count { IfOk result (λ _. fed self.new ≡ fed self.old + length piece.now) }
         ensures failed { failed self.old ≡ None → IfErr result (λ e. failed self.new ≡ Some e) }
         ensures again { (e : InstanceError) → failed self.old ≡ Some e → IsAgain e result × (failed self.new ≡ failed self.old) }
+        ensures freed { IfErr result (λ _. IsFreed self.new) }
     {
         if let Some(error) = &self.failed {
             return Err(match copy_of(self.alloc, error) {
@@ -131,12 +159,14 @@ impl DerChecker {
         }
     }
 
-    /// Goes on no more, and keeps why; where there is no memory for that, the error is that.
+    /// Goes on no more, holds nothing of what has come, and keeps why; where there is no memory for that, the error is that.
     fn stop(&mut self, error: InstanceError) -> InstanceError
         ensures same { IsSameOrMemory error result }
         ensures kept { failed self.new ≡ Some result }
         ensures checks { self.new.checks ≡ self.old.checks }
+        ensures freed { IsFreed self.new }
     {
+        self.free();
         match copy_of(self.alloc, &error) {
             Ok(copy) => {
                 self.failed = Some(copy);
@@ -147,6 +177,16 @@ impl DerChecker {
                 InstanceError::Memory
             }
         }
+    }
+
+    /// Holds nothing more of what has come: neither octets nor open values nor pieces.
+    fn free(&mut self)
+        ensures freed { IsFreed self.new }
+        ensures checks { self.new.checks ≡ self.old.checks }
+    {
+        self.kept = Vec::new(self.alloc);
+        self.decoder = Decoder::new(self.alloc);
+        self.pieces = None;
     }
 
     /// Why the reader stops, as it is told.
@@ -220,7 +260,7 @@ impl DerChecker {
         let Some((byte, behind)) = piece.split_first() else {
             return Ok(0);
         };
-        match self.decoder.take_header(model, *byte) {
+        match self.take_octet(model, *byte) {
             Ok(()) => match self.take_behind(model, behind) {
                 Ok(count) => Ok(1 + count),
                 Err(stop) => Err(stop),
@@ -237,11 +277,11 @@ impl DerChecker {
         requires begun { BeginsContents self.old.decoder.due self.old.decoder.start self.old.decoder.place }
         requires kept { self.old.kept.items ≡ [] }
         requires checks { CheckTypes (types_of model.now) self.old.checks }
-        requires given { (bytes : List ℕ) × HasRead (der_message model.now) self.old.decoder bytes }
+        requires given { (bytes : List ℕ) × HasRead (der_message model.now) self.old.decoder bytes × KeepsShown (der_message model.now) self.old.decoder self.old.pieces bytes }
         ensures checks { CheckTypes (types_of model.now) self.new.checks }
         ensures sound { self.new.failed ≡ self.old.failed }
         ensures within { IfOk result (λ n. n ≤ length behind.now) }
-        ensures ok { (bytes : List ℕ) → HasRead (der_message model.now) self.old.decoder bytes → IfOk result (λ n. IsReading model.now self.new.decoder self.new.kept.items (bytes ++ take n behind.now)) }
+        ensures ok { (bytes : List ℕ) → HasRead (der_message model.now) self.old.decoder bytes → KeepsShown (der_message model.now) self.old.decoder self.old.pieces bytes → IfOk result (λ n. IsReading model.now self.new.decoder self.new.kept.items self.new.pieces (bytes ++ take n behind.now)) }
         ensures err { (bytes : List ℕ) → HasRead (der_message model.now) self.old.decoder bytes → IfErr result (λ stop. StopsWithin model.now self.new.decoder (bytes ++ behind.now) stop) }
     {
         match self.decoder.take_short(behind) {
@@ -264,11 +304,11 @@ impl DerChecker {
         requires kept { self.old.kept.items ≡ [] }
         requires checks { CheckTypes (types_of model.now) self.old.checks }
         requires room { fed self.old + length behind.now ≤ 2 ^ 40 }
-        requires given { (bytes : List ℕ) × HasRead (der_message model.now) self.old.decoder bytes }
+        requires given { (bytes : List ℕ) × HasRead (der_message model.now) self.old.decoder bytes × KeepsShown (der_message model.now) self.old.decoder self.old.pieces bytes }
         ensures checks { CheckTypes (types_of model.now) self.new.checks }
         ensures sound { self.new.failed ≡ self.old.failed }
         ensures within { IfOk result (λ n. n ≤ length behind.now) }
-        ensures ok { (bytes : List ℕ) → HasRead (der_message model.now) self.old.decoder bytes → IfOk result (λ n. IsReading model.now self.new.decoder self.new.kept.items (bytes ++ take n behind.now)) }
+        ensures ok { (bytes : List ℕ) → HasRead (der_message model.now) self.old.decoder bytes → KeepsShown (der_message model.now) self.old.decoder self.old.pieces bytes → IfOk result (λ n. IsReading model.now self.new.decoder self.new.kept.items self.new.pieces (bytes ++ take n behind.now)) }
         ensures err { (bytes : List ℕ) → HasRead (der_message model.now) self.old.decoder bytes → IfErr result (λ stop. StopsWithin model.now self.new.decoder (bytes ++ behind.now) stop) }
     {
         match self.decoder.due {
@@ -293,11 +333,11 @@ impl DerChecker {
         requires kept { self.old.kept.items ≡ [] }
         requires checks { CheckTypes (types_of model.now) self.old.checks }
         requires room { fed self.old + length behind.now ≤ 2 ^ 40 }
-        requires given { (bytes : List ℕ) × HasRead (der_message model.now) self.old.decoder bytes }
+        requires given { (bytes : List ℕ) × HasRead (der_message model.now) self.old.decoder bytes × KeepsShown (der_message model.now) self.old.decoder self.old.pieces bytes }
         ensures checks { CheckTypes (types_of model.now) self.new.checks }
         ensures sound { self.new.failed ≡ self.old.failed }
         ensures within { IfOk result (λ n. n ≤ length behind.now) }
-        ensures ok { (bytes : List ℕ) → HasRead (der_message model.now) self.old.decoder bytes → IfOk result (λ n. IsReading model.now self.new.decoder self.new.kept.items (bytes ++ take n behind.now)) }
+        ensures ok { (bytes : List ℕ) → HasRead (der_message model.now) self.old.decoder bytes → KeepsShown (der_message model.now) self.old.decoder self.old.pieces bytes → IfOk result (λ n. IsReading model.now self.new.decoder self.new.kept.items self.new.pieces (bytes ++ take n behind.now)) }
         ensures err { (bytes : List ℕ) → HasRead (der_message model.now) self.old.decoder bytes → IfErr result (λ stop. StopsWithin model.now self.new.decoder (bytes ++ behind.now) stop) }
     {
         if (behind.len() as u64) < left {
@@ -309,22 +349,6 @@ impl DerChecker {
             Ok(()) => Ok(count),
             Err(stop) => Err(stop),
         }
-    }
-
-    /// Ends the values that end here, where no identifier octet has come.
-    fn end_open(&mut self, model: &Model) -> Result<(), Stop>
-        requires settled { IsSettled self.old.decoder.due self.old.decoder.place (end_of_levels self.old.decoder.levels.items) }
-        requires header { IsNoContents self.old.decoder.due }
-        requires kept { self.old.kept.items ≡ [] }
-        ensures checks { self.new.checks ≡ self.old.checks }
-        ensures sound { self.new.failed ≡ self.old.failed }
-        ensures ok { (bytes : List ℕ) → HasRead (der_message model.now) self.old.decoder bytes → IfOk result (λ _. IsReading model.now self.new.decoder self.new.kept.items bytes) }
-        ensures err { (bytes : List ℕ) → HasRead (der_message model.now) self.old.decoder bytes → IfErr result (λ stop. StopsWithin model.now self.new.decoder bytes stop) }
-    {
-        if self.decoder.is_fresh() {
-            return self.decoder.end_all(model);
-        }
-        Ok(())
     }
 
     /// Takes as many contents octets as are due and the piece has, and answers how many bytes that are.
@@ -365,7 +389,7 @@ impl DerChecker {
         requires more { length front.now < left }
         ensures checks { self.new.checks ≡ self.old.checks }
         ensures sound { self.new.failed ≡ self.old.failed }
-        ensures ok { (bytes : List ℕ) → IsReading model.now self.old.decoder self.old.kept.items bytes → IfOk result (λ _. IsReading model.now self.new.decoder self.new.kept.items (bytes ++ front.now)) }
+        ensures ok { (bytes : List ℕ) → IsReading model.now self.old.decoder self.old.kept.items self.old.pieces bytes → IfOk result (λ _. IsReading model.now self.new.decoder self.new.kept.items self.new.pieces (bytes ++ front.now)) }
         ensures err { IfErr result (λ stop. stop ≡ Stop.Memory) }
     {
         match self.hold(model, spot, front) {
@@ -383,6 +407,7 @@ impl DerChecker {
         ensures decoder { self.new.decoder ≡ self.old.decoder }
         ensures checks { self.new.checks ≡ self.old.checks }
         ensures sound { self.new.failed ≡ self.old.failed }
+        ensures pieces { self.new.pieces ≡ self.old.pieces }
     {
         self.kept.extend_from_slice(front)?;
         shorten(self.alloc, model, spot, &mut self.kept)
@@ -394,16 +419,17 @@ impl DerChecker {
         requires due { self.old.decoder.due ≡ Due.Contents spot left }
         requires last { length front.now ≡ left }
         requires checks { CheckTypes (types_of model.now) self.old.checks }
-        requires given { (bytes : List ℕ) × KeepsRead model.now self.old.decoder self.old.kept.items bytes }
+        requires given { (bytes : List ℕ) × KeepsRead model.now self.old.decoder self.old.kept.items bytes × KeepsShown (der_message model.now) self.old.decoder self.old.pieces bytes }
         ensures checks { CheckTypes (types_of model.now) self.new.checks }
         ensures sound { self.new.failed ≡ self.old.failed }
-        ensures ok { (bytes : List ℕ) → KeepsRead model.now self.old.decoder self.old.kept.items bytes → IfOk result (λ _. IsReading model.now self.new.decoder self.new.kept.items (bytes ++ front.now)) }
+        ensures ok { (bytes : List ℕ) → KeepsRead model.now self.old.decoder self.old.kept.items bytes → KeepsShown (der_message model.now) self.old.decoder self.old.pieces bytes
+            → IfOk result (λ _. IsReading model.now self.new.decoder self.new.kept.items self.new.pieces (bytes ++ front.now)) }
         ensures err { (bytes : List ℕ) → KeepsRead model.now self.old.decoder self.old.kept.items bytes → IfErr result (λ stop. StopsWithin model.now self.new.decoder (bytes ++ front.now) stop) }
     {
         match self.judge_whole(model, spot, front) {
             Ok(()) => {
                 self.decoder.end_contents(spot, left);
-                self.decoder.end_all(model)
+                self.end_leaf(model)
             }
             Err(refusal) => Err(self.decoder.refused(refusal)),
         }
@@ -418,14 +444,21 @@ impl DerChecker {
         ensures decoder { self.new.decoder ≡ self.old.decoder }
         ensures sound { self.new.failed ≡ self.old.failed }
         ensures kept { IfOk result (λ _. self.new.kept.items ≡ []) }
+        ensures shown { IfOk result (λ _. GoesOnByLeaf (der_message model.now) spot (self.old.kept.items ++ front.now) self.old.pieces self.new.pieces) }
     {
         if self.kept.is_empty() {
-            return verdict(&mut self.checks, model, spot, front);
+            return tell(&mut self.checks, &mut self.pieces, model, spot, front);
         }
         if self.kept.extend_from_slice(front).is_err() {
             return Err(Refusal::Memory);
         }
-        let result = verdict(&mut self.checks, model, spot, self.kept.as_slice());
+        let result = tell(
+            &mut self.checks,
+            &mut self.pieces,
+            model,
+            spot,
+            self.kept.as_slice(),
+        );
         self.kept.clear();
         result
     }
@@ -441,6 +474,22 @@ impl DerChecker {
             return Err(error);
         }
         self.finish_all(model)
+    }
+
+    /// The same of one that keeps pieces, which are those of the instance.
+    pub(crate) fn finish_pieces(mut self, model: &Model) -> Result<Instance, InstanceError>
+        requires made { IsMadeFor self model.now }
+        ensures ok { (bytes : List ℕ) → HasFed self model.now bytes → IfOk result (λ i. IsRead model.now bytes i.region.pieces) }
+        ensures err { (bytes : List ℕ) → HasFed self model.now bytes → IfErr result (λ e. EndsAs model.now bytes e) }
+        ensures again { (e : InstanceError) → failed self ≡ Some e → result ≡ Err e }
+    {
+        if let Some(error) = self.failed.take() {
+            return Err(error);
+        }
+        match self.finish_all(model) {
+            Ok(()) => self.instance(model),
+            Err(error) => Err(error),
+        }
     }
 
     /// The end of the bytes, where nothing was refused.

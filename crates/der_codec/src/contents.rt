@@ -1,17 +1,20 @@
 // The contents of primitive values: X.690 §8.1.4.
-ghost use Rattle.std.specs.Prelude.{◌≡◌, ◌<◌, ◌^◌, ℕ, length};
+ghost use Rattle.std.specs.Prelude.{◌≡◌, ◌<◌, ◌^◌, ℕ, length, IfOk};
 ghost use Rattle.fragments.specs.Fragment.{fragment};
 ghost use Rattle.message_model.specs.Tables.{types_of};
 ghost use Rattle.der_model.specs.DerMessage.{DerMessage, der_message};
 ghost use Rattle.der_model.specs.Structures as structures;
 ghost use Rattle.der_model.specs.Structures.{structure, Holds, Fragment};
 ghost use Rattle.der_codec.specs.Checked.{CheckTypes};
+ghost use Rattle.der_codec.specs.KeptPieces.{GoesOnByLeaf};
 ghost use Rattle.der_codec.specs.Judging.{IsJudgedAt, IsJudgedFor, IsVerdictFor};
 
 use crate::checks::{Checks, Refusal};
 use crate::leaves::judge_simple;
 use crate::level::Spot;
+use crate::pieces::hold;
 use data_types::LeafRef;
+use inst_pool::Builder;
 use lexical_core::Rule;
 use message_model::{Form, Model};
 use respell::is_fragment;
@@ -36,9 +39,11 @@ pub fn judge<'a>(
     }
 }
 
-/// Whether octets are contents of a primitive value, or the rule that they break.
-pub(crate) fn verdict(
+/// Whether octets are contents of a primitive value, or the rule that they break. Where pieces are kept their leaf comes
+/// behind them.
+pub(crate) fn tell(
     checks: &mut Checks,
+    pieces: &mut Option<Builder>,
     model: &Model,
     spot: Spot,
     octets: &[u8],
@@ -47,9 +52,13 @@ pub(crate) fn verdict(
     requires made { CheckTypes (types_of model.now) checks.old }
     ensures made { CheckTypes (types_of model.now) checks.new }
     ensures judged { IsVerdictFor (der_message model.now) spot octets.now result }
+    ensures shown { IfOk result (λ _. GoesOnByLeaf (der_message model.now) spot octets.now pieces.old pieces.new) }
 {
     match judge(checks, model, spot, octets) {
-        Ok(_) => Ok(()),
+        Ok(leaf) => match hold(pieces, &leaf) {
+            Ok(()) => Ok(()),
+            Err(_) => Err(Refusal::Memory),
+        },
         Err(refusal) => Err(refusal),
     }
 }

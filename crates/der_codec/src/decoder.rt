@@ -70,6 +70,7 @@ impl Decoder {
         ensures read { (m : DerMessage ℕ) → HasRead m result [] }
         ensures waits { IsWaiting result.due result.place (end_of_levels result.levels.items) }
         ensures place { result.place ≡ 0 }
+        ensures none { header_come result.due result.start result.place ≡ 0 }
     {
         Decoder {
             place: 0,
@@ -152,6 +153,7 @@ impl Decoder {
         ensures place { self.new.place ≡ self.old.place }
         ensures ended { IfOk result (λ ended. ended ≡ true → IsFreshOrOver self.new.due) }
         ensures less { IfOk result (λ ended. ended ≡ true → length self.new.levels.items < length self.old.levels.items) }
+        ensures one { IfOk result (λ ended. ended ≡ true → length self.new.levels.items + 1 ≡ length self.old.levels.items) }
         ensures open { (fragment : Tree → List ℕ) (bytes : List ℕ) → HasRead (in_der fragment (message_of model.now)) self.old bytes → IfOk result (λ ended. ended ≡ false → (self.new ≡ self.old) × IsBelow self.old.place (end_of_levels self.old.levels.items)) }
         ensures fault { IsErrOf result Stop.Memory → ⊥ }
         ensures room { vec_capacity self.old.levels ≤ vec_capacity self.new.levels }
@@ -172,31 +174,6 @@ impl Decoder {
             Ended::Fine => {
                 self.close();
                 Ok(true)
-            }
-        }
-    }
-
-    /// Ends all values that end at this place, where no identifier octet has come.
-    pub fn end_all(&mut self, model: &Model) -> Result<(), Stop>
-        requires { IsFresh self.old.due }
-        ensures ok { (fragment : Tree → List ℕ) (bytes : List ℕ) → HasRead (in_der fragment (message_of model.now)) self.old bytes → IfOk result (λ _. HasRead (in_der fragment (message_of model.now)) self.new bytes) }
-        ensures err { (fragment : Tree → List ℕ) (bytes : List ℕ) → HasRead (in_der fragment (message_of model.now)) self.old bytes → IfErr result (λ stop. IsStopped (in_der fragment (message_of model.now)) self.new bytes stop) }
-        ensures place { self.new.place ≡ self.old.place }
-        ensures ready { (fragment : Tree → List ℕ) (bytes : List ℕ) → HasRead (in_der fragment (message_of model.now)) self.old bytes → IfOk result (λ _. IsReady self.new.due self.new.place (end_of_levels self.new.levels.items)) }
-        ensures fault { IsErrOf result Stop.Memory → ⊥ }
-        ensures room { vec_capacity self.old.levels ≤ vec_capacity self.new.levels }
-        ensures stays { (fragment : Tree → List ℕ) (bytes : List ℕ) → HasRead (in_der fragment (message_of model.now)) self.old bytes → IfErr result (λ stop. IsNoCut stop) }
-    {
-        loop {
-            let ended = match self.end(model) {
-                Ok(ended) => ended,
-                Err(stop) => return Err(stop),
-            };
-            if !ended {
-                return Ok(());
-            }
-            if self.is_over() {
-                return Ok(());
             }
         }
     }
@@ -287,6 +264,7 @@ impl Decoder {
         ensures read { (m : DerMessage ℕ) (bytes more : List ℕ) → HasRead m self.old bytes → length more ≡ left → HoldsContents m spot (drop self.old.start bytes ++ more) → HasRead m self.new (bytes ++ more) }
         ensures fresh { IsFresh self.new.due }
         ensures place { self.new.place ≡ self.old.place + left }
+        ensures levels { self.new.levels ≡ self.old.levels }
     {
         let _ = spot;
         self.place += left;
@@ -366,6 +344,7 @@ impl Decoder {
         ensures due { self.new.due ≡ due_after self.old.due self.new.levels.items }
         ensures fresh { IsFreshOrOver self.new.due }
         ensures less { 0 < length self.old.levels.items → length self.new.levels.items < length self.old.levels.items }
+        ensures one { 0 < length self.old.levels.items → length self.new.levels.items + 1 ≡ length self.old.levels.items }
         ensures room { vec_capacity self.old.levels ≤ vec_capacity self.new.levels }
     {
         let _ = self.levels.pop();

@@ -22,7 +22,7 @@ use std::alloc::AllocError;
 /// The elements that begin with a component. Of an item of a list that is a choice there are two: that of the
 /// list's slot, and in it that of the alternative.
 #[derive(Clone, Copy, Debug)]
-pub(crate) struct Elements {
+struct Elements {
     outer: Option<Edge>,
     inner: Option<Edge>,
 }
@@ -80,7 +80,7 @@ fn one_element(outer: Option<Edge>) -> Elements
 }
 
 /// The elements that begin with the component of this number in a value.
-pub(crate) fn elements_at(model: &Model, spot: Spot, number: u32) -> Elements
+fn elements_at(model: &Model, spot: Spot, number: u32) -> Elements
     ensures { (of : structures.Spot ℕ) → IsSpot (types_of model.now) spot of → edges_of result ≡ component_elements (der_message model.now) of number }
 {
     match spot {
@@ -112,12 +112,27 @@ fn begin_one(builder: &mut Builder, element: Option<Edge>) -> Result<(), AllocEr
 }
 
 /// The elements begin, the outermost first.
-pub(crate) fn begin_elements(builder: &mut Builder, begun: &Elements) -> Result<(), AllocError>
+fn begin_elements(builder: &mut Builder, begun: &Elements) -> Result<(), AllocError>
     ensures { OnOk result (builder.new.pieces ≡ builder.old.pieces ++ begin_each (edges_of begun.now)) }
 {
     match begin_one(builder, begun.outer) {
         Err(error) => Err(error),
         Ok(()) => begin_one(builder, begun.inner),
+    }
+}
+
+/// The elements begin that begin with the last component of a value; none where it is the instance itself that begins.
+pub(crate) fn begin_component(
+    builder: &mut Builder,
+    model: &Model,
+    around: Option<Level>,
+) -> Result<(), AllocError>
+    ensures { (xs : List Level) (ls : List (states.Level ℕ)) → around ≡ first_of xs → AreLevels (types_of model.now) xs ls
+        → OnOk result (builder.new.pieces ≡ builder.old.pieces ++ begin_each (elements_ended (der_message model.now) ls)) }
+{
+    match around {
+        None => Ok(()),
+        Some(level) => begin_elements(builder, &last_begun(model, &level)),
     }
 }
 

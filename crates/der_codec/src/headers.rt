@@ -6,7 +6,7 @@ ghost use Rattle.lexical_core.specs.Tree.{Tree};
 ghost use Rattle.message_model.specs.Tables.{message_of};
 ghost use Rattle.der_model.specs.DerMessage.{DerMessage, in_der};
 ghost use Rattle.der_codec.specs.Levels.{inwards};
-ghost use Rattle.der_codec.specs.Decoding.{HasRead, IsStopped, IsBelow, IsPast, end_of_levels, IsHeaderDue, IsAdvanced, IsSettled, IsOutermost, AwaitsInstance, HasIdentifier, HasLength, level_at, IsFull, IsNoCut, BeginsContents};
+ghost use Rattle.der_codec.specs.Decoding.{HasRead, IsStopped, IsBelow, IsPast, end_of_levels, IsHeaderDue, IsAdvanced, IsSettled, IsOutermost, AwaitsInstance, HasIdentifier, HasLength, level_at, IsFull, IsNoCut, BeginsContents, IsLengthDue, depth_of};
 ghost use Rattle.reference_check.specs.Words.{UpTo};
 ghost use Rattle.der_octets.specs.declared.length_step.LengthStep.{LengthStep as Lengths};
 ghost use Rattle.der_octets.specs.declared.tag_step.TagStep.{TagStep as Steps};
@@ -48,6 +48,7 @@ impl Decoder {
         ensures room { vec_capacity self.old.levels ≤ vec_capacity self.new.levels }
         ensures stays { (fragment : Tree → List ℕ) (bytes : List ℕ) → HasRead (in_der fragment (message_of model.now)) self.old bytes → IfErr result (λ stop. IsNoCut stop) }
         ensures begun { IfOk result (λ _. BeginsContents self.new.due self.new.start self.new.place) }
+        ensures depth { IsLengthDue self.old.due → IfOk result (λ _. depth_of self.new ≡ depth_of self.old) }
     {
         match self.due {
             Due::Tag(step) => self.take_tag(model, step, octet),
@@ -172,6 +173,7 @@ impl Decoder {
         ensures room { vec_capacity self.old.levels ≤ vec_capacity self.new.levels }
         ensures stays { IfErr result (λ stop. IsNoCut stop) }
         ensures begun { IfOk result (λ _. BeginsContents self.new.due self.new.start self.new.place) }
+        ensures depth { IfOk result (λ _. depth_of self.new ≡ depth_of self.old) }
     {
         let mut step = step;
         match step.take(octet) {
@@ -198,6 +200,10 @@ impl Decoder {
         ensures low { IfOk result (λ _. IsSettled self.new.due self.new.place (end_of_levels self.new.levels.items)) }
         ensures stays { IfErr result (λ stop. IsNoCut stop) }
         ensures begun { IfOk result (λ _. BeginsContents self.new.due self.new.start self.new.place) }
+        ensures depth { IfOk result (λ _. depth_of self.new ≡ depth_of self.old) }
+        ensures none { IfOk result (λ n. n ≡ 0 → self.new ≡ self.old) }
+        ensures due { IfOk result (λ n. 0 < n → IsLengthDue self.old.due) }
+        ensures few { IfOk result (λ n. n ≤ 1) }
     {
         if self.start != self.place {
             return Ok(0);
@@ -231,6 +237,7 @@ impl Decoder {
         ensures room { vec_capacity self.old.levels ≤ vec_capacity self.new.levels }
         ensures stays { IfErr result (λ stop. IsNoCut stop) }
         ensures begun { IfOk result (λ _. BeginsContents self.new.due self.new.start self.new.place) }
+        ensures depth { IfOk result (λ _. depth_of self.new ≡ length self.old.levels.items + 1) }
     {
         let _ = octet;
         let end = self.place + 1 + n;
@@ -269,6 +276,7 @@ impl Decoder {
         ensures err { IfErr result (λ stop. stop ≡ Stop.Memory) }
         ensures full { IsErrOf result Stop.Memory → IsFull self.old.levels }
         ensures room { vec_capacity self.old.levels ≤ vec_capacity self.new.levels }
+        ensures size { IfOk result (λ _. length self.new.levels.items ≡ length self.old.levels.items + 1) }
     {
         let level = Level {
             spot,

@@ -5,8 +5,8 @@
 //! leaves; of those that come in pieces `limits` keeps no more than tell what they are, so that no length which
 //! is declared decides how much is held (`scratch`, `token`). A fault's path is made of what is open (`paths`).
 //! `Checking` of `specs/` says what a checker was given and what it answers, `Decoding` the same of the decoder,
-//! `Limits` what octets that are kept stand for. `DerReader` answers the same, keeps what it was given, and gives the pieces
-//! of the instance.
+//! `Limits` how many octets are held. `DerReader` answers the same, and gives the pieces of the instance: it is a checker
+//! that appends them as the parts come (`values`, `pieces`), and keeps no more of its input (`KeptPieces`).
 //!
 //! Tag numbers are below 2^14, lengths below 2^63.
 #![tactic(auto)]
@@ -18,15 +18,15 @@ mod contents;
 mod decoder;
 mod elements;
 mod envelopes;
-mod filling;
-mod fronts;
 mod headers;
 pub mod laws;
 mod leaves;
 mod level;
 mod limits;
 mod paths;
+mod pieces;
 mod reader;
+mod values;
 
 pub use checker::DerChecker;
 pub use reader::DerReader;

@@ -1,24 +1,21 @@
 // A reader of the DER of instances that takes their bytes in pieces, and keeps the pieces of the instance.
-ghost use Rattle.std.specs.Prelude.{◌≡◌, ◌+◌, ◌≤◌, ◌^◌, ◌++◌, ℕ, List, [], IfOk, IfErr, OnOk, Some, None, Err, length, true, false};
+ghost use Rattle.std.specs.Prelude.{◌≡◌, ◌+◌, ◌≤◌, ◌^◌, ◌++◌, ℕ, List, [], IfOk, IfErr, Some, None, Err, length};
+ghost use Rattle.facets.specs.LeafChecks.{IsHeldWithin};
 ghost use Rattle.message_model.specs.Tables.{Tables};
-ghost use Rattle.der_codec.specs.Checking.{Stops, EndsAs, IsAgain, open_count};
-ghost use Rattle.der_codec.specs.ReadInstances.{HasKept, IsReaderFor, IsRead, read_so_far, refused};
+ghost use Rattle.der_model.specs.DerMessage.{der_message};
+ghost use Rattle.der_codec.specs.Checking.{Stops, EndsAs, IsAgain, IsFreed, open_count};
+ghost use Rattle.der_codec.specs.Limits.{open_limit, leaf_come, token_come};
+ghost use Rattle.der_codec.specs.ReadInstances.{HasKept, IsReaderFor, IsRead, read_so_far, refused, reader_held, reader_token_held};
 
 use crate::checker::DerChecker;
-use crate::filling::fill;
 use inst_pool::Instance;
 use message_model::{InstanceError, Model};
 use std::alloc::{AllocError, Global};
 
-/// A reader of an instance. Beside what `DerChecker` keeps it has the bytes that it was given: at their end it goes
-/// over them once for the pieces.
+/// A reader of an instance. Beside what `DerChecker` keeps it has the pieces of what has come.
 #[derive(Drop)]
 pub struct DerReader {
-    alloc: Global,
     checker: DerChecker,
-    bytes: Vec<u8>,
-    /// There was no memory for the bytes.
-    is_full: bool,
 }
 
 impl DerReader {
@@ -28,14 +25,9 @@ impl DerReader {
         ensures made { IfOk result (λ r. IsReaderFor r model.now) }
         ensures none { IfOk result (λ r. read_so_far r ≡ 0) }
     {
-        match DerChecker::new(alloc, model) {
+        match DerChecker::with_pieces(alloc, model) {
             Err(error) => Err(error),
-            Ok(checker) => Ok(DerReader {
-                alloc,
-                checker,
-                bytes: Vec::new(alloc),
-                is_full: false,
-            }),
+            Ok(checker) => Ok(DerReader { checker }),
         }
     }
 
@@ -46,9 +38,28 @@ impl DerReader {
         self.checker.depth()
     }
 
+    /// How many bytes are held of the leaf that is open, as by `DerChecker`.
+    pub fn scratch(&self) -> u64
+        ensures count { result ≡ reader_held self.now }
+        ensures bound { (T : Tables) (bytes : List ℕ) (h : HasKept self.now T bytes)
+            → IsHeldWithin (open_limit (der_message T) h.given.reading.read.state) (leaf_come h.given.reading.read.state h.given.reading.read.rest) result }
+    {
+        self.checker.scratch()
+    }
+
+    /// How many bytes are held of identifier or length octets, as by `DerChecker`.
+    pub fn token(&self) -> u64
+        ensures count { result ≡ reader_token_held self.now }
+        ensures come { (T : Tables) (bytes : List ℕ) (h : HasKept self.now T bytes)
+            → result ≡ token_come h.given.reading.read.state h.given.reading.read.rest }
+        ensures bound { (T : Tables) (bytes : List ℕ) → HasKept self.now T bytes → result ≤ 8 }
+    {
+        self.checker.token()
+    }
+
     /// Takes the next bytes, of at most 2^40 in all. It answers the first fault at the byte that
     /// shows it, its place a byte number from 0. After an error it gives the same answer to every
-    /// later call, or that there is no memory for it.
+    /// later call, or that there is no memory for it, and keeps nothing of what has come.
     pub fn feed(&mut self, model: &Model, piece: &[u8]) -> Result<(), InstanceError>
         requires room { refused self.old ≡ None → read_so_far self.old + length piece.now ≤ 2 ^ 40 }
         requires made { IsReaderFor self.old model.now }
@@ -59,28 +70,7 @@ impl DerReader {
         ensures failed { refused self.old ≡ None → IfErr result (λ e. refused self.new ≡ Some e) }
         ensures again { (e : InstanceError) → refused self.old ≡ Some e → IsAgain e result × (refused self.new ≡ refused self.old) }
     {
-        if self.is_full {
-            return Err(InstanceError::Memory);
-        }
-        match self.checker.feed(model, piece) {
-            Err(error) => Err(error),
-            Ok(()) => self.keep(piece),
-        }
-    }
-
-    /// Keeps bytes that the checker has taken. Where there is no memory it goes on no more.
-    fn keep(&mut self, piece: &[u8]) -> Result<(), InstanceError>
-        ensures ok { OnOk result ((self.new.bytes.items ≡ self.old.bytes.items ++ piece.now) × (self.new.is_full ≡ self.old.is_full)) }
-        ensures err { IfErr result (λ e. (e ≡ InstanceError.Memory) × (self.new.is_full ≡ true)) }
-        ensures checker { self.new.checker ≡ self.old.checker }
-    {
-        match self.bytes.extend_from_slice(piece) {
-            Ok(()) => Ok(()),
-            Err(_) => {
-                self.is_full = true;
-                Err(InstanceError::Memory)
-            }
-        }
+        self.checker.feed(model, piece)
     }
 
     /// The end of the bytes: the pieces of the instance that they spell, or their first fault. After
@@ -91,21 +81,6 @@ impl DerReader {
         ensures err { (bytes : List ℕ) → HasKept self model.now bytes → IfErr result (λ e. EndsAs model.now bytes e) }
         ensures again { (e : InstanceError) → refused self ≡ Some e → result ≡ Err e }
     {
-        let DerReader {
-            alloc,
-            checker,
-            bytes,
-            is_full,
-        } = self;
-        if is_full {
-            return Err(InstanceError::Memory);
-        }
-        match checker.finish(model) {
-            Err(error) => Err(error),
-            Ok(()) => match fill(alloc, model, bytes.as_slice()) {
-                Ok(instance) => Ok(instance),
-                Err(_) => Err(InstanceError::Memory),
-            },
-        }
+        self.checker.finish_pieces(model)
     }
 }

@@ -4,24 +4,24 @@ use Rattle.der_codec.proofs.Fed.{fresh_keeps, fresh_reading, none_more, further_
 use Rattle.der_codec.proofs.checker.DerChecker.begin_contents.Goals as goal
 
 pub returns-then-behind-left-clause-ok : goal.returns-then-behind-left-clause-ok
-returns-then-behind-left-clause-ok c = λ bytes r.
+returns-then-behind-left-clause-ok c = λ bytes r shows.
     let s = c.args.self.now in
     let T = c.args.model.now in
     let fewer = c.if-behind-left.true in
-    none_more T s.decoder s.kept.items bytes c.args.behind.now (fresh_reading T s.decoder s.kept.items bytes c.args.spot c.args.left c.requires.due (omega (arith, fewer)) c.requires.begun c.requires.kept r)
+    none_more T s.decoder s.kept.items s.pieces bytes c.args.behind.now (fresh_reading T s.decoder s.kept.items s.pieces bytes c.args.spot c.args.left c.requires.due (omega (arith, fewer)) c.requires.begun c.requires.kept r shows)
 
 pub take_last-requires-clause-given : goal.take_last-requires-clause-given
 take_last-requires-clause-given c =
     let s = c.args.self.now in
     let g = c.requires.given in
-    (g.0, (g.1, fresh_keeps c.args.model.now s.decoder s.kept.items g.0 c.args.spot c.args.left c.requires.due c.requires.begun c.requires.kept g.1))
+    (g.0, (g.1, fresh_keeps c.args.model.now s.decoder s.kept.items g.0 c.args.spot c.args.left c.requires.due c.requires.begun c.requires.kept g.1), g.2)
 
 pub returns-in-Ok-clause-ok : goal.returns-in-Ok-clause-ok
-returns-in-Ok-clause-ok c = λ bytes r.
+returns-in-Ok-clause-ok c = λ bytes r shows.
     let s = c.args.self.now in
     let T = c.args.model.now in
     let keeps = fresh_keeps T s.decoder s.kept.items bytes c.args.spot c.args.left c.requires.due c.requires.begun c.requires.kept r in
-    subst (λ z. IsReading T c.take_last.new.self.decoder c.take_last.new.self.kept.items (bytes ++ z)) c.split_at.ensures.front (c.in-Ok.ensures.ok bytes (r, keeps))
+    subst (λ z. IsReading T c.take_last.new.self.decoder c.take_last.new.self.kept.items c.take_last.new.self.pieces (bytes ++ z)) c.split_at.ensures.front (c.in-Ok.ensures.ok bytes (r, keeps) shows)
 
 pub returns-in-Err-clause-err : goal.returns-in-Err-clause-err
 returns-in-Err-clause-err c = λ bytes r.

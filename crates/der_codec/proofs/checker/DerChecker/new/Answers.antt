@@ -1,25 +1,7 @@
-use Rattle.std.proofs.Common.{[], refl, arith}
-use Rattle.message_model.specs.Tables.{types_of}
-use Rattle.der_model.specs.DerMessage.{der_message}
-use Rattle.der_codec.proofs.Fed.{keeps_none}
 use Rattle.der_codec.proofs.checker.DerChecker.new.Goals as goal
 
-pub returns-clause-made : goal.returns-clause-made
-returns-clause-made c = record {
-  checks = c.new-3.ensures (types_of c.args.model.now);
-  given = λ none. (
-    [],
-    record {
-      reading = record { read = c.new.ensures.read (der_message c.args.model.now); waits = c.new.ensures.waits; keeps = keeps_none c.args.model.now c.new.result.due c.new.result.start c.new-2.result.items c.new-2.ensures.items };
-      short = omega arith;
-      sound = refl;
-    },
-  );
-}
-
 pub returns-clause-fed : goal.returns-clause-fed
-returns-clause-fed c = record {
-  reading = record { read = c.new.ensures.read (der_message c.args.model.now); waits = c.new.ensures.waits; keeps = keeps_none c.args.model.now c.new.result.due c.new.result.start c.new-2.result.items c.new-2.ensures.items };
-  short = omega arith;
-  sound = refl;
-}
+returns-clause-fed c = c.start.ensures.fed c.args.model.now
+
+pub returns-clause-made : goal.returns-clause-made
+returns-clause-made c = c.start.ensures.made c.args.model.now

@@ -9,7 +9,7 @@ returns-in-Ok c = record {
   checks = subst (CheckTypes (types_of c.args.model.now)) (sym c.in-Ok.ensures.checks) c.requires.checks;
   sound = c.in-Ok.ensures.sound;
   within = omega arith;
-  ok = λ bytes r. none_more c.args.model.now c.end_open.new.self.decoder c.end_open.new.self.kept.items bytes c.args.behind.now (c.in-Ok.ensures.ok bytes r);
+  ok = λ bytes r shows. (let new = c.end_open.new.self in none_more c.args.model.now new.decoder new.kept.items new.pieces bytes c.args.behind.now (c.in-Ok.ensures.ok bytes r shows));
   err = λ bytes r. tt;
 }
 
@@ -18,6 +18,6 @@ returns-in-Err c = record {
   checks = subst (CheckTypes (types_of c.args.model.now)) (sym c.in-Err.ensures.checks) c.requires.checks;
   sound = c.in-Err.ensures.sound;
   within = tt;
-  ok = λ bytes r. tt;
+  ok = λ bytes r shows. tt;
   err = λ bytes r. within_more c.args.model.now c.end_open.new.self.decoder bytes c.args.behind.now (bytes ++ c.args.behind.now) c.in-Err.stop refl (c.in-Err.ensures.err bytes r);
 }

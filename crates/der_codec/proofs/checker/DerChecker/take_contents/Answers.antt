@@ -10,7 +10,7 @@ returns-in-Ok-clause-front c =
 pub returns-in-Ok-take_last-clause-front : goal.returns-in-Ok-take_last-clause-front
 returns-in-Ok-take_last-clause-front c =
     taken_front c.args.model.now c.args.self.now c.take_last.new.self c.args.piece.now c.split_at.result.0.now c.fewer-count.result c.split_at.ensures.front c.fewer-count.ensures.have c.requires.room c.take_last.ensures.sound
-    (λ bytes h. c.in-Ok-take_last.ensures.ok bytes (h.reading.read, h.reading.keeps))
+    (λ bytes h. c.in-Ok-take_last.ensures.ok bytes (h.reading.read, h.reading.keeps) h.reading.shows)
 
 pub returns-in-Err-take_last-clause-front : goal.returns-in-Err-take_last-clause-front
 returns-in-Err-take_last-clause-front c =

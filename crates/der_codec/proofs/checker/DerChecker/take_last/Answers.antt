@@ -1,7 +1,5 @@
 use Rattle.std.proofs.Common.{arith, ◌++◌}
-use Rattle.fragments.specs.Fragment.{fragment}
-use Rattle.der_model.specs.DerMessage.{der_message}
-use Rattle.der_codec.proofs.Fed.{ended, err_within, kept_short, last_read, refused_within}
+use Rattle.der_codec.proofs.Fed.{kept_short, last_has, last_ends, refused_within}
 use Rattle.der_codec.proofs.checker.DerChecker.take_last.Goals as goal
 
 pub judge_whole-requires-clause-short : goal.judge_whole-requires-clause-short
@@ -11,23 +9,35 @@ judge_whole-requires-clause-short c =
     let room = c.requires.room in
     omega (arith, few, room)
 
-pub returns-in-Ok-clause-ok : goal.returns-in-Ok-clause-ok
-returns-in-Ok-clause-ok c = λ bytes h.
-    let T = c.args.model.now in
+pub end_leaf-requires-clause-given : goal.end_leaf-requires-clause-given
+end_leaf-requires-clause-given c =
     let s = c.args.self.now in
+    let j = c.judge_whole.new.self in
+    let g = c.requires.given in
     let front = c.args.front.now in
-    let l = last_read T s.decoder c.judge_whole.new.self.decoder s.kept.items bytes front c.args.spot c.args.left c.in-Ok.ensures.decoder c.requires.due h c.in-Ok.ensures.judged in
-    let read = c.end_contents.ensures.read (der_message T) bytes front l.0 c.requires.last l.1 in
-    ended T c.end_all.new.self c.judge_whole.new.self.kept.items (bytes ++ front) c.end_all.result (c.end_all.ensures.ok fragment (bytes ++ front) read) (c.end_all.ensures.ready fragment (bytes ++ front) read) c.in-Ok.ensures.kept
+    let h = c.in-Ok.ensures in
+    let e = c.end_contents.ensures in (
+      g.0 ++ front,
+      last_ends c.args.model.now s.decoder j.decoder c.end_contents.new.self s.kept.items s.pieces j.pieces g.0 front c.args.spot c.args.left h.decoder c.requires.due g.1 g.2 c.requires.last h.judged h.shown e.fresh e.levels e.read,
+    )
+
+pub returns-in-Ok-clause-ok : goal.returns-in-Ok-clause-ok
+returns-in-Ok-clause-ok c = λ bytes r shows.
+    let s = c.args.self.now in
+    let j = c.judge_whole.new.self in
+    let front = c.args.front.now in
+    let h = c.in-Ok.ensures in
+    let e = c.end_contents.ensures in
+    c.end_leaf.ensures.ok (bytes ++ front)
+    (last_ends c.args.model.now s.decoder j.decoder c.end_contents.new.self s.kept.items s.pieces j.pieces bytes front c.args.spot c.args.left h.decoder c.requires.due r shows c.requires.last h.judged h.shown e.fresh e.levels e.read)
 
 pub returns-in-Ok-clause-err : goal.returns-in-Ok-clause-err
-returns-in-Ok-clause-err c = λ bytes h.
-    let T = c.args.model.now in
+returns-in-Ok-clause-err c = λ bytes r.
     let s = c.args.self.now in
+    let j = c.judge_whole.new.self in
     let front = c.args.front.now in
-    let l = last_read T s.decoder c.judge_whole.new.self.decoder s.kept.items bytes front c.args.spot c.args.left c.in-Ok.ensures.decoder c.requires.due h c.in-Ok.ensures.judged in
-    let read = c.end_contents.ensures.read (der_message T) bytes front l.0 c.requires.last l.1 in
-    err_within T c.end_all.new.self (bytes ++ front) c.end_all.result (c.end_all.ensures.err fragment (bytes ++ front) read) (c.end_all.ensures.stays fragment (bytes ++ front) read)
+    let h = c.in-Ok.ensures in
+    c.end_leaf.ensures.err (bytes ++ front) (last_has c.args.model.now s.decoder j.decoder c.end_contents.new.self s.kept.items bytes front c.args.spot c.args.left h.decoder c.requires.due r c.requires.last h.judged c.end_contents.ensures.read)
 
 pub returns-in-Err-clause-err : goal.returns-in-Err-clause-err
 returns-in-Err-clause-err c = λ bytes h.

@@ -1,0 +1,51 @@
+use Rattle.std.proofs.Common.{refl, ◌∙◌, ap}
+use Rattle.der_codec.specs.Decoding.{end_of_levels}
+use Rattle.der_codec.proofs.Fed.{ready_reading, over_ready}
+use Rattle.der_codec.proofs.checker.DerChecker.end_all.Goals as goal
+
+pub loop-ended-init : goal.loop-ended-init
+loop-ended-init c = (c.requires.fresh, refl, refl, refl, λ bytes r. r, λ bytes r shows. shows)
+
+pub end_one-requires-clause-fresh : goal.end_one-requires-clause-fresh
+end_one-requires-clause-fresh c = c.loop-ended.invariant.0
+
+pub end_one-requires-clause-given : goal.end_one-requires-clause-given
+end_one-requires-clause-given c =
+    let g = c.requires.given in
+    let i = c.loop-ended.invariant in
+    (g.0, i.4 g.0 g.1, i.5 g.0 g.1 g.2)
+
+pub returns-in-Err-clause-err : goal.returns-in-Err-clause-err
+returns-in-Err-clause-err c = λ bytes r. c.in-Err.ensures.err bytes (c.loop-ended.invariant.4 bytes r)
+
+pub returns-then-not-ended-clause-ok : goal.returns-then-not-ended-clause-ok
+returns-then-not-ended-clause-ok c = λ bytes r shows.
+    let new = c.end_one.new.self in
+    let i = c.loop-ended.invariant in
+    let h = c.in-Ok.ensures in
+    let read = i.4 bytes r in
+    ready_reading c.args.model.now new.decoder new.kept.items new.pieces bytes (h.ok bytes read) (h.shown bytes read (i.5 bytes r shows)) (h.open bytes read (let e = c.if-not-ended.true in cc)) (ap (λ v. v.items) (h.kept ∙ i.1) ∙ c.requires.kept)
+
+pub returns-then-is_over-clause-ok : goal.returns-then-is_over-clause-ok
+returns-then-is_over-clause-ok c = λ bytes r shows.
+    let new = c.end_one.new.self in
+    let d = new.decoder in
+    let i = c.loop-ended.invariant in
+    let h = c.in-Ok.ensures in
+    let read = i.4 bytes r in
+    ready_reading c.args.model.now d new.kept.items new.pieces bytes (h.ok bytes read) (h.shown bytes read (i.5 bytes r shows)) (over_ready d.due d.place (end_of_levels d.levels.items) (c.if-is_over.ensures.yes refl)) (ap (λ v. v.items) (h.kept ∙ i.1) ∙ c.requires.kept)
+
+pub loop-ended-smaller : goal.loop-ended-smaller
+loop-ended-smaller c = c.in-Ok.ensures.less (let e = c.if-not-ended.false in cc)
+
+pub loop-ended-preserved : goal.loop-ended-preserved
+loop-ended-preserved c =
+    let i = c.loop-ended.invariant in
+    let h = c.in-Ok.ensures in (
+      c.if-is_over.ensures.no refl (h.ended (let e = c.if-not-ended.false in cc)),
+      h.kept ∙ i.1,
+      h.checks ∙ i.2,
+      h.sound ∙ i.3,
+      λ bytes r. h.ok bytes (i.4 bytes r),
+      λ bytes r shows. h.shown bytes (i.4 bytes r) (i.5 bytes r shows),
+    )

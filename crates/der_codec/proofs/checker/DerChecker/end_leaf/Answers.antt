@@ -1,0 +1,40 @@
+use Rattle.std.proofs.Common.{◌∙◌, ap, sym, subst}
+use Rattle.der_model.specs.DerMessage.{der_message}
+use Rattle.der_codec.specs.Decoding.{HasRead, IsFresh}
+use Rattle.der_codec.specs.KeptPieces.{KeepsShown}
+use Rattle.der_codec.specs.declared.decoder.Decoder.{Decoder}
+use Rattle.der_codec.proofs.Fed.{at_memory}
+use Rattle.der_codec.proofs.checker.DerChecker.end_leaf.Goals as goal
+
+pub end_component-requires : goal.end_component-requires
+end_component-requires c = (let g = c.requires.given in (g.0, g.1.read, g.1.around g.1.read))
+
+pub end_all-requires-clause-fresh : goal.end_all-requires-clause-fresh
+end_all-requires-clause-fresh c = subst (λ (z : Decoder). IsFresh z.due) (sym c.in-Ok.ensures.decoder) c.requires.fresh
+
+pub end_all-requires-clause-kept : goal.end_all-requires-clause-kept
+end_all-requires-clause-kept c = ap (λ v. v.items) c.in-Ok.ensures.kept ∙ c.requires.kept
+
+pub end_all-requires-clause-given : goal.end_all-requires-clause-given
+end_all-requires-clause-given c =
+    let m = der_message c.args.model.now in
+    let g = c.requires.given in
+    let h = c.in-Ok.ensures in
+    let new = c.end_component.new.self in (
+      g.0,
+      subst (λ (z : Decoder). HasRead m z g.0) (sym h.decoder) g.1.read,
+      subst (λ (z : Decoder). KeepsShown m z new.pieces g.0) (sym h.decoder) (g.1.closes new.pieces (λ t. h.shown g.0 t (g.1.around t))),
+    )
+
+pub returns-in-Ok-clause-ok : goal.returns-in-Ok-clause-ok
+returns-in-Ok-clause-ok c = λ bytes g.
+    let m = der_message c.args.model.now in
+    let h = c.in-Ok.ensures in
+    let new = c.end_component.new.self in
+    c.end_all.ensures.ok bytes (subst (λ (z : Decoder). HasRead m z bytes) (sym h.decoder) g.read) (subst (λ (z : Decoder). KeepsShown m z new.pieces bytes) (sym h.decoder) (g.closes new.pieces (λ t. h.shown bytes t (g.around t))))
+
+pub returns-in-Ok-clause-err : goal.returns-in-Ok-clause-err
+returns-in-Ok-clause-err c = λ bytes r. c.end_all.ensures.err bytes (subst (λ (z : Decoder). HasRead (der_message c.args.model.now) z bytes) (sym c.in-Ok.ensures.decoder) r)
+
+pub returns-in-Err-clause-err : goal.returns-in-Err-clause-err
+returns-in-Err-clause-err c = λ bytes r. at_memory c.args.model.now c.end_component.new.self.decoder bytes c.in-Err.stop c.in-Err.ensures.err

@@ -1,0 +1,7 @@
+use Rattle.der_codec.proofs.reader.DerReader.finish.Goals as goal
+
+pub returns-clause-ok : goal.returns-clause-ok
+returns-clause-ok c = λ bytes h. c.finish_pieces.ensures.ok bytes h.given
+
+pub returns-clause-err : goal.returns-clause-err
+returns-clause-err c = λ bytes h. c.finish_pieces.ensures.err bytes h.given

@@ -1,0 +1,4 @@
+use Rattle.der_codec.proofs.reader.DerReader.new.Goals as goal
+
+pub returns-in-Ok-clause-fed : goal.returns-in-Ok-clause-fed
+returns-in-Ok-clause-fed c = record { given = c.in-Ok.ensures.fed }

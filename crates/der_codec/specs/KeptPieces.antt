@@ -1,0 +1,70 @@
+-- The pieces that are kept of what was read, where pieces are kept. Private functions alone cite this.
+use Rattle.std.specs.Prelude.{◌≡◌, ℕ, List, [], ◌∷◌, ◌++◌, Option, Some, None}
+use Rattle.data_types.specs.Leaf.{Leaf}
+use Rattle.data_types.specs.Value.{Edge, Piece, Holds}
+use Rattle.inst_pool.specs.Pieces.{Region, open_in}
+use Rattle.der_model.specs.DerMessage.{DerMessage}
+use Rattle.der_model.specs.Structures as structures
+use Rattle.der_model.specs.Structures.{structure}
+use Rattle.der_model.specs.States as states
+use Rattle.der_model.specs.States.{State, Start, AwaitsLength, AwaitsContents, Within}
+use Rattle.der_model.specs.ShownPieces.{PartsShow, begin_each, end_each, elements_ended}
+use Rattle.der_model.specs.NestedPieces.{elements_around}
+use Rattle.der_codec.specs.Decoding.{Reads, HasRead}
+use Rattle.der_codec.specs.Judging.{HoldsLeaf}
+use Rattle.der_codec.specs.Levels.{IsSpot, inwards}
+use Rattle.der_codec.specs.declared.decoder.Decoder.{Decoder}
+use Rattle.der_codec.specs.declared.decoder.Due.{Due}
+use Rattle.der_codec.specs.declared.level.Level.{Level}
+use Rattle.der_codec.specs.declared.level.Spot.{Spot}
+
+-- the pieces that are kept are those that the parts show which were read
+abbrev pub Shows : DerMessage ℕ → List Level → Due → ℕ → ℕ → Option Region → List ℕ → Type 0
+Shows m levels d start place None bytes = Unit {0}
+Shows m levels d start place (Some kept) bytes = (r : Reads m levels d start place bytes) → PartsShow m Start 0 r.parts kept.pieces
+
+abbrev pub KeepsShown : DerMessage ℕ → Decoder → Option Region → List ℕ → Type 0
+KeepsShown m d kept bytes = Shows m (inwards d.levels.items) d.due d.start d.place kept bytes
+
+-- where pieces are kept, these come behind them
+abbrev pub GoOn : Option Region → Option Region → List Piece → Type 0
+GoOn None None more = Unit {0}
+GoOn (Some old) (Some new) more = new.pieces ≡ old.pieces ++ more
+GoOn _ _ more = ⊥
+
+-- where pieces are kept, these elements are open behind them, the innermost first
+abbrev pub AreOpen : Option Region → List Edge → Type 0
+AreOpen None edges = Unit {0}
+AreOpen (Some kept) edges = open_in kept.pieces ≡ edges
+
+-- where pieces are kept, there are none yet
+abbrev pub AreNone : Option Region → Type 0
+AreNone None = Unit {0}
+AreNone (Some kept) = kept.pieces ≡ []
+
+-- the constructed values that are open, the innermost first
+abbrev pub around_of : {P : Type 0} → State P → List (states.Level P)
+around_of Start = []
+around_of (AwaitsLength constructed spot names around) = around
+around_of (AwaitsContents spot names count around) = around
+around_of (Within levels) = levels
+
+-- what identifier octets show behind which the state is this
+abbrev pub begun_pieces : DerMessage ℕ → State ℕ → List Piece
+begun_pieces m (AwaitsLength constructed spot names around) = begin_each (elements_ended m around)
+begun_pieces m state = []
+
+-- the octets are the contents of this leaf, in the value at the spot
+abbrev pub HoldsLeafAt : DerMessage ℕ → Spot → List ℕ → Leaf → Type 0
+HoldsLeafAt m spot octets leaf = (of : structures.Spot ℕ) → IsSpot m.forms spot of → HoldsLeaf m (structure m of) octets leaf
+
+-- the leaf of the octets comes behind the pieces that are kept
+abbrev pub GoesOnByLeaf : DerMessage ℕ → Spot → List ℕ → Option Region → Option Region → Type 0
+GoesOnByLeaf m spot octets old new = (leaf : Leaf) × HoldsLeafAt m spot octets leaf × GoOn old new (Holds leaf ∷ [])
+
+-- These bytes were read, the last of which are the contents of a leaf. It is the last piece that is kept: the elements are open that are round it, and with
+-- the ends of those that end with it the pieces are those that are shown.
+pub record EndsLeaf (m : DerMessage ℕ) (d : Decoder) (kept : Option Region) (bytes : List ℕ) : Type 0 where
+  pub read : HasRead m d bytes
+  pub around : (r : HasRead m d bytes) → AreOpen kept (elements_around m (around_of r.state))
+  pub closes : (new : Option Region) → ((r : HasRead m d bytes) → GoOn kept new (end_each (elements_ended m (around_of r.state)))) → KeepsShown m d new bytes

@@ -1,0 +1,71 @@
+// The pieces of an instance, where they are kept as its parts come.
+ghost use Rattle.std.specs.Prelude.{◌≡◌, ◌++◌, ◌∷◌, [], ℕ, List, OnOk};
+ghost use Rattle.data_types.specs.LeafAnswers.{leaf_of};
+ghost use Rattle.data_types.specs.Value.{Holds};
+ghost use Rattle.message_model.specs.Tables.{types_of};
+ghost use Rattle.der_model.specs.DerMessage.{der_message};
+ghost use Rattle.der_model.specs.NestedPieces.{elements_around};
+ghost use Rattle.der_model.specs.ShownPieces.{begin_each, end_each, elements_ended};
+ghost use Rattle.der_model.specs.States as states;
+ghost use Rattle.der_codec.specs.KeptPieces.{GoOn, AreOpen};
+ghost use Rattle.der_codec.specs.Levels.{AreLevels, first_of};
+
+use crate::elements::{begin_component, end_component};
+use crate::level::Level;
+use data_types::LeafRef;
+use inst_pool::Builder;
+use message_model::Model;
+use std::alloc::AllocError;
+
+/// The elements begin that begin with the last component of a value.
+pub(crate) fn begin(
+    pieces: &mut Option<Builder>,
+    model: &Model,
+    around: Option<Level>,
+) -> Result<(), AllocError>
+    ensures { (xs : List Level) (ls : List (states.Level ℕ)) → around ≡ first_of xs → AreLevels (types_of model.now) xs ls
+        → OnOk result (GoOn pieces.old pieces.new (begin_each (elements_ended (der_message model.now) ls))) }
+{
+    match pieces {
+        None => Ok(()),
+        Some(builder) => begin_component(builder, model, around),
+    }
+}
+
+/// The elements end that end with the last component of a value.
+pub(crate) fn end(
+    pieces: &mut Option<Builder>,
+    model: &Model,
+    around: Option<Level>,
+) -> Result<(), AllocError>
+    requires { (xs : List Level) × (ls : List (states.Level ℕ)) × (around ≡ first_of xs) × AreLevels (types_of model.now) xs ls × AreOpen pieces.old (elements_around (der_message model.now) ls) }
+    ensures { (xs : List Level) (ls : List (states.Level ℕ)) → around ≡ first_of xs → AreLevels (types_of model.now) xs ls → AreOpen pieces.old (elements_around (der_message model.now) ls)
+        → OnOk result (GoOn pieces.old pieces.new (end_each (elements_ended (der_message model.now) ls))) }
+{
+    match pieces {
+        None => Ok(()),
+        Some(builder) => end_component(builder, model, around),
+    }
+}
+
+/// A leaf comes.
+pub(crate) fn hold(pieces: &mut Option<Builder>, leaf: &LeafRef<'_>) -> Result<(), AllocError>
+    ensures { OnOk result (GoOn pieces.old pieces.new (Holds (leaf_of leaf.now) ∷ [])) }
+{
+    match pieces {
+        None => Ok(()),
+        Some(builder) => append(builder, leaf),
+    }
+}
+
+/// Appends a leaf.
+fn append(builder: &mut Builder, leaf: &LeafRef<'_>) -> Result<(), AllocError>
+    ensures { OnOk result (builder.new.pieces ≡ builder.old.pieces ++ Holds (leaf_of leaf.now) ∷ []) }
+{
+    match leaf {
+        LeafRef::Bytes(bytes) => builder.leaf(LeafRef::Bytes(bytes)),
+        LeafRef::Number(number) => builder.leaf(LeafRef::Number(*number)),
+        LeafRef::Flag(flag) => builder.leaf(LeafRef::Flag(*flag)),
+        LeafRef::Code(place) => builder.leaf(LeafRef::Code(*place)),
+    }
+}
