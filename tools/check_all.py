@@ -1,4 +1,4 @@
-"""isorepo check-all [--der] REPO CODES MSGID FILES..: a table of the program's answers for many files."""
+"""isorepo check-all [--der] [--from LIST] REPO CODES MSGID FILES..: a table of the program's answers for many files."""
 from streams import NOTES, OUT, SIGNALLED, run  # first, as it says
 
 import collections
@@ -9,12 +9,12 @@ import signal
 from concurrent.futures import ThreadPoolExecutor
 from pathlib import Path
 
-from program import DONE, answer, check, codes_source, fault_of, source
+from program import DONE, FAILED_READ, READ, answer, check, codes_source, fault_of, source
 from rule_sentences import SENTENCES
 from word_faults import word_faults
 
 HEAD = ('file', 'status', 'rule', 'place', 'path', 'line')
-USAGE = 'usage: isorepo check-all [--der] REPO CODES MSGID FILES..'
+USAGE = 'usage: isorepo check-all [--der] [--from LIST] REPO CODES MSGID FILES..'
 BAR = 40
 
 
@@ -34,6 +34,13 @@ def files_of(words, ending):
             yield from files_below(word, ending)
         else:
             yield word
+
+
+def names_of(path):
+    """The names in a list, a line each, or parted by zero octets if it has some; `-` is standard input."""
+    with open(0 if path == '-' else path, 'rb') as file:
+        data = file.read()
+    return [os.fsdecode(name) for name in (data.split(b'\0') if b'\0' in data else data.splitlines()) if name]
 
 
 def row_of(path, given):
@@ -114,15 +121,23 @@ def check_all(verb, repository, codes, message, files):
 
 
 def main(words):
-    is_der = words[:1] == ['--der']
-    words = words[is_der:]
-    if len(words) < 4:
+    is_der, lists = False, []
+    while words[:1] in (['--der'], ['--from']):
+        is_der |= words[0] == '--der'
+        lists += words[1:2] if words[0] == '--from' else []
+        words = words[1 if words[0] == '--der' else 2:]
+    if len(words) < (3 if lists else 4):
         NOTES.line(USAGE)
         return 1
     verb, ending = ('check-der', '.der') if is_der else ('check-xml', '.xml')
     with contextlib.ExitStack() as stack:
         repository, codes = source(words[0], stack), codes_source(words[1], stack)
-        return check_all(verb, repository, codes, words[2], list(files_of(words[3:], ending)))
+        try:
+            names = [*words[3:], *(name for path in lists for name in names_of(path))]
+        except OSError as error:
+            NOTES.line(f'{FAILED_READ}\n{error.filename or "standard input"}: {error.strerror}')
+            return READ
+        return check_all(verb, repository, codes, words[2], list(files_of(names, ending)))
 
 
 if __name__ == '__main__':

@@ -209,9 +209,13 @@ def markup_told(place, at):
         return ['a comment in which no two hyphens stand together, and none at its end']
     if token == b']':
         return [']]&gt; for ]]> in a text']
-    if re.match(rb'<[A-Za-z_:\x80-\xff][^<]*\s[^<]*>', token, re.S):
-        return ['attributes as name="value", each behind a space; in a value < is &lt;']
-    return ['the sign < itself is &lt;'] if token.startswith(b'<') else []
+    if token.startswith(b'</'):
+        return ['an end tag as </Name>']
+    if not re.match(rb'<[A-Za-z_:\x80-\xff]', token):
+        return ['the sign < itself is &lt;'] if token.startswith(b'<') else []
+    if not token.endswith(b'>'):
+        return ['the > of this tag before the next <; the sign < itself is &lt;']
+    return ['attributes as name="value", each behind a space; in a value < is &lt;']
 
 
 def end_expected(fault, place):
@@ -272,12 +276,18 @@ def octets_expected(types, fault, octets):
     """Lines that say what the message has at a place of DER, before these octets."""
     if fault.where == '0' and octets.removeprefix(b'\xef\xbb\xbf').lstrip()[:1] == b'<':
         return ['DER; the file may be in XML, which `show` without --der reads']
-    entry = types.at(fault.path)
     if fault.rule == 'Missing':
         return missing_expected(types, fault)
-    if entry is None:
-        return []
-    if fault.rule == 'UnexpectedTag' and fault.path.endswith(']') and entry.elements and octets and octets[0] & 31 < 31:
-        slots = ', '.join(f'[{number}] {it.tag}' for number, it in enumerate(entry.elements))
-        return [f'{entry.name}: {slots}', f'here stands [{CLASSES[octets[0] >> 6]}{octets[0] & 31}]']
-    return [types.described(entry)]
+    entry = types.at(fault.path)
+    if fault.rule == 'UnexpectedTag' and octets and octets[0] & 31 < 31:
+        return [*tags_of_octets(types, fault.path, entry), f'here stands [{CLASSES[octets[0] >> 6]}{octets[0] & 31}]']
+    return [types.described(entry)] if entry else []
+
+
+def tags_of_octets(types, path, entry):
+    """The tags of DER that a value has; of a list, whose path ends in no number, those of an item are not told."""
+    if path.count('/') < 2:
+        return [f'Document: [0] {types.message.tag}' if path != '/' else 'Document: [universal 16]']
+    if entry is None or not entry.elements or not path.endswith(']'):
+        return [types.described(entry)] if entry else []
+    return [f'{entry.name}: {", ".join(f"[{number}] {it.tag}" for number, it in enumerate(entry.elements))}']

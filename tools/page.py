@@ -106,6 +106,21 @@ def marked(spot, style):
     return [f' {number} | {head}{text[start:end]}{tail}', f' {" " * len(number)} | {indent}{style.colour("mark", signs)}']
 
 
+def octet_lines(path, place, style):
+    """The octets of a file round a place, sixteen a line."""
+    with open(path, 'rb') as file:
+        file.seek(max(0, place // 16 * 16 - 16))
+        start = file.tell()
+        data = file.read(48)
+    lines = []
+    for at in range(0, max(len(data), place - start + 1), 16):
+        row = data[at:at + 16]
+        lines.append(f' {start + at:08x} | {row.hex(" "):<47} | {"".join(chr(c) if 32 <= c < 127 else "." for c in row)}'.rstrip())
+        if at <= place - start < at + 16:
+            lines.append(' ' * 10 + '| ' + ' ' * (3 * (place - start - at)) + style.colour('mark', '^^'))
+    return lines
+
+
 def rows(labelled, style):
     """Texts by their labels; a label that is that of the row before is not said again."""
     lines, last = [], None

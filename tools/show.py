@@ -1,21 +1,35 @@
-"""isorepo show [--der] REPO CODES MSGID FILE: checks FILE, and shows where it is refused as a compiler does."""
+"""isorepo show [--der] [--json] REPO CODES MSGID FILE: checks FILE, and shows where it is refused as a compiler does."""
 from streams import NOTES, OUT, run  # first, as it says
 
 import contextlib
 import csv
+import json
 import os
+from typing import NamedTuple, Optional
 
-from expected import Types, read_codes
+from expected import Types, closest, read_codes
 from faults_of_instances import expected, octets_expected, parts_of
-from page import FAR, WIDTH, Style, line_spot, marked, rows, spot_of
+from page import FAR, WIDTH, Spot, Style, line_spot, marked, octet_lines, rows, spot_of
 from place import Place
-from program import CODES, INSTANCE, MESSAGE, REPOSITORY, check, codes_source, fault_of, source
+from program import CODES, INSTANCE, MESSAGE, REPOSITORY, Fault, Source, check, codes_source, fault_of, source
 from repository_file import read_repository
 from rule_sentences import SENTENCES
 from word_faults import word_faults
 
-USAGE = 'usage: isorepo show [--der] REPO CODES MSGID FILE'
+USAGE = 'usage: isorepo show [--der] [--json] REPO CODES MSGID FILE'
 FIRST_MESSAGES = 8
+
+
+class Told(NamedTuple):
+    """What is told of a fault: the file that it is in, where in its text, or in its octets, and what was expected."""
+    file: Source
+    fault: Fault
+    spot: Optional[Spot]
+    expected: list
+    is_of_octets: bool = False
+
+    def sentence(self):
+        return SENTENCES.get(self.fault.rule, 'docs/FORMATS.md has this rule')
 
 
 class Call:
@@ -48,100 +62,105 @@ def octets_to(file, place):
         return opened.read(place + FAR)
 
 
-def page(file, spot, fault, told, style):
-    head = style.colour('head', f'{file.name}:{spot.line}:{spot.column}: {fault.rule}')
-    return [head, *marked(spot, style), *fault_rows(fault, told, style)]
+# ---- what is told, by the status of the answer
+
+def of_instance(call, fault):
+    at = int(fault.where)
+    if call.is_der:
+        data = octets_to(call.file, at)[at:]
+        return Told(call.file, fault, None, octets_expected(call.types(), fault, data), True)
+    data = octets_to(call.file, at)
+    place = Place(data, at)
+    spot = spot_of(data, at, parts_of(fault, place))
+    return Told(call.file, fault, spot, expected(call.types(), fault, place))
 
 
-def fault_rows(fault, told, style):
-    """The path, the rule, and what was expected, by their labels."""
-    path = [('in', fault.path)] if fault.path else []
-    rule = ('rule', SENTENCES.get(fault.rule, 'docs/FORMATS.md has this rule'))
-    return rows([*path, rule, *(('expected', text) for text in told)], style)
+def of_repository(call, fault):
+    data, at = octets_to(call.repository, int(fault.where)), int(fault.where)
+    return Told(call.repository, fault, spot_of(data, at, parts_of(fault, Place(data, at))), [])
 
 
-def instance_page(call, fault, style):
-    data = octets_to(call.file, int(fault.where))
-    place = Place(data, int(fault.where))
-    parts = parts_of(fault, place)
-    return page(call.file, spot_of(data, int(fault.where), parts), fault, expected(call.types(), fault, place), style)
-
-
-def octets_page(call, fault, style):
-    """The octets round the place, sixteen a line."""
-    place = int(fault.where)
-    with open(call.file.path, 'rb') as file:
-        file.seek(max(0, place // 16 * 16 - 16))
-        start = file.tell()
-        data = file.read(48)
-    lines = [style.colour('head', f'{call.file.name}: octet {place} ({place:#x}): {fault.rule}')]
-    for at in range(0, max(len(data), place - start + 1), 16):
-        row = data[at:at + 16]
-        lines.append(f' {start + at:08x} | {row.hex(" "):<47} | {"".join(chr(c) if 32 <= c < 127 else "." for c in row)}'.rstrip())
-        if at <= place - start < at + 16:
-            lines.append(' ' * 10 + '| ' + ' ' * (3 * (place - start - at)) + style.colour('mark', '^^'))
-    return lines + fault_rows(fault, octets_expected(call.types(), fault, data[place - start:]), style)
-
-
-def repository_page(call, fault, style):
-    data = octets_to(call.repository, int(fault.where))
-    place = int(fault.where)
-    return page(call.repository, spot_of(data, place, parts_of(fault, Place(data, place))), fault, [], style)
-
-
-def object_page(call, fault, style):
-    """A fault of a message: the line of the object, where the repository has it."""
+def of_message(call, fault):
+    """A fault of a message is in the line of its object, where the repository has it."""
     entries, messages = call.read_repository()
     lines = [entry.line for key, entry in entries.items() if key == fault.where]
     lines += [message.line for message in messages if message.identifier == fault.where]
     if lines:
-        return page(call.repository, line_spot(call.repository.path, lines[0]), fault, [], style)
-    known = ', '.join(message.identifier for message in messages[:FIRST_MESSAGES]) or 'none'
-    more = f', and {len(messages) - FIRST_MESSAGES} more' if len(messages) > FIRST_MESSAGES else ''
-    return [style.colour('head', f'{call.repository.name}: {fault.rule}'), f'  {SENTENCES[fault.rule]}; it has {known}{more}']
+        return Told(call.repository, fault, line_spot(call.repository.path, lines[0]), [])
+    known = [message.identifier for message in messages]
+    more = f', and {len(known) - FIRST_MESSAGES} more' if len(known) > FIRST_MESSAGES else ''
+    meant = closest(fault.where, known[FIRST_MESSAGES:])
+    told = [f'one of {", ".join(known[:FIRST_MESSAGES])}{more}'] if known else ['a message; the repository has none']
+    return Told(call.repository, fault, None, told + ([f'did you mean {meant}?'] if meant else []))
 
 
-def record_page(call, fault, style):
+def of_codes(call, fault):
     if fault.where is None:
-        return []
+        return Told(call.codes, fault, None, [])
     with open(call.codes.path, encoding='utf-8-sig', errors='replace', newline='') as file:
         reader = csv.reader(file)
         records = (reader.line_num for record in reader if record)
         line = next((line for count, line in enumerate(records, 1) if count == int(fault.where)), 1)
-    return page(call.codes, line_spot(call.codes.path, line), fault, [], style)
+    return Told(call.codes, fault, line_spot(call.codes.path, line), [])
 
 
-def page_of(call, answer, style):
-    fault = fault_of(answer.line)
-    if fault is None or answer.status not in (REPOSITORY, CODES, MESSAGE, INSTANCE):
-        return word_faults(answer, call.repository, call.codes, call.message, call.file)
-    if answer.status == INSTANCE:
-        return octets_page(call, fault, style) if call.is_der else instance_page(call, fault, style)
-    return {REPOSITORY: repository_page, MESSAGE: object_page, CODES: record_page}[answer.status](call, fault, style)
+OF_STATUS = {REPOSITORY: of_repository, CODES: of_codes, MESSAGE: of_message, INSTANCE: of_instance}
 
 
-def show(call):
+# ---- as a page, and as JSON
+
+def page(told, style):
+    """A line that names the place, the text or the octets there, and rows."""
+    fault, spot = told.fault, told.spot
+    at = f':{spot.line}:{spot.column}' if spot else f': octet {fault.where} ({int(fault.where):#x})' if told.is_of_octets else ''
+    path = [('in', fault.path)] if fault.path else []
+    labelled = [*path, ('rule', told.sentence()), *(('expected', text) for text in told.expected)]
+    shown = marked(spot, style) if spot else octet_lines(told.file.path, int(fault.where), style) if told.is_of_octets else []
+    return [style.colour('head', f'{told.file.name}{at}: {fault.rule}'), *shown, *rows(labelled, style)]
+
+
+def as_json(call, answer, told, more):
+    """One object, in a line."""
+    found = {'file': call.file.name, 'status': answer.status, 'answer': answer.line or answer.out.strip()}
+    if told:
+        fault, spot = told.fault, told.spot
+        found.update(rule=fault.rule, place=fault.where and int(fault.where) if fault.what != 'message' else fault.where,
+                     path=fault.path, where=told.file.name, line=spot.line if spot else None, column=spot.column if spot else None,
+                     says=told.sentence(), expected=told.expected)
+    elif more:
+        found.update(says='; '.join(more))
+    return json.dumps(found).encode('utf-8', 'replace').decode()
+
+
+def show(call, is_json):
     answer = call.answer()
     if answer.line:
         NOTES.line(answer.line)
+    told, more, fault = None, [], fault_of(answer.line)
     try:
+        if fault and answer.status in OF_STATUS:
+            told = OF_STATUS[answer.status](call, fault)
+        else:
+            more = word_faults(answer, call.repository, call.codes, call.message, call.file)
         style = Style(OUT.columns(2 * WIDTH), OUT.is_terminal() and 'NO_COLOR' not in os.environ)
-        lines = page_of(call, answer, style)
+        lines = [as_json(call, answer, told, more)] if is_json else page(told, style) if told else more
     except Exception as error:  # What is shown is help, and the verdict is told whatever becomes of it.
         NOTES.line(f'isorepo: there is no page: {type(error).__name__}: {error}')
-        lines = []
-    OUT.write(answer.out + ''.join(line + '\n' for line in lines))
+        lines = [as_json(call, answer, None, [])] if is_json else []
+    OUT.write(('' if is_json else answer.out) + ''.join(line + '\n' for line in lines))
     return answer.status
 
 
 def main(words):
-    is_der = words[:1] == ['--der']
-    words = words[is_der:]
+    options = {'--der': False, '--json': False}
+    while words and words[0] in options:
+        options[words[0]] = True
+        words = words[1:]
     if len(words) != 4:
         NOTES.line(USAGE)
         return 1
     with contextlib.ExitStack() as stack:
-        return show(Call(words, is_der, stack))
+        return show(Call(words, options['--der'], stack), options['--json'])
 
 
 if __name__ == '__main__':
