@@ -108,7 +108,8 @@ def main(paths):
         NOTES.line(f'isorepo: {error.filename}: {error.strerror}')
         return 6
     if problems.found:
-        NOTES.write(''.join(line + '\n' for line in problems.lines()))
+        lines = problems.lines()
+        NOTES.write('\n'.join([*lines, f'isorepo: no repository, for {len(lines)} thing{"" if len(lines) == 1 else "s"} that it cannot say']) + '\n')
         return 1
     OUT.write(repository_text(*join(messages)))
     return 0
