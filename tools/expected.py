@@ -8,6 +8,7 @@ from repository_file import COMPONENTS, Entry, codes_of
 FORMS = {'Date': '2026-11-27', 'DateTime': '2026-11-27T09:30:00', 'Time': '09:30:00', 'Year': '2026', 'YearMonth': '2026-11',
          'MonthDay': '--11-27', 'Month': '--11', 'Day': '---27'}
 FIRST_CODES = 8
+csv.field_size_limit(2 ** 31 - 1)
 
 
 class Types:

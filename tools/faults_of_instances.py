@@ -222,14 +222,14 @@ def end_expected(fault, place):
     """The end of the element that is open, and where it begins; of a token that is cut off its rest."""
     cut = re.search(rb'<[^>]*\Z', place.data) if fault.rule == 'Truncated' else None
     if not place.data:
-        return ['an instance; the file is empty']
+        return ['a document; the file is empty']
     if cut:
         return [f'the rest of {cut.group()[:WIDTH].decode(errors="replace")}']
-    if fault.path == '/':
+    if not place.open or fault.path == '/':
         return []
-    told = f'the end of {last_part(fault.path)}'
-    depth = fault.path.count('/')
-    return [f'{told}, which begins at {place.open[depth - 1].line}:{place.open[depth - 1].column}' if len(place.open) == depth else told]
+    told = f'the end of {last_part(fault.path) if fault.path else place.open[-1].tag}'
+    is_innermost = fault.path is None or len(place.open) == fault.path.count('/')
+    return [f'{told}, which begins at {place.open[-1].line}:{place.open[-1].column}' if is_innermost else told]
 
 
 def markup_expected(fault, place):

@@ -9,6 +9,7 @@ from typing import NamedTuple, Optional
 
 from expected import Types, closest, read_codes
 from faults_of_instances import expected, octets_expected, parts_of
+from faults_of_repositories import file_fault, message_fault
 from page import FAR, WIDTH, Spot, Style, line_spot, marked, octet_lines, rows, spot_of
 from place import Place
 from program import CODES, INSTANCE, MESSAGE, REPOSITORY, Fault, Source, check, codes_source, fault_of, source
@@ -76,18 +77,23 @@ def of_instance(call, fault):
 
 
 def of_repository(call, fault):
-    data, at = octets_to(call.repository, int(fault.where)), int(fault.where)
-    return Told(call.repository, fault, spot_of(data, at, parts_of(fault, Place(data, at))), [])
+    data = octets_to(call.repository, int(fault.where))
+    parts, wanted = file_fault(data, fault)
+    return Told(call.repository, fault, spot_of(data, int(fault.where), parts), wanted)
 
 
 def of_message(call, fault):
-    """A fault of a message is in the line of its object, where the repository has it."""
+    """A fault of a message is in the line of its object or of an element of it, where the repository has it."""
     entries, messages = call.read_repository()
-    lines = [entry.line for key, entry in entries.items() if key == fault.where]
-    lines += [message.line for message in messages if message.identifier == fault.where]
-    if lines:
-        return Told(call.repository, fault, line_spot(call.repository.path, lines[0]), [])
-    known = [message.identifier for message in messages]
+    entry = entries.get(fault.where)
+    message = next((it for it in messages if it.identifier == fault.where), None)
+    if entry or message:
+        owner, elements = (entry, entry.elements) if entry else (message, message.blocks)
+        line, wanted = message_fault(fault.rule, owner.line, elements, entry, entries)
+        lines = [str(it.line) for it in messages if it.identifier == fault.where]
+        wanted += [f'one message of this identifier; they stand in the lines {", ".join(lines)}'] if fault.rule == 'M2' else []
+        return Told(call.repository, fault, line_spot(call.repository.path, line), wanted)
+    known = [it.identifier for it in messages]
     more = f', and {len(known) - FIRST_MESSAGES} more' if len(known) > FIRST_MESSAGES else ''
     meant = closest(fault.where, known[FIRST_MESSAGES:])
     told = [f'one of {", ".join(known[:FIRST_MESSAGES])}{more}'] if known else ['a message; the repository has none']
@@ -95,13 +101,19 @@ def of_message(call, fault):
 
 
 def of_codes(call, fault):
+    """A fault of the codes is in the line where its record begins."""
     if fault.where is None:
         return Told(call.codes, fault, None, [])
     with open(call.codes.path, encoding='utf-8-sig', errors='replace', newline='') as file:
         reader = csv.reader(file)
-        records = (reader.line_num for record in reader if record)
-        line = next((line for count, line in enumerate(records, 1) if count == int(fault.where)), 1)
-    return Told(call.codes, fault, line_spot(call.codes.path, line), [])
+        begins, count = 0, 0
+        for record in reader:
+            count += bool(record)
+            if count == int(fault.where):
+                break
+            begins = reader.line_num
+    told = [f'NAME,CODE; here stand {len(record)} fields'] if fault.rule == 'C1' and len(record) > 2 else ['NAME,CODE'] if fault.rule == 'C1' else []
+    return Told(call.codes, fault, line_spot(call.codes.path, begins + 1), told)
 
 
 OF_STATUS = {REPOSITORY: of_repository, CODES: of_codes, MESSAGE: of_message, INSTANCE: of_instance}
