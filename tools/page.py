@@ -21,11 +21,16 @@ class Spot(NamedTuple):
 
 
 class Style:
-    """How wide a page is, and whether it has colours."""
+    """How wide a page is, whether it goes to a terminal, and whether it has colours."""
 
-    def __init__(self, columns, has_colours):
+    def __init__(self, columns, is_on_terminal, has_colours):
         self.columns = columns
+        self.is_on_terminal = is_on_terminal
         self.has_colours = has_colours
+
+    def name(self, text):
+        """A file's name, which is for a program as it is."""
+        return printable(text) if self.is_on_terminal else text
 
     def colour(self, kind, text):
         return f'{COLOURS[kind]}{text}{COLOURS["end"]}' if self.has_colours else text

@@ -128,7 +128,7 @@ def page(told, style):
     path = [('in', fault.path)] if fault.path else []
     labelled = [*path, ('rule', told.sentence()), *(('expected', text) for text in told.expected)]
     shown = marked(spot, style) if spot else octet_lines(told.file.path, int(fault.where), style) if told.is_of_octets else []
-    return [style.colour('head', f'{told.file.name}{at}: {fault.rule}'), *shown, *rows(labelled, style)]
+    return [style.colour('head', f'{style.name(told.file.name)}{at}: {fault.rule}'), *shown, *rows(labelled, style)]
 
 
 def as_json(call, answer, told, more):
@@ -154,7 +154,7 @@ def show(call, is_json):
             told = OF_STATUS[answer.status](call, fault)
         else:
             more = word_faults(answer, call.repository, call.codes, call.message, call.file)
-        style = Style(OUT.columns(2 * WIDTH), OUT.is_terminal() and 'NO_COLOR' not in os.environ)
+        style = Style(OUT.columns(2 * WIDTH), OUT.is_terminal(), OUT.is_terminal() and not os.environ.get('NO_COLOR'))
         lines = [as_json(call, answer, told, more)] if is_json else page(told, style) if told else more
     except Exception as error:  # What is shown is help, and the verdict is told whatever becomes of it.
         NOTES.line(f'isorepo: there is no page: {type(error).__name__}: {error}')

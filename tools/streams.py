@@ -6,8 +6,7 @@ import sys
 WRITE, MEMORY, SIGNALLED = 7, 8, 128
 
 # Scripts load this first: until `run` is called Ctrl-C ends them as it ends any command, without Python's words.
-WAS_HANDLED = signal.getsignal(signal.SIGINT) is signal.default_int_handler
-if WAS_HANDLED:
+if signal.getsignal(signal.SIGINT) is signal.default_int_handler:
     signal.signal(signal.SIGINT, signal.SIG_DFL)
 
 
@@ -64,13 +63,19 @@ def told(line, status):
     return status
 
 
+def asked_to_end(number, _frame):
+    """Makes an exception of the first signal, so that copies of files are removed; more of it change nothing."""
+    signal.signal(number, signal.SIG_IGN)
+    if number == signal.SIGINT:
+        raise KeyboardInterrupt
+    sys.exit(SIGNALLED + number)
+
+
 def keep_signals():
-    """Makes an exception of a signal that asks for the end, so that copies of files are removed; what is ignored stays so."""
-    if WAS_HANDLED:
-        signal.signal(signal.SIGINT, signal.default_int_handler)
-    for number in (signal.SIGTERM, signal.SIGHUP):
+    """What is ignored stays so, as by nohup."""
+    for number in (signal.SIGINT, signal.SIGTERM, signal.SIGHUP):
         if signal.getsignal(number) is signal.SIG_DFL:
-            signal.signal(number, lambda number, _frame: sys.exit(SIGNALLED + number))
+            signal.signal(number, asked_to_end)
 
 
 def run(main):
