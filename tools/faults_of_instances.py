@@ -11,6 +11,8 @@ LEAF_RULES = ('BadText', 'BadLength', 'PatternFails', 'NotACode', 'Digits', 'Out
 TAG_RULES = ('UnknownElement', 'OutOfOrder', 'TooMany', 'SecondAlternative', 'TextInComplex')
 PASSED_OVER = (f'{XSI} schemaLocation', f'{XSI} noNamespaceSchemaLocation')
 NO_CHARACTER = re.compile('[^\t\n\r\x20-\ud7ff\ue000-\ufffd\U00010000-\U0010ffff]')
+XML = 'http://www.w3.org/XML/1998/namespace'
+XMLNS = 'http://www.w3.org/2000/xmlns/'
 CLASSES = ('universal ', 'application ', '', 'private ')
 
 
@@ -40,6 +42,20 @@ def first_unknown(place):
     return next((it for it in unknown if it.name != 'Ccy'), unknown[0] if unknown else None)
 
 
+def bad_declaration(place):
+    """The first declaration that binds what may not be bound so (Namespaces in XML 1.0, sections 3 and 5)."""
+    for it in place.attributes():
+        prefix = it.name.partition(':')[2]
+        if it.is_declaration() and (prefix == 'xmlns' or (prefix == 'xml') != (it.value == XML) or it.value == XMLNS or prefix and not it.value):
+            return it
+    return None
+
+
+def is_closer(place, at):
+    """Whether the place is at the end of `]]>`."""
+    return place.token == b'>' and place.data[:at].endswith(b']]')
+
+
 def bad_octet(place, at):
     """Where behind a place the octets are no more UTF-8."""
     try:
@@ -54,7 +70,8 @@ def attribute_at_fault(fault, place):
         return named(place, 'Ccy')
     if fault.rule == 'UnknownAttribute':
         return first_unknown(place)
-    return first_twice(place) if fault.rule == 'DuplicateAttribute' else None
+    by_rule = {'DuplicateAttribute': first_twice, 'BadPrefix': bad_declaration}
+    return by_rule[fault.rule](place) if fault.rule in by_rule else None
 
 
 def parts_of(fault, place):
@@ -67,6 +84,8 @@ def parts_of(fault, place):
         return [token if is_below else (at + attribute.start, at + attribute.end)]
     if fault.rule == 'BadUtf8':
         return [(bad_octet(place, at), bad_octet(place, at) + 1)]
+    if is_closer(place, at):
+        return [(at - 2, at + 1)]
     if fault.rule in LEAF_RULES and place.open:
         return [(place.text_start(), at), token]
     return [token]
@@ -207,8 +226,10 @@ def markup_told(place, at):
         return ['<?xml version="1.0" encoding="UTF-8"?>, the one version and encoding that is read']
     if token.startswith(b'<!--'):
         return ['a comment in which no two hyphens stand together, and none at its end']
-    if token == b']':
+    if is_closer(place, at):
         return [']]&gt; for ]]> in a text']
+    if token.startswith(b'<?'):
+        return ['an instruction as <?name text?>, whose name is not xml']
     if token.startswith(b'</'):
         return ['an end tag as </Name>']
     if not re.match(rb'<[A-Za-z_:\x80-\xff]', token):
@@ -216,6 +237,13 @@ def markup_told(place, at):
     if not token.endswith(b'>'):
         return ['the > of this tag before the next <; the sign < itself is &lt;']
     return ['attributes as name="value", each behind a space; in a value < is &lt;']
+
+
+def prefix_told(place):
+    bad, prefixes = bad_declaration(place), place.prefixes()
+    if bad or not prefixes:
+        return [f'no {bad.name}="{bad.value}"'] if bad else []
+    return ['another prefix than xmlns'] if 'xmlns' in prefixes else [f'a declaration of {", ".join(prefixes)}']
 
 
 def end_expected(fault, place):
@@ -227,9 +255,7 @@ def end_expected(fault, place):
         return [f'the rest of {cut.group()[:WIDTH].decode(errors="replace")}']
     if not place.open or fault.path == '/':
         return []
-    told = f'the end of {last_part(fault.path) if fault.path else place.open[-1].tag}'
-    is_innermost = fault.path is None or len(place.open) == fault.path.count('/')
-    return [f'{told}, which begins at {place.open[-1].line}:{place.open[-1].column}' if is_innermost else told]
+    return [f'</{place.open_name()}>, the end of what begins at {place.open[-1].line}:{place.open[-1].column}']
 
 
 def markup_expected(fault, place):
@@ -244,8 +270,8 @@ def markup_expected(fault, place):
     if fault.rule == 'BadChar':
         found = NO_CHARACTER.search(place.token_text())
         return [f'no U+{ord(found.group()):04X}'] if found else []
-    if fault.rule == 'BadPrefix' and place.prefixes():
-        return [f'a declaration of {", ".join(place.prefixes())}']
+    if fault.rule == 'BadPrefix':
+        return prefix_told(place)
     if fault.rule == 'DuplicateAttribute' and first_twice(place):
         return [f'{first_twice(place).name} once']
     if fault.rule == 'TextOutside' and at == 0 and place.data[:1] == b'0':
@@ -278,6 +304,8 @@ def octets_expected(types, fault, octets):
         return ['DER; the file may be in XML, which `show` without --der reads']
     if fault.rule == 'Missing':
         return missing_expected(types, fault)
+    if fault.rule == 'Truncated' and fault.where == '0':
+        return ['a document; the file is empty']
     entry = types.at(fault.path)
     if fault.rule == 'UnexpectedTag' and octets and octets[0] & 31 < 31:
         return [*tags_of_octets(types, fault.path, entry), f'here stands [{CLASSES[octets[0] >> 6]}{octets[0] & 31}]']

@@ -73,6 +73,11 @@ class Place:
         """The text behind the last start tag."""
         return ''.join(self.pieces)
 
+    def open_name(self):
+        """The name of the innermost open element as it is spelled, with its prefix."""
+        found = NAME.match(self.data, self.open[-1].octet) if self.open else None
+        return found.group(1).decode(errors='replace') if found else ''
+
     def text_start(self):
         """The octet behind the start tag of the innermost open element."""
         found = TOKEN.match(self.data, self.open[-1].octet) if self.open else None
