@@ -16,6 +16,7 @@ from word_faults import word_faults
 HEAD = ('file', 'status', 'rule', 'place', 'path', 'line')
 USAGE = 'usage: isorepo check-all [--der] [--from LIST] REPO CODES MSGID FILES..'
 BAR = 40
+AT_ONCE = 4096
 
 
 def files_below(folder, ending):
@@ -82,6 +83,12 @@ def summary(counts):
     return lines
 
 
+def answers(pool, verb, words, files):
+    """The answer for each file, in their order. Some thousands are asked for at a time, so that a million of files takes no more memory."""
+    for start in range(0, len(files), AT_ONCE):
+        yield from pool.map(lambda path: check(*words, path, verb), files[start:start + AT_ONCE])
+
+
 def check_files(verb, words, files, counts):
     """Writes a row for each file, in their order, and counts the files of each rule; the greatest status."""
     table = csv.writer(OUT, lineterminator='\n')
@@ -89,7 +96,7 @@ def check_files(verb, words, files, counts):
     worst, progress = DONE, Progress(len(files))
     pool = ThreadPoolExecutor(len(os.sched_getaffinity(0)))
     try:
-        for done, (path, given) in enumerate(zip(files, pool.map(lambda path: check(*words, path, verb), files)), 1):
+        for done, (path, given) in enumerate(zip(files, answers(pool, verb, words, files)), 1):
             if given.status == SIGNALLED + signal.SIGINT:
                 raise KeyboardInterrupt
             row = row_of(path, given)

@@ -10,7 +10,7 @@ ANSWERS = 'An answer of the program other than what the command prints is one li
 FIRST = 'The first fault is told; a PLACE is a byte number from 0. The exit status says which answer it is:'
 TOOLS = 'import, show and check-all are scripts of Python 3 round the program, whose lines and statuses they hand on. No proof is about them.'
 SHOW = ('show and check-all read FILE and REPO anew to say more than the line of the program: what they add is help, and the verdict is that of the program alone. '
-        'Colours, the progress of check-all, and the words of a command where they were mistaken come on a terminal alone. '
+        'Colours, the progress of check-all, and what is said of mistaken words and files come on a terminal alone. '
         'The status of check-all is the greatest of its files.')
 
 
