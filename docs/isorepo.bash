@@ -1,6 +1,6 @@
 # Completions of bash for isorepo: made of docs/commands.txt by tools/make_manual.py
 _isorepo() {
-    local word=${COMP_WORDS[COMP_CWORD]}
+    local word=${COMP_WORDS[COMP_CWORD]} options=
     local -a wanted=()
     COMPREPLY=()
     if [ "$COMP_CWORD" = 1 ]; then
@@ -19,22 +19,26 @@ _isorepo() {
     der-to-xml) wanted=(REPO CODES MSGID) ;;
     drill) wanted=(NUMBER SIZE) ;;
     import) wanted=(SCHEMA..) ;;
-    show) wanted=('[--der]' REPO CODES MSGID FILE) ;;
-    check-all) wanted=('[--der]' REPO CODES MSGID FILES..) ;;
+    show) wanted=(REPO CODES MSGID FILE) options='--der --json' ;;
+    check-all) wanted=(REPO CODES MSGID FILES..) options='--der --from' ;;
     help) wanted=('[COMMAND]') ;;
     try) wanted=(COMMAND WORDS..) ;;
     explain) wanted=(RULE) ;;
     install) wanted=(DIR) ;;
     esac
-    local count=${#wanted[@]} place=$((COMP_CWORD - 2)) named=2
+    local count=${#wanted[@]} first=2
     [ "$count" -gt 0 ] || return
-    if [ "${wanted[0]}" = '[--der]' ]; then
-        if [ "$place" = 0 ] && [[ $word == -* ]]; then
-            COMPREPLY=(--der)
-            return
-        fi
-        wanted=("${wanted[@]:1}") count=$((count - 1))
-        [ "${COMP_WORDS[2]}" != --der ] || [ "$place" = 0 ] || place=$((place - 1)) named=3
+    while [ "$first" -lt "$COMP_CWORD" ] && [[ " $options " == *" ${COMP_WORDS[first]} "* ]]; do
+        [ "${COMP_WORDS[first]}" != --from ] || first=$((first + 1))
+        first=$((first + 1))
+    done
+    local place=$((COMP_CWORD - first))
+    if [ "$place" = 0 ] && [[ $word == -* ]] && [ -n "$options" ]; then
+        mapfile -t COMPREPLY < <(compgen -W "$options" -- "$word")
+        return
+    fi
+    if [ "$place" = -1 ]; then
+        wanted=(LIST) count=1 place=0
     fi
     if [ "$place" -ge "$count" ]; then
         case ${wanted[count - 1]} in
@@ -44,7 +48,7 @@ _isorepo() {
     fi
     compopt -o filenames 2>/dev/null
     case ${wanted[place]} in
-    MSGID) mapfile -t COMPREPLY < <(compgen -W "$("${COMP_WORDS[0]}" list "${COMP_WORDS[named]}" "${COMP_WORDS[named + 1]}" 2>/dev/null | cut -d ' ' -f 1)" -- "$word") ;;
+    MSGID) mapfile -t COMPREPLY < <(compgen -W "$("${COMP_WORDS[0]}" list "${COMP_WORDS[first]}" "${COMP_WORDS[first + 1]}" 2>/dev/null | cut -d ' ' -f 1)" -- "$word") ;;
     DIR) mapfile -t COMPREPLY < <(compgen -d -- "$word") ;;
     '[COMMAND]') mapfile -t COMPREPLY < <(compgen -W 'list types xsd asn1 check-xml check-der canon-xml xml-to-der der-to-xml drill import show check-all help try --version explain install' -- "$word") ;;
     RULE) mapfile -t COMPREPLY < <(compgen -W "$("${COMP_WORDS[0]}" explain 2>/dev/null)" -- "$word") ;;

@@ -1,26 +1,47 @@
-"""isorepo check-all [--der] REPO CODES MSGID FILES..: a table of the program's answers for many files."""
+"""isorepo check-all [--der] [--from LIST] REPO CODES MSGID FILES..: a table of the program's answers for many files."""
+from streams import NOTES, OUT, SIGNALLED, run  # first, as it says
+
 import collections
+import contextlib
 import csv
 import os
-import sys
+import signal
 from concurrent.futures import ThreadPoolExecutor
 from pathlib import Path
 
-from program import DONE, answer, check, fault_of
+from program import DONE, FAILED_READ, READ, answer, check, codes_source, fault_of, source
 from rule_sentences import SENTENCES
+from word_faults import word_faults
 
 HEAD = ('file', 'status', 'rule', 'place', 'path', 'line')
+USAGE = 'usage: isorepo check-all [--der] [--from LIST] REPO CODES MSGID FILES..'
 BAR = 40
-INTERRUPTED = 130
+AT_ONCE = 4096
+
+
+def files_below(folder, ending):
+    """The files below a folder whose names have the ending, a link to nothing too, and the folders that cannot be read."""
+    found = []
+    for at, _, names in os.walk(folder, onerror=lambda error: found.append(error.filename)):
+        paths = (os.path.join(at, name) for name in names if os.path.splitext(name)[1].lower() == ending)
+        found += [str(Path(path)) for path in paths if os.path.isfile(path) or not os.path.exists(path)]
+    return sorted(found)
 
 
 def files_of(words, ending):
-    """The files that are named, and of each folder those below it whose names have the ending, in order."""
+    """The files that are named, and of each folder those below it, in order."""
     for word in words:
         if os.path.isdir(word):
-            yield from sorted(str(path) for path in Path(word).rglob('*') if path.suffix.lower() == ending and path.is_file())
+            yield from files_below(word, ending)
         else:
             yield word
+
+
+def names_of(path):
+    """The names in a list, a line each, or parted by zero octets if it has some; `-` is standard input."""
+    with open(0 if path == '-' else path, 'rb') as file:
+        data = file.read()
+    return [os.fsdecode(name) for name in (data.split(b'\0') if b'\0' in data else data.splitlines()) if name]
 
 
 def row_of(path, given):
@@ -35,74 +56,96 @@ class Progress:
     def __init__(self, count):
         self.count = count
         self.refused = 0
-        self.shown = sys.stderr.isatty()
+        self.shown = NOTES.is_terminal()
 
     def step(self, done, status):
         self.refused += status != DONE
         if self.shown and (done % 16 == 0 or done == self.count):
-            filled = BAR * done // self.count
-            sys.stderr.write(f'\r[{"#" * filled}{"." * (BAR - filled)}] {done} of {self.count}, {self.refused} refused')
+            told = f'{done} of {self.count}, {self.refused} refused'
+            columns = NOTES.columns(80) - 1
+            width = min(BAR, columns - len(told) - 3)
+            filled = width * done // self.count
+            bar = f'[{"#" * filled}{"." * (width - filled)}] ' if width > 0 else ''
+            NOTES.write('\r' + f'{bar}{told}'[:columns])
 
     def end(self):
         if self.shown:
-            sys.stderr.write('\r\033[K')
+            NOTES.write('\r\033[K')
 
 
 def summary(counts):
     """How many files were accepted, and how many each rule refuses."""
     total = sum(counts.values())
-    lines = [f'{total} files: {counts.pop("accepted", 0)} accepted']
+    lines = [f'{total} file{"" if total == 1 else "s"}: {counts.pop("accepted", 0)} accepted']
     width = max(map(len, counts), default=0)
     for rule, count in sorted(counts.items(), key=lambda item: (-item[1], item[0])):
         lines.append(f'{count:>7}  {rule:<{width}}  {SENTENCES.get(rule, "")}'.rstrip())
     return lines
 
 
-def check_files(verb, words, files, table):
-    """Writes a row for each file, in their order; the greatest status, and how many files have each rule."""
-    worst, counts, progress = DONE, collections.Counter(), Progress(len(files))
+def answers(pool, verb, words, files):
+    """The answer for each file, in their order. Some thousands are asked for at a time, so that a million of files takes no more memory."""
+    for start in range(0, len(files), AT_ONCE):
+        yield from pool.map(lambda path: check(*words, path, verb), files[start:start + AT_ONCE])
+
+
+def check_files(verb, words, files, counts):
+    """Writes a row for each file, in their order, and counts the files of each rule; the greatest status."""
+    table = csv.writer(OUT, lineterminator='\n')
+    table.writerow(HEAD)
+    worst, progress = DONE, Progress(len(files))
     pool = ThreadPoolExecutor(len(os.sched_getaffinity(0)))
     try:
-        for done, (path, given) in enumerate(zip(files, pool.map(lambda path: check(*words, path, verb), files)), 1):
+        for done, (path, given) in enumerate(zip(files, answers(pool, verb, words, files)), 1):
+            if given.status == SIGNALLED + signal.SIGINT:
+                raise KeyboardInterrupt
             row = row_of(path, given)
             table.writerow(row)
             worst = max(worst, given.status)
             counts[row[2] or ('accepted' if given.status == DONE else given.line or f'status {given.status}')] += 1
             progress.step(done, given.status)
     finally:
-        pool.shutdown(cancel_futures=True)
+        pool.shutdown(wait=False, cancel_futures=True)
         progress.end()
-    return worst, counts
-
-
-def main(words):
-    is_der = words[:1] == ['--der']
-    words = words[is_der:]
-    if len(words) < 4:
-        print('usage: isorepo check-all [--der] REPO CODES MSGID FILES..', file=sys.stderr)
-        return 1
-    *named, = words[:3]
-    first = answer(['types', *named])
-    if first.status != DONE:
-        print(first.line, file=sys.stderr)
-        return first.status
-    verb, ending = ('check-der', '.der') if is_der else ('check-xml', '.xml')
-    files = list(files_of(words[3:], ending))
-    sys.stdout.reconfigure(encoding='utf-8', errors='surrogateescape', newline='')
-    table = csv.writer(sys.stdout, lineterminator='\n')
-    try:
-        table.writerow(HEAD)
-        worst, counts = check_files(verb, named, files, table)
-        sys.stdout.flush()
-    except OSError:
-        print('failed: write', file=sys.stderr)
-        os.dup2(os.open(os.devnull, os.O_WRONLY), sys.stdout.fileno())
-        return 7
-    except KeyboardInterrupt:
-        return INTERRUPTED
-    print('\n'.join(summary(counts)), file=sys.stderr)
     return worst
 
 
+def check_all(verb, repository, codes, message, files):
+    """The table and its summary; only a line where repository, codes or message are refused."""
+    words = (repository.path, codes.path, message)
+    first = answer(['types', *words])
+    if first.status != DONE:
+        NOTES.write(''.join(line + '\n' for line in (first.line, *word_faults(first, repository, codes, message)) if line))
+        return first.status
+    counts = collections.Counter()
+    try:
+        worst = check_files(verb, words, files, counts)
+    except KeyboardInterrupt:
+        NOTES.line(f'isorepo: interrupted; of {len(files)} files {sum(counts.values())} were checked')
+        raise
+    NOTES.write('\n'.join(summary(counts)) + '\n')
+    return worst
+
+
+def main(words):
+    is_der, lists = False, []
+    while words[:1] in (['--der'], ['--from']):
+        is_der |= words[0] == '--der'
+        lists += words[1:2] if words[0] == '--from' else []
+        words = words[1 if words[0] == '--der' else 2:]
+    if len(words) < (3 if lists else 4):
+        NOTES.line(USAGE)
+        return 1
+    verb, ending = ('check-der', '.der') if is_der else ('check-xml', '.xml')
+    with contextlib.ExitStack() as stack:
+        repository, codes = source(words[0], stack), codes_source(words[1], stack)
+        try:
+            names = [*words[3:], *(name for path in lists for name in names_of(path))]
+        except OSError as error:
+            NOTES.line(f'{FAILED_READ}\n{error.filename or "standard input"}: {error.strerror}')
+            return READ
+        return check_all(verb, repository, codes, words[2], list(files_of(names, ending)))
+
+
 if __name__ == '__main__':
-    sys.exit(main(sys.argv[1:]))
+    run(main)

@@ -2,51 +2,23 @@
 import csv
 import difflib
 import re
-from xml.parsers import expat
 
 from repository_file import COMPONENTS, Entry, codes_of
 
 FORMS = {'Date': '2026-11-27', 'DateTime': '2026-11-27T09:30:00', 'Time': '09:30:00', 'Year': '2026', 'YearMonth': '2026-11',
          'MonthDay': '--11-27', 'Month': '--11', 'Day': '---27'}
 FIRST_CODES = 8
-
-
-class Place:
-    """The elements that are open before a place, each with the tags of the children that came, and the last text."""
-
-    def __init__(self, data):
-        self.open = []
-        self.text = ''
-        self.root = ''
-        parser = expat.ParserCreate(namespace_separator=' ')
-        parser.StartElementHandler = self.start
-        parser.EndElementHandler = lambda _name: self.open.pop()
-        parser.CharacterDataHandler = self.characters
-        try:
-            parser.Parse(data, False)
-        except expat.ExpatError:
-            pass
-
-    def start(self, name, _attributes):
-        tag = name.rpartition(' ')[2]
-        if self.open:
-            self.open[-1][1].append(tag)
-        else:
-            self.root = name
-        self.open.append((tag, []))
-        self.text = ''
-
-    def characters(self, text):
-        self.text += text
+csv.field_size_limit(2 ** 31 - 1)
 
 
 class Types:
-    """The types of one message, with its external codes."""
+    """The types of one message, with its external codes; and the identifiers of all messages."""
 
-    def __init__(self, entries, message, codes):
+    def __init__(self, entries, message, codes, identifiers):
         self.entries = entries
         self.message = message
         self.codes = codes
+        self.identifiers = identifiers
         self.document = Entry('Message', message.name, elements=message.blocks)
 
     def at(self, path):
@@ -139,9 +111,20 @@ def may_come(entry, came):
 
 
 def closest(word, words):
-    """The word that may have been meant."""
-    found = difflib.get_close_matches(word, words, 1)
-    return found[0] if found else None
+    """The word that may have been meant, whatever its capitals."""
+    small = {it.lower(): it for it in reversed(words)}
+    found = difflib.get_close_matches(word, words, 1) or difflib.get_close_matches(word.lower(), small, 1)
+    return small.get(found[0], found[0]) if found else None
+
+
+def times(count):
+    return 'once' if count == 1 else f'{count} times'
+
+
+def bounds_of(element):
+    """How often an element comes, where it is not just once."""
+    told = [f'at least {times(element.least)}'] if element.least > 1 else []
+    return told + ([] if element.most is None else [f'at most {times(element.most)}'])
 
 
 def read_codes(path):

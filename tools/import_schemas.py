@@ -1,6 +1,7 @@
 """isorepo import SCHEMA..: message schemas of ISO 20022 as one repository file that says the same."""
+from streams import NOTES, OUT, run  # first, as it says
+
 import hashlib
-import sys
 
 from repository_file import COMPONENTS, repository_text
 from schema_components import Components
@@ -99,25 +100,20 @@ def read_messages(paths, problems):
 def main(paths):
     problems = Problems()
     if not paths:
-        print('usage: isorepo import SCHEMA..', file=sys.stderr)
+        NOTES.line('usage: isorepo import SCHEMA..')
         return 1
     try:
         messages = read_messages(paths, problems)
     except OSError as error:
-        print(f'isorepo: {error.filename}: {error.strerror}', file=sys.stderr)
+        NOTES.line(f'isorepo: {error.filename}: {error.strerror}')
         return 6
     if problems.found:
-        print('\n'.join(problems.lines()), file=sys.stderr)
+        lines = problems.lines()
+        NOTES.write('\n'.join([*lines, f'isorepo: no repository, for {len(lines)} thing{"" if len(lines) == 1 else "s"} that it cannot say']) + '\n')
         return 1
-    text = repository_text(*join(messages))
-    try:
-        sys.stdout.buffer.write(text.encode())
-        sys.stdout.buffer.flush()
-    except OSError:
-        print('failed: write', file=sys.stderr)
-        return 7
+    OUT.write(repository_text(*join(messages)))
     return 0
 
 
 if __name__ == '__main__':
-    sys.exit(main(sys.argv[1:]))
+    run(main)

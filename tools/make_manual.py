@@ -10,7 +10,8 @@ ANSWERS = 'An answer of the program other than what the command prints is one li
 FIRST = 'The first fault is told; a PLACE is a byte number from 0. The exit status says which answer it is:'
 TOOLS = 'import, show and check-all are scripts of Python 3 round the program, whose lines and statuses they hand on. No proof is about them.'
 SHOW = ('show and check-all read FILE and REPO anew to say more than the line of the program: what they add is help, and the verdict is that of the program alone. '
-        'Colours and the progress of check-all come on a terminal alone. The status of check-all is the greatest of its files.')
+        'Colours, the progress of check-all, and what is said of mistaken words and files come on a terminal alone. '
+        'The status of check-all is the greatest of its files.')
 
 
 def rows(kind):
@@ -40,9 +41,8 @@ def aligned(pairs, width):
 
 def help_text():
     commands, words = entries()
-    statuses = [f'{number} {what}' for number, what in rows('status')]
     lines = ['usage: isorepo COMMAND WORDS..', '', *aligned(commands, 34), '', CODES, '', ANSWERS, '', *aligned(rows('answer'), 40), '',
-             FIRST, '', *textwrap.wrap('; '.join(statuses), 116, initial_indent='  ', subsequent_indent='  '), '',
+             FIRST, '', *aligned(rows('status'), 14), '',
              'Words that the launcher answers:', '', *aligned(words, 34), '', *textwrap.wrap(TOOLS, 118), *textwrap.wrap(SHOW, 118)]
     return '\n'.join(lines) + '\n'
 
@@ -91,7 +91,7 @@ def manual():
 
 COMPLETION = '''# Completions of bash for isorepo: made of docs/commands.txt by tools/make_manual.py
 _isorepo() {{
-    local word=${{COMP_WORDS[COMP_CWORD]}}
+    local word=${{COMP_WORDS[COMP_CWORD]}} options=
     local -a wanted=()
     COMPREPLY=()
     if [ "$COMP_CWORD" = 1 ]; then
@@ -101,15 +101,19 @@ _isorepo() {{
     case ${{COMP_WORDS[1]}} in
 {cases}
     esac
-    local count=${{#wanted[@]}} place=$((COMP_CWORD - 2)) named=2
+    local count=${{#wanted[@]}} first=2
     [ "$count" -gt 0 ] || return
-    if [ "${{wanted[0]}}" = '[--der]' ]; then
-        if [ "$place" = 0 ] && [[ $word == -* ]]; then
-            COMPREPLY=(--der)
-            return
-        fi
-        wanted=("${{wanted[@]:1}}") count=$((count - 1))
-        [ "${{COMP_WORDS[2]}}" != --der ] || [ "$place" = 0 ] || place=$((place - 1)) named=3
+    while [ "$first" -lt "$COMP_CWORD" ] && [[ " $options " == *" ${{COMP_WORDS[first]}} "* ]]; do
+        [ "${{COMP_WORDS[first]}}" != --from ] || first=$((first + 1))
+        first=$((first + 1))
+    done
+    local place=$((COMP_CWORD - first))
+    if [ "$place" = 0 ] && [[ $word == -* ]] && [ -n "$options" ]; then
+        mapfile -t COMPREPLY < <(compgen -W "$options" -- "$word")
+        return
+    fi
+    if [ "$place" = -1 ]; then
+        wanted=(LIST) count=1 place=0
     fi
     if [ "$place" -ge "$count" ]; then
         case ${{wanted[count - 1]}} in
@@ -119,7 +123,7 @@ _isorepo() {{
     fi
     compopt -o filenames 2>/dev/null
     case ${{wanted[place]}} in
-    MSGID) mapfile -t COMPREPLY < <(compgen -W "$("${{COMP_WORDS[0]}}" list "${{COMP_WORDS[named]}}" "${{COMP_WORDS[named + 1]}}" 2>/dev/null | cut -d ' ' -f 1)" -- "$word") ;;
+    MSGID) mapfile -t COMPREPLY < <(compgen -W "$("${{COMP_WORDS[0]}}" list "${{COMP_WORDS[first]}}" "${{COMP_WORDS[first + 1]}}" 2>/dev/null | cut -d ' ' -f 1)" -- "$word") ;;
     DIR) mapfile -t COMPREPLY < <(compgen -d -- "$word") ;;
     '[COMMAND]') mapfile -t COMPREPLY < <(compgen -W '{first}' -- "$word") ;;
     RULE) mapfile -t COMPREPLY < <(compgen -W "$("${{COMP_WORDS[0]}}" explain 2>/dev/null)" -- "$word") ;;
@@ -131,10 +135,17 @@ complete -F _isorepo isorepo ./isorepo
 '''
 
 
+def arrays(words):
+    """The words that a command wants, and its options; the words of an option stand in brackets."""
+    options = [word.strip('[]') for word in words if word.startswith('[--')]
+    wanted = [word for number, word in enumerate(words) if word == '[COMMAND]' or not (word.startswith('[--') or word.endswith(']'))]
+    return f"wanted=({' '.join(map(shlex.quote, wanted))})" + (f" options='{' '.join(options)}'" if options else '')
+
+
 def completions():
     commands, words = entries()
     named = [words_of.split(' ') for words_of, _ in commands + words]
-    cases = '\n'.join(f"    {first}) wanted=({' '.join(map(shlex.quote, rest))}) ;;" for first, *rest in named if rest)
+    cases = '\n'.join(f"    {first}) {arrays(rest)} ;;" for first, *rest in named if rest)
     return COMPLETION.format(first=' '.join(first for first, *_ in named), cases=cases)
 
 

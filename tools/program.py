@@ -1,13 +1,17 @@
 """Runs the proved program, whose path the launcher hands on, and reads its lines."""
 import os
 import re
+import stat
 import subprocess
-from pathlib import Path
 from typing import NamedTuple, Optional
 
-PROGRAM = os.environ.get('ISOREPO_PROGRAM') or str(Path(__file__).resolve().parent.parent / 'crates/repo_cmd/out/repo_cmd')
+from streams import SIGNALLED
+
+PROGRAM = os.environ.get('ISOREPO_PROGRAM') or os.path.join(os.path.dirname(os.path.abspath(__file__)), '../crates/repo_cmd/out/repo_cmd')
 DONE, WORDS, REPOSITORY, CODES, MESSAGE, INSTANCE, READ = range(7)
+NO_UTF8, NOT_RUN = 9, 10
 FAULT = re.compile(r'refused: (\w+) (\w+)(?: (\w+))?(?: at (?:record )?(\S+))?(?: in (\S+))?')
+FAILED_READ = 'failed: read'
 
 
 class Answer(NamedTuple):
@@ -25,19 +29,57 @@ class Fault(NamedTuple):
     path: Optional[str]
 
 
+class Source(NamedTuple):
+    """A file: the name that was given, and a path where its bytes can be read more than once."""
+    name: str
+    path: str
+
+
+def source(name, stack):
+    """The file of a name. A pipe can be read once, and /dev/stdin is another for the program: of such there is a copy, until the stack ends."""
+    try:
+        is_kept = stat.S_ISREG(os.stat(name).st_mode) and not name.startswith(('/dev/', '/proc/'))
+        if is_kept or os.path.isdir(name):
+            return Source(name, name)
+        # These take as long to load as all else.
+        import shutil
+        import tempfile
+        copy = stack.enter_context(tempfile.NamedTemporaryFile(prefix='isorepo-'))
+        with open(name, 'rb') as file:
+            shutil.copyfileobj(file, copy)
+        copy.flush()
+        return Source(name, copy.name)
+    except OSError:
+        return Source(name, name)
+
+
+def codes_source(name, stack):
+    """The file of external codes; `-` is none, whatever is called so."""
+    return Source(name, name) if name == '-' else source(name, stack)
+
+
 def answer(words, file=None):
-    """Runs the program with the words, and with the file at its standard input."""
-    run = subprocess.run([PROGRAM, *words], stdin=subprocess.DEVNULL if file is None else file, capture_output=True, check=False)
-    return Answer(run.returncode, run.stdout.decode(), run.stderr.decode().rstrip('\n'))
+    """Runs the program with the words, and with the file at its standard input. As in a shell, 128 and a number is a signal that ended it."""
+    try:
+        run = subprocess.run([PROGRAM, *words], stdin=subprocess.DEVNULL if file is None else file, capture_output=True, check=False)
+    except OSError as error:
+        return Answer(NOT_RUN, '', f'isorepo: {PROGRAM}: {error.strerror}')
+    if run.returncode < 0:
+        return Answer(SIGNALLED - run.returncode, '', f'isorepo: the program was ended by the signal {-run.returncode}')
+    line = run.stderr.decode(errors='surrogateescape').rstrip('\n')
+    if run.returncode == NO_UTF8 and not line:
+        line = 'isorepo: a word is no UTF-8'
+    return Answer(run.returncode, run.stdout.decode(errors='surrogateescape'), line)
 
 
 def check(repository, codes, message, path, verb='check-xml'):
     """The answer for the file at the path; for one that does not open that of a source that fails."""
     try:
-        with open(path, 'rb') as file:
-            return answer([verb, repository, codes, message], file)
-    except OSError:
-        return Answer(READ, '', 'failed: read')
+        file = open(path, 'rb')
+    except (OSError, ValueError):
+        return Answer(READ, '', FAILED_READ)
+    with file:
+        return answer([verb, repository, codes, message], file)
 
 
 def fault_of(line):

@@ -1,6 +1,5 @@
 """Repositories as docs/FORMATS.md, The repository file, has them: entries and messages, read and written."""
 from dataclasses import dataclass, field
-from xml.sax.saxutils import escape
 
 from xml_tree import read_tree
 
@@ -48,9 +47,13 @@ class Message:
 
 # ---- written
 
+# line ends and tabs too, so that they are kept
+ESCAPES = str.maketrans({'&': '&amp;', '<': '&lt;', '>': '&gt;', '"': '&quot;', '\t': '&#9;', '\n': '&#10;', '\r': '&#13;'})
+
+
 def attribute(name, text):
-    """An attribute, with a space before it; line ends and tabs as references, so that they are kept."""
-    return f' {name}="{escape(str(text), {chr(34): "&quot;", chr(9): "&#9;", chr(10): "&#10;", chr(13): "&#13;"})}"'
+    """An attribute, with a space before it."""
+    return f' {name}="{str(text).translate(ESCAPES)}"'
 
 
 def element_line(word, element, entries):

@@ -90,6 +90,7 @@ class SimpleTypes:
         self.take_patterns([facet for facet in steps if facet.name == 'pattern'], base, result)
         self.take_codes([facet for facet in steps if facet.name == 'enumeration'], result)
         self.check(node, result)
+        self.check_within(node, base, result)
         return result
 
     def check_facet(self, facet, family):
@@ -178,12 +179,31 @@ class SimpleTypes:
             self.schema.tell(node, 'more fraction digits than digits')
         self.check_bounds(node, facets)
 
+    def check_within(self, node, base, result):
+        """A schema whose restriction takes more than its base is none, and two readers take two things of it."""
+        for name in LENGTHS + DIGITS:
+            mine, other = result.facets.get(name), base.facets.get(name)
+            if other is not None and (mine < other if name == 'minLength' else mine != other if name == 'length' else mine > other):
+                self.schema.tell(node, f'{name} {mine}, where the base type has {other}')
+        for side, sign in ((LOWER, 1), (UPPER, -1)):
+            mine, other = (bound_of(facets, side, sign) for facets in (result.facets, base.facets))
+            if other and mine[:2] < other[:2]:
+                self.schema.tell(node, f'{mine[2]}, where the base type has {other[2]}')
+        for code in result.codes if base.codes else []:
+            if code not in base.codes:
+                self.schema.tell(node, f'the code `{code}`, which the base type does not have')
+
     def check_bounds(self, node, facets):
         lower = [facets[name] for name in LOWER if name in facets]
         upper = [facets[name] for name in UPPER if name in facets]
         strict = 'minExclusive' in facets or 'maxExclusive' in facets
         if lower and upper and (lower[0] > upper[0] or (strict and lower[0] == upper[0])):
             self.schema.tell(node, 'a lower bound above the upper one')
+
+
+def bound_of(facets, side, sign):
+    """The bound on a side: of two the one whose first two parts are greater is the narrower; then its words. None: there is none."""
+    return next(((sign * facets[name], name.endswith('Exclusive'), f'{name} {facets[name]}') for name in side if name in facets), None)
 
 
 def kind_of(simple, name):

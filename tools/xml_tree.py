@@ -77,7 +77,8 @@ def read_tree(data):
     try:
         parser.Parse(data, True)
     except expat.ExpatError as error:
-        raise NotXml(error.lineno, f'not well-formed: {expat.ErrorString(error.code)}') from None
-    except LookupError:
-        raise NotXml(1, 'an encoding that is not known') from None
+        told = expat.ErrorString(error.code)
+        raise NotXml(error.lineno, told if told.startswith('not well-formed') else f'not well-formed: {told}') from None
+    except (LookupError, ValueError):
+        raise NotXml(1, 'an encoding that is not read') from None
     return builder.root

@@ -68,4 +68,6 @@ def main(scheduler, repository, codes, message, path):
 
 
 if __name__ == '__main__':
-    sys.exit(main(*sys.argv[1:6]))
+    if len(sys.argv) != 6:
+        sys.exit('usage: check_by_dask.py SCHEDULER REPO CODES MSGID LIST')
+    sys.exit(main(*sys.argv[1:]))

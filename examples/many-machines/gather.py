@@ -40,9 +40,17 @@ def tell(names, rows, missing, torn):
             print(f'{len(found)} {what}: {", ".join(found[:SHOWN])}{", .." if len(found) > SHOWN else ""}', file=sys.stderr)
 
 
-def main(path):
-    with open(path, encoding='utf-8', errors='surrogateescape') as file:
-        names = list(dict.fromkeys(line.rstrip('\n') for line in file if line.strip()))
+def main(words):
+    if len(words) != 1:
+        print('usage: gather.py LIST', file=sys.stderr)
+        return 1
+    try:
+        with open(words[0], encoding='utf-8', errors='surrogateescape') as file:
+            lines = file.readlines()
+    except OSError as error:
+        print(f'{words[0]}: {error.strerror}', file=sys.stderr)
+        return 6
+    names = list(dict.fromkeys(line.rstrip('\n') for line in lines if line.strip()))
     for stream in (sys.stdin, sys.stdout, sys.stderr):
         stream.reconfigure(encoding='utf-8', errors='surrogateescape')
     rows, torn = read_rows(sys.stdin)
@@ -52,4 +60,4 @@ def main(path):
 
 
 if __name__ == '__main__':
-    sys.exit(main(sys.argv[1]))
+    sys.exit(main(sys.argv[1:]))

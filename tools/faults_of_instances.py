@@ -1,0 +1,321 @@
+"""What a message has where an instance is refused, and which part of the line breaks the rule, for each rule."""
+import re
+
+from expected import bounds_of, closest, may_come
+from page import LINE_END, WIDTH
+from place import XSI
+from rule_sentences import MARKUP
+
+NAMESPACE = 'urn:iso:std:iso:20022:tech:xsd:'
+LEAF_RULES = ('BadText', 'BadLength', 'PatternFails', 'NotACode', 'Digits', 'OutOfRange')
+TAG_RULES = ('UnknownElement', 'OutOfOrder', 'TooMany', 'SecondAlternative', 'TextInComplex')
+PASSED_OVER = (f'{XSI} schemaLocation', f'{XSI} noNamespaceSchemaLocation')
+NO_CHARACTER = re.compile('[^\t\n\r\x20-\ud7ff\ue000-\ufffd\U00010000-\U0010ffff]')
+XML = 'http://www.w3.org/XML/1998/namespace'
+XMLNS = 'http://www.w3.org/2000/xmlns/'
+CLASSES = ('universal ', 'application ', '', 'private ')
+
+
+# ---- the part that breaks the rule
+
+def named(place, name):
+    """The last attribute of a name in the tag."""
+    return next((it for it in reversed(place.attributes()) if it.name == name), None)
+
+
+def first_twice(place):
+    """The first attribute whose name came before."""
+    names = []
+    for it in place.attributes():
+        if it.name in names:
+            return it
+        names.append(it.name)
+    return None
+
+
+def first_unknown(place):
+    """The first attribute that no element has; of several that one type has alone, as Ccy, the others come first."""
+    expanded = place.expanded()
+    spelled = [it for it in place.attributes() if not it.is_declaration()]
+    names = expanded[2] if expanded and len(expanded[2]) == len(spelled) else [it.name for it in spelled]
+    unknown = [it for it, name in zip(spelled, names) if name not in PASSED_OVER]
+    return next((it for it in unknown if it.name != 'Ccy'), unknown[0] if unknown else None)
+
+
+def bad_declaration(place):
+    """The first declaration that binds what may not be bound so (Namespaces in XML 1.0, sections 3 and 5)."""
+    for it in place.attributes():
+        prefix = it.name.partition(':')[2]
+        if it.is_declaration() and (prefix == 'xmlns' or (prefix == 'xml') != (it.value == XML) or it.value == XMLNS or prefix and not it.value):
+            return it
+    return None
+
+
+def is_closer(place, at):
+    """Whether the place is at the end of `]]>`."""
+    return place.token == b'>' and place.data[:at].endswith(b']]')
+
+
+def bad_octet(place, at):
+    """Where behind a place the octets are no more UTF-8."""
+    try:
+        place.data[at:].decode()
+    except UnicodeDecodeError as error:
+        return at + error.start
+    return at
+
+
+def attribute_at_fault(fault, place):
+    if fault.path and fault.path.endswith('@Ccy') and fault.rule in LEAF_RULES:
+        return named(place, 'Ccy')
+    if fault.rule == 'UnknownAttribute':
+        return first_unknown(place)
+    by_rule = {'DuplicateAttribute': first_twice, 'BadPrefix': bad_declaration}
+    return by_rule[fault.rule](place) if fault.rule in by_rule else None
+
+
+def parts_of(fault, place):
+    """The octets from and to of each part that is marked beside the place."""
+    at = int(fault.where)
+    token = (at, at + len(place.token))
+    attribute = attribute_at_fault(fault, place)
+    if attribute:
+        is_below = LINE_END.search(place.token, 0, attribute.start)
+        return [token if is_below else (at + attribute.start, at + attribute.end)]
+    if fault.rule == 'BadUtf8':
+        return [(bad_octet(place, at), bad_octet(place, at) + 1)]
+    if is_closer(place, at):
+        return [(at - 2, at + 1)]
+    if fault.rule in LEAF_RULES and place.open:
+        return [(place.text_start(), at), token]
+    return [token]
+
+
+# ---- what was expected
+
+def open_entry(types, fault):
+    """The type of the element that is open at the fault."""
+    return types.at(fault.path) if fault.path and fault.path.count('/') > 1 else None
+
+
+def last_part(path):
+    return path.rpartition('/')[2]
+
+
+def foreign_tag(types, fault, place):
+    """The namespace of a tag that is known in that of the message."""
+    expanded = place.expanded() if fault.rule == 'UnknownElement' else None
+    if expanded is None or expanded[0] == NAMESPACE + types.message.identifier:
+        return []
+    return [f'<{place.tag_name()}> is in {"the namespace " + expanded[0] if expanded[0] else "no namespace"}, and not in {NAMESPACE}{types.message.identifier}']
+
+
+def meant_tag(entry, place):
+    tag = closest(place.tag_name().rpartition(':')[2], [it.tag for it in entry.elements])
+    return [f'did you mean <{tag}>?'] if tag and tag != place.tag_name().rpartition(':')[2] else []
+
+
+def tags_expected(types, fault, place):
+    entry = open_entry(types, fault)
+    if entry is None:
+        return [f'<{types.message.tag}> alone stands in Document', *foreign_tag(types, fault, place)]
+    if entry.kind == 'ExternalSchema':
+        return [types.described(entry)]
+    depth = fault.path.count('/')
+    came = place.open[depth - 1].children if len(place.open) >= depth else []
+    tags, may_end = may_come(entry, came)
+    told = [f'<{tag}>' for tag in tags] + ([f'the end of {last_part(fault.path)}'] if may_end else [])
+    lines = [f'{entry.name}; here may come {", ".join(told) or "nothing"}']
+    if fault.rule == 'UnknownElement':
+        return lines + (foreign_tag(types, fault, place) or meant_tag(entry, place))
+    return lines + order_expected(fault, entry, came, place.tag_name().rpartition(':')[2])
+
+
+def order_expected(fault, entry, came, tag):
+    """How often the tag may come, or before which of those that came it stands."""
+    slots = {it.tag: number for number, it in enumerate(entry.elements)}
+    if tag not in slots:
+        return []
+    if fault.rule == 'TooMany':
+        return [f'<{tag}> {text}' for text in bounds_of(entry.elements[slots[tag]])[-1:]]
+    if fault.rule == 'OutOfOrder':
+        later = next((it for it in came if slots.get(it, -1) > slots[tag]), None)
+        return [f'<{tag}> before <{later}>'] if later else []
+    return []
+
+
+def missing_expected(types, fault):
+    above, _, tag = fault.path.rpartition('/')
+    if tag == '*':
+        entry = types.at(above)
+        return [types.described(entry)] if entry else []
+    if fault.path.count('/') < 3:
+        return [f'<{tag}>']
+    entry = types.at(fault.path)
+    if tag == '@Ccy':
+        return [types.described(entry)]
+    told = [f'<{tag}> of {types.described(entry)}'] if entry else [f'<{tag}>']
+    element = next((it for it in types.at(above).elements if it.tag == tag and it.least > 1), None)
+    return told + [f'<{tag}> {text}' for text in bounds_of(element)[:1]] if element else told
+
+
+def root_expected(types, place):
+    told = [f'<Document xmlns="{NAMESPACE}{types.message.identifier}">']
+    if place.token:
+        told.append(f'the root is {place.token_text()[:WIDTH]}')
+    space = (place.expanded() or [''])[0]
+    other = space[len(NAMESPACE):] if space.startswith(NAMESPACE) else types.message.identifier
+    if other != types.message.identifier:
+        told.append(f'that is the message {other}, which the repository {"has too" if other in types.identifiers else "does not have"}')
+    return told
+
+
+def text_told(rule, text):
+    """What the text has that the rule counts."""
+    if rule == 'BadLength':
+        return [f'the text has {len(text)} character{"" if len(text) == 1 else "s"}']
+    number = re.fullmatch(r'[+-]?0*([0-9]*)(?:\.([0-9]*?)0*)?', text.strip(' \t\r\n'))
+    if rule == 'Digits' and number:
+        whole, fraction = number[1], number[2] or ''
+        return [f'the number has {len(whole + fraction) if whole else len(fraction.lstrip("0"))} digits, {len(fraction)} behind the point']
+    return []
+
+
+def here_stands(attribute):
+    return [f'here stands {attribute.name}="{attribute.value[:WIDTH]}"'] if attribute else []
+
+
+def leaf_expected(types, fault, place):
+    entry = types.at(fault.path)
+    if entry is None:
+        return []
+    attribute = attribute_at_fault(fault, place)
+    told = [types.described(entry), *here_stands(attribute)]
+    is_open = len(place.open) == fault.path.count('/')
+    if fault.rule == 'ElementInSimple' or not (attribute or is_open):
+        return told
+    text = attribute.value if attribute else place.text()
+    if entry.kind != 'Binary':
+        told += text_told(fault.rule, text)
+    code = closest(text, types.codes_of(entry)) if fault.rule == 'NotACode' else None
+    return told + [f'did you mean {code}?'] if code else told
+
+
+def attribute_expected(types, fault, place):
+    entry = open_entry(types, fault)
+    told = ['Ccy alone'] if entry is not None and entry.currency else ['no attribute']
+    return told + here_stands(first_unknown(place))
+
+
+# ---- faults of XML
+
+def utf8_expected(place, at):
+    if place.data[:2] in (b'\xfe\xff', b'\xff\xfe'):
+        return ['UTF-8; the file is in UTF-16']
+    octet = place.data[bad_octet(place, at):][:1]
+    character = octet.decode('cp1252', 'replace')
+    return ['UTF-8' + (f'; the octet {octet.hex()} is {character} in Windows-1252' if character.isprintable() else '')]
+
+
+def markup_told(place, at):
+    """What XML has where this is no markup."""
+    token = place.token
+    if re.match(rb'<\?xml\s', token):
+        if place.data[:at].removeprefix(b'\xef\xbb\xbf'):
+            return ['the declaration <?xml ..?> at the very start of the file, before anything else']
+        return ['<?xml version="1.0" encoding="UTF-8"?>, the one version and encoding that is read']
+    if token.startswith(b'<!--'):
+        return ['a comment in which no two hyphens stand together, and none at its end']
+    if is_closer(place, at):
+        return [']]&gt; for ]]> in a text']
+    if token.startswith(b'<?'):
+        return ['an instruction as <?name text?>, whose name is not xml']
+    if token.startswith(b'</'):
+        return ['an end tag as </Name>']
+    if not re.match(rb'<[A-Za-z_:\x80-\xff]', token):
+        return ['the sign < itself is &lt;'] if token.startswith(b'<') else []
+    if not token.endswith(b'>'):
+        return ['the > of this tag before the next <; the sign < itself is &lt;']
+    return ['attributes as name="value", each behind a space; in a value < is &lt;']
+
+
+def prefix_told(place):
+    bad, prefixes = bad_declaration(place), place.prefixes()
+    if bad or not prefixes:
+        return [f'no {bad.name}="{bad.value}"'] if bad else []
+    return ['another prefix than xmlns'] if 'xmlns' in prefixes else [f'a declaration of {", ".join(prefixes)}']
+
+
+def end_expected(fault, place):
+    """The end of the element that is open, and where it begins; of a token that is cut off its rest."""
+    cut = re.search(rb'<[^>]*\Z', place.data) if fault.rule == 'Truncated' else None
+    if not place.data:
+        return ['a document; the file is empty']
+    if cut:
+        return [f'the rest of {cut.group()[:WIDTH].decode(errors="replace")}']
+    if not place.open or fault.path == '/':
+        return []
+    return [f'</{place.open_name()}>, the end of what begins at {place.open[-1].line}:{place.open[-1].column}']
+
+
+def markup_expected(fault, place):
+    """What XML has there."""
+    at = int(fault.where)
+    if fault.rule == 'BadUtf8':
+        return utf8_expected(place, at)
+    if fault.rule == 'BadMarkup':
+        return markup_told(place, at)
+    if fault.rule == 'BadReference':
+        return ['&amp; &lt; &gt; &quot; &apos; or the number of a character, as &#233;; the sign & itself is &amp;']
+    if fault.rule == 'BadChar':
+        found = NO_CHARACTER.search(place.token_text())
+        return [f'no U+{ord(found.group()):04X}'] if found else []
+    if fault.rule == 'BadPrefix':
+        return prefix_told(place)
+    if fault.rule == 'DuplicateAttribute' and first_twice(place):
+        return [f'{first_twice(place).name} once']
+    if fault.rule == 'TextOutside' and at == 0 and place.data[:1] == b'0':
+        return ['XML; the file may be in DER, which `show --der` reads']
+    return end_expected(fault, place) if fault.rule in ('TagMismatch', 'Truncated') else []
+
+
+# ---- by the rule
+
+def expected(types, fault, place):
+    """Lines that say what the message has there."""
+    if fault.rule in MARKUP:
+        return markup_expected(fault, place)
+    if fault.rule == 'WrongRoot':
+        return root_expected(types, place)
+    if fault.rule == 'Missing':
+        return missing_expected(types, fault)
+    if fault.rule in TAG_RULES:
+        return tags_expected(types, fault, place)
+    if fault.rule == 'MissingAttribute':
+        return [f'Ccy="..", {types.described(types.at(fault.path))}']
+    if fault.rule == 'UnknownAttribute':
+        return attribute_expected(types, fault, place)
+    return leaf_expected(types, fault, place) if fault.rule in (*LEAF_RULES, 'ElementInSimple') else []
+
+
+def octets_expected(types, fault, octets):
+    """Lines that say what the message has at a place of DER, before these octets."""
+    if fault.where == '0' and octets.removeprefix(b'\xef\xbb\xbf').lstrip()[:1] == b'<':
+        return ['DER; the file may be in XML, which `show` without --der reads']
+    if fault.rule == 'Missing':
+        return missing_expected(types, fault)
+    if fault.rule == 'Truncated' and fault.where == '0':
+        return ['a document; the file is empty']
+    entry = types.at(fault.path)
+    if fault.rule == 'UnexpectedTag' and octets and octets[0] & 31 < 31:
+        return [*tags_of_octets(types, fault.path, entry), f'here stands [{CLASSES[octets[0] >> 6]}{octets[0] & 31}]']
+    return [types.described(entry)] if entry else []
+
+
+def tags_of_octets(types, path, entry):
+    """The tags of DER that a value has; of a list, whose path ends in no number, those of an item are not told."""
+    if path.count('/') < 2:
+        return [f'Document: [0] {types.message.tag}' if path != '/' else 'Document: [universal 16]']
+    if entry is None or not entry.elements or not path.endswith(']'):
+        return [types.described(entry)] if entry else []
+    return [f'{entry.name}: {", ".join(f"[{number}] {it.tag}" for number, it in enumerate(entry.elements))}']

@@ -1,0 +1,94 @@
+"""What a repository, its codes or a message should have where they are refused, and which part breaks the rule."""
+import re
+
+from faults_of_instances import markup_expected, parts_of
+from pattern_language import PatternFault, read_pattern
+from place import Place
+from repository_file import REPOSITORY
+from rule_sentences import MARKUP
+from schema_file import XS
+
+NAME = re.compile('[A-Za-z_][A-Za-z0-9_.-]{0,255}')
+NUMBERS = ('minOccurs', 'maxOccurs', 'minLength', 'maxLength', 'length', 'totalDigits', 'fractionDigits',
+           'minInclusive', 'maxInclusive', 'minExclusive', 'maxExclusive')
+NEEDED = ('xmi:id', 'xsi:type', 'name')
+
+
+# ---- the file
+
+def local(name):
+    return name.partition(':')[2] or name
+
+
+def no_number(attribute):
+    """Whether the attribute has to be a number and is none: of digits, or with a point and a sign where it is a bound."""
+    if attribute.name not in NUMBERS or attribute.name == 'maxOccurs' and attribute.value in ('', '-1', '*', 'unbounded'):
+        return False
+    form = r'[+-]?[0-9]*\.?[0-9]*' if attribute.name.endswith('clusive') else '[0-9]{1,10}'
+    return not re.fullmatch(form, attribute.value) or not re.search('[0-9]', attribute.value) or \
+        not attribute.name.endswith('clusive') and int(attribute.value) > 2 ** 32 - 1
+
+
+def attribute_of(rule, place):
+    """The attribute that breaks the rule; None: none by itself."""
+    wanted = {'L3': lambda it: local(it.name) == 'id', 'L4': no_number}.get(rule)
+    return next((it for it in place.attributes() if wanted(it)), None) if wanted else None
+
+
+def file_fault(data, fault):
+    """The parts that are marked, and what was expected."""
+    at = int(fault.where)
+    place = Place(data, at)
+    if fault.rule in MARKUP:
+        return parts_of(fault, place), markup_expected(fault, place)
+    if fault.rule == 'L2':
+        is_schema = (place.expanded() or [''])[0] == XS
+        return parts_of(fault, place), [f'Repository in {REPOSITORY}', *(['this is a schema, of which `import` makes a repository'] if is_schema else [])]
+    attribute = attribute_of(fault.rule, place)
+    if attribute:
+        is_id = fault.rule == 'L3'
+        return [(at + attribute.start, at + attribute.end)], ['another id' if is_id else 'a number', f'here stands {attribute.name}="{attribute.value}"']
+    missing = [name for name in NEEDED if local(name) not in [local(it.name) for it in place.attributes()]]
+    return parts_of(fault, place), [f'the attribute {name}' for name in missing] if fault.rule == 'L5' else []
+
+
+# ---- a message
+
+def element_fault(rule, element, entries, before):
+    """What an element should be, where it breaks the rule; None: it does not."""
+    if rule == 'M3' and element.reference is not None and element.reference not in entries:
+        return f'an entry with the id {element.reference}'
+    if rule == 'M5' and element.reference is None:
+        return 'one of simpleType, complexType and type'
+    if rule == 'M6' and not NAME.fullmatch(element.tag):
+        return f'an ASCII name in the place of `{element.tag}`'
+    if rule == 'M7' and element.tag in before:
+        return f'<{element.tag}> once'
+    if rule == 'M8' and element.most is not None and (element.most == 0 or element.least > element.most):
+        return f'a maximum of <{element.tag}> that is at least {max(1, element.least)}; here stands {element.most}'
+    if rule == 'M9' and element.least == 0:
+        return f'<{element.tag}> at least once'
+    return None
+
+
+def pattern_fault(text):
+    try:
+        read_pattern(text)
+    except PatternFault as fault:
+        return [f'a pattern; of `{text}`: {fault}']
+    return []
+
+
+def message_fault(rule, line, elements, entry, entries):
+    """The line of the element at fault, else that of its owner, and what was expected."""
+    tags = []
+    for element in elements:
+        told = element_fault(rule, element, entries, tags)
+        if told:
+            return element.line, [told]
+        tags.append(element.tag)
+    if rule == 'M13' and entry is not None and 'pattern' in entry.facets:
+        return line, pattern_fault(entry.facets['pattern'])
+    if rule == 'M3' and entry is not None and entry.currency is not None:
+        return line, [f'an entry with the id {entry.currency}']
+    return line, []

@@ -1,0 +1,116 @@
+"""What stands before a place of an instance in XML, and the token at it."""
+import re
+from typing import NamedTuple
+from xml.parsers import expat
+
+XSI = 'http://www.w3.org/2001/XMLSchema-instance'
+TOKEN = re.compile(rb'<!--.*?-->|<\?.*?\?>|<!\[CDATA\[.*?\]\]>|<(?:[^<>"\']|"[^"]*"|\'[^\']*\')*>?|&(?:#?\w+;)?|[\xc0-\xff][\x80-\xbf]{0,3}|.', re.S)
+ATTRIBUTE = re.compile(rb'([^\s=/<>"\']+)\s*=\s*("[^"]*"|\'[^\']*\')')
+NAME = re.compile(rb'</?([^\s/>]*)')
+
+
+class Open(NamedTuple):
+    """An element that is open: its tag, the octet, line and column where it begins, and the tags of the children that came."""
+    tag: str
+    octet: int
+    line: int
+    column: int
+    children: list
+
+
+class Attribute(NamedTuple):
+    """An attribute of a tag as it is spelled, with the octets of the tag from which and to which it stands."""
+    name: str
+    value: str
+    start: int
+    end: int
+
+    def is_declaration(self):
+        return self.name == 'xmlns' or self.name.startswith('xmlns:')
+
+
+class Place:
+    """The elements that are open before a place, the last text, and the token there; `data` goes on behind the place."""
+
+    def __init__(self, data, place):
+        self.data = data
+        self.open = []
+        self.bound = {'xml': 1}
+        self.pieces = []
+        found = TOKEN.match(data, place)
+        self.token = found.group() if found else b''
+        self.parser = expat.ParserCreate(namespace_separator=' ')
+        self.parser.buffer_text = True
+        self.parser.ordered_attributes = True
+        self.parser.StartElementHandler = self.start
+        self.parser.EndElementHandler = lambda _name: self.open.pop()
+        self.parser.CharacterDataHandler = self.pieces.append
+        self.parser.StartNamespaceDeclHandler = self.bind
+        self.parser.EndNamespaceDeclHandler = self.unbind
+        self.parse(data[:place])
+
+    def parse(self, data):
+        try:
+            self.parser.Parse(data, False)
+        except (expat.ExpatError, LookupError, ValueError):
+            pass
+
+    def bind(self, prefix, _space):
+        self.bound[prefix] = self.bound.get(prefix, 0) + 1
+
+    def unbind(self, prefix):
+        self.bound[prefix] -= 1
+
+    def start(self, name, _attributes):
+        tag = name.rpartition(' ')[2]
+        if self.open:
+            self.open[-1].children.append(tag)
+        at = self.parser.CurrentByteIndex, self.parser.CurrentLineNumber, self.parser.CurrentColumnNumber + 1
+        self.open.append(Open(tag, *at, []))
+        self.pieces.clear()
+
+    def text(self):
+        """The text behind the last start tag."""
+        return ''.join(self.pieces)
+
+    def open_name(self):
+        """The name of the innermost open element as it is spelled, with its prefix."""
+        found = NAME.match(self.data, self.open[-1].octet) if self.open else None
+        return found.group(1).decode(errors='replace') if found else ''
+
+    def text_start(self):
+        """The octet behind the start tag of the innermost open element."""
+        found = TOKEN.match(self.data, self.open[-1].octet) if self.open else None
+        return found.end() if found else 0
+
+    def expanded(self):
+        """The namespace and tag of the start tag at the place, and the names of its attributes; None of any other token. Nothing else is asked behind it."""
+        started = []
+        self.parser.StartElementHandler = lambda name, attributes: started.append((name, attributes[::2]))
+        self.parser.EndElementHandler = None
+        self.parse(self.token)
+        if not started:
+            return None
+        space, _, tag = started[0][0].rpartition(' ')
+        return space, tag, started[0][1]
+
+    def token_text(self):
+        return self.token.decode(errors='replace')
+
+    def tag_name(self):
+        """The name in the tag as it is spelled, with its prefix."""
+        found = NAME.match(self.token)
+        return found.group(1).decode(errors='replace') if found else ''
+
+    def attributes(self):
+        start = NAME.match(self.token)
+        found = ATTRIBUTE.finditer(self.token, start.end()) if start else []
+        return [Attribute(it[1].decode(errors='replace'), it[2][1:-1].decode(errors='replace'), it.start(), it.end()) for it in found]
+
+    def prefixes(self):
+        """The prefixes of the tag that no declaration binds."""
+        attributes = self.attributes()
+        declared = {it.name.partition(':')[2] for it in attributes if it.is_declaration()}
+        names = [self.tag_name(), *(it.name for it in attributes if not it.is_declaration())]
+        used = [name.partition(':')[0] for name in names if ':' in name]
+        return [prefix for prefix in dict.fromkeys(used) if prefix not in declared and not self.bound.get(prefix)]

@@ -1,0 +1,33 @@
+"""What is wrong with the words of a call, where the program says that they have no form, or that it could not read."""
+import re
+
+from program import READ, WORDS
+
+IDENTIFIER = re.compile('[a-z]{4}[.][A-Za-z0-9]{3}[.][0-9]{3}[.][0-9]{2}')
+
+
+def unreadable(path):
+    """Why a file cannot be read; None: it can."""
+    try:
+        with open(path, 'rb') as file:
+            file.read(1)
+    except OSError as error:
+        return error.strerror
+    except ValueError as error:
+        return str(error)
+    return None
+
+
+def read_faults(sources):
+    """A line for each of the files that cannot be read."""
+    why = ((source.name, unreadable(source.path)) for source in sources)
+    return [f'{name}: {text}' for name, text in why if text]
+
+
+def word_faults(answer, repository, codes, message, *files):
+    """Lines that say more than the program's of its words; none where its line says all."""
+    if answer.status == READ:
+        return read_faults([repository, *([] if codes.name == '-' else [codes]), *files])
+    if answer.status == WORDS and not IDENTIFIER.fullmatch(message):
+        return [f'`{message}` is no message identifier: these are as pacs.008.001.08']
+    return []
