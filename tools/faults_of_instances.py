@@ -1,8 +1,9 @@
 """What a message has where an instance is refused, and which part of the line breaks the rule, for each rule."""
 import re
 
-from expected import bounds_of, closest, may_come
+from expected import FORMS, bounds_of, closest, may_come
 from page import LINE_END, WIDTH
+from pattern_match import how_far
 from place import XSI
 from rule_sentences import MARKUP
 
@@ -181,6 +182,18 @@ def text_told(rule, text):
     return []
 
 
+def pattern_told(pattern, text):
+    """How far the text goes with the pattern."""
+    far = how_far(pattern, text)
+    if far is None:
+        return []
+    if far == len(text):
+        return ['the text fits as far as it goes, and more has to follow']
+    if far == 0:
+        return [f'no text that fits begins with `{text[0]}`']
+    return [f'the text fits up to its character {far}; then comes `{text[far]}`']
+
+
 def here_stands(attribute):
     return [f'here stands {attribute.name}="{attribute.value[:WIDTH]}"'] if attribute else []
 
@@ -197,6 +210,8 @@ def leaf_expected(types, fault, place):
     text = attribute.value if attribute else place.text()
     if entry.kind != 'Binary':
         told += text_told(fault.rule, text)
+    if fault.rule == 'PatternFails':
+        told += pattern_told(entry.facets['pattern'], text.strip(' \t\r\n') if entry.kind in FORMS else text)
     code = closest(text, types.codes_of(entry)) if fault.rule == 'NotACode' else None
     return told + [f'did you mean {code}?'] if code else told
 
