@@ -8,43 +8,45 @@ ghost use Rattle.der_model.specs.NestedPieces.{elements_around};
 ghost use Rattle.der_model.specs.ShownPieces.{begin_each, end_each, elements_ended};
 ghost use Rattle.der_model.specs.States as states;
 ghost use Rattle.der_codec.specs.KeptPieces.{GoOn, AreOpen};
-ghost use Rattle.der_codec.specs.Levels.{AreLevels, first_of};
+ghost use Rattle.der_codec.specs.Levels.{AreLevels, inwards};
 
+use crate::decoder::Decoder;
 use crate::elements::{begin_component, end_component};
-use crate::level::Level;
 use data_types::LeafRef;
 use inst_pool::Builder;
 use message_model::Model;
 use std::alloc::AllocError;
 
-/// The elements begin that begin with the last component of a value.
+/// The elements begin that begin with the last component of the innermost value.
+#[inline]
 pub(crate) fn begin(
     pieces: &mut Option<Builder>,
     model: &Model,
-    around: Option<Level>,
+    decoder: &Decoder,
 ) -> Result<(), AllocError>
-    ensures { (xs : List Level) (ls : List (states.Level ℕ)) → around ≡ first_of xs → AreLevels (types_of model.now) xs ls
+    ensures { (ls : List (states.Level ℕ)) → AreLevels (types_of model.now) (inwards decoder.now.levels.items) ls
         → OnOk result (GoOn pieces.old pieces.new (begin_each (elements_ended (der_message model.now) ls))) }
 {
     match pieces {
         None => Ok(()),
-        Some(builder) => begin_component(builder, model, around),
+        Some(builder) => begin_component(builder, model, decoder.innermost()),
     }
 }
 
-/// The elements end that end with the last component of a value.
+/// The elements end that end with the last component of the innermost value.
+#[inline]
 pub(crate) fn end(
     pieces: &mut Option<Builder>,
     model: &Model,
-    around: Option<Level>,
+    decoder: &Decoder,
 ) -> Result<(), AllocError>
-    requires { (xs : List Level) × (ls : List (states.Level ℕ)) × (around ≡ first_of xs) × AreLevels (types_of model.now) xs ls × AreOpen pieces.old (elements_around (der_message model.now) ls) }
-    ensures { (xs : List Level) (ls : List (states.Level ℕ)) → around ≡ first_of xs → AreLevels (types_of model.now) xs ls → AreOpen pieces.old (elements_around (der_message model.now) ls)
+    requires { (ls : List (states.Level ℕ)) × AreLevels (types_of model.now) (inwards decoder.now.levels.items) ls × AreOpen pieces.old (elements_around (der_message model.now) ls) }
+    ensures { (ls : List (states.Level ℕ)) → AreLevels (types_of model.now) (inwards decoder.now.levels.items) ls → AreOpen pieces.old (elements_around (der_message model.now) ls)
         → OnOk result (GoOn pieces.old pieces.new (end_each (elements_ended (der_message model.now) ls))) }
 {
     match pieces {
         None => Ok(()),
-        Some(builder) => end_component(builder, model, around),
+        Some(builder) => end_component(builder, model, decoder.innermost()),
     }
 }
 

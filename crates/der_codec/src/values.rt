@@ -55,7 +55,7 @@ impl DerChecker {
         ensures err { IfErr result (λ stop. stop ≡ Stop.Memory) }
     {
         match self.decoder.due {
-            Due::Length { .. } => match begin(&mut self.pieces, model, self.decoder.innermost()) {
+            Due::Length { .. } => match begin(&mut self.pieces, model, &self.decoder) {
                 Ok(()) => Ok(()),
                 Err(_) => Err(Stop::Memory),
             },
@@ -74,7 +74,7 @@ impl DerChecker {
             → OnOk result (GoOn self.old.pieces self.new.pieces (end_each (elements_ended (der_message model.now) (around_of r.state)))) }
         ensures err { IfErr result (λ stop. stop ≡ Stop.Memory) }
     {
-        match end(&mut self.pieces, model, self.decoder.innermost()) {
+        match end(&mut self.pieces, model, &self.decoder) {
             Ok(()) => Ok(()),
             Err(_) => Err(Stop::Memory),
         }

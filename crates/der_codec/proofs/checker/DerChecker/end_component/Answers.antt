@@ -8,4 +8,4 @@ pub returns-in-Ok-clause-shown : goal.returns-in-Ok-clause-shown
 returns-in-Ok-clause-shown c = λ bytes r around.
     let d = c.args.self.now.decoder in
     let xs = inwards d.levels.items in
-    c.in-Ok.ensures xs (around_of r.state) c.innermost.ensures (levels_open (der_message c.args.model.now) xs d.due r.state r.is_open) around
+    c.in-Ok.ensures (around_of r.state) (levels_open (der_message c.args.model.now) xs d.due r.state r.is_open) around
