@@ -1,5 +1,5 @@
 -- What a checker was given, and what it then tells.
-use Rattle.std.specs.Prelude.{Result, Ok, Err, IfErr}
+use Rattle.std.specs.Prelude.{Ok, Err}
 use Rattle.std.proofs.Common.{◌≡◌, ◌≢◌, ℕ, zero, suc, ◌+◌, ◌-◌, ◌≤◌, ◌<◌, ◌^◌, List, [], ◌∷◌, ◌++◌, length, take, drop, Option, refl, sym, ap, ◌∙◌, subst, arith, append-nil, append_assoc, length-append, ◌⊎◌, inl, inr}
 use Rattle.lexical_core.specs.declared.rule.Rule.{Rule}
 use Rattle.lexical_core.specs.declared.rule.Rule.TheVariants.{DerTruncated}
@@ -106,10 +106,6 @@ only_cut T checker bytes sound h f fault = by (over_or_not checker.decoder.due)
 pub stop_within : (T : Tables) (d : Decoder) (front behind bytes : List ℕ) (s : Stop) → bytes ≡ front ++ behind → IsStopped (der_message T) d front s → IsNoCut s → StopsWithin T d bytes s
 stop_within T d front behind bytes (stop.Fault rule place added) e f other = (front, behind, e, f, other)
 stop_within T d front behind bytes stop.Memory e f other = tt
-
-pub err_within : {A : Type 0} (T : Tables) (d : Decoder) (bytes : List ℕ) (r : Result A Stop) → IfErr r (λ s. IsStopped (der_message T) d bytes s) → IfErr r IsNoCut → IfErr r (λ s. StopsWithin T d bytes s)
-err_within T d bytes (Ok a) f other = tt
-err_within T d bytes (Err s) f other = stop_within T d bytes [] bytes s (sym (append-nil bytes)) f other
 
 -- more bytes
 pub within_more : (T : Tables) (d : Decoder) (bytes more all : List ℕ) (s : Stop) → all ≡ bytes ++ more → StopsWithin T d bytes s → StopsWithin T d all s

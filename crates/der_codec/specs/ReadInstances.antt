@@ -6,7 +6,7 @@ use Rattle.message_model.specs.Tables.{Tables, pieces_of}
 use Rattle.message_model.specs.declared.fault.InstanceError.{InstanceError}
 use Rattle.der_model.specs.DerMessage.{der_message}
 use Rattle.der_model.specs.Der.{SpellsDer}
-use Rattle.der_codec.specs.Checking.{HasFed, IsMadeFor, fed, failed, held, token_held}
+use Rattle.der_codec.specs.Checking.{HasFed, IsMadeFor, IsFreed, fed, failed, held, token_held}
 use Rattle.der_codec.specs.declared.reader.DerReader.{DerReader}
 
 -- The reader goes on: it was given these bytes, which break nothing so far, and keeps the pieces that they show.
@@ -28,6 +28,10 @@ reader_held reader = held reader.checker
 -- how many octets of a header have come, where more of them are due
 abbrev pub reader_token_held : DerReader → ℕ
 reader_token_held reader = token_held reader.checker
+
+-- no octets are held
+abbrev pub IsReaderFreed : DerReader → Type 0
+IsReaderFreed reader = IsFreed reader.checker
 
 -- the reader was made for the message of these tables
 abbrev pub IsReaderFor : DerReader → Tables → Type 0

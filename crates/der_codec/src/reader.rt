@@ -3,9 +3,9 @@ ghost use Rattle.std.specs.Prelude.{◌≡◌, ◌+◌, ◌≤◌, ◌^◌, ◌+
 ghost use Rattle.facets.specs.LeafChecks.{IsHeldWithin};
 ghost use Rattle.message_model.specs.Tables.{Tables};
 ghost use Rattle.der_model.specs.DerMessage.{der_message};
-ghost use Rattle.der_codec.specs.Checking.{Stops, EndsAs, IsAgain, IsFreed, open_count};
+ghost use Rattle.der_codec.specs.Checking.{Stops, EndsAs, IsAgain, open_count};
 ghost use Rattle.der_codec.specs.Limits.{open_limit, leaf_come, token_come};
-ghost use Rattle.der_codec.specs.ReadInstances.{HasKept, IsReaderFor, IsRead, read_so_far, refused, reader_held, reader_token_held};
+ghost use Rattle.der_codec.specs.ReadInstances.{HasKept, IsReaderFor, IsReaderFreed, IsRead, read_so_far, refused, reader_held, reader_token_held};
 
 use crate::checker::DerChecker;
 use inst_pool::Instance;
@@ -69,6 +69,7 @@ impl DerReader {
         ensures count { IfOk result (λ _. read_so_far self.new ≡ read_so_far self.old + length piece.now) }
         ensures failed { refused self.old ≡ None → IfErr result (λ e. refused self.new ≡ Some e) }
         ensures again { (e : InstanceError) → refused self.old ≡ Some e → IsAgain e result × (refused self.new ≡ refused self.old) }
+        ensures freed { IfErr result (λ _. IsReaderFreed self.new) }
     {
         self.checker.feed(model, piece)
     }
