@@ -4,7 +4,8 @@ use Rattle.std.proofs.lemmas.List.{append-nil}
 use Rattle.std.specs.List.{AllByRecursion}
 use Rattle.data_types.specs.declared.collapse.Place.{Place}
 use Rattle.data_types.specs.declared.collapse.Place.TheVariants.{Before, Within, Behind}
-use Rattle.data_types.specs.WhiteSpace.{IsSpace, IsWord, Part, IsLaterPart, AreParts, part_text, joined, words_of, IsCollapsed}
+use Rattle.data_types.specs.WhiteSpace.{IsWord, Part, IsLaterPart, AreParts, part_text, joined, words_of, IsCollapsed}
+use Rattle.lexical_core.specs.Characters.{IsSpace}
 use Rattle.data_types.specs.Collapsing.{HasWords, HasCollapsedAt}
 
 pub all_push : {X : Type 0} (P : X → Type 0) (xs : List X) (x : X) → AllByRecursion P xs → P x → AllByRecursion P (xs ++ x ∷ [])

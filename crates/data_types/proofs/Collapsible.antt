@@ -4,7 +4,8 @@ use Rattle.std.proofs.lemmas.Bool.{cases_eq}
 use Rattle.std.specs.List.{AllByRecursion}
 use Rattle.data_types.specs.declared.collapse.Place.{Place}
 use Rattle.data_types.specs.declared.collapse.Place.TheVariants.{Before, Within, Behind}
-use Rattle.data_types.specs.WhiteSpace.{IsSpace, Part, part_text, joined, words_of, IsCollapsed}
+use Rattle.data_types.specs.WhiteSpace.{Part, part_text, joined, words_of, IsCollapsed}
+use Rattle.lexical_core.specs.Characters.{IsSpace}
 use Rattle.data_types.specs.Collapsing.{HasCollapsedAt}
 use Rattle.data_types.proofs.CollapseLemmas.{space_within, space_behind, char_before, char_within, char_behind, all_push, is_collapsed}
 

@@ -8,7 +8,7 @@ use Rattle.std.specs.Prelude.{encode_utf8, encode_utf8_all}
 use Rattle.std.specs.List.{AllByRecursion}
 use Rattle.base64.specs.Engines.{standard}
 use Rattle.base64.specs.GeneralPurpose.{IsBytes, encode_of}
-use Rattle.lexical_core.specs.Characters.{IsXmlChar}
+use Rattle.lexical_core.specs.Characters.{IsXmlChar, IsSpace}
 use Rattle.lexical_core.specs.Decimals.{Number as DecimalNumber, IsDecimal, IsDecimalText, SpellsDecimal}
 use Rattle.lexical_core.specs.declared.rule.Rule.{Rule}
 use Rattle.lexical_core.specs.declared.rule.Rule.TheVariants.{BadText, BadLength}
@@ -20,7 +20,7 @@ use Rattle.data_types.specs.declared.collapse.Collapsed.TheVariants.{Nothing, Ch
 use Rattle.data_types.specs.declared.collapsed_step.Value.{Value}
 use Rattle.data_types.specs.declared.collapsed_step.Value.TheVariants.{Octets}
 use Rattle.data_types.specs.declared.octets.OctetStep.{OctetStep}
-use Rattle.data_types.specs.WhiteSpace.{IsSpace, IsCollapsed}
+use Rattle.data_types.specs.WhiteSpace.{IsCollapsed}
 use Rattle.data_types.specs.Binaries.{IsBinaryText, without_spaces}
 use Rattle.data_types.specs.Collapsing.{gained, gap_text}
 use Rattle.data_types.specs.Limits.{IsWithin}

@@ -6,7 +6,8 @@ use Rattle.data_types.specs.declared.collapse.Collapsed.TheVariants.{Nothing, Ch
 use Rattle.data_types.specs.declared.collapse.Place.{Place}
 use Rattle.data_types.specs.declared.collapse.Place.TheVariants.{Before, Within, Behind}
 use Rattle.data_types.specs.declared.collapse.Collapse.{Collapse}
-use Rattle.data_types.specs.WhiteSpace.{IsSpace, IsWord, Part, AreParts, part_text, joined, words_of}
+use Rattle.data_types.specs.WhiteSpace.{IsWord, Part, AreParts, part_text, joined, words_of}
+use Rattle.lexical_core.specs.Characters.{IsSpace}
 
 -- the characters that the collapsed text gains at this character
 abbrev pub gained : Collapsed → ℕ → List ℕ

@@ -1,10 +1,7 @@
 -- White space collapsed: XML Schema part 2 §4.3.6.
 use Rattle.std.specs.Prelude.{◌≡◌, ℕ, ◌<◌, ◌⊎◌, List, [], ◌∷◌, ◌++◌, length, map, flat_map}
 use Rattle.std.specs.List.{AllByRecursion}
-
--- space, tab, LF or CR: XML 1.0 §2.3, S
-abbrev pub IsSpace : ℕ → Type 0
-IsSpace c = (c ≡ 32) ⊎ (c ≡ 9) ⊎ (c ≡ 10) ⊎ (c ≡ 13)
+use Rattle.lexical_core.specs.Characters.{IsSpace}
 
 -- some characters, none of them white space
 pub record IsWord (word : List ℕ) : Type 0 where

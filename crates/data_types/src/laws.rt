@@ -2,9 +2,9 @@
 ghost use Rattle.std.specs.Prelude.{◌≡◌, ◌≢◌, ◌↔◌, Bool, List, ℕ, length};
 ghost use Rattle.std.specs.List.{AllByRecursion};
 ghost use Rattle.base64.specs.GeneralPurpose.{IsBytes};
-ghost use Rattle.lexical_core.specs.Characters.{IsXmlText};
+ghost use Rattle.lexical_core.specs.Characters.{IsXmlText, IsSpace};
 ghost use Rattle.lexical_core.specs.Decimals.{Number as DecimalNumber, IsDecimal};
-ghost use Rattle.data_types.specs.WhiteSpace.{IsSpace, IsCollapsed};
+ghost use Rattle.data_types.specs.WhiteSpace.{IsCollapsed};
 ghost use Rattle.data_types.specs.Dates.{IsDateText};
 ghost use Rattle.data_types.specs.Leaf.{Leaf, Bytes, Number, Flag, IsLeaf, IsLeafOf};
 ghost use Rattle.data_types.specs.Canonical.{IsCanonicalLeaf};

@@ -17,7 +17,6 @@ pub mod NoCuts
 pub mod PathsOpen
 pub mod ContentsSteps
 pub mod Fed
-pub mod CompiledFinite
 pub mod TextLengths
 pub mod ToldAtParts
 pub mod CutTexts

@@ -19,7 +19,7 @@ use Rattle.der_model.specs.Sound.{IsSound, TellsApart}
 use Rattle.der_model.specs.States as states
 use Rattle.der_model.specs.States.{Part, Identifier, Length, End, State, Start, AwaitsLength, AwaitsContents, Within, Stands}
 use Rattle.der_codec.specs.ReadyLaws.{IsOnValues, IsToldAtPart, ReadyTellsAtOnce, ReadyFedIsOpen, ReadyFaultIsAtPart}
-use Rattle.der_codec.proofs.CompiledFinite.{tables_finite}
+use Rattle.message_model.proofs.CompiledFinite.{tables_finite}
 
 -- ---- the rules that are not on values
 

@@ -84,15 +84,6 @@ open_count (AwaitsLength constructed spot names around) = suc (length around)
 open_count (AwaitsContents spot names count around) = suc (length around)
 open_count (Within levels) = length levels
 
--- the error itself, or that there is no memory for it
-abbrev pub IsSameOrMemory : InstanceError → InstanceError → Type 0
-IsSameOrMemory e told = (told ≡ e) ⊎ (told ≡ Memory)
-
--- the answer is the error again, or that there is no memory for it
-abbrev pub IsAgain : {A : Type 0} → InstanceError → Result A InstanceError → Type 0
-IsAgain e (Ok x) = ⊥
-IsAgain e (Err told) = IsSameOrMemory e told
-
 -- a fault that is told, as one of the definitions
 abbrev pub fault_of : Told → Fault
 fault_of f = record { rule = f.rule; place = f.place; path = f.path }

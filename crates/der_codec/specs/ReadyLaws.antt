@@ -5,6 +5,7 @@ use Rattle.lexical_core.specs.declared.rule.Rule.{Rule}
 use Rattle.repo_objects.specs.Repository.{Contents}
 use Rattle.message_model.specs.Compiled.{Compiles, IsReachedList}
 use Rattle.message_model.specs.Ready.{IsReady}
+use Rattle.message_model.specs.OfReady.{OfReady}
 use Rattle.message_model.specs.Tables.{Tables}
 use Rattle.der_model.specs.DerMessage.{DerMessage, der_message}
 use Rattle.der_model.specs.States.{Part, part_octets, State, Start, Stands}
@@ -13,10 +14,6 @@ use Rattle.der_model.specs.OpenParts.{Open, without_lengths}
 use Rattle.der_model.specs.OpenLaws.{PartIsOpen}
 use Rattle.der_codec.specs.Checking.{HasFed}
 use Rattle.der_codec.specs.declared.checker.DerChecker.{DerChecker}
-
--- what is said of the tables of each message that breaks no rule of its repository
-abbrev pub OfReady : (Tables → Type 0) → Type 0
-OfReady Says = (R : Contents) (m : List ℕ) (ids : List (List ℕ)) (T : Tables) → IsReady R m → IsReachedList R m ids → Compiles R m ids T → Says T
 
 -- Behind parts that break no rule, one more that stands there, and is no length that is too long, breaks no rule exactly where the parts with it,
 -- lengths left aside, go on to those of an instance.

@@ -10,7 +10,8 @@ ghost use Rattle.der_codec.specs.Judging.{IsVerdictFor};
 ghost use Rattle.der_codec.specs.KeptOctets.{IsKeptAt};
 ghost use Rattle.der_codec.specs.Limits.{open_limit, leaf_come, token_come};
 ghost use Rattle.facets.specs.LeafChecks.{IsHeldWithin};
-ghost use Rattle.der_codec.specs.Checking.{HasFed, IsReading, KeepsRead, IsMadeFor, StopsWithin, TakesFront, Stops, IsSpelled, EndsAs, IsSameOrMemory, IsAgain, IsFreed, open_count, fed, failed, held, token_held};
+ghost use Rattle.der_codec.specs.Checking.{HasFed, IsReading, KeepsRead, IsMadeFor, StopsWithin, TakesFront, Stops, IsSpelled, EndsAs, IsFreed, open_count, fed, failed, held, token_held};
+ghost use Rattle.message_model.specs.Errors.{IsSameOrMemory, IsAgain};
 
 use crate::checks::{Checks, Refusal};
 use crate::contents::tell;
@@ -35,20 +36,6 @@ pub struct DerChecker {
     pub(crate) pieces: Option<Builder>,
     /// The answer that it gives for good, where there is one.
     failed: Option<InstanceError>,
-}
-
-/// An equal error, in memory of its own.
-fn copy_of(alloc: Global, error: &InstanceError) -> Result<InstanceError, AllocError>
-    ensures { IfOk result (λ e. e ≡ error.now) }
-{
-    match error {
-        InstanceError::Refused(fault) => Ok(InstanceError::Refused(Fault {
-            rule: fault.rule,
-            place: fault.place,
-            path: fault.path.copy(alloc)?,
-        })),
-        InstanceError::Memory => Ok(InstanceError::Memory),
-    }
 }
 
 /// The lesser of two counts.
@@ -145,7 +132,7 @@ impl DerChecker {
         ensures freed { IfErr result (λ _. IsFreed self.new) }
     {
         if let Some(error) = &self.failed {
-            return Err(match copy_of(self.alloc, error) {
+            return Err(match error.copy(self.alloc) {
                 Ok(error) => error,
                 Err(_) => InstanceError::Memory,
             });
@@ -167,7 +154,7 @@ impl DerChecker {
         ensures freed { IsFreed self.new }
     {
         self.free();
-        match copy_of(self.alloc, &error) {
+        match error.copy(self.alloc) {
             Ok(copy) => {
                 self.failed = Some(copy);
                 error

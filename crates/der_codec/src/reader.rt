@@ -3,7 +3,8 @@ ghost use Rattle.std.specs.Prelude.{◌≡◌, ◌+◌, ◌≤◌, ◌^◌, ◌+
 ghost use Rattle.facets.specs.LeafChecks.{IsHeldWithin};
 ghost use Rattle.message_model.specs.Tables.{Tables};
 ghost use Rattle.der_model.specs.DerMessage.{der_message};
-ghost use Rattle.der_codec.specs.Checking.{Stops, EndsAs, IsAgain, open_count};
+ghost use Rattle.der_codec.specs.Checking.{Stops, EndsAs, open_count};
+ghost use Rattle.message_model.specs.Errors.{IsAgain};
 ghost use Rattle.der_codec.specs.Limits.{open_limit, leaf_come, token_come};
 ghost use Rattle.der_codec.specs.ReadInstances.{HasKept, IsReaderFor, IsReaderFreed, IsRead, read_so_far, refused, reader_held, reader_token_held};
 

@@ -6,7 +6,6 @@ pub mod Pairs
 pub mod HeadLemmas
 pub mod CodeOctets
 pub mod EmptySlots
-pub mod PushedFronts
 pub mod Whole
 pub mod StageBounds
 pub mod KnownStages

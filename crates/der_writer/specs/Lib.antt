@@ -3,4 +3,3 @@ pub mod PieceOctets
 pub mod Passes
 pub mod Heads
 pub mod Measuring
-pub mod Gathering

@@ -19,7 +19,6 @@
 //! where it is empty, so that an element with many slots and few children takes a step for each slot.
 #![tactic(auto)]
 
-mod buffer;
 mod contents;
 mod head;
 mod heads;

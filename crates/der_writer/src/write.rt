@@ -8,12 +8,11 @@ ghost use Rattle.message_model.specs.Tables.{types_of, pieces_of};
 ghost use Rattle.der_model.specs.DerMessage.{der_message};
 ghost use Rattle.der_model.specs.Der.{der_of};
 ghost use Rattle.inst_pool.specs.Pieces.{edge_of, piece_of};
-ghost use Rattle.der_writer.specs.Gathering.{Gathers};
+ghost use Rattle.outside.specs.Gathering.{Gathers};
 ghost use Rattle.der_writer.specs.Measured.{IsMeasured};
 ghost use Rattle.der_writer.specs.PieceOctets.{Begun, document_edge, octets_before, piece_octets, pieces_octets, slots_behind};
 ghost use Rattle.der_writer.specs.Heads.{before_view};
 
-use crate::buffer::Buffer;
 use crate::contents::push_leaf;
 use crate::head::Head;
 use crate::heads::push_head;
@@ -22,7 +21,7 @@ use crate::slots::{behind_size, push_behind, push_slots};
 use data_types::LeafRef;
 use inst_pool::{Edge, Instance, Piece};
 use message_model::Model;
-use outside::{Sink, SinkError, WriteError};
+use outside::{Buffer, Sink, SinkError, WriteError};
 
 /// `Document`, which no piece begins or ends.
 const DOCUMENT: Edge = Edge {

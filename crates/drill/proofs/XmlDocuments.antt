@@ -2,7 +2,8 @@
 use Rattle.std.proofs.Common.{◌≡◌, ◌≢◌, inl, ℕ, ◌+◌, ◌≤◌, List, [], ◌∷◌, ◌++◌, Some, None, codes, length, flat_map, refl, sym, ap, ap₂, subst, ◌∙◌, arith, rules, length-append, append-nil}
 use Rattle.lexical_core.specs.Characters.{IsXmlText}
 use Rattle.lexical_core.specs.Tree.{Expanded, Nodes, Nothing, Element, Tree, flat}
-use Rattle.fragments.specs.Plain.{IsPart, ArePlain, IsPlain, xml_namespace, xmlns_namespace}
+use Rattle.fragments.specs.Plain.{IsPart, ArePlain, IsPlain}
+use Rattle.lexical_core.specs.Names.{xml_namespace, xmlns_namespace}
 use Rattle.fragments.specs.Fragment.{value_byte, start_text, end_text, nodes_text, fragment}
 use Rattle.markup.specs.Attribute.{Attribute, Piece, Literal}
 use Rattle.markup.specs.Chars.{is_xml_char, is_space, is_name_start, is_name_char}

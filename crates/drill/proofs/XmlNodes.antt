@@ -13,7 +13,8 @@ use Rattle.data_types.specs.Value.{Value, Children, Child}
 use Rattle.data_types.specs.Value as value
 use Rattle.data_types.proofs.EscapeLemmas.{escaped_chars}
 use Rattle.facets.specs.declared.simple.Simple.{Simple}
-use Rattle.fragments.specs.Plain.{IsPart, IsPlainName, ArePlain, xml_namespace, xmlns_namespace}
+use Rattle.fragments.specs.Plain.{IsPart, IsPlainName, ArePlain}
+use Rattle.lexical_core.specs.Names.{xml_namespace, xmlns_namespace}
 use Rattle.fragments.specs.Fragment.{default_within, start_text, end_text, nodes_text}
 use Rattle.reference_check.specs.Forms.{Graph, Form, Slot, form_slots}
 use Rattle.reference_check.specs.Forms as form

@@ -10,8 +10,8 @@ ghost use Rattle.xml_writer.specs.CanonXml.{IsCanonXml};
 ghost use Rattle.drill.specs.Forms.{AreForms};
 
 use crate::known_sink::KnownSink;
-use crate::lent_source::LentSource;
 use message_model::Model;
+use outside::LentSource;
 use std::alloc::{AllocError, Global};
 use transcoder::{TransError, der_to_xml, xml_to_der};
 

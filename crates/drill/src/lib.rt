@@ -19,7 +19,6 @@ mod drilling;
 mod growing;
 mod known_sink;
 pub mod laws;
-mod lent_source;
 mod name;
 mod stem;
 mod writing;

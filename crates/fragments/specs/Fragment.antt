@@ -5,7 +5,7 @@ use Rattle.std.specs.Str.{bytes_eq}
 use Rattle.std.specs.Int.Digits.{digits_of}
 use Rattle.lexical_core.specs.Escapes.{escaped}
 use Rattle.lexical_core.specs.Tree.{Expanded, Entry, Nodes, Nothing, Element, Text, Tree}
-use Rattle.fragments.specs.Plain.{xml_namespace, xmlns}
+use Rattle.lexical_core.specs.Names.{xml_namespace, xmlns}
 
 -- a name as it is written; the prefix is empty where there is none
 pub record Spelling : Type 0 where

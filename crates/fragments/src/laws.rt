@@ -1,7 +1,7 @@
 // Laws on fragments: each is the contract of a function that does nothing.
 ghost use Rattle.std.specs.Prelude.{◌≡◌, [], ◌∷◌, codes};
 ghost use Rattle.lexical_core.specs.Tree.{Element, Nothing};
-ghost use Rattle.fragments.specs.Plain.{xml_namespace};
+ghost use Rattle.lexical_core.specs.Names.{xml_namespace};
 ghost use Rattle.fragments.specs.Fragment.{fragment};
 
 /// Trees with their fragments: an element in no namespace, attributes in namespaces, an element of the namespace of `xml`.

@@ -11,10 +11,6 @@ use Rattle.lexical_core.specs.Utf8.{IsFront, IsNoFront}
 abbrev pub Spells : ℕ → List ℕ → Type 0
 Spells x bytes = IsScalar x × (encode_utf8 x ≡ bytes)
 
-pub spells_1 : (x : ℕ) → x < 0x80 → Spells x (x ∷ [])
-unfolding encode_utf8
-spells_1 x low = (grind (arith, nat_tests), rw (lt-ltb x 128 low))
-
 pub spells_2 : (a b x : ℕ) → x ≡ (a - 0xC0) * 0x40 + (b - 0x80) → 0xC2 ≤ a → a ≤ 0xDF → IsTail b → Spells x (a ∷ b ∷ [])
 unfolding encode_utf8
 spells_2 a b x e low high tail =

@@ -14,3 +14,4 @@ pub mod DecimalLaws
 pub mod RealLaws
 pub mod StableSort
 pub mod LaneRuns
+pub mod SameTrees

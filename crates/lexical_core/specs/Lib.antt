@@ -12,3 +12,4 @@ pub mod CanonicalDecimals
 pub mod Exponents
 pub mod Escapes
 pub mod Tree
+pub mod Names

@@ -225,10 +225,6 @@ record NumberEnd (radix n : ℕ) : Type 0 where
   are : list_all (λ d. is_digit d radix) digits ≡ true
   xml : is_xml_char (number radix n digits) ≡ true
 
-zero_xml : is_xml_char (0 * 10 + 33) ≡ true
-unfolding is_xml_char
-zero_xml = refl
-
 decimal_thirty : (n : ℕ) → 1 ≤ n → n ≤ 0x10_FFFF → is_xml_char n ≡ false → is_xml_char (n * 10 + 0) ≡ false → is_xml_char ((n * 10 + 0) * 10 + 0) ≡ true
 unfolding is_xml_char
 decimal_thirty n a b h k = grind (arith, nat_tests)

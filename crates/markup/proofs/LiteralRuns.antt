@@ -123,10 +123,6 @@ literals_allowed [] h = tt
 literals_allowed (c ∷ cs) h = ((classes.xml c).0 (literal_allowed c h.0), literals_allowed cs h.1)
 
 -- the bytes of a character are white space where it is
-space_ascii : (c : ℕ) → is_space c ≡ true → c < 128
-unfolding is_space
-space_ascii c h = grind (arith, nat_tests)
-
 no_space_above : (x : ℕ) → 128 ≤ x → is_space x ≡ false
 unfolding is_space
 no_space_above x h = grind (arith, nat_tests)

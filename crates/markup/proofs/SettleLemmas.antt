@@ -44,10 +44,6 @@ shows_by byte (c ∷ more) h = not_from_false _ (and_left _ _ h)
 shows_second : (byte : ℕ) (more : List ℕ) → (byte == 62) ≡ false → shows_no_closer (93 ∷ byte ∷ more) ≡ true
 shows_second byte more h = not_from_false _ h
 
-one_return : encode_utf8_all (13 ∷ []) ≡ 13 ∷ []
-unfolding encode_utf8
-one_return = refl
-
 brackets_are : (encode_utf8_all (93 ∷ []) ≡ 93 ∷ []) × (encode_utf8_all (93 ∷ 93 ∷ []) ≡ 93 ∷ 93 ∷ [])
 unfolding encode_utf8
 brackets_are = (refl, refl)

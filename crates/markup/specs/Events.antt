@@ -14,6 +14,7 @@ use Rattle.markup.specs.Reference.{referred}
 use Rattle.markup.specs.Attribute.{Attribute, value_chars}
 use Rattle.markup.specs.Token.{Token, Start, End, Refer, LineEnd, Character, StartTag, token_bytes}
 use Rattle.lexical_core.specs.Tree.{Expanded, Entry, Item, Starts, Char, Ends, Skipped}
+use Rattle.lexical_core.specs.Names.{xml_namespace, xmlns, name_cmp}
 
 -- the name's parts in bytes
 abbrev pub spelled : Name → Spelled
@@ -34,18 +35,6 @@ open_tags [] = []
 open_tags (Start tag ∷ before) = if tag.is_empty then open_tags before else opening tag ∷ open_tags before
 open_tags (End name gap ∷ before) = drop 1 (open_tags before)
 open_tags (_ ∷ before) = open_tags before
-
--- the name and prefix of declarations (Namespaces §3)
-abbrev pub xmlns : List ℕ
-xmlns = codes "xmlns"
-
--- the namespace that the prefix `xml` is bound to (Namespaces §3)
-abbrev pub xml_namespace : List ℕ
-xml_namespace = codes "http://www.w3.org/XML/1998/namespace"
-
--- the namespace that the prefix `xmlns` stands for (Namespaces §3)
-abbrev pub xmlns_namespace : List ℕ
-xmlns_namespace = codes "http://www.w3.org/2000/xmlns/"
 
 -- the prefix that an attribute of this name declares, the empty one for the default (Namespaces §3, PrefixedAttName, DefaultAttName)
 abbrev pub declared_prefix : Spelled → Option (List ℕ)
@@ -78,10 +67,6 @@ element_name tags n = expanded (namespace_of tags n.prefix) n.local
 -- of an attribute: a default namespace does not apply to it (Namespaces §6.2)
 abbrev pub attribute_name : List Opening → Spelled → Option Expanded
 attribute_name tags n = expanded (if bytes_eq n.prefix [] then Some [] else namespace_of tags n.prefix) n.local
-
--- expanded names in order: by namespace and then by local name, both by bytes
-abbrev pub name_cmp : Expanded → Expanded → Ordering
-name_cmp a b = ordering_then (slice_cmp nat_cmp a.namespace b.namespace) (slice_cmp nat_cmp a.local b.local)
 
 -- the attribute put at its place in that order
 abbrev pub put : Entry → List Entry → List Entry

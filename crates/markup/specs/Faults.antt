@@ -11,7 +11,8 @@ use Rattle.markup.specs.declared.tag.Opening.{Opening}
 use Rattle.markup.specs.Chars.{is_xml_char, is_space}
 use Rattle.markup.specs.Token.{Token, Mark, Declaration, Comment, Instruction, Opener, Closer, TypeDeclaration, Start, End, Refer, LineEnd, Character, token_text, token_bytes}
 use Rattle.markup.specs.Marks.{in_cdata, stands, Cell, Front, is_short, tag_limit}
-use Rattle.markup.specs.Events.{spelled, opening, open_tags, xmlns, xml_namespace, xmlns_namespace, declared_prefix, same_prefix, element_name, attribute_name}
+use Rattle.markup.specs.Events.{spelled, opening, open_tags, declared_prefix, same_prefix, element_name, attribute_name}
+use Rattle.lexical_core.specs.Names.{xmlns, xml_namespace, xmlns_namespace}
 use Rattle.lexical_core.specs.Tree.{Expanded}
 use Rattle.lexical_core.specs.Utf8.{IsFront, IsNoFront}
 

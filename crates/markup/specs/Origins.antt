@@ -4,7 +4,7 @@ use Rattle.markup.specs.declared.bindings.Binding.{Binding}
 use Rattle.markup.specs.declared.bindings.Bindings.{Bindings}
 use Rattle.markup.specs.declared.origin.Origin.{Origin}
 use Rattle.markup.specs.declared.origin.Origin.TheVariants.{Nothing, Xml, Declared}
-use Rattle.markup.specs.Events.{xml_namespace}
+use Rattle.lexical_core.specs.Names.{xml_namespace}
 
 -- what stands for a declaration where there is none
 abbrev pub no_binding : Binding

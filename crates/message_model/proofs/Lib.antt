@@ -14,6 +14,7 @@ pub mod SoundFacets
 pub mod SoundTypes
 pub mod SortedCodes
 pub mod SoundTables
+pub mod CompiledFinite
 pub mod Refused
 pub mod TypeLists
 pub mod SlotLists

@@ -1,6 +1,7 @@
 -- When the facets of an object are out of bounds (XML Schema part 2 §4.3).
 use Rattle.std.specs.Prelude.{◌≡◌, ℕ, ◌<◌, ◌^◌, ◌*ℤ◌, ◌<ℤ◌, pos, ◌⊎◌, Bool, true, false, IsTrue, [], Option, Some, None}
 use Rattle.lexical_core.specs.Decimals.{Number}
+use Rattle.facets.specs.Facets.{IsLess}
 use Rattle.repo_objects.specs.declared.objects.Object.{Object}
 use Rattle.repo_objects.specs.declared.objects.RawFacets.{RawFacets}
 use Rattle.reference_check.specs.Rules.{set_codes}
@@ -27,9 +28,6 @@ HasBadDigits f = (total_of f.total ≡ 0) ⊎ (18 < total_of f.total) ⊎ IsAbov
 abbrev pub AreBoth : Option Number → Option Number → Type 0
 AreBoth (Some m) (Some n) = Unit {0}
 AreBoth _ _ = ⊥
-
-abbrev pub IsLess : Number → Number → Type 0
-IsLess m n = (m.whole *ℤ pos (10 ^ n.scale)) <ℤ (n.whole *ℤ pos (10 ^ m.scale))
 
 -- no number is between two bounds that are given: the upper is below the lower, or equal to it where one of them is strict
 abbrev pub HoldNothing : Bool → Option Number → Option Number → Type 0

@@ -10,7 +10,9 @@ pub mod FacetRules
 pub mod SimpleTypes
 pub mod Ready
 pub mod Compiled
+pub mod OfReady
 pub mod Numbers
 pub mod FirstPlaces
 pub mod Sorted
+pub mod Errors
 pub mod Laws

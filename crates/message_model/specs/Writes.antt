@@ -4,8 +4,9 @@ use Rattle.std.specs.Prelude.{◌≡◌, ℕ, Bool, ◌&&◌, List, [], ◌∷�
 use Rattle.std.specs.List.{AllByRecursion}
 use Rattle.std.specs.Str.{bytes_eq, chars}
 use Rattle.lexical_core.specs.Tree.{Expanded, Entry, Nodes, Element, Text, Tree}
+use Rattle.lexical_core.specs.Names.{same_name}
 use Rattle.lexical_core.specs.Tree as tree
-use Rattle.data_types.specs.WhiteSpace.{IsSpace}
+use Rattle.lexical_core.specs.Characters.{IsSpace}
 use Rattle.data_types.specs.Leaf as leaf
 use Rattle.data_types.specs.Leaf.{Leaf}
 use Rattle.data_types.specs.Value.{Value, Children, Nothing, Child}
@@ -30,9 +31,6 @@ IsHint a = (a.name ≡ named schema_instance (codes "schemaLocation")) ⊎ (a.na
 -- the name of the attribute with the currency of an amount
 abbrev pub currency : Expanded
 currency = named [] (codes "Ccy")
-
-abbrev pub same_name : Expanded → Expanded → Bool
-same_name a b = bytes_eq a.namespace b.namespace && bytes_eq a.local b.local
 
 -- the value of the attribute of this name
 abbrev pub value_of : Expanded → List Entry → Option (List ℕ)

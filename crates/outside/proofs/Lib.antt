@@ -1,4 +1,5 @@
 pub mod Pushing
+pub mod PushedFronts
 pub mod Serving
 pub mod Writing
 pub mod Rendering

@@ -3,6 +3,7 @@ pub mod Source
 pub mod Reading
 pub mod Sink
 pub mod Pushes
+pub mod Gathering
 pub mod Parts
 pub mod Memory
 pub mod Steady

@@ -1,5 +1,5 @@
 -- A push as one fact: what a sink holds behind it, which of its errors may come, and how far its room falls.
-use Rattle.std.specs.Prelude.{◌≡◌, ℕ, List, Option, Result, Ok, Err}
+use Rattle.std.specs.Prelude.{ℕ, List, Option, Result, Ok, Err}
 use Rattle.outside.specs.Sink.{PushAppends, HasSinkCause, HasRoom}
 use Rattle.outside.specs.declared.errors.SinkError.{SinkError}
 use Rattle.outside.specs.declared.errors.SinkError.TheVariants as sink

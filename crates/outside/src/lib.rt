@@ -4,8 +4,10 @@
 //! has left and what a sink holds are known to contracts where the source or sink tells them.
 #![tactic(auto)]
 
+mod buffer;
 mod edge;
 mod errors;
+mod lent;
 mod memory;
 mod reading;
 mod render;
@@ -14,8 +16,10 @@ mod sink;
 mod source;
 mod steady;
 
+pub use buffer::Buffer;
 pub use edge::{ReadSource, WriteSink};
 pub use errors::{Failed, SinkError, WriteError};
+pub use lent::LentSource;
 pub use memory::{MemSink, MemSource};
 pub use reading::{ReadError, read_all};
 pub use render::{Part, Render, push_bytes, push_number, render_all, write_to};

@@ -14,7 +14,8 @@ use Rattle.markup.specs.declared.tag.Given.{Given}
 use Rattle.markup.specs.declared.tag.Opening.{Opening}
 use Rattle.markup.specs.Token.{Token, Mark, Declaration, Comment, Instruction, Opener, Closer, TypeDeclaration, Start, End, Refer, LineEnd, Character, StartTag, is_start_tag, token_bytes}
 use Rattle.markup.specs.Marks.{stands, in_cdata, Front}
-use Rattle.markup.specs.Events.{Placed, events, items_of, open_tags, opening, given, element_name, attribute_name, declared_prefix, entries, put, put_named, name_cmp, started, ended, end_items}
+use Rattle.markup.specs.Events.{Placed, events, items_of, open_tags, opening, given, element_name, attribute_name, declared_prefix, entries, put, put_named, started, ended, end_items}
+use Rattle.lexical_core.specs.Names.{name_cmp}
 use Rattle.markup.proofs.CharLemmas.{classes}
 use Rattle.repo_loader.specs.LoadingSteps.{AreTexts}
 use Rattle.repo_loader.specs.SelectionSteps.{HasItemTexts}

@@ -7,7 +7,8 @@ use Rattle.repo_objects.specs.declared.objects.ObjectKind.TheVariants as object
 use Rattle.repo_objects.specs.declared.objects.Kinds.TheVariants as kinds
 use Rattle.repo_loader.specs.declared.part.Part.{Part}
 use Rattle.repo_loader.specs.declared.part.Part.TheVariants.{File, Repository, OtherRoot, Dictionary, Entry, Element, Alternative, Code, Catalogue, Area, Message, Block, Identifier, LeftOut}
-use Rattle.repo_loader.specs.FileNames.{same_name, root_name, is_own}
+use Rattle.repo_loader.specs.FileNames.{root_name, is_own}
+use Rattle.lexical_core.specs.Names.{same_name}
 use Rattle.repo_loader.specs.FileValues.{kind_of}
 
 -- one name is read in the element, as this

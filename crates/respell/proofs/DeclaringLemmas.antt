@@ -4,7 +4,7 @@ use Rattle.std.specs.List.{flat_map}
 use Rattle.std.specs.Str.{bytes_eq}
 use Rattle.std.proofs.lemmas.Bool.{cases_Bool, true≢false}
 use Rattle.lexical_core.specs.Tree.{Entry}
-use Rattle.fragments.specs.Plain.{xmlns}
+use Rattle.lexical_core.specs.Names.{xmlns}
 use Rattle.fragments.specs.Fragment.{Written, written_text, needs_none, before_others, namespaces_of, declarations, prefix_of}
 use Rattle.respell.proofs.Prefixes.{same_bytes, bytes_same, other_bytes}
 use Rattle.respell.specs.Declaring.{without, is_new}

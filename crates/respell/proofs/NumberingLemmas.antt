@@ -11,7 +11,8 @@ use Rattle.std.proofs.lemmas.Bool.{cases_Bool, true≢false}
 use Rattle.std.proofs.lemmas.Cmp.{nat_list_cmp_total}
 use Rattle.std.proofs.lemmas.Map.Text.{is_eq-slice_cmp}
 use Rattle.lexical_core.specs.Tree.{Entry}
-use Rattle.fragments.specs.Plain.{name_order, AreSorted}
+use Rattle.fragments.specs.Plain.{AreSorted}
+use Rattle.lexical_core.specs.Names.{name_cmp}
 use Rattle.fragments.specs.Fragment.{Written, written_text, needs_none, namespaces_of, number_of, attribute_written, is_xml, prefix_of}
 use Rattle.respell.specs.Declaring.{without, is_new, number_behind, later, numbered_prefix, numbered_attribute}
 use Rattle.respell.proofs.Prefixes.{same_bytes, bytes_same, other_bytes}
@@ -56,7 +57,7 @@ new_is : (last n : List ℕ) (a b : Bool) → needs_none n ≡ a → bytes_eq n 
 new_is last n a b e f = ap₂ (λ (x y : Bool). not x && not y) e f
 
 -- the namespaces of those that follow are not below an entry's
-none_below_more : (e : Entry) (es : List Entry) → AllByRecursion (λ f. name_order e.name f.name ≡ Less) es → NoneBelow e.name.namespace es
+none_below_more : (e : Entry) (es : List Entry) → AllByRecursion (λ f. name_cmp e.name f.name ≡ Less) es → NoneBelow e.name.namespace es
 none_below_more e [] h = tt
 none_below_more e (f ∷ es) h = (not_greater (slice_cmp nat_cmp e.name.namespace f.name.namespace) (slice_cmp nat_cmp e.name.local f.name.local) h.0, none_below_more e es h.1)
   where

@@ -14,10 +14,11 @@ use Rattle.markup.specs.Chars.{is_xml_char}
 use Rattle.markup.specs.declared.tag.Spelled.{Spelled}
 use Rattle.markup.specs.declared.tag.Given.{Given}
 use Rattle.markup.specs.declared.tag.Opening.{Opening}
-use Rattle.markup.specs.Events.{given, declared_prefix, same_prefix, bound_by, namespace_of, expanded, element_name, attribute_name, name_cmp, entries, put, put_named}
+use Rattle.markup.specs.Events.{given, declared_prefix, same_prefix, bound_by, namespace_of, expanded, element_name, attribute_name, entries, put, put_named}
+use Rattle.lexical_core.specs.Names.{name_cmp, xml_namespace, xmlns_namespace, xmlns}
 use Rattle.markup.specs.Faults.{is_bad_declaration, is_bad_attribute}
 use Rattle.markup.proofs.AttributeLemmas.{attribute_facts}
-use Rattle.fragments.specs.Plain.{IsPart, IsPlainName, IsPlainEntry, xml_namespace, xmlns_namespace, xmlns}
+use Rattle.fragments.specs.Plain.{IsPart, IsPlainName, IsPlainEntry}
 use Rattle.respell.proofs.Prefixes.{same_bytes, bytes_same}
 use Rattle.respell.proofs.PlainParts.{local_is_part, value_is_text, all_chars}
 use Rattle.respell.proofs.SortedEntries.{or_parts}

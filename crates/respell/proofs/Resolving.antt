@@ -7,7 +7,8 @@ use Rattle.std.proofs.lemmas.Bool.{cases_Bool, true≢false}
 use Rattle.lexical_core.specs.Tree.{Entry}
 use Rattle.markup.specs.declared.tag.Given.{Given}
 use Rattle.markup.specs.Events.{declared_prefix, same_prefix, bound_by}
-use Rattle.fragments.specs.Plain.{IsPlainEntry, xmlns}
+use Rattle.fragments.specs.Plain.{IsPlainEntry}
+use Rattle.lexical_core.specs.Names.{xmlns}
 use Rattle.fragments.specs.Fragment.{is_xml, prefix_of, declarations, number_of, attribute_written}
 use Rattle.respell.proofs.Attributes.{given_as}
 use Rattle.respell.proofs.Prefixes.{same_bytes, bytes_same, other_bytes, other_prefix}

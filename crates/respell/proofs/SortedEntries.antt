@@ -16,7 +16,8 @@ use Rattle.markup.specs.Events.{declared_prefix, attribute_name, entries, put, p
 use Rattle.markup.specs.Faults.{clash, has_clash, same_declared, same_expanded}
 use Rattle.markup.specs.TagParts.{is_named, sorted_entries}
 use Rattle.markup.proofs.Twins.{by_name, entries_total, any-put, any_twins, any_twins-put, sorted_same}
-use Rattle.fragments.specs.Plain.{name_order, AreSorted}
+use Rattle.fragments.specs.Plain.{AreSorted}
+use Rattle.lexical_core.specs.Names.{name_cmp}
 
 pub or_parts : (a b : Bool) → (a || b) ≡ false → (a ≡ false) × (b ≡ false)
 or_parts true b e = absurd cc
@@ -109,7 +110,7 @@ less e f h g = case (by_name e f) refl
     case Equal is = absurd (let t = tied_named e f is in cc)
     case Greater is = absurd (let low : is_lt (by_name f e) ≡ true = ap is_lt (entries_total.antisymm f e ∙ ap ordering_reverse is) in cc)
 
-all_less : (e : Entry) (es : List Entry) → NoneLess by_name e es → list_any (is_named e.name) es ≡ false → AllByRecursion (λ f. name_order e.name f.name ≡ Less) es
+all_less : (e : Entry) (es : List Entry) → NoneLess by_name e es → list_any (is_named e.name) es ≡ false → AllByRecursion (λ f. name_cmp e.name f.name ≡ Less) es
 all_less e [] h g = tt
 all_less e (f ∷ es) h g = let parts = or_parts (is_named e.name f) (list_any (is_named e.name) es) g in (less e f h.0 parts.0, all_less e es h.1 parts.1)
 

@@ -9,7 +9,8 @@ use Rattle.lexical_core.specs.Tree.{Expanded, Entry}
 use Rattle.markup.specs.declared.tag.Given.{Given}
 use Rattle.markup.specs.declared.tag.Opening.{Opening}
 use Rattle.markup.specs.Events.{attribute_name, entries, put}
-use Rattle.fragments.specs.Plain.{ArePlainEntries, name_order}
+use Rattle.fragments.specs.Plain.{ArePlainEntries}
+use Rattle.lexical_core.specs.Names.{name_cmp}
 use Rattle.fragments.specs.Fragment.{Written, is_xml, is_default, default_declaration, namespaces_of, declarations, attribute_written, tag_contents}
 use Rattle.respell.proofs.Attributes.{given_as}
 use Rattle.respell.proofs.Prefixes.{bytes_same}
@@ -28,22 +29,22 @@ slice_self : (a : List ℕ) → slice_cmp nat_cmp a a ≡ Equal
 slice_self [] = refl
 slice_self (x ∷ a) = rw (cmp_self x, slice_self a) refl
 
-order_self : (a : Expanded) → name_order a a ≡ Equal
+order_self : (a : Expanded) → name_cmp a a ≡ Equal
 order_self a = rw (slice_self a.namespace, slice_self a.local) refl
 
 -- names in order are two
-pub less_other : (a b : Expanded) → name_order a b ≡ Less → same_expanded (Some a) (Some b) ≡ false
+pub less_other : (a b : Expanded) → name_cmp a b ≡ Less → same_expanded (Some a) (Some b) ≡ false
 less_other a b h = elim (cases_Bool (bytes_eq a.namespace b.namespace)) as (λ _. same_expanded (Some a) (Some b) ≡ false) [
   | inr f ↦ rw f refl
   | inl t ↦ rw t (elim (cases_Bool (bytes_eq a.local b.local)) [
     | inr f ↦ f
     | inl u ↦ absurd (let same : a ≡ b = ap₂ (λ (x y : List ℕ). record { namespace = x; local = y }) (bytes_same _ _ t) (bytes_same _ _ u) in
-        let e : name_order a b ≡ Equal = subst (λ (c : Expanded). name_order a c ≡ Equal) same (order_self a) in
+        let e : name_cmp a b ≡ Equal = subst (λ (c : Expanded). name_cmp a c ≡ Equal) same (order_self a) in
         let z : Less ≡ Equal = sym h ∙ e in cc)
   ])
 ]
 
-put_first : (e : Entry) (es : List Entry) → AllByRecursion (λ f. name_order e.name f.name ≡ Less) es → put e es ≡ e ∷ es
+put_first : (e : Entry) (es : List Entry) → AllByRecursion (λ f. name_cmp e.name f.name ≡ Less) es → put e es ≡ e ∷ es
 put_first e [] h = refl
 put_first e (f ∷ es) h = ap (λ (o : Ordering). elim o as (λ _. List Entry) [ Less ↦ e ∷ f ∷ es | Equal ↦ e ∷ f ∷ es | Greater ↦ f ∷ put e es ]) h.0
 

@@ -9,7 +9,8 @@ use Rattle.lexical_core.specs.Tree.{Expanded, Entry}
 use Rattle.markup.specs.declared.tag.Given.{Given}
 use Rattle.markup.specs.declared.tag.Opening.{Opening}
 use Rattle.markup.specs.Events.{bound_by, namespace_of, element_name, attribute_name, expanded}
-use Rattle.fragments.specs.Plain.{IsPlainEntry, xml_namespace, xmlns}
+use Rattle.fragments.specs.Plain.{IsPlainEntry}
+use Rattle.lexical_core.specs.Names.{xml_namespace, xmlns}
 use Rattle.fragments.specs.Fragment.{Written, is_xml, element_spelling, is_default, default_within, default_declaration, needs_none, before_others, namespaces_of, prefix_of, declarations, number_of, attribute_prefix, attribute_written, tag_contents}
 use Rattle.respell.proofs.Names.{read_as}
 use Rattle.respell.proofs.Attributes.{given_as}

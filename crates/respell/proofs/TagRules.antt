@@ -9,14 +9,14 @@ use Rattle.markup.specs.declared.tag.Spelled.{Spelled}
 use Rattle.markup.specs.declared.tag.Given.{Given}
 use Rattle.markup.specs.declared.tag.Opening.{Opening}
 use Rattle.markup.specs.Events.{declared_prefix, attribute_name}
-use Rattle.fragments.specs.Plain.{IsPlainName, IsPlainEntry, ArePlainEntries, name_order, xmlns}
+use Rattle.fragments.specs.Plain.{IsPlainName, IsPlainEntry, ArePlainEntries}
+use Rattle.lexical_core.specs.Names.{name_cmp, xmlns, xmlns_namespace}
 use Rattle.fragments.specs.Fragment.{is_xml, is_default, default_declaration, needs_none, before_others, namespaces_of, prefix_of, declarations, attribute_written, tag_contents}
 use Rattle.respell.proofs.Attributes.{given_as}
 use Rattle.respell.proofs.Prefixes.{same_bytes, other_bytes, other_prefix}
 use Rattle.respell.proofs.Resolving.{no_declaration}
 use Rattle.lexical_core.specs.Characters.{IsXmlText}
 use Rattle.markup.specs.Faults.{clash, has_clash, is_bad_attribute, start_rule}
-use Rattle.fragments.specs.Plain.{xmlns_namespace}
 use Rattle.respell.proofs.TagNames.{opening_of, Knows, element_is, attribute_is, IsOneOf}
 use Rattle.respell.proofs.TagEntries.{less_other, given_three}
 
@@ -66,7 +66,7 @@ any_prefix tags x p k [] d h = refl
 any_prefix tags x p k (n ∷ nss) d h = rw (d, h k (omega arith)) (any_prefix tags x p (k + 1) nss d (λ j le. h j (omega (arith, le))))
 
 -- nor an attribute with another
-any_attribute : (tags : List Opening) (nss : List (List ℕ)) (e : Entry) (es : List Entry) → IsPlainEntry e → AllByRecursion IsPlainEntry es → AllByRecursion (λ f. name_order e.name f.name ≡ Less) es
+any_attribute : (tags : List Opening) (nss : List (List ℕ)) (e : Entry) (es : List Entry) → IsPlainEntry e → AllByRecursion IsPlainEntry es → AllByRecursion (λ f. name_cmp e.name f.name ≡ Less) es
     → attribute_name tags (given_as (attribute_written nss e)).name ≡ Some e.name → ((f : Entry) → IsOneOf f es → attribute_name tags (given_as (attribute_written nss f)).name ≡ Some f.name)
     → list_any (λ (b : Given). clash tags (given_as (attribute_written nss e)).name b.name) (map given_as (map (attribute_written nss) es)) ≡ false
 any_attribute tags nss e [] p q o a b = refl

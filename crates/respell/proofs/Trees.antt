@@ -10,7 +10,8 @@ use Rattle.std.specs.Prelude.{◌↔◌, codes}
 use Rattle.markup.specs.Events.{items_of, open_tags, namespace_of}
 use Rattle.markup.specs.Faults.{rule_of, is_over, is_outside, has_start}
 use Rattle.markup.proofs.CharLemmas.{classes}
-use Rattle.fragments.specs.Plain.{IsPlainName, ArePlainEntries, ArePlain, IsPlain, xml_namespace}
+use Rattle.fragments.specs.Plain.{IsPlainName, ArePlainEntries, ArePlain, IsPlain}
+use Rattle.lexical_core.specs.Names.{xml_namespace}
 use Rattle.fragments.specs.Fragment.{default_within, start_text, end_text, nodes_text, fragment}
 use Rattle.respell.proofs.Runs.{behind, behind-append, Runs, runs-append, AllShort, short-append, short_parts}
 use Rattle.respell.specs.ShortTags.{HaveShortTags}

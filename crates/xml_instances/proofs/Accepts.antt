@@ -8,7 +8,7 @@ use Rattle.std.proofs.lemmas.Bool.Decides.{nat_tests}
 use Rattle.lexical_core.specs.Tree.{Expanded, Entry, Nodes, Element, Text, Tree, Item, Starts, Char, Ends, flat, flat_nodes}
 use Rattle.lexical_core.specs.Tree as tree
 use Rattle.fragments.specs.Plain.{ArePlain, IsPlain}
-use Rattle.data_types.specs.WhiteSpace.{IsSpace}
+use Rattle.lexical_core.specs.Characters.{IsSpace}
 use Rattle.data_types.specs.Value.{Value, Children, Nothing, Child}
 use Rattle.data_types.specs.Value as value
 use Rattle.data_types.specs.Leaf as leaf
@@ -23,7 +23,8 @@ use Rattle.reference_check.specs.Forms as form
 use Rattle.reference_check.specs.Words.{IsWord, times}
 use Rattle.reference_check.specs.Steps.{End, Slotted, Fine, OutOfOrder, TooMany, Second, Lacks, NoAlternative, next, next_of, find_slot, end_after, has_room, first_lacking, after_order, CameAfter, Came}
 use Rattle.message_model.specs.Admits.{AdmitsAs, AdmitsChildren, FitsCode, numbers_of}
-use Rattle.message_model.specs.Writes.{named, IsHint, IsHintOrCurrency, currency, same_name, value_of, SpellsCode, WritesAttributes, text_nodes, IsBlank, Wraps, MayHold, WritesContent, WritesLeaf}
+use Rattle.message_model.specs.Writes.{named, IsHint, IsHintOrCurrency, currency, value_of, SpellsCode, WritesAttributes, text_nodes, IsBlank, Wraps, MayHold, WritesContent, WritesLeaf}
+use Rattle.lexical_core.specs.Names.{same_name}
 use Rattle.message_model.specs.Message.{Message}
 use Rattle.xml_instances.specs.SpellsXml.{IsInstance}
 use Rattle.xml_instances.specs.Levels.{Level, Parent, Leaf, Envelope, Foreign, begun, path_in, form_of_start, round_start}

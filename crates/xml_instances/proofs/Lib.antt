@@ -1,7 +1,6 @@
 pub mod Runs
 pub mod Accepts
 pub mod Counted
-pub mod WholeTree
 pub mod Whole
 pub mod OneFault
 pub mod NoCut
@@ -26,11 +25,9 @@ pub mod Completion
 pub mod OpenLaw
 pub mod CleanFronts
 pub mod OpenRows
-pub mod CompiledFinite
 pub mod MarkupRules
 pub mod ToldAtEvents
 pub mod SomeFault
-pub mod SameTrees
 pub mod OneXmlValue
 pub mod ShownTrees
 pub mod KeptPieces

@@ -17,8 +17,8 @@ use Rattle.message_model.specs.Message.{Message}
 use Rattle.xml_instances.specs.Levels.{Level, Parent, Leaf as LeafLevel, Envelope, Foreign, levels_after, levels_over, form_of_start, round_start, path_in}
 use Rattle.xml_instances.specs.EventFaults.{Broken, EventFault, AreFine, FirstFault, Unless, AttributeFault, RequiredFault, CurrencyFault, CodeFault, LeafFault, EndFault, place_fault, unknown_fault}
 use Rattle.xml_instances.specs.XmlFaults.{NextFault, markup, content, Fault, XmlFault}
-use Rattle.xml_instances.proofs.WholeTree.{items_from, past}
-use Rattle.xml_instances.proofs.Whole.{behind, items_are}
+use Rattle.respell.proofs.Runs.{behind, items_in}
+use Rattle.xml_instances.proofs.Whole.{reversed, items_are}
 
 none_some : {A : Type 0} (b : Broken) → ◌≡◌ {A = Option Broken} None (Some b) → A
 none_some b e = absurd cc
@@ -123,15 +123,15 @@ module _ {P : Type 0} (m : Message P) (first_rule : (s : Simple) (w : List ℕ) 
     record Behind (before : List Token) (ls : List (Level P)) (bytes : List ℕ) (ts : List Token) (rest : List ℕ) (b : Broken) (i : ℕ) : Type 0 where
       front : Front tag_limit before bytes ts rest
       clean : IsClean before ts
-      fine : AreFine m ls (items_from before ts)
-      next : NextFault m (past before ts) (levels_over m ls (items_from before ts)) rest b i
+      fine : AreFine m ls (items_in before ts)
+      next : NextFault m (behind before ts) (levels_over m ls (items_in before ts)) rest b i
 
     tail : (before : List Token) (ls : List (Level P)) (bytes : List ℕ) (t : Token) (ts : List Token) (rest : List ℕ) (b : Broken) (i : ℕ) (h : Behind before ls bytes (t ∷ ts) rest b i) → Behind (t ∷ before) (levels_over m ls (items_of before t)) h.front.0 ts rest b i
     tail before ls bytes t ts rest b i h = record {
       front = h.front.3;
       clean = h.clean.1;
-      fine = fine_behind ls (items_of before t) (items_from (t ∷ before) ts) h.fine;
-      next = subst (λ (x : List (Level P)). NextFault m (past (t ∷ before) ts) x rest b i) (over-append ls (items_of before t) (items_from (t ∷ before) ts)) h.next;
+      fine = fine_behind ls (items_of before t) (items_in (t ∷ before) ts) h.fine;
+      next = subst (λ (x : List (Level P)). NextFault m (behind (t ∷ before) ts) x rest b i) (over-append ls (items_of before t) (items_in (t ∷ before) ts)) h.next;
     }
 
     same_from : (before : List Token) (ls : List (Level P)) (bytes : List ℕ) (ts us : List Token) (x y : List ℕ) (b c : Broken) (i j : ℕ) → Behind before ls bytes ts x b i → Behind before ls bytes us y c j
@@ -140,9 +140,9 @@ module _ {P : Type 0} (m : Message P) (first_rule : (s : Simple) (w : List ℕ) 
         let s : (b ≡ c) × (i ≡ j) = next_fault_same before ls bytes b c i j (subst (λ (v : List ℕ). NextFault m before ls v b i) (sym h.front) h.next) (subst (λ (v : List ℕ). NextFault m before ls v c j) (sym k.front) k.next) in
         (s.0, ap (λ a. 0 + a) s.1)
     same_from before ls bytes [] (u ∷ us) x y b c i j h k =
-        absurd (fault_none before ls bytes u k.front.0 (items_from (u ∷ before) us) b i (subst (λ (v : List ℕ). NextFault m before ls v b i) (sym h.front) h.next) k.front.1 k.front.2 k.clean.0 k.fine)
+        absurd (fault_none before ls bytes u k.front.0 (items_in (u ∷ before) us) b i (subst (λ (v : List ℕ). NextFault m before ls v b i) (sym h.front) h.next) k.front.1 k.front.2 k.clean.0 k.fine)
     same_from before ls bytes (t ∷ ts) [] x y b c i j h k =
-        absurd (fault_none before ls bytes t h.front.0 (items_from (t ∷ before) ts) c j (subst (λ (v : List ℕ). NextFault m before ls v c j) (sym k.front) k.next) h.front.1 h.front.2 h.clean.0 h.fine)
+        absurd (fault_none before ls bytes t h.front.0 (items_in (t ∷ before) ts) c j (subst (λ (v : List ℕ). NextFault m before ls v c j) (sym k.front) k.next) h.front.1 h.front.2 h.clean.0 h.fine)
     same_from before ls bytes (t ∷ ts) (u ∷ us) x y b c i j h k =
         go (one_token before t u bytes h.front.0 k.front.0 h.front.1 k.front.1) (λ k'. same_from (t ∷ before) (levels_over m ls (items_of before t)) h.front.0 ts us x y b c i j (tail before ls bytes t ts x b i h) k')
       where
@@ -160,7 +160,7 @@ module _ {P : Type 0} (m : Message P) (first_rule : (s : Simple) (w : List ℕ) 
       front = h.front;
       clean = h.clean;
       fine = rw (items_are h.tokens) at h.fine;
-      next = subst (λ (x : List Token). NextFault m x (levels_over m [] (items_from [] h.tokens)) h.rest f.broken h.at) (behind h.tokens)
+      next = subst (λ (x : List Token). NextFault m x (levels_over m [] (items_in [] h.tokens)) h.rest f.broken h.at) (reversed h.tokens)
           (subst (λ (x : List Item). NextFault m (reverse h.tokens) (levels_over m [] x) h.rest f.broken h.at) (items_are h.tokens) h.next);
     }
 
@@ -179,19 +179,19 @@ module _ {P : Type 0} (m : Message P) (first_rule : (s : Simple) (w : List ℕ) 
       end_none before ls c j over (markup n p) = next_over before c.rule j n over
       end_none before ls c j over (content t x cell short clean first at) = nothing_stands before t x cell
 
-      none_from : (before : List Token) (ls : List (Level P)) (bytes : List ℕ) (ts us : List Token) (y : List ℕ) (c : Broken) (j : ℕ) → Front tag_limit before bytes ts [] → IsClean before ts → is_over (past before ts) ≡ true
-          → AreFine m ls (items_from before ts) → Behind before ls bytes us y c j → ⊥
+      none_from : (before : List Token) (ls : List (Level P)) (bytes : List ℕ) (ts us : List Token) (y : List ℕ) (c : Broken) (j : ℕ) → Front tag_limit before bytes ts [] → IsClean before ts → is_over (behind before ts) ≡ true
+          → AreFine m ls (items_in before ts) → Behind before ls bytes us y c j → ⊥
       none_from before ls bytes [] [] y c j f clean over fine k = end_none before ls c j over (subst (λ (v : List ℕ). NextFault m before ls v c j) (sym k.front ∙ f) k.next)
       none_from before ls bytes [] (u ∷ us) y c j f clean over fine k = nothing_stands before u k.front.0 (subst (λ (v : List ℕ). Cell before u v k.front.0) f k.front.1)
       none_from before ls bytes (t ∷ ts) [] y c j f clean over fine k =
-          fault_none before ls bytes t f.0 (items_from (t ∷ before) ts) c j (subst (λ (v : List ℕ). NextFault m before ls v c j) (sym k.front) k.next) f.1 f.2 clean.0 fine
+          fault_none before ls bytes t f.0 (items_in (t ∷ before) ts) c j (subst (λ (v : List ℕ). NextFault m before ls v c j) (sym k.front) k.next) f.1 f.2 clean.0 fine
       none_from before ls bytes (t ∷ ts) (u ∷ us) y c j f clean over fine k =
-          go (one_token before t u bytes f.0 k.front.0 f.1 k.front.1) (λ k'. none_from (t ∷ before) (levels_over m ls (items_of before t)) f.0 ts us y c j f.3 clean.1 over (fine_behind ls (items_of before t) (items_from (t ∷ before) ts) fine) k')
+          go (one_token before t u bytes f.0 k.front.0 f.1 k.front.1) (λ k'. none_from (t ∷ before) (levels_over m ls (items_of before t)) f.0 ts us y c j f.3 clean.1 over (fine_behind ls (items_of before t) (items_in (t ∷ before) ts) fine) k')
         where
           go : ((t ≡ u) × (f.0 ≡ k.front.0)) → (Behind (t ∷ before) (levels_over m ls (items_of before t)) f.0 us y c j → ⊥) → ⊥
           go (e, g) later =
               later (subst (λ (v : Token). Behind (v ∷ before) (levels_over m ls (items_of before v)) f.0 us y c j) (sym e)
               (subst (λ (v : List ℕ). Behind (u ∷ before) (levels_over m ls (items_of before u)) v us y c j) (sym g) (tail before ls bytes u us y c j k)))
 
-      pub fine_has_none : (bytes : List ℕ) (ts : List Token) (f : Fault) → Front tag_limit [] bytes ts [] → IsClean [] ts → is_over (past [] ts) ≡ true → AreFine m [] (items_from [] ts) → XmlFault m bytes f → ⊥
+      pub fine_has_none : (bytes : List ℕ) (ts : List Token) (f : Fault) → Front tag_limit [] bytes ts [] → IsClean [] ts → is_over (behind [] ts) ≡ true → AreFine m [] (items_in [] ts) → XmlFault m bytes f → ⊥
       fine_has_none bytes ts f front clean over fine h = none_from [] [] bytes ts h.tokens h.rest f.broken h.at front clean over fine (behind_of bytes f h)

@@ -5,7 +5,7 @@ use Rattle.std.specs.Str.{chars}
 use Rattle.lexical_core.specs.Tree.{Expanded, Entry, Nodes, Element, Text, Tree, Item, TreeIs, flat, counted}
 use Rattle.lexical_core.specs.Tree as tree
 use Rattle.lexical_core.specs.Decimals.{Number}
-use Rattle.data_types.specs.WhiteSpace.{IsSpace}
+use Rattle.lexical_core.specs.Characters.{IsSpace}
 use Rattle.data_types.specs.Leaf.{Leaf}
 use Rattle.data_types.specs.Leaf as leaf
 use Rattle.data_types.specs.Value.{Value, Children, Nothing, Child}
@@ -23,7 +23,7 @@ use Rattle.message_model.specs.Sound.{AreSound, HaveSortedCodes}
 use Rattle.message_model.specs.Writes.{named, currency, value_of, HasCurrency, SpellsCode, WritesAttributes, text_nodes, SpellsText, IsBlank, Wraps, MayHold, WritesContent, WritesLeaf}
 use Rattle.xml_instances.specs.SpellsXml.{SpellsXml, IsInstance}
 use Rattle.xml_instances.specs.XmlFaults.{items}
-use Rattle.xml_instances.proofs.SameTrees.{same_tree}
+use Rattle.lexical_core.proofs.SameTrees.{same_tree}
 
 -- characters spell one leaf
 abbrev pub OneLeaf : Type 0

@@ -33,7 +33,7 @@ use Rattle.xml_instances.proofs.CleanFronts.{clean_front, front_of_front}
 use Rattle.xml_instances.proofs.OpenRuns.{root_may}
 use Rattle.xml_instances.proofs.OpenAccepts.{root_so}
 use Rattle.xml_instances.proofs.Completion.{Nested, tree_nested, Made, made_at, over_stands, Completed, complete}
-use Rattle.xml_instances.proofs.WholeTree.{Rest, Begun, element_more, char_more, root_of, rest_true}
+use Rattle.respell.proofs.WholeTree.{Rest, Begun, element_more, char_more, root_of, rest_true}
 
 parse_nested : (begun : Bool) (ns : List Expanded) (items : List Item) → Begun begun ns → Nested begun ns items → Rest begun ns items
 parse_nested true [] [] b h = refl

@@ -6,7 +6,7 @@ use Rattle.std.proofs.lemmas.List.{length-append}
 use Rattle.std.proofs.lemmas.Slice.Eq.{bytes_eq-Decides}
 use Rattle.lexical_core.specs.Tree.{Expanded, Entry, Nodes, Element, Text, Tree, Item, Starts, Char, Ends, flat, flat_nodes}
 use Rattle.lexical_core.specs.Tree as tree
-use Rattle.data_types.specs.WhiteSpace.{IsSpace}
+use Rattle.lexical_core.specs.Characters.{IsSpace}
 use Rattle.data_types.specs.Leaf as leaf
 use Rattle.markup.specs.Chars.{is_space}
 use Rattle.facets.specs.declared.simple.Simple.{Simple}
@@ -15,7 +15,8 @@ use Rattle.reference_check.specs.Forms as form
 use Rattle.reference_check.specs.Words.{IsWord}
 use Rattle.reference_check.specs.Steps.{Slotted, Fine, next, next_found, next_at, end_after}
 use Rattle.reference_check.specs.Shapes.{Shape, Component, OpenLeaf, Shapes, Nothing, Child, HasShape, HaveShapes, numbers_in}
-use Rattle.message_model.specs.Writes.{named, same_name, SpellsCode, text_nodes, IsBlank, Wraps, MayHold}
+use Rattle.message_model.specs.Writes.{named, SpellsCode, text_nodes, IsBlank, Wraps, MayHold}
+use Rattle.lexical_core.specs.Names.{same_name}
 use Rattle.message_model.specs.Message.{Message}
 use Rattle.xml_instances.specs.Levels.{Level, Parent, Leaf, Envelope, Foreign, begun, path_in}
 use Rattle.xml_instances.specs.EventFaults.{AttributeFault, CurrencyFault, CodeFault, place_fault, is_bare, space_fault}

@@ -8,7 +8,8 @@ use Rattle.markup.specs.Events.{Placed}
 use Rattle.markup.specs.PlainTags.{open_after, open_behind, innermost_namespace, name_behind}
 use Rattle.reference_check.specs.Steps.{next}
 use Rattle.message_model.specs.Message.{Message}
-use Rattle.message_model.specs.Writes.{named, same_name}
+use Rattle.message_model.specs.Writes.{named}
+use Rattle.lexical_core.specs.Names.{same_name}
 use Rattle.xml_instances.specs.Levels.{Level, Parent, Leaf, Envelope, Foreign, levels_after, levels_over, with_char, form_of_start, level_of_start, round_start, path_in}
 use Rattle.xml_instances.specs.EventFaults.{Broken, EventFault, AttributeFault, AreFine, Unless, next_fault}
 use Rattle.xml_instances.specs.XmlFaults.{items_told}

@@ -27,14 +27,14 @@ use Rattle.xml_instances.specs.declared.content.Content.{Content}
 use Rattle.xml_instances.specs.declared.checker.XmlChecker.{XmlChecker}
 use Rattle.markup.specs.declared.reader.Reader.{Reader}
 use Rattle.xml_instances.proofs.NoCut.{event_no_cut}
-use Rattle.xml_instances.proofs.WholeTree.{past}
-use Rattle.xml_instances.proofs.Whole.{behind}
+use Rattle.respell.proofs.Runs.{behind}
+use Rattle.xml_instances.proofs.Whole.{reversed}
 use Rattle.xml_instances.proofs.FaultAt.{event_fault, markup_fault, fine_joined, over_joined}
 use Rattle.xml_instances.proofs.Checks.{items_placed, told_joined, items_new}
 
 module _ (one_token : OneToken) (nothing_at_clean : NothingAtClean) where
   -- a list of tokens that ends where something is wrong is no front of a longer one that is clean
-  last_is : (before : List Token) (b : List ℕ) (us vs : List Token) (rest z : List ℕ) (rule : Rule) (at : ℕ) → Front tag_limit before b us rest → Front tag_limit before b (us ++ vs) z → IsClean before (us ++ vs) → Next tag_limit (past before us) rest rule at → vs ≡ []
+  last_is : (before : List Token) (b : List ℕ) (us vs : List Token) (rest z : List ℕ) (rule : Rule) (at : ℕ) → Front tag_limit before b us rest → Front tag_limit before b (us ++ vs) z → IsClean before (us ++ vs) → Next tag_limit (behind before us) rest rule at → vs ≡ []
   last_is before b [] [] rest z rule at f g c n = refl
   last_is before b [] (t ∷ vs) rest z rule at f g c n = absurd (nothing_at_clean before b t g.0 rule at (subst (λ (v : List ℕ). Next tag_limit before v rule at) (sym f) n) g.1 g.2 c.0)
   last_is before b (u ∷ us) vs rest z rule at f g c n =
@@ -51,7 +51,7 @@ module _ (m : Message ℕ) (one_token : OneToken) (nothing_at_clean : NothingAtC
       of_more : ((more : List Token) × (ts ≡ h.tokens ++ more)) → XmlFault m bytes (told_fault f.rule (levels_over m [] (items_told told)) f.place)
       of_more (more, e) =
           let none : more ≡ [] = last_is one_token nothing_at_clean [] bytes h.tokens more h.rest longest.rest f.rule h.at h.front (subst (λ (v : List Token). Front tag_limit [] bytes v longest.rest) e longest.front)
-          (subst (λ (v : List Token). IsClean [] v) e clean) (subst (λ (v : List Token). Next tag_limit v h.rest f.rule h.at) (behind h.tokens) h.next) in
+          (subst (λ (v : List Token). IsClean [] v) e clean) (subst (λ (v : List Token). Next tag_limit v h.rest f.rule h.at) (reversed h.tokens) h.next) in
           let same : told ≡ events [] 0 h.tokens = told_are ∙ ap (events [] 0) (e ∙ (ap (λ v. h.tokens ++ v) none ∙ append-nil h.tokens)) in
           subst (λ (v : List Item). XmlFault m bytes (told_fault f.rule (levels_over m [] v) f.place)) (sym (ap items_told same)) (markup_fault m bytes f h (subst (λ (v : List Placed). AreFine m [] (items_told v)) same fine))
 
@@ -81,7 +81,7 @@ module _ (m : Message ℕ) (one_token : OneToken) (nothing_at_clean : NothingAtC
           sym (e ∙ (ap (λ v. k.tokens ++ v) none ∙ append-nil k.tokens))
       same_tokens (inr (vs, e)) =
           let none : vs ≡ [] = last_is one_token nothing_at_clean [] (bytes ++ more) h.tokens vs h.rest (k.rest ++ more) fault.rule h.at h.front (subst (λ (v : List Token). Front tag_limit [] (bytes ++ more) v (k.rest ++ more)) e (k.front more))
-          (subst (λ (v : List Token). IsClean [] v) e k.clean) (subst (λ (v : List Token). Next tag_limit v h.rest fault.rule h.at) (behind h.tokens) h.next) in
+          (subst (λ (v : List Token). IsClean [] v) e k.clean) (subst (λ (v : List Token). Next tag_limit v h.rest fault.rule h.at) (reversed h.tokens) h.next) in
           e ∙ (ap (λ v. h.tokens ++ v) none ∙ append-nil h.tokens)
 
       of_same : k.tokens ≡ h.tokens → XmlFault m (bytes ++ more) (told_fault fault.rule (levels_over m [] (items_told (told ++ k.more))) fault.place)

@@ -6,7 +6,7 @@ use Rattle.std.specs.Str.{bytes_eq, chars}
 use Rattle.std.proofs.lemmas.Slice.Eq.{bytes_eq-Decides}
 use Rattle.lexical_core.specs.Tree.{Expanded, Entry, Nodes, Element, Text, Tree, Item, Starts, Char, Ends, flat, flat_nodes}
 use Rattle.lexical_core.specs.Tree as tree
-use Rattle.data_types.specs.WhiteSpace.{IsSpace}
+use Rattle.lexical_core.specs.Characters.{IsSpace}
 use Rattle.data_types.specs.Value.{Value, Children, Nothing, Child}
 use Rattle.data_types.specs.Value as value
 use Rattle.data_types.specs.Leaf as leaf
@@ -17,7 +17,8 @@ use Rattle.reference_check.specs.Forms as form
 use Rattle.reference_check.specs.Words.{IsWord}
 use Rattle.reference_check.specs.Steps.{Slotted, Fine, next, next_of, next_found, next_at, find_slot, end_after}
 use Rattle.message_model.specs.Admits.{AdmitsAs, AdmitsChildren, numbers_of}
-use Rattle.message_model.specs.Writes.{named, IsHint, IsHintOrCurrency, currency, same_name, SpellsCode, WritesAttributes, text_nodes, IsBlank, Wraps, MayHold, WritesContent, WritesLeaf, SpellsText}
+use Rattle.message_model.specs.Writes.{named, IsHint, IsHintOrCurrency, currency, SpellsCode, WritesAttributes, text_nodes, IsBlank, Wraps, MayHold, WritesContent, WritesLeaf, SpellsText}
+use Rattle.lexical_core.specs.Names.{same_name}
 use Rattle.message_model.specs.Message.{Message}
 use Rattle.xml_instances.specs.SpellsXml.{IsInstance}
 use Rattle.xml_instances.specs.Levels.{Level, Parent, Leaf, Envelope, Foreign, begun, path_in}

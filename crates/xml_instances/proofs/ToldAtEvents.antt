@@ -27,7 +27,7 @@ use Rattle.xml_instances.specs.XmlFaults.{Fault, XmlFault, NextFault, markup, co
 use Rattle.xml_instances.specs.OpenInstances.{Open}
 use Rattle.xml_instances.specs.OpenLaws.{FineIsOpen, OneMoreIsOpen, CleanAreFronts, BrokenIsNotOpen, FedIsOpen}
 use Rattle.xml_instances.specs.ReadyLaws.{IsToldAtEvent, ReadyTellsAtOnce, ReadyTokensTellAtOnce, ReadyFedIsOpen, ReadyFaultIsAtEvent}
-use Rattle.xml_instances.proofs.CompiledFinite.{tables_finite}
+use Rattle.message_model.proofs.CompiledFinite.{tables_finite}
 use Rattle.xml_instances.proofs.FaultAt.{fine_joined, over_joined}
 use Rattle.xml_instances.proofs.MarkupRules.{next_low}
 use Rattle.xml_instances.proofs.Whole.{placed_items}

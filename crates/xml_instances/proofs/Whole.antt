@@ -17,45 +17,35 @@ use Rattle.xml_instances.specs.EventFaults.{AreFine}
 use Rattle.xml_instances.specs.XmlFaults.{items, items_told}
 use Rattle.xml_instances.specs.SpellsXml.{SpellsXml, IsInstance}
 use Rattle.xml_instances.specs.Laws.{FineIsSpelled, SpelledIsFine}
-use Rattle.xml_instances.proofs.WholeTree.{items_from, past, whole_tree}
+use Rattle.respell.proofs.Runs.{behind, items_in, events_items}
+use Rattle.respell.proofs.WholeTree.{whole_tree}
 use Rattle.xml_instances.proofs.Counted.{fine_counted, counted_fine}
 use Rattle.xml_instances.proofs.Accepts.{root_in}
 use Rattle.xml_instances.proofs.Runs.{root_fine}
 
-past_reverse : (before ts : List Token) → past before ts ≡ reverse ts ++ before
-past_reverse before [] = refl
-past_reverse before (t ∷ ts) = past_reverse (t ∷ before) ts ∙ (sym (append_assoc (reverse ts) (t ∷ []) before) ∙ ap (λ v. v ++ before) (sym (reverse-append (t ∷ []) ts)))
-
-pub behind : (ts : List Token) → reverse ts ≡ past [] ts
-behind ts = sym (past_reverse [] ts ∙ append-nil (reverse ts))
+pub reversed : (ts : List Token) → reverse ts ≡ behind [] ts
+reversed ts = refl
 
 pub placed_items : (place : ℕ) (is : List Item) → items_told (map (λ (i : Item). record { place = place; item = i }) is) ≡ is
 placed_items place [] = refl
 placed_items place (i ∷ is) = ap (λ x. i ∷ x) (placed_items place is)
 
-items_behind : (before : List Token) (place : ℕ) (ts : List Token) → items_told (events before place ts) ≡ items_from before ts
-items_behind before place [] = refl
-items_behind before place (t ∷ ts) =
-    map-append (λ (e : Placed). e.item) (map (λ (i : Item). record { place = place; item = i }) (items_of before t)) (events (t ∷ before) (place + length (token_bytes t)) ts)
-    ∙ (ap (λ x. x ++ items_told (events (t ∷ before) (place + length (token_bytes t)) ts)) (placed_items place (items_of before t))
-    ∙ ap (λ x. items_of before t ++ x) (items_behind (t ∷ before) (place + length (token_bytes t)) ts))
-
-pub items_are : (ts : List Token) → items ts ≡ items_from [] ts
-items_are ts = items_behind [] 0 ts
+pub items_are : (ts : List Token) → items ts ≡ items_in [] ts
+items_are ts = events_items [] 0 ts
 
 number_in : (f : Form ℕ Simple) (c : ℕ) (s : Simple) → HasNumber f → f ≡ form.Money c s → s.kind ≡ kind.Decimal
 number_in f c s h e = subst (λ (x : Form ℕ Simple). HasNumber x) e h
 
 pub fine_is_spelled : ((s : Simple) (w : List ℕ) (l : Leaf) → GivesLeaf s w l → Fits s l) → SoundFormsAgree → WholeIsPlain → FineIsSpelled
-fine_is_spelled fits agree is_plain m bytes tokens sound marks clean over fine = of_tree (whole_tree tokens clean (rw (behind tokens) at over))
+fine_is_spelled fits agree is_plain m bytes tokens sound marks clean over fine = of_tree (whole_tree tokens clean over)
   where
-    of_root : (t : Tree) → TreeIs (items_from [] tokens) t → ((v : Value) × IsInstance m v t) → (v : Value) × (s : SpellsXml m bytes v) × (s.tokens ≡ tokens)
+    of_root : (t : Tree) → TreeIs (items_in [] tokens) t → ((v : Value) × IsInstance m v t) → (v : Value) × (s : SpellsXml m bytes v) × (s.tokens ≡ tokens)
     of_root t e (v, i) = (v, record { tokens = tokens; marks = marks; clean = clean; over = over; tree = t; tree_is = rw (items_are tokens) e; instance = i }, refl)
 
-    of_tree : ((t : Tree) × TreeIs (items_from [] tokens) t) → (v : Value) × (s : SpellsXml m bytes v) × (s.tokens ≡ tokens)
+    of_tree : ((t : Tree) × TreeIs (items_in [] tokens) t) → (v : Value) × (s : SpellsXml m bytes v) × (s.tokens ≡ tokens)
     of_tree (t, e) =
         of_root t e (root_in m (λ p d came ends. (agree (m.forms p) (sound p)).whole d came ends) fits (λ p c s e. number_in (m.forms p) c s (sound p).number e) t (is_plain bytes tokens t marks clean over (rw (items_are tokens) e))
-        (subst (λ (x : List Item). AreFine m [] x) e (fine_counted m 0 [] (items_from [] tokens) refl (rw (items_are tokens) at fine))))
+        (subst (λ (x : List Item). AreFine m [] x) e (fine_counted m 0 [] (items_in [] tokens) refl (rw (items_are tokens) at fine))))
 
 pub spelled_is_fine : SoundFormsAgree → SpelledIsFine
 spelled_is_fine agree m bytes v sound s =

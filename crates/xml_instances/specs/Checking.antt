@@ -56,15 +56,6 @@ fed checker = taken checker.reader
 abbrev pub failed : XmlChecker → Option InstanceError
 failed checker = checker.failed
 
--- the error itself, or that there is no memory for it
-abbrev pub IsSameOrMemory : InstanceError → InstanceError → Type 0
-IsSameOrMemory e told = (told ≡ e) ⊎ (told ≡ Memory)
-
--- the answer is the error again, or that there is no memory for it
-abbrev pub IsAgain : {T : Type 0} → InstanceError → Result T InstanceError → Type 0
-IsAgain e (Ok x) = ⊥
-IsAgain e (Err told) = IsSameOrMemory e told
-
 -- what the comparison of the events that were told together answers: all break no rule, or the first that breaks one
 pub record BreaksAt (m : Message ℕ) (ls : List (Level ℕ)) (events : List Event) (b : Broken) (place : ℕ) : Type 0 where
   pub before : List Event

@@ -14,7 +14,8 @@ use Rattle.reference_check.specs.Forms.{Form, form_slots}
 use Rattle.reference_check.specs.Forms as form
 use Rattle.reference_check.specs.Steps as step
 use Rattle.reference_check.specs.Steps.{Next, End, next, end_after}
-use Rattle.message_model.specs.Writes.{named, schema_instance, currency, same_name, value_of}
+use Rattle.message_model.specs.Writes.{named, schema_instance, currency, value_of}
+use Rattle.lexical_core.specs.Names.{same_name}
 use Rattle.message_model.specs.Message.{Message}
 use Rattle.xml_instances.specs.Levels.{Level, Parent, Leaf, Envelope, Foreign, form_of_start, round_start, levels_after, path_in, tag_text}
 

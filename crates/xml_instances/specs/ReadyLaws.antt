@@ -10,6 +10,7 @@ use Rattle.repo_objects.specs.Repository.{Contents}
 use Rattle.message_model.specs.Compiled.{Compiles, IsReachedList}
 use Rattle.message_model.specs.Message.{Message}
 use Rattle.message_model.specs.Ready.{IsReady}
+use Rattle.message_model.specs.OfReady.{OfReady}
 use Rattle.message_model.specs.Tables.{Tables, message_of}
 use Rattle.xml_instances.specs.Levels.{levels_over}
 use Rattle.xml_instances.specs.EventFaults.{EventFault, AreFine}
@@ -17,10 +18,6 @@ use Rattle.xml_instances.specs.XmlFaults.{Fault, XmlFault, items, items_told}
 use Rattle.xml_instances.specs.Checking.{HasFed}
 use Rattle.xml_instances.specs.OpenInstances.{Open, IsTreeFront}
 use Rattle.xml_instances.specs.declared.checker.XmlChecker.{XmlChecker}
-
--- what is said of the tables of each message that breaks no rule of its repository
-abbrev pub OfReady : (Tables → Type 0) → Type 0
-OfReady Says = (R : Contents) (m : List ℕ) (ids : List (List ℕ)) (T : Tables) → IsReady R m → IsReachedList R m ids → Compiles R m ids T → Says T
 
 -- behind these events, which break no rule, one more breaks none of the message exactly where the events with it go on to an instance
 abbrev pub IsToldAtOnce : Tables → List Item → Item → Type 0

@@ -12,7 +12,8 @@ ghost use Rattle.xml_instances.specs.XmlFaults.{items_told};
 ghost use Rattle.xml_instances.specs.Open.{IsOpen, AreMade};
 ghost use Rattle.xml_instances.specs.Built.{EventsShow};
 ghost use Rattle.xml_instances.specs.Keeping.{GoOn};
-ghost use Rattle.xml_instances.specs.Checking.{items_of, HasFed, AreTaken, IsTold, IsMarkTold, Stops, IsSpelled, IsSpelledBy, EndsAs, IsSpelledAs, IsMadeFor, IsSameOrMemory, IsAgain, fed, failed};
+ghost use Rattle.xml_instances.specs.Checking.{items_of, HasFed, AreTaken, IsTold, IsMarkTold, Stops, IsSpelled, IsSpelledBy, EndsAs, IsSpelledAs, IsMadeFor, fed, failed};
+ghost use Rattle.message_model.specs.Errors.{IsSameOrMemory, IsAgain};
 ghost use Rattle.xml_instances.specs.Scratch.{scratch, token, KeepsNoLeaf, IsScratchWithin};
 ghost use Rattle.xml_instances.specs.Verdicts.{IsLean, HasFreeText};
 
@@ -38,20 +39,6 @@ pub struct XmlChecker {
     place: u64,
     /// The answer that it gives for good, where there is one.
     failed: Option<InstanceError>,
-}
-
-/// An equal error, in memory of its own.
-fn copy_of(alloc: Global, error: &InstanceError) -> Result<InstanceError, AllocError>
-    ensures { IfOk result (λ e. e ≡ error.now) }
-{
-    match error {
-        InstanceError::Refused(fault) => Ok(InstanceError::Refused(Fault {
-            rule: fault.rule,
-            place: fault.place,
-            path: fault.path.copy(alloc)?,
-        })),
-        InstanceError::Memory => Ok(InstanceError::Memory),
-    }
 }
 
 /// What an event at the place breaks, as it is told.
@@ -177,7 +164,7 @@ impl XmlChecker {
         ensures freed { failed self.old ≡ None → IfErr result (λ _. (scratch self.new ≡ 0) × (token self.new ≡ 0)) }
     {
         if let Some(error) = &self.failed {
-            return Err(match copy_of(self.alloc, error) {
+            return Err(match error.copy(self.alloc) {
                 Ok(error) => error,
                 Err(_) => InstanceError::Memory,
             });
@@ -198,7 +185,7 @@ impl XmlChecker {
     {
         self.content.let_go();
         self.reader.forget_token();
-        match copy_of(self.alloc, &error) {
+        match error.copy(self.alloc) {
             Ok(copy) => {
                 self.failed = Some(copy);
                 error

@@ -3,7 +3,8 @@ ghost use Rattle.std.specs.Prelude.{◌≡◌, ◌+◌, ◌≤◌, ◌^◌, ◌+
 ghost use Rattle.message_model.specs.Tables.{Tables, message_of};
 ghost use Rattle.xml_instances.specs.Levels.{levels_over};
 ghost use Rattle.xml_instances.specs.XmlFaults.{items_told};
-ghost use Rattle.xml_instances.specs.Checking.{Stops, EndsAs, IsAgain, IsSpelledAs};
+ghost use Rattle.xml_instances.specs.Checking.{Stops, EndsAs, IsSpelledAs};
+ghost use Rattle.message_model.specs.Errors.{IsAgain};
 ghost use Rattle.markup.specs.Marks.{tag_limit};
 ghost use Rattle.xml_instances.specs.ReadInstances.{HasFedReader, IsReaderFor, reader_fed, reader_failed, reader_scratch, reader_token};
 ghost use Rattle.xml_instances.specs.Scratch.{IsScratchWithin};

@@ -7,10 +7,10 @@ use Rattle.outside.proofs.Pushing.{done, stopped, then_push}
 use Rattle.data_types.specs.Value.{Piece}
 use Rattle.facets.specs.declared.simple.Simple.{Simple}
 use Rattle.reference_check.specs.Forms.{Graph}
-use Rattle.xml_writer.specs.Gathering.{Gathers}
+use Rattle.outside.specs.Gathering.{Gathers}
 use Rattle.xml_writer.specs.PieceTexts.{IsPieceText, AreWritten, innermost_behind}
 use Rattle.xml_writer.specs.declared.innermost.Innermost.{Innermost}
-use Rattle.xml_writer.proofs.Fronts.{HasPushedFront, front_more, front_stops}
+use Rattle.outside.proofs.PushedFronts.{IsPushedTo, to_more, to_stops}
 
 -- the piece at a place stands first among those from there on
 from_piece : (pieces : List Piece) (at : ℕ) (p : Piece) → slice_get pieces at ≡ Some p → drop at pieces ≡ p ∷ drop (at + 1) pieces
@@ -32,12 +32,12 @@ module _ {S : Type 0} (held : S → Option (List ℕ)) (faults room : S → ℕ)
   -- Of each text that the pieces write a front went to the sink; then come the buffer, and what the pieces from the place on write.
   abbrev pub IsAhead : S → S → Innermost → Innermost → List Piece → ℕ → List ℕ → Type 0
   IsAhead old now first innermost pieces at buffer = (bytes : List ℕ) → AreWritten g first pieces bytes
-      → (rest : List ℕ) × HasPushedFront held faults room old now bytes (buffer ++ rest) × AreWritten g innermost (drop at pieces) rest
+      → (rest : List ℕ) × IsPushedTo held faults room old now bytes (buffer ++ rest) × AreWritten g innermost (drop at pieces) rest
 
   module _ (old now : S) (first innermost : Innermost) (pieces : List Piece) (at : ℕ) (buffer : List ℕ) (ahead : IsAhead old now first innermost pieces at buffer) where
     module _ (p : Piece) (is : slice_get pieces at ≡ Some p) where
       from_there : (bytes : List ℕ) → AreWritten g first pieces bytes
-          → (rest : List ℕ) × HasPushedFront held faults room old now bytes (buffer ++ rest) × AreWritten g innermost (p ∷ drop (at + 1) pieces) rest
+          → (rest : List ℕ) × IsPushedTo held faults room old now bytes (buffer ++ rest) × AreWritten g innermost (p ∷ drop (at + 1) pieces) rest
       from_there bytes w = (let r = ahead bytes w in (r.0, r.1, subst (λ ps. AreWritten g innermost ps r.0) (from_piece pieces at p is) r.2))
 
       -- the piece writes something
@@ -52,7 +52,7 @@ module _ {S : Type 0} (held : S → Option (List ℕ)) (faults room : S → ℕ)
           let parts = r.2 in
           let gathers = push parts.0 parts.2 in
           let e : buffer ++ r.0 ≡ gathers.0 ++ (left ++ parts.1) = ap (λ t. buffer ++ t) parts.4 ∙ moved buffer parts.0 gathers.0 left parts.1 gathers.1 in
-          (parts.1, front_more held faults room old now then bytes (buffer ++ r.0) gathers.0 (left ++ parts.1) e r.1 gathers.2, parts.3)
+          (parts.1, to_more held faults room old now then bytes (buffer ++ r.0) gathers.0 (left ++ parts.1) e r.1 gathers.2, parts.3)
 
       -- it does not
       pub piece_stops : (then : S) (left : List ℕ) (error : SinkError) → ((one : List ℕ) → IsPieceText g innermost p one → Gathers held faults room now then buffer left (stopped error) one)
@@ -61,7 +61,7 @@ module _ {S : Type 0} (held : S → Option (List ℕ)) (faults room : S → ℕ)
           let r = from_there bytes w in
           let parts = r.2 in
           let e : buffer ++ r.0 ≡ (buffer ++ parts.0) ++ parts.1 = ap (λ t. buffer ++ t) parts.4 ∙ sym (append_assoc buffer parts.0 parts.1) in
-          front_stops held faults room old now then bytes (buffer ++ r.0) (buffer ++ parts.0) parts.1 error e r.1 (push parts.0 parts.2)
+          to_stops held faults room old now then bytes (buffer ++ r.0) (buffer ++ parts.0) parts.1 error e r.1 (push parts.0 parts.2)
 
     -- behind the last piece the buffer is all that is to come
     pub ends : length pieces ≤ at → (then : S) (r : Result (Unit {0}) SinkError) → Pushes held faults room now then r buffer

@@ -1,7 +1,5 @@
 pub mod Blocks
-pub mod Fronts
 pub mod ValueTexts
-pub mod Gathered
 pub mod Ahead
 pub mod SomeText
 pub mod OneText

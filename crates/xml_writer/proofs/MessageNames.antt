@@ -10,7 +10,7 @@ use Rattle.std.proofs.lemmas.Str.{encode_ascii}
 use Rattle.lexical_core.specs.Characters.{IsXmlText}
 use Rattle.data_types.proofs.EscapeLemmas.{escaped_by_chars}
 use Rattle.data_types.proofs.VisibleTexts.{IsVisible, AreVisible, join_visible, point_is_visible}
-use Rattle.fragments.specs.Plain.{xml_namespace, xmlns_namespace}
+use Rattle.lexical_core.specs.Names.{xml_namespace, xmlns_namespace}
 use Rattle.fragments.specs.Fragment.{value_byte}
 use Rattle.message_model.specs.Tables.{namespace_front}
 use Rattle.repo_objects.specs.MessageId.{IsMessageId, is_letter_or_digit, is_lower_letter, is_digit, is_point_at}

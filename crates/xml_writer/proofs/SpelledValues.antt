@@ -16,7 +16,8 @@ use Rattle.markup.specs.declared.tag.Opening.{Opening}
 use Rattle.markup.specs.Token.{Token}
 use Rattle.markup.specs.Marks.{in_cdata}
 use Rattle.markup.specs.Events.{open_tags}
-use Rattle.fragments.specs.Plain.{IsPart, IsPlainName, IsPlainEntry, ArePlainEntries, xml_namespace, xmlns_namespace}
+use Rattle.fragments.specs.Plain.{IsPart, IsPlainName, IsPlainEntry, ArePlainEntries}
+use Rattle.lexical_core.specs.Names.{xml_namespace, xmlns_namespace}
 use Rattle.fragments.specs.Fragment.{start_text, end_text, nodes_text, fragment}
 use Rattle.reference_check.specs.Forms.{Graph, Form, Slot, form_slots}
 use Rattle.reference_check.specs.Forms as form

@@ -1,7 +1,7 @@
 -- The tags of canonical XML are those that a fragment has.
 use Rattle.std.proofs.Common.{◌≡◌, ◌≢◌, ◌⊎◌, inl, inr, ℕ, false, List, [], ◌∷◌, ◌++◌, Some, None, codes, flat_map, refl, ap, append-nil}
 use Rattle.lexical_core.specs.Tree.{Entry}
-use Rattle.fragments.specs.Plain.{xml_namespace}
+use Rattle.lexical_core.specs.Names.{xml_namespace}
 use Rattle.fragments.specs.Fragment.{is_xml, value_byte, start_text, end_text, default_within}
 use Rattle.message_model.specs.Writes.{named, currency}
 use Rattle.respell.proofs.Prefixes.{same_bytes, other_bytes}

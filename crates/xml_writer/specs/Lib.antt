@@ -3,4 +3,3 @@ pub mod SpellingLaw
 pub mod CanonXmlExample
 pub mod PieceTexts
 pub mod Laws
-pub mod Gathering

@@ -4,7 +4,8 @@ use Rattle.std.specs.List.{AllByRecursion}
 use Rattle.lexical_core.specs.Characters.{IsXmlText}
 use Rattle.markup.specs.Token.{Token}
 use Rattle.markup.specs.Marks.{Front, is_short, tag_limit}
-use Rattle.fragments.specs.Plain.{IsPart, xml_namespace, xmlns_namespace}
+use Rattle.fragments.specs.Plain.{IsPart}
+use Rattle.lexical_core.specs.Names.{xml_namespace, xmlns_namespace}
 use Rattle.fragments.specs.Fragment.{value_byte}
 use Rattle.data_types.specs.Value.{Value}
 use Rattle.reference_check.specs.Forms.{Slot, form_slots}

@@ -9,7 +9,6 @@
 //! Limits: the instance is one that the types of the model admit.
 #![tactic(auto)]
 
-mod buffer;
 mod innermost;
 pub mod laws;
 mod leaves;

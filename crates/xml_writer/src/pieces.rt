@@ -3,17 +3,16 @@ ghost use Rattle.std.specs.Prelude.{◌≡◌, ◌++◌, ℕ, List, IsTrue, fals
 ghost use Rattle.outside.specs.Pushes.{Pushes};
 ghost use Rattle.inst_pool.specs.Pieces.{piece_of};
 ghost use Rattle.message_model.specs.Tables.{types_of};
-ghost use Rattle.xml_writer.specs.Gathering.{Gathers};
+ghost use Rattle.outside.specs.Gathering.{Gathers};
 ghost use Rattle.xml_writer.specs.PieceTexts.{innermost_begun, IsPieceText, AreWritten};
 
-use crate::buffer::Buffer;
 use crate::innermost::{Innermost, innermost_begun, innermost_behind};
 use crate::leaves::push_held;
 use crate::tags::{push_begin, push_end};
 use data_types::LeafRef;
 use inst_pool::{Instance, Piece};
 use message_model::Model;
-use outside::{Sink, SinkError};
+use outside::{Buffer, Sink, SinkError};
 
 /// Pushes what the pieces of the instance write, one after the other, by way of a buffer.
 pub(crate) fn push_pieces<O: Sink>(

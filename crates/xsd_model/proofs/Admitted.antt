@@ -5,7 +5,7 @@ use Rattle.std.specs.Str.{chars}
 use Rattle.lexical_core.specs.Decimals.{Number as DecimalNumber}
 use Rattle.lexical_core.specs.Tree.{Expanded, Entry, Nodes, Element, Text, Tree}
 use Rattle.lexical_core.specs.Tree as tree
-use Rattle.data_types.specs.WhiteSpace.{IsSpace}
+use Rattle.lexical_core.specs.Characters.{IsSpace}
 use Rattle.data_types.specs.Leaf.{Leaf, Number}
 use Rattle.data_types.specs.Value.{Value, Children, Child}
 use Rattle.data_types.specs.Value as value

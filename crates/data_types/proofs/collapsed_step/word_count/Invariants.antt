@@ -1,6 +1,6 @@
 use Rattle.std.proofs.Common.{take}
 use Rattle.std.specs.List.{AllByRecursion}
-use Rattle.data_types.specs.WhiteSpace.{IsSpace}
+use Rattle.lexical_core.specs.Characters.{IsSpace}
 use Rattle.data_types.proofs.collapsed_step.word_count.Given as goal
 
 -- the codes so far are no white space

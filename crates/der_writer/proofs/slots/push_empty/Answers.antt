@@ -3,7 +3,7 @@ use Rattle.reference_check.specs.Forms.{form_slots}
 use Rattle.message_model.specs.Tables.{types_of}
 use Rattle.der_writer.proofs.EmptySlots.{empty_more, empty_past, get_below, told}
 use Rattle.der_writer.proofs.Pairs.{same_text}
-use Rattle.der_writer.proofs.PushedFronts.{to_more, to_stops, to_all}
+use Rattle.outside.proofs.PushedFronts.{to_more, to_stops, to_all}
 use Rattle.der_writer.proofs.slots.push_empty.Goals as goal
 
 pub empty_head-requires : goal.empty_head-requires

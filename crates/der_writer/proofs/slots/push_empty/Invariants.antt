@@ -2,7 +2,7 @@
 use Rattle.reference_check.specs.Forms.{form_slots}
 use Rattle.message_model.specs.Tables.{types_of}
 use Rattle.der_writer.proofs.EmptySlots.{empty_from}
-use Rattle.der_writer.proofs.PushedFronts.{IsPushedTo}
+use Rattle.outside.proofs.PushedFronts.{IsPushedTo}
 use Rattle.der_writer.proofs.slots.push_empty.Given as goal
 
 abbrev pub invariant-loop-k : goal.invariant-loop-k

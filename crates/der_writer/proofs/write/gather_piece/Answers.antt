@@ -4,10 +4,10 @@ use Rattle.outside.specs.Pushes.{Pushes}
 use Rattle.outside.proofs.Pushing.{stopped, fails_push}
 use Rattle.message_model.specs.Tables.{types_of}
 use Rattle.inst_pool.specs.Pieces.{piece_of}
-use Rattle.der_writer.specs.Gathering.{Gathers}
+use Rattle.outside.specs.Gathering.{Gathers}
 use Rattle.der_writer.specs.PieceOctets.{piece_octets}
 use Rattle.der_writer.specs.Heads.{before_view}
-use Rattle.der_writer.proofs.PushedFronts.{gathers_none}
+use Rattle.outside.proofs.PushedFronts.{gathers_none}
 use Rattle.der_writer.proofs.write.gather_piece.Goals as goal
 
 pub returns-in-Err : goal.returns-in-Err

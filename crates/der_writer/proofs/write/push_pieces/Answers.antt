@@ -6,7 +6,7 @@ use Rattle.inst_pool.specs.Pieces.{piece_of}
 use Rattle.der_writer.specs.PieceOctets.{piece_octets, pieces_octets}
 use Rattle.der_writer.specs.Heads.{before_view}
 use Rattle.der_writer.proofs.Pairs.{same_text}
-use Rattle.der_writer.proofs.PushedFronts.{to_ends, to_gathered, to_stops_there, gathers_same}
+use Rattle.outside.proofs.PushedFronts.{to_ends, to_gathered, to_stops_there, gathers_same}
 use Rattle.der_writer.proofs.Whole.{octets_from, octets_end}
 use Rattle.der_writer.proofs.write.push_pieces.Goals as goal
 

@@ -3,7 +3,7 @@ use Rattle.std.proofs.Common.{drop, ◌++◌}
 use Rattle.message_model.specs.Tables.{types_of}
 use Rattle.der_writer.specs.PieceOctets.{Begun, document_edge, pieces_octets}
 use Rattle.der_writer.specs.Heads.{before_view}
-use Rattle.der_writer.proofs.PushedFronts.{IsPushedTo}
+use Rattle.outside.proofs.PushedFronts.{IsPushedTo}
 use Rattle.der_writer.proofs.write.push_pieces.Given as goal
 
 abbrev pub invariant-loop-at : goal.invariant-loop-at

@@ -2,8 +2,8 @@
 use Rattle.std.proofs.Common.{◌++◌, sym, subst}
 use Rattle.outside.specs.Pushes.{Pushes}
 use Rattle.outside.proofs.Pushing.{stopped, fails_push}
-use Rattle.xml_writer.specs.Gathering.{Gathers}
-use Rattle.xml_writer.proofs.Gathered.{gathers_none}
+use Rattle.outside.specs.Gathering.{Gathers}
+use Rattle.outside.proofs.PushedFronts.{gathers_none}
 use Rattle.xml_writer.proofs.pieces.gather_piece.Goals as goal
 
 pub returns-in-Err : goal.returns-in-Err

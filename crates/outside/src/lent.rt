@@ -1,15 +1,17 @@
 // A source over bytes that are lent.
-ghost use Rattle.std.specs.Prelude.{◌≡◌, ◌<◌, ◌≤◌, Some, [], length, take};
+ghost use Rattle.std.specs.Prelude.{◌≡◌, Some};
 ghost use Rattle.std.specs.Io.{ReadsAtMost};
 ghost use Rattle.std.specs.Io.KnownBytes.{ReadConsumes};
 ghost use Rattle.outside.specs.Source.{HasCause};
 
-use outside::{Failed, Source};
+use super::errors::Failed;
+use super::serve::serve;
+use super::source::Source;
 use std::marker::Model;
 
 /// A source that gives bytes that are lent to it, and never fails.
 #[derive(Drop)]
-pub(crate) struct LentSource<'a> {
+pub struct LentSource<'a> {
     bytes: &'a [u8],
     /// How many of them were given.
     given: usize,
@@ -27,7 +29,7 @@ impl<'a> Model for LentSource<'a> {
 
 impl<'a> LentSource<'a> {
     /// All of the bytes are left.
-    pub(crate) fn new(bytes: &'a [u8]) -> LentSource<'a>
+    pub fn new(bytes: &'a [u8]) -> LentSource<'a>
         ensures { result ≡ bytes.now }
     {
         LentSource { bytes, given: 0 }
@@ -40,20 +42,8 @@ impl<'a> Source for LentSource<'a> {
     ghost faults = { λ _. 0 };
 
     fn pull(&mut self, buf: &mut [u8]) -> Result<usize, Failed> {
-        let count = serve(self.bytes.split_at(self.given).1, buf);
+        let count = serve(self.bytes.split_at(self.given).1, usize::MAX, buf);
         self.given += count;
         Ok(count)
     }
-}
-
-/// Copies the next bytes to the front of `buf`, as many as it has room for.
-fn serve(left: &[u8], buf: &mut [u8]) -> usize
-    ensures bound { result ≤ length buf.new }
-    ensures within { result ≤ length left.now }
-    ensures bytes { take result buf.new ≡ take result left.now }
-    ensures end { result ≡ 0 → 0 < length buf.new → left.now ≡ [] }
-{
-    let count = left.len().min(buf.len());
-    buf[..count].copy_from_slice(&left[..count]);
-    count
 }

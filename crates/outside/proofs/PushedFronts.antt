@@ -3,7 +3,7 @@ use Rattle.std.proofs.Common.{◌≡◌, ℕ, List, [], ◌++◌, Option, Result
 use Rattle.outside.specs.Pushes.{Pushes}
 use Rattle.outside.specs.declared.errors.SinkError.{SinkError}
 use Rattle.outside.proofs.Pushing.{done, stopped, nothing, then_push, fails_push}
-use Rattle.der_writer.specs.Gathering.{Gathers}
+use Rattle.outside.specs.Gathering.{Gathers}
 
 module _ {S : Type 0} (held : S → Option (List ℕ)) (faults room : S → ℕ) where
   -- all of the text but the rest went through

@@ -3,15 +3,17 @@ ghost use Rattle.std.specs.Prelude.{◌≡◌, ◌-◌, ◌<◌, ◌≤◌, Some
 ghost use Rattle.outside.specs.Pushes.{Pushes};
 ghost use Rattle.outside.specs.Sink.{PushAppends, HasSinkCause, HasRoom};
 
-use outside::{Sink, SinkError, push_bytes};
+use super::errors::SinkError;
+use super::render::push_bytes;
+use super::sink::Sink;
 use std::marker::Model;
 
 /// The most bytes that are gathered.
 const ROOM: usize = 8192;
 
-/// Bytes that wait to go to a sink, since many small pushes cost more than one.
+/// At most 8,192 bytes that wait to go to a sink, since many small pushes cost more than one. It takes no memory of its own.
 #[derive(Drop)]
-pub(crate) struct Buffer {
+pub struct Buffer {
     bytes: [u8; ROOM],
     count: usize,
 }
@@ -28,7 +30,7 @@ impl Model for Buffer {
 
 impl Buffer {
     /// No bytes.
-    pub(crate) fn new() -> Buffer
+    pub fn new() -> Buffer
         ensures { result ≡ [] }
     {
         Buffer {
@@ -37,22 +39,22 @@ impl Buffer {
         }
     }
 
-    /// The number of bytes.
-    pub(crate) fn len(&self) -> usize
+    /// How many bytes wait.
+    pub fn len(&self) -> usize
         ensures { result ≡ length self.now }
     {
         self.count
     }
 
     /// How many more bytes there is room for.
-    pub(crate) fn spare(&self) -> usize
+    pub fn spare(&self) -> usize
         ensures { result ≡ 8192 - length self.now }
     {
         ROOM - self.count
     }
 
     /// Keeps the first bytes.
-    pub(crate) fn truncate(&mut self, count: usize)
+    pub fn truncate(&mut self, count: usize)
         requires { count ≤ length self.old }
         ensures { self.new ≡ take count self.old }
     {
@@ -60,7 +62,7 @@ impl Buffer {
     }
 
     /// Pushes all bytes to the sink; none is left, also after an error.
-    pub(crate) fn flush<O: Sink>(&mut self, sink: &mut O) -> Result<(), SinkError>
+    pub fn flush<O: Sink>(&mut self, sink: &mut O) -> Result<(), SinkError>
         ensures push { Pushes O.held O.faults O.room sink.old sink.new result self.old }
         ensures empty { self.new ≡ [] }
     {
