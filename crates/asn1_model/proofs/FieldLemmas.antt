@@ -10,9 +10,9 @@ use Rattle.asn1_model.specs.declared.module.AsnShape.{AsnShape}
 use Rattle.asn1_model.specs.declared.module.AsnType.{AsnType}
 use Rattle.asn1_model.specs.declared.module.Field.{Field}
 use Rattle.asn1_model.specs.declared.order.NamedType.{NamedType}
-use Rattle.asn1_model.specs.Fields.{slot_in}
+use Rattle.asn1_model.specs.inner.Fields.{slot_in}
 use Rattle.asn1_model.specs.ModuleOf.{field_of, fields_with, name_of, shape_of, types_with, with_shape}
-use Rattle.asn1_model.specs.Order.{numbered}
+use Rattle.asn1_model.specs.inner.Order.{numbered}
 
 -- what is left of a list, with the item that is told at its place
 drop_item : {X : Type 0} (xs : List X) (n : ℕ) (x : X) → slice_get xs n ≡ Some x → drop n xs ≡ x ∷ drop (n + 1) xs

@@ -14,7 +14,7 @@ use Rattle.std.proofs.lemmas.Map.Text.{is_eq-slice_cmp}
 use Rattle.std.proofs.lemmas.Slice.Eq.{bytes_eq-Decides}
 use Rattle.asn1_model.specs.declared.given.Given.{Given}
 use Rattle.asn1_model.specs.Names.{is_among, candidate, first_free}
-use Rattle.asn1_model.specs.Given.{ending_of, AreAllGiven, HasGiven}
+use Rattle.asn1_model.specs.inner.Given.{ending_of, AreAllGiven, HasGiven}
 
 -- ---- the map by bytes
 

@@ -6,7 +6,7 @@ use Rattle.std.specs.Option.{option_map}
 use Rattle.std.specs.Prelude.{slice_get}
 use Rattle.message_model.specs.Tables.{Tables, TypeEntry}
 use Rattle.asn1_model.specs.ModuleOf.{Numbered, insert, comes_before, sorted_from, by_name, name_in}
-use Rattle.asn1_model.specs.Order.{numbered_from, sorted}
+use Rattle.asn1_model.specs.inner.Order.{numbered_from, sorted}
 
 sorted_from_is : (k : ℕ) (ts : List TypeEntry) → sorted (numbered_from k ts) ≡ sorted_from k ts
 sorted_from_is k [] = refl

@@ -8,8 +8,8 @@ use Rattle.std.proofs.lemmas.List.{get_or-set_other, get_or-replicate, get_or_pa
 use Rattle.std.proofs.Math.Seq.{drop-cons}
 use Rattle.asn1_model.specs.declared.order.NamedType.{NamedType}
 use Rattle.asn1_model.specs.ModuleOf.{name_in}
-use Rattle.asn1_model.specs.Order.{numbered}
-use Rattle.asn1_model.specs.Places.{name_at}
+use Rattle.asn1_model.specs.inner.Order.{numbered}
+use Rattle.asn1_model.specs.inner.Places.{name_at}
 
 -- what is written of one more type
 pub place_more : (types : List NamedType) (given : List (List ℕ)) (places : List ℕ) (i p : ℕ) (d : NamedType) → i < length types → length given ≡ length types → p < length places

@@ -13,7 +13,7 @@ use Rattle.std.proofs.lemmas.Fn.{always_returns_same}
 use Rattle.std.proofs.lemmas.List.Sorted.{ranks_by}
 use Rattle.asn1_model.specs.declared.order.NamedType.{NamedType}
 use Rattle.asn1_model.specs.ModuleOf.{Numbered, insert, comes_before}
-use Rattle.asn1_model.specs.Order.{numbered, sorted}
+use Rattle.asn1_model.specs.inner.Order.{numbered, sorted}
 use Rattle.lexical_core.proofs.StableSort.{put_by, sorted_by, by_less, sorted_is}
 use denote.Param.Members.{Mut}
 

@@ -10,9 +10,9 @@ use Rattle.asn1_model.specs.declared.order.NamedType.{NamedType}
 use Rattle.asn1_model.specs.declared.type_names.TypeNames.{TypeNames}
 use Rattle.asn1_model.specs.Names.{given_names, given_after, first_free}
 use Rattle.asn1_model.specs.ModuleOf.{by_name, names_given, name_of, name_in, type_name_of}
-use Rattle.asn1_model.specs.Order.{numbered}
-use Rattle.asn1_model.specs.Places.{name_at}
-use Rattle.asn1_model.specs.TypeNames.{AreNames}
+use Rattle.asn1_model.specs.inner.Order.{numbered}
+use Rattle.asn1_model.specs.inner.Places.{name_at}
+use Rattle.asn1_model.specs.inner.TypeNames.{AreNames}
 use Rattle.asn1_model.proofs.NumberedTypes.{name_none}
 
 -- as many names are given as there are

@@ -6,9 +6,4 @@ pub mod Values
 pub mod InstanceValues
 pub mod Agreement
 pub mod Sound
-pub mod Joined
-pub mod Given
-pub mod Order
-pub mod Places
-pub mod TypeNames
-pub mod Fields
+pub mod inner

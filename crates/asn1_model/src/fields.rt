@@ -5,8 +5,8 @@ ghost use Rattle.message_model.specs.Sound.{AreSound};
 ghost use Rattle.message_model.specs.Tables.{Tables, types_of};
 ghost use Rattle.der_model.specs.Structures.{is_one};
 ghost use Rattle.asn1_model.specs.ModuleOf.{name_of, mode_of, slot_identifier, field_of, fields_with, fields_of};
-ghost use Rattle.asn1_model.specs.Fields.{slot_in};
-ghost use Rattle.asn1_model.specs.TypeNames.{AreNames};
+ghost use Rattle.asn1_model.specs.inner.Fields.{slot_in};
+ghost use Rattle.asn1_model.specs.inner.TypeNames.{AreNames};
 
 use crate::given::given_names;
 use crate::module::{Field, Fields, Mode, Names};

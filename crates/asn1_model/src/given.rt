@@ -2,7 +2,7 @@
 ghost use Rattle.std.specs.Prelude.{◌≡◌, ◌<◌, ◌≤◌, ◌-◌, ℕ, List, [], ◌∷◌, Some, None, IfOk, OnOk, IsSome, length, if◌then◌else◌};
 ghost use Rattle.std.specs.Str.{bytes_eq};
 ghost use Rattle.asn1_model.specs.Names.{is_among, candidate, first_free, given_names};
-ghost use Rattle.asn1_model.specs.Given.{ending_of, AreAllGiven, HasGiven};
+ghost use Rattle.asn1_model.specs.inner.Given.{ending_of, AreAllGiven, HasGiven};
 
 use crate::module::Names;
 use lexical_core::{Items, Text};

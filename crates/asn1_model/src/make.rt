@@ -3,8 +3,8 @@ ghost use Rattle.std.specs.Prelude.{◌≡◌, ◌++◌, [], IfOk, OnOk, map};
 ghost use Rattle.message_model.specs.Sound.{AreSound};
 ghost use Rattle.message_model.specs.Tables.{types_of};
 ghost use Rattle.asn1_model.specs.ModuleOf.{by_name, names_given, types_with, with_shape, module_of as module_of_tables};
-ghost use Rattle.asn1_model.specs.Order.{numbered};
-ghost use Rattle.asn1_model.specs.TypeNames.{AreNames};
+ghost use Rattle.asn1_model.specs.inner.Order.{numbered};
+ghost use Rattle.asn1_model.specs.inner.TypeNames.{AreNames};
 
 use crate::module::{AsnShape, AsnType, AsnTypes, Module};
 use crate::names::type_name;

@@ -3,7 +3,7 @@ ghost use Rattle.std.specs.Prelude.{◌≡◌, false, ◌++◌, IfOk, OnOk, not,
 ghost use Rattle.std.specs.List.{list_any};
 ghost use Rattle.std.specs.Str.{bytes_eq};
 ghost use Rattle.asn1_model.specs.Names.{is_lower, is_in_name, to_lower, to_upper, without_gap, hyphenated, begun, bare_name, first_lower, first_upper, is_among, reserved, with_one, identifier, type_name};
-ghost use Rattle.asn1_model.specs.Joined.{joined};
+ghost use Rattle.asn1_model.specs.inner.Joined.{joined};
 
 use std::alloc::{AllocError, Global};
 

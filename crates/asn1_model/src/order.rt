@@ -1,7 +1,7 @@
 // The types of a message in the order of their names.
 ghost use Rattle.std.specs.Prelude.{◌≡◌, IfOk, OnOk, map};
 ghost use Rattle.asn1_model.specs.ModuleOf.{by_name};
-ghost use Rattle.asn1_model.specs.Order.{numbered, numbered_from, sorted};
+ghost use Rattle.asn1_model.specs.inner.Order.{numbered, numbered_from, sorted};
 
 use message_model::Model;
 use std::alloc::{AllocError, Global};

@@ -1,8 +1,8 @@
 // Where the name of each type stands among those that are given in the order of names.
 ghost use Rattle.std.specs.Prelude.{◌≡◌, ℕ, ◌<◌, List, IfOk, map, length, slice_set};
 ghost use Rattle.asn1_model.specs.ModuleOf.{name_in};
-ghost use Rattle.asn1_model.specs.Order.{numbered};
-ghost use Rattle.asn1_model.specs.Places.{name_at};
+ghost use Rattle.asn1_model.specs.inner.Order.{numbered};
+ghost use Rattle.asn1_model.specs.inner.Places.{name_at};
 
 use crate::order::NamedType;
 use lexical_core::Text;

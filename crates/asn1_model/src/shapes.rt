@@ -4,7 +4,7 @@ ghost use Rattle.message_model.specs.Sound.{AreSound};
 ghost use Rattle.message_model.specs.Tables.{Tables, types_of};
 ghost use Rattle.asn1_model.specs.Names.{identifier};
 ghost use Rattle.asn1_model.specs.ModuleOf.{code_names, name_of, shape_of, simple_shape, step_of};
-ghost use Rattle.asn1_model.specs.TypeNames.{AreNames};
+ghost use Rattle.asn1_model.specs.inner.TypeNames.{AreNames};
 
 use crate::fields::fields_of;
 use crate::given::given_names;

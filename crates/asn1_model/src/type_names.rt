@@ -3,8 +3,8 @@ ghost use Rattle.std.specs.Prelude.{◌≡◌, IfOk, length, map, slice_get, sli
 ghost use Rattle.std.specs.Option.{option_copied};
 ghost use Rattle.message_model.specs.Tables.{Tables};
 ghost use Rattle.asn1_model.specs.ModuleOf.{by_name, names_given, name_of, type_name_of};
-ghost use Rattle.asn1_model.specs.Order.{numbered};
-ghost use Rattle.asn1_model.specs.TypeNames.{AreNames};
+ghost use Rattle.asn1_model.specs.inner.Order.{numbered};
+ghost use Rattle.asn1_model.specs.inner.TypeNames.{AreNames};
 
 use crate::given::given_names;
 use crate::module::Names;

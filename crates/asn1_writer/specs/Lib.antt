@@ -1,1 +1,1 @@
-pub mod Fragments
+pub mod inner

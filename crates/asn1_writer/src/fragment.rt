@@ -1,6 +1,6 @@
 // Fragments of a type's text, pushed one after the other.
 ghost use Rattle.outside.specs.Pushes.{Pushes};
-ghost use Rattle.asn1_writer.specs.Fragments.{fragment_text};
+ghost use Rattle.asn1_writer.specs.inner.Fragments.{fragment_text};
 
 use crate::constraint::{push_bound, push_digits, push_pattern, push_profile, push_size};
 use facets::Bound;
@@ -34,7 +34,7 @@ pub enum Fragment<'a> {
 }
 
 impl Render for Fragment<'_> {
-    ghost use Rattle.asn1_writer.specs.Fragments.{fragment_text};
+    ghost use Rattle.asn1_writer.specs.inner.Fragments.{fragment_text};
 
     ghost rendered = { fragment_text };
 

@@ -18,7 +18,7 @@ use Rattle.std.proofs.lemmas.Slice.Eq.{bytes_eq-Decides}
 use Rattle.indexmap.specs.IndexSet.{IndexSet, insert_key}
 use Rattle.code_sets.specs.declared.record.CodeRecord.{CodeRecord}
 use Rattle.code_sets.specs.Codes.{codes_for, once}
-use Rattle.code_sets.specs.Given.{texts_of, with_text, codes_in}
+use Rattle.code_sets.specs.inner.Given.{texts_of, with_text, codes_in}
 
 -- what follows where a result is Ok
 pub on_ok : {T E P Q : Type 0} (r : Result T E) → (P → Q) → OnOk r P → OnOk r Q

@@ -17,7 +17,7 @@ use Rattle.repo_objects.specs.Repository.{Entry, Contents, coded, with_codes}
 use Rattle.code_sets.specs.declared.record.CodeRecord.{CodeRecord}
 use Rattle.code_sets.specs.Codes.{JoinFault, JoinsAll, code_of, codes_for, has_own_codes, is_code_set, is_none_yet, is_taken, joined, joined_entry, once}
 use Rattle.code_sets.specs.CodesErrors.{AreCodes}
-use Rattle.code_sets.specs.Given.{NamesOwn, given_entry, is_named, with_own_name, with_text}
+use Rattle.code_sets.specs.inner.Given.{NamesOwn, given_entry, is_named, with_own_name, with_text}
 
 -- ---- an item of a list
 

@@ -1,4 +1,4 @@
 pub mod Codes
 pub mod CodesErrors
-pub mod Given
 pub mod Laws
+pub mod inner

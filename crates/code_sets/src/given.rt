@@ -3,7 +3,7 @@ ghost use Rattle.std.specs.Prelude.{◌≡◌, [], List, ℕ, IfOk, OnOk, IsSome
 ghost use Rattle.std.specs.List.{list_any};
 ghost use Rattle.std.specs.Str.{bytes_eq};
 ghost use Rattle.code_sets.specs.Codes.{code_of, codes_for, once};
-ghost use Rattle.code_sets.specs.Given.{texts_of, with_text, codes_in, HasName};
+ghost use Rattle.code_sets.specs.inner.Given.{texts_of, with_text, codes_in, HasName};
 
 use crate::record::CodeLists;
 use indexmap::IndexSet;

@@ -5,7 +5,7 @@ ghost use Rattle.repo_objects.specs.Objects.{HasCodeTexts};
 ghost use Rattle.repo_objects.specs.Repository.{Entry};
 ghost use Rattle.code_sets.specs.Codes.{JoinFault, JoinsAll, is_code_set, is_none_yet, joined};
 ghost use Rattle.code_sets.specs.CodesErrors.{AreCodes, RefusesJoin};
-ghost use Rattle.code_sets.specs.Given.{NamesOwn, codes_in, given_entry, texts_of, with_own_name};
+ghost use Rattle.code_sets.specs.inner.Given.{NamesOwn, codes_in, given_entry, texts_of, with_own_name};
 
 use crate::errors::CodesError;
 use crate::given::{GivenCodes, Texts, add_text, defs_for, given_codes, has_text};

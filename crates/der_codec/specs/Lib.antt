@@ -10,6 +10,6 @@ pub mod Limits
 pub mod KeptOctets
 pub mod KeptPieces
 pub mod Checking
+pub mod ReadInstances
 pub mod Laws
 pub mod ReadyLaws
-pub mod ReadInstances

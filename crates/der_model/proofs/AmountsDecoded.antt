@@ -20,7 +20,7 @@ use Rattle.der_model.specs.Structures as structures
 use Rattle.der_model.specs.Der.{Inner}
 use Rattle.der_model.specs.States.{Begins, is_under, field_answer}
 use Rattle.der_model.specs.Faults.{IsHeldIn}
-use Rattle.der_model.specs.Conforms.{Conforms}
+use Rattle.der_model.specs.inner.Conforms.{Conforms}
 use Rattle.der_model.specs.Sound.{IsSound}
 use Rattle.der_model.proofs.SoundMessages.{IsAmount, amounts_of}
 use Rattle.der_model.proofs.ContentsLaws.{contents_are_written}

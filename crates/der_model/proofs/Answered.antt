@@ -15,7 +15,7 @@ use Rattle.der_model.specs.Sound.{IsSound}
 use Rattle.der_model.proofs.SoundMessages.{are_sorted, no_options, few_slots}
 use Rattle.der_model.specs.Laws.{OneValue, NoProperFront, OneFault, SpelledHasNone, OneAnswer, WholeIsSpelled}
 use Rattle.der_model.proofs.OneFault as faults
-use Rattle.der_model.specs.Conforms.{Conforms}
+use Rattle.der_model.specs.inner.Conforms.{Conforms}
 use Rattle.der_model.specs.Structures.{form_structure}
 use Rattle.der_model.proofs.Decoded.{fields_from}
 use Rattle.der_model.proofs.WholeValues.{whole_of_values, values_of_whole}

@@ -17,7 +17,7 @@ use Rattle.der_model.specs.Der.{Body, Octets, Inner, under, item, slot_values, a
 use Rattle.der_model.specs.States.{Answer, Begins, Breaks, Fine, is_under, any_answer, item_answer, item_end, next_number}
 use Rattle.reference_check.specs.Steps.{has_room}
 use Rattle.der_model.specs.Faults.{IsHeldIn}
-use Rattle.der_model.specs.Conforms.{Conforms}
+use Rattle.der_model.specs.inner.Conforms.{Conforms}
 use Rattle.message_model.specs.Sound.{IsNoOption}
 use Rattle.der_model.specs.Sound.{IsSound}
 use Rattle.der_model.proofs.SoundMessages.{HasBounds, no_options, bounds_of}

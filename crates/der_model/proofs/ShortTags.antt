@@ -15,7 +15,7 @@ use Rattle.message_model.specs.Admits.{AdmitsAs, AdmitsChildren}
 use Rattle.der_model.specs.DerMessage.{DerMessage}
 use Rattle.der_model.specs.Structures.{is_single, kind_number, simple_number}
 use Rattle.der_model.specs.Der.{Body, Octets, Inner, body, inner_of, under, item, placed, slot_values, all_slots, chosen_slot, alternative, values_at}
-use Rattle.der_model.specs.Conforms.{AreShort}
+use Rattle.der_model.specs.inner.Conforms.{AreShort}
 use Rattle.der_model.proofs.WholeValues.{length-wrapped}
 use Rattle.der_model.proofs.Spelled.{if_true, if_false}
 

@@ -10,7 +10,7 @@ use Rattle.der_model.specs.Structures.{Spot, Component, structure}
 use Rattle.der_model.specs.States.{Part, Identifier, Length, End, part_octets, Level, State, AwaitsLength, AwaitsContents, Within, Answer, Begins, begun, level_answer, identifier_answer, end_from, names_in, state_after, Stands}
 use Rattle.der_model.specs.States as states
 use Rattle.der_model.specs.Faults.{Front}
-use Rattle.der_model.specs.Conforms.{Conforms, AreShort}
+use Rattle.der_model.specs.inner.Conforms.{Conforms, AreShort}
 use Rattle.der_model.specs.ShownPieces.{begin_each, end_each, component_elements, elements_begun, elements_ended, IsLeafIn, PartsShow}
 use Rattle.der_model.proofs.OnePart.{one_part}
 use Rattle.der_model.proofs.WholeValues.{came_more, length-wrapped}

@@ -13,7 +13,7 @@ use Rattle.der_model.specs.Der.{body, inner_of, der_values}
 use Rattle.der_model.specs.States.{Part, Identifier, Length, End, part_octets, Level, State, Start, AwaitsLength, AwaitsContents, Within, Name, Numbered, end_from, state_after}
 use Rattle.der_model.specs.States as states
 use Rattle.der_model.specs.Faults.{IsHeldIn, IsClean, Front, IsWhole}
-use Rattle.der_model.specs.Conforms.{AreShort, IsInstance}
+use Rattle.der_model.specs.inner.Conforms.{AreShort, IsInstance}
 use Rattle.der_model.specs.Sound.{IsSound}
 use Rattle.der_model.specs.ShownPieces.{IsLeafIn, PartShows, PartsShow, elements_ended, end_each}
 use Rattle.der_model.specs.ShownLaws.{WholeShowsPieces, FrontShowsPieces, ShowOnePieces, OneMoreShows}

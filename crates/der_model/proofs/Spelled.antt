@@ -21,7 +21,7 @@ use Rattle.der_model.specs.Der.{Body, Octets, Inner, under, inner_of, item, plac
 use Rattle.der_model.specs.States.{Begins, Fine, is_under, field_answer, any_answer, field_end, item_answer, item_end, next_number}
 use Rattle.reference_check.specs.Steps.{has_room}
 use Rattle.der_model.specs.Faults.{IsHeldIn}
-use Rattle.der_model.specs.Conforms.{Conforms}
+use Rattle.der_model.specs.inner.Conforms.{Conforms}
 use Rattle.message_model.specs.Sound.{IsNoOption}
 use Rattle.der_model.proofs.SoundMessages.{HaveNoOptions}
 use Rattle.der_model.proofs.ContentsLaws.{written_contents}

@@ -12,7 +12,7 @@ use Rattle.std.proofs.lemmas.Bool.Decides.{nat_tests}
 use Rattle.der_octets.specs.Octets.{class_bits, form_bit}
 use Rattle.der_model.specs.States.{is_under}
 use Rattle.der_model.specs.Faults.{IsHeldIn, Front, IsWhole, outermost}
-use Rattle.der_model.specs.Conforms.{Conforms, AreShort, IsInstance}
+use Rattle.der_model.specs.inner.Conforms.{Conforms, AreShort, IsInstance}
 
 -- a front of the state, place and bytes that are told otherwise
 pub front_from : {P : Type 0} (m : DerMessage P) (s t : State P) (place at : ℕ) (x y : List ℕ) (ps : List Part) (last : State P) (end : ℕ) (rest : List ℕ) → s ≡ t → place ≡ at → x ≡ y → Front m t at y ps last end rest → Front m s place x ps last end rest

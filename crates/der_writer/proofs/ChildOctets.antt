@@ -15,7 +15,7 @@ use Rattle.der_model.specs.Structures.{is_single}
 use Rattle.der_model.specs.Der.{Body, placed, all_slots, alternative, chosen_slot, body, values_at}
 use Rattle.der_model.proofs.ChildLists.{values_none, slots_congr, compared}
 use Rattle.der_writer.specs.Measured.{contents_octets, slot_octets}
-use Rattle.der_writer.specs.PieceOctets.{Before, Begun, Filled, Ended, next_slot, head, empty_slots, sequence_slots, list_head, element_head}
+use Rattle.der_writer.specs.inner.PieceOctets.{Before, Begun, Filled, Ended, next_slot, head, empty_slots, sequence_slots, list_head, element_head}
 use Rattle.der_writer.proofs.OctetLemmas.{IsBodyOf, placed_octets, slot_is, slots_skipped, slots_empty, drop_get, drop_twice}
 
 -- the octets of children behind a piece, and of the slots without children

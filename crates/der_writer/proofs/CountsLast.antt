@@ -12,9 +12,9 @@ use Rattle.message_model.specs.Tables.{Tables, types_of, edge_at, pieces_of}
 use Rattle.der_model.specs.DerMessage.{DerMessage, der_message}
 use Rattle.inst_pool.specs.Pieces.{Held}
 use Rattle.der_writer.specs.Measured.{Beside, Free, Counts, value_counts, child_counts, HasCounts}
-use Rattle.der_writer.specs.PieceOctets.{Begun, document_edge}
-use Rattle.der_writer.specs.Passes.{stage}
-use Rattle.der_writer.specs.Measuring.{NumbersAreKept}
+use Rattle.der_writer.specs.inner.PieceOctets.{Begun, document_edge}
+use Rattle.der_writer.specs.inner.Passes.{stage}
+use Rattle.der_writer.specs.inner.Measuring.{NumbersAreKept}
 use Rattle.der_writer.proofs.KnownStages.{index_set}
 use Rattle.der_writer.proofs.Whole.{value_beside, whole_staged, whole_sum}
 

@@ -4,7 +4,7 @@ use Rattle.std.specs.Prelude.{slice_get}
 use Rattle.std.proofs.lemmas.List.{take_all}
 use Rattle.reference_check.specs.Forms.{Slot}
 use Rattle.message_model.specs.declared.model.Slot.{Slot as Told}
-use Rattle.der_writer.specs.PieceOctets.{empty_slot, empty_slots}
+use Rattle.der_writer.specs.inner.PieceOctets.{empty_slot, empty_slots}
 use Rattle.der_writer.proofs.OctetLemmas.{drop_get}
 
 -- those from slot k on and before another

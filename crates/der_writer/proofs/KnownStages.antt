@@ -9,12 +9,12 @@ use Rattle.facets.specs.declared.simple.Simple.{Simple}
 use Rattle.reference_check.specs.Forms.{Graph}
 use Rattle.inst_pool.specs.Pieces.{Held, piece_bytes, bytes_of}
 use Rattle.der_writer.specs.Measured.{Beside, Free, Counts}
-use Rattle.der_writer.specs.PieceOctets.{Begun, Filled, Ended, before_of}
-use Rattle.der_writer.specs.Passes.{Frame, Stage, following, innermost_frame, piece_step, stage}
+use Rattle.der_writer.specs.inner.PieceOctets.{Begun, Filled, Ended, before_of}
+use Rattle.der_writer.specs.inner.Passes.{Frame, Stage, following, innermost_frame, piece_step, stage}
 use Rattle.der_writer.proofs.OctetLemmas.{drop_get}
 use Rattle.der_writer.proofs.ChildOctets.{if_true}
 use Rattle.der_writer.proofs.Whole.{is_there}
-use Rattle.der_writer.specs.Measuring.{AreBeside, following_piece, following_at, AreAwaited, Knows, before_place, behind_piece}
+use Rattle.der_writer.specs.inner.Measuring.{AreBeside, following_piece, following_at, AreAwaited, Knows, before_place, behind_piece}
 
 pub ended_lower : (held : Held) (low more around : ℕ) (fs : List Frame) → more ≤ low → AreAwaited held low around fs → AreAwaited held more around fs
 ended_lower held low more around [] l h = h

@@ -12,7 +12,7 @@ use Rattle.der_model.specs.DerMessage.{DerMessage}
 use Rattle.der_model.specs.Structures.{is_single, is_constructed, universal_tag}
 use Rattle.der_model.specs.Der.{Body, Octets, Inner, under, item, placed, slot_values, all_slots, body}
 use Rattle.der_writer.specs.Measured.{contents_octets}
-use Rattle.der_writer.specs.PieceOctets.{head, empty_slot, empty_slots, item_head, element_head}
+use Rattle.der_writer.specs.inner.PieceOctets.{head, empty_slot, empty_slots, item_head, element_head}
 
 -- a value is its head and its contents
 pub wrapped_is : (c : Bool) (t : Tag) (x : List ℕ) → wrapped (identifier c t) x ≡ head c t (length x) ++ x

@@ -4,9 +4,9 @@ use Rattle.std.specs.Prelude.{if◌then◌else◌, ◌==◌}
 use Rattle.data_types.specs.Value.{Piece, Begins, Holds, Ends}
 use Rattle.facets.specs.declared.simple.Simple.{Simple}
 use Rattle.reference_check.specs.Forms.{Graph}
-use Rattle.der_writer.specs.PieceOctets.{Before, Begun, Filled, Ended, octets_before, begin_octets, piece_octets}
-use Rattle.der_writer.specs.Passes.{Frame, Stage, following, innermost_frame, piece_step, stage}
-use Rattle.der_writer.specs.Measuring.{AreBeside, AreWithin}
+use Rattle.der_writer.specs.inner.PieceOctets.{Before, Begun, Filled, Ended, octets_before, begin_octets, piece_octets}
+use Rattle.der_writer.specs.inner.Passes.{Frame, Stage, following, innermost_frame, piece_step, stage}
+use Rattle.der_writer.specs.inner.Measuring.{AreBeside, AreWithin}
 
 pub stage_beside : (g : Graph ℕ Simple) (b : Before) (ps : List Piece) → AreBeside ps (stage g b ps).beside
 stage_beside g b [] = tt

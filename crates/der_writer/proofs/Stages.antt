@@ -15,8 +15,8 @@ use Rattle.der_model.specs.DerMessage.{DerMessage, der_message}
 use Rattle.der_model.specs.Der.{body, values_at}
 use Rattle.der_model.proofs.ChildLists.{values_none}
 use Rattle.der_writer.specs.Measured.{Beside, Free, Counts, contents_octets, slot_octets, value_counts, child_counts}
-use Rattle.der_writer.specs.PieceOctets.{Before, Begun, Filled, Ended, element_head, begin_octets, piece_octets, counted_octets, len_of, group_of}
-use Rattle.der_writer.specs.Passes.{Frame, Stage, following, innermost_frame, piece_step, stage}
+use Rattle.der_writer.specs.inner.PieceOctets.{Before, Begun, Filled, Ended, element_head, begin_octets, piece_octets, counted_octets, len_of, group_of}
+use Rattle.der_writer.specs.inner.Passes.{Frame, Stage, following, innermost_frame, piece_step, stage}
 use Rattle.der_writer.proofs.OctetLemmas.{body_fits}
 use Rattle.der_writer.proofs.ChildOctets.{Comes, comes_on, slot_from, if_true, if_false}
 use Rattle.der_writer.proofs.ValueOctets.{value_octets}

@@ -16,7 +16,7 @@ use Rattle.der_model.specs.LeafContents.{leaf_contents}
 use Rattle.der_model.specs.DerMessage.{DerMessage, der_message}
 use Rattle.der_model.specs.Der.{body, values_at}
 use Rattle.der_writer.specs.Measured.{Beside, Free, Counts, contents_octets, slot_octets, value_counts, child_counts}
-use Rattle.der_writer.specs.PieceOctets.{Before, Begun, Filled, Ended, next_slot, empty_slots, sequence_slots, slots_behind, list_head, element_head, tagged_leaf, first_leaf, piece_octets, counted_octets}
+use Rattle.der_writer.specs.inner.PieceOctets.{Before, Begun, Filled, Ended, next_slot, empty_slots, sequence_slots, slots_behind, list_head, element_head, tagged_leaf, first_leaf, piece_octets, counted_octets}
 use Rattle.der_writer.proofs.OctetLemmas.{wrapped_is, body_fits}
 use Rattle.der_writer.proofs.ChildOctets.{rest_octets, Comes, child_octets, comes_on, rest_none}
 

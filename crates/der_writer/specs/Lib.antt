@@ -1,5 +1,2 @@
 pub mod Measured
-pub mod PieceOctets
-pub mod Passes
-pub mod Heads
-pub mod Measuring
+pub mod inner

@@ -5,7 +5,7 @@ ghost use Rattle.outside.specs.Pushes.{Pushes};
 ghost use Rattle.der_model.specs.LeafContents.{leaf_contents, integer_octets, flag_octet};
 ghost use Rattle.der_model.specs.RealContents.{real_contents};
 ghost use Rattle.inst_pool.specs.Pieces.{leaf_bytes};
-ghost use Rattle.der_writer.specs.Heads.{head_octets};
+ghost use Rattle.der_writer.specs.inner.Heads.{head_octets};
 
 use crate::head::Head;
 use crate::heads::push_head;

@@ -19,8 +19,8 @@ pub(crate) struct Head {
 
 impl Head {
     ghost use Rattle.der_octets.specs.Octets.{universal, context};
-    ghost use Rattle.der_writer.specs.PieceOctets.{head};
-    ghost use Rattle.der_writer.specs.Heads.{head_octets};
+    ghost use Rattle.der_writer.specs.inner.PieceOctets.{head};
+    ghost use Rattle.der_writer.specs.inner.Heads.{head_octets};
 
     /// A head with a universal tag: X.680 §8.4.
     pub(crate) fn universal(constructed: bool, number: u16) -> Head

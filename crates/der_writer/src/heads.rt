@@ -3,7 +3,7 @@ ghost use Rattle.std.specs.Prelude.{◌≡◌, ◌+◌, ◌<◌, ◌≤◌, ◌+
 ghost use Rattle.std.specs.Int.Digits.{digits_of};
 ghost use Rattle.outside.specs.Pushes.{Pushes};
 ghost use Rattle.der_octets.specs.Octets.{identifier, length_octets, class_bits, form_bit};
-ghost use Rattle.der_writer.specs.Heads.{class_of, tag_of, head_octets};
+ghost use Rattle.der_writer.specs.inner.Heads.{class_of, tag_of, head_octets};
 
 use crate::head::{Class, Head};
 use outside::{Sink, SinkError, push_bytes};

@@ -8,10 +8,10 @@ ghost use Rattle.data_types.specs.Value.{Piece as PieceOf, Begins, Holds, Ends};
 ghost use Rattle.message_model.specs.Tables.{types_of};
 ghost use Rattle.inst_pool.specs.Pieces.{edge_of, piece_bytes};
 ghost use Rattle.der_writer.specs.Measured.{IsMeasured};
-ghost use Rattle.der_writer.specs.PieceOctets.{Begun, document_edge, leaf_octets};
-ghost use Rattle.der_writer.specs.Passes.{Frame, Stage, innermost_frame, piece_step, stage};
-ghost use Rattle.der_writer.specs.Measuring.{AreBeside, AreAwaited, NumbersAreKept, AreWithin, Knows, before_place, following_at};
-ghost use Rattle.der_writer.specs.Heads.{before_view};
+ghost use Rattle.der_writer.specs.inner.PieceOctets.{Begun, document_edge, leaf_octets};
+ghost use Rattle.der_writer.specs.inner.Passes.{Frame, Stage, innermost_frame, piece_step, stage};
+ghost use Rattle.der_writer.specs.inner.Measuring.{AreBeside, AreAwaited, NumbersAreKept, AreWithin, Knows, before_place, following_at};
+ghost use Rattle.der_writer.specs.inner.Heads.{before_view};
 
 use crate::contents::leaf_size;
 use crate::heads::head_size;

@@ -8,8 +8,8 @@ ghost use Rattle.der_octets.specs.Octets.{context};
 ghost use Rattle.der_model.specs.LeafContents.{leaf_contents};
 ghost use Rattle.der_model.specs.Structures.{is_constructed, is_one, simple_number};
 ghost use Rattle.inst_pool.specs.Pieces.{edge_of, piece_of};
-ghost use Rattle.der_writer.specs.PieceOctets.{before_of, next_slot, goes_on, head, first_leaf, item_head, list_head, begin_octets, leaf_octets, own_slot};
-ghost use Rattle.der_writer.specs.Heads.{head_octets, before_view};
+ghost use Rattle.der_writer.specs.inner.PieceOctets.{before_of, next_slot, goes_on, head, first_leaf, item_head, list_head, begin_octets, leaf_octets, own_slot};
+ghost use Rattle.der_writer.specs.inner.Heads.{head_octets, before_view};
 
 use crate::head::Head;
 use data_types::Kind;

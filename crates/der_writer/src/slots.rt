@@ -3,8 +3,8 @@ ghost use Rattle.std.specs.Prelude.{◌≡◌, ◌-◌, ◌≤◌, true, false, 
 ghost use Rattle.outside.specs.Pushes.{Pushes};
 ghost use Rattle.reference_check.specs.Forms.{form_slots};
 ghost use Rattle.message_model.specs.Tables.{types_of};
-ghost use Rattle.der_writer.specs.PieceOctets.{empty_slots, sequence_slots, slots_behind};
-ghost use Rattle.der_writer.specs.Heads.{before_view};
+ghost use Rattle.der_writer.specs.inner.PieceOctets.{empty_slots, sequence_slots, slots_behind};
+ghost use Rattle.der_writer.specs.inner.Heads.{before_view};
 
 use crate::heads::{head_size, push_head};
 use crate::pieces::{Before, empty_head, next_slot};

@@ -10,8 +10,8 @@ ghost use Rattle.der_model.specs.Der.{der_of};
 ghost use Rattle.inst_pool.specs.Pieces.{edge_of, piece_of};
 ghost use Rattle.outside.specs.Gathering.{Gathers};
 ghost use Rattle.der_writer.specs.Measured.{IsMeasured};
-ghost use Rattle.der_writer.specs.PieceOctets.{Begun, document_edge, octets_before, piece_octets, pieces_octets, slots_behind};
-ghost use Rattle.der_writer.specs.Heads.{before_view};
+ghost use Rattle.der_writer.specs.inner.PieceOctets.{Begun, document_edge, octets_before, piece_octets, pieces_octets, slots_behind};
+ghost use Rattle.der_writer.specs.inner.Heads.{before_view};
 
 use crate::contents::push_leaf;
 use crate::head::Head;

@@ -9,7 +9,7 @@ use Rattle.xml_writer.specs.CanonXml.{IsCanonXml}
 use Rattle.xml_writer.specs.SpellingLaw.{CompiledSpells}
 use Rattle.drill.specs.BuiltIn.{contents, message_id, node_id, tables, text_id}
 use Rattle.drill.specs.Drilled.{DerIsReadable, IsAdmitted, IsTreeCompiled, XmlIsReadable}
-use Rattle.drill.specs.Forms.{AreForms}
+use Rattle.drill.specs.inner.Forms.{AreForms}
 use Rattle.drill.specs.Growing.{instance, most_beside}
 
 -- the same of tables that are these

@@ -3,7 +3,7 @@ use Rattle.std.proofs.Common.{ℕ, zero, suc, ◌+◌, ◌%◌, ◌≤◌, List,
 use Rattle.rand_pcg.specs.Lcg.{Lcg}
 use Rattle.rand_pcg.specs.Pcg.{pcg32}
 use Rattle.drill.specs.Growing.{OpenNode, Path, path_outside_from, path_outside, path_after, depth_of, growth_of}
-use Rattle.drill.specs.PathPieces.{HasPath, HasGrown}
+use Rattle.drill.specs.inner.PathPieces.{HasPath, HasGrown}
 use Rattle.drill.specs.declared.stem.Stem.{Stem}
 use Rattle.drill.specs.declared.growing.Sprout.{Sprout}
 

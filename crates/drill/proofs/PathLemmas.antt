@@ -7,7 +7,7 @@ use Rattle.inst_pool.specs.Pieces.{open_in, open_behind}
 use Rattle.message_model.specs.Tables.{pieces_of, pieces, types_of}
 use Rattle.drill.specs.BuiltIn.{tables}
 use Rattle.drill.specs.Growing.{OpenNode, Path, with_below, node, path_outside, path_outside_from, path_after, under, tree_of, tree_of_from, document}
-use Rattle.drill.specs.PathPieces.{message_edge, root_edge, name_edge, child_edge, name_pieces, below_pieces, inside_pieces, pieces_from, pieces_so_far, edges_round, HasPath}
+use Rattle.drill.specs.inner.PathPieces.{message_edge, root_edge, name_edge, child_edge, name_pieces, below_pieces, inside_pieces, pieces_from, pieces_so_far, edges_round, HasPath}
 use Rattle.drill.specs.declared.stem.Stem.{Stem}
 
 -- one node more below

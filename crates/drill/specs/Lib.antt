@@ -1,5 +1,4 @@
 pub mod BuiltIn
 pub mod Growing
 pub mod Drilled
-pub mod Forms
-pub mod PathPieces
+pub mod inner

@@ -7,7 +7,7 @@ ghost use Rattle.message_model.specs.Tables.{message_of};
 ghost use Rattle.xml_instances.specs.SpellsXml.{SpellsXml};
 ghost use Rattle.xml_instances.specs.XmlFaults.{limit};
 ghost use Rattle.xml_writer.specs.CanonXml.{IsCanonXml};
-ghost use Rattle.drill.specs.Forms.{AreForms};
+ghost use Rattle.drill.specs.inner.Forms.{AreForms};
 
 use crate::known_sink::KnownSink;
 use message_model::Model;

@@ -5,7 +5,7 @@ ghost use Rattle.fragments.specs.Fragment.{fragment};
 ghost use Rattle.message_model.specs.Tables.{pieces_of};
 ghost use Rattle.drill.specs.BuiltIn.{tables};
 ghost use Rattle.drill.specs.Growing.{Growth, first_growth, next_growth, growth_of, generator_of, tree_of, document, instance, deepest, most_beside};
-ghost use Rattle.drill.specs.PathPieces.{HasGrown};
+ghost use Rattle.drill.specs.inner.PathPieces.{HasGrown};
 
 use crate::name::write_name;
 use crate::stem::Stem;

@@ -8,7 +8,7 @@ ghost use Rattle.message_model.specs.Tables.{pieces_of};
 ghost use Rattle.drill.specs.BuiltIn.{tables};
 ghost use Rattle.inst_pool.specs.Pieces.{open_in};
 ghost use Rattle.drill.specs.Growing.{Path, path_outside, path_after, under, name_of, tree_of, document};
-ghost use Rattle.drill.specs.PathPieces.{HasPath, name_edge, first_path};
+ghost use Rattle.drill.specs.inner.PathPieces.{HasPath, name_edge, first_path};
 
 use data_types::LeafRef;
 use inst_pool::{Builder, Edge, Instance};

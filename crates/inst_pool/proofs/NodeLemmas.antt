@@ -3,7 +3,7 @@ use Rattle.std.proofs.Common.{◌≡◌, ℕ, zero, suc, ◌≤◌, List, [], �
 use Rattle.std.specs.Option.{option_map}
 use Rattle.std.proofs.Math.Seq.{get_or-append_seam}
 use Rattle.std.proofs.lemmas.List.{get_or_append_left}
-use Rattle.inst_pool.specs.Nodes.{place_in, content_of, IsWithin, AreWithin, contents_in}
+use Rattle.inst_pool.specs.inner.Nodes.{place_in, content_of, IsWithin, AreWithin, contents_in}
 use Rattle.inst_pool.specs.declared.content.Content.{Content}
 use Rattle.inst_pool.specs.declared.content.Content.TheVariants as long
 use Rattle.inst_pool.specs.declared.node.Node.{Node}

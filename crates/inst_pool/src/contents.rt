@@ -18,7 +18,7 @@ pub(crate) struct Contents {
 
 impl Model for Contents {
     ghost use Rattle.std.specs.Prelude.{◌≤◌, length, min, vec_capacity};
-    ghost use Rattle.inst_pool.specs.Nodes.{Packed, contents_in, AreWithin};
+    ghost use Rattle.inst_pool.specs.inner.Nodes.{Packed, contents_in, AreWithin};
 
     ghost Value = { Packed };
 

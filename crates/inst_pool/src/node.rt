@@ -1,6 +1,6 @@
 // Contents in eight bytes each. What does not fit stands in a block of its own, of which the node has the place.
 ghost use Rattle.std.specs.Prelude.{◌≡◌, ◌<◌, ◌≤◌, ◌^◌, ℕ, List, true, length, slice_index_or, IfSome};
-ghost use Rattle.inst_pool.specs.Nodes.{edge_in, low_in, content_of, IsWithin, bytes_in};
+ghost use Rattle.inst_pool.specs.inner.Nodes.{edge_in, low_in, content_of, IsWithin, bytes_in};
 ghost use Rattle.inst_pool.specs.declared.content.Content.{Content};
 
 use crate::content::Content;

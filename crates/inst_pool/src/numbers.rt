@@ -1,6 +1,6 @@
 // A number beside each piece.
 ghost use Rattle.std.specs.Prelude.{◌≡◌, ◌<◌, ◌≤◌, [], length, replicate, slice_index, slice_set, OnOk, vec_len, vec_capacity};
-ghost use Rattle.inst_pool.specs.Numbers.{numbers_of, IsFilled};
+ghost use Rattle.inst_pool.specs.inner.Numbers.{numbers_of, IsFilled};
 
 use crate::room::widen;
 use std::alloc::{AllocError, Global};
@@ -31,7 +31,7 @@ pub(crate) struct Numbers {
 
 impl Model for Numbers {
     ghost use Rattle.std.specs.Prelude.{◌≤◌, min, vec_capacity};
-    ghost use Rattle.inst_pool.specs.Numbers.{Column, numbers_of, IsFilled};
+    ghost use Rattle.inst_pool.specs.inner.Numbers.{Column, numbers_of, IsFilled};
 
     ghost Value = { Column };
 

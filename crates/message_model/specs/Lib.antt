@@ -1,8 +1,8 @@
 pub mod Admits
 pub mod Writes
+pub mod Message
 pub mod Tables
 pub mod Sound
-pub mod Message
 pub mod Views
 pub mod Quick
 pub mod Continued

@@ -17,5 +17,5 @@ pub mod Counting
 pub mod Marks
 pub mod Gaps
 pub mod Recall
-pub mod Compiled
 pub mod Token
+pub mod Compiled

@@ -14,8 +14,8 @@ use Rattle.reference_check.specs.Graph.{Place, message, entry, find_entry, find_
 use Rattle.reference_check.specs.Reach.{Reaches, itself, rank_of}
 use Rattle.reference_check.specs.Reached.{HasReach}
 use Rattle.reference_check.specs.Rules.{Rule, Breaks, OfObject}
-use Rattle.reference_check.specs.First.{TellsFirst}
-use Rattle.reference_check.specs.Ranks.{place_of_entry, place_at, NoneBreaks, StandsAt}
+use Rattle.reference_check.specs.inner.First.{TellsFirst}
+use Rattle.reference_check.specs.inner.Ranks.{place_of_entry, place_at, NoneBreaks, StandsAt}
 use Rattle.reference_check.proofs.Entries.{stands_first, entry_at}
 
 -- ---- lists

@@ -11,7 +11,7 @@ use Rattle.reference_check.specs.declared.reached.ReadyError.{ReadyError}
 use Rattle.reference_check.specs.declared.reached.ReadyError.TheVariants.{Broken, Memory}
 use Rattle.reference_check.specs.Reach.{itself, rank_of}
 use Rattle.reference_check.specs.Reached.{TellsBroken}
-use Rattle.reference_check.specs.Told.{IsRefusal, IsSoundBelow}
+use Rattle.reference_check.specs.inner.Told.{IsRefusal, IsSoundBelow}
 use Rattle.reference_check.specs.Graph.{Place, message, find_message}
 use Rattle.reference_check.specs.Rules.{Rule, NoMessage, TwoMessages, number_of, is_named, IsStructure}
 use Rattle.reference_check.proofs.RuleNumbers.{sound_more, not_zero}

@@ -8,7 +8,7 @@ use Rattle.repo_objects.specs.declared.objects.ObjectKind.TheVariants.{Component
 use Rattle.repo_objects.specs.Repository.{Entry}
 use Rattle.reference_check.specs.declared.finite.Mark.{Mark}
 use Rattle.reference_check.specs.declared.finite.Mark.TheVariants.{Unreached, Open, Finite}
-use Rattle.reference_check.specs.FiniteSearch.{IsFoundAt, IsFree, IsBlocked, AreFree, HoldBack, open_count}
+use Rattle.reference_check.specs.inner.FiniteSearch.{IsFoundAt, IsFree, IsBlocked, AreFree, HoldBack, open_count}
 
 pub same_or_not : (j k : ℕ) → (j ≡ k) ⊎ (j ≡ k → ⊥)
 same_or_not j k = go (eqb_tells j k)

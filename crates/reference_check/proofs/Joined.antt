@@ -7,7 +7,7 @@ use Rattle.repo_objects.specs.declared.objects.ElementDef.{ElementDef}
 use Rattle.repo_objects.specs.Repository.{Contents}
 use Rattle.reference_check.specs.Names.{is_name}
 use Rattle.reference_check.specs.Rules.{HasBadName}
-use Rattle.reference_check.specs.Subjects.{NamesNoEntry}
+use Rattle.reference_check.specs.inner.Subjects.{NamesNoEntry}
 
 -- either test
 pub either : (a b : Bool) → IsTrue (a || b) → IsTrue a ⊎ IsTrue b

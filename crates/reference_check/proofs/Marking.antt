@@ -15,7 +15,7 @@ use Rattle.reference_check.specs.declared.marks.Marks.{Marks}
 use Rattle.reference_check.specs.Graph.{Place, message, entry, find_entry, find_message, references, given}
 use Rattle.reference_check.specs.Reach.{elements_of, currency_of, kind_elements, kind_currency, blocks_or_none, elements_or_none, currency_or_none, Reaches, itself, element, currency}
 use Rattle.reference_check.specs.Reached.{HasReach}
-use Rattle.reference_check.specs.Marking.{IsMarked, IsIdMarked, LeadsWithin, AreMarks, unmarked, AddsAt, Grows, Adds, Visits, targets_of}
+use Rattle.reference_check.specs.inner.Marking.{IsMarked, IsIdMarked, LeadsWithin, AreMarks, unmarked, AddsAt, Grows, Adds, Visits, targets_of}
 use Rattle.reference_check.proofs.Lookups.{has_at, IsAbsent, IsFound, find_place, one_place, first_in}
 
 -- ---- lists of marks

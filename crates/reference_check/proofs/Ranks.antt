@@ -8,12 +8,12 @@ use Rattle.repo_objects.specs.Repository.{Entry, Contents, IsRepository}
 use Rattle.reference_check.specs.declared.breaker.Breaker.TheVariants.{Object, Message}
 use Rattle.reference_check.specs.declared.reached.Reach.{Reach}
 use Rattle.reference_check.specs.declared.structure.StructureRule.{StructureRule}
-use Rattle.reference_check.specs.First.{TellsFirst}
+use Rattle.reference_check.specs.inner.First.{TellsFirst}
 use Rattle.reference_check.specs.Graph.{Place, document, message, entry, nowhere}
 use Rattle.reference_check.specs.Reach.{Reaches, itself, rank_of}
 use Rattle.reference_check.specs.Reached.{HasReach}
 use Rattle.reference_check.specs.Rules.{Breaks}
-use Rattle.reference_check.specs.Subjects.{rule_of}
+use Rattle.reference_check.specs.inner.Subjects.{rule_of}
 use Rattle.reference_check.proofs.Lookups.{IsAbsent, IsFound, find_place, rank_at}
 use Rattle.reference_check.proofs.SubjectRules.{absent_breaks}
 

@@ -18,7 +18,7 @@ use Rattle.reference_check.specs.Graph.{document, message, entry, nowhere, find_
 use Rattle.reference_check.specs.Reach.{Reaches, elements_or_none, blocks_or_none}
 use Rattle.reference_check.specs.Reached.{HasReach}
 use Rattle.reference_check.specs.Rules.{AreReached, TooMany, Breaks, HasTooMuch}
-use Rattle.reference_check.specs.Sizes.{IsTooLarge}
+use Rattle.reference_check.specs.inner.Sizes.{IsTooLarge}
 use Rattle.reference_check.proofs.Entries.{bytes_differ, entry_at}
 use Rattle.reference_check.proofs.FirstPlaces.{Stands, as_message, as_object, BreaksWhereItStands, ranked, same_default, stands_as_object, of_object, no_message}
 use Rattle.reference_check.proofs.Lists.{item_of}

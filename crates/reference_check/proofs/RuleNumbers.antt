@@ -7,11 +7,11 @@ use Rattle.reference_check.specs.declared.reached.ReadyError.{ReadyError}
 use Rattle.reference_check.specs.declared.reached.ReadyError.TheVariants.{Broken, Memory}
 use Rattle.reference_check.specs.declared.structure.StructureRule.{StructureRule}
 use Rattle.reference_check.specs.declared.structure.StructureRule.TheVariants as asked
-use Rattle.reference_check.specs.First.{TellsFirst}
+use Rattle.reference_check.specs.inner.First.{TellsFirst}
 use Rattle.reference_check.specs.Reached.{TellsBroken}
 use Rattle.reference_check.specs.Rules.{Rule, NoMessage, TwoMessages, Dangling, BadCurrency, NotOneReference, BadName, TagTwice, BadBounds, OptionalAlternative, NoAlternatives, Endless, BadCodes, LeftOutKind, NameTwice, TooMany, number_of, IsStructure, Breaks}
-use Rattle.reference_check.specs.Subjects.{rule_of}
-use Rattle.reference_check.specs.Told.{IsSoundBelow, TellsRule}
+use Rattle.reference_check.specs.inner.Subjects.{rule_of}
+use Rattle.reference_check.specs.inner.Told.{IsSoundBelow, TellsRule}
 
 -- the number of the rule that is asked next; behind the last, 11
 abbrev pub next_number : Option StructureRule → ℕ

@@ -8,7 +8,7 @@ use Rattle.reference_check.specs.declared.structure.StructureRule.{StructureRule
 use Rattle.reference_check.specs.declared.subject.Subject.TheVariants as subject
 use Rattle.reference_check.specs.Graph.{message, entry, find_message}
 use Rattle.reference_check.specs.Rules.{Breaks}
-use Rattle.reference_check.specs.Subjects.{rule_of, BreaksRule}
+use Rattle.reference_check.specs.inner.Subjects.{rule_of, BreaksRule}
 use Rattle.reference_check.proofs.Lookups.{find_at}
 use Rattle.reference_check.proofs.SubjectRules.{subject_breaks}
 

@@ -19,8 +19,8 @@ use Rattle.repo_objects.specs.declared.objects.Object.{Object}
 use Rattle.repo_objects.specs.Repository.{Entry, Contents, IsRepository}
 use Rattle.reference_check.specs.declared.reached.Reach.{Reach}
 use Rattle.reference_check.specs.Graph.{Place, document, message, entry, nowhere, find_entry}
-use Rattle.reference_check.specs.Owners.{owner_of, HasName, IsLastOwner, OwnersAre, object_type_names}
-use Rattle.reference_check.specs.Ranks.{place_of_entry, place_at, NoneBreaks, StandsAt}
+use Rattle.reference_check.specs.inner.Owners.{owner_of, HasName, IsLastOwner, OwnersAre, object_type_names}
+use Rattle.reference_check.specs.inner.Ranks.{place_of_entry, place_at, NoneBreaks, StandsAt}
 use Rattle.reference_check.specs.Reach.{Reaches, itself, currency_or_none}
 use Rattle.reference_check.specs.Reached.{HasReach}
 use Rattle.reference_check.specs.Rules.{Breaks, NameTwice, schema_names, object_names, message_names, with_currency}

@@ -12,7 +12,7 @@ use Rattle.repo_objects.specs.Repository.{Entry, Contents, HasId, HasIdAt, IsRep
 use Rattle.reference_check.specs.declared.finite.Mark.{Mark}
 use Rattle.reference_check.specs.declared.finite.Mark.TheVariants.{Unreached, Open, Finite}
 use Rattle.reference_check.specs.Graph.{references}
-use Rattle.reference_check.specs.FiniteSearch.{only_one, TellsTarget, IsFoundAt, IsFree, IsBlocked, TellsFree, AreFree, TellsBlocked, LetThrough, HoldBack, TellsHeld, IsUser, IsListedFor, IsListedForAll, IsListed, AreListed, KeepsUsers, free_of, IsStart, AreStart}
+use Rattle.reference_check.specs.inner.FiniteSearch.{only_one, TellsTarget, IsFoundAt, IsFree, IsBlocked, TellsFree, AreFree, TellsBlocked, LetThrough, HoldBack, TellsHeld, IsUser, IsListedFor, IsListedForAll, IsListed, AreListed, KeepsUsers, free_of, IsStart, AreStart}
 use Rattle.reference_check.proofs.Targets.{target_found, target_missing}
 use Rattle.reference_check.proofs.Freed.{same_or_not, get_set_same, get_set_other}
 

@@ -21,8 +21,8 @@ use Rattle.reference_check.specs.Shapes.{IsFinite, IsReached, MayBeFound}
 use Rattle.reference_check.specs.Reach.{Reaches, itself, element, currency, rank_of}
 use Rattle.reference_check.specs.Reached.{HasReach}
 use Rattle.reference_check.specs.Rules.{Dangling, Endless, HasNoEntry, IsSound, IsBelowEndless}
-use Rattle.reference_check.specs.First.{TellsFirst}
-use Rattle.reference_check.specs.FiniteSearch.{IsFoundAt, IsBlocked, SomeBlocked, HoldBack, IsStart, AreStart, IsMarked, IsSearch, HoldsReached, TellsFirstOpen, TellsMessage}
+use Rattle.reference_check.specs.inner.First.{TellsFirst}
+use Rattle.reference_check.specs.inner.FiniteSearch.{IsFoundAt, IsBlocked, SomeBlocked, HoldBack, IsStart, AreStart, IsMarked, IsSearch, HoldsReached, TellsFirstOpen, TellsMessage}
 use Rattle.reference_check.proofs.FiniteForms.{finite_form}
 use Rattle.reference_check.proofs.FiniteMarks.{finite_found, finite_marked}
 use Rattle.reference_check.proofs.Decided.{bounds_in, form_bounds, one_reference}

@@ -19,7 +19,7 @@ use Rattle.reference_check.specs.Forms.{form_slots}
 use Rattle.reference_check.specs.Graph.{Place, entry, graph, slot_of, simple_form, object_form, entry_form, find_entry}
 use Rattle.reference_check.specs.Shapes.{IsFinite, IsReached, MayBeFound}
 use Rattle.reference_check.specs.Reach.{Reaches}
-use Rattle.reference_check.specs.FiniteSearch.{LeadsTo, IsFoundAt, IsFree, IsBlocked, AreFree, LetThrough, HoldBack, TellsHeld, IsUser, AreListed, IsMarked, IsSearch, HoldsReached}
+use Rattle.reference_check.specs.inner.FiniteSearch.{LeadsTo, IsFoundAt, IsFree, IsBlocked, AreFree, LetThrough, HoldBack, TellsHeld, IsUser, AreListed, IsMarked, IsSearch, HoldsReached}
 use Rattle.reference_check.proofs.FiniteForms.{finite_form}
 use Rattle.reference_check.proofs.Decided.{bounds_in, form_bounds}
 use Rattle.reference_check.proofs.Targets.{target_is, leads_or_not, find_at}

@@ -8,7 +8,7 @@ use Rattle.std.specs.Str.{bytes_eq}
 use Rattle.std.proofs.lemmas.Option.{slice_get_within}
 use Rattle.std.proofs.lemmas.Slice.Eq.{bytes_eq-Decides}
 use Rattle.repo_objects.specs.declared.objects.CodeDef.{CodeDef}
-use Rattle.reference_check.specs.SeenTexts.{SeenTexts, is_seen}
+use Rattle.reference_check.specs.inner.SeenTexts.{SeenTexts, is_seen}
 use Rattle.reference_check.proofs.Lists.{below_or_last, contained, item_of, one_item}
 
 -- nothing is kept at first

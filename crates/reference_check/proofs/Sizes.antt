@@ -12,7 +12,7 @@ use Rattle.repo_objects.specs.Objects.{HasCodeTexts, HasObjectTexts, IsXmlTextIf
 use Rattle.repo_objects.specs.Repository.{IsRepository}
 use Rattle.reference_check.specs.CodeTexts.{text_of_code}
 use Rattle.reference_check.specs.Rules.{IsLong, set_codes}
-use Rattle.reference_check.specs.Sizes.{IsTooLarge, IsTooLong, HasLongCode}
+use Rattle.reference_check.specs.inner.Sizes.{IsTooLarge, IsTooLong, HasLongCode}
 use Rattle.reference_check.proofs.Characters.{fewer_characters}
 use Rattle.reference_check.proofs.TextsOfXml.{text_of_xml}
 

@@ -12,7 +12,7 @@ use Rattle.reference_check.specs.Reach.{elements_of, currency_of, elements_or_no
 use Rattle.reference_check.specs.Rules.{Breaks, OfObject, HasBadName}
 use Rattle.reference_check.specs.declared.subject.Subject.{Subject}
 use Rattle.reference_check.specs.declared.subject.Subject.TheVariants as subject
-use Rattle.reference_check.specs.Subjects.{rule_of, BreaksRule, IsSubject, IsOptionalChoice, IsEmptyChoice}
+use Rattle.reference_check.specs.inner.Subjects.{rule_of, BreaksRule, IsSubject, IsOptionalChoice, IsEmptyChoice}
 use Rattle.reference_check.proofs.Marking.{none_in}
 use Rattle.reference_check.proofs.Lookups.{contains_at}
 

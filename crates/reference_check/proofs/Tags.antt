@@ -8,7 +8,7 @@ use Rattle.std.proofs.lemmas.Bool.{cases_lt}
 use Rattle.std.proofs.lemmas.List.{map_more, map-append}
 use Rattle.std.proofs.lemmas.Option.{slice_get-get_or, get_or_from_slice_get}
 use Rattle.repo_objects.specs.declared.objects.ElementDef.{ElementDef}
-use Rattle.reference_check.specs.Subjects.{HasTagTwice}
+use Rattle.reference_check.specs.inner.Subjects.{HasTagTwice}
 use Rattle.reference_check.proofs.Lookups.{none_there}
 
 abbrev pub tag_of : ElementDef → List ℕ

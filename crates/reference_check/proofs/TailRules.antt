@@ -3,8 +3,8 @@ use Rattle.std.proofs.Common.{ℕ, ◌<◌, List, None, arith}
 use Rattle.repo_objects.specs.Repository.{Contents}
 use Rattle.reference_check.specs.declared.reached.ReadyError.{ReadyError}
 use Rattle.reference_check.specs.declared.reached.ReadyError.TheVariants.{Broken, Memory}
-use Rattle.reference_check.specs.First.{TellsFirst}
-use Rattle.reference_check.specs.Ranks.{TellsAs}
+use Rattle.reference_check.specs.inner.First.{TellsFirst}
+use Rattle.reference_check.specs.inner.Ranks.{TellsAs}
 use Rattle.reference_check.specs.Reached.{TellsBroken}
 use Rattle.reference_check.specs.Rules.{Rule, BadCodes, LeftOutKind, NameTwice, TooMany, number_of, IsTail, IsSound}
 

@@ -9,7 +9,7 @@ use native.Mathlib.Decide.{dec_lt}
 use Rattle.repo_objects.specs.declared.objects.ElementDef.{ElementDef}
 use Rattle.repo_objects.specs.Repository.{Entry, Contents, ids_of, HasId, HasIdAt, IsRepository}
 use Rattle.reference_check.specs.Graph.{entry, one_of, slot_of, references, find_entry}
-use Rattle.reference_check.specs.FiniteSearch.{only_one, LeadsTo, TellsTarget}
+use Rattle.reference_check.specs.inner.FiniteSearch.{only_one, LeadsTo, TellsTarget}
 
 -- no id stands twice
 abbrev pub Apart : List (List ℕ) → Type 0

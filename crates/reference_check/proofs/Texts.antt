@@ -5,7 +5,7 @@ use Rattle.repo_objects.specs.declared.objects.Object.{Object}
 use Rattle.repo_objects.specs.Repository.{Entry}
 use Rattle.reference_check.specs.Graph.{find_entry}
 use Rattle.reference_check.specs.CodeTexts.{find_code, text_in, text_in_object, text_in_trace, own_or, text_behind}
-use Rattle.reference_check.specs.Traces.{with_object, code_in, code_traced}
+use Rattle.reference_check.specs.inner.Traces.{with_object, code_in, code_traced}
 
 pub no_code : (name : List ℕ) (cs : List CodeDef) (i : ℕ) → length cs ≤ i → find_code name (drop i cs) ≡ None
 no_code name [] zero l = refl

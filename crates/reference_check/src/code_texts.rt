@@ -4,8 +4,8 @@ ghost use Rattle.std.specs.Option.{option_copied, option_map};
 ghost use Rattle.std.specs.Str.{bytes_eq};
 ghost use Rattle.reference_check.specs.Graph.{find_entry};
 ghost use Rattle.reference_check.specs.CodeTexts.{find_code, text_at, text_of_code};
-ghost use Rattle.reference_check.specs.Ranks.{StandsAt};
-ghost use Rattle.reference_check.specs.Traces.{code_traced};
+ghost use Rattle.reference_check.specs.inner.Ranks.{StandsAt};
+ghost use Rattle.reference_check.specs.inner.Traces.{code_traced};
 
 use crate::code_index::NamedCodes;
 use crate::tail_rules::object_in;

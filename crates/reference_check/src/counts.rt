@@ -4,11 +4,11 @@ ghost use Rattle.lexical_core.specs.Characters.{IsXmlText};
 ghost use Rattle.repo_objects.specs.Objects.{HasCodeTexts, HasObjectTexts};
 ghost use Rattle.repo_objects.specs.Repository.{IsRepository};
 ghost use Rattle.reference_check.specs.CodeTexts.{text_of_code};
-ghost use Rattle.reference_check.specs.First.{TellsFirst};
+ghost use Rattle.reference_check.specs.inner.First.{TellsFirst};
 ghost use Rattle.reference_check.specs.Reach.{kind_elements};
 ghost use Rattle.reference_check.specs.Reached.{HasReach};
 ghost use Rattle.reference_check.specs.Rules.{TooMany, HasPatterns, IsLong, IsLongIfAny};
-ghost use Rattle.reference_check.specs.Sizes.{IsTooLarge, IsTooLong, HasLongCode, HasLongPattern};
+ghost use Rattle.reference_check.specs.inner.Sizes.{IsTooLarge, IsTooLong, HasLongCode, HasLongPattern};
 
 use crate::breaker::Breaker;
 use crate::code_rule::set_codes;

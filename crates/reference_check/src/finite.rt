@@ -2,8 +2,8 @@
 ghost use Rattle.std.specs.Prelude.{◌≡◌, ℕ, ◌+◌, ◌≤◌, ◌<◌, ◌↔◌, List, [], ◌∷◌, ◌++◌, length, slice_get, slice_set, replicate, IsTrue, IfOk, OnOk};
 ghost use Rattle.reference_check.specs.Reached.{HasReach};
 ghost use Rattle.reference_check.specs.Rules.{IsSound, IsBelowEndless, Endless};
-ghost use Rattle.reference_check.specs.First.{TellsFirst};
-ghost use Rattle.reference_check.specs.FiniteSearch.{IsFoundAt, TellsFree, TellsSomeFree, TellsBlocked, TellsHeld, AreListed, free_of, open_count, AreStart, IsSearch, HoldsReached, TellsFirstOpen, TellsMessage};
+ghost use Rattle.reference_check.specs.inner.First.{TellsFirst};
+ghost use Rattle.reference_check.specs.inner.FiniteSearch.{IsFoundAt, TellsFree, TellsSomeFree, TellsBlocked, TellsHeld, AreListed, free_of, open_count, AreStart, IsSearch, HoldsReached, TellsFirstOpen, TellsMessage};
 
 use crate::breaker::Breaker;
 use crate::reached::{Places, Reach};

@@ -3,8 +3,8 @@ ghost use Rattle.std.specs.Prelude.{◌≡◌, ◌∷◌, [], ◌<◌, ℕ, List
 ghost use Rattle.std.specs.Option.{option_copied};
 ghost use Rattle.std.specs.List.{flat_map};
 ghost use Rattle.reference_check.specs.Graph.{references, given, message};
-ghost use Rattle.reference_check.specs.Subjects.{subject_targets};
-ghost use Rattle.reference_check.specs.Marking.{Adds, AddsAt, Visits, AreMarks, LeadsWithin};
+ghost use Rattle.reference_check.specs.inner.Subjects.{subject_targets};
+ghost use Rattle.reference_check.specs.inner.Marking.{Adds, AddsAt, Visits, AreMarks, LeadsWithin};
 
 use crate::subject::Subject;
 use lexical_core::Text;

@@ -5,7 +5,7 @@ ghost use Rattle.repo_objects.specs.declared.objects.MessageDef.{MessageDef};
 ghost use Rattle.reference_check.specs.Graph.{find_message};
 ghost use Rattle.reference_check.specs.Reached.{TellsBroken};
 ghost use Rattle.reference_check.specs.Rules.{is_named, IsStructure};
-ghost use Rattle.reference_check.specs.Told.{IsSoundBelow};
+ghost use Rattle.reference_check.specs.inner.Told.{IsSoundBelow};
 
 use crate::reached::ReadyError;
 use crate::refusal::refusal;

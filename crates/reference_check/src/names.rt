@@ -4,7 +4,7 @@ ghost use Rattle.std.specs.List.{list_all};
 ghost use Rattle.repo_objects.specs.declared.objects.ElementDef.{ElementDef};
 ghost use Rattle.reference_check.specs.Names.{is_name, is_name_first, is_name_byte};
 ghost use Rattle.reference_check.specs.Rules.{HasBadName};
-ghost use Rattle.reference_check.specs.Subjects.{subject_elements, subject_names, HasTagTwice};
+ghost use Rattle.reference_check.specs.inner.Subjects.{subject_elements, subject_names, HasTagTwice};
 
 use crate::subject::Subject;
 use indexmap::IndexSet;

@@ -3,7 +3,7 @@ ghost use Rattle.std.specs.Prelude.{◌≡◌, ◌↔◌, IsTrue, Contains};
 ghost use Rattle.repo_objects.specs.declared.objects.ElementDef.{ElementDef};
 ghost use Rattle.repo_objects.specs.declared.objects.ObjectKind.TheVariants.{Choice};
 ghost use Rattle.reference_check.specs.Rules.{UpToMax};
-ghost use Rattle.reference_check.specs.Subjects.{OfEntry, HasBadBounds, IsOptionalChoice, IsEmptyChoice};
+ghost use Rattle.reference_check.specs.inner.Subjects.{OfEntry, HasBadBounds, IsOptionalChoice, IsEmptyChoice};
 
 use crate::subject::Subject;
 use repo_objects::{ElementDef, Object, ObjectKind};

@@ -5,7 +5,7 @@ ghost use Rattle.repo_objects.specs.declared.objects.ElementDef.{ElementDef};
 ghost use Rattle.repo_objects.specs.declared.objects.Object.{Object};
 ghost use Rattle.reference_check.specs.Graph.{references, given, find_entry};
 ghost use Rattle.reference_check.specs.Rules.{HasNoEntry, IsTextKind};
-ghost use Rattle.reference_check.specs.Subjects.{subject_elements, subject_currency, NamesNoEntry, HasDangling, HasBadCurrency, NamesNotOne};
+ghost use Rattle.reference_check.specs.inner.Subjects.{subject_elements, subject_currency, NamesNoEntry, HasDangling, HasBadCurrency, NamesNotOne};
 
 use crate::subject::Subject;
 use lexical_core::Text;

@@ -1,10 +1,10 @@
 // What is told of a message that breaks a rule.
 ghost use Rattle.std.specs.Prelude.{◌≡◌, None, OnOk, IfErr};
-ghost use Rattle.reference_check.specs.First.{IsPlaceOf, TellsFirst};
+ghost use Rattle.reference_check.specs.inner.First.{IsPlaceOf, TellsFirst};
 ghost use Rattle.reference_check.specs.Graph.{Place};
 ghost use Rattle.reference_check.specs.Reached.{place_id};
 ghost use Rattle.reference_check.specs.Rules.{Rule, number_of};
-ghost use Rattle.reference_check.specs.Told.{IsRefusal, TellsRule};
+ghost use Rattle.reference_check.specs.inner.Told.{IsRefusal, TellsRule};
 
 use crate::breaker::Breaker;
 use crate::reached::ReadyError;

@@ -2,7 +2,7 @@
 ghost use Rattle.std.specs.Prelude.{◌≡◌, ◌<◌, ◌↔◌, ℕ, List, [], Some, OnOk, IfOk, IfErr, AllPairs, Contains, slice_get, length};
 ghost use Rattle.repo_objects.specs.declared.objects.MessageDef.{MessageDef};
 ghost use Rattle.reference_check.specs.Graph.{message, find_message};
-ghost use Rattle.reference_check.specs.Marking.{IsMarked, AreMarks, LeadsWithin};
+ghost use Rattle.reference_check.specs.inner.Marking.{IsMarked, AreMarks, LeadsWithin};
 ghost use Rattle.reference_check.specs.Reached.{HasReach, TellsBroken};
 ghost use Rattle.reference_check.specs.Rules.{IsSound, IsStructure};
 

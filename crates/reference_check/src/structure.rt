@@ -2,12 +2,12 @@
 ghost use Rattle.std.specs.Prelude.{◌≡◌, ◌↔◌, ◌+◌, ℕ, List, IsTrue, IfSome, IfNone, IfOk, IfErr, OnOk, Some, slice_get};
 ghost use Rattle.repo_objects.specs.declared.objects.MessageDef.{MessageDef};
 ghost use Rattle.repo_objects.specs.Repository.{Entry, IsRepository};
-ghost use Rattle.reference_check.specs.First.{TellsFirst};
+ghost use Rattle.reference_check.specs.inner.First.{TellsFirst};
 ghost use Rattle.reference_check.specs.Graph.{message, entry, find_message};
 ghost use Rattle.reference_check.specs.Reached.{HasReach, TellsBroken};
 ghost use Rattle.reference_check.specs.Rules.{number_of, Breaks, IsStructure};
-ghost use Rattle.reference_check.specs.Subjects.{BreaksRule, rule_of};
-ghost use Rattle.reference_check.specs.Told.{IsSoundBelow};
+ghost use Rattle.reference_check.specs.inner.Subjects.{BreaksRule, rule_of};
+ghost use Rattle.reference_check.specs.inner.Told.{IsSoundBelow};
 
 use crate::breaker::Breaker;
 use crate::names::{has_bad_name, has_tag_twice};

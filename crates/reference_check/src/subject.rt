@@ -2,7 +2,7 @@
 ghost use Rattle.std.specs.Prelude.{◌≡◌};
 ghost use Rattle.std.specs.Option.{option_copied};
 ghost use Rattle.reference_check.specs.Reach.{kind_elements, kind_currency};
-ghost use Rattle.reference_check.specs.Subjects.{subject_elements, subject_currency};
+ghost use Rattle.reference_check.specs.inner.Subjects.{subject_elements, subject_currency};
 
 use lexical_core::Text;
 use repo_objects::{ElementDef, Kinds, MessageDef, Object, ObjectKind};

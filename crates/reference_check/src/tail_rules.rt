@@ -1,9 +1,9 @@
 // The rules that are asked once the structure of a message is sound.
 ghost use Rattle.std.specs.Prelude.{◌≡◌, ℕ, ◌<◌, List, length, Some, None, IsTrue, ◌↔◌, OnOk, IfErr};
-ghost use Rattle.reference_check.specs.First.{IsPlaceOf, TellsFirst};
+ghost use Rattle.reference_check.specs.inner.First.{IsPlaceOf, TellsFirst};
 ghost use Rattle.reference_check.specs.Graph.{Place};
 ghost use Rattle.repo_objects.specs.declared.objects.ObjectKind.TheVariants.{Simple};
-ghost use Rattle.reference_check.specs.Ranks.{StandsAt, TellsAs, IsLeftOut};
+ghost use Rattle.reference_check.specs.inner.Ranks.{StandsAt, TellsAs, IsLeftOut};
 ghost use Rattle.reference_check.specs.Reached.{HasReach, IsReachFor, TellsBroken, place_id};
 ghost use Rattle.reference_check.specs.Rules.{Rule, number_of, LeftOutKind, HasNoPatterns, IsSound, IsTail};
 

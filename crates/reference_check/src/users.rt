@@ -2,7 +2,7 @@
 ghost use Rattle.std.specs.Prelude.{◌≡◌, ◌<◌, [], ◌∷◌, ◌++◌, length, slice_set, slice_index_or, OnOk, IfOk};
 ghost use Rattle.std.specs.Option.{option_copied};
 ghost use Rattle.reference_check.specs.Graph.{references};
-ghost use Rattle.reference_check.specs.FiniteSearch.{only_one, TellsTarget, KeepsUsers, IsListedFor, IsListedForAll, IsListed, AreListed};
+ghost use Rattle.reference_check.specs.inner.FiniteSearch.{only_one, TellsTarget, KeepsUsers, IsListedFor, IsListedForAll, IsListed, AreListed};
 
 use crate::reached::Places;
 use lexical_core::Text;

@@ -6,7 +6,7 @@ use Rattle.outside.specs.declared.errors.SinkError.{SinkError}
 use Rattle.outside.specs.declared.errors.SinkError.TheVariants as sink
 use Rattle.repo_engine.specs.declared.refusal.Stop.{Stop}
 use Rattle.repo_engine.specs.declared.refusal.Stop.TheVariants.{Refused, ReadFault, WriteFault, Memory}
-use Rattle.repo_engine.specs.Arms.{IsOfInput, StopsBy, end_of}
+use Rattle.repo_engine.specs.inner.Arms.{IsOfInput, StopsBy, end_of}
 use Rattle.repo_engine.specs.Run.{End, GoesOut, Tells}
 use Rattle.repo_engine.specs.Verdict.{Verdict, accepted, refused}
 

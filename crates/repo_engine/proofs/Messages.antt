@@ -14,7 +14,7 @@ use Rattle.transcoder.specs.Reading.{RefusesBy}
 use Rattle.transcoder.specs.declared.check_error.CheckError.{CheckError}
 use Rattle.transcoder.specs.declared.check_error.CheckError.TheVariants as check
 use Rattle.repo_engine.specs.Answer.{FromMessage, RefusesMessage, GivesTables}
-use Rattle.repo_engine.specs.Arms.{GivesMessage, IsOfInput, IsReadAs, unread, read, RefusesUpToMessage, StopsBy, check_stop, end_of, ready_stop}
+use Rattle.repo_engine.specs.inner.Arms.{GivesMessage, IsOfInput, IsReadAs, unread, read, RefusesUpToMessage, StopsBy, check_stop, end_of, ready_stop}
 use Rattle.repo_engine.specs.Run.{End, Tells}
 use Rattle.repo_engine.specs.Sources.{Use, Untouched, Ended, Whole, Failing, Refusing, IsRead, AreRead, one, both, AreReadInTurn, before, behind, ended_of, stop_ended}
 use Rattle.repo_engine.specs.Steps.{Then, refused, goes_on}

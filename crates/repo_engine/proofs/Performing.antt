@@ -5,8 +5,8 @@ use Rattle.std.specs.Str.{bytes_eq}
 use Rattle.std.specs.Str.Parse.{digits_value}
 use Rattle.std.specs.Io.KnownBytes.{Appends}
 use Rattle.repo_engine.specs.Answer.{Answer, Of}
-use Rattle.repo_engine.specs.Arms.{Carries}
-use Rattle.repo_engine.specs.Commands.{AsksFor, IsBounded}
+use Rattle.repo_engine.specs.inner.Arms.{Carries}
+use Rattle.repo_engine.specs.inner.Commands.{AsksFor, IsBounded}
 use Rattle.repo_engine.specs.declared.command.Command as declared
 use Rattle.repo_engine.specs.declared.command.Command.TheVariants as asked
 use Rattle.repo_engine.specs.Command.{Command, list, message, drill, HasForm, pulled, verb_word}

@@ -10,7 +10,7 @@ use Rattle.code_sets.specs.declared.record.CodeRecord.{CodeRecord}
 use Rattle.code_sets.specs.Codes.{long, reading, joining}
 use Rattle.code_sets.specs.CodesErrors.{RefusesJoin, RefusesSource}
 use Rattle.repo_engine.specs.Answer.{RefusesFile, IsCodesRefusal}
-use Rattle.repo_engine.specs.Arms.{IsCodesText, IsOfInput, StopsBy, load_stop, codes_stop}
+use Rattle.repo_engine.specs.inner.Arms.{IsCodesText, IsOfInput, StopsBy, load_stop, codes_stop}
 use Rattle.repo_engine.specs.Sources.{Whole, Failing, stop_ended}
 
 -- a file is refused as it is loaded

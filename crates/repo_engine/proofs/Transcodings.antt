@@ -13,7 +13,7 @@ use Rattle.transcoder.specs.declared.trans_error.TransError.{TransError}
 use Rattle.transcoder.specs.declared.trans_error.TransError.TheVariants as trans
 use Rattle.transcoder.specs.Transcoding.{IsTranscoded, unread, pushed}
 use Rattle.transcoder.specs.TransErrors.{trans_error, written_end}
-use Rattle.repo_engine.specs.Arms.{check_stop, end_of, trans_end}
+use Rattle.repo_engine.specs.inner.Arms.{check_stop, end_of, trans_end}
 use Rattle.repo_engine.specs.Run.{End, GoesOut, Tells}
 use Rattle.repo_engine.specs.Sources.{Use, IsRead, Whole, Failing, ended_of}
 use Rattle.repo_engine.specs.Verdict.{Verdict, accepted}

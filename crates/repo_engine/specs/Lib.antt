@@ -1,13 +1,12 @@
 pub mod Command
-pub mod Commands
 pub mod Steps
 pub mod Verdict
 pub mod Exit
 pub mod Sources
 pub mod Texts
 pub mod Answer
-pub mod SchemaLaw
-pub mod ModuleLaw
 pub mod RoundTrips
 pub mod Run
-pub mod Arms
+pub mod SchemaLaw
+pub mod ModuleLaw
+pub mod inner

@@ -1,7 +1,7 @@
 //! The check of an instance.
 ghost use Rattle.std.specs.Prelude.{◌≡◌, ◌≢◌, ℕ, List, Some, Err};
 ghost use Rattle.repo_engine.specs.Answer.{FromDer, FromXml, IsFine};
-ghost use Rattle.repo_engine.specs.Arms.{check_stop};
+ghost use Rattle.repo_engine.specs.inner.Arms.{check_stop};
 ghost use Rattle.repo_engine.specs.Run.{GoesOut, Tells};
 ghost use Rattle.repo_engine.specs.Sources.{IsRead, ended_of, of_source};
 

@@ -3,7 +3,7 @@ ghost use Rattle.std.specs.Prelude.{◌≡◌, ◌≤◌, ℕ, List, [], ◌∷�
 ghost use Rattle.repo_objects.specs.MessageId.{IsMessageId};
 ghost use Rattle.drill.specs.Growing.{most_beside};
 ghost use Rattle.repo_engine.specs.Command.{texts, HasForm, IsNumberWord, IsUnlisted, verb_word, message, drill};
-ghost use Rattle.repo_engine.specs.Commands.{AsksFor, command_view};
+ghost use Rattle.repo_engine.specs.inner.Commands.{AsksFor, command_view};
 
 use super::number::number_of;
 use repo_objects::MessageId;

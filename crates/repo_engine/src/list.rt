@@ -1,7 +1,7 @@
 //! The list of a repository's messages.
 ghost use Rattle.std.specs.Prelude.{◌≡◌, ◌≢◌, ℕ, List, Err, IfErr};
 ghost use Rattle.outside.specs.Pushes.{Pushes};
-ghost use Rattle.repo_engine.specs.Arms.{FilesHaveLeft};
+ghost use Rattle.repo_engine.specs.inner.Arms.{FilesHaveLeft};
 ghost use Rattle.repo_engine.specs.Answer.{FromRepository, Lists};
 ghost use Rattle.repo_engine.specs.Command.{hands_in};
 ghost use Rattle.repo_engine.specs.Run.{GoesOut, Tells};

@@ -1,7 +1,7 @@
 //! The commands of one message.
 ghost use Rattle.std.specs.Prelude.{◌≡◌, ◌≢◌, ℕ, List, true, Some, Err, IfOk, IfErr};
 ghost use Rattle.repo_engine.specs.Answer.{FromMessage, GivesTables, OfVerb, RefusesMessage};
-ghost use Rattle.repo_engine.specs.Arms.{FilesHaveLeft, GivesMessage, IsOfInput, IsReadAs, RefusesUpToMessage, StopsBy, ready_stop};
+ghost use Rattle.repo_engine.specs.inner.Arms.{FilesHaveLeft, GivesMessage, IsOfInput, IsReadAs, RefusesUpToMessage, StopsBy, ready_stop};
 ghost use Rattle.repo_engine.specs.Command.{hands_in, reads_instance};
 ghost use Rattle.repo_engine.specs.Run.{GoesOut, Tells};
 ghost use Rattle.repo_engine.specs.Sources.{AreRead, AreReadInTurn, Failing, ended_of, of_source, stop_ended};

@@ -1,9 +1,9 @@
 //! What a command does before anything is noted.
 ghost use Rattle.std.specs.Prelude.{◌≡◌, Err};
 ghost use Rattle.repo_engine.specs.Command.{texts};
-ghost use Rattle.repo_engine.specs.Commands.{IsBounded, command_view};
+ghost use Rattle.repo_engine.specs.inner.Commands.{IsBounded, command_view};
 ghost use Rattle.repo_engine.specs.Run.{Performs};
-ghost use Rattle.repo_engine.specs.Arms.{Carries};
+ghost use Rattle.repo_engine.specs.inner.Arms.{Carries};
 ghost use Rattle.repo_engine.specs.Sources.{of_source};
 
 use super::command::{Command, command_of};

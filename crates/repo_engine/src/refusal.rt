@@ -2,7 +2,7 @@
 ghost use Rattle.std.specs.Prelude.{◌≡◌, ◌++◌};
 ghost use Rattle.std.specs.Fmt.{decimal};
 ghost use Rattle.outside.specs.Pushes.{Pushes, as_push};
-ghost use Rattle.repo_engine.specs.Arms.{end_of};
+ghost use Rattle.repo_engine.specs.inner.Arms.{end_of};
 ghost use Rattle.repo_engine.specs.Verdict.{codes_line, instance_line, line_end, line_of, message_line, place_text, record_text, refusal_status, repository_line, rule_text, stop_line, stop_status};
 
 use super::status::Status;

@@ -1,7 +1,7 @@
 //! A repository and its external codes, read from their sources.
 ghost use Rattle.std.specs.Prelude.{◌≡◌, List, ℕ, true, Some, IfOk, IfErr};
 ghost use Rattle.repo_engine.specs.Answer.{GivesJoined, GivesRepository, IsCodesRefusal, RefusesCodes, RefusesFile};
-ghost use Rattle.repo_engine.specs.Arms.{FilesHaveLeft, IsOfInput, IsReadIf, RefusesRepository, IsCodesText, StopsBy, codes_stop, load_stop};
+ghost use Rattle.repo_engine.specs.inner.Arms.{FilesHaveLeft, IsOfInput, IsReadIf, RefusesRepository, IsCodesText, StopsBy, codes_stop, load_stop};
 ghost use Rattle.repo_engine.specs.Command.{hands_in};
 ghost use Rattle.repo_engine.specs.Sources.{AreRead, Failing, IsRead, ended_of, of_source, stop_ended};
 ghost use Rattle.repo_loader.specs.Loaded.{Spells};

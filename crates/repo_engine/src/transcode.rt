@@ -1,7 +1,7 @@
 //! Instances in one form, written in another.
 ghost use Rattle.std.specs.Prelude.{◌≡◌, ◌≢◌, ℕ, List, Some, Err};
 ghost use Rattle.repo_engine.specs.Answer.{FromDer, FromXml, GivesDer, GivesXml};
-ghost use Rattle.repo_engine.specs.Arms.{trans_end};
+ghost use Rattle.repo_engine.specs.inner.Arms.{trans_end};
 ghost use Rattle.repo_engine.specs.Run.{GoesOut, Tells};
 ghost use Rattle.repo_engine.specs.Sources.{IsRead, ended_of, of_source};
 

@@ -10,7 +10,7 @@ use Rattle.repo_loader.specs.FileNames.{value_of, own, id_name, type_name}
 use Rattle.repo_loader.specs.Selected.{Tag}
 use Rattle.repo_loader.specs.File.{is_entry, objects}
 use Rattle.repo_loader.specs.FileFaults.{HasFacetNumbers, HasNumbers, IsEntry, Breaks, other_root, twice, no_number, lacks_id, lacks_type, lacks_name}
-use Rattle.repo_loader.specs.Stops.{IsSoundTag, IsLeastBroken}
+use Rattle.repo_loader.specs.inner.Stops.{IsSoundTag, IsLeastBroken}
 
 no_root : (kind : ObjectKind) → ◌≡◌ {A = Part} (Entry kind) OtherRoot → ⊥
 no_root kind e = true≢false (ap is_entry e)

@@ -10,7 +10,7 @@ use Rattle.repo_loader.specs.FileNames.{value_of, own, id_name, type_name}
 use Rattle.lexical_core.specs.Names.{same_name}
 use Rattle.repo_loader.specs.FileValues.{text_or_empty, some_text, text, reference, word_of}
 use Rattle.repo_loader.specs.File.{entry, element, code}
-use Rattle.repo_loader.specs.LoadingSteps.{AreTexts}
+use Rattle.repo_loader.specs.inner.LoadingSteps.{AreTexts}
 use Rattle.repo_loader.proofs.ColonTexts.{colon_text}
 
 pub empty_text : IsXmlText []

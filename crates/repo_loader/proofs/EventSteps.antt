@@ -14,9 +14,9 @@ use Rattle.repo_loader.specs.declared.part.Part.TheVariants.{LeftOut}
 use Rattle.repo_loader.specs.declared.selection.Selection.{Selection}
 use Rattle.repo_loader.specs.Selected.{Tag, PlacedTag, part_in, tag_if, innermost, item_tags, open_behind, placed_tags, event_tags, open_after}
 use Rattle.repo_loader.specs.FileFaults.{AreSound, IsFirstBroken, tags_of}
-use Rattle.repo_loader.specs.LoadingSteps.{HasTags}
-use Rattle.repo_loader.specs.SelectionSteps.{tags_told, CanEnd, HasLoaded, IsBrokenBy}
-use Rattle.repo_loader.specs.Stops.{IsSoundTag, IsLeastBroken}
+use Rattle.repo_loader.specs.inner.LoadingSteps.{HasTags}
+use Rattle.repo_loader.specs.inner.SelectionSteps.{tags_told, CanEnd, HasLoaded, IsBrokenBy}
+use Rattle.repo_loader.specs.inner.Stops.{IsSoundTag, IsLeastBroken}
 use Rattle.repo_loader.proofs.EventTags.{event_tags_append, open_after_append, event_tags_snoc, sound_snoc}
 use Rattle.repo_loader.proofs.FirstBroken.{first_of_more}
 use Rattle.repo_loader.proofs.TagSteps.{tag_of}

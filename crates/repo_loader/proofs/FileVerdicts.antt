@@ -22,8 +22,8 @@ use Rattle.repo_loader.specs.File.{contents_of}
 use Rattle.repo_loader.specs.FileFaults.{AreSound}
 use Rattle.repo_loader.specs.Loaded.{limit, token_tags, Spells, HasLoadFault, broken, markup, long}
 use Rattle.repo_loader.specs.LoadErrors.{EndsWithPiece, piece_limit}
-use Rattle.repo_loader.specs.SelectionSteps.{HasLoaded, tags_told}
-use Rattle.repo_loader.specs.ProgressSteps.{markup_fault, HasRead, ReadsOn, Shows, HasWhole, HasAll, HasRoom}
+use Rattle.repo_loader.specs.inner.SelectionSteps.{HasLoaded, tags_told}
+use Rattle.repo_loader.specs.inner.ProgressSteps.{markup_fault, HasRead, ReadsOn, Shows, HasWhole, HasAll, HasRoom}
 use Rattle.repo_loader.proofs.Consumed.{Consumes-twice, known}
 use Rattle.repo_loader.proofs.OneLoadFault.{Rest, tags_append, not_sound}
 use Rattle.repo_loader.proofs.ReadSteps.{markup_found}

@@ -8,16 +8,16 @@ use Rattle.repo_loader.specs.declared.loading.Loading.{Loading}
 use Rattle.repo_loader.specs.Selected.{Tag}
 use Rattle.repo_loader.specs.File.{is_entry, kind_at, objects, own_elements, own_codes}
 use Rattle.repo_loader.specs.File
-use Rattle.repo_loader.specs.FileSteps.{with_last, with_parts}
-use Rattle.repo_loader.specs.LoadingSteps.{entry_is, entry_list, HasObjects}
+use Rattle.repo_loader.specs.inner.FileSteps.{with_last, with_parts}
+use Rattle.repo_loader.specs.inner.LoadingSteps.{entry_is, entry_list, HasObjects}
 use Rattle.lexical_core.specs.Tree.{Entry as Attribute}
 use Rattle.repo_objects.specs.declared.objects.ObjectKind.{ObjectKind}
 use Rattle.repo_objects.specs.Repository.{HasId}
 use Rattle.repo_loader.specs.declared.part.Part.TheVariants as Part
 use Rattle.repo_loader.specs.declared.stop.Stop.{Stop}
 use Rattle.repo_loader.specs.FileNames.{value_of, id_name}
-use Rattle.repo_loader.specs.LoadingSteps.{HasIdIn}
-use Rattle.repo_loader.specs.Stops.{IsLeastBroken, TellsFacets, TellsStop}
+use Rattle.repo_loader.specs.inner.LoadingSteps.{HasIdIn}
+use Rattle.repo_loader.specs.inner.Stops.{IsLeastBroken, TellsFacets, TellsStop}
 use Rattle.repo_loader.proofs.EntryRules.{IsFirst, least_twice, least_number}
 use Rattle.repo_loader.proofs.Steps.{objects_snoc}
 

@@ -4,9 +4,9 @@ use Rattle.repo_objects.specs.declared.objects.MessageDef.{MessageDef}
 use Rattle.repo_objects.specs.declared.objects.ElementDef.{ElementDef}
 use Rattle.repo_loader.specs.declared.loading.OpenMessage.{OpenMessage}
 use Rattle.repo_loader.specs.Selected.{Tag}
-use Rattle.repo_loader.specs.FileSteps.{has_stop}
+use Rattle.repo_loader.specs.inner.FileSteps.{has_stop}
 use Rattle.repo_loader.specs.File.{is_message, is_message_tag, own_blocks, own_identifiers, behind, first_of, message, messages}
-use Rattle.repo_loader.specs.LoadingSteps.{is_some_list, HasMessages, grown_if, open_messages, with_block, with_identifier}
+use Rattle.repo_loader.specs.inner.LoadingSteps.{is_some_list, HasMessages, grown_if, open_messages, with_block, with_identifier}
 use Rattle.repo_loader.proofs.Steps.{behind_open}
 use Rattle.repo_loader.proofs.Messages.{no_messages, messages_split}
 

@@ -4,7 +4,7 @@ use Rattle.repo_objects.specs.declared.objects.ElementDef.{ElementDef}
 use Rattle.repo_objects.specs.declared.objects.MessageDef.{MessageDef}
 use Rattle.repo_loader.specs.Selected.{Tag}
 use Rattle.repo_loader.specs.File.{is_message, is_message_tag, own_blocks, own_identifiers, behind, first_of, message, messages}
-use Rattle.repo_loader.specs.FileSteps.{has_stop}
+use Rattle.repo_loader.specs.inner.FileSteps.{has_stop}
 
 module _ {A : Type 0} (stops : Tag → Bool) (own : Tag → List A) where
   same_more : (b : Bool) (u : Tag) (xs ys : List A) → xs ≡ ys → (if b then [] else own u ++ xs) ≡ (if b then [] else own u ++ ys)

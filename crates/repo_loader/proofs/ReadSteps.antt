@@ -22,8 +22,8 @@ use Rattle.repo_loader.specs.declared.progress.Progress.{Progress}
 use Rattle.repo_loader.specs.Selected.{event_tags}
 use Rattle.repo_loader.specs.FileFaults.{AreSound, IsFirstBroken}
 use Rattle.repo_loader.specs.Loaded.{limit, token_tags, HasLoadFault, broken, markup}
-use Rattle.repo_loader.specs.SelectionSteps.{HasItemTexts, HaveTexts, HasLoaded, IsBrokenBy, LoadsOn}
-use Rattle.repo_loader.specs.ProgressSteps.{markup_fault, HasRead, TellsFault, Shows, ReadsOn}
+use Rattle.repo_loader.specs.inner.SelectionSteps.{HasItemTexts, HaveTexts, HasLoaded, IsBrokenBy, LoadsOn}
+use Rattle.repo_loader.specs.inner.ProgressSteps.{markup_fault, HasRead, TellsFault, Shows, ReadsOn}
 use Rattle.repo_loader.proofs.Texts.{events_texts}
 use Rattle.repo_loader.proofs.EventSteps.{run_loaded}
 use Rattle.repo_loader.proofs.OneLoadFault.{front_before}

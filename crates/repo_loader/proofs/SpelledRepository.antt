@@ -10,12 +10,12 @@ use Rattle.repo_loader.specs.declared.part.Part.{Part}
 use Rattle.repo_loader.specs.declared.part.Part.TheVariants as part
 use Rattle.repo_loader.specs.FileNames.{value_of, id_name}
 use Rattle.repo_loader.specs.FileValues.{text_or_empty}
-use Rattle.repo_loader.specs.FileSteps.{with_last, with_parts}
+use Rattle.repo_loader.specs.inner.FileSteps.{with_last, with_parts}
 use Rattle.repo_loader.specs.Selected.{Tag, PlacedTag}
 use Rattle.repo_loader.specs.File.{is_entry, kind_at, entry, objects, contents_of}
 use Rattle.repo_loader.specs.FileFaults.{IsEntry, twice, lacks_id, AreSound, tags_of}
 use Rattle.repo_loader.specs.Loaded.{token_tags, Spells}
-use Rattle.repo_loader.specs.Stops.{IsSoundTag}
+use Rattle.repo_loader.specs.inner.Stops.{IsSoundTag}
 use Rattle.repo_loader.proofs.Steps.{objects_snoc}
 use Rattle.repo_loader.proofs.Texts.{events_texts}
 use Rattle.repo_loader.proofs.OneRepository.{contents_by_tokens}

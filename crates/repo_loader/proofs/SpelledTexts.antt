@@ -13,8 +13,8 @@ use Rattle.repo_loader.specs.declared.part.Part.TheVariants.{Element, Alternativ
 use Rattle.repo_loader.specs.Selected.{Tag, PlacedTag, innermost, part_in, tag_if, item_tags, open_behind, placed_tags, event_tags}
 use Rattle.repo_loader.specs.File.{is_entry, is_message, kind_at, is_entry_tag, is_message_tag, elements_at, codes_at, blocks_at, identifiers_at, own_elements, own_codes, own_blocks, own_identifiers, behind, first_of, entry, message, element, code, identifier, objects, messages}
 use Rattle.repo_loader.specs.FileFaults.{tags_of}
-use Rattle.repo_loader.specs.LoadingSteps.{AreTexts}
-use Rattle.repo_loader.specs.SelectionSteps.{HasItemTexts}
+use Rattle.repo_loader.specs.inner.LoadingSteps.{AreTexts}
+use Rattle.repo_loader.specs.inner.SelectionSteps.{HasItemTexts}
 use Rattle.repo_loader.proofs.EntryTexts.{empty_text, entry_texts, element_texts, code_texts}
 use Rattle.repo_loader.proofs.TagTexts.{identifier_text, message_texts}
 

@@ -5,7 +5,7 @@ use Rattle.repo_objects.specs.declared.objects.CodeDef.{CodeDef}
 use Rattle.repo_objects.specs.Repository.{Entry as Named}
 use Rattle.repo_loader.specs.Selected.{Tag}
 use Rattle.repo_loader.specs.File.{is_entry, kind_at, is_entry_tag, own_elements, own_codes, behind, entry, objects}
-use Rattle.repo_loader.specs.FileSteps.{with_last, with_parts, object_step, has_stop}
+use Rattle.repo_loader.specs.inner.FileSteps.{with_last, with_parts, object_step, has_stop}
 
 -- ---- what is gathered behind a tag
 

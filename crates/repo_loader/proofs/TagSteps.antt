@@ -15,9 +15,9 @@ use Rattle.repo_loader.specs.declared.part.Part.TheVariants.{Element, Alternativ
 use Rattle.repo_loader.specs.declared.stop.Stop.{Stop}
 use Rattle.repo_loader.specs.declared.stop.Stop.TheVariants.{Rule, Memory}
 use Rattle.repo_loader.specs.Selected.{Tag}
-use Rattle.repo_loader.specs.Stops.{IsSoundTag, IsLeastBroken, TellsStop, TellsNumbers}
+use Rattle.repo_loader.specs.inner.Stops.{IsSoundTag, IsLeastBroken, TellsStop, TellsNumbers}
 use Rattle.repo_loader.specs.File.{is_entry, is_message, element, code, identifier}
-use Rattle.repo_loader.specs.LoadingSteps.{AreTexts, IsNew, CanClose, CanCloseMessage, HasMessages, HasTags, TakesOther, grown_if, with_element, with_code, entry_after, message_after, OpensEntry}
+use Rattle.repo_loader.specs.inner.LoadingSteps.{AreTexts, IsNew, CanClose, CanCloseMessage, HasMessages, HasTags, TakesOther, grown_if, with_element, with_code, entry_after, message_after, OpensEntry}
 use Rattle.repo_loader.proofs.EntryRules.{sound_other, least_other}
 use Rattle.repo_loader.proofs.EntryTexts.{element_texts, code_texts}
 use Rattle.repo_loader.proofs.TagTexts.{identifier_text, element_new, code_new, block_closes, identifier_closes}

@@ -14,7 +14,7 @@ use Rattle.repo_loader.specs.declared.loading.OpenEntry.{OpenEntry}
 use Rattle.repo_loader.specs.declared.loading.OpenMessage.{OpenMessage}
 use Rattle.repo_loader.specs.FileValues.{text}
 use Rattle.repo_loader.specs.File.{message, identifier}
-use Rattle.repo_loader.specs.LoadingSteps.{AreTexts, IsNew, CanCloseMessage, with_element, with_code, with_block, with_identifier}
+use Rattle.repo_loader.specs.inner.LoadingSteps.{AreTexts, IsNew, CanCloseMessage, with_element, with_code, with_block, with_identifier}
 use Rattle.repo_loader.proofs.EntryTexts.{empty_text, text_is}
 
 -- ---- texts together

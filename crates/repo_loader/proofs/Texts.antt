@@ -17,8 +17,8 @@ use Rattle.markup.specs.Marks.{stands, in_cdata, Front}
 use Rattle.markup.specs.Events.{Placed, events, items_of, open_tags, opening, given, element_name, attribute_name, declared_prefix, entries, put, put_named, started, ended, end_items}
 use Rattle.lexical_core.specs.Names.{name_cmp}
 use Rattle.markup.proofs.CharLemmas.{classes}
-use Rattle.repo_loader.specs.LoadingSteps.{AreTexts}
-use Rattle.repo_loader.specs.SelectionSteps.{HasItemTexts}
+use Rattle.repo_loader.specs.inner.LoadingSteps.{AreTexts}
+use Rattle.repo_loader.specs.inner.SelectionSteps.{HasItemTexts}
 
 and_left : (a b : Bool) → (a && b) ≡ true → a ≡ true
 and_left true b h = refl

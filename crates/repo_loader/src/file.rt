@@ -3,7 +3,7 @@ ghost use Rattle.std.specs.Prelude.{◌≡◌, ◌<◌, ◌≤◌, [], IfOk, IfE
 ghost use Rattle.std.specs.Io.KnownBytes.{IsAtEnd};
 ghost use Rattle.outside.specs.Source.{Rose};
 ghost use Rattle.repo_loader.specs.Loaded.{Spells};
-ghost use Rattle.repo_loader.specs.ProgressSteps.{HasRead, HasAll};
+ghost use Rattle.repo_loader.specs.inner.ProgressSteps.{HasRead, HasAll};
 ghost use Rattle.repo_loader.specs.LoadErrors.{RefusesFile, IsPlaced, PullsForFault, IsCaused};
 
 use crate::fault::{LoadError, LoadFault};

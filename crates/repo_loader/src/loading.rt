@@ -7,8 +7,8 @@ ghost use Rattle.repo_objects.specs.Repository.{HasId, HasEntryTexts};
 ghost use Rattle.repo_loader.specs.declared.part.Part.TheVariants.{Entry as EntryPart, Message as MessagePart};
 ghost use Rattle.repo_loader.specs.FileNames.{own, id_name, type_name, value_of as spec_value_of};
 ghost use Rattle.repo_loader.specs.Selected.{Tag};
-ghost use Rattle.repo_loader.specs.Stops.{IsSoundTag, TellsStop, TellsNumbers};
-ghost use Rattle.repo_loader.specs.LoadingSteps.{AreTexts, entry_list, CanClose, with_element, with_code, HasObjects, OpensEntry, HasIdIn, CanCloseMessage, open_messages, HasMessages, with_block, with_identifier, TakesOther, HasTags};
+ghost use Rattle.repo_loader.specs.inner.Stops.{IsSoundTag, TellsStop, TellsNumbers};
+ghost use Rattle.repo_loader.specs.inner.LoadingSteps.{AreTexts, entry_list, CanClose, with_element, with_code, HasObjects, OpensEntry, HasIdIn, CanCloseMessage, open_messages, HasMessages, with_block, with_identifier, TakesOther, HasTags};
 ghost use Rattle.repo_loader.specs.File.{is_entry, contents_of};
 
 use crate::names::value_of;

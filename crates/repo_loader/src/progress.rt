@@ -4,8 +4,8 @@ ghost use Rattle.markup.specs.Events.{Placed};
 ghost use Rattle.markup.specs.EventItems.{placed};
 ghost use Rattle.markup.specs.Reading.{taken, IsWholly};
 ghost use Rattle.repo_loader.specs.Loaded.{limit, Spells};
-ghost use Rattle.repo_loader.specs.SelectionSteps.{HasLoaded, LoadsOn, HaveTexts};
-ghost use Rattle.repo_loader.specs.ProgressSteps.{HasRead, ReadsOn, EndsAs, markup_fault, TellsFault};
+ghost use Rattle.repo_loader.specs.inner.SelectionSteps.{HasLoaded, LoadsOn, HaveTexts};
+ghost use Rattle.repo_loader.specs.inner.ProgressSteps.{HasRead, ReadsOn, EndsAs, markup_fault, TellsFault};
 
 use crate::fault::LoadFault;
 use crate::selection::Selection;

@@ -5,8 +5,8 @@ ghost use Rattle.markup.specs.Events.{Placed};
 ghost use Rattle.markup.specs.EventItems.{entry_of, item_of, placed};
 ghost use Rattle.repo_loader.specs.Selected.{innermost as spec_innermost};
 ghost use Rattle.repo_loader.specs.File.{contents_of};
-ghost use Rattle.repo_loader.specs.LoadingSteps.{AreTexts};
-ghost use Rattle.repo_loader.specs.SelectionSteps.{HasLoaded, LoadsOn, HasItemTexts, HaveTexts, tags_told};
+ghost use Rattle.repo_loader.specs.inner.LoadingSteps.{AreTexts};
+ghost use Rattle.repo_loader.specs.inner.SelectionSteps.{HasLoaded, LoadsOn, HasItemTexts, HaveTexts, tags_told};
 
 use crate::fault::LoadFault;
 use crate::loading::Loading;

@@ -7,7 +7,7 @@ use Rattle.lexical_core.specs.Tree.{Entry}
 use Rattle.lexical_core.specs.Names.{xmlns}
 use Rattle.fragments.specs.Fragment.{Written, written_text, needs_none, before_others, namespaces_of, declarations, prefix_of}
 use Rattle.respell.proofs.Prefixes.{same_bytes, bytes_same, other_bytes}
-use Rattle.respell.specs.Declaring.{without, is_new}
+use Rattle.respell.specs.inner.Declaring.{without, is_new}
 
 -- a namespace before others, without it
 without_before : (n : List ℕ) (xs : List (List ℕ)) → without n (before_others n xs) ≡ without n xs

@@ -16,7 +16,7 @@ use Rattle.markup.proofs.Stays.{events_stay}
 use Rattle.fragments.specs.Plain.{IsPlain}
 use Rattle.respell.specs.Laws.{Reads, IsPlainItem}
 use Rattle.respell.specs.Respelling.{HasSortedAttributes, AreOf, told_of}
-use Rattle.respell.specs.FragmentReading.{NoneOutside, IsFragment, event_items}
+use Rattle.respell.specs.inner.FragmentReading.{NoneOutside, IsFragment, event_items}
 use Rattle.respell.proofs.Fronts.{front_of}
 use Rattle.respell.proofs.OneTree.{read_back}
 use Rattle.respell.proofs.Outside.{outside_parts, tree_inside, told_counted, told_tree}

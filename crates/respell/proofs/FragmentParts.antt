@@ -13,7 +13,7 @@ use Rattle.markup.specs.declared.plain_tag.TagKind.{TagKind}
 use Rattle.markup.specs.declared.plain_tag.TagKind.TheVariants as kind
 use Rattle.markup.specs.declared.reader.Reader.{Reader}
 use Rattle.respell.specs.Kept.{HasWritten, IsInDefault, opened_by}
-use Rattle.respell.specs.FragmentReading.{NoneOutside, HasReadFront, IsFragment, ReadsOn, AdvancesSo}
+use Rattle.respell.specs.inner.FragmentReading.{NoneOutside, HasReadFront, IsFragment, ReadsOn, AdvancesSo}
 use Rattle.respell.specs.declared.respell.Respell.{Respell}
 use Rattle.respell.specs.declared.fragment_reader.FragmentReader.{FragmentReader}
 use Rattle.respell.specs.declared.fragment_reader.Advance.{Advance}

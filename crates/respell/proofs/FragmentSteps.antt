@@ -19,7 +19,7 @@ use Rattle.fragments.specs.Plain.{IsPlain}
 use Rattle.fragments.specs.Fragment.{fragment}
 use Rattle.respell.specs.Respelling.{HasSortedAttributes, AreOf, respelled, defaults_behind}
 use Rattle.respell.specs.Kept.{HasWritten}
-use Rattle.respell.specs.FragmentReading.{NoneOutside, HasReadFront, IsFragment, event_items}
+use Rattle.respell.specs.inner.FragmentReading.{NoneOutside, HasReadFront, IsFragment, event_items}
 use Rattle.respell.specs.declared.fragment_reader.FragmentReader.{FragmentReader}
 use Rattle.respell.proofs.Outside.{outside_parts}
 use Rattle.respell.proofs.RespelledTrees.{respelled_tree, respelled-append, whole_text}

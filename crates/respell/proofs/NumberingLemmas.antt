@@ -14,7 +14,7 @@ use Rattle.lexical_core.specs.Tree.{Entry}
 use Rattle.fragments.specs.Plain.{AreSorted}
 use Rattle.lexical_core.specs.Names.{name_cmp}
 use Rattle.fragments.specs.Fragment.{Written, written_text, needs_none, namespaces_of, number_of, attribute_written, is_xml, prefix_of}
-use Rattle.respell.specs.Declaring.{without, is_new, number_behind, later, numbered_prefix, numbered_attribute}
+use Rattle.respell.specs.inner.Declaring.{without, is_new, number_behind, later, numbered_prefix, numbered_attribute}
 use Rattle.respell.proofs.Prefixes.{same_bytes, bytes_same, other_bytes}
 use Rattle.respell.proofs.TagNames.{IsOneOf}
 use Rattle.respell.proofs.DeclaringLemmas.{without_none, without_new, without_old}

@@ -10,7 +10,7 @@ use Rattle.markup.specs.declared.event.What.TheVariants.{Start as StartTold, Cha
 use Rattle.fragments.specs.Fragment.{default_within}
 use Rattle.respell.specs.Respelling.{nearest, defaults_behind, told_of}
 use Rattle.respell.specs.Kept.{KeepsDefaults, HasWritten}
-use Rattle.respell.specs.FragmentReading.{NoneOutside}
+use Rattle.respell.specs.inner.FragmentReading.{NoneOutside}
 use Rattle.respell.specs.declared.respell.Respell.{Respell}
 
 -- how many elements are open behind the events

@@ -2,5 +2,4 @@ pub mod Respelling
 pub mod Kept
 pub mod ShortTags
 pub mod Laws
-pub mod Declaring
-pub mod FragmentReading
+pub mod inner

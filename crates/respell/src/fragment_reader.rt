@@ -9,7 +9,7 @@ ghost use Rattle.fragments.specs.Plain.{IsPlain};
 ghost use Rattle.fragments.specs.Fragment.{fragment};
 ghost use Rattle.respell.specs.Respelling.{HasSortedAttributes};
 ghost use Rattle.respell.specs.Kept.{HasWritten};
-ghost use Rattle.respell.specs.FragmentReading.{NoneOutside, event_items, HasReadFront, IsFragment, ReadsOn, AdvancesSo};
+ghost use Rattle.respell.specs.inner.FragmentReading.{NoneOutside, event_items, HasReadFront, IsFragment, ReadsOn, AdvancesSo};
 
 use crate::respell::Respell;
 use markup::{Event, Events, MarkError, Reader};

@@ -9,7 +9,7 @@ ghost use Rattle.lexical_core.specs.Names.{xmlns};
 ghost use Rattle.fragments.specs.Fragment.{fragment, spelling_text, element_spelling, default_declaration, default_within, is_default, is_xml, start_text, end_text, written_text};
 ghost use Rattle.respell.specs.Respelling.{AreFront, AreOf, HasSortedAttributes, nearest};
 ghost use Rattle.respell.specs.Kept.{HasTaken, HasWritten, HasDefaults};
-ghost use Rattle.respell.specs.FragmentReading.{NoneOutside};
+ghost use Rattle.respell.specs.inner.FragmentReading.{NoneOutside};
 
 mod plain;
 

@@ -4,7 +4,7 @@ ghost use Rattle.std.specs.List.{flat_map};
 ghost use Rattle.markup.specs.EventItems.{entry_of};
 ghost use Rattle.fragments.specs.Plain.{AreSorted};
 ghost use Rattle.lexical_core.specs.Names.{xmlns};
-ghost use Rattle.respell.specs.Declaring.{is_new, number_behind, later, numbered_prefix, numbered_attribute};
+ghost use Rattle.respell.specs.inner.Declaring.{is_new, number_behind, later, numbered_prefix, numbered_attribute};
 ghost use Rattle.fragments.specs.Fragment.{value_byte, written_text, spelling_text, prefix_of, declarations, namespaces_of, attribute_written, needs_none, is_xml};
 
 use lexical_core::Text;

@@ -1,7 +1,7 @@
-pub mod Checked
 pub mod CheckErrors
+pub mod Limited
+pub mod Reading
+pub mod Checked
 pub mod TransErrors
 pub mod Transcoding
 pub mod Laws
-pub mod Limited
-pub mod Reading

@@ -7,12 +7,12 @@ pub mod Open
 pub mod Verdicts
 pub mod Quick
 pub mod Known
+pub mod Built
+pub mod Keeping
 pub mod Checking
 pub mod Scratch
 pub mod ReadInstances
-pub mod Built
-pub mod Keeping
-pub mod Laws
 pub mod OpenInstances
+pub mod Laws
 pub mod OpenLaws
 pub mod ReadyLaws

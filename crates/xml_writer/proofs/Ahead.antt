@@ -8,7 +8,7 @@ use Rattle.data_types.specs.Value.{Piece}
 use Rattle.facets.specs.declared.simple.Simple.{Simple}
 use Rattle.reference_check.specs.Forms.{Graph}
 use Rattle.outside.specs.Gathering.{Gathers}
-use Rattle.xml_writer.specs.PieceTexts.{IsPieceText, AreWritten, innermost_behind}
+use Rattle.xml_writer.specs.inner.PieceTexts.{IsPieceText, AreWritten, innermost_behind}
 use Rattle.xml_writer.specs.declared.innermost.Innermost.{Innermost}
 use Rattle.outside.proofs.PushedFronts.{IsPushedTo, to_more, to_stops}
 

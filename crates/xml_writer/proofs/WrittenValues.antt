@@ -11,7 +11,7 @@ use Rattle.fragments.specs.Fragment.{fragment}
 use Rattle.message_model.specs.Admits.{AdmitsAs, AdmitsChildren}
 use Rattle.message_model.specs.Tables.{Tables, types_of, namespace_of, message_of, edge_at, pieces, child_pieces, pieces_of}
 use Rattle.xml_writer.specs.CanonXml.{currency_text, IsAttributes, start_tag, end_tag, IsContent, AreElements, xml_declaration, namespace_text, IsCanonXml}
-use Rattle.xml_writer.specs.PieceTexts.{is_amount, innermost_begun, innermost_ended, begun_tag, IsHeldText, AreWritten, document_head, document_tail, document_text}
+use Rattle.xml_writer.specs.inner.PieceTexts.{is_amount, innermost_begun, innermost_ended, begun_tag, IsHeldText, AreWritten, document_head, document_tail, document_text}
 use Rattle.xml_writer.specs.declared.innermost.Innermost.{Innermost}
 use Rattle.xml_writer.proofs.SomeText.{attributes_some, content_some}
 

@@ -1,5 +1,5 @@
 pub mod CanonXml
-pub mod SpellingLaw
 pub mod CanonXmlExample
-pub mod PieceTexts
+pub mod SpellingLaw
 pub mod Laws
+pub mod inner

@@ -2,7 +2,7 @@
 ghost use Rattle.std.specs.Prelude.{◌≡◌};
 ghost use Rattle.inst_pool.specs.Pieces.{piece_of};
 ghost use Rattle.message_model.specs.Tables.{types_of};
-ghost use Rattle.xml_writer.specs.PieceTexts.{is_amount, innermost_begun, innermost_behind};
+ghost use Rattle.xml_writer.specs.inner.PieceTexts.{is_amount, innermost_begun, innermost_behind};
 
 use inst_pool::Piece;
 use message_model::{Form, Model};

@@ -8,7 +8,7 @@ ghost use Rattle.facets.specs.LeafUnder.{IsCanonicalUnder, Fits};
 ghost use Rattle.message_model.specs.Admits.{FitsCode};
 ghost use Rattle.message_model.specs.Tables.{types_of};
 ghost use Rattle.xml_writer.specs.CanonXml.{IsCodeText, currency_text};
-ghost use Rattle.xml_writer.specs.PieceTexts.{IsHeldText};
+ghost use Rattle.xml_writer.specs.inner.PieceTexts.{IsHeldText};
 
 use crate::innermost::Innermost;
 use data_types::{Kind, LeafRef, push_escaped, push_leaf};

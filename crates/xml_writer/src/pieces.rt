@@ -4,7 +4,7 @@ ghost use Rattle.outside.specs.Pushes.{Pushes};
 ghost use Rattle.inst_pool.specs.Pieces.{piece_of};
 ghost use Rattle.message_model.specs.Tables.{types_of};
 ghost use Rattle.outside.specs.Gathering.{Gathers};
-ghost use Rattle.xml_writer.specs.PieceTexts.{innermost_begun, IsPieceText, AreWritten};
+ghost use Rattle.xml_writer.specs.inner.PieceTexts.{innermost_begun, IsPieceText, AreWritten};
 
 use crate::innermost::{Innermost, innermost_begun, innermost_behind};
 use crate::leaves::push_held;

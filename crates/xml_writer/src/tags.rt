@@ -4,7 +4,7 @@ ghost use Rattle.outside.specs.Pushes.{Pushes};
 ghost use Rattle.reference_check.specs.Forms.{Slot as Slotted, form_slots};
 ghost use Rattle.message_model.specs.Tables.{types_of};
 ghost use Rattle.xml_writer.specs.CanonXml.{end_tag};
-ghost use Rattle.xml_writer.specs.PieceTexts.{is_amount, begun_tag, tag_end};
+ghost use Rattle.xml_writer.specs.inner.PieceTexts.{is_amount, begun_tag, tag_end};
 
 use crate::innermost::is_amount;
 use inst_pool::Edge;

@@ -6,7 +6,7 @@ ghost use Rattle.fragments.specs.Fragment.{fragment};
 ghost use Rattle.message_model.specs.Admits.{AdmitsAs};
 ghost use Rattle.message_model.specs.Tables.{types_of, namespace_of, message_of, pieces_of};
 ghost use Rattle.xml_writer.specs.CanonXml.{IsCanonXml};
-ghost use Rattle.xml_writer.specs.PieceTexts.{is_amount, innermost_begun, AreWritten, document_head, document_text, root_text};
+ghost use Rattle.xml_writer.specs.inner.PieceTexts.{is_amount, innermost_begun, AreWritten, document_head, document_text, root_text};
 
 use crate::innermost::is_amount;
 use crate::pieces::push_pieces;

@@ -2,9 +2,9 @@
 use Rattle.std.proofs.Common.{◌≡◌, ℕ, suc, ◌+◌, List, [], ◌∷◌, ◌++◌, length, codes, sym, ap, ◌∙◌, append_assoc, append-nil, arith}
 use Rattle.facets.specs.declared.step.Step.{Step}
 use Rattle.xsd_model.specs.SchemaText.{facets_text, first_text, later_text, line, steps_from, steps_text}
-use Rattle.xsd_writer.specs.NumberedTexts.{texts_below}
-use Rattle.xsd_writer.specs.Fragments.{step_level}
-use Rattle.xsd_writer.specs.StepLines.{closings, opening}
+use Rattle.xsd_writer.specs.inner.NumberedTexts.{texts_below}
+use Rattle.xsd_writer.specs.inner.Fragments.{step_level}
+use Rattle.xsd_writer.specs.inner.StepLines.{closings, opening}
 
 regroup : (o a b i c f d k : List ℕ) → o ++ ((a ++ (b ++ (i ++ (c ++ (f ++ d))))) ++ k) ≡ (o ++ (a ++ b)) ++ (i ++ ((c ++ (f ++ d)) ++ k))
 regroup o a b i c f d k = simp append_assoc

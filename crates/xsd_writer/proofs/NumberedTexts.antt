@@ -4,7 +4,7 @@ use Rattle.std.proofs.lemmas.Bool.{cases_lt}
 use Rattle.outside.specs.Pushes.{Pushes}
 use Rattle.outside.specs.declared.errors.SinkError.{SinkError}
 use Rattle.outside.proofs.Pushing.{done, stopped, then_push, fails_push}
-use Rattle.xsd_writer.specs.NumberedTexts.{texts_below}
+use Rattle.xsd_writer.specs.inner.NumberedTexts.{texts_below}
 
 below_more : (text : ℕ → List ℕ) (i : ℕ) → texts_below text (i + 1) ≡ texts_below text i ++ text i
 below_more text i = ap (texts_below text) (let e : i + 1 ≡ suc i = omega arith in e)

@@ -5,7 +5,7 @@ use Rattle.xsd_model.specs.declared.schema.SchemaShape.{SchemaShape}
 use Rattle.xsd_model.specs.declared.schema.SchemaShape.TheVariants as shape
 use Rattle.xsd_model.specs.declared.schema.SchemaType.{SchemaType}
 use Rattle.xsd_model.specs.SchemaText.{line, shape_text, type_text}
-use Rattle.xsd_writer.specs.TypeContents.{contents_text, type_word}
+use Rattle.xsd_writer.specs.inner.TypeContents.{contents_text, type_word}
 
 abbrev pub type_start : List ℕ → List ℕ → List ℕ
 type_start word name = line 1 (codes "<xs:" ∷ word ∷ codes " name=\"" ∷ escaped_bytes true name ∷ codes "\">\n" ∷ [])

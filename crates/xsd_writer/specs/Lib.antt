@@ -1,5 +1,1 @@
-pub mod NumberedTexts
-pub mod Fragments
-pub mod FacetLines
-pub mod StepLines
-pub mod TypeContents
+pub mod inner

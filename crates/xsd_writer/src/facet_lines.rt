@@ -2,8 +2,8 @@
 ghost use Rattle.std.specs.Prelude.{◌≡◌, ◌+◌, ◌∷◌, [], codes, flat_map};
 ghost use Rattle.outside.specs.Pushes.{Pushes};
 ghost use Rattle.xsd_model.specs.SchemaText.{facet_text, facets_text, line, value_facet};
-ghost use Rattle.xsd_writer.specs.FacetLines.{facet_lines};
-ghost use Rattle.xsd_writer.specs.Fragments.{fragment_text, step_level};
+ghost use Rattle.xsd_writer.specs.inner.FacetLines.{facet_lines};
+ghost use Rattle.xsd_writer.specs.inner.Fragments.{fragment_text, step_level};
 
 use crate::fragment::Fragment;
 use facets::{Bound, Codes, Step, Texts};

@@ -7,8 +7,8 @@ ghost use Rattle.lexical_core.specs.CanonicalDecimals.{canonical_parts};
 ghost use Rattle.data_types.specs.Escaping.{escaped_bytes};
 ghost use Rattle.outside.specs.Pushes.{Pushes};
 ghost use Rattle.xsd_model.specs.SchemaText.{base_text, base_word, max_text, min_text};
-ghost use Rattle.xsd_writer.specs.NumberedTexts.{texts_below};
-ghost use Rattle.xsd_writer.specs.Fragments.{fragment_text, step_level};
+ghost use Rattle.xsd_writer.specs.inner.NumberedTexts.{texts_below};
+ghost use Rattle.xsd_writer.specs.inner.Fragments.{fragment_text, step_level};
 
 use data_types::{Kind, push_escaped};
 use lexical_core::Decimal;
@@ -38,7 +38,7 @@ pub enum Fragment<'a> {
 }
 
 impl Render for Fragment<'_> {
-    ghost use Rattle.xsd_writer.specs.Fragments.{fragment_text};
+    ghost use Rattle.xsd_writer.specs.inner.Fragments.{fragment_text};
 
     ghost rendered = { fragment_text };
 

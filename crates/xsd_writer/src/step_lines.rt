@@ -2,9 +2,9 @@
 ghost use Rattle.std.specs.Prelude.{◌≡◌};
 ghost use Rattle.outside.specs.Pushes.{Pushes};
 ghost use Rattle.xsd_model.specs.SchemaText.{first_text, has_facets, steps_text};
-ghost use Rattle.xsd_writer.specs.NumberedTexts.{texts_below};
-ghost use Rattle.xsd_writer.specs.Fragments.{step_level};
-ghost use Rattle.xsd_writer.specs.StepLines.{closing, closings, inner_end, opening, step_end, step_start};
+ghost use Rattle.xsd_writer.specs.inner.NumberedTexts.{texts_below};
+ghost use Rattle.xsd_writer.specs.inner.Fragments.{step_level};
+ghost use Rattle.xsd_writer.specs.inner.StepLines.{closing, closings, inner_end, opening, step_end, step_start};
 
 use crate::facet_lines::push_facets;
 use crate::fragment::Fragment;

@@ -2,7 +2,7 @@
 ghost use Rattle.std.specs.Prelude.{◌≡◌, ◌∷◌, [], codes, flat_map};
 ghost use Rattle.outside.specs.Pushes.{Pushes};
 ghost use Rattle.xsd_model.specs.SchemaText.{amount_text, any_text, line, model_text, part_text};
-ghost use Rattle.xsd_writer.specs.TypeContents.{contents_text};
+ghost use Rattle.xsd_writer.specs.inner.TypeContents.{contents_text};
 
 use crate::fragment::Fragment;
 use crate::step_lines::push_steps;

@@ -3,7 +3,7 @@ ghost use Rattle.std.specs.Prelude.{◌≡◌, ◌∷◌, true, [], codes, flat_
 ghost use Rattle.data_types.specs.Escaping.{escaped_bytes};
 ghost use Rattle.outside.specs.Pushes.{Pushes, as_push};
 ghost use Rattle.xsd_model.specs.SchemaText.{head_text, line, schema_text, type_text};
-ghost use Rattle.xsd_writer.specs.TypeContents.{type_word};
+ghost use Rattle.xsd_writer.specs.inner.TypeContents.{type_word};
 
 use crate::fragment::Fragment;
 use crate::type_contents::{push_contents, push_word};

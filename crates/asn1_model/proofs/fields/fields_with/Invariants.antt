@@ -2,8 +2,8 @@
 use Rattle.std.proofs.Common.{◌≡◌, ◌++◌, map, drop}
 use Rattle.message_model.specs.Tables.{Tables}
 use Rattle.asn1_model.specs.ModuleOf.{name_of, fields_with}
-use Rattle.asn1_model.specs.Fields.{slot_in}
-use Rattle.asn1_model.specs.TypeNames.{AreNames}
+use Rattle.asn1_model.specs.inner.Fields.{slot_in}
+use Rattle.asn1_model.specs.inner.TypeNames.{AreNames}
 use Rattle.asn1_model.proofs.fields.fields_with.Given as goal
 
 abbrev pub invariant-loop-at : goal.invariant-loop-at

@@ -1,7 +1,7 @@
 -- One more slot is told.
 use Rattle.reference_check.specs.Forms.{form_slots}
 use Rattle.message_model.specs.Tables.{types_of}
-use Rattle.asn1_model.specs.Fields.{slot_in}
+use Rattle.asn1_model.specs.inner.Fields.{slot_in}
 use Rattle.asn1_model.proofs.FieldLemmas.{slots_more}
 use Rattle.asn1_model.proofs.fields.slots_of.Goals as goal
 

@@ -2,7 +2,7 @@
 use Rattle.std.proofs.Common.{◌≡◌, map, take}
 use Rattle.reference_check.specs.Forms.{form_slots}
 use Rattle.message_model.specs.Tables.{types_of}
-use Rattle.asn1_model.specs.Fields.{slot_in}
+use Rattle.asn1_model.specs.inner.Fields.{slot_in}
 use Rattle.asn1_model.proofs.fields.slots_of.Given as goal
 
 abbrev pub invariant-loop-at : goal.invariant-loop-at

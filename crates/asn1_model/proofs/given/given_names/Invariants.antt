@@ -1,7 +1,7 @@
 -- The names so far were given, and those to come follow behind them.
 use Rattle.std.proofs.Common.{◌≡◌, ◌++◌, ℕ, List, length, drop}
 use Rattle.asn1_model.specs.Names.{given_names, given_after}
-use Rattle.asn1_model.specs.Given.{HasGiven}
+use Rattle.asn1_model.specs.inner.Given.{HasGiven}
 use Rattle.asn1_model.proofs.given.given_names.Given as goal
 
 abbrev pub invariant-loop-at : goal.invariant-loop-at

@@ -1,7 +1,7 @@
 -- The types so far, and those to come.
 use Rattle.std.proofs.Common.{◌≡◌, ◌++◌, map, drop}
 use Rattle.asn1_model.specs.ModuleOf.{by_name, names_given, types_with}
-use Rattle.asn1_model.specs.Order.{numbered}
+use Rattle.asn1_model.specs.inner.Order.{numbered}
 use Rattle.asn1_model.proofs.make.types_of.Given as goal
 
 abbrev pub invariant-loop-at : goal.invariant-loop-at

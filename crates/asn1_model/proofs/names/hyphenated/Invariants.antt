@@ -1,7 +1,7 @@
 -- The name so far, and what the bytes to come add to it, are the whole.
 use Rattle.std.proofs.Common.{◌≡◌, false, ◌++◌, drop}
 use Rattle.asn1_model.specs.Names.{without_gap, hyphenated}
-use Rattle.asn1_model.specs.Joined.{to_come}
+use Rattle.asn1_model.specs.inner.Joined.{to_come}
 use Rattle.asn1_model.proofs.names.hyphenated.Given as goal
 
 abbrev pub invariant-loop-byte : goal.invariant-loop-byte

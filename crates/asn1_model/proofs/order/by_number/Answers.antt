@@ -3,7 +3,7 @@ use Rattle.std.proofs.Common.{◌<◌, ◌∷◌, [], ◌++◌, List, length, ma
 use Rattle.std.proofs.lemmas.List.{map-append}
 use Rattle.asn1_model.specs.declared.order.NamedType.{NamedType}
 use Rattle.asn1_model.specs.ModuleOf.{Numbered}
-use Rattle.asn1_model.specs.Order.{numbered}
+use Rattle.asn1_model.specs.inner.Order.{numbered}
 use Rattle.asn1_model.proofs.NumberedTypes.{numbered_more, not_nameless}
 use Rattle.asn1_model.proofs.order.by_number.Goals as goal
 

@@ -1,6 +1,6 @@
 -- The types before.
 use Rattle.std.proofs.Common.{◌≡◌, map, take}
-use Rattle.asn1_model.specs.Order.{numbered, numbered_from}
+use Rattle.asn1_model.specs.inner.Order.{numbered, numbered_from}
 use Rattle.asn1_model.proofs.order.by_number.Given as goal
 
 abbrev pub invariant-loop-number : goal.invariant-loop-number

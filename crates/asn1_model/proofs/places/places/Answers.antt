@@ -4,8 +4,8 @@ use Rattle.std.specs.Prelude.{replicate}
 use Rattle.std.proofs.lemmas.Grind.{common_steps}
 use Rattle.std.proofs.lemmas.List.{length-set, length-replicate}
 use Rattle.asn1_model.specs.ModuleOf.{name_in}
-use Rattle.asn1_model.specs.Order.{numbered}
-use Rattle.asn1_model.specs.Places.{name_at}
+use Rattle.asn1_model.specs.inner.Order.{numbered}
+use Rattle.asn1_model.specs.inner.Places.{name_at}
 use Rattle.asn1_model.proofs.PlaceLemmas.{place_more, place_none}
 use Rattle.asn1_model.proofs.places.places.Goals as goal
 

@@ -1,8 +1,8 @@
 -- The places of the types behind are written.
 use Rattle.std.proofs.Common.{◌≡◌, ℕ, ◌<◌, ◌≤◌, List, length, map, drop}
 use Rattle.asn1_model.specs.ModuleOf.{name_in}
-use Rattle.asn1_model.specs.Order.{numbered}
-use Rattle.asn1_model.specs.Places.{name_at}
+use Rattle.asn1_model.specs.inner.Order.{numbered}
+use Rattle.asn1_model.specs.inner.Places.{name_at}
 use Rattle.asn1_model.proofs.places.places.Given as goal
 
 abbrev pub invariant-loop-left : goal.invariant-loop-left

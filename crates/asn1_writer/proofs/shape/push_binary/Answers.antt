@@ -1,6 +1,6 @@
 use Rattle.std.proofs.Common.{flat_map, subst}
 use Rattle.outside.specs.Pushes.{Pushes}
-use Rattle.asn1_writer.specs.Fragments.{fragment_text}
+use Rattle.asn1_writer.specs.inner.Fragments.{fragment_text}
 use Rattle.asn1_writer.proofs.shape.push_binary.Goals as goal
 
 pub returns : goal.returns

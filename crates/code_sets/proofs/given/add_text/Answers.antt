@@ -1,5 +1,5 @@
 use Rattle.std.proofs.Common.{ap, ◌∙◌}
-use Rattle.code_sets.specs.Given.{texts_of, with_text}
+use Rattle.code_sets.specs.inner.Given.{texts_of, with_text}
 use Rattle.code_sets.proofs.GivenLemmas.{key_added}
 use Rattle.code_sets.proofs.given.add_text.Goals as goal
 

@@ -1,7 +1,7 @@
 -- The codes of the texts so far.
 use Rattle.std.proofs.Common.{◌≡◌, map, take}
 use Rattle.code_sets.specs.Codes.{code_of}
-use Rattle.code_sets.specs.Given.{texts_of}
+use Rattle.code_sets.specs.inner.Given.{texts_of}
 use Rattle.code_sets.proofs.given.defs_of.Given as goal
 
 abbrev pub invariant-loop-text : goal.invariant-loop-text

@@ -1,7 +1,7 @@
 -- The record's code is kept behind those of the records before.
 use Rattle.std.proofs.Common.{[], ap, sym, subst, take, ◌∙◌}
 use Rattle.code_sets.specs.Codes.{codes_for, once}
-use Rattle.code_sets.specs.Given.{codes_in, HasName}
+use Rattle.code_sets.specs.inner.Given.{codes_in, HasName}
 use Rattle.code_sets.proofs.GivenLemmas.{record_added, item_taken}
 use Rattle.code_sets.proofs.given.given_codes.Goals as goal
 

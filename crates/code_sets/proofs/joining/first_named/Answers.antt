@@ -4,7 +4,7 @@ use Rattle.std.proofs.lemmas.Option.{slice_get-get_or}
 use Rattle.std.specs.List.{list_any}
 use Rattle.std.specs.Str.{bytes_eq}
 use Rattle.code_sets.specs.Codes.{JoinFault}
-use Rattle.code_sets.specs.Given.{texts_of}
+use Rattle.code_sets.specs.inner.Given.{texts_of}
 use Rattle.code_sets.proofs.JoinLemmas.{named_first}
 use Rattle.code_sets.proofs.joining.first_named.Goals as goal
 

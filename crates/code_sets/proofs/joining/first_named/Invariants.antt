@@ -1,7 +1,7 @@
 -- No record so far names one.
 use Rattle.std.proofs.Common.{◌≡◌, false, take}
 use Rattle.std.specs.List.{list_any}
-use Rattle.code_sets.specs.Given.{is_named, texts_of}
+use Rattle.code_sets.specs.inner.Given.{is_named, texts_of}
 use Rattle.code_sets.proofs.joining.first_named.Given as goal
 
 abbrev pub invariant-loop-record : goal.invariant-loop-record

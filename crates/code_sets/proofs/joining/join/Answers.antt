@@ -1,5 +1,5 @@
 -- What is kept of the records are texts.
-use Rattle.code_sets.specs.Given.{codes_in}
+use Rattle.code_sets.specs.inner.Given.{codes_in}
 use Rattle.code_sets.proofs.JoinLemmas.{kept_texts}
 use Rattle.code_sets.proofs.joining.join.Goals as goal
 

@@ -1,6 +1,6 @@
 -- One more entry has its codes.
 use Rattle.std.proofs.Common.{◌<◌, length, arith}
-use Rattle.code_sets.specs.Given.{codes_in, given_entry}
+use Rattle.code_sets.specs.inner.Given.{codes_in, given_entry}
 use Rattle.code_sets.proofs.JoinLemmas.{front_more}
 use Rattle.code_sets.proofs.joining.join_all.Goals as goal
 

@@ -1,6 +1,6 @@
 -- The entries so far have their codes, and the others are as they were.
 use Rattle.std.proofs.Common.{◌≡◌}
-use Rattle.code_sets.specs.Given.{codes_in, given_entry}
+use Rattle.code_sets.specs.inner.Given.{codes_in, given_entry}
 use Rattle.code_sets.proofs.JoinLemmas.{joined_front}
 use Rattle.code_sets.proofs.joining.join_all.Given as goal
 

@@ -1,7 +1,7 @@
 -- The entry at the place takes the codes of its name.
 use Rattle.std.proofs.Common.{sym, ap, ◌∙◌}
 use Rattle.repo_objects.specs.Repository.{Contents}
-use Rattle.code_sets.specs.Given.{codes_in}
+use Rattle.code_sets.specs.inner.Given.{codes_in}
 use Rattle.code_sets.proofs.JoinLemmas.{defs_texts, takes_given}
 use Rattle.code_sets.proofs.joining.join_at.Goals as goal
 

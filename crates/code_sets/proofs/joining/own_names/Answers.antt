@@ -1,6 +1,6 @@
 -- One more entry is looked at.
 use Rattle.std.proofs.Common.{◌+◌, ◌<◌, length, take, sym, subst, arith}
-use Rattle.code_sets.specs.Given.{NamesOwn, texts_of, with_own_name}
+use Rattle.code_sets.specs.inner.Given.{NamesOwn, texts_of, with_own_name}
 use Rattle.code_sets.proofs.JoinLemmas.{item_at, own_more}
 use Rattle.code_sets.proofs.joining.own_names.Goals as goal
 

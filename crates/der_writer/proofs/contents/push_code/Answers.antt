@@ -1,5 +1,5 @@
 use Rattle.std.proofs.Common.{◌++◌, length, ap, ◌∙◌}
-use Rattle.der_writer.specs.Heads.{head_octets}
+use Rattle.der_writer.specs.inner.Heads.{head_octets}
 use Rattle.der_writer.proofs.CodeOctets.{octets_1, octets_2, octets_3, octets_4, octets_5}
 use Rattle.der_writer.proofs.Pairs.{same_text}
 use Rattle.der_writer.proofs.contents.push_code.Goals as goal

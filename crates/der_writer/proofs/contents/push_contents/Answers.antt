@@ -1,5 +1,5 @@
 use Rattle.std.proofs.Common.{length, refl}
-use Rattle.der_writer.specs.Heads.{head_octets}
+use Rattle.der_writer.specs.inner.Heads.{head_octets}
 use Rattle.der_writer.proofs.Pairs.{pair_stops, pair_ends}
 use Rattle.der_writer.proofs.contents.push_contents.Goals as goal
 

@@ -1,6 +1,6 @@
 use Rattle.std.proofs.Common.{◌++◌, length, ap}
 use Rattle.der_model.proofs.RealWritten.{real_is}
-use Rattle.der_writer.specs.Heads.{head_octets}
+use Rattle.der_writer.specs.inner.Heads.{head_octets}
 use Rattle.der_writer.proofs.Pairs.{same_text}
 use Rattle.der_writer.proofs.contents.push_real.Goals as goal
 

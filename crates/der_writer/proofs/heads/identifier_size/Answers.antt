@@ -1,4 +1,4 @@
-use Rattle.der_writer.specs.Heads.{tag_of}
+use Rattle.der_writer.specs.inner.Heads.{tag_of}
 use Rattle.der_writer.proofs.HeadLemmas.{one_size, two_size, three_size}
 use Rattle.der_writer.proofs.heads.identifier_size.Goals as goal
 

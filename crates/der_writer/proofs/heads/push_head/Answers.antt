@@ -1,6 +1,6 @@
 use Rattle.std.proofs.Common.{sym, ap}
 use Rattle.der_octets.specs.Octets.{identifier, length_octets}
-use Rattle.der_writer.specs.Heads.{tag_of, head_octets}
+use Rattle.der_writer.specs.inner.Heads.{tag_of, head_octets}
 use Rattle.der_writer.proofs.Pairs.{pair_stops, pair_ends}
 use Rattle.der_writer.proofs.heads.push_head.Goals as goal
 

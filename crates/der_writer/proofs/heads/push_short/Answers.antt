@@ -1,5 +1,5 @@
 use Rattle.std.proofs.Common.{◌∷◌, [], ◌+◌, ◌++◌, ap, ap₂, sym, ◌∙◌}
-use Rattle.der_writer.specs.Heads.{tag_of}
+use Rattle.der_writer.specs.inner.Heads.{tag_of}
 use Rattle.der_octets.proofs.TagFronts.{one_octet}
 use Rattle.der_writer.proofs.HeadLemmas.{short_is}
 use Rattle.der_writer.proofs.Pairs.{same_text}

@@ -1,7 +1,7 @@
 use Rattle.std.proofs.Common.{◌+◌, length, ap, arith}
 use Rattle.message_model.specs.Tables.{types_of}
-use Rattle.der_writer.specs.Heads.{before_view}
-use Rattle.der_writer.specs.PieceOctets.{slots_behind}
+use Rattle.der_writer.specs.inner.Heads.{before_view}
+use Rattle.der_writer.specs.inner.PieceOctets.{slots_behind}
 use Rattle.der_writer.proofs.KnownStages.{knows_end, sets_same}
 use Rattle.der_writer.proofs.lengths.end.Goals as goal
 

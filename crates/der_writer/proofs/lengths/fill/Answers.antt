@@ -1,7 +1,7 @@
 use Rattle.std.proofs.Common.{◌+◌, length, ap}
 use Rattle.message_model.specs.Tables.{types_of}
-use Rattle.der_writer.specs.Heads.{before_view}
-use Rattle.der_writer.specs.PieceOctets.{leaf_octets}
+use Rattle.der_writer.specs.inner.Heads.{before_view}
+use Rattle.der_writer.specs.inner.PieceOctets.{leaf_octets}
 use Rattle.der_writer.proofs.KnownStages.{knows_free}
 use Rattle.der_writer.proofs.lengths.fill.Goals as goal
 

@@ -1,9 +1,9 @@
 use Rattle.std.proofs.Common.{◌≡◌, sym, ap, ◌∙◌, subst}
 use Rattle.message_model.specs.Tables.{types_of, pieces_of}
 use Rattle.fragments.specs.Fragment.{fragment}
-use Rattle.der_writer.specs.PieceOctets.{Begun, document_edge}
-use Rattle.der_writer.specs.Passes.{stage}
-use Rattle.der_writer.specs.Measuring.{NumbersAreKept}
+use Rattle.der_writer.specs.inner.PieceOctets.{Begun, document_edge}
+use Rattle.der_writer.specs.inner.Passes.{stage}
+use Rattle.der_writer.specs.inner.Measuring.{NumbersAreKept}
 use Rattle.der_writer.proofs.CountsLast.{has_counts}
 use Rattle.der_writer.proofs.lengths.measure.Goals as goal
 

@@ -2,8 +2,8 @@ use Rattle.std.proofs.Common.{◌+◌, drop, Some, sym, ap, ◌∙◌, subst}
 use Rattle.message_model.specs.Tables.{types_of}
 use Rattle.data_types.specs.Value.{Begins, Holds, Ends}
 use Rattle.inst_pool.specs.Pieces.{edge_of}
-use Rattle.der_writer.specs.Passes.{piece_step, stage}
-use Rattle.der_writer.specs.Measuring.{Knows, before_place}
+use Rattle.der_writer.specs.inner.Passes.{piece_step, stage}
+use Rattle.der_writer.specs.inner.Measuring.{Knows, before_place}
 use Rattle.der_writer.proofs.StageBounds.{stage_beside, stage_within}
 use Rattle.der_writer.proofs.KnownStages.{piece_there, begins_there, ends_there, holds_there, stage_at}
 use Rattle.der_writer.proofs.lengths.measure_piece.Goals as goal

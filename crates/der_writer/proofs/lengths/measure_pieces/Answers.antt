@@ -2,8 +2,8 @@ use Rattle.std.proofs.Common.{◌≡◌, ◌+◌, ◌-◌, Some, drop, ap, ◌�
 use Rattle.std.specs.Prelude.{slice_get}
 use Rattle.message_model.specs.Tables.{types_of}
 use Rattle.inst_pool.specs.Pieces.{bytes_of, piece_bytes}
-use Rattle.der_writer.specs.Passes.{stage}
-use Rattle.der_writer.specs.Measuring.{Knows, before_place}
+use Rattle.der_writer.specs.inner.Passes.{stage}
+use Rattle.der_writer.specs.inner.Measuring.{Knows, before_place}
 use Rattle.der_writer.proofs.KnownStages.{piece_there, bytes_from, bytes_within}
 use Rattle.der_writer.proofs.lengths.measure_pieces.Goals as goal
 

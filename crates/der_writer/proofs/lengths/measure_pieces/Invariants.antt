@@ -2,8 +2,8 @@
 use Rattle.std.proofs.Common.{◌≡◌, ◌+◌, ◌-◌, ◌*◌, ◌≤◌, length, drop}
 use Rattle.message_model.specs.Tables.{types_of}
 use Rattle.inst_pool.specs.Pieces.{bytes_of}
-use Rattle.der_writer.specs.Passes.{stage}
-use Rattle.der_writer.specs.Measuring.{Knows, before_place}
+use Rattle.der_writer.specs.inner.Passes.{stage}
+use Rattle.der_writer.specs.inner.Measuring.{Knows, before_place}
 use Rattle.der_writer.proofs.lengths.measure_pieces.Given as goal
 
 abbrev pub invariant-loop-at : goal.invariant-loop-at

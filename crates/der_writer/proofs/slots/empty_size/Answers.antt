@@ -1,7 +1,7 @@
 use Rattle.std.proofs.Common.{◌≡◌, ◌+◌, ◌<◌, length, sym, ap, ◌∙◌, arith, length-append}
 use Rattle.reference_check.specs.Forms.{form_slots}
 use Rattle.message_model.specs.Tables.{types_of}
-use Rattle.der_writer.specs.PieceOctets.{empty_slot}
+use Rattle.der_writer.specs.inner.PieceOctets.{empty_slot}
 use Rattle.der_writer.proofs.EmptySlots.{empty_from, empty_more, get_below, told}
 use Rattle.der_writer.proofs.slots.empty_size.Goals as goal
 

@@ -5,8 +5,8 @@ use Rattle.outside.proofs.Pushing.{stopped, fails_push}
 use Rattle.message_model.specs.Tables.{types_of}
 use Rattle.inst_pool.specs.Pieces.{piece_of}
 use Rattle.outside.specs.Gathering.{Gathers}
-use Rattle.der_writer.specs.PieceOctets.{piece_octets}
-use Rattle.der_writer.specs.Heads.{before_view}
+use Rattle.der_writer.specs.inner.PieceOctets.{piece_octets}
+use Rattle.der_writer.specs.inner.Heads.{before_view}
 use Rattle.outside.proofs.PushedFronts.{gathers_none}
 use Rattle.der_writer.proofs.write.gather_piece.Goals as goal
 

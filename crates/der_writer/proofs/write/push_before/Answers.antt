@@ -1,8 +1,8 @@
 use Rattle.std.proofs.Common.{◌-◌, take, drop, ap, refl}
 use Rattle.message_model.specs.Tables.{types_of}
 use Rattle.inst_pool.specs.Pieces.{edge_of}
-use Rattle.der_writer.specs.PieceOctets.{list_head, own_slot, slots_between, empty_slots, sequence_slots}
-use Rattle.der_writer.specs.Heads.{before_view}
+use Rattle.der_writer.specs.inner.PieceOctets.{list_head, own_slot, slots_between, empty_slots, sequence_slots}
+use Rattle.der_writer.specs.inner.Heads.{before_view}
 use Rattle.der_writer.proofs.Pairs.{pair_stops, pair_ends, same_text}
 use Rattle.der_writer.proofs.write.push_before.Goals as goal
 

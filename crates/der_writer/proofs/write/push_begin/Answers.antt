@@ -1,8 +1,8 @@
 use Rattle.std.proofs.Common.{refl}
 use Rattle.message_model.specs.Tables.{types_of}
 use Rattle.inst_pool.specs.Pieces.{edge_of}
-use Rattle.der_writer.specs.PieceOctets.{octets_before, begin_octets}
-use Rattle.der_writer.specs.Heads.{before_view}
+use Rattle.der_writer.specs.inner.PieceOctets.{octets_before, begin_octets}
+use Rattle.der_writer.specs.inner.Heads.{before_view}
 use Rattle.der_writer.proofs.Pairs.{pair_stops, pair_ends, same_text}
 use Rattle.der_writer.proofs.write.push_begin.Goals as goal
 

@@ -3,8 +3,8 @@ use Rattle.std.specs.Prelude.{slice_index}
 use Rattle.outside.proofs.Pushing.{done, stopped}
 use Rattle.message_model.specs.Tables.{types_of}
 use Rattle.inst_pool.specs.Pieces.{piece_of}
-use Rattle.der_writer.specs.PieceOctets.{piece_octets, pieces_octets}
-use Rattle.der_writer.specs.Heads.{before_view}
+use Rattle.der_writer.specs.inner.PieceOctets.{piece_octets, pieces_octets}
+use Rattle.der_writer.specs.inner.Heads.{before_view}
 use Rattle.der_writer.proofs.Pairs.{same_text}
 use Rattle.outside.proofs.PushedFronts.{to_ends, to_gathered, to_stops_there, gathers_same}
 use Rattle.der_writer.proofs.Whole.{octets_from, octets_end}

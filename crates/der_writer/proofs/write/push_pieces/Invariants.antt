@@ -1,8 +1,8 @@
 -- What went to the sink stands before the buffer, and that before what is still to be written.
 use Rattle.std.proofs.Common.{drop, ◌++◌}
 use Rattle.message_model.specs.Tables.{types_of}
-use Rattle.der_writer.specs.PieceOctets.{Begun, document_edge, pieces_octets}
-use Rattle.der_writer.specs.Heads.{before_view}
+use Rattle.der_writer.specs.inner.PieceOctets.{Begun, document_edge, pieces_octets}
+use Rattle.der_writer.specs.inner.Heads.{before_view}
 use Rattle.outside.proofs.PushedFronts.{IsPushedTo}
 use Rattle.der_writer.proofs.write.push_pieces.Given as goal
 

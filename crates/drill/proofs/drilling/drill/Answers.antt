@@ -5,7 +5,7 @@ use Rattle.fragments.specs.Fragment.{fragment}
 use Rattle.message_model.specs.Tables.{message_of, pieces_of}
 use Rattle.xml_writer.specs.CanonXml.{IsCanonXml}
 use Rattle.drill.specs.BuiltIn.{tables}
-use Rattle.drill.specs.Forms.{AreForms}
+use Rattle.drill.specs.inner.Forms.{AreForms}
 use Rattle.drill.specs.Growing.{instance}
 use Rattle.drill.proofs.BothForms.{admitted_by, both_forms}
 use Rattle.drill.proofs.drilling.drill.Goals as goal

@@ -2,7 +2,7 @@ use Rattle.std.proofs.Common.{◌++◌, ◌∷◌, [], ◌∙◌, ap}
 use Rattle.data_types.specs.Leaf.{Leaf}
 use Rattle.data_types.specs.Value.{Begins, Holds, Ends}
 use Rattle.inst_pool.specs.Pieces.{open_in}
-use Rattle.drill.specs.PathPieces.{name_edge}
+use Rattle.drill.specs.inner.PathPieces.{name_edge}
 use Rattle.drill.proofs.PathLemmas.{begun_open, held_open, ended_open, some_open, name_appended}
 use Rattle.drill.proofs.stem.push_name.Goals as goal
 

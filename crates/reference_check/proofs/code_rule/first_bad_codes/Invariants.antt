@@ -1,6 +1,6 @@
 -- None of the objects so far has bad codes.
 use Rattle.std.proofs.Common.{◌≡◌, ℕ, List, take}
-use Rattle.reference_check.specs.Ranks.{NoneBreaks}
+use Rattle.reference_check.specs.inner.Ranks.{NoneBreaks}
 use Rattle.reference_check.specs.Reached.{HasReach}
 use Rattle.reference_check.specs.Rules.{BadCodes}
 use Rattle.reference_check.proofs.code_rule.first_bad_codes.Given as goal

@@ -2,7 +2,7 @@
 use Rattle.std.proofs.Common.{◌≡◌, ◌≤◌, ◌∙◌, true≢false, length, sym, subst, refl, Some, None}
 use Rattle.reference_check.specs.CodeTexts.{text_of_code}
 use Rattle.reference_check.specs.Rules.{set_codes}
-use Rattle.reference_check.specs.SeenTexts.{is_seen}
+use Rattle.reference_check.specs.inner.SeenTexts.{is_seen}
 use Rattle.reference_check.proofs.Lists.{item_in}
 use Rattle.reference_check.proofs.SeenTexts.{nothing_seen, no_text_is_bad, twice_is_bad, all_is_well, one_more_seen, seen_updated, was_seen, was_fresh}
 use Rattle.reference_check.proofs.code_rule.has_bad_codes.Goals as goal

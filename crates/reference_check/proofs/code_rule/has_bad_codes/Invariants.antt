@@ -2,7 +2,7 @@
 use Rattle.std.proofs.Common.{◌≡◌}
 use Rattle.reference_check.specs.CodeTexts.{text_of_code}
 use Rattle.reference_check.specs.Rules.{set_codes}
-use Rattle.reference_check.specs.SeenTexts.{SeenTexts, is_seen}
+use Rattle.reference_check.specs.inner.SeenTexts.{SeenTexts, is_seen}
 use Rattle.reference_check.proofs.code_rule.has_bad_codes.Given as goal
 
 abbrev pub invariant-loop-code : goal.invariant-loop-code

@@ -1,7 +1,7 @@
 -- Each step takes one trace from those that are left.
 use Rattle.std.proofs.Common.{◌≡◌, ◌∙◌, sym, ap, Some, None, arith}
 use Rattle.std.specs.Option.{option_map}
-use Rattle.reference_check.specs.Traces.{code_traced}
+use Rattle.reference_check.specs.inner.Traces.{code_traced}
 use Rattle.reference_check.proofs.Texts.{behind_own, behind_none, behind_trace, behind_last}
 use Rattle.reference_check.proofs.code_texts.text_of.Goals as goal
 

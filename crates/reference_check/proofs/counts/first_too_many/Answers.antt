@@ -2,7 +2,7 @@
 use Rattle.std.proofs.Common.{refl, true≢false, sym, subst, ◌∙◌}
 use Rattle.repo_objects.specs.Repository.{IsRepository}
 use Rattle.reference_check.specs.Rules.{TooMany}
-use Rattle.reference_check.specs.Sizes.{IsTooLarge}
+use Rattle.reference_check.specs.inner.Sizes.{IsTooLarge}
 use Rattle.reference_check.proofs.FirstPlaces.{object_breaks, object_is_fine, all_asked, tells_none, tells_message}
 use Rattle.reference_check.proofs.ReachCounts.{many_stands, many_of_object, object_of_many, many_of_message, message_of_many}
 use Rattle.reference_check.proofs.counts.first_too_many.Goals as goal

@@ -1,6 +1,6 @@
 -- None of the objects so far has too much.
 use Rattle.std.proofs.Common.{◌≡◌, ℕ, List, take}
-use Rattle.reference_check.specs.Ranks.{NoneBreaks}
+use Rattle.reference_check.specs.inner.Ranks.{NoneBreaks}
 use Rattle.reference_check.specs.Reached.{HasReach}
 use Rattle.reference_check.specs.Rules.{TooMany}
 use Rattle.reference_check.proofs.counts.first_too_many.Given as goal

@@ -1,5 +1,5 @@
 use Rattle.std.proofs.Common.{◌≡◌, ℕ, List, [], sym, ◌∙◌, subst}
-use Rattle.reference_check.specs.FiniteSearch.{AreListed, AreStart, IsSearch, HoldsReached}
+use Rattle.reference_check.specs.inner.FiniteSearch.{AreListed, AreStart, IsSearch, HoldsReached}
 use Rattle.reference_check.proofs.SearchEnd.{holds_reached, starts_search}
 use Rattle.reference_check.proofs.finite.finite_marks.Goals as goal
 

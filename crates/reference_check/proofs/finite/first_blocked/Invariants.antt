@@ -1,4 +1,4 @@
-use Rattle.reference_check.specs.FiniteSearch.{AreFree}
+use Rattle.reference_check.specs.inner.FiniteSearch.{AreFree}
 use Rattle.reference_check.proofs.finite.first_blocked.Given as goal
 
 -- the elements so far are free

@@ -1,6 +1,6 @@
 use Rattle.std.proofs.Common.{List, Some, None, true, false, subst}
 use Rattle.reference_check.specs.declared.finite.Mark.{Mark}
-use Rattle.reference_check.specs.FiniteSearch.{TellsFirstOpen, TellsMessage}
+use Rattle.reference_check.specs.inner.FiniteSearch.{TellsFirstOpen, TellsMessage}
 use Rattle.reference_check.proofs.SearchEnd.{tells_object, tells_none, tells_message}
 use Rattle.reference_check.proofs.finite.first_endless.Goals as goal
 

@@ -1,6 +1,6 @@
 use Rattle.std.proofs.Common.{List, subst}
 use Rattle.repo_objects.specs.declared.objects.ElementDef.{ElementDef}
-use Rattle.reference_check.specs.FiniteSearch.{TellsBlocked}
+use Rattle.reference_check.specs.inner.FiniteSearch.{TellsBlocked}
 use Rattle.reference_check.proofs.SearchAnswers.{held_component}
 use Rattle.reference_check.proofs.finite.held_at.Goals as goal
 

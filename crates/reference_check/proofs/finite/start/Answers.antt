@@ -3,7 +3,7 @@ use Rattle.std.specs.Prelude.{slice_set, slice_index_or}
 use Rattle.std.proofs.lemmas.List.{length-set, take_all, take_more}
 use Rattle.reference_check.specs.declared.finite.Mark.{Mark}
 use Rattle.reference_check.specs.declared.finite.Mark.TheVariants.{Open}
-use Rattle.reference_check.specs.FiniteSearch.{AreStart}
+use Rattle.reference_check.specs.inner.FiniteSearch.{AreStart}
 use Rattle.reference_check.proofs.SearchAnswers.{start_more}
 use Rattle.reference_check.proofs.finite.start.Goals as goal
 

@@ -1,5 +1,5 @@
 use Rattle.std.proofs.Common.{◌≡◌, length, take}
-use Rattle.reference_check.specs.FiniteSearch.{AreStart}
+use Rattle.reference_check.specs.inner.FiniteSearch.{AreStart}
 use Rattle.reference_check.proofs.finite.start.Given as goal
 
 -- the places so far are marked

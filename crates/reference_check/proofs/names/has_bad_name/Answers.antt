@@ -1,5 +1,5 @@
 -- The names are those of its own and the tags.
-use Rattle.reference_check.specs.Subjects.{subject_elements, subject_names}
+use Rattle.reference_check.specs.inner.Subjects.{subject_elements, subject_names}
 use Rattle.reference_check.proofs.Joined.{bad_name-append}
 use Rattle.reference_check.proofs.names.has_bad_name.Goals as goal
 

@@ -1,6 +1,6 @@
 -- The first name that clashes is that of the first object that breaks the rule.
 use Rattle.std.proofs.Common.{◌∙◌, refl, sym, true≢false}
-use Rattle.reference_check.specs.Owners.{owner_of}
+use Rattle.reference_check.specs.inner.Owners.{owner_of}
 use Rattle.reference_check.specs.Rules.{NameTwice}
 use Rattle.reference_check.proofs.FirstPlaces.{place_breaks, place_is_fine, all_asked, tells_none, tells_message}
 use Rattle.reference_check.proofs.SchemaNames.{twice_stands, object_clashes, object_is_clear, message_clashes, message_is_clear}

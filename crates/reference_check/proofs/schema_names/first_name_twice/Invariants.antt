@@ -1,6 +1,6 @@
 -- None of the objects so far has a name of another.
 use Rattle.std.proofs.Common.{ℕ, List, take}
-use Rattle.reference_check.specs.Ranks.{NoneBreaks}
+use Rattle.reference_check.specs.inner.Ranks.{NoneBreaks}
 use Rattle.reference_check.specs.Reached.{HasReach}
 use Rattle.reference_check.specs.Rules.{NameTwice}
 use Rattle.reference_check.proofs.schema_names.first_name_twice.Given as goal

@@ -1,7 +1,7 @@
 -- One more name is asked.
 use Rattle.std.proofs.Common.{◌≡◌, ◌≢◌, ◌⊎◌, Some, sym, subst, true≢false}
 use Rattle.std.specs.Prelude.{codes}
-use Rattle.reference_check.specs.Owners.{owner_of}
+use Rattle.reference_check.specs.inner.Owners.{owner_of}
 use Rattle.reference_check.proofs.Lists.{item_at, none_before_more, none_contained}
 use Rattle.reference_check.proofs.schema_names.has_clash.Goals as goal
 

@@ -1,7 +1,7 @@
 -- None of the names so far clashes.
 use Rattle.std.proofs.Common.{◌≡◌, ◌≢◌, ◌⊎◌, Some}
 use Rattle.std.specs.Prelude.{codes}
-use Rattle.reference_check.specs.Owners.{owner_of}
+use Rattle.reference_check.specs.inner.Owners.{owner_of}
 use Rattle.reference_check.proofs.Lists.{NoneBefore}
 use Rattle.reference_check.proofs.schema_names.has_clash.Given as goal
 

@@ -1,6 +1,6 @@
 -- One more object owns its names, and then the message.
 use Rattle.std.proofs.Common.{◌∙◌}
-use Rattle.reference_check.specs.Owners.{owner_of}
+use Rattle.reference_check.specs.inner.Owners.{owner_of}
 use Rattle.reference_check.proofs.SchemaNames.{no_owner_first, owners_one_more, owners_of_message}
 use Rattle.reference_check.proofs.schema_names.name_owners.Goals as goal
 

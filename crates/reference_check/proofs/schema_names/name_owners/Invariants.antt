@@ -1,6 +1,6 @@
 -- The owners are those of the objects so far.
 use Rattle.std.proofs.Common.{ℕ, List, take}
-use Rattle.reference_check.specs.Owners.{owner_of, OwnersAre}
+use Rattle.reference_check.specs.inner.Owners.{owner_of, OwnersAre}
 use Rattle.reference_check.specs.Reached.{HasReach}
 use Rattle.reference_check.proofs.schema_names.name_owners.Given as goal
 

@@ -2,7 +2,7 @@
 use Rattle.std.proofs.Common.{◌≡◌, ◌∙◌, Some, subst}
 use Rattle.std.specs.Bool.{if◌then◌else◌}
 use Rattle.std.specs.Str.{bytes_eq}
-use Rattle.reference_check.specs.Owners.{owner_of}
+use Rattle.reference_check.specs.inner.Owners.{owner_of}
 use Rattle.reference_check.proofs.SchemaNames.{owner_updated, owned_one_more}
 use Rattle.reference_check.proofs.schema_names.own_names.Goals as goal
 

@@ -3,7 +3,7 @@ use Rattle.std.proofs.Common.{◌≡◌, ℕ, List, Some, take}
 use Rattle.std.specs.Bool.{if◌then◌else◌}
 use Rattle.std.specs.List.{list_any}
 use Rattle.std.specs.Str.{bytes_eq}
-use Rattle.reference_check.specs.Owners.{owner_of}
+use Rattle.reference_check.specs.inner.Owners.{owner_of}
 use Rattle.reference_check.proofs.schema_names.own_names.Given as goal
 
 abbrev pub invariant-loop-name : goal.invariant-loop-name

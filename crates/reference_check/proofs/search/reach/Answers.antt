@@ -1,9 +1,9 @@
 -- What is told is the lowest rule that is broken.
 use Rattle.std.proofs.Common.{subst, refl, arith}
-use Rattle.reference_check.specs.First.{TellsFirst}
+use Rattle.reference_check.specs.inner.First.{TellsFirst}
 use Rattle.reference_check.specs.Reached.{HasReach, TellsBroken}
 use Rattle.reference_check.specs.Rules.{Endless, IsStructure}
-use Rattle.reference_check.specs.Told.{IsSoundBelow}
+use Rattle.reference_check.specs.inner.Told.{IsSoundBelow}
 use Rattle.reference_check.proofs.RuleNumbers.{tells_lowest}
 use Rattle.reference_check.proofs.search.reach.Goals as goal
 

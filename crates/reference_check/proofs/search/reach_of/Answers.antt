@@ -1,7 +1,7 @@
 -- The marked objects are those that are reached.
 use Rattle.std.proofs.Common.{ℕ, subst, Contains}
 use Rattle.std.specs.Prelude.{◌↔◌}
-use Rattle.reference_check.specs.Marking.{IsMarked}
+use Rattle.reference_check.specs.inner.Marking.{IsMarked}
 use Rattle.reference_check.proofs.Marking.{has_reach}
 use Rattle.reference_check.proofs.search.reach_of.Goals as goal
 

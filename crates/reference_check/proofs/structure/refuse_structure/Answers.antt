@@ -1,7 +1,7 @@
 -- The rules are asked in the order of their numbers.
 use Rattle.std.proofs.Common.{subst, arith}
-use Rattle.reference_check.specs.Subjects.{rule_of}
-use Rattle.reference_check.specs.Told.{IsSoundBelow}
+use Rattle.reference_check.specs.inner.Subjects.{rule_of}
+use Rattle.reference_check.specs.inner.Told.{IsSoundBelow}
 use Rattle.reference_check.proofs.RuleNumbers.{tells_lowest, next_number, at_most_ten}
 use Rattle.reference_check.proofs.structure.refuse_structure.Goals as goal
 

@@ -1,7 +1,7 @@
 -- The rules before the next one are not broken.
 use Rattle.std.proofs.Common.{◌-◌}
 use Rattle.reference_check.specs.Reached.{HasReach}
-use Rattle.reference_check.specs.Told.{IsSoundBelow}
+use Rattle.reference_check.specs.inner.Told.{IsSoundBelow}
 use Rattle.reference_check.proofs.RuleNumbers.{next_number}
 use Rattle.reference_check.proofs.structure.refuse_structure.Given as goal
 

@@ -1,6 +1,6 @@
 -- One more object is asked.
 use Rattle.std.proofs.Common.{refl, true≢false, sym}
-use Rattle.reference_check.specs.Ranks.{IsLeftOut}
+use Rattle.reference_check.specs.inner.Ranks.{IsLeftOut}
 use Rattle.reference_check.specs.Rules.{LeftOutKind}
 use Rattle.reference_check.proofs.FirstPlaces.{object_breaks, object_is_fine, all_asked, tells_none, stands_as_object, no_message, of_object}
 use Rattle.reference_check.proofs.tail_rules.first_left_out.Goals as goal

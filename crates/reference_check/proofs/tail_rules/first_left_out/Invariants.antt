@@ -1,6 +1,6 @@
 -- None of the objects so far is left out.
 use Rattle.std.proofs.Common.{ℕ, List, take}
-use Rattle.reference_check.specs.Ranks.{NoneBreaks}
+use Rattle.reference_check.specs.inner.Ranks.{NoneBreaks}
 use Rattle.reference_check.specs.Reached.{HasReach}
 use Rattle.reference_check.specs.Rules.{LeftOutKind}
 use Rattle.reference_check.proofs.tail_rules.first_left_out.Given as goal

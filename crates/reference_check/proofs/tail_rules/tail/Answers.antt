@@ -1,6 +1,6 @@
 -- The first rule that is broken is the lowest.
 use Rattle.std.proofs.Common.{refl, subst, arith}
-use Rattle.reference_check.specs.First.{TellsFirst}
+use Rattle.reference_check.specs.inner.First.{TellsFirst}
 use Rattle.reference_check.specs.Rules.{BadCodes, LeftOutKind, NameTwice, TooMany}
 use Rattle.reference_check.proofs.TailRules.{below_codes, below_kinds, below_names, below_counts, sound_tail, told}
 use Rattle.reference_check.proofs.tail_rules.tail.Goals as goal

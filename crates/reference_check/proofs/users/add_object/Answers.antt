@@ -1,7 +1,7 @@
 use Rattle.std.proofs.Common.{List, sym, subst}
 use Rattle.repo_objects.specs.declared.objects.ElementDef.{ElementDef}
 use Rattle.repo_objects.specs.Repository.{Entry}
-use Rattle.reference_check.specs.FiniteSearch.{IsListedForAll}
+use Rattle.reference_check.specs.inner.FiniteSearch.{IsListedForAll}
 use Rattle.reference_check.proofs.SearchAnswers.{on_ok, listed_object}
 use Rattle.reference_check.proofs.users.add_object.Goals as goal
 

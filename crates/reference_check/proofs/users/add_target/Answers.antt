@@ -1,5 +1,5 @@
 use Rattle.std.proofs.Common.{◌<◌, List, ℕ, length, sym, subst, arith}
-use Rattle.reference_check.specs.FiniteSearch.{IsUser, KeepsUsers}
+use Rattle.reference_check.specs.inner.FiniteSearch.{IsUser, KeepsUsers}
 use Rattle.reference_check.proofs.SearchAnswers.{on_ok, target_within, user_kept, user_added, listed_at}
 use Rattle.reference_check.proofs.users.add_target.Goals as goal
 

@@ -1,5 +1,5 @@
 use Rattle.std.proofs.Common.{◌≡◌, length}
-use Rattle.reference_check.specs.FiniteSearch.{KeepsUsers}
+use Rattle.reference_check.specs.inner.FiniteSearch.{KeepsUsers}
 use Rattle.reference_check.proofs.SearchAnswers.{AreListedBelow}
 use Rattle.reference_check.proofs.users.add_targets.Given as goal
 

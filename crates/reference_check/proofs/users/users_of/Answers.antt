@@ -1,7 +1,7 @@
 use Rattle.std.proofs.Common.{ℕ, List, take, sym, ◌∙◌, subst, arith}
 use Rattle.std.specs.Prelude.{slice_index_or}
 use Rattle.std.proofs.lemmas.List.{take_all, take_more}
-use Rattle.reference_check.specs.FiniteSearch.{AreListed}
+use Rattle.reference_check.specs.inner.FiniteSearch.{AreListed}
 use Rattle.reference_check.proofs.SearchAnswers.{listed_place_more}
 use Rattle.reference_check.proofs.users.users_of.Goals as goal
 

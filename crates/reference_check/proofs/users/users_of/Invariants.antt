@@ -1,5 +1,5 @@
 use Rattle.std.proofs.Common.{◌≡◌, length, take}
-use Rattle.reference_check.specs.FiniteSearch.{AreListed}
+use Rattle.reference_check.specs.inner.FiniteSearch.{AreListed}
 use Rattle.reference_check.proofs.users.users_of.Given as goal
 
 -- the objects so far are users of what their elements lead to

@@ -2,7 +2,7 @@ use Rattle.std.proofs.Common.{refl}
 use Rattle.repo_engine.proofs.Ends.{tells_pushed, tells_stopped}
 use Rattle.repo_engine.proofs.Steps.{from_refused, from_given}
 use Rattle.repo_engine.specs.Answer.{FromRepository, Lists}
-use Rattle.repo_engine.specs.Arms.{RefusesRepository}
+use Rattle.repo_engine.specs.inner.Arms.{RefusesRepository}
 use Rattle.repo_engine.specs.Texts.{list_text}
 use Rattle.repo_engine.proofs.list.list.Goals as goal
 

@@ -1,6 +1,6 @@
 use Rattle.std.proofs.Common.{refl}
 use Rattle.repo_engine.specs.Answer.{FromMessage, OfVerb}
-use Rattle.repo_engine.specs.Arms.{RefusesUpToMessage}
+use Rattle.repo_engine.specs.inner.Arms.{RefusesUpToMessage}
 use Rattle.repo_engine.proofs.Ends.{tells_stopped, goes_nowhere}
 use Rattle.repo_engine.proofs.Performing.{tells_more}
 use Rattle.repo_engine.proofs.Messages.{message_given, message_refused, third_on, third_not, no_words}

@@ -1,5 +1,5 @@
 use Rattle.std.proofs.Common.{◌≡◌, true, refl}
-use Rattle.repo_engine.specs.Arms.{unread, read}
+use Rattle.repo_engine.specs.inner.Arms.{unread, read}
 use Rattle.repo_engine.specs.Command.{reads_instance}
 use Rattle.repo_engine.proofs.message.on_model.Goals as goal
 

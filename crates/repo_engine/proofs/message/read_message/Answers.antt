@@ -1,6 +1,6 @@
 use Rattle.std.proofs.Common.{inl, inr}
 use Rattle.repo_engine.specs.Answer.{RefusesMessage}
-use Rattle.repo_engine.specs.Arms.{RefusesRepository, RefusesUpToMessage}
+use Rattle.repo_engine.specs.inner.Arms.{RefusesRepository, RefusesUpToMessage}
 use Rattle.repo_engine.specs.Sources.{ended_of}
 use Rattle.repo_engine.proofs.Steps.{if_ok, if_err, stops_by}
 use Rattle.repo_engine.proofs.Messages.{both_on, not_failing}

@@ -1,5 +1,5 @@
 use Rattle.repo_engine.proofs.Performing.{asked_bounded, performs_command}
-use Rattle.repo_engine.specs.Commands.{command_view}
+use Rattle.repo_engine.specs.inner.Commands.{command_view}
 use Rattle.repo_engine.proofs.perform.perform.Goals as goal
 
 pub returns-in-Some : goal.returns-in-Some

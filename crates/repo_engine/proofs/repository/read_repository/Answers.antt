@@ -1,5 +1,5 @@
 use Rattle.std.proofs.Common.{inr}
-use Rattle.repo_engine.specs.Arms.{RefusesRepository}
+use Rattle.repo_engine.specs.inner.Arms.{RefusesRepository}
 use Rattle.repo_engine.specs.Answer.{RefusesCodes}
 use Rattle.repo_engine.proofs.Steps.{if_ok, if_err, stops_by}
 use Rattle.repo_engine.proofs.repository.read_repository.Goals as goal

@@ -3,7 +3,7 @@ use Rattle.std.proofs.Common.{rules, take, [], sym, subst, arith}
 use Rattle.std.specs.Prelude.{ℕ, List, IfSome, Some, None}
 use Rattle.repo_loader.specs.declared.fault.LoadFault.{LoadFault}
 use Rattle.repo_loader.specs.Loaded.{HasLoadFault}
-use Rattle.repo_loader.specs.ProgressSteps.{EndsAs}
+use Rattle.repo_loader.specs.inner.ProgressSteps.{EndsAs}
 use Rattle.repo_loader.proofs.FileVerdicts.{front_taken, room_whole, fault_found, fault_placed, long_found, long_placed, room_left, last_piece, end_found, end_placed, end_whole}
 use Rattle.repo_loader.proofs.file.read_to_end.Goals as goal
 

@@ -1,7 +1,7 @@
 -- No count fell, and what was taken is read.
 use Rattle.std.proofs.Common.{◌<◌, ◌≤◌, length}
 use Rattle.repo_loader.specs.LoadErrors.{piece_limit}
-use Rattle.repo_loader.specs.ProgressSteps.{HasRoom}
+use Rattle.repo_loader.specs.inner.ProgressSteps.{HasRoom}
 use Rattle.repo_loader.proofs.file.read_to_end.Given as goal
 
 abbrev pub invariant-loop-count : goal.invariant-loop-count

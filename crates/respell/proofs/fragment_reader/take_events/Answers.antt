@@ -3,7 +3,7 @@ use Rattle.lexical_core.specs.Tree.{Item}
 use Rattle.markup.specs.declared.event.Event.{Event}
 use Rattle.markup.specs.EventItems.{item_of}
 use Rattle.respell.specs.Kept.{HasWritten}
-use Rattle.respell.specs.FragmentReading.{NoneOutside, event_items}
+use Rattle.respell.specs.inner.FragmentReading.{NoneOutside, event_items}
 use Rattle.respell.proofs.FragmentSteps.{event_outside, event_sorted, event_front, regroup}
 use Rattle.respell.proofs.fragment_reader.take_events.Goals as goal
 

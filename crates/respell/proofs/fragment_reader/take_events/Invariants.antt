@@ -3,7 +3,7 @@ use Rattle.std.specs.List.{AllByRecursion}
 use Rattle.lexical_core.specs.Tree.{Item}
 use Rattle.respell.specs.Respelling.{HasSortedAttributes}
 use Rattle.respell.specs.Kept.{HasWritten}
-use Rattle.respell.specs.FragmentReading.{NoneOutside, event_items}
+use Rattle.respell.specs.inner.FragmentReading.{NoneOutside, event_items}
 use Rattle.respell.proofs.fragment_reader.take_events.Given as goal
 
 abbrev pub invariant-loop-event : goal.invariant-loop-event

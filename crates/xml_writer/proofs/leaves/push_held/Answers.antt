@@ -8,7 +8,7 @@ use Rattle.reference_check.specs.Forms as form
 use Rattle.message_model.specs.Tables.{types_of}
 use Rattle.message_model.specs.Views.{IsFormOf}
 use Rattle.message_model.specs.declared.model.Form.TheVariants as told
-use Rattle.xml_writer.specs.PieceTexts.{IsHeldText}
+use Rattle.xml_writer.specs.inner.PieceTexts.{IsHeldText}
 use Rattle.xml_writer.proofs.leaves.push_held.Goals as goal
 
 holds_bytes : (g : Graph ℕ Simple) (unended : Bool) (f : Form ℕ Simple) (l : Leaf) (bytes : List ℕ) → IsFormOf (Some told.Envelope) f → IsHeldText g unended f l bytes → l ≡ Bytes bytes

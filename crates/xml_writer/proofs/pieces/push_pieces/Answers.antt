@@ -2,7 +2,7 @@
 use Rattle.std.proofs.Common.{◌+◌, sym, subst, arith}
 use Rattle.inst_pool.specs.Pieces.{piece_of}
 use Rattle.message_model.specs.Tables.{types_of}
-use Rattle.xml_writer.specs.PieceTexts.{innermost_begun}
+use Rattle.xml_writer.specs.inner.PieceTexts.{innermost_begun}
 use Rattle.xml_writer.proofs.Ahead.{IsAhead, piece_writes, piece_more, piece_stops, ends}
 use Rattle.xml_writer.proofs.pieces.push_pieces.Goals as goal
 

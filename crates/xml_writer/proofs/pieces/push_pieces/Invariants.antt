@@ -1,6 +1,6 @@
 -- What went through is a front of what the pieces write; then come the buffer, and what the pieces from this place on write.
 use Rattle.message_model.specs.Tables.{types_of}
-use Rattle.xml_writer.specs.PieceTexts.{innermost_begun}
+use Rattle.xml_writer.specs.inner.PieceTexts.{innermost_begun}
 use Rattle.xml_writer.proofs.Ahead.{IsAhead}
 use Rattle.xml_writer.proofs.pieces.push_pieces.Given as goal
 

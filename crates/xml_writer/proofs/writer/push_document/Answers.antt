@@ -1,7 +1,7 @@
 -- The head, the pieces and the end of the root.
 use Rattle.std.proofs.Common.{refl}
 use Rattle.message_model.specs.Tables.{types_of, namespace_of}
-use Rattle.xml_writer.specs.PieceTexts.{is_amount, document_head, document_tail}
+use Rattle.xml_writer.specs.inner.PieceTexts.{is_amount, document_head, document_tail}
 use Rattle.xml_writer.proofs.Blocks.{first_stops, second_stops, third_ends}
 use Rattle.xml_writer.proofs.writer.push_document.Goals as goal
 

@@ -1,7 +1,7 @@
 use Rattle.std.proofs.Common.{◌≡◌, ◌++◌, ap, ap₂, subst, ◌∙◌}
 use Rattle.outside.specs.Pushes.{Pushes}
 use Rattle.message_model.specs.Tables.{types_of, namespace_front}
-use Rattle.xml_writer.specs.PieceTexts.{is_amount, tag_end, root_text}
+use Rattle.xml_writer.specs.inner.PieceTexts.{is_amount, tag_end, root_text}
 use Rattle.xml_writer.proofs.writer.push_head.Goals as goal
 
 pub returns : goal.returns

@@ -3,7 +3,7 @@ use Rattle.std.proofs.Common.{sym, subst}
 use Rattle.outside.specs.Pushes.{Pushes}
 use Rattle.outside.proofs.Pushing.{stopped}
 use Rattle.message_model.specs.Tables.{types_of}
-use Rattle.xml_writer.specs.PieceTexts.{innermost_begun, AreWritten, document_text}
+use Rattle.xml_writer.specs.inner.PieceTexts.{innermost_begun, AreWritten, document_text}
 use Rattle.xml_writer.proofs.WrittenValues.{written_value}
 use Rattle.xml_writer.proofs.writer.write_xml.Goals as goal
 

@@ -2,7 +2,7 @@
 use Rattle.std.proofs.Common.{◌+◌, codes}
 use Rattle.xsd_writer.proofs.Blocks.{first_stops, second_stops, third_ends}
 use Rattle.xsd_writer.proofs.Lines.{facet_is, facet_start}
-use Rattle.xsd_writer.specs.Fragments.{fragment_text, step_level}
+use Rattle.xsd_writer.specs.inner.Fragments.{fragment_text, step_level}
 use Rattle.xsd_writer.proofs.facet_lines.push_line.Goals as goal
 
 pub returns-in-Err : goal.returns-in-Err

@@ -2,7 +2,7 @@
 use Rattle.std.proofs.Common.{ℕ, ◌+◌, ◌∙◌, ◌++◌, ap, replicate, subst}
 use Rattle.outside.specs.Pushes.{Pushes}
 use Rattle.outside.proofs.Pushing.{stopped, then_push, fails_push}
-use Rattle.xsd_writer.specs.NumberedTexts.{texts_below}
+use Rattle.xsd_writer.specs.inner.NumberedTexts.{texts_below}
 use Rattle.xsd_writer.proofs.Spaces.{spaces_inside}
 use Rattle.xsd_writer.proofs.fragment.push_inside.Goals as goal
 

@@ -1,7 +1,7 @@
 -- The texts so far went through.
 use Rattle.outside.specs.Pushes.{Pushes}
 use Rattle.outside.proofs.Pushing.{done}
-use Rattle.xsd_writer.specs.NumberedTexts.{texts_below}
+use Rattle.xsd_writer.specs.inner.NumberedTexts.{texts_below}
 use Rattle.xsd_writer.proofs.fragment.push_times.Given as goal
 
 abbrev pub invariant-loop-time : goal.invariant-loop-time

@@ -1,7 +1,7 @@
 -- The end of each step follows those before it.
 use Rattle.std.proofs.Common.{◌≡◌, ◌++◌, ap, length}
 use Rattle.xsd_writer.proofs.Fronts.{front_more, front_stops}
-use Rattle.xsd_writer.specs.StepLines.{closing, closings}
+use Rattle.xsd_writer.specs.inner.StepLines.{closing, closings}
 use Rattle.xsd_writer.proofs.step_lines.push_closings.Goals as goal
 
 pub loop-step-preserved : goal.loop-step-preserved

@@ -1,7 +1,7 @@
 -- The ends of the steps so far went through.
 use Rattle.std.proofs.Common.{length}
 use Rattle.xsd_writer.proofs.Fronts.{HasPushedFront}
-use Rattle.xsd_writer.specs.StepLines.{closings}
+use Rattle.xsd_writer.specs.inner.StepLines.{closings}
 use Rattle.xsd_writer.proofs.step_lines.push_closings.Given as goal
 
 abbrev pub invariant-loop-step : goal.invariant-loop-step

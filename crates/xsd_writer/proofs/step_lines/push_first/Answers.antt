@@ -3,8 +3,8 @@ use Rattle.std.proofs.Common.{◌≡◌, ◌+◌, ◌∙◌, codes, sym, true}
 use Rattle.xsd_model.specs.SchemaText.{facets_text, has_facets}
 use Rattle.xsd_writer.proofs.Blocks.{first_stops, second_stops, third_ends}
 use Rattle.xsd_writer.proofs.Lines.{first_some}
-use Rattle.xsd_writer.specs.Fragments.{step_level}
-use Rattle.xsd_writer.specs.StepLines.{step_end, step_start}
+use Rattle.xsd_writer.specs.inner.Fragments.{step_level}
+use Rattle.xsd_writer.specs.inner.StepLines.{step_end, step_start}
 use Rattle.xsd_writer.proofs.step_lines.push_first.Goals as goal
 
 pub returns-in-Err : goal.returns-in-Err

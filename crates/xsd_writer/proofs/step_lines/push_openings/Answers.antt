@@ -1,6 +1,6 @@
 -- Each step's lines follow those before it.
 use Rattle.std.proofs.Common.{arith}
-use Rattle.xsd_writer.specs.StepLines.{opening}
+use Rattle.xsd_writer.specs.inner.StepLines.{opening}
 use Rattle.xsd_writer.proofs.NumberedTexts.{number_more, number_stops}
 use Rattle.xsd_writer.proofs.step_lines.push_openings.Goals as goal
 

@@ -1,8 +1,8 @@
 -- The lines so far went through.
 use Rattle.outside.specs.Pushes.{Pushes}
 use Rattle.outside.proofs.Pushing.{done}
-use Rattle.xsd_writer.specs.NumberedTexts.{texts_below}
-use Rattle.xsd_writer.specs.StepLines.{opening}
+use Rattle.xsd_writer.specs.inner.NumberedTexts.{texts_below}
+use Rattle.xsd_writer.specs.inner.StepLines.{opening}
 use Rattle.xsd_writer.proofs.step_lines.push_openings.Given as goal
 
 abbrev pub invariant-loop-steps : goal.invariant-loop-steps

@@ -3,9 +3,9 @@ use Rattle.std.proofs.Common.{◌≡◌, ◌∷◌, ◌∙◌, length, sym}
 use Rattle.xsd_model.specs.SchemaText.{first_text}
 use Rattle.xsd_writer.proofs.Blocks.{first_stops, second_stops, third_ends}
 use Rattle.xsd_writer.proofs.NestedSteps.{steps_are}
-use Rattle.xsd_writer.specs.NumberedTexts.{texts_below}
-use Rattle.xsd_writer.specs.Fragments.{step_level}
-use Rattle.xsd_writer.specs.StepLines.{closings, opening}
+use Rattle.xsd_writer.specs.inner.NumberedTexts.{texts_below}
+use Rattle.xsd_writer.specs.inner.Fragments.{step_level}
+use Rattle.xsd_writer.specs.inner.StepLines.{closings, opening}
 use Rattle.xsd_writer.proofs.step_lines.push_steps.Goals as goal
 
 pub returns-in-Err : goal.returns-in-Err

@@ -1,7 +1,7 @@
 use Rattle.std.proofs.Common.{ℕ, List, flat_map, subst}
 use Rattle.outside.specs.Pushes.{Pushes}
 use Rattle.xsd_writer.proofs.Lines.{amount_is}
-use Rattle.xsd_writer.specs.Fragments.{fragment_text}
+use Rattle.xsd_writer.specs.inner.Fragments.{fragment_text}
 use Rattle.xsd_writer.proofs.type_contents.push_amount.Goals as goal
 
 pub returns : goal.returns

@@ -1,7 +1,7 @@
 use Rattle.std.proofs.Common.{ap, ap₂, flat_map, subst, ◌∙◌}
 use Rattle.outside.specs.Pushes.{Pushes}
 use Rattle.xsd_model.specs.SchemaText.{part_text}
-use Rattle.xsd_writer.specs.Fragments.{fragment_text}
+use Rattle.xsd_writer.specs.inner.Fragments.{fragment_text}
 use Rattle.xsd_writer.proofs.type_contents.push_part.Goals as goal
 
 pub returns : goal.returns

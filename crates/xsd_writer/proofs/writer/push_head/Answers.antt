@@ -1,6 +1,6 @@
 use Rattle.std.proofs.Common.{flat_map, subst}
 use Rattle.outside.specs.Pushes.{Pushes}
-use Rattle.xsd_writer.specs.Fragments.{fragment_text}
+use Rattle.xsd_writer.specs.inner.Fragments.{fragment_text}
 use Rattle.xsd_writer.proofs.writer.push_head.Goals as goal
 
 pub returns : goal.returns

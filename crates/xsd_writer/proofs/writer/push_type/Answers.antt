@@ -1,7 +1,7 @@
 -- The first line, the contents, and the last line.
 use Rattle.xsd_writer.proofs.Blocks.{first_stops, second_stops, third_ends}
 use Rattle.xsd_writer.proofs.TypeTexts.{type_end, type_is, type_start}
-use Rattle.xsd_writer.specs.TypeContents.{contents_text}
+use Rattle.xsd_writer.specs.inner.TypeContents.{contents_text}
 use Rattle.xsd_writer.proofs.writer.push_type.Goals as goal
 
 pub returns-in-Err : goal.returns-in-Err

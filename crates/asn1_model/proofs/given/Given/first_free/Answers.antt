@@ -1,7 +1,7 @@
 -- An ending that was given is passed, and the first other is taken.
 use Rattle.std.proofs.Common.{◌≡◌, ℕ, suc, ◌+◌, ◌-◌, true, false, List, below_more, sym, ap, ◌∙◌, arith}
 use Rattle.asn1_model.specs.Names.{is_among, candidate, first_free}
-use Rattle.asn1_model.specs.Given.{HasGiven}
+use Rattle.asn1_model.specs.inner.Given.{HasGiven}
 use Rattle.asn1_model.proofs.GivenLemmas.{passed, taken_free}
 use Rattle.asn1_model.proofs.given.Given.first_free.Goals as goal
 

@@ -1,7 +1,7 @@
 -- All endings that were tried were given.
 use Rattle.std.proofs.Common.{◌≡◌, ◌≤◌, ◌-◌, ℕ, List}
 use Rattle.asn1_model.specs.Names.{first_free}
-use Rattle.asn1_model.specs.Given.{AreAllGiven, HasGiven}
+use Rattle.asn1_model.specs.inner.Given.{AreAllGiven, HasGiven}
 use Rattle.asn1_model.proofs.given.Given.first_free.Given as goal
 
 abbrev pub invariant-loop-ending : goal.invariant-loop-ending

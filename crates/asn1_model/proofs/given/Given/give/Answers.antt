@@ -1,7 +1,7 @@
 -- A name that is not kept was not given.
 use Rattle.std.proofs.Common.{◌≡◌, ◌∷◌, length, sym, ◌∙◌}
 use Rattle.asn1_model.specs.Names.{first_free}
-use Rattle.asn1_model.specs.Given.{HasGiven}
+use Rattle.asn1_model.specs.inner.Given.{HasGiven}
 use Rattle.std.proofs.lemmas.Result.{IfOk-weaker}
 use Rattle.asn1_model.proofs.GivenLemmas.{plain_free}
 use Rattle.asn1_model.proofs.given.Given.give.Goals as goal

@@ -2,7 +2,7 @@
 use Rattle.std.proofs.Common.{◌≡◌, ℕ, ◌∷◌, List, Some, sym, ap, subst, ◌∙◌}
 use Rattle.std.specs.Bool.{if◌then◌else◌}
 use Rattle.std.specs.Str.{bytes_eq}
-use Rattle.asn1_model.specs.Given.{HasGiven, ending_of}
+use Rattle.asn1_model.specs.inner.Given.{HasGiven, ending_of}
 use Rattle.asn1_model.proofs.GivenLemmas.{endings_updated, given_plain}
 use Rattle.asn1_model.proofs.given.Given.give_plain.Goals as goal
 

@@ -2,7 +2,7 @@
 use Rattle.std.proofs.Common.{◌≡◌, List, length, map, ap, ◌∙◌, arith}
 use Rattle.asn1_model.specs.Names.{given_names}
 use Rattle.asn1_model.specs.ModuleOf.{Numbered, name_in, type_name_of}
-use Rattle.asn1_model.specs.Order.{numbered}
+use Rattle.asn1_model.specs.inner.Order.{numbered}
 use Rattle.asn1_model.proofs.TypeNameLemmas.{length-names, names_are}
 use Rattle.asn1_model.proofs.type_names.TypeNames.new.Goals as goal
 

@@ -1,6 +1,6 @@
 use Rattle.std.proofs.Common.{◌≡◌, ◌+◌, suc, arith, subst, sym}
 use Rattle.drill.specs.Growing.{growth_of, next_growth}
-use Rattle.drill.specs.PathPieces.{HasGrown}
+use Rattle.drill.specs.inner.PathPieces.{HasGrown}
 use Rattle.drill.proofs.Depths.{sprout_depth}
 use Rattle.drill.proofs.growing.Sprout.grow_all.Goals as goal
 

@@ -1,5 +1,5 @@
 use Rattle.std.proofs.Common.{◌∷◌, [], ◌∙◌, ap}
-use Rattle.drill.specs.PathPieces.{root_edge, message_edge}
+use Rattle.drill.specs.inner.PathPieces.{root_edge, message_edge}
 use Rattle.drill.proofs.PathLemmas.{ended_open, some_open, one_open, all_appended}
 use Rattle.drill.proofs.stem.Stem.finish.Goals as goal
 

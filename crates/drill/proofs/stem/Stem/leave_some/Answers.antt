@@ -1,6 +1,6 @@
 use Rattle.std.proofs.Common.{ap, sym, subst, ◌∙◌, ◌≡◌, suc, ◌+◌, arith}
 use Rattle.drill.specs.Growing.{path_after}
-use Rattle.drill.specs.PathPieces.{HasPath}
+use Rattle.drill.specs.inner.PathPieces.{HasPath}
 use Rattle.drill.proofs.PathLemmas.{left_last}
 use Rattle.drill.proofs.stem.Stem.leave_some.Goals as goal
 

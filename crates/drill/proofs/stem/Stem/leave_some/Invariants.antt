@@ -1,5 +1,5 @@
 use Rattle.drill.specs.Growing.{Path, path_after}
-use Rattle.drill.specs.PathPieces.{HasPath}
+use Rattle.drill.specs.inner.PathPieces.{HasPath}
 use Rattle.drill.proofs.stem.Stem.leave_some.Given as goal
 
 abbrev pub invariant-loop-i : goal.invariant-loop-i

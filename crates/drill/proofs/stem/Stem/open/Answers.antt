@@ -1,7 +1,7 @@
 use Rattle.std.proofs.Common.{◌∙◌, ap, arith, ◌++◌, ℕ, List, [], ◌∷◌}
 use Rattle.data_types.specs.Leaf.{Bytes}
 use Rattle.data_types.specs.Value.{Begins, Holds, Ends}
-use Rattle.drill.specs.PathPieces.{name_edge}
+use Rattle.drill.specs.inner.PathPieces.{name_edge}
 use Rattle.drill.proofs.PathLemmas.{stem_under}
 use Rattle.drill.proofs.stem.Stem.open.Goals as goal
 

@@ -1,7 +1,7 @@
 use Rattle.std.proofs.Common.{◌<◌, ◌∙◌, length, Some, List, sym, ap, arith}
 use Rattle.std.proofs.lemmas.Option.{slice_get-get_or}
 use Rattle.std.specs.Option.{option_map}
-use Rattle.inst_pool.specs.Nodes.{contents_in, content_of}
+use Rattle.inst_pool.specs.inner.Nodes.{contents_in, content_of}
 use Rattle.inst_pool.specs.declared.content.Content.{Content}
 use Rattle.inst_pool.specs.declared.node.Node.{Node}
 use Rattle.inst_pool.proofs.NodeLemmas.{length_contents, get_content, within_at}

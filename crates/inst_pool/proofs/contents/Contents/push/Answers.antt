@@ -2,7 +2,7 @@ use Rattle.std.proofs.Common.{◌≡◌, ◌<◌, ◌∙◌, ◌++◌, ◌∷◌
 use Rattle.std.specs.Prelude.{min, vec_capacity}
 use Rattle.std.proofs.Math.ListN.{get_or}
 use Rattle.inst_pool.specs.Pieces.{room_limit}
-use Rattle.inst_pool.specs.Nodes.{contents_in}
+use Rattle.inst_pool.specs.inner.Nodes.{contents_in}
 use Rattle.inst_pool.specs.declared.content.Content.TheVariants as long
 use Rattle.inst_pool.proofs.NodeLemmas.{length_contents, within-push, pushed_short, pushed_long}
 use Rattle.inst_pool.proofs.contents.Contents.push.Goals as goal

@@ -1,6 +1,6 @@
 -- Each step takes one trace from those that are left.
 use Rattle.std.proofs.Common.{◌≡◌, ◌∙◌, sym, subst, Some, None, arith}
-use Rattle.reference_check.specs.Traces.{code_traced}
+use Rattle.reference_check.specs.inner.Traces.{code_traced}
 use Rattle.reference_check.proofs.Texts.{behind_own, behind_none, behind_trace, behind_last}
 use Rattle.reference_check.proofs.code_texts.CodeTexts.text_of.Goals as goal
 

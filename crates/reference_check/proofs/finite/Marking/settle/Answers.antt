@@ -1,6 +1,6 @@
 use Rattle.std.proofs.Common.{ℕ, List, [], ◌∷◌, ◌++◌, sym, subst}
 use Rattle.std.proofs.lemmas.Option.{slice_get_past}
-use Rattle.reference_check.specs.FiniteSearch.{IsSearch}
+use Rattle.reference_check.specs.inner.FiniteSearch.{IsSearch}
 use Rattle.reference_check.proofs.SearchAnswers.{read}
 use Rattle.reference_check.proofs.SearchSteps.{told_list, told_none}
 use Rattle.reference_check.proofs.finite.Marking.settle.Goals as goal

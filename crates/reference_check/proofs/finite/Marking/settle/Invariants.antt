@@ -1,5 +1,5 @@
 use Rattle.std.proofs.Common.{ℕ, ◌+◌, List, [], length}
-use Rattle.reference_check.specs.FiniteSearch.{AreListed, HoldsReached, IsSearch, open_count}
+use Rattle.reference_check.specs.inner.FiniteSearch.{AreListed, HoldsReached, IsSearch, open_count}
 use Rattle.reference_check.proofs.finite.Marking.settle.Given as goal
 
 -- the search is one all along

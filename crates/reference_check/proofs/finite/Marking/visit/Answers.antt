@@ -3,7 +3,7 @@ use Rattle.std.specs.Prelude.{slice_get, slice_set}
 use Rattle.repo_objects.specs.Repository.{Entry}
 use Rattle.reference_check.specs.declared.finite.Mark.{Mark}
 use Rattle.reference_check.specs.declared.finite.Mark.TheVariants.{Finite}
-use Rattle.reference_check.specs.FiniteSearch.{TellsHeld, IsSearch, free_of, open_count}
+use Rattle.reference_check.specs.inner.FiniteSearch.{TellsHeld, IsSearch, free_of, open_count}
 use Rattle.reference_check.proofs.Freed.{count_open, count_found}
 use Rattle.reference_check.proofs.SearchAnswers.{on_ok_two, open_is}
 use Rattle.reference_check.proofs.SearchSteps.{moves_on, is_found}

@@ -1,6 +1,6 @@
 use Rattle.std.proofs.Common.{ℕ, ◌+◌, ◌≤◌, List, length, drop, subst, arith}
 use Rattle.std.proofs.Math.ListN.{drop_of_length-le}
-use Rattle.reference_check.specs.FiniteSearch.{IsSearch, open_count}
+use Rattle.reference_check.specs.inner.FiniteSearch.{IsSearch, open_count}
 use Rattle.std.proofs.lemmas.List.{drop_more}
 use Rattle.reference_check.proofs.finite.Marking.visit_all.Goals as goal
 

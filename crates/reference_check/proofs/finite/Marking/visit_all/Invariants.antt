@@ -1,5 +1,5 @@
 use Rattle.std.proofs.Common.{ℕ, ◌+◌, ◌≤◌, List, length, drop}
-use Rattle.reference_check.specs.FiniteSearch.{IsSearch, open_count}
+use Rattle.reference_check.specs.inner.FiniteSearch.{IsSearch, open_count}
 use Rattle.reference_check.proofs.finite.Marking.visit_all.Given as goal
 
 -- the other places are still to be looked at

@@ -2,7 +2,7 @@
 use Rattle.std.proofs.Common.{◌≡◌, ◌∙◌, [], arith, subst}
 use Rattle.std.proofs.lemmas.List.{nil_from_length}
 use Rattle.reference_check.specs.Graph.{message}
-use Rattle.reference_check.specs.Marking.{AreMarks}
+use Rattle.reference_check.specs.inner.Marking.{AreMarks}
 use Rattle.reference_check.proofs.Marking.{popped, leads_on}
 use Rattle.reference_check.proofs.marks.Marks.follow.Goals as goal
 

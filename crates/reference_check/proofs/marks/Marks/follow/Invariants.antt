@@ -1,7 +1,7 @@
 -- Marked objects are reached, and what they refer to is marked or waits.
 use Rattle.std.proofs.Common.{◌≡◌, ℕ, List, [], length}
 use Rattle.reference_check.specs.Graph.{message}
-use Rattle.reference_check.specs.Marking.{AreMarks, LeadsWithin, turns_left}
+use Rattle.reference_check.specs.inner.Marking.{AreMarks, LeadsWithin, turns_left}
 use Rattle.reference_check.proofs.marks.Marks.follow.Given as goal
 
 abbrev pub invariant-loop-at : goal.invariant-loop-at

@@ -3,7 +3,7 @@ use Rattle.std.proofs.Common.{arith, sym, subst, ◌∙◌}
 use Rattle.std.specs.List.{flat_map}
 use Rattle.std.proofs.lemmas.List.{take_all}
 use Rattle.reference_check.specs.Graph.{references}
-use Rattle.reference_check.specs.Marking.{Adds}
+use Rattle.reference_check.specs.inner.Marking.{Adds}
 use Rattle.reference_check.proofs.Marking.{adds_nothing, adds_more}
 use Rattle.reference_check.proofs.marks.Marks.mark_elements.Goals as goal
 

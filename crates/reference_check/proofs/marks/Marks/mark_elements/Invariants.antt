@@ -2,7 +2,7 @@
 use Rattle.std.proofs.Common.{take}
 use Rattle.std.specs.List.{flat_map}
 use Rattle.reference_check.specs.Graph.{references}
-use Rattle.reference_check.specs.Marking.{Adds}
+use Rattle.reference_check.specs.inner.Marking.{Adds}
 use Rattle.reference_check.proofs.marks.Marks.mark_elements.Given as goal
 
 abbrev pub invariant-loop-element : goal.invariant-loop-element

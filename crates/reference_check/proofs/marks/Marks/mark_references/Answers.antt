@@ -2,7 +2,7 @@
 use Rattle.std.proofs.Common.{◌++◌, subst}
 use Rattle.std.proofs.lemmas.Result.{on_ok_weaker}
 use Rattle.reference_check.specs.Graph.{given}
-use Rattle.reference_check.specs.Marking.{Adds}
+use Rattle.reference_check.specs.inner.Marking.{Adds}
 use Rattle.reference_check.proofs.Marking.{adds_append}
 use Rattle.reference_check.proofs.marks.Marks.mark_references.Goals as goal
 

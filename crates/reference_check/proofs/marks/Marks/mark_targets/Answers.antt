@@ -3,8 +3,8 @@ use Rattle.std.proofs.Common.{subst}
 use Rattle.std.specs.List.{flat_map}
 use Rattle.std.proofs.lemmas.Result.{on_ok_weaker}
 use Rattle.reference_check.specs.Graph.{given, references}
-use Rattle.reference_check.specs.Marking.{Adds}
-use Rattle.reference_check.specs.Subjects.{subject_elements, subject_currency}
+use Rattle.reference_check.specs.inner.Marking.{Adds}
+use Rattle.reference_check.specs.inner.Subjects.{subject_elements, subject_currency}
 use Rattle.reference_check.proofs.Marking.{adds_append}
 use Rattle.reference_check.proofs.marks.Marks.mark_targets.Goals as goal
 

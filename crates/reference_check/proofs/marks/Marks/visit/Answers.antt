@@ -3,7 +3,7 @@ use Rattle.std.proofs.Common.{sym}
 use Rattle.std.proofs.lemmas.Result.{on_ok_weaker}
 use Rattle.repo_objects.specs.Repository.{Entry}
 use Rattle.reference_check.specs.declared.subject.Subject.TheVariants as subject
-use Rattle.reference_check.specs.Subjects.{subject_targets}
+use Rattle.reference_check.specs.inner.Subjects.{subject_targets}
 use Rattle.reference_check.proofs.Lookups.{find_at}
 use Rattle.reference_check.proofs.Marking.{visits, visits_none, entry_targets}
 use Rattle.reference_check.proofs.marks.Marks.visit.Goals as goal

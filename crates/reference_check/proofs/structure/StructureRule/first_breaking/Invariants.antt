@@ -5,7 +5,7 @@ use Rattle.repo_objects.specs.Repository.{Entry}
 use Rattle.reference_check.specs.Graph.{entry}
 use Rattle.reference_check.specs.Reached.{HasReach}
 use Rattle.reference_check.specs.Rules.{Breaks}
-use Rattle.reference_check.specs.Subjects.{rule_of}
+use Rattle.reference_check.specs.inner.Subjects.{rule_of}
 use Rattle.reference_check.proofs.structure.StructureRule.first_breaking.Given as goal
 
 abbrev pub invariant-loop-at : goal.invariant-loop-at

@@ -1,7 +1,7 @@
 -- What is open is closed: then the repository has all that the tags say.
 use Rattle.std.proofs.Common.{◌≡◌, ◌++◌, sym, ◌∙◌}
 use Rattle.repo_loader.specs.File.{objects, messages}
-use Rattle.repo_loader.specs.LoadingSteps.{open_messages}
+use Rattle.repo_loader.specs.inner.LoadingSteps.{open_messages}
 use Rattle.repo_loader.proofs.MessageSteps.{all_messages}
 use Rattle.repo_loader.proofs.loading.Loading.into_repository.Goals as goal
 

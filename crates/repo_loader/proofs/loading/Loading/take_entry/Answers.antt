@@ -3,7 +3,7 @@ use Rattle.std.proofs.Common.{◌≡◌, ◌∙◌, sym, ap, map, true≢false, 
 use Rattle.repo_objects.specs.Repository.{HasId, HasEntryTexts}
 use Rattle.repo_loader.specs.FileNames.{value_of, id_name}
 use Rattle.repo_loader.specs.FileValues.{text_or_empty}
-use Rattle.repo_loader.specs.LoadingSteps.{HasIdIn}
+use Rattle.repo_loader.specs.inner.LoadingSteps.{HasIdIn}
 use Rattle.repo_loader.proofs.EntryTexts.{entry_texts}
 use Rattle.markup.specs.EventItems.{entry_of}
 use Rattle.repo_loader.proofs.LoadingLemmas.{id_twice, tells_facets}

@@ -3,8 +3,8 @@ use Rattle.std.proofs.Common.{◌++◌, ◌∷◌, [], sym, map, subst}
 use Rattle.std.specs.Prelude.{OnOk}
 use Rattle.markup.specs.EventItems.{entry_of}
 use Rattle.repo_loader.specs.declared.part.Part.{Part}
-use Rattle.repo_loader.specs.Stops.{IsSoundTag}
-use Rattle.repo_loader.specs.LoadingSteps.{HasTags}
+use Rattle.repo_loader.specs.inner.Stops.{IsSoundTag}
+use Rattle.repo_loader.specs.inner.LoadingSteps.{HasTags}
 use Rattle.repo_loader.proofs.EntryRules.{sound_other}
 use Rattle.repo_loader.proofs.TagSteps.{tag_of, entry_taken, message_taken, on_ok, if_err, no_entry_part, no_message_part, other_closes, other_closes_message, other_tags, tells_numbers}
 use Rattle.repo_loader.proofs.loading.Loading.take_tag.Goals as goal

@@ -2,7 +2,7 @@
 use Rattle.std.proofs.Common.{rules, ◌≡◌, ◌+◌, ℕ, List, [], ◌∷◌, ◌++◌, length, refl, sym, subst, ap, ◌∙◌, arith}
 use Rattle.std.specs.Prelude.{IfNone}
 use Rattle.markup.specs.Reading.{taken}
-use Rattle.repo_loader.specs.ProgressSteps.{ReadsOn}
+use Rattle.repo_loader.specs.inner.ProgressSteps.{ReadsOn}
 use Rattle.repo_loader.proofs.ReadSteps.{nothing_seen, run_seen, one_seen, fault_seen, all_seen}
 use Rattle.repo_loader.proofs.progress.Progress.take_all.Goals as goal
 

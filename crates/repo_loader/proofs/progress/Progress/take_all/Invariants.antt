@@ -1,7 +1,7 @@
 -- The bytes before the rest of the piece are read, and each counts.
 use Rattle.std.proofs.Common.{◌≡◌, ◌+◌, ℕ, List, length}
 use Rattle.markup.specs.Reading.{taken}
-use Rattle.repo_loader.specs.ProgressSteps.{HasRead}
+use Rattle.repo_loader.specs.inner.ProgressSteps.{HasRead}
 use Rattle.repo_loader.proofs.ReadSteps.{ReadSoFar}
 use Rattle.repo_loader.proofs.progress.Progress.take_all.Given as goal
 

@@ -1,7 +1,7 @@
 -- Where no character came, what goes on with a token.
 use Rattle.std.proofs.Common.{◌≡◌, ◌++◌, take, subst, arith}
 use Rattle.std.proofs.lemmas.List.{append-nil}
-use Rattle.repo_loader.specs.ProgressSteps.{HasRead}
+use Rattle.repo_loader.specs.inner.ProgressSteps.{HasRead}
 use Rattle.repo_loader.proofs.progress.Progress.take_run.Goals as goal
 
 pub returns-clause-read : goal.returns-clause-read

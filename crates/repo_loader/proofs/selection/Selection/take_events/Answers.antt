@@ -1,7 +1,7 @@
 -- Each event is read, as far as the first that breaks a rule.
 use Rattle.std.proofs.Common.{rules, ◌≡◌, [], ◌∷◌, ◌++◌, subst}
 use Rattle.markup.specs.EventItems.{placed}
-use Rattle.repo_loader.specs.SelectionSteps.{HaveTexts, LoadsOn}
+use Rattle.repo_loader.specs.inner.SelectionSteps.{HaveTexts, LoadsOn}
 use Rattle.repo_loader.proofs.EventSteps.{LoadedSoFar, one_loaded, one_broken}
 use Rattle.repo_loader.proofs.selection.Selection.take_events.Goals as goal
 

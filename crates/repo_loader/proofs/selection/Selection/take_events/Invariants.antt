@@ -1,7 +1,7 @@
 -- The events before the rest are read.
 use Rattle.std.proofs.Common.{List, length}
 use Rattle.markup.specs.Events.{Placed}
-use Rattle.repo_loader.specs.SelectionSteps.{HasLoaded, HaveTexts}
+use Rattle.repo_loader.specs.inner.SelectionSteps.{HasLoaded, HaveTexts}
 use Rattle.repo_loader.proofs.EventSteps.{LoadedSoFar}
 use Rattle.repo_loader.proofs.selection.Selection.take_events.Given as goal
 

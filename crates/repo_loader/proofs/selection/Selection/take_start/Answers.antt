@@ -3,8 +3,8 @@ use Rattle.std.proofs.Common.{ap, ◌∙◌, subst, map, refl}
 use Rattle.lexical_core.specs.Tree.{Expanded}
 use Rattle.markup.specs.EventItems.{entry_of}
 use Rattle.repo_loader.specs.Selected.{part_in}
-use Rattle.repo_loader.specs.SelectionSteps.{tags_told}
-use Rattle.repo_loader.specs.Stops.{TellsStop}
+use Rattle.repo_loader.specs.inner.SelectionSteps.{tags_told}
+use Rattle.repo_loader.specs.inner.Stops.{TellsStop}
 use Rattle.repo_loader.proofs.TagSteps.{tag_of}
 use Rattle.repo_loader.proofs.EventSteps.{start_passed, start_taken, start_broken}
 use Rattle.repo_loader.proofs.selection.Selection.take_start.Goals as goal

@@ -1,6 +1,6 @@
 use Rattle.std.proofs.Common.{◌≡◌, ◌++◌, ℕ, List, length, ap, refl, sym, subst, arith, ◌∙◌, take, drop}
 use Rattle.std.specs.Prelude.{◌↔◌, IsTrue}
-use Rattle.respell.specs.FragmentReading.{IsFragment, AdvancesSo}
+use Rattle.respell.specs.inner.FragmentReading.{IsFragment, AdvancesSo}
 use Rattle.respell.proofs.FragmentSteps.{never, front_differs, rest_uncompared, front_all, ends_whole}
 use Rattle.respell.proofs.FragmentParts.{front_taken}
 use Rattle.respell.proofs.fragment_reader.FragmentReader.read.Goals as goal

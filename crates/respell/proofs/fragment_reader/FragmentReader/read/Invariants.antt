@@ -1,6 +1,6 @@
 use Rattle.std.proofs.Common.{◌≡◌, ◌+◌, ◌++◌, [], List, ℕ, length}
 use Rattle.markup.specs.Reading.{taken}
-use Rattle.respell.specs.FragmentReading.{HasReadFront}
+use Rattle.respell.specs.inner.FragmentReading.{HasReadFront}
 use Rattle.respell.proofs.fragment_reader.FragmentReader.read.Given as goal
 
 abbrev pub invariant-loop-left : goal.invariant-loop-left
