@@ -1,5 +1,5 @@
 -- What a checker of DER was given, and what it answers.
-use Rattle.std.specs.Prelude.{◌≡◌, ◌≢◌, ◌⊎◌, ℕ, suc, ◌≤◌, ◌^◌, List, [], ◌++◌, length, take, drop, IfOk, IfErr, Option, Some, None, Result, Ok, Err}
+use Rattle.std.specs.Prelude.{◌≡◌, ◌≢◌, ℕ, suc, ◌≤◌, ◌^◌, List, [], ◌++◌, length, take, drop, IfOk, IfErr, Option, Some, None, Result}
 use Rattle.lexical_core.specs.declared.rule.Rule.TheVariants.{DerTruncated}
 use Rattle.data_types.specs.Value.{Value}
 use Rattle.inst_pool.specs.Pieces.{Region}

@@ -2,11 +2,7 @@
 use Rattle.std.specs.Prelude.{◌≡◌, ◌⊎◌, ℕ, ◌≤◌, List, [], ◌∷◌, ◌++◌}
 use Rattle.lexical_core.specs.Rules.{number_of}
 use Rattle.lexical_core.specs.declared.rule.Rule.{Rule}
-use Rattle.repo_objects.specs.Repository.{Contents}
-use Rattle.message_model.specs.Compiled.{Compiles, IsReachedList}
-use Rattle.message_model.specs.Ready.{IsReady}
 use Rattle.message_model.specs.OfReady.{OfReady}
-use Rattle.message_model.specs.Tables.{Tables}
 use Rattle.der_model.specs.DerMessage.{DerMessage, der_message}
 use Rattle.der_model.specs.States.{Part, part_octets, State, Start, Stands}
 use Rattle.der_model.specs.Faults.{Fault, DerFault, Front}

@@ -1,5 +1,5 @@
 -- When the facets of an object are out of bounds (XML Schema part 2 §4.3).
-use Rattle.std.specs.Prelude.{◌≡◌, ℕ, ◌<◌, ◌^◌, ◌*ℤ◌, ◌<ℤ◌, pos, ◌⊎◌, Bool, true, false, IsTrue, [], Option, Some, None}
+use Rattle.std.specs.Prelude.{◌≡◌, ℕ, ◌<◌, ◌⊎◌, Bool, true, false, IsTrue, [], Option, Some, None}
 use Rattle.lexical_core.specs.Decimals.{Number}
 use Rattle.facets.specs.Facets.{IsLess}
 use Rattle.repo_objects.specs.declared.objects.Object.{Object}

@@ -1,8 +1,8 @@
 -- Which trees write a value (ISO 20022-4, XML Schema part 1 §2.6): elements in the message's namespace under the tags of their slots,
 -- white space between them, and the text of a leaf alone in its element.
-use Rattle.std.specs.Prelude.{◌≡◌, ℕ, Bool, ◌&&◌, List, [], ◌∷◌, Option, Some, None, slice_get, ◌⊎◌, codes, if◌then◌else◌}
+use Rattle.std.specs.Prelude.{◌≡◌, ℕ, List, [], ◌∷◌, Option, Some, None, slice_get, ◌⊎◌, codes, if◌then◌else◌}
 use Rattle.std.specs.List.{AllByRecursion}
-use Rattle.std.specs.Str.{bytes_eq, chars}
+use Rattle.std.specs.Str.{chars}
 use Rattle.lexical_core.specs.Tree.{Expanded, Entry, Nodes, Element, Text, Tree}
 use Rattle.lexical_core.specs.Names.{same_name}
 use Rattle.lexical_core.specs.Tree as tree

@@ -1,14 +1,12 @@
 -- Whole inputs: what spells a value is what breaks no rule.
-use Rattle.std.proofs.Common.{◌≡◌, ℕ, ◌+◌, List, [], ◌∷◌, ◌++◌, refl, sym, ap, ◌∙◌, length, reverse, map, append_assoc, append-nil, subst}
-use Rattle.std.proofs.lemmas.List.{reverse-append, map-append}
+use Rattle.std.proofs.Common.{◌≡◌, ℕ, List, [], ◌∷◌, refl, sym, ap, reverse, map, subst}
 use Rattle.lexical_core.specs.Tree.{Item, Tree, TreeIs}
 use Rattle.data_types.specs.Leaf.{Leaf}
 use Rattle.data_types.specs.Value.{Value}
 use Rattle.data_types.specs.declared.kind.Kind.TheVariants as kind
 use Rattle.facets.specs.declared.simple.Simple.{Simple}
 use Rattle.facets.specs.LeafUnder.{GivesLeaf, Fits}
-use Rattle.markup.specs.Token.{Token, token_bytes}
-use Rattle.markup.specs.Events.{Placed, events, items_of}
+use Rattle.markup.specs.Token.{Token}
 use Rattle.reference_check.specs.Forms.{Form}
 use Rattle.reference_check.specs.Forms as form
 use Rattle.message_model.specs.Sound.{SoundFormsAgree, HasNumber}

@@ -1,5 +1,5 @@
 -- What a checker of an instance was given, and what it answers.
-use Rattle.std.specs.Prelude.{◌≡◌, ◌≢◌, ◌⊎◌, ℕ, List, [], ◌∷◌, ◌++◌, ◌+◌, ◌≤◌, map, length, take, IfOk, IfErr, Option, Some, None, Result, Ok, Err}
+use Rattle.std.specs.Prelude.{◌≡◌, ◌≢◌, ℕ, List, [], ◌∷◌, ◌++◌, ◌+◌, ◌≤◌, map, length, take, IfOk, IfErr, Option, Some, None, Result, Ok, Err}
 use Rattle.lexical_core.specs.declared.rule.Rule.TheVariants.{Truncated}
 use Rattle.data_types.specs.Value.{Value, Piece}
 use Rattle.fragments.specs.Fragment.{fragment}

@@ -6,10 +6,7 @@ use Rattle.markup.specs.Token.{Token}
 use Rattle.markup.specs.Marks.{Front, tag_limit}
 use Rattle.markup.specs.Events.{Placed, events}
 use Rattle.markup.specs.Faults.{IsClean}
-use Rattle.repo_objects.specs.Repository.{Contents}
-use Rattle.message_model.specs.Compiled.{Compiles, IsReachedList}
 use Rattle.message_model.specs.Message.{Message}
-use Rattle.message_model.specs.Ready.{IsReady}
 use Rattle.message_model.specs.OfReady.{OfReady}
 use Rattle.message_model.specs.Tables.{Tables, message_of}
 use Rattle.xml_instances.specs.Levels.{levels_over}
