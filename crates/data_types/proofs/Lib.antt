@@ -14,3 +14,4 @@ pub mod LeavesByKind
 pub mod ValueLemmas
 pub mod RunLemmas
 pub mod Collapsible
+pub mod WordRuns

@@ -59,7 +59,7 @@ impl Collapse {
 
     /// Takes some characters, all of them white space.
     #[inline]
-    pub(crate) fn take_spaces(&mut self)
+    pub fn take_spaces(&mut self)
         ensures { (text collapsed spaces : List ℕ) → 0 < length spaces → AllByRecursion IsSpace spaces
             → HasCollapsed self.old text collapsed → HasCollapsed self.new (text ++ spaces) collapsed }
     {
@@ -69,7 +69,7 @@ impl Collapse {
     /// Takes some characters, none of them white space, and tells whether the collapsed text gains a space
     /// before them.
     #[inline]
-    pub(crate) fn take_word(&mut self) -> bool
+    pub fn take_word(&mut self) -> bool
         ensures { (text collapsed word : List ℕ) → IsWord word → HasCollapsed self.old text collapsed
             → HasCollapsed self.new (text ++ word) (collapsed ++ (gap_text result ++ word)) }
     {

@@ -1,5 +1,5 @@
 // The leaf that characters spell once their white space is collapsed: XML Schema part 2 §3.2 and §4.3.6.
-ghost use Rattle.std.specs.Prelude.{◌≡◌, ◌+◌, ◌≤◌, ◌<◌, ◌^◌, ◌++◌, ◌∷◌, [], length, take, slice_index, Option, List, ℕ, IsOk, OnOk, OnErr};
+ghost use Rattle.std.specs.Prelude.{◌≡◌, ◌+◌, ◌≤◌, ◌<◌, ◌^◌, ◌++◌, ◌∷◌, [], length, Option, List, ℕ, IsOk, OnOk, OnErr};
 ghost use Rattle.std.specs.List.{AllByRecursion};
 ghost use Rattle.std.specs.Str.{chars};
 ghost use Rattle.lexical_core.specs.DecimalSoFar.{HasRead};
@@ -21,7 +21,8 @@ use crate::leaf::LeafRef;
 use crate::octets::OctetStep;
 use crate::run::{RunChars, run_chars};
 use crate::short::ShortText;
-use lexical_core::{DecimalStep, DecimalText, Rule, is_space};
+use crate::words::{space_count, word_count};
+use lexical_core::{DecimalStep, DecimalText, Rule};
 use std::alloc::{AllocError, Global};
 
 /// What is kept of the collapsed text, by the kind.
@@ -322,36 +323,6 @@ impl Value {
             Value::Octets(step) => step.take_codes(word),
         }
     }
-}
-
-/// How many codes at the front are white space.
-#[inline]
-fn space_count(codes: &[u8]) -> usize
-    ensures within { result ≤ length codes.now }
-    ensures spaces { AllByRecursion IsSpace (take result codes.now) }
-    ensures rest { result < length codes.now → IsSpace (slice_index codes.now result) → ⊥ }
-{
-    for (at, code) in codes.iter().enumerate() {
-        if !is_space(*code as char) {
-            return at;
-        }
-    }
-    codes.len()
-}
-
-/// How many codes at the front are no white space.
-#[inline]
-fn word_count(codes: &[u8]) -> usize
-    ensures within { result ≤ length codes.now }
-    ensures word { AllByRecursion (λ c. IsSpace c → ⊥) (take result codes.now) }
-    ensures some { 0 < length codes.now → (IsSpace (slice_index codes.now 0) → ⊥) → 0 < result }
-{
-    for (at, code) in codes.iter().enumerate() {
-        if is_space(*code as char) {
-            return at;
-        }
-    }
-    codes.len()
 }
 
 /// Takes what a decimal's text gains.

@@ -18,6 +18,7 @@ mod octets;
 mod run;
 mod short;
 mod text_writer;
+mod words;
 
 pub use booleans::{boolean_of, boolean_text};
 pub use canonical::push_leaf;
@@ -28,6 +29,7 @@ pub use leaf::LeafRef;
 pub use leaf_step::LeafStep;
 pub use run::{RunChars, run_chars};
 pub use text_writer::push_escaped;
+pub use words::{space_count, word_count};
 
 #[cfg(test)]
 mod tests;

@@ -1,6 +1,6 @@
 -- What a matcher's answer says of the pattern of a simple type.
-use Rattle.std.proofs.Common.{◌≡◌, ℕ, Bool, true, false, List, [], ◌∷◌, ◌++◌, Option, Some, None, refl, sym, subst, ◌∙◌}
-use Rattle.std.specs.Prelude.{◌↔◌, IsTrue}
+use Rattle.std.proofs.Common.{◌≡◌, ◌≢◌, ℕ, ◌<◌, ◌≤◌, inl, inr, Bool, true, false, List, [], ◌∷◌, ◌++◌, length, Option, Some, None, refl, sym, subst, ◌∙◌, length-append, arith}
+use Rattle.std.specs.Prelude.{◌↔◌, IsTrue, MatchOption}
 use Rattle.std.specs.Str.{chars}
 use Rattle.pattern_match.specs.Reading.{Matches}
 use Rattle.pattern_match.specs.Compiled.{HasRead}
@@ -14,7 +14,9 @@ use Rattle.facets.specs.declared.asked.Asked.{Asked}
 use Rattle.facets.specs.declared.asked.Asked.TheVariants.{Text, Collapsed}
 use Rattle.facets.specs.declared.simple.Simple.{Simple}
 use Rattle.facets.specs.Rules.{IsAsked}
-use Rattle.facets.specs.PatternChecks.{HasAsked, IsDateKind, TellsPattern}
+use Rattle.facets.specs.Facets.{HasLength}
+use Rattle.facets.specs.Counts.{IsTooLong}
+use Rattle.facets.specs.PatternChecks.{HasAsked, HasFollowed, IsDateKind, TellsPattern}
 
 -- where the pattern is asked of one text alone, it is broken where that is none of its words
 pub asked_once : (simple : Simple) (text asked pattern : List ℕ) (r : Bool) → simple.pattern ≡ Some pattern → IsAsked simple.kind simple.codes text asked
@@ -86,3 +88,30 @@ takes_codes asked simple text codes collapse after matcher pattern next is has t
         let same : own ≡ pattern = let both : Some own ≡ Some pattern = sym e ∙ has in cc in
         let all = takes text what collapsed (subst (λ p. HasRead p matcher what) same read) in
         (date, pattern, all.0, has, all.1, all.2)
+
+-- what was asked of a text that may be too long
+pub was_asked : (check : Asked) (simple : Simple) (text : List ℕ) → HasFollowed check simple text → (some : List ℕ) × HasAsked check simple some
+was_asked check simple text (inl h) = (text, h)
+was_asked check simple text (inr (long, some, h)) = (some, h)
+
+-- what comes behind a text that is too long is left out
+pub skipped : (check : Asked) (simple : Simple) (text more : List ℕ) → IsTooLong simple (length (text ++ more)) → HasFollowed check simple text
+    → HasFollowed check simple (text ++ more)
+skipped check simple text more long h = let own = was_asked check simple text h in inr (long, own.0, own.1)
+
+pub followed : (old new : Asked) (simple : Simple) (text more : List ℕ) → ((t : List ℕ) → HasAsked old simple t → HasAsked new simple (t ++ more))
+    → HasFollowed old simple text → HasFollowed new simple (text ++ more)
+followed old new simple text more takes (inl h) = inl (takes text h)
+followed old new simple text more takes (inr ((is, most, has, long), some, h)) =
+    let size = length-append text more in
+    inr ((is, most, has, omega (arith, long, size)), some ++ more, takes some h)
+
+-- a text of the right length is not too long, and one of another kind never
+pub asked_within : (check : Asked) (simple : Simple) (text : List ℕ) → HasLength simple (length text) → HasFollowed check simple text → HasAsked check simple text
+asked_within check simple text fits (inl h) = h
+asked_within check simple text fits (inr ((is, most, has, long), some, h)) =
+    absurd (let few : length text ≤ most = subst (λ o. MatchOption o (Unit {0}) (λ max. length text ≤ max)) has fits.most in omega (arith, long, few))
+
+pub asked_other : (check : Asked) (simple : Simple) (text : List ℕ) → simple.kind ≢ kind.Text → HasFollowed check simple text → HasAsked check simple text
+asked_other check simple text other (inl h) = h
+asked_other check simple text other (inr (long, some, h)) = absurd (other long.0)

@@ -19,7 +19,7 @@ use Rattle.facets.specs.declared.progress.Progress.{Progress}
 use Rattle.facets.specs.declared.simple.Simple.{Simple}
 use Rattle.facets.specs.CodeLists.{longest_of}
 use Rattle.facets.specs.Counts.{HasCounted}
-use Rattle.facets.specs.PatternChecks.{HasAsked}
+use Rattle.facets.specs.PatternChecks.{HasFollowed}
 
 -- a code has a number of 32 bits, and a decimal no more digits than a number can have
 pub record IsWithinLimits (simple : Simple) : Type 0 where
@@ -58,7 +58,7 @@ IsHeldWithin (Some most) characters held = held ≤ 4 * min characters most + 64
 pub record HasSeen (progress : Progress) (most : Option ℕ) (simple : Simple) (text : List ℕ) : Type 0 where
   pub step : HasTakenLeaf progress.step simple.kind most text
   pub counted : HasCounted progress.count (length text)
-  pub asked : HasAsked progress.asked simple text
+  pub asked : HasFollowed progress.asked simple text
   pub characters : AllByRecursion IsXmlChar text
   pub limits : IsWithinLimits simple
 

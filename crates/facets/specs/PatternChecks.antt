@@ -1,5 +1,5 @@
 -- What the check of a pattern was asked of so far. Private functions alone cite this.
-use Rattle.std.specs.Prelude.{◌≡◌, ◌⊎◌, ℕ, Bool, true, false, List, Some, None}
+use Rattle.std.specs.Prelude.{◌≡◌, ◌⊎◌, ℕ, Bool, true, false, List, length, Some, None}
 use Rattle.pattern_match.specs.Compiled.{HasRead}
 use Rattle.data_types.specs.Collapsing.{HasCollapsed}
 use Rattle.data_types.specs.declared.kind.Kind.{Kind}
@@ -7,6 +7,7 @@ use Rattle.data_types.specs.declared.kind.Kind.TheVariants as kind
 use Rattle.facets.specs.declared.asked.Asked.{Asked}
 use Rattle.facets.specs.declared.asked.Asked.TheVariants.{Nothing, Text, Collapsed}
 use Rattle.facets.specs.declared.simple.Simple.{Simple}
+use Rattle.facets.specs.Counts.{IsTooLong}
 use Rattle.facets.specs.Rules.{IsAsked, BreaksPattern}
 
 -- no text is asked of a pattern
@@ -30,6 +31,10 @@ HasAsked (Text matcher) simple text =
 HasAsked (Collapsed collapse matcher) simple text =
     IsDateKind simple.kind × (pattern : List ℕ) × (asked : List ℕ) × (simple.pattern ≡ Some pattern)
     × HasCollapsed collapse text asked × HasRead pattern matcher asked
+
+-- the same, but that it was given some of the characters alone where they are too many for a text
+abbrev pub HasFollowed : Asked → Simple → List ℕ → Type 0
+HasFollowed check simple text = HasAsked check simple text ⊎ (IsTooLong simple (length text) × (some : List ℕ) × HasAsked check simple some)
 
 -- what is told of the pattern: that it has what it was asked of, or that it has not
 abbrev pub TellsPattern : Bool → Simple → List ℕ → Type 0

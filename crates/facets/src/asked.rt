@@ -1,13 +1,17 @@
 // The pattern of a simple type, asked of the characters of a text as they come.
-ghost use Rattle.std.specs.Prelude.{◌∷◌, ◌++◌, [], ℕ, List, IfOk};
+ghost use Rattle.std.specs.Prelude.{◌∷◌, ◌++◌, [], ℕ, List, length, IfOk};
+ghost use Rattle.std.specs.List.{AllByRecursion};
 ghost use Rattle.std.specs.Str.{chars};
 ghost use Rattle.lexical_core.specs.XmlRuns.{IsXmlRun};
-ghost use Rattle.data_types.specs.Collapsing.{gained, HasCollapsed};
+ghost use Rattle.lexical_core.specs.Characters.{IsSpace};
+ghost use Rattle.data_types.specs.Collapsing.{gained, gap_text, HasCollapsed};
 ghost use Rattle.pattern_match.specs.Compiled.{HasRead, IsMadeFor};
-ghost use Rattle.facets.specs.PatternChecks.{HasAsked, TellsPattern};
+ghost use Rattle.facets.specs.Counts.{HasCounted};
+ghost use Rattle.facets.specs.PatternChecks.{HasAsked, HasFollowed, TellsPattern};
 
+use crate::count::Count;
 use crate::simple::Simple;
-use data_types::{Collapse, Collapsed, Kind, RunChars, run_chars};
+use data_types::{Collapse, Collapsed, Kind, RunChars, run_chars, space_count, word_count};
 use pattern_match::{Matcher, Pattern};
 use std::alloc::{AllocError, Global};
 
@@ -60,8 +64,40 @@ impl Asked {
         }
     }
 
+    /// Takes a character with which there are so many, unless these are too many for a text: then its length has
+    /// decided. It takes no memory.
+    pub(crate) fn follow(&mut self, simple: &Simple, count: Count, c: char)
+        requires { (text : List ℕ) × HasFollowed self.old simple.now text }
+        ensures { (text : List ℕ) → HasFollowed self.old simple.now text → HasCounted count (length (text ++ c ∷ []))
+            → HasFollowed self.new simple.now (text ++ c ∷ []) }
+    {
+        if count.is_too_long(simple) {
+            return;
+        }
+        self.take(simple, c);
+    }
+
+    /// The same, of a run of some characters.
+    pub(crate) fn follow_run(
+        &mut self,
+        simple: &Simple,
+        count: Count,
+        run: &[u8],
+        characters: usize,
+    )
+        requires run { IsXmlRun run.now characters }
+        requires made { (text : List ℕ) × HasFollowed self.old simple.now text }
+        ensures { (r : IsXmlRun run.now characters) (text : List ℕ) → HasFollowed self.old simple.now text
+            → HasCounted count (length (text ++ r.chars)) → HasFollowed self.new simple.now (text ++ r.chars) }
+    {
+        if count.is_too_long(simple) {
+            return;
+        }
+        self.take_run(simple, run, characters);
+    }
+
     /// Takes a character. It takes no memory.
-    pub(crate) fn take(&mut self, simple: &Simple, c: char)
+    fn take(&mut self, simple: &Simple, c: char)
         requires { (text : List ℕ) × HasAsked self.old simple.now text }
         ensures { (text : List ℕ) → HasAsked self.old simple.now text
             → HasAsked self.new simple.now (text ++ c ∷ []) }
@@ -80,7 +116,7 @@ impl Asked {
     }
 
     /// Takes a run of so many characters. It takes no memory.
-    pub(crate) fn take_run(&mut self, simple: &Simple, run: &[u8], count: usize)
+    fn take_run(&mut self, simple: &Simple, run: &[u8], count: usize)
         requires run { IsXmlRun run.now count }
         requires made { (text : List ℕ) × HasAsked self.old simple.now text }
         ensures { (r : IsXmlRun run.now count) (text : List ℕ) → HasAsked self.old simple.now text
@@ -148,11 +184,53 @@ fn take_gains(pattern: &Pattern, collapse: &mut Collapse, matcher: &mut Matcher,
     ensures { (text collapsed : List ℕ) → HasCollapsed collapse.old text collapsed → HasRead pattern.now matcher.old collapsed
         → (more : List ℕ) × HasCollapsed collapse.new (text ++ codes.now) more × HasRead pattern.now matcher.new more }
 {
-    for code in codes {
-        let c = *code as char;
-        let gain = collapse.take(c);
-        take_gained(pattern, matcher, gain, c);
+    let mut rest = codes;
+    while !rest.is_empty() {
+        let (gap, behind) = rest.split_at(space_count(rest));
+        let (word, after) = behind.split_at(word_count(behind));
+        take_gap(collapse, gap);
+        take_word(pattern, collapse, matcher, word);
+        rest = after;
     }
+}
+
+/// Takes white space.
+fn take_gap(collapse: &mut Collapse, gap: &[u8])
+    requires { AllByRecursion IsSpace gap.now }
+    ensures { (text collapsed : List ℕ) → HasCollapsed collapse.old text collapsed
+        → HasCollapsed collapse.new (text ++ gap.now) collapsed }
+{
+    if !gap.is_empty() {
+        collapse.take_spaces();
+    }
+}
+
+/// Takes characters that are no white space.
+fn take_word(pattern: &Pattern, collapse: &mut Collapse, matcher: &mut Matcher, word: &[u8])
+    requires made { IsMadeFor pattern.now matcher.old }
+    requires word { AllByRecursion (λ c. IsSpace c → ⊥) word.now }
+    ensures made { IsMadeFor pattern.now matcher.new }
+    ensures read { (text collapsed : List ℕ) → HasCollapsed collapse.old text collapsed → HasRead pattern.now matcher.old collapsed
+        → (more : List ℕ) × HasCollapsed collapse.new (text ++ word.now) more × HasRead pattern.now matcher.new more }
+{
+    if word.is_empty() {
+        return;
+    }
+    let gap = collapse.take_word();
+    read_word(pattern, matcher, gap, word);
+}
+
+/// Reads a word, and the space before it where there is one.
+fn read_word(pattern: &Pattern, matcher: &mut Matcher, gap: bool, word: &[u8])
+    requires { IsMadeFor pattern.now matcher.old }
+    ensures made { IsMadeFor pattern.now matcher.new }
+    ensures read { (text : List ℕ) → HasRead pattern.now matcher.old text
+        → HasRead pattern.now matcher.new (text ++ (gap_text gap ++ word.now)) }
+{
+    if gap {
+        matcher.step(pattern, ' ');
+    }
+    matcher.step_codes(pattern, word);
 }
 
 /// Takes what the collapsed text gains at a character.

@@ -1,10 +1,11 @@
 // How many characters a text has so far.
 ghost use Rattle.std.specs.Prelude.{◌+◌, ◌↔◌, ℕ, IsTrue};
 ghost use Rattle.facets.specs.Facets.{HasLength};
-ghost use Rattle.facets.specs.Counts.{HasCounted};
+ghost use Rattle.facets.specs.Counts.{HasCounted, IsTooLong};
 
 use crate::lengths::has_length;
 use crate::simple::Simple;
+use data_types::Kind;
 
 /// A count that never runs over.
 #[derive(Clone, Copy, Debug, Drop)]
@@ -50,6 +51,20 @@ impl Count {
         match simple.max {
             Some(max) => self.number < max, // none is greater
             None => least <= self.number, // each is
+        }
+    }
+
+    /// Whether there are more than a text may have. Of more than can be counted it need not tell.
+    #[inline]
+    pub(crate) fn is_too_long(&self, simple: &Simple) -> bool
+        ensures { (n : ℕ) → HasCounted self.now n → IsTrue result → IsTooLong simple.now n }
+    {
+        if simple.kind != Kind::Text {
+            return false;
+        }
+        match simple.max {
+            Some(most) => most < self.number,
+            None => false,
         }
     }
 }

@@ -83,7 +83,7 @@ impl Progress {
     {
         self.step.take(c)?;
         self.count.add(1);
-        self.asked.take(simple, c);
+        self.asked.follow(simple, self.count, c);
         Ok(())
     }
 
@@ -105,7 +105,7 @@ impl Progress {
     {
         self.step.take_run(run, count)?;
         self.count.add(count as u64);
-        self.asked.take_run(simple, run, count);
+        self.asked.follow_run(simple, self.count, run, count);
         Ok(())
     }
 

@@ -1,5 +1,5 @@
 // A decimal text read a character at a time: XML Schema part 2 §3.2.3.
-ghost use Rattle.std.specs.Prelude.{◌≡◌, ◌≢◌, ◌≤◌, ◌+◌, ◌<◌, ◌++◌, ◌∷◌, [], List, ℕ};
+ghost use Rattle.std.specs.Prelude.{◌≡◌, ◌≢◌, ◌≤◌, ◌+◌, ◌<◌, ◌++◌, ◌∷◌, [], List, ℕ, length, take};
 ghost use Rattle.lexical_core.specs.DecimalAnswers.{IsDecimalAnswer};
 ghost use Rattle.lexical_core.specs.DecimalSoFar.{HasRead, ReadWhole, ReadFraction, IsNumberAnswer, HasDigits};
 
@@ -63,9 +63,59 @@ impl DecimalStep {
     pub fn take_codes(&mut self, codes: &[u8])
         ensures { (text : List ℕ) → HasRead self.old text → HasRead self.new (text ++ codes.now) }
     {
-        for code in codes {
-            self.take(*code as char);
+        let mut rest = codes;
+        while !rest.is_empty() {
+            let count = self.take_front(rest);
+            rest = rest.split_at(count).1;
         }
+    }
+
+    /// Takes some codes from the first on, and tells how many: all digits that stand there before the point, or one.
+    #[inline]
+    fn take_front(&mut self, codes: &[u8]) -> usize
+        requires { 0 < length codes.now }
+        ensures some { 0 < result }
+        ensures few { result ≤ length codes.now }
+        ensures read { (text : List ℕ) → HasRead self.old text → HasRead self.new (text ++ take result codes.now) }
+    {
+        let count = self.take_digits(codes);
+        if count > 0 {
+            return count;
+        }
+        self.take(codes[0] as char);
+        1
+    }
+
+    /// Takes the digits that the codes begin with, where the whole part goes on, and tells how many.
+    fn take_digits(&mut self, codes: &[u8]) -> usize
+        ensures few { result ≤ length codes.now }
+        ensures read { (text : List ℕ) → HasRead self.old text → HasRead self.new (text ++ take result codes.now) }
+    {
+        match self.stage {
+            Stage::Whole => {}
+            Stage::Start | Stage::Fraction | Stage::Failed => return 0,
+        }
+        let mut step = *self; // a copy, which stays in registers
+        for (count, code) in codes.iter().enumerate() {
+            if !code.is_ascii_digit() {
+                *self = step;
+                return count;
+            }
+            step.push_digit(*code);
+        }
+        *self = step;
+        codes.len()
+    }
+
+    /// Takes a digit of the whole part.
+    #[inline]
+    fn push_digit(&mut self, code: u8)
+        requires digit { (48 ≤ code) × (code ≤ 57) }
+        requires stage { self.old.stage ≡ Stage.Whole }
+        ensures stage { self.new.stage ≡ Stage.Whole }
+        ensures read { (text : List ℕ) → HasRead self.old text → HasRead self.new (text ++ code ∷ []) }
+    {
+        self.digits.push_whole(code - b'0');
     }
 
     /// Takes the first character.

@@ -2,7 +2,7 @@
 use Rattle.std.proofs.Common.{◌≡◌, ◌≢◌, ℕ, suc, ◌+◌, ◌*◌, ◌<◌, ◌⊎◌, inl, inr, Bool, true, false, ◌==◌, Option, Some, None, List, [], ◌∷◌, ◌++◌, length, set, get_or, refl, sym, ap, ap₂, ◌∙◌, subst, arith, length-append, eqb-true}
 use Rattle.std.proofs.lemmas.Bool.{eqb-false}
 use Rattle.std.proofs.lemmas.List.{get_or-set_same, get_or-set_other, get_or_append_left}
-use Rattle.pattern_match.specs.Recall.{Known, row, cell, IsRightTable, IsRow, Matching, marks_at, reached}
+use Rattle.pattern_match.specs.Recall.{Known, row, cell, marks_behind, IsRightTable, IsRow, Matching, marks_at, reached}
 
 -- rows that are as they were, and maybe one more
 abbrev pub Grows : Known → Known → List Bool → Type 0
@@ -81,3 +81,15 @@ recalled next old s c t h r a l i =
 pub reached_is : (at : Option ℕ) (known : Known) (cells marks : List Bool) → cells ≡ marks → IsRow known at marks → marks_at at known cells ≡ marks
 reached_is None known cells marks e r = e
 reached_is (Some s) known cells marks e r = (r s refl).1
+
+-- the marks behind one character more
+pub behind_snoc : (next : ℕ → List Bool → List Bool) (marks : List Bool) (w : List ℕ) (c : ℕ) → marks_behind next marks (w ++ c ∷ []) ≡ next c (marks_behind next marks w)
+behind_snoc next marks [] c = refl
+behind_snoc next marks (x ∷ w) c = behind_snoc next (next x marks) w c
+
+-- one character more of which the table tells
+pub one_behind : (next : ℕ → List Bool → List Bool) (k : Known) (s t c : ℕ) (marks : List Bool) (w : List ℕ) → IsRightTable next k
+    → IsRow k (Some s) (marks_behind next marks w) → c < 128 → cell k s c ≡ suc t → IsRow k (Some t) (marks_behind next marks (w ++ c ∷ []))
+one_behind next k s t c marks w h r l i =
+    let f = h s c t l i in
+    here k t (marks_behind next marks (w ++ c ∷ [])) f.1 (f.2 ∙ ap (λ x. next c x) (r s refl).1 ∙ sym (behind_snoc next marks w c))

@@ -1,8 +1,8 @@
 -- What a matcher has read after a step, and after it begins anew.
 use Rattle.std.proofs.Common.{◌≡◌, ℕ, ◌+◌, ◌<◌, Bool, Option, Some, None, List, [], ◌∷◌, ◌++◌, chars, length, refl, sym, ap, ap₂, ◌∙◌, subst}
 use Rattle.pattern_match.specs.Marks.{IsDone}
-use Rattle.pattern_match.specs.Recall.{Known, row, IsRightTable, IsRow, Matching, marks_at, reached}
-use Rattle.pattern_match.specs.Compiled.{code_of_text, first_marks, follows, IsMarked, IsStart, HasRead, IsMadeFor}
+use Rattle.pattern_match.specs.Recall.{Known, row, marks_behind, IsRightTable, IsRow, Matching, marks_at, reached}
+use Rattle.pattern_match.specs.Compiled.{tokens_of_text, code_of_text, first_marks, marks_from, follows, IsMarked, IsStart, HasRead, IsMadeFor}
 use Rattle.pattern_match.proofs.Recalling.{Grows, row_stays, reached_is}
 use Rattle.pattern_match.proofs.Matching.{marked_more, marked_length}
 
@@ -24,6 +24,44 @@ read_known bytes old new x w k f v z r h = record {
   done = subst (λ y. IsDone (code_of_text (chars bytes)) y) (sym v) h.done;
   start = subst (λ y. IsStart bytes y) (sym z) h.start;
 }
+
+-- the marks behind a word and more
+marks_behind_more : (bytes : List ℕ) (marks : List Bool) (w more : List ℕ)
+    → marks_from (tokens_of_text (chars bytes)) (code_of_text (chars bytes)) marks (w ++ more)
+    ≡ marks_behind (follows bytes) (marks_from (tokens_of_text (chars bytes)) (code_of_text (chars bytes)) marks w) more
+marks_behind_more bytes marks [] [] = refl
+marks_behind_more bytes marks [] (c ∷ more) = marks_behind_more bytes (follows bytes c marks) [] more
+marks_behind_more bytes marks (x ∷ w) more = marks_behind_more bytes (follows bytes x marks) w more
+
+-- steps that are remembered
+pub read_behind : (bytes : List ℕ) (old new : Matching) (s t : ℕ) (w more : List ℕ) → new.known ≡ old.known → new.first ≡ old.first → new.walk ≡ old.walk → new.start ≡ old.start
+    → old.at ≡ Some s → new.at ≡ Some t
+    → ((next : ℕ → List Bool → List Bool) (marks : List Bool) → IsRightTable next old.known → IsRow old.known (Some s) marks → IsRow old.known (Some t) (marks_behind next marks more))
+    → HasRead bytes old w → HasRead bytes new (w ++ more)
+read_behind bytes old new s t w more k f v z i j g h = record {
+  marked = record {
+    marks_are = same ∙ ap (λ m. marks_behind (follows bytes) m more) h.marked.marks_are ∙ sym (marks_behind_more bytes (first_marks (code_of_text (chars bytes))) w more);
+  };
+  table = subst (λ y. IsRightTable (follows bytes) y) (sym k) h.table;
+  at = subst (λ y. IsRow new.known new.at y) (sym same) r;
+  first = kept_first bytes old new k f h.first;
+  done = subst (λ y. IsDone (code_of_text (chars bytes)) y) (sym v) h.done;
+  start = subst (λ y. IsStart bytes y) (sym z) h.start;
+}
+  where
+    behind : List Bool
+    behind = marks_behind (follows bytes) (reached old) more
+
+    r : IsRow new.known new.at behind
+    r = subst (λ y. IsRow new.known y behind) (sym j)
+        (subst (λ y. IsRow y (Some t) behind) (sym k) (g (follows bytes) (reached old) h.table (subst (λ y. IsRow old.known y (reached old)) i h.at)))
+
+    reached_row : (at : Option ℕ) → at ≡ Some t → IsRow new.known at behind → marks_at at new.known new.walk.cells ≡ behind
+    reached_row None e q = absurd (cc)
+    reached_row (Some x) e q = (q x refl).1
+
+    same : reached new ≡ behind
+    same = reached_row new.at j r
 
 -- a step that is learned: the marks that are seen are the new ones
 pub read_learned : (bytes : List ℕ) (old new : Matching) (seen : List Bool) (x : ℕ) (w : List ℕ) → seen ≡ new.walk.cells → new.first ≡ old.first → new.start ≡ old.start → new.walk.cells ≡ follows bytes x (reached old)

@@ -28,6 +28,11 @@ IsRightTable next k = (s c t : ℕ) → c < 128 → cell k s c ≡ suc t → (s 
 abbrev pub IsRow : Known → Option ℕ → List Bool → Type 0
 IsRow k at marks = (s : ℕ) → at ≡ Some s → (s < length k.rows) × (row k s ≡ marks)
 
+-- the marks behind these characters, where this follows marks and a character
+abbrev pub marks_behind : (ℕ → List Bool → List Bool) → List Bool → List ℕ → List Bool
+marks_behind next marks [] = marks
+marks_behind next marks (c ∷ w) = marks_behind next (next c marks) w
+
 -- a matcher: the marks before the first character, its marks, as long as those that it has reached have no number, and that number, the number of the first, and what it remembers
 pub record Matching : Type 0 where
   pub start : Walk

@@ -1,5 +1,5 @@
 // A matcher: which atoms of a pattern may take the next character.
-ghost use Rattle.std.specs.Prelude.{◌≡◌, ◌≤◌, ◌+◌, ℕ, ◌↔◌, IsTrue, Bool, List, [], ◌∷◌, ◌++◌, IfOk, length, replicate, false};
+ghost use Rattle.std.specs.Prelude.{◌≡◌, ◌<◌, ◌≤◌, ◌+◌, ℕ, ◌↔◌, IsTrue, Bool, List, [], ◌∷◌, ◌++◌, IfOk, length, take, replicate, false};
 ghost use Rattle.std.specs.Str.{chars};
 ghost use Rattle.pattern_match.specs.Reading.{Matches};
 ghost use Rattle.pattern_match.specs.Recall.{IsRightTable, IsRow, reached};
@@ -165,14 +165,48 @@ impl Matcher {
         self.at = self.recall.learn(self.at, c, self.marks.cells());
     }
 
+    /// Reads those of the codes from the first on of which it is remembered what follows: how many.
+    #[inline]
+    fn step_by_known(&mut self, codes: &[u8]) -> usize
+        ensures few { result ≤ length codes.now }
+        ensures read { (bytes w : List ℕ) → HasRead bytes self.old w → HasRead bytes self.new (w ++ take result codes.now) }
+    {
+        let Some(at) = self.at else {
+            return 0;
+        };
+        let followed = self.recall.follow(at, codes);
+        self.at = Some(followed.at);
+        followed.count
+    }
+
+    /// Reads some of the codes from the first on: those of which it is remembered what follows, and one more by the
+    /// marks. It tells how many.
+    fn step_front(&mut self, pattern: &Pattern, codes: &[u8]) -> usize
+        requires made { IsMadeFor pattern.now self.old }
+        requires some { 0 < length codes.now }
+        ensures some { 0 < result }
+        ensures few { result ≤ length codes.now }
+        ensures read { (w : List ℕ) → HasRead pattern.now self.old w → HasRead pattern.now self.new (w ++ take result codes.now) }
+        ensures made { IsMadeFor pattern.now self.new }
+    {
+        let count = self.step_by_known(codes);
+        if count >= codes.len() {
+            return count;
+        }
+        self.step_by_marks(pattern, codes[count] as char);
+        count + 1
+    }
+
     /// Reads the characters of these codes, one after another. It takes no memory.
     pub fn step_codes(&mut self, pattern: &Pattern, codes: &[u8])
         requires { IsMadeFor pattern.now self.old }
         ensures read { (w : List ℕ) → HasRead pattern.now self.old w → HasRead pattern.now self.new (w ++ codes.now) }
         ensures made { IsMadeFor pattern.now self.new }
     {
-        for code in codes {
-            self.step(pattern, *code as char);
+        let mut rest = codes;
+        while !rest.is_empty() {
+            let count = self.step_front(pattern, rest);
+            rest = rest.split_at(count).1;
         }
     }
 

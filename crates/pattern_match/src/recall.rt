@@ -1,6 +1,6 @@
 // What a matcher remembers: marks that it has met, and which follow them by an ASCII character.
-ghost use Rattle.std.specs.Prelude.{◌≡◌, ℕ, suc, ◌+◌, ◌*◌, ◌<◌, ◌≤◌, ◌⊎◌, IsTrue, Bool, false, Some, List, [], ◌∷◌, ◌++◌, length, slice_index_or, slice_set, IfOk, IfSome};
-ghost use Rattle.pattern_match.specs.Recall.{Known, row, rows_of, cell, IsRightTable, IsRow};
+ghost use Rattle.std.specs.Prelude.{◌≡◌, ℕ, suc, ◌+◌, ◌*◌, ◌<◌, ◌≤◌, ◌⊎◌, IsTrue, Bool, false, Some, List, [], ◌∷◌, ◌++◌, length, take, slice_index_or, slice_set, IfOk, IfSome};
+ghost use Rattle.pattern_match.specs.Recall.{Known, row, rows_of, cell, marks_behind, IsRightTable, IsRow};
 
 use std::alloc::{AllocError, Global};
 use std::marker::Model;
@@ -36,6 +36,13 @@ impl Model for Recall {
     ghost use Rattle.std.specs.Prelude.{◌≡◌, ◌*◌, ◌+◌, ◌≤◌, length, vec_capacity};
 
     ghost invariant = { λ r. (length r.cells.items ≡ r.count * r.width) × (length r.cells.items + r.spare ≤ vec_capacity r.cells) };
+}
+
+/// So many characters of which the marks that follow are remembered, and the number of the marks behind the last.
+#[derive(Clone, Copy)]
+pub struct Followed {
+    pub count: usize,
+    pub at: usize,
 }
 
 /// So many cells, none of them known.
@@ -104,6 +111,24 @@ impl Recall {
             return None;
         }
         usize::from(self.table[place]).checked_sub(1)
+    }
+
+    /// How many of these codes from the first on can be followed behind the marks of this number, and to which.
+    pub fn follow(&self, at: usize, codes: &[u8]) -> Followed
+        ensures few { result.count ≤ length codes.now }
+        ensures row { (next : ℕ → List Bool → List Bool) (marks : List Bool) → IsRightTable next self.now → IsRow self.now (Some at) marks → IsRow self.now (Some result.at) (marks_behind next marks (take result.count codes.now)) }
+    {
+        let mut here = at;
+        for (count, code) in codes.iter().enumerate() {
+            let Some(next) = self.after(here, *code as char) else {
+                return Followed { count, at: here };
+            };
+            here = next;
+        }
+        Followed {
+            count: codes.len(),
+            at: here,
+        }
     }
 
     /// The marks of this number.

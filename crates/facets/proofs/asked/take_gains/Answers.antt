@@ -1,31 +1,54 @@
-use Rattle.std.proofs.Common.{List, ℕ, ◌++◌, sym, ap, subst, ◌∙◌, append_assoc, append-nil, take_all}
-use Rattle.std.proofs.lemmas.List.{take_more}
+use Rattle.std.proofs.Common.{◌≡◌, ◌==◌, true, ℕ, suc, List, [], ◌∷◌, ◌++◌, length, take, drop, refl, sym, ap, subst, ◌∙◌, append_assoc, append-nil, take-append-drop, arith}
+use Rattle.std.proofs.lemmas.Bool.Decides.{nat_tests}
 use Rattle.data_types.specs.Collapsing.{HasCollapsed}
-use Rattle.pattern_match.specs.Compiled.{HasRead}
 use Rattle.facets.proofs.asked.take_gains.Goals as goal
 
-pub loop-code-init : goal.loop-code-init
-loop-code-init c = record {
+pub loop-rest-init : goal.loop-rest-init
+loop-rest-init c = record {
+  seen = [];
+  joined = refl;
   made = c.requires;
   takes = λ text collapsed h r. (collapsed, subst (λ t. HasCollapsed c.args.collapse.now t collapsed) (sym (append-nil text)) h, r);
 }
 
-pub loop-code-preserved : goal.loop-code-preserved
-loop-code-preserved c =
-    let before = c.loop-code.invariant in
+pub loop-rest-preserved : goal.loop-rest-preserved
+loop-rest-preserved c =
+    let before = c.loop-rest.invariant in
+    let seen = before.seen in
+    let gap = c.split_at.result.0.now in
+    let behind = c.split_at.result.1.now in
+    let word = c.split_at-in-loop-rest.result.0.now in
+    let after = c.split_at-in-loop-rest.result.1.now in
+    let first : gap ++ behind ≡ c.loop-rest.rest.now = two_parts c.space_count.result _ gap behind c.split_at.ensures.front c.split_at.ensures.back in
+    let next : word ++ after ≡ behind = two_parts c.word_count.result _ word after c.split_at-in-loop-rest.ensures.front c.split_at-in-loop-rest.ensures.back in
+    let rest : c.loop-rest.rest.now ≡ (gap ++ word) ++ after = sym first ∙ (ap (λ t. gap ++ t) (sym next) ∙ sym (append_assoc gap word after)) in
     record {
-      made = (_, c.take_gained.ensures before.made.0 before.made.1);
+      seen = seen ++ (gap ++ word);
+      joined = before.joined ∙ (ap (λ t. seen ++ t) rest ∙ sym (append_assoc seen (gap ++ word) after));
+      made = c.take_word.ensures.made;
       takes = λ text collapsed h r.
           let own = before.takes text collapsed h r in
-          subst (λ t. (more : List ℕ) × HasCollapsed c.take-gain.new.self t more × HasRead c.args.pattern.now c.take_gained.new.matcher more)
-          (append_assoc text _ _ ∙ ap (λ t. text ++ t) (sym (take_more c.args.codes.now c.loop-code.code-index 0 c.loop-code-test.true)))
-          (_, c.take-gain.ensures.text _ own.0 own.1, c.take_gained.ensures own.0 own.2);
+          let more = c.take_word.ensures.read _ own.0 (c.take_gap.ensures (text ++ seen) own.0 own.1) own.2 in (
+            more.0,
+            subst (λ t. HasCollapsed c.take_word.new.collapse t more.0) (append_assoc (text ++ seen) gap word ∙ append_assoc text seen (gap ++ word)) more.1,
+            more.2,
+          );
     }
+  where
+    two_parts : (n : ℕ) (all front back : List ℕ) → front ≡ take n all → back ≡ drop n all → front ++ back ≡ all
+    two_parts n all front back f b = ap (λ t. t ++ back) f ∙ (ap (λ t. take n all ++ t) b ∙ take-append-drop n all)
+
+empty : (xs : List ℕ) → (length xs == 0) ≡ true → xs ≡ []
+empty [] e = refl
+empty (x ∷ xs) e = absurd (some (length xs) e)
+  where
+    some : (n : ℕ) → (suc n == 0) ≡ true → ⊥
+    some n e = grind (arith, nat_tests)
 
 pub returns : goal.returns
 returns c = λ text collapsed h r.
-    let own = c.loop-code.invariant.takes text collapsed h r in (
-      own.0,
-      subst (λ t. HasCollapsed c.loop-code.collapse t own.0) (ap (λ t. text ++ t) (take_all c.loop-code.code-index c.args.codes.now c.loop-code-test.false)) own.1,
-      own.2,
-    )
+    let before = c.loop-rest.invariant in
+    let none : c.loop-rest.rest.now ≡ [] = empty c.loop-rest.rest.now (let test = c.loop-rest-test.false in let says = c.is_empty.ensures in cc) in
+    let all : before.seen ≡ c.args.codes.now = sym (before.joined ∙ (ap (λ t. before.seen ++ t) none ∙ append-nil before.seen)) in
+    let own = before.takes text collapsed h r in
+    (own.0, subst (λ t. HasCollapsed c.loop-rest.collapse t own.0) (ap (λ t. text ++ t) all) own.1, own.2)

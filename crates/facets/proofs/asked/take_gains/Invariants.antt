@@ -1,12 +1,20 @@
-use Rattle.std.proofs.Common.{ℕ, List, ◌++◌, take}
+use Rattle.std.proofs.Common.{◌≡◌, ℕ, List, ◌++◌, length}
 use Rattle.data_types.specs.Collapsing.{HasCollapsed}
+use Rattle.data_types.specs.declared.collapse.Collapse.{Collapse}
+use Rattle.pattern_match.specs.Recall.{Matching}
 use Rattle.pattern_match.specs.Compiled.{HasRead, IsMadeFor}
 use Rattle.facets.proofs.asked.take_gains.Given as goal
 
--- the codes so far were taken
-abbrev pub invariant-loop-code : goal.invariant-loop-code
-invariant-loop-code l = record {
-  made : IsMadeFor l.pattern l.matcher;
-  takes : (text collapsed : List ℕ) → HasCollapsed l.initial.collapse text collapsed → HasRead l.pattern l.initial.matcher collapsed
-      → (more : List ℕ) × HasCollapsed l.collapse (text ++ take l.code-index l.codes) more × HasRead l.pattern l.matcher more;
-}
+-- the codes but for the rest were taken
+pub record HasGoneOn (bytes : List ℕ) (from to : Collapse) (old now : Matching) (codes rest : List ℕ) : Type 0 where
+  pub seen : List ℕ
+  pub joined : codes ≡ seen ++ rest
+  pub made : IsMadeFor bytes now
+  pub takes : (text collapsed : List ℕ) → HasCollapsed from text collapsed → HasRead bytes old collapsed
+      → (more : List ℕ) × HasCollapsed to (text ++ seen) more × HasRead bytes now more
+
+abbrev pub invariant-loop-rest : goal.invariant-loop-rest
+invariant-loop-rest l = HasGoneOn l.pattern l.initial.collapse l.collapse l.initial.matcher l.matcher l.codes l.rest
+
+abbrev pub decreases-loop-rest : goal.decreases-loop-rest
+decreases-loop-rest l = length l.rest

@@ -1,20 +1,39 @@
-use Rattle.std.proofs.Common.{◌++◌, sym, ap, subst, ◌∙◌, append_assoc, take_all}
-use Rattle.std.proofs.lemmas.List.{take_more}
+use Rattle.std.proofs.Common.{◌≡◌, ◌==◌, true, ℕ, suc, List, [], ◌∷◌, ◌++◌, length, take, drop, refl, sym, ap, subst, ◌∙◌, append_assoc, append-nil, take-append-drop, arith}
+use Rattle.std.proofs.lemmas.Bool.Decides.{nat_tests}
 use Rattle.pattern_match.specs.Compiled.{HasRead}
 use Rattle.pattern_match.proofs.matcher.Matcher.step_codes.Goals as goal
 
-pub loop-code-preserved : goal.loop-code-preserved
-loop-code-preserved c =
-    let before = c.loop-code.invariant in
+pub loop-rest-init : goal.loop-rest-init
+loop-rest-init c = record {
+  seen = [];
+  joined = refl;
+  made = c.requires;
+  read = λ w h. subst (HasRead c.args.pattern.now c.args.self.now) (sym (append-nil w)) h;
+}
+
+pub loop-rest-preserved : goal.loop-rest-preserved
+loop-rest-preserved c =
+    let before = c.loop-rest.invariant in
+    let rest = c.loop-rest.rest.now in
+    let count = c.step_front-count.result in
     record {
-      made = c.step.ensures.made;
-      read = λ w h.
-          subst (HasRead c.args.pattern.now c.step.new.self)
-          (append_assoc w _ _ ∙ ap (λ t. w ++ t) (sym (take_more c.args.codes.now c.loop-code.code-index 0 c.loop-code-test.true)))
-          (c.step.ensures.read _ (before.read w h));
+      seen = before.seen ++ take count rest;
+      joined = before.joined ∙ ap (λ t. before.seen ++ t) (sym (take-append-drop count rest) ∙ ap (λ t. take count rest ++ t) (sym c.split_at.ensures.back))
+          ∙ sym (append_assoc before.seen (take count rest) _);
+      made = c.step_front-count.ensures.made;
+      read = λ w h. subst (HasRead c.args.pattern.now c.step_front-count.new.self) (append_assoc w before.seen _) (c.step_front-count.ensures.read _ (before.read w h));
     }
 
+empty : (xs : List ℕ) → (length xs == 0) ≡ true → xs ≡ []
+empty [] e = refl
+empty (x ∷ xs) e = absurd (some (length xs) e)
+  where
+    some : (n : ℕ) → (suc n == 0) ≡ true → ⊥
+    some n e = grind (arith, nat_tests)
+
 pub returns-clause-read : goal.returns-clause-read
-returns-clause-read c = λ w h.
-    subst (HasRead c.args.pattern.now c.loop-code.self) (ap (λ t. w ++ t) (take_all c.loop-code.code-index c.args.codes.now c.loop-code-test.false))
-    (c.loop-code.invariant.read w h)
+returns-clause-read c w h =
+    let before = c.loop-rest.invariant in
+    let none : c.loop-rest.rest.now ≡ [] = empty c.loop-rest.rest.now (let test = c.loop-rest-test.false in let says = c.is_empty.ensures in cc) in
+    let all : before.seen ≡ c.args.codes.now = sym (before.joined ∙ (ap (λ t. before.seen ++ t) none ∙ append-nil before.seen)) in
+    subst (λ t. HasRead c.args.pattern.now c.loop-rest.self (w ++ t)) all (before.read w h)

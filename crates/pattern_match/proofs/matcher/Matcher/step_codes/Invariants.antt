@@ -1,10 +1,17 @@
-use Rattle.std.proofs.Common.{List, ℕ, ◌++◌, take}
+use Rattle.std.proofs.Common.{◌≡◌, List, ℕ, ◌++◌, length}
+use Rattle.pattern_match.specs.Recall.{Matching}
 use Rattle.pattern_match.specs.Compiled.{HasRead, IsMadeFor}
 use Rattle.pattern_match.proofs.matcher.Matcher.step_codes.Given as goal
 
--- the codes so far were read
-abbrev pub invariant-loop-code : goal.invariant-loop-code
-invariant-loop-code l = record {
-  made : IsMadeFor l.pattern l.self;
-  read : (w : List ℕ) → HasRead l.pattern l.initial.self w → HasRead l.pattern l.self (w ++ take l.code-index l.codes);
-}
+-- the codes but for the rest were read
+pub record HasGoneOn (bytes : List ℕ) (old now : Matching) (codes rest : List ℕ) : Type 0 where
+  pub seen : List ℕ
+  pub joined : codes ≡ seen ++ rest
+  pub made : IsMadeFor bytes now
+  pub read : (w : List ℕ) → HasRead bytes old w → HasRead bytes now (w ++ seen)
+
+abbrev pub invariant-loop-rest : goal.invariant-loop-rest
+invariant-loop-rest l = HasGoneOn l.pattern l.initial.self l.self l.codes l.rest
+
+abbrev pub decreases-loop-rest : goal.decreases-loop-rest
+decreases-loop-rest l = length l.rest
