@@ -1,5 +1,5 @@
 // The code of a pattern, made token by token.
-ghost use Rattle.std.specs.Prelude.{◌≡◌, ℕ, ◌+◌, ◌-◌, ◌*◌, ◌<◌, false, Option, List, [], ◌∷◌, ◌++◌, length, take, drop, slice_set, OnOk, IfOk};
+ghost use Rattle.std.specs.Prelude.{◌≡◌, ◌==◌, ℕ, ◌+◌, ◌-◌, ◌*◌, ◌<◌, false, not, IsTrue, Option, is_some, List, [], ◌∷◌, ◌++◌, length, take, drop, slice_set, OnOk, IfOk};
 ghost use Rattle.pattern_match.specs.Building.{flagged, flagged_first, copies_code, repeated_code, is_item, wrapped, closed_code, piece_code, after_atom, after_open, after_bar, after_close, after_times, after, nothing_built, built_whole, built};
 
 use crate::counter::{LIMIT, capped_sum, copies_kept};
@@ -112,6 +112,25 @@ fn fragment_from(
     Ok(fragment)
 }
 
+/// Whether one copy is kept, of which only the flags of the first instruction change.
+fn is_one_copy(least: u64, most: Option<u64>) -> bool
+    ensures { IsTrue result → (f : List Instruction) → repeated_code least most f ≡ flagged_first (least == 0) (not (is_some most)) f }
+{
+    match most {
+        Some(most) => least <= 1 && most == 1,
+        None => least <= 1,
+    }
+}
+
+/// Sets these flags on the instruction at a place.
+fn flag_at(code: &mut Vec<Instruction>, place: usize, optional: bool, repeated: bool)
+    ensures { code.new.items ≡ take place code.old.items ++ flagged_first optional repeated (drop place code.old.items) }
+{
+    if place < code.len() {
+        code[place] = with_flags(code[place], optional, repeated);
+    }
+}
+
 /// Repeats the piece of so many positions that begins at `start`, as the bounds say.
 fn repeat_piece(
     alloc: Global,
@@ -128,6 +147,10 @@ fn repeat_piece(
         return Ok(());
     }
     if positions > LIMIT {
+        return Ok(());
+    }
+    if is_one_copy(least, most) {
+        flag_at(code, start, least == 0, most.is_none());
         return Ok(());
     }
     let fragment = fragment_from(alloc, code.as_slice(), start)?;
