@@ -11,6 +11,7 @@ pub mod Token
 pub mod Tokenizers
 pub mod Words
 pub mod ReferenceScans
+pub mod References
 pub mod ScanRuns
 pub mod Scans
 pub mod EventItems
