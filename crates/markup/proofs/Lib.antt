@@ -8,6 +8,7 @@ pub mod TokenLemmas
 pub mod TokenLaw
 pub mod Runs
 pub mod ReferenceRuns
+pub mod WholeReferences
 pub mod TagRuns
 pub mod DeclarationRuns
 pub mod Complete

@@ -110,12 +110,23 @@ fn rare_size(piece: &[u8]) -> Option<usize>
     size_at(piece)
 }
 
-/// How many bytes at the front of the piece are literal.
+/// How many bytes at the front of the piece are literal. A piece that begins with none is told by its
+/// first byte.
+#[inline]
 fn literal_length(piece: &[u8]) -> usize
     ensures within { result ≤ length piece.now }
     ensures count { result ≡ prefix_len is_literal piece.now }
 {
-    run_length(&Literal, piece)
+    match piece.split_first() {
+        Some((first, _)) => {
+            if Literal.has(*first) {
+                run_length(&Literal, piece)
+            } else {
+                0
+            }
+        }
+        None => 0,
+    }
 }
 
 /// How far the characters at the front of the piece go that stand by themselves, up to the first

@@ -32,6 +32,8 @@ use crate::tokenizer::{Finish, NO_LIMIT, Progress, Settled, TAG_LIMIT, Tokenizer
 use lexical_core::Rule;
 use std::alloc::{AllocError, Global};
 
+mod references;
+
 /// A fault of markup: the rule that is broken first, of several at one place the least, and its
 /// place in bytes from 0.
 #[derive(Clone, Copy, Debug, PartialEq, Eq)]
