@@ -28,4 +28,5 @@ pub mod Bindings
 pub mod Origins
 pub mod OpenNames
 pub mod PlainTags
+pub mod WholeStarts
 pub mod Standing

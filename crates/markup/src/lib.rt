@@ -37,6 +37,7 @@ pub mod reader;
 mod reference;
 mod scan;
 mod scope;
+mod start_tag;
 mod tag;
 mod telling;
 mod tokenizer;
