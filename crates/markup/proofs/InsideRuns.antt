@@ -70,21 +70,21 @@ still_front s p f (x ∷ xs) (suc n) h = by (p x) refl h (λ k. still_front s p 
 
 -- ---- a value
 
-value_xml : (q c : ℕ) → is_literal_of q c ≡ true → is_xml_char c ≡ true
+pub value_xml : (q c : ℕ) → is_literal_of q c ≡ true → is_xml_char c ≡ true
 unfolding is_xml_char
 value_xml q c h = grind (arith, nat_tests)
 
-value_ascii : (q c : ℕ) → is_literal_of q c ≡ true → c < 128
+pub value_ascii : (q c : ℕ) → is_literal_of q c ≡ true → c < 128
 value_ascii q c h = grind (arith, nat_tests)
 
-value_not : (q c : ℕ) → is_literal_of q c ≡ true → ((c == q) ≡ false) × ((c == 38) ≡ false) × ((c == 60) ≡ false) × ((c == 13) ≡ false) × ((c == 10) ≡ false)
+pub value_not : (q c : ℕ) → is_literal_of q c ≡ true → ((c == q) ≡ false) × ((c == 38) ≡ false) × ((c == 60) ≡ false) × ((c == 13) ≡ false) × ((c == 10) ≡ false)
 value_not q c h = (grind (arith, nat_tests), grind (arith, nat_tests), grind (arith, nat_tests), grind (arith, nat_tests), grind (arith, nat_tests))
 
 value_goes : (q c : ℕ) → is_literal_of q c ≡ true → step (Value q false) c ≡ Goes (Value q false)
 value_goes q c h = let n = value_not q c h in rw (n.0, n.1, value_xml q c h, n.2, n.3) refl
 
 -- the one white space among them
-space_is : (q c : ℕ) → is_literal_of q c ≡ true → is_space c ≡ true → 32 ≡ c
+pub space_is : (q c : ℕ) → is_literal_of q c ≡ true → is_space c ≡ true → 32 ≡ c
 unfolding is_space
 space_is q c h k = grind (arith, nat_tests)
 

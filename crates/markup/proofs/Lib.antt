@@ -35,6 +35,7 @@ pub mod PlainTagLemmas
 pub mod InsideRuns
 pub mod TagScans
 pub mod LiteralRuns
+pub mod StartScans
 pub mod CharacterRuns
 pub mod TokenizerLemmas
 pub mod Pending
@@ -51,6 +52,7 @@ pub mod WholeOrFaulty
 pub mod NoCut
 pub mod EventTells
 pub mod ReaderLemmas
+pub mod StartsTold
 pub mod ResultLemmas
 pub mod Lookups
 pub mod BindingLemmas

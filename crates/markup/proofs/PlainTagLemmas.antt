@@ -94,15 +94,19 @@ begins_continues : (c : ℕ) → begins_plain c ≡ true → continues_plain c �
 begins_continues c h = first_holds (begins_plain c || is_in_range 48 57 c) (is_in_range 45 46 c) (first_holds (begins_plain c) (is_in_range 48 57 c) h)
 
 -- a plain name is its own characters
-plain_name : (name : List ℕ) → is_plain_name name ≡ true → IsPlainPart name
-plain_name [] h = absurd (both_ways false refl h)
-plain_name (c ∷ cs) h = let a = and_parts _ _ h in record {
-  local = c ∷ cs;
-  part = both _ _ (begins_name c a.0) (continue_name cs a.1);
-  encoded = ap (λ v. v ++ encode_utf8_all cs) (encode_ascii c (plain_ascii c (begins_continues c a.0))) ∙ ap (λ v. c ∷ v) (ascii_all cs a.1);
-} where
+pub plain_is_part : (name : List ℕ) → is_plain_name name ≡ true → is_part name ≡ true
+plain_is_part [] h = absurd (both_ways false refl h)
+plain_is_part (c ∷ cs) h = let a = and_parts _ _ h in both _ _ (begins_name c a.0) (continue_name cs a.1) where
   both : (x y : Bool) → x ≡ true → y ≡ true → (x && y) ≡ true
   both x y e f = cc
+
+pub plain_encoded : (name : List ℕ) → is_plain_name name ≡ true → encode_utf8_all name ≡ name
+plain_encoded [] h = absurd (both_ways false refl h)
+plain_encoded (c ∷ cs) h = let a = and_parts _ _ h in
+    ap (λ v. v ++ encode_utf8_all cs) (encode_ascii c (plain_ascii c (begins_continues c a.0))) ∙ ap (λ v. c ∷ v) (ascii_all cs a.1)
+
+plain_name : (name : List ℕ) → is_plain_name name ≡ true → IsPlainPart name
+plain_name name h = record { local = name; part = plain_is_part name h; encoded = plain_encoded name h }
 
 -- ---- the token
 
@@ -190,13 +194,13 @@ module _ (before : List Token) (opened : List ℕ) (es : List Expanded) (inside 
 
 -- ---- the reader
 
-text_place : (s : Scan) (p : Position) → is_text s ≡ true → Begin p ≡ s → is_cdata p ≡ false
+pub text_place : (s : Scan) (p : Position) → is_text s ≡ true → Begin p ≡ s → is_cdata p ≡ false
 text_place s Cdata h e = absurd (both_ways false refl (ap is_text e ∙ h))
 text_place s AtStart h e = refl
 text_place s AfterMark h e = refl
 text_place s Text h e = refl
 
-text_between : (s : Scan) → is_text s ≡ true → is_between s ≡ true
+pub text_between : (s : Scan) → is_text s ≡ true → is_between s ≡ true
 text_between (Begin Text) h = refl
 text_between _ h = absurd (both_ways false refl h)
 

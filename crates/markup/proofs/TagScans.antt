@@ -81,10 +81,10 @@ name_found b behind xs name n e h c t = subst (λ v. is_plain_name v ≡ true) (
       one n = omega arith
 
 -- what closes a start tag
-kind_same : (k l : TagKind) → Some k ≡ Some l → k ≡ l
+pub kind_same : (k l : TagKind) → Some k ≡ Some l → k ≡ l
 kind_same k l h = cc
 
-slashed_is : (after : List ℕ) (kind : TagKind) → slashed after ≡ Some kind → (rest : List ℕ) × (kind ≡ Empty) × (after ≡ 62 ∷ rest)
+pub slashed_is : (after : List ℕ) (kind : TagKind) → slashed after ≡ Some kind → (rest : List ℕ) × (kind ≡ Empty) × (after ≡ 62 ∷ rest)
 slashed_is [] kind h = absurd (cc)
 slashed_is (b ∷ rest) kind h = by (b == 62) refl h where
   by : (t : Bool) → (b == 62) ≡ t → (if t then Some Empty else None) ≡ Some kind → (r : List ℕ) × (kind ≡ Empty) × (b ∷ rest ≡ 62 ∷ r)

@@ -52,7 +52,7 @@ module _ {limit : ℕ} (r : Reader) (bytes : List ℕ) (told : List Placed) (h :
   fresh : IsFresh z
   fresh = is_fresh z between starts (reverse ts) h.1.reads.bytes h.1.reads.opens
 
-  none_open : h.1.reads.bytes ≡ []
+  pub none_open : h.1.reads.bytes ≡ []
   none_open = no_bytes h.1.reads.bytes z.place z.start h.1.reads.opens.place_is (eqb-true z.place z.start starts)
 
   pub begins_here : length (flat_map token_bytes ts) ≡ length bytes

@@ -29,4 +29,5 @@ pub mod Inside
 pub mod ReaderSteps
 pub mod Origins
 pub mod TagParts
+pub mod WholeStarts
 pub mod Standing

@@ -198,7 +198,7 @@ fn named(
 }
 
 /// A text of these bytes.
-fn text_of(bytes: &[u8], alloc: Global) -> Result<Text, AllocError>
+pub(crate) fn text_of(bytes: &[u8], alloc: Global) -> Result<Text, AllocError>
     ensures { IfOk result (λ t. t ≡ bytes.now) }
 {
     Ok(Text::from_vec(Vec::from_slice(alloc, bytes)?))

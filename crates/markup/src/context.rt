@@ -260,7 +260,12 @@ impl Context {
     }
 
     /// Takes a start tag.
-    fn take_start(&mut self, tag: Opening, place: u64, out: &mut Events) -> Result<(), Stop>
+    pub(crate) fn take_start(
+        &mut self,
+        tag: Opening,
+        place: u64,
+        out: &mut Events,
+    ) -> Result<(), Stop>
         ensures { (before : List Token) (t : StartTag) → IsContext self.old before → opening t ≡ tag → TokenTaken before (Start t) place out.old out.new self.new result }
     {
         let over = self.is_over();

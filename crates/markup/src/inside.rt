@@ -23,7 +23,7 @@ fn is_passed(end: u8, byte: u8) -> bool
 
 /// How many bytes at the front of the piece stand for themselves in a value in these quotes.
 #[inline]
-fn value_length(quote: char, piece: &[u8]) -> usize
+pub(crate) fn value_length(quote: char, piece: &[u8]) -> usize
     ensures within { result ≤ length piece.now }
     ensures count { result ≤ prefix_len (is_literal_of quote) piece.now }
 {

@@ -38,6 +38,7 @@ mod reference;
 mod references;
 mod scan;
 mod scope;
+mod start_tag;
 mod tag;
 mod telling;
 mod tokenizer;

@@ -33,7 +33,7 @@ pub struct PlainTag<'a> {
 
 /// Whether a name may begin with the byte.
 #[inline]
-fn begins_plain(byte: u8) -> bool
+pub(crate) fn begins_plain(byte: u8) -> bool
     ensures { result ≡ begins_plain byte }
 {
     byte.is_ascii_lowercase() || byte.is_ascii_uppercase() || byte == b'_'
@@ -50,7 +50,7 @@ pub(crate) fn name_length(piece: &[u8]) -> usize
 
 /// The kind of start tag that ends with the bytes behind its name.
 #[inline]
-fn closing(behind: &[u8]) -> Option<TagKind>
+pub(crate) fn closing(behind: &[u8]) -> Option<TagKind>
     ensures { result ≡ closing behind.now }
 {
     let Some((first, rest)) = behind.split_first() else {
@@ -74,7 +74,7 @@ fn closing(behind: &[u8]) -> Option<TagKind>
 
 /// How many bytes a tag has beside its name.
 #[inline]
-fn mark_count(kind: TagKind) -> usize
+pub(crate) fn mark_count(kind: TagKind) -> usize
     ensures { result ≡ mark_count kind }
 {
     match kind {

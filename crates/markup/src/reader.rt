@@ -22,6 +22,8 @@ ghost use Rattle.markup.specs.Tokenizers.{is_in_text};
 ghost use Rattle.markup.specs.Reading.{taken, failed, token, token_length, HasTaken, HasTakenUnder, HasToldUnder, IsInsideUnder, MayTakeTagUnder, Keeps, GoesOnUnder, StopsUnder, IsWhollyUnder, EndsEarlyUnder, RunsOutUnder};
 ghost use Rattle.markup.specs.Inputs.{Any, Begins, is_return};
 
+mod starts;
+
 use crate::context::Context;
 use crate::event::Events;
 use crate::literals::{Run, blank_length, literal_run};

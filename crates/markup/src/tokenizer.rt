@@ -54,7 +54,7 @@ pub(crate) enum Finish {
 /// A reader of tokens that takes a byte at a time.
 #[derive(Drop)]
 pub(crate) struct Tokenizer {
-    alloc: Global,
+    pub(crate) alloc: Global,
     /// The greatest length of a tag in bytes.
     limit: u64,
     utf8: Utf8Step,

@@ -1,0 +1,159 @@
+-- A reader behind a start tag that it takes whole, and one that refuses it.
+use Rattle.std.proofs.Common.{◌≡◌, ℕ, true, false, ◌+◌, List, [], ◌∷◌, ◌++◌, length, take, drop, reverse, Option, Some, None, ⊎_elim, refl, sym, ◌∙◌, ap, subst, append_assoc, append-nil, arith}
+use Rattle.std.specs.Bool.{if◌then◌else◌}
+use Rattle.std.specs.List.{flat_map}
+use Rattle.std.specs.Option.{IfSome, IsSome}
+use Rattle.std.proofs.lemmas.Bool.{and_parts, eqb-true, le-leb}
+use Rattle.std.proofs.lemmas.List.{length-take-le, take-append-drop}
+use Rattle.lexical_core.specs.declared.rule.Rule.{Rule}
+use Rattle.markup.specs.Token.{Token, Start, token_bytes, is_start_tag}
+use Rattle.markup.specs.Marks.{in_cdata, stands, is_short, Cell, Front}
+use Rattle.markup.specs.Events.{Placed, events, items_of}
+use Rattle.markup.specs.EventItems.{Tells, TellsFront, TellsClean}
+use Rattle.markup.specs.Faults.{rule_of, MarkFaultUnder, broken}
+use Rattle.markup.specs.Scopes.{placed_at}
+use Rattle.markup.specs.Contexts.{TakesToken}
+use Rattle.markup.specs.Reading.{HasTakenUnder, HasToldUnder, GoesOnUnder, RefusesUnder, RunsOutUnder}
+use Rattle.markup.specs.Tokenizers.{is_between, is_in_text, passed}
+use Rattle.markup.specs.WholeStarts.{IsStartAt}
+use Rattle.markup.specs.declared.context.Context.{Context}
+use Rattle.markup.specs.declared.event.Event.{Event}
+use Rattle.markup.specs.declared.reader.Reader.{Reader}
+use Rattle.markup.specs.declared.start_tag.WholeStart.{WholeStart}
+use Rattle.markup.specs.declared.tag.Opening.{Opening}
+use Rattle.markup.proofs.EventLemmas.{events_snoc}
+use Rattle.markup.proofs.EventTells.{tells_none}
+use Rattle.markup.proofs.InputLemmas.{front_snoc, clean_snoc}
+use Rattle.markup.proofs.NoCut.{stays_no_cut}
+use Rattle.markup.proofs.OneFault.{behind}
+use Rattle.markup.proofs.PlainLemmas.{is_fresh}
+use Rattle.markup.proofs.PlainTagLemmas.{text_place, text_between}
+use Rattle.markup.proofs.ReaderLemmas.{told_so_far, starts}
+use Rattle.markup.proofs.TokenRuleLemmas.{in_cdata-open}
+use Rattle.markup.proofs.WholeTokens.{IsNext, none_open, all_told, takes_next}
+
+-- the tag that was found
+pub some_holds : (piece : List ℕ) (o : Option WholeStart) (s : WholeStart) → o ≡ Some s → IfSome o (λ t. IsStartAt piece t.tag t.bytes) → IsStartAt piece s.tag s.bytes
+some_holds piece o s e h = subst (λ v. IfSome v (λ t. IsStartAt piece t.tag t.bytes)) e h
+
+pub some_ready : (r : Reader) (o : Option WholeStart) (s : WholeStart) → o ≡ Some s → (IsSome o → is_in_text r.tokenizer ≡ true) → is_in_text r.tokenizer ≡ true
+some_ready r o s e h = h (subst IsSome (sym e) refl)
+
+module _ {limit : ℕ} (r : Reader) (bytes piece : List ℕ) (told : List Placed) (h : HasTakenUnder limit r bytes told) (old new : List Event) where
+  abbrev ts : List Token
+  ts = h.0
+
+  abbrev before : List Token
+  before = reverse ts
+
+  -- nothing of the piece is taken where memory runs out before its first token
+  pub stays_out : is_in_text r.tokenizer ≡ true → new ≡ old → RunsOutUnder limit (bytes ++ piece) told old new
+  stays_out text e = record {
+    front = [];
+    behind = [];
+    tokens = ts;
+    rest = h.1.reads.bytes ++ piece;
+    front_is = h.1.reads.front piece tt;
+    clean = h.1.clean;
+    events_are = append-nil told ∙ all_told r bytes told h (text_between r.tokenizer.scan (and_parts _ _ text).0) (and_parts _ _ text).1;
+    tells = tells_none old new e;
+  }
+
+  module _ (tag : Opening) (count : ℕ) (text : is_in_text r.tokenizer ≡ true) (at : IsStartAt piece tag count) where
+    abbrev token : Token
+    token = Start at.start
+
+    between : is_between r.tokenizer.scan ≡ true
+    between = text_between r.tokenizer.scan (and_parts _ _ text).0
+
+    pub place_is : r.tokenizer.start ≡ length bytes
+    place_is = sym (eqb-true r.tokenizer.place r.tokenizer.start (and_parts _ _ text).1) ∙ h.1.place
+
+    no_cdata : in_cdata before ≡ false
+    no_cdata = in_cdata-open r.tokenizer before h.1.reads.bytes h.1.reads.opens ∙ text_place r.tokenizer.scan r.tokenizer.position (and_parts _ _ text).0 (is_fresh r.tokenizer between (and_parts _ _ text).1 before h.1.reads.bytes h.1.reads.opens).scan_here
+
+    size : count ≡ length (token_bytes token)
+    size = sym (length-take-le count piece at.within) ∙ ap length at.spelled
+
+    stands_here : (after : List ℕ) → stands before token after ≡ true
+    stands_here after = ap (λ b. if b then false else is_start_tag at.start) no_cdata ∙ at.is
+
+    short : is_short limit token ≡ true
+    short = le-leb _ _ (omega (arith, size, at.short, h.1.reads.opens.limited.0))
+
+    next : rule_of before token ≡ None → IsNext limit before token
+    next clean = record { is = stands_here; short = short; clean = clean; stays = λ p. refl }
+
+    whole : piece ≡ token_bytes token ++ drop count piece
+    whole = sym (take-append-drop count piece) ∙ ap (λ v. v ++ drop count piece) at.spelled
+
+    fronts : (more : List ℕ) → Front limit [] ((bytes ++ piece) ++ more) ts (piece ++ more)
+    fronts more = subst (λ v. Front limit [] v ts (piece ++ more)) (sym (append_assoc bytes piece more))
+        (subst (λ v. Front limit [] (bytes ++ (piece ++ more)) ts (v ++ (piece ++ more))) (none_open r bytes told h between (and_parts _ _ text).1) (h.1.reads.front (piece ++ more) tt))
+
+    cell : (more : List ℕ) → Cell before token (piece ++ more) (drop count piece ++ more)
+    cell more = record { spelled = ap (λ v. v ++ more) whole ∙ append_assoc (token_bytes token) (drop count piece) more; is = stands_here (drop count piece ++ more) }
+
+    so_far : told ≡ events [] 0 ts
+    so_far = all_told r bytes told h between (and_parts _ _ text).1
+
+    -- the tag breaks no rule
+    pub goes_behind : (c : Context) → TakesToken before token r.tokenizer.start old new c → GoesOnUnder limit (record { tokenizer = passed r.tokenizer count; context = c; failed = r.failed }) (bytes ++ take count piece) told old new
+    goes_behind c t =
+        let after : Reader = record { tokenizer = passed r.tokenizer count; context = c; failed = r.failed } in
+        let more : List Placed = placed_at (length bytes) (items_of before token) in
+        let k : HasToldUnder limit after (bytes ++ token_bytes token) (told ++ more) =
+        told_so_far after (bytes ++ token_bytes token) (told ++ more) (takes_next r bytes told h between (and_parts _ _ text).1 token count c (next t.clean) size t.context_is) in
+        subst (λ v. GoesOnUnder limit after (bytes ++ v) told old new) (sym at.spelled) (record {
+          more = more;
+          tells = subst (λ p. Tells old new (placed_at p (items_of before token))) place_is t.tells;
+          taken_are = k.taken_are;
+          are_events = k.are_events;
+          only_cut = k.only_cut;
+        })
+
+    -- it breaks one
+    pub refuses_start : (rule : Rule) → rule_of before token ≡ Some rule → new ≡ old → RefusesUnder limit (bytes ++ piece) told old new (record { rule = rule; place = r.tokenizer.start })
+    refuses_start rule b e = record {
+      more = [];
+      tells = tells_none old new e;
+      tokens = ts;
+      rest = piece;
+      front = fronts;
+      clean = h.1.clean;
+      before = sym (starts r bytes ts told h.1);
+      events_are = append-nil told ∙ so_far;
+      has_fault = shown;
+      no_cut = stays_no_cut (bytes ++ piece) (record { rule = rule; place = r.tokenizer.start }) shown;
+    } where
+      shown : (more : List ℕ) → MarkFaultUnder limit ((bytes ++ piece) ++ more) (record { rule = rule; place = r.tokenizer.start })
+      shown more = record {
+        tokens = ts;
+        rest = piece ++ more;
+        at = 0;
+        front = fronts more;
+        clean = h.1.clean;
+        next = broken token (drop count piece ++ more) (cell more) short b refl;
+        place = starts r bytes ts told h.1 ∙ sym (zero_more (length (flat_map token_bytes ts)));
+      } where
+        zero_more : (n : ℕ) → n + 0 ≡ n
+        zero_more n = omega arith
+
+    here : Front limit [] (bytes ++ piece) ts piece
+    here = subst (λ v. Front limit [] (bytes ++ piece) ts (v ++ piece)) (none_open r bytes told h between (and_parts _ _ text).1) (h.1.reads.front piece tt)
+
+    -- memory runs out while its events are told
+    begun_out : rule_of before token ≡ None → TellsFront old new (placed_at r.tokenizer.start (items_of before token)) → RunsOutUnder limit (bytes ++ piece) told old new
+    begun_out clean t = record {
+      front = t.front;
+      behind = t.behind;
+      tokens = ts ++ token ∷ [];
+      rest = drop count piece;
+      front_is = front_snoc limit [] (bytes ++ piece) piece (drop count piece) ts token here (subst (λ b. Cell b token piece (drop count piece)) (behind ts) (record { spelled = whole; is = stands_here (drop count piece) })) short;
+      clean = clean_snoc ts token h.1.clean clean;
+      events_are = ap (λ v. told ++ v) (sym t.front_is) ∙ (ap (λ p. told ++ placed_at p (items_of before token)) (starts r bytes ts told h.1) ∙ (ap (λ v. v ++ placed_at (length (flat_map token_bytes ts)) (items_of before token)) so_far ∙ sym (events_snoc ts token)));
+      tells = t.tells;
+    }
+
+    pub start_out : TellsClean (rule_of before token) old new (placed_at r.tokenizer.start (items_of before token)) → RunsOutUnder limit (bytes ++ piece) told old new
+    start_out t = ⊎_elim (λ c. begun_out c t.0) (λ s. stays_out text s) t.1

@@ -1,0 +1,55 @@
+-- Start tags that a reader takes whole with their attributes: names of ASCII letters, digits, `-`, `.` and `_`, one space before each attribute, and values of ASCII that stand for themselves (XML 1.0 §3.1).
+use Rattle.std.specs.Prelude.{◌≡◌, ℕ, Bool, ◌==◌, ◌||◌, ◌<◌, ◌≤◌, true, false, List, ◌∷◌, ◌++◌, length, take, map, encode_utf8_all}
+use Rattle.std.specs.List.{list_all, flat_map}
+use Rattle.markup.specs.Attribute.{Attribute, is_attribute, attribute_text}
+use Rattle.markup.specs.Token.{StartTag, Start, is_start_tag, token_bytes}
+use Rattle.markup.specs.Marks.{tag_limit}
+use Rattle.markup.specs.Events.{opening}
+use Rattle.markup.specs.Events.{given as given_by}
+use Rattle.markup.specs.PlainTags.{is_plain_name}
+use Rattle.markup.specs.Inside.{is_literal_of}
+use Rattle.markup.specs.declared.plain_tag.TagKind.{TagKind}
+use Rattle.markup.specs.declared.plain_tag.TagKind.TheVariants.{Empty}
+use Rattle.markup.specs.declared.tag.Given.{Given}
+use Rattle.markup.specs.declared.tag.Opening.{Opening}
+
+-- one of the two kinds of quotes
+abbrev pub is_quote : ℕ → Bool
+is_quote b = b == 34 || b == 39
+
+-- The bytes begin with a value in quotes whose bytes stand for themselves.
+pub record IsValueAt (bytes value behind : List ℕ) : Type 0 where
+  pub quote : ℕ
+  pub spelled : bytes ≡ quote ∷ (value ++ quote ∷ behind)
+  pub quoted : is_quote quote ≡ true
+  pub literal : list_all (is_literal_of quote) value ≡ true
+
+-- The bytes begin with a space, a plain name, `=` and a value in quotes whose bytes stand for themselves.
+pub record IsAttributeAt (bytes name value behind : List ℕ) : Type 0 where
+  pub quote : ℕ
+  pub spelled : bytes ≡ 32 ∷ (name ++ 61 ∷ quote ∷ (value ++ quote ∷ behind))
+  pub quoted : is_quote quote ≡ true
+  pub named : is_plain_name name ≡ true
+  pub literal : list_all (is_literal_of quote) value ≡ true
+
+-- The bytes begin with attributes that give this, and then the rest.
+pub record AreGiven (bytes : List ℕ) (given : List Given) (rest : List ℕ) : Type 0 where
+  pub attributes : List Attribute
+  pub are : list_all is_attribute attributes ≡ true
+  pub spelled : bytes ≡ encode_utf8_all (flat_map attribute_text attributes) ++ rest
+  pub give : map given_by attributes ≡ given
+
+-- it is the tag of an empty element
+abbrev pub is_empty_kind : TagKind → Bool
+is_empty_kind Empty = true
+is_empty_kind _ = false
+
+-- So many bytes at the front of the piece are a start tag that says this.
+pub record IsStartAt (piece : List ℕ) (tag : Opening) (count : ℕ) : Type 0 where
+  pub start : StartTag
+  pub is : is_start_tag start ≡ true
+  pub spelled : take count piece ≡ token_bytes (Start start)
+  pub says : opening start ≡ tag
+  pub some : 0 < count
+  pub within : count ≤ length piece
+  pub short : count ≤ tag_limit

@@ -1,0 +1,83 @@
+// Start tags with attributes that a reader takes whole.
+ghost use Rattle.std.specs.Prelude.{◌≡◌, ◌<◌, ◌≤◌, ◌^◌, ◌+◌, ◌++◌, ℕ, List, IfOk, IfErr, IfSome, IsSome, Some, None, Err, true, length, take};
+ghost use Rattle.markup.specs.Events.{Placed};
+ghost use Rattle.markup.specs.Reading.{taken, failed, HasTakenUnder, GoesOnUnder, StopsUnder};
+ghost use Rattle.markup.specs.Tokenizers.{is_in_text};
+ghost use Rattle.markup.specs.WholeStarts.{IsStartAt};
+
+use super::{MarkError, MarkFault, Reader};
+use crate::event::Events;
+use crate::scope::Stop;
+use crate::start_tag::{WholeStart, start_at};
+use std::alloc::AllocError;
+
+impl Reader {
+    /// Takes the start tag that stands whole at the front of the piece, where no token is open, and
+    /// appends its events: with names of ASCII letters, digits, `-`, `.` and `_`, attributes behind one
+    /// space each, and values of ASCII without references, tabs and line ends, in either kind of quotes
+    /// (XML 1.0 §3.1). It answers how many bytes the tag has, 0 where no such tag is taken; any
+    /// other token is for `take`. A fault of the tag is told as `take` tells it with the tag's last
+    /// byte. Where there is no memory, and after an error, it answers as `take` does.
+    pub fn take_start(&mut self, piece: &[u8], out: &mut Events) -> Result<usize, MarkError>
+        requires { failed self.old ≡ None → taken self.old + length piece.now ≤ 2 ^ 40 }
+        ensures none { IfOk result (λ n. n ≡ 0 → (self.new ≡ self.old) × (out.new ≡ out.old)) }
+        ensures within { IfOk result (λ n. n ≤ length piece.now) }
+        ensures ok { (limit : ℕ) (bytes : List ℕ) (told : List Placed) → HasTakenUnder limit self.old bytes told →
+            IfOk result (λ n. 0 < n → GoesOnUnder limit self.new (bytes ++ take n piece.now) told out.old out.new) }
+        ensures err { (limit : ℕ) (bytes : List ℕ) (told : List Placed) → HasTakenUnder limit self.old bytes told →
+            IfErr result (λ e. StopsUnder limit (bytes ++ piece.now) told out.old out.new e) }
+        ensures count { IfOk result (λ n. taken self.new ≡ taken self.old + n) }
+        ensures failed { IfErr result (λ e. failed self.new ≡ Some e) }
+        ensures again { (e : MarkError) → failed self.old ≡ Some e → (result ≡ Err e) × (self.new ≡ self.old) × (out.new ≡ out.old) }
+    {
+        if let Some(error) = self.failed {
+            return Err(error);
+        }
+        let result = self.step_start(piece, out);
+        if let Err(error) = result {
+            self.failed = Some(error);
+        }
+        result
+    }
+
+    /// Takes such a start tag, where the reader has not failed.
+    fn step_start(&mut self, piece: &[u8], out: &mut Events) -> Result<usize, MarkError>
+        requires { taken self.old + length piece.now ≤ 2 ^ 40 }
+        ensures none { IfOk result (λ n. n ≡ 0 → (self.new ≡ self.old) × (out.new ≡ out.old)) }
+        ensures within { IfOk result (λ n. n ≤ length piece.now) }
+        ensures ok { (limit : ℕ) (bytes : List ℕ) (told : List Placed) → HasTakenUnder limit self.old bytes told →
+            IfOk result (λ n. 0 < n → GoesOnUnder limit self.new (bytes ++ take n piece.now) told out.old out.new) }
+        ensures err { (limit : ℕ) (bytes : List ℕ) (told : List Placed) → HasTakenUnder limit self.old bytes told →
+            IfErr result (λ e. StopsUnder limit (bytes ++ piece.now) told out.old out.new e) }
+        ensures count { IfOk result (λ n. taken self.new ≡ taken self.old + n) }
+    {
+        let place = self.tokenizer.start();
+        let start = match self.next_start(piece) {
+            Ok(Some(start)) => start,
+            Ok(None) => return Ok(0),
+            Err(_) => return Err(MarkError::Memory),
+        };
+        let WholeStart { tag, bytes } = start;
+        match self.context.take_start(tag, place, out) {
+            Ok(()) => {
+                self.tokenizer.pass(bytes as u64);
+                Ok(bytes)
+            }
+            Err(Stop::Rule(rule)) => Err(MarkError::Refused(MarkFault { rule, place })),
+            Err(Stop::Memory) => Err(MarkError::Memory),
+        }
+    }
+
+    /// The start tag at the front of the piece, where one may come.
+    #[inline]
+    fn next_start(&self, piece: &[u8]) -> Result<Option<WholeStart>, AllocError>
+        ensures ready { IfOk result (λ o. IsSome o → is_in_text self.now.tokenizer ≡ true) }
+        ensures found { IfOk result (λ o. IfSome o (λ start. IsStartAt piece.now start.tag start.bytes)) }
+        ensures begun { IfErr result (λ _. is_in_text self.now.tokenizer ≡ true) }
+    {
+        if !self.tokenizer.is_in_text() {
+            return Ok(None);
+        }
+        start_at(piece, self.tokenizer.alloc)
+    }
+}
