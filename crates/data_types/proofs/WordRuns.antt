@@ -3,7 +3,7 @@ use Rattle.std.proofs.Common.{◌≡◌, ◌≢◌, ℕ, zero, suc, ◌+◌, ◌
 use Rattle.std.specs.List.{AllByRecursion, prefix_len}
 use Rattle.std.proofs.lemmas.Bool.Decides.{nat_tests}
 use Rattle.lexical_core.specs.Characters.{IsSpace}
-use Rattle.data_types.specs.Words.{is_word_code}
+use Rattle.data_types.specs.inner.Words.{is_word_code}
 
 no_space : (c : ℕ) → is_word_code c ≡ true → IsSpace c → ⊥
 no_space c e (inl i) = absurd (let no : is_word_code 32 ≡ true = subst (λ x. is_word_code x ≡ true) i e in cc)

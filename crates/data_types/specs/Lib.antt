@@ -13,7 +13,7 @@ pub mod OctetSteps
 pub mod ShortTexts
 pub mod LeafAnswers
 pub mod LeafSteps
-pub mod Words
 pub mod Canonical
 pub mod Escaping
 pub mod Value
+pub mod inner

@@ -2,7 +2,7 @@
 ghost use Rattle.std.specs.Prelude.{◌≡◌, ◌≤◌, ◌<◌, length, take, slice_index};
 ghost use Rattle.std.specs.List.{AllByRecursion};
 ghost use Rattle.lexical_core.specs.Characters.{IsSpace};
-ghost use Rattle.data_types.specs.Words.{is_word_code};
+ghost use Rattle.data_types.specs.inner.Words.{is_word_code};
 
 use lexical_core::{ByteClass, is_space, run_length};
 use std::simd::prelude::*;

@@ -5,7 +5,7 @@ use Rattle.std.proofs.lemmas.Bool.{eqb-false, ne_eqb}
 use Rattle.pattern_match.specs.Expression.{Item, One as OneItem, Range, Spaces, Hyphen, Atom, Character, Dot, Escape, Space, Class, Quantifier, Once, Optional, AnyNumber, OneOrMore, Exactly, AtLeast, Between, Expression, Empty, Piece, Group, Choice}
 use Rattle.pattern_match.specs.Valid.{IsBranch, IsExpression}
 use Rattle.pattern_match.specs.Positions.{copies, positions}
-use Rattle.pattern_match.specs.Plan.{Plan, Nothing, One, Either, size}
+use Rattle.pattern_match.specs.inner.Plan.{Plan, Nothing, One, Either, size}
 use Rattle.pattern_match.specs.Building.{Built, capped, flagged_first, repeated_code, kept, sum_of, is_branch_empty, is_item, wrapped, after_atom, after_open, after_bar, after_close_of, after_close, closed_code, piece_code, after_times, built, nothing_built, built_whole}
 use Rattle.pattern_match.specs.declared.instruction.Instruction.{Instruction}
 use Rattle.pattern_match.specs.declared.instruction.Instruction.TheVariants.{Take, Open, Bar, Close}

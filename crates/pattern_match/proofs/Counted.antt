@@ -1,7 +1,7 @@
 -- The positions that are counted are those that the code is built by.
 use Rattle.std.proofs.Common.{◌≡◌, ℕ, ◌+◌, Bool, true, false, cond, List, [], ◌∷◌, ◌++◌, length, map, refl, sym, ap, ◌∙◌}
 use Rattle.pattern_match.specs.Building.{Built, sum_of, is_branch_empty, after_bar, after_close_of, after_open, after, built, built_whole, nothing_built}
-use Rattle.pattern_match.specs.Counting.{Counted, counted_bar, counted_close_of, counted_close, counted_after, counted, counted_whole}
+use Rattle.pattern_match.specs.inner.Counting.{Counted, counted_bar, counted_close_of, counted_close, counted_after, counted, counted_whole}
 use Rattle.pattern_match.specs.declared.instruction.Instruction.TheVariants.{Bar as BarCode}
 use Rattle.pattern_match.specs.declared.instruction.Begun.{Begun}
 use Rattle.pattern_match.specs.declared.token.Token.{Token}

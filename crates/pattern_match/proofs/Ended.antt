@@ -2,7 +2,7 @@
 use Rattle.std.proofs.Common.{◌≡◌, ℕ, suc, ◌+◌, ◌<◌, ◌≤◌, false, List, [], ◌∷◌, chars, length, take, drop, replicate, refl, sym, ap, ◌∙◌, subst, arith, append-nil, zero-add, suc-add, drop_of_length-le}
 use Rattle.std.proofs.lemmas.List.{length-replicate, replicate-append-replicate, take_at}
 use Rattle.std.proofs.Math.Seq.{take-length}
-use Rattle.pattern_match.specs.Plan.{Plan, Nothing, One, Many, Either, size, code_then}
+use Rattle.pattern_match.specs.inner.Plan.{Plan, Nothing, One, Many, Either, size, code_then}
 use Rattle.pattern_match.specs.Marks.{Walk, AreEnded, Lists, IsDone}
 use Rattle.pattern_match.specs.Compiled.{IsCompiled}
 use Rattle.pattern_match.specs.declared.instruction.Instruction.{Instruction}

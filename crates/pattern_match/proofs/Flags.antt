@@ -1,7 +1,7 @@
 -- A part that may be left out or repeated, of a part that may be: the flags of both.
 use Rattle.std.proofs.Common.{◌≡◌, ℕ, zero, suc, ◌+◌, ◌≤◌, ◌↔◌, inl, inr, Bool, true, false, ◌||◌, List, [], ◌++◌, refl, sym, ap, ◌∙◌, subst, arith, append-nil}
 use Rattle.pattern_match.specs.Language.{Repeats, IsBoth}
-use Rattle.pattern_match.specs.Plan.{Flagged}
+use Rattle.pattern_match.specs.inner.Plan.{Flagged}
 use Rattle.pattern_match.proofs.Planning.{both_map, repeats_add, repeats_map}
 
 -- how many parts flags allow

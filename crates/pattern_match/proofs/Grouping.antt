@@ -1,7 +1,7 @@
 -- The plan of a group: without marks where it has one item, and without its empty branches.
 use Rattle.std.proofs.Common.{◌≡◌, ℕ, ◌⊎◌, ◌↔◌, inl, inr, Bool, true, false, ◌||◌, cond, List, [], refl, ⊎_elim}
 use Rattle.pattern_match.specs.Language.{IsBoth}
-use Rattle.pattern_match.specs.Plan.{Plan, Nothing, One, Many, Either, Flagged, IsTaken, PlanLang, IsOneBranch, IsPlan}
+use Rattle.pattern_match.specs.inner.Plan.{Plan, Nothing, One, Many, Either, Flagged, IsTaken, PlanLang, IsOneBranch, IsPlan}
 use Rattle.pattern_match.proofs.Planning.{iff_both, both_map}
 use Rattle.pattern_match.proofs.Flags.{compose, flagged_both, both_nothing}
 

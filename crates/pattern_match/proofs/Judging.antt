@@ -6,7 +6,7 @@ use Rattle.pattern_match.specs.Reading.{IsTreeOf, IsPattern, HasMorePositions, H
 use Rattle.pattern_match.specs.Spelling.{spelling}
 use Rattle.pattern_match.specs.Tokens.{emitted}
 use Rattle.pattern_match.specs.Building.{capped, limit, built_whole}
-use Rattle.pattern_match.specs.Counting.{counted_whole}
+use Rattle.pattern_match.specs.inner.Counting.{counted_whole}
 use Rattle.pattern_match.specs.Compiled.{tokens_of_text, code_of_text}
 use Rattle.pattern_match.specs.declared.control.Control.TheVariants.{Start}
 use Rattle.pattern_match.proofs.Tokens.{tokens_then}

@@ -6,7 +6,7 @@ use Rattle.pattern_match.specs.Valid.{IsExpression, IsBranch}
 use Rattle.pattern_match.specs.Positions.{positions}
 use Rattle.pattern_match.specs.Language.{IsBoth, Lang, IsQuantified, Repeats}
 use Rattle.pattern_match.specs.Reading.{IsTreeOf, HasPositionsWithin, Matches, IsDecided}
-use Rattle.pattern_match.specs.Plan.{Plan, Nothing, One, Many, Either, size, Flagged, IsTaken, PlanLang, Begins, Ends, Marked, IsOneBranch, IsPlan}
+use Rattle.pattern_match.specs.inner.Plan.{Plan, Nothing, One, Many, Either, size, Flagged, IsTaken, PlanLang, Begins, Ends, Marked, IsOneBranch, IsPlan}
 use Rattle.pattern_match.specs.Marking.{first_pass, second_pass}
 use Rattle.pattern_match.specs.Token.{admits}
 use Rattle.pattern_match.specs.Building.{limit}

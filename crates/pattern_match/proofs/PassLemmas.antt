@@ -1,7 +1,7 @@
 -- What the two passes over the instructions of a plan leave, by induction on the plan.
 use Rattle.std.proofs.Common.{◌≡◌, ℕ, suc, ◌+◌, ◌⊎◌, ◌↔◌, inl, inr, Bool, true, false, ◌||◌, ◌&&◌, IsTrue, List, [], ◌∷◌, ◌++◌, refl, sym, ap, ◌∙◌, subst, ⊎_elim, get_or, arith, zero-add, add-zero, suc-add, append-nil, append_assoc}
 use Rattle.pattern_match.specs.Language.{IsBoth}
-use Rattle.pattern_match.specs.Plan.{Plan, Nothing, One, Many, Either, size, code_then, Flagged, IsTaken, PlanLang, Begins, Ends, Marked, IsOneBranch, IsPlan}
+use Rattle.pattern_match.specs.inner.Plan.{Plan, Nothing, One, Many, Either, size, code_then, Flagged, IsTaken, PlanLang, Begins, Ends, Marked, IsOneBranch, IsPlan}
 use Rattle.pattern_match.specs.Marking.{frame, with_group, first_pass, second_pass}
 use Rattle.pattern_match.specs.declared.instruction.Instruction.{Instruction}
 use Rattle.pattern_match.specs.declared.instruction.Instruction.TheVariants.{Bar, Close}

@@ -5,7 +5,7 @@ use Rattle.pattern_match.specs.Expression.{Atom, Quantifier, Expression, Empty, 
 use Rattle.pattern_match.specs.Valid.{IsAtom, IsBranch, IsExpression}
 use Rattle.pattern_match.specs.Positions.{copies, positions}
 use Rattle.pattern_match.specs.Language.{IsBoth, IsQuantified, IsOneOf, Lang}
-use Rattle.pattern_match.specs.Plan.{Plan, Nothing, One, Either, Flagged, IsTaken, PlanLang}
+use Rattle.pattern_match.specs.inner.Plan.{Plan, Nothing, One, Either, Flagged, IsTaken, PlanLang}
 use Rattle.pattern_match.specs.Token.{admits, first_admits}
 use Rattle.pattern_match.specs.declared.token.Token.{Token}
 use Rattle.pattern_match.specs.declared.token.Token.TheVariants.{Open as OpenToken, Close as CloseToken, Bar as BarToken}

@@ -5,7 +5,7 @@ use Rattle.pattern_match.specs.Expression.{Quantifier, Once, Optional, AnyNumber
 use Rattle.pattern_match.specs.Valid.{IsExpression, IsQuantifier, number}
 use Rattle.pattern_match.specs.Positions.{copies, positions}
 use Rattle.pattern_match.specs.Language.{Repeats, IsBoth, Allows, IsQuantified, IsOneOf, Lang}
-use Rattle.pattern_match.specs.Plan.{Plan, Star, Flagged, PlanLang}
+use Rattle.pattern_match.specs.inner.Plan.{Plan, Star, Flagged, PlanLang}
 
 -- the least and the greatest number of parts that a quantifier allows
 abbrev pub least_of : Quantifier → ℕ

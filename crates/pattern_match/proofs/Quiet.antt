@@ -2,7 +2,7 @@
 use Rattle.std.proofs.Common.{◌≡◌, ℕ, zero, suc, ◌+◌, ◌-◌, ◌≤◌, ◌<◌, nat_lt, if◌then◌else◌, Bool, true, false, List, [], ◌∷◌, ◌++◌, length, take, drop, min, get_or, replicate, refl, sym, ap, ap₂, ◌∙◌, subst, arith, append_assoc, suc-add, zero-add, add-zero, chars}
 use Rattle.std.proofs.lemmas.Bool.{lt-ltb, ltb-true, ltb-false}
 use Rattle.std.proofs.lemmas.List.{replicate-append-replicate, drop-drop, drop_at}
-use Rattle.pattern_match.specs.Plan.{Plan, Nothing, One, Many, Either, size, code_then}
+use Rattle.pattern_match.specs.inner.Plan.{Plan, Nothing, One, Many, Either, size, code_then}
 use Rattle.pattern_match.specs.Marking.{frame, first_pass, second_pass, second_live, second_frames}
 use Rattle.pattern_match.specs.Marks.{Walk, AreEnded, first_of, IsListed, Skips, first_rest, second_rest}
 use Rattle.pattern_match.specs.Compiled.{IsCompiled}

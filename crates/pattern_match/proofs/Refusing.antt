@@ -24,7 +24,7 @@ use Rattle.pattern_match.proofs.Leading.{Leads, then, one, IsPlainAt, outside_on
 use Rattle.pattern_match.proofs.Finding.{Accepted, none_run, found, room_full}
 use Rattle.pattern_match.specs.Control.{HasRoom}
 use Rattle.pattern_match.specs.Reading.{IsPattern, GoesOn, IsRefusedAt}
-use Rattle.pattern_match.specs.Refusal.{start, refused, refused_from}
+use Rattle.pattern_match.specs.inner.Refusal.{start, refused, refused_from}
 
 -- a power of ten
 abbrev IsTen : ℕ → ℕ → Type 0

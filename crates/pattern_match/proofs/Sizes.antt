@@ -5,7 +5,7 @@ use Rattle.pattern_match.specs.Expression.{Quantifier, Once, Expression, Empty, 
 use Rattle.pattern_match.specs.Valid.{IsQuantifier, IsBranch, IsExpression}
 use Rattle.pattern_match.specs.Positions.{copies, positions}
 use Rattle.pattern_match.specs.Reading.{IsTreeOf}
-use Rattle.pattern_match.specs.Plan.{Plan, Nothing, One, Many, Either, size, IsOneBranch, IsPlan}
+use Rattle.pattern_match.specs.inner.Plan.{Plan, Nothing, One, Many, Either, size, IsOneBranch, IsPlan}
 use Rattle.pattern_match.specs.Compiled.{code_of_text}
 use Rattle.pattern_match.proofs.Planning.{least_of, most_of, copies_of, copies_bounds, iterate, repeated, piece, DoNotFall, quantifier_bounds}
 use Rattle.pattern_match.proofs.Grouping.{is_nothing, single, merged, group, single_merged, branches}

@@ -1,7 +1,7 @@
 -- Lemmas on words that are made of parts.
 use Rattle.std.proofs.Common.{◌≡◌, ℕ, zero, suc, ◌⊎◌, inl, inr, Bool, true, false, IsTrue, List, [], ◌∷◌, ◌++◌, refl, sym, ap, ◌∙◌, subst, ap₂, ⊎_elim, append_assoc, append-nil}
 use Rattle.pattern_match.specs.Language.{Repeats, IsBoth}
-use Rattle.pattern_match.specs.Plan.{Flagged, Begins, Ends}
+use Rattle.pattern_match.specs.inner.Plan.{Flagged, Begins, Ends}
 
 pub append_nil_left : (u v : List ℕ) → [] ≡ u ++ v → (u ≡ []) × (v ≡ [])
 append_nil_left [] v e = (refl, sym e)

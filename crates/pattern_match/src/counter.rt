@@ -1,7 +1,7 @@
 // Counts the positions of a pattern, token by token, before any code is made.
 ghost use Rattle.std.specs.Prelude.{◌≡◌, ℕ, ◌+◌, ◌<◌, ◌≤◌, [], length, IfOk};
 ghost use Rattle.pattern_match.specs.Building.{kept, capped};
-ghost use Rattle.pattern_match.specs.Counting.{counted_sum, counted_atom, counted_open, counted_bar, counted_close, counted_times, counted_after, nothing_counted, counted_whole};
+ghost use Rattle.pattern_match.specs.inner.Counting.{counted_sum, counted_atom, counted_open, counted_bar, counted_close, counted_times, counted_after, nothing_counted, counted_whole};
 
 use crate::token::Token;
 use std::alloc::{AllocError, Global};
@@ -37,7 +37,7 @@ pub struct Counter {
 
 impl Model for Counter {
     ghost use Rattle.std.specs.Prelude.{reverse, vec_capacity};
-    ghost use Rattle.pattern_match.specs.Counting.{Counting};
+    ghost use Rattle.pattern_match.specs.inner.Counting.{Counting};
 
     ghost Value = { Counting };
 

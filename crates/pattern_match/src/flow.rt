@@ -14,7 +14,7 @@ pub struct Flow {
 
 impl Model for Flow {
     ghost use Rattle.std.specs.Prelude.{reverse, vec_capacity};
-    ghost use Rattle.pattern_match.specs.Carried.{Carried};
+    ghost use Rattle.pattern_match.specs.inner.Carried.{Carried};
 
     ghost Value = { Carried };
 

@@ -8,8 +8,8 @@ use Rattle.std.proofs.lemmas.Bool.{cases_lt}
 use Rattle.std.proofs.lemmas.Int.{by_lt_z}
 use Rattle.lexical_core.specs.Decimals.{Number}
 use Rattle.pattern_match.specs.Reading.{IsPattern, HasPositionsWithin, Matches}
-use Rattle.pattern_match.specs.Refusal.{start, refused_from}
-use Rattle.pattern_match.specs.Counting.{counted_whole}
+use Rattle.pattern_match.specs.inner.Refusal.{start, refused_from}
+use Rattle.pattern_match.specs.inner.Counting.{counted_whole}
 use Rattle.pattern_match.specs.Compiled.{tokens_of_text, code_of_text, first_marks, marks_from}
 use Rattle.pattern_match.proofs.Refusing.{refused_at, not_refused}
 use Rattle.pattern_match.proofs.Judging.{too_large, small_enough, all_small}

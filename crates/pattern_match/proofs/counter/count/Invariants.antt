@@ -1,5 +1,5 @@
 use Rattle.std.proofs.Common.{◌≡◌, ◌+◌, ◌≤◌, ◌<◌, drop, length}
-use Rattle.pattern_match.specs.Counting.{counted, counted_open, nothing_counted}
+use Rattle.pattern_match.specs.inner.Counting.{counted, counted_open, nothing_counted}
 use Rattle.pattern_match.proofs.counter.count.Given as goal
 
 -- what is counted, and what the tokens that are left count

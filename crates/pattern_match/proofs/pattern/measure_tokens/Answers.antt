@@ -1,8 +1,8 @@
 use Rattle.std.proofs.Common.{◌≡◌, ◌≤◌, ◌<◌, chars, sym, ap, ◌∙◌, subst, Some, None}
 use Rattle.pattern_match.specs.Reading.{IsPattern, HasPositions}
-use Rattle.pattern_match.specs.Refusal.{refused_from, start}
+use Rattle.pattern_match.specs.inner.Refusal.{refused_from, start}
 use Rattle.pattern_match.specs.Building.{limit}
-use Rattle.pattern_match.specs.Counting.{counted_whole}
+use Rattle.pattern_match.specs.inner.Counting.{counted_whole}
 use Rattle.pattern_match.specs.Compiled.{tokens_of_text}
 use Rattle.pattern_match.proofs.Refusing.{refused_at, not_refused}
 use Rattle.pattern_match.proofs.Judging.{too_large, measured_positions}

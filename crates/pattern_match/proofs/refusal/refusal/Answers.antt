@@ -2,7 +2,7 @@ use Rattle.std.proofs.Common.{◌≡◌, ℕ, ◌+◌, ◌<◌, List, ◌∷◌,
 use Rattle.std.proofs.lemmas.List.{at_drop_more}
 use Rattle.pattern_match.specs.declared.control.Reading.{Reading}
 use Rattle.pattern_match.specs.Control.{step}
-use Rattle.pattern_match.specs.Refusal.{refused, refused_from}
+use Rattle.pattern_match.specs.inner.Refusal.{refused, refused_from}
 use Rattle.pattern_match.proofs.ControlLemmas.{step_keeps}
 use Rattle.pattern_match.proofs.refusal.refusal.Goals as goal
 

@@ -1,5 +1,5 @@
 use Rattle.std.proofs.Common.{◌≡◌, ◌≤◌, drop}
-use Rattle.pattern_match.specs.Refusal.{refused_from, start}
+use Rattle.pattern_match.specs.inner.Refusal.{refused_from, start}
 use Rattle.pattern_match.specs.Control.{IsSound}
 use Rattle.pattern_match.proofs.refusal.refusal.Given as goal
 

@@ -1,7 +1,7 @@
 use Rattle.std.proofs.Common.{not, refl, arith}
 use Rattle.std.proofs.lemmas.Simd.{zip2_splat}
 use Rattle.lexical_core.proofs.LaneRuns.{joined, masked}
-use Rattle.data_types.specs.Words.{is_word_code}
+use Rattle.data_types.specs.inner.Words.{is_word_code}
 use Rattle.data_types.proofs.words.WordCodeByteClass.others.Goals as goal
 
 pub returns : goal.returns

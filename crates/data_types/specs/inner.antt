@@ -1,0 +1,2 @@
+-- What private functions alone cite, in reading order.
+pub mod Words
