@@ -13,6 +13,7 @@ pub mod Control
 pub mod Refusal
 pub mod Tokens
 pub mod Building
+pub mod Drafting
 pub mod Counting
 pub mod Marks
 pub mod Gaps
