@@ -15,6 +15,10 @@ pub mod Finding
 pub mod Refusing
 pub mod Counted
 pub mod Judging
+pub mod DraftLemmas
+pub mod CellCounts
+pub mod BegunLemmas
+pub mod Following
 pub mod Listing
 pub mod Walking
 pub mod Starting

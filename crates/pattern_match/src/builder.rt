@@ -1,48 +1,24 @@
 // The code of a pattern, made token by token.
-ghost use Rattle.std.specs.Prelude.{◌≡◌, ◌==◌, ℕ, ◌+◌, ◌-◌, ◌*◌, ◌<◌, false, not, IsTrue, Option, is_some, List, [], ◌∷◌, ◌++◌, length, take, drop, slice_set, OnOk, IfOk};
-ghost use Rattle.pattern_match.specs.Building.{flagged, flagged_first, copies_code, repeated_code, is_item, wrapped, closed_code, piece_code, after_atom, after_open, after_bar, after_close, after_times, after, nothing_built, built_whole, built};
+ghost use Rattle.std.specs.Prelude.{◌≡◌, ◌==◌, ℕ, ◌+◌, ◌-◌, ◌*◌, ◌<◌, false, not, IsTrue, Option, is_some, List, [], ◌++◌, length, take, drop, OnOk, IfOk};
+ghost use Rattle.pattern_match.specs.declared.instruction.Instruction.{Instruction};
+ghost use Rattle.pattern_match.specs.Building.{flagged_first, copies_code, repeated_code, wrapped, closed_code, piece_code, after_atom, after_open, after_bar, after_close, after_times, after, nothing_built, built_whole};
+ghost use Rattle.pattern_match.specs.Drafting.{live, full, IsPlace, IsGroup, IsBegun, Keeps, AreBegun, Drafted, IsReady, MayTake, Leaves, AreFollowing};
 
 use crate::counter::{LIMIT, capped_sum, copies_kept};
-use crate::instruction::{Begun, Instruction};
+use crate::draft::{Draft, with_flags};
+use crate::instruction::{Begun, Group, Instruction, Place};
 use crate::token::Token;
 use std::alloc::{AllocError, Global};
 use std::marker::Model;
 
-/// An instruction with these flags too.
-fn with_flags(instruction: Instruction, optional: bool, repeated: bool) -> Instruction
-    ensures { result ≡ flagged optional repeated instruction }
-{
-    match instruction {
-        Instruction::Take {
-            at,
-            optional: o,
-            repeated: r,
-        } => Instruction::Take {
-            at,
-            optional: optional || o,
-            repeated: repeated || r,
-        },
-        Instruction::Open {
-            length,
-            optional: o,
-            repeated: r,
-        } => Instruction::Open {
-            length,
-            optional: optional || o,
-            repeated: repeated || r,
-        },
-        other => other,
-    }
-}
-
 /// Pushes a fragment with these flags on its first instruction too.
 fn push_copy(
-    code: &mut Vec<Instruction>,
+    code: &mut Draft,
     fragment: &[Instruction],
     optional: bool,
     repeated: bool,
 ) -> Result<(), AllocError>
-    ensures { OnOk result (code.new.items ≡ code.old.items ++ flagged_first optional repeated fragment.now) }
+    ensures { OnOk result (code.new ≡ code.old ++ full (flagged_first optional repeated fragment.now)) }
 {
     if fragment.len() == 0 {
         return Ok(());
@@ -56,13 +32,13 @@ fn push_copy(
 
 /// Pushes so many copies of a fragment.
 fn push_copies(
-    code: &mut Vec<Instruction>,
+    code: &mut Draft,
     fragment: &[Instruction],
     count: u64,
     optional: bool,
     repeated: bool,
 ) -> Result<(), AllocError>
-    ensures { OnOk result (code.new.items ≡ code.old.items ++ copies_code count (flagged_first optional repeated fragment.now)) }
+    ensures { OnOk result (code.new ≡ code.old ++ full (copies_code count (flagged_first optional repeated fragment.now))) }
 {
     for i in 0..count {
         push_copy(code, fragment, optional, repeated)?;
@@ -72,12 +48,12 @@ fn push_copies(
 
 /// Pushes a fragment, repeated as the bounds say.
 fn push_repeated(
-    code: &mut Vec<Instruction>,
+    code: &mut Draft,
     fragment: &[Instruction],
     least: u64,
     most: Option<u64>,
 ) -> Result<(), AllocError>
-    ensures { OnOk result (code.new.items ≡ code.old.items ++ repeated_code least most fragment.now) }
+    ensures { OnOk result (code.new ≡ code.old ++ full (repeated_code least most fragment.now)) }
 {
     match most {
         Some(most) => {
@@ -95,23 +71,6 @@ fn push_repeated(
     }
 }
 
-/// The instructions from a place on.
-fn fragment_from(
-    alloc: Global,
-    code: &[Instruction],
-    start: usize,
-) -> Result<Vec<Instruction>, AllocError>
-    ensures { IfOk result (λ v. v.items ≡ drop start code.now) }
-{
-    let mut fragment = Vec::new(alloc);
-    if start < code.len() {
-        for instruction in &code[start..] {
-            fragment.push(*instruction)?;
-        }
-    }
-    Ok(fragment)
-}
-
 /// Whether one copy is kept, of which only the flags of the first instruction change.
 fn is_one_copy(least: u64, most: Option<u64>) -> bool
     ensures { IsTrue result → (f : List Instruction) → repeated_code least most f ≡ flagged_first (least == 0) (not (is_some most)) f }
@@ -122,25 +81,36 @@ fn is_one_copy(least: u64, most: Option<u64>) -> bool
     }
 }
 
-/// Sets these flags on the instruction at a place.
-fn flag_at(code: &mut Vec<Instruction>, place: usize, optional: bool, repeated: bool)
-    ensures { code.new.items ≡ take place code.old.items ++ flagged_first optional repeated (drop place code.old.items) }
+/// Puts so many copies of the piece that begins at `start` into its place, as the bounds say.
+fn copy_piece(
+    alloc: Global,
+    code: &mut Draft,
+    start: Place,
+    least: u64,
+    most: Option<u64>,
+) -> Result<(), AllocError>
+    requires { IsPlace code.old start }
+    ensures code { OnOk result (live code.new ≡ take start.count (live code.old) ++ repeated_code least most (drop start.count (live code.old))) }
+    ensures kept { OnOk result (Keeps code.old code.new start) }
 {
-    if place < code.len() {
-        code[place] = with_flags(code[place], optional, repeated);
-    }
+    let fragment = code.code_from(alloc, start)?;
+    code.truncate(start);
+    push_repeated(code, fragment.as_slice(), least, most)?;
+    Ok(())
 }
 
 /// Repeats the piece of so many positions that begins at `start`, as the bounds say.
 fn repeat_piece(
     alloc: Global,
-    code: &mut Vec<Instruction>,
-    start: usize,
+    code: &mut Draft,
+    start: Place,
     positions: u64,
     least: u64,
     most: Option<u64>,
 ) -> Result<(), AllocError>
-    ensures { OnOk result (code.new.items ≡ piece_code start code.old.items positions least most) }
+    requires { IsPlace code.old start }
+    ensures code { OnOk result (live code.new ≡ piece_code start.count (live code.old) positions least most) }
+    ensures kept { OnOk result (Keeps code.old code.new start) }
 {
     if positions == 0 {
         code.truncate(start);
@@ -150,81 +120,44 @@ fn repeat_piece(
         return Ok(());
     }
     if is_one_copy(least, most) {
-        flag_at(code, start, least == 0, most.is_none());
+        code.flag_at(start, least == 0, most.is_none());
         return Ok(());
     }
-    let fragment = fragment_from(alloc, code.as_slice(), start)?;
-    code.truncate(start);
-    push_repeated(code, fragment.as_slice(), least, most)
-}
-
-/// Whether the code is that of one atom or of one group.
-fn is_one_item(code: &[Instruction]) -> bool
-    ensures { result ≡ is_item code.now }
-{
-    if code.len() == 0 {
-        return false;
-    }
-    let rest = &code[1..];
-    match code[0] {
-        Instruction::Take { .. } => rest.len() == 0,
-        Instruction::Open { length, .. } => rest.len() > 0 && rest.len() - 1 == length,
-        _ => false,
-    }
-}
-
-/// Drops the `Open` of a group of one item, which may be left out where the group may.
-fn drop_open(code: &mut Vec<Instruction>, start: usize, empty: bool)
-    requires { start + 1 < length code.old.items }
-    ensures { code.new.items ≡ take start code.old.items ++ flagged_first empty false (drop (start + 1) code.old.items) }
-{
-    code[start + 1] = with_flags(code[start + 1], empty, false);
-    code.remove(start);
-}
-
-/// Marks where a group begins and ends.
-fn mark_group(code: &mut Vec<Instruction>, start: usize, empty: bool) -> Result<(), AllocError>
-    ensures { OnOk result (code.new.items ≡ slice_set code.old.items start (Instruction.Open (length code.old.items - start - 1) empty false) ++ Instruction.Close ∷ []) }
-{
-    if start < code.len() {
-        let length = code.len() - start - 1;
-        code[start] = Instruction::Open {
-            length,
-            optional: empty,
-            repeated: false,
-        };
-    }
-    code.push(Instruction::Close)?;
-    Ok(())
+    copy_piece(alloc, code, start, least, most)
 }
 
 /// Marks a group that begins at `start`, where it has more than one item.
-fn wrap_group(code: &mut Vec<Instruction>, start: usize, empty: bool) -> Result<(), AllocError>
-    ensures { OnOk result (code.new.items ≡ wrapped start empty code.old.items) }
+fn wrap_group(code: &mut Draft, start: Place, empty: bool) -> Result<(), AllocError>
+    requires { IsGroup code.old start }
+    ensures code { OnOk result (live code.new ≡ wrapped start.count empty (live code.old)) }
+    ensures kept { OnOk result (Keeps code.old code.new start) }
 {
-    if start < code.len().saturating_sub(1) && is_one_item(&code[start + 1..]) {
-        drop_open(code, start, empty);
+    if code.has_one_item(start) {
+        code.lift_item(start, empty);
         return Ok(());
     }
-    mark_group(code, start, empty)
+    code.mark_group(start, empty)?;
+    Ok(())
 }
 
-/// Ends the group of so many positions that begins at `start`, and whose last branch begins at `branch`.
+/// Ends the group of so many positions that begins at `start`, and before whose last branch so many instructions stand.
 fn close_group(
-    code: &mut Vec<Instruction>,
-    start: usize,
+    code: &mut Draft,
+    start: Place,
     branch: usize,
     empty: bool,
     positions: u64,
 ) -> Result<(), AllocError>
-    ensures { OnOk result (code.new.items ≡ closed_code start branch empty code.old.items positions) }
+    requires { IsBegun code.old start }
+    ensures code { OnOk result (live code.new ≡ closed_code start.count branch empty (live code.old) positions) }
+    ensures kept { OnOk result (Keeps code.old code.new start) }
 {
     if positions == 0 {
         code.truncate(start);
         return Ok(());
     }
     if code.len() == branch {
-        code.truncate(branch.saturating_sub(1));
+        code.drop_last();
         return wrap_group(code, start, true);
     }
     wrap_group(code, start, empty)
@@ -233,42 +166,47 @@ fn close_group(
 /// The code so far, the groups that are begun, and the positions of the innermost.
 #[derive(Drop)]
 pub struct Builder {
-    code: Vec<Instruction>,
-    begun: Vec<Begun>,
+    code: Draft,
+    begun: Vec<Group>,
     total: u64,
     last: u64,
-    start: usize,
+    start: Place,
     branch: usize,
     empty: bool,
 }
 
 impl Model for Builder {
-    ghost use Rattle.std.specs.Prelude.{reverse};
-    ghost use Rattle.pattern_match.specs.Building.{Built};
+    ghost use Rattle.std.specs.Prelude.{reverse, map};
+    ghost use Rattle.pattern_match.specs.Drafting.{live, Drafted};
 
-    ghost Value = { Built };
+    ghost Value = { Drafted };
 
-    ghost view = { λ b. record { code = b.code.items; begun = reverse b.begun.items; total = b.total; last = b.last; start = b.start; branch = b.branch; empty = b.empty } };
+    ghost view = { λ b. record {
+      built = record { code = live b.code; begun = map (λ g. g.around) (reverse b.begun.items); total = b.total; last = b.last; start = b.start.count; branch = b.branch; empty = b.empty };
+      cells = b.code;
+      groups = reverse b.begun.items;
+      cell = b.start.cell;
+    } };
 }
 
 impl Builder {
     /// No code and no group.
     fn new(alloc: Global) -> Builder
-        ensures { result ≡ nothing_built }
+        ensures { result ≡ record { built = nothing_built; cells = []; groups = []; cell = 0 } }
     {
         Builder {
-            code: Vec::new(alloc),
+            code: Draft::new(alloc),
             begun: Vec::new(alloc),
             total: 0,
             last: 0,
-            start: 0,
+            start: Place { cell: 0, count: 0 },
             branch: 0,
             empty: false,
         }
     }
 
-    fn into_code(self) -> Vec<Instruction>
-        ensures { result.items ≡ self.code }
+    fn into_code(self, alloc: Global) -> Result<Vec<Instruction>, AllocError>
+        ensures { IfOk result (λ v. v.items ≡ live self.cells) }
     {
         let Builder {
             code,
@@ -279,15 +217,18 @@ impl Builder {
             branch: _,
             empty: _,
         } = self;
-        code
+        code.code(alloc)
     }
 
     fn push_atom(&mut self, at: usize) -> Result<(), AllocError>
-        ensures { OnOk result (self.new ≡ after_atom at self.old) }
+        requires { AreBegun self.old.cells self.old.groups }
+        ensures built { OnOk result (self.new.built ≡ after_atom at self.old.built) }
+        ensures ready { OnOk result (IsReady self.new) }
+        ensures groups { self.new.groups ≡ self.old.groups }
     {
         self.total = capped_sum(self.total, self.last);
         self.last = 1;
-        self.start = self.code.len();
+        self.start = self.code.end();
         self.code.push(Instruction::Take {
             at,
             optional: false,
@@ -297,13 +238,19 @@ impl Builder {
     }
 
     fn open(&mut self) -> Result<(), AllocError>
-        ensures { OnOk result (self.new ≡ after_open self.old) }
+        requires { AreBegun self.old.cells self.old.groups }
+        ensures built { OnOk result (self.new.built ≡ after_open self.old.built) }
+        ensures leaves { OnOk result (Leaves Token.Open self.old self.new) }
     {
-        self.begun.push(Begun {
-            start: self.code.len(),
-            total: capped_sum(self.total, self.last),
-            branch: self.branch,
-            empty: self.empty,
+        let end = self.code.end();
+        self.begun.push(Group {
+            cell: end.cell,
+            around: Begun {
+                start: end.count,
+                total: capped_sum(self.total, self.last),
+                branch: self.branch,
+                empty: self.empty,
+            },
         })?;
         self.code.push(Instruction::Open {
             length: 0,
@@ -314,48 +261,52 @@ impl Builder {
         self.empty = false;
         self.total = 0;
         self.last = 0;
-        self.start = 0;
+        self.start = Place { cell: 0, count: 0 };
         Ok(())
     }
 
     fn bar(&mut self) -> Result<(), AllocError>
-        ensures { OnOk result (self.new ≡ after_bar self.old) }
+        requires { AreBegun self.old.cells self.old.groups }
+        ensures built { OnOk result (self.new.built ≡ after_bar self.old.built) }
+        ensures leaves { OnOk result (Leaves Token.Bar self.old self.new) }
     {
-        if self.code.len() == self.branch {
-            self.empty = true; // of a branch without code the group keeps that it may be left out
-        } else {
-            self.code.push(Instruction::Bar)?;
-            self.branch = self.code.len();
-        }
         self.total = capped_sum(self.total, self.last);
         self.last = 0;
-        self.start = 0;
+        self.start = Place { cell: 0, count: 0 };
+        if self.code.len() == self.branch {
+            self.empty = true; // of a branch without code the group keeps that it may be left out
+            return Ok(());
+        }
+        self.code.push(Instruction::Bar)?;
+        self.branch = self.code.len();
         Ok(())
     }
 
     fn close(&mut self) -> Result<(), AllocError>
-        ensures { OnOk result (self.new ≡ after_close self.old) }
+        requires { AreBegun self.old.cells self.old.groups }
+        ensures built { OnOk result (self.new.built ≡ after_close self.old.built) }
+        ensures leaves { OnOk result (Leaves Token.Close self.old self.new) }
     {
         if let Some(group) = self.begun.pop() {
             let positions = capped_sum(self.total, self.last);
-            close_group(
-                &mut self.code,
-                group.start,
-                self.branch,
-                self.empty,
-                positions,
-            )?;
-            self.total = group.total;
+            let start = Place {
+                cell: group.cell,
+                count: group.around.start,
+            };
+            close_group(&mut self.code, start, self.branch, self.empty, positions)?;
+            self.total = group.around.total;
             self.last = positions;
-            self.start = group.start;
-            self.branch = group.branch;
-            self.empty = group.empty;
+            self.start = start;
+            self.branch = group.around.branch;
+            self.empty = group.around.empty;
         }
         Ok(())
     }
 
     fn repeat(&mut self, alloc: Global, least: u64, most: Option<u64>) -> Result<(), AllocError>
-        ensures { OnOk result (self.new ≡ after_times least most self.old) }
+        requires { IsReady self.old }
+        ensures built { OnOk result (self.new.built ≡ after_times least most self.old.built) }
+        ensures leaves { OnOk result (Leaves (Token.Times least most) self.old self.new) }
     {
         let positions = self.last.saturating_mul(copies_kept(least, most));
         repeat_piece(alloc, &mut self.code, self.start, positions, least, most)?;
@@ -365,7 +316,9 @@ impl Builder {
 
     /// Goes on with the token of this number.
     fn take(&mut self, alloc: Global, token: Token, at: usize) -> Result<(), AllocError>
-        ensures { OnOk result (self.new ≡ after token at self.old) }
+        requires { MayTake token self.old }
+        ensures built { OnOk result (self.new.built ≡ after token at self.old.built) }
+        ensures leaves { OnOk result (Leaves token self.old self.new) }
     {
         match token {
             Token::Open => self.open(),
@@ -378,8 +331,9 @@ impl Builder {
     }
 }
 
-/// Compiles the tokens of a whole pattern.
+/// Compiles the tokens of a whole pattern, where each quantifier stands behind a piece.
 pub fn compile(alloc: Global, tokens: &[Token]) -> Result<Vec<Instruction>, AllocError>
+    requires { AreFollowing 1 false tokens.now }
     ensures { IfOk result (λ c. c.items ≡ (built_whole tokens.now).code) }
 {
     let mut builder = Builder::new(alloc);
@@ -388,5 +342,5 @@ pub fn compile(alloc: Global, tokens: &[Token]) -> Result<Vec<Instruction>, Allo
         builder.take(alloc, *token, at)?;
     }
     builder.close()?;
-    Ok(builder.into_code())
+    builder.into_code(alloc)
 }

@@ -37,3 +37,17 @@ pub struct Begun {
     pub branch: usize,
     pub empty: bool,
 }
+
+/// A place in the code while it is made: the cell, and how many instructions stand before it.
+#[derive(Clone, Copy, Drop)]
+pub struct Place {
+    pub cell: usize,
+    pub count: usize,
+}
+
+/// A group that is begun, and the cell that its `Open` stands in.
+#[derive(Clone, Copy, Drop)]
+pub struct Group {
+    pub cell: usize,
+    pub around: Begun,
+}

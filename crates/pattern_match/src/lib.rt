@@ -6,6 +6,7 @@ mod builder;
 mod character;
 mod control;
 mod counter;
+mod draft;
 mod error;
 mod flow;
 mod gaps;

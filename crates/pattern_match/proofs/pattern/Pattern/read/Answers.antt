@@ -1,8 +1,10 @@
-use Rattle.std.proofs.Common.{◌≡◌, ◌++◌, chars, sym, ap, ap₂, ◌∙◌, subst}
+use Rattle.std.proofs.Common.{false, ◌≡◌, ◌++◌, chars, sym, ap, ap₂, ◌∙◌, subst}
 use Rattle.pattern_match.specs.Building.{built_whole}
 use Rattle.pattern_match.specs.Gaps.{gaps}
 use Rattle.pattern_match.specs.Compiled.{IsCompiled, tokens_of_text}
+use Rattle.pattern_match.specs.Drafting.{AreFollowing}
 use Rattle.pattern_match.proofs.Judging.{within_limit}
+use Rattle.pattern_match.proofs.Following.{pattern_follow}
 use Rattle.pattern_match.proofs.pattern.Pattern.read.Goals as goal
 
 pub returns-clause-positions : goal.returns-clause-positions
@@ -20,3 +22,8 @@ invariant_of-result c =
       }),
       c.in_ok-gaps.ensures ∙ ap gaps c.as_slice-2.ensures.value,
     )
+
+pub compile-requires : goal.compile-requires
+compile-requires c =
+    let p = c.in-Ok.ensures.positions in
+    subst (AreFollowing 1 false) (sym (c.as_slice.ensures.value ∙ c.in-Ok.ensures.tokens)) (pattern_follow (chars c.args.text.now) (p.0, p.1))
