@@ -10,7 +10,7 @@ use Rattle.pattern_match.specs.declared.instruction.Group.{Group}
 use Rattle.pattern_match.specs.declared.token.Token.{Token}
 use Rattle.pattern_match.specs.declared.token.Token.TheVariants.{Open, Close, Bar, Single, Dot, Spaces, ClassStart, Member, Times}
 use Rattle.pattern_match.specs.Building.{Built, after, built}
-use Rattle.pattern_match.specs.Drafting.{live, Leads, end_of, IsPlace, IsBegun, Keeps, place_of, AreBegun, Drafted, last_place, IsReady, MayTake, depth_after, ready_after, AreFollowing, Leaves, IsFed}
+use Rattle.pattern_match.specs.inner.Drafting.{live, Leads, end_of, IsPlace, IsBegun, Keeps, place_of, AreBegun, Drafted, last_place, IsReady, MayTake, depth_after, ready_after, AreFollowing, Leaves, IsFed}
 use Rattle.pattern_match.proofs.DraftLemmas.{leads_append}
 
 place_more : (cells more : List (Option Instruction)) (p : Place) → Leads more → IsPlace cells p → IsPlace (cells ++ more) p

@@ -5,7 +5,7 @@ use Rattle.std.proofs.Math.Seq.{drop-cons}
 use Rattle.pattern_match.specs.declared.instruction.Instruction.{Instruction}
 use Rattle.pattern_match.specs.declared.instruction.Place.{Place}
 use Rattle.pattern_match.specs.Building.{is_item}
-use Rattle.pattern_match.specs.Drafting.{live, Leads, flagged_cell, flagged_cells, lifted, IsPlace, IsGroup}
+use Rattle.pattern_match.specs.inner.Drafting.{live, Leads, flagged_cell, flagged_cells, lifted, IsPlace, IsGroup}
 use Rattle.pattern_match.proofs.DraftLemmas.{live_append, live_le, live_split, set_made_live}
 
 -- the cells that are empty and those that are not

@@ -6,7 +6,7 @@ use Rattle.std.proofs.Math.ListN.{drop_of_length-le}
 use Rattle.pattern_match.specs.declared.instruction.Instruction.{Instruction}
 use Rattle.pattern_match.specs.declared.instruction.Place.{Place}
 use Rattle.pattern_match.specs.Building.{flagged_first}
-use Rattle.pattern_match.specs.Drafting.{live, full, Leads, flagged_cells, lifted, Loses, IsPlace, IsGroup, IsBegun, Keeps}
+use Rattle.pattern_match.specs.inner.Drafting.{live, full, Leads, flagged_cells, lifted, Loses, IsPlace, IsGroup, IsBegun, Keeps}
 
 pub live_append : (xs ys : List (Option Instruction)) → live (xs ++ ys) ≡ live xs ++ live ys
 live_append [] ys = refl

@@ -3,7 +3,7 @@ use Rattle.std.proofs.Common.{ℕ, suc, Bool, true, false, List, [], ◌∷◌, 
 use Rattle.pattern_match.specs.Expression.{Item, One, Range, Spaces, Hyphen, Atom, Character, Dot, Escape, Space, Class, Quantifier, Once, Optional, AnyNumber, OneOrMore, Exactly, AtLeast, Between, Expression, Empty, Piece, Group, Choice}
 use Rattle.pattern_match.specs.Reading.{IsPattern}
 use Rattle.pattern_match.specs.Compiled.{tokens_of_text}
-use Rattle.pattern_match.specs.Drafting.{AreFollowing}
+use Rattle.pattern_match.specs.inner.Drafting.{AreFollowing}
 use Rattle.pattern_match.specs.declared.token.Token.{Token}
 use Rattle.pattern_match.proofs.Tokens.{items_tokens_then, atom_tokens_then, quantifier_tokens_then, tokens_then}
 use Rattle.pattern_match.proofs.Judging.{tree_tokens}

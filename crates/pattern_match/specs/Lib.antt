@@ -10,7 +10,6 @@ pub mod Character
 pub mod Control
 pub mod Tokens
 pub mod Building
-pub mod Drafting
 pub mod Marks
 pub mod Gaps
 pub mod Recall

@@ -3,3 +3,4 @@ pub mod Plan
 pub mod Carried
 pub mod Refusal
 pub mod Counting
+pub mod Drafting

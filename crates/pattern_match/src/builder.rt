@@ -2,7 +2,7 @@
 ghost use Rattle.std.specs.Prelude.{◌≡◌, ◌==◌, ℕ, ◌+◌, ◌-◌, ◌*◌, ◌<◌, false, not, IsTrue, Option, is_some, List, [], ◌++◌, length, take, drop, OnOk, IfOk};
 ghost use Rattle.pattern_match.specs.declared.instruction.Instruction.{Instruction};
 ghost use Rattle.pattern_match.specs.Building.{flagged_first, copies_code, repeated_code, wrapped, closed_code, piece_code, after_atom, after_open, after_bar, after_close, after_times, after, nothing_built, built_whole};
-ghost use Rattle.pattern_match.specs.Drafting.{live, full, IsPlace, IsGroup, IsBegun, Keeps, AreBegun, Drafted, IsReady, MayTake, Leaves, AreFollowing};
+ghost use Rattle.pattern_match.specs.inner.Drafting.{live, full, IsPlace, IsGroup, IsBegun, Keeps, AreBegun, Drafted, IsReady, MayTake, Leaves, AreFollowing};
 
 use crate::counter::{LIMIT, capped_sum, copies_kept};
 use crate::draft::{Draft, with_flags};
@@ -177,7 +177,7 @@ pub struct Builder {
 
 impl Model for Builder {
     ghost use Rattle.std.specs.Prelude.{reverse, map};
-    ghost use Rattle.pattern_match.specs.Drafting.{live, Drafted};
+    ghost use Rattle.pattern_match.specs.inner.Drafting.{live, Drafted};
 
     ghost Value = { Drafted };
 

@@ -4,7 +4,7 @@ ghost use Rattle.std.specs.Prelude.{◌≡◌, ◌+◌, ◌-◌, ◌<◌, false,
 ghost use Rattle.pattern_match.specs.declared.instruction.Instruction.{Instruction};
 ghost use Rattle.pattern_match.specs.declared.instruction.Place.{Place};
 ghost use Rattle.pattern_match.specs.Building.{flagged, flagged_first, is_item};
-ghost use Rattle.pattern_match.specs.Drafting.{live, flagged_cell, end_of, IsPlace, IsGroup, IsBegun, Keeps, Loses};
+ghost use Rattle.pattern_match.specs.inner.Drafting.{live, flagged_cell, end_of, IsPlace, IsGroup, IsBegun, Keeps, Loses};
 
 use crate::instruction::{Instruction, Place};
 use std::alloc::{AllocError, Global};
@@ -99,7 +99,7 @@ pub struct Draft {
 impl Model for Draft {
     ghost use Rattle.std.specs.Prelude.{◌≡◌, ◌+◌, Option, List, length};
     ghost use Rattle.pattern_match.specs.declared.instruction.Instruction.{Instruction};
-    ghost use Rattle.pattern_match.specs.Drafting.{live};
+    ghost use Rattle.pattern_match.specs.inner.Drafting.{live};
 
     ghost Value = { List (Option Instruction) };
 

@@ -1,6 +1,6 @@
 use Rattle.std.proofs.Common.{◌≡◌, drop}
 use Rattle.pattern_match.specs.Building.{built, after_open, nothing_built}
-use Rattle.pattern_match.specs.Drafting.{IsFed}
+use Rattle.pattern_match.specs.inner.Drafting.{IsFed}
 use Rattle.pattern_match.proofs.builder.compile.Given as goal
 
 -- what is built, and what the tokens that are left build on

@@ -1,6 +1,6 @@
 use Rattle.std.proofs.Common.{◌++◌, take, ap, ◌∙◌}
 use Rattle.pattern_match.specs.Building.{repeated_code}
-use Rattle.pattern_match.specs.Drafting.{live}
+use Rattle.pattern_match.specs.inner.Drafting.{live}
 use Rattle.pattern_match.proofs.DraftLemmas.{copied_live, copied_keeps}
 use Rattle.pattern_match.proofs.builder.copy_piece.Goals as goal
 

@@ -1,7 +1,7 @@
 use Rattle.std.proofs.Common.{◌≡◌, ℕ, suc, ◌+◌, ◌-◌, ◌<◌, Option, List, ◌++◌, ap, ◌∙◌, sym, append_assoc, arith}
 use Rattle.pattern_match.specs.declared.instruction.Instruction.{Instruction}
 use Rattle.pattern_match.specs.Building.{flagged_first, copies_code}
-use Rattle.pattern_match.specs.Drafting.{full}
+use Rattle.pattern_match.specs.inner.Drafting.{full}
 use Rattle.pattern_match.proofs.DraftLemmas.{full_append}
 use Rattle.pattern_match.proofs.builder.push_copies.Goals as goal
 

@@ -1,6 +1,6 @@
 use Rattle.std.proofs.Common.{◌≡◌, ◌++◌, ◌-◌}
 use Rattle.pattern_match.specs.Building.{flagged_first, copies_code}
-use Rattle.pattern_match.specs.Drafting.{full}
+use Rattle.pattern_match.specs.inner.Drafting.{full}
 use Rattle.pattern_match.proofs.builder.push_copies.Given as goal
 
 -- the code so far, and the copies that are left

@@ -1,5 +1,5 @@
 use Rattle.std.proofs.Common.{◌≡◌, ◌++◌, drop}
-use Rattle.pattern_match.specs.Drafting.{full}
+use Rattle.pattern_match.specs.inner.Drafting.{full}
 use Rattle.pattern_match.proofs.builder.push_copy.Given as goal
 
 -- the code so far, and what is left of the fragment

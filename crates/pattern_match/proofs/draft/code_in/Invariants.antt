@@ -1,5 +1,5 @@
 use Rattle.std.proofs.Common.{◌≡◌, ◌++◌, drop}
-use Rattle.pattern_match.specs.Drafting.{live}
+use Rattle.pattern_match.specs.inner.Drafting.{live}
 use Rattle.pattern_match.proofs.draft.code_in.Given as goal
 
 -- the code so far, and that of the cells that are left

@@ -1,6 +1,6 @@
 use Rattle.std.proofs.Common.{◌≡◌, ◌++◌, length, Option, List, []}
 use Rattle.pattern_match.specs.declared.instruction.Instruction.{Instruction}
-use Rattle.pattern_match.specs.Drafting.{live}
+use Rattle.pattern_match.specs.inner.Drafting.{live}
 use Rattle.pattern_match.proofs.draft.pop_last.Given as goal
 
 -- the cells that were taken are empty

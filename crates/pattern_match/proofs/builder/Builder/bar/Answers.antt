@@ -1,6 +1,6 @@
 use Rattle.std.proofs.Common.{sym, ap, subst}
 use Rattle.pattern_match.specs.declared.instruction.Instruction.TheVariants.{Bar}
-use Rattle.pattern_match.specs.Drafting.{Drafted, AreBegun}
+use Rattle.pattern_match.specs.inner.Drafting.{Drafted, AreBegun}
 use Rattle.pattern_match.proofs.BegunLemmas.{one_more, bar_leaves}
 use Rattle.pattern_match.proofs.builder.Builder.bar.Goals as goal
 

@@ -1,5 +1,5 @@
 use Rattle.std.proofs.Common.{refl, sym, ap, ◌∙◌, subst}
-use Rattle.pattern_match.specs.Drafting.{Drafted, Keeps, place_of}
+use Rattle.pattern_match.specs.inner.Drafting.{Drafted, Keeps, place_of}
 use Rattle.pattern_match.proofs.BegunLemmas.{popped, close_leaves}
 use Rattle.pattern_match.proofs.builder.Builder.close.Goals as goal
 

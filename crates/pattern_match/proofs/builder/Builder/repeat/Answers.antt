@@ -1,5 +1,5 @@
 use Rattle.std.proofs.Common.{take, refl, sym, ap, subst}
-use Rattle.pattern_match.specs.Drafting.{Drafted, AreBegun}
+use Rattle.pattern_match.specs.inner.Drafting.{Drafted, AreBegun}
 use Rattle.pattern_match.specs.declared.token.Token.TheVariants.{Times}
 use Rattle.pattern_match.proofs.BegunLemmas.{piece_leaves, kept_ready}
 use Rattle.pattern_match.proofs.builder.Builder.repeat.Goals as goal

@@ -1,5 +1,5 @@
 use Rattle.std.proofs.Common.{◌≡◌, IfOk, drop, sym, subst, ap, ◌∙◌}
-use Rattle.pattern_match.specs.Drafting.{live}
+use Rattle.pattern_match.specs.inner.Drafting.{live}
 use Rattle.pattern_match.proofs.DraftLemmas.{place_drop}
 use Rattle.pattern_match.proofs.draft.Draft.code_from.Goals as goal
 

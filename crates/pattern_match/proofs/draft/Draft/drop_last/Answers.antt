@@ -1,5 +1,5 @@
 use Rattle.std.proofs.Common.{length, subst, ap, arith}
-use Rattle.pattern_match.specs.Drafting.{live, Loses}
+use Rattle.pattern_match.specs.inner.Drafting.{live, Loses}
 use Rattle.pattern_match.proofs.DraftLemmas.{live_le, loses_length, loses_live, loses_keeps}
 use Rattle.pattern_match.proofs.draft.Draft.drop_last.Goals as goal
 

@@ -1,5 +1,5 @@
 use Rattle.std.proofs.Common.{◌++◌, length, take, drop, set, ap, ◌∙◌, arith}
-use Rattle.pattern_match.specs.Drafting.{flagged_cell, flagged_cells}
+use Rattle.pattern_match.specs.inner.Drafting.{flagged_cell, flagged_cells}
 use Rattle.pattern_match.proofs.DraftLemmas.{flags_live, flags_keeps, ended_flags, same_keeps}
 use Rattle.pattern_match.proofs.CellCounts.{flagged_at, flagged_counts}
 use Rattle.pattern_match.proofs.draft.Draft.flag_at.Goals as goal

@@ -1,7 +1,7 @@
 use Rattle.std.proofs.Common.{◌+◌, ◌-◌, length, get_or, sym, ap, ◌∙◌, arith}
 use Rattle.std.proofs.Math.ListN.{drop_of_length-le}
 use Rattle.pattern_match.specs.Building.{is_item}
-use Rattle.pattern_match.specs.Drafting.{live}
+use Rattle.pattern_match.specs.inner.Drafting.{live}
 use Rattle.pattern_match.proofs.DraftLemmas.{group_drop}
 use Rattle.pattern_match.proofs.CellCounts.{item_behind}
 use Rattle.pattern_match.proofs.draft.Draft.has_one_item.Goals as goal

@@ -1,7 +1,7 @@
 use Rattle.std.proofs.Common.{◌≡◌, ◌++◌, ◌+◌, ◌-◌, ◌<◌, false, Option, None, List, length, take, drop, set, refl, sym, subst, ap, ◌∙◌, arith}
 use Rattle.std.proofs.lemmas.List.{length-set}
 use Rattle.pattern_match.specs.declared.instruction.Instruction.{Instruction}
-use Rattle.pattern_match.specs.Drafting.{live, flagged_cell, lifted, IsGroup}
+use Rattle.pattern_match.specs.inner.Drafting.{live, flagged_cell, lifted, IsGroup}
 use Rattle.pattern_match.proofs.DraftLemmas.{live_le, lift_live, lift_keeps}
 use Rattle.pattern_match.proofs.CellCounts.{lifts}
 use Rattle.pattern_match.proofs.draft.Draft.lift_item.Goals as goal

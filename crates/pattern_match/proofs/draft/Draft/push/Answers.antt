@@ -1,5 +1,5 @@
 use Rattle.std.proofs.Common.{◌++◌, ◌∷◌, [], Some, ap, ◌∙◌}
-use Rattle.pattern_match.specs.Drafting.{live}
+use Rattle.pattern_match.specs.inner.Drafting.{live}
 use Rattle.pattern_match.proofs.DraftLemmas.{live_append}
 use Rattle.pattern_match.proofs.CellCounts.{pushed_counts}
 use Rattle.pattern_match.proofs.draft.Draft.push.Goals as goal

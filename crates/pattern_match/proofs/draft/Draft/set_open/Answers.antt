@@ -1,6 +1,6 @@
 use Rattle.std.proofs.Common.{false, sym, subst}
 use Rattle.pattern_match.specs.declared.instruction.Instruction.TheVariants.{Open}
-use Rattle.pattern_match.specs.Drafting.{IsPlace}
+use Rattle.pattern_match.specs.inner.Drafting.{IsPlace}
 use Rattle.pattern_match.proofs.CellCounts.{marked_counts}
 use Rattle.pattern_match.proofs.draft.Draft.set_open.Goals as goal
 

@@ -1,5 +1,5 @@
 use Rattle.std.proofs.Common.{take, sym, subst, ap, ◌∙◌}
-use Rattle.pattern_match.specs.Drafting.{IsPlace}
+use Rattle.pattern_match.specs.inner.Drafting.{IsPlace}
 use Rattle.pattern_match.proofs.DraftLemmas.{truncated_keeps, truncated_live}
 use Rattle.pattern_match.proofs.CellCounts.{Counts, cut_counts}
 use Rattle.pattern_match.proofs.draft.Draft.truncate.Goals as goal

@@ -2,7 +2,7 @@ use Rattle.std.proofs.Common.{false, ◌≡◌, ◌++◌, chars, sym, ap, ap₂,
 use Rattle.pattern_match.specs.Building.{built_whole}
 use Rattle.pattern_match.specs.Gaps.{gaps}
 use Rattle.pattern_match.specs.Compiled.{IsCompiled, tokens_of_text}
-use Rattle.pattern_match.specs.Drafting.{AreFollowing}
+use Rattle.pattern_match.specs.inner.Drafting.{AreFollowing}
 use Rattle.pattern_match.proofs.Judging.{within_limit}
 use Rattle.pattern_match.proofs.Following.{pattern_follow}
 use Rattle.pattern_match.proofs.pattern.Pattern.read.Goals as goal
