@@ -5,7 +5,8 @@ pub mod Due
 pub mod CameMore
 pub mod Names
 pub mod Continues
-pub mod ShapesContinue
+mod SameWords
+mod ShapesContinue
 pub mod Places
 pub mod Numbering
 pub mod Compilable

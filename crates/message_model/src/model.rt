@@ -1,5 +1,5 @@
 // The compiled types of a message, by number.
-ghost use Rattle.std.specs.Prelude.{◌≡◌, ◌↔◌, ◌<◌, ◌≤◌, ℕ, IsSome, List, [], length, slice_get, drop, Some, true};
+ghost use Rattle.std.specs.Prelude.{◌≡◌, ◌↔◌, ◌<◌, ◌≤◌, ℕ, IsSome, IfSome, List, [], length, slice_get, drop, Some, true};
 ghost use Rattle.std.specs.Option.{option_copied, option_map};
 ghost use Rattle.std.specs.Str.{bytes_eq};
 ghost use Rattle.reference_check.specs.Forms.{form_slots, text_type};
@@ -10,6 +10,7 @@ ghost use Rattle.reference_check.specs.Forms.{Slot as Slotted};
 ghost use Rattle.message_model.specs.Quick.{quick_sequence_next, quick_choice_next, quick_sequence_end, quick_choice_end, quick_at, due, HasTagAt, AreTagged};
 ghost use Rattle.message_model.specs.Views.{layout_form, slot_view, slots_view, next_view, end_view, IsFormOf};
 
+use crate::same_tag::is_same;
 use crate::tag_order::TagOrder;
 use facets::Simple;
 use lexical_core::Text;
@@ -17,6 +18,9 @@ use repo_objects::MessageId;
 
 /// What the namespaces of all messages begin with.
 pub const NAMESPACE_FRONT: &[u8] = b"urn:iso:std:iso:20022:tech:xsd:";
+
+/// So many slots from the one that is due on are tried one after the other.
+const FEW_AHEAD: u32 = 6;
 
 /// An element of a component or a choice, as it is kept.
 #[derive(Drop)]
@@ -233,13 +237,26 @@ pub(crate) fn has_tag(slots: &[SlotInfo], at: u32, tag: &[u8]) -> bool
     ensures { result ≡ true → HasTagAt (slots_view slots.now) at tag.now }
 {
     match slots.get(at as usize) {
-        Some(slot) => slot.tag.bytes() == tag,
+        Some(slot) => is_same(slot.tag.bytes(), tag),
         None => false,
     }
 }
 
-/// The slot of the tag. The one behind the last that came and the last are compared before all others, since tags mostly
-/// come in order; of many others the order of their tags leads to it.
+/// The slot of the tag among the few behind this one.
+fn find_ahead(slots: &[SlotInfo], at: u32, tag: &[u8]) -> Option<u32>
+    ensures { IfSome result (λ at. HasTagAt (slots_view slots.now) at tag.now) }
+{
+    for ahead in 1..FEW_AHEAD {
+        let place = at.saturating_add(ahead);
+        if has_tag(slots, place, tag) {
+            return Some(place);
+        }
+    }
+    None
+}
+
+/// The slot of the tag. The one behind the last that came and the last are compared before all others, and then the few
+/// that follow, since tags mostly come in order; of many others the order of their tags leads to it.
 fn find_near(slots: &[SlotInfo], order: &TagOrder, last: Option<u32>, tag: &[u8]) -> Option<u32>
     requires short { length slots.now ≤ 4096 }
     requires apart { AreTagged (slots_view slots.now) }
@@ -255,6 +272,9 @@ fn find_near(slots: &[SlotInfo], order: &TagOrder, last: Option<u32>, tag: &[u8]
     let near = last.unwrap_or(0);
     if has_tag(slots, near, tag) {
         return Some(near);
+    }
+    if let Some(at) = find_ahead(slots, behind, tag) {
+        return Some(at);
     }
     match order.find(slots, tag) {
         Some(at) => Some(at),

@@ -16,3 +16,6 @@ returns-then-has_tag-2 c = found (slots_view c.args.slots.now) c.unwrap_or-near.
 
 pub returns-in-Some-find : goal.returns-in-Some-find
 returns-in-Some-find c = found (slots_view c.args.slots.now) c.in-Some-find.at c.args.tag.now c.requires.apart c.in-Some-find.ensures
+
+pub returns-in-Some-find_ahead : goal.returns-in-Some-find_ahead
+returns-in-Some-find_ahead c = found (slots_view c.args.slots.now) c.in-Some-find_ahead.at c.args.tag.now c.requires.apart c.in-Some-find_ahead.ensures
