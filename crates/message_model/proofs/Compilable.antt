@@ -13,7 +13,7 @@ use Rattle.reference_check.specs.Reached.{HasReach}
 use Rattle.reference_check.specs.Rules.{Breaks, Dangling, NotOneReference, LeftOutKind}
 use Rattle.message_model.specs.Ready.{IsReady, OnObjects, BadFacets}
 use Rattle.message_model.specs.Compiled.{IsReachedList}
-use Rattle.message_model.specs.Numbers.{StandsAt, NamesPlace, NamePlaces, IsCompilable, AreCompilable, ids_at}
+use Rattle.message_model.specs.inner.Numbers.{StandsAt, NamesPlace, NamePlaces, IsCompilable, AreCompilable, ids_at}
 use Rattle.message_model.proofs.Places.{found_entry, finds_at, ranks_at}
 use Rattle.message_model.proofs.Numbering.{ids_get, stands_get}
 

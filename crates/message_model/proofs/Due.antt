@@ -11,7 +11,7 @@ use Rattle.facets.specs.declared.simple.Simple.{Simple}
 use Rattle.reference_check.specs.Steps.{Unknown, Next, End, Fine, NoAlternative, Came, EndsWith, next, end_after, end_of, find_slot, first_lacking}
 use Rattle.message_model.specs.Tables.{Tables, types_of, form_or_missing}
 use Rattle.message_model.specs.declared.model.TypeInfo.{TypeInfo}
-use Rattle.message_model.specs.Quick.{due, quick_at, quick_sequence_next, quick_choice_next, quick_sequence_end, quick_choice_end}
+use Rattle.message_model.specs.inner.Quick.{due, quick_at, quick_sequence_next, quick_choice_next, quick_sequence_end, quick_choice_end}
 use Rattle.message_model.specs.Views.{slot_info, slots_view, layout_form, tables, type_entry}
 use Rattle.message_model.specs.Sound.{IsSoundForm, AreSound}
 use Rattle.message_model.specs.declared.model.Layout.{Layout}

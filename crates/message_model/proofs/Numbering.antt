@@ -6,7 +6,7 @@ use Rattle.std.proofs.lemmas.Option.{slice_get-map, same_Some}
 use Rattle.repo_objects.specs.Repository.{Entry, Contents, IsRepository, HasIdAt}
 use Rattle.reference_check.specs.Graph.{entry}
 use Rattle.message_model.specs.Compiled.{place_of, place_or_nowhere}
-use Rattle.message_model.specs.Numbers.{AreNumbers, StandsAt, ids_at, entry_id}
+use Rattle.message_model.specs.inner.Numbers.{AreNumbers, StandsAt, ids_at, entry_id}
 use Rattle.message_model.proofs.Places.{same_place}
 
 -- the id that stands at a place of the list

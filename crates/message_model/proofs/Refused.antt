@@ -15,7 +15,7 @@ use Rattle.reference_check.specs.Rules as rules
 use Rattle.reference_check.specs.Rules.{Rule, Breaks, OfObject, IsSound, IsStructure, IsTail}
 use Rattle.message_model.specs.FacetRules.{HasBadFacets}
 use Rattle.message_model.specs.Ready.{MessageRule, OnObjects, BadFacets, BadPattern, number_of, BreaksRule, HasBadPattern, HasGoodFacets, IsReady, TellsRefused}
-use Rattle.message_model.specs.FirstPlaces.{IsFirstPlace, TellsPlace, TellsEntry}
+use Rattle.message_model.specs.inner.FirstPlaces.{IsFirstPlace, TellsPlace, TellsEntry}
 use Rattle.message_model.proofs.Places.{found_entry, finds_at, ranks_at}
 use Rattle.message_model.proofs.Compilable.{contains_at, at_contains}
 

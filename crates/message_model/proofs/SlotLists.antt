@@ -13,7 +13,7 @@ use Rattle.reference_check.specs.Graph.{Place, entry, references, one_of, slot_o
 use Rattle.reference_check.specs.Reach.{kind_currency}
 use Rattle.message_model.specs.SimpleTypes.{facets_of}
 use Rattle.message_model.specs.Views.{slot_info, slots_view}
-use Rattle.message_model.specs.Numbers.{StandsAt, IsCompilable}
+use Rattle.message_model.specs.inner.Numbers.{StandsAt, IsCompilable}
 use Rattle.message_model.specs.declared.model.SlotInfo.{SlotInfo}
 
 -- a slot of the element's tag and bounds, whose number stands for what the element names

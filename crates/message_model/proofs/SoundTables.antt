@@ -21,7 +21,7 @@ use Rattle.message_model.specs.Sound.{IsSoundForm, AreSound, HaveCodes, HaveSort
 use Rattle.message_model.specs.Ready.{IsReady, OnObjects}
 use Rattle.message_model.specs.Laws.{CompiledAreSound}
 use Rattle.message_model.specs.Compiled.{IsReachedList, Compiles, types, places_of, place_of, place_or_nowhere, place_word, place_name}
-use Rattle.message_model.specs.Numbers.{AreTypesOf, ids_at}
+use Rattle.message_model.specs.inner.Numbers.{AreTypesOf, ids_at}
 use Rattle.message_model.proofs.Compilable.{object_there, at_contains, reached_list}
 use Rattle.message_model.proofs.SoundElements.{sound_from}
 use Rattle.message_model.proofs.SortedCodes.{types_sorted}

@@ -13,7 +13,7 @@ use Rattle.reference_check.specs.Reach.{kind_elements}
 use Rattle.message_model.specs.SimpleTypes.{facets_of}
 use Rattle.message_model.specs.Tables.{TypeEntry}
 use Rattle.message_model.specs.Compiled.{types, object_word, object_name}
-use Rattle.message_model.specs.Numbers.{NamePlaces, IsCompilable, IsLayoutOf, IsTypeOf}
+use Rattle.message_model.specs.inner.Numbers.{NamePlaces, IsCompilable, IsLayoutOf, IsTypeOf}
 
 slots_same : (slots : List (Slot Place)) → map (slot_to (λ q. q)) slots ≡ slots
 slots_same [] = refl

@@ -7,7 +7,7 @@ use Rattle.message_model.specs.Tables.{TypeEntry}
 use Rattle.message_model.specs.Views.{type_entry}
 use Rattle.message_model.specs.declared.model.TypeInfo.{TypeInfo}
 use Rattle.message_model.specs.Compiled.{places_of}
-use Rattle.message_model.specs.Numbers.{IsTypeOf, AreTypesOf, ids_at, entry_id}
+use Rattle.message_model.specs.inner.Numbers.{IsTypeOf, AreTypesOf, ids_at, entry_id}
 
 map_push : {A B : Type 0} (f : A → B) (xs : List A) (x : A) → map f (xs ++ x ∷ []) ≡ map f xs ++ f x ∷ []
 map_push f [] x = refl

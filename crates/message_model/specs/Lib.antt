@@ -4,15 +4,12 @@ pub mod Message
 pub mod Tables
 pub mod Sound
 pub mod Views
-pub mod Quick
 pub mod Continued
 pub mod FacetRules
 pub mod SimpleTypes
 pub mod Ready
 pub mod Compiled
 pub mod OfReady
-pub mod Numbers
-pub mod FirstPlaces
-pub mod Sorted
 pub mod Errors
 pub mod Laws
+pub mod inner

@@ -3,7 +3,7 @@ ghost use Rattle.std.specs.Prelude.{◌≡◌, ◌<◌, ℕ, List, length, IfOk,
 ghost use Rattle.reference_check.specs.Reached.{IsReachFor};
 ghost use Rattle.message_model.specs.FacetRules.{HasBadFacets};
 ghost use Rattle.message_model.specs.Ready.{HasBadPattern, TellsRefused, HasGoodFacets};
-ghost use Rattle.message_model.specs.FirstPlaces.{TellsPlace, TellsEntry};
+ghost use Rattle.message_model.specs.inner.FirstPlaces.{TellsPlace, TellsEntry};
 
 use crate::facet_rules::has_bad_facets;
 use crate::patterns::has_bad_pattern;

@@ -4,7 +4,7 @@ ghost use Rattle.repo_objects.specs.declared.objects.ObjectKind.TheVariants.{Oth
 ghost use Rattle.repo_objects.specs.Objects.{IsXmlTextIfAny};
 ghost use Rattle.message_model.specs.Views.{layout_form};
 ghost use Rattle.message_model.specs.FacetRules.{HasBadFacets};
-ghost use Rattle.message_model.specs.Numbers.{AreNumbers, IsCompilable, IsLayoutOf, IsSimpleLayout};
+ghost use Rattle.message_model.specs.inner.Numbers.{AreNumbers, IsCompilable, IsLayoutOf, IsSimpleLayout};
 
 use crate::model::Layout;
 use crate::numbers::number_of;

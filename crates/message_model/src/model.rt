@@ -7,7 +7,7 @@ ghost use Rattle.message_model.specs.Tables.{TypeEntry, types_of, namespace_of, 
 ghost use Rattle.message_model.specs.Sound.{AreSound, HaveCodes, HaveSortedCodes, HasRoot, AreLinked, IsSoundForm};
 ghost use Rattle.reference_check.specs.Steps.{Came, EndsWith, next, end_after, end_of, find_slot, first_lacking, has_room, after_order};
 ghost use Rattle.reference_check.specs.Forms.{Slot as Slotted};
-ghost use Rattle.message_model.specs.Quick.{quick_sequence_next, quick_choice_next, quick_sequence_end, quick_choice_end, quick_at, due, HasTagAt, AreTagged};
+ghost use Rattle.message_model.specs.inner.Quick.{quick_sequence_next, quick_choice_next, quick_sequence_end, quick_choice_end, quick_at, due, HasTagAt, AreTagged};
 ghost use Rattle.message_model.specs.Views.{layout_form, slot_view, slots_view, next_view, end_view, IsFormOf};
 
 use crate::same_tag::is_same;

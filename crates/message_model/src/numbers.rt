@@ -2,7 +2,7 @@
 ghost use Rattle.std.specs.Prelude.{◌≡◌, ◌<◌, ◌≤◌, ℕ, List, length, IfOk, All, AllPairs};
 ghost use Rattle.reference_check.specs.Graph.{entry};
 ghost use Rattle.message_model.specs.Compiled.{place_of};
-ghost use Rattle.message_model.specs.Numbers.{AreNumbers, StandsAt, ids_at};
+ghost use Rattle.message_model.specs.inner.Numbers.{AreNumbers, StandsAt, ids_at};
 
 use repo_objects::Repository;
 use std::alloc::{AllocError, Global};

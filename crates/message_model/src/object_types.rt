@@ -10,7 +10,7 @@ ghost use Rattle.message_model.specs.Views.{type_entry, layout_form, slots_view}
 ghost use Rattle.message_model.specs.FacetRules.{HasBadFacets};
 ghost use Rattle.message_model.specs.Ready.{IsReady};
 ghost use Rattle.message_model.specs.Compiled.{places_of};
-ghost use Rattle.message_model.specs.Numbers.{AreNumbers, IsCompilable, AreCompilable, IsTypeOf, AreTypesOf, NamePlaces, ids_at};
+ghost use Rattle.message_model.specs.inner.Numbers.{AreNumbers, IsCompilable, AreCompilable, IsTypeOf, AreTypesOf, NamePlaces, ids_at};
 
 use crate::layouts::layout_of;
 use crate::model::{Layout, SlotInfo, TypeInfo};

@@ -4,7 +4,7 @@ ghost use Rattle.reference_check.specs.Graph.{references};
 ghost use Rattle.reference_check.specs.Forms.{slot_to};
 ghost use Rattle.reference_check.specs.Graph.{slot_of};
 ghost use Rattle.message_model.specs.Compiled.{place_of};
-ghost use Rattle.message_model.specs.Numbers.{AreNumbers, NamesPlace, NamePlaces, ids_at};
+ghost use Rattle.message_model.specs.inner.Numbers.{AreNumbers, NamesPlace, NamePlaces, ids_at};
 ghost use Rattle.message_model.specs.Views.{slot_info, slots_view};
 
 use crate::model::SlotInfo;

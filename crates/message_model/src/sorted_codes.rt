@@ -3,7 +3,7 @@ ghost use Rattle.std.specs.Prelude.{◌≡◌, ℕ, List, Some, OnOk, IfOk, slic
 ghost use Rattle.message_model.specs.SimpleTypes.{put_text, sorted_texts, texts_of};
 ghost use Rattle.std.specs.Option.{option_map, option_to_list};
 ghost use Rattle.std.specs.List.{fold};
-ghost use Rattle.message_model.specs.Sorted.{texts_in};
+ghost use Rattle.message_model.specs.inner.Sorted.{texts_in};
 
 use facets::Codes;
 use lexical_core::Text;

@@ -1,6 +1,6 @@
 use Rattle.std.proofs.Common.{map, refl}
 use Rattle.message_model.specs.Compiled.{Compiles}
-use Rattle.message_model.specs.Numbers.{ids_at}
+use Rattle.message_model.specs.inner.Numbers.{ids_at}
 use Rattle.message_model.specs.Tables.{Tables}
 use Rattle.message_model.specs.Views.{tables, type_entry}
 use Rattle.message_model.proofs.Compilable.{reached_list}

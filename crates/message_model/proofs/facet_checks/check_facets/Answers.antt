@@ -1,7 +1,7 @@
 use Rattle.std.proofs.Common.{Some, None, subst}
 use Rattle.message_model.specs.FacetRules.{HasBadFacets}
 use Rattle.message_model.specs.Ready.{HasBadPattern}
-use Rattle.message_model.specs.FirstPlaces.{TellsPlace}
+use Rattle.message_model.specs.inner.FirstPlaces.{TellsPlace}
 use Rattle.message_model.proofs.Refused.{facets_refused, pattern_refused, facets_good}
 use Rattle.message_model.proofs.facet_checks.check_facets.Goals as goal
 

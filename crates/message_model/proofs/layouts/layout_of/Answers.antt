@@ -1,7 +1,7 @@
 use Rattle.std.proofs.Common.{refl}
 use Rattle.repo_objects.specs.declared.objects.ObjectKind.TheVariants as object
 use Rattle.message_model.specs.Compiled.{place_of}
-use Rattle.message_model.specs.Numbers.{ids_at}
+use Rattle.message_model.specs.inner.Numbers.{ids_at}
 use Rattle.message_model.specs.Views.{slots_view}
 use Rattle.message_model.proofs.TypeForms.{component_formed, choice_formed, elements_name}
 use Rattle.message_model.proofs.layouts.layout_of.Goals as goal

@@ -1,7 +1,7 @@
 use Rattle.std.proofs.Common.{◌≡◌, Some, rules}
 use Rattle.repo_objects.specs.declared.objects.Kinds.TheVariants as kinds
 use Rattle.message_model.specs.Compiled.{place_of}
-use Rattle.message_model.specs.Numbers.{ids_at}
+use Rattle.message_model.specs.inner.Numbers.{ids_at}
 use Rattle.message_model.proofs.SlotLists.{money_same, money_stands}
 use Rattle.message_model.proofs.layouts.simple_layout.Goals as goal
 

@@ -1,7 +1,7 @@
 use Rattle.std.proofs.Common.{◌≡◌, ℕ, List, Some, refl, sym, ap, ◌∙◌}
 use Rattle.reference_check.specs.Forms.{Slot}
 use Rattle.reference_check.specs.Steps.{find_slot}
-use Rattle.message_model.specs.Quick.{HasTagAt, AreTagged}
+use Rattle.message_model.specs.inner.Quick.{HasTagAt, AreTagged}
 use Rattle.message_model.specs.Views.{slots_view}
 use Rattle.message_model.proofs.model.find_near.Goals as goal
 

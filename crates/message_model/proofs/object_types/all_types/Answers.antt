@@ -2,7 +2,7 @@ use Rattle.std.proofs.Common.{◌≡◌, ◌≤◌, length, map, Some, sym, ap, 
 use Rattle.std.proofs.lemmas.Option.{same_Some}
 use Rattle.reference_check.specs.Graph.{find_message}
 use Rattle.message_model.specs.Compiled.{places_of}
-use Rattle.message_model.specs.Numbers.{AreNumbers, AreTypesOf, AreCompilable, NamePlaces, ids_at}
+use Rattle.message_model.specs.inner.Numbers.{AreNumbers, AreTypesOf, AreCompilable, NamePlaces, ids_at}
 use Rattle.message_model.specs.Views.{type_entry}
 use Rattle.message_model.proofs.Compilable.{all_compilable, blocks_name}
 use Rattle.message_model.proofs.SoundTables.{few_places}

@@ -1,6 +1,6 @@
 use Rattle.std.proofs.Common.{sym, ap, subst, ◌∙◌}
 use Rattle.message_model.specs.Compiled.{place_of, message_name}
-use Rattle.message_model.specs.Numbers.{NamePlaces, ids_at}
+use Rattle.message_model.specs.inner.Numbers.{NamePlaces, ids_at}
 use Rattle.message_model.specs.Views.{slots_view}
 use Rattle.reference_check.specs.Graph.{slot_of}
 use Rattle.std.proofs.Common.{map}

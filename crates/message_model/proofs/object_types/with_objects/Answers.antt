@@ -4,7 +4,7 @@ use Rattle.std.proofs.lemmas.Option.{get_or_from_slice_get, slice_get_within}
 use Rattle.repo_objects.specs.Objects.{HasObjectTexts}
 use Rattle.repo_objects.specs.Repository.{Entry, Contents, IsRepository, HasEntryTexts}
 use Rattle.message_model.specs.Compiled.{places_of}
-use Rattle.message_model.specs.Numbers.{IsCompilable, AreCompilable, AreTypesOf, ids_at}
+use Rattle.message_model.specs.inner.Numbers.{IsCompilable, AreCompilable, AreTypesOf, ids_at}
 use Rattle.message_model.specs.Views.{type_entry}
 use Rattle.message_model.specs.declared.model.TypeInfo.{TypeInfo}
 use Rattle.message_model.proofs.Places.{finds_at}

@@ -1,7 +1,7 @@
 use Rattle.std.proofs.Common.{◌≡◌, ℕ, List, [], ◌∷◌, map, take}
 use Rattle.reference_check.specs.Graph.{document, message}
 use Rattle.message_model.specs.Compiled.{places_of}
-use Rattle.message_model.specs.Numbers.{AreNumbers, AreTypesOf, ids_at}
+use Rattle.message_model.specs.inner.Numbers.{AreNumbers, AreTypesOf, ids_at}
 use Rattle.message_model.specs.Views.{type_entry}
 use Rattle.message_model.proofs.object_types.with_objects.Given as goal
 

@@ -1,7 +1,7 @@
 use Rattle.std.proofs.Common.{sym, ap, subst, ◌∙◌}
 use Rattle.reference_check.specs.Graph.{entry}
 use Rattle.message_model.specs.Compiled.{place_of}
-use Rattle.message_model.specs.Numbers.{StandsAt, ids_at}
+use Rattle.message_model.specs.inner.Numbers.{StandsAt, ids_at}
 use Rattle.message_model.proofs.SlotLists.{slot_same}
 use Rattle.message_model.proofs.slots.make_slot.Goals as goal
 

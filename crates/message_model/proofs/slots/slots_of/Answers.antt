@@ -1,5 +1,5 @@
 use Rattle.message_model.specs.Compiled.{place_of}
-use Rattle.message_model.specs.Numbers.{ids_at}
+use Rattle.message_model.specs.inner.Numbers.{ids_at}
 use Rattle.message_model.proofs.SlotLists.{slots_more, read_in}
 use Rattle.message_model.proofs.slots.slots_of.Goals as goal
 

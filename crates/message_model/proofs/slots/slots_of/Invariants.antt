@@ -2,7 +2,7 @@ use Rattle.std.proofs.Common.{◌≡◌, ℕ, List, map, take}
 use Rattle.reference_check.specs.Forms.{slot_to}
 use Rattle.reference_check.specs.Graph.{slot_of}
 use Rattle.message_model.specs.Compiled.{place_of}
-use Rattle.message_model.specs.Numbers.{AreNumbers, NamePlaces, ids_at}
+use Rattle.message_model.specs.inner.Numbers.{AreNumbers, NamePlaces, ids_at}
 use Rattle.message_model.specs.Views.{slots_view}
 use Rattle.message_model.proofs.slots.slots_of.Given as goal
 

@@ -3,7 +3,7 @@ use Rattle.std.specs.List.{fold}
 use Rattle.std.specs.Option.{option_to_list}
 use Rattle.reference_check.specs.CodeTexts.{text_at}
 use Rattle.message_model.specs.SimpleTypes.{put_text, sorted_texts, texts_of}
-use Rattle.message_model.specs.Sorted.{texts_in}
+use Rattle.message_model.specs.inner.Sorted.{texts_in}
 use Rattle.message_model.proofs.SortedTexts.{gathered_more}
 use Rattle.message_model.proofs.sorted_codes.gathered.Goals as goal
 

@@ -1,7 +1,7 @@
 use Rattle.std.proofs.Common.{◌≡◌, drop}
 use Rattle.std.specs.List.{fold}
 use Rattle.message_model.specs.SimpleTypes.{put_text, sorted_texts, texts_of}
-use Rattle.message_model.specs.Sorted.{texts_in}
+use Rattle.message_model.specs.inner.Sorted.{texts_in}
 use Rattle.message_model.proofs.sorted_codes.gathered.Given as goal
 
 -- the texts so far, and then those of the rest

@@ -1,6 +1,6 @@
 use Rattle.std.proofs.Common.{ap, ◌∙◌}
 use Rattle.message_model.specs.SimpleTypes.{put_text}
-use Rattle.message_model.specs.Sorted.{texts_in}
+use Rattle.message_model.specs.inner.Sorted.{texts_in}
 use Rattle.message_model.proofs.SortedTexts.{put_same, texts_by}
 use Rattle.message_model.proofs.sorted_codes.put.Goals as goal
 

@@ -1,4 +1,4 @@
--- The first of the reached objects of which something holds. Private functions alone cite this.
+-- The first of the reached objects of which something holds.
 use Rattle.std.specs.Prelude.{◌≡◌, ℕ, ◌<◌, List, Option, Some, None, slice_get}
 use Rattle.repo_objects.specs.declared.objects.Object.{Object}
 use Rattle.repo_objects.specs.Repository.{Entry}

@@ -1,4 +1,4 @@
--- The numbers of types by the places of their objects. Private functions alone cite this.
+-- The numbers of types by the places of their objects.
 use Rattle.std.specs.Prelude.{◌≡◌, ℕ, ◌+◌, ◌<◌, length, All, List, [], ◌∷◌, Option, Some, None, slice_get, Contains}
 use Rattle.repo_objects.specs.declared.objects.ElementDef.{ElementDef}
 use Rattle.repo_objects.specs.declared.objects.Object.{Object}

@@ -1,4 +1,4 @@
--- The texts of a set in memory. Private functions alone cite this.
+-- The texts of a set in memory.
 use Rattle.std.specs.Prelude.{ℕ, List, map, Vec}
 use Rattle.std.specs.BTreeSet.{BTreeSet}
 use Rattle.std.specs.declared.alloc.Global.{Global}

@@ -1,4 +1,4 @@
--- What a tag is, by the last slot that came and its count. Private functions alone cite this.
+-- What a tag is, by the last slot that came and its count.
 use Rattle.std.specs.Prelude.{◌≡◌, ℕ, suc, List, [], Option, Some, None, ◌==◌, nat_lt, if◌then◌else◌, drop, slice_get, length}
 use Rattle.reference_check.specs.Forms.{Slot}
 use Rattle.reference_check.specs.Steps.{Next, Slotted, Unknown, Second, OutOfOrder, TooMany, End, NoAlternative, has_room, find_slot, first_lacking, after_order, end_of, choice_end}

@@ -1,0 +1,5 @@
+-- What private functions alone cite, in reading order.
+pub mod Quick
+pub mod Numbers
+pub mod FirstPlaces
+pub mod Sorted
