@@ -1,4 +1,4 @@
-use Rattle.std.proofs.Common.{◌≡◌, ◌+◌, ◌++◌, ◌∷◌, [], length, sym, subst, length-append}
+use Rattle.std.proofs.Common.{◌∷◌, [], length, sym, subst, length-append}
 use Rattle.lexical_core.specs.Characters.{IsXmlChar}
 use Rattle.lexical_core.proofs.ReadSoFar.{AllByRecursion-append}
 use Rattle.facets.specs.Counts.{HasCounted}

@@ -1,4 +1,4 @@
-use Rattle.std.proofs.Common.{◌≡◌, ◌+◌, ◌-◌, ◌<◌, refl, arith}
+use Rattle.std.proofs.Common.{◌-◌, refl, arith}
 use Rattle.lexical_core.specs.declared.decimal_text.Stage.TheVariants.{Whole}
 use Rattle.lexical_core.proofs.DecimalTexts.{whole_digit, HasRead-from, HasReadIn-from}
 use Rattle.lexical_core.proofs.decimal_text.DecimalStep.push_digit.Goals as goal

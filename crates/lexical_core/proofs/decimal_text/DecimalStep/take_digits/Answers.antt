@@ -1,4 +1,4 @@
-use Rattle.std.proofs.Common.{length, ◌++◌, take, take_all, sym, ap, subst, ◌∙◌, append_assoc, arith}
+use Rattle.std.proofs.Common.{length, ◌++◌, take_all, sym, ap, subst, ◌∙◌, append_assoc, arith}
 use Rattle.std.proofs.lemmas.List.{take_more}
 use Rattle.lexical_core.specs.DecimalSoFar.{HasRead}
 use Rattle.lexical_core.proofs.decimal_text.DecimalStep.take_digits.Goals as goal
