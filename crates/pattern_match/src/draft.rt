@@ -78,7 +78,7 @@ fn code_in(
 ) -> Result<Vec<Instruction>, AllocError>
     ensures { IfOk result (λ v. v.items ≡ live (drop start cells.now)) }
 {
-    let mut code = Vec::new(alloc);
+    let mut code = Vec::with_capacity(alloc, cells.len().saturating_sub(start))?;
     if start < cells.len() {
         for cell in &cells[start..] {
             if let Some(instruction) = *cell {
