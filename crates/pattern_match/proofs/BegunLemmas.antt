@@ -10,7 +10,7 @@ use Rattle.pattern_match.specs.declared.instruction.Group.{Group}
 use Rattle.pattern_match.specs.declared.token.Token.{Token}
 use Rattle.pattern_match.specs.declared.token.Token.TheVariants.{Open, Close, Bar, Single, Dot, Spaces, ClassStart, Member, Times}
 use Rattle.pattern_match.specs.Building.{Built, after, built}
-use Rattle.pattern_match.specs.inner.Drafting.{live, Leads, end_of, IsPlace, IsBegun, Keeps, place_of, AreBegun, Drafted, last_place, IsReady, MayTake, depth_after, ready_after, AreFollowing, Leaves, IsFed}
+use Rattle.pattern_match.specs.inner.Drafting.{live, Leads, end_of, IsPlace, IsBegun, Keeps, place_of, AreBegun, Drafted, last_place, IsReady, depth_after, ready_after, AreFollowing, Leaves, IsFed}
 use Rattle.pattern_match.proofs.DraftLemmas.{leads_append}
 
 place_more : (cells more : List (Option Instruction)) (p : Place) → Leads more → IsPlace cells p → IsPlace (cells ++ more) p
@@ -78,18 +78,6 @@ ready_begun d h =
 pub kept_ready : (old : List (Option Instruction)) (d : Drafted) → Keeps old d.cells (last_place d) → AreBegun (take d.cell old) d.groups → IsReady d
 kept_ready old d k h = record { place = k.place_is; begun = subst (λ x. AreBegun x d.groups) (sym k.front) h }
 
--- the tokens that are left
-pub fed_may : (token : Token) (tokens : List Token) (d : Drafted) → IsFed d (token ∷ tokens) → MayTake token d
-fed_may Open tokens d h = h.begun
-fed_may Close tokens d h = h.begun
-fed_may Bar tokens d h = h.begun
-fed_may (Single c) tokens d h = h.begun
-fed_may Dot tokens d h = h.begun
-fed_may Spaces tokens d h = h.begun
-fed_may (ClassStart negated) tokens d h = h.begun
-fed_may (Member low high) tokens d h = h.begun
-fed_may (Times least most) tokens d h = h.is_ready h.follow.0
-
 pub fed_on : (token : Token) (tokens : List Token) (old new : Drafted) → IsFed old (token ∷ tokens) → Leaves token old new → IsFed new tokens
 fed_on token tokens old new h l = record {
   ready = ready_after token (length old.groups) h.ready;
@@ -144,9 +132,6 @@ close_leaves old new g e h k p = record {
 -- one token of those that are left
 next_token : (tokens : List Token) (at : ℕ) (d : Token) → at < length tokens → drop at tokens ≡ get_or tokens at d ∷ drop (at + 1) tokens
 next_token tokens at d l = drop-cons tokens at d l ∙ ap (λ k. get_or tokens at d ∷ drop k tokens) (let z : suc at ≡ at + 1 = omega arith in z)
-
-pub may_take : (tokens : List Token) (at : ℕ) (d : Token) (old : Drafted) → at < length tokens → IsFed old (drop at tokens) → MayTake (get_or tokens at d) old
-may_take tokens at d old l f = fed_may (get_or tokens at d) (drop (at + 1) tokens) old (subst (IsFed old) (next_token tokens at d l) f)
 
 pub one_token : (tokens : List Token) (at : ℕ) (d : Token) (old new : Drafted) (whole : Built) → at < length tokens
     → new.built ≡ after (get_or tokens at d) at old.built → Leaves (get_or tokens at d) old new

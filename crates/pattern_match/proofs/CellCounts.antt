@@ -46,9 +46,6 @@ cut_counts cells new p h e =
     let c = live_le new in
     omega arith
 
-pub left_counts : (left : ℕ) (new : List (Option Instruction)) → length (live new) ≡ left → Counts (length new - left) new
-left_counts left new e = let c = live_le new in omega arith
-
 pub marked_counts : (cells : List (Option Instruction)) (p : Place) (i : Instruction) (holes : ℕ) → IsPlace cells p → Counts holes cells
     → Counts holes (set cells p.cell (Some i))
 marked_counts cells p i holes h c =

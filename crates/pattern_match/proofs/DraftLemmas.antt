@@ -234,9 +234,6 @@ begun_some cells p h = by (drop p.cell cells) refl
         let c = ap (λ x. length (live x)) e in
         omega arith
 
-pub keeps_then : (old mid new : List (Option Instruction)) (p : Place) → Keeps old mid p → Keeps mid new p → Keeps old new p
-keeps_then old mid new p h k = record { front = k.front ∙ h.front; place_is = k.place_is }
-
 -- a group that is marked
 pub marked_live : (old new : List (Option Instruction)) (p : Place) (i last : Instruction) → IsPlace old p → new ≡ set old p.cell (Some i) ++ Some last ∷ []
     → live new ≡ set (live old) p.count i ++ last ∷ []
