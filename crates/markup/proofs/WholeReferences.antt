@@ -170,13 +170,13 @@ no_break piece scan bytes byte rest after i e s r more h b =
 
 -- ---- the token in its place
 
-text_place : (s : Scan) (p : Position) → is_text s ≡ true → Begin p ≡ s → is_cdata p ≡ false
+pub text_place : (s : Scan) (p : Position) → is_text s ≡ true → Begin p ≡ s → is_cdata p ≡ false
 text_place s Cdata h e = absurd (both_ways false refl (ap is_text e ∙ h))
 text_place s AtStart h e = refl
 text_place s AfterMark h e = refl
 text_place s Text h e = refl
 
-text_between : (s : Scan) → is_text s ≡ true → is_between s ≡ true
+pub text_between : (s : Scan) → is_text s ≡ true → is_between s ≡ true
 text_between (Begin Text) h = refl
 text_between _ h = absurd (both_ways false refl h)
 
