@@ -170,15 +170,15 @@ after_some b [] h = absurd (omega arith)
 after_some b (c ∷ cs) h = refl
 
 -- a run of them is taken
-pub passes : {limit : ℕ} (r : Reader) (xs bytes : List ℕ) (told : List Placed) (n m : ℕ) → n ≤ length xs → (run : IsRun (take n xs) m) → IsReady r → 0 < n → HasTakenUnder limit r bytes told → HasToldUnder limit (passed_over r n) (bytes ++ take n xs) (told ++ characters_from (length bytes) run.characters)
-passes {limit} r xs bytes told n m w run i s h =
+pub passes : {limit : ℕ} (r : Reader) (xs bytes : List ℕ) (told : List Placed) (n m : ℕ) → n ≤ length xs → (run : IsRun (take n xs) m) → AllByRecursion IsLiteral run.characters → IsReady r → 0 < n → HasTakenUnder limit r bytes told → HasToldUnder limit (passed_over r n) (bytes ++ take n xs) (told ++ characters_from (length bytes) run.characters)
+passes {limit} r xs bytes told n m w run free i s h =
     let z = r.tokenizer in
     let k = r.context in
     let cs = run.characters in
     let a = and_parts (is_between z.scan) (z.place == z.start) i.ready in
     let b : HasTakenUnder limit (at r z.place k.brackets) bytes told =
     subst (λ v. HasTakenUnder limit (record { tokenizer = record { alloc = z.alloc; limit = z.limit; utf8 = z.utf8; position = z.position; scan = z.scan; draft = z.draft; start = v; place = z.place }; context = k; failed = r.failed }) bytes told) (sym (eqb-true z.place z.start a.1)) h in
-    let t : HasTakenUnder limit (at r (z.place + length (encode_utf8_all cs)) (after k.brackets cs)) (bytes ++ encode_utf8_all cs) (told ++ characters_from z.place cs) = steps_all r a.0 i.inside cs z.place k.brackets bytes told run.literal b in
+    let t : HasTakenUnder limit (at r (z.place + length (encode_utf8_all cs)) (after k.brackets cs)) (bytes ++ encode_utf8_all cs) (told ++ characters_from z.place cs) = steps_all r a.0 i.inside cs z.place k.brackets bytes told free b in
     let l : length (encode_utf8_all cs) ≡ n = ap length (sym run.bytes_are) ∙ length-take-le n xs w in
     told_so_far (passed_over r n) (bytes ++ take n xs) (told ++ characters_from (length bytes) cs)
     (subst (λ v. HasTakenUnder limit (passed_over r n) (bytes ++ v) (told ++ characters_from (length bytes) cs)) (sym run.bytes_are)

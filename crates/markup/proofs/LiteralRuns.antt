@@ -15,7 +15,7 @@ use Rattle.lexical_core.specs.declared.utf8.Utf8.TheVariants.{More, Char}
 use Rattle.markup.specs.Chars.{is_xml_char, is_space}
 use Rattle.lexical_core.proofs.ByteForms.{Spells, spells_2, spells_3}
 use Rattle.markup.proofs.CharLemmas.{classes}
-use Rattle.markup.specs.Literals.{is_literal, is_still_space, IsLiteral, IsRun, IsAt, IsWideAt}
+use Rattle.markup.specs.Literals.{is_literal, is_still_space, IsLiteral, IsOfText, IsFreeRun, IsAt, IsWideAt}
 
 -- so many bytes of the piece have come, which are a front of one character
 pub record IsBegun (piece : List ℕ) (utf8 : Option (List ℕ)) (count : ℕ) (rest : List ℕ) : Type 0 where
@@ -29,7 +29,7 @@ pub record IsWalked (piece : List ℕ) (bytes characters : ℕ) (rest : List ℕ
   pub seen : List ℕ
   pub joined : piece ≡ seen ++ rest
   pub bytes_are : length seen ≡ bytes
-  pub run : IsRun seen characters
+  pub run : IsFreeRun seen characters
   pub few : characters ≤ bytes
 
 pub begun_none : (piece : List ℕ) (utf8 : Option (List ℕ)) → utf8 ≡ Some [] → IsBegun piece utf8 0 piece
@@ -98,8 +98,11 @@ three_at a b c rest piece e low high over second third = spelled_at ((a - 0xE0) 
       least (inl h) = omega (arith, over (omega arith))
       least (inr h) = omega arith
 
+pub no_run : IsFreeRun [] 0
+no_run = (record { characters = []; bytes_are = refl; count_is = refl; literal = tt; allowed = tt; blank_is = refl }, tt)
+
 pub walked_none : (piece : List ℕ) → IsWalked piece 0 0 piece
-walked_none piece = record { seen = []; joined = refl; bytes_are = refl; run = record { characters = []; bytes_are = refl; count_is = refl; literal = tt; allowed = tt; blank_is = refl }; few = omega arith }
+walked_none piece = record { seen = []; joined = refl; bytes_are = refl; run = no_run; few = omega arith }
 
 encodes_append : (cs ds : List ℕ) → encode_utf8_all (cs ++ ds) ≡ encode_utf8_all cs ++ encode_utf8_all ds
 encodes_append [] ds = refl
@@ -108,6 +111,10 @@ encodes_append (c ∷ cs) ds = ap (λ v. encode_utf8 c ++ v) (encodes_append cs 
 all_append : (cs ds : List ℕ) → AllByRecursion IsLiteral cs → AllByRecursion IsLiteral ds → AllByRecursion IsLiteral (cs ++ ds)
 all_append [] ds h k = k
 all_append (c ∷ cs) ds h k = (h.0, all_append cs ds h.1 k)
+
+pub of_text : (cs : List ℕ) → AllByRecursion IsLiteral cs → AllByRecursion IsOfText cs
+of_text [] h = tt
+of_text (c ∷ cs) h = (inl h.0, of_text cs h.1)
 
 -- such characters are characters of XML
 plain_allowed : (c : ℕ) → is_literal c ≡ true → is_xml_char c ≡ true
@@ -166,14 +173,17 @@ walked_on piece bytes characters m n rest after cs w l e b k f = record {
   seen = w.seen ++ encode_utf8_all cs;
   joined = w.joined ∙ (ap (λ v. w.seen ++ v) e ∙ sym (append_assoc w.seen (encode_utf8_all cs) after));
   bytes_are = length-append w.seen (encode_utf8_all cs) ∙ (ap (λ v. v + length (encode_utf8_all cs)) w.bytes_are ∙ ap (λ v. bytes + v) b);
-  run = record {
-    characters = w.run.characters ++ cs;
-    bytes_are = ap (λ v. v ++ encode_utf8_all cs) w.run.bytes_are ∙ sym (encodes_append w.run.characters cs);
-    count_is = length-append w.run.characters cs ∙ (ap (λ v. v + length cs) w.run.count_is ∙ ap (λ v. characters + v) k);
-    literal = all_append w.run.characters cs w.run.literal l;
-    allowed = literals_allowed (w.run.characters ++ cs) (all_append w.run.characters cs w.run.literal l);
-    blank_is = ap (list_all is_space) (ap (λ v. v ++ encode_utf8_all cs) w.run.bytes_are ∙ sym (encodes_append w.run.characters cs)) ∙ blanks_encoded (w.run.characters ++ cs);
-  };
+  run = (
+    record {
+      characters = w.run.0.characters ++ cs;
+      bytes_are = ap (λ v. v ++ encode_utf8_all cs) w.run.0.bytes_are ∙ sym (encodes_append w.run.0.characters cs);
+      count_is = length-append w.run.0.characters cs ∙ (ap (λ v. v + length cs) w.run.0.count_is ∙ ap (λ v. characters + v) k);
+      literal = of_text (w.run.0.characters ++ cs) (all_append w.run.0.characters cs w.run.1 l);
+      allowed = literals_allowed (w.run.0.characters ++ cs) (all_append w.run.0.characters cs w.run.1 l);
+      blank_is = ap (list_all is_space) (ap (λ v. v ++ encode_utf8_all cs) w.run.0.bytes_are ∙ sym (encodes_append w.run.0.characters cs)) ∙ blanks_encoded (w.run.0.characters ++ cs);
+    },
+    all_append w.run.0.characters cs w.run.1 l,
+  );
   few = omega (arith, w.few, f);
 }
 
@@ -206,8 +216,8 @@ walked_wide piece bytes characters size rest after w a e =
     (a.is_at.joined ∙ (ap (λ v. v ++ a.is_at.rest) (sym none) ∙ ap (λ v. encode_utf8_all (c ∷ []) ++ v) (sym (wide_rest size rest after a.is_at e))))
     (ap length none ∙ a.is_at.size_is) refl (size_above c size a.is_at.size_is)
 
-pub walked_run : (piece : List ℕ) (bytes characters : ℕ) (rest : List ℕ) → IsWalked piece bytes characters rest → IsRun (take bytes piece) characters
-walked_run piece bytes characters rest w = subst (λ v. IsRun v characters) (sym front) w.run where
+pub walked_run : (piece : List ℕ) (bytes characters : ℕ) (rest : List ℕ) → IsWalked piece bytes characters rest → IsFreeRun (take bytes piece) characters
+walked_run piece bytes characters rest w = subst (λ v. IsFreeRun v characters) (sym front) w.run where
   front : take bytes piece ≡ w.seen
   front = ap (λ n. take n piece) (sym w.bytes_are) ∙ (ap (take (length w.seen)) w.joined ∙ take-append_seam w.seen rest)
 
@@ -236,17 +246,20 @@ still_front (x ∷ xs) (suc n) h = by (is_still_space x) refl h (λ k. still_fro
   by false e h more = absurd (omega arith)
 
 -- so much white space is a run of so many characters
-pub blank_run : (xs : List ℕ) (n : ℕ) → n ≡ prefix_len is_still_space xs → n ≤ length xs → IsRun (take n xs) n × (list_all is_space (take n xs) ≡ true)
+pub blank_run : (xs : List ℕ) (n : ℕ) → n ≡ prefix_len is_still_space xs → n ≤ length xs → IsFreeRun (take n xs) n × (list_all is_space (take n xs) ≡ true)
 blank_run xs n e within =
     let s = still_front xs n (omega (arith, e)) in
     let f = literal_front xs n s.0 in (
-      record {
-        characters = take n xs;
-        bytes_are = sym f.0;
-        count_is = length-take-le n xs within;
-        literal = f.1;
-        allowed = literals_allowed (take n xs) f.1;
-        blank_is = refl;
-      },
+      (
+        record {
+          characters = take n xs;
+          bytes_are = sym f.0;
+          count_is = length-take-le n xs within;
+          literal = of_text (take n xs) f.1;
+          allowed = literals_allowed (take n xs) f.1;
+          blank_is = refl;
+        },
+        f.1,
+      ),
       s.1,
     )

@@ -144,6 +144,25 @@ referring_gives piece scan bytes byte c rest after i e s =
       k : ReadToken [] (38 ∷ (i.seen ++ byte ∷ [])) (ReferEnded c) no_draft
       k = found [] (38 ∷ (i.seen ++ byte ∷ [])) (ReferEnded c) no_draft (i.goes_on (byte ∷ []) ∙ over)
 
+-- ---- a word at the front of a piece
+
+pub letter_more : (piece word left letters behind others : List ℕ) (byte letter : ℕ) → ((rest : List ℕ) → left ≡ letters ++ rest → piece ≡ word ++ rest) → letters ≡ letter ∷ others → left ≡ byte ∷ behind → byte ≡ letter → (rest : List ℕ) → behind ≡ others ++ rest → piece ≡ word ++ rest
+letter_more piece word left letters behind others byte letter h e f g rest k = h rest (f ∙ (ap (λ v. byte ∷ v) k ∙ (ap (λ v. v ∷ (others ++ rest)) g ∙ ap (λ v. v ++ rest) (sym e))))
+
+pub letters_end : (piece word left letters : List ℕ) → ((rest : List ℕ) → left ≡ letters ++ rest → piece ≡ word ++ rest) → length letters ≡ 0 → (rest : List ℕ) × (piece ≡ word ++ rest)
+letters_end piece word left [] h e = (left, h left refl)
+letters_end piece word left (c ∷ letters) h e = absurd (omega arith)
+
+-- a reference that stands there
+pub entity_here : (r : Reference) (piece : List ℕ) → ((rest : List ℕ) × (piece ≡ reference_text r ++ rest)) → is_reference r ≡ true → IsReferenceAt piece (referred r) (length (reference_text r))
+entity_here r piece (rest, e) h = record {
+  reference = r;
+  is = h;
+  char_is = refl;
+  spelled = ap (take (length (reference_text r))) e ∙ (take-append_seam (reference_text r) rest ∙ sym (text_ascii r h));
+  within = omega (arith, ap length e, length-append (reference_text r) rest);
+}
+
 -- ---- where a reference stands it is read
 
 -- the piece begins with the reference
@@ -170,13 +189,13 @@ no_break piece scan bytes byte rest after i e s r more h b =
 
 -- ---- the token in its place
 
-text_place : (s : Scan) (p : Position) → is_text s ≡ true → Begin p ≡ s → is_cdata p ≡ false
+pub text_place : (s : Scan) (p : Position) → is_text s ≡ true → Begin p ≡ s → is_cdata p ≡ false
 text_place s Cdata h e = absurd (both_ways false refl (ap is_text e ∙ h))
 text_place s AtStart h e = refl
 text_place s AfterMark h e = refl
 text_place s Text h e = refl
 
-text_between : (s : Scan) → is_text s ≡ true → is_between s ≡ true
+pub text_between : (s : Scan) → is_text s ≡ true → is_between s ≡ true
 text_between (Begin Text) h = refl
 text_between _ h = absurd (both_ways false refl h)
 

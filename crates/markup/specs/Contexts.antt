@@ -1,5 +1,5 @@
 -- What stands before a token, and what the token makes of it. Private functions alone cite this.
-use Rattle.std.specs.Prelude.{◌≡◌, ℕ, ◌==◌, false, List, ◌∷◌, length, Some, None, Result, MatchResult}
+use Rattle.std.specs.Prelude.{◌≡◌, ℕ, ◌==◌, ◌&&◌, false, List, ◌∷◌, length, Some, None, Result, MatchResult, if◌then◌else◌}
 use Rattle.markup.specs.Token.{Token}
 use Rattle.markup.specs.Events.{open_tags, items_of}
 use Rattle.markup.specs.Faults.{has_start, rule_of}
@@ -21,6 +21,10 @@ pub record IsContext (context : Context) (before : List Token) : Type 0 where
 -- no literal `]` stands last
 abbrev pub unbracketed : Context → Context
 unbracketed c = record { scope = c.scope; has_root = c.has_root; brackets = 0 }
+
+-- so many literal `]` more stand last, of which there is one
+abbrev pub bracketed : Context → ℕ → Context
+bracketed c n = record { scope = c.scope; has_root = c.has_root; brackets = if c.brackets == 0 && n == 1 then 1 else 2 }
 
 -- an element is open
 abbrev pub HasOpen : Context → Type 0

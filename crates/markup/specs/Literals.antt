@@ -18,14 +18,26 @@ is_still_space byte = is_space byte && not (byte == 13)
 abbrev pub IsLiteral : ℕ → Type 0
 IsLiteral c = (is_literal c ≡ true) ⊎ ((nat_le 128 c ≡ true) × (is_xml_char c ≡ true))
 
+-- a character that is told in a run: one of these, or a `]`, which is a character by itself outside CDATA sections
+abbrev pub IsOfText : ℕ → Type 0
+IsOfText c = IsLiteral c ⊎ (c ≡ 93)
+
 -- The bytes are those of so many such characters, which are white space where the bytes are.
 pub record IsRun (bytes : List ℕ) (count : ℕ) : Type 0 where
   pub characters : List ℕ
   pub bytes_are : bytes ≡ encode_utf8_all characters
   pub count_is : length characters ≡ count
-  pub literal : AllByRecursion IsLiteral characters
+  pub literal : AllByRecursion IsOfText characters
   pub allowed : AllByRecursion IsXmlChar characters
   pub blank_is : list_all is_space bytes ≡ list_all is_space characters
+
+-- none of them is a `]`, and so they stand by themselves in a CDATA section too
+abbrev pub IsFreeRun : List ℕ → ℕ → Type 0
+IsFreeRun bytes count = (run : IsRun bytes count) × AllByRecursion IsLiteral run.characters
+
+-- all of them are
+abbrev pub IsBracketRun : List ℕ → ℕ → Type 0
+IsBracketRun bytes count = (run : IsRun bytes count) × AllByRecursion (λ c. c ≡ 93) run.characters
 
 -- these characters, the first at the place
 abbrev pub characters_from : ℕ → List ℕ → List Placed

@@ -7,7 +7,7 @@ ghost use Rattle.markup.specs.Marks.{in_cdata};
 ghost use Rattle.markup.specs.Events.{opening, open_tags, spelled};
 ghost use Rattle.markup.specs.EventItems.{Tells, TellsFront, item_of};
 ghost use Rattle.markup.specs.TokenRules.{inner_rule, inside_alone, inner_items, brackets_by, one_more, ends_tag};
-ghost use Rattle.markup.specs.Contexts.{IsContext, TokenTaken, HasOpen, unbracketed};
+ghost use Rattle.markup.specs.Contexts.{IsContext, TokenTaken, HasOpen, unbracketed, bracketed};
 ghost use Rattle.markup.specs.Inputs.{settled_tokens, settled_events};
 ghost use Rattle.markup.specs.Marks.{tag_limit};
 ghost use Rattle.markup.specs.PlainTags.{tag_text, may_be_named, IsPlainInside, tags_behind, IsTagAt, IsTagInside};
@@ -110,6 +110,18 @@ impl Context {
         ensures { self.new ≡ unbracketed self.old }
     {
         self.brackets = 0;
+    }
+
+    /// Passes over so many `]`, of which there is one.
+    #[inline]
+    pub(crate) fn pass_brackets(&mut self, count: usize)
+        ensures { self.new ≡ bracketed self.old count }
+    {
+        self.brackets = if self.brackets == 0 && count == 1 {
+            1
+        } else {
+            2
+        };
     }
 
     /// The plain tag at the front of the piece that breaks no rule, where the innermost element has

@@ -3,7 +3,7 @@ ghost use Rattle.std.specs.Prelude.{◌≡◌, ◌≤◌, ◌↔◌, IfSome, IsT
 ghost use Rattle.lexical_core.specs.Begun.{IsTail};
 ghost use Rattle.std.specs.List.{prefix_len, list_all};
 ghost use Rattle.markup.specs.Chars.{is_space};
-ghost use Rattle.markup.specs.Literals.{is_literal, is_still_space, IsAt, IsWideAt, IsRun};
+ghost use Rattle.markup.specs.Literals.{is_literal, is_still_space, IsAt, IsWideAt, IsFreeRun, IsBracketRun};
 
 use crate::characters::is_allowed;
 use crate::classes::{Blank, Literal, StillBlank};
@@ -133,7 +133,7 @@ fn literal_length(piece: &[u8]) -> usize
 /// byte that belongs to none.
 fn literal_extent(piece: &[u8]) -> Extent
     ensures within { result.bytes ≤ length piece.now }
-    ensures only { IsRun (take result.bytes piece.now) result.characters }
+    ensures only { IsFreeRun (take result.bytes piece.now) result.characters }
     ensures all { prefix_len is_literal piece.now ≤ result.bytes }
 {
     let mut bytes = 0_usize;
@@ -168,7 +168,7 @@ fn is_blank_run(bytes: &[u8]) -> bool
 /// belongs to none.
 pub(crate) fn literal_run(piece: &[u8]) -> Run
     ensures within { result.bytes ≤ length piece.now }
-    ensures only { IsRun (take result.bytes piece.now) result.characters }
+    ensures only { IsFreeRun (take result.bytes piece.now) result.characters }
     ensures blank { result.blank ≡ list_all is_space (take result.bytes piece.now) }
     ensures all { prefix_len is_literal piece.now ≤ result.bytes }
 {
@@ -186,8 +186,36 @@ pub(crate) fn literal_run(piece: &[u8]) -> Run
 pub(crate) fn blank_length(piece: &[u8]) -> usize
     ensures within { result ≤ length piece.now }
     ensures count { result ≡ prefix_len is_still_space piece.now }
-    ensures only { IsRun (take result piece.now) result }
+    ensures only { IsFreeRun (take result piece.now) result }
     ensures blank { list_all is_space (take result piece.now) ≡ true }
 {
     run_length(&StillBlank, piece)
+}
+
+/// Whether the piece begins with a `]`, which is not literal.
+#[inline]
+pub(crate) fn begins_with_bracket(piece: &[u8]) -> bool
+    ensures { IsTrue result → prefix_len is_literal piece.now ≡ 0 }
+{
+    match piece.split_first() {
+        Some((first, _)) => *first == b']',
+        None => false,
+    }
+}
+
+/// How many `]` are at the front of the piece.
+pub(crate) fn bracket_length(piece: &[u8]) -> usize
+    ensures within { result ≤ length piece.now }
+    ensures only { IsBracketRun (take result piece.now) result }
+{
+    let mut count = 0_usize;
+    let mut rest = piece;
+    while let Some((first, behind)) = rest.split_first() {
+        if *first != b']' {
+            return count;
+        }
+        count += 1;
+        rest = behind;
+    }
+    count
 }

@@ -11,7 +11,7 @@ ghost use Rattle.markup.specs.Contexts.{IsContext};
 ghost use Rattle.markup.specs.TokenRules.{ends_tag};
 ghost use Rattle.markup.specs.Tokenizers.{IsAwaited, FinishesBy, undrafted, handed_out};
 ghost use Rattle.markup.specs.ReaderSteps.{TellsMore, SettlesEvents, TokenAnswered, returned, IsReady};
-ghost use Rattle.markup.specs.Literals.{is_literal, is_still_space, IsRun, characters_from};
+ghost use Rattle.markup.specs.Literals.{is_literal, is_still_space, IsRun, IsFreeRun, characters_from};
 ghost use Rattle.markup.specs.Events.{open_tags, Placed};
 ghost use Rattle.markup.specs.EventItems.{Tells};
 ghost use Rattle.markup.specs.declared.tag.Opening.{Opening};
@@ -26,7 +26,7 @@ mod starts;
 
 use crate::context::Context;
 use crate::event::Events;
-use crate::literals::{Run, blank_length, literal_run};
+use crate::literals::{Run, begins_with_bracket, blank_length, literal_run};
 use crate::plain_tag::{PlainTag, TagKind};
 use crate::scan::Ended;
 use crate::scope::Stop;
@@ -34,6 +34,7 @@ use crate::tokenizer::{Finish, NO_LIMIT, Progress, Settled, TAG_LIMIT, Tokenizer
 use lexical_core::Rule;
 use std::alloc::{AllocError, Global};
 
+mod brackets;
 mod references;
 
 /// A fault of markup: the rule that is broken first, of several at one place the least, and its
@@ -119,9 +120,10 @@ impl Reader {
 
     /// Takes the characters at the front of the piece that stand by themselves, where an element is
     /// open and no token is: tabs, LFs, and those from U+0020 on that XML has, up to the first `<`,
-    /// `&`, `]` or `>`, and to the first that is not whole. Each is a character at its place, told by
-    /// their number alone; any other byte is for `take`. It answers how many bytes and characters
-    /// they are, and whether all are white space, and after an error none. It takes no memory.
+    /// `&`, `]` or `>`, and to the first that is not whole; or, outside CDATA sections, the `]` that
+    /// stand there. Each is a character at its place, told by their number alone; any other byte is
+    /// for `take`. It answers how many bytes and characters they are, and whether all are white space,
+    /// and after an error none. It takes no memory.
     pub fn take_characters(&mut self, piece: &[u8]) -> Run
         requires { failed self.old ≡ None → taken self.old + length piece.now ≤ 2 ^ 40 }
         ensures within { result.bytes ≤ length piece.now }
@@ -134,6 +136,9 @@ impl Reader {
         ensures failed { failed self.new ≡ failed self.old }
         ensures again { (e : MarkError) → failed self.old ≡ Some e → (result.bytes ≡ 0) × (result.characters ≡ 0) × (self.new ≡ self.old) }
     {
+        if begins_with_bracket(piece) {
+            return self.take_brackets(piece);
+        }
         let run = self.count_characters(piece);
         if run.bytes > 0 {
             self.tokenizer.pass(run.bytes as u64);
@@ -271,7 +276,7 @@ impl Reader {
     /// The characters at the front of the piece that stand by themselves, where one may come.
     fn count_characters(&self, piece: &[u8]) -> Run
         ensures within { result.bytes ≤ length piece.now }
-        ensures only { IsRun (take result.bytes piece.now) result.characters }
+        ensures only { IsFreeRun (take result.bytes piece.now) result.characters }
         ensures blank { result.blank ≡ list_all is_space (take result.bytes piece.now) }
         ensures ready { 0 < result.bytes → IsReady self.now }
         ensures sound { 0 < result.bytes → failed self.now ≡ None }
@@ -299,7 +304,7 @@ impl Reader {
     #[inline]
     fn count_blanks(&self, piece: &[u8]) -> usize
         ensures within { result ≤ length piece.now }
-        ensures only { IsRun (take result piece.now) result }
+        ensures only { IsFreeRun (take result piece.now) result }
         ensures blank { list_all is_space (take result piece.now) ≡ true }
         ensures ready { 0 < result → IsReady self.now }
         ensures sound { 0 < result → failed self.now ≡ None }

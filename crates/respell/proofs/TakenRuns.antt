@@ -6,33 +6,37 @@ use Rattle.std.proofs.lemmas.Bool.{cases_Bool, true≢false}
 use Rattle.std.proofs.lemmas.Bool.Decides.{nat_tests}
 use Rattle.lexical_core.specs.Escapes.{escaped}
 use Rattle.lexical_core.specs.Tree.{Expanded, Item, Char}
-use Rattle.markup.specs.Literals.{is_literal, IsLiteral, IsRun}
+use Rattle.markup.specs.Literals.{is_literal, IsOfText, IsRun}
 use Rattle.respell.specs.Respelling.{respelled, defaults_behind}
 use Rattle.respell.specs.Kept.{HasDefaults, HasWritten, opened_by, own_defaults}
 use Rattle.respell.specs.declared.respell.Respell.{Respell}
 use Rattle.respell.proofs.KeptLemmas.{taken_all, same_defaults}
 
 -- none of them is one that stands for another
-other_than : (c n : ℕ) → IsLiteral c → is_literal n ≡ false → nat_le 128 n ≡ false → (c == n) ≡ false
-other_than c n h a b = elim (cases_Bool (c == n)) [
-  | inl e ↦ absurd (wrong (subst IsLiteral (same c n e) h))
+other_than : (c n : ℕ) → IsOfText c → is_literal n ≡ false → nat_le 128 n ≡ false → (n == 93) ≡ false → (c == n) ≡ false
+other_than c n h a b d = elim (cases_Bool (c == n)) [
+  | inl e ↦ absurd (wrong (subst IsOfText (same c n e) h))
   | inr e ↦ e
 ]
   where
-    wrong : IsLiteral n → ⊥
-    wrong (inl x) = true≢false (sym x ∙ a)
-    wrong (inr x) = true≢false (sym x.0 ∙ b)
+    is_one : (n : ℕ) → n ≡ 93 → (n == 93) ≡ true
+    is_one n h = grind (arith, nat_tests, h)
+
+    wrong : IsOfText n → ⊥
+    wrong (inl (inl x)) = true≢false (sym x ∙ a)
+    wrong (inl (inr x)) = true≢false (sym x.0 ∙ b)
+    wrong (inr x) = true≢false (sym (is_one n x) ∙ d)
 
     same : (c n : ℕ) → (c == n) ≡ true → c ≡ n
     same c n h = grind (arith, nat_tests, h)
 
-literal_escaped : (c : ℕ) → IsLiteral c → escaped false c ≡ encode_utf8 c
-literal_escaped c h = rw (other_than c 38 h refl refl, other_than c 60 h refl refl, other_than c 62 h refl refl, other_than c 13 h refl refl) refl
+literal_escaped : (c : ℕ) → IsOfText c → escaped false c ≡ encode_utf8 c
+literal_escaped c h = rw (other_than c 38 h refl refl refl, other_than c 60 h refl refl refl, other_than c 62 h refl refl refl, other_than c 13 h refl refl refl) refl
 
 abbrev pub chars_of : List ℕ → List Item
 chars_of cs = map (λ c. Char c) cs
 
-run_text : (ds : List (Option (List ℕ))) (cs : List ℕ) → AllByRecursion IsLiteral cs → respelled ds (chars_of cs) ≡ encode_utf8_all cs
+run_text : (ds : List (Option (List ℕ))) (cs : List ℕ) → AllByRecursion IsOfText cs → respelled ds (chars_of cs) ≡ encode_utf8_all cs
 run_text ds [] h = refl
 run_text ds (c ∷ cs) h = ap₂ (λ (a b : List ℕ). a ++ b) (literal_escaped c h.0) (run_text ds cs h.1)
 

@@ -10,7 +10,7 @@ ghost use Rattle.markup.specs.Scopes.{placed_at};
 ghost use Rattle.markup.specs.Tokenizers.{is_in_text};
 
 use super::{MarkError, Reader};
-use crate::references::{CharacterReference, reference_at};
+use crate::references::{CharacterReference, begins_reference, reference_at};
 
 impl Reader {
     /// Takes the reference that stands whole at the front of the piece, where an element is open, and no
@@ -47,6 +47,9 @@ impl Reader {
         ensures all { (limit : ℕ) (bytes : List ℕ) (told : List Placed) (reference : Reference) (rest : List ℕ) → MayReferUnder limit self.now bytes told → is_reference reference ≡ true → piece.now ≡ encode_utf8_all (reference_text reference) ++ rest → IsSome result }
         ensures none { (e : MarkError) → failed self.now ≡ Some e → result ≡ None }
     {
+        if !begins_reference(piece) {
+            return None;
+        }
         if self.failed.is_some() {
             return None;
         }

@@ -1,5 +1,5 @@
 use Rattle.std.proofs.Common.{◌+◌, ◌<◌, length, arith}
-use Rattle.markup.proofs.LiteralRuns.{walked_plain, walked_wide, walked_run, is_shorter}
+use Rattle.markup.proofs.LiteralRuns.{walked_none, walked_plain, walked_wide, walked_run, is_shorter}
 use Rattle.markup.proofs.literals.literal_extent.Goals as goal
 
 pub returns-in_default-clause-only : goal.returns-in_default-clause-only
@@ -21,3 +21,6 @@ loop-size-preserved c =
           c.in-Some.ensures c.split_at-in-loop-size.ensures.back,
       omega (arith, c.loop-size.invariant.1, c.literal_length-plain.ensures.count),
     )
+
+pub loop-size-init : goal.loop-size-init
+loop-size-init c = (walked_none c.args.piece.now, omega arith)

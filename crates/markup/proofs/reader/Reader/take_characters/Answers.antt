@@ -2,18 +2,21 @@ use Rattle.std.proofs.Common.{arith}
 use Rattle.markup.proofs.CharacterRuns.{passes, passes_none}
 use Rattle.markup.proofs.reader.Reader.take_characters.Goals as goal
 
+pub returns-then-begins_with_bracket-clause-all : goal.returns-then-begins_with_bracket-clause-all
+returns-then-begins_with_bracket-clause-all c limit bytes told h = (let e = c.begins_with_bracket.ensures c.if-begins_with_bracket.true in omega (arith, e))
+
 pub pass-requires : goal.pass-requires
 pass-requires c = omega (arith, c.requires (c.count_characters-run.ensures.sound c.if-run-gt0.true), c.count_characters-run.ensures.within)
 
 pub returns-then-run-gt0-clause-taken : goal.returns-then-run-gt0-clause-taken
 returns-then-run-gt0-clause-taken c limit bytes told h = (
-  c.count_characters-run.ensures.only,
-  rw (c.pass.ensures, c.pass_characters.ensures) (passes c.args.self.now c.args.piece.now bytes told c.count_characters-run.result.bytes c.count_characters-run.result.characters c.count_characters-run.ensures.within c.count_characters-run.ensures.only
+  c.count_characters-run.ensures.only.0,
+  rw (c.pass.ensures, c.pass_characters.ensures) (passes c.args.self.now c.args.piece.now bytes told c.count_characters-run.result.bytes c.count_characters-run.result.characters c.count_characters-run.ensures.within c.count_characters-run.ensures.only.0 c.count_characters-run.ensures.only.1
       (c.count_characters-run.ensures.ready c.if-run-gt0.true) c.if-run-gt0.true h),
 )
 
 pub returns-else-run-gt0-clause-taken : goal.returns-else-run-gt0-clause-taken
 returns-else-run-gt0-clause-taken c limit bytes told h = (
-  c.count_characters-run.ensures.only,
-  passes_none c.args.self.now c.args.piece.now bytes told c.count_characters-run.result.bytes c.count_characters-run.result.characters c.if-run-gt0.false c.count_characters-run.ensures.only h,
+  c.count_characters-run.ensures.only.0,
+  passes_none c.args.self.now c.args.piece.now bytes told c.count_characters-run.result.bytes c.count_characters-run.result.characters c.if-run-gt0.false c.count_characters-run.ensures.only.0 h,
 )

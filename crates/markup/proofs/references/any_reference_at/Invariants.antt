@@ -1,7 +1,7 @@
 -- The bytes so far are a reference that goes on.
 use Rattle.std.proofs.Common.{length}
 use Rattle.markup.proofs.WholeReferences.{IsReferring}
-use Rattle.markup.proofs.references.reference_at.Given as goal
+use Rattle.markup.proofs.references.any_reference_at.Given as goal
 
 abbrev pub invariant-loop-byte : goal.invariant-loop-byte
 invariant-loop-byte l = IsReferring l.piece l.scan l.bytes l.rest

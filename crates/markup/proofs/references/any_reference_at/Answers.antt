@@ -1,6 +1,6 @@
 use Rattle.std.proofs.Common.{rules, ◌≡◌, ◌∷◌, length, sym}
 use Rattle.markup.proofs.WholeReferences.{referring_none, referring_more, referring_gives, no_end, no_break}
-use Rattle.markup.proofs.references.reference_at.Goals as goal
+use Rattle.markup.proofs.references.any_reference_at.Goals as goal
 
 pub loop-byte-init : goal.loop-byte-init
 loop-byte-init c =

@@ -1,0 +1,66 @@
+// The `]` of an element's text that a reader takes at once.
+ghost use Rattle.std.specs.Prelude.{◌≡◌, ◌<◌, ◌≤◌, ◌^◌, ◌+◌, ◌++◌, ℕ, List, true, Some, None, length, take};
+ghost use Rattle.std.specs.List.{list_all};
+ghost use Rattle.markup.specs.Chars.{is_space};
+ghost use Rattle.markup.specs.Contexts.{HasOpen};
+ghost use Rattle.markup.specs.Events.{Placed};
+ghost use Rattle.markup.specs.Literals.{IsRun, IsBracketRun, characters_from};
+ghost use Rattle.markup.specs.Reading.{taken, failed, HasTakenUnder, HasToldUnder};
+ghost use Rattle.markup.specs.Tokenizers.{is_in_text};
+
+use super::{MarkError, Reader};
+use crate::literals::{Run, bracket_length};
+
+impl Reader {
+    /// Takes the `]` at the front of the piece, where an element is open, and no token and no CDATA
+    /// section.
+    pub(super) fn take_brackets(&mut self, piece: &[u8]) -> Run
+        requires { failed self.old ≡ None → taken self.old + length piece.now ≤ 2 ^ 40 }
+        ensures within { result.bytes ≤ length piece.now }
+        ensures only { IsRun (take result.bytes piece.now) result.characters }
+        ensures blank { result.blank ≡ list_all is_space (take result.bytes piece.now) }
+        ensures taken { (limit : ℕ) (bytes : List ℕ) (told : List Placed) → HasTakenUnder limit self.old bytes told →
+            (run : IsRun (take result.bytes piece.now) result.characters) × HasToldUnder limit self.new (bytes ++ take result.bytes piece.now) (told ++ characters_from (length bytes) run.characters) }
+        ensures count { taken self.new ≡ taken self.old + result.bytes }
+        ensures failed { failed self.new ≡ failed self.old }
+        ensures again { (e : MarkError) → failed self.old ≡ Some e → (result.bytes ≡ 0) × (result.characters ≡ 0) × (self.new ≡ self.old) }
+    {
+        let count = self.count_brackets(piece);
+        if count == 0 {
+            return Run {
+                bytes: 0,
+                characters: 0,
+                blank: true,
+            };
+        }
+        self.tokenizer.pass(count as u64);
+        self.context.pass_brackets(count);
+        Run {
+            bytes: count,
+            characters: count,
+            blank: false,
+        }
+    }
+
+    /// How many `]` are at the front of the piece, where they are characters by themselves.
+    #[inline]
+    fn count_brackets(&self, piece: &[u8]) -> usize
+        ensures within { result ≤ length piece.now }
+        ensures only { IsBracketRun (take result piece.now) result }
+        ensures ready { 0 < result → is_in_text self.now.tokenizer ≡ true }
+        ensures inside { 0 < result → HasOpen self.now.context }
+        ensures sound { 0 < result → failed self.now ≡ None }
+        ensures none { (e : MarkError) → failed self.now ≡ Some e → result ≡ 0 }
+    {
+        if self.failed.is_some() {
+            return 0;
+        }
+        if !self.tokenizer.is_in_text() {
+            return 0;
+        }
+        if !self.context.has_open() {
+            return 0;
+        }
+        bracket_length(piece)
+    }
+}
