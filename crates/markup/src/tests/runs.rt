@@ -20,6 +20,9 @@ fn take_some(reader: &mut Reader, out: &mut Events, piece: &[u8]) -> Result<usiz
     if run.bytes > 0 {
         return Ok(run.bytes);
     }
+    if let Some(reference) = reader.take_reference(piece) {
+        return Ok(reference.bytes);
+    }
     match reader.take_tag(piece) {
         Ok(Some(tag)) => return Ok(tag.bytes),
         Ok(None) => {}
@@ -91,7 +94,7 @@ fn texts_in_pieces(rt: HostRuntime) -> Result<(), AllocError> {
 
 /// An instance with tags, runs and what stands between them.
 static SHAPES: &str =
-    "<a xmlns=\"u\">\n <b>x y\tz</b>\r\n<c/><p:d xmlns:p=\"v\"><e>]</e>]]<f.g-h_1>&lt;</f.g-h_1></p:d><!-- - --><?q ?><i j='k&#65;\"l\t' m = \"'n\"/><![CDATA[<>]]></a>";
+    "<a xmlns=\"u\">\n <b>x y\tz</b>\r\n<c/><p:d xmlns:p=\"v\"><e>]</e>]]<f.g-h_1>&lt;&#x41;</f.g-h_1></p:d><!-- - --><?q ?><i j='k&#65;\"l\t' m = \"'n\"/><![CDATA[<>]]></a>";
 
 /// With the byte at this place changed to another one, the text is answered as by single bytes.
 fn check_change(rt: &impl Abort, alloc: Global, at: usize, byte: u8) -> Result<(), AllocError> {
@@ -150,7 +153,7 @@ fn behind(alloc: Global, bytes: &[u8]) -> Option<Reader>
 
 /// Pieces of an element's text, and how many bytes and characters the run at their front has, and
 /// whether it is white space.
-static RUNS: [(&[u8], usize, usize, bool); 11] = [
+static RUNS: [(&[u8], usize, usize, bool); 12] = [
     (b"b\xE2\x82", 1, 1, false),
     (b"b\xE2\x82\xAC", 4, 2, false),
     (b"\xF0\x9F\x98", 0, 0, true),
@@ -162,6 +165,7 @@ static RUNS: [(&[u8], usize, usize, bool); 11] = [
     (b"\x80b", 0, 0, true),
     (b" \n\t<", 3, 3, true),
     (b" \xC2\xA0<", 3, 2, false),
+    (b"]]b", 2, 2, false),
 ];
 
 /// A run ends before a character that is cut, or that XML has not, or that is none.
@@ -181,6 +185,42 @@ fn runs_of_whole_characters(rt: HostRuntime) {
         }
         let found = reader.take_characters(piece);
         assert!(rt; found == run, "{found:?}");
+    }
+}
+
+/// What was taken, pieces behind it, how many bytes the reference has that is taken at their front, and its
+/// character.
+static REFERENCES: [(&str, &str, usize, char); 10] = [
+    ("<a>", "&amp;b", 5, '&'),
+    ("<a>]", "&#65;", 5, 'A'),
+    ("<a>", "&#x1F600;c", 9, '\u{1F600}'),
+    ("<a>", "&#x20", 0, ' '),
+    ("<a>", "&b;", 0, ' '),
+    ("<a>", "&#0;", 0, ' '),
+    ("<a>&", "lt;", 0, ' '),
+    ("<a><![CDATA[", "&lt;", 0, ' '),
+    ("<a><b c='", "&lt;", 0, ' '),
+    ("", "&lt;", 0, ' '),
+];
+
+/// A reference is taken where it is whole and may stand.
+#[test]
+fn whole_references(rt: HostRuntime) {
+    for (front, piece, bytes, character) in &REFERENCES {
+        let Some(mut reader) = behind(rt.alloc(), front.as_bytes()) else {
+            continue;
+        };
+        if piece.len() > 100 {
+            continue;
+        }
+        let (size, given) = match reader.take_reference(piece.as_bytes()) {
+            Some(reference) => (reference.bytes, reference.character),
+            None => (0, ' '),
+        };
+        assert!(rt;
+            size == *bytes && given == *character,
+            "{front}, {piece}: {size}"
+        );
     }
 }
 
@@ -262,5 +302,6 @@ fn nothing_after_an_error(rt: HostRuntime) {
     let mut out = Events::new(rt.alloc());
     assert!(rt; reader.take(b'a', &mut out).is_err());
     assert!(rt; reader.take_characters(b"bc").bytes == 0);
+    assert!(rt; reader.take_reference(b"&lt;").is_none());
     assert!(rt; reader.take_tag(b"<b>").is_err());
 }
