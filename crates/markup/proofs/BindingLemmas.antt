@@ -27,7 +27,7 @@ use Rattle.markup.specs.declared.bindings.Bindings.{Bindings}
 use Rattle.markup.specs.Events.{declared_prefix, same_prefix, bound_by}
 use Rattle.markup.specs.declared.origin.Origin.{Origin}
 use Rattle.markup.specs.Bindings.{declares, place_of, prefix_of, binding, bindings, place_in, Binds}
-use Rattle.markup.specs.Origins.{no_binding, declared_namespace, namespace_from}
+use Rattle.markup.specs.inner.Origins.{no_binding, declared_namespace, namespace_from}
 
 -- ---- vectors as stacks
 

@@ -60,9 +60,6 @@ brackets_more piece count byte rest after a e b = record {
   are = all_append a.seen (byte ∷ []) a.are (b, tt);
 }
 
-pub brackets_within : (piece : List ℕ) (count : ℕ) (rest : List ℕ) → AreBrackets piece count rest → count + length rest ≡ length piece
-brackets_within piece count rest a = omega (arith, a.count_is, ap length a.joined, length-append a.seen rest)
-
 encoded_one : (c : ℕ) → IsBracket c → encode_utf8 c ≡ c ∷ []
 encoded_one c e = encode_ascii c (omega (arith, e))
 

@@ -21,7 +21,7 @@ use Rattle.markup.specs.Contexts.{IsContext, HasOpen, unbracketed}
 use Rattle.markup.specs.TokenRules.{one_more, brackets}
 use Rattle.markup.specs.Tokenizers.{is_between, is_ready}
 use Rattle.markup.specs.Reading.{HasTakenUnder, HasToldUnder, IsInsideUnder}
-use Rattle.markup.specs.ReaderSteps.{IsReady, passed_over}
+use Rattle.markup.specs.inner.ReaderSteps.{IsReady, passed_over}
 use Rattle.markup.specs.declared.context.Context.{Context}
 use Rattle.markup.specs.declared.reader.Reader.{Reader}
 use Rattle.markup.specs.declared.scan.Scan.TheVariants.{Begin}

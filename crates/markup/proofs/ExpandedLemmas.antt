@@ -21,7 +21,7 @@ use Rattle.markup.specs.declared.bindings.Bindings.{Bindings}
 use Rattle.markup.specs.Events.{declared_prefix, attribute_name, put, put_named, entries, expanded, namespace_of}
 use Rattle.markup.specs.Faults.{has_clash, clash, same_expanded}
 use Rattle.markup.specs.EventItems.{entry_of}
-use Rattle.markup.specs.TagParts.{is_plain, is_unbound, is_named, IsCollected, IsExpanded, entry_from, entry_under, named_entry, sorted_entries, has_twins}
+use Rattle.markup.specs.inner.TagParts.{is_plain, is_unbound, is_named, IsCollected, IsExpanded, entry_from, entry_under, named_entry, sorted_entries, has_twins}
 use Rattle.markup.proofs.Twins.{any-put, any_twins, any_twins-put, twins_next}
 use Rattle.markup.proofs.TagPartLemmas.{or-false, or_comm}
 

@@ -11,7 +11,7 @@ use Rattle.markup.specs.Events.{Placed, events}
 use Rattle.markup.specs.Faults.{IsTagBegun}
 use Rattle.markup.specs.Drafts.{no_draft}
 use Rattle.markup.specs.Inputs.{Any, with_pending}
-use Rattle.markup.specs.Inside.{GoesOver, is_inside, may_be_tag, moved, GoesInside}
+use Rattle.markup.specs.inner.Inside.{GoesOver, is_inside, may_be_tag, moved, GoesInside}
 use Rattle.markup.specs.Reading.{HasTakenUnder, HasToldUnder}
 use Rattle.markup.specs.ScanRuns.{At, run, position}
 use Rattle.markup.specs.Tokenizers.{is_tag, scanned, is_pending, IsOpen, open_at, FinishesBy}

@@ -20,7 +20,7 @@ use Rattle.markup.specs.TokenRules.{is_cdata}
 use Rattle.markup.specs.Tokenizers.{EndedToken, after_other, on_turn, ended, charactered, counted, is_plain, is_between, is_text, starts_plain, TakesAlone, TakesPlain, AdvancedBy, is_pending, IsAwaited, IsOpen, Advances, SettlesBy, open_at, FinishesBy}
 use Rattle.markup.specs.Inputs.{is_return}
 use Rattle.markup.specs.Reading.{HasTakenUnder, GoesOnUnder, StopsUnder}
-use Rattle.markup.specs.ReaderSteps.{SettlesEvents, TokenAnswered}
+use Rattle.markup.specs.inner.ReaderSteps.{SettlesEvents, TokenAnswered}
 use Rattle.markup.specs.declared.draft.Draft.{Draft}
 use Rattle.markup.specs.declared.event.Event.{Event}
 use Rattle.markup.specs.declared.reader.MarkError.{MarkError}

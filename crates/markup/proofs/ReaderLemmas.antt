@@ -20,7 +20,7 @@ use Rattle.markup.specs.Inputs.{Reads, Any, Begins, with_pending, is_cut, is_ret
 use Rattle.markup.specs.Reading.{Keeps, HasTakenUnder, HasToldUnder, GoesOnUnder, RefusesUnder, RunsOutUnder, StopsUnder, IsWhollyUnder}
 use Rattle.markup.specs.declared.reader.MarkError.{MarkError}
 use Rattle.markup.specs.declared.reader.MarkError.TheVariants.{Refused as RefusedBy, Memory as NoMemory}
-use Rattle.markup.specs.ReaderSteps.{TellsMore, SettlesEvents, TokenStopped, returned}
+use Rattle.markup.specs.inner.ReaderSteps.{TellsMore, SettlesEvents, TokenStopped, returned}
 use Rattle.markup.specs.declared.context.Context.{Context}
 use Rattle.markup.specs.declared.draft.Draft.{Draft}
 use Rattle.markup.specs.declared.event.Event.{Event}

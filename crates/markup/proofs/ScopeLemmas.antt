@@ -21,7 +21,7 @@ use Rattle.markup.specs.Faults.{has_clash, is_bad_attribute, start_rule}
 use Rattle.markup.specs.EventItems.{entry_of, Tells}
 use Rattle.markup.specs.Bindings.{Binds}
 use Rattle.markup.specs.Scopes.{declarations, open_name, all_declarations, IsScope, placed_at, TakesStart}
-use Rattle.markup.specs.TagParts.{plain_attributes, declares_twice, declares_badly, is_unbound, IsParted, AreDeclared, IsExpanded, IsResolved}
+use Rattle.markup.specs.inner.TagParts.{plain_attributes, declares_twice, declares_badly, is_unbound, IsParted, AreDeclared, IsExpanded, IsResolved}
 use Rattle.markup.proofs.WholeTags.{whole_entries, whole_clash, whole_bad}
 
 -- how many declarations are a tag's own

@@ -11,7 +11,7 @@ use Rattle.std.proofs.lemmas.Fn.{always_returns_same}
 use Rattle.std.proofs.lemmas.List.Sorted.{ranks_by}
 use Rattle.markup.specs.Events.{put}
 use Rattle.lexical_core.specs.Names.{name_cmp}
-use Rattle.markup.specs.TagParts.{sorted_entries}
+use Rattle.markup.specs.inner.TagParts.{sorted_entries}
 use Rattle.lexical_core.proofs.StableSort.{put_by, sorted_by, by_less, sorted_is}
 use Rattle.markup.proofs.Twins.{entries_total, by_name}
 use Rattle.lexical_core.specs.Tree.{Entry}

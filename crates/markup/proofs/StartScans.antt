@@ -13,7 +13,7 @@ use Rattle.std.proofs.lemmas.Grind.{flat_map-append}
 use Rattle.std.proofs.lemmas.List.{take-append-drop, take-append-le, length-take-le, map-append}
 use Rattle.std.proofs.lemmas.List.Folds.{list_all-append}
 use Rattle.std.proofs.lemmas.Str.{encode_ascii, encodes-append}
-use Rattle.std.proofs.Math.Seq.{take-append_seam, drop-append_seam}
+use Rattle.std.proofs.Math.Seq.{take-append_seam}
 use Rattle.markup.specs.Chars.{is_space, is_gap}
 use Rattle.markup.specs.Name.{Plain, is_part}
 use Rattle.markup.specs.Attribute.{Attribute, Literal, is_attribute, is_piece, piece_text, value_chars, begins_lf, attribute_text}
@@ -21,8 +21,8 @@ use Rattle.markup.specs.Token.{StartTag, Start, token_bytes}
 use Rattle.markup.specs.Marks.{tag_limit}
 use Rattle.markup.specs.Events.{given as given_by}
 use Rattle.markup.specs.PlainTags.{begins_plain, continues_plain, is_plain_name, mark_count, closing, slashed}
-use Rattle.markup.specs.Inside.{is_literal_of}
-use Rattle.markup.specs.WholeStarts.{is_quote, is_empty_kind, IsValueAt, IsAttributeAt, AreGiven, IsStartAt}
+use Rattle.markup.specs.inner.Inside.{is_literal_of}
+use Rattle.markup.specs.inner.WholeStarts.{is_quote, is_empty_kind, IsValueAt, IsAttributeAt, AreGiven, IsStartAt}
 use Rattle.markup.specs.declared.plain_tag.TagKind.{TagKind}
 use Rattle.markup.specs.declared.plain_tag.TagKind.TheVariants.{Start as StartKind, Empty as EmptyKind, End as EndKind}
 use Rattle.markup.specs.declared.start_tag.WholeStart.{WholeStart}
@@ -141,17 +141,8 @@ more_given bytes rest name value behind old new s a e =
 pub given_within : (bytes rest : List ℕ) (given : List Given) → AreGiven bytes given rest → length rest ≤ length bytes
 given_within bytes rest given s = omega (arith, ap length s.spelled, length-append (encode_utf8_all (flat_map attribute_text s.attributes)) rest)
 
-pub given_behind : (bytes rest : List ℕ) (given : List Given) → AreGiven bytes given rest → AreGiven bytes given (drop (length bytes - length rest) bytes)
-given_behind bytes rest given s = subst (AreGiven bytes given) (sym (ap (λ n. drop n bytes) size ∙ (ap (drop (length front)) s.spelled ∙ drop-append_seam front rest))) s where
-  front : List ℕ
-  front = encode_utf8_all (flat_map attribute_text s.attributes)
-
   size : length bytes - length rest ≡ length (encode_utf8_all (flat_map attribute_text s.attributes))
   size = omega (arith, ap length s.spelled, length-append (encode_utf8_all (flat_map attribute_text s.attributes)) rest)
-
--- an attribute leaves fewer bytes
-pub attribute_shorter : (bytes name value behind : List ℕ) → IsAttributeAt bytes name value behind → length behind < length bytes
-attribute_shorter bytes name value behind a = omega (arith, ap length a.spelled, length-append name (61 ∷ a.quote ∷ (value ++ a.quote ∷ behind)), length-append value (a.quote ∷ behind))
 
 -- ---- a value and an attribute that are found
 

@@ -15,7 +15,7 @@ use Rattle.markup.specs.Scopes.{placed_at}
 use Rattle.markup.specs.Contexts.{TakesToken}
 use Rattle.markup.specs.Reading.{HasTakenUnder, HasToldUnder, GoesOnUnder, RefusesUnder, RunsOutUnder}
 use Rattle.markup.specs.Tokenizers.{is_between, is_in_text, passed}
-use Rattle.markup.specs.WholeStarts.{IsStartAt}
+use Rattle.markup.specs.inner.WholeStarts.{IsStartAt}
 use Rattle.markup.specs.declared.context.Context.{Context}
 use Rattle.markup.specs.declared.event.Event.{Event}
 use Rattle.markup.specs.declared.reader.Reader.{Reader}

@@ -10,7 +10,7 @@ use Rattle.markup.specs.Events.{declared_prefix}
 use Rattle.markup.specs.Faults.{is_bad_declaration}
 use Rattle.markup.specs.Bindings.{Binds, declares}
 use Rattle.markup.specs.Scopes.{declarations}
-use Rattle.markup.specs.TagParts.{plain_attributes, declares_twice, declares_badly, IsParted, AreDeclared}
+use Rattle.markup.specs.inner.TagParts.{plain_attributes, declares_twice, declares_badly, IsParted, AreDeclared}
 
 -- ---- tests
 

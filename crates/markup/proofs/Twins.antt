@@ -14,7 +14,7 @@ use Rattle.std.proofs.lemmas.Slice.Eq.{bytes_eq-Decides}
 use Rattle.lexical_core.specs.Tree.{Expanded, Entry}
 use Rattle.markup.specs.Events.{put}
 use Rattle.lexical_core.specs.Names.{name_cmp}
-use Rattle.markup.specs.TagParts.{is_named, begins_with, has_twins, sorted_entries}
+use Rattle.markup.specs.inner.TagParts.{is_named, begins_with, has_twins, sorted_entries}
 use Rattle.lexical_core.proofs.StableSort.{put_by, sorted_by, Climbs, NoneLess, climbs-sorted}
 use Rattle.markup.proofs.TagPartLemmas.{or_assoc, or_swap}
 

@@ -26,7 +26,7 @@ use Rattle.markup.specs.Contexts.{IsContext, HasOpen, unbracketed}
 use Rattle.markup.specs.TokenRules.{is_cdata}
 use Rattle.markup.specs.Tokenizers.{is_between, is_text, is_in_text}
 use Rattle.markup.specs.Reading.{HasTakenUnder, HasToldUnder}
-use Rattle.markup.specs.ReaderSteps.{passed_over}
+use Rattle.markup.specs.inner.ReaderSteps.{passed_over}
 use Rattle.markup.specs.declared.reader.Reader.{Reader}
 use Rattle.markup.specs.declared.reference.ReferenceScan.{ReferenceScan}
 use Rattle.markup.specs.declared.reference.ReferenceScan.TheVariants.{Begun}
@@ -116,9 +116,6 @@ referring_more piece scan next bytes byte rest after i e s = record {
   bytes_are = one_more bytes 0 i.seen byte i.bytes_are;
   goes_on = λ w. ap (run (InReference Begun) no_draft) (append_assoc i.seen (byte ∷ []) w) ∙ (i.goes_on (byte ∷ w) ∙ goes (InReference scan) (InReference next) byte no_draft no_draft w (ap referring s) refl);
 }
-
-pub referring_within : (piece : List ℕ) (scan : ReferenceScan) (bytes : ℕ) (rest : List ℕ) → IsReferring piece scan bytes rest → bytes + length rest ≡ length piece
-referring_within piece scan bytes rest i = omega (arith, i.bytes_are, ap length i.joined, length-append i.seen rest)
 
 -- the token whose characters these are
 module _ (piece seen after : List ℕ) (byte c bytes : ℕ) (joined : piece ≡ 38 ∷ ((seen ++ byte ∷ []) ++ after)) (long : suc (length (seen ++ byte ∷ [])) ≡ bytes) where

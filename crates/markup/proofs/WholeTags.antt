@@ -8,7 +8,7 @@ use Rattle.markup.specs.declared.tag.Given.{Given}
 use Rattle.markup.specs.declared.tag.Opening.{Opening}
 use Rattle.markup.specs.Events.{declared_prefix, attribute_name, entries}
 use Rattle.markup.specs.Faults.{same_declared, clash, has_clash, is_bad_declaration, is_bad_attribute}
-use Rattle.markup.specs.TagParts.{is_plain, plain_attributes, declares_twice, declares_badly, is_unbound}
+use Rattle.markup.specs.inner.TagParts.{is_plain, plain_attributes, declares_twice, declares_badly, is_unbound}
 use Rattle.markup.proofs.TagPartLemmas.{or-false, or_assoc, or_swap, any_false}
 
 abbrev Prefix : Type 0

@@ -25,9 +25,5 @@ pub mod PlainTags
 pub mod Reading
 pub mod References
 pub mod Literals
-pub mod Inside
-pub mod ReaderSteps
-pub mod Origins
-pub mod TagParts
-pub mod WholeStarts
 pub mod Standing
+pub mod inner

@@ -8,9 +8,9 @@ ghost use Rattle.markup.specs.Events.{namespace_of};
 ghost use Rattle.lexical_core.specs.Names.{name_cmp};
 ghost use Rattle.markup.specs.EventItems.{entry_of};
 ghost use Rattle.markup.specs.Bindings.{Binds};
-ghost use Rattle.markup.specs.Origins.{namespace_from};
+ghost use Rattle.markup.specs.inner.Origins.{namespace_from};
 ghost use Rattle.markup.specs.Scopes.{all_declarations};
-ghost use Rattle.markup.specs.TagParts.{IsParted, AreDeclared, IsExpanded, IsCollected, is_plain, is_named, entry_from, sorted_entries, begins_with, has_twins};
+ghost use Rattle.markup.specs.inner.TagParts.{IsParted, AreDeclared, IsExpanded, IsCollected, is_plain, is_named, entry_from, sorted_entries, begins_with, has_twins};
 
 use crate::bindings::Bindings;
 use crate::event::Attr;

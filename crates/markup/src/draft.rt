@@ -1,6 +1,6 @@
 // What an open tag has said so far.
 ghost use Rattle.std.specs.Prelude.{◌≡◌, ◌++◌, ◌<◌, ◌^◌, OnOk, encode_utf8};
-ghost use Rattle.markup.specs.Inside.{noted_all};
+ghost use Rattle.markup.specs.inner.Inside.{noted_all};
 ghost use Rattle.markup.specs.Drafts.{no_draft, literal_char, given_char, end_value, shift, add, noted, value_noted, add_value, held_all, held};
 
 use crate::characters::is_blank;

@@ -1,7 +1,7 @@
 // Bytes with which an open token goes on as it stands: of a name, a value, a comment, an instruction.
 ghost use Rattle.std.specs.Prelude.{◌≡◌, ◌≤◌, length, take};
 ghost use Rattle.std.specs.List.{prefix_len};
-ghost use Rattle.markup.specs.Inside.{is_literal_of, is_passed, IsStill};
+ghost use Rattle.markup.specs.inner.Inside.{is_literal_of, is_passed, IsStill};
 
 use crate::classes::{DoubleQuoted, SingleQuoted};
 use crate::plain_tag::name_length;
@@ -63,7 +63,7 @@ fn part_length(part: NameScan, piece: &[u8]) -> usize
 }
 
 impl Scan {
-    ghost use Rattle.markup.specs.Inside.{is_inside, may_be_tag};
+    ghost use Rattle.markup.specs.inner.Inside.{is_inside, may_be_tag};
 
     /// Whether a token is open of which the next byte settles nothing.
     #[inline]

@@ -2,7 +2,7 @@
 ghost use Rattle.std.specs.Prelude.{◌≡◌, [], IsTrue};
 ghost use Rattle.std.specs.Option.{option_map};
 ghost use Rattle.markup.specs.Events.{namespace_of};
-ghost use Rattle.markup.specs.Origins.{namespace_from};
+ghost use Rattle.markup.specs.inner.Origins.{namespace_from};
 
 use crate::bindings::Bindings;
 use crate::names::{XML, is_empty};

@@ -10,7 +10,7 @@ ghost use Rattle.markup.specs.ScanRuns.{ended_of, draft_of};
 ghost use Rattle.markup.specs.Contexts.{IsContext};
 ghost use Rattle.markup.specs.TokenRules.{ends_tag};
 ghost use Rattle.markup.specs.Tokenizers.{IsAwaited, FinishesBy, undrafted, handed_out};
-ghost use Rattle.markup.specs.ReaderSteps.{TellsMore, SettlesEvents, TokenAnswered, returned, IsReady};
+ghost use Rattle.markup.specs.inner.ReaderSteps.{TellsMore, SettlesEvents, TokenAnswered, returned, IsReady};
 ghost use Rattle.markup.specs.Literals.{is_literal, is_still_space, IsRun, IsFreeRun, characters_from};
 ghost use Rattle.markup.specs.Events.{open_tags, Placed};
 ghost use Rattle.markup.specs.EventItems.{Tells};

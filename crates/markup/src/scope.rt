@@ -55,7 +55,7 @@ pub(crate) struct Scope {
 
 impl Scope {
     ghost use Rattle.markup.specs.Scopes.{IsScope, Begins, Closes};
-    ghost use Rattle.markup.specs.TagParts.{IsResolved};
+    ghost use Rattle.markup.specs.inner.TagParts.{IsResolved};
 
     /// No element is open. It takes no memory.
     pub(crate) fn new(alloc: Global) -> Scope

@@ -2,7 +2,7 @@
 ghost use Rattle.std.specs.Prelude.{◌≡◌, ◌<◌, ◌≤◌, [], length, take, drop, IfOk, IfSome, true};
 ghost use Rattle.markup.specs.Marks.{tag_limit};
 ghost use Rattle.markup.specs.PlainTags.{is_plain_name};
-ghost use Rattle.markup.specs.WholeStarts.{is_quote, is_empty_kind, IsValueAt, IsAttributeAt, AreGiven, IsStartAt};
+ghost use Rattle.markup.specs.inner.WholeStarts.{is_quote, is_empty_kind, IsValueAt, IsAttributeAt, AreGiven, IsStartAt};
 
 use crate::attributes::text_of;
 use crate::inside::value_length;

@@ -160,7 +160,7 @@ impl Scan {
 }
 
 impl Tokenizer {
-    ghost use Rattle.markup.specs.Inside.{is_inside, may_be_tag, GoesOver, GoesInside};
+    ghost use Rattle.markup.specs.inner.Inside.{is_inside, may_be_tag, GoesOver, GoesInside};
     ghost use Rattle.markup.specs.Marks.{IsLimit};
     ghost use Rattle.markup.specs.Drafts.{held};
     ghost use Rattle.markup.specs.TokenRules.{is_cdata};

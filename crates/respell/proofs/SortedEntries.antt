@@ -14,7 +14,7 @@ use Rattle.markup.specs.declared.tag.Given.{Given}
 use Rattle.markup.specs.declared.tag.Opening.{Opening}
 use Rattle.markup.specs.Events.{declared_prefix, attribute_name, entries, put, put_named}
 use Rattle.markup.specs.Faults.{clash, has_clash, same_declared, same_expanded}
-use Rattle.markup.specs.TagParts.{is_named, sorted_entries}
+use Rattle.markup.specs.inner.TagParts.{is_named, sorted_entries}
 use Rattle.markup.proofs.Twins.{by_name, entries_total, any-put, any_twins, any_twins-put, sorted_same}
 use Rattle.fragments.specs.Plain.{AreSorted}
 use Rattle.lexical_core.specs.Names.{name_cmp}

@@ -3,7 +3,7 @@ ghost use Rattle.std.specs.Prelude.{◌≡◌, ◌<◌, ◌≤◌, ◌^◌, ◌+
 ghost use Rattle.markup.specs.Events.{Placed};
 ghost use Rattle.markup.specs.Reading.{taken, failed, HasTakenUnder, GoesOnUnder, StopsUnder};
 ghost use Rattle.markup.specs.Tokenizers.{is_in_text};
-ghost use Rattle.markup.specs.WholeStarts.{IsStartAt};
+ghost use Rattle.markup.specs.inner.WholeStarts.{IsStartAt};
 
 use super::{MarkError, MarkFault, Reader};
 use crate::event::Events;

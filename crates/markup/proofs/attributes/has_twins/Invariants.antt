@@ -1,6 +1,6 @@
 -- What is left has twins where all of them have.
 use Rattle.std.proofs.Common.{◌≡◌, length, map}
-use Rattle.markup.specs.TagParts.{has_twins, entry_from}
+use Rattle.markup.specs.inner.TagParts.{has_twins, entry_from}
 use Rattle.markup.proofs.attributes.has_twins.Given as goal
 
 abbrev pub invariant-loop-attr : goal.invariant-loop-attr

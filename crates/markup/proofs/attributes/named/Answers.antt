@@ -4,7 +4,7 @@ use Rattle.lexical_core.specs.Tree.{Entry}
 use Rattle.markup.specs.declared.attributes.BoundAttr.{BoundAttr}
 use Rattle.markup.specs.declared.event.Attr.{Attr}
 use Rattle.markup.specs.EventItems.{entry_of}
-use Rattle.markup.specs.TagParts.{entry_from}
+use Rattle.markup.specs.inner.TagParts.{entry_from}
 use Rattle.markup.proofs.ExpandedLemmas.{named_more}
 use Rattle.markup.proofs.attributes.named.Goals as goal
 

@@ -1,7 +1,7 @@
 -- The attributes that are not left have their namespaces.
 use Rattle.std.proofs.Common.{◌≡◌, ◌++◌, length, map, reverse}
 use Rattle.markup.specs.EventItems.{entry_of}
-use Rattle.markup.specs.TagParts.{entry_from}
+use Rattle.markup.specs.inner.TagParts.{entry_from}
 use Rattle.markup.proofs.attributes.named.Given as goal
 
 abbrev pub invariant-loop-next : goal.invariant-loop-next

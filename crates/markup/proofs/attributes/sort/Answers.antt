@@ -1,6 +1,6 @@
 -- The sort is stable, and compares by names.
 use Rattle.std.proofs.Common.{rules}
-use Rattle.markup.specs.TagParts.{entry_from}
+use Rattle.markup.specs.inner.TagParts.{entry_from}
 use Rattle.markup.proofs.SortedAttributes.{sorted_names}
 use Rattle.markup.proofs.attributes.sort.Goals as goal
 

@@ -1,7 +1,7 @@
 -- The bytes so far leave the scan as it is.
 use Rattle.std.proofs.Common.{◌≡◌, ◌+◌, drop}
 use Rattle.std.specs.List.{prefix_len}
-use Rattle.markup.specs.Inside.{is_passed}
+use Rattle.markup.specs.inner.Inside.{is_passed}
 use Rattle.markup.proofs.inside.passed_length.Given as goal
 
 abbrev pub invariant-loop-i : goal.invariant-loop-i

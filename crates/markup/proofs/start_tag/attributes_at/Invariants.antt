@@ -1,6 +1,6 @@
 -- The attributes before what is left are given.
 use Rattle.std.proofs.Common.{length}
-use Rattle.markup.specs.WholeStarts.{AreGiven}
+use Rattle.markup.specs.inner.WholeStarts.{AreGiven}
 use Rattle.markup.proofs.start_tag.attributes_at.Given as goal
 
 abbrev pub invariant-loop-attribute : goal.invariant-loop-attribute

@@ -1,9 +1,9 @@
 -- An attribute without an expanded name, and one with it.
 use Rattle.std.proofs.Common.{◌≡◌, None, Some, refl}
 use Rattle.markup.specs.declared.attributes.BoundAttr.{BoundAttr}
-use Rattle.markup.specs.Origins.{namespace_from}
+use Rattle.markup.specs.inner.Origins.{namespace_from}
 use Rattle.markup.specs.Events.{attribute_name}
-use Rattle.markup.specs.TagParts.{entry_from}
+use Rattle.markup.specs.inner.TagParts.{entry_from}
 use Rattle.markup.proofs.ExpandedLemmas.{attribute_name_is, collect_unbound, collect_bound}
 use Rattle.markup.proofs.attributes.Collected.add.Goals as goal
 

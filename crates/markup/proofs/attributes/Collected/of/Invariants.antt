@@ -4,7 +4,7 @@ use Rattle.markup.specs.declared.tag.Given.{Given}
 use Rattle.markup.specs.declared.tag.Opening.{Opening}
 use Rattle.markup.specs.Bindings.{Binds}
 use Rattle.markup.specs.Scopes.{all_declarations}
-use Rattle.markup.specs.TagParts.{IsCollected}
+use Rattle.markup.specs.inner.TagParts.{IsCollected}
 use Rattle.markup.proofs.attributes.Collected.of.Given as goal
 
 abbrev pub invariant-loop-next : goal.invariant-loop-next

@@ -1,6 +1,6 @@
 -- The collected attributes are sorted, and two of one name stand next to each other.
 use Rattle.std.proofs.Common.{map, reverse, refl, ap, ◌∙◌}
-use Rattle.markup.specs.TagParts.{has_twins, entry_from}
+use Rattle.markup.specs.inner.TagParts.{has_twins, entry_from}
 use Rattle.markup.proofs.ExpandedLemmas.{expanded_is}
 use Rattle.markup.proofs.attributes.Expanded.of.Goals as goal
 

@@ -2,7 +2,7 @@
 use Rattle.std.proofs.Common.{◌≡◌, List, ◌++◌, length}
 use Rattle.markup.specs.declared.tag.Given.{Given}
 use Rattle.markup.specs.Bindings.{Binds}
-use Rattle.markup.specs.TagParts.{IsParted, AreDeclared}
+use Rattle.markup.specs.inner.TagParts.{IsParted, AreDeclared}
 use Rattle.markup.proofs.attributes.Parted.of.Given as goal
 
 abbrev pub invariant-loop-last : goal.invariant-loop-last

@@ -1,6 +1,6 @@
 -- The declaration at the place, and none behind the last.
 use Rattle.std.proofs.Common.{arith}
-use Rattle.markup.specs.Origins.{no_binding}
+use Rattle.markup.specs.inner.Origins.{no_binding}
 use Rattle.markup.proofs.BindingLemmas.{found_namespace}
 use Rattle.markup.proofs.bindings.Bindings.declared_at.Goals as goal
 

@@ -1,7 +1,7 @@
 -- A declaration binds the prefix, or it is bound without one.
 use Rattle.std.proofs.Common.{[], sym, ap, ◌∙◌}
 use Rattle.std.specs.Option.{option_or}
-use Rattle.markup.specs.Origins.{no_binding}
+use Rattle.markup.specs.inner.Origins.{no_binding}
 use Rattle.markup.specs.Events.{namespace_of}
 use Rattle.markup.specs.Scopes.{all_declarations}
 use Rattle.markup.proofs.BindingLemmas.{namespace_at, unbound}

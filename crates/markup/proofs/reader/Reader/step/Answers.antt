@@ -1,5 +1,5 @@
 use Rattle.std.proofs.Common.{refl, sym, ◌∙◌, subst}
-use Rattle.markup.specs.ReaderSteps.{TokenAnswered}
+use Rattle.markup.specs.inner.ReaderSteps.{TokenAnswered}
 use Rattle.markup.specs.Reading.{HasTakenUnder}
 use Rattle.markup.specs.Tokenizers.{TakesPlain}
 use Rattle.markup.proofs.PlainLemmas.{alone_ok, alone_err}

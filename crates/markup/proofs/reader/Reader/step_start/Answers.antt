@@ -7,7 +7,7 @@ use Rattle.markup.specs.Faults.{rule_of}
 use Rattle.markup.specs.Scopes.{placed_at}
 use Rattle.markup.specs.Token.{Start}
 use Rattle.markup.specs.Tokenizers.{is_in_text}
-use Rattle.markup.specs.WholeStarts.{IsStartAt}
+use Rattle.markup.specs.inner.WholeStarts.{IsStartAt}
 use Rattle.markup.proofs.StartsTold.{some_holds, some_ready, goes_behind, refuses_start, start_out, stays_out}
 use Rattle.markup.proofs.reader.Reader.step_start.Goals as goal
 

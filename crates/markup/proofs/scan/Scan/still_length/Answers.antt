@@ -1,5 +1,5 @@
 use Rattle.std.proofs.Common.{sym, subst, ap, ◌∙◌, take, arith}
-use Rattle.markup.specs.Inside.{IsStill}
+use Rattle.markup.specs.inner.Inside.{IsStill}
 use Rattle.markup.specs.declared.scan.Scan.TheVariants.{Value}
 use Rattle.markup.proofs.InsideRuns.{value_still, comment_still, instruction_still}
 use Rattle.markup.proofs.scan.Scan.still_length.Goals as goal

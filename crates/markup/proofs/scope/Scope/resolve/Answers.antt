@@ -1,7 +1,7 @@
 -- The parts of the tag and its expanded attributes are those of the whole tag.
 use Rattle.std.proofs.Common.{◌++◌, sym, ap, ◌∙◌}
 use Rattle.std.specs.List.{list_all}
-use Rattle.markup.specs.TagParts.{is_plain}
+use Rattle.markup.specs.inner.TagParts.{is_plain}
 use Rattle.markup.specs.Scopes.{declarations, all_declarations}
 use Rattle.markup.proofs.WholeTags.{all_plain}
 use Rattle.markup.specs.declared.tag.Spelled.{Spelled}

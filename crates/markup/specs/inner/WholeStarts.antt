@@ -7,7 +7,7 @@ use Rattle.markup.specs.Marks.{tag_limit}
 use Rattle.markup.specs.Events.{opening}
 use Rattle.markup.specs.Events.{given as given_by}
 use Rattle.markup.specs.PlainTags.{is_plain_name}
-use Rattle.markup.specs.Inside.{is_literal_of}
+use Rattle.markup.specs.inner.Inside.{is_literal_of}
 use Rattle.markup.specs.declared.plain_tag.TagKind.{TagKind}
 use Rattle.markup.specs.declared.plain_tag.TagKind.TheVariants.{Empty}
 use Rattle.markup.specs.declared.tag.Given.{Given}

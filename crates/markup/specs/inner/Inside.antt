@@ -1,4 +1,4 @@
--- Bytes that go on with an open token and end none. Private functions alone cite this.
+-- Bytes that go on with an open token and end none.
 use Rattle.std.specs.Prelude.{◌≡◌, ℕ, Bool, ◌+◌, ◌-◌, ◌<◌, ◌==◌, ◌&&◌, ◌||◌, nat_le, not, true, false, List, [], ◌++◌, length, Some, encode_utf8_all}
 use Rattle.markup.specs.Drafts.{add_value}
 use Rattle.markup.specs.ScanRuns.{run, At}

@@ -1,4 +1,4 @@
--- The declarations and the attributes of a start tag, apart. Private functions alone cite this.
+-- The declarations and the attributes of a start tag, apart.
 use Rattle.std.specs.Prelude.{◌≡◌, ℕ, length, Bool, ◌||◌, ◌&&◌, false, List, [], ◌∷◌, ◌++◌, map, reverse, if◌then◌else◌, is_none, Option, Some, None}
 use Rattle.std.specs.List.{list_any, filter_map}
 use Rattle.std.specs.Str.{bytes_eq}
@@ -16,7 +16,7 @@ use Rattle.markup.specs.Events.{declared_prefix, namespace_of, attribute_name, p
 use Rattle.markup.specs.Faults.{same_declared, is_bad_declaration, has_clash, is_bad_attribute}
 use Rattle.markup.specs.EventItems.{entry_of}
 use Rattle.markup.specs.Bindings.{Binds}
-use Rattle.markup.specs.Origins.{namespace_from}
+use Rattle.markup.specs.inner.Origins.{namespace_from}
 use Rattle.markup.specs.OpenNames.{KeepsNames}
 use Rattle.markup.specs.Scopes.{declarations, all_declarations, open_name}
 

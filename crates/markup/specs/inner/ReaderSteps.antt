@@ -1,4 +1,4 @@
--- The two steps of a reader with a byte: what the byte does not go on with, and the byte itself. Private functions alone cite this.
+-- The two steps of a reader with a byte: what the byte does not go on with, and the byte itself.
 use Rattle.std.specs.Prelude.{◌≡◌, ℕ, true, List, [], ◌∷◌, ◌++◌, Some, Result, MatchResult, if◌then◌else◌}
 use Rattle.lexical_core.specs.Tree.{Char}
 use Rattle.markup.specs.Token.{Token}

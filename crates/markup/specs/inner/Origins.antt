@@ -1,4 +1,4 @@
--- What gives a prefix its namespace. Private functions alone cite this.
+-- What gives a prefix its namespace.
 use Rattle.std.specs.Prelude.{ℕ, List, [], get_or, None}
 use Rattle.markup.specs.declared.bindings.Binding.{Binding}
 use Rattle.markup.specs.declared.bindings.Bindings.{Bindings}

@@ -1,0 +1,6 @@
+-- What private functions alone cite, in reading order.
+pub mod Inside
+pub mod ReaderSteps
+pub mod Origins
+pub mod TagParts
+pub mod WholeStarts
