@@ -141,9 +141,6 @@ more_given bytes rest name value behind old new s a e =
 pub given_within : (bytes rest : List ℕ) (given : List Given) → AreGiven bytes given rest → length rest ≤ length bytes
 given_within bytes rest given s = omega (arith, ap length s.spelled, length-append (encode_utf8_all (flat_map attribute_text s.attributes)) rest)
 
-  size : length bytes - length rest ≡ length (encode_utf8_all (flat_map attribute_text s.attributes))
-  size = omega (arith, ap length s.spelled, length-append (encode_utf8_all (flat_map attribute_text s.attributes)) rest)
-
 -- ---- a value and an attribute that are found
 
 take_literal : (q : ℕ) (xs : List ℕ) (n : ℕ) → n ≤ prefix_len (is_literal_of q) xs → list_all (is_literal_of q) (take n xs) ≡ true
