@@ -49,7 +49,7 @@ text_leaf k codes text octets leaf e n is h = bytes leaf (subst (λ z. IsLeafBy 
     bytes (Bytes b) h = ap Bytes (h.1 ∙ sym is)
     bytes leaf h = absurd h
 
-run_text : (octets : List ℕ) (count : ℕ) → IsXmlRun octets count → IsXmlText octets
+pub run_text : (octets : List ℕ) (count : ℕ) → IsXmlRun octets count → IsXmlText octets
 run_text octets count r = (r.chars, r.are, sym r.spelled)
 
 pub text_fits : (simple : Simple) (octets : List ℕ) (count : ℕ) (leaf : Leaf) → simple.kind ≡ kind.Text → simple.codes ≡ None → (r : IsXmlRun octets count) → GivesLeaf simple r.chars leaf → ContentsUnder simple octets (Ok (Bytes octets))

@@ -2,6 +2,7 @@ pub mod ComponentsFound
 pub mod Inwards
 pub mod Steps
 pub mod StepTies
+pub mod UsualSteps
 pub mod Nested
 pub mod Counted
 pub mod Ends
@@ -17,6 +18,7 @@ pub mod NoCuts
 pub mod PathsOpen
 pub mod ContentsSteps
 pub mod Fed
+pub mod UsualFed
 pub mod TextLengths
 pub mod ToldAtParts
 pub mod CutTexts

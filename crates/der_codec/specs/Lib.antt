@@ -1,6 +1,7 @@
 pub mod Levels
 pub mod Components
 pub mod Decoding
+pub mod Entering
 pub mod Nesting
 pub mod Checked
 pub mod Judging

@@ -1,24 +1,19 @@
 // A checker of the DER of instances that takes their bytes in pieces.
-ghost use Rattle.std.specs.Prelude.{◌≡◌, ◌<◌, ◌+◌, ◌≤◌, ◌^◌, ◌++◌, ◌⊎◌, ℕ, List, [], IfOk, IfErr, OnOk, Some, None, Err, length, take};
+ghost use Rattle.std.specs.Prelude.{◌≡◌, ◌<◌, ◌+◌, ◌≤◌, ◌^◌, ◌++◌, ℕ, List, [], IfOk, IfErr, Some, None, Err, length, take, true, false};
 ghost use Rattle.message_model.specs.Tables.{Tables, types_of};
 ghost use Rattle.der_model.specs.DerMessage.{der_message};
 ghost use Rattle.der_codec.specs.Checked.{CheckTypes};
 ghost use Rattle.der_codec.specs.ReadInstances.{IsRead};
 ghost use Rattle.der_codec.specs.Decoding.{HasRead, IsStopped, IsSettled, BeginsContents, IsHeaderDue, end_of_levels};
-ghost use Rattle.der_codec.specs.KeptPieces.{KeepsShown, AreNone, GoesOnByLeaf};
-ghost use Rattle.der_codec.specs.Judging.{IsVerdictFor};
-ghost use Rattle.der_codec.specs.KeptOctets.{IsKeptAt};
+ghost use Rattle.der_codec.specs.KeptPieces.{KeepsShown, AreNone};
 ghost use Rattle.der_codec.specs.Limits.{open_limit, leaf_come, token_come};
 ghost use Rattle.facets.specs.LeafChecks.{IsHeldWithin};
-ghost use Rattle.der_codec.specs.Checking.{HasFed, IsReading, KeepsRead, IsMadeFor, StopsWithin, TakesFront, Stops, IsSpelled, EndsAs, IsFreed, open_count, fed, failed, held, token_held};
+ghost use Rattle.der_codec.specs.Checking.{HasFed, IsReading, IsMadeFor, StopsWithin, TakesFront, Stops, IsSpelled, EndsAs, IsFreed, open_count, fed, failed, held, token_held};
 ghost use Rattle.message_model.specs.Errors.{IsSameOrMemory, IsAgain};
 
-use crate::checks::{Checks, Refusal};
-use crate::contents::tell;
+use crate::checks::Checks;
 use crate::decoder::{Decoder, Due, Stop};
 use crate::envelopes::fragments_apart;
-use crate::level::Spot;
-use crate::limits::shorten;
 use inst_pool::{Builder, Instance};
 use message_model::{Fault, InstanceError, Model};
 use std::alloc::{AllocError, Global};
@@ -27,27 +22,15 @@ use std::alloc::{AllocError, Global};
 /// they are, and nothing of what is closed; for a reader the pieces of what has come, too.
 #[derive(Drop)]
 pub struct DerChecker {
-    alloc: Global,
+    pub(crate) alloc: Global,
     pub(crate) decoder: Decoder,
     /// Of the contents octets that have come, where more of them are due, as many as tell what they are.
-    kept: Vec<u8>,
-    checks: Checks,
+    pub(crate) kept: Vec<u8>,
+    pub(crate) checks: Checks,
     /// The pieces of what has come, where they are kept.
     pub(crate) pieces: Option<Builder>,
     /// The answer that it gives for good, where there is one.
     failed: Option<InstanceError>,
-}
-
-/// The lesser of two counts.
-fn fewer(have: usize, left: u64) -> usize
-    ensures have { result ≤ have }
-    ensures left { result ≤ left }
-    ensures one { (result ≡ have) ⊎ (result ≡ left) }
-{
-    if have as u64 <= left {
-        return have;
-    }
-    left as usize
 }
 
 impl DerChecker {
@@ -228,12 +211,67 @@ impl DerChecker {
         match self.decoder.due {
             Due::Over => Err(self.decoder.trailing()),
             Due::Contents { spot, left } => self.take_contents(model, spot, left, piece),
-            _ => self.take_first(model, piece),
+            _ => self.take_header(model, piece),
         }
+    }
+
+    /// Takes a header of two octets at once, where one of the usual form stands here, or else its first byte; with it the
+    /// contents where all of them stand in the piece, and ends the values that end behind them.
+    #[inline(always)]
+    fn take_header(&mut self, model: &Model, piece: &[u8]) -> Result<usize, Stop>
+        requires some { 0 < length piece.now }
+        requires room { fed self.old + length piece.now ≤ 2 ^ 40 }
+        requires due { IsHeaderDue self.old.decoder.due }
+        requires checks { CheckTypes (types_of model.now) self.old.checks }
+        requires given { (bytes : List ℕ) × HasFed self.old model.now bytes }
+        ensures checks { CheckTypes (types_of model.now) self.new.checks }
+        ensures front { TakesFront model.now self.old self.new piece.now result }
+        ensures some { IfOk result (λ n. 0 < n) }
+    {
+        let taken = self.take_two(model, piece);
+        if !taken {
+            return self.take_first(model, piece);
+        }
+        let (_front, left) = piece.split_at(2);
+        match self.settle(model, left) {
+            Ok(more) => Ok(2 + more),
+            Err(stop) => Err(stop),
+        }
+    }
+
+    /// Takes the first two octets, where they are a header of the usual form, nothing is refused and no pieces are kept.
+    /// It answers whether it has; where it has not, nothing is changed.
+    #[inline(always)]
+    fn take_two(&mut self, model: &Model, piece: &[u8]) -> bool
+        requires room { fed self.old + length piece.now ≤ 2 ^ 40 }
+        requires due { IsHeaderDue self.old.decoder.due }
+        requires given { (bytes : List ℕ) × HasFed self.old model.now bytes }
+        ensures unchanged { result ≡ false → self.new ≡ self.old }
+        ensures checks { self.new.checks ≡ self.old.checks }
+        ensures kept { self.new.kept ≡ self.old.kept }
+        ensures sound { self.new.failed ≡ self.old.failed }
+        ensures none { result ≡ true → self.new.pieces ≡ None }
+        ensures two { result ≡ true → 2 ≤ length piece.now }
+        ensures ok { (bytes : List ℕ) → HasRead (der_message model.now) self.old.decoder bytes → result ≡ true → HasRead (der_message model.now) self.new.decoder (bytes ++ take 2 piece.now) }
+        ensures place { result ≡ true → fed self.new ≡ fed self.old + 2 }
+        ensures low { result ≡ true → IsSettled self.new.decoder.due self.new.decoder.place (end_of_levels self.new.decoder.levels.items) }
+        ensures begun { result ≡ true → BeginsContents self.new.decoder.due self.new.decoder.start self.new.decoder.place }
+    {
+        if self.pieces.is_some() {
+            return false;
+        }
+        let Some((first, behind)) = piece.split_first() else {
+            return false;
+        };
+        let Some((second, _behind)) = behind.split_first() else {
+            return false;
+        };
+        self.decoder.take_usual(model, *first, *second)
     }
 
     /// Takes the first byte of the piece, which is one of a header, with it a length of one byte and the contents where
     /// all of them stand in the piece, and ends the values that end behind them.
+    #[inline(never)]
     fn take_first(&mut self, model: &Model, piece: &[u8]) -> Result<usize, Stop>
         requires some { 0 < length piece.now }
         requires room { fed self.old + length piece.now ≤ 2 ^ 40 }
@@ -285,6 +323,7 @@ impl DerChecker {
 
     /// Judges contents octets where all that are due stand here, and ends the values that end behind them. It answers
     /// how many bytes are taken.
+    #[inline(always)]
     fn settle(&mut self, model: &Model, behind: &[u8]) -> Result<usize, Stop>
         requires settled { IsSettled self.old.decoder.due self.old.decoder.place (end_of_levels self.old.decoder.levels.items) }
         requires begun { BeginsContents self.old.decoder.due self.old.decoder.start self.old.decoder.place }
@@ -305,149 +344,6 @@ impl DerChecker {
                 Err(stop) => Err(stop),
             },
         }
-    }
-
-    /// Judges contents octets of which none has come, where all of them stand here. It answers how many bytes are taken.
-    fn begin_contents(
-        &mut self,
-        model: &Model,
-        spot: Spot,
-        left: u64,
-        behind: &[u8],
-    ) -> Result<usize, Stop>
-        requires due { self.old.decoder.due ≡ Due.Contents spot left }
-        requires begun { self.old.decoder.start ≡ self.old.decoder.place }
-        requires kept { self.old.kept.items ≡ [] }
-        requires checks { CheckTypes (types_of model.now) self.old.checks }
-        requires room { fed self.old + length behind.now ≤ 2 ^ 40 }
-        requires given { (bytes : List ℕ) × HasRead (der_message model.now) self.old.decoder bytes × KeepsShown (der_message model.now) self.old.decoder self.old.pieces bytes }
-        ensures checks { CheckTypes (types_of model.now) self.new.checks }
-        ensures sound { self.new.failed ≡ self.old.failed }
-        ensures within { IfOk result (λ n. n ≤ length behind.now) }
-        ensures ok { (bytes : List ℕ) → HasRead (der_message model.now) self.old.decoder bytes → KeepsShown (der_message model.now) self.old.decoder self.old.pieces bytes → IfOk result (λ n. IsReading model.now self.new.decoder self.new.kept.items self.new.pieces (bytes ++ take n behind.now)) }
-        ensures err { (bytes : List ℕ) → HasRead (der_message model.now) self.old.decoder bytes → IfErr result (λ stop. StopsWithin model.now self.new.decoder (bytes ++ behind.now) stop) }
-    {
-        if (behind.len() as u64) < left {
-            return Ok(0);
-        }
-        let count = left as usize;
-        let (front, _behind) = behind.split_at(count);
-        match self.take_last(model, spot, left, front) {
-            Ok(()) => Ok(count),
-            Err(stop) => Err(stop),
-        }
-    }
-
-    /// Takes as many contents octets as are due and the piece has, and answers how many bytes that are.
-    fn take_contents(
-        &mut self,
-        model: &Model,
-        spot: Spot,
-        left: u64,
-        piece: &[u8],
-    ) -> Result<usize, Stop>
-        requires some { 0 < length piece.now }
-        requires room { fed self.old + length piece.now ≤ 2 ^ 40 }
-        requires due { self.old.decoder.due ≡ Due.Contents spot left }
-        requires checks { CheckTypes (types_of model.now) self.old.checks }
-        requires given { (bytes : List ℕ) × HasFed self.old model.now bytes }
-        ensures checks { CheckTypes (types_of model.now) self.new.checks }
-        ensures front { TakesFront model.now self.old self.new piece.now result }
-        ensures some { IfOk result (λ n. 0 < n) }
-    {
-        let count = fewer(piece.len(), left);
-        let (front, _behind) = piece.split_at(count);
-        if (count as u64) < left {
-            return match self.keep(model, spot, left, front) {
-                Ok(()) => Ok(count),
-                Err(stop) => Err(stop),
-            };
-        }
-        match self.take_last(model, spot, left, front) {
-            Ok(()) => Ok(count),
-            Err(stop) => Err(stop),
-        }
-    }
-
-    /// Keeps contents octets, behind which more are due.
-    fn keep(&mut self, model: &Model, spot: Spot, left: u64, front: &[u8]) -> Result<(), Stop>
-        requires room { fed self.old + length front.now ≤ 2 ^ 40 }
-        requires due { self.old.decoder.due ≡ Due.Contents spot left }
-        requires more { length front.now < left }
-        ensures checks { self.new.checks ≡ self.old.checks }
-        ensures sound { self.new.failed ≡ self.old.failed }
-        ensures ok { (bytes : List ℕ) → IsReading model.now self.old.decoder self.old.kept.items self.old.pieces bytes → IfOk result (λ _. IsReading model.now self.new.decoder self.new.kept.items self.new.pieces (bytes ++ front.now)) }
-        ensures err { IfErr result (λ stop. stop ≡ Stop.Memory) }
-    {
-        match self.hold(model, spot, front) {
-            Ok(()) => {
-                self.decoder.pass(spot, left, front.len() as u64);
-                Ok(())
-            }
-            Err(_) => Err(Stop::Memory),
-        }
-    }
-
-    /// Keeps contents octets, and of all that are kept no more than tell what they are.
-    fn hold(&mut self, model: &Model, spot: Spot, front: &[u8]) -> Result<(), AllocError>
-        ensures kept { OnOk result (IsKeptAt (der_message model.now) spot self.new.kept.items (self.old.kept.items ++ front.now)) }
-        ensures decoder { self.new.decoder ≡ self.old.decoder }
-        ensures checks { self.new.checks ≡ self.old.checks }
-        ensures sound { self.new.failed ≡ self.old.failed }
-        ensures pieces { self.new.pieces ≡ self.old.pieces }
-    {
-        self.kept.extend_from_slice(front)?;
-        shorten(self.alloc, model, spot, &mut self.kept)
-    }
-
-    /// Takes the last contents octets of a leaf, judges it, and ends the values that end behind it.
-    fn take_last(&mut self, model: &Model, spot: Spot, left: u64, front: &[u8]) -> Result<(), Stop>
-        requires room { fed self.old + length front.now ≤ 2 ^ 40 }
-        requires due { self.old.decoder.due ≡ Due.Contents spot left }
-        requires last { length front.now ≡ left }
-        requires checks { CheckTypes (types_of model.now) self.old.checks }
-        requires given { (bytes : List ℕ) × KeepsRead model.now self.old.decoder self.old.kept.items bytes × KeepsShown (der_message model.now) self.old.decoder self.old.pieces bytes }
-        ensures checks { CheckTypes (types_of model.now) self.new.checks }
-        ensures sound { self.new.failed ≡ self.old.failed }
-        ensures ok { (bytes : List ℕ) → KeepsRead model.now self.old.decoder self.old.kept.items bytes → KeepsShown (der_message model.now) self.old.decoder self.old.pieces bytes
-            → IfOk result (λ _. IsReading model.now self.new.decoder self.new.kept.items self.new.pieces (bytes ++ front.now)) }
-        ensures err { (bytes : List ℕ) → KeepsRead model.now self.old.decoder self.old.kept.items bytes → IfErr result (λ stop. StopsWithin model.now self.new.decoder (bytes ++ front.now) stop) }
-    {
-        match self.judge_whole(model, spot, front) {
-            Ok(()) => {
-                self.decoder.end_contents(spot, left);
-                self.end_leaf(model)
-            }
-            Err(refusal) => Err(self.decoder.refused(refusal)),
-        }
-    }
-
-    /// Judges contents octets, of which these are the last. Where none were kept they are judged where they lie.
-    fn judge_whole(&mut self, model: &Model, spot: Spot, front: &[u8]) -> Result<(), Refusal>
-        requires short { length self.old.kept.items + length front.now < 2 ^ 40 }
-        requires checks { CheckTypes (types_of model.now) self.old.checks }
-        ensures checks { CheckTypes (types_of model.now) self.new.checks }
-        ensures judged { IsVerdictFor (der_message model.now) spot (self.old.kept.items ++ front.now) result }
-        ensures decoder { self.new.decoder ≡ self.old.decoder }
-        ensures sound { self.new.failed ≡ self.old.failed }
-        ensures kept { IfOk result (λ _. self.new.kept.items ≡ []) }
-        ensures shown { IfOk result (λ _. GoesOnByLeaf (der_message model.now) spot (self.old.kept.items ++ front.now) self.old.pieces self.new.pieces) }
-    {
-        if self.kept.is_empty() {
-            return tell(&mut self.checks, &mut self.pieces, model, spot, front);
-        }
-        if self.kept.extend_from_slice(front).is_err() {
-            return Err(Refusal::Memory);
-        }
-        let result = tell(
-            &mut self.checks,
-            &mut self.pieces,
-            model,
-            spot,
-            self.kept.as_slice(),
-        );
-        self.kept.clear();
-        result
     }
 
     /// The end of the bytes: they spell an instance, or have a first fault. After an error of `feed`

@@ -69,6 +69,7 @@ fn unexpected() -> Found
 }
 
 /// In a sequence.
+#[inline(always)]
 fn in_fields(model: &Model, number: u32, next: u32, id: Identifier) -> Found
     ensures { IsFound (types_of model.now) result (field_answer next (drop next (components (types_of model.now) number 0 (form_slots (types_of model.now number)))) id.constructed (tag_view id)) }
 {
@@ -98,6 +99,7 @@ fn missing(parent: u32, slot: u32) -> Found
 }
 
 /// The slot of the type under which the identifier is, if there is one, and what comes in it.
+#[inline(always)]
 fn field_at(model: &Model, number: u32, id: Identifier) -> Option<Field>
     ensures some { IfSome result (λ field. tag_view id ≡ context field.number) }
     ensures slot { IfSome result (λ field. (s : graph.Slot ℕ) × (slice_get (form_slots (types_of model.now number)) field.number ≡ Some s)
@@ -179,6 +181,7 @@ fn is_due(min: u32, max: Option<u32>) -> bool
 
 /// The first slot from one on, and before another, that has to come.
 #[tactic(auto, using(crate::proofs::ComponentsFound::none_further))]
+#[inline(always)]
 fn first_due(model: &Model, number: u32, from: u32, to: u32) -> Option<u32>
     ensures some { IfSome result (λ at. IsDue (form_slots (types_of model.now number)) from to at) }
     ensures none { IfNone result (NoneDue (form_slots (types_of model.now number)) from to) }
@@ -443,6 +446,7 @@ fn end_of_choice(next: u32) -> Ended
 }
 
 /// What identifier octets are in an open value.
+#[inline(always)]
 pub fn identify(model: &Model, level: &Level, id: Identifier) -> Found
     ensures { (fragment : Tree → List ℕ) (l : states.Level ℕ) → IsLevel (types_of model.now) level.now l
         → IsFound (types_of model.now) result (level_answer (in_der fragment (message_of model.now)) l id.constructed (tag_view id)) }
@@ -456,6 +460,7 @@ pub fn identify(model: &Model, level: &Level, id: Identifier) -> Found
 }
 
 /// In a value of a type, whose next component has this number.
+#[inline(always)]
 fn in_type(model: &Model, number: u32, next: u32, id: Identifier) -> Found
     ensures { (fragment : Tree → List ℕ) (came : List ℕ) → next ≡ next_number came
         → IsFound (types_of model.now) result (states.identifier_answer (structure (in_der fragment (message_of model.now)) (structures.Value number)) came id.constructed (tag_view id)) }

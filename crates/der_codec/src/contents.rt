@@ -21,6 +21,7 @@ use respell::is_fragment;
 
 /// The leaf of the contents octets of a primitive value, or the rule that they break. A constructed value
 /// has no contents octets: of one the answer is that there is no memory.
+#[inline(always)]
 pub fn judge<'a>(
     checks: &mut Checks,
     model: &Model,
@@ -64,6 +65,7 @@ pub(crate) fn tell(
 }
 
 /// The contents of a value of a type.
+#[inline(always)]
 fn judge_value<'a>(
     checks: &mut Checks,
     model: &Model,
@@ -84,6 +86,7 @@ fn judge_value<'a>(
 }
 
 /// The contents of the number of an amount of a type.
+#[inline(never)]
 fn judge_number<'a>(
     checks: &mut Checks,
     model: &Model,
@@ -102,6 +105,8 @@ fn judge_number<'a>(
 }
 
 /// The contents of an envelope: the canonical fragment of its element.
+#[cold]
+#[inline(never)]
 fn judge_envelope<'a>(checks: &Checks, octets: &'a [u8]) -> Result<LeafRef<'a>, Refusal>
     requires { length octets.now < 2 ^ 40 }
     ensures { (m : DerMessage ℕ) → (m.fragment ≡ fragment) → IsJudgedAt m (Holds Fragment) octets.now result }

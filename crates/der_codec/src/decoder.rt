@@ -101,6 +101,7 @@ impl Decoder {
         ensures start { self.new.start ≡ self.old.start }
         ensures due { self.new.due ≡ self.old.due }
         ensures room { vec_capacity self.old.levels ≤ vec_capacity self.new.levels }
+        ensures size { length self.new.levels.items ≡ length self.old.levels.items }
     {
         let count = self.levels.len();
         self.levels[count - 1] = level;

@@ -116,6 +116,8 @@ impl Decoder {
     }
 
     /// Begins the outermost value.
+    #[cold]
+    #[inline(never)]
     fn begin_outermost(&mut self, id: Identifier) -> Result<(), Stop>
         requires room { self.old.place < 2 ^ 63 }
         ensures levels { self.new.levels ≡ self.old.levels }
@@ -154,6 +156,8 @@ impl Decoder {
     }
 
     /// Takes a length octet.
+    #[cold]
+    #[inline(never)]
     fn take_length(
         &mut self,
         constructed: bool,
@@ -189,6 +193,7 @@ impl Decoder {
 
     /// Takes the length octet at the front, where a length is due of which none has come, and that octet is the
     /// whole of it. It answers how many octets it takes.
+    #[inline(always)]
     pub(crate) fn take_short(&mut self, octets: &[u8]) -> Result<usize, Stop>
         requires room { self.old.place < 2 ^ 63 }
         requires low { IsSettled self.old.due self.old.place (end_of_levels self.old.levels.items) }
@@ -225,6 +230,7 @@ impl Decoder {
     }
 
     /// Opens a value whose length has come, with this octet as the last.
+    #[inline(always)]
     fn open(&mut self, constructed: bool, spot: Spot, n: u64, octet: u8) -> Result<(), Stop>
         requires room { self.old.place < 2 ^ 63 }
         requires short { n < 2 ^ 63 }
@@ -315,7 +321,7 @@ fn is_outermost(id: Identifier) -> bool
 }
 
 /// The level, in which one component more has come.
-fn advanced(level: Level, number: u16) -> Level
+pub(crate) fn advanced(level: Level, number: u16) -> Level
     requires { level.count < 2 ^ 63 }
     ensures { IsAdvanced level number result }
 {

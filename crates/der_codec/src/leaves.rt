@@ -16,9 +16,10 @@ ghost use Rattle.der_codec.specs.Judging.{IsJudged, IsXmlCode, IsNoDate};
 use crate::checks::{Checks, Refusal};
 use data_types::{Kind, LeafRef, is_date_text};
 use facets::{Codes, Simple, check_number, check_octets};
-use lexical_core::{Rule, is_xml_text, read_nr3, xml_run};
+use lexical_core::{Rule, read_nr3, xml_run};
 
 /// The leaf of contents octets under the simple type of this number, or the rule that they break.
+#[inline(always)]
 pub(crate) fn judge_simple<'a>(
     checks: &mut Checks,
     number: u32,
@@ -175,7 +176,7 @@ fn judge_date<'a>(
 fn no_date(octets: &[u8]) -> Rule
     ensures { IsNoDate octets.now result }
 {
-    if is_xml_text(octets) {
+    if is_text(octets) {
         return Rule::BadText;
     }
     Rule::BadContents
@@ -191,6 +192,17 @@ fn characters(octets: &[u8]) -> Option<usize>
         return None;
     }
     Some(run.characters)
+}
+
+/// Whether the octets are characters of XML in UTF-8, found by runs.
+#[tactic(auto, using(crate::proofs::LeavesJudged::run_text))]
+fn is_text(octets: &[u8]) -> bool
+    ensures { IsTrue result ↔ IsXmlText octets.now }
+{
+    match characters(octets) {
+        Some(_count) => true,
+        None => false,
+    }
 }
 
 /// A code by its number: §8.3, §8.4.
@@ -220,7 +232,7 @@ fn is_code(codes: &Codes, place: u32) -> bool
     let Some(text) = codes.get(place as usize) else {
         return false;
     };
-    is_xml_text(text.bytes())
+    is_text(text.bytes())
 }
 
 /// Whether the octets are the two's complement of a number, as few as there can be: §8.3.2.

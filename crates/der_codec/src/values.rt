@@ -64,6 +64,7 @@ impl DerChecker {
     }
 
     /// The elements end that end with the component that came last.
+    #[inline(always)]
     fn end_component(&mut self, model: &Model) -> Result<(), Stop>
         requires { (bytes : List ℕ) × (r : HasRead (der_message model.now) self.old.decoder bytes) × AreOpen self.old.pieces (elements_around (der_message model.now) (around_of r.state)) }
         ensures decoder { self.new.decoder ≡ self.old.decoder }
@@ -81,6 +82,7 @@ impl DerChecker {
     }
 
     /// Ends the values that end here, where no identifier octet has come.
+    #[inline(always)]
     pub(crate) fn end_open(&mut self, model: &Model) -> Result<(), Stop>
         requires settled { IsSettled self.old.decoder.due self.old.decoder.place (end_of_levels self.old.decoder.levels.items) }
         requires header { IsNoContents self.old.decoder.due }
@@ -98,6 +100,7 @@ impl DerChecker {
     }
 
     /// Ends all values that end at this place, where no identifier octet has come.
+    #[inline(always)]
     fn end_all(&mut self, model: &Model) -> Result<(), Stop>
         requires fresh { IsFresh self.old.decoder.due }
         requires kept { self.old.kept.items ≡ [] }
@@ -122,6 +125,7 @@ impl DerChecker {
     }
 
     /// Ends the innermost value where it ends at this place, and no identifier octet has come. It answers whether it has.
+    #[inline(always)]
     fn end_one(&mut self, model: &Model) -> Result<bool, Stop>
         requires fresh { IsFresh self.old.decoder.due }
         requires given { (bytes : List ℕ) × HasRead (der_message model.now) self.old.decoder bytes × KeepsShown (der_message model.now) self.old.decoder self.old.pieces bytes }
@@ -149,6 +153,7 @@ impl DerChecker {
     }
 
     /// Ends the elements that end with a leaf, which is the last piece, and then the values that end behind it.
+    #[inline(always)]
     pub(crate) fn end_leaf(&mut self, model: &Model) -> Result<(), Stop>
         requires fresh { IsFresh self.old.decoder.due }
         requires kept { self.old.kept.items ≡ [] }
