@@ -12,7 +12,7 @@ use Rattle.reference_check.specs.Words.{UpTo}
 use Rattle.der_model.specs.Faults.{Front, broken, IsClean, IsHeldIn, BreaksIn}
 use Rattle.der_model.proofs.Continued.{front_more}
 use Rattle.der_model.proofs.WholeValues.{front_then}
-use Rattle.der_codec.specs.Nesting.{AreNested}
+use Rattle.der_codec.specs.inner.Nesting.{AreNested}
 use Rattle.der_codec.specs.Judging.{HoldsContents, BreaksContentsAt}
 use Rattle.der_codec.specs.Decoding.{IsOpen, IsBegun, Reads, Fails}
 use Rattle.der_codec.specs.declared.level.Spot.{Spot}

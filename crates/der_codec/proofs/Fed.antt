@@ -19,7 +19,7 @@ use Rattle.der_codec.specs.Levels.{inwards}
 use Rattle.der_codec.specs.Components.{added_text}
 use Rattle.der_codec.specs.Decoding.{due_depth, Reads, Fails, HasRead, IsOpen, IsFresh, IsFault, IsStopped, IsOver, IsReady, IsWaiting, IsNoCut, IsRefusedAs, end_of_levels}
 use Rattle.der_codec.specs.Judging.{HoldsContents, BreaksContentsAt, IsVerdictFor}
-use Rattle.der_codec.specs.OpenNames.{IsNamed}
+use Rattle.der_codec.specs.inner.OpenNames.{IsNamed}
 use Rattle.der_codec.specs.Checking.{IsReading, KeepsContents, KeepsRead, HasFed, TakesFront, StopsWithin, Stops, IsSpelled, EndsAs, open_count, fed, token_held}
 use Rattle.message_model.specs.Errors.{IsSameOrMemory}
 use Rattle.der_codec.specs.declared.checks.Refusal.{Refusal}

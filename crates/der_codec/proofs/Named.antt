@@ -10,7 +10,7 @@ use Rattle.lexical_core.specs.declared.rule.Rule.TheVariants.{UnexpectedTag}
 use Rattle.reference_check.specs.Steps.{has_room}
 use Rattle.der_model.specs.Faults.{Front, IsClean}
 use Rattle.der_model.specs.OpenParts.{components_of}
-use Rattle.der_codec.specs.OpenNames.{names_of_part, IsNamed}
+use Rattle.der_codec.specs.inner.OpenNames.{names_of_part, IsNamed}
 use Rattle.der_codec.proofs.ComponentsFound.{get_drop}
 
 no_begin : {P : Type 0} (label : Label) (x : Answer P) (k : ℕ) (c : Component P) → skipping label x ≡ Begins k c → ⊥

@@ -8,7 +8,7 @@ use Rattle.der_model.specs.States as states
 use Rattle.der_model.specs.States.{Part, Identifier, Length, End, part_octets, Level, State, Start, AwaitsLength, AwaitsContents, Within, Answer, level_answer, begun, names_in, state_after, innermost_end, level_end, Stands, end_from}
 use Rattle.reference_check.specs.Words.{UpTo}
 use Rattle.der_model.specs.Faults.{Front, IsClean}
-use Rattle.der_codec.specs.Nesting.{AreNested, IsNested}
+use Rattle.der_codec.specs.inner.Nesting.{AreNested, IsNested}
 use Rattle.der_codec.specs.Decoding.{IsOpen, IsBegun, Reads, IsBelow, IsFresh, IsReady, IsWaiting, end_of_first}
 use Rattle.der_codec.specs.declared.level.Level as levels
 use Rattle.der_codec.specs.declared.decoder.Due.{Due}

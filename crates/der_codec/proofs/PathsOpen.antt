@@ -13,7 +13,7 @@ use Rattle.der_model.specs.Paths.{path_text, path_of, names_of}
 use Rattle.der_codec.specs.Levels.{IsSpot, IsLevel, AreLevels, inwards, rest_of}
 use Rattle.der_codec.specs.Decoding.{IsOpen, AwaitsValue}
 use Rattle.der_model.specs.OpenParts.{components_of}
-use Rattle.der_codec.specs.OpenNames.{label_of, names_of_part, names_at, document, names_within, AreNamed, IsNamed, slot_names, amount_names, form_names, alternative_names, item_names, spot_names, numbered_names, level_names, names_over}
+use Rattle.der_codec.specs.inner.OpenNames.{label_of, names_of_part, names_at, document, names_within, AreNamed, IsNamed, slot_names, amount_names, form_names, alternative_names, item_names, spot_names, numbered_names, level_names, names_over}
 use Rattle.der_codec.specs.declared.level.Spot.{Spot}
 use Rattle.der_codec.specs.declared.level.Spot.TheVariants as spots
 use Rattle.der_codec.specs.declared.level.Level as levels

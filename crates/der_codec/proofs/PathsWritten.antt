@@ -8,7 +8,7 @@ use Rattle.reference_check.specs.Forms.{Graph, form_slots}
 use Rattle.der_model.specs.Structures.{is_single}
 use Rattle.der_model.specs.States.{Name, Numbered, ListName, AttributeName}
 use Rattle.der_model.specs.Paths.{name_text, names_text, path_text}
-use Rattle.der_codec.specs.OpenNames.{closed_text, list_alone, last_list, held_text, tag_behind, HasNames, slot_names, item_names, alternative_names}
+use Rattle.der_codec.specs.inner.OpenNames.{closed_text, list_alone, last_list, held_text, tag_behind, HasNames, slot_names, item_names, alternative_names}
 use Rattle.der_codec.specs.declared.paths.Path.{Path}
 
 pub on_ok : {A E : Type 0} (r : Result A E) (P Q : Type 0) → OnOk r P → (P → Q) → OnOk r Q

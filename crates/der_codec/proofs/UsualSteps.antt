@@ -11,7 +11,7 @@ use Rattle.der_model.specs.DerMessage.{DerMessage}
 use Rattle.der_codec.specs.Levels.{IsLevel, inwards, first_of, rest_of}
 use Rattle.der_codec.specs.Components.{IsFound}
 use Rattle.der_codec.specs.Decoding.{Reads, HasRead, IsBelow, end_of_first, level_at, HasIdentifier}
-use Rattle.der_codec.specs.Entering.{Awaits, Enters}
+use Rattle.der_codec.specs.inner.Entering.{Awaits, Enters}
 use Rattle.der_codec.specs.declared.components.Found.TheVariants as found
 use Rattle.der_codec.specs.declared.decoder.Decoder.{Decoder}
 use Rattle.der_codec.specs.declared.decoder.Due.TheVariants as due

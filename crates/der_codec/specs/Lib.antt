@@ -1,12 +1,8 @@
 pub mod Levels
 pub mod Components
 pub mod Decoding
-pub mod Entering
-pub mod Nesting
 pub mod Checked
 pub mod Judging
-pub mod OpenNames
-pub mod Elements
 pub mod Limits
 pub mod KeptOctets
 pub mod KeptPieces
@@ -14,3 +10,4 @@ pub mod Checking
 pub mod ReadInstances
 pub mod Laws
 pub mod ReadyLaws
+pub mod inner

@@ -6,7 +6,7 @@ ghost use Rattle.der_model.specs.DerMessage.{DerMessage, in_der};
 ghost use Rattle.der_codec.specs.Levels.{inwards, first_of, rest_of};
 ghost use Rattle.der_codec.specs.Decoding.{HasRead, IsStopped, IsBelow, IsPast, end_of_levels, IsFresh, IsFreshOrOver, due_after, IsReady, IsOver, IsWaiting, IsOpen, IsNoCut, AwaitsValue, IsRefusedAs, due_depth, header_come};
 ghost use Rattle.der_codec.specs.Components.{added_text};
-ghost use Rattle.der_codec.specs.OpenNames.{IsNamed};
+ghost use Rattle.der_codec.specs.inner.OpenNames.{IsNamed};
 ghost use Rattle.der_codec.specs.Judging.{HoldsContents};
 ghost use Rattle.der_model.specs.Paths.{path_of};
 ghost use Rattle.der_model.specs.States.{State};

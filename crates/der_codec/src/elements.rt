@@ -11,7 +11,7 @@ ghost use Rattle.der_model.specs.States as states;
 ghost use Rattle.der_model.specs.ShownPieces.{begin_each, end_each, slot_elements, alternatives_of, component_elements, last_elements, elements_ended};
 ghost use Rattle.der_model.specs.NestedPieces.{elements_around};
 ghost use Rattle.der_codec.specs.Levels.{IsSpot, IsLevel, AreLevels, first_of};
-ghost use Rattle.der_codec.specs.Elements.{edge_if, edges_of};
+ghost use Rattle.der_codec.specs.inner.Elements.{edge_if, edges_of};
 
 use crate::components::{comes_once, is_choice};
 use crate::level::{Level, Spot};

@@ -6,7 +6,7 @@ ghost use Rattle.message_model.specs.Tables.{message_of};
 ghost use Rattle.der_model.specs.DerMessage.{in_der};
 ghost use Rattle.der_codec.specs.Levels.{inwards, rest_of};
 ghost use Rattle.der_codec.specs.Decoding.{HasRead, IsBelow, IsFresh, end_of_levels, IsSettled, HasIdentifier, level_at, BeginsContents};
-ghost use Rattle.der_codec.specs.Entering.{Enters};
+ghost use Rattle.der_codec.specs.inner.Entering.{Enters};
 ghost use Rattle.der_octets.specs.declared.tag_step.TagStep.{TagStep as Steps};
 
 use crate::components::{Found, identify};

@@ -1,6 +1,6 @@
 use Rattle.std.proofs.Common.{ap, ◌∙◌, ◌++◌}
 use Rattle.inst_pool.specs.Pieces.{edge_of, open_in}
-use Rattle.der_codec.specs.Elements.{edge_if}
+use Rattle.der_codec.specs.inner.Elements.{edge_if}
 use Rattle.der_codec.proofs.PiecesOpen.{on_ok_when, closed_open}
 use Rattle.der_codec.proofs.elements.end_one.Goals as goal
 

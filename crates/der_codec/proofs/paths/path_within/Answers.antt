@@ -1,6 +1,6 @@
 use Rattle.std.proofs.Common.{refl}
 use Rattle.message_model.specs.Tables.{types_of}
-use Rattle.der_codec.specs.OpenNames.{document}
+use Rattle.der_codec.specs.inner.OpenNames.{document}
 use Rattle.der_codec.proofs.paths.path_within.Goals as goal
 
 pub loop-level-init : goal.loop-level-init

@@ -1,7 +1,7 @@
 use Rattle.std.proofs.Common.{◌≡◌, List, length}
 use Rattle.message_model.specs.Tables.{types_of}
 use Rattle.der_model.specs.States.{Name}
-use Rattle.der_codec.specs.OpenNames.{HasNames, names_over, document}
+use Rattle.der_codec.specs.inner.OpenNames.{HasNames, names_over, document}
 use Rattle.der_codec.proofs.paths.path_within.Given as goal
 
 -- some names are written, and with those of what is left they are all

@@ -1,6 +1,6 @@
 use Rattle.std.proofs.Common.{◌+◌, ◌∷◌, sym, subst, arith}
 use Rattle.der_codec.specs.Levels.{inwards, rest_of}
-use Rattle.der_codec.specs.Entering.{Awaits}
+use Rattle.der_codec.specs.inner.Entering.{Awaits}
 use Rattle.der_codec.proofs.decoder.Decoder.enter.Goals as goal
 
 pub returns-then-constructed-clause-entered : goal.returns-then-constructed-clause-entered

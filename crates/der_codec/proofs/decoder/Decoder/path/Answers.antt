@@ -3,7 +3,7 @@ use Rattle.message_model.specs.Tables.{message_of}
 use Rattle.der_model.specs.DerMessage.{in_der}
 use Rattle.der_model.specs.Paths.{path_text}
 use Rattle.der_codec.specs.Components.{added_text}
-use Rattle.der_codec.specs.OpenNames.{names_over, document}
+use Rattle.der_codec.specs.inner.OpenNames.{names_over, document}
 use Rattle.der_codec.proofs.PathsOpen.{begun_path, open_path, no_path}
 use Rattle.der_codec.proofs.StepTies.{ok_each}
 use Rattle.der_codec.proofs.decoder.Decoder.path.Goals as goal

@@ -3,7 +3,7 @@ use Rattle.std.specs.Prelude.{slice_get}
 use Rattle.reference_check.specs.Forms.{form_slots}
 use Rattle.message_model.specs.Tables.{types_of}
 use Rattle.der_model.specs.States.{Numbered}
-use Rattle.der_codec.specs.OpenNames.{HasNames}
+use Rattle.der_codec.specs.inner.OpenNames.{HasNames}
 use Rattle.der_codec.proofs.PathsWritten.{on_ok, item_whole}
 use Rattle.der_codec.proofs.paths.Path.put_item.Goals as goal
 

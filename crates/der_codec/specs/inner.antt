@@ -1,0 +1,5 @@
+-- What private functions alone cite, in reading order.
+pub mod Entering
+pub mod Nesting
+pub mod OpenNames
+pub mod Elements
