@@ -3,8 +3,9 @@ ghost use Rattle.std.specs.Prelude.{◌≡◌, ◌<◌, ◌≤◌, ◌+◌, ◌^
 ghost use Rattle.markup.specs.Reading.{taken};
 
 use super::{ALONE, BEHIND_ROOT, LIMIT, ROOT, Verdict, answer, refusal, repeated};
-use crate::{Events, Reader, Run};
+use crate::{Events, MarkError, MarkFault, Reader, Run};
 use Verdict::Whole;
+use lexical_core::Rule;
 use std::alloc::{AllocError, Global};
 use std::process::Abort;
 
@@ -24,6 +25,13 @@ fn take_some(reader: &mut Reader, out: &mut Events, piece: &[u8]) -> Result<usiz
         Ok(Some(tag)) => return Ok(tag.bytes),
         Ok(None) => {}
         Err(error) => return Err(refusal(error)),
+    }
+    let start = match reader.take_start(piece, out) {
+        Ok(count) => count,
+        Err(error) => return Err(refusal(error)),
+    };
+    if start > 0 {
+        return Ok(start);
     }
     let inside = match reader.take_inside(piece) {
         Ok(count) => count,
@@ -219,6 +227,61 @@ fn whole_tags(rt: HostRuntime) {
     }
 }
 
+/// Pieces behind a start tag, how many bytes of a start tag at their front are taken at once, and how many
+/// events are told.
+static STARTS: [(&str, usize, usize); 16] = [
+    ("<b c=\"d\">e", 9, 1),
+    ("<b c='d\"e' f=\"'\"/>g", 18, 2),
+    ("<b>", 3, 1),
+    ("<b/>", 4, 2),
+    ("<b xmlns='u' c=''>", 18, 1),
+    ("<b-1 c.2='d e'>", 15, 1),
+    ("<b c='d'", 0, 0),
+    ("<b c='d' >", 0, 0),
+    ("<b  c='d'>", 0, 0),
+    ("<b c ='d'>", 0, 0),
+    ("<b p:c='d'>", 0, 0),
+    ("<b c='&lt;'>", 0, 0),
+    ("<b c='\t'>", 0, 0),
+    ("<b c='\u{E9}'>", 0, 0),
+    ("<b c=`d`>", 0, 0),
+    ("</a>", 0, 0),
+];
+
+#[test]
+fn whole_starts(rt: HostRuntime) {
+    for (piece, bytes, events) in &STARTS {
+        let Some(mut reader) = behind(rt.alloc(), b"<a>") else {
+            continue;
+        };
+        if piece.len() > 100 {
+            continue;
+        }
+        let mut out = Events::new(rt.alloc());
+        let found = match reader.take_start(piece.as_bytes(), &mut out) {
+            Ok(count) => count,
+            Err(_) => 100,
+        };
+        assert!(rt; found == *bytes && out.len() == *events, "{piece}: {found}");
+    }
+}
+
+/// A fault of a start tag stands at its first byte, and no event of it is told.
+#[test]
+fn refused_starts(rt: HostRuntime) {
+    let Some(mut reader) = behind(rt.alloc(), b"<a>") else {
+        return;
+    };
+    let mut out = Events::new(rt.alloc());
+    let found = reader.take_start(b"<b c='d' c='e'>", &mut out);
+    let fault = MarkFault {
+        rule: Rule::DuplicateAttribute,
+        place: 3,
+    };
+    assert!(rt; found == Err(MarkError::Refused(fault)));
+    assert!(rt; out.len() == 0);
+}
+
 /// What was taken, pieces behind it, and how many bytes at their front go on with the open token.
 static INSIDE: [(&str, &str, usize); 14] = [
     ("<a>", "<b c", 0),
@@ -263,4 +326,5 @@ fn nothing_after_an_error(rt: HostRuntime) {
     assert!(rt; reader.take(b'a', &mut out).is_err());
     assert!(rt; reader.take_characters(b"bc").bytes == 0);
     assert!(rt; reader.take_tag(b"<b>").is_err());
+    assert!(rt; reader.take_start(b"<b c='d'>", &mut out).is_err());
 }
