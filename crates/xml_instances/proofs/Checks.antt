@@ -119,22 +119,19 @@ items_new old new more e t = ap items_told (sym t.told_are) ∙ (items_placed t.
 pub told_joined : (a b : List Placed) → items_told (a ++ b) ≡ items_told a ++ items_told b
 told_joined a b = map-append (λ (e : Placed). e.item) a b
 
-length_one : (bytes : List ℕ) (byte : ℕ) (n m : ℕ) → m ≡ length bytes → n ≡ m + 1 → n ≡ length (bytes ++ byte ∷ [])
-length_one bytes byte n m e f = f ∙ (ap (λ v. v + 1) e ∙ sym (length-append bytes (byte ∷ [])))
-
 -- the place behind more bytes
 pub place_more : (bytes more : List ℕ) (place given n : ℕ) → place ≡ length bytes → given ≡ length bytes → n ≡ length more → given + n ≤ 2 ^ 40 → min (place + n) (2 ^ 64 - 1) ≡ length (bytes ++ more)
 place_more bytes more place given n e f g room = omega (arith, e, f, g, room, length-append bytes more)
 
--- one more byte, whose events break no rule
-pub fed_on : (T : Tables) (old new : XmlChecker) (bytes : List ℕ) (byte : ℕ) (events : List Event) (h : HasFed old T bytes) → GoesOn new.reader (bytes ++ byte ∷ []) h.told old.events events
-    → taken new.reader ≡ taken old.reader + 1 → AreFine (message_of T) (levels_over (message_of T) [] (items_told h.told)) (items_of events)
-    → IsOpen new.content (message_of T) (levels_over (message_of T) (levels_over (message_of T) [] (items_told h.told)) (items_of events)) → GoOn old.content.pieces new.content.pieces (EventsShow T (levels_over (message_of T) [] (items_told h.told)) (items_of events)) → new.events ≡ [] → new.failed ≡ None → new.place ≡ min (old.place + 1) (2 ^ 64 - 1) → fed old < 2 ^ 40 → HasFed new T (bytes ++ byte ∷ [])
-fed_on T old new bytes byte events h g n fine opens go e sound place room = record {
+-- more bytes, whose events break no rule
+pub events_fed : (T : Tables) (old new : XmlChecker) (bytes more : List ℕ) (n : ℕ) (events : List Event) (h : HasFed old T bytes) → GoesOn new.reader (bytes ++ more) h.told old.events events
+    → taken new.reader ≡ taken old.reader + n → n ≡ length more → AreFine (message_of T) (levels_over (message_of T) [] (items_told h.told)) (items_of events)
+    → IsOpen new.content (message_of T) (levels_over (message_of T) (levels_over (message_of T) [] (items_told h.told)) (items_of events)) → GoOn old.content.pieces new.content.pieces (EventsShow T (levels_over (message_of T) [] (items_told h.told)) (items_of events)) → new.events ≡ [] → new.failed ≡ None → new.place ≡ min (old.place + n) (2 ^ 64 - 1) → fed old + n ≤ 2 ^ 40 → HasFed new T (bytes ++ more)
+events_fed T old new bytes more n events h g counted size fine opens go e sound place room = record {
   told = h.told ++ g.more;
   given = g.taken_are;
-  counted = length_one bytes byte (taken new.reader) (taken old.reader) h.counted n;
-  placed = place ∙ place_more bytes (byte ∷ []) old.place (taken old.reader) 1 h.placed h.counted refl (omega (arith, room));
+  counted = counted ∙ (ap (λ v. taken old.reader + v) size ∙ (ap (λ v. v + length more) h.counted ∙ sym (length-append bytes more)));
+  placed = place ∙ place_more bytes more old.place (taken old.reader) n h.placed h.counted size room;
   fine = subst (λ (x : List Item). AreFine (message_of T) [] x) (sym items_are) (fine_joined (message_of T) [] (items_told h.told) (items_of events) h.fine fine);
   open_are = subst (λ (x : List (Level ℕ)). IsOpen new.content (message_of T) x) (sym (ap (levels_over (message_of T) []) items_are ∙ over_joined (message_of T) [] (items_told h.told) (items_of events))) opens;
   built = subst (λ (x : List Item). IsBuilt new.content.pieces T x) (sym items_are) (built_on T (items_told h.told) (items_of events) old.content.pieces new.content.pieces h.built go);
@@ -144,6 +141,12 @@ fed_on T old new bytes byte events h g n fine opens go e sound place room = reco
   where
     items_are : items_told (h.told ++ g.more) ≡ items_told h.told ++ items_of events
     items_are = told_joined h.told g.more ∙ ap (λ v. items_told h.told ++ v) (items_new old.events events g.more h.none g.tells)
+
+-- one more byte
+pub fed_on : (T : Tables) (old new : XmlChecker) (bytes : List ℕ) (byte : ℕ) (events : List Event) (h : HasFed old T bytes) → GoesOn new.reader (bytes ++ byte ∷ []) h.told old.events events
+    → taken new.reader ≡ taken old.reader + 1 → AreFine (message_of T) (levels_over (message_of T) [] (items_told h.told)) (items_of events)
+    → IsOpen new.content (message_of T) (levels_over (message_of T) (levels_over (message_of T) [] (items_told h.told)) (items_of events)) → GoOn old.content.pieces new.content.pieces (EventsShow T (levels_over (message_of T) [] (items_told h.told)) (items_of events)) → new.events ≡ [] → new.failed ≡ None → new.place ≡ min (old.place + 1) (2 ^ 64 - 1) → fed old < 2 ^ 40 → HasFed new T (bytes ++ byte ∷ [])
+fed_on T old new bytes byte events h g n fine opens go e sound place room = events_fed T old new bytes (byte ∷ []) 1 events h g n refl fine opens go e sound place (omega (arith, room))
 
 -- the attributes of events that are told are sorted
 pub sorted_told : (reader : Reader) (bytes : List ℕ) (told : List Placed) (old events : List Event) → EventsStay → EventsArePlain → (g : GoesOn reader bytes told old events) → old ≡ [] → AllByRecursion HasSortedAttributes (items_of events)

@@ -18,6 +18,7 @@ pub mod OpenScratch
 pub mod QuickTags
 pub mod OurNames
 pub mod QuickFed
+pub mod StartFronts
 pub mod Following
 pub mod OpenRuns
 pub mod OpenAccepts

@@ -110,32 +110,32 @@ content_fault m bytes tokens rest told more old new b place front clean told_are
 abbrev events_of : List Token → List Placed
 events_of tokens = events [] 0 tokens
 
--- an event of a byte that the reader took
-pub stops_at_event : (T : Tables) (checker : XmlChecker) (reader : Reader) (bytes : List ℕ) (byte : ℕ) (events : List Event) (content : Content) (e : InstanceError) (h : HasFed checker T bytes) → EventsStay → GoesOn reader (bytes ++ byte ∷ []) h.told checker.events events
-    → AreTaken {T = Unit {0}} (message_of T) (levels_over (message_of T) [] (items_told h.told)) events content (Err e) → Stops T (bytes ++ byte ∷ []) e
-stops_at_event T checker reader bytes byte events content Memory h stay g k = tt
-stops_at_event T checker reader bytes byte events content (Refused fault) h stay g k = record {
-  has_fault = λ behind. of_stay behind (stay reader (bytes ++ byte ∷ []) (h.told ++ g.more) g.taken_are behind);
+-- an event of bytes that the reader took
+pub stops_at_event : (T : Tables) (checker : XmlChecker) (reader : Reader) (bytes seen : List ℕ) (events : List Event) (content : Content) (e : InstanceError) (h : HasFed checker T bytes) → EventsStay → GoesOn reader (bytes ++ seen) h.told checker.events events
+    → AreTaken {T = Unit {0}} (message_of T) (levels_over (message_of T) [] (items_told h.told)) events content (Err e) → Stops T (bytes ++ seen) e
+stops_at_event T checker reader bytes seen events content Memory h stay g k = tt
+stops_at_event T checker reader bytes seen events content (Refused fault) h stay g k = record {
+  has_fault = λ behind. of_stay behind (stay reader (bytes ++ seen) (h.told ++ g.more) g.taken_are behind);
   no_cut = event_no_cut (message_of T) (levels_over (message_of T) (levels_over (message_of T) [] (items_told h.told)) (items_of k.before)) (item_of k.event.what) (fault_of fault).broken k.broken;
 }
   where
-    of_stay : (behind : List ℕ) → ((tokens : List Token) × (rest : List ℕ) × Front tag_limit [] ((bytes ++ byte ∷ []) ++ behind) tokens rest × IsClean [] tokens × (h.told ++ g.more ≡ events_of tokens)) → XmlFault (message_of T) ((bytes ++ byte ∷ []) ++ behind) (fault_of fault)
-    of_stay behind (tokens, rest, front, clean, told_are) = content_fault (message_of T) ((bytes ++ byte ∷ []) ++ behind) tokens rest h.told g.more checker.events events (fault_of fault).broken fault.place front clean told_are h.none g.tells h.fine k
+    of_stay : (behind : List ℕ) → ((tokens : List Token) × (rest : List ℕ) × Front tag_limit [] ((bytes ++ seen) ++ behind) tokens rest × IsClean [] tokens × (h.told ++ g.more ≡ events_of tokens)) → XmlFault (message_of T) ((bytes ++ seen) ++ behind) (fault_of fault)
+    of_stay behind (tokens, rest, front, clean, told_are) = content_fault (message_of T) ((bytes ++ seen) ++ behind) tokens rest h.told g.more checker.events events (fault_of fault).broken fault.place front clean told_are h.none g.tells h.fine k
 
--- an event that a refused byte has shown
-pub stops_before_mark : (T : Tables) (checker : XmlChecker) (bytes : List ℕ) (byte : ℕ) (events : List Event) (content : Content) (mark : MarkTold) (e : InstanceError) (h : HasFed checker T bytes) → Refuses (bytes ++ byte ∷ []) h.told checker.events events mark
-    → AreTaken {T = Unit {0}} (message_of T) (levels_over (message_of T) [] (items_told h.told)) events content (Err e) → Stops T (bytes ++ byte ∷ []) e
-stops_before_mark T checker bytes byte events content mark Memory h r k = tt
-stops_before_mark T checker bytes byte events content mark (Refused fault) h r k = record {
-  has_fault = λ behind. content_fault (message_of T) ((bytes ++ byte ∷ []) ++ behind) r.tokens (r.rest ++ behind) h.told r.more checker.events events (fault_of fault).broken fault.place (r.front behind) r.clean r.events_are h.none r.tells h.fine k;
+-- an event that bytes have shown which are refused
+pub stops_before_mark : (T : Tables) (checker : XmlChecker) (bytes seen : List ℕ) (events : List Event) (content : Content) (mark : MarkTold) (e : InstanceError) (h : HasFed checker T bytes) → Refuses (bytes ++ seen) h.told checker.events events mark
+    → AreTaken {T = Unit {0}} (message_of T) (levels_over (message_of T) [] (items_told h.told)) events content (Err e) → Stops T (bytes ++ seen) e
+stops_before_mark T checker bytes seen events content mark Memory h r k = tt
+stops_before_mark T checker bytes seen events content mark (Refused fault) h r k = record {
+  has_fault = λ behind. content_fault (message_of T) ((bytes ++ seen) ++ behind) r.tokens (r.rest ++ behind) h.told r.more checker.events events (fault_of fault).broken fault.place (r.front behind) r.clean r.events_are h.none r.tells h.fine k;
   no_cut = event_no_cut (message_of T) (levels_over (message_of T) (levels_over (message_of T) [] (items_told h.told)) (items_of k.before)) (item_of k.event.what) (fault_of fault).broken k.broken;
 }
 
 -- a fault of markup
-pub stops_at_mark : (T : Tables) (checker : XmlChecker) (bytes : List ℕ) (byte : ℕ) (events : List Event) (mark : MarkTold) (e : InstanceError) (h : HasFed checker T bytes) → OneToken → FrontsAgree → NothingAtClean → TokensHaveBytes → Refuses (bytes ++ byte ∷ []) h.told checker.events events mark
-    → AreFine (message_of T) (levels_over (message_of T) [] (items_told h.told)) (items_of events) → IsMarkTold mark (levels_over (message_of T) (levels_over (message_of T) [] (items_told h.told)) (items_of events)) e → Stops T (bytes ++ byte ∷ []) e
-stops_at_mark T checker bytes byte events mark Memory h one agree none some r fine k = tt
-stops_at_mark T checker bytes byte events mark (Refused fault) h one agree none some r fine (same_rule, same_path, same_place) = record { has_fault = shown; no_cut = λ e. r.no_cut (sym same_rule ∙ e) }
+pub stops_at_mark : (T : Tables) (checker : XmlChecker) (bytes seen : List ℕ) (events : List Event) (mark : MarkTold) (e : InstanceError) (h : HasFed checker T bytes) → OneToken → FrontsAgree → NothingAtClean → TokensHaveBytes → Refuses (bytes ++ seen) h.told checker.events events mark
+    → AreFine (message_of T) (levels_over (message_of T) [] (items_told h.told)) (items_of events) → IsMarkTold mark (levels_over (message_of T) (levels_over (message_of T) [] (items_told h.told)) (items_of events)) e → Stops T (bytes ++ seen) e
+stops_at_mark T checker bytes seen events mark Memory h one agree none some r fine k = tt
+stops_at_mark T checker bytes seen events mark (Refused fault) h one agree none some r fine (same_rule, same_path, same_place) = record { has_fault = shown; no_cut = λ e. r.no_cut (sym same_rule ∙ e) }
   where
     items_are : items_told (h.told ++ r.more) ≡ items_told h.told ++ items_of events
     items_are = told_joined h.told r.more ∙ ap (λ v. items_told h.told ++ v) (items_new checker.events events r.more h.none r.tells)
@@ -143,9 +143,9 @@ stops_at_mark T checker bytes byte events mark (Refused fault) h one agree none 
     levels_are : levels_over (message_of T) [] (items_told (h.told ++ r.more)) ≡ levels_over (message_of T) (levels_over (message_of T) [] (items_told h.told)) (items_of events)
     levels_are = ap (levels_over (message_of T) []) items_are ∙ over_joined (message_of T) [] (items_told h.told) (items_of events)
 
-    shown : (behind : List ℕ) → XmlFault (message_of T) ((bytes ++ byte ∷ []) ++ behind) (fault_of fault)
+    shown : (behind : List ℕ) → XmlFault (message_of T) ((bytes ++ seen) ++ behind) (fault_of fault)
     shown behind =
-        rw (same_rule, same_path, same_place, ← levels_are) (mark_refused (message_of T) one none agree some (bytes ++ byte ∷ []) h.told checker.events events mark r (subst (λ (v : List Item). AreFine (message_of T) [] v) (sym items_are) (fine_joined (message_of T) [] (items_told h.told) (items_of events) h.fine fine)) behind)
+        rw (same_rule, same_path, same_place, ← levels_are) (mark_refused (message_of T) one none agree some (bytes ++ seen) h.told checker.events events mark r (subst (λ (v : List Item). AreFine (message_of T) [] v) (sym items_are) (fine_joined (message_of T) [] (items_told h.told) (items_of events) h.fine fine)) behind)
 
 -- at the end
 pub ends_at_mark : (T : Tables) (checker : XmlChecker) (bytes : List ℕ) (mark : MarkTold) (e : InstanceError) (h : HasFed checker T bytes) → OneToken → NothingAtClean → AreEvents bytes h.told → MarkFault bytes (mark_of mark)

@@ -6,8 +6,9 @@ ghost use Rattle.xml_instances.specs.Quick.{HasRoom};
 ghost use Rattle.xml_instances.specs.Scratch.{KeepsNoLeaf};
 ghost use Rattle.xml_instances.specs.declared.content.quick.Room.TheVariants.{All as AllCharacters, Blanks as BlankCharacters};
 
-use super::{XmlChecker, told};
+use super::{XmlChecker, take_all, told};
 use crate::content::Room;
+use markup::MarkError;
 use message_model::{InstanceError, Model};
 
 impl XmlChecker {
@@ -45,6 +46,13 @@ impl XmlChecker {
         };
         if tag > 0 {
             return Ok(tag);
+        }
+        let start = match self.take_start(model, piece) {
+            Ok(start) => start,
+            Err(error) => return Err(error),
+        };
+        if start > 0 {
+            return Ok(start);
         }
         self.take_slowly(model, piece)
     }
@@ -171,6 +179,43 @@ impl XmlChecker {
                 Ok(tag.bytes)
             }
             Err(refusal) => Err(told(refusal, place)),
+        }
+    }
+
+    /// Takes the whole start tag at the front of the piece, if one stands there with attributes that the
+    /// reader takes at once.
+    fn take_start(&mut self, model: &Model, piece: &[u8]) -> Result<usize, InstanceError>
+        requires room { fed self.old + length piece.now ≤ 2 ^ 40 }
+        requires made { IsMadeFor self.old model.now }
+        ensures made { IsMadeFor self.new model.now }
+        ensures lean { KeepsNoLeaf self.old → KeepsNoLeaf self.new }
+        ensures front { TakesFront model.now self.old self.new piece.now result }
+    {
+        markup::laws::one_token();
+        markup::laws::fronts_agree();
+        markup::laws::events_stay();
+        markup::laws::nothing_at_clean();
+        markup::laws::tokens_have_bytes();
+        respell::laws::events_are_plain();
+        match self.reader.take_start(piece, &mut self.events) {
+            Ok(count) => {
+                if count == 0 {
+                    return Ok(0);
+                }
+                if let Err(error) = take_all(&mut self.content, model, self.events.as_slice()) {
+                    return Err(error);
+                }
+                self.events.clear();
+                self.place = self.place.saturating_add(count as u64);
+                Ok(count)
+            }
+            Err(MarkError::Refused(fault)) => {
+                if let Err(error) = take_all(&mut self.content, model, self.events.as_slice()) {
+                    return Err(error);
+                }
+                Err(self.mark_error(model, fault))
+            }
+            Err(MarkError::Memory) => Err(InstanceError::Memory),
         }
     }
 

@@ -34,14 +34,14 @@ pub returns-in-Err-clause-err : goal.returns-in-Err-clause-err
 returns-in-Err-clause-err c bytes h =
     let m = message_of c.args.model.now in
     let ls = levels_over m [] (items_told h.told) in
-    stops_at_event c.args.model.now c.args.self.now c.take.new.self bytes c.args.byte c.take.new.out c.take_all.new.content c.in-Err.error h c.events_stay.ensures (c.in-Ok.ensures.ok _ bytes h.told h.given)
+    stops_at_event c.args.model.now c.args.self.now c.take.new.self bytes (c.args.byte ∷ []) c.take.new.out c.take_all.new.content c.in-Err.error h c.events_stay.ensures (c.in-Ok.ensures.ok _ bytes h.told h.given)
     (subst (λ (es : List Event). AreTaken {T = Unit {0}} m ls es c.take_all.new.content (Err c.in-Err.error)) c.as_slice.ensures (c.in-Err.ensures.taken ls h.open_are))
 
 pub returns-in-Err-take_all-clause-err : goal.returns-in-Err-take_all-clause-err
 returns-in-Err-take_all-clause-err c bytes h =
     let m = message_of c.args.model.now in
     let ls = levels_over m [] (items_told h.told) in
-    stops_before_mark c.args.model.now c.args.self.now bytes c.args.byte c.take.new.out c.take_all-in-Err-Refused.new.content c.in-Err-Refused.fault c.in-Err-take_all.error h
+    stops_before_mark c.args.model.now c.args.self.now bytes (c.args.byte ∷ []) c.take.new.out c.take_all-in-Err-Refused.new.content c.in-Err-Refused.fault c.in-Err-take_all.error h
     (subst (MarkStops (bytes ++ c.args.byte ∷ []) h.told c.args.self.now.events c.take.new.out) c.in-Err-Refused.field-0-is (c.in-Err-Refused.ensures.err _ bytes h.told h.given))
     (subst (λ (es : List Event). AreTaken {T = Unit {0}} m ls es c.take_all-in-Err-Refused.new.content (Err c.in-Err-take_all.error)) c.as_slice-in-Err-Refused.ensures (c.in-Err-take_all.ensures.taken ls h.open_are))
 
@@ -50,7 +50,7 @@ returns-in_default-take_all-clause-err c bytes h =
     let m = message_of c.args.model.now in
     let ls = levels_over m [] (items_told h.told) in
     let k = c.in_default-take_all.ensures.taken ls h.open_are in
-    stops_at_mark c.args.model.now c.args.self.now bytes c.args.byte c.take.new.out c.in-Err-Refused.fault c.mark_error.result h c.one_token.ensures c.fronts_agree.ensures c.nothing_at_clean.ensures c.tokens_have_bytes.ensures
+    stops_at_mark c.args.model.now c.args.self.now bytes (c.args.byte ∷ []) c.take.new.out c.in-Err-Refused.fault c.mark_error.result h c.one_token.ensures c.fronts_agree.ensures c.nothing_at_clean.ensures c.tokens_have_bytes.ensures
     (subst (MarkStops (bytes ++ c.args.byte ∷ []) h.told c.args.self.now.events c.take.new.out) c.in-Err-Refused.field-0-is (c.in-Err-Refused.ensures.err _ bytes h.told h.given))
     (subst (λ (es : List Event). AreFine m ls (items_of es)) c.as_slice-in-Err-Refused.ensures k.0)
     (c.mark_error.ensures (levels_over m ls (items_of c.take.new.out)) (subst (λ (es : List Event). IsOpen c.take_all-in-Err-Refused.new.content m (levels_over m ls (items_of es))) c.as_slice-in-Err-Refused.ensures k.1))
