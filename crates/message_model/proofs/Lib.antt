@@ -5,8 +5,7 @@ pub mod Due
 pub mod CameMore
 pub mod Names
 pub mod Continues
-mod SameWords
-mod ShapesContinue
+pub mod ShapesContinue
 pub mod Places
 pub mod Numbering
 pub mod Compilable
@@ -27,3 +26,4 @@ pub mod OneForm
 pub mod OneModel
 pub mod OneRefusal
 pub mod SomeModel
+mod SameWords

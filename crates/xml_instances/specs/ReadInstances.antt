@@ -3,7 +3,7 @@ use Rattle.std.specs.Prelude.{ℕ, List, Option}
 use Rattle.message_model.specs.Tables.{Tables}
 use Rattle.message_model.specs.declared.fault.InstanceError.{InstanceError}
 use Rattle.xml_instances.specs.Checking.{HasFed, IsMadeFor, fed, failed}
-use Rattle.xml_instances.specs.Scratch.{scratch, token}
+use Rattle.xml_instances.specs.Scratch.{scratch, token, KeepsNoPieces}
 use Rattle.xml_instances.specs.declared.reader.XmlReader.{XmlReader}
 
 -- the reader goes on: it was given these bytes, and none of their events breaks a rule
@@ -29,3 +29,7 @@ reader_scratch reader = scratch reader.checker
 -- and for the open token
 abbrev pub reader_token : XmlReader → ℕ
 reader_token reader = token reader.checker
+
+-- the reader keeps no pieces
+abbrev pub IsReaderBare : XmlReader → Type 0
+IsReaderBare reader = KeepsNoPieces reader.checker

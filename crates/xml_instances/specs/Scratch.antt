@@ -1,5 +1,5 @@
 -- How many bytes are held for the text of the open leaf, and for the open token.
-use Rattle.std.specs.Prelude.{◌≡◌, ℕ, List, ◌∷◌, Option, Some, length}
+use Rattle.std.specs.Prelude.{◌≡◌, ℕ, List, ◌∷◌, Option, Some, None, length}
 use Rattle.facets.specs.LeafChecks.{IsHeldWithin, leaf_limit}
 use Rattle.markup.specs.Reading.{token as held_open}
 use Rattle.xml_instances.specs.Levels.{Level, Leaf}
@@ -22,6 +22,10 @@ held_in content = held_by content.innermost content.text
 -- the checker keeps no pieces, and no more of a text than is needed to tell whether it is a leaf
 abbrev pub KeepsNoLeaf : XmlChecker → Type 0
 KeepsNoLeaf checker = IsLean checker.content
+
+-- the checker keeps no pieces
+abbrev pub KeepsNoPieces : XmlChecker → Type 0
+KeepsNoPieces checker = checker.content.pieces ≡ None
 
 abbrev pub scratch : XmlChecker → ℕ
 scratch checker = held_in checker.content

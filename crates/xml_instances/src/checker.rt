@@ -14,7 +14,7 @@ ghost use Rattle.xml_instances.specs.Built.{EventsShow};
 ghost use Rattle.xml_instances.specs.Keeping.{GoOn};
 ghost use Rattle.xml_instances.specs.Checking.{items_of, HasFed, AreTaken, IsTold, IsMarkTold, Stops, IsSpelled, IsSpelledBy, EndsAs, IsSpelledAs, IsMadeFor, fed, failed};
 ghost use Rattle.message_model.specs.Errors.{IsSameOrMemory, IsAgain};
-ghost use Rattle.xml_instances.specs.Scratch.{scratch, token, KeepsNoLeaf, IsScratchWithin};
+ghost use Rattle.xml_instances.specs.Scratch.{scratch, token, KeepsNoLeaf, KeepsNoPieces, IsScratchWithin};
 ghost use Rattle.xml_instances.specs.Verdicts.{IsLean, HasFreeText};
 
 mod fronts;
@@ -127,7 +127,8 @@ impl XmlChecker {
     /// How many bytes are held for the open token: those of the names and values that a tag has said so far.
     /// It takes no memory.
     pub fn token(&self) -> u64
-        ensures count { (T : Tables) (bytes : List ℕ) → HasFed self.now T bytes → result ≡ token self.now }
+        ensures count { token self.now < 2 ^ 64 → result ≡ token self.now }
+        ensures held { (T : Tables) (bytes : List ℕ) → HasFed self.now T bytes → result ≡ token self.now }
         ensures bound { (T : Tables) (bytes : List ℕ) → HasFed self.now T bytes → result ≤ tag_limit }
     {
         self.reader.token()
@@ -149,7 +150,8 @@ impl XmlChecker {
 
     /// Takes the next bytes, of at most 2^40 in all. It answers the first fault at the byte that
     /// shows it, its place a byte number from 0. After an error it gives the same answer to every
-    /// later call, or that there is no memory for it, and holds no bytes of a leaf and of a token.
+    /// later call, or that there is no memory for it, and holds no bytes of a leaf and of a token, and
+    /// no pieces.
     pub fn feed(&mut self, model: &Model, piece: &[u8]) -> Result<(), InstanceError>
         requires room { failed self.old ≡ None → fed self.old + length piece.now ≤ 2 ^ 40 }
         requires made { IsMadeFor self.old model.now }
@@ -162,6 +164,7 @@ impl XmlChecker {
         ensures again { (e : InstanceError) → failed self.old ≡ Some e → IsAgain e result × (failed self.new ≡ failed self.old) }
         ensures still { (e : InstanceError) → failed self.old ≡ Some e → self.new ≡ self.old }
         ensures freed { failed self.old ≡ None → IfErr result (λ _. (scratch self.new ≡ 0) × (token self.new ≡ 0)) }
+        ensures bare { failed self.old ≡ None → IfErr result (λ _. KeepsNoPieces self.new) }
     {
         if let Some(error) = &self.failed {
             return Err(match error.copy(self.alloc) {
@@ -182,8 +185,10 @@ impl XmlChecker {
         ensures made { (types : Graph ℕ SimpleType) → AreMade types self.old.content → AreMade types self.new.content }
         ensures lean { KeepsNoLeaf self.old → KeepsNoLeaf self.new }
         ensures freed { (scratch self.new ≡ 0) × (token self.new ≡ 0) }
+        ensures bare { KeepsNoPieces self.new }
     {
         self.content.let_go();
+        self.content.forget_pieces();
         self.reader.forget_token();
         match error.copy(self.alloc) {
             Ok(copy) => {

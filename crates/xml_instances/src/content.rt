@@ -5,6 +5,8 @@ ghost use Rattle.xml_instances.specs.Built.{EventShows, ShowsBeside, StartShown,
 ghost use Rattle.xml_instances.specs.Keeping.{GoOn};
 ghost use Rattle.markup.specs.EventItems.{entry_of, item_of};
 ghost use Rattle.respell.specs.Respelling.{HasSortedAttributes};
+ghost use Rattle.facets.specs.declared.simple.Simple.{Simple as SimpleType};
+ghost use Rattle.reference_check.specs.Forms.{Graph};
 ghost use Rattle.reference_check.specs.Steps.{Came, EndsWith, Slotted, next};
 ghost use Rattle.message_model.specs.Message.{Message};
 ghost use Rattle.message_model.specs.Sound.{count_with};
@@ -13,6 +15,7 @@ ghost use Rattle.message_model.specs.Writes.{named};
 ghost use Rattle.xml_instances.specs.Levels.{Level, path_of};
 ghost use Rattle.xml_instances.specs.EventFaults.{space_fault, is_bare};
 ghost use Rattle.xml_instances.specs.Open.{IsOpen, IsTaken, IsItemTaken, AreMade, names_of, Says, Refuses, IsPlaced, IsEntered, IsRound, form_at, IsFilled, IsChild, IsStepped, IsBegun, IsRoot};
+ghost use Rattle.xml_instances.specs.Scratch.{held_in};
 ghost use Rattle.xml_instances.specs.Verdicts.{IsLean};
 
 mod attributes;
@@ -112,6 +115,16 @@ impl Content {
             What::End { .. } => self.end(model),
             What::Skipped => Ok(()),
         }
+    }
+
+    /// Lets go of the pieces. It is for what takes no more events.
+    pub(crate) fn forget_pieces(&mut self)
+        ensures made { (types : Graph ℕ SimpleType) → AreMade types self.old → AreMade types self.new }
+        ensures lean { IsLean self.old → IsLean self.new }
+        ensures same { held_in self.new ≡ held_in self.old }
+        ensures bare { self.new.pieces ≡ None }
+    {
+        self.pieces = None;
     }
 
     /// The path of the open elements.

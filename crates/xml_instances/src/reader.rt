@@ -1,12 +1,12 @@
 // A reader of XML instances that takes their bytes in pieces, and keeps the pieces of the instance.
-ghost use Rattle.std.specs.Prelude.{◌≡◌, ◌+◌, ◌≤◌, ◌^◌, ◌++◌, ℕ, List, [], IfOk, IfErr, Some, None, Err, length};
+ghost use Rattle.std.specs.Prelude.{◌≡◌, ◌+◌, ◌<◌, ◌≤◌, ◌^◌, ◌++◌, ℕ, List, [], IfOk, IfErr, Some, None, Err, length};
 ghost use Rattle.message_model.specs.Tables.{Tables, message_of};
 ghost use Rattle.xml_instances.specs.Levels.{levels_over};
 ghost use Rattle.xml_instances.specs.XmlFaults.{items_told};
 ghost use Rattle.xml_instances.specs.Checking.{Stops, EndsAs, IsSpelledAs};
 ghost use Rattle.message_model.specs.Errors.{IsAgain};
 ghost use Rattle.markup.specs.Marks.{tag_limit};
-ghost use Rattle.xml_instances.specs.ReadInstances.{HasFedReader, IsReaderFor, reader_fed, reader_failed, reader_scratch, reader_token};
+ghost use Rattle.xml_instances.specs.ReadInstances.{HasFedReader, IsReaderFor, reader_fed, reader_failed, reader_scratch, reader_token, IsReaderBare};
 ghost use Rattle.xml_instances.specs.Scratch.{IsScratchWithin};
 
 use crate::checker::XmlChecker;
@@ -50,7 +50,8 @@ impl XmlReader {
 
     /// How many bytes are held for the open token, as by `XmlChecker`.
     pub fn token(&self) -> u64
-        ensures count { (T : Tables) (bytes : List ℕ) → HasFedReader self.now T bytes → result ≡ reader_token self.now }
+        ensures count { reader_token self.now < 2 ^ 64 → result ≡ reader_token self.now }
+        ensures held { (T : Tables) (bytes : List ℕ) → HasFedReader self.now T bytes → result ≡ reader_token self.now }
         ensures bound { (T : Tables) (bytes : List ℕ) → HasFedReader self.now T bytes → result ≤ tag_limit }
     {
         self.checker.token()
@@ -58,7 +59,8 @@ impl XmlReader {
 
     /// Takes the next bytes, of at most 2^40 in all. It answers the first fault at the byte that
     /// shows it, its place a byte number from 0. After an error it gives the same answer to every
-    /// later call, or that there is no memory for it, and holds no bytes of a leaf and of a token.
+    /// later call, or that there is no memory for it, and holds no bytes of a leaf and of a token, and
+    /// no pieces.
     pub fn feed(&mut self, model: &Model, piece: &[u8]) -> Result<(), InstanceError>
         requires room { reader_failed self.old ≡ None → reader_fed self.old + length piece.now ≤ 2 ^ 40 }
         requires made { IsReaderFor self.old model.now }
@@ -70,6 +72,7 @@ impl XmlReader {
         ensures again { (e : InstanceError) → reader_failed self.old ≡ Some e → IsAgain e result × (reader_failed self.new ≡ reader_failed self.old) }
         ensures still { (e : InstanceError) → reader_failed self.old ≡ Some e → self.new ≡ self.old }
         ensures freed { reader_failed self.old ≡ None → IfErr result (λ _. (reader_scratch self.new ≡ 0) × (reader_token self.new ≡ 0)) }
+        ensures bare { reader_failed self.old ≡ None → IfErr result (λ _. IsReaderBare self.new) }
     {
         self.checker.feed(model, piece)
     }
