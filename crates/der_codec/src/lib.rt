@@ -1,12 +1,13 @@
 //! A checker of the DER of a message's instances (X.690 §8), which takes it in pieces.
 //!
 //! `DerChecker` tells the first fault of the bytes at the byte that shows it, whatever the pieces. Beneath it
-//! `Decoder` takes the octets of headers (those of the usual form two at once, `usual`) and the ends of values, and
-//! `contents` judges the contents octets of leaves; of those that come in pieces `limits` keeps no more than tell what they are, so that no length which
-//! is declared decides how much is held (`scratch`, `token`). A fault's path is made of what is open (`paths`).
-//! `Checking` of `specs/` says what a checker was given and what it answers, `Decoding` the same of the decoder,
-//! `Limits` how many octets are held. `DerReader` answers the same, and gives the pieces of the instance: it is a checker
-//! that appends them as the parts come (`values`, `pieces`), and keeps no more of its input (`KeptPieces`).
+//! `Decoder` takes the octets of headers (two at once where they have the usual form, `usual`) and the ends of values,
+//! and `contents` judges the contents octets of leaves; of those that come in pieces `limits` keeps no more than tell
+//! what they are, so that no length which is declared decides how much is held (`scratch`, `token`). A fault's path is
+//! made of what is open (`paths`). `Checking` of `specs/` says what a checker was given and what it answers, `Decoding`
+//! the same of the decoder, `Limits` how many octets are held. `DerReader` answers the same, and gives the pieces of
+//! the instance: it is a checker that appends them as the parts come (`values`, `pieces`), and keeps no more of its
+//! input (`KeptPieces`).
 //!
 //! Tag numbers are below 2^14, lengths below 2^63.
 #![tactic(auto)]
