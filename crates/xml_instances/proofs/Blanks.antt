@@ -11,7 +11,7 @@ use Rattle.xml_instances.specs.Levels.{Level}
 use Rattle.xml_instances.specs.Built.{EventsShow}
 use Rattle.xml_instances.specs.Keeping.{GoOn}
 use Rattle.xml_instances.specs.Open.{IsOpen}
-use Rattle.xml_instances.specs.Quick.{HasRoom, IsRunTaken, MayTake}
+use Rattle.xml_instances.specs.inner.Quick.{HasRoom, IsRunTaken, MayTake}
 use Rattle.xml_instances.specs.declared.content.Content.{Content}
 use Rattle.xml_instances.specs.declared.content.quick.Room.TheVariants.{Blanks}
 use Rattle.xml_instances.specs.declared.opened.Opened.{Opened}

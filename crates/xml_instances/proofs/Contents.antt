@@ -24,7 +24,7 @@ use Rattle.markup.specs.EventItems.{entry_of}
 use Rattle.markup.specs.declared.event.Attr.{Attr}
 use Rattle.xml_instances.specs.Levels.{Level, Parent, Leaf, Envelope, Foreign, levels_after, with_char, level_of_start, begun, slot_form, form_by, form_of_start, round_start, with_slot, path_in}
 use Rattle.xml_instances.specs.EventFaults.{Broken, broken, EventFault, AttributeFault, EndFault, LeafFault, place_fault, next_fault, Unless, space_fault, is_bare, char_fault, has_currency, CurrencyFault}
-use Rattle.xml_instances.specs.Known.{has_unknown}
+use Rattle.xml_instances.specs.inner.Known.{has_unknown}
 use Rattle.xml_instances.specs.Open.{IsOpen, IsCode, HoldsText, StandsFor, StandFor, Stands, IsRound, IsMadeAt, IsTextMade, names_of, Refuses, Says, IsItemTaken, form_at, IsPlaced, IsEntered, IsFilled, IsChild, IsStepped, IsBegun}
 use Rattle.xml_instances.specs.Verdicts.{IsVerdict, IsTextVerdict}
 use Rattle.xml_instances.specs.declared.content.Content.{Content}

@@ -22,7 +22,7 @@ use Rattle.xml_instances.specs.EventFaults.{EventFault, AreFine, AttributeFault,
 use Rattle.xml_instances.specs.Built.{Shown, nothing_shown, with_event, with_inside, TextShown, CurrencyShown, CodeShown, LeafShown, EndShown, StartShown, ShowsBeside, EventShows, EventsShow}
 use Rattle.xml_instances.specs.Keeping.{PiecesKept, GoOn, KeepsShown, IsBuilt, MayShowName, TagShowsBeside, with_all_inside, with_events}
 use Rattle.xml_instances.specs.Open.{Stands, StandsFor, HoldsText, IsOpen, IsCode, form_at, AreMade, AreKept, IsTextMade}
-use Rattle.xml_instances.specs.Quick.{AreItemsTaken}
+use Rattle.xml_instances.specs.inner.Quick.{AreItemsTaken}
 use Rattle.xml_instances.specs.declared.opened.Refusal.{Refusal}
 use Rattle.xml_instances.specs.declared.spare.Checks.{Checks}
 use Rattle.xml_instances.specs.declared.content.Content.{Content}

@@ -13,7 +13,7 @@ use Rattle.lexical_core.specs.Names.{same_name}
 use Rattle.xml_instances.specs.Levels.{Level, Parent, Leaf, Envelope, Foreign, levels_after, levels_over, with_char, form_of_start, level_of_start, round_start, path_in}
 use Rattle.xml_instances.specs.EventFaults.{Broken, EventFault, AttributeFault, AreFine, Unless, next_fault}
 use Rattle.xml_instances.specs.XmlFaults.{items_told}
-use Rattle.xml_instances.specs.Quick.{IsOurs}
+use Rattle.xml_instances.specs.inner.Quick.{IsOurs}
 use Rattle.lexical_core.specs.declared.rule.Rule.TheVariants.{WrongRoot, UnknownElement}
 use Rattle.xml_instances.proofs.QuickRuns.{both_true}
 

@@ -12,7 +12,7 @@ use Rattle.message_model.specs.Sound.{count_with}
 use Rattle.xml_instances.specs.Levels.{Level, begun, path_in, round_start}
 use Rattle.xml_instances.specs.EventFaults.{AttributeFault, has_currency}
 use Rattle.xml_instances.specs.Open.{IsOpen, IsRound, IsBegun, IsEntered, IsStepped, IsPlaced, Stands, StandFor, names_of}
-use Rattle.xml_instances.specs.Quick.{IsOurs, IsTargetOf, Passes, PassAll}
+use Rattle.xml_instances.specs.inner.Quick.{IsOurs, IsTargetOf, Passes, PassAll}
 use Rattle.xml_instances.specs.declared.content.Content.{Content}
 use Rattle.xml_instances.specs.declared.opened.Opened.{Opened}
 use Rattle.xml_instances.specs.declared.opened.Opened.TheVariants as opened

@@ -25,7 +25,7 @@ use Rattle.xml_instances.specs.Levels.{Level, levels_after, levels_over}
 use Rattle.xml_instances.specs.EventFaults.{Broken, AreFine, FirstFault}
 use Rattle.xml_instances.specs.XmlFaults.{XmlFault, items_told}
 use Rattle.xml_instances.specs.Open.{IsOpen}
-use Rattle.xml_instances.specs.Quick.{AreItemsTaken, IsRunTaken, IsOurs}
+use Rattle.xml_instances.specs.inner.Quick.{AreItemsTaken, IsRunTaken, IsOurs}
 use Rattle.xml_instances.specs.Checking.{HasFed, Stops, IsTold, TakesFront, fault_of, fed}
 use Rattle.xml_instances.specs.declared.content.Content.{Content}
 use Rattle.xml_instances.specs.declared.opened.Refusal.{Refusal}

@@ -14,7 +14,7 @@ use Rattle.xml_instances.specs.Judges.{HasTaken, IsMadeFor}
 use Rattle.xml_instances.specs.Levels.{Level, Parent, Leaf, Envelope, Foreign, levels_after, levels_over, with_char, path_in}
 use Rattle.xml_instances.specs.EventFaults.{AreFine, char_fault, is_bare}
 use Rattle.xml_instances.specs.Open.{IsOpen, HoldsText, StandsFor, StandFor, Stands, IsItemTaken}
-use Rattle.xml_instances.specs.Quick.{MayTake, IsRunTaken, AreItemsTaken}
+use Rattle.xml_instances.specs.inner.Quick.{MayTake, IsRunTaken, AreItemsTaken}
 use Rattle.xml_instances.specs.declared.content.Content.{Content}
 use Rattle.xml_instances.specs.declared.content.OpenText.{OpenText}
 use Rattle.xml_instances.specs.declared.opened.Opened.{Opened}

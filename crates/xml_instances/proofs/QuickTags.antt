@@ -10,7 +10,7 @@ use Rattle.message_model.specs.Writes.{named}
 use Rattle.xml_instances.specs.Levels.{Level, Parent, Leaf, Envelope, Foreign}
 use Rattle.xml_instances.specs.EventFaults.{place_fault}
 use Rattle.xml_instances.specs.Open.{IsOpen, IsPlaced, IsChild, IsRoot, Stands, names_of, form_at}
-use Rattle.xml_instances.specs.Quick.{IsOurs}
+use Rattle.xml_instances.specs.inner.Quick.{IsOurs}
 use Rattle.xml_instances.specs.declared.content.Content.{Content}
 use Rattle.xml_instances.specs.declared.content.OpenText.{OpenText}
 use Rattle.xml_instances.specs.declared.opened.Opened.{Opened}

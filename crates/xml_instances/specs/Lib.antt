@@ -5,8 +5,6 @@ pub mod SpellsXml
 pub mod Judges
 pub mod Open
 pub mod Verdicts
-pub mod Quick
-pub mod Known
 pub mod Built
 pub mod Keeping
 pub mod Checking
@@ -16,3 +14,4 @@ pub mod OpenInstances
 pub mod Laws
 pub mod OpenLaws
 pub mod ReadyLaws
+pub mod inner

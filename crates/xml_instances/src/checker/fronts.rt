@@ -2,7 +2,7 @@
 ghost use Rattle.std.specs.Prelude.{◌≡◌, ◌<◌, ◌+◌, ◌≤◌, ◌^◌, IfOk, length};
 ghost use Rattle.message_model.specs.Tables.{types_of};
 ghost use Rattle.xml_instances.specs.Checking.{IsMadeFor, TakesFront, fed};
-ghost use Rattle.xml_instances.specs.Quick.{HasRoom};
+ghost use Rattle.xml_instances.specs.inner.Quick.{HasRoom};
 ghost use Rattle.xml_instances.specs.Scratch.{KeepsNoLeaf};
 ghost use Rattle.xml_instances.specs.declared.content.quick.Room.TheVariants.{All as AllCharacters, Blanks as BlankCharacters};
 

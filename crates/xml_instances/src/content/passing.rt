@@ -9,7 +9,7 @@ ghost use Rattle.xml_instances.specs.Levels.{Level};
 ghost use Rattle.xml_instances.specs.Open.{IsOpen, AreMade, IsRuleOf, HoldsText, IsTextMade};
 ghost use Rattle.xml_instances.specs.EventFaults.{has_currency};
 ghost use Rattle.xml_instances.specs.declared.opened.Opened.TheVariants.{Text as OpenedText, Parent as OpenedParent};
-ghost use Rattle.xml_instances.specs.Quick.{IsOurs, Passes, PassAll, IsTargetOf};
+ghost use Rattle.xml_instances.specs.inner.Quick.{IsOurs, Passes, PassAll, IsTargetOf};
 ghost use Rattle.xml_instances.specs.Verdicts.{IsLean};
 
 use super::attributes::is_money;

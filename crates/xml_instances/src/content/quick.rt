@@ -9,7 +9,7 @@ ghost use Rattle.xml_instances.specs.Levels.{Level};
 ghost use Rattle.xml_instances.specs.Built.{EventsShow, ShowsBeside, StartShown};
 ghost use Rattle.xml_instances.specs.Keeping.{GoOn, MayShowName, TagShowsBeside};
 ghost use Rattle.xml_instances.specs.Open.{IsOpen, AreMade, IsPlaced, IsItemTaken, HoldsText};
-ghost use Rattle.xml_instances.specs.Quick.{MayTake, HasRoom, IsRunTaken, AreItemsTaken, IsOurs};
+ghost use Rattle.xml_instances.specs.inner.Quick.{MayTake, HasRoom, IsRunTaken, AreItemsTaken, IsOurs};
 ghost use Rattle.xml_instances.specs.Verdicts.{IsLean};
 
 use super::{Content, is_bare, root};

@@ -6,7 +6,7 @@ use Rattle.markup.specs.declared.plain_tag.TagKind.{TagKind}
 use Rattle.markup.specs.declared.plain_tag.TagKind.TheVariants.{Empty}
 use Rattle.message_model.specs.Tables.{message_of}
 use Rattle.xml_instances.specs.Levels.{levels_after}
-use Rattle.xml_instances.specs.Quick.{AreItemsTaken}
+use Rattle.xml_instances.specs.inner.Quick.{AreItemsTaken}
 use Rattle.xml_instances.proofs.QuickRuns.{one_item, first_wrong, two_items}
 use Rattle.xml_instances.proofs.GoingOn.{on_ok, go_then}
 use Rattle.std.specs.Prelude.{OnOk}

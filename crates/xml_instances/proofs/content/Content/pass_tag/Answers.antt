@@ -4,7 +4,7 @@ use Rattle.lexical_core.specs.Tree.{Starts}
 use Rattle.markup.specs.PlainTags.{tag_items}
 use Rattle.markup.specs.declared.plain_tag.TagKind.{TagKind}
 use Rattle.message_model.specs.Tables.{message_of}
-use Rattle.xml_instances.specs.Quick.{PassAll}
+use Rattle.xml_instances.specs.inner.Quick.{PassAll}
 use Rattle.xml_instances.proofs.Passing.{passes_one}
 use Rattle.xml_instances.proofs.content.Content.pass_tag.Goals as goal
 

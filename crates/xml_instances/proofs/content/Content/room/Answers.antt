@@ -3,7 +3,7 @@ use Rattle.message_model.specs.Tables.{types_of}
 use Rattle.xml_instances.specs.declared.content.quick.Room.TheVariants.{Blanks}
 use Rattle.xml_instances.specs.declared.opened.Opened.{Opened}
 use Rattle.xml_instances.specs.declared.opened.Opened.TheVariants as opened
-use Rattle.xml_instances.specs.Quick.{HasRoom}
+use Rattle.xml_instances.specs.inner.Quick.{HasRoom}
 use Rattle.xml_instances.proofs.content.Content.room.Goals as goal
 
 pub returns-in-Some-Envelope : goal.returns-in-Some-Envelope

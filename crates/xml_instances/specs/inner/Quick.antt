@@ -1,4 +1,4 @@
--- Runs of characters and whole tags, held to a message. Private functions alone cite this.
+-- Runs of characters and whole tags, held to a message.
 use Rattle.std.specs.Prelude.{◌≡◌, ℕ, true, false, List, [], ◌∷◌, map, Option, Some, None, Result, Ok, Err, slice_get}
 use Rattle.std.specs.List.{list_all}
 use Rattle.lexical_core.specs.Tree.{Expanded, Item, Char}

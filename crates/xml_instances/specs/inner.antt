@@ -1,0 +1,3 @@
+-- What private functions alone cite, in reading order.
+pub mod Quick
+pub mod Known
