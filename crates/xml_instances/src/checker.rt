@@ -17,6 +17,7 @@ ghost use Rattle.xml_instances.specs.Scratch.{scratch, token, KeepsNoLeaf, IsScr
 ghost use Rattle.xml_instances.specs.Verdicts.{IsLean, HasFreeText};
 
 mod fronts;
+mod references;
 
 use crate::content::Content;
 use crate::opened::Refusal;
