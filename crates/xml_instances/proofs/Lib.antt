@@ -19,6 +19,7 @@ pub mod QuickTags
 pub mod OurNames
 pub mod QuickFed
 pub mod StartFronts
+pub mod ReferenceFed
 pub mod Following
 pub mod OpenRuns
 pub mod OpenAccepts

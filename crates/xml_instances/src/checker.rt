@@ -18,6 +18,7 @@ ghost use Rattle.xml_instances.specs.Scratch.{scratch, token, KeepsNoLeaf, Keeps
 ghost use Rattle.xml_instances.specs.Verdicts.{IsLean, HasFreeText};
 
 mod fronts;
+mod references;
 
 use crate::content::Content;
 use crate::opened::Refusal;

@@ -24,6 +24,7 @@ mod leaves;
 mod passing;
 mod quick;
 mod showing;
+mod single;
 
 use crate::judge::Judge;
 use crate::opened::{Opened, Refusal, breaks, missing, names};

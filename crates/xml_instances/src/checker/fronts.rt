@@ -1,4 +1,4 @@
-// Fronts of a piece that a checker takes: whole tags, runs of characters, bytes inside tokens, single bytes.
+// Fronts of a piece that a checker takes: whole tags, whole references, runs of characters, bytes inside tokens, single bytes.
 ghost use Rattle.std.specs.Prelude.{◌≡◌, ◌<◌, ◌+◌, ◌≤◌, ◌^◌, IfOk, length};
 ghost use Rattle.message_model.specs.Tables.{types_of};
 ghost use Rattle.xml_instances.specs.Checking.{IsMadeFor, TakesFront, fed};
@@ -12,8 +12,8 @@ use markup::MarkError;
 use message_model::{InstanceError, Model};
 
 impl XmlChecker {
-    /// Takes a whole tag, a run of characters, bytes inside a token or else a byte from the front of the
-    /// piece, and answers how many bytes that are. Its first byte says which is tried.
+    /// Takes a whole tag, a whole reference, a run of characters, bytes inside a token or else a byte from
+    /// the front of the piece, and answers how many bytes that are. Its first byte says which is tried.
     pub(crate) fn take_front(&mut self, model: &Model, piece: &[u8]) -> Result<usize, InstanceError>
         requires some { 0 < length piece.now }
         requires room { fed self.old + length piece.now ≤ 2 ^ 40 }
@@ -25,6 +25,8 @@ impl XmlChecker {
     {
         if piece[0] == b'<' {
             self.take_mark(model, piece)
+        } else if piece[0] == b'&' {
+            self.take_referring(model, piece)
         } else {
             self.take_plain(model, piece)
         }
@@ -53,6 +55,26 @@ impl XmlChecker {
         };
         if start > 0 {
             return Ok(start);
+        }
+        self.take_slowly(model, piece)
+    }
+
+    /// Takes a whole reference, bytes inside a token or else a byte from the front of the piece.
+    fn take_referring(&mut self, model: &Model, piece: &[u8]) -> Result<usize, InstanceError>
+        requires some { 0 < length piece.now }
+        requires room { fed self.old + length piece.now ≤ 2 ^ 40 }
+        requires made { IsMadeFor self.old model.now }
+        ensures made { IsMadeFor self.new model.now }
+        ensures lean { KeepsNoLeaf self.old → KeepsNoLeaf self.new }
+        ensures front { TakesFront model.now self.old self.new piece.now result }
+        ensures some { IfOk result (λ n. 0 < n) }
+    {
+        let reference = match self.take_reference(model, piece) {
+            Ok(reference) => reference,
+            Err(error) => return Err(error),
+        };
+        if reference > 0 {
+            return Ok(reference);
         }
         self.take_slowly(model, piece)
     }

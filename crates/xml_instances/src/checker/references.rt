@@ -1,0 +1,36 @@
+// A whole reference that a checker takes at once.
+ghost use Rattle.std.specs.Prelude.{◌≡◌, ◌+◌, ◌≤◌, ◌^◌, length};
+ghost use Rattle.xml_instances.specs.Checking.{IsMadeFor, TakesFront, fed};
+ghost use Rattle.xml_instances.specs.Scratch.{KeepsNoLeaf};
+
+use super::{XmlChecker, told};
+use message_model::{InstanceError, Model};
+
+impl XmlChecker {
+    /// Takes the reference at the front of the piece, if one stands there whole.
+    pub(super) fn take_reference(
+        &mut self,
+        model: &Model,
+        piece: &[u8],
+    ) -> Result<usize, InstanceError>
+        requires room { fed self.old + length piece.now ≤ 2 ^ 40 }
+        requires made { IsMadeFor self.old model.now }
+        ensures made { IsMadeFor self.new model.now }
+        ensures lean { KeepsNoLeaf self.old → KeepsNoLeaf self.new }
+        ensures front { TakesFront model.now self.old self.new piece.now result }
+    {
+        markup::laws::events_stay();
+        let place = self.place;
+        let found = match self.reader.take_reference(piece) {
+            Some(found) => found,
+            None => return Ok(0),
+        };
+        match self.content.take_single(model, found.character) {
+            Ok(()) => {
+                self.place = self.place.saturating_add(found.bytes as u64);
+                Ok(found.bytes)
+            }
+            Err(refusal) => Err(told(refusal, place)),
+        }
+    }
+}
