@@ -1,2 +1,1 @@
-pub mod PushedFront
 pub mod NumberedLines

@@ -1,5 +1,4 @@
 pub mod Blocks
-pub mod Fronts
 pub mod Lines
 pub mod NestedSteps
 pub mod NumberedTexts
