@@ -8,12 +8,12 @@ use Rattle.data_types.specs.Value.{Piece}
 use Rattle.facets.specs.declared.simple.Simple.{Simple}
 use Rattle.reference_check.specs.Forms.{Graph}
 use Rattle.outside.specs.Gathering.{Gathers}
-use Rattle.xml_writer.specs.inner.PieceTexts.{IsPieceText, AreWritten, innermost_behind}
+use Rattle.xml_writer.specs.inner.PieceTexts.{IsPieceText, AreWritten, HasPut, innermost_behind}
 use Rattle.xml_writer.specs.declared.innermost.Innermost.{Innermost}
-use Rattle.outside.proofs.PushedFronts.{IsPushedTo, to_more, to_stops}
+use Rattle.outside.proofs.PushedFronts.{IsPushedTo, to_none, to_more, to_stops}
 
 -- the piece at a place stands first among those from there on
-from_piece : (pieces : List Piece) (at : ℕ) (p : Piece) → slice_get pieces at ≡ Some p → drop at pieces ≡ p ∷ drop (at + 1) pieces
+pub from_piece : (pieces : List Piece) (at : ℕ) (p : Piece) → slice_get pieces at ≡ Some p → drop at pieces ≡ p ∷ drop (at + 1) pieces
 from_piece [] at p e = absurd cc
 from_piece (x ∷ pieces) zero p e = let same : x ≡ p = cc in ap (λ y. y ∷ pieces) same
 from_piece (x ∷ pieces) (suc at) p e = (let n : suc at + 1 ≡ suc (at + 1) = omega arith in rw n (from_piece pieces at p e))
@@ -63,6 +63,17 @@ module _ {S : Type 0} (held : S → Option (List ℕ)) (faults room : S → ℕ)
           let e : buffer ++ r.0 ≡ (buffer ++ parts.0) ++ parts.1 = ap (λ t. buffer ++ t) parts.4 ∙ sym (append_assoc buffer parts.0 parts.1) in
           to_stops held faults room old now then bytes (buffer ++ r.0) (buffer ++ parts.0) parts.1 error e r.1 (push parts.0 parts.2)
 
+    -- the pieces from there on write something
+    pub rest_writes : (bytes : List ℕ) × AreWritten g first pieces bytes → (rest : List ℕ) × AreWritten g innermost (drop at pieces) rest
+    rest_writes (bytes, w) = (let r = ahead bytes w in (r.0, r.2))
+
+    -- what some of them write was put into the buffer
+    pub pieces_put : (then : Innermost) (next : ℕ) (left : List ℕ) → HasPut g pieces innermost at buffer then next left → IsAhead old now first then pieces next left
+    pieces_put then next left put bytes w =
+        let r = ahead bytes w in
+        let p = put r.0 r.2 in
+        (p.0, subst (λ t. IsPushedTo held faults room old now bytes t) p.2 r.1, p.1)
+
     -- behind the last piece the buffer is all that is to come
     pub ends : length pieces ≤ at → (then : S) (r : Result (Unit {0}) SinkError) → Pushes held faults room now then r buffer
         → (bytes : List ℕ) → AreWritten g first pieces bytes → Pushes held faults room old then r bytes
@@ -71,3 +82,11 @@ module _ {S : Type 0} (held : S → Option (List ℕ)) (faults room : S → ℕ)
         let none : h.0 ≡ [] = subst (λ ps. AreWritten g innermost ps h.0) (drop-past pieces at past) h.2 in
         let whole : bytes ≡ h.1.front ++ buffer = h.1.whole_is ∙ ap (λ t. h.1.front ++ (buffer ++ t)) none ∙ ap (λ t. h.1.front ++ t) (append-nil buffer) in
         subst (λ t. Pushes held faults room old then r t) (sym whole) (then_push held faults room old now then r h.1.front buffer h.1.push p)
+
+-- nothing was pushed, and what some pieces write was put into the empty buffer
+pub ahead_first : {S : Type 0} (held : S → Option (List ℕ)) (faults room : S → ℕ) (g : Graph ℕ Simple) (s : S) (first begun : Innermost) (pieces : List Piece) (buffer : List ℕ)
+    → begun ≡ first → buffer ≡ [] → (then : Innermost) (next : ℕ) (left : List ℕ) → HasPut g pieces begun 0 buffer then next left → IsAhead held faults room g s s first then pieces next left
+ahead_first held faults room g s first begun pieces buffer same none then next left put bytes w =
+    let p = put bytes (subst (λ i. AreWritten g i pieces bytes) (sym same) w) in
+    let e : bytes ≡ left ++ p.0 = sym (ap (λ b. b ++ bytes) none) ∙ p.2 in
+    (p.0, subst (λ t. IsPushedTo held faults room s s bytes t) e (to_none held faults room s bytes), p.1)

@@ -1,6 +1,8 @@
 pub mod Blocks
 pub mod ValueTexts
+pub mod PlainTexts
 pub mod Ahead
+pub mod Putting
 pub mod SomeText
 pub mod OneText
 pub mod WrittenValues

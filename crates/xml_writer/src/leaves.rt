@@ -11,7 +11,8 @@ ghost use Rattle.xml_writer.specs.CanonXml.{IsCodeText, currency_text};
 ghost use Rattle.xml_writer.specs.inner.PieceTexts.{IsHeldText};
 
 use crate::innermost::Innermost;
-use data_types::{Kind, LeafRef, push_escaped, push_leaf};
+use crate::texts::push_spelled;
+use data_types::{Kind, LeafRef, push_leaf};
 use facets::Simple;
 use message_model::{Form, Model};
 use outside::{Sink, SinkError, push_bytes};
@@ -101,7 +102,7 @@ fn push_text<O: Sink>(
         → Pushes O.held O.faults O.room sink.old sink.new result (flat_map (escaped attribute) chars) }
 {
     match text_of(simple, leaf) {
-        Some(text) => push_escaped(text, attribute, sink),
+        Some(text) => push_spelled(text, attribute, sink),
         None => push_leaf(simple.kind, leaf, sink),
     }
 }

@@ -14,6 +14,7 @@ pub mod laws;
 mod leaves;
 mod pieces;
 mod tags;
+mod texts;
 mod writer;
 
 pub use writer::write_xml;

@@ -1,10 +1,10 @@
 // What the pieces of an instance write.
-ghost use Rattle.std.specs.Prelude.{◌≡◌, ◌++◌, ℕ, List, IsTrue, false};
+ghost use Rattle.std.specs.Prelude.{◌≡◌, ◌++◌, ◌≤◌, ℕ, List, IsTrue, false, length, drop};
 ghost use Rattle.outside.specs.Pushes.{Pushes};
 ghost use Rattle.inst_pool.specs.Pieces.{piece_of};
 ghost use Rattle.message_model.specs.Tables.{types_of};
 ghost use Rattle.outside.specs.Gathering.{Gathers};
-ghost use Rattle.xml_writer.specs.inner.PieceTexts.{innermost_begun, IsPieceText, AreWritten};
+ghost use Rattle.xml_writer.specs.inner.PieceTexts.{innermost_begun, innermost_behind, IsPieceText, AreWritten, HasPut};
 
 use crate::innermost::{Innermost, innermost_begun, innermost_behind};
 use crate::leaves::push_held;
@@ -13,6 +13,15 @@ use data_types::LeafRef;
 use inst_pool::{Instance, Piece};
 use message_model::Model;
 use outside::{Buffer, Sink, SinkError};
+
+/// Where a writer is among the pieces of an instance.
+#[derive(Clone, Copy, Debug)]
+pub(crate) struct Place {
+    /// How many pieces are behind it.
+    pub(crate) at: usize,
+    /// The innermost element there.
+    pub(crate) innermost: Innermost,
+}
 
 /// Pushes what the pieces of the instance write, one after the other, by way of a buffer.
 pub(crate) fn push_pieces<O: Sink>(
@@ -25,43 +34,93 @@ pub(crate) fn push_pieces<O: Sink>(
         → Pushes O.held O.faults O.room sink.old sink.new result bytes }
 {
     let mut buffer = Buffer::new();
-    let mut innermost = innermost_begun(model, 0);
-    for at in 0..instance.count() {
-        let Some(piece) = instance.piece(at) else {
+    let count = instance.count();
+    let begun = Place {
+        at: 0,
+        innermost: innermost_begun(model, 0),
+    };
+    let mut place = put_pieces(model, instance, begun, &mut buffer);
+    while place.at < count {
+        let Some(piece) = instance.piece(place.at) else {
             unreachable!()
         };
-        if let Err(error) = gather_piece(model, innermost, &piece, &mut buffer, sink) {
+        let behind = innermost_behind(model, place.innermost, &piece);
+        if let Err(error) = push_past(
+            model,
+            place.innermost,
+            behind.unended,
+            &piece,
+            &mut buffer,
+            sink,
+        ) {
             return Err(error);
         }
-        innermost = innermost_behind(model, innermost, &piece);
+        let next = Place {
+            at: place.at + 1,
+            innermost: behind,
+        };
+        place = put_pieces(model, instance, next, &mut buffer);
     }
     buffer.flush(sink)
 }
 
-/// Puts what a piece writes into the buffer, where it has room, and else pushes both.
-fn gather_piece<O: Sink>(
+/// Puts what the pieces from the place on write into the buffer, up to one for which it has not the room.
+fn put_pieces(model: &Model, instance: &Instance, place: Place, buffer: &mut Buffer) -> Place
+    requires within { place.at ≤ length instance.now.region.pieces }
+    requires text { (rest : List ℕ) × AreWritten (types_of model.now) place.innermost (drop place.at instance.now.region.pieces) rest }
+    ensures later { place.at ≤ result.at }
+    ensures within { result.at ≤ length instance.now.region.pieces }
+    ensures put { HasPut (types_of model.now) instance.now.region.pieces place.innermost place.at buffer.old result.innermost result.at buffer.new }
+{
+    let count = instance.count();
+    let mut next = place;
+    while next.at < count {
+        let Some(piece) = instance.piece(next.at) else {
+            unreachable!()
+        };
+        let behind = innermost_behind(model, next.innermost, &piece);
+        if !put_piece(model, next.innermost, behind.unended, &piece, buffer) {
+            return next;
+        }
+        next = Place {
+            at: next.at + 1,
+            innermost: behind,
+        };
+    }
+    next
+}
+
+/// Pushes what the buffer has, and then what a piece writes.
+fn push_past<O: Sink>(
     model: &Model,
     innermost: Innermost,
+    unended: bool,
     piece: &Piece<'_>,
     buffer: &mut Buffer,
     sink: &mut O,
 ) -> Result<(), SinkError>
-    requires { (bytes : List ℕ) × IsPieceText (types_of model.now) innermost (piece_of piece.now) bytes }
+    requires behind { unended ≡ (innermost_behind (types_of model.now) innermost (piece_of piece.now)).unended }
+    requires text { (bytes : List ℕ) × IsPieceText (types_of model.now) innermost (piece_of piece.now) bytes }
     ensures { (bytes : List ℕ) → IsPieceText (types_of model.now) innermost (piece_of piece.now) bytes
         → Gathers O.held O.faults O.room sink.old sink.new buffer.old buffer.new result bytes }
 {
-    if put_piece(model, innermost, piece, buffer) {
-        return Ok(());
-    }
     if let Err(error) = buffer.flush(sink) {
         return Err(error);
     }
-    push_piece(model, innermost, piece, sink)
+    push_piece(model, innermost, unended, piece, sink)
 }
 
 /// Puts what a piece writes into the buffer. `false` where it has not the room; it is as before.
-fn put_piece(model: &Model, innermost: Innermost, piece: &Piece<'_>, buffer: &mut Buffer) -> bool
-    requires { (bytes : List ℕ) × IsPieceText (types_of model.now) innermost (piece_of piece.now) bytes }
+#[inline(always)]
+fn put_piece(
+    model: &Model,
+    innermost: Innermost,
+    unended: bool,
+    piece: &Piece<'_>,
+    buffer: &mut Buffer,
+) -> bool
+    requires behind { unended ≡ (innermost_behind (types_of model.now) innermost (piece_of piece.now)).unended }
+    requires text { (bytes : List ℕ) × IsPieceText (types_of model.now) innermost (piece_of piece.now) bytes }
     ensures put { IsTrue result → (bytes : List ℕ) → IsPieceText (types_of model.now) innermost (piece_of piece.now) bytes → buffer.new ≡ buffer.old ++ bytes }
     ensures kept { result ≡ false → buffer.new ≡ buffer.old }
 {
@@ -69,7 +128,7 @@ fn put_piece(model: &Model, innermost: Innermost, piece: &Piece<'_>, buffer: &mu
         return false;
     }
     let count = buffer.len();
-    match push_piece(model, innermost, piece, buffer) {
+    match push_piece(model, innermost, unended, piece, buffer) {
         Ok(()) => true,
         Err(_) => {
             buffer.truncate(count);
@@ -87,18 +146,21 @@ fn is_within(piece: &Piece<'_>, spare: usize) -> bool {
 }
 
 /// Pushes what a piece writes.
+#[inline]
 fn push_piece<O: Sink>(
     model: &Model,
     innermost: Innermost,
+    unended: bool,
     piece: &Piece<'_>,
     sink: &mut O,
 ) -> Result<(), SinkError>
-    requires { (bytes : List ℕ) × IsPieceText (types_of model.now) innermost (piece_of piece.now) bytes }
+    requires behind { unended ≡ (innermost_behind (types_of model.now) innermost (piece_of piece.now)).unended }
+    requires text { (bytes : List ℕ) × IsPieceText (types_of model.now) innermost (piece_of piece.now) bytes }
     ensures { (bytes : List ℕ) → IsPieceText (types_of model.now) innermost (piece_of piece.now) bytes
         → Pushes O.held O.faults O.room sink.old sink.new result bytes }
 {
     match piece {
-        Piece::Open(edge) => push_begin(model, edge, sink),
+        Piece::Open(edge) => push_begin(model, edge, unended, sink),
         Piece::Leaf(leaf) => push_held(model, innermost, leaf, sink),
         Piece::Close(edge) => push_end(model, edge, sink),
     }

@@ -1,33 +1,50 @@
 // The tags of elements: XML 1.0 §3.1.
-ghost use Rattle.std.specs.Prelude.{◌≡◌, ◌++◌, ℕ, Some, slice_get};
+ghost use Rattle.std.specs.Prelude.{◌≡◌, ℕ, Some, slice_get};
 ghost use Rattle.outside.specs.Pushes.{Pushes};
 ghost use Rattle.reference_check.specs.Forms.{Slot as Slotted, form_slots};
 ghost use Rattle.message_model.specs.Tables.{types_of};
 ghost use Rattle.xml_writer.specs.CanonXml.{end_tag};
-ghost use Rattle.xml_writer.specs.inner.PieceTexts.{is_amount, begun_tag, tag_end};
+ghost use Rattle.xml_writer.specs.inner.PieceTexts.{begun_tag, tag_end};
 
-use crate::innermost::is_amount;
 use inst_pool::Edge;
 use message_model::Model;
-use outside::{Part, Sink, SinkError, render_all};
+use outside::{Sink, SinkError, push_bytes};
 
-/// Pushes the start tag of an element; that of an amount is not ended.
-pub(crate) fn push_begin<O: Sink>(model: &Model, edge: &Edge, sink: &mut O) -> Result<(), SinkError>
+/// Pushes the start tag of an element, which may be left unended.
+#[inline]
+pub(crate) fn push_begin<O: Sink>(
+    model: &Model,
+    edge: &Edge,
+    unended: bool,
+    sink: &mut O,
+) -> Result<(), SinkError>
     requires { (s : Slotted ℕ) × (slice_get (form_slots (types_of model.now edge.now.parent)) edge.now.slot ≡ Some s) }
     ensures { (s : Slotted ℕ) → slice_get (form_slots (types_of model.now edge.now.parent)) edge.now.slot ≡ Some s
-        → Pushes O.held O.faults O.room sink.old sink.new result (begun_tag s.tag (is_amount (types_of model.now edge.now.target))) }
+        → Pushes O.held O.faults O.room sink.old sink.new result (begun_tag s.tag unended) }
 {
-    let end = tag_end(is_amount(model, edge.target));
-    push_tag(b"<", tag_of(model, edge), end, sink)
+    if let Err(error) = push_bytes(b"<", sink) {
+        return Err(error);
+    }
+    if let Err(error) = push_bytes(tag_of(model, edge), sink) {
+        return Err(error);
+    }
+    push_tag_end(unended, sink)
 }
 
 /// Pushes the end tag of an element.
+#[inline]
 pub(crate) fn push_end<O: Sink>(model: &Model, edge: &Edge, sink: &mut O) -> Result<(), SinkError>
     requires { (s : Slotted ℕ) × (slice_get (form_slots (types_of model.now edge.now.parent)) edge.now.slot ≡ Some s) }
     ensures { (s : Slotted ℕ) → slice_get (form_slots (types_of model.now edge.now.parent)) edge.now.slot ≡ Some s
         → Pushes O.held O.faults O.room sink.old sink.new result (end_tag s.tag) }
 {
-    push_tag(b"</", tag_of(model, edge), b">", sink)
+    if let Err(error) = push_bytes(b"</", sink) {
+        return Err(error);
+    }
+    if let Err(error) = push_bytes(tag_of(model, edge), sink) {
+        return Err(error);
+    }
+    push_bytes(b">", sink)
 }
 
 /// The tag of an element.
@@ -48,15 +65,13 @@ pub(crate) fn tag_end(unended: bool) -> &'static [u8]
     if unended { b"" } else { b">" }
 }
 
-/// Pushes a tag between two texts.
-fn push_tag<'a, O: Sink>(
-    before: &'a [u8],
-    tag: &'a [u8],
-    behind: &'a [u8],
-    sink: &mut O,
-) -> Result<(), SinkError>
-    ensures { Pushes O.held O.faults O.room sink.old sink.new result (before.now ++ (tag.now ++ behind.now)) }
+/// Pushes the end of a start tag that may be left unended.
+#[inline]
+fn push_tag_end<O: Sink>(unended: bool, sink: &mut O) -> Result<(), SinkError>
+    ensures { Pushes O.held O.faults O.room sink.old sink.new result (tag_end unended) }
 {
-    let parts = [Part::Bytes(before), Part::Bytes(tag), Part::Bytes(behind)];
-    render_all(parts.as_slice(), sink)
+    if unended {
+        return push_bytes(b"", sink);
+    }
+    push_bytes(b">", sink)
 }

@@ -1,5 +1,5 @@
 -- What each piece of an instance writes, one after the other.
-use Rattle.std.specs.Prelude.{◌≡◌, ℕ, Bool, true, false, List, [], ◌∷◌, ◌++◌, codes}
+use Rattle.std.specs.Prelude.{◌≡◌, ℕ, Bool, true, false, List, [], ◌∷◌, ◌++◌, codes, drop}
 use Rattle.data_types.specs.Leaf.{Leaf, Bytes}
 use Rattle.data_types.specs.Value.{Piece, Begins, Holds, Ends}
 use Rattle.facets.specs.LeafUnder.{Fits}
@@ -59,6 +59,11 @@ abbrev pub AreWritten : Graph ℕ Simple → Innermost → List Piece → List �
 AreWritten g at [] bytes = bytes ≡ []
 AreWritten g at (piece ∷ pieces) bytes =
     (one : List ℕ) × (more : List ℕ) × IsPieceText g at piece one × AreWritten g (innermost_behind g at piece) pieces more × (bytes ≡ one ++ more)
+
+-- Of what the pieces from one place on write, a front was put behind what a buffer had, and the pieces from another place on write the rest.
+abbrev pub HasPut : Graph ℕ Simple → List Piece → Innermost → ℕ → List ℕ → Innermost → ℕ → List ℕ → Type 0
+HasPut g pieces before from old innermost at buffer =
+    (rest : List ℕ) → AreWritten g before (drop from pieces) rest → (more : List ℕ) × AreWritten g innermost (drop at pieces) more × (old ++ rest ≡ buffer ++ more)
 
 -- what stands before the content of the root, up to the end of its start tag
 abbrev pub root_text : List ℕ → List ℕ → List ℕ

@@ -1,0 +1,66 @@
+// Texts as XML spells them: XML 1.0 §2.4 and §3.3.3.
+ghost use Rattle.std.specs.Prelude.{◌≡◌, ℕ, List, IsTrue, encode_utf8_all, flat_map, length};
+ghost use Rattle.std.specs.List.{prefix_len};
+ghost use Rattle.outside.specs.Pushes.{Pushes};
+ghost use Rattle.lexical_core.specs.Escapes.{escaped};
+ghost use Rattle.xml_writer.specs.inner.PlainTexts.{is_plain};
+
+use data_types::push_escaped;
+use lexical_core::{ByteClass, run_length};
+use outside::{Sink, SinkError, push_bytes};
+use std::simd::prelude::*;
+
+/// The bytes that stand for themselves in an element and in the value of an attribute, but for controls.
+struct Plain;
+
+impl ByteClass for Plain {
+    ghost class = { λ _. is_plain };
+
+    #[inline]
+    fn has(&self, byte: u8) -> bool {
+        byte >= 0x20 && byte != b'"' && byte != b'&' && byte != b'<' && byte != b'>'
+    }
+
+    #[inline]
+    fn others(&self, bytes: u8x16) -> u64 {
+        (bytes.simd_le(u8x16::splat(0x1F))
+            | bytes.simd_eq(u8x16::splat(b'"'))
+            | bytes.simd_eq(u8x16::splat(b'&'))
+            | bytes.simd_eq(u8x16::splat(b'<'))
+            | bytes.simd_eq(u8x16::splat(b'>'))).to_bitmask()
+    }
+
+    #[inline]
+    fn others_of_eight(&self, bytes: u8x8) -> u64 {
+        (bytes.simd_le(u8x8::splat(0x1F))
+            | bytes.simd_eq(u8x8::splat(b'"'))
+            | bytes.simd_eq(u8x8::splat(b'&'))
+            | bytes.simd_eq(u8x8::splat(b'<'))
+            | bytes.simd_eq(u8x8::splat(b'>'))).to_bitmask()
+    }
+}
+
+/// Pushes a text as it is spelled in an element or in the value of an attribute: at once, where each of its bytes stands
+/// for itself.
+#[inline]
+pub(crate) fn push_spelled<O: Sink>(
+    text: &[u8],
+    attribute: bool,
+    sink: &mut O,
+) -> Result<(), SinkError>
+    ensures { (chars : List ℕ) → text.now ≡ encode_utf8_all chars
+        → Pushes O.held O.faults O.room sink.old sink.new result (flat_map (escaped attribute) chars) }
+{
+    if stands_for_itself(text) {
+        return push_bytes(text, sink);
+    }
+    push_escaped(text, attribute, sink)
+}
+
+/// Whether each byte of the text stands for itself, and none is a control.
+#[inline]
+fn stands_for_itself(text: &[u8]) -> bool
+    ensures { IsTrue result → prefix_len is_plain text.now ≡ length text.now }
+{
+    run_length(&Plain, text) == text.len()
+}
