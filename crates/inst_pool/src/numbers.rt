@@ -20,7 +20,8 @@ pub(crate) enum Form {
     Wide,
 }
 
-/// A list of numbers, in 32 bits each as long as none is greater. Neither block is written to before it is wanted.
+/// A list of numbers, in 32 bits each as long as none is greater. Neither block is written to before it is wanted, and where
+/// the narrow one has an item, all numbers stand in it.
 #[derive(Debug, Drop)]
 pub(crate) struct Numbers {
     form: Form,
@@ -77,7 +78,21 @@ impl Numbers {
     }
 
     /// The number at that place, from 0.
+    #[inline(always)]
     pub(crate) fn get(&self, at: usize) -> u64
+        requires { at < length self.now.items }
+        ensures { result ≡ slice_index self.now.items at }
+    {
+        if at < self.narrow.len() {
+            return self.narrow[at] as u64;
+        }
+        self.get_apart(at)
+    }
+
+    /// The same, however the numbers are kept.
+    #[cold]
+    #[inline(never)]
+    fn get_apart(&self, at: usize) -> u64
         requires { at < length self.now.items }
         ensures { result ≡ slice_index self.now.items at }
     {
@@ -89,10 +104,26 @@ impl Numbers {
     }
 
     /// Keeps a number at that place.
+    #[inline(always)]
     pub(crate) fn set(&mut self, at: usize, number: u64)
         requires { at < length self.old.items }
         ensures items { self.new.items ≡ slice_set self.old.items at number }
-        ensures room { self.new.room ≡ self.old.room }
+        ensures room { self.old.room ≤ self.new.room }
+    {
+        if at < self.narrow.len() && number <= MOST {
+            self.narrow[at] = number as u32;
+            return;
+        }
+        self.set_apart(at, number);
+    }
+
+    /// The same, however the numbers are kept.
+    #[cold]
+    #[inline(never)]
+    fn set_apart(&mut self, at: usize, number: u64)
+        requires { at < length self.old.items }
+        ensures items { self.new.items ≡ slice_set self.old.items at number }
+        ensures room { self.old.room ≤ self.new.room }
     {
         match self.form {
             Form::Zero => {
@@ -112,10 +143,11 @@ fn fill(block: &mut Vec<u32>, count: usize)
     requires empty { block.old.items ≡ [] }
     requires room { count ≤ vec_capacity block.old }
     ensures items { block.new.items ≡ replicate count 0 }
-    ensures room { vec_capacity block.new ≡ vec_capacity block.old }
+    ensures room { vec_capacity block.old ≤ vec_capacity block.new }
 {
-    for _ in 0..count {
-        block.push_reserved(0);
+    match block.resize(count, 0) {
+        Ok(()) => {}
+        Err(_) => unreachable!(),
     }
 }
 
@@ -133,6 +165,7 @@ fn keep(narrow: &mut Vec<u32>, wide: &mut Vec<u64>, at: usize, number: u64) -> F
         return Form::Narrow;
     }
     copy(narrow.as_slice(), wide);
+    narrow.clear();
     wide[at] = number;
     Form::Wide
 }

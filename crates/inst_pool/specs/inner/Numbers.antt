@@ -13,7 +13,7 @@ numbers_of Wide count narrow wide = wide
 abbrev pub IsFilled : Form → ℕ → List ℕ → List ℕ → Type 0
 IsFilled Zero count narrow wide = (narrow ≡ []) × (wide ≡ [])
 IsFilled Narrow count narrow wide = (length narrow ≡ count) × (wide ≡ [])
-IsFilled Wide count narrow wide = length wide ≡ count
+IsFilled Wide count narrow wide = (narrow ≡ []) × (length wide ≡ count)
 
 -- a list of numbers, and for how many in all there is room
 pub record Column : Type 0 where
