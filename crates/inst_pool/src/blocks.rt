@@ -1,5 +1,5 @@
 // The blocks of a region.
-ghost use Rattle.std.specs.Prelude.{◌≡◌, ◌+◌, ◌≤◌, [], length, OnOk, OnErr, IsOk, vec_len, vec_capacity};
+ghost use Rattle.std.specs.Prelude.{◌≡◌, ◌+◌, ◌<◌, ◌≤◌, [], length, OnOk, OnErr, IsOk, vec_len, vec_capacity};
 ghost use Rattle.inst_pool.specs.Blocks.{HasRoom, SameItems};
 ghost use Rattle.inst_pool.specs.Pieces.{room_limit};
 
@@ -26,6 +26,7 @@ pub(crate) struct Blocks {
 }
 
 /// Makes room for so many more pieces.
+#[inline(always)]
 pub(crate) fn make_piece_room(blocks: &mut Blocks, count: usize) -> Result<(), AllocError>
     requires { HasRoom blocks.old }
     ensures fits { HasRoom blocks.new }
@@ -38,6 +39,21 @@ pub(crate) fn make_piece_room(blocks: &mut Blocks, count: usize) -> Result<(), A
     if count <= blocks.room - len {
         return Ok(());
     }
+    widen_blocks(blocks, count)
+}
+
+/// Makes room for so many more pieces, for which there is none.
+#[cold]
+#[inline(never)]
+fn widen_blocks(blocks: &mut Blocks, count: usize) -> Result<(), AllocError>
+    requires room { HasRoom blocks.old }
+    requires full { blocks.old.room < length blocks.old.contents.items + count }
+    ensures fits { HasRoom blocks.new }
+    ensures ok { OnOk result (length blocks.new.contents.items + count ≤ blocks.new.room) }
+    ensures room { blocks.old.room ≤ blocks.new.room }
+    ensures items { SameItems blocks.old blocks.new }
+{
+    let len = blocks.contents.len();
     if LIMIT - len < count {
         return Err(AllocError);
     }
