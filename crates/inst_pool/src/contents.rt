@@ -1,9 +1,13 @@
 // A list of contents.
-ghost use Rattle.std.specs.Prelude.{◌≡◌, ◌<◌, ◌≤◌, ◌++◌, [], ◌∷◌, length, slice_get, Some, OnOk, vec_len, vec_capacity};
-ghost use Rattle.inst_pool.specs.Pieces.{room_limit};
+ghost use Rattle.std.specs.Prelude.{◌≡◌, ◌<◌, ◌≤◌, ◌++◌, ℕ, List, [], ◌∷◌, length, slice_get, Some, OnOk, vec_len, vec_capacity};
+ghost use Rattle.std.specs.Option.{option_map};
+ghost use Rattle.inst_pool.specs.Contents.{piece_in, AreInside};
+ghost use Rattle.inst_pool.specs.Pieces.{piece_of, IsOutline, room_limit};
+ghost use Rattle.inst_pool.specs.declared.content.Content.{Content};
 
 use crate::content::Content;
-use crate::node::{Node, content_of, long_at, shortened};
+use crate::node::{Node, long_at, outline_of, piece_of, shortened};
+use crate::piece::{Outline, Piece};
 use crate::room::{lengthen, widen};
 use std::alloc::{AllocError, Global};
 use std::marker::Model;
@@ -45,12 +49,23 @@ impl Contents {
         self.nodes.len()
     }
 
-    /// The content at that place, from 0.
-    pub(crate) fn get(&self, at: usize) -> Content
-        requires { at < length self.now.items }
-        ensures { slice_get self.now.items at ≡ Some result }
+    /// The piece at that place, from 0, whose bytes stand in that block.
+    #[inline(always)]
+    pub(crate) fn piece<'a>(&self, at: usize, bytes: &'a [u8]) -> Piece<'a>
+        requires place { at < length self.now.items }
+        requires inside { AreInside (length bytes.now) self.now.items }
+        ensures { option_map (piece_in bytes.now) (slice_get self.now.items at) ≡ Some (piece_of result) }
     {
-        content_of(self.nodes[at], self.long.as_slice())
+        piece_of(&self.nodes[at], self.long.as_slice(), bytes)
+    }
+
+    /// The outline of the piece at that place, from 0.
+    #[inline(always)]
+    pub(crate) fn outline(&self, at: usize) -> Outline
+        requires { at < length self.now.items }
+        ensures { (bytes : List ℕ) (c : Content) → slice_get self.now.items at ≡ Some c → IsOutline result (piece_in bytes c) }
+    {
+        outline_of(&self.nodes[at], self.long.as_slice())
     }
 
     /// Makes room for so many in all.
@@ -65,6 +80,7 @@ impl Contents {
     }
 
     /// Appends a content, for which there is room.
+    #[inline(always)]
     pub(crate) fn push(&mut self, content: Content)
         requires room { length self.old.items < self.old.room }
         requires limit { length self.old.items < room_limit }
@@ -72,12 +88,23 @@ impl Contents {
         ensures room { self.new.room ≡ self.old.room }
     {
         let Some(node) = shortened(&content) else {
-            let place = self.long.len();
-            push_long(&mut self.long, content);
-            self.nodes.push_reserved(long_at(place));
+            self.push_long(content);
             return;
         };
         self.nodes.push_reserved(node);
+    }
+
+    /// Appends a content that does not fit in a node.
+    #[inline(never)]
+    fn push_long(&mut self, content: Content)
+        requires room { length self.old.items < self.old.room }
+        requires limit { length self.old.items < room_limit }
+        ensures items { self.new.items ≡ self.old.items ++ content ∷ [] }
+        ensures room { self.new.room ≡ self.old.room }
+    {
+        let place = self.long.len();
+        add_long(&mut self.long, content);
+        self.nodes.push_reserved(long_at(place));
     }
 
     /// Leaves no content, and all the room.
@@ -90,8 +117,8 @@ impl Contents {
     }
 }
 
-/// Appends a long content.
-fn push_long(long: &mut Vec<Content>, content: Content)
+/// Appends a long content to its block.
+fn add_long(long: &mut Vec<Content>, content: Content)
     requires { vec_len long.old < vec_capacity long.old }
     ensures items { long.new.items ≡ long.old.items ++ content ∷ [] }
     ensures room { vec_capacity long.new ≡ vec_capacity long.old }

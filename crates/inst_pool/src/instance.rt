@@ -1,13 +1,13 @@
 // An instance in its region.
-ghost use Rattle.std.specs.Prelude.{◌≡◌, ◌<◌, [], length, slice_get, slice_index, slice_set};
+ghost use Rattle.std.specs.Prelude.{◌≡◌, ◌<◌, [], Some, length, slice_get, slice_index, slice_set};
 ghost use Rattle.std.specs.Option.{option_map};
 ghost use Rattle.inst_pool.specs.Blocks.{AreBuilding, region_of};
-ghost use Rattle.inst_pool.specs.Pieces.{piece_of, emptied, IsBounded};
+ghost use Rattle.data_types.specs.Value.{Piece as PieceOf};
+ghost use Rattle.inst_pool.specs.Pieces.{piece_of, emptied, IsBounded, IsOutline};
 
 use crate::blocks::Blocks;
 use crate::builder::Builder;
-use crate::content::piece_of;
-use crate::piece::Piece;
+use crate::piece::{Outline, Piece};
 use crate::walk::Walk;
 use std::marker::Model;
 
@@ -52,14 +52,24 @@ impl Instance {
     }
 
     /// The piece at that place, from 0; `None` where there is none.
+    #[inline]
     pub fn piece(&self, at: usize) -> Option<Piece<'_>>
         ensures { option_map piece_of result ≡ slice_get self.now.region.pieces at }
     {
         if at >= self.blocks.contents.len() {
             return None;
         }
-        let content = self.blocks.contents.get(at);
-        Some(piece_of(content, self.blocks.bytes.as_slice()))
+        let bytes = self.blocks.bytes.as_slice();
+        Some(self.blocks.contents.piece(at, bytes))
+    }
+
+    /// The outline of the piece at that place, from 0: the piece without what its leaf is.
+    #[inline]
+    pub fn outline(&self, at: usize) -> Outline
+        requires { at < length self.now.region.pieces }
+        ensures { (p : PieceOf) → slice_get self.now.region.pieces at ≡ Some p → IsOutline result p }
+    {
+        self.blocks.contents.outline(at)
     }
 
     /// The pieces in order.

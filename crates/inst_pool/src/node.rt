@@ -1,10 +1,13 @@
 // Contents in eight bytes each. What does not fit stands in a block of its own, of which the node has the place.
 ghost use Rattle.std.specs.Prelude.{◌≡◌, ◌<◌, ◌≤◌, ◌^◌, ℕ, List, true, length, slice_index_or, IfSome};
-ghost use Rattle.inst_pool.specs.inner.Nodes.{edge_in, low_in, content_of, IsWithin, bytes_in};
+ghost use Rattle.inst_pool.specs.Contents.{piece_in, IsInside};
+ghost use Rattle.inst_pool.specs.Pieces.{piece_of, IsOutline};
+ghost use Rattle.inst_pool.specs.inner.Nodes.{edge_in, low_in, place_in, content_of, IsWithin, bytes_in};
 ghost use Rattle.inst_pool.specs.declared.content.Content.{Content};
 
-use crate::content::Content;
-use crate::piece::Edge;
+use crate::content::{Content, outline_of as held_outline, piece_of as held_piece};
+use crate::piece::{Edge, Outline, Piece};
+use data_types::LeafRef;
 
 /// The greatest number of 16 bits.
 const MOST: u32 = 0xFFFF;
@@ -124,27 +127,49 @@ pub(crate) fn shortened(content: &Content) -> Option<Node>
     }
 }
 
-/// The content that a node stands for.
-pub(crate) fn content_of(node: Node, long: &[Content]) -> Content
-    requires { IsWithin (length long.now) node }
-    ensures { result ≡ content_of long.now node }
+/// The piece that a node stands for, whose bytes stand in a block.
+#[inline(always)]
+pub(crate) fn piece_of<'a>(node: &Node, long: &[Content], bytes: &'a [u8]) -> Piece<'a>
+    requires within { IsWithin (length long.now) node.now }
+    requires inside { IsInside (length bytes.now) (content_of long.now node.now) }
+    ensures { piece_of result ≡ piece_in bytes.now (content_of long.now node.now) }
 {
     match node {
-        Node::Open(short) => Content::Open(edge_of(short)),
+        Node::Open(short) => Piece::Open(edge_of(short)),
         Node::Bytes(short) => {
             let start = low_of(short);
-            Content::Bytes(start, start + short.third as usize)
+            let end = start + short.third as usize;
+            Piece::Leaf(LeafRef::Bytes(&bytes[start..end]))
         }
-        Node::Flag(flag) => Content::Flag(flag),
-        Node::Code(short) => Content::Code(short.first as u32 + short.second as u32 * 65536),
-        Node::Close(short) => Content::Close(edge_of(short)),
-        Node::Long(short) => long[low_of(short) + short.third as usize * 0x1_0000_0000],
+        Node::Flag(flag) => Piece::Leaf(LeafRef::Flag(*flag)),
+        Node::Code(short) => {
+            let place = short.first as u32 + short.second as u32 * 65536;
+            Piece::Leaf(LeafRef::Code(place))
+        }
+        Node::Close(short) => Piece::Close(edge_of(short)),
+        Node::Long(short) => held_piece(long[place_of(short)], bytes),
+    }
+}
+
+/// The outline of the piece that a node stands for.
+#[inline(always)]
+pub(crate) fn outline_of(node: &Node, long: &[Content]) -> Outline
+    requires { IsWithin (length long.now) node.now }
+    ensures { (bytes : List ℕ) → IsOutline result (piece_in bytes (content_of long.now node.now)) }
+{
+    match node {
+        Node::Open(short) => Outline::Open(edge_of(short)),
+        Node::Bytes(_) => Outline::Leaf,
+        Node::Flag(_) => Outline::Leaf,
+        Node::Code(_) => Outline::Leaf,
+        Node::Close(short) => Outline::Close(edge_of(short)),
+        Node::Long(short) => held_outline(long[place_of(short)]),
     }
 }
 
 /// The edge that three numbers tell.
-fn edge_of(short: Short) -> Edge
-    ensures { result ≡ edge_in short }
+fn edge_of(short: &Short) -> Edge
+    ensures { result ≡ edge_in short.now }
 {
     Edge {
         slot: short.first as u32,
@@ -154,9 +179,16 @@ fn edge_of(short: Short) -> Edge
 }
 
 /// The number of 32 bits that the first two tell.
-fn low_of(short: Short) -> usize
-    ensures low { result ≡ low_in short }
+fn low_of(short: &Short) -> usize
+    ensures low { result ≡ low_in short.now }
     ensures most { result < 2 ^ 32 }
 {
     short.first as usize + short.second as usize * 65536
+}
+
+/// The number of 48 bits that the three tell.
+fn place_of(short: &Short) -> usize
+    ensures { result ≡ place_in short.now }
+{
+    low_of(short) + short.third as usize * 0x1_0000_0000
 }
