@@ -30,6 +30,10 @@ take_none (suc c) = refl
 pub empty_past : (k to : ℕ) (slots : List (Slot ℕ)) → slice_get slots k ≡ None → empty_from k to slots ≡ []
 empty_past k to slots none = ap (λ xs. empty_slots k (take (to - k) xs)) (drop_none slots k none) ∙ ap (empty_slots k) (take_none (to - k))
 
+-- no slot stands before one that is not behind it
+pub empty_between : (k to : ℕ) (slots : List (Slot ℕ)) → to ≤ k → [] ≡ empty_slots k (take (to - k) slots)
+empty_between k to slots l = (let none : 0 ≡ to - k = omega arith in ap (λ c. empty_slots k (take c slots)) none)
+
 -- the slot that is told
 abbrev pub told : Told → Slot ℕ
 told t = record { tag = t.tag.now; min = t.min; max = t.max; target = t.target }

@@ -1,5 +1,5 @@
 -- The pass knows one piece more: what it kept beside the pieces behind stays, and what it keeps beside this one is known.
-use Rattle.std.proofs.Common.{◌≡◌, ℕ, zero, suc, ◌+◌, ◌≤◌, ◌<◌, true, List, [], ◌∷◌, length, drop, Option, Some, None, refl, sym, ap, ap₂, ◌∙◌, subst, arith}
+use Rattle.std.proofs.Common.{◌≡◌, ◌≢◌, ℕ, zero, suc, ◌+◌, ◌≤◌, ◌<◌, true, false, List, [], ◌∷◌, length, drop, Option, Some, None, refl, sym, ap, ap₂, ◌∙◌, subst, arith}
 use Rattle.std.specs.Prelude.{slice_get, slice_index, slice_set, ◌==◌}
 use Rattle.std.proofs.lemmas.List.{get_or-set_same, get_or-set_other}
 use Rattle.std.proofs.lemmas.Bool.Decides.{nat_tests}
@@ -12,13 +12,13 @@ use Rattle.der_writer.specs.Measured.{Beside, Free, Counts}
 use Rattle.der_writer.specs.inner.PieceOctets.{Begun, Filled, Ended, before_of}
 use Rattle.der_writer.specs.inner.Passes.{Frame, Stage, following, innermost_frame, piece_step, stage}
 use Rattle.der_writer.proofs.OctetLemmas.{drop_get}
-use Rattle.der_writer.proofs.ChildOctets.{if_true}
+use Rattle.der_writer.proofs.ChildOctets.{if_true, if_false}
 use Rattle.der_writer.proofs.Whole.{is_there}
-use Rattle.der_writer.specs.inner.Measuring.{AreBeside, following_piece, following_at, AreAwaited, Knows, before_place, behind_piece}
+use Rattle.der_writer.specs.inner.Measuring.{AreBeside, following_piece, following_at, AreAwaited, Knows, before_place, behind_piece, IsSizeOf, IsSizeAt, IsSizeBefore}
 
 pub ended_lower : (held : Held) (low more around : ℕ) (fs : List Frame) → more ≤ low → AreAwaited held low around fs → AreAwaited held more around fs
 ended_lower held low more around [] l h = h
-ended_lower held low more around (f ∷ fs) l (a, b, c, d, e) = (omega arith, b, c, d, e)
+ended_lower held low more around (f ∷ fs) l (a, b, n, c, d, e) = (omega arith, b, n, c, d, e)
 
 -- the same pieces, and the same numbers from a place on
 pub record SameFrom (low : ℕ) (old new : Held) : Type 0 where
@@ -31,10 +31,11 @@ same_following low old new s at k l = ap₂ (λ r g. following_piece (slice_get 
 
 pub ended_same : (held new : Held) (low around : ℕ) (fs : List Frame) → SameFrom low held new → AreAwaited held low around fs → AreAwaited new low around fs
 ended_same held new low around [] s h = subst (λ r. length r.pieces ≤ around) (sym s.region) h
-ended_same held new low around (f ∷ fs) s (a, b, c, d, e) =
+ended_same held new low around (f ∷ fs) s (a, b, n, c, d, e) =
     let more : SameFrom (around + 1) held new = record { region = s.region; lens = λ q l. s.lens q (omega arith); groups = λ q l. s.groups q (omega arith) } in (
       a,
       subst (λ r. around < length r.pieces) (sym s.region) b,
+      λ k. same_following low held new s around k a ∙ n k,
       s.lens around a ∙ c,
       λ k. d k ∙ sym (same_following low held new s (around + 1) k (omega arith)),
       subst (λ z. AreAwaited new (around + 1) z fs) (sym (s.groups around a)) (ended_same held new (around + 1) (slice_index held.groups around) fs more e),
@@ -99,15 +100,16 @@ knows_free held at around total sum s k x e = record {
 }
 
 -- an end, beside which the sum and the place of the next end are kept
-pub knows_end : (held new : Held) (at around total sum : ℕ) (s : Stage) → Knows held (at + 1) around total s → SameFrom (at + 1) held new → at < length held.region.pieces
+pub knows_end : (held new : Held) (at around total sum : ℕ) (s : Stage) (edge : Edge) → Knows held (at + 1) around total s → SameFrom (at + 1) held new → at < length held.region.pieces → slice_get held.region.pieces at ≡ Some (Ends edge)
     → slice_index new.lens at ≡ total → slice_index new.groups at ≡ around → AreBeside (drop (at + 1) held.region.pieces) s.beside → (x : ℕ) → sum ≡ total + x
     → Knows new at at sum (record { sum = x + s.sum; frames = record { behind = s.sum; following = following (drop (at + 1) held.region.pieces) s.beside } ∷ s.frames; beside = Free ∷ s.beside })
-knows_end held new at around total sum s k same low len group are x e = record {
+knows_end held new at around total sum s edge k same low there len group are x e = record {
   total_is = (let t = k.total_is in omega (arith, e, t));
   beside = beside_more held new at Free s.beside same (λ len group e. absurd cc) k.beside;
   ended = (
     omega arith,
     subst (λ r. at < length r.pieces) (sym same.region) low,
+    λ j. ap (λ z. following_piece z (slice_index new.groups at) j) (ap (λ r. slice_get r.pieces at) same.region ∙ there),
     len ∙ k.total_is,
     λ j. following_is held (at + 1) j s.beside are k.beside ∙ sym (same_following (at + 1) held new same (at + 1) j (omega arith)),
     subst (λ z. AreAwaited new (at + 1) z s.frames) (sym group) (ended_same held new (at + 1) around s.frames same k.ended),
@@ -124,12 +126,28 @@ knows_begin held new at around outer total sum s k same ended len group l g x e 
   ended = ended_lower new (at + 1) at outer (drop 1 s.frames) (omega arith) (ended_same held new (at + 1) outer (drop 1 s.frames) same ended);
 }
 
+get_past : (ps : List Piece) (at : ℕ) → length ps ≤ at → slice_get ps at ≡ None
+get_past [] zero l = refl
+get_past [] (suc at) l = refl
+get_past (p ∷ ps) zero l = absurd (omega arith)
+get_past (p ∷ ps) (suc at) l = get_past ps at (omega arith)
+
+-- nothing follows where an element ends that is awaited
+following_ended : (held : Held) (low around k : ℕ) (fs : List Frame) → AreAwaited held low around fs → following_at held around k ≡ 0
+following_ended held low around k [] h = ap (λ z. following_piece z (slice_index held.groups around) k) (get_past held.region.pieces around h)
+following_ended held low around k (f ∷ fs) (a, b, n, c, d, e) = n k
+
 -- what was kept beside the innermost end
-pub kept_pop : (held : Held) (low around behind next k : ℕ) (inside : ℕ) (fs : List Frame) → around < length held.region.pieces → behind ≡ slice_index held.lens around → inside ≡ following_at held (around + 1) k → next ≡ slice_index held.groups around
+pub kept_pop : (held : Held) (low around behind next k : ℕ) (inside : ℕ) (fs : List Frame) → around < length held.region.pieces → behind ≡ slice_index held.lens around
+    → ((next ≡ around + 1 → following_at held (around + 1) k ≡ 0) → inside ≡ following_at held (around + 1) k) → next ≡ slice_index held.groups around
     → AreAwaited held low around fs → (behind ≡ (innermost_frame fs).behind) × (inside ≡ (innermost_frame fs).following k) × AreAwaited held low next (drop 1 fs)
 kept_pop held low around behind next k inside [] l b f g h = absurd (omega arith)
-kept_pop held low around behind next k inside (frame ∷ fs) l b f g (a, c, d, e, more) =
-    (b ∙ d, f ∙ sym (e k), ended_lower held (around + 1) low next fs (omega arith) (subst (λ z. AreAwaited held (around + 1) z fs) (sym g) more))
+kept_pop held low around behind next k inside (frame ∷ fs) l b f g (a, c, n, d, e, more) =
+    let outer : AreAwaited held (around + 1) next fs = subst (λ z. AreAwaited held (around + 1) z fs) (sym g) more in (
+      b ∙ d,
+      f (λ same. following_ended held (around + 1) (around + 1) k fs (subst (λ z. AreAwaited held (around + 1) z fs) same outer)) ∙ sym (e k),
+      ended_lower held (around + 1) low next fs (omega arith) outer,
+    )
 
 -- both numbers beside a piece are set
 pub sets_same : (old mid new : Held) (at x y : ℕ) → at < length old.lens → at < length old.groups → mid.lens ≡ slice_set old.lens at x → (mid.region ≡ old.region) × (mid.groups ≡ old.groups)
@@ -169,15 +187,28 @@ holds_there (Holds l) h = (l, refl)
 holds_there (Ends x) h = absurd cc
 
 -- an element that begins there
-pub following_begun : (held : Held) (at k : ℕ) (e : Edge) → at < length held.region.pieces → before_place held.region.pieces (at + 1) ≡ Begun e → e.slot ≡ k → slice_index held.groups at ≡ following_at held at k
-following_begun held at k e l before same =
-    let p = piece_there held.region.pieces at l in
-    let is : p.0 ≡ Begins e = begins_there p.0 e (sym p.2 ∙ before) in
+pub following_begun : (held : Held) (at k : ℕ) (e : Edge) → slice_get held.region.pieces at ≡ Some (Begins e) → e.slot ≡ k → slice_index held.groups at ≡ following_at held at k
+following_begun held at k e there same =
     let test : (e.slot == k) ≡ true = subst (λ z. (e.slot == z) ≡ true) same (own e.slot) in
-    sym (ap (λ z. following_piece z (slice_index held.groups at) k) (p.1 ∙ ap (λ z. Some z) is) ∙ if_true (e.slot == k) (slice_index held.groups at) 0 test)
+    sym (ap (λ z. following_piece z (slice_index held.groups at) k) there ∙ if_true (e.slot == k) (slice_index held.groups at) 0 test)
   where
     own : (n : ℕ) → (n == n) ≡ true
     own n = grind (arith, nat_tests)
+
+-- an element of another slot that begins there
+pub following_other : (held : Held) (at k : ℕ) (e : Edge) → slice_get held.region.pieces at ≡ Some (Begins e) → e.slot ≢ k → 0 ≡ following_at held at k
+following_other held at k e there other =
+    let test : (e.slot == k) ≡ false = grind (arith, nat_tests) in
+    sym (ap (λ z. following_piece z (slice_index held.groups at) k) there ∙ if_false (e.slot == k) (slice_index held.groups at) 0 test)
+
+-- the size of the leaf that was read
+pub size_there : (ps : List Piece) (at size : ℕ) (p : Piece) → slice_get ps at ≡ Some p → IsSizeBefore ps (at + 1) size → IsSizeOf p size
+size_there ps at size p there h = subst (λ z. IsSizeAt z size) there (subst (λ n. IsSizeBefore ps n size) (next_place at) h)
+
+pub size_within : (p : Piece) (size : ℕ) → IsSizeOf p size → size ≤ piece_bytes p + 32
+size_within (Begins e) size h = omega (arith, h)
+size_within (Holds l) size h = h.1
+size_within (Ends e) size h = omega (arith, h)
 
 pub stage_at : (g : Graph ℕ Simple) (ps : List Piece) (at : ℕ) (p : Piece) → slice_get ps at ≡ Some p
     → stage g (before_place ps at) (drop at ps) ≡ piece_step g (before_place ps at) p (drop (at + 1) ps) (stage g (before_place ps (at + 1)) (drop (at + 1) ps))

@@ -16,7 +16,7 @@ use Rattle.der_model.specs.DerMessage.{DerMessage, der_message}
 use Rattle.der_model.specs.Der.{body, inner_of, der_of}
 use Rattle.inst_pool.specs.Pieces.{Held}
 use Rattle.der_writer.specs.Measured.{Beside, Free, Counts, contents_octets, value_counts, child_counts, IsMeasured}
-use Rattle.der_writer.specs.inner.PieceOctets.{Before, Begun, before_of, head, document_edge, slots_behind, piece_octets, pieces_octets, counted_octets}
+use Rattle.der_writer.specs.inner.PieceOctets.{AreNumbersAt, Before, Begun, before_of, head, document_edge, slots_behind, piece_octets, pieces_octets, counted_octets}
 use Rattle.der_writer.specs.inner.Passes.{stage}
 use Rattle.der_writer.specs.inner.Measuring.{AreBeside, NumbersAreKept}
 use Rattle.der_writer.proofs.OctetLemmas.{wrapped_is, drop_get, drop_twice}
@@ -48,6 +48,12 @@ index_at : (at : ℕ) (xs : List ℕ) → slice_index (drop at xs) 0 ≡ slice_i
 index_at zero xs = refl
 index_at (suc at) [] = refl
 index_at (suc at) (x ∷ xs) = index_at at xs
+
+-- what is written by the numbers beside a piece, where they count
+pub numbers_octets : (g : Graph ℕ Simple) (b : Before) (held : Held) (at : ℕ) (p : Piece) (len group : ℕ) → AreNumbersAt held at p len group → piece_octets g b p len group ≡ piece_octets g b p (slice_index held.lens at) (slice_index held.groups at)
+numbers_octets g b held at (Begins e) len group (l, h) = ap₂ (piece_octets g b (Begins e)) l h
+numbers_octets g b held at (Holds l) len group h = refl
+numbers_octets g b held at (Ends e) len group h = refl
 
 -- what is written from a place on is what is written at its piece and behind it
 pub octets_from : (g : Graph ℕ Simple) (b : Before) (ps : List Piece) (lens groups : List ℕ) (at : ℕ) (p : Piece) → slice_get ps at ≡ Some p

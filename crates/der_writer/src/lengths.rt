@@ -6,16 +6,17 @@ ghost use Rattle.std.specs.Prelude.{◌≡◌, ℕ, ◌+◌, ◌<◌, ◌≤◌,
 ghost use Rattle.data_types.specs.Leaf.{Leaf};
 ghost use Rattle.data_types.specs.Value.{Piece as PieceOf, Begins, Holds, Ends};
 ghost use Rattle.message_model.specs.Tables.{types_of};
-ghost use Rattle.inst_pool.specs.Pieces.{edge_of, piece_bytes};
+ghost use Rattle.der_model.specs.LeafContents.{leaf_contents};
+ghost use Rattle.inst_pool.specs.Pieces.{edge_of, piece_of, piece_bytes};
 ghost use Rattle.der_writer.specs.Measured.{IsMeasured};
-ghost use Rattle.der_writer.specs.inner.PieceOctets.{Begun, document_edge, leaf_octets};
+ghost use Rattle.der_writer.specs.inner.PieceOctets.{Begun, before_of, document_edge, leaf_octets};
 ghost use Rattle.der_writer.specs.inner.Passes.{Frame, Stage, innermost_frame, piece_step, stage};
-ghost use Rattle.der_writer.specs.inner.Measuring.{AreBeside, AreAwaited, NumbersAreKept, AreWithin, Knows, before_place, following_at};
+ghost use Rattle.der_writer.specs.inner.Measuring.{AreBeside, AreAwaited, NumbersAreKept, AreWithin, Knows, IsSizeOf, IsSizeBefore, before_place, following_at};
 ghost use Rattle.der_writer.specs.inner.Heads.{before_view};
 
 use crate::contents::leaf_size;
 use crate::heads::head_size;
-use crate::pieces::{Before, behind, element_head, leaf_head, list_head, next_slot};
+use crate::pieces::{Before, begin_heads, leaf_head, next_slot};
 use crate::slots::{behind_size, slots_size};
 use crate::write::start;
 use inst_pool::{Edge, Instance, Piece};
@@ -41,16 +42,57 @@ struct Innermost {
     around: usize,
 }
 
-/// What stands before the piece at a place.
-fn before_at(instance: &Instance, at: usize) -> Before
-    ensures { before_view result ≡ before_place instance.now.region.pieces at }
+/// What was read of a piece.
+#[derive(Clone, Copy)]
+struct Seen {
+    /// What stands before the piece behind it.
+    before: Before,
+    /// How many contents octets it has, where it is a leaf.
+    size: u64,
+}
+
+/// Nothing was read: no piece stands before the first.
+fn unread() -> Seen
+    ensures before { before_view result.before ≡ Begun document_edge }
+{
+    Seen {
+        before: start(),
+        size: 0,
+    }
+}
+
+/// What is read of a piece.
+fn read_piece(piece: &Piece<'_>) -> Seen
+    ensures before { before_view result.before ≡ before_of (piece_of piece.now) }
+    ensures size { IsSizeOf (piece_of piece.now) result.size }
+{
+    match piece {
+        Piece::Open(edge) => Seen {
+            before: Before::Begun(*edge),
+            size: 0,
+        },
+        Piece::Leaf(leaf) => Seen {
+            before: Before::Filled,
+            size: leaf_size(leaf),
+        },
+        Piece::Close(edge) => Seen {
+            before: Before::Ended(*edge),
+            size: 0,
+        },
+    }
+}
+
+/// What is read of the piece before a place.
+fn read_before(instance: &Instance, at: usize) -> Seen
+    ensures before { before_view result.before ≡ before_place instance.now.region.pieces at }
+    ensures size { IsSizeBefore instance.now.region.pieces at result.size }
 {
     if at == 0 {
-        return start();
+        return unread();
     }
     match instance.piece(at - 1) {
-        Some(piece) => behind(&piece),
-        None => start(),
+        Some(piece) => read_piece(&piece),
+        None => unread(),
     }
 }
 
@@ -61,7 +103,7 @@ fn octets_following(instance: &Instance, at: usize, slot: u32) -> u64
     if at >= instance.count() {
         return 0;
     }
-    let Before::Begun(edge) = before_at(instance, at + 1) else {
+    let Some(Piece::Open(edge)) = instance.piece(at) else {
         return 0;
     };
     if edge.slot == slot {
@@ -69,6 +111,18 @@ fn octets_following(instance: &Instance, at: usize, slot: u32) -> u64
     } else {
         0
     }
+}
+
+/// How many octets of a slot follow an element that ends at a place, where the next end is at this one.
+fn octets_behind(instance: &Instance, around: usize, outer: u64, slot: u32) -> u64
+    requires { around < length instance.now.region.pieces }
+    ensures { (outer ≡ around + 1 → following_at instance.now (around + 1) slot ≡ 0) → result ≡ following_at instance.now (around + 1) slot }
+{
+    let _count = instance.count();
+    if outer == around as u64 + 1 {
+        return 0;
+    }
+    octets_following(instance, around + 1, slot)
 }
 
 /// What was kept of the innermost element, which is of this slot; nothing where there is none.
@@ -83,10 +137,11 @@ fn kept_at(instance: &Instance, around: usize, slot: u32) -> Innermost
             around,
         };
     }
+    let outer = instance.group(around);
     Innermost {
         behind: instance.len(around),
-        following: octets_following(instance, around + 1, slot),
-        around: instance.group(around) as usize,
+        following: octets_behind(instance, around, outer, slot),
+        around: outer as usize,
     }
 }
 
@@ -100,6 +155,7 @@ fn end(
     pass: Pass,
 ) -> Pass
     requires place { at < length instance.old.region.pieces }
+    requires piece { slice_get instance.old.region.pieces at ≡ Some (Ends (edge_of edge)) }
     requires room { pass.sum < 15000000000000000000 }
     ensures region { instance.new.region ≡ instance.old.region }
     ensures known { (s : Stage) → Knows instance.old (at + 1) pass.around pass.sum s → AreBeside (drop (at + 1) instance.old.region.pieces) s.beside
@@ -115,33 +171,37 @@ fn end(
     }
 }
 
-/// Where a leaf stands.
-fn fill(model: &Model, instance: &Instance, before: Before, at: usize, pass: Pass) -> Pass
+/// Where a leaf stands with so many contents octets.
+fn fill(
+    model: &Model,
+    instance: &Instance,
+    before: Before,
+    size: u64,
+    at: usize,
+    pass: Pass,
+) -> Pass
     requires room { pass.sum < 15000000000000000000 }
     requires place { at < length instance.now.region.pieces }
+    requires size { IsSizeBefore instance.now.region.pieces (at + 1) size }
     ensures known { (l : Leaf) → slice_get instance.now.region.pieces at ≡ Some (Holds l) → (s : Stage) → Knows instance.now (at + 1) pass.around pass.sum s
         → Knows instance.now at result.around result.sum (piece_step (types_of model.now) (before_view before) (Holds l) (drop (at + 1) instance.now.region.pieces) s) }
     ensures most { (p : PieceOf) → slice_get instance.now.region.pieces at ≡ Some p → result.sum ≤ pass.sum + 50000 + piece_bytes p }
 {
     let _count = instance.count();
-    let size = filled_size(model, instance, before, at);
+    let filled = filled_size(model, before, size);
     Pass {
-        sum: pass.sum + size,
+        sum: pass.sum + filled,
         around: pass.around,
     }
 }
 
 /// How many octets a leaf has, with its head.
-fn filled_size(model: &Model, instance: &Instance, before: Before, at: usize) -> u64
-    ensures size { (l : Leaf) → slice_get instance.now.region.pieces at ≡ Some (Holds l) → result ≡ length (leaf_octets (types_of model.now) (before_view before) l) }
-    ensures most { (p : PieceOf) → slice_get instance.now.region.pieces at ≡ Some p → result ≤ piece_bytes p + 44 }
-    ensures few { result < 1000000000000000000 }
+fn filled_size(model: &Model, before: Before, size: u64) -> u64
+    requires few { size ≤ 1000000000000000000 }
+    ensures size { (l : Leaf) → size ≡ length (leaf_contents l) → result ≡ length (leaf_octets (types_of model.now) (before_view before) l) }
+    ensures most { result ≤ size + 12 }
+    ensures few { result ≤ 1000000000000000012 }
 {
-    let _bounded = instance.count();
-    let Some(Piece::Leaf(leaf)) = instance.piece(at) else {
-        return 0;
-    };
-    let size = leaf_size(&leaf);
     head_size(leaf_head(model, before), size) + size
 }
 
@@ -164,37 +224,47 @@ fn begin(
 {
     let _count = instance.count();
     let inner = kept_at(instance, pass.around, edge.slot);
+    let opening = begin_heads(model, before, edge);
     let len = pass.sum - inner.behind;
-    let head = head_size(element_head(model, edge), len);
+    let head = head_size(opening.element, len);
     let group = head + len + inner.following;
     instance.set_len(at, len);
     instance.set_group(at, group);
     let between = slots_size(model, edge.parent, next_slot(before), edge.slot);
     Pass {
-        sum: pass.sum + between + head_size(list_head(model, before, edge), group) + head,
+        sum: pass.sum + between + head_size(opening.list, group) + head,
         around: inner.around,
     }
 }
 
-/// One piece more, in front of those that were measured.
-fn measure_piece(model: &Model, instance: &mut Instance, at: usize, pass: Pass) -> Pass
+/// One piece more, of which this was read, in front of those that were measured.
+fn measure_piece(
+    model: &Model,
+    instance: &mut Instance,
+    before: Before,
+    seen: Seen,
+    at: usize,
+    pass: Pass,
+) -> Pass
     requires place { at < length instance.old.region.pieces }
     requires room { pass.sum < 15000000000000000000 }
+    requires before { before_view before ≡ before_place instance.old.region.pieces at }
+    requires seen { before_view seen.before ≡ before_place instance.old.region.pieces (at + 1) }
+    requires size { IsSizeBefore instance.old.region.pieces (at + 1) seen.size }
     requires known { Knows instance.old (at + 1) pass.around pass.sum (stage (types_of model.now) (before_place instance.old.region.pieces (at + 1)) (drop (at + 1) instance.old.region.pieces)) }
     ensures region { instance.new.region ≡ instance.old.region }
     ensures known { Knows instance.new at result.around result.sum (stage (types_of model.now) (before_place instance.old.region.pieces at) (drop at instance.old.region.pieces)) }
     ensures most { (p : PieceOf) → slice_get instance.old.region.pieces at ≡ Some p → result.sum ≤ pass.sum + 50000 + piece_bytes p }
 {
     let _count = instance.count();
-    let before = before_at(instance, at);
-    match before_at(instance, at + 1) {
+    match seen.before {
         Before::Begun(edge) => begin(model, instance, before, edge, at, pass),
-        Before::Filled => fill(model, instance, before, at, pass),
+        Before::Filled => fill(model, instance, before, seen.size, at, pass),
         Before::Ended(edge) => end(model, instance, before, edge, at, pass),
     }
 }
 
-/// Fills in the lengths, and gives the number of contents octets of the whole.
+/// Fills in the lengths, and gives the number of contents octets of the whole. Each piece is read once.
 fn measure_pieces(model: &Model, instance: &mut Instance) -> u64
     ensures region { instance.new.region ≡ instance.old.region }
     ensures whole { result ≡ (stage (types_of model.now) (Begun document_edge) instance.old.region.pieces).sum }
@@ -202,13 +272,16 @@ fn measure_pieces(model: &Model, instance: &mut Instance) -> u64
 {
     let count = instance.count();
     let mut at = count;
+    let mut seen = read_before(instance, count);
     let mut pass = Pass {
-        sum: behind_size(model, 0, before_at(instance, count)),
+        sum: behind_size(model, 0, seen.before),
         around: count,
     };
     while at > 0 {
         at -= 1;
-        pass = measure_piece(model, instance, at, pass);
+        let front = read_before(instance, at);
+        pass = measure_piece(model, instance, front.before, seen, at, pass);
+        seen = front;
     }
     pass.sum
 }

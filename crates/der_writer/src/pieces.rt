@@ -98,35 +98,48 @@ fn item_head(model: &Model, number: u32) -> Option<Head>
     }
 }
 
-/// The head of an element: under the tag of its slot, or that of an item.
-pub(crate) fn element_head(model: &Model, edge: Edge) -> Option<Head>
-    ensures { (len : ℕ) → head_octets result len ≡ begin_octets (types_of model.now) (edge_of edge) len }
-{
-    let _count = model.type_count();
-    let Some(slot) = model.slot(edge.parent, edge.slot) else {
-        return None;
-    };
-    if is_one(slot.max) {
-        return Some(Head::context(is_constructed(model, edge.target), edge.slot));
-    }
-    item_head(model, edge.target)
+/// The heads with which an element begins.
+#[derive(Clone, Copy)]
+pub(crate) struct Opening {
+    /// That of the list of its slot, where it is the first item.
+    pub(crate) list: Option<Head>,
+    /// Its own: under the tag of its slot, or that of an item.
+    pub(crate) element: Option<Head>,
 }
 
-/// The head of the list of an element's slot, where the element is its first item.
-pub(crate) fn list_head(model: &Model, before: Before, edge: Edge) -> Option<Head>
-    ensures { (group : ℕ) → head_octets result group ≡ list_head (own_slot (types_of model.now) (edge_of edge)) (before_view before) edge.slot group }
+/// The head of the list of a slot, where its first item begins.
+fn first_list(before: Before, slot: u32) -> Option<Head>
+    requires { slot < 16384 }
+    ensures { (group : ℕ) → head_octets result group ≡ (if goes_on (before_view before) slot then [] else head true (context slot) group) }
+{
+    if goes_on(before, slot) {
+        return None;
+    }
+    Some(Head::context(true, slot))
+}
+
+/// The heads with which an element begins.
+pub(crate) fn begin_heads(model: &Model, before: Before, edge: Edge) -> Opening
+    ensures list { (group : ℕ) → head_octets result.list group ≡ list_head (own_slot (types_of model.now) (edge_of edge)) (before_view before) edge.slot group }
+    ensures element { (len : ℕ) → head_octets result.element len ≡ begin_octets (types_of model.now) (edge_of edge) len }
 {
     let _count = model.type_count();
     let Some(slot) = model.slot(edge.parent, edge.slot) else {
-        return None;
+        return Opening {
+            list: None,
+            element: None,
+        };
     };
     if is_one(slot.max) {
-        return None;
+        return Opening {
+            list: None,
+            element: Some(Head::context(is_constructed(model, edge.target), edge.slot)),
+        };
     }
-    if goes_on(before, edge.slot) {
-        return None;
+    Opening {
+        list: first_list(before, edge.slot),
+        element: item_head(model, edge.target),
     }
-    Some(Head::context(true, edge.slot))
 }
 
 /// The head of an empty list of a slot with this maximum.

@@ -77,6 +77,9 @@ pub(crate) fn push_slots<O: Sink>(
 ) -> Result<(), SinkError>
     ensures { Pushes O.held O.faults O.room sink.old sink.new result (empty_slots from (take (to - from) (drop from (sequence_slots (types_of model.now number))))) }
 {
+    if from >= to as u64 {
+        return Ok(());
+    }
     if !is_sequence(model, number) {
         return Ok(());
     }
@@ -88,6 +91,9 @@ pub(crate) fn slots_size(model: &Model, number: u32, from: u64, to: u32) -> u64
     ensures size { result ≡ length (empty_slots from (take (to - from) (drop from (sequence_slots (types_of model.now number))))) }
     ensures most { result ≤ 49152 }
 {
+    if from >= to as u64 {
+        return 0;
+    }
     if is_sequence(model, number) {
         empty_size(model, number, from, to)
     } else {

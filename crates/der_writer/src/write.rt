@@ -10,13 +10,13 @@ ghost use Rattle.der_model.specs.Der.{der_of};
 ghost use Rattle.inst_pool.specs.Pieces.{edge_of, piece_of};
 ghost use Rattle.outside.specs.Gathering.{Gathers};
 ghost use Rattle.der_writer.specs.Measured.{IsMeasured};
-ghost use Rattle.der_writer.specs.inner.PieceOctets.{Begun, document_edge, octets_before, piece_octets, pieces_octets, slots_behind};
-ghost use Rattle.der_writer.specs.inner.Heads.{before_view};
+ghost use Rattle.der_writer.specs.inner.PieceOctets.{AreNumbersAt, Begun, document_edge, piece_octets, pieces_octets, slots_behind};
+ghost use Rattle.der_writer.specs.inner.Heads.{before_view, head_octets};
 
 use crate::contents::push_leaf;
 use crate::head::Head;
 use crate::heads::push_head;
-use crate::pieces::{Before, behind, element_head, leaf_head, list_head, next_slot};
+use crate::pieces::{Before, Opening, begin_heads, behind, leaf_head, next_slot};
 use crate::slots::{behind_size, push_behind, push_slots};
 use data_types::LeafRef;
 use inst_pool::{Edge, Instance, Piece};
@@ -37,20 +37,19 @@ pub(crate) fn start() -> Before
     Before::Begun(DOCUMENT)
 }
 
-/// Pushes what stands before an element that begins.
-fn push_before<O: Sink>(
-    model: &Model,
-    before: Before,
-    edge: Edge,
+/// Pushes the heads with which an element begins.
+fn push_opening<O: Sink>(
+    opening: Opening,
+    len: u64,
     group: u64,
     sink: &mut O,
 ) -> Result<(), SinkError>
-    ensures { Pushes O.held O.faults O.room sink.old sink.new result (octets_before (types_of model.now) (before_view before) (edge_of edge) group) }
+    ensures { Pushes O.held O.faults O.room sink.old sink.new result (head_octets opening.list group ++ head_octets opening.element len) }
 {
-    if let Err(error) = push_slots(model, edge.parent, next_slot(before), edge.slot, sink) {
+    if let Err(error) = push_head(opening.list, group, sink) {
         return Err(error);
     }
-    push_head(list_head(model, before, edge), group, sink)
+    push_head(opening.element, len, sink)
 }
 
 /// Pushes what is written where an element begins.
@@ -64,10 +63,11 @@ fn push_begin<O: Sink>(
 ) -> Result<(), SinkError>
     ensures { Pushes O.held O.faults O.room sink.old sink.new result (piece_octets (types_of model.now) (before_view before) (Begins (edge_of edge)) len group) }
 {
-    if let Err(error) = push_before(model, before, edge, group, sink) {
+    let opening = begin_heads(model, before, edge);
+    if let Err(error) = push_slots(model, edge.parent, next_slot(before), edge.slot, sink) {
         return Err(error);
     }
-    push_head(element_head(model, edge), len, sink)
+    push_opening(opening, len, group, sink)
 }
 
 /// Pushes what is written at a piece, beside which these numbers stand.
@@ -142,6 +142,27 @@ fn gather_piece<O: Sink>(
     push_piece(model, before, piece, len, group, sink)
 }
 
+/// Two numbers beside a piece.
+#[derive(Clone, Copy)]
+struct Numbers {
+    len: u64,
+    group: u64,
+}
+
+/// The numbers beside a piece. Those of leaves and ends count for nothing, and are not looked up.
+fn numbers_at(instance: &Instance, piece: &Piece<'_>, at: usize) -> Numbers
+    requires { at < length instance.now.region.pieces }
+    ensures { AreNumbersAt instance.now at (piece_of piece.now) result.len result.group }
+{
+    match piece {
+        Piece::Open(_) => Numbers {
+            len: instance.len(at),
+            group: instance.group(at),
+        },
+        _ => Numbers { len: 0, group: 0 },
+    }
+}
+
 /// Pushes what is written at all pieces, by way of a buffer, and at the end of the whole.
 fn push_pieces<O: Sink>(model: &Model, instance: &Instance, sink: &mut O) -> Result<(), SinkError>
     ensures { Pushes O.held O.faults O.room sink.old sink.new result (pieces_octets (types_of model.now) (Begun document_edge) instance.now.region.pieces instance.now.lens instance.now.groups) }
@@ -152,12 +173,13 @@ fn push_pieces<O: Sink>(model: &Model, instance: &Instance, sink: &mut O) -> Res
         let Some(piece) = instance.piece(at) else {
             unreachable!()
         };
+        let numbers = numbers_at(instance, &piece, at);
         if let Err(error) = gather_piece(
             model,
             before,
             &piece,
-            instance.len(at),
-            instance.group(at),
+            numbers.len,
+            numbers.group,
             &mut buffer,
             sink,
         ) {

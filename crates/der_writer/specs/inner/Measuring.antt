@@ -1,7 +1,8 @@
 -- What the pass that fills in the lengths keeps beside the ends of elements, while their beginnings are still to come.
 use Rattle.std.specs.Prelude.{◌≡◌, ℕ, zero, suc, ◌+◌, ◌≤◌, ◌<◌, ◌==◌, List, [], ◌∷◌, length, Option, Some, None, slice_get, slice_index, if◌then◌else◌}
-use Rattle.data_types.specs.Value.{Piece, Begins}
-use Rattle.inst_pool.specs.Pieces.{Held}
+use Rattle.data_types.specs.Value.{Piece, Begins, Holds}
+use Rattle.inst_pool.specs.Pieces.{Held, leaf_bytes}
+use Rattle.der_model.specs.LeafContents.{leaf_contents}
 use Rattle.der_writer.specs.Measured.{Beside, Free, Counts}
 use Rattle.der_writer.specs.inner.PieceOctets.{Before, Begun, before_of, document_edge}
 use Rattle.der_writer.specs.inner.Passes.{Frame, Stage}
@@ -15,6 +16,20 @@ abbrev pub before_place : List Piece → ℕ → Before
 before_place pieces zero = Begun document_edge
 before_place pieces (suc at) = behind_piece (slice_get pieces at)
 
+-- so many contents octets a leaf has; they are few more than its bytes
+abbrev pub IsSizeOf : Piece → ℕ → Type 0
+IsSizeOf (Holds leaf) size = (size ≡ length (leaf_contents leaf)) × (size ≤ leaf_bytes leaf + 32)
+IsSizeOf piece size = size ≡ 0
+
+abbrev pub IsSizeAt : Option Piece → ℕ → Type 0
+IsSizeAt None size = Unit {0}
+IsSizeAt (Some piece) size = IsSizeOf piece size
+
+-- so many the piece before a place has
+abbrev pub IsSizeBefore : List Piece → ℕ → ℕ → Type 0
+IsSizeBefore pieces zero size = Unit {0}
+IsSizeBefore pieces (suc at) size = IsSizeAt (slice_get pieces at) size
+
 -- how many octets of slot k stand at a piece, where it begins an element of the slot
 abbrev pub following_piece : Option Piece → ℕ → ℕ → ℕ
 following_piece (Some (Begins edge)) group k = if edge.slot == k then group else 0
@@ -23,12 +38,12 @@ following_piece piece group k = 0
 abbrev pub following_at : Held → ℕ → ℕ → ℕ
 following_at held at k = following_piece (slice_get held.region.pieces at) (slice_index held.groups at) k
 
--- The elements whose beginnings are to come end at these places, the innermost at the first, which is not below the bound. Beside each end
--- stand the number of octets behind it and the place of the next end, which is past the pieces where there is none.
+-- The elements whose beginnings are to come end at these places, the innermost at the first, which is not below the bound. No element begins
+-- there. Beside each end stand the number of octets behind it and the place of the next end, which is past the pieces where there is none.
 abbrev pub AreAwaited : Held → ℕ → ℕ → List Frame → Type 0
 AreAwaited held low around [] = length held.region.pieces ≤ around
 AreAwaited held low around (frame ∷ frames) =
-    (low ≤ around) × (around < length held.region.pieces) × (slice_index held.lens around ≡ frame.behind) × ((k : ℕ) → frame.following k ≡ following_at held (around + 1) k)
+    (low ≤ around) × (around < length held.region.pieces) × ((k : ℕ) → following_at held around k ≡ 0) × (slice_index held.lens around ≡ frame.behind) × ((k : ℕ) → frame.following k ≡ following_at held (around + 1) k)
     × AreAwaited held (around + 1) (slice_index held.groups around) frames
 
 -- The pass knows what a stage says, in front of the piece at a place.

@@ -24,12 +24,12 @@ returns-clause-known c s k =
     let group = length (begin_octets types edge len) + len + (innermost_frame s.frames).following edge.slot in
     let told = c.args.pass.sum - c.kept_at-inner.result.behind in
     let len_is : told ≡ len = ap₂ (λ a b. a - b) k.total_is kept.0 in
-    let head_is : c.head_size-head.result ≡ length (begin_octets types edge len) = c.head_size-head.ensures.size ∙ (ap length (c.element_head.ensures told) ∙ ap (λ z. length (begin_octets types edge z)) len_is) in
+    let head_is : c.head_size-head.result ≡ length (begin_octets types edge len) = c.head_size-head.ensures.size ∙ (ap length (c.begin_heads-opening.ensures.element told) ∙ ap (λ z. length (begin_octets types edge z)) len_is) in
     let group_is : c.head_size-head.result + told + c.kept_at-inner.result.following ≡ group = ap₂ (λ a b. a + b) (ap₂ (λ a b. a + b) head_is len_is) kept.1 in
     let between = λ (z : ℕ). empty_slots z (take (edge.slot - z) (drop z (sequence_slots (types edge.parent)))) in
     let between_is : c.slots_size-between.result ≡ length (slots_between types edge.parent before edge.slot) = c.slots_size-between.ensures.size ∙ ap (λ z. length (between z)) c.next_slot.ensures in
     let list_is : c.head_size.result ≡ length (list_head (own_slot types edge) before edge.slot group) =
-    c.head_size.ensures.size ∙ (ap length (c.list_head.ensures (c.head_size-head.result + told + c.kept_at-inner.result.following)) ∙ ap (λ z. length (list_head (own_slot types edge) before edge.slot z)) group_is) in
+    c.head_size.ensures.size ∙ (ap length (c.begin_heads-opening.ensures.list (c.head_size-head.result + told + c.kept_at-inner.result.following)) ∙ ap (λ z. length (list_head (own_slot types edge) before edge.slot z)) group_is) in
     let same = sets_same old c.set_len.new.self c.set_group.new.self c.args.at told (c.head_size-head.result + told + c.kept_at-inner.result.following) (omega (arith, low, count.count, count.lens)) (omega (arith, low, count.count, count.groups))
     c.set_len.ensures.lens c.set_len.ensures.rest c.set_group.ensures.groups c.set_group.ensures.rest in
     knows_begin old c.set_group.new.self c.args.at c.args.pass.around c.kept_at-inner.result.around c.args.pass.sum _ s k same.0 kept.2 len group (same.1 ∙ len_is) (same.2 ∙ group_is)
