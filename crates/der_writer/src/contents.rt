@@ -38,6 +38,7 @@ fn push_real<O: Sink>(head: Option<Head>, number: &Decimal, sink: &mut O) -> Res
 }
 
 /// How many octets a REAL has.
+#[inline(never)]
 fn real_size(number: &Decimal) -> u64
     ensures size { result ≡ length (real_contents number.now) }
     ensures most { result ≤ 32 }

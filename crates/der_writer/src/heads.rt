@@ -112,7 +112,19 @@ fn push_short<O: Sink>(head: Head, len: u64, sink: &mut O) -> Result<(), SinkErr
     push_bytes([bits(head) + head.number as u8, len as u8].as_slice(), sink)
 }
 
+/// Pushes a head of any number of octets.
+#[inline(never)]
+fn push_long<O: Sink>(head: Head, len: u64, sink: &mut O) -> Result<(), SinkError>
+    ensures { Pushes O.held O.faults O.room sink.old sink.new result (identifier head.constructed (tag_of head) ++ length_octets len) }
+{
+    if let Err(error) = push_identifier(head, sink) {
+        return Err(error);
+    }
+    push_length(len, sink)
+}
+
 /// Pushes a head before so many contents octets; nothing where there is none.
+#[inline(always)]
 pub(crate) fn push_head<O: Sink>(
     head: Option<Head>,
     len: u64,
@@ -126,10 +138,7 @@ pub(crate) fn push_head<O: Sink>(
     if is_short(head, len) {
         return push_short(head, len, sink);
     }
-    if let Err(error) = push_identifier(head, sink) {
-        return Err(error);
-    }
-    push_length(len, sink)
+    push_long(head, len, sink)
 }
 
 /// How many octets a head has before so many contents octets.

@@ -62,6 +62,7 @@ fn unread() -> Seen
 }
 
 /// What is read of a piece.
+#[inline(always)]
 fn read_piece(piece: &Piece<'_>) -> Seen
     ensures before { before_view result.before ≡ before_of (piece_of piece.now) }
     ensures size { IsSizeOf (piece_of piece.now) result.size }
@@ -83,6 +84,7 @@ fn read_piece(piece: &Piece<'_>) -> Seen
 }
 
 /// What is read of the piece before a place.
+#[inline(always)]
 fn read_before(instance: &Instance, at: usize) -> Seen
     ensures before { before_view result.before ≡ before_place instance.now.region.pieces at }
     ensures size { IsSizeBefore instance.now.region.pieces at result.size }

@@ -119,6 +119,7 @@ fn first_list(before: Before, slot: u32) -> Option<Head>
 }
 
 /// The heads with which an element begins.
+#[inline(always)]
 pub(crate) fn begin_heads(model: &Model, before: Before, edge: Edge) -> Opening
     ensures list { (group : ℕ) → head_octets result.list group ≡ list_head (own_slot (types_of model.now) (edge_of edge)) (before_view before) edge.slot group }
     ensures element { (len : ℕ) → head_octets result.element len ≡ begin_octets (types_of model.now) (edge_of edge) len }

@@ -30,6 +30,7 @@ fn is_sequence(model: &Model, number: u32) -> bool
 }
 
 /// Pushes the slots of a type from one on and before another, in which nothing has come.
+#[inline(never)]
 fn push_empty<O: Sink>(
     model: &Model,
     number: u32,
@@ -52,6 +53,7 @@ fn push_empty<O: Sink>(
 }
 
 /// How many octets that are.
+#[inline(never)]
 fn empty_size(model: &Model, number: u32, from: u64, to: u32) -> u64
     ensures size { result ≡ length (empty_slots from (take (to - from) (drop from (form_slots (types_of model.now number))))) }
     ensures most { result ≤ 49152 }
@@ -68,6 +70,7 @@ fn empty_size(model: &Model, number: u32, from: u64, to: u32) -> u64
 }
 
 /// Pushes the slots of a sequence from one on and before another, in which nothing has come.
+#[inline(always)]
 pub(crate) fn push_slots<O: Sink>(
     model: &Model,
     number: u32,
@@ -87,6 +90,7 @@ pub(crate) fn push_slots<O: Sink>(
 }
 
 /// How many octets that are.
+#[inline(always)]
 pub(crate) fn slots_size(model: &Model, number: u32, from: u64, to: u32) -> u64
     ensures size { result ≡ length (empty_slots from (take (to - from) (drop from (sequence_slots (types_of model.now number))))) }
     ensures most { result ≤ 49152 }
@@ -102,6 +106,7 @@ pub(crate) fn slots_size(model: &Model, number: u32, from: u64, to: u32) -> u64
 }
 
 /// Pushes the slots of a sequence behind a piece, in which nothing has come.
+#[inline(always)]
 pub(crate) fn push_behind<O: Sink>(
     model: &Model,
     number: u32,
@@ -115,6 +120,7 @@ pub(crate) fn push_behind<O: Sink>(
 }
 
 /// How many octets that are.
+#[inline(always)]
 pub(crate) fn behind_size(model: &Model, number: u32, before: Before) -> u64
     ensures size { result ≡ length (slots_behind (types_of model.now) number (before_view before)) }
     ensures most { result ≤ 49152 }

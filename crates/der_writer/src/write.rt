@@ -38,6 +38,7 @@ pub(crate) fn start() -> Before
 }
 
 /// Pushes the heads with which an element begins.
+#[inline(always)]
 fn push_opening<O: Sink>(
     opening: Opening,
     len: u64,
@@ -53,6 +54,7 @@ fn push_opening<O: Sink>(
 }
 
 /// Pushes what is written where an element begins.
+#[inline(always)]
 fn push_begin<O: Sink>(
     model: &Model,
     before: Before,
@@ -71,6 +73,7 @@ fn push_begin<O: Sink>(
 }
 
 /// Pushes what is written at a piece, beside which these numbers stand.
+#[inline(always)]
 fn push_piece<O: Sink>(
     model: &Model,
     before: Before,
@@ -97,6 +100,7 @@ fn is_within(piece: &Piece<'_>, spare: usize) -> bool {
 }
 
 /// Puts what is written at a piece into the buffer. `false` where it has not the room; it is as before.
+#[inline(always)]
 fn put_piece(
     model: &Model,
     before: Before,
@@ -121,6 +125,26 @@ fn put_piece(
     }
 }
 
+/// Pushes the buffer, and then what is written at a piece.
+#[cold]
+#[inline(never)]
+fn push_both<O: Sink>(
+    model: &Model,
+    before: Before,
+    piece: &Piece<'_>,
+    len: u64,
+    group: u64,
+    buffer: &mut Buffer,
+    sink: &mut O,
+) -> Result<(), SinkError>
+    ensures { Gathers O.held O.faults O.room sink.old sink.new buffer.old buffer.new result (piece_octets (types_of model.now) (before_view before) (piece_of piece.now) len group) }
+{
+    if let Err(error) = buffer.flush(sink) {
+        return Err(error);
+    }
+    push_piece(model, before, piece, len, group, sink)
+}
+
 /// Puts what is written at a piece into the buffer, where it has room, and else pushes both.
 fn gather_piece<O: Sink>(
     model: &Model,
@@ -136,10 +160,7 @@ fn gather_piece<O: Sink>(
     if put_piece(model, before, piece, len, group, buffer) {
         return Ok(());
     }
-    if let Err(error) = buffer.flush(sink) {
-        return Err(error);
-    }
-    push_piece(model, before, piece, len, group, sink)
+    push_both(model, before, piece, len, group, buffer, sink)
 }
 
 /// Two numbers beside a piece.
