@@ -1,11 +1,10 @@
 -- The pieces that contents are.
-use Rattle.std.proofs.Common.{◌≡◌, ℕ, zero, suc, ◌+◌, ◌-◌, ◌≤◌, List, [], ◌∷◌, ◌++◌, length, take, drop, slice_get, slice_range, Some, None, refl, sym, ap, ap₂, subst, ◌∙◌, arith, length-drop}
+use Rattle.std.proofs.Common.{◌≡◌, ℕ, zero, suc, ◌+◌, ◌-◌, ◌≤◌, List, [], ◌∷◌, ◌++◌, length, take, drop, slice_get, slice_range, Some, None, refl, ap, ap₂, subst, ◌∙◌, arith, length-drop}
 use Rattle.std.specs.Option.{option_map}
 use Rattle.std.proofs.lemmas.List.{take-append-le, drop-append-le}
 use Rattle.data_types.specs.Value.{Edge, Piece, Begins, Holds, Ends}
-use Rattle.inst_pool.specs.Pieces.{bytes_of, open_behind, IsOutline}
+use Rattle.inst_pool.specs.Pieces.{bytes_of, open_behind}
 use Rattle.inst_pool.specs.Contents.{piece_in, IsInside, pieces_in, AreInside}
-use Rattle.inst_pool.specs.declared.piece.Outline.{Outline}
 use Rattle.inst_pool.specs.declared.content.Content.{Content}
 use Rattle.inst_pool.specs.declared.content.Content.TheVariants.{Open, Bytes, Number, Flag, Code, Close}
 
@@ -68,14 +67,6 @@ pub get_piece : (bytes : List ℕ) (contents : List Content) (at : ℕ) → slic
 get_piece bytes [] at = refl
 get_piece bytes (n ∷ contents) zero = refl
 get_piece bytes (n ∷ contents) (suc at) = get_piece bytes contents at
-
-same_piece : (q p : Piece) → Some q ≡ Some p → q ≡ p
-same_piece q p e = cc
-
--- an outline of what is kept of a piece is one of the piece
-pub outlined : (bytes : List ℕ) (contents : List Content) (at : ℕ) (x : Content) (o : Outline) → slice_get contents at ≡ Some x → IsOutline o (piece_in bytes x) → (p : Piece) → slice_get (pieces_in bytes contents) at ≡ Some p
-    → IsOutline o p
-outlined bytes contents at x o got h p is = subst (λ (q : Piece). IsOutline o q) (same_piece (piece_in bytes x) p (sym (get_piece bytes contents at ∙ ap (option_map (piece_in bytes)) got) ∙ is)) h
 
 pub open-append : (outer : List Edge) (a b : List Piece) → open_behind outer (a ++ b) ≡ open_behind (open_behind outer a) b
 open-append outer [] b = refl

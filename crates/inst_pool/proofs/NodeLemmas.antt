@@ -1,14 +1,11 @@
 -- The contents that nodes stand for.
-use Rattle.std.proofs.Common.{◌≡◌, ℕ, zero, suc, ◌≤◌, List, [], ◌∷◌, ◌++◌, length, slice_get, Some, None, refl, sym, ap, ap₂, subst, ◌∙◌, arith}
+use Rattle.std.proofs.Common.{◌≡◌, ℕ, zero, suc, ◌≤◌, List, [], ◌∷◌, ◌++◌, length, slice_get, Some, None, refl, ap, ap₂, subst, ◌∙◌, arith}
 use Rattle.std.specs.Option.{option_map}
 use Rattle.std.proofs.Math.Seq.{get_or-append_seam}
 use Rattle.std.proofs.lemmas.List.{get_or_append_left}
-use Rattle.inst_pool.specs.Contents.{piece_in}
-use Rattle.inst_pool.specs.Pieces.{IsOutline}
 use Rattle.inst_pool.specs.inner.Nodes.{place_in, content_of, IsWithin, AreWithin, contents_in}
 use Rattle.inst_pool.specs.declared.content.Content.{Content}
 use Rattle.inst_pool.specs.declared.content.Content.TheVariants as long
-use Rattle.inst_pool.specs.declared.piece.Outline.{Outline}
 use Rattle.inst_pool.specs.declared.node.Node.{Node}
 use Rattle.inst_pool.specs.declared.node.Node.TheVariants.{Open, Bytes, Flag, Code, Close, Long}
 
@@ -75,11 +72,3 @@ within_at n (y ∷ nodes) (suc at) x h e = within_at n nodes at x h.1 e
 
 pub got_node : (block : List Content) (nodes : List Node) (at : ℕ) (n : Node) → slice_get nodes at ≡ Some n → slice_get (contents_in block nodes) at ≡ Some (content_of block n)
 got_node block nodes at n e = get_content block nodes at ∙ ap (option_map (content_of block)) e
-
-same_content : (c d : Content) → Some c ≡ Some d → c ≡ d
-same_content c d e = cc
-
--- there is one of which an outline tells
-pub told_outline : (contents : List Content) (at : ℕ) (c : Content) (o : Outline) → slice_get contents at ≡ Some c → ((bytes : List ℕ) → IsOutline o (piece_in bytes c))
-    → (bytes : List ℕ) (d : Content) → slice_get contents at ≡ Some d → IsOutline o (piece_in bytes d)
-told_outline contents at c o e h bytes d is = subst (λ (x : Content). IsOutline o (piece_in bytes x)) (same_content c d (sym e ∙ is)) (h bytes)

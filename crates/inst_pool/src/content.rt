@@ -1,9 +1,9 @@
 // What is kept of a piece.
-ghost use Rattle.std.specs.Prelude.{◌≡◌, ℕ, List, length};
+ghost use Rattle.std.specs.Prelude.{◌≡◌, length};
 ghost use Rattle.inst_pool.specs.Contents.{piece_in, IsInside};
-ghost use Rattle.inst_pool.specs.Pieces.{piece_of, IsOutline};
+ghost use Rattle.inst_pool.specs.Pieces.{piece_of};
 
-use crate::piece::{Edge, Outline, Piece};
+use crate::piece::{Edge, Piece};
 use data_types::LeafRef;
 use lexical_core::Decimal;
 
@@ -33,19 +33,5 @@ pub(crate) fn piece_of<'a>(content: Content, bytes: &'a [u8]) -> Piece<'a>
         Content::Flag(flag) => Piece::Leaf(LeafRef::Flag(flag)),
         Content::Code(place) => Piece::Leaf(LeafRef::Code(place)),
         Content::Close(edge) => Piece::Close(edge),
-    }
-}
-
-/// The outline of the piece that is kept as a content.
-pub(crate) fn outline_of(content: Content) -> Outline
-    ensures { (bytes : List ℕ) → IsOutline result (piece_in bytes content) }
-{
-    match content {
-        Content::Open(edge) => Outline::Open(edge),
-        Content::Bytes(_, _) => Outline::Leaf,
-        Content::Number(_) => Outline::Leaf,
-        Content::Flag(_) => Outline::Leaf,
-        Content::Code(_) => Outline::Leaf,
-        Content::Close(edge) => Outline::Close(edge),
     }
 }

@@ -1,13 +1,12 @@
 // A list of contents.
-ghost use Rattle.std.specs.Prelude.{◌≡◌, ◌<◌, ◌≤◌, ◌++◌, ℕ, List, [], ◌∷◌, length, slice_get, Some, OnOk, vec_len, vec_capacity};
+ghost use Rattle.std.specs.Prelude.{◌≡◌, ◌<◌, ◌≤◌, ◌++◌, [], ◌∷◌, length, slice_get, Some, OnOk, vec_len, vec_capacity};
 ghost use Rattle.std.specs.Option.{option_map};
 ghost use Rattle.inst_pool.specs.Contents.{piece_in, AreInside};
-ghost use Rattle.inst_pool.specs.Pieces.{piece_of, IsOutline, room_limit};
-ghost use Rattle.inst_pool.specs.declared.content.Content.{Content};
+ghost use Rattle.inst_pool.specs.Pieces.{piece_of, room_limit};
 
 use crate::content::Content;
-use crate::node::{Node, long_at, outline_of, piece_of, shortened};
-use crate::piece::{Outline, Piece};
+use crate::node::{Node, long_at, piece_of, shortened};
+use crate::piece::Piece;
 use crate::room::{lengthen, widen};
 use std::alloc::{AllocError, Global};
 use std::marker::Model;
@@ -57,15 +56,6 @@ impl Contents {
         ensures { option_map (piece_in bytes.now) (slice_get self.now.items at) ≡ Some (piece_of result) }
     {
         piece_of(&self.nodes[at], self.long.as_slice(), bytes)
-    }
-
-    /// The outline of the piece at that place, from 0.
-    #[inline(always)]
-    pub(crate) fn outline(&self, at: usize) -> Outline
-        requires { at < length self.now.items }
-        ensures { (bytes : List ℕ) (c : Content) → slice_get self.now.items at ≡ Some c → IsOutline result (piece_in bytes c) }
-    {
-        outline_of(&self.nodes[at], self.long.as_slice())
     }
 
     /// Makes room for so many in all.

@@ -1,13 +1,12 @@
 // An instance in its region.
-ghost use Rattle.std.specs.Prelude.{◌≡◌, ◌<◌, [], Some, length, slice_get, slice_index, slice_set};
+ghost use Rattle.std.specs.Prelude.{◌≡◌, ◌<◌, [], length, slice_get, slice_index, slice_set};
 ghost use Rattle.std.specs.Option.{option_map};
 ghost use Rattle.inst_pool.specs.Blocks.{AreBuilding, region_of};
-ghost use Rattle.data_types.specs.Value.{Piece as PieceOf};
-ghost use Rattle.inst_pool.specs.Pieces.{piece_of, emptied, IsBounded, IsOutline};
+ghost use Rattle.inst_pool.specs.Pieces.{piece_of, emptied, IsBounded};
 
 use crate::blocks::Blocks;
 use crate::builder::Builder;
-use crate::piece::{Outline, Piece};
+use crate::piece::Piece;
 use crate::walk::Walk;
 use std::marker::Model;
 
@@ -61,15 +60,6 @@ impl Instance {
         }
         let bytes = self.blocks.bytes.as_slice();
         Some(self.blocks.contents.piece(at, bytes))
-    }
-
-    /// The outline of the piece at that place, from 0: the piece without what its leaf is.
-    #[inline]
-    pub fn outline(&self, at: usize) -> Outline
-        requires { at < length self.now.region.pieces }
-        ensures { (p : PieceOf) → slice_get self.now.region.pieces at ≡ Some p → IsOutline result p }
-    {
-        self.blocks.contents.outline(at)
     }
 
     /// The pieces in order.

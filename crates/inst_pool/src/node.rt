@@ -1,12 +1,12 @@
 // Contents in eight bytes each. What does not fit stands in a block of its own, of which the node has the place.
 ghost use Rattle.std.specs.Prelude.{◌≡◌, ◌<◌, ◌≤◌, ◌^◌, ℕ, List, true, length, slice_index_or, IfSome};
 ghost use Rattle.inst_pool.specs.Contents.{piece_in, IsInside};
-ghost use Rattle.inst_pool.specs.Pieces.{piece_of, IsOutline};
+ghost use Rattle.inst_pool.specs.Pieces.{piece_of};
 ghost use Rattle.inst_pool.specs.inner.Nodes.{edge_in, low_in, place_in, content_of, IsWithin, bytes_in};
 ghost use Rattle.inst_pool.specs.declared.content.Content.{Content};
 
-use crate::content::{Content, outline_of as held_outline, piece_of as held_piece};
-use crate::piece::{Edge, Outline, Piece};
+use crate::content::{Content, piece_of as held_piece};
+use crate::piece::{Edge, Piece};
 use data_types::LeafRef;
 
 /// The greatest number of 16 bits.
@@ -148,22 +148,6 @@ pub(crate) fn piece_of<'a>(node: &Node, long: &[Content], bytes: &'a [u8]) -> Pi
         }
         Node::Close(short) => Piece::Close(edge_of(short)),
         Node::Long(short) => held_piece(long[place_of(short)], bytes),
-    }
-}
-
-/// The outline of the piece that a node stands for.
-#[inline(always)]
-pub(crate) fn outline_of(node: &Node, long: &[Content]) -> Outline
-    requires { IsWithin (length long.now) node.now }
-    ensures { (bytes : List ℕ) → IsOutline result (piece_in bytes (content_of long.now node.now)) }
-{
-    match node {
-        Node::Open(short) => Outline::Open(edge_of(short)),
-        Node::Bytes(_) => Outline::Leaf,
-        Node::Flag(_) => Outline::Leaf,
-        Node::Code(_) => Outline::Leaf,
-        Node::Close(short) => Outline::Close(edge_of(short)),
-        Node::Long(short) => held_outline(long[place_of(short)]),
     }
 }
 
