@@ -1,5 +1,7 @@
--- Headers of two octets, taken at once.
-use Rattle.std.proofs.Common.{◌≡◌, ℕ, ◌+◌, ◌<◌, Bool, true, false, List, [], ◌∷◌, ◌++◌, Some, refl, ap, ◌∙◌, subst, arith, append_assoc}
+-- Headers of two octets, taken at once, and leaves with them.
+use Rattle.std.specs.Prelude.{IfSome}
+use Rattle.std.proofs.lemmas.List.{length-take-le}
+use Rattle.std.proofs.Common.{◌≡◌, ℕ, ◌+◌, ◌<◌, ◌≤◌, Bool, true, false, List, [], ◌∷◌, ◌++◌, length, take, drop, Option, Some, None, refl, sym, ap, ◌∙◌, subst, arith, append_assoc}
 use Rattle.der_octets.specs.TagSteps.{tag_view}
 use Rattle.der_octets.specs.LengthSteps as lengths
 use Rattle.der_octets.specs.declared.tag_step.Identifier as ids
@@ -11,12 +13,14 @@ use Rattle.der_model.specs.DerMessage.{DerMessage}
 use Rattle.der_codec.specs.Levels.{IsLevel, inwards, first_of, rest_of}
 use Rattle.der_codec.specs.Components.{IsFound}
 use Rattle.der_codec.specs.Decoding.{Reads, HasRead, IsBelow, end_of_first, level_at, HasIdentifier}
-use Rattle.der_codec.specs.inner.Entering.{Awaits, Enters}
+use Rattle.der_codec.specs.Judging.{HoldsContents}
+use Rattle.der_codec.specs.inner.Entering.{Awaits, Enters, Passes}
 use Rattle.der_codec.specs.declared.components.Found.TheVariants as found
 use Rattle.der_codec.specs.declared.decoder.Decoder.{Decoder}
 use Rattle.der_codec.specs.declared.decoder.Due.TheVariants as due
 use Rattle.der_codec.specs.declared.level.Spot.{Spot}
 use Rattle.der_codec.specs.declared.level.Level.{Level}
+use Rattle.der_codec.proofs.ContentsSteps.{contents_clean, none_kept}
 use Rattle.der_codec.proofs.StepTies.{reads_as, begin_read, open_primitive, open_constructed, short_has}
 
 -- a length octet below 128 opens the value whose length is due
@@ -48,3 +52,49 @@ usual_read m old new level bytes o n number id spot step r first has low h none 
 -- of a length no octet has come
 pub none_taken : (step : LengthStep) × lengths.HasTaken step []
 none_taken = (record { count = 0; come = 0; value = 0 }, refl)
+
+-- ---- a leaf behind its header
+
+pub leaf_read : (m : DerMessage ℕ) (old new : Decoder) (level : Level) (bytes contents : List ℕ) (o n number : ℕ) (id : ids.Identifier) (spot : Spot) (step : LengthStep) (r : HasRead m old bytes) → Some level ≡ first_of (inwards old.levels.items) → HasIdentifier old.due r.rest o id
+    → IsBelow old.place (end_of_first (inwards old.levels.items))
+    → ((l : states.Level ℕ) → IsLevel m.forms level l → IsFound m.forms (found.Begins number spot) (level_answer m l id.constructed (tag_view id))) → lengths.HasTaken step [] → n < 128
+    → id.constructed ≡ false → length contents ≡ n → Passes m old new level number spot contents → HasRead m new (bytes ++ o ∷ n ∷ contents)
+leaf_read m old new level bytes contents o n number id spot step r first has low h none short primitive size p =
+    let at = old.place + 2 in
+    let xs = inwards new.levels.items in
+    let mid : Decoder = record new { place = at; start = at; due = due.Contents spot n } in
+    let around = p.around ∷ rest_of (inwards old.levels.items) in
+    let fits = p.fits in
+    let awaits : Awaits mid id.constructed spot at n around = subst (λ z. Awaits mid z spot at n around) (sym primitive) (p.levels_are, refl) in
+    let entered : Enters old mid level number id.constructed spot n = record {
+      around = p.around;
+      is_advanced = p.is_advanced;
+      fits = omega (arith, fits, size);
+      place_is = refl;
+      start_is = refl;
+      awaits = awaits;
+    } in
+    let octets = bytes ++ o ∷ n ∷ [] in
+    let begun : Reads m xs (due.Contents spot n) at at octets = usual_read m old mid level bytes o n number id spot step r first has low h none short entered in
+    let empty = none_kept m xs (due.Contents spot n) at at octets begun refl in
+    let held : HoldsContents m spot (drop at octets ++ contents) = subst (λ z. HoldsContents m spot (z ++ contents)) (sym empty) p.holds in
+    let clean = contents_clean m xs spot n p.fresh at at octets contents begun size held p.none_taken in
+    subst (HasRead m new) (append_assoc bytes (o ∷ n ∷ []) contents)
+    (reads_as m xs xs new.due (due.Tag p.fresh) new.start (at + n) new.place (at + n) (octets ++ contents) refl p.due_is (p.start_is ∙ ap (λ z. at + z) size) (p.place_is ∙ ap (λ z. at + z) size) clean)
+
+-- ---- as the functions answer
+
+pub some_when : {A : Type 0} (o : Option A) (P Q : A → Type 0) → IfSome o P → ((x : A) → P x → Q x) → IfSome o Q
+some_when None P Q p f = p
+some_when (Some x) P Q p f = f x p
+
+pub entered_read : (m : DerMessage ℕ) (new : Decoder) (bytes behind : List ℕ) (o n : ℕ) (X : Type 0) (result : Option ℕ) → IfSome result (λ k. k ≡ 0) → IfSome result (λ k. X) → (X → HasRead m new (bytes ++ o ∷ n ∷ []))
+    → IfSome result (λ k. HasRead m new (bytes ++ o ∷ n ∷ take k behind))
+entered_read m new bytes behind o n X None none x f = none
+entered_read m new bytes behind o n X (Some k) none x f = subst (λ z. HasRead m new (bytes ++ o ∷ n ∷ take z behind)) (sym none) (f x)
+
+pub passed_read : (m : DerMessage ℕ) (old new : Decoder) (level : Level) (spot : Spot) (bytes behind : List ℕ) (o n number : ℕ) (result : Option ℕ) → IfSome result (λ k. k ≡ n) → IfSome result (λ k. k ≤ length behind)
+    → IfSome result (λ k. Passes m old new level number spot (take k behind)) → ((contents : List ℕ) → length contents ≡ n → Passes m old new level number spot contents → HasRead m new (bytes ++ o ∷ n ∷ contents))
+    → IfSome result (λ k. HasRead m new (bytes ++ o ∷ n ∷ take k behind))
+passed_read m old new level spot bytes behind o n number None same within p f = same
+passed_read m old new level spot bytes behind o n number (Some k) same within p f = f (take k behind) (length-take-le k behind within ∙ same) p

@@ -1,10 +1,10 @@
 // A checker of the DER of instances that takes their bytes in pieces.
-ghost use Rattle.std.specs.Prelude.{◌≡◌, ◌<◌, ◌+◌, ◌≤◌, ◌^◌, ◌++◌, ℕ, List, [], IfOk, IfErr, Some, None, Err, length, take, true, false};
+ghost use Rattle.std.specs.Prelude.{◌≡◌, ◌<◌, ◌+◌, ◌≤◌, ◌^◌, ◌++◌, ℕ, List, [], IfOk, IfErr, IfSome, IfNone, Some, None, Err, length, take};
 ghost use Rattle.message_model.specs.Tables.{Tables, types_of};
 ghost use Rattle.der_model.specs.DerMessage.{der_message};
 ghost use Rattle.der_codec.specs.Checked.{CheckTypes};
 ghost use Rattle.der_codec.specs.ReadInstances.{IsRead};
-ghost use Rattle.der_codec.specs.Decoding.{HasRead, IsStopped, IsSettled, BeginsContents, IsHeaderDue, end_of_levels};
+ghost use Rattle.der_codec.specs.Decoding.{HasRead, IsStopped, IsSettled, IsFresh, BeginsContents, IsHeaderDue, end_of_levels};
 ghost use Rattle.der_codec.specs.KeptPieces.{KeepsShown, AreNone};
 ghost use Rattle.der_codec.specs.Limits.{open_limit, leaf_come, token_come};
 ghost use Rattle.facets.specs.LeafChecks.{IsHeldWithin};
@@ -215,8 +215,8 @@ impl DerChecker {
         }
     }
 
-    /// Takes a header of two octets at once, where one of the usual form stands here, or else its first byte; with it the
-    /// contents where all of them stand in the piece, and ends the values that end behind them.
+    /// Takes a component of the usual form as a whole, where one stands here, or else the first byte of a header; and ends
+    /// the values that end behind it.
     #[inline(always)]
     fn take_header(&mut self, model: &Model, piece: &[u8]) -> Result<usize, Stop>
         requires some { 0 < length piece.now }
@@ -228,45 +228,45 @@ impl DerChecker {
         ensures front { TakesFront model.now self.old self.new piece.now result }
         ensures some { IfOk result (λ n. 0 < n) }
     {
-        let taken = self.take_two(model, piece);
-        if !taken {
-            return self.take_first(model, piece);
-        }
-        let (_front, left) = piece.split_at(2);
-        match self.settle(model, left) {
-            Ok(more) => Ok(2 + more),
-            Err(stop) => Err(stop),
+        match self.take_usual(model, piece) {
+            None => self.take_first(model, piece),
+            Some(count) => match self.end_here(model) {
+                Ok(()) => Ok(2 + count),
+                Err(stop) => Err(stop),
+            },
         }
     }
 
-    /// Takes the first two octets, where they are a header of the usual form, nothing is refused and no pieces are kept.
-    /// It answers whether it has; where it has not, nothing is changed.
+    /// Takes the header of a component, where it is of the usual form, with it the contents of a leaf, nothing is refused
+    /// and no pieces are kept. It answers how many octets it takes behind the header; where it takes none, only checks are
+    /// changed.
     #[inline(always)]
-    fn take_two(&mut self, model: &Model, piece: &[u8]) -> bool
+    fn take_usual(&mut self, model: &Model, piece: &[u8]) -> Option<usize>
         requires room { fed self.old + length piece.now ≤ 2 ^ 40 }
         requires due { IsHeaderDue self.old.decoder.due }
+        requires checks { CheckTypes (types_of model.now) self.old.checks }
         requires given { (bytes : List ℕ) × HasFed self.old model.now bytes }
-        ensures unchanged { result ≡ false → self.new ≡ self.old }
-        ensures checks { self.new.checks ≡ self.old.checks }
+        ensures checks { CheckTypes (types_of model.now) self.new.checks }
+        ensures unchanged { IfNone result (self.new.decoder ≡ self.old.decoder) }
         ensures kept { self.new.kept ≡ self.old.kept }
+        ensures pieces { self.new.pieces ≡ self.old.pieces }
         ensures sound { self.new.failed ≡ self.old.failed }
-        ensures none { result ≡ true → self.new.pieces ≡ None }
-        ensures two { result ≡ true → 2 ≤ length piece.now }
-        ensures ok { (bytes : List ℕ) → HasRead (der_message model.now) self.old.decoder bytes → result ≡ true → HasRead (der_message model.now) self.new.decoder (bytes ++ take 2 piece.now) }
-        ensures place { result ≡ true → fed self.new ≡ fed self.old + 2 }
-        ensures low { result ≡ true → IsSettled self.new.decoder.due self.new.decoder.place (end_of_levels self.new.decoder.levels.items) }
-        ensures begun { result ≡ true → BeginsContents self.new.decoder.due self.new.decoder.start self.new.decoder.place }
+        ensures none { IfSome result (λ _. self.new.pieces ≡ None) }
+        ensures within { IfSome result (λ n. 2 + n ≤ length piece.now) }
+        ensures ok { (bytes : List ℕ) → HasRead (der_message model.now) self.old.decoder bytes → IfSome result (λ n. HasRead (der_message model.now) self.new.decoder (bytes ++ take (2 + n) piece.now)) }
+        ensures fresh { IfSome result (λ _. IsFresh self.new.decoder.due) }
     {
         if self.pieces.is_some() {
-            return false;
+            return None;
         }
         let Some((first, behind)) = piece.split_first() else {
-            return false;
+            return None;
         };
-        let Some((second, _behind)) = behind.split_first() else {
-            return false;
+        let Some((second, contents)) = behind.split_first() else {
+            return None;
         };
-        self.decoder.take_usual(model, *first, *second)
+        self.decoder
+            .take_usual(&mut self.checks, model, *first, *second, contents)
     }
 
     /// Takes the first byte of the piece, which is one of a header, with it a length of one byte and the contents where

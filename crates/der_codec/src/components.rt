@@ -198,6 +198,7 @@ fn first_due(model: &Model, number: u32, from: u32, to: u32) -> Option<u32>
 }
 
 /// Any alternative.
+#[inline(always)]
 fn alternative(model: &Model, number: u32, id: Identifier) -> Found
     ensures { IsFound (types_of model.now) result (any_answer 0 (components (types_of model.now) number 0 (form_slots (types_of model.now number))) id.constructed (tag_view id)) }
 {
@@ -211,6 +212,7 @@ fn alternative(model: &Model, number: u32, id: Identifier) -> Found
 }
 
 /// In a list, where so many items have come.
+#[inline(always)]
 fn in_list(model: &Model, parent: u32, slot: u32, count: u64, id: Identifier) -> Found
     ensures { (s : graph.Slot ℕ) → slice_get (form_slots (types_of model.now parent)) slot ≡ Some s
         → IsFound (types_of model.now) result (item_answer (has_room count s.max) (any_answer 0 (item_components (types_of model.now) s.target (types_of model.now s.target)) id.constructed (tag_view id))) }
@@ -232,6 +234,7 @@ fn is_open(count: u64, max: Option<u32>) -> bool
 }
 
 /// One item more, where there may be one.
+#[inline(always)]
 fn limited(fits: bool, found: Found) -> Found
     ensures { (types : Graph ℕ SimpleType) (answer : states.Answer ℕ) → IsFound types found answer → IsFound types result (item_answer fits answer) }
 {
@@ -248,6 +251,7 @@ fn limited(fits: bool, found: Found) -> Found
 }
 
 /// An item of a list of the type: a value under its universal tag, or of a choice an alternative.
+#[inline(always)]
 fn item(model: &Model, number: u32, id: Identifier) -> Found
     ensures { IsFound (types_of model.now) result (any_answer 0 (item_components (types_of model.now) number (types_of model.now number)) id.constructed (tag_view id)) }
 {
@@ -304,6 +308,7 @@ fn simple_number(simple: &Simple) -> u16
 }
 
 /// In an amount of this code, whose next component has this number.
+#[inline(always)]
 fn in_amount(number: u32, code: u32, next: u32, id: Identifier) -> Found
     ensures { (types : Graph ℕ SimpleType) → IsFound types result (field_answer next (drop next (amount_components number code)) id.constructed (tag_view id)) }
 {
@@ -338,6 +343,7 @@ fn in_amount(number: u32, code: u32, next: u32, id: Identifier) -> Found
 }
 
 /// The end of a list, in which so many items have come.
+#[inline(always)]
 fn end_of_list(model: &Model, parent: u32, slot: u32, count: u64) -> Ended
     ensures { (s : graph.Slot ℕ) → slice_get (form_slots (types_of model.now parent)) slot ≡ Some s → IsEnded (types_of model.now) result (item_end (nat_lt count s.min)) }
 {
@@ -356,6 +362,7 @@ fn end_of_list(model: &Model, parent: u32, slot: u32, count: u64) -> Ended
 }
 
 /// The end of a sequence, whose next component would have this number.
+#[inline(always)]
 fn end_of_fields(model: &Model, number: u32, next: u32) -> Ended
     ensures { IsEnded (types_of model.now) result (field_end (drop next (components (types_of model.now) number 0 (form_slots (types_of model.now number))))) }
 {
@@ -373,6 +380,7 @@ fn end_of_fields(model: &Model, number: u32, next: u32) -> Ended
 
 /// The first slot from one on that has to come.
 #[tactic(auto, using(crate::proofs::ComponentsFound::due_within, crate::proofs::ComponentsFound::none_due_within))]
+#[inline(always)]
 fn first_due_from(model: &Model, number: u32, from: u32) -> Option<u32>
     ensures some { IfSome result (λ at. IsDue (form_slots (types_of model.now number)) from (length (form_slots (types_of model.now number))) at) }
     ensures none { IfNone result (NoneDue (form_slots (types_of model.now number)) from (length (form_slots (types_of model.now number)))) }
@@ -408,6 +416,7 @@ fn is_context(class: TagClass) -> bool
 }
 
 /// What the end is of an open value.
+#[inline(always)]
 pub fn end_of(model: &Model, level: &Level) -> Ended
     ensures { (fragment : Tree → List ℕ) (l : states.Level ℕ) → IsLevel (types_of model.now) level.now l
         → IsEnded (types_of model.now) result (end_answer (structure (in_der fragment (message_of model.now)) l.spot) l.came) }
@@ -421,6 +430,7 @@ pub fn end_of(model: &Model, level: &Level) -> Ended
 }
 
 /// The end of a value of a type, whose next component would have this number.
+#[inline(always)]
 fn end_of_type(model: &Model, number: u32, next: u32) -> Ended
     ensures { (fragment : Tree → List ℕ) (came : List ℕ) → next ≡ next_number came → IsEnded (types_of model.now) result (end_answer (structure (in_der fragment (message_of model.now)) (structures.Value number)) came) }
 {
@@ -474,6 +484,7 @@ fn in_type(model: &Model, number: u32, next: u32, id: Identifier) -> Found
 }
 
 /// In a choice, in which an alternative has come where the number is not 0.
+#[inline(always)]
 fn in_choice(model: &Model, number: u32, next: u32, id: Identifier) -> Found
     ensures { (came : List ℕ) → next ≡ next_number came
         → IsFound (types_of model.now) result (one_answer came (any_answer 0 (components (types_of model.now) number 0 (form_slots (types_of model.now number))) id.constructed (tag_view id))) }

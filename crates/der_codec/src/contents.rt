@@ -1,5 +1,5 @@
 // The contents of primitive values: X.690 §8.1.4.
-ghost use Rattle.std.specs.Prelude.{◌≡◌, ◌<◌, ◌^◌, ℕ, length, IfOk};
+ghost use Rattle.std.specs.Prelude.{◌≡◌, ◌<◌, ◌^◌, ℕ, length, true, IfOk};
 ghost use Rattle.fragments.specs.Fragment.{fragment};
 ghost use Rattle.message_model.specs.Tables.{types_of};
 ghost use Rattle.der_model.specs.DerMessage.{DerMessage, der_message};
@@ -7,7 +7,7 @@ ghost use Rattle.der_model.specs.Structures as structures;
 ghost use Rattle.der_model.specs.Structures.{structure, Holds, Fragment};
 ghost use Rattle.der_codec.specs.Checked.{CheckTypes};
 ghost use Rattle.der_codec.specs.KeptPieces.{GoesOnByLeaf};
-ghost use Rattle.der_codec.specs.Judging.{IsJudgedAt, IsJudgedFor, IsVerdictFor};
+ghost use Rattle.der_codec.specs.Judging.{HoldsContents, IsJudgedAt, IsJudgedFor, IsVerdictFor};
 
 use crate::checks::{Checks, Refusal};
 use crate::leaves::judge_simple;
@@ -61,6 +61,20 @@ pub(crate) fn tell(
             Err(_) => Err(Refusal::Memory),
         },
         Err(refusal) => Err(refusal),
+    }
+}
+
+/// Whether octets are contents of a primitive value, and so break no rule.
+#[inline(always)]
+pub(crate) fn are_contents(checks: &mut Checks, model: &Model, spot: Spot, octets: &[u8]) -> bool
+    requires short { length octets.now < 2 ^ 40 }
+    requires made { CheckTypes (types_of model.now) checks.old }
+    ensures made { CheckTypes (types_of model.now) checks.new }
+    ensures held { result ≡ true → HoldsContents (der_message model.now) spot octets.now }
+{
+    match judge(checks, model, spot, octets) {
+        Ok(_leaf) => true,
+        Err(_refusal) => false,
     }
 }
 

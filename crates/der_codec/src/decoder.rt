@@ -145,8 +145,25 @@ impl Decoder {
         }
     }
 
+    /// Whether the innermost value ends at this place.
+    #[inline(always)]
+    pub(crate) fn ends_here(&self) -> bool
+        ensures no { result ≡ false → (m : DerMessage ℕ) (bytes : List ℕ) → HasRead m self.now bytes → IsFresh self.now.due → IsBelow self.now.place (end_of_levels self.now.levels.items) }
+    {
+        match self.limit() {
+            None => false,
+            Some(end) => {
+                if end != self.place {
+                    return false;
+                }
+                true
+            }
+        }
+    }
+
     /// Ends the innermost value where it ends at this place, and no identifier octet has come. It answers
     /// whether it has.
+    #[inline(always)]
     pub fn end(&mut self, model: &Model) -> Result<bool, Stop>
         requires { IsFresh self.old.due }
         ensures ok { (fragment : Tree → List ℕ) (bytes : List ℕ) → HasRead (in_der fragment (message_of model.now)) self.old bytes → IfOk result (λ _. HasRead (in_der fragment (message_of model.now)) self.new bytes) }

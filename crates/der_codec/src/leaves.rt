@@ -102,6 +102,7 @@ fn flag_of(octets: &[u8]) -> Option<bool>
 }
 
 /// A text without codes: §8.23.
+#[inline(always)]
 fn judge_text<'a>(
     checks: &mut Checks,
     number: u32,
@@ -126,6 +127,7 @@ fn judge_text<'a>(
 
 /// What a run of so many characters is under the simple type without codes, which is that of this number. Where there is
 /// no pattern only how many characters they are counts, and there is no check to be kept.
+#[inline(always)]
 fn tell_text(
     checks: &mut Checks,
     number: u32,
@@ -183,6 +185,7 @@ fn no_date(octets: &[u8]) -> Rule
 }
 
 /// How many characters of XML the octets are in UTF-8; `None` where they are something else.
+#[inline(always)]
 fn characters(octets: &[u8]) -> Option<usize>
     ensures some { IfSome result (λ count. IsXmlRun octets.now count) }
     ensures none { IfNone result (IsXmlText octets.now → ⊥) }
@@ -206,6 +209,7 @@ fn is_text(octets: &[u8]) -> bool
 }
 
 /// A code by its number: §8.3, §8.4.
+#[inline(always)]
 fn judge_code<'a>(simple: &Simple, codes: &Codes, octets: &'a [u8]) -> Result<LeafRef<'a>, Refusal>
     requires kind { simple.now.kind ≡ kind.Text }
     requires codes { simple.now.codes ≡ Some codes.now }

@@ -1,7 +1,7 @@
 //! A checker of the DER of a message's instances (X.690 §8), which takes it in pieces.
 //!
 //! `DerChecker` tells the first fault of the bytes at the byte that shows it, whatever the pieces. Beneath it
-//! `Decoder` takes the octets of headers (two at once where they have the usual form, `usual`) and the ends of values,
+//! `Decoder` takes the octets of headers (components of the usual form as a whole, `usual`) and the ends of values,
 //! and `contents` judges the contents octets of leaves; of those that come in pieces `limits` keeps no more than tell
 //! what they are, so that no length which is declared decides how much is held (`scratch`, `token`). A fault's path is
 //! made of what is open (`paths`). `Checking` of `specs/` says what a checker was given and what it answers, `Decoding`

@@ -18,7 +18,7 @@ use message_model::Model;
 use std::alloc::AllocError;
 
 /// The elements begin that begin with the last component of the innermost value.
-#[inline]
+#[inline(always)]
 pub(crate) fn begin(
     pieces: &mut Option<Builder>,
     model: &Model,
@@ -34,7 +34,7 @@ pub(crate) fn begin(
 }
 
 /// The elements end that end with the last component of the innermost value.
-#[inline]
+#[inline(always)]
 pub(crate) fn end(
     pieces: &mut Option<Builder>,
     model: &Model,

@@ -1,15 +1,18 @@
-// Headers of the usual form, of one identifier octet and one length octet, taken at once.
-ghost use Rattle.std.specs.Prelude.{◌≡◌, ◌+◌, ◌<◌, ◌^◌, ◌++◌, ◌∷◌, [], ℕ, List, true, false, length, vec_capacity};
+// Components of the usual form, taken at once: a header of one identifier octet and one length octet, and with it a leaf.
+ghost use Rattle.std.specs.Prelude.{◌≡◌, ◌+◌, ◌<◌, ◌≤◌, ◌^◌, ◌++◌, ◌∷◌, [], ℕ, List, IfSome, IfNone, true, false, length, take, vec_capacity};
 ghost use Rattle.der_octets.specs.TagSteps as tags;
-ghost use Rattle.lexical_core.specs.Tree.{Tree};
-ghost use Rattle.message_model.specs.Tables.{message_of};
-ghost use Rattle.der_model.specs.DerMessage.{in_der};
+ghost use Rattle.message_model.specs.Tables.{types_of};
+ghost use Rattle.der_model.specs.DerMessage.{der_message};
+ghost use Rattle.der_codec.specs.Checked.{CheckTypes};
+ghost use Rattle.der_codec.specs.Judging.{HoldsContents};
 ghost use Rattle.der_codec.specs.Levels.{inwards, rest_of};
-ghost use Rattle.der_codec.specs.Decoding.{HasRead, IsBelow, IsFresh, end_of_levels, IsSettled, HasIdentifier, level_at, BeginsContents};
-ghost use Rattle.der_codec.specs.inner.Entering.{Enters};
+ghost use Rattle.der_codec.specs.Decoding.{HasRead, IsBelow, IsFresh, end_of_levels, HasIdentifier, level_at};
+ghost use Rattle.der_codec.specs.inner.Entering.{Enters, Passes};
 ghost use Rattle.der_octets.specs.declared.tag_step.TagStep.{TagStep as Steps};
 
+use crate::checks::Checks;
 use crate::components::{Found, identify};
+use crate::contents::are_contents;
 use crate::decoder::{Decoder, Due};
 use crate::headers::advanced;
 use crate::level::{Level, Spot};
@@ -18,67 +21,97 @@ use message_model::Model;
 
 impl Decoder {
     /// Takes two octets, an identifier octet and a length octet of a component, where they are the last of their parts
-    /// and nothing is refused. It answers whether it has; where it has not, nothing is changed.
+    /// and nothing is refused; with them the contents of a leaf, where all of them stand behind. It answers how many
+    /// octets it takes of those behind. Where it takes none, nothing of the decoder is changed.
     #[inline(always)]
-    pub(crate) fn take_usual(&mut self, model: &Model, first: u8, second: u8) -> bool
-        requires room { self.old.place + 2 < 2 ^ 62 }
+    pub(crate) fn take_usual(
+        &mut self,
+        checks: &mut Checks,
+        model: &Model,
+        first: u8,
+        second: u8,
+        behind: &[u8],
+    ) -> Option<usize>
+        requires room { self.old.place + 2 + length behind.now ≤ 2 ^ 40 }
         requires low { IsBelow self.old.place (end_of_levels self.old.levels.items) }
-        requires read { (fragment : Tree → List ℕ) × (bytes : List ℕ) × HasRead (in_der fragment (message_of model.now)) self.old bytes }
-        ensures ok { (fragment : Tree → List ℕ) (bytes : List ℕ) → HasRead (in_der fragment (message_of model.now)) self.old bytes → result ≡ true → HasRead (in_der fragment (message_of model.now)) self.new (bytes ++ first ∷ second ∷ []) }
-        ensures kept { result ≡ false → self.new ≡ self.old }
-        ensures place { result ≡ true → self.new.place ≡ self.old.place + 2 }
-        ensures low { result ≡ true → IsSettled self.new.due self.new.place (end_of_levels self.new.levels.items) }
-        ensures begun { result ≡ true → BeginsContents self.new.due self.new.start self.new.place }
+        requires checks { CheckTypes (types_of model.now) checks.old }
+        requires read { (bytes : List ℕ) × HasRead (der_message model.now) self.old bytes }
+        ensures checks { CheckTypes (types_of model.now) checks.new }
+        ensures ok { (bytes : List ℕ) → HasRead (der_message model.now) self.old bytes → IfSome result (λ n. HasRead (der_message model.now) self.new (bytes ++ first ∷ second ∷ take n behind.now)) }
+        ensures kept { IfNone result (self.new ≡ self.old) }
+        ensures within { IfSome result (λ n. n ≤ length behind.now) }
+        ensures fresh { IfSome result (λ _. IsFresh self.new.due) }
     {
         match self.due {
-            Due::Tag(step) => self.take_pair(model, step, first, second),
-            _ => false,
+            Due::Tag(step) => self.take_pair(checks, model, step, first, second, behind),
+            _ => None,
         }
     }
 
     /// The same, where identifier octets are due.
     #[inline(always)]
-    fn take_pair(&mut self, model: &Model, step: TagStep, first: u8, second: u8) -> bool
-        requires room { self.old.place + 2 < 2 ^ 62 }
+    fn take_pair(
+        &mut self,
+        checks: &mut Checks,
+        model: &Model,
+        step: TagStep,
+        first: u8,
+        second: u8,
+        behind: &[u8],
+    ) -> Option<usize>
+        requires room { self.old.place + 2 + length behind.now ≤ 2 ^ 40 }
         requires due { self.old.due ≡ Due.Tag step }
         requires low { IsBelow self.old.place (end_of_levels self.old.levels.items) }
-        requires read { (fragment : Tree → List ℕ) × (bytes : List ℕ) × HasRead (in_der fragment (message_of model.now)) self.old bytes }
-        ensures ok { (fragment : Tree → List ℕ) (bytes : List ℕ) → HasRead (in_der fragment (message_of model.now)) self.old bytes → result ≡ true → HasRead (in_der fragment (message_of model.now)) self.new (bytes ++ first ∷ second ∷ []) }
-        ensures kept { result ≡ false → self.new ≡ self.old }
-        ensures place { result ≡ true → self.new.place ≡ self.old.place + 2 }
-        ensures low { result ≡ true → IsSettled self.new.due self.new.place (end_of_levels self.new.levels.items) }
-        ensures begun { result ≡ true → BeginsContents self.new.due self.new.start self.new.place }
+        requires checks { CheckTypes (types_of model.now) checks.old }
+        requires read { (bytes : List ℕ) × HasRead (der_message model.now) self.old bytes }
+        ensures checks { CheckTypes (types_of model.now) checks.new }
+        ensures ok { (bytes : List ℕ) → HasRead (der_message model.now) self.old bytes → IfSome result (λ n. HasRead (der_message model.now) self.new (bytes ++ first ∷ second ∷ take n behind.now)) }
+        ensures kept { IfNone result (self.new ≡ self.old) }
+        ensures within { IfSome result (λ n. n ≤ length behind.now) }
+        ensures fresh { IfSome result (λ _. IsFresh self.new.due) }
     {
         if second >= 128 {
-            return false;
+            return None;
         }
         let mut step = step;
         match step.take(first) {
-            TagRead::Done(id) => self.begin_usual(model, id, first, second),
-            _ => false,
+            TagRead::Done(id) => self.begin_usual(checks, model, id, first, second, behind),
+            _ => None,
         }
     }
 
     /// Begins the component of whole identifier octets, of which the first octet is the last, whose length is the second.
     #[inline(always)]
-    fn begin_usual(&mut self, model: &Model, id: Identifier, first: u8, second: u8) -> bool
-        requires room { self.old.place + 2 < 2 ^ 62 }
+    fn begin_usual(
+        &mut self,
+        checks: &mut Checks,
+        model: &Model,
+        id: Identifier,
+        first: u8,
+        second: u8,
+        behind: &[u8],
+    ) -> Option<usize>
+        requires room { self.old.place + 2 + length behind.now ≤ 2 ^ 40 }
         requires short { second < 128 }
         requires low { IsBelow self.old.place (end_of_levels self.old.levels.items) }
-        requires read { (fragment : Tree → List ℕ) × (bytes : List ℕ) × HasRead (in_der fragment (message_of model.now)) self.old bytes }
-        ensures ok { (fragment : Tree → List ℕ) (bytes : List ℕ) (r : HasRead (in_der fragment (message_of model.now)) self.old bytes) → HasIdentifier self.old.due r.rest first id → result ≡ true → HasRead (in_der fragment (message_of model.now)) self.new (bytes ++ first ∷ second ∷ []) }
-        ensures kept { result ≡ false → self.new ≡ self.old }
-        ensures place { result ≡ true → self.new.place ≡ self.old.place + 2 }
-        ensures low { result ≡ true → IsSettled self.new.due self.new.place (end_of_levels self.new.levels.items) }
-        ensures begun { result ≡ true → BeginsContents self.new.due self.new.start self.new.place }
+        requires checks { CheckTypes (types_of model.now) checks.old }
+        requires read { (bytes : List ℕ) × HasRead (der_message model.now) self.old bytes }
+        ensures checks { CheckTypes (types_of model.now) checks.new }
+        ensures ok { (bytes : List ℕ) (r : HasRead (der_message model.now) self.old bytes) → HasIdentifier self.old.due r.rest first id → IfSome result (λ n. HasRead (der_message model.now) self.new (bytes ++ first ∷ second ∷ take n behind.now)) }
+        ensures kept { IfNone result (self.new ≡ self.old) }
+        ensures within { IfSome result (λ n. n ≤ length behind.now) }
+        ensures fresh { IfSome result (λ _. IsFresh self.new.due) }
     {
         let _ = first;
         match self.innermost() {
-            None => false,
+            None => None,
             Some(level) => match identify(model, &level, id) {
-                Found::Breaks { rule: _, added: _ } => false,
+                Found::Breaks { rule: _, added: _ } => None,
                 Found::Begins { number, spot } => {
-                    self.enter(level, number, id.constructed, spot, second)
+                    if id.constructed {
+                        return self.enter(level, number, spot, second);
+                    }
+                    self.pass_leaf(checks, model, level, number, spot, second, behind)
                 }
             },
         }
@@ -87,25 +120,24 @@ impl Decoder {
     /// Goes into the component of this number of the innermost value, where so many contents octets fit into that, and
     /// no memory is wanted.
     #[inline(always)]
-    fn enter(&mut self, level: Level, number: u16, constructed: bool, spot: Spot, count: u8) -> bool
-        requires room { self.old.place + 2 < 2 ^ 62 }
+    fn enter(&mut self, level: Level, number: u16, spot: Spot, count: u8) -> Option<usize>
+        requires room { self.old.place + 2 ≤ 2 ^ 40 }
         requires some { 0 < length self.old.levels.items }
         requires few { level.count < 2 ^ 63 }
-        ensures kept { result ≡ false → self.new ≡ self.old }
-        ensures entered { result ≡ true → Enters self.old self.new level number constructed spot count }
-        ensures low { result ≡ true → IsSettled self.new.due self.new.place (end_of_levels self.new.levels.items) }
-        ensures begun { result ≡ true → BeginsContents self.new.due self.new.start self.new.place }
+        ensures kept { IfNone result (self.new ≡ self.old) }
+        ensures none { IfSome result (λ n. n ≡ 0) }
+        ensures entered { IfSome result (λ _. Enters self.old self.new level number true spot count) }
+        ensures fresh { IfSome result (λ _. IsFresh self.new.due) }
     {
         let place = self.place + 2;
         let end = place + count as u64;
         if level.end < end {
-            return false;
+            return None;
         }
-        if constructed {
-            return self.nest(advanced(level, number), spot, place, end);
+        if !self.nest(advanced(level, number), spot, place, end) {
+            return None;
         }
-        self.await_contents(advanced(level, number), spot, place, count as u64);
-        true
+        Some(0)
     }
 
     /// Opens a constructed value whose contents begin at the place, and end there, and puts a level in the place of the
@@ -146,18 +178,59 @@ impl Decoder {
         self.levels.push_reserved(level);
     }
 
-    /// Awaits so many contents octets from the place on, and puts a level in the place of the one round them.
+    /// Passes the leaf of this number of the innermost value, of so many contents octets, where they fit into that,
+    /// stand here as a whole, and break no rule. It answers how many they are.
     #[inline(always)]
-    fn await_contents(&mut self, around: Level, spot: Spot, place: u64, left: u64)
+    fn pass_leaf(
+        &mut self,
+        checks: &mut Checks,
+        model: &Model,
+        level: Level,
+        number: u16,
+        spot: Spot,
+        count: u8,
+        behind: &[u8],
+    ) -> Option<usize>
+        requires room { self.old.place + 2 + length behind.now ≤ 2 ^ 40 }
+        requires some { 0 < length self.old.levels.items }
+        requires few { level.count < 2 ^ 63 }
+        requires checks { CheckTypes (types_of model.now) checks.old }
+        ensures checks { CheckTypes (types_of model.now) checks.new }
+        ensures kept { IfNone result (self.new ≡ self.old) }
+        ensures within { IfSome result (λ n. n ≤ length behind.now) }
+        ensures count { IfSome result (λ n. n ≡ count) }
+        ensures passed { IfSome result (λ n. Passes (der_message model.now) self.old self.new level number spot (take n behind.now)) }
+        ensures fresh { IfSome result (λ _. IsFresh self.new.due) }
+    {
+        let end = self.place + 2 + count as u64;
+        if level.end < end {
+            return None;
+        }
+        let count = count as usize;
+        if behind.len() < count {
+            return None;
+        }
+        let (contents, _others) = behind.split_at(count);
+        if !are_contents(checks, model, spot, contents) {
+            return None;
+        }
+        self.go_behind(advanced(level, number), end);
+        Some(count)
+    }
+
+    /// Goes on behind a leaf that ends at the place, and puts a level in the place of the one round it.
+    #[inline(always)]
+    fn go_behind(&mut self, around: Level, place: u64)
         requires some { 0 < length self.old.levels.items }
         ensures levels { inwards self.new.levels.items ≡ around ∷ rest_of (inwards self.old.levels.items) }
         ensures place { self.new.place ≡ place }
         ensures start { self.new.start ≡ place }
-        ensures due { self.new.due ≡ Due.Contents spot left }
+        ensures due { (step : Steps) × (self.new.due ≡ Due.Tag step) × tags.HasTaken step [] }
+        ensures fresh { IsFresh self.new.due }
     {
         self.set_innermost(around);
         self.place = place;
         self.start = place;
-        self.due = Due::Contents { spot, left };
+        self.due = Due::Tag(TagStep::new());
     }
 }

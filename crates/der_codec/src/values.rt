@@ -94,13 +94,30 @@ impl DerChecker {
         ensures err { (bytes : List ℕ) → HasRead (der_message model.now) self.old.decoder bytes → IfErr result (λ stop. StopsWithin model.now self.new.decoder bytes stop) }
     {
         if self.decoder.is_fresh() {
-            return self.end_all(model);
+            return self.end_here(model);
         }
         Ok(())
     }
 
-    /// Ends all values that end at this place, where no identifier octet has come.
+    /// Ends all values that end at this place, where no identifier octet has come. Mostly none does.
     #[inline(always)]
+    pub(crate) fn end_here(&mut self, model: &Model) -> Result<(), Stop>
+        requires fresh { IsFresh self.old.decoder.due }
+        requires kept { self.old.kept.items ≡ [] }
+        requires given { (bytes : List ℕ) × HasRead (der_message model.now) self.old.decoder bytes × KeepsShown (der_message model.now) self.old.decoder self.old.pieces bytes }
+        ensures checks { self.new.checks ≡ self.old.checks }
+        ensures sound { self.new.failed ≡ self.old.failed }
+        ensures ok { (bytes : List ℕ) → HasRead (der_message model.now) self.old.decoder bytes → KeepsShown (der_message model.now) self.old.decoder self.old.pieces bytes → IfOk result (λ _. IsReading model.now self.new.decoder self.new.kept.items self.new.pieces bytes) }
+        ensures err { (bytes : List ℕ) → HasRead (der_message model.now) self.old.decoder bytes → IfErr result (λ stop. StopsWithin model.now self.new.decoder bytes stop) }
+    {
+        if !self.decoder.ends_here() {
+            return Ok(());
+        }
+        self.end_all(model)
+    }
+
+    /// Ends all values that end at this place, where no identifier octet has come.
+    #[inline(never)]
     fn end_all(&mut self, model: &Model) -> Result<(), Stop>
         requires fresh { IsFresh self.old.decoder.due }
         requires kept { self.old.kept.items ≡ [] }
@@ -164,7 +181,7 @@ impl DerChecker {
         ensures err { (bytes : List ℕ) → HasRead (der_message model.now) self.old.decoder bytes → IfErr result (λ stop. StopsWithin model.now self.new.decoder bytes stop) }
     {
         match self.end_component(model) {
-            Ok(()) => self.end_all(model),
+            Ok(()) => self.end_here(model),
             Err(stop) => Err(stop),
         }
     }

@@ -1,7 +1,9 @@
--- How a reader goes into a component of an open value.
-use Rattle.std.specs.Prelude.{◌≡◌, ℕ, ◌+◌, ◌≤◌, Bool, true, false, List, [], ◌∷◌}
+-- How a reader goes into a component of an open value, or passes a leaf.
+use Rattle.std.specs.Prelude.{◌≡◌, ℕ, ◌+◌, ◌≤◌, Bool, true, false, List, [], ◌∷◌, length}
 use Rattle.der_octets.specs.TagSteps as tags
 use Rattle.der_octets.specs.declared.tag_step.TagStep.{TagStep}
+use Rattle.der_model.specs.DerMessage.{DerMessage}
+use Rattle.der_codec.specs.Judging.{HoldsContents}
 use Rattle.der_codec.specs.Levels.{inwards, rest_of}
 use Rattle.der_codec.specs.Decoding.{IsAdvanced, level_at}
 use Rattle.der_codec.specs.declared.level.Spot.{Spot}
@@ -22,3 +24,16 @@ pub record Enters (old new : Decoder) (level : Level) (number : ℕ) (constructe
   pub place_is : new.place ≡ old.place + 2
   pub start_is : new.start ≡ old.place + 2
   pub awaits : Awaits new constructed spot (old.place + 2) count (around ∷ rest_of (inwards old.levels.items))
+
+-- The leaf of this number of the innermost level, which has these contents, fits into it behind two octets, and is passed.
+pub record Passes (m : DerMessage ℕ) (old new : Decoder) (level : Level) (number : ℕ) (spot : Spot) (contents : List ℕ) : Type 0 where
+  pub around : Level
+  pub is_advanced : IsAdvanced level number around
+  pub fits : old.place + 2 + length contents ≤ level.end
+  pub place_is : new.place ≡ old.place + 2 + length contents
+  pub start_is : new.start ≡ old.place + 2 + length contents
+  pub levels_are : inwards new.levels.items ≡ around ∷ rest_of (inwards old.levels.items)
+  pub fresh : TagStep
+  pub due_is : new.due ≡ due.Tag fresh
+  pub none_taken : tags.HasTaken fresh []
+  pub holds : HoldsContents m spot contents

@@ -9,14 +9,14 @@ use Rattle.der_codec.proofs.checker.DerChecker.end_leaf.Goals as goal
 pub end_component-requires : goal.end_component-requires
 end_component-requires c = (let g = c.requires.given in (g.0, g.1.read, g.1.around g.1.read))
 
-pub end_all-requires-clause-fresh : goal.end_all-requires-clause-fresh
-end_all-requires-clause-fresh c = subst (λ (z : Decoder). IsFresh z.due) (sym c.in-Ok.ensures.decoder) c.requires.fresh
+pub end_here-requires-clause-fresh : goal.end_here-requires-clause-fresh
+end_here-requires-clause-fresh c = subst (λ (z : Decoder). IsFresh z.due) (sym c.in-Ok.ensures.decoder) c.requires.fresh
 
-pub end_all-requires-clause-kept : goal.end_all-requires-clause-kept
-end_all-requires-clause-kept c = ap (λ v. v.items) c.in-Ok.ensures.kept ∙ c.requires.kept
+pub end_here-requires-clause-kept : goal.end_here-requires-clause-kept
+end_here-requires-clause-kept c = ap (λ v. v.items) c.in-Ok.ensures.kept ∙ c.requires.kept
 
-pub end_all-requires-clause-given : goal.end_all-requires-clause-given
-end_all-requires-clause-given c =
+pub end_here-requires-clause-given : goal.end_here-requires-clause-given
+end_here-requires-clause-given c =
     let m = der_message c.args.model.now in
     let g = c.requires.given in
     let h = c.in-Ok.ensures in
@@ -31,10 +31,10 @@ returns-in-Ok-clause-ok c = λ bytes g.
     let m = der_message c.args.model.now in
     let h = c.in-Ok.ensures in
     let new = c.end_component.new.self in
-    c.end_all.ensures.ok bytes (subst (λ (z : Decoder). HasRead m z bytes) (sym h.decoder) g.read) (subst (λ (z : Decoder). KeepsShown m z new.pieces bytes) (sym h.decoder) (g.closes new.pieces (λ t. h.shown bytes t (g.around t))))
+    c.end_here.ensures.ok bytes (subst (λ (z : Decoder). HasRead m z bytes) (sym h.decoder) g.read) (subst (λ (z : Decoder). KeepsShown m z new.pieces bytes) (sym h.decoder) (g.closes new.pieces (λ t. h.shown bytes t (g.around t))))
 
 pub returns-in-Ok-clause-err : goal.returns-in-Ok-clause-err
-returns-in-Ok-clause-err c = λ bytes r. c.end_all.ensures.err bytes (subst (λ (z : Decoder). HasRead (der_message c.args.model.now) z bytes) (sym c.in-Ok.ensures.decoder) r)
+returns-in-Ok-clause-err c = λ bytes r. c.end_here.ensures.err bytes (subst (λ (z : Decoder). HasRead (der_message c.args.model.now) z bytes) (sym c.in-Ok.ensures.decoder) r)
 
 pub returns-in-Err-clause-err : goal.returns-in-Err-clause-err
 returns-in-Err-clause-err c = λ bytes r. at_memory c.args.model.now c.end_component.new.self.decoder bytes c.in-Err.stop c.in-Err.ensures.err
