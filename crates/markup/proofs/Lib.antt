@@ -9,6 +9,7 @@ pub mod TokenLaw
 pub mod Runs
 pub mod ReferenceRuns
 pub mod WholeReferences
+mod NumberedReferences
 pub mod BracketRuns
 pub mod TagRuns
 pub mod DeclarationRuns

@@ -33,17 +33,17 @@ reference_run r [] = Some r
 reference_run r (c ∷ w) = onward (λ t. reference_run t w) (reference_step r c)
 
 -- a number so far is no more than the number
-grows : (radix n : ℕ) (ds : List ℕ) → 1 ≤ radix → n ≤ number radix n ds
+pub grows : (radix n : ℕ) (ds : List ℕ) → 1 ≤ radix → n ≤ number radix n ds
 grows radix n [] h = omega arith
 grows radix n (d ∷ ds) h = less n radix (digit_value d) (number radix (n * radix + digit_value d) ds) h (grows radix (n * radix + digit_value d) ds h) where
   less : (n r d m : ℕ) → 1 ≤ r → n * r + d ≤ m → n ≤ m
   less n r d m h k = grind arith
 
-xml_small : (c : ℕ) → is_xml_char c ≡ true → c ≤ 0x10_FFFF
+pub xml_small : (c : ℕ) → is_xml_char c ≡ true → c ≤ 0x10_FFFF
 unfolding is_xml_char
 xml_small c h = grind (arith, nat_tests)
 
-digit_small : (radix n d : ℕ) → is_digit d radix ≡ true → n * radix + digit_value d ≤ 0x10_FFFF → digit_step radix n d ≡ Some (n * radix + digit_value d)
+pub digit_small : (radix n d : ℕ) → is_digit d radix ≡ true → n * radix + digit_value d ≤ 0x10_FFFF → digit_step radix n d ≡ Some (n * radix + digit_value d)
 digit_small radix n d h k = rw (and_from (is_digit d radix) (nat_le (n * radix + digit_value d) 0x10_FFFF) h (le-leb _ _ k)) refl
 
 -- the digits of a number, by the scan of its radix

@@ -1,5 +1,5 @@
 -- A whole reference at the front of a piece, read a byte at a time, is the token of its place.
-use Rattle.std.proofs.Common.{◌≡◌, ℕ, suc, Bool, true, false, ◌==◌, ◌||◌, ◌&&◌, ◌+◌, ◌<◌, nat_le, List, [], ◌∷◌, ◌++◌, length, take, reverse, codes, None, Some, refl, sym, ◌∙◌, ap, subst, append_assoc, append-nil, length-append, arith}
+use Rattle.std.proofs.Common.{◌≡◌, ℕ, Bool, true, false, ◌==◌, ◌||◌, ◌&&◌, ◌+◌, ◌<◌, nat_le, List, [], ◌∷◌, ◌++◌, length, take, reverse, codes, None, Some, refl, sym, ◌∙◌, ap, subst, append-nil, length-append, arith}
 use Rattle.std.specs.Bool.{if◌then◌else◌}
 use Rattle.std.specs.Char.{is_digit}
 use Rattle.std.specs.List.{list_all}
@@ -12,36 +12,28 @@ use Rattle.std.proofs.Math.Seq.{take-append_seam}
 use Rattle.lexical_core.specs.Tree.{Char}
 use Rattle.lexical_core.specs.declared.rule.Rule.TheVariants.{TextOutside}
 use Rattle.markup.specs.Reference.{Ampersand, Less, Greater, Apostrophe, Quote, Reference, Named, Numbered, is_reference, referred, reference_text}
-use Rattle.markup.specs.ReferenceScans.{reference_step}
 use Rattle.markup.specs.References.{IsReferenceAt, MayReferUnder}
-use Rattle.markup.specs.Token.{Token, Mark, Refer, token_text, token_bytes}
-use Rattle.markup.specs.Marks.{in_cdata, is_first, stands}
+use Rattle.markup.specs.Token.{Token, Mark, Refer, token_bytes}
+use Rattle.markup.specs.Marks.{in_cdata, is_first}
 use Rattle.markup.specs.Events.{Placed, open_tags}
 use Rattle.markup.specs.Faults.{is_outside}
 use Rattle.markup.specs.Scopes.{placed_at}
-use Rattle.markup.specs.Scans.{referring}
-use Rattle.markup.specs.ScanRuns.{At, Over, Failed, run, turned, position, placed as placed_by, ended_of, ReadToken}
-use Rattle.markup.specs.Drafts.{no_draft, noted}
+use Rattle.markup.specs.ScanRuns.{run, position, placed as placed_by}
+use Rattle.markup.specs.Drafts.{no_draft}
 use Rattle.markup.specs.Contexts.{IsContext, HasOpen, unbracketed}
 use Rattle.markup.specs.TokenRules.{is_cdata}
 use Rattle.markup.specs.Tokenizers.{is_between, is_text, is_in_text}
 use Rattle.markup.specs.Reading.{HasTakenUnder, HasToldUnder}
 use Rattle.markup.specs.inner.ReaderSteps.{passed_over}
 use Rattle.markup.specs.declared.reader.Reader.{Reader}
-use Rattle.markup.specs.declared.reference.ReferenceScan.{ReferenceScan}
-use Rattle.markup.specs.declared.reference.ReferenceScan.TheVariants.{Begun}
-use Rattle.markup.specs.declared.reference.ReferenceTurn.TheVariants.{Continues, Gives, Breaks}
-use Rattle.markup.specs.declared.scan.Ended.TheVariants.{Refer as ReferEnded}
 use Rattle.markup.specs.declared.scan.Position.{Position}
 use Rattle.markup.specs.declared.scan.Position.TheVariants.{Start as AtStart, AfterMark, Text, Cdata}
 use Rattle.markup.specs.declared.scan.Scan.{Scan}
-use Rattle.markup.specs.declared.scan.Scan.TheVariants.{Begin, Reference as InReference}
-use Rattle.markup.proofs.Exact.{found}
-use Rattle.markup.proofs.Complete.{complete}
+use Rattle.markup.specs.declared.scan.Scan.TheVariants.{Begin}
 use Rattle.markup.proofs.PlainLemmas.{is_fresh, no_chars, at_same}
 use Rattle.markup.proofs.ReaderLemmas.{told_so_far, starts}
 use Rattle.markup.proofs.ReferenceLemmas.{body, reference_then, IsNumbered, numbered_facts}
-use Rattle.markup.proofs.Runs.{goes}
+use Rattle.markup.proofs.Spans.{heads, tails}
 use Rattle.markup.proofs.TokenRuleLemmas.{in_cdata-open}
 use Rattle.markup.proofs.WholeTokens.{IsNext, takes_next}
 
@@ -85,66 +77,26 @@ ends_ascii : (cs : List ℕ) → list_all is_ascii cs ≡ true → list_all is_a
 ends_ascii [] h = refl
 ends_ascii (c ∷ cs) h = let a = and_parts _ _ h in both _ _ a.0 (ends_ascii cs a.1)
 
-text_is : (r : Reference) → reference_text r ≡ 38 ∷ (body r ++ 59 ∷ [])
+pub text_is : (r : Reference) → reference_text r ≡ 38 ∷ (body r ++ 59 ∷ [])
 text_is r = sym (append-nil (reference_text r)) ∙ reference_then r []
 
 text_ascii : (r : Reference) → is_reference r ≡ true → encode_utf8_all (reference_text r) ≡ reference_text r
 text_ascii r h = ap encode_utf8_all (text_is r) ∙ (ascii_all (38 ∷ (body r ++ 59 ∷ [])) (ends_ascii (body r) (body_ascii r h)) ∙ sym (text_is r))
 
--- ---- a reference, a byte at a time
-
--- so many bytes of the piece have come, which are a reference so far
-pub record IsReferring (piece : List ℕ) (scan : ReferenceScan) (bytes : ℕ) (rest : List ℕ) : Type 0 where
-  pub seen : List ℕ
-  pub joined : piece ≡ 38 ∷ (seen ++ rest)
-  pub bytes_are : suc (length seen) ≡ bytes
-  pub goes_on : (w : List ℕ) → run (InReference Begun) no_draft (seen ++ w) ≡ run (InReference scan) no_draft w
-
-pub referring_none : (piece rest : List ℕ) → piece ≡ 38 ∷ rest → IsReferring piece Begun 1 rest
-referring_none piece rest e = record { seen = []; joined = e; bytes_are = refl; goes_on = λ w. refl }
-
-one_more : (n m : ℕ) (seen : List ℕ) (byte : ℕ) → suc (length seen) ≡ n → suc (length (seen ++ byte ∷ [])) ≡ n + 1
-one_more n m seen byte e = omega (arith, e, length-append seen (byte ∷ []))
-
-joined_more : (piece seen rest after : List ℕ) (byte : ℕ) → piece ≡ 38 ∷ (seen ++ rest) → rest ≡ byte ∷ after → piece ≡ 38 ∷ ((seen ++ byte ∷ []) ++ after)
-joined_more piece seen rest after byte j e = j ∙ (ap (λ v. 38 ∷ (seen ++ v)) e ∙ ap (λ v. 38 ∷ v) (sym (append_assoc seen (byte ∷ []) after)))
-
-pub referring_more : (piece : List ℕ) (scan next : ReferenceScan) (bytes byte : ℕ) (rest after : List ℕ) → IsReferring piece scan bytes rest → rest ≡ byte ∷ after → reference_step scan byte ≡ Continues next → IsReferring piece next (bytes + 1) after
-referring_more piece scan next bytes byte rest after i e s = record {
-  seen = i.seen ++ byte ∷ [];
-  joined = joined_more piece i.seen rest after byte i.joined e;
-  bytes_are = one_more bytes 0 i.seen byte i.bytes_are;
-  goes_on = λ w. ap (run (InReference Begun) no_draft) (append_assoc i.seen (byte ∷ []) w) ∙ (i.goes_on (byte ∷ w) ∙ goes (InReference scan) (InReference next) byte no_draft no_draft w (ap referring s) refl);
-}
-
--- the token whose characters these are
-module _ (piece seen after : List ℕ) (byte c bytes : ℕ) (joined : piece ≡ 38 ∷ ((seen ++ byte ∷ []) ++ after)) (long : suc (length (seen ++ byte ∷ [])) ≡ bytes) where
-  same_char : (a b : ℕ) → ReferEnded a ≡ ReferEnded b → b ≡ a
-  same_char a b e = cc
-
-  of_token : (t : Token) → ended_of t ≡ ReferEnded c → stands [] t [] ≡ true → token_text t ≡ 38 ∷ (seen ++ byte ∷ []) → IsReferenceAt piece c bytes
-  of_token (Refer r) e s x = record {
-    reference = r;
-    is = s;
-    char_is = same_char (referred r) c e;
-    spelled = ap (λ n. take n piece) (sym long) ∙ (ap (take (suc (length (seen ++ byte ∷ [])))) joined ∙ (take-append_seam (38 ∷ (seen ++ byte ∷ [])) after ∙ (sym x ∙ sym (text_ascii r s))));
-    within = omega (arith, long, ap length joined, length-append (seen ++ byte ∷ []) after);
-  }
-  of_token _ e s x = absurd (cc)
-
-pub referring_gives : (piece : List ℕ) (scan : ReferenceScan) (bytes byte c : ℕ) (rest after : List ℕ) → IsReferring piece scan bytes rest → rest ≡ byte ∷ after → reference_step scan byte ≡ Gives c → IsReferenceAt piece c (bytes + 1)
-referring_gives piece scan bytes byte c rest after i e s =
-    of_token piece i.seen after byte c (bytes + 1) (joined_more piece i.seen rest after byte i.joined e) (one_more bytes 0 i.seen byte i.bytes_are) k.token k.ended_is (k.is []) k.text where
-      over : run (InReference scan) no_draft (byte ∷ []) ≡ Over (ReferEnded c) no_draft []
-      over = ap (λ t. turned (λ u. run u (noted (InReference scan) u byte no_draft) []) no_draft [] (referring t)) s
-
-      k : ReadToken [] (38 ∷ (i.seen ++ byte ∷ [])) (ReferEnded c) no_draft
-      k = found [] (38 ∷ (i.seen ++ byte ∷ [])) (ReferEnded c) no_draft (i.goes_on (byte ∷ []) ∙ over)
-
 -- ---- a word at the front of a piece
 
 pub letter_more : (piece word left letters behind others : List ℕ) (byte letter : ℕ) → ((rest : List ℕ) → left ≡ letters ++ rest → piece ≡ word ++ rest) → letters ≡ letter ∷ others → left ≡ byte ∷ behind → byte ≡ letter → (rest : List ℕ) → behind ≡ others ++ rest → piece ≡ word ++ rest
 letter_more piece word left letters behind others byte letter h e f g rest k = h rest (f ∙ (ap (λ v. byte ∷ v) k ∙ (ap (λ v. v ∷ (others ++ rest)) g ∙ ap (λ v. v ++ rest) (sym e))))
+
+pub letter_back : (piece word left letters behind others : List ℕ) (byte letter : ℕ) → ((rest : List ℕ) → piece ≡ word ++ rest → left ≡ letters ++ rest) → letters ≡ letter ∷ others → left ≡ byte ∷ behind → (rest : List ℕ) → piece ≡ word ++ rest → (byte ≡ letter) × (behind ≡ others ++ rest)
+letter_back piece word left letters behind others byte letter h e f rest k =
+    let g : byte ∷ behind ≡ letter ∷ (others ++ rest) = sym f ∙ (h rest k ∙ ap (λ v. v ++ rest) e) in
+    (heads byte letter behind (others ++ rest) g, tails byte letter behind (others ++ rest) g)
+
+pub letter_gone : (piece word left letters others : List ℕ) (letter : ℕ) → ((rest : List ℕ) → piece ≡ word ++ rest → left ≡ letters ++ rest) → letters ≡ letter ∷ others → length left ≡ 0 → (rest : List ℕ) → piece ≡ word ++ rest → ⊥
+letter_gone piece word left letters others letter h e n rest k = gone left n (h rest k ∙ ap (λ v. v ++ rest) e) where
+  gone : (left : List ℕ) → length left ≡ 0 → left ≡ letter ∷ (others ++ rest) → ⊥
+  gone left n e = omega (arith, n, ap length e)
 
 pub letters_end : (piece word left letters : List ℕ) → ((rest : List ℕ) → left ≡ letters ++ rest → piece ≡ word ++ rest) → length letters ≡ 0 → (rest : List ℕ) × (piece ≡ word ++ rest)
 letters_end piece word left [] h e = (left, h left refl)
@@ -166,23 +118,8 @@ entity_here r piece (rest, e) h = record {
 abbrev pub Begins : List ℕ → Reference → List ℕ → Type 0
 Begins piece r more = piece ≡ encode_utf8_all (reference_text r) ++ more
 
-begins_so : (piece : List ℕ) (r : Reference) (more : List ℕ) → is_reference r ≡ true → Begins piece r more → piece ≡ reference_text r ++ more
+pub begins_so : (piece : List ℕ) (r : Reference) (more : List ℕ) → is_reference r ≡ true → Begins piece r more → piece ≡ reference_text r ++ more
 begins_so piece r more h e = e ∙ ap (λ v. v ++ more) (text_ascii r h)
-
-reads : (piece : List ℕ) (scan : ReferenceScan) (bytes : ℕ) (rest : List ℕ) → IsReferring piece scan bytes rest → (r : Reference) (more : List ℕ) → is_reference r ≡ true → Begins piece r more → run (InReference scan) no_draft rest ≡ Over (ReferEnded (referred r)) no_draft more
-reads piece scan bytes rest i r more h e = sym (i.goes_on rest) ∙ (ap (run (Begin AtStart) no_draft) (sym i.joined ∙ begins_so piece r more h e) ∙ complete [] (Refer r) [] more h refl)
-
-pub no_end : (piece : List ℕ) (scan : ReferenceScan) (bytes : ℕ) (rest : List ℕ) → IsReferring piece scan bytes rest → length rest ≡ 0 → (r : Reference) (more : List ℕ) → is_reference r ≡ true → Begins piece r more → ⊥
-no_end piece scan bytes [] i e r more h b = differ (reads piece scan bytes [] i r more h b) where
-  differ : At (InReference scan) no_draft ≡ Over (ReferEnded (referred r)) no_draft more → ⊥
-  differ k = cc
-no_end piece scan bytes (x ∷ rest) i e r more h b = absurd (omega arith)
-
-pub no_break : (piece : List ℕ) (scan : ReferenceScan) (bytes byte : ℕ) (rest after : List ℕ) → IsReferring piece scan bytes rest → rest ≡ byte ∷ after → reference_step scan byte ≡ Breaks → (r : Reference) (more : List ℕ) → is_reference r ≡ true → Begins piece r more → ⊥
-no_break piece scan bytes byte rest after i e s r more h b =
-    differ (ap (λ t. turned (λ u. run u (noted (InReference scan) u byte no_draft) after) no_draft after (referring t)) (sym s) ∙ (ap (run (InReference scan) no_draft) (sym e) ∙ reads piece scan bytes rest i r more h b)) where
-      differ : Failed ≡ Over (ReferEnded (referred r)) no_draft more → ⊥
-      differ k = cc
 
 -- ---- the token in its place
 

@@ -4,3 +4,4 @@ pub mod ReaderSteps
 pub mod Origins
 pub mod TagParts
 pub mod WholeStarts
+pub mod Numbers

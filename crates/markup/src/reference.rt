@@ -114,7 +114,7 @@ fn behind_digits(number: u32, c: char) -> ReferenceTurn
 }
 
 /// The XML character of this number.
-fn character(number: u32) -> Option<char>
+pub(crate) fn character(number: u32) -> Option<char>
     ensures { result ≡ numbered number }
 {
     match char::from_u32(number) {
@@ -124,7 +124,8 @@ fn character(number: u32) -> Option<char>
 }
 
 /// The number with one more digit, where it is no more than the last code point.
-fn with_digit(radix: u32, number: u32, c: char) -> Option<u32>
+#[inline]
+pub(crate) fn with_digit(radix: u32, number: u32, c: char) -> Option<u32>
     requires low { 2 ≤ radix }
     requires high { radix ≤ 36 }
     ensures { result ≡ digit_step radix number c }

@@ -1,9 +1,10 @@
 // Whole references at the front of a piece (XML 1.0 §4.1).
-ghost use Rattle.std.specs.Prelude.{◌≡◌, ◌++◌, ℕ, List, IfSome, IsSome, IsTrue, true, encode_utf8_all};
-ghost use Rattle.markup.specs.Reference.{Reference, is_reference, reference_text};
+ghost use Rattle.std.specs.Prelude.{◌≡◌, ◌==◌, ◌||◌, ◌∷◌, ◌++◌, ℕ, List, IfSome, IsSome, IsTrue, true, encode_utf8_all};
+ghost use Rattle.markup.specs.Reference.{Reference, Entity, Named, Numbered, is_reference, reference_text};
+ghost use Rattle.markup.specs.inner.Numbers.{number_mark};
 ghost use Rattle.markup.specs.References.{IsReferenceAt};
 
-use crate::reference::{ReferenceScan, ReferenceTurn};
+use crate::reference::{character, with_digit};
 
 /// A reference to a character.
 #[derive(Clone, Copy, Debug, PartialEq, Eq)]
@@ -28,7 +29,8 @@ pub(crate) fn begins_reference(piece: &[u8]) -> bool
 /// Whether the piece begins with the word.
 #[inline]
 fn begins_with(piece: &[u8], word: &[u8]) -> bool
-    ensures { IsTrue result → (rest : List ℕ) × (piece.now ≡ word.now ++ rest) }
+    ensures found { IsTrue result → (rest : List ℕ) × (piece.now ≡ word.now ++ rest) }
+    ensures all { (rest : List ℕ) → piece.now ≡ word.now ++ rest → IsTrue result }
 {
     let mut left = piece;
     let mut letters = word;
@@ -48,7 +50,8 @@ fn begins_with(piece: &[u8], word: &[u8]) -> bool
 /// The reference to an entity at the front of the piece, if one stands there.
 #[inline]
 fn entity_at(piece: &[u8]) -> Option<CharacterReference>
-    ensures { IfSome result (λ r. IsReferenceAt piece.now r.character r.bytes) }
+    ensures only { IfSome result (λ r. IsReferenceAt piece.now r.character r.bytes) }
+    ensures all { (entity : Entity) (rest : List ℕ) → piece.now ≡ reference_text (Named entity) ++ rest → IsSome result }
 {
     if begins_with(piece, b"&amp;") {
         return Some(CharacterReference {
@@ -83,41 +86,58 @@ fn entity_at(piece: &[u8]) -> Option<CharacterReference>
     None
 }
 
-/// The reference that stands whole at the front of the piece: the usual ones first.
-pub(crate) fn reference_at(piece: &[u8]) -> Option<CharacterReference>
+/// The reference by number at the front of the piece, whose digits in this radix these bytes begin with.
+#[inline]
+fn number_at(radix: u32, piece: &[u8], digits: &[u8]) -> Option<CharacterReference>
+    requires radix { (radix == 10 || radix == 16) ≡ true }
+    requires begun { piece.now ≡ number_mark radix ++ digits.now }
     ensures only { IfSome result (λ r. IsReferenceAt piece.now r.character r.bytes) }
-    ensures all { (reference : Reference) (rest : List ℕ) → is_reference reference ≡ true → piece.now ≡ encode_utf8_all (reference_text reference) ++ rest → IsSome result }
+    ensures all { (spelled rest : List ℕ) → is_reference (Numbered radix spelled) ≡ true → digits.now ≡ spelled ++ 59 ∷ rest → IsSome result }
 {
-    match entity_at(piece) {
-        Some(found) => Some(found),
-        None => any_reference_at(piece),
+    let mut number = 0_u32;
+    let mut rest = digits;
+    while let Some((byte, after)) = rest.split_first() {
+        let Some(next) = with_digit(radix, number, *byte as char) else {
+            if *byte != b';' {
+                return None;
+            }
+            let Some(character) = character(number) else {
+                return None;
+            };
+            return Some(CharacterReference {
+                character,
+                bytes: piece.len() - after.len(),
+            });
+        };
+        number = next;
+        rest = after;
     }
+    None
 }
 
-/// The reference that stands whole at the front of the piece, read as the scan of tokens reads it.
-fn any_reference_at(piece: &[u8]) -> Option<CharacterReference>
+/// The reference that stands whole at the front of the piece.
+pub(crate) fn reference_at(piece: &[u8]) -> Option<CharacterReference>
     ensures only { IfSome result (λ r. IsReferenceAt piece.now r.character r.bytes) }
     ensures all { (reference : Reference) (rest : List ℕ) → is_reference reference ≡ true → piece.now ≡ encode_utf8_all (reference_text reference) ++ rest → IsSome result }
 {
     let Some((first, behind)) = piece.split_first() else {
         return None;
     };
+    let Some((second, numbered)) = behind.split_first() else {
+        return None;
+    };
     if *first != b'&' {
         return None;
     }
-    let mut scan = ReferenceScan::Begun;
-    let mut bytes = 1_usize;
-    let mut rest = behind;
-    while let Some((byte, after)) = rest.split_first() {
-        bytes += 1;
-        match scan.step(*byte as char) {
-            ReferenceTurn::Continues(next) => {
-                scan = next;
-                rest = after;
-            }
-            ReferenceTurn::Gives(character) => return Some(CharacterReference { character, bytes }),
-            ReferenceTurn::Breaks => return None,
-        }
+    if *second != b'#' {
+        return entity_at(piece);
     }
-    None
+    let Some((third, digits)) = numbered.split_first() else {
+        return None;
+    };
+    if *third == b'x' {
+        number_at(16, piece, digits)
+    } else {
+        number_at(10, piece, numbered)
+    }
 }
