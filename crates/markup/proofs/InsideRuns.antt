@@ -9,7 +9,8 @@ use Rattle.std.proofs.lemmas.Str.{encode_ascii}
 use Rattle.markup.specs.Chars.{is_xml_char, is_space}
 use Rattle.markup.specs.PlainTags.{continues_plain}
 use Rattle.markup.specs.Drafts.{noted, literal_char, add_value}
-use Rattle.markup.specs.inner.Inside.{is_literal_of, is_passed, extended, noted_all, IsStill}
+use Rattle.markup.specs.PlainStarts.{is_literal_of}
+use Rattle.markup.specs.inner.Inside.{is_passed, extended, noted_all, IsStill}
 use Rattle.markup.specs.Scans.{step}
 use Rattle.markup.specs.ScanRuns.{At, turned, run}
 use Rattle.markup.specs.declared.draft.Draft.{Draft}

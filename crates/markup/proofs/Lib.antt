@@ -38,6 +38,7 @@ pub mod InsideRuns
 pub mod TagScans
 pub mod LiteralRuns
 pub mod StartScans
+pub mod StartsFound
 pub mod CharacterRuns
 pub mod TokenizerLemmas
 pub mod Pending

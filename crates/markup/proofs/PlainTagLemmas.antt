@@ -3,7 +3,7 @@ use Rattle.std.proofs.Common.{◌≡◌, ℕ, suc, Bool, true, false, ◌==◌, 
 use Rattle.std.specs.Bool.{if◌then◌else◌}
 use Rattle.std.specs.Char.{encode_utf8}
 use Rattle.std.specs.Int.{is_in_range}
-use Rattle.std.specs.List.{list_all}
+use Rattle.std.specs.List.{list_all, flat_map}
 use Rattle.std.specs.Option.{is_none}
 use Rattle.std.specs.Str.{encode_utf8_all, bytes_eq}
 use Rattle.std.proofs.lemmas.Bool.{and_parts, both_ways, eqb-true, le-leb}
@@ -25,7 +25,9 @@ use Rattle.markup.specs.Drafts.{no_draft}
 use Rattle.markup.specs.ScanRuns.{run, position, placed as placed_by, ended_of}
 use Rattle.markup.specs.TokenRules.{is_cdata}
 use Rattle.markup.specs.Tokenizers.{after_other, behind as behind_token, is_between, is_in_text, is_text, passed}
-use Rattle.markup.specs.Reading.{HasTakenUnder, HasToldUnder, MayTakeTagUnder}
+use Rattle.markup.specs.Reading.{Keeps, HasTakenUnder, HasToldUnder, MayTakeTagUnder, MayTakeStartUnder}
+use Rattle.markup.specs.Inputs.{Any}
+use Rattle.markup.specs.PlainStarts.{PlainStart}
 use Rattle.markup.specs.PlainTags.{begins_plain, continues_plain, is_plain_name, tag_text, tag_items, open_behind, innermost_namespace, name_behind, may_be_named, IsPlainInside, tags_behind, IsTagInside}
 use Rattle.markup.specs.declared.context.Context.{Context}
 use Rattle.markup.specs.declared.plain_tag.TagKind.{TagKind}
@@ -272,22 +274,28 @@ first_is_outside (t ∷ before) opened h i = first_two t before h i where
   first_two Mark [] h i = i
   first_two _ _ h i = both_ways false refl h
 
-begins_text : (before : List Token) (opened : List ℕ) → in_cdata before ≡ false → IsPlainInside (open_tags before) opened → is_text (Begin (position before)) ≡ true
-begins_text [] opened c i = absurd i
-begins_text (t ∷ before) opened c i = by (is_first (t ∷ before)) (in_cdata (t ∷ before)) c (λ f. first_is_outside (t ∷ before) opened f i) where
-  by : (f g : Bool) → g ≡ false → (f ≡ true → ⊥) → is_text (Begin (placed_by f g)) ≡ true
-  by true g e n = absurd (n refl)
+not_first : (before : List Token) (opened : List ℕ) → IsPlainInside (open_tags before) opened → is_first before ≡ false
+not_first before opened i = by (is_first before) (λ f. first_is_outside before opened f i) where
+  by : (b : Bool) → (b ≡ true → ⊥) → b ≡ false
+  by true n = absurd (n refl)
+  by false n = refl
+
+begins_text : (before : List Token) → in_cdata before ≡ false → is_first before ≡ false → is_text (Begin (position before)) ≡ true
+begins_text [] c f = absurd (both_ways true f refl)
+begins_text (t ∷ before) c f = by (is_first (t ∷ before)) (in_cdata (t ∷ before)) c f where
+  by : (f g : Bool) → g ≡ false → f ≡ false → is_text (Begin (placed_by f g)) ≡ true
+  by true g e n = absurd (both_ways true n refl)
   by false true e n = absurd (both_ways true e refl)
   by false false e n = refl
 
-pub text_here : {limit : ℕ} (r : Reader) (bytes : List ℕ) (told : List Placed) (kind : TagKind) (name : List ℕ) → MayTakeTagUnder limit r bytes told kind name → is_in_text r.tokenizer ≡ true
-text_here r bytes told kind name m =
-    let ts = m.tokens in
-    let o = m.keeps.reads.opens in
-    let begun : r.tokenizer.place ≡ r.tokenizer.start = m.keeps.place ∙ (ap length (sym m.whole) ∙ sym (starts r bytes ts told m.keeps)) in
-    let none = no_chars o.chars o.part (ap length (sym o.bytes_are) ∙ count r.tokenizer.place r.tokenizer.start (length m.keeps.reads.bytes) o.place_is begun) in
+-- behind whole tokens, in no CDATA section, and neither first nor behind the byte order mark
+text_behind : {limit : ℕ} (r : Reader) (bytes : List ℕ) (told : List Placed) (ts : List Token) → Keeps limit Any r bytes ts told → flat_map token_bytes ts ≡ bytes → in_cdata (reverse ts) ≡ false → is_first (reverse ts) ≡ false → is_in_text r.tokenizer ≡ true
+text_behind r bytes told ts keeps whole in_text behind =
+    let o = keeps.reads.opens in
+    let begun : r.tokenizer.place ≡ r.tokenizer.start = keeps.place ∙ (ap length (sym whole) ∙ sym (starts r bytes ts told keeps)) in
+    let none = no_chars o.chars o.part (ap length (sym o.bytes_are) ∙ count r.tokenizer.place r.tokenizer.start (length keeps.reads.bytes) o.place_is begun) in
     let scan_is : (Begin (position (reverse ts)) ≡ r.tokenizer.scan) × (no_draft ≡ r.tokenizer.draft) = at_same (Begin (position (reverse ts))) r.tokenizer.scan no_draft r.tokenizer.draft (ap (run (Begin (position (reverse ts))) no_draft) (sym none.0) ∙ o.scan_is) in
-    both (is_text r.tokenizer.scan) (r.tokenizer.place == r.tokenizer.start) (ap is_text (sym scan_is.0) ∙ begins_text (reverse ts) m.opened m.in_text m.inside) (subst (λ v. (r.tokenizer.place == v) ≡ true) begun (same_place r.tokenizer.place)) where
+    both (is_text r.tokenizer.scan) (r.tokenizer.place == r.tokenizer.start) (ap is_text (sym scan_is.0) ∙ begins_text (reverse ts) in_text behind) (subst (λ v. (r.tokenizer.place == v) ≡ true) begun (same_place r.tokenizer.place)) where
       count : (p s n : ℕ) → p ≡ s + n → p ≡ s → n ≡ 0
       count p s n h k = omega arith
 
@@ -296,3 +304,9 @@ text_here r bytes told kind name m =
 
       both : (x y : Bool) → x ≡ true → y ≡ true → (x && y) ≡ true
       both x y e f = cc
+
+pub text_here : {limit : ℕ} (r : Reader) (bytes : List ℕ) (told : List Placed) (kind : TagKind) (name : List ℕ) → MayTakeTagUnder limit r bytes told kind name → is_in_text r.tokenizer ≡ true
+text_here r bytes told kind name m = text_behind r bytes told m.tokens m.keeps m.whole m.in_text (not_first (reverse m.tokens) m.opened m.inside)
+
+pub start_here : {limit : ℕ} (r : Reader) (bytes : List ℕ) (told : List Placed) (tag : PlainStart) → MayTakeStartUnder limit r bytes told tag → is_in_text r.tokenizer ≡ true
+start_here r bytes told tag m = text_behind r bytes told m.tokens m.keeps m.whole m.in_text m.behind

@@ -1,5 +1,5 @@
 -- A start tag with attributes that is found at the front of a piece.
-use Rattle.std.proofs.Common.{◌≡◌, ℕ, zero, suc, Bool, cond, true, false, ◌==◌, ◌&&◌, ◌+◌, ◌-◌, ◌<◌, ◌≤◌, List, [], ◌∷◌, ◌++◌, length, map, take, drop, Option, Some, None, refl, sym, ◌∙◌, ap, subst, append_assoc, append-nil, length-append, length-drop, arith, codes}
+use Rattle.std.proofs.Common.{◌≡◌, ℕ, zero, suc, Bool, cond, true, false, ◌==◌, ◌&&◌, ◌+◌, ◌<◌, ◌≤◌, List, [], ◌∷◌, ◌++◌, length, map, take, drop, Option, Some, None, refl, sym, ◌∙◌, ap, subst, append_assoc, append-nil, length-append, length-drop, arith, codes}
 use Rattle.std.specs.Bool.{if◌then◌else◌}
 use Rattle.std.specs.List.{list_all, flat_map, prefix_len}
 use Rattle.std.specs.Str.{encode_utf8_all}
@@ -21,8 +21,8 @@ use Rattle.markup.specs.Token.{StartTag, Start, token_bytes}
 use Rattle.markup.specs.Marks.{tag_limit}
 use Rattle.markup.specs.Events.{given as given_by}
 use Rattle.markup.specs.PlainTags.{begins_plain, continues_plain, is_plain_name, mark_count, closing, slashed}
-use Rattle.markup.specs.inner.Inside.{is_literal_of}
-use Rattle.markup.specs.inner.WholeStarts.{is_quote, is_empty_kind, IsValueAt, IsAttributeAt, AreGiven, IsStartAt}
+use Rattle.markup.specs.PlainStarts.{is_quote, is_literal_of}
+use Rattle.markup.specs.inner.WholeStarts.{is_empty_kind, IsValueAt, IsAttributeAt, AreGiven, IsStartAt}
 use Rattle.markup.specs.declared.plain_tag.TagKind.{TagKind}
 use Rattle.markup.specs.declared.plain_tag.TagKind.TheVariants.{Start as StartKind, Empty as EmptyKind, End as EndKind}
 use Rattle.markup.specs.declared.start_tag.WholeStart.{WholeStart}

@@ -124,7 +124,7 @@ name_length (c ∷ cs) after kind h k = let a = and_parts _ _ h in
       one : (n : ℕ) → 1 + n ≡ suc n
       one n = omega arith
 
-all_continue : (name : List ℕ) → is_plain_name name ≡ true → list_all continues_plain name ≡ true
+pub all_continue : (name : List ℕ) → is_plain_name name ≡ true → list_all continues_plain name ≡ true
 all_continue [] h = refl
 all_continue (c ∷ cs) h = let a = and_parts _ _ h in ap (λ t. t && list_all continues_plain cs) (begins_continues c a.0) ∙ a.1
 

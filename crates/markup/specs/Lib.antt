@@ -22,6 +22,7 @@ pub mod Inputs
 pub mod Contexts
 pub mod Longest
 pub mod PlainTags
+pub mod PlainStarts
 pub mod Reading
 pub mod References
 pub mod Literals

@@ -3,7 +3,7 @@ use Rattle.std.specs.Prelude.{◌≡◌, ◌≢◌, ◌≤◌, ℕ, ◌-◌, tru
 use Rattle.lexical_core.specs.declared.rule.Rule.TheVariants.{Truncated}
 use Rattle.std.specs.List.{flat_map}
 use Rattle.markup.specs.Token.{Token, token_bytes}
-use Rattle.markup.specs.Marks.{Front, in_cdata, tag_limit}
+use Rattle.markup.specs.Marks.{Front, in_cdata, is_first, tag_limit}
 use Rattle.markup.specs.Events.{Placed, events, open_tags}
 use Rattle.markup.specs.Faults.{IsClean, Fault, MarkFault, MarkFaultUnder, is_over, is_outside}
 use Rattle.markup.specs.Longest.{IsLongestUnder}
@@ -14,6 +14,7 @@ use Rattle.markup.specs.declared.tokenizer.Finish.{Finish}
 use Rattle.markup.specs.Inputs.{Reads, Any, with_pending}
 use Rattle.markup.specs.Contexts.{IsContext}
 use Rattle.markup.specs.PlainTags.{tag_text, may_be_named, IsPlainInside}
+use Rattle.markup.specs.PlainStarts.{PlainStart, is_plain_start, plain_start_text}
 use Rattle.markup.specs.declared.plain_tag.TagKind.{TagKind}
 use Rattle.markup.specs.declared.event.Event.{Event}
 use Rattle.markup.specs.declared.reader.MarkError.{MarkError}
@@ -161,3 +162,16 @@ pub record MayTakeTagUnder (limit : ℕ) (reader : Reader) (bytes : List ℕ) (t
 
 abbrev pub MayTakeTag : Reader → List ℕ → List Placed → TagKind → List ℕ → Type 0
 MayTakeTag reader bytes told kind name = MayTakeTagUnder tag_limit reader bytes told kind name
+
+-- The bytes are whole tokens, whose events are told, and behind them the plain start tag may come, which has no more bytes than one of XML: outside CDATA sections, and neither first nor right behind the byte order mark, where the declaration may come.
+pub record MayTakeStartUnder (limit : ℕ) (reader : Reader) (bytes : List ℕ) (told : List Placed) (tag : PlainStart) : Type 0 where
+  pub tokens : List Token
+  pub keeps : Keeps limit Any reader bytes tokens told
+  pub whole : flat_map token_bytes tokens ≡ bytes
+  pub in_text : in_cdata (reverse tokens) ≡ false
+  pub behind : is_first (reverse tokens) ≡ false
+  pub plain : is_plain_start tag ≡ true
+  pub short : length (plain_start_text tag) ≤ tag_limit
+
+abbrev pub MayTakeStart : Reader → List ℕ → List Placed → PlainStart → Type 0
+MayTakeStart reader bytes told tag = MayTakeStartUnder tag_limit reader bytes told tag

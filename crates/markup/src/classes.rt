@@ -1,7 +1,7 @@
 // Classes of bytes that runs are made of.
 ghost use Rattle.std.specs.Prelude.{◌≡◌};
 ghost use Rattle.markup.specs.Chars.{is_space};
-ghost use Rattle.markup.specs.inner.Inside.{is_literal_of};
+ghost use Rattle.markup.specs.PlainStarts.{is_literal_of};
 ghost use Rattle.markup.specs.Literals.{is_literal, is_still_space};
 ghost use Rattle.markup.specs.PlainTags.{continues_plain};
 

@@ -1,7 +1,8 @@
 // Bytes with which an open token goes on as it stands: of a name, a value, a comment, an instruction.
-ghost use Rattle.std.specs.Prelude.{◌≡◌, ◌≤◌, length, take};
+ghost use Rattle.std.specs.Prelude.{◌≡◌, ◌≤◌, true, length, take};
 ghost use Rattle.std.specs.List.{prefix_len};
-ghost use Rattle.markup.specs.inner.Inside.{is_literal_of, is_passed, IsStill};
+ghost use Rattle.markup.specs.PlainStarts.{is_quote, is_literal_of};
+ghost use Rattle.markup.specs.inner.Inside.{is_passed, IsStill};
 
 use crate::classes::{DoubleQuoted, SingleQuoted};
 use crate::plain_tag::name_length;
@@ -26,6 +27,7 @@ fn is_passed(end: u8, byte: u8) -> bool
 pub(crate) fn value_length(quote: char, piece: &[u8]) -> usize
     ensures within { result ≤ length piece.now }
     ensures count { result ≤ prefix_len (is_literal_of quote) piece.now }
+    ensures all { is_quote quote ≡ true → result ≡ prefix_len (is_literal_of quote) piece.now }
 {
     match quote {
         '"' => run_length(&DoubleQuoted, piece),

@@ -1,8 +1,10 @@
 // Start tags with attributes that stand whole at the front of a piece of the input.
-ghost use Rattle.std.specs.Prelude.{◌≡◌, ◌<◌, ◌≤◌, [], length, take, drop, IfOk, IfSome, true};
-ghost use Rattle.markup.specs.Marks.{tag_limit};
-ghost use Rattle.markup.specs.PlainTags.{is_plain_name};
-ghost use Rattle.markup.specs.inner.WholeStarts.{is_quote, is_empty_kind, IsValueAt, IsAttributeAt, AreGiven, IsStartAt};
+ghost use Rattle.std.specs.Prelude.{◌≡◌, ◌<◌, ◌≤◌, ◌++◌, ℕ, List, [], length, take, drop, IfOk, IfSome, IsSomeAnd, true, false};
+ghost use Rattle.std.specs.List.{list_all, flat_map, prefix_len};
+ghost use Rattle.markup.specs.Marks.{tag_limit, begins_with};
+ghost use Rattle.markup.specs.PlainTags.{continues_plain, is_plain_name};
+ghost use Rattle.markup.specs.PlainStarts.{is_quote, PlainAttribute, is_plain_attribute, plain_attribute_text, PlainStart, is_plain_start, plain_start_text};
+ghost use Rattle.markup.specs.inner.WholeStarts.{is_empty_kind, IsValueAt, IsAttributeAt, AreGiven, IsStartAt};
 
 use crate::attributes::text_of;
 use crate::inside::value_length;
@@ -40,6 +42,7 @@ struct AttributeAt<'a> {
 fn name_at(bytes: &[u8]) -> usize
     ensures within { result ≤ length bytes.now }
     ensures named { 0 < result → is_plain_name (take result bytes.now) ≡ true }
+    ensures all { (name behind : List ℕ) → is_plain_name name ≡ true → bytes.now ≡ name ++ behind → prefix_len continues_plain behind ≡ 0 → result ≡ length name }
 {
     let Some((first, _)) = bytes.split_first() else {
         return 0;
@@ -61,7 +64,8 @@ fn is_quote(byte: u8) -> bool
 /// The value at the front, where it is one in quotes whose bytes stand for themselves.
 #[inline]
 fn value_at<'a>(bytes: &'a [u8]) -> Option<ValueAt<'a>>
-    ensures { IfSome result (λ v. IsValueAt bytes.now v.value.now v.behind.now) }
+    ensures found { IfSome result (λ v. IsValueAt bytes.now v.value.now v.behind.now) }
+    ensures all { (value behind : List ℕ) → IsValueAt bytes.now value behind → IsSomeAnd result (λ v. v.behind.now ≡ behind) }
 {
     let Some((quote, inside)) = bytes.split_first() else {
         return None;
@@ -83,7 +87,8 @@ fn value_at<'a>(bytes: &'a [u8]) -> Option<ValueAt<'a>>
 /// stand for themselves.
 #[inline]
 fn attribute_at<'a>(bytes: &'a [u8]) -> Option<AttributeAt<'a>>
-    ensures { IfSome result (λ a. IsAttributeAt bytes.now a.name.now a.value.now a.behind.now) }
+    ensures found { IfSome result (λ a. IsAttributeAt bytes.now a.name.now a.value.now a.behind.now) }
+    ensures all { (name value behind : List ℕ) → IsAttributeAt bytes.now name value behind → IsSomeAnd result (λ a. a.behind.now ≡ behind) }
 {
     let Some((gap, named)) = bytes.split_first() else {
         return None;
@@ -138,6 +143,8 @@ fn attributes_at(bytes: &[u8], found: &mut Items<Given>, alloc: Global) -> Resul
     requires { found.old ≡ [] }
     ensures within { IfOk result (λ n. n ≤ length bytes.now) }
     ensures are { IfOk result (λ n. AreGiven bytes.now found.new (drop n bytes.now)) }
+    ensures all { (attributes : List PlainAttribute) (last : List ℕ) → list_all is_plain_attribute attributes ≡ true → begins_with 32 last ≡ false → bytes.now ≡ flat_map plain_attribute_text attributes ++ last →
+        IfOk result (λ n. n ≡ length (flat_map plain_attribute_text attributes)) }
 {
     let mut left = bytes;
     while let Some(attribute) = attribute_at(left) {
@@ -159,7 +166,9 @@ fn is_empty_kind(kind: TagKind) -> bool
 /// The start tag at the front of bytes that are no more than a tag may have.
 fn start_in(front: &[u8], alloc: Global) -> Result<Option<WholeStart>, AllocError>
     requires { length front.now ≤ tag_limit }
-    ensures { IfOk result (λ o. IfSome o (λ start. IsStartAt front.now start.tag start.bytes)) }
+    ensures found { IfOk result (λ o. IfSome o (λ start. IsStartAt front.now start.tag start.bytes)) }
+    ensures all { (tag : PlainStart) (rest : List ℕ) → is_plain_start tag ≡ true → front.now ≡ plain_start_text tag ++ rest →
+        IfOk result (λ o. IsSomeAnd o (λ start. start.bytes ≡ length (plain_start_text tag))) }
 {
     let Some((first, named)) = front.split_first() else {
         return Ok(None);
@@ -195,6 +204,7 @@ fn start_in(front: &[u8], alloc: Global) -> Result<Option<WholeStart>, AllocErro
 fn within_limit(count: usize) -> usize
     ensures within { result ≤ count }
     ensures short { result ≤ tag_limit }
+    ensures all { (n : ℕ) → n ≤ count → n ≤ tag_limit → n ≤ result }
 {
     if count as u64 <= TAG_LIMIT {
         count
@@ -206,7 +216,9 @@ fn within_limit(count: usize) -> usize
 /// The start tag that stands whole at the front of the piece, where its names are plain, its attributes
 /// stand behind one space each, and the bytes of their values stand for themselves.
 pub(crate) fn start_at(piece: &[u8], alloc: Global) -> Result<Option<WholeStart>, AllocError>
-    ensures { IfOk result (λ o. IfSome o (λ start. IsStartAt piece.now start.tag start.bytes)) }
+    ensures found { IfOk result (λ o. IfSome o (λ start. IsStartAt piece.now start.tag start.bytes)) }
+    ensures all { (tag : PlainStart) (rest : List ℕ) → is_plain_start tag ≡ true → length (plain_start_text tag) ≤ tag_limit → piece.now ≡ plain_start_text tag ++ rest →
+        IfOk result (λ o. IsSomeAnd o (λ start. start.bytes ≡ length (plain_start_text tag))) }
 {
     let (front, _) = piece.split_at(within_limit(piece.len()));
     start_in(front, alloc)

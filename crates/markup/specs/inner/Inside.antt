@@ -9,10 +9,6 @@ use Rattle.markup.specs.declared.scan.Scan.{Scan}
 use Rattle.markup.specs.declared.scan.Scan.TheVariants.{Begin, AfterReturn, Bracket, Brackets, Opened, StartName, AttributeName, Value, EndName}
 use Rattle.markup.specs.declared.tokenizer.Tokenizer.{Tokenizer}
 
--- a byte that stands for itself in a value in these quotes, and neither ends it nor begins a reference (XML 1.0 §2.3, AttValue; §3.3.3)
-abbrev pub is_literal_of : ℕ → ℕ → Bool
-is_literal_of quote byte = nat_le 32 byte && nat_le byte 127 && not (byte == 60) && not (byte == 38) && not (byte == quote)
-
 -- a character of a comment or an instruction that does not begin its end (XML 1.0 §2.5, §2.6)
 abbrev pub is_passed : ℕ → ℕ → Bool
 is_passed end byte = (nat_le 32 byte && nat_le byte 127 && not (byte == end)) || byte == 10 || byte == 9 || byte == 13

@@ -1,21 +1,17 @@
 -- Start tags that a reader takes whole with their attributes: names of ASCII letters, digits, `-`, `.` and `_`, one space before each attribute, and values of ASCII that stand for themselves (XML 1.0 §3.1).
-use Rattle.std.specs.Prelude.{◌≡◌, ℕ, Bool, ◌==◌, ◌||◌, ◌<◌, ◌≤◌, true, false, List, ◌∷◌, ◌++◌, length, take, map, encode_utf8_all}
+use Rattle.std.specs.Prelude.{◌≡◌, ℕ, Bool, ◌<◌, ◌≤◌, true, false, List, ◌∷◌, ◌++◌, length, take, map, encode_utf8_all}
 use Rattle.std.specs.List.{list_all, flat_map}
 use Rattle.markup.specs.Attribute.{Attribute, is_attribute, attribute_text}
 use Rattle.markup.specs.Token.{StartTag, Start, is_start_tag, token_bytes}
-use Rattle.markup.specs.Marks.{tag_limit}
+use Rattle.markup.specs.Marks.{tag_limit, begins_with}
 use Rattle.markup.specs.Events.{opening}
 use Rattle.markup.specs.Events.{given as given_by}
 use Rattle.markup.specs.PlainTags.{is_plain_name}
-use Rattle.markup.specs.inner.Inside.{is_literal_of}
+use Rattle.markup.specs.PlainStarts.{is_quote, is_literal_of, PlainAttribute, is_plain_attribute, plain_attribute_text}
 use Rattle.markup.specs.declared.plain_tag.TagKind.{TagKind}
 use Rattle.markup.specs.declared.plain_tag.TagKind.TheVariants.{Empty}
 use Rattle.markup.specs.declared.tag.Given.{Given}
 use Rattle.markup.specs.declared.tag.Opening.{Opening}
-
--- one of the two kinds of quotes
-abbrev pub is_quote : ℕ → Bool
-is_quote b = b == 34 || b == 39
 
 -- The bytes begin with a value in quotes whose bytes stand for themselves.
 pub record IsValueAt (bytes value behind : List ℕ) : Type 0 where
@@ -38,6 +34,11 @@ pub record AreGiven (bytes : List ℕ) (given : List Given) (rest : List ℕ) : 
   pub are : list_all is_attribute attributes ≡ true
   pub spelled : bytes ≡ encode_utf8_all (flat_map attribute_text attributes) ++ rest
   pub give : map given_by attributes ≡ given
+
+-- Where the bytes are plain attributes, behind which no space follows, what is left is the last of these.
+abbrev pub AreLeft : List ℕ → List ℕ → Type 0
+AreLeft bytes left = (attributes : List PlainAttribute) (last : List ℕ) → list_all is_plain_attribute attributes ≡ true → begins_with 32 last ≡ false → bytes ≡ flat_map plain_attribute_text attributes ++ last
+    → (others : List PlainAttribute) × (list_all is_plain_attribute others ≡ true) × (left ≡ flat_map plain_attribute_text others ++ last)
 
 -- it is the tag of an empty element
 abbrev pub is_empty_kind : TagKind → Bool

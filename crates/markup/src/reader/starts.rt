@@ -1,7 +1,8 @@
 // Start tags with attributes that a reader takes whole.
-ghost use Rattle.std.specs.Prelude.{◌≡◌, ◌<◌, ◌≤◌, ◌^◌, ◌+◌, ◌++◌, ℕ, List, IfOk, IfErr, IfSome, IsSome, Some, None, Err, true, length, take};
+ghost use Rattle.std.specs.Prelude.{◌≡◌, ◌<◌, ◌≤◌, ◌^◌, ◌+◌, ◌++◌, ℕ, List, IfOk, IfErr, IfSome, IsSome, IsSomeAnd, Some, None, Err, true, length, take};
 ghost use Rattle.markup.specs.Events.{Placed};
-ghost use Rattle.markup.specs.Reading.{taken, failed, HasTakenUnder, GoesOnUnder, StopsUnder};
+ghost use Rattle.markup.specs.PlainStarts.{PlainStart, plain_start_text};
+ghost use Rattle.markup.specs.Reading.{taken, failed, HasTakenUnder, MayTakeStartUnder, GoesOnUnder, StopsUnder};
 ghost use Rattle.markup.specs.Tokenizers.{is_in_text};
 ghost use Rattle.markup.specs.inner.WholeStarts.{IsStartAt};
 
@@ -16,8 +17,10 @@ impl Reader {
     /// appends its events: with names of ASCII letters, digits, `-`, `.` and `_`, attributes behind one
     /// space each, and values of ASCII without references, tabs and line ends, in either kind of quotes
     /// (XML 1.0 §3.1). It answers how many bytes the tag has, 0 where no such tag is taken; any
-    /// other token is for `take`. A fault of the tag is told as `take` tells it with the tag's last
-    /// byte. Where there is no memory, and after an error, it answers as `take` does.
+    /// other token is for `take`. Each such tag is taken that stands behind a token other than the byte
+    /// order mark, in no CDATA section, and has at most 1,048,576 bytes. A fault of the tag is told as
+    /// `take` tells it with the tag's last byte. Where there is no memory, and after an error, it
+    /// answers as `take` does.
     pub fn take_start(&mut self, piece: &[u8], out: &mut Events) -> Result<usize, MarkError>
         requires { failed self.old ≡ None → taken self.old + length piece.now ≤ 2 ^ 40 }
         ensures none { IfOk result (λ n. n ≡ 0 → (self.new ≡ self.old) × (out.new ≡ out.old)) }
@@ -26,6 +29,8 @@ impl Reader {
             IfOk result (λ n. 0 < n → GoesOnUnder limit self.new (bytes ++ take n piece.now) told out.old out.new) }
         ensures err { (limit : ℕ) (bytes : List ℕ) (told : List Placed) → HasTakenUnder limit self.old bytes told →
             IfErr result (λ e. StopsUnder limit (bytes ++ piece.now) told out.old out.new e) }
+        ensures all { (limit : ℕ) (bytes : List ℕ) (told : List Placed) (tag : PlainStart) (rest : List ℕ) → MayTakeStartUnder limit self.old bytes told tag → piece.now ≡ plain_start_text tag ++ rest →
+            IfOk result (λ n. n ≡ length (plain_start_text tag)) }
         ensures count { IfOk result (λ n. taken self.new ≡ taken self.old + n) }
         ensures failed { IfErr result (λ e. failed self.new ≡ Some e) }
         ensures again { (e : MarkError) → failed self.old ≡ Some e → (result ≡ Err e) × (self.new ≡ self.old) × (out.new ≡ out.old) }
@@ -49,6 +54,8 @@ impl Reader {
             IfOk result (λ n. 0 < n → GoesOnUnder limit self.new (bytes ++ take n piece.now) told out.old out.new) }
         ensures err { (limit : ℕ) (bytes : List ℕ) (told : List Placed) → HasTakenUnder limit self.old bytes told →
             IfErr result (λ e. StopsUnder limit (bytes ++ piece.now) told out.old out.new e) }
+        ensures all { (limit : ℕ) (bytes : List ℕ) (told : List Placed) (tag : PlainStart) (rest : List ℕ) → MayTakeStartUnder limit self.old bytes told tag → piece.now ≡ plain_start_text tag ++ rest →
+            IfOk result (λ n. n ≡ length (plain_start_text tag)) }
         ensures count { IfOk result (λ n. taken self.new ≡ taken self.old + n) }
     {
         let place = self.tokenizer.start();
@@ -74,6 +81,8 @@ impl Reader {
         ensures ready { IfOk result (λ o. IsSome o → is_in_text self.now.tokenizer ≡ true) }
         ensures found { IfOk result (λ o. IfSome o (λ start. IsStartAt piece.now start.tag start.bytes)) }
         ensures begun { IfErr result (λ _. is_in_text self.now.tokenizer ≡ true) }
+        ensures all { (limit : ℕ) (bytes : List ℕ) (told : List Placed) (tag : PlainStart) (rest : List ℕ) → MayTakeStartUnder limit self.now bytes told tag → piece.now ≡ plain_start_text tag ++ rest →
+            IfOk result (λ o. IsSomeAnd o (λ start. start.bytes ≡ length (plain_start_text tag))) }
     {
         if !self.tokenizer.is_in_text() {
             return Ok(None);

@@ -1,10 +1,10 @@
--- The attributes before what is left are given.
+-- The attributes before what is left are given, and what is left is the last of those that are there.
 use Rattle.std.proofs.Common.{length}
-use Rattle.markup.specs.inner.WholeStarts.{AreGiven}
+use Rattle.markup.specs.inner.WholeStarts.{AreGiven, AreLeft}
 use Rattle.markup.proofs.start_tag.attributes_at.Given as goal
 
 abbrev pub invariant-loop-attribute : goal.invariant-loop-attribute
-invariant-loop-attribute l = AreGiven l.bytes l.found l.left
+invariant-loop-attribute l = AreGiven l.bytes l.found l.left × AreLeft l.bytes l.left
 
 abbrev pub decreases-loop-attribute : goal.decreases-loop-attribute
 decreases-loop-attribute l = length l.left

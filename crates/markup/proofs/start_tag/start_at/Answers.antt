@@ -1,6 +1,15 @@
 -- The front of a piece.
+use Rattle.std.proofs.Common.{length}
+use Rattle.markup.specs.PlainStarts.{plain_start_text}
 use Rattle.markup.proofs.StartScans.{starts_widened}
+use Rattle.markup.proofs.StartsFound.{front_begins, text_within}
 use Rattle.markup.proofs.start_tag.start_at.Goals as goal
 
-pub returns : goal.returns
-returns c = starts_widened c.start_in.result c.args.piece.now c.split_at.result.0.now c.within_limit.result c.within_limit.ensures.within c.split_at.ensures.front c.start_in.ensures
+pub returns-clause-found : goal.returns-clause-found
+returns-clause-found c = starts_widened c.start_in.result c.args.piece.now c.split_at.result.0.now c.within_limit.result c.within_limit.ensures.within c.split_at.ensures.front c.start_in.ensures.found
+
+pub returns-clause-all : goal.returns-clause-all
+returns-clause-all c tag rest p s e =
+    let f = front_begins c.args.piece.now c.split_at.result.0.now (plain_start_text tag) rest c.within_limit.result e c.split_at.ensures.front
+    (c.within_limit.ensures.all (length (plain_start_text tag)) (text_within c.args.piece.now (plain_start_text tag) rest e) s) in
+    c.start_in.ensures.all tag f.0 p f.1

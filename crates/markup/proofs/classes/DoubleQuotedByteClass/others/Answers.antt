@@ -1,7 +1,7 @@
 use Rattle.std.proofs.Common.{leb, cond, not, refl, arith}
 use Rattle.std.proofs.lemmas.Simd.{zip2_splat}
 use Rattle.lexical_core.proofs.LaneRuns.{joined, splat_is, masked}
-use Rattle.markup.specs.inner.Inside.{is_literal_of}
+use Rattle.markup.specs.PlainStarts.{is_literal_of}
 use Rattle.markup.proofs.classes.DoubleQuotedByteClass.others.Goals as goal
 
 pub returns : goal.returns

@@ -1,0 +1,45 @@
+-- Start tags that a reader takes whole with their attributes, as they are usually written: `<`, a plain name, each attribute behind one space, and `>` or `/>` (XML 1.0 §3.1, STag, EmptyElemTag).
+-- A name with a colon is not plain: neither a tag with a prefix is one of these, nor one that has an attribute with a prefix or declares one. One that declares the default namespace by `xmlns` is.
+use Rattle.std.specs.Prelude.{ℕ, Bool, ◌==◌, ◌||◌, ◌&&◌, nat_le, not, List, [], ◌∷◌, ◌++◌, if◌then◌else◌}
+use Rattle.std.specs.List.{list_all, flat_map}
+use Rattle.markup.specs.PlainTags.{is_plain_name}
+
+-- one of the two kinds of quotes (XML 1.0 §2.3, AttValue)
+abbrev pub is_quote : ℕ → Bool
+is_quote b = b == 34 || b == 39
+
+-- a byte that stands for itself in a value in these quotes, and neither ends it nor begins a reference (XML 1.0 §2.3, AttValue; §3.3.3)
+abbrev pub is_literal_of : ℕ → ℕ → Bool
+is_literal_of quote byte = nat_le 32 byte && nat_le byte 127 && not (byte == 60) && not (byte == 38) && not (byte == quote)
+
+-- an attribute of such a tag
+pub record PlainAttribute : Type 0 where
+  pub name : List ℕ
+  pub quote : ℕ
+  pub value : List ℕ
+
+-- its parts are what they should be
+abbrev pub is_plain_attribute : PlainAttribute → Bool
+is_plain_attribute a = is_plain_name a.name && is_quote a.quote && list_all (is_literal_of a.quote) a.value
+
+-- the attribute as it is written: a space, the name, `=`, the value in quotes
+abbrev pub plain_attribute_text : PlainAttribute → List ℕ
+plain_attribute_text a = 32 ∷ (a.name ++ 61 ∷ a.quote ∷ (a.value ++ a.quote ∷ []))
+
+-- such a start tag, or such a tag of an empty element
+pub record PlainStart : Type 0 where
+  pub name : List ℕ
+  pub attributes : List PlainAttribute
+  pub is_empty : Bool
+
+-- its parts are what they should be
+abbrev pub is_plain_start : PlainStart → Bool
+is_plain_start t = is_plain_name t.name && list_all is_plain_attribute t.attributes
+
+-- what it ends with
+abbrev pub start_end : Bool → List ℕ
+start_end is_empty = if is_empty then 47 ∷ 62 ∷ [] else 62 ∷ []
+
+-- the tag as it is written
+abbrev pub plain_start_text : PlainStart → List ℕ
+plain_start_text t = 60 ∷ (t.name ++ (flat_map plain_attribute_text t.attributes ++ start_end t.is_empty))
