@@ -121,11 +121,6 @@ remaining radix digits n rest i spelled more h e =
 no_more : (x : ℕ) (left more : List ℕ) → [] ≡ left ++ x ∷ more → ⊥
 no_more x left more e = omega (arith, ap length e, length-append left (x ∷ more))
 
--- the bytes do not end within it
-pub no_number_end : (radix : ℕ) (digits : List ℕ) (n : ℕ) (rest : List ℕ) → IsCounting radix digits n rest → length rest ≡ 0 → (spelled more : List ℕ) → is_reference (Numbered radix spelled) ≡ true → digits ≡ spelled ++ 59 ∷ more → ⊥
-no_number_end radix digits n [] i l spelled more h e = let k = remaining radix digits n [] i spelled more h e in no_more 59 k.left more k.behind
-no_number_end radix digits n (c ∷ rest) i l spelled more h e = absurd (omega (arith, l))
-
 -- what is no digit behind it is its semicolon
 pub number_ends : (radix : ℕ) (digits : List ℕ) (n byte : ℕ) (rest after : List ℕ) → (radix == 10 || radix == 16) ≡ true → IsCounting radix digits n rest → rest ≡ byte ∷ after → None ≡ digit_step radix n byte → (spelled more : List ℕ) → is_reference (Numbered radix spelled) ≡ true → digits ≡ spelled ++ 59 ∷ more → (byte ≡ 59) × (is_xml_char n ≡ true)
 number_ends radix digits n byte rest after r i e s spelled more h b = by k.left k.are (sym e ∙ k.behind) k.xml where
