@@ -48,7 +48,7 @@ pub record AreBrackets (piece : List ℕ) (count : ℕ) (rest : List ℕ) : Type
 pub brackets_none : (piece : List ℕ) → AreBrackets piece 0 piece
 brackets_none piece = record { seen = []; joined = refl; count_is = refl; are = tt }
 
-all_append : (cs ds : List ℕ) → AllByRecursion IsBracket cs → AllByRecursion IsBracket ds → AllByRecursion IsBracket (cs ++ ds)
+pub all_append : (cs ds : List ℕ) → AllByRecursion IsBracket cs → AllByRecursion IsBracket ds → AllByRecursion IsBracket (cs ++ ds)
 all_append [] ds h k = k
 all_append (c ∷ cs) ds h k = (h.0, all_append cs ds h.1 k)
 
@@ -63,11 +63,11 @@ brackets_more piece count byte rest after a e b = record {
 encoded_one : (c : ℕ) → IsBracket c → encode_utf8 c ≡ c ∷ []
 encoded_one c e = encode_ascii c (omega (arith, e))
 
-encoded_all : (cs : List ℕ) → AllByRecursion IsBracket cs → encode_utf8_all cs ≡ cs
+pub encoded_all : (cs : List ℕ) → AllByRecursion IsBracket cs → encode_utf8_all cs ≡ cs
 encoded_all [] h = refl
 encoded_all (c ∷ cs) h = ap (λ v. v ++ encode_utf8_all cs) (encoded_one c h.0) ∙ ap (λ v. c ∷ v) (encoded_all cs h.1)
 
-of_text : (cs : List ℕ) → AllByRecursion IsBracket cs → AllByRecursion IsOfText cs
+pub of_text : (cs : List ℕ) → AllByRecursion IsBracket cs → AllByRecursion IsOfText cs
 of_text [] h = tt
 of_text (c ∷ cs) h = (inr h.0, of_text cs h.1)
 
@@ -75,11 +75,11 @@ bracket_xml : is_xml_char 93 ≡ true
 unfolding is_xml_char
 bracket_xml = refl
 
-bracket_no_space : is_space 93 ≡ false
+pub bracket_no_space : is_space 93 ≡ false
 unfolding is_space
 bracket_no_space = refl
 
-are_xml : (cs : List ℕ) → AllByRecursion IsBracket cs → AllByRecursion IsXmlChar cs
+pub are_xml : (cs : List ℕ) → AllByRecursion IsBracket cs → AllByRecursion IsXmlChar cs
 are_xml [] h = tt
 are_xml (c ∷ cs) h = ((classes.xml c).0 (subst (λ (x : ℕ). is_xml_char x ≡ true) (sym h.0) bracket_xml), are_xml cs h.1)
 
@@ -113,7 +113,7 @@ brackets_blank bytes count r s = by r.0.characters r.1 (omega (arith, s, r.0.cou
 
 -- ---- a `]` as a token
 
-text_test : (x : Bool) → (stands_outside (Character 93) [] && not (x && (93 == 0xFEFF))) ≡ true
+pub text_test : (x : Bool) → (stands_outside (Character 93) [] && not (x && (93 == 0xFEFF))) ≡ true
 unfolding is_xml_char
 text_test true = refl
 text_test false = refl
@@ -128,17 +128,17 @@ bracket_next before text inside = record {
 
 -- ---- a reader behind them
 
-abbrev at_place : Tokenizer → ℕ → Tokenizer
+abbrev pub at_place : Tokenizer → ℕ → Tokenizer
 at_place z p = record { alloc = z.alloc; limit = z.limit; utf8 = z.utf8; position = z.position; scan = z.scan; draft = z.draft; start = p; place = p }
 
-abbrev behind : Context → ℕ → Context
+abbrev pub behind : Context → ℕ → Context
 behind k b = record { scope = k.scope; has_root = k.has_root; brackets = b }
 
 -- the reader at a place between tokens, behind so many literal `]`
-abbrev at : Reader → ℕ → ℕ → Reader
+abbrev pub at : Reader → ℕ → ℕ → Reader
 at r p b = record { tokenizer = at_place r.tokenizer p; context = behind r.context b; failed = r.failed }
 
-same_place : (p : ℕ) → (p == p) ≡ true
+pub same_place : (p : ℕ) → (p == p) ≡ true
 same_place p = grind (arith, nat_tests)
 
 -- the count of literal `]` behind these

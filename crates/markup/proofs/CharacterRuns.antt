@@ -39,7 +39,7 @@ literal_not c (inr h) = high c h.0 where
 
 -- ---- a character as a token
 
-plain_not : (c : ℕ) → is_literal c ≡ true → (is_xml_char c ≡ true) × ((c == 13) ≡ false) × ((c == 60) ≡ false) × ((c == 38) ≡ false) × ((c == 93) ≡ false)
+pub plain_not : (c : ℕ) → is_literal c ≡ true → (is_xml_char c ≡ true) × ((c == 13) ≡ false) × ((c == 60) ≡ false) × ((c == 38) ≡ false) × ((c == 93) ≡ false)
 unfolding is_xml_char
 plain_not c h = (grind (arith, nat_tests), grind (arith, nat_tests), grind (arith, nat_tests), grind (arith, nat_tests), grind (arith, nat_tests))
 
@@ -82,7 +82,7 @@ module _ (before : List Token) (inside : is_outside before ≡ false) (c : ℕ) 
         by true = refl
         by false = refl
 
-  character_next : {limit : ℕ} → (c == 10) ≡ false → IsNext limit before (Character c)
+  pub character_next : {limit : ℕ} → (c == 10) ≡ false → IsNext limit before (Character c)
   character_next n = record { is = character_stands n; short = refl; clean = character_clean; stays = λ p. refl }
 
 line_stands : (before : List Token) (after : List ℕ) → stands before (LineEnd Lf) after ≡ true
@@ -91,13 +91,13 @@ line_stands before after = by (in_cdata before) where
   by true = refl
   by false = refl
 
-line_next : {limit : ℕ} (before : List Token) → IsNext limit before (LineEnd Lf)
+pub line_next : {limit : ℕ} (before : List Token) → IsNext limit before (LineEnd Lf)
 line_next before = record { is = line_stands before; short = refl; clean = refl; stays = λ p. refl }
 
-character_context : (before : List Token) (k : Context) (c : ℕ) → (c == 93) ≡ false → IsContext k before → IsContext (unbracketed k) (Character c ∷ before)
+pub character_context : (before : List Token) (k : Context) (c : ℕ) → (c == 93) ≡ false → IsContext k before → IsContext (unbracketed k) (Character c ∷ before)
 character_context before k c n i = record { scope = i.scope; root = i.root; brackets_are = sym (ap (λ (b : Bool). if b then one_more (brackets before) else 0) n) }
 
-line_context : (before : List Token) (k : Context) → IsContext k before → IsContext (unbracketed k) (LineEnd Lf ∷ before)
+pub line_context : (before : List Token) (k : Context) → IsContext k before → IsContext (unbracketed k) (LineEnd Lf ∷ before)
 line_context before k i = record { scope = i.scope; root = i.root; brackets_are = refl }
 
 -- ---- a reader behind them

@@ -30,6 +30,7 @@ pub mod Placed
 pub mod PlainLemmas
 pub mod NameBlocks
 pub mod OpenTags
+pub mod FollowedTokens
 pub mod WholeTokens
 pub mod InsideLemmas
 pub mod HeldBytes
@@ -40,6 +41,7 @@ pub mod LiteralRuns
 pub mod StartScans
 pub mod StartsFound
 pub mod CharacterRuns
+mod ClosedBrackets
 pub mod TokenizerLemmas
 pub mod Pending
 pub mod SettleLemmas

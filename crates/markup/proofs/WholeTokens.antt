@@ -1,38 +1,19 @@
 -- A reader behind a whole token, whatever follows it.
-use Rattle.std.proofs.Common.{◌≡◌, ℕ, true, false, ◌==◌, ◌+◌, List, [], ◌∷◌, ◌++◌, length, reverse, None, refl, sym, ◌∙◌, ap, subst, append_assoc, add-zero, length-append, arith}
-use Rattle.std.specs.List.{flat_map}
-use Rattle.std.specs.Bool.{if◌then◌else◌}
-use Rattle.std.proofs.lemmas.Bool.{eqb-true, both_ways}
+use Rattle.std.proofs.Common.{◌≡◌, ℕ, true, ◌==◌, List, [], ◌∷◌, ◌++◌, length, reverse, None}
 use Rattle.markup.specs.Token.{Token, token_bytes}
-use Rattle.markup.specs.Marks.{Cell, Front, stands, is_short}
+use Rattle.markup.specs.Marks.{stands, is_short}
 use Rattle.markup.specs.Events.{Placed, events, items_of}
 use Rattle.markup.specs.Faults.{rule_of}
 use Rattle.markup.specs.Scopes.{placed_at}
 use Rattle.markup.specs.Contexts.{IsContext}
-use Rattle.markup.specs.Drafts.{no_draft}
-use Rattle.markup.specs.ScanRuns.{At, position, ended_of}
-use Rattle.markup.specs.Tokenizers.{after_other, behind as behind_token, is_between, passed, IsOpen, open_at, FinishesBy}
-use Rattle.markup.specs.Inputs.{Any, Reads, with_pending}
+use Rattle.markup.specs.ScanRuns.{ended_of}
+use Rattle.markup.specs.Tokenizers.{after_other, behind as behind_token, is_between, passed}
+use Rattle.markup.specs.Inputs.{Any}
 use Rattle.markup.specs.Reading.{HasTakenUnder}
 use Rattle.markup.specs.declared.context.Context.{Context}
 use Rattle.markup.specs.declared.reader.Reader.{Reader}
 use Rattle.markup.specs.declared.scan.Position.{Position}
-use Rattle.markup.specs.declared.scan.Scan.{Scan}
-use Rattle.markup.specs.declared.scan.Scan.TheVariants.{Begin}
-use Rattle.markup.specs.declared.tokenizer.Finish.{Finish}
-use Rattle.markup.specs.declared.tokenizer.Finish.TheVariants.{Nothing, Open}
-use Rattle.markup.specs.declared.tokenizer.Tokenizer.{Tokenizer}
-use Rattle.markup.proofs.EventLemmas.{events_snoc}
-use Rattle.markup.proofs.InputEvents.{none_pending, not_return, no_return_none}
-use Rattle.markup.proofs.InputLemmas.{front_snoc, reverse_snoc, clean_snoc, reads_start}
-use Rattle.markup.proofs.OneFault.{behind}
-use Rattle.markup.proofs.PlainLemmas.{IsFresh, is_fresh}
-use Rattle.markup.proofs.SettleLemmas.{finishes_by}
-use Rattle.markup.proofs.TokenizerLemmas.{none_front, position_behind}
-
-no_bytes : (bytes : List ℕ) (place start : ℕ) → place ≡ start + length bytes → place ≡ start → bytes ≡ []
-no_bytes [] place start e s = refl
-no_bytes (b ∷ bytes) place start e s = absurd (omega (arith, e, s))
+use Rattle.markup.proofs.FollowedTokens.{none_open_then, all_told_then, keeps_next}
 
 -- a token that stands there whatever follows, and breaks no rule
 pub record IsNext (limit : ℕ) (before : List Token) (t : Token) : Type 0 where
@@ -43,78 +24,15 @@ pub record IsNext (limit : ℕ) (before : List Token) (t : Token) : Type 0 where
 
 -- where no token is open
 module _ {limit : ℕ} (r : Reader) (bytes : List ℕ) (told : List Placed) (h : HasTakenUnder limit r bytes told) (between : is_between r.tokenizer.scan ≡ true) (starts : (r.tokenizer.place == r.tokenizer.start) ≡ true) where
-  abbrev ts : List Token
-  ts = h.0
-
-  abbrev z : Tokenizer
-  z = r.tokenizer
-
-  fresh : IsFresh z
-  fresh = is_fresh z between starts (reverse ts) h.1.reads.bytes h.1.reads.opens
-
   pub none_open : h.1.reads.bytes ≡ []
-  none_open = no_bytes h.1.reads.bytes z.place z.start h.1.reads.opens.place_is (eqb-true z.place z.start starts)
+  none_open = none_open_then Any [] tt r bytes h.0 told h.1 between starts
 
-  pub begins_here : length (flat_map token_bytes ts) ≡ length bytes
-  begins_here = sym (reads_start Any z bytes ts [] tt h.1.reads h.1.place) ∙ (sym (eqb-true z.place z.start starts) ∙ h.1.place)
+  pub all_told : told ≡ events [] 0 h.0
+  all_told = all_told_then Any [] tt r bytes h.0 told h.1 between starts
 
-  pub all_told : told ≡ events [] 0 ts
-  all_told = h.1.told_are (open_at z.scan z) (finishes_by z (open_at z.scan z) refl) ∙ by z.scan between where
-    by : (s : Scan) → is_between s ≡ true → events [] 0 (with_pending (open_at s z) ts) ≡ events [] 0 ts
-    by (Begin p) b = ap (λ v. events [] 0 (with_pending (if v then Nothing else Open) ts)) starts
-    by _ b = absurd (both_ways false refl b)
-
-  module _ (t : Token) (n : ℕ) (c : Context) (next : IsNext limit (reverse ts) t) (size : n ≡ length (token_bytes t)) (context : IsContext c (t ∷ reverse ts)) where
-    abbrev after : Tokenizer
-    after = passed z n
-
-    place_now : z.place + n ≡ length (bytes ++ token_bytes t)
-    place_now = ap (λ v. v + n) h.1.place ∙ (ap (λ v. length bytes + v) size ∙ sym (length-append bytes (token_bytes t)))
-
-    position_is : z.position ≡ position (t ∷ reverse ts)
-    position_is = sym fresh.position_stays ∙ (ap after_other h.1.reads.opens.position_is ∙ (sym (next.stays (position (reverse ts))) ∙ sym (position_behind (reverse ts) t [] (next.is []))))
-
-    opens : IsOpen limit after (t ∷ reverse ts) []
-    opens = record {
-      chars = [];
-      part = [];
-      bytes_are = refl;
-      utf8_is = fresh.utf8_none;
-      front = none_front;
-      scan_is = ap (λ p. At (Begin p) no_draft) (sym position_is) ∙ (ap (λ s. At s no_draft) fresh.scan_here ∙ ap (λ d. At z.scan d) fresh.draft_none);
-      position_is = position_is;
-      place_is = sym (add-zero (z.place + n));
-      limit_is = h.1.reads.opens.limit_is;
-      limited = h.1.reads.opens.limited;
-      short = λ b. absurd b;
-      settled = λ _. refl;
-    }
-
-    front : (more : List ℕ) → Front limit [] ((bytes ++ token_bytes t) ++ more) (ts ++ t ∷ []) more
-    front more =
-        let old : Front limit [] (bytes ++ (token_bytes t ++ more)) ts (token_bytes t ++ more) = subst (λ v. Front limit [] (bytes ++ (token_bytes t ++ more)) ts (v ++ (token_bytes t ++ more))) none_open (h.1.reads.front (token_bytes t ++ more) tt) in
-        subst (λ v. Front limit [] v (ts ++ t ∷ []) more) (sym (append_assoc bytes (token_bytes t) more))
-        (front_snoc limit [] (bytes ++ (token_bytes t ++ more)) (token_bytes t ++ more) more ts t old (subst (λ b. Cell b t (token_bytes t ++ more) more) (behind ts) (record { spelled = refl; is = next.is more })) next.short)
-
-    reads : Reads limit Any after (bytes ++ token_bytes t) (ts ++ t ∷ [])
-    reads = record { bytes = []; front = λ more _. front more; opens = subst (λ b. IsOpen limit after b []) (sym (reverse_snoc ts t)) opens }
-
-    told_now : (f : Finish) → FinishesBy after f → told ++ placed_at (length bytes) (items_of (reverse ts) t) ≡ events [] 0 (with_pending f (ts ++ t ∷ []))
-    told_now f q =
-        ap (λ v. v ++ placed_at (length bytes) (items_of (reverse ts) t)) all_told
-        ∙ (ap (λ v. events [] 0 ts ++ placed_at v (items_of (reverse ts) t)) (sym begins_here)
-        ∙ (sym (events_snoc ts t)
-        ∙ ap (events [] 0) (sym (none_pending f (ts ++ t ∷ []) (not_return after (t ∷ reverse ts) [] f opens q no_return_none)))))
-
-    pub takes_next : HasTakenUnder limit (record { tokenizer = after; context = c; failed = r.failed }) (bytes ++ token_bytes t) (told ++ placed_at (length bytes) (items_of (reverse ts) t))
-    takes_next = (
-      ts ++ t ∷ [],
-      record {
-        reads = reads;
-        clean = clean_snoc ts t h.1.clean next.clean;
-        place = place_now;
-        context = subst (IsContext c) (sym (reverse_snoc ts t)) context;
-        told_are = told_now;
-        sound = h.1.sound;
-      },
-    )
+  pub takes_next : (t : Token) (n : ℕ) (c : Context) → IsNext limit (reverse h.0) t → n ≡ length (token_bytes t) → IsContext c (t ∷ reverse h.0)
+      → HasTakenUnder limit (record { tokenizer = passed r.tokenizer n; context = c; failed = r.failed }) (bytes ++ token_bytes t) (told ++ placed_at (length bytes) (items_of (reverse h.0) t))
+  takes_next t n c next size context = (
+    h.0 ++ t ∷ [],
+    keeps_next Any [] tt r bytes h.0 told h.1 between starts Any [] tt t (λ more _. tt) n c (record { is = λ after _. next.is after; short = next.short; clean = next.clean; stays = next.stays }) size context,
+  )

@@ -5,3 +5,4 @@ pub mod Origins
 pub mod TagParts
 pub mod WholeStarts
 pub mod Numbers
+pub mod ClosedBrackets

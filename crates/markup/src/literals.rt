@@ -1,9 +1,10 @@
 // Runs of characters that stand by themselves.
-ghost use Rattle.std.specs.Prelude.{◌≡◌, ◌≤◌, ◌↔◌, IfSome, IsTrue, true, length, take};
+ghost use Rattle.std.specs.Prelude.{◌≡◌, ◌<◌, ◌≤◌, ◌↔◌, IfSome, IsTrue, true, length, take};
 ghost use Rattle.lexical_core.specs.Begun.{IsTail};
 ghost use Rattle.std.specs.List.{prefix_len, list_all};
 ghost use Rattle.markup.specs.Chars.{is_space};
 ghost use Rattle.markup.specs.Literals.{is_literal, is_still_space, IsAt, IsWideAt, IsFreeRun, IsBracketRun};
+ghost use Rattle.markup.specs.inner.ClosedBrackets.{IsClosedRun};
 
 use crate::characters::is_allowed;
 use crate::classes::{Blank, Literal, StillBlank};
@@ -218,4 +219,21 @@ pub(crate) fn bracket_length(piece: &[u8]) -> usize
         rest = behind;
     }
     count
+}
+
+/// How many bytes at the front of the piece are `]` with one character behind them that stands by
+/// itself; 0 where either is missing.
+pub(crate) fn closed_length(piece: &[u8]) -> usize
+    ensures within { result ≤ length piece.now }
+    ensures only { 0 < result → IsClosedRun (take result piece.now) result }
+{
+    let count = bracket_length(piece);
+    if count == 0 {
+        return 0;
+    }
+    let (_, behind) = piece.split_at(count);
+    let Some((next, _)) = behind.split_first() else {
+        return 0;
+    };
+    if Literal.has(*next) { count + 1 } else { 0 }
 }

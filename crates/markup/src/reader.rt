@@ -120,10 +120,11 @@ impl Reader {
 
     /// Takes the characters at the front of the piece that stand by themselves, where an element is
     /// open and no token is: tabs, LFs, and those from U+0020 on that XML has, up to the first `<`,
-    /// `&`, `]` or `>`, and to the first that is not whole; or, outside CDATA sections, the `]` that
-    /// stand there. Each is a character at its place, told by their number alone; any other byte is
-    /// for `take`. It answers how many bytes and characters they are, and whether all are white space,
-    /// and after an error none. It takes no memory.
+    /// `&`, `]` or `>`, and to the first that is not whole; or the `]` that stand there, in a CDATA
+    /// section with the character behind them, without which they may begin its end. Each is a
+    /// character at its place, told by their number alone; any other byte is for `take`. It answers how
+    /// many bytes and characters they are, and whether all are white space, and after an error none. It
+    /// takes no memory.
     pub fn take_characters(&mut self, piece: &[u8]) -> Run
         requires { failed self.old ≡ None → taken self.old + length piece.now ≤ 2 ^ 40 }
         ensures within { result.bytes ≤ length piece.now }

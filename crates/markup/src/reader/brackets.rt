@@ -7,13 +7,15 @@ ghost use Rattle.markup.specs.Events.{Placed};
 ghost use Rattle.markup.specs.Literals.{IsRun, IsBracketRun, characters_from};
 ghost use Rattle.markup.specs.Reading.{taken, failed, HasTakenUnder, HasToldUnder};
 ghost use Rattle.markup.specs.Tokenizers.{is_in_text};
+ghost use Rattle.markup.specs.inner.ClosedBrackets.{IsClosedRun};
+ghost use Rattle.markup.specs.inner.ReaderSteps.{IsReady};
 
 use super::{MarkError, Reader};
-use crate::literals::{Run, bracket_length};
+use crate::literals::{Run, bracket_length, closed_length};
 
 impl Reader {
-    /// Takes the `]` at the front of the piece, where an element is open, and no token and no CDATA
-    /// section.
+    /// Takes the `]` at the front of the piece, where an element is open and no token is. In a CDATA
+    /// section, which may end with them, it takes them with the character behind them alone.
     pub(super) fn take_brackets(&mut self, piece: &[u8]) -> Run
         requires { failed self.old ≡ None → taken self.old + length piece.now ≤ 2 ^ 40 }
         ensures within { result.bytes ≤ length piece.now }
@@ -27,11 +29,7 @@ impl Reader {
     {
         let count = self.count_brackets(piece);
         if count == 0 {
-            return Run {
-                bytes: 0,
-                characters: 0,
-                blank: true,
-            };
+            return self.take_closed(piece);
         }
         self.tokenizer.pass(count as u64);
         self.context.pass_brackets(count);
@@ -62,5 +60,55 @@ impl Reader {
             return 0;
         }
         bracket_length(piece)
+    }
+
+    /// Takes the `]` at the front of the piece with the character behind them.
+    fn take_closed(&mut self, piece: &[u8]) -> Run
+        requires { failed self.old ≡ None → taken self.old + length piece.now ≤ 2 ^ 40 }
+        ensures within { result.bytes ≤ length piece.now }
+        ensures only { IsRun (take result.bytes piece.now) result.characters }
+        ensures blank { result.blank ≡ list_all is_space (take result.bytes piece.now) }
+        ensures taken { (limit : ℕ) (bytes : List ℕ) (told : List Placed) → HasTakenUnder limit self.old bytes told →
+            (run : IsRun (take result.bytes piece.now) result.characters) × HasToldUnder limit self.new (bytes ++ take result.bytes piece.now) (told ++ characters_from (length bytes) run.characters) }
+        ensures count { taken self.new ≡ taken self.old + result.bytes }
+        ensures failed { failed self.new ≡ failed self.old }
+        ensures again { (e : MarkError) → failed self.old ≡ Some e → (result.bytes ≡ 0) × (result.characters ≡ 0) × (self.new ≡ self.old) }
+    {
+        let count = self.count_closed(piece);
+        if count == 0 {
+            return Run {
+                bytes: 0,
+                characters: 0,
+                blank: true,
+            };
+        }
+        self.tokenizer.pass(count as u64);
+        self.context.pass_characters();
+        Run {
+            bytes: count,
+            characters: count,
+            blank: false,
+        }
+    }
+
+    /// How many bytes at the front of the piece are `]` with one character behind them that stands by
+    /// itself, where one may come.
+    fn count_closed(&self, piece: &[u8]) -> usize
+        ensures within { result ≤ length piece.now }
+        ensures only { 0 < result → IsClosedRun (take result piece.now) result }
+        ensures ready { 0 < result → IsReady self.now }
+        ensures sound { 0 < result → failed self.now ≡ None }
+        ensures none { (e : MarkError) → failed self.now ≡ Some e → result ≡ 0 }
+    {
+        if self.failed.is_some() {
+            return 0;
+        }
+        if !self.tokenizer.is_ready() {
+            return 0;
+        }
+        if !self.context.has_open() {
+            return 0;
+        }
+        closed_length(piece)
     }
 }

@@ -1,14 +1,6 @@
 use Rattle.std.proofs.Common.{◌<◌, arith}
 use Rattle.markup.proofs.BracketRuns.{passes_brackets, brackets_blank}
-use Rattle.markup.proofs.CharacterRuns.{passes_none}
-use Rattle.markup.proofs.LiteralRuns.{no_run}
 use Rattle.markup.proofs.reader.Reader.take_brackets.Goals as goal
-
-pub returns-then-count-eq0-clause-only : goal.returns-then-count-eq0-clause-only
-returns-then-count-eq0-clause-only c = no_run.0
-
-pub returns-then-count-eq0-clause-taken : goal.returns-then-count-eq0-clause-taken
-returns-then-count-eq0-clause-taken c limit bytes told h = (no_run.0, passes_none c.args.self.now c.args.piece.now bytes told 0 0 (omega arith) no_run.0 h)
 
 pub pass-requires : goal.pass-requires
 pass-requires c =
