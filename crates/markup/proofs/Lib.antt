@@ -65,6 +65,7 @@ pub mod TagPartLemmas
 pub mod ExpandedLemmas
 pub mod WholeTags
 pub mod ScopeLemmas
+mod OneAttributeLemmas
 pub mod Twins
 pub mod SortedAttributes
 pub mod OneMarking

@@ -3,6 +3,7 @@ pub mod Inside
 pub mod ReaderSteps
 pub mod Origins
 pub mod TagParts
+pub mod OneAttribute
 pub mod WholeStarts
 pub mod Numbers
 pub mod ClosedBrackets

@@ -31,6 +31,7 @@ pub mod laws;
 mod literals;
 mod names;
 mod namespace;
+mod one_attribute;
 mod open_names;
 mod origin;
 mod plain_tag;
