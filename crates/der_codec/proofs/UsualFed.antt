@@ -1,26 +1,20 @@
 -- Components of the usual form, in a checker that keeps no pieces.
 use Rattle.std.specs.Prelude.{Ok, Err, Result}
-use Rattle.std.proofs.Common.{◌≡◌, ℕ, zero, suc, ◌+◌, ◌-◌, ◌≤◌, ◌^◌, List, [], ◌∷◌, ◌++◌, length, take, Option, None, refl, sym, ap, ◌∙◌, subst, arith, append-nil}
+use Rattle.std.proofs.Common.{◌≡◌, ℕ, zero, suc, ◌+◌, ◌≤◌, ◌<◌, ◌^◌, List, ◌++◌, length, take, Option, None, refl, sym, ◌∙◌, subst, arith}
 use Rattle.inst_pool.specs.Pieces.{Region}
 use Rattle.message_model.specs.Tables.{Tables}
 use Rattle.der_model.specs.DerMessage.{DerMessage, der_message}
-use Rattle.der_codec.specs.Decoding.{HasRead, IsFresh, IsSettled}
+use Rattle.der_codec.specs.Decoding.{HasRead}
 use Rattle.der_codec.specs.KeptPieces.{KeepsShown}
 use Rattle.der_codec.specs.Checking.{IsReading, HasFed, TakesFront, StopsWithin, fed}
 use Rattle.der_codec.specs.declared.checker.DerChecker.{DerChecker}
 use Rattle.der_codec.specs.declared.decoder.Decoder.{Decoder}
 use Rattle.der_codec.specs.declared.decoder.Stop.{Stop}
-use Rattle.der_codec.proofs.Fed.{taken_front, stopped_front, within_more, joined}
+use Rattle.der_codec.proofs.Fed.{taken_front, stopped_front, joined}
 use Rattle.std.specs.Global.{Vec}
 
 pub none_shown : (m : DerMessage ℕ) (d : Decoder) (kept : Option Region) (bytes : List ℕ) → kept ≡ None → KeepsShown m d kept bytes
 none_shown m d kept bytes none = subst (λ z. KeepsShown m d z bytes) (sym none) tt
-
--- two octets and so many behind them
-pub front_more : (piece behind others : List ℕ) (o n k : ℕ) → piece ≡ o ∷ behind → behind ≡ n ∷ others → take (2 + k) piece ≡ o ∷ n ∷ take k others
-front_more piece behind others o n k a b =
-    let two : 2 + k ≡ suc (suc k) = omega arith in
-    ap (take (2 + k)) (a ∙ ap (λ z. o ∷ z) b) ∙ ap (λ z. take z (o ∷ n ∷ others)) two
 
 -- where nothing but checks is changed, the same bytes were given
 pub fed_as : (T : Tables) (old new : DerChecker) (bytes : List ℕ) → new.decoder ≡ old.decoder → new.kept ≡ old.kept → new.pieces ≡ old.pieces → new.failed ≡ old.failed → HasFed old T bytes → HasFed new T bytes
@@ -51,3 +45,7 @@ pub usual_stopped : (T : Tables) (old mid new : DerChecker) (piece : List ℕ) (
     → ((bytes : List ℕ) → HasRead (der_message T) mid.decoder bytes → StopsWithin T new.decoder bytes s) → TakesFront T old new piece (Err s)
 usual_stopped T old mid new piece n s read stops =
     stopped_front T old new piece (take n piece) _ s (joined n piece) (λ bytes h. stops (bytes ++ take n piece) (read bytes h.reading.read))
+
+pub some_taken : (n : ℕ) → (n ≡ 0 → ⊥) → 0 < n
+some_taken zero none = absurd (none refl)
+some_taken (suc n) none = omega arith

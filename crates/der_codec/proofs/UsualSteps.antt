@@ -1,7 +1,7 @@
 -- Headers of two octets, taken at once, and leaves with them.
 use Rattle.std.specs.Prelude.{IfSome}
-use Rattle.std.proofs.lemmas.List.{length-take-le}
-use Rattle.std.proofs.Common.{◌≡◌, ℕ, ◌+◌, ◌<◌, ◌≤◌, Bool, true, false, List, [], ◌∷◌, ◌++◌, length, take, drop, Option, Some, None, refl, sym, ap, ◌∙◌, subst, arith, append_assoc}
+use Rattle.std.proofs.lemmas.List.{length-take-le, length-drop}
+use Rattle.std.proofs.Common.{◌≡◌, ℕ, zero, suc, ◌+◌, ◌<◌, ◌≤◌, ◌^◌, Bool, true, false, List, [], ◌∷◌, ◌++◌, length, take, drop, Option, Some, None, refl, sym, ap, ◌∙◌, subst, arith, append_assoc, length-append}
 use Rattle.der_octets.specs.TagSteps.{tag_view}
 use Rattle.der_octets.specs.LengthSteps as lengths
 use Rattle.der_octets.specs.declared.tag_step.Identifier as ids
@@ -12,15 +12,16 @@ use Rattle.reference_check.specs.Words.{UpTo}
 use Rattle.der_model.specs.DerMessage.{DerMessage}
 use Rattle.der_codec.specs.Levels.{IsLevel, inwards, first_of, rest_of}
 use Rattle.der_codec.specs.Components.{IsFound}
-use Rattle.der_codec.specs.Decoding.{Reads, HasRead, IsBelow, end_of_first, level_at, HasIdentifier}
+use Rattle.der_codec.specs.Decoding.{Reads, HasRead, IsBelow, IsFresh, end_of_first, due_after, level_at, HasIdentifier}
 use Rattle.der_codec.specs.Judging.{HoldsContents}
 use Rattle.der_codec.specs.inner.Entering.{Awaits, Enters, Passes}
 use Rattle.der_codec.specs.declared.components.Found.TheVariants as found
 use Rattle.der_codec.specs.declared.decoder.Decoder.{Decoder}
+use Rattle.der_codec.specs.declared.decoder.Due.{Due}
 use Rattle.der_codec.specs.declared.decoder.Due.TheVariants as due
 use Rattle.der_codec.specs.declared.level.Spot.{Spot}
 use Rattle.der_codec.specs.declared.level.Level.{Level}
-use Rattle.der_codec.proofs.ContentsSteps.{contents_clean, none_kept}
+use Rattle.der_codec.proofs.ContentsSteps.{contents_clean, none_kept, place_counts}
 use Rattle.der_codec.proofs.StepTies.{reads_as, begin_read, open_primitive, open_constructed, short_has}
 
 -- a length octet below 128 opens the value whose length is due
@@ -98,3 +99,45 @@ pub passed_read : (m : DerMessage ℕ) (old new : Decoder) (level : Level) (spot
     → IfSome result (λ k. HasRead m new (bytes ++ o ∷ n ∷ take k behind))
 passed_read m old new level spot bytes behind o n number None same within p f = same
 passed_read m old new level spot bytes behind o n number (Some k) same within p f = f (take k behind) (length-take-le k behind within ∙ same) p
+
+-- two octets and so many behind them
+pub front_more : (piece behind others : List ℕ) (o n k : ℕ) → piece ≡ o ∷ behind → behind ≡ n ∷ others → take (2 + k) piece ≡ o ∷ n ∷ take k others
+front_more piece behind others o n k a b =
+    let two : 2 + k ≡ suc (suc k) = omega arith in
+    ap (take (2 + k)) (a ∙ ap (λ z. o ∷ z) b) ∙ ap (λ z. take z (o ∷ n ∷ others)) two
+
+-- ---- ends behind components
+
+still_due : (d : Due) (xs : List Level) → 0 < length xs → due_after d xs ≡ d
+still_due d [] some = absurd (omega (arith, some))
+still_due d (x ∷ xs) some = refl
+
+-- where another value is round the one that ends, no identifier octet has come
+pub fresh_after : (old new : Decoder) (ended : Bool) → IsFresh old.due → 2 ≤ length old.levels.items → (ended ≡ false → new ≡ old) → (ended ≡ true → length new.levels.items + 1 ≡ length old.levels.items)
+    → (ended ≡ true → new.due ≡ due_after old.due new.levels.items) → IsFresh new.due
+fresh_after old new true fresh two same one ends = (let size = one refl in subst IsFresh (sym (ends refl ∙ still_due old.due new.levels.items (omega (arith, size, two)))) fresh)
+fresh_after old new false fresh two same one ends = subst (λ (z : Decoder). IsFresh z.due) (sym (same refl)) fresh
+
+-- ---- components behind components
+
+take_none : (n : ℕ) → take {A = ℕ} n [] ≡ []
+take_none zero = refl
+take_none (suc n) = refl
+
+take_then : (n k : ℕ) (xs : List ℕ) → take n xs ++ take k (drop n xs) ≡ take (n + k) xs
+take_then zero k xs = (let same : 0 + k ≡ k = omega arith in ap (λ z. take z xs) (sym same))
+take_then (suc n) k [] = take_none k ∙ sym (take_none (suc n + k))
+take_then (suc n) k (x ∷ xs) = (let same : suc n + k ≡ suc (n + k) = omega arith in ap (λ z. x ∷ z) (take_then n k xs) ∙ ap (λ z. take z (x ∷ xs)) (sym same))
+
+pub run_more : (bytes piece rest : List ℕ) (taken count : ℕ) → rest ≡ drop taken piece → (bytes ++ take taken piece) ++ take count rest ≡ bytes ++ take (taken + count) piece
+run_more bytes piece rest taken count is =
+    append_assoc bytes (take taken piece) (take count rest) ∙ ap (λ z. bytes ++ z) (ap (λ z. take taken piece ++ take count z) is ∙ take_then taken count piece)
+
+pub run_room : (m : DerMessage ℕ) (old mid : Decoder) (bytes piece rest : List ℕ) (taken : ℕ) → rest ≡ drop taken piece → HasRead m old bytes → HasRead m mid (bytes ++ take taken piece) → taken ≤ length piece → old.place + length piece ≤ 2 ^ 40 → mid.place + length rest ≤ 2 ^ 40
+run_room m old mid bytes piece rest taken is r q within room =
+    let a = place_counts m (inwards old.levels.items) old.due old.start old.place bytes r in
+    let b = place_counts m (inwards mid.levels.items) mid.due mid.start mid.place (bytes ++ take taken piece) q in
+    let sum = length-append bytes (take taken piece) in
+    let front = length-take-le taken piece within in
+    let behind = ap length is ∙ length-drop taken piece in
+    omega (arith, a, b, sum, front, behind, within, room)

@@ -1,5 +1,5 @@
 // A checker of the DER of instances that takes their bytes in pieces.
-ghost use Rattle.std.specs.Prelude.{◌≡◌, ◌<◌, ◌+◌, ◌≤◌, ◌^◌, ◌++◌, ℕ, List, [], IfOk, IfErr, IfSome, IfNone, Some, None, Err, length, take};
+ghost use Rattle.std.specs.Prelude.{◌≡◌, ◌<◌, ◌+◌, ◌≤◌, ◌^◌, ◌++◌, ℕ, List, [], IfOk, IfErr, Some, None, Err, length, take};
 ghost use Rattle.message_model.specs.Tables.{Tables, types_of};
 ghost use Rattle.der_model.specs.DerMessage.{der_message};
 ghost use Rattle.der_codec.specs.Checked.{CheckTypes};
@@ -215,8 +215,8 @@ impl DerChecker {
         }
     }
 
-    /// Takes a component of the usual form as a whole, where one stands here, or else the first byte of a header; and ends
-    /// the values that end behind it.
+    /// Takes components of the usual form as long as they stand here, or else the first byte of a header; and ends the
+    /// values that end behind it.
     #[inline(always)]
     fn take_header(&mut self, model: &Model, piece: &[u8]) -> Result<usize, Stop>
         requires some { 0 < length piece.now }
@@ -228,45 +228,37 @@ impl DerChecker {
         ensures front { TakesFront model.now self.old self.new piece.now result }
         ensures some { IfOk result (λ n. 0 < n) }
     {
-        match self.take_usual(model, piece) {
-            None => self.take_first(model, piece),
-            Some(count) => match self.end_here(model) {
-                Ok(()) => Ok(2 + count),
-                Err(stop) => Err(stop),
-            },
+        let taken = self.take_run(model, piece);
+        if taken == 0 {
+            return self.take_first(model, piece);
+        }
+        match self.end_here(model) {
+            Ok(()) => Ok(taken),
+            Err(stop) => Err(stop),
         }
     }
 
-    /// Takes the header of a component, where it is of the usual form, with it the contents of a leaf, nothing is refused
-    /// and no pieces are kept. It answers how many octets it takes behind the header; where it takes none, only checks are
-    /// changed.
+    /// Takes components of the usual form as long as they stand here, where no pieces are kept. It answers how many octets
+    /// that are; where they are none, only checks are changed.
     #[inline(always)]
-    fn take_usual(&mut self, model: &Model, piece: &[u8]) -> Option<usize>
+    fn take_run(&mut self, model: &Model, piece: &[u8]) -> usize
         requires room { fed self.old + length piece.now ≤ 2 ^ 40 }
-        requires due { IsHeaderDue self.old.decoder.due }
         requires checks { CheckTypes (types_of model.now) self.old.checks }
         requires given { (bytes : List ℕ) × HasFed self.old model.now bytes }
         ensures checks { CheckTypes (types_of model.now) self.new.checks }
-        ensures unchanged { IfNone result (self.new.decoder ≡ self.old.decoder) }
+        ensures unchanged { result ≡ 0 → self.new.decoder ≡ self.old.decoder }
         ensures kept { self.new.kept ≡ self.old.kept }
         ensures pieces { self.new.pieces ≡ self.old.pieces }
         ensures sound { self.new.failed ≡ self.old.failed }
-        ensures none { IfSome result (λ _. self.new.pieces ≡ None) }
-        ensures within { IfSome result (λ n. 2 + n ≤ length piece.now) }
-        ensures ok { (bytes : List ℕ) → HasRead (der_message model.now) self.old.decoder bytes → IfSome result (λ n. HasRead (der_message model.now) self.new.decoder (bytes ++ take (2 + n) piece.now)) }
-        ensures fresh { IfSome result (λ _. IsFresh self.new.decoder.due) }
+        ensures none { 0 < result → self.new.pieces ≡ None }
+        ensures within { result ≤ length piece.now }
+        ensures ok { (bytes : List ℕ) → HasRead (der_message model.now) self.old.decoder bytes → HasRead (der_message model.now) self.new.decoder (bytes ++ take result piece.now) }
+        ensures fresh { 0 < result → IsFresh self.new.decoder.due }
     {
         if self.pieces.is_some() {
-            return None;
+            return 0;
         }
-        let Some((first, behind)) = piece.split_first() else {
-            return None;
-        };
-        let Some((second, contents)) = behind.split_first() else {
-            return None;
-        };
-        self.decoder
-            .take_usual(&mut self.checks, model, *first, *second, contents)
+        self.decoder.take_run(&mut self.checks, model, piece)
     }
 
     /// Takes the first byte of the piece, which is one of a header, with it a length of one byte and the contents where

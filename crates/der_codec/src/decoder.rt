@@ -174,6 +174,9 @@ impl Decoder {
         ensures one { IfOk result (λ ended. ended ≡ true → length self.new.levels.items + 1 ≡ length self.old.levels.items) }
         ensures open { (fragment : Tree → List ℕ) (bytes : List ℕ) → HasRead (in_der fragment (message_of model.now)) self.old bytes → IfOk result (λ ended. ended ≡ false → (self.new ≡ self.old) × IsBelow self.old.place (end_of_levels self.old.levels.items)) }
         ensures fault { IsErrOf result Stop.Memory → ⊥ }
+        ensures same { IfOk result (λ ended. ended ≡ false → self.new ≡ self.old) }
+        ensures kept { IfErr result (λ _. self.new ≡ self.old) }
+        ensures due { IfOk result (λ ended. ended ≡ true → self.new.due ≡ due_after self.old.due self.new.levels.items) }
         ensures room { vec_capacity self.old.levels ≤ vec_capacity self.new.levels }
         ensures stays { (fragment : Tree → List ℕ) (bytes : List ℕ) → HasRead (in_der fragment (message_of model.now)) self.old bytes → IfErr result (λ stop. IsNoCut stop) }
     {

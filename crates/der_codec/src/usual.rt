@@ -6,7 +6,7 @@ ghost use Rattle.der_model.specs.DerMessage.{der_message};
 ghost use Rattle.der_codec.specs.Checked.{CheckTypes};
 ghost use Rattle.der_codec.specs.Judging.{HoldsContents};
 ghost use Rattle.der_codec.specs.Levels.{inwards, rest_of};
-ghost use Rattle.der_codec.specs.Decoding.{HasRead, IsBelow, IsFresh, end_of_levels, HasIdentifier, level_at};
+ghost use Rattle.der_codec.specs.Decoding.{HasRead, IsBelow, IsFresh, IsWaiting, end_of_levels, HasIdentifier, level_at};
 ghost use Rattle.der_codec.specs.inner.Entering.{Enters, Passes};
 ghost use Rattle.der_octets.specs.declared.tag_step.TagStep.{TagStep as Steps};
 
@@ -20,11 +20,105 @@ use der_octets::{Identifier, TagRead, TagStep};
 use message_model::Model;
 
 impl Decoder {
+    /// Takes as many components of the usual form as stand at the front, and ends the values that end behind them. It
+    /// answers how many octets that are. Where they are none, nothing of the decoder is changed; else values may still
+    /// end at the place that it comes to, where one of them breaks a rule or is the last.
+    pub(crate) fn take_run(&mut self, checks: &mut Checks, model: &Model, piece: &[u8]) -> usize
+        requires room { self.old.place + length piece.now ≤ 2 ^ 40 }
+        requires waits { IsWaiting self.old.due self.old.place (end_of_levels self.old.levels.items) }
+        requires checks { CheckTypes (types_of model.now) checks.old }
+        requires read { (bytes : List ℕ) × HasRead (der_message model.now) self.old bytes }
+        ensures checks { CheckTypes (types_of model.now) checks.new }
+        ensures ok { (bytes : List ℕ) → HasRead (der_message model.now) self.old bytes → HasRead (der_message model.now) self.new (bytes ++ take result piece.now) }
+        ensures none { result ≡ 0 → self.new ≡ self.old }
+        ensures within { result ≤ length piece.now }
+        ensures fresh { 0 < result → IsFresh self.new.due }
+    {
+        let mut taken = 0_usize;
+        loop {
+            let (_front, rest) = piece.split_at(taken);
+            let count = match self.take_next(checks, model, rest) {
+                Some(count) => count,
+                None => return taken,
+            };
+            taken += count;
+            if !self.end_usual(model) {
+                return taken;
+            }
+        }
+    }
+
+    /// Takes the component at the front, where it is of the usual form and nothing is refused. It answers how many octets
+    /// it takes; where it takes none, nothing of the decoder is changed.
+    #[inline(always)]
+    fn take_next(&mut self, checks: &mut Checks, model: &Model, piece: &[u8]) -> Option<usize>
+        requires room { self.old.place + length piece.now ≤ 2 ^ 40 }
+        requires waits { IsWaiting self.old.due self.old.place (end_of_levels self.old.levels.items) }
+        requires checks { CheckTypes (types_of model.now) checks.old }
+        requires read { (bytes : List ℕ) × HasRead (der_message model.now) self.old bytes }
+        ensures checks { CheckTypes (types_of model.now) checks.new }
+        ensures ok { (bytes : List ℕ) → HasRead (der_message model.now) self.old bytes → IfSome result (λ n. HasRead (der_message model.now) self.new (bytes ++ take n piece.now)) }
+        ensures kept { IfNone result (self.new ≡ self.old) }
+        ensures some { IfSome result (λ n. 0 < n) }
+        ensures within { IfSome result (λ n. n ≤ length piece.now) }
+        ensures fresh { IfSome result (λ _. IsFresh self.new.due) }
+    {
+        let Some((first, behind)) = piece.split_first() else {
+            return None;
+        };
+        let Some((second, contents)) = behind.split_first() else {
+            return None;
+        };
+        match self.take_usual(checks, model, *first, *second, contents) {
+            Some(count) => Some(2 + count),
+            None => None,
+        }
+    }
+
+    /// Ends the values that end at this place, where no identifier octet has come. It answers whether an octet is awaited
+    /// then: where an end breaks a rule, or is that of the instance, no more is ended.
+    #[inline(always)]
+    fn end_usual(&mut self, model: &Model) -> bool
+        requires { IsFresh self.old.due }
+        ensures ok { (bytes : List ℕ) → HasRead (der_message model.now) self.old bytes → HasRead (der_message model.now) self.new bytes }
+        ensures fresh { IsFresh self.new.due }
+        ensures low { result ≡ true → (bytes : List ℕ) → HasRead (der_message model.now) self.old bytes → IsBelow self.new.place (end_of_levels self.new.levels.items) }
+    {
+        loop {
+            let ends = self.ends_here();
+            if !ends {
+                return true;
+            }
+            if !self.end_inner(model) {
+                return false;
+            }
+        }
+    }
+
+    /// Ends the innermost value where it ends at this place, breaks no rule so, and another is round it. It answers
+    /// whether it has.
+    #[inline(always)]
+    fn end_inner(&mut self, model: &Model) -> bool
+        requires { IsFresh self.old.due }
+        ensures ok { (bytes : List ℕ) → HasRead (der_message model.now) self.old bytes → HasRead (der_message model.now) self.new bytes }
+        ensures fresh { IsFresh self.new.due }
+        ensures less { result ≡ true → length self.new.levels.items < length self.old.levels.items }
+    {
+        let count = self.levels.len();
+        if count < 2 {
+            return false;
+        }
+        match self.end(model) {
+            Ok(ended) => ended,
+            Err(_stop) => false,
+        }
+    }
+
     /// Takes two octets, an identifier octet and a length octet of a component, where they are the last of their parts
     /// and nothing is refused; with them the contents of a leaf, where all of them stand behind. It answers how many
     /// octets it takes of those behind. Where it takes none, nothing of the decoder is changed.
     #[inline(always)]
-    pub(crate) fn take_usual(
+    fn take_usual(
         &mut self,
         checks: &mut Checks,
         model: &Model,
@@ -33,7 +127,7 @@ impl Decoder {
         behind: &[u8],
     ) -> Option<usize>
         requires room { self.old.place + 2 + length behind.now ≤ 2 ^ 40 }
-        requires low { IsBelow self.old.place (end_of_levels self.old.levels.items) }
+        requires waits { IsWaiting self.old.due self.old.place (end_of_levels self.old.levels.items) }
         requires checks { CheckTypes (types_of model.now) checks.old }
         requires read { (bytes : List ℕ) × HasRead (der_message model.now) self.old bytes }
         ensures checks { CheckTypes (types_of model.now) checks.new }

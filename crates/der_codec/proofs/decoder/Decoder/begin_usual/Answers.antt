@@ -1,4 +1,4 @@
-use Rattle.std.proofs.Common.{◌≡◌, true, false, sym, subst, arith}
+use Rattle.std.proofs.Common.{true, sym, subst, arith}
 use Rattle.fragments.specs.Fragment.{fragment}
 use Rattle.der_model.specs.DerMessage.{der_message}
 use Rattle.der_codec.specs.Levels.{inwards}

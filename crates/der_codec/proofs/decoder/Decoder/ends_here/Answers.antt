@@ -1,6 +1,6 @@
-use Rattle.std.proofs.Common.{◌≡◌, sym, ◌∙◌, subst, None}
+use Rattle.std.proofs.Common.{sym}
 use Rattle.der_codec.specs.Levels.{inwards}
-use Rattle.der_codec.specs.Decoding.{IsBelow, end_of_first}
+use Rattle.der_codec.specs.Decoding.{end_of_first}
 use Rattle.der_codec.proofs.Nested.{fresh_within, not_at_end}
 use Rattle.der_codec.proofs.decoder.Decoder.ends_here.Goals as goal
 

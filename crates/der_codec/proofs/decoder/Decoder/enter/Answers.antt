@@ -1,4 +1,4 @@
-use Rattle.std.proofs.Common.{◌+◌, ◌∷◌, refl, arith}
+use Rattle.std.proofs.Common.{refl, arith}
 use Rattle.der_codec.proofs.decoder.Decoder.enter.Goals as goal
 
 pub returns-clause-entered : goal.returns-clause-entered
