@@ -7,11 +7,11 @@ ghost use Rattle.data_types.specs.Leaf.{Leaf};
 ghost use Rattle.data_types.specs.Value.{Piece as PieceOf, Begins, Holds, Ends};
 ghost use Rattle.message_model.specs.Tables.{types_of};
 ghost use Rattle.der_model.specs.LeafContents.{leaf_contents};
-ghost use Rattle.inst_pool.specs.Pieces.{edge_of, piece_of, piece_bytes};
+ghost use Rattle.inst_pool.specs.Pieces.{edge_of, piece_bytes};
 ghost use Rattle.der_writer.specs.Measured.{IsMeasured};
-ghost use Rattle.der_writer.specs.inner.PieceOctets.{Begun, before_of, document_edge, leaf_octets};
+ghost use Rattle.der_writer.specs.inner.PieceOctets.{Begun, document_edge, leaf_octets};
 ghost use Rattle.der_writer.specs.inner.Passes.{Frame, Stage, innermost_frame, piece_step, stage};
-ghost use Rattle.der_writer.specs.inner.Measuring.{AreBeside, AreAwaited, NumbersAreKept, AreWithin, Knows, IsSizeOf, IsSizeBefore, before_place, following_at};
+ghost use Rattle.der_writer.specs.inner.Measuring.{AreBeside, AreAwaited, NumbersAreKept, AreWithin, Knows, IsSizeBefore, before_place, following_at};
 ghost use Rattle.der_writer.specs.inner.Heads.{before_view};
 
 use crate::contents::leaf_size;
@@ -61,28 +61,6 @@ fn unread() -> Seen
     }
 }
 
-/// What is read of a piece.
-#[inline(always)]
-fn read_piece(piece: &Piece<'_>) -> Seen
-    ensures before { before_view result.before ≡ before_of (piece_of piece.now) }
-    ensures size { IsSizeOf (piece_of piece.now) result.size }
-{
-    match piece {
-        Piece::Open(edge) => Seen {
-            before: Before::Begun(*edge),
-            size: 0,
-        },
-        Piece::Leaf(leaf) => Seen {
-            before: Before::Filled,
-            size: leaf_size(leaf),
-        },
-        Piece::Close(edge) => Seen {
-            before: Before::Ended(*edge),
-            size: 0,
-        },
-    }
-}
-
 /// What is read of the piece before a place.
 #[inline(always)]
 fn read_before(instance: &Instance, at: usize) -> Seen
@@ -93,7 +71,18 @@ fn read_before(instance: &Instance, at: usize) -> Seen
         return unread();
     }
     match instance.piece(at - 1) {
-        Some(piece) => read_piece(&piece),
+        Some(Piece::Open(edge)) => Seen {
+            before: Before::Begun(edge),
+            size: 0,
+        },
+        Some(Piece::Leaf(leaf)) => Seen {
+            before: Before::Filled,
+            size: leaf_size(&leaf),
+        },
+        Some(Piece::Close(edge)) => Seen {
+            before: Before::Ended(edge),
+            size: 0,
+        },
         None => unread(),
     }
 }
