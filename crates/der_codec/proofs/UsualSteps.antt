@@ -85,10 +85,6 @@ leaf_read m old new level bytes contents o n number id spot step r first has low
 
 -- ---- as the functions answer
 
-pub some_when : {A : Type 0} (o : Option A) (P Q : A → Type 0) → IfSome o P → ((x : A) → P x → Q x) → IfSome o Q
-some_when None P Q p f = p
-some_when (Some x) P Q p f = f x p
-
 pub entered_read : (m : DerMessage ℕ) (new : Decoder) (bytes behind : List ℕ) (o n : ℕ) (X : Type 0) (result : Option ℕ) → IfSome result (λ k. k ≡ 0) → IfSome result (λ k. X) → (X → HasRead m new (bytes ++ o ∷ n ∷ []))
     → IfSome result (λ k. HasRead m new (bytes ++ o ∷ n ∷ take k behind))
 entered_read m new bytes behind o n X None none x f = none
