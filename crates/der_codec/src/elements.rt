@@ -28,6 +28,7 @@ struct Elements {
 }
 
 /// The element of the slot of the type; a list is none.
+#[inline(always)]
 fn slot_element(model: &Model, parent: u32, slot: u32) -> Option<Edge>
     ensures { edge_if result ≡ slot_elements parent slot (slice_get (form_slots (types_of model.now parent)) slot) }
 {
@@ -45,6 +46,7 @@ fn slot_element(model: &Model, parent: u32, slot: u32) -> Option<Edge>
 }
 
 /// The element of the alternative of the type, where it is a choice.
+#[inline(always)]
 fn alternative_element(model: &Model, number: u32, slot: u32) -> Option<Edge>
     ensures { edge_if result ≡ slot_elements number slot (slice_get (alternatives_of (types_of model.now number)) slot) }
 {
@@ -55,6 +57,7 @@ fn alternative_element(model: &Model, number: u32, slot: u32) -> Option<Edge>
 }
 
 /// The elements of an item of the list in a slot, which is the alternative of this number where it is a choice.
+#[inline(always)]
 fn item_elements(model: &Model, parent: u32, slot: u32, alternative: u32) -> Elements
     ensures { (s : graph.Slot ℕ) → slice_get (form_slots (types_of model.now parent)) slot ≡ Some s
         → edges_of result ≡ component_elements (der_message model.now) (structures.ListOf parent slot s) alternative }
@@ -73,6 +76,7 @@ fn item_elements(model: &Model, parent: u32, slot: u32, alternative: u32) -> Ele
 }
 
 /// At most one element.
+#[inline(always)]
 fn one_element(outer: Option<Edge>) -> Elements
     ensures { edges_of result ≡ edge_if outer }
 {
@@ -80,6 +84,7 @@ fn one_element(outer: Option<Edge>) -> Elements
 }
 
 /// The elements that begin with the component of this number in a value.
+#[inline(always)]
 fn elements_at(model: &Model, spot: Spot, number: u32) -> Elements
     ensures { (of : structures.Spot ℕ) → IsSpot (types_of model.now) spot of → edges_of result ≡ component_elements (der_message model.now) of number }
 {
@@ -92,6 +97,7 @@ fn elements_at(model: &Model, spot: Spot, number: u32) -> Elements
 }
 
 /// The elements that began with the component of an open value that came last.
+#[inline(always)]
 fn last_begun(model: &Model, level: &Level) -> Elements
     ensures { (l : states.Level ℕ) → IsLevel (types_of model.now) level.now l → edges_of result ≡ last_elements (der_message model.now) l.spot l.came }
 {
@@ -102,6 +108,7 @@ fn last_begun(model: &Model, level: &Level) -> Elements
 }
 
 /// An element begins, where there is one.
+#[inline(always)]
 fn begin_one(builder: &mut Builder, element: Option<Edge>) -> Result<(), AllocError>
     ensures { OnOk result (builder.new.pieces ≡ builder.old.pieces ++ begin_each (edge_if element)) }
 {
@@ -112,6 +119,7 @@ fn begin_one(builder: &mut Builder, element: Option<Edge>) -> Result<(), AllocEr
 }
 
 /// The elements begin, the outermost first.
+#[inline(always)]
 fn begin_elements(builder: &mut Builder, begun: &Elements) -> Result<(), AllocError>
     ensures { OnOk result (builder.new.pieces ≡ builder.old.pieces ++ begin_each (edges_of begun.now)) }
 {
@@ -137,6 +145,7 @@ pub(crate) fn begin_component(
 }
 
 /// An element ends, where there is one.
+#[inline(always)]
 fn end_one(builder: &mut Builder, element: Option<Edge>) -> Result<(), AllocError>
     requires { (around : List EdgeOf) × (open_in builder.old.pieces ≡ edge_if element ++ around) }
     ensures ended { (around : List EdgeOf) → open_in builder.old.pieces ≡ edge_if element ++ around → OnOk result (builder.new.pieces ≡ builder.old.pieces ++ end_each (edge_if element)) }
@@ -149,6 +158,7 @@ fn end_one(builder: &mut Builder, element: Option<Edge>) -> Result<(), AllocErro
 }
 
 /// The elements end, the innermost first.
+#[inline(always)]
 fn end_elements(builder: &mut Builder, ended: &Elements) -> Result<(), AllocError>
     requires { (around : List EdgeOf) × (open_in builder.old.pieces ≡ reverse (edges_of ended.now) ++ around) }
     ensures { (around : List EdgeOf) → open_in builder.old.pieces ≡ reverse (edges_of ended.now) ++ around → OnOk result (builder.new.pieces ≡ builder.old.pieces ++ end_each (edges_of ended.now)) }
