@@ -1,12 +1,13 @@
 -- Where the parts of a date's text end.
-use Rattle.std.proofs.Common.{◌≡◌, ◌≢◌, ℕ, ◌+◌, ◌<◌, ◌≤◌, inl, inr, Bool, true, List, [], ◌∷◌, ◌++◌, length, take, drop, get_or, slice_index, sym, ap, subst, ◌∙◌, arith, take-append-drop, lit≤}
+use Rattle.std.proofs.Common.{◌≡◌, ◌≢◌, ℕ, ◌+◌, ◌-◌, ◌<◌, ◌≤◌, inl, inr, Bool, true, List, [], ◌∷◌, ◌++◌, length, take, drop, get_or, slice_index, sym, ap, subst, ◌∙◌, arith, take-append-drop, lit≤}
 use Rattle.std.proofs.Math.Seq.{take-append_seam, drop-append_seam}
-use Rattle.std.proofs.lemmas.List.{length-take-le}
+use Rattle.std.proofs.lemmas.Bool.{cases_lt}
+use Rattle.std.proofs.lemmas.List.{length-take-le, length-drop, length-append, get_or_append_left, get_or-append-add, get_or-take, get_or-drop}
 use Rattle.std.specs.Char.{digit_value}
 use Rattle.std.specs.Str.Parse.{AllDigits}
 use Rattle.lexical_core.specs.Exponents.{NoDigit}
 use Rattle.lexical_core.proofs.DecimalTexts.{digits_split}
-use Rattle.data_types.specs.Dates.{HasForm, IsFraction, IsZone}
+use Rattle.data_types.specs.Dates.{FitsPlace, HasForm, IsFraction, IsZone}
 use Rattle.data_types.specs.Kinds.{form_of}
 use Rattle.data_types.specs.declared.kind.Kind.{Kind}
 
@@ -51,4 +52,46 @@ fixed_split kind text fixed fraction zone n len form e =
     let count : n ≡ length fixed = sym (form.same_length ∙ len) in (
       ap (λ k. take k text) count ∙ (ap (take (length fixed)) e ∙ take-append_seam fixed (fraction ++ zone)),
       ap (λ k. drop k text) count ∙ (ap (drop (length fixed)) e ∙ drop-append_seam fixed (fraction ++ zone)),
+    )
+
+-- a byte that fits its place fits an equal one
+fits_same : {p q a b : ℕ} → p ≡ q → a ≡ b → FitsPlace p a → FitsPlace q b
+fits_same {p} {q} {a} {b} e f h = subst (λ x. FitsPlace x b) e (subst (λ x. FitsPlace p x) f h)
+
+-- a text of one form and behind it one of another
+pub forms_joined : (f g text : List ℕ) → length f ≤ length text → HasForm f (take (length f) text) → HasForm g (drop (length f) text) → HasForm (f ++ g) text
+forms_joined f g text room front back =
+    let n = length f in
+    let all = length-append f g in
+    let behind = length-drop n text in
+    let same = back.same_length in
+    record {
+      same_length = omega arith;
+      each = λ k below. elim (cases_lt k n) [
+        | inl early ↦ fits_same (sym (get_or_append_left f g 0 k early)) (get_or-take n text k 0 early) (front.each k early)
+        | inr late ↦
+            let at : n + (k - n) ≡ k = omega (arith, late) in
+            let inside : k - n < length g = omega (arith, late, below, all) in
+            fits_same (sym (get_or-append-add f g (k - n) 0) ∙ ap (λ i. get_or (f ++ g) i 0) at) (get_or-drop n text (k - n) 0 ∙ ap (λ i. get_or text i 0) at) (back.each (k - n) inside)
+      ];
+    }
+
+-- a text of two forms, one behind the other, is one of each in turn
+pub forms_parted : (f g text : List ℕ) → HasForm (f ++ g) text → (length f ≤ length text) × HasForm f (take (length f) text) × HasForm g (drop (length f) text)
+forms_parted f g text form =
+    let n = length f in
+    let all = length-append f g in
+    let same = form.same_length in
+    let room : n ≤ length text = omega arith in
+    let front = length-take-le n text room in
+    let back = length-drop n text in (
+      room,
+      record {
+        same_length = front;
+        each = λ k below. fits_same (get_or_append_left f g 0 k below) (sym (get_or-take n text k 0 below)) (form.each k (omega (arith, below, all)));
+      },
+      record {
+        same_length = omega arith;
+        each = λ k below. fits_same (get_or-append-add f g k 0) (sym (get_or-drop n text k 0)) (form.each (n + k) (omega (arith, below, all)));
+      },
     )

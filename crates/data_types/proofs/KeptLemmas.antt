@@ -1,5 +1,5 @@
 -- What is kept after some more bytes.
-use Rattle.std.proofs.Common.{◌≡◌, ℕ, ◌+◌, ◌-◌, List, ◌++◌, length, Option, Some, None, refl, sym, ap, subst, ◌∙◌, arith, length-append}
+use Rattle.std.proofs.Common.{◌≡◌, ℕ, ◌+◌, ◌-◌, List, ◌++◌, length, Option, Some, None, refl, sym, subst, ◌∙◌, arith, length-append}
 use Rattle.data_types.specs.declared.kept.Kept.{Kept}
 use Rattle.data_types.specs.Limits.{IsWithin, left_of}
 use Rattle.data_types.specs.Kept.{Holds}

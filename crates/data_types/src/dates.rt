@@ -1,5 +1,5 @@
 // Whether a collapsed text is one of a date or a time: XML Schema part 2 §3.2.7 to §3.2.14.
-ghost use Rattle.std.specs.Prelude.{◌≡◌, ◌≤◌, ◌<◌, ◌+◌, ◌-◌, ◌++◌, ◌↔◌, IsTrue, IfSome, length, take, drop, slice_index, List, ℕ};
+ghost use Rattle.std.specs.Prelude.{◌≡◌, ◌≤◌, ◌<◌, ◌+◌, ◌-◌, ◌++◌, ◌∷◌, [], ◌↔◌, codes, IsTrue, IfSome, length, take, drop, slice_index, List, ℕ};
 ghost use Rattle.std.specs.Str.Parse.{AllDigits};
 ghost use Rattle.data_types.specs.Kinds.{form_of, has_seconds};
 ghost use Rattle.data_types.specs.Dates.{IsDateText, HasForm, FitsPlace, HasParts, IsDay, IsClock, IsFraction, IsOffset, IsZone, two_at, four_at};
@@ -19,13 +19,74 @@ pub fn is_date_text(kind: Kind, text: &[u8]) -> bool
         return false;
     }
     let (fixed, rest) = text.split_at(form.len());
-    if !has_form(form, fixed) || !has_parts(kind, fixed) {
+    if !is_fixed_part(kind, fixed) {
         return false;
     }
     let Some(end) = fraction_end(has_seconds(kind), rest) else {
         return false;
     };
     is_zone(rest.split_at(end).1)
+}
+
+/// Whether the text is the part of this kind that has a fixed length. The usual kinds have ways of their own, in which
+/// the form is known, and so are the places of the digits that the numbers are made of.
+fn is_fixed_part(kind: Kind, text: &[u8]) -> bool
+    ensures { IsTrue result ↔ (HasForm (form_of kind) text.now × HasParts kind text.now) }
+{
+    match kind {
+        Kind::Date => is_fixed_date(text),
+        Kind::DateTime => is_fixed_date_time(text),
+        _ => is_other_fixed_part(kind, text),
+    }
+}
+
+/// Whether the text is a date without its zone.
+fn is_fixed_date(text: &[u8]) -> bool
+    ensures { IsTrue result ↔ (HasForm (form_of Kind.Date) text.now × HasParts Kind.Date text.now) }
+{
+    has_date_form(text) && has_parts(Kind::Date, text)
+}
+
+/// Whether the text is a date and a time without the digits of a second behind its point, and without its zone.
+fn is_fixed_date_time(text: &[u8]) -> bool
+    ensures { IsTrue result ↔ (HasForm (form_of Kind.DateTime) text.now × HasParts Kind.DateTime text.now) }
+{
+    has_date_time_form(text) && is_day_and_clock(text)
+}
+
+/// Whether the text has the form of a date and a time. Each part of it is short enough to be compared without a loop.
+fn has_date_time_form(text: &[u8]) -> bool
+    ensures { IsTrue result ↔ HasForm (form_of Kind.DateTime) text.now }
+{
+    if text.len() < 10 {
+        return false;
+    }
+    let (date, clock) = text.split_at(10);
+    if !has_date_form(date) {
+        return false;
+    }
+    has_clock_form(clock)
+}
+
+/// Whether the text has the form of a date.
+fn has_date_form(text: &[u8]) -> bool
+    ensures { IsTrue result ↔ HasForm (form_of Kind.Date) text.now }
+{
+    has_form(b"dddd-dd-dd".as_slice(), text)
+}
+
+/// Whether the text has the form of a time behind a date.
+fn has_clock_form(text: &[u8]) -> bool
+    ensures { IsTrue result ↔ HasForm (codes "Tdd:dd:dd") text.now }
+{
+    has_form(b"Tdd:dd:dd".as_slice(), text)
+}
+
+/// The same for any kind.
+fn is_other_fixed_part(kind: Kind, text: &[u8]) -> bool
+    ensures { IsTrue result ↔ (HasForm (form_of kind) text.now × HasParts kind text.now) }
+{
+    has_form(form_of(kind), text) && has_parts(kind, text)
 }
 
 /// The form of the part with a fixed length, with `d` for a digit.
@@ -54,6 +115,7 @@ fn has_seconds(kind: Kind) -> bool
 }
 
 /// Whether the text has the form, place by place.
+#[inline]
 fn has_form(form: &[u8], text: &[u8]) -> bool
     ensures { IsTrue result ↔ HasForm form.now text.now }
 {
@@ -186,10 +248,17 @@ fn fraction_end(seconds: bool, text: &[u8]) -> Option<usize>
 fn is_zone(text: &[u8]) -> bool
     ensures { IsTrue result ↔ IsZone text.now }
 {
-    if text.is_empty() || text == b"Z".as_slice() {
+    if text.is_empty() || is_utc(text) {
         return true;
     }
     is_offset(text)
+}
+
+/// Whether the text is the zone of the Coordinated Universal Time.
+fn is_utc(text: &[u8]) -> bool
+    ensures { IsTrue result ↔ (text.now ≡ 90 ∷ []) }
+{
+    text.len() == 1 && text[0] == b'Z'
 }
 
 /// Whether the text is a sign, hours and minutes of at most 14:00.

@@ -70,7 +70,7 @@ impl DecimalStep {
         }
     }
 
-    /// Takes some codes from the first on, and tells how many: all digits that stand there before the point, or one.
+    /// Takes some codes from the first on, and tells how many: all digits that stand there, and what is behind them.
     #[inline]
     fn take_front(&mut self, codes: &[u8]) -> usize
         requires { 0 < length codes.now }
@@ -78,33 +78,84 @@ impl DecimalStep {
         ensures few { result ≤ length codes.now }
         ensures read { (text : List ℕ) → HasRead self.old text → HasRead self.new (text ++ take result codes.now) }
     {
-        let count = self.take_digits(codes);
-        if count > 0 {
-            return count;
+        match self.stage {
+            Stage::Start => self.take_start(codes[0] as char),
+            Stage::Whole => return self.take_whole_digits(codes),
+            Stage::Fraction => return self.take_fraction_digits(codes),
+            Stage::Failed => self.take(codes[0] as char),
         }
-        self.take(codes[0] as char);
         1
     }
 
-    /// Takes the digits that the codes begin with, where the whole part goes on, and tells how many.
-    fn take_digits(&mut self, codes: &[u8]) -> usize
+    /// Takes the digits that the codes begin with, before the point, and the code behind them; tells how many.
+    #[inline]
+    fn take_whole_digits(&mut self, codes: &[u8]) -> usize
+        requires stage { self.old.stage ≡ Stage.Whole }
+        requires some { 0 < length codes.now }
+        ensures some { 0 < result }
         ensures few { result ≤ length codes.now }
         ensures read { (text : List ℕ) → HasRead self.old text → HasRead self.new (text ++ take result codes.now) }
     {
-        match self.stage {
-            Stage::Whole => {}
-            Stage::Start | Stage::Fraction | Stage::Failed => return 0,
-        }
         let mut step = *self; // a copy, which stays in registers
         for (count, code) in codes.iter().enumerate() {
             if !code.is_ascii_digit() {
+                step.end_whole(*code as char);
                 *self = step;
-                return count;
+                return count + 1;
             }
             step.push_digit(*code);
         }
         *self = step;
         codes.len()
+    }
+
+    /// Takes the digits that the codes begin with, after the point, and the code behind them; tells how many.
+    #[inline]
+    fn take_fraction_digits(&mut self, codes: &[u8]) -> usize
+        requires stage { self.old.stage ≡ Stage.Fraction }
+        requires some { 0 < length codes.now }
+        ensures some { 0 < result }
+        ensures few { result ≤ length codes.now }
+        ensures read { (text : List ℕ) → HasRead self.old text → HasRead self.new (text ++ take result codes.now) }
+    {
+        let mut step = *self; // a copy, which stays in registers
+        for (count, code) in codes.iter().enumerate() {
+            if !code.is_ascii_digit() {
+                step.end_fraction(*code as char);
+                *self = step;
+                return count + 1;
+            }
+            step.push_fraction_digit(*code);
+        }
+        *self = step;
+        codes.len()
+    }
+
+    /// Takes the first character.
+    #[inline]
+    fn take_start(&mut self, c: char)
+        requires { self.old.stage ≡ Stage.Start }
+        ensures { (text : List ℕ) → HasRead self.old text → HasRead self.new (text ++ c ∷ []) }
+    {
+        self.take_first(c);
+    }
+
+    /// Takes a character behind the digits before the point.
+    #[inline]
+    fn end_whole(&mut self, c: char)
+        requires { self.old.stage ≡ Stage.Whole }
+        ensures { (text : List ℕ) → HasRead self.old text → HasRead self.new (text ++ c ∷ []) }
+    {
+        self.take_whole(c);
+    }
+
+    /// Takes a character behind the digits after the point.
+    #[inline]
+    fn end_fraction(&mut self, c: char)
+        requires { self.old.stage ≡ Stage.Fraction }
+        ensures { (text : List ℕ) → HasRead self.old text → HasRead self.new (text ++ c ∷ []) }
+    {
+        self.take_fraction(c);
     }
 
     /// Takes a digit of the whole part.
@@ -118,7 +169,19 @@ impl DecimalStep {
         self.digits.push_whole(code - b'0');
     }
 
-    /// Takes the first character.
+    /// Takes a digit of the part after the point.
+    #[inline]
+    fn push_fraction_digit(&mut self, code: u8)
+        requires digit { (48 ≤ code) × (code ≤ 57) }
+        requires stage { self.old.stage ≡ Stage.Fraction }
+        ensures stage { self.new.stage ≡ Stage.Fraction }
+        ensures read { (text : List ℕ) → HasRead self.old text → HasRead self.new (text ++ code ∷ []) }
+    {
+        self.digits.push_fraction(code - b'0');
+    }
+
+    /// Takes the first character, or a character of the whole part where it is no sign.
+    #[inline]
     fn take_first(&mut self, c: char)
         ensures { (text : List ℕ) → ReadWhole self.old text → text ≡ []
             → HasRead self.new (text ++ c ∷ []) }

@@ -69,6 +69,7 @@ impl Digits {
     }
 
     /// One more digit after the point, which is not 0: the zeros before it count.
+    #[inline]
     fn push_last(&mut self, digit: u8)
         requires some { 0 < digit }
         requires digit { digit < 10 }

@@ -80,6 +80,19 @@ fn rows_for(width: usize) -> usize
     }
 }
 
+/// One more than the number of the marks that follow those of this number by the code; 0 if it is not known.
+#[inline]
+fn cell_at(table: &[u8], at: usize, code: u8) -> u8
+    requires { at < 256 }
+    ensures { 0 < result → (code < 128) × (slice_index_or table.now (128 * at + code) 0 ≡ result) }
+{
+    let place = WIDTH * at + usize::from(code);
+    if !code.is_ascii() || place >= table.len() {
+        return 0;
+    }
+    table[place]
+}
+
 impl Recall {
     /// Nothing is known yet. There is room for some rows of so many marks.
     pub fn new(alloc: Global, width: usize) -> Result<Recall, AllocError>
@@ -113,17 +126,30 @@ impl Recall {
         usize::from(self.table[place]).checked_sub(1)
     }
 
+    /// The table of what is known.
+    #[inline]
+    fn known_cells(&self) -> &[u8]
+        ensures { result.now ≡ self.now.table }
+    {
+        self.table.as_slice()
+    }
+
     /// How many of these codes from the first on can be followed behind the marks of this number, and to which.
     pub fn follow(&self, at: usize, codes: &[u8]) -> Followed
         ensures few { result.count ≤ length codes.now }
         ensures row { (next : ℕ → List Bool → List Bool) (marks : List Bool) → IsRightTable next self.now → IsRow self.now (Some at) marks → IsRow self.now (Some result.at) (marks_behind next marks (take result.count codes.now)) }
     {
+        if at >= MOST {
+            return Followed { count: 0, at };
+        }
+        let table = self.known_cells();
         let mut here = at;
         for (count, code) in codes.iter().enumerate() {
-            let Some(next) = self.after(here, *code as char) else {
+            let cell = cell_at(table, here, *code);
+            if cell == 0 {
                 return Followed { count, at: here };
-            };
-            here = next;
+            }
+            here = cell as usize - 1;
         }
         Followed {
             count: codes.len(),

@@ -1,6 +1,6 @@
 use Rattle.std.proofs.Common.{◌≡◌, ◌++◌, length, take, drop, take-append-drop, sym, ap, subst, ◌∙◌, Some}
 use Rattle.std.proofs.Math.Seq.{drop-append_seam}
-use Rattle.data_types.specs.Dates.{HasForm, IsFraction, IsZone}
+use Rattle.data_types.specs.Dates.{IsFraction, IsZone}
 use Rattle.data_types.proofs.DateLemmas.{fixed_split}
 use Rattle.data_types.proofs.dates.is_date_text.Goals as goal
 
@@ -20,8 +20,8 @@ returns c =
         sym (ap (λ x. x ++ (take end rest ++ c.split_at-2.result.1.now)) c.split_at.ensures.front
             ∙ (ap (λ x. take n text ++ (take end rest ++ x)) c.split_at-2.ensures.back
             ∙ (ap (λ x. take n text ++ x) (take-append-drop end rest ∙ c.split_at.ensures.back) ∙ take-append-drop n text))),
-        subst (λ form. HasForm form fixed) form_is (c.has_form.ensures.0 c.if-not-has_form.false),
-        c.has_parts.ensures.0 c.if-not-has_parts.false,
+        (c.is_fixed_part.ensures.0 c.if-not-is_fixed_part.false).0,
+        (c.is_fixed_part.ensures.0 c.if-not-is_fixed_part.false).1,
         subst (λ b. IsFraction b (take end rest)) c.has_seconds.ensures c.in-Some.ensures.some.1,
         c.is_zone.ensures.0 e,
       ),

@@ -1,8 +1,11 @@
-use Rattle.std.proofs.Common.{ℕ, Bool, Some, List, take}
+use Rattle.std.proofs.Common.{ℕ, ◌<◌, Bool, Some, List, take}
 use Rattle.pattern_match.specs.Recall.{marks_behind, IsRightTable, IsRow}
 use Rattle.pattern_match.proofs.recall.Recall.follow.Given as goal
 
 -- the marks behind the codes so far
 abbrev pub invariant-loop-count : goal.invariant-loop-count
-invariant-loop-count l = (next : ℕ → List Bool → List Bool) (marks : List Bool) → IsRightTable next l.self → IsRow l.self (Some l.at) marks
-    → IsRow l.self (Some l.here) (marks_behind next marks (take l.count l.codes))
+invariant-loop-count l = record {
+  few : l.here < 256;
+  row : (next : ℕ → List Bool → List Bool) (marks : List Bool) → IsRightTable next l.self → IsRow l.self (Some l.at) marks
+      → IsRow l.self (Some l.here) (marks_behind next marks (take l.count l.codes));
+}

@@ -1,11 +1,11 @@
 use Rattle.std.proofs.Common.{◌≡◌, ℕ, List, ◌++◌, take}
 use Rattle.lexical_core.specs.DecimalSoFar.{HasRead}
-use Rattle.lexical_core.specs.declared.decimal_text.Stage.TheVariants.{Whole}
-use Rattle.lexical_core.proofs.decimal_text.DecimalStep.take_digits.Given as goal
+use Rattle.lexical_core.specs.declared.decimal_text.Stage.TheVariants.{Fraction}
+use Rattle.lexical_core.proofs.decimal_text.DecimalStep.take_fraction_digits.Given as goal
 
 -- the digits so far were taken
 abbrev pub invariant-loop-count : goal.invariant-loop-count
 invariant-loop-count l = record {
-  stage : l.step.stage ≡ Whole;
+  stage : l.step.stage ≡ Fraction;
   read : (text : List ℕ) → HasRead l.initial.self text → HasRead l.step (text ++ take l.count l.codes);
 }

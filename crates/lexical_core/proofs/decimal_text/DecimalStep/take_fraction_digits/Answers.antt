@@ -1,17 +1,17 @@
 use Rattle.std.proofs.Common.{length, ◌++◌, take_all, sym, ap, subst, ◌∙◌, append_assoc, arith}
 use Rattle.std.proofs.lemmas.List.{take_more}
 use Rattle.lexical_core.specs.DecimalSoFar.{HasRead}
-use Rattle.lexical_core.proofs.decimal_text.DecimalStep.take_digits.Goals as goal
+use Rattle.lexical_core.proofs.decimal_text.DecimalStep.take_fraction_digits.Goals as goal
 
 pub loop-count-preserved : goal.loop-count-preserved
 loop-count-preserved c =
     let before = c.loop-count.invariant in
     record {
-      stage = c.push_digit.ensures.stage;
+      stage = c.push_fraction_digit.ensures.stage;
       read = λ text h.
-          subst (HasRead c.push_digit.new.self)
+          subst (HasRead c.push_fraction_digit.new.self)
           (append_assoc text _ _ ∙ ap (λ t. text ++ t) (sym (take_more c.args.codes.now c.loop-count.count 0 c.loop-count-test.true)))
-          (c.push_digit.ensures.read _ (before.read text h));
+          (c.push_fraction_digit.ensures.read _ (before.read text h));
     }
 
 pub returns-clause-read : goal.returns-clause-read
