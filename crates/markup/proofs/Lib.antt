@@ -38,12 +38,15 @@ pub mod PlainTagLemmas
 pub mod InsideRuns
 pub mod TagScans
 pub mod LiteralRuns
+pub mod QualifiedNames
 pub mod StartScans
+pub mod NamesFound
 pub mod StartsFound
 pub mod CharacterRuns
 mod ClosedBrackets
 pub mod TokenizerLemmas
 pub mod Pending
+pub mod InsideFound
 pub mod SettleLemmas
 pub mod InputLemmas
 pub mod InputEnds

@@ -7,6 +7,7 @@ use Rattle.markup.specs.ReferenceScans.{reference_step}
 use Rattle.markup.specs.Drafts.{noted}
 use Rattle.markup.specs.Scans.{step, name_step, name_turn, fixed_ended, fits_letter, fixed_letter, field_letter, field_word_letter, field_end_step, behind_attribute_step, referring, referring_in, text_step, line_step}
 use Rattle.markup.specs.ScanRuns.{At, turned, run}
+use Rattle.markup.specs.inner.Inside.{is_inside}
 use Rattle.markup.specs.declared.draft.Draft.{Draft}
 use Rattle.markup.specs.declared.word.Word.{Word}
 use Rattle.markup.specs.declared.reference.ReferenceTurn.{ReferenceTurn}
@@ -25,16 +26,8 @@ use Rattle.markup.specs.declared.scan.Turn.{Turn}
 use Rattle.markup.specs.declared.scan.Turn.TheVariants.{Goes, Whole, Stuck}
 use Rattle.markup.proofs.ReferencePlaces.{if_intro}
 
--- the scans within a token that what follows cannot end
-abbrev is_inner : Scan → Bool
-is_inner (Begin p) = false
-is_inner AfterReturn = false
-is_inner Bracket = false
-is_inner Brackets = false
-is_inner _ = true
-
 abbrev inner_goes : Turn → Bool
-inner_goes (Goes s) = is_inner s
+inner_goes (Goes s) = is_inside s
 inner_goes _ = true
 
 record InnerTurn (t : Turn) : Type 0 where
@@ -81,12 +74,12 @@ target_inner c = ii (is_name_char c) _ _ (io _ refl) (ii (is_space c) _ _ (io _ 
 instruction_inner : (c : ℕ) → InnerTurn (step InstructionText c)
 instruction_inner c = ii (c == 63) _ _ (io _ refl) (ii (is_xml_char c) _ _ (io _ refl) (io _ refl))
 
-name_inner : (at : NameScan → Scan) (behind : Turn) (t : NameTurn) → ((n : NameScan) → is_inner (at n) ≡ true) → InnerTurn behind → InnerTurn (name_turn at behind t)
+name_inner : (at : NameScan → Scan) (behind : Turn) (t : NameTurn) → ((n : NameScan) → is_inside (at n) ≡ true) → InnerTurn behind → InnerTurn (name_turn at behind t)
 name_inner at behind (Remains n) h k = io _ (h n)
 name_inner at behind Ends h k = k
 name_inner at behind Fails h k = io _ refl
 
-inner_turn : (s : Scan) (c : ℕ) → is_inner s ≡ true → InnerTurn (step s c)
+inner_turn : (s : Scan) (c : ℕ) → is_inside s ≡ true → InnerTurn (step s c)
 inner_turn (InReference r) c h = referring_inner (reference_step r c)
 inner_turn (Opened first) c h = ii (c == 33) _ _ (io _ refl) (ii (c == 63) _ _ (io _ refl) (ii (c == 47) _ _ (io _ refl) (ii (is_name_start c) _ _ (io _ refl) (io _ refl))))
 inner_turn Bang c h = ii (c == 45) _ _ (io _ refl) (ii (c == 91) _ _ (io _ refl) (ii (c == 68) _ _ (io _ refl) (io _ refl)))
@@ -130,12 +123,12 @@ inner_turn (EndName n) c h = name_inner EndName _ (name_step n c) (λ _. refl) (
 inner_turn EndGap c h = ii (is_space c) _ _ (io _ refl) (ii (c == 62) _ _ (io _ refl) (io _ refl))
 inner_turn _ c h = absurd (both_ways false refl h)
 
-inner_run : (s t : Scan) (d e : Draft) (cs : List ℕ) → is_inner s ≡ true → run s d cs ≡ At t e → is_inner t ≡ true
-inner_run s t d e [] k h = subst (λ u. is_inner u ≡ true) (scan_same s t d e h) k where
+inner_run : (s t : Scan) (d e : Draft) (cs : List ℕ) → is_inside s ≡ true → run s d cs ≡ At t e → is_inside t ≡ true
+inner_run s t d e [] k h = subst (λ u. is_inside u ≡ true) (scan_same s t d e h) k where
   scan_same : (s t : Scan) (d e : Draft) → At s d ≡ At t e → s ≡ t
   scan_same s t d e h = cc
 inner_run s t d e (c ∷ cs) k h = by (λ u k h. inner_run u t (noted s u c d) e cs k h) (step s c) (inner_turn s c k) h where
-  by : ((u : Scan) → is_inner u ≡ true → run u (noted s u c d) cs ≡ At t e → is_inner t ≡ true) → (a : Turn) → InnerTurn a → turned (λ u. run u (noted s u c d) cs) d cs a ≡ At t e → is_inner t ≡ true
+  by : ((u : Scan) → is_inside u ≡ true → run u (noted s u c d) cs ≡ At t e → is_inside t ≡ true) → (a : Turn) → InnerTurn a → turned (λ u. run u (noted s u c d) cs) d cs a ≡ At t e → is_inside t ≡ true
   by f (Goes u) g h = f u g.is h
   by f (Whole a) g h = absurd (cc)
   by f Stuck g h = absurd (cc)
@@ -147,7 +140,7 @@ Waits p chars Bracket = (chars ≡ 93 ∷ []) × (p ≡ Cdata)
 Waits p chars Brackets = (chars ≡ 93 ∷ 93 ∷ []) × (p ≡ Cdata)
 Waits p chars _ = Unit {0}
 
-inner_waits : (p : Position) (chars : List ℕ) (s : Scan) → is_inner s ≡ true → Waits p chars s
+inner_waits : (p : Position) (chars : List ℕ) (s : Scan) → is_inside s ≡ true → Waits p chars s
 inner_waits p chars AfterReturn h = absurd (both_ways false refl h)
 inner_waits p chars Bracket h = absurd (both_ways false refl h)
 inner_waits p chars Brackets h = absurd (both_ways false refl h)
@@ -156,7 +149,7 @@ inner_waits p chars _ h = tt
 abbrev StartFact : Position → ℕ → Turn → Type 0
 StartFact p c (Goes AfterReturn) = (c == 13) ≡ true
 StartFact p c (Goes Bracket) = ((c == 93) ≡ true) × (p ≡ Cdata)
-StartFact p c (Goes s) = is_inner s ≡ true
+StartFact p c (Goes s) = is_inside s ≡ true
 StartFact p c _ = Unit {0}
 
 line_start : (p : Position) (c : ℕ) → StartFact p c (line_step c)
@@ -201,12 +194,22 @@ bracket_waits (c ∷ cs) t d e h = by (c == 93) refl h where
 pub run_waits : (p : Position) (chars : List ℕ) (t : Scan) (d e : Draft) → run (Begin p) d chars ≡ At t e → Waits p chars t
 run_waits p [] t d e h = at_same (Begin p) t d e (Waits p []) h tt
 run_waits p (c ∷ cs) t d e h = by (step (Begin p) c) (start_fact p c) h where
-  inside : (u : Scan) → is_inner u ≡ true → run u (noted (Begin p) u c d) cs ≡ At t e → Waits p (c ∷ cs) t
+  inside : (u : Scan) → is_inside u ≡ true → run u (noted (Begin p) u c d) cs ≡ At t e → Waits p (c ∷ cs) t
   inside u k h = inner_waits p (c ∷ cs) t (inner_run u t (noted (Begin p) u c d) e cs k h)
 
   by : (a : Turn) → StartFact p c a → turned (λ u. run u (noted (Begin p) u c d) cs) d cs a ≡ At t e → Waits p (c ∷ cs) t
   by (Goes AfterReturn) q h = subst (λ (x : ℕ). Waits p (x ∷ cs) t) (sym (eqb-true c 13 q)) (return_waits p cs t (noted (Begin p) AfterReturn c d) e h)
   by (Goes Bracket) q h = subst (λ (x : ℕ). Waits p (x ∷ cs) t) (sym (eqb-true c 93 q.0)) (subst (λ r. Waits r (93 ∷ cs) t) (sym q.1) (bracket_waits cs t (noted (Begin p) Bracket c d) e h))
   by (Goes u) q h = inside u q h
+  by (Whole a) q h = absurd (cc)
+  by Stuck q h = absurd (cc)
+
+-- a token that begins with neither is open within
+pub run_inside : (p : Position) (c : ℕ) (cs : List ℕ) (t : Scan) (d e : Draft) → (c == 13) ≡ false → (c == 93) ≡ false → run (Begin p) d (c ∷ cs) ≡ At t e → is_inside t ≡ true
+run_inside p c cs t d e r b h = by (step (Begin p) c) (start_fact p c) h where
+  by : (a : Turn) → StartFact p c a → turned (λ u. run u (noted (Begin p) u c d) cs) d cs a ≡ At t e → is_inside t ≡ true
+  by (Goes AfterReturn) q h = absurd (both_ways (c == 13) r q)
+  by (Goes Bracket) q h = absurd (both_ways (c == 93) b q.0)
+  by (Goes u) q h = inner_run u t (noted (Begin p) u c d) e cs q h
   by (Whole a) q h = absurd (cc)
   by Stuck q h = absurd (cc)

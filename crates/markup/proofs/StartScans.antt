@@ -1,5 +1,5 @@
 -- A start tag with attributes that is found at the front of a piece.
-use Rattle.std.proofs.Common.{◌≡◌, ℕ, zero, suc, Bool, cond, true, false, ◌==◌, ◌&&◌, ◌+◌, ◌<◌, ◌≤◌, List, [], ◌∷◌, ◌++◌, length, map, take, drop, Option, Some, None, refl, sym, ◌∙◌, ap, subst, append_assoc, append-nil, length-append, length-drop, arith, codes}
+use Rattle.std.proofs.Common.{◌≡◌, ℕ, zero, suc, Bool, cond, true, false, ◌==◌, ◌&&◌, ◌+◌, ◌-◌, ◌<◌, ◌≤◌, List, [], ◌∷◌, ◌++◌, length, map, take, drop, Option, Some, None, refl, sym, ◌∙◌, ap, subst, append_assoc, append-nil, length-append, length-drop, arith, codes}
 use Rattle.std.specs.Bool.{if◌then◌else◌}
 use Rattle.std.specs.List.{list_all, flat_map, prefix_len}
 use Rattle.std.specs.Str.{encode_utf8_all}
@@ -15,22 +15,23 @@ use Rattle.std.proofs.lemmas.List.Folds.{list_all-append}
 use Rattle.std.proofs.lemmas.Str.{encode_ascii, encodes-append}
 use Rattle.std.proofs.Math.Seq.{take-append_seam}
 use Rattle.markup.specs.Chars.{is_space, is_gap}
-use Rattle.markup.specs.Name.{Plain, is_part}
+use Rattle.markup.specs.Name.{is_name, name_text}
 use Rattle.markup.specs.Attribute.{Attribute, Literal, is_attribute, is_piece, piece_text, value_chars, begins_lf, attribute_text}
 use Rattle.markup.specs.Token.{StartTag, Start, token_bytes}
 use Rattle.markup.specs.Marks.{tag_limit}
 use Rattle.markup.specs.Events.{given as given_by}
 use Rattle.markup.specs.PlainTags.{begins_plain, continues_plain, is_plain_name, mark_count, closing, slashed}
-use Rattle.markup.specs.PlainStarts.{is_quote, is_literal_of}
-use Rattle.markup.specs.inner.WholeStarts.{is_empty_kind, IsValueAt, IsAttributeAt, AreGiven, IsStartAt}
+use Rattle.markup.specs.PlainStarts.{is_plain_qualified, qualified_text, is_quote, is_literal_of}
+use Rattle.markup.specs.inner.WholeStarts.{is_empty_kind, IsNameAt, IsValueAt, IsAttributeAt, AreGiven, IsStartAt}
 use Rattle.markup.specs.declared.plain_tag.TagKind.{TagKind}
 use Rattle.markup.specs.declared.plain_tag.TagKind.TheVariants.{Start as StartKind, Empty as EmptyKind, End as EndKind}
 use Rattle.markup.specs.declared.start_tag.WholeStart.{WholeStart}
 use Rattle.markup.specs.declared.tag.Given.{Given}
 use Rattle.markup.specs.declared.tag.Opening.{Opening}
+use Rattle.markup.specs.declared.tag.Spelled.{Spelled}
 use Rattle.markup.proofs.AttributeLemmas.{attribute_then}
 use Rattle.markup.proofs.InsideRuns.{value_xml, value_ascii, value_not, space_is}
-use Rattle.markup.proofs.PlainTagLemmas.{plain_is_part, plain_encoded}
+use Rattle.markup.proofs.QualifiedNames.{name_of, name_written, qualified_is, qualified_encoded, qualified_says}
 use Rattle.markup.proofs.TagScans.{name_found, kind_same, slashed_is}
 
 -- ---- characters of ASCII
@@ -76,11 +77,11 @@ literal_text (c ∷ v) = ap (λ w. c ∷ w) (literal_text v)
 
 -- ---- an attribute
 
-abbrev attribute_of : List ℕ → ℕ → List ℕ → Attribute
-attribute_of name quote value = record { gap = 32 ∷ []; name = Plain name; before = []; after = []; quote = quote; value = map Literal value }
+abbrev attribute_of : Spelled → ℕ → List ℕ → Attribute
+attribute_of name quote value = record { gap = 32 ∷ []; name = name_of name; before = []; after = []; quote = quote; value = map Literal value }
 
-abbrev attribute_bytes : List ℕ → ℕ → List ℕ → List ℕ
-attribute_bytes name quote value = 32 ∷ (name ++ 61 ∷ quote ∷ (value ++ quote ∷ []))
+abbrev attribute_bytes : Spelled → ℕ → List ℕ → List ℕ
+attribute_bytes name quote value = 32 ∷ (qualified_text name ++ 61 ∷ quote ∷ (value ++ quote ∷ []))
 
 all_hold : (g a b c : Bool) → g ≡ true → a ≡ true → b ≡ true → c ≡ true → (g && a && true && true && b && c) ≡ true
 all_hold true a b c e f h k = rw (f, h, k) refl
@@ -93,12 +94,16 @@ one_gap = refl
 quote_ascii : (q : ℕ) → is_quote q ≡ true → q < 128
 quote_ascii q h = grind (arith, nat_tests)
 
-module _ (name : List ℕ) (q : ℕ) (value : List ℕ) (named : is_plain_name name ≡ true) (quoted : is_quote q ≡ true) (literal : list_all (is_literal_of q) value ≡ true) where
+module _ (name : Spelled) (q : ℕ) (value : List ℕ) (named : is_plain_qualified name ≡ true) (quoted : is_quote q ≡ true) (literal : list_all (is_literal_of q) value ≡ true) where
+  abbrev text : List ℕ
+  text = qualified_text name
+
   attribute_is : is_attribute (attribute_of name q value) ≡ true
-  attribute_is = all_hold (is_gap (32 ∷ [])) (is_part name) (is_quote q) (list_all (is_piece q) (map Literal value)) one_gap (plain_is_part name named) quoted (literal_pieces q value literal)
+  attribute_is = all_hold (is_gap (32 ∷ [])) (is_name (name_of name)) (is_quote q) (list_all (is_piece q) (map Literal value)) one_gap (qualified_is name named) quoted (literal_pieces q value literal)
 
   attribute_spelled : attribute_text (attribute_of name q value) ≡ attribute_bytes name q value
-  attribute_spelled = sym (append-nil (attribute_text (attribute_of name q value))) ∙ (attribute_then (attribute_of name q value) [] ∙ ap (λ w. 32 ∷ (name ++ 61 ∷ q ∷ (w ++ q ∷ []))) (literal_text value))
+  attribute_spelled = sym (append-nil (attribute_text (attribute_of name q value))) ∙ (attribute_then (attribute_of name q value) []
+      ∙ (ap (λ w. 32 ∷ (name_text (name_of name) ++ 61 ∷ q ∷ (w ++ q ∷ []))) (literal_text value) ∙ ap (λ w. 32 ∷ (w ++ 61 ∷ q ∷ (value ++ q ∷ []))) (name_written name)))
 
   attribute_encoded : encode_utf8_all (attribute_text (attribute_of name q value)) ≡ attribute_bytes name q value
   attribute_encoded =
@@ -106,24 +111,24 @@ module _ (name : List ℕ) (q : ℕ) (value : List ℕ) (named : is_plain_name n
       let inside : encode_utf8_all (value ++ q ∷ []) ≡ value ++ q ∷ [] = encoded_append value (q ∷ []) value (q ∷ []) (literal_encoded q value literal) ends in
       let quotes : encode_utf8_all (q ∷ (value ++ q ∷ [])) ≡ q ∷ (value ++ q ∷ []) = encoded_cons q (value ++ q ∷ []) (value ++ q ∷ []) (quote_ascii q quoted) inside in
       let behind : encode_utf8_all (61 ∷ q ∷ (value ++ q ∷ [])) ≡ 61 ∷ q ∷ (value ++ q ∷ []) = encoded_cons 61 (q ∷ (value ++ q ∷ [])) (q ∷ (value ++ q ∷ [])) (omega arith) quotes in
-      let whole : encode_utf8_all (name ++ 61 ∷ q ∷ (value ++ q ∷ [])) ≡ name ++ 61 ∷ q ∷ (value ++ q ∷ []) = encoded_append name (61 ∷ q ∷ (value ++ q ∷ [])) name (61 ∷ q ∷ (value ++ q ∷ [])) (plain_encoded name named) behind in
-      ap encode_utf8_all attribute_spelled ∙ encoded_cons 32 (name ++ 61 ∷ q ∷ (value ++ q ∷ [])) (name ++ 61 ∷ q ∷ (value ++ q ∷ [])) (omega arith) whole
+      let whole : encode_utf8_all (text ++ 61 ∷ q ∷ (value ++ q ∷ [])) ≡ text ++ 61 ∷ q ∷ (value ++ q ∷ []) = encoded_append text (61 ∷ q ∷ (value ++ q ∷ [])) text (61 ∷ q ∷ (value ++ q ∷ [])) (qualified_encoded name named) behind in
+      ap encode_utf8_all attribute_spelled ∙ encoded_cons 32 (text ++ 61 ∷ q ∷ (value ++ q ∷ [])) (text ++ 61 ∷ q ∷ (value ++ q ∷ [])) (omega arith) whole
 
-  attribute_gives : given_by (attribute_of name q value) ≡ record { name = record { prefix = []; local = name }; value = value }
+  attribute_gives : given_by (attribute_of name q value) ≡ record { name = name; value = value }
   attribute_gives =
-      ap (λ (x : List ℕ). let g : Given = record { name = record { prefix = []; local = x }; value = encode_utf8_all (value_chars (map Literal value)) } in g) (plain_encoded name named)
-      ∙ ap (λ (x : List ℕ). let g : Given = record { name = record { prefix = []; local = name }; value = x } in g) (ap encode_utf8_all (literal_chars q value literal) ∙ literal_encoded q value literal)
+      ap (λ (x : Spelled). let g : Given = record { name = x; value = encode_utf8_all (value_chars (map Literal value)) } in g) (qualified_says name named)
+      ∙ ap (λ (x : List ℕ). let g : Given = record { name = name; value = x } in g) (ap encode_utf8_all (literal_chars q value literal) ∙ literal_encoded q value literal)
 
-  attribute_apart : (behind : List ℕ) → 32 ∷ (name ++ 61 ∷ q ∷ (value ++ q ∷ behind)) ≡ attribute_bytes name q value ++ behind
+  attribute_apart : (behind : List ℕ) → 32 ∷ (text ++ 61 ∷ q ∷ (value ++ q ∷ behind)) ≡ attribute_bytes name q value ++ behind
   attribute_apart behind = ap (λ w. 32 ∷ w)
-      (ap (λ w. name ++ 61 ∷ q ∷ w) (sym (append_assoc value (q ∷ []) behind)) ∙ sym (append_assoc name (61 ∷ q ∷ (value ++ q ∷ [])) behind))
+      (ap (λ w. text ++ 61 ∷ q ∷ w) (sym (append_assoc value (q ∷ []) behind)) ∙ sym (append_assoc text (61 ∷ q ∷ (value ++ q ∷ [])) behind))
 
 -- ---- attributes, one after another
 
 pub none_given : (bytes : List ℕ) → AreGiven bytes [] bytes
 none_given bytes = record { attributes = []; are = refl; spelled = refl; give = refl }
 
-pub more_given : (bytes rest name value behind : List ℕ) (old new : List Given) → AreGiven bytes old rest → IsAttributeAt rest name value behind → new ≡ old ++ record { name = record { prefix = []; local = name }; value = value } ∷ [] → AreGiven bytes new behind
+pub more_given : (bytes rest : List ℕ) (name : Spelled) (value behind : List ℕ) (old new : List Given) → AreGiven bytes old rest → IsAttributeAt rest name value behind → new ≡ old ++ record { name = name; value = value } ∷ [] → AreGiven bytes new behind
 more_given bytes rest name value behind old new s a e =
     let x : Attribute = attribute_of name a.quote value in
     let one : encode_utf8_all (flat_map attribute_text (s.attributes ++ x ∷ [])) ≡ encode_utf8_all (flat_map attribute_text s.attributes) ++ attribute_bytes name a.quote value =
@@ -159,12 +164,12 @@ value_found bytes inside value ended behind q last n e k c t d f l = record {
   literal = subst (λ w. list_all (is_literal_of q) w ≡ true) (sym t) (take_literal q inside n c);
 }
 
-pub attribute_found : (bytes named name after quoted value behind : List ℕ) (gap mark n : ℕ) → bytes ≡ gap ∷ named → gap ≡ 32 → is_plain_name (take n named) ≡ true → name ≡ take n named → after ≡ drop n named → after ≡ mark ∷ quoted → mark ≡ 61 → IsValueAt quoted value behind → IsAttributeAt bytes name value behind
-attribute_found bytes named name after quoted value behind gap mark n e g p t d f m v = record {
+pub attribute_found : (bytes named : List ℕ) (name : Spelled) (after quoted value behind : List ℕ) (gap mark : ℕ) → bytes ≡ gap ∷ named → gap ≡ 32 → IsNameAt named name after → after ≡ mark ∷ quoted → mark ≡ 61 → IsValueAt quoted value behind → IsAttributeAt bytes name value behind
+attribute_found bytes named name after quoted value behind gap mark e g n f m v = record {
   quote = v.quote;
-  spelled = e ∙ (ap (λ b. b ∷ named) g ∙ ap (λ w. 32 ∷ w) (sym (take-append-drop n named) ∙ (ap (λ w. w ++ drop n named) (sym t) ∙ ap (λ w. name ++ w) (sym d ∙ (f ∙ (ap (λ b. b ∷ quoted) m ∙ ap (λ w. 61 ∷ w) v.spelled))))));
+  spelled = e ∙ (ap (λ b. b ∷ named) g ∙ ap (λ w. 32 ∷ w) (n.spelled ∙ ap (λ w. qualified_text name ++ w) (f ∙ (ap (λ b. b ∷ quoted) m ∙ ap (λ w. 61 ∷ w) v.spelled))));
   quoted = v.quoted;
-  named = subst (λ w. is_plain_name w ≡ true) (sym t) p;
+  named = n.named;
   literal = v.literal;
 }
 
@@ -196,12 +201,14 @@ closed_by (b ∷ after) kind h = by (b == 62) (b == 47) refl refl h where
 regroup : (name given ends : List ℕ) → codes "<" ++ name ++ given ++ [] ++ ends ≡ 60 ∷ (name ++ (given ++ ends))
 regroup name given ends = simp append_assoc
 
-module _ (front named name behind last : List ℕ) (first count size : ℕ) (kind : TagKind) (given : List Given)
-    (front_is : front ≡ first ∷ named) (first_is : first ≡ 60) (plain : is_plain_name (take count named) ≡ true) (within : count ≤ length named)
-    (name_is : name ≡ take count named) (behind_is : behind ≡ drop count named) (are : AreGiven behind given (drop size behind)) (size_in : size ≤ length behind)
-    (last_is : last ≡ drop size behind) (closes : closing last ≡ Some kind) (limited : length front ≤ tag_limit) where
+module _ (front named : List ℕ) (name : Spelled) (behind last : List ℕ) (first count size : ℕ) (kind : TagKind) (given : List Given)
+    (front_is : front ≡ first ∷ named) (first_is : first ≡ 60) (at : IsNameAt named name behind) (count_is : count ≡ length named - length behind)
+    (are : AreGiven behind given (drop size behind)) (size_in : size ≤ length behind) (last_is : last ≡ drop size behind) (closes : closing last ≡ Some kind) (limited : length front ≤ tag_limit) where
   abbrev start : StartTag
-  start = record { name = Plain name; attributes = are.attributes; gap = []; is_empty = is_empty_kind kind }
+  start = record { name = name_of name; attributes = are.attributes; gap = []; is_empty = is_empty_kind kind }
+
+  abbrev written : List ℕ
+  written = qualified_text name
 
   abbrev inner : List ℕ
   inner = encode_utf8_all (flat_map attribute_text are.attributes)
@@ -209,38 +216,35 @@ module _ (front named name behind last : List ℕ) (first count size : ℕ) (kin
   closed : (rest : List ℕ) × (last ≡ ending kind ++ rest) × (mark_count kind ≡ 1 + length (ending kind))
   closed = closed_by last kind closes
 
-  named_plain : is_plain_name name ≡ true
-  named_plain = subst (λ w. is_plain_name w ≡ true) (sym name_is) plain
-
-  token_is : token_bytes (Start start) ≡ 60 ∷ (name ++ (inner ++ ending kind))
-  token_is = ap encode_utf8_all (regroup name (flat_map attribute_text are.attributes) (ending kind))
-      ∙ encoded_cons 60 (name ++ (flat_map attribute_text are.attributes ++ ending kind)) (name ++ (inner ++ ending kind)) (omega arith) (encoded_append name (flat_map attribute_text are.attributes ++ ending kind) name (inner ++ ending kind) (plain_encoded name named_plain) (encoded_append (flat_map attribute_text are.attributes) (ending kind) inner (ending kind) refl (ending_encoded kind)))
+  token_is : token_bytes (Start start) ≡ 60 ∷ (written ++ (inner ++ ending kind))
+  token_is = ap encode_utf8_all (regroup (name_text (name_of name)) (flat_map attribute_text are.attributes) (ending kind) ∙ ap (λ w. 60 ∷ (w ++ (flat_map attribute_text are.attributes ++ ending kind))) (name_written name))
+      ∙ encoded_cons 60 (written ++ (flat_map attribute_text are.attributes ++ ending kind)) (written ++ (inner ++ ending kind)) (omega arith) (encoded_append written (flat_map attribute_text are.attributes ++ ending kind) written (inner ++ ending kind) (qualified_encoded name at.named) (encoded_append (flat_map attribute_text are.attributes) (ending kind) inner (ending kind) refl (ending_encoded kind)))
 
   spelled_so : front ≡ token_bytes (Start start) ++ closed.0
   spelled_so = front_is ∙ (ap (λ b. b ∷ named) first_is ∙ (ap (λ w. 60 ∷ w)
-      (sym (take-append-drop count named) ∙ (ap (λ w. w ++ drop count named) (sym name_is) ∙ (ap (λ w. name ++ w) (sym behind_is ∙ (are.spelled ∙ ap (λ w. inner ++ w) (sym last_is ∙ closed.1)))
-      ∙ (ap (λ w. name ++ w) (sym (append_assoc inner (ending kind) closed.0)) ∙ sym (append_assoc name (inner ++ ending kind) closed.0)))))
+      (at.spelled ∙ (ap (λ w. written ++ w) (are.spelled ∙ ap (λ w. inner ++ w) (sym last_is ∙ closed.1))
+      ∙ (ap (λ w. written ++ w) (sym (append_assoc inner (ending kind) closed.0)) ∙ sym (append_assoc written (inner ++ ending kind) closed.0))))
       ∙ ap (λ w. w ++ closed.0) (sym token_is)))
 
-  name_size : length name ≡ count
-  name_size = ap length name_is ∙ length-take-le count named within
+  name_size : length written ≡ count
+  name_size = omega (arith, count_is, ap length at.spelled, length-append written behind)
 
   inner_size : length inner ≡ size
   inner_size = omega (arith, ap length are.spelled, length-append inner (drop size behind), length-drop size behind, size_in)
 
   size_is : count + size + mark_count kind ≡ length (token_bytes (Start start))
-  size_is = omega (arith, ap length token_is, length-append name (inner ++ ending kind), length-append inner (ending kind), name_size, inner_size, closed.2)
+  size_is = omega (arith, ap length token_is, length-append written (inner ++ ending kind), length-append inner (ending kind), name_size, inner_size, closed.2)
 
   in_front : count + size + mark_count kind ≤ length front
   in_front = omega (arith, size_is, ap length spelled_so, length-append (token_bytes (Start start)) closed.0)
 
-  pub start_found : IsStartAt front (record { name = record { prefix = []; local = name }; given = given; is_empty = is_empty_kind kind }) (count + size + mark_count kind)
+  pub start_found : IsStartAt front (record { name = name; given = given; is_empty = is_empty_kind kind }) (count + size + mark_count kind)
   start_found = record {
     start = start;
-    is = both _ _ (both _ _ (plain_is_part name named_plain) are.are) refl;
+    is = both _ _ (both _ _ (qualified_is name at.named) are.are) refl;
     spelled = ap (λ n. take n front) size_is ∙ (ap (take (length (token_bytes (Start start)))) spelled_so ∙ take-append_seam (token_bytes (Start start)) closed.0);
-    says = ap (λ (x : List ℕ). let t : Opening = record { name = record { prefix = []; local = x }; given = map given_by are.attributes; is_empty = is_empty_kind kind } in t) (plain_encoded name named_plain)
-        ∙ ap (λ (g : List Given). let t : Opening = record { name = record { prefix = []; local = name }; given = g; is_empty = is_empty_kind kind } in t) are.give;
+    says = ap (λ (x : Spelled). let t : Opening = record { name = x; given = map given_by are.attributes; is_empty = is_empty_kind kind } in t) (qualified_says name at.named)
+        ∙ ap (λ (g : List Given). let t : Opening = record { name = name; given = g; is_empty = is_empty_kind kind } in t) are.give;
     some = omega (arith, closed.2);
     within = in_front;
     short = omega (arith, in_front, limited);

@@ -1,60 +1,25 @@
 -- A plain start tag at the front of bytes is found, by its parts.
-use Rattle.std.proofs.Common.{◌≡◌, ℕ, zero, suc, Bool, true, false, cond, ◌&&◌, ◌+◌, ◌-◌, ◌<◌, ◌≤◌, List, [], ◌∷◌, ◌++◌, length, take, drop, Option, Some, None, refl, sym, ◌∙◌, ap, subst, append_assoc, length-append, arith}
+use Rattle.std.proofs.Common.{◌≡◌, ℕ, zero, suc, Bool, true, false, cond, ◌&&◌, ◌+◌, ◌-◌, ◌≤◌, List, [], ◌∷◌, ◌++◌, length, take, drop, Option, Some, None, refl, sym, ◌∙◌, ap, subst, append_assoc, length-append, arith}
 use Rattle.std.specs.Bool.{if◌then◌else◌}
 use Rattle.std.specs.List.{list_all, flat_map, prefix_len}
 use Rattle.std.specs.Option.{IsSomeAnd}
 use Rattle.std.proofs.lemmas.Bool.{and_parts, both_ways}
 use Rattle.std.proofs.lemmas.Bool.Decides.{nat_tests}
-use Rattle.std.proofs.Math.Seq.{drop-append_seam}
 use Rattle.markup.specs.Marks.{begins_with}
-use Rattle.markup.specs.PlainTags.{begins_plain, continues_plain, is_plain_name, mark_count, closing}
-use Rattle.markup.specs.PlainStarts.{is_quote, is_literal_of, PlainAttribute, is_plain_attribute, plain_attribute_text, PlainStart, is_plain_start, start_end, plain_start_text}
-use Rattle.markup.specs.inner.WholeStarts.{IsValueAt, IsAttributeAt, AreGiven, AreLeft}
+use Rattle.markup.specs.PlainTags.{mark_count, closing}
+use Rattle.markup.specs.PlainStarts.{is_plain_qualified, qualified_text, is_quote, is_literal_of, PlainAttribute, is_plain_attribute, plain_attribute_text, PlainStart, is_plain_start, start_end, plain_start_text}
+use Rattle.markup.specs.inner.WholeStarts.{goes_on_name, IsNameAt, IsValueAt, IsAttributeAt, AreGiven, AreLeft}
 use Rattle.markup.specs.declared.plain_tag.TagKind.{TagKind}
 use Rattle.markup.specs.declared.plain_tag.TagKind.TheVariants.{Start as StartKind, Empty as EmptyKind}
 use Rattle.markup.specs.declared.start_tag.WholeStart.{WholeStart}
 use Rattle.markup.specs.declared.tag.Given.{Given}
+use Rattle.markup.specs.declared.tag.Spelled.{Spelled}
+use Rattle.markup.proofs.NamesFound.{IsBehindName, head_same, tail_same, behind_front, run_ends}
 use Rattle.markup.proofs.StartScans.{none_given, more_given}
-use Rattle.markup.proofs.TagScans.{all_continue, kind_same}
-
--- ---- lists
-
-head_same : (a b : ℕ) (xs ys : List ℕ) → a ∷ xs ≡ b ∷ ys → a ≡ b
-head_same a b xs ys h = cc
-
-tail_same : (a b : ℕ) (xs ys : List ℕ) → a ∷ xs ≡ b ∷ ys → xs ≡ ys
-tail_same a b xs ys h = cc
+use Rattle.markup.proofs.TagScans.{kind_same}
 
 none_kind : (kind : TagKind) → None ≡ Some kind → ⊥
 none_kind kind h = cc
-
--- what stands behind a front of a list
-behind_front : (xs front rest after : List ℕ) (n : ℕ) → xs ≡ front ++ rest → n ≡ length front → after ≡ drop n xs → after ≡ rest
-behind_front xs front rest after n e k d = d ∙ (ap (λ m. drop m xs) k ∙ (ap (drop (length front)) e ∙ drop-append_seam front rest))
-
--- a run goes on to where it ends
-run_ends : (p : ℕ → Bool) (xs ys : List ℕ) → list_all p xs ≡ true → prefix_len p ys ≡ 0 → prefix_len p (xs ++ ys) ≡ length xs
-run_ends p [] ys h k = k
-run_ends p (x ∷ xs) ys h k = let a = and_parts (p x) (list_all p xs) h in
-    ap (λ t. cond t (1 + prefix_len p (xs ++ ys)) 0) a.0 ∙ (ap (λ n. 1 + n) (run_ends p xs ys a.1 k) ∙ one (length xs)) where
-      one : (n : ℕ) → 1 + n ≡ suc n
-      one n = omega arith
-
--- ---- a name
-
-pub name_size : (bytes name behind : List ℕ) (n : ℕ) → is_plain_name name ≡ true → bytes ≡ name ++ behind → prefix_len continues_plain behind ≡ 0 → n ≡ prefix_len continues_plain bytes → n ≡ length name
-name_size bytes name behind n p e s c = c ∙ (ap (prefix_len continues_plain) e ∙ run_ends continues_plain name behind (all_continue name p) s)
-
-some_name : (name : List ℕ) → is_plain_name name ≡ true → 0 < length name
-some_name [] p = absurd (both_ways false refl p)
-some_name (b ∷ cs) p = omega arith
-
-pub no_name : (bytes name behind : List ℕ) → is_plain_name name ≡ true → bytes ≡ name ++ behind → length bytes ≡ 0 → ⊥
-no_name bytes name behind p e z = omega (arith, ap length e, length-append name behind, some_name name p, z)
-
-pub name_begins : (bytes more name behind : List ℕ) (first : ℕ) → bytes ≡ first ∷ more → is_plain_name name ≡ true → bytes ≡ name ++ behind → begins_plain first ≡ true
-name_begins bytes more [] behind first f p e = absurd (both_ways false refl p)
-name_begins bytes more (b ∷ cs) behind first f p e = subst (λ v. begins_plain v ≡ true) (head_same b first (cs ++ behind) more (sym e ∙ f)) (and_parts (begins_plain b) (list_all continues_plain cs) p).0
 
 -- ---- a value
 
@@ -93,49 +58,42 @@ module _ (bytes inside value behind : List ℕ) (q : ℕ) (e : bytes ≡ q ∷ i
 
 -- ---- an attribute
 
-pub no_attribute : (bytes name value behind : List ℕ) → IsAttributeAt bytes name value behind → length bytes ≡ 0 → ⊥
+pub no_attribute : (bytes : List ℕ) (name : Spelled) (value behind : List ℕ) → IsAttributeAt bytes name value behind → length bytes ≡ 0 → ⊥
 no_attribute bytes name value behind s z = omega (arith, ap length s.spelled, z)
 
-module _ (bytes named name value behind : List ℕ) (gap : ℕ) (e : bytes ≡ gap ∷ named) (s : IsAttributeAt bytes name value behind) where
+module _ (bytes named : List ℕ) (name : Spelled) (value behind : List ℕ) (gap : ℕ) (e : bytes ≡ gap ∷ named) (s : IsAttributeAt bytes name value behind) where
   abbrev quoted_so : List ℕ
   quoted_so = s.quote ∷ (value ++ s.quote ∷ behind)
 
   pub gap_is : gap ≡ 32
-  gap_is = head_same gap 32 named (name ++ 61 ∷ quoted_so) (sym e ∙ s.spelled)
+  gap_is = head_same gap 32 named (qualified_text name ++ 61 ∷ quoted_so) (sym e ∙ s.spelled)
 
-  named_is : named ≡ name ++ 61 ∷ quoted_so
-  named_is = tail_same gap 32 named (name ++ 61 ∷ quoted_so) (sym e ∙ s.spelled)
+  pub name_follows : IsNameAt named name (61 ∷ quoted_so)
+  name_follows = record { spelled = tail_same gap 32 named (qualified_text name ++ 61 ∷ quoted_so) (sym e ∙ s.spelled); named = s.named }
 
-  module _ (n : ℕ) (c : (m b : List ℕ) → is_plain_name m ≡ true → named ≡ m ++ b → prefix_len continues_plain b ≡ 0 → n ≡ length m) where
-    counted : n ≡ length name
-    counted = c name (61 ∷ quoted_so) s.named named_is refl
+  module _ (after : List ℕ) (a : IsBehindName named after) where
+    after_is : after ≡ 61 ∷ quoted_so
+    after_is = a name (61 ∷ quoted_so) name_follows refl
 
-    pub name_counted : n ≡ 0 → ⊥
-    name_counted z = omega (arith, counted, some_name name s.named, z)
+    pub mark_follows : length after ≡ 0 → ⊥
+    mark_follows z = omega (arith, ap length after_is, z)
 
-    module _ (after : List ℕ) (d : after ≡ drop n named) where
-      after_is : after ≡ 61 ∷ quoted_so
-      after_is = behind_front named name (61 ∷ quoted_so) after n named_is counted d
+    module _ (mark : ℕ) (quoted : List ℕ) (f : after ≡ mark ∷ quoted) where
+      pub mark_is : mark ≡ 61
+      mark_is = head_same mark 61 quoted quoted_so (sym f ∙ after_is)
 
-      pub mark_follows : length after ≡ 0 → ⊥
-      mark_follows z = omega (arith, ap length after_is, z)
-
-      module _ (mark : ℕ) (quoted : List ℕ) (f : after ≡ mark ∷ quoted) where
-        pub mark_is : mark ≡ 61
-        mark_is = head_same mark 61 quoted quoted_so (sym f ∙ after_is)
-
-        pub value_follows : IsValueAt quoted value behind
-        value_follows = record { quote = s.quote; spelled = tail_same mark 61 quoted quoted_so (sym f ∙ after_is); quoted = s.quoted; literal = s.literal }
+      pub value_follows : IsValueAt quoted value behind
+      value_follows = record { quote = s.quote; spelled = tail_same mark 61 quoted quoted_so (sym f ∙ after_is); quoted = s.quoted; literal = s.literal }
 
 -- ---- attributes, one after another
 
-attribute_apart : (a : PlainAttribute) (rest : List ℕ) → plain_attribute_text a ++ rest ≡ 32 ∷ (a.name ++ 61 ∷ a.quote ∷ (a.value ++ a.quote ∷ rest))
-attribute_apart a rest = ap (λ w. 32 ∷ w) (append_assoc a.name (61 ∷ a.quote ∷ (a.value ++ a.quote ∷ [])) rest ∙ ap (λ w. a.name ++ 61 ∷ a.quote ∷ w) (append_assoc a.value (a.quote ∷ []) rest))
+attribute_apart : (a : PlainAttribute) (rest : List ℕ) → plain_attribute_text a ++ rest ≡ 32 ∷ (qualified_text a.name ++ 61 ∷ a.quote ∷ (a.value ++ a.quote ∷ rest))
+attribute_apart a rest = ap (λ w. 32 ∷ w) (append_assoc (qualified_text a.name) (61 ∷ a.quote ∷ (a.value ++ a.quote ∷ [])) rest ∙ ap (λ w. qualified_text a.name ++ 61 ∷ a.quote ∷ w) (append_assoc a.value (a.quote ∷ []) rest))
 
 attribute_here : (bytes rest : List ℕ) (a : PlainAttribute) → is_plain_attribute a ≡ true → bytes ≡ plain_attribute_text a ++ rest → IsAttributeAt bytes a.name a.value rest
 attribute_here bytes rest a p e =
-    let b = and_parts (is_plain_name a.name && is_quote a.quote) (list_all (is_literal_of a.quote) a.value) p in
-    let n = and_parts (is_plain_name a.name) (is_quote a.quote) b.0 in
+    let b = and_parts (is_plain_qualified a.name && is_quote a.quote) (list_all (is_literal_of a.quote) a.value) p in
+    let n = and_parts (is_plain_qualified a.name) (is_quote a.quote) b.0 in
     record { quote = a.quote; spelled = e ∙ attribute_apart a rest; quoted = n.1; named = n.0; literal = b.1 }
 
 texts_apart : (a : PlainAttribute) (others : List PlainAttribute) (last : List ℕ) → flat_map plain_attribute_text (a ∷ others) ++ last ≡ plain_attribute_text a ++ (flat_map plain_attribute_text others ++ last)
@@ -146,12 +104,12 @@ first_here left last a others p e = attribute_here left (flat_map plain_attribut
 
 -- An attribute that is found is the first of those that are left.
 abbrev FirstIs : List ℕ → List ℕ → Type 0
-FirstIs left behind = (name value rest : List ℕ) → IsAttributeAt left name value rest → behind ≡ rest
+FirstIs left behind = (name : Spelled) (value rest : List ℕ) → IsAttributeAt left name value rest → behind ≡ rest
 
-begins_none : (last name value behind : List ℕ) → begins_with 32 last ≡ false → IsAttributeAt last name value behind → ⊥
+begins_none : (last : List ℕ) (name : Spelled) (value behind : List ℕ) → begins_with 32 last ≡ false → IsAttributeAt last name value behind → ⊥
 begins_none last name value behind s a = both_ways true (ap (begins_with 32) (sym a.spelled) ∙ s) refl
 
-next_left : (others : List PlainAttribute) (left last name value behind : List ℕ) → list_all is_plain_attribute others ≡ true → begins_with 32 last ≡ false → left ≡ flat_map plain_attribute_text others ++ last → IsAttributeAt left name value behind → FirstIs left behind
+next_left : (others : List PlainAttribute) (left last : List ℕ) (name : Spelled) (value behind : List ℕ) → list_all is_plain_attribute others ≡ true → begins_with 32 last ≡ false → left ≡ flat_map plain_attribute_text others ++ last → IsAttributeAt left name value behind → FirstIs left behind
     → (more : List PlainAttribute) × (list_all is_plain_attribute more ≡ true) × (behind ≡ flat_map plain_attribute_text more ++ last)
 next_left [] left last name value behind p s e a f = absurd (begins_none last name value behind s (subst (λ v. IsAttributeAt v name value behind) e a))
 next_left (x ∷ more) left last name value behind p s e a f =
@@ -160,17 +118,17 @@ next_left (x ∷ more) left last name value behind p s e a f =
 pub none_done : (bytes : List ℕ) → AreGiven bytes [] bytes × AreLeft bytes bytes
 none_done bytes = (none_given bytes, λ attributes last p s e. (attributes, p, e))
 
-pub more_done : (bytes left name value behind : List ℕ) (old new : List Given) → AreGiven bytes old left × AreLeft bytes left → IsAttributeAt left name value behind → FirstIs left behind → new ≡ old ++ record { name = record { prefix = []; local = name }; value = value } ∷ []
+pub more_done : (bytes left : List ℕ) (name : Spelled) (value behind : List ℕ) (old new : List Given) → AreGiven bytes old left × AreLeft bytes left → IsAttributeAt left name value behind → FirstIs left behind → new ≡ old ++ record { name = name; value = value } ∷ []
     → AreGiven bytes new behind × AreLeft bytes behind
 more_done bytes left name value behind old new d a f e =
     (more_given bytes left name value behind old new d.0 a e, λ attributes last p s k. let o = d.1 attributes last p s k in next_left o.0 left last name value behind o.1 s o.2 a f)
 
-nothing_left : (others : List PlainAttribute) (left last : List ℕ) → list_all is_plain_attribute others ≡ true → left ≡ flat_map plain_attribute_text others ++ last → ((name value behind : List ℕ) → IsAttributeAt left name value behind → ⊥) → left ≡ last
+nothing_left : (others : List PlainAttribute) (left last : List ℕ) → list_all is_plain_attribute others ≡ true → left ≡ flat_map plain_attribute_text others ++ last → ((name : Spelled) (value behind : List ℕ) → IsAttributeAt left name value behind → ⊥) → left ≡ last
 nothing_left [] left last p e n = e
 nothing_left (x ∷ more) left last p e n = absurd (n x.name x.value (flat_map plain_attribute_text more ++ last) (first_here left last x more p e))
 
 -- all of them are taken
-pub all_done : (bytes left last : List ℕ) (given : List Given) (attributes : List PlainAttribute) → AreGiven bytes given left × AreLeft bytes left → ((name value behind : List ℕ) → IsAttributeAt left name value behind → ⊥)
+pub all_done : (bytes left last : List ℕ) (given : List Given) (attributes : List PlainAttribute) → AreGiven bytes given left × AreLeft bytes left → ((name : Spelled) (value behind : List ℕ) → IsAttributeAt left name value behind → ⊥)
     → list_all is_plain_attribute attributes ≡ true → begins_with 32 last ≡ false → bytes ≡ flat_map plain_attribute_text attributes ++ last → length bytes - length left ≡ length (flat_map plain_attribute_text attributes)
 all_done bytes left last given attributes d n p s e =
     let o = d.1 attributes last p s e in
@@ -184,7 +142,7 @@ behind_name tag rest = flat_map plain_attribute_text tag.attributes ++ (start_en
 abbrev kind_of : Bool → TagKind
 kind_of is_empty = if is_empty then EmptyKind else StartKind
 
-ends_name : (attributes : List PlainAttribute) (is_empty : Bool) (rest : List ℕ) → prefix_len continues_plain (flat_map plain_attribute_text attributes ++ (start_end is_empty ++ rest)) ≡ 0
+ends_name : (attributes : List PlainAttribute) (is_empty : Bool) (rest : List ℕ) → prefix_len goes_on_name (flat_map plain_attribute_text attributes ++ (start_end is_empty ++ rest)) ≡ 0
 ends_name [] true rest = refl
 ends_name [] false rest = refl
 ends_name (a ∷ more) is_empty rest = refl
@@ -208,39 +166,44 @@ module _ (front named rest : List ℕ) (first : ℕ) (tag : PlainStart) (plain :
   abbrev texts : List ℕ
   texts = flat_map plain_attribute_text tag.attributes
 
+  abbrev written : List ℕ
+  written = qualified_text tag.name
+
   pub start_opens : first ≡ 60
-  start_opens = head_same first 60 named ((tag.name ++ (texts ++ start_end tag.is_empty)) ++ rest) (sym f ∙ e)
+  start_opens = head_same first 60 named ((written ++ (texts ++ start_end tag.is_empty)) ++ rest) (sym f ∙ e)
 
-  start_named : named ≡ tag.name ++ behind_name tag rest
-  start_named = tail_same first 60 named ((tag.name ++ (texts ++ start_end tag.is_empty)) ++ rest) (sym f ∙ e)
-      ∙ (append_assoc tag.name (texts ++ start_end tag.is_empty) rest ∙ ap (λ w. tag.name ++ w) (append_assoc texts (start_end tag.is_empty) rest))
+  parts : (is_plain_qualified tag.name ≡ true) × (list_all is_plain_attribute tag.attributes ≡ true)
+  parts = and_parts (is_plain_qualified tag.name) (list_all is_plain_attribute tag.attributes) plain
 
-  parts : (is_plain_name tag.name ≡ true) × (list_all is_plain_attribute tag.attributes ≡ true)
-  parts = and_parts (is_plain_name tag.name) (list_all is_plain_attribute tag.attributes) plain
+  pub start_named : IsNameAt named tag.name (behind_name tag rest)
+  start_named = record {
+    spelled = tail_same first 60 named ((written ++ (texts ++ start_end tag.is_empty)) ++ rest) (sym f ∙ e)
+        ∙ (append_assoc written (texts ++ start_end tag.is_empty) rest ∙ ap (λ w. written ++ w) (append_assoc texts (start_end tag.is_empty) rest));
+    named = parts.0;
+  }
 
-  module _ (count : ℕ) (c : (m b : List ℕ) → is_plain_name m ≡ true → named ≡ m ++ b → prefix_len continues_plain b ≡ 0 → count ≡ length m) where
-    name_is : count ≡ length tag.name
-    name_is = c tag.name (behind_name tag rest) parts.0 start_named (ends_name tag.attributes tag.is_empty rest)
+  pub start_ends : prefix_len goes_on_name (behind_name tag rest) ≡ 0
+  start_ends = ends_name tag.attributes tag.is_empty rest
 
-    pub start_counted : count ≡ 0 → ⊥
-    start_counted z = omega (arith, name_is, some_name tag.name parts.0, z)
+  module _ (behind last : List ℕ) (size : ℕ) (a : IsBehindName named behind) (l : last ≡ drop size behind)
+      (s : (attributes : List PlainAttribute) (others : List ℕ) → list_all is_plain_attribute attributes ≡ true → begins_with 32 others ≡ false → behind ≡ flat_map plain_attribute_text attributes ++ others → size ≡ length (flat_map plain_attribute_text attributes)) where
+    behind_is : behind ≡ behind_name tag rest
+    behind_is = a tag.name (behind_name tag rest) start_named start_ends
 
-    module _ (behind last : List ℕ) (size : ℕ) (b : behind ≡ drop count named) (l : last ≡ drop size behind)
-        (s : (attributes : List PlainAttribute) (others : List ℕ) → list_all is_plain_attribute attributes ≡ true → begins_with 32 others ≡ false → behind ≡ flat_map plain_attribute_text attributes ++ others → size ≡ length (flat_map plain_attribute_text attributes)) where
-      behind_is : behind ≡ behind_name tag rest
-      behind_is = behind_front named tag.name (behind_name tag rest) behind count start_named name_is b
+    size_is : size ≡ length texts
+    size_is = s tag.attributes (start_end tag.is_empty ++ rest) parts.1 (ends_attributes tag.is_empty rest) behind_is
 
-      size_is : size ≡ length texts
-      size_is = s tag.attributes (start_end tag.is_empty ++ rest) parts.1 (ends_attributes tag.is_empty rest) behind_is
+    closes : closing last ≡ Some (kind_of tag.is_empty)
+    closes = ap closing (behind_front behind texts (start_end tag.is_empty ++ rest) last size behind_is size_is l) ∙ ends_start tag.is_empty rest
 
-      closes : closing last ≡ Some (kind_of tag.is_empty)
-      closes = ap closing (behind_front behind texts (start_end tag.is_empty ++ rest) last size behind_is size_is l) ∙ ends_start tag.is_empty rest
+    pub start_closes : closing last ≡ None → ⊥
+    start_closes n = none_kind (kind_of tag.is_empty) (sym n ∙ closes)
 
-      pub start_closes : closing last ≡ None → ⊥
-      start_closes n = none_kind (kind_of tag.is_empty) (sym n ∙ closes)
+    count_is : length named - length behind ≡ length written
+    count_is = omega (arith, ap length start_named.spelled, ap length behind_is, length-append written (behind_name tag rest))
 
-      pub start_size : (kind : TagKind) → closing last ≡ Some kind → count + size + mark_count kind ≡ length (plain_start_text tag)
-      start_size kind k = omega (arith, name_is, size_is, ap mark_count (kind_same kind (kind_of tag.is_empty) (sym k ∙ closes)), end_size tag.is_empty, length-append tag.name (texts ++ start_end tag.is_empty), length-append texts (start_end tag.is_empty))
+    pub start_size : (kind : TagKind) → closing last ≡ Some kind → length named - length behind + size + mark_count kind ≡ length (plain_start_text tag)
+    start_size kind k = omega (arith, count_is, size_is, ap mark_count (kind_same kind (kind_of tag.is_empty) (sym k ∙ closes)), end_size tag.is_empty, length-append written (texts ++ start_end tag.is_empty), length-append texts (start_end tag.is_empty))
 
 -- ---- a front of the piece
 

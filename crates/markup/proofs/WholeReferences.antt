@@ -1,5 +1,5 @@
 -- A whole reference at the front of a piece, read a byte at a time, is the token of its place.
-use Rattle.std.proofs.Common.{◌≡◌, ℕ, Bool, true, false, ◌==◌, ◌||◌, ◌&&◌, ◌+◌, ◌<◌, nat_le, List, [], ◌∷◌, ◌++◌, length, take, reverse, codes, None, Some, refl, sym, ◌∙◌, ap, subst, append-nil, length-append, arith}
+use Rattle.std.proofs.Common.{◌≡◌, ℕ, Bool, true, false, ◌==◌, ◌||◌, ◌&&◌, ◌+◌, ◌<◌, List, [], ◌∷◌, ◌++◌, length, take, reverse, codes, None, Some, refl, sym, ◌∙◌, ap, subst, append-nil, length-append, arith}
 use Rattle.std.specs.Bool.{if◌then◌else◌}
 use Rattle.std.specs.Char.{is_digit}
 use Rattle.std.specs.List.{list_all}
@@ -11,6 +11,7 @@ use Rattle.std.proofs.lemmas.Str.{encode_ascii}
 use Rattle.std.proofs.Math.Seq.{take-append_seam}
 use Rattle.lexical_core.specs.Tree.{Char}
 use Rattle.lexical_core.specs.declared.rule.Rule.TheVariants.{TextOutside}
+use Rattle.markup.specs.Ascii.{is_ascii}
 use Rattle.markup.specs.Reference.{Ampersand, Less, Greater, Apostrophe, Quote, Reference, Named, Numbered, is_reference, referred, reference_text}
 use Rattle.markup.specs.References.{IsReferenceAt, MayReferUnder}
 use Rattle.markup.specs.Token.{Token, Mark, Refer, token_bytes}
@@ -38,9 +39,6 @@ use Rattle.markup.proofs.TokenRuleLemmas.{in_cdata-open}
 use Rattle.markup.proofs.WholeTokens.{IsNext, takes_next}
 
 -- ---- references are written in ASCII
-
-abbrev is_ascii : ℕ → Bool
-is_ascii c = nat_le c 127
 
 ascii_below : (c : ℕ) → is_ascii c ≡ true → c < 128
 ascii_below c h = grind (arith, nat_tests)

@@ -1,3 +1,4 @@
+pub mod Ascii
 pub mod Chars
 pub mod Name
 pub mod Reference

@@ -1,8 +1,27 @@
--- Start tags that a reader takes whole with their attributes, as they are usually written: `<`, a plain name, each attribute behind one space, and `>` or `/>` (XML 1.0 §3.1, STag, EmptyElemTag).
--- A name with a colon is not plain: neither a tag with a prefix is one of these, nor one that has an attribute with a prefix or declares one. One that declares the default namespace by `xmlns` is.
-use Rattle.std.specs.Prelude.{ℕ, Bool, ◌==◌, ◌||◌, ◌&&◌, nat_le, not, List, [], ◌∷◌, ◌++◌, if◌then◌else◌}
+-- Start tags that a reader takes whole with their attributes, as they are usually written: `<`, a name, each attribute behind one space, and `>` or `/>` (XML 1.0 §3.1, STag, EmptyElemTag).
+-- A name is a plain one, or two plain ones that one colon joins: of a tag with a prefix, of an attribute with one, and in the declaration of one. What a prefix means is not asked, nor whether it may stand there.
+use Rattle.std.specs.Prelude.{ℕ, Bool, ◌==◌, ◌||◌, ◌&&◌, nat_le, not, true, List, [], ◌∷◌, ◌++◌, if◌then◌else◌}
 use Rattle.std.specs.List.{list_all, flat_map}
 use Rattle.markup.specs.PlainTags.{is_plain_name}
+use Rattle.markup.specs.declared.tag.Spelled.{Spelled}
+
+-- a plain name, or none
+abbrev pub is_plain_prefix : List ℕ → Bool
+is_plain_prefix [] = true
+is_plain_prefix (b ∷ more) = is_plain_name (b ∷ more)
+
+-- a name whose parts are plain; without a prefix that is empty (Namespaces in XML 1.0 §4, QName)
+abbrev pub is_plain_qualified : Spelled → Bool
+is_plain_qualified n = is_plain_prefix n.prefix && is_plain_name n.local
+
+-- what is written of a prefix and a local name
+abbrev pub joined_text : List ℕ → List ℕ → List ℕ
+joined_text [] local = local
+joined_text (b ∷ more) local = (b ∷ more) ++ 58 ∷ local
+
+-- the name as it is written
+abbrev pub qualified_text : Spelled → List ℕ
+qualified_text n = joined_text n.prefix n.local
 
 -- one of the two kinds of quotes (XML 1.0 §2.3, AttValue)
 abbrev pub is_quote : ℕ → Bool
@@ -14,27 +33,27 @@ is_literal_of quote byte = nat_le 32 byte && nat_le byte 127 && not (byte == 60)
 
 -- an attribute of such a tag
 pub record PlainAttribute : Type 0 where
-  pub name : List ℕ
+  pub name : Spelled
   pub quote : ℕ
   pub value : List ℕ
 
 -- its parts are what they should be
 abbrev pub is_plain_attribute : PlainAttribute → Bool
-is_plain_attribute a = is_plain_name a.name && is_quote a.quote && list_all (is_literal_of a.quote) a.value
+is_plain_attribute a = is_plain_qualified a.name && is_quote a.quote && list_all (is_literal_of a.quote) a.value
 
 -- the attribute as it is written: a space, the name, `=`, the value in quotes
 abbrev pub plain_attribute_text : PlainAttribute → List ℕ
-plain_attribute_text a = 32 ∷ (a.name ++ 61 ∷ a.quote ∷ (a.value ++ a.quote ∷ []))
+plain_attribute_text a = 32 ∷ (qualified_text a.name ++ 61 ∷ a.quote ∷ (a.value ++ a.quote ∷ []))
 
 -- such a start tag, or such a tag of an empty element
 pub record PlainStart : Type 0 where
-  pub name : List ℕ
+  pub name : Spelled
   pub attributes : List PlainAttribute
   pub is_empty : Bool
 
 -- its parts are what they should be
 abbrev pub is_plain_start : PlainStart → Bool
-is_plain_start t = is_plain_name t.name && list_all is_plain_attribute t.attributes
+is_plain_start t = is_plain_qualified t.name && list_all is_plain_attribute t.attributes
 
 -- what it ends with
 abbrev pub start_end : Bool → List ℕ
@@ -42,4 +61,4 @@ start_end is_empty = if is_empty then 47 ∷ 62 ∷ [] else 62 ∷ []
 
 -- the tag as it is written
 abbrev pub plain_start_text : PlainStart → List ℕ
-plain_start_text t = 60 ∷ (t.name ++ (flat_map plain_attribute_text t.attributes ++ start_end t.is_empty))
+plain_start_text t = 60 ∷ (qualified_text t.name ++ (flat_map plain_attribute_text t.attributes ++ start_end t.is_empty))

@@ -1,9 +1,10 @@
 -- What a reader has taken and told, and what it answers, under the limit that its tags have. Each fact is stated under any limit; the one of XML has the shorter name.
-use Rattle.std.specs.Prelude.{◌≡◌, ◌≢◌, ◌≤◌, ℕ, ◌-◌, true, false, List, [], ◌++◌, length, reverse, Option, None}
+use Rattle.std.specs.Prelude.{◌≡◌, ◌≢◌, ◌<◌, ◌≤◌, ℕ, ◌+◌, ◌-◌, ◌==◌, true, false, List, [], ◌∷◌, ◌++◌, length, reverse, Option, None}
 use Rattle.lexical_core.specs.declared.rule.Rule.TheVariants.{Truncated}
-use Rattle.std.specs.List.{flat_map}
-use Rattle.markup.specs.Token.{Token, token_bytes}
-use Rattle.markup.specs.Marks.{Front, in_cdata, is_first, tag_limit}
+use Rattle.std.specs.List.{list_all, flat_map}
+use Rattle.markup.specs.Ascii.{is_ascii}
+use Rattle.markup.specs.Token.{Token, token_text, token_bytes}
+use Rattle.markup.specs.Marks.{Front, in_cdata, is_first, stands, tag_limit}
 use Rattle.markup.specs.Events.{Placed, events, open_tags}
 use Rattle.markup.specs.Faults.{IsClean, Fault, MarkFault, MarkFaultUnder, is_over, is_outside}
 use Rattle.markup.specs.Longest.{IsLongestUnder}
@@ -175,3 +176,25 @@ pub record MayTakeStartUnder (limit : ℕ) (reader : Reader) (bytes : List ℕ) 
 
 abbrev pub MayTakeStart : Reader → List ℕ → List Placed → PlainStart → Type 0
 MayTakeStart reader bytes told tag = MayTakeStartUnder tag_limit reader bytes told tag
+
+-- A token is open behind the tokens before, which begins with neither a CR nor a `]`; some token goes on with these bytes of ASCII and is not whole with them, and it has fewer bytes then than a tag may have.
+pub record MayTakeInsideUnder (limit : ℕ) (reader : Reader) (bytes : List ℕ) (told : List Placed) (more : List ℕ) : Type 0 where
+  pub tokens : List Token
+  pub keeps : Keeps limit Any reader bytes tokens told
+  pub first : ℕ
+  pub others : List ℕ
+  pub begun : keeps.reads.opens.chars ≡ first ∷ others
+  pub whole : keeps.reads.opens.part ≡ []
+  pub no_return : (first == 13) ≡ false
+  pub no_bracket : (first == 93) ≡ false
+  pub token : Token
+  pub next : ℕ
+  pub behind : List ℕ
+  pub after : List ℕ
+  pub text : token_text token ≡ (first ∷ (others ++ more)) ++ next ∷ behind
+  pub is : stands (reverse tokens) token after ≡ true
+  pub ascii : list_all is_ascii more ≡ true
+  pub short : length keeps.reads.bytes + length more < limit
+
+abbrev pub MayTakeInside : Reader → List ℕ → List Placed → List ℕ → Type 0
+MayTakeInside reader bytes told more = MayTakeInsideUnder tag_limit reader bytes told more

@@ -7,7 +7,7 @@
 //! element (`Run`), `take_blanks` one of white space alone, `take_reference` a whole reference (`CharacterReference`),
 //! `take_tag` a whole tag without attributes and prefix (`PlainTag`), `take_inside` bytes with which the open tag, comment
 //! or instruction goes on, and which show no event. They append none: what they answer says which there are. `take_start`
-//! takes a whole start tag with its attributes, and appends its events. `token` says how many bytes are held of the names
+//! takes a whole start tag with its prefixes and attributes, and appends its events. `token` says how many bytes are held of the names
 //! and values of the open tag, `depth` how many elements are open.
 //!
 //! Of `<q:a xmlns:q="u">x</q:a>` the events are the start of `a` in the namespace `u` at 0, the character `x` at 17 and the

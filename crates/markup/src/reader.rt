@@ -19,7 +19,7 @@ ghost use Rattle.markup.specs.declared.plain_tag.TagKind.{TagKind};
 ghost use Rattle.markup.specs.PlainTags.{tag_text, tag_items, name_behind, IsTagAt, IsTagInside};
 ghost use Rattle.markup.specs.Scopes.{IsScope, placed_at};
 ghost use Rattle.markup.specs.Tokenizers.{is_in_text};
-ghost use Rattle.markup.specs.Reading.{taken, failed, token, token_length, HasTaken, HasTakenUnder, HasToldUnder, IsInsideUnder, MayTakeTagUnder, Keeps, GoesOnUnder, StopsUnder, IsWhollyUnder, EndsEarlyUnder, RunsOutUnder};
+ghost use Rattle.markup.specs.Reading.{taken, failed, token, token_length, HasTaken, HasTakenUnder, HasToldUnder, IsInsideUnder, MayTakeTagUnder, MayTakeInsideUnder, Keeps, GoesOnUnder, StopsUnder, IsWhollyUnder, EndsEarlyUnder, RunsOutUnder};
 ghost use Rattle.markup.specs.Inputs.{Any, Begins, is_return};
 
 mod starts;
@@ -208,13 +208,15 @@ impl Reader {
     /// Takes bytes at the front of the piece that go on with the open token and end none: of the names
     /// and values of a tag, of a comment, of an instruction, up to the one that ends it and to the
     /// first that is none of ASCII. They show no event. It answers how many they are, 0 where there
-    /// are none; any other byte is for `take`. Where there is no memory, and after an error, it
-    /// answers as `take` does.
+    /// are none; any other byte is for `take`. None is left with which the token goes on and has fewer
+    /// bytes than a tag may have. Where there is no memory, and after an error, it answers as `take`
+    /// does.
     pub fn take_inside(&mut self, piece: &[u8]) -> Result<usize, MarkError>
         requires { failed self.old ≡ None → taken self.old + length piece.now ≤ 2 ^ 40 }
         ensures none { IfOk result (λ n. n ≡ 0 → self.new ≡ self.old) }
         ensures within { IfOk result (λ n. n ≤ length piece.now) }
         ensures taken { (limit : ℕ) (bytes : List ℕ) (told : List Placed) → HasTakenUnder limit self.old bytes told → IfOk result (λ n. 0 < n → HasToldUnder limit self.new (bytes ++ take n piece.now) told) }
+        ensures all { (limit : ℕ) (bytes : List ℕ) (told : List Placed) (more rest : List ℕ) → MayTakeInsideUnder limit self.old bytes told more → piece.now ≡ more ++ rest → IfOk result (λ n. length more ≤ n) }
         ensures count { IfOk result (λ n. taken self.new ≡ taken self.old + n) }
         ensures failed { IfErr result (λ e. failed self.new ≡ Some e) }
         ensures memory { failed self.old ≡ None → IfErr result (λ e. e ≡ MarkError.Memory) }

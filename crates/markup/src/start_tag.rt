@@ -4,7 +4,8 @@ ghost use Rattle.std.specs.List.{list_all, flat_map, prefix_len};
 ghost use Rattle.markup.specs.Marks.{tag_limit, begins_with};
 ghost use Rattle.markup.specs.PlainTags.{continues_plain, is_plain_name};
 ghost use Rattle.markup.specs.PlainStarts.{is_quote, PlainAttribute, is_plain_attribute, plain_attribute_text, PlainStart, is_plain_start, plain_start_text};
-ghost use Rattle.markup.specs.inner.WholeStarts.{is_empty_kind, IsValueAt, IsAttributeAt, AreGiven, IsStartAt};
+ghost use Rattle.markup.specs.inner.WholeStarts.{named_by, goes_on_name, is_empty_kind, IsLocalAt, IsNameAt, IsValueAt, IsAttributeAt, AreGiven, IsStartAt};
+ghost use Rattle.markup.specs.declared.tag.Spelled.{Spelled};
 
 use crate::attributes::text_of;
 use crate::inside::value_length;
@@ -22,6 +23,21 @@ pub(crate) struct WholeStart {
     pub(crate) bytes: usize,
 }
 
+/// The plain name behind a colon at the front of bytes, and what is behind it.
+#[derive(Clone, Copy)]
+struct LocalAt<'a> {
+    local: &'a [u8],
+    behind: &'a [u8],
+}
+
+/// A name at the front of bytes, whose prefix is empty where it has none, and what is behind it.
+#[derive(Clone, Copy)]
+struct NameAt<'a> {
+    prefix: &'a [u8],
+    local: &'a [u8],
+    behind: &'a [u8],
+}
+
 /// A value in quotes at the front of bytes, and what is behind it.
 #[derive(Clone, Copy)]
 struct ValueAt<'a> {
@@ -32,14 +48,15 @@ struct ValueAt<'a> {
 /// An attribute as it stands at the front of bytes, and what is behind it.
 #[derive(Clone, Copy)]
 struct AttributeAt<'a> {
-    name: &'a [u8],
+    prefix: &'a [u8],
+    local: &'a [u8],
     value: &'a [u8],
     behind: &'a [u8],
 }
 
 /// How many bytes at the front are a plain name, 0 where they begin with none.
 #[inline]
-fn name_at(bytes: &[u8]) -> usize
+fn part_at(bytes: &[u8]) -> usize
     ensures within { result ≤ length bytes.now }
     ensures named { 0 < result → is_plain_name (take result bytes.now) ≡ true }
     ensures all { (name behind : List ℕ) → is_plain_name name ≡ true → bytes.now ≡ name ++ behind → prefix_len continues_plain behind ≡ 0 → result ≡ length name }
@@ -51,6 +68,51 @@ fn name_at(bytes: &[u8]) -> usize
         return 0;
     }
     name_length(bytes)
+}
+
+/// The plain name behind the colon at the front.
+#[inline]
+fn local_at<'a>(bytes: &'a [u8]) -> Option<LocalAt<'a>>
+    ensures found { IfSome result (λ l. IsLocalAt bytes.now l.local.now l.behind.now) }
+    ensures all { (local behind : List ℕ) → IsLocalAt bytes.now local behind → prefix_len continues_plain behind ≡ 0 → IsSomeAnd result (λ l. l.behind.now ≡ behind) }
+{
+    let Some((mark, named)) = bytes.split_first() else {
+        return None;
+    };
+    if *mark != b':' {
+        return None;
+    }
+    let count = part_at(named);
+    if count == 0 {
+        return None;
+    }
+    let (local, behind) = named.split_at(count);
+    Some(LocalAt { local, behind })
+}
+
+/// The name at the front, whose parts are plain (Namespaces in XML 1.0 §4, QName).
+#[inline]
+fn name_at<'a>(bytes: &'a [u8]) -> Option<NameAt<'a>>
+    ensures found { IfSome result (λ n. IsNameAt bytes.now (named_by n.prefix.now n.local.now) n.behind.now) }
+    ensures all { (name : Spelled) (behind : List ℕ) → IsNameAt bytes.now name behind → prefix_len goes_on_name behind ≡ 0 → IsSomeAnd result (λ n. n.behind.now ≡ behind) }
+{
+    let count = part_at(bytes);
+    if count == 0 {
+        return None;
+    }
+    let (first, after) = bytes.split_at(count);
+    let Some(LocalAt { local, behind }) = local_at(after) else {
+        return Some(NameAt {
+            prefix: &[],
+            local: first,
+            behind: after,
+        });
+    };
+    Some(NameAt {
+        prefix: first,
+        local,
+        behind,
+    })
 }
 
 /// Whether the byte is one of the two kinds of quotes (XML 1.0 §2.3, AttValue).
@@ -83,12 +145,12 @@ fn value_at<'a>(bytes: &'a [u8]) -> Option<ValueAt<'a>>
     Some(ValueAt { value, behind })
 }
 
-/// The attribute at the front, behind one space, where its name is plain and the bytes of its value
-/// stand for themselves.
+/// The attribute at the front, behind one space, where the parts of its name are plain and the bytes
+/// of its value stand for themselves.
 #[inline]
 fn attribute_at<'a>(bytes: &'a [u8]) -> Option<AttributeAt<'a>>
-    ensures found { IfSome result (λ a. IsAttributeAt bytes.now a.name.now a.value.now a.behind.now) }
-    ensures all { (name value behind : List ℕ) → IsAttributeAt bytes.now name value behind → IsSomeAnd result (λ a. a.behind.now ≡ behind) }
+    ensures found { IfSome result (λ a. IsAttributeAt bytes.now (named_by a.prefix.now a.local.now) a.value.now a.behind.now) }
+    ensures all { (name : Spelled) (value behind : List ℕ) → IsAttributeAt bytes.now name value behind → IsSomeAnd result (λ a. a.behind.now ≡ behind) }
 {
     let Some((gap, named)) = bytes.split_first() else {
         return None;
@@ -96,12 +158,10 @@ fn attribute_at<'a>(bytes: &'a [u8]) -> Option<AttributeAt<'a>>
     if *gap != b' ' {
         return None;
     }
-    let count = name_at(named);
-    if count == 0 {
+    let Some(name) = name_at(named) else {
         return None;
-    }
-    let (name, after) = named.split_at(count);
-    let Some((mark, quoted)) = after.split_first() else {
+    };
+    let Some((mark, quoted)) = name.behind.split_first() else {
         return None;
     };
     if *mark != b'=' {
@@ -111,29 +171,41 @@ fn attribute_at<'a>(bytes: &'a [u8]) -> Option<AttributeAt<'a>>
         return None;
     };
     Some(AttributeAt {
-        name,
+        prefix: name.prefix,
+        local: name.local,
         value,
         behind,
     })
 }
 
-/// A name without a prefix, in memory of its own.
-fn plain_spelled(local: &[u8], alloc: Global) -> Result<Spelled, AllocError>
-    ensures { IfOk result (λ n. n ≡ record { prefix = []; local = local.now }) }
+/// A prefix, which may be empty, in memory of its own.
+#[inline]
+fn prefix_of(prefix: &[u8], alloc: Global) -> Result<Text, AllocError>
+    ensures { IfOk result (λ t. t ≡ prefix.now) }
+{
+    if prefix.is_empty() {
+        return Ok(Text::new(alloc));
+    }
+    text_of(prefix, alloc)
+}
+
+/// A name in memory of its own.
+fn spelled_of(prefix: &[u8], local: &[u8], alloc: Global) -> Result<Spelled, AllocError>
+    ensures { IfOk result (λ n. n ≡ named_by prefix.now local.now) }
 {
     Ok(Spelled {
-        prefix: Text::new(alloc),
+        prefix: prefix_of(prefix, alloc)?,
         local: text_of(local, alloc)?,
     })
 }
 
-/// What an attribute without a prefix gives, in memory of its own.
-fn plain_given(name: &[u8], value: &[u8], alloc: Global) -> Result<Given, AllocError>
-    ensures { IfOk result (λ g. g ≡ record { name = record { prefix = []; local = name.now }; value = value.now }) }
+/// What an attribute gives, in memory of its own.
+fn given_of(attribute: AttributeAt<'_>, alloc: Global) -> Result<Given, AllocError>
+    ensures { IfOk result (λ g. g ≡ record { name = named_by attribute.entry.prefix.now attribute.entry.local.now; value = attribute.entry.value.now }) }
 {
     Ok(Given {
-        name: plain_spelled(name, alloc)?,
-        value: text_of(value, alloc)?,
+        name: spelled_of(attribute.prefix, attribute.local, alloc)?,
+        value: text_of(attribute.value, alloc)?,
     })
 }
 
@@ -148,7 +220,7 @@ fn attributes_at(bytes: &[u8], found: &mut Items<Given>, alloc: Global) -> Resul
 {
     let mut left = bytes;
     while let Some(attribute) = attribute_at(left) {
-        let given = plain_given(attribute.name, attribute.value, alloc)?;
+        let given = given_of(attribute, alloc)?;
         found.push(given)?;
         left = attribute.behind;
     }
@@ -176,26 +248,23 @@ fn start_in(front: &[u8], alloc: Global) -> Result<Option<WholeStart>, AllocErro
     if *first != b'<' {
         return Ok(None);
     }
-    let count = name_at(named);
-    if count == 0 {
+    let Some(name) = name_at(named) else {
         return Ok(None);
-    }
-    let (name, behind) = named.split_at(count);
+    };
     let mut found = Items::new(alloc);
-    let size = attributes_at(behind, &mut found, alloc)?;
-    let (_, last) = behind.split_at(size);
+    let size = attributes_at(name.behind, &mut found, alloc)?;
+    let (_, last) = name.behind.split_at(size);
     let Some(kind) = closing(last) else {
         return Ok(None);
     };
-    let name = plain_spelled(name, alloc)?;
     let tag = Opening {
-        name,
+        name: spelled_of(name.prefix, name.local, alloc)?,
         given: found,
         is_empty: is_empty_kind(kind),
     };
     Ok(Some(WholeStart {
         tag,
-        bytes: count + size + mark_count(kind),
+        bytes: named.len() - name.behind.len() + size + mark_count(kind),
     }))
 }
 
@@ -213,8 +282,8 @@ fn within_limit(count: usize) -> usize
     }
 }
 
-/// The start tag that stands whole at the front of the piece, where its names are plain, its attributes
-/// stand behind one space each, and the bytes of their values stand for themselves.
+/// The start tag that stands whole at the front of the piece, where the parts of its names are plain, its
+/// attributes stand behind one space each, and the bytes of their values stand for themselves.
 pub(crate) fn start_at(piece: &[u8], alloc: Global) -> Result<Option<WholeStart>, AllocError>
     ensures found { IfOk result (λ o. IfSome o (λ start. IsStartAt piece.now start.tag start.bytes)) }
     ensures all { (tag : PlainStart) (rest : List ℕ) → is_plain_start tag ≡ true → length (plain_start_text tag) ≤ tag_limit → piece.now ≡ plain_start_text tag ++ rest →

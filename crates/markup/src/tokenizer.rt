@@ -1,5 +1,5 @@
 // Tokens of bytes that come one at a time.
-ghost use Rattle.std.specs.Prelude.{◌≡◌, ℕ, ◌<◌, ◌≤◌, ◌^◌, ◌+◌, ◌-◌, true, List, [], IfOk, IsTrue, IsFalse, length, take};
+ghost use Rattle.std.specs.Prelude.{◌≡◌, ℕ, ◌<◌, ◌≤◌, ◌^◌, ◌+◌, ◌-◌, ◌∷◌, ◌++◌, true, Some, List, [], IfOk, IsTrue, IsFalse, length, take};
 ghost use Rattle.markup.specs.Token.{Token};
 ghost use Rattle.markup.specs.Tokenizers.{is_plain};
 
@@ -160,7 +160,7 @@ impl Scan {
 }
 
 impl Tokenizer {
-    ghost use Rattle.markup.specs.inner.Inside.{is_inside, may_be_tag, GoesOver, GoesInside};
+    ghost use Rattle.markup.specs.inner.Inside.{is_inside, may_be_tag, GoesOver, GoesByOne, GoesByAll, GoesInside};
     ghost use Rattle.markup.specs.Marks.{IsLimit};
     ghost use Rattle.markup.specs.Drafts.{held};
     ghost use Rattle.markup.specs.TokenRules.{is_cdata};
@@ -425,6 +425,7 @@ impl Tokenizer {
         ensures none { IfOk result (λ n. n ≡ 0 → self.new ≡ self.old) }
         ensures within { IfOk result (λ n. n ≤ length piece.now) }
         ensures inside { IfOk result (λ n. 0 < n → GoesInside self.old self.new (take n piece.now)) }
+        ensures all { (more rest : List ℕ) → piece.now ≡ more ++ rest → GoesByAll self.old more → is_inside self.old.scan ≡ true → self.old.utf8 ≡ Some [] → (self.old.place - self.old.start) + length more < self.old.limit → IfOk result (λ n. length more ≤ n) }
         ensures place { IfOk result (λ n. self.new.place ≡ self.old.place + n) }
     {
         if !self.scan.is_inside() || !self.utf8.is_whole() {
@@ -442,6 +443,7 @@ impl Tokenizer {
     fn room(&self, count: usize) -> usize
         ensures within { result ≤ count }
         ensures short { may_be_tag self.now.scan ≡ true → 0 < result → (self.now.place - self.now.start) + result < self.now.limit }
+        ensures all { (n : ℕ) → n ≤ count → (self.now.place - self.now.start) + n < self.now.limit → n ≤ result }
     {
         if !self.scan.may_be_tag() {
             return count;
@@ -459,6 +461,7 @@ impl Tokenizer {
     fn go_over(&mut self, piece: &[u8]) -> Result<usize, AllocError>
         ensures within { IfOk result (λ n. n ≤ length piece.now) }
         ensures over { IfOk result (λ n. GoesOver self.old self.new (take n piece.now)) }
+        ensures all { (more rest : List ℕ) → piece.now ≡ more ++ rest → GoesByAll self.old more → IfOk result (λ n. length more ≤ n) }
     {
         let mut rest = piece;
         loop {
@@ -479,6 +482,7 @@ impl Tokenizer {
     fn go_on(&mut self, piece: &[u8]) -> Result<usize, AllocError>
         ensures within { IfOk result (λ n. n ≤ length piece.now) }
         ensures over { IfOk result (λ n. GoesOver self.old self.new (take n piece.now)) }
+        ensures all { (byte : ℕ) (rest : List ℕ) → piece.now ≡ byte ∷ rest → GoesByOne self.old byte → IfOk result (λ n. 0 < n) }
     {
         let count = self.scan.still_length(piece);
         if count == 0 {
@@ -493,6 +497,7 @@ impl Tokenizer {
     fn go_on_by_one(&mut self, piece: &[u8]) -> Result<usize, AllocError>
         ensures within { IfOk result (λ n. n ≤ length piece.now) }
         ensures over { IfOk result (λ n. GoesOver self.old self.new (take n piece.now)) }
+        ensures all { (byte : ℕ) (rest : List ℕ) → piece.now ≡ byte ∷ rest → GoesByOne self.old byte → IfOk result (λ n. 0 < n) }
     {
         let Some((byte, _)) = piece.split_first() else {
             return Ok(0);

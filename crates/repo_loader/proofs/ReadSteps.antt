@@ -23,7 +23,8 @@ use Rattle.repo_loader.specs.Selected.{event_tags}
 use Rattle.repo_loader.specs.FileFaults.{AreSound, IsFirstBroken}
 use Rattle.repo_loader.specs.Loaded.{limit, token_tags, HasLoadFault, broken, markup}
 use Rattle.repo_loader.specs.inner.SelectionSteps.{HasItemTexts, HaveTexts, HasLoaded, IsBrokenBy, LoadsOn}
-use Rattle.repo_loader.specs.inner.ProgressSteps.{markup_fault, HasRead, TellsFault, Shows, ReadsOn}
+use Rattle.repo_loader.specs.declared.progress.Front.TheVariants.{Breaks}
+use Rattle.repo_loader.specs.inner.ProgressSteps.{markup_fault, HasRead, TellsFault, Shows, ReadsOn, ReadsFront}
 use Rattle.repo_loader.proofs.Texts.{events_texts}
 use Rattle.repo_loader.proofs.EventSteps.{run_loaded}
 use Rattle.repo_loader.proofs.OneLoadFault.{front_before}
@@ -111,26 +112,33 @@ markup_shows bytes told old new fault e k s more short =
     let are : told ++ map placed new ≡ events [] 0 m.tokens = ap (λ v. told ++ v) (sym (new_events old new k.more e k.tells)) ∙ k.events_are ∙ ap (events [] 0) (sym same) in
     markup_found (bytes ++ more) (bytes ++ behind) fault (limit_of bytes more short) m (subst (λ es. AreSound [] (event_tags [] es)) are s) (λ t. absurd (k.no_cut t))
 
--- ---- one byte more
+-- ---- more bytes, with the events that they show
 
-length_one : (bytes : List ℕ) (byte : ℕ) (n m : ℕ) → m ≡ length bytes → n ≡ m + 1 → n ≡ length (bytes ++ byte ∷ [])
-length_one bytes byte n m e f = f ∙ (ap (λ v. v + 1) e ∙ sym (length-append bytes (byte ∷ [])))
+module _ (old new : Progress) (bytes more : List ℕ) (es : List Event) (h : HasRead old bytes) (g : GoesOn new.reader (bytes ++ more) h.told old.events es) where
+  now_taken : HasTaken new.reader (bytes ++ more) (h.told ++ map placed es)
+  now_taken = subst (λ v. HasTaken new.reader (bytes ++ more) (h.told ++ v)) (new_events old.events es g.more h.none g.tells) g.taken_are
 
-module _ (old new : Progress) (bytes : List ℕ) (byte : ℕ) (es : List Event) (h : HasRead old bytes) (g : GoesOn new.reader (bytes ++ byte ∷ []) h.told old.events es) where
-  now_taken : HasTaken new.reader (bytes ++ byte ∷ []) (h.told ++ map placed es)
-  now_taken = subst (λ v. HasTaken new.reader (bytes ++ byte ∷ []) (h.told ++ v)) (new_events old.events es g.more h.none g.tells) g.taken_are
-
-  pub reads_on : taken new.reader ≡ taken old.reader + 1 → new.events ≡ [] → (o : Option LoadFault) → LoadsOn new.selection (h.told ++ map placed es) o → ReadsOn new (bytes ++ byte ∷ []) o
+  pub reads_on : taken new.reader ≡ taken old.reader + length more → new.events ≡ [] → (o : Option LoadFault) → LoadsOn new.selection (h.told ++ map placed es) o → ReadsOn new (bytes ++ more) o
   reads_on n none None l = record {
     told = h.told ++ map placed es;
     given = now_taken;
-    counted = length_one bytes byte (taken new.reader) (taken old.reader) h.counted n;
+    counted = n ∙ (ap (λ v. v + length more) h.counted ∙ sym (length-append bytes more));
     loaded = l;
     none = none;
   }
-  reads_on n none (Some fault) b = broken_shows (bytes ++ byte ∷ []) (h.told ++ map placed es) fault (events_stay new.reader (bytes ++ byte ∷ []) (h.told ++ map placed es) now_taken) b
+  reads_on n none (Some fault) b = broken_shows (bytes ++ more) (h.told ++ map placed es) fault (events_stay new.reader (bytes ++ more) (h.told ++ map placed es) now_taken) b
 
--- the byte shows a fault of markup
+-- where nothing was taken, what was read stays
+pub still_read : (old new : Progress) (bytes : List ℕ) → new.reader ≡ old.reader → new.events ≡ old.events → new.selection ≡ old.selection → HasRead old bytes → HasRead new bytes
+still_read old new bytes reader events selection h = record {
+  told = h.told;
+  given = subst (λ r. HasTaken r bytes h.told) (sym reader) h.given;
+  counted = ap taken reader ∙ h.counted;
+  loaded = subst (λ s. HasLoaded s h.told) (sym selection) h.loaded;
+  none = events ∙ h.none;
+}
+
+-- the bytes show a fault of markup
 pub first_shows : (bytes : List ℕ) (told : List Placed) (old new : List Event) (mark : Told) (fault : LoadFault) → old ≡ [] → Refuses bytes told old new mark → TellsFault (told ++ map placed new) mark fault → Shows bytes fault
 first_shows bytes told old new mark fault e k (inl b) =
     broken_shows bytes (told ++ map placed new) fault (λ more. (k.tokens, k.rest ++ more, k.front more, k.clean, ap (λ v. told ++ v) (sym (new_events old new k.more e k.tells)) ∙ k.events_are)) b
@@ -196,22 +204,32 @@ run_seen old new bytes piece rest left n s e h = record {
   read = subst (HasRead new) (append_assoc bytes s.seen (take n rest)) h;
 }
 
-pub one_seen : (old new : Progress) (bytes piece rest : List ℕ) (byte : ℕ) (s : ReadSoFar old bytes piece (byte ∷ rest)) → HasRead new ((bytes ++ s.seen) ++ byte ∷ []) → ReadSoFar new bytes piece rest
-one_seen old new bytes piece rest byte s h = record {
-  seen = s.seen ++ byte ∷ [];
-  piece_is = s.piece_is ∙ sym (append_assoc s.seen (byte ∷ []) rest);
-  read = subst (HasRead new) (append_assoc bytes s.seen (byte ∷ [])) h;
-}
-
 shows_more : (bytes more : List ℕ) (fault : LoadFault) → Shows bytes fault → Shows (bytes ++ more) fault
 shows_more bytes more fault s rest short =
     subst (λ v. HasLoadFault v fault) (sym (append_assoc bytes more rest)) (s (more ++ rest) (omega (arith, short, length-append bytes more)))
 
-pub fault_seen : (old : Progress) (bytes piece rest : List ℕ) (byte : ℕ) (fault : LoadFault) (s : ReadSoFar old bytes piece (byte ∷ rest)) → Shows ((bytes ++ s.seen) ++ byte ∷ []) fault → Shows (bytes ++ piece) fault
-fault_seen old bytes piece rest byte fault s k =
-    subst (λ v. Shows v fault) (regrouped bytes s.seen byte rest ∙ ap (λ v. bytes ++ v) (sym s.piece_is)) (shows_more ((bytes ++ s.seen) ++ byte ∷ []) rest fault k) where
-      regrouped : (a b : List ℕ) (c : ℕ) (d : List ℕ) → ((a ++ b) ++ c ∷ []) ++ d ≡ a ++ (b ++ c ∷ d)
-      regrouped a b c d = append_assoc (a ++ b) (c ∷ []) d ∙ append_assoc a b (c ∷ d)
+-- a fault that bytes of the rest show
+pub fault_seen : (old : Progress) (bytes piece rest : List ℕ) (fault : LoadFault) (s : ReadSoFar old bytes piece rest) → Shows ((bytes ++ s.seen) ++ rest) fault → Shows (bytes ++ piece) fault
+fault_seen old bytes piece rest fault s k =
+    subst (λ v. Shows v fault) (append_assoc bytes s.seen rest ∙ ap (λ v. bytes ++ v) (sym s.piece_is)) k
 
 pub all_seen : (p : Progress) (bytes piece : List ℕ) → ReadSoFar p bytes piece [] → HasRead p (bytes ++ piece)
 all_seen p bytes piece s = subst (λ v. HasRead p (bytes ++ v)) (sym (s.piece_is ∙ append-nil s.seen)) s.read
+
+-- ---- what stands at the front of a piece
+
+-- so many bytes of it were given to the reader, and their events are read
+pub front_on : (old new : Progress) (bytes piece : List ℕ) (n : ℕ) (reader : Reader) (es : List Event) (h : HasRead old bytes) → GoesOn reader (bytes ++ take n piece) h.told old.events es → n ≤ length piece
+    → taken reader ≡ taken old.reader + n → new.reader ≡ reader → new.events ≡ [] → (o : Option LoadFault) → LoadsOn new.selection (h.told ++ map placed es) o → ReadsOn new (bytes ++ take n piece) o
+front_on old new bytes piece n reader es h g within counted same none o l =
+    reads_on old new bytes (take n piece) es h (subst (λ r. GoesOn r (bytes ++ take n piece) h.told old.events es) (sym same) g)
+    (ap taken same ∙ (counted ∙ ap (λ v. taken old.reader + v) (sym (length-take-le n piece within)))) none o l
+
+-- no bytes were taken
+pub none_read : (p : Progress) (bytes piece : List ℕ) (n : ℕ) → n ≡ 0 → HasRead p (bytes ++ take n piece) → HasRead p bytes
+none_read p bytes piece n e h = subst (HasRead p) (append-nil bytes) (subst (λ k. HasRead p (bytes ++ take k piece)) e h)
+
+-- a fault that the front shows
+pub front_broken : (new : Progress) (bytes piece : List ℕ) (n : ℕ) (fault : LoadFault) → ReadsOn new (bytes ++ take n piece) (Some fault) → ReadsFront new bytes piece (Breaks fault)
+front_broken new bytes piece n fault h =
+    subst (λ v. Shows v fault) (append_assoc bytes (take n piece) (drop n piece) ∙ ap (λ v. bytes ++ v) (take-append-drop n piece)) (shows_more (bytes ++ take n piece) (drop n piece) fault h)

@@ -5,7 +5,7 @@ ghost use Rattle.markup.specs.EventItems.{placed};
 ghost use Rattle.markup.specs.Reading.{taken, IsWholly};
 ghost use Rattle.repo_loader.specs.Loaded.{limit, Spells};
 ghost use Rattle.repo_loader.specs.inner.SelectionSteps.{HasLoaded, LoadsOn, HaveTexts};
-ghost use Rattle.repo_loader.specs.inner.ProgressSteps.{HasRead, ReadsOn, EndsAs, markup_fault, TellsFault};
+ghost use Rattle.repo_loader.specs.inner.ProgressSteps.{HasRead, ReadsOn, ReadsFront, TakesSome, EndsAs, markup_fault, TellsFault};
 
 use crate::fault::LoadFault;
 use crate::selection::Selection;
@@ -20,6 +20,14 @@ pub struct Progress {
     /// The events of the last byte.
     events: Events,
     selection: Selection,
+}
+
+/// What the front of a piece is.
+pub enum Front {
+    /// So many bytes are read.
+    Read(usize),
+    /// It shows this fault.
+    Breaks(LoadFault),
 }
 
 /// The fault of a file whose markup has this one.
@@ -111,18 +119,65 @@ impl Progress {
         }
     }
 
-    /// Takes the bytes at the front of the piece that say nothing by themselves.
-    fn take_run(&mut self, piece: &[u8]) -> Result<usize, AllocError>
-        requires { taken self.old.reader + length piece.now < 2 ^ 40 }
-        ensures within { IfOk result (λ n. n ≤ length piece.now) }
-        ensures read { (bytes : List ℕ) → HasRead self.old bytes → IfOk result (λ n. HasRead self.new (bytes ++ take n piece.now)) }
-        ensures count { IfOk result (λ n. taken self.new.reader ≡ taken self.old.reader + n) }
+    /// Takes the first byte of the piece.
+    fn take_one(&mut self, piece: &[u8]) -> Result<Front, AllocError>
+        requires some { 0 < length piece.now }
+        requires count { taken self.old.reader + length piece.now < 2 ^ 40 }
+        requires read { (bytes : List ℕ) × HasRead self.old bytes }
+        ensures some { IfOk result (λ f. TakesSome self.old self.new piece.now f) }
+        ensures read { (bytes : List ℕ) → HasRead self.old bytes → IfOk result (λ f. ReadsFront self.new bytes piece.now f) }
+    {
+        let Some((byte, _)) = piece.split_first() else {
+            return Ok(Front::Read(0));
+        };
+        match self.take(*byte)? {
+            Some(fault) => Ok(Front::Breaks(fault)),
+            None => Ok(Front::Read(1)),
+        }
+    }
+
+    /// Takes the start tag at the front of the piece, where one stands there that the reader takes as
+    /// a whole, or else the first byte.
+    fn take_token(&mut self, piece: &[u8]) -> Result<Front, AllocError>
+        requires some { 0 < length piece.now }
+        requires count { taken self.old.reader + length piece.now < 2 ^ 40 }
+        requires read { (bytes : List ℕ) × HasRead self.old bytes }
+        ensures some { IfOk result (λ f. TakesSome self.old self.new piece.now f) }
+        ensures read { (bytes : List ℕ) → HasRead self.old bytes → IfOk result (λ f. ReadsFront self.new bytes piece.now f) }
+    {
+        match self.reader.take_start(piece, &mut self.events) {
+            Ok(count) => {
+                if count == 0 {
+                    return self.take_one(piece);
+                }
+                match self.take_events()? {
+                    Some(fault) => Ok(Front::Breaks(fault)),
+                    None => Ok(Front::Read(count)),
+                }
+            }
+            Err(MarkError::Refused(fault)) => Ok(Front::Breaks(self.first_fault(fault)?)),
+            Err(MarkError::Memory) => Err(AllocError),
+        }
+    }
+
+    /// Takes what stands at the front of the piece: characters, or what goes on with the open token,
+    /// or a start tag, or else its first byte.
+    fn take_front(&mut self, piece: &[u8]) -> Result<Front, AllocError>
+        requires some { 0 < length piece.now }
+        requires count { taken self.old.reader + length piece.now < 2 ^ 40 }
+        requires read { (bytes : List ℕ) × HasRead self.old bytes }
+        ensures some { IfOk result (λ f. TakesSome self.old self.new piece.now f) }
+        ensures read { (bytes : List ℕ) → HasRead self.old bytes → IfOk result (λ f. ReadsFront self.new bytes piece.now f) }
     {
         let characters = self.take_characters(piece);
         if characters > 0 {
-            return Ok(characters);
+            return Ok(Front::Read(characters));
         }
-        self.take_inside(piece)
+        let inside = self.take_inside(piece)?;
+        if inside > 0 {
+            return Ok(Front::Read(inside));
+        }
+        self.take_token(piece)
     }
 
     /// Takes the next bytes, as far as the first that shows a fault.
@@ -133,17 +188,15 @@ impl Progress {
         ensures count { IfOk result (λ o. IfNone o (taken self.new.reader ≡ taken self.old.reader + length piece.now)) }
     {
         let mut rest = piece;
-        loop {
-            let count = self.take_run(rest)?;
-            let (_, left) = rest.split_at(count);
-            let Some((byte, after)) = left.split_first() else {
-                return Ok(None);
+        while !rest.is_empty() {
+            let count = match self.take_front(rest)? {
+                Front::Read(count) => count,
+                Front::Breaks(fault) => return Ok(Some(fault)),
             };
-            if let Some(fault) = self.take(*byte)? {
-                return Ok(Some(fault));
-            }
-            rest = after;
+            let (_, behind) = rest.split_at(count);
+            rest = behind;
         }
+        Ok(None)
     }
 
     /// The end of the bytes. It answers the fault where they end too early.

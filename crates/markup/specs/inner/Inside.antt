@@ -1,12 +1,16 @@
 -- Bytes that go on with an open token and end none.
 use Rattle.std.specs.Prelude.{◌≡◌, ℕ, Bool, ◌+◌, ◌-◌, ◌<◌, ◌==◌, ◌&&◌, ◌||◌, nat_le, not, true, false, List, [], ◌++◌, length, Some, encode_utf8_all}
+use Rattle.std.specs.List.{list_all}
+use Rattle.markup.specs.Ascii.{is_ascii}
 use Rattle.markup.specs.Drafts.{add_value}
+use Rattle.markup.specs.Scans.{step}
 use Rattle.markup.specs.ScanRuns.{run, At}
 use Rattle.markup.specs.Tokenizers.{is_tag, scanned}
 use Rattle.markup.specs.declared.draft.Draft.{Draft}
 use Rattle.markup.specs.declared.tag.Spelled.{Spelled}
 use Rattle.markup.specs.declared.scan.Scan.{Scan}
 use Rattle.markup.specs.declared.scan.Scan.TheVariants.{Begin, AfterReturn, Bracket, Brackets, Opened, StartName, AttributeName, Value, EndName}
+use Rattle.markup.specs.declared.scan.Turn.TheVariants.{Goes}
 use Rattle.markup.specs.declared.tokenizer.Tokenizer.{Tokenizer}
 
 -- a character of a comment or an instruction that does not begin its end (XML 1.0 §2.5, §2.6)
@@ -35,6 +39,19 @@ pub record GoesOver (old new : Tokenizer) (bytes : List ℕ) : Type 0 where
   pub encoded : encode_utf8_all bytes ≡ bytes
   pub scans : run old.scan old.draft bytes ≡ At new.scan new.draft
   pub after : new ≡ scanned old new.scan new.draft
+
+-- The open token goes on with the byte of ASCII.
+pub record GoesByOne (z : Tokenizer) (byte : ℕ) : Type 0 where
+  pub ascii : is_ascii byte ≡ true
+  pub scan : Scan
+  pub goes : step z.scan byte ≡ Goes scan
+
+-- It goes on with these, one after another.
+pub record GoesByAll (z : Tokenizer) (bytes : List ℕ) : Type 0 where
+  pub ascii : list_all is_ascii bytes ≡ true
+  pub scan : Scan
+  pub draft : Draft
+  pub goes : run z.scan z.draft bytes ≡ At scan draft
 
 -- a token is open, of which the next byte settles nothing
 abbrev pub is_inside : Scan → Bool

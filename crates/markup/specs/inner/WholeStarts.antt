@@ -1,17 +1,36 @@
--- Start tags that a reader takes whole with their attributes: names of ASCII letters, digits, `-`, `.` and `_`, one space before each attribute, and values of ASCII that stand for themselves (XML 1.0 §3.1).
-use Rattle.std.specs.Prelude.{◌≡◌, ℕ, Bool, ◌<◌, ◌≤◌, true, false, List, ◌∷◌, ◌++◌, length, take, map, encode_utf8_all}
+-- Start tags that a reader takes whole with their attributes: names of ASCII letters, digits, `-`, `.` and `_`, with or without a prefix, one space before each attribute, and values of ASCII that stand for themselves (XML 1.0 §3.1).
+use Rattle.std.specs.Prelude.{◌≡◌, ℕ, Bool, ◌==◌, ◌||◌, ◌<◌, ◌≤◌, true, false, List, ◌∷◌, ◌++◌, length, take, map, encode_utf8_all}
 use Rattle.std.specs.List.{list_all, flat_map}
 use Rattle.markup.specs.Attribute.{Attribute, is_attribute, attribute_text}
 use Rattle.markup.specs.Token.{StartTag, Start, is_start_tag, token_bytes}
 use Rattle.markup.specs.Marks.{tag_limit, begins_with}
 use Rattle.markup.specs.Events.{opening}
 use Rattle.markup.specs.Events.{given as given_by}
-use Rattle.markup.specs.PlainTags.{is_plain_name}
-use Rattle.markup.specs.PlainStarts.{is_quote, is_literal_of, PlainAttribute, is_plain_attribute, plain_attribute_text}
+use Rattle.markup.specs.PlainTags.{continues_plain, is_plain_name}
+use Rattle.markup.specs.PlainStarts.{is_plain_qualified, qualified_text, is_quote, is_literal_of, PlainAttribute, is_plain_attribute, plain_attribute_text}
 use Rattle.markup.specs.declared.plain_tag.TagKind.{TagKind}
 use Rattle.markup.specs.declared.plain_tag.TagKind.TheVariants.{Empty}
 use Rattle.markup.specs.declared.tag.Given.{Given}
 use Rattle.markup.specs.declared.tag.Opening.{Opening}
+use Rattle.markup.specs.declared.tag.Spelled.{Spelled}
+
+-- the name of these parts
+abbrev pub named_by : List ℕ → List ℕ → Spelled
+named_by prefix local = record { prefix = prefix; local = local }
+
+-- a byte with which a name goes on
+abbrev pub goes_on_name : ℕ → Bool
+goes_on_name b = continues_plain b || b == 58
+
+-- The bytes begin with a colon and a plain name.
+pub record IsLocalAt (bytes local behind : List ℕ) : Type 0 where
+  pub spelled : bytes ≡ 58 ∷ (local ++ behind)
+  pub named : is_plain_name local ≡ true
+
+-- The bytes begin with a name whose parts are plain.
+pub record IsNameAt (bytes : List ℕ) (name : Spelled) (behind : List ℕ) : Type 0 where
+  pub spelled : bytes ≡ qualified_text name ++ behind
+  pub named : is_plain_qualified name ≡ true
 
 -- The bytes begin with a value in quotes whose bytes stand for themselves.
 pub record IsValueAt (bytes value behind : List ℕ) : Type 0 where
@@ -20,12 +39,12 @@ pub record IsValueAt (bytes value behind : List ℕ) : Type 0 where
   pub quoted : is_quote quote ≡ true
   pub literal : list_all (is_literal_of quote) value ≡ true
 
--- The bytes begin with a space, a plain name, `=` and a value in quotes whose bytes stand for themselves.
-pub record IsAttributeAt (bytes name value behind : List ℕ) : Type 0 where
+-- The bytes begin with a space, a name whose parts are plain, `=` and a value in quotes whose bytes stand for themselves.
+pub record IsAttributeAt (bytes : List ℕ) (name : Spelled) (value behind : List ℕ) : Type 0 where
   pub quote : ℕ
-  pub spelled : bytes ≡ 32 ∷ (name ++ 61 ∷ quote ∷ (value ++ quote ∷ behind))
+  pub spelled : bytes ≡ 32 ∷ (qualified_text name ++ 61 ∷ quote ∷ (value ++ quote ∷ behind))
   pub quoted : is_quote quote ≡ true
-  pub named : is_plain_name name ≡ true
+  pub named : is_plain_qualified name ≡ true
   pub literal : list_all (is_literal_of quote) value ≡ true
 
 -- The bytes begin with attributes that give this, and then the rest.

@@ -14,9 +14,10 @@ use std::alloc::AllocError;
 
 impl Reader {
     /// Takes the start tag that stands whole at the front of the piece, where no token is open, and
-    /// appends its events: with names of ASCII letters, digits, `-`, `.` and `_`, attributes behind one
-    /// space each, and values of ASCII without references, tabs and line ends, in either kind of quotes
-    /// (XML 1.0 §3.1). It answers how many bytes the tag has, 0 where no such tag is taken; any
+    /// appends its events: with names of ASCII letters, digits, `-`, `.` and `_`, with or without a prefix
+    /// of such characters (Namespaces in XML 1.0 §4), attributes and declarations behind one space each,
+    /// and values of ASCII without references, tabs and line ends, in either kind of quotes (XML 1.0
+    /// §3.1). It answers how many bytes the tag has, 0 where no such tag is taken; any
     /// other token is for `take`. Each such tag is taken that stands behind a token other than the byte
     /// order mark, in no CDATA section, and has at most 1,048,576 bytes. A fault of the tag is told as
     /// `take` tells it with the tag's last byte. Where there is no memory, and after an error, it

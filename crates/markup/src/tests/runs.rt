@@ -102,7 +102,7 @@ fn texts_in_pieces(rt: HostRuntime) -> Result<(), AllocError> {
 
 /// An instance with tags, runs and what stands between them.
 static SHAPES: &str =
-    "<a xmlns=\"u\">\n <b>x y\tz</b>\r\n<c/><p:d xmlns:p=\"v\"><e>]</e>]]<f.g-h_1>&lt;&#x41;</f.g-h_1></p:d><!-- - --><?q ?><i j='k&#65;\"l\t' m = \"'n\"/><![CDATA[<>]]></a>";
+    "<a xmlns=\"u\">\n <b>x y\tz</b>\r\n<c/><p:d xmlns:p=\"v\"><e p:j='k'>]</e>]]<f.g-h_1>&lt;&#x41;</f.g-h_1></p:d><!-- - --><?q ?><i j='k&#65;\"l\t' m = \"'n\"/><![CDATA[<>]]></a>";
 
 /// With the byte at this place changed to another one, the text is answered as by single bytes.
 fn check_change(rt: &impl Abort, alloc: Global, at: usize, byte: u8) -> Result<(), AllocError> {
@@ -269,7 +269,7 @@ fn whole_tags(rt: HostRuntime) {
 
 /// Pieces behind a start tag, how many bytes of a start tag at their front are taken at once, and how many
 /// events are told.
-static STARTS: [(&str, usize, usize); 16] = [
+static STARTS: [(&str, usize, usize); 24] = [
     ("<b c=\"d\">e", 9, 1),
     ("<b c='d\"e' f=\"'\"/>g", 18, 2),
     ("<b>", 3, 1),
@@ -280,7 +280,15 @@ static STARTS: [(&str, usize, usize); 16] = [
     ("<b c='d' >", 0, 0),
     ("<b  c='d'>", 0, 0),
     ("<b c ='d'>", 0, 0),
-    ("<b p:c='d'>", 0, 0),
+    ("<p:b xmlns:p='u'>", 17, 1),
+    ("<b xmlns:p='u' p:c='d'/>", 24, 2),
+    ("<p:b q:c='d' xmlns:p='u' xmlns:q='v'/>", 38, 2),
+    ("<p:q:b>", 0, 0),
+    ("<:b>", 0, 0),
+    ("<p:>", 0, 0),
+    ("<b p:q:c='d'>", 0, 0),
+    ("<b :c='d'>", 0, 0),
+    ("<b p:='d'>", 0, 0),
     ("<b c='&lt;'>", 0, 0),
     ("<b c='\t'>", 0, 0),
     ("<b c='\u{E9}'>", 0, 0),
@@ -320,6 +328,39 @@ fn refused_starts(rt: HostRuntime) {
     };
     assert!(rt; found == Err(MarkError::Refused(fault)));
     assert!(rt; out.len() == 0);
+}
+
+/// Start tags behind `<a>` whose prefix is bound to nothing, or may not be bound so.
+static UNBOUND: [&str; 4] = ["<p:b>", "<b p:c='d'>", "<xmlns:b>", "<b xmlns:xmlns='u'>"];
+
+/// Such a tag is refused at its first byte, as it is where it goes by single bytes.
+#[test]
+fn unbound_prefixes(rt: HostRuntime) -> Result<(), AllocError> {
+    let fault = MarkFault {
+        rule: Rule::BadPrefix,
+        place: 3,
+    };
+    for piece in &UNBOUND {
+        let Some(mut reader) = behind(rt.alloc(), b"<a>") else {
+            continue;
+        };
+        if piece.len() > 100 {
+            continue;
+        }
+        let mut out = Events::new(rt.alloc());
+        let found = reader.take_start(piece.as_bytes(), &mut out);
+        assert!(rt;
+            found == Err(MarkError::Refused(fault)) && out.len() == 0,
+            "{piece}: {found:?}"
+        );
+        let bytes = repeated(rt.alloc(), &[("<a>", 1), (*piece, 1)])?;
+        let slowly = answer(rt.alloc(), bytes.as_slice());
+        assert!(rt;
+            slowly == Verdict::At(Rule::BadPrefix, 3),
+            "{piece}: {slowly:?}"
+        );
+    }
+    Ok(())
 }
 
 /// What was taken, pieces behind it, and how many bytes at their front go on with the open token.

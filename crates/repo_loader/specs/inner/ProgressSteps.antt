@@ -1,11 +1,13 @@
 -- How far the bytes of a repository file are read.
-use Rattle.std.specs.Prelude.{◌≡◌, ◌⊎◌, ℕ, ◌+◌, ◌≤◌, List, [], ◌++◌, length, Option, Some, None, IfSome}
+use Rattle.std.specs.Prelude.{◌≡◌, ◌⊎◌, ℕ, ◌+◌, ◌<◌, ◌≤◌, List, [], ◌++◌, length, take, Option, Some, None, IfSome}
 use Rattle.std.specs.Io.KnownBytes.{Consumes}
 use Rattle.markup.specs.Events.{Placed}
 use Rattle.markup.specs.Reading.{HasTaken, IsWholly, taken}
 use Rattle.markup.specs.declared.reader.MarkFault.{MarkFault as Told}
 use Rattle.repo_loader.specs.declared.fault.LoadFault.{LoadFault}
 use Rattle.repo_loader.specs.declared.progress.Progress.{Progress}
+use Rattle.repo_loader.specs.declared.progress.Front.{Front}
+use Rattle.repo_loader.specs.declared.progress.Front.TheVariants.{Read, Breaks}
 use Rattle.repo_loader.specs.Selected.{event_tags}
 use Rattle.repo_loader.specs.FileFaults.{AreSound}
 use Rattle.repo_loader.specs.Loaded.{limit, HasLoadFault}
@@ -35,6 +37,16 @@ Shows bytes fault = (behind : List ℕ) → length bytes ≤ limit → HasLoadFa
 abbrev pub ReadsOn : Progress → List ℕ → Option LoadFault → Type 0
 ReadsOn p bytes None = HasRead p bytes
 ReadsOn p bytes (Some fault) = Shows bytes fault
+
+-- what was read of the front of a piece behind the bytes
+abbrev pub ReadsFront : Progress → List ℕ → List ℕ → Front → Type 0
+ReadsFront p bytes piece (Read n) = HasRead p (bytes ++ take n piece)
+ReadsFront p bytes piece (Breaks fault) = Shows (bytes ++ piece) fault
+
+-- that are some bytes, if no fault is shown, and so many more are taken
+abbrev pub TakesSome : Progress → Progress → List ℕ → Front → Type 0
+TakesSome old new piece (Read n) = (0 < n) × (n ≤ length piece) × (taken new.reader ≡ taken old.reader + n)
+TakesSome old new piece (Breaks fault) = Unit {0}
 
 -- The bytes are whole, and what they say is read.
 pub record HasWhole (p : Progress) (bytes : List ℕ) : Type 0 where

@@ -1,19 +1,21 @@
--- What begins with a byte that a name may begin with, and goes on with such bytes, is a name.
-use Rattle.std.proofs.Common.{◌≡◌, false, length, refl, sym, ◌∙◌, rules}
-use Rattle.std.proofs.lemmas.Bool.{both_ways}
-use Rattle.markup.proofs.StartScans.{name_is_plain}
-use Rattle.markup.proofs.StartsFound.{name_size, no_name, name_begins}
+-- A plain name, and the one that a colon joins to it.
+use Rattle.std.proofs.Common.{arith}
+use Rattle.markup.proofs.NamesFound.{plain_alone, with_prefix, name_counted, behind_plain, behind_joined}
 use Rattle.markup.proofs.start_tag.name_at.Goals as goal
 
+pub returns-then-count-eq0-clause-all : goal.returns-then-count-eq0-clause-all
+returns-then-count-eq0-clause-all c name behind s h = name_counted c.args.bytes.now name behind s h c.part_at-count.result c.part_at-count.ensures.all (omega (arith, c.if-count-eq0.true))
+
+pub returns-in_default-clause-found : goal.returns-in_default-clause-found
+returns-in_default-clause-found c = plain_alone c.args.bytes.now c.split_at.result.0.now c.split_at.result.1.now c.part_at-count.result (c.part_at-count.ensures.named (omega (arith, c.if-count-eq0.false))) c.split_at.ensures.front c.split_at.ensures.back
+
 pub returns-in_default-clause-all : goal.returns-in_default-clause-all
-returns-in_default-clause-all c name behind p e s = let z : length c.args.bytes.now ≡ 0 = search rules in absurd (no_name c.args.bytes.now name behind p e z)
+returns-in_default-clause-all c name behind s h = behind_plain c.args.bytes.now name behind s h c.part_at-count.result c.part_at-count.ensures.all c.split_at.result.1.now c.split_at.ensures.back c.in_default.ensures.all
 
-pub returns-then-not-begins_plain-clause-all : goal.returns-then-not-begins_plain-clause-all
-returns-then-not-begins_plain-clause-all c name behind p e s =
-    absurd (both_ways false refl (sym c.if-not-begins_plain.true ∙ (c.begins_plain.ensures ∙ name_begins c.args.bytes.now c.in-Some.field-0-1.now name behind c.in-Some.first.now c.in-Some.ensures.cases.0 p e)))
-
-pub returns-clause-named : goal.returns-clause-named
-returns-clause-named c some = name_is_plain c.in-Some.first.now c.args.bytes.now c.in-Some.field-0-1.now c.name_length.result c.in-Some.ensures.cases.0 (sym c.begins_plain.ensures ∙ c.if-not-begins_plain.false) c.name_length.ensures.count
+pub returns-clause-found : goal.returns-clause-found
+returns-clause-found c =
+    with_prefix c.args.bytes.now c.split_at.result.0.now c.split_at.result.1.now c.in-Some.field-0.local.now c.in-Some.field-0.behind.now c.part_at-count.result (c.part_at-count.ensures.named (omega (arith, c.if-count-eq0.false))) c.split_at.ensures.front c.split_at.ensures.back c.in-Some.ensures.found
 
 pub returns-clause-all : goal.returns-clause-all
-returns-clause-all c name behind p e s = name_size c.args.bytes.now name behind c.name_length.result p e s c.name_length.ensures.count
+returns-clause-all c name behind s h =
+    behind_joined c.args.bytes.now name behind s h c.part_at-count.result c.part_at-count.ensures.all c.split_at.result.1.now c.split_at.ensures.back c.in-Some.field-0.local.now c.in-Some.field-0.behind.now c.in-Some.ensures.found c.in-Some.ensures.all

@@ -24,7 +24,7 @@ first_fault-requires c =
 pub returns-in-Ok : goal.returns-in-Ok
 returns-in-Ok c = record {
   read = λ bytes h. ok_map c.take_events.result
-      (reads_on c.args.self.now c.take_events.new.self bytes c.args.byte c.take.new.out h
+      (reads_on c.args.self.now c.take_events.new.self bytes (c.args.byte ∷ []) c.take.new.out h
       (subst (λ r. GoesOn r (bytes ++ c.args.byte ∷ []) h.told c.args.self.now.events c.take.new.out) (sym c.take_events.ensures.reader) (c.in-Ok.ensures.ok _ bytes h.told h.given))
       (ap taken c.take_events.ensures.reader ∙ c.in-Ok.ensures.count) c.take_events.ensures.none)
       (c.take_events.ensures.loaded h.told h.loaded);

@@ -5,12 +5,12 @@ use Rattle.repo_loader.specs.inner.ProgressSteps.{HasRead}
 use Rattle.repo_loader.proofs.ReadSteps.{ReadSoFar}
 use Rattle.repo_loader.proofs.progress.Progress.take_all.Given as goal
 
-abbrev pub invariant-loop-count : goal.invariant-loop-count
-invariant-loop-count l = record {
+abbrev pub invariant-loop-rest : goal.invariant-loop-rest
+invariant-loop-rest l = record {
   some : (bytes : List ℕ) × HasRead l.self bytes;
   read : (bytes : List ℕ) → HasRead l.initial.self bytes → ReadSoFar l.self bytes l.piece l.rest;
   counted : taken l.self.reader + length l.rest ≡ taken l.initial.self.reader + length l.piece;
 }
 
-abbrev pub decreases-loop-count : goal.decreases-loop-count
-decreases-loop-count l = length l.rest
+abbrev pub decreases-loop-rest : goal.decreases-loop-rest
+decreases-loop-rest l = length l.rest
