@@ -27,3 +27,4 @@ pub mod CutSpots
 pub mod PartsBetween
 pub mod ShownSteps
 pub mod ShownFed
+pub mod ShownUsual

@@ -8,7 +8,8 @@ use Rattle.reference_check.specs.Forms.{Graph, form_slots}
 use Rattle.der_model.specs.Structures.{is_single}
 use Rattle.der_model.specs.States.{Name, Numbered, ListName, AttributeName}
 use Rattle.der_model.specs.Paths.{name_text, names_text, path_text}
-use Rattle.der_codec.specs.inner.OpenNames.{closed_text, list_alone, last_list, held_text, tag_behind, HasNames, slot_names, item_names, alternative_names}
+use Rattle.der_codec.specs.Components.{slot_text}
+use Rattle.der_codec.specs.inner.OpenNames.{closed_text, list_alone, last_list, held_text, HasNames, slot_names, item_names, alternative_names}
 use Rattle.der_codec.specs.declared.paths.Path.{Path}
 
 pub on_ok : {A E : Type 0} (r : Result A E) (P Q : Type 0) → OnOk r P → (P → Q) → OnOk r Q
@@ -63,7 +64,7 @@ pub put_list : (types : Graph ℕ Simple) (p q : Path) (names : List Name) (s : 
     → HasNames types p names → HasNames types q (names ++ slot_names (slice_get (form_slots (types parent)) at))
 put_list types p q names s parent at is many text list h =
     subst (λ z. HasNames types q (names ++ z)) (slot_listed s (slice_get (form_slots (types parent)) at) (sym is) many)
-    (put_one types p q names (ListName s.tag) h (text ∙ sym (append-nil p.text)) (ap (held_text types) list ∙ ap tag_behind (sym is)))
+    (put_one types p q names (ListName s.tag) h (text ∙ sym (append-nil p.text)) (ap (held_text types) list ∙ ap slot_text (sym is)))
 
 -- an item's names, one after the other
 pub item_whole : (types : Graph ℕ Simple) (s : graph.Slot ℕ) (o : Option (graph.Slot ℕ)) (names : List Name) (count at : ℕ) → Some s ≡ o

@@ -1,9 +1,12 @@
 -- Elements that are open behind pieces, with one piece more.
 use Rattle.std.specs.Prelude.{Result, Ok, Err, OnOk, IfOk}
-use Rattle.std.proofs.Common.{◌≡◌, List, [], ◌∷◌, ◌++◌, refl, ap, ◌∙◌, drop}
+use Rattle.std.proofs.Common.{◌≡◌, List, [], ◌∷◌, ◌++◌, Option, Some, None, refl, ap, ◌∙◌, drop, reverse}
 use Rattle.data_types.specs.Leaf.{Leaf}
 use Rattle.data_types.specs.Value.{Edge, Piece, Begins, Holds, Ends}
 use Rattle.inst_pool.specs.Pieces.{open_in, open_behind}
+use Rattle.inst_pool.specs.declared.piece.Edge.{Edge as Told}
+use Rattle.der_model.specs.ShownPieces.{begin_each}
+use Rattle.der_codec.specs.inner.Elements.{edge_if}
 
 pub on_ok_when : {A E : Type 0} (r : Result A E) (P Q : Type 0) → OnOk r P → (P → Q) → OnOk r Q
 on_ok_when (Ok a) P Q p f = f p
@@ -20,6 +23,18 @@ closed_open shown edge outer e = open_then [] shown (Ends edge ∷ []) ∙ ap (d
 
 pub held_open : (shown : List Piece) (leaf : Leaf) → open_in (shown ++ Holds leaf ∷ []) ≡ open_in shown
 held_open shown leaf = open_then [] shown (Holds leaf ∷ [])
+
+begun_open : (outer inner : Option Told) (around : List Edge) → open_behind around (begin_each (edge_if outer ++ edge_if inner)) ≡ reverse (edge_if outer ++ edge_if inner) ++ around
+begun_open None None around = refl
+begun_open None (Some b) around = refl
+begun_open (Some a) None around = refl
+begun_open (Some a) (Some b) around = refl
+
+-- a leaf within elements that have begun
+pub leaf_open : (outer inner : Option Told) (shown : List Piece) (leaf : Leaf) → open_in ((shown ++ begin_each (edge_if outer ++ edge_if inner)) ++ Holds leaf ∷ []) ≡ reverse (edge_if outer ++ edge_if inner) ++ open_in shown
+leaf_open outer inner shown leaf =
+    let edges = begin_each (edge_if outer ++ edge_if inner) in
+    held_open (shown ++ edges) leaf ∙ (open_then [] shown edges ∙ begun_open outer inner (open_in shown))
 
 -- what holds for each of these where it is Ok
 pub ok_for : {A E S : Type 0} (r : Result A E) (X G : S → Type 0) (Q : Type 0) → ((s : S) → X s → OnOk r (G s)) → (((s : S) → X s → G s) → Q) → IfOk r (λ _. Q)

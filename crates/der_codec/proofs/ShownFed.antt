@@ -42,7 +42,7 @@ inwards_length : (xs : List Level) → length (inwards xs) ≡ length xs
 inwards_length [] = refl
 inwards_length (x ∷ xs) = (let sum = length-append (inwards xs) (x ∷ []) in let rest = inwards_length xs in omega (arith, sum, rest))
 
-open_length : (m : DerMessage ℕ) (xs : List Level) (d : Due) (s : State ℕ) → IsOpen m xs d s → length xs + due_depth d ≡ open_count s
+pub open_length : (m : DerMessage ℕ) (xs : List Level) (d : Due) (s : State ℕ) → IsOpen m xs d s → length xs + due_depth d ≡ open_count s
 open_length m xs (due.Tag step) Start op = (let e = ap length op in omega (arith, e))
 open_length m xs (due.Tag step) (Within (l ∷ ls)) op = (let e = same_length m.forms xs (l ∷ ls) op in omega (arith, e))
 open_length m xs (due.Length c spot step) (AwaitsLength b of names ls) op = (let e = same_length m.forms xs ls op.2 in omega (arith, e))

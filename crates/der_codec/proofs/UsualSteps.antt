@@ -25,7 +25,7 @@ use Rattle.der_codec.proofs.ContentsSteps.{contents_clean, none_kept, place_coun
 use Rattle.der_codec.proofs.StepTies.{reads_as, begin_read, open_primitive, open_constructed, short_has}
 
 -- a length octet below 128 opens the value whose length is due
-length_read : (m : DerMessage ℕ) (new : Decoder) (ys : List Level) (c : Bool) (spot : Spot) (step : LengthStep) (place at n : ℕ) (bytes : List ℕ) → Reads m ys (due.Length c spot step) place place bytes → n < 128 → at ≡ place + 1 → UpTo (place + 1 + n) (end_of_first ys)
+pub length_read : (m : DerMessage ℕ) (new : Decoder) (ys : List Level) (c : Bool) (spot : Spot) (step : LengthStep) (place at n : ℕ) (bytes : List ℕ) → Reads m ys (due.Length c spot step) place place bytes → n < 128 → at ≡ place + 1 → UpTo (place + 1 + n) (end_of_first ys)
     → new.place ≡ at → new.start ≡ at → Awaits new c spot at n ys → HasRead m new (bytes ++ n ∷ [])
 length_read m new ys true spot step place at n bytes r low is fits placed started a =
     let has = short_has m ys (due.Length true spot step) true spot step place place bytes n n r refl refl low refl in

@@ -8,11 +8,11 @@ use Rattle.der_model.specs.Structures as structures
 use Rattle.der_model.specs.Structures.{structure}
 use Rattle.der_model.specs.States as states
 use Rattle.der_model.specs.States.{State, Start, AwaitsLength, AwaitsContents, Within}
-use Rattle.der_model.specs.ShownPieces.{PartsShow, begin_each, end_each, elements_ended}
+use Rattle.der_model.specs.ShownPieces.{PartsShow, begin_each, end_each, last_elements, elements_ended}
 use Rattle.der_model.specs.NestedPieces.{elements_around}
 use Rattle.der_codec.specs.Decoding.{Reads, HasRead}
 use Rattle.der_codec.specs.Judging.{HoldsLeaf}
-use Rattle.der_codec.specs.Levels.{IsSpot, inwards}
+use Rattle.der_codec.specs.Levels.{IsSpot, IsLevel, inwards}
 use Rattle.der_codec.specs.declared.decoder.Decoder.{Decoder}
 use Rattle.der_codec.specs.declared.decoder.Due.{Due}
 use Rattle.der_codec.specs.declared.level.Level.{Level}
@@ -61,6 +61,33 @@ HoldsLeafAt m spot octets leaf = (of : structures.Spot ℕ) → IsSpot m.forms s
 -- the leaf of the octets comes behind the pieces that are kept
 abbrev pub GoesOnByLeaf : DerMessage ℕ → Spot → List ℕ → Option Region → Option Region → Type 0
 GoesOnByLeaf m spot octets old new = (leaf : Leaf) × HoldsLeafAt m spot octets leaf × GoOn old new (Holds leaf ∷ [])
+
+-- the elements that began with the last component of the value at this level
+abbrev pub AreLast : DerMessage ℕ → Level → List Edge → Type 0
+AreLast m around edges = (l : states.Level ℕ) → IsLevel m.forms around l → edges ≡ last_elements m l.spot l.came
+
+-- behind pieces the elements begin of the last component of the value at this level
+abbrev pub ShowsBegun : DerMessage ℕ → Level → List Piece → List Piece → Type 0
+ShowsBegun m around old new = (edges : List Edge) × AreLast m around edges × (new ≡ old ++ begin_each edges)
+
+-- the same with a leaf, which is that component, and the ends of the elements
+abbrev pub ShowsLeaf : DerMessage ℕ → Level → Leaf → List Piece → List Piece → Type 0
+ShowsLeaf m around leaf old new = (edges : List Edge) × AreLast m around edges × (new ≡ old ++ (begin_each edges ++ Holds leaf ∷ end_each edges))
+
+-- the same where pieces are kept
+abbrev pub GoOnByBegun : DerMessage ℕ → Level → Option Region → Option Region → Type 0
+GoOnByBegun m around None None = Unit {0}
+GoOnByBegun m around (Some old) (Some new) = ShowsBegun m around old.pieces new.pieces
+GoOnByBegun m around _ _ = ⊥
+
+abbrev pub GoOnByLeaf : DerMessage ℕ → Level → Leaf → Option Region → Option Region → Type 0
+GoOnByLeaf m around leaf None None = Unit {0}
+GoOnByLeaf m around leaf (Some old) (Some new) = ShowsLeaf m around leaf old.pieces new.pieces
+GoOnByLeaf m around leaf _ _ = ⊥
+
+-- the leaf of the octets, which is the last component of the value at this level, comes behind the pieces that are kept
+abbrev pub GoesOnByLast : DerMessage ℕ → Level → Spot → List ℕ → Option Region → Option Region → Type 0
+GoesOnByLast m around spot octets old new = (leaf : Leaf) × HoldsLeafAt m spot octets leaf × GoOnByLeaf m around leaf old new
 
 -- These bytes were read, the last of which are the contents of a leaf. It is the last piece that is kept: the elements are open that are round it, and with
 -- the ends of those that end with it the pieces are those that are shown.

@@ -215,8 +215,8 @@ impl DerChecker {
         }
     }
 
-    /// Takes components of the usual form as long as they stand here, or else the first byte of a header; and ends the
-    /// values that end behind it.
+    /// Takes components of the usual form as long as they stand here (where pieces are kept one of them), or else the first
+    /// byte of a header; and ends the values that end behind it.
     #[inline(always)]
     fn take_header(&mut self, model: &Model, piece: &[u8]) -> Result<usize, Stop>
         requires some { 0 < length piece.now }
@@ -228,6 +228,9 @@ impl DerChecker {
         ensures front { TakesFront model.now self.old self.new piece.now result }
         ensures some { IfOk result (λ n. 0 < n) }
     {
+        if self.pieces.is_some() {
+            return self.take_shown(model, piece);
+        }
         let taken = self.take_run(model, piece);
         if taken == 0 {
             return self.take_first(model, piece);
@@ -242,6 +245,7 @@ impl DerChecker {
     /// that are; where they are none, only checks are changed.
     #[inline(always)]
     fn take_run(&mut self, model: &Model, piece: &[u8]) -> usize
+        requires alone { self.old.pieces ≡ None }
         requires room { fed self.old + length piece.now ≤ 2 ^ 40 }
         requires checks { CheckTypes (types_of model.now) self.old.checks }
         requires given { (bytes : List ℕ) × HasFed self.old model.now bytes }
@@ -255,16 +259,13 @@ impl DerChecker {
         ensures ok { (bytes : List ℕ) → HasRead (der_message model.now) self.old.decoder bytes → HasRead (der_message model.now) self.new.decoder (bytes ++ take result piece.now) }
         ensures fresh { 0 < result → IsFresh self.new.decoder.due }
     {
-        if self.pieces.is_some() {
-            return 0;
-        }
         self.decoder.take_run(&mut self.checks, model, piece)
     }
 
     /// Takes the first byte of the piece, which is one of a header, with it a length of one byte and the contents where
     /// all of them stand in the piece, and ends the values that end behind them.
     #[inline(never)]
-    fn take_first(&mut self, model: &Model, piece: &[u8]) -> Result<usize, Stop>
+    pub(crate) fn take_first(&mut self, model: &Model, piece: &[u8]) -> Result<usize, Stop>
         requires some { 0 < length piece.now }
         requires room { fed self.old + length piece.now ≤ 2 ^ 40 }
         requires due { IsHeaderDue self.old.decoder.due }

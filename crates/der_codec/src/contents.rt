@@ -1,23 +1,24 @@
 // The contents of primitive values: X.690 §8.1.4.
-ghost use Rattle.std.specs.Prelude.{◌≡◌, ◌<◌, ◌^◌, ℕ, length, true, IfOk};
+ghost use Rattle.std.specs.Prelude.{◌≡◌, ◌<◌, ◌^◌, ℕ, length, true, false, IfOk};
 ghost use Rattle.fragments.specs.Fragment.{fragment};
 ghost use Rattle.message_model.specs.Tables.{types_of};
 ghost use Rattle.der_model.specs.DerMessage.{DerMessage, der_message};
 ghost use Rattle.der_model.specs.Structures as structures;
 ghost use Rattle.der_model.specs.Structures.{structure, Holds, Fragment};
 ghost use Rattle.der_codec.specs.Checked.{CheckTypes};
-ghost use Rattle.der_codec.specs.KeptPieces.{GoesOnByLeaf};
+ghost use Rattle.der_codec.specs.KeptPieces.{GoesOnByLeaf, GoesOnByLast};
 ghost use Rattle.der_codec.specs.Judging.{HoldsContents, IsJudgedAt, IsJudgedFor, IsVerdictFor};
 
 use crate::checks::{Checks, Refusal};
 use crate::leaves::judge_simple;
-use crate::level::Spot;
-use crate::pieces::hold;
+use crate::level::{Level, Spot};
+use crate::pieces::{hold, hold_last};
 use data_types::LeafRef;
 use inst_pool::Builder;
 use lexical_core::Rule;
 use message_model::{Form, Model};
 use respell::is_fragment;
+use std::alloc::AllocError;
 
 /// The leaf of the contents octets of a primitive value, or the rule that they break. A constructed value
 /// has no contents octets: of one the answer is that there is no memory.
@@ -61,6 +62,33 @@ pub(crate) fn tell(
             Err(_) => Err(Refusal::Memory),
         },
         Err(refusal) => Err(refusal),
+    }
+}
+
+/// Whether octets are contents of a primitive value, which is the last component of an open one, and so break no rule.
+/// Where they are, and pieces are kept, their leaf comes behind them, with the elements that begin and end with it.
+#[inline(always)]
+pub(crate) fn tell_last(
+    checks: &mut Checks,
+    pieces: &mut Option<Builder>,
+    model: &Model,
+    around: &Level,
+    spot: Spot,
+    octets: &[u8],
+) -> Result<bool, AllocError>
+    requires short { length octets.now < 2 ^ 40 }
+    requires made { CheckTypes (types_of model.now) checks.old }
+    ensures made { CheckTypes (types_of model.now) checks.new }
+    ensures same { IfOk result (λ told. told ≡ false → pieces.new ≡ pieces.old) }
+    ensures held { IfOk result (λ told. told ≡ true → HoldsContents (der_message model.now) spot octets.now) }
+    ensures shown { IfOk result (λ told. told ≡ true → GoesOnByLast (der_message model.now) around.now spot octets.now pieces.old pieces.new) }
+{
+    match judge(checks, model, spot, octets) {
+        Ok(leaf) => match hold_last(pieces, model, around, &leaf) {
+            Ok(()) => Ok(true),
+            Err(error) => Err(error),
+        },
+        Err(_refusal) => Ok(false),
     }
 }
 

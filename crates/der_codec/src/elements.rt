@@ -1,6 +1,7 @@
 // The elements that begin and end with the components of open values.
-ghost use Rattle.std.specs.Prelude.{◌≡◌, ◌++◌, ℕ, List, OnOk, Some, slice_get, reverse};
-ghost use Rattle.data_types.specs.Value.{Edge as EdgeOf};
+ghost use Rattle.std.specs.Prelude.{◌≡◌, ◌++◌, ◌∷◌, [], ℕ, List, OnOk, Some, slice_get, reverse};
+ghost use Rattle.data_types.specs.LeafAnswers.{leaf_of};
+ghost use Rattle.data_types.specs.Value.{Edge as EdgeOf, Holds};
 ghost use Rattle.inst_pool.specs.Pieces.{open_in};
 ghost use Rattle.reference_check.specs.Forms as graph;
 ghost use Rattle.reference_check.specs.Forms.{form_slots};
@@ -11,10 +12,12 @@ ghost use Rattle.der_model.specs.States as states;
 ghost use Rattle.der_model.specs.ShownPieces.{begin_each, end_each, slot_elements, alternatives_of, component_elements, last_elements, elements_ended};
 ghost use Rattle.der_model.specs.NestedPieces.{elements_around};
 ghost use Rattle.der_codec.specs.Levels.{IsSpot, IsLevel, AreLevels, first_of};
+ghost use Rattle.der_codec.specs.KeptPieces.{ShowsBegun, ShowsLeaf};
 ghost use Rattle.der_codec.specs.inner.Elements.{edge_if, edges_of};
 
 use crate::components::{comes_once, is_choice};
 use crate::level::{Level, Spot};
+use data_types::LeafRef;
 use inst_pool::{Builder, Edge};
 use message_model::Model;
 use std::alloc::AllocError;
@@ -141,6 +144,61 @@ pub(crate) fn begin_component(
     match around {
         None => Ok(()),
         Some(level) => begin_elements(builder, &last_begun(model, &level)),
+    }
+}
+
+/// The elements begin that begin with the last component of a value, which is open.
+pub(crate) fn begin_last(
+    builder: &mut Builder,
+    model: &Model,
+    around: &Level,
+) -> Result<(), AllocError>
+    ensures { OnOk result (ShowsBegun (der_message model.now) around.now builder.old.pieces builder.new.pieces) }
+{
+    let begun = last_begun(model, around);
+    begin_elements(builder, &begun)
+}
+
+/// A leaf comes, which is the last component of a value, with the elements that begin and end with it.
+pub(crate) fn hold_last(
+    builder: &mut Builder,
+    model: &Model,
+    around: &Level,
+    leaf: &LeafRef<'_>,
+) -> Result<(), AllocError>
+    ensures { OnOk result (ShowsLeaf (der_message model.now) around.now (leaf_of leaf.now) builder.old.pieces builder.new.pieces) }
+{
+    let begun = last_begun(model, around);
+    hold_within(builder, &begun, leaf)
+}
+
+/// A leaf comes within elements that begin and end with it.
+#[inline(always)]
+fn hold_within(
+    builder: &mut Builder,
+    begun: &Elements,
+    leaf: &LeafRef<'_>,
+) -> Result<(), AllocError>
+    ensures { OnOk result (builder.new.pieces ≡ builder.old.pieces ++ (begin_each (edges_of begun.now) ++ Holds (leaf_of leaf.now) ∷ end_each (edges_of begun.now))) }
+{
+    if let Err(error) = begin_elements(builder, begun) {
+        return Err(error);
+    }
+    if let Err(error) = append(builder, leaf) {
+        return Err(error);
+    }
+    end_elements(builder, begun)
+}
+
+/// A leaf comes.
+pub(crate) fn append(builder: &mut Builder, leaf: &LeafRef<'_>) -> Result<(), AllocError>
+    ensures { OnOk result (builder.new.pieces ≡ builder.old.pieces ++ Holds (leaf_of leaf.now) ∷ []) }
+{
+    match leaf {
+        LeafRef::Bytes(bytes) => builder.leaf(LeafRef::Bytes(bytes)),
+        LeafRef::Number(number) => builder.leaf(LeafRef::Number(*number)),
+        LeafRef::Flag(flag) => builder.leaf(LeafRef::Flag(*flag)),
+        LeafRef::Code(place) => builder.leaf(LeafRef::Code(*place)),
     }
 }
 

@@ -1,17 +1,18 @@
 //! A checker of the DER of a message's instances (X.690 §8), which takes it in pieces.
 //!
 //! `DerChecker` tells the first fault of the bytes at the byte that shows it, whatever the pieces. Beneath it
-//! `Decoder` takes the octets of headers (components of the usual form as a whole, `usual`) and the ends of values,
+//! `Decoder` takes the octets of headers (components of the usual form as a whole, `usual`, `begun`) and the ends of values,
 //! and `contents` judges the contents octets of leaves; of those that come in pieces `limits` keeps no more than tell
 //! what they are, so that no length which is declared decides how much is held (`scratch`, `token`). A fault's path is
 //! made of what is open (`paths`). `Checking` of `specs/` says what a checker was given and what it answers, `Decoding`
 //! the same of the decoder, `Limits` how many octets are held. `DerReader` answers the same, and gives the pieces of
-//! the instance: it is a checker that appends them as the parts come (`values`, `pieces`), and keeps no more of its
-//! input (`KeptPieces`).
+//! the instance: it is a checker that appends them as the parts come (`values`, `pieces`, those of a component of the
+//! usual form as a whole, `shown`), and keeps no more of its input (`KeptPieces`).
 //!
 //! Tag numbers are below 2^14, lengths below 2^63.
 #![tactic(auto)]
 
+mod begun;
 mod checker;
 mod checks;
 mod components;
@@ -28,6 +29,7 @@ mod limits;
 mod paths;
 mod pieces;
 mod reader;
+mod shown;
 mod usual;
 mod values;
 

@@ -7,7 +7,7 @@ ghost use Rattle.message_model.specs.Tables.{types_of};
 ghost use Rattle.der_model.specs.States.{Name, Numbered, AttributeName};
 ghost use Rattle.der_model.specs.Paths.{path_text};
 ghost use Rattle.der_codec.specs.Components.{added_text, slot_text};
-ghost use Rattle.der_codec.specs.inner.OpenNames.{HasNames, slot_names, amount_names, form_names, alternative_names, item_names, level_names, names_over, document, tag_behind, held_text};
+ghost use Rattle.der_codec.specs.inner.OpenNames.{HasNames, slot_names, amount_names, form_names, alternative_names, item_names, level_names, names_over, document, held_text};
 
 use crate::components::{Added, comes_once};
 use crate::level::{Level, Spot};
@@ -68,7 +68,7 @@ fn put_added(text: &mut Text, model: &Model, added: Added) -> Result<(), AllocEr
 
 /// Appends a slash and the tag of a slot.
 fn put_slot(text: &mut Text, model: &Model, parent: u32, slot: u32) -> Result<(), AllocError>
-    ensures { OnOk result (text.new ≡ text.old ++ tag_behind (slice_get (form_slots (types_of model.now parent)) slot)) }
+    ensures { OnOk result (text.new ≡ text.old ++ slot_text (slice_get (form_slots (types_of model.now parent)) slot)) }
 {
     let Some(slot) = model.slot(parent, slot) else {
         return Ok(());

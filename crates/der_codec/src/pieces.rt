@@ -7,11 +7,12 @@ ghost use Rattle.der_model.specs.DerMessage.{der_message};
 ghost use Rattle.der_model.specs.NestedPieces.{elements_around};
 ghost use Rattle.der_model.specs.ShownPieces.{begin_each, end_each, elements_ended};
 ghost use Rattle.der_model.specs.States as states;
-ghost use Rattle.der_codec.specs.KeptPieces.{GoOn, AreOpen};
+ghost use Rattle.der_codec.specs.KeptPieces.{GoOn, GoOnByBegun, GoOnByLeaf, AreOpen};
 ghost use Rattle.der_codec.specs.Levels.{AreLevels, inwards};
 
 use crate::decoder::Decoder;
-use crate::elements::{begin_component, end_component};
+use crate::elements::{self, append, begin_component, end_component};
+use crate::level::Level;
 use data_types::LeafRef;
 use inst_pool::Builder;
 use message_model::Model;
@@ -60,14 +61,33 @@ pub(crate) fn hold(pieces: &mut Option<Builder>, leaf: &LeafRef<'_>) -> Result<(
     }
 }
 
-/// Appends a leaf.
-fn append(builder: &mut Builder, leaf: &LeafRef<'_>) -> Result<(), AllocError>
-    ensures { OnOk result (builder.new.pieces ≡ builder.old.pieces ++ Holds (leaf_of leaf.now) ∷ []) }
+/// The elements begin that begin with the last component of a value, which is open.
+#[inline(always)]
+pub(crate) fn begin_last(
+    pieces: &mut Option<Builder>,
+    model: &Model,
+    around: &Level,
+) -> Result<(), AllocError>
+    ensures { OnOk result (GoOnByBegun (der_message model.now) around.now pieces.old pieces.new) }
 {
-    match leaf {
-        LeafRef::Bytes(bytes) => builder.leaf(LeafRef::Bytes(bytes)),
-        LeafRef::Number(number) => builder.leaf(LeafRef::Number(*number)),
-        LeafRef::Flag(flag) => builder.leaf(LeafRef::Flag(*flag)),
-        LeafRef::Code(place) => builder.leaf(LeafRef::Code(*place)),
+    match pieces {
+        None => Ok(()),
+        Some(builder) => elements::begin_last(builder, model, around),
+    }
+}
+
+/// A leaf comes, which is the last component of a value, with the elements that begin and end with it.
+#[inline(always)]
+pub(crate) fn hold_last(
+    pieces: &mut Option<Builder>,
+    model: &Model,
+    around: &Level,
+    leaf: &LeafRef<'_>,
+) -> Result<(), AllocError>
+    ensures { OnOk result (GoOnByLeaf (der_message model.now) around.now (leaf_of leaf.now) pieces.old pieces.new) }
+{
+    match pieces {
+        None => Ok(()),
+        Some(builder) => elements::hold_last(builder, model, around, leaf),
     }
 }

@@ -246,9 +246,32 @@ impl Decoder {
         ensures due { result ≡ true → (step : Steps) × (self.new.due ≡ Due.Tag step) × tags.HasTaken step [] }
         ensures fresh { result ≡ true → IsFresh self.new.due }
     {
-        if self.levels.len() >= self.levels.capacity() {
+        if !self.has_room() {
             return false;
         }
+        self.enter_at(around, spot, place, end);
+        true
+    }
+
+    /// Whether one value more can be opened without memory.
+    #[inline(always)]
+    pub(crate) fn has_room(&self) -> bool
+        ensures { result ≡ true → length self.now.levels.items < vec_capacity self.now.levels }
+    {
+        self.levels.len() < self.levels.capacity()
+    }
+
+    /// The same, where there is room.
+    #[inline(always)]
+    pub(crate) fn enter_at(&mut self, around: Level, spot: Spot, place: u64, end: u64)
+        requires some { 0 < length self.old.levels.items }
+        requires room { length self.old.levels.items < vec_capacity self.old.levels }
+        ensures levels { inwards self.new.levels.items ≡ level_at spot end ∷ around ∷ rest_of (inwards self.old.levels.items) }
+        ensures place { self.new.place ≡ place }
+        ensures start { self.new.start ≡ place }
+        ensures due { (step : Steps) × (self.new.due ≡ Due.Tag step) × tags.HasTaken step [] }
+        ensures fresh { IsFresh self.new.due }
+    {
         self.set_innermost(around);
         self.append(Level {
             spot,
@@ -259,7 +282,6 @@ impl Decoder {
         self.place = place;
         self.start = place;
         self.due = Due::Tag(TagStep::new());
-        true
     }
 
     /// Puts a level behind the innermost one, where there is room.
@@ -314,7 +336,7 @@ impl Decoder {
 
     /// Goes on behind a leaf that ends at the place, and puts a level in the place of the one round it.
     #[inline(always)]
-    fn go_behind(&mut self, around: Level, place: u64)
+    pub(crate) fn go_behind(&mut self, around: Level, place: u64)
         requires some { 0 < length self.old.levels.items }
         ensures levels { inwards self.new.levels.items ≡ around ∷ rest_of (inwards self.old.levels.items) }
         ensures place { self.new.place ≡ place }

@@ -97,6 +97,7 @@ fn code_size(place: u32) -> u64
 }
 
 /// Pushes a leaf behind its head.
+#[inline(always)]
 pub(crate) fn push_leaf<O: Sink>(
     head: Option<Head>,
     leaf: &LeafRef<'_>,

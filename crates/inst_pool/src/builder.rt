@@ -71,6 +71,7 @@ impl Builder {
     }
 
     /// An element begins. After want of memory the pieces are as before.
+    #[inline(always)]
     pub fn begin(&mut self, edge: Edge) -> Result<(), AllocError>
         ensures ok { OnOk result (self.new.pieces ≡ self.old.pieces ++ Begins (edge_of edge) ∷ []) }
         ensures err { OnErr result (self.new.pieces ≡ self.old.pieces) }
@@ -84,6 +85,7 @@ impl Builder {
     }
 
     /// The innermost open element ends. After want of memory the pieces are as before.
+    #[inline(always)]
     pub fn close(&mut self) -> Result<(), AllocError>
         requires { 0 < length (open_in self.old.pieces) }
         ensures ok { (edge : EdgeOf) (outer : List EdgeOf) → open_in self.old.pieces ≡ edge ∷ outer → OnOk result (self.new.pieces ≡ self.old.pieces ++ Ends edge ∷ []) }
@@ -100,6 +102,7 @@ impl Builder {
     }
 
     /// The leaf of the innermost open element. After want of memory the pieces are as before.
+    #[inline(always)]
     pub fn leaf(&mut self, leaf: LeafRef<'_>) -> Result<(), AllocError>
         ensures ok { OnOk result (self.new.pieces ≡ self.old.pieces ++ Holds (leaf_of leaf.entry) ∷ []) }
         ensures err { OnErr result (self.new.pieces ≡ self.old.pieces) }
@@ -128,6 +131,7 @@ impl Builder {
     }
 
     /// A leaf of bytes.
+    #[inline(always)]
     fn hold_bytes(&mut self, bytes: &[u8]) -> Result<(), AllocError>
         ensures ok { OnOk result (self.new.pieces ≡ self.old.pieces ++ Holds (BytesLeaf bytes.now) ∷ []) }
         ensures err { OnErr result (self.new.pieces ≡ self.old.pieces) }
@@ -152,6 +156,7 @@ impl Builder {
 }
 
 /// Appends bytes to a block, and says where they begin.
+#[inline(always)]
 fn add_bytes(block: &mut Vec<u8>, bytes: &[u8]) -> Result<usize, AllocError>
     requires { length block.old.items ≤ room_limit }
     ensures ok { OnOk result ((block.new.items ≡ block.old.items ++ bytes.now) × (length block.old.items + length bytes.now ≤ room_limit)) }

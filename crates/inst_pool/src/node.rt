@@ -39,6 +39,7 @@ pub(crate) enum Node {
 const _: () = prove!(size_of::<Node>() == 8);
 
 /// Whether the numbers of the edge have 16 bits.
+#[inline(always)]
 fn is_short(edge: Edge) -> bool
     ensures { result ≡ true → (edge.slot < 65536) × (edge.target < 65536) × (edge.parent < 65536) }
 {
@@ -46,6 +47,7 @@ fn is_short(edge: Edge) -> bool
 }
 
 /// The numbers of an edge, where they have 16 bits.
+#[inline(always)]
 fn short_edge(edge: Edge) -> Option<Short>
     ensures { IfSome result (λ s. edge_in s ≡ edge) }
 {
@@ -60,6 +62,7 @@ fn short_edge(edge: Edge) -> Option<Short>
 }
 
 /// Where bytes begin and how many there are, where 32 and 16 bits say it.
+#[inline(always)]
 fn short_bytes(start: usize, end: usize) -> Option<Short>
     ensures { IfSome result (λ s. bytes_in s ≡ Content.Bytes start end) }
 {
@@ -98,6 +101,7 @@ pub(crate) fn long_at(place: usize) -> Node
 }
 
 /// The content in short, where it fits.
+#[inline(always)]
 pub(crate) fn shortened(content: &Content) -> Option<Node>
     ensures content { IfSome result (λ n. (long : List Content) → content_of long n ≡ content.now) }
     ensures within { IfSome result (λ n. (count : ℕ) → IsWithin count n) }

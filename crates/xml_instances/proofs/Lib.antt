@@ -37,4 +37,5 @@ pub mod GoingOn
 pub mod ReadPieces
 pub mod InsideNames
 pub mod Passing
+pub mod PassedPieces
 pub mod Blanks

@@ -66,6 +66,7 @@ impl Pieces {
     }
 
     /// An element begins: its slot in the innermost one, and its type.
+    #[inline(never)]
     fn begin(&mut self, slot: u32, target: u32) -> Result<(), AllocError>
         ensures { (s : Shown) → HasShown self.old s
             → OnOk result (HasShown self.new (with_begun (Some (record { slot = slot; target = target; parent = type_at s.edges })) s)) }
@@ -94,6 +95,7 @@ impl Pieces {
     }
 
     /// The leaf of the innermost element.
+    #[inline(never)]
     fn leaf(&mut self, leaf: &LeafRef<'_>) -> Result<(), AllocError>
         ensures { (s : Shown) → HasShown self.old s → OnOk result (HasShown self.new (with_leaf (leaf_of leaf.now) s)) }
     {
@@ -101,6 +103,7 @@ impl Pieces {
     }
 
     /// The innermost element ends.
+    #[inline(never)]
     fn close(&mut self) -> Result<(), AllocError>
         ensures { (s : Shown) → HasShown self.old s → OnOk result (HasShown self.new (closed s)) }
     {
@@ -196,6 +199,7 @@ fn hold_bytes(builder: &mut Builder, bytes: &[u8]) -> Result<(), AllocError>
 }
 
 /// An element begins, where pieces are kept.
+#[inline(always)]
 pub(crate) fn begin(pieces: &mut Option<Pieces>, slot: u32, target: u32) -> Result<(), AllocError>
     ensures bare { pieces.old ≡ None → pieces.new ≡ None }
     ensures shown { OnOk result (GoOn pieces.old pieces.new (λ s t. t ≡ with_begun (Some (record { slot = slot; target = target; parent = type_at s.edges })) s)) }
@@ -207,6 +211,7 @@ pub(crate) fn begin(pieces: &mut Option<Pieces>, slot: u32, target: u32) -> Resu
 }
 
 /// The leaf of the innermost element, where pieces are kept.
+#[inline(always)]
 pub(crate) fn leaf(pieces: &mut Option<Pieces>, leaf: &LeafRef<'_>) -> Result<(), AllocError>
     ensures bare { pieces.old ≡ None → pieces.new ≡ None }
     ensures shown { OnOk result (GoOn pieces.old pieces.new (λ s t. t ≡ with_leaf (leaf_of leaf.now) s)) }
@@ -218,6 +223,7 @@ pub(crate) fn leaf(pieces: &mut Option<Pieces>, leaf: &LeafRef<'_>) -> Result<()
 }
 
 /// The innermost element ends, where pieces are kept.
+#[inline(always)]
 pub(crate) fn close(pieces: &mut Option<Pieces>) -> Result<(), AllocError>
     ensures bare { pieces.old ≡ None → pieces.new ≡ None }
     ensures shown { OnOk result (GoOn pieces.old pieces.new (λ s t. t ≡ closed s)) }

@@ -1,5 +1,5 @@
 // The text of a leaf.
-ghost use Rattle.std.specs.Prelude.{◌≡◌, ℕ, List, [], ◌∷◌, ◌++◌, None, true, IsOk, IfOk, OnOk};
+ghost use Rattle.std.specs.Prelude.{◌≡◌, ℕ, List, [], ◌∷◌, ◌++◌, None, true, false, IsOk, IfOk, OnOk};
 ghost use Rattle.std.specs.Str.{chars};
 ghost use Rattle.markup.specs.Chars.{is_space};
 ghost use Rattle.markup.specs.Literals.{IsRun};
@@ -127,22 +127,54 @@ fn rule_of(
     }
 }
 
-/// Whether the text is a leaf, as a judge tells that gives none; false of one that gives it.
-pub(crate) fn is_leaf(judge: &Judge, simple: &Simple) -> bool
+/// Shows the leaf of the text, where it is one and pieces are kept; false where it is none, and nothing changes.
+pub(crate) fn pass_leaf(
+    judge: &Judge,
+    simple: &Simple,
+    pieces: &mut Option<Pieces>,
+) -> Result<bool, AllocError>
     requires { IsMadeFor judge.now simple.now }
-    ensures { (text : List ℕ) → HasTaken judge.now simple.now text → result ≡ true → IsRuleOf simple.now text None }
+    ensures kept { IfOk result (λ done. done ≡ false → pieces.new ≡ pieces.old) }
+    ensures bare { pieces.old ≡ None → pieces.new ≡ None }
+    ensures taken { (text : List ℕ) → HasTaken judge.now simple.now text → IfOk result (λ done. done ≡ true → IsRuleOf simple.now text None) }
+    ensures shown { (text : List ℕ) → HasTaken judge.now simple.now text → IfOk result (λ done. done ≡ true → GoOn pieces.old pieces.new (TextShown simple.now text)) }
 {
     match judge {
-        Judge::Check(_) => false,
-        Judge::Verdict(verdict) => is_fine(verdict, simple),
+        Judge::Check(check) => pass_check(check, simple, pieces),
+        Judge::Verdict(verdict) => Ok(pass_verdict(verdict, simple, pieces)),
     }
 }
 
-/// The same by one that gives no leaf.
-fn is_fine(verdict: &LeafVerdict, simple: &Simple) -> bool
-    requires { verdicts.IsMadeFor verdict.now simple.now }
-    ensures { (text : List ℕ) → verdicts.HasTaken verdict.now simple.now text → result ≡ true → IsRuleOf simple.now text None }
+/// The same by a check that gives the leaf.
+fn pass_check(
+    check: &LeafCheck,
+    simple: &Simple,
+    pieces: &mut Option<Pieces>,
+) -> Result<bool, AllocError>
+    requires { checks.IsMadeFor check.now simple.now }
+    ensures kept { IfOk result (λ done. done ≡ false → pieces.new ≡ pieces.old) }
+    ensures bare { pieces.old ≡ None → pieces.new ≡ None }
+    ensures taken { (text : List ℕ) → checks.HasTaken check.now simple.now text → IfOk result (λ done. done ≡ true → IsRuleOf simple.now text None) }
+    ensures shown { (text : List ℕ) → checks.HasTaken check.now simple.now text → IfOk result (λ done. done ≡ true → GoOn pieces.old pieces.new (TextShown simple.now text)) }
 {
+    match check.finish(simple) {
+        Ok(found) => match leaf(pieces, &found) {
+            Ok(()) => Ok(true),
+            Err(error) => Err(error),
+        },
+        Err(_) => Ok(false),
+    }
+}
+
+/// The same by one that gives no leaf, where no pieces are kept.
+fn pass_verdict(verdict: &LeafVerdict, simple: &Simple, pieces: &Option<Pieces>) -> bool
+    requires { verdicts.IsMadeFor verdict.now simple.now }
+    ensures bare { result ≡ true → pieces.now ≡ None }
+    ensures taken { (text : List ℕ) → verdicts.HasTaken verdict.now simple.now text → result ≡ true → IsRuleOf simple.now text None }
+{
+    if pieces.is_some() {
+        return false;
+    }
     match verdict.finish(simple) {
         Ok(()) => true,
         Err(_) => false,

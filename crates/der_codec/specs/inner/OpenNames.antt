@@ -9,6 +9,7 @@ use Rattle.der_model.specs.States.{Name, Numbered, ListName, AttributeName, Stat
 use Rattle.der_model.specs.States as states
 use Rattle.der_model.specs.OpenParts.{components_of}
 use Rattle.der_model.specs.Paths.{name_text}
+use Rattle.der_codec.specs.Components.{slot_text}
 use Rattle.der_codec.specs.declared.level.Spot.{Spot}
 use Rattle.der_codec.specs.declared.level.Spot.TheVariants as spots
 use Rattle.der_codec.specs.declared.level.Level.{Level}
@@ -121,15 +122,10 @@ last_list [] = []
 last_list (n ∷ []) = list_alone n
 last_list (n ∷ k ∷ ns) = last_list (k ∷ ns)
 
--- a slash and the tag of a slot
-abbrev pub tag_behind : Option (graph.Slot ℕ) → List ℕ
-tag_behind None = []
-tag_behind (Some s) = 47 ∷ s.tag
-
 -- the name of the list that is kept by its parent and its number
 abbrev pub held_text : Graph ℕ Simple → Option (ℕ × ℕ) → List ℕ
 held_text types None = []
-held_text types (Some (p, k)) = tag_behind (slice_get (form_slots (types p)) k)
+held_text types (Some (p, k)) = slot_text (slice_get (form_slots (types p)) k)
 
 -- these names are written, of which there are some; where the last is that of a list, it is kept
 pub record HasNames (types : Graph ℕ Simple) (path : Path) (names : List Name) : Type 0 where

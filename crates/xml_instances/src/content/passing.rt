@@ -1,8 +1,10 @@
-// Tags that break no rule, where no pieces are kept: taken without what a refusal needs.
+// Tags that break no rule: taken without what a refusal needs.
 ghost use Rattle.std.specs.Prelude.{◌≡◌, ◌++◌, ◌∷◌, ℕ, List, [], IfOk, OnOk, IfSome, None, Some, true, false};
 ghost use Rattle.lexical_core.specs.Tree.{Expanded, Starts, Ends};
 ghost use Rattle.facets.specs.declared.simple.Simple.{Simple as SimpleType};
 ghost use Rattle.markup.specs.PlainTags.{tag_items};
+ghost use Rattle.xml_instances.specs.Built.{EventShows, EventsShow, TextShown};
+ghost use Rattle.xml_instances.specs.Keeping.{GoOn};
 ghost use Rattle.reference_check.specs.Steps.{Came, EndsWith, Fine, end_after};
 ghost use Rattle.message_model.specs.Tables.{message_of, types_of};
 ghost use Rattle.xml_instances.specs.Levels.{Level};
@@ -15,14 +17,15 @@ ghost use Rattle.xml_instances.specs.Verdicts.{IsLean};
 use super::attributes::is_money;
 use super::{Content, OpenText, counted};
 use crate::opened::Opened;
-use crate::texts::is_leaf;
+use crate::pieces::{Pieces, begin};
+use crate::texts::pass_leaf;
 use markup::TagKind;
 use message_model::{End, Model, Next};
 use std::alloc::AllocError;
 
 impl Content {
     /// Takes a tag without attributes of an element of the message, whose name is in the namespace of the innermost
-    /// element, where it breaks no rule and no pieces are kept. Else it answers false, and nothing changes.
+    /// element, where it breaks no rule. Else it answers false, and nothing changes.
     pub(crate) fn pass_tag(
         &mut self,
         model: &Model,
@@ -33,17 +36,15 @@ impl Content {
         ensures kept { IfOk result (λ done. done ≡ false → self.new ≡ self.old) }
         ensures made { AreMade (types_of model.now) self.new }
         ensures lean { IsLean self.old → IsLean self.new }
-        ensures bare { IfOk result (λ done. done ≡ true → (self.old.pieces ≡ None) × (self.new.pieces ≡ None)) }
         ensures taken { (ls : List (Level ℕ)) (n : Expanded) → n.local ≡ name.now → IsOurs (message_of model.now) ls n → IsOpen self.old (message_of model.now) ls
             → IfOk result (λ done. done ≡ true → PassAll (message_of model.now) ls (tag_items kind n) self.new) }
+        ensures shown { (ls : List (Level ℕ)) (n : Expanded) → n.local ≡ name.now → IsOurs (message_of model.now) ls n → IsOpen self.old (message_of model.now) ls
+            → IfOk result (λ done. done ≡ true → GoOn self.old.pieces self.new.pieces (EventsShow model.now ls (tag_items kind n))) }
     {
-        if self.pieces.is_some() {
-            return Ok(false);
-        }
         match kind {
             TagKind::Start => self.pass_start(model, name),
             TagKind::Empty => Ok(false),
-            TagKind::End => Ok(self.pass_end(model)),
+            TagKind::End => self.pass_end(model),
         }
     }
 
@@ -53,9 +54,10 @@ impl Content {
         ensures kept { IfOk result (λ done. done ≡ false → self.new ≡ self.old) }
         ensures made { AreMade (types_of model.now) self.new }
         ensures lean { IsLean self.old → IsLean self.new }
-        ensures pieces { self.new.pieces ≡ self.old.pieces }
         ensures taken { (ls : List (Level ℕ)) (n : Expanded) → n.local ≡ local.now → IsOurs (message_of model.now) ls n → IsOpen self.old (message_of model.now) ls
             → IfOk result (λ done. done ≡ true → Passes (message_of model.now) ls (Starts n []) self.new) }
+        ensures shown { (ls : List (Level ℕ)) (n : Expanded) → n.local ≡ local.now → IsOurs (message_of model.now) ls n → IsOpen self.old (message_of model.now) ls
+            → IfOk result (λ done. done ≡ true → GoOn self.old.pieces self.new.pieces (EventShows model.now ls (Starts n []))) }
     {
         let _ = model.type_count();
         message_model::laws::slot_comes();
@@ -78,6 +80,7 @@ impl Content {
         let Some(count) = counted(last, count, at) else {
             return Ok(false);
         };
+        begin(&mut self.pieces, at, target)?;
         self.push_round(Opened::Parent {
             number,
             last: Some(at),
@@ -101,13 +104,14 @@ impl Content {
     }
 
     /// The innermost element ends, as in `pass_tag`.
-    fn pass_end(&mut self, model: &Model) -> bool
+    fn pass_end(&mut self, model: &Model) -> Result<bool, AllocError>
         requires { AreMade (types_of model.now) self.old }
-        ensures kept { result ≡ false → self.new ≡ self.old }
+        ensures kept { IfOk result (λ done. done ≡ false → self.new ≡ self.old) }
         ensures made { AreMade (types_of model.now) self.new }
         ensures lean { IsLean self.old → IsLean self.new }
-        ensures pieces { self.new.pieces ≡ self.old.pieces }
-        ensures taken { (ls : List (Level ℕ)) (n : Expanded) → IsOpen self.old (message_of model.now) ls → result ≡ true → Passes (message_of model.now) ls (Ends n) self.new }
+        ensures taken { (ls : List (Level ℕ)) (n : Expanded) → IsOpen self.old (message_of model.now) ls → IfOk result (λ done. done ≡ true → Passes (message_of model.now) ls (Ends n) self.new) }
+        ensures shown { (ls : List (Level ℕ)) (n : Expanded) → IsOpen self.old (message_of model.now) ls
+            → IfOk result (λ done. done ≡ true → GoOn self.old.pieces self.new.pieces (EventShows model.now ls (Ends n))) }
     {
         match self.innermost {
             Some(Opened::Text) => self.pass_text_end(model),
@@ -118,77 +122,98 @@ impl Content {
                     count,
                 },
             ) => self.pass_parent_end(model, number, last, count),
-            _ => false,
+            _ => Ok(false),
         }
     }
 
     /// An element with a text ends, as in `pass_tag`.
-    fn pass_text_end(&mut self, model: &Model) -> bool
+    fn pass_text_end(&mut self, model: &Model) -> Result<bool, AllocError>
         requires made { AreMade (types_of model.now) self.old }
         requires text { self.old.innermost ≡ Some OpenedText }
-        ensures kept { result ≡ false → self.new ≡ self.old }
+        ensures kept { IfOk result (λ done. done ≡ false → self.new ≡ self.old) }
         ensures made { AreMade (types_of model.now) self.new }
         ensures lean { IsLean self.old → IsLean self.new }
-        ensures pieces { self.new.pieces ≡ self.old.pieces }
-        ensures taken { (ls : List (Level ℕ)) (n : Expanded) → IsOpen self.old (message_of model.now) ls → result ≡ true → Passes (message_of model.now) ls (Ends n) self.new }
+        ensures taken { (ls : List (Level ℕ)) (n : Expanded) → IsOpen self.old (message_of model.now) ls → IfOk result (λ done. done ≡ true → Passes (message_of model.now) ls (Ends n) self.new) }
+        ensures shown { (ls : List (Level ℕ)) (n : Expanded) → IsOpen self.old (message_of model.now) ls
+            → IfOk result (λ done. done ≡ true → GoOn self.old.pieces self.new.pieces (EventShows model.now ls (Ends n))) }
     {
-        if !self.pass_text(model) {
-            return false;
+        let passed = self.pass_text(model)?;
+        if !passed {
+            return Ok(false);
         }
+        self.close_innermost()?;
         self.innermost = self.round.pop();
-        true
+        Ok(true)
     }
 
     /// An element with elements ends, as in `pass_tag`.
-    fn pass_parent_end(&mut self, model: &Model, number: u32, last: Option<u32>, count: u64) -> bool
+    fn pass_parent_end(
+        &mut self,
+        model: &Model,
+        number: u32,
+        last: Option<u32>,
+        count: u64,
+    ) -> Result<bool, AllocError>
         requires made { AreMade (types_of model.now) self.old }
         requires parent { self.old.innermost ≡ Some (OpenedParent number last count) }
-        ensures kept { result ≡ false → self.new ≡ self.old }
+        ensures kept { IfOk result (λ done. done ≡ false → self.new ≡ self.old) }
         ensures made { AreMade (types_of model.now) self.new }
         ensures lean { IsLean self.old → IsLean self.new }
-        ensures pieces { self.new.pieces ≡ self.old.pieces }
-        ensures taken { (ls : List (Level ℕ)) (n : Expanded) → IsOpen self.old (message_of model.now) ls → result ≡ true → Passes (message_of model.now) ls (Ends n) self.new }
+        ensures taken { (ls : List (Level ℕ)) (n : Expanded) → IsOpen self.old (message_of model.now) ls → IfOk result (λ done. done ≡ true → Passes (message_of model.now) ls (Ends n) self.new) }
+        ensures shown { (ls : List (Level ℕ)) (n : Expanded) → IsOpen self.old (message_of model.now) ls
+            → IfOk result (λ done. done ≡ true → GoOn self.old.pieces self.new.pieces (EventShows model.now ls (Ends n))) }
     {
         if !is_complete(model, number, last, count) {
-            return false;
+            return Ok(false);
         }
+        self.close_innermost()?;
         self.innermost = self.round.pop();
-        true
+        Ok(true)
     }
 
-    /// The open text ends, and its judge is kept for the next one, where it is a leaf; else nothing changes.
-    fn pass_text(&mut self, model: &Model) -> bool
+    /// The open text ends, its leaf is shown, and its judge is kept for the next one, where it is a leaf; else nothing changes.
+    fn pass_text(&mut self, model: &Model) -> Result<bool, AllocError>
         requires { AreMade (types_of model.now) self.old }
-        ensures kept { result ≡ false → self.new ≡ self.old }
+        ensures kept { IfOk result (λ done. done ≡ false → self.new ≡ self.old) }
         ensures made { AreMade (types_of model.now) self.new }
         ensures lean { IsLean self.old → IsLean self.new }
         ensures innermost { self.new.innermost ≡ self.old.innermost }
         ensures round { self.new.round ≡ self.old.round }
-        ensures pieces { self.new.pieces ≡ self.old.pieces }
-        ensures taken { (simple : SimpleType) (text : List ℕ) → HoldsText (message_of model.now) self.old.text simple text → result ≡ true → IsRuleOf simple text None }
+        ensures taken { (simple : SimpleType) (text : List ℕ) → HoldsText (message_of model.now) self.old.text simple text → IfOk result (λ done. done ≡ true → IsRuleOf simple text None) }
+        ensures shown { (simple : SimpleType) (text : List ℕ) → HoldsText (message_of model.now) self.old.text simple text
+            → IfOk result (λ done. done ≡ true → GoOn self.old.pieces self.new.pieces (TextShown simple text)) }
     {
-        if !is_passed(model, &self.text) {
-            return false;
+        let passed = pass_open(model, &self.text, &mut self.pieces)?;
+        if !passed {
+            return Ok(false);
         }
         if let Some(open) = self.text.take() {
             self.checks.keep(open.number, open.judge);
         }
-        true
+        Ok(true)
     }
 }
 
-/// Whether the open text is a leaf, as one that gives none tells.
-fn is_passed(model: &Model, text: &Option<OpenText>) -> bool
+/// Shows the leaf of the open text, where that is one; else nothing changes.
+fn pass_open(
+    model: &Model,
+    text: &Option<OpenText>,
+    pieces: &mut Option<Pieces>,
+) -> Result<bool, AllocError>
     requires { IsTextMade (types_of model.now) text.now }
-    ensures { (simple : SimpleType) (taken : List ℕ) → HoldsText (message_of model.now) text.now simple taken → result ≡ true → IsRuleOf simple taken None }
+    ensures kept { IfOk result (λ done. done ≡ false → pieces.new ≡ pieces.old) }
+    ensures bare { pieces.old ≡ None → pieces.new ≡ None }
+    ensures taken { (simple : SimpleType) (taken : List ℕ) → HoldsText (message_of model.now) text.now simple taken → IfOk result (λ done. done ≡ true → IsRuleOf simple taken None) }
+    ensures shown { (simple : SimpleType) (taken : List ℕ) → HoldsText (message_of model.now) text.now simple taken
+        → IfOk result (λ done. done ≡ true → GoOn pieces.old pieces.new (TextShown simple taken)) }
 {
     let Some(open) = text else {
-        return false;
+        return Ok(false);
     };
     let Some(simple) = model.text_type(open.number) else {
-        return false;
+        return Ok(false);
     };
-    is_leaf(&open.judge, simple)
+    pass_leaf(&open.judge, simple, pieces)
 }
 
 /// The type of a slot, where its elements may be without attributes.

@@ -92,6 +92,7 @@ impl Content {
     }
 
     /// The innermost element ends, where pieces are kept.
+    #[inline(always)]
     pub(crate) fn close_innermost(&mut self) -> Result<(), AllocError>
         ensures innermost { self.new.innermost ≡ self.old.innermost }
         ensures round { self.new.round ≡ self.old.round }

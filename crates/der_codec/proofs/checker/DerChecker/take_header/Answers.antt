@@ -1,9 +1,13 @@
-use Rattle.std.proofs.Common.{◌+◌, ◌≤◌, ◌^◌, ◌++◌, length, take, sym, subst}
+use Rattle.std.proofs.Common.{◌+◌, ◌≤◌, ◌^◌, ◌++◌, ◌∙◌, length, take, sym, subst}
 use Rattle.der_model.specs.DerMessage.{der_message}
 use Rattle.der_codec.specs.Decoding.{IsHeaderDue}
 use Rattle.der_codec.specs.declared.decoder.Decoder.{Decoder}
+use Rattle.der_codec.proofs.TextLengths.{none_there}
 use Rattle.der_codec.proofs.UsualFed.{none_shown, fed_as, front_as, usual_taken, usual_stopped, some_taken}
 use Rattle.der_codec.proofs.checker.DerChecker.take_header.Goals as goal
+
+pub take_run-taken-requires-clause-alone : goal.take_run-taken-requires-clause-alone
+take_run-taken-requires-clause-alone c = none_there c.args.self.now.pieces (sym c.is_some.ensures ∙ c.if-is_some.false)
 
 pub take_first-requires-clause-room : goal.take_first-requires-clause-room
 take_first-requires-clause-room c = subst (λ (z : Decoder). z.place + length c.args.piece.now ≤ 2 ^ 40) (sym (c.take_run-taken.ensures.unchanged c.if-taken-eq0.true)) c.requires.room

@@ -1,5 +1,3 @@
-use Rattle.std.proofs.Common.{◌∙◌, sym}
-use Rattle.der_codec.proofs.TextLengths.{none_there}
 use Rattle.der_codec.proofs.checker.DerChecker.take_run.Goals as goal
 
 pub take_run-requires-clause-waits : goal.take_run-requires-clause-waits
@@ -9,4 +7,4 @@ pub take_run-requires-clause-read : goal.take_run-requires-clause-read
 take_run-requires-clause-read c = (let g = c.requires.given in (g.0, g.1.reading.read))
 
 pub returns-clause-none : goal.returns-clause-none
-returns-clause-none c = λ some. none_there c.args.self.now.pieces (sym c.is_some.ensures ∙ c.if-is_some.false)
+returns-clause-none c = λ some. c.requires.alone

@@ -12,6 +12,9 @@ use Rattle.std.proofs.Common.{sym}
 pub returns-then-done-clause-taken : goal.returns-then-done-clause-taken
 returns-then-done-clause-taken c ls n e ours h = c.in-Ok.ensures.taken ls n e ours h c.if-done.true
 
+pub returns-then-done-clause-shown : goal.returns-then-done-clause-shown
+returns-then-done-clause-shown c ls n e ours h may = c.in-Ok.ensures.shown ls n e ours h c.if-done.true
+
 pub returns-else-done-clause-taken : goal.returns-else-done-clause-taken
 returns-else-done-clause-taken c ls n e ours h =
     c.take_any_tag.ensures.taken ls n e ours (subst (λ (x : Content). IsOpen x (message_of c.args.model.now) ls) (sym (c.in-Ok.ensures.kept c.if-done.false)) h)

@@ -1,0 +1,32 @@
+use Rattle.std.proofs.Common.{◌++◌, length, take, drop, refl, ap, arith}
+use Rattle.der_codec.proofs.Fed.{taken_front, stopped_front, joined}
+use Rattle.der_codec.proofs.UsualFed.{entered}
+use Rattle.der_codec.proofs.checker.DerChecker.enter_shown.Goals as goal
+
+pub end_here-requires-clause-given : goal.end_here-requires-clause-given
+end_here-requires-clause-given c =
+    let g = c.requires.given in
+    let h = c.requires.stands g.0 g.1 in
+    let e = c.enter_at.ensures in
+    let both = entered c.args.model.now c.args.self.now c.enter_at.new.self c.args.begun h.0 h.1 c.args.piece.now g.0 c.begin_last.new.pieces g.1 h.2 c.requires.constructed c.in-Ok.ensures e.levels e.place e.start e.due e.fresh in
+    (g.0 ++ take 2 c.args.piece.now, both.0, both.1)
+
+pub returns-in-Ok-end_here-clause-front : goal.returns-in-Ok-end_here-clause-front
+returns-in-Ok-end_here-clause-front c =
+    let piece = c.args.piece.now in
+    let g = c.requires.given in
+    let size = ap length (c.requires.stands g.0 g.1).2.piece_is in
+    taken_front c.args.model.now c.args.self.now c.end_here.new.self piece (take 2 piece) 2 refl (omega (arith, size)) c.requires.room c.in-Ok-end_here.ensures.sound (λ bytes k.
+    let h = c.requires.stands bytes k in
+    let e = c.enter_at.ensures in
+    let both = entered c.args.model.now c.args.self.now c.enter_at.new.self c.args.begun h.0 h.1 piece bytes c.begin_last.new.pieces k h.2 c.requires.constructed c.in-Ok.ensures e.levels e.place e.start e.due e.fresh in
+    c.in-Ok-end_here.ensures.ok (bytes ++ take 2 piece) both.0 both.1)
+
+pub returns-in-Err-end_here-clause-front : goal.returns-in-Err-end_here-clause-front
+returns-in-Err-end_here-clause-front c =
+    let piece = c.args.piece.now in
+    stopped_front c.args.model.now c.args.self.now c.end_here.new.self piece (take 2 piece) (drop 2 piece) c.in-Err-end_here.stop (joined 2 piece) (λ bytes k.
+    let h = c.requires.stands bytes k in
+    let e = c.enter_at.ensures in
+    let both = entered c.args.model.now c.args.self.now c.enter_at.new.self c.args.begun h.0 h.1 piece bytes c.begin_last.new.pieces k h.2 c.requires.constructed c.in-Ok.ensures e.levels e.place e.start e.due e.fresh in
+    c.in-Err-end_here.ensures.err (bytes ++ take 2 piece) both.0)

@@ -1,0 +1,54 @@
+use Rattle.std.proofs.Common.{◌+◌, ◌++◌, length, take, drop, refl, ap, arith}
+use Rattle.der_codec.proofs.Fed.{taken_front, stopped_front, joined}
+use Rattle.der_codec.proofs.UsualFed.{fed_as, front_as, passed}
+use Rattle.der_codec.proofs.checker.DerChecker.pass_shown.Goals as goal
+
+pub end_here-requires-clause-given : goal.end_here-requires-clause-given
+end_here-requires-clause-given c =
+    let g = c.requires.given in
+    let h = c.requires.stands g.0 g.1 in
+    let e = c.go_behind.ensures in
+    let t = c.in-Ok.ensures in
+    let few = c.if-behind-count.false in
+    let both =
+    passed c.args.model.now c.args.self.now c.go_behind.new.self c.args.begun c.args.second c.args.behind.now c.args.piece.now g.0 c.split_at.result.0.now c.tell_last.new.pieces g.1 h c.requires.primitive c.split_at.ensures.front (omega (arith, few)) (t.held (let e = c.if-not-told.false in cc)) (t.shown (let e = c.if-not-told.false in cc)) e.levels
+    e.place e.start e.due e.fresh in
+    (g.0 ++ take (2 + c.args.second) c.args.piece.now, both.0, both.1)
+
+pub returns-in-Ok-end_here-clause-front : goal.returns-in-Ok-end_here-clause-front
+returns-in-Ok-end_here-clause-front c =
+    let piece = c.args.piece.now in
+    let n = c.args.second in
+    let g = c.requires.given in
+    let size = ap length (c.requires.stands g.0 g.1).piece_is in
+    let few = c.if-behind-count.false in
+    let e = c.go_behind.ensures in
+    let t = c.in-Ok.ensures in
+    taken_front c.args.model.now c.args.self.now c.end_here.new.self piece (take (2 + n) piece) (2 + n) refl (omega (arith, size, few)) c.requires.room c.in-Ok-end_here.ensures.sound (λ bytes k.
+    let both =
+    passed c.args.model.now c.args.self.now c.go_behind.new.self c.args.begun n c.args.behind.now piece bytes c.split_at.result.0.now c.tell_last.new.pieces k (c.requires.stands bytes k) c.requires.primitive c.split_at.ensures.front (omega (arith, few)) (t.held (let e = c.if-not-told.false in cc)) (t.shown (let e = c.if-not-told.false in cc)) e.levels e.place
+    e.start e.due e.fresh in
+    c.in-Ok-end_here.ensures.ok (bytes ++ take (2 + n) piece) both.0 both.1)
+
+pub returns-in-Err-end_here-clause-front : goal.returns-in-Err-end_here-clause-front
+returns-in-Err-end_here-clause-front c =
+    let piece = c.args.piece.now in
+    let n = c.args.second in
+    let few = c.if-behind-count.false in
+    let e = c.go_behind.ensures in
+    let t = c.in-Ok.ensures in
+    stopped_front c.args.model.now c.args.self.now c.end_here.new.self piece (take (2 + n) piece) (drop (2 + n) piece) c.in-Err-end_here.stop (joined (2 + n) piece) (λ bytes k.
+    let both =
+    passed c.args.model.now c.args.self.now c.go_behind.new.self c.args.begun n c.args.behind.now piece bytes c.split_at.result.0.now c.tell_last.new.pieces k (c.requires.stands bytes k) c.requires.primitive c.split_at.ensures.front (omega (arith, few)) (t.held (let e = c.if-not-told.false in cc)) (t.shown (let e = c.if-not-told.false in cc)) e.levels e.place
+    e.start e.due e.fresh in
+    c.in-Err-end_here.ensures.err (bytes ++ take (2 + n) piece) both.0)
+
+pub take_first-requires-then-not-told-clause-given : goal.take_first-requires-then-not-told-clause-given
+take_first-requires-then-not-told-clause-given c =
+    let g = c.requires.given in
+    (g.0, fed_as c.args.model.now c.args.self.now _ g.0 refl refl (c.in-Ok.ensures.same (let e = c.if-not-told.true in cc)) refl g.1)
+
+pub returns-then-not-told-clause-front : goal.returns-then-not-told-clause-front
+returns-then-not-told-clause-front c =
+    front_as c.args.model.now c.args.self.now _ c.take_first-then-not-told.new.self c.args.piece.now c.take_first-then-not-told.result
+    (λ bytes k. fed_as c.args.model.now c.args.self.now _ bytes refl refl (c.in-Ok.ensures.same (let e = c.if-not-told.true in cc)) refl k) c.take_first-then-not-told.ensures.front
