@@ -27,6 +27,3 @@ mod within;
 mod writer;
 
 pub use writer::write_module;
-
-#[cfg(test)]
-mod tests;

@@ -19,6 +19,3 @@ pub use joining::join;
 pub use pulling::pull_codes;
 pub use read::read_codes;
 pub use record::{CodeLists, CodeRecord};
-
-#[cfg(test)]
-mod tests;

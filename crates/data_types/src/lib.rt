@@ -30,6 +30,3 @@ pub use leaf_step::LeafStep;
 pub use run::{RunChars, run_chars};
 pub use text_writer::push_escaped;
 pub use words::{space_count, word_count};
-
-#[cfg(test)]
-mod tests;

@@ -24,6 +24,3 @@ pub use lengths::check_octets;
 pub use places::check_code;
 pub use simple::{Bound, Simple};
 pub use step::{Step, Texts};
-
-#[cfg(test)]
-mod tests;

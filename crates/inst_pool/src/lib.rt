@@ -30,6 +30,3 @@ pub use builder::Builder;
 pub use instance::Instance;
 pub use piece::{Edge, Piece};
 pub use walk::Walk;
-
-#[cfg(test)]
-mod tests;

@@ -43,6 +43,3 @@ pub use runs::{Run, xml_run};
 pub use text::Text;
 pub use utf8::{Utf8, Utf8Step};
 pub use xml_text::is_xml_text;
-
-#[cfg(test)]
-mod tests;

@@ -52,6 +52,3 @@ pub use namespace::Namespace;
 pub use plain_tag::{PlainTag, TagKind};
 pub use reader::{MarkError, MarkFault, Reader};
 pub use references::CharacterReference;
-
-#[cfg(test)]
-mod tests;

@@ -21,6 +21,3 @@ mod tag_order;
 pub use fault::{Fault, InstanceError};
 pub use model::{End, Form, Model, Next, Slot};
 pub use reference_check::ReadyError;
-
-#[cfg(test)]
-mod tests;

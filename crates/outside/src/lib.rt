@@ -26,6 +26,3 @@ pub use render::{Part, Render, push_bytes, push_number, render_all, write_to};
 pub use sink::Sink;
 pub use source::Source;
 pub use steady::{SteadySink, SteadySource};
-
-#[cfg(test)]
-mod tests;

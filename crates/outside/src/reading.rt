@@ -87,39 +87,3 @@ pub fn read_all<S: Source>(
         bytes.extend_from_slice(&buffer[..count])?;
     }
 }
-
-// What no contract says: that there is memory, and that a pull that failed is not tried again.
-#[cfg(test)]
-mod tests {
-    use super::{ReadError, read_all};
-    use crate::MemSource;
-    use std::test::Fail;
-
-    #[test]
-    fn bytes_are_read_up_to_the_limit(rt: HostRuntime) -> Result<(), Fail> {
-        for piece in 1..5 {
-            let mut source = MemSource::new(rt.alloc(), b"abc", piece, &[])?;
-            let bytes = read_all(rt.alloc(), &mut source, 3)?;
-            assert!(rt; bytes.as_slice() == b"abc".as_slice());
-        }
-        Ok(())
-    }
-
-    #[test]
-    fn more_bytes_are_too_long(rt: HostRuntime) -> Result<(), Fail> {
-        let mut source = MemSource::new(rt.alloc(), b"abc", 2, &[])?;
-        let told = read_all(rt.alloc(), &mut source, 2);
-        assert!(rt; told.err() == Some(ReadError::TooLong));
-        Ok(())
-    }
-
-    #[test]
-    fn failed_pull_is_not_tried_again(rt: HostRuntime) -> Result<(), Fail> {
-        let mut source = MemSource::new(rt.alloc(), b"abc", 1, &[1])?;
-        let told = read_all(rt.alloc(), &mut source, 3);
-        assert!(rt; told.err() == Some(ReadError::ReadFault));
-        let rest = read_all(rt.alloc(), &mut source, 3)?;
-        assert!(rt; rest.as_slice() == b"bc".as_slice());
-        Ok(())
-    }
-}

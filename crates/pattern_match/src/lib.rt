@@ -24,6 +24,3 @@ mod token;
 pub use error::PatternError;
 pub use matcher::Matcher;
 pub use pattern::Pattern;
-
-#[cfg(test)]
-mod tests;

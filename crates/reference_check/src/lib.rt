@@ -26,8 +26,3 @@ pub use code_texts::{CodeTexts, code_text};
 pub use reached::{Places, Reach, ReadyError};
 pub use search::reach;
 pub use tail_rules::tail;
-
-#[cfg(test)]
-mod tail_tests;
-#[cfg(test)]
-mod tests;

@@ -102,6 +102,3 @@ fn opened<R: Files>(rt: &R, word: Option<&String>) -> Result<ReadSource<R::File>
         },
     }
 }
-
-#[cfg(test)]
-mod tests;

@@ -18,6 +18,3 @@ mod values;
 
 pub use fault::{LoadError, LoadFault};
 pub use file::load;
-
-#[cfg(test)]
-mod tests;

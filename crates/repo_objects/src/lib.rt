@@ -12,6 +12,3 @@ pub use objects::{
     CodeDef, CodeDefs, ElementDef, Elements, Kinds, MessageDef, Object, ObjectKind, RawFacets,
 };
 pub use repository::{AddError, Repository};
-
-#[cfg(test)]
-mod tests;

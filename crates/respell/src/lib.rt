@@ -22,6 +22,3 @@ mod spelling;
 
 pub use fragment_reader::is_fragment;
 pub use respell::Respell;
-
-#[cfg(test)]
-mod tests;

@@ -15,6 +15,3 @@ mod type_contents;
 mod writer;
 
 pub use writer::write_schema;
-
-#[cfg(test)]
-mod tests;

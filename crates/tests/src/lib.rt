@@ -1,0 +1,41 @@
+//! The tests of the public calls of each crate, which say what no clause says: that the clauses mean what the standards'
+//! own examples say, and that calls which may want memory succeed where there is some.
+//!
+//! They stand in a crate of their own, since a check of tests proves their crate anew. A file is called after the crate
+//! that it is about. What the program shows as a whole is in `cases/`.
+#![tactic(auto)]
+
+#[cfg(test)]
+mod asn1_writer_tests;
+#[cfg(test)]
+mod code_sets_tests;
+#[cfg(test)]
+mod code_texts_tests;
+#[cfg(test)]
+mod data_types_tests;
+#[cfg(test)]
+mod facets_tests;
+#[cfg(test)]
+mod inst_pool_tests;
+#[cfg(test)]
+mod lexical_core_tests;
+#[cfg(test)]
+mod markup_tests;
+#[cfg(test)]
+mod message_model_tests;
+#[cfg(test)]
+mod outside_tests;
+#[cfg(test)]
+mod pattern_match_tests;
+#[cfg(test)]
+mod reference_check_tests;
+#[cfg(test)]
+mod repo_engine_tests;
+#[cfg(test)]
+mod repo_loader_tests;
+#[cfg(test)]
+mod repo_objects_tests;
+#[cfg(test)]
+mod respell_tests;
+#[cfg(test)]
+mod xsd_writer_tests;

@@ -1,0 +1,363 @@
+// Texts that a reader takes by whole tags and runs of characters where it can.
+ghost use Rattle.std.specs.Prelude.{◌≡◌, ◌<◌, ◌≤◌, ◌+◌, ◌^◌, IfOk, IfSome, length};
+ghost use Rattle.markup.specs.Reading.{taken};
+
+use super::{ALONE, BEHIND_ROOT, LIMIT, ROOT, Verdict, answer, refusal, repeated};
+use Verdict::Whole;
+use lexical_core::Rule;
+use markup::{Events, Reader, Run};
+use std::alloc::{AllocError, Global};
+use std::process::Abort;
+
+/// Gives the reader what it takes at once of the piece, or its first byte, and answers how many
+/// bytes they are.
+fn take_some(reader: &mut Reader, out: &mut Events, piece: &[u8]) -> Result<usize, Verdict>
+    requires { taken reader.old + length piece.now ≤ 2 ^ 40 }
+    ensures within { IfOk result (λ n. n ≤ length piece.now) }
+    ensures some { IfOk result (λ n. 0 < length piece.now → 0 < n) }
+    ensures count { IfOk result (λ n. taken reader.new ≡ taken reader.old + n) }
+{
+    let run = reader.take_characters(piece);
+    if run.bytes > 0 {
+        return Ok(run.bytes);
+    }
+    if let Some(reference) = reader.take_reference(piece) {
+        return Ok(reference.bytes);
+    }
+    match reader.take_tag(piece) {
+        Ok(Some(tag)) => return Ok(tag.bytes),
+        Ok(None) => {}
+        Err(error) => return Err(refusal(error)),
+    }
+    let start = match reader.take_start(piece, out) {
+        Ok(count) => count,
+        Err(error) => return Err(refusal(error)),
+    };
+    if start > 0 {
+        return Ok(start);
+    }
+    let inside = match reader.take_inside(piece) {
+        Ok(count) => count,
+        Err(error) => return Err(refusal(error)),
+    };
+    if inside > 0 {
+        return Ok(inside);
+    }
+    let Some((byte, _)) = piece.split_first() else {
+        return Ok(0);
+    };
+    match reader.take(*byte, out) {
+        Ok(()) => Ok(1),
+        Err(error) => Err(refusal(error)),
+    }
+}
+
+/// What a reader before the first byte says of the bytes in pieces of this size.
+fn answer_by_pieces(mut reader: Reader, alloc: Global, bytes: &[u8], size: usize) -> Verdict
+    requires { taken reader ≡ 0 }
+{
+    if bytes.len() as u64 > LIMIT || size == 0 {
+        return Verdict::TooLong;
+    }
+    let mut out = Events::new(alloc);
+    let mut rest = bytes;
+    while !rest.is_empty() {
+        let (piece, _) = rest.split_at(size.min(rest.len()));
+        let taken = match take_some(&mut reader, &mut out, piece) {
+            Ok(taken) => taken,
+            Err(verdict) => return verdict,
+        };
+        out.clear();
+        let (_, behind) = rest.split_at(taken);
+        rest = behind;
+    }
+    match reader.finish(&mut out) {
+        Ok(()) => Whole,
+        Err(error) => refusal(error),
+    }
+}
+
+/// Each text of the rows is answered as they say, in pieces of each size up to 7 and in one.
+fn check_texts(
+    rt: &impl Abort,
+    alloc: Global,
+    front: &str,
+    rows: &[(&str, Verdict)],
+) -> Result<(), AllocError> {
+    for (text, expected) in rows {
+        let bytes = repeated(alloc, &[(front, 1), (*text, 1)])?;
+        for size in [1, 2, 3, 4, 5, 6, 7, 4096] {
+            let found = answer_by_pieces(Reader::new(alloc), alloc, bytes.as_slice(), size);
+            assert!(rt; found == *expected, "{text}, {size}: {found:?}");
+        }
+    }
+    Ok(())
+}
+
+#[test]
+fn texts_in_pieces(rt: HostRuntime) -> Result<(), AllocError> {
+    check_texts(&rt, rt.alloc(), ROOT, &BEHIND_ROOT)?;
+    check_texts(&rt, rt.alloc(), "", &ALONE)
+}
+
+/// An instance with tags, runs and what stands between them.
+static SHAPES: &str =
+    "<a xmlns=\"u\">\n <b>x y\tz</b>\r\n<c/><p:d xmlns:p=\"v\"><e p:j='k'>]</e>]]<f.g-h_1>&lt;&#x41;</f.g-h_1></p:d><!-- - --><?q ?><i j='k&#65;\"l\t' m = \"'n\"/><![CDATA[<>]]></a>";
+
+/// With the byte at this place changed to another one, the text is answered as by single bytes.
+fn check_change(rt: &impl Abort, alloc: Global, at: usize, byte: u8) -> Result<(), AllocError> {
+    let mut bytes = Vec::from_slice(alloc, SHAPES.as_bytes())?;
+    if let Some(changed) = bytes.get_mut(at) {
+        *changed = byte;
+    }
+    let expected = answer(alloc, bytes.as_slice());
+    let found = answer_by_pieces(Reader::new(alloc), alloc, bytes.as_slice(), 4096);
+    assert!(rt; found == expected, "{at}, {byte}: {found:?}");
+    Ok(())
+}
+
+#[test]
+fn changes_in_one_piece(rt: HostRuntime) -> Result<(), AllocError> {
+    for at in 0..SHAPES.len() {
+        for byte in [0, b'<', b'&', b']', b'>', b':', 0xFF] {
+            check_change(&rt, rt.alloc(), at, byte)?;
+        }
+    }
+    Ok(())
+}
+
+/// A tag that is longer than one of XML may be is taken by a reader without limit, in one piece and
+/// in pieces.
+#[test]
+fn tags_of_any_length(rt: HostRuntime) -> Result<(), AllocError> {
+    let alloc = rt.alloc();
+    let bytes = repeated(alloc, &[("<a", 1), (" ", 1_048_573), ("/>", 1)])?;
+    for size in [4096, 2_000_000] {
+        let reader = Reader::without_limit(alloc);
+        let found = answer_by_pieces(reader, alloc, bytes.as_slice(), size);
+        assert!(&rt; found == Whole, "{size}: {found:?}");
+    }
+    Ok(())
+}
+
+/// A reader that has taken these bytes, where they have no fault.
+fn behind(alloc: Global, bytes: &[u8]) -> Option<Reader>
+    ensures { IfSome result (λ reader. taken reader ≤ 100) }
+{
+    if bytes.len() > 100 {
+        return None;
+    }
+    let mut out = Events::new(alloc);
+    let mut reader = Reader::new(alloc);
+    let mut rest = bytes;
+    while let Some((byte, after)) = rest.split_first() {
+        if reader.take(*byte, &mut out).is_err() {
+            return None;
+        }
+        rest = after;
+    }
+    Some(reader)
+}
+
+/// Pieces of an element's text, and how many bytes and characters the run at their front has, and
+/// whether it is white space.
+static RUNS: [(&[u8], usize, usize, bool); 12] = [
+    (b"b\xE2\x82", 1, 1, false),
+    (b"b\xE2\x82\xAC", 4, 2, false),
+    (b"\xF0\x9F\x98", 0, 0, true),
+    (b"\xF0\x9F\x98\x80c]d", 5, 2, false),
+    (b"\xC2\x80\rb", 2, 1, false),
+    (b"b\xEF\xBF\xBEc", 1, 1, false),
+    (b"b\xC0\x80c", 1, 1, false),
+    (b"b\xED\xA0\x80", 1, 1, false),
+    (b"\x80b", 0, 0, true),
+    (b" \n\t<", 3, 3, true),
+    (b" \xC2\xA0<", 3, 2, false),
+    (b"]]b", 2, 2, false),
+];
+
+/// A run ends before a character that is cut, or that XML has not, or that is none.
+#[test]
+fn runs_of_whole_characters(rt: HostRuntime) {
+    for (piece, bytes, characters, blank) in &RUNS {
+        let run = Run {
+            bytes: *bytes,
+            characters: *characters,
+            blank: *blank,
+        };
+        let Some(mut reader) = behind(rt.alloc(), b"<a>") else {
+            continue;
+        };
+        if piece.len() > 100 {
+            continue;
+        }
+        let found = reader.take_characters(piece);
+        assert!(rt; found == run, "{found:?}");
+    }
+}
+
+/// What was taken, pieces behind it, how many bytes the reference has that is taken at their front, and its
+/// character.
+static REFERENCES: [(&str, &str, usize, char); 10] = [
+    ("<a>", "&amp;b", 5, '&'),
+    ("<a>]", "&#65;", 5, 'A'),
+    ("<a>", "&#x1F600;c", 9, '\u{1F600}'),
+    ("<a>", "&#x20", 0, ' '),
+    ("<a>", "&b;", 0, ' '),
+    ("<a>", "&#0;", 0, ' '),
+    ("<a>&", "lt;", 0, ' '),
+    ("<a><![CDATA[", "&lt;", 0, ' '),
+    ("<a><b c='", "&lt;", 0, ' '),
+    ("", "&lt;", 0, ' '),
+];
+
+/// A reference is taken where it is whole and may stand.
+#[test]
+fn whole_references(rt: HostRuntime) {
+    for (front, piece, bytes, character) in &REFERENCES {
+        let Some(mut reader) = behind(rt.alloc(), front.as_bytes()) else {
+            continue;
+        };
+        if piece.len() > 100 {
+            continue;
+        }
+        let (size, given) = match reader.take_reference(piece.as_bytes()) {
+            Some(reference) => (reference.bytes, reference.character),
+            None => (0, ' '),
+        };
+        assert!(rt;
+            size == *bytes && given == *character,
+            "{front}, {piece}: {size}"
+        );
+    }
+}
+
+/// Pieces behind `<a>`, and how many bytes the tag has that is taken at their front.
+static TAGS: [(&str, usize); 14] = [
+    ("<b>", 3),
+    ("<b/>", 4),
+    ("</a>", 4),
+    ("<b", 0),
+    ("<b/", 0),
+    ("</a", 0),
+    ("</b>", 0),
+    ("</aa>", 0),
+    ("<b >", 0),
+    ("</a >", 0),
+    ("<b:c>", 0),
+    ("<1>", 0),
+    ("<\u{E9}>", 0),
+    ("<Dt.1-2_x>y", 10),
+];
+
+#[test]
+fn whole_tags(rt: HostRuntime) {
+    for (piece, bytes) in &TAGS {
+        let Some(mut reader) = behind(rt.alloc(), b"<a>") else {
+            continue;
+        };
+        if piece.len() > 100 {
+            continue;
+        }
+        let found = match reader.take_tag(piece.as_bytes()) {
+            Ok(Some(tag)) => tag.bytes,
+            _ => 0,
+        };
+        assert!(rt; found == *bytes, "{piece}: {found}");
+    }
+}
+
+/// Pieces behind a start tag, how many bytes of a start tag at their front are taken at once, and how many
+/// events are told.
+static STARTS: [(&str, usize, usize); 24] = [
+    ("<b c=\"d\">e", 9, 1),
+    ("<b c='d\"e' f=\"'\"/>g", 18, 2),
+    ("<b>", 3, 1),
+    ("<b/>", 4, 2),
+    ("<b xmlns='u' c=''>", 18, 1),
+    ("<b-1 c.2='d e'>", 15, 1),
+    ("<b c='d'", 0, 0),
+    ("<b c='d' >", 0, 0),
+    ("<b  c='d'>", 0, 0),
+    ("<b c ='d'>", 0, 0),
+    ("<p:b xmlns:p='u'>", 17, 1),
+    ("<b xmlns:p='u' p:c='d'/>", 24, 2),
+    ("<p:b q:c='d' xmlns:p='u' xmlns:q='v'/>", 38, 2),
+    ("<p:q:b>", 0, 0),
+    ("<:b>", 0, 0),
+    ("<p:>", 0, 0),
+    ("<b p:q:c='d'>", 0, 0),
+    ("<b :c='d'>", 0, 0),
+    ("<b p:='d'>", 0, 0),
+    ("<b c='&lt;'>", 0, 0),
+    ("<b c='\t'>", 0, 0),
+    ("<b c='\u{E9}'>", 0, 0),
+    ("<b c=`d`>", 0, 0),
+    ("</a>", 0, 0),
+];
+
+#[test]
+fn whole_starts(rt: HostRuntime) {
+    for (piece, bytes, events) in &STARTS {
+        let Some(mut reader) = behind(rt.alloc(), b"<a>") else {
+            continue;
+        };
+        if piece.len() > 100 {
+            continue;
+        }
+        let mut out = Events::new(rt.alloc());
+        let found = match reader.take_start(piece.as_bytes(), &mut out) {
+            Ok(count) => count,
+            Err(_) => 100,
+        };
+        assert!(rt; found == *bytes && out.len() == *events, "{piece}: {found}");
+    }
+}
+
+/// What was taken, pieces behind it, and how many bytes at their front go on with the open token.
+static INSIDE: [(&str, &str, usize); 14] = [
+    ("<a>", "<b c", 0),
+    ("<a><", "b c='d'", 7),
+    ("<a><b c='", "d\"\t\r\ne'/>", 8),
+    ("<a><b c='", "d<e", 1),
+    ("<a><b c='", "d&lt;&#65;e&f", 12),
+    ("<a><b c='", "d\u{E9}", 1),
+    ("<a><b", ":d>", 2),
+    ("<a></b", "-.c >", 4),
+    ("<a><!--", " - b\n-->", 7),
+    ("<a><!-", "-b-c--d", 6),
+    ("<a><?b", " c? d?>", 6),
+    ("<a>&", "amp;", 3),
+    ("<", "?xml version='1.0'?>", 19),
+    ("<a><![CDATA[", "b]", 0),
+];
+
+/// The bytes inside a token go up to the one that ends it, or with which it does not go on.
+#[test]
+fn bytes_inside(rt: HostRuntime) {
+    for (front, piece, bytes) in &INSIDE {
+        let Some(mut reader) = behind(rt.alloc(), front.as_bytes()) else {
+            continue;
+        };
+        if piece.len() > 100 {
+            continue;
+        }
+        let found = match reader.take_inside(piece.as_bytes()) {
+            Ok(count) => count,
+            Err(_) => 100,
+        };
+        assert!(rt; found == *bytes, "{front}, {piece}: {found}");
+    }
+}
+
+/// After an error nothing is taken.
+#[test]
+fn nothing_after_an_error(rt: HostRuntime) {
+    let mut reader = Reader::new(rt.alloc());
+    let mut out = Events::new(rt.alloc());
+    assert!(rt; reader.take(b'a', &mut out).is_err());
+    assert!(rt; reader.take_characters(b"bc").bytes == 0);
+    assert!(rt; reader.take_reference(b"&lt;").is_none());
+    assert!(rt; reader.take_tag(b"<b>").is_err());
+    assert!(rt; reader.take_start(b"<b c='d'>", &mut out).is_err());
+}

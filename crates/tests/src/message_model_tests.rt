@@ -1,0 +1,150 @@
+// What no contract says: that there is memory for a compiled message; and examples of rules and look-ups.
+ghost use Rattle.std.specs.Prelude.{IfOk};
+ghost use Rattle.lexical_core.specs.Characters.{IsXmlText};
+ghost use Rattle.repo_objects.specs.Objects.{HasObjectTexts, HasMessageTexts, HasElementTexts};
+
+use lexical_core::{Text, is_xml_text};
+use message_model::{End, Model, Next, ReadyError};
+use repo_objects::{
+    CodeDefs, ElementDef, Elements, Kinds, MessageDef, MessageId, Object, ObjectKind, RawFacets,
+    Repository,
+};
+use std::alloc::Global;
+use std::test::Fail;
+
+/// The identifier of the message.
+const ID: &str = "note.001.001.01";
+
+fn text_of(alloc: Global, word: &str) -> Result<Text, Fail>
+    ensures { IfOk result IsXmlText }
+{
+    let mut text = Text::new(alloc);
+    text.extend(word.as_bytes())?;
+    if !is_xml_text(text.bytes()) {
+        return Err("no text of XML".into());
+    }
+    Ok(text)
+}
+
+/// A text of these lengths and this pattern.
+fn text_type(alloc: Global, least: u32, most: u32, pattern: &str) -> Result<Object, Fail>
+    ensures { IfOk result HasObjectTexts }
+{
+    let name = text_of(alloc, "Max35Text")?;
+    let word = text_of(alloc, "Text")?;
+    let pattern = text_of(alloc, pattern)?;
+    Ok(Object {
+        name,
+        kind: ObjectKind::Simple(Kinds::Text),
+        word,
+        facets: RawFacets {
+            min_length: Some(least),
+            max_length: Some(most),
+            length: None,
+            total: None,
+            fraction: None,
+            min_in: None,
+            min_ex: None,
+            max_in: None,
+            max_ex: None,
+            pattern: Some(pattern),
+        },
+        elements: Elements::new(alloc),
+        codes: CodeDefs::new(alloc),
+        trace: None,
+        currency: None,
+    })
+}
+
+/// A building block of one to two texts.
+fn block(alloc: Global) -> Result<ElementDef, Fail>
+    ensures { IfOk result HasElementTexts }
+{
+    let name = text_of(alloc, "Identification")?;
+    let tag = text_of(alloc, "Id")?;
+    let simple = text_of(alloc, "_t")?;
+    Ok(ElementDef {
+        name,
+        tag,
+        min: 1,
+        max: Some(2),
+        simple: Some(simple),
+        complex: None,
+        plain: None,
+    })
+}
+
+fn message(alloc: Global) -> Result<MessageDef, Fail>
+    ensures { IfOk result HasMessageTexts }
+{
+    let id = text_of(alloc, ID)?;
+    let name = text_of(alloc, "NoteV01")?;
+    let tag = text_of(alloc, "Note")?;
+    let mut blocks = Elements::new(alloc);
+    blocks.push(block(alloc)?)?;
+    Ok(MessageDef {
+        id,
+        name,
+        tag,
+        blocks,
+    })
+}
+
+/// What a message of such texts is compiled to.
+fn compiled(
+    alloc: Global,
+    least: u32,
+    most: u32,
+    pattern: &str,
+) -> Result<Result<Model, ReadyError>, Fail> {
+    let mut repository = Repository::new(alloc);
+    repository.add_object(
+        text_of(alloc, "_t")?,
+        text_type(alloc, least, most, pattern)?,
+    )?;
+    repository.add_message(message(alloc)?)?;
+    let id = MessageId::read(ID).ok_or("no identifier")?;
+    Ok(Model::compile(alloc, &repository, &id))
+}
+
+/// The number of the rule that is told, and 0 where none is.
+fn rule_of(answer: Result<Model, ReadyError>) -> Result<u8, Fail> {
+    match answer {
+        Ok(_) => Ok(0),
+        Err(ReadyError::Broken { rule, .. }) => Ok(rule),
+        Err(ReadyError::Memory) => Err("no memory".into()),
+    }
+}
+
+fn is_text(told: Option<&[u8]>, text: &str) -> bool {
+    match told {
+        Some(told) => told == text.as_bytes(),
+        None => false,
+    }
+}
+
+#[test]
+fn a_message_is_compiled(rt: HostRuntime) -> Result<(), Fail> {
+    let Ok(model) = compiled(rt.alloc(), 1, 35, "[A-Z]*")? else {
+        return Err("not compiled".into());
+    };
+    assert_eq!(rt; model.type_count(), 3);
+    assert_eq!(rt; model.id().bytes(), ID.as_bytes());
+    assert!(rt; is_text(model.word(0), "Document"));
+    assert!(rt; is_text(model.name(1), "NoteV01"));
+    assert!(rt; is_text(model.name(2), "Max35Text"));
+    assert_eq!(rt; model.next(1, None, 0, b"Id"), Next::Slot(0));
+    assert_eq!(rt; model.next(1, Some(0), 2, b"Id"), Next::TooMany);
+    assert_eq!(rt; model.end(1, None, 0), End::Missing(0));
+    Ok(())
+}
+
+#[test]
+fn facets_and_patterns_are_rules(rt: HostRuntime) -> Result<(), Fail> {
+    assert_eq!(rt; rule_of(compiled(rt.alloc(), 35, 35, "a{65536}")?)?, 0);
+    assert_eq!(rt; rule_of(compiled(rt.alloc(), 36, 35, "a")?)?, 12);
+    assert_eq!(rt; rule_of(compiled(rt.alloc(), 1, 35, "(")?)?, 13);
+    assert_eq!(rt; rule_of(compiled(rt.alloc(), 1, 35, "a{65537}")?)?, 13);
+    assert_eq!(rt; rule_of(compiled(rt.alloc(), 36, 35, "(")?)?, 12);
+    Ok(())
+}

@@ -1,0 +1,112 @@
+// What no contract says: that there is memory for a repository, and which words are identifiers.
+ghost use Rattle.std.specs.Prelude.{IfOk};
+ghost use Rattle.lexical_core.specs.Characters.{IsXmlText};
+ghost use Rattle.repo_objects.specs.Objects.{HasObjectTexts, HasMessageTexts};
+
+use lexical_core::{Text, is_xml_text};
+use repo_objects::{
+    AddError, CodeDefs, Elements, Kinds, MessageDef, MessageId, Object, ObjectKind, RawFacets,
+    Repository,
+};
+use std::alloc::Global;
+use std::test::Fail;
+
+fn text_of(alloc: Global, word: &str) -> Result<Text, Fail>
+    ensures { IfOk result IsXmlText }
+{
+    let mut text = Text::new(alloc);
+    text.extend(word.as_bytes())?;
+    if !is_xml_text(text.bytes()) {
+        return Err("no text of XML".into());
+    }
+    Ok(text)
+}
+
+fn object_of(alloc: Global, name: &str) -> Result<Object, Fail>
+    ensures { IfOk result HasObjectTexts }
+{
+    Ok(Object {
+        name: text_of(alloc, name)?,
+        kind: ObjectKind::Simple(Kinds::Text),
+        word: Text::new(alloc),
+        facets: RawFacets {
+            min_length: Some(1),
+            max_length: Some(35),
+            length: None,
+            total: None,
+            fraction: None,
+            min_in: None,
+            min_ex: None,
+            max_in: None,
+            max_ex: None,
+            pattern: None,
+        },
+        elements: Elements::new(alloc),
+        codes: CodeDefs::new(alloc),
+        trace: None,
+        currency: None,
+    })
+}
+
+fn message_of(alloc: Global, id: &str) -> Result<MessageDef, Fail>
+    ensures { IfOk result HasMessageTexts }
+{
+    Ok(MessageDef {
+        id: text_of(alloc, id)?,
+        name: text_of(alloc, "NoteV01")?,
+        tag: text_of(alloc, "Note")?,
+        blocks: Elements::new(alloc),
+    })
+}
+
+fn add(repository: &mut Repository, alloc: Global, id: &str, name: &str) -> Result<(), Fail> {
+    repository.add_object(text_of(alloc, id)?, object_of(alloc, name)?)?;
+    Ok(())
+}
+
+#[test]
+fn objects_stand_under_their_ids(rt: HostRuntime) -> Result<(), Fail> {
+    let mut repository = Repository::new(rt.alloc());
+    add(&mut repository, rt.alloc(), "_t", "Max35Text")?;
+    add(&mut repository, rt.alloc(), "_u", "Max70Text")?;
+    let again = repository.add_object(
+        text_of(rt.alloc(), "_t")?,
+        object_of(rt.alloc(), "Max140Text")?,
+    );
+    assert_eq!(rt; again, Err(AddError::Twice));
+    assert_eq!(rt; repository.object_count(), 2);
+    let object = repository.object(b"_t").ok_or("no object")?;
+    assert_eq!(rt; object.name.bytes(), b"Max35Text".as_slice());
+    assert!(rt; repository.object(b"_").is_none());
+    Ok(())
+}
+
+#[test]
+fn messages_stand_in_file_order(rt: HostRuntime) -> Result<(), Fail> {
+    let mut repository = Repository::new(rt.alloc());
+    repository.add_message(message_of(rt.alloc(), "demo.001.001.01")?)?;
+    repository.add_message(message_of(rt.alloc(), "no identifier")?)?;
+    assert_eq!(rt; repository.message_count(), 2);
+    let first = repository.message_at(0).ok_or("no message")?;
+    assert_eq!(rt; first.id.bytes(), b"demo.001.001.01".as_slice());
+    Ok(())
+}
+
+#[test]
+fn words_that_are_identifiers(rt: HostRuntime) {
+    for word in ["pacs.008.001.08", "demo.00A.001.01", "demo.00a.001.01"] {
+        assert!(rt; MessageId::read(word).is_some(), "{word} is one");
+    }
+    let others = [
+        "Demo.001.001.01",
+        "demo.001.001.1",
+        "demo.001.001.001",
+        "demo.001.00a.01",
+        "demo-001.001.01",
+        "d\u{e9}m.001.001.01",
+        "",
+    ];
+    for word in others {
+        assert!(rt; MessageId::read(word).is_none(), "{word} is none");
+    }
+}
