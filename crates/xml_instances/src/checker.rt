@@ -270,10 +270,7 @@ impl XmlChecker {
         ensures err { (bytes : List ℕ) → HasFed self model.now bytes → IfErr result (λ e. EndsAs model.now bytes e) }
         ensures again { (e : InstanceError) → failed self ≡ Some e → result ≡ Err e }
     {
-        if let Some(error) = self.failed.take() {
-            return Err(error);
-        }
-        self.finish_all(model)
+        self.end(model)
     }
 
     /// The end of the bytes, as `finish`, with the pieces of the instance.
@@ -282,12 +279,32 @@ impl XmlChecker {
         ensures err { (bytes : List ℕ) → HasFed self model.now bytes → IfErr result (λ e. EndsAs model.now bytes e) }
         ensures again { (e : InstanceError) → failed self ≡ Some e → result ≡ Err e }
     {
-        crate::laws::pieces_are_shown();
-        let _ = model.type_count();
+        self.end_with_pieces(model)
+    }
+
+    /// The end of the bytes, or what was refused before it.
+    fn end(&mut self, model: &Model) -> Result<(), InstanceError>
+        ensures ok { (bytes : List ℕ) → HasFed self.old model.now bytes → IfOk result (λ _. IsSpelled model.now bytes) }
+        ensures spelled_by { (bytes : List ℕ) (h : HasFed self.old model.now bytes) → IfOk result (λ _. IsSpelledBy model.now bytes (items_told h.told)) }
+        ensures content { self.new.content ≡ self.old.content }
+        ensures err { (bytes : List ℕ) → HasFed self.old model.now bytes → IfErr result (λ e. EndsAs model.now bytes e) }
+        ensures again { (e : InstanceError) → failed self.old ≡ Some e → result ≡ Err e }
+    {
         if let Some(error) = self.failed.take() {
             return Err(error);
         }
-        match self.finish_all(model) {
+        self.finish_all(model)
+    }
+
+    /// The end of the bytes, as `end`, with the pieces of the instance.
+    fn end_with_pieces(&mut self, model: &Model) -> Result<Instance, InstanceError>
+        ensures ok { (bytes : List ℕ) → HasFed self.old model.now bytes → IfOk result (λ i. IsSpelledAs model.now bytes i.region.pieces) }
+        ensures err { (bytes : List ℕ) → HasFed self.old model.now bytes → IfErr result (λ e. EndsAs model.now bytes e) }
+        ensures again { (e : InstanceError) → failed self.old ≡ Some e → result ≡ Err e }
+    {
+        crate::laws::pieces_are_shown();
+        let _ = model.type_count();
+        match self.end(model) {
             Ok(()) => match self.content.finish_pieces() {
                 Some(instance) => Ok(instance),
                 None => Err(InstanceError::Memory),
