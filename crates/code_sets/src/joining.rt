@@ -114,6 +114,27 @@ fn join_all(
     Ok(())
 }
 
+/// Gives the code sets without codes of their own those that are handed in, or tells the first record that names one
+/// with codes of its own.
+fn join_into(
+    alloc: Global,
+    repository: &mut Repository,
+    lists: &CodeLists,
+) -> Result<(), CodesError>
+    requires { AreCodes lists.now }
+    ensures ok { OnOk result (repository.new ≡ joined lists.now repository.old) }
+    ensures none { OnOk result (JoinsAll lists.now repository.old.objects) }
+    ensures err { IfErr result (λ e. RefusesJoin lists.now repository.old.objects e) }
+{
+    let names = own_names(alloc, repository)?;
+    if let Some(number) = first_named(&names, lists) {
+        return Err(CodesError::Refused { rule: 4, number });
+    }
+    let given = given_codes(alloc, lists)?;
+    join_all(alloc, repository, &given)?;
+    Ok(())
+}
+
 /// The repository in which the code sets without codes of their own have those that are handed in,
 /// each once, in the order of their records. Records whose code set the repository has not are passed
 /// over. Refused by rule 4 is the first record that names a code set with codes of its own; the
@@ -129,11 +150,6 @@ pub fn join(
     ensures err { IfErr result (λ e. RefusesJoin lists.now repository.objects e) }
 {
     let mut repository = repository;
-    let names = own_names(alloc, &repository)?;
-    if let Some(number) = first_named(&names, lists) {
-        return Err(CodesError::Refused { rule: 4, number });
-    }
-    let given = given_codes(alloc, lists)?;
-    join_all(alloc, &mut repository, &given)?;
+    join_into(alloc, &mut repository, lists)?;
     Ok(repository)
 }

@@ -1,7 +1,7 @@
 -- A repository file that is read a byte at a time: what its events say is read as they come.
 use Rattle.std.proofs.Common.{◌≡◌, ℕ, ◌+◌, ◌-◌, ◌<◌, ◌≤◌, suc, zero, List, [], ◌∷◌, ◌++◌, length, map, take, drop, Option, Some, None, refl, sym, ap, ◌∙◌, subst, append_assoc, append-nil, length-append, inl, inr, arith}
 use Rattle.std.specs.List.{AllByRecursion, flat_map}
-use Rattle.std.specs.Prelude.{Result, Ok, Err, IfOk, IfNone}
+use Rattle.std.specs.Prelude.{Result, Ok, Err, IfOk, IfNone, IfSome}
 use Rattle.std.proofs.lemmas.List.{take-append-drop, length-take-le}
 use Rattle.std.proofs.Math.Seq.{take-append-add}
 use Rattle.lexical_core.specs.declared.rule.Rule.TheVariants.{Truncated}
@@ -11,20 +11,21 @@ use Rattle.markup.specs.Events.{Placed, events}
 use Rattle.markup.specs.EventItems.{placed, Tells}
 use Rattle.markup.specs.Faults.{Fault, MarkFault, IsClean, Next}
 use Rattle.markup.specs.Literals.{IsRun, characters_from}
-use Rattle.markup.specs.Reading.{HasTaken, HasTold, GoesOn, Refuses, taken, fault_of}
+use Rattle.markup.specs.Reading.{HasTaken, HasTold, IsWholly, GoesOn, Refuses, taken, fault_of}
 use Rattle.markup.specs.declared.event.Event.{Event}
 use Rattle.markup.specs.declared.reader.MarkFault.{MarkFault as Told}
 use Rattle.markup.specs.declared.reader.Reader.{Reader}
 use Rattle.markup.proofs.OneFault.{behind}
 use Rattle.markup.proofs.Stays.{events_stay, tokens_have_bytes}
+use Rattle.repo_objects.specs.Repository.{Contents}
 use Rattle.repo_loader.specs.declared.fault.LoadFault.{LoadFault}
 use Rattle.repo_loader.specs.declared.progress.Progress.{Progress}
 use Rattle.repo_loader.specs.Selected.{event_tags}
 use Rattle.repo_loader.specs.FileFaults.{AreSound, IsFirstBroken}
-use Rattle.repo_loader.specs.Loaded.{limit, token_tags, HasLoadFault, broken, markup}
+use Rattle.repo_loader.specs.Loaded.{limit, token_tags, HasLoadFault, Spells, broken, markup}
 use Rattle.repo_loader.specs.inner.SelectionSteps.{HasItemTexts, HaveTexts, HasLoaded, IsBrokenBy, LoadsOn}
 use Rattle.repo_loader.specs.declared.progress.Front.TheVariants.{Breaks}
-use Rattle.repo_loader.specs.inner.ProgressSteps.{markup_fault, HasRead, TellsFault, Shows, ReadsOn, ReadsFront}
+use Rattle.repo_loader.specs.inner.ProgressSteps.{markup_fault, HasRead, HasAll, TellsFault, Shows, ReadsOn, ReadsFront}
 use Rattle.repo_loader.proofs.Texts.{events_texts}
 use Rattle.repo_loader.proofs.EventSteps.{run_loaded}
 use Rattle.repo_loader.proofs.OneLoadFault.{front_before}
@@ -153,6 +154,12 @@ if_none (Err e) p = tt
 pub ok_map : {A E : Type 0} {P Q : A → Type 0} (r : Result A E) → ((x : A) → P x → Q x) → IfOk r P → IfOk r Q
 ok_map (Ok x) f p = f x p
 ok_map (Err e) f p = tt
+
+-- The bytes that a source had left are all that were read, so they spell what these spell.
+pub all_spell : (left : Option (List ℕ)) (p : Progress) (r : Contents) → HasAll left p
+    → ((bytes : List ℕ) (told : List Placed) → HasLoaded p.selection told → IsWholly bytes told → length bytes ≤ limit → Spells bytes r) → IfSome left (λ bytes. Spells bytes r)
+all_spell None p r h spell = tt
+all_spell (Some known) p r h spell = subst (λ b. Spells b r) (sym h.all) (spell h.bytes h.whole.told h.whole.loaded h.whole.wholly h.short)
 
 -- ---- a run of characters
 

@@ -44,15 +44,22 @@ abbrev pub word_of : List Attribute → List ℕ
 word_of attributes = let t = text_or_empty (value_of type_name attributes) in behind_colon t t
 
 -- the words of the kinds
+abbrev pub component_words : List (List ℕ × ObjectKind)
+component_words = (codes "MessageComponent", Component) ∷ (codes "ChoiceComponent", Choice) ∷ (codes "ExternalSchema", External) ∷ []
+
+-- those of dates and times, and behind
+abbrev pub date_words : List (List ℕ × ObjectKind)
+date_words =
+    (codes "Date", Simple kinds.Date) ∷ (codes "DateTime", Simple kinds.DateTime) ∷ (codes "Time", Simple kinds.Time)
+    ∷ (codes "Year", Simple kinds.Year) ∷ (codes "YearMonth", Simple kinds.YearMonth) ∷ (codes "MonthDay", Simple kinds.MonthDay)
+    ∷ (codes "Month", Simple kinds.Month) ∷ (codes "Day", Simple kinds.Day) ∷ component_words
+
+-- the words of all kinds
 abbrev pub kind_words : List (List ℕ × ObjectKind)
 kind_words =
     (codes "Text", Simple kinds.Text) ∷ (codes "CodeSet", Simple kinds.CodeSet) ∷ (codes "IdentifierSet", Simple kinds.IdentifierSet)
     ∷ (codes "Amount", Simple kinds.Amount) ∷ (codes "Rate", Simple kinds.Rate) ∷ (codes "Quantity", Simple kinds.Quantity)
-    ∷ (codes "Indicator", Simple kinds.Indicator) ∷ (codes "Binary", Simple kinds.Binary) ∷ (codes "Date", Simple kinds.Date)
-    ∷ (codes "DateTime", Simple kinds.DateTime) ∷ (codes "Time", Simple kinds.Time) ∷ (codes "Year", Simple kinds.Year)
-    ∷ (codes "YearMonth", Simple kinds.YearMonth) ∷ (codes "MonthDay", Simple kinds.MonthDay) ∷ (codes "Month", Simple kinds.Month)
-    ∷ (codes "Day", Simple kinds.Day) ∷ (codes "MessageComponent", Component) ∷ (codes "ChoiceComponent", Choice)
-    ∷ (codes "ExternalSchema", External) ∷ []
+    ∷ (codes "Indicator", Simple kinds.Indicator) ∷ (codes "Binary", Simple kinds.Binary) ∷ date_words
 
 -- the kind of that word in the table
 abbrev pub kind_in : List (List ℕ × ObjectKind) → List ℕ → ObjectKind

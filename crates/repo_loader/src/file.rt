@@ -79,6 +79,29 @@ fn read_to_end<R: Source>(
     }
 }
 
+/// Reads the bytes that the source has left, and gives the repository that they spell.
+fn load_into<R: Source>(
+    piece: &mut [u8],
+    progress: &mut Progress,
+    source: &mut R,
+) -> Result<Repository, LoadError>
+    requires some { 0 < length piece.old }
+    requires few { length piece.old ≤ PIECE }
+    requires read { HasRead progress.old [] }
+    ensures ok { IfOk result (λ r. IfSome (R.left source.old) (λ bytes. Spells bytes r)) }
+    ensures whole { OnOk result (IsAtEnd (R.left source.new)) }
+    ensures err { IfErr result (λ e. IfSome (R.left source.old) (λ bytes. RefusesFile bytes e)) }
+    ensures placed { IfErr result (λ e. IsPlaced e) }
+    ensures pulled { IfErr result (λ e. PullsForFault (R.left source.old) (R.left source.new) e) }
+    ensures fault { IsErrOf result LoadError.ReadFault → Rose (R.faults source.old) (R.faults source.new) }
+    ensures later { R.faults source.old ≤ R.faults source.new }
+{
+    if let Err(error) = read_to_end(piece, progress, source) {
+        return Err(error);
+    }
+    Ok(progress.take_repository()?)
+}
+
 /// The repository that the bytes spell which the source has left. They are read to their end, to
 /// the piece that shows a fault, or to the first byte beyond the limit.
 pub fn load<R: Source>(alloc: Global, source: &mut R) -> Result<Repository, LoadError>
@@ -92,8 +115,5 @@ pub fn load<R: Source>(alloc: Global, source: &mut R) -> Result<Repository, Load
 {
     let mut buffer = piece_buffer(alloc)?;
     let mut progress = Progress::new(alloc);
-    if let Err(error) = read_to_end(buffer.as_mut_slice(), &mut progress, source) {
-        return Err(error);
-    }
-    Ok(progress.into_repository()?)
+    load_into(buffer.as_mut_slice(), &mut progress, source)
 }

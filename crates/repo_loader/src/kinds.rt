@@ -1,6 +1,6 @@
 // The kinds of entries by their words.
 ghost use Rattle.std.specs.Prelude.{◌≡◌, map};
-ghost use Rattle.repo_loader.specs.FileValues.{kind_in, kind_words};
+ghost use Rattle.repo_loader.specs.FileValues.{kind_in, kind_words, date_words, component_words};
 ghost use Rattle.markup.specs.EventItems.{entry_of};
 ghost use Rattle.repo_loader.specs.FileValues.{behind_colon as spec_behind_colon, word_of as spec_word_of};
 
@@ -28,7 +28,16 @@ pub fn kind_of_word(word: &[u8]) -> ObjectKind
         ObjectKind::Simple(Kinds::Indicator)
     } else if word == b"Binary".as_slice() {
         ObjectKind::Simple(Kinds::Binary)
-    } else if word == b"Date".as_slice() {
+    } else {
+        date_kind(word)
+    }
+}
+
+/// The kind of dates and times of that word, or one of those behind.
+fn date_kind(word: &[u8]) -> ObjectKind
+    ensures { result ≡ kind_in date_words word.now }
+{
+    if word == b"Date".as_slice() {
         ObjectKind::Simple(Kinds::Date)
     } else if word == b"DateTime".as_slice() {
         ObjectKind::Simple(Kinds::DateTime)
@@ -44,7 +53,16 @@ pub fn kind_of_word(word: &[u8]) -> ObjectKind
         ObjectKind::Simple(Kinds::Month)
     } else if word == b"Day".as_slice() {
         ObjectKind::Simple(Kinds::Day)
-    } else if word == b"MessageComponent".as_slice() {
+    } else {
+        component_kind(word)
+    }
+}
+
+/// The kind of no simple type of that word.
+fn component_kind(word: &[u8]) -> ObjectKind
+    ensures { result ≡ kind_in component_words word.now }
+{
+    if word == b"MessageComponent".as_slice() {
         ObjectKind::Component
     } else if word == b"ChoiceComponent".as_slice() {
         ObjectKind::Choice

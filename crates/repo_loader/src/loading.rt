@@ -19,6 +19,7 @@ use lexical_core::Text;
 use markup::Attr;
 use repo_objects::{CodeDef, ElementDef, MessageDef, Object, ObjectKind, Repository};
 use std::alloc::{AllocError, Global};
+use std::mem;
 
 /// An entry of the data dictionary whose elements and codes may still come.
 #[derive(Drop)]
@@ -247,15 +248,14 @@ impl Loading {
         }
     }
 
-    /// The repository that the elements say, which are all of a file.
-    pub fn into_repository(self) -> Result<Repository, AllocError>
-        requires closes { CanClose self }
-        requires closes_message { CanCloseMessage self.message }
-        ensures { (tags : List Tag) → HasTags self tags → IfOk result (λ r. r ≡ contents_of tags) }
+    /// Closes what is open, and gives the repository that the elements say, which are all of a file.
+    pub fn take_repository(&mut self) -> Result<Repository, AllocError>
+        requires closes { CanClose self.old }
+        requires closes_message { CanCloseMessage self.old.message }
+        ensures { (tags : List Tag) → HasTags self.old tags → IfOk result (λ r. r ≡ contents_of tags) }
     {
-        let mut loading = self;
-        loading.close_entry()?;
-        loading.close_message()?;
-        Ok(loading.repository)
+        self.close_entry()?;
+        self.close_message()?;
+        Ok(mem::replace(&mut self.repository, Repository::new(self.alloc)))
     }
 }

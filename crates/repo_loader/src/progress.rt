@@ -211,10 +211,10 @@ impl Progress {
     }
 
     /// The repository that the bytes spell, which are whole.
-    pub fn into_repository(self) -> Result<Repository, AllocError>
-        requires { (told : List Placed) × HasLoaded self.selection told }
-        ensures { (bytes : List ℕ) (told : List Placed) → HasLoaded self.selection told → IsWholly bytes told → length bytes ≤ limit → IfOk result (λ r. Spells bytes r) }
+    pub fn take_repository(&mut self) -> Result<Repository, AllocError>
+        requires { (told : List Placed) × HasLoaded self.old.selection told }
+        ensures { (bytes : List ℕ) (told : List Placed) → HasLoaded self.old.selection told → IsWholly bytes told → length bytes ≤ limit → IfOk result (λ r. Spells bytes r) }
     {
-        self.selection.into_repository()
+        self.selection.take_repository()
     }
 }

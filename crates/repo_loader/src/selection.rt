@@ -110,10 +110,10 @@ impl Selection {
     }
 
     /// The repository that the events say, which are all of a file.
-    pub fn into_repository(self) -> Result<Repository, AllocError>
-        requires { (told : List Placed) × HasLoaded self told }
-        ensures { (told : List Placed) → HasLoaded self told → IfOk result (λ r. r ≡ contents_of (tags_told told)) }
+    pub fn take_repository(&mut self) -> Result<Repository, AllocError>
+        requires { (told : List Placed) × HasLoaded self.old told }
+        ensures { (told : List Placed) → HasLoaded self.old told → IfOk result (λ r. r ≡ contents_of (tags_told told)) }
     {
-        self.loading.into_repository()
+        self.loading.take_repository()
     }
 }
