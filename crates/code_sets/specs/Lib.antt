@@ -1,4 +1,5 @@
 pub mod Codes
 pub mod CodesErrors
+pub mod ErrorTexts
 pub mod Laws
 pub mod inner

@@ -3,6 +3,8 @@ ghost use Rattle.std.specs.Prelude.{◌≡◌};
 ghost use Rattle.code_sets.specs.declared.errors.CodesError.TheVariants.{Memory};
 
 use std::alloc::{AllocError, AllocFailed};
+use std::error::Error;
+use std::fmt;
 
 /// Why codes are refused.
 #[derive(Clone, Copy, Debug, PartialEq, Eq)]
@@ -20,6 +22,23 @@ pub enum CodesError {
     /// Memory was wanted and not had.
     Memory,
 }
+
+impl fmt::Display for CodesError {
+    ghost use Rattle.std.specs.Prelude.{Some};
+    ghost use Rattle.code_sets.specs.ErrorTexts.{codes_error_text};
+
+    ghost output = { λ e. Some (codes_error_text e) };
+
+    fn fmt<W: fmt::Write>(&self, f: &mut fmt::Formatter<W>) -> fmt::Result {
+        match self {
+            CodesError::Refused { rule, number } => write!(f, "C{rule} at record {number}"),
+            CodesError::ReadFault => write!(f, "the source failed"),
+            CodesError::Memory => write!(f, "out of memory"),
+        }
+    }
+}
+
+impl Error for CodesError {}
 
 impl From<AllocError> for CodesError {
     ghost from_gives = { λ _ e. e ≡ Memory };

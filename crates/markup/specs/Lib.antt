@@ -11,6 +11,7 @@ pub mod Token
 pub mod Events
 pub mod Marks
 pub mod Faults
+pub mod ErrorTexts
 pub mod Scans
 pub mod ScanRuns
 pub mod TokenRules

@@ -33,6 +33,8 @@ use crate::scope::Stop;
 use crate::tokenizer::{Finish, NO_LIMIT, Progress, Settled, TAG_LIMIT, Tokenizer};
 use lexical_core::Rule;
 use std::alloc::{AllocError, Global};
+use std::error::Error;
+use std::fmt;
 
 mod brackets;
 mod references;
@@ -45,6 +47,19 @@ pub struct MarkFault {
     pub place: u64,
 }
 
+impl fmt::Display for MarkFault {
+    ghost use Rattle.std.specs.Prelude.{Some};
+    ghost use Rattle.markup.specs.ErrorTexts.{mark_fault_text};
+
+    ghost output = { λ f. Some (mark_fault_text f) };
+
+    fn fmt<W: fmt::Write>(&self, f: &mut fmt::Formatter<W>) -> fmt::Result {
+        write!(f, "{} at {}", self.rule.name(), self.place)
+    }
+}
+
+impl Error for MarkFault {}
+
 /// Why a reader does not go on.
 #[derive(Clone, Copy, Debug, PartialEq, Eq)]
 pub enum MarkError {
@@ -53,6 +68,22 @@ pub enum MarkError {
     /// There was no memory.
     Memory,
 }
+
+impl fmt::Display for MarkError {
+    ghost use Rattle.std.specs.Prelude.{Some};
+    ghost use Rattle.markup.specs.ErrorTexts.{mark_error_text};
+
+    ghost output = { λ e. Some (mark_error_text e) };
+
+    fn fmt<W: fmt::Write>(&self, f: &mut fmt::Formatter<W>) -> fmt::Result {
+        match self {
+            MarkError::Refused(fault) => write!(f, "{fault}"),
+            MarkError::Memory => write!(f, "out of memory"),
+        }
+    }
+}
+
+impl Error for MarkError {}
 
 /// A reader of the XML profile (XML 1.0, fifth edition, and Namespaces in XML 1.0). It keeps the
 /// open token and the names and declarations of the open elements, and nothing of closed ones.

@@ -26,4 +26,5 @@ pub mod OneForm
 pub mod OneModel
 pub mod OneRefusal
 pub mod SomeModel
+pub mod FaultTexts
 mod SameWords

@@ -11,5 +11,6 @@ pub mod Ready
 pub mod Compiled
 pub mod OfReady
 pub mod Errors
+pub mod ErrorTexts
 pub mod Laws
 pub mod inner

@@ -1,6 +1,7 @@
 pub mod Errors
 pub mod Source
 pub mod Reading
+pub mod ReadErrors
 pub mod Sink
 pub mod Pushes
 pub mod Gathering

@@ -9,6 +9,8 @@ ghost use Rattle.outside.specs.declared.reading.ReadError.TheVariants.{Memory};
 use super::errors::Failed;
 use super::source::Source;
 use std::alloc::{AllocError, Global};
+use std::error::Error;
+use std::fmt;
 
 /// Why the bytes that a source has left are not given.
 #[derive(Clone, Copy, Debug, PartialEq, Eq)]
@@ -20,6 +22,23 @@ pub enum ReadError {
     /// Memory was wanted and not had.
     Memory,
 }
+
+impl fmt::Display for ReadError {
+    ghost use Rattle.std.specs.Prelude.{Some};
+    ghost use Rattle.outside.specs.ReadErrors.{read_error_text};
+
+    ghost output = { λ e. Some (read_error_text e) };
+
+    fn fmt<W: fmt::Write>(&self, f: &mut fmt::Formatter<W>) -> fmt::Result {
+        f.write_str(match self {
+            ReadError::TooLong => "more bytes than the limit",
+            ReadError::ReadFault => "the source failed",
+            ReadError::Memory => "out of memory",
+        })
+    }
+}
+
+impl Error for ReadError {}
 
 impl From<AllocError> for ReadError {
     ghost from_gives = { λ _ e. e ≡ Memory };

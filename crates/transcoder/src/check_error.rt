@@ -5,6 +5,8 @@ ghost use Rattle.transcoder.specs.declared.check_error.CheckError.TheVariants.{M
 
 use message_model::{Fault, InstanceError};
 use std::alloc::{AllocError, AllocFailed};
+use std::error::Error;
+use std::fmt;
 
 /// Why an instance is not accepted.
 #[derive(Debug, Drop)]
@@ -16,6 +18,23 @@ pub enum CheckError {
     /// Memory was wanted and not had.
     Memory,
 }
+
+impl fmt::Display for CheckError {
+    ghost use Rattle.std.specs.Prelude.{Some};
+    ghost use Rattle.transcoder.specs.ErrorTexts.{check_error_text};
+
+    ghost output = { λ e. Some (check_error_text e) };
+
+    fn fmt<W: fmt::Write>(&self, f: &mut fmt::Formatter<W>) -> fmt::Result {
+        match self {
+            CheckError::Refused(fault) => write!(f, "{fault}"),
+            CheckError::ReadFault => write!(f, "the source failed"),
+            CheckError::Memory => write!(f, "out of memory"),
+        }
+    }
+}
+
+impl Error for CheckError {}
 
 impl From<InstanceError> for CheckError {
     ghost from_gives = { λ error told. told ≡ check_error error };
