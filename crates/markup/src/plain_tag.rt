@@ -7,6 +7,7 @@ ghost use Rattle.markup.specs.declared.plain_tag.TagKind.TheVariants.{End};
 ghost use Rattle.markup.specs.PlainTags.{begins_plain, continues_plain, is_plain_name, tag_text, mark_count, may_be_named, IsTagAt, closing};
 
 use crate::classes::PlainName;
+use crate::same_name::is_same_name;
 use crate::tokenizer::TAG_LIMIT;
 use lexical_core::run_length;
 
@@ -129,7 +130,7 @@ fn end_tag<'a>(behind: &'a [u8], opened: &[u8]) -> Option<PlainTag<'a>>
         return None;
     }
     let (name, rest) = behind.split_at(opened.len());
-    if name != opened {
+    if !is_same_name(name, opened) {
         return None;
     }
     let Some((last, _)) = rest.split_first() else {

@@ -259,7 +259,9 @@ impl Scope {
         ensures { (tag : Opening) (tags : List Opening) → IsScope self.old (tag ∷ tags) → IsScope self.new tags }
     {
         let declared = self.names.pop();
-        self.bindings.forget(declared);
+        if declared > 0 {
+            self.bindings.forget(declared);
+        }
     }
 
     /// The plain tag at the front of the piece that breaks no rule, where the innermost element has
