@@ -68,6 +68,7 @@ pub mod TagPartLemmas
 pub mod ExpandedLemmas
 pub mod WholeTags
 pub mod SameWords
+pub mod WrittenLemmas
 pub mod ScopeLemmas
 mod OneAttributeLemmas
 pub mod Twins

@@ -29,6 +29,7 @@ pub mod event;
 mod inside;
 pub mod laws;
 mod literals;
+mod name_block;
 mod names;
 mod namespace;
 mod one_attribute;

@@ -287,7 +287,7 @@ impl Scope {
         ensures { (tags : List Opening) (opened : List ℕ) → IsScope self.old tags → IsPlainInside tags opened → OnOk result (IsScope self.new (tags_behind kind name.now tags)) }
     {
         match kind {
-            TagKind::Start => self.names.push(b"", name, 0),
+            TagKind::Start => self.names.push_plain(name),
             TagKind::Empty => Ok(()),
             TagKind::End => {
                 self.forget_innermost();
