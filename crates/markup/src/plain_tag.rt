@@ -76,7 +76,8 @@ pub(crate) fn closing(behind: &[u8]) -> Option<TagKind>
 /// How many bytes a tag has beside its name.
 #[inline]
 pub(crate) fn mark_count(kind: TagKind) -> usize
-    ensures { result ≡ mark_count kind }
+    ensures count { result ≡ mark_count kind }
+    ensures few { result ≤ 3 }
 {
     match kind {
         TagKind::Start => 2,
@@ -91,13 +92,11 @@ fn bounded<'a>(kind: TagKind, name: &'a [u8]) -> Option<PlainTag<'a>>
     ensures tag { IfSome result (λ tag. (tag.kind ≡ kind) × (tag.name.now ≡ name.now) × (tag.bytes ≡ length name.now + mark_count kind) × (tag.bytes ≤ tag_limit)) }
     ensures all { length name.now + mark_count kind ≤ tag_limit → IsSome result }
 {
-    if name.len() as u64 > TAG_LIMIT {
+    let marks = mark_count(kind);
+    if name.len() as u64 > TAG_LIMIT - marks as u64 {
         return None;
     }
-    let bytes = name.len() + mark_count(kind);
-    if bytes as u64 > TAG_LIMIT {
-        return None;
-    }
+    let bytes = name.len() + marks;
     Some(PlainTag { kind, name, bytes })
 }
 

@@ -12,10 +12,18 @@ pub(crate) fn is_same_name(left: &[u8], right: &[u8]) -> bool
     if are_words_same(left, right) {
         return true;
     }
+    are_bytes_same(left, right)
+}
+
+/// The same, of names of any length.
+#[inline(never)]
+fn are_bytes_same(left: &[u8], right: &[u8]) -> bool
+    ensures { result ≡ bytes_eq left.now right.now }
+{
     left == right
 }
 
-/// Whether two names are seen by words to be one.
+/// Whether two names, of at most sixteen bytes, are seen by words to be one.
 #[inline]
 fn are_words_same(left: &[u8], right: &[u8]) -> bool
     ensures { result ≡ true → left.now ≡ right.now }
@@ -31,7 +39,7 @@ fn are_words_same(left: &[u8], right: &[u8]) -> bool
     } else if length <= 16 {
         are_long_ends_same(left, right, length - 8)
     } else {
-        left == right
+        false
     }
 }
 
