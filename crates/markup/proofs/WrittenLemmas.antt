@@ -1,7 +1,5 @@
 -- Bytes that are written into a block, one part after another.
 use Rattle.std.proofs.Common.{◌≡◌, ℕ, ◌+◌, ◌-◌, ◌≤◌, List, ◌++◌, length, take, drop, ap, sym, ◌∙◌, arith, append_assoc, length-append, length-take-le, length-drop, take-add, take-take, take_at, drop_at, take_all, take-append-drop}
-use Rattle.std.proofs.lemmas.Slice.{take-put_mid}
-use borrow.Rule.Slice.PartMut.{put_mid, same_len_mid}
 use Rattle.markup.specs.inner.Written.{IsWritten}
 
 -- a second part begins where the first ended
@@ -22,14 +20,6 @@ written_less {a} {b} {xs} {i} {j} n within few p =
       ends = omega (arith, length-take-le n xs few);
       same = p.same;
     }
-
--- a part in the middle
-pub written_mid : (a ys : List ℕ) (i k : ℕ) → i + k ≤ length a → length ys ≡ k → IsWritten a (put_mid i k a ys) i ys (i + k)
-written_mid a ys i k fits long = record {
-  front = take-put_mid i k a ys (i + k) (omega arith) (omega arith);
-  ends = omega arith;
-  same = same_len_mid i k a ys (omega (arith, length-take-le k (drop i a) (omega (arith, length-drop i a))));
-}
 
 -- the first and the last bytes of a name, laid over each other, are the name
 pub written_ends : {a b c : List ℕ} {i j k : ℕ} (name : List ℕ) (half : ℕ) → i ≤ length a → half ≤ length name → length name ≤ half + half
