@@ -67,6 +67,8 @@ pub mod BindingLemmas
 pub mod TagPartLemmas
 pub mod ExpandedLemmas
 pub mod WholeTags
+pub mod SameWords
+pub mod WrittenLemmas
 pub mod ScopeLemmas
 mod OneAttributeLemmas
 pub mod Twins

@@ -39,11 +39,11 @@ same_parts n prefix local p l =
 
 -- the innermost name, by the last of the sizes
 pub innermost_is : (kept : OpenNames) (names : List OpenName) (others : List NameSize) (size : NameSize) (prefix local : List ℕ) → KeepsNames kept names → kept.sizes.items ≡ others ++ size ∷ []
-    → local ≡ drop (length kept.bytes.items - size.local) kept.bytes.items → prefix ≡ drop (length (take (length kept.bytes.items - size.local) kept.bytes.items) - size.prefix) (take (length kept.bytes.items - size.local) kept.bytes.items)
+    → local ≡ drop (length kept.block - size.local) kept.block → prefix ≡ drop (length (take (length kept.block - size.local) kept.block) - size.prefix) (take (length kept.block - size.local) kept.block)
     → IsInnermost prefix local names
 innermost_is kept [] others size prefix local k s l p = absurd (popped_none kept.sizes.items others size s k.sizes_are)
 innermost_is kept (n ∷ outer) others size prefix local k s l p =
     let e = (popped_first kept.sizes.items others size (name_size n) (map name_size outer) s k.sizes_are).0 in
     same_parts n.name prefix local
-    (p ∙ its_prefix kept.bytes.items (all_bytes outer) n.name.prefix n.name.local size.prefix size.local k.bytes_are (ap (λ (z : NameSize). z.prefix) e) (ap (λ (z : NameSize). z.local) e))
-    (l ∙ its_local kept.bytes.items (all_bytes outer) n.name.prefix n.name.local size.prefix size.local k.bytes_are (ap (λ (z : NameSize). z.prefix) e) (ap (λ (z : NameSize). z.local) e))
+    (p ∙ its_prefix kept.block (all_bytes outer) n.name.prefix n.name.local size.prefix size.local k.bytes_are (ap (λ (z : NameSize). z.prefix) e) (ap (λ (z : NameSize). z.local) e))
+    (l ∙ its_local kept.block (all_bytes outer) n.name.prefix n.name.local size.prefix size.local k.bytes_are (ap (λ (z : NameSize). z.prefix) e) (ap (λ (z : NameSize). z.local) e))

@@ -65,7 +65,7 @@ element_name tags n = expanded (namespace_of tags n.prefix) n.local
 abbrev pub attribute_name : List Opening → Spelled → Option Expanded
 attribute_name tags n = expanded (if bytes_eq n.prefix [] then Some [] else namespace_of tags n.prefix) n.local
 
--- the attribute put at its place in that order
+-- the attribute put at its place by `name_cmp`: namespace, then local name, by bytes
 abbrev pub put : Entry → List Entry → List Entry
 put x [] = x ∷ []
 put x (y ∷ ys) = elim (name_cmp x.name y.name) [ Less ↦ x ∷ y ∷ ys | Equal ↦ x ∷ y ∷ ys | Greater ↦ y ∷ put x ys ]

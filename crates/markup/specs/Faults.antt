@@ -55,7 +55,7 @@ abbrev pub is_bad_declaration : Option (List ℕ) → List ℕ → Bool
 is_bad_declaration None namespace = false
 is_bad_declaration (Some prefix) namespace = bytes_eq prefix xmlns || (if bytes_eq prefix (codes "xml") then not (bytes_eq namespace xml_namespace) else bytes_eq namespace xml_namespace) || bytes_eq namespace xmlns_namespace || (not (bytes_eq prefix []) && bytes_eq namespace [])
 
--- a declaration that may not be, or an attribute whose prefix is bound to nothing (Namespaces §5, Prefix Declared)
+-- a declaration that may not be, or an attribute whose prefix no declaration binds (Namespaces §5, Prefix Declared)
 abbrev pub is_bad_attribute : List Opening → Given → Bool
 is_bad_attribute tags a = is_bad_declaration (declared_prefix a.name) a.value || (is_none (declared_prefix a.name) && is_none (attribute_name tags a.name))
 

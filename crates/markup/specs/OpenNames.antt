@@ -24,7 +24,7 @@ name_size n = record { prefix = length n.name.prefix; local = length n.name.loca
 
 -- These names are kept, the innermost first.
 pub record KeepsNames (kept : OpenNames) (names : List OpenName) : Type 0 where
-  pub bytes_are : kept.bytes.items ≡ all_bytes names
+  pub bytes_are : kept.block ≡ all_bytes names
   pub sizes_are : reverse kept.sizes.items ≡ map name_size names
 
 -- The first of the names has these parts.

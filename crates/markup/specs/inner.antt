@@ -7,3 +7,4 @@ pub mod OneAttribute
 pub mod WholeStarts
 pub mod Numbers
 pub mod ClosedBrackets
+pub mod Written

@@ -4,6 +4,7 @@ ghost use Rattle.markup.specs.Chars.{is_space};
 ghost use Rattle.markup.specs.PlainStarts.{is_literal_of};
 ghost use Rattle.markup.specs.Literals.{is_literal, is_still_space};
 ghost use Rattle.markup.specs.PlainTags.{continues_plain};
+ghost use Rattle.markup.specs.inner.Inside.{is_passed};
 
 use lexical_core::ByteClass;
 use std::simd::prelude::*;
@@ -195,5 +196,75 @@ impl ByteClass for SingleQuoted {
             | bytes.simd_eq(u8x8::splat(b'<'))
             | bytes.simd_eq(u8x8::splat(b'&'))
             | bytes.simd_eq(u8x8::splat(b'\''))).to_bitmask()
+    }
+}
+
+/// Characters of a comment that do not begin its end: a tab, a line end, and those from 0x20 to 0x7F but
+/// the hyphen (XML 1.0 §2.5).
+pub(crate) struct CommentText;
+
+impl ByteClass for CommentText {
+    ghost class = { λ _. is_passed 45 };
+
+    #[inline]
+    fn has(&self, byte: u8) -> bool {
+        if byte >= 0x20 {
+            byte <= 0x7F && byte != b'-'
+        } else {
+            byte == b'\n' || byte == b'\t' || byte == b'\r'
+        }
+    }
+
+    #[inline]
+    fn others(&self, bytes: u8x16) -> u64 {
+        ((bytes - u8x16::splat(0x20)).simd_ge(u8x16::splat(0x60))
+            & bytes.simd_ne(u8x16::splat(b'\t'))
+            & bytes.simd_ne(u8x16::splat(b'\n'))
+            & bytes.simd_ne(u8x16::splat(b'\r'))
+            | bytes.simd_eq(u8x16::splat(b'-'))).to_bitmask()
+    }
+
+    #[inline]
+    fn others_of_eight(&self, bytes: u8x8) -> u64 {
+        ((bytes - u8x8::splat(0x20)).simd_ge(u8x8::splat(0x60))
+            & bytes.simd_ne(u8x8::splat(b'\t'))
+            & bytes.simd_ne(u8x8::splat(b'\n'))
+            & bytes.simd_ne(u8x8::splat(b'\r'))
+            | bytes.simd_eq(u8x8::splat(b'-'))).to_bitmask()
+    }
+}
+
+/// Characters of an instruction that do not begin its end: a tab, a line end, and those from 0x20 to
+/// 0x7F but the question mark (XML 1.0 §2.6).
+pub(crate) struct InstructionText;
+
+impl ByteClass for InstructionText {
+    ghost class = { λ _. is_passed 63 };
+
+    #[inline]
+    fn has(&self, byte: u8) -> bool {
+        if byte >= 0x20 {
+            byte <= 0x7F && byte != b'?'
+        } else {
+            byte == b'\n' || byte == b'\t' || byte == b'\r'
+        }
+    }
+
+    #[inline]
+    fn others(&self, bytes: u8x16) -> u64 {
+        ((bytes - u8x16::splat(0x20)).simd_ge(u8x16::splat(0x60))
+            & bytes.simd_ne(u8x16::splat(b'\t'))
+            & bytes.simd_ne(u8x16::splat(b'\n'))
+            & bytes.simd_ne(u8x16::splat(b'\r'))
+            | bytes.simd_eq(u8x16::splat(b'?'))).to_bitmask()
+    }
+
+    #[inline]
+    fn others_of_eight(&self, bytes: u8x8) -> u64 {
+        ((bytes - u8x8::splat(0x20)).simd_ge(u8x8::splat(0x60))
+            & bytes.simd_ne(u8x8::splat(b'\t'))
+            & bytes.simd_ne(u8x8::splat(b'\n'))
+            & bytes.simd_ne(u8x8::splat(b'\r'))
+            | bytes.simd_eq(u8x8::splat(b'?'))).to_bitmask()
     }
 }

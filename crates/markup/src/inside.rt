@@ -4,23 +4,10 @@ ghost use Rattle.std.specs.List.{prefix_len};
 ghost use Rattle.markup.specs.PlainStarts.{is_quote, is_literal_of};
 ghost use Rattle.markup.specs.inner.Inside.{is_passed, IsStill};
 
-use crate::classes::{DoubleQuoted, SingleQuoted};
+use crate::classes::{CommentText, DoubleQuoted, InstructionText, SingleQuoted};
 use crate::plain_tag::name_length;
 use crate::scan::{NameScan, Scan};
 use lexical_core::run_length;
-
-/// Whether the byte is a character of a comment or an instruction that does not begin its end: a
-/// tab, a line end, and one from 0x20 to 0x7F but this one (XML 1.0 §2.5, §2.6).
-#[inline]
-fn is_passed(end: u8, byte: u8) -> bool
-    ensures { result ≡ is_passed end byte }
-{
-    if byte >= 0x20 {
-        byte <= 0x7F && byte != end
-    } else {
-        byte == b'\n' || byte == b'\t' || byte == b'\r'
-    }
-}
 
 /// How many bytes at the front of the piece stand for themselves in a value in these quotes.
 #[inline]
@@ -36,18 +23,22 @@ pub(crate) fn value_length(quote: char, piece: &[u8]) -> usize
     }
 }
 
-/// How many bytes at the front of the piece do not begin the end of a comment or an instruction.
+/// How many bytes at the front of the piece do not begin the end of a comment.
 #[inline]
-fn passed_length(end: u8, piece: &[u8]) -> usize
+fn comment_length(piece: &[u8]) -> usize
     ensures within { result ≤ length piece.now }
-    ensures count { result ≡ prefix_len (is_passed end) piece.now }
+    ensures count { result ≡ prefix_len (is_passed 45) piece.now }
 {
-    for (i, byte) in piece.iter().enumerate() {
-        if !is_passed(end, *byte) {
-            return i;
-        }
-    }
-    piece.len()
+    run_length(&CommentText, piece)
+}
+
+/// How many bytes at the front of the piece do not begin the end of an instruction.
+#[inline]
+fn instruction_length(piece: &[u8]) -> usize
+    ensures within { result ≤ length piece.now }
+    ensures count { result ≡ prefix_len (is_passed 63) piece.now }
+{
+    run_length(&InstructionText, piece)
 }
 
 /// How many bytes at the front of the piece a part of a name goes on with.
@@ -103,8 +94,8 @@ impl Scan {
             Scan::StartName(part) => part_length(part, piece),
             Scan::AttributeName(part) => part_length(part, piece),
             Scan::EndName(part) => part_length(part, piece),
-            Scan::CommentText => passed_length(b'-', piece),
-            Scan::InstructionText => passed_length(b'?', piece),
+            Scan::CommentText => comment_length(piece),
+            Scan::InstructionText => instruction_length(piece),
             _ => 0,
         }
     }

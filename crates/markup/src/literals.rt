@@ -204,6 +204,17 @@ pub(crate) fn begins_with_bracket(piece: &[u8]) -> bool
     }
 }
 
+/// Whether the piece begins with a `<` or a `&`, which are not literal.
+#[inline]
+pub(crate) fn begins_with_markup(piece: &[u8]) -> bool
+    ensures { IsTrue result → prefix_len is_literal piece.now ≡ 0 }
+{
+    match piece.split_first() {
+        Some((first, _)) => *first == b'<' || *first == b'&',
+        None => false,
+    }
+}
+
 /// How many `]` are at the front of the piece.
 pub(crate) fn bracket_length(piece: &[u8]) -> usize
     ensures within { result ≤ length piece.now }

@@ -2,6 +2,7 @@
 ghost use Rattle.std.specs.Prelude.{◌≡◌, ◌==◌, ◌∷◌, ◌++◌, List, [], ℕ, length, OnOk, MatchOption};
 ghost use Rattle.markup.specs.OpenNames.{OpenName, KeepsNames, IsInnermost};
 
+use crate::name_block::NameBlock;
 use std::alloc::{AllocError, Global};
 
 /// How many bytes the parts of an open element's name have, and how many namespaces its tag
@@ -17,7 +18,7 @@ pub(crate) struct NameSize {
 #[derive(Drop)]
 pub(crate) struct OpenNames {
     /// The bytes of all names without their colons, those of the outermost first.
-    bytes: Vec<u8>,
+    block: NameBlock,
     sizes: Vec<NameSize>,
 }
 
@@ -30,13 +31,23 @@ pub(crate) struct InnermostName<'a> {
 
 /// Appends the bytes, of which there are mostly none.
 #[inline]
-fn append(bytes: &mut Vec<u8>, more: &[u8]) -> Result<(), AllocError>
-    ensures { OnOk result (bytes.new.items ≡ bytes.old.items ++ more.now) }
+fn append(block: &mut NameBlock, more: &[u8]) -> Result<(), AllocError>
+    ensures { OnOk result (block.new ≡ block.old ++ more.now) }
 {
     if more.is_empty() {
         return Ok(());
     }
-    bytes.extend_from_slice(more)
+    block.append(more)
+}
+
+/// Appends a size.
+#[inline(always)]
+fn append_size(sizes: &mut Vec<NameSize>, size: NameSize) -> Result<(), AllocError>
+    ensures { OnOk result (sizes.new.items ≡ sizes.old.items ++ size ∷ []) }
+{
+    sizes.reserve(1)?;
+    sizes.push_reserved(size);
+    Ok(())
 }
 
 impl OpenNames {
@@ -45,7 +56,7 @@ impl OpenNames {
         ensures { KeepsNames result [] }
     {
         OpenNames {
-            bytes: Vec::new(alloc),
+            block: NameBlock::new(alloc),
             sizes: Vec::new(alloc),
         }
     }
@@ -74,14 +85,28 @@ impl OpenNames {
     ) -> Result<(), AllocError>
         ensures { (names : List OpenName) → KeepsNames self.old names → OnOk result (KeepsNames self.new ((record { name = record { prefix = prefix.now; local = local.now }; declared = declared }) ∷ names)) }
     {
-        append(&mut self.bytes, prefix)?;
-        self.bytes.extend_from_slice(local)?;
-        self.sizes.push(NameSize {
+        append(&mut self.block, prefix)?;
+        self.block.append(local)?;
+        let size = NameSize {
             prefix: prefix.len(),
             local: local.len(),
             declared,
-        })?;
-        Ok(())
+        };
+        append_size(&mut self.sizes, size)
+    }
+
+    /// One more element is open, whose name has no prefix and whose tag declares nothing.
+    #[inline(always)]
+    pub(crate) fn push_plain(&mut self, local: &[u8]) -> Result<(), AllocError>
+        ensures { (names : List OpenName) → KeepsNames self.old names → OnOk result (KeepsNames self.new ((record { name = record { prefix = []; local = local.now }; declared = 0 }) ∷ names)) }
+    {
+        self.block.append(local)?;
+        let size = NameSize {
+            prefix: 0,
+            local: local.len(),
+            declared: 0,
+        };
+        append_size(&mut self.sizes, size)
     }
 
     /// The name of the innermost open element.
@@ -92,7 +117,7 @@ impl OpenNames {
         let Some((size, _)) = self.sizes.split_last() else {
             return None;
         };
-        let bytes = self.bytes.as_slice();
+        let bytes = self.block.bytes();
         let (outer, local) = bytes.split_at(bytes.len().saturating_sub(size.local));
         let (_, prefix) = outer.split_at(outer.len().saturating_sub(size.prefix));
         Some(InnermostName { prefix, local })
@@ -106,8 +131,8 @@ impl OpenNames {
         let Some(size) = self.sizes.pop() else {
             return 0;
         };
-        let left = self.bytes.len().saturating_sub(size.local);
-        self.bytes.truncate(left.saturating_sub(size.prefix));
+        let left = self.block.len().saturating_sub(size.local);
+        self.block.truncate(left.saturating_sub(size.prefix));
         size.declared
     }
 }

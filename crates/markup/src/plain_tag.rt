@@ -7,6 +7,7 @@ ghost use Rattle.markup.specs.declared.plain_tag.TagKind.TheVariants.{End};
 ghost use Rattle.markup.specs.PlainTags.{begins_plain, continues_plain, is_plain_name, tag_text, mark_count, may_be_named, IsTagAt, closing};
 
 use crate::classes::PlainName;
+use crate::same_name::is_same_name;
 use crate::tokenizer::TAG_LIMIT;
 use lexical_core::run_length;
 
@@ -75,7 +76,8 @@ pub(crate) fn closing(behind: &[u8]) -> Option<TagKind>
 /// How many bytes a tag has beside its name.
 #[inline]
 pub(crate) fn mark_count(kind: TagKind) -> usize
-    ensures { result ≡ mark_count kind }
+    ensures count { result ≡ mark_count kind }
+    ensures few { result ≤ 3 }
 {
     match kind {
         TagKind::Start => 2,
@@ -90,13 +92,11 @@ fn bounded<'a>(kind: TagKind, name: &'a [u8]) -> Option<PlainTag<'a>>
     ensures tag { IfSome result (λ tag. (tag.kind ≡ kind) × (tag.name.now ≡ name.now) × (tag.bytes ≡ length name.now + mark_count kind) × (tag.bytes ≤ tag_limit)) }
     ensures all { length name.now + mark_count kind ≤ tag_limit → IsSome result }
 {
-    if name.len() as u64 > TAG_LIMIT {
+    let marks = mark_count(kind);
+    if name.len() as u64 > TAG_LIMIT - marks as u64 {
         return None;
     }
-    let bytes = name.len() + mark_count(kind);
-    if bytes as u64 > TAG_LIMIT {
-        return None;
-    }
+    let bytes = name.len() + marks;
     Some(PlainTag { kind, name, bytes })
 }
 
@@ -129,7 +129,7 @@ fn end_tag<'a>(behind: &'a [u8], opened: &[u8]) -> Option<PlainTag<'a>>
         return None;
     }
     let (name, rest) = behind.split_at(opened.len());
-    if name != opened {
+    if !is_same_name(name, opened) {
         return None;
     }
     let Some((last, _)) = rest.split_first() else {

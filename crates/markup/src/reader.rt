@@ -26,7 +26,7 @@ mod starts;
 
 use crate::context::Context;
 use crate::event::Events;
-use crate::literals::{Run, begins_with_bracket, blank_length, literal_run};
+use crate::literals::{Run, begins_with_bracket, begins_with_markup, blank_length, literal_run};
 use crate::plain_tag::{PlainTag, TagKind};
 use crate::scan::Ended;
 use crate::scope::Stop;
@@ -322,6 +322,9 @@ impl Reader {
             characters: 0,
             blank: true,
         };
+        if begins_with_markup(piece) {
+            return none;
+        }
         if self.failed.is_some() {
             return none;
         }

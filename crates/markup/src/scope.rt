@@ -259,7 +259,9 @@ impl Scope {
         ensures { (tag : Opening) (tags : List Opening) → IsScope self.old (tag ∷ tags) → IsScope self.new tags }
     {
         let declared = self.names.pop();
-        self.bindings.forget(declared);
+        if declared > 0 {
+            self.bindings.forget(declared);
+        }
     }
 
     /// The plain tag at the front of the piece that breaks no rule, where the innermost element has
@@ -285,7 +287,7 @@ impl Scope {
         ensures { (tags : List Opening) (opened : List ℕ) → IsScope self.old tags → IsPlainInside tags opened → OnOk result (IsScope self.new (tags_behind kind name.now tags)) }
     {
         match kind {
-            TagKind::Start => self.names.push(b"", name, 0),
+            TagKind::Start => self.names.push_plain(name),
             TagKind::Empty => Ok(()),
             TagKind::End => {
                 self.forget_innermost();

@@ -22,13 +22,13 @@ returns-in_default-closing-clause-all c tag rest p e =
 
 pub returns-clause-found : goal.returns-clause-found
 returns-clause-found c =
-    rw (c.in_ok-spelled_of.ensures, c.is_empty_kind.ensures, c.mark_count.ensures)
+    rw (c.in_ok-spelled_of.ensures, c.is_empty_kind.ensures, c.mark_count.ensures.count)
     (start_found c.args.front.now c.in-Some.named.now (named_by c.in-Some-name_at.name.prefix.now c.in-Some-name_at.name.local.now) c.in-Some-name_at.name.behind.now c.split_at.result.1.now c.in-Some.first.now _ c.in_ok-size.size c.in-Some-closing.kind c.attributes_at.new.found
     c.in-Some.ensures.cases.0 c.if-first-ne60.false c.in-Some-name_at.ensures.found refl c.in_ok-size.ensures.are c.in_ok-size.ensures.within
     c.split_at.ensures.back (sym c.closing.ensures ∙ c.in-Some-closing.is) c.requires)
 
 pub returns-clause-all : goal.returns-clause-all
 returns-clause-all c tag rest p e =
-    rw c.mark_count.ensures
+    rw c.mark_count.ensures.count
     (start_size c.args.front.now c.in-Some.named.now rest c.in-Some.first.now tag p e c.in-Some.ensures.cases.0
     c.in-Some-name_at.name.behind.now c.split_at.result.1.now c.in_ok-size.size c.in-Some-name_at.ensures.all c.split_at.ensures.back c.in_ok-size.ensures.all c.in-Some-closing.kind (sym c.closing.ensures ∙ c.in-Some-closing.is))

@@ -1,4 +1,4 @@
-use Rattle.std.proofs.Common.{◌∙◌}
+use Rattle.std.proofs.Common.{◌∙◌, arith}
 use Rattle.std.proofs.lemmas.Bool.{both_ways}
 use Rattle.markup.proofs.CharacterRuns.{inside_ready}
 use Rattle.markup.proofs.LiteralRuns.{no_run}
@@ -15,3 +15,9 @@ returns-then-not-is_ready-clause-only c = no_run
 
 pub returns-then-not-has_open-clause-only : goal.returns-then-not-has_open-clause-only
 returns-then-not-has_open-clause-only c = no_run
+
+pub returns-then-begins_with_markup-clause-only : goal.returns-then-begins_with_markup-clause-only
+returns-then-begins_with_markup-clause-only c = no_run
+
+pub returns-then-begins_with_markup-clause-all : goal.returns-then-begins_with_markup-clause-all
+returns-then-begins_with_markup-clause-all c limit bytes told h = (let e = c.begins_with_markup.ensures c.if-begins_with_markup.true in omega (arith, e))

@@ -9,7 +9,7 @@ returns-else-after_return-clause-still c = subst (λ s. IsStill s (take c.value_
     (value_still c.in-Value.quote c.args.piece.now c.value_length.result (omega (arith, c.value_length.ensures.count)))
 
 pub returns-in-CommentText-clause-still : goal.returns-in-CommentText-clause-still
-returns-in-CommentText-clause-still c = subst (λ s. IsStill s (take c.passed_length.result c.args.piece.now)) (sym c.in-CommentText.is) (comment_still c.args.piece.now c.passed_length.result (omega (arith, c.passed_length.ensures.count)))
+returns-in-CommentText-clause-still c = subst (λ s. IsStill s (take c.comment_length.result c.args.piece.now)) (sym c.in-CommentText.is) (comment_still c.args.piece.now c.comment_length.result (omega (arith, c.comment_length.ensures.count)))
 
 pub returns-in-InstructionText-clause-still : goal.returns-in-InstructionText-clause-still
-returns-in-InstructionText-clause-still c = subst (λ s. IsStill s (take c.passed_length-in-InstructionText.result c.args.piece.now)) (sym c.in-InstructionText.is) (instruction_still c.args.piece.now c.passed_length-in-InstructionText.result (omega (arith, c.passed_length-in-InstructionText.ensures.count)))
+returns-in-InstructionText-clause-still c = subst (λ s. IsStill s (take c.instruction_length.result c.args.piece.now)) (sym c.in-InstructionText.is) (instruction_still c.args.piece.now c.instruction_length.result (omega (arith, c.instruction_length.ensures.count)))

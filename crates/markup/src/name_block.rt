@@ -1,0 +1,138 @@
+// One block of bytes, to whose end short names are written by words.
+ghost use Rattle.std.specs.Prelude.{◌≡◌, ◌+◌, ◌≤◌, ◌++◌, [], length, take, OnOk, vec_len};
+ghost use Rattle.markup.specs.inner.Written.{IsWritten};
+
+use std::alloc::{AllocError, Global};
+use std::marker::Model;
+use std::simd::Simd;
+
+/// Bytes, with room behind them. What stands in the room says nothing.
+#[derive(Drop)]
+pub(crate) struct NameBlock {
+    room: Vec<u8>,
+    used: usize,
+}
+
+impl Model for NameBlock {
+    ghost use Rattle.std.specs.Prelude.{List, ℕ, ◌≤◌, take, length};
+
+    ghost Value = { List ℕ };
+
+    ghost view = { λ b. take b.used b.room.items };
+
+    ghost invariant = { λ b. b.used ≤ length b.room.items };
+}
+
+impl NameBlock {
+    /// No bytes. It takes no memory.
+    pub(crate) fn new(alloc: Global) -> NameBlock
+        ensures { result ≡ [] }
+    {
+        NameBlock {
+            room: Vec::new(alloc),
+            used: 0,
+        }
+    }
+
+    /// How many bytes there are.
+    #[inline]
+    pub(crate) fn len(&self) -> usize
+        ensures { result ≡ length self.now }
+    {
+        self.used
+    }
+
+    /// The bytes.
+    #[inline]
+    pub(crate) fn bytes(&self) -> &[u8]
+        ensures { result.now ≡ self.now }
+    {
+        self.room.as_slice().split_at(self.used).0
+    }
+
+    /// Leaves so many bytes.
+    #[inline]
+    pub(crate) fn truncate(&mut self, count: usize)
+        ensures { self.new ≡ take count self.old }
+    {
+        if count < self.used {
+            self.used = count;
+        }
+    }
+
+    /// Appends bytes.
+    #[inline(always)]
+    pub(crate) fn append(&mut self, more: &[u8]) -> Result<(), AllocError>
+        ensures { OnOk result (self.new ≡ self.old ++ more.now) }
+    {
+        if self.room.len() - self.used < more.len() {
+            lengthen(&mut self.room, self.used, more.len())?;
+        }
+        self.used = write(self.room.as_mut_slice(), self.used, more);
+        Ok(())
+    }
+}
+
+/// Makes room for more bytes behind those that are used.
+#[inline(never)]
+fn lengthen(room: &mut Vec<u8>, used: usize, more: usize) -> Result<(), AllocError>
+    requires { used ≤ length room.old.items }
+    ensures kept { take used room.new.items ≡ take used room.old.items }
+    ensures grown { length room.old.items ≤ length room.new.items }
+    ensures fits { OnOk result (used + more ≤ length room.new.items) }
+{
+    room.reserve(more)?;
+    room.resize(room.capacity(), 0)
+}
+
+/// Writes the first bytes of a name, by one load and one store.
+#[inline(always)]
+fn write_front<const N: usize>(room: &mut [u8], at: usize, name: &[u8]) -> usize
+    requires { (N ≤ length name.now) × (at + N ≤ length room.old) }
+    ensures { IsWritten room.old room.new at (take N name.now) result }
+{
+    Simd::<u8, N>::from_slice(name).copy_to_slice(&mut room[at..]);
+    at + N
+}
+
+/// Writes the first bytes and the last ones, which may overlap.
+#[inline(always)]
+fn write_ends<const N: usize>(room: &mut [u8], at: usize, name: &[u8]) -> usize
+    requires fits { at + length name.now ≤ length room.old }
+    requires covers { (N ≤ length name.now) × (length name.now ≤ N + N) }
+    ensures { IsWritten room.old room.new at name.now result }
+{
+    let last = name.len() - N;
+    write_front::<N>(room, at, name);
+    write_front::<N>(room, at + last, &name[last..])
+}
+
+/// Writes a name of any length.
+fn write_any(room: &mut [u8], at: usize, name: &[u8]) -> usize
+    requires { at + length name.now ≤ length room.old }
+    ensures { IsWritten room.old room.new at name.now result }
+{
+    let end = at + name.len();
+    room[at..end].copy_from_slice(name);
+    end
+}
+
+/// Writes a name, and answers where it ends.
+#[inline(always)]
+fn write(room: &mut [u8], at: usize, name: &[u8]) -> usize
+    requires { at + length name.now ≤ length room.old }
+    ensures { IsWritten room.old room.new at name.now result }
+{
+    let length = name.len();
+    if length > 16 {
+        write_any(room, at, name)
+    } else if length >= 8 {
+        write_ends::<8>(room, at, name)
+    } else if length >= 4 {
+        write_ends::<4>(room, at, name)
+    } else if length >= 2 {
+        write_ends::<2>(room, at, name)
+    } else {
+        write_any(room, at, name)
+    }
+}
