@@ -7,8 +7,9 @@ use Rattle.std.specs.Char.{digit_value}
 use Rattle.std.specs.Str.Parse.{AllDigits}
 use Rattle.lexical_core.specs.Exponents.{NoDigit}
 use Rattle.lexical_core.proofs.DecimalTexts.{digits_split}
-use Rattle.data_types.specs.Dates.{FitsPlace, HasForm, IsFraction, IsZone}
-use Rattle.data_types.specs.Kinds.{form_of}
+use Rattle.data_types.specs.Dates.{FitsPlace, HasForm, HasParts, IsDateText, IsFraction, IsZone}
+use Rattle.data_types.specs.Kinds.{form_of, has_seconds}
+use Rattle.data_types.specs.inner.DateParts.{IsRest}
 use Rattle.data_types.specs.declared.kind.Kind.{Kind}
 
 -- a zone begins with no digit and no point
@@ -53,6 +54,27 @@ fixed_split kind text fixed fraction zone n len form e =
       ap (λ k. take k text) count ∙ (ap (take (length fixed)) e ∙ take-append_seam fixed (fraction ++ zone)),
       ap (λ k. drop k text) count ∙ (ap (drop (length fixed)) e ∙ drop-append_seam fixed (fraction ++ zone)),
     )
+
+-- a fixed part and what may stand behind it make a text
+pub text_told : (kind : Kind) (text fixed rest : List ℕ) (n : ℕ) → fixed ≡ take n text → rest ≡ drop n text → HasForm (form_of kind) fixed × HasParts kind fixed
+    → IsRest (has_seconds kind) rest → IsDateText kind text
+text_told kind text fixed rest n front back (form, parts) (fraction, zone, e, f, z) = (
+  fixed,
+  fraction,
+  zone,
+  sym (ap (λ x. x ++ (fraction ++ zone)) front ∙ (ap (λ x. take n text ++ x) (sym e ∙ back) ∙ take-append-drop n text)),
+  form,
+  parts,
+  f,
+  z,
+)
+
+pub text_parted : (kind : Kind) (text fixed rest : List ℕ) (n : ℕ) → length (form_of kind) ≡ n → fixed ≡ take n text → rest ≡ drop n text → IsDateText kind text
+    → (HasForm (form_of kind) fixed × HasParts kind fixed) × IsRest (has_seconds kind) rest
+text_parted kind text fixed rest n len front back (fixed', fraction, zone, e, form, parts, f, z) =
+    let split = fixed_split kind text fixed' fraction zone n len form e in
+    let same : fixed' ≡ fixed = sym (front ∙ split.0) in
+    ((subst (HasForm (form_of kind)) same form, subst (HasParts kind) same parts), (fraction, zone, back ∙ split.1, f, z))
 
 -- a byte that fits its place fits an equal one
 fits_same : {p q a b : ℕ} → p ≡ q → a ≡ b → FitsPlace p a → FitsPlace q b

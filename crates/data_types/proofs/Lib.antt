@@ -1,4 +1,5 @@
 pub mod DateLemmas
+pub mod DateForms
 pub mod CollapseLemmas
 pub mod CollapseLaw
 pub mod LeafLaws

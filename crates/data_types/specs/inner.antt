@@ -1,2 +1,3 @@
 -- What private functions alone cite, in reading order.
 pub mod Words
+pub mod DateParts

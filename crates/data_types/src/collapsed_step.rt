@@ -21,7 +21,7 @@ use crate::leaf::LeafRef;
 use crate::octets::OctetStep;
 use crate::run::{RunChars, run_chars};
 use crate::short::ShortText;
-use crate::words::{space_count, word_count};
+use crate::words::{is_short_word, space_count, word_count};
 use lexical_core::{DecimalStep, DecimalText, Rule};
 use std::alloc::{AllocError, Global};
 
@@ -146,14 +146,49 @@ impl CollapsedStep {
         ensures count { length (value_memory self.new.value).held + begun_in self.new.value
             ≤ length (value_memory self.old.value).held + begun_in self.old.value + length codes.now }
     {
+        if is_short_word(codes) {
+            self.take_word(codes);
+        } else {
+            self.take_pieces(codes);
+        }
+    }
+
+    /// The same, a gap and a word at a time.
+    #[inline(never)]
+    fn take_pieces(&mut self, codes: &[u8])
+        requires room { length (value_memory self.old.value).held + begun_in self.old.value + length codes.now
+            ≤ (value_memory self.old.value).room }
+        requires ascii { AllByRecursion (λ c. c < 128) codes.now }
+        ensures taken { (kind : Kind) (most : Option ℕ) (before : List ℕ)
+            → HasGiven self.old kind most before → HasGiven self.new kind most (before ++ codes.now) }
+        ensures room { (value_memory self.old.value).room ≤ (value_memory self.new.value).room }
+        ensures count { length (value_memory self.new.value).held + begun_in self.new.value
+            ≤ length (value_memory self.old.value).held + begun_in self.old.value + length codes.now }
+    {
         let mut rest = codes;
         while !rest.is_empty() {
             let (gap, behind) = rest.split_at(space_count(rest));
             let (word, after) = behind.split_at(word_count(behind));
             self.take_gap(gap);
-            self.take_word(word);
+            self.take_piece(word);
             rest = after;
         }
+    }
+
+    /// Takes a word between others, for which there is room.
+    #[inline(never)]
+    fn take_piece(&mut self, word: &[u8])
+        requires room { length (value_memory self.old.value).held + begun_in self.old.value + length word.now
+            ≤ (value_memory self.old.value).room }
+        requires ascii { AllByRecursion (λ c. c < 128) word.now }
+        requires word { AllByRecursion (λ c. IsSpace c → ⊥) word.now }
+        ensures taken { (kind : Kind) (most : Option ℕ) (before : List ℕ)
+            → HasGiven self.old kind most before → HasGiven self.new kind most (before ++ word.now) }
+        ensures room { (value_memory self.old.value).room ≤ (value_memory self.new.value).room }
+        ensures count { length (value_memory self.new.value).held + begun_in self.new.value
+            ≤ length (value_memory self.old.value).held + begun_in self.old.value + length word.now }
+    {
+        self.take_word(word);
     }
 
     /// Takes white space.
@@ -170,7 +205,7 @@ impl CollapsedStep {
     }
 
     /// Takes characters that are no white space, for which there is room.
-    #[inline]
+    #[inline(always)]
     fn take_word(&mut self, word: &[u8])
         requires room { length (value_memory self.old.value).held + begun_in self.old.value + length word.now
             ≤ (value_memory self.old.value).room }
@@ -213,6 +248,7 @@ impl CollapsedStep {
     }
 
     /// The leaf of this kind that the characters spell, as `LeafStep::finish`.
+    #[inline(always)]
     pub(crate) fn finish(&self, kind: Kind) -> Result<LeafRef<'_>, Rule>
         ensures { (most : Option ℕ) (chars : List ℕ) → HasGiven self.now kind most chars
             → IsLeafAnswer kind most chars result }
@@ -304,7 +340,7 @@ impl Value {
     }
 
     /// Takes a word, for which there is room, and the space before it, where the collapsed text gains one.
-    #[inline]
+    #[inline(always)]
     fn take_word(&mut self, gap: bool, word: &[u8])
         requires room { length (value_memory self.old).held + begun_in self.old + length word.now
             ≤ (value_memory self.old).room }
@@ -340,7 +376,7 @@ fn take_decimal(step: &mut DecimalStep, gain: Collapsed, c: char)
 }
 
 /// Takes a word of a decimal's text, and the space before it where there is one.
-#[inline]
+#[inline(always)]
 fn take_decimal_word(step: &mut DecimalStep, gap: bool, word: &[u8])
     ensures { (text : List ℕ) → HasRead step.old text → HasRead step.new (text ++ (gap_text gap ++ word.now)) }
 {
@@ -365,7 +401,7 @@ fn take_short(kept: &mut ShortText, gain: Collapsed, c: char)
 }
 
 /// Takes a word of the text of a truth value, a date or a time, and the space before it where there is one.
-#[inline]
+#[inline(always)]
 fn take_short_word(kept: &mut ShortText, gap: bool, word: &[u8])
     requires { AllByRecursion (λ c. c < 128) word.now }
     ensures { (text : List ℕ) → HasKept kept.old text → HasKept kept.new (text ++ (gap_text gap ++ word.now)) }
@@ -394,6 +430,7 @@ fn take_octets(step: &mut OctetStep, gain: Collapsed, c: char) -> Result<(), All
 }
 
 /// The leaf of a decimal's characters.
+#[inline(always)]
 fn decimal_leaf(step: &DecimalStep) -> Result<LeafRef<'_>, Rule>
     ensures { (most : Option ℕ) (chars text : List ℕ) → IsCollapsed chars text → HasRead step.now text
         → IsLeafAnswer Kind.Decimal most chars result }
@@ -406,6 +443,7 @@ fn decimal_leaf(step: &DecimalStep) -> Result<LeafRef<'_>, Rule>
 }
 
 /// The leaf of a binary value's characters.
+#[inline(always)]
 fn binary_leaf(step: &OctetStep) -> Result<LeafRef<'_>, Rule>
     ensures { (most : Option ℕ) (chars text : List ℕ) → IsCollapsed chars text
         → HasDecoded step.now most (without_spaces text) → IsLeafAnswer Kind.Binary most chars result }
@@ -417,6 +455,7 @@ fn binary_leaf(step: &OctetStep) -> Result<LeafRef<'_>, Rule>
 }
 
 /// The leaf of the characters of a truth value, a date or a time.
+#[inline(always)]
 fn short_leaf(kind: Kind, kept: &ShortText) -> Result<LeafRef<'_>, Rule>
     ensures { (most : Option ℕ) (chars text : List ℕ) → IsShortKind kind → IsCollapsed chars text
         → HasKept kept.now text → IsLeafAnswer kind most chars result }

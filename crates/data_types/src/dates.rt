@@ -3,15 +3,60 @@ ghost use Rattle.std.specs.Prelude.{◌≡◌, ◌≤◌, ◌<◌, ◌+◌, ◌-
 ghost use Rattle.std.specs.Str.Parse.{AllDigits};
 ghost use Rattle.data_types.specs.Kinds.{form_of, has_seconds};
 ghost use Rattle.data_types.specs.Dates.{IsDateText, HasForm, FitsPlace, HasParts, IsDay, IsClock, IsFraction, IsOffset, IsZone, two_at, four_at};
+ghost use Rattle.data_types.specs.inner.DateParts.{IsRest, AreDigits, AreDateDigits, AreClockDigits};
 ghost use Rattle.lexical_core.specs.Exponents.{NoDigit};
 
 use crate::kind::Kind;
 use jiff::civil::Date;
 use lexical_core::digit_count;
+use std::simd::prelude::*;
 
 /// Whether the text is one of this kind of date or time, with or without a zone. Texts of other kinds are
-/// none.
+/// none. The usual kinds have ways of their own, in which the form is known, and so are the places of the digits that
+/// the numbers are made of.
+#[inline(never)]
 pub fn is_date_text(kind: Kind, text: &[u8]) -> bool
+    ensures { IsTrue result ↔ IsDateText kind text.now }
+{
+    match kind {
+        Kind::Date => is_date(text),
+        Kind::DateTime => is_date_time(text),
+        _ => is_other_text(kind, text),
+    }
+}
+
+/// Whether the text is a date.
+#[inline(always)]
+fn is_date(text: &[u8]) -> bool
+    ensures { IsTrue result ↔ IsDateText Kind.Date text.now }
+{
+    if text.len() < 10 {
+        return false;
+    }
+    let (fixed, rest) = text.split_at(10);
+    if !is_fixed_date(fixed) {
+        return false;
+    }
+    is_rest(false, rest)
+}
+
+/// Whether the text is a date and a time.
+#[inline(always)]
+fn is_date_time(text: &[u8]) -> bool
+    ensures { IsTrue result ↔ IsDateText Kind.DateTime text.now }
+{
+    if text.len() < 19 {
+        return false;
+    }
+    let (fixed, rest) = text.split_at(19);
+    if !is_fixed_date_time(fixed) {
+        return false;
+    }
+    is_rest(true, rest)
+}
+
+/// The same for any kind.
+fn is_other_text(kind: Kind, text: &[u8]) -> bool
     ensures { IsTrue result ↔ IsDateText kind text.now }
 {
     let form = form_of(kind);
@@ -19,67 +64,145 @@ pub fn is_date_text(kind: Kind, text: &[u8]) -> bool
         return false;
     }
     let (fixed, rest) = text.split_at(form.len());
-    if !is_fixed_part(kind, fixed) {
+    if !is_other_fixed_part(kind, fixed) {
         return false;
     }
-    let Some(end) = fraction_end(has_seconds(kind), rest) else {
-        return false;
-    };
-    is_zone(rest.split_at(end).1)
+    is_rest(has_seconds(kind), rest)
 }
 
-/// Whether the text is the part of this kind that has a fixed length. The usual kinds have ways of their own, in which
-/// the form is known, and so are the places of the digits that the numbers are made of.
-fn is_fixed_part(kind: Kind, text: &[u8]) -> bool
-    ensures { IsTrue result ↔ (HasForm (form_of kind) text.now × HasParts kind text.now) }
+/// Whether the text is digits of a second, where there are any, and a zone or none.
+#[inline(always)]
+fn is_rest(seconds: bool, text: &[u8]) -> bool
+    ensures { IsTrue result ↔ IsRest seconds text.now }
 {
-    match kind {
-        Kind::Date => is_fixed_date(text),
-        Kind::DateTime => is_fixed_date_time(text),
-        _ => is_other_fixed_part(kind, text),
-    }
+    let Some(end) = fraction_end(seconds, text) else {
+        return false;
+    };
+    is_zone(text.split_at(end).1)
 }
 
 /// Whether the text is a date without its zone.
+#[inline(always)]
 fn is_fixed_date(text: &[u8]) -> bool
     ensures { IsTrue result ↔ (HasForm (form_of Kind.Date) text.now × HasParts Kind.Date text.now) }
 {
-    has_date_form(text) && has_parts(Kind::Date, text)
+    if !has_date_form(text) {
+        return false;
+    }
+    is_day_there(text)
 }
 
 /// Whether the text is a date and a time without the digits of a second behind its point, and without its zone.
+#[inline(always)]
 fn is_fixed_date_time(text: &[u8]) -> bool
     ensures { IsTrue result ↔ (HasForm (form_of Kind.DateTime) text.now × HasParts Kind.DateTime text.now) }
 {
-    has_date_time_form(text) && is_day_and_clock(text)
+    if !has_date_time_form(text) {
+        return false;
+    }
+    is_day_there(text) && is_clock_there(text)
 }
 
-/// Whether the text has the form of a date and a time. Each part of it is short enough to be compared without a loop.
+/// Whether the text has the form of a date and a time.
+#[inline(always)]
 fn has_date_time_form(text: &[u8]) -> bool
     ensures { IsTrue result ↔ HasForm (form_of Kind.DateTime) text.now }
 {
-    if text.len() < 10 {
+    if text.len() < 16 {
         return false;
     }
-    let (date, clock) = text.split_at(10);
-    if !has_date_form(date) {
+    let (front, behind) = text.split_at(16);
+    if !has_minutes_form(front) {
         return false;
     }
-    has_clock_form(clock)
+    has_seconds_form(behind)
 }
 
 /// Whether the text has the form of a date.
+#[inline(always)]
 fn has_date_form(text: &[u8]) -> bool
     ensures { IsTrue result ↔ HasForm (form_of Kind.Date) text.now }
 {
-    has_form(b"dddd-dd-dd".as_slice(), text)
+    if text.len() < 8 {
+        return false;
+    }
+    let (front, behind) = text.split_at(8);
+    if !has_month_form(front) {
+        return false;
+    }
+    has_day_form(behind)
 }
 
-/// Whether the text has the form of a time behind a date.
-fn has_clock_form(text: &[u8]) -> bool
-    ensures { IsTrue result ↔ HasForm (codes "Tdd:dd:dd") text.now }
+/// Whether the text has the form of a date and a time to the minute: by one step, each byte from the least that may stand
+/// in its place.
+#[inline(always)]
+fn has_minutes_form(text: &[u8]) -> bool
+    ensures { IsTrue result ↔ HasForm (codes "dddd-dd-ddTdd:dd") text.now }
 {
-    has_form(b"Tdd:dd:dd".as_slice(), text)
+    if text.len() != 16 {
+        return false;
+    }
+    let least = u8x16::from_array(*b"0000-00-00T00:00");
+    let most = u8x16::from_array([9, 9, 9, 9, 0, 9, 9, 0, 9, 9, 0, 9, 9, 0, 9, 9]);
+    (u8x16::from_slice(text) - least).simd_gt(most).to_bitmask() == 0
+}
+
+/// Whether the text has the form of seconds behind minutes.
+#[inline(always)]
+fn has_seconds_form(text: &[u8]) -> bool
+    ensures { IsTrue result ↔ HasForm (codes ":dd") text.now }
+{
+    has_form(b":dd".as_slice(), text)
+}
+
+/// Whether the text has the form of a date to the month: by one step too.
+#[inline(always)]
+fn has_month_form(text: &[u8]) -> bool
+    ensures { IsTrue result ↔ HasForm (codes "dddd-dd-") text.now }
+{
+    if text.len() != 8 {
+        return false;
+    }
+    let least = u8x8::from_array(*b"0000-00-");
+    let most = u8x8::from_array([9, 9, 9, 9, 0, 9, 9, 0]);
+    (u8x8::from_slice(text) - least).simd_gt(most).to_bitmask() == 0
+}
+
+/// Whether the text has the form of a day of a month.
+#[inline(always)]
+fn has_day_form(text: &[u8]) -> bool
+    ensures { IsTrue result ↔ HasForm (codes "dd") text.now }
+{
+    has_form(b"dd".as_slice(), text)
+}
+
+/// Whether the calendar has the day whose digits stand there.
+#[inline(always)]
+fn is_day_there(text: &[u8]) -> bool
+    requires { AreDateDigits text.now }
+    ensures { IsTrue result ↔ HasParts Kind.Date text.now }
+{
+    let year = two_digits(text, 0) * 100 + two_digits(text, 2);
+    is_day(year, two_digits(text, 5), two_digits(text, 8))
+}
+
+/// Whether the digits that stand there are a time of a day.
+#[inline(always)]
+fn is_clock_there(text: &[u8]) -> bool
+    requires { AreClockDigits text.now }
+    ensures { IsTrue result ↔ IsClock text.now 11 }
+{
+    two_digits(text, 11) < 24 && two_digits(text, 14) < 60 && two_digits(text, 17) < 60
+}
+
+/// The number of the two digits that stand at that place.
+#[inline(always)]
+fn two_digits(text: &[u8], at: usize) -> u32
+    requires { AreDigits text.now at }
+    ensures value { result ≡ two_at text.now at }
+    ensures bound { result < 2500 }
+{
+    u32::from(text[at]) * 10 + u32::from(text[at + 1]) - 528
 }
 
 /// The same for any kind.
@@ -115,7 +238,7 @@ fn has_seconds(kind: Kind) -> bool
 }
 
 /// Whether the text has the form, place by place.
-#[inline]
+#[inline(always)]
 fn has_form(form: &[u8], text: &[u8]) -> bool
     ensures { IsTrue result ↔ HasForm form.now text.now }
 {
@@ -131,6 +254,7 @@ fn has_form(form: &[u8], text: &[u8]) -> bool
 }
 
 /// Whether the byte may stand where the form has this one.
+#[inline(always)]
 fn fits_place(place: u8, byte: u8) -> bool
     ensures { IsTrue result ↔ FitsPlace place byte }
 {
@@ -180,6 +304,7 @@ fn is_between(number: u32, most: u32) -> bool
 }
 
 /// Whether the calendar has the day, in the years 1 to 9999.
+#[inline(always)]
 fn is_day(year: u32, month: u32, day: u32) -> bool
     ensures { IsTrue result ↔ IsDay year month day }
 {
@@ -227,6 +352,7 @@ fn digit_at(text: &[u8], at: usize) -> u32
 
 /// Where the digits of a second end, which may stand at the start; `None` where a point has no one to
 /// nine digits behind it.
+#[inline(always)]
 fn fraction_end(seconds: bool, text: &[u8]) -> Option<usize>
     ensures some { IfSome result
         (λ end. (end ≤ length text.now) × IsFraction seconds (take end text.now)) }
@@ -245,6 +371,7 @@ fn fraction_end(seconds: bool, text: &[u8]) -> Option<usize>
 }
 
 /// Whether the text is a zone, or empty.
+#[inline(always)]
 fn is_zone(text: &[u8]) -> bool
     ensures { IsTrue result ↔ IsZone text.now }
 {
@@ -255,6 +382,7 @@ fn is_zone(text: &[u8]) -> bool
 }
 
 /// Whether the text is the zone of the Coordinated Universal Time.
+#[inline(always)]
 fn is_utc(text: &[u8]) -> bool
     ensures { IsTrue result ↔ (text.now ≡ 90 ∷ []) }
 {

@@ -146,6 +146,7 @@ impl LeafStep {
     /// The leaf that the characters spell. `BadText` where they have not the form of the kind, `BadLength`
     /// where they spell a leaf that is longer than the limit, and `Digits` where they are a decimal of more
     /// than 18 digits or of more than 18 after the point. It takes no memory.
+    #[inline(always)]
     pub fn finish(&self) -> Result<LeafRef<'_>, Rule>
         ensures { (kind : Kind) (most : Option ℕ) (chars : List ℕ) → HasTaken self.now kind most chars
             → IsLeafAnswer kind most chars result }
@@ -199,6 +200,7 @@ fn take_text_run(text: &mut Kept, run: &[u8], count: usize) -> Result<(), AllocE
 }
 
 /// The leaf of a text's characters.
+#[inline(always)]
 fn text_leaf(text: &Kept) -> Result<LeafRef<'_>, Rule>
     ensures { (most : Option ℕ) (chars : List ℕ) → IsText text.now most chars
         → IsLeafAnswer Kind.Text most chars result }

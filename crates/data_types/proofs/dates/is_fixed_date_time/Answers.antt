@@ -1,7 +1,32 @@
+use Rattle.std.proofs.Common.{codes, refl, arith}
+use Rattle.data_types.proofs.DateForms.{digits_there}
 use Rattle.data_types.proofs.dates.is_fixed_date_time.Goals as goal
 
-pub returns-then-has_date_time_form : goal.returns-then-has_date_time_form
-returns-then-has_date_time_form c = (λ e. (c.has_date_time_form.ensures.0 c.if-has_date_time_form.true, c.is_day_and_clock.ensures.0 e), λ h. c.is_day_and_clock.ensures.1 h.1)
+pub is_day_there-requires : goal.is_day_there-requires
+is_day_there-requires c =
+    let form = codes "dddd-dd-ddTdd:dd:dd" in
+    let text = c.args.text.now in
+    let has = c.has_date_time_form.ensures.0 c.if-not-has_date_time_form.false in
+    record {
+      century = digits_there form text 0 has refl refl (omega arith);
+      year = digits_there form text 2 has refl refl (omega arith);
+      month = digits_there form text 5 has refl refl (omega arith);
+      day = digits_there form text 8 has refl refl (omega arith);
+    }
 
-pub returns-else-has_date_time_form : goal.returns-else-has_date_time_form
-returns-else-has_date_time_form c = (λ e. let no = c.if-has_date_time_form.false in absurd cc, λ h. c.has_date_time_form.ensures.1 h.0)
+pub is_clock_there-requires : goal.is_clock_there-requires
+is_clock_there-requires c =
+    let form = codes "dddd-dd-ddTdd:dd:dd" in
+    let text = c.args.text.now in
+    let has = c.has_date_time_form.ensures.0 c.if-not-has_date_time_form.false in
+    record {
+      hours = digits_there form text 11 has refl refl (omega arith);
+      minutes = digits_there form text 14 has refl refl (omega arith);
+      seconds = digits_there form text 17 has refl refl (omega arith);
+    }
+
+pub returns-then-is_day_there : goal.returns-then-is_day_there
+returns-then-is_day_there c = (
+  λ e. (c.has_date_time_form.ensures.0 c.if-not-has_date_time_form.false, (c.is_day_there.ensures.0 c.if-is_day_there.true, c.is_clock_there.ensures.0 e)),
+  λ h. c.is_clock_there.ensures.1 h.1.1,
+)

@@ -2,7 +2,7 @@ use Rattle.std.proofs.Common.{◌≡◌, ◌==◌, true, ℕ, suc, ◌+◌, List
 use Rattle.std.specs.List.{AllByRecursion}
 use Rattle.std.proofs.lemmas.Bool.Decides.{nat_tests}
 use Rattle.data_types.specs.LeafSteps.{HasGiven, value_memory, begun_in}
-use Rattle.data_types.proofs.collapsed_step.CollapsedStep.take_codes.Goals as goal
+use Rattle.data_types.proofs.collapsed_step.CollapsedStep.take_pieces.Goals as goal
 
 pub loop-rest-preserved : goal.loop-rest-preserved
 loop-rest-preserved c =
@@ -23,10 +23,10 @@ loop-rest-preserved c =
       joined = before.joined ∙ (ap (λ t. seen ++ t) rest ∙ sym (append_assoc seen (gap ++ word) after));
       ascii = all_behind _ (gap ++ word) after (subst (AllByRecursion _) rest before.ascii);
       taken = λ kind most text h.
-          subst (HasGiven c.take_word.new.self kind most) (append_assoc (text ++ seen) gap word ∙ append_assoc text seen (gap ++ word))
-          (c.take_word.ensures.taken kind most _ (c.take_gap.ensures.taken kind most _ (before.taken kind most text h)));
-      room = omega (arith, room, c.take_word.ensures.room, ap (λ v. (value_memory v).room) same);
-      count = omega (arith, count, c.take_word.ensures.count, ap (λ v. length (value_memory v).held + begun_in v) same, length-append seen (gap ++ word), length-append gap word);
+          subst (HasGiven c.take_piece.new.self kind most) (append_assoc (text ++ seen) gap word ∙ append_assoc text seen (gap ++ word))
+          (c.take_piece.ensures.taken kind most _ (c.take_gap.ensures.taken kind most _ (before.taken kind most text h)));
+      room = omega (arith, room, c.take_piece.ensures.room, ap (λ v. (value_memory v).room) same);
+      count = omega (arith, count, c.take_piece.ensures.count, ap (λ v. length (value_memory v).held + begun_in v) same, length-append seen (gap ++ word), length-append gap word);
     }
   where
     two_parts : (n : ℕ) (all front back : List ℕ) → front ≡ take n all → back ≡ drop n all → front ++ back ≡ all

@@ -3,7 +3,7 @@ use Rattle.std.specs.List.{AllByRecursion}
 use Rattle.data_types.specs.LeafSteps.{HasGiven, value_memory, begun_in}
 use Rattle.data_types.specs.declared.kind.Kind.{Kind}
 use Rattle.data_types.specs.declared.collapsed_step.CollapsedStep.{CollapsedStep}
-use Rattle.data_types.proofs.collapsed_step.CollapsedStep.take_codes.Given as goal
+use Rattle.data_types.proofs.collapsed_step.CollapsedStep.take_pieces.Given as goal
 
 -- the codes but for the rest were taken
 pub record HasGoneOn (old now : CollapsedStep) (codes rest : List ℕ) : Type 0 where

@@ -1,0 +1,15 @@
+use Rattle.std.proofs.Common.{codes, refl, arith}
+use Rattle.data_types.proofs.DateForms.{digits_there}
+use Rattle.data_types.proofs.dates.is_fixed_date.Goals as goal
+
+pub is_day_there-requires : goal.is_day_there-requires
+is_day_there-requires c =
+    let form = codes "dddd-dd-dd" in
+    let text = c.args.text.now in
+    let has = c.has_date_form.ensures.0 c.if-not-has_date_form.false in
+    record {
+      century = digits_there form text 0 has refl refl (omega arith);
+      year = digits_there form text 2 has refl refl (omega arith);
+      month = digits_there form text 5 has refl refl (omega arith);
+      day = digits_there form text 8 has refl refl (omega arith);
+    }
