@@ -9,16 +9,17 @@ ghost use Rattle.message_model.specs.Tables.{types_of};
 ghost use Rattle.der_model.specs.LeafContents.{leaf_contents};
 ghost use Rattle.inst_pool.specs.Pieces.{edge_of, piece_bytes};
 ghost use Rattle.der_writer.specs.Measured.{IsMeasured};
-ghost use Rattle.der_writer.specs.inner.PieceOctets.{Begun, document_edge, leaf_octets};
+ghost use Rattle.der_writer.specs.inner.PieceOctets.{Before as BeforeOf, Begun, document_edge, leaf_octets, next_slot};
 ghost use Rattle.der_writer.specs.inner.Passes.{Frame, Stage, innermost_frame, piece_step, stage};
 ghost use Rattle.der_writer.specs.inner.Measuring.{AreBeside, AreAwaited, NumbersAreKept, AreWithin, Knows, IsSizeBefore, before_place, following_at};
 ghost use Rattle.der_writer.specs.inner.Heads.{before_view};
 
 use crate::contents::leaf_size;
 use crate::heads::head_size;
-use crate::pieces::{Before, begin_heads, leaf_head, next_slot};
-use crate::slots::{behind_size, slots_size};
-use crate::write::start;
+use crate::openings::begin_sizes;
+use crate::pieces::{Before, leaf_head};
+use crate::places::{before_at, next_at, start};
+use crate::slots::{behind_size, rest_size, slots_size};
 use inst_pool::{Edge, Instance, Piece};
 use message_model::Model;
 
@@ -137,27 +138,20 @@ fn kept_at(instance: &Instance, around: usize, slot: u32) -> Innermost
 }
 
 /// Where an element ends: what is known is kept beside its end.
-fn end(
-    model: &Model,
-    instance: &mut Instance,
-    before: Before,
-    edge: Edge,
-    at: usize,
-    pass: Pass,
-) -> Pass
+fn end(model: &Model, instance: &mut Instance, next: u64, edge: Edge, at: usize, pass: Pass) -> Pass
     requires place { at < length instance.old.region.pieces }
     requires piece { slice_get instance.old.region.pieces at ≡ Some (Ends (edge_of edge)) }
     requires room { pass.sum < 15000000000000000000 }
     ensures region { instance.new.region ≡ instance.old.region }
-    ensures known { (s : Stage) → Knows instance.old (at + 1) pass.around pass.sum s → AreBeside (drop (at + 1) instance.old.region.pieces) s.beside
-        → Knows instance.new at result.around result.sum (piece_step (types_of model.now) (before_view before) (Ends (edge_of edge)) (drop (at + 1) instance.old.region.pieces) s) }
+    ensures known { (before : BeforeOf) → next ≡ next_slot before → (s : Stage) → Knows instance.old (at + 1) pass.around pass.sum s → AreBeside (drop (at + 1) instance.old.region.pieces) s.beside
+        → Knows instance.new at result.around result.sum (piece_step (types_of model.now) before (Ends (edge_of edge)) (drop (at + 1) instance.old.region.pieces) s) }
     ensures most { result.sum ≤ pass.sum + 50000 }
 {
     let _count = instance.count();
     instance.set_len(at, pass.sum);
     instance.set_group(at, pass.around as u64);
     Pass {
-        sum: pass.sum + behind_size(model, edge.target, before),
+        sum: pass.sum + rest_size(model, edge.target, next),
         around: at,
     }
 }
@@ -200,7 +194,7 @@ fn filled_size(model: &Model, before: Before, size: u64) -> u64
 fn begin(
     model: &Model,
     instance: &mut Instance,
-    before: Before,
+    next: u64,
     edge: Edge,
     at: usize,
     pass: Pass,
@@ -209,53 +203,53 @@ fn begin(
     requires room { pass.sum < 15000000000000000000 }
     requires known { (s : Stage) × Knows instance.old (at + 1) pass.around pass.sum s × AreWithin s.sum s.frames }
     ensures region { instance.new.region ≡ instance.old.region }
-    ensures known { (s : Stage) → Knows instance.old (at + 1) pass.around pass.sum s
-        → Knows instance.new at result.around result.sum (piece_step (types_of model.now) (before_view before) (Begins (edge_of edge)) (drop (at + 1) instance.old.region.pieces) s) }
+    ensures known { (before : BeforeOf) → next ≡ next_slot before → (s : Stage) → Knows instance.old (at + 1) pass.around pass.sum s
+        → Knows instance.new at result.around result.sum (piece_step (types_of model.now) before (Begins (edge_of edge)) (drop (at + 1) instance.old.region.pieces) s) }
     ensures most { result.sum ≤ pass.sum + 50000 }
 {
     let _count = instance.count();
     let inner = kept_at(instance, pass.around, edge.slot);
-    let opening = begin_heads(model, before, edge);
     let len = pass.sum - inner.behind;
-    let head = head_size(opening.element, len);
-    let group = head + len + inner.following;
+    let sizes = begin_sizes(model, next, edge, len, inner.following);
+    let group = sizes.head + len + inner.following;
     instance.set_len(at, len);
     instance.set_group(at, group);
-    let between = slots_size(model, edge.parent, next_slot(before), edge.slot);
+    let between = slots_size(model, edge.parent, next, edge.slot);
     Pass {
-        sum: pass.sum + between + head_size(opening.list, group) + head,
+        sum: pass.sum + between + sizes.list + sizes.head,
         around: inner.around,
     }
 }
 
-/// One piece more, of which this was read, in front of those that were measured.
-fn measure_piece(
-    model: &Model,
-    instance: &mut Instance,
-    before: Before,
-    seen: Seen,
-    at: usize,
-    pass: Pass,
-) -> Pass
+/// One piece more in front of those that were measured.
+#[inline(always)]
+fn measure_piece(model: &Model, instance: &mut Instance, at: usize, pass: Pass) -> Pass
     requires place { at < length instance.old.region.pieces }
     requires room { pass.sum < 15000000000000000000 }
-    requires before { before_view before ≡ before_place instance.old.region.pieces at }
-    requires seen { before_view seen.before ≡ before_place instance.old.region.pieces (at + 1) }
-    requires size { IsSizeBefore instance.old.region.pieces (at + 1) seen.size }
     requires known { Knows instance.old (at + 1) pass.around pass.sum (stage (types_of model.now) (before_place instance.old.region.pieces (at + 1)) (drop (at + 1) instance.old.region.pieces)) }
     ensures region { instance.new.region ≡ instance.old.region }
     ensures known { Knows instance.new at result.around result.sum (stage (types_of model.now) (before_place instance.old.region.pieces at) (drop at instance.old.region.pieces)) }
     ensures most { (p : PieceOf) → slice_get instance.old.region.pieces at ≡ Some p → result.sum ≤ pass.sum + 50000 + piece_bytes p }
 {
     let _count = instance.count();
+    let seen = read_before(instance, at + 1);
     match seen.before {
-        Before::Begun(edge) => begin(model, instance, before, edge, at, pass),
-        Before::Filled => fill(model, instance, before, seen.size, at, pass),
-        Before::Ended(edge) => end(model, instance, before, edge, at, pass),
+        Before::Begun(edge) => {
+            let next = next_at(instance, at);
+            begin(model, instance, next, edge, at, pass)
+        }
+        Before::Filled => {
+            let before = before_at(instance, at);
+            fill(model, instance, before, seen.size, at, pass)
+        }
+        Before::Ended(edge) => {
+            let next = next_at(instance, at);
+            end(model, instance, next, edge, at, pass)
+        }
     }
 }
 
-/// Fills in the lengths, and gives the number of contents octets of the whole. Each piece is read once.
+/// Fills in the lengths, and gives the number of contents octets of the whole.
 fn measure_pieces(model: &Model, instance: &mut Instance) -> u64
     ensures region { instance.new.region ≡ instance.old.region }
     ensures whole { result ≡ (stage (types_of model.now) (Begun document_edge) instance.old.region.pieces).sum }
@@ -263,16 +257,13 @@ fn measure_pieces(model: &Model, instance: &mut Instance) -> u64
 {
     let count = instance.count();
     let mut at = count;
-    let mut seen = read_before(instance, count);
     let mut pass = Pass {
-        sum: behind_size(model, 0, seen.before),
+        sum: behind_size(model, 0, before_at(instance, count)),
         around: count,
     };
     while at > 0 {
         at -= 1;
-        let front = read_before(instance, at);
-        pass = measure_piece(model, instance, front.before, seen, at, pass);
-        seen = front;
+        pass = measure_piece(model, instance, at, pass);
     }
     pass.sum
 }

@@ -23,7 +23,9 @@ mod contents;
 mod head;
 mod heads;
 mod lengths;
+mod openings;
 mod pieces;
+mod places;
 mod slots;
 mod write;
 

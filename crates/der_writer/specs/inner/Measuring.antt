@@ -1,10 +1,12 @@
 -- What the pass that fills in the lengths keeps beside the ends of elements, while their beginnings are still to come.
 use Rattle.std.specs.Prelude.{◌≡◌, ℕ, zero, suc, ◌+◌, ◌≤◌, ◌<◌, ◌==◌, List, [], ◌∷◌, length, Option, Some, None, slice_get, slice_index, if◌then◌else◌}
 use Rattle.data_types.specs.Value.{Piece, Begins, Holds}
+use Rattle.facets.specs.declared.simple.Simple.{Simple}
+use Rattle.reference_check.specs.Forms.{Graph}
 use Rattle.inst_pool.specs.Pieces.{Held, leaf_bytes}
 use Rattle.der_model.specs.LeafContents.{leaf_contents}
 use Rattle.der_writer.specs.Measured.{Beside, Free, Counts}
-use Rattle.der_writer.specs.inner.PieceOctets.{Before, Begun, before_of, document_edge}
+use Rattle.der_writer.specs.inner.PieceOctets.{Before, Begun, before_of, document_edge, piece_octets}
 use Rattle.der_writer.specs.inner.Passes.{Frame, Stage}
 
 abbrev pub behind_piece : Option Piece → Before
@@ -15,6 +17,14 @@ behind_piece (Some piece) = before_of piece
 abbrev pub before_place : List Piece → ℕ → Before
 before_place pieces zero = Begun document_edge
 before_place pieces (suc at) = behind_piece (slice_get pieces at)
+
+abbrev pub octets_there : Graph ℕ Simple → Before → Option Piece → (len group : ℕ) → List ℕ
+octets_there g before None len group = []
+octets_there g before (Some piece) len group = piece_octets g before piece len group
+
+-- what is written at the piece at a place, by the numbers beside it
+abbrev pub octets_at : Graph ℕ Simple → Held → ℕ → List ℕ
+octets_at g held at = octets_there g (before_place held.region.pieces at) (slice_get held.region.pieces at) (slice_index held.lens at) (slice_index held.groups at)
 
 -- so many contents octets a leaf has; they are few more than its bytes
 abbrev pub IsSizeOf : Piece → ℕ → Type 0

@@ -20,14 +20,14 @@ returns-in-Begun-clause-known c =
     let g = types_of c.args.model.now in
     let s = stage g (before_place ps (c.args.at + 1)) (drop (c.args.at + 1) ps) in
     let p = piece_there ps c.args.at c.requires.place in
-    let is = begins_there p.0 (edge_of c.in-Begun.edge) (sym p.2 ∙ (sym c.requires.seen ∙ ap before_view c.in-Begun.is)) in
+    let is = begins_there p.0 (edge_of c.in-Begun.edge) (sym p.2 ∙ (sym c.read_before-seen.ensures.before ∙ ap before_view c.in-Begun.is)) in
     let whole = stage_at g ps c.args.at (Begins (edge_of c.in-Begun.edge)) (p.1 ∙ ap (λ z. Some z) is) in
-    subst (Knows c.begin.new.instance c.args.at c.begin.result.around c.begin.result.sum) (ap (λ b. piece_step g b (Begins (edge_of c.in-Begun.edge)) (drop (c.args.at + 1) ps) s) c.requires.before ∙ sym whole) (c.begin.ensures.known s c.requires.known)
+    subst (Knows c.begin.new.instance c.args.at c.begin.result.around c.begin.result.sum) (sym whole) (c.begin.ensures.known (before_place ps c.args.at) c.next_at-next.ensures s c.requires.known)
 
 pub end-requires-clause-piece : goal.end-requires-clause-piece
 end-requires-clause-piece c =
     let p = piece_there c.args.instance.now.region.pieces c.args.at c.requires.place in
-    p.1 ∙ ap (λ z. Some z) (ends_there p.0 (edge_of c.in-Ended.edge) (sym p.2 ∙ (sym c.requires.seen ∙ ap before_view c.in-Ended.is)))
+    p.1 ∙ ap (λ z. Some z) (ends_there p.0 (edge_of c.in-Ended.edge) (sym p.2 ∙ (sym c.read_before-seen.ensures.before ∙ ap before_view c.in-Ended.is)))
 
 pub returns-in-Ended-clause-known : goal.returns-in-Ended-clause-known
 returns-in-Ended-clause-known c =
@@ -35,10 +35,9 @@ returns-in-Ended-clause-known c =
     let g = types_of c.args.model.now in
     let s = stage g (before_place ps (c.args.at + 1)) (drop (c.args.at + 1) ps) in
     let p = piece_there ps c.args.at c.requires.place in
-    let is = ends_there p.0 (edge_of c.in-Ended.edge) (sym p.2 ∙ (sym c.requires.seen ∙ ap before_view c.in-Ended.is)) in
+    let is = ends_there p.0 (edge_of c.in-Ended.edge) (sym p.2 ∙ (sym c.read_before-seen.ensures.before ∙ ap before_view c.in-Ended.is)) in
     let whole = stage_at g ps c.args.at (Ends (edge_of c.in-Ended.edge)) (p.1 ∙ ap (λ z. Some z) is) in
-    subst (Knows c.end.new.instance c.args.at c.end.result.around c.end.result.sum) (ap (λ b. piece_step g b (Ends (edge_of c.in-Ended.edge)) (drop (c.args.at + 1) ps) s) c.requires.before ∙ sym whole)
-    (c.end.ensures.known s c.requires.known (stage_beside g (before_place ps (c.args.at + 1)) (drop (c.args.at + 1) ps)))
+    subst (Knows c.end.new.instance c.args.at c.end.result.around c.end.result.sum) (sym whole) (c.end.ensures.known (before_place ps c.args.at) c.next_at-next-in-Ended.ensures s c.requires.known (stage_beside g (before_place ps (c.args.at + 1)) (drop (c.args.at + 1) ps)))
 
 pub returns-in-Filled-clause-known : goal.returns-in-Filled-clause-known
 returns-in-Filled-clause-known c =
@@ -46,7 +45,7 @@ returns-in-Filled-clause-known c =
     let g = types_of c.args.model.now in
     let s = stage g (before_place ps (c.args.at + 1)) (drop (c.args.at + 1) ps) in
     let p = piece_there ps c.args.at c.requires.place in
-    let is = holds_there p.0 (sym p.2 ∙ (sym c.requires.seen ∙ ap before_view c.in-Filled.is)) in
+    let is = holds_there p.0 (sym p.2 ∙ (sym c.read_before-seen.ensures.before ∙ ap before_view c.in-Filled.is)) in
     let there = p.1 ∙ ap (λ z. Some z) is.1 in
     let whole = stage_at g ps c.args.at (Holds is.0) there in
-    subst (Knows c.args.instance.now c.args.at c.fill.result.around c.fill.result.sum) (ap (λ b. piece_step g b (Holds is.0) (drop (c.args.at + 1) ps) s) c.requires.before ∙ sym whole) (c.fill.ensures.known is.0 there s c.requires.known)
+    subst (Knows c.args.instance.now c.args.at c.fill.result.around c.fill.result.sum) (ap (λ b. piece_step g b (Holds is.0) (drop (c.args.at + 1) ps) s) c.before_at-before.ensures ∙ sym whole) (c.fill.ensures.known is.0 there s c.requires.known)

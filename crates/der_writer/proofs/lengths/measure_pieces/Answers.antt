@@ -1,9 +1,9 @@
-use Rattle.std.proofs.Common.{◌≡◌, ◌+◌, ◌-◌, Some, drop, ap, ap₂, sym, ◌∙◌, subst, arith}
+use Rattle.std.proofs.Common.{◌≡◌, ◌+◌, ◌-◌, Some, drop, ap, ◌∙◌, subst, arith}
 use Rattle.std.specs.Prelude.{slice_get}
 use Rattle.message_model.specs.Tables.{types_of}
 use Rattle.inst_pool.specs.Pieces.{bytes_of, piece_bytes}
 use Rattle.der_writer.specs.inner.Passes.{stage}
-use Rattle.der_writer.specs.inner.Measuring.{Knows, IsSizeBefore, before_place}
+use Rattle.der_writer.specs.inner.Measuring.{Knows, before_place}
 use Rattle.der_writer.proofs.KnownStages.{piece_there, bytes_from, bytes_within}
 use Rattle.der_writer.proofs.lengths.measure_pieces.Goals as goal
 
@@ -17,19 +17,6 @@ measure_piece-pass-requires-clause-room c =
     let byte_limit = bounded.byte_limit in
     let most = c.loop-at.invariant.most in
     omega (arith, bytes, nodes, all, node_limit, byte_limit, most)
-
-pub measure_piece-pass-requires-clause-seen : goal.measure_piece-pass-requires-clause-seen
-measure_piece-pass-requires-clause-seen c =
-    let some = c.loop-at-test.true in
-    let next : c.loop-at.at ≡ c.loop-at.at - 1 + 1 = omega arith in
-    c.loop-at.invariant.seen ∙ ap₂ before_place (sym (ap (λ r. r.pieces) c.loop-at.invariant.region)) next
-
-pub measure_piece-pass-requires-clause-size : goal.measure_piece-pass-requires-clause-size
-measure_piece-pass-requires-clause-size c =
-    let some = c.loop-at-test.true in
-    let next : c.loop-at.at ≡ c.loop-at.at - 1 + 1 = omega arith in
-    subst (λ z. IsSizeBefore z (c.loop-at.at - 1 + 1) c.loop-at.seen.size) (sym (ap (λ r. r.pieces) c.loop-at.invariant.region))
-    (subst (λ n. IsSizeBefore c.args.instance.now.region.pieces n c.loop-at.seen.size) next c.loop-at.invariant.size)
 
 pub loop-at-preserved : goal.loop-at-preserved
 loop-at-preserved c =
@@ -48,8 +35,6 @@ loop-at-preserved c =
     record {
       region = c.measure_piece-pass.ensures.region ∙ c.loop-at.invariant.region;
       place = omega (arith, place);
-      seen = c.read_before-front.ensures.before ∙ ap (λ z. before_place z at) same;
-      size = subst (λ z. IsSizeBefore z at c.read_before-front.result.size) same c.read_before-front.ensures.size;
       known = subst (λ z. Knows c.measure_piece-pass.new.instance at c.measure_piece-pass.result.around c.measure_piece-pass.result.sum (stage (types_of c.args.model.now) (before_place z at) (drop at z))) same c.measure_piece-pass.ensures.known;
       most = omega (arith, sum, before, bytes, later, place, some);
     }
