@@ -49,8 +49,8 @@ fn push_real<O: Sink>(head: Option<Head>, number: &Decimal, sink: &mut O) -> Res
 
 /// How many octets a REAL has.
 #[inline(never)]
-fn real_size(number: &Decimal) -> u64
-    ensures size { result ≡ length (real_contents number.now) }
+fn real_size(number: Decimal) -> u64
+    ensures size { result ≡ length (real_contents number) }
     ensures most { result ≤ 32 }
 {
     let _scale = number.scale();
@@ -131,7 +131,7 @@ pub(crate) fn leaf_size(leaf: &LeafRef<'_>) -> u64
 {
     match leaf {
         LeafRef::Bytes(bytes) => bytes.len() as u64,
-        LeafRef::Number(number) => real_size(number),
+        LeafRef::Number(number) => real_size(*number),
         LeafRef::Flag(_) => 1,
         LeafRef::Code(place) => code_size(*place),
     }

@@ -26,6 +26,7 @@ mod lengths;
 mod openings;
 mod pieces;
 mod places;
+mod simple;
 mod slots;
 mod write;
 

@@ -1,5 +1,5 @@
 // What stands before a place.
-ghost use Rattle.std.specs.Prelude.{◌≡◌};
+ghost use Rattle.std.specs.Prelude.{◌≡◌, ◌≤◌, length};
 ghost use Rattle.der_writer.specs.inner.PieceOctets.{Begun, document_edge, next_slot};
 ghost use Rattle.der_writer.specs.inner.Heads.{before_view};
 ghost use Rattle.der_writer.specs.inner.Measuring.{before_place};
@@ -24,8 +24,10 @@ pub(crate) fn start() -> Before
 /// What stands before the piece at a place.
 #[inline(always)]
 pub(crate) fn before_at(instance: &Instance, at: usize) -> Before
+    requires { at ≤ length instance.now.region.pieces }
     ensures { before_view result ≡ before_place instance.now.region.pieces at }
 {
+    let _count = instance.count();
     if at == 0 {
         return start();
     }
@@ -33,15 +35,17 @@ pub(crate) fn before_at(instance: &Instance, at: usize) -> Before
         Some(Piece::Open(edge)) => Before::Begun(edge),
         Some(Piece::Leaf(_)) => Before::Filled,
         Some(Piece::Close(edge)) => Before::Ended(edge),
-        None => start(),
+        None => unreachable!(),
     }
 }
 
 /// The first slot that may come at a place.
 #[inline(always)]
 pub(crate) fn next_at(instance: &Instance, at: usize) -> u64
+    requires { at ≤ length instance.now.region.pieces }
     ensures { result ≡ next_slot (before_place instance.now.region.pieces at) }
 {
+    let _count = instance.count();
     if at == 0 {
         return 0;
     }
@@ -49,6 +53,6 @@ pub(crate) fn next_at(instance: &Instance, at: usize) -> u64
         Some(Piece::Open(_)) => 0,
         Some(Piece::Leaf(_)) => 0,
         Some(Piece::Close(edge)) => edge.slot as u64 + 1,
-        None => 0,
+        None => unreachable!(),
     }
 }
