@@ -38,8 +38,8 @@ fn push_contents<O: Sink>(
 
 /// Pushes a REAL: §8.5.8, §11.3.2.
 #[inline(never)]
-fn push_real<O: Sink>(head: Option<Head>, number: &Decimal, sink: &mut O) -> Result<(), SinkError>
-    ensures { Pushes O.held O.faults O.room sink.old sink.new result (head_octets head (length (real_contents number.now)) ++ real_contents number.now) }
+fn push_real<O: Sink>(head: Option<Head>, number: Decimal, sink: &mut O) -> Result<(), SinkError>
+    ensures { Pushes O.held O.faults O.room sink.old sink.new result (head_octets head (length (real_contents number)) ++ real_contents number) }
 {
     let _scale = number.scale();
     let mut buf = [0; 32];
@@ -118,7 +118,7 @@ pub(crate) fn push_leaf<O: Sink>(
 {
     match leaf {
         LeafRef::Bytes(bytes) => push_octets(head, bytes, sink),
-        LeafRef::Number(number) => push_real(head, number, sink),
+        LeafRef::Number(number) => push_real(head, *number, sink),
         LeafRef::Flag(flag) => push_flag(head, *flag, sink),
         LeafRef::Code(place) => push_code(head, *place, sink),
     }

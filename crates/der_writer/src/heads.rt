@@ -2,7 +2,7 @@
 ghost use Rattle.std.specs.Prelude.{◌≡◌, ◌+◌, ◌<◌, ◌≤◌, ◌++◌, Bool, true, length};
 ghost use Rattle.std.specs.Int.Digits.{digits_of};
 ghost use Rattle.outside.specs.Pushes.{Pushes};
-ghost use Rattle.der_octets.specs.Octets.{Tag, context, identifier, length_octets, class_bits, form_bit};
+ghost use Rattle.der_octets.specs.Octets.{Tag, Context as ContextClass, context, identifier, length_octets, class_bits, form_bit};
 ghost use Rattle.der_writer.specs.inner.PieceOctets.{head};
 ghost use Rattle.der_writer.specs.inner.Heads.{class_of, tag_of, head_octets};
 
@@ -125,6 +125,39 @@ fn push_long<O: Sink>(head: Head, len: u64, sink: &mut O) -> Result<(), SinkErro
         return Err(error);
     }
     push_length(len, sink)
+}
+
+/// Whether a head with this number has one identifier octet and one length octet.
+fn is_low(number: u32, len: u64) -> bool
+    ensures { result ≡ true → (number < 31) × (len < 128) }
+{
+    number < 31 && len < 128
+}
+
+/// The bits of the class and of the form of a context tag.
+fn context_bits(constructed: bool) -> u8
+    ensures bits { result ≡ class_bits ContextClass + form_bit constructed }
+    ensures most { result ≤ 160 }
+{
+    if constructed { 0xA0 } else { 0x80 }
+}
+
+/// Pushes a head with a context tag. Mostly it is short, and then no head is made.
+#[inline(always)]
+pub(crate) fn push_context<O: Sink>(
+    constructed: bool,
+    number: u32,
+    len: u64,
+    sink: &mut O,
+) -> Result<(), SinkError>
+    requires { number < 16384 }
+    ensures { Pushes O.held O.faults O.room sink.old sink.new result (head constructed (context number) len) }
+{
+    if is_low(number, len) {
+        let bits = context_bits(constructed);
+        return push_bytes([bits + number as u8, len as u8].as_slice(), sink);
+    }
+    push_long(Head::context(constructed, number), len, sink)
 }
 
 /// Pushes a head before so many contents octets; nothing where there is none.

@@ -15,7 +15,7 @@ use outside::{Sink, SinkError};
 const ALL: u32 = 4096;
 
 /// Whether the type is a sequence.
-fn is_sequence(model: &Model, number: u32) -> bool
+pub(crate) fn is_sequence(model: &Model, number: u32) -> bool
     ensures yes { result ≡ true → form_slots (types_of model.now number) ≡ sequence_slots (types_of model.now number) }
     ensures no { result ≡ false → sequence_slots (types_of model.now number) ≡ [] }
 {

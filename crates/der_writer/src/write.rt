@@ -1,5 +1,5 @@
 // The DER of an instance, pushed piece by piece: X.690 §8.1, §10.1.
-ghost use Rattle.std.specs.Prelude.{◌≡◌, ◌++◌, ◌<◌, ◌-◌, ℕ, IsTrue, true, false, [], drop, length, slice_index, if◌then◌else◌};
+ghost use Rattle.std.specs.Prelude.{◌≡◌, ◌++◌, ◌<◌, ◌≤◌, ◌-◌, ℕ, IsTrue, true, false, [], drop, length, slice_index, if◌then◌else◌};
 ghost use Rattle.der_octets.specs.Octets.{context};
 ghost use Rattle.data_types.specs.Value.{Value, Begins};
 ghost use Rattle.outside.specs.Pushes.{Pushes, as_push};
@@ -16,10 +16,10 @@ ghost use Rattle.der_writer.specs.inner.Measuring.{before_place, octets_at};
 
 use crate::contents::push_leaf;
 use crate::head::Head;
-use crate::heads::push_head;
+use crate::heads::{push_context, push_head};
 use crate::pieces::{first_list, is_constructed, is_one, item_head, leaf_head};
 use crate::places::{before_at, next_at, start};
-use crate::slots::{behind_size, push_behind, push_slots};
+use crate::slots::{behind_size, is_sequence, push_behind, push_slots};
 use inst_pool::{Edge, Instance, Piece};
 use message_model::Model;
 use outside::{Buffer, Sink, SinkError, WriteError};
@@ -66,11 +66,7 @@ fn push_opening<O: Sink>(
         return push_item(model, instance, next, edge.slot, edge.target, at, sink);
     }
     let constructed = is_constructed(model, edge.target);
-    push_head(
-        Some(Head::context(constructed, edge.slot)),
-        instance.len(at),
-        sink,
-    )
+    push_context(constructed, edge.slot, instance.len(at), sink)
 }
 
 /// Pushes what is written where an element begins.
@@ -92,6 +88,24 @@ fn push_begin<O: Sink>(
     push_opening(model, instance, next, edge, at, sink)
 }
 
+/// Pushes what is written where an element ends. Where its type has no slots, what stands before is not asked for.
+#[inline(always)]
+fn push_end<O: Sink>(
+    model: &Model,
+    instance: &Instance,
+    target: u32,
+    at: usize,
+    sink: &mut O,
+) -> Result<(), SinkError>
+    requires { at ≤ length instance.now.region.pieces }
+    ensures { Pushes O.held O.faults O.room sink.old sink.new result (slots_behind (types_of model.now) target (before_place instance.now.region.pieces at)) }
+{
+    if !is_sequence(model, target) {
+        return Ok(());
+    }
+    push_behind(model, target, next_at(instance, at), sink)
+}
+
 /// Pushes what is written at the piece at a place.
 #[inline(always)]
 fn push_at<O: Sink>(
@@ -108,7 +122,7 @@ fn push_at<O: Sink>(
         Some(Piece::Leaf(leaf)) => {
             push_leaf(leaf_head(model, before_at(instance, at)), &leaf, sink)
         }
-        Some(Piece::Close(edge)) => push_behind(model, edge.target, next_at(instance, at), sink),
+        Some(Piece::Close(edge)) => push_end(model, instance, edge.target, at, sink),
         None => Ok(()),
     }
 }
