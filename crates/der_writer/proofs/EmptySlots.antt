@@ -1,10 +1,13 @@
 -- Slots in which nothing has come, one after the other.
-use Rattle.std.proofs.Common.{◌≡◌, ℕ, zero, suc, ◌+◌, ◌-◌, ◌≤◌, ◌<◌, List, [], ◌∷◌, ◌++◌, length, take, drop, Some, None, refl, ap, ap₂, ◌∙◌, arith, length-drop}
+use Rattle.std.proofs.Common.{◌≡◌, ℕ, zero, suc, ◌+◌, ◌-◌, ◌≤◌, ◌<◌, List, [], ◌∷◌, ◌++◌, length, take, drop, Some, None, refl, sym, ap, ap₂, ◌∙◌, arith, length-drop}
 use Rattle.std.specs.Prelude.{slice_get}
 use Rattle.std.proofs.lemmas.List.{take_all}
-use Rattle.reference_check.specs.Forms.{Slot}
+use Rattle.std.proofs.Math.ListN.{drop_of_length-le}
+use Rattle.facets.specs.declared.simple.Simple.{Simple}
+use Rattle.reference_check.specs.Forms.{Slot, Form, form_slots}
+use Rattle.reference_check.specs.Forms as form
 use Rattle.message_model.specs.declared.model.Slot.{Slot as Told}
-use Rattle.der_writer.specs.inner.PieceOctets.{empty_slot, empty_slots}
+use Rattle.der_writer.specs.inner.PieceOctets.{empty_slot, empty_slots, sequence_slots}
 use Rattle.der_writer.proofs.OctetLemmas.{drop_get}
 
 -- those from slot k on and before another
@@ -46,3 +49,27 @@ get_below (y ∷ xs) (suc k) x e = (let r = get_below xs k x e in omega arith)
 -- all slots behind are before one that is past them
 pub all_taken : {A : Type 0} (xs : List A) (from top : ℕ) → length xs ≤ top → take (top - from) (drop from xs) ≡ drop from xs
 all_taken xs from top l = (let size = length-drop from xs in take_all (top - from) (drop from xs) (omega (arith, size)))
+
+drop_nil : (k : ℕ) → ◌≡◌ {A = List (Slot ℕ)} (drop k []) []
+drop_nil zero = refl
+drop_nil (suc k) = refl
+
+-- no slot stands from one on that the type has not
+pub rest_none : (f : Form ℕ Simple) (k : ℕ) → slice_get (form_slots f) k ≡ None → [] ≡ empty_slots k (drop k (sequence_slots f))
+rest_none (form.Sequence slots) k none = sym (ap (empty_slots k) (drop_none slots k none))
+rest_none (form.Choice slots) k none = sym (ap (empty_slots k) (drop_nil k))
+rest_none (form.Simple simple) k none = sym (ap (empty_slots k) (drop_nil k))
+rest_none (form.Money code number) k none = sym (ap (empty_slots k) (drop_nil k))
+rest_none form.Envelope k none = sym (ap (empty_slots k) (drop_nil k))
+rest_none form.LeftOut k none = sym (ap (empty_slots k) (drop_nil k))
+rest_none form.Missing k none = sym (ap (empty_slots k) (drop_nil k))
+
+-- nor behind all that it has
+pub rest_past : (f : Form ℕ Simple) (k : ℕ) → length (form_slots f) ≤ k → [] ≡ empty_slots k (drop k (sequence_slots f))
+rest_past (form.Sequence slots) k l = sym (ap (empty_slots k) (drop_of_length-le slots l))
+rest_past (form.Choice slots) k l = sym (ap (empty_slots k) (drop_nil k))
+rest_past (form.Simple simple) k l = sym (ap (empty_slots k) (drop_nil k))
+rest_past (form.Money code number) k l = sym (ap (empty_slots k) (drop_nil k))
+rest_past form.Envelope k l = sym (ap (empty_slots k) (drop_nil k))
+rest_past form.LeftOut k l = sym (ap (empty_slots k) (drop_nil k))
+rest_past form.Missing k l = sym (ap (empty_slots k) (drop_nil k))

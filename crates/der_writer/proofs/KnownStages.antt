@@ -14,7 +14,7 @@ use Rattle.der_writer.specs.inner.Passes.{Frame, Stage, following, innermost_fra
 use Rattle.der_writer.proofs.OctetLemmas.{drop_get}
 use Rattle.der_writer.proofs.ChildOctets.{if_true, if_false}
 use Rattle.der_writer.proofs.Whole.{is_there}
-use Rattle.der_writer.specs.inner.Measuring.{AreBeside, following_piece, following_at, AreAwaited, Knows, before_place, behind_piece, IsSizeOf, IsSizeAt, IsSizeBefore}
+use Rattle.der_writer.specs.inner.Measuring.{AreBeside, following_piece, following_at, AreAwaited, Knows, before_place, behind_piece, IsSizeOf, IsSizeAt}
 
 pub ended_lower : (held : Held) (low more around : ℕ) (fs : List Frame) → more ≤ low → AreAwaited held low around fs → AreAwaited held more around fs
 ended_lower held low more around [] l h = h
@@ -202,8 +202,8 @@ following_other held at k e there other =
     sym (ap (λ z. following_piece z (slice_index held.groups at) k) there ∙ if_false (e.slot == k) (slice_index held.groups at) 0 test)
 
 -- the size of the leaf that was read
-pub size_there : (ps : List Piece) (at size : ℕ) (p : Piece) → slice_get ps at ≡ Some p → IsSizeBefore ps (at + 1) size → IsSizeOf p size
-size_there ps at size p there h = subst (λ z. IsSizeAt z size) there (subst (λ n. IsSizeBefore ps n size) (next_place at) h)
+pub size_there : (ps : List Piece) (at size : ℕ) (p : Piece) → slice_get ps at ≡ Some p → IsSizeAt (slice_get ps at) size → IsSizeOf p size
+size_there ps at size p there h = subst (λ z. IsSizeAt z size) there h
 
 pub size_within : (p : Piece) (size : ℕ) → IsSizeOf p size → size ≤ piece_bytes p + 32
 size_within (Begins e) size h = omega (arith, h)

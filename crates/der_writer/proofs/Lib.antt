@@ -10,3 +10,4 @@ pub mod Whole
 pub mod StageBounds
 pub mod KnownStages
 pub mod CountsLast
+pub mod SimpleStages

@@ -1,5 +1,5 @@
 -- The octets of a whole instance, by the numbers that stand beside its pieces.
-use Rattle.std.proofs.Common.{◌≡◌, ℕ, zero, suc, ◌+◌, ◌-◌, ◌≤◌, ◌<◌, true, List, [], ◌∷◌, ◌++◌, length, drop, Some, None, refl, sym, ap, ap₂, ◌∙◌, subst, arith, append-nil}
+use Rattle.std.proofs.Common.{◌≡◌, ℕ, zero, suc, ◌+◌, ◌-◌, ◌≤◌, ◌<◌, true, List, [], ◌∷◌, ◌++◌, length, drop, Option, Some, None, refl, sym, ap, ap₂, ◌∙◌, subst, arith, append-nil}
 use Rattle.std.specs.Prelude.{slice_get, slice_index}
 use Rattle.std.proofs.Math.ListN.{drop_of_length-le}
 use Rattle.data_types.specs.Value.{Value, Children, Edge, Piece, Begins, Holds, Ends}
@@ -16,9 +16,9 @@ use Rattle.der_model.specs.DerMessage.{DerMessage, der_message}
 use Rattle.der_model.specs.Der.{body, inner_of, der_of}
 use Rattle.inst_pool.specs.Pieces.{Held}
 use Rattle.der_writer.specs.Measured.{Beside, Free, Counts, contents_octets, value_counts, child_counts, IsMeasured}
-use Rattle.der_writer.specs.inner.PieceOctets.{AreNumbersAt, Before, Begun, before_of, head, document_edge, slots_behind, piece_octets, pieces_octets, counted_octets}
+use Rattle.der_writer.specs.inner.PieceOctets.{Before, Begun, before_of, head, document_edge, slots_behind, piece_octets, pieces_octets, counted_octets}
 use Rattle.der_writer.specs.inner.Passes.{stage}
-use Rattle.der_writer.specs.inner.Measuring.{AreBeside, NumbersAreKept}
+use Rattle.der_writer.specs.inner.Measuring.{AreBeside, NumbersAreKept, before_place, behind_piece, octets_at, octets_there}
 use Rattle.der_writer.proofs.OctetLemmas.{wrapped_is, drop_get, drop_twice}
 use Rattle.der_writer.proofs.ValueOctets.{children_octets}
 use Rattle.der_writer.proofs.Stages.{sum_is, children_staged}
@@ -49,12 +49,6 @@ index_at zero xs = refl
 index_at (suc at) [] = refl
 index_at (suc at) (x ∷ xs) = index_at at xs
 
--- what is written by the numbers beside a piece, where they count
-pub numbers_octets : (g : Graph ℕ Simple) (b : Before) (held : Held) (at : ℕ) (p : Piece) (len group : ℕ) → AreNumbersAt held at p len group → piece_octets g b p len group ≡ piece_octets g b p (slice_index held.lens at) (slice_index held.groups at)
-numbers_octets g b held at (Begins e) len group (l, h) = ap₂ (piece_octets g b (Begins e)) l h
-numbers_octets g b held at (Holds l) len group h = refl
-numbers_octets g b held at (Ends e) len group h = refl
-
 -- what is written from a place on is what is written at its piece and behind it
 pub octets_from : (g : Graph ℕ Simple) (b : Before) (ps : List Piece) (lens groups : List ℕ) (at : ℕ) (p : Piece) → slice_get ps at ≡ Some p
     → pieces_octets g b (drop at ps) (drop at lens) (drop at groups) ≡ piece_octets g b p (slice_index lens at) (slice_index groups at) ++ pieces_octets g (before_of p) (drop (at + 1) ps) (drop (at + 1) lens) (drop (at + 1) groups)
@@ -72,6 +66,25 @@ pub is_there : (at : ℕ) (ps : List Piece) → at < length ps → slice_get ps 
 is_there at [] l e = absurd (omega arith)
 is_there zero (p ∷ ps) l e = absurd cc
 is_there (suc at) (p ∷ ps) l e = is_there at ps (omega arith) e
+
+-- what is written from a place on is what is written there and behind it
+pub octets_on : (g : Graph ℕ Simple) (held : Held) (at : ℕ) → at < length held.region.pieces
+    → pieces_octets g (before_place held.region.pieces at) (drop at held.region.pieces) (drop at held.lens) (drop at held.groups)
+    ≡ octets_at g held at ++ pieces_octets g (before_place held.region.pieces (at + 1)) (drop (at + 1) held.region.pieces) (drop (at + 1) held.lens) (drop (at + 1) held.groups)
+octets_on g held at l = go (slice_get held.region.pieces at) refl
+  where
+    ps : List Piece
+    ps = held.region.pieces
+
+    go : (o : Option Piece) → slice_get ps at ≡ o
+        → pieces_octets g (before_place ps at) (drop at ps) (drop at held.lens) (drop at held.groups) ≡ octets_at g held at ++ pieces_octets g (before_place ps (at + 1)) (drop (at + 1) ps) (drop (at + 1) held.lens) (drop (at + 1) held.groups)
+    go None e = absurd (is_there at ps l e)
+    go (Some p) e =
+        let next : at + 1 ≡ suc at = omega arith in
+        let before : before_place ps (at + 1) ≡ before_of p = ap (before_place ps) next ∙ ap behind_piece e in
+        octets_from g (before_place ps at) ps held.lens held.groups at p e
+        ∙ ap₂ (λ x y. x ++ y) (ap (λ o. octets_there g (before_place ps at) o (slice_index held.lens at) (slice_index held.groups at)) (sym e))
+        (ap (λ b. pieces_octets g b (drop (at + 1) ps) (drop (at + 1) held.lens) (drop (at + 1) held.groups)) (sym before))
 
 module _ (T : Tables) where
   abbrev m : DerMessage ℕ

@@ -14,11 +14,8 @@ use lexical_core::Decimal;
 use outside::{Sink, SinkError, push_bytes};
 
 /// Pushes contents behind their head.
-fn push_contents<O: Sink>(
-    head: Option<Head>,
-    contents: &[u8],
-    sink: &mut O,
-) -> Result<(), SinkError>
+#[inline(always)]
+fn push_octets<O: Sink>(head: Option<Head>, contents: &[u8], sink: &mut O) -> Result<(), SinkError>
     ensures { Pushes O.held O.faults O.room sink.old sink.new result (head_octets head (length contents.now) ++ contents.now) }
 {
     if let Err(error) = push_head(head, contents.len() as u64, sink) {
@@ -27,9 +24,22 @@ fn push_contents<O: Sink>(
     push_bytes(contents, sink)
 }
 
+/// The same, in a function of its own: contents that are not bytes are few.
+#[inline(never)]
+fn push_contents<O: Sink>(
+    head: Option<Head>,
+    contents: &[u8],
+    sink: &mut O,
+) -> Result<(), SinkError>
+    ensures { Pushes O.held O.faults O.room sink.old sink.new result (head_octets head (length contents.now) ++ contents.now) }
+{
+    push_octets(head, contents, sink)
+}
+
 /// Pushes a REAL: §8.5.8, §11.3.2.
-fn push_real<O: Sink>(head: Option<Head>, number: &Decimal, sink: &mut O) -> Result<(), SinkError>
-    ensures { Pushes O.held O.faults O.room sink.old sink.new result (head_octets head (length (real_contents number.now)) ++ real_contents number.now) }
+#[inline(never)]
+fn push_real<O: Sink>(head: Option<Head>, number: Decimal, sink: &mut O) -> Result<(), SinkError>
+    ensures { Pushes O.held O.faults O.room sink.old sink.new result (head_octets head (length (real_contents number)) ++ real_contents number) }
 {
     let _scale = number.scale();
     let mut buf = [0; 32];
@@ -39,8 +49,8 @@ fn push_real<O: Sink>(head: Option<Head>, number: &Decimal, sink: &mut O) -> Res
 
 /// How many octets a REAL has.
 #[inline(never)]
-fn real_size(number: &Decimal) -> u64
-    ensures size { result ≡ length (real_contents number.now) }
+fn real_size(number: Decimal) -> u64
+    ensures size { result ≡ length (real_contents number) }
     ensures most { result ≤ 32 }
 {
     let _scale = number.scale();
@@ -57,6 +67,7 @@ fn push_flag<O: Sink>(head: Option<Head>, flag: bool, sink: &mut O) -> Result<()
 }
 
 /// Pushes an ENUMERATED: §8.4, §8.3.
+#[inline(never)]
 fn push_code<O: Sink>(head: Option<Head>, place: u32, sink: &mut O) -> Result<(), SinkError>
     ensures { Pushes O.held O.faults O.room sink.old sink.new result (head_octets head (length (integer_octets place)) ++ integer_octets place) }
 {
@@ -106,8 +117,8 @@ pub(crate) fn push_leaf<O: Sink>(
     ensures { Pushes O.held O.faults O.room sink.old sink.new result (head_octets head (length (leaf_contents (leaf_of leaf.now))) ++ leaf_contents (leaf_of leaf.now)) }
 {
     match leaf {
-        LeafRef::Bytes(bytes) => push_contents(head, bytes, sink),
-        LeafRef::Number(number) => push_real(head, number, sink),
+        LeafRef::Bytes(bytes) => push_octets(head, bytes, sink),
+        LeafRef::Number(number) => push_real(head, *number, sink),
         LeafRef::Flag(flag) => push_flag(head, *flag, sink),
         LeafRef::Code(place) => push_code(head, *place, sink),
     }
@@ -120,7 +131,7 @@ pub(crate) fn leaf_size(leaf: &LeafRef<'_>) -> u64
 {
     match leaf {
         LeafRef::Bytes(bytes) => bytes.len() as u64,
-        LeafRef::Number(number) => real_size(number),
+        LeafRef::Number(number) => real_size(*number),
         LeafRef::Flag(_) => 1,
         LeafRef::Code(place) => code_size(*place),
     }

@@ -1,8 +1,9 @@
 // Identifier octets and length octets, and how many there are: X.690 §8.1.2, §8.1.3, §10.1.
-ghost use Rattle.std.specs.Prelude.{◌≡◌, ◌+◌, ◌<◌, ◌≤◌, ◌++◌, true, length};
+ghost use Rattle.std.specs.Prelude.{◌≡◌, ◌+◌, ◌<◌, ◌≤◌, ◌++◌, Bool, true, length};
 ghost use Rattle.std.specs.Int.Digits.{digits_of};
 ghost use Rattle.outside.specs.Pushes.{Pushes};
-ghost use Rattle.der_octets.specs.Octets.{identifier, length_octets, class_bits, form_bit};
+ghost use Rattle.der_octets.specs.Octets.{Tag, Context as ContextClass, context, identifier, length_octets, class_bits, form_bit};
+ghost use Rattle.der_writer.specs.inner.PieceOctets.{head};
 ghost use Rattle.der_writer.specs.inner.Heads.{class_of, tag_of, head_octets};
 
 use crate::head::{Class, Head};
@@ -37,15 +38,17 @@ fn push_identifier<O: Sink>(head: Head, sink: &mut O) -> Result<(), SinkError>
     push_bytes(octets.as_slice(), sink)
 }
 
-/// How many identifier octets there are.
-fn identifier_size(head: Head) -> u64
-    ensures size { result ≡ length (identifier head.constructed (tag_of head)) }
+/// How many identifier octets there are with this number.
+#[inline(always)]
+fn number_size(number: u32) -> u64
+    requires { number < 16384 }
+    ensures size { (form : Bool) (tag : Tag) → tag.number ≡ number → result ≡ length (identifier form tag) }
     ensures most { result ≤ 3 }
 {
-    if head.number < 31 {
+    if number < 31 {
         return 1;
     }
-    if head.number < 128 { 2 } else { 3 }
+    if number < 128 { 2 } else { 3 }
 }
 
 /// Pushes the digits of a number in base 256.
@@ -62,6 +65,7 @@ fn push_digits<O: Sink>(number: u64, sink: &mut O) -> Result<(), SinkError>
 }
 
 /// How many digits a number has in base 256.
+#[inline(never)]
 fn digit_count(number: u64) -> u64
     ensures count { result ≡ length (digits_of 256 number) }
     ensures most { result ≤ 8 }
@@ -123,6 +127,39 @@ fn push_long<O: Sink>(head: Head, len: u64, sink: &mut O) -> Result<(), SinkErro
     push_length(len, sink)
 }
 
+/// Whether a head with this number has one identifier octet and one length octet.
+fn is_low(number: u32, len: u64) -> bool
+    ensures { result ≡ true → (number < 31) × (len < 128) }
+{
+    number < 31 && len < 128
+}
+
+/// The bits of the class and of the form of a context tag.
+fn context_bits(constructed: bool) -> u8
+    ensures bits { result ≡ class_bits ContextClass + form_bit constructed }
+    ensures most { result ≤ 160 }
+{
+    if constructed { 0xA0 } else { 0x80 }
+}
+
+/// Pushes a head with a context tag. Mostly it is short, and then no head is made.
+#[inline(always)]
+pub(crate) fn push_context<O: Sink>(
+    constructed: bool,
+    number: u32,
+    len: u64,
+    sink: &mut O,
+) -> Result<(), SinkError>
+    requires { number < 16384 }
+    ensures { Pushes O.held O.faults O.room sink.old sink.new result (head constructed (context number) len) }
+{
+    if is_low(number, len) {
+        let bits = context_bits(constructed);
+        return push_bytes([bits + number as u8, len as u8].as_slice(), sink);
+    }
+    push_long(Head::context(constructed, number), len, sink)
+}
+
 /// Pushes a head before so many contents octets; nothing where there is none.
 #[inline(always)]
 pub(crate) fn push_head<O: Sink>(
@@ -147,7 +184,17 @@ pub(crate) fn head_size(head: Option<Head>, len: u64) -> u64
     ensures most { result ≤ 12 }
 {
     match head {
-        Some(head) => identifier_size(head) + length_size(len),
+        Some(head) => number_size(head.number as u32) + length_size(len),
         None => 0,
     }
+}
+
+/// How many octets a head with a context tag has before so many contents octets.
+#[inline(always)]
+pub(crate) fn context_size(number: u32, len: u64) -> u64
+    requires { number < 16384 }
+    ensures size { (form : Bool) → result ≡ length (head form (context number) len) }
+    ensures most { result ≤ 12 }
+{
+    number_size(number) + length_size(len)
 }

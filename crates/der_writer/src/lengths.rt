@@ -2,23 +2,25 @@
 // they are what was added since it ended. What the pass has to know of elements that stand open meanwhile it keeps beside
 // their ends, so that it takes no memory. A piece adds less than 50,000 octets to its own bytes, and a region has at most
 // 2^48 pieces and bytes, so that no sum comes to 15 * 10^18.
-ghost use Rattle.std.specs.Prelude.{◌≡◌, ℕ, ◌+◌, ◌<◌, ◌≤◌, List, length, drop, Some, slice_get, slice_set, ◌-◌};
+ghost use Rattle.std.specs.Prelude.{◌≡◌, ℕ, ◌+◌, ◌*◌, ◌<◌, ◌≤◌, List, length, drop, Some, slice_get, slice_set, ◌-◌};
 ghost use Rattle.data_types.specs.Leaf.{Leaf};
 ghost use Rattle.data_types.specs.Value.{Piece as PieceOf, Begins, Holds, Ends};
 ghost use Rattle.message_model.specs.Tables.{types_of};
 ghost use Rattle.der_model.specs.LeafContents.{leaf_contents};
-ghost use Rattle.inst_pool.specs.Pieces.{edge_of, piece_bytes};
+ghost use Rattle.inst_pool.specs.Pieces.{edge_of, piece_bytes, bytes_of};
 ghost use Rattle.der_writer.specs.Measured.{IsMeasured};
-ghost use Rattle.der_writer.specs.inner.PieceOctets.{Begun, document_edge, leaf_octets};
+ghost use Rattle.der_writer.specs.inner.PieceOctets.{Before as BeforeOf, Begun, document_edge, leaf_octets, next_slot};
 ghost use Rattle.der_writer.specs.inner.Passes.{Frame, Stage, innermost_frame, piece_step, stage};
-ghost use Rattle.der_writer.specs.inner.Measuring.{AreBeside, AreAwaited, NumbersAreKept, AreWithin, Knows, IsSizeBefore, before_place, following_at};
+ghost use Rattle.der_writer.specs.inner.Measuring.{AreBeside, AreAwaited, NumbersAreKept, AreWithin, Knows, IsSizeAt, IsSimpleAt, before_place, behind_piece, following_at};
 ghost use Rattle.der_writer.specs.inner.Heads.{before_view};
 
 use crate::contents::leaf_size;
 use crate::heads::head_size;
-use crate::pieces::{Before, begin_heads, leaf_head, next_slot};
-use crate::slots::{behind_size, slots_size};
-use crate::write::start;
+use crate::openings::begin_sizes;
+use crate::pieces::{Before, leaf_head};
+use crate::places::{before_at, next_at};
+use crate::simple::{SimpleElement, simple_before};
+use crate::slots::{behind_size, rest_size, slots_size};
 use inst_pool::{Edge, Instance, Piece};
 use message_model::Model;
 
@@ -51,26 +53,15 @@ struct Seen {
     size: u64,
 }
 
-/// Nothing was read: no piece stands before the first.
-fn unread() -> Seen
-    ensures before { before_view result.before ≡ Begun document_edge }
-{
-    Seen {
-        before: start(),
-        size: 0,
-    }
-}
-
-/// What is read of the piece before a place.
+/// What is read of the piece at a place.
 #[inline(always)]
-fn read_before(instance: &Instance, at: usize) -> Seen
-    ensures before { before_view result.before ≡ before_place instance.now.region.pieces at }
-    ensures size { IsSizeBefore instance.now.region.pieces at result.size }
+fn read(instance: &Instance, at: usize) -> Seen
+    requires { at < length instance.now.region.pieces }
+    ensures before { before_view result.before ≡ behind_piece (slice_get instance.now.region.pieces at) }
+    ensures size { IsSizeAt (slice_get instance.now.region.pieces at) result.size }
 {
-    if at == 0 {
-        return unread();
-    }
-    match instance.piece(at - 1) {
+    let _count = instance.count();
+    match instance.piece(at) {
         Some(Piece::Open(edge)) => Seen {
             before: Before::Begun(edge),
             size: 0,
@@ -83,7 +74,7 @@ fn read_before(instance: &Instance, at: usize) -> Seen
             before: Before::Ended(edge),
             size: 0,
         },
-        None => unread(),
+        None => unreachable!(),
     }
 }
 
@@ -137,27 +128,20 @@ fn kept_at(instance: &Instance, around: usize, slot: u32) -> Innermost
 }
 
 /// Where an element ends: what is known is kept beside its end.
-fn end(
-    model: &Model,
-    instance: &mut Instance,
-    before: Before,
-    edge: Edge,
-    at: usize,
-    pass: Pass,
-) -> Pass
+fn end(model: &Model, instance: &mut Instance, next: u64, edge: Edge, at: usize, pass: Pass) -> Pass
     requires place { at < length instance.old.region.pieces }
     requires piece { slice_get instance.old.region.pieces at ≡ Some (Ends (edge_of edge)) }
     requires room { pass.sum < 15000000000000000000 }
     ensures region { instance.new.region ≡ instance.old.region }
-    ensures known { (s : Stage) → Knows instance.old (at + 1) pass.around pass.sum s → AreBeside (drop (at + 1) instance.old.region.pieces) s.beside
-        → Knows instance.new at result.around result.sum (piece_step (types_of model.now) (before_view before) (Ends (edge_of edge)) (drop (at + 1) instance.old.region.pieces) s) }
+    ensures known { (before : BeforeOf) → next ≡ next_slot before → (s : Stage) → Knows instance.old (at + 1) pass.around pass.sum s → AreBeside (drop (at + 1) instance.old.region.pieces) s.beside
+        → Knows instance.new at result.around result.sum (piece_step (types_of model.now) before (Ends (edge_of edge)) (drop (at + 1) instance.old.region.pieces) s) }
     ensures most { result.sum ≤ pass.sum + 50000 }
 {
     let _count = instance.count();
     instance.set_len(at, pass.sum);
     instance.set_group(at, pass.around as u64);
     Pass {
-        sum: pass.sum + behind_size(model, edge.target, before),
+        sum: pass.sum + rest_size(model, edge.target, next),
         around: at,
     }
 }
@@ -173,7 +157,7 @@ fn fill(
 ) -> Pass
     requires room { pass.sum < 15000000000000000000 }
     requires place { at < length instance.now.region.pieces }
-    requires size { IsSizeBefore instance.now.region.pieces (at + 1) size }
+    requires size { IsSizeAt (slice_get instance.now.region.pieces at) size }
     ensures known { (l : Leaf) → slice_get instance.now.region.pieces at ≡ Some (Holds l) → (s : Stage) → Knows instance.now (at + 1) pass.around pass.sum s
         → Knows instance.now at result.around result.sum (piece_step (types_of model.now) (before_view before) (Holds l) (drop (at + 1) instance.now.region.pieces) s) }
     ensures most { (p : PieceOf) → slice_get instance.now.region.pieces at ≡ Some p → result.sum ≤ pass.sum + 50000 + piece_bytes p }
@@ -200,7 +184,7 @@ fn filled_size(model: &Model, before: Before, size: u64) -> u64
 fn begin(
     model: &Model,
     instance: &mut Instance,
-    before: Before,
+    next: u64,
     edge: Edge,
     at: usize,
     pass: Pass,
@@ -209,72 +193,145 @@ fn begin(
     requires room { pass.sum < 15000000000000000000 }
     requires known { (s : Stage) × Knows instance.old (at + 1) pass.around pass.sum s × AreWithin s.sum s.frames }
     ensures region { instance.new.region ≡ instance.old.region }
-    ensures known { (s : Stage) → Knows instance.old (at + 1) pass.around pass.sum s
-        → Knows instance.new at result.around result.sum (piece_step (types_of model.now) (before_view before) (Begins (edge_of edge)) (drop (at + 1) instance.old.region.pieces) s) }
+    ensures known { (before : BeforeOf) → next ≡ next_slot before → (s : Stage) → Knows instance.old (at + 1) pass.around pass.sum s
+        → Knows instance.new at result.around result.sum (piece_step (types_of model.now) before (Begins (edge_of edge)) (drop (at + 1) instance.old.region.pieces) s) }
     ensures most { result.sum ≤ pass.sum + 50000 }
 {
     let _count = instance.count();
     let inner = kept_at(instance, pass.around, edge.slot);
-    let opening = begin_heads(model, before, edge);
     let len = pass.sum - inner.behind;
-    let head = head_size(opening.element, len);
-    let group = head + len + inner.following;
+    let sizes = begin_sizes(model, next, edge, len, inner.following);
+    let group = sizes.head + len + inner.following;
     instance.set_len(at, len);
     instance.set_group(at, group);
-    let between = slots_size(model, edge.parent, next_slot(before), edge.slot);
+    let between = slots_size(model, edge.parent, next, edge.slot);
     Pass {
-        sum: pass.sum + between + head_size(opening.list, group) + head,
+        sum: pass.sum + between + sizes.list + sizes.head,
         around: inner.around,
     }
 }
 
-/// One piece more, of which this was read, in front of those that were measured.
-fn measure_piece(
+/// The place to which the pass has come, and what it knows there.
+#[derive(Clone, Copy)]
+struct Reached {
+    at: usize,
+    pass: Pass,
+}
+
+/// An element of a simple type in front of the pieces that were measured. Beside its leaf and its end any numbers may stand.
+#[inline(always)]
+fn measure_simple(
     model: &Model,
     instance: &mut Instance,
-    before: Before,
-    seen: Seen,
+    element: SimpleElement,
     at: usize,
     pass: Pass,
 ) -> Pass
-    requires place { at < length instance.old.region.pieces }
-    requires room { pass.sum < 15000000000000000000 }
-    requires before { before_view before ≡ before_place instance.old.region.pieces at }
-    requires seen { before_view seen.before ≡ before_place instance.old.region.pieces (at + 1) }
-    requires size { IsSizeBefore instance.old.region.pieces (at + 1) seen.size }
-    requires known { Knows instance.old (at + 1) pass.around pass.sum (stage (types_of model.now) (before_place instance.old.region.pieces (at + 1)) (drop (at + 1) instance.old.region.pieces)) }
+    requires place { at + 3 ≤ length instance.old.region.pieces }
+    requires simple { IsSimpleAt (types_of model.now) instance.old.region.pieces at (edge_of element.edge) element.size }
+    requires room { pass.sum < 14500000000000000000 }
+    requires known { Knows instance.old (at + 3) pass.around pass.sum (stage (types_of model.now) (before_place instance.old.region.pieces (at + 3)) (drop (at + 3) instance.old.region.pieces)) }
+    requires few { element.size ≤ 1000000000000000 }
     ensures region { instance.new.region ≡ instance.old.region }
     ensures known { Knows instance.new at result.around result.sum (stage (types_of model.now) (before_place instance.old.region.pieces at) (drop at instance.old.region.pieces)) }
-    ensures most { (p : PieceOf) → slice_get instance.old.region.pieces at ≡ Some p → result.sum ≤ pass.sum + 50000 + piece_bytes p }
+    ensures most { result.sum ≤ pass.sum + 50000 + element.size }
 {
     let _count = instance.count();
-    match seen.before {
-        Before::Begun(edge) => begin(model, instance, before, edge, at, pass),
-        Before::Filled => fill(model, instance, before, seen.size, at, pass),
-        Before::Ended(edge) => end(model, instance, before, edge, at, pass),
+    let edge = element.edge;
+    let next = next_at(instance, at);
+    let following = octets_following(instance, at + 3, edge.slot);
+    let sizes = begin_sizes(model, next, edge, element.size, following);
+    instance.set_len(at, element.size);
+    instance.set_group(at, sizes.head + element.size + following);
+    let between = slots_size(model, edge.parent, next, edge.slot);
+    Pass {
+        sum: pass.sum + element.size + between + sizes.list + sizes.head,
+        around: pass.around,
     }
 }
 
-/// Fills in the lengths, and gives the number of contents octets of the whole. Each piece is read once.
+/// An element that ends more in front of those that were measured: the whole of it where its type is simple, else its end.
+#[inline(always)]
+fn measure_ended(
+    model: &Model,
+    instance: &mut Instance,
+    edge: Edge,
+    at: usize,
+    pass: Pass,
+) -> Reached
+    requires place { at < length instance.old.region.pieces }
+    requires piece { slice_get instance.old.region.pieces at ≡ Some (Ends (edge_of edge)) }
+    requires room { pass.sum < 14500000000000000000 }
+    requires known { Knows instance.old (at + 1) pass.around pass.sum (stage (types_of model.now) (before_place instance.old.region.pieces (at + 1)) (drop (at + 1) instance.old.region.pieces)) }
+    ensures region { instance.new.region ≡ instance.old.region }
+    ensures back { result.at ≤ at }
+    ensures known { Knows instance.new result.at result.pass.around result.pass.sum (stage (types_of model.now) (before_place instance.old.region.pieces result.at) (drop result.at instance.old.region.pieces)) }
+    ensures most { result.pass.sum + bytes_of (drop (at + 1) instance.old.region.pieces) ≤ pass.sum + (at + 1 - result.at) * 50000 + bytes_of (drop result.at instance.old.region.pieces) }
+{
+    let _count = instance.count();
+    let Some(element) = simple_before(model, instance, edge, at) else {
+        let next = next_at(instance, at);
+        return Reached {
+            at,
+            pass: end(model, instance, next, edge, at, pass),
+        };
+    };
+    Reached {
+        at: at - 2,
+        pass: measure_simple(model, instance, element, at - 2, pass),
+    }
+}
+
+/// One piece more in front of those that were measured, or the three of an element of a simple type.
+#[inline(always)]
+fn measure_piece(model: &Model, instance: &mut Instance, at: usize, pass: Pass) -> Reached
+    requires place { at < length instance.old.region.pieces }
+    requires room { pass.sum < 14500000000000000000 }
+    requires known { Knows instance.old (at + 1) pass.around pass.sum (stage (types_of model.now) (before_place instance.old.region.pieces (at + 1)) (drop (at + 1) instance.old.region.pieces)) }
+    ensures region { instance.new.region ≡ instance.old.region }
+    ensures back { result.at ≤ at }
+    ensures known { Knows instance.new result.at result.pass.around result.pass.sum (stage (types_of model.now) (before_place instance.old.region.pieces result.at) (drop result.at instance.old.region.pieces)) }
+    ensures most { result.pass.sum + bytes_of (drop (at + 1) instance.old.region.pieces) ≤ pass.sum + (at + 1 - result.at) * 50000 + bytes_of (drop result.at instance.old.region.pieces) }
+{
+    let _count = instance.count();
+    let seen = read(instance, at);
+    match seen.before {
+        Before::Begun(edge) => {
+            let next = next_at(instance, at);
+            Reached {
+                at,
+                pass: begin(model, instance, next, edge, at, pass),
+            }
+        }
+        Before::Filled => {
+            let before = before_at(instance, at);
+            Reached {
+                at,
+                pass: fill(model, instance, before, seen.size, at, pass),
+            }
+        }
+        Before::Ended(edge) => measure_ended(model, instance, edge, at, pass),
+    }
+}
+
+/// Fills in the lengths, and gives the number of contents octets of the whole.
 fn measure_pieces(model: &Model, instance: &mut Instance) -> u64
     ensures region { instance.new.region ≡ instance.old.region }
     ensures whole { result ≡ (stage (types_of model.now) (Begun document_edge) instance.old.region.pieces).sum }
     ensures kept { NumbersAreKept (stage (types_of model.now) (Begun document_edge) instance.old.region.pieces).beside instance.new.lens instance.new.groups }
 {
     let count = instance.count();
-    let mut at = count;
-    let mut seen = read_before(instance, count);
-    let mut pass = Pass {
-        sum: behind_size(model, 0, seen.before),
-        around: count,
+    let mut reached = Reached {
+        at: count,
+        pass: Pass {
+            sum: behind_size(model, 0, before_at(instance, count)),
+            around: count,
+        },
     };
-    while at > 0 {
-        at -= 1;
-        let front = read_before(instance, at);
-        pass = measure_piece(model, instance, front.before, seen, at, pass);
-        seen = front;
+    while reached.at > 0 {
+        reached = measure_piece(model, instance, reached.at - 1, reached.pass);
     }
-    pass.sum
+    reached.pass.sum
 }
 
 /// Keeps the number of contents octets of the whole beside the last piece.

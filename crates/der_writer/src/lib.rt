@@ -23,7 +23,10 @@ mod contents;
 mod head;
 mod heads;
 mod lengths;
+mod openings;
 mod pieces;
+mod places;
+mod simple;
 mod slots;
 mod write;
 

@@ -1,20 +1,18 @@
 // What stands before a piece, and the heads of elements, lists and leaves.
 ghost use Rattle.std.specs.Prelude.{◌≡◌, ◌<◌, ◌^◌, ℕ, Bool, true, false, [], ◌++◌, length, Some, suc, ◌==◌, if◌then◌else◌};
 ghost use Rattle.data_types.specs.Leaf.{Leaf};
-ghost use Rattle.reference_check.specs.Forms.{form_slots};
 ghost use Rattle.message_model.specs.Tables.{types_of};
-ghost use Rattle.message_model.specs.Views.{slot_view, IsFormOf};
+ghost use Rattle.message_model.specs.Views.{IsFormOf};
 ghost use Rattle.der_octets.specs.Octets.{context};
 ghost use Rattle.der_model.specs.LeafContents.{leaf_contents};
 ghost use Rattle.der_model.specs.Structures.{is_constructed, is_one, simple_number};
-ghost use Rattle.inst_pool.specs.Pieces.{edge_of, piece_of};
-ghost use Rattle.der_writer.specs.inner.PieceOctets.{before_of, next_slot, goes_on, head, first_leaf, item_head, list_head, begin_octets, leaf_octets, own_slot};
+ghost use Rattle.der_writer.specs.inner.PieceOctets.{Before as BeforeOf, next_slot, goes_on, head, first_leaf, item_head, leaf_octets};
 ghost use Rattle.der_writer.specs.inner.Heads.{head_octets, before_view};
 
 use crate::head::Head;
 use data_types::Kind;
 use facets::Simple;
-use inst_pool::{Edge, Piece};
+use inst_pool::Edge;
 use message_model::{Form, Model};
 
 /// What stands before a piece: an element that has begun, a leaf, an element that has ended.
@@ -32,16 +30,6 @@ pub(crate) fn next_slot(before: Before) -> u64
     match before {
         Before::Ended(edge) => edge.slot as u64 + 1,
         _ => 0,
-    }
-}
-
-/// Whether an element of the slot stands before.
-fn goes_on(before: Before, slot: u32) -> bool
-    ensures { result ≡ goes_on (before_view before) slot }
-{
-    match before {
-        Before::Ended(edge) => edge.slot == slot,
-        _ => false,
     }
 }
 
@@ -71,7 +59,7 @@ fn simple_number(simple: &Simple) -> u16
 }
 
 /// Whether a value of the type is constructed.
-fn is_constructed(model: &Model, number: u32) -> bool
+pub(crate) fn is_constructed(model: &Model, number: u32) -> bool
     ensures { result ≡ is_constructed (types_of model.now number) }
 {
     match model.form(number) {
@@ -85,7 +73,7 @@ fn is_constructed(model: &Model, number: u32) -> bool
 }
 
 /// The head of an item of the type; a choice has none of its own.
-fn item_head(model: &Model, number: u32) -> Option<Head>
+pub(crate) fn item_head(model: &Model, number: u32) -> Option<Head>
     ensures { (len : ℕ) → head_octets result len ≡ item_head (types_of model.now number) len }
 {
     match model.form(number) {
@@ -98,49 +86,15 @@ fn item_head(model: &Model, number: u32) -> Option<Head>
     }
 }
 
-/// The heads with which an element begins.
-#[derive(Clone, Copy)]
-pub(crate) struct Opening {
-    /// That of the list of its slot, where it is the first item.
-    pub(crate) list: Option<Head>,
-    /// Its own: under the tag of its slot, or that of an item.
-    pub(crate) element: Option<Head>,
-}
-
 /// The head of the list of a slot, where its first item begins.
-fn first_list(before: Before, slot: u32) -> Option<Head>
+pub(crate) fn first_list(next: u64, slot: u32) -> Option<Head>
     requires { slot < 16384 }
-    ensures { (group : ℕ) → head_octets result group ≡ (if goes_on (before_view before) slot then [] else head true (context slot) group) }
+    ensures { (before : BeforeOf) → next ≡ next_slot before → (group : ℕ) → head_octets result group ≡ (if goes_on before slot then [] else head true (context slot) group) }
 {
-    if goes_on(before, slot) {
+    if next == slot as u64 + 1 {
         return None;
     }
     Some(Head::context(true, slot))
-}
-
-/// The heads with which an element begins.
-#[inline(always)]
-pub(crate) fn begin_heads(model: &Model, before: Before, edge: Edge) -> Opening
-    ensures list { (group : ℕ) → head_octets result.list group ≡ list_head (own_slot (types_of model.now) (edge_of edge)) (before_view before) edge.slot group }
-    ensures element { (len : ℕ) → head_octets result.element len ≡ begin_octets (types_of model.now) (edge_of edge) len }
-{
-    let _count = model.type_count();
-    let Some(slot) = model.slot(edge.parent, edge.slot) else {
-        return Opening {
-            list: None,
-            element: None,
-        };
-    };
-    if is_one(slot.max) {
-        return Opening {
-            list: None,
-            element: Some(Head::context(is_constructed(model, edge.target), edge.slot)),
-        };
-    }
-    Opening {
-        list: first_list(before, edge.slot),
-        element: item_head(model, edge.target),
-    }
 }
 
 /// The head of an empty list of a slot with this maximum.
@@ -172,16 +126,5 @@ pub(crate) fn leaf_head(model: &Model, before: Before) -> Option<Head>
         Before::Begun(edge) => first_leaf_head(model, edge.target),
         Before::Filled => Some(Head::context(false, 1)),
         Before::Ended(_) => Some(Head::context(false, 1)),
-    }
-}
-
-/// What stands before the piece behind this one.
-pub(crate) fn behind(piece: &Piece<'_>) -> Before
-    ensures { before_view result ≡ before_of (piece_of piece.now) }
-{
-    match piece {
-        Piece::Open(edge) => Before::Begun(*edge),
-        Piece::Leaf(_) => Before::Filled,
-        Piece::Close(edge) => Before::Ended(*edge),
     }
 }

@@ -15,7 +15,7 @@ use outside::{Sink, SinkError};
 const ALL: u32 = 4096;
 
 /// Whether the type is a sequence.
-fn is_sequence(model: &Model, number: u32) -> bool
+pub(crate) fn is_sequence(model: &Model, number: u32) -> bool
     ensures yes { result ≡ true → form_slots (types_of model.now number) ≡ sequence_slots (types_of model.now number) }
     ensures no { result ≡ false → sequence_slots (types_of model.now number) ≡ [] }
 {
@@ -105,26 +105,47 @@ pub(crate) fn slots_size(model: &Model, number: u32, from: u64, to: u32) -> u64
     }
 }
 
-/// Pushes the slots of a sequence behind a piece, in which nothing has come.
+/// Pushes the slots of a sequence from one on, in which nothing has come. Mostly there is none.
 #[inline(always)]
 pub(crate) fn push_behind<O: Sink>(
     model: &Model,
     number: u32,
-    before: Before,
+    from: u64,
     sink: &mut O,
 ) -> Result<(), SinkError>
-    ensures { Pushes O.held O.faults O.room sink.old sink.new result (slots_behind (types_of model.now) number (before_view before)) }
+    ensures { Pushes O.held O.faults O.room sink.old sink.new result (empty_slots from (drop from (sequence_slots (types_of model.now number)))) }
 {
     let _count = model.type_count();
-    push_slots(model, number, next_slot(before), ALL, sink)
+    if from >= ALL as u64 {
+        return Ok(());
+    }
+    let Some(_) = model.slot(number, from as u32) else {
+        return Ok(());
+    };
+    push_slots(model, number, from, ALL, sink)
 }
 
-/// How many octets that are.
+/// How many octets the slots of a sequence have from one on, in which nothing has come. Mostly there is none.
+#[inline(always)]
+pub(crate) fn rest_size(model: &Model, number: u32, from: u64) -> u64
+    ensures size { result ≡ length (empty_slots from (drop from (sequence_slots (types_of model.now number)))) }
+    ensures most { result ≤ 49152 }
+{
+    let _count = model.type_count();
+    if from >= ALL as u64 {
+        return 0;
+    }
+    let Some(_) = model.slot(number, from as u32) else {
+        return 0;
+    };
+    slots_size(model, number, from, ALL)
+}
+
+/// How many octets the slots of a sequence have behind a piece, in which nothing has come.
 #[inline(always)]
 pub(crate) fn behind_size(model: &Model, number: u32, before: Before) -> u64
     ensures size { result ≡ length (slots_behind (types_of model.now) number (before_view before)) }
     ensures most { result ≤ 49152 }
 {
-    let _count = model.type_count();
-    slots_size(model, number, next_slot(before), ALL)
+    rest_size(model, number, next_slot(before))
 }

@@ -1,5 +1,6 @@
 // The DER of an instance, pushed piece by piece: X.690 §8.1, §10.1.
-ghost use Rattle.std.specs.Prelude.{◌≡◌, ◌++◌, ◌<◌, ◌-◌, ℕ, IsTrue, false, length, slice_index};
+ghost use Rattle.std.specs.Prelude.{◌≡◌, ◌++◌, ◌<◌, ◌≤◌, ◌-◌, ℕ, IsTrue, true, false, [], drop, length, slice_index, if◌then◌else◌};
+ghost use Rattle.der_octets.specs.Octets.{context};
 ghost use Rattle.data_types.specs.Value.{Value, Begins};
 ghost use Rattle.outside.specs.Pushes.{Pushes, as_push};
 ghost use Rattle.fragments.specs.Fragment.{fragment};
@@ -7,116 +8,134 @@ ghost use Rattle.message_model.specs.Admits.{AdmitsAs};
 ghost use Rattle.message_model.specs.Tables.{types_of, pieces_of};
 ghost use Rattle.der_model.specs.DerMessage.{der_message};
 ghost use Rattle.der_model.specs.Der.{der_of};
-ghost use Rattle.inst_pool.specs.Pieces.{edge_of, piece_of};
+ghost use Rattle.inst_pool.specs.Pieces.{edge_of};
 ghost use Rattle.outside.specs.Gathering.{Gathers};
 ghost use Rattle.der_writer.specs.Measured.{IsMeasured};
-ghost use Rattle.der_writer.specs.inner.PieceOctets.{AreNumbersAt, Begun, document_edge, piece_octets, pieces_octets, slots_behind};
-ghost use Rattle.der_writer.specs.inner.Heads.{before_view, head_octets};
+ghost use Rattle.der_writer.specs.inner.PieceOctets.{Before, Begun, begin_octets, document_edge, empty_slots, goes_on, head, item_head, list_head, next_slot, own_slot, piece_octets, pieces_octets, sequence_slots, slots_behind};
+ghost use Rattle.der_writer.specs.inner.Measuring.{before_place, octets_at};
 
 use crate::contents::push_leaf;
 use crate::head::Head;
-use crate::heads::push_head;
-use crate::pieces::{Before, Opening, begin_heads, behind, leaf_head, next_slot};
-use crate::slots::{behind_size, push_behind, push_slots};
-use data_types::LeafRef;
+use crate::heads::{push_context, push_head};
+use crate::pieces::{first_list, is_constructed, is_one, item_head, leaf_head};
+use crate::places::{before_at, next_at, start};
+use crate::slots::{behind_size, is_sequence, push_behind, push_slots};
 use inst_pool::{Edge, Instance, Piece};
 use message_model::Model;
 use outside::{Buffer, Sink, SinkError, WriteError};
 
-/// `Document`, which no piece begins or ends.
-const DOCUMENT: Edge = Edge {
-    slot: 0,
-    target: 0,
-    parent: 0,
-};
-
-/// Nothing has come in `Document`.
-pub(crate) fn start() -> Before
-    ensures { before_view result ≡ Begun document_edge }
+/// Pushes the heads with which an item of a list begins.
+#[inline(never)]
+fn push_item<O: Sink>(
+    model: &Model,
+    instance: &Instance,
+    next: u64,
+    slot: u32,
+    target: u32,
+    at: usize,
+    sink: &mut O,
+) -> Result<(), SinkError>
+    requires place { at < length instance.now.region.pieces }
+    requires slot { slot < 16384 }
+    ensures { (before : Before) → next ≡ next_slot before → Pushes O.held O.faults O.room sink.old sink.new result ((if goes_on before slot then [] else head true (context slot) (slice_index instance.now.groups at)) ++ item_head (types_of model.now target) (slice_index instance.now.lens at)) }
 {
-    Before::Begun(DOCUMENT)
+    if let Err(error) = push_head(first_list(next, slot), instance.group(at), sink) {
+        return Err(error);
+    }
+    push_head(item_head(model, target), instance.len(at), sink)
 }
 
 /// Pushes the heads with which an element begins.
 #[inline(always)]
 fn push_opening<O: Sink>(
-    opening: Opening,
-    len: u64,
-    group: u64,
+    model: &Model,
+    instance: &Instance,
+    next: u64,
+    edge: Edge,
+    at: usize,
     sink: &mut O,
 ) -> Result<(), SinkError>
-    ensures { Pushes O.held O.faults O.room sink.old sink.new result (head_octets opening.list group ++ head_octets opening.element len) }
+    requires { at < length instance.now.region.pieces }
+    ensures { (before : Before) → next ≡ next_slot before → Pushes O.held O.faults O.room sink.old sink.new result (list_head (own_slot (types_of model.now) (edge_of edge)) before edge.slot (slice_index instance.now.groups at) ++ begin_octets (types_of model.now) (edge_of edge) (slice_index instance.now.lens at)) }
 {
-    if let Err(error) = push_head(opening.list, group, sink) {
-        return Err(error);
+    let _count = model.type_count();
+    let Some(slot) = model.slot(edge.parent, edge.slot) else {
+        return Ok(());
+    };
+    if !is_one(slot.max) {
+        return push_item(model, instance, next, edge.slot, edge.target, at, sink);
     }
-    push_head(opening.element, len, sink)
+    let constructed = is_constructed(model, edge.target);
+    push_context(constructed, edge.slot, instance.len(at), sink)
 }
 
 /// Pushes what is written where an element begins.
 #[inline(always)]
 fn push_begin<O: Sink>(
     model: &Model,
-    before: Before,
+    instance: &Instance,
     edge: Edge,
-    len: u64,
-    group: u64,
+    at: usize,
     sink: &mut O,
 ) -> Result<(), SinkError>
-    ensures { Pushes O.held O.faults O.room sink.old sink.new result (piece_octets (types_of model.now) (before_view before) (Begins (edge_of edge)) len group) }
+    requires { at < length instance.now.region.pieces }
+    ensures { Pushes O.held O.faults O.room sink.old sink.new result (piece_octets (types_of model.now) (before_place instance.now.region.pieces at) (Begins (edge_of edge)) (slice_index instance.now.lens at) (slice_index instance.now.groups at)) }
 {
-    let opening = begin_heads(model, before, edge);
-    if let Err(error) = push_slots(model, edge.parent, next_slot(before), edge.slot, sink) {
+    let next = next_at(instance, at);
+    if let Err(error) = push_slots(model, edge.parent, next, edge.slot, sink) {
         return Err(error);
     }
-    push_opening(opening, len, group, sink)
+    push_opening(model, instance, next, edge, at, sink)
 }
 
-/// Pushes what is written at a piece, beside which these numbers stand.
+/// Pushes what is written where an element ends. Where its type has no slots, what stands before is not asked for.
 #[inline(always)]
-fn push_piece<O: Sink>(
+fn push_end<O: Sink>(
     model: &Model,
-    before: Before,
-    piece: &Piece<'_>,
-    len: u64,
-    group: u64,
+    instance: &Instance,
+    target: u32,
+    at: usize,
     sink: &mut O,
 ) -> Result<(), SinkError>
-    ensures { Pushes O.held O.faults O.room sink.old sink.new result (piece_octets (types_of model.now) (before_view before) (piece_of piece.now) len group) }
+    requires { at ≤ length instance.now.region.pieces }
+    ensures { Pushes O.held O.faults O.room sink.old sink.new result (slots_behind (types_of model.now) target (before_place instance.now.region.pieces at)) }
 {
-    match piece {
-        Piece::Open(edge) => push_begin(model, before, *edge, len, group, sink),
-        Piece::Leaf(leaf) => push_leaf(leaf_head(model, before), leaf, sink),
-        Piece::Close(edge) => push_behind(model, edge.target, before, sink),
+    if !is_sequence(model, target) {
+        return Ok(());
     }
+    push_behind(model, target, next_at(instance, at), sink)
 }
 
-/// Whether what is written at the piece may have so few octets.
-fn is_within(piece: &Piece<'_>, spare: usize) -> bool {
-    match piece {
-        Piece::Leaf(LeafRef::Bytes(bytes)) => bytes.len() <= spare,
-        _ => true,
+/// Pushes what is written at the piece at a place.
+#[inline(always)]
+fn push_at<O: Sink>(
+    model: &Model,
+    instance: &Instance,
+    at: usize,
+    sink: &mut O,
+) -> Result<(), SinkError>
+    requires { at < length instance.now.region.pieces }
+    ensures { Pushes O.held O.faults O.room sink.old sink.new result (octets_at (types_of model.now) instance.now at) }
+{
+    match instance.piece(at) {
+        Some(Piece::Open(edge)) => push_begin(model, instance, edge, at, sink),
+        Some(Piece::Leaf(leaf)) => {
+            push_leaf(leaf_head(model, before_at(instance, at)), &leaf, sink)
+        }
+        Some(Piece::Close(edge)) => push_end(model, instance, edge.target, at, sink),
+        None => Ok(()),
     }
 }
 
 /// Puts what is written at a piece into the buffer. `false` where it has not the room; it is as before.
 #[inline(always)]
-fn put_piece(
-    model: &Model,
-    before: Before,
-    piece: &Piece<'_>,
-    len: u64,
-    group: u64,
-    buffer: &mut Buffer,
-) -> bool
-    ensures put { IsTrue result → buffer.new ≡ buffer.old ++ piece_octets (types_of model.now) (before_view before) (piece_of piece.now) len group }
+fn put_at(model: &Model, instance: &Instance, at: usize, buffer: &mut Buffer) -> bool
+    requires { at < length instance.now.region.pieces }
+    ensures put { IsTrue result → buffer.new ≡ buffer.old ++ octets_at (types_of model.now) instance.now at }
     ensures kept { result ≡ false → buffer.new ≡ buffer.old }
 {
-    if !is_within(piece, buffer.spare()) {
-        return false;
-    }
     let count = buffer.len();
-    match push_piece(model, before, piece, len, group, buffer) {
+    match push_at(model, instance, at, buffer) {
         Ok(()) => true,
         Err(_) => {
             buffer.truncate(count);
@@ -130,58 +149,35 @@ fn put_piece(
 #[inline(never)]
 fn push_both<O: Sink>(
     model: &Model,
-    before: Before,
-    piece: &Piece<'_>,
-    len: u64,
-    group: u64,
+    instance: &Instance,
+    at: usize,
     buffer: &mut Buffer,
     sink: &mut O,
 ) -> Result<(), SinkError>
-    ensures { Gathers O.held O.faults O.room sink.old sink.new buffer.old buffer.new result (piece_octets (types_of model.now) (before_view before) (piece_of piece.now) len group) }
+    requires { at < length instance.now.region.pieces }
+    ensures { Gathers O.held O.faults O.room sink.old sink.new buffer.old buffer.new result (octets_at (types_of model.now) instance.now at) }
 {
     if let Err(error) = buffer.flush(sink) {
         return Err(error);
     }
-    push_piece(model, before, piece, len, group, sink)
+    push_at(model, instance, at, sink)
 }
 
 /// Puts what is written at a piece into the buffer, where it has room, and else pushes both.
-fn gather_piece<O: Sink>(
+fn gather_at<O: Sink>(
     model: &Model,
-    before: Before,
-    piece: &Piece<'_>,
-    len: u64,
-    group: u64,
+    instance: &Instance,
+    at: usize,
     buffer: &mut Buffer,
     sink: &mut O,
 ) -> Result<(), SinkError>
-    ensures { Gathers O.held O.faults O.room sink.old sink.new buffer.old buffer.new result (piece_octets (types_of model.now) (before_view before) (piece_of piece.now) len group) }
+    requires { at < length instance.now.region.pieces }
+    ensures { Gathers O.held O.faults O.room sink.old sink.new buffer.old buffer.new result (octets_at (types_of model.now) instance.now at) }
 {
-    if put_piece(model, before, piece, len, group, buffer) {
+    if put_at(model, instance, at, buffer) {
         return Ok(());
     }
-    push_both(model, before, piece, len, group, buffer, sink)
-}
-
-/// Two numbers beside a piece.
-#[derive(Clone, Copy)]
-struct Numbers {
-    len: u64,
-    group: u64,
-}
-
-/// The numbers beside a piece. Those of leaves and ends count for nothing, and are not looked up.
-fn numbers_at(instance: &Instance, piece: &Piece<'_>, at: usize) -> Numbers
-    requires { at < length instance.now.region.pieces }
-    ensures { AreNumbersAt instance.now at (piece_of piece.now) result.len result.group }
-{
-    match piece {
-        Piece::Open(_) => Numbers {
-            len: instance.len(at),
-            group: instance.group(at),
-        },
-        _ => Numbers { len: 0, group: 0 },
-    }
+    push_both(model, instance, at, buffer, sink)
 }
 
 /// Pushes what is written at all pieces, by way of a buffer, and at the end of the whole.
@@ -189,41 +185,28 @@ fn push_pieces<O: Sink>(model: &Model, instance: &Instance, sink: &mut O) -> Res
     ensures { Pushes O.held O.faults O.room sink.old sink.new result (pieces_octets (types_of model.now) (Begun document_edge) instance.now.region.pieces instance.now.lens instance.now.groups) }
 {
     let mut buffer = Buffer::new();
-    let mut before = start();
-    for at in 0..instance.count() {
-        let Some(piece) = instance.piece(at) else {
-            unreachable!()
-        };
-        let numbers = numbers_at(instance, &piece, at);
-        if let Err(error) = gather_piece(
-            model,
-            before,
-            &piece,
-            numbers.len,
-            numbers.group,
-            &mut buffer,
-            sink,
-        ) {
+    let count = instance.count();
+    for at in 0..count {
+        if let Err(error) = gather_at(model, instance, at, &mut buffer, sink) {
             return Err(error);
         }
-        before = behind(&piece);
     }
-    push_rest(model, before, buffer, sink)
+    push_rest(model, next_at(instance, count), buffer, sink)
 }
 
 /// Pushes the buffer, and what is written at the end of the whole.
 fn push_rest<O: Sink>(
     model: &Model,
-    before: Before,
+    next: u64,
     mut buffer: Buffer,
     sink: &mut O,
 ) -> Result<(), SinkError>
-    ensures { Pushes O.held O.faults O.room sink.old sink.new result (buffer ++ slots_behind (types_of model.now) 0 (before_view before)) }
+    ensures { Pushes O.held O.faults O.room sink.old sink.new result (buffer ++ empty_slots next (drop next (sequence_slots (types_of model.now 0)))) }
 {
     if let Err(error) = buffer.flush(sink) {
         return Err(error);
     }
-    push_behind(model, 0, before, sink)
+    push_behind(model, 0, next, sink)
 }
 
 /// The number of contents octets of the whole.

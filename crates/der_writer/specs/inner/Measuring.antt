@@ -1,10 +1,13 @@
 -- What the pass that fills in the lengths keeps beside the ends of elements, while their beginnings are still to come.
 use Rattle.std.specs.Prelude.{◌≡◌, ℕ, zero, suc, ◌+◌, ◌≤◌, ◌<◌, ◌==◌, List, [], ◌∷◌, length, Option, Some, None, slice_get, slice_index, if◌then◌else◌}
-use Rattle.data_types.specs.Value.{Piece, Begins, Holds}
+use Rattle.data_types.specs.Leaf.{Leaf}
+use Rattle.data_types.specs.Value.{Edge, Piece, Begins, Holds, Ends}
+use Rattle.facets.specs.declared.simple.Simple.{Simple}
+use Rattle.reference_check.specs.Forms.{Graph}
 use Rattle.inst_pool.specs.Pieces.{Held, leaf_bytes}
 use Rattle.der_model.specs.LeafContents.{leaf_contents}
 use Rattle.der_writer.specs.Measured.{Beside, Free, Counts}
-use Rattle.der_writer.specs.inner.PieceOctets.{Before, Begun, before_of, document_edge}
+use Rattle.der_writer.specs.inner.PieceOctets.{Before, Begun, Filled, before_of, document_edge, leaf_octets, piece_octets, slots_behind}
 use Rattle.der_writer.specs.inner.Passes.{Frame, Stage}
 
 abbrev pub behind_piece : Option Piece → Before
@@ -16,6 +19,14 @@ abbrev pub before_place : List Piece → ℕ → Before
 before_place pieces zero = Begun document_edge
 before_place pieces (suc at) = behind_piece (slice_get pieces at)
 
+abbrev pub octets_there : Graph ℕ Simple → Before → Option Piece → (len group : ℕ) → List ℕ
+octets_there g before None len group = []
+octets_there g before (Some piece) len group = piece_octets g before piece len group
+
+-- what is written at the piece at a place, by the numbers beside it
+abbrev pub octets_at : Graph ℕ Simple → Held → ℕ → List ℕ
+octets_at g held at = octets_there g (before_place held.region.pieces at) (slice_get held.region.pieces at) (slice_index held.lens at) (slice_index held.groups at)
+
 -- so many contents octets a leaf has; they are few more than its bytes
 abbrev pub IsSizeOf : Piece → ℕ → Type 0
 IsSizeOf (Holds leaf) size = (size ≡ length (leaf_contents leaf)) × (size ≤ leaf_bytes leaf + 32)
@@ -24,11 +35,6 @@ IsSizeOf piece size = size ≡ 0
 abbrev pub IsSizeAt : Option Piece → ℕ → Type 0
 IsSizeAt None size = Unit {0}
 IsSizeAt (Some piece) size = IsSizeOf piece size
-
--- so many the piece before a place has
-abbrev pub IsSizeBefore : List Piece → ℕ → ℕ → Type 0
-IsSizeBefore pieces zero size = Unit {0}
-IsSizeBefore pieces (suc at) size = IsSizeAt (slice_get pieces at) size
 
 -- how many octets of slot k stand at a piece, where it begins an element of the slot
 abbrev pub following_piece : Option Piece → ℕ → ℕ → ℕ
@@ -68,3 +74,14 @@ AreBeside (p ∷ ps) (b ∷ bs) = AreBeside ps bs
 -- these numbers stand there
 abbrev pub NumbersAreKept : List Beside → List ℕ → List ℕ → Type 0
 NumbersAreKept bs lens groups = (at len group : ℕ) → slice_get bs at ≡ Some (Counts len group) → (slice_index lens at ≡ len) × (slice_index groups at ≡ group)
+
+-- An element that begins at a place has three pieces: no slots stand behind its leaf, which has so many octets.
+pub record IsSimpleAt (g : Graph ℕ Simple) (pieces : List Piece) (at : ℕ) (edge : Edge) (size : ℕ) : Type 0 where
+  pub leaf : Leaf
+  pub last : Edge
+  pub begins : slice_get pieces at ≡ Some (Begins edge)
+  pub holds : slice_get pieces (at + 1) ≡ Some (Holds leaf)
+  pub ends : slice_get pieces (at + 2) ≡ Some (Ends last)
+  pub octets : size ≡ length (leaf_octets g (Begun edge) leaf)
+  pub few : size ≤ leaf_bytes leaf + 32
+  pub none : length (slots_behind g last.target Filled) ≡ 0

@@ -1,5 +1,5 @@
 -- What is written at a piece: the octets of an instance piece by piece, by the numbers beside each (X.690 §8.1, §8.9, §8.10).
-use Rattle.std.specs.Prelude.{◌≡◌, ℕ, suc, ◌-◌, ◌==◌, Bool, true, false, List, [], ◌∷◌, ◌++◌, length, take, drop, Option, Some, None, slice_get, slice_index, if◌then◌else◌}
+use Rattle.std.specs.Prelude.{ℕ, suc, ◌-◌, ◌==◌, Bool, true, false, List, [], ◌∷◌, ◌++◌, length, take, drop, Option, Some, None, slice_get, slice_index, if◌then◌else◌}
 use Rattle.data_types.specs.Leaf.{Leaf}
 use Rattle.data_types.specs.Value.{Edge, Piece, Begins, Holds, Ends}
 use Rattle.facets.specs.declared.simple.Simple.{Simple}
@@ -8,7 +8,6 @@ use Rattle.reference_check.specs.Forms.{Graph, Form, Slot, form_slots}
 use Rattle.reference_check.specs.Forms as form
 use Rattle.der_model.specs.LeafContents.{leaf_contents}
 use Rattle.der_model.specs.Structures.{is_single, is_constructed, universal_tag}
-use Rattle.inst_pool.specs.Pieces.{Held}
 use Rattle.der_writer.specs.Measured.{Beside, Free, Counts}
 
 -- what stands before a piece: an element that has begun, a leaf, an element that has ended
@@ -101,11 +100,6 @@ abbrev pub piece_octets : Graph ℕ Simple → Before → Piece → ℕ → ℕ 
 piece_octets g before (Begins edge) len group = octets_before g before edge group ++ begin_octets g edge len
 piece_octets g before (Holds leaf) len group = leaf_octets g before leaf
 piece_octets g before (Ends edge) len group = slots_behind g edge.target before
-
--- these numbers stand beside a piece that begins an element; beside another nothing is written by them
-abbrev pub AreNumbersAt : Held → ℕ → Piece → (len group : ℕ) → Type 0
-AreNumbersAt held at (Begins edge) len group = (len ≡ slice_index held.lens at) × (group ≡ slice_index held.groups at)
-AreNumbersAt held at piece len group = Unit {0}
 
 -- what is written at pieces and at the end of the whole, by the numbers beside each
 abbrev pub pieces_octets : Graph ℕ Simple → Before → List Piece → List ℕ → List ℕ → List ℕ

@@ -6,4 +6,4 @@ use Rattle.der_writer.proofs.contents.push_real.Goals as goal
 
 pub returns : goal.returns
 returns g c =
-    same_text g.O.Sink.held g.O.Sink.faults g.O.Sink.room _ _ (ap (λ z. head_octets c.args.head (length z) ++ z) (real_is _ c.args.number.now c.scale-scale.ensures.decimal c.nr3_into-length.ensures.contents)) _ _ c.push_contents.result c.push_contents.ensures
+    same_text g.O.Sink.held g.O.Sink.faults g.O.Sink.room _ _ (ap (λ z. head_octets c.args.head (length z) ++ z) (real_is _ c.args.number c.scale-scale.ensures.decimal c.nr3_into-length.ensures.contents)) _ _ c.push_contents.result c.push_contents.ensures

@@ -9,4 +9,4 @@ length-front (suc n) (x ∷ xs) l = ap suc (length-front n xs (omega arith))
 
 pub returns-clause-size : goal.returns-clause-size
 returns-clause-size c =
-    length-front c.nr3_into.result c.nr3_into.new.buf (omega (arith, c.nr3_into.ensures.bound, c.nr3_into.array_long)) ∙ ap length (real_is _ c.args.number.now c.scale-scale.ensures.decimal c.nr3_into.ensures.contents)
+    length-front c.nr3_into.result c.nr3_into.new.buf (omega (arith, c.nr3_into.ensures.bound, c.nr3_into.array_long)) ∙ ap length (real_is _ c.args.number c.scale-scale.ensures.decimal c.nr3_into.ensures.contents)

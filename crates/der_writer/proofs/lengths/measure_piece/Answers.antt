@@ -1,12 +1,12 @@
-use Rattle.std.proofs.Common.{◌+◌, drop, Some, sym, ap, ◌∙◌, subst}
+use Rattle.std.proofs.Common.{◌+◌, drop, Some, sym, ap, ◌∙◌, subst, arith}
 use Rattle.message_model.specs.Tables.{types_of}
-use Rattle.data_types.specs.Value.{Begins, Holds, Ends}
+use Rattle.data_types.specs.Value.{Begins, Holds}
 use Rattle.inst_pool.specs.Pieces.{edge_of}
 use Rattle.der_writer.specs.inner.Heads.{before_view}
 use Rattle.der_writer.specs.inner.Passes.{piece_step, stage}
 use Rattle.der_writer.specs.inner.Measuring.{Knows, before_place}
-use Rattle.der_writer.proofs.StageBounds.{stage_beside, stage_within}
-use Rattle.der_writer.proofs.KnownStages.{piece_there, begins_there, ends_there, holds_there, stage_at}
+use Rattle.der_writer.proofs.StageBounds.{stage_within}
+use Rattle.der_writer.proofs.KnownStages.{bytes_from, piece_there, next_place, begins_there, ends_there, holds_there, stage_at}
 use Rattle.der_writer.proofs.lengths.measure_piece.Goals as goal
 
 pub begin-requires-clause-known : goal.begin-requires-clause-known
@@ -20,25 +20,16 @@ returns-in-Begun-clause-known c =
     let g = types_of c.args.model.now in
     let s = stage g (before_place ps (c.args.at + 1)) (drop (c.args.at + 1) ps) in
     let p = piece_there ps c.args.at c.requires.place in
-    let is = begins_there p.0 (edge_of c.in-Begun.edge) (sym p.2 ∙ (sym c.requires.seen ∙ ap before_view c.in-Begun.is)) in
+    let read = ap (before_place ps) (next_place c.args.at) ∙ sym c.read-seen.ensures.before in
+    let is = begins_there p.0 (edge_of c.in-Begun.edge) (sym p.2 ∙ (read ∙ ap before_view c.in-Begun.is)) in
     let whole = stage_at g ps c.args.at (Begins (edge_of c.in-Begun.edge)) (p.1 ∙ ap (λ z. Some z) is) in
-    subst (Knows c.begin.new.instance c.args.at c.begin.result.around c.begin.result.sum) (ap (λ b. piece_step g b (Begins (edge_of c.in-Begun.edge)) (drop (c.args.at + 1) ps) s) c.requires.before ∙ sym whole) (c.begin.ensures.known s c.requires.known)
+    subst (Knows c.begin.new.instance c.args.at c.begin.result.around c.begin.result.sum) (sym whole) (c.begin.ensures.known (before_place ps c.args.at) c.next_at-next.ensures s c.requires.known)
 
-pub end-requires-clause-piece : goal.end-requires-clause-piece
-end-requires-clause-piece c =
+pub returns-in-Begun-clause-most : goal.returns-in-Begun-clause-most
+returns-in-Begun-clause-most c =
     let p = piece_there c.args.instance.now.region.pieces c.args.at c.requires.place in
-    p.1 ∙ ap (λ z. Some z) (ends_there p.0 (edge_of c.in-Ended.edge) (sym p.2 ∙ (sym c.requires.seen ∙ ap before_view c.in-Ended.is)))
-
-pub returns-in-Ended-clause-known : goal.returns-in-Ended-clause-known
-returns-in-Ended-clause-known c =
-    let ps = c.args.instance.now.region.pieces in
-    let g = types_of c.args.model.now in
-    let s = stage g (before_place ps (c.args.at + 1)) (drop (c.args.at + 1) ps) in
-    let p = piece_there ps c.args.at c.requires.place in
-    let is = ends_there p.0 (edge_of c.in-Ended.edge) (sym p.2 ∙ (sym c.requires.seen ∙ ap before_view c.in-Ended.is)) in
-    let whole = stage_at g ps c.args.at (Ends (edge_of c.in-Ended.edge)) (p.1 ∙ ap (λ z. Some z) is) in
-    subst (Knows c.end.new.instance c.args.at c.end.result.around c.end.result.sum) (ap (λ b. piece_step g b (Ends (edge_of c.in-Ended.edge)) (drop (c.args.at + 1) ps) s) c.requires.before ∙ sym whole)
-    (c.end.ensures.known s c.requires.known (stage_beside g (before_place ps (c.args.at + 1)) (drop (c.args.at + 1) ps)))
+    let bytes = bytes_from c.args.instance.now.region.pieces c.args.at p.0 p.1 in
+    omega (arith, bytes, c.begin.ensures.most)
 
 pub returns-in-Filled-clause-known : goal.returns-in-Filled-clause-known
 returns-in-Filled-clause-known c =
@@ -46,7 +37,22 @@ returns-in-Filled-clause-known c =
     let g = types_of c.args.model.now in
     let s = stage g (before_place ps (c.args.at + 1)) (drop (c.args.at + 1) ps) in
     let p = piece_there ps c.args.at c.requires.place in
-    let is = holds_there p.0 (sym p.2 ∙ (sym c.requires.seen ∙ ap before_view c.in-Filled.is)) in
+    let read = ap (before_place ps) (next_place c.args.at) ∙ sym c.read-seen.ensures.before in
+    let is = holds_there p.0 (sym p.2 ∙ (read ∙ ap before_view c.in-Filled.is)) in
     let there = p.1 ∙ ap (λ z. Some z) is.1 in
     let whole = stage_at g ps c.args.at (Holds is.0) there in
-    subst (Knows c.args.instance.now c.args.at c.fill.result.around c.fill.result.sum) (ap (λ b. piece_step g b (Holds is.0) (drop (c.args.at + 1) ps) s) c.requires.before ∙ sym whole) (c.fill.ensures.known is.0 there s c.requires.known)
+    subst (Knows c.args.instance.now c.args.at c.fill.result.around c.fill.result.sum) (ap (λ b. piece_step g b (Holds is.0) (drop (c.args.at + 1) ps) s) c.before_at-before.ensures ∙ sym whole) (c.fill.ensures.known is.0 there s c.requires.known)
+
+pub returns-in-Filled-clause-most : goal.returns-in-Filled-clause-most
+returns-in-Filled-clause-most c =
+    let p = piece_there c.args.instance.now.region.pieces c.args.at c.requires.place in
+    let bytes = bytes_from c.args.instance.now.region.pieces c.args.at p.0 p.1 in
+    let most = c.fill.ensures.most p.0 p.1 in
+    omega (arith, bytes, most)
+
+pub measure_ended-requires-clause-piece : goal.measure_ended-requires-clause-piece
+measure_ended-requires-clause-piece c =
+    let ps = c.args.instance.now.region.pieces in
+    let p = piece_there ps c.args.at c.requires.place in
+    let read = ap (before_place ps) (next_place c.args.at) ∙ sym c.read-seen.ensures.before in
+    p.1 ∙ ap (λ z. Some z) (ends_there p.0 (edge_of c.in-Ended.edge) (sym p.2 ∙ (read ∙ ap before_view c.in-Ended.is)))

@@ -1,55 +1,51 @@
-use Rattle.std.proofs.Common.{◌≡◌, ◌+◌, ◌-◌, Some, drop, ap, ap₂, sym, ◌∙◌, subst, arith}
-use Rattle.std.specs.Prelude.{slice_get}
+use Rattle.std.proofs.Common.{◌≡◌, ◌+◌, ◌-◌, drop, sym, ap, ap₂, ◌∙◌, subst, arith}
 use Rattle.message_model.specs.Tables.{types_of}
-use Rattle.inst_pool.specs.Pieces.{bytes_of, piece_bytes}
+use Rattle.inst_pool.specs.Pieces.{bytes_of}
 use Rattle.der_writer.specs.inner.Passes.{stage}
-use Rattle.der_writer.specs.inner.Measuring.{Knows, IsSizeBefore, before_place}
-use Rattle.der_writer.proofs.KnownStages.{piece_there, bytes_from, bytes_within}
+use Rattle.der_writer.specs.inner.Measuring.{Knows, before_place}
+use Rattle.der_writer.proofs.KnownStages.{bytes_within}
 use Rattle.der_writer.proofs.lengths.measure_pieces.Goals as goal
 
-pub measure_piece-pass-requires-clause-room : goal.measure_piece-pass-requires-clause-room
-measure_piece-pass-requires-clause-room c =
-    let bytes = bytes_within c.args.instance.now.region.pieces c.loop-at.at in
+pub measure_piece-reached-requires-clause-room : goal.measure_piece-reached-requires-clause-room
+measure_piece-reached-requires-clause-room c =
+    let bytes = bytes_within c.args.instance.now.region.pieces c.loop-reached.reached.at in
     let bounded = c.count-count.ensures.bounded in
     let nodes = bounded.nodes in
     let all = bounded.bytes in
     let node_limit = bounded.node_limit in
     let byte_limit = bounded.byte_limit in
-    let most = c.loop-at.invariant.most in
+    let most = c.loop-reached.invariant.most in
     omega (arith, bytes, nodes, all, node_limit, byte_limit, most)
 
-pub measure_piece-pass-requires-clause-seen : goal.measure_piece-pass-requires-clause-seen
-measure_piece-pass-requires-clause-seen c =
-    let some = c.loop-at-test.true in
-    let next : c.loop-at.at ≡ c.loop-at.at - 1 + 1 = omega arith in
-    c.loop-at.invariant.seen ∙ ap₂ before_place (sym (ap (λ r. r.pieces) c.loop-at.invariant.region)) next
-
-pub measure_piece-pass-requires-clause-size : goal.measure_piece-pass-requires-clause-size
-measure_piece-pass-requires-clause-size c =
-    let some = c.loop-at-test.true in
-    let next : c.loop-at.at ≡ c.loop-at.at - 1 + 1 = omega arith in
-    subst (λ z. IsSizeBefore z (c.loop-at.at - 1 + 1) c.loop-at.seen.size) (sym (ap (λ r. r.pieces) c.loop-at.invariant.region))
-    (subst (λ n. IsSizeBefore c.args.instance.now.region.pieces n c.loop-at.seen.size) next c.loop-at.invariant.size)
-
-pub loop-at-preserved : goal.loop-at-preserved
-loop-at-preserved c =
+pub measure_piece-reached-requires-clause-known : goal.measure_piece-reached-requires-clause-known
+measure_piece-reached-requires-clause-known c =
     let ps = c.args.instance.now.region.pieces in
-    let at = c.loop-at.at - 1 in
-    let same : c.loop-at.instance.region.pieces ≡ ps = ap (λ r. r.pieces) c.loop-at.invariant.region in
-    let place = c.loop-at.invariant.place in
-    let some = c.loop-at-test.true in
-    let next : at + 1 ≡ c.loop-at.at = omega arith in
-    let p = piece_there ps at (omega (arith, place, some)) in
-    let bytes : bytes_of (drop at ps) ≡ piece_bytes p.0 + bytes_of (drop (at + 1) ps) = bytes_from ps at p.0 p.1 in
-    let later : bytes_of (drop (at + 1) ps) ≡ bytes_of (drop c.loop-at.at ps) = ap (λ z. bytes_of (drop z ps)) next in
-    let there : slice_get c.loop-at.instance.region.pieces at ≡ Some p.0 = ap (λ z. slice_get z at) same ∙ p.1 in
-    let sum = c.measure_piece-pass.ensures.most p.0 there in
-    let before = c.loop-at.invariant.most in
+    let g = types_of c.args.model.now in
+    let at = c.loop-reached.reached.at in
+    let some = c.loop-reached-test.true in
+    let next : at ≡ at - 1 + 1 = omega (arith, some) in
+    let same : ps ≡ c.loop-reached.instance.region.pieces = sym (ap (λ r. r.pieces) c.loop-reached.invariant.region) in
+    subst (λ z. Knows c.loop-reached.instance (at - 1 + 1) c.loop-reached.reached.pass.around c.loop-reached.reached.pass.sum (stage g (before_place z (at - 1 + 1)) (drop (at - 1 + 1) z))) same
+    (subst (λ n. Knows c.loop-reached.instance n c.loop-reached.reached.pass.around c.loop-reached.reached.pass.sum (stage g (before_place ps n) (drop n ps))) next c.loop-reached.invariant.known)
+
+pub loop-reached-preserved : goal.loop-reached-preserved
+loop-reached-preserved c =
+    let ps = c.args.instance.now.region.pieces in
+    let g = types_of c.args.model.now in
+    let old = c.loop-reached.reached.at in
+    let now = c.measure_piece-reached.result in
+    let same : c.loop-reached.instance.region.pieces ≡ ps = ap (λ r. r.pieces) c.loop-reached.invariant.region in
+    let place = c.loop-reached.invariant.place in
+    let some = c.loop-reached-test.true in
+    let next : old - 1 + 1 ≡ old = omega (arith, some) in
+    let back = c.measure_piece-reached.ensures.back in
+    let behind : bytes_of (drop (old - 1 + 1) c.loop-reached.instance.region.pieces) ≡ bytes_of (drop old ps) = ap₂ (λ n z. bytes_of (drop n z)) next same in
+    let front : bytes_of (drop now.at c.loop-reached.instance.region.pieces) ≡ bytes_of (drop now.at ps) = ap (λ z. bytes_of (drop now.at z)) same in
+    let sum = c.measure_piece-reached.ensures.most in
+    let before = c.loop-reached.invariant.most in
     record {
-      region = c.measure_piece-pass.ensures.region ∙ c.loop-at.invariant.region;
-      place = omega (arith, place);
-      seen = c.read_before-front.ensures.before ∙ ap (λ z. before_place z at) same;
-      size = subst (λ z. IsSizeBefore z at c.read_before-front.result.size) same c.read_before-front.ensures.size;
-      known = subst (λ z. Knows c.measure_piece-pass.new.instance at c.measure_piece-pass.result.around c.measure_piece-pass.result.sum (stage (types_of c.args.model.now) (before_place z at) (drop at z))) same c.measure_piece-pass.ensures.known;
-      most = omega (arith, sum, before, bytes, later, place, some);
+      region = c.measure_piece-reached.ensures.region ∙ c.loop-reached.invariant.region;
+      place = omega (arith, place, back);
+      known = subst (λ z. Knows c.measure_piece-reached.new.instance now.at now.pass.around now.pass.sum (stage g (before_place z now.at) (drop now.at z))) same c.measure_piece-reached.ensures.known;
+      most = omega (arith, sum, before, behind, front, place, some, back);
     }

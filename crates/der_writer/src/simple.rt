@@ -1,0 +1,90 @@
+// Elements of a simple type, as most are: three pieces, of which the second is the leaf.
+ghost use Rattle.std.specs.Prelude.{◌≡◌, ◌-◌, ◌<◌, ◌≤◌, true, [], length, slice_get, Some, IfSome};
+ghost use Rattle.data_types.specs.Leaf.{Leaf};
+ghost use Rattle.data_types.specs.Value.{Edge as EdgeOf, Begins, Holds, Ends};
+ghost use Rattle.message_model.specs.Tables.{types_of};
+ghost use Rattle.der_model.specs.LeafContents.{leaf_contents};
+ghost use Rattle.inst_pool.specs.Pieces.{edge_of};
+ghost use Rattle.der_writer.specs.inner.PieceOctets.{first_leaf, sequence_slots};
+ghost use Rattle.der_writer.specs.inner.Measuring.{IsSimpleAt, IsSizeOf};
+
+use crate::contents::leaf_size;
+use inst_pool::{Edge, Instance, Piece};
+use message_model::{Form, Model};
+
+/// An element of a simple type.
+#[derive(Clone, Copy)]
+pub(crate) struct SimpleElement {
+    pub(crate) edge: Edge,
+    /// How many contents octets it has.
+    pub(crate) size: u64,
+}
+
+/// Whether an element of the type holds one leaf, under the tag of the element.
+fn is_simple(model: &Model, number: u32) -> bool
+    ensures leaf { result ≡ true → (leaf : Leaf) → first_leaf (types_of model.now number) leaf ≡ leaf_contents leaf }
+    ensures slots { result ≡ true → sequence_slots (types_of model.now number) ≡ [] }
+{
+    match model.form(number) {
+        Some(Form::Sequence) => false,
+        Some(Form::Choice) => false,
+        Some(Form::Simple(_)) => true,
+        Some(Form::Money { .. }) => false,
+        Some(Form::Envelope) => true,
+        None => false,
+    }
+}
+
+/// The element that begins at a place.
+#[inline(always)]
+fn begun_at(instance: &Instance, at: usize) -> Option<Edge>
+    ensures { IfSome result (λ edge. slice_get instance.now.region.pieces at ≡ Some (Begins (edge_of edge))) }
+{
+    let Some(Piece::Open(edge)) = instance.piece(at) else {
+        return None;
+    };
+    Some(edge)
+}
+
+/// How many contents octets the leaf at a place has.
+#[inline(always)]
+fn size_at(instance: &Instance, at: usize) -> Option<u64>
+    ensures { IfSome result (λ size. (leaf : Leaf) × (slice_get instance.now.region.pieces at ≡ Some (Holds leaf)) × IsSizeOf (Holds leaf) size) }
+{
+    let Some(Piece::Leaf(leaf)) = instance.piece(at) else {
+        return None;
+    };
+    Some(leaf_size(&leaf))
+}
+
+/// The element of a simple type that ends at a place with this edge.
+#[inline(always)]
+pub(crate) fn simple_before(
+    model: &Model,
+    instance: &Instance,
+    last: Edge,
+    at: usize,
+) -> Option<SimpleElement>
+    requires place { at < length instance.now.region.pieces }
+    requires last { slice_get instance.now.region.pieces at ≡ Some (Ends (edge_of last)) }
+    ensures place { IfSome result (λ element. 2 ≤ at) }
+    ensures simple { IfSome result (λ element. IsSimpleAt (types_of model.now) instance.now.region.pieces (at - 2) (edge_of element.edge) element.size) }
+{
+    let _count = instance.count();
+    if !is_simple(model, last.target) {
+        return None;
+    }
+    if at < 2 {
+        return None;
+    }
+    let Some(edge) = begun_at(instance, at - 2) else {
+        return None;
+    };
+    if edge.target != last.target {
+        return None;
+    }
+    let Some(size) = size_at(instance, at - 1) else {
+        return None;
+    };
+    Some(SimpleElement { edge, size })
+}
