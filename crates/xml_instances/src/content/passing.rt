@@ -1,5 +1,5 @@
 // Tags that break no rule: taken without what a refusal needs.
-ghost use Rattle.std.specs.Prelude.{◌≡◌, ◌++◌, ◌∷◌, ℕ, List, [], IfOk, OnOk, IfSome, None, Some, true, false};
+ghost use Rattle.std.specs.Prelude.{◌≡◌, ◌<◌, ◌++◌, ◌∷◌, ℕ, List, [], IfOk, OnOk, IfSome, None, Some, true, false, vec_len, vec_capacity};
 ghost use Rattle.lexical_core.specs.Tree.{Expanded, Starts, Ends};
 ghost use Rattle.facets.specs.declared.simple.Simple.{Simple as SimpleType};
 ghost use Rattle.markup.specs.PlainTags.{tag_items};
@@ -91,16 +91,16 @@ impl Content {
     }
 
     /// One more element stands round the next.
+    #[inline(always)]
     fn push_round(&mut self, opened: Opened) -> Result<(), AllocError>
         ensures text { self.new.text ≡ self.old.text }
         ensures checks { self.new.checks ≡ self.old.checks }
         ensures round { OnOk result (self.new.round.items ≡ self.old.round.items ++ opened ∷ []) }
         ensures pieces { self.new.pieces ≡ self.old.pieces }
     {
-        match self.round.push(opened) {
-            Ok(()) => Ok(()),
-            Err(_) => Err(AllocError),
-        }
+        make_room(&mut self.round)?;
+        self.round.push_reserved(opened);
+        Ok(())
     }
 
     /// The innermost element ends, as in `pass_tag`.
@@ -244,5 +244,29 @@ fn is_complete(model: &Model, number: u32, last: Option<u32>, count: u64) -> boo
         End::Fine => true,
         End::Missing(_) => false,
         End::NoAlternative => false,
+    }
+}
+
+/// Makes room for one more element.
+#[inline(always)]
+fn make_room(round: &mut Vec<Opened>) -> Result<(), AllocError>
+    ensures items { round.new.items ≡ round.old.items }
+    ensures room { OnOk result (vec_len round.new < vec_capacity round.new) }
+{
+    if round.len() < round.capacity() {
+        return Ok(());
+    }
+    widen(round)
+}
+
+/// Makes room where there is none.
+#[inline(never)]
+fn widen(round: &mut Vec<Opened>) -> Result<(), AllocError>
+    ensures items { round.new.items ≡ round.old.items }
+    ensures room { OnOk result (vec_len round.new < vec_capacity round.new) }
+{
+    match round.reserve(1) {
+        Ok(()) => Ok(()),
+        Err(_) => Err(AllocError),
     }
 }
