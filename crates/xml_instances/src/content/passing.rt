@@ -1,5 +1,5 @@
 // Tags that break no rule: taken without what a refusal needs.
-ghost use Rattle.std.specs.Prelude.{◌≡◌, ◌<◌, ◌++◌, ◌∷◌, ℕ, List, [], IfOk, OnOk, IfSome, None, Some, true, false, vec_len, vec_capacity};
+ghost use Rattle.std.specs.Prelude.{◌≡◌, ◌++◌, ◌∷◌, ℕ, List, [], IfOk, OnOk, IfSome, None, Some, true, false};
 ghost use Rattle.lexical_core.specs.Tree.{Expanded, Starts, Ends};
 ghost use Rattle.facets.specs.declared.simple.Simple.{Simple as SimpleType};
 ghost use Rattle.markup.specs.PlainTags.{tag_items};
@@ -16,6 +16,7 @@ ghost use Rattle.xml_instances.specs.Verdicts.{IsLean};
 
 use super::attributes::is_money;
 use super::{Content, OpenText, counted};
+use crate::growth::make_room;
 use crate::opened::Opened;
 use crate::pieces::{Pieces, begin};
 use crate::texts::pass_leaf;
@@ -244,29 +245,5 @@ fn is_complete(model: &Model, number: u32, last: Option<u32>, count: u64) -> boo
         End::Fine => true,
         End::Missing(_) => false,
         End::NoAlternative => false,
-    }
-}
-
-/// Makes room for one more element.
-#[inline(always)]
-fn make_room(round: &mut Vec<Opened>) -> Result<(), AllocError>
-    ensures items { round.new.items ≡ round.old.items }
-    ensures room { OnOk result (vec_len round.new < vec_capacity round.new) }
-{
-    if round.len() < round.capacity() {
-        return Ok(());
-    }
-    widen(round)
-}
-
-/// Makes room where there is none.
-#[inline(never)]
-fn widen(round: &mut Vec<Opened>) -> Result<(), AllocError>
-    ensures items { round.new.items ≡ round.old.items }
-    ensures room { OnOk result (vec_len round.new < vec_capacity round.new) }
-{
-    match round.reserve(1) {
-        Ok(()) => Ok(()),
-        Err(_) => Err(AllocError),
     }
 }
