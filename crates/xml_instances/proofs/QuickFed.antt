@@ -26,6 +26,7 @@ use Rattle.xml_instances.specs.EventFaults.{Broken, AreFine, FirstFault}
 use Rattle.xml_instances.specs.XmlFaults.{XmlFault, items_told}
 use Rattle.xml_instances.specs.Open.{IsOpen}
 use Rattle.xml_instances.specs.inner.Quick.{AreItemsTaken, IsRunTaken, IsOurs}
+use Rattle.xml_instances.specs.inner.Fronts.{TagTaken}
 use Rattle.xml_instances.specs.Checking.{HasFed, Stops, IsTold, TakesFront, fault_of, fed}
 use Rattle.xml_instances.specs.declared.content.Content.{Content}
 use Rattle.xml_instances.specs.declared.opened.Refusal.{Refusal}
@@ -204,10 +205,6 @@ tag_within piece o tag e h = let k = subst (λ (v : Option PlainTag). IfSome v (
 
 pub tag_moved : (old new : Reader) (o : Option PlainTag) (tag : PlainTag) → o ≡ Some tag → IfSome o (λ t. taken new ≡ taken old + t.bytes) → taken new ≡ taken old + tag.bytes
 tag_moved old new o tag e h = subst (λ (v : Option PlainTag). IfSome v (λ t. taken new ≡ taken old + t.bytes)) e h
-
--- what the content answers
-abbrev pub TagTaken : {U : Type 0} → Message ℕ → Content → Content → TagKind → List ℕ → Result U Refusal → Type 0
-TagTaken m old new kind name r = (ls : List (Level ℕ)) (n : Expanded) → n.local ≡ name → IsOurs m ls n → IsOpen old m ls → AreItemsTaken m ls (tag_items kind n) new r
 
 -- what it shows
 abbrev pub TagShown : Tables → Content → Content → TagKind → List ℕ → Type 0

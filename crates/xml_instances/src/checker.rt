@@ -18,6 +18,7 @@ ghost use Rattle.xml_instances.specs.Scratch.{scratch, token, KeepsNoLeaf, Keeps
 ghost use Rattle.xml_instances.specs.Verdicts.{IsLean, HasFreeText};
 
 mod fronts;
+mod held;
 mod references;
 
 use crate::content::Content;
@@ -214,14 +215,15 @@ impl XmlChecker {
         ensures err { (bytes : List ℕ) → HasFed self.old model.now bytes → IfErr result (λ e. Stops model.now (bytes ++ piece.now) e) }
         ensures count { IfOk result (λ _. fed self.new ≡ fed self.old + length piece.now) }
     {
+        let mut stop = InstanceError::Memory;
         let mut rest = piece;
         while !rest.is_empty() {
-            match self.take_front(model, rest) {
+            match self.take_front(model, rest, &mut stop) {
                 Ok(count) => {
                     let (_, behind) = rest.split_at(count);
                     rest = behind;
                 }
-                Err(error) => return Err(error),
+                Err(_) => return Err(stop),
             }
         }
         Ok(())

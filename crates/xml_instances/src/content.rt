@@ -370,6 +370,7 @@ impl Content {
     }
 
     /// The element of the type is open.
+    #[inline(always)]
     fn begin(&mut self, model: &Model, number: u32) -> Result<(), AllocError>
         requires { AreMade (types_of model.now) self.old }
         ensures made { AreMade (types_of model.now) self.new }

@@ -13,6 +13,7 @@ ghost use Rattle.respell.specs.Respelling.{HasSortedAttributes};
 ghost use Rattle.xml_instances.specs.Built.{Shown, nothing_shown, type_at, with_begun, with_leaf, with_inside, closed, FragmentShown};
 ghost use Rattle.xml_instances.specs.Keeping.{HasShown, GoOn, IsInnermostDefault, IsKeptDefault, with_all_inside};
 
+use crate::growth::make_room;
 use data_types::LeafRef;
 use inst_pool::{Builder, Edge, Instance};
 use markup::{Event, TagKind};
@@ -66,23 +67,23 @@ impl Pieces {
     }
 
     /// An element begins: its slot in the innermost one, and its type.
-    #[inline(never)]
+    #[inline(always)]
     fn begin(&mut self, slot: u32, target: u32) -> Result<(), AllocError>
         ensures { (s : Shown) → HasShown self.old s
             → OnOk result (HasShown self.new (with_begun (Some (record { slot = slot; target = target; parent = type_at s.edges })) s)) }
     {
         let parent = self.innermost();
-        self.types.push(target)?;
+        make_room(&mut self.types)?;
         match self.builder.begin(Edge {
             slot,
             target,
             parent,
         }) {
-            Ok(()) => Ok(()),
-            Err(error) => {
-                self.types.pop();
-                Err(error)
+            Ok(()) => {
+                self.types.push_reserved(target);
+                Ok(())
             }
+            Err(error) => Err(error),
         }
     }
 
@@ -103,7 +104,7 @@ impl Pieces {
     }
 
     /// The innermost element ends.
-    #[inline(never)]
+    #[inline(always)]
     fn close(&mut self) -> Result<(), AllocError>
         ensures { (s : Shown) → HasShown self.old s → OnOk result (HasShown self.new (closed s)) }
     {

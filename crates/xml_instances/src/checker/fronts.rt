@@ -1,20 +1,132 @@
 // Fronts of a piece that a checker takes: whole tags, whole references, runs of characters, bytes inside tokens, single bytes.
 ghost use Rattle.std.specs.Prelude.{◌≡◌, ◌<◌, ◌+◌, ◌≤◌, ◌^◌, IfOk, length};
 ghost use Rattle.message_model.specs.Tables.{types_of};
+ghost use Rattle.message_model.specs.declared.fault.InstanceError.TheVariants.{Memory};
 ghost use Rattle.xml_instances.specs.Checking.{IsMadeFor, TakesFront, fed};
+ghost use Rattle.xml_instances.specs.inner.Fronts.{because};
 ghost use Rattle.xml_instances.specs.inner.Quick.{HasRoom};
 ghost use Rattle.xml_instances.specs.Scratch.{KeepsNoLeaf};
 ghost use Rattle.xml_instances.specs.declared.content.quick.Room.TheVariants.{All as AllCharacters, Blanks as BlankCharacters};
 
-use super::{XmlChecker, take_all, told};
+use super::held::hold_tag;
+use super::{XmlChecker, take_all};
 use crate::content::Room;
 use markup::MarkError;
 use message_model::{InstanceError, Model};
+use std::alloc::AllocError;
 
 impl XmlChecker {
     /// Takes a whole tag, a whole reference, a run of characters, bytes inside a token or else a byte from
     /// the front of the piece, and answers how many bytes that are. Its first byte says which is tried.
-    pub(crate) fn take_front(&mut self, model: &Model, piece: &[u8]) -> Result<usize, InstanceError>
+    /// Where it stops it says why in `stop`, so that the answers of all that goes on are small.
+    pub(crate) fn take_front(
+        &mut self,
+        model: &Model,
+        piece: &[u8],
+        stop: &mut InstanceError,
+    ) -> Result<usize, AllocError>
+        requires some { 0 < length piece.now }
+        requires room { fed self.old + length piece.now ≤ 2 ^ 40 }
+        requires made { IsMadeFor self.old model.now }
+        requires none { stop.old ≡ Memory }
+        ensures made { IsMadeFor self.new model.now }
+        ensures lean { KeepsNoLeaf self.old → KeepsNoLeaf self.new }
+        ensures front { TakesFront model.now self.old self.new piece.now (because stop.new result) }
+        ensures some { IfOk result (λ n. 0 < n) }
+        ensures none { IfOk result (λ _. stop.new ≡ Memory) }
+    {
+        if piece[0] == b'<' {
+            self.take_mark(model, piece, stop)
+        } else if piece[0] == b'&' {
+            self.take_otherwise(model, piece, stop)
+        } else {
+            self.take_plain(model, piece, stop)
+        }
+    }
+
+    /// Takes a whole tag, bytes inside a token or else a byte from the front of the piece.
+    fn take_mark(
+        &mut self,
+        model: &Model,
+        piece: &[u8],
+        stop: &mut InstanceError,
+    ) -> Result<usize, AllocError>
+        requires some { 0 < length piece.now }
+        requires room { fed self.old + length piece.now ≤ 2 ^ 40 }
+        requires made { IsMadeFor self.old model.now }
+        requires none { stop.old ≡ Memory }
+        ensures made { IsMadeFor self.new model.now }
+        ensures lean { KeepsNoLeaf self.old → KeepsNoLeaf self.new }
+        ensures front { TakesFront model.now self.old self.new piece.now (because stop.new result) }
+        ensures some { IfOk result (λ n. 0 < n) }
+        ensures none { IfOk result (λ _. stop.new ≡ Memory) }
+    {
+        let tag = match self.take_tag(model, piece, stop) {
+            Ok(tag) => tag,
+            Err(error) => return Err(error),
+        };
+        if tag > 0 {
+            return Ok(tag);
+        }
+        self.take_otherwise(model, piece, stop)
+    }
+
+    /// Takes a run of characters, bytes inside a token or else a byte from the front of the piece.
+    fn take_plain(
+        &mut self,
+        model: &Model,
+        piece: &[u8],
+        stop: &mut InstanceError,
+    ) -> Result<usize, AllocError>
+        requires some { 0 < length piece.now }
+        requires room { fed self.old + length piece.now ≤ 2 ^ 40 }
+        requires made { IsMadeFor self.old model.now }
+        requires none { stop.old ≡ Memory }
+        ensures made { IsMadeFor self.new model.now }
+        ensures lean { KeepsNoLeaf self.old → KeepsNoLeaf self.new }
+        ensures front { TakesFront model.now self.old self.new piece.now (because stop.new result) }
+        ensures some { IfOk result (λ n. 0 < n) }
+        ensures none { IfOk result (λ _. stop.new ≡ Memory) }
+    {
+        let run = match self.take_run(model, piece) {
+            Ok(run) => run,
+            Err(error) => return Err(error),
+        };
+        if run > 0 {
+            return Ok(run);
+        }
+        self.take_otherwise(model, piece, stop)
+    }
+
+    /// Takes what is neither a tag without attributes nor a run of characters from the front of the piece.
+    #[inline(never)]
+    fn take_otherwise(
+        &mut self,
+        model: &Model,
+        piece: &[u8],
+        stop: &mut InstanceError,
+    ) -> Result<usize, AllocError>
+        requires some { 0 < length piece.now }
+        requires room { fed self.old + length piece.now ≤ 2 ^ 40 }
+        requires made { IsMadeFor self.old model.now }
+        requires none { stop.old ≡ Memory }
+        ensures made { IsMadeFor self.new model.now }
+        ensures lean { KeepsNoLeaf self.old → KeepsNoLeaf self.new }
+        ensures front { TakesFront model.now self.old self.new piece.now (because stop.new result) }
+        ensures some { IfOk result (λ n. 0 < n) }
+        ensures none { IfOk result (λ _. stop.new ≡ Memory) }
+    {
+        match self.take_rare(model, piece) {
+            Ok(count) => Ok(count),
+            Err(error) => {
+                *stop = error;
+                Err(AllocError)
+            }
+        }
+    }
+
+    /// Takes a whole reference, a start tag with attributes, bytes inside a token or else a byte from the front of the piece.
+    fn take_rare(&mut self, model: &Model, piece: &[u8]) -> Result<usize, InstanceError>
         requires some { 0 < length piece.now }
         requires room { fed self.old + length piece.now ≤ 2 ^ 40 }
         requires made { IsMadeFor self.old model.now }
@@ -24,16 +136,16 @@ impl XmlChecker {
         ensures some { IfOk result (λ n. 0 < n) }
     {
         if piece[0] == b'<' {
-            self.take_mark(model, piece)
+            self.take_starting(model, piece)
         } else if piece[0] == b'&' {
             self.take_referring(model, piece)
         } else {
-            self.take_plain(model, piece)
+            self.take_slowly(model, piece)
         }
     }
 
-    /// Takes a whole tag, bytes inside a token or else a byte from the front of the piece.
-    fn take_mark(&mut self, model: &Model, piece: &[u8]) -> Result<usize, InstanceError>
+    /// Takes a start tag with attributes, bytes inside a token or else a byte from the front of the piece.
+    fn take_starting(&mut self, model: &Model, piece: &[u8]) -> Result<usize, InstanceError>
         requires some { 0 < length piece.now }
         requires room { fed self.old + length piece.now ≤ 2 ^ 40 }
         requires made { IsMadeFor self.old model.now }
@@ -42,13 +154,6 @@ impl XmlChecker {
         ensures front { TakesFront model.now self.old self.new piece.now result }
         ensures some { IfOk result (λ n. 0 < n) }
     {
-        let tag = match self.take_tag(model, piece) {
-            Ok(tag) => tag,
-            Err(error) => return Err(error),
-        };
-        if tag > 0 {
-            return Ok(tag);
-        }
         let start = match self.take_start(model, piece) {
             Ok(start) => start,
             Err(error) => return Err(error),
@@ -79,26 +184,6 @@ impl XmlChecker {
         self.take_slowly(model, piece)
     }
 
-    /// Takes a run of characters, bytes inside a token or else a byte from the front of the piece.
-    fn take_plain(&mut self, model: &Model, piece: &[u8]) -> Result<usize, InstanceError>
-        requires some { 0 < length piece.now }
-        requires room { fed self.old + length piece.now ≤ 2 ^ 40 }
-        requires made { IsMadeFor self.old model.now }
-        ensures made { IsMadeFor self.new model.now }
-        ensures lean { KeepsNoLeaf self.old → KeepsNoLeaf self.new }
-        ensures front { TakesFront model.now self.old self.new piece.now result }
-        ensures some { IfOk result (λ n. 0 < n) }
-    {
-        let run = match self.take_run(model, piece) {
-            Ok(run) => run,
-            Err(error) => return Err(error),
-        };
-        if run > 0 {
-            return Ok(run);
-        }
-        self.take_slowly(model, piece)
-    }
-
     /// Takes bytes inside a token or else a byte from the front of the piece.
     fn take_slowly(&mut self, model: &Model, piece: &[u8]) -> Result<usize, InstanceError>
         requires some { 0 < length piece.now }
@@ -121,12 +206,12 @@ impl XmlChecker {
 
     /// Takes the run of characters at the front of the piece that may stand in the innermost element,
     /// if there is one.
-    fn take_run(&mut self, model: &Model, piece: &[u8]) -> Result<usize, InstanceError>
+    fn take_run(&mut self, model: &Model, piece: &[u8]) -> Result<usize, AllocError>
         requires room { fed self.old + length piece.now ≤ 2 ^ 40 }
         requires made { IsMadeFor self.old model.now }
         ensures made { IsMadeFor self.new model.now }
         ensures lean { KeepsNoLeaf self.old → KeepsNoLeaf self.new }
-        ensures front { TakesFront model.now self.old self.new piece.now result }
+        ensures front { TakesFront model.now self.old self.new piece.now (because Memory result) }
     {
         match self.content.room(model) {
             Room::All => self.take_characters(model, piece),
@@ -136,13 +221,13 @@ impl XmlChecker {
     }
 
     /// Takes the run of characters at the front of the piece, where all may stand.
-    fn take_characters(&mut self, model: &Model, piece: &[u8]) -> Result<usize, InstanceError>
+    fn take_characters(&mut self, model: &Model, piece: &[u8]) -> Result<usize, AllocError>
         requires room { fed self.old + length piece.now ≤ 2 ^ 40 }
         requires made { IsMadeFor self.old model.now }
         requires fits { HasRoom (types_of model.now) self.old.content.innermost AllCharacters }
         ensures made { IsMadeFor self.new model.now }
         ensures lean { KeepsNoLeaf self.old → KeepsNoLeaf self.new }
-        ensures front { TakesFront model.now self.old self.new piece.now result }
+        ensures front { TakesFront model.now self.old self.new piece.now (because Memory result) }
     {
         let run = self.reader.take_characters(piece);
         if run.bytes == 0 {
@@ -156,18 +241,18 @@ impl XmlChecker {
                 self.place = self.place.saturating_add(run.bytes as u64);
                 Ok(run.bytes)
             }
-            Err(_) => Err(InstanceError::Memory),
+            Err(error) => Err(error),
         }
     }
 
     /// Takes the white space at the front of the piece, where that may stand.
-    fn take_blanks(&mut self, model: &Model, piece: &[u8]) -> Result<usize, InstanceError>
+    fn take_blanks(&mut self, model: &Model, piece: &[u8]) -> Result<usize, AllocError>
         requires room { fed self.old + length piece.now ≤ 2 ^ 40 }
         requires made { IsMadeFor self.old model.now }
         requires fits { HasRoom (types_of model.now) self.old.content.innermost BlankCharacters }
         ensures made { IsMadeFor self.new model.now }
         ensures lean { KeepsNoLeaf self.old → KeepsNoLeaf self.new }
-        ensures front { TakesFront model.now self.old self.new piece.now result }
+        ensures front { TakesFront model.now self.old self.new piece.now (because Memory result) }
     {
         let count = self.reader.take_blanks(piece);
         if count == 0 {
@@ -178,12 +263,19 @@ impl XmlChecker {
     }
 
     /// Takes the whole tag at the front of the piece, if one stands there without attributes.
-    fn take_tag(&mut self, model: &Model, piece: &[u8]) -> Result<usize, InstanceError>
+    fn take_tag(
+        &mut self,
+        model: &Model,
+        piece: &[u8],
+        stop: &mut InstanceError,
+    ) -> Result<usize, AllocError>
         requires room { fed self.old + length piece.now ≤ 2 ^ 40 }
         requires made { IsMadeFor self.old model.now }
+        requires none { stop.old ≡ Memory }
         ensures made { IsMadeFor self.new model.now }
         ensures lean { KeepsNoLeaf self.old → KeepsNoLeaf self.new }
-        ensures front { TakesFront model.now self.old self.new piece.now result }
+        ensures front { TakesFront model.now self.old self.new piece.now (because stop.new result) }
+        ensures none { IfOk result (λ _. stop.new ≡ Memory) }
     {
         markup::laws::events_stay();
         if self.content.keeps_names() {
@@ -193,14 +285,14 @@ impl XmlChecker {
         let tag = match self.reader.take_tag(piece) {
             Ok(Some(tag)) => tag,
             Ok(None) => return Ok(0),
-            Err(_) => return Err(InstanceError::Memory),
+            Err(_) => return Err(AllocError),
         };
-        match self.content.take_tag(model, tag.kind, tag.name) {
+        match hold_tag(&mut self.content, model, tag.kind, tag.name, place, stop) {
             Ok(()) => {
                 self.place = self.place.saturating_add(tag.bytes as u64);
                 Ok(tag.bytes)
             }
-            Err(refusal) => Err(told(refusal, place)),
+            Err(error) => Err(error),
         }
     }
 

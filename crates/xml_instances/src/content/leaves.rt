@@ -75,6 +75,7 @@ impl Content {
     }
 
     /// What judges a text of the type, before its first character.
+    #[inline]
     pub(crate) fn check_for(
         &mut self,
         model: &Model,
@@ -127,6 +128,7 @@ impl Content {
     }
 
     /// A text of the type is open.
+    #[inline]
     pub(crate) fn begin_text(
         &mut self,
         model: &Model,
@@ -165,6 +167,7 @@ fn text_scratch(text: &Option<OpenText>) -> u64
 }
 
 /// What judges a text of the type, and was never used. It gives the leaf where pieces are kept.
+#[inline(never)]
 fn fresh(alloc: Global, simple: &Simple, pieces: &Option<Pieces>) -> Result<Box<Judge>, AllocError>
     requires { IsWithinLimits simple.now }
     ensures taken { IfOk result (λ judge. HasTaken judge.value simple.now []) }

@@ -16,6 +16,7 @@ ghost use Rattle.xml_instances.specs.Verdicts.{IsLean};
 
 use super::attributes::is_money;
 use super::{Content, OpenText, counted};
+use crate::growth::make_room;
 use crate::opened::Opened;
 use crate::pieces::{Pieces, begin};
 use crate::texts::pass_leaf;
@@ -91,16 +92,16 @@ impl Content {
     }
 
     /// One more element stands round the next.
+    #[inline(always)]
     fn push_round(&mut self, opened: Opened) -> Result<(), AllocError>
         ensures text { self.new.text ≡ self.old.text }
         ensures checks { self.new.checks ≡ self.old.checks }
         ensures round { OnOk result (self.new.round.items ≡ self.old.round.items ++ opened ∷ []) }
         ensures pieces { self.new.pieces ≡ self.old.pieces }
     {
-        match self.round.push(opened) {
-            Ok(()) => Ok(()),
-            Err(_) => Err(AllocError),
-        }
+        make_room(&mut self.round)?;
+        self.round.push_reserved(opened);
+        Ok(())
     }
 
     /// The innermost element ends, as in `pass_tag`.

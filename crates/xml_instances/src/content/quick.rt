@@ -1,5 +1,5 @@
 // Runs of characters and whole tags, held to the types of the message.
-ghost use Rattle.std.specs.Prelude.{◌≡◌, ◌++◌, ℕ, List, [], OnOk, map};
+ghost use Rattle.std.specs.Prelude.{◌≡◌, ◌++◌, ℕ, List, [], Some, OnOk, map};
 ghost use Rattle.lexical_core.specs.Tree.{Expanded, Starts, Char};
 ghost use Rattle.facets.specs.declared.simple.Simple.{Simple as SimpleType};
 ghost use Rattle.markup.specs.Literals.{IsRun};
@@ -8,11 +8,11 @@ ghost use Rattle.message_model.specs.Tables.{message_of, types_of};
 ghost use Rattle.xml_instances.specs.Levels.{Level};
 ghost use Rattle.xml_instances.specs.Built.{EventsShow, ShowsBeside, StartShown};
 ghost use Rattle.xml_instances.specs.Keeping.{GoOn, MayShowName, TagShowsBeside};
-ghost use Rattle.xml_instances.specs.Open.{IsOpen, AreMade, IsPlaced, IsItemTaken, HoldsText};
+ghost use Rattle.xml_instances.specs.Open.{IsOpen, AreMade, IsPlaced, IsItemTaken, IsTextMade, HoldsText};
 ghost use Rattle.xml_instances.specs.inner.Quick.{MayTake, HasRoom, IsRunTaken, AreItemsTaken, IsOurs};
-ghost use Rattle.xml_instances.specs.Verdicts.{IsLean};
+ghost use Rattle.xml_instances.specs.Verdicts.{IsLean, IsTextVerdict};
 
-use super::{Content, is_bare, root};
+use super::{Content, OpenText, is_bare, root};
 use crate::opened::{Opened, Refusal};
 use crate::pieces::inside_run;
 use crate::texts::take_run;
@@ -88,45 +88,16 @@ impl Content {
         ensures taken { (r : IsRun run.now count) (simple : SimpleType) (text : List ℕ) → HoldsText (message_of model.now) self.old.text simple text
             → OnOk result (HoldsText (message_of model.now) self.new.text simple (text ++ r.characters)) }
     {
-        let Some(mut open) = self.text.take() else {
-            return Err(AllocError);
-        };
-        let Some(simple) = model.text_type(open.number) else {
-            return Err(AllocError);
-        };
-        let taken = take_run(&mut open.judge, simple, run, count);
-        self.text = Some(open);
-        taken
+        open_run(&mut self.text, model, run, count)
     }
 
     /// Takes a tag without attributes, whose name is in the namespace of the innermost element.
-    pub(crate) fn take_tag(
+    pub(crate) fn take_any_tag(
         &mut self,
         model: &Model,
         kind: TagKind,
         name: &[u8],
     ) -> Result<(), Refusal>
-        requires { AreMade (types_of model.now) self.old }
-        ensures made { AreMade (types_of model.now) self.new }
-        ensures lean { IsLean self.old → IsLean self.new }
-        ensures taken { (ls : List (Level ℕ)) (n : Expanded) → n.local ≡ name.now → IsOurs (message_of model.now) ls n → IsOpen self.old (message_of model.now) ls
-            → AreItemsTaken (message_of model.now) ls (tag_items kind n) self.new result }
-        ensures shown { (ls : List (Level ℕ)) (n : Expanded) → n.local ≡ name.now → IsOurs (message_of model.now) ls n → IsOpen self.old (message_of model.now) ls
-            → MayShowName self.old.pieces self.old.innermost n → OnOk result (GoOn self.old.pieces self.new.pieces (EventsShow model.now ls (tag_items kind n))) }
-    {
-        match self.pass_tag(model, kind, name) {
-            Ok(done) => {
-                if done {
-                    return Ok(());
-                }
-                self.take_any_tag(model, kind, name)
-            }
-            Err(_) => Err(Refusal::Memory),
-        }
-    }
-
-    /// Takes any such tag.
-    fn take_any_tag(&mut self, model: &Model, kind: TagKind, name: &[u8]) -> Result<(), Refusal>
         requires { AreMade (types_of model.now) self.old }
         ensures made { AreMade (types_of model.now) self.new }
         ensures lean { IsLean self.old → IsLean self.new }
@@ -202,5 +173,42 @@ impl Content {
                 },
             ) => self.child(model, number, last, count, local),
         }
+    }
+}
+
+/// A run of characters of the open text.
+fn open_run(
+    text: &mut Option<OpenText>,
+    model: &Model,
+    run: &[u8],
+    count: usize,
+) -> Result<(), AllocError>
+    requires made { IsTextMade (types_of model.now) text.old }
+    requires run { IsRun run.now count }
+    ensures made { IsTextMade (types_of model.now) text.new }
+    ensures verdict { IsTextVerdict text.old → IsTextVerdict text.new }
+    ensures taken { (r : IsRun run.now count) (simple : SimpleType) (taken : List ℕ) → HoldsText (message_of model.now) text.old simple taken
+        → OnOk result (HoldsText (message_of model.now) text.new simple (taken ++ r.characters)) }
+{
+    match text {
+        None => Err(AllocError),
+        Some(open) => open.take_run(model, run, count),
+    }
+}
+
+impl OpenText {
+    /// Takes a run of characters.
+    fn take_run(&mut self, model: &Model, run: &[u8], count: usize) -> Result<(), AllocError>
+        requires made { IsTextMade (types_of model.now) (Some self.old) }
+        requires run { IsRun run.now count }
+        ensures made { IsTextMade (types_of model.now) (Some self.new) }
+        ensures verdict { IsTextVerdict (Some self.old) → IsTextVerdict (Some self.new) }
+        ensures taken { (r : IsRun run.now count) (simple : SimpleType) (taken : List ℕ) → HoldsText (message_of model.now) (Some self.old) simple taken
+            → OnOk result (HoldsText (message_of model.now) (Some self.new) simple (taken ++ r.characters)) }
+    {
+        let Some(simple) = model.text_type(self.number) else {
+            return Err(AllocError);
+        };
+        take_run(&mut self.judge, simple, run, count)
     }
 }

@@ -10,8 +10,9 @@ returns-in-Ok-clause-front c =
     (told_tag c.args.self.now.reader c.take_tag.new.self c.args.piece.now c.in-Ok-Some.field-0 t e (c.in-Ok-Some.ensures.taken _)) (tag_moved c.args.self.now.reader c.take_tag.new.self c.in-Ok-Some.field-0 t e c.in-Ok-Some.ensures.count)
     c.saturating_add-self.ensures refl refl c.in-Ok.ensures.taken c.in-Ok.ensures.shown (c.keeps_names.ensures c.if-keeps_names.false)
 
-pub returns-in-Err-take_tag-clause-front : goal.returns-in-Err-take_tag-clause-front
-returns-in-Err-take_tag-clause-front c =
+pub returns-in-Err-hold_tag-clause-front : goal.returns-in-Err-hold_tag-clause-front
+returns-in-Err-hold_tag-clause-front c =
     let t = c.in-Ok-Some.tag in
-    front_tag_stops c.args.model.now c.args.self.now _ c.args.piece.now t.name.now t.kind t.bytes c.in-Err-take_tag.refusal c.told.result c.events_stay.ensures
-    (told_tag c.args.self.now.reader c.take_tag.new.self c.args.piece.now c.in-Ok-Some.field-0 t c.in-Ok-Some.field-0-is (c.in-Ok-Some.ensures.taken _)) c.in-Err-take_tag.ensures.taken c.told.ensures
+    let k = c.in-Err-hold_tag.ensures.taken in
+    front_tag_stops c.args.model.now c.args.self.now _ c.args.piece.now t.name.now t.kind t.bytes k.0 c.hold_tag.new.stop c.events_stay.ensures
+    (told_tag c.args.self.now.reader c.take_tag.new.self c.args.piece.now c.in-Ok-Some.field-0 t c.in-Ok-Some.field-0-is (c.in-Ok-Some.ensures.taken _)) k.1 k.2

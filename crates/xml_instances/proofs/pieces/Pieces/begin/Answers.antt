@@ -1,4 +1,4 @@
-use Rattle.std.proofs.Common.{◌≡◌}
+use Rattle.std.proofs.Common.{◌≡◌, ◌∙◌, ◌∷◌, ◌++◌, [], ap}
 use Rattle.inst_pool.specs.Pieces.{open_in}
 use Rattle.xml_instances.specs.Built.{type_at}
 use Rattle.xml_instances.proofs.KeptPieces.{begun_types, begun_shown, kept_as}
@@ -6,8 +6,8 @@ use Rattle.xml_instances.proofs.pieces.Pieces.begin.Goals as goal
 
 pub invariant_of-self-in-Ok : goal.invariant_of-self-in-Ok
 invariant_of-self-in-Ok c =
-    begun_types c.self.inside.types.items c.push.new.self.items c.self.inside.builder.pieces c.begin.new.self.pieces (record { slot = c.args.slot; target = c.args.target; parent = c.innermost-parent.result })
-    c.self.invariant c.in_ok-push.ensures.items c.in-Ok.ensures.ok
+    begun_types c.self.inside.types.items c.push_reserved.new.self.items c.self.inside.builder.pieces c.begin.new.self.pieces (record { slot = c.args.slot; target = c.args.target; parent = c.innermost-parent.result })
+    c.self.invariant (c.push_reserved.ensures.items ∙ ap (λ v. v ++ c.args.target ∷ []) c.make_room.ensures.items) c.in-Ok.ensures.ok
 
 pub returns-in-Ok : goal.returns-in-Ok
 returns-in-Ok c =

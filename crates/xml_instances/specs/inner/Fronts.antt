@@ -1,0 +1,35 @@
+-- Fronts of a piece whose refusal is told apart from the answer.
+use Rattle.std.specs.Prelude.{◌≡◌, ℕ, List, Result, Ok, Err, OnOk}
+use Rattle.lexical_core.specs.Tree.{Expanded}
+use Rattle.markup.specs.PlainTags.{tag_items}
+use Rattle.markup.specs.declared.plain_tag.TagKind.{TagKind}
+use Rattle.message_model.specs.Message.{Message}
+use Rattle.message_model.specs.Tables.{Tables, message_of}
+use Rattle.message_model.specs.declared.fault.InstanceError.{InstanceError}
+use Rattle.xml_instances.specs.Levels.{Level}
+use Rattle.xml_instances.specs.Built.{EventsShow}
+use Rattle.xml_instances.specs.Keeping.{GoOn, MayShowName}
+use Rattle.xml_instances.specs.Open.{IsOpen}
+use Rattle.xml_instances.specs.Checking.{IsTold}
+use Rattle.xml_instances.specs.inner.Quick.{AreItemsTaken, IsOurs}
+use Rattle.xml_instances.specs.declared.content.Content.{Content}
+use Rattle.xml_instances.specs.declared.opened.Refusal.{Refusal}
+
+-- the answer, with why it stops
+abbrev pub because : {T E : Type 0} → InstanceError → Result T E → Result T InstanceError
+because stop (Ok x) = Ok x
+because stop (Err e) = Err stop
+
+-- what the content answers to a tag
+abbrev pub TagTaken : {U : Type 0} → Message ℕ → Content → Content → TagKind → List ℕ → Result U Refusal → Type 0
+TagTaken m old new kind name r = (ls : List (Level ℕ)) (n : Expanded) → n.local ≡ name → IsOurs m ls n → IsOpen old m ls → AreItemsTaken m ls (tag_items kind n) new r
+
+-- the same, where a refusal is told at the place
+abbrev pub IsTagHeld : {U E : Type 0} → Tables → Content → Content → TagKind → List ℕ → ℕ → Result U E → InstanceError → Type 0
+IsTagHeld T old new kind name place (Ok x) stop = TagTaken {U = Unit {0}} (message_of T) old new kind name (Ok tt)
+IsTagHeld T old new kind name place (Err e) stop = (r : Refusal) × TagTaken {U = Unit {0}} (message_of T) old new kind name (Err r) × IsTold r place stop
+
+-- what a tag shows that is taken
+abbrev pub IsTagShown : {U E : Type 0} → Tables → Content → Content → TagKind → List ℕ → Result U E → Type 0
+IsTagShown T old new kind name result = (ls : List (Level ℕ)) (n : Expanded) → n.local ≡ name → IsOurs (message_of T) ls n → IsOpen old (message_of T) ls
+    → MayShowName old.pieces old.innermost n → OnOk result (GoOn old.pieces new.pieces (EventsShow T ls (tag_items kind n)))
