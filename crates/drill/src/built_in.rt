@@ -3,7 +3,7 @@ ghost use Rattle.std.specs.Prelude.{◌≡◌, IfOk, OnOk, [], ◌∷◌, ◌++�
 ghost use Rattle.lexical_core.specs.Characters.{IsXmlText};
 ghost use Rattle.repo_objects.specs.Objects.{HasObjectTexts};
 ghost use Rattle.repo_objects.specs.Repository.{HasId};
-ghost use Rattle.drill.specs.BuiltIn.{contents, no_facets, text_object, name_element, child_element, node_object, node_block, tree_message};
+ghost use Rattle.drill.specs.BuiltIn.{contents, no_facets, text_id, text_object, name_element, child_element, node_object, node_block, tree_message};
 
 use lexical_core::Text;
 use repo_objects::{
@@ -17,14 +17,41 @@ pub(crate) fn repository(alloc: Global) -> Result<Repository, AllocError>
     ensures { IfOk result (λ r. r ≡ contents) }
 {
     let mut repository = Repository::new(alloc);
+    fill(alloc, &mut repository)?;
+    Ok(repository)
+}
+
+/// Adds all to a repository that is empty.
+fn fill(alloc: Global, repository: &mut Repository) -> Result<(), AllocError>
+    requires objects { repository.old.objects ≡ [] }
+    requires messages { repository.old.messages ≡ [] }
+    ensures { OnOk result (repository.new ≡ contents) }
+{
+    add_text(alloc, repository)?;
+    add_node(alloc, repository)?;
+    let message = message(alloc)?;
+    repository.add_message(message)?;
+    Ok(())
+}
+
+/// Adds the text to a repository without objects.
+fn add_text(alloc: Global, repository: &mut Repository) -> Result<(), AllocError>
+    requires { repository.old.objects ≡ [] }
+    ensures { OnOk result (repository.new ≡ record repository.old { objects = record { id = text_id; object = text_object } ∷ [] }) }
+{
     let id = text_of(alloc, "_t")?;
     let object = text(alloc)?;
-    put(&mut repository, id, object)?;
+    put(repository, id, object)
+}
+
+/// Adds the node to a repository whose object is the text.
+fn add_node(alloc: Global, repository: &mut Repository) -> Result<(), AllocError>
+    requires { repository.old.objects ≡ record { id = text_id; object = text_object } ∷ [] }
+    ensures { OnOk result (repository.new ≡ record repository.old { objects = contents.objects }) }
+{
     let id = text_of(alloc, "_n")?;
     let object = node(alloc)?;
-    put(&mut repository, id, object)?;
-    repository.add_message(message(alloc)?)?;
-    Ok(repository)
+    put(repository, id, object)
 }
 
 /// Adds an object under an id that no other object has.

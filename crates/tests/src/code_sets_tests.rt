@@ -124,14 +124,18 @@ fn full_set(alloc: Global, name: &str) -> Result<Object, Fail>
 
 // A code set `Own` that takes codes, one more, a text of that name, and a code set `Full` that has a code.
 fn repository_of(alloc: Global) -> Result<Repository, Fail> {
+    let mut repository = Repository::new(alloc);
+    fill(alloc, &mut repository)?;
+    Ok(repository)
+}
+
+fn fill(alloc: Global, repository: &mut Repository) -> Result<(), Fail> {
     let set = ObjectKind::Simple(Kinds::CodeSet);
     let text = ObjectKind::Simple(Kinds::Text);
-    let mut repository = Repository::new(alloc);
     for (id, kind) in [("_o", set), ("_p", set), ("_t", text)] {
-        add(&mut repository, alloc, id, object_of(alloc, "Own", kind)?)?;
+        add(repository, alloc, id, object_of(alloc, "Own", kind)?)?;
     }
-    add(&mut repository, alloc, "_f", full_set(alloc, "Full")?)?;
-    Ok(repository)
+    add(repository, alloc, "_f", full_set(alloc, "Full")?)
 }
 
 // Each code of each object, with a blank behind it, and a line end behind each object.
@@ -169,9 +173,13 @@ fn codes_with(alloc: Global, lists: &CodeLists) -> Result<Result<Text, CodesErro
     requires { AreCodes lists.now }
 {
     match join(alloc, repository_of(alloc)?, lists) {
-        Ok(repository) => Ok(Ok(codes_in(alloc, &repository)?)),
+        Ok(repository) => codes_told(alloc, &repository),
         Err(error) => Ok(Err(error)),
     }
+}
+
+fn codes_told(alloc: Global, repository: &Repository) -> Result<Result<Text, CodesError>, Fail> {
+    Ok(Ok(codes_in(alloc, repository)?))
 }
 
 // Whether the codes are these; none where the bytes have a fault.

@@ -1,12 +1,13 @@
 // What no contract says: that there is memory for the texts of codes.
-ghost use Rattle.std.specs.Prelude.{IfOk};
+ghost use Rattle.std.specs.Prelude.{IfOk, All};
 ghost use Rattle.lexical_core.specs.Characters.{IsXmlText};
 ghost use Rattle.repo_objects.specs.Objects.{HasCodeTexts, HasObjectTexts, IsXmlTextIfAny};
 
 use lexical_core::{Text, is_xml_text};
 use reference_check::{CodeTexts, code_text};
 use repo_objects::{CodeDef, CodeDefs, Elements, Kinds, Object, ObjectKind, RawFacets, Repository};
-use std::alloc::Global;
+use std::alloc::{AllocError, Global};
+use std::process::Abort;
 use std::test::Fail;
 
 // The ids of the sets of a chain; each set but the first is traced to the one before it.
@@ -26,40 +27,43 @@ fn text_of(alloc: Global, word: &str) -> Result<Text, Fail>
     Ok(text)
 }
 
-// The first set of the chain has the text.
-fn first_set(alloc: Global) -> Result<Object, Fail>
-    ensures { IfOk result HasObjectTexts }
+// The text of the word; none where it is empty.
+fn text_if_any(alloc: Global, word: &str) -> Result<Option<Text>, Fail>
+    ensures { IfOk result IsXmlTextIfAny }
 {
-    let text = text_of(alloc, "CLRG")?;
-    set_of(alloc, code_of(alloc, Some(text))?, None)
+    if word.is_empty() {
+        return Ok(None);
+    }
+    Ok(Some(text_of(alloc, word)?))
 }
 
-fn later_set(alloc: Global, before: &str) -> Result<Object, Fail>
-    ensures { IfOk result HasObjectTexts }
-{
-    let trace = text_of(alloc, before)?;
-    set_of(alloc, code_of(alloc, None)?, Some(trace))
-}
-
-fn code_of(alloc: Global, code: Option<Text>) -> Result<CodeDef, Fail>
-    requires { IsXmlTextIfAny code }
+fn code_of(alloc: Global, text: &str) -> Result<CodeDef, Fail>
     ensures { IfOk result HasCodeTexts }
 {
     let name = text_of(alloc, "Clearing")?;
+    let code = text_if_any(alloc, text)?;
     Ok(CodeDef { name, code })
 }
 
-fn set_of(alloc: Global, definition: CodeDef, trace: Option<Text>) -> Result<Object, Fail>
-    requires code { HasCodeTexts definition }
-    requires trace { IsXmlTextIfAny trace }
-    ensures { IfOk result HasObjectTexts }
+fn one_code(alloc: Global, text: &str) -> Result<CodeDefs, Fail>
+    ensures { IfOk result (λ codes. All HasCodeTexts codes) }
 {
     let mut codes = CodeDefs::new(alloc);
-    codes.push(definition)?;
+    codes.push(code_of(alloc, text)?)?;
+    Ok(codes)
+}
+
+// A set with one code, which has the text, and is traced to the other set; either is empty where there is none.
+fn set_of(alloc: Global, text: &str, before: &str) -> Result<Object, Fail>
+    ensures { IfOk result HasObjectTexts }
+{
+    let name = text_of(alloc, "ClearingCode")?;
+    let codes = one_code(alloc, text)?;
+    let trace = text_if_any(alloc, before)?;
     Ok(Object {
-        name: text_of(alloc, "ClearingCode")?,
+        name,
         kind: ObjectKind::Simple(Kinds::CodeSet),
-        word: text_of(alloc, "CodeSet")?,
+        word: Text::new(alloc),
         facets: RawFacets {
             min_length: None,
             max_length: None,
@@ -79,11 +83,26 @@ fn set_of(alloc: Global, definition: CodeDef, trace: Option<Text>) -> Result<Obj
     })
 }
 
+fn add_set(
+    repository: &mut Repository,
+    alloc: Global,
+    id: &str,
+    text: &str,
+    before: &str,
+) -> Result<(), Fail> {
+    let id = text_of(alloc, id)?;
+    let set = set_of(alloc, text, before)?;
+    repository.add_object(id, set)?;
+    Ok(())
+}
+
+// The first set of the chain has the text.
 fn fill(alloc: Global, repository: &mut Repository) -> Result<(), Fail> {
-    repository.add_object(text_of(alloc, "_a")?, first_set(alloc)?)?;
-    let mut before = "_a";
-    for id in &CHAIN[1..] {
-        repository.add_object(text_of(alloc, id)?, later_set(alloc, before)?)?;
+    let mut text = "CLRG";
+    let mut before = "";
+    for id in &CHAIN {
+        add_set(repository, alloc, id, text, before)?;
+        text = "";
         before = id;
     }
     Ok(())
@@ -98,16 +117,30 @@ fn chain(alloc: Global) -> Result<Repository, Fail> {
 #[test]
 fn a_text_comes_through_sixteen_traces(rt: HostRuntime) -> Result<(), Fail> {
     let repository = chain(rt.alloc())?;
+    check_texts(&rt, &repository);
     let mut texts = CodeTexts::new(rt.alloc(), &repository);
+    check_found(&rt, &mut texts, &repository)?;
+    Ok(())
+}
+
+fn check_texts(rt: &impl Abort, repository: &Repository) {
     for place in 0..CHAIN.len() {
-        let text = code_text(&repository, place, 0);
+        let text = code_text(repository, place, 0);
         assert_eq!(rt; text.is_some(), place <= 16, "at {place}");
-        assert_eq!(rt; texts.text(place, 0)?, text, "at {place}");
     }
-    assert_eq!(rt;
-        code_text(&repository, 16, 0).ok_or("no text")?,
-        b"CLRG".as_slice()
-    );
-    assert!(rt; code_text(&repository, 0, 1).is_none());
+    assert!(rt; code_text(repository, 16, 0) == Some(b"CLRG".as_slice()));
+    assert!(rt; code_text(repository, 0, 1).is_none());
+}
+
+// The same texts, found by one who remembers the others.
+fn check_found(
+    rt: &impl Abort,
+    texts: &mut CodeTexts<'_>,
+    repository: &Repository,
+) -> Result<(), AllocError> {
+    for place in 0..CHAIN.len() {
+        let text = texts.text(place, 0)?;
+        assert_eq!(rt; text, code_text(repository, place, 0), "at {place}");
+    }
     Ok(())
 }

@@ -213,13 +213,17 @@ fn lengths_have_limits(rt: HostRuntime) -> Result<(), Fail> {
     Ok(())
 }
 
-#[test]
-fn a_reader_reserves(rt: HostRuntime) -> Result<(), Fail> {
-    let mut step = LeafStep::within(rt.alloc(), Kind::Text, 2);
+fn reserve_and_take(step: &mut LeafStep) -> Result<(), AllocError> {
     step.reserve(8)?;
     step.take('\u{20AC}')?;
     step.take('a')?;
-    step.take('b')?;
+    step.take('b')
+}
+
+#[test]
+fn a_reader_reserves(rt: HostRuntime) -> Result<(), Fail> {
+    let mut step = LeafStep::within(rt.alloc(), Kind::Text, 2);
+    reserve_and_take(&mut step)?;
     assert_eq!(rt; step.kept(), 4);
     assert!(rt; matches!(step.finish(), Err(Rule::BadLength)));
     Ok(())
@@ -304,15 +308,20 @@ fn a_push_fails_in_the_middle(rt: HostRuntime) -> Result<(), Fail> {
     Ok(())
 }
 
-#[test]
-fn a_reader_begins_anew(rt: HostRuntime) -> Result<(), Fail> {
-    let mut step = read(LeafStep::new(rt.alloc(), Kind::Binary), "Q*")?;
-    assert!(rt; matches!(step.finish(), Err(Rule::BadText)));
+/// Gives the reader, as it was when it was new, the text of one octet.
+fn begin_anew(step: &mut LeafStep) -> Result<(), AllocError> {
     step.restart();
     step.take('Q')?;
     step.take('Q')?;
     step.take('=')?;
-    step.take('=')?;
+    step.take('=')
+}
+
+#[test]
+fn a_reader_begins_anew(rt: HostRuntime) -> Result<(), Fail> {
+    let mut step = read(LeafStep::new(rt.alloc(), Kind::Binary), "Q*")?;
+    assert!(rt; matches!(step.finish(), Err(Rule::BadText)));
+    begin_anew(&mut step)?;
     assert!(rt; matches!(step.finish(), Ok(LeafRef::Bytes(b"A"))));
     Ok(())
 }

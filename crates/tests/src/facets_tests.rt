@@ -1,7 +1,8 @@
 // What no clause says: that the definitions mean what the standard means, row by row, and that calls which may
 // want memory succeed where there is some.
 ghost use Rattle.std.specs.Prelude.{◌≡◌, IfOk, length};
-ghost use Rattle.facets.specs.LeafChecks.{IsWithinLimits};
+ghost use Rattle.facets.specs.LeafChecks.{IsMadeFor, IsWithinLimits};
+ghost use Rattle.facets.specs.LeafVerdicts.{IsMadeFor as IsVerdictFor};
 
 use data_types::{Kind, LeafRef};
 use facets::{Bound, Codes, LeafCheck, LeafVerdict, Simple, check_number, check_octets};
@@ -40,6 +41,16 @@ fn verdict(alloc: Global, simple: &Simple, text: &str) -> Result<Result<(), Rule
     requires { IsWithinLimits simple.now }
 {
     let mut check = LeafVerdict::new(alloc, simple)?;
+    judge(&mut check, simple, text)
+}
+
+fn judge(
+    check: &mut LeafVerdict,
+    simple: &Simple,
+    text: &str,
+) -> Result<Result<(), Rule>, AllocError>
+    requires { IsVerdictFor check.old simple.now }
+{
     let run = xml_run(text.as_bytes());
     check.take_run(
         simple,
@@ -263,6 +274,16 @@ fn coded(alloc: Global, simple: &Simple, text: &str) -> Result<Result<u32, Rule>
     requires { IsWithinLimits simple.now }
 {
     let mut check = LeafCheck::new(alloc, simple)?;
+    place(&mut check, simple, text)
+}
+
+fn place(
+    check: &mut LeafCheck,
+    simple: &Simple,
+    text: &str,
+) -> Result<Result<u32, Rule>, AllocError>
+    requires { IsMadeFor check.old simple.now }
+{
     let run = xml_run(text.as_bytes());
     check.take_run(
         simple,
@@ -339,12 +360,18 @@ fn the_least_rule_is_told(rt: HostRuntime) -> Result<(), Fail> {
     Ok(())
 }
 
+fn reserve_and_take(check: &mut LeafCheck, simple: &Simple) -> Result<(), AllocError>
+    requires { IsMadeFor check.old simple.now }
+{
+    check.reserve(8)?;
+    check.take(simple, 'A')
+}
+
 #[test]
 fn a_check_reserves(rt: HostRuntime) {
     let simple = with_lengths(Kind::Text, 1, Some(35));
     let mut check = LeafCheck::new(rt.alloc(), &simple).expect(&rt, "memory");
-    check.reserve(8).expect(&rt, "memory");
-    check.take(&simple, 'A').expect(&rt, "memory");
+    reserve_and_take(&mut check, &simple).expect(&rt, "memory");
     assert!(rt; check.scratch() == 1);
 }
 

@@ -2,6 +2,7 @@
 ghost use Rattle.std.specs.Prelude.{◌≡◌, [], ◌∷◌, ◌++◌, OnOk};
 ghost use Rattle.data_types.specs.Leaf.{Leaf};
 ghost use Rattle.data_types.specs.Value.{Holds};
+ghost use Rattle.inst_pool.specs.Pieces.{open_in};
 
 use data_types::LeafRef;
 use inst_pool::{Builder, Edge, Instance, Piece};
@@ -29,11 +30,19 @@ fn add_leaf(builder: &mut Builder, text: &[u8], number: Option<Decimal>) -> Resu
 fn note(mut builder: Builder, text: &[u8]) -> Result<Instance, Fail>
     requires { builder.pieces ≡ [] }
 {
+    add_note(&mut builder, text)?;
+    Ok(builder.finish())
+}
+
+fn add_note(builder: &mut Builder, text: &[u8]) -> Result<(), AllocError>
+    requires { builder.old.pieces ≡ [] }
+    ensures { OnOk result (open_in builder.new.pieces ≡ []) }
+{
     builder.reserve(3, text.len())?;
     builder.begin(NOTE)?;
-    add_leaf(&mut builder, text, None)?;
+    add_leaf(builder, text, None)?;
     builder.close()?;
-    Ok(builder.finish())
+    Ok(())
 }
 
 // Whether the piece of the instance at that place is this one.

@@ -1,12 +1,10 @@
-//! The tests of the public calls of each crate, which say what no clause says: that the clauses mean what the standards'
-//! own examples say, and that calls which may want memory succeed where there is some.
+//! The tests of the public calls of each library up to `message_model`, which say what no clause says: that the clauses
+//! mean what the standards' own examples say, and that calls which may want memory succeed where there is some.
 //!
 //! They stand in a crate of their own, since a check of tests proves their crate anew. A file is called after the crate
-//! that it is about. What the program shows as a whole is in `cases/`.
+//! that it is about. Those of what stands higher are in `engine_tests`, and what the program shows as a whole is in `cases/`.
 #![tactic(auto)]
 
-#[cfg(test)]
-mod asn1_writer_tests;
 #[cfg(test)]
 mod code_sets_tests;
 #[cfg(test)]
@@ -30,12 +28,8 @@ mod pattern_match_tests;
 #[cfg(test)]
 mod reference_check_tests;
 #[cfg(test)]
-mod repo_engine_tests;
-#[cfg(test)]
 mod repo_loader_tests;
 #[cfg(test)]
 mod repo_objects_tests;
 #[cfg(test)]
 mod respell_tests;
-#[cfg(test)]
-mod xsd_writer_tests;

@@ -1,6 +1,9 @@
 // The worked texts: their faults and events; hostile texts, which are answered as well.
 mod runs;
 
+ghost use Rattle.std.specs.Prelude.{◌≡◌};
+ghost use Rattle.markup.specs.Reading.{taken};
+
 use lexical_core::Rule;
 use markup::{Attr, Attrs, Events, MarkError, Reader, What};
 use std::alloc::{AllocError, Global};
@@ -141,6 +144,13 @@ static BYTES: [(&[u8], Verdict); 5] = [
 /// Takes the bytes and the end, and appends all their events.
 fn read(alloc: Global, bytes: &[u8], out: &mut Events) -> Verdict {
     let mut reader = Reader::new(alloc);
+    take_all(&mut reader, bytes, out, true)
+}
+
+/// What a reader before the first byte says of the bytes. Their events are kept, or let go at each byte.
+fn take_all(reader: &mut Reader, bytes: &[u8], out: &mut Events, is_kept: bool) -> Verdict
+    requires { taken reader.old ≡ 0 }
+{
     let mut given = 0;
     for byte in bytes {
         if given >= LIMIT {
@@ -150,7 +160,15 @@ fn read(alloc: Global, bytes: &[u8], out: &mut Events) -> Verdict {
             return refusal(error);
         }
         given += 1;
+        if !is_kept {
+            out.clear();
+        }
     }
+    end(reader, out)
+}
+
+/// What a reader says of the end.
+fn end(reader: &mut Reader, out: &mut Events) -> Verdict {
     match reader.finish(out) {
         Ok(()) => Whole,
         Err(error) => refusal(error),
@@ -168,21 +186,7 @@ fn refusal(error: MarkError) -> Verdict {
 fn answer(alloc: Global, bytes: &[u8]) -> Verdict {
     let mut out = Events::new(alloc);
     let mut reader = Reader::new(alloc);
-    let mut given = 0;
-    for byte in bytes {
-        if given >= LIMIT {
-            return Verdict::TooLong;
-        }
-        if let Err(error) = reader.take(*byte, &mut out) {
-            return refusal(error);
-        }
-        out.clear();
-        given += 1;
-    }
-    match reader.finish(&mut out) {
-        Ok(()) => Whole,
-        Err(error) => refusal(error),
-    }
+    take_all(&mut reader, bytes, &mut out, false)
 }
 
 /// The pieces one after another, each so many times.

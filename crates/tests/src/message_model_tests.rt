@@ -10,6 +10,7 @@ use repo_objects::{
     Repository,
 };
 use std::alloc::Global;
+use std::process::Abort;
 use std::test::Fail;
 
 /// The identifier of the message.
@@ -97,14 +98,29 @@ fn compiled(
     most: u32,
     pattern: &str,
 ) -> Result<Result<Model, ReadyError>, Fail> {
+    let text = text_type(alloc, least, most, pattern)?;
     let mut repository = Repository::new(alloc);
-    repository.add_object(
-        text_of(alloc, "_t")?,
-        text_type(alloc, least, most, pattern)?,
-    )?;
-    repository.add_message(message(alloc)?)?;
+    fill(alloc, &mut repository, text)?;
+    compiled_from(alloc, &repository)
+}
+
+/// Adds the text and the message.
+fn fill(alloc: Global, repository: &mut Repository, text: Object) -> Result<(), Fail>
+    requires { HasObjectTexts text }
+{
+    let id = text_of(alloc, "_t")?;
+    repository.add_object(id, text)?;
+    let message = message(alloc)?;
+    repository.add_message(message)?;
+    Ok(())
+}
+
+fn compiled_from(
+    alloc: Global,
+    repository: &Repository,
+) -> Result<Result<Model, ReadyError>, Fail> {
     let id = MessageId::read(ID).ok_or("no identifier")?;
-    Ok(Model::compile(alloc, &repository, &id))
+    Ok(Model::compile(alloc, repository, &id))
 }
 
 /// The number of the rule that is told, and 0 where none is.
@@ -125,9 +141,14 @@ fn is_text(told: Option<&[u8]>, text: &str) -> bool {
 
 #[test]
 fn a_message_is_compiled(rt: HostRuntime) -> Result<(), Fail> {
-    let Ok(model) = compiled(rt.alloc(), 1, 35, "[A-Z]*")? else {
-        return Err("not compiled".into());
-    };
+    match compiled(rt.alloc(), 1, 35, "[A-Z]*")? {
+        Ok(model) => check_model(&rt, &model),
+        Err(_) => return Err("not compiled".into()),
+    }
+    Ok(())
+}
+
+fn check_model(rt: &impl Abort, model: &Model) {
     assert_eq!(rt; model.type_count(), 3);
     assert_eq!(rt; model.id().bytes(), ID.as_bytes());
     assert!(rt; is_text(model.word(0), "Document"));
@@ -136,15 +157,30 @@ fn a_message_is_compiled(rt: HostRuntime) -> Result<(), Fail> {
     assert_eq!(rt; model.next(1, None, 0, b"Id"), Next::Slot(0));
     assert_eq!(rt; model.next(1, Some(0), 2, b"Id"), Next::TooMany);
     assert_eq!(rt; model.end(1, None, 0), End::Missing(0));
-    Ok(())
 }
+
+/// The number of the rule that such a message breaks, and 0 where it breaks none.
+fn rule_told(alloc: Global, least: u32, most: u32, pattern: &str) -> Result<u8, Fail> {
+    rule_of(compiled(alloc, least, most, pattern)?)
+}
+
+/// Bounds of the length, a pattern, and the number of the rule that is told.
+static RULES: [(u32, u32, &str, u8); 5] = [
+    (35, 35, "a{65536}", 0),
+    (36, 35, "a", 12),
+    (1, 35, "(", 13),
+    (1, 35, "a{65537}", 13),
+    (36, 35, "(", 12),
+];
 
 #[test]
 fn facets_and_patterns_are_rules(rt: HostRuntime) -> Result<(), Fail> {
-    assert_eq!(rt; rule_of(compiled(rt.alloc(), 35, 35, "a{65536}")?)?, 0);
-    assert_eq!(rt; rule_of(compiled(rt.alloc(), 36, 35, "a")?)?, 12);
-    assert_eq!(rt; rule_of(compiled(rt.alloc(), 1, 35, "(")?)?, 13);
-    assert_eq!(rt; rule_of(compiled(rt.alloc(), 1, 35, "a{65537}")?)?, 13);
-    assert_eq!(rt; rule_of(compiled(rt.alloc(), 36, 35, "(")?)?, 12);
+    for (least, most, pattern, rule) in &RULES {
+        assert_eq!(rt;
+            rule_told(rt.alloc(), *least, *most, pattern)?,
+            *rule,
+            "{pattern}"
+        );
+    }
     Ok(())
 }

@@ -4,6 +4,7 @@ ghost use Rattle.std.specs.Prelude.{◌<◌};
 use lexical_core::Rule;
 use outside::MemSource;
 use repo_loader::{LoadError, LoadFault, load};
+use repo_objects::Repository;
 use std::alloc::Global;
 use std::test::Fail;
 
@@ -66,29 +67,37 @@ fn verdict_of(alloc: Global, bytes: &[u8], piece: usize) -> Result<Verdict, Fail
     requires { 0 < piece }
 {
     let mut source = MemSource::new(alloc, bytes, piece, &[])?;
-    let verdict = match load(alloc, &mut source) {
-        Ok(repository) => Has(repository.object_count(), repository.message_count()),
-        Err(
-            LoadError::Refused(
-                LoadFault {
-                    markup: Some(rule),
-                    place,
-                    ..
-                },
-            ),
+    match load(alloc, &mut source) {
+        Ok(repository) => Ok(Has(repository.object_count(), repository.message_count())),
+        Err(error) => Ok(refusal(error)),
+    }
+}
+
+fn refusal(error: LoadError) -> Verdict {
+    match error {
+        LoadError::Refused(
+            LoadFault {
+                markup: Some(rule),
+                place,
+                ..
+            },
         ) => Markup(rule, place),
-        Err(LoadError::Refused(fault)) => Breaks(fault.rule, fault.place),
-        Err(_) => Verdict::Failed,
-    };
-    Ok(verdict)
+        LoadError::Refused(fault) => Breaks(fault.rule, fault.place),
+        _ => Verdict::Failed,
+    }
+}
+
+/// What is read of a file with this body.
+fn verdict_of_body(alloc: Global, body: &str) -> Result<Verdict, Fail> {
+    let mut file = Vec::from_slice(alloc, HEAD.as_bytes())?;
+    file.extend_from_slice(body.as_bytes())?;
+    verdict_of(alloc, &file, 65536)
 }
 
 #[test]
 fn files_and_their_first_faults(rt: HostRuntime) -> Result<(), Fail> {
     for (body, verdict) in &BODIES {
-        let mut file = Vec::from_slice(rt.alloc(), HEAD.as_bytes())?;
-        file.extend_from_slice(body.as_bytes())?;
-        assert_eq!(rt; verdict_of(rt.alloc(), &file, 65536)?, *verdict, "{body}");
+        assert_eq!(rt; verdict_of_body(rt.alloc(), body)?, *verdict, "{body}");
     }
     assert_eq!(rt; verdict_of(rt.alloc(), b"<a/>", 4)?, Breaks(2, 0));
     assert_eq!(rt; verdict_of(rt.alloc(), b"", 4)?, Markup(Rule::Truncated, 0));
@@ -107,14 +116,22 @@ fn pieces_of_any_size(rt: HostRuntime) -> Result<(), Fail> {
     Ok(())
 }
 
+/// Whether a repository has the message of a note and its text.
+fn has_note(repository: &Repository) -> bool {
+    let Some(message) = repository.message_at(0) else {
+        return false;
+    };
+    let Some(object) = repository.object(b"_t") else {
+        return false;
+    };
+    message.id.bytes() == b"demo.001.001.01".as_slice() && object.facets.max_length == Some(35)
+}
+
 #[test]
 fn what_a_note_says(rt: HostRuntime) -> Result<(), Fail> {
     let mut source = MemSource::new(rt.alloc(), NOTE.as_bytes(), 65536, &[])?;
     let repository = load(rt.alloc(), &mut source)?;
-    let message = repository.message_at(0).ok_or("no message")?;
-    assert_eq!(rt; message.id.bytes(), b"demo.001.001.01".as_slice());
-    let object = repository.object(b"_t").ok_or("no object")?;
-    assert_eq!(rt; object.facets.max_length, Some(35));
+    assert!(rt; has_note(&repository));
     Ok(())
 }
 

@@ -64,31 +64,56 @@ fn add(repository: &mut Repository, alloc: Global, id: &str, name: &str) -> Resu
     Ok(())
 }
 
+/// Adds two objects, and answers what is said to a third one under the id of the first.
+fn add_objects(repository: &mut Repository, alloc: Global) -> Result<Result<(), AddError>, Fail> {
+    add(repository, alloc, "_t", "Max35Text")?;
+    add(repository, alloc, "_u", "Max70Text")?;
+    let id = text_of(alloc, "_t")?;
+    let object = object_of(alloc, "Max140Text")?;
+    Ok(repository.add_object(id, object))
+}
+
+/// Whether an object stands under the id and has the name.
+fn has_object(repository: &Repository, id: &[u8], name: &[u8]) -> bool {
+    match repository.object(id) {
+        Some(object) => object.name.bytes() == name,
+        None => false,
+    }
+}
+
 #[test]
 fn objects_stand_under_their_ids(rt: HostRuntime) -> Result<(), Fail> {
     let mut repository = Repository::new(rt.alloc());
-    add(&mut repository, rt.alloc(), "_t", "Max35Text")?;
-    add(&mut repository, rt.alloc(), "_u", "Max70Text")?;
-    let again = repository.add_object(
-        text_of(rt.alloc(), "_t")?,
-        object_of(rt.alloc(), "Max140Text")?,
-    );
+    let again = add_objects(&mut repository, rt.alloc())?;
     assert_eq!(rt; again, Err(AddError::Twice));
     assert_eq!(rt; repository.object_count(), 2);
-    let object = repository.object(b"_t").ok_or("no object")?;
-    assert_eq!(rt; object.name.bytes(), b"Max35Text".as_slice());
+    assert!(rt; has_object(&repository, b"_t".as_slice(), b"Max35Text".as_slice()));
     assert!(rt; repository.object(b"_").is_none());
     Ok(())
+}
+
+fn add_messages(repository: &mut Repository, alloc: Global) -> Result<(), Fail> {
+    for id in ["demo.001.001.01", "no identifier"] {
+        let message = message_of(alloc, id)?;
+        repository.add_message(message)?;
+    }
+    Ok(())
+}
+
+/// Whether the first message has the identifier.
+fn has_first(repository: &Repository, id: &[u8]) -> bool {
+    match repository.message_at(0) {
+        Some(first) => first.id.bytes() == id,
+        None => false,
+    }
 }
 
 #[test]
 fn messages_stand_in_file_order(rt: HostRuntime) -> Result<(), Fail> {
     let mut repository = Repository::new(rt.alloc());
-    repository.add_message(message_of(rt.alloc(), "demo.001.001.01")?)?;
-    repository.add_message(message_of(rt.alloc(), "no identifier")?)?;
+    add_messages(&mut repository, rt.alloc())?;
     assert_eq!(rt; repository.message_count(), 2);
-    let first = repository.message_at(0).ok_or("no message")?;
-    assert_eq!(rt; first.id.bytes(), b"demo.001.001.01".as_slice());
+    assert!(rt; has_first(&repository, b"demo.001.001.01".as_slice()));
     Ok(())
 }
 

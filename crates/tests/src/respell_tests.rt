@@ -1,4 +1,7 @@
 // Rows of fragments: XML with the fragment of its root, and bytes that are fragments or not.
+ghost use Rattle.std.specs.Prelude.{◌≡◌};
+ghost use Rattle.markup.specs.Reading.{taken};
+
 use lexical_core::Text;
 use markup::{Attrs, Event, Events, Namespace, Reader, TagKind, What};
 use respell::{Respell, is_fragment};
@@ -64,19 +67,32 @@ fn is_respelled(alloc: Global, bytes: &[u8], fragment: &[u8]) -> Result<bool, Al
     let mut reader = Reader::new(alloc);
     let mut respell = Respell::new(alloc);
     let mut events = Events::new(alloc);
+    let is_read = respell_all(&mut reader, &mut respell, &mut events, bytes)?;
+    Ok(is_read && respell.is_whole() && respell.text() == fragment)
+}
+
+/// Hands the events of the bytes on, and answers whether they are whole.
+fn respell_all(
+    reader: &mut Reader,
+    respell: &mut Respell,
+    events: &mut Events,
+    bytes: &[u8],
+) -> Result<bool, AllocError>
+    requires { taken reader.old ≡ 0 }
+{
     let mut given = 0;
     for byte in bytes {
         if given >= LIMIT {
             return Ok(false);
         }
         events.clear();
-        if reader.take(*byte, &mut events).is_err() {
+        if reader.take(*byte, events).is_err() {
             return Ok(false);
         }
         given += 1;
-        take_all(&mut respell, events.as_slice())?;
+        take_all(respell, events.as_slice())?;
     }
-    Ok(reader.finish(&mut events).is_ok() && respell.is_whole() && respell.text() == fragment)
+    Ok(reader.finish(events).is_ok())
 }
 
 #[test]
@@ -99,14 +115,23 @@ fn start_of(alloc: Global, ns: &[u8], local: &[u8]) -> Result<Event, AllocError>
     })
 }
 
+fn take_start(respell: &mut Respell, alloc: Global) -> Result<(), AllocError> {
+    let start = start_of(alloc, b"urn:x", b"X")?;
+    respell.take(&start)
+}
+
+fn take_rest(respell: &mut Respell) -> Result<(), AllocError> {
+    respell.take_run(b"7 ")?;
+    respell.take_tag(TagKind::Empty, b"Y")?;
+    respell.take_tag(TagKind::End, b"X")
+}
+
 #[test]
 fn runs_and_tags_are_respelled(rt: HostRuntime) -> Result<(), AllocError> {
     let mut respell = Respell::new(rt.alloc());
-    respell.take(&start_of(rt.alloc(), b"urn:x", b"X")?)?;
+    take_start(&mut respell, rt.alloc())?;
     assert!(&rt; respell.is_in_default());
-    respell.take_run(b"7 ")?;
-    respell.take_tag(TagKind::Empty, b"Y")?;
-    respell.take_tag(TagKind::End, b"X")?;
+    take_rest(&mut respell)?;
     assert!(&rt; respell.is_whole());
     assert!(&rt; respell.text() == b"<X xmlns=\"urn:x\">7 <Y></Y></X>".as_slice());
     Ok(())

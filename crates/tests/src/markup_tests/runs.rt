@@ -1,8 +1,8 @@
 // Texts that a reader takes by whole tags and runs of characters where it can.
-ghost use Rattle.std.specs.Prelude.{◌≡◌, ◌<◌, ◌≤◌, ◌+◌, ◌^◌, IfOk, IfSome, length};
+ghost use Rattle.std.specs.Prelude.{◌≡◌, ◌<◌, ◌≤◌, ◌+◌, ◌^◌, IfOk, IfSome, IsTrue, length};
 ghost use Rattle.markup.specs.Reading.{taken};
 
-use super::{ALONE, BEHIND_ROOT, LIMIT, ROOT, Verdict, answer, refusal, repeated};
+use super::{ALONE, BEHIND_ROOT, LIMIT, ROOT, Verdict, answer, end, refusal, repeated};
 use Verdict::Whole;
 use lexical_core::Rule;
 use markup::{Events, Reader, Run};
@@ -56,14 +56,20 @@ fn take_some(reader: &mut Reader, out: &mut Events, piece: &[u8]) -> Result<usiz
 fn answer_by_pieces(mut reader: Reader, alloc: Global, bytes: &[u8], size: usize) -> Verdict
     requires { taken reader ≡ 0 }
 {
+    let mut out = Events::new(alloc);
+    take_pieces(&mut reader, &mut out, bytes, size)
+}
+
+fn take_pieces(reader: &mut Reader, out: &mut Events, bytes: &[u8], size: usize) -> Verdict
+    requires { taken reader.old ≡ 0 }
+{
     if bytes.len() as u64 > LIMIT || size == 0 {
         return Verdict::TooLong;
     }
-    let mut out = Events::new(alloc);
     let mut rest = bytes;
     while !rest.is_empty() {
         let (piece, _) = rest.split_at(size.min(rest.len()));
-        let taken = match take_some(&mut reader, &mut out, piece) {
+        let taken = match take_some(reader, out, piece) {
             Ok(taken) => taken,
             Err(verdict) => return verdict,
         };
@@ -71,10 +77,7 @@ fn answer_by_pieces(mut reader: Reader, alloc: Global, bytes: &[u8], size: usize
         let (_, behind) = rest.split_at(taken);
         rest = behind;
     }
-    match reader.finish(&mut out) {
-        Ok(()) => Whole,
-        Err(error) => refusal(error),
-    }
+    end(reader, out)
 }
 
 /// Each text of the rows is answered as they say, in pieces of each size up to 7 and in one.
@@ -144,19 +147,31 @@ fn tags_of_any_length(rt: HostRuntime) -> Result<(), AllocError> {
 fn behind(alloc: Global, bytes: &[u8]) -> Option<Reader>
     ensures { IfSome result (λ reader. taken reader ≤ 100) }
 {
-    if bytes.len() > 100 {
-        return None;
-    }
     let mut out = Events::new(alloc);
     let mut reader = Reader::new(alloc);
+    if are_taken(&mut reader, &mut out, bytes) {
+        Some(reader)
+    } else {
+        None
+    }
+}
+
+/// Whether the bytes have no fault for a reader before the first byte, and are few.
+fn are_taken(reader: &mut Reader, out: &mut Events, bytes: &[u8]) -> bool
+    requires { taken reader.old ≡ 0 }
+    ensures { IsTrue result → taken reader.new ≤ 100 }
+{
+    if bytes.len() > 100 {
+        return false;
+    }
     let mut rest = bytes;
     while let Some((byte, after)) = rest.split_first() {
-        if reader.take(*byte, &mut out).is_err() {
-            return None;
+        if reader.take(*byte, out).is_err() {
+            return false;
         }
         rest = after;
     }
-    Some(reader)
+    true
 }
 
 /// Pieces of an element's text, and how many bytes and characters the run at their front has, and
@@ -185,15 +200,24 @@ fn runs_of_whole_characters(rt: HostRuntime) {
             characters: *characters,
             blank: *blank,
         };
-        let Some(mut reader) = behind(rt.alloc(), b"<a>") else {
-            continue;
-        };
-        if piece.len() > 100 {
-            continue;
-        }
-        let found = reader.take_characters(piece);
-        assert!(rt; found == run, "{found:?}");
+        let found = run_behind(rt.alloc(), piece);
+        assert!(rt; found == Some(run), "{found:?}");
     }
+}
+
+/// The run at the front of the piece, behind `<a>`.
+fn run_behind(alloc: Global, piece: &[u8]) -> Option<Run> {
+    let mut reader = behind(alloc, b"<a>")?;
+    run_taken(&mut reader, piece)
+}
+
+fn run_taken(reader: &mut Reader, piece: &[u8]) -> Option<Run>
+    requires { taken reader.old ≤ 100 }
+{
+    if piece.len() > 100 {
+        return None;
+    }
+    Some(reader.take_characters(piece))
 }
 
 /// What was taken, pieces behind it, how many bytes the reference has that is taken at their front, and its
@@ -215,20 +239,28 @@ static REFERENCES: [(&str, &str, usize, char); 10] = [
 #[test]
 fn whole_references(rt: HostRuntime) {
     for (front, piece, bytes, character) in &REFERENCES {
-        let Some(mut reader) = behind(rt.alloc(), front.as_bytes()) else {
-            continue;
-        };
-        if piece.len() > 100 {
-            continue;
-        }
-        let (size, given) = match reader.take_reference(piece.as_bytes()) {
-            Some(reference) => (reference.bytes, reference.character),
-            None => (0, ' '),
-        };
+        let found = reference_behind(rt.alloc(), front.as_bytes(), piece.as_bytes());
         assert!(rt;
-            size == *bytes && given == *character,
-            "{front}, {piece}: {size}"
+            found == Some((*bytes, *character)),
+            "{front}, {piece}: {found:?}"
         );
+    }
+}
+
+fn reference_behind(alloc: Global, front: &[u8], piece: &[u8]) -> Option<(usize, char)> {
+    let mut reader = behind(alloc, front)?;
+    reference_taken(&mut reader, piece)
+}
+
+fn reference_taken(reader: &mut Reader, piece: &[u8]) -> Option<(usize, char)>
+    requires { taken reader.old ≤ 100 }
+{
+    if piece.len() > 100 {
+        return None;
+    }
+    match reader.take_reference(piece) {
+        Some(reference) => Some((reference.bytes, reference.character)),
+        None => Some((0, ' ')),
     }
 }
 
@@ -253,17 +285,26 @@ static TAGS: [(&str, usize); 14] = [
 #[test]
 fn whole_tags(rt: HostRuntime) {
     for (piece, bytes) in &TAGS {
-        let Some(mut reader) = behind(rt.alloc(), b"<a>") else {
-            continue;
-        };
-        if piece.len() > 100 {
-            continue;
-        }
-        let found = match reader.take_tag(piece.as_bytes()) {
-            Ok(Some(tag)) => tag.bytes,
-            _ => 0,
-        };
-        assert!(rt; found == *bytes, "{piece}: {found}");
+        let found = tag_behind(rt.alloc(), piece.as_bytes());
+        assert!(rt; found == Some(*bytes), "{piece}: {found:?}");
+    }
+}
+
+fn tag_behind(alloc: Global, piece: &[u8]) -> Option<usize> {
+    let mut reader = behind(alloc, b"<a>")?;
+    tag_taken(&mut reader, piece)
+}
+
+fn tag_taken(reader: &mut Reader, piece: &[u8]) -> Option<usize>
+    requires { taken reader.old ≤ 100 }
+{
+    if piece.len() > 100 {
+        return None;
+    }
+    match reader.take_tag(piece) {
+        Ok(Some(tag)) => Some(tag.bytes),
+        Ok(None) => Some(0),
+        Err(_) => None,
     }
 }
 
@@ -299,18 +340,26 @@ static STARTS: [(&str, usize, usize); 24] = [
 #[test]
 fn whole_starts(rt: HostRuntime) {
     for (piece, bytes, events) in &STARTS {
-        let Some(mut reader) = behind(rt.alloc(), b"<a>") else {
-            continue;
-        };
-        if piece.len() > 100 {
-            continue;
-        }
-        let mut out = Events::new(rt.alloc());
-        let found = match reader.take_start(piece.as_bytes(), &mut out) {
-            Ok(count) => count,
-            Err(_) => 100,
-        };
-        assert!(rt; found == *bytes && out.len() == *events, "{piece}: {found}");
+        let found = start_behind(rt.alloc(), piece.as_bytes());
+        assert!(rt; found == Some((*bytes, *events)), "{piece}: {found:?}");
+    }
+}
+
+fn start_behind(alloc: Global, piece: &[u8]) -> Option<(usize, usize)> {
+    let mut reader = behind(alloc, b"<a>")?;
+    let mut out = Events::new(alloc);
+    start_taken(&mut reader, &mut out, piece)
+}
+
+fn start_taken(reader: &mut Reader, out: &mut Events, piece: &[u8]) -> Option<(usize, usize)>
+    requires { taken reader.old ≤ 100 }
+{
+    if piece.len() > 100 {
+        return None;
+    }
+    match reader.take_start(piece, out) {
+        Ok(count) => Some((count, out.len())),
+        Err(_) => None,
     }
 }
 
@@ -336,17 +385,25 @@ static INSIDE: [(&str, &str, usize); 14] = [
 #[test]
 fn bytes_inside(rt: HostRuntime) {
     for (front, piece, bytes) in &INSIDE {
-        let Some(mut reader) = behind(rt.alloc(), front.as_bytes()) else {
-            continue;
-        };
-        if piece.len() > 100 {
-            continue;
-        }
-        let found = match reader.take_inside(piece.as_bytes()) {
-            Ok(count) => count,
-            Err(_) => 100,
-        };
-        assert!(rt; found == *bytes, "{front}, {piece}: {found}");
+        let found = inside_behind(rt.alloc(), front.as_bytes(), piece.as_bytes());
+        assert!(rt; found == Some(*bytes), "{front}, {piece}: {found:?}");
+    }
+}
+
+fn inside_behind(alloc: Global, front: &[u8], piece: &[u8]) -> Option<usize> {
+    let mut reader = behind(alloc, front)?;
+    inside_taken(&mut reader, piece)
+}
+
+fn inside_taken(reader: &mut Reader, piece: &[u8]) -> Option<usize>
+    requires { taken reader.old ≤ 100 }
+{
+    if piece.len() > 100 {
+        return None;
+    }
+    match reader.take_inside(piece) {
+        Ok(count) => Some(count),
+        Err(_) => None,
     }
 }
 

@@ -97,17 +97,26 @@ fn text_of(alloc: Global, characters: &str) -> Result<Text, AllocError> {
 
 fn parts_of(alloc: Global, rows: &[PartRow]) -> Result<Parts, AllocError> {
     let mut parts = Parts::new(alloc);
-    for (tag, target, min, max) in rows {
-        let tag = text_of(alloc, tag)?;
-        let target = text_of(alloc, target)?;
-        parts.push(Part {
-            tag,
-            target,
-            min: *min,
-            max: *max,
-        })?;
-    }
+    add_parts(alloc, &mut parts, rows)?;
     Ok(parts)
+}
+
+fn add_parts(alloc: Global, parts: &mut Parts, rows: &[PartRow]) -> Result<(), AllocError> {
+    for row in rows {
+        parts.push(part_of(alloc, row)?)?;
+    }
+    Ok(())
+}
+
+fn part_of(alloc: Global, row: &PartRow) -> Result<Part, AllocError> {
+    let tag = text_of(alloc, row.0)?;
+    let target = text_of(alloc, row.1)?;
+    Ok(Part {
+        tag,
+        target,
+        min: row.2,
+        max: row.3,
+    })
 }
 
 fn texts_of(alloc: Global, rows: &[&str]) -> Result<Texts, AllocError> {
@@ -166,17 +175,31 @@ fn code(alloc: Global) -> Result<Steps, AllocError> {
 }
 
 fn nested(alloc: Global) -> Result<Steps, AllocError> {
-    let mut first = step_of(alloc, Some(Kind::DateTime));
-    first.min = Some(1);
-    first.max = Some(35);
-    first.patterns = texts_of(alloc, ["[0-9]", "<"].as_slice())?;
-    let mut last = step_of(alloc, None);
-    last.patterns = texts_of(alloc, [".*Z"].as_slice())?;
     let mut steps = Steps::new(alloc);
-    steps.push(first)?;
-    steps.push(step_of(alloc, None))?;
-    steps.push(last)?;
+    add_steps(alloc, &mut steps)?;
     Ok(steps)
+}
+
+fn add_steps(alloc: Global, steps: &mut Steps) -> Result<(), AllocError> {
+    steps.push(first_step(alloc)?)?;
+    steps.push(step_of(alloc, None))?;
+    steps.push(last_step(alloc)?)
+}
+
+fn first_step(alloc: Global) -> Result<Step, AllocError> {
+    let patterns = texts_of(alloc, ["[0-9]", "<"].as_slice())?;
+    let mut step = step_of(alloc, Some(Kind::DateTime));
+    step.min = Some(1);
+    step.max = Some(35);
+    step.patterns = patterns;
+    Ok(step)
+}
+
+fn last_step(alloc: Global) -> Result<Step, AllocError> {
+    let patterns = texts_of(alloc, [".*Z"].as_slice())?;
+    let mut step = step_of(alloc, None);
+    step.patterns = patterns;
+    Ok(step)
 }
 
 fn amount(alloc: Global) -> Result<SchemaShape, AllocError> {
@@ -217,13 +240,17 @@ fn add_simple(alloc: Global, types: &mut SchemaTypes) -> Result<(), AllocError> 
 
 /// A schema with each shape and each facet.
 fn schema(alloc: Global) -> Result<Schema, AllocError> {
-    let mut types = SchemaTypes::new(alloc);
-    add_complex(alloc, &mut types)?;
-    add_simple(alloc, &mut types)?;
-    add(alloc, &mut types, "Amount", amount(alloc)?)?;
-    add(alloc, &mut types, "Open", SchemaShape::Any)?;
     let namespace = text_of(alloc, "urn:a&b")?;
+    let mut types = SchemaTypes::new(alloc);
+    add_all(alloc, &mut types)?;
     Ok(Schema { namespace, types })
+}
+
+fn add_all(alloc: Global, types: &mut SchemaTypes) -> Result<(), AllocError> {
+    add_complex(alloc, types)?;
+    add_simple(alloc, types)?;
+    add(alloc, types, "Amount", amount(alloc)?)?;
+    add(alloc, types, "Open", SchemaShape::Any)
 }
 
 #[test]

@@ -1,7 +1,7 @@
 -- The reader has taken no more than is given to it.
 use Rattle.std.proofs.Common.{◌≤◌, ◌+◌, length}
 use Rattle.markup.specs.Reading.{taken}
-use Rattle.tests.proofs.markup_tests.runs.behind.Given as goal
+use Rattle.tests.proofs.markup_tests.runs.are_taken.Given as goal
 
 abbrev pub invariant-loop-byte : goal.invariant-loop-byte
 invariant-loop-byte l = taken l.reader + length l.rest ≤ 100

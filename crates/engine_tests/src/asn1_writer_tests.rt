@@ -172,15 +172,19 @@ fn mode(row: &Component) -> Mode {
 fn fields(alloc: Global) -> Result<Fields, AllocError> {
     let mut fields = Fields::new(alloc);
     for row in COMPONENTS.as_slice() {
-        let name = text(alloc, row.name)?;
-        let target = text(alloc, "T")?;
-        fields.push(Field {
-            name,
-            target,
-            mode: mode(row),
-        })?;
+        fields.push(field_of(alloc, row)?)?;
     }
     Ok(fields)
+}
+
+fn field_of(alloc: Global, row: &Component) -> Result<Field, AllocError> {
+    let name = text(alloc, row.name)?;
+    let target = text(alloc, "T")?;
+    Ok(Field {
+        name,
+        target,
+        mode: mode(row),
+    })
 }
 
 fn codes(alloc: Global) -> Result<Names, AllocError> {
@@ -195,29 +199,42 @@ fn add(alloc: Global, name: &str, shape: AsnShape, types: &mut AsnTypes) -> Resu
     types.push(AsnType { name, shape })
 }
 
-fn types(alloc: Global) -> Result<AsnTypes, Fail> {
-    let mut types = AsnTypes::new(alloc);
-    for row in PLAIN.as_slice() {
-        add(alloc, row.name, shape_of(alloc, row)?, &mut types)?;
-    }
+fn amount(alloc: Global) -> Result<AsnShape, Fail> {
     let code = text(alloc, "Code")?;
     let base = number(alloc)?;
-    add(alloc, "Amount", AsnShape::Money { code, base }, &mut types)?;
+    Ok(AsnShape::Money { code, base })
+}
+
+fn add_plain(alloc: Global, types: &mut AsnTypes) -> Result<(), AllocError> {
+    for row in PLAIN.as_slice() {
+        add(alloc, row.name, shape_of(alloc, row)?, types)?;
+    }
+    Ok(())
+}
+
+fn add_others(alloc: Global, types: &mut AsnTypes) -> Result<(), AllocError> {
     let named = AsnShape::Enumerated(Codes::new(alloc), codes(alloc)?);
-    add(alloc, "Code", named, &mut types)?;
-    add(
-        alloc,
-        "Fields",
-        AsnShape::Sequence(fields(alloc)?),
-        &mut types,
-    )?;
+    add(alloc, "Code", named, types)?;
+    add(alloc, "Fields", AsnShape::Sequence(fields(alloc)?), types)?;
     add(
         alloc,
         "Nothing",
         AsnShape::Choice(Fields::new(alloc)),
-        &mut types,
+        types,
     )?;
-    add(alloc, "Envelope", AsnShape::Fragment, &mut types)?;
+    add(alloc, "Envelope", AsnShape::Fragment, types)
+}
+
+fn add_all(alloc: Global, types: &mut AsnTypes) -> Result<(), Fail> {
+    add_plain(alloc, types)?;
+    add(alloc, "Amount", amount(alloc)?, types)?;
+    add_others(alloc, types)?;
+    Ok(())
+}
+
+fn types(alloc: Global) -> Result<AsnTypes, Fail> {
+    let mut types = AsnTypes::new(alloc);
+    add_all(alloc, &mut types)?;
     Ok(types)
 }
 

@@ -1,7 +1,0 @@
--- The reader has taken as many bytes as are counted.
-use Rattle.std.proofs.Common.{◌≡◌}
-use Rattle.markup.specs.Reading.{taken}
-use Rattle.tests.proofs.respell_tests.is_respelled.Given as goal
-
-abbrev pub invariant-loop-byte : goal.invariant-loop-byte
-invariant-loop-byte l = taken l.reader ≡ l.given
