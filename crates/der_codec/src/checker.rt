@@ -215,8 +215,8 @@ impl DerChecker {
         }
     }
 
-    /// Takes components of the usual form as long as they stand here (where pieces are kept one of them), or else the first
-    /// byte of a header; and ends the values that end behind it.
+    /// Takes components of the usual form as long as they stand here, or else the first byte of a header; and ends the
+    /// values that end behind it.
     #[inline(always)]
     fn take_header(&mut self, model: &Model, piece: &[u8]) -> Result<usize, Stop>
         requires some { 0 < length piece.now }
@@ -229,7 +229,7 @@ impl DerChecker {
         ensures some { IfOk result (λ n. 0 < n) }
     {
         if self.pieces.is_some() {
-            return self.take_shown(model, piece);
+            return self.take_kept(model, piece);
         }
         let taken = self.take_run(model, piece);
         if taken == 0 {

@@ -147,8 +147,7 @@ fn judge_number<'a>(
 }
 
 /// The contents of an envelope: the canonical fragment of its element.
-#[cold]
-#[inline(never)]
+#[inline(always)]
 fn judge_envelope<'a>(checks: &Checks, octets: &'a [u8]) -> Result<LeafRef<'a>, Refusal>
     requires { length octets.now < 2 ^ 40 }
     ensures { (m : DerMessage ℕ) → (m.fragment ≡ fragment) → IsJudgedAt m (Holds Fragment) octets.now result }

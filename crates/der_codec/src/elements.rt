@@ -160,6 +160,7 @@ pub(crate) fn begin_last(
 }
 
 /// A leaf comes, which is the last component of a value, with the elements that begin and end with it.
+#[inline(always)]
 pub(crate) fn hold_last(
     builder: &mut Builder,
     model: &Model,
@@ -191,6 +192,7 @@ fn hold_within(
 }
 
 /// A leaf comes.
+#[inline(always)]
 pub(crate) fn append(builder: &mut Builder, leaf: &LeafRef<'_>) -> Result<(), AllocError>
     ensures { OnOk result (builder.new.pieces ≡ builder.old.pieces ++ Holds (leaf_of leaf.now) ∷ []) }
 {
@@ -229,6 +231,7 @@ fn end_elements(builder: &mut Builder, ended: &Elements) -> Result<(), AllocErro
 
 /// The elements end that ended with a value, which is the last component of this one; none where it is the
 /// instance itself.
+#[inline(always)]
 pub(crate) fn end_component(
     builder: &mut Builder,
     model: &Model,

@@ -45,6 +45,7 @@ pub(crate) fn judge_simple<'a>(
 }
 
 /// The octets of a binary value: §8.7.
+#[inline(always)]
 fn judge_binary<'a>(simple: &Simple, octets: &'a [u8]) -> Result<LeafRef<'a>, Refusal>
     requires { simple.now.kind ≡ kind.Binary }
     ensures { IsJudged simple.now octets.now result }
@@ -56,6 +57,7 @@ fn judge_binary<'a>(simple: &Simple, octets: &'a [u8]) -> Result<LeafRef<'a>, Re
 }
 
 /// A number: §8.5, §11.3.
+#[inline(always)]
 fn judge_decimal<'a>(simple: &Simple, octets: &'a [u8]) -> Result<LeafRef<'a>, Refusal>
     requires { simple.now.kind ≡ kind.Decimal }
     ensures { IsJudged simple.now octets.now result }
@@ -70,6 +72,7 @@ fn judge_decimal<'a>(simple: &Simple, octets: &'a [u8]) -> Result<LeafRef<'a>, R
 }
 
 /// A truth value: §8.2, §11.1.
+#[inline(always)]
 fn judge_boolean<'a>(simple: &Simple, octets: &'a [u8]) -> Result<LeafRef<'a>, Refusal>
     requires { simple.now.kind ≡ kind.Boolean }
     ensures { IsJudged simple.now octets.now result }
@@ -153,6 +156,7 @@ fn tell_text(
 }
 
 /// A date or a time, with no white space: §8.23, of ASCII alone.
+#[inline(always)]
 fn judge_date<'a>(
     checks: &mut Checks,
     number: u32,

@@ -15,10 +15,10 @@ use crate::pieces::begin_last;
 use message_model::Model;
 
 impl DerChecker {
-    /// Takes a component of the usual form, or where none stands here as a whole the first byte of a header; and ends the
-    /// values that end behind it.
-    #[inline(never)]
-    pub(crate) fn take_shown(&mut self, model: &Model, piece: &[u8]) -> Result<usize, Stop>
+    /// Takes components of the usual form as long as they stand here, or else the first byte of a header; and ends the
+    /// values that end behind them.
+    #[inline(always)]
+    pub(crate) fn take_kept(&mut self, model: &Model, piece: &[u8]) -> Result<usize, Stop>
         requires some { 0 < length piece.now }
         requires room { fed self.old + length piece.now ≤ 2 ^ 40 }
         requires due { IsHeaderDue self.old.decoder.due }
@@ -28,14 +28,61 @@ impl DerChecker {
         ensures front { TakesFront model.now self.old self.new piece.now result }
         ensures some { IfOk result (λ n. 0 < n) }
     {
-        let Some((first, others)) = piece.split_first() else {
+        let taken = match self.take_shown(model, piece) {
+            Ok(taken) => taken,
+            Err(stop) => return Err(stop),
+        };
+        if taken == 0 {
             return self.take_first(model, piece);
+        }
+        Ok(taken)
+    }
+
+    /// Takes components of the usual form as long as they stand here, and ends the values that end behind them. It answers
+    /// how many bytes that are.
+    #[inline(always)]
+    fn take_shown(&mut self, model: &Model, piece: &[u8]) -> Result<usize, Stop>
+        requires room { fed self.old + length piece.now ≤ 2 ^ 40 }
+        requires checks { CheckTypes (types_of model.now) self.old.checks }
+        requires given { (bytes : List ℕ) × HasFed self.old model.now bytes }
+        ensures checks { CheckTypes (types_of model.now) self.new.checks }
+        ensures front { TakesFront model.now self.old self.new piece.now result }
+        ensures unchanged { IfOk result (λ n. n ≡ 0 → self.new.decoder ≡ self.old.decoder) }
+    {
+        let mut taken = 0_usize;
+        loop {
+            let (_front, rest) = piece.split_at(taken);
+            let count = match self.show_next(model, rest) {
+                Ok(count) => count,
+                Err(stop) => return Err(stop),
+            };
+            if count == 0 {
+                return Ok(taken);
+            }
+            taken += count;
+        }
+    }
+
+    /// Takes a component of the usual form, and ends the values that end behind it. It answers how many bytes that are:
+    /// none where no such component stands here as a whole, or one that breaks a rule.
+    #[tactic(auto, using(crate::proofs::UsualFed::none_front))]
+    #[inline(always)]
+    fn show_next(&mut self, model: &Model, piece: &[u8]) -> Result<usize, Stop>
+        requires room { fed self.old + length piece.now ≤ 2 ^ 40 }
+        requires checks { CheckTypes (types_of model.now) self.old.checks }
+        requires given { (bytes : List ℕ) × HasFed self.old model.now bytes }
+        ensures checks { CheckTypes (types_of model.now) self.new.checks }
+        ensures front { TakesFront model.now self.old self.new piece.now result }
+        ensures unchanged { IfOk result (λ n. n ≡ 0 → self.new.decoder ≡ self.old.decoder) }
+    {
+        let Some((first, others)) = piece.split_first() else {
+            return Ok(0);
         };
         let Some((second, behind)) = others.split_first() else {
-            return self.take_first(model, piece);
+            return Ok(0);
         };
         match self.decoder.begun(model, *first, *second) {
-            None => self.take_first(model, piece),
+            None => Ok(0),
             Some(begun) => {
                 if begun.constructed {
                     return self.enter_shown(model, begun, piece);
@@ -46,11 +93,10 @@ impl DerChecker {
     }
 
     /// Goes into the component that stands first in the piece, where no memory is wanted.
+    #[tactic(auto, using(crate::proofs::UsualFed::none_front))]
     #[inline(always)]
     fn enter_shown(&mut self, model: &Model, begun: Begun, piece: &[u8]) -> Result<usize, Stop>
-        requires some { 0 < length piece.now }
         requires room { fed self.old + length piece.now ≤ 2 ^ 40 }
-        requires due { IsHeaderDue self.old.decoder.due }
         requires checks { CheckTypes (types_of model.now) self.old.checks }
         requires given { (bytes : List ℕ) × HasFed self.old model.now bytes }
         requires open { 0 < length self.old.decoder.levels.items }
@@ -58,10 +104,11 @@ impl DerChecker {
         requires stands { (bytes : List ℕ) → HasFed self.old model.now bytes → (n : ℕ) × (behind : List ℕ) × StandsFirst (der_message model.now) self.old.decoder bytes begun n behind piece.now }
         ensures checks { CheckTypes (types_of model.now) self.new.checks }
         ensures front { TakesFront model.now self.old self.new piece.now result }
-        ensures some { IfOk result (λ n. 0 < n) }
+        ensures unchanged { IfOk result (λ n. n ≡ 0 → self.new.decoder ≡ self.old.decoder) }
     {
+        let _ = piece;
         if !self.decoder.has_room() {
-            return self.take_first(model, piece);
+            return Ok(0);
         }
         let place = self.decoder.place + 2;
         self.decoder
@@ -76,6 +123,7 @@ impl DerChecker {
     }
 
     /// Passes the leaf that stands first in the piece, where all its contents stand there and break no rule.
+    #[tactic(auto, using(crate::proofs::UsualFed::none_front))]
     #[inline(always)]
     fn pass_shown(
         &mut self,
@@ -85,9 +133,7 @@ impl DerChecker {
         behind: &[u8],
         piece: &[u8],
     ) -> Result<usize, Stop>
-        requires some { 0 < length piece.now }
         requires room { fed self.old + length piece.now ≤ 2 ^ 40 }
-        requires due { IsHeaderDue self.old.decoder.due }
         requires checks { CheckTypes (types_of model.now) self.old.checks }
         requires given { (bytes : List ℕ) × HasFed self.old model.now bytes }
         requires open { 0 < length self.old.decoder.levels.items }
@@ -95,11 +141,12 @@ impl DerChecker {
         requires stands { (bytes : List ℕ) → HasFed self.old model.now bytes → StandsFirst (der_message model.now) self.old.decoder bytes begun second behind.now piece.now }
         ensures checks { CheckTypes (types_of model.now) self.new.checks }
         ensures front { TakesFront model.now self.old self.new piece.now result }
-        ensures some { IfOk result (λ n. 0 < n) }
+        ensures unchanged { IfOk result (λ n. n ≡ 0 → self.new.decoder ≡ self.old.decoder) }
     {
+        let _ = piece;
         let count = second as usize;
         if behind.len() < count {
-            return self.take_first(model, piece);
+            return Ok(0);
         }
         let (contents, _others) = behind.split_at(count);
         let told = match tell_last(
@@ -114,7 +161,7 @@ impl DerChecker {
             Err(_) => return Err(Stop::Memory),
         };
         if !told {
-            return self.take_first(model, piece);
+            return Ok(0);
         }
         self.decoder.go_behind(begun.around, begun.end);
         match self.end_here(model) {

@@ -30,3 +30,6 @@ returns-in-Err-end_here-clause-front c =
     let e = c.enter_at.ensures in
     let both = entered c.args.model.now c.args.self.now c.enter_at.new.self c.args.begun h.0 h.1 piece bytes c.begin_last.new.pieces k h.2 c.requires.constructed c.in-Ok.ensures e.levels e.place e.start e.due e.fresh in
     c.in-Err-end_here.ensures.err (bytes ++ take 2 piece) both.0)
+
+pub returns-in-Ok-end_here-clause-unchanged : goal.returns-in-Ok-end_here-clause-unchanged
+returns-in-Ok-end_here-clause-unchanged c = λ none. absurd (omega (arith, none))

@@ -1,6 +1,6 @@
 use Rattle.std.proofs.Common.{◌+◌, ◌++◌, length, take, drop, refl, ap, arith}
 use Rattle.der_codec.proofs.Fed.{taken_front, stopped_front, joined}
-use Rattle.der_codec.proofs.UsualFed.{fed_as, front_as, passed}
+use Rattle.der_codec.proofs.UsualFed.{fed_as, none_front_as, passed}
 use Rattle.der_codec.proofs.checker.DerChecker.pass_shown.Goals as goal
 
 pub end_here-requires-clause-given : goal.end_here-requires-clause-given
@@ -43,12 +43,9 @@ returns-in-Err-end_here-clause-front c =
     e.start e.due e.fresh in
     c.in-Err-end_here.ensures.err (bytes ++ take (2 + n) piece) both.0)
 
-pub take_first-requires-then-not-told-clause-given : goal.take_first-requires-then-not-told-clause-given
-take_first-requires-then-not-told-clause-given c =
-    let g = c.requires.given in
-    (g.0, fed_as c.args.model.now c.args.self.now _ g.0 refl refl (c.in-Ok.ensures.same (let e = c.if-not-told.true in cc)) refl g.1)
-
 pub returns-then-not-told-clause-front : goal.returns-then-not-told-clause-front
 returns-then-not-told-clause-front c =
-    front_as c.args.model.now c.args.self.now _ c.take_first-then-not-told.new.self c.args.piece.now c.take_first-then-not-told.result
-    (λ bytes k. fed_as c.args.model.now c.args.self.now _ bytes refl refl (c.in-Ok.ensures.same (let e = c.if-not-told.true in cc)) refl k) c.take_first-then-not-told.ensures.front
+    none_front_as c.args.model.now c.args.self.now _ c.args.piece.now (λ bytes k. fed_as c.args.model.now c.args.self.now _ bytes refl refl (c.in-Ok.ensures.same (let e = c.if-not-told.true in cc)) refl k)
+
+pub returns-in-Ok-end_here-clause-unchanged : goal.returns-in-Ok-end_here-clause-unchanged
+returns-in-Ok-end_here-clause-unchanged c = λ none. absurd (omega (arith, none))

@@ -1,33 +1,66 @@
-use Rattle.std.proofs.Common.{◌∷◌, ◌∙◌, ap, length, arith}
+use Rattle.std.proofs.Common.{◌++◌, ◌∙◌, length, take, sym, ap, subst, arith, append-nil, refl}
+use Rattle.std.proofs.lemmas.List.{length-drop}
+use Rattle.der_codec.specs.Checking.{HasFed}
+use Rattle.der_codec.proofs.UsualFed.{front_room, run_stopped, run_ends}
+use Rattle.der_codec.proofs.UsualSteps.{run_more}
 use Rattle.der_codec.proofs.checker.DerChecker.take_shown.Goals as goal
 
-pub begun-requires-clause-room : goal.begun-requires-clause-room
-begun-requires-clause-room c =
-    let a = ap length c.in-Some.ensures.cases.0 in
-    let b = ap length c.in-Some-split_first.ensures.cases.0 in
-    let room = c.requires.room in
-    omega (arith, a, b, room)
-
-pub begun-requires-clause-waits : goal.begun-requires-clause-waits
-begun-requires-clause-waits c = c.requires.given.1.reading.waits
-
-pub begun-requires-clause-read : goal.begun-requires-clause-read
-begun-requires-clause-read c = (let g = c.requires.given in (g.0, g.1.reading.read))
-
-pub enter_shown-requires-clause-stands : goal.enter_shown-requires-clause-stands
-enter_shown-requires-clause-stands c = λ bytes h. (
-  c.in-Some-split_first.second.now,
-  c.in-Some-split_first.behind.now,
-  record {
-    first = c.in-Some.first.now;
-    piece_is = c.in-Some.ensures.cases.0 ∙ ap (λ z. c.in-Some.first.now ∷ z) c.in-Some-split_first.ensures.cases.0;
-    begun = c.in-Some-begun.ensures.begun bytes h.reading.read;
-  },
+pub loop-count-init : goal.loop-count-init
+loop-count-init c = (
+  c.requires.checks,
+  λ bytes h. subst (HasFed c.args.self.now c.args.model.now) (sym (append-nil bytes)) h,
+  omega arith,
+  λ none. refl,
 )
 
-pub pass_shown-requires-clause-stands : goal.pass_shown-requires-clause-stands
-pass_shown-requires-clause-stands c = λ bytes h. record {
-  first = c.in-Some.first.now;
-  piece_is = c.in-Some.ensures.cases.0 ∙ ap (λ z. c.in-Some.first.now ∷ z) c.in-Some-split_first.ensures.cases.0;
-  begun = c.in-Some-begun.ensures.begun bytes h.reading.read;
-}
+pub split_at-requires : goal.split_at-requires
+split_at-requires c = c.loop-count.invariant.2
+
+pub show_next-requires-clause-room : goal.show_next-requires-clause-room
+show_next-requires-clause-room c =
+    let i = c.loop-count.invariant in
+    let g = c.requires.given in
+    front_room c.args.model.now c.args.self.now c.loop-count.self g.0 c.args.piece.now c.split_at.result.1.now c.loop-count.taken c.split_at.ensures.back g.1 (i.1 g.0 g.1) i.2 c.requires.room
+
+pub show_next-requires-clause-checks : goal.show_next-requires-clause-checks
+show_next-requires-clause-checks c = c.loop-count.invariant.0
+
+pub show_next-requires-clause-given : goal.show_next-requires-clause-given
+show_next-requires-clause-given c = (let g = c.requires.given in (g.0 ++ take c.loop-count.taken c.args.piece.now, c.loop-count.invariant.1 g.0 g.1))
+
+pub returns-in-Err-clause-front : goal.returns-in-Err-clause-front
+returns-in-Err-clause-front c =
+    let i = c.loop-count.invariant in
+    run_stopped c.args.model.now c.args.self.now c.loop-count.self c.show_next.new.self c.args.piece.now c.split_at.result.1.now c.loop-count.taken c.in-Err.stop c.split_at.ensures.back i.1 c.in-Err.ensures.front
+
+pub returns-then-count-eq0-clause-front : goal.returns-then-count-eq0-clause-front
+returns-then-count-eq0-clause-front c =
+    let i = c.loop-count.invariant in
+    run_ends c.args.model.now c.args.self.now c.loop-count.self c.show_next.new.self c.args.piece.now c.split_at.result.1.now c.loop-count.taken c.in-Ok.count c.if-count-eq0.true i.2 i.1 c.in-Ok.ensures.front
+
+pub returns-then-count-eq0-clause-unchanged : goal.returns-then-count-eq0-clause-unchanged
+returns-then-count-eq0-clause-unchanged c = λ none. c.in-Ok.ensures.unchanged c.if-count-eq0.true ∙ c.loop-count.invariant.3 none
+
+pub loop-count-smaller : goal.loop-count-smaller
+loop-count-smaller c =
+    let some = c.if-count-eq0.false in
+    let within = c.in-Ok.ensures.front.within in
+    let behind = ap length c.split_at.ensures.back ∙ length-drop c.loop-count.taken c.args.piece.now in
+    let few = c.loop-count.invariant.2 in
+    omega (arith, some, within, behind, few)
+
+pub loop-count-preserved : goal.loop-count-preserved
+loop-count-preserved c =
+    let piece = c.args.piece.now in
+    let taken = c.loop-count.taken in
+    let count = c.in-Ok.count in
+    let some = c.if-count-eq0.false in
+    let within = c.in-Ok.ensures.front.within in
+    let behind = ap length c.split_at.ensures.back ∙ length-drop taken piece in
+    let i = c.loop-count.invariant in
+    let few = i.2 in (
+      c.in-Ok.ensures.checks,
+      λ bytes h. subst (HasFed c.show_next.new.self c.args.model.now) (run_more bytes piece c.split_at.result.1.now taken count c.split_at.ensures.back) (c.in-Ok.ensures.front.ok (bytes ++ take taken piece) (i.1 bytes h)),
+      omega (arith, within, behind, few),
+      λ none. absurd (omega (arith, none, some)),
+    )

@@ -1,0 +1,33 @@
+use Rattle.std.proofs.Common.{◌∷◌, ◌∙◌, ap, length, arith}
+use Rattle.der_codec.proofs.checker.DerChecker.show_next.Goals as goal
+
+pub begun-requires-clause-room : goal.begun-requires-clause-room
+begun-requires-clause-room c =
+    let a = ap length c.in-Some.ensures.cases.0 in
+    let b = ap length c.in-Some-split_first.ensures.cases.0 in
+    let room = c.requires.room in
+    omega (arith, a, b, room)
+
+pub begun-requires-clause-waits : goal.begun-requires-clause-waits
+begun-requires-clause-waits c = c.requires.given.1.reading.waits
+
+pub begun-requires-clause-read : goal.begun-requires-clause-read
+begun-requires-clause-read c = (let g = c.requires.given in (g.0, g.1.reading.read))
+
+pub enter_shown-requires-clause-stands : goal.enter_shown-requires-clause-stands
+enter_shown-requires-clause-stands c = λ bytes h. (
+  c.in-Some-split_first.second.now,
+  c.in-Some-split_first.behind.now,
+  record {
+    first = c.in-Some.first.now;
+    piece_is = c.in-Some.ensures.cases.0 ∙ ap (λ z. c.in-Some.first.now ∷ z) c.in-Some-split_first.ensures.cases.0;
+    begun = c.in-Some-begun.ensures.begun bytes h.reading.read;
+  },
+)
+
+pub pass_shown-requires-clause-stands : goal.pass_shown-requires-clause-stands
+pass_shown-requires-clause-stands c = λ bytes h. record {
+  first = c.in-Some.first.now;
+  piece_is = c.in-Some.ensures.cases.0 ∙ ap (λ z. c.in-Some.first.now ∷ z) c.in-Some-split_first.ensures.cases.0;
+  begun = c.in-Some-begun.ensures.begun bytes h.reading.read;
+}
