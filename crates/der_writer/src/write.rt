@@ -144,7 +144,7 @@ fn put_at(model: &Model, instance: &Instance, at: usize, buffer: &mut Buffer) ->
     }
 }
 
-/// Pushes the buffer, and then what is written at a piece.
+/// Pushes the buffer; what is written at a piece waits in it then, or is pushed too where it is too long for that.
 #[cold]
 #[inline(never)]
 fn push_both<O: Sink>(
@@ -159,6 +159,9 @@ fn push_both<O: Sink>(
 {
     if let Err(error) = buffer.flush(sink) {
         return Err(error);
+    }
+    if put_at(model, instance, at, buffer) {
+        return Ok(());
     }
     push_at(model, instance, at, sink)
 }
