@@ -90,7 +90,7 @@ fn put_pieces(model: &Model, instance: &Instance, place: Place, buffer: &mut Buf
     next
 }
 
-/// Pushes what the buffer has, and then what a piece writes.
+/// Pushes what the buffer has; what a piece writes waits in it then, or is pushed too where it is too long for that.
 fn push_past<O: Sink>(
     model: &Model,
     innermost: Innermost,
@@ -106,6 +106,9 @@ fn push_past<O: Sink>(
 {
     if let Err(error) = buffer.flush(sink) {
         return Err(error);
+    }
+    if put_piece(model, innermost, unended, piece, buffer) {
+        return Ok(());
     }
     push_piece(model, innermost, unended, piece, sink)
 }

@@ -1,5 +1,5 @@
 -- The buffer, and then the piece.
-use Rattle.std.proofs.Common.{sym, subst}
+use Rattle.std.proofs.Common.{sym, subst, ◌∙◌}
 use Rattle.outside.specs.Gathering.{Gathers}
 use Rattle.outside.proofs.Pushing.{fails_push}
 use Rattle.outside.proofs.PushedFronts.{gathers_none}
@@ -11,5 +11,5 @@ returns-in-Err g c = λ bytes is.
 
 pub returns : goal.returns
 returns g c = λ bytes is.
-    subst (λ t. Gathers g.O.Sink.held g.O.Sink.faults g.O.Sink.room c.args.sink.now c.push_piece.new.sink c.args.buffer.now t c.push_piece.result bytes) (sym c.flush.ensures.empty)
+    subst (λ t. Gathers g.O.Sink.held g.O.Sink.faults g.O.Sink.room c.args.sink.now c.push_piece.new.sink c.args.buffer.now t c.push_piece.result bytes) (sym (c.put_piece.ensures.kept c.if-put_piece.false ∙ c.flush.ensures.empty))
     (gathers_none g.O.Sink.held g.O.Sink.faults g.O.Sink.room _ _ _ c.push_piece.result c.args.buffer.now bytes c.in_default.ensures.push (c.push_piece.ensures bytes is))
