@@ -18,6 +18,7 @@ use message_model::{Form, Model};
 use outside::{Sink, SinkError, push_bytes};
 
 /// Pushes what a leaf of the innermost element writes.
+#[inline(always)]
 pub(crate) fn push_held<O: Sink>(
     model: &Model,
     innermost: Innermost,

@@ -91,6 +91,8 @@ fn put_pieces(model: &Model, instance: &Instance, place: Place, buffer: &mut Buf
 }
 
 /// Pushes what the buffer has; what a piece writes waits in it then, or is pushed too where it is too long for that.
+#[cold]
+#[inline(never)]
 fn push_past<O: Sink>(
     model: &Model,
     innermost: Innermost,
@@ -149,7 +151,7 @@ fn is_within(piece: &Piece<'_>, spare: usize) -> bool {
 }
 
 /// Pushes what a piece writes.
-#[inline]
+#[inline(always)]
 fn push_piece<O: Sink>(
     model: &Model,
     innermost: Innermost,

@@ -11,7 +11,7 @@ use message_model::Model;
 use outside::{Sink, SinkError, push_bytes};
 
 /// Pushes the start tag of an element, which may be left unended.
-#[inline]
+#[inline(always)]
 pub(crate) fn push_begin<O: Sink>(
     model: &Model,
     edge: &Edge,
@@ -32,7 +32,7 @@ pub(crate) fn push_begin<O: Sink>(
 }
 
 /// Pushes the end tag of an element.
-#[inline]
+#[inline(always)]
 pub(crate) fn push_end<O: Sink>(model: &Model, edge: &Edge, sink: &mut O) -> Result<(), SinkError>
     requires { (s : Slotted ℕ) × (slice_get (form_slots (types_of model.now edge.now.parent)) edge.now.slot ≡ Some s) }
     ensures { (s : Slotted ℕ) → slice_get (form_slots (types_of model.now edge.now.parent)) edge.now.slot ≡ Some s
