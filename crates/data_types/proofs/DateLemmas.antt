@@ -1,7 +1,8 @@
 -- Where the parts of a date's text end.
-use Rattle.std.proofs.Common.{◌≡◌, ◌≢◌, ℕ, ◌+◌, ◌-◌, ◌<◌, ◌≤◌, inl, inr, Bool, true, List, [], ◌∷◌, ◌++◌, length, take, drop, get_or, slice_index, sym, ap, subst, ◌∙◌, arith, take-append-drop, lit≤}
+use Rattle.std.proofs.Common.{◌≡◌, ◌≢◌, ℕ, ◌+◌, ◌-◌, ◌<◌, ◌≤◌, inl, inr, Bool, true, false, List, [], ◌∷◌, ◌++◌, length, take, drop, get_or, slice_index, sym, ap, subst, ◌∙◌, arith, take-append-drop, lit≤}
 use Rattle.std.proofs.Math.Seq.{take-append_seam, drop-append_seam}
-use Rattle.std.proofs.lemmas.Bool.{cases_lt}
+use Rattle.std.proofs.lemmas.Bool.{cases_lt, iff_false}
+use Rattle.std.specs.Prelude.{IsTrue, ◌↔◌}
 use Rattle.std.proofs.lemmas.List.{length-take-le, length-drop, length-append, get_or_append_left, get_or-append-add, get_or-take, get_or-drop}
 use Rattle.std.specs.Char.{digit_value}
 use Rattle.std.specs.Str.Parse.{AllDigits}
@@ -11,6 +12,18 @@ use Rattle.data_types.specs.Dates.{FitsPlace, HasForm, HasParts, IsDateText, IsF
 use Rattle.data_types.specs.Kinds.{form_of, has_seconds}
 use Rattle.data_types.specs.inner.DateParts.{IsRest}
 use Rattle.data_types.specs.declared.kind.Kind.{Kind}
+
+-- no is the answer where there is none
+pub neither : {P : Type 0} → (P → ⊥) → IsTrue false ↔ P
+neither none = (λ e. absurd cc, λ h. absurd (none h))
+
+-- no is the answer where a part says no
+pub neither_by : {b : Bool} {P Q : Type 0} → (IsTrue b ↔ Q) → b ≡ false → (P → Q) → IsTrue false ↔ P
+neither_by part fails in_part = neither (λ h. iff_false part fails (in_part h))
+
+-- and what that part says is the answer
+pub neither_as : {b : Bool} {P Q : Type 0} → (IsTrue b ↔ Q) → b ≡ false → (P → Q) → IsTrue b ↔ P
+neither_as part fails in_part = (λ e. absurd (iff_false (λ x. x, λ x. x) fails e), λ h. absurd (iff_false part fails (in_part h)))
 
 -- a zone begins with no digit and no point
 zone_start : (zone : List ℕ) → IsZone zone → NoDigit zone × (0 < length zone → slice_index zone 0 ≢ 46)
@@ -55,6 +68,12 @@ fixed_split kind text fixed fraction zone n len form e =
       ap (λ k. drop k text) count ∙ (ap (drop (length fixed)) e ∙ drop-append_seam fixed (fraction ++ zone)),
     )
 
+-- a text that is shorter than its form is none
+pub text_short : (kind : Kind) (text : List ℕ) (n : ℕ) → length (form_of kind) ≡ n → length text < n → IsDateText kind text → ⊥
+text_short kind text n len short (fixed, fraction, zone, e, form, parts, f, z) =
+    let same = form.same_length in
+    omega (arith, len, short, same, ap length e, length-append fixed (fraction ++ zone))
+
 -- a fixed part and what may stand behind it make a text
 pub text_told : (kind : Kind) (text fixed rest : List ℕ) (n : ℕ) → fixed ≡ take n text → rest ≡ drop n text → HasForm (form_of kind) fixed × HasParts kind fixed
     → IsRest (has_seconds kind) rest → IsDateText kind text
@@ -79,6 +98,10 @@ text_parted kind text fixed rest n len front back (fixed', fraction, zone, e, fo
 -- a byte that fits its place fits an equal one
 fits_same : {p q a b : ℕ} → p ≡ q → a ≡ b → FitsPlace p a → FitsPlace q b
 fits_same {p} {q} {a} {b} e f h = subst (λ x. FitsPlace x b) e (subst (λ x. FitsPlace p x) f h)
+
+-- a text that is shorter has not the form
+pub form_long : (form text : List ℕ) (n : ℕ) → n ≤ length form → length text < n → HasForm form text → ⊥
+form_long form text n room short has = let same = has.same_length in omega (arith, room, short, same)
 
 -- a text of one form and behind it one of another
 pub forms_joined : (f g text : List ℕ) → length f ≤ length text → HasForm f (take (length f) text) → HasForm g (drop (length f) text) → HasForm (f ++ g) text

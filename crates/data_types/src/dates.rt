@@ -1,5 +1,5 @@
 // Whether a collapsed text is one of a date or a time: XML Schema part 2 §3.2.7 to §3.2.14.
-ghost use Rattle.std.specs.Prelude.{◌≡◌, ◌≤◌, ◌<◌, ◌+◌, ◌-◌, ◌++◌, ◌∷◌, [], ◌↔◌, codes, IsTrue, IfSome, length, take, drop, slice_index, List, ℕ};
+ghost use Rattle.std.specs.Prelude.{◌≡◌, ◌≢◌, ◌≤◌, ◌<◌, ◌+◌, ◌-◌, ◌++◌, ◌∷◌, [], ◌↔◌, codes, IsTrue, IfSome, length, take, drop, slice_index, List, ℕ};
 ghost use Rattle.std.specs.Str.Parse.{AllDigits};
 ghost use Rattle.data_types.specs.Kinds.{form_of, has_seconds};
 ghost use Rattle.data_types.specs.Dates.{IsDateText, HasForm, FitsPlace, HasParts, IsDay, IsClock, IsFraction, IsOffset, IsZone, two_at, four_at};
@@ -55,8 +55,10 @@ fn is_date_time(text: &[u8]) -> bool
     is_rest(true, rest)
 }
 
-/// The same for any kind.
+/// The same for the other kinds.
 fn is_other_text(kind: Kind, text: &[u8]) -> bool
+    requires date { kind ≢ Kind.Date }
+    requires time { kind ≢ Kind.DateTime }
     ensures { IsTrue result ↔ IsDateText kind text.now }
 {
     let form = form_of(kind);
@@ -205,8 +207,10 @@ fn two_digits(text: &[u8], at: usize) -> u32
     u32::from(text[at]) * 10 + u32::from(text[at + 1]) - 528
 }
 
-/// The same for any kind.
+/// The same for the other kinds.
 fn is_other_fixed_part(kind: Kind, text: &[u8]) -> bool
+    requires date { kind ≢ Kind.Date }
+    requires time { kind ≢ Kind.DateTime }
     ensures { IsTrue result ↔ (HasForm (form_of kind) text.now × HasParts kind text.now) }
 {
     has_form(form_of(kind), text) && has_parts(kind, text)
@@ -267,11 +271,12 @@ fn fits_place(place: u8, byte: u8) -> bool
 
 /// Whether the numbers of the fixed part are in their ranges.
 fn has_parts(kind: Kind, text: &[u8]) -> bool
+    requires date { kind ≢ Kind.Date }
+    requires time { kind ≢ Kind.DateTime }
     ensures { IsTrue result ↔ HasParts kind text.now }
 {
     match kind {
-        Kind::Date => is_day(four_at(text, 0), two_at(text, 5), two_at(text, 8)),
-        Kind::DateTime => is_day_and_clock(text),
+        Kind::Date | Kind::DateTime => unreachable!(),
         Kind::Time => is_clock(text, 0),
         Kind::Year => four_at(text, 0) >= 1,
         Kind::YearMonth => is_year_and_month(four_at(text, 0), two_at(text, 5)),
@@ -280,15 +285,6 @@ fn has_parts(kind: Kind, text: &[u8]) -> bool
         Kind::Day => is_between(two_at(text, 3), 31),
         Kind::Text | Kind::Decimal | Kind::Boolean | Kind::Binary | Kind::Envelope => false,
     }
-}
-
-fn is_day_and_clock(text: &[u8]) -> bool
-    ensures { IsTrue result ↔ HasParts Kind.DateTime text.now }
-{
-    if !is_day(four_at(text, 0), two_at(text, 5), two_at(text, 8)) {
-        return false;
-    }
-    is_clock(text, 11)
 }
 
 fn is_year_and_month(year: u32, month: u32) -> bool

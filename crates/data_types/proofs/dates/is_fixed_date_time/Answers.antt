@@ -1,4 +1,5 @@
 use Rattle.std.proofs.Common.{codes, refl, arith}
+use Rattle.data_types.proofs.DateLemmas.{neither_as, neither_by}
 use Rattle.data_types.proofs.DateForms.{digits_there}
 use Rattle.data_types.proofs.dates.is_fixed_date_time.Goals as goal
 
@@ -30,3 +31,9 @@ returns-then-is_day_there c = (
   λ e. (c.has_date_time_form.ensures.0 c.if-not-has_date_time_form.false, (c.is_day_there.ensures.0 c.if-is_day_there.true, c.is_clock_there.ensures.0 e)),
   λ h. c.is_clock_there.ensures.1 h.1.1,
 )
+
+pub returns-else-is_day_there : goal.returns-else-is_day_there
+returns-else-is_day_there c = neither_as c.is_day_there.ensures c.if-is_day_there.false (λ h. h.1.0)
+
+pub returns-then-not-has_date_time_form : goal.returns-then-not-has_date_time_form
+returns-then-not-has_date_time_form c = neither_by c.has_date_time_form.ensures c.if-not-has_date_time_form.true (λ h. h.0)

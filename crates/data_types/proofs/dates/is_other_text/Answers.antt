@@ -1,6 +1,6 @@
 use Rattle.std.proofs.Common.{length, sym, ap, subst}
 use Rattle.data_types.specs.inner.DateParts.{IsRest}
-use Rattle.data_types.proofs.DateLemmas.{text_told, text_parted}
+use Rattle.data_types.proofs.DateLemmas.{neither, neither_by, text_short, text_told, text_parted}
 use Rattle.data_types.proofs.dates.is_other_text.Goals as goal
 
 pub returns : goal.returns
@@ -15,10 +15,9 @@ returns c =
 
 pub returns-then-not-is_other_fixed_part : goal.returns-then-not-is_other_fixed_part
 returns-then-not-is_other_fixed_part c =
-    let no = c.if-not-is_other_fixed_part.true in
-    let len = ap length (sym c.form_of-form.ensures) in (
-      λ e. absurd cc,
-      λ h.
-          let yes = c.is_other_fixed_part.ensures.1 (text_parted c.args.kind c.args.text.now _ _ _ len c.split_at.ensures.front c.split_at.ensures.back h).0 in
-          absurd cc,
-    )
+    let len = ap length (sym c.form_of-form.ensures) in
+    neither_by c.is_other_fixed_part.ensures c.if-not-is_other_fixed_part.true
+    (λ h. (text_parted c.args.kind c.args.text.now _ _ _ len c.split_at.ensures.front c.split_at.ensures.back h).0)
+
+pub returns-then-text-form : goal.returns-then-text-form
+returns-then-text-form c = neither (text_short c.args.kind c.args.text.now _ (ap length (sym c.form_of-form.ensures)) c.if-text-form.true)
