@@ -16,3 +16,4 @@ pub mod ValueLemmas
 pub mod RunLemmas
 pub mod Collapsible
 pub mod WordRuns
+pub mod TakingLemmas

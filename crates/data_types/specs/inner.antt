@@ -1,3 +1,4 @@
 -- What private functions alone cite, in reading order.
 pub mod Words
 pub mod DateParts
+pub mod Taking

@@ -12,6 +12,7 @@ ghost use Rattle.data_types.specs.OctetSteps.{HasDecoded};
 ghost use Rattle.data_types.specs.ShortTexts.{HasKept};
 ghost use Rattle.data_types.specs.LeafAnswers.{IsLeafAnswer};
 ghost use Rattle.data_types.specs.LeafSteps.{HasGiven, HasValue, IsShortKind, IsNoText, value_memory, value_in_place, begun_in};
+ghost use Rattle.data_types.specs.inner.Taking.{HasSpareFor, TakesChars};
 
 use crate::booleans::boolean_of;
 use crate::collapse::{Collapse, Collapsed};
@@ -119,13 +120,8 @@ impl CollapsedStep {
 
     /// Takes the characters of a text, for which there is room.
     fn take_text(&mut self, text: &str)
-        requires { length (value_memory self.old.value).held + begun_in self.old.value + length text.now
-            ≤ (value_memory self.old.value).room }
-        ensures taken { (kind : Kind) (most : Option ℕ) (before : List ℕ)
-            → HasGiven self.old kind most before → HasGiven self.new kind most (before ++ chars text.now) }
-        ensures room { (value_memory self.old.value).room ≤ (value_memory self.new.value).room }
-        ensures count { length (value_memory self.new.value).held + begun_in self.new.value
-            ≤ length (value_memory self.old.value).held + begun_in self.old.value + length text.now }
+        requires { HasSpareFor self.old.value (length text.now) }
+        ensures { TakesChars self.old self.new (chars text.now) (length text.now) }
     {
         for c in text.chars() {
             match self.take(c) {
@@ -137,14 +133,9 @@ impl CollapsedStep {
 
     /// Takes the characters of these codes, for which there is room.
     fn take_codes(&mut self, codes: &[u8])
-        requires room { length (value_memory self.old.value).held + begun_in self.old.value + length codes.now
-            ≤ (value_memory self.old.value).room }
+        requires room { HasSpareFor self.old.value (length codes.now) }
         requires ascii { AllByRecursion (λ c. c < 128) codes.now }
-        ensures taken { (kind : Kind) (most : Option ℕ) (before : List ℕ)
-            → HasGiven self.old kind most before → HasGiven self.new kind most (before ++ codes.now) }
-        ensures room { (value_memory self.old.value).room ≤ (value_memory self.new.value).room }
-        ensures count { length (value_memory self.new.value).held + begun_in self.new.value
-            ≤ length (value_memory self.old.value).held + begun_in self.old.value + length codes.now }
+        ensures { TakesChars self.old self.new codes.now (length codes.now) }
     {
         if is_short_word(codes) {
             self.take_word(codes);
@@ -156,14 +147,9 @@ impl CollapsedStep {
     /// The same, a gap and a word at a time.
     #[inline(never)]
     fn take_pieces(&mut self, codes: &[u8])
-        requires room { length (value_memory self.old.value).held + begun_in self.old.value + length codes.now
-            ≤ (value_memory self.old.value).room }
+        requires room { HasSpareFor self.old.value (length codes.now) }
         requires ascii { AllByRecursion (λ c. c < 128) codes.now }
-        ensures taken { (kind : Kind) (most : Option ℕ) (before : List ℕ)
-            → HasGiven self.old kind most before → HasGiven self.new kind most (before ++ codes.now) }
-        ensures room { (value_memory self.old.value).room ≤ (value_memory self.new.value).room }
-        ensures count { length (value_memory self.new.value).held + begun_in self.new.value
-            ≤ length (value_memory self.old.value).held + begun_in self.old.value + length codes.now }
+        ensures { TakesChars self.old self.new codes.now (length codes.now) }
     {
         let mut rest = codes;
         while !rest.is_empty() {
@@ -178,15 +164,10 @@ impl CollapsedStep {
     /// Takes a word between others, for which there is room.
     #[inline(never)]
     fn take_piece(&mut self, word: &[u8])
-        requires room { length (value_memory self.old.value).held + begun_in self.old.value + length word.now
-            ≤ (value_memory self.old.value).room }
+        requires room { HasSpareFor self.old.value (length word.now) }
         requires ascii { AllByRecursion (λ c. c < 128) word.now }
         requires word { AllByRecursion (λ c. IsSpace c → ⊥) word.now }
-        ensures taken { (kind : Kind) (most : Option ℕ) (before : List ℕ)
-            → HasGiven self.old kind most before → HasGiven self.new kind most (before ++ word.now) }
-        ensures room { (value_memory self.old.value).room ≤ (value_memory self.new.value).room }
-        ensures count { length (value_memory self.new.value).held + begun_in self.new.value
-            ≤ length (value_memory self.old.value).held + begun_in self.old.value + length word.now }
+        ensures { TakesChars self.old self.new word.now (length word.now) }
     {
         self.take_word(word);
     }
@@ -207,15 +188,10 @@ impl CollapsedStep {
     /// Takes characters that are no white space, for which there is room.
     #[inline(always)]
     fn take_word(&mut self, word: &[u8])
-        requires room { length (value_memory self.old.value).held + begun_in self.old.value + length word.now
-            ≤ (value_memory self.old.value).room }
+        requires room { HasSpareFor self.old.value (length word.now) }
         requires ascii { AllByRecursion (λ c. c < 128) word.now }
         requires word { AllByRecursion (λ c. IsSpace c → ⊥) word.now }
-        ensures taken { (kind : Kind) (most : Option ℕ) (before : List ℕ)
-            → HasGiven self.old kind most before → HasGiven self.new kind most (before ++ word.now) }
-        ensures room { (value_memory self.old.value).room ≤ (value_memory self.new.value).room }
-        ensures count { length (value_memory self.new.value).held + begun_in self.new.value
-            ≤ length (value_memory self.old.value).held + begun_in self.old.value + length word.now }
+        ensures { TakesChars self.old self.new word.now (length word.now) }
     {
         if word.is_empty() {
             return;
@@ -342,8 +318,7 @@ impl Value {
     /// Takes a word, for which there is room, and the space before it, where the collapsed text gains one.
     #[inline(always)]
     fn take_word(&mut self, gap: bool, word: &[u8])
-        requires room { length (value_memory self.old).held + begun_in self.old + length word.now
-            ≤ (value_memory self.old).room }
+        requires room { HasSpareFor self.old (length word.now) }
         requires ascii { AllByRecursion (λ c. c < 128) word.now }
         requires word { AllByRecursion (λ c. IsSpace c → ⊥) word.now }
         ensures taken { (kind : Kind) (most : Option ℕ) (chars collapsed : List ℕ)

@@ -1,7 +1,6 @@
-use Rattle.std.proofs.Common.{ℕ, ◌+◌, ◌≤◌, ◌<◌, ◌≡◌, List, ◌++◌, length, Option}
+use Rattle.std.proofs.Common.{ℕ, ◌<◌, ◌≡◌, List, ◌++◌, length}
 use Rattle.std.specs.List.{AllByRecursion}
-use Rattle.data_types.specs.LeafSteps.{HasGiven, value_memory, begun_in}
-use Rattle.data_types.specs.declared.kind.Kind.{Kind}
+use Rattle.data_types.specs.inner.Taking.{TakesChars}
 use Rattle.data_types.specs.declared.collapsed_step.CollapsedStep.{CollapsedStep}
 use Rattle.data_types.proofs.collapsed_step.CollapsedStep.take_pieces.Given as goal
 
@@ -10,9 +9,7 @@ pub record HasGoneOn (old now : CollapsedStep) (codes rest : List ℕ) : Type 0 
   pub seen : List ℕ
   pub joined : codes ≡ seen ++ rest
   pub ascii : AllByRecursion (λ c. c < 128) rest
-  pub taken : (kind : Kind) (most : Option ℕ) (before : List ℕ) → HasGiven old kind most before → HasGiven now kind most (before ++ seen)
-  pub room : (value_memory old.value).room ≤ (value_memory now.value).room
-  pub count : length (value_memory now.value).held + begun_in now.value ≤ length (value_memory old.value).held + begun_in old.value + length seen
+  pub takes : TakesChars old now seen (length seen)
 
 abbrev pub invariant-loop-rest : goal.invariant-loop-rest
 invariant-loop-rest l = HasGoneOn l.initial.self l.self l.codes l.rest
