@@ -27,7 +27,7 @@ use lexical_core::{DecimalStep, DecimalText, Rule};
 use std::alloc::{AllocError, Global};
 
 /// What is kept of the collapsed text, by the kind.
-#[derive(Debug, Drop)]
+#[derive(Drop)]
 enum Value {
     /// A decimal.
     Decimal(DecimalStep),
@@ -38,7 +38,7 @@ enum Value {
 }
 
 /// A reader of the text of a leaf of any kind but text. It takes memory for the octets of binary values alone.
-#[derive(Debug, Drop)]
+#[derive(Drop)]
 pub(crate) struct CollapsedStep {
     collapse: Collapse,
     value: Value,

@@ -6,7 +6,7 @@ use crate::kept_bytes::KeptBytes;
 use std::alloc::{AllocError, Global};
 
 /// Bytes that are kept as long as their size is within a limit, and else the fact that it is not.
-#[derive(Debug, Drop)]
+#[derive(Drop)]
 pub struct Kept {
     bytes: KeptBytes,
     most: Option<u64>,

@@ -5,7 +5,7 @@ use std::alloc::{AllocError, Global};
 use std::marker::Model;
 
 /// Bytes that grow at their end.
-#[derive(Debug, Drop)]
+#[derive(Drop)]
 pub struct KeptBytes {
     bytes: Vec<u8>,
 }

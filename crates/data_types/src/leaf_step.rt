@@ -13,7 +13,7 @@ use lexical_core::Rule;
 use std::alloc::{AllocError, Global};
 
 /// What is kept of the characters.
-#[derive(Debug, Drop)]
+#[derive(Drop)]
 enum Body {
     /// Of a text: as it is.
     Text(Kept),
@@ -23,7 +23,7 @@ enum Body {
 
 /// A reader of the text of a leaf that takes a character or a run of characters at a time. It takes memory for
 /// the bytes of texts and the octets of binary values alone.
-#[derive(Debug, Drop)]
+#[derive(Drop)]
 pub struct LeafStep {
     kind: Kind,
     body: Body,

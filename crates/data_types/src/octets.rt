@@ -10,7 +10,7 @@ use lexical_core::Rule;
 use std::alloc::{AllocError, Global};
 
 /// Whether more characters may come.
-#[derive(Clone, Copy, Debug)]
+#[derive(Clone, Copy)]
 enum Stage {
     /// Any may.
     Open,
@@ -22,7 +22,7 @@ enum Stage {
 
 /// A reader of base64 texts without white space that takes a character at a time. It keeps the octets of
 /// the whole groups of four characters that are within the limit, and takes memory for these alone.
-#[derive(Debug, Drop)]
+#[derive(Drop)]
 pub struct OctetStep {
     kept: Kept,
     group: [u8; 4],

@@ -6,7 +6,7 @@ ghost use Rattle.std.specs.List.{AllByRecursion};
 const MOST: usize = 35;
 
 /// The characters of a text, as long as they are ASCII and few. It takes no memory.
-#[derive(Clone, Copy, Debug)]
+#[derive(Clone, Copy)]
 pub struct ShortText {
     bytes: [u8; MOST],
     count: usize,
