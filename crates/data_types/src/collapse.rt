@@ -8,7 +8,7 @@ ghost use Rattle.data_types.specs.Collapsing.{gained, gap_text, HasCollapsed, Ha
 use lexical_core::is_space;
 
 /// What the collapsed text gains at a character.
-#[derive(Clone, Copy, Debug, PartialEq, Eq)]
+#[derive(Clone, Copy)]
 pub enum Collapsed {
     /// Nothing.
     Nothing,
@@ -19,7 +19,7 @@ pub enum Collapsed {
 }
 
 /// Where the next character stands.
-#[derive(Clone, Copy, Debug)]
+#[derive(Clone, Copy)]
 enum Place {
     Before,
     Within,
@@ -27,7 +27,7 @@ enum Place {
 }
 
 /// A reader that collapses white space and takes a character at a time. It takes no memory.
-#[derive(Clone, Copy, Debug)]
+#[derive(Clone, Copy)]
 pub struct Collapse {
     place: Place,
 }
