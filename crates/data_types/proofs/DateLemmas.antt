@@ -1,5 +1,5 @@
 -- Where the parts of a date's text end.
-use Rattle.std.proofs.Common.{◌≡◌, ◌≢◌, ℕ, ◌+◌, ◌-◌, ◌<◌, ◌≤◌, inl, inr, Bool, true, false, List, [], ◌∷◌, ◌++◌, length, take, drop, get_or, slice_index, sym, ap, subst, ◌∙◌, arith, take-append-drop, lit≤}
+use Rattle.std.proofs.Common.{◌≡◌, ◌≢◌, ℕ, suc, ◌+◌, ◌-◌, ◌<◌, ◌≤◌, inl, inr, Bool, true, false, List, [], ◌∷◌, ◌++◌, length, take, drop, get_or, slice_index, sym, ap, subst, ◌∙◌, arith, take-append-drop, lit≤}
 use Rattle.std.proofs.Math.Seq.{take-append_seam, drop-append_seam}
 use Rattle.std.proofs.lemmas.Bool.{cases_lt, iff_false}
 use Rattle.std.specs.Prelude.{IsTrue, ◌↔◌}
@@ -58,6 +58,19 @@ fraction_count text rest fraction zone seconds count with_point f z e some point
     let total = ap length parts.4 in
     let low = parts.2 in let high = parts.3 in
     (omega arith, omega arith, omega arith)
+
+-- a point and one to nine digits are a fraction
+pub fraction_told : (text rest : List ℕ) (seconds : Bool) (count : ℕ) → seconds ≡ true → 0 < length text → slice_index text 0 ≡ 46 → rest ≡ drop 1 text
+    → count ≤ length rest → AllDigits 10 (take count rest) → 1 ≤ count → count ≤ 9 → (count + 1 ≤ length text) × IsFraction seconds (take (count + 1) text)
+fraction_told [] rest seconds count with_point some point tail bound all low high = absurd (omega (arith, some))
+fraction_told (c ∷ cs) rest seconds count with_point some point tail bound all low high =
+    let size = length-take-le count rest bound in
+    let next : count + 1 ≡ suc count = omega arith in
+    let same : take (count + 1) (c ∷ cs) ≡ 46 ∷ take count rest =
+    ap (λ k. take k (c ∷ cs)) next ∙ (ap (λ x. x ∷ take count cs) point ∙ ap (λ l. 46 ∷ take count l) (sym tail)) in (
+      omega (arith, bound, ap length tail),
+      subst (λ b. IsFraction b (take (count + 1) (c ∷ cs))) (sym with_point) (inr (take count rest, all, omega (arith, low, size), omega (arith, high, size), same)),
+    )
 
 -- the fixed part is where the form ends
 pub fixed_split : (kind : Kind) (text fixed fraction zone : List ℕ) (n : ℕ) → length (form_of kind) ≡ n → HasForm (form_of kind) fixed → text ≡ fixed ++ (fraction ++ zone)
