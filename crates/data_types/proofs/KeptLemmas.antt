@@ -1,5 +1,5 @@
 -- What is kept after some more bytes.
-use Rattle.std.proofs.Common.{◌≡◌, ℕ, ◌+◌, ◌-◌, List, ◌++◌, length, Option, Some, None, refl, sym, subst, ◌∙◌, arith, length-append}
+use Rattle.std.proofs.Common.{◌≡◌, ℕ, ◌+◌, ◌-◌, ◌*◌, ◌≤◌, false, List, ◌++◌, length, Option, Some, None, refl, sym, ap, subst, ◌∙◌, arith, length-append}
 use Rattle.data_types.specs.declared.kept.Kept.{Kept}
 use Rattle.data_types.specs.Limits.{IsWithin, left_of}
 use Rattle.data_types.specs.Kept.{Holds}
@@ -12,6 +12,30 @@ none_within (Some m) = omega arith
 none_left : (most left : Option ℕ) (used : ℕ) → left ≡ left_of most used → left ≡ None → most ≡ None
 none_left None left used e n = refl
 none_left (Some m) left used e n = absurd (let same : Some (m - used) ≡ None = sym e ∙ n in cc)
+
+-- more bytes, within what is left
+pub held_more : (old new : Kept) (left size : ℕ) (bytes : List ℕ) → old.left ≡ Some left → size ≤ left → old.longer ≡ false → length bytes ≤ 4 * size
+    → new.bytes.held ≡ old.bytes.held ++ bytes → new.most ≡ old.most → new.left ≡ Some (left - size) → new.longer ≡ false
+    → (most : Option ℕ) (before : ℕ) (all : List ℕ) → Holds old most before all → Holds new most (before + size) (all ++ bytes)
+held_more old new left size bytes is room short few held limit less longer None before all h = absurd (let same : Some left ≡ None = sym is ∙ h.left in cc)
+held_more old new left size bytes is room short few held limit less longer (Some m) before all h =
+    let same : Some left ≡ Some (m - h.used) = sym is ∙ h.left in
+    let at : left ≡ m - h.used = cc in
+    let whole = h.whole short in
+    let within = h.within in
+    let bound = h.bound in
+    let fewer = h.few in
+    let next : left - size ≡ m - (h.used + size) = omega (arith, at, room, within) in
+    record {
+      used = h.used + size;
+      limit = limit ∙ h.limit;
+      left = less ∙ ap Some next;
+      within = omega (arith, at, room, within);
+      bound = omega (arith, ap length held, length-append old.bytes.held bytes, bound, few);
+      few = omega (arith, fewer);
+      whole = λ e. (ap (λ n. n + size) whole.0, held ∙ ap (λ l. l ++ bytes) whole.1);
+      past = λ e. absurd (let both = sym longer ∙ e in cc);
+    }
 
 -- the size of octets joined to others
 pub joined_size : (kept : Kept) (most : Option ℕ) (octets found : List ℕ) (count : ℕ) → length found ≡ count → Holds kept most (length octets + count) (octets ++ found)

@@ -1,6 +1,7 @@
 -- A text that is pushed in pieces.
-use Rattle.std.proofs.Common.{◌≡◌, ℕ, ◌+◌, ◌≤◌, List, ◌++◌, Option, Result, Ok, Err, length, sym, ap, subst, ◌∙◌, arith, append_assoc, length-append}
+use Rattle.std.proofs.Common.{◌≡◌, ℕ, ◌+◌, ◌≤◌, List, [], ◌++◌, Option, Result, Ok, Err, length, refl, sym, ap, subst, ◌∙◌, arith, append_assoc, append-nil, length-append}
 use Rattle.std.specs.Io.KnownBytes.{Appends}
+use Rattle.std.proofs.KnownBytes.{Appends-nil}
 use Rattle.outside.specs.Sink.{AppendsFront, PushAppends, HasRoom}
 use Rattle.outside.specs.declared.errors.SinkError.{SinkError}
 use Rattle.outside.proofs.Pushing.{append_twice, append_then_front, front_of_front}
@@ -12,6 +13,14 @@ pub record HasPushed (old now : Option (List ℕ)) (faults faults' room room' : 
   pub same : faults' ≡ faults
   pub falls : room ≤ room' + length text
   pub whole_is : whole ≡ text ++ rest
+
+-- before the first piece
+pub pushed_none : (a : Option (List ℕ)) (fa ra : ℕ) (whole : List ℕ) → HasPushed a a fa fa ra ra whole whole
+pushed_none a fa ra whole = record { text = []; written = Appends-nil a; same = refl; falls = omega arith; whole_is = refl }
+
+-- behind the last one
+pub pushed_all : (a b : Option (List ℕ)) (fa fb ra rb : ℕ) (whole rest : List ℕ) → HasPushed a b fa fb ra rb whole rest → rest ≡ [] → Appends a b whole
+pushed_all a b fa fb ra rb whole rest h none = subst (Appends a b) (sym (h.whole_is ∙ (ap (λ t. h.text ++ t) none ∙ append-nil h.text))) h.written
 
 -- a piece goes through
 pub pushed_more : (a b c : Option (List ℕ)) (fa fb fc ra rb rc : ℕ) (whole rest piece behind : List ℕ) → HasPushed a b fa fb ra rb whole rest → rest ≡ piece ++ behind

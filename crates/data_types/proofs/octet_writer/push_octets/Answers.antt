@@ -2,7 +2,7 @@ use Rattle.std.proofs.Common.{◌≡◌, ◌++◌, ◌%◌, List, ℕ, length, a
 use Rattle.base64.specs.Engines.{standard}
 use Rattle.base64.specs.GeneralPurpose.{encode_of}
 use Rattle.base64.proofs.EngineFacts.{encode_of-append}
-use Rattle.data_types.proofs.PushedTexts.{pushed_more, pushed_bytes, piece_fails, piece_room}
+use Rattle.data_types.proofs.PushedTexts.{pushed_none, pushed_more, pushed_bytes, piece_fails, piece_room}
 use Rattle.data_types.proofs.octet_writer.push_octets.Goals as goal
 
 -- the text of a chunk, and of what is behind it
@@ -37,3 +37,6 @@ loop-rest-preserved g c =
 pub returns-clause-bytes : goal.returns-clause-bytes
 returns-clause-bytes g c =
     pushed_bytes _ _ _ _ _ _ _ (encode_of standard c.args.octets.now) (encode_of standard c.loop-rest.rest.now) c.push_chunk-2.result c.loop-rest.invariant c.push_chunk-2.ensures.bytes
+
+pub loop-rest-init : goal.loop-rest-init
+loop-rest-init g c = pushed_none _ _ _ _

@@ -1,6 +1,8 @@
-use Rattle.std.proofs.Common.{◌≡◌, ◌++◌, Bool, List, ℕ, drop, take, ap, sym, ◌∙◌}
+use Rattle.std.proofs.Common.{◌≡◌, ◌==◌, ◌++◌, Bool, true, length, List, ℕ, drop, take, ap, sym, ◌∙◌}
+use Rattle.std.proofs.lemmas.Bool.{eqb-true}
+use Rattle.std.proofs.lemmas.List.{nil_from_length}
 use Rattle.data_types.specs.Escaping.{escaped_bytes}
-use Rattle.data_types.proofs.PushedTexts.{pushed_more, piece_fails, piece_room}
+use Rattle.data_types.proofs.PushedTexts.{pushed_none, pushed_all, pushed_more, piece_fails, piece_room}
 use Rattle.data_types.proofs.EscapeLemmas.{escaped_split, escaped_by_chars}
 use Rattle.data_types.proofs.text_writer.push_escaped.Goals as goal
 
@@ -36,3 +38,12 @@ returns-clause-chars g c = λ chars e. ap (escaped_bytes c.args.attribute) e ∙
 
 pub returns-in-Err-clause-chars : goal.returns-in-Err-clause-chars
 returns-in-Err-clause-chars g c = λ chars e. ap (escaped_bytes c.args.attribute) e ∙ escaped_by_chars c.args.attribute chars
+
+pub loop-rest-init : goal.loop-rest-init
+loop-rest-init g c = pushed_none _ _ _ _
+
+pub returns-clause-bytes : goal.returns-clause-bytes
+returns-clause-bytes g c =
+    let rest = c.loop-rest.rest.now in
+    let ended : (length rest == 0) ≡ true = (let test = c.loop-rest-test.false in let says = c.is_empty.ensures in cc) in
+    pushed_all _ _ _ _ _ _ _ _ c.loop-rest.invariant (ap (escaped_bytes c.args.attribute) (nil_from_length rest (eqb-true _ 0 ended)))
