@@ -42,21 +42,11 @@ all_longest cfg s xs (r ∷ rs) (t ∷ ts) s1 s2 ys zs (p, e, f, h) n (q, e', f'
 
 -- ---- the first that breaks a rule
 
-head_or : Fields → List Fields → Fields
-head_or d [] = d
-head_or d (r ∷ rs) = r
-
-tail_of : List Fields → List Fields
-tail_of [] = []
-tail_of (r ∷ rs) = rs
-
 same_head : (r t : Fields) (rs ts : List Fields) → r ∷ rs ≡ t ∷ ts → r ≡ t
-unfolding head_or
-same_head r t rs ts e = ap (head_or r) e
+same_head r t rs ts e = cc
 
 same_tail : (r t : Fields) (rs ts : List Fields) → r ∷ rs ≡ t ∷ ts → rs ≡ ts
-unfolding tail_of
-same_tail r t rs ts e = ap tail_of e
+same_tail r t rs ts e = cc
 
 one_from : (b c : List Fields) (f g : Fields) (xs ys : List Fields) (r s : ℕ) → b ++ f ∷ xs ≡ c ++ g ∷ ys → AreSound b → AreSound c → IsLeastBroken f r → IsLeastBroken g s
     → (r ≡ s) × (length b ≡ length c)

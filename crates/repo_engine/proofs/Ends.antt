@@ -41,11 +41,11 @@ goes_pushed held faults room old new text (Err sink.Memory) p = record {
   later = p.cause.later;
 }
 
-appends_nothing : (a : Option (List ℕ)) → Appends a a []
+pub appends_nothing : (a : Option (List ℕ)) → Appends a a []
 appends_nothing None = tt
 appends_nothing (Some s) = sym (append-nil s)
 
-keeps : (a : Option (List ℕ)) → Keeps a a
+pub keeps : (a : Option (List ℕ)) → Keeps a a
 keeps None = tt
 keeps (Some s) = refl
 

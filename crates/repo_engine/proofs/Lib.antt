@@ -1,6 +1,5 @@
 pub mod Readings
 pub mod Lists
-pub mod NumberDigits
 pub mod Ends
 pub mod Steps
 pub mod Performing

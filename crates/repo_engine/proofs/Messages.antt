@@ -1,7 +1,6 @@
 -- The steps of the commands of one message.
-use Rattle.std.proofs.Common.{◌≡◌, ◌≢◌, inl, inr, ℕ, Bool, List, [], Option, Some, None, Result, Ok, Err, codes, refl, sym, subst, append-nil}
+use Rattle.std.proofs.Common.{◌≡◌, ◌≢◌, inl, inr, ℕ, Bool, List, [], Option, Some, Result, Ok, Err, codes, refl, subst}
 use Rattle.std.specs.Prelude.{IfErr, IfSome}
-use Rattle.std.specs.Io.KnownBytes.{Appends, Keeps}
 use Rattle.outside.specs.declared.errors.SinkError.{SinkError}
 use Rattle.outside.specs.declared.errors.SinkError.TheVariants as sink
 use Rattle.repo_objects.specs.Repository.{Contents}
@@ -24,6 +23,7 @@ use Rattle.repo_engine.specs.declared.refusal.Stop.{Stop}
 use Rattle.repo_engine.specs.declared.refusal.Stop.TheVariants.{Refused, ReadFault, WriteFault, Memory}
 use Rattle.repo_engine.specs.declared.refusal.Refusal.TheVariants as refusal
 use Rattle.repo_engine.proofs.Steps.{from_refused, from_given}
+use Rattle.repo_engine.proofs.Ends.{appends_nothing, keeps}
 
 -- a message is refused as it is compiled
 pub ready_refuses : (R : Contents) (m : List ℕ) (e : ReadyError) → TellsRefused R m e → StopsBy (RefusesMessage R m) (ready_stop e)
@@ -106,14 +106,6 @@ pub check_failing : (e : CheckError) → stop_ended (check_stop e) ≡ Failing �
 check_failing (check.Refused fault) h = absurd (cc)
 check_failing check.ReadFault h = refl
 check_failing check.Memory h = absurd (cc)
-
-appends_nothing : (a : Option (List ℕ)) → Appends a a []
-appends_nothing None = tt
-appends_nothing (Some s) = sym (append-nil s)
-
-keeps : (a : Option (List ℕ)) → Keeps a a
-keeps None = tt
-keeps (Some s) = refl
 
 pub check_tells : (Is : Verdict → Type 0) (HasFault : List ℕ → Fault → Type 0) (left : Option (List ℕ)) (i : List ℕ) (e : CheckError) (held : Option (List ℕ))
     → ((fault : Fault) → HasFault i fault → Is (verdict.refused (refusal.Instance fault) [])) → left ≡ Some i → IfSome left (λ bytes. RefusesBy HasFault bytes e) → Tells Is (Err (check_stop e)) held held

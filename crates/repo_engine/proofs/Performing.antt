@@ -1,9 +1,8 @@
 -- What a command does is what the words ask for.
-use Rattle.std.proofs.Common.{◌≡◌, inl, inr, ℕ, List, [], ◌∷◌, Option, Some, None, Ok, Err, codes, length, refl, sym, ap, ◌∙◌, subst, append-nil, arith}
+use Rattle.std.proofs.Common.{◌≡◌, inl, inr, ℕ, List, [], ◌∷◌, Option, Ok, Err, codes, length, refl, sym, ap, ◌∙◌, subst, arith}
 use Rattle.std.specs.Prelude.{if◌then◌else◌}
 use Rattle.std.specs.Str.{bytes_eq}
 use Rattle.std.specs.Str.Parse.{digits_value}
-use Rattle.std.specs.Io.KnownBytes.{Appends}
 use Rattle.repo_engine.specs.Answer.{Answer, Of}
 use Rattle.repo_engine.specs.inner.Arms.{Carries}
 use Rattle.repo_engine.specs.inner.Commands.{AsksFor, IsBounded}
@@ -78,10 +77,6 @@ one_command ws (drill n s) (list d) (a, b, e, x, y, z) g = absurd (let k : 5 ≡
 one_command ws (list c) (drill n s) f (a, b, e, x, y, z) = absurd (let k : 4 ≡ 5 = ap (λ x. length (first_of x)) (sym f.1 ∙ e) in omega (arith, k))
 one_command ws (drill n s) (message verb d id) (a, b, e, x, y, z) g = absurd (let k : 3 ≡ 4 = ap length (sym e ∙ g.1) in omega (arith, k))
 one_command ws (message verb c id) (drill n s) f (a, b, e, x, y, z) = absurd (let k : 4 ≡ 3 = ap length (sym f.1 ∙ e) in omega (arith, k))
-
-appends_nothing : (a : Option (List ℕ)) → Appends a a []
-appends_nothing None = tt
-appends_nothing (Some s) = sym (append-nil s)
 
 pub tells_more : (A B : Verdict → Type 0) (end : End) (h h' : Option (List ℕ)) → ((v : Verdict) → A v → B v) → Tells A end h h' → Tells B end h h'
 tells_more A B (Ok done) h h' f t = (t.0, f _ t.1, t.2)

@@ -1,6 +1,7 @@
 pub mod Command
 pub mod Steps
 pub mod Verdict
+pub mod ErrorTexts
 pub mod Exit
 pub mod Sources
 pub mod Texts

@@ -2,6 +2,8 @@
 ghost use Rattle.std.specs.Prelude.{◌≡◌, ℕ};
 ghost use Rattle.repo_engine.specs.Exit.{code_of};
 
+use std::fmt;
+
 /// How a run ends.
 #[derive(Clone, Copy, Debug, PartialEq, Eq)]
 pub enum Status {
@@ -23,6 +25,28 @@ pub enum Status {
     WriteFault,
     /// Memory was wanted and not had.
     Memory,
+}
+
+/// The line that is noted, as far as the status tells it.
+impl fmt::Display for Status {
+    ghost use Rattle.std.specs.Prelude.{Some};
+    ghost use Rattle.repo_engine.specs.ErrorTexts.{status_text};
+
+    ghost output = { λ s. Some (status_text s) };
+
+    fn fmt<W: fmt::Write>(&self, f: &mut fmt::Formatter<W>) -> fmt::Result {
+        match self {
+            Status::Done => write!(f, "done"),
+            Status::Words => write!(f, "refused: words"),
+            Status::Repository => write!(f, "refused: repository"),
+            Status::Codes => write!(f, "refused: codes"),
+            Status::Message => write!(f, "refused: message"),
+            Status::Instance => write!(f, "refused: instance"),
+            Status::ReadFault => write!(f, "failed: read"),
+            Status::WriteFault => write!(f, "failed: write"),
+            Status::Memory => write!(f, "failed: memory"),
+        }
+    }
 }
 
 impl Status {

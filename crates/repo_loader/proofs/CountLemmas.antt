@@ -9,16 +9,16 @@ use Rattle.std.proofs.Math.Nat.{pow-suc, mul-le-mul_left}
 use Rattle.lexical_core.proofs.Scales.{pow_positive}
 
 -- one digit more leaves room for one less
-pub one_digit : (v d k : ℕ) → (v + 1) * 10 ^ suc k ≤ 10 ^ 10 → d < 10 → (v * 10 + d + 1) * 10 ^ k ≤ 10 ^ 10
-one_digit v d k h l =
+pub one_digit : (most v d k : ℕ) → (v + 1) * 10 ^ suc k ≤ 10 ^ most → d < 10 → (v * 10 + d + 1) * 10 ^ k ≤ 10 ^ most
+one_digit most v d k h l =
     let less : v * 10 + d + 1 ≤ v * 10 + 10 = omega (arith, l) in
     let up = mul-le-mul_left (10 ^ k) less in
     let power = ap (λ x. (v + 1) * x) (pow-suc 10 k) in
     omega (arith, up, power, h)
 
--- so it is no greater than ten digits say
-pub fits_ten : (v k : ℕ) → (v + 1) * 10 ^ k ≤ 10 ^ 10 → v < 10 ^ 10
-fits_ten v k h =
+-- so it is no greater than so many digits say
+pub fits_digits : (most v k : ℕ) → (v + 1) * 10 ^ k ≤ 10 ^ most → v < 10 ^ most
+fits_digits most v k h =
     let some : 1 ≤ 10 ^ k = pow_positive k in
     let up = mul-le-mul_left (v + 1) some in
     omega (arith, up, h)

@@ -7,21 +7,11 @@ use Rattle.repo_loader.specs.FileFaults.{Breaks, AreSound, tags_of, IsFirstBroke
 abbrev IsBroken : List Tag → PlacedTag → ℕ → Type 0
 IsBroken acc t rule = Breaks acc t.tag rule × ((other : ℕ) → Breaks acc t.tag other → rule ≤ other)
 
-head_or : PlacedTag → List PlacedTag → PlacedTag
-head_or d [] = d
-head_or d (t ∷ ts) = t
-
-tail_of : List PlacedTag → List PlacedTag
-tail_of [] = []
-tail_of (t ∷ ts) = ts
-
 same_head : (t u : PlacedTag) (ts us : List PlacedTag) → t ∷ ts ≡ u ∷ us → t ≡ u
-unfolding head_or
-same_head t u ts us e = ap (head_or t) e
+same_head t u ts us e = cc
 
 same_tail : (t u : PlacedTag) (ts us : List PlacedTag) → t ∷ ts ≡ u ∷ us → ts ≡ us
-unfolding tail_of
-same_tail t u ts us e = ap tail_of e
+same_tail t u ts us e = cc
 
 moved : (acc : List Tag) (t : PlacedTag) (b : List PlacedTag) → acc ++ tags_of (t ∷ b) ≡ (acc ++ t.tag ∷ []) ++ tags_of b
 moved acc t b = sym (append_assoc acc (t.tag ∷ []) (tags_of b))

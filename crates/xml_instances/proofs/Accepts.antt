@@ -167,6 +167,14 @@ number_by k codes w (leaf.Bytes b) e h = absurd (subst (λ (x : Kind). IsLeafBy 
 number_by k codes w (leaf.Flag b) e h = absurd (subst (λ (x : Kind). IsLeafBy x codes w (leaf.Flag b)) e h)
 number_by k codes w (leaf.Code b) e h = absurd (subst (λ (x : Kind). IsLeafBy x codes w (leaf.Code b)) e h)
 
+pub hints_of : {P : Type 0} (m : Message P) (f : Form P Simple) (attributes : List Entry) (path : List ℕ) → has_currency f ≡ false → AttributeFault m (Some f) attributes path None → AllByRecursion IsHint attributes
+hints_of m f attributes path plain h = hints_in f attributes plain (if_in _ _ (unless_in _ _ h).0)
+
+pub holds_in : {P : Type 0} (fs : List (Slot P)) (nodes : Nodes) → (is_bare (form.Sequence fs) ≡ false) ⊎ (nodes ≡ tree.Nothing) → MayHold (form.Sequence fs) nodes
+holds_in [] nodes (inl e) = cc
+holds_in [] nodes (inr e) = e
+holds_in (s ∷ fs) nodes x = tt
+
 module _ {P : Type 0} (m : Message P)
     (whole : (p : P) (d : List ℕ) → Came (m.forms p) d → end_after (m.forms p) d ≡ Fine → IsWord (m.forms p) d)
     (fits : (s : Simple) (w : List ℕ) (l : leaf.Leaf) → GivesLeaf s w l → Fits s l)
@@ -232,14 +240,6 @@ module _ {P : Type 0} (m : Message P)
   ElementOf f attributes nodes above rest =
       (v : Value) × AdmitsAs m.forms f v × WritesAttributes m.forms f v attributes × MayHold f nodes × WritesContent m.forms m.namespace f v nodes × AreFine m above rest
 
-  holds_in : (fs : List (Slot P)) (nodes : Nodes) → (is_bare (form.Sequence fs) ≡ false) ⊎ (nodes ≡ tree.Nothing) → MayHold (form.Sequence fs) nodes
-  holds_in [] nodes (inl e) = cc
-  holds_in [] nodes (inr e) = e
-  holds_in (s ∷ fs) nodes x = tt
-
-  hints_of : (f : Form P Simple) (attributes : List Entry) (path : List ℕ) → has_currency f ≡ false → AttributeFault m (Some f) attributes path None → AllByRecursion IsHint attributes
-  hints_of f attributes path plain h = hints_in f attributes plain (if_in _ _ (unless_in _ _ h).0)
-
   leaf_written : (f : Form P Simple) (l : leaf.Leaf) (nodes : Nodes) → WritesLeaf f (value.Simple l) nodes → WritesContent m.forms m.namespace f (value.Simple l) nodes
   leaf_written f l nodes h = h
 
@@ -261,16 +261,16 @@ module _ {P : Type 0} (m : Message P)
     where
       of_children : ChildrenOf (form.Sequence fs) [] nodes above rest → ElementOf (form.Sequence fs) attributes nodes above rest
       of_children (ks, written, admitted, came, ends, bare, fine) =
-          (value.Component ks, (whole_at p (form.Sequence fs) (numbers_of ks) at came ends, admitted), hints_of (form.Sequence fs) attributes path refl known, holds_in fs nodes bare, written, fine)
+          (value.Component ks, (whole_at p (form.Sequence fs) (numbers_of ks) at came ends, admitted), hints_of m (form.Sequence fs) attributes path refl known, holds_in fs nodes bare, written, fine)
   element_in nodes p (form.Choice fs) attributes path n above rest plain children at known h = of_children (children plain p (form.Choice fs) [] n above rest at h)
     where
       of_children : ChildrenOf (form.Choice fs) [] nodes above rest → ElementOf (form.Choice fs) attributes nodes above rest
       of_children (ks, written, admitted, came, ends, bare, fine) =
-          (value.Component ks, (whole_at p (form.Choice fs) (numbers_of ks) at came ends, admitted), hints_of (form.Choice fs) attributes path refl known, tt, written, fine)
+          (value.Component ks, (whole_at p (form.Choice fs) (numbers_of ks) at came ends, admitted), hints_of m (form.Choice fs) attributes path refl known, tt, written, fine)
   element_in nodes p (form.Simple s) attributes path n above rest plain children at known h = of_text (text_in s [] nodes n above rest h)
     where
       of_text : TextOf s [] nodes above rest → ElementOf (form.Simple s) attributes nodes above rest
-      of_text (w, e, (l, gives), fine) = (value.Simple l, fits s w l gives, hints_of (form.Simple s) attributes path refl known, tt, leaf_written (form.Simple s) l nodes (w, e, gives), fine)
+      of_text (w, e, (l, gives), fine) = (value.Simple l, fits s w l gives, hints_of m (form.Simple s) attributes path refl known, tt, leaf_written (form.Simple s) l nodes (w, e, gives), fine)
   element_in nodes p (form.Money c s) attributes path n above rest plain children at known h =
       of_amount (currency_known c s attributes path known).1 (text_in s [] nodes n above rest h)
     where
@@ -290,7 +290,7 @@ module _ {P : Type 0} (m : Message P)
   element_in nodes p form.Envelope attributes path n above rest plain children at known h = of_wraps (wraps_in nodes n above rest plain h)
     where
       of_wraps : TreeOf nodes above rest → ElementOf form.Envelope attributes nodes above rest
-      of_wraps (t, is_plain, w, fine) = (value.External t, is_plain, hints_of form.Envelope attributes path refl known, tt, tree_written form.Envelope t nodes w, fine)
+      of_wraps (t, is_plain, w, fine) = (value.External t, is_plain, hints_of m form.Envelope attributes path refl known, tt, tree_written form.Envelope t nodes w, fine)
   element_in nodes p form.LeftOut attributes path n above rest plain children at known h = none (children plain p form.LeftOut [] n above rest at h)
     where
       none : ChildrenOf form.LeftOut [] nodes above rest → ElementOf form.LeftOut attributes nodes above rest

@@ -2,7 +2,6 @@
 use Rattle.std.proofs.Common.{subst, ◌≡◌, ℕ, ◌+◌, ◌-◌, ◌<◌, Bool, true, false, cond, List, [], ◌∷◌, ◌++◌, Some, None, refl, sym, ap, arith, ◌⊎◌, inl, inr, append_assoc, append-nil, length}
 use Rattle.std.specs.Prelude.{codes}
 use Rattle.std.specs.Str.{bytes_eq, chars}
-use Rattle.std.specs.List.{AllByRecursion}
 use Rattle.std.proofs.lemmas.Slice.Eq.{bytes_eq-Decides}
 use Rattle.lexical_core.specs.Tree.{Expanded, Entry, Nodes, Element, Text, Tree, Item, Starts, Char, Ends, flat, flat_nodes}
 use Rattle.lexical_core.specs.Tree as tree
@@ -11,17 +10,17 @@ use Rattle.data_types.specs.Leaf as leaf
 use Rattle.markup.specs.Chars.{is_space}
 use Rattle.facets.specs.declared.simple.Simple.{Simple}
 use Rattle.facets.specs.LeafUnder.{GivesLeaf}
-use Rattle.reference_check.specs.Forms.{Graph, Form, Slot, form_slots}
+use Rattle.reference_check.specs.Forms.{Graph, Form, form_slots}
 use Rattle.reference_check.specs.Forms as form
 use Rattle.reference_check.specs.Words.{IsWord}
 use Rattle.reference_check.specs.Steps.{Fine, next, end_after, CameAfter, Came}
 use Rattle.reference_check.specs.Shapes.{Shape, Component, OpenLeaf, Shapes, Nothing, Child, HasShape, HaveShapes, numbers_in}
-use Rattle.message_model.specs.Writes.{named, IsHint, currency, value_of, SpellsCode, text_nodes, IsBlank, Wraps, MayHold}
+use Rattle.message_model.specs.Writes.{named, currency, value_of, SpellsCode, text_nodes, IsBlank, Wraps, MayHold}
 use Rattle.message_model.specs.Message.{Message}
 use Rattle.xml_instances.specs.Levels.{Level, Parent, Leaf, Envelope, Foreign, begun, path_in, form_of_start, round_start}
-use Rattle.xml_instances.specs.EventFaults.{Broken, AttributeFault, RequiredFault, next_fault, unknown_fault, is_bare, has_currency}
+use Rattle.xml_instances.specs.EventFaults.{Broken, AttributeFault, RequiredFault, next_fault, unknown_fault, is_bare}
 use Rattle.xml_instances.specs.OpenInstances.{AreKnown, TextSoFar, LeafSoFar, ContentSoFar, IsSoFar}
-use Rattle.xml_instances.proofs.Accepts.{Comes, comes, no_fault, space_of, space_in, bare_in, not_bare, name_in, unless_in, if_in, if_else, hints_in, money_in, currency_in}
+use Rattle.xml_instances.proofs.Accepts.{Comes, comes, no_fault, space_of, space_in, bare_in, not_bare, name_in, unless_in, if_in, if_else, hints_of, holds_in, money_in, currency_in}
 use Rattle.xml_instances.proofs.Following.{MayFollow}
 use Rattle.xml_instances.proofs.OpenRuns.{element_size}
 
@@ -84,25 +83,17 @@ module _ {P : Type 0} (m : Message P)
   ElementOf come f nodes above rest =
       (v : Shape) × HasShape m.forms f v × MayHold f nodes × ContentSoFar m.forms m.namespace come f v nodes × Behind come (length (flat_nodes nodes) + 1) above rest
 
-  holds_in : (fs : List (Slot P)) (nodes : Nodes) → (is_bare (form.Sequence fs) ≡ false) ⊎ (nodes ≡ tree.Nothing) → MayHold (form.Sequence fs) nodes
-  holds_in [] nodes (inl e) = cc
-  holds_in [] nodes (inr e) = e
-  holds_in (s ∷ fs) nodes x = tt
-
-  hints_of : (f : Form P Simple) (attributes : List Entry) (path : List ℕ) → has_currency f ≡ false → AttributeFault m (Some f) attributes path None → AllByRecursion IsHint attributes
-  hints_of f attributes path plain h = hints_in f attributes plain (if_in _ _ (unless_in _ _ h).0)
-
   known_in : (f : Form P Simple) (attributes : List Entry) (path : List ℕ) → AttributeFault m (Some f) attributes path None → AreKnown m.forms f attributes
   known_in (form.Money c s) attributes path known =
       let r : (unknown_fault (form.Money c s) attributes path ≡ None) × RequiredFault m (form.Money c s) attributes path None = unless_in _ (RequiredFault m (form.Money c s) attributes path) known in
       let q : (w : List ℕ) × (l : leaf.Leaf) × (value_of currency attributes ≡ Some w) × SpellsCode (m.forms c) (chars w) l = currency_in (m.forms c) (value_of currency attributes) (path ++ codes "/@Ccy") r.1 in
       (q.0, q.1, (q.2, money_in c s attributes (if_in _ _ r.0)), q.3)
-  known_in (form.Sequence fs) attributes path h = hints_of (form.Sequence fs) attributes path refl h
-  known_in (form.Choice fs) attributes path h = hints_of (form.Choice fs) attributes path refl h
-  known_in (form.Simple s) attributes path h = hints_of (form.Simple s) attributes path refl h
-  known_in form.Envelope attributes path h = hints_of form.Envelope attributes path refl h
-  known_in form.LeftOut attributes path h = hints_of form.LeftOut attributes path refl h
-  known_in form.Missing attributes path h = hints_of form.Missing attributes path refl h
+  known_in (form.Sequence fs) attributes path h = hints_of m (form.Sequence fs) attributes path refl h
+  known_in (form.Choice fs) attributes path h = hints_of m (form.Choice fs) attributes path refl h
+  known_in (form.Simple s) attributes path h = hints_of m (form.Simple s) attributes path refl h
+  known_in form.Envelope attributes path h = hints_of m form.Envelope attributes path refl h
+  known_in form.LeftOut attributes path h = hints_of m form.LeftOut attributes path refl h
+  known_in form.Missing attributes path h = hints_of m form.Missing attributes path refl h
 
   leaf_is : (come : ℕ) (f : Form P Simple) (nodes : Nodes) → LeafSoFar come f nodes → ContentSoFar m.forms m.namespace come f OpenLeaf nodes
   leaf_is come f tree.Nothing h = h
