@@ -63,6 +63,7 @@ pub mod ReaderLemmas
 pub mod StartsTold
 pub mod ResultLemmas
 pub mod Lookups
+pub mod RankLemmas
 pub mod BindingLemmas
 pub mod TagPartLemmas
 pub mod ExpandedLemmas
