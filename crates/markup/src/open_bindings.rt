@@ -98,7 +98,7 @@ impl OpenBindings {
     pub(crate) fn push(&mut self, binding: Binding) -> Result<(), AllocError>
         ensures { OnOk result (self.new ≡ self.old ++ binding ∷ []) }
     {
-        if binding.namespace.bytes().len() < LONG {
+        if !is_long(binding.namespace.bytes(), self.order.len()) {
             self.kept.push(Kept {
                 binding,
                 like: None,
@@ -147,6 +147,12 @@ impl OpenBindings {
         }
         Some(binding)
     }
+}
+
+/// Whether a namespace is kept in order, beside so many others. It has as many bytes as there are places to renumber, so
+/// that these steps are no more than bytes that were read.
+fn is_long(namespace: &[u8], others: usize) -> bool {
+    namespace.len() >= LONG.max(others)
 }
 
 /// Whether the first place of a namespace is this one.
