@@ -8,12 +8,10 @@ use Rattle.std.specs.List.{list_any}
 use Rattle.std.specs.Map.{lookup, IsKeyTest, AreApart, KeepsOthers}
 use Rattle.std.specs.Option.{unwrap_or, is_some, IsSome}
 use Rattle.std.specs.declared.cmp.Ordering.{Ordering}
-use Rattle.std.specs.declared.cmp.Ordering.TheVariants.{Less, Equal, Greater}
-use Rattle.std.specs.Ordering.{is_eq, nat_cmp, eq_by_cmp, ordering_reverse}
+use Rattle.std.specs.declared.cmp.Ordering.TheVariants.{Equal}
+use Rattle.std.specs.Ordering.{is_eq, nat_cmp, eq_by_cmp}
 use Rattle.std.specs.Str.{bytes_eq}
-use Rattle.std.specs.Vec.{vec_len}
 use Rattle.std.proofs.lemmas.Cmp.{eq_by_cmp_equiv, nat_list_cmp_total, nat_list_eq_equiv}
-use Rattle.std.proofs.lemmas.Grind.{common_steps}
 use Rattle.std.proofs.lemmas.Bool.{le-leb}
 use Rattle.std.proofs.lemmas.Bool.Decides.{leb_tells}
 use Rattle.std.proofs.lemmas.List.{reverse-append, reverse-reverse, length-reverse, length-append, get_or_append_left}
@@ -22,17 +20,15 @@ use Rattle.std.proofs.lemmas.Slice.Eq.{bytes_eq-Decides}
 use Rattle.std.proofs.Math.Nat.{suc-add}
 use Rattle.std.proofs.Math.Seq.{get_or-append_seam, drop-nil}
 use Rattle.markup.specs.declared.tag.Given.{Given}
-use Rattle.markup.specs.declared.bindings.Binding.{Binding}
+use Rattle.markup.specs.declared.open_bindings.Binding.{Binding}
 use Rattle.markup.specs.declared.bindings.Bindings.{Bindings}
 use Rattle.markup.specs.Events.{declared_prefix, same_prefix, bound_by}
 use Rattle.markup.specs.declared.origin.Origin.{Origin}
 use Rattle.markup.specs.Bindings.{declares, place_of, prefix_of, binding, bindings, place_in, Binds}
-use Rattle.markup.specs.inner.Origins.{no_binding, declared_namespace, namespace_from}
+use Rattle.markup.proofs.RankLemmas.{same_compared}
+use Rattle.markup.specs.inner.Origins.{namespace_from}
 
 -- ---- vectors as stacks
-
-pub counted : {X : Type 0} (v : Vec X) (n : ℕ) → n ≡ vec_len v → n ≡ length v.items
-counted v n is = grind (arith, common_steps)
 
 parts_same : {X : Type 0} (x y : X) (xs ys : List X) → x ∷ xs ≡ y ∷ ys → (x ≡ y) × (xs ≡ ys)
 parts_same x y xs ys e = (cc, cc)
@@ -136,10 +132,6 @@ pub namespace_at : (declared : List Given) (kept : List Binding) (p : List ℕ) 
 namespace_at declared kept p i e is found =
     ap (λ (bs : List Binding). Some (get_or bs i e).namespace) (sym (reverse-reverse kept) ∙ ap reverse is) ∙ turned_at declared p i e found
 
--- what is found at a place has the namespace of the declaration there
-pub found_namespace : (kept : Bindings) (seen : List Binding) (i : ℕ) (b : Binding) → seen ≡ kept.open.items → b ≡ get_or seen i no_binding → b.namespace ≡ declared_namespace kept i
-found_namespace kept seen i b same is = ap (λ (x : Binding). x.namespace) is ∙ ap (λ (bs : List Binding). (get_or bs i no_binding).namespace) same
-
 pub unbound : (declared : List Given) (p : List ℕ) → place_of declared p ≡ None → bound_by declared p ≡ None
 unbound [] p e = refl
 unbound (d ∷ before) p e = case (declares p d) refl (unbound before p)
@@ -150,18 +142,8 @@ unbound (d ∷ before) p e = case (declares p d) refl (unbound before p)
 
 -- ---- namespaces of one origin
 
-reversed_same : (r : Ordering) → r ≡ ordering_reverse r → r ≡ Equal
-reversed_same Less e = absurd cc
-reversed_same Equal e = refl
-reversed_same Greater e = absurd cc
-
 pub one_compared : (kept : Bindings) (left right : Origin) → left ≡ right → Equal ≡ slice_cmp nat_cmp (namespace_from kept left) (namespace_from kept right)
-one_compared kept left right same =
-    let here : List ℕ = namespace_from kept left in
-    sym (reversed_same (slice_cmp nat_cmp here here) (nat_list_cmp_total.antisymm here here)) ∙ ap (λ (o : Origin). slice_cmp nat_cmp (namespace_from kept left) (namespace_from kept o)) same
-
-pub one_same : (kept : Bindings) (left right : Origin) → left ≡ right → true ≡ bytes_eq (namespace_from kept left) (namespace_from kept right)
-one_same kept left right same = sym (nat_list_eq_equiv.refl (namespace_from kept left)) ∙ ap (λ (o : Origin). bytes_eq (namespace_from kept left) (namespace_from kept o)) same
+one_compared kept left right same = sym (same_compared (namespace_from kept left) (namespace_from kept right) (ap (namespace_from kept) same))
 
 -- ---- what is open behind the outer declarations
 
@@ -199,13 +181,13 @@ kept_as given declared p namespace former declares_it value_is is =
     ∙ ap (λ (q : List ℕ). record { prefix = q; namespace = given.value; former = place_of declared q }) same
 
 pub binds_more : (declared : List Given) (given : Given) (old new : Bindings) (p namespace : List ℕ) (former : Option ℕ) (place : ℕ)
-    → Binds old declared → declared_prefix given.name ≡ Some p → given.value ≡ namespace → former ≡ place_in old.latest p → place ≡ length old.open.items
-    → new.open.items ≡ old.open.items ++ (record { prefix = p; namespace = namespace; former = former }) ∷ []
+    → Binds old declared → declared_prefix given.name ≡ Some p → given.value ≡ namespace → former ≡ place_in old.latest p → place ≡ length old.open
+    → new.open ≡ old.open ++ (record { prefix = p; namespace = namespace; former = former }) ∷ []
     → ((q : List ℕ) → place_in new.latest q ≡ (if bytes_eq p q then Some place else place_in old.latest q)) → Binds new (given ∷ declared)
 binds_more declared given old new p namespace former place was declares_it value_is is_former is_place pushed updated = record {
-  open_are = ap reverse pushed ∙ reverse-append old.open.items ((record { prefix = p; namespace = namespace; former = former }) ∷ [])
-      ∙ ap (λ (b : Binding). b ∷ reverse old.open.items) (kept_as given declared p namespace former declares_it value_is (is_former ∙ was.latest_are p)) ∙ ap (λ (bs : List Binding). binding given declared ∷ bs) was.open_are;
-  latest_are = λ q. updated q ∙ ap (λ n. if bytes_eq p q then Some n else place_in old.latest q) (is_place ∙ length-kept declared old.open.items was.open_are)
+  open_are = ap reverse pushed ∙ reverse-append old.open ((record { prefix = p; namespace = namespace; former = former }) ∷ [])
+      ∙ ap (λ (b : Binding). b ∷ reverse old.open) (kept_as given declared p namespace former declares_it value_is (is_former ∙ was.latest_are p)) ∙ ap (λ (bs : List Binding). binding given declared ∷ bs) was.open_are;
+  latest_are = λ q. updated q ∙ ap (λ n. if bytes_eq p q then Some n else place_in old.latest q) (is_place ∙ length-kept declared old.open was.open_are)
       ∙ ap (λ o. if bytes_eq p q then Some (length declared) else o) (was.latest_are q) ∙ ap (λ o. if same_prefix o q then Some (length declared) else place_of declared q) (sym declares_it);
 }
 
@@ -221,12 +203,12 @@ had_place d before p i e = case (declares p d) refl
     case true is = ap is_some (placed_here d before p is)
     case false is = ap is_some (placed_behind d before p is ∙ e)
 
-pub binds_less : (declared : List Given) (old new : Bindings) (last : Binding) → Binds old declared → old.open.items ≡ new.open.items ++ last ∷ []
+pub binds_less : (declared : List Given) (old new : Bindings) (last : Binding) → Binds old declared → old.open ≡ new.open ++ last ∷ []
     → (((i : ℕ) → last.former ≡ Some i → IsSome (place_in old.latest last.prefix)) → (q : List ℕ) → place_in new.latest q ≡ (if bytes_eq last.prefix q then last.former else place_in old.latest q))
     → Binds new (drop 1 declared)
-binds_less [] old new last was popped updated = absurd (popped_none old.open.items new.open.items last popped was.open_are)
+binds_less [] old new last was popped updated = absurd (popped_none old.open new.open last popped was.open_are)
 binds_less (d ∷ before) old new last was popped updated =
-    let parts = popped_first old.open.items new.open.items last (binding d before) (bindings before) popped was.open_are in
+    let parts = popped_first old.open new.open last (binding d before) (bindings before) popped was.open_are in
     record { open_are = parts.1; latest_are = λ q. at parts.0 q (bytes_eq last.prefix q) refl }
   where
     at : last ≡ binding d before → (q : List ℕ) (b : Bool) → bytes_eq last.prefix q ≡ b → place_in new.latest q ≡ place_of before q
@@ -241,6 +223,11 @@ binds_less (d ∷ before) old new last was popped updated =
         by_case prefix_is former_is true e = former_is ∙ ap (place_of before) ((bytes_eq-Decides last.prefix q).0 e)
         by_case prefix_is former_is false e =
             was.latest_are q ∙ placed_behind d before q (declares_other (declared_prefix d.name) q (ap (λ p. bytes_eq p q) (sym prefix_is) ∙ e))
+
+-- none was open
+pub binds_none : (declared : List Given) (old new : Bindings) → Binds old declared → old.open ≡ [] → new.open ≡ [] → new.latest ≡ old.latest → Binds new (drop 1 declared)
+binds_none [] old new was none still same = record { open_are = ap reverse still; latest_are = λ q. ap (λ places. place_in places q) same ∙ was.latest_are q }
+binds_none (d ∷ before) old new was none still same = let empty : [] ≡ bindings (d ∷ before) = sym (ap reverse none) ∙ was.open_are in absurd cc
 
 pub drop_more : (i : ℕ) (declared : List Given) → drop 1 (drop i declared) ≡ drop (i + 1) declared
 drop_more zero declared = refl

@@ -63,6 +63,8 @@ pub mod ReaderLemmas
 pub mod StartsTold
 pub mod ResultLemmas
 pub mod Lookups
+mod PassedLanes
+pub mod RankLemmas
 pub mod BindingLemmas
 pub mod TagPartLemmas
 pub mod ExpandedLemmas

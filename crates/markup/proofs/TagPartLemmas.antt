@@ -2,7 +2,11 @@
 use Rattle.std.proofs.Common.{◌≡◌, ℕ, Bool, true, false, List, [], ◌∷◌, ◌++◌, ◌||◌, reverse, Option, Some, None, refl, sym, ap, subst, ◌∙◌}
 use Rattle.std.specs.Global.{Vec}
 use Rattle.std.specs.List.{list_any}
+use Rattle.std.specs.Str.{bytes_eq}
+use Rattle.lexical_core.specs.Names.{xmlns}
+use Rattle.std.proofs.lemmas.Slice.Eq.{bytes_eq-Decides}
 use Rattle.std.proofs.lemmas.List.{append_assoc, reverse-append}
+use Rattle.markup.specs.declared.tag.Spelled.{Spelled}
 use Rattle.markup.specs.declared.tag.Given.{Given}
 use Rattle.markup.specs.declared.attributes.Parted.{Parted}
 use Rattle.markup.specs.declared.bindings.Bindings.{Bindings}
@@ -44,6 +48,24 @@ any_declared (a ∷ more) prefix = case (declared_prefix a.name) refl (any_decla
     case : (d : Option (List ℕ)) → declared_prefix a.name ≡ d → list_any (declares prefix) (declarations more) ≡ list_any (declares prefix) more → list_any (declares prefix) (declarations (a ∷ more)) ≡ list_any (declares prefix) (a ∷ more)
     case None e so = simp e so
     case (Some p) e so = simp (e, so)
+
+-- the prefix that a name declares, by its own prefix
+pub declared_default : (n : Spelled) (prefix : List ℕ) → bytes_eq n.prefix [] ≡ true → declared_prefix n ≡ Some prefix → prefix ≡ []
+declared_default n prefix none is = case (bytes_eq n.local xmlns) refl
+  where
+    empty : n.prefix ≡ []
+    empty = (bytes_eq-Decides n.prefix []).0 none
+
+    case : (b : Bool) → bytes_eq n.local xmlns ≡ b → prefix ≡ []
+    case true e = let found : Some [] ≡ Some prefix = rw (empty, e) at is in cc
+    case false e = let found : None ≡ Some prefix = rw (empty, e) at is in absurd cc
+
+pub declared_named : (n : Spelled) (prefix : List ℕ) → bytes_eq n.prefix [] ≡ false → declared_prefix n ≡ Some prefix → n.local ≡ prefix
+declared_named n prefix some is = case (bytes_eq n.prefix xmlns) refl
+  where
+    case : (b : Bool) → bytes_eq n.prefix xmlns ≡ b → n.local ≡ prefix
+    case true e = let found : Some n.local ≡ Some prefix = rw e at is in cc
+    case false e = let found : None ≡ Some prefix = rw (e, some) at is in absurd cc
 
 -- ---- one more attribute before the others
 

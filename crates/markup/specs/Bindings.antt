@@ -5,7 +5,7 @@ use Rattle.std.specs.BTreeMap.{BTreeMap, get_by}
 use Rattle.std.specs.Cmp.Lexicographic.{slice_cmp}
 use Rattle.std.specs.Ordering.{nat_cmp}
 use Rattle.markup.specs.declared.tag.Given.{Given}
-use Rattle.markup.specs.declared.bindings.Binding.{Binding}
+use Rattle.markup.specs.declared.open_bindings.Binding.{Binding}
 use Rattle.markup.specs.declared.bindings.Bindings.{Bindings}
 use Rattle.markup.specs.Events.{declared_prefix, same_prefix}
 
@@ -37,5 +37,5 @@ place_in places prefix = get_by (λ k. slice_cmp nat_cmp prefix k.items) places
 
 -- These declarations are open, the latest first.
 pub record Binds (kept : Bindings) (declared : List Given) : Type 0 where
-  pub open_are : reverse kept.open.items ≡ bindings declared
+  pub open_are : reverse kept.open ≡ bindings declared
   pub latest_are : (prefix : List ℕ) → place_in kept.latest prefix ≡ place_of declared prefix

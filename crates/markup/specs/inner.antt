@@ -1,6 +1,7 @@
 -- What private functions alone cite, in reading order.
 pub mod Inside
 pub mod ReaderSteps
+pub mod Ranks
 pub mod Origins
 pub mod TagParts
 pub mod OneAttribute

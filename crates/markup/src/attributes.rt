@@ -14,7 +14,7 @@ ghost use Rattle.markup.specs.inner.TagParts.{IsParted, AreDeclared, IsExpanded,
 
 use crate::bindings::Bindings;
 use crate::event::Attr;
-use crate::names::{declared_prefix, is_bad_declaration, is_empty};
+use crate::names::{declared_prefix, into_declared, is_bad_declaration, is_empty};
 use crate::origin::Origin;
 use crate::tag::{Given, Opening};
 use lexical_core::{Items, Text};
@@ -71,8 +71,8 @@ impl Parted {
             Some(prefix) => {
                 self.has_clash |= bindings.is_declared_behind(outer, prefix);
                 self.is_bad |= is_bad_declaration(prefix, first.value.bytes());
-                let declared = text_of(prefix, alloc)?;
-                bindings.declare(declared, first.value)?;
+                let Given { name, value } = first;
+                bindings.declare(into_declared(name, alloc), value)?;
             }
             None => self.attributes.push(first)?,
         }

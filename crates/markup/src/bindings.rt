@@ -1,5 +1,5 @@
 // The declarations of the open tags, with a look-up by the prefix (Namespaces in XML 1.0 §6.1).
-ghost use Rattle.std.specs.Prelude.{◌≡◌, ◌∷◌, ◌++◌, List, [], ℕ, length, drop, Some, OnOk, IsSome, if◌then◌else◌, Option, IfOk};
+ghost use Rattle.std.specs.Prelude.{◌≡◌, ◌∷◌, ◌++◌, List, [], ℕ, length, drop, Some, OnOk, IfSome, IsSome, if◌then◌else◌, Option, IfOk};
 ghost use Rattle.std.specs.List.{list_any};
 ghost use Rattle.std.specs.Option.{option_copied, option_map, unwrap_or};
 ghost use Rattle.std.specs.Str.{bytes_eq};
@@ -12,6 +12,7 @@ ghost use Rattle.markup.specs.Scopes.{all_declarations};
 
 use crate::names::XML_NAMESPACE;
 use crate::namespace::Namespace;
+use crate::open_bindings::{Binding, OpenBindings};
 use crate::origin::{Origin, is_one, origin_ahead};
 use crate::tag::{Given, Opening};
 use lexical_core::Text;
@@ -19,21 +20,12 @@ use std::alloc::{AllocError, Global};
 use std::cmp::Ordering;
 use std::collections::BTreeMap;
 
-/// A declaration that is open.
-#[derive(Drop)]
-pub(crate) struct Binding {
-    prefix: Text,
-    namespace: Namespace,
-    /// The place of the latest declaration of the prefix before this one.
-    former: Option<usize>,
-}
-
 /// The declarations of the open tags. Of those of one prefix the latest binds it.
 #[derive(Drop)]
 pub(crate) struct Bindings {
     alloc: Global,
     /// The outermost tag's first, and those of one tag in reverse.
-    open: Vec<Binding>,
+    open: OpenBindings,
     /// The place of each prefix's latest declaration.
     latest: BTreeMap<Vec<u8>, usize>,
 }
@@ -45,7 +37,7 @@ impl Bindings {
     {
         Bindings {
             alloc,
-            open: Vec::new(alloc),
+            open: OpenBindings::new(alloc),
             latest: BTreeMap::new(alloc),
         }
     }
@@ -122,10 +114,7 @@ impl Bindings {
     fn declared_at(&self, place: usize) -> Option<&Namespace>
         ensures { unwrap_or (option_copied result) [] ≡ declared_namespace self.now place }
     {
-        match self.open.get(place) {
-            Some(binding) => Some(&binding.namespace),
-            None => None,
-        }
+        self.open.namespace(place)
     }
 
     /// The bytes of a namespace.
@@ -149,17 +138,30 @@ impl Bindings {
         if is_one(left, right) {
             return Ordering::Equal;
         }
-        self.bytes_of(left).cmp(self.bytes_of(right))
+        match self.ranked_cmp(left, right) {
+            Some(found) => found,
+            None => self.bytes_of(left).cmp(self.bytes_of(right)),
+        }
     }
 
-    /// Whether two namespaces are one. Those of one origin are, however long.
+    /// How the namespaces of two declarations stand, where both are long.
+    fn ranked_cmp(&self, left: Origin, right: Origin) -> Option<Ordering>
+        ensures { IfSome result (λ o. o ≡ slice_cmp nat_cmp (namespace_from self.now left) (namespace_from self.now right)) }
+    {
+        let Origin::Declared(lower) = left else {
+            return None;
+        };
+        let Origin::Declared(upper) = right else {
+            return None;
+        };
+        self.open.ranked_cmp(lower, upper)
+    }
+
+    /// Whether two namespaces are one.
     pub(crate) fn is_same(&self, left: Origin, right: Origin) -> bool
         ensures { result ≡ bytes_eq (namespace_from self.now left) (namespace_from self.now right) }
     {
-        if is_one(left, right) {
-            return true;
-        }
-        self.bytes_of(left) == self.bytes_of(right)
+        self.namespace_cmp(left, right).is_eq()
     }
 
     /// The namespace of an origin, shared with its declaration.

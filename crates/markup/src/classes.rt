@@ -4,7 +4,7 @@ ghost use Rattle.markup.specs.Chars.{is_space};
 ghost use Rattle.markup.specs.PlainStarts.{is_literal_of};
 ghost use Rattle.markup.specs.Literals.{is_literal, is_still_space};
 ghost use Rattle.markup.specs.PlainTags.{continues_plain};
-ghost use Rattle.markup.specs.inner.Inside.{is_passed};
+ghost use Rattle.markup.specs.inner.Inside.{is_passed, passed_end};
 
 use lexical_core::ByteClass;
 use std::simd::prelude::*;
@@ -199,52 +199,34 @@ impl ByteClass for SingleQuoted {
     }
 }
 
-/// Characters of a comment that do not begin its end: a tab, a line end, and those from 0x20 to 0x7F but
-/// the hyphen (XML 1.0 §2.5).
-pub(crate) struct CommentText;
+/// A comment or an instruction.
+#[derive(Clone, Copy)]
+pub(crate) enum Passed {
+    Comment,
+    Instruction,
+}
 
-impl ByteClass for CommentText {
-    ghost class = { λ _. is_passed 45 };
-
+impl Passed {
+    /// What its end begins with (XML 1.0 §2.5, §2.6).
     #[inline]
-    fn has(&self, byte: u8) -> bool {
-        if byte >= 0x20 {
-            byte <= 0x7F && byte != b'-'
-        } else {
-            byte == b'\n' || byte == b'\t' || byte == b'\r'
+    fn end(&self) -> u8
+        ensures { result ≡ passed_end self.now }
+    {
+        match self {
+            Passed::Comment => b'-',
+            Passed::Instruction => b'?',
         }
-    }
-
-    #[inline]
-    fn others(&self, bytes: u8x16) -> u64 {
-        ((bytes - u8x16::splat(0x20)).simd_ge(u8x16::splat(0x60))
-            & bytes.simd_ne(u8x16::splat(b'\t'))
-            & bytes.simd_ne(u8x16::splat(b'\n'))
-            & bytes.simd_ne(u8x16::splat(b'\r'))
-            | bytes.simd_eq(u8x16::splat(b'-'))).to_bitmask()
-    }
-
-    #[inline]
-    fn others_of_eight(&self, bytes: u8x8) -> u64 {
-        ((bytes - u8x8::splat(0x20)).simd_ge(u8x8::splat(0x60))
-            & bytes.simd_ne(u8x8::splat(b'\t'))
-            & bytes.simd_ne(u8x8::splat(b'\n'))
-            & bytes.simd_ne(u8x8::splat(b'\r'))
-            | bytes.simd_eq(u8x8::splat(b'-'))).to_bitmask()
     }
 }
 
-/// Characters of an instruction that do not begin its end: a tab, a line end, and those from 0x20 to
-/// 0x7F but the question mark (XML 1.0 §2.6).
-pub(crate) struct InstructionText;
-
-impl ByteClass for InstructionText {
-    ghost class = { λ _. is_passed 63 };
+/// Its characters that do not begin its end: a tab, a line end, and those from 0x20 to 0x7F but one.
+impl ByteClass for Passed {
+    ghost class = { λ p. is_passed (passed_end p) };
 
     #[inline]
     fn has(&self, byte: u8) -> bool {
         if byte >= 0x20 {
-            byte <= 0x7F && byte != b'?'
+            byte <= 0x7F && byte != self.end()
         } else {
             byte == b'\n' || byte == b'\t' || byte == b'\r'
         }
@@ -256,7 +238,7 @@ impl ByteClass for InstructionText {
             & bytes.simd_ne(u8x16::splat(b'\t'))
             & bytes.simd_ne(u8x16::splat(b'\n'))
             & bytes.simd_ne(u8x16::splat(b'\r'))
-            | bytes.simd_eq(u8x16::splat(b'?'))).to_bitmask()
+            | bytes.simd_eq(u8x16::splat(self.end()))).to_bitmask()
     }
 
     #[inline]
@@ -265,6 +247,6 @@ impl ByteClass for InstructionText {
             & bytes.simd_ne(u8x8::splat(b'\t'))
             & bytes.simd_ne(u8x8::splat(b'\n'))
             & bytes.simd_ne(u8x8::splat(b'\r'))
-            | bytes.simd_eq(u8x8::splat(b'?'))).to_bitmask()
+            | bytes.simd_eq(u8x8::splat(self.end()))).to_bitmask()
     }
 }

@@ -4,7 +4,7 @@ ghost use Rattle.std.specs.List.{prefix_len};
 ghost use Rattle.markup.specs.PlainStarts.{is_quote, is_literal_of};
 ghost use Rattle.markup.specs.inner.Inside.{is_passed, IsStill};
 
-use crate::classes::{CommentText, DoubleQuoted, InstructionText, SingleQuoted};
+use crate::classes::{DoubleQuoted, Passed, SingleQuoted};
 use crate::plain_tag::name_length;
 use crate::scan::{NameScan, Scan};
 use lexical_core::run_length;
@@ -29,7 +29,7 @@ fn comment_length(piece: &[u8]) -> usize
     ensures within { result ≤ length piece.now }
     ensures count { result ≡ prefix_len (is_passed 45) piece.now }
 {
-    run_length(&CommentText, piece)
+    run_length(&Passed::Comment, piece)
 }
 
 /// How many bytes at the front of the piece do not begin the end of an instruction.
@@ -38,7 +38,7 @@ fn instruction_length(piece: &[u8]) -> usize
     ensures within { result ≤ length piece.now }
     ensures count { result ≡ prefix_len (is_passed 63) piece.now }
 {
-    run_length(&InstructionText, piece)
+    run_length(&Passed::Instruction, piece)
 }
 
 /// How many bytes at the front of the piece a part of a name goes on with.

@@ -33,6 +33,7 @@ mod name_block;
 mod names;
 mod namespace;
 mod one_attribute;
+mod open_bindings;
 mod open_names;
 mod origin;
 mod plain_tag;

@@ -1,5 +1,5 @@
 // Names of tags: which ones declare a namespace, and what a prefix stands for (Namespaces in XML 1.0).
-ghost use Rattle.std.specs.Prelude.{◌≡◌, [], Some, codes, not, if◌then◌else◌};
+ghost use Rattle.std.specs.Prelude.{◌≡◌, ℕ, List, [], Some, codes, not, if◌then◌else◌};
 ghost use Rattle.std.specs.Str.{bytes_eq};
 ghost use Rattle.std.specs.Option.{option_copied};
 ghost use Rattle.markup.specs.Events.{declared_prefix};
@@ -7,6 +7,8 @@ ghost use Rattle.lexical_core.specs.Names.{xml_namespace};
 ghost use Rattle.markup.specs.Faults.{is_bad_declaration};
 
 use crate::tag::Spelled;
+use lexical_core::Text;
+use std::alloc::Global;
 
 /// The name and prefix of declarations (Namespaces §3).
 const XMLNS: &[u8] = b"xmlns";
@@ -39,6 +41,16 @@ pub(crate) fn declared_prefix(name: &Spelled) -> Option<&[u8]>
     } else {
         None
     }
+}
+
+/// The prefix that an attribute of this name declares, moved out of the name.
+pub(crate) fn into_declared(name: Spelled, alloc: Global) -> Text
+    ensures { (prefix : List ℕ) → declared_prefix name ≡ Some prefix → result ≡ prefix }
+{
+    if is_empty(name.prefix.bytes()) {
+        return Text::new(alloc);
+    }
+    name.local
 }
 
 /// Whether of the prefix `xml` and its namespace one is bound without the other (Namespaces §3).

@@ -6,6 +6,8 @@ use Rattle.markup.specs.Drafts.{add_value}
 use Rattle.markup.specs.Scans.{step}
 use Rattle.markup.specs.ScanRuns.{run, At}
 use Rattle.markup.specs.Tokenizers.{is_tag, scanned}
+use Rattle.markup.specs.declared.classes.Passed.{Passed}
+use Rattle.markup.specs.declared.classes.Passed.TheVariants.{Comment, Instruction}
 use Rattle.markup.specs.declared.draft.Draft.{Draft}
 use Rattle.markup.specs.declared.tag.Spelled.{Spelled}
 use Rattle.markup.specs.declared.scan.Scan.{Scan}
@@ -16,6 +18,11 @@ use Rattle.markup.specs.declared.tokenizer.Tokenizer.{Tokenizer}
 -- a character of a comment or an instruction that does not begin its end (XML 1.0 §2.5, §2.6)
 abbrev pub is_passed : ℕ → ℕ → Bool
 is_passed end byte = (nat_le 32 byte && nat_le byte 127 && not (byte == end)) || byte == 10 || byte == 9 || byte == 13
+
+-- what the end of a comment or an instruction begins with
+abbrev pub passed_end : Passed → ℕ
+passed_end Comment = 45
+passed_end Instruction = 63
 
 -- more characters of a name
 abbrev pub extended : List ℕ → Spelled → Spelled

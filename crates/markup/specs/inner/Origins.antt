@@ -1,18 +1,14 @@
 -- What gives a prefix its namespace.
-use Rattle.std.specs.Prelude.{ℕ, List, [], get_or, None}
-use Rattle.markup.specs.declared.bindings.Binding.{Binding}
+use Rattle.std.specs.Prelude.{ℕ, List, [], get_or}
 use Rattle.markup.specs.declared.bindings.Bindings.{Bindings}
 use Rattle.markup.specs.declared.origin.Origin.{Origin}
 use Rattle.markup.specs.declared.origin.Origin.TheVariants.{Nothing, Xml, Declared}
 use Rattle.lexical_core.specs.Names.{xml_namespace}
-
--- what stands for a declaration where there is none
-abbrev pub no_binding : Binding
-no_binding = record { prefix = []; namespace = []; former = None }
+use Rattle.markup.specs.inner.Ranks.{no_binding}
 
 -- the namespace of the declaration at the place, the empty one where there is none
 abbrev pub declared_namespace : Bindings → ℕ → List ℕ
-declared_namespace kept place = (get_or kept.open.items place no_binding).namespace
+declared_namespace kept place = (get_or kept.open place no_binding).namespace
 
 -- the namespace that comes from there
 abbrev pub namespace_from : Bindings → Origin → List ℕ

@@ -1,7 +1,7 @@
 -- As many are kept as are open.
 use Rattle.std.proofs.Common.{◌∙◌}
-use Rattle.markup.proofs.BindingLemmas.{counted, length-kept}
+use Rattle.markup.proofs.BindingLemmas.{length-kept}
 use Rattle.markup.proofs.bindings.Bindings.count.Goals as goal
 
 pub returns : goal.returns
-returns c declared is = counted c.args.self.now.open c.len.result c.len.ensures ∙ length-kept declared c.args.self.now.open.items is.open_are
+returns c declared is = c.len.ensures ∙ length-kept declared c.args.self.now.open is.open_are

@@ -1,11 +1,17 @@
 -- The map has of the prefix what it had before the declaration.
-use Rattle.std.proofs.Common.{ℕ, List, Option, None, Some, sym, ap, subst, ◌∙◌}
+use Rattle.std.proofs.Common.{ℕ, List, Option, None, Some, refl, sym, ap, subst, ◌∙◌, append-nil}
 use Rattle.std.specs.Bool.{if◌then◌else◌}
 use Rattle.std.specs.Option.{IsSome}
 use Rattle.std.specs.Str.{bytes_eq}
 use Rattle.markup.specs.Bindings.{place_in}
-use Rattle.markup.proofs.BindingLemmas.{binds_less, places_updated}
+use Rattle.markup.proofs.BindingLemmas.{binds_less, binds_none, places_updated}
 use Rattle.markup.proofs.bindings.Bindings.forget_latest.Goals as goal
+
+pub returns-in_default : goal.returns-in_default
+returns-in_default c declared is =
+    let none = rw c.in_default.is at c.pop.ensures.none in
+    let same = rw c.in_default.is at c.pop.ensures.items in
+    binds_none declared c.args.self.now (record { alloc = c.args.self.now.alloc; «open» = c.pop.new.self; latest = c.args.self.now.latest }) is none (sym (append-nil c.pop.new.self) ∙ sym same ∙ none) refl
 
 pub returns-in-Some-former : goal.returns-in-Some-former
 returns-in-Some-former c declared is =
