@@ -10,7 +10,7 @@ use crate::piece::{Edge, Piece};
 use data_types::LeafRef;
 
 /// The greatest number of 16 bits.
-const MOST: u32 = 0xFFFF;
+const MOST: u64 = 0xFFFF;
 
 /// Three numbers of 16 bits.
 #[derive(Clone, Copy, Debug)]
@@ -38,12 +38,12 @@ pub(crate) enum Node {
 
 const _: () = prove!(size_of::<Node>() == 8);
 
-/// Whether the numbers of the edge have 16 bits.
+/// Whether the numbers of the edge have 16 bits, and their sum too, which is one comparison.
 #[inline(always)]
 fn is_short(edge: Edge) -> bool
     ensures { result ≡ true → (edge.slot < 65536) × (edge.target < 65536) × (edge.parent < 65536) }
 {
-    edge.slot <= MOST && edge.target <= MOST && edge.parent <= MOST
+    edge.slot as u64 + edge.target as u64 + edge.parent as u64 <= MOST
 }
 
 /// The numbers of an edge, where they have 16 bits.
