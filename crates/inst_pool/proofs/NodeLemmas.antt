@@ -7,7 +7,7 @@ use Rattle.inst_pool.specs.inner.Nodes.{place_in, content_of, IsWithin, AreWithi
 use Rattle.inst_pool.specs.declared.content.Content.{Content}
 use Rattle.inst_pool.specs.declared.content.Content.TheVariants as long
 use Rattle.inst_pool.specs.declared.node.Node.{Node}
-use Rattle.inst_pool.specs.declared.node.Node.TheVariants.{Open, Bytes, Flag, Code, Close, Long}
+use Rattle.inst_pool.specs.declared.node.Node.TheVariants.{Open, Bytes, Number, Flag, Code, Close, Long}
 
 pub length_contents : (block : List Content) (nodes : List Node) → length (contents_in block nodes) ≡ length nodes
 length_contents block [] = refl
@@ -21,6 +21,7 @@ contents-append block (n ∷ a) b = ap (λ l. content_of block n ∷ l) (content
 content_grow : (block more : List Content) (n : Node) → IsWithin (length block) n → content_of (block ++ more) n ≡ content_of block n
 content_grow block more (Open s) h = refl
 content_grow block more (Bytes s) h = refl
+content_grow block more (Number s) h = refl
 content_grow block more (Flag f) h = refl
 content_grow block more (Code s) h = refl
 content_grow block more (Close s) h = refl
@@ -33,6 +34,7 @@ contents_grow block more (n ∷ nodes) h = ap₂ (λ (c : Content) (l : List Con
 within_more : (n m : ℕ) (x : Node) → n ≤ m → IsWithin n x → IsWithin m x
 within_more n m (Open s) le h = tt
 within_more n m (Bytes s) le h = tt
+within_more n m (Number s) le h = h
 within_more n m (Flag f) le h = tt
 within_more n m (Code s) le h = tt
 within_more n m (Close s) le h = tt

@@ -2,15 +2,17 @@
 ghost use Rattle.std.specs.Prelude.{◌≡◌, ◌<◌, ◌≤◌, ◌^◌, ℕ, List, true, length, slice_index_or, IfSome};
 ghost use Rattle.inst_pool.specs.Contents.{piece_in, IsInside};
 ghost use Rattle.inst_pool.specs.Pieces.{piece_of};
-ghost use Rattle.inst_pool.specs.inner.Nodes.{edge_in, low_in, place_in, content_of, IsWithin, bytes_in};
+ghost use Rattle.inst_pool.specs.inner.Nodes.{edge_in, low_in, place_in, decimal_in, content_of, IsWithin, bytes_in};
+ghost use Rattle.lexical_core.specs.Decimals.{IsDecimal};
 ghost use Rattle.inst_pool.specs.declared.content.Content.{Content};
 
 use crate::content::{Content, piece_of as held_piece};
 use crate::piece::{Edge, Piece};
 use data_types::LeafRef;
+use lexical_core::Decimal;
 
 /// The greatest number of 16 bits.
-const MOST: u32 = 0xFFFF;
+const MOST: u64 = 0xFFFF;
 
 /// Three numbers of 16 bits.
 #[derive(Clone, Copy, Debug)]
@@ -27,6 +29,8 @@ pub(crate) enum Node {
     Open(Short),
     /// Bytes: two numbers say where they begin, and the third how many there are.
     Bytes(Short),
+    /// A number: two numbers say its whole part, and the third its scale.
+    Number(Short),
     Flag(bool),
     /// A code: two numbers say its place.
     Code(Short),
@@ -38,12 +42,12 @@ pub(crate) enum Node {
 
 const _: () = prove!(size_of::<Node>() == 8);
 
-/// Whether the numbers of the edge have 16 bits.
+/// Whether the numbers of the edge have 16 bits, and their sum too, which is one comparison.
 #[inline(always)]
 fn is_short(edge: Edge) -> bool
     ensures { result ≡ true → (edge.slot < 65536) × (edge.target < 65536) × (edge.parent < 65536) }
 {
-    edge.slot <= MOST && edge.target <= MOST && edge.parent <= MOST
+    edge.slot as u64 + edge.target as u64 + edge.parent as u64 <= MOST
 }
 
 /// The numbers of an edge, where they have 16 bits.
@@ -73,6 +77,24 @@ fn short_bytes(start: usize, end: usize) -> Option<Short>
         first: (start % 65536) as u16,
         second: (start / 65536) as u16,
         third: (end - start) as u16,
+    })
+}
+
+/// A number with no sign, whose whole part has 32 bits.
+#[inline(always)]
+fn short_decimal(number: &Decimal) -> Option<Short>
+    ensures number { IfSome result (λ s. decimal_in s ≡ number.now) }
+    ensures decimal { IfSome result (λ s. IsDecimal (decimal_in s)) }
+{
+    let whole = number.whole();
+    if whole < 0 || whole > 0xFFFF_FFFF {
+        return None;
+    }
+    let size = whole as u64;
+    Some(Short {
+        first: (size % 65536) as u16,
+        second: (size / 65536) as u16,
+        third: number.scale() as u16,
     })
 }
 
@@ -119,7 +141,12 @@ pub(crate) fn shortened(content: &Content) -> Option<Node>
             };
             Some(Node::Bytes(short))
         }
-        Content::Number(_) => None,
+        Content::Number(number) => {
+            let Some(short) = short_decimal(number) else {
+                return None;
+            };
+            Some(Node::Number(short))
+        }
         Content::Flag(flag) => Some(Node::Flag(*flag)),
         Content::Code(place) => Some(Node::Code(short_number(*place))),
         Content::Close(edge) => {
@@ -145,6 +172,7 @@ pub(crate) fn piece_of<'a>(node: &Node, long: &[Content], bytes: &'a [u8]) -> Pi
             let end = start + short.third as usize;
             Piece::Leaf(LeafRef::Bytes(&bytes[start..end]))
         }
+        Node::Number(short) => Piece::Leaf(LeafRef::Number(decimal_of(short))),
         Node::Flag(flag) => Piece::Leaf(LeafRef::Flag(*flag)),
         Node::Code(short) => {
             let place = short.first as u32 + short.second as u32 * 65536;
@@ -164,6 +192,18 @@ fn edge_of(short: &Short) -> Edge
         target: short.second as u32,
         parent: short.third as u32,
     }
+}
+
+/// The decimal that three numbers tell.
+#[inline(never)]
+fn decimal_of(short: &Short) -> Decimal
+    requires { IsDecimal (decimal_in short.now) }
+    ensures { result ≡ decimal_in short.now }
+{
+    let Some(number) = Decimal::make(low_of(short) as i64, short.third as u8) else {
+        unreachable!()
+    };
+    number
 }
 
 /// The number of 32 bits that the first two tell.

@@ -1,11 +1,12 @@
 -- Contents in short.
-use Rattle.std.specs.Prelude.{ℕ, ◌+◌, ◌*◌, ◌<◌, List, [], ◌∷◌, slice_index_or}
+use Rattle.std.specs.Prelude.{ℕ, ◌+◌, ◌*◌, ◌<◌, List, [], ◌∷◌, slice_index_or, pos}
+use Rattle.lexical_core.specs.Decimals.{Number as DecimalNumber, IsDecimal}
 use Rattle.inst_pool.specs.declared.piece.Edge.{Edge}
 use Rattle.inst_pool.specs.declared.content.Content.{Content}
 use Rattle.inst_pool.specs.declared.content.Content.TheVariants as long
 use Rattle.inst_pool.specs.declared.node.Short.{Short}
 use Rattle.inst_pool.specs.declared.node.Node.{Node}
-use Rattle.inst_pool.specs.declared.node.Node.TheVariants.{Open, Bytes, Flag, Code, Close, Long}
+use Rattle.inst_pool.specs.declared.node.Node.TheVariants.{Open, Bytes, Number, Flag, Code, Close, Long}
 
 -- the edge that three numbers tell
 abbrev pub edge_in : Short → Edge
@@ -19,6 +20,10 @@ low_in s = s.first + s.second * 65536
 abbrev pub place_in : Short → ℕ
 place_in s = low_in s + s.third * 0x1_0000_0000
 
+-- the number whose whole part the first two tell, and whose scale the third
+abbrev pub decimal_in : Short → DecimalNumber
+decimal_in s = record { whole = pos (low_in s); scale = s.third }
+
 abbrev pub bytes_in : Short → Content
 bytes_in s = long.Bytes (low_in s) (low_in s + s.third)
 
@@ -26,13 +31,15 @@ bytes_in s = long.Bytes (low_in s) (low_in s + s.third)
 abbrev pub content_of : List Content → Node → Content
 content_of block (Open s) = long.Open (edge_in s)
 content_of block (Bytes s) = bytes_in s
+content_of block (Number s) = long.Number (decimal_in s)
 content_of block (Flag flag) = long.Flag flag
 content_of block (Code s) = long.Code (low_in s)
 content_of block (Close s) = long.Close (edge_in s)
 content_of block (Long s) = slice_index_or block (place_in s) (long.Code 0)
 
--- its place is one of a block of so many
+-- its place is one of a block of so many, and its number one that a leaf has
 abbrev pub IsWithin : ℕ → Node → Type 0
+IsWithin count (Number s) = IsDecimal (decimal_in s)
 IsWithin count (Long s) = place_in s < count
 IsWithin count node = Unit {0}
 
