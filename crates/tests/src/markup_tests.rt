@@ -454,6 +454,35 @@ fn open_tags(rt: HostRuntime) -> Result<(), AllocError> {
     )
 }
 
+/// Long namespaces that differ at their ends are two, and one that is declared again is one.
+#[test]
+fn long_namespaces(rt: HostRuntime) -> Result<(), AllocError> {
+    check_pieces(
+        &rt,
+        rt.alloc(),
+        &[
+            ("<a xmlns:p='", 1),
+            ("u", 3000),
+            ("p' xmlns:q='", 1),
+            ("u", 3000),
+            ("q' q:x='' p:x=''><b q:y='' p:x='' q:x=''/></a>", 1),
+        ],
+        Whole,
+    )?;
+    check_pieces(
+        &rt,
+        rt.alloc(),
+        &[
+            ("<a xmlns:p='", 1),
+            ("u", 3000),
+            ("'><b xmlns:q='", 1),
+            ("u", 3000),
+            ("' q:x='' p:x=''/></a>", 1),
+        ],
+        At(DuplicateAttribute, 3014),
+    )
+}
+
 /// A tag has 1,048,576 bytes at most.
 #[test]
 fn longest_tags(rt: HostRuntime) -> Result<(), AllocError> {
