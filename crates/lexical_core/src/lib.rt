@@ -8,7 +8,8 @@
 //! at one place is told.
 //!
 //! A `ByteClass` says of a byte, of eight and of sixteen at once which are in it, and `run_length` how many at the front
-//! are: of `ab<c` and a class of letters 2. `xml_run` gives the longest front that is whole characters of XML.
+//! are: of `ab<c` and a class of letters 2. `xml_run` gives the longest front that is whole characters of XML. `are_same`
+//! compares short runs of bytes, as names and tags are, by words.
 //!
 //! Limits: a `Decimal` has at most 18 digits and a scale of at most 18. Nothing says that a `Text` is UTF-8.
 #![tactic(auto)]
@@ -26,6 +27,7 @@ mod put;
 pub mod real;
 pub mod rule;
 pub mod runs;
+mod same_bytes;
 pub mod text;
 pub mod utf8;
 pub mod xml_text;
@@ -40,6 +42,7 @@ pub use lanes::{ByteClass, run_length};
 pub use real::read_nr3;
 pub use rule::Rule;
 pub use runs::{Run, xml_run};
+pub use same_bytes::are_same;
 pub use text::Text;
 pub use utf8::{Utf8, Utf8Step};
 pub use xml_text::is_xml_text;

@@ -27,4 +27,3 @@ pub mod OneModel
 pub mod OneRefusal
 pub mod SomeModel
 pub mod FaultTexts
-mod SameWords
