@@ -1,9 +1,10 @@
 // The bytes of a text, pushed on a sink with what XML asks to be escaped: XML 1.0 §2.4, §2.11 and §3.3.3.
-ghost use Rattle.std.specs.Prelude.{◌≡◌, ◌<◌, ◌≤◌, ℕ, List, true, false, IsTrue, IfSome, IfNone, encode_utf8_all, flat_map, length, take};
+ghost use Rattle.std.specs.Prelude.{◌≡◌, ◌<◌, ◌≤◌, ℕ, List, IsTrue, encode_utf8_all, flat_map, length, take};
 ghost use Rattle.outside.specs.Sink.{PushAppends, HasSinkCause, HasRoom};
 ghost use Rattle.lexical_core.specs.Escapes.{escaped};
-ghost use Rattle.data_types.specs.Escaping.{escaped_byte, escaped_bytes, IsPlainByte};
+ghost use Rattle.data_types.specs.Escaping.{escaped_bytes, IsPlainByte};
 
+use lexical_core::reference_to;
 use outside::{Sink, SinkError};
 
 /// The first bytes of a text, and how they are spelled.
@@ -50,7 +51,7 @@ fn first_piece(text: &[u8], attribute: bool) -> Piece<'_>
     }
     Piece {
         count: 1,
-        spelled: match reference(text[0], attribute) {
+        spelled: match reference_to(text[0] as char, attribute) {
             Some(spelled) => spelled,
             None => text.split_at(1).0,
         },
@@ -75,32 +76,5 @@ fn plain_count(text: &[u8], attribute: bool) -> usize
 fn is_plain(byte: u8, attribute: bool) -> bool
     ensures { IsTrue result → IsPlainByte attribute byte }
 {
-    reference(byte, attribute).is_none()
-}
-
-/// The reference to a character that does not stand for itself; `None` for one that does.
-#[inline]
-fn reference(byte: u8, attribute: bool) -> Option<&'static [u8]>
-    ensures some { IfSome result (λ spelled. spelled.now ≡ escaped_byte attribute byte) }
-    ensures none { IfNone result (IsPlainByte attribute byte) }
-{
-    match byte {
-        b'&' => Some(b"&amp;".as_slice()),
-        b'<' => Some(b"&lt;".as_slice()),
-        b'>' => Some(b"&gt;".as_slice()),
-        b'\r' => Some(b"&#13;".as_slice()),
-        b'"' => only(attribute, b"&quot;".as_slice()),
-        b'\t' => only(attribute, b"&#9;".as_slice()),
-        b'\n' => only(attribute, b"&#10;".as_slice()),
-        _ => None,
-    }
-}
-
-/// The reference where it is asked for.
-#[inline]
-fn only(wanted: bool, reference: &'static [u8]) -> Option<&'static [u8]>
-    ensures some { IfSome result (λ spelled. (wanted ≡ true) × (spelled.now ≡ reference.entry.now)) }
-    ensures none { IfNone result (wanted ≡ false) }
-{
-    if wanted { Some(reference) } else { None }
+    reference_to(byte as char, attribute).is_none()
 }

@@ -1,9 +1,9 @@
 -- The canonical fragment of an element: its one spelling as XML.
-use Rattle.std.specs.Prelude.{ℕ, ◌+◌, Bool, false, ◌==◌, ◌||◌, List, [], ◌∷◌, ◌++◌, map, codes, Option, Some, None, if◌then◌else◌}
+use Rattle.std.specs.Prelude.{ℕ, ◌+◌, Bool, true, false, ◌==◌, ◌||◌, List, [], ◌∷◌, ◌++◌, map, codes, Option, Some, None, if◌then◌else◌}
 use Rattle.std.specs.List.{flat_map}
 use Rattle.std.specs.Str.{bytes_eq}
 use Rattle.std.specs.Int.Digits.{digits_of}
-use Rattle.lexical_core.specs.Escapes.{escaped}
+use Rattle.lexical_core.specs.Escapes.{escaped, reference_or}
 use Rattle.lexical_core.specs.Tree.{Expanded, Entry, Nodes, Nothing, Element, Text, Tree}
 use Rattle.lexical_core.specs.Names.{xml_namespace, xmlns}
 
@@ -22,15 +22,7 @@ spelling_text s = if bytes_eq s.prefix [] then s.local else s.prefix ++ 58 ∷ s
 
 -- the spelling of a byte in the value of an attribute, in quotes `"`
 abbrev pub value_byte : ℕ → List ℕ
-value_byte byte =
-    if byte == 38 then codes "&amp;"
-    else (if byte == 60 then codes "&lt;"
-    else (if byte == 62 then codes "&gt;"
-    else (if byte == 13 then codes "&#13;"
-    else (if byte == 34 then codes "&quot;"
-    else (if byte == 9 then codes "&#9;"
-    else (if byte == 10 then codes "&#10;"
-    else byte ∷ []))))))
+value_byte byte = reference_or true byte (byte ∷ [])
 
 abbrev pub written_text : Written → List ℕ
 written_text w = 32 ∷ spelling_text w.name ++ 61 ∷ 34 ∷ flat_map value_byte w.value ++ 34 ∷ []

@@ -14,4 +14,5 @@ pub mod DecimalLaws
 pub mod RealLaws
 pub mod StableSort
 pub mod LaneRuns
+mod SameWords
 pub mod SameTrees

@@ -1,9 +1,9 @@
 -- The canonical spelling of characters in XML: XML 1.0 §2.4, §2.11 and §3.3.3, as in Canonical XML §2.3.
 use Rattle.std.specs.Prelude.{ℕ, Bool, List, encode_utf8, codes, if◌then◌else◌, ◌==◌, ◌&&◌}
 
--- the spelling of a character in a text, and in the value of an attribute
-abbrev pub escaped : Bool → ℕ → List ℕ
-escaped attribute c =
+-- the reference to a character, in a text or in the value of an attribute; of one that has none, what is plain
+abbrev pub reference_or : Bool → ℕ → List ℕ → List ℕ
+reference_or attribute c plain =
     if c == 38 then codes "&amp;"
     else (if c == 60 then codes "&lt;"
     else (if c == 62 then codes "&gt;"
@@ -11,4 +11,8 @@ escaped attribute c =
     else (if attribute && (c == 34) then codes "&quot;"
     else (if attribute && (c == 9) then codes "&#9;"
     else (if attribute && (c == 10) then codes "&#10;"
-    else encode_utf8 c))))))
+    else plain))))))
+
+-- the spelling of a character in a text, and in the value of an attribute
+abbrev pub escaped : Bool → ℕ → List ℕ
+escaped attribute c = reference_or attribute c (encode_utf8 c)

@@ -3,12 +3,13 @@
 //!
 //! `Text` and `Items` are bytes and lists that grow, and answer want of memory. `Utf8Step` takes UTF-8 a byte at a time;
 //! `is_xml_char`, `is_name_start`, `is_name_char` and `is_space` are classes of characters (XML 1.0 §2.2, §2.3),
-//! `is_xml_text` says whether bytes are a text of them, `escape` spells one in canonical XML. `DecimalStep` reads a decimal
-//! text a character at a time, `read_nr3` the contents of a REAL (X.690 §8.5). `Rule` names the rules, of which the least
-//! at one place is told.
+//! `is_xml_text` says whether bytes are a text of them, `escape` spells one in canonical XML, `reference_to` gives the
+//! reference that it needs there, if any. `DecimalStep` reads a decimal text a character at a time, `read_nr3` the
+//! contents of a REAL (X.690 §8.5). `Rule` names the rules, of which the least at one place is told.
 //!
 //! A `ByteClass` says of a byte, of eight and of sixteen at once which are in it, and `run_length` how many at the front
-//! are: of `ab<c` and a class of letters 2. `xml_run` gives the longest front that is whole characters of XML.
+//! are: of `ab<c` and a class of letters 2. `xml_run` gives the longest front that is whole characters of XML. `are_same`
+//! compares short runs of bytes, as names and tags are, by words.
 //!
 //! Limits: a `Decimal` has at most 18 digits and a scale of at most 18. Nothing says that a `Text` is UTF-8.
 #![tactic(auto)]
@@ -26,6 +27,7 @@ mod put;
 pub mod real;
 pub mod rule;
 pub mod runs;
+mod same_bytes;
 pub mod text;
 pub mod utf8;
 pub mod xml_text;
@@ -34,12 +36,13 @@ pub use characters::{is_name_char, is_name_start, is_space, is_xml_char};
 pub use decimal::Decimal;
 pub use decimal_text::{DecimalStep, DecimalText};
 pub use digits::digit_count;
-pub use escapes::escape;
+pub use escapes::{escape, reference_to};
 pub use items::Items;
 pub use lanes::{ByteClass, run_length};
 pub use real::read_nr3;
 pub use rule::Rule;
 pub use runs::{Run, xml_run};
+pub use same_bytes::are_same;
 pub use text::Text;
 pub use utf8::{Utf8, Utf8Step};
 pub use xml_text::is_xml_text;

@@ -69,7 +69,6 @@ pub mod BindingLemmas
 pub mod TagPartLemmas
 pub mod ExpandedLemmas
 pub mod WholeTags
-pub mod SameWords
 pub mod WrittenLemmas
 pub mod ScopeLemmas
 mod OneAttributeLemmas

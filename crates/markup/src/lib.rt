@@ -40,7 +40,6 @@ mod plain_tag;
 pub mod reader;
 mod reference;
 mod references;
-mod same_name;
 mod scan;
 mod scope;
 mod start_tag;

@@ -7,9 +7,8 @@ ghost use Rattle.markup.specs.declared.plain_tag.TagKind.TheVariants.{End};
 ghost use Rattle.markup.specs.PlainTags.{begins_plain, continues_plain, is_plain_name, tag_text, mark_count, may_be_named, IsTagAt, closing};
 
 use crate::classes::PlainName;
-use crate::same_name::is_same_name;
 use crate::tokenizer::TAG_LIMIT;
-use lexical_core::run_length;
+use lexical_core::{are_same, run_length};
 
 /// What a tag does.
 #[derive(Clone, Copy, Debug, PartialEq, Eq)]
@@ -129,7 +128,7 @@ fn end_tag<'a>(behind: &'a [u8], opened: &[u8]) -> Option<PlainTag<'a>>
         return None;
     }
     let (name, rest) = behind.split_at(opened.len());
-    if !is_same_name(name, opened) {
+    if !are_same(name, opened) {
         return None;
     }
     let Some((last, _)) = rest.split_first() else {

@@ -12,7 +12,6 @@ pub mod model;
 mod numbers;
 mod object_types;
 mod patterns;
-mod same_tag;
 mod simple_types;
 mod slots;
 mod sorted_codes;

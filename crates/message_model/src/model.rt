@@ -10,10 +10,9 @@ ghost use Rattle.reference_check.specs.Forms.{Slot as Slotted};
 ghost use Rattle.message_model.specs.inner.Quick.{quick_sequence_next, quick_choice_next, quick_sequence_end, quick_choice_end, quick_at, due, HasTagAt, AreTagged};
 ghost use Rattle.message_model.specs.Views.{layout_form, slot_view, slots_view, next_view, end_view, IsFormOf};
 
-use crate::same_tag::is_same;
 use crate::tag_order::TagOrder;
 use facets::Simple;
-use lexical_core::Text;
+use lexical_core::{Text, are_same};
 use repo_objects::MessageId;
 
 /// What the namespaces of all messages begin with.
@@ -237,7 +236,7 @@ pub(crate) fn has_tag(slots: &[SlotInfo], at: u32, tag: &[u8]) -> bool
     ensures { result ≡ true → HasTagAt (slots_view slots.now) at tag.now }
 {
     match slots.get(at as usize) {
-        Some(slot) => is_same(slot.tag.bytes(), tag),
+        Some(slot) => are_same(slot.tag.bytes(), tag),
         None => false,
     }
 }

@@ -5,13 +5,13 @@ use Rattle.markup.specs.declared.plain_tag.TagKind.TheVariants.{End}
 use Rattle.markup.proofs.TagScans.{ends_there, end_parts, bounded_found}
 use Rattle.markup.proofs.plain_tag.end_tag.Goals as goal
 
-pub returns-then-not-is_same_name-clause-all : goal.returns-then-not-is_same_name-clause-all
-returns-then-not-is_same_name-clause-all c rest e l =
-    sym c.if-not-is_same_name.true ∙ (c.is_same_name.ensures ∙ (bytes_eq-Decides c.split_at.result.0.now c.args.opened.now).1 (ends_there c.args.behind.now c.args.opened.now c.split_at.result.0.now c.split_at.result.1.now rest c.split_at.ensures.front c.split_at.ensures.back e).0)
+pub returns-then-not-are_same-clause-all : goal.returns-then-not-are_same-clause-all
+returns-then-not-are_same-clause-all c rest e l =
+    sym c.if-not-are_same.true ∙ (c.are_same.ensures ∙ (bytes_eq-Decides c.split_at.result.0.now c.args.opened.now).1 (ends_there c.args.behind.now c.args.opened.now c.split_at.result.0.now c.split_at.result.1.now rest c.split_at.ensures.front c.split_at.ensures.back e).0)
 
 pub returns-clause-only : goal.returns-clause-only
 returns-clause-only c =
     bounded_found c.bounded.result _ c.args.opened.now End c.split_at.result.0.now c.in-Some.field-0-1.now
     (end_parts c.args.behind.now c.split_at.result.0.now c.split_at.result.1.now c.in-Some.field-0-1.now _ c.in-Some.last.now c.split_at.ensures.front c.split_at.ensures.back c.in-Some.ensures.cases.0 c.if-last-ne62.false)
-    ((bytes_eq-Decides c.split_at.result.0.now c.args.opened.now).0 (sym c.is_same_name.ensures ∙ c.if-not-is_same_name.false))
+    ((bytes_eq-Decides c.split_at.result.0.now c.args.opened.now).0 (sym c.are_same.ensures ∙ c.if-not-are_same.false))
     c.bounded.ensures.tag

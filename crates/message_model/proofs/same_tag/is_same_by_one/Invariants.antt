@@ -1,5 +1,0 @@
-use Rattle.std.proofs.Common.{take, ◌≡◌}
-use Rattle.message_model.proofs.same_tag.is_same_by_one.Given as goal
-
-abbrev pub invariant-loop-at : goal.invariant-loop-at
-invariant-loop-at l = take l.at l.left ≡ take l.at l.right
