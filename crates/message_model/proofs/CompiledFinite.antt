@@ -19,6 +19,7 @@ use Rattle.reference_check.specs.Reach.{Reaches, itself}
 use Rattle.reference_check.specs.Rules.{NoMessage, LeftOutKind}
 use Rattle.reference_check.specs.Shapes.{Component, Nothing, Child, HasShape, IsFinite, AreFinite}
 use Rattle.reference_check.specs.Words.{IsWithin, IsSequence, times}
+use Rattle.reference_check.proofs.RenamedForms.{form_slot_to}
 use Rattle.message_model.specs.Compiled.{Compiles, IsReachedList, types, place_of}
 use Rattle.message_model.specs.Ready.{IsReady, OnObjects}
 use Rattle.message_model.specs.SimpleTypes.{facets_of}
@@ -27,15 +28,6 @@ use Rattle.message_model.proofs.Compilable.{object_there}
 use Rattle.message_model.proofs.ShapesContinue.{shapes_same, compiled_finite}
 use Rattle.message_model.proofs.SoundTables.{type_place}
 use Rattle.message_model.proofs.SoundTypes.{IsTypePlace, IsTarget, types_lead}
-
-slots_to : {P : Type 0} (h : ℕ → P) (f : Form ℕ Simple) → form_slots (form_to h (λ x. x) f) ≡ map (slot_to h) (form_slots f)
-slots_to h (form.Sequence slots) = refl
-slots_to h (form.Choice slots) = refl
-slots_to h (form.Simple simple) = refl
-slots_to h (form.Money code number) = refl
-slots_to h form.Envelope = refl
-slots_to h form.LeftOut = refl
-slots_to h form.Missing = refl
 
 -- the one slot of `Document` comes once
 one_comes : (s : Slot Place) → s.min ≡ 1 → s.max ≡ Some 1 → IsSequence (s ∷ []) (0 ∷ [])
@@ -109,9 +101,7 @@ module _ (finite : ReadyAreFinite) (R : Contents) (m : List ℕ) (ready : IsRead
 
     slot_finite : (n k : ℕ) (s : Slot ℕ) → slice_get (form_slots (types_of T n)) k ≡ Some s → IsFinite (types R m) (h s.target)
     slot_finite n k s at =
-        let slot : slice_get (form_slots (form_to h (λ x. x) (types_of T n))) k ≡ Some (slot_to h s) =
-        ap (λ (xs : List (Slot Place)). slice_get xs k) (slots_to h (types_of T n)) ∙ (slice_get-map (slot_to h) (form_slots (types_of T n)) k ∙ ap (option_map (slot_to h)) at)
-        in
+        let slot = form_slot_to h (λ x. x) (types_of T n) k s at in
         let there = subst (λ (f : Form Place Simple). slice_get (form_slots f) k ≡ Some (slot_to h s)) (made.forms n) slot in
         target_finite (h s.target) (types_lead R m ready (h n) (type_place R m ready ids list n) k (slot_to h s) there)
 

@@ -18,7 +18,6 @@ pub mod CompiledFinite
 pub mod Refused
 pub mod TypeLists
 pub mod SlotLists
-pub mod XmlTexts
 pub mod SortedTexts
 pub mod TypeForms
 pub mod RankedLists

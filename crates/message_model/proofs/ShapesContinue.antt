@@ -7,6 +7,7 @@ use Rattle.reference_check.specs.Forms.{Graph, Form, Slot, form_slots, slot_to, 
 use Rattle.reference_check.specs.Forms as form
 use Rattle.reference_check.specs.Words.{times, IsWithin, IsWord, IsSequence, IsChoice, IsOrderedFrom}
 use Rattle.reference_check.specs.Steps.{Slotted, next_of, Came}
+use Rattle.reference_check.proofs.RenamedForms.{get_to, get_from, sequence_to, sequence_from, choice_to, choice_from}
 use Rattle.message_model.specs.Sound.{IsSoundForm}
 use Rattle.reference_check.specs.Shapes.{Shape, Component, OpenLeaf, Shapes, Nothing, Child, HasShape, HaveShapes, numbers_in, then_shapes, IsFinite, AreFinite, GoesOn}
 use Rattle.message_model.specs.Continued.{NextShapes, SameShapes}
@@ -86,37 +87,6 @@ slot_shapes {P} types p before k s v sound targets (w, shape) has came slotted f
             (ks, of_word types (types p) (then_shapes before (Child k v ks)) (subst (λ x. IsWord (types p) x) numbers word) (shapes_then types (form_slots (types p)) before (Child k v ks) has ((s, found, fits), each)))
 
 -- ---- other names of the types
-
-get_to : {P Q : Type 0} (h : P → Q) (slots : List (Slot P)) (k : ℕ) (s : Slot P) → slice_get slots k ≡ Some s → slice_get (map (slot_to h) slots) k ≡ Some (slot_to h s)
-get_to h [] k s e = absurd cc
-get_to h (x ∷ slots) zero s e = (let same : x ≡ s = cc in rw same refl)
-get_to h (x ∷ slots) (suc k) s e = get_to h slots k s e
-
-get_from : {P Q : Type 0} (h : P → Q) (slots : List (Slot P)) (k : ℕ) (t : Slot Q) → slice_get (map (slot_to h) slots) k ≡ Some t → (s : Slot P) × (slice_get slots k ≡ Some s) × (t ≡ slot_to h s)
-get_from h [] k t e = absurd cc
-get_from h (x ∷ slots) zero t e = (let same : slot_to h x ≡ t = cc in (x, refl, sym same))
-get_from h (x ∷ slots) (suc k) t e = get_from h slots k t e
-
-length_to : {P Q : Type 0} (h : P → Q) (slots : List (Slot P)) → length (map (slot_to h) slots) ≡ length slots
-length_to h [] = refl
-length_to h (x ∷ slots) = ap suc (length_to h slots)
-
-sequence_to : {P Q : Type 0} (h : P → Q) (slots : List (Slot P)) (d : List ℕ) → IsSequence slots d → IsSequence (map (slot_to h) slots) d
-sequence_to {P} {Q} h slots d w = record { ordered = rw (length_to h slots) w.ordered; within = each }
-  where
-    each : (k : ℕ) (t : Slot Q) → slice_get (map (slot_to h) slots) k ≡ Some t → IsWithin (times k d) t
-    each k t e = (let r : (s : Slot P) × (slice_get slots k ≡ Some s) × (t ≡ slot_to h s) = get_from h slots k t e in rw r.2 (w.within k r.0 r.1))
-
-sequence_from : {P Q : Type 0} (h : P → Q) (slots : List (Slot P)) (d : List ℕ) → IsSequence (map (slot_to h) slots) d → IsSequence slots d
-sequence_from h slots d w = record { ordered = rw (length_to h slots) at w.ordered; within = λ k s e. w.within k (slot_to h s) (get_to h slots k s e) }
-
-choice_to : {P Q : Type 0} (h : P → Q) (slots : List (Slot P)) (d : List ℕ) → IsChoice slots d → IsChoice (map (slot_to h) slots) d
-choice_to h slots d (k, n, s, found, within, e) = (k, n, slot_to h s, get_to h slots k s found, within, e)
-
-choice_from : {P Q : Type 0} (h : P → Q) (slots : List (Slot P)) (d : List ℕ) → IsChoice (map (slot_to h) slots) d → IsChoice slots d
-choice_from {P} h slots d (k, n, t, found, within, e) =
-    let r : (s : Slot P) × (slice_get slots k ≡ Some s) × (t ≡ slot_to h s) = get_from h slots k t found in
-    (k, n, r.0, r.1, rw r.2 at within, e)
 
 module _ {P Q L M : Type 0} (types : Graph P L) (tables : Graph Q M) (h : Q → P) (l : M → L) (same : (n : Q) → types (h n) ≡ form_to h l (tables n)) where
   mutual

@@ -1,6 +1,7 @@
 -- Slots that are made of elements one by one.
 use Rattle.std.proofs.Common.{◌≡◌, ℕ, zero, suc, ◌+◌, ◌<◌, List, [], ◌∷◌, ◌++◌, length, map, take, get_or, Some, refl, sym, ap, ◌∙◌, arith}
 use Rattle.std.specs.Prelude.{Contains}
+use Rattle.std.proofs.lemmas.List.{take_more, map-append}
 use Rattle.repo_objects.specs.declared.objects.ElementDef.{ElementDef}
 use Rattle.repo_objects.specs.declared.objects.Object.{Object}
 use Rattle.repo_objects.specs.declared.objects.Kinds.{Kinds}
@@ -24,15 +25,6 @@ slot_same h e tag n id same one leads =
     let by_target : Place → Slot Place = λ q. record { tag = e.tag; min = e.min; max = e.max; target = q } in
     ap by_tag same ∙ ap by_target (leads ∙ sym (ap one_of one))
 
-map_push : {A B : Type 0} (f : A → B) (xs : List A) (x : A) → map f (xs ++ x ∷ []) ≡ map f xs ++ f x ∷ []
-map_push f [] x = refl
-map_push f (y ∷ xs) x = ap (λ ys. f y ∷ ys) (map_push f xs x)
-
-take_next : {A : Type 0} (xs : List A) (i : ℕ) (x : A) → i < length xs → x ≡ get_or xs i x → take (suc i) xs ≡ take i xs ++ x ∷ []
-take_next [] i x lt is = absurd (omega (arith, lt))
-take_next (y ∷ xs) zero x lt is = ap (λ z. z ∷ []) (sym is)
-take_next (y ∷ xs) (suc i) x lt is = ap (λ ys. y ∷ ys) (take_next xs i x (omega arith) is)
-
 -- what is read of a list is in it
 pub read_in : {A : Type 0} (xs : List A) (i : ℕ) (x : A) → i < length xs → x ≡ get_or xs i x → Contains xs x
 read_in xs i x lt is = (i, lt, sym is)
@@ -42,11 +34,10 @@ pub slots_more : (h : ℕ → Place) (slots : List SlotInfo) (s : SlotInfo) (es 
     → i < length es → e ≡ get_or es i e → map (slot_to h) (slots_view slots) ≡ map slot_of (take i es) → slot_to h (slot_info s) ≡ slot_of e
     → map (slot_to h) (slots_view new) ≡ map slot_of (take (i + 1) es)
 slots_more h slots s es i e new grown lt is before same =
-    let next : i + 1 ≡ suc i = omega arith in
     let left : map (slot_to h) (slots_view new) ≡ map (slot_to h) (slots_view slots) ++ slot_to h (slot_info s) ∷ [] =
-    ap (λ xs. map (slot_to h) (slots_view xs)) grown ∙ (ap (map (slot_to h)) (map_push slot_info slots s) ∙ map_push (slot_to h) (slots_view slots) (slot_info s)) in
+    ap (λ xs. map (slot_to h) (slots_view xs)) grown ∙ (ap (map (slot_to h)) (map-append slot_info slots (s ∷ [])) ∙ map-append (slot_to h) (slots_view slots) (slot_info s ∷ [])) in
     let right : map slot_of (take (i + 1) es) ≡ map slot_of (take i es) ++ slot_of e ∷ [] =
-    ap (λ n. map slot_of (take n es)) next ∙ (ap (map slot_of) (take_next es i e lt is) ∙ map_push slot_of (take i es) e) in
+    ap (map slot_of) (take_more es i e lt ∙ ap (λ x. take i es ++ x ∷ []) (sym is)) ∙ map-append slot_of (take i es) (e ∷ []) in
     left ∙ (ap (λ xs. xs ++ slot_to h (slot_info s) ∷ []) before ∙ (ap (λ x. map slot_of (take i es) ++ x ∷ []) same ∙ sym right))
 
 -- ---- amounts

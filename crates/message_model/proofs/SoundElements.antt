@@ -15,6 +15,7 @@ use Rattle.reference_check.specs.Forms as form
 use Rattle.reference_check.specs.Graph.{slot_of}
 use Rattle.reference_check.specs.Words.{UpTo}
 use Rattle.reference_check.specs.Steps.{find_slot, has_room}
+use Rattle.reference_check.proofs.RenamedForms.{get_to, slots_to, form_slot_to}
 use Rattle.message_model.specs.Sound.{IsSoundForm, IsNoOption, HasNumber}
 use Rattle.message_model.proofs.Compilable.{at_contains}
 
@@ -113,18 +114,6 @@ module _ (es : List ElementDef) (sound : AreSoundElements es) where
 -- ---- with other names of the types
 
 module _ {P Q : Type 0} (h : P → Q) where
-  slots_to : (f : Form P Simple) → form_slots (form_to h (λ x. x) f) ≡ map (slot_to h) (form_slots f)
-  slots_to (form.Sequence slots) = refl
-  slots_to (form.Choice slots) = refl
-  slots_to (form.Simple s) = refl
-  slots_to (form.Money c s) = refl
-  slots_to form.Envelope = refl
-  slots_to form.LeftOut = refl
-  slots_to form.Missing = refl
-
-  get_to : (f : Form P Simple) (k : ℕ) (s : Slot P) → slice_get (form_slots f) k ≡ Some s → slice_get (form_slots (form_to h (λ x. x) f)) k ≡ Some (slot_to h s)
-  get_to f k s at = ap (λ xs. slice_get xs k) (slots_to f) ∙ (slice_get-map (slot_to h) (form_slots f) k ∙ ap (option_map (slot_to h)) at)
-
   find_to : (base : ℕ) (slots : List (Slot P)) (tag : List ℕ) → find_slot base (map (slot_to h) slots) tag ≡ find_slot base slots tag
   find_to base [] tag = refl
   find_to base (s ∷ slots) tag = ap (λ o. cond (bytes_eq s.tag tag) (Some base) o) (find_to (suc base) slots tag)
@@ -135,7 +124,7 @@ module _ {P Q : Type 0} (h : P → Q) where
 
   no_option : (f : Form P Simple) → IsNoOption (form_to h (λ x. x) f) → IsNoOption f
   no_option (form.Sequence slots) all = tt
-  no_option (form.Choice slots) all = λ k s at. all k (slot_to h s) (get_to (form.Choice slots) k s at)
+  no_option (form.Choice slots) all = λ k s at. all k (slot_to h s) (get_to h slots k s at)
   no_option (form.Simple s) all = tt
   no_option (form.Money c s) all = tt
   no_option form.Envelope all = tt
@@ -163,10 +152,10 @@ module _ {P Q : Type 0} (h : P → Q) where
   -- a form is sound where it is so with other names of the types
   pub sound_from : (f : Form P Simple) → IsSoundForm (form_to h (λ x. x) f) → IsSoundForm f
   sound_from f sound = record {
-    tags = λ k s at. sym (find_to 0 (form_slots f) s.tag) ∙ (ap (λ xs. find_slot 0 xs s.tag) (sym (slots_to f)) ∙ sound.tags k (slot_to h s) (get_to f k s at));
-    bounds = λ k s at. sound.bounds k (slot_to h s) (get_to f k s at);
-    room = λ k s at. sound.room k (slot_to h s) (get_to f k s at);
-    short = subst (λ n. n ≤ 4096) (ap length (slots_to f) ∙ length_to (form_slots f)) sound.short;
+    tags = λ k s at. sym (find_to 0 (form_slots f) s.tag) ∙ (ap (λ xs. find_slot 0 xs s.tag) (sym (slots_to h (λ x. x) f)) ∙ sound.tags k (slot_to h s) (form_slot_to h (λ x. x) f k s at));
+    bounds = λ k s at. sound.bounds k (slot_to h s) (form_slot_to h (λ x. x) f k s at);
+    room = λ k s at. sound.room k (slot_to h s) (form_slot_to h (λ x. x) f k s at);
+    short = subst (λ n. n ≤ 4096) (ap length (slots_to h (λ x. x) f) ∙ length_to (form_slots f)) sound.short;
     alternatives = no_option f sound.alternatives;
     number = has_number f sound.number;
     limits = λ simple is. sound.limits simple (text_to f ∙ is);

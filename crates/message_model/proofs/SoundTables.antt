@@ -14,6 +14,7 @@ use Rattle.reference_check.specs.Rules.{TooMany}
 use Rattle.facets.specs.declared.simple.Simple.{Simple}
 use Rattle.reference_check.specs.Forms.{Slot, Form, Graph, Money, Missing, form_slots, form_to, slot_to, text_type}
 use Rattle.reference_check.specs.Forms as form
+use Rattle.reference_check.proofs.RenamedForms.{form_slot_to}
 use Rattle.message_model.specs.Tables.{Tables, TypeEntry, types_of, form_or_missing}
 use Rattle.message_model.specs.Views.{tables, type_entry}
 use Rattle.message_model.specs.declared.model.TypeInfo.{TypeInfo}
@@ -99,15 +100,6 @@ text_to h form.Envelope = refl
 text_to h form.LeftOut = refl
 text_to h form.Missing = refl
 
-slots_to : {P : Type 0} (h : ℕ → P) (f : Form ℕ Simple) → form_slots (form_to h (λ x. x) f) ≡ map (slot_to h) (form_slots f)
-slots_to h (form.Sequence slots) = refl
-slots_to h (form.Choice slots) = refl
-slots_to h (form.Simple s) = refl
-slots_to h (form.Money c s) = refl
-slots_to h form.Envelope = refl
-slots_to h form.LeftOut = refl
-slots_to h form.Missing = refl
-
 module _ (R : Contents) (m : List ℕ) (ready : IsReady R m) (ids : List (List ℕ)) (list : IsReachedList R m ids) where
   pub type_place : (n : ℕ) → IsTypePlace R m ready (place_of ids n)
   type_place zero = tt
@@ -139,10 +131,7 @@ module _ (R : Contents) (m : List ℕ) (ready : IsReady R m) (ids : List (List �
 
     pub tables_linked : AreLinked T
     tables_linked n k s at =
-        let slot : slice_get (form_slots (form_to (place_of ids) (λ x. x) (types_of T n))) k ≡ Some (slot_to (place_of ids) s) =
-        ap (λ (xs : List (Slot Place)). slice_get xs k) (slots_to (place_of ids) (types_of T n))
-        ∙ (slice_get-map (slot_to (place_of ids)) (form_slots (types_of T n)) k ∙ ap (option_map (slot_to (place_of ids))) at)
-        in
+        let slot = form_slot_to (place_of ids) (λ x. x) (types_of T n) k s at in
         let there : slice_get (form_slots (types R m (place_of ids n))) k ≡ Some (slot_to (place_of ids) s) =
         subst (λ (f : Form Place Simple). slice_get (form_slots f) k ≡ Some (slot_to (place_of ids) s)) (made.forms n) slot
         in

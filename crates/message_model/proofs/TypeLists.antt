@@ -1,6 +1,7 @@
 -- Lists of types that grow at their end.
 use Rattle.std.proofs.Common.{◌≡◌, ℕ, zero, suc, ◌+◌, ◌<◌, ◌≤◌, List, [], ◌∷◌, ◌++◌, length, map, take, get_or, Some, refl, sym, ap, subst, ◌∙◌, arith}
 use Rattle.std.specs.Prelude.{slice_get}
+use Rattle.std.proofs.lemmas.List.{take_more, map-append}
 use Rattle.repo_objects.specs.Repository.{Entry, Contents}
 use Rattle.reference_check.specs.Graph.{Place, document, message, entry}
 use Rattle.message_model.specs.Tables.{TypeEntry}
@@ -9,27 +10,9 @@ use Rattle.message_model.specs.declared.model.TypeInfo.{TypeInfo}
 use Rattle.message_model.specs.Compiled.{places_of}
 use Rattle.message_model.specs.inner.Numbers.{IsTypeOf, AreTypesOf, ids_at, entry_id}
 
-map_push : {A B : Type 0} (f : A → B) (xs : List A) (x : A) → map f (xs ++ x ∷ []) ≡ map f xs ++ f x ∷ []
-map_push f [] x = refl
-map_push f (y ∷ xs) x = ap (λ ys. f y ∷ ys) (map_push f xs x)
-
 ids_push : (es : List Entry) (places : List ℕ) (k : ℕ) → ids_at es (places ++ k ∷ []) ≡ ids_at es places ++ entry_id (slice_get es k) ∷ []
 ids_push es [] k = refl
 ids_push es (p ∷ places) k = ap (λ xs. entry_id (slice_get es p) ∷ xs) (ids_push es places k)
-
-take_next : (xs : List ℕ) (i d : ℕ) → i < length xs → take (suc i) xs ≡ take i xs ++ get_or xs i d ∷ []
-take_next [] i d lt = absurd (omega (arith, lt))
-take_next (x ∷ xs) zero d lt = refl
-take_next (x ∷ xs) (suc i) d lt = ap (λ ys. x ∷ ys) (take_next xs i d (omega arith))
-
-take_push : (xs : List ℕ) (i d : ℕ) → i < length xs → take (i + 1) xs ≡ take i xs ++ get_or xs i d ∷ []
-take_push xs i d lt = (let next : i + 1 ≡ suc i = omega arith in ap (λ n. take n xs) next ∙ take_next xs i d lt)
-
-pub all_taken : (xs : List ℕ) (i : ℕ) → length xs ≤ i → take i xs ≡ xs
-all_taken [] zero h = refl
-all_taken [] (suc i) h = refl
-all_taken (x ∷ xs) zero h = absurd (omega (arith, h))
-all_taken (x ∷ xs) (suc i) h = ap (λ ys. x ∷ ys) (all_taken xs i (omega arith))
 
 module _ (R : Contents) (m places : List ℕ) where
   types_push : (ps : List Place) (ts : List TypeEntry) (p : Place) (t : TypeEntry) → AreTypesOf R m places ps ts → IsTypeOf R m places p t → AreTypesOf R m places (ps ++ p ∷ []) (ts ++ t ∷ [])
@@ -44,11 +27,11 @@ module _ (R : Contents) (m places : List ℕ) where
       → AreTypesOf R m places (places_of (ids_at R.objects (take (i + 1) places))) (map type_entry (ts ++ t ∷ []))
   types_more i d e ts t lt at are is =
       let ids : ids_at R.objects (take (i + 1) places) ≡ ids_at R.objects (take i places) ++ e.id ∷ [] =
-      ap (ids_at R.objects) (take_push places i d lt) ∙ (ids_push R.objects (take i places) (get_or places i d) ∙ ap (λ o. ids_at R.objects (take i places) ++ entry_id o ∷ []) at) in
+      ap (ids_at R.objects) (take_more places i d lt) ∙ (ids_push R.objects (take i places) (get_or places i d) ∙ ap (λ o. ids_at R.objects (take i places) ++ entry_id o ∷ []) at) in
       let more : places_of (ids_at R.objects (take (i + 1) places)) ≡ places_of (ids_at R.objects (take i places)) ++ entry e.id ∷ [] =
-      ap places_of ids ∙ ap (λ ps. places_of [] ++ ps) (map_push entry (ids_at R.objects (take i places)) e.id) in
+      ap places_of ids ∙ ap (λ ps. places_of [] ++ ps) (map-append entry (ids_at R.objects (take i places)) (e.id ∷ [])) in
       let whole = types_push (places_of (ids_at R.objects (take i places))) (map type_entry ts) (entry e.id) (type_entry t) are is in
-      rw (more, map_push type_entry ts t) whole
+      rw (more, map-append type_entry ts (t ∷ [])) whole
 
   -- the first two
   pub first_two : (none one two : List TypeInfo) (d t : TypeInfo) → none ≡ [] → one ≡ none ++ d ∷ [] → two ≡ one ++ t ∷ []

@@ -1,6 +1,6 @@
 -- What the meaning of a character tells of it, and which meaning it has.
 use Rattle.std.proofs.Common.{◌≡◌, ℕ, ◌-◌, ◌⊎◌, inl, inr, Bool, true, false, cond, ◌&&◌, ◌==◌, nat_le, List, [], ◌∷◌, codes, refl, sym, subst, arith, eqb-true}
-use Rattle.std.proofs.lemmas.Bool.{eqb-false, ne_eqb}
+use Rattle.std.proofs.lemmas.Bool.{cond_both, eqb-false, ne_eqb}
 use Rattle.std.proofs.lemmas.Bool.Decides.{nat_tests}
 use Rattle.lexical_core.specs.Characters.{IsXmlChar}
 use Rattle.pattern_match.specs.Valid.{is_among, IsOrdinary, IsEscapeLetter, IsDigit}
@@ -13,10 +13,6 @@ use Rattle.pattern_match.specs.declared.character.InNumber.{InNumber}
 use Rattle.pattern_match.specs.declared.character.InNumber.TheVariants.{Digit, Comma, CloseBounds, Stray as StrayInNumber}
 use Rattle.pattern_match.specs.declared.character.BehindBackslash.{BehindBackslash}
 use Rattle.pattern_match.specs.declared.character.BehindBackslash.TheVariants.{Space, Letter, Stray as StrayBehind}
-
-tell : {A : Type 0} (P : A → Type 0) (b : Bool) (x y : A) → (b ≡ true → P x) → (b ≡ false → P y) → P (cond b x y)
-tell P true x y f g = f refl
-tell P false x y f g = g refl
 
 pub xml_true : (c : ℕ) → is_xml c ≡ true → IsXmlChar c
 xml_true c h = grind (arith, nat_tests)
@@ -50,19 +46,19 @@ OutsideTells c Stray = ((c ≡ 93) ⊎ (c ≡ 125)) ⊎ (is_xml c ≡ false)
 
 pub outside_tells : (c : ℕ) → OutsideTells c (outside c)
 outside_tells c =
-    tell (OutsideTells c) (c == 46) _ _ (λ t. eqb-true c 46 t) (λ f1.
-    tell (OutsideTells c) (c == 92) _ _ (λ t. eqb-true c 92 t) (λ f2.
-    tell (OutsideTells c) (c == 91) _ _ (λ t. eqb-true c 91 t) (λ f3.
-    tell (OutsideTells c) (c == 40) _ _ (λ t. eqb-true c 40 t) (λ f4.
-    tell (OutsideTells c) (c == 41) _ _ (λ t. eqb-true c 41 t) (λ f5.
-    tell (OutsideTells c) (c == 124) _ _ (λ t. eqb-true c 124 t) (λ f6.
-    tell (OutsideTells c) (c == 63) _ _ (λ t. eqb-true c 63 t) (λ f7.
-    tell (OutsideTells c) (c == 42) _ _ (λ t. eqb-true c 42 t) (λ f8.
-    tell (OutsideTells c) (c == 43) _ _ (λ t. eqb-true c 43 t) (λ f9.
-    tell (OutsideTells c) (c == 123) _ _ (λ t. eqb-true c 123 t) (λ f10.
-    tell (OutsideTells c) (c == 93) _ _ (λ t. inl (inl (eqb-true c 93 t))) (λ f11.
-    tell (OutsideTells c) (c == 125) _ _ (λ t. inl (inr (eqb-true c 125 t))) (λ f12.
-    tell (OutsideTells c) (is_xml c) _ _
+    cond_both (c == 46) _ _ (OutsideTells c) (λ t. eqb-true c 46 t) (λ f1.
+    cond_both (c == 92) _ _ (OutsideTells c) (λ t. eqb-true c 92 t) (λ f2.
+    cond_both (c == 91) _ _ (OutsideTells c) (λ t. eqb-true c 91 t) (λ f3.
+    cond_both (c == 40) _ _ (OutsideTells c) (λ t. eqb-true c 40 t) (λ f4.
+    cond_both (c == 41) _ _ (OutsideTells c) (λ t. eqb-true c 41 t) (λ f5.
+    cond_both (c == 124) _ _ (OutsideTells c) (λ t. eqb-true c 124 t) (λ f6.
+    cond_both (c == 63) _ _ (OutsideTells c) (λ t. eqb-true c 63 t) (λ f7.
+    cond_both (c == 42) _ _ (OutsideTells c) (λ t. eqb-true c 42 t) (λ f8.
+    cond_both (c == 43) _ _ (OutsideTells c) (λ t. eqb-true c 43 t) (λ f9.
+    cond_both (c == 123) _ _ (OutsideTells c) (λ t. eqb-true c 123 t) (λ f10.
+    cond_both (c == 93) _ _ (OutsideTells c) (λ t. inl (inl (eqb-true c 93 t))) (λ f11.
+    cond_both (c == 125) _ _ (OutsideTells c) (λ t. inl (inr (eqb-true c 125 t))) (λ f12.
+    cond_both (is_xml c) _ _ (OutsideTells c)
     (λ t. (xml_true c t, among_false (codes ".\\?*+()|[]{}") c (f1, (f2, (f7, (f8, (f9, (f4, (f5, (f6, (f3, (f11, (f10, (f12, tt))))))))))))))
     (λ f. inr f)))))))))))))
 
@@ -97,11 +93,11 @@ WithinTells c StrayWithin = (c ≡ 91) ⊎ (is_xml c ≡ false)
 
 pub within_tells : (c : ℕ) → WithinTells c (within c)
 within_tells c =
-    tell (WithinTells c) (c == 92) _ _ (λ t. eqb-true c 92 t) (λ f1.
-    tell (WithinTells c) (c == 45) _ _ (λ t. eqb-true c 45 t) (λ f2.
-    tell (WithinTells c) (c == 93) _ _ (λ t. eqb-true c 93 t) (λ f3.
-    tell (WithinTells c) (c == 91) _ _ (λ t. inl (eqb-true c 91 t)) (λ f4.
-    tell (WithinTells c) (is_xml c) _ _
+    cond_both (c == 92) _ _ (WithinTells c) (λ t. eqb-true c 92 t) (λ f1.
+    cond_both (c == 45) _ _ (WithinTells c) (λ t. eqb-true c 45 t) (λ f2.
+    cond_both (c == 93) _ _ (WithinTells c) (λ t. eqb-true c 93 t) (λ f3.
+    cond_both (c == 91) _ _ (WithinTells c) (λ t. inl (eqb-true c 91 t)) (λ f4.
+    cond_both (is_xml c) _ _ (WithinTells c)
     (λ t. (xml_true c t, among_false (codes "\\[]-") c (f1, (f4, (f3, (f2, tt))))))
     (λ f. inr f)))))
 
@@ -127,9 +123,9 @@ NumberTells c StrayInNumber = Unit {0}
 
 pub number_tells : (c : ℕ) → NumberTells c (in_number c)
 number_tells c =
-    tell (NumberTells c) (nat_le 48 c && nat_le c 57) _ _ (λ t. (digit t, refl)) (λ f1.
-    tell (NumberTells c) (c == 44) _ _ (λ t. eqb-true c 44 t) (λ f2.
-    tell (NumberTells c) (c == 125) _ _ (λ t. eqb-true c 125 t) (λ f3. tt)))
+    cond_both (nat_le 48 c && nat_le c 57) _ _ (NumberTells c) (λ t. (digit t, refl)) (λ f1.
+    cond_both (c == 44) _ _ (NumberTells c) (λ t. eqb-true c 44 t) (λ f2.
+    cond_both (c == 125) _ _ (NumberTells c) (λ t. eqb-true c 125 t) (λ f3. tt)))
   where
     digit : nat_le 48 c && nat_le c 57 ≡ true → IsDigit c
     digit t = grind (arith, nat_tests)
@@ -147,8 +143,8 @@ BackslashTells c StrayBehind = Unit {0}
 
 pub backslash_tells : (c : ℕ) → BackslashTells c (behind_backslash c)
 backslash_tells c =
-    tell (BackslashTells c) (c == 115) _ _ (λ t. eqb-true c 115 t) (λ f1.
-    tell (BackslashTells c) (is_escape_letter c) _ _ (λ t. t) (λ f2. tt))
+    cond_both (c == 115) _ _ (BackslashTells c) (λ t. eqb-true c 115 t) (λ f1.
+    cond_both (is_escape_letter c) _ _ (BackslashTells c) (λ t. t) (λ f2. tt))
 
 pub backslash_letter : (c : ℕ) → IsEscapeLetter c → behind_backslash c ≡ Letter
 backslash_letter c l = rw (n, l) refl

@@ -1,5 +1,6 @@
 -- What a step of the reading keeps.
 use Rattle.std.proofs.Common.{◌≡◌, ℕ, zero, suc, ◌+◌, ◌-◌, ◌*◌, ◌/◌, ◌≤◌, Bool, true, false, cond, ◌==◌, nat_le, nat_lt, Option, Some, None, refl, sym, subst, arith, le_trans, mul-le-mul, mul_assoc, le_refl, ltb-false}
+use Rattle.std.proofs.lemmas.Bool.{cond_both}
 use Rattle.pattern_match.specs.Valid.{IsDigit, escaped}
 use Rattle.pattern_match.specs.Character.{outside, within, in_number, behind_backslash}
 use Rattle.pattern_match.specs.Control.{full, outside_next, atom_next, escape_next, least_next, most_next, class_first_next, class_item_next, class_single_next, class_dash_next, class_end_next, class_escape_next, range_escape_next, next, depth_outside, depth_after, joined, step, HasRoom, IsSound}
@@ -20,10 +21,6 @@ use Rattle.pattern_match.proofs.CharacterLemmas.{NumberTells, number_tells}
 abbrev pub SoundIf : Option Control → Type 0
 SoundIf None = Unit {0}
 SoundIf (Some k) = IsSound k
-
-either : {A : Type 0} (P : A → Type 0) (b : Bool) (x y : A) → (b ≡ true → P x) → (b ≡ false → P y) → P (cond b x y)
-either P true x y f g = f refl
-either P false x y f g = g refl
 
 -- one more digit
 pub room_digit : (weight value digit : ℕ) → digit ≤ 9 → 10 ≤ weight → HasRoom weight value → HasRoom (weight / 10) (10 * value + digit)
@@ -76,20 +73,20 @@ digit_small c digit d e = omega arith
 
 least_sound : (weight value c : ℕ) → HasRoom weight value → (m : InNumber) → NumberTells c m → SoundIf (least_next weight value m)
 least_sound weight value c h (Digit digit) t =
-    either SoundIf (nat_lt weight 10) None (Some (Least (weight / 10) (10 * value + digit))) (λ b. tt)
+    cond_both (nat_lt weight 10) None (Some (Least (weight / 10) (10 * value + digit))) SoundIf (λ b. tt)
     (λ b. room_digit weight value digit (digit_small c digit t.0 t.1) (ltb-false weight 10 b) h)
-least_sound weight value c h CloseBounds t = either SoundIf (nat_lt weight full) (Some Start) None (λ b. tt) (λ b. tt)
-least_sound weight value c h Comma t = either SoundIf (nat_lt weight full) (Some (Most value full 0)) None (λ b. full_room) (λ b. tt)
+least_sound weight value c h CloseBounds t = cond_both (nat_lt weight full) (Some Start) None SoundIf (λ b. tt) (λ b. tt)
+least_sound weight value c h Comma t = cond_both (nat_lt weight full) (Some (Most value full 0)) None SoundIf (λ b. full_room) (λ b. tt)
 least_sound weight value c h StrayInNumber t = tt
 
 most_sound : (least weight value c : ℕ) → HasRoom weight value → (m : InNumber) → NumberTells c m → SoundIf (most_next least weight value m)
 most_sound least weight value c h (Digit digit) t =
-    either SoundIf (nat_lt weight 10) None (cond (nat_lt least ((10 * value + digit + 1) * (weight / 10))) (Some (Most least (weight / 10) (10 * value + digit))) None) (λ b. tt)
-    (λ b. either SoundIf (nat_lt least ((10 * value + digit + 1) * (weight / 10))) (Some (Most least (weight / 10) (10 * value + digit))) None
+    cond_both (nat_lt weight 10) None (cond (nat_lt least ((10 * value + digit + 1) * (weight / 10))) (Some (Most least (weight / 10) (10 * value + digit))) None) SoundIf (λ b. tt)
+    (λ b. cond_both (nat_lt least ((10 * value + digit + 1) * (weight / 10))) (Some (Most least (weight / 10) (10 * value + digit))) None SoundIf
     (λ g. room_digit weight value digit (digit_small c digit t.0 t.1) (ltb-false weight 10 b) h) (λ g. tt))
 most_sound least weight value c h CloseBounds t =
-    either SoundIf (weight == full) (Some Start) (cond (nat_le least value) (Some Start) None) (λ b. tt)
-    (λ b. either SoundIf (nat_le least value) (Some Start) None (λ g. tt) (λ g. tt))
+    cond_both (weight == full) (Some Start) (cond (nat_le least value) (Some Start) None) SoundIf (λ b. tt)
+    (λ b. cond_both (nat_le least value) (Some Start) None SoundIf (λ g. tt) (λ g. tt))
 most_sound least weight value c h Comma t = tt
 most_sound least weight value c h StrayInNumber t = tt
 
@@ -115,8 +112,8 @@ single_sound low CloseClass c = tt
 single_sound low StrayWithin c = tt
 
 dash_sound : (low : ℕ) (m : Within) (c : ℕ) → SoundIf (class_dash_next low m c)
-dash_sound low Plain c = either SoundIf (nat_le low c) (Some ClassItem) None (λ b. tt) (λ b. tt)
-dash_sound low BackslashWithin c = either SoundIf (nat_le low 125) (Some (RangeEscape low)) None (λ b. tt) (λ b. tt)
+dash_sound low Plain c = cond_both (nat_le low c) (Some ClassItem) None SoundIf (λ b. tt) (λ b. tt)
+dash_sound low BackslashWithin c = cond_both (nat_le low 125) (Some (RangeEscape low)) None SoundIf (λ b. tt) (λ b. tt)
 dash_sound low Hyphen c = tt
 dash_sound low CloseClass c = tt
 dash_sound low StrayWithin c = tt
@@ -135,7 +132,7 @@ class_escape_sound StrayBehind c = tt
 
 range_escape_sound : (low : ℕ) (m : BehindBackslash) (c : ℕ) → SoundIf (range_escape_next low m c)
 range_escape_sound low Space c = tt
-range_escape_sound low Letter c = either SoundIf (nat_le low (escaped c)) (Some ClassItem) None (λ b. tt) (λ b. tt)
+range_escape_sound low Letter c = cond_both (nat_le low (escaped c)) (Some ClassItem) None SoundIf (λ b. tt) (λ b. tt)
 range_escape_sound low StrayBehind c = tt
 
 pub next_sound : (k : Control) (c : ℕ) → IsSound k → SoundIf (next k c)
@@ -144,7 +141,7 @@ next_sound Atom c h = atom_sound (outside c)
 next_sound Escape c h = escape_sound (behind_backslash c)
 next_sound (Least weight value) c h = least_sound weight value c h (in_number c) (number_tells c)
 next_sound (Most least weight value) c h = most_sound least weight value c h (in_number c) (number_tells c)
-next_sound ClassStart c h = either SoundIf (c == 94) (Some ClassNegated) (class_first_next (within c) c) (λ b. tt) (λ b. first_sound (within c) c)
+next_sound ClassStart c h = cond_both (c == 94) (Some ClassNegated) (class_first_next (within c) c) SoundIf (λ b. tt) (λ b. first_sound (within c) c)
 next_sound ClassNegated c h = first_sound (within c) c
 next_sound ClassItem c h = item_sound (within c) c
 next_sound (ClassSingle low) c h = single_sound low (within c) c

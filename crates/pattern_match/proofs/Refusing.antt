@@ -1,5 +1,6 @@
 -- Where the reading of a text stops is where it is refused.
 use Rattle.std.proofs.Common.{◌≡◌, ℕ, zero, suc, ◌+◌, ◌-◌, ◌*◌, ◌/◌, ◌≤◌, ◌<◌, ◌⊎◌, inl, inr, Bool, true, false, cond, ◌==◌, nat_le, nat_lt, Option, Some, None, List, [], ◌∷◌, ◌++◌, length, refl, sym, ap, ◌∙◌, subst, ⊎_elim, arith, le-leb, leb-true, lt-ltb, le-ltb, ltb-false, le_refl, mul-le-mul, mul_assoc, lit≤, ltb-true, append-nil, take, drop, take-append-drop, take_all, true≢false}
+use Rattle.std.proofs.lemmas.Bool.{cond_both}
 use Rattle.pattern_match.specs.Expression.{Plain, One}
 use Rattle.pattern_match.specs.Spelling.{spelling}
 use Rattle.pattern_match.specs.Valid.{escaped}
@@ -56,10 +57,6 @@ abbrev LiveIf : Option Control → Type 0
 LiveIf None = Unit {0}
 LiveIf (Some k) = Live k
 
-either : {A : Type 0} (P : A → Type 0) (b : Bool) (x y : A) → (b ≡ true → P x) → (b ≡ false → P y) → P (cond b x y)
-either P true x y f g = f refl
-either P false x y f g = g refl
-
 outside_live : (m : Outside) → LiveIf (outside_next m)
 outside_live Ordinary = tt
 outside_live DotOutside = tt
@@ -106,20 +103,20 @@ comma_live weight value (w, h) = (
 
 least_live : (weight value c : ℕ) → Live (Least weight value) → (m : InNumber) → NumberTells c m → LiveIf (least_next weight value m)
 least_live weight value c h (Digit digit) t =
-    either LiveIf (nat_lt weight 10) None (Some (Least (weight / 10) (10 * value + digit))) (λ b. tt)
+    cond_both (nat_lt weight 10) None (Some (Least (weight / 10) (10 * value + digit))) LiveIf (λ b. tt)
     (λ b. let l = ltb-false weight 10 b in ((tenth weight l h.0).0, room_digit weight value digit (let z = t.0.1 in let u = t.1 in omega arith) l h.1))
-least_live weight value c h CloseBounds t = either LiveIf (nat_lt weight full) (Some Start) None (λ b. tt) (λ b. tt)
-least_live weight value c h Comma t = either LiveIf (nat_lt weight full) (Some (Most value full 0)) None (λ b. comma_live weight value h) (λ b. tt)
+least_live weight value c h CloseBounds t = cond_both (nat_lt weight full) (Some Start) None LiveIf (λ b. tt) (λ b. tt)
+least_live weight value c h Comma t = cond_both (nat_lt weight full) (Some (Most value full 0)) None LiveIf (λ b. comma_live weight value h) (λ b. tt)
 least_live weight value c h StrayInNumber t = tt
 
 most_live : (least weight value : ℕ) → Live (Most least weight value) → (m : InNumber) → LiveIf (most_next least weight value m)
 most_live least weight value h (Digit digit) =
-    either LiveIf (nat_lt weight 10) None (cond (nat_lt least ((10 * value + digit + 1) * (weight / 10))) (Some (Most least (weight / 10) (10 * value + digit))) None) (λ b. tt)
-    (λ b. either LiveIf (nat_lt least ((10 * value + digit + 1) * (weight / 10))) (Some (Most least (weight / 10) (10 * value + digit))) None
+    cond_both (nat_lt weight 10) None (cond (nat_lt least ((10 * value + digit + 1) * (weight / 10))) (Some (Most least (weight / 10) (10 * value + digit))) None) LiveIf (λ b. tt)
+    (λ b. cond_both (nat_lt least ((10 * value + digit + 1) * (weight / 10))) (Some (Most least (weight / 10) (10 * value + digit))) None LiveIf
     (λ g. ((tenth weight (ltb-false weight 10 b) h.0).0, ltb-true least ((10 * value + digit + 1) * (weight / 10)) g)) (λ g. tt))
 most_live least weight value h CloseBounds =
-    either LiveIf (weight == full) (Some Start) (cond (nat_le least value) (Some Start) None) (λ b. tt)
-    (λ b. either LiveIf (nat_le least value) (Some Start) None (λ g. tt) (λ g. tt))
+    cond_both (weight == full) (Some Start) (cond (nat_le least value) (Some Start) None) LiveIf (λ b. tt)
+    (λ b. cond_both (nat_le least value) (Some Start) None LiveIf (λ g. tt) (λ g. tt))
 most_live least weight value h Comma = tt
 most_live least weight value h StrayInNumber = tt
 
@@ -145,8 +142,8 @@ single_live low CloseClass c = tt
 single_live low StrayWithin c = tt
 
 dash_live : (low : ℕ) (m : Within) (c : ℕ) → LiveIf (class_dash_next low m c)
-dash_live low PlainWithin c = either LiveIf (nat_le low c) (Some ClassItem) None (λ b. tt) (λ b. tt)
-dash_live low BackslashWithin c = either LiveIf (nat_le low 125) (Some (RangeEscape low)) None (λ b. leb-true low 125 b) (λ b. tt)
+dash_live low PlainWithin c = cond_both (nat_le low c) (Some ClassItem) None LiveIf (λ b. tt) (λ b. tt)
+dash_live low BackslashWithin c = cond_both (nat_le low 125) (Some (RangeEscape low)) None LiveIf (λ b. leb-true low 125 b) (λ b. tt)
 dash_live low HyphenWithin c = tt
 dash_live low CloseClass c = tt
 dash_live low StrayWithin c = tt
@@ -165,7 +162,7 @@ class_escape_live StrayBehind c = tt
 
 range_escape_live : (low : ℕ) (m : BehindBackslash) (c : ℕ) → LiveIf (range_escape_next low m c)
 range_escape_live low SpaceBehind c = tt
-range_escape_live low Letter c = either LiveIf (nat_le low (escaped c)) (Some ClassItem) None (λ b. tt) (λ b. tt)
+range_escape_live low Letter c = cond_both (nat_le low (escaped c)) (Some ClassItem) None LiveIf (λ b. tt) (λ b. tt)
 range_escape_live low StrayBehind c = tt
 
 next_live : (k : Control) (c : ℕ) → Live k → LiveIf (next k c)
@@ -174,7 +171,7 @@ next_live InAtom c h = atom_live (outside c)
 next_live InEscape c h = escape_live (behind_backslash c)
 next_live (Least weight value) c h = least_live weight value c h (in_number c) (number_tells c)
 next_live (Most least weight value) c h = most_live least weight value h (in_number c)
-next_live InClassStart c h = either LiveIf (c == 94) (Some ClassNegated) (class_first_next (within c) c) (λ b. tt) (λ b. first_live (within c) c)
+next_live InClassStart c h = cond_both (c == 94) (Some ClassNegated) (class_first_next (within c) c) LiveIf (λ b. tt) (λ b. first_live (within c) c)
 next_live ClassNegated c h = first_live (within c) c
 next_live ClassItem c h = item_live (within c) c
 next_live (ClassSingle low) c h = single_live low (within c) c

@@ -1,17 +1,10 @@
--- Texts of XML are UTF-8, and have no more characters than bytes.
+-- Bytes have no more characters than they are.
 use Rattle.std.proofs.Common.{◌≡◌, ℕ, zero, suc, ◌≤◌, ◌+◌, ◌*◌, ◌-◌, true, List, [], ◌∷◌, length, refl, arith}
 use Rattle.std.specs.List.{AllByRecursion}
 use Rattle.std.specs.Str.{IsUtf8, chars, chars_after, continuation_len, lead_bits}
 use Rattle.std.proofs.Math.Utf8.{scalars}
 use Rattle.lexical_core.proofs.CharacterLemmas.{IsScalar-xml_char}
 use Rattle.lexical_core.specs.Characters.{IsXmlChar, IsXmlText}
-
-xml_scalars : (cs : List ℕ) → AllByRecursion IsXmlChar cs → scalars cs ≡ true
-xml_scalars [] h = refl
-xml_scalars (c ∷ cs) (first, rest) = rw (IsScalar-xml_char c first) (xml_scalars cs rest)
-
-pub xml_text_is_utf8 : (text : List ℕ) → IsXmlText text → IsUtf8 text
-xml_text_is_utf8 text (cs, all, spelled) = (cs, (xml_scalars cs all, spelled))
 
 fewer_after : (n c : ℕ) (bs : List ℕ) → length (chars_after n c bs) ≤ suc (length bs)
 fewer_after zero c [] = omega arith

@@ -3,6 +3,7 @@ use Rattle.std.proofs.Common.{◌≡◌, ℕ, zero, suc, ◌+◌, ◌≤◌, ◌
 use Rattle.std.specs.Prelude.{IsTrue, slice_get, ◌==◌, nat_lt, not, Contains, ◌↔◌}
 use Rattle.std.specs.List.{AllByRecursion}
 use Rattle.std.specs.Str.{bytes_eq}
+use Rattle.std.proofs.lemmas.Bool.{and_parts, and_from, or_cases, or_left, or_right}
 use Rattle.std.proofs.lemmas.Bool.Decides.{nat_tests, eqb_tells}
 use Rattle.std.proofs.lemmas.Slice.Eq.{bytes_eq-Decides}
 use native.Mathlib.Decide.{dec_lt}
@@ -22,7 +23,8 @@ use Rattle.reference_check.specs.Rules.{Rule, Endless, BadBounds, NotOneReferenc
 use Rattle.reference_check.specs.Laws.{ReadyAreFinite}
 use Rattle.reference_check.proofs.Words.{IsProper}
 use Rattle.reference_check.proofs.FiniteForms.{finite_form}
-use Rattle.reference_check.proofs.FiniteMarks.{finds_the_finite, first_in, later_in}
+use Rattle.reference_check.proofs.FiniteMarks.{finds_the_finite, later_in}
+use Rattle.reference_check.proofs.Lookups.{first_in}
 use Rattle.repo_objects.specs.declared.objects.Kinds.TheVariants as kinds
 
 -- ---- tests of lists
@@ -34,26 +36,6 @@ every f (x ∷ xs) = f x && every f xs
 abbrev some : {A : Type 0} → (A → Bool) → List A → Bool
 some f [] = false
 some f (x ∷ xs) = f x || some f xs
-
-and_in : (a b : Bool) → (a && b) ≡ true → (a ≡ true) × (b ≡ true)
-and_in true b e = (refl, e)
-and_in false b e = absurd cc
-
-and_of : (a b : Bool) → a ≡ true → b ≡ true → (a && b) ≡ true
-and_of true b e f = f
-and_of false b e f = cc
-
-or_in : (a b : Bool) → (a || b) ≡ true → (a ≡ true) ⊎ (b ≡ true)
-or_in true b e = inl refl
-or_in false b e = inr e
-
-or_left : (a b : Bool) → a ≡ true → (a || b) ≡ true
-or_left true b e = refl
-or_left false b e = absurd cc
-
-or_right : (a b : Bool) → b ≡ true → (a || b) ≡ true
-or_right true b e = refl
-or_right false b e = e
 
 zero_in : (n : ℕ) → (n == 0) ≡ true → n ≡ 0
 zero_in n e = grind (arith, nat_tests)
@@ -95,15 +77,15 @@ pub bounds_in : {P : Type 0} (fs : List (Slot P)) → every bounds_test fs ≡ t
 bounds_in [] e k s found = absurd cc
 bounds_in (f ∷ fs) e zero s found =
     let same : f ≡ s = cc in
-    rw (← same) (up_to_in f.min f.max (and_in (bounds_test f) (every bounds_test fs) e).0)
-bounds_in (f ∷ fs) e (suc k) s found = bounds_in fs (and_in (bounds_test f) (every bounds_test fs) e).1 k s found
+    rw (← same) (up_to_in f.min f.max (and_parts (bounds_test f) (every bounds_test fs) e).0)
+bounds_in (f ∷ fs) e (suc k) s found = bounds_in fs (and_parts (bounds_test f) (every bounds_test fs) e).1 k s found
 
 module _ {P L : Type 0} (g : Graph P L) where
   abbrev SoundMarks : (P → Bool) → Type 0
   SoundMarks S = (p : P) → S p ≡ true → IsFinite g p
 
   reached_in : (S : P → Bool) (s : Slot P) → SoundMarks S → slot_test S s ≡ true → IsReached (IsFinite g) s
-  reached_in S s sound e = go (or_in (s.min == 0) (S s.target) e)
+  reached_in S s sound e = go (or_cases (s.min == 0) (S s.target) e)
     where
       go : ((s.min == 0) ≡ true) ⊎ (S s.target ≡ true) → IsReached (IsFinite g) s
       go (inl z) = inl (zero_in s.min z)
@@ -111,11 +93,11 @@ module _ {P L : Type 0} (g : Graph P L) where
 
   every_in : (S : P → Bool) (fs : List (Slot P)) → SoundMarks S → every (slot_test S) fs ≡ true → AllByRecursion (IsReached (IsFinite g)) fs
   every_in S [] sound e = tt
-  every_in S (s ∷ fs) sound e = (let r : (slot_test S s ≡ true) × (every (slot_test S) fs ≡ true) = and_in (slot_test S s) (every (slot_test S) fs) e in (reached_in S s sound r.0, every_in S fs sound r.1))
+  every_in S (s ∷ fs) sound e = (let r : (slot_test S s ≡ true) × (every (slot_test S) fs ≡ true) = and_parts (slot_test S s) (every (slot_test S) fs) e in (reached_in S s sound r.0, every_in S fs sound r.1))
 
   some_in : (S : P → Bool) (fs : List (Slot P)) → SoundMarks S → some (slot_test S) fs ≡ true → (k : ℕ) × (s : Slot P) × (slice_get fs k ≡ Some s) × IsReached (IsFinite g) s
   some_in S [] sound e = absurd cc
-  some_in S (s ∷ fs) sound e = go (or_in (slot_test S s) (some (slot_test S) fs) e) (λ h. some_in S fs sound h)
+  some_in S (s ∷ fs) sound e = go (or_cases (slot_test S s) (some (slot_test S) fs) e) (λ h. some_in S fs sound h)
     where
       go : (slot_test S s ≡ true) ⊎ (some (slot_test S) fs ≡ true) → (some (slot_test S) fs ≡ true → (k : ℕ) × (t : Slot P) × (slice_get fs k ≡ Some t) × IsReached (IsFinite g) t) → (k : ℕ) × (t : Slot P) × (slice_get (s ∷ fs) k ≡ Some t) × IsReached (IsFinite g) t
       go (inl h) later = (0, s, refl, reached_in S s sound h)
@@ -123,10 +105,10 @@ module _ {P L : Type 0} (g : Graph P L) where
 
   test_finite : (S : P → Bool) (p : P) (f : Form P L) → SoundMarks S → g p ≡ f → form_test S f ≡ true → IsFinite g p
   test_finite S p (form.Sequence fs) sound at e =
-      let r : (every bounds_test fs ≡ true) × (every (slot_test S) fs ≡ true) = and_in (every bounds_test fs) (every (slot_test S) fs) e in
+      let r : (every bounds_test fs ≡ true) × (every (slot_test S) fs ≡ true) = and_parts (every bounds_test fs) (every (slot_test S) fs) e in
       rw at (finite_form g (form.Sequence fs) (bounds_in fs r.0) (every_in S fs sound r.1))
   test_finite S p (form.Choice fs) sound at e =
-      let r : (every bounds_test fs ≡ true) × (some (slot_test S) fs ≡ true) = and_in (every bounds_test fs) (some (slot_test S) fs) e in
+      let r : (every bounds_test fs ≡ true) × (some (slot_test S) fs ≡ true) = and_parts (every bounds_test fs) (some (slot_test S) fs) e in
       rw at (finite_form g (form.Choice fs) (bounds_in fs r.0) (some_in S fs sound r.1))
   test_finite S p (form.Simple x) sound at e = rw at (finite_form g (form.Simple x) (λ k s found. absurd cc) tt)
   test_finite S p (form.Money c x) sound at e = rw at (finite_form g (form.Money c x) (λ k s found. absurd cc) tt)
@@ -139,7 +121,7 @@ module _ {P L : Type 0} (g : Graph P L) where
   grow S p = S p || form_test S (g p)
 
   grow_sound : (S : P → Bool) → SoundMarks S → SoundMarks (grow S)
-  grow_sound S sound p e = go (or_in (S p) (form_test S (g p)) e)
+  grow_sound S sound p e = go (or_cases (S p) (form_test S (g p)) e)
     where
       go : (S p ≡ true) ⊎ (form_test S (g p) ≡ true) → IsFinite g p
       go (inl h) = sound p h
@@ -201,12 +183,12 @@ module _ (R : Contents) (m : List ℕ) (sound : IsSound R m IsBelowEndless) wher
 
   every_bounds : (es : List ElementDef) → ((e : ElementDef) → Contains es e → up_to e.min e.max ≡ true) → every bounds_test (map slot_of es) ≡ true
   every_bounds [] h = refl
-  every_bounds (e ∷ es) h = and_of (up_to e.min e.max) _ (h e (first_in e es)) (every_bounds es (λ f k. h f (later_in e f es k)))
+  every_bounds (e ∷ es) h = and_from (up_to e.min e.max) _ (h e (first_in e es)) (every_bounds es (λ f k. h f (later_in e f es k)))
 
   every_of : (S : Place → Bool) (fs : List (Slot Place)) → AllByRecursion (IsReached (λ q. S q ≡ true)) fs → every (slot_test S) fs ≡ true
   every_of S [] h = refl
-  every_of S (s ∷ fs) (inl z, h) = and_of (slot_test S s) _ (or_left (s.min == 0) (S s.target) (zero_of s.min z)) (every_of S fs h)
-  every_of S (s ∷ fs) (inr y, h) = and_of (slot_test S s) _ (or_right (s.min == 0) (S s.target) y) (every_of S fs h)
+  every_of S (s ∷ fs) (inl z, h) = and_from (slot_test S s) _ (or_left (s.min == 0) (S s.target) (zero_of s.min z)) (every_of S fs h)
+  every_of S (s ∷ fs) (inr y, h) = and_from (slot_test S s) _ (or_right (s.min == 0) (S s.target) y) (every_of S fs h)
 
   slot_of_reached : (S : Place → Bool) (s : Slot Place) → IsReached (λ q. S q ≡ true) s → slot_test S s ≡ true
   slot_of_reached S s (inl z) = or_left (s.min == 0) (S s.target) (zero_of s.min z)
@@ -218,8 +200,8 @@ module _ (R : Contents) (m : List ℕ) (sound : IsSound R m IsBelowEndless) wher
   some_of S (f ∷ fs) (suc k) s found e = or_right (slot_test S f) _ (some_of S fs k s found e)
 
   test_of : (S : Place → Bool) (f : Form Place Object) → every bounds_test (form_slots f) ≡ true → MayBeFound (λ q. S q ≡ true) f → form_test S f ≡ true
-  test_of S (form.Sequence fs) b h = and_of _ _ b (every_of S fs h)
-  test_of S (form.Choice fs) b (k, s, found, r) = and_of _ _ b (some_of S fs k s found (slot_of_reached S s r))
+  test_of S (form.Sequence fs) b h = and_from _ _ b (every_of S fs h)
+  test_of S (form.Choice fs) b (k, s, found, r) = and_from _ _ b (some_of S fs k s found (slot_of_reached S s r))
   test_of S (form.Simple x) b h = refl
   test_of S (form.Money c x) b h = refl
   test_of S form.Envelope b h = refl

@@ -10,10 +10,7 @@ use Rattle.std.proofs.lemmas.Slice.Eq.{bytes_eq-Decides}
 use Rattle.repo_objects.specs.declared.objects.Object.{Object}
 use Rattle.repo_objects.specs.Repository.{Entry, HasId, ids_of}
 use Rattle.reference_check.specs.Graph.{find_entry}
-
-pub nothing_at : {A : Type 0} {x : A} (k : ℕ) → slice_get [] k ≡ Some x → ⊥
-nothing_at zero h = true≢false (sym (ap is_some h))
-nothing_at (suc k) h = true≢false (sym (ap is_some h))
+use Rattle.reference_check.proofs.Lookups.{none_there}
 
 pub bytes_differ : (a b : List ℕ) → (a ≡ b → ⊥) → bytes_eq a b ≡ false
 bytes_differ a b apart = by (bytes_eq a b) refl
@@ -24,7 +21,7 @@ bytes_differ a b apart = by (bytes_eq a b) refl
 
 -- the object at a place is found by its id
 pub entry_at : (es : List Entry) (k : ℕ) (e : Entry) → AllPairs (λ one other. one ≢ other) (ids_of es) → slice_get es k ≡ Some e → find_entry e.id es ≡ Some e.object
-entry_at [] k e apart h = absurd (nothing_at k h)
+entry_at [] k e apart h = absurd (none_there k h)
 entry_at (x ∷ xs) zero e apart h =
     let same : x ≡ e = cc in
     let ids : bytes_eq x.id e.id ≡ true = (bytes_eq-Decides x.id e.id).1 (ap (λ (v : Entry). v.id) same) in

@@ -17,15 +17,9 @@ use Rattle.reference_check.specs.Shapes.{IsFinite, MayBeFound, IsReached}
 use Rattle.reference_check.specs.Reach.{elements_of, kind_elements, elements_or_none, blocks_or_none, Reaches, element}
 use Rattle.reference_check.specs.Laws.{FindsTheFinite}
 use Rattle.reference_check.proofs.FiniteForms.{found_form}
+use Rattle.reference_check.proofs.Lookups.{none_there, first_in}
 
-none_there : {A : Type 0} {x : A} (k : ℕ) → slice_get [] k ≡ Some x → ⊥
-none_there zero h = true≢false (sym (ap is_some h))
-none_there (suc k) h = true≢false (sym (ap is_some h))
-
--- the first of a list is in it, and what is in the rest
-pub first_in : {A : Type 0} (x : A) (xs : List A) → Contains (x ∷ xs) x
-first_in x xs = (0, omega arith, refl)
-
+-- what is in the rest of a list is in it
 pub later_in : {A : Type 0} (x y : A) (xs : List A) → Contains xs y → Contains (x ∷ xs) y
 later_in x y xs h = Contains-append_right (x ∷ []) xs y h
 

@@ -1,4 +1,5 @@
 pub mod Words
+pub mod RenamedForms
 pub mod Last
 pub mod Concat
 pub mod FiniteForms

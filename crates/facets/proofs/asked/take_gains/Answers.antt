@@ -1,5 +1,6 @@
 use Rattle.std.proofs.Common.{◌≡◌, ◌==◌, true, ℕ, suc, List, [], ◌∷◌, ◌++◌, length, take, drop, refl, sym, ap, subst, ◌∙◌, append_assoc, append-nil, take-append-drop, arith}
 use Rattle.std.proofs.lemmas.Bool.Decides.{nat_tests}
+use Rattle.lexical_core.proofs.Lists.{none_left, two_parts}
 use Rattle.data_types.specs.Collapsing.{HasCollapsed}
 use Rattle.facets.proofs.asked.take_gains.Goals as goal
 
@@ -34,21 +35,11 @@ loop-rest-preserved c =
             more.2,
           );
     }
-  where
-    two_parts : (n : ℕ) (all front back : List ℕ) → front ≡ take n all → back ≡ drop n all → front ++ back ≡ all
-    two_parts n all front back f b = ap (λ t. t ++ back) f ∙ (ap (λ t. take n all ++ t) b ∙ take-append-drop n all)
-
-empty : (xs : List ℕ) → (length xs == 0) ≡ true → xs ≡ []
-empty [] e = refl
-empty (x ∷ xs) e = absurd (some (length xs) e)
-  where
-    some : (n : ℕ) → (suc n == 0) ≡ true → ⊥
-    some n e = grind (arith, nat_tests)
 
 pub returns : goal.returns
 returns c = λ text collapsed h r.
     let before = c.loop-rest.invariant in
-    let none : c.loop-rest.rest.now ≡ [] = empty c.loop-rest.rest.now (let test = c.loop-rest-test.false in let says = c.is_empty.ensures in cc) in
+    let none : c.loop-rest.rest.now ≡ [] = none_left c.loop-rest.rest.now (let test = c.loop-rest-test.false in let says = c.is_empty.ensures in cc) in
     let all : before.seen ≡ c.args.codes.now = sym (before.joined ∙ (ap (λ t. before.seen ++ t) none ∙ append-nil before.seen)) in
     let own = before.takes text collapsed h r in
     (own.0, subst (λ t. HasCollapsed c.loop-rest.collapse t own.0) (ap (λ t. text ++ t) all) own.1, own.2)

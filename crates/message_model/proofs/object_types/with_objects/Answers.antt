@@ -9,7 +9,8 @@ use Rattle.message_model.specs.Views.{type_entry}
 use Rattle.message_model.specs.declared.model.TypeInfo.{TypeInfo}
 use Rattle.message_model.proofs.Places.{finds_at}
 use Rattle.std.proofs.lemmas.List.Elements.{Contains-get_or}
-use Rattle.message_model.proofs.TypeLists.{types_more, all_taken}
+use Rattle.std.proofs.lemmas.List.{take_all}
+use Rattle.message_model.proofs.TypeLists.{types_more}
 use Rattle.message_model.proofs.object_types.with_objects.Goals as goal
 
 -- the object at a place has texts of XML
@@ -51,4 +52,4 @@ loop-place-preserved c = record {
 pub returns : goal.returns
 returns c m are first =
     subst (λ ps. AreTypesOf c.args.repository.now m c.args.places.now (places_of (ids_at c.args.repository.now.objects ps)) (map type_entry c.loop-place.types.items))
-    (all_taken c.args.places.now c.loop-place.place-index c.loop-place-test.false) (c.loop-place.invariant.types m are first)
+    (take_all c.loop-place.place-index c.args.places.now c.loop-place-test.false) (c.loop-place.invariant.types m are first)

@@ -2,7 +2,7 @@
 use Rattle.std.proofs.Common.{◌≡◌, ◌∙◌, ◌<◌, length, ap, subst, true≢false, sym}
 use Rattle.std.specs.Str.{chars}
 use Rattle.std.proofs.lemmas.Bool.{lt-ltb, ltb-true}
-use Rattle.reference_check.proofs.Characters.{xml_text_is_utf8}
+use Rattle.lexical_core.proofs.CharacterLemmas.{xml_text_is_utf8}
 use Rattle.reference_check.proofs.Sizes.{short_text}
 use Rattle.reference_check.proofs.counts.is_long.Goals as goal
 

@@ -1,12 +1,9 @@
 use Rattle.std.proofs.Common.{◌≡◌, ℕ, List, [], ◌∷◌, ◌++◌, map, refl, sym, ap, subst, ◌∙◌, append_assoc}
+use Rattle.std.proofs.lemmas.List.{map-id}
 use Rattle.std.proofs.lemmas.Iterator.{YieldsList-from_chars}
 use Rattle.std.proofs.lemmas.Iterator.Consumers.{YieldsList-end}
 use Rattle.facets.specs.PatternChecks.{HasAsked}
 use Rattle.facets.proofs.asked.Asked.take_text.Goals as goal
-
-same_list : (xs : List ℕ) → map (λ x. x) xs ≡ xs
-same_list [] = refl
-same_list (x ∷ xs) = ap (λ v. x ∷ v) (same_list xs)
 
 pub loop-c-preserved : goal.loop-c-preserved
 loop-c-preserved c =
@@ -18,4 +15,4 @@ loop-c-preserved c =
 pub returns : goal.returns
 returns c = λ text h.
     let t = YieldsList-end (YieldsList-from_chars c.args.text.now c.utf8.text cc) c.loop-c.yielded _ c.loop-c.yielded_by _ _ c.in-None.is c.next.ensures.steps in
-    subst (λ s. HasAsked c.loop-c.self c.args.simple.now (text ++ s)) (sym (same_list c.loop-c.yielded) ∙ t.0) (c.loop-c.invariant.1 text h)
+    subst (λ s. HasAsked c.loop-c.self c.args.simple.now (text ++ s)) (sym (map-id c.loop-c.yielded) ∙ t.0) (c.loop-c.invariant.1 text h)

@@ -1,6 +1,6 @@
-use Rattle.std.proofs.Common.{◌≡◌, ◌==◌, true, ℕ, suc, List, [], ◌∷◌, ◌++◌, length, take, refl, sym, ap, subst, ◌∙◌, append_assoc, append-nil, take-append-drop, arith}
-use Rattle.std.proofs.lemmas.Bool.Decides.{nat_tests}
+use Rattle.std.proofs.Common.{◌≡◌, [], ◌++◌, take, refl, sym, ap, subst, ◌∙◌, append_assoc, append-nil, take-append-drop}
 use Rattle.lexical_core.specs.DecimalSoFar.{HasRead}
+use Rattle.lexical_core.proofs.Lists.{none_left}
 use Rattle.lexical_core.proofs.decimal_text.DecimalStep.take_codes.Goals as goal
 
 pub loop-rest-init : goal.loop-rest-init
@@ -22,16 +22,9 @@ loop-rest-preserved c =
       read = λ text h. subst (HasRead c.take_front-count.new.self) (append_assoc text before.seen _) (c.take_front-count.ensures.read _ (before.read text h));
     }
 
-empty : (xs : List ℕ) → (length xs == 0) ≡ true → xs ≡ []
-empty [] e = refl
-empty (x ∷ xs) e = absurd (some (length xs) e)
-  where
-    some : (n : ℕ) → (suc n == 0) ≡ true → ⊥
-    some n e = grind (arith, nat_tests)
-
 pub returns : goal.returns
 returns c = λ text h.
     let before = c.loop-rest.invariant in
-    let none : c.loop-rest.rest.now ≡ [] = empty c.loop-rest.rest.now (let test = c.loop-rest-test.false in let says = c.is_empty.ensures in cc) in
+    let none : c.loop-rest.rest.now ≡ [] = none_left c.loop-rest.rest.now (let test = c.loop-rest-test.false in let says = c.is_empty.ensures in cc) in
     let all : before.seen ≡ c.args.codes.now = sym (before.joined ∙ (ap (λ t. before.seen ++ t) none ∙ append-nil before.seen)) in
     subst (λ t. HasRead c.loop-rest.self (text ++ t)) all (before.read text h)

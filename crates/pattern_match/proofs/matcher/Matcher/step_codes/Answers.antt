@@ -1,5 +1,6 @@
 use Rattle.std.proofs.Common.{◌≡◌, ◌==◌, true, ℕ, suc, List, [], ◌∷◌, ◌++◌, length, take, refl, sym, ap, subst, ◌∙◌, append_assoc, append-nil, take-append-drop, arith}
 use Rattle.std.proofs.lemmas.Bool.Decides.{nat_tests}
+use Rattle.lexical_core.proofs.Lists.{none_left}
 use Rattle.pattern_match.specs.Compiled.{HasRead}
 use Rattle.pattern_match.proofs.matcher.Matcher.step_codes.Goals as goal
 
@@ -24,16 +25,9 @@ loop-rest-preserved c =
       read = λ w h. subst (HasRead c.args.pattern.now c.step_front-count.new.self) (append_assoc w before.seen _) (c.step_front-count.ensures.read _ (before.read w h));
     }
 
-empty : (xs : List ℕ) → (length xs == 0) ≡ true → xs ≡ []
-empty [] e = refl
-empty (x ∷ xs) e = absurd (some (length xs) e)
-  where
-    some : (n : ℕ) → (suc n == 0) ≡ true → ⊥
-    some n e = grind (arith, nat_tests)
-
 pub returns-clause-read : goal.returns-clause-read
 returns-clause-read c w h =
     let before = c.loop-rest.invariant in
-    let none : c.loop-rest.rest.now ≡ [] = empty c.loop-rest.rest.now (let test = c.loop-rest-test.false in let says = c.is_empty.ensures in cc) in
+    let none : c.loop-rest.rest.now ≡ [] = none_left c.loop-rest.rest.now (let test = c.loop-rest-test.false in let says = c.is_empty.ensures in cc) in
     let all : before.seen ≡ c.args.codes.now = sym (before.joined ∙ (ap (λ t. before.seen ++ t) none ∙ append-nil before.seen)) in
     subst (λ t. HasRead c.args.pattern.now c.loop-rest.self (w ++ t)) all (before.read w h)
