@@ -4,6 +4,7 @@ use Rattle.std.specs.Prelude.{slice_get}
 use Rattle.std.proofs.Math.Seq.{drop-cons}
 use Rattle.std.proofs.lemmas.List.{take_more, map-append, append_assoc}
 use Rattle.std.proofs.lemmas.Option.{slice_get_within, get_or_from_slice_get}
+use Rattle.lexical_core.proofs.Lists.{take_item}
 use Rattle.message_model.specs.declared.model.Slot.{Slot}
 use Rattle.message_model.specs.Tables.{Tables, types_of}
 use Rattle.asn1_model.specs.declared.module.AsnShape.{AsnShape}
@@ -31,19 +32,10 @@ drop_none [] (suc n) e = refl
 drop_none (x ∷ xs) zero e = absurd cc
 drop_none (x ∷ xs) (suc n) e = drop_none xs n e
 
-take_item : {X : Type 0} (xs : List X) (n : ℕ) (x : X) → slice_get xs n ≡ Some x → take (n + 1) xs ≡ take n xs ++ x ∷ []
-take_item xs n x e = take_more xs n x (slice_get_within xs n x e) ∙ ap (λ y. take n xs ++ y ∷ []) (get_or_from_slice_get xs n x x e)
-
 -- one more slot
 pub slots_more : {X Y : Type 0} (f : X → Y) (ys : List Y) (n : ℕ) (xs new : List X) (x : X) → Some (f x) ≡ slice_get ys n → map f xs ≡ take n ys → new ≡ xs ++ x ∷ [] → map f new ≡ take (n + 1) ys
 slots_more f ys n xs new x there before grown =
     ap (map f) grown ∙ map-append f xs (x ∷ []) ∙ ap (λ l. l ++ f x ∷ []) before ∙ sym (take_item ys n (f x) (sym there))
-
--- one more of what a list is mapped to
-pub mapped_more : {X Y : Type 0} (f : X → Y) (xs : List X) (n : ℕ) (x : X) (ys new : List Y) (y : Y) → Some x ≡ slice_get xs n → ys ≡ map f (take n xs) → y ≡ f x → new ≡ ys ++ y ∷ []
-    → new ≡ map f (take (n + 1) xs)
-mapped_more f xs n x ys new y there before is grown =
-    grown ∙ (ap (λ l. l ++ y ∷ []) before ∙ (ap (λ z. map f (take n xs) ++ z ∷ []) is ∙ sym (ap (map f) (take_item xs n x (sym there)) ∙ map-append f (take n xs) (x ∷ []))))
 
 -- one more field
 pub fields_more : (name : ℕ → List ℕ) (slots : List Slot) (given : List (List ℕ)) (all old new : List Field) (n : ℕ) (d : Slot) (g : List ℕ) → n < length slots → Some g ≡ slice_get given n

@@ -16,34 +16,6 @@ use Rattle.asn1_model.specs.declared.given.Given.{Given}
 use Rattle.asn1_model.specs.Names.{is_among, candidate, first_free}
 use Rattle.asn1_model.specs.inner.Given.{ending_of, AreAllGiven, HasGiven}
 
--- ---- the map by bytes
-
--- how keys stand
-abbrev pub key_cmp : Vec ℕ → Vec ℕ → Ordering
-key_cmp x y = slice_cmp nat_cmp x.items y.items
-
-keyed : List ℕ → Vec ℕ → Bool
-keyed q = is_at (λ k. slice_cmp nat_cmp q k.items)
-
-apart : (p q k : List ℕ) → bytes_eq p q ≡ false → is_eq (slice_cmp nat_cmp p k) ≡ true → is_eq (slice_cmp nat_cmp q k) ≡ false
-apart p q k n y =
-    is_eq-slice_cmp q k ∙ nat_list_eq_equiv.symm q k ∙ sym (nat_list_eq_equiv.congr p k q (sym (is_eq-slice_cmp p k) ∙ y)) ∙ n
-
-others : (test : Vec ℕ → Bool) (old new : List (Vec ℕ × ℕ)) → KeepsOthers (eq_by_cmp key_cmp) test old new → (other : Vec ℕ → Bool) → IsKeyTest (eq_by_cmp key_cmp) other → AreApart test other → lookup other new ≡ lookup other old
-unfolding KeepsOthers
-others test old new h = h
-
--- what is found under any name once one was changed
-pub endings_updated : (p : List ℕ) (m n : BTreeMap (Vec ℕ) ℕ) (w : Option ℕ) → UpdatesBy key_cmp (λ k. slice_cmp nat_cmp p k.items) m n w → (q : List ℕ) → ending_of n q ≡ (if bytes_eq p q then w else ending_of m q)
-unfolding keyed
-endings_updated p m n w h q = case (bytes_eq p q) refl
-  where
-    case : (b : Bool) → bytes_eq p q ≡ b → ending_of n q ≡ (if b then w else ending_of m q)
-    case true e = subst (λ l. ending_of n l ≡ w) ((bytes_eq-Decides p q).0 e) h.1
-    case false e = others (keyed p) m.entries n.entries h.3 (keyed q) (λ x y. (eq_by_cmp_equiv nat_list_cmp_total).congr q x.items y.items) (λ k. apart p q k.items e)
-
--- ---- names that were given
-
 pub same_name : (a b : List ℕ) → bytes_eq a b ≡ true → a ≡ b
 same_name a b e = (bytes_eq-Decides a b).0 e
 

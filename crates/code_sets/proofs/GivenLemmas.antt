@@ -15,6 +15,7 @@ use Rattle.std.proofs.lemmas.List.{map-append}
 use Rattle.std.proofs.Math.Seq.{take-suc}
 use Rattle.std.proofs.lemmas.Map.Text.{is_eq-slice_cmp}
 use Rattle.std.proofs.lemmas.Slice.Eq.{bytes_eq-Decides}
+use Rattle.lexical_core.proofs.ByteKeys.{key_cmp, found, found_updated}
 use Rattle.indexmap.specs.IndexSet.{IndexSet, insert_key}
 use Rattle.code_sets.specs.declared.record.CodeRecord.{CodeRecord}
 use Rattle.code_sets.specs.Codes.{codes_for, once}
@@ -43,36 +44,6 @@ key_added keys k =
     case : (b : Bool) → texts_of (if b then keys else keys ++ k ∷ []) ≡ (if b then texts_of keys else texts_of keys ++ k.items ∷ [])
     case true = refl
     case false = map-append (λ (k : Vec ℕ). k.items) keys (k ∷ [])
-
--- ---- the map by bytes
-
--- a key by its bytes
-abbrev keyed : List ℕ → Vec ℕ → Bool
-keyed q = is_at (λ k. slice_cmp nat_cmp q k.items)
-
--- how keys stand
-abbrev key_cmp : Vec ℕ → Vec ℕ → Ordering
-key_cmp x y = slice_cmp nat_cmp x.items y.items
-
-apart : (p q k : List ℕ) → bytes_eq p q ≡ false → is_eq (slice_cmp nat_cmp p k) ≡ true → is_eq (slice_cmp nat_cmp q k) ≡ false
-apart p q k n y =
-    is_eq-slice_cmp q k ∙ nat_list_eq_equiv.symm q k ∙ sym (nat_list_eq_equiv.congr p k q (sym (is_eq-slice_cmp p k) ∙ y)) ∙ n
-
-others : {X : Type 0} (test : Vec ℕ → Bool) (old new : List (Vec ℕ × X)) → KeepsOthers (eq_by_cmp key_cmp) test old new → (other : Vec ℕ → Bool) → IsKeyTest (eq_by_cmp key_cmp) other → AreApart test other → lookup other new ≡ lookup other old
-unfolding KeepsOthers
-others test old new h = h
-
--- what is found under the bytes
-abbrev found : {X : Type 0} → BTreeMap (Vec ℕ) X → List ℕ → Option X
-found m q = get_by (λ k. slice_cmp nat_cmp q k.items) m
-
--- what is found under any bytes once what stands under some was changed
-found_updated : {X : Type 0} (p : List ℕ) (m n : BTreeMap (Vec ℕ) X) (w : Option X) → UpdatesBy key_cmp (λ k. slice_cmp nat_cmp p k.items) m n w → (q : List ℕ) → found n q ≡ (if bytes_eq p q then w else found m q)
-found_updated p m n w h q = case (bytes_eq p q) refl
-  where
-    case : (b : Bool) → bytes_eq p q ≡ b → found n q ≡ (if b then w else found m q)
-    case true e = subst (λ l. found n l ≡ w) ((bytes_eq-Decides p q).0 e) h.1
-    case false e = others (keyed p) m.entries n.entries h.3 (keyed q) (λ x y. (eq_by_cmp_equiv nat_list_cmp_total).congr q x.items y.items) (λ k. apart p q k.items e)
 
 module _ {S : Type 0} where
   -- the texts of a set that may be none

@@ -1,6 +1,7 @@
 -- The amount that two values are, and the value of a body.
 use Rattle.std.proofs.Common.{◌≡◌, ℕ, Bool, true, false, List, [], ◌∷◌, refl, sym, ap, ◌∙◌, subst, arith}
 use Rattle.std.specs.Prelude.{codes}
+use Rattle.std.proofs.lemmas.Bool.{cond-true, cond-false}
 use Rattle.data_types.specs.Leaf.{Leaf}
 use Rattle.data_types.specs.Leaf as leaf
 use Rattle.data_types.specs.Value.{Value, Children}
@@ -25,7 +26,6 @@ use Rattle.der_model.specs.Sound.{IsSound}
 use Rattle.der_model.proofs.SoundMessages.{IsAmount, amounts_of}
 use Rattle.der_model.proofs.ContentsLaws.{contents_are_written}
 use Rattle.der_model.proofs.WholeValues.{under_same}
-use Rattle.der_model.proofs.Spelled.{if_true, if_false}
 use Rattle.der_model.proofs.BegunSlots.{no_begin}
 use Rattle.der_model.proofs.FieldsDecoded.{FromBody, FromFields}
 
@@ -37,8 +37,8 @@ must_come {P} i c cs b t k d must e = go (is_under c b t) refl
     same e = (cc, cc)
 
     go : (u : Bool) → is_under c b t ≡ u → (i ≡ k) × (c ≡ d) × (c.constructed ≡ b) × (c.tag ≡ t)
-    go true h = (let q = same (sym (if_true (is_under c b t) _ _ h) ∙ e) in let u = under_same c b t h in (q.0, q.1, u.0, u.1))
-    go false h = absurd (no_begin _ _ k d (sym (if_true c.required _ _ must) ∙ (sym (if_false (is_under c b t) _ _ h) ∙ e)))
+    go true h = (let q = same (sym (cond-true (is_under c b t) _ _ h) ∙ e) in let u = under_same c b t h in (q.0, q.1, u.0, u.1))
+    go false h = absurd (no_begin _ _ k d (sym (cond-true c.required _ _ must) ∙ (sym (cond-false (is_under c b t) _ _ h) ∙ e)))
 
 number_of_contents : (s : Simple) (o : List ℕ) (l : Leaf) → s.kind ≡ kind.Decimal → IsContents s.kind s.codes o l → Fits s l → (n : _) × (l ≡ leaf.Number n)
 number_of_contents s o l e is fits = go l (subst (λ (k : Kind). IsContents k s.codes o l) e is)

@@ -1,6 +1,8 @@
 -- Which slot the component is that identifier octets begin.
 use Rattle.std.proofs.Common.{◌≡◌, ℕ, zero, suc, ◌+◌, ◌≤◌, ◌<◌, Bool, true, false, List, [], ◌∷◌, length, drop, Some, refl, sym, ap, ◌∙◌, subst, arith}
 use Rattle.std.specs.Prelude.{slice_get}
+use Rattle.std.proofs.lemmas.Bool.{cond-true, cond-false}
+use Rattle.std.proofs.lemmas.Option.{slice_get_within}
 use Rattle.facets.specs.declared.simple.Simple.{Simple}
 use Rattle.der_octets.specs.Octets.{Tag, context}
 use Rattle.reference_check.specs.Forms.{Graph, Slot}
@@ -9,8 +11,7 @@ use Rattle.der_model.specs.Structures.{Label, Component, component, components, 
 use Rattle.der_model.specs.States.{Answer, Begins, Breaks, is_under, field_answer, any_answer, skipping, next_number}
 use Rattle.lexical_core.specs.declared.rule.Rule.TheVariants as rule
 use Rattle.der_model.proofs.WholeValues.{under_same}
-use Rattle.der_model.proofs.Spelled.{if_true, if_false}
-use Rattle.der_model.proofs.ChildLists.{get_below, free_slot}
+use Rattle.der_model.proofs.ChildLists.{free_slot}
 
 -- identifier octets that begin a component of slots in order
 pub record Next {P : Type 0} (g : Graph P Simple) (p : P) (i : ℕ) (fs : List (Slot P)) (b : Bool) (t : Tag) (k : ℕ) (c : Component P) : Type 0 where
@@ -35,7 +36,7 @@ next_slot {P} g p i (s ∷ fs) b t k c e = go (is_under (component g p i s) b t)
     later = field_answer (suc i) (components g p (suc i) fs) b t
 
     go : (u : Bool) → is_under (component g p i s) b t ≡ u → (r : Bool) → (component g p i s).required ≡ r → (field_answer (suc i) (components g p (suc i) fs) b t ≡ Begins k c → Next g p (suc i) fs b t k c) → Next g p i (s ∷ fs) b t k c
-    go true h r q again = here (sym (if_true (is_under (component g p i s) b t) _ _ h) ∙ e)
+    go true h r q again = here (sym (cond-true (is_under (component g p i s) b t) _ _ h) ∙ e)
       where
         here : Begins i (component g p i s) ≡ Begins k c → Next g p i (s ∷ fs) b t k c
         here d =
@@ -50,9 +51,9 @@ next_slot {P} g p i (s ∷ fs) b t k c e = go (is_under (component g p i s) b t)
               own = subst (λ z. is_under z b t ≡ true) comp h;
               free = λ a u l f. absurd (omega arith);
             }
-    go false h true q again = absurd (no_begin _ _ k c (sym (if_true (component g p i s).required _ _ q) ∙ (sym (if_false (is_under (component g p i s) b t) _ _ h) ∙ e)))
+    go false h true q again = absurd (no_begin _ _ k c (sym (cond-true (component g p i s).required _ _ q) ∙ (sym (cond-false (is_under (component g p i s) b t) _ _ h) ∙ e)))
     go false h false q again =
-        let r = again (sym (if_false (component g p i s).required _ _ q) ∙ (sym (if_false (is_under (component g p i s) b t) _ _ h) ∙ e)) in
+        let r = again (sym (cond-false (component g p i s).required _ _ q) ∙ (sym (cond-false (is_under (component g p i s) b t) _ _ h) ∙ e)) in
         let counted = r.number in
         record {
           off = suc r.off;
@@ -78,7 +79,7 @@ any_slot {P} g p i (s ∷ fs) b t k c e = go (is_under (component g p i s) b t) 
   where
     go : (u : Bool) → is_under (component g p i s) b t ≡ u → (any_answer (suc i) (components g p (suc i) fs) b t ≡ Begins k c → (off : ℕ) × (s : Slot P) × (k ≡ suc i + off) × (slice_get fs off ≡ Some s) × (c ≡ component g p k s) × (is_under c b t ≡ true))
         → (off : ℕ) × (u : Slot P) × (k ≡ i + off) × (slice_get (s ∷ fs) off ≡ Some u) × (c ≡ component g p k u) × (is_under c b t ≡ true)
-    go true h again = here (sym (if_true (is_under (component g p i s) b t) _ _ h) ∙ e)
+    go true h again = here (sym (cond-true (is_under (component g p i s) b t) _ _ h) ∙ e)
       where
         here : Begins i (component g p i s) ≡ Begins k c → (off : ℕ) × (u : Slot P) × (k ≡ i + off) × (slice_get (s ∷ fs) off ≡ Some u) × (c ≡ component g p k u) × (is_under c b t ≡ true)
         here d =
@@ -86,7 +87,7 @@ any_slot {P} g p i (s ∷ fs) b t k c e = go (is_under (component g p i s) b t) 
             let comp : component g p i s ≡ c = cc in
             (0, s, omega arith, refl, sym comp ∙ ap (λ z. component g p z s) same, subst (λ z. is_under z b t ≡ true) comp h)
     go false h again =
-        let r = again (sym (if_false (is_under (component g p i s) b t) _ _ h) ∙ e) in
+        let r = again (sym (cond-false (is_under (component g p i s) b t) _ _ h) ∙ e) in
         (suc r.0, r.1, omega (arith, r.2), r.3, r.4, r.5)
 
 pub drop_get : {A : Type 0} (fs : List A) (k : ℕ) (s : A) → slice_get fs k ≡ Some s → drop k fs ≡ s ∷ drop (suc k) fs
@@ -142,7 +143,7 @@ begun_slot {P} m p fs n came b t k c next e =
     let r = next_slot g p n (drop n fs) b t k c (ap (λ z. field_answer n z b t) (sym cs) ∙ e2) in
     let same = under_same c b t r.own in
     let there = get_drop n r.off fs r.slot r.there in
-    let room = get_below (drop n fs) r.off r.slot r.there in
+    let room = slice_get_within (drop n fs) r.off r.slot r.there in
     record {
       slot = r.slot;
       off = r.off;

@@ -2,6 +2,7 @@
 use Rattle.std.proofs.Common.{◌≡◌, ◌≢◌, ℕ, zero, suc, ◌+◌, ◌≤◌, ◌<◌, Bool, true, false, List, [], ◌∷◌, ◌++◌, length, replicate, drop, Option, Some, None, refl, sym, ap, ◌∙◌, subst, arith, ◌⊎◌, inl, inr}
 use Rattle.std.specs.Prelude.{◌==◌, if◌then◌else◌, slice_get, nat_lt}
 use Rattle.std.proofs.lemmas.Bool.Decides.{nat_tests}
+use Rattle.std.proofs.lemmas.Bool.{cond-true, cond-false}
 use Rattle.data_types.specs.Value.{Value, Children}
 use Rattle.data_types.specs.Value as value
 use Rattle.facets.specs.declared.simple.Simple.{Simple}
@@ -13,7 +14,7 @@ use Rattle.message_model.specs.Admits.{AdmitsChildren}
 use Rattle.der_model.specs.DerMessage.{DerMessage}
 use Rattle.der_model.specs.Structures.{component, is_single}
 use Rattle.der_model.specs.Der.{placed, slot_values, all_slots, body, values_at}
-use Rattle.der_model.proofs.Spelled.{if_true, if_false, no_child}
+use Rattle.der_model.proofs.Spelled.{no_child}
 
 -- children before others
 abbrev pub then_children : Children → Children → Children
@@ -45,14 +46,14 @@ values_other m i k zero s (value.Child j v rest) b is other = absurd cc
 values_other m i k (suc n) s (value.Child j v rest) b is other =
     let head : j ≡ k = cc in
     let tails : numbers_of rest ≡ replicate n k = cc in
-    if_false (j == i) _ _ (apart j i (λ e. other (sym e ∙ head))) ∙ values_other m i k n s rest b tails other
+    cond-false (j == i) _ _ (apart j i (λ e. other (sym e ∙ head))) ∙ values_other m i k n s rest b tails other
   where
     apart : (j i : ℕ) → j ≢ i → (j == i) ≡ false
     apart j i h = grind (arith, nat_tests)
 
 pub values_none : {P : Type 0} (m : DerMessage P) (low top k : ℕ) (s : Slot P) (b : Children) → IsOrderedFrom low top (numbers_of b) → k < low → values_at m k s b ≡ Nothing
 values_none m low top k s value.Nothing o l = refl
-values_none m low top k s (value.Child j v rest) (a, c, o) l = if_false (j == k) _ _ (apart j k (omega arith)) ∙ values_none m j top k s rest o (omega arith)
+values_none m low top k s (value.Child j v rest) (a, c, o) l = cond-false (j == k) _ _ (apart j k (omega arith)) ∙ values_none m j top k s rest o (omega arith)
   where
     apart : (j k : ℕ) → k < j → (j == k) ≡ false
     apart j k h = grind (arith, nat_tests)
@@ -85,7 +86,7 @@ slots_skip i (suc off) (s ∷ fs) at none l =
     let here : i + 0 ≡ i = omega arith in
     let empty : at i s ≡ Nothing = subst (λ z. at z s ≡ Nothing) here first.1 in
     let sum : suc i + off ≡ i + suc off = omega arith in
-    if_true (is_single s) _ _ first.0
+    cond-true (is_single s) _ _ first.0
     ∙ (ap (λ z. then_values z (all_slots (suc i) fs at)) empty
     ∙ (slots_skip (suc i) off fs at (λ a u b f. let r = none (suc a) u (omega arith) f in (r.0, subst (λ z. at z u ≡ Nothing) (let e : i + suc a ≡ suc i + a = omega arith in e) r.1)) (omega arith)
     ∙ ap (λ z. all_slots z (drop off fs) at) sum))
@@ -94,11 +95,6 @@ pub slots_congr : {P : Type 0} (i : ℕ) (fs : List (Slot P)) (V W : ℕ → Slo
 slots_congr i [] V W same = refl
 slots_congr i (s ∷ fs) V W same =
     ap (λ z. slot_values i s z (all_slots (suc i) fs V)) (same i s (omega arith)) ∙ ap (λ z. slot_values i s (W i s) z) (slots_congr (suc i) fs V W (λ j t l. same j t (omega arith)))
-
-pub get_below : {A : Type 0} (fs : List A) (k : ℕ) (s : A) → slice_get fs k ≡ Some s → k < length fs
-get_below [] k s e = absurd cc
-get_below (f ∷ fs) zero s e = omega arith
-get_below (f ∷ fs) (suc k) s e = (let r = get_below fs k s e in omega arith)
 
 pub times_other : (i k n : ℕ) → i ≢ k → times i (replicate n k) ≡ 0
 times_other i k zero h = refl
@@ -115,8 +111,8 @@ pub free_slot : {P : Type 0} (g : Graph P Simple) (p : P) (k : ℕ) (s : Slot P)
 free_slot g p k s e = go (is_single s) refl
   where
     go : (z : Bool) → is_single s ≡ z → (is_single s ≡ true) × (s.min ≡ 0)
-    go true h = (h, no_min s.min (sym (if_true (is_single s) _ _ h) ∙ e))
-    go false h = absurd (let q : true ≡ false = sym (if_false (is_single s) (nat_lt 0 s.min) true h) ∙ e in cc)
+    go true h = (h, no_min s.min (sym (cond-true (is_single s) _ _ h) ∙ e))
+    go false h = absurd (let q : true ≡ false = sym (cond-false (is_single s) (nat_lt 0 s.min) true h) ∙ e in cc)
 
 pub zero_upto : (o : Option ℕ) → UpTo 0 o
 zero_upto None = tt

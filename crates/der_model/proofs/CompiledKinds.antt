@@ -16,6 +16,7 @@ use Rattle.reference_check.specs.Forms as form
 use Rattle.reference_check.specs.Graph.{Place, document, message, entry, nowhere, find_message, simple_form, object_form, entry_form, message_form}
 use Rattle.reference_check.specs.Reach.{Reaches, itself}
 use Rattle.reference_check.specs.Rules.{NoMessage, LeftOutKind}
+use Rattle.reference_check.proofs.RenamedForms.{form_slot_to}
 use Rattle.message_model.specs.Ready.{IsReady, OnObjects}
 use Rattle.message_model.specs.Compiled.{types, place_of}
 use Rattle.message_model.specs.SimpleTypes.{facets_of}
@@ -34,15 +35,6 @@ kind_back h (form.Money code number) has = tt
 kind_back h form.Envelope has = tt
 kind_back h form.LeftOut has = has
 kind_back h form.Missing has = has
-
-slots_to : {P : Type 0} (h : ℕ → P) (f : Form ℕ Simple) → form_slots (form_to h (λ x. x) f) ≡ map (slot_to h) (form_slots f)
-slots_to h (form.Sequence slots) = refl
-slots_to h (form.Choice slots) = refl
-slots_to h (form.Simple simple) = refl
-slots_to h (form.Money code number) = refl
-slots_to h form.Envelope = refl
-slots_to h form.LeftOut = refl
-slots_to h form.Missing = refl
 
 module _ (R : Contents) (m : List ℕ) (ready : IsReady R m) where
   simple_kind : (o : Object) (k : Kinds) (c : Option (List ℕ)) → HasKind (form_to (λ q. q) (facets_of R) (simple_form R o k c))
@@ -80,9 +72,7 @@ module _ (R : Contents) (m : List ℕ) (ready : IsReady R m) where
 pub compiled_have_kinds : CompiledHaveKinds
 compiled_have_kinds R m ids T ready list made n k s at =
     let h = place_of ids in
-    let slot : slice_get (form_slots (form_to h (λ x. x) (types_of T n))) k ≡ Some (slot_to h s) =
-    ap (λ (xs : List (Slot Place)). slice_get xs k) (slots_to h (types_of T n)) ∙ (slice_get-map (slot_to h) (form_slots (types_of T n)) k ∙ ap (option_map (slot_to h)) at)
-    in
+    let slot = form_slot_to h (λ x. x) (types_of T n) k s at in
     let there = subst (λ (f : Form Place Simple). slice_get (form_slots f) k ≡ Some (slot_to h s)) (made.forms n) slot in
     let target = types_lead R m ready (h n) (type_place R m ready ids list n) k (slot_to h s) there in
     kind_back h (types_of T s.target) (subst (λ (f : Form Place Simple). HasKind f) (sym (made.forms s.target)) (target_kind R m ready (h s.target) target))

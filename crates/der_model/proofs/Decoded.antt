@@ -2,6 +2,7 @@
 use Rattle.std.proofs.Common.{◌≡◌, ℕ, zero, suc, ◌+◌, ◌≤◌, ◌<◌, Bool, true, false, List, [], ◌∷◌, length, replicate, Option, Some, None, refl, sym, ap, ◌∙◌, subst, arith}
 use Rattle.std.specs.Prelude.{◌==◌, slice_get, nat_lt}
 use Rattle.std.proofs.lemmas.Bool.Decides.{nat_tests}
+use Rattle.std.proofs.lemmas.Bool.{cond-true, cond-false}
 use Rattle.data_types.specs.Value.{Value, Children}
 use Rattle.data_types.specs.Value as value
 use Rattle.facets.specs.declared.simple.Simple.{Simple}
@@ -22,7 +23,7 @@ use Rattle.message_model.specs.Sound.{IsNoOption}
 use Rattle.der_model.specs.Sound.{IsSound}
 use Rattle.der_model.proofs.SoundMessages.{HasBounds, no_options, bounds_of}
 use Rattle.der_model.proofs.WholeValues.{under_same}
-use Rattle.der_model.proofs.Spelled.{if_true, if_false, then_under, single_component, list_component, chosen_is}
+use Rattle.der_model.proofs.Spelled.{then_under, single_component, list_component, chosen_is}
 use Rattle.der_model.proofs.ChildLists.{zero_upto}
 use Rattle.der_model.proofs.BegunSlots.{any_slot, begun_slot}
 use Rattle.der_model.proofs.FieldsDecoded.{FromBody, FromSlot, FromFields, body_of_octets, fields_step, form_false, one_value, one_within, fields_end}
@@ -65,7 +66,7 @@ item_added m fs k s before b rest there list from items = record {
     children = value.Child k from.value items.slot.children;
     alike = ap (λ z. k ∷ z) items.slot.alike;
     admits = ((s, there, from.admits), items.slot.admits);
-    written = if_true (k == k) _ _ (own k) ∙ (if_false (is_single s) _ _ list ∙ (ap (λ z. item (m.forms s.target) z (values_at m k s items.slot.children)) from.written ∙ ap (λ z. item (m.forms s.target) b z) items.slot.written));
+    written = cond-true (k == k) _ _ (own k) ∙ (cond-false (is_single s) _ _ list ∙ (ap (λ z. item (m.forms s.target) z (values_at m k s items.slot.children)) from.written ∙ ap (λ z. item (m.forms s.target) b z) items.slot.written));
   };
   within = subst (λ z. IsWithin z s) (let q : suc before + items.count ≡ before + suc items.count = omega arith in q) items.within;
 }
@@ -94,10 +95,10 @@ choice_body {P} m fs k count s vs there some within slot = record {
 
 -- the values under the tag of a slot
 slot_body : {P : Type 0} (k : ℕ) (s : Slot P) (b : Body) (rest : Values) → is_single s ≡ true → slot_values k s (under (context k) b Nothing) rest ≡ under (context k) b rest
-slot_body k s b rest e = if_true (is_single s) _ _ e ∙ then_under (context k) b rest
+slot_body k s b rest e = cond-true (is_single s) _ _ e ∙ then_under (context k) b rest
 
 list_body : {P : Type 0} (k : ℕ) (s : Slot P) (inner rest : Values) → is_single s ≡ false → slot_values k s inner rest ≡ Constructed (context k) inner rest
-list_body k s inner rest e = if_false (is_single s) _ _ e
+list_body k s inner rest e = cond-false (is_single s) _ _ e
 
 -- what a component of a slot holds: a value, or a list
 primitive_slot : {P : Type 0} (m : DerMessage P) (p : P) (fs : List (Slot P)) (k : ℕ) (s : Slot P) (c : Component P) (o : List ℕ) → slice_get fs k ≡ Some s → c ≡ component m.forms p k s → (component m.forms p k s).constructed ≡ false → IsHeldIn m (structure m c.spot) o
@@ -140,8 +141,8 @@ plain_item {P} m target f b t k c e = go (is_under d b t) refl
     spots e = cc
 
     go : (u : Bool) → is_under d b t ≡ u → (is_constructed f ≡ b) × (universal_tag f ≡ t) × (c.spot ≡ structures.Value target)
-    go true h = (let u = under_same d b t h in (u.0, u.1, sym (ap (λ (z : Component P). z.spot) (spots (sym (if_true (is_under d b t) _ _ h) ∙ e)))))
-    go false h = absurd (let q = sym (if_false (is_under d b t) _ _ h) ∙ e in cc)
+    go true h = (let u = under_same d b t h in (u.0, u.1, sym (ap (λ (z : Component P). z.spot) (spots (sym (cond-true (is_under d b t) _ _ h) ∙ e)))))
+    go false h = absurd (let q = sym (cond-false (is_under d b t) _ _ h) ∙ e in cc)
 
 -- an alternative of a choice
 alternative_of : {P : Type 0} (m : DerMessage P) (p : P) (fs : List (Slot P)) (b : Bool) (t : Tag) (k : ℕ) (c : Component P) → any_answer 0 (components m.forms p 0 fs) b t ≡ Begins k c

@@ -2,6 +2,7 @@
 use Rattle.std.proofs.Common.{◌≡◌, ◌≢◌, ℕ, zero, suc, ◌+◌, ◌≤◌, ◌<◌, Bool, true, false, List, [], ◌∷◌, drop, Some, refl, sym, ap, ◌∙◌, arith}
 use Rattle.std.specs.Prelude.{◌==◌, ◌&&◌, if◌then◌else◌, slice_get}
 use Rattle.std.proofs.lemmas.Bool.Decides.{nat_tests}
+use Rattle.std.proofs.lemmas.Bool.{and_right, and_from, cond-true, cond-false}
 use Rattle.facets.specs.declared.simple.Simple.{Simple}
 use Rattle.der_octets.specs.Octets.{Tag, context, class_bits, form_bit}
 use Rattle.reference_check.specs.Forms.{Graph, Slot}
@@ -14,26 +15,13 @@ own_number n = grind (arith, nat_tests)
 other_number : (i j : ℕ) → i ≢ j → (i == j) ≡ false
 other_number i j h = grind (arith, nat_tests)
 
-and_false : (b c : Bool) → c ≡ false → (b && c) ≡ false
-and_false true c e = e
-and_false false c e = refl
-
-both_true : (b c : Bool) → b ≡ true → c ≡ true → (b && c) ≡ true
-both_true b c p q = rw (p, q) refl
-
 -- a component has its own identifier octets
 pub under_own : {P : Type 0} (c : Component P) → is_under c c.constructed c.tag ≡ true
-under_own c = both_true _ _ (own_number (class_bits c.tag.class + form_bit c.constructed)) (own_number c.tag.number)
+under_own c = and_from _ _ (own_number (class_bits c.tag.class + form_bit c.constructed)) (own_number c.tag.number)
 
 -- and not those of another number
 pub under_other : {P : Type 0} (c : Component P) (i j : ℕ) (b : Bool) → c.tag ≡ context i → i < j → is_under c b (context j) ≡ false
-under_other c i j b e l = and_false _ _ (ap (λ (t : Tag). t.number == j) e ∙ other_number i j (λ q. absurd (omega arith)))
-
-if_true : {A : Type 0} (b : Bool) (x y : A) → b ≡ true → (if b then x else y) ≡ x
-if_true b x y e = rw e refl
-
-if_false : {A : Type 0} (b : Bool) (x y : A) → b ≡ false → (if b then x else y) ≡ y
-if_false b x y e = rw e refl
+under_other c i j b e l = and_right _ _ (ap (λ (t : Tag). t.number == j) e ∙ other_number i j (λ q. absurd (omega arith)))
 
 pub drop_more : {A : Type 0} (k : ℕ) (xs cs : List A) (c : A) → drop k xs ≡ c ∷ cs → drop (suc k) xs ≡ cs
 drop_more zero [] cs c e = absurd cc
@@ -56,9 +44,9 @@ skips_more cs more n k c skips is tag free = record {
       let later = field_answer (suc k) more b (context j) in
       skips.answer b j (omega arith)
       ∙ (ap (λ z. field_answer k z b (context j)) is
-      ∙ (if_false (is_under c b (context j)) (Begins k c) (if c.required then skipping c.label later else later) (under_other c k j b tag (omega arith))
-      ∙ (if_false c.required (skipping c.label later) later free ∙ ap (λ z. field_answer (suc k) z b (context j)) (sym (drop_more k cs more c is)))));
-  end = skips.end ∙ (ap field_end is ∙ (if_false c.required _ (field_end more) free ∙ ap field_end (sym (drop_more k cs more c is))));
+      ∙ (cond-false (is_under c b (context j)) (Begins k c) (if c.required then skipping c.label later else later) (under_other c k j b tag (omega arith))
+      ∙ (cond-false c.required (skipping c.label later) later free ∙ ap (λ z. field_answer (suc k) z b (context j)) (sym (drop_more k cs more c is)))));
+  end = skips.end ∙ (ap field_end is ∙ (cond-false c.required _ (field_end more) free ∙ ap field_end (sym (drop_more k cs more c is))));
 }
 
 -- the component that is next
@@ -66,7 +54,7 @@ pub begins_here : {P : Type 0} (cs more : List (Component P)) (n k : ℕ) (c : C
 begins_here cs more n k c skips is tag =
     skips.answer c.constructed k (omega arith)
     ∙ (ap (λ z. field_answer k z c.constructed (context k)) is
-    ∙ if_true (is_under c c.constructed (context k)) (Begins k c) _ (ap (is_under c c.constructed) (sym tag) ∙ under_own c))
+    ∙ cond-true (is_under c c.constructed (context k)) (Begins k c) _ (ap (is_under c c.constructed) (sym tag) ∙ under_own c))
 
 -- a slot's component is found among all
 pub any_found : {P : Type 0} (g : Graph P Simple) (p : P) (i j : ℕ) (fs : List (Slot P)) (s : Slot P) → slice_get fs j ≡ Some s → any_answer i (components g p i fs) (component g p (i + j) s).constructed (context (i + j)) ≡ Begins (i + j) (component g p (i + j) s)
@@ -74,9 +62,9 @@ any_found g p i j [] s e = absurd cc
 any_found g p i zero (f ∷ fs) s e =
     let same : f ≡ s = cc in
     let here : i + 0 ≡ i = omega arith in
-    rw (here, ← same) (if_true (is_under (component g p i f) (component g p i f).constructed (context i)) (Begins i (component g p i f)) _ (under_own (component g p i f)))
+    rw (here, ← same) (cond-true (is_under (component g p i f) (component g p i f).constructed (context i)) (Begins i (component g p i f)) _ (under_own (component g p i f)))
 any_found g p i (suc j) (f ∷ fs) s e =
     let there : i + suc j ≡ suc i + j = omega arith in
     let rest = any_found g p (suc i) j fs s e in
-    if_false (is_under (component g p i f) (component g p (i + suc j) s).constructed (context (i + suc j))) _ _ (under_other (component g p i f) i (i + suc j) (component g p (i + suc j) s).constructed refl (omega arith))
+    cond-false (is_under (component g p i f) (component g p (i + suc j) s).constructed (context (i + suc j))) _ _ (under_other (component g p i f) i (i + suc j) (component g p (i + suc j) s).constructed refl (omega arith))
     ∙ rw there rest

@@ -2,6 +2,8 @@
 use Rattle.std.proofs.Common.{◌≡◌, ℕ, zero, suc, ◌+◌, ◌≤◌, ◌<◌, Bool, true, false, List, [], ◌∷◌, length, replicate, drop, Option, Some, None, refl, sym, ap, ◌∙◌, subst, arith, ◌⊎◌, inl, inr}
 use Rattle.std.specs.Prelude.{◌==◌, slice_get}
 use Rattle.std.proofs.lemmas.Bool.Decides.{nat_tests}
+use Rattle.std.proofs.lemmas.Bool.{cond-true, cond-false}
+use Rattle.std.proofs.lemmas.Option.{slice_get_within}
 use Rattle.data_types.specs.Value.{Value, Children}
 use Rattle.data_types.specs.Value as value
 use Rattle.facets.specs.declared.simple.Simple.{Simple}
@@ -17,8 +19,8 @@ use Rattle.der_model.specs.Der.{Body, Octets, under, slot_values, all_slots, bod
 use Rattle.der_model.specs.States.{Fine, field_end, next_number}
 use Rattle.der_model.specs.Faults.{IsHeldIn}
 use Rattle.der_model.proofs.ContentsLaws.{contents_are_written}
-use Rattle.der_model.proofs.Spelled.{if_true, if_false, times_all}
-use Rattle.der_model.proofs.ChildLists.{then_children, slots_then, admits_then, times_then, values_own, values_other, values_none, times_none, ordered_then, slots_skip, slots_congr, get_below, times_other, free_slot, zero_upto, compared}
+use Rattle.der_model.proofs.Spelled.{times_all}
+use Rattle.der_model.proofs.ChildLists.{then_children, slots_then, admits_then, times_then, values_own, values_other, values_none, times_none, ordered_then, slots_skip, slots_congr, times_other, free_slot, zero_upto, compared}
 use Rattle.der_model.proofs.BegunSlots.{drop_get, drop_drop, get_drop, drop_components, apart_by, put_drop}
 
 -- what a form's body decodes to
@@ -71,7 +73,7 @@ fields_step {P} m p fs n k off s count vs rest number there room free slot withi
     b = fields.children
 
     below : k < length fs
-    below = get_below fs k s there
+    below = slice_get_within fs k s there
 
     counts : (i : ℕ) → times i (numbers_of (then_children a b)) ≡ times i (numbers_of a) + times i (numbers_of b)
     counts i = ap (times i) (slots_then a b) ∙ times_then i (numbers_of a) (numbers_of b)
@@ -116,8 +118,8 @@ pub form_false : {P : Type 0} (m : DerMessage P) (p : P) (k : ℕ) (s : Slot P) 
 form_false m p k s e = go (is_single s) refl
   where
     go : (z : Bool) → is_single s ≡ z → (is_single s ≡ true) × (is_constructed (m.forms s.target) ≡ false)
-    go true h = (h, sym (if_true (is_single s) (is_constructed (m.forms s.target)) true h) ∙ e)
-    go false h = absurd (let q : true ≡ false = sym (if_false (is_single s) (is_constructed (m.forms s.target)) true h) ∙ e in cc)
+    go true h = (h, sym (cond-true (is_single s) (is_constructed (m.forms s.target)) true h) ∙ e)
+    go false h = absurd (let q : true ≡ false = sym (cond-false (is_single s) (is_constructed (m.forms s.target)) true h) ∙ e in cc)
 
 -- a value in a slot that comes at most once
 pub one_value : {P : Type 0} (m : DerMessage P) (fs : List (Slot P)) (k : ℕ) (s : Slot P) (b : Body) → slice_get fs k ≡ Some s → is_single s ≡ true → FromBody m (m.forms s.target) b → FromSlot m fs k s 1 (under (context k) b Nothing)
@@ -125,7 +127,7 @@ one_value m fs k s b there single from = record {
   children = value.Child k from.value value.Nothing;
   alike = refl;
   admits = ((s, there, from.admits), tt);
-  written = if_true (k == k) _ _ (own k) ∙ (if_true (is_single s) _ _ single ∙ ap (λ z. under (context k) z Nothing) from.written);
+  written = cond-true (k == k) _ _ (own k) ∙ (cond-true (is_single s) _ _ single ∙ ap (λ z. under (context k) z Nothing) from.written);
 }
   where
     own : (k : ℕ) → (k == k) ≡ true
@@ -148,13 +150,13 @@ end_slots g p i [] e a u f = absurd cc
 end_slots {P} g p i (s ∷ fs) e a u f = go (component g p i s).required refl a f (λ h a f. end_slots g p (suc i) fs h a u f)
   where
     go : (r : Bool) → (component g p i s).required ≡ r → (a : ℕ) → slice_get (s ∷ fs) a ≡ Some u → (field_end (components g p (suc i) fs) ≡ Fine → (a : ℕ) → slice_get fs a ≡ Some u → (is_single u ≡ true) × (u.min ≡ 0)) → (is_single u ≡ true) × (u.min ≡ 0)
-    go true r a f again = absurd (let q = sym (if_true (component g p i s).required _ (field_end (components g p (suc i) fs)) r) ∙ e in cc)
+    go true r a f again = absurd (let q = sym (cond-true (component g p i s).required _ (field_end (components g p (suc i) fs)) r) ∙ e in cc)
     go false r zero f again = (let same : s ≡ u = cc in subst (λ (z : Slot P). (is_single z ≡ true) × (z.min ≡ 0)) same (free_slot g p i s r))
-    go false r (suc a) f again = again (sym (if_false (component g p i s).required _ (field_end (components g p (suc i) fs)) r) ∙ e) a f
+    go false r (suc a) f again = again (sym (cond-false (component g p i s).required _ (field_end (components g p (suc i) fs)) r) ∙ e) a f
 
 empty_slots : {P : Type 0} (i : ℕ) (fs : List (Slot P)) → ((a : ℕ) (u : Slot P) → slice_get fs a ≡ Some u → is_single u ≡ true) → all_slots i fs (λ k s. Nothing) ≡ Nothing
 empty_slots i [] each = refl
-empty_slots i (s ∷ fs) each = if_true (is_single s) _ _ (each 0 s refl) ∙ empty_slots (suc i) fs (λ a u f. each (suc a) u f)
+empty_slots i (s ∷ fs) each = cond-true (is_single s) _ _ (each 0 s refl) ∙ empty_slots (suc i) fs (λ a u f. each (suc a) u f)
 
 pub fields_end : {P : Type 0} (m : DerMessage P) (p : P) (fs : List (Slot P)) (n : ℕ) (came : List ℕ) → next_number came ≡ n → field_end (drop (next_number came) (components m.forms p 0 fs)) ≡ Fine → FromFields m fs n Nothing
 fields_end {P} m p fs n came next e =

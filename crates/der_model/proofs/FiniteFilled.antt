@@ -14,65 +14,11 @@ use Rattle.der_model.specs.Structures as structures
 use Rattle.message_model.specs.Sound.{IsNoOption}
 use Rattle.der_model.specs.Sound.{IsSound}
 use Rattle.der_model.proofs.SoundMessages.{IsAmount, no_options, bounds_of, amounts_of}
+use Rattle.reference_check.proofs.FiniteForms.{finite_in}
 use Rattle.reference_check.specs.Shapes as shaped
 use Rattle.reference_check.specs.Shapes.{HasShape, HaveShapes, IsFinite, AreFinite, IsReached, MayBeFound, numbers_in}
 use Rattle.der_model.specs.OpenParts.{MayHold, AreInOrder, components_of, IsPrimitive, ValuesSoFar, HasValues, IsFilled, AreFilled, Occurs, outermost, within}
 use Rattle.der_model.proofs.PartsLaw.{component_values}
-
--- ---- what is closed under rounds has each type with a structure
-
-times_replicate : (k n : ℕ) → times k (replicate n k) ≡ n
-times_replicate k zero = refl
-times_replicate k (suc n) = same k (times_replicate k n)
-  where
-    same : (k : ℕ) → times k (replicate n k) ≡ n → cond (k == k) 1 0 + times k (replicate n k) ≡ suc n
-    same k h = grind (arith, nat_tests)
-
-found_child : {P : Type 0} (F : P → Type 0) (fs : List (Slot P)) (j k : ℕ) (d : List ℕ) (s : Slot P)
-    → (((t : Slot P) × (slice_get fs j ≡ Some t) × F t.target)) → (0 < times k d → F s.target) → slice_get fs k ≡ Some s → 0 < times k (j ∷ d) → F s.target
-found_child {P} F fs j k d s (t, e, holds) rest found some = go (eqb_tells j k)
-  where
-    go : ((eqb j k ≡ true) × (j ≡ k)) ⊎ ((eqb j k ≡ false) × (j ≢ k)) → F s.target
-    go (inl h) =
-        let here : slice_get fs k ≡ Some t = rw h.1 at e in
-        let same : t ≡ s = cc in
-        rw same at holds
-    go (inr h) = rest (let e : eqb j k ≡ false = h.0 in grind (arith, nat_tests))
-
-reached : {P : Type 0} (F : P → Type 0) (k : ℕ) (fs : List (Slot P)) (d : List ℕ) → ((i j : ℕ) (s : Slot P) → j ≡ k + i → slice_get fs i ≡ Some s → s.min ≤ times j d) → ((i j : ℕ) (s : Slot P) → j ≡ k + i → slice_get fs i ≡ Some s → 0 < times j d → F s.target) → AllByRecursion (IsReached F) fs
-reached F k [] d enough each = tt
-reached F k (s ∷ fs) d enough each =
-    (go s.min refl, reached F (suc k) fs d (λ i j f e g. enough (suc i) j f (omega arith) g) (λ i j f e g l. each (suc i) j f (omega arith) g l))
-  where
-    go : (m : ℕ) → s.min ≡ m → IsReached F s
-    go zero e = inl e
-    go (suc m) e = inr (each 0 k s (omega arith) refl (let h : s.min ≤ times k d = enough 0 k s (omega arith) refl in omega arith))
-
-of_choice : {P : Type 0} (F : P → Type 0) (n : ℕ) (s : Slot P) → IsWithin n s → (0 < n → F s.target) → IsReached F s
-of_choice F zero s w h = inl (omega arith)
-of_choice F (suc n) s w h = inr (h (omega arith))
-
-module _ {P L : Type 0} (g : Graph P L) (F : P → Type 0) (closed : (p : P) → MayBeFound F (g p) → F p) where
-  mutual
-    found_form : (f : Form P L) (s : shaped.Shape) → HasShape g f s → MayBeFound F f
-    found_form (form.Sequence fs) (shaped.Component ks) (word, each) =
-        reached F 0 fs (numbers_in ks) (λ i j s e h. (let same : i ≡ j = omega arith in let at : slice_get fs j ≡ Some s = rw same at h in (word.within j s at).0))
-        (λ i j s e h l. found_children fs ks each j s (let same : i ≡ j = omega arith in rw same at h) l)
-    found_form (form.Choice fs) (shaped.Component ks) ((k, n, s, e, bounds, d), each) =
-        (k, s, e, of_choice F n s bounds (λ l. found_children fs ks each k s e (omega (arith, ap (times k) d, times_replicate k n))))
-    found_form (form.Simple f) shaped.OpenLeaf h = tt
-    found_form (form.Money c f) shaped.OpenLeaf h = tt
-    found_form form.Envelope shaped.OpenLeaf h = tt
-    found_form form.LeftOut shaped.OpenLeaf h = tt
-    found_form f s h = absurd h
-
-    found_children : (fs : List (Slot P)) (ks : shaped.Shapes) → HaveShapes g fs ks → (k : ℕ) (s : Slot P) → slice_get fs k ≡ Some s → 0 < times k (numbers_in ks) → F s.target
-    found_children fs shaped.Nothing each k s e some = absurd (omega arith)
-    found_children fs (shaped.Child j v ks) ((t, e, h), each) k s found some =
-        found_child F fs j k (numbers_in ks) s (t, e, closed t.target (found_form (g t.target) v h)) (found_children fs ks each k s found) found some
-
-  pub finite_in : (p : P) → IsFinite g p → F p
-  finite_in p (s, h) = closed p (found_form (g p) s h)
 
 -- ---- the components of slots
 

@@ -3,6 +3,8 @@ use Rattle.std.proofs.Common.{◌≡◌, ℕ, zero, suc, ◌+◌, ◌-◌, ◌�
 use Rattle.std.specs.Prelude.{if◌then◌else◌, slice_get, nat_lt}
 use Rattle.std.specs.List.{AllByRecursion}
 use Rattle.std.proofs.lemmas.Bool.Decides.{nat_tests}
+use Rattle.std.proofs.lemmas.Bool.{cond-true, cond-false}
+use Rattle.reference_check.proofs.Words.{has_room_of, up_to_filled, up_to_less}
 use Rattle.der_octets.specs.Octets.{Tag}
 use Rattle.reference_check.specs.Words.{UpTo}
 use Rattle.der_model.specs.Structures.{Label, Component, Structure, Holds, Fields, OneOf, Items, Empty}
@@ -30,12 +32,6 @@ Remain _ came d = d ≡ []
 abbrev pub HasRoom : {P : Type 0} → Structure P → List ℕ → Type 0
 HasRoom (Items s cs) came = UpTo (length came) s.max
 HasRoom _ came = Unit {0}
-
-if_true : {A : Type 0} (b : Bool) (x y : A) → b ≡ true → (if b then x else y) ≡ x
-if_true b x y e = rw e refl
-
-if_false : {A : Type 0} (b : Bool) (x y : A) → b ≡ false → (if b then x else y) ≡ y
-if_false b x y e = rw e refl
 
 apart_drop : {P : Type 0} (n : ℕ) (cs : List (Component P)) → AreApart cs → AreApart (drop n cs)
 apart_drop zero cs h = h
@@ -83,12 +79,12 @@ field_begins n k zero (x ∷ cs) d c apart (inl (rest, e', o)) e found =
     let at : k ≡ n = cc in
     let same : x ≡ c = cc in
     let tail : d ≡ rest = cc in
-    rw (at, ← same, tail) (if_true (is_under x x.constructed x.tag) (Begins n x) _ (under_own x), o)
+    rw (at, ← same, tail) (cond-true (is_under x x.constructed x.tag) (Begins n x) _ (under_own x), o)
 field_begins n k (suc i) (x ∷ cs) d c apart (inl (rest, e', o)) e found = (let at : k ≡ n = cc in absurd (omega arith))
 field_begins n k zero (x ∷ cs) d c apart (inr (free, o)) e found = (let low : suc n ≤ k = order_low (suc n) k cs d o in absurd (omega arith))
 field_begins n k (suc i) (x ∷ cs) d c apart (inr (free, o)) e found =
     let r : (field_answer (suc n) cs c.constructed c.tag ≡ Begins k c) × AreInOrder (suc k) (drop (suc i) cs) d = field_begins (suc n) k i cs d c apart.1 o (omega arith) found in
-    (if_false (is_under x c.constructed c.tag) _ _ (apart.0 i c found) ∙ (if_false x.required _ _ free ∙ r.0), r.1)
+    (cond-false (is_under x c.constructed c.tag) _ _ (apart.0 i c found) ∙ (cond-false x.required _ _ free ∙ r.0), r.1)
 
 no_begin : {P : Type 0} (l : Label) (a : Answer P) (k : ℕ) (c : Component P) → skipping l a ≡ Begins k c → ⊥
 no_begin l (Begins j d) k c e = absurd cc
@@ -110,7 +106,7 @@ field_found {P} n k (x ∷ cs) b t c e = go (is_under x b t) refl x.required ref
   where
     go : (u : Bool) → is_under x b t ≡ u → (r : Bool) → x.required ≡ r
         → (field_answer (suc n) cs b t ≡ Begins k c → (f : Found (suc n) cs b t k c) × ((d : List ℕ) → AreInOrder (suc k) (drop (suc f.off) cs) d → AreInOrder (suc n) cs (k ∷ d))) → (f : Found n (x ∷ cs) b t k c) × ((d : List ℕ) → AreInOrder (suc k) (drop (suc f.off) (x ∷ cs)) d → AreInOrder n (x ∷ cs) (k ∷ d))
-    go true h r q again = here (sym (if_true (is_under x b t) _ _ h) ∙ e)
+    go true h r q again = here (sym (cond-true (is_under x b t) _ _ h) ∙ e)
       where
         here : ◌≡◌ {A = Answer P} (Begins n x) (Begins k c) → (f : Found n (x ∷ cs) b t k c) × ((d : List ℕ) → AreInOrder (suc k) (drop (suc f.off) (x ∷ cs)) d → AreInOrder n (x ∷ cs) (k ∷ d))
         here d =
@@ -120,8 +116,8 @@ field_found {P} n k (x ∷ cs) b t c e = go (is_under x b t) refl x.required ref
               record { off = 0; number = omega arith; there = ap Some same; form = subst (λ (z : Component P). z.constructed ≡ b) same u.0; tag = subst (λ (z : Component P). z.tag ≡ t) same u.1 },
               λ d o. inl (d, ap (λ z. z ∷ d) (sym at), subst (λ z. AreInOrder (suc z) cs d) (sym at) o),
             )
-    go false h true q again = absurd (no_begin _ _ k c (sym (if_true x.required _ _ q) ∙ (sym (if_false (is_under x b t) _ _ h) ∙ e)))
-    go false h false q again = more (again (sym (if_false x.required _ _ q) ∙ (sym (if_false (is_under x b t) _ _ h) ∙ e)))
+    go false h true q again = absurd (no_begin _ _ k c (sym (cond-true x.required _ _ q) ∙ (sym (cond-false (is_under x b t) _ _ h) ∙ e)))
+    go false h false q again = more (again (sym (cond-false x.required _ _ q) ∙ (sym (cond-false (is_under x b t) _ _ h) ∙ e)))
       where
         more : ((f : Found (suc n) cs b t k c) × ((d : List ℕ) → AreInOrder (suc k) (drop (suc f.off) cs) d → AreInOrder (suc n) cs (k ∷ d))) → (f : Found n (x ∷ cs) b t k c) × ((d : List ℕ) → AreInOrder (suc k) (drop (suc f.off) (x ∷ cs)) d → AreInOrder n (x ∷ cs) (k ∷ d))
         more (f, later) = (let at : k ≡ suc n + f.off = f.number in (record { off = suc f.off; number = omega arith; there = f.there; form = f.form; tag = f.tag }, λ d o. inr (q, later d o)))
@@ -129,15 +125,15 @@ field_found {P} n k (x ∷ cs) b t c e = go (is_under x b t) refl x.required ref
 order_ends : {P : Type 0} (n : ℕ) (cs : List (Component P)) → AreInOrder n cs [] → field_end cs ≡ Fine
 order_ends n [] h = refl
 order_ends n (c ∷ cs) (inl (rest, e, o)) = absurd cc
-order_ends n (c ∷ cs) (inr (free, o)) = if_false c.required _ _ free ∙ order_ends (suc n) cs o
+order_ends n (c ∷ cs) (inr (free, o)) = cond-false c.required _ _ free ∙ order_ends (suc n) cs o
 
 ends_order : {P : Type 0} (n : ℕ) (cs : List (Component P)) → field_end cs ≡ Fine → AreInOrder n cs []
 ends_order n [] e = refl
 ends_order {P} n (c ∷ cs) e = go c.required refl (λ h. ends_order (suc n) cs h)
   where
     go : (r : Bool) → c.required ≡ r → (field_end cs ≡ Fine → AreInOrder (suc n) cs []) → AreInOrder n (c ∷ cs) []
-    go true h again = absurd (let q : EndBreaks rule.DerMissing (missing_text c.label) ≡ Fine = sym (if_true c.required _ _ h) ∙ e in cc)
-    go false h again = inr (h, again (sym (if_false c.required _ _ h) ∙ e))
+    go true h again = absurd (let q : EndBreaks rule.DerMissing (missing_text c.label) ≡ Fine = sym (cond-true c.required _ _ h) ∙ e in cc)
+    go false h again = inr (h, again (sym (cond-false c.required _ _ h) ∙ e))
 
 -- ---- one of several
 
@@ -146,17 +142,17 @@ any_begins n i [] c apart found = absurd cc
 any_begins n zero (x ∷ cs) c apart found =
     let same : x ≡ c = cc in
     let at : n + 0 ≡ n = omega arith in
-    rw (at, ← same) (if_true (is_under x x.constructed x.tag) (Begins n x) _ (under_own x))
+    rw (at, ← same) (cond-true (is_under x x.constructed x.tag) (Begins n x) _ (under_own x))
 any_begins n (suc i) (x ∷ cs) c apart found =
     let at : n + suc i ≡ suc n + i = omega arith in
-    rw at (if_false (is_under x c.constructed c.tag) _ _ (apart.0 i c found) ∙ any_begins (suc n) i cs c apart.1 found)
+    rw at (cond-false (is_under x c.constructed c.tag) _ _ (apart.0 i c found) ∙ any_begins (suc n) i cs c apart.1 found)
 
 any_found : {P : Type 0} (n k : ℕ) (cs : List (Component P)) (b : Bool) (t : Tag) (c : Component P) → any_answer n cs b t ≡ Begins k c → Found n cs b t k c
 any_found n k [] b t c e = absurd cc
 any_found {P} n k (x ∷ cs) b t c e = go (is_under x b t) refl (λ h. any_found (suc n) k cs b t c h)
   where
     go : (u : Bool) → is_under x b t ≡ u → (any_answer (suc n) cs b t ≡ Begins k c → Found (suc n) cs b t k c) → Found n (x ∷ cs) b t k c
-    go true h again = here (sym (if_true (is_under x b t) _ _ h) ∙ e)
+    go true h again = here (sym (cond-true (is_under x b t) _ _ h) ∙ e)
       where
         here : ◌≡◌ {A = Answer P} (Begins n x) (Begins k c) → Found n (x ∷ cs) b t k c
         here d =
@@ -164,7 +160,7 @@ any_found {P} n k (x ∷ cs) b t c e = go (is_under x b t) refl (λ h. any_found
             let same : x ≡ c = cc in
             let u : (x.constructed ≡ b) × (x.tag ≡ t) = under_same x b t h in
             record { off = 0; number = omega arith; there = ap Some same; form = subst (λ (z : Component P). z.constructed ≡ b) same u.0; tag = subst (λ (z : Component P). z.tag ≡ t) same u.1 }
-    go false h again = (let f : Found (suc n) cs b t k c = again (sym (if_false (is_under x b t) _ _ h) ∙ e) in let at : k ≡ suc n + f.off = f.number in record { off = suc f.off; number = omega arith; there = f.there; form = f.form; tag = f.tag })
+    go false h again = (let f : Found (suc n) cs b t k c = again (sym (cond-false (is_under x b t) _ _ h) ∙ e) in let at : k ≡ suc n + f.off = f.number in record { off = suc f.off; number = omega arith; there = f.there; form = f.form; tag = f.tag })
 
 room_in : {P : Type 0} (r : Bool) (a : Answer P) (k : ℕ) (c : Component P) → item_answer r a ≡ Begins k c → (r ≡ true) × (a ≡ Begins k c)
 room_in true a k c e = (refl, e)
@@ -177,13 +173,6 @@ room_less n (Some top) e = less n top e
   where
     less : (n top : ℕ) → nat_lt n top ≡ true → suc n ≤ top
     less n top e = grind (arith, nat_tests)
-
-room_for : (n m : ℕ) (max : Option ℕ) → n < m → UpTo m max → has_room n max ≡ true
-room_for n m None l u = refl
-room_for n m (Some top) l u = less n top (omega arith)
-  where
-    less : (n top : ℕ) → n < top → nat_lt n top ≡ true
-    less n top l = grind (arith, nat_tests)
 
 up_to_same : (n m : ℕ) (max : Option ℕ) → n ≡ m → UpTo n max → UpTo m max
 up_to_same n m max e u = rw (← e) u
@@ -213,7 +202,7 @@ remains_begins (OneOf cs) (j ∷ came) k d c apart h found = absurd cc
 remains_begins {P} (Items s cs) came k d c apart (low, top) found =
     let r : any_answer 0 cs c.constructed c.tag ≡ Begins (0 + k) c = any_begins 0 k cs c apart found in
     let at : 0 + k ≡ k = omega arith in
-    let room : has_room (length came) s.max ≡ true = room_for (length came) (length came + length (k ∷ d)) s.max (omega arith) top in
+    let room : has_room (length came) s.max ≡ true = has_room_of (length came) (length came + length (k ∷ d)) s.max (omega arith) top in
     (rw room (begins_as (0 + k) k c _ at r), (omega arith, up_to_same _ _ s.max (omega arith) top))
 remains_begins (Holds contents) came k d c apart h found = absurd cc
 remains_begins Empty came k d c apart h found = absurd cc
@@ -317,14 +306,6 @@ replicate_length : (n k : ℕ) → length (replicate n k) ≡ n
 replicate_length zero k = refl
 replicate_length (suc n) k = ap suc (replicate_length n k)
 
-up_to_least : (n m : ℕ) (max : Option ℕ) → UpTo n max → UpTo m max → UpTo (n + (m - n)) max
-up_to_least n m None u v = tt
-up_to_least n m (Some top) u v = omega arith
-
-up_to_below : (n m : ℕ) (max : Option ℕ) → n ≤ m → UpTo m max → UpTo n max
-up_to_below n m None l u = tt
-up_to_below n m (Some top) l u = omega arith
-
 -- some components may come behind those that have, up to the end
 pub remain_some : {P : Type 0} (sh : Structure P) (came d : List ℕ) → MayHold sh d → AreComponents (components_of sh) d → HasRoom sh came → (more : List ℕ) × Remain sh came more × AreComponents (components_of sh) more
 remain_some (Fields cs) came d h each room =
@@ -335,7 +316,7 @@ remain_some (Items s cs) came [] h each room = ([], (omega (arith, h.0), up_to_s
 remain_some (Items s cs) came (k ∷ d) h ((c, found), each) room =
     let count : length (replicate (s.min - length came) k) ≡ s.min - length came = replicate_length (s.min - length came) k in (
       replicate (s.min - length came) k,
-      (omega (arith, count), up_to_same _ _ s.max (ap (λ z. length came + z) (sym count)) (up_to_least (length came) s.min s.max room (up_to_below s.min (length (k ∷ d)) s.max h.0 h.1))),
+      (omega (arith, count), up_to_same _ _ s.max (ap (λ z. length came + z) (sym count)) (up_to_filled (length came) s.min s.max room (up_to_less s.min (length (k ∷ d)) s.max h.0 h.1))),
       same_components cs k (s.min - length came) c found,
     )
 remain_some (Holds contents) came d h each room = ([], refl, tt)

@@ -2,6 +2,7 @@
 use Rattle.std.proofs.Common.{◌≡◌, ◌≢◌, ℕ, zero, suc, ◌+◌, ◌≤◌, ◌<◌, Bool, true, false, List, [], ◌∷◌, length, replicate, Some, refl, sym, ap, ◌∙◌, subst, arith, eqb, ◌⊎◌, inl, inr}
 use Rattle.std.specs.Prelude.{◌==◌, if◌then◌else◌, slice_get}
 use Rattle.std.proofs.lemmas.Bool.Decides.{nat_tests, eqb_tells}
+use Rattle.std.proofs.lemmas.Bool.{cond-true, cond-false}
 use Rattle.lexical_core.specs.Decimals.{Number as DecimalNumber}
 use Rattle.data_types.specs.Leaf.{Leaf}
 use Rattle.data_types.specs.Leaf as leaf
@@ -23,7 +24,7 @@ use Rattle.message_model.specs.Sound.{IsNoOption}
 use Rattle.der_model.specs.Sound.{FragmentsApart}
 use Rattle.der_model.proofs.SoundMessages.{HaveNoOptions}
 use Rattle.der_model.proofs.ContentsLaws.{contents_same}
-use Rattle.der_model.proofs.Spelled.{FitsAs, IsOneOf, value_fits, if_true, if_false, then_under, at_most_one, chosen_is, times_all, none_is_no_value, IsSingle, children_single}
+use Rattle.der_model.proofs.Spelled.{FitsAs, IsOneOf, value_fits, then_under, at_most_one, chosen_is, times_all, none_is_no_value, IsSingle, children_single}
 
 -- an admitted value has its children in order
 mutual
@@ -65,9 +66,9 @@ found_or_none m fs k s (value.Child j v rest) here ((t, there, a), more) = go (e
     go (inl e) r =
         let found : slice_get fs k ≡ Some t = subst (λ z. slice_get fs z ≡ Some t) e.1 there in
         let same : t ≡ s = cc in
-        inl (v, rest, subst (λ z. AdmitsAs m.forms (m.forms z.target) v) same a, more, if_true (j == k) _ _ e.0, if_true (j == k) _ _ e.0)
-    go (inr e) (inl (w, others, b, c, p, q)) = inl (w, others, b, c, if_false (j == k) _ _ e.0 ∙ p, if_false (j == k) _ _ e.0 ∙ q)
-    go (inr e) (inr (p, q)) = inr (if_false (j == k) _ _ e.0 ∙ p, if_false (j == k) _ _ e.0 ∙ q)
+        inl (v, rest, subst (λ z. AdmitsAs m.forms (m.forms z.target) v) same a, more, cond-true (j == k) _ _ e.0, cond-true (j == k) _ _ e.0)
+    go (inr e) (inl (w, others, b, c, p, q)) = inl (w, others, b, c, cond-false (j == k) _ _ e.0 ∙ p, cond-false (j == k) _ _ e.0 ∙ q)
+    go (inr e) (inr (p, q)) = inr (cond-false (j == k) _ _ e.0 ∙ p, cond-false (j == k) _ _ e.0 ∙ q)
 
 pub under_same : (t u : Tag) (b c : Body) (r q : Values) → under t b r ≡ under u c q → (t ≡ u) × (b ≡ c) × (r ≡ q)
 under_same t u (Octets x) (Octets y) r q e = (let o : x ≡ y = cc in (cc, ap Octets o, cc))
@@ -120,15 +121,15 @@ placed_same : {P : Type 0} (m : DerMessage P) (k : ℕ) (s : Slot P) (b c : Body
 placed_same m k s b c x y fb fc e = go (is_single s) refl
   where
     go : (z : Bool) → is_single s ≡ z → (b ≡ c) × (x ≡ y)
-    go true h = (let r = under_same (context k) (context k) b c x y (sym (if_true (is_single s) _ _ h) ∙ (e ∙ if_true (is_single s) _ _ h)) in (r.1, r.2))
-    go false h = item_same m s.target (m.forms s.target) b c x y fb fc (sym (if_false (is_single s) _ _ h) ∙ (e ∙ if_false (is_single s) _ _ h))
+    go true h = (let r = under_same (context k) (context k) b c x y (sym (cond-true (is_single s) _ _ h) ∙ (e ∙ cond-true (is_single s) _ _ h)) in (r.1, r.2))
+    go false h = item_same m s.target (m.forms s.target) b c x y fb fc (sym (cond-false (is_single s) _ _ h) ∙ (e ∙ cond-false (is_single s) _ _ h))
 
 placed_some : {P : Type 0} (m : DerMessage P) (k : ℕ) (s : Slot P) (b : Body) (x : Values) → FitsAs m s.target (m.forms s.target) b → placed m.forms k s b x ≡ Nothing → ⊥
 placed_some m k s b x fb e = go (is_single s) refl
   where
     go : (z : Bool) → is_single s ≡ z → ⊥
-    go true h = under_some (context k) b x (sym (if_true (is_single s) _ _ h) ∙ e)
-    go false h = item_some m s.target (m.forms s.target) b x fb (sym (if_false (is_single s) _ _ h) ∙ e)
+    go true h = under_some (context k) b x (sym (cond-true (is_single s) _ _ h) ∙ e)
+    go false h = item_some m s.target (m.forms s.target) b x fb (sym (cond-false (is_single s) _ _ h) ∙ e)
 
 -- what a slot that comes at most once has
 abbrev pub OneAt : ℕ → Values → Type 0
@@ -150,12 +151,12 @@ slots_after i [] at one = inl refl
 slots_after {P} i (s ∷ fs) at one = go (is_single s) refl (slots_after (suc i) fs at (λ j k t e f h. one (suc j) k t (omega (arith, e)) f h))
   where
     go : (z : Bool) → is_single s ≡ z → After (suc i) (all_slots (suc i) fs at) → After i (slot_values i s (at i s) (all_slots (suc i) fs at))
-    go false h r = inr (i, Inner (at i s), all_slots (suc i) fs at, omega arith, if_false (is_single s) _ _ h)
+    go false h r = inr (i, Inner (at i s), all_slots (suc i) fs at, omega arith, cond-false (is_single s) _ _ h)
     go true h r = by (one 0 i s (omega arith) refl h)
       where
         by : OneAt i (at i s) → After i (slot_values i s (at i s) (all_slots (suc i) fs at))
-        by (inl e) = subst (After i) (sym (if_true (is_single s) _ _ h ∙ ap (λ z. then_values z (all_slots (suc i) fs at)) e)) (weaker i _ r)
-        by (inr (b, e)) = inr (i, b, all_slots (suc i) fs at, omega arith, if_true (is_single s) _ _ h ∙ (ap (λ z. then_values z (all_slots (suc i) fs at)) e ∙ then_under (context i) b (all_slots (suc i) fs at)))
+        by (inl e) = subst (After i) (sym (cond-true (is_single s) _ _ h ∙ ap (λ z. then_values z (all_slots (suc i) fs at)) e)) (weaker i _ r)
+        by (inr (b, e)) = inr (i, b, all_slots (suc i) fs at, omega arith, cond-true (is_single s) _ _ h ∙ (ap (λ z. then_values z (all_slots (suc i) fs at)) e ∙ then_under (context i) b (all_slots (suc i) fs at)))
 
 not_after : (i : ℕ) (b : Body) (x y : Values) → After (suc i) y → under (context i) b x ≡ y → ⊥
 not_after i b x y (inl n) e = under_some (context i) b x (e ∙ n)
@@ -174,8 +175,8 @@ slot_split i s v w x y ov ow ax ay e = go (is_single s) refl
     lists v w x y e = (cc, cc)
 
     go : (z : Bool) → is_single s ≡ z → (v ≡ w) × (x ≡ y)
-    go true h = one_split i v w x y (ov h) (ow h) ax ay (sym (if_true (is_single s) _ _ h) ∙ (e ∙ if_true (is_single s) _ _ h))
-    go false h = lists v w x y (sym (if_false (is_single s) _ _ h) ∙ (e ∙ if_false (is_single s) _ _ h))
+    go true h = one_split i v w x y (ov h) (ow h) ax ay (sym (cond-true (is_single s) _ _ h) ∙ (e ∙ cond-true (is_single s) _ _ h))
+    go false h = lists v w x y (sym (cond-false (is_single s) _ _ h) ∙ (e ∙ cond-false (is_single s) _ _ h))
 
 slots_split : {P : Type 0} (i : ℕ) (fs : List (Slot P)) (V W : ℕ → Slot P → Values) → AreOneAt i fs V → AreOneAt i fs W → all_slots i fs V ≡ all_slots i fs W → (j k : ℕ) (s : Slot P) → k ≡ i + j → slice_get fs j ≡ Some s → V k s ≡ W k s
 slots_split i [] V W ov ow e j k s at found = absurd cc
@@ -232,11 +233,11 @@ slot_under {P} m k s count vs some single = go (is_single s) refl
   where
     one : IsSingle m k s count vs → is_single s ≡ true → (b : Body) × (slot_values k s vs Nothing ≡ under (context k) b Nothing)
     one (inl h) e = absurd (omega (arith, h.0))
-    one (inr (low, b, is, fits)) e = (b, if_true (is_single s) _ _ e ∙ (ap (λ z. then_values z Nothing) is ∙ then_under (context k) b Nothing))
+    one (inr (low, b, is, fits)) e = (b, cond-true (is_single s) _ _ e ∙ (ap (λ z. then_values z Nothing) is ∙ then_under (context k) b Nothing))
 
     go : (z : Bool) → is_single s ≡ z → (b : Body) × (slot_values k s vs Nothing ≡ under (context k) b Nothing)
     go true e = one (single e) e
-    go false e = (Inner vs, if_false (is_single s) _ _ e)
+    go false e = (Inner vs, cond-false (is_single s) _ _ e)
 
 -- in a slot that is no slot of the form there is nothing
 none_past : (k n j : ℕ) (ks : Children) → numbers_of ks ≡ replicate n k → j ≢ k → value.values_at j ks ≡ []
@@ -319,21 +320,21 @@ kid_same : {P : Type 0} (m : DerMessage P) → HaveNoOptions m → (fs : List (S
     → ((others : Children) → AdmitsChildren m.forms fs others → values_at m k s rest ≡ values_at m k s others → value.values_at k rest ≡ value.values_at k others)
     → value.values_at k (value.Child j v rest) ≡ value.values_at k ls
 kid_same m opts fs k s j v t rest ls found there a more b e (inr h) r first again =
-    if_false (j == k) _ _ h.0 ∙ again ls b (sym (if_false (j == k) _ _ h.0) ∙ e)
+    cond-false (j == k) _ _ h.0 ∙ again ls b (sym (cond-false (j == k) _ _ h.0) ∙ e)
 kid_same m opts fs k s j v t rest ls found there a more b e (inl h) (inr r) first again =
     let here : slice_get fs k ≡ Some t = subst (λ z. slice_get fs z ≡ Some t) h.1 there in
     let same : t ≡ s = cc in
     let av = subst (λ z. AdmitsAs m.forms (m.forms z.target) v) same a in
-    absurd (placed_some m k s (body m (m.forms s.target) v) (values_at m k s rest) (value_fits m opts s.target (m.forms s.target) v refl av) (sym (if_true (j == k) _ _ h.0) ∙ (e ∙ r.1)))
+    absurd (placed_some m k s (body m (m.forms s.target) v) (values_at m k s rest) (value_fits m opts s.target (m.forms s.target) v refl av) (sym (cond-true (j == k) _ _ h.0) ∙ (e ∙ r.1)))
 kid_same m opts fs k s j v t rest ls found there a more b e (inl h) (inl (w, others, aw, admits, values, written)) first again =
     let here : slice_get fs k ≡ Some t = subst (λ z. slice_get fs z ≡ Some t) h.1 there in
     let same : t ≡ s = cc in
     let av = subst (λ z. AdmitsAs m.forms (m.forms z.target) v) same a in
     let r = placed_same m k s (body m (m.forms s.target) v) (body m (m.forms s.target) w) (values_at m k s rest) (values_at m k s others)
-    (value_fits m opts s.target (m.forms s.target) v refl av) (value_fits m opts s.target (m.forms s.target) w refl aw) (sym (if_true (j == k) _ _ h.0) ∙ (e ∙ written)) in
+    (value_fits m opts s.target (m.forms s.target) v refl av) (value_fits m opts s.target (m.forms s.target) w refl aw) (sym (cond-true (j == k) _ _ h.0) ∙ (e ∙ written)) in
     let heads : v ≡ w = first refl w av aw r.0 in
     let tails = again others admits r.1 in
-    if_true (j == k) _ _ h.0 ∙ (ap (λ z. z ∷ value.values_at k rest) heads ∙ (ap (λ z. w ∷ z) tails ∙ sym values))
+    cond-true (j == k) _ _ h.0 ∙ (ap (λ z. z ∷ value.values_at k rest) heads ∙ (ap (λ z. w ∷ z) tails ∙ sym values))
 
 mutual
   -- values that a form admits are the same where their bodies are

@@ -2,6 +2,8 @@
 use Rattle.std.proofs.Common.{◌≡◌, ◌≢◌, ℕ, zero, suc, ◌+◌, ◌^◌, ◌<◌, Bool, true, false, List, [], ◌∷◌, length, Option, Some, None, refl, sym, subst, arith, eqb, ◌⊎◌, inl, inr, length-append}
 use Rattle.std.specs.Prelude.{slice_get, if◌then◌else◌, ◌==◌}
 use Rattle.std.proofs.lemmas.Bool.Decides.{eqb_tells}
+use Rattle.std.proofs.lemmas.Bool.{cond-true, cond-false}
+use Rattle.std.proofs.lemmas.Option.{slice_get_within}
 use Rattle.data_types.specs.Value.{Value, Children}
 use Rattle.data_types.specs.Value as value
 use Rattle.facets.specs.declared.simple.Simple.{Simple}
@@ -17,7 +19,6 @@ use Rattle.der_model.specs.Structures.{is_single, kind_number, simple_number}
 use Rattle.der_model.specs.Der.{Body, Octets, Inner, body, inner_of, under, item, placed, slot_values, all_slots, chosen_slot, alternative, values_at}
 use Rattle.der_model.specs.inner.Conforms.{AreShort}
 use Rattle.der_model.proofs.WholeValues.{length-wrapped}
-use Rattle.der_model.proofs.Spelled.{if_true, if_false}
 
 -- all tags are short
 abbrev pub HaveShortTags : Values → Type 0
@@ -93,18 +94,13 @@ slots_short : {P : Type 0} (k : ℕ) (fs : List (Slot P)) (at : ℕ → Slot P �
 slots_short k [] at low each = tt
 slots_short k (s ∷ fs) at low each = slot_short k s (at k s) (all_slots (suc k) fs at) (omega arith) (each k s 0 refl (omega arith)) (slots_short (suc k) fs at (omega arith) (λ j t i f e. each j t (suc i) f (omega (arith, e))))
 
-get_below : {A : Type 0} (fs : List A) (k : ℕ) (s : A) → slice_get fs k ≡ Some s → k < length fs
-get_below [] k s e = absurd cc
-get_below (f ∷ fs) zero s e = omega arith
-get_below (f ∷ fs) (suc k) s e = (let r = get_below fs k s e in omega arith)
-
 alternative_short : {P : Type 0} (fs : List (Slot P)) (d : List ℕ) (at : ℕ → Slot P → Values) → length fs < 2 ^ 14 → ((j : ℕ) (s : Slot P) → slice_get fs j ≡ Some s → HaveShortTags (at j s)) → HaveShortTags (alternative fs d at)
 alternative_short fs [] at low each = tt
 alternative_short {P} fs (k ∷ d) at low each = go (slice_get fs k) refl
   where
     go : (o : Option (Slot P)) → slice_get fs k ≡ o → HaveShortTags (chosen_slot k o at)
     go None e = tt
-    go (Some s) e = (let l = get_below fs k s e in slot_short k s (at k s) Nothing (omega arith) (each k s e) tt)
+    go (Some s) e = (let l = slice_get_within fs k s e in slot_short k s (at k s) Nothing (omega arith) (each k s e) tt)
 
 child_short : {P : Type 0} (g : Graph P Simple) (fs : List (Slot P)) (k j : ℕ) (s t : Slot P) (b : Slot P → Body) (vs : Values) → k < 2 ^ 14 → slice_get fs k ≡ Some s → slice_get fs j ≡ Some t → HasShortTags (b t) → HaveShortTags vs → HaveShortTags (if j == k then placed g k s (b s) vs else vs)
 child_short g fs k j s t b vs low here there p q = go (eqb_tells j k)
@@ -113,18 +109,18 @@ child_short g fs k j s t b vs low here there p q = go (eqb_tells j k)
     go (inl e) =
         let found : slice_get fs k ≡ Some t = subst (λ z. slice_get fs z ≡ Some t) e.1 there in
         let same : t ≡ s = cc in
-        subst HaveShortTags (sym (if_true (j == k) _ vs e.0)) (placed_short g k s (b s) vs low (subst (λ z. HasShortTags (b z)) same p) q)
-    go (inr e) = subst HaveShortTags (sym (if_false (j == k) _ vs e.0)) q
+        subst HaveShortTags (sym (cond-true (j == k) _ vs e.0)) (placed_short g k s (b s) vs low (subst (λ z. HasShortTags (b z)) same p) q)
+    go (inr e) = subst HaveShortTags (sym (cond-false (j == k) _ vs e.0)) q
 
 mutual
   pub value_short : {P : Type 0} (m : DerMessage P) → ((p : P) → length (form_slots (m.forms p)) < 2 ^ 14) → (p : P) (f : Form P Simple) (v : Value) → m.forms p ≡ f → AdmitsAs m.forms f v → HasShortTags (body m f v)
   value_short m few p (form.Sequence fs) (value.Component ks) at a =
       slots_short 0 fs (λ k s. values_at m k s ks) (let most : length fs < 2 ^ 14 = subst (λ z. length (form_slots z) < 2 ^ 14) at (few p) in omega arith)
       (λ j s i found e. let there : slice_get fs j ≡ Some s = subst (λ z. slice_get fs z ≡ Some s) (let q : i ≡ j = omega (arith, e) in q) found in
-      children_short m few fs j s ks (let l = get_below fs j s there in let most = subst (λ z. length (form_slots z) < 2 ^ 14) at (few p) in omega arith) there a.1)
+      children_short m few fs j s ks (let l = slice_get_within fs j s there in let most = subst (λ z. length (form_slots z) < 2 ^ 14) at (few p) in omega arith) there a.1)
   value_short m few p (form.Choice fs) (value.Component ks) at a =
       alternative_short fs (numbers_of ks) (λ k s. values_at m k s ks) (subst (λ z. length (form_slots z) < 2 ^ 14) at (few p))
-      (λ j s there. children_short m few fs j s ks (let l = get_below fs j s there in let most = subst (λ z. length (form_slots z) < 2 ^ 14) at (few p) in omega arith) there a.1)
+      (λ j s there. children_short m few fs j s ks (let l = slice_get_within fs j s there in let most = subst (λ z. length (form_slots z) < 2 ^ 14) at (few p) in omega arith) there a.1)
   value_short m few p (form.Simple s) (value.Simple l) at a = tt
   value_short m few p (form.Money c s) (value.Amount l n) at a = (omega arith, (omega arith, tt))
   value_short m few p form.Envelope (value.External t) at a = tt

@@ -2,6 +2,7 @@
 use Rattle.std.proofs.Common.{◌≡◌, ◌≢◌, ℕ, ◌≤◌, Bool, true, false, List, [], ◌∷◌, ◌++◌, length, Some, refl, sym, ap, ◌∙◌, subst, arith, eqb, append-nil, ◌⊎◌, inl, inr}
 use Rattle.std.specs.Prelude.{◌==◌, if◌then◌else◌, slice_get}
 use Rattle.std.proofs.lemmas.Bool.Decides.{eqb_tells}
+use Rattle.std.proofs.lemmas.Bool.{cond-true, cond-false}
 use Rattle.data_types.specs.Value.{Piece, Edge, Children}
 use Rattle.data_types.specs.Value as value
 use Rattle.facets.specs.declared.simple.Simple.{Simple}
@@ -18,7 +19,7 @@ use Rattle.der_model.specs.Structures as structures
 use Rattle.der_model.specs.Der.{Body, Octets, Inner, under, inner_of, item, slot_values, body, values_at}
 use Rattle.der_model.specs.States.{Begins, is_under, any_answer, item_answer}
 use Rattle.der_model.specs.ShownPieces.{alternatives_of, slot_elements, component_elements, IsLeafIn}
-use Rattle.der_model.proofs.Spelled.{if_true, if_false, then_under, some_child, no_child}
+use Rattle.der_model.proofs.Spelled.{then_under, some_child, no_child}
 use Rattle.der_model.proofs.OneValue.{under_some}
 use Rattle.der_model.proofs.ShownParts.{framed, framed_then, ValuesShow}
 use Rattle.der_model.proofs.ShownSlots.{BodyShows, AlternativeShows, ShowsAs, ShownThen, under_shown, choice_finds, item_finds, item_begun}
@@ -68,7 +69,7 @@ none_shown m p k s (value.Child j v rest) none = go (eqb_tells j k) (λ l. none_
     go (inr e) again =
         let fewer = no_child j k (times k (numbers_of rest)) e.0 in
         let r = again (omega (arith, none)) in
-        (if_false (j == k) _ _ e.0 ∙ r.0, if_false (j == k) _ _ e.0 ∙ r.1)
+        (cond-false (j == k) _ _ e.0 ∙ r.0, cond-false (j == k) _ _ e.0 ∙ r.1)
 
 -- the child in a slot that comes at most once
 single_shown : (m : DerMessage ℕ) (p : ℕ) (fs : List (Slot ℕ)) (k : ℕ) (s : Slot ℕ) (ks : Children) → slice_get fs k ≡ Some s → is_single s ≡ true → times k (numbers_of ks) ≤ 1 → ChildrenShow m fs ks
@@ -85,13 +86,13 @@ single_shown m p fs k s (value.Child j v rest) there single few (first, others) 
         let here = pieces m.fragment m.forms s.target v in
         let b = body m (m.forms s.target) v in
         let shows = value_shows_as m s.target (m.forms s.target) b here refl (first s (subst (λ z. slice_get fs z ≡ Some s) (sym e.1) there)) in
-        let written = if_true (j == k) _ _ e.0 ∙ (if_true (is_single s) _ _ single ∙ ap (under (context k) b) none.0) in
-        let edges : edge_at p k (Some s) ∷ [] ≡ slot_elements p k (Some s) = sym (if_true (is_single s) _ _ single) in
-        let spot : structures.Value s.target ≡ (component m.forms p k s).spot = sym (if_true (is_single s) _ _ single) in
-        inr (b, here, written, subst (λ z. BodyShows m z b here) spot shows, if_true (j == k) _ _ e.0 ∙ (ap (framed (edge_at p k (Some s) ∷ []) here) none.1 ∙ ap (λ z. framed z here []) edges))
+        let written = cond-true (j == k) _ _ e.0 ∙ (cond-true (is_single s) _ _ single ∙ ap (under (context k) b) none.0) in
+        let edges : edge_at p k (Some s) ∷ [] ≡ slot_elements p k (Some s) = sym (cond-true (is_single s) _ _ single) in
+        let spot : structures.Value s.target ≡ (component m.forms p k s).spot = sym (cond-true (is_single s) _ _ single) in
+        inr (b, here, written, subst (λ z. BodyShows m z b here) spot shows, cond-true (j == k) _ _ e.0 ∙ (ap (framed (edge_at p k (Some s) ∷ []) here) none.1 ∙ ap (λ z. framed z here []) edges))
     go (inr e) again =
         let fewer = no_child j k (times k (numbers_of rest)) e.0 in
-        or (if_false (j == k) _ _ e.0) (if_false (j == k) _ _ e.0) fewer (again (omega (arith, few)))
+        or (cond-false (j == k) _ _ e.0) (cond-false (j == k) _ _ e.0) fewer (again (omega (arith, few)))
       where
         or : {vs ws : Values} {x y : List Piece} {n c : ℕ} → vs ≡ ws → x ≡ y → n ≡ c → SlotShows m p k s c ws y → SlotShows m p k s n vs x
         or q r t (inl (none, nothing, shown)) = inl (t ∙ none, q ∙ nothing, r ∙ shown)
@@ -113,8 +114,8 @@ plain_item m p n s f b here came rest shown alone no_choice shows values = go b 
         same q = cc
 
         by : (u : Bool) → is_under only z (universal_tag f) ≡ u → any_answer 0 (only ∷ []) z (universal_tag f) ≡ Begins k c → c.spot ≡ structures.Value s.target
-        by true h q = sym (ap (λ (x : Component ℕ). x.spot) (same (sym (if_true (is_under only z (universal_tag f)) _ _ h) ∙ q)))
-        by false h q = absurd (let r = sym (if_false (is_under only z (universal_tag f)) _ _ h) ∙ q in cc)
+        by true h q = sym (ap (λ (x : Component ℕ). x.spot) (same (sym (cond-true (is_under only z (universal_tag f)) _ _ h) ∙ q)))
+        by false h q = absurd (let r = sym (cond-false (is_under only z (universal_tag f)) _ _ h) ∙ q in cc)
 
     edges : (k : ℕ) → component_elements m (ListOf p n s) k ≡ edge_at p n (Some s) ∷ []
     edges k = ap (λ z. edge_at p n (Some s) ∷ slot_elements s.target k (slice_get z k)) no_choice
@@ -151,10 +152,10 @@ items_shown m p fs k s (value.Child j v rest) came shown there list (first, othe
     go (inl e) again =
         let here = pieces m.fragment m.forms s.target v in
         let b = body m (m.forms s.target) v in
-        let written : values_at m k s (value.Child j v rest) ≡ item (m.forms s.target) b (values_at m k s rest) = if_true (j == k) _ _ e.0 ∙ if_false (is_single s) _ _ list in
+        let written : values_at m k s (value.Child j v rest) ≡ item (m.forms s.target) b (values_at m k s rest) = cond-true (j == k) _ _ e.0 ∙ cond-false (is_single s) _ _ list in
         let r = item_shown m p k s (m.forms s.target) b here came (values_at m k s rest) shown refl (first s (subst (λ z. slice_get fs z ≡ Some s) (sym e.1) there)) (subst (λ z. ValuesShow m (ListOf p k s) came z shown) written values) in
-        r.is ∙ (framed_then (edge_at p k (Some s) ∷ []) here [] r.behind ∙ (ap (framed (edge_at p k (Some s) ∷ []) here) (again r.came r.behind r.others) ∙ sym (if_true (j == k) _ _ e.0)))
-    go (inr e) again = again came shown (subst (λ z. ValuesShow m (ListOf p k s) came z shown) (if_false (j == k) _ _ e.0) values) ∙ sym (if_false (j == k) _ _ e.0)
+        r.is ∙ (framed_then (edge_at p k (Some s) ∷ []) here [] r.behind ∙ (ap (framed (edge_at p k (Some s) ∷ []) here) (again r.came r.behind r.others) ∙ sym (cond-true (j == k) _ _ e.0)))
+    go (inr e) again = again came shown (subst (λ z. ValuesShow m (ListOf p k s) came z shown) (cond-false (j == k) _ _ e.0) values) ∙ sym (cond-false (j == k) _ _ e.0)
 
 -- the values of a slot, alone
 pub slot_shown : (m : DerMessage ℕ) (p : ℕ) (fs : List (Slot ℕ)) (k : ℕ) (s : Slot ℕ) (ks : Children) → slice_get fs k ≡ Some s → (is_single s ≡ true → times k (numbers_of ks) ≤ 1) → ChildrenShow m fs ks
@@ -166,15 +167,15 @@ slot_shown m p fs k s ks there few shows = go (is_single s) refl
     alone (inr (b, here, is, body_shows, shown)) = inr (b, here, ap (λ z. then_values z Nothing) is ∙ then_under (context k) b Nothing, body_shows, shown)
 
     go : (z : Bool) → is_single s ≡ z → SlotShows m p k s (times k (numbers_of ks)) (slot_values k s (values_at m k s ks) Nothing) (slot_pieces m p k s ks)
-    go true e = subst (λ z. SlotShows m p k s (times k (numbers_of ks)) z (slot_pieces m p k s ks)) (sym (if_true (is_single s) _ _ e)) (alone (single_shown m p fs k s ks there e (few e) shows))
+    go true e = subst (λ z. SlotShows m p k s (times k (numbers_of ks)) z (slot_pieces m p k s ks)) (sym (cond-true (is_single s) _ _ e)) (alone (single_shown m p fs k s ks there e (few e) shows))
     go false e =
-        let edges : slot_elements p k (Some s) ≡ [] = if_false (is_single s) _ _ e in
-        let spot : ListOf p k s ≡ (component m.forms p k s).spot = sym (if_false (is_single s) _ _ e) in
+        let edges : slot_elements p k (Some s) ≡ [] = cond-false (is_single s) _ _ e in
+        let spot : ListOf p k s ≡ (component m.forms p k s).spot = sym (cond-false (is_single s) _ _ e) in
         let all : BodyShows m (ListOf p k s) (Inner (values_at m k s ks)) (slot_pieces m p k s ks) = λ x values. items_shown m p fs k s ks [] x there e shows values in
         inr (
           Inner (values_at m k s ks),
           slot_pieces m p k s ks,
-          if_false (is_single s) _ _ e,
+          cond-false (is_single s) _ _ e,
           subst (λ z. BodyShows m z (Inner (values_at m k s ks)) (slot_pieces m p k s ks)) spot all,
           sym (ap (λ z. framed z (slot_pieces m p k s ks) []) edges ∙ append-nil _),
         )

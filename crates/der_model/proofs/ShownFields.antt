@@ -2,6 +2,7 @@
 use Rattle.std.proofs.Common.{◌≡◌, ◌≢◌, ℕ, zero, suc, ◌+◌, ◌≤◌, ◌<◌, Bool, true, false, List, [], ◌∷◌, ◌++◌, length, replicate, Some, refl, sym, ap, ◌∙◌, subst, arith, eqb, append-nil, ◌⊎◌, inl, inr}
 use Rattle.std.specs.Prelude.{◌==◌, slice_get}
 use Rattle.std.proofs.lemmas.Bool.Decides.{nat_tests, eqb_tells}
+use Rattle.std.proofs.lemmas.Bool.{cond-true, cond-false}
 use Rattle.data_types.specs.Value.{Value, Children, Piece, Edge}
 use Rattle.data_types.specs.Value as value
 use Rattle.der_octets.specs.Octets.{context, Values, Nothing, Primitive, Constructed, then_values}
@@ -12,7 +13,7 @@ use Rattle.message_model.specs.Tables.{edge_at, pieces, child_pieces}
 use Rattle.der_model.specs.DerMessage.{DerMessage}
 use Rattle.der_model.specs.Structures.{Spot, is_single}
 use Rattle.der_model.specs.Der.{slot_values, all_slots}
-use Rattle.der_model.proofs.Spelled.{if_true, if_false, then_under}
+use Rattle.der_model.proofs.Spelled.{then_under}
 use Rattle.der_model.proofs.ShownParts.{framed, framed_then, ValuesShow}
 use Rattle.der_model.proofs.ShownSlots.{FindsSlot, under_shown}
 use Rattle.der_model.proofs.ShownChildren.{SlotShows, slot_pieces}
@@ -27,8 +28,8 @@ slot_then : (k : ℕ) (s : Slot ℕ) (here rest : Values) → slot_values k s he
 slot_then k s here rest = go (is_single s) refl
   where
     go : (z : Bool) → is_single s ≡ z → slot_values k s here rest ≡ then_values (slot_values k s here Nothing) rest
-    go true e = if_true (is_single s) _ _ e ∙ (sym (then_three here Nothing rest) ∙ ap (λ z. then_values z rest) (sym (if_true (is_single s) _ _ e)))
-    go false e = if_false (is_single s) _ _ e ∙ ap (λ z. then_values z rest) (sym (if_false (is_single s) _ _ e))
+    go true e = cond-true (is_single s) _ _ e ∙ (sym (then_three here Nothing rest) ∙ ap (λ z. then_values z rest) (sym (cond-true (is_single s) _ _ e)))
+    go false e = cond-false (is_single s) _ _ e ∙ ap (λ z. then_values z rest) (sym (cond-false (is_single s) _ _ e))
 
 -- the pieces of each slot, the first with number k
 abbrev pub all_pieces : ℕ → List (Slot ℕ) → (ℕ → Slot ℕ → List Piece) → List Piece
@@ -62,7 +63,7 @@ slots_shown m spot p fs finds (s ∷ gs) i at told each came shown values =
 -- children that stand in no slot below a number have no pieces in one below it
 pieces_none : (m : DerMessage ℕ) (p low top k : ℕ) (s : Slot ℕ) (ks : Children) → IsOrderedFrom low top (numbers_of ks) → k < low → slot_pieces m p k s ks ≡ []
 pieces_none m p low top k s value.Nothing ordered l = refl
-pieces_none m p low top k s (value.Child j v rest) (a, b, ordered) l = if_false (j == k) _ _ (apart j k (omega arith)) ∙ pieces_none m p j top k s rest ordered (omega arith)
+pieces_none m p low top k s (value.Child j v rest) (a, b, ordered) l = cond-false (j == k) _ _ (apart j k (omega arith)) ∙ pieces_none m p j top k s rest ordered (omega arith)
   where
     apart : (j k : ℕ) → k < j → (j == k) ≡ false
     apart j k h = grind (arith, nat_tests)
@@ -96,9 +97,9 @@ first_child m p j v rest others (s ∷ gs) i from low high ordered =
         let here = pieces m.fragment m.forms s.target v in
         let edges = edge_at p i (Some s) ∷ [] in
         let found : slice_get (form_slots (m.forms p)) i ≡ Some s = from 0 i s (omega arith) refl in
-        let own : slot_pieces m p i s (value.Child j v rest) ≡ framed edges here (slot_pieces m p i s rest) = if_true (j == i) _ _ e.0 in
+        let own : slot_pieces m p i s (value.Child j v rest) ≡ framed edges here (slot_pieces m p i s rest) = cond-true (j == i) _ _ e.0 in
         let later : all_pieces (suc i) gs (λ k t. slot_pieces m p k t (value.Child j v rest)) ≡ all_pieces (suc i) gs (λ k t. slot_pieces m p k t rest) =
-        all_same (suc i) gs (λ k t. slot_pieces m p k t (value.Child j v rest)) (λ k t. slot_pieces m p k t rest) (λ k t l. if_false (j == k) _ _ (apart j k (omega (arith, e.1)))) in
+        all_same (suc i) gs (λ k t. slot_pieces m p k t (value.Child j v rest)) (λ k t. slot_pieces m p k t rest) (λ k t l. cond-false (j == k) _ _ (apart j k (omega (arith, e.1)))) in
         let behind = others i (s ∷ gs) from (subst (λ z. IsOrderedFrom z (i + length (s ∷ gs)) (numbers_of rest)) e.1 ordered) in
         let edge_is : edge_at p j (slice_get (form_slots (m.forms p)) j) ≡ edge_at p i (Some s) = ap (λ z. edge_at p z (slice_get (form_slots (m.forms p)) z)) e.1 ∙ ap (edge_at p i) found in
         ap (λ z. z ++ all_pieces (suc i) gs (λ k t. slot_pieces m p k t (value.Child j v rest))) own
@@ -110,7 +111,7 @@ first_child m p j v rest others (s ∷ gs) i from low high ordered =
         apart j k h = grind (arith, nat_tests)
     go (inr e) again =
         let l : suc i ≤ j = above i j low e.1 in
-        let none : slot_pieces m p i s (value.Child j v rest) ≡ [] = if_false (j == i) _ _ e.0 ∙ pieces_none m p j (i + length (s ∷ gs)) i s rest ordered l in
+        let none : slot_pieces m p i s (value.Child j v rest) ≡ [] = cond-false (j == i) _ _ e.0 ∙ pieces_none m p j (i + length (s ∷ gs)) i s rest ordered l in
         ap (λ z. z ++ all_pieces (suc i) gs (λ k t. slot_pieces m p k t (value.Child j v rest))) none ∙ again l
       where
         above : (i j : ℕ) → i ≤ j → j ≢ i → suc i ≤ j
@@ -128,7 +129,7 @@ alike_pieces m p k (suc n) s (value.Child j v rest) there is =
     let head : j ≡ k = cc in
     let tails : numbers_of rest ≡ replicate n k = cc in
     let edge_is : edge_at p j (slice_get (form_slots (m.forms p)) j) ≡ edge_at p k (Some s) = ap (λ z. edge_at p z (slice_get (form_slots (m.forms p)) z)) head ∙ ap (edge_at p k) there in
-    if_true (j == k) _ _ (own j k head)
+    cond-true (j == k) _ _ (own j k head)
     ∙ (ap (framed (edge_at p k (Some s) ∷ []) (pieces m.fragment m.forms s.target v)) (alike_pieces m p k n s rest there tails)
     ∙ ap (λ (z : Edge). framed (z ∷ []) (pieces m.fragment m.forms z.target v) (child_pieces m.fragment m.forms p rest)) (sym edge_is))
   where

@@ -2,6 +2,7 @@
 use Rattle.std.proofs.Common.{◌≡◌, ◌≢◌, ℕ, zero, suc, ◌+◌, ◌≤◌, ◌<◌, Bool, true, false, cond, List, [], ◌∷◌, length, replicate, drop, Option, Some, None, refl, sym, ap, ◌∙◌, subst, arith, eqb, ◌⊎◌, inl, inr}
 use Rattle.std.specs.Prelude.{◌==◌, if◌then◌else◌, slice_get, nat_lt}
 use Rattle.std.proofs.lemmas.Bool.Decides.{nat_tests, eqb_tells}
+use Rattle.std.proofs.lemmas.Bool.{cond-true, cond-false}
 use Rattle.data_types.specs.Leaf.{Leaf}
 use Rattle.data_types.specs.Leaf as leaf
 use Rattle.data_types.specs.Value.{Value, Children}
@@ -27,12 +28,6 @@ use Rattle.der_model.proofs.SoundMessages.{HaveNoOptions}
 use Rattle.der_model.proofs.ContentsLaws.{written_contents}
 use Rattle.der_model.proofs.Fields.{Skips, skips_none, skips_more, begins_here, any_found, under_own, own_number, drop_more}
 
-pub if_true : {A : Type 0} (b : Bool) (x y : A) → b ≡ true → (if b then x else y) ≡ x
-if_true b x y e = rw e refl
-
-pub if_false : {A : Type 0} (b : Bool) (x y : A) → b ≡ false → (if b then x else y) ≡ y
-if_false b x y e = rw e refl
-
 -- one value, which is a component
 abbrev pub IsOneOf : {P : Type 0} → DerMessage P → List (Component P) → Values → Type 0
 IsOneOf {P} m cs vs =
@@ -55,10 +50,10 @@ one_conforms m cs vs (inr (tag, inner, k, c, is, begins, held)) = subst (Conform
 
 -- a value under the tag of its slot is the component of the slot
 pub single_component : {P : Type 0} (m : DerMessage P) (p : P) (k : ℕ) (s : Slot P) → is_single s ≡ true → ((component m.forms p k s).constructed ≡ is_constructed (m.forms s.target)) × (structure m (component m.forms p k s).spot ≡ form_structure m.forms s.target (m.forms s.target))
-single_component m p k s e = (if_true (is_single s) (is_constructed (m.forms s.target)) true e, ap (structure m) (if_true (is_single s) (structures.Value s.target) (ListOf p k s) e))
+single_component m p k s e = (cond-true (is_single s) (is_constructed (m.forms s.target)) true e, ap (structure m) (cond-true (is_single s) (structures.Value s.target) (ListOf p k s) e))
 
 pub list_component : {P : Type 0} (m : DerMessage P) (p : P) (k : ℕ) (s : Slot P) → is_single s ≡ false → ((component m.forms p k s).constructed ≡ true) × (structure m (component m.forms p k s).spot ≡ Items s (item_components m.forms s.target (m.forms s.target)))
-list_component m p k s e = (if_false (is_single s) (is_constructed (m.forms s.target)) true e, ap (structure m) (if_false (is_single s) (structures.Value s.target) (ListOf p k s) e))
+list_component m p k s e = (cond-false (is_single s) (is_constructed (m.forms s.target)) true e, ap (structure m) (cond-false (is_single s) (structures.Value s.target) (ListOf p k s) e))
 
 -- the values of a slot that comes at most once
 abbrev pub IsSingle : {P : Type 0} → DerMessage P → ℕ → Slot P → ℕ → Values → Type 0
@@ -97,7 +92,7 @@ slot_step {P} m p cs more k n s came vs rest count next skips is slot low again 
 
     single : is_single s ≡ true → IsSingle m k s count vs → Conforms m (Fields cs) came (then_values vs rest)
     single e (inl (none, nothing)) =
-        let free : (component m.forms p k s).required ≡ false = if_true (is_single s) (nat_lt 0 s.min) true e ∙ zero_min s.min (omega (arith, low, none)) in
+        let free : (component m.forms p k s).required ≡ false = cond-true (is_single s) (nat_lt 0 s.min) true e ∙ zero_min s.min (omega (arith, low, none)) in
         subst (λ z. Conforms m (Fields cs) came (then_values z rest)) (sym nothing) (again n came next (skips_more cs more n k (component m.forms p k s) skips is refl free))
     single e (inr (some, b, under_is, fits)) =
         let c = single_component m p k s e in
@@ -105,12 +100,12 @@ slot_step {P} m p cs more k n s came vs rest count next skips is slot low again 
         subst (λ z. Conforms m (Fields cs) came z) (sym (ap (λ z. then_values z rest) under_is ∙ then_under (context k) b rest)) one
 
     go : (b : Bool) → is_single s ≡ b → Conforms m (Fields cs) came (slot_values k s vs rest)
-    go true e = subst (Conforms m (Fields cs) came) (sym (if_true (is_single s) (then_values vs rest) (Constructed (context k) vs rest) e)) (single e (slot.0 e))
+    go true e = subst (Conforms m (Fields cs) came) (sym (cond-true (is_single s) (then_values vs rest) (Constructed (context k) vs rest) e)) (single e (slot.0 e))
     go false e =
         let c = list_component m p k s e in
         let one : Conforms m (Fields cs) came (Constructed (context k) vs rest) =
         (k, component m.forms p k s, subst (λ z. field_answer (next_number came) (drop (next_number came) cs) z (context k) ≡ Begins k (component m.forms p k s)) c.0 begins, subst (λ z. Conforms m z [] vs) (sym c.1) (slot.1 e), again (suc k) (k ∷ came) refl (skips_none cs (suc k))) in
-        subst (Conforms m (Fields cs) came) (sym (if_false (is_single s) (then_values vs rest) (Constructed (context k) vs rest) e)) one
+        subst (Conforms m (Fields cs) came) (sym (cond-false (is_single s) (then_values vs rest) (Constructed (context k) vs rest) e)) one
 
 -- all slots from one on
 slots_conform : {P : Type 0} (m : DerMessage P) (p : P) (cs : List (Component P)) (fs : List (Slot P)) (k n : ℕ) (came : List ℕ) (at : ℕ → Slot P → Values) (count : ℕ → ℕ)
@@ -139,7 +134,7 @@ upto_less a b None l h = tt
 upto_less a b (Some top) l h = omega arith
 
 own_item : {P : Type 0} (c : Component P) → any_answer 0 (c ∷ []) c.constructed c.tag ≡ Begins 0 c
-own_item c = if_true (is_under c c.constructed c.tag) (Begins 0 c) _ (under_own c)
+own_item c = cond-true (is_under c c.constructed c.tag) (Begins 0 c) _ (under_own c)
 
 -- an item, before others
 item_step : {P : Type 0} (m : DerMessage P) (s : Slot P) (f : Form P Simple) (b : Body) (came : List ℕ) (rest : Values) → m.forms s.target ≡ f → has_room (length came) s.max ≡ true → FitsAs m s.target f b
@@ -213,7 +208,7 @@ single_child m fs k j s t b count vs here there single fits few rest = go (eqb_t
         let same : t ≡ s = cc in
         let fit = fits_shape m s.target (m.forms s.target) (b s) (subst (λ z. FitsAs m z.target (m.forms z.target) (b z)) same fits) in
         let empty : vs ≡ Nothing = nothing (rest (omega arith)) none in
-        inr (omega arith, b s, if_true (j == k) _ vs e.0 ∙ (if_true (is_single s) (under (context k) (b s) vs) (item (m.forms s.target) (b s) vs) single ∙ ap (under (context k) (b s)) empty), fit)
+        inr (omega arith, b s, cond-true (j == k) _ vs e.0 ∙ (cond-true (is_single s) (under (context k) (b s) vs) (item (m.forms s.target) (b s) vs) single ∙ ap (under (context k) (b s)) empty), fit)
       where
         nothing : IsSingle m k s count vs → count ≡ 0 → vs ≡ Nothing
         nothing (inl h) z = h.1
@@ -243,11 +238,11 @@ list_child {P} m fs k j s t b count came vs here there list fits most least rest
         let fit : FitsAs m s.target (m.forms s.target) (b s) = subst (λ z. FitsAs m z.target (m.forms z.target) (b z)) same fits in
         let room = true_room (length came) s.max (upto_less (suc (length came)) (length came + (cond (j == k) 1 0 + count)) s.max (omega arith) most) in
         let one = item_step m s (m.forms s.target) (b s) came vs refl room fit (again more) in
-        subst (Conforms m (Items s (item_components m.forms s.target (m.forms s.target))) came) (sym (if_true (j == k) (placed m.forms k s (b s) vs) vs e.0 ∙ if_false (is_single s) (under (context k) (b s) vs) (item (m.forms s.target) (b s) vs) list)) one
+        subst (Conforms m (Items s (item_components m.forms s.target (m.forms s.target))) came) (sym (cond-true (j == k) (placed m.forms k s (b s) vs) vs e.0 ∙ cond-false (is_single s) (under (context k) (b s) vs) (item (m.forms s.target) (b s) vs) list)) one
     go (inr e) =
         let none = no_child j k count e.0 in
         let same = ap (λ z. length came + z) none in
-        subst (Conforms m (Items s (item_components m.forms s.target (m.forms s.target))) came) (sym (if_false (j == k) (placed m.forms k s (b s) vs) vs e.0))
+        subst (Conforms m (Items s (item_components m.forms s.target (m.forms s.target))) came) (sym (cond-false (j == k) (placed m.forms k s (b s) vs) vs e.0))
         (rest came (subst (λ z. UpTo z s.max) same most) (omega arith))
 
 -- the code of an amount
@@ -286,10 +281,10 @@ alternative_fits {P} m p fs k count s vs found some slot = go (is_single s) refl
     single e (inr (low, b, is, fits)) = subst (IsOneOf m (components m.forms p 0 fs)) (sym (ap (λ z. then_values z Nothing) is ∙ then_under (context k) b Nothing)) (one e b fits)
 
     go : (b : Bool) → is_single s ≡ b → IsOneOf m (components m.forms p 0 fs) (slot_values k s vs Nothing)
-    go true e = subst (IsOneOf m (components m.forms p 0 fs)) (sym (if_true (is_single s) (then_values vs Nothing) (Constructed (context k) vs Nothing) e)) (single e (slot.0 e))
+    go true e = subst (IsOneOf m (components m.forms p 0 fs)) (sym (cond-true (is_single s) (then_values vs Nothing) (Constructed (context k) vs Nothing) e)) (single e (slot.0 e))
     go false e =
         let c = list_component m p k s e in
-        subst (IsOneOf m (components m.forms p 0 fs)) (sym (if_false (is_single s) (then_values vs Nothing) (Constructed (context k) vs Nothing) e))
+        subst (IsOneOf m (components m.forms p 0 fs)) (sym (cond-false (is_single s) (then_values vs Nothing) (Constructed (context k) vs Nothing) e))
         (inr (context k, vs, k, component m.forms p k s, refl, subst (λ z. any_answer 0 (components m.forms p 0 fs) z (context k) ≡ Begins k (component m.forms p k s)) c.0 begins, subst (λ z. Conforms m z [] vs) (sym c.1) (slot.1 e)))
 
 pub times_all : (k n : ℕ) → times k (replicate n k) ≡ n

@@ -7,6 +7,7 @@ pub mod Signed
 pub mod DigitLemmas
 pub mod DecimalTexts
 pub mod Lists
+pub mod ByteKeys
 pub mod Numerals
 pub mod RealLemmas
 pub mod Written

@@ -56,6 +56,9 @@ module _ {P L : Type 0} (g : Graph P L) (F : P → Type 0) (closed : (p : P) →
     found_children fs (Child j v ks) ((t, e, h), each) k s found some =
         found_child g F fs j k v ks s (t, e, closed t.target (found_form (g t.target) v h)) (found_children fs ks each k s found) found some
 
+  pub finite_in : (p : P) → IsFinite g p → F p
+  finite_in p (s, h) = closed p (found_form (g p) s h)
+
 -- n copies of a shape in slot k, before the others
 repeated : ℕ → ℕ → Shape → Shapes → Shapes
 repeated zero k v ks = ks

@@ -2,7 +2,7 @@
 use Rattle.std.proofs.Common.{◌≡◌, ℕ, Bool, true, false, ◌||◌, List, [], ◌∷◌, ◌++◌, reverse, map, drop, length, Option, Some, None, refl, sym, ap, ap₂, subst, ◌∙◌, append_assoc, append-nil, if◌then◌else◌}
 use Rattle.std.specs.List.{flat_map}
 use Rattle.std.proofs.lemmas.Bool.{true≢false}
-use Rattle.std.proofs.lemmas.List.{reverse-append}
+use Rattle.std.proofs.lemmas.List.{reverse-append, nil_from_length}
 use Rattle.lexical_core.specs.Escapes.{escaped}
 use Rattle.lexical_core.specs.Tree.{Expanded, Entry, Item, Starts, Char, Ends, Skipped}
 use Rattle.markup.specs.EventItems.{item_of, entry_of}
@@ -43,12 +43,8 @@ none_stands declared (false ∷ flags) (d ∷ ds) e h = h.0 ∙ none_stands decl
 pub nearest_last : (r : Respell) (ds : List (Option (List ℕ))) (n : List ℕ) (others : List (List ℕ)) → r.defaults.items ≡ others ++ n ∷ [] → HasDefaults r ds → nearest ds ≡ Some n
 nearest_last r ds n others e h = first_stands (reverse r.defaults.items) n (reverse others) (reverse r.declares.items) ds (ap (λ (l : List (List ℕ)). reverse l) e ∙ reverse-append others (n ∷ [])) h
 
-no_items : {A : Type 0} (xs : List A) → length xs ≡ 0 → xs ≡ []
-no_items [] e = refl
-no_items (x ∷ xs) e = absurd cc
-
 pub nearest_none : (r : Respell) (ds : List (Option (List ℕ))) → length r.defaults.items ≡ 0 → HasDefaults r ds → nearest ds ≡ None
-nearest_none r ds e h = none_stands (reverse r.defaults.items) (reverse r.declares.items) ds (ap (λ (l : List (List ℕ)). reverse l) (no_items r.defaults.items e)) h
+nearest_none r ds e h = none_stands (reverse r.defaults.items) (reverse r.declares.items) ds (ap (λ (l : List (List ℕ)). reverse l) (nil_from_length r.defaults.items e)) h
 
 -- ---- one more element
 

@@ -7,7 +7,7 @@ use Rattle.std.specs.Ordering.{nat_cmp, ordering_then, ordering_reverse, is_eq}
 use Rattle.std.specs.Cmp.Lexicographic.{slice_cmp}
 use Rattle.std.specs.declared.cmp.Ordering.{Ordering}
 use Rattle.std.specs.declared.cmp.Ordering.TheVariants.{Less, Equal, Greater}
-use Rattle.std.proofs.lemmas.Bool.{cases_Bool, true≢false}
+use Rattle.std.proofs.lemmas.Bool.{cases_Bool, true≢false, cond-true, cond-false}
 use Rattle.std.proofs.lemmas.Cmp.{nat_list_cmp_total}
 use Rattle.std.proofs.lemmas.Map.Text.{is_eq-slice_cmp}
 use Rattle.lexical_core.specs.Tree.{Entry}
@@ -80,14 +80,6 @@ level a b f g = case (slice_cmp nat_cmp a b) refl
     case Equal e = bytes_same a b (sym (is_eq-slice_cmp a b) ∙ ap is_eq e)
     case Greater e = absurd (f e)
 
-if_true : {A : Type 0} (b : Bool) (x y : A) → b ≡ true → (if b then x else y) ≡ x
-if_true true x y e = refl
-if_true false x y e = absurd cc
-
-if_false : {A : Type 0} (b : Bool) (x y : A) → b ≡ false → (if b then x else y) ≡ y
-if_false false x y e = refl
-if_false true x y e = absurd cc
-
 -- what comes next, and what the number of this one is
 pub record NextNumbered (all : List Entry) (e : Entry) (es : List Entry) (last : List ℕ) (number : ℕ) : Type 0 where
   pub this : needs_none e.name.namespace ≡ false → number_of 1 (namespaces_of all) e.name.namespace ≡ number_behind number last e.name.namespace
@@ -98,8 +90,8 @@ next_none : (all : List Entry) (e : Entry) (es : List Entry) (last : List ℕ) (
 next_none all e es last number h t =
     let n : List ℕ = e.name.namespace in
     let old : is_new last n ≡ false = ap (λ (b : Bool). not b && not (bytes_eq n last)) t in
-    let num : number_behind number last n ≡ number = if_false (is_new last n) (number + 1) number old in
-    let lat : later last n ≡ last = if_true (needs_none n) last n t in
+    let num : number_behind number last n ≡ number = cond-false (is_new last n) (number + 1) number old in
+    let lat : later last n ≡ last = cond-true (needs_none n) last n t in
     let same : without last (namespaces_of (e ∷ es)) ≡ without last (namespaces_of es) = without_old last e es old in record {
       this = λ needed. absurd (true≢false (sym t ∙ needed));
       rest = subst (λ (l : List ℕ). AreNumbered all es l (number_behind number last n)) (sym lat) (subst (λ (k : ℕ). AreNumbered all es last k) (sym num) (record {
@@ -114,10 +106,10 @@ next_last : (all : List Entry) (e : Entry) (es : List Entry) (last : List ℕ) (
 next_last all e es last number h f t =
     let n : List ℕ = e.name.namespace in
     let old : is_new last n ≡ false = ap₂ (λ (a b : Bool). not a && not b) f t in
-    let num : number_behind number last n ≡ number = if_false (is_new last n) (number + 1) number old in
-    let lat : later last n ≡ last = if_false (needs_none n) last n f ∙ bytes_same n last t in
+    let num : number_behind number last n ≡ number = cond-false (is_new last n) (number + 1) number old in
+    let lat : later last n ≡ last = cond-false (needs_none n) last n f ∙ bytes_same n last t in
     let same : without last (namespaces_of (e ∷ es)) ≡ without last (namespaces_of es) = without_old last e es old in record {
-      this = λ needed. h.numbers e (inl refl) needed ∙ (if_true (bytes_eq n last) number (number_of (number + 1) (without last (namespaces_of (e ∷ es))) n) t ∙ sym num);
+      this = λ needed. h.numbers e (inl refl) needed ∙ (cond-true (bytes_eq n last) number (number_of (number + 1) (without last (namespaces_of (e ∷ es))) n) t ∙ sym num);
       rest = subst (λ (l : List ℕ). AreNumbered all es l (number_behind number last n)) (sym lat) (subst (λ (k : ℕ). AreNumbered all es last k) (sym num) (record {
         sorted = h.sorted.1;
         behind = h.behind.1;
@@ -130,13 +122,13 @@ next_new : (all : List Entry) (e : Entry) (es : List Entry) (last : List ℕ) (n
 next_new all e es last number h f z =
     let n : List ℕ = e.name.namespace in
     let new : is_new last n ≡ true = ap₂ (λ (a b : Bool). not a && not b) f z in
-    let num : number_behind number last n ≡ number + 1 = if_true (is_new last n) (number + 1) number new in
-    let lat : later last n ≡ n = if_false (needs_none n) last n f in
+    let num : number_behind number last n ≡ number + 1 = cond-true (is_new last n) (number + 1) number new in
+    let lat : later last n ≡ n = cond-false (needs_none n) last n f in
     let rest : List (List ℕ) = without n (namespaces_of es) in
     let whole : without last (namespaces_of (e ∷ es)) ≡ n ∷ rest = without_new last e es new in
     let at : (m : List ℕ) → bytes_eq m last ≡ false → (if bytes_eq m last then number else number_of (number + 1) (without last (namespaces_of (e ∷ es))) m) ≡ (if bytes_eq n m then number + 1 else number_of (number + 1 + 1) rest m) =
-    λ m g. if_false (bytes_eq m last) number (number_of (number + 1) (without last (namespaces_of (e ∷ es))) m) g ∙ ap (λ (ns : List (List ℕ)). number_of (number + 1) ns m) whole in record {
-      this = λ needed. h.numbers e (inl refl) needed ∙ (at n z ∙ (if_true (bytes_eq n n) (number + 1) (number_of (number + 1 + 1) rest n) (same_bytes n n refl) ∙ sym num));
+    λ m g. cond-false (bytes_eq m last) number (number_of (number + 1) (without last (namespaces_of (e ∷ es))) m) g ∙ ap (λ (ns : List (List ℕ)). number_of (number + 1) ns m) whole in record {
+      this = λ needed. h.numbers e (inl refl) needed ∙ (at n z ∙ (cond-true (bytes_eq n n) (number + 1) (number_of (number + 1 + 1) rest n) (same_bytes n n refl) ∙ sym num));
       rest = subst (λ (l : List ℕ). AreNumbered all es l (number_behind number last n)) (sym lat) (subst (λ (k : ℕ). AreNumbered all es n k) (sym num) (record {
         sorted = h.sorted.1;
         behind = none_below_more e es h.sorted.0;
@@ -193,21 +185,21 @@ attribute_step old new whole all e es left number split is pushed before =
 pub started : (number : ℕ) (last n : List ℕ) → (needs_none last ≡ false → 0 < number) → needs_none n ≡ false → 0 < number_behind number last n
 started number last n h f = elim (cases_Bool (bytes_eq n last)) [
   | inl t ↦ (let l : 0 < number = h (ap needs_none (sym (bytes_same n last t)) ∙ f) in
-      subst (λ (k : ℕ). 0 < k) (sym (if_false (is_new last n) (number + 1) number (ap₂ (λ (a b : Bool). not a && not b) f t))) l)
-  | inr z ↦ subst (λ (k : ℕ). 0 < k) (sym (if_true (is_new last n) (number + 1) number (ap₂ (λ (a b : Bool). not a && not b) f z))) (omega arith)
+      subst (λ (k : ℕ). 0 < k) (sym (cond-false (is_new last n) (number + 1) number (ap₂ (λ (a b : Bool). not a && not b) f t))) l)
+  | inr z ↦ subst (λ (k : ℕ). 0 < k) (sym (cond-true (is_new last n) (number + 1) number (ap₂ (λ (a b : Bool). not a && not b) f z))) (omega arith)
 ]
 
 pub started_later : (number : ℕ) (last n : List ℕ) → (needs_none last ≡ false → 0 < number) → needs_none (later last n) ≡ false → 0 < number_behind number last n
 started_later number last n h f = elim (cases_Bool (needs_none n)) [
-  | inl t ↦ (let lat : later last n ≡ last = if_true (needs_none n) last n t in
-      subst (λ (k : ℕ). 0 < k) (sym (if_false (is_new last n) (number + 1) number (ap (λ (b : Bool). not b && not (bytes_eq n last)) t))) (h (ap needs_none (sym lat) ∙ f)))
+  | inl t ↦ (let lat : later last n ≡ last = cond-true (needs_none n) last n t in
+      subst (λ (k : ℕ). 0 < k) (sym (cond-false (is_new last n) (number + 1) number (ap (λ (b : Bool). not b && not (bytes_eq n last)) t))) (h (ap needs_none (sym lat) ∙ f)))
   | inr g ↦ started number last n h g
 ]
 
 pub next_within : (number : ℕ) (last n : List ℕ) → number_behind number last n ≤ number + 1
 next_within number last n = elim (cases_Bool (is_new last n)) [
-  | inl t ↦ subst (λ (k : ℕ). k ≤ number + 1) (sym (if_true (is_new last n) (number + 1) number t)) (omega arith)
-  | inr f ↦ subst (λ (k : ℕ). k ≤ number + 1) (sym (if_false (is_new last n) (number + 1) number f)) (omega arith)
+  | inl t ↦ subst (λ (k : ℕ). k ≤ number + 1) (sym (cond-true (is_new last n) (number + 1) number t)) (omega arith)
+  | inr f ↦ subst (λ (k : ℕ). k ≤ number + 1) (sym (cond-false (is_new last n) (number + 1) number f)) (omega arith)
 ]
 
 -- the loop goes on with the next attribute

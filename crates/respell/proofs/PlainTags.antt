@@ -6,7 +6,7 @@ use Rattle.std.specs.Option.{option_or}
 use Rattle.std.specs.Str.{bytes_eq}
 use Rattle.std.specs.declared.cmp.Ordering.{Ordering}
 use Rattle.std.specs.declared.cmp.Ordering.TheVariants.{Less, Equal, Greater}
-use Rattle.std.proofs.lemmas.Bool.{cases_Bool, true≢false, and_parts}
+use Rattle.std.proofs.lemmas.Bool.{cases_Bool, true≢false, and_parts, or_parts}
 use Rattle.lexical_core.specs.Characters.{IsXmlText}
 use Rattle.lexical_core.specs.Tree.{Expanded, Entry}
 use Rattle.markup.specs.Attribute.{Attribute, is_attribute}
@@ -21,7 +21,6 @@ use Rattle.markup.proofs.AttributeLemmas.{attribute_facts}
 use Rattle.fragments.specs.Plain.{IsPart, IsPlainName, IsPlainEntry}
 use Rattle.respell.proofs.Prefixes.{same_bytes, bytes_same}
 use Rattle.respell.proofs.PlainParts.{local_is_part, value_is_text, all_chars}
-use Rattle.respell.proofs.SortedEntries.{or_parts}
 
 -- an attribute or a declaration of a tag that breaks no rule
 pub record IsSound (g : Given) : Type 0 where

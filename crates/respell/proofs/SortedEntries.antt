@@ -8,6 +8,7 @@ use Rattle.std.specs.Str.{bytes_eq}
 use Rattle.std.specs.declared.cmp.Ordering.{Ordering}
 use Rattle.std.specs.declared.cmp.Ordering.TheVariants.{Less, Equal, Greater}
 use Rattle.std.proofs.lemmas.Map.Text.{is_eq-slice_cmp}
+use Rattle.std.proofs.lemmas.Bool.{or_parts}
 use Rattle.lexical_core.specs.Tree.{Expanded, Entry}
 use Rattle.lexical_core.proofs.StableSort.{Climbs, NoneLess, climbs-sorted}
 use Rattle.markup.specs.declared.tag.Given.{Given}
@@ -18,10 +19,6 @@ use Rattle.markup.specs.inner.TagParts.{is_named, sorted_entries}
 use Rattle.markup.proofs.Twins.{by_name, entries_total, any-put, any_twins, any_twins-put, sorted_same}
 use Rattle.fragments.specs.Plain.{AreSorted}
 use Rattle.lexical_core.specs.Names.{name_cmp}
-
-pub or_parts : (a b : Bool) → (a || b) ≡ false → (a ≡ false) × (b ≡ false)
-or_parts true b e = absurd cc
-or_parts false b e = (refl, e)
 
 -- ---- in order
 

@@ -3,7 +3,7 @@ use Rattle.std.proofs.Common.{◌≡◌, ℕ, ◌≤◌, ◌⊎◌, inl, inr, Bo
 use Rattle.std.specs.Prelude.{◌↔◌, ◌==◌, not, IsTrue}
 use Rattle.std.proofs.lemmas.Bool.{true≢false}
 use Rattle.std.proofs.lemmas.Bool.Decides.{nat_tests}
-use Rattle.std.proofs.lemmas.List.{reverse-append}
+use Rattle.std.proofs.lemmas.List.{reverse-append, nil_from_length}
 use Rattle.lexical_core.specs.Tree.{Item, Starts, Char, Ends, Skipped, Nodes, Nothing, Element, Text, Tree, flat_nodes, flat}
 use Rattle.fragments.specs.Fragment.{default_within, fragment}
 use Rattle.respell.specs.Respelling.{nearest, respelled, defaults_behind, told_of, AreFront, AreOf}
@@ -114,13 +114,9 @@ reverse_none (b ∷ flags) e = absurd (let h : reverse flags ++ b ∷ [] ≡ [] 
     nonempty [] b e = absurd cc
     nonempty (x ∷ l) b e = absurd cc
 
-no_length : {A : Type 0} (xs : List A) → length xs ≡ 0 → xs ≡ []
-no_length [] e = refl
-no_length (x ∷ xs) e = absurd cc
-
 pub whole_if : (r : Respell) (items : List Item) → HasTaken r items → AreFront items → length r.declares.items ≡ 0 → (r.text ≡ [] → ⊥) → (t : Tree) × AreOf items t
 whole_if r items h (t, more, e) closed some =
-    let none : defaults_behind [] items ≡ [] = no_flags (reverse r.defaults.items) (defaults_behind [] items) (subst (λ (l : List Bool). KeepsDefaults (reverse r.defaults.items) (reverse l) (defaults_behind [] items)) (no_length r.declares.items closed) h.defaults_are) in
+    let none : defaults_behind [] items ≡ [] = no_flags (reverse r.defaults.items) (defaults_behind [] items) (subst (λ (l : List Bool). KeepsDefaults (reverse r.defaults.items) (reverse l) (defaults_behind [] items)) (nil_from_length r.declares.items closed) h.defaults_are) in
     (t, all_told t (told_of items) more e (λ nothing. some (h.text_is ∙ (respelled_told [] items ∙ ap (respelled []) nothing))) (sym (defaults_told [] items) ∙ none))
 
 pub whole_closed : (r : Respell) (items : List Item) (t : Tree) → HasTaken r items → AreOf items t → length r.declares.items ≡ 0
@@ -145,7 +141,7 @@ none_from n h = grind (arith, nat_tests, h)
 pub whole_test : (r : Respell) (items : List Item) (a b : Bool) → a ≡ (length r.declares.items == 0) → a ≡ true → b ≡ (length r.text == 0) → HasTaken r items → AreFront items → IsTrue (not b) ↔ ((t : Tree) × AreOf items t)
 whole_test r items a b is met text h f = (
   λ some. whole_if r items h f (none_from (length r.declares.items) (sym is ∙ met)) (λ empty. true≢false (sym some ∙ ap (λ (x : Bool). not x) (text ∙ ap (λ (l : List ℕ). length l == 0) empty))),
-  λ p. step b (λ t. whole_some r items p.0 h p.1 (no_length r.text (none_from (length r.text) (sym text ∙ t)))),
+  λ p. step b (λ t. whole_some r items p.0 h p.1 (nil_from_length r.text (none_from (length r.text) (sym text ∙ t)))),
 )
   where
     step : (b : Bool) → (b ≡ true → ⊥) → IsTrue (not b)

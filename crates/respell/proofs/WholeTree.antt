@@ -3,6 +3,7 @@ use Rattle.std.proofs.Common.{◌≡◌, ℕ, suc, Bool, true, false, List, [], 
 use Rattle.std.specs.Prelude.{if◌then◌else◌, ◌&&◌, ◌||◌, ◌==◌, is_none, drop}
 use Rattle.std.proofs.lemmas.Bool.Decides.{nat_tests}
 use Rattle.std.specs.List.{list_any}
+use Rattle.std.proofs.lemmas.Bool.{and_parts}
 use Rattle.lexical_core.specs.declared.rule.Rule.{Rule}
 use Rattle.lexical_core.specs.declared.rule.Rule.TheVariants.{DuplicateAttribute, BadPrefix, AfterRoot}
 use Rattle.lexical_core.specs.Tree.{Expanded, Entry, Nodes, Element, Text, Tree, TreeIs, Item, Starts, Char, Ends, Skipped, counted, flat, flat_nodes}
@@ -87,10 +88,6 @@ pub none_is : (o : Option Expanded) → is_none o ≡ false → (n : Expanded) �
 none_is None e = absurd cc
 none_is (Some n) e = (n, refl)
 
-or_parts : (a b : Bool) → (a || b) ≡ false → (a ≡ false) × (b ≡ false)
-or_parts true b e = absurd cc
-or_parts false b e = (refl, e)
-
 -- a start tag that breaks no rule has an expanded name, and the root is not over
 pub start_parts : (over : Bool) (a b c : Bool) (x y z : Rule) → cond a (Some x) (cond (b || c) (Some y) (cond over (Some z) None)) ≡ None → (b ≡ false) × (over ≡ false)
 start_parts over true b c x y z e = absurd cc
@@ -116,10 +113,6 @@ start_closes begun false name es (m ∷ ns) items out h = h
 pub names_if : (empty : Bool) (tags : List Opening) (t : Opening) (ns : List Expanded) (n : Expanded) → AreNames tags ns → element_name (t ∷ tags) t.name ≡ Some n → AreNames (if empty then tags else t ∷ tags) (if empty then ns else n ∷ ns)
 names_if true tags t ns n h e = h
 names_if false tags t ns n h e = (e, h)
-
-both_parts : (a b : Bool) → (a && b) ≡ true → (a ≡ true) × (b ≡ true)
-both_parts true b e = (refl, e)
-both_parts false b e = absurd cc
 
 pub first_false : (a b : Bool) → (a && b) ≡ false → b ≡ true → a ≡ false
 first_false true true e h = absurd cc
@@ -147,7 +140,7 @@ ended_closes begun (t ∷ tags) n (m ∷ ns) items e (named, h) later = rw named
 -- the tokens of a whole input close what is open
 tokens_close : (before ts : List Token) (ns : List Expanded) → IsClean before ts → AreNames (open_tags before) ns → is_over (behind before ts) ≡ true → Closes (has_start before) ns (items_in before ts)
 tokens_close before [] ns clean names over =
-    let parts : (has_start before ≡ true) × (is_outside before ≡ true) = both_parts _ _ over in
+    let parts : (has_start before ≡ true) × (is_outside before ≡ true) = and_parts _ _ over in
     rw (no_names (open_tags before) ns names parts.1) parts.0
 tokens_close before (Start tag ∷ ts) ns clean names over = go (λ ms h. tokens_close (Start tag ∷ before) ts ms clean.1 h over) (none_is (element_name (opening tag ∷ open_tags before) (opening tag).name) both.0)
   where

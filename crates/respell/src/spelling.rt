@@ -7,7 +7,7 @@ ghost use Rattle.lexical_core.specs.Names.{xmlns};
 ghost use Rattle.respell.specs.inner.Declaring.{is_new, number_behind, later, numbered_prefix, numbered_attribute};
 ghost use Rattle.fragments.specs.Fragment.{value_byte, written_text, spelling_text, prefix_of, declarations, namespaces_of, attribute_written, needs_none, is_xml};
 
-use lexical_core::Text;
+use lexical_core::{Text, reference_to};
 use markup::Attr;
 use std::alloc::AllocError;
 
@@ -42,15 +42,9 @@ pub(crate) fn push_value(text: &mut Text, value: &[u8]) -> Result<(), AllocError
 fn push_byte(text: &mut Text, byte: u8) -> Result<(), AllocError>
     ensures { OnOk result (text.new ≡ text.old ++ value_byte byte) }
 {
-    match byte {
-        b'&' => text.extend(b"&amp;"),
-        b'<' => text.extend(b"&lt;"),
-        b'>' => text.extend(b"&gt;"),
-        b'\r' => text.extend(b"&#13;"),
-        b'"' => text.extend(b"&quot;"),
-        b'\t' => text.extend(b"&#9;"),
-        b'\n' => text.extend(b"&#10;"),
-        _ => text.extend(&[byte]),
+    match reference_to(byte as char, true) {
+        Some(reference) => text.extend(reference),
+        None => text.extend(&[byte]),
     }
 }
 

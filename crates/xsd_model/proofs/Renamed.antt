@@ -12,39 +12,13 @@ use Rattle.facets.specs.declared.simple.Simple.{Simple}
 use Rattle.reference_check.specs.Forms.{Graph, Form, Slot, form_slots, slot_to, form_to}
 use Rattle.reference_check.specs.Forms as form
 use Rattle.reference_check.specs.Words.{IsOrderedFrom, IsWithin, IsSequence, IsChoice}
+use Rattle.reference_check.proofs.RenamedForms.{slots_to, sequence_to, sequence_from, choice_to, choice_from}
 use Rattle.message_model.specs.Admits.{AdmitsAs, AdmitsChildren, FitsCode, numbers_of}
 use Rattle.message_model.specs.Writes.{named, SpellsCode, WritesAttributes, MayHold, WritesLeaf, WritesContent, WritesAs}
 use Rattle.xsd_model.proofs.Sequences.{slice_get-part, slice_get-back}
 
 abbrev same : Simple → Simple
 same s = s
-
-sequence_there : {P Q : Type 0} (h : P → Q) (slots : List (Slot P)) (d : List ℕ) → IsSequence slots d → IsSequence (map (slot_to h) slots) d
-sequence_there h slots d w = record {
-  ordered = subst (λ n. IsOrderedFrom 0 n d) (sym (length-map slots (slot_to h))) w.ordered;
-  within = λ k s e. (let r = slice_get-back (slot_to h) slots k s e in rw (← r.2) (w.within k r.0 r.1));
-}
-
-sequence_here : {P Q : Type 0} (h : P → Q) (slots : List (Slot P)) (d : List ℕ) → IsSequence (map (slot_to h) slots) d → IsSequence slots d
-sequence_here h slots d w = record {
-  ordered = subst (λ n. IsOrderedFrom 0 n d) (length-map slots (slot_to h)) w.ordered;
-  within = λ k s e. w.within k (slot_to h s) (slice_get-part (slot_to h) slots k s e);
-}
-
-choice_there : {P Q : Type 0} (h : P → Q) (slots : List (Slot P)) (d : List ℕ) → IsChoice slots d → IsChoice (map (slot_to h) slots) d
-choice_there h slots d (k, n, s, e, w, at) = (k, n, slot_to h s, slice_get-part (slot_to h) slots k s e, w, at)
-
-choice_here : {P Q : Type 0} (h : P → Q) (slots : List (Slot P)) (d : List ℕ) → IsChoice (map (slot_to h) slots) d → IsChoice slots d
-choice_here h slots d (k, n, s, e, w, at) = (let r = slice_get-back (slot_to h) slots k s e in (k, n, r.0, r.1, subst (λ x. IsWithin n x) (sym r.2) w, at))
-
-slots_there : {P Q : Type 0} (h : P → Q) (F : Form P Simple) → form_slots (form_to h same F) ≡ map (slot_to h) (form_slots F)
-slots_there h (form.Sequence slots) = refl
-slots_there h (form.Choice slots) = refl
-slots_there h (form.Simple s) = refl
-slots_there h (form.Money c s) = refl
-slots_there h form.Envelope = refl
-slots_there h form.LeftOut = refl
-slots_there h form.Missing = refl
 
 fits_there : {P Q : Type 0} (h : P → Q) (F : Form P Simple) (l : Leaf) → FitsCode F l → FitsCode (form_to h same F) l
 fits_there h (form.Simple s) l x = x
@@ -87,8 +61,8 @@ leaf_here h F v nodes x = absurd x
 module _ {P Q : Type 0} (g : Graph P Simple) (k : Graph Q Simple) (h : P → Q) (like : (p : P) → k (h p) ≡ form_to h same (g p)) where
   mutual
     admits_there : (F : Form P Simple) (v : Value) → AdmitsAs g F v → AdmitsAs k (form_to h same F) v
-    admits_there (form.Sequence slots) (value.Component children) (word, each) = (sequence_there h slots (numbers_of children) word, children_there slots children each)
-    admits_there (form.Choice slots) (value.Component children) (word, each) = (choice_there h slots (numbers_of children) word, children_there slots children each)
+    admits_there (form.Sequence slots) (value.Component children) (word, each) = (sequence_to h slots (numbers_of children) word, children_there slots children each)
+    admits_there (form.Choice slots) (value.Component children) (word, each) = (choice_to h slots (numbers_of children) word, children_there slots children each)
     admits_there (form.Simple s) (value.Simple l) a = a
     admits_there (form.Money c s) (value.Amount l n) (a, b) = (subst (λ F. FitsCode F l) (sym (like c)) (fits_there h (g c) l a), b)
     admits_there form.Envelope (value.External t) a = a
@@ -101,8 +75,8 @@ module _ {P Q : Type 0} (g : Graph P Simple) (k : Graph Q Simple) (h : P → Q) 
 
   mutual
     admits_here : (F : Form P Simple) (v : Value) → AdmitsAs k (form_to h same F) v → AdmitsAs g F v
-    admits_here (form.Sequence slots) (value.Component children) (word, each) = (sequence_here h slots (numbers_of children) word, children_here slots children each)
-    admits_here (form.Choice slots) (value.Component children) (word, each) = (choice_here h slots (numbers_of children) word, children_here slots children each)
+    admits_here (form.Sequence slots) (value.Component children) (word, each) = (sequence_from h slots (numbers_of children) word, children_here slots children each)
+    admits_here (form.Choice slots) (value.Component children) (word, each) = (choice_from h slots (numbers_of children) word, children_here slots children each)
     admits_here (form.Simple s) (value.Simple l) a = a
     admits_here (form.Money c s) (value.Amount l n) (a, b) = (fits_here h (g c) l (subst (λ F. FitsCode F l) (like c) a), b)
     admits_here form.Envelope (value.External t) a = a
@@ -129,7 +103,7 @@ module _ {P Q : Type 0} (g : Graph P Simple) (k : Graph Q Simple) (h : P → Q) 
   content_there ns F (value.Component (Child j v more)) (Text c rest) w = (w.0, content_there ns F (value.Component (Child j v more)) rest w.1)
   content_there ns F (value.Component value.Nothing) (Element n attributes inner rest) w = absurd w
   content_there ns F (value.Component (Child j v more)) (Element n attributes inner rest) ((s, e, (tag, hints, may, written)), behind) =
-      let there : slice_get (form_slots (form_to h same F)) j ≡ Some (slot_to h s) = ap (λ l. slice_get l j) (slots_there h F) ∙ slice_get-part (slot_to h) (form_slots F) j s e in (
+      let there : slice_get (form_slots (form_to h same F)) j ≡ Some (slot_to h s) = ap (λ l. slice_get l j) (slots_to h same F) ∙ slice_get-part (slot_to h) (form_slots F) j s e in (
         (
           slot_to h s,
           there,
@@ -159,7 +133,7 @@ module _ {P Q : Type 0} (g : Graph P Simple) (k : Graph Q Simple) (h : P → Q) 
   content_here ns F (value.Component (Child j v more)) (Text c rest) w = (w.0, content_here ns F (value.Component (Child j v more)) rest w.1)
   content_here ns F (value.Component value.Nothing) (Element n attributes inner rest) w = absurd w
   content_here ns F (value.Component (Child j v more)) (Element n attributes inner rest) ((q, e, (tag, hints, may, written)), behind) =
-      one (slice_get-back (slot_to h) (form_slots F) j q (ap (λ l. slice_get l j) (sym (slots_there h F)) ∙ e)) (λ s w. content_here ns (g s) v inner w) (content_here ns F (value.Component more) rest behind)
+      one (slice_get-back (slot_to h) (form_slots F) j q (ap (λ l. slice_get l j) (sym (slots_to h same F)) ∙ e)) (λ s w. content_here ns (g s) v inner w) (content_here ns F (value.Component more) rest behind)
     where
       one : (s : Slot P) × (slice_get (form_slots F) j ≡ Some s) × (slot_to h s ≡ q) → ((s : P) → WritesContent k ns (form_to h same (g s)) v inner → WritesContent g ns (g s) v inner)
           → WritesContent g ns F (value.Component more) rest → WritesContent g ns F (value.Component (Child j v more)) (Element n attributes inner rest)

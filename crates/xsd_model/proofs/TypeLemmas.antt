@@ -5,19 +5,10 @@ use Rattle.std.proofs.lemmas.Grind.{flat_map-append}
 use Rattle.std.proofs.lemmas.List.{append-nil, take_more, map-append}
 use Rattle.std.proofs.lemmas.List.Concat.{flat_map-cons}
 use Rattle.std.proofs.lemmas.Option.{slice_get_cases, slice_get_within, get_or_from_slice_get}
+use Rattle.lexical_core.proofs.Lists.{take_item}
 use Rattle.message_model.specs.Tables.{Tables, TypeEntry, types_of, form_or_missing}
 use Rattle.xsd_model.specs.declared.schema.SchemaType.{SchemaType}
 use Rattle.xsd_model.specs.SchemaOf.{name_of, name_or_none, types_by, types_of_entry}
-
--- the front of a list with the next item
-take_item : {X : Type 0} (xs : List X) (n : ℕ) (x : X) → slice_get xs n ≡ Some x → take (n + 1) xs ≡ take n xs ++ x ∷ []
-take_item xs n x e = take_more xs n x (slice_get_within xs n x e) ∙ ap (λ y. take n xs ++ y ∷ []) (get_or_from_slice_get xs n x x e)
-
--- one more item of a list is one more item of what it is mapped to
-pub mapped_more : {X Y : Type 0} (f : X → Y) (xs : List X) (n : ℕ) (x : X) (ys new : List Y) (y : Y) → Some x ≡ slice_get xs n → ys ≡ map f (take n xs) → y ≡ f x → new ≡ ys ++ y ∷ []
-    → new ≡ map f (take (n + 1) xs)
-mapped_more f xs n x ys new y there before is grown =
-    grown ∙ (ap (λ l. l ++ y ∷ []) before ∙ (ap (λ z. map f (take n xs) ++ z ∷ []) is ∙ sym (ap (map f) (take_item xs n x (sym there)) ∙ map-append f (take n xs) (x ∷ []))))
 
 flat_map-take_item : {X Y : Type 0} (f : X → List Y) (xs : List X) (n : ℕ) (x : X) → slice_get xs n ≡ Some x → flat_map f (take (n + 1) xs) ≡ flat_map f (take n xs) ++ f x
 flat_map-take_item f xs n x e = ap (flat_map f) (take_item xs n x e) ∙ (flat_map-append f (take n xs) (x ∷ []) ∙ ap (λ l. flat_map f (take n xs) ++ l) (flat_map-cons f x [] ∙ append-nil (f x)))

@@ -1,7 +1,7 @@
 -- One more identifier.
 use Rattle.std.proofs.Common.{ap, ◌∙◌}
+use Rattle.lexical_core.proofs.Lists.{mapped_more}
 use Rattle.asn1_model.specs.Names.{identifier}
-use Rattle.asn1_model.proofs.FieldLemmas.{mapped_more}
 use Rattle.asn1_model.proofs.shapes.identifiers.Goals as goal
 
 pub loop-at-preserved : goal.loop-at-preserved

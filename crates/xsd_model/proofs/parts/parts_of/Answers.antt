@@ -1,7 +1,7 @@
+use Rattle.lexical_core.proofs.Lists.{mapped_more}
 use Rattle.reference_check.specs.Forms.{form_slots}
 use Rattle.message_model.specs.Tables.{types_of}
 use Rattle.xsd_model.specs.SchemaOf.{name_of, part_of}
-use Rattle.xsd_model.proofs.TypeLemmas.{mapped_more}
 use Rattle.xsd_model.proofs.parts.parts_of.Goals as goal
 
 pub loop-at-preserved : goal.loop-at-preserved
