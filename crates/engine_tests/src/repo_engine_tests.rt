@@ -1,7 +1,7 @@
 // What the program's cases cannot show: pieces of every size, and sources and sinks that fail at each call.
 ghost use Rattle.std.specs.Prelude.{◌<◌};
 
-use outside::{MemSink, MemSource, SteadySink, SteadySource};
+use outside::{LentSource, MemSink, MemSource};
 use repo_engine::{Status, run};
 use std::alloc::{AllocError, Global};
 use std::process::Abort;
@@ -35,12 +35,29 @@ const FIRST: [u64; 1] = [0];
 
 const SECOND: [u64; 1] = [1];
 
-/// How a run ended: its status, and what it wrote.
+/// The numbers of the calls that fail.
+#[derive(Clone, Copy)]
+struct Failing<'a> {
+    repo: &'a [u64],
+    inst: &'a [u64],
+    out: &'a [u64],
+    notes: &'a [u64],
+}
+
+/// What a run reads: its words and its sources. The external codes are never pulled.
+#[derive(Drop)]
+struct Input {
+    words: Vec<String>,
+    repo: MemSource,
+    inst: MemSource,
+}
+
+/// How a run ended: its status, and the sinks that it wrote to.
 #[derive(Drop)]
 struct Outcome {
     status: Status,
-    out: Vec<u8>,
-    notes: Vec<u8>,
+    out: MemSink,
+    notes: MemSink,
 }
 
 fn words_of(alloc: Global, texts: &[&str]) -> Result<Vec<String>, AllocError> {
@@ -51,35 +68,66 @@ fn words_of(alloc: Global, texts: &[&str]) -> Result<Vec<String>, AllocError> {
     Ok(words)
 }
 
-/// A run over sources that give at most `piece` bytes a call, and sinks with room for a line.
+/// The input of a run whose sources give at most `piece` bytes a call.
+fn input_of(
+    alloc: Global,
+    texts: &[&str],
+    inst: &[u8],
+    piece: usize,
+    failing: Failing<'_>,
+) -> Result<Input, AllocError>
+    requires { 0 < piece }
+{
+    Ok(Input {
+        words: words_of(alloc, texts)?,
+        repo: MemSource::new(alloc, NOTE, piece, failing.repo)?,
+        inst: MemSource::new(alloc, inst, piece, failing.inst)?,
+    })
+}
+
+/// What a run ends with that has not begun.
+fn before_run(alloc: Global, failing: Failing<'_>) -> Result<Outcome, AllocError> {
+    Ok(Outcome {
+        status: Status::Done,
+        out: MemSink::new(alloc, failing.out)?,
+        notes: MemSink::new(alloc, failing.notes)?,
+    })
+}
+
+/// Runs the words over the sources, into the sinks of the outcome.
+fn run_into(alloc: Global, input: &mut Input, outcome: &mut Outcome) {
+    let mut codes = LentSource::new(b"".as_slice());
+    outcome.status = run(
+        alloc,
+        &input.words,
+        &mut input.repo,
+        &mut codes,
+        &mut input.inst,
+        &mut outcome.out,
+        &mut outcome.notes,
+    );
+}
+
+/// A run over sources that give at most `piece` bytes a call, and in which these calls fail.
 fn outcome_of(
     alloc: Global,
     texts: &[&str],
-    repo: &[u8],
     inst: &[u8],
     piece: usize,
+    failing: Failing<'_>,
 ) -> Result<Outcome, AllocError>
     requires { 0 < piece }
 {
-    let words = words_of(alloc, texts)?;
-    let mut repo = SteadySource::new(alloc, repo, piece)?;
-    let mut codes = SteadySource::new(alloc, b"".as_slice(), 1)?;
-    let mut inst = SteadySource::new(alloc, inst, piece)?;
-    let mut out = SteadySink::with_room(alloc, 256)?;
-    let mut notes = SteadySink::with_room(alloc, 256)?;
-    let status = run(
-        alloc, &words, &mut repo, &mut codes, &mut inst, &mut out, &mut notes,
-    );
-    Ok(Outcome {
-        status,
-        out: Vec::from_slice(alloc, out.bytes())?,
-        notes: Vec::from_slice(alloc, notes.bytes())?,
-    })
+    let mut input = input_of(alloc, texts, inst, piece, failing)?;
+    let mut outcome = before_run(alloc, failing)?;
+    run_into(alloc, &mut input, &mut outcome);
+    Ok(outcome)
 }
 
 #[test]
 fn answers(rt: HostRuntime) -> Result<(), Fail> {
     let nothing = b"".as_slice();
+    let none = failing_of(NO_CALLS.as_slice(), NO_CALLS.as_slice());
     let cases: [(&[&str], &[u8], Status, &[u8], &[u8]); 6] = [
         (
             LIST.as_slice(),
@@ -120,49 +168,28 @@ fn answers(rt: HostRuntime) -> Result<(), Fail> {
     ];
     for (texts, inst, status, out, notes) in cases {
         for piece in [1usize, 7, 4096] {
-            let outcome = outcome_of(rt.alloc(), texts, NOTE, inst, piece)?;
+            let outcome = outcome_of(rt.alloc(), texts, inst, piece, none)?;
             expect_outcome(&rt, &outcome, status, out, notes);
         }
     }
     Ok(())
 }
 
-/// The numbers of the calls that fail.
-#[derive(Clone, Copy)]
-struct Failing<'a> {
-    repo: &'a [u64],
-    inst: &'a [u64],
-    out: &'a [u64],
-    notes: &'a [u64],
-}
-
-/// A run whose sources come in pieces of 64 bytes, and in which these calls fail.
-fn outcome_with_faults(
-    alloc: Global,
-    inst: &[u8],
-    failing: Failing<'_>,
-) -> Result<Outcome, AllocError> {
-    let words = words_of(alloc, CHECK.as_slice())?;
-    let mut repo = MemSource::new(alloc, NOTE, 64, failing.repo)?;
-    let mut codes = SteadySource::new(alloc, b"".as_slice(), 1)?;
-    let mut inst = MemSource::new(alloc, inst, 64, failing.inst)?;
-    let mut out = MemSink::new(alloc, failing.out)?;
-    let mut notes = MemSink::new(alloc, failing.notes)?;
-    let status = run(
-        alloc, &words, &mut repo, &mut codes, &mut inst, &mut out, &mut notes,
-    );
-    Ok(Outcome {
-        status,
-        out: Vec::from_slice(alloc, out.bytes())?,
-        notes: Vec::from_slice(alloc, notes.bytes())?,
-    })
+/// Pushes of these numbers fail, and no pull.
+fn failing_of<'a>(out: &'a [u64], notes: &'a [u64]) -> Failing<'a> {
+    Failing {
+        repo: NO_CALLS.as_slice(),
+        inst: NO_CALLS.as_slice(),
+        out,
+        notes,
+    }
 }
 
 /// Asserts that a run ended so.
 fn expect_outcome(rt: &impl Abort, outcome: &Outcome, status: Status, out: &[u8], notes: &[u8]) {
     assert_eq!(rt; outcome.status, status);
-    assert_eq!(rt; outcome.out.as_slice(), out);
-    assert_eq!(rt; outcome.notes.as_slice(), notes);
+    assert_eq!(rt; outcome.out.bytes(), out);
+    assert_eq!(rt; outcome.notes.bytes(), notes);
 }
 
 /// Asserts that a run whose source failed read nothing more, or that one that never came to the
@@ -198,7 +225,7 @@ fn faults_of_the_repository(rt: HostRuntime) -> Result<(), Fail> {
             out: NO_CALLS.as_slice(),
             notes: NO_CALLS.as_slice(),
         };
-        let outcome = outcome_with_faults(rt.alloc(), A1, failing)?;
+        let outcome = outcome_of(rt.alloc(), CHECK.as_slice(), A1, 64, failing)?;
         expect_read_fault(&rt, &outcome, call <= 12);
     }
     Ok(())
@@ -215,26 +242,20 @@ fn faults_of_the_instance(rt: HostRuntime) -> Result<(), Fail> {
             out: NO_CALLS.as_slice(),
             notes: NO_CALLS.as_slice(),
         };
-        let outcome = outcome_with_faults(rt.alloc(), A1, failing)?;
+        let outcome = outcome_of(rt.alloc(), CHECK.as_slice(), A1, 64, failing)?;
         expect_read_fault(&rt, &outcome, call <= 2);
     }
     Ok(())
 }
 
-/// A run whose pushes of these numbers fail.
+/// A check whose pushes of these numbers fail.
 fn outcome_of_pushes(
     alloc: Global,
     inst: &[u8],
     out: &[u64],
     notes: &[u64],
 ) -> Result<Outcome, AllocError> {
-    let failing = Failing {
-        repo: NO_CALLS.as_slice(),
-        inst: NO_CALLS.as_slice(),
-        out,
-        notes,
-    };
-    outcome_with_faults(alloc, inst, failing)
+    outcome_of(alloc, CHECK.as_slice(), inst, 64, failing_of(out, notes))
 }
 
 #[test]

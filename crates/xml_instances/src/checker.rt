@@ -43,6 +43,10 @@ pub struct XmlChecker {
     failed: Option<InstanceError>,
 }
 
+/// It goes on no more: why stands beside the answer, in what the caller lent for it.
+#[derive(Clone, Copy, Debug)]
+pub(crate) struct Stopped;
+
 /// What an event at the place breaks, as it is told.
 fn told(refusal: Refusal, place: u64) -> InstanceError
     ensures { IsTold refusal place result }

@@ -1,16 +1,18 @@
 -- Fronts of a piece whose refusal is told apart from the answer.
-use Rattle.std.specs.Prelude.{◌≡◌, ℕ, List, Result, Ok, Err, OnOk}
+use Rattle.std.specs.Prelude.{◌≡◌, ℕ, List, Result, Ok, Err, OnOk, IfOk}
 use Rattle.lexical_core.specs.Tree.{Expanded}
 use Rattle.markup.specs.PlainTags.{tag_items}
 use Rattle.markup.specs.declared.plain_tag.TagKind.{TagKind}
 use Rattle.message_model.specs.Message.{Message}
-use Rattle.message_model.specs.Tables.{Tables, message_of}
+use Rattle.message_model.specs.Tables.{Tables, message_of, types_of}
 use Rattle.message_model.specs.declared.fault.InstanceError.{InstanceError}
+use Rattle.message_model.specs.declared.fault.InstanceError.TheVariants.{Memory}
 use Rattle.xml_instances.specs.Levels.{Level}
 use Rattle.xml_instances.specs.Built.{EventsShow}
 use Rattle.xml_instances.specs.Keeping.{GoOn, MayShowName}
-use Rattle.xml_instances.specs.Open.{IsOpen}
+use Rattle.xml_instances.specs.Open.{IsOpen, AreMade}
 use Rattle.xml_instances.specs.Checking.{IsTold}
+use Rattle.xml_instances.specs.Verdicts.{IsLean}
 use Rattle.xml_instances.specs.inner.Quick.{AreItemsTaken, IsOurs}
 use Rattle.xml_instances.specs.declared.content.Content.{Content}
 use Rattle.xml_instances.specs.declared.opened.Refusal.{Refusal}
@@ -33,3 +35,11 @@ IsTagHeld T old new kind name place (Err e) stop = (r : Refusal) × TagTaken {U 
 abbrev pub IsTagShown : {U E : Type 0} → Tables → Content → Content → TagKind → List ℕ → Result U E → Type 0
 IsTagShown T old new kind name result = (ls : List (Level ℕ)) (n : Expanded) → n.local ≡ name → IsOurs (message_of T) ls n → IsOpen old (message_of T) ls
     → MayShowName old.pieces old.innermost n → OnOk result (GoOn old.pieces new.pieces (EventsShow T ls (tag_items kind n)))
+
+-- what becomes of the content by a tag that is held to the message, and of why it stops
+pub record HoldsTag {U E : Type 0} (T : Tables) (old new : Content) (kind : TagKind) (name : List ℕ) (place : ℕ) (result : Result U E) (stop : InstanceError) : Type 0 where
+  pub made : AreMade (types_of T) new
+  pub lean : IsLean old → IsLean new
+  pub none : IfOk result (λ _. stop ≡ Memory)
+  pub taken : IsTagHeld T old new kind name place result stop
+  pub shown : IsTagShown T old new kind name result

@@ -9,7 +9,7 @@ ghost use Rattle.xml_instances.specs.Scratch.{KeepsNoLeaf};
 ghost use Rattle.xml_instances.specs.declared.content.quick.Room.TheVariants.{All as AllCharacters, Blanks as BlankCharacters};
 
 use super::held::hold_tag;
-use super::{XmlChecker, take_all};
+use super::{Stopped, XmlChecker, take_all};
 use crate::content::Room;
 use markup::MarkError;
 use message_model::{InstanceError, Model};
@@ -24,7 +24,7 @@ impl XmlChecker {
         model: &Model,
         piece: &[u8],
         stop: &mut InstanceError,
-    ) -> Result<usize, AllocError>
+    ) -> Result<usize, Stopped>
         requires some { 0 < length piece.now }
         requires room { fed self.old + length piece.now ≤ 2 ^ 40 }
         requires made { IsMadeFor self.old model.now }
@@ -50,7 +50,7 @@ impl XmlChecker {
         model: &Model,
         piece: &[u8],
         stop: &mut InstanceError,
-    ) -> Result<usize, AllocError>
+    ) -> Result<usize, Stopped>
         requires some { 0 < length piece.now }
         requires room { fed self.old + length piece.now ≤ 2 ^ 40 }
         requires made { IsMadeFor self.old model.now }
@@ -77,7 +77,7 @@ impl XmlChecker {
         model: &Model,
         piece: &[u8],
         stop: &mut InstanceError,
-    ) -> Result<usize, AllocError>
+    ) -> Result<usize, Stopped>
         requires some { 0 < length piece.now }
         requires room { fed self.old + length piece.now ≤ 2 ^ 40 }
         requires made { IsMadeFor self.old model.now }
@@ -90,7 +90,7 @@ impl XmlChecker {
     {
         let run = match self.take_run(model, piece) {
             Ok(run) => run,
-            Err(error) => return Err(error),
+            Err(_) => return Err(Stopped),
         };
         if run > 0 {
             return Ok(run);
@@ -105,7 +105,7 @@ impl XmlChecker {
         model: &Model,
         piece: &[u8],
         stop: &mut InstanceError,
-    ) -> Result<usize, AllocError>
+    ) -> Result<usize, Stopped>
         requires some { 0 < length piece.now }
         requires room { fed self.old + length piece.now ≤ 2 ^ 40 }
         requires made { IsMadeFor self.old model.now }
@@ -120,7 +120,7 @@ impl XmlChecker {
             Ok(count) => Ok(count),
             Err(error) => {
                 *stop = error;
-                Err(AllocError)
+                Err(Stopped)
             }
         }
     }
@@ -268,7 +268,7 @@ impl XmlChecker {
         model: &Model,
         piece: &[u8],
         stop: &mut InstanceError,
-    ) -> Result<usize, AllocError>
+    ) -> Result<usize, Stopped>
         requires room { fed self.old + length piece.now ≤ 2 ^ 40 }
         requires made { IsMadeFor self.old model.now }
         requires none { stop.old ≡ Memory }
@@ -285,7 +285,7 @@ impl XmlChecker {
         let tag = match self.reader.take_tag(piece) {
             Ok(Some(tag)) => tag,
             Ok(None) => return Ok(0),
-            Err(_) => return Err(AllocError),
+            Err(_) => return Err(Stopped),
         };
         match hold_tag(&mut self.content, model, tag.kind, tag.name, place, stop) {
             Ok(()) => {

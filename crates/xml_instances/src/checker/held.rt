@@ -1,16 +1,14 @@
 // A tag without attributes, held to the message; the refusal of one is told apart from the answer.
-ghost use Rattle.std.specs.Prelude.{◌≡◌, IfOk};
+ghost use Rattle.std.specs.Prelude.{◌≡◌};
 ghost use Rattle.message_model.specs.Tables.{types_of};
 ghost use Rattle.message_model.specs.declared.fault.InstanceError.TheVariants.{Memory};
 ghost use Rattle.xml_instances.specs.Open.{AreMade};
-ghost use Rattle.xml_instances.specs.inner.Fronts.{IsTagHeld, IsTagShown};
-ghost use Rattle.xml_instances.specs.Verdicts.{IsLean};
+ghost use Rattle.xml_instances.specs.inner.Fronts.{HoldsTag};
 
-use super::told;
+use super::{Stopped, told};
 use crate::content::Content;
 use markup::TagKind;
 use message_model::{InstanceError, Model};
-use std::alloc::AllocError;
 
 /// Holds a tag to the message, whose name is in the namespace of the innermost element. Where it is
 /// refused `stop` says why.
@@ -22,14 +20,10 @@ pub(super) fn hold_tag(
     name: &[u8],
     place: u64,
     stop: &mut InstanceError,
-) -> Result<(), AllocError>
+) -> Result<(), Stopped>
     requires made { AreMade (types_of model.now) content.old }
     requires none { stop.old ≡ Memory }
-    ensures made { AreMade (types_of model.now) content.new }
-    ensures lean { IsLean content.old → IsLean content.new }
-    ensures none { IfOk result (λ _. stop.new ≡ Memory) }
-    ensures taken { IsTagHeld model.now content.old content.new kind name.now place result stop.new }
-    ensures shown { IsTagShown model.now content.old content.new kind name.now result }
+    ensures { HoldsTag model.now content.old content.new kind name.now place result stop.new }
 {
     match content.pass_tag(model, kind, name) {
         Ok(done) => {
@@ -38,7 +32,7 @@ pub(super) fn hold_tag(
             }
             hold_any_tag(content, model, kind, name, place, stop)
         }
-        Err(error) => Err(error),
+        Err(_) => Err(Stopped),
     }
 }
 
@@ -51,20 +45,16 @@ fn hold_any_tag(
     name: &[u8],
     place: u64,
     stop: &mut InstanceError,
-) -> Result<(), AllocError>
+) -> Result<(), Stopped>
     requires made { AreMade (types_of model.now) content.old }
     requires none { stop.old ≡ Memory }
-    ensures made { AreMade (types_of model.now) content.new }
-    ensures lean { IsLean content.old → IsLean content.new }
-    ensures none { IfOk result (λ _. stop.new ≡ Memory) }
-    ensures taken { IsTagHeld model.now content.old content.new kind name.now place result stop.new }
-    ensures shown { IsTagShown model.now content.old content.new kind name.now result }
+    ensures { HoldsTag model.now content.old content.new kind name.now place result stop.new }
 {
     match content.take_any_tag(model, kind, name) {
         Ok(()) => Ok(()),
         Err(refusal) => {
             *stop = told(refusal, place);
-            Err(AllocError)
+            Err(Stopped)
         }
     }
 }
