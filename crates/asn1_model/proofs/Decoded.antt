@@ -12,7 +12,7 @@ use Rattle.facets.specs.declared.simple.Simple.{Simple}
 use Rattle.facets.specs.LeafUnder.{Fits}
 use Rattle.reference_check.specs.Forms.{Graph, Form, Slot}
 use Rattle.reference_check.specs.Forms as form
-use Rattle.reference_check.specs.Words.{times, UpTo, IsWithin, IsOrderedFrom}
+use Rattle.reference_check.specs.Words.{times, UpTo, MayComeTimes, IsOrderedFrom}
 use Rattle.reference_check.proofs.Words.{times-replicate, ordered-weaken}
 use Rattle.message_model.specs.Admits.{AdmitsAs, AdmitsChildren, FitsCode, numbers_of}
 use Rattle.der_model.specs.DerMessage.{DerMessage}
@@ -23,7 +23,7 @@ use Rattle.asn1_model.specs.declared.module.Module.{Module}
 use Rattle.asn1_model.specs.declared.module.AsnShape.{AsnShape}
 use Rattle.asn1_model.specs.declared.module.AsnShape.TheVariants as shape
 use Rattle.asn1_model.specs.Constraints.{IsRealValue}
-use Rattle.asn1_model.specs.Values.{AsnValue, Components, Items, Sequence, Chosen, Listed, Enumerated, NoComponent, Component, NoItem, Item, Part, Due, One, Many, AsnHas, HasComponents, HasItems, ArePresent, component_numbers, count_of, HasCount, find_type, amount_parts}
+use Rattle.asn1_model.specs.Values.{AsnValue, Components, Items, Sequence, Chosen, Listed, Enumerated, NoComponent, Component, NoItem, Item, AsnPart, Due, One, Many, AsnHas, HasComponents, HasItems, ArePresent, component_numbers, count_of, HasCount, find_asn_type, amount_parts}
 use Rattle.asn1_model.specs.Values as asn
 use Rattle.asn1_model.specs.InstanceValues.{asn_value, items_at, components_by, with_values, with_single, chosen_value, chosen_by, in_form, leaf_value}
 use Rattle.asn1_model.specs.ModuleOf.{shape_of, simple_shape, step_of, step_by}
@@ -52,7 +52,7 @@ one_within s n h le = go s.max h
         by_test (inl (t, is)) = omega (arith, le, is)
         by_test (inr (f, other)) = (let x : false ≡ true = rw f at e in absurd cc)
 
-slot_same : {P : Type 0} (g : Graph P Simple) (name : P → List ℕ) (fs : List (Slot P)) (k : ℕ) (s : Slot P) (p : Part) → slice_get fs k ≡ Some s → slice_get (map (part g name) fs) k ≡ Some p → p ≡ part g name s
+slot_same : {P : Type 0} (g : Graph P Simple) (name : P → List ℕ) (fs : List (Slot P)) (k : ℕ) (s : Slot P) (p : AsnPart) → slice_get fs k ≡ Some s → slice_get (map (part g name) fs) k ≡ Some p → p ≡ part g name s
 slot_same g name fs k s p e at = (let both : Some p ≡ Some (part g name s) = sym at ∙ part_at g name fs k s e in cc)
 
 module _ {P : Type 0} (May : P → Type 0) (message : DerMessage P) (name : P → List ℕ) (M : Module) (typed : IsTyped May message.forms name M) where
@@ -88,7 +88,7 @@ module _ {P : Type 0} (May : P → Type 0) (message : DerMessage P) (name : P �
   record IsRead (fs : List (Slot P)) (k : ℕ) (s : Slot P) (a : AsnValue) (ks : Children) (n : ℕ) : Type 0 where
     alike : numbers_of ks ≡ replicate n k
     admits : AdmitsChildren message.forms fs ks
-    within : IsWithin n s
+    within : MayComeTimes n s
     there : (after : Components) → with_values (is_single s) k (items_at message k s ks) after ≡ Component k a after
     value : chosen_value (is_single s) (items_at message k s ks) ≡ a
 
@@ -103,7 +103,7 @@ module _ {P : Type 0} (May : P → Type 0) (message : DerMessage P) (name : P �
   record IsBuilt (all : List (Slot P)) (i : ℕ) (fs : List (Slot P)) (cs : Components) (ks : Children) : Type 0 where
     ordered : IsOrderedFrom i (length all) (numbers_of ks)
     admits : AdmitsChildren message.forms all ks
-    within : (k : ℕ) (s : Slot P) → slice_get fs k ≡ Some s → IsWithin (times (i + k) (numbers_of ks)) s
+    within : (k : ℕ) (s : Slot P) → slice_get fs k ≡ Some s → MayComeTimes (times (i + k) (numbers_of ks)) s
     same : components_by i fs (λ k s. items_at message k s ks) ≡ cs
 
   abbrev Built : List (Slot P) → ℕ → List (Slot P) → Components → Type 0
@@ -133,18 +133,18 @@ module _ {P : Type 0} (May : P → Type 0) (message : DerMessage P) (name : P �
       here : times i (numbers_of more) ≡ 0
       here = times_none (suc i) (length all) i (numbers_of more) b.ordered (omega arith)
 
-      within : (k : ℕ) (t : Slot P) → slice_get (s ∷ fs) k ≡ Some t → IsWithin (times (i + k) (numbers_of (then_children own more))) t
+      within : (k : ℕ) (t : Slot P) → slice_get (s ∷ fs) k ≡ Some t → MayComeTimes (times (i + k) (numbers_of (then_children own more))) t
       within zero t at =
           let is : s ≡ t = cc in
           let c : times (i + 0) (numbers_of (then_children own more)) ≡ n = (let x = count (i + 0) in let z : i + 0 ≡ i = omega arith in ap (λ (m : ℕ). times m (numbers_of (then_children own more))) z ∙ (count i ∙ (ap₂ (λ (x y : ℕ). x + y) (times-replicate i n) here ∙ add_none n))) in
-          subst (λ u. IsWithin (times (i + 0) (numbers_of (then_children own more))) u) is (subst (λ (m : ℕ). IsWithin m s) (sym c) r.within)
+          subst (λ u. MayComeTimes (times (i + 0) (numbers_of (then_children own more))) u) is (subst (λ (m : ℕ). MayComeTimes m s) (sym c) r.within)
         where
           add_none : (m : ℕ) → m + 0 ≡ m
           add_none m = omega arith
       within (suc k) t at =
           let c : times (i + suc k) (numbers_of (then_children own more)) ≡ times (suc i + k) (numbers_of more) =
           (let z : i + suc k ≡ suc i + k = omega arith in ap (λ (m : ℕ). times m (numbers_of (then_children own more))) z ∙ (count (suc i + k) ∙ (ap (λ (x : ℕ). x + times (suc i + k) (numbers_of more)) (times_other (suc i + k) i n (λ q. let w : suc i + k ≡ i = q in omega arith)) ∙ zero-add _))) in
-          subst (λ (m : ℕ). IsWithin m t) (sym c) (b.within k t at)
+          subst (λ (m : ℕ). MayComeTimes m t) (sym c) (b.within k t at)
 
       same : components_by i (s ∷ fs) (λ k s. items_at message k s (then_children own more)) ≡ Component i a cs
       same = ap₂ (λ x r. with_values (is_single s) i x r) (items-join i s own more here)
@@ -169,12 +169,12 @@ module _ {P : Type 0} (May : P → Type 0) (message : DerMessage P) (name : P �
       no_items : items_at message i s ks ≡ NoItem
       no_items = none_items i s ks here
 
-      within : (k : ℕ) (t : Slot P) → slice_get (s ∷ fs) k ≡ Some t → IsWithin (times (i + k) (numbers_of ks)) t
+      within : (k : ℕ) (t : Slot P) → slice_get (s ∷ fs) k ≡ Some t → MayComeTimes (times (i + k) (numbers_of ks)) t
       within zero t at =
           let is : s ≡ t = cc in
           let c : times (i + 0) (numbers_of ks) ≡ 0 = (let z : i + 0 ≡ i = omega arith in ap (λ (m : ℕ). times m (numbers_of ks)) z ∙ here) in
-          subst (λ u. IsWithin (times (i + 0) (numbers_of ks)) u) is (subst (λ (m : ℕ). IsWithin m s) (sym c) (omega (arith, none), one_within s 0 h (omega arith)))
-      within (suc k) t at = (let z : i + suc k ≡ suc i + k = omega arith in subst (λ (m : ℕ). IsWithin (times m (numbers_of ks)) t) (sym z) (b.within k t at))
+          subst (λ u. MayComeTimes (times (i + 0) (numbers_of ks)) u) is (subst (λ (m : ℕ). MayComeTimes m s) (sym c) (omega (arith, none), one_within s 0 h (omega arith)))
+      within (suc k) t at = (let z : i + suc k ≡ suc i + k = omega arith in subst (λ (m : ℕ). MayComeTimes (times m (numbers_of ks)) t) (sym z) (b.within k t at))
 
   component_step : (all : List (Slot P)) (i : ℕ) (s : Slot P) (fs : List (Slot P)) (d rest : List ℕ) (cs : Components) → slice_get all i ≡ Some s → i < length all → component_numbers cs ≡ i ∷ rest → AllRead all cs
       → ((more : Components) → component_numbers more ≡ rest → AllRead all more → Built all (suc i) fs more) → Built all i (s ∷ fs) cs
@@ -275,7 +275,7 @@ module _ {P : Type 0} (May : P → Type 0) (message : DerMessage P) (name : P �
   sequence_read fs cs present read = go (built fs 0 fs cs (zero-add _) (λ k s e. let z : k ≡ 0 + k = omega arith in subst (λ (m : ℕ). slice_get fs m ≡ Some s) z e) present read)
     where
       go : Built fs 0 fs cs → Comes (form.Sequence fs) (Sequence cs)
-      go (ks, b) = (value.Component ks, (record { ordered = b.ordered; within = λ k s e. let z : 0 + k ≡ k = omega arith in subst (λ (m : ℕ). IsWithin (times m (numbers_of ks)) s) z (b.within k s e) }, b.admits), ap Sequence b.same)
+      go (ks, b) = (value.Component ks, (record { ordered = b.ordered; within = λ k s e. let z : 0 + k ≡ k = omega arith in subst (λ (m : ℕ). MayComeTimes (times m (numbers_of ks)) s) z (b.within k s e) }, b.admits), ap Sequence b.same)
 
   choice_read : (fs : List (Slot P)) (k : ℕ) (s : Slot P) (a : AsnValue) → slice_get fs k ≡ Some s → 0 < s.min → Read fs k s a → Comes (form.Choice fs) (Chosen k a)
   choice_read fs k s a e some (ks, n, r) = (value.Component ks, ((k, n, s, e, r.within, r.alike), r.admits), chosen n r.alike (let low = r.within.0 in omega arith))
@@ -298,7 +298,7 @@ module _ {P : Type 0} (May : P → Type 0) (message : DerMessage P) (name : P �
   CodeBack : P → AsnValue → Type 0
   CodeBack c a = (l : Leaf) × FitsCode (message.forms c) l × (leaf_value (message.forms c) l ≡ a)
 
-  code_read : (c : P) → May c → (x : Simple) (a : AsnValue) → message.forms c ≡ form.Simple x → IsSoundSimpleType x → AsnHas message.fragment M (One (find_type (name c) M.types)) a → CodeBack c a
+  code_read : (c : P) → May c → (x : Simple) (a : AsnValue) → message.forms c ≡ form.Simple x → IsSoundSimpleType x → AsnHas message.fragment M (One (find_asn_type (name c) M.types)) a → CodeBack c a
   unfolding CodeBack
   code_read c may x a is sound h =
       let b = leaf_back message.fragment M x a sound (subst (λ (f : Form P Simple). AsnHas message.fragment M (One (shape_of name f)) a) is (subst (λ o. AsnHas message.fragment M (One o) a) (typed c may) h)) in
@@ -308,13 +308,13 @@ module _ {P : Type 0} (May : P → Type 0) (message : DerMessage P) (name : P �
   no_components NoComponent e = refl
   no_components (Component k a rest) e = absurd cc
 
-  amount_made : (c : P) (s : Simple) (a b : AsnValue) → IsSoundType May message.forms (form.Money c s) → (p : Part) → slice_get (amount_parts M (name c) (step_of s)) 0 ≡ Some p → AsnHas message.fragment M p.due a
-      → (q : Part) → slice_get (amount_parts M (name c) (step_of s)) 1 ≡ Some q → AsnHas message.fragment M q.due b → Comes (form.Money c s) (Sequence (Component 0 a (Component 1 b NoComponent)))
+  amount_made : (c : P) (s : Simple) (a b : AsnValue) → IsSoundType May message.forms (form.Money c s) → (p : AsnPart) → slice_get (amount_parts M (name c) (step_of s)) 0 ≡ Some p → AsnHas message.fragment M p.due a
+      → (q : AsnPart) → slice_get (amount_parts M (name c) (step_of s)) 1 ≡ Some q → AsnHas message.fragment M q.due b → Comes (form.Money c s) (Sequence (Component 0 a (Component 1 b NoComponent)))
   unfolding CodeBack
   amount_made c s a b (may, decimal, x, is, sound) p at first q there second =
       go (code_read c may x a is sound (subst (λ d. AsnHas message.fragment M d a) (sym (ap due_of at)) first)) (real_back s b decimal (subst (λ d. AsnHas message.fragment M d b) (sym (ap due_of there)) second))
     where
-      due_of : Option Part → Due
+      due_of : Option AsnPart → Due
       due_of None = One None
       due_of (Some p) = p.due
 
@@ -339,7 +339,7 @@ module _ {P : Type 0} (May : P → Type 0) (message : DerMessage P) (name : P �
       (subst (λ (m : ℕ). Comes (form.Money c s) (Sequence (Component m a (Component 1 b NoComponent)))) (sym zero_is)
       (amount_made c s a b (may, decimal, x, is, sound) p (rw zero_is at at) first q (rw one_is at there) second)))
 
-  envelope_read : (l : Leaf) → asn.IsFragment message.fragment l → Comes form.Envelope (asn.Primitive l)
+  envelope_read : (l : Leaf) → asn.IsFragmentLeaf message.fragment l → Comes form.Envelope (asn.Primitive l)
   envelope_read (Bytes b) (t, plain, e) = (value.External t, plain, ap (λ x. asn.Primitive (Bytes x)) (sym e))
   envelope_read l h = absurd h
 

@@ -12,8 +12,8 @@ use Rattle.asn1_model.specs.declared.module.AsnType.{AsnType}
 use Rattle.asn1_model.specs.declared.module.Field.{Field}
 use Rattle.asn1_model.specs.declared.order.NamedType.{NamedType}
 use Rattle.asn1_model.specs.inner.Fields.{slot_in}
-use Rattle.asn1_model.specs.ModuleOf.{field_of, fields_with, name_of, shape_of, types_with, with_shape}
-use Rattle.asn1_model.specs.inner.Order.{numbered}
+use Rattle.asn1_model.specs.ModuleOf.{field_of, fields_with, asn_name_of, shape_of, types_with, with_shape}
+use Rattle.asn1_model.specs.inner.Order.{numbered_type}
 
 -- what is left of a list, with the item that is told at its place
 drop_item : {X : Type 0} (xs : List X) (n : ℕ) (x : X) → slice_get xs n ≡ Some x → drop n xs ≡ x ∷ drop (n + 1) xs
@@ -65,13 +65,13 @@ with_rest name (Some s) rest = refl
 
 -- one more type
 pub types_more : (T : Tables) (order : List NamedType) (given : List (List ℕ)) (all old new : List AsnType) (n : ℕ) (d : NamedType) (g : List ℕ) → n < length order → Some g ≡ slice_get given n
-    → all ≡ old ++ types_with T (map numbered (drop n order)) (drop n given)
-    → new ≡ old ++ with_shape g (shape_of (name_of T) (types_of T (get_or order n d).number)) []
-    → all ≡ new ++ types_with T (map numbered (drop (n + 1) order)) (drop (n + 1) given)
+    → all ≡ old ++ types_with T (map numbered_type (drop n order)) (drop n given)
+    → new ≡ old ++ with_shape g (shape_of (asn_name_of T) (types_of T (get_or order n d).number)) []
+    → all ≡ new ++ types_with T (map numbered_type (drop (n + 1) order)) (drop (n + 1) given)
 types_more T order given all old new n d g lt there before grown =
     before
-    ∙ (ap (λ l. old ++ types_with T (map numbered l) (drop n given)) (drop_at order n d lt)
-    ∙ (ap (λ l. old ++ types_with T (numbered t ∷ map numbered (drop (n + 1) order)) l) (drop_item given n g (sym there))
+    ∙ (ap (λ l. old ++ types_with T (map numbered_type l) (drop n given)) (drop_at order n d lt)
+    ∙ (ap (λ l. old ++ types_with T (numbered_type t ∷ map numbered_type (drop (n + 1) order)) l) (drop_item given n g (sym there))
     ∙ (ap (λ l. old ++ l) (with_rest g shape rest)
     ∙ (sym (append_assoc old (with_shape g shape []) rest) ∙ ap (λ l. l ++ rest) (sym grown)))))
   where
@@ -79,16 +79,16 @@ types_more T order given all old new n d g lt there before grown =
     t = get_or order n d
 
     shape : Option AsnShape
-    shape = shape_of (name_of T) (types_of T t.number)
+    shape = shape_of (asn_name_of T) (types_of T t.number)
 
     rest : List AsnType
-    rest = types_with T (map numbered (drop (n + 1) order)) (drop (n + 1) given)
+    rest = types_with T (map numbered_type (drop (n + 1) order)) (drop (n + 1) given)
 
 -- no more names
 pub types_end : (T : Tables) (order : List NamedType) (given : List (List ℕ)) (all old : List AsnType) (n : ℕ) → None ≡ slice_get given n
-    → all ≡ old ++ types_with T (map numbered (drop n order)) (drop n given) → old ≡ all
+    → all ≡ old ++ types_with T (map numbered_type (drop n order)) (drop n given) → old ≡ all
 types_end T order given all old n there before =
-    sym (before ∙ ap (λ l. old ++ types_with T (map numbered (drop n order)) l) (drop_none given n there) ∙ ap (λ l. old ++ l) (nameless (map numbered (drop n order))) ∙ append-nil old)
+    sym (before ∙ ap (λ l. old ++ types_with T (map numbered_type (drop n order)) l) (drop_none given n there) ∙ ap (λ l. old ++ l) (nameless (map numbered_type (drop n order))) ∙ append-nil old)
   where
     nameless : (ts : List _) → types_with T ts [] ≡ []
     nameless [] = refl

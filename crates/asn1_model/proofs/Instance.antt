@@ -12,21 +12,21 @@ use Rattle.facets.specs.declared.simple.Simple.{Simple}
 use Rattle.facets.specs.LeafUnder.{Fits}
 use Rattle.reference_check.specs.Forms.{Form, Slot}
 use Rattle.reference_check.specs.Forms as form
-use Rattle.reference_check.specs.Words.{times, UpTo, IsWithin}
+use Rattle.reference_check.specs.Words.{times, UpTo, MayComeTimes}
 use Rattle.reference_check.proofs.Words.{times-replicate}
 use Rattle.message_model.specs.Admits.{AdmitsAs, AdmitsChildren, FitsCode, numbers_of}
 use Rattle.der_octets.specs.Octets.{context, universal, Values, Nothing, Constructed, then_values}
 use Rattle.der_model.specs.DerMessage.{DerMessage}
 use Rattle.der_model.specs.LeafContents.{leaf_contents}
 use Rattle.der_model.specs.Structures.{is_single, simple_number}
-use Rattle.der_model.specs.Der.{Body, Octets, Inner, under, body, values_at, placed, slot_values, all_slots, chosen_slot, alternative}
+use Rattle.der_model.specs.Der.{Body, Octets, Inner, under, body, values_at, placed_value, slot_values, all_slots, chosen_slot, alternative}
 use Rattle.der_model.specs.Der as der
 use Rattle.der_model.proofs.Spelled.{at_most_one, then_under}
 use Rattle.asn1_model.specs.declared.module.Module.{Module}
 use Rattle.asn1_model.specs.declared.module.AsnShape.{AsnShape}
 use Rattle.asn1_model.specs.declared.module.AsnShape.TheVariants as shape
 use Rattle.asn1_model.specs.Constraints.{IsRealValue}
-use Rattle.asn1_model.specs.Values.{AsnValue, Components, Items, Chosen, Listed, NoItem, Item, Part, Due, One, Many, AsnHas, HasComponents, HasItems, contents, component_values, item_values, ArePresent, component_numbers, count_of, HasCount, untagged, tagged, part_of, find_type}
+use Rattle.asn1_model.specs.Values.{AsnValue, Components, Items, Chosen, Listed, NoItem, Item, AsnPart, Due, One, Many, AsnHas, HasComponents, HasItems, contents, component_values, item_values, ArePresent, component_numbers, count_of, HasCount, values_of_item, tagged_values, asn_part_of, find_asn_type}
 use Rattle.asn1_model.specs.Values as asn
 use Rattle.asn1_model.specs.InstanceValues.{asn_value, items_at, components_by, with_values, with_single, chosen_value, single_value, chosen_by, in_form, leaf_value}
 use Rattle.asn1_model.specs.ModuleOf.{shape_of, shape_by, fields_of, step_of, step_by}
@@ -38,12 +38,12 @@ use Rattle.asn1_model.proofs.Primitives.{leaf_there}
 -- ---- tags
 
 -- an item stands in the DER of the module as in that of the value
-item_same : {P : Type 0} (name : P → List ℕ) (f : Form P Simple) (b : Body) (rest : Values) → untagged (shape_of name f) b rest ≡ der.item f b rest
+item_same : {P : Type 0} (name : P → List ℕ) (f : Form P Simple) (b : Body) (rest : Values) → values_of_item (shape_of name f) b rest ≡ der.item f b rest
 item_same name (form.Sequence fs) b rest = refl
 item_same name (form.Choice fs) b rest = refl
 item_same name (form.Simple s) b rest = by_kind s.kind s.codes
   where
-    by_kind : (k : Kind) (codes : Option (List (List ℕ))) → untagged (Some (shape_by k codes s)) b rest ≡ under (universal (simple_number k codes)) b rest
+    by_kind : (k : Kind) (codes : Option (List (List ℕ))) → values_of_item (Some (shape_by k codes s)) b rest ≡ under (universal (simple_number k codes)) b rest
     by_kind kind.Text None = refl
     by_kind kind.Text (Some codes) = refl
     by_kind k codes = refl
@@ -70,8 +70,8 @@ module _ {P : Type 0} (May : P → Type 0) (message : DerMessage P) (name : P �
   abbrev Held : List (Slot P) → ℕ → List (Slot P) → Components → Values → Type 0
   Held all i fs cs x = ArePresent i (map (part message.forms name) fs) (component_numbers cs) × HasComponents message.fragment M (map (part message.forms name) all) cs × (component_values M (map (part message.forms name) all) cs ≡ x)
 
-  at_slot : (all : List (Slot P)) (i : ℕ) (s : Slot P) (inside : Due → Body) (rest : Values) → slice_get all i ≡ Some s → tagged i (slice_get (map (part message.forms name) all) i) inside rest ≡ under (context i) (inside (part message.forms name s).due) rest
-  at_slot all i s inside rest e = ap (λ o. tagged i o inside rest) (part_at message.forms name all i s e)
+  at_slot : (all : List (Slot P)) (i : ℕ) (s : Slot P) (inside : Due → Body) (rest : Values) → slice_get all i ≡ Some s → tagged_values i (slice_get (map (part message.forms name) all) i) inside rest ≡ under (context i) (inside (part message.forms name s).due) rest
+  at_slot all i s inside rest e = ap (λ o. tagged_values i o inside rest) (part_at message.forms name all i s e)
 
   slot_step : (all fs : List (Slot P)) (i : ℕ) (s : Slot P) (a : Items) (v : Values) (cs : Components) (x : Values) → slice_get all i ≡ Some s → Stands i s a v → Held all (suc i) fs cs x
       → Held all i (s ∷ fs) (with_values (is_single s) i a cs) (slot_values i s v x)
@@ -119,10 +119,10 @@ module _ {P : Type 0} (May : P → Type 0) (message : DerMessage P) (name : P �
       go (inl t) r = absurd ((none_more j k _ h).0 t.1)
       go (inr t) r = (rw t.0 (r (none_more j k _ h).1).0, rw t.0 (r (none_more j k _ h).1).1)
 
-  placed_list : (k : ℕ) (s : Slot P) (b : Body) (rest : Values) → is_single s ≡ false → placed message.forms k s b rest ≡ der.item (message.forms s.target) b rest
+  placed_list : (k : ℕ) (s : Slot P) (b : Body) (rest : Values) → is_single s ≡ false → placed_value message.forms k s b rest ≡ der.item (message.forms s.target) b rest
   placed_list k s b rest h = rw h refl
 
-  placed_single : (k : ℕ) (s : Slot P) (b : Body) (rest : Values) → is_single s ≡ true → placed message.forms k s b rest ≡ under (context k) b rest
+  placed_single : (k : ℕ) (s : Slot P) (b : Body) (rest : Values) → is_single s ≡ true → placed_value message.forms k s b rest ≡ under (context k) b rest
   placed_single k s b rest h = rw h refl
 
   one_more : (m n : ℕ) → m ≡ n → suc m ≡ 1 + n
@@ -175,7 +175,7 @@ module _ {P : Type 0} (May : P → Type 0) (message : DerMessage P) (name : P �
         | inr (w, a, has, x) ↦ inr (w, rw q.0 a, has, rw q.0 x)
       ]
 
-  stands_by : (k : ℕ) (s : Slot P) (ks : Children) → IsWithin (times k (numbers_of ks)) s → (is_single s ≡ false → AllItems k s ks) → (is_single s ≡ true → times k (numbers_of ks) ≤ 1 → OneItem k s ks)
+  stands_by : (k : ℕ) (s : Slot P) (ks : Children) → MayComeTimes (times k (numbers_of ks)) s → (is_single s ≡ false → AllItems k s ks) → (is_single s ≡ true → times k (numbers_of ks) ≤ 1 → OneItem k s ks)
       → Stands k s (items_at message k s ks) (values_at message k s ks)
   stands_by k s ks (low, high) all one = go (is_single s) refl
     where
@@ -203,11 +203,11 @@ module _ {P : Type 0} (May : P → Type 0) (message : DerMessage P) (name : P �
   abbrev Chose : List (Slot P) → ℕ → Slot P → Items → Values → Type 0
   Chose fs k s a x = AsnHas message.fragment M (One (Some (shape.Choice (fields_of name fs)))) (Chosen k (chosen_value (is_single s) a)) × (contents M (One (Some (shape.Choice (fields_of name fs)))) (Chosen k (chosen_value (is_single s) a)) ≡ Inner (slot_values k s x Nothing))
 
-  choice_parts : (fs : List (Slot P)) → HasTargets May fs → (k : ℕ) (w : AsnValue) (b : Body) → (p : Part) → slice_get (map (part message.forms name) fs) k ≡ Some p → AsnHas message.fragment M p.due w
+  choice_parts : (fs : List (Slot P)) → HasTargets May fs → (k : ℕ) (w : AsnValue) (b : Body) → (p : AsnPart) → slice_get (map (part message.forms name) fs) k ≡ Some p → AsnHas message.fragment M p.due w
       → AsnHas message.fragment M (One (Some (shape.Choice (fields_of name fs)))) (Chosen k w) × (contents M (One (Some (shape.Choice (fields_of name fs)))) (Chosen k w) ≡ Inner (under (context k) (contents M p.due w) Nothing))
   choice_parts fs targets k w b p e h =
-      let at : slice_get (map (part_of M) (fields_of name fs)) k ≡ Some p = ap (λ ps. slice_get ps k) (parts_are May message.forms name M typed fs targets) ∙ e in
-      ((tt, p, at, h), ap (λ o. Inner (tagged k o (λ e. contents M e w) Nothing)) at)
+      let at : slice_get (map (asn_part_of M) (fields_of name fs)) k ≡ Some p = ap (λ ps. slice_get ps k) (parts_are May message.forms name M typed fs targets) ∙ e in
+      ((tt, p, at, h), ap (λ o. Inner (tagged_values k o (λ e. contents M e w) Nothing)) at)
 
   chose : (fs : List (Slot P)) → HasTargets May fs → (k : ℕ) (s : Slot P) (a : Items) (x : Values) → slice_get fs k ≡ Some s → 0 < s.min → Stands k s a x → Chose fs k s a x
   chose fs targets k s a x e some (listed h has same) = subst (λ b. AsnHas message.fragment M (One (Some (shape.Choice (fields_of name fs)))) (Chosen k (chosen_value b a)) × (contents M (One (Some (shape.Choice (fields_of name fs)))) (Chosen k (chosen_value b a)) ≡ Inner (if b then then_values x Nothing else Constructed (context k) x Nothing))) (sym h)
@@ -235,11 +235,11 @@ module _ {P : Type 0} (May : P → Type 0) (message : DerMessage P) (name : P �
 
   amount_step : (c : P) (s : Simple) (l : Leaf) (n : DecimalNumber) → IsSoundType May message.forms (form.Money c s) → FitsCode (message.forms c) l → Fits s (Number n) → Agrees (form.Money c s) (value.Amount l n)
   amount_step c s l n (may, decimal, x, is, sound) code number = (
-    (tt, (inl (1 ∷ [], refl, inl ([], refl, refl))), ((record { optional = false; due = One (find_type (name c) M.types) }, refl, first.0), ((record { optional = false; due = One (Some (shape.Plain kind.Decimal (step_of s) None)) }, refl, real_there s (Number n) decimal number), tt))),
+    (tt, (inl (1 ∷ [], refl, inl ([], refl, refl))), ((record { optional = false; due = One (find_asn_type (name c) M.types) }, refl, first.0), ((record { optional = false; due = One (Some (shape.Plain kind.Decimal (step_of s) None)) }, refl, real_there s (Number n) decimal number), tt))),
     ap (λ b. Inner (under (context 0) b (under (context 1) (Octets (leaf_contents (Number n))) Nothing))) first.1,
   )
     where
-      first : AsnHas message.fragment M (One (find_type (name c) M.types)) (leaf_value (message.forms c) l) × (contents M (One (find_type (name c) M.types)) (leaf_value (message.forms c) l) ≡ Octets (leaf_contents l))
+      first : AsnHas message.fragment M (One (find_asn_type (name c) M.types)) (leaf_value (message.forms c) l) × (contents M (One (find_asn_type (name c) M.types)) (leaf_value (message.forms c) l) ≡ Octets (leaf_contents l))
       first = subst (λ o. AsnHas message.fragment M (One o) (leaf_value (message.forms c) l) × (contents M (One o) (leaf_value (message.forms c) l) ≡ Octets (leaf_contents l))) (sym (typed c may))
           (subst (λ (f : Form P Simple). AsnHas message.fragment M (One (shape_of name f)) (leaf_value f l) × (contents M (One (shape_of name f)) (leaf_value f l) ≡ Octets (leaf_contents l))) (sym is)
           (leaf_there message.fragment M x l sound (subst (λ (f : Form P Simple). FitsCode f l) is code)))
@@ -254,7 +254,7 @@ module _ {P : Type 0} (May : P → Type 0) (message : DerMessage P) (name : P �
           (here, stands_by j s ks (word.within j s here) (list_items fs j s ks here each) (single_item fs j s ks here each)))))
       agrees (form.Choice fs) ok (value.Component ks) ((k, n, s, e, within, is), each) =
           choice_step fs (λ k s e. (ok k s e).0) k n s ks e is (let some = (ok k s e).2 in let low = within.0 in omega arith) (ok k s e).2
-          (stands_by k s ks (subst (λ (m : ℕ). IsWithin m s) (sym (ap (times k) is ∙ times-replicate k n)) within) (list_items fs k s ks e each) (single_item fs k s ks e each))
+          (stands_by k s ks (subst (λ (m : ℕ). MayComeTimes m s) (sym (ap (times k) is ∙ times-replicate k n)) within) (list_items fs k s ks e each) (single_item fs k s ks e each))
       agrees (form.Simple s) ok (value.Simple l) a = leaf_there message.fragment M s l ok a
       agrees (form.Money c s) ok (value.Amount l n) (code, number) = amount_step c s l n ok code number
       agrees form.Envelope ok (value.External t) a = ((t, a, refl), refl)

@@ -3,7 +3,7 @@ use Rattle.std.proofs.Common.{◌≡◌, ℕ, zero, suc, ◌≤◌, List, length
 use Rattle.std.specs.Str.{chars}
 use Rattle.lexical_core.specs.Decimals.{Number as DecimalNumber, IsDecimal}
 use Rattle.lexical_core.specs.declared.rule.Rule.TheVariants.{BadLength, PatternFails, Digits, OutOfRange}
-use Rattle.pattern_match.specs.Building.{limit}
+use Rattle.pattern_match.specs.Building.{position_limit}
 use Rattle.pattern_match.specs.Reading.{Matches, HasPositionsWithin}
 use Rattle.data_types.specs.WhiteSpace.{IsCollapsed}
 use Rattle.data_types.specs.Leaf.{Leaf, Bytes, Number, Flag, IsLeaf, IsTextLeaf, IsDateLeaf, length_of}
@@ -42,7 +42,7 @@ length_of_size s n h = record { least = least s.min h.least; most = h.most }
     least zero le = omega arith
     least (suc m) le = le
 
-pattern_held : (pattern : Option (List ℕ)) (w : List ℕ) → ((p : List ℕ) → pattern ≡ Some p → HasPositionsWithin (chars p) limit)
+pattern_held : (pattern : Option (List ℕ)) (w : List ℕ) → ((p : List ℕ) → pattern ≡ Some p → HasPositionsWithin (chars p) position_limit)
     → ((p : List ℕ) → pattern ≡ Some p → ((Matches (chars p) w → ⊥) → ⊥)) → HasPattern pattern w
 pattern_held None w sound h = tt
 pattern_held (Some p) w sound h = stable (matches_decided p w (sound p refl)) (h p refl)

@@ -5,7 +5,7 @@ use Rattle.std.specs.Fmt.{decimal}
 use Rattle.std.specs.Str.{bytes_eq}
 use Rattle.std.proofs.lemmas.Fmt.{decimal_injective}
 use Rattle.std.proofs.lemmas.Bool.Decides.{eqb_tells}
-use Rattle.asn1_model.specs.Names.{is_among, candidate, first_free, given_after, hyphen}
+use Rattle.asn1_model.specs.Names.{is_name_among, candidate, first_free, given_after, hyphen}
 use Rattle.asn1_model.proofs.GivenLemmas.{same_name}
 
 -- ---- tests
@@ -25,25 +25,25 @@ without : List ℕ → List (List ℕ) → List (List ℕ)
 without name [] = []
 without name (n ∷ ns) = if bytes_eq name n then ns else n ∷ without name ns
 
-without_length : (name : List ℕ) (ns : List (List ℕ)) → is_among ns name ≡ true → suc (length (without name ns)) ≡ length ns
+without_length : (name : List ℕ) (ns : List (List ℕ)) → is_name_among ns name ≡ true → suc (length (without name ns)) ≡ length ns
 unfolding without
 without_length name [] e = absurd cc
 without_length name (n ∷ ns) e = go (bytes_eq name n) refl (λ h. without_length name ns h)
   where
-    go : (r : Bool) → bytes_eq name n ≡ r → (is_among ns name ≡ true → suc (length (without name ns)) ≡ length ns) → suc (length (without name (n ∷ ns))) ≡ suc (length ns)
+    go : (r : Bool) → bytes_eq name n ≡ r → (is_name_among ns name ≡ true → suc (length (without name ns)) ≡ length ns) → suc (length (without name (n ∷ ns))) ≡ suc (length ns)
     go true h more = rw h refl
-    go false h more = rw h (ap suc (more (let x : (bytes_eq name n || is_among ns name) ≡ true = e in rw h at x)))
+    go false h more = rw h (ap suc (more (let x : (bytes_eq name n || is_name_among ns name) ≡ true = e in rw h at x)))
 
-without_among : (name other : List ℕ) (ns : List (List ℕ)) → other ≢ name → is_among ns other ≡ true → is_among (without name ns) other ≡ true
+without_among : (name other : List ℕ) (ns : List (List ℕ)) → other ≢ name → is_name_among ns other ≡ true → is_name_among (without name ns) other ≡ true
 unfolding without
 without_among name other [] apart e = e
 without_among name other (n ∷ ns) apart e = go (bytes_eq name n) refl (bytes_eq other n) refl (λ h. without_among name other ns apart h)
   where
-    go : (r : Bool) → bytes_eq name n ≡ r → (q : Bool) → bytes_eq other n ≡ q → (is_among ns other ≡ true → is_among (without name ns) other ≡ true) → is_among (without name (n ∷ ns)) other ≡ true
+    go : (r : Bool) → bytes_eq name n ≡ r → (q : Bool) → bytes_eq other n ≡ q → (is_name_among ns other ≡ true → is_name_among (without name ns) other ≡ true) → is_name_among (without name (n ∷ ns)) other ≡ true
     go true h true g more = absurd (apart (same_name other n g ∙ sym (same_name name n h)))
-    go true h false g more = rw h (let x : (bytes_eq other n || is_among ns other) ≡ true = e in rw g at x)
+    go true h false g more = rw h (let x : (bytes_eq other n || is_name_among ns other) ≡ true = e in rw g at x)
     go false h true g more = rw (h, g) refl
-    go false h false g more = rw (h, g) (more (let x : (bytes_eq other n || is_among ns other) ≡ true = e in rw g at x))
+    go false h false g more = rw (h, g) (more (let x : (bytes_eq other n || is_name_among ns other) ≡ true = e in rw g at x))
 
 longer : (name more : List ℕ) → name ≡ name ++ (hyphen ∷ more) → ⊥
 longer [] more e = absurd cc
@@ -64,7 +64,7 @@ candidates_apart name (suc i) (suc j) p q e = decimal_injective (suc i) (suc j) 
     tail_same e = cc
 
 -- so many candidates and one more are not all among fewer names
-many : (name : List ℕ) (f k : ℕ) (ns : List (List ℕ)) → k + f < 2 ^ 64 → ((j : ℕ) → k ≤ j → j ≤ k + f → is_among ns (candidate name j) ≡ true) → f < length ns
+many : (name : List ℕ) (f k : ℕ) (ns : List (List ℕ)) → k + f < 2 ^ 64 → ((j : ℕ) → k ≤ j → j ≤ k + f → is_name_among ns (candidate name j) ≡ true) → f < length ns
 many name zero k ns small all = (let e = without_length (candidate name k) ns (all k (omega arith) (omega arith)) in omega arith)
 many name (suc f) k ns small all =
     let e = without_length (candidate name (k + suc f)) ns (all (k + suc f) (omega arith) (omega arith)) in
@@ -75,45 +75,45 @@ many name (suc f) k ns small all =
     omega arith
 
 -- what is found is free, or all that were tried were given
-free_or_all : (name : List ℕ) (f k : ℕ) (taken : List (List ℕ)) → (is_among taken (first_free f taken name k) ≡ false) ⊎ ((j : ℕ) → k ≤ j → j ≤ k + f → is_among taken (candidate name j) ≡ true)
-free_or_all name zero k taken = go (is_among taken (candidate name k)) refl
+free_or_all : (name : List ℕ) (f k : ℕ) (taken : List (List ℕ)) → (is_name_among taken (first_free f taken name k) ≡ false) ⊎ ((j : ℕ) → k ≤ j → j ≤ k + f → is_name_among taken (candidate name j) ≡ true)
+free_or_all name zero k taken = go (is_name_among taken (candidate name k)) refl
   where
-    go : (r : Bool) → is_among taken (candidate name k) ≡ r → (is_among taken (candidate name k) ≡ false) ⊎ ((j : ℕ) → k ≤ j → j ≤ k + zero → is_among taken (candidate name j) ≡ true)
-    go true e = inr (λ j low high. let same : j ≡ k = omega arith in subst (λ (x : ℕ). is_among taken (candidate name x) ≡ true) (sym same) e)
+    go : (r : Bool) → is_name_among taken (candidate name k) ≡ r → (is_name_among taken (candidate name k) ≡ false) ⊎ ((j : ℕ) → k ≤ j → j ≤ k + zero → is_name_among taken (candidate name j) ≡ true)
+    go true e = inr (λ j low high. let same : j ≡ k = omega arith in subst (λ (x : ℕ). is_name_among taken (candidate name x) ≡ true) (sym same) e)
     go false e = inl e
-free_or_all name (suc f) k taken = go (is_among taken (candidate name k)) refl (free_or_all name f (suc k) taken)
+free_or_all name (suc f) k taken = go (is_name_among taken (candidate name k)) refl (free_or_all name f (suc k) taken)
   where
-    go : (r : Bool) → is_among taken (candidate name k) ≡ r → (is_among taken (first_free f taken name (suc k)) ≡ false) ⊎ ((j : ℕ) → suc k ≤ j → j ≤ suc k + f → is_among taken (candidate name j) ≡ true)
-        → (is_among taken (first_free (suc f) taken name k) ≡ false) ⊎ ((j : ℕ) → k ≤ j → j ≤ k + suc f → is_among taken (candidate name j) ≡ true)
+    go : (r : Bool) → is_name_among taken (candidate name k) ≡ r → (is_name_among taken (first_free f taken name (suc k)) ≡ false) ⊎ ((j : ℕ) → suc k ≤ j → j ≤ suc k + f → is_name_among taken (candidate name j) ≡ true)
+        → (is_name_among taken (first_free (suc f) taken name k) ≡ false) ⊎ ((j : ℕ) → k ≤ j → j ≤ k + suc f → is_name_among taken (candidate name j) ≡ true)
     go false e rest = inl (rw e e)
     go true e (inl free) = inl (rw e free)
     go true e (inr all) = inr (λ j low high. first j low high)
       where
-        first : (j : ℕ) → k ≤ j → j ≤ k + suc f → is_among taken (candidate name j) ≡ true
+        first : (j : ℕ) → k ≤ j → j ≤ k + suc f → is_name_among taken (candidate name j) ≡ true
         first j low high = by_place (eqb_tells j k)
           where
-            by_place : ((eqb j k ≡ true) × (j ≡ k)) ⊎ ((eqb j k ≡ false) × (j ≢ k)) → is_among taken (candidate name j) ≡ true
-            by_place (inl (t, same)) = subst (λ (x : ℕ). is_among taken (candidate name x) ≡ true) (sym same) e
+            by_place : ((eqb j k ≡ true) × (j ≡ k)) ⊎ ((eqb j k ≡ false) × (j ≢ k)) → is_name_among taken (candidate name j) ≡ true
+            by_place (inl (t, same)) = subst (λ (x : ℕ). is_name_among taken (candidate name x) ≡ true) (sym same) e
             by_place (inr (f, other)) = all j (omega (arith, other)) (omega arith)
 
-pub given_is_new : (name : List ℕ) (taken : List (List ℕ)) → length taken < 2 ^ 64 → is_among taken (first_free (length taken) taken name 0) ≡ false
+pub given_is_new : (name : List ℕ) (taken : List (List ℕ)) → length taken < 2 ^ 64 → is_name_among taken (first_free (length taken) taken name 0) ≡ false
 given_is_new name taken small = go (free_or_all name (length taken) 0 taken)
   where
-    go : (is_among taken (first_free (length taken) taken name 0) ≡ false) ⊎ ((j : ℕ) → 0 ≤ j → j ≤ 0 + length taken → is_among taken (candidate name j) ≡ true) → is_among taken (first_free (length taken) taken name 0) ≡ false
+    go : (is_name_among taken (first_free (length taken) taken name 0) ≡ false) ⊎ ((j : ℕ) → 0 ≤ j → j ≤ 0 + length taken → is_name_among taken (candidate name j) ≡ true) → is_name_among taken (first_free (length taken) taken name 0) ≡ false
     go (inl free) = free
     go (inr all) = absurd (let n = many name (length taken) 0 taken (omega arith) all in omega arith)
 
 -- each name is none of those before it
 abbrev pub AreNew : List (List ℕ) → List (List ℕ) → Type 0
 AreNew taken [] = Unit {0}
-AreNew taken (n ∷ ns) = (is_among taken n ≡ false) × AreNew (n ∷ taken) ns
+AreNew taken (n ∷ ns) = (is_name_among taken n ≡ false) × AreNew (n ∷ taken) ns
 
 pub given_are_new : (taken ns : List (List ℕ)) → length taken + length ns < 2 ^ 64 → AreNew taken (given_after taken ns)
 given_are_new taken [] small = tt
 given_are_new taken (n ∷ ns) small = (given_is_new n taken (omega arith), given_are_new (first_free (length taken) taken n 0 ∷ taken) ns (omega arith))
 
 -- what is given later is none of what was given
-pub later_new : (taken ns : List (List ℕ)) (k : ℕ) → AreNew taken ns → k < length ns → is_among taken (get_or ns k []) ≡ false
+pub later_new : (taken ns : List (List ℕ)) (k : ℕ) → AreNew taken ns → k < length ns → is_name_among taken (get_or ns k []) ≡ false
 later_new taken [] k new lt = absurd (omega arith)
 later_new taken (n ∷ ns) zero new lt = new.0
-later_new taken (n ∷ ns) (suc k) new lt = (neither (bytes_eq (get_or ns k []) n) (is_among taken (get_or ns k [])) (later_new (n ∷ taken) ns k new.1 (omega arith))).1
+later_new taken (n ∷ ns) (suc k) new lt = (neither (bytes_eq (get_or ns k []) n) (is_name_among taken (get_or ns k [])) (later_new (n ∷ taken) ns k new.1 (omega arith))).1

@@ -5,15 +5,15 @@ use Rattle.std.specs.List.{AllByRecursion}
 use Rattle.std.specs.Option.{option_map}
 use Rattle.std.specs.Prelude.{slice_get}
 use Rattle.message_model.specs.Tables.{Tables, TypeEntry}
-use Rattle.asn1_model.specs.ModuleOf.{Numbered, insert, comes_before, sorted_from, by_name, name_in}
-use Rattle.asn1_model.specs.inner.Order.{numbered_from, sorted}
+use Rattle.asn1_model.specs.ModuleOf.{Numbered, insert_numbered, comes_before, sorted_from, by_name, name_in}
+use Rattle.asn1_model.specs.inner.Order.{numbered_from, sorted_by_name}
 
-sorted_from_is : (k : ℕ) (ts : List TypeEntry) → sorted (numbered_from k ts) ≡ sorted_from k ts
+sorted_from_is : (k : ℕ) (ts : List TypeEntry) → sorted_by_name (numbered_from k ts) ≡ sorted_from k ts
 sorted_from_is k [] = refl
-sorted_from_is k (t ∷ ts) = ap (insert (record { number = k; name = t.name })) (sorted_from_is (suc k) ts)
+sorted_from_is k (t ∷ ts) = ap (insert_numbered (record { number = k; name = t.name })) (sorted_from_is (suc k) ts)
 
 -- sorted, they are those by name
-pub sorted_numbered : (T : Tables) → sorted (numbered_from 0 T.types) ≡ by_name T
+pub sorted_numbered : (T : Tables) → sorted_by_name (numbered_from 0 T.types) ≡ by_name T
 sorted_numbered T = sorted_from_is 0 T.types
 
 more_from : (k : ℕ) (ts : List TypeEntry) (n : ℕ) (name : List ℕ) → Some name ≡ option_map (λ (t : TypeEntry). t.name) (slice_get ts n)
@@ -48,11 +48,11 @@ not_nameless (t ∷ ts) (suc n) lt e = not_nameless ts n (omega (arith, lt)) e
 abbrev AreOthers : ℕ → List Numbered → Type 0
 AreOthers p ts = AllByRecursion (λ (t : Numbered). eqb t.number p ≡ false) ts
 
-others_insert : (p : ℕ) (t : Numbered) (us : List Numbered) → eqb t.number p ≡ false → AreOthers p us → AreOthers p (insert t us)
+others_insert : (p : ℕ) (t : Numbered) (us : List Numbered) → eqb t.number p ≡ false → AreOthers p us → AreOthers p (insert_numbered t us)
 others_insert p t [] here all = (here, tt)
 others_insert p t (u ∷ us) here all = by (comes_before u t) (others_insert p t us here all.1)
   where
-    by : (b : Bool) → AreOthers p (insert t us) → AreOthers p (if b then u ∷ insert t us else t ∷ u ∷ us)
+    by : (b : Bool) → AreOthers p (insert_numbered t us) → AreOthers p (if b then u ∷ insert_numbered t us else t ∷ u ∷ us)
     by true rest = (all.0, rest)
     by false rest = (here, all)
 

@@ -9,31 +9,31 @@ use Rattle.der_model.specs.Structures.{is_single}
 use Rattle.asn1_model.specs.declared.module.Module.{Module}
 use Rattle.asn1_model.specs.declared.module.AsnShape.{AsnShape}
 use Rattle.asn1_model.specs.declared.module.Mode.TheVariants as mode
-use Rattle.asn1_model.specs.Values.{Part, One, Many, part_of, due_by, is_optional, find_type}
+use Rattle.asn1_model.specs.Values.{AsnPart, One, Many, asn_part_of, due_by, is_optional, find_asn_type}
 use Rattle.asn1_model.specs.ModuleOf.{fields_of, fields_with, mode_of, slot_identifier, shape_of}
 use Rattle.asn1_model.specs.Names.{given_names}
 use Rattle.asn1_model.proofs.TypeNameLemmas.{length-given}
 
 -- the component that a slot is
-abbrev pub part : {P : Type 0} → Graph P Simple → (P → List ℕ) → Slot P → Part
+abbrev pub part : {P : Type 0} → Graph P Simple → (P → List ℕ) → Slot P → AsnPart
 part g name s = record { optional = is_optional (mode_of s); due = due_by (mode_of s) (shape_of name (g s.target)) }
 
 -- under the name of a type that may be referred to stands its shape
 abbrev pub IsTyped : {P : Type 0} → (P → Type 0) → Graph P Simple → (P → List ℕ) → Module → Type 0
-IsTyped {P} May g name M = (p : P) → May p → find_type (name p) M.types ≡ shape_of name (g p)
+IsTyped {P} May g name M = (p : P) → May p → find_asn_type (name p) M.types ≡ shape_of name (g p)
 
 abbrev pub HasTargets : {P : Type 0} → (P → Type 0) → List (Slot P) → Type 0
 HasTargets {P} May fs = (k : ℕ) (s : Slot P) → slice_get fs k ≡ Some s → May s.target
 
 parts_with : {P : Type 0} (May : P → Type 0) (g : Graph P Simple) (name : P → List ℕ) (M : Module) → IsTyped May g name M → (fs : List (Slot P)) → HasTargets May fs → (ns : List (List ℕ)) → length ns ≡ length fs
-    → map (part_of M) (fields_with name fs ns) ≡ map (part g name) fs
+    → map (asn_part_of M) (fields_with name fs ns) ≡ map (part g name) fs
 parts_with May g name M typed [] t [] e = refl
 parts_with May g name M typed [] t (n ∷ ns) e = absurd cc
 parts_with May g name M typed (s ∷ fs) t [] e = absurd cc
 parts_with May g name M typed (s ∷ fs) t (n ∷ ns) e =
-    ap₂ (λ (p : Part) (ps : List Part). p ∷ ps) (ap (λ (o : Option AsnShape). record { optional = is_optional (mode_of s); due = due_by (mode_of s) o }) (typed s.target (t 0 s refl))) (parts_with May g name M typed fs (λ k u e. t (suc k) u e) ns cc)
+    ap₂ (λ (p : AsnPart) (ps : List AsnPart). p ∷ ps) (ap (λ (o : Option AsnShape). record { optional = is_optional (mode_of s); due = due_by (mode_of s) o }) (typed s.target (t 0 s refl))) (parts_with May g name M typed fs (λ k u e. t (suc k) u e) ns cc)
 
-pub parts_are : {P : Type 0} (May : P → Type 0) (g : Graph P Simple) (name : P → List ℕ) (M : Module) → IsTyped May g name M → (fs : List (Slot P)) → HasTargets May fs → map (part_of M) (fields_of name fs) ≡ map (part g name) fs
+pub parts_are : {P : Type 0} (May : P → Type 0) (g : Graph P Simple) (name : P → List ℕ) (M : Module) → IsTyped May g name M → (fs : List (Slot P)) → HasTargets May fs → map (asn_part_of M) (fields_of name fs) ≡ map (part g name) fs
 parts_are May g name M typed fs t = parts_with May g name M typed fs t (given_names (map slot_identifier fs)) (length-given [] (map slot_identifier fs) ∙ length-map fs slot_identifier)
 
 pub part_at : {P : Type 0} (g : Graph P Simple) (name : P → List ℕ) (fs : List (Slot P)) (k : ℕ) (s : Slot P) → slice_get fs k ≡ Some s → slice_get (map (part g name) fs) k ≡ Some (part g name s)
@@ -41,7 +41,7 @@ part_at g name [] k s e = absurd cc
 part_at g name (t ∷ fs) zero s e = (let same : t ≡ s = cc in ap (λ x. Some (part g name x)) same)
 part_at g name (t ∷ fs) (suc k) s e = part_at g name fs k s e
 
-pub slot_of_part : {P : Type 0} (g : Graph P Simple) (name : P → List ℕ) (fs : List (Slot P)) (k : ℕ) (p : Part) → slice_get (map (part g name) fs) k ≡ Some p → (s : Slot P) × (slice_get fs k ≡ Some s) × (p ≡ part g name s)
+pub slot_of_part : {P : Type 0} (g : Graph P Simple) (name : P → List ℕ) (fs : List (Slot P)) (k : ℕ) (p : AsnPart) → slice_get (map (part g name) fs) k ≡ Some p → (s : Slot P) × (slice_get fs k ≡ Some s) × (p ≡ part g name s)
 slot_of_part g name [] k p e = absurd cc
 slot_of_part g name (t ∷ fs) zero p e = (t, refl, (let same : part g name t ≡ p = cc in sym same))
 slot_of_part g name (t ∷ fs) (suc k) p e = slot_of_part g name fs k p e

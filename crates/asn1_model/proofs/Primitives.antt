@@ -22,7 +22,7 @@ use Rattle.asn1_model.specs.Constraints.{IsTextValue, IsRealValue, IsOctetsValue
 use Rattle.asn1_model.specs.Values.{AsnValue, One, Primitive, Enumerated, Sequence, Chosen, Listed, AsnHas, contents, identifier_place}
 use Rattle.asn1_model.specs.InstanceValues.{leaf_by}
 use Rattle.asn1_model.specs.ModuleOf.{step_by, shape_by, simple_shape, code_names}
-use Rattle.asn1_model.specs.Names.{is_among, identifier}
+use Rattle.asn1_model.specs.Names.{is_name_among, asn_identifier}
 use Rattle.asn1_model.specs.Sound.{IsSoundSimpleType}
 use Rattle.asn1_model.proofs.GivenLemmas.{self_same}
 use Rattle.asn1_model.proofs.TypeNameLemmas.{length-given}
@@ -36,14 +36,14 @@ place_is : (taken ns : List (List ℕ)) (k : ℕ) → AreNew taken ns → k < le
 place_is taken [] k new lt = absurd (omega arith)
 place_is taken (n ∷ ns) zero new lt = rw (self_same n) refl
 place_is taken (n ∷ ns) (suc k) new lt =
-    let apart = (neither (bytes_eq (get_or ns k []) n) (is_among taken (get_or ns k [])) (later_new (n ∷ taken) ns k new.1 (omega arith))).0 in
+    let apart = (neither (bytes_eq (get_or ns k []) n) (is_name_among taken (get_or ns k [])) (later_new (n ∷ taken) ns k new.1 (omega arith))).0 in
     rw apart (ap suc (place_is (n ∷ taken) ns k new.1 (omega arith)))
 
 names_length : (codes : List (List ℕ)) → length (code_names codes) ≡ length codes
-names_length codes = length-given [] (map identifier codes) ∙ length-map codes identifier
+names_length codes = length-given [] (map asn_identifier codes) ∙ length-map codes asn_identifier
 
 names_new : (codes : List (List ℕ)) → length codes < 2 ^ 64 → AreNew [] (code_names codes)
-names_new codes few = given_are_new [] (map identifier codes) (let e = length-map codes identifier in omega arith)
+names_new codes few = given_are_new [] (map asn_identifier codes) (let e = length-map codes asn_identifier in omega arith)
 
 -- ---- the leaf of a simple type
 

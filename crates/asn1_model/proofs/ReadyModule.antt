@@ -13,7 +13,7 @@ use Rattle.der_model.specs.DerMessage.{DerMessage, in_der}
 use Rattle.der_model.specs.Der.{SpellsDer, der_of}
 use Rattle.asn1_model.specs.Values.{AsnValue}
 use Rattle.asn1_model.specs.Agreement.{EncodesAs}
-use Rattle.asn1_model.specs.Sound.{IsSound}
+use Rattle.asn1_model.specs.Sound.{IsSoundAsn}
 use Rattle.asn1_model.proofs.ReadyTypes.{types_are_sound}
 use Rattle.asn1_model.proofs.Renamed.{admits_there, admits_here, der_alike}
 use Rattle.asn1_model.proofs.Agreement.{admits_the_same}
@@ -39,7 +39,7 @@ module _ (R : Contents) (m : List ℕ) (ids : List (List ℕ)) (T : Tables) (mad
   spells_here bytes v (admits, e) =
       (admits_here (place_of ids) (types_of T) (types R m) like (types_of T 0) v (subst (λ F. AdmitsAs (types R m) F v) (like 0) admits), e ∙ sym (der_same v))
 
-pub compiled_are_sound : (R : Contents) (m : List ℕ) (ids : List (List ℕ)) (T : Tables) → IsRepository R → IsReady R m → IsReachedList R m ids → Compiles R m ids T → IsSound T
+pub compiled_are_sound : (R : Contents) (m : List ℕ) (ids : List (List ℕ)) (T : Tables) → IsRepository R → IsReady R m → IsReachedList R m ids → Compiles R m ids T → IsSoundAsn T
 compiled_are_sound R m ids T whole ready list made = types_are_sound R m whole ready ids list T made
 
 -- the bytes of the values of the module, and those of the instances of the message

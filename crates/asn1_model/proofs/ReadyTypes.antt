@@ -23,12 +23,12 @@ use Rattle.repo_objects.specs.declared.objects.Object.{Object}
 use Rattle.repo_objects.specs.declared.objects.ObjectKind.{ObjectKind}
 use Rattle.repo_objects.specs.declared.objects.ObjectKind.TheVariants as object
 use Rattle.repo_objects.specs.Objects.{HasObjectTexts, IsXmlTextIfAny}
-use Rattle.repo_objects.specs.Repository.{Entry, Contents, IsRepository, HasEntryTexts}
+use Rattle.repo_objects.specs.Repository.{DictionaryEntry, Contents, IsRepository, HasEntryTexts}
 use Rattle.reference_check.specs.CodeTexts.{text_of_code}
 use Rattle.reference_check.specs.Forms.{Form, Slot, form_slots, form_to, slot_to}
 use Rattle.reference_check.specs.Forms as form
 use Rattle.reference_check.specs.Graph.{Place, document, message, entry, nowhere, find_entry, find_message, simple_form, object_form, entry_form, message_form, document_form}
-use Rattle.reference_check.specs.Names.{is_name, is_name_first}
+use Rattle.reference_check.specs.Names.{is_profile_name, is_name_first}
 use Rattle.reference_check.specs.Reach.{Reaches, itself}
 use Rattle.reference_check.specs.Rules.{BadName, TooMany, set_codes}
 use Rattle.reference_check.proofs.Sizes.{set_code_texts}
@@ -48,7 +48,7 @@ use Rattle.xsd_model.proofs.ReadyFacets.{message_found, facets_at}
 use Rattle.xsd_model.proofs.ReadyNames.{listed}
 use Rattle.xsd_model.proofs.Sequences.{slice_get-part}
 use Rattle.asn1_model.specs.Names.{is_in_name}
-use Rattle.asn1_model.specs.Sound.{IsSoundSimpleType, IsSoundType, MayBeReferredTo, BeginsName, AllBegin, IsSound}
+use Rattle.asn1_model.specs.Sound.{IsSoundSimpleType, IsSoundType, MayBeReferredTo, BeginsName, AllBegin, IsSoundAsn}
 
 -- ---- the texts of codes
 
@@ -71,7 +71,7 @@ all_at [] k text all e = absurd cc
 all_at (other ∷ others) zero text (first, all) e = (let same : other ≡ text = cc in subst IsXmlText same first)
 all_at (other ∷ others) (suc k) text (first, all) e = all_at others k text all e
 
-found_texts : (id : List ℕ) (es : List Entry) (o : Object) → All HasEntryTexts es → find_entry id es ≡ Some o → HasObjectTexts o
+found_texts : (id : List ℕ) (es : List DictionaryEntry) (o : Object) → All HasEntryTexts es → find_entry id es ≡ Some o → HasObjectTexts o
 found_texts id [] o all e = absurd cc
 found_texts id (x ∷ es) o all e = by (bytes_eq x.id id) (found_texts id es o (All-tail HasEntryTexts x es all)) e
   where
@@ -87,7 +87,7 @@ letter_in_name b e = grind (arith, nat_tests)
 underscore : (b : ℕ) → (b == 95) ≡ true → b ≡ 95
 underscore b e = grind (arith, nat_tests)
 
-begins : (name : List ℕ) → (is_name name ≡ false → ⊥) → BeginsName name
+begins : (name : List ℕ) → (is_profile_name name ≡ false → ⊥) → BeginsName name
 begins [] good = absurd (good refl)
 begins (b ∷ bs) good = first (is_name_first b) refl
   where
@@ -192,12 +192,12 @@ module _ (R : Contents) (m : List ℕ) (whole : IsRepository R) (ready : IsReady
   begins_at document at = inl refl
   begins_at message at =
       let d = message_found R m ready in
-      let good : is_name d.0.name ≡ false → ⊥ = λ bad. ready (OnObjects BadName) message itself (rw d.1 (d.0.name, (0, omega arith, refl), bad)) in
+      let good : is_profile_name d.0.name ≡ false → ⊥ = λ bad. ready (OnObjects BadName) message itself (rw d.1 (d.0.name, (0, omega arith, refl), bad)) in
       subst (λ o. BeginsName (message_name o)) (sym d.1) (begins d.0.name good)
   begins_at (entry id) (inl e) = absurd cc
   begins_at (entry id) (inr reach) =
       let there = object_there R m ready id reach in
-      let good : is_name there.0.name ≡ false → ⊥ = λ bad. ready (OnObjects BadName) (entry id) reach (rw there.1 (there.0.name, (0, omega arith, refl), bad)) in
+      let good : is_profile_name there.0.name ≡ false → ⊥ = λ bad. ready (OnObjects BadName) (entry id) reach (rw there.1 (there.0.name, (0, omega arith, refl), bad)) in
       subst (λ o. BeginsName (object_name o)) (sym there.1) (begins there.0.name good)
   begins_at nowhere (inl e) = absurd cc
   begins_at nowhere (inr reach) = absurd (elim reach [ ])
@@ -266,7 +266,7 @@ module _ (R : Contents) (m : List ℕ) (whole : IsRepository R) (ready : IsReady
         let rest : map (λ (x : TypeEntry). x.name) ts ≡ map (place_name R m) (message ∷ map entry ids) = cc in
         (t, ts, refl, own, all_begin R m ts (message ∷ map entry ids) rest (λ n p at. begins_at p (listed R m ready ids list (suc n) p at)))
 
-    pub types_are_sound : IsSound T
+    pub types_are_sound : IsSoundAsn T
     types_are_sound = record {
       forms = λ n. type_sound n (types_of T n) refl;
       few = (let few = tables_few R m ready ids list T made in omega (arith, few));

@@ -11,13 +11,13 @@ use Rattle.data_types.specs.Value as value
 use Rattle.facets.specs.declared.simple.Simple.{Simple}
 use Rattle.reference_check.specs.Forms.{Graph, Form, Slot, form_to, slot_to}
 use Rattle.reference_check.specs.Forms as form
-use Rattle.reference_check.specs.Words.{IsOrderedFrom, IsWithin, IsSequence, IsChoice}
+use Rattle.reference_check.specs.Words.{IsOrderedFrom, MayComeTimes, IsSequence, IsChoice}
 use Rattle.message_model.specs.Admits.{AdmitsAs, AdmitsChildren, FitsCode, numbers_of}
 use Rattle.der_octets.specs.Octets.{Values, Nothing, Constructed, universal, context, octets}
 use Rattle.der_model.specs.DerMessage.{DerMessage}
 use Rattle.der_model.specs.Structures.{is_single}
 use Rattle.xsd_model.proofs.Sequences.{slice_get-part, slice_get-back}
-use Rattle.der_model.specs.Der.{Body, Octets, Inner, under, inner_of, item, placed, slot_values, all_slots, chosen_slot, form_values, body, values_at, der_of}
+use Rattle.der_model.specs.Der.{Body, Octets, Inner, under, inner_of, item, placed_value, slot_values, all_slots, chosen_slot, form_values, body, values_at, der_of}
 
 module _ {P Q : Type 0} (h : P → Q) where
   abbrev renamed : Form P Simple → Form Q Simple
@@ -41,7 +41,7 @@ module _ {P Q : Type 0} (h : P → Q) where
   choice_there slots d (k, n, s, e, w, at) = (k, n, slot_to h s, slice_get-part (slot_to h) slots k s e, w, at)
 
   choice_here : (slots : List (Slot P)) (d : List ℕ) → IsChoice (map (slot_to h) slots) d → IsChoice slots d
-  choice_here slots d (k, n, s, e, w, at) = (let r = slice_get-back (slot_to h) slots k s e in (k, n, r.0, r.1, subst (λ x. IsWithin n x) (sym r.2) w, at))
+  choice_here slots d (k, n, s, e, w, at) = (let r = slice_get-back (slot_to h) slots k s e in (k, n, r.0, r.1, subst (λ x. MayComeTimes n x) (sym r.2) w, at))
 
   code_there : (F : Form P Simple) (l : Leaf) → FitsCode F l → FitsCode (renamed F) l
   code_there (form.Simple s) l fits = fits
@@ -115,9 +115,9 @@ module _ {P Q : Type 0} (h : P → Q) where
   form_alike form.Missing came at there same = refl
 
   module _ (one : DerMessage P) (two : DerMessage Q) (like : (p : P) → two.forms (h p) ≡ renamed (one.forms p)) (fragments : (t : Tree) → one.fragment t ≡ two.fragment t) where
-    placed_alike : (k : ℕ) (s : Slot P) (a b : Body) (x y : Values) → a ≡ b → x ≡ y → placed one.forms k s a x ≡ placed two.forms k (slot_to h s) b y
+    placed_alike : (k : ℕ) (s : Slot P) (a b : Body) (x y : Values) → a ≡ b → x ≡ y → placed_value one.forms k s a x ≡ placed_value two.forms k (slot_to h s) b y
     placed_alike k s a b x y e f =
-        ap₂ (λ b y. placed one.forms k s b y) e f
+        ap₂ (λ b y. placed_value one.forms k s b y) e f
         ∙ ap (λ z. if is_single s then under (context k) b y else z) (item_alike (one.forms s.target) b y ∙ ap (λ F. item F b y) (sym (like s.target)))
 
     child_alike : (j k : ℕ) (s : Slot P) (v : Value) (rest : Children) → body one (one.forms s.target) v ≡ body two (renamed (one.forms s.target)) v → values_at one k s rest ≡ values_at two k (slot_to h s) rest

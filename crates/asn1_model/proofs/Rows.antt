@@ -11,11 +11,11 @@ use Rattle.message_model.specs.Tables.{Tables, types_of}
 use Rattle.der_octets.specs.Octets.{identifier as tag_octets, length_octets, wrapped}
 use Rattle.der_model.specs.LeafContents.{integer_octets}
 use Rattle.der_model.specs.Der.{Octets}
-use Rattle.asn1_model.specs.Names.{identifier, type_name, candidate}
+use Rattle.asn1_model.specs.Names.{asn_identifier, asn_type_name, candidate}
 use Rattle.asn1_model.specs.ModuleOf.{module_of, code_names, simple_shape}
 use Rattle.asn1_model.specs.ModuleText.{module_text}
 use Rattle.asn1_model.specs.Values.{One, Sequence, Enumerated, Primitive, NoComponent, Component, contents, asn_der}
-use Rattle.asn1_model.specs.Sound.{IsSound, IsSoundType, MayBeReferredTo}
+use Rattle.asn1_model.specs.Sound.{IsSoundAsn, IsSoundType, MayBeReferredTo}
 
 one : decimal 1 ≡ 49 ∷ []
 one = decimal_digit 1 (lit< tt)
@@ -37,12 +37,12 @@ note = record {
 }
 
 note_module : module_text (module_of note) ≡ codes "Demo-001-001-01 DEFINITIONS AUTOMATIC TAGS ::= BEGIN\n\nDocument ::= SEQUENCE {\n  note NoteV01\n}\n\nMax35Text ::= UTF8String (SIZE (1..35)) (CONSTRAINED BY {-- xml characters --})\n\nNoteV01 ::= SEQUENCE {\n  id Max35Text\n}\n\nEND\n"
-unfolding note text_type module_of identifier type_name candidate
+unfolding note text_type module_of asn_identifier asn_type_name candidate
 note_module = rw (one, thirty_five) refl
 
 -- 30 06 A0 04 80 02 41 31
 note_der : asn_der (module_of note) (codes "Document") (Sequence (Component 0 (Sequence (Component 0 (Primitive (Bytes (65 ∷ 49 ∷ []))) NoComponent)) NoComponent)) ≡ 48 ∷ 6 ∷ 160 ∷ 4 ∷ 128 ∷ 2 ∷ 65 ∷ 49 ∷ []
-unfolding note text_type module_of identifier type_name candidate tag_octets length_octets wrapped
+unfolding note text_type module_of asn_identifier asn_type_name candidate tag_octets length_octets wrapped
 note_der = refl
 
 -- ---- codes
@@ -51,22 +51,22 @@ code_set : Simple
 code_set = record { kind = kind.Text; min = 0; max = None; total = 18; fraction = None; low = None; high = None; pattern = None; codes = Some (codes "ABCD" ∷ codes "ZB" ∷ []) }
 
 two_codes : code_names (codes "ABCD" ∷ codes "ZB" ∷ []) ≡ codes "aBCD" ∷ codes "zB" ∷ []
-unfolding identifier candidate
+unfolding asn_identifier candidate
 two_codes = refl
 
 -- codes that would have one identifier
 like_codes : code_names (codes "A" ∷ codes "a" ∷ codes "a-1" ∷ []) ≡ codes "a" ∷ codes "a-1" ∷ codes "a-1-1" ∷ []
-unfolding identifier candidate
+unfolding asn_identifier candidate
 like_codes = rw one refl
 
 -- the second code is numbered 1
 second_code : contents (module_of note) (One (Some (simple_shape code_set))) (Enumerated (codes "zB")) ≡ Octets (1 ∷ [])
-unfolding code_set identifier candidate integer_octets
+unfolding code_set asn_identifier candidate integer_octets
 second_code = refl
 
 -- ---- the laws' premise is met
 
-note_sound : IsSound note
+note_sound : IsSoundAsn note
 unfolding note text_type
 note_sound = record {
   forms = λ p. forms p;

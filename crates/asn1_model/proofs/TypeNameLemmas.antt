@@ -9,8 +9,8 @@ use Rattle.message_model.specs.Tables.{Tables}
 use Rattle.asn1_model.specs.declared.order.NamedType.{NamedType}
 use Rattle.asn1_model.specs.declared.type_names.TypeNames.{TypeNames}
 use Rattle.asn1_model.specs.Names.{given_names, given_after, first_free}
-use Rattle.asn1_model.specs.ModuleOf.{by_name, names_given, name_of, name_in, type_name_of}
-use Rattle.asn1_model.specs.inner.Order.{numbered}
+use Rattle.asn1_model.specs.ModuleOf.{by_name, names_given, asn_name_of, name_in, type_name_of}
+use Rattle.asn1_model.specs.inner.Order.{numbered_type}
 use Rattle.asn1_model.specs.inner.Places.{name_at}
 use Rattle.asn1_model.specs.inner.TypeNames.{AreNames}
 use Rattle.asn1_model.proofs.NumberedTypes.{name_none}
@@ -25,9 +25,9 @@ length-mapped f [] = refl
 length-mapped f (x ∷ xs) = ap (λ k. suc k) (length-mapped f xs)
 
 -- as many names are given as there are types
-pub length-names : (types : List NamedType) → length (given_names (map type_name_of (map numbered types))) ≡ length types
+pub length-names : (types : List NamedType) → length (given_names (map type_name_of (map numbered_type types))) ≡ length types
 length-names types =
-    length-given [] (map type_name_of (map numbered types)) ∙ length-mapped type_name_of (map numbered types) ∙ length-mapped numbered types
+    length-given [] (map type_name_of (map numbered_type types)) ∙ length-mapped type_name_of (map numbered_type types) ∙ length-mapped numbered_type types
 
 -- what is found by places is the name, or there is no such type
 pub names_are : (names : TypeNames) (T : Tables) → names.given ≡ names_given T → length names.places.items ≡ length T.types
@@ -44,9 +44,9 @@ names_are names T given count named = record { given = given; named = λ p. at p
 
 -- the name that is found, or none
 pub found_name : (names : TypeNames) (T : Tables) (number place : ℕ) → AreNames names T → place ≡ get_or names.places.items number (length names.given)
-    → unwrap_or (slice_get names.given place) [] ≡ name_of T number
+    → unwrap_or (slice_get names.given place) [] ≡ asn_name_of T number
 found_name names T number place are is = unwrap_or-slice_get names.given place [] ∙ ap (λ k. get_or names.given k []) is ∙ are.named number
 
 -- where there is no name, there is no such type
-pub found_none : (names : TypeNames) (T : Tables) (number place : ℕ) → AreNames names T → place ≡ get_or names.places.items number (length names.given) → None ≡ slice_get names.given place → [] ≡ name_of T number
+pub found_none : (names : TypeNames) (T : Tables) (number place : ℕ) → AreNames names T → place ≡ get_or names.places.items number (length names.given) → None ≡ slice_get names.given place → [] ≡ asn_name_of T number
 found_none names T number place are is none = ap (λ o. unwrap_or o []) none ∙ found_name names T number place are is

@@ -6,12 +6,12 @@ use Rattle.message_model.specs.Tables.{Tables, message_of}
 use Rattle.der_model.specs.DerMessage.{in_der}
 use Rattle.der_model.specs.Der.{SpellsDer}
 use Rattle.asn1_model.specs.ModuleOf.{module_of}
-use Rattle.asn1_model.specs.Values.{AsnValue, HasValue, asn_der}
+use Rattle.asn1_model.specs.Values.{AsnValue, HasAsnValue, asn_der}
 use Rattle.asn1_model.specs.InstanceValues.{instance_value}
 
 -- the bytes are the DER of this value of the module's `Document`
 pub record EncodesAs (fragment : Tree → List ℕ) (T : Tables) (bytes : List ℕ) (a : AsnValue) : Type 0 where
-  pub has : HasValue fragment (module_of T) (codes "Document") a
+  pub has : HasAsnValue fragment (module_of T) (codes "Document") a
   pub der : bytes ≡ asn_der (module_of T) (codes "Document") a
 
 -- The module's own meaning is that of the message: the same byte lists are the DER of a value.

@@ -10,7 +10,7 @@ use Rattle.facets.specs.Steps.{plain_step, least_written}
 use Rattle.reference_check.specs.Forms.{Form, Slot}
 use Rattle.reference_check.specs.Forms as form
 use Rattle.der_model.specs.Structures.{is_single}
-use Rattle.asn1_model.specs.Names.{identifier, type_name, given_names}
+use Rattle.asn1_model.specs.Names.{asn_identifier, asn_type_name, given_names}
 use Rattle.message_model.specs.Tables.{Tables, TypeEntry, types_of}
 use Rattle.asn1_model.specs.declared.module.Module.{Module}
 use Rattle.asn1_model.specs.declared.module.AsnType.{AsnType}
@@ -28,20 +28,20 @@ pub record Numbered : Type 0 where
 abbrev pub comes_before : Numbered → Numbered → Bool
 comes_before t u = is_lt (slice_cmp nat_cmp t.name u.name)
 
-abbrev pub insert : Numbered → List Numbered → List Numbered
-insert t [] = t ∷ []
-insert t (u ∷ us) = if comes_before u t then u ∷ insert t us else t ∷ u ∷ us
+abbrev pub insert_numbered : Numbered → List Numbered → List Numbered
+insert_numbered t [] = t ∷ []
+insert_numbered t (u ∷ us) = if comes_before u t then u ∷ insert_numbered t us else t ∷ u ∷ us
 
 abbrev pub sorted_from : ℕ → List TypeEntry → List Numbered
 sorted_from k [] = []
-sorted_from k (t ∷ ts) = insert (record { number = k; name = t.name }) (sorted_from (suc k) ts)
+sorted_from k (t ∷ ts) = insert_numbered (record { number = k; name = t.name }) (sorted_from (suc k) ts)
 
 -- the types sorted by the bytes of their names
 abbrev pub by_name : Tables → List Numbered
 by_name T = sorted_from 0 T.types
 
 abbrev pub type_name_of : Numbered → List ℕ
-type_name_of t = type_name t.name
+type_name_of t = asn_type_name t.name
 
 -- the names that they are given
 abbrev pub names_given : Tables → List (List ℕ)
@@ -52,8 +52,8 @@ name_in (t ∷ ts) (n ∷ ns) p = if t.number == p then n else name_in ts ns p
 name_in ts ns p = []
 
 -- the name of a type; none where there is no such type
-abbrev pub name_of : Tables → ℕ → List ℕ
-name_of T p = name_in (by_name T) (names_given T) p
+abbrev pub asn_name_of : Tables → ℕ → List ℕ
+asn_name_of T p = name_in (by_name T) (names_given T) p
 
 -- the lengths of a text or of octets
 abbrev pub sized_step : Simple → Step
@@ -75,7 +75,7 @@ step_of s = step_by s.kind s
 
 -- the identifiers of codes
 abbrev pub code_names : List (List ℕ) → List (List ℕ)
-code_names texts = given_names (map identifier texts)
+code_names texts = given_names (map asn_identifier texts)
 
 abbrev pub shape_by : Kind → Option (List (List ℕ)) → Simple → AsnShape
 shape_by kind.Text (Some texts) s = shape.Enumerated texts (code_names texts)
@@ -89,7 +89,7 @@ mode_of s = if is_single s then (if s.min == 0 then mode.Optional else mode.Requ
 
 -- the identifier of a slot, before clashes
 abbrev pub slot_identifier : {P : Type 0} → Slot P → List ℕ
-slot_identifier s = if is_single s then identifier s.tag else identifier s.tag ++ codes "-list"
+slot_identifier s = if is_single s then asn_identifier s.tag else asn_identifier s.tag ++ codes "-list"
 
 abbrev pub field_of : {P : Type 0} → (P → List ℕ) → Slot P → List ℕ → Field
 field_of name s given = record { name = given; target = name s.target; mode = mode_of s }
@@ -117,9 +117,9 @@ with_shape name None rest = rest
 with_shape name (Some s) rest = record { name = name; shape = s } ∷ rest
 
 abbrev pub types_with : Tables → List Numbered → List (List ℕ) → List AsnType
-types_with T (t ∷ ts) (n ∷ ns) = with_shape n (shape_of (name_of T) (types_of T t.number)) (types_with T ts ns)
+types_with T (t ∷ ts) (n ∷ ns) = with_shape n (shape_of (asn_name_of T) (types_of T t.number)) (types_with T ts ns)
 types_with T ts ns = []
 
 -- the module of the tables
 unfoldable pub module_of : Tables → Module
-module_of T = record { name = type_name T.id; types = types_with T (by_name T) (names_given T) }
+module_of T = record { name = asn_type_name T.id; types = types_with T (by_name T) (names_given T) }

@@ -19,8 +19,8 @@ use Rattle.asn1_model.specs.declared.module.Mode.TheVariants as mode
 -- ---- constraints
 
 -- a user-defined constraint, whose texts are a comment: X.682 §9
-abbrev pub constrained : List (List ℕ) → List ℕ
-constrained texts = concat (codes " (CONSTRAINED BY {-- " ∷ (texts ++ (codes " --})" ∷ [])))
+abbrev pub constraint_text : List (List ℕ) → List ℕ
+constraint_text texts = concat (codes " (CONSTRAINED BY {-- " ∷ (texts ++ (codes " --})" ∷ [])))
 
 abbrev pub size_start : Option ℕ → ℕ
 size_start None = 0
@@ -53,11 +53,11 @@ comment_text (c ∷ cs) = comment_part c (begins_with_hyphen cs) ++ comment_text
 
 abbrev pub pattern_constraint : Option (List ℕ) → List ℕ
 pattern_constraint None = []
-pattern_constraint (Some pattern) = constrained (codes "pattern " ∷ comment_text pattern ∷ [])
+pattern_constraint (Some pattern) = constraint_text (codes "pattern " ∷ comment_text pattern ∷ [])
 
 abbrev pub digits_constraint : List ℕ → Option ℕ → List ℕ
 digits_constraint word None = []
-digits_constraint word (Some n) = constrained (word ∷ decimal n ∷ [])
+digits_constraint word (Some n) = constraint_text (word ∷ decimal n ∷ [])
 
 abbrev pub strictness : Bool → List ℕ
 strictness true = codes "Exclusive "
@@ -65,7 +65,7 @@ strictness false = codes "Inclusive "
 
 abbrev pub bound_constraint : List ℕ → Option Bound → List ℕ
 bound_constraint side None = []
-bound_constraint side (Some bound) = constrained (side ∷ strictness bound.strict ∷ decimal_spelling (canonical_parts bound.value) ∷ [])
+bound_constraint side (Some bound) = constraint_text (side ∷ strictness bound.strict ∷ decimal_spelling (canonical_parts bound.value) ∷ [])
 
 -- ---- types of one value
 
@@ -81,10 +81,10 @@ number_texts step =
 
 -- a type of dates or times, by its name in XML Schema part 2
 abbrev pub date_text : List ℕ → Option (List ℕ) → List ℕ
-date_text word pattern = concat (codes "VisibleString" ∷ constrained (word ∷ codes " profile" ∷ []) ∷ pattern_constraint pattern ∷ [])
+date_text word pattern = concat (codes "VisibleString" ∷ constraint_text (word ∷ codes " profile" ∷ []) ∷ pattern_constraint pattern ∷ [])
 
 abbrev pub plain_text : Kind → Step → Option (List ℕ) → List ℕ
-plain_text kind.Text step pattern = concat (codes "UTF8String" ∷ size_text step.min step.max ∷ constrained (codes "xml characters" ∷ []) ∷ pattern_constraint pattern ∷ [])
+plain_text kind.Text step pattern = concat (codes "UTF8String" ∷ size_text step.min step.max ∷ constraint_text (codes "xml characters" ∷ []) ∷ pattern_constraint pattern ∷ [])
 plain_text kind.Decimal step pattern = concat (number_texts step)
 plain_text kind.Boolean step pattern = codes "BOOLEAN"
 plain_text kind.Binary step pattern = concat (codes "OCTET STRING" ∷ size_text step.min step.max ∷ [])
@@ -136,17 +136,17 @@ money_lines code base = (codes "ccy " ∷ code ∷ []) ∷ (codes "base " ∷ nu
 
 -- ---- the module
 
-abbrev pub shape_text : AsnShape → List ℕ
-shape_text (shape.Sequence fields) = braces (codes "SEQUENCE") field_line fields
-shape_text (shape.Choice fields) = braces (codes "CHOICE") field_line fields
-shape_text (shape.Enumerated texts names) = braces (codes "ENUMERATED") code_line names
-shape_text (shape.Money code base) = braces (codes "SEQUENCE") own_line (money_lines code base)
-shape_text (shape.Plain k step pattern) = plain_text k step pattern
-shape_text shape.Fragment = codes "UTF8String" ++ constrained (codes "canonical fragment" ∷ [])
+abbrev pub asn_shape_text : AsnShape → List ℕ
+asn_shape_text (shape.Sequence fields) = braces (codes "SEQUENCE") field_line fields
+asn_shape_text (shape.Choice fields) = braces (codes "CHOICE") field_line fields
+asn_shape_text (shape.Enumerated texts names) = braces (codes "ENUMERATED") code_line names
+asn_shape_text (shape.Money code base) = braces (codes "SEQUENCE") own_line (money_lines code base)
+asn_shape_text (shape.Plain k step pattern) = plain_text k step pattern
+asn_shape_text shape.Fragment = codes "UTF8String" ++ constraint_text (codes "canonical fragment" ∷ [])
 
-abbrev pub type_text : AsnType → List ℕ
-type_text type = concat (type.name ∷ codes " ::= " ∷ shape_text type.shape ∷ codes "\n\n" ∷ [])
+abbrev pub asn_type_text : AsnType → List ℕ
+asn_type_text type = concat (type.name ∷ codes " ::= " ∷ asn_shape_text type.shape ∷ codes "\n\n" ∷ [])
 
 -- the module: X.680 §13.1
 abbrev pub module_text : Module → List ℕ
-module_text M = concat (M.name ∷ codes " DEFINITIONS AUTOMATIC TAGS ::= BEGIN\n\n" ∷ flat_map type_text M.types ∷ codes "END\n" ∷ [])
+module_text M = concat (M.name ∷ codes " DEFINITIONS AUTOMATIC TAGS ::= BEGIN\n\n" ∷ flat_map asn_type_text M.types ∷ codes "END\n" ∷ [])

@@ -2,7 +2,7 @@
 use Rattle.std.specs.Prelude.{◌≡◌, ◌⊎◌, true, [], ◌∷◌, ℕ, ◌<◌, ◌^◌, List, Some, slice_get, length, codes}
 use Rattle.std.specs.Str.{chars}
 use Rattle.lexical_core.specs.Characters.{IsXmlText}
-use Rattle.pattern_match.specs.Building.{limit}
+use Rattle.pattern_match.specs.Building.{position_limit}
 use Rattle.pattern_match.specs.Reading.{HasPositionsWithin}
 use Rattle.data_types.specs.declared.kind.Kind.TheVariants as kind
 use Rattle.facets.specs.declared.simple.Simple.{Simple}
@@ -16,7 +16,7 @@ use Rattle.asn1_model.specs.Names.{is_in_name}
 pub record IsSoundSimpleType (s : Simple) : Type 0 where
   pub texts : (codes : List (List ℕ)) → s.codes ≡ Some codes → (k : ℕ) (text : List ℕ) → slice_get codes k ≡ Some text → IsXmlText text
   pub few : (codes : List (List ℕ)) → s.codes ≡ Some codes → length codes < 2 ^ 64
-  pub pattern : (p : List ℕ) → s.pattern ≡ Some p → HasPositionsWithin (chars p) limit
+  pub pattern : (p : List ℕ) → s.pattern ≡ Some p → HasPositionsWithin (chars p) position_limit
 
 -- a name begins with an ASCII letter, a digit or `_`
 abbrev pub BeginsName : List ℕ → Type 0
@@ -41,7 +41,7 @@ AllBegin [] = Unit {0}
 AllBegin (t ∷ ts) = BeginsName t.name × AllBegin ts
 
 -- the names of types begin as names do, and the first of them is `Document`
-pub record IsSound (T : Tables) : Type 0 where
+pub record IsSoundAsn (T : Tables) : Type 0 where
   pub forms : (p : ℕ) → IsSoundType MayBeReferredTo (types_of T) (types_of T p)
   pub few : length T.types < 2 ^ 64
   pub root : (fs : List (Slot ℕ)) × (types_of T 0 ≡ form.Sequence fs)

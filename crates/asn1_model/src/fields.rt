@@ -4,7 +4,7 @@ ghost use Rattle.reference_check.specs.Forms.{form_slots};
 ghost use Rattle.message_model.specs.Sound.{AreSound};
 ghost use Rattle.message_model.specs.Tables.{Tables, types_of};
 ghost use Rattle.der_model.specs.Structures.{is_one};
-ghost use Rattle.asn1_model.specs.ModuleOf.{name_of, mode_of, slot_identifier, field_of, fields_with, fields_of};
+ghost use Rattle.asn1_model.specs.ModuleOf.{asn_name_of, mode_of, slot_identifier, field_of, fields_with, fields_of};
 ghost use Rattle.asn1_model.specs.inner.Fields.{slot_in};
 ghost use Rattle.asn1_model.specs.inner.TypeNames.{AreNames};
 
@@ -28,7 +28,7 @@ pub(crate) fn fields_of(
 ) -> Result<Fields, AllocError>
     requires names { AreNames names.now model.now }
     requires sound { AreSound (types_of model.now) }
-    ensures { IfOk result (λ fields. fields ≡ fields_of (name_of model.now) (form_slots (types_of model.now number))) }
+    ensures { IfOk result (λ fields. fields ≡ fields_of (asn_name_of model.now) (form_slots (types_of model.now number))) }
 {
     let slots = slots_of(alloc, model, number)?;
     let identifiers = identifiers(alloc, &slots)?;
@@ -106,7 +106,7 @@ fn fields_with(
     slots: &[Slot<'_>],
     given: &Names,
 ) -> Result<Fields, AllocError>
-    ensures { (T : Tables) → AreNames names.now T → IfOk result (λ fields. fields ≡ fields_with (name_of T) (map slot_in slots.now) given.now) }
+    ensures { (T : Tables) → AreNames names.now T → IfOk result (λ fields. fields ≡ fields_with (asn_name_of T) (map slot_in slots.now) given.now) }
 {
     let mut fields = Items::new(alloc);
     for (at, slot) in slots.iter().enumerate() {
@@ -125,7 +125,7 @@ fn field_of(
     slot: &Slot<'_>,
     given: &Text,
 ) -> Result<Field, AllocError>
-    ensures { (T : Tables) → AreNames names.now T → IfOk result (λ field. field ≡ field_of (name_of T) (slot_in slot.now) given.now) }
+    ensures { (T : Tables) → AreNames names.now T → IfOk result (λ field. field ≡ field_of (asn_name_of T) (slot_in slot.now) given.now) }
 {
     Ok(Field {
         name: given.copy(alloc)?,

@@ -1,8 +1,8 @@
 // Names that are given one after the other, each with the first ending with which it was not given yet.
 ghost use Rattle.std.specs.Prelude.{◌≡◌, ◌<◌, ◌≤◌, ◌-◌, ℕ, List, [], ◌∷◌, Some, None, IfOk, OnOk, IsSome, length, if◌then◌else◌};
 ghost use Rattle.std.specs.Str.{bytes_eq};
-ghost use Rattle.asn1_model.specs.Names.{is_among, candidate, first_free, given_names};
-ghost use Rattle.asn1_model.specs.inner.Given.{ending_of, AreAllGiven, HasGiven};
+ghost use Rattle.asn1_model.specs.Names.{is_name_among, candidate, first_free, given_names};
+ghost use Rattle.asn1_model.specs.inner.Given.{ending_of, AreAllGiven, HasGivenNames};
 
 use crate::module::Names;
 use lexical_core::{Items, Text};
@@ -54,7 +54,7 @@ fn candidate(alloc: Global, name: &[u8], ending: usize) -> Result<Vec<u8>, Alloc
 impl Given {
     /// None was given. It takes no memory.
     fn new(alloc: Global) -> Given
-        ensures { HasGiven result [] }
+        ensures { HasGivenNames result [] }
     {
         Given {
             alloc,
@@ -65,7 +65,7 @@ impl Given {
     /// Gives the name with the first ending that is free. So many were given before.
     fn give(&mut self, name: &[u8], before: usize) -> Result<Vec<u8>, AllocError>
         requires { before < usize.MAX }
-        ensures { (taken : List (List ℕ)) → HasGiven self.old taken → before ≡ length taken → IfOk result (λ given. (given.items ≡ first_free (length taken) taken name.now 0) × HasGiven self.new (given.items ∷ taken)) }
+        ensures { (taken : List (List ℕ)) → HasGivenNames self.old taken → before ≡ length taken → IfOk result (λ given. (given.items ≡ first_free (length taken) taken name.now 0) × HasGivenNames self.new (given.items ∷ taken)) }
     {
         match self.next_ending(name) {
             None => self.give_plain(name),
@@ -82,14 +82,14 @@ impl Given {
 
     /// Whether the name was given.
     fn is_given(&self, name: &[u8]) -> bool
-        ensures { (taken : List (List ℕ)) → HasGiven self.now taken → result ≡ is_among taken name.now }
+        ensures { (taken : List (List ℕ)) → HasGivenNames self.now taken → result ≡ is_name_among taken name.now }
     {
         self.endings.contains_key(name)
     }
 
     /// Gives the name as it is.
     fn give_plain(&mut self, name: &[u8]) -> Result<Vec<u8>, AllocError>
-        ensures { (taken : List (List ℕ)) → HasGiven self.old taken → IfOk result (λ given. (given.items ≡ name.now) × HasGiven self.new (given.items ∷ taken)) }
+        ensures { (taken : List (List ℕ)) → HasGivenNames self.old taken → IfOk result (λ given. (given.items ≡ name.now) × HasGivenNames self.new (given.items ∷ taken)) }
     {
         let given = Vec::from_slice(self.alloc, name)?;
         let key = Vec::from_slice(self.alloc, name)?;
@@ -100,7 +100,7 @@ impl Given {
     /// Gives a name that was given, with the first ending from this one on that is free.
     fn give_from(&mut self, name: &[u8], from: usize, before: usize) -> Result<Vec<u8>, AllocError>
         requires { before < usize.MAX }
-        ensures { (taken : List (List ℕ)) → HasGiven self.old taken → before ≡ length taken → ending_of self.old.endings name.now ≡ Some from → IfOk result (λ given. (given.items ≡ first_free (length taken) taken name.now 0) × HasGiven self.new (given.items ∷ taken)) }
+        ensures { (taken : List (List ℕ)) → HasGivenNames self.old taken → before ≡ length taken → ending_of self.old.endings name.now ≡ Some from → IfOk result (λ given. (given.items ≡ first_free (length taken) taken name.now 0) × HasGivenNames self.new (given.items ∷ taken)) }
     {
         let free = self.first_free(name, from, before)?;
         let given = self.give_plain(&free.name)?;
@@ -112,8 +112,8 @@ impl Given {
     fn first_free(&self, name: &[u8], from: usize, to: usize) -> Result<FreeName, AllocError>
         ensures name { IfOk result (λ c. c.name.items ≡ candidate name.now c.ending) }
         ensures upto { IfOk result (λ c. c.ending ≤ to) }
-        ensures free { (taken : List (List ℕ)) → HasGiven self.now taken → from ≤ to → IfOk result (λ c. c.name.items ≡ first_free (to - from) taken name.now from) }
-        ensures given { (taken : List (List ℕ)) → HasGiven self.now taken → AreAllGiven taken name.now from → IfOk result (λ c. AreAllGiven taken name.now c.ending) }
+        ensures free { (taken : List (List ℕ)) → HasGivenNames self.now taken → from ≤ to → IfOk result (λ c. c.name.items ≡ first_free (to - from) taken name.now from) }
+        ensures given { (taken : List (List ℕ)) → HasGivenNames self.now taken → AreAllGiven taken name.now from → IfOk result (λ c. AreAllGiven taken name.now c.ending) }
     {
         for ending in from..to {
             let tried = candidate(self.alloc, name, ending)?;

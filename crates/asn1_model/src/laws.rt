@@ -9,27 +9,27 @@ ghost use Rattle.message_model.specs.Compiled.{IsReachedList, Compiles, types};
 ghost use Rattle.message_model.specs.Ready.{IsReady};
 ghost use Rattle.der_model.specs.Der.{SpellsDer};
 ghost use Rattle.asn1_model.specs.Values.{AsnValue};
-ghost use Rattle.asn1_model.specs.Sound.{IsSound};
+ghost use Rattle.asn1_model.specs.Sound.{IsSoundAsn};
 ghost use Rattle.asn1_model.specs.Agreement.{EncodesAs, AdmitsTheSame, HasInstanceValue, HasNoOthers};
 
 /// The same bytes are the DER of a value of the module's `Document`, by X.690, and of an instance that the message admits.
 pub fn a_module_admits_the_same()
-    ensures { (T : Tables) → IsSound T → AdmitsTheSame T }
+    ensures { (T : Tables) → IsSoundAsn T → AdmitsTheSame T }
 {}
 
 /// Of an instance the value of the module is known, and has its DER.
 pub fn an_instance_is_a_value()
-    ensures { (T : Tables) → IsSound T → HasInstanceValue T }
+    ensures { (T : Tables) → IsSoundAsn T → HasInstanceValue T }
 {}
 
 /// Each value of the module is that of an instance.
 pub fn a_value_is_an_instance()
-    ensures { (T : Tables) → IsSound T → HasNoOthers T }
+    ensures { (T : Tables) → IsSoundAsn T → HasNoOthers T }
 {}
 
 /// The compiled types of a message that breaks no rule are sound.
 pub fn compiled_types_are_sound()
-    ensures { (R : Contents) (m : List ℕ) (ids : List (List ℕ)) (T : Tables) → IsRepository R → IsReady R m → IsReachedList R m ids → Compiles R m ids T → IsSound T }
+    ensures { (R : Contents) (m : List ℕ) (ids : List (List ℕ)) (T : Tables) → IsRepository R → IsReady R m → IsReachedList R m ids → Compiles R m ids T → IsSoundAsn T }
 {}
 
 /// The module of a message that breaks no rule has exactly the bytes that are the DER of an instance which the message admits.

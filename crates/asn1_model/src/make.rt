@@ -3,7 +3,7 @@ ghost use Rattle.std.specs.Prelude.{◌≡◌, ◌++◌, [], IfOk, OnOk, map};
 ghost use Rattle.message_model.specs.Sound.{AreSound};
 ghost use Rattle.message_model.specs.Tables.{types_of};
 ghost use Rattle.asn1_model.specs.ModuleOf.{by_name, names_given, types_with, with_shape, module_of as module_of_tables};
-ghost use Rattle.asn1_model.specs.inner.Order.{numbered};
+ghost use Rattle.asn1_model.specs.inner.Order.{numbered_type};
 ghost use Rattle.asn1_model.specs.inner.TypeNames.{AreNames};
 
 use crate::module::{AsnShape, AsnType, AsnTypes, Module};
@@ -38,7 +38,7 @@ fn types_of(
     order: &[NamedType<'_>],
     names: &TypeNames,
 ) -> Result<AsnTypes, AllocError>
-    requires order { map numbered order.now ≡ by_name model.now }
+    requires order { map numbered_type order.now ≡ by_name model.now }
     requires names { AreNames names.now model.now }
     requires sound { AreSound (types_of model.now) }
     ensures { IfOk result (λ types. types ≡ types_with model.now (by_name model.now) (names_given model.now)) }

@@ -2,8 +2,8 @@
 ghost use Rattle.std.specs.Prelude.{◌≡◌, false, ◌++◌, IfOk, OnOk, not, ◌||◌};
 ghost use Rattle.std.specs.List.{list_any};
 ghost use Rattle.std.specs.Str.{bytes_eq};
-ghost use Rattle.asn1_model.specs.Names.{is_lower, is_in_name, to_lower, to_upper, without_gap, hyphenated, begun, bare_name, first_lower, first_upper, is_among, reserved, with_one, identifier, type_name};
-ghost use Rattle.asn1_model.specs.inner.Joined.{joined};
+ghost use Rattle.asn1_model.specs.Names.{is_lower, is_in_name, to_lower, to_upper, without_gap, with_hyphens, begun_with_letter, bare_name, first_lower, first_upper, is_name_among, reserved_names, with_one, asn_identifier, asn_type_name};
+ghost use Rattle.asn1_model.specs.inner.Joined.{joined_byte};
 
 use std::alloc::{AllocError, Global};
 
@@ -30,7 +30,7 @@ const RESERVED: [&[u8]; 16] = [
 /// The identifier of a tag or a code: X.680 §12.3.
 #[tactic(auto, unfolding(crate::specs::Names::identifier))]
 pub(crate) fn identifier(alloc: Global, text: &[u8]) -> Result<Vec<u8>, AllocError>
-    ensures { IfOk result (λ name. name.items ≡ identifier text.now) }
+    ensures { IfOk result (λ name. name.items ≡ asn_identifier text.now) }
 {
     let mut name = bare_name(alloc, text)?;
     lower_first(&mut name);
@@ -40,7 +40,7 @@ pub(crate) fn identifier(alloc: Global, text: &[u8]) -> Result<Vec<u8>, AllocErr
 /// The name of a type: X.680 §12.2.
 #[tactic(auto, unfolding(crate::specs::Names::type_name))]
 pub(crate) fn type_name(alloc: Global, text: &[u8]) -> Result<Vec<u8>, AllocError>
-    ensures { IfOk result (λ name. name.items ≡ type_name text.now) }
+    ensures { IfOk result (λ name. name.items ≡ asn_type_name text.now) }
 {
     let mut name = bare_name(alloc, text)?;
     upper_first(&mut name);
@@ -57,7 +57,7 @@ fn is_in_name(byte: u8) -> bool
 
 /// Appends a byte that stands in names, behind a hyphen where others stood before it.
 fn push_joined(name: &mut Vec<u8>, gap: bool, byte: u8) -> Result<(), AllocError>
-    ensures { OnOk result (name.new.items ≡ name.old.items ++ joined name.old.items gap byte) }
+    ensures { OnOk result (name.new.items ≡ name.old.items ++ joined_byte name.old.items gap byte) }
 {
     if gap && !name.is_empty() {
         name.push(b'-')?;
@@ -68,7 +68,7 @@ fn push_joined(name: &mut Vec<u8>, gap: bool, byte: u8) -> Result<(), AllocError
 
 /// The bytes that stand in names, with a hyphen for each run of others between two.
 fn hyphenated(alloc: Global, text: &[u8]) -> Result<Vec<u8>, AllocError>
-    ensures { IfOk result (λ name. name.items ≡ hyphenated false (without_gap text.now)) }
+    ensures { IfOk result (λ name. name.items ≡ with_hyphens false (without_gap text.now)) }
 {
     let mut name = Vec::new(alloc);
     let mut gap = false;
@@ -85,7 +85,7 @@ fn hyphenated(alloc: Global, text: &[u8]) -> Result<Vec<u8>, AllocError>
 
 /// The name with a letter in front.
 fn begun(alloc: Global, name: Vec<u8>) -> Result<Vec<u8>, AllocError>
-    ensures { IfOk result (λ n. n.items ≡ begun name.items) }
+    ensures { IfOk result (λ n. n.items ≡ begun_with_letter name.items) }
 {
     if let Some(first) = name.first() {
         if !first.is_ascii_digit() {
@@ -160,14 +160,14 @@ fn is_among(words: &[&[u8]], name: &[u8]) -> bool
 
 /// Whether the name is that of a type of the standard.
 fn is_reserved(name: &[u8]) -> bool
-    ensures { result ≡ is_among reserved name.now }
+    ensures { result ≡ is_name_among reserved_names name.now }
 {
     is_among(&RESERVED, name)
 }
 
 /// Whether a name of a type could be taken for a word of the standard.
 fn is_like_reserved(name: &[u8]) -> bool
-    ensures { result ≡ (not (list_any is_lower name.now) || is_among reserved name.now) }
+    ensures { result ≡ (not (list_any is_lower name.now) || is_name_among reserved_names name.now) }
 {
     !has_lower(name) || is_reserved(name)
 }

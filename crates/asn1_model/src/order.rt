@@ -1,7 +1,7 @@
 // The types of a message in the order of their names.
 ghost use Rattle.std.specs.Prelude.{◌≡◌, IfOk, OnOk, map};
 ghost use Rattle.asn1_model.specs.ModuleOf.{by_name};
-ghost use Rattle.asn1_model.specs.inner.Order.{numbered, numbered_from, sorted};
+ghost use Rattle.asn1_model.specs.inner.Order.{numbered_type, numbered_from, sorted_by_name};
 
 use message_model::Model;
 use std::alloc::{AllocError, Global};
@@ -16,7 +16,7 @@ pub(crate) struct NamedType<'a> {
 /// The types sorted by the bytes of their names.
 #[tactic(auto, using(crate::proofs::NumberedTypes::sorted_numbered))]
 pub(crate) fn by_name(alloc: Global, model: &Model) -> Result<Vec<NamedType<'_>>, AllocError>
-    ensures { IfOk result (λ types. map numbered types.items ≡ by_name model.now) }
+    ensures { IfOk result (λ types. map numbered_type types.items ≡ by_name model.now) }
 {
     let mut types = by_number(alloc, model)?;
     sort(&mut types)?;
@@ -25,7 +25,7 @@ pub(crate) fn by_name(alloc: Global, model: &Model) -> Result<Vec<NamedType<'_>>
 
 /// The types by number.
 fn by_number(alloc: Global, model: &Model) -> Result<Vec<NamedType<'_>>, AllocError>
-    ensures { IfOk result (λ types. map numbered types.items ≡ numbered_from 0 model.now.types) }
+    ensures { IfOk result (λ types. map numbered_type types.items ≡ numbered_from 0 model.now.types) }
 {
     let mut types = Vec::new(alloc);
     for number in 0..model.type_count() {
@@ -39,7 +39,7 @@ fn by_number(alloc: Global, model: &Model) -> Result<Vec<NamedType<'_>>, AllocEr
 
 /// Puts the types into the order of their names; those of one name keep theirs.
 fn sort(types: &mut Vec<NamedType<'_>>) -> Result<(), AllocError>
-    ensures { OnOk result (map numbered types.new.items ≡ sorted (map numbered types.old.items)) }
+    ensures { OnOk result (map numbered_type types.new.items ≡ sorted_by_name (map numbered_type types.old.items)) }
 {
     types.sort_by(|left, right| left.name.cmp(right.name))?;
     Ok(())

@@ -1,7 +1,7 @@
 // Where the name of each type stands among those that are given in the order of names.
 ghost use Rattle.std.specs.Prelude.{◌≡◌, ℕ, ◌<◌, List, IfOk, map, length, slice_set};
 ghost use Rattle.asn1_model.specs.ModuleOf.{name_in};
-ghost use Rattle.asn1_model.specs.inner.Order.{numbered};
+ghost use Rattle.asn1_model.specs.inner.Order.{numbered_type};
 ghost use Rattle.asn1_model.specs.inner.Places.{name_at};
 
 use crate::order::NamedType;
@@ -15,7 +15,7 @@ pub(crate) fn places(
     count: usize,
 ) -> Result<Vec<usize>, AllocError>
     ensures count { IfOk result (λ places. length places.items ≡ count) }
-    ensures name { (given : List (List ℕ)) → length given ≡ length types.now → IfOk result (λ places. (number : ℕ) → number < count → name_at places.items given number ≡ name_in (map numbered types.now) given number) }
+    ensures name { (given : List (List ℕ)) → length given ≡ length types.now → IfOk result (λ places. (number : ℕ) → number < count → name_at places.items given number ≡ name_in (map numbered_type types.now) given number) }
 {
     let mut places = Vec::new(alloc);
     places.resize(count, types.len())?;

@@ -2,8 +2,8 @@
 ghost use Rattle.std.specs.Prelude.{◌≡◌, IfOk, map};
 ghost use Rattle.message_model.specs.Sound.{AreSound};
 ghost use Rattle.message_model.specs.Tables.{Tables, types_of};
-ghost use Rattle.asn1_model.specs.Names.{identifier};
-ghost use Rattle.asn1_model.specs.ModuleOf.{code_names, name_of, shape_of, simple_shape, step_of};
+ghost use Rattle.asn1_model.specs.Names.{asn_identifier};
+ghost use Rattle.asn1_model.specs.ModuleOf.{code_names, asn_name_of, shape_of, simple_shape, step_of};
 ghost use Rattle.asn1_model.specs.inner.TypeNames.{AreNames};
 
 use crate::fields::fields_of;
@@ -27,7 +27,7 @@ pub(crate) fn shape_of(
 ) -> Result<Option<AsnShape>, AllocError>
     requires names { AreNames names.now model.now }
     requires sound { AreSound (types_of model.now) }
-    ensures { IfOk result (λ shape. shape ≡ shape_of (name_of model.now) (types_of model.now number)) }
+    ensures { IfOk result (λ shape. shape ≡ shape_of (asn_name_of model.now) (types_of model.now number)) }
 {
     match model.form(number) {
         None => Ok(None),
@@ -53,7 +53,7 @@ pub(crate) fn shape_of(
 
 /// An amount: the type of its code, and its number.
 fn money(alloc: Global, names: &TypeNames, code: u32, base: &Simple) -> Result<AsnShape, AllocError>
-    ensures { (T : Tables) → AreNames names.now T → IfOk result (λ shape. shape ≡ AsnShape.Money (name_of T code) (step_of base.now)) }
+    ensures { (T : Tables) → AreNames names.now T → IfOk result (λ shape. shape ≡ AsnShape.Money (asn_name_of T code) (step_of base.now)) }
 {
     let code = names.name(alloc, code)?;
     Ok(AsnShape::Money {
@@ -93,7 +93,7 @@ fn code_names(alloc: Global, codes: &Codes) -> Result<Names, AllocError>
 
 /// The identifiers of the codes, before clashes.
 fn identifiers(alloc: Global, codes: &Codes) -> Result<Vec<Text>, AllocError>
-    ensures { IfOk result (λ names. names.items ≡ map identifier codes.now) }
+    ensures { IfOk result (λ names. names.items ≡ map asn_identifier codes.now) }
 {
     let mut names = Vec::new(alloc);
     for at in 0..codes.len() {

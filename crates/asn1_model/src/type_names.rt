@@ -2,8 +2,8 @@
 ghost use Rattle.std.specs.Prelude.{◌≡◌, IfOk, length, map, slice_get, slice_index_or};
 ghost use Rattle.std.specs.Option.{option_copied};
 ghost use Rattle.message_model.specs.Tables.{Tables};
-ghost use Rattle.asn1_model.specs.ModuleOf.{by_name, names_given, name_of, type_name_of};
-ghost use Rattle.asn1_model.specs.inner.Order.{numbered};
+ghost use Rattle.asn1_model.specs.ModuleOf.{by_name, names_given, asn_name_of, type_name_of};
+ghost use Rattle.asn1_model.specs.inner.Order.{numbered_type};
 ghost use Rattle.asn1_model.specs.inner.TypeNames.{AreNames};
 
 use crate::given::given_names;
@@ -30,7 +30,7 @@ impl TypeNames {
         types: &[NamedType<'_>],
         count: usize,
     ) -> Result<TypeNames, AllocError>
-        ensures { (T : Tables) → map numbered types.now ≡ by_name T → count ≡ length T.types → IfOk result (λ names. AreNames names T) }
+        ensures { (T : Tables) → map numbered_type types.now ≡ by_name T → count ≡ length T.types → IfOk result (λ names. AreNames names T) }
     {
         let bare = bare_names(alloc, types)?;
         let given = given_names(alloc, &bare)?;
@@ -47,7 +47,7 @@ impl TypeNames {
 
     /// The name of the type of this number; none where there is no such type.
     pub(crate) fn name(&self, alloc: Global, number: u32) -> Result<Text, AllocError>
-        ensures { (T : Tables) → AreNames self.now T → IfOk result (λ name. name ≡ name_of T number) }
+        ensures { (T : Tables) → AreNames self.now T → IfOk result (λ name. name ≡ asn_name_of T number) }
     {
         match self.given.get(self.place(number)) {
             Some(name) => name.copy(alloc),
@@ -68,7 +68,7 @@ impl TypeNames {
 
 /// The names of the types, before clashes.
 fn bare_names(alloc: Global, types: &[NamedType<'_>]) -> Result<Vec<Text>, AllocError>
-    ensures { IfOk result (λ names. names.items ≡ map type_name_of (map numbered types.now)) }
+    ensures { IfOk result (λ names. names.items ≡ map type_name_of (map numbered_type types.now)) }
 {
     let mut names = Vec::new(alloc);
     for named in types {

@@ -6,7 +6,7 @@ ghost use Rattle.outside.specs.Parts.{part_text};
 ghost use Rattle.outside.specs.Pushes.{Pushes};
 ghost use Rattle.lexical_core.specs.CanonicalDecimals.{canonical_parts};
 ghost use Rattle.lexical_core.specs.Decimals.{decimal_spelling};
-ghost use Rattle.asn1_model.specs.ModuleText.{bound_constraint, constrained, digits_constraint, pattern_constraint, size_text, strictness};
+ghost use Rattle.asn1_model.specs.ModuleText.{bound_constraint, constraint_text, digits_constraint, pattern_constraint, size_text, strictness};
 
 use crate::comment::Comment;
 use crate::within::push_within;
@@ -52,7 +52,7 @@ fn push_constraint<'a, O: Sink>(
     part: Part<'a>,
     sink: &mut O,
 ) -> Result<(), SinkError>
-    ensures { Pushes O.held O.faults O.room sink.old sink.new result (constrained (part_text word.entry ∷ part_text part.entry ∷ [])) }
+    ensures { Pushes O.held O.faults O.room sink.old sink.new result (constraint_text (part_text word.entry ∷ part_text part.entry ∷ [])) }
 {
     let parts = [
         Part::Bytes(b" (CONSTRAINED BY {-- "),
@@ -65,7 +65,7 @@ fn push_constraint<'a, O: Sink>(
 
 /// Pushes that a text has the form of a type with this name.
 pub(crate) fn push_profile<O: Sink>(word: &[u8], sink: &mut O) -> Result<(), SinkError>
-    ensures { Pushes O.held O.faults O.room sink.old sink.new result (constrained (word.now ∷ codes " profile" ∷ [])) }
+    ensures { Pushes O.held O.faults O.room sink.old sink.new result (constraint_text (word.now ∷ codes " profile" ∷ [])) }
 {
     push_constraint(Part::Bytes(word), Part::Bytes(b" profile"), sink)
 }
@@ -113,7 +113,7 @@ fn push_limit<O: Sink>(
     sink: &mut O,
 ) -> Result<(), SinkError>
     ensures { Pushes O.held O.faults O.room sink.old sink.new result
-        (constrained (side.now ∷ word.now ∷ decimal_spelling (canonical_parts value.now) ∷ [])) }
+        (constraint_text (side.now ∷ word.now ∷ decimal_spelling (canonical_parts value.now) ∷ [])) }
 {
     let _scale = value.scale(); // tells the proof that it is a decimal, which has one canonical text
     let mut buf = [0; 32];
@@ -128,7 +128,7 @@ fn push_words<'a, O: Sink>(
     third: &'a [u8],
     sink: &mut O,
 ) -> Result<(), SinkError>
-    ensures { Pushes O.held O.faults O.room sink.old sink.new result (constrained (first.now ∷ second.now ∷ third.now ∷ [])) }
+    ensures { Pushes O.held O.faults O.room sink.old sink.new result (constraint_text (first.now ∷ second.now ∷ third.now ∷ [])) }
 {
     let parts = [
         Part::Bytes(b" (CONSTRAINED BY {-- "),

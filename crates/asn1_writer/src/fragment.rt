@@ -1,6 +1,6 @@
 // Fragments of a type's text, pushed one after the other.
 ghost use Rattle.outside.specs.Pushes.{Pushes};
-ghost use Rattle.asn1_writer.specs.inner.Fragments.{fragment_text};
+ghost use Rattle.asn1_writer.specs.inner.Fragments.{asn_fragment_text};
 
 use crate::constraint::{push_bound, push_digits, push_pattern, push_profile, push_size};
 use facets::Bound;
@@ -34,12 +34,12 @@ pub enum Fragment<'a> {
 }
 
 impl Render for Fragment<'_> {
-    ghost use Rattle.asn1_writer.specs.inner.Fragments.{fragment_text};
+    ghost use Rattle.asn1_writer.specs.inner.Fragments.{asn_fragment_text};
 
-    ghost rendered = { fragment_text };
+    ghost rendered = { asn_fragment_text };
 
     fn render<O: Sink>(&self, sink: &mut O) -> Result<(), SinkError>
-        ensures { Pushes O.held O.faults O.room sink.old sink.new result (fragment_text self.now) }
+        ensures { Pushes O.held O.faults O.room sink.old sink.new result (asn_fragment_text self.now) }
     {
         match self {
             Fragment::Bytes(bytes) => push_bytes(bytes, sink),

@@ -2,7 +2,7 @@
 ghost use Rattle.std.specs.Prelude.{◌≡◌, ◌∷◌, [], codes};
 ghost use Rattle.std.specs.List.{concat};
 ghost use Rattle.outside.specs.Pushes.{Pushes};
-ghost use Rattle.asn1_model.specs.ModuleText.{braces, constrained, date_text, money_lines, own_line, pattern_constraint, plain_text, shape_text, size_text};
+ghost use Rattle.asn1_model.specs.ModuleText.{braces, constraint_text, date_text, money_lines, own_line, pattern_constraint, plain_text, asn_shape_text, size_text};
 
 use crate::amount::{MoneyLines, push_real};
 use crate::enumeration::CodeLines;
@@ -22,12 +22,12 @@ pub(crate) struct ShapeText<'a> {
 }
 
 impl Render for ShapeText<'_> {
-    ghost use Rattle.asn1_model.specs.ModuleText.{shape_text};
+    ghost use Rattle.asn1_model.specs.ModuleText.{asn_shape_text};
 
-    ghost rendered = { λ text. shape_text text.shape.now };
+    ghost rendered = { λ text. asn_shape_text text.shape.now };
 
     fn render<O: Sink>(&self, sink: &mut O) -> Result<(), SinkError>
-        ensures { Pushes O.held O.faults O.room sink.old sink.new result (shape_text self.now.shape.now) }
+        ensures { Pushes O.held O.faults O.room sink.old sink.new result (asn_shape_text self.now.shape.now) }
     {
         push_shape(self.shape, sink)
     }
@@ -35,7 +35,7 @@ impl Render for ShapeText<'_> {
 
 /// Pushes the text of a shape.
 fn push_shape<O: Sink>(shape: &AsnShape, sink: &mut O) -> Result<(), SinkError>
-    ensures { Pushes O.held O.faults O.room sink.old sink.new result (shape_text shape.now) }
+    ensures { Pushes O.held O.faults O.room sink.old sink.new result (asn_shape_text shape.now) }
 {
     match shape {
         AsnShape::Sequence(fields) => {
@@ -90,7 +90,7 @@ fn push_plain<O: Sink>(
 /// Pushes the type of texts: X.680 §41.
 fn push_text<O: Sink>(step: &Step, pattern: &Option<Text>, sink: &mut O) -> Result<(), SinkError>
     ensures { Pushes O.held O.faults O.room sink.old sink.new result
-        (concat (codes "UTF8String" ∷ size_text step.now.min step.now.max ∷ constrained (codes "xml characters" ∷ []) ∷ pattern_constraint pattern.now ∷ [])) }
+        (concat (codes "UTF8String" ∷ size_text step.now.min step.now.max ∷ constraint_text (codes "xml characters" ∷ []) ∷ pattern_constraint pattern.now ∷ [])) }
 {
     let fragments = [
         Fragment::Bytes(b"UTF8String"),

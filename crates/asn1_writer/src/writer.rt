@@ -1,7 +1,7 @@
 // The text of a module.
 ghost use Rattle.std.specs.Prelude.{flat_map};
 ghost use Rattle.outside.specs.Pushes.{Pushes, as_push};
-ghost use Rattle.asn1_model.specs.ModuleText.{module_text, type_text};
+ghost use Rattle.asn1_model.specs.ModuleText.{module_text, asn_type_text};
 
 use crate::shape::ShapeText;
 use crate::within::push_named;
@@ -53,12 +53,12 @@ struct TypeTexts<'a> {
 
 impl Render for TypeTexts<'_> {
     ghost use Rattle.std.specs.Prelude.{flat_map};
-    ghost use Rattle.asn1_model.specs.ModuleText.{type_text};
+    ghost use Rattle.asn1_model.specs.ModuleText.{asn_type_text};
 
-    ghost rendered = { λ texts. flat_map type_text texts.types.now };
+    ghost rendered = { λ texts. flat_map asn_type_text texts.types.now };
 
     fn render<O: Sink>(&self, sink: &mut O) -> Result<(), SinkError>
-        ensures { Pushes O.held O.faults O.room sink.old sink.new result (flat_map type_text self.now.types.now) }
+        ensures { Pushes O.held O.faults O.room sink.old sink.new result (flat_map asn_type_text self.now.types.now) }
     {
         push_types(self.types.as_slice(), sink)
     }
@@ -66,7 +66,7 @@ impl Render for TypeTexts<'_> {
 
 /// Pushes the texts of types, one after the other.
 fn push_types<O: Sink>(types: &[AsnType], sink: &mut O) -> Result<(), SinkError>
-    ensures { Pushes O.held O.faults O.room sink.old sink.new result (flat_map type_text types.now) }
+    ensures { Pushes O.held O.faults O.room sink.old sink.new result (flat_map asn_type_text types.now) }
 {
     for one in types {
         if let Err(error) = push_type(one, sink) {
@@ -78,7 +78,7 @@ fn push_types<O: Sink>(types: &[AsnType], sink: &mut O) -> Result<(), SinkError>
 
 /// Pushes the text of a type: X.680 §16.1.
 fn push_type<O: Sink>(one: &AsnType, sink: &mut O) -> Result<(), SinkError>
-    ensures { Pushes O.held O.faults O.room sink.old sink.new result (type_text one.now) }
+    ensures { Pushes O.held O.faults O.room sink.old sink.new result (asn_type_text one.now) }
 {
     let shape = ShapeText { shape: &one.shape };
     push_named(one.name.bytes(), b" ::= ", &shape, b"\n\n", sink)

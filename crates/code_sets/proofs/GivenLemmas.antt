@@ -19,7 +19,7 @@ use Rattle.lexical_core.proofs.ByteKeys.{key_cmp, found, found_updated}
 use Rattle.indexmap.specs.IndexSet.{IndexSet, insert_key}
 use Rattle.code_sets.specs.declared.record.CodeRecord.{CodeRecord}
 use Rattle.code_sets.specs.Codes.{codes_for, once}
-use Rattle.code_sets.specs.inner.Given.{texts_of, with_text, codes_in}
+use Rattle.code_sets.specs.inner.Given.{key_texts, with_text, codes_in}
 
 -- what follows where a result is Ok
 pub on_ok : {T E P Q : Type 0} (r : Result T E) → (P → Q) → OnOk r P → OnOk r Q
@@ -33,24 +33,24 @@ any_map f p [] = refl
 any_map f p (x ∷ xs) = ap (λ b. p (f x) || b) (any_map f p xs)
 
 -- a key is found where its text is
-pub text_found : (text : List ℕ) (keys : List (Vec ℕ)) → list_any (λ (k : Vec ℕ). bytes_eq text k.items) keys ≡ list_any (bytes_eq text) (texts_of keys)
+pub text_found : (text : List ℕ) (keys : List (Vec ℕ)) → list_any (λ (k : Vec ℕ). bytes_eq text k.items) keys ≡ list_any (bytes_eq text) (key_texts keys)
 text_found text keys = sym (any_map (λ (k : Vec ℕ). k.items) (bytes_eq text) keys)
 
 -- one more key
-pub key_added : (keys : List (Vec ℕ)) (k : Vec ℕ) → texts_of (insert_key (λ x y. bytes_eq x.items y.items) keys k) ≡ with_text (texts_of keys) k.items
+pub key_added : (keys : List (Vec ℕ)) (k : Vec ℕ) → key_texts (insert_key (λ x y. bytes_eq x.items y.items) keys k) ≡ with_text (key_texts keys) k.items
 key_added keys k =
-    case (list_any (λ (x : Vec ℕ). bytes_eq k.items x.items) keys) ∙ ap (λ b. if b then texts_of keys else texts_of keys ++ k.items ∷ []) (text_found k.items keys)
+    case (list_any (λ (x : Vec ℕ). bytes_eq k.items x.items) keys) ∙ ap (λ b. if b then key_texts keys else key_texts keys ++ k.items ∷ []) (text_found k.items keys)
   where
-    case : (b : Bool) → texts_of (if b then keys else keys ++ k ∷ []) ≡ (if b then texts_of keys else texts_of keys ++ k.items ∷ [])
+    case : (b : Bool) → key_texts (if b then keys else keys ++ k ∷ []) ≡ (if b then key_texts keys else key_texts keys ++ k.items ∷ [])
     case true = refl
     case false = map-append (λ (k : Vec ℕ). k.items) keys (k ∷ [])
 
 module _ {S : Type 0} where
   -- the texts of a set that may be none
   abbrev held : Option (IndexSet (Vec ℕ) S) → List (List ℕ)
-  held o = option_map_or (λ (s : IndexSet (Vec ℕ) S). texts_of s.keys) o []
+  held o = option_map_or (λ (s : IndexSet (Vec ℕ) S). key_texts s.keys) o []
 
-  held_if : (b : Bool) (s : IndexSet (Vec ℕ) S) (o : Option (IndexSet (Vec ℕ) S)) → held (if b then Some s else o) ≡ (if b then texts_of s.keys else held o)
+  held_if : (b : Bool) (s : IndexSet (Vec ℕ) S) (o : Option (IndexSet (Vec ℕ) S)) → held (if b then Some s else o) ≡ (if b then key_texts s.keys else held o)
   held_if true s o = refl
   held_if false s o = refl
 
@@ -59,19 +59,19 @@ module _ {S : Type 0} where
   held_none (Some s) e = absurd cc
 
   module _ (p : List ℕ) (m n : BTreeMap (Vec ℕ) (IndexSet (Vec ℕ) S)) where
-    given_updated : (s : IndexSet (Vec ℕ) S) → UpdatesBy key_cmp (λ k. slice_cmp nat_cmp p k.items) m n (Some s) → (q : List ℕ) → codes_in n q ≡ (if bytes_eq p q then texts_of s.keys else codes_in m q)
+    given_updated : (s : IndexSet (Vec ℕ) S) → UpdatesBy key_cmp (λ k. slice_cmp nat_cmp p k.items) m n (Some s) → (q : List ℕ) → codes_in n q ≡ (if bytes_eq p q then key_texts s.keys else codes_in m q)
     given_updated s h q = ap held (found_updated p m n (Some s) h q) ∙ held_if (bytes_eq p q) s (found m q)
 
     -- room under a new name adds no codes
     pub set_added : (s : IndexSet (Vec ℕ) S) → UpdatesBy key_cmp (λ k. slice_cmp nat_cmp p k.items) m n (Some s) → s.keys ≡ [] → is_some (found m p) ≡ false → (q : List ℕ) → codes_in n q ≡ codes_in m q
     set_added s h empty new q = given_updated s h q ∙ case (bytes_eq p q) refl
       where
-        case : (b : Bool) → bytes_eq p q ≡ b → (if b then texts_of s.keys else codes_in m q) ≡ codes_in m q
-        case true e = ap texts_of empty ∙ sym (subst (λ l. codes_in m l ≡ []) ((bytes_eq-Decides p q).0 e) (held_none (found m p) new))
+        case : (b : Bool) → bytes_eq p q ≡ b → (if b then key_texts s.keys else codes_in m q) ≡ codes_in m q
+        case true e = ap key_texts empty ∙ sym (subst (λ l. codes_in m l ≡ []) ((bytes_eq-Decides p q).0 e) (held_none (found m p) new))
         case false e = refl
 
     -- one more code under a name
-    pub code_added : (s t : IndexSet (Vec ℕ) S) (code : List ℕ) → UpdatesBy key_cmp (λ k. slice_cmp nat_cmp p k.items) m n (Some t) → found m p ≡ Some s → texts_of t.keys ≡ with_text (texts_of s.keys) code
+    pub code_added : (s t : IndexSet (Vec ℕ) S) (code : List ℕ) → UpdatesBy key_cmp (λ k. slice_cmp nat_cmp p k.items) m n (Some t) → found m p ≡ Some s → key_texts t.keys ≡ with_text (key_texts s.keys) code
         → (q : List ℕ) → codes_in n q ≡ (if bytes_eq p q then with_text (codes_in m p) code else codes_in m q)
     code_added s t code h there more q =
         given_updated t h q ∙ ap (λ l. if bytes_eq p q then l else codes_in m q) (more ∙ ap (λ o. with_text (held o) code) (sym there))

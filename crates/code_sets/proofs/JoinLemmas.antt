@@ -13,11 +13,11 @@ use Rattle.repo_objects.specs.declared.objects.CodeDef.{CodeDef}
 use Rattle.repo_objects.specs.declared.objects.MessageDef.{MessageDef}
 use Rattle.repo_objects.specs.declared.objects.Object.{Object}
 use Rattle.repo_objects.specs.Objects.{HasCodeTexts}
-use Rattle.repo_objects.specs.Repository.{Entry, Contents, coded, with_codes}
+use Rattle.repo_objects.specs.Repository.{DictionaryEntry, Contents, entry_with_codes, with_codes}
 use Rattle.code_sets.specs.declared.record.CodeRecord.{CodeRecord}
-use Rattle.code_sets.specs.Codes.{JoinFault, JoinsAll, code_of, codes_for, has_own_codes, is_code_set, is_none_yet, is_taken, joined, joined_entry, once}
+use Rattle.code_sets.specs.Codes.{JoinFault, JoinsAll, code_of, codes_for, has_own_codes, is_code_set, is_none_yet, is_taken, joined_contents, joined_entry, once}
 use Rattle.code_sets.specs.CodesErrors.{AreCodes}
-use Rattle.code_sets.specs.inner.Given.{NamesOwn, given_entry, is_named, with_own_name, with_text}
+use Rattle.code_sets.specs.inner.Given.{NamesOwn, given_entry, is_set_named, with_own_name, with_text}
 
 -- ---- an item of a list
 
@@ -64,7 +64,7 @@ any_with q n names = case (list_any (bytes_eq n) names) refl
         list_any-append (bytes_eq q) names (n ∷ []) ∙ ap (λ b. list_any (bytes_eq q) names || b) (or_false (bytes_eq q n) ∙ nat_list_eq_equiv.symm q n)
 
 -- the names of the entries with one more
-pub own_more : (names : List (List ℕ)) (es : List Entry) (e : Entry) → NamesOwn names es → NamesOwn (with_own_name names e) (es ++ e ∷ [])
+pub own_more : (names : List (List ℕ)) (es : List DictionaryEntry) (e : DictionaryEntry) → NamesOwn names es → NamesOwn (with_own_name names e) (es ++ e ∷ [])
 own_more names es e h q =
     case (is_code_set e.object.kind) (not (is_none_yet e.object.codes))
     ∙ ap (λ b. b || (has_own_codes q e || false)) (h q) ∙ sym (list_any-append (has_own_codes q) es (e ∷ []))
@@ -76,14 +76,14 @@ own_more names es e h q =
 
 -- ---- the first record that names one
 
-named_taken : (names : List (List ℕ)) (entries : List Entry) (rs : List CodeRecord) → NamesOwn names entries → list_any (is_named names) rs ≡ list_any (is_taken entries) rs
-named_taken names entries rs h = any_same (is_named names) (is_taken entries) rs (λ r. h r.set)
+named_taken : (names : List (List ℕ)) (entries : List DictionaryEntry) (rs : List CodeRecord) → NamesOwn names entries → list_any (is_set_named names) rs ≡ list_any (is_taken entries) rs
+named_taken names entries rs h = any_same (is_set_named names) (is_taken entries) rs (λ r. h r.set)
 
-pub joins_all : (names : List (List ℕ)) (entries : List Entry) (rs : List CodeRecord) → NamesOwn names entries → list_any (is_named names) rs ≡ false → JoinsAll rs entries
+pub joins_all : (names : List (List ℕ)) (entries : List DictionaryEntry) (rs : List CodeRecord) → NamesOwn names entries → list_any (is_set_named names) rs ≡ false → JoinsAll rs entries
 joins_all names entries rs h none = ap not (sym (named_taken names entries rs h) ∙ none)
 
-pub named_first : (names : List (List ℕ)) (entries : List Entry) (rs : List CodeRecord) (i : ℕ) (r : CodeRecord) → NamesOwn names entries → list_any (is_named names) (take i rs) ≡ false
-    → i < length rs → slice_get rs i ≡ Some r → is_named names r ≡ true → JoinFault rs entries r.number
+pub named_first : (names : List (List ℕ)) (entries : List DictionaryEntry) (rs : List CodeRecord) (i : ℕ) (r : CodeRecord) → NamesOwn names entries → list_any (is_set_named names) (take i rs) ≡ false
+    → i < length rs → slice_get rs i ≡ Some r → is_set_named names r ≡ true → JoinFault rs entries r.number
 named_first names entries rs i r h none below at named =
     let item = item_at rs i below in
     let same : item.0 ≡ r = some_same item.0 r (sym item.3 ∙ at) in
@@ -100,42 +100,42 @@ named_first names entries rs i r h none below at named =
     some_same : (x y : CodeRecord) → Some x ≡ Some y → x ≡ y
     some_same x y e = cc
 
-pub none_named : (names : List (List ℕ)) (rs : List CodeRecord) (r : CodeRecord) → list_any (is_named names) rs ≡ false → is_named names r ≡ false → list_any (is_named names) (rs ++ r ∷ []) ≡ false
-none_named names rs r h k = list_any-append (is_named names) rs (r ∷ []) ∙ (λ i. h i || (k i || false))
+pub none_named : (names : List (List ℕ)) (rs : List CodeRecord) (r : CodeRecord) → list_any (is_set_named names) rs ≡ false → is_set_named names r ≡ false → list_any (is_set_named names) (rs ++ r ∷ []) ≡ false
+none_named names rs r h k = list_any-append (is_set_named names) rs (r ∷ []) ∙ (λ i. h i || (k i || false))
 
 -- ---- the entries with their codes
 
-put_at : (before after : List Entry) (e : Entry) (codes : List CodeDef) → with_codes (before ++ e ∷ after) (length before) codes ≡ before ++ (coded codes e ∷ after)
+put_at : (before after : List DictionaryEntry) (e : DictionaryEntry) (codes : List CodeDef) → with_codes (before ++ e ∷ after) (length before) codes ≡ before ++ (entry_with_codes codes e ∷ after)
 put_at [] after e codes = refl
 put_at (x ∷ before) after e codes = ap (λ l. x ∷ l) (put_at before after e codes)
 
-found_at : (before after : List Entry) (e : Entry) → slice_get (before ++ e ∷ after) (length before) ≡ Some e
+found_at : (before after : List DictionaryEntry) (e : DictionaryEntry) → slice_get (before ++ e ∷ after) (length before) ≡ Some e
 found_at [] after e = refl
 found_at (x ∷ before) after e = found_at before after e
 
-module _ (kept : List ℕ → List (List ℕ)) (objects before after : List Entry) (e : Entry) (at : ℕ) (split : objects ≡ before ++ e ∷ after) (place : at ≡ length before) where
+module _ (kept : List ℕ → List (List ℕ)) (objects before after : List DictionaryEntry) (e : DictionaryEntry) (at : ℕ) (split : objects ≡ before ++ e ∷ after) (place : at ≡ length before) where
   pub entry_there : slice_get objects at ≡ Some e
   entry_there = (λ i. slice_get (split i) (place i)) ∙ found_at before after e
 
   -- it takes the codes of its name
-  pub takes_given : (id : List ℕ) (o : Object) (name : List ℕ) (codes : List CodeDef) → (let there : Entry = record { id = id; object = o } in Some there ≡ slice_get objects at)
+  pub takes_given : (id : List ℕ) (o : Object) (name : List ℕ) (codes : List CodeDef) → (let there : DictionaryEntry = record { id = id; object = o } in Some there ≡ slice_get objects at)
       → (is_code_set o.kind && is_none_yet o.codes) ≡ true → name ≡ o.name → codes ≡ map code_of (kept name) → with_codes objects at codes ≡ before ++ (given_entry kept e ∷ after)
   takes_given id o name codes there takes named is =
       let same : o ≡ e.object = one_object id o (there ∙ entry_there) in
       (λ i. with_codes (split i) (place i) (is i)) ∙ put_at before after e (map code_of (kept name))
-      ∙ ap (λ n. before ++ (coded (map code_of (kept n)) e ∷ after)) (named ∙ ap (λ (o : Object). o.name) same)
-      ∙ ap (λ b. before ++ ((if b then coded (map code_of (kept e.object.name)) e else e) ∷ after)) (sym takes ∙ ap (λ (o : Object). is_code_set o.kind && is_none_yet o.codes) same)
+      ∙ ap (λ n. before ++ (entry_with_codes (map code_of (kept n)) e ∷ after)) (named ∙ ap (λ (o : Object). o.name) same)
+      ∙ ap (λ b. before ++ ((if b then entry_with_codes (map code_of (kept e.object.name)) e else e) ∷ after)) (sym takes ∙ ap (λ (o : Object). is_code_set o.kind && is_none_yet o.codes) same)
     where
-      one_object : (id : List ℕ) (o : Object) → (let there : Entry = record { id = id; object = o } in Some there ≡ Some e) → o ≡ e.object
-      one_object id o h = ap (λ (r : Option Entry). elim r [ None ↦ o | Some x ↦ x.object ]) h
+      one_object : (id : List ℕ) (o : Object) → (let there : DictionaryEntry = record { id = id; object = o } in Some there ≡ Some e) → o ≡ e.object
+      one_object id o h = ap (λ (r : Option DictionaryEntry). elim r [ None ↦ o | Some x ↦ x.object ]) h
 
 -- the entries before the place with their codes, the others as they were
-abbrev pub joined_front : (Entry → Entry) → List Entry → ℕ → List Entry
+abbrev pub joined_front : (DictionaryEntry → DictionaryEntry) → List DictionaryEntry → ℕ → List DictionaryEntry
 joined_front f objects at = map f (take at objects) ++ drop at objects
 
-pub front_more : (f : Entry → Entry) (objects : List Entry) (at : ℕ) (messages : List MessageDef) (old new : Contents) → at < length objects
+pub front_more : (f : DictionaryEntry → DictionaryEntry) (objects : List DictionaryEntry) (at : ℕ) (messages : List MessageDef) (old new : Contents) → at < length objects
     → old ≡ record { objects = joined_front f objects at; messages = messages }
-    → ((before after : List Entry) (e : Entry) → old.objects ≡ before ++ e ∷ after → at ≡ length before → new ≡ record old { objects = before ++ (f e ∷ after) })
+    → ((before after : List DictionaryEntry) (e : DictionaryEntry) → old.objects ≡ before ++ e ∷ after → at ≡ length before → new ≡ record old { objects = before ++ (f e ∷ after) })
     → new ≡ record { objects = joined_front f objects (at + 1); messages = messages }
 front_more f objects at messages old new below was step =
     let item = item_at objects at below in
@@ -147,25 +147,25 @@ front_more f objects at messages old new below was step =
     sym (append_assoc front (f item.0 ∷ []) behind) ∙ ap (λ l. l ++ behind) (sym (map-append f (take at objects) (item.0 ∷ [])) ∙ ap (map f) (sym item.1)) in
     step front behind item.0 cut long ∙ (λ i. record { objects = more i; messages = (was i).messages })
   where
-    place : (at : ℕ) (objects : List Entry) → at < length objects → at ≡ length (map f (take at objects))
+    place : (at : ℕ) (objects : List DictionaryEntry) → at < length objects → at ≡ length (map f (take at objects))
     place at [] below = absurd (omega (arith, below))
     place zero (e ∷ es) below = refl
     place (suc at) (e ∷ es) below = ap suc (place at es (omega arith))
 
-pub front_all : (f : Entry → Entry) (objects : List Entry) (at : ℕ) → at ≡ length objects → joined_front f objects at ≡ map f objects
+pub front_all : (f : DictionaryEntry → DictionaryEntry) (objects : List DictionaryEntry) (at : ℕ) → at ≡ length objects → joined_front f objects at ≡ map f objects
 front_all f objects at e = ap (joined_front f objects) e ∙ whole objects
   where
-    whole : (objects : List Entry) → joined_front f objects (length objects) ≡ map f objects
+    whole : (objects : List DictionaryEntry) → joined_front f objects (length objects) ≡ map f objects
     whole [] = refl
     whole (e ∷ es) = ap (λ l. f e ∷ l) (whole es)
 
 -- what is kept of the records gives what they join
 pub joined_is : (kept : List ℕ → List (List ℕ)) (lists : List CodeRecord) (old : Contents) → ((name : List ℕ) → kept name ≡ once [] (codes_for name lists))
-    → record old { objects = map (given_entry kept) old.objects } ≡ joined lists old
+    → record old { objects = map (given_entry kept) old.objects } ≡ joined_contents lists old
 joined_is kept lists old h =
-    ap (λ (l : List Entry). record old { objects = l })
+    ap (λ (l : List DictionaryEntry). record old { objects = l })
     (map_same (given_entry kept) (joined_entry lists) old.objects
-    (λ e. ap (λ l. if is_code_set e.object.kind && is_none_yet e.object.codes then coded (map code_of l) e else e) (h e.object.name)))
+    (λ e. ap (λ l. if is_code_set e.object.kind && is_none_yet e.object.codes then entry_with_codes (map code_of l) e else e) (h e.object.name)))
 
 -- ---- texts
 

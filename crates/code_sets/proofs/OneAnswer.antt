@@ -6,7 +6,7 @@ use Rattle.csv.specs.declared.parser.Config.{Config}
 use Rattle.csv.specs.declared.parser.State.{State}
 use Rattle.csv.specs.declared.parser.State.TheVariants as st
 use Rattle.code_sets.specs.declared.record.CodeRecord.{CodeRecord}
-use Rattle.code_sets.specs.Codes.{Fields, AreSound, IsLeastBroken, Reads, ReadFault, numbered}
+use Rattle.code_sets.specs.Codes.{Fields, AreSoundRecords, IsLeastRecordRule, ReadsCodes, ReadFault, numbered_records}
 
 -- one list of records begins with the other
 abbrev Agree : List Fields → List Fields → Type 0
@@ -48,21 +48,21 @@ same_head r t rs ts e = cc
 same_tail : (r t : Fields) (rs ts : List Fields) → r ∷ rs ≡ t ∷ ts → rs ≡ ts
 same_tail r t rs ts e = cc
 
-one_from : (b c : List Fields) (f g : Fields) (xs ys : List Fields) (r s : ℕ) → b ++ f ∷ xs ≡ c ++ g ∷ ys → AreSound b → AreSound c → IsLeastBroken f r → IsLeastBroken g s
+one_from : (b c : List Fields) (f g : Fields) (xs ys : List Fields) (r s : ℕ) → b ++ f ∷ xs ≡ c ++ g ∷ ys → AreSoundRecords b → AreSoundRecords c → IsLeastRecordRule f r → IsLeastRecordRule g s
     → (r ≡ s) × (length b ≡ length c)
 one_from [] [] f g xs ys r s e bs cs h k =
     let same = same_head f g xs ys e in
-    let h' = subst (λ v. IsLeastBroken v r) same h in
+    let h' = subst (λ v. IsLeastRecordRule v r) same h in
     let one = h'.1 s k.0 in
     let other = k.1 r h'.0 in
     (omega (arith, one, other), refl)
-one_from [] (v ∷ c) f g xs ys r s e bs cs h k = absurd (cs.0 r (subst (λ w. IsLeastBroken w r) (same_head f v xs (c ++ g ∷ ys) e) h).0)
-one_from (v ∷ b) [] f g xs ys r s e bs cs h k = absurd (bs.0 s (subst (λ w. IsLeastBroken w s) (sym (same_head v g (b ++ f ∷ xs) ys e)) k).0)
+one_from [] (v ∷ c) f g xs ys r s e bs cs h k = absurd (cs.0 r (subst (λ w. IsLeastRecordRule w r) (same_head f v xs (c ++ g ∷ ys) e) h).0)
+one_from (v ∷ b) [] f g xs ys r s e bs cs h k = absurd (bs.0 s (subst (λ w. IsLeastRecordRule w s) (sym (same_head v g (b ++ f ∷ xs) ys e)) k).0)
 one_from (v ∷ b) (w ∷ c) f g xs ys r s e bs cs h k =
     let later = one_from b c f g xs ys r s (same_tail v w (b ++ f ∷ xs) (c ++ g ∷ ys) e) bs.1 cs.1 h k in
     (later.0, omega (arith, later.1))
 
-not_sound : (b : List Fields) (f : Fields) (xs : List Fields) (r : ℕ) → AreSound (b ++ f ∷ xs) → IsLeastBroken f r → ⊥
+not_sound : (b : List Fields) (f : Fields) (xs : List Fields) (r : ℕ) → AreSoundRecords (b ++ f ∷ xs) → IsLeastRecordRule f r → ⊥
 not_sound [] f xs r s h = s.0 r h.0
 not_sound (v ∷ b) f xs r s h = not_sound b f xs r s.1 h
 
@@ -82,17 +82,17 @@ one_read_fault bytes r s m n h k = by (fronts_agree default_config st.StartRecor
     by (inr (more, e)) = tell (one_from h.before k.before h.fields k.fields [] more r s (e ∙ longer k.before k.fields more) h.sound k.sound h.broken k.broken)
 
 -- not both
-pub read_has_none : (bytes : List ℕ) (lists : List CodeRecord) (r n : ℕ) → Reads bytes lists → ReadFault bytes r n → ⊥
+pub read_has_none : (bytes : List ℕ) (lists : List CodeRecord) (r n : ℕ) → ReadsCodes bytes lists → ReadFault bytes r n → ⊥
 read_has_none bytes lists r n (rows, (s, rest, reached, none), sound, is) k =
     let more = all_longest default_config st.StartRecord (strip_bom bytes) rows (k.before ++ k.fields ∷ []) s k.front.0 rest k.front.1 reached none k.front.2 in
-    not_sound k.before k.fields more.0 r (subst AreSound (more.1 ∙ longer k.before k.fields more.0) sound) k.broken
+    not_sound k.before k.fields more.0 r (subst AreSoundRecords (more.1 ∙ longer k.before k.fields more.0) sound) k.broken
 
 -- one list of codes
-pub one_reading : (bytes : List ℕ) (a b : List CodeRecord) → Reads bytes a → Reads bytes b → a ≡ b
+pub one_reading : (bytes : List ℕ) (a b : List CodeRecord) → ReadsCodes bytes a → ReadsCodes bytes b → a ≡ b
 one_reading bytes a b (rows, (s, rest, reached, none), sound, is) (rows', (s', rest', reached', none'), sound', is') =
     let one = all_longest default_config st.StartRecord (strip_bom bytes) rows rows' s s' rest rest' reached none reached' in
     let other = all_longest default_config st.StartRecord (strip_bom bytes) rows' rows s' s rest' rest reached' none' reached in
-    is ∙ ap (numbered 1) (same rows rows' one.0 other.0 one.1 other.1) ∙ sym is'
+    is ∙ ap (numbered_records 1) (same rows rows' one.0 other.0 one.1 other.1) ∙ sym is'
   where
     none_left : (xs : List Fields) → length xs ≡ 0 → xs ≡ []
     none_left [] h = refl

@@ -3,13 +3,13 @@ use Rattle.std.proofs.Common.{◌≡◌, ℕ, List, [], ◌∷◌, codes, refl}
 use Rattle.csv.proofs.OnLiterals.{csv_on_literals}
 use Rattle.csv.specs.Reading.{records, default_config, strip_bom}
 use Rattle.code_sets.specs.declared.record.CodeRecord.{CodeRecord}
-use Rattle.code_sets.specs.Codes.{numbered, codes_for, once}
+use Rattle.code_sets.specs.Codes.{numbered_records, codes_for, once}
 
 abbrev c : ℕ → List ℕ → List ℕ → CodeRecord
 c n set code = record { number = n; set = set; code = code }
 
 -- numbers go over all records
-two_records : numbered 1 ((codes "Own" ∷ (codes "A" ∷ [])) ∷ ((codes "Sub" ∷ (codes "B" ∷ [])) ∷ [])) ≡ c 1 (codes "Own") (codes "A") ∷ (c 2 (codes "Sub") (codes "B") ∷ [])
+two_records : numbered_records 1 ((codes "Own" ∷ (codes "A" ∷ [])) ∷ ((codes "Sub" ∷ (codes "B" ∷ [])) ∷ [])) ≡ c 1 (codes "Own") (codes "A") ∷ (c 2 (codes "Sub") (codes "B") ∷ [])
 two_records = refl
 
 -- a repeated record counts once

@@ -13,7 +13,7 @@ use Rattle.csv.specs.declared.parser.State.TheVariants as st
 use Rattle.lexical_core.specs.Characters.{IsInSome, IsXmlChar, IsXmlText}
 use Rattle.lexical_core.proofs.CharacterLemmas.{IsScalar-xml_char}
 use Rattle.code_sets.specs.declared.record.CodeRecord.{CodeRecord}
-use Rattle.code_sets.specs.Codes.{Fields, IsCode, AreSound, IsLeastBroken, IsSound, Reads, ReadFault, numbered}
+use Rattle.code_sets.specs.Codes.{Fields, IsCode, AreSoundRecords, IsLeastRecordRule, IsSoundRecord, ReadsCodes, ReadFault, numbered_records}
 use Rattle.code_sets.proofs.Records.{least_one, least_two, least_three, sound_two}
 
 -- ---- texts
@@ -82,12 +82,12 @@ decide_code (b ∷ bs) = by (decide_text (b ∷ bs))
 -- ---- a record
 
 -- it breaks no rule, or a least one
-decide_record : (fields : Fields) → IsSound fields ⊎ ((rule : ℕ) × IsLeastBroken fields rule)
+decide_record : (fields : Fields) → IsSoundRecord fields ⊎ ((rule : ℕ) × IsLeastRecordRule fields rule)
 decide_record [] = inr (1, least_one [] (λ e. omega (arith, e)))
 decide_record (a ∷ []) = inr (1, least_one (a ∷ []) (λ e. omega (arith, e)))
 decide_record (a ∷ (b ∷ [])) = by (decide_utf8 a) (decide_utf8 b) (decide_code b)
   where
-    by : Decided (IsUtf8 a) → Decided (IsUtf8 b) → Decided (IsCode b) → IsSound (a ∷ (b ∷ [])) ⊎ ((rule : ℕ) × IsLeastBroken (a ∷ (b ∷ [])) rule)
+    by : Decided (IsUtf8 a) → Decided (IsUtf8 b) → Decided (IsCode b) → IsSoundRecord (a ∷ (b ∷ [])) ⊎ ((rule : ℕ) × IsLeastRecordRule (a ∷ (b ∷ [])) rule)
     by (inl u) (inl v) (inl k) = inl (sound_two (a ∷ (b ∷ [])) a b refl u v k)
     by (inl u) (inl v) (inr n) = inr (3, least_three (a ∷ (b ∷ [])) a b refl u v n)
     by (inl u) (inr n) k = inr (2, least_two (a ∷ (b ∷ [])) a b refl (λ x y. n y))
@@ -124,22 +124,22 @@ shorter cfg s fields field (c ∷ rest) p h =
 
 -- the records from here break no rule
 abbrev AllSound : State → List ℕ → Type 0
-AllSound s xs = (rows : List Fields) × AreRecords default_config s xs rows × AreSound rows
+AllSound s xs = (rows : List Fields) × AreRecords default_config s xs rows × AreSoundRecords rows
 
 -- one from here breaks a rule, and none before it
 abbrev FirstBroken : State → List ℕ → Type 0
 FirstBroken s xs =
-    (before : List Fields) × (fields : Fields) × (rule : ℕ) × (s2 : State) × (rest : List ℕ) × Reached default_config s xs (before ++ fields ∷ []) s2 rest × AreSound before × IsLeastBroken fields rule
+    (before : List Fields) × (fields : Fields) × (rule : ℕ) × (s2 : State) × (rest : List ℕ) × Reached default_config s xs (before ++ fields ∷ []) s2 rest × AreSoundRecords before × IsLeastRecordRule fields rule
 
 no_more : (s : State) (xs : List ℕ) → next_record default_config s [] [] xs ≡ None → AllSound s xs
 unfolding Reached
 no_more s xs none = ([], (s, xs, (refl, refl), none), tt)
 
-broken_here : (s : State) (xs : List ℕ) (p : Read) (rule : ℕ) → next_record default_config s [] [] xs ≡ Some p → IsLeastBroken p.0 rule → FirstBroken s xs
+broken_here : (s : State) (xs : List ℕ) (p : Read) (rule : ℕ) → next_record default_config s [] [] xs ≡ Some p → IsLeastRecordRule p.0 rule → FirstBroken s xs
 unfolding Reached
 broken_here s xs p rule e broken = ([], p.0, rule, p.1, p.2, (p, e, refl, (refl, refl)), tt, broken)
 
-one_more : (s : State) (xs : List ℕ) (p : Read) → next_record default_config s [] [] xs ≡ Some p → IsSound p.0 → AllSound p.1 p.2 ⊎ FirstBroken p.1 p.2 → AllSound s xs ⊎ FirstBroken s xs
+one_more : (s : State) (xs : List ℕ) (p : Read) → next_record default_config s [] [] xs ≡ Some p → IsSoundRecord p.0 → AllSound p.1 p.2 ⊎ FirstBroken p.1 p.2 → AllSound s xs ⊎ FirstBroken s xs
 unfolding Reached
 one_more s xs p e sound (inl (rows, (s2, rest, reached, none), later)) = inl (p.0 ∷ rows, (s2, rest, (p, e, refl, reached), none), (sound, later))
 one_more s xs p e sound (inr (before, fields, rule, s2, rest, reached, later, broken)) = inr (p.0 ∷ before, fields, rule, s2, rest, (p, e, refl, reached), (sound, later), broken)
@@ -156,7 +156,7 @@ outcome (suc n) s xs below = by (next_record default_config s [] [] xs) refl (λ
     go_on p (inl less) later = later p.1 p.2 (omega (arith, less, below))
     go_on p (inr ended) later = inl (no_more p.1 p.2 (at_end p.1 p.2 ended.0 ended.1))
 
-    record_at : (p : Read) → next_record default_config s [] [] xs ≡ Some p → AllSound p.1 p.2 ⊎ FirstBroken p.1 p.2 → IsSound p.0 ⊎ ((rule : ℕ) × IsLeastBroken p.0 rule) → AllSound s xs ⊎ FirstBroken s xs
+    record_at : (p : Read) → next_record default_config s [] [] xs ≡ Some p → AllSound p.1 p.2 ⊎ FirstBroken p.1 p.2 → IsSoundRecord p.0 ⊎ ((rule : ℕ) × IsLeastRecordRule p.0 rule) → AllSound s xs ⊎ FirstBroken s xs
     record_at p e later (inl sound) = one_more s xs p e sound later
     record_at p e later (inr broken) = inr (broken_here s xs p broken.0 e broken.1)
 
@@ -165,10 +165,10 @@ outcome (suc n) s xs below = by (next_record default_config s [] [] xs) refl (λ
     by (Some p) e later = record_at p e (go_on p (shorter default_config s [] [] xs p e) later) (decide_record p.0)
 
 -- all bytes have one or the other
-pub reads_or_has_fault : (bytes : List ℕ) → ((lists : List CodeRecord) × Reads bytes lists) ⊎ ((rule : ℕ) × (number : ℕ) × ReadFault bytes rule number)
+pub reads_or_has_fault : (bytes : List ℕ) → ((lists : List CodeRecord) × ReadsCodes bytes lists) ⊎ ((rule : ℕ) × (number : ℕ) × ReadFault bytes rule number)
 reads_or_has_fault bytes = by (outcome (suc (length (strip_bom bytes))) st.StartRecord (strip_bom bytes) (omega arith))
   where
-    by : AllSound st.StartRecord (strip_bom bytes) ⊎ FirstBroken st.StartRecord (strip_bom bytes) → ((lists : List CodeRecord) × Reads bytes lists) ⊎ ((rule : ℕ) × (number : ℕ) × ReadFault bytes rule number)
-    by (inl (rows, records, sound)) = inl (numbered 1 rows, (rows, records, sound, refl))
+    by : AllSound st.StartRecord (strip_bom bytes) ⊎ FirstBroken st.StartRecord (strip_bom bytes) → ((lists : List CodeRecord) × ReadsCodes bytes lists) ⊎ ((rule : ℕ) × (number : ℕ) × ReadFault bytes rule number)
+    by (inl (rows, records, sound)) = inl (numbered_records 1 rows, (rows, records, sound, refl))
     by (inr (before, fields, rule, s2, rest, reached, sound, broken)) =
         inr (rule, length before + 1, record { before = before; fields = fields; front = (s2, rest, reached); sound = sound; broken = broken; number_is = refl })

@@ -1,11 +1,11 @@
 -- Why codes are refused.
 use Rattle.std.specs.Prelude.{◌≡◌, ℕ, ◌<◌, ◌≤◌, ◌⊎◌, List, length, All}
 use Rattle.lexical_core.specs.Characters.{IsXmlText}
-use Rattle.repo_objects.specs.Repository.{Entry}
+use Rattle.repo_objects.specs.Repository.{DictionaryEntry}
 use Rattle.code_sets.specs.declared.record.CodeRecord.{CodeRecord}
 use Rattle.code_sets.specs.declared.errors.CodesError.{CodesError}
 use Rattle.code_sets.specs.declared.errors.CodesError.TheVariants.{Refused, ReadFault as Failed, Memory}
-use Rattle.code_sets.specs.Codes.{ReadFault, JoinFault, limit}
+use Rattle.code_sets.specs.Codes.{ReadFault, JoinFault, codes_limit}
 
 -- the records are refused, or there was no memory
 abbrev pub RefusesRecords : List ℕ → CodesError → Type 0
@@ -18,13 +18,13 @@ abbrev pub AreCodes : List CodeRecord → Type 0
 AreCodes lists = All (λ (r : CodeRecord). IsXmlText r.code) lists
 
 -- a record names a code set with codes of its own
-abbrev pub RefusesJoin : List CodeRecord → List Entry → CodesError → Type 0
+abbrev pub RefusesJoin : List CodeRecord → List DictionaryEntry → CodesError → Type 0
 RefusesJoin lists entries (Refused rule number) = (rule ≡ 4) × JoinFault lists entries number
 RefusesJoin lists entries Failed = ⊥
 RefusesJoin lists entries Memory = Unit {0}
 
 -- the bytes are too many, or their records are refused; that a source failed is said by its count
 abbrev pub RefusesSource : List ℕ → CodesError → Type 0
-RefusesSource bytes (Refused rule number) = ((limit < length bytes) × (rule ≡ 5) × (number ≡ 0)) ⊎ ((length bytes ≤ limit) × ReadFault bytes rule number)
+RefusesSource bytes (Refused rule number) = ((codes_limit < length bytes) × (rule ≡ 5) × (number ≡ 0)) ⊎ ((length bytes ≤ codes_limit) × ReadFault bytes rule number)
 RefusesSource bytes Failed = Unit {0}
 RefusesSource bytes Memory = Unit {0}

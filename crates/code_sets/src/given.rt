@@ -3,7 +3,7 @@ ghost use Rattle.std.specs.Prelude.{◌≡◌, [], List, ℕ, IfOk, OnOk, IsSome
 ghost use Rattle.std.specs.List.{list_any};
 ghost use Rattle.std.specs.Str.{bytes_eq};
 ghost use Rattle.code_sets.specs.Codes.{code_of, codes_for, once};
-ghost use Rattle.code_sets.specs.inner.Given.{texts_of, with_text, codes_in, HasName};
+ghost use Rattle.code_sets.specs.inner.Given.{key_texts, with_text, codes_in, HasName};
 
 use crate::record::CodeLists;
 use indexmap::IndexSet;
@@ -27,14 +27,14 @@ pub(crate) fn text_of(alloc: Global, bytes: &[u8]) -> Result<Text, AllocError>
 
 /// Whether the text is one of them.
 pub(crate) fn has_text(texts: &Texts, text: &[u8]) -> bool
-    ensures { result ≡ list_any (bytes_eq text.now) (texts_of texts.now.keys) }
+    ensures { result ≡ list_any (bytes_eq text.now) (key_texts texts.now.keys) }
 {
     texts.contains(text)
 }
 
 /// Puts the text behind the others, unless it is one of them.
 pub(crate) fn add_text(alloc: Global, texts: &mut Texts, text: &[u8]) -> Result<(), AllocError>
-    ensures { OnOk result (texts_of texts.new.keys ≡ with_text (texts_of texts.old.keys) text.now) }
+    ensures { OnOk result (key_texts texts.new.keys ≡ with_text (key_texts texts.old.keys) text.now) }
 {
     texts.insert(Vec::from_slice(alloc, text)?)?;
     Ok(())
@@ -92,7 +92,7 @@ fn code_def(alloc: Global, code: &[u8]) -> Result<CodeDef, AllocError>
 
 /// The codes of these texts.
 fn defs_of(alloc: Global, texts: &Texts) -> Result<CodeDefs, AllocError>
-    ensures { IfOk result (λ ds. ds ≡ map code_of (texts_of texts.now.keys)) }
+    ensures { IfOk result (λ ds. ds ≡ map code_of (key_texts texts.now.keys)) }
 {
     let mut defs = CodeDefs::new(alloc);
     for text in texts.as_slice() {

@@ -2,10 +2,10 @@
 ghost use Rattle.std.specs.Prelude.{◌≡◌, ◌&&◌, ◌++◌, ◌∷◌, ℕ, List, All, length, map, not, slice_get, Some, IfOk, IfErr, IfSome, IfNone, OnOk};
 ghost use Rattle.lexical_core.specs.Characters.{IsXmlText};
 ghost use Rattle.repo_objects.specs.Objects.{HasCodeTexts};
-ghost use Rattle.repo_objects.specs.Repository.{Entry};
-ghost use Rattle.code_sets.specs.Codes.{JoinFault, JoinsAll, is_code_set, is_none_yet, joined};
+ghost use Rattle.repo_objects.specs.Repository.{DictionaryEntry};
+ghost use Rattle.code_sets.specs.Codes.{JoinFault, JoinsAll, is_code_set, is_none_yet, joined_contents};
 ghost use Rattle.code_sets.specs.CodesErrors.{AreCodes, RefusesJoin};
-ghost use Rattle.code_sets.specs.inner.Given.{NamesOwn, codes_in, given_entry, texts_of, with_own_name};
+ghost use Rattle.code_sets.specs.inner.Given.{NamesOwn, codes_in, given_entry, key_texts, with_own_name};
 
 use crate::errors::CodesError;
 use crate::given::{GivenCodes, Texts, add_text, defs_for, given_codes, has_text};
@@ -42,7 +42,7 @@ fn add_own_name(
     repository: &Repository,
     at: usize,
 ) -> Result<(), AllocError>
-    ensures { (entry : Entry) → slice_get repository.now.objects at ≡ Some entry → OnOk result (texts_of names.new.keys ≡ with_own_name (texts_of names.old.keys) entry) }
+    ensures { (entry : DictionaryEntry) → slice_get repository.now.objects at ≡ Some entry → OnOk result (key_texts names.new.keys ≡ with_own_name (key_texts names.old.keys) entry) }
 {
     let Some((_, object)) = repository.object_at(at) else {
         return Ok(());
@@ -55,7 +55,7 @@ fn add_own_name(
 
 /// The names of the code sets with codes of their own.
 fn own_names(alloc: Global, repository: &Repository) -> Result<Texts, AllocError>
-    ensures { IfOk result (λ names. NamesOwn (texts_of names.keys) repository.now.objects) }
+    ensures { IfOk result (λ names. NamesOwn (key_texts names.keys) repository.now.objects) }
 {
     let mut names = Texts::new(alloc);
     for at in 0..repository.object_count() {
@@ -66,8 +66,8 @@ fn own_names(alloc: Global, repository: &Repository) -> Result<Texts, AllocError
 
 /// The number of the first record whose code set has one of these names.
 fn first_named(names: &Texts, lists: &CodeLists) -> Option<u64>
-    ensures first { (entries : List Entry) → NamesOwn (texts_of names.now.keys) entries → IfSome result (λ number. JoinFault lists.now entries number) }
-    ensures none { (entries : List Entry) → NamesOwn (texts_of names.now.keys) entries → IfNone result (JoinsAll lists.now entries) }
+    ensures first { (entries : List DictionaryEntry) → NamesOwn (key_texts names.now.keys) entries → IfSome result (λ number. JoinFault lists.now entries number) }
+    ensures none { (entries : List DictionaryEntry) → NamesOwn (key_texts names.now.keys) entries → IfNone result (JoinsAll lists.now entries) }
 {
     for record in lists.as_slice() {
         if has_text(names, record.set.bytes()) {
@@ -85,7 +85,7 @@ fn join_at(
     given: &GivenCodes,
 ) -> Result<(), AllocError>
     requires { (name : List ℕ) → All IsXmlText (codes_in given.now name) }
-    ensures { (before after : List Entry) (entry : Entry) → repository.old.objects ≡ before ++ (entry ∷ after) → at ≡ length before
+    ensures { (before after : List DictionaryEntry) (entry : DictionaryEntry) → repository.old.objects ≡ before ++ (entry ∷ after) → at ≡ length before
         → OnOk result (repository.new ≡ record repository.old { objects = before ++ (given_entry (codes_in given.now) entry ∷ after) }) }
 {
     let Some((_, object)) = repository.object_at(at) else {
@@ -122,7 +122,7 @@ fn join_into(
     lists: &CodeLists,
 ) -> Result<(), CodesError>
     requires { AreCodes lists.now }
-    ensures ok { OnOk result (repository.new ≡ joined lists.now repository.old) }
+    ensures ok { OnOk result (repository.new ≡ joined_contents lists.now repository.old) }
     ensures none { OnOk result (JoinsAll lists.now repository.old.objects) }
     ensures err { IfErr result (λ e. RefusesJoin lists.now repository.old.objects e) }
 {
@@ -145,7 +145,7 @@ pub fn join(
     lists: &CodeLists,
 ) -> Result<Repository, CodesError>
     requires { AreCodes lists.now }
-    ensures ok { IfOk result (λ r. r ≡ joined lists.now repository) }
+    ensures ok { IfOk result (λ r. r ≡ joined_contents lists.now repository) }
     ensures none { OnOk result (JoinsAll lists.now repository.objects) }
     ensures err { IfErr result (λ e. RefusesJoin lists.now repository.objects e) }
 {

@@ -2,7 +2,7 @@
 ghost use Rattle.std.specs.Prelude.{◌≡◌, ◌≤◌, length, IfOk, IfErr, IfSome, OnOk, IsErrOf};
 ghost use Rattle.std.specs.Io.KnownBytes.{IsAtEnd};
 ghost use Rattle.outside.specs.Source.{Rose};
-ghost use Rattle.code_sets.specs.Codes.{Reads};
+ghost use Rattle.code_sets.specs.Codes.{ReadsCodes};
 ghost use Rattle.code_sets.specs.CodesErrors.{AreCodes, RefusesSource};
 
 use crate::errors::CodesError;
@@ -17,7 +17,7 @@ const LIMIT: usize = 268435456;
 /// The codes of the records that the source has left, which is read to its end. More bytes than 2^28
 /// are refused by rule 5 before any other. `ReadFault` comes with the first pull that fails.
 pub fn pull_codes<R: Source>(alloc: Global, source: &mut R) -> Result<CodeLists, CodesError>
-    ensures ok { IfOk result (λ lists. IfSome (R.left source.old) (λ bytes. Reads bytes lists)) }
+    ensures ok { IfOk result (λ lists. IfSome (R.left source.old) (λ bytes. ReadsCodes bytes lists)) }
     ensures short { IfOk result (λ _. IfSome (R.left source.old) (λ bytes. length bytes ≤ LIMIT)) }
     ensures codes { IfOk result (λ lists. AreCodes lists) }
     ensures whole { OnOk result (IsAtEnd (R.left source.new)) }

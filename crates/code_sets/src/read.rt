@@ -2,7 +2,7 @@
 ghost use Rattle.std.specs.Prelude.{◌≡◌, ◌↔◌, ◌∷◌, [], IfOk, IfErr, IsTrue, IsUtf8};
 ghost use Rattle.csv.specs.Records.{fields_of};
 ghost use Rattle.lexical_core.specs.Characters.{IsXmlText};
-ghost use Rattle.code_sets.specs.Codes.{IsCode, IsLeastBroken, IsSound, Reads};
+ghost use Rattle.code_sets.specs.Codes.{IsCode, IsLeastRecordRule, IsSoundRecord, ReadsCodes};
 ghost use Rattle.code_sets.specs.CodesErrors.{AreCodes, RefusesRecords};
 
 use crate::errors::CodesError;
@@ -29,9 +29,9 @@ fn is_code(code: &[u8]) -> bool
 
 /// The set and the code of a record, or the least rule that it breaks.
 fn judged(row: &ByteRecord) -> Result<(&[u8], &[u8]), u8>
-    ensures ok { IfOk result (λ pair. (fields_of row.now ≡ pair.0.now ∷ (pair.1.now ∷ [])) × IsSound (fields_of row.now)) }
+    ensures ok { IfOk result (λ pair. (fields_of row.now ≡ pair.0.now ∷ (pair.1.now ∷ [])) × IsSoundRecord (fields_of row.now)) }
     ensures code { IfOk result (λ pair. IsXmlText pair.1.now) }
-    ensures err { IfErr result (λ rule. IsLeastBroken (fields_of row.now) rule) }
+    ensures err { IfErr result (λ rule. IsLeastRecordRule (fields_of row.now) rule) }
 {
     let Some(set) = row.get(0) else {
         return Err(1);
@@ -69,7 +69,7 @@ fn kept(alloc: Global, number: u64, set: &[u8], code: &[u8]) -> Result<CodeRecor
 /// the rules 1 to 3, with the least that it breaks. One byte order mark at the start is dropped, and
 /// empty lines are no records. `ReadFault` never comes.
 pub fn read_codes(alloc: Global, bytes: &[u8]) -> Result<CodeLists, CodesError>
-    ensures ok { IfOk result (λ lists. Reads bytes.now lists) }
+    ensures ok { IfOk result (λ lists. ReadsCodes bytes.now lists) }
     ensures codes { IfOk result (λ lists. AreCodes lists) }
     ensures err { IfErr result (λ e. RefusesRecords bytes.now e) }
 {

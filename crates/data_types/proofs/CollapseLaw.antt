@@ -3,7 +3,7 @@ use Rattle.std.proofs.Common.{◌≡◌, ℕ, ◌<◌, List, [], ◌∷◌, ◌+
 use Rattle.std.proofs.lemmas.List.{append-nil}
 use Rattle.std.proofs.lemmas.Bool.Decides.{nat_tests}
 use Rattle.std.specs.List.{AllByRecursion}
-use Rattle.data_types.specs.WhiteSpace.{IsWord, Part, IsLaterPart, AreParts, part_text, joined, words_of, IsCollapsed}
+use Rattle.data_types.specs.WhiteSpace.{IsWord, SpacedWord, IsLaterPart, AreSpacedWords, spaced_word_text, join_words, words_of, IsCollapsed}
 use Rattle.lexical_core.specs.Characters.{IsSpace}
 
 -- the white space characters, as a test
@@ -63,32 +63,32 @@ within_rest (c ∷ rest) all =
     ap (λ b. cond b (behind rest) (c ∷ within rest)) (space_true c all.0) ∙ (ap behind (sym (append-nil rest)) ∙ behind_spaces rest [] all.1)
 
 -- the words after the first, each with a space before it
-later_words : List Part → List ℕ
+later_words : List SpacedWord → List ℕ
 later_words [] = []
 later_words (part ∷ parts) = 32 ∷ part.word ++ later_words parts
 
-within_parts : (parts : List Part) (rest : List ℕ) → AllByRecursion IsLaterPart parts → AllByRecursion IsSpace rest
-    → within (flat_map part_text parts ++ rest) ≡ later_words parts
+within_parts : (parts : List SpacedWord) (rest : List ℕ) → AllByRecursion IsLaterPart parts → AllByRecursion IsSpace rest
+    → within (flat_map spaced_word_text parts ++ rest) ≡ later_words parts
 unfolding later_words
 within_parts [] rest all spaces = within_rest rest spaces
 within_parts (part ∷ parts) rest all spaces =
-    let more = flat_map part_text parts ++ rest in
-    ap within (append_assoc (part.gap ++ part.word) (flat_map part_text parts) rest ∙ append_assoc part.gap part.word more)
+    let more = flat_map spaced_word_text parts ++ rest in
+    ap within (append_assoc (part.gap ++ part.word) (flat_map spaced_word_text parts) rest ∙ append_assoc part.gap part.word more)
     ∙ (within_spaces part.gap (part.word ++ more) all.0.some all.0.gap
     ∙ (behind_word part.word more all.0.word
     ∙ ap (λ t. 32 ∷ part.word ++ t) (within_parts parts rest all.1 spaces)))
 
-joined_words : (part : Part) (parts : List Part) → joined (words_of (part ∷ parts)) ≡ part.word ++ later_words parts
+joined_words : (part : SpacedWord) (parts : List SpacedWord) → join_words (words_of (part ∷ parts)) ≡ part.word ++ later_words parts
 unfolding later_words
 joined_words part [] = sym (append-nil part.word)
 joined_words part (next ∷ parts) = ap (λ t. part.word ++ 32 ∷ t) (joined_words next parts)
 
-before_parts : (parts : List Part) (rest : List ℕ) → AreParts parts → AllByRecursion IsSpace rest
-    → before (flat_map part_text parts ++ rest) ≡ joined (words_of parts)
+before_parts : (parts : List SpacedWord) (rest : List ℕ) → AreSpacedWords parts → AllByRecursion IsSpace rest
+    → before (flat_map spaced_word_text parts ++ rest) ≡ join_words (words_of parts)
 before_parts [] rest are spaces = ap before (sym (append-nil rest)) ∙ before_spaces rest [] spaces
 before_parts (part ∷ parts) rest are spaces =
-    let more = flat_map part_text parts ++ rest in
-    ap before (append_assoc (part.gap ++ part.word) (flat_map part_text parts) rest ∙ append_assoc part.gap part.word more)
+    let more = flat_map spaced_word_text parts ++ rest in
+    ap before (append_assoc (part.gap ++ part.word) (flat_map spaced_word_text parts) rest ∙ append_assoc part.gap part.word more)
     ∙ (before_spaces part.gap (part.word ++ more) are.0
     ∙ (before_word part.word more are.1
     ∙ (ap (λ t. part.word ++ t) (within_parts parts rest are.2 spaces) ∙ sym (joined_words part parts))))
@@ -104,6 +104,6 @@ one_collapsed text one two a b = collapsed_is text one a ∙ sym (collapsed_is t
 pub own_collapsed : (text : List ℕ) → AllByRecursion (λ c. IsSpace c → ⊥) text → IsCollapsed text text
 own_collapsed [] all = ([], [], tt, tt, refl, refl)
 own_collapsed (c ∷ cs) all =
-    let part : Part = record { gap = []; word = c ∷ cs } in
+    let part : SpacedWord = record { gap = []; word = c ∷ cs } in
     let is : IsWord (c ∷ cs) = record { some = omega arith; no_space = all } in
     (part ∷ [], [], (tt, is, tt), tt, sym (append-nil _ ∙ append-nil _), refl)

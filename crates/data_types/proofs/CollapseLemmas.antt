@@ -4,7 +4,7 @@ use Rattle.std.proofs.lemmas.List.{append-nil}
 use Rattle.std.specs.List.{AllByRecursion}
 use Rattle.data_types.specs.declared.collapse.Place.{Place}
 use Rattle.data_types.specs.declared.collapse.Place.TheVariants.{Before, Within, Behind}
-use Rattle.data_types.specs.WhiteSpace.{IsWord, Part, IsLaterPart, AreParts, part_text, joined, words_of, IsCollapsed}
+use Rattle.data_types.specs.WhiteSpace.{IsWord, SpacedWord, IsLaterPart, AreSpacedWords, spaced_word_text, join_words, words_of, IsCollapsed}
 use Rattle.lexical_core.specs.Characters.{IsSpace}
 use Rattle.data_types.specs.Collapsing.{HasWords, HasCollapsedAt}
 
@@ -12,47 +12,47 @@ pub all_push : {X : Type 0} (P : X → Type 0) (xs : List X) (x : X) → AllByRe
 all_push P [] x a p = (p, tt)
 all_push P (y ∷ ys) x a p = (a.0, all_push P ys x a.1 p)
 
-flat_push : (parts : List Part) (part : Part) → flat_map part_text (parts ++ part ∷ []) ≡ flat_map part_text parts ++ part_text part
-flat_push [] part = append-nil (part_text part)
-flat_push (p ∷ parts) part = ap (λ t. part_text p ++ t) (flat_push parts part) ∙ sym (append_assoc (part_text p) (flat_map part_text parts) (part_text part))
+flat_push : (parts : List SpacedWord) (part : SpacedWord) → flat_map spaced_word_text (parts ++ part ∷ []) ≡ flat_map spaced_word_text parts ++ spaced_word_text part
+flat_push [] part = append-nil (spaced_word_text part)
+flat_push (p ∷ parts) part = ap (λ t. spaced_word_text p ++ t) (flat_push parts part) ∙ sym (append_assoc (spaced_word_text p) (flat_map spaced_word_text parts) (spaced_word_text part))
 
-words_push : (parts : List Part) (part : Part) → words_of (parts ++ part ∷ []) ≡ words_of parts ++ part.word ∷ []
+words_push : (parts : List SpacedWord) (part : SpacedWord) → words_of (parts ++ part ∷ []) ≡ words_of parts ++ part.word ∷ []
 words_push [] part = refl
 words_push (p ∷ parts) part = ap (λ t. p.word ∷ t) (words_push parts part)
 
-parts_push : (parts : List Part) (gap word : List ℕ) → AreParts parts → AllByRecursion IsSpace gap → IsWord word → (parts ≡ []) ⊎ (0 < length gap)
-    → AreParts (parts ++ (record { gap = gap; word = word }) ∷ [])
+parts_push : (parts : List SpacedWord) (gap word : List ℕ) → AreSpacedWords parts → AllByRecursion IsSpace gap → IsWord word → (parts ≡ []) ⊎ (0 < length gap)
+    → AreSpacedWords (parts ++ (record { gap = gap; word = word }) ∷ [])
 parts_push [] gap word are spaces is apart = (spaces, is, tt)
 parts_push (p ∷ parts) gap word are spaces is (inl none) = absurd (cc)
 parts_push (p ∷ parts) gap word are spaces is (inr some) =
     (are.0, are.1, all_push IsLaterPart parts (record { gap = gap; word = word }) are.2 (record { some = some; gap = spaces; word = is }))
 
 -- the last word grows
-joined_grows : (words : List (List ℕ)) (word : List ℕ) (c : ℕ) → joined (words ++ (word ++ c ∷ []) ∷ []) ≡ joined (words ++ word ∷ []) ++ c ∷ []
+joined_grows : (words : List (List ℕ)) (word : List ℕ) (c : ℕ) → join_words (words ++ (word ++ c ∷ []) ∷ []) ≡ join_words (words ++ word ∷ []) ++ c ∷ []
 joined_grows [] word c = refl
 joined_grows (w ∷ []) word c = sym (append_assoc w (32 ∷ word) (c ∷ []))
 joined_grows (w ∷ v ∷ words) word c =
-    ap (λ t. w ++ 32 ∷ t) (joined_grows (v ∷ words) word c) ∙ sym (append_assoc w (32 ∷ joined (v ∷ (words ++ word ∷ []))) (c ∷ []))
+    ap (λ t. w ++ 32 ∷ t) (joined_grows (v ∷ words) word c) ∙ sym (append_assoc w (32 ∷ join_words (v ∷ (words ++ word ∷ []))) (c ∷ []))
 
 -- a word is begun behind others
-joined_begins : (w : List ℕ) (words : List (List ℕ)) (c : ℕ) → joined ((w ∷ words) ++ (c ∷ []) ∷ []) ≡ joined (w ∷ words) ++ 32 ∷ c ∷ []
+joined_begins : (w : List ℕ) (words : List (List ℕ)) (c : ℕ) → join_words ((w ∷ words) ++ (c ∷ []) ∷ []) ≡ join_words (w ∷ words) ++ 32 ∷ c ∷ []
 joined_begins w [] c = refl
 joined_begins w (v ∷ words) c =
-    ap (λ t. w ++ 32 ∷ t) (joined_begins v words c) ∙ sym (append_assoc w (32 ∷ joined (v ∷ words)) (32 ∷ c ∷ []))
+    ap (λ t. w ++ 32 ∷ t) (joined_begins v words c) ∙ sym (append_assoc w (32 ∷ join_words (v ∷ words)) (32 ∷ c ∷ []))
 
 one_char : (c : ℕ) → (IsSpace c → ⊥) → IsWord (c ∷ [])
 one_char c none = record { some = omega arith; no_space = (none, tt) }
 
 pub space_within : (c : ℕ) (text collapsed : List ℕ) → IsSpace c → HasCollapsedAt Within text collapsed → HasCollapsedAt Behind (text ++ c ∷ []) collapsed
 space_within c text collapsed space (parts, gap, word, h) =
-    let part : Part = record { gap = gap; word = word } in (
+    let part : SpacedWord = record { gap = gap; word = word } in (
       parts ++ part ∷ [],
       c ∷ [],
       record {
         are = parts_push parts gap word h.are h.spaces h.is_word h.apart;
         spaces = (space, tt);
         spelled = ap (λ t. t ++ c ∷ []) (h.spelled ∙ sym (flat_push parts part));
-        joined_is = h.joined_is ∙ ap joined (sym (words_push parts part));
+        joined_is = h.joined_is ∙ ap join_words (sym (words_push parts part));
       },
       omega (arith, length-append parts (part ∷ [])),
       omega arith,
@@ -65,7 +65,7 @@ space_behind c text collapsed space (parts, rest, h, some, gap) = (
   record {
     are = h.are;
     spaces = all_push IsSpace rest c h.spaces space;
-    spelled = ap (λ t. t ++ c ∷ []) h.spelled ∙ append_assoc (flat_map part_text parts) rest (c ∷ []);
+    spelled = ap (λ t. t ++ c ∷ []) h.spelled ∙ append_assoc (flat_map spaced_word_text parts) rest (c ∷ []);
     joined_is = h.joined_is;
   },
   some,
@@ -102,7 +102,7 @@ char_within c text collapsed none (parts, gap, word, h) = (
   },
 )
 
-char_behind_words : (c : ℕ) (text collapsed : List ℕ) (parts : List Part) (rest : List ℕ) → (IsSpace c → ⊥) → HasWords text collapsed parts rest → 0 < length parts
+char_behind_words : (c : ℕ) (text collapsed : List ℕ) (parts : List SpacedWord) (rest : List ℕ) → (IsSpace c → ⊥) → HasWords text collapsed parts rest → 0 < length parts
     → 0 < length rest → HasCollapsedAt Within (text ++ c ∷ []) (collapsed ++ 32 ∷ c ∷ [])
 char_behind_words c text collapsed [] rest none h some gap = absurd (omega arith)
 char_behind_words c text collapsed (p ∷ parts) rest none h some gap = (
@@ -114,7 +114,7 @@ char_behind_words c text collapsed (p ∷ parts) rest none h some gap = (
     spaces = h.spaces;
     apart = inr gap;
     is_word = one_char c none;
-    spelled = ap (λ t. t ++ c ∷ []) h.spelled ∙ append_assoc (flat_map part_text (p ∷ parts)) rest (c ∷ []);
+    spelled = ap (λ t. t ++ c ∷ []) h.spelled ∙ append_assoc (flat_map spaced_word_text (p ∷ parts)) rest (c ∷ []);
     joined_is = ap (λ t. t ++ 32 ∷ c ∷ []) h.joined_is ∙ sym (joined_begins p.word (words_of parts) c);
   },
 )
@@ -125,13 +125,13 @@ char_behind c text collapsed none (parts, rest, h, some, gap) = char_behind_word
 pub is_collapsed : (place : Place) (text collapsed : List ℕ) → HasCollapsedAt place text collapsed → IsCollapsed text collapsed
 is_collapsed Before text collapsed h = ([], text, tt, h.0, refl, h.1)
 is_collapsed Within text collapsed (parts, gap, word, h) =
-    let part : Part = record { gap = gap; word = word } in (
+    let part : SpacedWord = record { gap = gap; word = word } in (
       parts ++ part ∷ [],
       [],
       parts_push parts gap word h.are h.spaces h.is_word h.apart,
       tt,
-      h.spelled ∙ (sym (flat_push parts part) ∙ sym (append-nil (flat_map part_text (parts ++ part ∷ [])))),
-      h.joined_is ∙ ap joined (sym (words_push parts part)),
+      h.spelled ∙ (sym (flat_push parts part) ∙ sym (append-nil (flat_map spaced_word_text (parts ++ part ∷ [])))),
+      h.joined_is ∙ ap join_words (sym (words_push parts part)),
     )
 is_collapsed Behind text collapsed (parts, rest, h, some, gap) = (parts, rest, h.are, h.spaces, h.spelled, h.joined_is)
 
@@ -155,7 +155,7 @@ spaces_more Behind text collapsed spaces other are (parts, rest, h, some, gap) =
   record {
     are = h.are;
     spaces = all_on IsSpace rest spaces h.spaces are;
-    spelled = ap (λ t. t ++ spaces) h.spelled ∙ append_assoc (flat_map part_text parts) rest spaces;
+    spelled = ap (λ t. t ++ spaces) h.spelled ∙ append_assoc (flat_map spaced_word_text parts) rest spaces;
     joined_is = h.joined_is;
   },
   some,

@@ -4,7 +4,7 @@ use Rattle.std.proofs.lemmas.Bool.{cases_eq}
 use Rattle.std.specs.List.{AllByRecursion}
 use Rattle.data_types.specs.declared.collapse.Place.{Place}
 use Rattle.data_types.specs.declared.collapse.Place.TheVariants.{Before, Within, Behind}
-use Rattle.data_types.specs.WhiteSpace.{Part, part_text, joined, words_of, IsCollapsed}
+use Rattle.data_types.specs.WhiteSpace.{SpacedWord, spaced_word_text, join_words, words_of, IsCollapsed}
 use Rattle.lexical_core.specs.Characters.{IsSpace}
 use Rattle.data_types.specs.Collapsing.{HasCollapsedAt}
 use Rattle.data_types.proofs.CollapseLemmas.{space_within, space_behind, char_before, char_within, char_behind, all_push, is_collapsed}
@@ -75,8 +75,8 @@ no_space_behind : (xs ys : List ℕ) → AllByRecursion (λ c. IsSpace c → ⊥
 no_space_behind [] ys none = none.0 (inl refl)
 no_space_behind (x ∷ xs) ys none = no_space_behind xs ys none.1
 
-same_by : (parts : List Part) (text collapsed rest : List ℕ) → AllByRecursion (λ c. IsSpace c → ⊥) collapsed → text ≡ flat_map part_text parts ++ rest
-    → collapsed ≡ joined (words_of parts) → length collapsed ≡ length text → collapsed ≡ text
+same_by : (parts : List SpacedWord) (text collapsed rest : List ℕ) → AllByRecursion (λ c. IsSpace c → ⊥) collapsed → text ≡ flat_map spaced_word_text parts ++ rest
+    → collapsed ≡ join_words (words_of parts) → length collapsed ≡ length text → collapsed ≡ text
 same_by [] text collapsed rest none spelled is size = is ∙ sym (none_left text (omega (arith, size, ap length is)))
 same_by (p ∷ []) text collapsed rest none spelled is size =
     let whole : text ≡ (p.gap ++ p.word) ++ rest = spelled ∙ ap (λ t. t ++ rest) (append-nil (p.gap ++ p.word)) in
@@ -87,7 +87,7 @@ same_by (p ∷ []) text collapsed rest none spelled is size =
     let behind : rest ≡ [] = none_left rest (omega (arith, all, front, word, size)) in
     is ∙ sym (whole ∙ (ap (λ t. (p.gap ++ p.word) ++ t) behind ∙ (append-nil (p.gap ++ p.word) ∙ ap (λ t. t ++ p.word) gap)))
 same_by (p ∷ q ∷ parts) text collapsed rest none spelled is size =
-    absurd (no_space_behind p.word (joined (words_of (q ∷ parts))) (subst (AllByRecursion (λ c. IsSpace c → ⊥)) is none))
+    absurd (no_space_behind p.word (join_words (words_of (q ∷ parts))) (subst (AllByRecursion (λ c. IsSpace c → ⊥)) is none))
 
 pub collapsed_same : (text collapsed : List ℕ) → AllByRecursion (λ c. IsSpace c → ⊥) collapsed → IsCollapsed text collapsed → length collapsed ≡ length text → collapsed ≡ text
 collapsed_same text collapsed none (parts, rest, are, spaces, spelled, is) size = same_by parts text collapsed rest none spelled is size

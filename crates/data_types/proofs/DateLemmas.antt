@@ -10,7 +10,7 @@ use Rattle.lexical_core.specs.Exponents.{NoDigit}
 use Rattle.lexical_core.proofs.DecimalTexts.{digits_split}
 use Rattle.data_types.specs.Dates.{FitsPlace, HasForm, HasParts, IsDateText, IsFraction, IsZone}
 use Rattle.data_types.specs.Kinds.{form_of, has_seconds}
-use Rattle.data_types.specs.inner.DateParts.{IsRest}
+use Rattle.data_types.specs.inner.DateParts.{IsFractionAndZone}
 use Rattle.data_types.specs.declared.kind.Kind.{Kind}
 
 -- no is the answer where there is none
@@ -89,7 +89,7 @@ text_short kind text n len short (fixed, fraction, zone, e, form, parts, f, z) =
 
 -- a fixed part and what may stand behind it make a text
 pub text_told : (kind : Kind) (text fixed rest : List ℕ) (n : ℕ) → fixed ≡ take n text → rest ≡ drop n text → HasForm (form_of kind) fixed × HasParts kind fixed
-    → IsRest (has_seconds kind) rest → IsDateText kind text
+    → IsFractionAndZone (has_seconds kind) rest → IsDateText kind text
 text_told kind text fixed rest n front back (form, parts) (fraction, zone, e, f, z) = (
   fixed,
   fraction,
@@ -102,7 +102,7 @@ text_told kind text fixed rest n front back (form, parts) (fraction, zone, e, f,
 )
 
 pub text_parted : (kind : Kind) (text fixed rest : List ℕ) (n : ℕ) → length (form_of kind) ≡ n → fixed ≡ take n text → rest ≡ drop n text → IsDateText kind text
-    → (HasForm (form_of kind) fixed × HasParts kind fixed) × IsRest (has_seconds kind) rest
+    → (HasForm (form_of kind) fixed × HasParts kind fixed) × IsFractionAndZone (has_seconds kind) rest
 text_parted kind text fixed rest n len front back (fixed', fraction, zone, e, form, parts, f, z) =
     let split = fixed_split kind text fixed' fraction zone n len form e in
     let same : fixed' ≡ fixed = sym (front ∙ split.0) in

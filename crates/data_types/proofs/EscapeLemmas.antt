@@ -4,7 +4,7 @@ use Rattle.std.proofs.lemmas.Bool.{cases_lt}
 use Rattle.std.proofs.lemmas.Bool.Decides.{nat_tests}
 use Rattle.std.proofs.lemmas.Str.{encode_ascii, inside_one}
 use Rattle.std.specs.Prelude.{encode_utf8, encode_utf8_all}
-use Rattle.lexical_core.specs.Escapes.{escaped}
+use Rattle.lexical_core.specs.Escapes.{escape_of}
 use Rattle.data_types.specs.Escaping.{escaped_byte, escaped_bytes, IsPlainByte}
 use Rattle.data_types.specs.Canonical.{escaped_text}
 use Rattle.data_types.proofs.VisibleTexts.{IsVisible, AreVisible}
@@ -36,14 +36,14 @@ high_bytes attribute [] h = refl
 high_bytes attribute (b ∷ bytes) h =
     ap₂ (λ (x y : List ℕ). x ++ y) (high_byte attribute b (h 0 (omega arith))) (high_bytes attribute bytes (λ k lt. h (suc k) (omega (arith, lt))))
 
-ascii_char : (attribute : Bool) (c : ℕ) → encode_utf8 c ≡ c ∷ [] → escaped_byte attribute c ++ [] ≡ escaped attribute c
+ascii_char : (attribute : Bool) (c : ℕ) → encode_utf8 c ≡ c ∷ [] → escaped_byte attribute c ++ [] ≡ escape_of attribute c
 ascii_char attribute c e = rw (e, append-nil) refl
 
-high_char : (attribute : Bool) (c : ℕ) → 128 ≤ c → escaped attribute c ≡ encode_utf8 c
+high_char : (attribute : Bool) (c : ℕ) → 128 ≤ c → escape_of attribute c ≡ encode_utf8 c
 high_char true c high = grind (arith, nat_tests, high)
 high_char false c high = grind (arith, nat_tests, high)
 
-one_char : (attribute : Bool) (c : ℕ) → escaped_bytes attribute (encode_utf8 c) ≡ escaped attribute c
+one_char : (attribute : Bool) (c : ℕ) → escaped_bytes attribute (encode_utf8 c) ≡ escape_of attribute c
 one_char attribute c = elim (cases_lt c 128) [
   | inl small ↦ ap (escaped_bytes attribute) (encode_ascii c small) ∙ ascii_char attribute c (encode_ascii c small)
   | inr big ↦ high_bytes attribute (encode_utf8 c) (λ k below. elim (cases_lt (get_or (encode_utf8 c) k 0) 128) [
@@ -52,7 +52,7 @@ one_char attribute c = elim (cases_lt c 128) [
   ]) ∙ sym (high_char attribute c big)
 ]
 
-pub escaped_by_chars : (attribute : Bool) (chars : List ℕ) → escaped_bytes attribute (encode_utf8_all chars) ≡ flat_map (escaped attribute) chars
+pub escaped_by_chars : (attribute : Bool) (chars : List ℕ) → escaped_bytes attribute (encode_utf8_all chars) ≡ flat_map (escape_of attribute) chars
 escaped_by_chars attribute [] = refl
 escaped_by_chars attribute (c ∷ chars) =
     escaped_bytes-append attribute (encode_utf8 c) (encode_utf8_all chars) ∙ ap₂ (λ (x y : List ℕ). x ++ y) (one_char attribute c) (escaped_by_chars attribute chars)
@@ -61,11 +61,11 @@ pub escaped_chars : (chars : List ℕ) → escaped_bytes false (encode_utf8_all 
 escaped_chars chars = escaped_by_chars false chars
 
 -- characters that stand for themselves are their own bytes
-visible_char : (c : ℕ) → IsVisible c → escaped false c ≡ c ∷ []
+visible_char : (c : ℕ) → IsVisible c → escape_of false c ≡ c ∷ []
 visible_char c v =
     let low = v.low in let high = v.high in let n = v.no_ampersand in let l = v.no_less in let g = v.no_greater in
     let ascii = encode_ascii c (omega (arith, high)) in
-    let own : escaped false c ≡ encode_utf8 c = grind (arith, nat_tests, low, n, l, g) in
+    let own : escape_of false c ≡ encode_utf8 c = grind (arith, nat_tests, low, n, l, g) in
     own ∙ ascii
 
 pub visible_text : (chars : List ℕ) → AreVisible chars → escaped_text chars ≡ chars

@@ -22,7 +22,7 @@ use Rattle.data_types.specs.declared.collapsed_step.Value.TheVariants.{Octets}
 use Rattle.data_types.specs.declared.octets.OctetStep.{OctetStep}
 use Rattle.data_types.specs.WhiteSpace.{IsCollapsed}
 use Rattle.data_types.specs.Binaries.{IsBinaryText, without_spaces}
-use Rattle.data_types.specs.Collapsing.{gained, gap_text}
+use Rattle.data_types.specs.Collapsing.{gain_of, gap_text}
 use Rattle.data_types.specs.Limits.{IsWithin}
 use Rattle.data_types.specs.Kept.{Holds}
 use Rattle.data_types.specs.OctetSteps.{HasDecoded, IsOctetFault}
@@ -66,7 +66,7 @@ run_taken old now bytes cs count code size xml takes most chars has =
 -- ---- octets
 
 -- a character that is gained is no space
-no_spaces_in : (gain : Collapsed) (c : ℕ) → (IsSpace c → gain ≡ Nothing) → (gain ≡ Char) ⊎ (gain ≡ SpaceAndChar) → without_spaces (gained gain c) ≡ c ∷ []
+no_spaces_in : (gain : Collapsed) (c : ℕ) → (IsSpace c → gain ≡ Nothing) → (gain ≡ Char) ⊎ (gain ≡ SpaceAndChar) → without_spaces (gain_of gain c) ≡ c ∷ []
 no_spaces_in gain c space (inl e) = rw e (other c (λ s. let same = sym (space s) ∙ e in absurd cc))
   where
     other : (c : ℕ) → (IsSpace c → ⊥) → without_spaces (c ∷ []) ≡ c ∷ []
@@ -78,17 +78,17 @@ no_spaces_in gain c space (inr e) = rw e (other c (λ s. let same = sym (space s
 
 pub octets_taken : (old now : OctetStep) (gain : Collapsed) (c : ℕ) → (IsSpace c → gain ≡ Nothing) → (gain ≡ Char) ⊎ (gain ≡ SpaceAndChar)
     → ((most : Option ℕ) (text : List ℕ) → HasDecoded old most text → HasDecoded now most (text ++ c ∷ []))
-    → (most : Option ℕ) (text : List ℕ) → HasDecoded old most (without_spaces text) → HasDecoded now most (without_spaces (text ++ gained gain c))
+    → (most : Option ℕ) (text : List ℕ) → HasDecoded old most (without_spaces text) → HasDecoded now most (without_spaces (text ++ gain_of gain c))
 octets_taken old now gain c space some step most text h =
-    let same : without_spaces (text ++ gained gain c) ≡ without_spaces text ++ c ∷ [] =
-    filter-append _ text (gained gain c) ∙ ap (λ t. without_spaces text ++ t) (no_spaces_in gain c space some) in
+    let same : without_spaces (text ++ gain_of gain c) ≡ without_spaces text ++ c ∷ [] =
+    filter-append _ text (gain_of gain c) ∙ ap (λ t. without_spaces text ++ t) (no_spaces_in gain c space some) in
     subst (HasDecoded now most) (sym same) (step most (without_spaces text) h)
 
 pub octets_kept : (body : Value) (step now : OctetStep) (gain : Collapsed) (c : ℕ) → body ≡ Octets step
-    → ((most : Option ℕ) (text : List ℕ) → HasDecoded step most (without_spaces text) → HasDecoded now most (without_spaces (text ++ gained gain c)))
+    → ((most : Option ℕ) (text : List ℕ) → HasDecoded step most (without_spaces text) → HasDecoded now most (without_spaces (text ++ gain_of gain c)))
     → length now.kept.bytes.held + now.count ≤ length step.kept.bytes.held + step.count + 1
     → (k : Kind) (most : Option ℕ) (chars collapsed : List ℕ) → HasValue k body most chars collapsed
-    → (k ≡ kind.Binary) × HasDecoded now most (without_spaces (collapsed ++ gained gain c)) × (length now.kept.bytes.held + now.count ≤ length (chars ++ c ∷ []))
+    → (k ≡ kind.Binary) × HasDecoded now most (without_spaces (collapsed ++ gain_of gain c)) × (length now.kept.bytes.held + now.count ≤ length (chars ++ c ∷ []))
 octets_kept body step now gain c is grows bound k most chars collapsed has =
     let held = subst (λ (b : Value). HasValue k b most chars collapsed) is has in
     let few = held.2 in

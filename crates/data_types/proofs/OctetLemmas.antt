@@ -9,7 +9,7 @@ use Rattle.base64.proofs.EngineFacts.{encode_of-append, encode_of-nil, front_byt
 use Rattle.data_types.specs.declared.octets.Stage.{Stage}
 use Rattle.data_types.specs.declared.octets.Stage.TheVariants.{Open, Ended}
 use Rattle.data_types.specs.declared.octets.OctetStep.{OctetStep}
-use Rattle.data_types.specs.OctetSteps.{RestIn, HasDecoded, IsStep}
+use Rattle.data_types.specs.OctetSteps.{RestIn, HasDecoded, IsOctetStep}
 use Rattle.data_types.proofs.LeafLaws.{one_encoded}
 
 -- the back of bytes is bytes
@@ -190,7 +190,7 @@ pub before_any : (more all : List ℕ) → IsBytes all → ([] ++ more ≡ encod
 before_any more all bytes = (λ e. (all, e, refl), λ (rest, e, whole). e ∙ ap (encode_of standard) (sym whole))
 
 -- the rest of all characters so far is the rest behind the last of them
-pub step_decoded : (old now : OctetStep) (c : ℕ) → IsStep old c now → (most : Option ℕ) (text : List ℕ) → HasDecoded old most text → HasDecoded now most (text ++ c ∷ [])
+pub step_decoded : (old now : OctetStep) (c : ℕ) → IsOctetStep old c now → (most : Option ℕ) (text : List ℕ) → HasDecoded old most text → HasDecoded now most (text ++ c ∷ [])
 step_decoded old now c step most text (octets, has, rest) =
     let next = step most octets has in
     let same = λ (more : List ℕ). append_assoc text (c ∷ []) more in (

@@ -2,7 +2,7 @@
 -- decimalCanonicalMap, as 1 where §3.2.3.2 of the first version writes 1.0; and the collapsed text of a date as it is.
 use Rattle.std.specs.Prelude.{◌≡◌, ℕ, false, List, flat_map}
 use Rattle.lexical_core.specs.Decimals.{IsDecimal, IsCanonicalText}
-use Rattle.lexical_core.specs.Escapes.{escaped}
+use Rattle.lexical_core.specs.Escapes.{escape_of}
 use Rattle.data_types.specs.declared.kind.Kind.{Kind}
 use Rattle.data_types.specs.declared.kind.Kind.TheVariants.{Text, Decimal, Boolean, Binary, Date, DateTime, Time, Year, YearMonth, MonthDay, Month, Day, Envelope}
 use Rattle.data_types.specs.Booleans.{boolean_text}
@@ -47,4 +47,4 @@ IsCanonicalLeaf Envelope leaf chars = ⊥
 
 -- the characters as bytes of an element's content, each in its canonical spelling: XML 1.0 §2.4
 abbrev pub escaped_text : List ℕ → List ℕ
-escaped_text chars = flat_map (escaped false) chars
+escaped_text chars = flat_map (escape_of false) chars

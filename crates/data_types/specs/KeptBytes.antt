@@ -2,6 +2,6 @@
 use Rattle.std.specs.Prelude.{ℕ, List}
 
 -- the bytes, and how many there may be without asking for memory
-pub record Held : Type 0 where
+pub record BytesWithRoom : Type 0 where
   pub held : List ℕ
   pub room : ℕ

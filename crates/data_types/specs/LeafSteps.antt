@@ -14,7 +14,7 @@ use Rattle.data_types.specs.declared.collapsed_step.Value.TheVariants.{Decimal, 
 use Rattle.data_types.specs.declared.leaf_step.LeafStep.{LeafStep}
 use Rattle.data_types.specs.Binaries.{without_spaces}
 use Rattle.data_types.specs.Collapsing.{HasCollapsed}
-use Rattle.data_types.specs.KeptBytes.{Held}
+use Rattle.data_types.specs.KeptBytes.{BytesWithRoom}
 use Rattle.data_types.specs.Kept.{Holds}
 use Rattle.data_types.specs.OctetSteps.{HasDecoded}
 use Rattle.data_types.specs.ShortTexts.{HasKept}
@@ -50,11 +50,11 @@ HasBody k (Text text) most chars = (k ≡ kind.Text) × IsText text most chars
 HasBody k (Collapsed step) most chars = HasGiven step k most chars
 
 -- the reader is one for this kind with this limit on the length, and was given these characters since it was made or begun anew
-abbrev pub HasTaken : LeafStep → Kind → Option ℕ → List ℕ → Type 0
-HasTaken s k most chars = (k ≡ s.kind) × HasBody k s.body most chars
+abbrev pub HasTakenLeaf : LeafStep → Kind → Option ℕ → List ℕ → Type 0
+HasTakenLeaf s k most chars = (k ≡ s.kind) × HasBody k s.body most chars
 
 -- the bytes that are kept in memory, and the room for them: more than any count of bytes where nothing is kept there
-abbrev pub value_memory : Value → Held
+abbrev pub value_memory : Value → BytesWithRoom
 value_memory (Decimal step) = record { held = []; room = 2 ^ 64 }
 value_memory (Short kept) = record { held = []; room = 2 ^ 64 }
 value_memory (Octets step) = step.kept.bytes
@@ -74,13 +74,13 @@ abbrev pub body_in_place : Body → ℕ
 body_in_place (Text text) = 0
 body_in_place (Collapsed step) = value_in_place step.value
 
-abbrev pub memory_of : Body → Held
+abbrev pub memory_of : Body → BytesWithRoom
 memory_of (Text text) = text.bytes
 memory_of (Collapsed step) = value_memory step.value
 
 -- how many bytes a reader keeps in memory
-abbrev pub kept : LeafStep → ℕ
-kept s = length (memory_of s.body).held
+abbrev pub kept_by_step : LeafStep → ℕ
+kept_by_step s = length (memory_of s.body).held
 
 -- how many bytes it holds in place
 abbrev pub in_place : LeafStep → ℕ
@@ -92,4 +92,4 @@ room s = (memory_of s.body).room
 
 -- how many more it may keep without asking for memory
 abbrev pub spare : LeafStep → ℕ
-spare s = room s - kept s
+spare s = room s - kept_by_step s

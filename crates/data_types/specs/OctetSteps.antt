@@ -31,8 +31,8 @@ HasDecoded s most text =
     × ((more all : List ℕ) → IsBytes all → (text ++ more ≡ encode_of standard all) ↔ IsRest s octets more all)
 
 -- one more character was taken
-abbrev pub IsStep : OctetStep → ℕ → OctetStep → Type 0
-IsStep s c t =
+abbrev pub IsOctetStep : OctetStep → ℕ → OctetStep → Type 0
+IsOctetStep s c t =
     (most : Option ℕ) (octets : List ℕ) → HasOctets s most octets
     → (next : List ℕ) × HasOctets t most next × ((more all : List ℕ) → IsBytes all → IsRest s octets (c ∷ more) all ↔ IsRest t next more all)
 

@@ -3,7 +3,7 @@ ghost use Rattle.std.specs.Prelude.{◌≡◌, ◌++◌, ◌∷◌, ◌≢◌, �
 ghost use Rattle.std.specs.List.{AllByRecursion};
 ghost use Rattle.data_types.specs.WhiteSpace.{IsWord, IsCollapsed};
 ghost use Rattle.lexical_core.specs.Characters.{IsSpace};
-ghost use Rattle.data_types.specs.Collapsing.{gained, gap_text, HasCollapsed, HasCollapsedAt};
+ghost use Rattle.data_types.specs.Collapsing.{gain_of, gap_text, HasCollapsed, HasCollapsedAt};
 
 use lexical_core::is_space;
 
@@ -45,7 +45,7 @@ impl Collapse {
     /// Takes a character, and tells what the collapsed text gains.
     pub fn take(&mut self, c: char) -> Collapsed
         ensures text { (text collapsed : List ℕ) → HasCollapsed self.old text collapsed
-            → HasCollapsed self.new (text ++ c ∷ []) (collapsed ++ gained result c) }
+            → HasCollapsed self.new (text ++ c ∷ []) (collapsed ++ gain_of result c) }
         ensures space { IsSpace c → result ≡ Collapsed.Nothing }
     {
         if is_space(c) {
@@ -115,7 +115,7 @@ impl Place {
     /// What the collapsed text gains at a character that is no white space.
     fn gain(self) -> Collapsed
         ensures { (c : ℕ) (text collapsed : List ℕ) → (IsSpace c → ⊥) → HasCollapsedAt self text collapsed
-            → HasCollapsedAt Place.Within (text ++ c ∷ []) (collapsed ++ gained result c) }
+            → HasCollapsedAt Place.Within (text ++ c ∷ []) (collapsed ++ gain_of result c) }
     {
         match self {
             Place::Before | Place::Within => Collapsed::Char,

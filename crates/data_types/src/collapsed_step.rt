@@ -7,7 +7,7 @@ ghost use Rattle.lexical_core.specs.XmlRuns.{IsXmlRun};
 ghost use Rattle.data_types.specs.WhiteSpace.{IsCollapsed};
 ghost use Rattle.lexical_core.specs.Characters.{IsSpace};
 ghost use Rattle.data_types.specs.Binaries.{without_spaces};
-ghost use Rattle.data_types.specs.Collapsing.{gained, gap_text};
+ghost use Rattle.data_types.specs.Collapsing.{gain_of, gap_text};
 ghost use Rattle.data_types.specs.OctetSteps.{HasDecoded};
 ghost use Rattle.data_types.specs.ShortTexts.{HasKept};
 ghost use Rattle.data_types.specs.LeafAnswers.{IsLeafAnswer};
@@ -299,7 +299,7 @@ impl Value {
         requires { IsSpace c → gain ≡ Collapsed.Nothing }
         ensures ok { OnOk result ((kind : Kind) (most : Option ℕ) (chars collapsed : List ℕ)
             → HasValue kind self.old most chars collapsed
-            → HasValue kind self.new most (chars ++ c ∷ []) (collapsed ++ gained gain c)) }
+            → HasValue kind self.new most (chars ++ c ∷ []) (collapsed ++ gain_of gain c)) }
         ensures err { OnErr result (self.new ≡ self.old) }
         ensures within { length (value_memory self.old).held + begun_in self.old + 1 ≤ (value_memory self.old).room → IsOk result }
         ensures room { (value_memory self.old).room ≤ (value_memory self.new).room }
@@ -338,7 +338,7 @@ impl Value {
 
 /// Takes what a decimal's text gains.
 fn take_decimal(step: &mut DecimalStep, gain: Collapsed, c: char)
-    ensures { (text : List ℕ) → HasRead step.old text → HasRead step.new (text ++ gained gain c) }
+    ensures { (text : List ℕ) → HasRead step.old text → HasRead step.new (text ++ gain_of gain c) }
 {
     match gain {
         Collapsed::Nothing => {}
@@ -363,7 +363,7 @@ fn take_decimal_word(step: &mut DecimalStep, gap: bool, word: &[u8])
 
 /// Takes what the text of a truth value, a date or a time gains.
 fn take_short(kept: &mut ShortText, gain: Collapsed, c: char)
-    ensures { (text : List ℕ) → HasKept kept.old text → HasKept kept.new (text ++ gained gain c) }
+    ensures { (text : List ℕ) → HasKept kept.old text → HasKept kept.new (text ++ gain_of gain c) }
 {
     match gain {
         Collapsed::Nothing => {}
@@ -391,7 +391,7 @@ fn take_short_word(kept: &mut ShortText, gap: bool, word: &[u8])
 fn take_octets(step: &mut OctetStep, gain: Collapsed, c: char) -> Result<(), AllocError>
     requires { IsSpace c → gain ≡ Collapsed.Nothing }
     ensures ok { OnOk result ((most : Option ℕ) (text : List ℕ) → HasDecoded step.old most (without_spaces text)
-        → HasDecoded step.new most (without_spaces (text ++ gained gain c))) }
+        → HasDecoded step.new most (without_spaces (text ++ gain_of gain c))) }
     ensures err { OnErr result (step.new ≡ step.old) }
     ensures within { length step.old.kept.bytes.held + step.old.count + 1 ≤ step.old.kept.bytes.room → IsOk result }
     ensures room { step.old.kept.bytes.room ≤ step.new.kept.bytes.room }

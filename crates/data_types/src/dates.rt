@@ -3,7 +3,7 @@ ghost use Rattle.std.specs.Prelude.{◌≡◌, ◌≢◌, ◌≤◌, ◌<◌, �
 ghost use Rattle.std.specs.Str.Parse.{AllDigits};
 ghost use Rattle.data_types.specs.Kinds.{form_of, has_seconds};
 ghost use Rattle.data_types.specs.Dates.{IsDateText, HasForm, FitsPlace, HasParts, IsDay, IsClock, IsFraction, IsOffset, IsZone, two_at, four_at};
-ghost use Rattle.data_types.specs.inner.DateParts.{IsRest, AreDigits, AreDateDigits, AreClockDigits};
+ghost use Rattle.data_types.specs.inner.DateParts.{IsFractionAndZone, AreDigits, AreDateDigits, AreClockDigits};
 ghost use Rattle.lexical_core.specs.Exponents.{NoDigit};
 
 use crate::kind::Kind;
@@ -75,7 +75,7 @@ fn is_other_text(kind: Kind, text: &[u8]) -> bool
 /// Whether the text is digits of a second, where there are any, and a zone or none.
 #[inline(always)]
 fn is_rest(seconds: bool, text: &[u8]) -> bool
-    ensures { IsTrue result ↔ IsRest seconds text.now }
+    ensures { IsTrue result ↔ IsFractionAndZone seconds text.now }
 {
     let Some(end) = fraction_end(seconds, text) else {
         return false;

@@ -12,9 +12,9 @@ pub struct KeptBytes {
 
 impl Model for KeptBytes {
     ghost use Rattle.std.specs.Prelude.{vec_capacity};
-    ghost use Rattle.data_types.specs.KeptBytes.{Held};
+    ghost use Rattle.data_types.specs.KeptBytes.{BytesWithRoom};
 
-    ghost Value = { Held };
+    ghost Value = { BytesWithRoom };
 
     ghost view = { λ b. record { held = b.bytes.items; room = vec_capacity b.bytes } };
 }

@@ -3,7 +3,7 @@ ghost use Rattle.std.specs.Prelude.{◌≡◌, ◌+◌, ◌*◌, ◌^◌, ◌<�
 ghost use Rattle.lexical_core.specs.Characters.{IsXmlChar};
 ghost use Rattle.lexical_core.specs.XmlRuns.{IsXmlRun};
 ghost use Rattle.data_types.specs.LeafAnswers.{IsLeafAnswer};
-ghost use Rattle.data_types.specs.LeafSteps.{HasTaken, HasBody, IsText, kept, in_place, room, spare};
+ghost use Rattle.data_types.specs.LeafSteps.{HasTakenLeaf, HasBody, IsText, kept_by_step, in_place, room, spare};
 
 use crate::collapsed_step::CollapsedStep;
 use crate::kept::Kept;
@@ -32,7 +32,7 @@ pub struct LeafStep {
 impl LeafStep {
     /// A reader for this kind before the first character. It takes no memory.
     pub fn new(alloc: Global, kind: Kind) -> LeafStep
-        ensures { HasTaken result kind None [] }
+        ensures { HasTakenLeaf result kind None [] }
     {
         LeafStep::limited(alloc, kind, None)
     }
@@ -40,13 +40,13 @@ impl LeafStep {
     /// As `new`, and of a text longer than `most` characters, or a binary value longer than `most` octets,
     /// no more than these are kept.
     pub fn within(alloc: Global, kind: Kind, most: u64) -> LeafStep
-        ensures { HasTaken result kind (Some most) [] }
+        ensures { HasTakenLeaf result kind (Some most) [] }
     {
         LeafStep::limited(alloc, kind, Some(most))
     }
 
     fn limited(alloc: Global, kind: Kind, most: Option<u64>) -> LeafStep
-        ensures { HasTaken result kind most [] }
+        ensures { HasTakenLeaf result kind most [] }
     {
         LeafStep {
             kind,
@@ -56,8 +56,8 @@ impl LeafStep {
 
     /// Begins anew for the same kind and limit, with the memory that there is.
     pub fn restart(&mut self)
-        ensures taken { (kind : Kind) (most : Option ℕ) (chars : List ℕ) → HasTaken self.old kind most chars
-            → HasTaken self.new kind most [] }
+        ensures taken { (kind : Kind) (most : Option ℕ) (chars : List ℕ) → HasTakenLeaf self.old kind most chars
+            → HasTakenLeaf self.new kind most [] }
         ensures spare { spare self.new ≡ room self.old }
         ensures room { room self.new ≡ room self.old }
     {
@@ -71,10 +71,10 @@ impl LeafStep {
     /// reader goes on as before.
     pub fn reserve(&mut self, bytes: usize) -> Result<(), AllocError>
         ensures ok { OnOk result (bytes ≤ spare self.new) }
-        ensures taken { (kind : Kind) (most : Option ℕ) (chars : List ℕ) → HasTaken self.old kind most chars
-            → HasTaken self.new kind most chars }
+        ensures taken { (kind : Kind) (most : Option ℕ) (chars : List ℕ) → HasTakenLeaf self.old kind most chars
+            → HasTakenLeaf self.new kind most chars }
         ensures room { room self.old ≤ room self.new }
-        ensures kept { kept self.new ≡ kept self.old }
+        ensures kept { kept_by_step self.new ≡ kept_by_step self.old }
     {
         match &mut self.body {
             Body::Text(text) => text.reserve(bytes),
@@ -86,7 +86,7 @@ impl LeafStep {
     pub fn take(&mut self, c: char) -> Result<(), AllocError>
         requires { IsXmlChar c }
         ensures ok { OnOk result ((kind : Kind) (most : Option ℕ) (chars : List ℕ)
-            → HasTaken self.old kind most chars → HasTaken self.new kind most (chars ++ c ∷ [])) }
+            → HasTakenLeaf self.old kind most chars → HasTakenLeaf self.new kind most (chars ++ c ∷ [])) }
         ensures err { OnErr result (self.new ≡ self.old) }
         ensures within { 4 ≤ spare self.old → IsOk result }
         ensures spare { spare self.old ≤ spare self.new + 4 }
@@ -103,7 +103,7 @@ impl LeafStep {
     pub fn take_run(&mut self, run: &[u8], count: usize) -> Result<(), AllocError>
         requires { IsXmlRun run.now count }
         ensures ok { OnOk result ((r : IsXmlRun run.now count) (kind : Kind) (most : Option ℕ) (chars : List ℕ)
-            → HasTaken self.old kind most chars → HasTaken self.new kind most (chars ++ r.chars)) }
+            → HasTakenLeaf self.old kind most chars → HasTakenLeaf self.new kind most (chars ++ r.chars)) }
         ensures err { OnErr result (self.new ≡ self.old) }
         ensures within { length run.now + 3 ≤ spare self.old → IsOk result }
         ensures spare { spare self.old ≤ spare self.new + (length run.now + 3) }
@@ -118,12 +118,12 @@ impl LeafStep {
     /// How many bytes are kept: at most four to each character that was taken, and at most four to each
     /// character or octet that the limit allows.
     pub fn kept(&self) -> usize
-        ensures count { result ≡ kept self.now }
+        ensures count { result ≡ kept_by_step self.now }
         ensures small { result < 2 ^ 63 }
-        ensures chars { (kind : Kind) (most : Option ℕ) (chars : List ℕ) → HasTaken self.now kind most chars
+        ensures chars { (kind : Kind) (most : Option ℕ) (chars : List ℕ) → HasTakenLeaf self.now kind most chars
             → result ≤ 4 * length chars }
         ensures most { (kind : Kind) (most : ℕ) (chars : List ℕ)
-            → HasTaken self.now kind (Some most) chars → result ≤ 4 * most }
+            → HasTakenLeaf self.now kind (Some most) chars → result ≤ 4 * most }
     {
         match &self.body {
             Body::Text(text) => text.len(),
@@ -148,7 +148,7 @@ impl LeafStep {
     /// than 18 digits or of more than 18 after the point. It takes no memory.
     #[inline(always)]
     pub fn finish(&self) -> Result<LeafRef<'_>, Rule>
-        ensures { (kind : Kind) (most : Option ℕ) (chars : List ℕ) → HasTaken self.now kind most chars
+        ensures { (kind : Kind) (most : Option ℕ) (chars : List ℕ) → HasTakenLeaf self.now kind most chars
             → IsLeafAnswer kind most chars result }
     {
         match &self.body {

@@ -40,7 +40,7 @@ struct Decoded {
 }
 
 impl OctetStep {
-    ghost use Rattle.data_types.specs.OctetSteps.{HasDecoded, IsStep, IsRest, IsOctetFault};
+    ghost use Rattle.data_types.specs.OctetSteps.{HasDecoded, IsOctetStep, IsRest, IsOctetFault};
 
     /// A reader before the first character, with a limit on the octets. It takes no memory.
     pub fn new(alloc: Global, most: Option<u64>) -> OctetStep
@@ -99,7 +99,7 @@ impl OctetStep {
 
     /// What remains to come.
     fn step(&mut self, c: char) -> Result<(), AllocError>
-        ensures ok { OnOk result (IsStep self.old c self.new) }
+        ensures ok { OnOk result (IsOctetStep self.old c self.new) }
         ensures err { OnErr result (self.new ≡ self.old) }
         ensures within { length self.old.kept.bytes.held + self.old.count + 1 ≤ self.old.kept.bytes.room → IsOk result }
         ensures room { self.old.kept.bytes.room ≤ self.new.kept.bytes.room }
@@ -117,7 +117,7 @@ impl OctetStep {
 
     fn step_open(&mut self, c: char) -> Result<(), AllocError>
         requires { self.old.stage ≡ Stage.Open }
-        ensures ok { OnOk result (IsStep self.old c self.new) }
+        ensures ok { OnOk result (IsOctetStep self.old c self.new) }
         ensures err { OnErr result (self.new ≡ self.old) }
         ensures within { length self.old.kept.bytes.held + self.old.count + 1 ≤ self.old.kept.bytes.room → IsOk result }
         ensures room { self.old.kept.bytes.room ≤ self.new.kept.bytes.room }
@@ -140,7 +140,7 @@ impl OctetStep {
     fn close(&mut self, last: u8) -> Result<(), AllocError>
         requires open { self.old.stage ≡ Stage.Open }
         requires full { self.old.count ≡ 3 }
-        ensures ok { OnOk result (IsStep self.old last self.new) }
+        ensures ok { OnOk result (IsOctetStep self.old last self.new) }
         ensures err { OnErr result (self.new ≡ self.old) }
         ensures within { length self.old.kept.bytes.held + self.old.count + 1 ≤ self.old.kept.bytes.room → IsOk result }
         ensures room { self.old.kept.bytes.room ≤ self.new.kept.bytes.room }

@@ -1,7 +1,7 @@
 // The bytes of a text, pushed on a sink with what XML asks to be escaped: XML 1.0 §2.4, §2.11 and §3.3.3.
 ghost use Rattle.std.specs.Prelude.{◌≡◌, ◌<◌, ◌≤◌, ℕ, List, IsTrue, encode_utf8_all, flat_map, length, take};
 ghost use Rattle.outside.specs.Sink.{PushAppends, HasSinkCause, HasRoom};
-ghost use Rattle.lexical_core.specs.Escapes.{escaped};
+ghost use Rattle.lexical_core.specs.Escapes.{escape_of};
 ghost use Rattle.data_types.specs.Escaping.{escaped_bytes, IsPlainByte};
 
 use lexical_core::reference_to;
@@ -20,7 +20,7 @@ struct Piece<'a> {
 pub fn push_escaped<O: Sink>(text: &[u8], attribute: bool, sink: &mut O) -> Result<(), SinkError>
     ensures bytes { PushAppends (O.held sink.old) (O.held sink.new) result (escaped_bytes attribute text.now) }
     ensures chars { (chars : List ℕ) → text.now ≡ encode_utf8_all chars
-        → escaped_bytes attribute text.now ≡ flat_map (escaped attribute) chars }
+        → escaped_bytes attribute text.now ≡ flat_map (escape_of attribute) chars }
     ensures cause { HasSinkCause (O.faults sink.old) (O.faults sink.new) result }
     ensures room { HasRoom (O.room sink.old) (O.room sink.new) result (escaped_bytes attribute text.now) }
 {

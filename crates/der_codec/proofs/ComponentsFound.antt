@@ -9,7 +9,7 @@ use Rattle.der_octets.specs.declared.tag_step.TagClass.{TagClass}
 use Rattle.der_octets.specs.declared.tag_step.TagClass.TheVariants as class
 use Rattle.reference_check.specs.Forms.{Graph, Slot}
 use Rattle.der_model.specs.Structures.{Component, Label, Element, Listed, is_single, component, components, amount_components}
-use Rattle.der_model.specs.States.{Answer, Begins, Breaks, Fine, EndBreaks, is_under, field_answer, any_answer, field_end, skipping, missing_text}
+use Rattle.der_model.specs.States.{IdentifierAnswer, Begins, Breaks, Fine, EndBreaks, is_under, field_answer, any_answer, field_end, skipping, missing_text}
 use Rattle.std.proofs.Math.ListN.{length-drop}
 use Rattle.std.proofs.lemmas.Bool.{cases_lt}
 use Rattle.der_model.proofs.Fields.{under_own, under_other, any_found}
@@ -46,7 +46,7 @@ first_under g p i f fs b t none = go (is_under (component g p i f) b t) refl
     go true e = absurd (none 0 f refl (let same : i + 0 ≡ i = omega arith in rw same e))
     go false e = e
 
-either_way : {P : Type 0} (r : Bool) → (let unexpected : Answer P = Breaks UnexpectedTag [] in if r then unexpected else unexpected) ≡ Breaks UnexpectedTag []
+either_way : {P : Type 0} (r : Bool) → (let unexpected : IdentifierAnswer P = Breaks UnexpectedTag [] in if r then unexpected else unexpected) ≡ Breaks UnexpectedTag []
 either_way true = refl
 either_way false = refl
 
@@ -88,11 +88,11 @@ field_found g p (f ∷ fs) i (suc d) j s e is none =
     ∙ (if_false (has_to_come f) _ _ (first_none d f fs none) ∙ field_found g p fs (suc i) d j s (omega arith) is (none_later d f fs none))
 
 -- what is found behind some that have to come
-pub data Behind (x : Answer ℕ) : Type 0 where
+pub data Behind (x : IdentifierAnswer ℕ) : Type 0 where
   begins : (k : ℕ) (c : Component ℕ) → x ≡ Begins k c → Behind x
   breaks : (text : List ℕ) → x ≡ Breaks DerMissing text → Behind x
 
-skipped : (label : Label) (x : Answer ℕ) → Behind x → skipping label x ≡ Breaks DerMissing (missing_text label)
+skipped : (label : Label) (x : IdentifierAnswer ℕ) → Behind x → skipping label x ≡ Breaks DerMissing (missing_text label)
 skipped label x (begins k c e) = ap (skipping label) e
 skipped label x (breaks text e) = ap (skipping label) e
 
@@ -109,7 +109,7 @@ behind g p (f ∷ fs) i (suc d) j s e is =
     if_false (is_under (component g p i f) (component g p j s).constructed (context j)) _ _ (under_other (component g p i f) i j (component g p j s).constructed refl (omega arith)) in
     subst Behind (sym here) (either (has_to_come f) (component g p i f).label later rest)
   where
-    either : (r : Bool) (label : Label) (x : Answer ℕ) → Behind x → Behind (if r then skipping label x else x)
+    either : (r : Bool) (label : Label) (x : IdentifierAnswer ℕ) → Behind x → Behind (if r then skipping label x else x)
     either true label x b = breaks (missing_text label) (skipped label x b)
     either false label x b = b
 

@@ -7,14 +7,14 @@ use Rattle.der_octets.proofs.Headers.{some_identifier}
 use Rattle.der_model.specs.DerMessage.{DerMessage}
 use Rattle.der_model.specs.Structures.{structure}
 use Rattle.der_model.specs.States as states
-use Rattle.der_model.specs.States.{Part, Identifier, Length, End, Contents, part_octets, State, Start, AwaitsLength, AwaitsContents, Within, level_end, level_answer, begun, names_in, state_after, Stands}
+use Rattle.der_model.specs.States.{Part, Identifier, Length, End, Contents, part_octets, State, Start, AwaitsLength, AwaitsContents, Within, level_end, level_answer, begun_state, names_in, state_after, Stands}
 use Rattle.reference_check.specs.Words.{UpTo}
-use Rattle.der_model.specs.Faults.{Front, broken, IsClean, IsHeldIn, BreaksIn}
+use Rattle.der_model.specs.Faults.{DerFront, broken, IsCleanPart, IsHeldIn, BreaksIn}
 use Rattle.der_model.proofs.Continued.{front_more}
 use Rattle.der_model.proofs.WholeValues.{front_then}
 use Rattle.der_codec.specs.inner.Nesting.{AreNested}
 use Rattle.der_codec.specs.Judging.{HoldsContents, BreaksContentsAt}
-use Rattle.der_codec.specs.Decoding.{IsOpen, IsBegun, Reads, Fails}
+use Rattle.der_codec.specs.Decoding.{IsOpenState, IsBegun, Reads, Fails}
 use Rattle.der_codec.specs.declared.level.Spot.{Spot}
 use Rattle.der_codec.specs.declared.level.Level.{Level}
 use Rattle.der_codec.specs.declared.decoder.Due.{Due}
@@ -26,7 +26,7 @@ pub contents_read : (m : DerMessage ℕ) (xs : List Level) (spot : Spot) (left :
     → Reads m xs (due.Contents spot (left - length more)) start (place + length more) (bytes ++ more)
 contents_read m xs spot left start place bytes more fits r = by r.state r.front r.is_open r.is_begun
   where
-    by : (s : State ℕ) → Front m Start 0 bytes r.parts s r.at r.rest → IsOpen m xs (due.Contents spot left) s → IsBegun (due.Contents spot left) s r.rest → Reads m xs (due.Contents spot (left - length more)) start (place + length more) (bytes ++ more)
+    by : (s : State ℕ) → DerFront m Start 0 bytes r.parts s r.at r.rest → IsOpenState m xs (due.Contents spot left) s → IsBegun (due.Contents spot left) s r.rest → Reads m xs (due.Contents spot (left - length more)) start (place + length more) (bytes ++ more)
     by (AwaitsContents of names count ls) front op beg = record {
       parts = r.parts;
       state = AwaitsContents of names count ls;
@@ -78,37 +78,37 @@ abbrev IsBehind : {P : Type 0} → ℕ → State P → Type 0
 IsBehind place Start = Unit {0}
 IsBehind place s = 0 < place
 
-step_behind : {P : Type 0} (m : DerMessage P) (s : State P) (place : ℕ) (p : Part) → IsBehind place s → Stands s place p → IsClean m s place p → IsBehind (place + length (part_octets p)) (state_after m s place p)
+step_behind : {P : Type 0} (m : DerMessage P) (s : State P) (place : ℕ) (p : Part) → IsBehind place s → Stands s place p → IsCleanPart m s place p → IsBehind (place + length (part_octets p)) (state_after m s place p)
 step_behind m Start place (Identifier b t) h st c = (let some = some_identifier b t in omega arith)
 step_behind m (Within (l ∷ ls)) place (Identifier b t) h st (k, c, e) =
-    subst (IsBehind (place + length (part_octets (Identifier b t)))) (ap (begun m l ls b) (sym e)) (omega arith)
+    subst (IsBehind (place + length (part_octets (Identifier b t)))) (ap (begun_state m l ls b) (sym e)) (omega arith)
 step_behind m (AwaitsLength true spot names around) place (Length n) h st c = omega arith
 step_behind m (AwaitsLength false spot names around) place (Length n) h st c = omega arith
 step_behind m (AwaitsContents spot names count around) place (Contents octets) h st c = omega arith
 step_behind m (Within (l ∷ ls)) place End h st c = omega arith
 step_behind m s place p h st c = absurd st
 
-front_behind : {P : Type 0} (m : DerMessage P) (s : State P) (place : ℕ) (bytes : List ℕ) (ps : List Part) (last : State P) (at : ℕ) (rest : List ℕ) → IsBehind place s → Front m s place bytes ps last at rest → IsBehind at last
+front_behind : {P : Type 0} (m : DerMessage P) (s : State P) (place : ℕ) (bytes : List ℕ) (ps : List Part) (last : State P) (at : ℕ) (rest : List ℕ) → IsBehind place s → DerFront m s place bytes ps last at rest → IsBehind at last
 front_behind m s place bytes [] last at rest h (p, q, r) = subst (λ z. IsBehind z last) q (subst (IsBehind place) p h)
 front_behind m s place bytes (p ∷ ps) last at rest h (after, is, st, u, c, f) = front_behind m (state_after m s place p) (place + length (part_octets p)) after ps last at rest (step_behind m s place p h st c) f
 
 pub some_before : (m : DerMessage ℕ) (xs : List Level) (spot : Spot) (left start place : ℕ) (bytes : List ℕ) → Reads m xs (due.Contents spot left) start place bytes → 0 < start
 some_before m xs spot left start place bytes r = by r.state r.is_open (front_behind m Start 0 bytes r.parts r.state r.at r.rest tt r.front)
   where
-    by : (s : State ℕ) → IsOpen m xs (due.Contents spot left) s → IsBehind r.at s → 0 < start
+    by : (s : State ℕ) → IsOpenState m xs (due.Contents spot left) s → IsBehind r.at s → 0 < start
     by (AwaitsContents of names count ls) op h = (let a = r.start_is in omega arith)
     by s op h = absurd op
 
-nested_limit : (place : ℕ) (ls : List (states.Level ℕ)) → AreNested place ls → UpTo place (level_end ls)
+nested_limit : (place : ℕ) (ls : List (states.DerLevel ℕ)) → AreNested place ls → UpTo place (level_end ls)
 nested_limit place [] h = tt
 nested_limit place (l ∷ ls) h = h.0
 
 -- the rest of the contents, with which they are some
 pub contents_clean : (m : DerMessage ℕ) (xs : List Level) (spot : Spot) (left : ℕ) (fresh : TagStep) (start place : ℕ) (bytes more : List ℕ) → Reads m xs (due.Contents spot left) start place bytes → length more ≡ left
-    → HoldsContents m spot (drop start bytes ++ more) → tags.HasTaken fresh [] → Reads m xs (due.Tag fresh) (place + left) (place + left) (bytes ++ more)
+    → HoldsContents m spot (drop start bytes ++ more) → tags.HasTakenTag fresh [] → Reads m xs (due.Tag fresh) (place + left) (place + left) (bytes ++ more)
 contents_clean m xs spot left fresh start place bytes more r size held new = by xs r.state r.front r.is_open r.is_begun
   where
-    by : (xs : List Level) (s : State ℕ) → Front m Start 0 bytes r.parts s r.at r.rest → IsOpen m xs (due.Contents spot left) s → IsBegun (due.Contents spot left) s r.rest → Reads m xs (due.Tag fresh) (place + left) (place + left) (bytes ++ more)
+    by : (xs : List Level) (s : State ℕ) → DerFront m Start 0 bytes r.parts s r.at r.rest → IsOpenState m xs (due.Contents spot left) s → IsBegun (due.Contents spot left) s r.rest → Reads m xs (due.Tag fresh) (place + left) (place + left) (bytes ++ more)
     by xs (AwaitsContents of names count []) front op beg = absurd (let q = front_rooted m Start 0 bytes r.parts (AwaitsContents of names count []) r.at r.rest tt front in omega arith)
     by xs (AwaitsContents of names count (l ∷ ls)) front op beg =
         let sum = length-append r.rest more in
@@ -116,7 +116,7 @@ contents_clean m xs spot left fresh start place bytes more r size held new = by 
         let nested = front_nested m Start 0 bytes r.parts (AwaitsContents of names count (l ∷ ls)) r.at r.rest tt front in
         let here : IsHeldIn m (structure m of) (r.rest ++ more) = subst (λ z. IsHeldIn m (structure m of) (z ++ more)) (rest_from m _ _ start place bytes r) (held of op.0) in
         let up : r.at + length (r.rest ++ more) ≤ l.end = (let a = nested.0 in omega arith) in
-        let one : Front m (AwaitsContents of names count (l ∷ ls)) r.at (r.rest ++ more) (Contents (r.rest ++ more) ∷ []) (Within (l ∷ ls)) (r.at + length (r.rest ++ more)) [] = ([], sym (append-nil (r.rest ++ more)), whole, up, here, (refl, refl, refl)) in
+        let one : DerFront m (AwaitsContents of names count (l ∷ ls)) r.at (r.rest ++ more) (Contents (r.rest ++ more) ∷ []) (Within (l ∷ ls)) (r.at + length (r.rest ++ more)) [] = ([], sym (append-nil (r.rest ++ more)), whole, up, here, (refl, refl, refl)) in
         record {
           parts = r.parts ++ (Contents (r.rest ++ more) ∷ []);
           state = Within (l ∷ ls);
@@ -136,7 +136,7 @@ pub contents_break : (m : DerMessage ℕ) (xs : List Level) (spot : Spot) (left 
     → BreaksContentsAt m spot (drop start bytes ++ more) rule → Fails m xs (due.Contents spot left) (bytes ++ more) rule start []
 contents_break m xs spot left start place bytes more rule r size breaks = by r.state r.front r.is_open r.is_begun
   where
-    by : (s : State ℕ) → Front m Start 0 bytes r.parts s r.at r.rest → IsOpen m xs (due.Contents spot left) s → IsBegun (due.Contents spot left) s r.rest → Fails m xs (due.Contents spot left) (bytes ++ more) rule start []
+    by : (s : State ℕ) → DerFront m Start 0 bytes r.parts s r.at r.rest → IsOpenState m xs (due.Contents spot left) s → IsBegun (due.Contents spot left) s r.rest → Fails m xs (due.Contents spot left) (bytes ++ more) rule start []
     by (AwaitsContents of names count ls) front op beg =
         let sum = length-append r.rest more in
         let whole : length (r.rest ++ more) ≡ count = omega arith in

@@ -17,7 +17,7 @@ use Rattle.der_model.specs.States.{State, Start, AwaitsLength, AwaitsContents, W
 use Rattle.der_codec.specs.Judging.{HoldsLeaf}
 use Rattle.der_codec.specs.KeptOctets.{IsKeptUnder, IsKeptIn, IsKeptAt, IsLeafAt}
 use Rattle.der_codec.specs.Limits.{contents_limit, open_limit, leaf_come, token_come}
-use Rattle.der_codec.specs.Decoding.{Reads, IsOpen, IsBegun, header_come}
+use Rattle.der_codec.specs.Decoding.{Reads, IsOpenState, IsBegun, header_come}
 use Rattle.der_codec.specs.Checking.{KeepsContents}
 use Rattle.der_codec.specs.declared.level.Spot.{Spot}
 use Rattle.der_codec.specs.declared.level.Spot.TheVariants as spots
@@ -106,7 +106,7 @@ held_open T xs d start place bytes kept r keeps = by d r.state r.is_open keeps (
     nothing : (s : State ℕ) → kept ≡ [] → IsHeldWithin (open_limit (der_message T) s) (leaf_come s r.rest) (length kept)
     nothing s e = subst (λ z. IsHeldWithin (open_limit (der_message T) s) (leaf_come s r.rest) (length z)) (sym e) (held_none (open_limit (der_message T) s) (leaf_come s r.rest))
 
-    by : (d : Due) (s : State ℕ) → IsOpen (der_message T) xs d s → KeepsContents T d start bytes kept → drop start bytes ≡ r.rest → IsHeldWithin (open_limit (der_message T) s) (leaf_come s r.rest) (length kept)
+    by : (d : Due) (s : State ℕ) → IsOpenState (der_message T) xs d s → KeepsContents T d start bytes kept → drop start bytes ≡ r.rest → IsHeldWithin (open_limit (der_message T) s) (leaf_come s r.rest) (length kept)
     by (due.Contents spot left) (AwaitsContents of names count ls) op k e =
         subst (λ z. IsHeldWithin (contents_limit (structure (der_message T) of)) (length z) (length kept)) e (k.stands of op.0).within
     by (due.Contents spot left) s op k e = absurd op
@@ -114,12 +114,12 @@ held_open T xs d start place bytes kept r keeps = by d r.state r.is_open keeps (
     by (due.Length c spot step) s op k e = nothing s k
     by due.Over s op k e = nothing s k
 
-tag_few : (come first high : ℕ) (rest : List ℕ) → tags.HasTakenIn come first high rest → length rest ≤ 8
+tag_few : (come first high : ℕ) (rest : List ℕ) → tags.HasTakenTagIn come first high rest → length rest ≤ 8
 tag_few zero first high rest h = (let none = ap length h in omega (arith, none))
 tag_few (suc zero) first high rest h = (let one = ap length h.octets_are in omega (arith, one))
 tag_few (suc (suc come)) first high rest h = (let two = ap length h.octets_are in omega (arith, two))
 
-length_few : (count come value : ℕ) (rest : List ℕ) → lengths.HasTakenIn count come value rest → length rest ≤ 8
+length_few : (count come value : ℕ) (rest : List ℕ) → lengths.HasTakenLengthIn count come value rest → length rest ≤ 8
 length_few zero come value rest h = (let none = ap length h in omega (arith, none))
 length_few (suc count) come value rest h = (let all = ap length h.octets_are in let others = h.come_is in let few = h.fewer in let most = h.most in omega (arith, all, others, few, most))
 
@@ -130,7 +130,7 @@ token_open m xs d start place bytes r = by d r.state r.is_open r.is_begun
     come : place - start ≡ length r.rest
     come = (let a = r.start_is in let b = r.place_is in omega (arith, a, b))
 
-    by : (d : Due) (s : State ℕ) → IsOpen m xs d s → IsBegun d s r.rest → (header_come d start place ≡ token_come s r.rest) × (header_come d start place ≤ 8)
+    by : (d : Due) (s : State ℕ) → IsOpenState m xs d s → IsBegun d s r.rest → (header_come d start place ≡ token_come s r.rest) × (header_come d start place ≤ 8)
     by (due.Tag step) Start op beg = (come, (let few = tag_few step.come step.first step.high r.rest beg in let c = come in omega (arith, few, c)))
     by (due.Tag step) (Within (l ∷ ls)) op beg = (come, (let few = tag_few step.come step.first step.high r.rest beg in let c = come in omega (arith, few, c)))
     by (due.Length c spot step) (AwaitsLength b of names ls) op beg = (come, (let few = length_few step.count step.come step.value r.rest beg in let c = come in omega (arith, few, c)))

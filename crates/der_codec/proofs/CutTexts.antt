@@ -5,7 +5,7 @@ use Rattle.std.specs.Prelude.{Some}
 use Rattle.std.proofs.lemmas.List.{take-append-drop, take-append-le, length-drop, length-take-le, length-replicate, take_at}
 use Rattle.std.proofs.lemmas.Str.{encode_same, encode_ascii, encodes-append, cons_from_encodes, length-encode, len_utf8_bounds}
 use Rattle.lexical_core.specs.Characters.{IsXmlChar, IsXmlText}
-use Rattle.lexical_core.specs.XmlRuns.{IsXmlRun, IsPlain}
+use Rattle.lexical_core.specs.XmlRuns.{IsXmlRun, IsPlainXmlByte}
 use Rattle.lexical_core.proofs.XmlRuns.{plain_encoded}
 use Rattle.data_types.proofs.RunLemmas.{run_short}
 use Rattle.facets.specs.LeafChecks.{IsHeldWithin}
@@ -127,7 +127,7 @@ none_comes octets bytes count run longest some more t =
 
 -- ---- spaces
 
-all_plain : (n : ℕ) → AllByRecursion IsPlain (replicate n 32)
+all_plain : (n : ℕ) → AllByRecursion IsPlainXmlByte (replicate n 32)
 all_plain zero = tt
 all_plain (suc n) = (record { ascii = omega arith; xml = inl (omega arith, omega arith) }, all_plain n)
 

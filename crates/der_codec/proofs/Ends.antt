@@ -17,7 +17,7 @@ use Rattle.der_codec.proofs.Inwards.{inwards_some}
 use Rattle.der_codec.proofs.Steps.{ended_read, over_read, end_breaks}
 
 pub end_stops : (m : DerMessage ℕ) (xs : List Level) (level : Level) (d : Due) (start place : ℕ) (bytes : List ℕ) (rule : Rule) (added : Added) → Some level ≡ first_of xs → IsFresh d → Reads m xs d start place bytes → level.end ≡ place
-    → ((l : states.Level ℕ) → IsLevel m.forms level l → IsEnded m.forms (ended.Breaks rule added) (end_answer (structure m l.spot) l.came)) → Fails m xs d bytes rule place (added_text m.forms added)
+    → ((l : states.DerLevel ℕ) → IsLevel m.forms level l → IsEnded m.forms (ended.Breaks rule added) (end_answer (structure m l.spot) l.came)) → Fails m xs d bytes rule place (added_text m.forms added)
 end_stops m [] level d start place bytes rule added is fresh r here h = absurd cc
 end_stops m (y ∷ ys) level (due.Tag step) start place bytes rule added is fresh r here h =
     let same : y ≡ level = cc in
@@ -25,7 +25,7 @@ end_stops m (y ∷ ys) level (due.Tag step) start place bytes rule added is fres
 end_stops m xs level d start place bytes rule added is fresh r here h = absurd fresh
 
 pub end_goes : (m : DerMessage ℕ) (xs : List Level) (level : Level) (d : Due) (start place : ℕ) (bytes : List ℕ) (items : List Level) → Some level ≡ first_of xs → IsFresh d → Reads m xs d start place bytes → level.end ≡ place
-    → ((l : states.Level ℕ) → IsLevel m.forms level l → IsEnded m.forms ended.Fine (end_answer (structure m l.spot) l.came)) → inwards items ≡ rest_of xs → Reads m (inwards items) (due_after d items) start place bytes
+    → ((l : states.DerLevel ℕ) → IsLevel m.forms level l → IsEnded m.forms ended.Fine (end_answer (structure m l.spot) l.came)) → inwards items ≡ rest_of xs → Reads m (inwards items) (due_after d items) start place bytes
 end_goes m [] level d start place bytes items is fresh r here h e = absurd cc
 end_goes m (y ∷ []) level (due.Tag step) start place bytes [] is fresh r here h e =
     let same : y ≡ level = cc in

@@ -7,9 +7,9 @@ use Rattle.message_model.specs.Tables.{Tables, types_of}
 use Rattle.message_model.specs.declared.fault.InstanceError.{InstanceError}
 use Rattle.message_model.specs.declared.fault.InstanceError.TheVariants.{Refused}
 use Rattle.der_model.specs.DerMessage.{DerMessage, der_message}
-use Rattle.der_model.specs.Faults.{Fault, DerFault}
+use Rattle.der_model.specs.Faults.{FaultInDer, DerFault}
 use Rattle.der_model.specs.Paths.{path_of}
-use Rattle.der_model.specs.Sound.{IsSound}
+use Rattle.der_model.specs.Sound.{IsSoundDer}
 use Rattle.der_model.specs.Structures.{structure}
 use Rattle.der_model.specs.States.{State, Start, AwaitsContents}
 use Rattle.der_model.proofs.Continued.{fault_stays}
@@ -17,10 +17,10 @@ use Rattle.der_model.proofs.Answered.{spelled_has_none}
 use Rattle.facets.specs.LeafChecks.{IsHeldWithin}
 use Rattle.der_codec.specs.Levels.{inwards}
 use Rattle.der_codec.specs.Components.{added_text}
-use Rattle.der_codec.specs.Decoding.{due_depth, Reads, Fails, HasRead, IsOpen, IsFresh, IsFault, IsStopped, IsOver, IsReady, IsWaiting, IsNoCut, IsRefusedAs, end_of_levels}
+use Rattle.der_codec.specs.Decoding.{due_depth, Reads, Fails, HasReadParts, IsOpenState, IsFresh, IsFault, IsStopped, IsOver, IsOctetAwaited, IsWaiting, IsNoCut, IsRefusedAs, end_of_levels}
 use Rattle.der_codec.specs.Judging.{HoldsContents, BreaksContentsAt, IsVerdictFor}
 use Rattle.der_codec.specs.inner.OpenNames.{IsNamed}
-use Rattle.der_codec.specs.Checking.{IsReading, KeepsContents, KeepsRead, HasFed, TakesFront, StopsWithin, Stops, IsSpelled, EndsAs, open_count, fed, token_held}
+use Rattle.der_codec.specs.Checking.{IsReading, KeepsContents, KeepsRead, HasFedDer, TakesDerFront, StopsWithin, DerStops, IsSpelledDer, DerEndsAs, open_count, der_bytes_fed, token_held}
 use Rattle.message_model.specs.Errors.{IsSameOrMemory}
 use Rattle.der_codec.specs.declared.checks.Refusal.{Refusal}
 use Rattle.der_codec.specs.declared.checks.Refusal.TheVariants as refused
@@ -51,7 +51,7 @@ use Rattle.der_codec.proofs.ShownFed.{depth_counts, pass_shown, leaf_ends}
 
 -- what the path is for every state that is open so
 abbrev pub TellsPath : Tables → Decoder → Added → List ℕ → Type 0
-TellsPath T d added path = (s : State ℕ) → IsOpen (der_message T) (inwards d.levels.items) d.due s → IsNamed (der_message T) s → path ≡ path_of s ++ added_text (types_of T) added
+TellsPath T d added path = (s : State ℕ) → IsOpenState (der_message T) (inwards d.levels.items) d.due s → IsNamed (der_message T) s → path ≡ path_of s ++ added_text (types_of T) added
 
 -- a fault with its path is one of the definitions
 fault_told : (T : Tables) (d : Decoder) (bytes : List ℕ) (rule : Rule) (place : ℕ) (added : Added) (path : List ℕ) → TellsPath T d added path → IsFault (der_message T) d bytes rule place (added_text (types_of T) added)
@@ -70,11 +70,11 @@ fault_told T d bytes rule place added path tells f = record {
 }
 
 pub end_told : (T : Tables) (d : Decoder) (bytes : List ℕ) (rule : Rule) (place : ℕ) (added : Added) (path : List ℕ) → TellsPath T d added path → IsStopped (der_message T) d bytes (stop.Fault rule place added)
-    → EndsAs T bytes (Refused (record { rule = rule; place = place; path = path }))
+    → DerEndsAs T bytes (Refused (record { rule = rule; place = place; path = path }))
 end_told T d bytes rule place added path tells f = fault_told T d bytes rule place added path tells f
 
 pub stop_told : (T : Tables) (d : Decoder) (bytes : List ℕ) (rule : Rule) (place : ℕ) (added : Added) (path : List ℕ) → TellsPath T d added path → StopsWithin T d bytes (stop.Fault rule place added)
-    → Stops T bytes (Refused (record { rule = rule; place = place; path = path }))
+    → DerStops T bytes (Refused (record { rule = rule; place = place; path = path }))
 stop_told T d bytes rule place added path tells (front, behind, is, f, other) = record {
   has_fault = λ more.
       subst (λ z. DerFault (der_message T) z (record { rule = rule; place = place; path = path })) (sym (ap (λ z. z ++ more) is ∙ append_assoc front behind more))
@@ -90,12 +90,12 @@ over_or_not (due.Length c spot step) = inr (λ h. h)
 over_or_not (due.Contents spot left) = inr (λ h. h)
 over_or_not due.Over = inl tt
 
-pub spelled : (T : Tables) (checker : DerChecker) (bytes : List ℕ) → IsSound (der_message T) → HasFed checker T bytes → IsOver checker.decoder.due → IsSpelled T bytes
+pub spelled : (T : Tables) (checker : DerChecker) (bytes : List ℕ) → IsSoundDer (der_message T) → HasFedDer checker T bytes → IsOver checker.decoder.due → IsSpelledDer T bytes
 spelled T checker bytes sound h over =
     let d = checker.decoder in let few = h.short in
     is_spelled (der_message T) (inwards d.levels.items) d.due d.start d.place bytes sound (omega (arith, few)) h.reading.read over
 
-pub only_cut : (T : Tables) (checker : DerChecker) (bytes : List ℕ) → IsSound (der_message T) → HasFed checker T bytes → (f : Fault) → DerFault (der_message T) bytes f → f.rule ≡ DerTruncated
+pub only_cut : (T : Tables) (checker : DerChecker) (bytes : List ℕ) → IsSoundDer (der_message T) → HasFedDer checker T bytes → (f : FaultInDer) → DerFault (der_message T) bytes f → f.rule ≡ DerTruncated
 only_cut T checker bytes sound h f fault = by (over_or_not checker.decoder.due)
   where
     by : (IsOver checker.decoder.due) ⊎ (IsOver checker.decoder.due → ⊥) → f.rule ≡ DerTruncated
@@ -116,19 +116,19 @@ within_more T d bytes more all stop.Memory e h = tt
 
 -- ---- the reader goes on
 
-keeps_ready : (T : Tables) (d : Due) (place : ℕ) (o : Option ℕ) (start : ℕ) (bytes kept : List ℕ) → IsReady d place o → kept ≡ [] → KeepsContents T d start bytes kept
+keeps_ready : (T : Tables) (d : Due) (place : ℕ) (o : Option ℕ) (start : ℕ) (bytes kept : List ℕ) → IsOctetAwaited d place o → kept ≡ [] → KeepsContents T d start bytes kept
 keeps_ready T (due.Tag step) place o start bytes kept h e = e
 keeps_ready T (due.Length c spot step) place o start bytes kept h e = e
 keeps_ready T (due.Contents spot left) place o start bytes kept h e = absurd h
 keeps_ready T due.Over place o start bytes kept h e = e
 
-pub over_ready : (d : Due) (place : ℕ) (o : Option ℕ) → IsOver d → IsReady d place o
+pub over_ready : (d : Due) (place : ℕ) (o : Option ℕ) → IsOver d → IsOctetAwaited d place o
 over_ready due.Over place o over = tt
 over_ready (due.Tag step) place o over = absurd over
 over_ready (due.Length c spot step) place o over = absurd over
 over_ready (due.Contents spot left) place o over = absurd over
 
-pub ready_reading : (T : Tables) (d : Decoder) (kept : List ℕ) (pieces : Option Region) (bytes : List ℕ) → HasRead (der_message T) d bytes → KeepsShown (der_message T) d pieces bytes → IsReady d.due d.place (end_of_levels d.levels.items) → kept ≡ [] → IsReading T d kept pieces bytes
+pub ready_reading : (T : Tables) (d : Decoder) (kept : List ℕ) (pieces : Option Region) (bytes : List ℕ) → HasReadParts (der_message T) d bytes → KeepsShown (der_message T) d pieces bytes → IsOctetAwaited d.due d.place (end_of_levels d.levels.items) → kept ≡ [] → IsReading T d kept pieces bytes
 ready_reading T d kept pieces bytes read shows ready none = record {
   read = read;
   waits = ready_waits d.due d.place (end_of_levels d.levels.items) ready;
@@ -139,7 +139,7 @@ ready_reading T d kept pieces bytes read shows ready none = record {
 kept_at : (T : Tables) (d : Due) (spot : Spot) (left start : ℕ) (bytes kept : List ℕ) → d ≡ due.Contents spot left → KeepsContents T d start bytes kept → IsKeptAt (der_message T) spot kept (drop start bytes)
 kept_at T d spot left start bytes kept is h = subst (λ z. KeepsContents T z start bytes kept) is h
 
-pub keep_reading : (T : Tables) (d e : Decoder) (kept less : List ℕ) (pieces : Option Region) (bytes front : List ℕ) (spot : Spot) (left : ℕ) → d.due ≡ due.Contents spot left → length front < left → IsReading T d kept pieces bytes → HasRead (der_message T) e (bytes ++ front)
+pub keep_reading : (T : Tables) (d e : Decoder) (kept less : List ℕ) (pieces : Option Region) (bytes front : List ℕ) (spot : Spot) (left : ℕ) → d.due ≡ due.Contents spot left → length front < left → IsReading T d kept pieces bytes → HasReadParts (der_message T) e (bytes ++ front)
     → e.due ≡ due.Contents spot (left - length front) → e.start ≡ d.start → IsKeptAt (der_message T) spot less (kept ++ front) → IsReading T e less pieces (bytes ++ front)
 keep_reading T d e kept less pieces bytes front spot left is more h read now start short = record {
   read = read;
@@ -161,11 +161,11 @@ keeps_none T (due.Contents spot left) (suc start) kept e = none_held (der_messag
 keeps_none T due.Over start kept e = e
 
 -- contents of which none has come
-pub fresh_keeps : (T : Tables) (d : Decoder) (kept bytes : List ℕ) (spot : Spot) (left : ℕ) → d.due ≡ due.Contents spot left → d.start ≡ d.place → kept ≡ [] → HasRead (der_message T) d bytes → KeepsContents T d.due d.start bytes kept
+pub fresh_keeps : (T : Tables) (d : Decoder) (kept bytes : List ℕ) (spot : Spot) (left : ℕ) → d.due ≡ due.Contents spot left → d.start ≡ d.place → kept ≡ [] → HasReadParts (der_message T) d bytes → KeepsContents T d.due d.start bytes kept
 fresh_keeps T d kept bytes spot left is begun none r =
     subst (λ z. KeepsContents T z d.start bytes kept) (sym is) (none_held (der_message T) spot kept (drop d.start bytes) none (none_kept (der_message T) (inwards d.levels.items) d.due d.start d.place bytes r begun))
 
-pub fresh_reading : (T : Tables) (d : Decoder) (kept : List ℕ) (pieces : Option Region) (bytes : List ℕ) (spot : Spot) (left : ℕ) → d.due ≡ due.Contents spot left → 0 < left → d.start ≡ d.place → kept ≡ [] → HasRead (der_message T) d bytes → KeepsShown (der_message T) d pieces bytes → IsReading T d kept pieces bytes
+pub fresh_reading : (T : Tables) (d : Decoder) (kept : List ℕ) (pieces : Option Region) (bytes : List ℕ) (spot : Spot) (left : ℕ) → d.due ≡ due.Contents spot left → 0 < left → d.start ≡ d.place → kept ≡ [] → HasReadParts (der_message T) d bytes → KeepsShown (der_message T) d pieces bytes → IsReading T d kept pieces bytes
 fresh_reading T d kept pieces bytes spot left is some begun none r shows = record {
   read = r;
   shows = shows;
@@ -194,14 +194,14 @@ last_leaf T d kept bytes front spot left leaf is (r, keeps) held = λ of at. ((k
 
 -- behind the last contents octets of a leaf
 pub last_has : (T : Tables) (d j e : Decoder) (kept bytes front : List ℕ) (spot : Spot) (left : ℕ) → j ≡ d → d.due ≡ due.Contents spot left → KeepsRead T d kept bytes → length front ≡ left → HoldsContents (der_message T) spot (kept ++ front)
-    → ((m : DerMessage ℕ) (bytes more : List ℕ) → HasRead m j bytes → length more ≡ left → HoldsContents m spot (drop j.start bytes ++ more) → HasRead m e (bytes ++ more)) → HasRead (der_message T) e (bytes ++ front)
+    → ((m : DerMessage ℕ) (bytes more : List ℕ) → HasReadParts m j bytes → length more ≡ left → HoldsContents m spot (drop j.start bytes ++ more) → HasReadParts m e (bytes ++ more)) → HasReadParts (der_message T) e (bytes ++ front)
 last_has T d j e kept bytes front spot left same is h size held reads =
-    reads (der_message T) bytes front (subst (λ (z : Decoder). HasRead (der_message T) z bytes) (sym same) h.0) size
+    reads (der_message T) bytes front (subst (λ (z : Decoder). HasReadParts (der_message T) z bytes) (sym same) h.0) size
     (subst (λ (z : Decoder). HoldsContents (der_message T) spot (drop z.start bytes ++ front)) (sym same) (last_read T d kept bytes front spot left is h held))
 
 pub last_ends : (T : Tables) (d j e : Decoder) (kept : List ℕ) (old mid : Option Region) (bytes front : List ℕ) (spot : Spot) (left : ℕ) → j ≡ d → d.due ≡ due.Contents spot left → KeepsRead T d kept bytes → KeepsShown (der_message T) d old bytes
     → length front ≡ left → HoldsContents (der_message T) spot (kept ++ front) → GoesOnByLeaf (der_message T) spot (kept ++ front) old mid → IsFresh e.due → e.levels ≡ j.levels
-    → ((m : DerMessage ℕ) (bytes more : List ℕ) → HasRead m j bytes → length more ≡ left → HoldsContents m spot (drop j.start bytes ++ more) → HasRead m e (bytes ++ more)) → EndsLeaf (der_message T) e mid (bytes ++ front)
+    → ((m : DerMessage ℕ) (bytes more : List ℕ) → HasReadParts m j bytes → length more ≡ left → HoldsContents m spot (drop j.start bytes ++ more) → HasReadParts m e (bytes ++ more)) → EndsLeaf (der_message T) e mid (bytes ++ front)
 last_ends T d j e kept old mid bytes front spot left same is h shows size held (leaf, at, goes) fresh levels reads =
     leaf_ends (der_message T) d e old mid bytes front spot left leaf is fresh (levels ∙ ap (λ (z : Decoder). z.levels) same) size (last_leaf T d kept bytes front spot left leaf is h at) goes h.0 shows
     (last_has T d j e kept bytes front spot left same is h size held reads)
@@ -212,7 +212,7 @@ at_memory T d bytes s is = subst (StopsWithin T d bytes) (sym is) tt
 rule_stays : (m : DerMessage ℕ) (xs : List Level) (spot : Spot) (left start place : ℕ) (bytes octets : List ℕ) (rule : Rule) → Reads m xs (due.Contents spot left) start place bytes → BreaksContentsAt m spot octets rule → rule ≢ DerTruncated
 rule_stays m xs spot left start place bytes octets rule r breaks = by r.state r.is_open
   where
-    by : (s : State ℕ) → IsOpen m xs (due.Contents spot left) s → rule ≢ DerTruncated
+    by : (s : State ℕ) → IsOpenState m xs (due.Contents spot left) s → rule ≢ DerTruncated
     by (AwaitsContents of names count ls) op = contents_stay m (structure m of) octets rule (breaks of op.0)
     by s op = absurd op
 
@@ -244,11 +244,11 @@ few zero xs = omega arith
 few (suc n) [] = omega arith
 few (suc n) (x ∷ xs) = (let rest = few n xs in omega arith)
 
-pub fed_is : (T : Tables) (checker : DerChecker) (bytes : List ℕ) → HasFed checker T bytes → fed checker ≡ length bytes
+pub fed_is : (T : Tables) (checker : DerChecker) (bytes : List ℕ) → HasFedDer checker T bytes → der_bytes_fed checker ≡ length bytes
 fed_is T checker bytes h = (let d = checker.decoder in place_counts (der_message T) (inwards d.levels.items) d.due d.start d.place bytes h.reading.read)
 
-pub taken_front : (T : Tables) (old new : DerChecker) (piece front : List ℕ) (n : ℕ) → front ≡ take n piece → n ≤ length piece → fed old + length piece ≤ 2 ^ 40 → new.failed ≡ old.failed
-    → ((bytes : List ℕ) → HasFed old T bytes → IsReading T new.decoder new.kept.items new.pieces (bytes ++ front)) → TakesFront T old new piece (Ok n)
+pub taken_front : (T : Tables) (old new : DerChecker) (piece front : List ℕ) (n : ℕ) → front ≡ take n piece → n ≤ length piece → der_bytes_fed old + length piece ≤ 2 ^ 40 → new.failed ≡ old.failed
+    → ((bytes : List ℕ) → HasFedDer old T bytes → IsReading T new.decoder new.kept.items new.pieces (bytes ++ front)) → TakesDerFront T old new piece (Ok n)
 taken_front T old new piece front n is within room same go = record {
   ok = λ bytes h. record {
     reading = subst (λ z. IsReading T new.decoder new.kept.items new.pieces (bytes ++ z)) is (go bytes h);
@@ -259,15 +259,15 @@ taken_front T old new piece front n is within room same go = record {
   within = within;
 }
 
-pub stopped_front : (T : Tables) (old new : DerChecker) (piece front behind : List ℕ) (s : Stop) → piece ≡ front ++ behind → ((bytes : List ℕ) → HasFed old T bytes → StopsWithin T new.decoder (bytes ++ front) s) → TakesFront T old new piece (Err s)
+pub stopped_front : (T : Tables) (old new : DerChecker) (piece front behind : List ℕ) (s : Stop) → piece ≡ front ++ behind → ((bytes : List ℕ) → HasFedDer old T bytes → StopsWithin T new.decoder (bytes ++ front) s) → TakesDerFront T old new piece (Err s)
 stopped_front T old new piece front behind s is stops = record {
   ok = λ bytes h. tt;
   err = λ bytes h. within_more T new.decoder (bytes ++ front) behind (bytes ++ piece) s (ap (λ z. bytes ++ z) is ∙ sym (append_assoc bytes front behind)) (stops bytes h);
   within = tt;
 }
 
-pub over_front : (T : Tables) (old new : DerChecker) (piece : List ℕ) (s : Stop) → 0 < length piece → new.decoder ≡ old.decoder → ((bytes : List ℕ) (octet : ℕ) → HasRead (der_message T) old.decoder bytes → IsStopped (der_message T) old.decoder (bytes ++ octet ∷ []) s) → IsNoCut s
-    → TakesFront T old new piece (Err s)
+pub over_front : (T : Tables) (old new : DerChecker) (piece : List ℕ) (s : Stop) → 0 < length piece → new.decoder ≡ old.decoder → ((bytes : List ℕ) (octet : ℕ) → HasReadParts (der_message T) old.decoder bytes → IsStopped (der_message T) old.decoder (bytes ++ octet ∷ []) s) → IsNoCut s
+    → TakesDerFront T old new piece (Err s)
 over_front T old new [] s some same stops other = absurd (omega (arith, some))
 over_front T old new (x ∷ xs) s some same stops other =
     stopped_front T old new (x ∷ xs) (x ∷ []) xs s refl
@@ -314,15 +314,15 @@ stopped_early T d bytes behind n s stops other =
     stop_within T d (bytes ++ take n behind) (drop n behind) (bytes ++ behind) s (ap (λ z. bytes ++ z) (joined n behind) ∙ sym (append_assoc bytes (take n behind) (drop n behind))) stops other
 
 -- a byte, and a front of what is behind it
-pub taken_behind : (T : Tables) (old new : DerChecker) (piece behind : List ℕ) (o n : ℕ) → piece ≡ o ∷ behind → n ≤ length behind → fed old + length piece ≤ 2 ^ 40 → new.failed ≡ old.failed
-    → ((bytes : List ℕ) → HasFed old T bytes → IsReading T new.decoder new.kept.items new.pieces ((bytes ++ o ∷ []) ++ take n behind)) → TakesFront T old new piece (Ok (1 + n))
+pub taken_behind : (T : Tables) (old new : DerChecker) (piece behind : List ℕ) (o n : ℕ) → piece ≡ o ∷ behind → n ≤ length behind → der_bytes_fed old + length piece ≤ 2 ^ 40 → new.failed ≡ old.failed
+    → ((bytes : List ℕ) → HasFedDer old T bytes → IsReading T new.decoder new.kept.items new.pieces ((bytes ++ o ∷ []) ++ take n behind)) → TakesDerFront T old new piece (Ok (1 + n))
 taken_behind T old new piece behind o n is within room same go =
     let e : suc n ≡ 1 + n = omega arith in
     let size = ap length is in
     taken_front T old new piece (o ∷ take n behind) (1 + n) (ap (λ z. take z (o ∷ behind)) e ∙ ap (take (1 + n)) (sym is)) (omega (arith, size, within)) room same
     (λ bytes h. subst (IsReading T new.decoder new.kept.items new.pieces) (append_assoc bytes (o ∷ []) (take n behind)) (go bytes h))
 
-pub stopped_behind : (T : Tables) (old new : DerChecker) (piece behind : List ℕ) (o : ℕ) (s : Stop) → piece ≡ o ∷ behind → ((bytes : List ℕ) → HasFed old T bytes → StopsWithin T new.decoder ((bytes ++ o ∷ []) ++ behind) s) → TakesFront T old new piece (Err s)
+pub stopped_behind : (T : Tables) (old new : DerChecker) (piece behind : List ℕ) (o : ℕ) (s : Stop) → piece ≡ o ∷ behind → ((bytes : List ℕ) → HasFedDer old T bytes → StopsWithin T new.decoder ((bytes ++ o ∷ []) ++ behind) s) → TakesDerFront T old new piece (Err s)
 stopped_behind T old new piece behind o s is stops =
     stopped_front T old new piece piece [] s (sym (append-nil piece)) (λ bytes h. subst (λ z. StopsWithin T new.decoder z s) (append_assoc bytes (o ∷ []) behind ∙ ap (λ z. bytes ++ z) (sym is)) (stops bytes h))
 
@@ -332,46 +332,46 @@ stopped_behind T old new piece behind o s is stops =
 pub record GivenSoFar (T : Tables) (checker : DerChecker) (bytes piece rest : List ℕ) : Type 0 where
   pub seen : List ℕ
   pub piece_is : piece ≡ seen ++ rest
-  pub fed_are : HasFed checker T (bytes ++ seen)
+  pub fed_are : HasFedDer checker T (bytes ++ seen)
 
-pub none_given : (T : Tables) (checker : DerChecker) (bytes piece : List ℕ) → HasFed checker T bytes → GivenSoFar T checker bytes piece piece
-none_given T checker bytes piece h = record { seen = []; piece_is = refl; fed_are = subst (HasFed checker T) (sym (append-nil bytes)) h }
+pub none_given : (T : Tables) (checker : DerChecker) (bytes piece : List ℕ) → HasFedDer checker T bytes → GivenSoFar T checker bytes piece piece
+none_given T checker bytes piece h = record { seen = []; piece_is = refl; fed_are = subst (HasFedDer checker T) (sym (append-nil bytes)) h }
 
-pub all_given : (T : Tables) (checker : DerChecker) (bytes piece : List ℕ) → GivenSoFar T checker bytes piece [] → HasFed checker T (bytes ++ piece)
-all_given T checker bytes piece s = subst (λ z. HasFed checker T (bytes ++ z)) (sym (s.piece_is ∙ append-nil s.seen)) s.fed_are
+pub all_given : (T : Tables) (checker : DerChecker) (bytes piece : List ℕ) → GivenSoFar T checker bytes piece [] → HasFedDer checker T (bytes ++ piece)
+all_given T checker bytes piece s = subst (λ z. HasFedDer checker T (bytes ++ z)) (sym (s.piece_is ∙ append-nil s.seen)) s.fed_are
 
-pub more_given : (T : Tables) (old new : DerChecker) (bytes piece rest behind : List ℕ) (n : ℕ) (s : GivenSoFar T old bytes piece rest) → rest ≡ take n rest ++ behind → HasFed new T ((bytes ++ s.seen) ++ take n rest) → GivenSoFar T new bytes piece behind
+pub more_given : (T : Tables) (old new : DerChecker) (bytes piece rest behind : List ℕ) (n : ℕ) (s : GivenSoFar T old bytes piece rest) → rest ≡ take n rest ++ behind → HasFedDer new T ((bytes ++ s.seen) ++ take n rest) → GivenSoFar T new bytes piece behind
 more_given T old new bytes piece rest behind n s is h = record {
   seen = s.seen ++ take n rest;
   piece_is = s.piece_is ∙ (ap (λ z. s.seen ++ z) is ∙ sym (append_assoc s.seen (take n rest) behind));
-  fed_are = subst (HasFed new T) (append_assoc bytes s.seen (take n rest)) h;
+  fed_are = subst (HasFedDer new T) (append_assoc bytes s.seen (take n rest)) h;
 }
 
 pub stops_given : (T : Tables) (old : DerChecker) (d : Decoder) (bytes piece rest : List ℕ) (s : Stop) (g : GivenSoFar T old bytes piece rest) → StopsWithin T d ((bytes ++ g.seen) ++ rest) s → StopsWithin T d (bytes ++ piece) s
 stops_given T old d bytes piece rest s g h = subst (λ z. StopsWithin T d z s) (append_assoc bytes g.seen rest ∙ ap (λ z. bytes ++ z) (sym g.piece_is)) h
 
-pub room_left : (T : Tables) (first checker : DerChecker) (bytes piece rest : List ℕ) → HasFed first T bytes → fed first + length piece ≤ 2 ^ 40 → GivenSoFar T checker bytes piece rest → fed checker + length rest ≤ 2 ^ 40
+pub room_left : (T : Tables) (first checker : DerChecker) (bytes piece rest : List ℕ) → HasFedDer first T bytes → der_bytes_fed first + length piece ≤ 2 ^ 40 → GivenSoFar T checker bytes piece rest → der_bytes_fed checker + length rest ≤ 2 ^ 40
 room_left T first checker bytes piece rest h room g =
     let a = fed_is T first bytes h in let b = fed_is T checker (bytes ++ g.seen) g.fed_are in let c = length-append bytes g.seen in let d = ap length g.piece_is in let e = length-append g.seen rest in
     omega (arith, a, b, c, d, e, room)
 
-pub count_is : (T : Tables) (old new : DerChecker) (bytes piece : List ℕ) → HasFed old T bytes → HasFed new T (bytes ++ piece) → fed new ≡ fed old + length piece
+pub count_is : (T : Tables) (old new : DerChecker) (bytes piece : List ℕ) → HasFedDer old T bytes → HasFedDer new T (bytes ++ piece) → der_bytes_fed new ≡ der_bytes_fed old + length piece
 count_is T old new bytes piece h k =
     let a = fed_is T old bytes h in let b = fed_is T new (bytes ++ piece) k in let c = length-append bytes piece in omega (arith, a, b, c)
 
-pub stops_same : (T : Tables) (bytes : List ℕ) (e told : InstanceError) → IsSameOrMemory e told → Stops T bytes e → Stops T bytes told
-stops_same T bytes e told (inl same) h = subst (Stops T bytes) (sym same) h
-stops_same T bytes e told (inr none) h = subst (Stops T bytes) (sym none) tt
+pub stops_same : (T : Tables) (bytes : List ℕ) (e told : InstanceError) → IsSameOrMemory e told → DerStops T bytes e → DerStops T bytes told
+stops_same T bytes e told (inl same) h = subst (DerStops T bytes) (sym same) h
+stops_same T bytes e told (inr none) h = subst (DerStops T bytes) (sym none) tt
 
 -- ---- how deep it is
 
-pub depth_is : (T : Tables) (checker : DerChecker) (bytes : List ℕ) (h : HasFed checker T bytes) → length checker.decoder.levels.items + due_depth checker.decoder.due ≡ open_count h.reading.read.state
+pub depth_is : (T : Tables) (checker : DerChecker) (bytes : List ℕ) (h : HasFedDer checker T bytes) → length checker.decoder.levels.items + due_depth checker.decoder.due ≡ open_count h.reading.read.state
 depth_is T checker bytes h = (let d = checker.decoder in depth_counts (der_message T) d.levels.items d.due d.start d.place bytes h.reading.read)
 
 -- ---- what is held
 
-pub scratch_is : (T : Tables) (checker : DerChecker) (bytes : List ℕ) (h : HasFed checker T bytes) → IsHeldWithin (open_limit (der_message T) h.reading.read.state) (leaf_come h.reading.read.state h.reading.read.rest) (length checker.kept.items)
+pub scratch_is : (T : Tables) (checker : DerChecker) (bytes : List ℕ) (h : HasFedDer checker T bytes) → IsHeldWithin (open_limit (der_message T) h.reading.read.state) (leaf_come h.reading.read.state h.reading.read.rest) (length checker.kept.items)
 scratch_is T checker bytes h = (let d = checker.decoder in held_open T (inwards d.levels.items) d.due d.start d.place bytes checker.kept.items h.reading.read h.reading.keeps)
 
-pub token_is : (T : Tables) (checker : DerChecker) (bytes : List ℕ) (h : HasFed checker T bytes) → (token_held checker ≡ token_come h.reading.read.state h.reading.read.rest) × (token_held checker ≤ 8)
+pub token_is : (T : Tables) (checker : DerChecker) (bytes : List ℕ) (h : HasFedDer checker T bytes) → (token_held checker ≡ token_come h.reading.read.state h.reading.read.rest) × (token_held checker ≤ 8)
 token_is T checker bytes h = (let d = checker.decoder in token_open (der_message T) (inwards d.levels.items) d.due d.start d.place bytes h.reading.read)

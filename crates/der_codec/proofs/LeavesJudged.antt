@@ -4,7 +4,7 @@ use Rattle.std.specs.Prelude.{MatchOption}
 use Rattle.std.proofs.lemmas.Option.{slice_get_within}
 use Rattle.std.specs.List.{AllByRecursion}
 use Rattle.lexical_core.specs.Characters.{IsXmlChar, IsXmlText}
-use Rattle.lexical_core.specs.XmlRuns.{IsXmlRun, IsPlain}
+use Rattle.lexical_core.specs.XmlRuns.{IsXmlRun, IsPlainXmlByte}
 use Rattle.lexical_core.specs.declared.rule.Rule.{Rule}
 use Rattle.lexical_core.specs.declared.rule.Rule.TheVariants.{BadLength, PatternFails, NotACode, BadContents, BadText}
 use Rattle.lexical_core.proofs.XmlRuns.{plain_encoded}
@@ -95,7 +95,7 @@ short kind.Decimal h = absurd h
 short kind.Binary h = absurd h
 short k h = record { no_text = λ e. cc; no_decimal = λ e. cc; no_binary = λ e. cc }
 
-visible_plain : (xs : List ℕ) → AreVisible xs → AllByRecursion IsPlain xs
+visible_plain : (xs : List ℕ) → AreVisible xs → AllByRecursion IsPlainXmlByte xs
 visible_plain [] v = tt
 visible_plain (x ∷ xs) v = (let low = v.0.low in let high = v.0.high in record { ascii = omega arith; xml = inl (omega arith, omega arith) }, visible_plain xs v.1)
 

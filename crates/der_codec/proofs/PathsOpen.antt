@@ -8,12 +8,12 @@ use Rattle.der_model.specs.DerMessage.{DerMessage}
 use Rattle.der_model.specs.Structures as structures
 use Rattle.der_model.specs.Structures.{Component, Label, Element, Listed, Unnamed, is_single, component, components, item_components, amount_components, form_structure, number_structure, structure}
 use Rattle.der_model.specs.States as states
-use Rattle.der_model.specs.States.{Name, Numbered, ListName, State, Start, AwaitsLength, AwaitsContents, Within, label_names, next_number}
+use Rattle.der_model.specs.States.{PathName, Numbered, ListName, State, Start, AwaitsLength, AwaitsContents, Within, label_names, next_number}
 use Rattle.der_model.specs.Paths.{path_text, path_of, names_of}
 use Rattle.der_codec.specs.Levels.{IsSpot, IsLevel, AreLevels, inwards, rest_of}
-use Rattle.der_codec.specs.Decoding.{IsOpen, AwaitsValue}
+use Rattle.der_codec.specs.Decoding.{IsOpenState, AwaitsValue}
 use Rattle.der_model.specs.OpenParts.{components_of}
-use Rattle.der_codec.specs.inner.OpenNames.{label_of, names_of_part, names_at, document, names_within, AreNamed, IsNamed, slot_names, amount_names, form_names, alternative_names, item_names, spot_names, numbered_names, level_names, names_over}
+use Rattle.der_codec.specs.inner.OpenNames.{label_of, names_of_part, names_at, document_names, names_within, AreNamed, IsNamed, slot_names, amount_names, form_names, alternative_names, item_names, spot_names, numbered_names, level_names, names_over}
 use Rattle.der_codec.specs.declared.level.Spot.{Spot}
 use Rattle.der_codec.specs.declared.level.Spot.TheVariants as spots
 use Rattle.der_codec.specs.declared.level.Level as levels
@@ -69,7 +69,7 @@ spot_part m root (spots.List p j) of came count k (s, there, is) n =
     ∙ (ap (λ z. Numbered s.tag (suc (length came)) ∷ z) (item_labels m.forms s.target (m.forms s.target) k)
     ∙ (ap (λ z. Numbered s.tag z ∷ alternative_names (m.forms s.target) k) (sym n) ∙ sym (ap (λ z. item_names m.forms z count k) there)))
 
-level_named : (m : DerMessage ℕ) → m.root ≡ 0 → (x : levels.Level) (l : states.Level ℕ) → IsLevel m.forms x l → names_at (structure m l.spot) l.came ≡ level_names m.forms x
+level_named : (m : DerMessage ℕ) → m.root ≡ 0 → (x : levels.Level) (l : states.DerLevel ℕ) → IsLevel m.forms x l → names_at (structure m l.spot) l.came ≡ level_names m.forms x
 level_named m root x l is = by l.came is.next is.count
   where
     by : (came : List ℕ) → x.next ≡ next_number came → x.count ≡ length came → names_at (structure m l.spot) came ≡ level_names m.forms x
@@ -79,43 +79,43 @@ level_named m root x l is = by l.came is.next is.count
 -- ---- all of them
 
 -- names, and those of what began in these values, the innermost first
-begun_in : Graph ℕ Simple → List Name → List levels.Level → List Name
+begun_in : Graph ℕ Simple → List PathName → List levels.Level → List PathName
 begun_in types base [] = base
 begun_in types base (x ∷ xs) = begun_in types base xs ++ level_names types x
 
-begun_more : (types : Graph ℕ Simple) (base : List Name) (xs : List levels.Level) (y : levels.Level) → begun_in types base (xs ++ y ∷ []) ≡ begun_in types (base ++ level_names types y) xs
+begun_more : (types : Graph ℕ Simple) (base : List PathName) (xs : List levels.Level) (y : levels.Level) → begun_in types base (xs ++ y ∷ []) ≡ begun_in types (base ++ level_names types y) xs
 unfolding begun_in
 begun_more types base [] y = refl
 begun_more types base (x ∷ xs) y = ap (λ z. z ++ level_names types x) (begun_more types base xs y)
 
-outwards : (types : Graph ℕ Simple) (base : List Name) (xs : List levels.Level) → begun_in types base (inwards xs) ≡ names_over types base xs
+outwards : (types : Graph ℕ Simple) (base : List PathName) (xs : List levels.Level) → begun_in types base (inwards xs) ≡ names_over types base xs
 unfolding begun_in
 outwards types base [] = refl
 outwards types base (x ∷ xs) = begun_more types base (inwards xs) x ∙ outwards types (base ++ level_names types x) xs
 
 -- with the names of one that has begun
-within_named : (m : DerMessage ℕ) → m.root ≡ 0 → (xs : List levels.Level) (ls : List (states.Level ℕ)) → AreLevels m.forms xs ls → AreNamed m ls → names_of ls ++ names_within m ls ≡ begun_in m.forms document xs
+within_named : (m : DerMessage ℕ) → m.root ≡ 0 → (xs : List levels.Level) (ls : List (states.DerLevel ℕ)) → AreLevels m.forms xs ls → AreNamed m ls → names_of ls ++ names_within m ls ≡ begun_in m.forms document_names xs
 unfolding begun_in
 within_named m root [] [] are named = refl
 within_named m root (x ∷ xs) (l ∷ ls) are named =
     ap (λ z. (names_of ls ++ z) ++ names_at (structure m l.spot) l.came) named.0
     ∙ (ap (λ z. z ++ names_at (structure m l.spot) l.came) (within_named m root xs ls are.1 named.1)
-    ∙ ap (λ z. begun_in m.forms document xs ++ z) (level_named m root x l are.0))
+    ∙ ap (λ z. begun_in m.forms document_names xs ++ z) (level_named m root x l are.0))
 within_named m root [] (l ∷ ls) are named = absurd are
 within_named m root (x ∷ xs) [] are named = absurd are
 
 -- the path of a value that has begun
-pub begun_path : (m : DerMessage ℕ) → m.root ≡ 0 → (xs : List levels.Level) (d : Due) (s : State ℕ) → IsOpen m (inwards xs) d s → IsNamed m s → AwaitsValue d → path_text (names_over m.forms document xs) ≡ path_of s
+pub begun_path : (m : DerMessage ℕ) → m.root ≡ 0 → (xs : List levels.Level) (d : Due) (s : State ℕ) → IsOpenState m (inwards xs) d s → IsNamed m s → AwaitsValue d → path_text (names_over m.forms document_names xs) ≡ path_of s
 begun_path m root xs (due.Length c spot step) (AwaitsLength b of names ls) op named begun =
-    ap path_text (sym (ap (λ z. names_of ls ++ z) named.0 ∙ (within_named m root (inwards xs) ls op.2 named.1 ∙ outwards m.forms document xs)))
+    ap path_text (sym (ap (λ z. names_of ls ++ z) named.0 ∙ (within_named m root (inwards xs) ls op.2 named.1 ∙ outwards m.forms document_names xs)))
 begun_path m root xs (due.Contents spot left) (AwaitsContents of names n ls) op named begun =
-    ap path_text (sym (ap (λ z. names_of ls ++ z) named.0 ∙ (within_named m root (inwards xs) ls op.1 named.1 ∙ outwards m.forms document xs)))
+    ap path_text (sym (ap (λ z. names_of ls ++ z) named.0 ∙ (within_named m root (inwards xs) ls op.1 named.1 ∙ outwards m.forms document_names xs)))
 begun_path m root xs (due.Tag step) s op named begun = absurd begun
 begun_path m root xs due.Over s op named begun = absurd begun
 begun_path m root xs d s op named begun = absurd op
 
 -- the path of the innermost open value
-open_names : (m : DerMessage ℕ) → m.root ≡ 0 → (xs : List levels.Level) (ls : List (states.Level ℕ)) → AreLevels m.forms xs ls → AreNamed m ls → 0 < length xs → names_of ls ≡ begun_in m.forms document (rest_of xs)
+open_names : (m : DerMessage ℕ) → m.root ≡ 0 → (xs : List levels.Level) (ls : List (states.DerLevel ℕ)) → AreLevels m.forms xs ls → AreNamed m ls → 0 < length xs → names_of ls ≡ begun_in m.forms document_names (rest_of xs)
 open_names m root [] ls are named some = absurd (omega arith)
 open_names m root (x ∷ xs) [] are named some = absurd are
 open_names m root (x ∷ xs) (l ∷ ls) are named some = ap (λ z. names_of ls ++ z) named.0 ∙ within_named m root xs ls are.1 named.1
@@ -128,22 +128,22 @@ some_inwards (x ∷ xs) h = go (inwards xs)
     go [] = omega arith
     go (y ∷ ys) = omega arith
 
-pub open_path : (m : DerMessage ℕ) → m.root ≡ 0 → (xs : List levels.Level) (d : Due) (s : State ℕ) → IsOpen m (inwards xs) d s → IsNamed m s → (AwaitsValue d → ⊥) → 0 < length xs
-    → path_text (names_over m.forms document (take (length xs - 1) xs)) ≡ path_of s
+pub open_path : (m : DerMessage ℕ) → m.root ≡ 0 → (xs : List levels.Level) (d : Due) (s : State ℕ) → IsOpenState m (inwards xs) d s → IsNamed m s → (AwaitsValue d → ⊥) → 0 < length xs
+    → path_text (names_over m.forms document_names (take (length xs - 1) xs)) ≡ path_of s
 open_path m root xs d s op named none some = by (inwards xs) d s op named none (some_inwards xs some) (pop_inwards xs)
   where
-    by : (ys : List levels.Level) (d : Due) (s : State ℕ) → IsOpen m ys d s → IsNamed m s → (AwaitsValue d → ⊥) → 0 < length ys → rest_of ys ≡ inwards (take (length xs - 1) xs)
-        → path_text (names_over m.forms document (take (length xs - 1) xs)) ≡ path_of s
+    by : (ys : List levels.Level) (d : Due) (s : State ℕ) → IsOpenState m ys d s → IsNamed m s → (AwaitsValue d → ⊥) → 0 < length ys → rest_of ys ≡ inwards (take (length xs - 1) xs)
+        → path_text (names_over m.forms document_names (take (length xs - 1) xs)) ≡ path_of s
     by ys (due.Tag step) Start op named none some e = (let z = ap length op in absurd (omega arith))
     by ys (due.Tag step) (Within (l ∷ ls)) op named none some e =
-        ap path_text (sym (open_names m root ys (l ∷ ls) op named some ∙ (ap (begun_in m.forms document) e ∙ outwards m.forms document (take (length xs - 1) xs))))
+        ap path_text (sym (open_names m root ys (l ∷ ls) op named some ∙ (ap (begun_in m.forms document_names) e ∙ outwards m.forms document_names (take (length xs - 1) xs))))
     by ys due.Over (Within []) op named none some e = (let z = ap length op in absurd (omega arith))
     by ys (due.Length c spot step) s op named none some e = absurd (none tt)
     by ys (due.Contents spot left) s op named none some e = absurd (none tt)
     by ys d s op named none some e = absurd op
 
 -- nothing is open
-pub no_path : (m : DerMessage ℕ) (xs : List levels.Level) (d : Due) (s : State ℕ) → IsOpen m (inwards xs) d s → (AwaitsValue d → ⊥) → length xs ≡ 0 → codes "/" ≡ path_of s
+pub no_path : (m : DerMessage ℕ) (xs : List levels.Level) (d : Due) (s : State ℕ) → IsOpenState m (inwards xs) d s → (AwaitsValue d → ⊥) → length xs ≡ 0 → codes "/" ≡ path_of s
 no_path m [] (due.Tag step) Start op none z0 = refl
 no_path m [] (due.Tag step) (Within (l ∷ ls)) op none z0 = absurd op
 no_path m [] due.Over (Within []) op none z0 = refl

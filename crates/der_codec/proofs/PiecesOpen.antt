@@ -3,7 +3,7 @@ use Rattle.std.specs.Prelude.{Result, Ok, Err, OnOk, IfOk}
 use Rattle.std.proofs.Common.{◌≡◌, List, [], ◌∷◌, ◌++◌, Option, Some, None, refl, ap, ◌∙◌, drop, reverse}
 use Rattle.data_types.specs.Leaf.{Leaf}
 use Rattle.data_types.specs.Value.{Edge, Piece, Begins, Holds, Ends}
-use Rattle.inst_pool.specs.Pieces.{open_in, open_behind}
+use Rattle.inst_pool.specs.Pieces.{open_in, edges_open_behind}
 use Rattle.inst_pool.specs.declared.piece.Edge.{Edge as Told}
 use Rattle.der_model.specs.ShownPieces.{begin_each}
 use Rattle.der_codec.specs.inner.Elements.{edge_if}
@@ -12,7 +12,7 @@ pub on_ok_when : {A E : Type 0} (r : Result A E) (P Q : Type 0) → OnOk r P →
 on_ok_when (Ok a) P Q p f = f p
 on_ok_when (Err e) P Q p f = tt
 
-open_then : (outer : List Edge) (shown more : List Piece) → open_behind outer (shown ++ more) ≡ open_behind (open_behind outer shown) more
+open_then : (outer : List Edge) (shown more : List Piece) → edges_open_behind outer (shown ++ more) ≡ edges_open_behind (edges_open_behind outer shown) more
 open_then outer [] more = refl
 open_then outer (Begins edge ∷ shown) more = open_then (edge ∷ outer) shown more
 open_then outer (Holds leaf ∷ shown) more = open_then outer shown more
@@ -24,7 +24,7 @@ closed_open shown edge outer e = open_then [] shown (Ends edge ∷ []) ∙ ap (d
 pub held_open : (shown : List Piece) (leaf : Leaf) → open_in (shown ++ Holds leaf ∷ []) ≡ open_in shown
 held_open shown leaf = open_then [] shown (Holds leaf ∷ [])
 
-begun_open : (outer inner : Option Told) (around : List Edge) → open_behind around (begin_each (edge_if outer ++ edge_if inner)) ≡ reverse (edge_if outer ++ edge_if inner) ++ around
+begun_open : (outer inner : Option Told) (around : List Edge) → edges_open_behind around (begin_each (edge_if outer ++ edge_if inner)) ≡ reverse (edge_if outer ++ edge_if inner) ++ around
 begun_open None None around = refl
 begun_open None (Some b) around = refl
 begun_open (Some a) None around = refl

@@ -3,7 +3,7 @@ use Rattle.std.specs.Prelude.{codes}
 use Rattle.std.proofs.Common.{◌≡◌, ℕ, suc, ◌+◌, ◌<◌, Bool, true, false, List, [], ◌∷◌, ◌++◌, length, drop, Option, Some, None, refl, sym, ap, ◌∙◌, subst, arith, append_assoc, append-nil, length-append, ◌⊎◌, inl, inr}
 use Rattle.data_types.specs.Leaf.{Leaf}
 use Rattle.data_types.specs.Value.{Piece, Holds}
-use Rattle.inst_pool.specs.Pieces.{Region, open_behind}
+use Rattle.inst_pool.specs.Pieces.{Region, edges_open_behind}
 use Rattle.der_octets.specs.Octets.{identifier, length_octets}
 use Rattle.der_octets.specs.declared.tag_step.TagStep.{TagStep}
 use Rattle.der_octets.specs.declared.length_step.LengthStep.{LengthStep}
@@ -11,17 +11,17 @@ use Rattle.der_model.specs.DerMessage.{DerMessage}
 use Rattle.der_model.specs.Structures as structures
 use Rattle.der_model.specs.Structures.{structure, Structure, Holds as HoldsOctets, Fields, OneOf, Items, Empty, LeafOf, Fragment}
 use Rattle.der_model.specs.States as states
-use Rattle.der_model.specs.States.{Part, Identifier, Length, End, part_octets, Name, Numbered, State, Start, AwaitsLength, AwaitsContents, Within, level_answer, begun, names_in, end_from}
-use Rattle.der_model.specs.Faults.{Front}
+use Rattle.der_model.specs.States.{Part, Identifier, Length, End, part_octets, PathName, Numbered, State, Start, AwaitsLength, AwaitsContents, Within, level_answer, begun_state, names_in, end_from}
+use Rattle.der_model.specs.Faults.{DerFront}
 use Rattle.der_model.specs.ShownPieces.{PartsShow, IsLeafIn, begin_each, end_each, elements_begun, elements_ended}
 use Rattle.der_model.specs.NestedPieces.{open_elements, elements_around}
 use Rattle.der_model.proofs.Continued.{front_more}
 use Rattle.der_model.proofs.NestedPieces.{front_nests, nests_found}
 use Rattle.der_model.proofs.ShownPieces.{parts_show_then}
 use Rattle.der_codec.specs.Checking.{open_count}
-use Rattle.der_codec.specs.Decoding.{IsOpen, IsBegun, Reads, IsBelow, IsSettled, BeginsContents, end_of_first}
+use Rattle.der_codec.specs.Decoding.{IsOpenState, IsBegun, Reads, IsBelowEnd, IsSettled, BeginsContents, end_of_first}
 use Rattle.der_codec.specs.Judging.{HoldsLeaf}
-use Rattle.der_codec.specs.KeptPieces.{Shows, GoOn, AreOpen, HoldsLeafAt, around_of, begun_pieces}
+use Rattle.der_codec.specs.KeptPieces.{Shows, PiecesGoOn, AreOpen, HoldsLeafAt, around_of, begun_pieces}
 use Rattle.der_codec.specs.Levels.{IsSpot, AreLevels}
 use Rattle.der_codec.specs.declared.level.Level.{Level}
 use Rattle.der_codec.specs.declared.level.Spot.{Spot}
@@ -39,7 +39,7 @@ pub record Adds (m : DerMessage ℕ) (before : List Part) (s : State ℕ) (at : 
 
 -- the pieces that are kept go on
 pub shows_on : (m : DerMessage ℕ) (xs ys : List Level) (d e : Due) (start place begin end : ℕ) (bytes all : List ℕ) (old new : Option Region) (r : Reads m xs d start place bytes) → Shows m xs d start place old bytes
-    → ((t : Reads m ys e begin end all) → (more : List Piece) × GoOn old new more × Adds m r.parts r.state r.at t.parts more) → Shows m ys e begin end new all
+    → ((t : Reads m ys e begin end all) → (more : List Piece) × PiecesGoOn old new more × Adds m r.parts r.state r.at t.parts more) → Shows m ys e begin end new all
 shows_on m xs ys d e start place begin end bytes all old None r shows adds = tt
 shows_on m xs ys d e start place begin end bytes all None (Some new) r shows adds = λ t. absurd (adds t).1
 shows_on m xs ys d e start place begin end bytes all (Some old) (Some new) r shows adds = λ t.
@@ -48,14 +48,14 @@ shows_on m xs ys d e start place begin end bytes all (Some old) (Some new) r sho
     (parts_show_then m Start r.state 0 r.at bytes r.rest r.parts a.parts old.pieces more r.front (shows r) a.show))
 
 -- nothing comes behind them
-pub goes_same : (old new : Option Region) → new ≡ old → GoOn old new []
+pub goes_same : (old new : Option Region) → new ≡ old → PiecesGoOn old new []
 goes_same None None e = tt
 goes_same (Some old) (Some new) e = (let same : new ≡ old = cc in ap (λ (z : Region). z.pieces) same ∙ sym (append-nil old.pieces))
 goes_same None (Some new) e = absurd cc
 goes_same (Some old) None e = absurd cc
 
 -- two times
-pub goes_twice : (old mid new : Option Region) (more others : List Piece) → GoOn old mid more → GoOn mid new others → GoOn old new (more ++ others)
+pub goes_twice : (old mid new : Option Region) (more others : List Piece) → PiecesGoOn old mid more → PiecesGoOn mid new others → PiecesGoOn old new (more ++ others)
 goes_twice None None None more others a b = tt
 goes_twice (Some old) (Some mid) (Some new) more others a b = b ∙ (ap (λ z. z ++ others) a ∙ append_assoc old.pieces more others)
 goes_twice None None (Some new) more others a b = absurd b
@@ -67,11 +67,11 @@ goes_twice (Some old) (Some mid) None more others a b = absurd b
 pub shown_open : (m : DerMessage ℕ) (xs : List Level) (d : Due) (start place : ℕ) (bytes : List ℕ) (kept : Option Region) (r : Reads m xs d start place bytes) → Shows m xs d start place kept bytes → AreOpen kept (open_elements m r.state)
 shown_open m xs d start place bytes None r shows = tt
 shown_open m xs d start place bytes (Some kept) r shows =
-    nests_found open_behind (λ outer. refl) (λ outer edge more. refl) (λ outer leaf more. refl) (λ one edge outer more. refl) [] kept.pieces (open_elements m r.state)
+    nests_found edges_open_behind (λ outer. refl) (λ outer edge more. refl) (λ outer leaf more. refl) (λ one edge outer more. refl) [] kept.pieces (open_elements m r.state)
     (front_nests m Start r.state 0 r.at bytes r.rest r.parts kept.pieces r.front (shows r))
 
 -- the values that are open are the levels of the reader
-pub levels_open : (m : DerMessage ℕ) (xs : List Level) (d : Due) (s : State ℕ) → IsOpen m xs d s → AreLevels m.forms xs (around_of s)
+pub levels_open : (m : DerMessage ℕ) (xs : List Level) (d : Due) (s : State ℕ) → IsOpenState m xs d s → AreLevels m.forms xs (around_of s)
 levels_open m xs (due.Tag step) Start op = subst (λ z. AreLevels m.forms z []) (sym op) tt
 levels_open m xs (due.Tag step) (Within (l ∷ ls)) op = op
 levels_open m xs (due.Length c spot step) (AwaitsLength b of names ls) op = op.2
@@ -81,33 +81,33 @@ levels_open m xs d s op = absurd op
 
 -- ---- identifier octets
 
-none_begun : (m : DerMessage ℕ) (xs : List Level) (step : TagStep) (s : State ℕ) → IsOpen m xs (due.Tag step) s → begun_pieces m s ≡ []
+none_begun : (m : DerMessage ℕ) (xs : List Level) (step : TagStep) (s : State ℕ) → IsOpenState m xs (due.Tag step) s → begun_pieces m s ≡ []
 none_begun m xs step Start op = refl
 none_begun m xs step (Within (l ∷ ls)) op = refl
 none_begun m xs step s op = absurd op
 
-pub tag_adds : (m : DerMessage ℕ) (xs ys : List Level) (step : TagStep) (e : Due) (start place begin end : ℕ) (bytes : List ℕ) (o : ℕ) (r : Reads m xs (due.Tag step) start place bytes) → IsBelow place (end_of_first xs) → IsSettled e end (end_of_first ys) → BeginsContents e begin end
+pub tag_adds : (m : DerMessage ℕ) (xs ys : List Level) (step : TagStep) (e : Due) (start place begin end : ℕ) (bytes : List ℕ) (o : ℕ) (r : Reads m xs (due.Tag step) start place bytes) → IsBelowEnd place (end_of_first xs) → IsSettled e end (end_of_first ys) → BeginsContents e begin end
     → (t : Reads m ys e begin end (bytes ++ o ∷ [])) → Adds m r.parts r.state r.at t.parts (begun_pieces m t.state)
 tag_adds m xs ys step e start place begin end bytes o r below settled new t =
     by (either_further m Start 0 (bytes ++ o ∷ []) r.parts t.parts r.state t.state r.at t.at (r.rest ++ o ∷ []) t.rest (front_more m Start 0 bytes r.parts r.state r.at r.rest (o ∷ []) r.front) t.front)
   where
-    go : (s : State ℕ) → IsOpen m xs (due.Tag step) s → (v : State ℕ) (ps : List Part) → Front m s r.at (r.rest ++ o ∷ []) ps v t.at t.rest → PartsShow m s r.at ps (begun_pieces m v)
+    go : (s : State ℕ) → IsOpenState m xs (due.Tag step) s → (v : State ℕ) (ps : List Part) → DerFront m s r.at (r.rest ++ o ∷ []) ps v t.at t.rest → PartsShow m s r.at ps (begun_pieces m v)
     go s op v [] (p, q, z) = ap (begun_pieces m) (sym p) ∙ none_begun m xs step s op
     go Start op v (Identifier c g ∷ ps) (after, is, st, up, cl, f) =
-        let names : List Name = Numbered (codes "Document") 1 ∷ [] in
+        let names : List PathName = Numbered (codes "Document") 1 ∷ [] in
         let at = r.at + length (identifier c g) in
         let n = none_awaited m true structures.Instance names [] at after ps v t.at t.rest (tag_ends step r.rest after o c g r.is_begun is) f in
         ([], [], refl, subst (λ z. PartsShow m (AwaitsLength true structures.Instance names []) at z []) (sym n.0) refl, ap (begun_pieces m) (sym n.1))
     go Start op v (p ∷ ps) (after, is, st, up, cl, f) = absurd st
     go (Within (l ∷ ls)) op v (Identifier c g ∷ ps) (after, is, st, up, (k, x, answer), f) =
-        let around : List (states.Level ℕ) = record l { came = k ∷ l.came } ∷ ls in
+        let around : List (states.DerLevel ℕ) = record l { came = k ∷ l.came } ∷ ls in
         let names = names_in (structure m l.spot) l.came x.label in
         let first = begin_each (elements_begun m l (level_answer m l c g)) in
         let at = r.at + length (identifier c g) in
-        let n = none_awaited m c x.spot names around at after ps v t.at t.rest (tag_ends step r.rest after o c g r.is_begun is) (subst (λ z. Front m (begun m l ls c z) at after ps v t.at t.rest) answer f) in
-        (first, [], refl, subst (λ z. PartsShow m (begun m l ls c (level_answer m l c g)) at z []) (sym n.0) refl, ap (begun_pieces m) (sym n.1) ∙ (ap (λ z. begin_each (elements_begun m l z)) (sym answer) ∙ sym (append-nil first)))
+        let n = none_awaited m c x.spot names around at after ps v t.at t.rest (tag_ends step r.rest after o c g r.is_begun is) (subst (λ z. DerFront m (begun_state m l ls c z) at after ps v t.at t.rest) answer f) in
+        (first, [], refl, subst (λ z. PartsShow m (begun_state m l ls c (level_answer m l c g)) at z []) (sym n.0) refl, ap (begun_pieces m) (sym n.1) ∙ (ap (λ z. begin_each (elements_begun m l z)) (sym answer) ∙ sym (append-nil first)))
     go (Within (l ∷ ls)) op v (End ∷ ps) (after, is, st, up, cl, f) =
-        let inside : place < l.end = subst (IsBelow place) (sym (open_limit m xs (due.Tag step) (Within (l ∷ ls)) op)) below in
+        let inside : place < l.end = subst (IsBelowEnd place) (sym (open_limit m xs (due.Tag step) (Within (l ∷ ls)) op)) below in
         let there = r.place_is in
         absurd (omega (arith, inside, there, st))
     go (Within (l ∷ ls)) op v (p ∷ ps) (after, is, st, up, cl, f) = absurd st
@@ -128,7 +128,7 @@ length_adds m xs ys c spot step e start place begin end bytes o r settled new t 
     none [] s at z = refl
     none (p ∷ ps) s at z = absurd (omega (arith, z))
 
-    go : (s : State ℕ) → IsOpen m xs (due.Length c spot step) s → open_count t.state ≡ open_count s → (ps : List Part) → Front m s r.at (r.rest ++ o ∷ []) ps t.state t.at t.rest → PartsShow m s r.at ps []
+    go : (s : State ℕ) → IsOpenState m xs (due.Length c spot step) s → open_count t.state ≡ open_count s → (ps : List Part) → DerFront m s r.at (r.rest ++ o ∷ []) ps t.state t.at t.rest → PartsShow m s r.at ps []
     go s op count [] f = refl
     go (AwaitsLength true of names ls) op count (Length n ∷ ps) (after, is, st, up, cl, f) =
         let at = r.at + length (length_octets n) in
@@ -155,14 +155,14 @@ pub pass_adds : (m : DerMessage ℕ) (xs ys : List Level) (one two : Spot) (left
 pass_adds m xs ys one two left less start place begin end bytes more r few some t =
     by (either_further m Start 0 (bytes ++ more) r.parts t.parts r.state t.state r.at t.at (r.rest ++ more) t.rest (front_more m Start 0 bytes r.parts r.state r.at r.rest more r.front) t.front)
   where
-    go : (s : State ℕ) → IsOpen m xs (due.Contents one left) s → IsBegun (due.Contents one left) s r.rest → (ps : List Part) → Front m s r.at (r.rest ++ more) ps t.state t.at t.rest → PartsShow m s r.at ps []
+    go : (s : State ℕ) → IsOpenState m xs (due.Contents one left) s → IsBegun (due.Contents one left) s r.rest → (ps : List Part) → DerFront m s r.at (r.rest ++ more) ps t.state t.at t.rest → PartsShow m s r.at ps []
     go s op beg [] f = refl
     go (AwaitsContents of names count ls) op beg (states.Contents x ∷ ps) (after, is, st, up, cl, f) =
         absurd (let a = ap length is in let b = length-append r.rest more in let c = length-append x after in omega (arith, a, b, c, st, beg, few))
     go (AwaitsContents of names count ls) op beg (p ∷ ps) (after, is, st, up, cl, f) = absurd st
     go s op beg (p ∷ ps) f = absurd op
 
-    back : (s : State ℕ) → IsOpen m ys (due.Contents two less) s → IsBegun (due.Contents two less) s t.rest → (p : Part) (ps : List Part) → Front m s t.at t.rest (p ∷ ps) r.state r.at (r.rest ++ more) → ⊥
+    back : (s : State ℕ) → IsOpenState m ys (due.Contents two less) s → IsBegun (due.Contents two less) s t.rest → (p : Part) (ps : List Part) → DerFront m s t.at t.rest (p ∷ ps) r.state r.at (r.rest ++ more) → ⊥
     back (AwaitsContents of names count ls) op beg (states.Contents x) ps (after, is, st, up, cl, f) = (let a = ap length is in let c = length-append x after in omega (arith, a, c, st, beg, some))
     back (AwaitsContents of names count ls) op beg p ps (after, is, st, up, cl, f) = absurd st
     back s op beg p ps f = absurd op
@@ -197,7 +197,7 @@ contents_close m xs ys spot left e start place begin end bytes more leaf r size 
     here : (of : structures.Spot ℕ) → IsSpot m.forms spot of → HoldsLeaf m (structure m of) (r.rest ++ more) leaf
     here of is = subst (λ z. HoldsLeaf m (structure m of) (z ++ more) leaf) (rest_from m xs (due.Contents spot left) start place bytes r) (held of is)
 
-    alone : (of : structures.Spot ℕ) (names : List Name) (count : ℕ) (ls : List (states.Level ℕ)) (x : List ℕ) (at : ℕ) (v : State ℕ) (ps : List Part) → IsLeafIn (structure m of) x leaf → length ps ≡ 0 → (Within ls ≡ v)
+    alone : (of : structures.Spot ℕ) (names : List PathName) (count : ℕ) (ls : List (states.DerLevel ℕ)) (x : List ℕ) (at : ℕ) (v : State ℕ) (ps : List Part) → IsLeafIn (structure m of) x leaf → length ps ≡ 0 → (Within ls ≡ v)
         → PartsShow m (AwaitsContents of names count ls) at (states.Contents x ∷ ps) (pieces v) × (open_elements m (AwaitsContents of names count ls) ≡ elements_around m (around_of v))
     alone of names count ls x at v [] one z same = (
       (pieces (Within ls), [], (leaf, one, refl), refl, ap pieces (sym same) ∙ sym (append-nil (pieces (Within ls)))),
@@ -205,11 +205,11 @@ contents_close m xs ys spot left e start place begin end bytes more leaf r size 
     )
     alone of names count ls x at v (p ∷ ps) one z same = absurd (omega (arith, z))
 
-    last_is : (s v : State ℕ) (ps : List Part) (at end : ℕ) (left rest : List ℕ) → length ps ≡ 0 → Front m s at left ps v end rest → s ≡ v
+    last_is : (s v : State ℕ) (ps : List Part) (at end : ℕ) (left rest : List ℕ) → length ps ≡ 0 → DerFront m s at left ps v end rest → s ≡ v
     last_is s v [] at end left rest z (p, q, w) = p
     last_is s v (p ∷ ps) at end left rest z f = absurd (omega (arith, z))
 
-    go : (s : State ℕ) → IsOpen m xs (due.Contents spot left) s → IsBegun (due.Contents spot left) s r.rest → suc (open_count t.state) ≡ open_count s → (ps : List Part) → Front m s r.at (r.rest ++ more) ps t.state t.at t.rest
+    go : (s : State ℕ) → IsOpenState m xs (due.Contents spot left) s → IsBegun (due.Contents spot left) s r.rest → suc (open_count t.state) ≡ open_count s → (ps : List Part) → DerFront m s r.at (r.rest ++ more) ps t.state t.at t.rest
         → PartsShow m s r.at ps (pieces t.state) × (open_elements m s ≡ elements_around m (around_of t.state))
     go s op beg count [] (p, q, z) = absurd (let same : open_count s ≡ open_count t.state = ap open_count p in omega (arith, same, count))
     go (AwaitsContents of names n ls) op beg count (states.Contents x ∷ ps) (after, is, st, up, cl, f) =
@@ -237,7 +237,7 @@ end_closes m xs ys step e start place begin end bytes r bare t none fewer =
     pieces : State ℕ → List Piece
     pieces v = end_each (elements_ended m (around_of v))
 
-    alone : (l : states.Level ℕ) (ls : List (states.Level ℕ)) (at : ℕ) (v : State ℕ) (ps : List Part) → length ps ≡ 0 → (Within ls ≡ v)
+    alone : (l : states.DerLevel ℕ) (ls : List (states.DerLevel ℕ)) (at : ℕ) (v : State ℕ) (ps : List Part) → length ps ≡ 0 → (Within ls ≡ v)
         → PartsShow m (Within (l ∷ ls)) at (End ∷ ps) (pieces v) × (open_elements m (Within (l ∷ ls)) ≡ elements_around m (around_of v))
     alone l ls at v [] z same = (
       (pieces (Within ls), [], refl, refl, ap pieces (sym same) ∙ sym (append-nil (pieces (Within ls)))),
@@ -245,11 +245,11 @@ end_closes m xs ys step e start place begin end bytes r bare t none fewer =
     )
     alone l ls at v (p ∷ ps) z same = absurd (omega (arith, z))
 
-    last_is : (s v : State ℕ) (ps : List Part) (at end : ℕ) (left rest : List ℕ) → length ps ≡ 0 → Front m s at left ps v end rest → s ≡ v
+    last_is : (s v : State ℕ) (ps : List Part) (at end : ℕ) (left rest : List ℕ) → length ps ≡ 0 → DerFront m s at left ps v end rest → s ≡ v
     last_is s v [] at end left rest z (p, q, w) = p
     last_is s v (p ∷ ps) at end left rest z f = absurd (omega (arith, z))
 
-    go : (s : State ℕ) → IsOpen m xs (due.Tag step) s → suc (open_count t.state) ≡ open_count s → (ps : List Part) → Front m s r.at r.rest ps t.state t.at t.rest → PartsShow m s r.at ps (pieces t.state) × (open_elements m s ≡ elements_around m (around_of t.state))
+    go : (s : State ℕ) → IsOpenState m xs (due.Tag step) s → suc (open_count t.state) ≡ open_count s → (ps : List Part) → DerFront m s r.at r.rest ps t.state t.at t.rest → PartsShow m s r.at ps (pieces t.state) × (open_elements m s ≡ elements_around m (around_of t.state))
     go s op count [] (p, q, z) = absurd (let same : open_count s ≡ open_count t.state = ap open_count p in omega (arith, same, count))
     go Start op count (Identifier c g ∷ ps) (after, is, st, up, cl, f) = absurd (no_identifier c g r.rest after bare is)
     go (Within (l ∷ ls)) op count (Identifier c g ∷ ps) (after, is, st, up, cl, f) = absurd (no_identifier c g r.rest after bare is)

@@ -17,7 +17,7 @@ use Rattle.reference_check.specs.Words.{UpTo}
 use Rattle.der_model.specs.DerMessage.{DerMessage}
 use Rattle.der_codec.specs.Levels.{IsLevel, first_of, rest_of}
 use Rattle.der_codec.specs.Components.{IsFound, added_text}
-use Rattle.der_codec.specs.Decoding.{Reads, Fails, IsBelow, IsPast, end_of_first, IsAdvanced, HasIdentifier, HasLength, IsOutermost, AwaitsInstance}
+use Rattle.der_codec.specs.Decoding.{Reads, Fails, IsBelowEnd, IsPastEnd, end_of_first, IsAdvanced, HasIdentifier, HasLengthOctets, IsOutermost, AwaitsInstance}
 use Rattle.der_codec.specs.declared.components.Found.TheVariants as found
 use Rattle.der_codec.specs.declared.components.Added.{Added}
 use Rattle.der_codec.specs.declared.level.Spot.{Spot}
@@ -49,8 +49,8 @@ fails_as m xs ys d e bytes rule place place2 added a b c f =
     subst (λ z. Fails m z d bytes rule place added) (sym a) (subst (λ z. Fails m ys z bytes rule place added) (sym b) (subst (λ z. Fails m ys e bytes rule z added) (sym c) f))
 
 -- identifier octets that begin nothing
-pub begin_breaks : (m : DerMessage ℕ) (xs : List Level) (level : Level) (d : Due) (start place : ℕ) (bytes : List ℕ) (o : ℕ) (id : ids.Identifier) (rule : Rule) (added : Added) (r : Reads m xs d start place bytes) → Some level ≡ first_of xs → HasIdentifier d r.rest o id → IsBelow place (end_of_first xs)
-    → ((l : states.Level ℕ) → IsLevel m.forms level l → IsFound m.forms (found.Breaks rule added) (level_answer m l id.constructed (tag_view id))) → Fails m xs d (bytes ++ o ∷ []) rule start (added_text m.forms added)
+pub begin_breaks : (m : DerMessage ℕ) (xs : List Level) (level : Level) (d : Due) (start place : ℕ) (bytes : List ℕ) (o : ℕ) (id : ids.Identifier) (rule : Rule) (added : Added) (r : Reads m xs d start place bytes) → Some level ≡ first_of xs → HasIdentifier d r.rest o id → IsBelowEnd place (end_of_first xs)
+    → ((l : states.DerLevel ℕ) → IsLevel m.forms level l → IsFound m.forms (found.Breaks rule added) (level_answer m l id.constructed (tag_view id))) → Fails m xs d (bytes ++ o ∷ []) rule start (added_text m.forms added)
 begin_breaks m [] level d start place bytes o id rule added r is has low h = absurd cc
 begin_breaks m (y ∷ ys) level (due.Tag step) start place bytes o id rule added r is has low h =
     let same : y ≡ level = cc in
@@ -58,8 +58,8 @@ begin_breaks m (y ∷ ys) level (due.Tag step) start place bytes o id rule added
 begin_breaks m xs level d start place bytes o id rule added r is has low h = absurd has
 
 -- identifier octets of a component
-pub begin_read : (m : DerMessage ℕ) (xs : List Level) (level x2 : Level) (d : Due) (start place : ℕ) (bytes : List ℕ) (o : ℕ) (id : ids.Identifier) (n : ℕ) (spot : Spot) (fresh : LengthStep) (r : Reads m xs d start place bytes) → Some level ≡ first_of xs → HasIdentifier d r.rest o id → IsBelow place (end_of_first xs)
-    → ((l : states.Level ℕ) → IsLevel m.forms level l → IsFound m.forms (found.Begins n spot) (level_answer m l id.constructed (tag_view id))) → IsAdvanced level n x2 → lengths.HasTaken fresh []
+pub begin_read : (m : DerMessage ℕ) (xs : List Level) (level x2 : Level) (d : Due) (start place : ℕ) (bytes : List ℕ) (o : ℕ) (id : ids.Identifier) (n : ℕ) (spot : Spot) (fresh : LengthStep) (r : Reads m xs d start place bytes) → Some level ≡ first_of xs → HasIdentifier d r.rest o id → IsBelowEnd place (end_of_first xs)
+    → ((l : states.DerLevel ℕ) → IsLevel m.forms level l → IsFound m.forms (found.Begins n spot) (level_answer m l id.constructed (tag_view id))) → IsAdvanced level n x2 → lengths.HasTakenLength fresh []
     → Reads m (x2 ∷ rest_of xs) (due.Length id.constructed spot fresh) (place + 1) (place + 1) (bytes ++ o ∷ [])
 begin_read m [] level x2 d start place bytes o id n spot fresh r is has low h adv new = absurd cc
 begin_read m (y ∷ ys) level x2 (due.Tag step) start place bytes o id n spot fresh r is has low h adv new =
@@ -68,13 +68,13 @@ begin_read m (y ∷ ys) level x2 (due.Tag step) start place bytes o id n spot fr
 begin_read m xs level x2 d start place bytes o id n spot fresh r is has low h adv new = absurd has
 
 -- and the value round it ends there
-pub begin_past : (m : DerMessage ℕ) (xs : List Level) (level x2 : Level) (d : Due) (start place : ℕ) (bytes : List ℕ) (o : ℕ) (id : ids.Identifier) (n : ℕ) (spot : Spot) (fresh : LengthStep) (r : Reads m xs d start place bytes) → Some level ≡ first_of xs → HasIdentifier d r.rest o id → IsBelow place (end_of_first xs)
-    → ((l : states.Level ℕ) → IsLevel m.forms level l → IsFound m.forms (found.Begins n spot) (level_answer m l id.constructed (tag_view id))) → IsAdvanced level n x2 → lengths.HasTaken fresh [] → IsPast (place + 1) (end_of_first (x2 ∷ rest_of xs))
+pub begin_past : (m : DerMessage ℕ) (xs : List Level) (level x2 : Level) (d : Due) (start place : ℕ) (bytes : List ℕ) (o : ℕ) (id : ids.Identifier) (n : ℕ) (spot : Spot) (fresh : LengthStep) (r : Reads m xs d start place bytes) → Some level ≡ first_of xs → HasIdentifier d r.rest o id → IsBelowEnd place (end_of_first xs)
+    → ((l : states.DerLevel ℕ) → IsLevel m.forms level l → IsFound m.forms (found.Begins n spot) (level_answer m l id.constructed (tag_view id))) → IsAdvanced level n x2 → lengths.HasTakenLength fresh [] → IsPastEnd (place + 1) (end_of_first (x2 ∷ rest_of xs))
     → Fails m (x2 ∷ rest_of xs) (due.Length id.constructed spot fresh) (bytes ++ o ∷ []) Overrun (place + 1) []
 begin_past m xs level x2 d start place bytes o id n spot fresh r is has low h adv new past =
     overrun_length m (x2 ∷ rest_of xs) id.constructed spot fresh (place + 1) place (bytes ++ o ∷ []) (begin_read m xs level x2 d start place bytes o id n spot fresh r is has low h adv new) past (first xs is low)
   where
-    first : (zs : List Level) → Some level ≡ first_of zs → IsBelow place (end_of_first zs) → place < x2.end
+    first : (zs : List Level) → Some level ≡ first_of zs → IsBelowEnd place (end_of_first zs) → place < x2.end
     first [] e l = absurd cc
     first (y ∷ ys) e l = (let same : y ≡ level = cc in let ends : y.end ≡ level.end = ap (λ (z : Level). z.end) same in let adv_end = adv.end in omega arith)
 
@@ -94,18 +94,18 @@ outer_breaks m [] (due.Tag step) start place bytes o id r is has other = outermo
 outer_breaks m [] d start place bytes o id r is has other = absurd has
 
 -- lengths
-pub open_past : (m : DerMessage ℕ) (xs : List Level) (d : Due) (c : Bool) (spot : Spot) (start place n : ℕ) (bytes : List ℕ) (o : ℕ) (r : Reads m xs d start place bytes) → HasLength d c spot r.rest o n → IsBelow place (end_of_first xs) → (end : ℕ) → end_of_first xs ≡ Some end → end < place + 1 + n → Fails m xs d (bytes ++ o ∷ []) Overrun start []
+pub open_past : (m : DerMessage ℕ) (xs : List Level) (d : Due) (c : Bool) (spot : Spot) (start place n : ℕ) (bytes : List ℕ) (o : ℕ) (r : Reads m xs d start place bytes) → HasLengthOctets d c spot r.rest o n → IsBelowEnd place (end_of_first xs) → (end : ℕ) → end_of_first xs ≡ Some end → end < place + 1 + n → Fails m xs d (bytes ++ o ∷ []) Overrun start []
 open_past m xs (due.Length c1 spot1 step) c spot start place n bytes o r has low end is past = too_long m xs c1 spot1 step start place n bytes o r low has.2 has.3 end is past
 open_past m xs d c spot start place n bytes o r has low end is past = absurd has
 
-pub open_primitive : (m : DerMessage ℕ) (xs : List Level) (d : Due) (spot : Spot) (start place n : ℕ) (bytes : List ℕ) (o : ℕ) (r : Reads m xs d start place bytes) (c : Bool) → c ≡ false → HasLength d c spot r.rest o n → UpTo (place + 1 + n) (end_of_first xs) → Reads m xs (due.Contents spot n) (place + 1) (place + 1) (bytes ++ o ∷ [])
+pub open_primitive : (m : DerMessage ℕ) (xs : List Level) (d : Due) (spot : Spot) (start place n : ℕ) (bytes : List ℕ) (o : ℕ) (r : Reads m xs d start place bytes) (c : Bool) → c ≡ false → HasLengthOctets d c spot r.rest o n → UpTo (place + 1 + n) (end_of_first xs) → Reads m xs (due.Contents spot n) (place + 1) (place + 1) (bytes ++ o ∷ [])
 open_primitive m xs (due.Length true spot1 step) spot start place n bytes o r c is has fits = absurd (let e = has.0 ∙ is in cc)
 open_primitive m xs (due.Length false spot1 step) spot start place n bytes o r c is has fits =
     reads_as m xs xs (due.Contents spot n) (due.Contents spot1 n) (place + 1) (place + 1) (place + 1) (place + 1) (bytes ++ o ∷ []) refl (ap (λ z. due.Contents z n) (sym has.1)) refl refl (primitive_read m xs spot1 step start place n bytes o r has.2 has.3 fits)
 open_primitive m xs d spot start place n bytes o r c is has fits = absurd has
 
-pub open_constructed : (m : DerMessage ℕ) (x : Level) (xs : List Level) (d : Due) (spot : Spot) (fresh : TagStep) (start place n : ℕ) (bytes : List ℕ) (o : ℕ) (r : Reads m xs d start place bytes) (c : Bool) → c ≡ true → HasLength d c spot r.rest o n → UpTo (place + 1 + n) (end_of_first xs)
-    → x.spot ≡ spot → x.next ≡ 0 → x.count ≡ 0 → x.end ≡ place + 1 + n → tags.HasTaken fresh [] → Reads m (x ∷ xs) (due.Tag fresh) (place + 1) (place + 1) (bytes ++ o ∷ [])
+pub open_constructed : (m : DerMessage ℕ) (x : Level) (xs : List Level) (d : Due) (spot : Spot) (fresh : TagStep) (start place n : ℕ) (bytes : List ℕ) (o : ℕ) (r : Reads m xs d start place bytes) (c : Bool) → c ≡ true → HasLengthOctets d c spot r.rest o n → UpTo (place + 1 + n) (end_of_first xs)
+    → x.spot ≡ spot → x.next ≡ 0 → x.count ≡ 0 → x.end ≡ place + 1 + n → tags.HasTakenTag fresh [] → Reads m (x ∷ xs) (due.Tag fresh) (place + 1) (place + 1) (bytes ++ o ∷ [])
 open_constructed m x xs (due.Length false spot1 step) spot fresh start place n bytes o r c is has fits a b e f new = absurd (let q = has.0 ∙ is in cc)
 open_constructed m x xs (due.Length true spot1 step) spot fresh start place n bytes o r c is has fits a b e f new = opened_read m x xs spot1 step fresh start place n bytes o r has.2 has.3 fits (a ∙ sym has.1) b e f new
 open_constructed m x xs d spot fresh start place n bytes o r c is has fits a b e f new = absurd has
@@ -115,11 +115,11 @@ empty [] e = refl
 empty (x ∷ xs) e = absurd (omega arith)
 
 -- an octet below 128 is a whole length, where none of it has come
-pub short_has : (m : DerMessage ℕ) (xs : List Level) (d : Due) (c : Bool) (spot : Spot) (step : LengthStep) (start place : ℕ) (bytes : List ℕ) (o n : ℕ) (r : Reads m xs d start place bytes) → d ≡ due.Length c spot step → start ≡ place → o < 128 → n ≡ o → HasLength d c spot r.rest o n
+pub short_has : (m : DerMessage ℕ) (xs : List Level) (d : Due) (c : Bool) (spot : Spot) (step : LengthStep) (start place : ℕ) (bytes : List ℕ) (o n : ℕ) (r : Reads m xs d start place bytes) → d ≡ due.Length c spot step → start ≡ place → o < 128 → n ≡ o → HasLengthOctets d c spot r.rest o n
 short_has m xs d c spot step start place bytes o n r is none low same =
     let rest : r.rest ≡ [] = empty r.rest (let a = r.start_is in let b = r.place_is in omega arith) in
     let one = one_octet o low in
-    subst (λ z. HasLength d c spot r.rest o z) (sym same) (subst (λ z. HasLength z c spot r.rest o o) (sym is) (refl, refl, one.0, ap (λ z. z ++ o ∷ []) rest ∙ one.1))
+    subst (λ z. HasLengthOctets d c spot r.rest o z) (sym same) (subst (λ z. HasLengthOctets z c spot r.rest o o) (sym is) (refl, refl, one.0, ap (λ z. z ++ o ∷ []) rest ∙ one.1))
 
 pub ok_both : {A E : Type 0} (r : Result A E) (P Q : Type 0) → IfOk r (λ _. P) → IfOk r (λ _. Q) → IfOk r (λ _. P × Q)
 ok_both (Ok a) P Q p q = (p, q)

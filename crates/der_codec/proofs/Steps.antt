@@ -14,14 +14,14 @@ use Rattle.der_model.specs.Structures as structures
 use Rattle.der_model.specs.DerMessage.{DerMessage}
 use Rattle.der_model.specs.Structures.{Component, structure}
 use Rattle.der_model.specs.States as states
-use Rattle.der_model.specs.States.{Part, Identifier, Length, End, part_octets, Name, State, Start, AwaitsLength, AwaitsContents, Within, Answer, level_answer, begun, names_in, state_after, innermost_end, level_end, IsHeader, Stands, end_from, next_number, is_under, end_answer, EndAnswer, Fine, EndBreaks}
+use Rattle.der_model.specs.States.{Part, Identifier, Length, End, part_octets, PathName, State, Start, AwaitsLength, AwaitsContents, Within, IdentifierAnswer, level_answer, begun_state, names_in, state_after, innermost_end, level_end, IsHeader, Stands, end_from, next_number, is_under, end_answer, EndAnswer, Fine, EndBreaks}
 use Rattle.reference_check.specs.Words.{UpTo}
-use Rattle.der_model.specs.Faults.{Front, broken, halts, overruns, IsHeaderFront, IsNoHeader, header_rule, outermost}
+use Rattle.der_model.specs.Faults.{DerFront, broken, halts, overruns, IsHeaderFront, IsNoHeader, header_rule, outermost}
 use Rattle.der_model.proofs.Continued.{front_more}
 use Rattle.der_model.proofs.WholeValues.{front_then, under_same}
 use Rattle.der_codec.specs.Levels.{IsSpot, IsLevel, AreLevels}
 use Rattle.der_codec.specs.Components.{IsFound, IsEnded, added_text}
-use Rattle.der_codec.specs.Decoding.{IsOpen, IsBegun, Reads, Fails, IsBelow, IsPast, end_of_first, IsAdvanced}
+use Rattle.der_codec.specs.Decoding.{IsOpenState, IsBegun, Reads, Fails, IsBelowEnd, IsPastEnd, end_of_first, IsAdvanced}
 use Rattle.der_codec.specs.declared.components.Found.TheVariants as found
 use Rattle.der_codec.specs.declared.components.Added.{Added}
 use Rattle.der_codec.specs.declared.components.Ended.TheVariants as ended
@@ -30,12 +30,12 @@ use Rattle.der_codec.specs.declared.level.Level.{Level}
 use Rattle.der_codec.specs.declared.decoder.Due.{Due}
 use Rattle.der_codec.specs.declared.decoder.Due.TheVariants as due
 
-level_limits : (m : DerMessage ℕ) (xs : List Level) (ls : List (states.Level ℕ)) → AreLevels m.forms xs ls → level_end ls ≡ end_of_first xs
+level_limits : (m : DerMessage ℕ) (xs : List Level) (ls : List (states.DerLevel ℕ)) → AreLevels m.forms xs ls → level_end ls ≡ end_of_first xs
 level_limits m [] [] h = refl
 level_limits m (x ∷ xs) (l ∷ ls) h = ap Some (sym h.0.end)
 level_limits m xs ls h = absurd h
 
-pub open_limit : (m : DerMessage ℕ) (xs : List Level) (d : Due) (s : State ℕ) → IsOpen m xs d s → innermost_end s ≡ end_of_first xs
+pub open_limit : (m : DerMessage ℕ) (xs : List Level) (d : Due) (s : State ℕ) → IsOpenState m xs d s → innermost_end s ≡ end_of_first xs
 open_limit m xs (due.Tag step) Start h = ap end_of_first (sym h)
 open_limit m xs (due.Tag step) (Within (l ∷ ls)) h = level_limits m xs (l ∷ ls) h
 open_limit m xs (due.Length c spot step) (AwaitsLength b of names ls) h = level_limits m xs ls h.2
@@ -43,16 +43,16 @@ open_limit m xs (due.Contents spot left) (AwaitsContents of names n ls) h = leve
 open_limit m xs due.Over (Within []) h = ap end_of_first (sym h)
 open_limit m xs d s h = absurd h
 
-up_to : (o : Option ℕ) (place p : ℕ) → IsBelow place o → p ≤ place + 1 → UpTo p o
+up_to : (o : Option ℕ) (place p : ℕ) → IsBelowEnd place o → p ≤ place + 1 → UpTo p o
 up_to None place p h l = tt
 up_to (Some e) place p h l = omega arith
 
-lower : (o : Option ℕ) (at place : ℕ) → at ≤ place → IsBelow place o → IsBelow at o
+lower : (o : Option ℕ) (at place : ℕ) → at ≤ place → IsBelowEnd place o → IsBelowEnd at o
 lower None at place l h = tt
 lower (Some e) at place l h = omega arith
 
 -- what has begun of a header is the front of one
-pub tag_front : (m : DerMessage ℕ) (xs : List Level) (step : TagStep) (s : State ℕ) (at : ℕ) (rest : List ℕ) → IsOpen m xs (due.Tag step) s → tags.HasTaken step rest → IsBelow at (end_of_first xs) → IsHeaderFront s at rest
+pub tag_front : (m : DerMessage ℕ) (xs : List Level) (step : TagStep) (s : State ℕ) (at : ℕ) (rest : List ℕ) → IsOpenState m xs (due.Tag step) s → tags.HasTakenTag step rest → IsBelowEnd at (end_of_first xs) → IsHeaderFront s at rest
 tag_front m xs step Start at rest h t low = (let g = tag_goes_on step.come step.first step.high rest t in record { more = g.more; some = g.some; header = (g.constructed, g.tag, g.short, g.is) })
 tag_front m (x ∷ xs) step (Within (l ∷ ls)) at rest h t low =
     let g = tag_goes_on step.come step.first step.high rest t in
@@ -61,31 +61,31 @@ tag_front m (x ∷ xs) step (Within (l ∷ ls)) at rest h t low =
 tag_front m [] step (Within (l ∷ ls)) at rest h t low = absurd h
 tag_front m xs step s at rest h t low = absurd h
 
-pub length_front : (m : DerMessage ℕ) (xs : List Level) (c : Bool) (spot : Spot) (step : LengthStep) (s : State ℕ) (at : ℕ) (rest : List ℕ) → IsOpen m xs (due.Length c spot step) s → lengths.HasTaken step rest → IsHeaderFront s at rest
+pub length_front : (m : DerMessage ℕ) (xs : List Level) (c : Bool) (spot : Spot) (step : LengthStep) (s : State ℕ) (at : ℕ) (rest : List ℕ) → IsOpenState m xs (due.Length c spot step) s → lengths.HasTakenLength step rest → IsHeaderFront s at rest
 length_front m xs c spot step (AwaitsLength b of names ls) at rest h t = (let g = length_goes_on step.count step.come step.value rest t in record { more = g.more; some = g.some; header = (g.n, g.short, g.is) })
 length_front m xs c spot step s at rest h t = absurd h
 
 -- and what no header begins with
-pub no_tag : (m : DerMessage ℕ) (xs : List Level) (step : TagStep) (s : State ℕ) (at : ℕ) (octets : List ℕ) → IsOpen m xs (due.Tag step) s → ((b : Bool) (t : Tag) (more : List ℕ) → IsShortTag t → identifier b t ≡ octets ++ more → ⊥) → IsNoHeader s at octets
+pub no_tag : (m : DerMessage ℕ) (xs : List Level) (step : TagStep) (s : State ℕ) (at : ℕ) (octets : List ℕ) → IsOpenState m xs (due.Tag step) s → ((b : Bool) (t : Tag) (more : List ℕ) → IsShortTag t → identifier b t ≡ octets ++ more → ⊥) → IsNoHeader s at octets
 no_tag m xs step Start at octets h none more k = none k.0 k.1 more k.2 (sym k.3)
 no_tag m xs step (Within (l ∷ ls)) at octets h none more k = none k.1 k.2 more k.3 (sym k.4)
 no_tag m xs step s at octets h none more k = absurd h
 
-pub no_length : (m : DerMessage ℕ) (xs : List Level) (c : Bool) (spot : Spot) (step : LengthStep) (s : State ℕ) (at : ℕ) (octets : List ℕ) → IsOpen m xs (due.Length c spot step) s → ((n : ℕ) (more : List ℕ) → IsShortLength n → length_octets n ≡ octets ++ more → ⊥) → IsNoHeader s at octets
+pub no_length : (m : DerMessage ℕ) (xs : List Level) (c : Bool) (spot : Spot) (step : LengthStep) (s : State ℕ) (at : ℕ) (octets : List ℕ) → IsOpenState m xs (due.Length c spot step) s → ((n : ℕ) (more : List ℕ) → IsShortLength n → length_octets n ≡ octets ++ more → ⊥) → IsNoHeader s at octets
 no_length m xs c spot step (AwaitsLength b of names ls) at octets h none more k = none k.0 more k.1 (sym k.2)
 no_length m xs c spot step s at octets h none more k = absurd h
 
-tag_rule : (m : DerMessage ℕ) (xs : List Level) (step : TagStep) (s : State ℕ) → IsOpen m xs (due.Tag step) s → BadTagOctets ≡ header_rule s
+tag_rule : (m : DerMessage ℕ) (xs : List Level) (step : TagStep) (s : State ℕ) → IsOpenState m xs (due.Tag step) s → BadTagOctets ≡ header_rule s
 tag_rule m xs step Start h = refl
 tag_rule m xs step (Within (l ∷ ls)) h = refl
 tag_rule m xs step s h = absurd h
 
-length_rule : (m : DerMessage ℕ) (xs : List Level) (c : Bool) (spot : Spot) (step : LengthStep) (s : State ℕ) → IsOpen m xs (due.Length c spot step) s → BadLengthOctets ≡ header_rule s
+length_rule : (m : DerMessage ℕ) (xs : List Level) (c : Bool) (spot : Spot) (step : LengthStep) (s : State ℕ) → IsOpenState m xs (due.Length c spot step) s → BadLengthOctets ≡ header_rule s
 length_rule m xs c spot step (AwaitsLength b of names ls) h = refl
 length_rule m xs c spot step s h = absurd h
 
 -- a header stops at the octet
-halted : (m : DerMessage ℕ) (xs : List Level) (d : Due) (start place : ℕ) (bytes : List ℕ) (o : ℕ) (rule : Rule) (r : Reads m xs d start place bytes) → IsBelow place (end_of_first xs) → IsHeaderFront r.state r.at r.rest → IsNoHeader r.state r.at (r.rest ++ o ∷ []) → rule ≡ header_rule r.state → Fails m xs d (bytes ++ o ∷ []) rule start []
+halted : (m : DerMessage ℕ) (xs : List Level) (d : Due) (start place : ℕ) (bytes : List ℕ) (o : ℕ) (rule : Rule) (r : Reads m xs d start place bytes) → IsBelowEnd place (end_of_first xs) → IsHeaderFront r.state r.at r.rest → IsNoHeader r.state r.at (r.rest ++ o ∷ []) → rule ≡ header_rule r.state → Fails m xs d (bytes ++ o ∷ []) rule start []
 halted m xs d start place bytes o rule r low front none is = record {
   parts = r.parts;
   state = r.state;
@@ -98,14 +98,14 @@ halted m xs d start place bytes o rule r low front none is = record {
   is_open = r.is_open;
 }
 
-pub bad_tag : (m : DerMessage ℕ) (xs : List Level) (step : TagStep) (start place : ℕ) (bytes : List ℕ) (o : ℕ) (r : Reads m xs (due.Tag step) start place bytes) → IsBelow place (end_of_first xs)
+pub bad_tag : (m : DerMessage ℕ) (xs : List Level) (step : TagStep) (start place : ℕ) (bytes : List ℕ) (o : ℕ) (r : Reads m xs (due.Tag step) start place bytes) → IsBelowEnd place (end_of_first xs)
     → ((b : Bool) (t : Tag) (more : List ℕ) → IsShortTag t → identifier b t ≡ (r.rest ++ o ∷ []) ++ more → ⊥) → Fails m xs (due.Tag step) (bytes ++ o ∷ []) BadTagOctets start []
 bad_tag m xs step start place bytes o r low none =
     halted m xs (due.Tag step) start place bytes o BadTagOctets r low
     (tag_front m xs step r.state r.at r.rest r.is_open r.is_begun (lower (end_of_first xs) r.at place (let e = r.place_is in omega arith) low))
     (no_tag m xs step r.state r.at (r.rest ++ o ∷ []) r.is_open none) (tag_rule m xs step r.state r.is_open)
 
-pub bad_length : (m : DerMessage ℕ) (xs : List Level) (c : Bool) (spot : Spot) (step : LengthStep) (start place : ℕ) (bytes : List ℕ) (o : ℕ) (r : Reads m xs (due.Length c spot step) start place bytes) → IsBelow place (end_of_first xs)
+pub bad_length : (m : DerMessage ℕ) (xs : List Level) (c : Bool) (spot : Spot) (step : LengthStep) (start place : ℕ) (bytes : List ℕ) (o : ℕ) (r : Reads m xs (due.Length c spot step) start place bytes) → IsBelowEnd place (end_of_first xs)
     → ((n : ℕ) (more : List ℕ) → IsShortLength n → length_octets n ≡ (r.rest ++ o ∷ []) ++ more → ⊥) → Fails m xs (due.Length c spot step) (bytes ++ o ∷ []) BadLengthOctets start []
 bad_length m xs c spot step start place bytes o r low none =
     halted m xs (due.Length c spot step) start place bytes o BadLengthOctets r low
@@ -113,7 +113,7 @@ bad_length m xs c spot step start place bytes o r low none =
     (no_length m xs c spot step r.state r.at (r.rest ++ o ∷ []) r.is_open none) (length_rule m xs c spot step r.state r.is_open)
 
 -- an octet more of what is begun
-more_read : (m : DerMessage ℕ) (xs : List Level) (d e : Due) (start place : ℕ) (bytes : List ℕ) (o : ℕ) (r : Reads m xs d start place bytes) → IsOpen m xs e r.state → IsBegun e r.state (r.rest ++ o ∷ []) → Reads m xs e start (place + 1) (bytes ++ o ∷ [])
+more_read : (m : DerMessage ℕ) (xs : List Level) (d e : Due) (start place : ℕ) (bytes : List ℕ) (o : ℕ) (r : Reads m xs d start place bytes) → IsOpenState m xs e r.state → IsBegun e r.state (r.rest ++ o ∷ []) → Reads m xs e start (place + 1) (bytes ++ o ∷ [])
 more_read m xs d e start place bytes o r op beg = record {
   parts = r.parts;
   state = r.state;
@@ -126,27 +126,27 @@ more_read m xs d e start place bytes o r op beg = record {
   place_is = (let sum = length-append r.rest (o ∷ []) in let p = r.place_is in omega arith);
 }
 
-same_tag : (m : DerMessage ℕ) (xs : List Level) (a b : TagStep) (s : State ℕ) → IsOpen m xs (due.Tag a) s → IsOpen m xs (due.Tag b) s
+same_tag : (m : DerMessage ℕ) (xs : List Level) (a b : TagStep) (s : State ℕ) → IsOpenState m xs (due.Tag a) s → IsOpenState m xs (due.Tag b) s
 same_tag m xs a b Start h = h
 same_tag m xs a b (Within (l ∷ ls)) h = h
 same_tag m xs a b s h = absurd h
 
-same_length : (m : DerMessage ℕ) (xs : List Level) (c : Bool) (spot : Spot) (a b : LengthStep) (s : State ℕ) → IsOpen m xs (due.Length c spot a) s → IsOpen m xs (due.Length c spot b) s
+same_length : (m : DerMessage ℕ) (xs : List Level) (c : Bool) (spot : Spot) (a b : LengthStep) (s : State ℕ) → IsOpenState m xs (due.Length c spot a) s → IsOpenState m xs (due.Length c spot b) s
 same_length m xs c spot a b (AwaitsLength d of names ls) h = h
 same_length m xs c spot a b s h = absurd h
 
-pub more_tag : (m : DerMessage ℕ) (xs : List Level) (a b : TagStep) (start place : ℕ) (bytes : List ℕ) (o : ℕ) (r : Reads m xs (due.Tag a) start place bytes) → tags.HasTaken b (r.rest ++ o ∷ []) → Reads m xs (due.Tag b) start (place + 1) (bytes ++ o ∷ [])
+pub more_tag : (m : DerMessage ℕ) (xs : List Level) (a b : TagStep) (start place : ℕ) (bytes : List ℕ) (o : ℕ) (r : Reads m xs (due.Tag a) start place bytes) → tags.HasTakenTag b (r.rest ++ o ∷ []) → Reads m xs (due.Tag b) start (place + 1) (bytes ++ o ∷ [])
 more_tag m xs a b start place bytes o r h = more_read m xs (due.Tag a) (due.Tag b) start place bytes o r (same_tag m xs a b r.state r.is_open) h
 
-pub more_length : (m : DerMessage ℕ) (xs : List Level) (c : Bool) (spot : Spot) (a b : LengthStep) (start place : ℕ) (bytes : List ℕ) (o : ℕ) (r : Reads m xs (due.Length c spot a) start place bytes) → lengths.HasTaken b (r.rest ++ o ∷ []) → Reads m xs (due.Length c spot b) start (place + 1) (bytes ++ o ∷ [])
+pub more_length : (m : DerMessage ℕ) (xs : List Level) (c : Bool) (spot : Spot) (a b : LengthStep) (start place : ℕ) (bytes : List ℕ) (o : ℕ) (r : Reads m xs (due.Length c spot a) start place bytes) → lengths.HasTakenLength b (r.rest ++ o ∷ []) → Reads m xs (due.Length c spot b) start (place + 1) (bytes ++ o ∷ [])
 more_length m xs c spot a b start place bytes o r h = more_read m xs (due.Length c spot a) (due.Length c spot b) start place bytes o r (same_length m xs c spot a b r.state r.is_open) h
 
 -- the value ends within a header
-past_end : (o : Option ℕ) (place : ℕ) → IsPast (place + 1) o → IsBelow place o → o ≡ Some (place + 1)
+past_end : (o : Option ℕ) (place : ℕ) → IsPastEnd (place + 1) o → IsBelowEnd place o → o ≡ Some (place + 1)
 past_end None place p b = absurd p
 past_end (Some e) place p b = ap Some (omega arith)
 
-overrun : (m : DerMessage ℕ) (xs : List Level) (d : Due) (start place : ℕ) (bytes : List ℕ) (r : Reads m xs d start (place + 1) bytes) → IsHeaderFront r.state r.at r.rest → IsPast (place + 1) (end_of_first xs) → IsBelow place (end_of_first xs) → Fails m xs d bytes Overrun start []
+overrun : (m : DerMessage ℕ) (xs : List Level) (d : Due) (start place : ℕ) (bytes : List ℕ) (r : Reads m xs d start (place + 1) bytes) → IsHeaderFront r.state r.at r.rest → IsPastEnd (place + 1) (end_of_first xs) → IsBelowEnd place (end_of_first xs) → Fails m xs d bytes Overrun start []
 overrun m xs d start place bytes r front past low = record {
   parts = r.parts;
   state = r.state;
@@ -159,11 +159,11 @@ overrun m xs d start place bytes r front past low = record {
   is_open = r.is_open;
 }
 
-pub overrun_tag : (m : DerMessage ℕ) (xs : List Level) (step : TagStep) (start place : ℕ) (bytes : List ℕ) → Reads m xs (due.Tag step) start (place + 1) bytes → start ≤ place → IsPast (place + 1) (end_of_first xs) → IsBelow place (end_of_first xs) → Fails m xs (due.Tag step) bytes Overrun start []
+pub overrun_tag : (m : DerMessage ℕ) (xs : List Level) (step : TagStep) (start place : ℕ) (bytes : List ℕ) → Reads m xs (due.Tag step) start (place + 1) bytes → start ≤ place → IsPastEnd (place + 1) (end_of_first xs) → IsBelowEnd place (end_of_first xs) → Fails m xs (due.Tag step) bytes Overrun start []
 overrun_tag m xs step start place bytes r early past low =
     overrun m xs (due.Tag step) start place bytes r (tag_front m xs step r.state r.at r.rest r.is_open r.is_begun (lower (end_of_first xs) r.at place (let e = r.start_is in omega arith) low)) past low
 
-pub overrun_length : (m : DerMessage ℕ) (xs : List Level) (c : Bool) (spot : Spot) (step : LengthStep) (start place : ℕ) (bytes : List ℕ) → Reads m xs (due.Length c spot step) start (place + 1) bytes → IsPast (place + 1) (end_of_first xs) → IsBelow place (end_of_first xs) → Fails m xs (due.Length c spot step) bytes Overrun start []
+pub overrun_length : (m : DerMessage ℕ) (xs : List Level) (c : Bool) (spot : Spot) (step : LengthStep) (start place : ℕ) (bytes : List ℕ) → Reads m xs (due.Length c spot step) start (place + 1) bytes → IsPastEnd (place + 1) (end_of_first xs) → IsBelowEnd place (end_of_first xs) → Fails m xs (due.Length c spot step) bytes Overrun start []
 overrun_length m xs c spot step start place bytes r past low =
     overrun m xs (due.Length c spot step) start place bytes r (length_front m xs c spot step r.state r.at r.rest r.is_open r.is_begun) past low
 
@@ -171,8 +171,8 @@ up_less : (o : Option ℕ) (a b : ℕ) → a ≤ b → UpTo b o → UpTo a o
 up_less None a b l h = tt
 up_less (Some e) a b l h = omega arith
 
-end_front : (m : DerMessage ℕ) (x : Level) (l : states.Level ℕ) (ls : List (states.Level ℕ)) (step : TagStep) (start place at : ℕ) (rest : List ℕ) → IsLevel m.forms x l → step.come ≡ 0 → tags.HasTaken step rest → place ≡ at + length rest → x.end ≡ place
-    → IsEnded m.forms ended.Fine (end_answer (structure m l.spot) l.came) → Front m (Within (l ∷ ls)) at rest (End ∷ []) (Within ls) at rest
+end_front : (m : DerMessage ℕ) (x : Level) (l : states.DerLevel ℕ) (ls : List (states.DerLevel ℕ)) (step : TagStep) (start place at : ℕ) (rest : List ℕ) → IsLevel m.forms x l → step.come ≡ 0 → tags.HasTakenTag step rest → place ≡ at + length rest → x.end ≡ place
+    → IsEnded m.forms ended.Fine (end_answer (structure m l.spot) l.came) → DerFront m (Within (l ∷ ls)) at rest (End ∷ []) (Within ls) at rest
 end_front m x l ls step start place at rest is fresh taken p here h =
     let none = taken_none step.come step.first step.high rest fresh taken in
     let size = ap length none in
@@ -185,18 +185,18 @@ end_front m x l ls step start place at rest is fresh taken p here h =
 
 -- The identifier octets of a component have come.
 pub begun_read : (m : DerMessage ℕ) (x x2 : Level) (xs : List Level) (step : TagStep) (start place : ℕ) (bytes : List ℕ) (o : ℕ) (b : Bool) (t : Tag) (n : ℕ) (spot : Spot) (fresh : LengthStep) (r : Reads m (x ∷ xs) (due.Tag step) start place bytes) → place < x.end → IsShortTag t → r.rest ++ o ∷ [] ≡ identifier b t
-    → ((l : states.Level ℕ) → IsLevel m.forms x l → IsFound m.forms (found.Begins n spot) (level_answer m l b t)) → IsAdvanced x n x2 → lengths.HasTaken fresh []
+    → ((l : states.DerLevel ℕ) → IsLevel m.forms x l → IsFound m.forms (found.Begins n spot) (level_answer m l b t)) → IsAdvanced x n x2 → lengths.HasTakenLength fresh []
     → Reads m (x2 ∷ xs) (due.Length b spot fresh) (place + 1) (place + 1) (bytes ++ o ∷ [])
 begun_read m x x2 xs step start place bytes o b t n spot fresh r low short is h adv new = by r.state r.front r.is_open
   where
     size : length r.rest + 1 ≡ length (identifier b t)
     size = sym (length-append r.rest (o ∷ [])) ∙ ap length is
 
-    by : (s : State ℕ) → Front m Start 0 bytes r.parts s r.at r.rest → IsOpen m (x ∷ xs) (due.Tag step) s → Reads m (x2 ∷ xs) (due.Length b spot fresh) (place + 1) (place + 1) (bytes ++ o ∷ [])
+    by : (s : State ℕ) → DerFront m Start 0 bytes r.parts s r.at r.rest → IsOpenState m (x ∷ xs) (due.Tag step) s → Reads m (x2 ∷ xs) (due.Length b spot fresh) (place + 1) (place + 1) (bytes ++ o ∷ [])
     by Start front op = absurd cc
     by (Within (l ∷ ls)) front op = answer (level_answer m l b t) refl (h l op.0)
       where
-        answer : (a : Answer ℕ) → level_answer m l b t ≡ a → IsFound m.forms (found.Begins n spot) a → Reads m (x2 ∷ xs) (due.Length b spot fresh) (place + 1) (place + 1) (bytes ++ o ∷ [])
+        answer : (a : IdentifierAnswer ℕ) → level_answer m l b t ≡ a → IsFound m.forms (found.Begins n spot) a → Reads m (x2 ∷ xs) (due.Length b spot fresh) (place + 1) (place + 1) (bytes ++ o ∷ [])
         answer (states.Breaks rule added) e f = absurd f
         answer (states.Begins k c) e f =
             let last : State ℕ = AwaitsLength b c.spot (names_in (structure m l.spot) l.came c.label) (record l { came = k ∷ l.came } ∷ ls) in
@@ -205,8 +205,8 @@ begun_read m x x2 xs step start place bytes o b t n spot fresh r low short is h 
             let counted = op.0.count in
             let next_is = adv.next in
             let count_is = adv.count in
-            let one : Front m (Within (l ∷ ls)) r.at (r.rest ++ o ∷ []) (Identifier b t ∷ []) last (r.at + length (identifier b t)) [] =
-            ([], is ∙ sym (append-nil (identifier b t)), (omega arith, short), (let z = size in omega arith), (k, c, e), (ap (begun m l ls b) e, refl, refl)) in
+            let one : DerFront m (Within (l ∷ ls)) r.at (r.rest ++ o ∷ []) (Identifier b t ∷ []) last (r.at + length (identifier b t)) [] =
+            ([], is ∙ sym (append-nil (identifier b t)), (omega arith, short), (let z = size in omega arith), (k, c, e), (ap (begun_state m l ls b) e, refl, refl)) in
             record {
               parts = r.parts ++ (Identifier b t ∷ []);
               state = last;
@@ -221,18 +221,18 @@ begun_read m x x2 xs step start place bytes o b t n spot fresh r low short is h 
     by s front op = absurd op
 
 pub tag_breaks : (m : DerMessage ℕ) (x : Level) (xs : List Level) (step : TagStep) (start place : ℕ) (bytes : List ℕ) (o : ℕ) (b : Bool) (t : Tag) (rule : Rule) (added : Added) (r : Reads m (x ∷ xs) (due.Tag step) start place bytes) → place < x.end → IsShortTag t → r.rest ++ o ∷ [] ≡ identifier b t
-    → ((l : states.Level ℕ) → IsLevel m.forms x l → IsFound m.forms (found.Breaks rule added) (level_answer m l b t))
+    → ((l : states.DerLevel ℕ) → IsLevel m.forms x l → IsFound m.forms (found.Breaks rule added) (level_answer m l b t))
     → Fails m (x ∷ xs) (due.Tag step) (bytes ++ o ∷ []) rule start (added_text m.forms added)
 tag_breaks m x xs step start place bytes o b t rule added r low short is h = by r.state r.front r.is_open
   where
     size : length r.rest + 1 ≡ length (identifier b t)
     size = sym (length-append r.rest (o ∷ [])) ∙ ap length is
 
-    by : (s : State ℕ) → Front m Start 0 bytes r.parts s r.at r.rest → IsOpen m (x ∷ xs) (due.Tag step) s → Fails m (x ∷ xs) (due.Tag step) (bytes ++ o ∷ []) rule start (added_text m.forms added)
+    by : (s : State ℕ) → DerFront m Start 0 bytes r.parts s r.at r.rest → IsOpenState m (x ∷ xs) (due.Tag step) s → Fails m (x ∷ xs) (due.Tag step) (bytes ++ o ∷ []) rule start (added_text m.forms added)
     by Start front op = absurd cc
     by (Within (l ∷ ls)) front op = answer (level_answer m l b t) refl (h l op.0)
       where
-        answer : (a : Answer ℕ) → level_answer m l b t ≡ a → IsFound m.forms (found.Breaks rule added) a → Fails m (x ∷ xs) (due.Tag step) (bytes ++ o ∷ []) rule start (added_text m.forms added)
+        answer : (a : IdentifierAnswer ℕ) → level_answer m l b t ≡ a → IsFound m.forms (found.Breaks rule added) a → Fails m (x ∷ xs) (due.Tag step) (bytes ++ o ∷ []) rule start (added_text m.forms added)
         answer (states.Begins k c) e f = absurd f
         answer (states.Breaks rule2 text) e f =
             let p = r.place_is in
@@ -251,18 +251,18 @@ tag_breaks m x xs step start place bytes o b t rule added r low short is h = by 
     by s front op = absurd op
 
 -- The identifier octets of the outermost value have come.
-pub outermost_read : (m : DerMessage ℕ) (step : TagStep) (start place : ℕ) (bytes : List ℕ) (o : ℕ) (fresh : LengthStep) (spot : Spot) (r : Reads m [] (due.Tag step) start place bytes) → r.rest ++ o ∷ [] ≡ identifier true (universal 16) → IsSpot m.forms spot structures.Instance → lengths.HasTaken fresh []
+pub outermost_read : (m : DerMessage ℕ) (step : TagStep) (start place : ℕ) (bytes : List ℕ) (o : ℕ) (fresh : LengthStep) (spot : Spot) (r : Reads m [] (due.Tag step) start place bytes) → r.rest ++ o ∷ [] ≡ identifier true (universal 16) → IsSpot m.forms spot structures.Instance → lengths.HasTakenLength fresh []
     → Reads m [] (due.Length true spot fresh) (place + 1) (place + 1) (bytes ++ o ∷ [])
 outermost_read m step start place bytes o fresh spot r is here new = by r.state r.front r.is_open
   where
     size : length r.rest + 1 ≡ length (identifier true (universal 16))
     size = sym (length-append r.rest (o ∷ [])) ∙ ap length is
 
-    by : (s : State ℕ) → Front m Start 0 bytes r.parts s r.at r.rest → IsOpen m [] (due.Tag step) s → Reads m [] (due.Length true spot fresh) (place + 1) (place + 1) (bytes ++ o ∷ [])
+    by : (s : State ℕ) → DerFront m Start 0 bytes r.parts s r.at r.rest → IsOpenState m [] (due.Tag step) s → Reads m [] (due.Length true spot fresh) (place + 1) (place + 1) (bytes ++ o ∷ [])
     by Start front op =
         let last : State ℕ = AwaitsLength true structures.Instance (states.Numbered (codes "Document") 1 ∷ []) [] in
         let p = r.place_is in
-        let one : Front m Start r.at (r.rest ++ o ∷ []) (Identifier true (universal 16) ∷ []) last (r.at + length (identifier true (universal 16))) [] =
+        let one : DerFront m Start r.at (r.rest ++ o ∷ []) (Identifier true (universal 16) ∷ []) last (r.at + length (identifier true (universal 16))) [] =
         ([], is ∙ sym (append-nil (identifier true (universal 16))), omega arith, tt, refl, (refl, refl, refl)) in
         record {
           parts = r.parts ++ (Identifier true (universal 16) ∷ []);
@@ -286,7 +286,7 @@ outermost_breaks m step start place bytes o b t r short is other = by r.state r.
     not_under true e = (let u = under_same (outermost m) b t e in absurd (other u.0 u.1))
     not_under false e = e
 
-    by : (s : State ℕ) → Front m Start 0 bytes r.parts s r.at r.rest → IsOpen m [] (due.Tag step) s → Fails m [] (due.Tag step) (bytes ++ o ∷ []) UnexpectedTag start []
+    by : (s : State ℕ) → DerFront m Start 0 bytes r.parts s r.at r.rest → IsOpenState m [] (due.Tag step) s → Fails m [] (due.Tag step) (bytes ++ o ∷ []) UnexpectedTag start []
     by Start front op = record {
       parts = r.parts;
       state = Start;
@@ -303,22 +303,22 @@ outermost_breaks m step start place bytes o b t r short is other = by r.state r.
 
 -- The length of a constructed value has come.
 pub opened_read : (m : DerMessage ℕ) (x : Level) (xs : List Level) (spot : Spot) (step : LengthStep) (fresh : TagStep) (start place n : ℕ) (bytes : List ℕ) (o : ℕ) (r : Reads m xs (due.Length true spot step) start place bytes) → IsShortLength n → r.rest ++ o ∷ [] ≡ length_octets n → UpTo (place + 1 + n) (end_of_first xs)
-    → x.spot ≡ spot → x.next ≡ 0 → x.count ≡ 0 → x.end ≡ place + 1 + n → tags.HasTaken fresh []
+    → x.spot ≡ spot → x.next ≡ 0 → x.count ≡ 0 → x.end ≡ place + 1 + n → tags.HasTakenTag fresh []
     → Reads m (x ∷ xs) (due.Tag fresh) (place + 1) (place + 1) (bytes ++ o ∷ [])
 opened_read m x xs spot step fresh start place n bytes o r short is fits x_spot x_next x_count x_end new = by r.state r.front r.is_open
   where
     size : length r.rest + 1 ≡ length (length_octets n)
     size = sym (length-append r.rest (o ∷ [])) ∙ ap length is
 
-    by : (s : State ℕ) → Front m Start 0 bytes r.parts s r.at r.rest → IsOpen m xs (due.Length true spot step) s → Reads m (x ∷ xs) (due.Tag fresh) (place + 1) (place + 1) (bytes ++ o ∷ [])
+    by : (s : State ℕ) → DerFront m Start 0 bytes r.parts s r.at r.rest → IsOpenState m xs (due.Length true spot step) s → Reads m (x ∷ xs) (due.Tag fresh) (place + 1) (place + 1) (bytes ++ o ∷ [])
     by (AwaitsLength true of names ls) front op =
         let p = r.place_is in
         let z = size in
-        let level : states.Level ℕ = record { spot = of; names = names; came = []; end = end_from r.at n } in
+        let level : states.DerLevel ℕ = record { spot = of; names = names; came = []; end = end_from r.at n } in
         let limits = level_limits m xs ls op.2 in
         let end_is : place + 1 + n ≡ end_from r.at n = omega arith in
         let up : UpTo (end_from r.at n) (level_end ls) = subst (λ q. UpTo (end_from r.at n) q) (sym limits) (subst (λ q. UpTo q (end_of_first xs)) end_is fits) in
-        let one : Front m (AwaitsLength true of names ls) r.at (r.rest ++ o ∷ []) (Length n ∷ []) (Within (level ∷ ls)) (r.at + length (length_octets n)) [] =
+        let one : DerFront m (AwaitsLength true of names ls) r.at (r.rest ++ o ∷ []) (Length n ∷ []) (Within (level ∷ ls)) (r.at + length (length_octets n)) [] =
         ([], is ∙ sym (append-nil (length_octets n)), short, up_less (level_end ls) (r.at + length (length_octets n)) (end_from r.at n) (omega arith) up, up, (refl, refl, refl)) in
         record {
           parts = r.parts ++ (Length n ∷ []);
@@ -342,14 +342,14 @@ primitive_read m xs spot step start place n bytes o r short is fits = by r.state
     size : length r.rest + 1 ≡ length (length_octets n)
     size = sym (length-append r.rest (o ∷ [])) ∙ ap length is
 
-    by : (s : State ℕ) → Front m Start 0 bytes r.parts s r.at r.rest → IsOpen m xs (due.Length false spot step) s → Reads m xs (due.Contents spot n) (place + 1) (place + 1) (bytes ++ o ∷ [])
+    by : (s : State ℕ) → DerFront m Start 0 bytes r.parts s r.at r.rest → IsOpenState m xs (due.Length false spot step) s → Reads m xs (due.Contents spot n) (place + 1) (place + 1) (bytes ++ o ∷ [])
     by (AwaitsLength false of names ls) front op =
         let p = r.place_is in
         let z = size in
         let limits = level_limits m xs ls op.2 in
         let end_is : place + 1 + n ≡ end_from r.at n = omega arith in
         let up : UpTo (end_from r.at n) (level_end ls) = subst (λ q. UpTo (end_from r.at n) q) (sym limits) (subst (λ q. UpTo q (end_of_first xs)) end_is fits) in
-        let one : Front m (AwaitsLength false of names ls) r.at (r.rest ++ o ∷ []) (Length n ∷ []) (AwaitsContents of names n ls) (r.at + length (length_octets n)) [] =
+        let one : DerFront m (AwaitsLength false of names ls) r.at (r.rest ++ o ∷ []) (Length n ∷ []) (AwaitsContents of names n ls) (r.at + length (length_octets n)) [] =
         ([], is ∙ sym (append-nil (length_octets n)), short, up_less (level_end ls) (r.at + length (length_octets n)) (end_from r.at n) (omega arith) up, up, (refl, refl, refl)) in
         record {
           parts = r.parts ++ (Length n ∷ []);
@@ -366,19 +366,19 @@ primitive_read m xs spot step start place n bytes o r short is fits = by r.state
     by s front op = absurd op
 
 -- A length leads past the end of the value that is open.
-pub too_long : (m : DerMessage ℕ) (xs : List Level) (c : Bool) (spot : Spot) (step : LengthStep) (start place n : ℕ) (bytes : List ℕ) (o : ℕ) (r : Reads m xs (due.Length c spot step) start place bytes) → IsBelow place (end_of_first xs) → IsShortLength n → r.rest ++ o ∷ [] ≡ length_octets n → (end : ℕ) → end_of_first xs ≡ Some end → end < place + 1 + n
+pub too_long : (m : DerMessage ℕ) (xs : List Level) (c : Bool) (spot : Spot) (step : LengthStep) (start place n : ℕ) (bytes : List ℕ) (o : ℕ) (r : Reads m xs (due.Length c spot step) start place bytes) → IsBelowEnd place (end_of_first xs) → IsShortLength n → r.rest ++ o ∷ [] ≡ length_octets n → (end : ℕ) → end_of_first xs ≡ Some end → end < place + 1 + n
     → Fails m xs (due.Length c spot step) (bytes ++ o ∷ []) Overrun start []
 too_long m xs c spot step start place n bytes o r low short is end limit_is past = by r.state r.front r.is_open
   where
     size : length r.rest + 1 ≡ length (length_octets n)
     size = sym (length-append r.rest (o ∷ [])) ∙ ap length is
 
-    by : (s : State ℕ) → Front m Start 0 bytes r.parts s r.at r.rest → IsOpen m xs (due.Length c spot step) s → Fails m xs (due.Length c spot step) (bytes ++ o ∷ []) Overrun start []
+    by : (s : State ℕ) → DerFront m Start 0 bytes r.parts s r.at r.rest → IsOpenState m xs (due.Length c spot step) s → Fails m xs (due.Length c spot step) (bytes ++ o ∷ []) Overrun start []
     by (AwaitsLength b of names ls) front op =
         let p = r.place_is in
         let z = size in
         let limits : level_end ls ≡ Some end = level_limits m xs ls op.2 ∙ limit_is in
-        let below : place < end = subst (IsBelow place) limit_is low in
+        let below : place < end = subst (IsBelowEnd place) limit_is low in
         let fits : UpTo (r.at + length (length_octets n)) (level_end ls) = subst (λ q. UpTo (r.at + length (length_octets n)) q) (sym limits) (let h : r.at + length (length_octets n) ≤ end = omega arith in h) in
         record {
           parts = r.parts;
@@ -395,11 +395,11 @@ too_long m xs c spot step start place n bytes o r low short is end limit_is past
 
 -- An open value ends.
 pub ended_read : (m : DerMessage ℕ) (x y : Level) (ys : List Level) (step : TagStep) (start place : ℕ) (bytes : List ℕ) → step.come ≡ 0 → Reads m (x ∷ y ∷ ys) (due.Tag step) start place bytes → x.end ≡ place
-    → ((l : states.Level ℕ) → IsLevel m.forms x l → IsEnded m.forms ended.Fine (end_answer (structure m l.spot) l.came))
+    → ((l : states.DerLevel ℕ) → IsLevel m.forms x l → IsEnded m.forms ended.Fine (end_answer (structure m l.spot) l.came))
     → Reads m (y ∷ ys) (due.Tag step) start place bytes
 ended_read m x y ys step start place bytes fresh r here h = by r.state r.front r.is_open
   where
-    by : (s : State ℕ) → Front m Start 0 bytes r.parts s r.at r.rest → IsOpen m (x ∷ y ∷ ys) (due.Tag step) s → Reads m (y ∷ ys) (due.Tag step) start place bytes
+    by : (s : State ℕ) → DerFront m Start 0 bytes r.parts s r.at r.rest → IsOpenState m (x ∷ y ∷ ys) (due.Tag step) s → Reads m (y ∷ ys) (due.Tag step) start place bytes
     by Start front op = absurd cc
     by (Within (l ∷ k ∷ ks)) front op = record {
       parts = r.parts ++ (End ∷ []);
@@ -417,11 +417,11 @@ ended_read m x y ys step start place bytes fresh r here h = by r.state r.front r
 
 -- The instance ends.
 pub over_read : (m : DerMessage ℕ) (x : Level) (step : TagStep) (start place : ℕ) (bytes : List ℕ) → step.come ≡ 0 → Reads m (x ∷ []) (due.Tag step) start place bytes → x.end ≡ place
-    → ((l : states.Level ℕ) → IsLevel m.forms x l → IsEnded m.forms ended.Fine (end_answer (structure m l.spot) l.came))
+    → ((l : states.DerLevel ℕ) → IsLevel m.forms x l → IsEnded m.forms ended.Fine (end_answer (structure m l.spot) l.came))
     → Reads m [] due.Over start place bytes
 over_read m x step start place bytes fresh r here h = by r.state r.front r.is_open
   where
-    by : (s : State ℕ) → Front m Start 0 bytes r.parts s r.at r.rest → IsOpen m (x ∷ []) (due.Tag step) s → Reads m [] due.Over start place bytes
+    by : (s : State ℕ) → DerFront m Start 0 bytes r.parts s r.at r.rest → IsOpenState m (x ∷ []) (due.Tag step) s → Reads m [] due.Over start place bytes
     by Start front op = absurd cc
     by (Within (l ∷ [])) front op = record {
       parts = r.parts ++ (End ∷ []);
@@ -439,11 +439,11 @@ over_read m x step start place bytes fresh r here h = by r.state r.front r.is_op
 
 -- An open value ends too early.
 pub end_breaks : (m : DerMessage ℕ) (x : Level) (xs : List Level) (step : TagStep) (start place : ℕ) (bytes : List ℕ) (rule : Rule) (added : Added) → step.come ≡ 0 → Reads m (x ∷ xs) (due.Tag step) start place bytes → x.end ≡ place
-    → ((l : states.Level ℕ) → IsLevel m.forms x l → IsEnded m.forms (ended.Breaks rule added) (end_answer (structure m l.spot) l.came))
+    → ((l : states.DerLevel ℕ) → IsLevel m.forms x l → IsEnded m.forms (ended.Breaks rule added) (end_answer (structure m l.spot) l.came))
     → Fails m (x ∷ xs) (due.Tag step) bytes rule place (added_text m.forms added)
 end_breaks m x xs step start place bytes rule added fresh r here h = by r.state r.front r.is_open
   where
-    by : (s : State ℕ) → Front m Start 0 bytes r.parts s r.at r.rest → IsOpen m (x ∷ xs) (due.Tag step) s → Fails m (x ∷ xs) (due.Tag step) bytes rule place (added_text m.forms added)
+    by : (s : State ℕ) → DerFront m Start 0 bytes r.parts s r.at r.rest → IsOpenState m (x ∷ xs) (due.Tag step) s → Fails m (x ∷ xs) (due.Tag step) bytes rule place (added_text m.forms added)
     by Start front op = absurd cc
     by (Within (l ∷ ls)) front op = answer (end_answer (structure m l.spot) l.came) refl (h l op.0)
       where

@@ -12,13 +12,13 @@ use Rattle.message_model.specs.Laws.{CompiledAreSound}
 use Rattle.message_model.specs.Ready.{IsReady}
 use Rattle.message_model.specs.Tables.{Tables, types_of}
 use Rattle.der_model.specs.DerMessage.{DerMessage, der_message}
-use Rattle.der_model.specs.Faults.{Fault, DerFault, Next, broken, halts, overruns, cut, short, trailing, BreaksRule, header_rule}
+use Rattle.der_model.specs.Faults.{FaultInDer, DerFault, NextPart, broken, halts, overruns, cut, short, trailing, BreaksRule, header_rule}
 use Rattle.der_model.specs.Laws.{TablesAreSound}
-use Rattle.der_model.specs.OpenLaws.{PartIsOpen, BrokenIsNotOpen, FrontIsOpen, KeepsLength}
-use Rattle.der_model.specs.Sound.{IsSound, TellsApart}
+use Rattle.der_model.specs.OpenLaws.{PartIsOpen, BrokenPartIsNotOpen, FrontIsOpen, KeepsLength}
+use Rattle.der_model.specs.Sound.{IsSoundDer, TellsApart}
 use Rattle.der_model.specs.States as states
 use Rattle.der_model.specs.States.{Part, Identifier, Length, End, State, Start, AwaitsLength, AwaitsContents, Within, Stands}
-use Rattle.der_codec.specs.ReadyLaws.{IsOnValues, IsToldAtPart, ReadyTellsAtOnce, ReadyFedIsOpen, ReadyFaultIsAtPart}
+use Rattle.der_codec.specs.ReadyLaws.{IsOnValues, IsToldAtPart, ReadyDerTellsAtOnce, ReadyFedDerIsOpen, ReadyFaultIsAtPart}
 use Rattle.message_model.proofs.CompiledFinite.{tables_finite}
 
 -- ---- the rules that are not on values
@@ -59,10 +59,10 @@ keeps_length m state at (Length n) rule added breaks on = absurd (no_header rule
 keeps_length m state at (states.Contents octets) rule added breaks on = tt
 keeps_length m state at End rule added breaks on = tt
 
-told_at_part : (m : DerMessage ℕ) → FrontIsOpen m → BrokenIsNotOpen m → (bytes : List ℕ) (fault : Fault) → DerFault m bytes fault → IsOnValues fault.rule → IsToldAtPart m bytes fault
+told_at_part : (m : DerMessage ℕ) → FrontIsOpen m → BrokenPartIsNotOpen m → (bytes : List ℕ) (fault : FaultInDer) → DerFault m bytes fault → IsOnValues fault.rule → IsToldAtPart m bytes fault
 told_at_part m open_are not_open bytes fault h on = of_next h.next
   where
-    of_next : Next m h.state h.at h.rest fault.rule h.off h.added → IsToldAtPart m bytes fault
+    of_next : NextPart m h.state h.at h.rest fault.rule h.off h.added → IsToldAtPart m bytes fault
     of_next (broken part after is stands fits breaks none) = record {
       before = h.parts;
       state = h.state;
@@ -86,21 +86,21 @@ told_at_part m open_are not_open bytes fault h on = of_next h.next
 -- ---- of a message that breaks no rule
 
 module _ (compiled : CompiledAreSound) (reached : ReadyAreFinite) (tables : TablesAreSound) (apart : TellsApart fragment) where
-  sound_of : (R : Contents) (m : List ℕ) (ids : List (List ℕ)) (T : Tables) → IsReady R m → IsReachedList R m ids → Compiles R m ids T → IsSound (der_message T)
+  sound_of : (R : Contents) (m : List ℕ) (ids : List (List ℕ)) (T : Tables) → IsReady R m → IsReachedList R m ids → Compiles R m ids T → IsSoundDer (der_message T)
   sound_of R m ids T ready list made = (let s = compiled R m ids T ready list made in tables T s.0 s.1 s.2 s.3 apart)
 
   finite_of : (R : Contents) (m : List ℕ) (ids : List (List ℕ)) (T : Tables) → IsReady R m → IsReachedList R m ids → Compiles R m ids T → AreFinite (types_of T) 0
   finite_of R m ids T ready list made = tables_finite reached R m ready ids list T made
 
-  pub tells_at_once : ((m : DerMessage ℕ) → IsSound m → AreFinite m.forms m.root → PartIsOpen m) → ReadyTellsAtOnce
+  pub tells_at_once : ((m : DerMessage ℕ) → IsSoundDer m → AreFinite m.forms m.root → PartIsOpen m) → ReadyDerTellsAtOnce
   tells_at_once law R m ids T ready list made = law (der_message T) (sound_of R m ids T ready list made) (finite_of R m ids T ready list made)
 
-  pub ready_fed_is_open : ((m : DerMessage ℕ) → IsSound m → AreFinite m.forms m.root → FrontIsOpen m) → ReadyFedIsOpen
+  pub ready_fed_is_open : ((m : DerMessage ℕ) → IsSoundDer m → AreFinite m.forms m.root → FrontIsOpen m) → ReadyFedDerIsOpen
   ready_fed_is_open law R m ids T ready list made checker bytes h =
       let r = h.reading.read in
       law (der_message T) (sound_of R m ids T ready list made) (finite_of R m ids T ready list made) bytes r.parts r.state r.at r.rest r.front
 
-  pub fault_is_at_part : ((m : DerMessage ℕ) → IsSound m → AreFinite m.forms m.root → FrontIsOpen m) → ((m : DerMessage ℕ) → IsSound m → AreFinite m.forms m.root → BrokenIsNotOpen m) → ReadyFaultIsAtPart
+  pub fault_is_at_part : ((m : DerMessage ℕ) → IsSoundDer m → AreFinite m.forms m.root → FrontIsOpen m) → ((m : DerMessage ℕ) → IsSoundDer m → AreFinite m.forms m.root → BrokenPartIsNotOpen m) → ReadyFaultIsAtPart
   fault_is_at_part front_law broken_law R m ids T ready list made bytes fault h on =
       let sound = sound_of R m ids T ready list made in
       let finite = finite_of R m ids T ready list made in

@@ -7,12 +7,12 @@ use Rattle.der_octets.specs.declared.tag_step.TagStep.{TagStep}
 use Rattle.inst_pool.specs.Pieces.{Region}
 use Rattle.message_model.specs.Tables.{Tables}
 use Rattle.der_model.specs.DerMessage.{DerMessage, der_message}
-use Rattle.der_codec.specs.Decoding.{HasRead, IsFresh, level_at}
+use Rattle.der_codec.specs.Decoding.{HasReadParts, IsFresh, level_at}
 use Rattle.der_codec.specs.Judging.{HoldsContents}
 use Rattle.der_codec.specs.KeptPieces.{KeepsShown, GoOnByBegun, GoesOnByLast}
 use Rattle.der_codec.specs.Levels.{inwards, rest_of}
 use Rattle.der_codec.specs.inner.Entering.{Awaits, StandsFirst}
-use Rattle.der_codec.specs.Checking.{IsReading, HasFed, TakesFront, StopsWithin, fed}
+use Rattle.der_codec.specs.Checking.{IsReading, HasFedDer, TakesDerFront, StopsWithin, der_bytes_fed}
 use Rattle.der_codec.specs.declared.begun.Begun.{Begun}
 use Rattle.der_codec.specs.declared.checker.DerChecker.{DerChecker}
 use Rattle.der_codec.specs.declared.decoder.Decoder.{Decoder}
@@ -27,7 +27,7 @@ pub none_shown : (m : DerMessage ℕ) (d : Decoder) (kept : Option Region) (byte
 none_shown m d kept bytes none = subst (λ z. KeepsShown m d z bytes) (sym none) tt
 
 -- where nothing but checks is changed, the same bytes were given
-pub fed_as : (T : Tables) (old new : DerChecker) (bytes : List ℕ) → new.decoder ≡ old.decoder → new.kept ≡ old.kept → new.pieces ≡ old.pieces → new.failed ≡ old.failed → HasFed old T bytes → HasFed new T bytes
+pub fed_as : (T : Tables) (old new : DerChecker) (bytes : List ℕ) → new.decoder ≡ old.decoder → new.kept ≡ old.kept → new.pieces ≡ old.pieces → new.failed ≡ old.failed → HasFedDer old T bytes → HasFedDer new T bytes
 fed_as T old new bytes decoder kept pieces failed h = record {
   reading =
       subst (λ z. IsReading T new.decoder new.kept.items z bytes) (sym pieces)
@@ -36,7 +36,7 @@ fed_as T old new bytes decoder kept pieces failed h = record {
   sound = failed ∙ h.sound;
 }
 
-pub front_as : (T : Tables) (old mid new : DerChecker) (piece : List ℕ) (result : Result ℕ Stop) → ((bytes : List ℕ) → HasFed old T bytes → HasFed mid T bytes) → TakesFront T mid new piece result → TakesFront T old new piece result
+pub front_as : (T : Tables) (old mid new : DerChecker) (piece : List ℕ) (result : Result ℕ Stop) → ((bytes : List ℕ) → HasFedDer old T bytes → HasFedDer mid T bytes) → TakesDerFront T mid new piece result → TakesDerFront T old new piece result
 front_as T old mid new piece result given t = record {
   ok = λ bytes h. t.ok bytes (given bytes h);
   err = λ bytes h. t.err bytes (given bytes h);
@@ -44,26 +44,26 @@ front_as T old mid new piece result given t = record {
 }
 
 -- no byte is taken
-pub none_front_as : (T : Tables) (old new : DerChecker) (piece : List ℕ) → ((bytes : List ℕ) → HasFed old T bytes → HasFed new T bytes) → TakesFront T old new piece (Ok 0)
+pub none_front_as : (T : Tables) (old new : DerChecker) (piece : List ℕ) → ((bytes : List ℕ) → HasFedDer old T bytes → HasFedDer new T bytes) → TakesDerFront T old new piece (Ok 0)
 none_front_as T old new piece given = record {
-  ok = λ bytes h. subst (HasFed new T) (sym (append-nil bytes)) (given bytes h);
+  ok = λ bytes h. subst (HasFedDer new T) (sym (append-nil bytes)) (given bytes h);
   err = λ bytes h. tt;
   within = omega arith;
 }
 
-pub none_front : (T : Tables) (same : DerChecker) (piece : List ℕ) → TakesFront T same same piece (Ok 0)
+pub none_front : (T : Tables) (same : DerChecker) (piece : List ℕ) → TakesDerFront T same same piece (Ok 0)
 none_front T same piece = none_front_as T same same piece (λ bytes h. h)
 
 -- so many bytes are taken, and the values end behind them
-pub usual_taken : (T : Tables) (old mid new : DerChecker) (piece : List ℕ) (n : ℕ) → n ≤ length piece → fed old + length piece ≤ 2 ^ 40 → mid.failed ≡ old.failed → new.failed ≡ mid.failed
-    → ((bytes : List ℕ) → HasRead (der_message T) old.decoder bytes → HasRead (der_message T) mid.decoder (bytes ++ take n piece)) → mid.pieces ≡ None
-    → ((bytes : List ℕ) → HasRead (der_message T) mid.decoder bytes → KeepsShown (der_message T) mid.decoder mid.pieces bytes → IsReading T new.decoder new.kept.items new.pieces bytes) → TakesFront T old new piece (Ok n)
+pub usual_taken : (T : Tables) (old mid new : DerChecker) (piece : List ℕ) (n : ℕ) → n ≤ length piece → der_bytes_fed old + length piece ≤ 2 ^ 40 → mid.failed ≡ old.failed → new.failed ≡ mid.failed
+    → ((bytes : List ℕ) → HasReadParts (der_message T) old.decoder bytes → HasReadParts (der_message T) mid.decoder (bytes ++ take n piece)) → mid.pieces ≡ None
+    → ((bytes : List ℕ) → HasReadParts (der_message T) mid.decoder bytes → KeepsShown (der_message T) mid.decoder mid.pieces bytes → IsReading T new.decoder new.kept.items new.pieces bytes) → TakesDerFront T old new piece (Ok n)
 usual_taken T old mid new piece n within room same then read none go =
     taken_front T old new piece (take n piece) n refl within room (then ∙ same)
     (λ bytes h. let bytes2 = bytes ++ take n piece in go bytes2 (read bytes h.reading.read) (none_shown (der_message T) mid.decoder mid.pieces bytes2 none))
 
-pub usual_stopped : (T : Tables) (old mid new : DerChecker) (piece : List ℕ) (n : ℕ) (s : Stop) → ((bytes : List ℕ) → HasRead (der_message T) old.decoder bytes → HasRead (der_message T) mid.decoder (bytes ++ take n piece))
-    → ((bytes : List ℕ) → HasRead (der_message T) mid.decoder bytes → StopsWithin T new.decoder bytes s) → TakesFront T old new piece (Err s)
+pub usual_stopped : (T : Tables) (old mid new : DerChecker) (piece : List ℕ) (n : ℕ) (s : Stop) → ((bytes : List ℕ) → HasReadParts (der_message T) old.decoder bytes → HasReadParts (der_message T) mid.decoder (bytes ++ take n piece))
+    → ((bytes : List ℕ) → HasReadParts (der_message T) mid.decoder bytes → StopsWithin T new.decoder bytes s) → TakesDerFront T old new piece (Err s)
 usual_stopped T old mid new piece n s read stops =
     stopped_front T old new piece (take n piece) _ s (joined n piece) (λ bytes h. stops (bytes ++ take n piece) (read bytes h.reading.read))
 
@@ -74,35 +74,35 @@ some_taken (suc n) none = omega arith
 -- ---- where pieces are kept
 
 -- behind so many bytes of the piece
-pub front_room : (T : Tables) (old mid : DerChecker) (bytes piece rest : List ℕ) (taken : ℕ) → rest ≡ drop taken piece → HasFed old T bytes → HasFed mid T (bytes ++ take taken piece) → taken ≤ length piece → fed old + length piece ≤ 2 ^ 40 → fed mid + length rest ≤ 2 ^ 40
+pub front_room : (T : Tables) (old mid : DerChecker) (bytes piece rest : List ℕ) (taken : ℕ) → rest ≡ drop taken piece → HasFedDer old T bytes → HasFedDer mid T (bytes ++ take taken piece) → taken ≤ length piece → der_bytes_fed old + length piece ≤ 2 ^ 40 → der_bytes_fed mid + length rest ≤ 2 ^ 40
 front_room T old mid bytes piece rest taken is h k within room = run_room (der_message T) old.decoder mid.decoder bytes piece rest taken is h.reading.read k.reading.read within room
 
-pub run_stopped : (T : Tables) (old mid new : DerChecker) (piece rest : List ℕ) (taken : ℕ) (s : Stop) → rest ≡ drop taken piece → ((bytes : List ℕ) → HasFed old T bytes → HasFed mid T (bytes ++ take taken piece)) → TakesFront T mid new rest (Err s) → TakesFront T old new piece (Err s)
+pub run_stopped : (T : Tables) (old mid new : DerChecker) (piece rest : List ℕ) (taken : ℕ) (s : Stop) → rest ≡ drop taken piece → ((bytes : List ℕ) → HasFedDer old T bytes → HasFedDer mid T (bytes ++ take taken piece)) → TakesDerFront T mid new rest (Err s) → TakesDerFront T old new piece (Err s)
 run_stopped T old mid new piece rest taken s is given t = record {
   ok = λ bytes h. tt;
   err = λ bytes h. stopped_further T new.decoder bytes piece rest taken s is (t.err (bytes ++ take taken piece) (given bytes h));
   within = tt;
 }
 
-pub run_ends : (T : Tables) (old mid new : DerChecker) (piece rest : List ℕ) (taken count : ℕ) → count ≡ 0 → taken ≤ length piece → ((bytes : List ℕ) → HasFed old T bytes → HasFed mid T (bytes ++ take taken piece)) → TakesFront T mid new rest (Ok count) → TakesFront T old new piece (Ok taken)
+pub run_ends : (T : Tables) (old mid new : DerChecker) (piece rest : List ℕ) (taken count : ℕ) → count ≡ 0 → taken ≤ length piece → ((bytes : List ℕ) → HasFedDer old T bytes → HasFedDer mid T (bytes ++ take taken piece)) → TakesDerFront T mid new rest (Ok count) → TakesDerFront T old new piece (Ok taken)
 run_ends T old mid new piece rest taken count none within given t = record {
-  ok = λ bytes h. let all = bytes ++ take taken piece in subst (HasFed new T) (ap (λ z. all ++ take z rest) none ∙ append-nil all) (t.ok all (given bytes h));
+  ok = λ bytes h. let all = bytes ++ take taken piece in subst (HasFedDer new T) (ap (λ z. all ++ take z rest) none ∙ append-nil all) (t.ok all (given bytes h));
   err = λ bytes h. tt;
   within = within;
 }
 
 -- where no byte was taken, the same bytes were given
-pub none_fed : (T : Tables) (old new : DerChecker) (bytes piece : List ℕ) (n : ℕ) → n ≡ 0 → TakesFront T old new piece (Ok n) → HasFed old T bytes → HasFed new T bytes
-none_fed T old new bytes piece n none t h = subst (HasFed new T) (ap (λ z. bytes ++ take z piece) none ∙ append-nil bytes) (t.ok bytes h)
+pub none_fed : (T : Tables) (old new : DerChecker) (bytes piece : List ℕ) (n : ℕ) → n ≡ 0 → TakesDerFront T old new piece (Ok n) → HasFedDer old T bytes → HasFedDer new T bytes
+none_fed T old new bytes piece n none t h = subst (HasFedDer new T) (ap (λ z. bytes ++ take z piece) none ∙ append-nil bytes) (t.ok bytes h)
 
 -- identifier octets are due, of which none has come
 abbrev pub AwaitsTag : Decoder → Type 0
-AwaitsTag d = (step : TagStep) × (d.due ≡ due.Tag step) × tags.HasTaken step []
+AwaitsTag d = (step : TagStep) × (d.due ≡ due.Tag step) × tags.HasTakenTag step []
 
 -- a constructed value was entered
-pub entered : (T : Tables) (old : DerChecker) (new : Decoder) (b : Begun) (n : ℕ) (behind piece bytes : List ℕ) (kept : Option Region) → HasFed old T bytes → StandsFirst (der_message T) old.decoder bytes b n behind piece → b.constructed ≡ true
+pub entered : (T : Tables) (old : DerChecker) (new : Decoder) (b : Begun) (n : ℕ) (behind piece bytes : List ℕ) (kept : Option Region) → HasFedDer old T bytes → StandsFirst (der_message T) old.decoder bytes b n behind piece → b.constructed ≡ true
     → GoOnByBegun (der_message T) b.around old.pieces kept → inwards new.levels.items ≡ level_at b.spot b.end ∷ b.around ∷ rest_of (inwards old.decoder.levels.items) → new.place ≡ old.decoder.place + 2 → new.start ≡ old.decoder.place + 2 → AwaitsTag new → IsFresh new.due
-    → HasRead (der_message T) new (bytes ++ take 2 piece) × KeepsShown (der_message T) new kept (bytes ++ take 2 piece)
+    → HasReadParts (der_message T) new (bytes ++ take 2 piece) × KeepsShown (der_message T) new kept (bytes ++ take 2 piece)
 entered T old new b n behind piece bytes kept g h constructed goes levels placed started (fresh, due_is, none) clean =
     let m = der_message T in
     let d = old.decoder in
@@ -110,22 +110,22 @@ entered T old new b n behind piece bytes kept g h constructed goes levels placed
     let front : take 2 piece ≡ h.first ∷ n ∷ [] = ap (take 2) h.piece_is in
     let there : inwards new.levels.items ≡ level_at b.spot (d.place + 2 + n) ∷ ys = levels ∙ ap (λ z. level_at b.spot z ∷ ys) h.begun.end_is in
     let awaits : Awaits new b.constructed b.spot (d.place + 2) n ys = subst (λ z. Awaits new z b.spot (d.place + 2) n ys) (sym constructed) (there, fresh, due_is, none) in
-    subst (λ z. HasRead m new (bytes ++ z) × KeepsShown m new kept (bytes ++ z)) (sym front) (
+    subst (λ z. HasReadParts m new (bytes ++ z) × KeepsShown m new kept (bytes ++ z)) (sym front) (
       header_read m d new b bytes h.first n h.begun placed started awaits,
       entered_shown m d new b old.pieces kept bytes h.first n fresh g.reading.read g.reading.shows h.begun goes levels placed started due_is clean,
     )
 
 -- a leaf was passed
-pub passed : (T : Tables) (old : DerChecker) (new : Decoder) (b : Begun) (n : ℕ) (behind piece bytes contents : List ℕ) (kept : Option Region) → HasFed old T bytes → StandsFirst (der_message T) old.decoder bytes b n behind piece → b.constructed ≡ false
+pub passed : (T : Tables) (old : DerChecker) (new : Decoder) (b : Begun) (n : ℕ) (behind piece bytes contents : List ℕ) (kept : Option Region) → HasFedDer old T bytes → StandsFirst (der_message T) old.decoder bytes b n behind piece → b.constructed ≡ false
     → contents ≡ take n behind → n ≤ length behind → HoldsContents (der_message T) b.spot contents → GoesOnByLast (der_message T) b.around b.spot contents old.pieces kept → inwards new.levels.items ≡ b.around ∷ rest_of (inwards old.decoder.levels.items)
-    → new.place ≡ b.end → new.start ≡ b.end → AwaitsTag new → IsFresh new.due → HasRead (der_message T) new (bytes ++ take (2 + n) piece) × KeepsShown (der_message T) new kept (bytes ++ take (2 + n) piece)
+    → new.place ≡ b.end → new.start ≡ b.end → AwaitsTag new → IsFresh new.due → HasReadParts (der_message T) new (bytes ++ take (2 + n) piece) × KeepsShown (der_message T) new kept (bytes ++ take (2 + n) piece)
 passed T old new b n behind piece bytes contents kept g h primitive is within held (leaf, at, goes) levels placed started (fresh, due_is, none) clean =
     let m = der_message T in
     let d = old.decoder in
     let size : length contents ≡ n = ap length is ∙ length-take-le n behind within in
     let front : take (2 + n) piece ≡ h.first ∷ n ∷ contents = front_more piece (n ∷ behind) behind h.first n n h.piece_is refl ∙ ap (λ z. h.first ∷ n ∷ z) (sym is) in
     let read = leaf_taken m d new b bytes contents h.first n fresh h.begun primitive size held levels placed started due_is none in
-    subst (λ z. HasRead m new (bytes ++ z) × KeepsShown m new kept (bytes ++ z)) (sym front) (
+    subst (λ z. HasReadParts m new (bytes ++ z) × KeepsShown m new kept (bytes ++ z)) (sym front) (
       read,
       leaf_shown m d new b old.pieces kept bytes contents h.first n leaf g.reading.read g.reading.shows h.begun primitive size at goes levels clean read,
     )

@@ -12,9 +12,9 @@ use Rattle.reference_check.specs.Words.{UpTo}
 use Rattle.der_model.specs.DerMessage.{DerMessage}
 use Rattle.der_codec.specs.Levels.{IsLevel, inwards, first_of, rest_of}
 use Rattle.der_codec.specs.Components.{IsFound}
-use Rattle.der_codec.specs.Decoding.{Reads, HasRead, IsBelow, IsFresh, end_of_first, due_after, level_at, HasIdentifier}
+use Rattle.der_codec.specs.Decoding.{Reads, HasReadParts, IsBelowEnd, IsFresh, end_of_first, due_after, level_at, HasIdentifier}
 use Rattle.der_codec.specs.Judging.{HoldsContents}
-use Rattle.der_codec.specs.inner.Entering.{Awaits, Enters, Passes}
+use Rattle.der_codec.specs.inner.Entering.{Awaits, Enters, PassesLeaf}
 use Rattle.der_codec.specs.declared.components.Found.TheVariants as found
 use Rattle.der_codec.specs.declared.decoder.Decoder.{Decoder}
 use Rattle.der_codec.specs.declared.decoder.Due.{Due}
@@ -26,7 +26,7 @@ use Rattle.der_codec.proofs.StepTies.{reads_as, begin_read, open_primitive, open
 
 -- a length octet below 128 opens the value whose length is due
 pub length_read : (m : DerMessage ℕ) (new : Decoder) (ys : List Level) (c : Bool) (spot : Spot) (step : LengthStep) (place at n : ℕ) (bytes : List ℕ) → Reads m ys (due.Length c spot step) place place bytes → n < 128 → at ≡ place + 1 → UpTo (place + 1 + n) (end_of_first ys)
-    → new.place ≡ at → new.start ≡ at → Awaits new c spot at n ys → HasRead m new (bytes ++ n ∷ [])
+    → new.place ≡ at → new.start ≡ at → Awaits new c spot at n ys → HasReadParts m new (bytes ++ n ∷ [])
 length_read m new ys true spot step place at n bytes r low is fits placed started a =
     let has = short_has m ys (due.Length true spot step) true spot step place place bytes n n r refl refl low refl in
     reads_as m (inwards new.levels.items) (level_at spot (at + n) ∷ ys) new.due (due.Tag a.1) new.start (place + 1) new.place (place + 1) (bytes ++ n ∷ []) a.0 a.2 (started ∙ is) (placed ∙ is)
@@ -37,29 +37,29 @@ length_read m new ys false spot step place at n bytes r low is fits placed start
     (open_primitive m ys (due.Length false spot step) spot place place n bytes n r false refl has fits)
 
 -- and an identifier octet before it begins the value
-pub usual_read : (m : DerMessage ℕ) (old new : Decoder) (level : Level) (bytes : List ℕ) (o n number : ℕ) (id : ids.Identifier) (spot : Spot) (step : LengthStep) (r : HasRead m old bytes) → Some level ≡ first_of (inwards old.levels.items) → HasIdentifier old.due r.rest o id
-    → IsBelow old.place (end_of_first (inwards old.levels.items))
-    → ((l : states.Level ℕ) → IsLevel m.forms level l → IsFound m.forms (found.Begins number spot) (level_answer m l id.constructed (tag_view id))) → lengths.HasTaken step [] → n < 128
-    → Enters old new level number id.constructed spot n → HasRead m new (bytes ++ o ∷ n ∷ [])
+pub usual_read : (m : DerMessage ℕ) (old new : Decoder) (level : Level) (bytes : List ℕ) (o n number : ℕ) (id : ids.Identifier) (spot : Spot) (step : LengthStep) (r : HasReadParts m old bytes) → Some level ≡ first_of (inwards old.levels.items) → HasIdentifier old.due r.rest o id
+    → IsBelowEnd old.place (end_of_first (inwards old.levels.items))
+    → ((l : states.DerLevel ℕ) → IsLevel m.forms level l → IsFound m.forms (found.Begins number spot) (level_answer m l id.constructed (tag_view id))) → lengths.HasTakenLength step [] → n < 128
+    → Enters old new level number id.constructed spot n → HasReadParts m new (bytes ++ o ∷ n ∷ [])
 usual_read m old new level bytes o n number id spot step r first has low h none short e =
     let xs = inwards old.levels.items in
     let begun = begin_read m xs level e.around old.due old.start old.place bytes o id number spot step r first has low h e.is_advanced none in
     let two : old.place + 2 ≡ old.place + 1 + 1 = omega arith in
     let ends = e.is_advanced.end in
     let fits = e.fits in
-    subst (HasRead m new) (append_assoc bytes (o ∷ []) (n ∷ []))
+    subst (HasReadParts m new) (append_assoc bytes (o ∷ []) (n ∷ []))
     (length_read m new (e.around ∷ rest_of xs) id.constructed spot step (old.place + 1) (old.place + 2) n (bytes ++ o ∷ []) begun short two (omega arith) e.place_is e.start_is e.awaits)
 
 -- of a length no octet has come
-pub none_taken : (step : LengthStep) × lengths.HasTaken step []
+pub none_taken : (step : LengthStep) × lengths.HasTakenLength step []
 none_taken = (record { count = 0; come = 0; value = 0 }, refl)
 
 -- ---- a leaf behind its header
 
-pub leaf_read : (m : DerMessage ℕ) (old new : Decoder) (level : Level) (bytes contents : List ℕ) (o n number : ℕ) (id : ids.Identifier) (spot : Spot) (step : LengthStep) (r : HasRead m old bytes) → Some level ≡ first_of (inwards old.levels.items) → HasIdentifier old.due r.rest o id
-    → IsBelow old.place (end_of_first (inwards old.levels.items))
-    → ((l : states.Level ℕ) → IsLevel m.forms level l → IsFound m.forms (found.Begins number spot) (level_answer m l id.constructed (tag_view id))) → lengths.HasTaken step [] → n < 128
-    → id.constructed ≡ false → length contents ≡ n → Passes m old new level number spot contents → HasRead m new (bytes ++ o ∷ n ∷ contents)
+pub leaf_read : (m : DerMessage ℕ) (old new : Decoder) (level : Level) (bytes contents : List ℕ) (o n number : ℕ) (id : ids.Identifier) (spot : Spot) (step : LengthStep) (r : HasReadParts m old bytes) → Some level ≡ first_of (inwards old.levels.items) → HasIdentifier old.due r.rest o id
+    → IsBelowEnd old.place (end_of_first (inwards old.levels.items))
+    → ((l : states.DerLevel ℕ) → IsLevel m.forms level l → IsFound m.forms (found.Begins number spot) (level_answer m l id.constructed (tag_view id))) → lengths.HasTakenLength step [] → n < 128
+    → id.constructed ≡ false → length contents ≡ n → PassesLeaf m old new level number spot contents → HasReadParts m new (bytes ++ o ∷ n ∷ contents)
 leaf_read m old new level bytes contents o n number id spot step r first has low h none short primitive size p =
     let at = old.place + 2 in
     let xs = inwards new.levels.items in
@@ -80,19 +80,19 @@ leaf_read m old new level bytes contents o n number id spot step r first has low
     let empty = none_kept m xs (due.Contents spot n) at at octets begun refl in
     let held : HoldsContents m spot (drop at octets ++ contents) = subst (λ z. HoldsContents m spot (z ++ contents)) (sym empty) p.holds in
     let clean = contents_clean m xs spot n p.fresh at at octets contents begun size held p.none_taken in
-    subst (HasRead m new) (append_assoc bytes (o ∷ n ∷ []) contents)
+    subst (HasReadParts m new) (append_assoc bytes (o ∷ n ∷ []) contents)
     (reads_as m xs xs new.due (due.Tag p.fresh) new.start (at + n) new.place (at + n) (octets ++ contents) refl p.due_is (p.start_is ∙ ap (λ z. at + z) size) (p.place_is ∙ ap (λ z. at + z) size) clean)
 
 -- ---- as the functions answer
 
-pub entered_read : (m : DerMessage ℕ) (new : Decoder) (bytes behind : List ℕ) (o n : ℕ) (X : Type 0) (result : Option ℕ) → IfSome result (λ k. k ≡ 0) → IfSome result (λ k. X) → (X → HasRead m new (bytes ++ o ∷ n ∷ []))
-    → IfSome result (λ k. HasRead m new (bytes ++ o ∷ n ∷ take k behind))
+pub entered_read : (m : DerMessage ℕ) (new : Decoder) (bytes behind : List ℕ) (o n : ℕ) (X : Type 0) (result : Option ℕ) → IfSome result (λ k. k ≡ 0) → IfSome result (λ k. X) → (X → HasReadParts m new (bytes ++ o ∷ n ∷ []))
+    → IfSome result (λ k. HasReadParts m new (bytes ++ o ∷ n ∷ take k behind))
 entered_read m new bytes behind o n X None none x f = none
-entered_read m new bytes behind o n X (Some k) none x f = subst (λ z. HasRead m new (bytes ++ o ∷ n ∷ take z behind)) (sym none) (f x)
+entered_read m new bytes behind o n X (Some k) none x f = subst (λ z. HasReadParts m new (bytes ++ o ∷ n ∷ take z behind)) (sym none) (f x)
 
 pub passed_read : (m : DerMessage ℕ) (old new : Decoder) (level : Level) (spot : Spot) (bytes behind : List ℕ) (o n number : ℕ) (result : Option ℕ) → IfSome result (λ k. k ≡ n) → IfSome result (λ k. k ≤ length behind)
-    → IfSome result (λ k. Passes m old new level number spot (take k behind)) → ((contents : List ℕ) → length contents ≡ n → Passes m old new level number spot contents → HasRead m new (bytes ++ o ∷ n ∷ contents))
-    → IfSome result (λ k. HasRead m new (bytes ++ o ∷ n ∷ take k behind))
+    → IfSome result (λ k. PassesLeaf m old new level number spot (take k behind)) → ((contents : List ℕ) → length contents ≡ n → PassesLeaf m old new level number spot contents → HasReadParts m new (bytes ++ o ∷ n ∷ contents))
+    → IfSome result (λ k. HasReadParts m new (bytes ++ o ∷ n ∷ take k behind))
 passed_read m old new level spot bytes behind o n number None same within p f = same
 passed_read m old new level spot bytes behind o n number (Some k) same within p f = f (take k behind) (length-take-le k behind within ∙ same) p
 
@@ -129,7 +129,7 @@ pub run_more : (bytes piece rest : List ℕ) (taken count : ℕ) → rest ≡ dr
 run_more bytes piece rest taken count is =
     append_assoc bytes (take taken piece) (take count rest) ∙ ap (λ z. bytes ++ z) (ap (λ z. take taken piece ++ take count z) is ∙ take_then taken count piece)
 
-pub run_room : (m : DerMessage ℕ) (old mid : Decoder) (bytes piece rest : List ℕ) (taken : ℕ) → rest ≡ drop taken piece → HasRead m old bytes → HasRead m mid (bytes ++ take taken piece) → taken ≤ length piece → old.place + length piece ≤ 2 ^ 40 → mid.place + length rest ≤ 2 ^ 40
+pub run_room : (m : DerMessage ℕ) (old mid : Decoder) (bytes piece rest : List ℕ) (taken : ℕ) → rest ≡ drop taken piece → HasReadParts m old bytes → HasReadParts m mid (bytes ++ take taken piece) → taken ≤ length piece → old.place + length piece ≤ 2 ^ 40 → mid.place + length rest ≤ 2 ^ 40
 run_room m old mid bytes piece rest taken is r q within room =
     let a = place_counts m (inwards old.levels.items) old.due old.start old.place bytes r in
     let b = place_counts m (inwards mid.levels.items) mid.due mid.start mid.place (bytes ++ take taken piece) q in

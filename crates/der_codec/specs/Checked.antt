@@ -5,7 +5,7 @@ use Rattle.data_types.specs.Leaf.{Leaf}
 use Rattle.facets.specs.declared.simple.Simple.{Simple}
 use Rattle.facets.specs.declared.leaf_verdict.LeafVerdict.{LeafVerdict}
 use Rattle.facets.specs.LeafUnder.{GivesLeaf}
-use Rattle.facets.specs.LeafVerdicts.{IsMadeFor}
+use Rattle.facets.specs.LeafVerdicts.{IsVerdictMadeFor}
 use Rattle.facets.specs.Rules.{BreaksFirst}
 use Rattle.reference_check.specs.Forms.{Graph, text_type}
 use Rattle.der_codec.specs.declared.checks.Refusal.{Refusal}
@@ -14,7 +14,7 @@ use Rattle.der_codec.specs.declared.checks.Checks.{Checks}
 
 -- the check was made for the texts of the type of this number
 abbrev pub ChecksType : Graph ℕ Simple → ℕ → LeafVerdict → Type 0
-ChecksType types n check = (simple : Simple) → text_type (types n) ≡ Some simple → IsMadeFor check simple
+ChecksType types n check = (simple : Simple) → text_type (types n) ≡ Some simple → IsVerdictMadeFor check simple
 
 -- the same of one that may be there
 abbrev pub ChecksIfAny : Graph ℕ Simple → ℕ → Option (Box LeafVerdict) → Type 0

@@ -9,13 +9,13 @@ use Rattle.message_model.specs.declared.fault.InstanceError.{InstanceError}
 use Rattle.message_model.specs.declared.fault.InstanceError.TheVariants.{Refused, Memory}
 use Rattle.der_model.specs.DerMessage.{der_message}
 use Rattle.der_model.specs.Der.{SpellsDer}
-use Rattle.der_model.specs.Faults.{Fault, DerFault}
+use Rattle.der_model.specs.Faults.{FaultInDer, DerFault}
 use Rattle.der_model.specs.States.{State, Start, AwaitsLength, AwaitsContents, Within}
 use Rattle.der_codec.specs.Checked.{CheckTypes}
 use Rattle.der_codec.specs.Components.{added_text}
 use Rattle.der_codec.specs.KeptOctets.{IsKeptAt}
 use Rattle.der_codec.specs.KeptPieces.{KeepsShown}
-use Rattle.der_codec.specs.Decoding.{HasRead, header_come, IsFault, IsWaiting, end_of_levels}
+use Rattle.der_codec.specs.Decoding.{HasReadParts, header_come, IsFault, IsWaiting, end_of_levels}
 use Rattle.der_codec.specs.declared.decoder.Decoder.{Decoder}
 use Rattle.der_codec.specs.declared.decoder.Due.{Due}
 use Rattle.der_codec.specs.declared.decoder.Due.TheVariants as due
@@ -35,47 +35,47 @@ IsNoContents d = Unit {0}
 
 -- the reader was given these bytes, and keeps what has come of contents
 abbrev pub KeepsRead : Tables → Decoder → List ℕ → List ℕ → Type 0
-KeepsRead T d kept bytes = HasRead (der_message T) d bytes × KeepsContents T d.due d.start bytes kept
+KeepsRead T d kept bytes = HasReadParts (der_message T) d bytes × KeepsContents T d.due d.start bytes kept
 
 -- The reader goes on: it was given these bytes, which break nothing so far.
 pub record IsReading (T : Tables) (d : Decoder) (kept : List ℕ) (pieces : Option Region) (bytes : List ℕ) : Type 0 where
-  pub read : HasRead (der_message T) d bytes
+  pub read : HasReadParts (der_message T) d bytes
   pub waits : IsWaiting d.due d.place (end_of_levels d.levels.items)
   pub keeps : KeepsContents T d.due d.start bytes kept
   pub shows : KeepsShown (der_message T) d pieces bytes
 
 -- the checker goes on: it was given these bytes, 2^40 at most, which break nothing so far
-pub record HasFed (checker : DerChecker) (T : Tables) (bytes : List ℕ) : Type 0 where
+pub record HasFedDer (checker : DerChecker) (T : Tables) (bytes : List ℕ) : Type 0 where
   pub reading : IsReading T checker.decoder checker.kept.items checker.pieces bytes
   pub short : length bytes ≤ 2 ^ 40
   pub sound : checker.failed ≡ None
 
 -- how many bytes the checker was given
-abbrev pub fed : DerChecker → ℕ
-fed checker = checker.decoder.place
+abbrev pub der_bytes_fed : DerChecker → ℕ
+der_bytes_fed checker = checker.decoder.place
 
 -- how many octets it keeps of the contents that are due
-abbrev pub held : DerChecker → ℕ
-held checker = length checker.kept.items
+abbrev pub held_contents : DerChecker → ℕ
+held_contents checker = length checker.kept.items
 
 -- how many octets of a header have come, where more of them are due
 abbrev pub token_held : DerChecker → ℕ
 token_held checker = header_come checker.decoder.due checker.decoder.start checker.decoder.place
 
 -- the answer that it gives for good, where there is one
-abbrev pub failed : DerChecker → Option InstanceError
-failed checker = checker.failed
+abbrev pub der_failure : DerChecker → Option InstanceError
+der_failure checker = checker.failed
 
 -- no octets are held
 pub record IsFreed (checker : DerChecker) : Type 0 where
-  pub leaf : held checker ≡ 0
+  pub leaf : held_contents checker ≡ 0
   pub header : token_held checker ≡ 0
 
 -- the checker was made for the message of these tables, and was given no bytes that it refused without saying so; where it has refused some it holds none
-pub record IsMadeFor (checker : DerChecker) (T : Tables) : Type 0 where
+pub record IsDerCheckerFor (checker : DerChecker) (T : Tables) : Type 0 where
   pub checks : CheckTypes (types_of T) checker.checks
-  pub given : failed checker ≡ None → (bytes : List ℕ) × HasFed checker T bytes
-  pub freed : (e : InstanceError) → failed checker ≡ Some e → IsFreed checker
+  pub given : der_failure checker ≡ None → (bytes : List ℕ) × HasFedDer checker T bytes
+  pub freed : (e : InstanceError) → der_failure checker ≡ Some e → IsFreed checker
 
 -- how many values and lists have begun and not ended, that of which a length or contents are due among them
 abbrev pub open_count : {P : Type 0} → State P → ℕ
@@ -85,18 +85,18 @@ open_count (AwaitsContents spot names count around) = suc (length around)
 open_count (Within levels) = length levels
 
 -- a fault that is told, as one of the definitions
-abbrev pub fault_of : Told → Fault
-fault_of f = record { rule = f.rule; place = f.place; path = f.path }
+abbrev pub der_fault_of : Told → FaultInDer
+der_fault_of f = record { rule = f.rule; place = f.place; path = f.path }
 
 -- The bytes have this first fault, whatever follows them, and it is not that they end too early.
-pub record Shows (T : Tables) (bytes : List ℕ) (fault : Told) : Type 0 where
-  pub has_fault : (behind : List ℕ) → DerFault (der_message T) (bytes ++ behind) (fault_of fault)
+pub record ShowsDerFault (T : Tables) (bytes : List ℕ) (fault : Told) : Type 0 where
+  pub has_fault : (behind : List ℕ) → DerFault (der_message T) (bytes ++ behind) (der_fault_of fault)
   pub no_cut : fault.rule ≢ DerTruncated
 
 -- why a checker does not go on
-abbrev pub Stops : Tables → List ℕ → InstanceError → Type 0
-Stops T bytes (Refused fault) = Shows T bytes fault
-Stops T bytes Memory = Unit {0}
+abbrev pub DerStops : Tables → List ℕ → InstanceError → Type 0
+DerStops T bytes (Refused fault) = ShowsDerFault T bytes fault
+DerStops T bytes Memory = Unit {0}
 
 -- why a reader stops at the front of these bytes
 abbrev pub StopsWithin : Tables → Decoder → List ℕ → Stop → Type 0
@@ -105,16 +105,16 @@ StopsWithin T d bytes (stop.Fault rule place added) =
 StopsWithin T d bytes stop.Memory = Unit {0}
 
 -- A front of the piece is taken, of so many bytes.
-pub record TakesFront (T : Tables) (old new : DerChecker) (piece : List ℕ) (result : Result ℕ Stop) : Type 0 where
-  pub ok : (bytes : List ℕ) → HasFed old T bytes → IfOk result (λ n. HasFed new T (bytes ++ take n piece))
-  pub err : (bytes : List ℕ) → HasFed old T bytes → IfErr result (λ stop. StopsWithin T new.decoder (bytes ++ piece) stop)
+pub record TakesDerFront (T : Tables) (old new : DerChecker) (piece : List ℕ) (result : Result ℕ Stop) : Type 0 where
+  pub ok : (bytes : List ℕ) → HasFedDer old T bytes → IfOk result (λ n. HasFedDer new T (bytes ++ take n piece))
+  pub err : (bytes : List ℕ) → HasFedDer old T bytes → IfErr result (λ stop. StopsWithin T new.decoder (bytes ++ piece) stop)
   pub within : IfOk result (λ n. n ≤ length piece)
 
 -- the bytes spell an instance
-abbrev pub IsSpelled : Tables → List ℕ → Type 0
-IsSpelled T bytes = (v : Value) × SpellsDer (der_message T) bytes v
+abbrev pub IsSpelledDer : Tables → List ℕ → Type 0
+IsSpelledDer T bytes = (v : Value) × SpellsDer (der_message T) bytes v
 
 -- why the bytes are refused at their end
-abbrev pub EndsAs : Tables → List ℕ → InstanceError → Type 0
-EndsAs T bytes (Refused fault) = DerFault (der_message T) bytes (fault_of fault)
-EndsAs T bytes Memory = Unit {0}
+abbrev pub DerEndsAs : Tables → List ℕ → InstanceError → Type 0
+DerEndsAs T bytes (Refused fault) = DerFault (der_message T) bytes (der_fault_of fault)
+DerEndsAs T bytes Memory = Unit {0}

@@ -25,7 +25,7 @@ added_text types added.Currency = codes "/@Ccy"
 added_text types added.Any = codes "/*"
 
 -- what is found of identifier octets is the answer of the definitions
-abbrev pub IsFound : Graph ℕ Simple → Found → states.Answer ℕ → Type 0
+abbrev pub IsFound : Graph ℕ Simple → Found → states.IdentifierAnswer ℕ → Type 0
 IsFound types (Begins n spot) (states.Begins k c) = (n ≡ k) × IsSpot types spot c.spot
 IsFound types (Breaks rule added) (states.Breaks r text) = (rule ≡ r) × (text ≡ added_text types added)
 IsFound types _ _ = ⊥

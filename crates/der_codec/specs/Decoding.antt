@@ -10,7 +10,7 @@ use Rattle.der_octets.specs.declared.tag_step.Identifier.{Identifier}
 use Rattle.der_codec.specs.declared.level.Spot.{Spot}
 use Rattle.der_codec.specs.declared.level.Spot.TheVariants as spots
 use Rattle.der_model.specs.States.{State, Start, AwaitsLength, AwaitsContents, Within, Part}
-use Rattle.der_model.specs.Faults.{Front, Next}
+use Rattle.der_model.specs.Faults.{DerFront, NextPart}
 use Rattle.der_model.specs.DerMessage.{DerMessage}
 use Rattle.der_codec.specs.Levels.{IsSpot, AreLevels, inwards}
 use Rattle.der_codec.specs.Components.{added_text}
@@ -25,18 +25,18 @@ use Rattle.der_codec.specs.declared.decoder.Stop.{Stop}
 use Rattle.der_codec.specs.declared.decoder.Stop.TheVariants as stop
 
 -- what is open is what the state says
-abbrev pub IsOpen : DerMessage ℕ → List Level → Due → State ℕ → Type 0
-IsOpen m levels (due.Tag step) Start = levels ≡ []
-IsOpen m levels (due.Tag step) (Within (l ∷ ls)) = AreLevels m.forms levels (l ∷ ls)
-IsOpen m levels (due.Length constructed spot step) (AwaitsLength b of names ls) = (constructed ≡ b) × IsSpot m.forms spot of × AreLevels m.forms levels ls
-IsOpen m levels (due.Contents spot left) (AwaitsContents of names count ls) = IsSpot m.forms spot of × AreLevels m.forms levels ls
-IsOpen m levels due.Over (Within []) = levels ≡ []
-IsOpen m levels _ _ = ⊥
+abbrev pub IsOpenState : DerMessage ℕ → List Level → Due → State ℕ → Type 0
+IsOpenState m levels (due.Tag step) Start = levels ≡ []
+IsOpenState m levels (due.Tag step) (Within (l ∷ ls)) = AreLevels m.forms levels (l ∷ ls)
+IsOpenState m levels (due.Length constructed spot step) (AwaitsLength b of names ls) = (constructed ≡ b) × IsSpot m.forms spot of × AreLevels m.forms levels ls
+IsOpenState m levels (due.Contents spot left) (AwaitsContents of names count ls) = IsSpot m.forms spot of × AreLevels m.forms levels ls
+IsOpenState m levels due.Over (Within []) = levels ≡ []
+IsOpenState m levels _ _ = ⊥
 
 -- the octets of the part that has begun
 abbrev pub IsBegun : Due → State ℕ → List ℕ → Type 0
-IsBegun (due.Tag step) state rest = tags.HasTaken step rest
-IsBegun (due.Length constructed spot step) state rest = lengths.HasTaken step rest
+IsBegun (due.Tag step) state rest = tags.HasTakenTag step rest
+IsBegun (due.Length constructed spot step) state rest = lengths.HasTakenLength step rest
 IsBegun (due.Contents spot left) (AwaitsContents of names count ls) rest = left + length rest ≡ count
 IsBegun (due.Contents spot left) state rest = ⊥
 IsBegun due.Over state rest = rest ≡ []
@@ -47,14 +47,14 @@ pub record Reads (m : DerMessage ℕ) (levels : List Level) (d : Due) (start pla
   pub state : State ℕ
   pub at : ℕ
   pub rest : List ℕ
-  pub front : Front m Start 0 bytes parts state at rest
-  pub is_open : IsOpen m levels d state
+  pub front : DerFront m Start 0 bytes parts state at rest
+  pub is_open : IsOpenState m levels d state
   pub is_begun : IsBegun d state rest
   pub start_is : start ≡ at
   pub place_is : place ≡ at + length rest
 
-abbrev pub HasRead : DerMessage ℕ → Decoder → List ℕ → Type 0
-HasRead m d bytes = Reads m (inwards d.levels.items) d.due d.start d.place bytes
+abbrev pub HasReadParts : DerMessage ℕ → Decoder → List ℕ → Type 0
+HasReadParts m d bytes = Reads m (inwards d.levels.items) d.due d.start d.place bytes
 
 -- the bytes have this fault, behind clean parts, where what is open is what the reader has
 pub record Fails (m : DerMessage ℕ) (levels : List Level) (d : Due) (bytes : List ℕ) (rule : Rule) (place : ℕ) (added : List ℕ) : Type 0 where
@@ -63,10 +63,10 @@ pub record Fails (m : DerMessage ℕ) (levels : List Level) (d : Due) (bytes : L
   pub at : ℕ
   pub rest : List ℕ
   pub off : ℕ
-  pub front : Front m Start 0 bytes parts state at rest
-  pub next : Next m state at rest rule off added
+  pub front : DerFront m Start 0 bytes parts state at rest
+  pub next : NextPart m state at rest rule off added
   pub place_is : place ≡ at + off
-  pub is_open : IsOpen m levels d state
+  pub is_open : IsOpenState m levels d state
 
 abbrev pub IsFault : DerMessage ℕ → Decoder → List ℕ → Rule → ℕ → List ℕ → Type 0
 IsFault m d bytes rule place added = Fails m (inwards d.levels.items) d.due bytes rule place added
@@ -75,13 +75,13 @@ abbrev pub IsStopped : DerMessage ℕ → Decoder → List ℕ → Stop → Type
 IsStopped m d bytes (stop.Fault rule place added) = IsFault m d bytes rule place (added_text m.forms added)
 IsStopped m d bytes stop.Memory = Unit {0}
 
-abbrev pub IsBelow : ℕ → Option ℕ → Type 0
-IsBelow place None = Unit {0}
-IsBelow place (Some end) = place < end
+abbrev pub IsBelowEnd : ℕ → Option ℕ → Type 0
+IsBelowEnd place None = Unit {0}
+IsBelowEnd place (Some end) = place < end
 
-abbrev pub IsPast : ℕ → Option ℕ → Type 0
-IsPast place None = ⊥
-IsPast place (Some end) = end ≤ place
+abbrev pub IsPastEnd : ℕ → Option ℕ → Type 0
+IsPastEnd place None = ⊥
+IsPastEnd place (Some end) = end ≤ place
 
 abbrev pub end_of_first : List Level → Option ℕ
 end_of_first [] = None
@@ -116,8 +116,8 @@ pub record IsAdvanced (old : Level) (number : ℕ) (new : Level) : Type 0 where
 
 -- within a value that is open where an octet of a header is awaited
 abbrev pub IsSettled : Due → ℕ → Option ℕ → Type 0
-IsSettled (due.Tag step) place end = (step.come ≡ 0 → ⊥) → IsBelow place end
-IsSettled (due.Length constructed spot step) place end = IsBelow place end
+IsSettled (due.Tag step) place end = (step.come ≡ 0 → ⊥) → IsBelowEnd place end
+IsSettled (due.Length constructed spot step) place end = IsBelowEnd place end
 IsSettled d place end = Unit {0}
 
 -- the identifier octets of a sequence
@@ -125,7 +125,7 @@ abbrev pub IsOutermost : Identifier → Type 0
 IsOutermost id = (id.constructed ≡ true) × (tags.tag_view id ≡ universal 16)
 
 abbrev pub AwaitsInstance : Due → Type 0
-AwaitsInstance (due.Length constructed spot step) = (constructed ≡ true) × (spot ≡ spots.Instance) × lengths.HasTaken step []
+AwaitsInstance (due.Length constructed spot step) = (constructed ≡ true) × (spot ≡ spots.Instance) × lengths.HasTakenLength step []
 AwaitsInstance _ = ⊥
 
 -- with the octet these are the identifier octets
@@ -134,9 +134,9 @@ HasIdentifier (due.Tag step) rest octet id = IsShortTag (tags.tag_view id) × (r
 HasIdentifier _ rest octet id = ⊥
 
 -- with the octet these are the length octets of the value
-abbrev pub HasLength : Due → Bool → Spot → List ℕ → ℕ → ℕ → Type 0
-HasLength (due.Length constructed spot step) c s rest octet n = (constructed ≡ c) × (spot ≡ s) × IsShortLength n × (rest ++ octet ∷ [] ≡ length_octets n)
-HasLength _ c s rest octet n = ⊥
+abbrev pub HasLengthOctets : Due → Bool → Spot → List ℕ → ℕ → ℕ → Type 0
+HasLengthOctets (due.Length constructed spot step) c s rest octet n = (constructed ≡ c) × (spot ≡ s) × IsShortLength n × (rest ++ octet ∷ [] ≡ length_octets n)
+HasLengthOctets _ c s rest octet n = ⊥
 
 abbrev pub level_at : Spot → ℕ → Level
 level_at spot end = record { spot = spot; next = 0; count = 0; end = end }
@@ -156,16 +156,16 @@ IsOver due.Over = Unit {0}
 IsOver _ = ⊥
 
 -- an octet is awaited within what is open, or the instance has ended
-abbrev pub IsReady : Due → ℕ → Option ℕ → Type 0
-IsReady due.Over place end = Unit {0}
-IsReady (due.Contents spot left) place end = ⊥
-IsReady d place end = IsBelow place end
+abbrev pub IsOctetAwaited : Due → ℕ → Option ℕ → Type 0
+IsOctetAwaited due.Over place end = Unit {0}
+IsOctetAwaited (due.Contents spot left) place end = ⊥
+IsOctetAwaited d place end = IsBelowEnd place end
 
 -- the reader waits for an octet, or the instance has ended
 abbrev pub IsWaiting : Due → ℕ → Option ℕ → Type 0
 IsWaiting (due.Contents spot left) place end = 0 < left
 IsWaiting due.Over place end = Unit {0}
-IsWaiting d place end = IsBelow place end
+IsWaiting d place end = IsBelowEnd place end
 
 -- no more values can be opened without memory
 abbrev pub IsFull : Vec Level → Type 0

@@ -10,7 +10,7 @@ use Rattle.der_model.specs.States as states
 use Rattle.der_model.specs.States.{State, Start, AwaitsLength, AwaitsContents, Within}
 use Rattle.der_model.specs.ShownPieces.{PartsShow, begin_each, end_each, last_elements, elements_ended}
 use Rattle.der_model.specs.NestedPieces.{elements_around}
-use Rattle.der_codec.specs.Decoding.{Reads, HasRead}
+use Rattle.der_codec.specs.Decoding.{Reads, HasReadParts}
 use Rattle.der_codec.specs.Judging.{HoldsLeaf}
 use Rattle.der_codec.specs.Levels.{IsSpot, IsLevel, inwards}
 use Rattle.der_codec.specs.declared.decoder.Decoder.{Decoder}
@@ -27,10 +27,10 @@ abbrev pub KeepsShown : DerMessage ℕ → Decoder → Option Region → List �
 KeepsShown m d kept bytes = Shows m (inwards d.levels.items) d.due d.start d.place kept bytes
 
 -- where pieces are kept, these come behind them
-abbrev pub GoOn : Option Region → Option Region → List Piece → Type 0
-GoOn None None more = Unit {0}
-GoOn (Some old) (Some new) more = new.pieces ≡ old.pieces ++ more
-GoOn _ _ more = ⊥
+abbrev pub PiecesGoOn : Option Region → Option Region → List Piece → Type 0
+PiecesGoOn None None more = Unit {0}
+PiecesGoOn (Some old) (Some new) more = new.pieces ≡ old.pieces ++ more
+PiecesGoOn _ _ more = ⊥
 
 -- where pieces are kept, these elements are open behind them, the innermost first
 abbrev pub AreOpen : Option Region → List Edge → Type 0
@@ -43,7 +43,7 @@ AreNone None = Unit {0}
 AreNone (Some kept) = kept.pieces ≡ []
 
 -- the constructed values that are open, the innermost first
-abbrev pub around_of : {P : Type 0} → State P → List (states.Level P)
+abbrev pub around_of : {P : Type 0} → State P → List (states.DerLevel P)
 around_of Start = []
 around_of (AwaitsLength constructed spot names around) = around
 around_of (AwaitsContents spot names count around) = around
@@ -60,11 +60,11 @@ HoldsLeafAt m spot octets leaf = (of : structures.Spot ℕ) → IsSpot m.forms s
 
 -- the leaf of the octets comes behind the pieces that are kept
 abbrev pub GoesOnByLeaf : DerMessage ℕ → Spot → List ℕ → Option Region → Option Region → Type 0
-GoesOnByLeaf m spot octets old new = (leaf : Leaf) × HoldsLeafAt m spot octets leaf × GoOn old new (Holds leaf ∷ [])
+GoesOnByLeaf m spot octets old new = (leaf : Leaf) × HoldsLeafAt m spot octets leaf × PiecesGoOn old new (Holds leaf ∷ [])
 
 -- the elements that began with the last component of the value at this level
 abbrev pub AreLast : DerMessage ℕ → Level → List Edge → Type 0
-AreLast m around edges = (l : states.Level ℕ) → IsLevel m.forms around l → edges ≡ last_elements m l.spot l.came
+AreLast m around edges = (l : states.DerLevel ℕ) → IsLevel m.forms around l → edges ≡ last_elements m l.spot l.came
 
 -- behind pieces the elements begin of the last component of the value at this level
 abbrev pub ShowsBegun : DerMessage ℕ → Level → List Piece → List Piece → Type 0
@@ -92,6 +92,6 @@ GoesOnByLast m around spot octets old new = (leaf : Leaf) × HoldsLeafAt m spot 
 -- These bytes were read, the last of which are the contents of a leaf. It is the last piece that is kept: the elements are open that are round it, and with
 -- the ends of those that end with it the pieces are those that are shown.
 pub record EndsLeaf (m : DerMessage ℕ) (d : Decoder) (kept : Option Region) (bytes : List ℕ) : Type 0 where
-  pub read : HasRead m d bytes
-  pub around : (r : HasRead m d bytes) → AreOpen kept (elements_around m (around_of r.state))
-  pub closes : (new : Option Region) → ((r : HasRead m d bytes) → GoOn kept new (end_each (elements_ended m (around_of r.state)))) → KeepsShown m d new bytes
+  pub read : HasReadParts m d bytes
+  pub around : (r : HasReadParts m d bytes) → AreOpen kept (elements_around m (around_of r.state))
+  pub closes : (new : Option Region) → ((r : HasReadParts m d bytes) → PiecesGoOn kept new (end_each (elements_ended m (around_of r.state)))) → KeepsShown m d new bytes

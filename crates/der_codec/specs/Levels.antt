@@ -18,14 +18,14 @@ IsSpot types (spot.List p k) of = (s : graph.Slot ℕ) × (slice_get (form_slots
 IsSpot types (spot.Number p) of = of ≡ structures.NumberOf p
 
 -- the level stands for an open value
-pub record IsLevel (types : Graph ℕ Simple) (x : Level) (l : states.Level ℕ) : Type 0 where
+pub record IsLevel (types : Graph ℕ Simple) (x : Level) (l : states.DerLevel ℕ) : Type 0 where
   pub spot : IsSpot types x.spot l.spot
   pub next : x.next ≡ next_number l.came
   pub count : x.count ≡ length l.came
   pub end : x.end ≡ l.end
 
 -- levels from the innermost one on
-abbrev pub AreLevels : Graph ℕ Simple → List Level → List (states.Level ℕ) → Type 0
+abbrev pub AreLevels : Graph ℕ Simple → List Level → List (states.DerLevel ℕ) → Type 0
 AreLevels types [] [] = Unit {0}
 AreLevels types (x ∷ xs) (l ∷ ls) = IsLevel types x l × AreLevels types xs ls
 AreLevels types _ _ = ⊥

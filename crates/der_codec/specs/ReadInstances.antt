@@ -6,24 +6,24 @@ use Rattle.message_model.specs.Tables.{Tables, pieces_of}
 use Rattle.message_model.specs.declared.fault.InstanceError.{InstanceError}
 use Rattle.der_model.specs.DerMessage.{der_message}
 use Rattle.der_model.specs.Der.{SpellsDer}
-use Rattle.der_codec.specs.Checking.{HasFed, IsMadeFor, IsFreed, fed, failed, held, token_held}
+use Rattle.der_codec.specs.Checking.{HasFedDer, IsDerCheckerFor, IsFreed, der_bytes_fed, der_failure, held_contents, token_held}
 use Rattle.der_codec.specs.declared.reader.DerReader.{DerReader}
 
 -- The reader goes on: it was given these bytes, which break nothing so far, and keeps the pieces that they show.
-pub record HasKept (reader : DerReader) (T : Tables) (bytes : List ℕ) : Type 0 where
-  pub given : HasFed reader.checker T bytes
+pub record HasKeptPieces (reader : DerReader) (T : Tables) (bytes : List ℕ) : Type 0 where
+  pub given : HasFedDer reader.checker T bytes
 
 -- how many bytes the reader was given
 abbrev pub read_so_far : DerReader → ℕ
-read_so_far reader = fed reader.checker
+read_so_far reader = der_bytes_fed reader.checker
 
 -- the answer that it gives for good, where there is one
-abbrev pub refused : DerReader → Option InstanceError
-refused reader = failed reader.checker
+abbrev pub der_reader_failure : DerReader → Option InstanceError
+der_reader_failure reader = der_failure reader.checker
 
 -- how many octets it keeps of the contents that are due
 abbrev pub reader_held : DerReader → ℕ
-reader_held reader = held reader.checker
+reader_held reader = held_contents reader.checker
 
 -- how many octets of a header have come, where more of them are due
 abbrev pub reader_token_held : DerReader → ℕ
@@ -34,9 +34,9 @@ abbrev pub IsReaderFreed : DerReader → Type 0
 IsReaderFreed reader = IsFreed reader.checker
 
 -- the reader was made for the message of these tables
-abbrev pub IsReaderFor : DerReader → Tables → Type 0
-IsReaderFor reader T = IsMadeFor reader.checker T
+abbrev pub IsDerReaderFor : DerReader → Tables → Type 0
+IsDerReaderFor reader T = IsDerCheckerFor reader.checker T
 
 -- the bytes spell an instance that has these pieces
-abbrev pub IsRead : Tables → List ℕ → List Piece → Type 0
-IsRead T bytes shown = (v : Value) × SpellsDer (der_message T) bytes v × (shown ≡ pieces_of fragment T v)
+abbrev pub IsSpelledDerAs : Tables → List ℕ → List Piece → Type 0
+IsSpelledDerAs T bytes shown = (v : Value) × SpellsDer (der_message T) bytes v × (shown ≡ pieces_of fragment T v)

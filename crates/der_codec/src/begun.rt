@@ -1,8 +1,8 @@
 // The component that begins at a place, where it is of the usual form: a header of one identifier octet and one length octet.
 ghost use Rattle.std.specs.Prelude.{◌≡◌, ◌+◌, ◌<◌, ◌≤◌, ◌^◌, ℕ, List, IfSome, length};
 ghost use Rattle.der_model.specs.DerMessage.{der_message};
-ghost use Rattle.der_codec.specs.Decoding.{HasRead, HasIdentifier, IsBelow, IsWaiting, end_of_levels};
-ghost use Rattle.der_codec.specs.inner.Entering.{HasBegun};
+ghost use Rattle.der_codec.specs.Decoding.{HasReadParts, HasIdentifier, IsBelowEnd, IsWaiting, end_of_levels};
+ghost use Rattle.der_codec.specs.inner.Entering.{HasBegunComponent};
 
 use crate::components::{Found, identify};
 use crate::decoder::{Decoder, Due};
@@ -29,9 +29,9 @@ impl Decoder {
     pub(crate) fn begun(&self, model: &Model, first: u8, second: u8) -> Option<Begun>
         requires room { self.now.place + 2 ≤ 2 ^ 40 }
         requires waits { IsWaiting self.now.due self.now.place (end_of_levels self.now.levels.items) }
-        requires read { (bytes : List ℕ) × HasRead (der_message model.now) self.now bytes }
+        requires read { (bytes : List ℕ) × HasReadParts (der_message model.now) self.now bytes }
         ensures some { IfSome result (λ _. 0 < length self.now.levels.items) }
-        ensures begun { (bytes : List ℕ) → HasRead (der_message model.now) self.now bytes → IfSome result (λ b. HasBegun (der_message model.now) self.now bytes first second b) }
+        ensures begun { (bytes : List ℕ) → HasReadParts (der_message model.now) self.now bytes → IfSome result (λ b. HasBegunComponent (der_message model.now) self.now bytes first second b) }
     {
         match self.due {
             Due::Tag(step) => self.begun_under(model, step, first, second),
@@ -44,10 +44,10 @@ impl Decoder {
     fn begun_under(&self, model: &Model, step: TagStep, first: u8, second: u8) -> Option<Begun>
         requires room { self.now.place + 2 ≤ 2 ^ 40 }
         requires due { self.now.due ≡ Due.Tag step }
-        requires low { IsBelow self.now.place (end_of_levels self.now.levels.items) }
-        requires read { (bytes : List ℕ) × HasRead (der_message model.now) self.now bytes }
+        requires low { IsBelowEnd self.now.place (end_of_levels self.now.levels.items) }
+        requires read { (bytes : List ℕ) × HasReadParts (der_message model.now) self.now bytes }
         ensures some { IfSome result (λ _. 0 < length self.now.levels.items) }
-        ensures begun { (bytes : List ℕ) → HasRead (der_message model.now) self.now bytes → IfSome result (λ b. HasBegun (der_message model.now) self.now bytes first second b) }
+        ensures begun { (bytes : List ℕ) → HasReadParts (der_message model.now) self.now bytes → IfSome result (λ b. HasBegunComponent (der_message model.now) self.now bytes first second b) }
     {
         if second >= 128 {
             return None;
@@ -64,10 +64,10 @@ impl Decoder {
     fn begun_as(&self, model: &Model, id: Identifier, first: u8, second: u8) -> Option<Begun>
         requires room { self.now.place + 2 ≤ 2 ^ 40 }
         requires short { second < 128 }
-        requires low { IsBelow self.now.place (end_of_levels self.now.levels.items) }
-        requires read { (bytes : List ℕ) × HasRead (der_message model.now) self.now bytes }
+        requires low { IsBelowEnd self.now.place (end_of_levels self.now.levels.items) }
+        requires read { (bytes : List ℕ) × HasReadParts (der_message model.now) self.now bytes }
         ensures some { IfSome result (λ _. 0 < length self.now.levels.items) }
-        ensures begun { (bytes : List ℕ) (r : HasRead (der_message model.now) self.now bytes) → HasIdentifier self.now.due r.rest first id → IfSome result (λ b. HasBegun (der_message model.now) self.now bytes first second b) }
+        ensures begun { (bytes : List ℕ) (r : HasReadParts (der_message model.now) self.now bytes) → HasIdentifier self.now.due r.rest first id → IfSome result (λ b. HasBegunComponent (der_message model.now) self.now bytes first second b) }
     {
         let _ = first;
         match self.innermost() {

@@ -3,12 +3,12 @@ ghost use Rattle.std.specs.Prelude.{◌≡◌, ◌<◌, ◌+◌, ◌≤◌, ◌^
 ghost use Rattle.message_model.specs.Tables.{Tables, types_of};
 ghost use Rattle.der_model.specs.DerMessage.{der_message};
 ghost use Rattle.der_codec.specs.Checked.{CheckTypes};
-ghost use Rattle.der_codec.specs.ReadInstances.{IsRead};
-ghost use Rattle.der_codec.specs.Decoding.{HasRead, IsStopped, IsSettled, IsFresh, BeginsContents, IsHeaderDue, end_of_levels};
+ghost use Rattle.der_codec.specs.ReadInstances.{IsSpelledDerAs};
+ghost use Rattle.der_codec.specs.Decoding.{HasReadParts, IsStopped, IsSettled, IsFresh, BeginsContents, IsHeaderDue, end_of_levels};
 ghost use Rattle.der_codec.specs.KeptPieces.{KeepsShown, AreNone};
 ghost use Rattle.der_codec.specs.Limits.{open_limit, leaf_come, token_come};
 ghost use Rattle.facets.specs.LeafChecks.{IsHeldWithin};
-ghost use Rattle.der_codec.specs.Checking.{HasFed, IsReading, IsMadeFor, StopsWithin, TakesFront, Stops, IsSpelled, EndsAs, IsFreed, open_count, fed, failed, held, token_held};
+ghost use Rattle.der_codec.specs.Checking.{HasFedDer, IsReading, IsDerCheckerFor, StopsWithin, TakesDerFront, DerStops, IsSpelledDer, DerEndsAs, IsFreed, open_count, der_bytes_fed, der_failure, held_contents, token_held};
 ghost use Rattle.message_model.specs.Errors.{IsSameOrMemory, IsAgain};
 
 use crate::checks::Checks;
@@ -36,9 +36,9 @@ pub struct DerChecker {
 impl DerChecker {
     /// A checker for the message before the first byte. It takes no memory.
     pub fn new(alloc: Global, model: &Model) -> Result<DerChecker, AllocError>
-        ensures fed { IfOk result (λ c. HasFed c model.now []) }
-        ensures made { IfOk result (λ c. IsMadeFor c model.now) }
-        ensures none { IfOk result (λ c. fed c ≡ 0) }
+        ensures fed { IfOk result (λ c. HasFedDer c model.now []) }
+        ensures made { IfOk result (λ c. IsDerCheckerFor c model.now) }
+        ensures none { IfOk result (λ c. der_bytes_fed c ≡ 0) }
     {
         let _ = model;
         Ok(DerChecker::start(alloc, None))
@@ -46,9 +46,9 @@ impl DerChecker {
 
     /// The same of one that keeps the pieces of what has come.
     pub(crate) fn with_pieces(alloc: Global, model: &Model) -> Result<DerChecker, AllocError>
-        ensures fed { IfOk result (λ c. HasFed c model.now []) }
-        ensures made { IfOk result (λ c. IsMadeFor c model.now) }
-        ensures none { IfOk result (λ c. fed c ≡ 0) }
+        ensures fed { IfOk result (λ c. HasFedDer c model.now []) }
+        ensures made { IfOk result (λ c. IsDerCheckerFor c model.now) }
+        ensures none { IfOk result (λ c. der_bytes_fed c ≡ 0) }
     {
         let _ = model;
         Ok(DerChecker::start(alloc, Some(Builder::new(alloc))))
@@ -57,9 +57,9 @@ impl DerChecker {
     /// A checker before the first byte, with these pieces, of which there are none yet.
     fn start(alloc: Global, pieces: Option<Builder>) -> DerChecker
         requires { AreNone pieces }
-        ensures fed { (T : Tables) → HasFed result T [] }
-        ensures made { (T : Tables) → IsMadeFor result T }
-        ensures none { fed result ≡ 0 }
+        ensures fed { (T : Tables) → HasFedDer result T [] }
+        ensures made { (T : Tables) → IsDerCheckerFor result T }
+        ensures none { der_bytes_fed result ≡ 0 }
     {
         DerChecker {
             alloc,
@@ -73,7 +73,7 @@ impl DerChecker {
 
     /// How many values and lists have begun and not ended.
     pub fn depth(&self) -> usize
-        ensures { (T : Tables) (bytes : List ℕ) (h : HasFed self.now T bytes) → result ≡ open_count h.reading.read.state }
+        ensures { (T : Tables) (bytes : List ℕ) (h : HasFedDer self.now T bytes) → result ≡ open_count h.reading.read.state }
     {
         self.decoder.depth()
     }
@@ -82,8 +82,8 @@ impl DerChecker {
     /// due. At most four are held for each that has come, within the limit of the leaf, and 64. Its check begins
     /// when all have come, and holds nothing before. None are held after an error.
     pub fn scratch(&self) -> u64
-        ensures count { result ≡ held self.now }
-        ensures bound { (T : Tables) (bytes : List ℕ) (h : HasFed self.now T bytes)
+        ensures count { result ≡ held_contents self.now }
+        ensures bound { (T : Tables) (bytes : List ℕ) (h : HasFedDer self.now T bytes)
             → IsHeldWithin (open_limit (der_message T) h.reading.read.state) (leaf_come h.reading.read.state h.reading.read.rest) result }
     {
         self.kept.len() as u64
@@ -93,9 +93,9 @@ impl DerChecker {
     /// after an error.
     pub fn token(&self) -> u64
         ensures count { result ≡ token_held self.now }
-        ensures come { (T : Tables) (bytes : List ℕ) (h : HasFed self.now T bytes)
+        ensures come { (T : Tables) (bytes : List ℕ) (h : HasFedDer self.now T bytes)
             → result ≡ token_come h.reading.read.state h.reading.read.rest }
-        ensures bound { (T : Tables) (bytes : List ℕ) → HasFed self.now T bytes → result ≤ 8 }
+        ensures bound { (T : Tables) (bytes : List ℕ) → HasFedDer self.now T bytes → result ≤ 8 }
     {
         self.decoder.header_come()
     }
@@ -104,14 +104,14 @@ impl DerChecker {
     /// shows it, its place a byte number from 0. After an error it gives the same answer to every
     /// later call, or that there is no memory for it, and holds nothing of what has come.
     pub fn feed(&mut self, model: &Model, piece: &[u8]) -> Result<(), InstanceError>
-        requires room { failed self.old ≡ None → fed self.old + length piece.now ≤ 2 ^ 40 }
-        requires made { IsMadeFor self.old model.now }
-        ensures made { IsMadeFor self.new model.now }
-        ensures ok { (bytes : List ℕ) → HasFed self.old model.now bytes → IfOk result (λ _. HasFed self.new model.now (bytes ++ piece.now)) }
-        ensures err { (bytes : List ℕ) → HasFed self.old model.now bytes → IfErr result (λ e. Stops model.now (bytes ++ piece.now) e) }
-        ensures count { IfOk result (λ _. fed self.new ≡ fed self.old + length piece.now) }
-        ensures failed { failed self.old ≡ None → IfErr result (λ e. failed self.new ≡ Some e) }
-        ensures again { (e : InstanceError) → failed self.old ≡ Some e → IsAgain e result × (failed self.new ≡ failed self.old) }
+        requires room { der_failure self.old ≡ None → der_bytes_fed self.old + length piece.now ≤ 2 ^ 40 }
+        requires made { IsDerCheckerFor self.old model.now }
+        ensures made { IsDerCheckerFor self.new model.now }
+        ensures ok { (bytes : List ℕ) → HasFedDer self.old model.now bytes → IfOk result (λ _. HasFedDer self.new model.now (bytes ++ piece.now)) }
+        ensures err { (bytes : List ℕ) → HasFedDer self.old model.now bytes → IfErr result (λ e. DerStops model.now (bytes ++ piece.now) e) }
+        ensures count { IfOk result (λ _. der_bytes_fed self.new ≡ der_bytes_fed self.old + length piece.now) }
+        ensures failed { der_failure self.old ≡ None → IfErr result (λ e. der_failure self.new ≡ Some e) }
+        ensures again { (e : InstanceError) → der_failure self.old ≡ Some e → IsAgain e result × (der_failure self.new ≡ der_failure self.old) }
         ensures freed { IfErr result (λ _. IsFreed self.new) }
     {
         if let Some(error) = &self.failed {
@@ -132,7 +132,7 @@ impl DerChecker {
     /// Goes on no more, holds nothing of what has come, and keeps why; where there is no memory for that, the error is that.
     fn stop(&mut self, error: InstanceError) -> InstanceError
         ensures same { IsSameOrMemory error result }
-        ensures kept { failed self.new ≡ Some result }
+        ensures kept { der_failure self.new ≡ Some result }
         ensures checks { self.new.checks ≡ self.old.checks }
         ensures freed { IsFreed self.new }
     {
@@ -161,8 +161,8 @@ impl DerChecker {
 
     /// Why the reader stops, as it is told.
     fn told(&self, model: &Model, stop: Stop) -> InstanceError
-        ensures within { (bytes : List ℕ) → StopsWithin model.now self.now.decoder bytes stop → Stops model.now bytes result }
-        ensures end { (bytes : List ℕ) → IsStopped (der_message model.now) self.now.decoder bytes stop → EndsAs model.now bytes result }
+        ensures within { (bytes : List ℕ) → StopsWithin model.now self.now.decoder bytes stop → DerStops model.now bytes result }
+        ensures end { (bytes : List ℕ) → IsStopped (der_message model.now) self.now.decoder bytes stop → DerEndsAs model.now bytes result }
     {
         match stop {
             Stop::Memory => InstanceError::Memory,
@@ -177,12 +177,12 @@ impl DerChecker {
 
     /// Takes the next bytes, where nothing was refused.
     fn feed_all(&mut self, model: &Model, piece: &[u8]) -> Result<(), Stop>
-        requires room { fed self.old + length piece.now ≤ 2 ^ 40 }
+        requires room { der_bytes_fed self.old + length piece.now ≤ 2 ^ 40 }
         requires checks { CheckTypes (types_of model.now) self.old.checks }
-        requires given { (bytes : List ℕ) × HasFed self.old model.now bytes }
+        requires given { (bytes : List ℕ) × HasFedDer self.old model.now bytes }
         ensures checks { CheckTypes (types_of model.now) self.new.checks }
-        ensures ok { (bytes : List ℕ) → HasFed self.old model.now bytes → IfOk result (λ _. HasFed self.new model.now (bytes ++ piece.now)) }
-        ensures err { (bytes : List ℕ) → HasFed self.old model.now bytes → IfErr result (λ stop. StopsWithin model.now self.new.decoder (bytes ++ piece.now) stop) }
+        ensures ok { (bytes : List ℕ) → HasFedDer self.old model.now bytes → IfOk result (λ _. HasFedDer self.new model.now (bytes ++ piece.now)) }
+        ensures err { (bytes : List ℕ) → HasFedDer self.old model.now bytes → IfErr result (λ stop. StopsWithin model.now self.new.decoder (bytes ++ piece.now) stop) }
     {
         let mut rest = piece;
         while !rest.is_empty() {
@@ -201,11 +201,11 @@ impl DerChecker {
     /// are.
     fn take_front(&mut self, model: &Model, piece: &[u8]) -> Result<usize, Stop>
         requires some { 0 < length piece.now }
-        requires room { fed self.old + length piece.now ≤ 2 ^ 40 }
+        requires room { der_bytes_fed self.old + length piece.now ≤ 2 ^ 40 }
         requires checks { CheckTypes (types_of model.now) self.old.checks }
-        requires given { (bytes : List ℕ) × HasFed self.old model.now bytes }
+        requires given { (bytes : List ℕ) × HasFedDer self.old model.now bytes }
         ensures checks { CheckTypes (types_of model.now) self.new.checks }
-        ensures front { TakesFront model.now self.old self.new piece.now result }
+        ensures front { TakesDerFront model.now self.old self.new piece.now result }
         ensures some { IfOk result (λ n. 0 < n) }
     {
         match self.decoder.due {
@@ -220,12 +220,12 @@ impl DerChecker {
     #[inline(always)]
     fn take_header(&mut self, model: &Model, piece: &[u8]) -> Result<usize, Stop>
         requires some { 0 < length piece.now }
-        requires room { fed self.old + length piece.now ≤ 2 ^ 40 }
+        requires room { der_bytes_fed self.old + length piece.now ≤ 2 ^ 40 }
         requires due { IsHeaderDue self.old.decoder.due }
         requires checks { CheckTypes (types_of model.now) self.old.checks }
-        requires given { (bytes : List ℕ) × HasFed self.old model.now bytes }
+        requires given { (bytes : List ℕ) × HasFedDer self.old model.now bytes }
         ensures checks { CheckTypes (types_of model.now) self.new.checks }
-        ensures front { TakesFront model.now self.old self.new piece.now result }
+        ensures front { TakesDerFront model.now self.old self.new piece.now result }
         ensures some { IfOk result (λ n. 0 < n) }
     {
         if self.pieces.is_some() {
@@ -246,9 +246,9 @@ impl DerChecker {
     #[inline(always)]
     fn take_run(&mut self, model: &Model, piece: &[u8]) -> usize
         requires alone { self.old.pieces ≡ None }
-        requires room { fed self.old + length piece.now ≤ 2 ^ 40 }
+        requires room { der_bytes_fed self.old + length piece.now ≤ 2 ^ 40 }
         requires checks { CheckTypes (types_of model.now) self.old.checks }
-        requires given { (bytes : List ℕ) × HasFed self.old model.now bytes }
+        requires given { (bytes : List ℕ) × HasFedDer self.old model.now bytes }
         ensures checks { CheckTypes (types_of model.now) self.new.checks }
         ensures unchanged { result ≡ 0 → self.new.decoder ≡ self.old.decoder }
         ensures kept { self.new.kept ≡ self.old.kept }
@@ -256,7 +256,7 @@ impl DerChecker {
         ensures sound { self.new.failed ≡ self.old.failed }
         ensures none { 0 < result → self.new.pieces ≡ None }
         ensures within { result ≤ length piece.now }
-        ensures ok { (bytes : List ℕ) → HasRead (der_message model.now) self.old.decoder bytes → HasRead (der_message model.now) self.new.decoder (bytes ++ take result piece.now) }
+        ensures ok { (bytes : List ℕ) → HasReadParts (der_message model.now) self.old.decoder bytes → HasReadParts (der_message model.now) self.new.decoder (bytes ++ take result piece.now) }
         ensures fresh { 0 < result → IsFresh self.new.decoder.due }
     {
         self.decoder.take_run(&mut self.checks, model, piece)
@@ -267,12 +267,12 @@ impl DerChecker {
     #[inline(never)]
     pub(crate) fn take_first(&mut self, model: &Model, piece: &[u8]) -> Result<usize, Stop>
         requires some { 0 < length piece.now }
-        requires room { fed self.old + length piece.now ≤ 2 ^ 40 }
+        requires room { der_bytes_fed self.old + length piece.now ≤ 2 ^ 40 }
         requires due { IsHeaderDue self.old.decoder.due }
         requires checks { CheckTypes (types_of model.now) self.old.checks }
-        requires given { (bytes : List ℕ) × HasFed self.old model.now bytes }
+        requires given { (bytes : List ℕ) × HasFedDer self.old model.now bytes }
         ensures checks { CheckTypes (types_of model.now) self.new.checks }
-        ensures front { TakesFront model.now self.old self.new piece.now result }
+        ensures front { TakesDerFront model.now self.old self.new piece.now result }
         ensures some { IfOk result (λ n. 0 < n) }
     {
         let Some((byte, behind)) = piece.split_first() else {
@@ -290,17 +290,17 @@ impl DerChecker {
     /// Goes on behind a byte of a header: takes a length of one byte, where one is due, and contents that stand here as
     /// a whole, and ends the values that end behind them. It answers how many bytes more are taken.
     fn take_behind(&mut self, model: &Model, behind: &[u8]) -> Result<usize, Stop>
-        requires room { fed self.old + length behind.now ≤ 2 ^ 40 }
+        requires room { der_bytes_fed self.old + length behind.now ≤ 2 ^ 40 }
         requires settled { IsSettled self.old.decoder.due self.old.decoder.place (end_of_levels self.old.decoder.levels.items) }
         requires begun { BeginsContents self.old.decoder.due self.old.decoder.start self.old.decoder.place }
         requires kept { self.old.kept.items ≡ [] }
         requires checks { CheckTypes (types_of model.now) self.old.checks }
-        requires given { (bytes : List ℕ) × HasRead (der_message model.now) self.old.decoder bytes × KeepsShown (der_message model.now) self.old.decoder self.old.pieces bytes }
+        requires given { (bytes : List ℕ) × HasReadParts (der_message model.now) self.old.decoder bytes × KeepsShown (der_message model.now) self.old.decoder self.old.pieces bytes }
         ensures checks { CheckTypes (types_of model.now) self.new.checks }
         ensures sound { self.new.failed ≡ self.old.failed }
         ensures within { IfOk result (λ n. n ≤ length behind.now) }
-        ensures ok { (bytes : List ℕ) → HasRead (der_message model.now) self.old.decoder bytes → KeepsShown (der_message model.now) self.old.decoder self.old.pieces bytes → IfOk result (λ n. IsReading model.now self.new.decoder self.new.kept.items self.new.pieces (bytes ++ take n behind.now)) }
-        ensures err { (bytes : List ℕ) → HasRead (der_message model.now) self.old.decoder bytes → IfErr result (λ stop. StopsWithin model.now self.new.decoder (bytes ++ behind.now) stop) }
+        ensures ok { (bytes : List ℕ) → HasReadParts (der_message model.now) self.old.decoder bytes → KeepsShown (der_message model.now) self.old.decoder self.old.pieces bytes → IfOk result (λ n. IsReading model.now self.new.decoder self.new.kept.items self.new.pieces (bytes ++ take n behind.now)) }
+        ensures err { (bytes : List ℕ) → HasReadParts (der_message model.now) self.old.decoder bytes → IfErr result (λ stop. StopsWithin model.now self.new.decoder (bytes ++ behind.now) stop) }
     {
         match self.decoder.take_short(behind) {
             Ok(count) => {
@@ -322,13 +322,13 @@ impl DerChecker {
         requires begun { BeginsContents self.old.decoder.due self.old.decoder.start self.old.decoder.place }
         requires kept { self.old.kept.items ≡ [] }
         requires checks { CheckTypes (types_of model.now) self.old.checks }
-        requires room { fed self.old + length behind.now ≤ 2 ^ 40 }
-        requires given { (bytes : List ℕ) × HasRead (der_message model.now) self.old.decoder bytes × KeepsShown (der_message model.now) self.old.decoder self.old.pieces bytes }
+        requires room { der_bytes_fed self.old + length behind.now ≤ 2 ^ 40 }
+        requires given { (bytes : List ℕ) × HasReadParts (der_message model.now) self.old.decoder bytes × KeepsShown (der_message model.now) self.old.decoder self.old.pieces bytes }
         ensures checks { CheckTypes (types_of model.now) self.new.checks }
         ensures sound { self.new.failed ≡ self.old.failed }
         ensures within { IfOk result (λ n. n ≤ length behind.now) }
-        ensures ok { (bytes : List ℕ) → HasRead (der_message model.now) self.old.decoder bytes → KeepsShown (der_message model.now) self.old.decoder self.old.pieces bytes → IfOk result (λ n. IsReading model.now self.new.decoder self.new.kept.items self.new.pieces (bytes ++ take n behind.now)) }
-        ensures err { (bytes : List ℕ) → HasRead (der_message model.now) self.old.decoder bytes → IfErr result (λ stop. StopsWithin model.now self.new.decoder (bytes ++ behind.now) stop) }
+        ensures ok { (bytes : List ℕ) → HasReadParts (der_message model.now) self.old.decoder bytes → KeepsShown (der_message model.now) self.old.decoder self.old.pieces bytes → IfOk result (λ n. IsReading model.now self.new.decoder self.new.kept.items self.new.pieces (bytes ++ take n behind.now)) }
+        ensures err { (bytes : List ℕ) → HasReadParts (der_message model.now) self.old.decoder bytes → IfErr result (λ stop. StopsWithin model.now self.new.decoder (bytes ++ behind.now) stop) }
     {
         match self.decoder.due {
             Due::Contents { spot, left } => self.begin_contents(model, spot, left, behind),
@@ -342,9 +342,9 @@ impl DerChecker {
     /// The end of the bytes: they spell an instance, or have a first fault. After an error of `feed`
     /// it gives the same.
     pub fn finish(mut self, model: &Model) -> Result<(), InstanceError>
-        ensures ok { (bytes : List ℕ) → HasFed self model.now bytes → IfOk result (λ _. IsSpelled model.now bytes) }
-        ensures err { (bytes : List ℕ) → HasFed self model.now bytes → IfErr result (λ e. EndsAs model.now bytes e) }
-        ensures again { (e : InstanceError) → failed self ≡ Some e → result ≡ Err e }
+        ensures ok { (bytes : List ℕ) → HasFedDer self model.now bytes → IfOk result (λ _. IsSpelledDer model.now bytes) }
+        ensures err { (bytes : List ℕ) → HasFedDer self model.now bytes → IfErr result (λ e. DerEndsAs model.now bytes e) }
+        ensures again { (e : InstanceError) → der_failure self ≡ Some e → result ≡ Err e }
     {
         if let Some(error) = self.failed.take() {
             return Err(error);
@@ -354,10 +354,10 @@ impl DerChecker {
 
     /// The same of one that keeps pieces, which are those of the instance.
     pub(crate) fn finish_pieces(mut self, model: &Model) -> Result<Instance, InstanceError>
-        requires made { IsMadeFor self model.now }
-        ensures ok { (bytes : List ℕ) → HasFed self model.now bytes → IfOk result (λ i. IsRead model.now bytes i.region.pieces) }
-        ensures err { (bytes : List ℕ) → HasFed self model.now bytes → IfErr result (λ e. EndsAs model.now bytes e) }
-        ensures again { (e : InstanceError) → failed self ≡ Some e → result ≡ Err e }
+        requires made { IsDerCheckerFor self model.now }
+        ensures ok { (bytes : List ℕ) → HasFedDer self model.now bytes → IfOk result (λ i. IsSpelledDerAs model.now bytes i.region.pieces) }
+        ensures err { (bytes : List ℕ) → HasFedDer self model.now bytes → IfErr result (λ e. DerEndsAs model.now bytes e) }
+        ensures again { (e : InstanceError) → der_failure self ≡ Some e → result ≡ Err e }
     {
         if let Some(error) = self.failed.take() {
             return Err(error);
@@ -370,8 +370,8 @@ impl DerChecker {
 
     /// The end of the bytes, where nothing was refused.
     fn finish_all(&self, model: &Model) -> Result<(), InstanceError>
-        ensures ok { (bytes : List ℕ) → HasFed self.now model.now bytes → IfOk result (λ _. IsSpelled model.now bytes) }
-        ensures err { (bytes : List ℕ) → HasFed self.now model.now bytes → IfErr result (λ e. EndsAs model.now bytes e) }
+        ensures ok { (bytes : List ℕ) → HasFedDer self.now model.now bytes → IfOk result (λ _. IsSpelledDer model.now bytes) }
+        ensures err { (bytes : List ℕ) → HasFedDer self.now model.now bytes → IfErr result (λ e. DerEndsAs model.now bytes e) }
     {
         let _ = model.type_count();
         fragments_apart();

@@ -3,7 +3,7 @@ ghost use Rattle.std.specs.Prelude.{◌≡◌, [], ℕ, Some, IfOk};
 ghost use Rattle.lexical_core.specs.XmlRuns.{IsXmlRun};
 ghost use Rattle.facets.specs.declared.simple.Simple.{Simple as SimpleType};
 ghost use Rattle.facets.specs.LeafChecks.{IsWithinLimits};
-ghost use Rattle.facets.specs.LeafVerdicts.{HasTaken, IsMadeFor};
+ghost use Rattle.facets.specs.LeafVerdicts.{HasVerdictTaken, IsVerdictMadeFor};
 ghost use Rattle.reference_check.specs.Forms.{Graph, text_type};
 ghost use Rattle.der_codec.specs.Checked.{ChecksType, ChecksIfAny, CheckTypes, IsToldOf};
 
@@ -30,7 +30,7 @@ pub struct Checks {
 /// A check for the simple type.
 fn fresh(alloc: Global, simple: &Simple) -> Result<Box<LeafVerdict>, AllocError>
     requires { IsWithinLimits simple.now }
-    ensures { IfOk result (λ check. HasTaken check.value simple.now []) }
+    ensures { IfOk result (λ check. HasVerdictTaken check.value simple.now []) }
 {
     Ok(Box::new(alloc, LeafVerdict::new(alloc, simple)?)?)
 }
@@ -43,8 +43,8 @@ fn told_by(
     count: usize,
 ) -> Result<(), Refusal>
     requires run { IsXmlRun run.now count }
-    requires made { IsMadeFor check.old simple.now }
-    ensures made { IsMadeFor check.new simple.now }
+    requires made { IsVerdictMadeFor check.old simple.now }
+    ensures made { IsVerdictMadeFor check.new simple.now }
     ensures told { (r : IsXmlRun run.now count) → IsToldOf simple.now r.chars result }
 {
     check.restart(simple);

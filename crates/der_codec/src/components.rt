@@ -236,7 +236,7 @@ fn is_open(count: u64, max: Option<u32>) -> bool
 /// One item more, where there may be one.
 #[inline(always)]
 fn limited(fits: bool, found: Found) -> Found
-    ensures { (types : Graph ℕ SimpleType) (answer : states.Answer ℕ) → IsFound types found answer → IsFound types result (item_answer fits answer) }
+    ensures { (types : Graph ℕ SimpleType) (answer : states.IdentifierAnswer ℕ) → IsFound types found answer → IsFound types result (item_answer fits answer) }
 {
     if fits {
         return found;
@@ -418,7 +418,7 @@ fn is_context(class: TagClass) -> bool
 /// What the end is of an open value.
 #[inline(always)]
 pub fn end_of(model: &Model, level: &Level) -> Ended
-    ensures { (fragment : Tree → List ℕ) (l : states.Level ℕ) → IsLevel (types_of model.now) level.now l
+    ensures { (fragment : Tree → List ℕ) (l : states.DerLevel ℕ) → IsLevel (types_of model.now) level.now l
         → IsEnded (types_of model.now) result (end_answer (structure (in_der fragment (message_of model.now)) l.spot) l.came) }
 {
     match level.spot {
@@ -458,7 +458,7 @@ fn end_of_choice(next: u32) -> Ended
 /// What identifier octets are in an open value.
 #[inline(always)]
 pub fn identify(model: &Model, level: &Level, id: Identifier) -> Found
-    ensures { (fragment : Tree → List ℕ) (l : states.Level ℕ) → IsLevel (types_of model.now) level.now l
+    ensures { (fragment : Tree → List ℕ) (l : states.DerLevel ℕ) → IsLevel (types_of model.now) level.now l
         → IsFound (types_of model.now) result (level_answer (in_der fragment (message_of model.now)) l id.constructed (tag_view id)) }
 {
     match level.spot {

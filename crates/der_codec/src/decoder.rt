@@ -4,15 +4,15 @@ ghost use Rattle.lexical_core.specs.Tree.{Tree};
 ghost use Rattle.message_model.specs.Tables.{message_of, types_of};
 ghost use Rattle.der_model.specs.DerMessage.{DerMessage, in_der};
 ghost use Rattle.der_codec.specs.Levels.{inwards, first_of, rest_of};
-ghost use Rattle.der_codec.specs.Decoding.{HasRead, IsStopped, IsBelow, IsPast, end_of_levels, IsFresh, IsFreshOrOver, due_after, IsReady, IsOver, IsWaiting, IsOpen, IsNoCut, AwaitsValue, IsRefusedAs, due_depth, header_come};
+ghost use Rattle.der_codec.specs.Decoding.{HasReadParts, IsStopped, IsBelowEnd, IsPastEnd, end_of_levels, IsFresh, IsFreshOrOver, due_after, IsOctetAwaited, IsOver, IsWaiting, IsOpenState, IsNoCut, AwaitsValue, IsRefusedAs, due_depth, header_come};
 ghost use Rattle.der_codec.specs.Components.{added_text};
 ghost use Rattle.der_codec.specs.inner.OpenNames.{IsNamed};
 ghost use Rattle.der_codec.specs.Judging.{HoldsContents};
 ghost use Rattle.der_model.specs.Paths.{path_of};
 ghost use Rattle.der_model.specs.States.{State};
-ghost use Rattle.der_model.specs.Faults.{IsWhole as WholeBytes};
+ghost use Rattle.der_model.specs.Faults.{IsWholeDer as WholeBytes};
 ghost use Rattle.der_model.specs.Der.{SpellsDer};
-ghost use Rattle.der_model.specs.Sound.{IsSound};
+ghost use Rattle.der_model.specs.Sound.{IsSoundDer};
 ghost use Rattle.data_types.specs.Value.{Value};
 
 use crate::checks::Refusal;
@@ -67,7 +67,7 @@ impl Decoder {
     /// Before the first octet. It takes no memory.
     #[tactic(auto, using(crate::proofs::InputEnds::begins_so))]
     pub fn new(alloc: Global) -> Decoder
-        ensures read { (m : DerMessage ℕ) → HasRead m result [] }
+        ensures read { (m : DerMessage ℕ) → HasReadParts m result [] }
         ensures waits { IsWaiting result.due result.place (end_of_levels result.levels.items) }
         ensures place { result.place ≡ 0 }
         ensures none { header_come result.due result.start result.place ≡ 0 }
@@ -131,8 +131,8 @@ impl Decoder {
 
     /// An overrun where the value that is open ends here.
     pub(crate) fn within(&self) -> Result<(), Stop>
-        ensures ok { IfOk result (λ _. IsBelow self.now.place (end_of_levels self.now.levels.items)) }
-        ensures err { IfErr result (λ stop. (stop ≡ Stop.Fault Rule.Overrun self.now.start Added.Nothing) × IsPast self.now.place (end_of_levels self.now.levels.items)) }
+        ensures ok { IfOk result (λ _. IsBelowEnd self.now.place (end_of_levels self.now.levels.items)) }
+        ensures err { IfErr result (λ stop. (stop ≡ Stop.Fault Rule.Overrun self.now.start Added.Nothing) × IsPastEnd self.now.place (end_of_levels self.now.levels.items)) }
     {
         match self.limit() {
             None => Ok(()),
@@ -148,7 +148,7 @@ impl Decoder {
     /// Whether the innermost value ends at this place.
     #[inline(always)]
     pub(crate) fn ends_here(&self) -> bool
-        ensures no { result ≡ false → (m : DerMessage ℕ) (bytes : List ℕ) → HasRead m self.now bytes → IsFresh self.now.due → IsBelow self.now.place (end_of_levels self.now.levels.items) }
+        ensures no { result ≡ false → (m : DerMessage ℕ) (bytes : List ℕ) → HasReadParts m self.now bytes → IsFresh self.now.due → IsBelowEnd self.now.place (end_of_levels self.now.levels.items) }
     {
         match self.limit() {
             None => false,
@@ -166,19 +166,19 @@ impl Decoder {
     #[inline(always)]
     pub fn end(&mut self, model: &Model) -> Result<bool, Stop>
         requires { IsFresh self.old.due }
-        ensures ok { (fragment : Tree → List ℕ) (bytes : List ℕ) → HasRead (in_der fragment (message_of model.now)) self.old bytes → IfOk result (λ _. HasRead (in_der fragment (message_of model.now)) self.new bytes) }
-        ensures err { (fragment : Tree → List ℕ) (bytes : List ℕ) → HasRead (in_der fragment (message_of model.now)) self.old bytes → IfErr result (λ stop. IsStopped (in_der fragment (message_of model.now)) self.new bytes stop) }
+        ensures ok { (fragment : Tree → List ℕ) (bytes : List ℕ) → HasReadParts (in_der fragment (message_of model.now)) self.old bytes → IfOk result (λ _. HasReadParts (in_der fragment (message_of model.now)) self.new bytes) }
+        ensures err { (fragment : Tree → List ℕ) (bytes : List ℕ) → HasReadParts (in_der fragment (message_of model.now)) self.old bytes → IfErr result (λ stop. IsStopped (in_der fragment (message_of model.now)) self.new bytes stop) }
         ensures place { self.new.place ≡ self.old.place }
         ensures ended { IfOk result (λ ended. ended ≡ true → IsFreshOrOver self.new.due) }
         ensures less { IfOk result (λ ended. ended ≡ true → length self.new.levels.items < length self.old.levels.items) }
         ensures one { IfOk result (λ ended. ended ≡ true → length self.new.levels.items + 1 ≡ length self.old.levels.items) }
-        ensures open { (fragment : Tree → List ℕ) (bytes : List ℕ) → HasRead (in_der fragment (message_of model.now)) self.old bytes → IfOk result (λ ended. ended ≡ false → (self.new ≡ self.old) × IsBelow self.old.place (end_of_levels self.old.levels.items)) }
+        ensures open { (fragment : Tree → List ℕ) (bytes : List ℕ) → HasReadParts (in_der fragment (message_of model.now)) self.old bytes → IfOk result (λ ended. ended ≡ false → (self.new ≡ self.old) × IsBelowEnd self.old.place (end_of_levels self.old.levels.items)) }
         ensures fault { IsErrOf result Stop.Memory → ⊥ }
         ensures same { IfOk result (λ ended. ended ≡ false → self.new ≡ self.old) }
         ensures kept { IfErr result (λ _. self.new ≡ self.old) }
         ensures due { IfOk result (λ ended. ended ≡ true → self.new.due ≡ due_after self.old.due self.new.levels.items) }
         ensures room { vec_capacity self.old.levels ≤ vec_capacity self.new.levels }
-        ensures stays { (fragment : Tree → List ℕ) (bytes : List ℕ) → HasRead (in_der fragment (message_of model.now)) self.old bytes → IfErr result (λ stop. IsNoCut stop) }
+        ensures stays { (fragment : Tree → List ℕ) (bytes : List ℕ) → HasReadParts (in_der fragment (message_of model.now)) self.old bytes → IfErr result (λ stop. IsNoCut stop) }
     {
         let Some(level) = self.innermost() else {
             return Ok(false);
@@ -212,9 +212,9 @@ impl Decoder {
     #[tactic(auto, using(crate::proofs::InputEnds::is_whole, crate::proofs::InputEnds::is_cut, crate::proofs::InputEnds::is_spelled))]
     pub fn finish(&self) -> Result<(), Stop>
         requires { IsWaiting self.now.due self.now.place (end_of_levels self.now.levels.items) }
-        ensures whole { (m : DerMessage ℕ) (bytes : List ℕ) → HasRead m self.now bytes → IfOk result (λ _. WholeBytes m bytes) }
-        ensures ok { (m : DerMessage ℕ) (bytes : List ℕ) → IsSound m → length bytes < 2 ^ 63 → HasRead m self.now bytes → IfOk result (λ _. (v : Value) × SpellsDer m bytes v) }
-        ensures err { (m : DerMessage ℕ) (bytes : List ℕ) → HasRead m self.now bytes → IfErr result (λ stop. IsStopped m self.now bytes stop) }
+        ensures whole { (m : DerMessage ℕ) (bytes : List ℕ) → HasReadParts m self.now bytes → IfOk result (λ _. WholeBytes m bytes) }
+        ensures ok { (m : DerMessage ℕ) (bytes : List ℕ) → IsSoundDer m → length bytes < 2 ^ 63 → HasReadParts m self.now bytes → IfOk result (λ _. (v : Value) × SpellsDer m bytes v) }
+        ensures err { (m : DerMessage ℕ) (bytes : List ℕ) → HasReadParts m self.now bytes → IfErr result (λ stop. IsStopped m self.now bytes stop) }
         ensures fault { IsErrOf result Stop.Memory → ⊥ }
     {
         if self.is_over() {
@@ -229,7 +229,7 @@ impl Decoder {
 
     /// What the bytes are where they end here, and the instance has not ended.
     pub(crate) fn truncated(&self) -> Stop
-        ensures { (m : DerMessage ℕ) (bytes : List ℕ) → HasRead m self.now bytes → IsWaiting self.now.due self.now.place (end_of_levels self.now.levels.items) → (IsOver self.now.due → ⊥) → IsStopped m self.now bytes result }
+        ensures { (m : DerMessage ℕ) (bytes : List ℕ) → HasReadParts m self.now bytes → IsWaiting self.now.due self.now.place (end_of_levels self.now.levels.items) → (IsOver self.now.due → ⊥) → IsStopped m self.now bytes result }
     {
         Stop::Fault {
             rule: Rule::DerTruncated,
@@ -266,7 +266,7 @@ impl Decoder {
         requires room { self.old.place + count < 2 ^ 63 }
         requires due { self.old.due ≡ Due.Contents spot left }
         requires count { count ≤ left }
-        ensures read { (m : DerMessage ℕ) (bytes more : List ℕ) → HasRead m self.old bytes → length more ≡ count → HasRead m self.new (bytes ++ more) }
+        ensures read { (m : DerMessage ℕ) (bytes more : List ℕ) → HasReadParts m self.old bytes → length more ≡ count → HasReadParts m self.new (bytes ++ more) }
         ensures due { self.new.due ≡ Due.Contents spot (left - count) }
         ensures start { self.new.start ≡ self.old.start }
         ensures place { self.new.place ≡ self.old.place + count }
@@ -282,7 +282,7 @@ impl Decoder {
     pub(crate) fn end_contents(&mut self, spot: Spot, left: u64)
         requires room { self.old.place + left < 2 ^ 63 }
         requires due { self.old.due ≡ Due.Contents spot left }
-        ensures read { (m : DerMessage ℕ) (bytes more : List ℕ) → HasRead m self.old bytes → length more ≡ left → HoldsContents m spot (drop self.old.start bytes ++ more) → HasRead m self.new (bytes ++ more) }
+        ensures read { (m : DerMessage ℕ) (bytes more : List ℕ) → HasReadParts m self.old bytes → length more ≡ left → HoldsContents m spot (drop self.old.start bytes ++ more) → HasReadParts m self.new (bytes ++ more) }
         ensures fresh { IsFresh self.new.due }
         ensures place { self.new.place ≡ self.old.place + left }
         ensures levels { self.new.levels ≡ self.old.levels }
@@ -310,7 +310,7 @@ impl Decoder {
         model: &Model,
         added: Added,
     ) -> Result<Text, AllocError>
-        ensures { (fragment : Tree → List ℕ) (s : State ℕ) → IsOpen (in_der fragment (message_of model.now)) (inwards self.now.levels.items) self.now.due s → IsNamed (in_der fragment (message_of model.now)) s
+        ensures { (fragment : Tree → List ℕ) (s : State ℕ) → IsOpenState (in_der fragment (message_of model.now)) (inwards self.now.levels.items) self.now.due s → IsNamed (in_der fragment (message_of model.now)) s
             → IfOk result (λ t. t ≡ path_of s ++ added_text (types_of model.now) added) }
     {
         if self.has_begun() {
@@ -334,7 +334,7 @@ impl Decoder {
     #[tactic(auto, using(crate::proofs::InputEnds::is_trailing))]
     pub fn trailing(&self) -> Stop
         requires { IsOver self.now.due }
-        ensures stopped { (m : DerMessage ℕ) (bytes : List ℕ) (octet : ℕ) → HasRead m self.now bytes → IsStopped m self.now (bytes ++ octet ∷ []) result }
+        ensures stopped { (m : DerMessage ℕ) (bytes : List ℕ) (octet : ℕ) → HasReadParts m self.now bytes → IsStopped m self.now (bytes ++ octet ∷ []) result }
         ensures stays { IsNoCut result }
     {
         Stop::Fault {

@@ -102,7 +102,7 @@ fn elements_at(model: &Model, spot: Spot, number: u32) -> Elements
 /// The elements that began with the component of an open value that came last.
 #[inline(always)]
 fn last_begun(model: &Model, level: &Level) -> Elements
-    ensures { (l : states.Level ℕ) → IsLevel (types_of model.now) level.now l → edges_of result ≡ last_elements (der_message model.now) l.spot l.came }
+    ensures { (l : states.DerLevel ℕ) → IsLevel (types_of model.now) level.now l → edges_of result ≡ last_elements (der_message model.now) l.spot l.came }
 {
     if level.next == 0 {
         return one_element(None);
@@ -138,7 +138,7 @@ pub(crate) fn begin_component(
     model: &Model,
     around: Option<Level>,
 ) -> Result<(), AllocError>
-    ensures { (xs : List Level) (ls : List (states.Level ℕ)) → around ≡ first_of xs → AreLevels (types_of model.now) xs ls
+    ensures { (xs : List Level) (ls : List (states.DerLevel ℕ)) → around ≡ first_of xs → AreLevels (types_of model.now) xs ls
         → OnOk result (builder.new.pieces ≡ builder.old.pieces ++ begin_each (elements_ended (der_message model.now) ls)) }
 {
     match around {
@@ -237,8 +237,8 @@ pub(crate) fn end_component(
     model: &Model,
     around: Option<Level>,
 ) -> Result<(), AllocError>
-    requires { (xs : List Level) × (ls : List (states.Level ℕ)) × (around ≡ first_of xs) × AreLevels (types_of model.now) xs ls × (open_in builder.old.pieces ≡ elements_around (der_message model.now) ls) }
-    ensures { (xs : List Level) (ls : List (states.Level ℕ)) → around ≡ first_of xs → AreLevels (types_of model.now) xs ls → open_in builder.old.pieces ≡ elements_around (der_message model.now) ls
+    requires { (xs : List Level) × (ls : List (states.DerLevel ℕ)) × (around ≡ first_of xs) × AreLevels (types_of model.now) xs ls × (open_in builder.old.pieces ≡ elements_around (der_message model.now) ls) }
+    ensures { (xs : List Level) (ls : List (states.DerLevel ℕ)) → around ≡ first_of xs → AreLevels (types_of model.now) xs ls → open_in builder.old.pieces ≡ elements_around (der_message model.now) ls
         → OnOk result (builder.new.pieces ≡ builder.old.pieces ++ end_each (elements_ended (der_message model.now) ls)) }
 {
     match around {

@@ -1,7 +1,7 @@
 // The fragments of envelopes, and the messages whose instances have them.
 ghost use Rattle.fragments.specs.Fragment.{fragment};
 ghost use Rattle.der_model.specs.DerMessage.{der_message};
-ghost use Rattle.der_model.specs.Sound.{IsSound, TellsApart};
+ghost use Rattle.der_model.specs.Sound.{IsSoundDer, TellsApart};
 
 use message_model::Model;
 
@@ -14,7 +14,7 @@ pub(crate) fn fragments_apart()
 
 /// The message of a model breaks no rule, and its fragments tell trees apart.
 pub(crate) fn is_sound(model: &Model)
-    ensures { IsSound (der_message model.now) }
+    ensures { IsSoundDer (der_message model.now) }
 {
     let _ = model.type_count();
     respell::laws::one_tree();

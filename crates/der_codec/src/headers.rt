@@ -6,7 +6,7 @@ ghost use Rattle.lexical_core.specs.Tree.{Tree};
 ghost use Rattle.message_model.specs.Tables.{message_of};
 ghost use Rattle.der_model.specs.DerMessage.{DerMessage, in_der};
 ghost use Rattle.der_codec.specs.Levels.{inwards};
-ghost use Rattle.der_codec.specs.Decoding.{HasRead, IsStopped, IsBelow, IsPast, end_of_levels, IsHeaderDue, IsAdvanced, IsSettled, IsOutermost, AwaitsInstance, HasIdentifier, HasLength, level_at, IsFull, IsNoCut, BeginsContents, IsLengthDue, depth_of};
+ghost use Rattle.der_codec.specs.Decoding.{HasReadParts, IsStopped, IsBelowEnd, IsPastEnd, end_of_levels, IsHeaderDue, IsAdvanced, IsSettled, IsOutermost, AwaitsInstance, HasIdentifier, HasLengthOctets, level_at, IsFull, IsNoCut, BeginsContents, IsLengthDue, depth_of};
 ghost use Rattle.reference_check.specs.Words.{UpTo};
 ghost use Rattle.der_octets.specs.declared.length_step.LengthStep.{LengthStep as Lengths};
 ghost use Rattle.der_octets.specs.declared.tag_step.TagStep.{TagStep as Steps};
@@ -26,8 +26,8 @@ impl Decoder {
         ensures place { self.new.place ≡ self.old.place + 1 }
         ensures start { self.new.start ≡ self.old.start }
         ensures due { self.new.due ≡ due }
-        ensures ok { IfOk result (λ _. IsBelow (self.old.place + 1) (end_of_levels self.old.levels.items)) }
-        ensures err { IfErr result (λ stop. (stop ≡ Stop.Fault Rule.Overrun self.old.start Added.Nothing) × IsPast (self.old.place + 1) (end_of_levels self.old.levels.items)) }
+        ensures ok { IfOk result (λ _. IsBelowEnd (self.old.place + 1) (end_of_levels self.old.levels.items)) }
+        ensures err { IfErr result (λ stop. (stop ≡ Stop.Fault Rule.Overrun self.old.start Added.Nothing) × IsPastEnd (self.old.place + 1) (end_of_levels self.old.levels.items)) }
     {
         self.place += 1;
         self.due = due;
@@ -38,15 +38,15 @@ impl Decoder {
     pub fn take_header(&mut self, model: &Model, octet: u8) -> Result<(), Stop>
         requires room { self.old.place < 2 ^ 63 }
         requires due { IsHeaderDue self.old.due }
-        requires low { IsBelow self.old.place (end_of_levels self.old.levels.items) }
-        requires read { (fragment : Tree → List ℕ) × (bytes : List ℕ) × HasRead (in_der fragment (message_of model.now)) self.old bytes }
-        ensures ok { (fragment : Tree → List ℕ) (bytes : List ℕ) → HasRead (in_der fragment (message_of model.now)) self.old bytes → IfOk result (λ _. HasRead (in_der fragment (message_of model.now)) self.new (bytes ++ octet ∷ [])) }
-        ensures err { (fragment : Tree → List ℕ) (bytes : List ℕ) → HasRead (in_der fragment (message_of model.now)) self.old bytes → IfErr result (λ stop. IsStopped (in_der fragment (message_of model.now)) self.new (bytes ++ octet ∷ []) stop) }
+        requires low { IsBelowEnd self.old.place (end_of_levels self.old.levels.items) }
+        requires read { (fragment : Tree → List ℕ) × (bytes : List ℕ) × HasReadParts (in_der fragment (message_of model.now)) self.old bytes }
+        ensures ok { (fragment : Tree → List ℕ) (bytes : List ℕ) → HasReadParts (in_der fragment (message_of model.now)) self.old bytes → IfOk result (λ _. HasReadParts (in_der fragment (message_of model.now)) self.new (bytes ++ octet ∷ [])) }
+        ensures err { (fragment : Tree → List ℕ) (bytes : List ℕ) → HasReadParts (in_der fragment (message_of model.now)) self.old bytes → IfErr result (λ stop. IsStopped (in_der fragment (message_of model.now)) self.new (bytes ++ octet ∷ []) stop) }
         ensures place { IfOk result (λ _. self.new.place ≡ self.old.place + 1) }
         ensures low { IfOk result (λ _. IsSettled self.new.due self.new.place (end_of_levels self.new.levels.items)) }
         ensures full { IsErrOf result Stop.Memory → IsFull self.old.levels }
         ensures room { vec_capacity self.old.levels ≤ vec_capacity self.new.levels }
-        ensures stays { (fragment : Tree → List ℕ) (bytes : List ℕ) → HasRead (in_der fragment (message_of model.now)) self.old bytes → IfErr result (λ stop. IsNoCut stop) }
+        ensures stays { (fragment : Tree → List ℕ) (bytes : List ℕ) → HasReadParts (in_der fragment (message_of model.now)) self.old bytes → IfErr result (λ stop. IsNoCut stop) }
         ensures begun { IfOk result (λ _. BeginsContents self.new.due self.new.start self.new.place) }
         ensures depth { IsLengthDue self.old.due → IfOk result (λ _. depth_of self.new ≡ depth_of self.old) }
     {
@@ -65,15 +65,15 @@ impl Decoder {
     fn take_tag(&mut self, model: &Model, step: TagStep, octet: u8) -> Result<(), Stop>
         requires room { self.old.place < 2 ^ 63 }
         requires due { self.old.due ≡ Due.Tag step }
-        requires low { IsBelow self.old.place (end_of_levels self.old.levels.items) }
-        requires read { (fragment : Tree → List ℕ) × (bytes : List ℕ) × HasRead (in_der fragment (message_of model.now)) self.old bytes }
-        ensures ok { (fragment : Tree → List ℕ) (bytes : List ℕ) → HasRead (in_der fragment (message_of model.now)) self.old bytes → IfOk result (λ _. HasRead (in_der fragment (message_of model.now)) self.new (bytes ++ octet ∷ [])) }
-        ensures err { (fragment : Tree → List ℕ) (bytes : List ℕ) → HasRead (in_der fragment (message_of model.now)) self.old bytes → IfErr result (λ stop. IsStopped (in_der fragment (message_of model.now)) self.new (bytes ++ octet ∷ []) stop) }
+        requires low { IsBelowEnd self.old.place (end_of_levels self.old.levels.items) }
+        requires read { (fragment : Tree → List ℕ) × (bytes : List ℕ) × HasReadParts (in_der fragment (message_of model.now)) self.old bytes }
+        ensures ok { (fragment : Tree → List ℕ) (bytes : List ℕ) → HasReadParts (in_der fragment (message_of model.now)) self.old bytes → IfOk result (λ _. HasReadParts (in_der fragment (message_of model.now)) self.new (bytes ++ octet ∷ [])) }
+        ensures err { (fragment : Tree → List ℕ) (bytes : List ℕ) → HasReadParts (in_der fragment (message_of model.now)) self.old bytes → IfErr result (λ stop. IsStopped (in_der fragment (message_of model.now)) self.new (bytes ++ octet ∷ []) stop) }
         ensures place { IfOk result (λ _. self.new.place ≡ self.old.place + 1) }
         ensures low { IfOk result (λ _. IsSettled self.new.due self.new.place (end_of_levels self.new.levels.items)) }
         ensures fault { IsErrOf result Stop.Memory → ⊥ }
         ensures room { vec_capacity self.old.levels ≤ vec_capacity self.new.levels }
-        ensures stays { (fragment : Tree → List ℕ) (bytes : List ℕ) → HasRead (in_der fragment (message_of model.now)) self.old bytes → IfErr result (λ stop. IsNoCut stop) }
+        ensures stays { (fragment : Tree → List ℕ) (bytes : List ℕ) → HasReadParts (in_der fragment (message_of model.now)) self.old bytes → IfErr result (λ stop. IsNoCut stop) }
         ensures begun { IfOk result (λ _. BeginsContents self.new.due self.new.start self.new.place) }
     {
         let mut step = step;
@@ -87,15 +87,15 @@ impl Decoder {
     /// Begins the value of whole identifier octets, of which this is the last.
     fn begin(&mut self, model: &Model, id: Identifier, octet: u8) -> Result<(), Stop>
         requires room { self.old.place < 2 ^ 63 }
-        requires read { (fragment : Tree → List ℕ) × (bytes : List ℕ) × HasRead (in_der fragment (message_of model.now)) self.old bytes }
-        requires low { IsBelow self.old.place (end_of_levels self.old.levels.items) }
-        ensures ok { (fragment : Tree → List ℕ) (bytes : List ℕ) (r : HasRead (in_der fragment (message_of model.now)) self.old bytes) → HasIdentifier self.old.due r.rest octet id → IfOk result (λ _. HasRead (in_der fragment (message_of model.now)) self.new (bytes ++ octet ∷ [])) }
-        ensures err { (fragment : Tree → List ℕ) (bytes : List ℕ) (r : HasRead (in_der fragment (message_of model.now)) self.old bytes) → HasIdentifier self.old.due r.rest octet id → IfErr result (λ stop. IsStopped (in_der fragment (message_of model.now)) self.new (bytes ++ octet ∷ []) stop) }
+        requires read { (fragment : Tree → List ℕ) × (bytes : List ℕ) × HasReadParts (in_der fragment (message_of model.now)) self.old bytes }
+        requires low { IsBelowEnd self.old.place (end_of_levels self.old.levels.items) }
+        ensures ok { (fragment : Tree → List ℕ) (bytes : List ℕ) (r : HasReadParts (in_der fragment (message_of model.now)) self.old bytes) → HasIdentifier self.old.due r.rest octet id → IfOk result (λ _. HasReadParts (in_der fragment (message_of model.now)) self.new (bytes ++ octet ∷ [])) }
+        ensures err { (fragment : Tree → List ℕ) (bytes : List ℕ) (r : HasReadParts (in_der fragment (message_of model.now)) self.old bytes) → HasIdentifier self.old.due r.rest octet id → IfErr result (λ stop. IsStopped (in_der fragment (message_of model.now)) self.new (bytes ++ octet ∷ []) stop) }
         ensures place { IfOk result (λ _. self.new.place ≡ self.old.place + 1) }
         ensures low { IfOk result (λ _. IsSettled self.new.due self.new.place (end_of_levels self.new.levels.items)) }
         ensures fault { IsErrOf result Stop.Memory → ⊥ }
         ensures room { vec_capacity self.old.levels ≤ vec_capacity self.new.levels }
-        ensures stays { (fragment : Tree → List ℕ) (bytes : List ℕ) → HasRead (in_der fragment (message_of model.now)) self.old bytes → IfErr result (λ stop. IsNoCut stop) }
+        ensures stays { (fragment : Tree → List ℕ) (bytes : List ℕ) → HasReadParts (in_der fragment (message_of model.now)) self.old bytes → IfErr result (λ stop. IsNoCut stop) }
         ensures begun { IfOk result (λ _. BeginsContents self.new.due self.new.start self.new.place) }
     {
         let _ = octet;
@@ -143,9 +143,9 @@ impl Decoder {
         ensures levels { self.new.levels ≡ self.old.levels }
         ensures place { self.new.place ≡ self.old.place + 1 }
         ensures start { self.new.start ≡ self.old.place + 1 }
-        ensures due { (step : Lengths) × (self.new.due ≡ Due.Length constructed spot step) × lengths.HasTaken step [] }
-        ensures ok { IfOk result (λ _. IsBelow (self.old.place + 1) (end_of_levels self.old.levels.items)) }
-        ensures err { IfErr result (λ stop. (stop ≡ Stop.Fault Rule.Overrun (self.old.place + 1) Added.Nothing) × IsPast (self.old.place + 1) (end_of_levels self.old.levels.items)) }
+        ensures due { (step : Lengths) × (self.new.due ≡ Due.Length constructed spot step) × lengths.HasTakenLength step [] }
+        ensures ok { IfOk result (λ _. IsBelowEnd (self.old.place + 1) (end_of_levels self.old.levels.items)) }
+        ensures err { IfErr result (λ stop. (stop ≡ Stop.Fault Rule.Overrun (self.old.place + 1) Added.Nothing) × IsPastEnd (self.old.place + 1) (end_of_levels self.old.levels.items)) }
     {
         self.start = self.place + 1;
         self.go_on(Due::Length {
@@ -167,10 +167,10 @@ impl Decoder {
     ) -> Result<(), Stop>
         requires room { self.old.place < 2 ^ 63 }
         requires due { self.old.due ≡ Due.Length constructed spot step }
-        requires low { IsBelow self.old.place (end_of_levels self.old.levels.items) }
-        requires read { (m : DerMessage ℕ) × (bytes : List ℕ) × HasRead m self.old bytes }
-        ensures ok { (m : DerMessage ℕ) (bytes : List ℕ) → HasRead m self.old bytes → IfOk result (λ _. HasRead m self.new (bytes ++ octet ∷ [])) }
-        ensures err { (m : DerMessage ℕ) (bytes : List ℕ) → HasRead m self.old bytes → IfErr result (λ stop. IsStopped m self.new (bytes ++ octet ∷ []) stop) }
+        requires low { IsBelowEnd self.old.place (end_of_levels self.old.levels.items) }
+        requires read { (m : DerMessage ℕ) × (bytes : List ℕ) × HasReadParts m self.old bytes }
+        ensures ok { (m : DerMessage ℕ) (bytes : List ℕ) → HasReadParts m self.old bytes → IfOk result (λ _. HasReadParts m self.new (bytes ++ octet ∷ [])) }
+        ensures err { (m : DerMessage ℕ) (bytes : List ℕ) → HasReadParts m self.old bytes → IfErr result (λ stop. IsStopped m self.new (bytes ++ octet ∷ []) stop) }
         ensures place { IfOk result (λ _. self.new.place ≡ self.old.place + 1) }
         ensures low { IfOk result (λ _. IsSettled self.new.due self.new.place (end_of_levels self.new.levels.items)) }
         ensures full { IsErrOf result Stop.Memory → IsFull self.old.levels }
@@ -198,8 +198,8 @@ impl Decoder {
         requires room { self.old.place < 2 ^ 63 }
         requires low { IsSettled self.old.due self.old.place (end_of_levels self.old.levels.items) }
         requires begun { BeginsContents self.old.due self.old.start self.old.place }
-        ensures ok { (m : DerMessage ℕ) (bytes : List ℕ) → HasRead m self.old bytes → IfOk result (λ n. HasRead m self.new (bytes ++ take n octets.now)) }
-        ensures err { (m : DerMessage ℕ) (bytes : List ℕ) → HasRead m self.old bytes → IfErr result (λ stop. IsStopped m self.new (bytes ++ take 1 octets.now) stop) }
+        ensures ok { (m : DerMessage ℕ) (bytes : List ℕ) → HasReadParts m self.old bytes → IfOk result (λ n. HasReadParts m self.new (bytes ++ take n octets.now)) }
+        ensures err { (m : DerMessage ℕ) (bytes : List ℕ) → HasReadParts m self.old bytes → IfErr result (λ stop. IsStopped m self.new (bytes ++ take 1 octets.now) stop) }
         ensures place { IfOk result (λ n. self.new.place ≡ self.old.place + n) }
         ensures within { IfOk result (λ n. n ≤ length octets.now) }
         ensures low { IfOk result (λ _. IsSettled self.new.due self.new.place (end_of_levels self.new.levels.items)) }
@@ -234,9 +234,9 @@ impl Decoder {
     fn open(&mut self, constructed: bool, spot: Spot, n: u64, octet: u8) -> Result<(), Stop>
         requires room { self.old.place < 2 ^ 63 }
         requires short { n < 2 ^ 63 }
-        requires low { IsBelow self.old.place (end_of_levels self.old.levels.items) }
-        ensures ok { (m : DerMessage ℕ) (bytes : List ℕ) (r : HasRead m self.old bytes) → HasLength self.old.due constructed spot r.rest octet n → IfOk result (λ _. HasRead m self.new (bytes ++ octet ∷ [])) }
-        ensures err { (m : DerMessage ℕ) (bytes : List ℕ) (r : HasRead m self.old bytes) → HasLength self.old.due constructed spot r.rest octet n → IfErr result (λ stop. IsStopped m self.new (bytes ++ octet ∷ []) stop) }
+        requires low { IsBelowEnd self.old.place (end_of_levels self.old.levels.items) }
+        ensures ok { (m : DerMessage ℕ) (bytes : List ℕ) (r : HasReadParts m self.old bytes) → HasLengthOctets self.old.due constructed spot r.rest octet n → IfOk result (λ _. HasReadParts m self.new (bytes ++ octet ∷ [])) }
+        ensures err { (m : DerMessage ℕ) (bytes : List ℕ) (r : HasReadParts m self.old bytes) → HasLengthOctets self.old.due constructed spot r.rest octet n → IfErr result (λ stop. IsStopped m self.new (bytes ++ octet ∷ []) stop) }
         ensures place { IfOk result (λ _. self.new.place ≡ self.old.place + 1) }
         ensures low { IfOk result (λ _. IsSettled self.new.due self.new.place (end_of_levels self.new.levels.items)) }
         ensures full { IsErrOf result Stop.Memory → IsFull self.old.levels }
@@ -278,7 +278,7 @@ impl Decoder {
         ensures levels { IfOk result (λ _. inwards self.new.levels.items ≡ level_at spot end ∷ inwards self.old.levels.items) }
         ensures place { IfOk result (λ _. self.new.place ≡ self.old.place + 1) }
         ensures start { IfOk result (λ _. self.new.start ≡ self.old.place + 1) }
-        ensures due { IfOk result (λ _. (step : Steps) × (self.new.due ≡ Due.Tag step) × tags.HasTaken step []) }
+        ensures due { IfOk result (λ _. (step : Steps) × (self.new.due ≡ Due.Tag step) × tags.HasTakenTag step []) }
         ensures err { IfErr result (λ stop. stop ≡ Stop.Memory) }
         ensures full { IsErrOf result Stop.Memory → IsFull self.old.levels }
         ensures room { vec_capacity self.old.levels ≤ vec_capacity self.new.levels }

@@ -1,16 +1,16 @@
 // Laws on what a checker was given, and on where its faults are told: each is the contract of a function that does nothing.
-ghost use Rattle.der_codec.specs.Laws.{OnlyCut};
-ghost use Rattle.der_codec.specs.ReadyLaws.{ReadyTellsAtOnce, ReadyFedIsOpen, ReadyFaultIsAtPart};
+ghost use Rattle.der_codec.specs.Laws.{OnlyDerCut};
+ghost use Rattle.der_codec.specs.ReadyLaws.{ReadyDerTellsAtOnce, ReadyFedDerIsOpen, ReadyFaultIsAtPart};
 
 /// What a checker was given has no fault but that it may end too early.
 pub fn only_cut()
-    ensures { OnlyCut }
+    ensures { OnlyDerCut }
 {}
 
 /// In a message that breaks no rule of its repository a fault is told at its part: behind parts that break no rule, one
 /// more breaks none exactly where the parts with it, lengths left aside, go on to those of an instance.
 pub fn a_fault_is_told_at_its_part()
-    ensures { ReadyTellsAtOnce }
+    ensures { ReadyDerTellsAtOnce }
 {
     message_model::laws::compiled_are_sound();
     reference_check::laws::ready_are_finite();
@@ -33,7 +33,7 @@ pub fn the_first_fault_ends_all_instances()
 
 /// In such a message the parts that a checker was given go on to those of an instance.
 pub fn what_was_fed_goes_on()
-    ensures { ReadyFedIsOpen }
+    ensures { ReadyFedDerIsOpen }
 {
     message_model::laws::compiled_are_sound();
     reference_check::laws::ready_are_finite();

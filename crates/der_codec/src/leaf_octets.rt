@@ -3,11 +3,11 @@ ghost use Rattle.std.specs.Prelude.{◌≡◌, ◌<◌, ◌+◌, ◌≤◌, ◌^
 ghost use Rattle.message_model.specs.Tables.{types_of};
 ghost use Rattle.der_model.specs.DerMessage.{der_message};
 ghost use Rattle.der_codec.specs.Checked.{CheckTypes};
-ghost use Rattle.der_codec.specs.Decoding.{HasRead};
+ghost use Rattle.der_codec.specs.Decoding.{HasReadParts};
 ghost use Rattle.der_codec.specs.KeptPieces.{KeepsShown, GoesOnByLeaf};
 ghost use Rattle.der_codec.specs.Judging.{IsVerdictFor};
 ghost use Rattle.der_codec.specs.KeptOctets.{IsKeptAt};
-ghost use Rattle.der_codec.specs.Checking.{HasFed, IsReading, KeepsRead, StopsWithin, TakesFront, fed};
+ghost use Rattle.der_codec.specs.Checking.{HasFedDer, IsReading, KeepsRead, StopsWithin, TakesDerFront, der_bytes_fed};
 
 use crate::checker::DerChecker;
 use crate::checks::Refusal;
@@ -32,13 +32,13 @@ impl DerChecker {
         requires begun { self.old.decoder.start ≡ self.old.decoder.place }
         requires kept { self.old.kept.items ≡ [] }
         requires checks { CheckTypes (types_of model.now) self.old.checks }
-        requires room { fed self.old + length behind.now ≤ 2 ^ 40 }
-        requires given { (bytes : List ℕ) × HasRead (der_message model.now) self.old.decoder bytes × KeepsShown (der_message model.now) self.old.decoder self.old.pieces bytes }
+        requires room { der_bytes_fed self.old + length behind.now ≤ 2 ^ 40 }
+        requires given { (bytes : List ℕ) × HasReadParts (der_message model.now) self.old.decoder bytes × KeepsShown (der_message model.now) self.old.decoder self.old.pieces bytes }
         ensures checks { CheckTypes (types_of model.now) self.new.checks }
         ensures sound { self.new.failed ≡ self.old.failed }
         ensures within { IfOk result (λ n. n ≤ length behind.now) }
-        ensures ok { (bytes : List ℕ) → HasRead (der_message model.now) self.old.decoder bytes → KeepsShown (der_message model.now) self.old.decoder self.old.pieces bytes → IfOk result (λ n. IsReading model.now self.new.decoder self.new.kept.items self.new.pieces (bytes ++ take n behind.now)) }
-        ensures err { (bytes : List ℕ) → HasRead (der_message model.now) self.old.decoder bytes → IfErr result (λ stop. StopsWithin model.now self.new.decoder (bytes ++ behind.now) stop) }
+        ensures ok { (bytes : List ℕ) → HasReadParts (der_message model.now) self.old.decoder bytes → KeepsShown (der_message model.now) self.old.decoder self.old.pieces bytes → IfOk result (λ n. IsReading model.now self.new.decoder self.new.kept.items self.new.pieces (bytes ++ take n behind.now)) }
+        ensures err { (bytes : List ℕ) → HasReadParts (der_message model.now) self.old.decoder bytes → IfErr result (λ stop. StopsWithin model.now self.new.decoder (bytes ++ behind.now) stop) }
     {
         if (behind.len() as u64) < left {
             return Ok(0);
@@ -62,12 +62,12 @@ impl DerChecker {
         piece: &[u8],
     ) -> Result<usize, Stop>
         requires some { 0 < length piece.now }
-        requires room { fed self.old + length piece.now ≤ 2 ^ 40 }
+        requires room { der_bytes_fed self.old + length piece.now ≤ 2 ^ 40 }
         requires due { self.old.decoder.due ≡ Due.Contents spot left }
         requires checks { CheckTypes (types_of model.now) self.old.checks }
-        requires given { (bytes : List ℕ) × HasFed self.old model.now bytes }
+        requires given { (bytes : List ℕ) × HasFedDer self.old model.now bytes }
         ensures checks { CheckTypes (types_of model.now) self.new.checks }
-        ensures front { TakesFront model.now self.old self.new piece.now result }
+        ensures front { TakesDerFront model.now self.old self.new piece.now result }
         ensures some { IfOk result (λ n. 0 < n) }
     {
         let count = fewer(piece.len(), left);
@@ -86,7 +86,7 @@ impl DerChecker {
 
     /// Keeps contents octets, behind which more are due.
     fn keep(&mut self, model: &Model, spot: Spot, left: u64, front: &[u8]) -> Result<(), Stop>
-        requires room { fed self.old + length front.now ≤ 2 ^ 40 }
+        requires room { der_bytes_fed self.old + length front.now ≤ 2 ^ 40 }
         requires due { self.old.decoder.due ≡ Due.Contents spot left }
         requires more { length front.now < left }
         ensures checks { self.new.checks ≡ self.old.checks }
@@ -118,7 +118,7 @@ impl DerChecker {
     /// Takes the last contents octets of a leaf, judges it, and ends the values that end behind it.
     #[inline(always)]
     fn take_last(&mut self, model: &Model, spot: Spot, left: u64, front: &[u8]) -> Result<(), Stop>
-        requires room { fed self.old + length front.now ≤ 2 ^ 40 }
+        requires room { der_bytes_fed self.old + length front.now ≤ 2 ^ 40 }
         requires due { self.old.decoder.due ≡ Due.Contents spot left }
         requires last { length front.now ≡ left }
         requires checks { CheckTypes (types_of model.now) self.old.checks }

@@ -4,10 +4,10 @@ ghost use Rattle.std.specs.Fmt.{decimal};
 ghost use Rattle.facets.specs.declared.simple.Simple.{Simple as SimpleType};
 ghost use Rattle.reference_check.specs.Forms.{Graph, form_slots};
 ghost use Rattle.message_model.specs.Tables.{types_of};
-ghost use Rattle.der_model.specs.States.{Name, Numbered, AttributeName};
+ghost use Rattle.der_model.specs.States.{PathName, Numbered, AttributeName};
 ghost use Rattle.der_model.specs.Paths.{path_text};
 ghost use Rattle.der_codec.specs.Components.{added_text, slot_text};
-ghost use Rattle.der_codec.specs.inner.OpenNames.{HasNames, slot_names, amount_names, form_names, alternative_names, item_names, level_names, names_over, document, held_text};
+ghost use Rattle.der_codec.specs.inner.OpenNames.{HasNames, slot_names, amount_names, form_names, alternative_names, item_names, level_names, names_over, document_names, held_text};
 
 use crate::components::{Added, comes_once};
 use crate::level::{Level, Spot};
@@ -31,7 +31,7 @@ pub(crate) fn path_within(
     round: &[Level],
     added: Added,
 ) -> Result<Text, AllocError>
-    ensures { IfOk result (λ t. t ≡ path_text (names_over (types_of model.now) document round.now) ++ added_text (types_of model.now) added) }
+    ensures { IfOk result (λ t. t ≡ path_text (names_over (types_of model.now) document_names round.now) ++ added_text (types_of model.now) added) }
 {
     let mut path = Path::new(alloc)?;
     let mut left = round;
@@ -100,7 +100,7 @@ fn put_numbered(text: &mut Text, alloc: Global, tag: &[u8], number: u64) -> Resu
 impl Path {
     /// The path of the outermost value.
     fn new(alloc: Global) -> Result<Path, AllocError>
-        ensures { IfOk result (λ path. (types : Graph ℕ SimpleType) → HasNames types path document) }
+        ensures { IfOk result (λ path. (types : Graph ℕ SimpleType) → HasNames types path document_names) }
     {
         let mut text = Text::new(alloc);
         put_numbered(&mut text, alloc, b"Document", 1)?;
@@ -113,7 +113,7 @@ impl Path {
 
     /// Names an element by its tag and number.
     fn put_element(&mut self, tag: &[u8], number: u64) -> Result<(), AllocError>
-        ensures { (types : Graph ℕ SimpleType) (names : List Name) → HasNames types self.old names → OnOk result (HasNames types self.new (names ++ Numbered tag.now number ∷ [])) }
+        ensures { (types : Graph ℕ SimpleType) (names : List PathName) → HasNames types self.old names → OnOk result (HasNames types self.new (names ++ Numbered tag.now number ∷ [])) }
     {
         self.list = None;
         put_numbered(&mut self.text, self.alloc, tag, number)
@@ -121,7 +121,7 @@ impl Path {
 
     /// Names the code of an amount.
     fn put_currency(&mut self) -> Result<(), AllocError>
-        ensures { (types : Graph ℕ SimpleType) (names : List Name) → HasNames types self.old names → OnOk result (HasNames types self.new (names ++ AttributeName (codes "Ccy") ∷ [])) }
+        ensures { (types : Graph ℕ SimpleType) (names : List PathName) → HasNames types self.old names → OnOk result (HasNames types self.new (names ++ AttributeName (codes "Ccy") ∷ [])) }
     {
         self.list = None;
         self.text.extend(b"/@Ccy")
@@ -129,7 +129,7 @@ impl Path {
 
     /// Names the value of a slot, or its list.
     fn put_slot(&mut self, model: &Model, parent: u32, at: u32) -> Result<(), AllocError>
-        ensures { (names : List Name) → HasNames (types_of model.now) self.old names → OnOk result (HasNames (types_of model.now) self.new (names ++ slot_names (slice_get (form_slots (types_of model.now parent)) at))) }
+        ensures { (names : List PathName) → HasNames (types_of model.now) self.old names → OnOk result (HasNames (types_of model.now) self.new (names ++ slot_names (slice_get (form_slots (types_of model.now parent)) at))) }
     {
         let Some(slot) = model.slot(parent, at) else {
             return Ok(());
@@ -143,7 +143,7 @@ impl Path {
 
     /// Names a component of a value of the type.
     fn put_component(&mut self, model: &Model, number: u32, at: u32) -> Result<(), AllocError>
-        ensures { (names : List Name) → HasNames (types_of model.now) self.old names → OnOk result (HasNames (types_of model.now) self.new (names ++ form_names (types_of model.now number) at)) }
+        ensures { (names : List PathName) → HasNames (types_of model.now) self.old names → OnOk result (HasNames (types_of model.now) self.new (names ++ form_names (types_of model.now number) at)) }
     {
         match model.form(number) {
             Some(Form::Sequence) => self.put_slot(model, number, at),
@@ -160,7 +160,7 @@ impl Path {
 
     /// Names the alternative where an item of the type is a choice.
     fn put_alternative(&mut self, model: &Model, number: u32, at: u32) -> Result<(), AllocError>
-        ensures { (names : List Name) → HasNames (types_of model.now) self.old names → OnOk result (HasNames (types_of model.now) self.new (names ++ alternative_names (types_of model.now number) at)) }
+        ensures { (names : List PathName) → HasNames (types_of model.now) self.old names → OnOk result (HasNames (types_of model.now) self.new (names ++ alternative_names (types_of model.now number) at)) }
     {
         match model.form(number) {
             Some(Form::Choice) => self.put_slot(model, number, at),
@@ -177,7 +177,7 @@ impl Path {
         count: u64,
         at: u32,
     ) -> Result<(), AllocError>
-        ensures { (names : List Name) → HasNames (types_of model.now) self.old names
+        ensures { (names : List PathName) → HasNames (types_of model.now) self.old names
             → OnOk result (HasNames (types_of model.now) self.new (names ++ item_names (types_of model.now) (slice_get (form_slots (types_of model.now parent)) slot) count at)) }
     {
         let Some(slot) = model.slot(parent, slot) else {
@@ -189,7 +189,7 @@ impl Path {
 
     /// Names what came last in an open value.
     fn put_level(&mut self, model: &Model, level: &Level) -> Result<(), AllocError>
-        ensures { (names : List Name) → HasNames (types_of model.now) self.old names → OnOk result (HasNames (types_of model.now) self.new (names ++ level_names (types_of model.now) level.now)) }
+        ensures { (names : List PathName) → HasNames (types_of model.now) self.old names → OnOk result (HasNames (types_of model.now) self.new (names ++ level_names (types_of model.now) level.now)) }
     {
         if level.next == 0 {
             return Ok(());
@@ -205,7 +205,7 @@ impl Path {
 
     /// The whole path, with the list whose name came last.
     fn finish(self, model: &Model) -> Result<Text, AllocError>
-        ensures { (names : List Name) → HasNames (types_of model.now) self names → IfOk result (λ t. t ≡ path_text names) }
+        ensures { (names : List PathName) → HasNames (types_of model.now) self names → IfOk result (λ t. t ≡ path_text names) }
     {
         let mut text = self.text;
         put_held(&mut text, model, self.list)?;

@@ -7,7 +7,7 @@ ghost use Rattle.der_model.specs.DerMessage.{der_message};
 ghost use Rattle.der_model.specs.NestedPieces.{elements_around};
 ghost use Rattle.der_model.specs.ShownPieces.{begin_each, end_each, elements_ended};
 ghost use Rattle.der_model.specs.States as states;
-ghost use Rattle.der_codec.specs.KeptPieces.{GoOn, GoOnByBegun, GoOnByLeaf, AreOpen};
+ghost use Rattle.der_codec.specs.KeptPieces.{PiecesGoOn, GoOnByBegun, GoOnByLeaf, AreOpen};
 ghost use Rattle.der_codec.specs.Levels.{AreLevels, inwards};
 
 use crate::decoder::Decoder;
@@ -25,8 +25,8 @@ pub(crate) fn begin(
     model: &Model,
     decoder: &Decoder,
 ) -> Result<(), AllocError>
-    ensures { (ls : List (states.Level ℕ)) → AreLevels (types_of model.now) (inwards decoder.now.levels.items) ls
-        → OnOk result (GoOn pieces.old pieces.new (begin_each (elements_ended (der_message model.now) ls))) }
+    ensures { (ls : List (states.DerLevel ℕ)) → AreLevels (types_of model.now) (inwards decoder.now.levels.items) ls
+        → OnOk result (PiecesGoOn pieces.old pieces.new (begin_each (elements_ended (der_message model.now) ls))) }
 {
     match pieces {
         None => Ok(()),
@@ -41,9 +41,9 @@ pub(crate) fn end(
     model: &Model,
     decoder: &Decoder,
 ) -> Result<(), AllocError>
-    requires { (ls : List (states.Level ℕ)) × AreLevels (types_of model.now) (inwards decoder.now.levels.items) ls × AreOpen pieces.old (elements_around (der_message model.now) ls) }
-    ensures { (ls : List (states.Level ℕ)) → AreLevels (types_of model.now) (inwards decoder.now.levels.items) ls → AreOpen pieces.old (elements_around (der_message model.now) ls)
-        → OnOk result (GoOn pieces.old pieces.new (end_each (elements_ended (der_message model.now) ls))) }
+    requires { (ls : List (states.DerLevel ℕ)) × AreLevels (types_of model.now) (inwards decoder.now.levels.items) ls × AreOpen pieces.old (elements_around (der_message model.now) ls) }
+    ensures { (ls : List (states.DerLevel ℕ)) → AreLevels (types_of model.now) (inwards decoder.now.levels.items) ls → AreOpen pieces.old (elements_around (der_message model.now) ls)
+        → OnOk result (PiecesGoOn pieces.old pieces.new (end_each (elements_ended (der_message model.now) ls))) }
 {
     match pieces {
         None => Ok(()),
@@ -53,7 +53,7 @@ pub(crate) fn end(
 
 /// A leaf comes.
 pub(crate) fn hold(pieces: &mut Option<Builder>, leaf: &LeafRef<'_>) -> Result<(), AllocError>
-    ensures { OnOk result (GoOn pieces.old pieces.new (Holds (leaf_of leaf.now) ∷ [])) }
+    ensures { OnOk result (PiecesGoOn pieces.old pieces.new (Holds (leaf_of leaf.now) ∷ [])) }
 {
     match pieces {
         None => Ok(()),

@@ -3,10 +3,10 @@ ghost use Rattle.std.specs.Prelude.{◌≡◌, ◌+◌, ◌≤◌, ◌^◌, ◌+
 ghost use Rattle.facets.specs.LeafChecks.{IsHeldWithin};
 ghost use Rattle.message_model.specs.Tables.{Tables};
 ghost use Rattle.der_model.specs.DerMessage.{der_message};
-ghost use Rattle.der_codec.specs.Checking.{Stops, EndsAs, open_count};
+ghost use Rattle.der_codec.specs.Checking.{DerStops, DerEndsAs, open_count};
 ghost use Rattle.message_model.specs.Errors.{IsAgain};
 ghost use Rattle.der_codec.specs.Limits.{open_limit, leaf_come, token_come};
-ghost use Rattle.der_codec.specs.ReadInstances.{HasKept, IsReaderFor, IsReaderFreed, IsRead, read_so_far, refused, reader_held, reader_token_held};
+ghost use Rattle.der_codec.specs.ReadInstances.{HasKeptPieces, IsDerReaderFor, IsReaderFreed, IsSpelledDerAs, read_so_far, der_reader_failure, reader_held, reader_token_held};
 
 use crate::checker::DerChecker;
 use inst_pool::Instance;
@@ -22,8 +22,8 @@ pub struct DerReader {
 impl DerReader {
     /// A reader for the message before the first byte. It takes no memory.
     pub fn new(alloc: Global, model: &Model) -> Result<DerReader, AllocError>
-        ensures fed { IfOk result (λ r. HasKept r model.now []) }
-        ensures made { IfOk result (λ r. IsReaderFor r model.now) }
+        ensures fed { IfOk result (λ r. HasKeptPieces r model.now []) }
+        ensures made { IfOk result (λ r. IsDerReaderFor r model.now) }
         ensures none { IfOk result (λ r. read_so_far r ≡ 0) }
     {
         match DerChecker::with_pieces(alloc, model) {
@@ -34,7 +34,7 @@ impl DerReader {
 
     /// How many values and lists have begun and not ended.
     pub fn depth(&self) -> usize
-        ensures { (T : Tables) (bytes : List ℕ) (h : HasKept self.now T bytes) → result ≡ open_count h.given.reading.read.state }
+        ensures { (T : Tables) (bytes : List ℕ) (h : HasKeptPieces self.now T bytes) → result ≡ open_count h.given.reading.read.state }
     {
         self.checker.depth()
     }
@@ -42,7 +42,7 @@ impl DerReader {
     /// How many bytes are held of the leaf that is open, as by `DerChecker`.
     pub fn scratch(&self) -> u64
         ensures count { result ≡ reader_held self.now }
-        ensures bound { (T : Tables) (bytes : List ℕ) (h : HasKept self.now T bytes)
+        ensures bound { (T : Tables) (bytes : List ℕ) (h : HasKeptPieces self.now T bytes)
             → IsHeldWithin (open_limit (der_message T) h.given.reading.read.state) (leaf_come h.given.reading.read.state h.given.reading.read.rest) result }
     {
         self.checker.scratch()
@@ -51,9 +51,9 @@ impl DerReader {
     /// How many bytes are held of identifier or length octets, as by `DerChecker`.
     pub fn token(&self) -> u64
         ensures count { result ≡ reader_token_held self.now }
-        ensures come { (T : Tables) (bytes : List ℕ) (h : HasKept self.now T bytes)
+        ensures come { (T : Tables) (bytes : List ℕ) (h : HasKeptPieces self.now T bytes)
             → result ≡ token_come h.given.reading.read.state h.given.reading.read.rest }
-        ensures bound { (T : Tables) (bytes : List ℕ) → HasKept self.now T bytes → result ≤ 8 }
+        ensures bound { (T : Tables) (bytes : List ℕ) → HasKeptPieces self.now T bytes → result ≤ 8 }
     {
         self.checker.token()
     }
@@ -62,14 +62,14 @@ impl DerReader {
     /// shows it, its place a byte number from 0. After an error it gives the same answer to every
     /// later call, or that there is no memory for it, and keeps nothing of what has come.
     pub fn feed(&mut self, model: &Model, piece: &[u8]) -> Result<(), InstanceError>
-        requires room { refused self.old ≡ None → read_so_far self.old + length piece.now ≤ 2 ^ 40 }
-        requires made { IsReaderFor self.old model.now }
-        ensures made { IsReaderFor self.new model.now }
-        ensures ok { (bytes : List ℕ) → HasKept self.old model.now bytes → IfOk result (λ _. HasKept self.new model.now (bytes ++ piece.now)) }
-        ensures err { (bytes : List ℕ) → HasKept self.old model.now bytes → IfErr result (λ e. Stops model.now (bytes ++ piece.now) e) }
+        requires room { der_reader_failure self.old ≡ None → read_so_far self.old + length piece.now ≤ 2 ^ 40 }
+        requires made { IsDerReaderFor self.old model.now }
+        ensures made { IsDerReaderFor self.new model.now }
+        ensures ok { (bytes : List ℕ) → HasKeptPieces self.old model.now bytes → IfOk result (λ _. HasKeptPieces self.new model.now (bytes ++ piece.now)) }
+        ensures err { (bytes : List ℕ) → HasKeptPieces self.old model.now bytes → IfErr result (λ e. DerStops model.now (bytes ++ piece.now) e) }
         ensures count { IfOk result (λ _. read_so_far self.new ≡ read_so_far self.old + length piece.now) }
-        ensures failed { refused self.old ≡ None → IfErr result (λ e. refused self.new ≡ Some e) }
-        ensures again { (e : InstanceError) → refused self.old ≡ Some e → IsAgain e result × (refused self.new ≡ refused self.old) }
+        ensures failed { der_reader_failure self.old ≡ None → IfErr result (λ e. der_reader_failure self.new ≡ Some e) }
+        ensures again { (e : InstanceError) → der_reader_failure self.old ≡ Some e → IsAgain e result × (der_reader_failure self.new ≡ der_reader_failure self.old) }
         ensures freed { IfErr result (λ _. IsReaderFreed self.new) }
     {
         self.checker.feed(model, piece)
@@ -78,10 +78,10 @@ impl DerReader {
     /// The end of the bytes: the pieces of the instance that they spell, or their first fault. After
     /// an error of `feed` it gives the same.
     pub fn finish(self, model: &Model) -> Result<Instance, InstanceError>
-        requires made { IsReaderFor self model.now }
-        ensures ok { (bytes : List ℕ) → HasKept self model.now bytes → IfOk result (λ i. IsRead model.now bytes i.region.pieces) }
-        ensures err { (bytes : List ℕ) → HasKept self model.now bytes → IfErr result (λ e. EndsAs model.now bytes e) }
-        ensures again { (e : InstanceError) → refused self ≡ Some e → result ≡ Err e }
+        requires made { IsDerReaderFor self model.now }
+        ensures ok { (bytes : List ℕ) → HasKeptPieces self model.now bytes → IfOk result (λ i. IsSpelledDerAs model.now bytes i.region.pieces) }
+        ensures err { (bytes : List ℕ) → HasKeptPieces self model.now bytes → IfErr result (λ e. DerEndsAs model.now bytes e) }
+        ensures again { (e : InstanceError) → der_reader_failure self ≡ Some e → result ≡ Err e }
     {
         self.checker.finish_pieces(model)
     }

@@ -3,7 +3,7 @@ ghost use Rattle.std.specs.Prelude.{◌≡◌, ◌+◌, ◌<◌, ◌≤◌, ◌^
 ghost use Rattle.message_model.specs.Tables.{types_of};
 ghost use Rattle.der_model.specs.DerMessage.{der_message};
 ghost use Rattle.der_codec.specs.Checked.{CheckTypes};
-ghost use Rattle.der_codec.specs.Checking.{HasFed, TakesFront, fed};
+ghost use Rattle.der_codec.specs.Checking.{HasFedDer, TakesDerFront, der_bytes_fed};
 ghost use Rattle.der_codec.specs.Decoding.{IsHeaderDue};
 ghost use Rattle.der_codec.specs.inner.Entering.{StandsFirst};
 
@@ -20,12 +20,12 @@ impl DerChecker {
     #[inline(always)]
     pub(crate) fn take_kept(&mut self, model: &Model, piece: &[u8]) -> Result<usize, Stop>
         requires some { 0 < length piece.now }
-        requires room { fed self.old + length piece.now ≤ 2 ^ 40 }
+        requires room { der_bytes_fed self.old + length piece.now ≤ 2 ^ 40 }
         requires due { IsHeaderDue self.old.decoder.due }
         requires checks { CheckTypes (types_of model.now) self.old.checks }
-        requires given { (bytes : List ℕ) × HasFed self.old model.now bytes }
+        requires given { (bytes : List ℕ) × HasFedDer self.old model.now bytes }
         ensures checks { CheckTypes (types_of model.now) self.new.checks }
-        ensures front { TakesFront model.now self.old self.new piece.now result }
+        ensures front { TakesDerFront model.now self.old self.new piece.now result }
         ensures some { IfOk result (λ n. 0 < n) }
     {
         let taken = match self.take_shown(model, piece) {
@@ -42,11 +42,11 @@ impl DerChecker {
     /// how many bytes that are.
     #[inline(always)]
     fn take_shown(&mut self, model: &Model, piece: &[u8]) -> Result<usize, Stop>
-        requires room { fed self.old + length piece.now ≤ 2 ^ 40 }
+        requires room { der_bytes_fed self.old + length piece.now ≤ 2 ^ 40 }
         requires checks { CheckTypes (types_of model.now) self.old.checks }
-        requires given { (bytes : List ℕ) × HasFed self.old model.now bytes }
+        requires given { (bytes : List ℕ) × HasFedDer self.old model.now bytes }
         ensures checks { CheckTypes (types_of model.now) self.new.checks }
-        ensures front { TakesFront model.now self.old self.new piece.now result }
+        ensures front { TakesDerFront model.now self.old self.new piece.now result }
         ensures unchanged { IfOk result (λ n. n ≡ 0 → self.new.decoder ≡ self.old.decoder) }
     {
         let mut taken = 0_usize;
@@ -68,11 +68,11 @@ impl DerChecker {
     #[tactic(auto, using(crate::proofs::UsualFed::none_front))]
     #[inline(always)]
     fn show_next(&mut self, model: &Model, piece: &[u8]) -> Result<usize, Stop>
-        requires room { fed self.old + length piece.now ≤ 2 ^ 40 }
+        requires room { der_bytes_fed self.old + length piece.now ≤ 2 ^ 40 }
         requires checks { CheckTypes (types_of model.now) self.old.checks }
-        requires given { (bytes : List ℕ) × HasFed self.old model.now bytes }
+        requires given { (bytes : List ℕ) × HasFedDer self.old model.now bytes }
         ensures checks { CheckTypes (types_of model.now) self.new.checks }
-        ensures front { TakesFront model.now self.old self.new piece.now result }
+        ensures front { TakesDerFront model.now self.old self.new piece.now result }
         ensures unchanged { IfOk result (λ n. n ≡ 0 → self.new.decoder ≡ self.old.decoder) }
     {
         let Some((first, others)) = piece.split_first() else {
@@ -96,14 +96,14 @@ impl DerChecker {
     #[tactic(auto, using(crate::proofs::UsualFed::none_front))]
     #[inline(always)]
     fn enter_shown(&mut self, model: &Model, begun: Begun, piece: &[u8]) -> Result<usize, Stop>
-        requires room { fed self.old + length piece.now ≤ 2 ^ 40 }
+        requires room { der_bytes_fed self.old + length piece.now ≤ 2 ^ 40 }
         requires checks { CheckTypes (types_of model.now) self.old.checks }
-        requires given { (bytes : List ℕ) × HasFed self.old model.now bytes }
+        requires given { (bytes : List ℕ) × HasFedDer self.old model.now bytes }
         requires open { 0 < length self.old.decoder.levels.items }
         requires constructed { begun.constructed ≡ true }
-        requires stands { (bytes : List ℕ) → HasFed self.old model.now bytes → (n : ℕ) × (behind : List ℕ) × StandsFirst (der_message model.now) self.old.decoder bytes begun n behind piece.now }
+        requires stands { (bytes : List ℕ) → HasFedDer self.old model.now bytes → (n : ℕ) × (behind : List ℕ) × StandsFirst (der_message model.now) self.old.decoder bytes begun n behind piece.now }
         ensures checks { CheckTypes (types_of model.now) self.new.checks }
-        ensures front { TakesFront model.now self.old self.new piece.now result }
+        ensures front { TakesDerFront model.now self.old self.new piece.now result }
         ensures unchanged { IfOk result (λ n. n ≡ 0 → self.new.decoder ≡ self.old.decoder) }
     {
         let _ = piece;
@@ -133,14 +133,14 @@ impl DerChecker {
         behind: &[u8],
         piece: &[u8],
     ) -> Result<usize, Stop>
-        requires room { fed self.old + length piece.now ≤ 2 ^ 40 }
+        requires room { der_bytes_fed self.old + length piece.now ≤ 2 ^ 40 }
         requires checks { CheckTypes (types_of model.now) self.old.checks }
-        requires given { (bytes : List ℕ) × HasFed self.old model.now bytes }
+        requires given { (bytes : List ℕ) × HasFedDer self.old model.now bytes }
         requires open { 0 < length self.old.decoder.levels.items }
         requires primitive { begun.constructed ≡ false }
-        requires stands { (bytes : List ℕ) → HasFed self.old model.now bytes → StandsFirst (der_message model.now) self.old.decoder bytes begun second behind.now piece.now }
+        requires stands { (bytes : List ℕ) → HasFedDer self.old model.now bytes → StandsFirst (der_message model.now) self.old.decoder bytes begun second behind.now piece.now }
         ensures checks { CheckTypes (types_of model.now) self.new.checks }
-        ensures front { TakesFront model.now self.old self.new piece.now result }
+        ensures front { TakesDerFront model.now self.old self.new piece.now result }
         ensures unchanged { IfOk result (λ n. n ≡ 0 → self.new.decoder ≡ self.old.decoder) }
     {
         let _ = piece;

@@ -6,8 +6,8 @@ ghost use Rattle.der_model.specs.DerMessage.{der_message};
 ghost use Rattle.der_codec.specs.Checked.{CheckTypes};
 ghost use Rattle.der_codec.specs.Judging.{HoldsContents};
 ghost use Rattle.der_codec.specs.Levels.{inwards, rest_of};
-ghost use Rattle.der_codec.specs.Decoding.{HasRead, IsBelow, IsFresh, IsWaiting, end_of_levels, HasIdentifier, level_at};
-ghost use Rattle.der_codec.specs.inner.Entering.{Enters, Passes};
+ghost use Rattle.der_codec.specs.Decoding.{HasReadParts, IsBelowEnd, IsFresh, IsWaiting, end_of_levels, HasIdentifier, level_at};
+ghost use Rattle.der_codec.specs.inner.Entering.{Enters, PassesLeaf};
 ghost use Rattle.der_octets.specs.declared.tag_step.TagStep.{TagStep as Steps};
 
 use crate::checks::Checks;
@@ -27,9 +27,9 @@ impl Decoder {
         requires room { self.old.place + length piece.now ≤ 2 ^ 40 }
         requires waits { IsWaiting self.old.due self.old.place (end_of_levels self.old.levels.items) }
         requires checks { CheckTypes (types_of model.now) checks.old }
-        requires read { (bytes : List ℕ) × HasRead (der_message model.now) self.old bytes }
+        requires read { (bytes : List ℕ) × HasReadParts (der_message model.now) self.old bytes }
         ensures checks { CheckTypes (types_of model.now) checks.new }
-        ensures ok { (bytes : List ℕ) → HasRead (der_message model.now) self.old bytes → HasRead (der_message model.now) self.new (bytes ++ take result piece.now) }
+        ensures ok { (bytes : List ℕ) → HasReadParts (der_message model.now) self.old bytes → HasReadParts (der_message model.now) self.new (bytes ++ take result piece.now) }
         ensures none { result ≡ 0 → self.new ≡ self.old }
         ensures within { result ≤ length piece.now }
         ensures fresh { 0 < result → IsFresh self.new.due }
@@ -55,9 +55,9 @@ impl Decoder {
         requires room { self.old.place + length piece.now ≤ 2 ^ 40 }
         requires waits { IsWaiting self.old.due self.old.place (end_of_levels self.old.levels.items) }
         requires checks { CheckTypes (types_of model.now) checks.old }
-        requires read { (bytes : List ℕ) × HasRead (der_message model.now) self.old bytes }
+        requires read { (bytes : List ℕ) × HasReadParts (der_message model.now) self.old bytes }
         ensures checks { CheckTypes (types_of model.now) checks.new }
-        ensures ok { (bytes : List ℕ) → HasRead (der_message model.now) self.old bytes → IfSome result (λ n. HasRead (der_message model.now) self.new (bytes ++ take n piece.now)) }
+        ensures ok { (bytes : List ℕ) → HasReadParts (der_message model.now) self.old bytes → IfSome result (λ n. HasReadParts (der_message model.now) self.new (bytes ++ take n piece.now)) }
         ensures kept { IfNone result (self.new ≡ self.old) }
         ensures some { IfSome result (λ n. 0 < n) }
         ensures within { IfSome result (λ n. n ≤ length piece.now) }
@@ -80,9 +80,9 @@ impl Decoder {
     #[inline(always)]
     fn end_usual(&mut self, model: &Model) -> bool
         requires { IsFresh self.old.due }
-        ensures ok { (bytes : List ℕ) → HasRead (der_message model.now) self.old bytes → HasRead (der_message model.now) self.new bytes }
+        ensures ok { (bytes : List ℕ) → HasReadParts (der_message model.now) self.old bytes → HasReadParts (der_message model.now) self.new bytes }
         ensures fresh { IsFresh self.new.due }
-        ensures low { result ≡ true → (bytes : List ℕ) → HasRead (der_message model.now) self.old bytes → IsBelow self.new.place (end_of_levels self.new.levels.items) }
+        ensures low { result ≡ true → (bytes : List ℕ) → HasReadParts (der_message model.now) self.old bytes → IsBelowEnd self.new.place (end_of_levels self.new.levels.items) }
     {
         loop {
             let ends = self.ends_here();
@@ -100,7 +100,7 @@ impl Decoder {
     #[inline(always)]
     fn end_inner(&mut self, model: &Model) -> bool
         requires { IsFresh self.old.due }
-        ensures ok { (bytes : List ℕ) → HasRead (der_message model.now) self.old bytes → HasRead (der_message model.now) self.new bytes }
+        ensures ok { (bytes : List ℕ) → HasReadParts (der_message model.now) self.old bytes → HasReadParts (der_message model.now) self.new bytes }
         ensures fresh { IsFresh self.new.due }
         ensures less { result ≡ true → length self.new.levels.items < length self.old.levels.items }
     {
@@ -129,9 +129,9 @@ impl Decoder {
         requires room { self.old.place + 2 + length behind.now ≤ 2 ^ 40 }
         requires waits { IsWaiting self.old.due self.old.place (end_of_levels self.old.levels.items) }
         requires checks { CheckTypes (types_of model.now) checks.old }
-        requires read { (bytes : List ℕ) × HasRead (der_message model.now) self.old bytes }
+        requires read { (bytes : List ℕ) × HasReadParts (der_message model.now) self.old bytes }
         ensures checks { CheckTypes (types_of model.now) checks.new }
-        ensures ok { (bytes : List ℕ) → HasRead (der_message model.now) self.old bytes → IfSome result (λ n. HasRead (der_message model.now) self.new (bytes ++ first ∷ second ∷ take n behind.now)) }
+        ensures ok { (bytes : List ℕ) → HasReadParts (der_message model.now) self.old bytes → IfSome result (λ n. HasReadParts (der_message model.now) self.new (bytes ++ first ∷ second ∷ take n behind.now)) }
         ensures kept { IfNone result (self.new ≡ self.old) }
         ensures within { IfSome result (λ n. n ≤ length behind.now) }
         ensures fresh { IfSome result (λ _. IsFresh self.new.due) }
@@ -155,11 +155,11 @@ impl Decoder {
     ) -> Option<usize>
         requires room { self.old.place + 2 + length behind.now ≤ 2 ^ 40 }
         requires due { self.old.due ≡ Due.Tag step }
-        requires low { IsBelow self.old.place (end_of_levels self.old.levels.items) }
+        requires low { IsBelowEnd self.old.place (end_of_levels self.old.levels.items) }
         requires checks { CheckTypes (types_of model.now) checks.old }
-        requires read { (bytes : List ℕ) × HasRead (der_message model.now) self.old bytes }
+        requires read { (bytes : List ℕ) × HasReadParts (der_message model.now) self.old bytes }
         ensures checks { CheckTypes (types_of model.now) checks.new }
-        ensures ok { (bytes : List ℕ) → HasRead (der_message model.now) self.old bytes → IfSome result (λ n. HasRead (der_message model.now) self.new (bytes ++ first ∷ second ∷ take n behind.now)) }
+        ensures ok { (bytes : List ℕ) → HasReadParts (der_message model.now) self.old bytes → IfSome result (λ n. HasReadParts (der_message model.now) self.new (bytes ++ first ∷ second ∷ take n behind.now)) }
         ensures kept { IfNone result (self.new ≡ self.old) }
         ensures within { IfSome result (λ n. n ≤ length behind.now) }
         ensures fresh { IfSome result (λ _. IsFresh self.new.due) }
@@ -187,11 +187,11 @@ impl Decoder {
     ) -> Option<usize>
         requires room { self.old.place + 2 + length behind.now ≤ 2 ^ 40 }
         requires short { second < 128 }
-        requires low { IsBelow self.old.place (end_of_levels self.old.levels.items) }
+        requires low { IsBelowEnd self.old.place (end_of_levels self.old.levels.items) }
         requires checks { CheckTypes (types_of model.now) checks.old }
-        requires read { (bytes : List ℕ) × HasRead (der_message model.now) self.old bytes }
+        requires read { (bytes : List ℕ) × HasReadParts (der_message model.now) self.old bytes }
         ensures checks { CheckTypes (types_of model.now) checks.new }
-        ensures ok { (bytes : List ℕ) (r : HasRead (der_message model.now) self.old bytes) → HasIdentifier self.old.due r.rest first id → IfSome result (λ n. HasRead (der_message model.now) self.new (bytes ++ first ∷ second ∷ take n behind.now)) }
+        ensures ok { (bytes : List ℕ) (r : HasReadParts (der_message model.now) self.old bytes) → HasIdentifier self.old.due r.rest first id → IfSome result (λ n. HasReadParts (der_message model.now) self.new (bytes ++ first ∷ second ∷ take n behind.now)) }
         ensures kept { IfNone result (self.new ≡ self.old) }
         ensures within { IfSome result (λ n. n ≤ length behind.now) }
         ensures fresh { IfSome result (λ _. IsFresh self.new.due) }
@@ -243,7 +243,7 @@ impl Decoder {
         ensures levels { result ≡ true → inwards self.new.levels.items ≡ level_at spot end ∷ around ∷ rest_of (inwards self.old.levels.items) }
         ensures place { result ≡ true → self.new.place ≡ place }
         ensures start { result ≡ true → self.new.start ≡ place }
-        ensures due { result ≡ true → (step : Steps) × (self.new.due ≡ Due.Tag step) × tags.HasTaken step [] }
+        ensures due { result ≡ true → (step : Steps) × (self.new.due ≡ Due.Tag step) × tags.HasTakenTag step [] }
         ensures fresh { result ≡ true → IsFresh self.new.due }
     {
         if !self.has_room() {
@@ -269,7 +269,7 @@ impl Decoder {
         ensures levels { inwards self.new.levels.items ≡ level_at spot end ∷ around ∷ rest_of (inwards self.old.levels.items) }
         ensures place { self.new.place ≡ place }
         ensures start { self.new.start ≡ place }
-        ensures due { (step : Steps) × (self.new.due ≡ Due.Tag step) × tags.HasTaken step [] }
+        ensures due { (step : Steps) × (self.new.due ≡ Due.Tag step) × tags.HasTakenTag step [] }
         ensures fresh { IsFresh self.new.due }
     {
         self.set_innermost(around);
@@ -315,7 +315,7 @@ impl Decoder {
         ensures kept { IfNone result (self.new ≡ self.old) }
         ensures within { IfSome result (λ n. n ≤ length behind.now) }
         ensures count { IfSome result (λ n. n ≡ count) }
-        ensures passed { IfSome result (λ n. Passes (der_message model.now) self.old self.new level number spot (take n behind.now)) }
+        ensures passed { IfSome result (λ n. PassesLeaf (der_message model.now) self.old self.new level number spot (take n behind.now)) }
         ensures fresh { IfSome result (λ _. IsFresh self.new.due) }
     {
         let end = self.place + 2 + count as u64;
@@ -341,7 +341,7 @@ impl Decoder {
         ensures levels { inwards self.new.levels.items ≡ around ∷ rest_of (inwards self.old.levels.items) }
         ensures place { self.new.place ≡ place }
         ensures start { self.new.start ≡ place }
-        ensures due { (step : Steps) × (self.new.due ≡ Due.Tag step) × tags.HasTaken step [] }
+        ensures due { (step : Steps) × (self.new.due ≡ Due.Tag step) × tags.HasTakenTag step [] }
         ensures fresh { IsFresh self.new.due }
     {
         self.set_innermost(around);

@@ -4,11 +4,11 @@ ghost use Rattle.der_model.specs.DerMessage.{der_message};
 ghost use Rattle.der_model.specs.NestedPieces.{elements_around};
 ghost use Rattle.der_model.specs.ShownPieces.{end_each, elements_ended};
 ghost use Rattle.der_model.specs.States.{State};
-ghost use Rattle.der_codec.specs.Checking.{IsReading, IsNoContents, StopsWithin, fed};
-ghost use Rattle.der_codec.specs.Decoding.{HasRead, IsStopped, IsSettled, IsBelow, IsFresh, IsFreshOrOver, IsReady, IsOpen, IsNoCut, BeginsContents, IsHeaderDue, end_of_levels};
-ghost use Rattle.der_codec.specs.KeptPieces.{KeepsShown, GoOn, AreOpen, EndsLeaf, around_of, begun_pieces};
+ghost use Rattle.der_codec.specs.Checking.{IsReading, IsNoContents, StopsWithin, der_bytes_fed};
+ghost use Rattle.der_codec.specs.Decoding.{HasReadParts, IsStopped, IsSettled, IsBelowEnd, IsFresh, IsFreshOrOver, IsOctetAwaited, IsOpenState, IsNoCut, BeginsContents, IsHeaderDue, end_of_levels};
+ghost use Rattle.der_codec.specs.KeptPieces.{KeepsShown, PiecesGoOn, AreOpen, EndsLeaf, around_of, begun_pieces};
 ghost use Rattle.der_codec.specs.Levels.{inwards};
-ghost use Rattle.der_codec.specs.ReadInstances.{IsRead};
+ghost use Rattle.der_codec.specs.ReadInstances.{IsSpelledDerAs};
 
 use crate::checker::DerChecker;
 use crate::decoder::{Due, Stop};
@@ -20,18 +20,18 @@ use message_model::{InstanceError, Model};
 impl DerChecker {
     /// Takes an octet of a header. Behind the last of identifier octets the elements of their component begin.
     pub(crate) fn take_octet(&mut self, model: &Model, octet: u8) -> Result<(), Stop>
-        requires room { fed self.old < 2 ^ 63 }
+        requires room { der_bytes_fed self.old < 2 ^ 63 }
         requires due { IsHeaderDue self.old.decoder.due }
-        requires low { IsBelow self.old.decoder.place (end_of_levels self.old.decoder.levels.items) }
-        requires read { (bytes : List ℕ) × HasRead (der_message model.now) self.old.decoder bytes }
+        requires low { IsBelowEnd self.old.decoder.place (end_of_levels self.old.decoder.levels.items) }
+        requires read { (bytes : List ℕ) × HasReadParts (der_message model.now) self.old.decoder bytes }
         ensures kept { self.new.kept ≡ self.old.kept }
         ensures checks { self.new.checks ≡ self.old.checks }
         ensures sound { self.new.failed ≡ self.old.failed }
-        ensures ok { (bytes : List ℕ) → HasRead (der_message model.now) self.old.decoder bytes → IfOk result (λ _. HasRead (der_message model.now) self.new.decoder (bytes ++ octet ∷ [])) }
-        ensures shown { (bytes : List ℕ) → HasRead (der_message model.now) self.old.decoder bytes → KeepsShown (der_message model.now) self.old.decoder self.old.pieces bytes → IfOk result (λ _. KeepsShown (der_message model.now) self.new.decoder self.new.pieces (bytes ++ octet ∷ [])) }
-        ensures err { (bytes : List ℕ) → HasRead (der_message model.now) self.old.decoder bytes → IfErr result (λ stop. IsStopped (der_message model.now) self.new.decoder (bytes ++ octet ∷ []) stop) }
-        ensures stays { (bytes : List ℕ) → HasRead (der_message model.now) self.old.decoder bytes → IfErr result (λ stop. IsNoCut stop) }
-        ensures place { IfOk result (λ _. fed self.new ≡ fed self.old + 1) }
+        ensures ok { (bytes : List ℕ) → HasReadParts (der_message model.now) self.old.decoder bytes → IfOk result (λ _. HasReadParts (der_message model.now) self.new.decoder (bytes ++ octet ∷ [])) }
+        ensures shown { (bytes : List ℕ) → HasReadParts (der_message model.now) self.old.decoder bytes → KeepsShown (der_message model.now) self.old.decoder self.old.pieces bytes → IfOk result (λ _. KeepsShown (der_message model.now) self.new.decoder self.new.pieces (bytes ++ octet ∷ [])) }
+        ensures err { (bytes : List ℕ) → HasReadParts (der_message model.now) self.old.decoder bytes → IfErr result (λ stop. IsStopped (der_message model.now) self.new.decoder (bytes ++ octet ∷ []) stop) }
+        ensures stays { (bytes : List ℕ) → HasReadParts (der_message model.now) self.old.decoder bytes → IfErr result (λ stop. IsNoCut stop) }
+        ensures place { IfOk result (λ _. der_bytes_fed self.new ≡ der_bytes_fed self.old + 1) }
         ensures low { IfOk result (λ _. IsSettled self.new.decoder.due self.new.decoder.place (end_of_levels self.new.decoder.levels.items)) }
         ensures begun { IfOk result (λ _. BeginsContents self.new.decoder.due self.new.decoder.start self.new.decoder.place) }
     {
@@ -51,7 +51,7 @@ impl DerChecker {
         ensures kept { self.new.kept ≡ self.old.kept }
         ensures checks { self.new.checks ≡ self.old.checks }
         ensures sound { self.new.failed ≡ self.old.failed }
-        ensures shown { (state : State ℕ) → IsOpen (der_message model.now) (inwards self.old.decoder.levels.items) self.old.decoder.due state → OnOk result (GoOn self.old.pieces self.new.pieces (begun_pieces (der_message model.now) state)) }
+        ensures shown { (state : State ℕ) → IsOpenState (der_message model.now) (inwards self.old.decoder.levels.items) self.old.decoder.due state → OnOk result (PiecesGoOn self.old.pieces self.new.pieces (begun_pieces (der_message model.now) state)) }
         ensures err { IfErr result (λ stop. stop ≡ Stop.Memory) }
     {
         match self.decoder.due {
@@ -66,13 +66,13 @@ impl DerChecker {
     /// The elements end that end with the component that came last.
     #[inline(always)]
     fn end_component(&mut self, model: &Model) -> Result<(), Stop>
-        requires { (bytes : List ℕ) × (r : HasRead (der_message model.now) self.old.decoder bytes) × AreOpen self.old.pieces (elements_around (der_message model.now) (around_of r.state)) }
+        requires { (bytes : List ℕ) × (r : HasReadParts (der_message model.now) self.old.decoder bytes) × AreOpen self.old.pieces (elements_around (der_message model.now) (around_of r.state)) }
         ensures decoder { self.new.decoder ≡ self.old.decoder }
         ensures kept { self.new.kept ≡ self.old.kept }
         ensures checks { self.new.checks ≡ self.old.checks }
         ensures sound { self.new.failed ≡ self.old.failed }
-        ensures shown { (bytes : List ℕ) (r : HasRead (der_message model.now) self.old.decoder bytes) → AreOpen self.old.pieces (elements_around (der_message model.now) (around_of r.state))
-            → OnOk result (GoOn self.old.pieces self.new.pieces (end_each (elements_ended (der_message model.now) (around_of r.state)))) }
+        ensures shown { (bytes : List ℕ) (r : HasReadParts (der_message model.now) self.old.decoder bytes) → AreOpen self.old.pieces (elements_around (der_message model.now) (around_of r.state))
+            → OnOk result (PiecesGoOn self.old.pieces self.new.pieces (end_each (elements_ended (der_message model.now) (around_of r.state)))) }
         ensures err { IfErr result (λ stop. stop ≡ Stop.Memory) }
     {
         match end(&mut self.pieces, model, &self.decoder) {
@@ -87,11 +87,11 @@ impl DerChecker {
         requires settled { IsSettled self.old.decoder.due self.old.decoder.place (end_of_levels self.old.decoder.levels.items) }
         requires header { IsNoContents self.old.decoder.due }
         requires kept { self.old.kept.items ≡ [] }
-        requires given { (bytes : List ℕ) × HasRead (der_message model.now) self.old.decoder bytes × KeepsShown (der_message model.now) self.old.decoder self.old.pieces bytes }
+        requires given { (bytes : List ℕ) × HasReadParts (der_message model.now) self.old.decoder bytes × KeepsShown (der_message model.now) self.old.decoder self.old.pieces bytes }
         ensures checks { self.new.checks ≡ self.old.checks }
         ensures sound { self.new.failed ≡ self.old.failed }
-        ensures ok { (bytes : List ℕ) → HasRead (der_message model.now) self.old.decoder bytes → KeepsShown (der_message model.now) self.old.decoder self.old.pieces bytes → IfOk result (λ _. IsReading model.now self.new.decoder self.new.kept.items self.new.pieces bytes) }
-        ensures err { (bytes : List ℕ) → HasRead (der_message model.now) self.old.decoder bytes → IfErr result (λ stop. StopsWithin model.now self.new.decoder bytes stop) }
+        ensures ok { (bytes : List ℕ) → HasReadParts (der_message model.now) self.old.decoder bytes → KeepsShown (der_message model.now) self.old.decoder self.old.pieces bytes → IfOk result (λ _. IsReading model.now self.new.decoder self.new.kept.items self.new.pieces bytes) }
+        ensures err { (bytes : List ℕ) → HasReadParts (der_message model.now) self.old.decoder bytes → IfErr result (λ stop. StopsWithin model.now self.new.decoder bytes stop) }
     {
         if self.decoder.is_fresh() {
             return self.end_here(model);
@@ -104,11 +104,11 @@ impl DerChecker {
     pub(crate) fn end_here(&mut self, model: &Model) -> Result<(), Stop>
         requires fresh { IsFresh self.old.decoder.due }
         requires kept { self.old.kept.items ≡ [] }
-        requires given { (bytes : List ℕ) × HasRead (der_message model.now) self.old.decoder bytes × KeepsShown (der_message model.now) self.old.decoder self.old.pieces bytes }
+        requires given { (bytes : List ℕ) × HasReadParts (der_message model.now) self.old.decoder bytes × KeepsShown (der_message model.now) self.old.decoder self.old.pieces bytes }
         ensures checks { self.new.checks ≡ self.old.checks }
         ensures sound { self.new.failed ≡ self.old.failed }
-        ensures ok { (bytes : List ℕ) → HasRead (der_message model.now) self.old.decoder bytes → KeepsShown (der_message model.now) self.old.decoder self.old.pieces bytes → IfOk result (λ _. IsReading model.now self.new.decoder self.new.kept.items self.new.pieces bytes) }
-        ensures err { (bytes : List ℕ) → HasRead (der_message model.now) self.old.decoder bytes → IfErr result (λ stop. StopsWithin model.now self.new.decoder bytes stop) }
+        ensures ok { (bytes : List ℕ) → HasReadParts (der_message model.now) self.old.decoder bytes → KeepsShown (der_message model.now) self.old.decoder self.old.pieces bytes → IfOk result (λ _. IsReading model.now self.new.decoder self.new.kept.items self.new.pieces bytes) }
+        ensures err { (bytes : List ℕ) → HasReadParts (der_message model.now) self.old.decoder bytes → IfErr result (λ stop. StopsWithin model.now self.new.decoder bytes stop) }
     {
         if !self.decoder.ends_here() {
             return Ok(());
@@ -121,11 +121,11 @@ impl DerChecker {
     fn end_all(&mut self, model: &Model) -> Result<(), Stop>
         requires fresh { IsFresh self.old.decoder.due }
         requires kept { self.old.kept.items ≡ [] }
-        requires given { (bytes : List ℕ) × HasRead (der_message model.now) self.old.decoder bytes × KeepsShown (der_message model.now) self.old.decoder self.old.pieces bytes }
+        requires given { (bytes : List ℕ) × HasReadParts (der_message model.now) self.old.decoder bytes × KeepsShown (der_message model.now) self.old.decoder self.old.pieces bytes }
         ensures checks { self.new.checks ≡ self.old.checks }
         ensures sound { self.new.failed ≡ self.old.failed }
-        ensures ok { (bytes : List ℕ) → HasRead (der_message model.now) self.old.decoder bytes → KeepsShown (der_message model.now) self.old.decoder self.old.pieces bytes → IfOk result (λ _. IsReading model.now self.new.decoder self.new.kept.items self.new.pieces bytes) }
-        ensures err { (bytes : List ℕ) → HasRead (der_message model.now) self.old.decoder bytes → IfErr result (λ stop. StopsWithin model.now self.new.decoder bytes stop) }
+        ensures ok { (bytes : List ℕ) → HasReadParts (der_message model.now) self.old.decoder bytes → KeepsShown (der_message model.now) self.old.decoder self.old.pieces bytes → IfOk result (λ _. IsReading model.now self.new.decoder self.new.kept.items self.new.pieces bytes) }
+        ensures err { (bytes : List ℕ) → HasReadParts (der_message model.now) self.old.decoder bytes → IfErr result (λ stop. StopsWithin model.now self.new.decoder bytes stop) }
     {
         loop {
             let ended = match self.end_one(model) {
@@ -145,16 +145,16 @@ impl DerChecker {
     #[inline(always)]
     fn end_one(&mut self, model: &Model) -> Result<bool, Stop>
         requires fresh { IsFresh self.old.decoder.due }
-        requires given { (bytes : List ℕ) × HasRead (der_message model.now) self.old.decoder bytes × KeepsShown (der_message model.now) self.old.decoder self.old.pieces bytes }
+        requires given { (bytes : List ℕ) × HasReadParts (der_message model.now) self.old.decoder bytes × KeepsShown (der_message model.now) self.old.decoder self.old.pieces bytes }
         ensures kept { self.new.kept ≡ self.old.kept }
         ensures checks { self.new.checks ≡ self.old.checks }
         ensures sound { self.new.failed ≡ self.old.failed }
-        ensures ok { (bytes : List ℕ) → HasRead (der_message model.now) self.old.decoder bytes → IfOk result (λ _. HasRead (der_message model.now) self.new.decoder bytes) }
-        ensures shown { (bytes : List ℕ) → HasRead (der_message model.now) self.old.decoder bytes → KeepsShown (der_message model.now) self.old.decoder self.old.pieces bytes → IfOk result (λ _. KeepsShown (der_message model.now) self.new.decoder self.new.pieces bytes) }
-        ensures err { (bytes : List ℕ) → HasRead (der_message model.now) self.old.decoder bytes → IfErr result (λ stop. StopsWithin model.now self.new.decoder bytes stop) }
+        ensures ok { (bytes : List ℕ) → HasReadParts (der_message model.now) self.old.decoder bytes → IfOk result (λ _. HasReadParts (der_message model.now) self.new.decoder bytes) }
+        ensures shown { (bytes : List ℕ) → HasReadParts (der_message model.now) self.old.decoder bytes → KeepsShown (der_message model.now) self.old.decoder self.old.pieces bytes → IfOk result (λ _. KeepsShown (der_message model.now) self.new.decoder self.new.pieces bytes) }
+        ensures err { (bytes : List ℕ) → HasReadParts (der_message model.now) self.old.decoder bytes → IfErr result (λ stop. StopsWithin model.now self.new.decoder bytes stop) }
         ensures ended { IfOk result (λ ended. ended ≡ true → IsFreshOrOver self.new.decoder.due) }
         ensures less { IfOk result (λ ended. ended ≡ true → length self.new.decoder.levels.items < length self.old.decoder.levels.items) }
-        ensures open { (bytes : List ℕ) → HasRead (der_message model.now) self.old.decoder bytes → IfOk result (λ ended. ended ≡ false → IsReady self.new.decoder.due self.new.decoder.place (end_of_levels self.new.decoder.levels.items)) }
+        ensures open { (bytes : List ℕ) → HasReadParts (der_message model.now) self.old.decoder bytes → IfOk result (λ ended. ended ≡ false → IsOctetAwaited self.new.decoder.due self.new.decoder.place (end_of_levels self.new.decoder.levels.items)) }
     {
         let ended = match self.decoder.end(model) {
             Ok(ended) => ended,
@@ -178,7 +178,7 @@ impl DerChecker {
         ensures checks { self.new.checks ≡ self.old.checks }
         ensures sound { self.new.failed ≡ self.old.failed }
         ensures ok { (bytes : List ℕ) → EndsLeaf (der_message model.now) self.old.decoder self.old.pieces bytes → IfOk result (λ _. IsReading model.now self.new.decoder self.new.kept.items self.new.pieces bytes) }
-        ensures err { (bytes : List ℕ) → HasRead (der_message model.now) self.old.decoder bytes → IfErr result (λ stop. StopsWithin model.now self.new.decoder bytes stop) }
+        ensures err { (bytes : List ℕ) → HasReadParts (der_message model.now) self.old.decoder bytes → IfErr result (λ stop. StopsWithin model.now self.new.decoder bytes stop) }
     {
         match self.end_component(model) {
             Ok(()) => self.end_here(model),
@@ -188,8 +188,8 @@ impl DerChecker {
 
     /// The pieces of the instance, where the bytes are whole.
     pub(crate) fn instance(self, model: &Model) -> Result<Instance, InstanceError>
-        requires given { (bytes : List ℕ) × HasRead (der_message model.now) self.decoder bytes × KeepsShown (der_message model.now) self.decoder self.pieces bytes }
-        ensures ok { (bytes : List ℕ) → HasRead (der_message model.now) self.decoder bytes → KeepsShown (der_message model.now) self.decoder self.pieces bytes → IfOk result (λ i. IsRead model.now bytes i.region.pieces) }
+        requires given { (bytes : List ℕ) × HasReadParts (der_message model.now) self.decoder bytes × KeepsShown (der_message model.now) self.decoder self.pieces bytes }
+        ensures ok { (bytes : List ℕ) → HasReadParts (der_message model.now) self.decoder bytes → KeepsShown (der_message model.now) self.decoder self.pieces bytes → IfOk result (λ i. IsSpelledDerAs model.now bytes i.region.pieces) }
         ensures err { IfErr result (λ e. e ≡ InstanceError.Memory) }
     {
         is_sound(model);

@@ -16,13 +16,13 @@ use Rattle.reference_check.specs.Forms as form
 use Rattle.message_model.specs.Admits.{FitsCode}
 use Rattle.der_model.specs.LeafContents.{leaf_contents, IsContents, IsDecimalContents}
 use Rattle.der_model.specs.DerMessage.{DerMessage}
-use Rattle.der_model.specs.Structures.{Spot, Instance, ListOf, Label, Component, Contents, LeafOf, Fragment, Structure, Holds, Fields, OneOf, Items, Empty, structure, form_structure, component, components, item_components, amount_components, number_structure, is_one, is_single, is_constructed, universal_tag}
+use Rattle.der_model.specs.Structures.{Spot, Instance, ListOf, Label, Component, PrimitiveContents, LeafOf, Fragment, Structure, Holds, Fields, OneOf, Items, Empty, structure, form_structure, component, components, item_components, amount_components, number_structure, is_one, is_single, is_constructed, universal_tag}
 use Rattle.der_model.specs.Structures as structures
 use Rattle.der_model.specs.Der.{Inner}
 use Rattle.der_model.specs.States.{Begins, is_under, field_answer}
 use Rattle.der_model.specs.Faults.{IsHeldIn}
 use Rattle.der_model.specs.inner.Conforms.{Conforms}
-use Rattle.der_model.specs.Sound.{IsSound}
+use Rattle.der_model.specs.Sound.{IsSoundDer}
 use Rattle.der_model.proofs.SoundMessages.{IsAmount, amounts_of}
 use Rattle.der_model.proofs.ContentsLaws.{contents_are_written}
 use Rattle.der_model.proofs.WholeValues.{under_same}
@@ -103,7 +103,7 @@ amount_body {P} m p c s at (decimal, x, code) (Primitive tag o rest) (k, d, begi
             ends (Constructed a b r) (x, y, z, w, v) = absurd cc
 
 -- the value of a body that holds values
-pub body_of_values : {P : Type 0} (m : DerMessage P) → IsSound m → (p : P) (f : Form P Simple) (inner : Values) → m.forms p ≡ f → is_constructed f ≡ true → Conforms m (form_structure m.forms p f) [] inner
+pub body_of_values : {P : Type 0} (m : DerMessage P) → IsSoundDer m → (p : P) (f : Form P Simple) (inner : Values) → m.forms p ≡ f → is_constructed f ≡ true → Conforms m (form_structure m.forms p f) [] inner
     → ((fs : List (Slot P)) → m.forms p ≡ form.Sequence fs → Conforms m (Fields (components m.forms p 0 fs)) [] inner → FromFields m fs 0 inner)
     → ((fs : List (Slot P)) → m.forms p ≡ form.Choice fs → Conforms m (OneOf (components m.forms p 0 fs)) [] inner → FromBody m (form.Choice fs) (Inner inner)) → FromBody m f (Inner inner)
 body_of_values m sound p (form.Sequence fs) inner at e conf fields one =

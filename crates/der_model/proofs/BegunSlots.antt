@@ -8,7 +8,7 @@ use Rattle.der_octets.specs.Octets.{Tag, context}
 use Rattle.reference_check.specs.Forms.{Graph, Slot}
 use Rattle.der_model.specs.DerMessage.{DerMessage}
 use Rattle.der_model.specs.Structures.{Label, Component, component, components, is_single}
-use Rattle.der_model.specs.States.{Answer, Begins, Breaks, is_under, field_answer, any_answer, skipping, next_number}
+use Rattle.der_model.specs.States.{IdentifierAnswer, Begins, Breaks, is_under, field_answer, any_answer, skipping, next_number}
 use Rattle.lexical_core.specs.declared.rule.Rule.TheVariants as rule
 use Rattle.der_model.proofs.WholeValues.{under_same}
 use Rattle.der_model.proofs.ChildLists.{free_slot}
@@ -23,7 +23,7 @@ pub record Next {P : Type 0} (g : Graph P Simple) (p : P) (i : ℕ) (fs : List (
   pub own : is_under c b t ≡ true
   pub free : (a : ℕ) (u : Slot P) → a < off → slice_get fs a ≡ Some u → (component g p (i + a) u).required ≡ false
 
-pub no_begin : {P : Type 0} (l : Label) (a : Answer P) (k : ℕ) (c : Component P) → skipping l a ≡ Begins k c → ⊥
+pub no_begin : {P : Type 0} (l : Label) (a : IdentifierAnswer P) (k : ℕ) (c : Component P) → skipping l a ≡ Begins k c → ⊥
 no_begin l (Begins j d) k c e = absurd cc
 no_begin l (Breaks rule.UnexpectedTag x) k c e = absurd cc
 no_begin l (Breaks r x) k c e = absurd cc
@@ -32,7 +32,7 @@ next_slot : {P : Type 0} (g : Graph P Simple) (p : P) (i : ℕ) (fs : List (Slot
 next_slot g p i [] b t k c e = absurd cc
 next_slot {P} g p i (s ∷ fs) b t k c e = go (is_under (component g p i s) b t) refl (component g p i s).required refl (λ h. next_slot g p (suc i) fs b t k c h)
   where
-    later : Answer P
+    later : IdentifierAnswer P
     later = field_answer (suc i) (components g p (suc i) fs) b t
 
     go : (u : Bool) → is_under (component g p i s) b t ≡ u → (r : Bool) → (component g p i s).required ≡ r → (field_answer (suc i) (components g p (suc i) fs) b t ≡ Begins k c → Next g p (suc i) fs b t k c) → Next g p i (s ∷ fs) b t k c

@@ -13,7 +13,7 @@ use Rattle.message_model.specs.Admits.{numbers_of}
 use Rattle.message_model.specs.Admits.{AdmitsChildren}
 use Rattle.der_model.specs.DerMessage.{DerMessage}
 use Rattle.der_model.specs.Structures.{component, is_single}
-use Rattle.der_model.specs.Der.{placed, slot_values, all_slots, body, values_at}
+use Rattle.der_model.specs.Der.{placed_value, slot_values, all_slots, body, values_at}
 use Rattle.der_model.proofs.Spelled.{no_child}
 
 -- children before others
@@ -38,7 +38,7 @@ values_own m k n s value.Nothing b is none = none
 values_own m k zero s (value.Child j v rest) b is none = absurd cc
 values_own m k (suc n) s (value.Child j v rest) b is none =
     let tails : numbers_of rest ≡ replicate n k = cc in
-    ap (λ z. if j == k then placed m.forms k s (body m (m.forms s.target) v) z else z) (values_own m k n s rest b tails none)
+    ap (λ z. if j == k then placed_value m.forms k s (body m (m.forms s.target) v) z else z) (values_own m k n s rest b tails none)
 
 pub values_other : {P : Type 0} (m : DerMessage P) (i k n : ℕ) (s : Slot P) (a b : Children) → numbers_of a ≡ replicate n k → i ≢ k → values_at m i s (then_children a b) ≡ values_at m i s b
 values_other m i k n s value.Nothing b is other = refl

@@ -17,7 +17,7 @@ use Rattle.data_types.specs.Canonical.{IsCanonicalLeaf}
 use Rattle.data_types.proofs.CanonicalLemmas.{one_canonical}
 use Rattle.data_types.proofs.LeavesByKind.{binary_leaves}
 use Rattle.facets.specs.LeafUnder.{Fits, BreaksAs, HasSortedCodes, IsCanonicalBy, IsLeafBy, IsCodeAt}
-use Rattle.facets.specs.Rules.{Breaks, BreaksFirst}
+use Rattle.facets.specs.Rules.{BreaksLeafRule, BreaksFirst}
 use Rattle.facets.proofs.OneAnswer.{one_answer}
 use Rattle.facets.specs.declared.simple.Simple.{Simple}
 use Rattle.der_model.specs.LeafContents.{IsInteger, flag_octet, leaf_contents, IsTextContents, IsCodeContents, IsDecimalContents, IsBooleanContents, IsBinaryContents, IsDateContents, IsContents, HasContentsForm, HasCodes, ContentsUnder}
@@ -124,7 +124,7 @@ fits_breaks : (simple : Simple) (leaf : Leaf) (r : Rule) → (HasCodes simple.ki
 fits_breaks simple leaf r bare other (text, canonical, given) (inr (none, e)) = other e
 fits_breaks simple leaf r bare other (text, canonical, given) (inl (text2, canonical2, first)) =
     let same = one_canonical simple.kind leaf text2 text (canonical_leaf simple.kind simple.codes leaf text2 bare canonical2) (canonical_leaf simple.kind simple.codes leaf text bare canonical) in
-    given.sound r (subst (λ t. Breaks simple t r) same first.broken)
+    given.sound r (subst (λ t. BreaksLeafRule simple t r) same first.broken)
 
 -- a leaf breaks one rule
 breaks_once : (simple : Simple) (leaf : Leaf) (r s : Rule) → HasSortedCodes simple → (HasCodes simple.kind simple.codes → ⊥) → r ≢ rule.NotACode → s ≢ rule.NotACode → BreaksAs simple leaf r → BreaksAs simple leaf s → r ≡ s

@@ -9,18 +9,18 @@ use Rattle.facets.specs.declared.simple.Simple.{Simple}
 use Rattle.der_octets.specs.Octets.{Tag, context, Values, Nothing, Primitive, Constructed}
 use Rattle.reference_check.specs.Forms.{Graph, Form, Slot, form_slots}
 use Rattle.reference_check.specs.Forms as form
-use Rattle.reference_check.specs.Words.{UpTo, IsWithin}
+use Rattle.reference_check.specs.Words.{UpTo, MayComeTimes}
 use Rattle.message_model.specs.Admits.{numbers_of}
 use Rattle.der_model.specs.DerMessage.{DerMessage}
-use Rattle.der_model.specs.Structures.{Spot, Instance, ListOf, Label, Component, Contents, LeafOf, Fragment, Structure, Holds, Fields, OneOf, Items, Empty, structure, form_structure, component, components, item_components, amount_components, number_structure, is_one, is_single, is_constructed, universal_tag}
+use Rattle.der_model.specs.Structures.{Spot, Instance, ListOf, Label, Component, PrimitiveContents, LeafOf, Fragment, Structure, Holds, Fields, OneOf, Items, Empty, structure, form_structure, component, components, item_components, amount_components, number_structure, is_one, is_single, is_constructed, universal_tag}
 use Rattle.der_model.specs.Structures as structures
 use Rattle.der_model.specs.Der.{Body, Octets, Inner, under, item, slot_values, alternative, values_at}
-use Rattle.der_model.specs.States.{Answer, Begins, Breaks, Fine, is_under, any_answer, item_answer, item_end, next_number}
+use Rattle.der_model.specs.States.{IdentifierAnswer, Begins, Breaks, Fine, is_under, any_answer, item_answer, item_end, next_number}
 use Rattle.reference_check.specs.Steps.{has_room}
 use Rattle.der_model.specs.Faults.{IsHeldIn}
 use Rattle.der_model.specs.inner.Conforms.{Conforms}
 use Rattle.message_model.specs.Sound.{IsNoOption}
-use Rattle.der_model.specs.Sound.{IsSound}
+use Rattle.der_model.specs.Sound.{IsSoundDer}
 use Rattle.der_model.proofs.SoundMessages.{HasBounds, no_options, bounds_of}
 use Rattle.der_model.proofs.WholeValues.{under_same}
 use Rattle.der_model.proofs.Spelled.{then_under, single_component, list_component, chosen_is}
@@ -33,7 +33,7 @@ use Rattle.der_model.proofs.AmountsDecoded.{body_of_values}
 pub record FromItems {P : Type 0} (m : DerMessage P) (fs : List (Slot P)) (k : ℕ) (s : Slot P) (before : ℕ) (vs : Values) : Type 0 where
   pub count : ℕ
   pub slot : FromSlot m fs k s count vs
-  pub within : IsWithin (before + count) s
+  pub within : MayComeTimes (before + count) s
 
 room_upto : (n : ℕ) (o : Option ℕ) → has_room n o ≡ true → UpTo (suc n) o
 room_upto n None e = tt
@@ -53,7 +53,7 @@ enough_items n low e = go (nat_lt n low) refl
     go false h = high n low h
 
 -- an item that begins: there is room, and it is one of the components
-item_begins : {P : Type 0} (room : Bool) (a : Answer P) (k : ℕ) (c : Component P) → item_answer room a ≡ Begins k c → (room ≡ true) × (a ≡ Begins k c)
+item_begins : {P : Type 0} (room : Bool) (a : IdentifierAnswer P) (k : ℕ) (c : Component P) → item_answer room a ≡ Begins k c → (room ≡ true) × (a ≡ Begins k c)
 item_begins true a k c e = (refl, e)
 item_begins false (Begins j d) k c e = absurd cc
 item_begins false (Breaks r x) k c e = absurd cc
@@ -68,7 +68,7 @@ item_added m fs k s before b rest there list from items = record {
     admits = ((s, there, from.admits), items.slot.admits);
     written = cond-true (k == k) _ _ (own k) ∙ (cond-false (is_single s) _ _ list ∙ (ap (λ z. item (m.forms s.target) z (values_at m k s items.slot.children)) from.written ∙ ap (λ z. item (m.forms s.target) b z) items.slot.written));
   };
-  within = subst (λ z. IsWithin z s) (let q : suc before + items.count ≡ before + suc items.count = omega arith in q) items.within;
+  within = subst (λ z. MayComeTimes z s) (let q : suc before + items.count ≡ before + suc items.count = omega arith in q) items.within;
 }
   where
     own : (k : ℕ) → (k == k) ≡ true
@@ -78,11 +78,11 @@ items_end : {P : Type 0} (m : DerMessage P) (fs : List (Slot P)) (k : ℕ) (s : 
 items_end m fs k s before low high = record {
   count = 0;
   slot = record { children = value.Nothing; alike = refl; admits = tt; written = refl };
-  within = subst (λ z. IsWithin z s) (let q : before ≡ before + 0 = omega arith in q) (low, high);
+  within = subst (λ z. MayComeTimes z s) (let q : before ≡ before + 0 = omega arith in q) (low, high);
 }
 
 -- a choice by the children of its alternative
-choice_body : {P : Type 0} (m : DerMessage P) (fs : List (Slot P)) (k count : ℕ) (s : Slot P) (vs : Values) → slice_get fs k ≡ Some s → 0 < count → IsWithin count s → FromSlot m fs k s count vs → FromBody m (form.Choice fs) (Inner (slot_values k s vs Nothing))
+choice_body : {P : Type 0} (m : DerMessage P) (fs : List (Slot P)) (k count : ℕ) (s : Slot P) (vs : Values) → slice_get fs k ≡ Some s → 0 < count → MayComeTimes count s → FromSlot m fs k s count vs → FromBody m (form.Choice fs) (Inner (slot_values k s vs Nothing))
 choice_body {P} m fs k count s vs there some within slot = record {
   value = value.Component slot.children;
   admits = ((k, count, s, there, within, slot.alike), slot.admits);
@@ -110,14 +110,14 @@ primitive_slot {P} m p fs k s c o there is form held =
     (f.0, one_value m fs k s (Octets o) there f.0 from, from)
 
 -- a constructed component of a slot
-constructed_slot : {P : Type 0} (m : DerMessage P) → IsSound m → (p : P) (q : P) (fs : List (Slot P)) (k : ℕ) (s : Slot P) (c : Component P) (inner : Values) → m.forms q ≡ m.forms q → UpTo s.min s.max → slice_get fs k ≡ Some s → c ≡ component m.forms p k s → (component m.forms p k s).constructed ≡ true → Conforms m (structure m c.spot) [] inner
+constructed_slot : {P : Type 0} (m : DerMessage P) → IsSoundDer m → (p : P) (q : P) (fs : List (Slot P)) (k : ℕ) (s : Slot P) (c : Component P) (inner : Values) → m.forms q ≡ m.forms q → UpTo s.min s.max → slice_get fs k ≡ Some s → c ≡ component m.forms p k s → (component m.forms p k s).constructed ≡ true → Conforms m (structure m c.spot) [] inner
     → ((gs : List (Slot P)) → m.forms s.target ≡ form.Sequence gs → Conforms m (Fields (components m.forms s.target 0 gs)) [] inner → FromFields m gs 0 inner)
     → ((gs : List (Slot P)) → m.forms s.target ≡ form.Choice gs → Conforms m (OneOf (components m.forms s.target 0 gs)) [] inner → FromBody m (form.Choice gs) (Inner inner))
     → (is_single s ≡ false → Conforms m (Items s (item_components m.forms s.target (m.forms s.target))) [] inner → FromItems m fs k s 0 inner)
-    → (count : ℕ) × (vs : Values) × FromSlot m fs k s count vs × IsWithin count s × ((rest : Values) → slot_values k s vs rest ≡ Constructed (context k) inner rest)
+    → (count : ℕ) × (vs : Values) × FromSlot m fs k s count vs × MayComeTimes count s × ((rest : Values) → slot_values k s vs rest ≡ Constructed (context k) inner rest)
 constructed_slot {P} m sound p q fs k s c inner same bounds there is form conf fields one items = go (is_single s) refl
   where
-    go : (z : Bool) → is_single s ≡ z → (count : ℕ) × (vs : Values) × FromSlot m fs k s count vs × IsWithin count s × ((rest : Values) → slot_values k s vs rest ≡ Constructed (context k) inner rest)
+    go : (z : Bool) → is_single s ≡ z → (count : ℕ) × (vs : Values) × FromSlot m fs k s count vs × MayComeTimes count s × ((rest : Values) → slot_values k s vs rest ≡ Constructed (context k) inner rest)
     go true e =
         let c2 = single_component m p k s e in
         let conf2 : Conforms m (form_structure m.forms s.target (m.forms s.target)) [] inner = subst (λ z. Conforms m z [] inner) c2.1 (subst (λ (z : Component P). Conforms m (structure m z.spot) [] inner) is conf) in
@@ -127,7 +127,7 @@ constructed_slot {P} m sound p q fs k s c inner same bounds there is form conf f
         let c2 = list_component m p k s e in
         let conf2 = subst (λ z. Conforms m z [] inner) c2.1 (subst (λ (z : Component P). Conforms m (structure m z.spot) [] inner) is conf) in
         let r = items e conf2 in
-        (r.count, inner, r.slot, subst (λ z. IsWithin z s) (let q : 0 + r.count ≡ r.count = omega arith in q) r.within, λ rest. list_body k s inner rest e)
+        (r.count, inner, r.slot, subst (λ z. MayComeTimes z s) (let q : 0 + r.count ≡ r.count = omega arith in q) r.within, λ rest. list_body k s inner rest e)
 
 -- what an item begins with, where its type is no choice
 plain_item : {P : Type 0} (m : DerMessage P) (target : P) (f : Form P Simple) (b : Bool) (t : Tag) (k : ℕ) (c : Component P)
@@ -159,7 +159,7 @@ no_more m cs k came (Primitive t o rest) (x, y, z, w, v) = absurd cc
 no_more m cs k came (Constructed t i rest) (x, y, z, w, v) = absurd cc
 
 -- a choice whose alternative is primitive
-primitive_choice : {P : Type 0} (m : DerMessage P) → IsSound m → (p : P) (fs : List (Slot P)) (k : ℕ) (c : Component P) (t : Tag) (o : List ℕ) → m.forms p ≡ form.Choice fs → any_answer 0 (components m.forms p 0 fs) false t ≡ Begins k c → IsHeldIn m (structure m c.spot) o → FromBody m (form.Choice fs) (Inner (Primitive t o Nothing))
+primitive_choice : {P : Type 0} (m : DerMessage P) → IsSoundDer m → (p : P) (fs : List (Slot P)) (k : ℕ) (c : Component P) (t : Tag) (o : List ℕ) → m.forms p ≡ form.Choice fs → any_answer 0 (components m.forms p 0 fs) false t ≡ Begins k c → IsHeldIn m (structure m c.spot) o → FromBody m (form.Choice fs) (Inner (Primitive t o Nothing))
 primitive_choice m sound p fs k c t o at e held =
     let a = alternative_of m p fs false t k c e in
     let r = primitive_slot m p fs k a.0 c o a.1 a.2 a.3 held in
@@ -172,7 +172,7 @@ item_of : {P : Type 0} (m : DerMessage P) (fs : List (Slot P)) (k : ℕ) (s : Sl
 item_of m fs k s f before b rest vs there list at from items e =
     subst (FromItems m fs k s before) (ap (λ z. item z b rest) at ∙ e) (item_added m fs k s before b rest there list (subst (λ z. FromBody m z b) (sym at) from) items)
 
-item_primitive : {P : Type 0} (m : DerMessage P) → IsSound m → (fs : List (Slot P)) (k : ℕ) (s : Slot P) (f : Form P Simple) (before : ℕ) (tag : Tag) (o : List ℕ) (rest : Values) (q : ℕ) (c : Component P) → slice_get fs k ≡ Some s → is_single s ≡ false → m.forms s.target ≡ f
+item_primitive : {P : Type 0} (m : DerMessage P) → IsSoundDer m → (fs : List (Slot P)) (k : ℕ) (s : Slot P) (f : Form P Simple) (before : ℕ) (tag : Tag) (o : List ℕ) (rest : Values) (q : ℕ) (c : Component P) → slice_get fs k ≡ Some s → is_single s ≡ false → m.forms s.target ≡ f
     → any_answer 0 (item_components m.forms s.target f) false tag ≡ Begins q c → IsHeldIn m (structure m c.spot) o → FromItems m fs k s (suc before) rest → FromItems m fs k s before (Primitive tag o rest)
 item_primitive {P} m sound fs k s f before tag o rest q c there list at begins held items = go f at begins
   where
@@ -201,7 +201,7 @@ ReadsOne {P} m inner = (p : P) (gs : List (Slot P)) → m.forms p ≡ form.Choic
 abbrev ReadsItems : {P : Type 0} → DerMessage P → Values → Type 0
 ReadsItems {P} m inner = (gs : List (Slot P)) (k : ℕ) (s : Slot P) → slice_get gs k ≡ Some s → is_single s ≡ false → UpTo s.min s.max → Conforms m (Items s (item_components m.forms s.target (m.forms s.target))) [] inner → FromItems m gs k s 0 inner
 
-constructed_choice : {P : Type 0} (m : DerMessage P) → IsSound m → (p : P) (fs : List (Slot P)) (k : ℕ) (c : Component P) (t : Tag) (inner : Values) → m.forms p ≡ form.Choice fs → any_answer 0 (components m.forms p 0 fs) true t ≡ Begins k c → Conforms m (structure m c.spot) [] inner
+constructed_choice : {P : Type 0} (m : DerMessage P) → IsSoundDer m → (p : P) (fs : List (Slot P)) (k : ℕ) (c : Component P) (t : Tag) (inner : Values) → m.forms p ≡ form.Choice fs → any_answer 0 (components m.forms p 0 fs) true t ≡ Begins k c → Conforms m (structure m c.spot) [] inner
     → ReadsFields m inner → ReadsOne m inner → ReadsItems m inner → FromBody m (form.Choice fs) (Inner (Constructed t inner Nothing))
 constructed_choice m sound p fs k c t inner at e held fields one items =
     let a = alternative_of m p fs true t k c e in
@@ -211,7 +211,7 @@ constructed_choice m sound p fs k c t inner at e held fields one items =
     let made = choice_body m fs k r.0 a.0 r.1 a.1 (omega (arith, r.3.0)) r.3 r.2 in
     subst (λ z. FromBody m (form.Choice fs) (Inner z)) (r.4 Nothing ∙ ap (λ z. Constructed z inner Nothing) a.4) made
 
-item_constructed : {P : Type 0} (m : DerMessage P) → IsSound m → (fs : List (Slot P)) (k : ℕ) (s : Slot P) (f : Form P Simple) (before : ℕ) (tag : Tag) (inner rest : Values) (q : ℕ) (c : Component P) → slice_get fs k ≡ Some s → is_single s ≡ false → m.forms s.target ≡ f
+item_constructed : {P : Type 0} (m : DerMessage P) → IsSoundDer m → (fs : List (Slot P)) (k : ℕ) (s : Slot P) (f : Form P Simple) (before : ℕ) (tag : Tag) (inner rest : Values) (q : ℕ) (c : Component P) → slice_get fs k ≡ Some s → is_single s ≡ false → m.forms s.target ≡ f
     → any_answer 0 (item_components m.forms s.target f) true tag ≡ Begins q c → Conforms m (structure m c.spot) [] inner → ReadsFields m inner → ReadsOne m inner → ReadsItems m inner → FromItems m fs k s (suc before) rest → FromItems m fs k s before (Constructed tag inner rest)
 item_constructed {P} m sound fs k s f before tag inner rest q c there list at begins held fields one items more = go f at begins
   where
@@ -232,7 +232,7 @@ item_constructed {P} m sound fs k s f before tag inner rest q c there list at be
     go form.Missing at e = plain form.Missing at e (λ from t. item_of m fs k s form.Missing before (Inner inner) rest (Constructed tag inner rest) there list at from more (ap (λ z. Constructed z inner rest) t))
 
 mutual
-  pub fields_from : {P : Type 0} (m : DerMessage P) → IsSound m → (p : P) (fs : List (Slot P)) (n : ℕ) (came : List ℕ) (vs : Values) → m.forms p ≡ form.Sequence fs → next_number came ≡ n → Conforms m (Fields (components m.forms p 0 fs)) came vs → FromFields m fs n vs
+  pub fields_from : {P : Type 0} (m : DerMessage P) → IsSoundDer m → (p : P) (fs : List (Slot P)) (n : ℕ) (came : List ℕ) (vs : Values) → m.forms p ≡ form.Sequence fs → next_number came ≡ n → Conforms m (Fields (components m.forms p 0 fs)) came vs → FromFields m fs n vs
   fields_from m sound p fs n came Nothing at next e = fields_end m p fs n came next e
   fields_from m sound p fs n came (Primitive tag o rest) at next (k, c, begins, held, more) =
       let b = begun_slot m p fs n came false tag k c next begins in
@@ -249,7 +249,7 @@ mutual
       let step = fields_step m p fs n k b.off b.slot r.0 r.1 rest b.number b.there b.room b.free r.2 r.3 (fields_from m sound p fs (suc k) (k ∷ came) rest at refl more) in
       subst (FromFields m fs n) (r.4 rest ∙ ap (λ z. Constructed z inner rest) b.tag) step
 
-  pub one_from : {P : Type 0} (m : DerMessage P) → IsSound m → (p : P) (fs : List (Slot P)) (vs : Values) → m.forms p ≡ form.Choice fs → Conforms m (OneOf (components m.forms p 0 fs)) [] vs → FromBody m (form.Choice fs) (Inner vs)
+  pub one_from : {P : Type 0} (m : DerMessage P) → IsSoundDer m → (p : P) (fs : List (Slot P)) (vs : Values) → m.forms p ≡ form.Choice fs → Conforms m (OneOf (components m.forms p 0 fs)) [] vs → FromBody m (form.Choice fs) (Inner vs)
   one_from m sound p fs Nothing at e = absurd cc
   one_from m sound p fs (Primitive tag o rest) at (k, c, begins, held, more) =
       subst (λ z. FromBody m (form.Choice fs) (Inner (Primitive tag o z))) (sym (no_more m (components m.forms p 0 fs) k [] rest more)) (primitive_choice m sound p fs k c tag o at begins held)
@@ -258,7 +258,7 @@ mutual
       (constructed_choice m sound p fs k c tag inner at begins held (λ p gs e conf. fields_from m sound p gs 0 [] inner e refl conf) (λ p gs e conf. one_from m sound p gs inner e conf)
       (λ gs k s there list bounds conf. items_from m sound gs k s (m.forms s.target) [] inner there list bounds refl (zero_upto s.max) conf))
 
-  pub items_from : {P : Type 0} (m : DerMessage P) → IsSound m → (fs : List (Slot P)) (k : ℕ) (s : Slot P) (f : Form P Simple) (came : List ℕ) (vs : Values) → slice_get fs k ≡ Some s → is_single s ≡ false → UpTo s.min s.max → m.forms s.target ≡ f → UpTo (length came) s.max
+  pub items_from : {P : Type 0} (m : DerMessage P) → IsSoundDer m → (fs : List (Slot P)) (k : ℕ) (s : Slot P) (f : Form P Simple) (came : List ℕ) (vs : Values) → slice_get fs k ≡ Some s → is_single s ≡ false → UpTo s.min s.max → m.forms s.target ≡ f → UpTo (length came) s.max
       → Conforms m (Items s (item_components m.forms s.target f)) came vs → FromItems m fs k s (length came) vs
   items_from m sound fs k s f came Nothing there list bounds at high e = items_end m fs k s (length came) (enough_items (length came) s.min e) high
   items_from m sound fs k s f came (Primitive tag o rest) there list bounds at high (q, c, begins, held, more) =

@@ -20,11 +20,11 @@ use Rattle.der_octets.specs.Octets.{universal, context, identifier, length_octet
 use Rattle.der_model.specs.RealContents.{real_contents}
 use Rattle.der_model.specs.LeafContents.{integer_octets}
 use Rattle.der_model.specs.Structures.{Instance, Value, ListOf}
-use Rattle.der_model.specs.Sound.{IsSound}
+use Rattle.der_model.specs.Sound.{IsSoundDer}
 use Rattle.der_model.specs.Der.{der_of}
 use Rattle.der_model.specs.States.{Identifier, Length, End, State, Start, AwaitsLength, Within, Numbered, ListName}
-use Rattle.der_model.specs.Faults.{DerFault, Front, broken}
-use Rattle.der_model.specs.Examples.{plain, text_slot, list_slot, amount_slot, forms, note, with_note, text}
+use Rattle.der_model.specs.Faults.{DerFault, DerFront, broken}
+use Rattle.der_model.specs.Examples.{plain, text_slot, list_slot, amount_slot, forms, note, with_note, one_character}
 
 -- 30 06 A0 04 80 02 41 31
 pub row_text : der_of (note (text_slot (Some 1) ∷ [])) (with_note (value.Child 0 (value.Simple (Bytes (65 ∷ 49 ∷ []))) value.Nothing)) ≡ 48 ∷ 6 ∷ 160 ∷ 4 ∷ 128 ∷ 2 ∷ 65 ∷ 49 ∷ []
@@ -32,7 +32,7 @@ unfolding plain forms identifier length_octets wrapped
 row_text = refl
 
 -- 30 0A A0 08 A0 06 0C 01 41 0C 01 42
-pub row_list : der_of (note (text_slot None ∷ [])) (with_note (value.Child 0 (text 65) (value.Child 0 (text 66) value.Nothing))) ≡ 48 ∷ 10 ∷ 160 ∷ 8 ∷ 160 ∷ 6 ∷ 12 ∷ 1 ∷ 65 ∷ 12 ∷ 1 ∷ 66 ∷ []
+pub row_list : der_of (note (text_slot None ∷ [])) (with_note (value.Child 0 (one_character 65) (value.Child 0 (one_character 66) value.Nothing))) ≡ 48 ∷ 10 ∷ 160 ∷ 8 ∷ 160 ∷ 6 ∷ 12 ∷ 1 ∷ 65 ∷ 12 ∷ 1 ∷ 66 ∷ []
 unfolding plain forms identifier length_octets wrapped
 row_list = refl
 
@@ -55,7 +55,7 @@ row_code = refl
 pub row_tag_fault : DerFault (note (text_slot (Some 1) ∷ [])) (48 ∷ 4 ∷ 160 ∷ 2 ∷ 129 ∷ 0 ∷ []) (record { rule = UnexpectedTag; place = 4; path = codes "/Document[1]/Note[1]" })
 unfolding plain forms identifier length_octets wrapped
 row_tag_fault =
-    let front : Front (note (text_slot (Some 1) ∷ [])) Start 0 (48 ∷ 4 ∷ 160 ∷ 2 ∷ 129 ∷ 0 ∷ []) (Identifier true (universal 16) ∷ Length 4 ∷ Identifier true (context 0) ∷ Length 2 ∷ [])
+    let front : DerFront (note (text_slot (Some 1) ∷ [])) Start 0 (48 ∷ 4 ∷ 160 ∷ 2 ∷ 129 ∷ 0 ∷ []) (Identifier true (universal 16) ∷ Length 4 ∷ Identifier true (context 0) ∷ Length 2 ∷ [])
     (Within (record { spot = Value 1; names = Numbered (codes "Note") 1 ∷ []; came = []; end = 6 } ∷ record { spot = Instance; names = Numbered (codes "Document") 1 ∷ []; came = 0 ∷ []; end = 6 } ∷ [])) 4 (129 ∷ 0 ∷ []) =
     (4 ∷ 160 ∷ 2 ∷ 129 ∷ 0 ∷ [], refl, lit< tt, tt, refl, (160 ∷ 2 ∷ 129 ∷ 0 ∷ [], refl, lit< tt, tt, tt, (2 ∷ 129 ∷ 0 ∷ [], refl, (lit< tt, lit< tt), lit≤ tt, (0, _, refl), (129 ∷ 0 ∷ [], refl, lit< tt, lit≤ tt, lit≤ tt, (refl, refl, refl))))) in
     record {
@@ -76,7 +76,7 @@ pub row_missing : DerFault (note (text_slot None ∷ [])) (48 ∷ 2 ∷ 160 ∷ 
 unfolding plain forms identifier length_octets wrapped
 row_missing =
     let state : State ℕ = Within (record { spot = Value 1; names = Numbered (codes "Note") 1 ∷ []; came = []; end = 4 } ∷ record { spot = Instance; names = Numbered (codes "Document") 1 ∷ []; came = 0 ∷ []; end = 4 } ∷ []) in
-    let front : Front (note (text_slot None ∷ [])) Start 0 (48 ∷ 2 ∷ 160 ∷ 0 ∷ []) (Identifier true (universal 16) ∷ Length 2 ∷ Identifier true (context 0) ∷ Length 0 ∷ []) state 4 [] =
+    let front : DerFront (note (text_slot None ∷ [])) Start 0 (48 ∷ 2 ∷ 160 ∷ 0 ∷ []) (Identifier true (universal 16) ∷ Length 2 ∷ Identifier true (context 0) ∷ Length 0 ∷ []) state 4 [] =
     (2 ∷ 160 ∷ 0 ∷ [], refl, lit< tt, tt, refl, (160 ∷ 0 ∷ [], refl, lit< tt, tt, tt, (0 ∷ [], refl, (lit< tt, lit< tt), lit≤ tt, (0, _, refl), ([], refl, lit< tt, lit≤ tt, lit≤ tt, (refl, refl, refl))))) in
     record {
       parts = Identifier true (universal 16) ∷ Length 2 ∷ Identifier true (context 0) ∷ Length 0 ∷ [];
@@ -97,7 +97,7 @@ unfolding plain forms identifier length_octets wrapped
 row_few =
     let state : State ℕ = Within (record { spot = ListOf 1 0 (text_slot None); names = ListName (codes "Id") ∷ []; came = []; end = 6 } ∷ record { spot = Value 1; names = Numbered (codes "Note") 1 ∷ []; came = 0 ∷ []; end = 8 } ∷ record { spot = Instance; names = Numbered (codes "Document") 1 ∷ []; came = 0 ∷ []; end = 8 } ∷ []) in
     let parts = Identifier true (universal 16) ∷ Length 6 ∷ Identifier true (context 0) ∷ Length 4 ∷ Identifier true (context 0) ∷ Length 0 ∷ [] in
-    let front : Front (note (text_slot None ∷ [])) Start 0 (48 ∷ 6 ∷ 160 ∷ 4 ∷ 160 ∷ 0 ∷ 129 ∷ 0 ∷ []) parts state 6 (129 ∷ 0 ∷ []) = (
+    let front : DerFront (note (text_slot None ∷ [])) Start 0 (48 ∷ 6 ∷ 160 ∷ 4 ∷ 160 ∷ 0 ∷ 129 ∷ 0 ∷ []) parts state 6 (129 ∷ 0 ∷ []) = (
       6 ∷ 160 ∷ 4 ∷ 160 ∷ 0 ∷ 129 ∷ 0 ∷ [],
       refl,
       lit< tt,
@@ -145,7 +145,7 @@ unfolding plain forms identifier length_octets wrapped
 row_overrun =
     let state : State ℕ = AwaitsLength true (Value 1) (Numbered (codes "Note") 1 ∷ []) (record { spot = Instance; names = Numbered (codes "Document") 1 ∷ []; came = 0 ∷ []; end = 8 } ∷ []) in
     let parts = Identifier true (universal 16) ∷ Length 6 ∷ Identifier true (context 0) ∷ [] in
-    let front : Front (note (text_slot (Some 1) ∷ [])) Start 0 (48 ∷ 6 ∷ 160 ∷ 5 ∷ 128 ∷ 2 ∷ 65 ∷ 49 ∷ []) parts state 3 (5 ∷ 128 ∷ 2 ∷ 65 ∷ 49 ∷ []) =
+    let front : DerFront (note (text_slot (Some 1) ∷ [])) Start 0 (48 ∷ 6 ∷ 160 ∷ 5 ∷ 128 ∷ 2 ∷ 65 ∷ 49 ∷ []) parts state 3 (5 ∷ 128 ∷ 2 ∷ 65 ∷ 49 ∷ []) =
     (6 ∷ 160 ∷ 5 ∷ 128 ∷ 2 ∷ 65 ∷ 49 ∷ [], refl, lit< tt, tt, refl, (160 ∷ 5 ∷ 128 ∷ 2 ∷ 65 ∷ 49 ∷ [], refl, lit< tt, tt, tt, (5 ∷ 128 ∷ 2 ∷ 65 ∷ 49 ∷ [], refl, (lit< tt, lit< tt), lit≤ tt, (0, _, refl), (refl, refl, refl)))) in
     let past : 9 ≤ 8 → ⊥ = λ h. absurd (omega arith) in
     record {
@@ -274,7 +274,7 @@ no_envelope (suc (suc zero)) e = absurd cc
 no_envelope (suc (suc (suc zero))) e = absurd cc
 no_envelope (suc (suc (suc (suc n)))) e = absurd cc
 
-pub row_sound : IsSound (note slots_of_note)
+pub row_sound : IsSoundDer (note slots_of_note)
 unfolding forms
 row_sound = record {
   forms = forms_sound;

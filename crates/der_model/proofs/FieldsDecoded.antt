@@ -10,7 +10,7 @@ use Rattle.facets.specs.declared.simple.Simple.{Simple}
 use Rattle.der_octets.specs.Octets.{context, Values, Nothing}
 use Rattle.reference_check.specs.Forms.{Graph, Form, Slot, form_slots}
 use Rattle.reference_check.specs.Forms as form
-use Rattle.reference_check.specs.Words.{times, UpTo, IsWithin, IsOrderedFrom}
+use Rattle.reference_check.specs.Words.{times, UpTo, MayComeTimes, IsOrderedFrom}
 use Rattle.message_model.specs.Admits.{numbers_of}
 use Rattle.message_model.specs.Admits.{AdmitsAs, AdmitsChildren}
 use Rattle.der_model.specs.DerMessage.{DerMessage}
@@ -41,7 +41,7 @@ pub record FromFields {P : Type 0} (m : DerMessage P) (fs : List (Slot P)) (n : 
   pub children : Children
   pub ordered : IsOrderedFrom n (length fs) (numbers_of children)
   pub admits : AdmitsChildren m.forms fs children
-  pub within : (k : ℕ) (s : Slot P) → n ≤ k → slice_get fs k ≡ Some s → IsWithin (times k (numbers_of children)) s
+  pub within : (k : ℕ) (s : Slot P) → n ≤ k → slice_get fs k ≡ Some s → MayComeTimes (times k (numbers_of children)) s
   pub written : vs ≡ all_slots n (drop n fs) (λ k s. values_at m k s children)
 
 -- contents decode to a value of a primitive form
@@ -57,7 +57,7 @@ body_of_octets m p form.Missing o e h = absurd h
 -- one slot with its values, and those behind it
 pub fields_step : {P : Type 0} (m : DerMessage P) (p : P) (fs : List (Slot P)) (n k off : ℕ) (s : Slot P) (count : ℕ) (vs rest : Values)
     → k ≡ n + off → slice_get fs k ≡ Some s → off ≤ length (drop n fs) → ((i : ℕ) (u : Slot P) → n ≤ i → i < k → slice_get fs i ≡ Some u → (is_single u ≡ true) × (u.min ≡ 0))
-    → FromSlot m fs k s count vs → IsWithin count s → FromFields m fs (suc k) rest → FromFields m fs n (slot_values k s vs rest)
+    → FromSlot m fs k s count vs → MayComeTimes count s → FromFields m fs (suc k) rest → FromFields m fs n (slot_values k s vs rest)
 fields_step {P} m p fs n k off s count vs rest number there room free slot within fields = record {
   children = then_children a b;
   ordered = subst (IsOrderedFrom n (length fs)) (sym (slots_then a b)) (ordered_then count n k (length fs) (numbers_of a) (numbers_of b) slot.alike (omega arith) below fields.ordered);
@@ -78,14 +78,14 @@ fields_step {P} m p fs n k off s count vs rest number there room free slot withi
     counts : (i : ℕ) → times i (numbers_of (then_children a b)) ≡ times i (numbers_of a) + times i (numbers_of b)
     counts i = ap (times i) (slots_then a b) ∙ times_then i (numbers_of a) (numbers_of b)
 
-    each : (i : ℕ) (u : Slot P) → n ≤ i → slice_get fs i ≡ Some u → (i < k) ⊎ ((i ≡ k) ⊎ (k < i)) → IsWithin (times i (numbers_of (then_children a b))) u
+    each : (i : ℕ) (u : Slot P) → n ≤ i → slice_get fs i ≡ Some u → (i < k) ⊎ ((i ≡ k) ⊎ (k < i)) → MayComeTimes (times i (numbers_of (then_children a b))) u
     each i u l f (inl h) =
         let one : times i (numbers_of a) ≡ 0 = ap (times i) slot.alike ∙ times_other i k count (λ e. absurd (omega arith)) in
         let two : times i (numbers_of b) ≡ 0 = times_none (suc k) (length fs) i (numbers_of b) fields.ordered (omega arith) in
         let c = counts i in
         let zero_count : times i (numbers_of (then_children a b)) ≡ 0 = omega arith in
         let d = free i u l h f in
-        subst (λ z. IsWithin z u) (sym zero_count) (omega (arith, d.1), zero_upto u.max)
+        subst (λ z. MayComeTimes z u) (sym zero_count) (omega (arith, d.1), zero_upto u.max)
     each i u l f (inr (inl h)) =
         let one : times i (numbers_of a) ≡ count = ap (times i) slot.alike ∙ (ap (λ z. times z (replicate count k)) h ∙ times_all k count) in
         let two : times i (numbers_of b) ≡ 0 = times_none (suc k) (length fs) i (numbers_of b) fields.ordered (omega arith) in
@@ -93,12 +93,12 @@ fields_step {P} m p fs n k off s count vs rest number there room free slot withi
         let same : times i (numbers_of (then_children a b)) ≡ count = omega arith in
         let found : slice_get fs k ≡ Some u = subst (λ z. slice_get fs z ≡ Some u) h f in
         let slots : s ≡ u = cc in
-        subst (λ z. IsWithin z u) (sym same) (subst (IsWithin count) slots within)
+        subst (λ z. MayComeTimes z u) (sym same) (subst (MayComeTimes count) slots within)
     each i u l f (inr (inr h)) =
         let one : times i (numbers_of a) ≡ 0 = ap (times i) slot.alike ∙ times_other i k count (λ e. absurd (omega arith)) in
         let c = counts i in
         let same : times i (numbers_of (then_children a b)) ≡ times i (numbers_of b) = omega arith in
-        subst (λ z. IsWithin z u) (sym same) (fields.within i u (omega arith) f)
+        subst (λ z. MayComeTimes z u) (sym same) (fields.within i u (omega arith) f)
 
     all : all_slots n (drop n fs) (λ k s. values_at m k s (then_children a b)) ≡ slot_values k s vs rest
     all =
@@ -134,7 +134,7 @@ one_value m fs k s b there single from = record {
     own k = grind (arith, nat_tests)
 
 -- such a slot may come once
-pub one_within : {P : Type 0} (s : Slot P) → is_single s ≡ true → UpTo s.min s.max → IsWithin 1 s
+pub one_within : {P : Type 0} (s : Slot P) → is_single s ≡ true → UpTo s.min s.max → MayComeTimes 1 s
 one_within s e u = go s.max e u
   where
     go : (o : Option ℕ) → is_one o ≡ true → UpTo s.min o → (s.min ≤ 1) × UpTo 1 o

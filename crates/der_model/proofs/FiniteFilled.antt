@@ -7,17 +7,17 @@ use Rattle.facets.specs.declared.simple.Simple.{Simple}
 use Rattle.der_octets.specs.Octets.{context, Values, Nothing, Primitive, Constructed}
 use Rattle.reference_check.specs.Forms.{Graph, Form, Slot, form_slots}
 use Rattle.reference_check.specs.Forms as form
-use Rattle.reference_check.specs.Words.{times, UpTo, IsWithin}
+use Rattle.reference_check.specs.Words.{times, UpTo, MayComeTimes}
 use Rattle.der_model.specs.DerMessage.{DerMessage}
 use Rattle.der_model.specs.Structures.{Spot, Instance, Component, Structure, Holds, Fields, OneOf, Items, Empty, structure, form_structure, number_structure, component, components, item_components, amount_components, is_single, is_constructed, universal_tag, Element, Listed, Unnamed}
 use Rattle.der_model.specs.Structures as structures
 use Rattle.message_model.specs.Sound.{IsNoOption}
-use Rattle.der_model.specs.Sound.{IsSound}
+use Rattle.der_model.specs.Sound.{IsSoundDer}
 use Rattle.der_model.proofs.SoundMessages.{IsAmount, no_options, bounds_of, amounts_of}
 use Rattle.reference_check.proofs.FiniteForms.{finite_in}
 use Rattle.reference_check.specs.Shapes as shaped
 use Rattle.reference_check.specs.Shapes.{HasShape, HaveShapes, IsFinite, AreFinite, IsReached, MayBeFound, numbers_in}
-use Rattle.der_model.specs.OpenParts.{MayHold, AreInOrder, components_of, IsPrimitive, ValuesSoFar, HasValues, IsFilled, AreFilled, Occurs, outermost, within}
+use Rattle.der_model.specs.OpenParts.{MayHoldComponents, AreInOrder, components_of, IsPrimitive, ValuesSoFar, HasValues, IsFilled, AreFilled, Occurs, outermost, within}
 use Rattle.der_model.proofs.PartsLaw.{component_values}
 
 -- ---- the components of slots
@@ -48,7 +48,7 @@ up_to_as n m max e u = rw (← e) u
 none_needed : (n : ℕ) → n ≡ 0 → nat_lt 0 n ≡ false
 none_needed n e = rw e refl
 
-module _ {P : Type 0} (m : DerMessage P) (sound : IsSound m) (finite : AreFinite m.forms m.root) where
+module _ {P : Type 0} (m : DerMessage P) (sound : IsSoundDer m) (finite : AreFinite m.forms m.root) where
   -- the type can be filled, under the tag of a slot
   abbrev pub TypeFilled : P → Type 0
   TypeFilled p = ((is_constructed (m.forms p) ≡ false) × IsPrimitive (structure m (structures.Value p))) ⊎ ((is_constructed (m.forms p) ≡ true) × HasValues m (structure m (structures.Value p)))
@@ -66,7 +66,7 @@ module _ {P : Type 0} (m : DerMessage P) (sound : IsSound m) (finite : AreFinite
   item_filled : (q : P) (f : Form P Simple) → m.forms q ≡ f → TypeFilled q → (j : ℕ) × (c : Component P) × (slice_get (item_components m.forms q f) j ≡ Some c) × IsFilled m c
   item_filled q (form.Choice fs) at (inl (plain, primitive)) = (let e : is_constructed (form.Choice fs) ≡ false = subst (λ (z : Form P Simple). is_constructed z ≡ false) at plain in absurd cc)
   item_filled q (form.Choice fs) at (inr (both, (held, inner, may, so_far))) =
-      of_choice_values held (subst (λ (z : Form P Simple). MayHold (form_structure m.forms q z) held) at may) inner (subst (λ (z : Form P Simple). ValuesSoFar m 0 (form_structure m.forms q z) held inner) at so_far)
+      of_choice_values held (subst (λ (z : Form P Simple). MayHoldComponents (form_structure m.forms q z) held) at may) inner (subst (λ (z : Form P Simple). ValuesSoFar m 0 (form_structure m.forms q z) held inner) at so_far)
     where
       of_choice_values : (held : List ℕ) → (k : ℕ) × (held ≡ k ∷ []) → (inner : Values) → ValuesSoFar m 0 (OneOf (components m.forms q 0 fs)) held inner → (j : ℕ) × (c : Component P) × (slice_get (components m.forms q 0 fs) j ≡ Some c) × IsFilled m c
       of_choice_values held (k, e) inner h = (let r : (c : Component P) × (slice_get (components m.forms q 0 fs) k ≡ Some c) × IsFilled m c = one_value (OneOf (components m.forms q 0 fs)) k inner (subst (λ z. ValuesSoFar m 0 (OneOf (components m.forms q 0 fs)) z inner) e h) in (k, r.0, r.1, r.2))

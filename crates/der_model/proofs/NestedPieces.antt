@@ -5,7 +5,7 @@ use Rattle.data_types.specs.Leaf.{Leaf}
 use Rattle.data_types.specs.Value.{Edge, Piece, Begins, Holds, Ends}
 use Rattle.der_model.specs.DerMessage.{DerMessage}
 use Rattle.der_model.specs.Structures.{Spot}
-use Rattle.der_model.specs.States.{Part, Identifier, Length, Contents, End, part_octets, Level, State, Start, AwaitsLength, AwaitsContents, Within, Answer, Breaks, begun, level_answer, next_number, state_after}
+use Rattle.der_model.specs.States.{Part, Identifier, Length, Contents, End, part_octets, DerLevel, State, Start, AwaitsLength, AwaitsContents, Within, IdentifierAnswer, Breaks, begun_state, level_answer, next_number, state_after}
 use Rattle.der_model.specs.States as states
 use Rattle.der_model.specs.ShownPieces.{begin_each, end_each, component_elements, last_elements, elements_begun, elements_ended, PartShows}
 use Rattle.der_model.specs.NestedPieces.{Nests, elements_around, open_elements}
@@ -32,11 +32,11 @@ nests_end (e ∷ edges) outer =
     (nests_then (reverse edges ++ (e ∷ outer)) (end_each edges) (Ends e ∷ []) (e ∷ outer) outer (nests_end edges (e ∷ outer)) (refl, refl))
 
 -- the elements that end with a value are those of the level round it
-ended_nests : (m : DerMessage ℕ) (around : List (Level ℕ)) → Nests (elements_around m around) (end_each (elements_ended m around)) (open_elements m (Within around))
+ended_nests : (m : DerMessage ℕ) (around : List (DerLevel ℕ)) → Nests (elements_around m around) (end_each (elements_ended m around)) (open_elements m (Within around))
 ended_nests m [] = refl
 ended_nests m (l ∷ ls) = nests_end (last_elements m l.spot l.came) (elements_around m ls)
 
-begun_nests : (m : DerMessage ℕ) (l : Level ℕ) (ls : List (Level ℕ)) (b : Bool) (a : Answer ℕ) → Nests (elements_around m ls) (begin_each (elements_begun m l a)) (open_elements m (begun m l ls b a))
+begun_nests : (m : DerMessage ℕ) (l : DerLevel ℕ) (ls : List (DerLevel ℕ)) (b : Bool) (a : IdentifierAnswer ℕ) → Nests (elements_around m ls) (begin_each (elements_begun m l a)) (open_elements m (begun_state m l ls b a))
 begun_nests m l ls b (Breaks rule added) = refl
 begun_nests m l ls b (states.Begins k c) = nests_begin (component_elements m l.spot k) (elements_around m ls)
 
@@ -64,7 +64,7 @@ part_nests m (Within []) place (Identifier b t) shown e = silent [] shown e
 part_nests m (Within []) place (Length n) shown e = silent [] shown e
 part_nests m (Within []) place (Contents o) shown e = silent [] shown e
 part_nests m (Within []) place End shown e = silent [] shown e
-part_nests m (Within (l ∷ ls)) place (Identifier b t) shown e = subst (λ z. Nests (elements_around m ls) z (open_elements m (begun m l ls b (level_answer m l b t)))) (sym e) (begun_nests m l ls b (level_answer m l b t))
+part_nests m (Within (l ∷ ls)) place (Identifier b t) shown e = subst (λ z. Nests (elements_around m ls) z (open_elements m (begun_state m l ls b (level_answer m l b t)))) (sym e) (begun_nests m l ls b (level_answer m l b t))
 part_nests m (Within (l ∷ ls)) place End shown e = subst (λ z. Nests (elements_around m ls) z (open_elements m (Within ls))) (sym e) (ended_nests m ls)
 part_nests m (Within (l ∷ ls)) place (Length n) shown e = silent (elements_around m ls) shown e
 part_nests m (Within (l ∷ ls)) place (Contents o) shown e = silent (elements_around m ls) shown e

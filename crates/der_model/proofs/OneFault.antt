@@ -5,11 +5,11 @@ use Rattle.lexical_core.specs.declared.rule.Rule.{Rule}
 use Rattle.data_types.specs.Leaf.{Leaf}
 use Rattle.der_model.specs.DerMessage.{DerMessage}
 use Rattle.der_model.specs.Structures.{Spot, LeafOf, Fragment, Structure, Holds, Fields, OneOf, Items, Empty, structure, Component}
-use Rattle.der_model.specs.States.{Part, Identifier, Length, End, part_octets, Level, State, Start, AwaitsLength, AwaitsContents, Within, Name, Answer, Begins, Breaks, EndAnswer, Fine, EndBreaks, level_answer, end_answer, state_after, innermost_end, IsHeader, Stands}
+use Rattle.der_model.specs.States.{Part, Identifier, Length, End, part_octets, DerLevel, State, Start, AwaitsLength, AwaitsContents, Within, PathName, IdentifierAnswer, Begins, Breaks, EndAnswer, Fine, EndBreaks, level_answer, end_answer, state_after, innermost_end, IsHeader, Stands}
 use Rattle.reference_check.specs.Words.{UpTo}
 use Rattle.der_model.specs.States as states
 use Rattle.der_model.specs.Paths.{path_of}
-use Rattle.der_model.specs.Faults.{IsHeldIn, BreaksIn, IsClean, BreaksRule, Front, IsHeaderFront, IsNoHeader, Next, broken, halts, overruns, cut, short, trailing, Fault, DerFault, IsWhole}
+use Rattle.der_model.specs.Faults.{IsHeldIn, BreaksIn, IsCleanPart, BreaksRule, DerFront, IsHeaderFront, IsNoHeader, NextPart, broken, halts, overruns, cut, short, trailing, FaultInDer, DerFault, IsWholeDer}
 use Rattle.der_model.proofs.Lists.{shorter_front, none_left}
 use Rattle.der_model.proofs.SoundMessages.{HasSorted, IsSorted}
 use Rattle.der_model.proofs.ContentsLaws.{one_contents}
@@ -21,10 +21,10 @@ true_false b p q = absurd (let e : true ≡ false = sym p ∙ q in cc)
 ok_err : (l : Leaf) (r : Rule) → ◌≡◌ {A = Result Leaf Rule} (Ok l) (Err r) → ⊥
 ok_err l r e = absurd cc
 
-begins_breaks : {P : Type 0} (a : Answer P) (k : ℕ) (c : Component P) (rule : Rule) (added : List ℕ) → a ≡ Begins k c → a ≡ Breaks rule added → ⊥
+begins_breaks : {P : Type 0} (a : IdentifierAnswer P) (k : ℕ) (c : Component P) (rule : Rule) (added : List ℕ) → a ≡ Begins k c → a ≡ Breaks rule added → ⊥
 begins_breaks a k c rule added p q = absurd (let e = sym p ∙ q in cc)
 
-same_answer : {P : Type 0} (a : Answer P) (r s : Rule) (x y : List ℕ) → a ≡ Breaks r x → a ≡ Breaks s y → (r ≡ s) × (x ≡ y)
+same_answer : {P : Type 0} (a : IdentifierAnswer P) (r s : Rule) (x y : List ℕ) → a ≡ Breaks r x → a ≡ Breaks s y → (r ≡ s) × (x ≡ y)
 same_answer a r s x y p q = (let e : Breaks r x ≡ Breaks s y = sym p ∙ q in (cc, cc))
 
 fine_breaks : (a : EndAnswer) (rule : Rule) (added : List ℕ) → a ≡ Fine → a ≡ EndBreaks rule added → ⊥
@@ -53,7 +53,7 @@ breaks_same m (Items sl cs) one octets r s h b = absurd h
 breaks_same m Empty one octets r s h b = absurd h
 
 -- a part that breaks no rule breaks none
-pub clean_breaks : {P : Type 0} (m : DerMessage P) → IsSorted m → (s : State P) (place : ℕ) (p : Part) (rule : Rule) (added : List ℕ) → Stands s place p → IsClean m s place p → BreaksRule m s place p rule added → ⊥
+pub clean_breaks : {P : Type 0} (m : DerMessage P) → IsSorted m → (s : State P) (place : ℕ) (p : Part) (rule : Rule) (added : List ℕ) → Stands s place p → IsCleanPart m s place p → BreaksRule m s place p rule added → ⊥
 clean_breaks m one Start place (Identifier b t) rule added h c br = true_false _ c br.0
 clean_breaks m one (Within (l ∷ ls)) place (Identifier b t) rule added h c br = begins_breaks _ c.0 c.1 rule added c.2 br
 clean_breaks m one (AwaitsLength c spot names around) place (Length n) rule added h cl br = br.0 cl
@@ -74,13 +74,13 @@ upto_some : (o : Option ℕ) (end place : ℕ) → o ≡ Some end → UpTo place
 upto_some o end place e u = subst (λ z. UpTo place z) e u
 
 -- no header may come where a part that is no header is due
-no_header_there : {P : Type 0} (s : State P) (spot : Spot P) (names : List Name) (count : ℕ) (around : List (Level P)) (place : ℕ) (header : List ℕ) → s ≡ AwaitsContents spot names count around → IsHeader s place header → ⊥
+no_header_there : {P : Type 0} (s : State P) (spot : Spot P) (names : List PathName) (count : ℕ) (around : List (DerLevel P)) (place : ℕ) (header : List ℕ) → s ≡ AwaitsContents spot names count around → IsHeader s place header → ⊥
 no_header_there s spot names count around place header e h = subst (λ z. IsHeader z place header) e h
 
 no_header_over : {P : Type 0} (s : State P) (place : ℕ) (header : List ℕ) → s ≡ Within [] → IsHeader s place header → ⊥
 no_header_over s place header e h = subst (λ z. IsHeader z place header) e h
 
-contents_long : {P : Type 0} (s : State P) (spot : Spot P) (names : List Name) (count : ℕ) (around : List (Level P)) (place : ℕ) (p : Part) (bytes after : List ℕ) → s ≡ AwaitsContents spot names count around → Stands s place p → bytes ≡ part_octets p ++ after → length bytes < count → ⊥
+contents_long : {P : Type 0} (s : State P) (spot : Spot P) (names : List PathName) (count : ℕ) (around : List (DerLevel P)) (place : ℕ) (p : Part) (bytes after : List ℕ) → s ≡ AwaitsContents spot names count around → Stands s place p → bytes ≡ part_octets p ++ after → length bytes < count → ⊥
 contents_long s spot names count around place p bytes after e h is low = go p (subst (λ z. Stands z place p) e h) is
   where
     go : (p : Part) → Stands (AwaitsContents spot names count around) place p → bytes ≡ part_octets p ++ after → ⊥
@@ -99,7 +99,7 @@ nothing_over {P} s place p e h = go p (subst (λ z. Stands z place p) e h)
     go End h = absurd h
 
 -- where nothing but a broken part is told, no part stands within the value
-pub none_stands : {P : Type 0} (m : DerMessage P) → IsSorted m → (s : State P) (place : ℕ) (bytes after : List ℕ) (p : Part) (rule : Rule) (off : ℕ) (added : List ℕ) → bytes ≡ part_octets p ++ after → Stands s place p → UpTo (place + length (part_octets p)) (innermost_end s) → Next m s place bytes rule off added → BreaksRule m s place p rule added × (off ≡ 0)
+pub none_stands : {P : Type 0} (m : DerMessage P) → IsSorted m → (s : State P) (place : ℕ) (bytes after : List ℕ) (p : Part) (rule : Rule) (off : ℕ) (added : List ℕ) → bytes ≡ part_octets p ++ after → Stands s place p → UpTo (place + length (part_octets p)) (innermost_end s) → NextPart m s place bytes rule off added → BreaksRule m s place p rule added × (off ≡ 0)
 none_stands m one s place bytes after p rule off added is h u (broken q more is2 h2 u2 br none) =
     let r = one_part s place q p more after h2 h (sym is2 ∙ is) in (subst (λ z. BreaksRule m s place z rule added) r.0 br, none)
 none_stands m one s place bytes after p rule off added is h u (halts shown octet more is2 u2 f none r o a) =
@@ -137,7 +137,7 @@ three : {r s : Rule} {x y : List ℕ} {a b : ℕ} → r ≡ s → a ≡ b → x 
 three p q r = (p, q, r)
 
 -- what stands next is one
-pub one_next : {P : Type 0} (m : DerMessage P) → IsSorted m → (s : State P) (place : ℕ) (bytes : List ℕ) (r t : Rule) (a b : ℕ) (x y : List ℕ) → Next m s place bytes r a x → Next m s place bytes t b y → (r ≡ t) × (a ≡ b) × (x ≡ y)
+pub one_next : {P : Type 0} (m : DerMessage P) → IsSorted m → (s : State P) (place : ℕ) (bytes : List ℕ) (r t : Rule) (a b : ℕ) (x y : List ℕ) → NextPart m s place bytes r a x → NextPart m s place bytes t b y → (r ≡ t) × (a ≡ b) × (x ≡ y)
 one_next m one s place bytes r t a b x y (broken p after is h u br none) n =
     let q = none_stands m one s place bytes after p t b y is h u n in
     let same = one_rule m one s place p r t x y h br q.0 in
@@ -175,24 +175,24 @@ one_next m one s place bytes r t a b x y (short sp nm c ar q low r2 z2 e2) (trai
 one_next m one s place bytes r t a b x y (trailing q2 some r1 z1 e1) (short sp nm c ar q low r2 z2 e2) = absurd (let e : Within [] ≡ AwaitsContents sp nm c ar = sym q2 ∙ q in cc)
 
 -- where a clean part stands nothing is wrong
-pub clean_next : {P : Type 0} (m : DerMessage P) → IsSorted m → (s : State P) (place : ℕ) (bytes after : List ℕ) (p : Part) (rule : Rule) (off : ℕ) (added : List ℕ) → bytes ≡ part_octets p ++ after → Stands s place p → UpTo (place + length (part_octets p)) (innermost_end s) → IsClean m s place p → Next m s place bytes rule off added → ⊥
+pub clean_next : {P : Type 0} (m : DerMessage P) → IsSorted m → (s : State P) (place : ℕ) (bytes after : List ℕ) (p : Part) (rule : Rule) (off : ℕ) (added : List ℕ) → bytes ≡ part_octets p ++ after → Stands s place p → UpTo (place + length (part_octets p)) (innermost_end s) → IsCleanPart m s place p → NextPart m s place bytes rule off added → ⊥
 clean_next m one s place bytes after p rule off added is h u c n =
     clean_breaks m one s place p rule added h c (none_stands m one s place bytes after p rule off added is h u n).0
 
 -- what stands next, in the state and at the place that are told otherwise
-next_as : {P : Type 0} (m : DerMessage P) (s t : State P) (place at : ℕ) (bytes rest : List ℕ) (rule : Rule) (off : ℕ) (added : List ℕ) → s ≡ t → place ≡ at → bytes ≡ rest → Next m t at rest rule off added → Next m s place bytes rule off added
+next_as : {P : Type 0} (m : DerMessage P) (s t : State P) (place at : ℕ) (bytes rest : List ℕ) (rule : Rule) (off : ℕ) (added : List ℕ) → s ≡ t → place ≡ at → bytes ≡ rest → NextPart m t at rest rule off added → NextPart m s place bytes rule off added
 next_as m s t place at bytes rest rule off added p q r n =
-    subst (λ z. Next m z place bytes rule off added) (sym p) (subst (λ z. Next m t z bytes rule off added) (sym q) (subst (λ z. Next m t at z rule off added) (sym r) n))
+    subst (λ z. NextPart m z place bytes rule off added) (sym p) (subst (λ z. NextPart m t z bytes rule off added) (sym q) (subst (λ z. NextPart m t at z rule off added) (sym r) n))
 
 -- the same front, of a part and bytes that are told otherwise
 front_as : {P : Type 0} (m : DerMessage P) (s : State P) (place : ℕ) (p q : Part) (x y : List ℕ) (ps : List Part) (last : State P) (at : ℕ) (rest : List ℕ) → p ≡ q → x ≡ y
-    → Front m (state_after m s place q) (place + length (part_octets q)) y ps last at rest → Front m (state_after m s place p) (place + length (part_octets p)) x ps last at rest
+    → DerFront m (state_after m s place q) (place + length (part_octets q)) y ps last at rest → DerFront m (state_after m s place p) (place + length (part_octets p)) x ps last at rest
 front_as m s place p q x y ps last at rest e d f =
-    subst (λ z. Front m (state_after m s place z) (place + length (part_octets z)) x ps last at rest) (sym e) (subst (λ z. Front m (state_after m s place q) (place + length (part_octets q)) z ps last at rest) (sym d) f)
+    subst (λ z. DerFront m (state_after m s place z) (place + length (part_octets z)) x ps last at rest) (sym e) (subst (λ z. DerFront m (state_after m s place q) (place + length (part_octets q)) z ps last at rest) (sym d) f)
 
 -- clean parts go on to one place, where something is wrong
 pub one_front : {P : Type 0} (m : DerMessage P) → IsSorted m → (s : State P) (place : ℕ) (bytes : List ℕ) (ps qs : List Part) (s1 s2 : State P) (a1 a2 : ℕ) (r1 r2 : List ℕ) (t1 t2 : Rule) (o1 o2 : ℕ) (x1 x2 : List ℕ)
-    → Front m s place bytes ps s1 a1 r1 → Front m s place bytes qs s2 a2 r2 → Next m s1 a1 r1 t1 o1 x1 → Next m s2 a2 r2 t2 o2 x2 → (s1 ≡ s2) × (a1 ≡ a2) × (r1 ≡ r2)
+    → DerFront m s place bytes ps s1 a1 r1 → DerFront m s place bytes qs s2 a2 r2 → NextPart m s1 a1 r1 t1 o1 x1 → NextPart m s2 a2 r2 t2 o2 x2 → (s1 ≡ s2) × (a1 ≡ a2) × (r1 ≡ r2)
 one_front m one s place bytes [] [] s1 s2 a1 a2 r1 r2 t1 t2 o1 o2 x1 x2 (p, q, r) (p2, q2, r2e) n n2 = (sym p ∙ p2, sym q ∙ q2, sym r ∙ r2e)
 one_front m one s place bytes [] (q ∷ qs) s1 s2 a1 a2 r1 r2 t1 t2 o1 o2 x1 x2 (e, d, r) (after, is, h, u, c, f) n n2 =
     absurd (clean_next m one s place bytes after q t1 o1 x1 is h u c (next_as m s s1 place a1 bytes r1 t1 o1 x1 e d r n))
@@ -204,7 +204,7 @@ one_front m one s place bytes (p ∷ ps) (q ∷ qs) s1 s2 a1 a2 r1 r2 t1 t2 o1 o
     (front_as m s place p q after after2 qs s2 a2 r2 same.0 same.1 f2) n n2
 
 -- bytes have at most one first fault
-pub one_fault : {P : Type 0} (m : DerMessage P) → IsSorted m → (bytes : List ℕ) (f g : Fault) → DerFault m bytes f → DerFault m bytes g → f ≡ g
+pub one_fault : {P : Type 0} (m : DerMessage P) → IsSorted m → (bytes : List ℕ) (f g : FaultInDer) → DerFault m bytes f → DerFault m bytes g → f ≡ g
 one_fault m one bytes f g p q =
     let w = one_front m one Start 0 bytes p.parts q.parts p.state q.state p.at q.at p.rest q.rest f.rule g.rule p.off q.off p.added q.added p.front q.front p.next q.next in
     let n = one_next m one p.state p.at p.rest f.rule g.rule p.off q.off p.added q.added p.next (next_as m p.state q.state p.at q.at p.rest q.rest g.rule q.off q.added w.0 w.1 w.2 q.next) in
@@ -213,7 +213,7 @@ one_fault m one bytes f g p q =
     ap (λ z. record { rule = z; place = f.place; path = f.path }) n.0 ∙ (ap (λ z. record { rule = g.rule; place = z; path = f.path }) places ∙ ap (λ z. record { rule = g.rule; place = g.place; path = z }) paths)
 
 -- nothing is wrong behind an instance that has ended, where no bytes are left
-over_next : {P : Type 0} (m : DerMessage P) (s : State P) (place : ℕ) (bytes : List ℕ) (rule : Rule) (off : ℕ) (added : List ℕ) → s ≡ Within [] → bytes ≡ [] → Next m s place bytes rule off added → ⊥
+over_next : {P : Type 0} (m : DerMessage P) (s : State P) (place : ℕ) (bytes : List ℕ) (rule : Rule) (off : ℕ) (added : List ℕ) → s ≡ Within [] → bytes ≡ [] → NextPart m s place bytes rule off added → ⊥
 over_next m s place bytes rule off added e z (broken p after is h u br o) = nothing_over s place p e h
 over_next m s place bytes rule off added e z (halts f oc a is u h n r o x) = no_header_over s place _ e h.header
 over_next m s place bytes rule off added e z (overruns sh a is l h r o x) = no_header_over s place _ e h.header
@@ -222,7 +222,7 @@ over_next m s place bytes rule off added e z (short sp nm c ar q low r o x) = ab
 over_next m s place bytes rule off added e z (trailing q some r o x) = none_left bytes some z
 
 pub whole_clean : {P : Type 0} (m : DerMessage P) → IsSorted m → (s : State P) (place : ℕ) (bytes : List ℕ) (ps qs : List Part) (a1 a2 : ℕ) (s2 : State P) (r2 : List ℕ) (rule : Rule) (off : ℕ) (added : List ℕ)
-    → Front m s place bytes ps (Within []) a1 [] → Front m s place bytes qs s2 a2 r2 → Next m s2 a2 r2 rule off added → ⊥
+    → DerFront m s place bytes ps (Within []) a1 [] → DerFront m s place bytes qs s2 a2 r2 → NextPart m s2 a2 r2 rule off added → ⊥
 whole_clean m one s place bytes [] [] a1 a2 s2 r2 rule off added (p, q, r) (p2, q2, r2e) n = over_next m s2 a2 r2 rule off added (sym p2 ∙ p) (sym r2e ∙ r) n
 whole_clean m one s place bytes [] (q ∷ qs) a1 a2 s2 r2 rule off added (p, d, r) (after, is, h, u, c, f) n = nothing_over s place q p h
 whole_clean m one s place bytes (p ∷ ps) [] a1 a2 s2 r2 rule off added (after, is, h, u, c, f) (e, d, r) n =
@@ -232,5 +232,5 @@ whole_clean m one s place bytes (p ∷ ps) (q ∷ qs) a1 a2 s2 r2 rule off added
     whole_clean m one (state_after m s place p) (place + length (part_octets p)) after ps qs a1 a2 s2 r2 rule off added f (front_as m s place p q after after2 qs s2 a2 r2 same.0 same.1 f2) n
 
 -- whole bytes have no fault
-pub whole_has_none : {P : Type 0} (m : DerMessage P) → IsSorted m → (bytes : List ℕ) (f : Fault) → IsWhole m bytes → DerFault m bytes f → ⊥
+pub whole_has_none : {P : Type 0} (m : DerMessage P) → IsSorted m → (bytes : List ℕ) (f : FaultInDer) → IsWholeDer m bytes → DerFault m bytes f → ⊥
 whole_has_none m one bytes f w p = whole_clean m one Start 0 bytes w.parts p.parts w.at p.at p.state p.rest f.rule p.off p.added w.front p.front p.next

@@ -8,10 +8,10 @@ use Rattle.reference_check.proofs.Words.{has_room_of, up_to_filled, up_to_less}
 use Rattle.der_octets.specs.Octets.{Tag}
 use Rattle.reference_check.specs.Words.{UpTo}
 use Rattle.der_model.specs.Structures.{Label, Component, Structure, Holds, Fields, OneOf, Items, Empty}
-use Rattle.der_model.specs.States.{Answer, Begins, Breaks, Fine, EndBreaks, is_under, skipping, field_answer, any_answer, next_number, item_answer, identifier_answer, field_end, item_end, end_answer, missing_text}
+use Rattle.der_model.specs.States.{IdentifierAnswer, Begins, Breaks, Fine, EndBreaks, is_under, skipping, field_answer, any_answer, next_number, item_answer, identifier_answer, field_end, item_end, end_answer, missing_text}
 use Rattle.reference_check.specs.Steps.{has_room}
 use Rattle.lexical_core.specs.declared.rule.Rule.TheVariants as rule
-use Rattle.der_model.specs.OpenParts.{AreInOrder, MayHold, components_of}
+use Rattle.der_model.specs.OpenParts.{AreInOrder, MayHoldComponents, components_of}
 use Rattle.der_model.proofs.Fields.{under_own}
 use Rattle.der_model.proofs.WholeValues.{under_same}
 
@@ -86,7 +86,7 @@ field_begins n k (suc i) (x ∷ cs) d c apart (inr (free, o)) e found =
     let r : (field_answer (suc n) cs c.constructed c.tag ≡ Begins k c) × AreInOrder (suc k) (drop (suc i) cs) d = field_begins (suc n) k i cs d c apart.1 o (omega arith) found in
     (cond-false (is_under x c.constructed c.tag) _ _ (apart.0 i c found) ∙ (cond-false x.required _ _ free ∙ r.0), r.1)
 
-no_begin : {P : Type 0} (l : Label) (a : Answer P) (k : ℕ) (c : Component P) → skipping l a ≡ Begins k c → ⊥
+no_begin : {P : Type 0} (l : Label) (a : IdentifierAnswer P) (k : ℕ) (c : Component P) → skipping l a ≡ Begins k c → ⊥
 no_begin l (Begins j d) k c e = absurd cc
 no_begin l (Breaks rule.UnexpectedTag x) k c e = absurd cc
 no_begin l (Breaks r x) k c e = absurd cc
@@ -108,7 +108,7 @@ field_found {P} n k (x ∷ cs) b t c e = go (is_under x b t) refl x.required ref
         → (field_answer (suc n) cs b t ≡ Begins k c → (f : Found (suc n) cs b t k c) × ((d : List ℕ) → AreInOrder (suc k) (drop (suc f.off) cs) d → AreInOrder (suc n) cs (k ∷ d))) → (f : Found n (x ∷ cs) b t k c) × ((d : List ℕ) → AreInOrder (suc k) (drop (suc f.off) (x ∷ cs)) d → AreInOrder n (x ∷ cs) (k ∷ d))
     go true h r q again = here (sym (cond-true (is_under x b t) _ _ h) ∙ e)
       where
-        here : ◌≡◌ {A = Answer P} (Begins n x) (Begins k c) → (f : Found n (x ∷ cs) b t k c) × ((d : List ℕ) → AreInOrder (suc k) (drop (suc f.off) (x ∷ cs)) d → AreInOrder n (x ∷ cs) (k ∷ d))
+        here : ◌≡◌ {A = IdentifierAnswer P} (Begins n x) (Begins k c) → (f : Found n (x ∷ cs) b t k c) × ((d : List ℕ) → AreInOrder (suc k) (drop (suc f.off) (x ∷ cs)) d → AreInOrder n (x ∷ cs) (k ∷ d))
         here d =
             let at : n ≡ k = cc in
             let same : x ≡ c = cc in
@@ -154,7 +154,7 @@ any_found {P} n k (x ∷ cs) b t c e = go (is_under x b t) refl (λ h. any_found
     go : (u : Bool) → is_under x b t ≡ u → (any_answer (suc n) cs b t ≡ Begins k c → Found (suc n) cs b t k c) → Found n (x ∷ cs) b t k c
     go true h again = here (sym (cond-true (is_under x b t) _ _ h) ∙ e)
       where
-        here : ◌≡◌ {A = Answer P} (Begins n x) (Begins k c) → Found n (x ∷ cs) b t k c
+        here : ◌≡◌ {A = IdentifierAnswer P} (Begins n x) (Begins k c) → Found n (x ∷ cs) b t k c
         here d =
             let at : n ≡ k = cc in
             let same : x ≡ c = cc in
@@ -162,7 +162,7 @@ any_found {P} n k (x ∷ cs) b t c e = go (is_under x b t) refl (λ h. any_found
             record { off = 0; number = omega arith; there = ap Some same; form = subst (λ (z : Component P). z.constructed ≡ b) same u.0; tag = subst (λ (z : Component P). z.tag ≡ t) same u.1 }
     go false h again = (let f : Found (suc n) cs b t k c = again (sym (cond-false (is_under x b t) _ _ h) ∙ e) in let at : k ≡ suc n + f.off = f.number in record { off = suc f.off; number = omega arith; there = f.there; form = f.form; tag = f.tag })
 
-room_in : {P : Type 0} (r : Bool) (a : Answer P) (k : ℕ) (c : Component P) → item_answer r a ≡ Begins k c → (r ≡ true) × (a ≡ Begins k c)
+room_in : {P : Type 0} (r : Bool) (a : IdentifierAnswer P) (k : ℕ) (c : Component P) → item_answer r a ≡ Begins k c → (r ≡ true) × (a ≡ Begins k c)
 room_in true a k c e = (refl, e)
 room_in false (Begins j d) k c e = absurd cc
 room_in false (Breaks r x) k c e = absurd cc
@@ -179,7 +179,7 @@ up_to_same n m max e u = rw (← e) u
 
 -- ---- a value of any structure
 
-begins_as : {P : Type 0} (i k : ℕ) (c : Component P) (a : Answer P) → i ≡ k → a ≡ Begins i c → a ≡ Begins k c
+begins_as : {P : Type 0} (i k : ℕ) (c : Component P) (a : IdentifierAnswer P) → i ≡ k → a ≡ Begins i c → a ≡ Begins k c
 begins_as i k c a e h = rw e at h
 
 -- a component that remains begins
@@ -264,14 +264,14 @@ ends_remain Empty came room e = refl
 
 -- ---- from the beginning, and to the end
 
-pub hold_remain : {P : Type 0} (sh : Structure P) (d : List ℕ) → MayHold sh d → Remain sh [] d
+pub hold_remain : {P : Type 0} (sh : Structure P) (d : List ℕ) → MayHoldComponents sh d → Remain sh [] d
 hold_remain (Fields cs) d h = h
 hold_remain (OneOf cs) d h = h
 hold_remain (Items s cs) d h = (omega (arith, h.0), up_to_same _ _ s.max (omega arith) h.1)
 hold_remain (Holds contents) d h = h
 hold_remain Empty d h = h
 
-pub remain_hold : {P : Type 0} (sh : Structure P) (d : List ℕ) → Remain sh [] d → MayHold sh d
+pub remain_hold : {P : Type 0} (sh : Structure P) (d : List ℕ) → Remain sh [] d → MayHoldComponents sh d
 remain_hold (Fields cs) d h = h
 remain_hold (OneOf cs) d h = h
 remain_hold (Items s cs) d h = (omega (arith, h.0), up_to_same _ _ s.max (omega arith) h.1)
@@ -307,7 +307,7 @@ replicate_length zero k = refl
 replicate_length (suc n) k = ap suc (replicate_length n k)
 
 -- some components may come behind those that have, up to the end
-pub remain_some : {P : Type 0} (sh : Structure P) (came d : List ℕ) → MayHold sh d → AreComponents (components_of sh) d → HasRoom sh came → (more : List ℕ) × Remain sh came more × AreComponents (components_of sh) more
+pub remain_some : {P : Type 0} (sh : Structure P) (came d : List ℕ) → MayHoldComponents sh d → AreComponents (components_of sh) d → HasRoom sh came → (more : List ℕ) × Remain sh came more × AreComponents (components_of sh) more
 remain_some (Fields cs) came d h each room =
     all_in_order cs (next_number came) (drop (next_number came) cs) (λ i c found. sym (drop_get (next_number came) i cs) ∙ found)
 remain_some (OneOf cs) [] d h each room = (d, h, each)

@@ -19,7 +19,7 @@ use Rattle.message_model.specs.Admits.{AdmitsAs, AdmitsChildren, FitsCode}
 use Rattle.der_model.specs.LeafContents.{leaf_contents}
 use Rattle.der_model.specs.DerMessage.{DerMessage}
 use Rattle.der_model.specs.Structures.{Component, components, is_single}
-use Rattle.der_model.specs.Der.{Body, Octets, Inner, under, inner_of, item, placed, slot_values, all_slots, alternative, body, values_at}
+use Rattle.der_model.specs.Der.{Body, Octets, Inner, under, inner_of, item, placed_value, slot_values, all_slots, alternative, body, values_at}
 use Rattle.message_model.specs.Sound.{IsNoOption}
 use Rattle.der_model.specs.Sound.{FragmentsApart}
 use Rattle.der_model.proofs.SoundMessages.{HaveNoOptions}
@@ -56,7 +56,7 @@ mutual
 
 -- the first child in a slot, with the rest, or none
 abbrev pub Found : {P : Type 0} → DerMessage P → List (Slot P) → ℕ → Slot P → Children → Type 0
-Found m fs k s ks = (w : Value) × (rest : Children) × AdmitsAs m.forms (m.forms s.target) w × AdmitsChildren m.forms fs rest × (value.values_at k ks ≡ w ∷ value.values_at k rest) × (values_at m k s ks ≡ placed m.forms k s (body m (m.forms s.target) w) (values_at m k s rest))
+Found m fs k s ks = (w : Value) × (rest : Children) × AdmitsAs m.forms (m.forms s.target) w × AdmitsChildren m.forms fs rest × (value.values_at k ks ≡ w ∷ value.values_at k rest) × (values_at m k s ks ≡ placed_value m.forms k s (body m (m.forms s.target) w) (values_at m k s rest))
 
 found_or_none : {P : Type 0} (m : DerMessage P) (fs : List (Slot P)) (k : ℕ) (s : Slot P) (ks : Children) → slice_get fs k ≡ Some s → AdmitsChildren m.forms fs ks → Found m fs k s ks ⊎ ((value.values_at k ks ≡ []) × (values_at m k s ks ≡ Nothing))
 found_or_none m fs k s value.Nothing here a = inr (refl, refl)
@@ -117,14 +117,14 @@ item_some m p form.Envelope b x fb e = under_some _ b x e
 item_some m p form.LeftOut b x fb e = under_some _ b x e
 item_some m p form.Missing b x fb e = under_some _ b x e
 
-placed_same : {P : Type 0} (m : DerMessage P) (k : ℕ) (s : Slot P) (b c : Body) (x y : Values) → FitsAs m s.target (m.forms s.target) b → FitsAs m s.target (m.forms s.target) c → placed m.forms k s b x ≡ placed m.forms k s c y → (b ≡ c) × (x ≡ y)
+placed_same : {P : Type 0} (m : DerMessage P) (k : ℕ) (s : Slot P) (b c : Body) (x y : Values) → FitsAs m s.target (m.forms s.target) b → FitsAs m s.target (m.forms s.target) c → placed_value m.forms k s b x ≡ placed_value m.forms k s c y → (b ≡ c) × (x ≡ y)
 placed_same m k s b c x y fb fc e = go (is_single s) refl
   where
     go : (z : Bool) → is_single s ≡ z → (b ≡ c) × (x ≡ y)
     go true h = (let r = under_same (context k) (context k) b c x y (sym (cond-true (is_single s) _ _ h) ∙ (e ∙ cond-true (is_single s) _ _ h)) in (r.1, r.2))
     go false h = item_same m s.target (m.forms s.target) b c x y fb fc (sym (cond-false (is_single s) _ _ h) ∙ (e ∙ cond-false (is_single s) _ _ h))
 
-placed_some : {P : Type 0} (m : DerMessage P) (k : ℕ) (s : Slot P) (b : Body) (x : Values) → FitsAs m s.target (m.forms s.target) b → placed m.forms k s b x ≡ Nothing → ⊥
+placed_some : {P : Type 0} (m : DerMessage P) (k : ℕ) (s : Slot P) (b : Body) (x : Values) → FitsAs m s.target (m.forms s.target) b → placed_value m.forms k s b x ≡ Nothing → ⊥
 placed_some m k s b x fb e = go (is_single s) refl
   where
     go : (z : Bool) → is_single s ≡ z → ⊥

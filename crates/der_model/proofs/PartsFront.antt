@@ -3,17 +3,17 @@ use Rattle.std.proofs.Common.{◌≡◌, ℕ, ◌+◌, Bool, true, false, List, 
 use Rattle.std.specs.Prelude.{◌↔◌}
 use Rattle.der_model.specs.DerMessage.{DerMessage}
 use Rattle.der_model.specs.Structures.{Structure, Holds, Fields, OneOf, Items, Empty, structure}
-use Rattle.der_model.specs.States.{Part, Identifier, Length, End, Level, State, Start, AwaitsLength, AwaitsContents, Within, Answer, Begins, Breaks, begun, level_answer, state_after, Stands, part_octets}
+use Rattle.der_model.specs.States.{Part, Identifier, Length, End, DerLevel, State, Start, AwaitsLength, AwaitsContents, Within, IdentifierAnswer, Begins, Breaks, begun_state, level_answer, state_after, Stands, part_octets}
 use Rattle.der_model.specs.States as states
-use Rattle.der_model.specs.Faults.{IsHeldIn, IsClean, Front}
-use Rattle.der_model.specs.OpenParts.{without_lengths, IsPrimitive, Open, AreFilled}
-use Rattle.der_model.specs.OpenLaws.{KeepsLength, PartIsOpen, BrokenIsNotOpen, FrontIsOpen}
+use Rattle.der_model.specs.Faults.{IsHeldIn, IsCleanPart, DerFront}
+use Rattle.der_model.specs.OpenParts.{without_lengths, IsPrimitive, ArePartsOpen, AreFilled}
+use Rattle.der_model.specs.OpenLaws.{KeepsLength, PartIsOpen, BrokenPartIsNotOpen, FrontIsOpen}
 use Rattle.der_model.proofs.SoundMessages.{IsSorted}
 use Rattle.der_model.proofs.OneFault.{clean_breaks}
 use Rattle.der_model.proofs.Stages.{Cell, cell, Stage, Outside, Held, In, begun_stage, after, MayAt, AreFine, over}
 use Rattle.der_model.proofs.PartsLaw.{fine_is_open, open_is_fine}
 
-abbrev cells : {P : Type 0} → List (Level P) → List (Cell P)
+abbrev cells : {P : Type 0} → List (DerLevel P) → List (Cell P)
 cells [] = []
 cells (l ∷ ls) = cell l.spot l.came ∷ cells ls
 
@@ -32,7 +32,7 @@ held_primitive m (Items s cs) octets h = absurd h
 held_primitive m Empty octets h = absurd h
 
 module _ {P : Type 0} (m : DerMessage P) where
-  stage_begun : (l : Level P) (ls : List (Level P)) (b : Bool) (a : Answer P) → stage_of (begun m l ls b a) ≡ begun_stage (cell l.spot l.came) (cells ls) b a
+  stage_begun : (l : DerLevel P) (ls : List (DerLevel P)) (b : Bool) (a : IdentifierAnswer P) → stage_of (begun_state m l ls b a) ≡ begun_stage (cell l.spot l.came) (cells ls) b a
   stage_begun l ls true (Begins k c) = refl
   stage_begun l ls false (Begins k c) = refl
   stage_begun l ls b (Breaks rule added) = refl
@@ -58,7 +58,7 @@ module _ {P : Type 0} (m : DerMessage P) where
   stage_length (Within []) place k h = absurd h
   stage_length (Within (l ∷ ls)) place k h = absurd h
 
-  clean_may : (s : State P) (place : ℕ) (p : Part) → IsNoLength p → Stands s place p → IsClean m s place p → MayAt m 1 (stage_of s) p
+  clean_may : (s : State P) (place : ℕ) (p : Part) → IsNoLength p → Stands s place p → IsCleanPart m s place p → MayAt m 1 (stage_of s) p
   clean_may Start place (Identifier b t) n h c = c
   clean_may (Within (l ∷ ls)) place (Identifier b t) n h c = c
   clean_may (AwaitsContents spot names count around) place (states.Contents octets) n h c = (held_primitive m (structure m spot) octets c, λ one. c)
@@ -66,7 +66,7 @@ module _ {P : Type 0} (m : DerMessage P) where
   clean_may s place (Length k) n h c = absurd n
   clean_may s place p n h c = absurd h
 
-  may_clean : (s : State P) (place : ℕ) (p : Part) → IsNoLength p → Stands s place p → MayAt m 1 (stage_of s) p → IsClean m s place p
+  may_clean : (s : State P) (place : ℕ) (p : Part) → IsNoLength p → Stands s place p → MayAt m 1 (stage_of s) p → IsCleanPart m s place p
   may_clean Start place (Identifier b t) n h c = c
   may_clean (Within (l ∷ ls)) place (Identifier b t) n h c = c
   may_clean (AwaitsContents spot names count around) place (states.Contents octets) n h c = c.1 one
@@ -94,7 +94,7 @@ module _ {P : Type 0} (m : DerMessage P) where
   same_stage : (s t : State P) (ps : List Part) (last : State P) → stage_of t ≡ stage_of s → Goes t ps last → Goes s ps last
   same_stage s t ps last e (fine, is) = (subst (λ (x : Stage P). AreFine m x (without_lengths ps)) e fine, subst (λ (x : Stage P). over m x (without_lengths ps) ≡ stage_of last) e is)
 
-  front_goes : (s : State P) (place : ℕ) (bytes : List ℕ) (ps : List Part) (last : State P) (at : ℕ) (rest : List ℕ) → Front m s place bytes ps last at rest → Goes s ps last
+  front_goes : (s : State P) (place : ℕ) (bytes : List ℕ) (ps : List Part) (last : State P) (at : ℕ) (rest : List ℕ) → DerFront m s place bytes ps last at rest → Goes s ps last
   front_goes s place bytes [] last at rest (e, f, g) = (tt, ap stage_of e)
   front_goes s place bytes (Identifier b t ∷ ps) last at rest (next, is, h, u, c, f) =
       one_part s (state_after m s place (Identifier b t)) (Identifier b t) ps last (stage_after s place (Identifier b t) tt h) (clean_may s place (Identifier b t) tt h c) (front_goes (state_after m s place (Identifier b t)) (place + length (part_octets (Identifier b t))) next ps last at rest f)
@@ -113,19 +113,19 @@ module _ {P : Type 0} (m : DerMessage P) where
   lengths_append (End ∷ ps) qs = ap (λ x. End ∷ x) (lengths_append ps qs)
 
   -- a part that is no length, behind what breaks nothing
-  last_part : AreFilled m → (ps : List Part) (p : Part) (s : State P) (at : ℕ) → IsNoLength p → without_lengths (p ∷ []) ≡ p ∷ [] → Goes Start ps s → Stands s at p → IsClean m s at p ↔ Open m (without_lengths (ps ++ p ∷ []))
+  last_part : AreFilled m → (ps : List Part) (p : Part) (s : State P) (at : ℕ) → IsNoLength p → without_lengths (p ∷ []) ≡ p ∷ [] → Goes Start ps s → Stands s at p → IsCleanPart m s at p ↔ ArePartsOpen m (without_lengths (ps ++ p ∷ []))
   last_part filled ps p s at n e (fine, is) h = (to, back)
     where
       all : without_lengths (ps ++ p ∷ []) ≡ without_lengths ps ++ p ∷ []
       all = lengths_append ps (p ∷ []) ∙ ap (λ x. without_lengths ps ++ x) e
 
-      to : IsClean m s at p → Open m (without_lengths (ps ++ p ∷ []))
-      to c = subst (λ (x : List Part). Open m x) (sym all) (fine_is_open m filled (without_lengths ps ++ p ∷ []) (over_append Outside (without_lengths ps) (p ∷ []) fine (subst (λ (x : Stage P). AreFine m x (p ∷ [])) (sym is) (clean_may s at p n h c, tt))))
+      to : IsCleanPart m s at p → ArePartsOpen m (without_lengths (ps ++ p ∷ []))
+      to c = subst (λ (x : List Part). ArePartsOpen m x) (sym all) (fine_is_open m filled (without_lengths ps ++ p ∷ []) (over_append Outside (without_lengths ps) (p ∷ []) fine (subst (λ (x : Stage P). AreFine m x (p ∷ [])) (sym is) (clean_may s at p n h c, tt))))
 
-      back : Open m (without_lengths (ps ++ p ∷ [])) → IsClean m s at p
-      back o = may_clean s at p n h (subst (λ (x : Stage P). AreFine m x (p ∷ [])) is (over_behind Outside (without_lengths ps) (p ∷ []) (open_is_fine m filled (without_lengths ps ++ p ∷ []) (subst (λ (x : List Part). Open m x) all o)))).0
+      back : ArePartsOpen m (without_lengths (ps ++ p ∷ [])) → IsCleanPart m s at p
+      back o = may_clean s at p n h (subst (λ (x : Stage P). AreFine m x (p ∷ [])) is (over_behind Outside (without_lengths ps) (p ∷ []) (open_is_fine m filled (without_lengths ps ++ p ∷ []) (subst (λ (x : List Part). ArePartsOpen m x) all o)))).0
 
-  length_clean : (s : State P) (at k : ℕ) → Stands s at (Length k) → KeepsLength s at (Length k) → IsClean m s at (Length k)
+  length_clean : (s : State P) (at k : ℕ) → Stands s at (Length k) → KeepsLength s at (Length k) → IsCleanPart m s at (Length k)
   length_clean (AwaitsLength b spot names around) at k h fits = fits
   length_clean Start at k h fits = absurd h
   length_clean (AwaitsContents spot names count around) at k h fits = absurd h
@@ -138,8 +138,8 @@ module _ {P : Type 0} (m : DerMessage P) where
   part_is_open filled bytes ps s at rest End f h fits = last_part filled ps End s at tt refl (front_goes Start 0 bytes ps s at rest f) h
   part_is_open filled bytes ps s at rest (Length k) f h fits = (to, λ o. length_clean s at k h fits)
     where
-      to : IsClean m s at (Length k) → Open m (without_lengths (ps ++ Length k ∷ []))
-      to c = subst (λ (x : List Part). Open m x) (sym (lengths_append ps (Length k ∷ []) ∙ append-none (without_lengths ps))) (fine_is_open m filled (without_lengths ps) (front_goes Start 0 bytes ps s at rest f).0)
+      to : IsCleanPart m s at (Length k) → ArePartsOpen m (without_lengths (ps ++ Length k ∷ []))
+      to c = subst (λ (x : List Part). ArePartsOpen m x) (sym (lengths_append ps (Length k ∷ []) ∙ append-none (without_lengths ps))) (fine_is_open m filled (without_lengths ps) (front_goes Start 0 bytes ps s at rest f).0)
         where
           append-none : (xs : List Part) → xs ++ [] ≡ xs
           append-none [] = refl
@@ -148,5 +148,5 @@ module _ {P : Type 0} (m : DerMessage P) where
   pub front_is_open : AreFilled m → FrontIsOpen m
   front_is_open filled bytes ps s at rest f = fine_is_open m filled (without_lengths ps) (front_goes Start 0 bytes ps s at rest f).0
 
-  pub broken_is_not_open : IsSorted m → AreFilled m → BrokenIsNotOpen m
+  pub broken_is_not_open : IsSorted m → AreFilled m → BrokenPartIsNotOpen m
   broken_is_not_open sorted filled bytes ps s at rest p rule added f h fits breaks o = clean_breaks m sorted s at p rule added h ((part_is_open filled bytes ps s at rest p f h fits).1 o) breaks

@@ -9,10 +9,10 @@ use Rattle.reference_check.specs.Forms as form
 use Rattle.der_model.specs.DerMessage.{DerMessage}
 use Rattle.der_model.specs.Structures.{Spot, Instance, Component, Structure, Holds, Fields, OneOf, Items, Empty, structure, form_structure, number_structure, components, item_components, amount_components}
 use Rattle.der_model.specs.Structures as structures
-use Rattle.der_model.specs.States.{Part, Identifier, Length, End, Level, State, Start, AwaitsLength, AwaitsContents, Within, Answer, Begins, Breaks, Fine, is_under, identifier_answer, level_answer, end_answer, begun, state_after, Stands as PartStands, innermost_end, end_from, part_octets}
+use Rattle.der_model.specs.States.{Part, Identifier, Length, End, DerLevel, State, Start, AwaitsLength, AwaitsContents, Within, IdentifierAnswer, Begins, Breaks, Fine, is_under, identifier_answer, level_answer, end_answer, begun_state, state_after, Stands as PartStands, innermost_end, end_from, part_octets}
 use Rattle.der_model.specs.States as states
 use Rattle.der_model.specs.Faults.{outermost}
-use Rattle.der_model.specs.OpenParts.{parts_of, MayHold, components_of, IsPrimitive, ValuesSoFar, Open, HasValues, IsFilled, AreFilled, Occurs, outermost as first, within}
+use Rattle.der_model.specs.OpenParts.{parts_of, MayHoldComponents, components_of, IsPrimitive, ValuesSoFar, ArePartsOpen, HasValues, IsFilled, AreFilled, Occurs, outermost as first, within}
 use Rattle.der_model.proofs.Fields.{under_own, under_other}
 use Rattle.der_model.proofs.WholeValues.{under_same}
 use Rattle.der_model.proofs.OneLevel.{AreApart, Remain, HasRoom, begins_remains, hold_remain, remain_hold, room_first, AreComponents, remain_some}
@@ -92,7 +92,7 @@ module _ {P : Type 0} (m : DerMessage P) (filled : AreFilled m) where
 
   -- an open value can hold components, and not too many have come
   abbrev pub Stands : Cell P → Type 0
-  Stands x = (held : List ℕ) × Occurs m x.spot × MayHold (structure m x.spot) held × AreComponents (components_of (structure m x.spot)) held × HasRoom (structure m x.spot) x.came
+  Stands x = (held : List ℕ) × Occurs m x.spot × MayHoldComponents (structure m x.spot) held × AreComponents (components_of (structure m x.spot)) held × HasRoom (structure m x.spot) x.came
 
   abbrev pub AllHold : List (Cell P) → Type 0
   AllHold [] = Unit {0}
@@ -183,25 +183,25 @@ module _ {P : Type 0} (m : DerMessage P) (filled : AreFilled m) where
   may_is_fine come stage [] rest few h = tt
   may_is_fine come stage (p ∷ ps) rest few h = (more_fine come stage p (omega arith) h.0, may_is_fine (come - 1) (after m stage p) ps rest (omega arith) h.1)
 
-  pub fine_is_open : (ps : List Part) → AreFine m Outside ps → Open m ps
+  pub fine_is_open : (ps : List Part) → AreFine m Outside ps → ArePartsOpen m ps
   fine_is_open ps fine = of_rest (complete (over m Outside ps) (over_stands Outside ps tt fine))
     where
-      of_values : (rest : List Part) (inner : Values) → ps ++ rest ≡ Identifier true (universal 16) ∷ parts_of inner ++ End ∷ [] → ValuesOf m (all_apart m) (length ps - 1) Instance [] inner [] [] → Open m ps
+      of_values : (rest : List Part) (inner : Values) → ps ++ rest ≡ Identifier true (universal 16) ∷ parts_of inner ++ End ∷ [] → ValuesOf m (all_apart m) (length ps - 1) Instance [] inner [] [] → ArePartsOpen m ps
       of_values rest inner e (held, remain, so_far, b) = record { held = held; may_hold = remain_hold (structure m Instance) held remain; inner = inner; behind = rest; goes_on = e; so_far = so_far }
 
-      of_closed : (rest : List Part) → MayFollow m (length ps) Outside (ps ++ rest) → ((inner : Values) × (b : Bool) × (t : Tag) × (ps ++ rest ≡ Identifier b t ∷ parts_of inner ++ End ∷ [])) → Open m ps
+      of_closed : (rest : List Part) → MayFollow m (length ps) Outside (ps ++ rest) → ((inner : Values) × (b : Bool) × (t : Tag) × (ps ++ rest ≡ Identifier b t ∷ parts_of inner ++ End ∷ [])) → ArePartsOpen m ps
       of_closed rest follow (inner, b, t, e) =
           let h : MayFollow m (length ps) Outside (Identifier b t ∷ parts_of inner ++ End ∷ []) = rw e at follow in
           let u : (true ≡ b) × (universal 16 ≡ t) = under_same (outermost m) b t h.0 in
           of_values rest inner (e ∙ (ap (λ z. Identifier z t ∷ parts_of inner ++ End ∷ []) (sym u.0) ∙ ap (λ z. Identifier true z ∷ parts_of inner ++ End ∷ []) (sym u.1)))
           (values_so m (all_apart m) inner (length ps - 1) Instance [] [] [] (room_first (structure m Instance)) h.1)
 
-      of_rest : Completed (over m Outside ps) → Open m ps
+      of_rest : Completed (over m Outside ps) → ArePartsOpen m ps
       of_rest (rest, follow) =
           let all : MayFollow m (length ps) Outside (ps ++ rest) = fine_may (length ps) 0 Outside ps rest (omega arith) fine follow in
           of_closed rest all (parse m (length ps) Outside (ps ++ rest) all)
 
-  pub open_is_fine : (ps : List Part) → Open m ps → AreFine m Outside ps
+  pub open_is_fine : (ps : List Part) → ArePartsOpen m ps → AreFine m Outside ps
   open_is_fine ps o =
       may_is_fine (length ps) Outside ps o.behind (omega arith)
       (rw o.goes_on (under_own (outermost m), values_may m (all_apart m) o.inner (length ps - 1) (length ps - 1 - (length (parts_of o.inner) + 1)) Instance [] o.held [] [] refl (hold_remain (structure m Instance) o.held o.may_hold) o.so_far refl))

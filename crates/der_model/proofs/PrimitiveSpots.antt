@@ -9,7 +9,7 @@ use Rattle.der_model.specs.DerMessage.{DerMessage}
 use Rattle.der_model.specs.Structures.{Spot, Instance, Value, ListOf, NumberOf, Component, Unnamed, is_single, is_constructed, universal_tag, component, components, item_components, amount_components, form_structure, number_structure, structure}
 use Rattle.der_model.specs.States.{Begins, identifier_answer}
 use Rattle.der_model.specs.OpenParts.{IsPrimitive, components_of}
-use Rattle.der_model.specs.Sound.{IsSound}
+use Rattle.der_model.specs.Sound.{IsSoundDer}
 use Rattle.der_model.specs.SomeAnswers.{HasKind, HaveKinds}
 use Rattle.der_model.proofs.OneLevel.{begins_remains}
 
@@ -18,7 +18,7 @@ abbrev pub OfKind : {P : Type 0} → DerMessage P → Spot P → Type 0
 OfKind m (ListOf p k s) = HasKind (m.forms s.target)
 OfKind m spot = Unit {0}
 
-module _ {P : Type 0} (m : DerMessage P) (sound : IsSound m) (kinds : HaveKinds m.forms) where
+module _ {P : Type 0} (m : DerMessage P) (sound : IsSoundDer m) (kinds : HaveKinds m.forms) where
   -- a component of such a type, which holds contents where it is primitive
   abbrev Good : Component P → Type 0
   Good c = OfKind m c.spot × (c.constructed ≡ false → IsPrimitive (structure m c.spot))

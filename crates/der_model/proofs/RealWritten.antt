@@ -11,10 +11,10 @@ use Rattle.lexical_core.specs.Exponents.{exponent_for}
 use Rattle.lexical_core.proofs.Written.{contents_are, without_zero}
 use Rattle.lexical_core.proofs.RealLaws.{number_contents}
 use Rattle.lexical_core.proofs.Scales.{pow_more}
-use Rattle.der_model.specs.RealContents.{Stripped, stripped, real_contents}
+use Rattle.der_model.specs.RealContents.{Stripped, strip_zeros, real_contents}
 
 -- what is left has no zero at its end, and makes the number with those that were taken
-strips : (most size zeros all : ℕ) → all ≡ size * 10 ^ zeros → 0 < size → size < 10 ^ most → (all ≡ (stripped most size zeros).size * 10 ^ (stripped most size zeros).zeros) × (0 < (stripped most size zeros).size % 10)
+strips : (most size zeros all : ℕ) → all ≡ size * 10 ^ zeros → 0 < size → size < 10 ^ most → (all ≡ (strip_zeros most size zeros).size * 10 ^ (strip_zeros most size zeros).zeros) × (0 < (strip_zeros most size zeros).size % 10)
 strips zero size zeros all e some small = absurd (let one : 10 ^ 0 ≡ 1 = refl in omega arith)
 strips (suc most) size zeros all e some small = go (eqb_tells (size % 10) 0) (λ whole. strips most (size / 10) (suc zeros) all (tenth whole) (omega (arith, whole)) below)
   where
@@ -24,8 +24,8 @@ strips (suc most) size zeros all e some small = go (eqb_tells (size % 10) 0) (λ
     below : size / 10 < 10 ^ most
     below = (let p = pow_more most in let k : most + 1 ≡ suc most = omega arith in let q = ap (λ z. 10 ^ z) k in omega arith)
 
-    go : ((eqb (size % 10) 0 ≡ true) × (size % 10 ≡ 0)) ⊎ ((eqb (size % 10) 0 ≡ false) × (size % 10 ≢ 0)) → (size % 10 ≡ 0 → (all ≡ (stripped most (size / 10) (suc zeros)).size * 10 ^ (stripped most (size / 10) (suc zeros)).zeros) × (0 < (stripped most (size / 10) (suc zeros)).size % 10))
-        → (all ≡ (if size % 10 == 0 then stripped most (size / 10) (suc zeros) else record { size = size; zeros = zeros }).size * 10 ^ (if size % 10 == 0 then stripped most (size / 10) (suc zeros) else record { size = size; zeros = zeros }).zeros) × (0 < (if size % 10 == 0 then stripped most (size / 10) (suc zeros) else record { size = size; zeros = zeros }).size % 10)
+    go : ((eqb (size % 10) 0 ≡ true) × (size % 10 ≡ 0)) ⊎ ((eqb (size % 10) 0 ≡ false) × (size % 10 ≢ 0)) → (size % 10 ≡ 0 → (all ≡ (strip_zeros most (size / 10) (suc zeros)).size * 10 ^ (strip_zeros most (size / 10) (suc zeros)).zeros) × (0 < (strip_zeros most (size / 10) (suc zeros)).size % 10))
+        → (all ≡ (if size % 10 == 0 then strip_zeros most (size / 10) (suc zeros) else record { size = size; zeros = zeros }).size * 10 ^ (if size % 10 == 0 then strip_zeros most (size / 10) (suc zeros) else record { size = size; zeros = zeros }).zeros) × (0 < (if size % 10 == 0 then strip_zeros most (size / 10) (suc zeros) else record { size = size; zeros = zeros }).size % 10)
     go (inl t) r = rw t.0 (r t.1)
     go (inr t) r = rw t.0 (e, positive (size % 10) t.1)
       where
@@ -38,7 +38,7 @@ abs_zero (pos n) e = ap pos e
 abs_zero (negsuc n) e = absurd (omega arith)
 
 abbrev part_of : Number → Stripped
-part_of n = stripped 18 (unsigned_abs n.whole) 0
+part_of n = strip_zeros 18 (unsigned_abs n.whole) 0
 
 abbrev text_of : Number → List ℕ
 text_of n = 3 ∷ (minus_text (is_negative n.whole) ++ real_body (decimal (part_of n).size) (exponent_for n.scale (part_of n).zeros))

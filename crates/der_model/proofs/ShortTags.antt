@@ -16,7 +16,7 @@ use Rattle.message_model.specs.Admits.{numbers_of}
 use Rattle.message_model.specs.Admits.{AdmitsAs, AdmitsChildren}
 use Rattle.der_model.specs.DerMessage.{DerMessage}
 use Rattle.der_model.specs.Structures.{is_single, kind_number, simple_number}
-use Rattle.der_model.specs.Der.{Body, Octets, Inner, body, inner_of, under, item, placed, slot_values, all_slots, chosen_slot, alternative, values_at}
+use Rattle.der_model.specs.Der.{Body, Octets, Inner, body, inner_of, under, item, placed_value, slot_values, all_slots, chosen_slot, alternative, values_at}
 use Rattle.der_model.specs.inner.Conforms.{AreShort}
 use Rattle.der_model.proofs.WholeValues.{length-wrapped}
 
@@ -76,7 +76,7 @@ item_short form.Envelope b rest p q = under_short _ b rest (omega arith) p q
 item_short form.LeftOut b rest p q = under_short _ b rest (omega arith) p q
 item_short form.Missing b rest p q = under_short _ b rest (omega arith) p q
 
-placed_short : {P : Type 0} (g : Graph P Simple) (k : ℕ) (s : Slot P) (b : Body) (rest : Values) → k < 2 ^ 14 → HasShortTags b → HaveShortTags rest → HaveShortTags (placed g k s b rest)
+placed_short : {P : Type 0} (g : Graph P Simple) (k : ℕ) (s : Slot P) (b : Body) (rest : Values) → k < 2 ^ 14 → HasShortTags b → HaveShortTags rest → HaveShortTags (placed_value g k s b rest)
 placed_short g k s b rest low p q = go (is_single s)
   where
     go : (z : Bool) → HaveShortTags (if z then under (context k) b rest else item (g s.target) b rest)
@@ -102,10 +102,10 @@ alternative_short {P} fs (k ∷ d) at low each = go (slice_get fs k) refl
     go None e = tt
     go (Some s) e = (let l = slice_get_within fs k s e in slot_short k s (at k s) Nothing (omega arith) (each k s e) tt)
 
-child_short : {P : Type 0} (g : Graph P Simple) (fs : List (Slot P)) (k j : ℕ) (s t : Slot P) (b : Slot P → Body) (vs : Values) → k < 2 ^ 14 → slice_get fs k ≡ Some s → slice_get fs j ≡ Some t → HasShortTags (b t) → HaveShortTags vs → HaveShortTags (if j == k then placed g k s (b s) vs else vs)
+child_short : {P : Type 0} (g : Graph P Simple) (fs : List (Slot P)) (k j : ℕ) (s t : Slot P) (b : Slot P → Body) (vs : Values) → k < 2 ^ 14 → slice_get fs k ≡ Some s → slice_get fs j ≡ Some t → HasShortTags (b t) → HaveShortTags vs → HaveShortTags (if j == k then placed_value g k s (b s) vs else vs)
 child_short g fs k j s t b vs low here there p q = go (eqb_tells j k)
   where
-    go : ((eqb j k ≡ true) × (j ≡ k)) ⊎ ((eqb j k ≡ false) × (j ≢ k)) → HaveShortTags (if j == k then placed g k s (b s) vs else vs)
+    go : ((eqb j k ≡ true) × (j ≡ k)) ⊎ ((eqb j k ≡ false) × (j ≢ k)) → HaveShortTags (if j == k then placed_value g k s (b s) vs else vs)
     go (inl e) =
         let found : slice_get fs k ≡ Some t = subst (λ z. slice_get fs z ≡ Some t) e.1 there in
         let same : t ≡ s = cc in

@@ -10,11 +10,11 @@ use Rattle.der_octets.proofs.OneReading.{octets_same}
 use Rattle.der_model.specs.DerMessage.{DerMessage}
 use Rattle.der_model.specs.Structures.{Instance, LeafOf, Fragment, Structure, Holds, Fields, OneOf, Items, Empty, structure}
 use Rattle.der_model.specs.Der.{body, inner_of, der_values}
-use Rattle.der_model.specs.States.{Part, Identifier, Length, End, part_octets, Level, State, Start, AwaitsLength, AwaitsContents, Within, Name, Numbered, end_from, state_after}
+use Rattle.der_model.specs.States.{Part, Identifier, Length, End, part_octets, DerLevel, State, Start, AwaitsLength, AwaitsContents, Within, PathName, Numbered, end_from, state_after}
 use Rattle.der_model.specs.States as states
-use Rattle.der_model.specs.Faults.{IsHeldIn, IsClean, Front, IsWhole}
-use Rattle.der_model.specs.inner.Conforms.{AreShort, IsInstance}
-use Rattle.der_model.specs.Sound.{IsSound}
+use Rattle.der_model.specs.Faults.{IsHeldIn, IsCleanPart, DerFront, IsWholeDer}
+use Rattle.der_model.specs.inner.Conforms.{AreShort, AreInstanceValues}
+use Rattle.der_model.specs.Sound.{IsSoundDer}
 use Rattle.der_model.specs.ShownPieces.{IsLeafIn, PartShows, PartsShow, elements_ended, end_each}
 use Rattle.der_model.specs.ShownLaws.{WholeShowsPieces, FrontShowsPieces, ShowOnePieces, OneMoreShows}
 use Rattle.der_model.proofs.SoundMessages.{no_options}
@@ -25,7 +25,7 @@ use Rattle.der_model.proofs.ShownParts.{parts_then, FirstPart, first_part, Parts
 use Rattle.der_model.proofs.ShownValues.{root_shows}
 
 -- no parts come behind the end of an instance
-nothing_over : (m : DerMessage ℕ) (place at : ℕ) (bytes rest : List ℕ) (ps : List Part) → Front m (Within []) place bytes ps (Within []) at rest → ps ≡ []
+nothing_over : (m : DerMessage ℕ) (place at : ℕ) (bytes rest : List ℕ) (ps : List Part) → DerFront m (Within []) place bytes ps (Within []) at rest → ps ≡ []
 nothing_over m place at bytes rest [] f = refl
 nothing_over m place at bytes rest (Identifier x t ∷ ps) (after, is, h, u, c, f) = absurd h
 nothing_over m place at bytes rest (Length n ∷ ps) (after, is, h, u, c, f) = absurd h
@@ -33,8 +33,8 @@ nothing_over m place at bytes rest (states.Contents o ∷ ps) (after, is, h, u, 
 nothing_over m place at bytes rest (End ∷ ps) (after, is, h, u, c, f) = absurd h
 
 -- what the parts of an instance show, by its values
-instance_parts : (m : DerMessage ℕ) (bytes : List ℕ) (inner : Values) (parts : List Part) (at : ℕ) (shown : List Piece) → IsInstance m inner → AreShort (whole_values_of inner) → bytes ≡ octets (whole_values_of inner)
-    → Front m Start 0 bytes parts (Within []) at [] → PartsShow m Start 0 parts shown → ValuesShow m Instance [] inner shown
+instance_parts : (m : DerMessage ℕ) (bytes : List ℕ) (inner : Values) (parts : List Part) (at : ℕ) (shown : List Piece) → AreInstanceValues m inner → AreShort (whole_values_of inner) → bytes ≡ octets (whole_values_of inner)
+    → DerFront m Start 0 bytes parts (Within []) at [] → PartsShow m Start 0 parts shown → ValuesShow m Instance [] inner shown
 instance_parts m bytes inner parts at shown conf (s1, s2, s3, s4) is f told = go (subst (λ z. PartsShow m Start 0 z shown) all told)
   where
     id : List ℕ
@@ -43,10 +43,10 @@ instance_parts m bytes inner parts at shown conf (s1, s2, s3, s4) is f told = go
     n : ℕ
     n = length (octets inner)
 
-    names : List Name
+    names : List PathName
     names = Numbered (codes "Document") 1 ∷ []
 
-    opened : Level ℕ
+    opened : DerLevel ℕ
     opened = record { spot = Instance; names = names; came = []; end = end_from (0 + length id) n }
 
     one : FirstPart {P = ℕ} m Start 0 (Identifier true (universal 16)) (length_octets n ++ (octets inner ++ [])) parts at []
@@ -70,9 +70,9 @@ instance_parts m bytes inner parts at shown conf (s1, s2, s3, s4) is f told = go
 inner_same : (a b : Values) → Constructed (universal 16) a Nothing ≡ Constructed (universal 16) b Nothing → a ≡ b
 inner_same a b e = cc
 
-pub whole_shows_pieces : (m : DerMessage ℕ) → IsSound m → WholeShowsPieces m
+pub whole_shows_pieces : (m : DerMessage ℕ) → IsSoundDer m → WholeShowsPieces m
 whole_shows_pieces m sound bytes parts at shown front told =
-    let whole : IsWhole m bytes = record { parts = parts; at = at; front = front } in
+    let whole : IsWholeDer m bytes = record { parts = parts; at = at; front = front } in
     let (inner, conf, short, is) = values_of_whole m bytes whole in
     let (v, (admits, spelled)) = whole_spells m sound bytes whole in
     let same : inner ≡ inner_of (body m (m.forms m.root) v) = inner_same _ _ (octets_same (whole_values_of inner) (der_values m v) (sym is ∙ spelled)) in
@@ -88,7 +88,7 @@ held_leaf m (OneOf cs) o held = absurd held
 held_leaf m (Items s cs) o held = absurd held
 held_leaf m Empty o held = absurd held
 
-clean_shows : (m : DerMessage ℕ) (state : State ℕ) (place : ℕ) (part : Part) → IsClean m state place part → (shown : List Piece) × PartShows m state part shown
+clean_shows : (m : DerMessage ℕ) (state : State ℕ) (place : ℕ) (part : Part) → IsCleanPart m state place part → (shown : List Piece) × PartShows m state part shown
 clean_shows m Start place part clean = ([], refl)
 clean_shows m (AwaitsLength constructed spot names around) place part clean = ([], refl)
 clean_shows m (AwaitsContents spot names count around) place (states.Contents o) clean =
@@ -132,7 +132,7 @@ show_one_pieces m before place (part ∷ parts) a b (x, xs, first, behind, is) (
     is ∙ (ap (λ z. z ++ xs) (part_shows_one m before part x y first other) ∙ (ap (λ z. y ++ z) (show_one_pieces m (state_after m before place part) (place + length (part_octets part)) parts xs ys behind others) ∙ sym also))
 
 -- parts in the state behind others show their pieces behind those
-pub parts_show_then : (m : DerMessage ℕ) (before state : State ℕ) (place at : ℕ) (bytes rest : List ℕ) (parts others : List Part) (shown more : List Piece) → Front m before place bytes parts state at rest → PartsShow m before place parts shown → PartsShow m state at others more
+pub parts_show_then : (m : DerMessage ℕ) (before state : State ℕ) (place at : ℕ) (bytes rest : List ℕ) (parts others : List Part) (shown more : List Piece) → DerFront m before place bytes parts state at rest → PartsShow m before place parts shown → PartsShow m state at others more
     → PartsShow m before place (parts ++ others) (shown ++ more)
 parts_show_then m before state place at bytes rest [] others shown more (s, p, r) none behind =
     subst (PartsShow m before place others) (ap (λ z. z ++ more) (sym none)) (subst (λ z. PartsShow m z place others more) (sym s) (subst (λ z. PartsShow m state z others more) (sym p) behind))

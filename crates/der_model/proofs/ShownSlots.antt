@@ -13,7 +13,7 @@ use Rattle.message_model.specs.Tables.{edge_at}
 use Rattle.der_model.specs.DerMessage.{DerMessage}
 use Rattle.der_model.specs.Structures.{Spot, Value, ListOf, Component, OneOf, structure, form_structure, component, components, item_components}
 use Rattle.der_model.specs.Der.{Body, Octets, Inner, under, inner_of}
-use Rattle.der_model.specs.States.{Answer, Begins, Breaks, any_answer, item_answer, one_answer, identifier_answer, next_number}
+use Rattle.der_model.specs.States.{IdentifierAnswer, Begins, Breaks, any_answer, item_answer, one_answer, identifier_answer, next_number}
 use Rattle.der_model.specs.ShownPieces.{begin_each, end_each, alternatives_of, slot_elements, component_elements, IsLeafIn}
 use Rattle.der_model.proofs.WholeValues.{under_same}
 use Rattle.der_model.proofs.BegunSlots.{any_slot, begun_slot}
@@ -125,11 +125,11 @@ alternative_begun m p fs b tag k c e =
     let number : k ≡ r.0 = omega (arith, r.2) in
     (r.1, subst (λ z. slice_get fs z ≡ Some r.1) (sym number) r.3, r.4, sym (ap (λ (z : Component ℕ). z.tag) r.4) ∙ (under_same c b tag r.5).1)
 
-one_begun : {P : Type 0} (came : List ℕ) (a : Answer P) (k : ℕ) (c : Component P) → one_answer came a ≡ Begins k c → a ≡ Begins k c
+one_begun : {P : Type 0} (came : List ℕ) (a : IdentifierAnswer P) (k : ℕ) (c : Component P) → one_answer came a ≡ Begins k c → a ≡ Begins k c
 one_begun [] a k c e = e
 one_begun (j ∷ came) a k c e = absurd cc
 
-pub item_begun : {P : Type 0} (room : Bool) (a : Answer P) (k : ℕ) (c : Component P) → item_answer room a ≡ Begins k c → a ≡ Begins k c
+pub item_begun : {P : Type 0} (room : Bool) (a : IdentifierAnswer P) (k : ℕ) (c : Component P) → item_answer room a ≡ Begins k c → a ≡ Begins k c
 item_begun true a k c e = e
 item_begun false (Begins j d) k c e = absurd cc
 item_begun false (Breaks r x) k c e = absurd cc

@@ -9,13 +9,13 @@ use Rattle.der_octets.proofs.Headers.{some_identifier}
 use Rattle.reference_check.specs.Words.{UpTo}
 use Rattle.der_model.specs.DerMessage.{DerMessage}
 use Rattle.der_model.specs.Structures.{Spot, structure}
-use Rattle.der_model.specs.States.{Part, Identifier, Length, End, part_octets, Level, State, Start, AwaitsLength, AwaitsContents, Within, Name, Answer, Begins, Breaks, is_under, level_answer, names_in, begun, EndAnswer, Fine, EndBreaks, end_answer, end_from, state_after, level_end, innermost_end, IsHeader, Stands}
+use Rattle.der_model.specs.States.{Part, Identifier, Length, End, part_octets, DerLevel, State, Start, AwaitsLength, AwaitsContents, Within, PathName, IdentifierAnswer, Begins, Breaks, is_under, level_answer, names_in, begun_state, EndAnswer, Fine, EndBreaks, end_answer, end_from, state_after, level_end, innermost_end, IsHeader, Stands}
 use Rattle.der_model.specs.States as states
 use Rattle.der_model.specs.OpenParts.{IsPrimitive}
-use Rattle.der_model.specs.Sound.{IsSound}
-use Rattle.der_model.specs.SomeAnswers.{HaveKinds, SpelledOrFaulty}
+use Rattle.der_model.specs.Sound.{IsSoundDer}
+use Rattle.der_model.specs.SomeAnswers.{HaveKinds, DerSpelledOrFaulty}
 use Rattle.der_model.specs.Paths.{path_of}
-use Rattle.der_model.specs.Faults.{IsHeldIn, BreaksIn, outermost, IsClean, BreaksRule, Front, broken, short, trailing}
+use Rattle.der_model.specs.Faults.{IsHeldIn, BreaksIn, outermost, IsCleanPart, BreaksRule, DerFront, broken, short, trailing}
 use Rattle.der_model.proofs.Answered.{whole_spells}
 use Rattle.der_model.proofs.WholeValues.{came_more}
 use Rattle.der_model.proofs.EitherWay.{Told}
@@ -30,7 +30,7 @@ fits_or_not at (Some end) = elim (cases_lt end at) [ inl above ↦ inr (λ below
 
 module _ {P : Type 0} (m : DerMessage P) where
   -- Each open value ends within the one round it.
-  abbrev AreWithin : ℕ → List (Level P) → Type 0
+  abbrev AreWithin : ℕ → List (DerLevel P) → Type 0
   AreWithin place [] = Unit {0}
   AreWithin place (l ∷ ls) = (place ≤ l.end) × OfKind m l.spot × AreWithin l.end ls
 
@@ -41,11 +41,11 @@ module _ {P : Type 0} (m : DerMessage P) where
   IsOpen (AwaitsContents spot names count around) place = IsPrimitive (structure m spot) × AreWithin (place + count) around
   IsOpen (Within levels) place = AreWithin place levels
 
-  within_from : (at place : ℕ) (ls : List (Level P)) → UpTo at (level_end ls) → AreWithin place ls → AreWithin at ls
+  within_from : (at place : ℕ) (ls : List (DerLevel P)) → UpTo at (level_end ls) → AreWithin place ls → AreWithin at ls
   within_from at place [] u w = tt
   within_from at place (l ∷ ls) u w = (u, w.1, w.2)
 
-  within_end : (place : ℕ) (ls : List (Level P)) → AreWithin place ls → UpTo place (level_end ls)
+  within_end : (place : ℕ) (ls : List (DerLevel P)) → AreWithin place ls → UpTo place (level_end ls)
   within_end place [] w = tt
   within_end place (l ∷ ls) w = w.0
 
@@ -66,13 +66,13 @@ module _ {P : Type 0} (m : DerMessage P) where
     last : State P
     at : ℕ
     rest : List ℕ
-    front : Front m s place bytes parts last at rest
+    front : DerFront m s place bytes parts last at rest
     end : ((last ≡ Within []) × (rest ≡ [])) ⊎ Wrong m last at rest
 
   here : (s : State P) (place : ℕ) (bytes : List ℕ) → ((s ≡ Within []) × (bytes ≡ [])) ⊎ Wrong m s place bytes → HasAnswer s place bytes
   here s place bytes end = record { parts = []; last = s; at = place; rest = bytes; front = (refl, refl, refl); end = end }
 
-  one_more : (s : State P) (place : ℕ) (bytes : List ℕ) (p : Part) (after : List ℕ) → bytes ≡ part_octets p ++ after → Stands s place p → UpTo (place + length (part_octets p)) (innermost_end s) → IsClean m s place p
+  one_more : (s : State P) (place : ℕ) (bytes : List ℕ) (p : Part) (after : List ℕ) → bytes ≡ part_octets p ++ after → Stands s place p → UpTo (place + length (part_octets p)) (innermost_end s) → IsCleanPart m s place p
       → HasAnswer (state_after m s place p) (place + length (part_octets p)) after → HasAnswer s place bytes
   one_more s place bytes p after is stands within clean a =
       record { parts = p ∷ a.parts; last = a.last; at = a.at; rest = a.rest; front = (after, is, stands, within, clean, a.front); end = a.end }
@@ -82,8 +82,8 @@ module _ {P : Type 0} (m : DerMessage P) where
 
   -- a part that stands breaks a rule, or there is an answer behind it
   judged : (n : ℕ) → Again n → (s : State P) (place : ℕ) (bytes : List ℕ) (p : Part) (after : List ℕ) → bytes ≡ part_octets p ++ after → Stands s place p → UpTo (place + length (part_octets p)) (innermost_end s)
-      → (IsClean m s place p → (to_come (state_after m s place p) after < n) × IsOpen (state_after m s place p) (place + length (part_octets p)))
-      → IsClean m s place p ⊎ ((rule : Rule) × (added : List ℕ) × BreaksRule m s place p rule added) → Told (HasAnswer s place bytes)
+      → (IsCleanPart m s place p → (to_come (state_after m s place p) after < n) × IsOpen (state_after m s place p) (place + length (part_octets p)))
+      → IsCleanPart m s place p ⊎ ((rule : Rule) × (added : List ℕ) × BreaksRule m s place p rule added) → Told (HasAnswer s place bytes)
   judged n again s place bytes p after is stands within goes_on (inl clean) lacks =
       again (state_after m s place p) (place + length (part_octets p)) after (goes_on clean).0 (goes_on clean).1 (λ a. lacks (one_more s place bytes p after is stands within clean a))
   judged n again s place bytes p after is stands within goes_on (inr (rule, added, breaks)) lacks =
@@ -97,14 +97,14 @@ module _ {P : Type 0} (m : DerMessage P) where
       of : (b : Bool) (t : Tag) (after : List ℕ) → IsShortTag t → bytes ≡ identifier b t ++ after → (is_under (outermost m) b t ≡ true) ⊎ (is_under (outermost m) b t ≡ false) → ⊥
       of b t after small is own = judged n again Start place bytes (Identifier b t) after is small tt next (clean own) lacks
         where
-          next : IsClean m Start place (Identifier b t) → (to_come (state_after m Start place (Identifier b t)) after < n) × IsOpen (state_after m Start place (Identifier b t)) (place + length (identifier b t))
+          next : IsCleanPart m Start place (Identifier b t) → (to_come (state_after m Start place (Identifier b t)) after < n) × IsOpen (state_after m Start place (Identifier b t)) (place + length (identifier b t))
           next c =
               let size = ap length is in
               let sum = length-append (identifier b t) after in
               let some = some_identifier b t in
               (omega arith, (tt, (λ e. absurd cc), tt))
 
-          clean : (is_under (outermost m) b t ≡ true) ⊎ (is_under (outermost m) b t ≡ false) → IsClean m Start place (Identifier b t) ⊎ ((rule : Rule) × (added : List ℕ) × BreaksRule m Start place (Identifier b t) rule added)
+          clean : (is_under (outermost m) b t ≡ true) ⊎ (is_under (outermost m) b t ≡ false) → IsCleanPart m Start place (Identifier b t) ⊎ ((rule : Rule) × (added : List ℕ) × BreaksRule m Start place (Identifier b t) rule added)
           clean (inl e) = inl e
           clean (inr e) = inr (UnexpectedTag, [], (e, refl, refl))
 
@@ -115,7 +115,7 @@ module _ {P : Type 0} (m : DerMessage P) where
       by (inl h) = found h.octets h.after h.bytes_are h.header
       by (inr w) = lacks (here Start place bytes (inr w))
 
-  length_due : (n : ℕ) → Again n → (b : Bool) (spot : Spot P) (names : List Name) (around : List (Level P)) (place : ℕ) (bytes : List ℕ) → to_come (AwaitsLength b spot names around) bytes < suc n
+  length_due : (n : ℕ) → Again n → (b : Bool) (spot : Spot P) (names : List PathName) (around : List (DerLevel P)) (place : ℕ) (bytes : List ℕ) → to_come (AwaitsLength b spot names around) bytes < suc n
       → IsOpen (AwaitsLength b spot names around) place → Told (HasAnswer (AwaitsLength b spot names around) place bytes)
   length_due n again b spot names around place bytes low (kind, primitive, within) lacks =
       some_header m (AwaitsLength b spot names around) place bytes (record { more = length_octets 0; some = some_length 0; header = (0, omega arith, refl) }) (within_end place around within) by
@@ -134,7 +134,7 @@ module _ {P : Type 0} (m : DerMessage P) where
           (omega arith, (primitive refl, within_from (end_from place size) place around fits within))
 
       clean : (size : ℕ) → UpTo (end_from place size) (level_end around) ⊎ (UpTo (end_from place size) (level_end around) → ⊥)
-          → IsClean m (AwaitsLength b spot names around) place (Length size) ⊎ ((rule : Rule) × (added : List ℕ) × BreaksRule m (AwaitsLength b spot names around) place (Length size) rule added)
+          → IsCleanPart m (AwaitsLength b spot names around) place (Length size) ⊎ ((rule : Rule) × (added : List ℕ) × BreaksRule m (AwaitsLength b spot names around) place (Length size) rule added)
       clean size (inl fits) = inl fits
       clean size (inr long) = inr (Overrun, [], (long, refl, refl))
 
@@ -149,7 +149,7 @@ module _ {P : Type 0} (m : DerMessage P) where
 
   -- ---- where contents are due
 
-  contents_due : (n : ℕ) → Again n → (spot : Spot P) (names : List Name) (count : ℕ) (around : List (Level P)) (place : ℕ) (bytes : List ℕ) → to_come (AwaitsContents spot names count around) bytes < suc n
+  contents_due : (n : ℕ) → Again n → (spot : Spot P) (names : List PathName) (count : ℕ) (around : List (DerLevel P)) (place : ℕ) (bytes : List ℕ) → to_come (AwaitsContents spot names count around) bytes < suc n
       → IsOpen (AwaitsContents spot names count around) place → Told (HasAnswer (AwaitsContents spot names count around) place bytes)
   contents_due n again spot names count around place bytes low (primitive, within) lacks = by (cases_lt (length bytes) count)
     where
@@ -168,11 +168,11 @@ module _ {P : Type 0} (m : DerMessage P) where
           size : length octets ≡ count
           size = length-take-le count bytes enough
 
-          next : IsClean m (AwaitsContents spot names count around) place (states.Contents octets) → (to_come (Within around) after < n) × AreWithin (place + length octets) around
+          next : IsCleanPart m (AwaitsContents spot names count around) place (states.Contents octets) → (to_come (Within around) after < n) × AreWithin (place + length octets) around
           next c = (let whole = ap length is in let sum = length-append octets after in omega arith, rw size within)
 
           clean : IsHeldIn m (structure m spot) octets ⊎ ((rule : Rule) × BreaksIn m (structure m spot) octets rule)
-              → IsClean m (AwaitsContents spot names count around) place (states.Contents octets) ⊎ ((rule : Rule) × (added : List ℕ) × BreaksRule m (AwaitsContents spot names count around) place (states.Contents octets) rule added)
+              → IsCleanPart m (AwaitsContents spot names count around) place (states.Contents octets) ⊎ ((rule : Rule) × (added : List ℕ) × BreaksRule m (AwaitsContents spot names count around) place (states.Contents octets) rule added)
           clean (inl held) = inl held
           clean (inr (rule, breaks)) = inr (rule, [], (breaks, refl))
 
@@ -182,20 +182,20 @@ module _ {P : Type 0} (m : DerMessage P) where
 
   -- ---- where the parts of a value, or its end, are due
 
-  module _ (sound : IsSound m) (kinds : HaveKinds m.forms) where
-    part_due : (n : ℕ) → Again n → (l : Level P) (ls : List (Level P)) (place : ℕ) (bytes : List ℕ) → to_come (Within (l ∷ ls)) bytes < suc n → AreWithin place (l ∷ ls) → place < l.end
+  module _ (sound : IsSoundDer m) (kinds : HaveKinds m.forms) where
+    part_due : (n : ℕ) → Again n → (l : DerLevel P) (ls : List (DerLevel P)) (place : ℕ) (bytes : List ℕ) → to_come (Within (l ∷ ls)) bytes < suc n → AreWithin place (l ∷ ls) → place < l.end
         → Told (HasAnswer (Within (l ∷ ls)) place bytes)
     part_due n again l ls place bytes low (inside, kind, within) more lacks =
         some_header m (Within (l ∷ ls)) place bytes (record { more = identifier false (universal 16); some = some_identifier false (universal 16); header = (more, false, universal 16, omega arith, refl) }) inside by
       where
-        of : (b : Bool) (t : Tag) (after : List ℕ) → IsShortTag t → bytes ≡ identifier b t ++ after → place + length (identifier b t) ≤ l.end → (a : Answer P) → level_answer m l b t ≡ a → ⊥
+        of : (b : Bool) (t : Tag) (after : List ℕ) → IsShortTag t → bytes ≡ identifier b t ++ after → place + length (identifier b t) ≤ l.end → (a : IdentifierAnswer P) → level_answer m l b t ≡ a → ⊥
         of b t after small is fits (Begins k c) e = judged n again (Within (l ∷ ls)) place bytes (Identifier b t) after is (more, small) fits (λ clean. next) (inl (k, c, e)) lacks
           where
             awaits : State P
             awaits = AwaitsLength b c.spot (names_in (structure m l.spot) l.came c.label) (came_more l k ∷ ls)
 
             state_is : state_after m (Within (l ∷ ls)) place (Identifier b t) ≡ awaits
-            state_is = ap (begun m l ls b) e
+            state_is = ap (begun_state m l ls b) e
 
             good : OfKind m c.spot × (b ≡ false → IsPrimitive (structure m c.spot))
             good = begun_good m sound kinds l.spot kind l.came b t k c e
@@ -216,21 +216,21 @@ module _ {P : Type 0} (m : DerMessage P) where
         by (inl h) = found h.octets h.after h.bytes_are h.within h.header
         by (inr w) = lacks (here (Within (l ∷ ls)) place bytes (inr w))
 
-    end_due : (n : ℕ) → Again n → (l : Level P) (ls : List (Level P)) (place : ℕ) (bytes : List ℕ) → to_come (Within (l ∷ ls)) bytes < suc n → AreWithin place (l ∷ ls) → place ≡ l.end
+    end_due : (n : ℕ) → Again n → (l : DerLevel P) (ls : List (DerLevel P)) (place : ℕ) (bytes : List ℕ) → to_come (Within (l ∷ ls)) bytes < suc n → AreWithin place (l ∷ ls) → place ≡ l.end
         → Told (HasAnswer (Within (l ∷ ls)) place bytes)
     end_due n again l ls place bytes low (inside, kind, within) over = by (end_answer (structure m l.spot) l.came) refl
       where
         from_here : AreWithin (place + 0) ls
         from_here = (let same : l.end ≡ place + 0 = omega arith in subst (λ z. AreWithin z ls) same within)
 
-        ends : IsClean m (Within (l ∷ ls)) place End ⊎ ((rule : Rule) × (added : List ℕ) × BreaksRule m (Within (l ∷ ls)) place End rule added) → Told (HasAnswer (Within (l ∷ ls)) place bytes)
+        ends : IsCleanPart m (Within (l ∷ ls)) place End ⊎ ((rule : Rule) × (added : List ℕ) × BreaksRule m (Within (l ∷ ls)) place End rule added) → Told (HasAnswer (Within (l ∷ ls)) place bytes)
         ends = judged n again (Within (l ∷ ls)) place bytes End bytes refl over (omega arith) (λ clean. (omega arith, from_here))
 
         by : (a : EndAnswer) → end_answer (structure m l.spot) l.came ≡ a → Told (HasAnswer (Within (l ∷ ls)) place bytes)
         by Fine e = ends (inl e)
         by (EndBreaks rule added) e = ends (inr (rule, added, e))
 
-    within_levels : (n : ℕ) → Again n → (levels : List (Level P)) (place : ℕ) (bytes : List ℕ) → to_come (Within levels) bytes < suc n → AreWithin place levels → Told (HasAnswer (Within levels) place bytes)
+    within_levels : (n : ℕ) → Again n → (levels : List (DerLevel P)) (place : ℕ) (bytes : List ℕ) → to_come (Within levels) bytes < suc n → AreWithin place levels → Told (HasAnswer (Within levels) place bytes)
     within_levels n again [] place [] low within = λ lacks. lacks (here (Within []) place [] (inl (refl, refl)))
     within_levels n again [] place (octet ∷ bytes) low within =
         λ lacks. lacks (here (Within []) place (octet ∷ bytes) (inr (record { rule = Trailing; off = 0; added = []; next = trailing refl (omega arith) refl refl refl })))
@@ -248,12 +248,12 @@ module _ {P : Type 0} (m : DerMessage P) where
     answered (suc n) (AwaitsContents spot names count around) place bytes low is = contents_due n (answered n) spot names count around place bytes low is
     answered (suc n) (Within levels) place bytes low is = within_levels n (answered n) levels place bytes low is
 
-    pub spelled_or_faulty : SpelledOrFaulty m
+    pub spelled_or_faulty : DerSpelledOrFaulty m
     spelled_or_faulty bytes lacks = answered (suc (to_come Start bytes)) Start 0 bytes (omega arith) tt by
       where
         ends : (a : HasAnswer Start 0 bytes) → ((a.last ≡ Within []) × (a.rest ≡ [])) ⊎ Wrong m a.last a.at a.rest → ⊥
         ends a (inl (over, none)) =
-            lacks (inl (whole_spells m sound bytes (record { parts = a.parts; at = a.at; front = subst (λ z. Front m Start 0 bytes a.parts (Within []) a.at z) none (subst (λ s. Front m Start 0 bytes a.parts s a.at a.rest) over a.front) })))
+            lacks (inl (whole_spells m sound bytes (record { parts = a.parts; at = a.at; front = subst (λ z. DerFront m Start 0 bytes a.parts (Within []) a.at z) none (subst (λ s. DerFront m Start 0 bytes a.parts s a.at a.rest) over a.front) })))
         ends a (inr w) =
             lacks (inr (
               record { rule = w.rule; place = a.at + w.off; path = path_of a.last ++ w.added },

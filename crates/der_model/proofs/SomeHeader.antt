@@ -9,7 +9,7 @@ use Rattle.der_octets.proofs.Headers.{short_length, long_length}
 use Rattle.reference_check.specs.Words.{UpTo}
 use Rattle.der_model.specs.DerMessage.{DerMessage}
 use Rattle.der_model.specs.States.{State, innermost_end, IsHeader}
-use Rattle.der_model.specs.Faults.{IsHeaderFront, header_rule, Next, halts, overruns, cut}
+use Rattle.der_model.specs.Faults.{IsHeaderFront, header_rule, NextPart, halts, overruns, cut}
 use Rattle.der_model.proofs.EitherWay.{Told, either}
 
 -- something is wrong there
@@ -17,7 +17,7 @@ pub record Wrong {P : Type 0} (m : DerMessage P) (s : State P) (place : ℕ) (by
   pub rule : Rule
   pub off : ℕ
   pub added : List ℕ
-  pub next : Next m s place bytes rule off added
+  pub next : NextPart m s place bytes rule off added
 
 -- a header at the front of the bytes, within the value round it
 pub record HasHeader {P : Type 0} (s : State P) (place : ℕ) (bytes : List ℕ) : Type 0 where

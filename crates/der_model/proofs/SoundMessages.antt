@@ -10,7 +10,7 @@ use Rattle.reference_check.specs.Words.{UpTo}
 use Rattle.message_model.specs.Sound.{IsNoOption, HasNumber}
 use Rattle.der_model.specs.DerMessage.{DerMessage}
 use Rattle.der_model.specs.Structures.{Spot, Instance, Value, ListOf, NumberOf, Structure, Holds, LeafOf, structure, form_structure, number_structure}
-use Rattle.der_model.specs.Sound.{IsSound}
+use Rattle.der_model.specs.Sound.{IsSoundDer}
 use Rattle.der_model.specs.Laws.{TablesAreSound}
 
 -- the codes of what a primitive value holds are sorted
@@ -39,7 +39,7 @@ number_sorted form.Envelope h = tt
 number_sorted form.LeftOut h = tt
 number_sorted form.Missing h = tt
 
-pub are_sorted : {P : Type 0} (m : DerMessage P) → IsSound m → IsSorted m
+pub are_sorted : {P : Type 0} (m : DerMessage P) → IsSoundDer m → IsSorted m
 are_sorted m sound Instance = form_sorted m.forms m.root (m.forms m.root) (sound.sorted m.root)
 are_sorted m sound (Value p) = form_sorted m.forms p (m.forms p) (sound.sorted p)
 are_sorted m sound (ListOf p k s) = tt
@@ -49,18 +49,18 @@ are_sorted m sound (NumberOf p) = number_sorted (m.forms p) (sound.sorted p)
 abbrev pub HaveNoOptions : {P : Type 0} → DerMessage P → Type 0
 HaveNoOptions {P} m = (p : P) → IsNoOption (m.forms p)
 
-pub no_options : {P : Type 0} (m : DerMessage P) → IsSound m → HaveNoOptions m
+pub no_options : {P : Type 0} (m : DerMessage P) → IsSoundDer m → HaveNoOptions m
 no_options m sound p = (sound.forms p).alternatives
 
 -- slots are few enough for the tags of two octets
-pub few_slots : {P : Type 0} (m : DerMessage P) → IsSound m → (p : P) → length (form_slots (m.forms p)) < 2 ^ 14
+pub few_slots : {P : Type 0} (m : DerMessage P) → IsSoundDer m → (p : P) → length (form_slots (m.forms p)) < 2 ^ 14
 few_slots m sound p = (let short = (sound.forms p).short in omega arith)
 
 -- a minimum is not above its maximum
 abbrev pub HasBounds : {P L : Type 0} → Form P L → Type 0
 HasBounds {P} f = (k : ℕ) (s : Slot P) → slice_get (form_slots f) k ≡ Some s → UpTo s.min s.max
 
-pub bounds_of : {P : Type 0} (m : DerMessage P) → IsSound m → (p : P) → HasBounds (m.forms p)
+pub bounds_of : {P : Type 0} (m : DerMessage P) → IsSoundDer m → (p : P) → HasBounds (m.forms p)
 bounds_of m sound p = (sound.forms p).bounds
 
 -- the code of an amount is of a simple type, and its number is a decimal
@@ -68,7 +68,7 @@ abbrev pub IsAmount : {P : Type 0} → Graph P Simple → Form P Simple → Type
 IsAmount g (form.Money c s) = (s.kind ≡ kind.Decimal) × (x : Simple) × (g c ≡ form.Simple x)
 IsAmount g f = Unit {0}
 
-pub amounts_of : {P : Type 0} (m : DerMessage P) → IsSound m → (p : P) → IsAmount m.forms (m.forms p)
+pub amounts_of : {P : Type 0} (m : DerMessage P) → IsSoundDer m → (p : P) → IsAmount m.forms (m.forms p)
 amounts_of {P} m sound p = of (m.forms p) refl (sound.forms p).number
   where
     of : (f : Form P Simple) → m.forms p ≡ f → HasNumber f → IsAmount m.forms f

@@ -11,14 +11,14 @@ use Rattle.facets.specs.declared.simple.Simple.{Simple}
 use Rattle.der_octets.specs.Octets.{Tag, context, Values, Nothing, Primitive, Constructed, then_values}
 use Rattle.reference_check.specs.Forms.{Graph, Form, Slot}
 use Rattle.reference_check.specs.Forms as form
-use Rattle.reference_check.specs.Words.{times, UpTo, IsWithin}
+use Rattle.reference_check.specs.Words.{times, UpTo, MayComeTimes}
 use Rattle.message_model.specs.Admits.{numbers_of}
 use Rattle.message_model.specs.Admits.{AdmitsAs, AdmitsChildren, FitsCode}
 use Rattle.der_model.specs.LeafContents.{leaf_contents}
 use Rattle.der_model.specs.DerMessage.{DerMessage}
-use Rattle.der_model.specs.Structures.{Spot, Instance, ListOf, Label, Component, Contents, LeafOf, Fragment, Structure, Holds, Fields, OneOf, Items, Empty, structure, form_structure, component, components, item_components, amount_components, number_structure, is_one, is_single, is_constructed, universal_tag}
+use Rattle.der_model.specs.Structures.{Spot, Instance, ListOf, Label, Component, PrimitiveContents, LeafOf, Fragment, Structure, Holds, Fields, OneOf, Items, Empty, structure, form_structure, component, components, item_components, amount_components, number_structure, is_one, is_single, is_constructed, universal_tag}
 use Rattle.der_model.specs.Structures as structures
-use Rattle.der_model.specs.Der.{Body, Octets, Inner, under, inner_of, item, placed, slot_values, all_slots, chosen_slot, alternative, body, values_at}
+use Rattle.der_model.specs.Der.{Body, Octets, Inner, under, inner_of, item, placed_value, slot_values, all_slots, chosen_slot, alternative, body, values_at}
 use Rattle.der_model.specs.States.{Begins, Fine, is_under, field_answer, any_answer, field_end, item_answer, item_end, next_number}
 use Rattle.reference_check.specs.Steps.{has_room}
 use Rattle.der_model.specs.Faults.{IsHeldIn}
@@ -197,10 +197,10 @@ no_child j k n e = rw e (omega arith)
 
 -- a child in the slot, or in another, before the rest
 single_child : {P : Type 0} (m : DerMessage P) (fs : List (Slot P)) (k j : ℕ) (s t : Slot P) (b : Slot P → Body) (count : ℕ) (vs : Values) → slice_get fs k ≡ Some s → slice_get fs j ≡ Some t → is_single s ≡ true
-    → FitsAs m t.target (m.forms t.target) (b t) → cond (j == k) 1 0 + count ≤ 1 → (count ≤ 1 → IsSingle m k s count vs) → IsSingle m k s (cond (j == k) 1 0 + count) (if j == k then placed m.forms k s (b s) vs else vs)
+    → FitsAs m t.target (m.forms t.target) (b t) → cond (j == k) 1 0 + count ≤ 1 → (count ≤ 1 → IsSingle m k s count vs) → IsSingle m k s (cond (j == k) 1 0 + count) (if j == k then placed_value m.forms k s (b s) vs else vs)
 single_child m fs k j s t b count vs here there single fits few rest = go (eqb_tells j k)
   where
-    go : ((eqb j k ≡ true) × (j ≡ k)) ⊎ ((eqb j k ≡ false) × (j ≢ k)) → IsSingle m k s (cond (j == k) 1 0 + count) (if j == k then placed m.forms k s (b s) vs else vs)
+    go : ((eqb j k ≡ true) × (j ≡ k)) ⊎ ((eqb j k ≡ false) × (j ≢ k)) → IsSingle m k s (cond (j == k) 1 0 + count) (if j == k then placed_value m.forms k s (b s) vs else vs)
     go (inl e) =
         let more : cond (j == k) 1 0 + count ≡ suc count = some_child j k count e.0 in
         let none : count ≡ 0 = omega arith in
@@ -222,7 +222,7 @@ single_child m fs k j s t b count vs here there single fits few rest = go (eqb_t
 list_child : {P : Type 0} (m : DerMessage P) (fs : List (Slot P)) (k j : ℕ) (s t : Slot P) (b : Slot P → Body) (count : ℕ) (came : List ℕ) (vs : Values) → slice_get fs k ≡ Some s → slice_get fs j ≡ Some t → is_single s ≡ false
     → FitsAs m t.target (m.forms t.target) (b t) → UpTo (length came + (cond (j == k) 1 0 + count)) s.max → s.min ≤ length came + (cond (j == k) 1 0 + count)
     → ((d : List ℕ) → UpTo (length d + count) s.max → s.min ≤ length d + count → Conforms m (Items s (item_components m.forms s.target (m.forms s.target))) d vs)
-    → Conforms m (Items s (item_components m.forms s.target (m.forms s.target))) came (if j == k then placed m.forms k s (b s) vs else vs)
+    → Conforms m (Items s (item_components m.forms s.target (m.forms s.target))) came (if j == k then placed_value m.forms k s (b s) vs else vs)
 list_child {P} m fs k j s t b count came vs here there list fits most least rest = go (eqb_tells j k)
   where
     again : cond (j == k) 1 0 + count ≡ suc count → (q : ℕ) → Conforms m (Items s (item_components m.forms s.target (m.forms s.target))) (q ∷ came) vs
@@ -230,7 +230,7 @@ list_child {P} m fs k j s t b count came vs here there list fits most least rest
         let sum : length came + (cond (j == k) 1 0 + count) ≡ suc (length came) + count = omega arith in
         rest (q ∷ came) (subst (λ z. UpTo z s.max) sum most) (omega arith)
 
-    go : ((eqb j k ≡ true) × (j ≡ k)) ⊎ ((eqb j k ≡ false) × (j ≢ k)) → Conforms m (Items s (item_components m.forms s.target (m.forms s.target))) came (if j == k then placed m.forms k s (b s) vs else vs)
+    go : ((eqb j k ≡ true) × (j ≡ k)) ⊎ ((eqb j k ≡ false) × (j ≢ k)) → Conforms m (Items s (item_components m.forms s.target (m.forms s.target))) came (if j == k then placed_value m.forms k s (b s) vs else vs)
     go (inl e) =
         let more = some_child j k count e.0 in
         let found : slice_get fs k ≡ Some t = subst (λ z. slice_get fs z ≡ Some t) e.1 there in
@@ -238,11 +238,11 @@ list_child {P} m fs k j s t b count came vs here there list fits most least rest
         let fit : FitsAs m s.target (m.forms s.target) (b s) = subst (λ z. FitsAs m z.target (m.forms z.target) (b z)) same fits in
         let room = true_room (length came) s.max (upto_less (suc (length came)) (length came + (cond (j == k) 1 0 + count)) s.max (omega arith) most) in
         let one = item_step m s (m.forms s.target) (b s) came vs refl room fit (again more) in
-        subst (Conforms m (Items s (item_components m.forms s.target (m.forms s.target))) came) (sym (cond-true (j == k) (placed m.forms k s (b s) vs) vs e.0 ∙ cond-false (is_single s) (under (context k) (b s) vs) (item (m.forms s.target) (b s) vs) list)) one
+        subst (Conforms m (Items s (item_components m.forms s.target (m.forms s.target))) came) (sym (cond-true (j == k) (placed_value m.forms k s (b s) vs) vs e.0 ∙ cond-false (is_single s) (under (context k) (b s) vs) (item (m.forms s.target) (b s) vs) list)) one
     go (inr e) =
         let none = no_child j k count e.0 in
         let same = ap (λ z. length came + z) none in
-        subst (Conforms m (Items s (item_components m.forms s.target (m.forms s.target))) came) (sym (cond-false (j == k) (placed m.forms k s (b s) vs) vs e.0))
+        subst (Conforms m (Items s (item_components m.forms s.target (m.forms s.target))) came) (sym (cond-false (j == k) (placed_value m.forms k s (b s) vs) vs e.0))
         (rest came (subst (λ z. UpTo z s.max) same most) (omega arith))
 
 -- the code of an amount
@@ -292,7 +292,7 @@ times_all k zero = refl
 times_all k (suc n) = some_child k k (times k (replicate n k)) (own_number k) ∙ ap suc (times_all k n)
 
 -- a slot, by the two ways in which its values may stand
-pub slot_by : {P : Type 0} (m : DerMessage P) (k : ℕ) (s : Slot P) (count : ℕ) (vs : Values) → IsWithin count s → (is_single s ≡ true → count ≤ 1 → IsSingle m k s count vs)
+pub slot_by : {P : Type 0} (m : DerMessage P) (k : ℕ) (s : Slot P) (count : ℕ) (vs : Values) → MayComeTimes count s → (is_single s ≡ true → count ≤ 1 → IsSingle m k s count vs)
     → (is_single s ≡ false → UpTo (length {A = ℕ} [] + count) s.max → s.min ≤ length {A = ℕ} [] + count → Conforms m (Items s (item_components m.forms s.target (m.forms s.target))) [] vs) → IsSlot m k s count vs
 slot_by m k s count vs within single list =
     (λ e. single e (at_most_one count s.max e within.1), λ e. list e (subst (λ z. UpTo z s.max) (let q : count ≡ length {A = ℕ} [] + count = omega arith in q) within.1) (omega (arith, within.0)))
@@ -310,7 +310,7 @@ mutual
       absurd (let some : 0 < s.min = subst IsNoOption at (opts p) k s found in omega (arith, within.0))
   value_fits m opts p (form.Choice fs) (value.Component ks) at ((k, suc n, s, found, within, is), admits) =
       let counted : times k (numbers_of ks) ≡ suc n = ap (times k) is ∙ times_all k (suc n) in
-      let slot = slot_by m k s (times k (numbers_of ks)) (values_at m k s ks) (subst (λ z. IsWithin z s) (sym counted) within) (λ e l. children_single m opts fs k s ks found admits e l) (λ e u l. children_list m opts fs k s ks [] found admits e u l) in
+      let slot = slot_by m k s (times k (numbers_of ks)) (values_at m k s ks) (subst (λ z. MayComeTimes z s) (sym counted) within) (λ e l. children_single m opts fs k s ks found admits e l) (λ e u l. children_list m opts fs k s ks [] found admits e u l) in
       subst (IsOneOf m (components m.forms p 0 fs)) (sym (chosen_is fs (numbers_of ks) k n s (λ k s. values_at m k s ks) found is))
       (alternative_fits m p fs k (times k (numbers_of ks)) s (values_at m k s ks) found (omega (arith, counted)) slot)
   value_fits m opts p (form.Simple s) (value.Simple l) at fits = (refl, (l, written_contents s l fits))

@@ -4,7 +4,7 @@ use Rattle.std.specs.Prelude.{slice_get}
 use Rattle.der_octets.specs.Octets.{Tag, Values, Nothing, Primitive, Constructed}
 use Rattle.der_model.specs.DerMessage.{DerMessage}
 use Rattle.der_model.specs.Structures.{Spot, Instance, Component, structure}
-use Rattle.der_model.specs.States.{Part, Identifier, Length, End, Level, State, Start, AwaitsLength, AwaitsContents, Within, Answer, Begins, Breaks, Fine, is_under, identifier_answer, level_answer, end_answer, begun, state_after, Stands, innermost_end, end_from, part_octets}
+use Rattle.der_model.specs.States.{Part, Identifier, Length, End, DerLevel, State, Start, AwaitsLength, AwaitsContents, Within, IdentifierAnswer, Begins, Breaks, Fine, is_under, identifier_answer, level_answer, end_answer, begun_state, state_after, Stands, innermost_end, end_from, part_octets}
 use Rattle.der_model.specs.States as states
 use Rattle.der_model.specs.Faults.{IsHeldIn, outermost}
 use Rattle.der_model.specs.OpenParts.{parts_of, components_of, IsPrimitive, ValuesSoFar}
@@ -24,7 +24,7 @@ pub data Stage (P : Type 0) : Type 0 where
   Held : (spot : Spot P) (cells : List (Cell P)) → Stage P
   In : (cells : List (Cell P)) → Stage P
 
-abbrev pub begun_stage : {P : Type 0} → Cell P → List (Cell P) → Bool → Answer P → Stage P
+abbrev pub begun_stage : {P : Type 0} → Cell P → List (Cell P) → Bool → IdentifierAnswer P → Stage P
 begun_stage x xs b (Breaks rule added) = In (x ∷ xs)
 begun_stage x xs true (Begins k c) = In (cell c.spot [] ∷ cell x.spot (k ∷ x.came) ∷ xs)
 begun_stage x xs false (Begins k c) = Held c.spot (cell x.spot (k ∷ x.came) ∷ xs)

@@ -33,8 +33,8 @@ item (form.Choice slots) body rest = then_values (inner_of body) rest
 item form body rest = under (universal_tag form) body rest
 
 -- a value of slot k: under its tag, or as an item of its list
-abbrev pub placed : {P : Type 0} → Graph P Simple → ℕ → Slot P → Body → Values → Values
-placed types k s body rest = if is_single s then under (context k) body rest else item (types s.target) body rest
+abbrev pub placed_value : {P : Type 0} → Graph P Simple → ℕ → Slot P → Body → Values → Values
+placed_value types k s body rest = if is_single s then under (context k) body rest else item (types s.target) body rest
 
 -- slot k, of the values in it; a list stands there also where it is empty
 abbrev pub slot_values : {P : Type 0} → ℕ → Slot P → Values → Values → Values
@@ -72,7 +72,7 @@ abbrev mutual
   pub values_at : {P : Type 0} → DerMessage P → ℕ → Slot P → Children → Values
   values_at m k s value.Nothing = Nothing
   values_at m k s (value.Child j v rest) =
-      if j == k then placed m.forms k s (body m (m.forms s.target) v) (values_at m k s rest) else values_at m k s rest
+      if j == k then placed_value m.forms k s (body m (m.forms s.target) v) (values_at m k s rest) else values_at m k s rest
 
 -- the DER of an instance as values: one sequence
 abbrev pub der_values : {P : Type 0} → DerMessage P → Value → Values

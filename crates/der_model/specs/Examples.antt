@@ -40,5 +40,5 @@ abbrev pub with_note : value.Children → value.Value
 with_note children = value.Component (value.Child 0 (value.Component children) value.Nothing)
 
 -- a text of one character
-abbrev pub text : ℕ → value.Value
-text char = value.Simple (Bytes (char ∷ []))
+abbrev pub one_character : ℕ → value.Value
+one_character char = value.Simple (Bytes (char ∷ []))

@@ -2,7 +2,7 @@
 use Rattle.std.specs.Prelude.{◌≡◌, ℕ, List, [], ◌∷◌, ◌++◌, reverse}
 use Rattle.data_types.specs.Value.{Edge, Piece, Begins, Holds, Ends}
 use Rattle.der_model.specs.DerMessage.{DerMessage}
-use Rattle.der_model.specs.States.{Level, State, Start, AwaitsLength, AwaitsContents, Within}
+use Rattle.der_model.specs.States.{DerLevel, State, Start, AwaitsLength, AwaitsContents, Within}
 use Rattle.der_model.specs.ShownPieces.{last_elements}
 
 -- Where the first elements are open, the innermost first, each that ends is the innermost that is open, and the last are open behind the pieces.
@@ -14,7 +14,7 @@ Nests [] (Ends edge ∷ shown) inner = ⊥
 Nests (open_edge ∷ outer) (Ends edge ∷ shown) inner = (open_edge ≡ edge) × Nests outer shown inner
 
 -- the elements that the last component of each level is, the innermost first
-abbrev pub elements_around : DerMessage ℕ → List (Level ℕ) → List Edge
+abbrev pub elements_around : DerMessage ℕ → List (DerLevel ℕ) → List Edge
 elements_around m [] = []
 elements_around m (l ∷ around) = reverse (last_elements m l.spot l.came) ++ elements_around m around
 

@@ -27,11 +27,11 @@ AreInOrder k [] d = d ≡ []
 AreInOrder k (c ∷ cs) d = ((rest : List ℕ) × (d ≡ k ∷ rest) × AreInOrder (suc k) cs rest) ⊎ ((c.required ≡ false) × AreInOrder (suc k) cs d)
 
 -- the components that a value of this structure may hold, by their numbers: a SEQUENCE, a CHOICE, a SEQUENCE OF within its size
-abbrev pub MayHold : {P : Type 0} → Structure P → List ℕ → Type 0
-MayHold (Fields cs) d = AreInOrder 0 cs d
-MayHold (OneOf cs) d = (k : ℕ) × (d ≡ k ∷ [])
-MayHold (Items s cs) d = (s.min ≤ length d) × UpTo (length d) s.max
-MayHold _ d = d ≡ []
+abbrev pub MayHoldComponents : {P : Type 0} → Structure P → List ℕ → Type 0
+MayHoldComponents (Fields cs) d = AreInOrder 0 cs d
+MayHoldComponents (OneOf cs) d = (k : ℕ) × (d ≡ k ∷ [])
+MayHoldComponents (Items s cs) d = (s.min ≤ length d) × UpTo (length d) s.max
+MayHoldComponents _ d = d ≡ []
 
 abbrev pub components_of : {P : Type 0} → Structure P → List (Component P)
 components_of (Fields cs) = cs
@@ -52,14 +52,14 @@ ValuesSoFar {P} m come layout (k ∷ d) (Primitive tag contents rest) =
     × ValuesSoFar m (come - 2) layout d rest
 ValuesSoFar {P} m come layout (k ∷ d) (Constructed tag inner rest) =
     ((c : Component P) × (slice_get (components_of layout) k ≡ Some c) × (c.constructed ≡ true) × (c.tag ≡ tag)
-    × (held : List ℕ) × MayHold (structure m c.spot) held × ValuesSoFar m (come - 1) (structure m c.spot) held inner)
+    × (held : List ℕ) × MayHoldComponents (structure m c.spot) held × ValuesSoFar m (come - 1) (structure m c.spot) held inner)
     × ValuesSoFar m (come - (length (parts_of inner) + 2)) layout d rest
 ValuesSoFar m come layout _ _ = ⊥
 
 -- The parts, without lengths, go on to those of an instance, in which they break nothing.
-pub record Open {P : Type 0} (m : DerMessage P) (parts : List Part) : Type 0 where
+pub record ArePartsOpen {P : Type 0} (m : DerMessage P) (parts : List Part) : Type 0 where
   pub held : List ℕ
-  pub may_hold : MayHold (structure m Instance) held
+  pub may_hold : MayHoldComponents (structure m Instance) held
   pub inner : Values
   pub behind : List Part
   pub goes_on : parts ++ behind ≡ parts_of (Constructed (universal 16) inner Nothing)
@@ -67,7 +67,7 @@ pub record Open {P : Type 0} (m : DerMessage P) (parts : List Part) : Type 0 whe
 
 -- a value of this structure can be filled, its contents left open
 abbrev pub HasValues : {P : Type 0} → DerMessage P → Structure P → Type 0
-HasValues m layout = (held : List ℕ) × (inner : Values) × MayHold layout held × ValuesSoFar m 0 layout held inner
+HasValues m layout = (held : List ℕ) × (inner : Values) × MayHoldComponents layout held × ValuesSoFar m 0 layout held inner
 
 abbrev pub IsFilled : {P : Type 0} → DerMessage P → Component P → Type 0
 IsFilled m c = ((c.constructed ≡ false) × IsPrimitive (structure m c.spot)) ⊎ ((c.constructed ≡ true) × HasValues m (structure m c.spot))

@@ -12,13 +12,13 @@ pub record Stripped : Type 0 where
   pub size : ℕ
   pub zeros : ℕ
 
-abbrev pub stripped : ℕ → ℕ → ℕ → Stripped
-stripped zero size zeros = record { size = size; zeros = zeros }
-stripped (suc most) size zeros = let more = stripped most (size / 10) (suc zeros) in if size % 10 == 0 then more else record { size = size; zeros = zeros }
+abbrev pub strip_zeros : ℕ → ℕ → ℕ → Stripped
+strip_zeros zero size zeros = record { size = size; zeros = zeros }
+strip_zeros (suc most) size zeros = let more = strip_zeros most (size / 10) (suc zeros) in if size % 10 == 0 then more else record { size = size; zeros = zeros }
 
 -- none for zero, and else the form, a minus, the digits without zeros at their end, and the exponent
 unfoldable pub real_contents : Number → List ℕ
 real_contents n =
-    let part = stripped 18 (unsigned_abs n.whole) 0 in
+    let part = strip_zeros 18 (unsigned_abs n.whole) 0 in
     let body = real_body (decimal part.size) (exponent_for n.scale part.zeros) in
     if unsigned_abs n.whole == 0 then [] else 3 ∷ (minus_text (is_negative n.whole) ++ body)

@@ -9,9 +9,9 @@ use Rattle.reference_check.specs.Forms as form
 use Rattle.message_model.specs.Tables.{edge_at}
 use Rattle.der_model.specs.DerMessage.{DerMessage}
 use Rattle.der_model.specs.LeafContents.{ContentsUnder}
-use Rattle.der_model.specs.Structures.{Spot, Instance, Value, ListOf, NumberOf, Contents, LeafOf, Fragment, Structure, is_single, structure}
+use Rattle.der_model.specs.Structures.{Spot, Instance, Value, ListOf, NumberOf, PrimitiveContents, LeafOf, Fragment, Structure, is_single, structure}
 use Rattle.der_model.specs.Structures as structures
-use Rattle.der_model.specs.States.{Part, Identifier, End, part_octets, Level, State, AwaitsContents, Within, Answer, Begins, Breaks, level_answer, state_after}
+use Rattle.der_model.specs.States.{Part, Identifier, End, part_octets, DerLevel, State, AwaitsContents, Within, IdentifierAnswer, Begins, Breaks, level_answer, state_after}
 use Rattle.der_model.specs.States as states
 
 -- elements begin, the outermost first
@@ -43,7 +43,7 @@ component_elements m (ListOf p number s) k = edge_at p number (Some s) ∷ slot_
 component_elements m (NumberOf p) k = []
 
 -- those that begin with identifier octets in a level, by what these are there
-abbrev pub elements_begun : DerMessage ℕ → Level ℕ → Answer ℕ → List Edge
+abbrev pub elements_begun : DerMessage ℕ → DerLevel ℕ → IdentifierAnswer ℕ → List Edge
 elements_begun m l (Begins k c) = component_elements m l.spot k
 elements_begun m l (Breaks rule added) = []
 
@@ -53,12 +53,12 @@ last_elements m spot [] = []
 last_elements m spot (k ∷ came) = component_elements m spot k
 
 -- those that end with a value, which is the last component of the level round it; none with the instance
-abbrev pub elements_ended : DerMessage ℕ → List (Level ℕ) → List Edge
+abbrev pub elements_ended : DerMessage ℕ → List (DerLevel ℕ) → List Edge
 elements_ended m [] = []
 elements_ended m (l ∷ around) = last_elements m l.spot l.came
 
 -- the leaf of contents octets; that of an envelope is the fragment itself
-abbrev pub IsContentsLeaf : Contents → List ℕ → Leaf → Type 0
+abbrev pub IsContentsLeaf : PrimitiveContents → List ℕ → Leaf → Type 0
 IsContentsLeaf (LeafOf simple) octets leaf = ContentsUnder simple octets (Ok leaf)
 IsContentsLeaf Fragment octets leaf = leaf ≡ Bytes octets
 

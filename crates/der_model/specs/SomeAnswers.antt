@@ -13,8 +13,8 @@ use Rattle.message_model.specs.Tables.{Tables, types_of}
 use Rattle.der_model.specs.DerMessage.{DerMessage}
 use Rattle.der_model.specs.LeafContents.{ContentsUnder}
 use Rattle.der_model.specs.Der.{SpellsDer}
-use Rattle.der_model.specs.Faults.{Fault, DerFault}
-use Rattle.der_model.specs.LimitedFaults.{limit, LimitedFault}
+use Rattle.der_model.specs.Faults.{FaultInDer, DerFault}
+use Rattle.der_model.specs.LimitedFaults.{der_limit, LimitedDerFault}
 
 -- there is a type, of a kind that instances have
 abbrev pub HasKind : {P L : Type 0} → Form P L → Type 0
@@ -35,9 +35,9 @@ abbrev pub SomeContents : Type 0
 SomeContents = (simple : Simple) (octets : List ℕ) → ¬ (¬ ((one : Result Leaf Rule) × ContentsUnder simple octets one))
 
 -- No bytes are neither the DER of an instance nor have a first fault.
-abbrev pub SpelledOrFaulty : {P : Type 0} → DerMessage P → Type 0
-SpelledOrFaulty m = (bytes : List ℕ) → ¬ (¬ (((v : Value) × SpellsDer m bytes v) ⊎ ((f : Fault) × DerFault m bytes f)))
+abbrev pub DerSpelledOrFaulty : {P : Type 0} → DerMessage P → Type 0
+DerSpelledOrFaulty m = (bytes : List ℕ) → ¬ (¬ (((v : Value) × SpellsDer m bytes v) ⊎ ((f : FaultInDer) × DerFault m bytes f)))
 
 -- The same within the limit and beyond it.
 abbrev pub AcceptedOrFaulty : {P : Type 0} → DerMessage P → Type 0
-AcceptedOrFaulty m = (bytes : List ℕ) → ¬ (¬ (((v : Value) × SpellsDer m bytes v × (length bytes ≤ limit)) ⊎ ((f : Fault) × LimitedFault m bytes f)))
+AcceptedOrFaulty m = (bytes : List ℕ) → ¬ (¬ (((v : Value) × SpellsDer m bytes v × (length bytes ≤ der_limit)) ⊎ ((f : FaultInDer) × LimitedDerFault m bytes f)))

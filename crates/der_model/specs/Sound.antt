@@ -16,7 +16,7 @@ abbrev pub FragmentsApart : {P : Type 0} → DerMessage P → Type 0
 FragmentsApart m = TellsApart m.fragment
 
 -- The message breaks no rule of the repository; `Document` is a sequence; and where there are envelopes, their fragments tell their trees apart.
-pub record IsSound {P : Type 0} (m : DerMessage P) : Type 0 where
+pub record IsSoundDer {P : Type 0} (m : DerMessage P) : Type 0 where
   pub forms : AreSound m.forms
   pub codes : HaveCodes m.forms
   pub sorted : HaveSortedCodes m.forms

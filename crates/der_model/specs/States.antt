@@ -21,15 +21,15 @@ part_octets (Contents octets) = octets
 part_octets End = []
 
 -- a name in a path: an element with its number, a list, an attribute
-pub data Name : Type 0 where
-  Numbered : (tag : List ℕ) (number : ℕ) → Name
-  ListName : (tag : List ℕ) → Name
-  AttributeName : (name : List ℕ) → Name
+pub data PathName : Type 0 where
+  Numbered : (tag : List ℕ) (number : ℕ) → PathName
+  ListName : (tag : List ℕ) → PathName
+  AttributeName : (name : List ℕ) → PathName
 
 -- an open constructed value: what it is, its names, the numbers of the components that have come, the latest first, and the place where it ends
-pub record Level (P : Type 0) : Type 0 where
+pub record DerLevel (P : Type 0) : Type 0 where
   pub spot : Spot P
-  pub names : List Name
+  pub names : List PathName
   pub came : List ℕ
   pub end : ℕ
 
@@ -37,14 +37,14 @@ pub record Level (P : Type 0) : Type 0 where
 -- constructed values that have begun and not ended, innermost first, and none where the instance has ended.
 pub data State (P : Type 0) : Type 0 where
   Start : State P
-  AwaitsLength : (constructed : Bool) (spot : Spot P) (names : List Name) (around : List (Level P)) → State P
-  AwaitsContents : (spot : Spot P) (names : List Name) (count : ℕ) (around : List (Level P)) → State P
-  Within : (levels : List (Level P)) → State P
+  AwaitsLength : (constructed : Bool) (spot : Spot P) (names : List PathName) (around : List (DerLevel P)) → State P
+  AwaitsContents : (spot : Spot P) (names : List PathName) (count : ℕ) (around : List (DerLevel P)) → State P
+  Within : (levels : List (DerLevel P)) → State P
 
 -- what identifier octets are where they stand: a component that begins, or a rule that they break, with what is added to the path
-pub data Answer (P : Type 0) : Type 0 where
-  Begins : (number : ℕ) (component : Component P) → Answer P
-  Breaks : (rule : Rule) (added : List ℕ) → Answer P
+pub data IdentifierAnswer (P : Type 0) : Type 0 where
+  Begins : (number : ℕ) (component : Component P) → IdentifierAnswer P
+  Breaks : (rule : Rule) (added : List ℕ) → IdentifierAnswer P
 
 -- the form and tag of a component
 abbrev pub is_under : {P : Type 0} → Component P → Bool → Tag → Bool
@@ -58,20 +58,20 @@ missing_text (Attribute name) = 47 ∷ 64 ∷ name
 missing_text Unnamed = []
 
 -- the answer where a component that has to come is skipped
-abbrev pub skipping : {P : Type 0} → Label → Answer P → Answer P
+abbrev pub skipping : {P : Type 0} → Label → IdentifierAnswer P → IdentifierAnswer P
 skipping label (Begins k c) = Breaks DerMissing (missing_text label)
 skipping label (Breaks UnexpectedTag added) = Breaks UnexpectedTag added
 skipping label (Breaks rule added) = Breaks DerMissing (missing_text label)
 
 -- components in order, of which the first has number k
-abbrev pub field_answer : {P : Type 0} → ℕ → List (Component P) → Bool → Tag → Answer P
+abbrev pub field_answer : {P : Type 0} → ℕ → List (Component P) → Bool → Tag → IdentifierAnswer P
 field_answer k [] constructed tag = Breaks UnexpectedTag []
 field_answer k (c ∷ cs) constructed tag =
     let later = field_answer (suc k) cs constructed tag in
     if is_under c constructed tag then Begins k c else (if c.required then skipping c.label later else later)
 
 -- one component of any place
-abbrev pub any_answer : {P : Type 0} → ℕ → List (Component P) → Bool → Tag → Answer P
+abbrev pub any_answer : {P : Type 0} → ℕ → List (Component P) → Bool → Tag → IdentifierAnswer P
 any_answer k [] constructed tag = Breaks UnexpectedTag []
 any_answer k (c ∷ cs) constructed tag = let later = any_answer (suc k) cs constructed tag in if is_under c constructed tag then Begins k c else later
 
@@ -81,17 +81,17 @@ next_number [] = 0
 next_number (k ∷ came) = suc k
 
 -- one more item
-abbrev pub item_answer : {P : Type 0} → Bool → Answer P → Answer P
+abbrev pub item_answer : {P : Type 0} → Bool → IdentifierAnswer P → IdentifierAnswer P
 item_answer true answer = answer
 item_answer false (Begins k c) = Breaks DerTooMany []
 item_answer false (Breaks rule added) = Breaks rule added
 
-abbrev pub one_answer : {P : Type 0} → List ℕ → Answer P → Answer P
+abbrev pub one_answer : {P : Type 0} → List ℕ → IdentifierAnswer P → IdentifierAnswer P
 one_answer [] answer = answer
 one_answer (k ∷ came) answer = Breaks UnexpectedTag []
 
 -- identifier octets in a value of this structure, in which these components have come
-abbrev pub identifier_answer : {P : Type 0} → Structure P → List ℕ → Bool → Tag → Answer P
+abbrev pub identifier_answer : {P : Type 0} → Structure P → List ℕ → Bool → Tag → IdentifierAnswer P
 identifier_answer (Fields cs) came constructed tag = field_answer (next_number came) (drop (next_number came) cs) constructed tag
 identifier_answer (OneOf cs) came constructed tag = one_answer came (any_answer 0 cs constructed tag)
 identifier_answer (Items s cs) came constructed tag = item_answer (has_room (length came) s.max) (any_answer 0 cs constructed tag)
@@ -123,24 +123,24 @@ end_answer (Holds contents) came = Fine
 end_answer Empty came = Fine
 
 -- the names of a component that begins
-abbrev pub label_names : Label → List Name
+abbrev pub label_names : Label → List PathName
 label_names (Element tag) = Numbered tag 1 ∷ []
 label_names (Listed tag) = ListName tag ∷ []
 label_names (Attribute name) = AttributeName name ∷ []
 label_names Unnamed = []
 
 -- the same in a value of this structure: an item has the tag of its list, and its number
-abbrev pub names_in : {P : Type 0} → Structure P → List ℕ → Label → List Name
+abbrev pub names_in : {P : Type 0} → Structure P → List ℕ → Label → List PathName
 names_in (Items s cs) came label = Numbered s.tag (suc (length came)) ∷ label_names label
 names_in other came label = label_names label
 
 -- the answer to identifier octets, and the state after those that begin a component
-abbrev pub level_answer : {P : Type 0} → DerMessage P → Level P → Bool → Tag → Answer P
+abbrev pub level_answer : {P : Type 0} → DerMessage P → DerLevel P → Bool → Tag → IdentifierAnswer P
 level_answer m l constructed tag = identifier_answer (structure m l.spot) l.came constructed tag
 
-abbrev pub begun : {P : Type 0} → DerMessage P → Level P → List (Level P) → Bool → Answer P → State P
-begun m l ls constructed (Breaks rule added) = Within (l ∷ ls)
-begun m l ls constructed (Begins k c) = AwaitsLength constructed c.spot (names_in (structure m l.spot) l.came c.label) (record l { came = k ∷ l.came } ∷ ls)
+abbrev pub begun_state : {P : Type 0} → DerMessage P → DerLevel P → List (DerLevel P) → Bool → IdentifierAnswer P → State P
+begun_state m l ls constructed (Breaks rule added) = Within (l ∷ ls)
+begun_state m l ls constructed (Begins k c) = AwaitsLength constructed c.spot (names_in (structure m l.spot) l.came c.label) (record l { came = k ∷ l.came } ∷ ls)
 
 -- the place where contents of so many octets end, whose length octets stand at a place
 abbrev pub end_from : ℕ → ℕ → ℕ
@@ -149,7 +149,7 @@ end_from place n = place + length (length_octets n) + n
 -- the state after a part at a place
 abbrev pub state_after : {P : Type 0} → DerMessage P → State P → ℕ → Part → State P
 state_after m Start place (Identifier constructed tag) = AwaitsLength true Instance (Numbered (codes "Document") 1 ∷ []) []
-state_after m (Within (l ∷ ls)) place (Identifier constructed tag) = begun m l ls constructed (level_answer m l constructed tag)
+state_after m (Within (l ∷ ls)) place (Identifier constructed tag) = begun_state m l ls constructed (level_answer m l constructed tag)
 state_after m (AwaitsLength true spot names around) place (Length n) = Within (record { spot = spot; names = names; came = []; end = end_from place n } ∷ around)
 state_after m (AwaitsLength false spot names around) place (Length n) = AwaitsContents spot names n around
 state_after m (AwaitsContents spot names count around) place (Contents octets) = Within around
@@ -157,7 +157,7 @@ state_after m (Within (l ∷ ls)) place End = Within ls
 state_after m state place part = state
 
 -- the end of the innermost value whose length has come
-abbrev pub level_end : {P : Type 0} → List (Level P) → Option ℕ
+abbrev pub level_end : {P : Type 0} → List (DerLevel P) → Option ℕ
 level_end [] = None
 level_end (l ∷ ls) = Some l.end
 

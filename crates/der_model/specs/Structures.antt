@@ -31,13 +31,13 @@ pub record Component (P : Type 0) : Type 0 where
   pub spot : Spot P
 
 -- the contents octets of a primitive value
-pub data Contents : Type 0 where
-  LeafOf : (simple : Simple) → Contents
-  Fragment : Contents
+pub data PrimitiveContents : Type 0 where
+  LeafOf : (simple : Simple) → PrimitiveContents
+  Fragment : PrimitiveContents
 
 -- what a value holds: octets; components in order, each at most once; one component; or items, each one of the components
 pub data Structure (P : Type 0) : Type 0 where
-  Holds : Contents → Structure P
+  Holds : PrimitiveContents → Structure P
   Fields : List (Component P) → Structure P
   OneOf : List (Component P) → Structure P
   Items : (slot : Slot P) → List (Component P) → Structure P

@@ -8,46 +8,46 @@ ghost use Rattle.der_model.specs.DerMessage.{DerMessage};
 ghost use Rattle.der_model.specs.LeafContents.{integer_octets};
 ghost use Rattle.der_model.specs.Der.{der_of};
 ghost use Rattle.der_model.specs.Faults.{DerFault};
-ghost use Rattle.der_model.specs.Sound.{IsSound};
-ghost use Rattle.der_model.specs.Laws.{OneValue, NoProperFront, OneFault, SpelledHasNone, WholeIsSpelled, OneAnswer, FaultStays, TablesAreSound};
+ghost use Rattle.der_model.specs.Sound.{IsSoundDer};
+ghost use Rattle.der_model.specs.Laws.{OneValue, NoProperDerFront, OneDerFault, SpelledHasNoDerFault, WholeIsSpelled, OneAnswer, FaultStays, TablesAreSound};
 ghost use Rattle.der_model.specs.LimitedFaults.{OneLimitedFault, AcceptedHasNone};
-ghost use Rattle.der_model.specs.SomeAnswers.{HaveKinds, CompiledHaveKinds, SomeContents, SpelledOrFaulty, AcceptedOrFaulty};
-ghost use Rattle.der_model.specs.OpenLaws.{PartIsOpen, BrokenIsNotOpen, FrontIsOpen};
+ghost use Rattle.der_model.specs.SomeAnswers.{HaveKinds, CompiledHaveKinds, SomeContents, DerSpelledOrFaulty, AcceptedOrFaulty};
+ghost use Rattle.der_model.specs.OpenLaws.{PartIsOpen, BrokenPartIsNotOpen, FrontIsOpen};
 ghost use Rattle.der_model.specs.ShownLaws.{WholeShowsPieces, FrontShowsPieces, ShowOnePieces, OneMoreShows, FrontNests};
 ghost use Rattle.der_model.specs.States.{Start};
 ghost use Rattle.der_model.specs.ShownPieces.{PartsShow};
 ghost use Rattle.der_model.specs.ShownExamples.{note_of_choices, choice_parts, choice_pieces};
-ghost use Rattle.der_model.specs.Examples.{text_slot, list_slot, amount_slot, forms, note, with_note, text};
+ghost use Rattle.der_model.specs.Examples.{text_slot, list_slot, amount_slot, forms, note, with_note, one_character};
 
 /// Bytes are the DER of at most one instance.
 pub fn one_value()
-    ensures { (m : DerMessage ℕ) → IsSound m → OneValue m }
+    ensures { (m : DerMessage ℕ) → IsSoundDer m → OneValue m }
 {}
 
 /// No DER of an instance begins that of another.
 pub fn no_proper_front()
-    ensures { (m : DerMessage ℕ) → IsSound m → NoProperFront m }
+    ensures { (m : DerMessage ℕ) → IsSoundDer m → NoProperDerFront m }
 {}
 
 /// Bytes have at most one first fault.
 pub fn one_fault()
-    ensures { (m : DerMessage ℕ) → IsSound m → OneFault m }
+    ensures { (m : DerMessage ℕ) → IsSoundDer m → OneDerFault m }
 {}
 
 /// The DER of an instance has no fault.
 pub fn spelled_has_none()
-    ensures { (m : DerMessage ℕ) → IsSound m → SpelledHasNone m }
+    ensures { (m : DerMessage ℕ) → IsSoundDer m → SpelledHasNoDerFault m }
 {}
 
 /// Parts that break no rule up to the end of the instance, and these alone, are the DER of an instance
 /// that the message admits.
 pub fn whole_is_spelled()
-    ensures { (m : DerMessage ℕ) → IsSound m → WholeIsSpelled m }
+    ensures { (m : DerMessage ℕ) → IsSoundDer m → WholeIsSpelled m }
 {}
 
 /// Bytes have at most one answer: the instance that they spell, or their first fault.
 pub fn one_answer()
-    ensures { (m : DerMessage ℕ) → IsSound m → OneAnswer m }
+    ensures { (m : DerMessage ℕ) → IsSoundDer m → OneAnswer m }
 {}
 
 /// A fault stays, whatever follows the bytes, but for one that the bytes end too early.
@@ -58,12 +58,12 @@ pub fn fault_stays()
 
 /// Bytes have at most one first fault, also where they are more than an instance may have.
 pub fn one_limited_fault()
-    ensures { (m : DerMessage ℕ) → IsSound m → OneLimitedFault m }
+    ensures { (m : DerMessage ℕ) → IsSoundDer m → OneLimitedFault m }
 {}
 
 /// The DER of an instance that is not too long has none.
 pub fn accepted_has_none()
-    ensures { (m : DerMessage ℕ) → IsSound m → AcceptedHasNone m }
+    ensures { (m : DerMessage ℕ) → IsSoundDer m → AcceptedHasNone m }
 {}
 
 /// No contents octets neither are those of a leaf that fits a simple type nor break a rule.
@@ -74,12 +74,12 @@ pub fn some_contents()
 /// No bytes are neither the DER of an instance nor have a first fault, where each element leads to a type of a kind
 /// that instances have.
 pub fn spelled_or_faulty()
-    ensures { (m : DerMessage ℕ) → IsSound m → HaveKinds m.forms → SpelledOrFaulty m }
+    ensures { (m : DerMessage ℕ) → IsSoundDer m → HaveKinds m.forms → DerSpelledOrFaulty m }
 {}
 
 /// The same of bytes that are accepted, and of faults where there may be more bytes than an instance has at most.
 pub fn accepted_or_faulty()
-    ensures { (m : DerMessage ℕ) → IsSound m → HaveKinds m.forms → AcceptedOrFaulty m }
+    ensures { (m : DerMessage ℕ) → IsSoundDer m → HaveKinds m.forms → AcceptedOrFaulty m }
 {}
 
 /// Elements lead to types of kinds that instances have where each of these types has an instance.
@@ -96,23 +96,23 @@ pub fn compiled_have_kinds()
 /// A part breaks no rule exactly where the parts with it, lengths left aside, go on to those of an instance.
 #[tactic(auto, using(crate::proofs::PartsFront::part_is_open))]
 pub fn part_is_open()
-    ensures { (m : DerMessage ℕ) → IsSound m → AreFinite m.forms m.root → PartIsOpen m }
+    ensures { (m : DerMessage ℕ) → IsSoundDer m → AreFinite m.forms m.root → PartIsOpen m }
 {}
 
 /// A part that breaks a rule is told at once: with it the parts go on to no instance.
 pub fn broken_is_not_open()
-    ensures { (m : DerMessage ℕ) → IsSound m → AreFinite m.forms m.root → BrokenIsNotOpen m }
+    ensures { (m : DerMessage ℕ) → IsSoundDer m → AreFinite m.forms m.root → BrokenPartIsNotOpen m }
 {}
 
 /// Parts at the front of bytes that break no rule go on to those of an instance.
 pub fn front_is_open()
-    ensures { (m : DerMessage ℕ) → IsSound m → AreFinite m.forms m.root → FrontIsOpen m }
+    ensures { (m : DerMessage ℕ) → IsSoundDer m → AreFinite m.forms m.root → FrontIsOpen m }
 {}
 
 /// Parts that break no rule up to the end of the instance show the pieces of the instance that the bytes spell.
 #[tactic(auto, using(crate::proofs::ShownPieces::whole_shows_pieces))]
 pub fn whole_shows_pieces()
-    ensures { (m : DerMessage ℕ) → IsSound m → WholeShowsPieces m }
+    ensures { (m : DerMessage ℕ) → IsSoundDer m → WholeShowsPieces m }
 {}
 
 /// Parts that break no rule show some pieces.
@@ -149,7 +149,7 @@ pub fn tables_are_sound()
 /// What the laws ask of a message is met by one with a text, a list of texts and an amount.
 #[tactic(auto, using(crate::proofs::Examples::row_sound))]
 pub fn a_message_is_sound()
-    ensures { IsSound (note (text_slot (Some 1) ∷ list_slot ∷ amount_slot ∷ [])) }
+    ensures { IsSoundDer (note (text_slot (Some 1) ∷ list_slot ∷ amount_slot ∷ [])) }
 {}
 
 /// Its elements lead to types of kinds that instances have.
@@ -163,7 +163,7 @@ pub fn a_message_has_kinds()
 pub fn der_of_examples()
     ensures text { der_of (note (text_slot (Some 1) ∷ [])) (with_note (Child 0 (Simple (Bytes (codes "A1"))) Nothing))
         ≡ 48 ∷ 6 ∷ 160 ∷ 4 ∷ 128 ∷ 2 ∷ 65 ∷ 49 ∷ [] }
-    ensures list { der_of (note (text_slot None ∷ [])) (with_note (Child 0 (text 65) (Child 0 (text 66) Nothing)))
+    ensures list { der_of (note (text_slot None ∷ [])) (with_note (Child 0 (one_character 65) (Child 0 (one_character 66) Nothing)))
         ≡ 48 ∷ 10 ∷ 160 ∷ 8 ∷ 160 ∷ 6 ∷ 12 ∷ 1 ∷ 65 ∷ 12 ∷ 1 ∷ 66 ∷ [] }
     ensures empty { der_of (note (text_slot None ∷ [])) (with_note Nothing) ≡ 48 ∷ 4 ∷ 160 ∷ 2 ∷ 160 ∷ 0 ∷ [] }
     ensures code { integer_octets 128 ≡ 0 ∷ 128 ∷ [] }

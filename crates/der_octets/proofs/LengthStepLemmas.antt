@@ -1,7 +1,7 @@
 -- The reader of length octets.
 use Rattle.std.proofs.Common.{◌≡◌, ℕ, zero, suc, ◌+◌, ◌-◌, ◌*◌, ◌^◌, ◌≤◌, ◌<◌, List, [], ◌∷◌, ◌++◌, length, refl, sym, ap, ◌∙◌, subst, arith, ◌⊎◌, inl, inr, length-append}
 use Rattle.der_octets.specs.Octets.{length_octets, IsShortLength}
-use Rattle.der_octets.specs.LengthSteps.{IsLead, IsLedBy, HasBegun, HasTakenIn}
+use Rattle.der_octets.specs.LengthSteps.{IsLead, IsLedBy, HasBegun, HasTakenLengthIn}
 use Rattle.std.proofs.lemmas.Bool.{cases_lt}
 use Rattle.std.specs.Int.Digits.{number_from_digits, AllBelowBase}
 use Rattle.std.proofs.lemmas.Int.Digits.{number_push, number_lt}
@@ -87,18 +87,18 @@ all_octets count come value octet octets begun lead low whole =
         (subst IsShortLength value_is r.0, ap (λ z. z ++ octet ∷ []) begun.octets_are ∙ (ap (λ z. (128 + count) ∷ z) is ∙ (r.1 ∙ ap length_octets value_is)))
 
 -- what has begun was taken
-pub begun_taken : (count come value : ℕ) (octets : List ℕ) → HasBegun count come value octets → HasTakenIn count come value octets
+pub begun_taken : (count come value : ℕ) (octets : List ℕ) → HasBegun count come value octets → HasTakenLengthIn count come value octets
 begun_taken zero come value octets b = absurd (let few = b.fewer in omega arith)
 begun_taken (suc count) come value octets b = b
 
-pub taken_none : (count come value : ℕ) (octets : List ℕ) → count ≡ 0 → HasTakenIn count come value octets → octets ≡ []
+pub taken_none : (count come value : ℕ) (octets : List ℕ) → count ≡ 0 → HasTakenLengthIn count come value octets → octets ≡ []
 taken_none zero come value octets none h = h
 taken_none (suc count) come value octets none h = absurd (omega arith)
 
-pub and_more : (count come value result octet : ℕ) (octets : List ℕ) → HasBegun count come value octets → (come ≡ 0 → IsLead count octet) → octet < 256 → (come + 1 ≡ count → ⊥) → result ≡ value * 256 + octet → HasTakenIn count (come + 1) result (octets ++ octet ∷ [])
+pub and_more : (count come value result octet : ℕ) (octets : List ℕ) → HasBegun count come value octets → (come ≡ 0 → IsLead count octet) → octet < 256 → (come + 1 ≡ count → ⊥) → result ≡ value * 256 + octet → HasTakenLengthIn count (come + 1) result (octets ++ octet ∷ [])
 and_more count come value result octet octets b lead low other is =
     let few = b.fewer in
-    subst (λ z. HasTakenIn count (come + 1) z (octets ++ octet ∷ [])) (sym is) (begun_taken count (come + 1) (value * 256 + octet) (octets ++ octet ∷ []) (more_octets count come value octet octets b lead low (less come count few other)))
+    subst (λ z. HasTakenLengthIn count (come + 1) z (octets ++ octet ∷ [])) (sym is) (begun_taken count (come + 1) (value * 256 + octet) (octets ++ octet ∷ []) (more_octets count come value octet octets b lead low (less come count few other)))
   where
     less : (a b : ℕ) → a < b → (a + 1 ≡ b → ⊥) → a + 1 < b
     less a b l h = by (cases_lt (a + 1) b)

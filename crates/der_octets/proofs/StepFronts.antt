@@ -41,7 +41,7 @@ bits_of (suc (suc (suc (suc (suc (suc zero)))))) l = record { constructed = fals
 bits_of (suc (suc (suc (suc (suc (suc (suc zero))))))) l = record { constructed = true; class = Private; is = refl }
 bits_of (suc (suc (suc (suc (suc (suc (suc (suc k)))))))) l = absurd (omega arith)
 
-pub tag_goes_on : (come first high : ℕ) (octets : List ℕ) → tags.HasTakenIn come first high octets → TagGoesOn octets
+pub tag_goes_on : (come first high : ℕ) (octets : List ℕ) → tags.HasTakenTagIn come first high octets → TagGoesOn octets
 tag_goes_on zero first high octets h = record {
   constructed = false;
   tag = universal 0;
@@ -121,7 +121,7 @@ begun_goes_on count come value octets begun = by begun.others refl begun.below b
           is = ap (λ z. z ++ zeros (suc k.0)) (begun.octets_are ∙ ap (λ z. (128 + count) ∷ z) is) ∙ r.2;
         }
 
-pub length_goes_on : (count come value : ℕ) (octets : List ℕ) → lengths.HasTakenIn count come value octets → LengthGoesOn octets
+pub length_goes_on : (count come value : ℕ) (octets : List ℕ) → lengths.HasTakenLengthIn count come value octets → LengthGoesOn octets
 length_goes_on zero come value octets h = record {
   n = 0;
   more = 0 ∷ [];

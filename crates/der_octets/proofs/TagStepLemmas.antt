@@ -1,7 +1,7 @@
 -- The reader of identifier octets.
 use Rattle.std.proofs.Common.{◌≡◌, ◌≢◌, ℕ, zero, suc, ◌+◌, ◌-◌, ◌*◌, ◌/◌, ◌%◌, ◌≤◌, ◌<◌, Bool, List, [], ◌∷◌, ◌++◌, refl, sym, ap, ◌∙◌, arith}
 use Rattle.der_octets.specs.Octets.{Tag, class_bits, form_bit, identifier, IsShortTag}
-use Rattle.der_octets.specs.TagSteps.{HasFirst, HasSecond, HasTakenIn}
+use Rattle.der_octets.specs.TagSteps.{HasFirst, HasSecond, HasTakenTagIn}
 use Rattle.der_octets.proofs.TagFronts.{tag_bits, one_octet, two_octets, three_octets, TagBegun, one, two, three, tag_begun}
 
 heads : (x y : ℕ) (xs ys : List ℕ) → x ∷ xs ≡ y ∷ ys → (x ≡ y) × (xs ≡ ys)
@@ -62,6 +62,6 @@ second_more first octet high octets has is some small = record {
 }
 
 -- which of the three stands
-pub taken_none : (come first high : ℕ) (octets : List ℕ) → come ≡ 0 → HasTakenIn come first high octets → octets ≡ []
+pub taken_none : (come first high : ℕ) (octets : List ℕ) → come ≡ 0 → HasTakenTagIn come first high octets → octets ≡ []
 taken_none zero first high octets is h = h
 taken_none (suc come) first high octets is h = absurd (omega arith)

@@ -28,15 +28,15 @@ pub record HasBegun (count come value : ℕ) (octets : List ℕ) : Type 0 where
   pub led : IsLedBy count others
 
 -- the reader was given these octets, and more of a length are to come
-abbrev pub HasTakenIn : ℕ → ℕ → ℕ → List ℕ → Type 0
-HasTakenIn zero come value octets = octets ≡ []
-HasTakenIn (suc count) come value octets = HasBegun (suc count) come value octets
+abbrev pub HasTakenLengthIn : ℕ → ℕ → ℕ → List ℕ → Type 0
+HasTakenLengthIn zero come value octets = octets ≡ []
+HasTakenLengthIn (suc count) come value octets = HasBegun (suc count) come value octets
 
-abbrev pub HasTaken : LengthStep → List ℕ → Type 0
-HasTaken step octets = HasTakenIn step.count step.come step.value octets
+abbrev pub HasTakenLength : LengthStep → List ℕ → Type 0
+HasTakenLength step octets = HasTakenLengthIn step.count step.come step.value octets
 
 -- the answer to one octet more: more are to come; they are the octets of this length; or no length begins so
 abbrev pub IsLengthRead : LengthStep → List ℕ → LengthRead → Type 0
-IsLengthRead step octets More = HasTaken step octets
+IsLengthRead step octets More = HasTakenLength step octets
 IsLengthRead step octets (Done n) = IsShortLength n × (octets ≡ length_octets n)
 IsLengthRead step octets Bad = (n : ℕ) (more : List ℕ) → IsShortLength n → length_octets n ≡ octets ++ more → ⊥

@@ -32,16 +32,16 @@ pub record HasSecond (first high : ℕ) (octets : List ℕ) : Type 0 where
   pub small : high < 128
 
 -- the reader was given these octets, and more of a tag are to come
-abbrev pub HasTakenIn : ℕ → ℕ → ℕ → List ℕ → Type 0
-HasTakenIn zero first high octets = octets ≡ []
-HasTakenIn (suc zero) first high octets = HasFirst first octets
-HasTakenIn (suc (suc come)) first high octets = HasSecond first high octets
+abbrev pub HasTakenTagIn : ℕ → ℕ → ℕ → List ℕ → Type 0
+HasTakenTagIn zero first high octets = octets ≡ []
+HasTakenTagIn (suc zero) first high octets = HasFirst first octets
+HasTakenTagIn (suc (suc come)) first high octets = HasSecond first high octets
 
-abbrev pub HasTaken : TagStep → List ℕ → Type 0
-HasTaken step octets = HasTakenIn step.come step.first step.high octets
+abbrev pub HasTakenTag : TagStep → List ℕ → Type 0
+HasTakenTag step octets = HasTakenTagIn step.come step.first step.high octets
 
 -- the answer to one octet more: more are to come; they are the identifier octets of this tag; or no tag begins so
 abbrev pub IsTagRead : TagStep → List ℕ → TagRead → Type 0
-IsTagRead step octets More = HasTaken step octets
+IsTagRead step octets More = HasTakenTag step octets
 IsTagRead step octets (Done id) = IsShortTag (tag_view id) × (octets ≡ identifier id.constructed (tag_view id))
 IsTagRead step octets Bad = (constructed : Bool) (t : Tag) (more : List ℕ) → IsShortTag t → identifier constructed t ≡ octets ++ more → ⊥

@@ -1,6 +1,6 @@
 // Length octets, one at a time: X.690 §8.1.3 and §10.1.
 ghost use Rattle.std.specs.Prelude.{◌≡◌, ◌+◌, ◌*◌, ◌^◌, ◌<◌, ◌≤◌, ◌↔◌, ◌++◌, ◌∷◌, [], ℕ, List, IsTrue, IsFalse};
-ghost use Rattle.der_octets.specs.LengthSteps.{HasTaken, HasBegun, IsLengthRead, IsLead};
+ghost use Rattle.der_octets.specs.LengthSteps.{HasTakenLength, HasBegun, IsLengthRead, IsLead};
 
 /// What an octet has made of those before it.
 #[derive(Clone, Copy, Debug, PartialEq, Eq)]
@@ -28,7 +28,7 @@ pub struct LengthStep {
 impl LengthStep {
     /// Before the first octet.
     pub fn new() -> LengthStep
-        ensures { HasTaken result [] }
+        ensures { HasTakenLength result [] }
     {
         LengthStep {
             count: 0,
@@ -39,8 +39,8 @@ impl LengthStep {
 
     /// Takes the next octet.
     pub fn take(&mut self, octet: u8) -> LengthRead
-        requires { (octets : List ℕ) × HasTaken self.old octets }
-        ensures { (octets : List ℕ) → HasTaken self.old octets → IsLengthRead self.new (octets ++ octet ∷ []) result }
+        requires { (octets : List ℕ) × HasTakenLength self.old octets }
+        ensures { (octets : List ℕ) → HasTakenLength self.old octets → IsLengthRead self.new (octets ++ octet ∷ []) result }
     {
         if self.count == 0 {
             return self.first(octet);

@@ -1,7 +1,7 @@
 // Identifier octets, one at a time: X.690 §8.1.2.
 ghost use Rattle.std.specs.Prelude.{◌≡◌, ◌≢◌, ◌↔◌, ◌+◌, ◌*◌, ◌/◌, ◌%◌, ◌<◌, ◌≤◌, ◌++◌, ◌∷◌, [], ℕ, List, IsTrue, IsFalse};
 ghost use Rattle.der_octets.specs.Octets.{class_bits, form_bit};
-ghost use Rattle.der_octets.specs.TagSteps.{HasTaken, HasFirst, HasSecond, IsTagRead, class_view};
+ghost use Rattle.der_octets.specs.TagSteps.{HasTakenTag, HasFirst, HasSecond, IsTagRead, class_view};
 
 /// The class of a tag.
 #[derive(Clone, Copy, Debug, PartialEq, Eq)]
@@ -47,7 +47,7 @@ pub struct TagStep {
 impl TagStep {
     /// Before the first octet.
     pub fn new() -> TagStep
-        ensures { HasTaken result [] }
+        ensures { HasTakenTag result [] }
     {
         TagStep {
             come: 0,
@@ -65,8 +65,8 @@ impl TagStep {
 
     /// Takes the next octet.
     pub fn take(&mut self, octet: u8) -> TagRead
-        requires { (octets : List ℕ) × HasTaken self.old octets }
-        ensures { (octets : List ℕ) → HasTaken self.old octets → IsTagRead self.new (octets ++ octet ∷ []) result }
+        requires { (octets : List ℕ) × HasTakenTag self.old octets }
+        ensures { (octets : List ℕ) → HasTakenTag self.old octets → IsTagRead self.new (octets ++ octet ∷ []) result }
     {
         if self.come == 0 {
             return self.take_first(octet);

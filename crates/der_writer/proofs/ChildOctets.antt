@@ -12,7 +12,7 @@ use Rattle.reference_check.specs.Words.{IsOrderedFrom}
 use Rattle.message_model.specs.Admits.{numbers_of}
 use Rattle.der_model.specs.DerMessage.{DerMessage}
 use Rattle.der_model.specs.Structures.{is_single}
-use Rattle.der_model.specs.Der.{Body, placed, all_slots, alternative, chosen_slot, body, values_at}
+use Rattle.der_model.specs.Der.{Body, placed_value, all_slots, alternative, chosen_slot, body, values_at}
 use Rattle.der_model.proofs.ChildLists.{values_none, slots_congr, compared}
 use Rattle.der_writer.specs.Measured.{contents_octets, slot_octets}
 use Rattle.der_writer.specs.inner.PieceOctets.{Before, Begun, Filled, Ended, next_slot, head, empty_slots, sequence_slots, list_head, element_head}
@@ -59,7 +59,7 @@ module _ (m : DerMessage ℕ) (v : Value) (rest : Children) (e : Edge) (s : Slot
   -- the octets of the slot from the child on
   pub slot_from : octets (values_at m e.slot s children) ≡ own_octets (octets (values_at m e.slot s rest))
   slot_from =
-      ap octets (if_true (e.slot == e.slot) (placed m.forms e.slot s held (values_at m e.slot s rest)) (values_at m e.slot s rest) (own_number e.slot))
+      ap octets (if_true (e.slot == e.slot) (placed_value m.forms e.slot s held (values_at m e.slot s rest)) (values_at m e.slot s rest) (own_number e.slot))
       ∙ placed_octets m.forms e.slot s held (values_at m e.slot s rest) fits
 
   -- slots behind are without the child

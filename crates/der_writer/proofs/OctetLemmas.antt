@@ -10,7 +10,7 @@ use Rattle.reference_check.specs.Forms as form
 use Rattle.message_model.specs.Admits.{AdmitsAs}
 use Rattle.der_model.specs.DerMessage.{DerMessage}
 use Rattle.der_model.specs.Structures.{is_single, is_constructed, universal_tag}
-use Rattle.der_model.specs.Der.{Body, Octets, Inner, under, item, placed, slot_values, all_slots, body}
+use Rattle.der_model.specs.Der.{Body, Octets, Inner, under, item, placed_value, slot_values, all_slots, body}
 use Rattle.der_writer.specs.Measured.{contents_octets}
 use Rattle.der_writer.specs.inner.PieceOctets.{head, empty_slot, empty_slots, item_head, element_head}
 
@@ -64,7 +64,7 @@ item_octets form.LeftOut b rest e = under_octets form.LeftOut (form_tag form.Lef
 item_octets form.Missing b rest e = under_octets form.Missing (form_tag form.Missing) b rest e
 
 pub placed_octets : (g : Graph ℕ Simple) (k : ℕ) (s : Slot ℕ) (b : Body) (rest : Values) → IsBodyOf (g s.target) b
-    → octets (placed g k s b rest) ≡ element_head (Some s) (g s.target) k (length (contents_octets b)) ++ (contents_octets b ++ octets rest)
+    → octets (placed_value g k s b rest) ≡ element_head (Some s) (g s.target) k (length (contents_octets b)) ++ (contents_octets b ++ octets rest)
 placed_octets g k s b rest e = go (is_single s)
   where
     go : (z : Bool) → octets (if z then under (context k) b rest else item (g s.target) b rest)

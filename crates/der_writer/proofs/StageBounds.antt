@@ -6,7 +6,7 @@ use Rattle.facets.specs.declared.simple.Simple.{Simple}
 use Rattle.reference_check.specs.Forms.{Graph}
 use Rattle.der_writer.specs.inner.PieceOctets.{Before, Begun, Filled, Ended, octets_before, begin_octets, piece_octets}
 use Rattle.der_writer.specs.inner.Passes.{Frame, Stage, following, innermost_frame, piece_step, stage}
-use Rattle.der_writer.specs.inner.Measuring.{AreBeside, AreWithin}
+use Rattle.der_writer.specs.inner.Measuring.{AreBeside, AreFramesWithin}
 
 pub stage_beside : (g : Graph ℕ Simple) (b : Before) (ps : List Piece) → AreBeside ps (stage g b ps).beside
 stage_beside g b [] = tt
@@ -14,15 +14,15 @@ stage_beside g b (Begins e ∷ ps) = stage_beside g (Begun e) ps
 stage_beside g b (Holds l ∷ ps) = stage_beside g Filled ps
 stage_beside g b (Ends e ∷ ps) = stage_beside g (Ended e) ps
 
-within_more : (x y : ℕ) (fs : List Frame) → x ≤ y → AreWithin x fs → AreWithin y fs
+within_more : (x y : ℕ) (fs : List Frame) → x ≤ y → AreFramesWithin x fs → AreFramesWithin y fs
 within_more x y [] l w = tt
 within_more x y (f ∷ fs) l (a, k, w) = (omega arith, k, within_more x y fs l w)
 
-within_drop : (x : ℕ) (fs : List Frame) → AreWithin x fs → AreWithin x (drop 1 fs)
+within_drop : (x : ℕ) (fs : List Frame) → AreFramesWithin x fs → AreFramesWithin x (drop 1 fs)
 within_drop x [] w = tt
 within_drop x (f ∷ fs) (a, k, w) = w
 
-pub innermost_within : (x : ℕ) (fs : List Frame) (k : ℕ) → AreWithin x fs → ((innermost_frame fs).behind ≤ x) × ((innermost_frame fs).following k ≤ (innermost_frame fs).behind)
+pub innermost_within : (x : ℕ) (fs : List Frame) (k : ℕ) → AreFramesWithin x fs → ((innermost_frame fs).behind ≤ x) × ((innermost_frame fs).following k ≤ (innermost_frame fs).behind)
 innermost_within x [] k w = (omega arith, omega arith)
 innermost_within x (f ∷ fs) k (a, h, w) = (a, h k)
 
@@ -30,13 +30,13 @@ at_most : (b : Bool) (x y : ℕ) → x ≤ y → (if b then x else 0) ≤ y
 at_most true x y l = l
 at_most false x y l = omega arith
 
-pub stage_within : (g : Graph ℕ Simple) (b : Before) (ps : List Piece) → AreWithin (stage g b ps).sum (stage g b ps).frames × ((k : ℕ) → following ps (stage g b ps).beside k ≤ (stage g b ps).sum)
+pub stage_within : (g : Graph ℕ Simple) (b : Before) (ps : List Piece) → AreFramesWithin (stage g b ps).sum (stage g b ps).frames × ((k : ℕ) → following ps (stage g b ps).beside k ≤ (stage g b ps).sum)
 stage_within g b [] = (tt, λ k. omega arith)
 stage_within g b (Holds l ∷ ps) = (let r = stage_within g Filled ps in (within_more (stage g Filled ps).sum _ _ (omega arith) r.0, λ k. omega arith))
 stage_within g b (Ends e ∷ ps) = (let r = stage_within g (Ended e) ps in ((omega arith, r.1, within_more (stage g (Ended e) ps).sum _ _ (omega arith) r.0), λ k. omega arith))
 stage_within g b (Begins e ∷ ps) = go (stage g (Begun e) ps) (stage_within g (Begun e) ps).0
   where
-    go : (r : Stage) → AreWithin r.sum r.frames → AreWithin (piece_step g b (Begins e) ps r).sum (piece_step g b (Begins e) ps r).frames × ((k : ℕ) → following (Begins e ∷ ps) (piece_step g b (Begins e) ps r).beside k ≤ (piece_step g b (Begins e) ps r).sum)
+    go : (r : Stage) → AreFramesWithin r.sum r.frames → AreFramesWithin (piece_step g b (Begins e) ps r).sum (piece_step g b (Begins e) ps r).frames × ((k : ℕ) → following (Begins e ∷ ps) (piece_step g b (Begins e) ps r).beside k ≤ (piece_step g b (Begins e) ps r).sum)
     go r w =
         let f = innermost_frame r.frames in
         let len = r.sum - f.behind in

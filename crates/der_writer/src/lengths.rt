@@ -11,7 +11,7 @@ ghost use Rattle.inst_pool.specs.Pieces.{edge_of, piece_bytes, bytes_of};
 ghost use Rattle.der_writer.specs.Measured.{IsMeasured};
 ghost use Rattle.der_writer.specs.inner.PieceOctets.{Before as BeforeOf, Begun, document_edge, leaf_octets, next_slot};
 ghost use Rattle.der_writer.specs.inner.Passes.{Frame, Stage, innermost_frame, piece_step, stage};
-ghost use Rattle.der_writer.specs.inner.Measuring.{AreBeside, AreAwaited, NumbersAreKept, AreWithin, Knows, IsSizeAt, IsSimpleAt, before_place, behind_piece, following_at};
+ghost use Rattle.der_writer.specs.inner.Measuring.{AreBeside, AreAwaited, NumbersAreKept, AreFramesWithin, Knows, IsSizeAt, IsSimpleAt, before_place, behind_piece, following_at};
 ghost use Rattle.der_writer.specs.inner.Heads.{before_view};
 
 use crate::contents::leaf_size;
@@ -191,7 +191,7 @@ fn begin(
 ) -> Pass
     requires place { at < length instance.old.region.pieces }
     requires room { pass.sum < 15000000000000000000 }
-    requires known { (s : Stage) × Knows instance.old (at + 1) pass.around pass.sum s × AreWithin s.sum s.frames }
+    requires known { (s : Stage) × Knows instance.old (at + 1) pass.around pass.sum s × AreFramesWithin s.sum s.frames }
     ensures region { instance.new.region ≡ instance.old.region }
     ensures known { (before : BeforeOf) → next ≡ next_slot before → (s : Stage) → Knows instance.old (at + 1) pass.around pass.sum s
         → Knows instance.new at result.around result.sum (piece_step (types_of model.now) before (Begins (edge_of edge)) (drop (at + 1) instance.old.region.pieces) s) }

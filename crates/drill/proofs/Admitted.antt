@@ -7,11 +7,11 @@ use Rattle.data_types.specs.Value.{Value}
 use Rattle.data_types.proofs.CollapseLemmas.{all_push}
 use Rattle.reference_check.specs.Forms.{Slot}
 use Rattle.reference_check.specs.Forms as form
-use Rattle.reference_check.specs.Words.{times, UpTo, IsWithin, IsOrderedFrom, IsSequence}
+use Rattle.reference_check.specs.Words.{times, UpTo, MayComeTimes, IsOrderedFrom, IsSequence}
 use Rattle.message_model.specs.Admits.{AdmitsAs, AdmitsChildren, numbers_of}
 use Rattle.message_model.specs.Tables.{types_of}
-use Rattle.drill.specs.BuiltIn.{tables, node_slots}
-use Rattle.drill.specs.Growing.{OpenNode, Path, below, node, with_below, path_outside_from, path_outside, path_after, under, growth_of, tree_of_from, tree_of, document, instance, generator_of, most_beside}
+use Rattle.drill.specs.BuiltIn.{drill_tables, node_slots}
+use Rattle.drill.specs.Growing.{OpenNode, Path, below, node, with_below, path_outside_from, path_outside, path_after, path_under, growth_of, tree_of_from, tree_of, document, instance, generator_of, most_beside}
 use Rattle.drill.proofs.NameLemmas.{name_fits}
 
 abbrev name_slot : Slot ℕ
@@ -39,11 +39,11 @@ no_name (v ∷ values) = let rest = no_name values in omega (arith, rest)
 same_some : {A : Type 0} (x y : A) → Some x ≡ Some y → x ≡ y
 same_some x y e = cc
 
-node_within : (values : List Value) (k : ℕ) (s : Slot ℕ) → slice_get node_slots k ≡ Some s → IsWithin (times k (0 ∷ numbers_of (below values))) s
+node_within : (values : List Value) (k : ℕ) (s : Slot ℕ) → slice_get node_slots k ≡ Some s → MayComeTimes (times k (0 ∷ numbers_of (below values))) s
 node_within values zero s e =
     let rest = no_name values in
-    subst (λ (t : Slot ℕ). IsWithin (times 0 (0 ∷ numbers_of (below values))) t) (same_some name_slot s e) (omega (arith, rest), omega (arith, rest))
-node_within values (suc zero) s e = subst (λ (t : Slot ℕ). IsWithin (times 1 (0 ∷ numbers_of (below values))) t) (same_some child_slot s e) (omega arith, tt)
+    subst (λ (t : Slot ℕ). MayComeTimes (times 0 (0 ∷ numbers_of (below values))) t) (same_some name_slot s e) (omega (arith, rest), omega (arith, rest))
+node_within values (suc zero) s e = subst (λ (t : Slot ℕ). MayComeTimes (times 1 (0 ∷ numbers_of (below values))) t) (same_some child_slot s e) (omega arith, tt)
 node_within values (suc (suc k)) s e = absurd (let none : None ≡ Some s = e in cc)
 
 node_word : (values : List Value) → IsSequence node_slots (0 ∷ numbers_of (below values))
@@ -53,9 +53,9 @@ node_word values = record { ordered = (omega arith, omega arith, ones_ordered 0 
 
 -- the type of nodes admits the value
 abbrev IsNode : Value → Type 0
-IsNode v = AdmitsAs (types_of tables) (form.Sequence node_slots) v
+IsNode v = AdmitsAs (types_of drill_tables) (form.Sequence node_slots) v
 
-below_admitted : (values : List Value) → AllByRecursion IsNode values → AdmitsChildren (types_of tables) node_slots (below values)
+below_admitted : (values : List Value) → AllByRecursion IsNode values → AdmitsChildren (types_of drill_tables) node_slots (below values)
 below_admitted [] all = tt
 below_admitted (v ∷ values) all = ((child_slot, refl, all.0), below_admitted values all.1)
 
@@ -87,7 +87,7 @@ some_left : (n : ℕ) (p : Path) → IsOpenPath p → IsOpenPath (path_after n p
 some_left zero p h = h
 some_left (suc n) p h = some_left n (path_outside p) (left_admitted p.inner p.outers h.inner h.outers)
 
-under_admitted : (number : ℕ) (p : Path) → number < 2 ^ 64 → IsOpenPath p → IsOpenPath (under number p)
+under_admitted : (number : ℕ) (p : Path) → number < 2 ^ 64 → IsOpenPath p → IsOpenPath (path_under number p)
 under_admitted number p small h = record { inner = record { small = small; values = tt }; outers = (h.inner, h.outers) }
 
 grown_admitted : (size : ℕ) (generator : Lcg) → size < 2 ^ 64 → IsOpenPath (growth_of size generator).path
@@ -103,22 +103,22 @@ closed_admitted inner (outer ∷ outers) a all = closed_admitted (with_below out
 
 -- ---- the message
 
-one_within : (slot : Slot ℕ) (k : ℕ) (s : Slot ℕ) → slot.min ≡ 1 → slot.max ≡ Some 1 → slice_get (slot ∷ []) k ≡ Some s → IsWithin (times k (0 ∷ [])) s
+one_within : (slot : Slot ℕ) (k : ℕ) (s : Slot ℕ) → slot.min ≡ 1 → slot.max ≡ Some 1 → slice_get (slot ∷ []) k ≡ Some s → MayComeTimes (times k (0 ∷ [])) s
 one_within slot zero s min max e =
-    subst (λ (t : Slot ℕ). IsWithin 1 t) (same_some slot s e) (omega (arith, min), subst (λ (m : Option ℕ). UpTo 1 m) (sym max) (omega arith))
+    subst (λ (t : Slot ℕ). MayComeTimes 1 t) (same_some slot s e) (omega (arith, min), subst (λ (m : Option ℕ). UpTo 1 m) (sym max) (omega arith))
 one_within slot (suc k) s min max e = absurd (let none : None ≡ Some s = e in cc)
 
 one_word : (slot : Slot ℕ) → slot.min ≡ 1 → slot.max ≡ Some 1 → IsSequence (slot ∷ []) (0 ∷ [])
 one_word slot min max = record { ordered = (omega arith, omega arith, tt); within = λ k s e. one_within slot k s min max e }
 
-document_admitted : (tree : Value) → IsNode tree → AdmitsAs (types_of tables) (types_of tables 0) (document tree)
+document_admitted : (tree : Value) → IsNode tree → AdmitsAs (types_of drill_tables) (types_of drill_tables 0) (document tree)
 document_admitted tree a = (one_word document_slot refl refl, ((document_slot, refl, (one_word message_slot refl refl, ((message_slot, refl, a), tt))), tt))
 
-instance_admitted : (number size : ℕ) → size < 2 ^ 64 → AdmitsAs (types_of tables) (types_of tables 0) (instance number size)
+instance_admitted : (number size : ℕ) → size < 2 ^ 64 → AdmitsAs (types_of drill_tables) (types_of drill_tables 0) (instance number size)
 instance_admitted number size small =
     let p = (growth_of size (generator_of number)).path in
     let h = grown_admitted size (generator_of number) small in
     document_admitted (tree_of p) (closed_admitted p.inner p.outers h.inner h.outers)
 
-pub admitted : (number size : ℕ) → size ≤ most_beside → AdmitsAs (types_of tables) (types_of tables 0) (instance number size)
+pub admitted : (number size : ℕ) → size ≤ most_beside → AdmitsAs (types_of drill_tables) (types_of drill_tables 0) (instance number size)
 admitted number size few = instance_admitted number size (omega (arith, few))

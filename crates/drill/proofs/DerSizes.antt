@@ -16,7 +16,7 @@ use Rattle.message_model.specs.Admits.{numbers_of}
 use Rattle.der_model.specs.DerMessage.{DerMessage}
 use Rattle.der_model.specs.LeafContents.{leaf_contents}
 use Rattle.der_model.specs.Structures.{is_single, universal_tag, kind_number, simple_number}
-use Rattle.der_model.specs.Der.{Body, Octets, Inner, under, inner_of, item, placed, slot_values, all_slots, form_values, body, values_at, der_of}
+use Rattle.der_model.specs.Der.{Body, Octets, Inner, under, inner_of, item, placed_value, slot_values, all_slots, form_values, body, values_at, der_of}
 use Rattle.der_writer.specs.Measured.{contents_octets}
 use Rattle.der_writer.proofs.OctetLemmas.{octets_then}
 use Rattle.fragments.specs.Fragment.{fragment}
@@ -92,9 +92,9 @@ item_size form.LeftOut b rest low = under_size (form_tag form.LeftOut) b rest re
 item_size form.Missing b rest low = under_size (form_tag form.Missing) b rest refl low
 
 placed_size : (types : Graph ℕ Simple) (k : ℕ) (s : Slot ℕ) (b : Body) (rest : Values) → nat_lt k 31 ≡ true → IsLow (length (contents_octets b))
-    → length (octets (placed types k s b rest)) ≤ 10 + (length (contents_octets b) + length (octets rest))
+    → length (octets (placed_value types k s b rest)) ≤ 10 + (length (contents_octets b) + length (octets rest))
 placed_size types k s b rest small low =
-    elim (cases_Bool (is_single s)) as (λ _. length (octets (placed types k s b rest)) ≤ 10 + (length (contents_octets b) + length (octets rest))) [
+    elim (cases_Bool (is_single s)) as (λ _. length (octets (placed_value types k s b rest)) ≤ 10 + (length (contents_octets b) + length (octets rest))) [
       | inl h ↦ rw h (under_size (context k) b rest small low)
       | inr h ↦ rw h (item_size (types s.target) b rest low)
     ]

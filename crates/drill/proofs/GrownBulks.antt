@@ -5,12 +5,12 @@ use Rattle.std.specs.Fmt.{decimal}
 use Rattle.rand_pcg.specs.Lcg.{Lcg}
 use Rattle.rand_pcg.specs.Pcg.{pcg32}
 use Rattle.data_types.specs.Value.{Value}
-use Rattle.drill.specs.Growing.{most_beside, name_of, below, node, OpenNode, with_below, Path, path_outside_from, path_outside, path_after, under, Growth, next_growth, growth_of, generator_of, tree_of_from, instance}
+use Rattle.drill.specs.Growing.{most_beside, node_name, below, node, OpenNode, with_below, Path, path_outside_from, path_outside, path_after, path_under, Growth, next_growth, growth_of, generator_of, tree_of_from, instance}
 use Rattle.drill.proofs.Bulks.{bulk, bulks}
 
 -- of an open node, so far
 abbrev weight : OpenNode → ℕ
-weight o = 192 + (5 * length (name_of o.number) + bulks (below o.values))
+weight o = 192 + (5 * length (node_name o.number) + bulks (below o.values))
 
 abbrev weights : List OpenNode → ℕ
 weights [] = 0
@@ -43,22 +43,22 @@ closed_bulk : (inner : OpenNode) (outers : List OpenNode) → bulk (tree_of_from
 closed_bulk inner [] = let own = node_bulk inner in omega arith
 closed_bulk inner (outer ∷ outers) = let one = with_below_weight outer inner in let more = closed_bulk (with_below outer inner) outers in omega arith
 
-under_total : (number : ℕ) (p : Path) → total (under number p) ≡ 192 + 5 * length (name_of number) + total p
+under_total : (number : ℕ) (p : Path) → total (path_under number p) ≡ 192 + 5 * length (node_name number) + total p
 under_total number p = omega arith
 
-grown_one_total : (number : ℕ) (g : Growth) → total (next_growth number g).path ≡ 192 + 5 * length (name_of number) + total g.path
+grown_one_total : (number : ℕ) (g : Growth) → total (next_growth number g).path ≡ 192 + 5 * length (node_name number) + total g.path
 grown_one_total number g =
     let steps = (pcg32 g.generator).0 % 3 in
     let before = left_total steps g.path in
-    under_total number (path_after steps g.path) ∙ ap (λ n. 192 + 5 * length (name_of number) + n) before
+    under_total number (path_after steps g.path) ∙ ap (λ n. 192 + 5 * length (node_name number) + n) before
 
 -- ---- names
 
-name_length : (number : ℕ) → length (name_of number) ≡ length (decimal number) + 1
+name_length : (number : ℕ) → length (node_name number) ≡ length (decimal number) + 1
 unfolding lib.Utf8.encode
 name_length number = omega (arith, length-append (codes "n") (decimal number))
 
-name_short : (most number : ℕ) → most < 10 ^ 7 → number ≤ most → length (name_of number) ≤ 8
+name_short : (most number : ℕ) → most < 10 ^ 7 → number ≤ most → length (node_name number) ≤ 8
 name_short most number low h =
     let digits = length-decimal-le 7 number (omega arith) (omega arith) (omega arith) in
     let all = name_length number in

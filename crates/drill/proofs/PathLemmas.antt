@@ -3,21 +3,21 @@ use Rattle.std.proofs.Common.{◌≡◌, ℕ, zero, suc, ◌+◌, ◌<◌, ◌�
 use Rattle.data_types.specs.Leaf.{Leaf}
 use Rattle.data_types.specs.Value.{Value, Edge, Piece, Begins, Holds, Ends}
 use Rattle.fragments.specs.Fragment.{fragment}
-use Rattle.inst_pool.specs.Pieces.{open_in, open_behind}
+use Rattle.inst_pool.specs.Pieces.{open_in, edges_open_behind}
 use Rattle.message_model.specs.Tables.{pieces_of, pieces, types_of}
-use Rattle.drill.specs.BuiltIn.{tables}
-use Rattle.drill.specs.Growing.{OpenNode, Path, with_below, node, path_outside, path_outside_from, path_after, under, tree_of, tree_of_from, document}
+use Rattle.drill.specs.BuiltIn.{drill_tables}
+use Rattle.drill.specs.Growing.{OpenNode, Path, with_below, node, path_outside, path_outside_from, path_after, path_under, tree_of, tree_of_from, document}
 use Rattle.drill.specs.inner.PathPieces.{message_edge, root_edge, name_edge, child_edge, name_pieces, below_pieces, inside_pieces, pieces_from, pieces_so_far, edges_round, HasPath}
 use Rattle.drill.specs.declared.stem.Stem.{Stem}
 
 -- one node more below
-below_more : (values : List Value) (v : Value) → below_pieces (values ++ v ∷ []) ≡ below_pieces values ++ (Begins child_edge ∷ (pieces fragment (types_of tables) 3 v ++ (Ends child_edge ∷ [])))
+below_more : (values : List Value) (v : Value) → below_pieces (values ++ v ∷ []) ≡ below_pieces values ++ (Begins child_edge ∷ (pieces fragment (types_of drill_tables) 3 v ++ (Ends child_edge ∷ [])))
 below_more [] v = refl
 below_more (u ∷ values) v =
     let behind = below_pieces values in
-    let more = Begins child_edge ∷ (pieces fragment (types_of tables) 3 v ++ (Ends child_edge ∷ [])) in
-    ap (λ ps. Begins child_edge ∷ (pieces fragment (types_of tables) 3 u ++ (Ends child_edge ∷ ps))) (below_more values v)
-    ∙ ap (λ ps. Begins child_edge ∷ ps) (sym (append_assoc (pieces fragment (types_of tables) 3 u) (Ends child_edge ∷ behind) more))
+    let more = Begins child_edge ∷ (pieces fragment (types_of drill_tables) 3 v ++ (Ends child_edge ∷ [])) in
+    ap (λ ps. Begins child_edge ∷ (pieces fragment (types_of drill_tables) 3 u ++ (Ends child_edge ∷ ps))) (below_more values v)
+    ∙ ap (λ ps. Begins child_edge ∷ ps) (sym (append_assoc (pieces fragment (types_of drill_tables) 3 u) (Ends child_edge ∷ behind) more))
 
 -- a node that closes below another
 inside_more : (outer inner : OpenNode) → inside_pieces (with_below outer inner) ≡ inside_pieces outer ++ (Begins child_edge ∷ (inside_pieces inner ++ (Ends child_edge ∷ [])))
@@ -35,12 +35,12 @@ left_pieces inner outer outers =
     ∙ sym (append_assoc (pieces_from outer outers) (Begins child_edge ∷ inside_pieces inner) (Ends child_edge ∷ []))
 
 -- where one node is open, it closes, and the message's element
-pub all_closed : (inner : OpenNode) → pieces_from inner [] ++ (Ends root_edge ∷ (Ends message_edge ∷ [])) ≡ pieces_of fragment tables (document (tree_of_from inner []))
+pub all_closed : (inner : OpenNode) → pieces_from inner [] ++ (Ends root_edge ∷ (Ends message_edge ∷ [])) ≡ pieces_of fragment drill_tables (document (tree_of_from inner []))
 all_closed inner = ap (λ ps. Begins message_edge ∷ (Begins root_edge ∷ ps)) (sym (append_assoc (inside_pieces inner) (Ends root_edge ∷ []) (Ends message_edge ∷ [])))
 
 -- ---- the elements that are open
 
-open_then : (outer : List Edge) (a b : List Piece) → open_behind outer (a ++ b) ≡ open_behind (open_behind outer a) b
+open_then : (outer : List Edge) (a b : List Piece) → edges_open_behind outer (a ++ b) ≡ edges_open_behind (edges_open_behind outer a) b
 open_then outer [] b = refl
 open_then outer (Begins e ∷ a) b = open_then (e ∷ outer) a b
 open_then outer (Holds l ∷ a) b = open_then outer a b
@@ -93,7 +93,7 @@ pub stem_open : (p : Path) (s : Stem) → HasPath p s → 0 < length (open_in s.
 stem_open p s h = let some = edges_some p.outers in some_open s.builder.pieces some.0 some.1 (h.open_are ∙ some.2)
 
 pub stem_under : (p : Path) (s t : Stem) (number : ℕ) (begun : List Piece) → HasPath p s → begun ≡ s.builder.pieces ++ Begins child_edge ∷ [] → t.builder.pieces ≡ begun ++ name_pieces number
-    → open_in t.builder.pieces ≡ open_in begun → t.depth ≡ s.depth + 1 → HasPath (under number p) t
+    → open_in t.builder.pieces ≡ open_in begun → t.depth ≡ s.depth + 1 → HasPath (path_under number p) t
 stem_under p s t number begun h first second same more = record {
   pieces = second ∙ (ap (λ ps. ps ++ name_pieces number) (first ∙ ap (λ ps. ps ++ Begins child_edge ∷ []) h.pieces) ∙ append_assoc (pieces_so_far p) (Begins child_edge ∷ []) (name_pieces number));
   open_are = same ∙ (begun_open s.builder.pieces begun child_edge first ∙ ap (λ es. child_edge ∷ es) h.open_are);
@@ -133,8 +133,8 @@ one_open p s t h g =
     (last.inner, ap (tree_of_from last.inner) (sym none) ∙ left_closes s.depth p, g.pieces ∙ ap (pieces_from last.inner) none, g.open_are ∙ ap edges_round none)
 
 pub all_appended : (p : Path) (inner : OpenNode) (old one all : List Piece) → tree_of_from inner [] ≡ tree_of p → old ≡ pieces_from inner [] → one ≡ old ++ Ends root_edge ∷ [] → all ≡ one ++ Ends message_edge ∷ []
-    → all ≡ pieces_of fragment tables (document (tree_of p))
+    → all ≡ pieces_of fragment drill_tables (document (tree_of p))
 all_appended p inner old one all same is first second =
     let both : all ≡ pieces_from inner [] ++ (Ends root_edge ∷ (Ends message_edge ∷ [])) =
     second ∙ (ap (λ ps. ps ++ Ends message_edge ∷ []) (first ∙ ap (λ ps. ps ++ Ends root_edge ∷ []) is) ∙ append_assoc (pieces_from inner []) (Ends root_edge ∷ []) (Ends message_edge ∷ [])) in
-    both ∙ (all_closed inner ∙ ap (λ v. pieces_of fragment tables (document v)) same)
+    both ∙ (all_closed inner ∙ ap (λ v. pieces_of fragment drill_tables (document v)) same)

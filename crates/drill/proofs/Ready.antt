@@ -1,13 +1,13 @@
 -- The built-in message breaks no rule.
 use Rattle.reference_check.specs.Graph.{Place}
-use Rattle.message_model.specs.Ready.{MessageRule, OnObjects, BadFacets, BadPattern, BreaksRule, IsReady}
+use Rattle.message_model.specs.Ready.{MessageRule, OnObjects, BadFacets, BadPattern, BreaksMessageRule, IsReady}
 use Rattle.reference_check.specs.Rules as rules
 use Rattle.drill.specs.BuiltIn.{contents, message_id}
 use Rattle.drill.proofs.ReachedPlaces.{IsPlace, among}
 use Rattle.drill.proofs.StructureRules.{is_there, is_one, entries_there, no_set, one_each, good_names, tags_differ, good_bounds, no_optional, no_alternatives, not_endless}
 use Rattle.drill.proofs.OtherRules.{no_codes, not_left_out, good_facets, no_pattern, names_differ, not_many}
 
-none_broken : (r : MessageRule) (p : Place) → IsPlace p → BreaksRule contents message_id r p → ⊥
+none_broken : (r : MessageRule) (p : Place) → IsPlace p → BreaksMessageRule contents message_id r p → ⊥
 none_broken (OnObjects rules.NoMessage) p at = is_there p
 none_broken (OnObjects rules.TwoMessages) p at = is_one p
 none_broken (OnObjects rules.Dangling) p at = entries_there p at

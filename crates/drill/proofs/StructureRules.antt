@@ -10,9 +10,9 @@ use Rattle.reference_check.specs.Graph.{Place, message, entry, references, graph
 use Rattle.reference_check.specs.Reach.{elements_of}
 use Rattle.reference_check.specs.Rules.{Breaks, OfObject, HasNoEntry, UpToMax, own_names}
 use Rattle.reference_check.specs.Rules as rules
-use Rattle.reference_check.specs.Names.{is_name}
+use Rattle.reference_check.specs.Names.{is_profile_name}
 use Rattle.reference_check.specs.Shapes.{Component, OpenLeaf, Nothing, Child, HasShape, IsFinite}
-use Rattle.reference_check.specs.Words.{IsSequence, IsWithin, times}
+use Rattle.reference_check.specs.Words.{IsSequence, MayComeTimes, times}
 use Rattle.drill.specs.BuiltIn.{contents, message_id, node_id, text_object, node_object, name_element, child_element, node_block}
 use Rattle.drill.proofs.ReachedPlaces.{of_one, IsPlace, at_message, at_text, at_node, no_currency, of_object}
 
@@ -59,13 +59,13 @@ no_set p at (id, o, is, found, other) = (let without = no_currency p at in cc)
 pub one_each : (p : Place) → IsPlace p → Breaks contents message_id rules.NotOneReference p → ⊥
 one_each p at (e, inside, other) = (let i = is_good p at e inside in other i.one)
 
-are_names : (p : Place) → IsPlace p → AllByRecursion (λ name. is_name name ≡ true) (own_names contents message_id p ++ map (λ (e : ElementDef). e.tag) (elements_of contents message_id p))
+are_names : (p : Place) → IsPlace p → AllByRecursion (λ name. is_profile_name name ≡ true) (own_names contents message_id p ++ map (λ (e : ElementDef). e.tag) (elements_of contents message_id p))
 are_names p at_message = (refl, (refl, (refl, tt)))
 are_names p at_text = (refl, tt)
 are_names p at_node = (refl, (refl, (refl, tt)))
 
 pub good_names : (p : Place) → IsPlace p → Breaks contents message_id rules.BadName p → ⊥
-good_names p at (name, inside, none) = (let is = of_one (λ x. is_name x ≡ true) _ (are_names p at) name inside in cc)
+good_names p at (name, inside, none) = (let is = of_one (λ x. is_profile_name x ≡ true) _ (are_names p at) name inside in cc)
 
 pub tags_differ : (p : Place) → IsPlace p → Breaks contents message_id rules.TagTwice p → ⊥
 tags_differ p at_message (i, zero, a, b, lt, ga, gb, same) = omega (arith, lt)
@@ -98,16 +98,16 @@ no_alternatives p at = no_choice p at _ (λ o h. h.0)
 -- ---- instances
 
 -- the one slot comes, or the first
-within_one : (a s : Slot Place) → IsWithin 1 a → Some a ≡ Some s → IsWithin 1 s
-within_one a s within same = (let is : a ≡ s = cc in subst (IsWithin 1) is within)
+within_one : (a s : Slot Place) → MayComeTimes 1 a → Some a ≡ Some s → MayComeTimes 1 s
+within_one a s within same = (let is : a ≡ s = cc in subst (MayComeTimes 1) is within)
 
-within_none : (a s : Slot Place) → IsWithin 0 a → Some a ≡ Some s → IsWithin 0 s
-within_none a s within same = (let is : a ≡ s = cc in subst (IsWithin 0) is within)
+within_none : (a s : Slot Place) → MayComeTimes 0 a → Some a ≡ Some s → MayComeTimes 0 s
+within_none a s within same = (let is : a ≡ s = cc in subst (MayComeTimes 0) is within)
 
 node_word : IsSequence (form_slots (graph contents message_id (entry node_id))) (0 ∷ [])
 node_word = record { ordered = (omega arith, omega arith, tt); within = within }
   where
-    within : (k : ℕ) (s : Slot Place) → slice_get (form_slots (graph contents message_id (entry node_id))) k ≡ Some s → IsWithin (times k (0 ∷ [])) s
+    within : (k : ℕ) (s : Slot Place) → slice_get (form_slots (graph contents message_id (entry node_id))) k ≡ Some s → MayComeTimes (times k (0 ∷ [])) s
     within zero s there = within_one _ s (omega arith, omega arith) there
     within (suc zero) s there = within_none _ s (omega arith, tt) there
     within (suc (suc k)) s there = absurd cc
@@ -115,7 +115,7 @@ node_word = record { ordered = (omega arith, omega arith, tt); within = within }
 message_word : IsSequence (form_slots (graph contents message_id message)) (0 ∷ [])
 message_word = record { ordered = (omega arith, omega arith, tt); within = within }
   where
-    within : (k : ℕ) (s : Slot Place) → slice_get (form_slots (graph contents message_id message)) k ≡ Some s → IsWithin (times k (0 ∷ [])) s
+    within : (k : ℕ) (s : Slot Place) → slice_get (form_slots (graph contents message_id message)) k ≡ Some s → MayComeTimes (times k (0 ∷ [])) s
     within zero s there = within_one _ s (omega arith, omega arith) there
     within (suc k) s there = absurd cc
 

@@ -5,11 +5,11 @@ use Rattle.lexical_core.specs.Tree.{Expanded, Nodes, Nothing, Element, Tree, fla
 use Rattle.fragments.specs.Plain.{IsPart, ArePlain, IsPlain}
 use Rattle.lexical_core.specs.Names.{xml_namespace, xmlns_namespace}
 use Rattle.fragments.specs.Fragment.{value_byte, start_text, end_text, nodes_text, fragment}
-use Rattle.markup.specs.Attribute.{Attribute, Piece, Literal}
+use Rattle.markup.specs.Attribute.{Attribute, ValuePiece, Literal}
 use Rattle.markup.specs.Chars.{is_xml_char, is_space, is_name_start, is_name_char}
 use Rattle.markup.specs.Name.{Plain}
 use Rattle.markup.specs.Token.{Token, Declaration, LineEnd, Lf, token_bytes}
-use Rattle.message_model.specs.Writes.{named}
+use Rattle.message_model.specs.Writes.{name_in_namespace}
 use Rattle.respell.specs.ShortTags.{HaveShortTags}
 use Rattle.respell.proofs.Runs.{AllStand, AllShort, stand-append, short-append, tokens-append}
 use Rattle.respell.proofs.Trees.{Stays, fragment_within}
@@ -18,7 +18,7 @@ use Rattle.xml_writer.proofs.TagTexts.{end_is, within_is, root_start_is}
 
 -- ---- the declaration, and the line end behind the root
 
-abbrev field : List ℕ → List Piece → Attribute
+abbrev field : List ℕ → List ValuePiece → Attribute
 field name value = record { gap = 32 ∷ []; name = Plain name; before = []; after = []; quote = 34; value = value }
 
 abbrev declaration : Token
@@ -65,7 +65,7 @@ document_tag_size = refl
 
 module _ (ns : List ℕ) (namespace : IsXmlText ns) (apart : ns ≢ xml_namespace) (no_declaration : ns ≢ xmlns_namespace) (literal : flat_map value_byte ns ≡ ns) (nodes : Nodes) where
   abbrev name : Expanded
-  name = named ns (codes "Document")
+  name = name_in_namespace ns (codes "Document")
 
   abbrev root : Tree
   root = record { name = name; attributes = []; children = nodes }

@@ -18,12 +18,12 @@ use Rattle.lexical_core.specs.Names.{xml_namespace, xmlns_namespace}
 use Rattle.fragments.specs.Fragment.{default_within, start_text, end_text, nodes_text}
 use Rattle.reference_check.specs.Forms.{Graph, Form, Slot, form_slots}
 use Rattle.reference_check.specs.Forms as form
-use Rattle.message_model.specs.Writes.{named, text_nodes}
+use Rattle.message_model.specs.Writes.{name_in_namespace, text_nodes}
 use Rattle.respell.specs.ShortTags.{HaveShortTags}
 use Rattle.xml_writer.specs.CanonXml.{IsLeafText, IsAttributes, start_tag, end_tag, IsContent, AreElements}
 use Rattle.xml_writer.proofs.SpelledLeaves.{text_plain, text_written}
 use Rattle.xml_writer.proofs.TagTexts.{start_is, end_is, within_is}
-use Rattle.drill.specs.BuiltIn.{text_type}
+use Rattle.drill.specs.BuiltIn.{drill_text_type}
 use Rattle.drill.proofs.Bulks.{bulk, bulks}
 
 -- ---- texts
@@ -76,7 +76,7 @@ HaveShortParts slots = AllByRecursion (λ s. IsShortPart s.tag) slots
 -- a sequence of elements with short tags, or a text
 abbrev pub IsFormOfNodes : Form ℕ Simple → Type 0
 IsFormOfNodes (form.Sequence slots) = HaveShortParts slots
-IsFormOfNodes (form.Simple simple) = simple ≡ text_type
+IsFormOfNodes (form.Simple simple) = simple ≡ drill_text_type
 IsFormOfNodes form.Missing = Unit {0}
 IsFormOfNodes f = ⊥
 
@@ -116,10 +116,10 @@ module _ (g : Graph ℕ Simple) (known : (p : ℕ) → IsFormOfNodes (g p)) (ns 
     pub short : HaveShortTags limit (Some ns) nodes
     pub within : length text + round ≤ size
 
-  pub tag_plain : (tag : List ℕ) → IsPart tag → IsPlainName (named ns tag)
+  pub tag_plain : (tag : List ℕ) → IsPart tag → IsPlainName (name_in_namespace ns tag)
   tag_plain tag part = record { local = part; namespace = namespace; no_declaration = no_declaration }
 
-  leaf_nodes : (leaf : Leaf) (text : List ℕ) → IsLeafText text_type leaf text → AreNodes text 64 (bulk (value.Simple leaf))
+  leaf_nodes : (leaf : Leaf) (text : List ℕ) → IsLeafText drill_text_type leaf text → AreNodes text 64 (bulk (value.Simple leaf))
   leaf_nodes (Bytes bytes) text (chars, (all, spelled), e) = record {
     nodes = text_nodes chars;
     text_is = text_written (Some ns) chars ∙ sym e;
@@ -135,7 +135,7 @@ module _ (g : Graph ℕ Simple) (known : (p : ℕ) → IsFormOfNodes (g p)) (ns 
   element_nodes : (tag a inner one more text : List ℕ) (size sizes : ℕ) → IsShortPart tag → a ≡ [] → one ≡ start_tag tag a ++ (inner ++ end_tag tag) → text ≡ one ++ more
       → AreNodes inner 64 size → AreNodes more 0 sizes → AreNodes text 0 (size + sizes)
   element_nodes tag a inner one more text size sizes tag_short none one_is text_is x ys =
-      let name = named ns tag in
+      let name = name_in_namespace ns tag in
       let start : start_text (Some ns) name [] ≡ start_tag tag [] = start_is ns apart tag [] [] (inl (refl, refl)) in
       let end : end_text name ≡ end_tag tag = end_is ns apart tag in
       let within : default_within (Some ns) name ≡ Some ns = within_is ns apart (Some ns) tag in

@@ -3,11 +3,11 @@ use Rattle.std.proofs.Common.{◌≡◌, inl, ℕ, zero, suc, ◌+◌, ◌≤◌
 use Rattle.data_types.specs.Value.{Value}
 use Rattle.data_types.proofs.VisibleTexts.{AreVisible}
 use Rattle.markup.specs.Marks.{tag_limit}
-use Rattle.message_model.specs.Tables.{types_of, namespace_of, message_of}
+use Rattle.message_model.specs.Tables.{types_of, message_namespace, message_of}
 use Rattle.xml_writer.specs.CanonXml.{start_tag, end_tag, xml_declaration, namespace_text, IsCanonXml}
 use Rattle.xml_writer.specs.SpellingLaw.{HasNoLongTag}
 use Rattle.xml_writer.proofs.MessageNames.{namespace_visible, visible_xml, visible_literal, not_xml_namespace, not_xmlns_namespace}
-use Rattle.drill.specs.BuiltIn.{message_id, tables}
+use Rattle.drill.specs.BuiltIn.{message_id, drill_tables}
 use Rattle.drill.specs.Growing.{instance}
 use Rattle.drill.specs.Drilled.{XmlIsReadable}
 use Rattle.drill.proofs.Bulks.{bulk}
@@ -34,7 +34,7 @@ child_short : IsShortPart (codes "Chld")
 unfolding lib.Utf8.encode
 child_short = record { part = record { first = 67; others = codes "hld"; start = inl (omega arith, omega arith); more = search rules; spelled = refl }; short = omega arith }
 
-types_known : (p : ℕ) → IsFormOfNodes (types_of tables p)
+types_known : (p : ℕ) → IsFormOfNodes (types_of drill_tables p)
 types_known zero = (tree_short, tt)
 types_known (suc zero) = (block_short, tt)
 types_known (suc (suc zero)) = refl
@@ -44,7 +44,7 @@ types_known (suc (suc (suc (suc p)))) = tt
 -- ---- the namespace
 
 abbrev namespace : List ℕ
-namespace = namespace_of tables
+namespace = message_namespace drill_tables
 
 visible : AreVisible namespace
 visible = namespace_visible message_id refl
@@ -83,14 +83,14 @@ document_within own content size within none =
     let d = length-append content end in
     omega arith
 
-pub canonical_readable : (v : Value) (bytes : List ℕ) → IsCanonXml (message_of tables) v bytes → IsReadable bytes (bulk v + 256)
+pub canonical_readable : (v : Value) (bytes : List ℕ) → IsCanonXml (message_of drill_tables) v bytes → IsReadable bytes (bulk v + 256)
 canonical_readable v bytes (root, (attributes, content, (own, none, attributes_is), content_is, root_is), bytes_is) =
     let xml = visible_xml namespace visible in
     let apart = not_xml_namespace message_id in
     let undeclared = not_xmlns_namespace message_id in
     let literal = visible_literal namespace visible in
     let size = namespace_size in
-    let x = content_nodes (types_of tables) types_known namespace xml apart undeclared tag_limit (omega arith) (types_of tables 0) (types_known 0) v content content_is in
+    let x = content_nodes (types_of drill_tables) types_known namespace xml apart undeclared tag_limit (omega arith) (types_of drill_tables 0) (types_known 0) v content content_is in
     let within = x.within in
     let r = document_tokens namespace xml apart undeclared literal x.nodes tag_limit content (omega arith) x.text_is x.plain x.short in
     let whole : bytes ≡ xml_declaration ++ ((start_tag (codes "Document") (namespace_text namespace ++ own) ++ (content ++ end_tag (codes "Document"))) ++ codes "\n") =

@@ -87,8 +87,8 @@ contents = record {
 
 -- ---- the compiled message
 
-abbrev pub text_type : Simple
-text_type = record {
+abbrev pub drill_text_type : Simple
+drill_text_type = record {
   kind = kind.Text;
   min = 1;
   max = Some 35;
@@ -114,8 +114,8 @@ abbrev pub type_entries : List TypeEntry
 type_entries =
     record { word = codes "Document"; name = codes "Document"; form = form.Sequence document_slots }
     ∷ (record { word = codes "Message"; name = codes "TreeV01"; form = form.Sequence message_slots }
-    ∷ (record { word = codes "Text"; name = codes "Max35Text"; form = form.Simple text_type }
+    ∷ (record { word = codes "Text"; name = codes "Max35Text"; form = form.Simple drill_text_type }
     ∷ (record { word = codes "MessageComponent"; name = codes "Node1"; form = form.Sequence node_slots } ∷ [])))
 
-abbrev pub tables : Tables
-tables = record { id = message_id; types = type_entries }
+abbrev pub drill_tables : Tables
+drill_tables = record { id = message_id; types = type_entries }

@@ -9,7 +9,7 @@ use Rattle.der_model.specs.Der.{SpellsDer, der_of}
 use Rattle.xml_instances.specs.SpellsXml.{SpellsXml}
 use Rattle.xml_writer.specs.CanonXml.{IsCanonXml}
 use Rattle.xml_writer.specs.SpellingLaw.{HasNoLongTag}
-use Rattle.drill.specs.BuiltIn.{contents, message_id, tables, text_id, node_id}
+use Rattle.drill.specs.BuiltIn.{contents, message_id, drill_tables, text_id, node_id}
 use Rattle.drill.specs.Growing.{instance, deepest, most_beside}
 use Rattle.drill.specs.declared.drilling.Drilled.{Drilled}
 
@@ -17,8 +17,8 @@ use Rattle.drill.specs.declared.drilling.Drilled.{Drilled}
 pub record IsDrilled (number size : ℕ) (d : Drilled) : Type 0 where
   pub nodes : d.nodes ≡ size + 1
   pub depth : d.depth ≡ deepest number size
-  pub xml : (text : List ℕ) × IsCanonXml (message_of tables) (instance number size) text × (d.xml ≡ length text)
-  pub der : d.der ≡ length (der_of (der_message tables) (instance number size))
+  pub xml : (text : List ℕ) × IsCanonXml (message_of drill_tables) (instance number size) text × (d.xml ≡ length text)
+  pub der : d.der ≡ length (der_of (der_message drill_tables) (instance number size))
 
 -- ---- laws
 
@@ -26,20 +26,20 @@ pub record IsDrilled (number size : ℕ) (d : Drilled) : Type 0 where
 pub record IsTreeCompiled : Type 0 where
   pub ready : IsReady contents message_id
   pub reached : IsReachedList contents message_id (text_id ∷ (node_id ∷ []))
-  pub compiles : Compiles contents message_id (text_id ∷ (node_id ∷ [])) tables
+  pub compiles : Compiles contents message_id (text_id ∷ (node_id ∷ [])) drill_tables
 
 -- the message admits the instance
 abbrev pub IsAdmitted : Type 0
-IsAdmitted = (number size : ℕ) → size ≤ most_beside → AdmitsAs (types_of tables) (types_of tables 0) (instance number size)
+IsAdmitted = (number size : ℕ) → size ≤ most_beside → AdmitsAs (types_of drill_tables) (types_of drill_tables 0) (instance number size)
 
 -- its canonical XML, and its DER, can be read: no tag is too long, and neither has more bytes than an instance has at most
 abbrev pub XmlIsReadable : Type 0
-XmlIsReadable = (number size : ℕ) (text : List ℕ) → size ≤ most_beside → IsCanonXml (message_of tables) (instance number size) text → HasNoLongTag text × (length text ≤ 2 ^ 40)
+XmlIsReadable = (number size : ℕ) (text : List ℕ) → size ≤ most_beside → IsCanonXml (message_of drill_tables) (instance number size) text → HasNoLongTag text × (length text ≤ 2 ^ 40)
 
 abbrev pub DerIsReadable : Type 0
-DerIsReadable = (number size : ℕ) → size ≤ most_beside → length (der_of (der_message tables) (instance number size)) ≤ 2 ^ 40
+DerIsReadable = (number size : ℕ) → size ≤ most_beside → length (der_of (der_message drill_tables) (instance number size)) ≤ 2 ^ 40
 
 -- both forms are read back as the instance
 abbrev pub BothComeBack : Type 0
-BothComeBack = (number size : ℕ) (text : List ℕ) → size ≤ most_beside → IsCanonXml (message_of tables) (instance number size) text
-    → SpellsXml (message_of tables) text (instance number size) × SpellsDer (der_message tables) (der_of (der_message tables) (instance number size)) (instance number size)
+BothComeBack = (number size : ℕ) (text : List ℕ) → size ≤ most_beside → IsCanonXml (message_of drill_tables) (instance number size) text
+    → SpellsXml (message_of drill_tables) text (instance number size) × SpellsDer (der_message drill_tables) (der_of (der_message drill_tables) (instance number size)) (instance number size)

@@ -12,8 +12,8 @@ abbrev pub most_beside : ℕ
 most_beside = 1000000
 
 -- the name of a node by its number
-abbrev pub name_of : ℕ → List ℕ
-name_of number = codes "n" ++ decimal number
+abbrev pub node_name : ℕ → List ℕ
+node_name number = codes "n" ++ decimal number
 
 -- the nodes below one, each in slot 1
 abbrev pub below : List Value → Children
@@ -22,7 +22,7 @@ below (v ∷ vs) = Child 1 v (below vs)
 
 -- a node: its name in slot 0, and the nodes below it
 abbrev pub node : ℕ → List Value → Value
-node number values = Component (Child 0 (Simple (Bytes (name_of number))) (below values))
+node number values = Component (Child 0 (Simple (Bytes (node_name number))) (below values))
 
 -- a node that is open: its number, and the nodes below it so far
 pub record OpenNode : Type 0 where
@@ -42,8 +42,8 @@ pub record Path : Type 0 where
   pub outers : List OpenNode
 
 -- how many nodes are open
-abbrev pub depth_of : Path → ℕ
-depth_of p = suc (length p.outers)
+abbrev pub path_depth : Path → ℕ
+path_depth p = suc (length p.outers)
 
 -- the innermost is left, but not the last that is open
 abbrev pub path_outside_from : OpenNode → List OpenNode → Path
@@ -58,8 +58,8 @@ path_after zero p = p
 path_after (suc n) p = path_after n (path_outside p)
 
 -- a node opens below the innermost
-abbrev pub under : ℕ → Path → Path
-under number p = record { inner = open_node number; outers = p.inner ∷ p.outers }
+abbrev pub path_under : ℕ → Path → Path
+path_under number p = record { inner = open_node number; outers = p.inner ∷ p.outers }
 
 -- what has grown: the open nodes, the greatest depth so far, and the generator of words
 pub record Growth : Type 0 where
@@ -74,8 +74,8 @@ first_growth generator = record { path = record { inner = open_node 0; outers = 
 -- the next word says how many nodes are left before the next opens
 abbrev pub next_growth : ℕ → Growth → Growth
 next_growth number g =
-    let path = under number (path_after ((pcg32 g.generator).0 % 3) g.path) in
-    record { path = path; deepest = max g.deepest (depth_of path); generator = (pcg32 g.generator).1 }
+    let path = path_under number (path_after ((pcg32 g.generator).0 % 3) g.path) in
+    record { path = path; deepest = max g.deepest (path_depth path); generator = (pcg32 g.generator).1 }
 
 -- so many nodes have opened beside node 0
 abbrev pub growth_of : ℕ → Lcg → Growth

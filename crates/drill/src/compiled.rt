@@ -1,6 +1,6 @@
 // The built-in message, compiled.
 ghost use Rattle.std.specs.Prelude.{◌≡◌, IfOk};
-ghost use Rattle.drill.specs.BuiltIn.{message_id, tables};
+ghost use Rattle.drill.specs.BuiltIn.{message_id, drill_tables};
 
 use crate::built_in::repository;
 use message_model::{Model, ReadyError};
@@ -9,7 +9,7 @@ use std::alloc::{AllocError, Global};
 
 /// The compiled types of the built-in message.
 pub(crate) fn compiled(alloc: Global) -> Result<Model, AllocError>
-    ensures { IfOk result (λ model. model ≡ tables) }
+    ensures { IfOk result (λ model. model ≡ drill_tables) }
 {
     crate::laws::the_message_is_compiled();
     message_model::laws::ready_is_not_refused();

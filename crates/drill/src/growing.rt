@@ -3,7 +3,7 @@ ghost use Rattle.std.specs.Prelude.{◌≡◌, ◌+◌, ◌<◌, ◌≤◌, ◌^
 ghost use Rattle.rand_pcg.specs.Lcg.{Lcg};
 ghost use Rattle.fragments.specs.Fragment.{fragment};
 ghost use Rattle.message_model.specs.Tables.{pieces_of};
-ghost use Rattle.drill.specs.BuiltIn.{tables};
+ghost use Rattle.drill.specs.BuiltIn.{drill_tables};
 ghost use Rattle.drill.specs.Growing.{Growth, first_growth, next_growth, growth_of, generator_of, tree_of, document, instance, deepest, most_beside};
 ghost use Rattle.drill.specs.inner.PathPieces.{HasGrown};
 
@@ -35,7 +35,7 @@ pub(crate) struct Sprout {
 /// The instance of two numbers, of at most 1,000,000 nodes beside the first.
 pub(crate) fn grow(alloc: Global, number: u64, size: u32) -> Result<Grown, AllocError>
     requires { size ≤ most_beside }
-    ensures { IfOk result (λ g. (g.instance.region.pieces ≡ pieces_of fragment tables (instance number size)) × (g.depth ≡ deepest number size)) }
+    ensures { IfOk result (λ g. (g.instance.region.pieces ≡ pieces_of fragment drill_tables (instance number size)) × (g.depth ≡ deepest number size)) }
 {
     let mut sprout = Sprout::sow(alloc, number, size)?;
     sprout.grow_all(size)?;
@@ -89,7 +89,7 @@ impl Sprout {
     /// All nodes close, and the message's element.
     fn finish(self) -> Result<Grown, AllocError>
         requires { (g : Growth) × HasGrown g self }
-        ensures { (g : Growth) → HasGrown g self → IfOk result (λ r. (r.instance.region.pieces ≡ pieces_of fragment tables (document (tree_of g.path))) × (r.depth ≡ g.deepest)) }
+        ensures { (g : Growth) → HasGrown g self → IfOk result (λ r. (r.instance.region.pieces ≡ pieces_of fragment drill_tables (document (tree_of g.path))) × (r.depth ≡ g.deepest)) }
     {
         let Sprout { stem, deepest, .. } = self;
         let instance = stem.finish()?;

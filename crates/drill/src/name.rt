@@ -1,12 +1,12 @@
 // The name of a node.
 ghost use Rattle.std.specs.Prelude.{◌≡◌, OnOk};
-ghost use Rattle.drill.specs.Growing.{name_of};
+ghost use Rattle.drill.specs.Growing.{node_name};
 
 use std::alloc::AllocError;
 
 /// Puts the name of a node in the place of what was there.
 pub(crate) fn write_name(name: &mut Vec<u8>, number: u32) -> Result<(), AllocError>
-    ensures { OnOk result (name.new.items ≡ name_of number) }
+    ensures { OnOk result (name.new.items ≡ node_name number) }
 {
     name.clear();
     name.extend_from_slice(b"n".as_slice())?;

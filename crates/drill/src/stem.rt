@@ -5,9 +5,9 @@ ghost use Rattle.data_types.specs.Value.{Begins, Holds, Ends};
 ghost use Rattle.data_types.specs.LeafAnswers.{leaf_of};
 ghost use Rattle.fragments.specs.Fragment.{fragment};
 ghost use Rattle.message_model.specs.Tables.{pieces_of};
-ghost use Rattle.drill.specs.BuiltIn.{tables};
+ghost use Rattle.drill.specs.BuiltIn.{drill_tables};
 ghost use Rattle.inst_pool.specs.Pieces.{open_in};
-ghost use Rattle.drill.specs.Growing.{Path, path_outside, path_after, under, name_of, tree_of, document};
+ghost use Rattle.drill.specs.Growing.{Path, path_outside, path_after, path_under, node_name, tree_of, document};
 ghost use Rattle.drill.specs.inner.PathPieces.{HasPath, name_edge, first_path};
 
 use data_types::LeafRef;
@@ -61,7 +61,7 @@ pub(crate) struct Stem {
 impl Stem {
     /// Node 0 is open, and there is room for so many beside it.
     pub(crate) fn sow(alloc: Global, name: &[u8], size: u32) -> Result<Stem, AllocError>
-        requires { name.now ≡ name_of 0 }
+        requires { name.now ≡ node_name 0 }
         ensures { IfOk result (λ s. HasPath first_path s) }
     {
         let mut builder = roomy_builder(alloc, size)?;
@@ -101,8 +101,8 @@ impl Stem {
     pub(crate) fn open(&mut self, number: u32, name: &[u8]) -> Result<(), AllocError>
         requires path { (p : Path) × HasPath p self.old }
         requires room { self.old.depth + 1 < 2 ^ 32 }
-        requires name { name.now ≡ name_of number }
-        ensures { (p : Path) → HasPath p self.old → OnOk result (HasPath (under number p) self.new) }
+        requires name { name.now ≡ node_name number }
+        ensures { (p : Path) → HasPath p self.old → OnOk result (HasPath (path_under number p) self.new) }
     {
         self.builder.begin(CHILD)?;
         push_name(&mut self.builder, name)?;
@@ -113,7 +113,7 @@ impl Stem {
     /// All nodes close, and the message's element.
     pub(crate) fn finish(mut self) -> Result<Instance, AllocError>
         requires { (p : Path) × HasPath p self }
-        ensures { (p : Path) → HasPath p self → IfOk result (λ i. i.region.pieces ≡ pieces_of fragment tables (document (tree_of p))) }
+        ensures { (p : Path) → HasPath p self → IfOk result (λ i. i.region.pieces ≡ pieces_of fragment drill_tables (document (tree_of p))) }
     {
         // The last that is open is not left, and `builder` closes it.
         let depth = self.depth;

@@ -8,7 +8,7 @@ use Rattle.lexical_core.specs.declared.rule.Rule.{Rule}
 use Rattle.lexical_core.specs.declared.rule.Rule.TheVariants.{BadText, BadLength, Digits}
 use Rattle.data_types.specs.Leaf.{Leaf, Bytes, Code, IsLeaf}
 use Rattle.data_types.specs.LeafAnswers.{IsLeafAnswer}
-use Rattle.data_types.specs.LeafSteps.{HasTaken as HasTakenLeaf, IsShortKind}
+use Rattle.data_types.specs.LeafSteps.{HasTakenLeaf, IsShortKind}
 use Rattle.data_types.specs.declared.kind.Kind.{Kind}
 use Rattle.data_types.specs.declared.kind.Kind.TheVariants as kind
 use Rattle.facets.specs.declared.progress.Progress.{Progress}

@@ -14,7 +14,7 @@ use Rattle.data_types.proofs.CanonicalLemmas.{one_canonical}
 use Rattle.data_types.proofs.LeavesByKind.{flag_leaves}
 use Rattle.facets.specs.declared.simple.Simple.{Simple}
 use Rattle.facets.specs.Checks.{place_count, place_count_by}
-use Rattle.facets.specs.Rules.{IsAsked, Breaks, BreaksFirst, BreaksPattern}
+use Rattle.facets.specs.Rules.{IsAsked, BreaksLeafRule, BreaksFirst, BreaksPattern}
 use Rattle.facets.specs.LeafUnder.{HasXmlCodes, IsCodeAt, IsCanonicalBy, IsNoCode, Fits, BreaksAs, Judges}
 use Rattle.facets.proofs.FitLemmas.{given_fits}
 use Rattle.facets.proofs.OneAnswer.{one_first}
@@ -42,7 +42,7 @@ one_canonical_by k codes leaf a b h g = one_canonical k leaf a b h g
 
 fits_or_breaks : (simple : Simple) (leaf : Leaf) (rule : Rule) → Fits simple leaf → BreaksAs simple leaf rule → ⊥
 fits_or_breaks simple leaf rule (text, own, given) (inl (other, canonical, broken)) =
-    given.sound rule (subst (λ t. Breaks simple t rule) (one_canonical_by simple.kind simple.codes leaf other text canonical own) broken.broken)
+    given.sound rule (subst (λ t. BreaksLeafRule simple t rule) (one_canonical_by simple.kind simple.codes leaf other text canonical own) broken.broken)
 fits_or_breaks simple leaf rule (text, own, given) (inr (none, is)) = no_canonical simple.kind simple.codes leaf text none own
 
 one_broken : (simple : Simple) (leaf : Leaf) (one two : Rule) → BreaksAs simple leaf one → BreaksAs simple leaf two → one ≡ two

@@ -12,7 +12,7 @@ use Rattle.data_types.proofs.LeafLaws.{one_leaf}
 use Rattle.data_types.proofs.CanonicalLemmas.{has_canonical, canonical_spells}
 use Rattle.facets.specs.declared.simple.Simple.{Simple}
 use Rattle.facets.specs.Facets.{HasLength}
-use Rattle.facets.specs.Rules.{IsAsked, Breaks}
+use Rattle.facets.specs.Rules.{IsAsked, BreaksLeafRule}
 use Rattle.facets.specs.LeafUnder.{IsLeafBy, GivesLeaf, IsCanonicalBy, Fits}
 use Rattle.facets.proofs.RuleLemmas.{has_form}
 
@@ -61,7 +61,7 @@ same_asked k codes leaf text own asked other h g ask = asked_date k leaf text ow
 
 -- a rule that one text of a leaf breaks, all its texts break
 same_breaks : (simple : Simple) (leaf : Leaf) (text own : List ℕ) → simple.kind ≢ kind.Text → IsLeaf simple.kind text leaf → IsLeaf simple.kind own leaf
-    → (rule : Rule) → Breaks simple own rule → Breaks simple text rule
+    → (rule : Rule) → BreaksLeafRule simple own rule → BreaksLeafRule simple text rule
 same_breaks simple leaf text own other h g BadText b = absurd (b (has_form simple.kind own leaf g))
 same_breaks simple leaf text own other h g BadLength (has, spelled, is, none) =
     let same : spelled ≡ leaf = one_leaf simple.kind own spelled leaf is g in (

@@ -11,12 +11,12 @@ use Rattle.facets.specs.declared.simple.Simple.{Simple}
 use Rattle.facets.specs.Facets.{HasLength}
 use Rattle.facets.specs.Rules.{BreaksFirst}
 use Rattle.facets.specs.LeafUnder.{GivesLeaf}
-use Rattle.facets.specs.LeafChecks.{IsMeasured, IsMeasureAnswer, limit_by}
+use Rattle.facets.specs.LeafChecks.{IsMeasuredKind, IsMeasureAnswer, limit_by}
 use Rattle.facets.proofs.TextRules.{form_first}
 use Rattle.facets.proofs.RuleLemmas.{no_number_first, number_given, many_digits, out_of_range, octets_given, octets_past}
 
 -- what is within its measure
-pub measured_given : {T : Type 0} (k : Kind) (simple : Simple) (text : List ℕ) (leaf : Leaf) (x : T) → simple.kind ≡ k → IsMeasured k → IsLeaf k text leaf → IsMeasureAnswer simple leaf (Ok x)
+pub measured_given : {T : Type 0} (k : Kind) (simple : Simple) (text : List ℕ) (leaf : Leaf) (x : T) → simple.kind ≡ k → IsMeasuredKind k → IsLeaf k text leaf → IsMeasureAnswer simple leaf (Ok x)
     → GivesLeaf simple text leaf
 measured_given kind.Decimal simple text (Number n) x e is spelled within = number_given simple n text e spelled within.0 within.1
 measured_given kind.Decimal simple text leaf x e is spelled within = absurd spelled
@@ -38,7 +38,7 @@ octets_measured T simple text (Bytes octets) rule e spelled none = absurd none
 octets_measured T simple text leaf rule e spelled none = absurd spelled
 
 -- what is not
-pub measured_broken : (T : Type 0) (k : Kind) (simple : Simple) (text : List ℕ) (leaf : Leaf) (rule : Rule) → simple.kind ≡ k → IsMeasured k → IsLeaf k text leaf
+pub measured_broken : (T : Type 0) (k : Kind) (simple : Simple) (text : List ℕ) (leaf : Leaf) (rule : Rule) → simple.kind ≡ k → IsMeasuredKind k → IsLeaf k text leaf
     → IsMeasureAnswer {T = T} simple leaf (Err rule) → BreaksFirst simple text rule
 measured_broken T kind.Decimal simple text leaf rule e is spelled broken = number_measured T simple text leaf rule e spelled broken
 measured_broken T kind.Binary simple text leaf rule e is spelled broken = octets_measured T simple text leaf rule e spelled broken
@@ -70,7 +70,7 @@ binary_unread simple text Digits e none = let decimal = none.0 in absurd cc
 binary_unread simple text rule e none = absurd none
 
 -- what the reader refuses
-pub measured_unread : (k : Kind) (simple : Simple) (text : List ℕ) (rule : Rule) → simple.kind ≡ k → IsMeasured k
+pub measured_unread : (k : Kind) (simple : Simple) (text : List ℕ) (rule : Rule) → simple.kind ≡ k → IsMeasuredKind k
     → IsLeafAnswer k (limit_by k simple.max simple.codes) text (Err rule) → BreaksFirst simple text rule
 measured_unread kind.Decimal simple text rule e is none = number_unread simple text rule e none
 measured_unread kind.Binary simple text rule e is none = binary_unread simple text rule e none

@@ -16,7 +16,7 @@ use Rattle.data_types.specs.declared.kind.Kind.TheVariants as kind
 use Rattle.data_types.proofs.LeafLaws.{one_leaf}
 use Rattle.facets.specs.declared.simple.Simple.{Simple}
 use Rattle.facets.specs.CodeLists.{AreSorted}
-use Rattle.facets.specs.Rules.{Breaks, BreaksFirst}
+use Rattle.facets.specs.Rules.{BreaksLeafRule, BreaksFirst}
 use Rattle.facets.specs.LeafUnder.{IsCodeAt, IsLeafBy, LeafUnder, HasSortedCodes}
 
 -- ---- the first rule
@@ -25,7 +25,7 @@ use Rattle.facets.specs.LeafUnder.{IsCodeAt, IsLeafBy, LeafUnder, HasSortedCodes
 rule_at : ℕ → Rule
 rule_at n = cond (n == 22) BadText (cond (n == 23) BadLength (cond (n == 24) PatternFails (cond (n == 25) NotACode (cond (n == 26) Digits OutOfRange))))
 
-rule_at-number_of : (simple : Simple) (text : List ℕ) (rule : Rule) → Breaks simple text rule → rule_at (number_of rule) ≡ rule
+rule_at-number_of : (simple : Simple) (text : List ℕ) (rule : Rule) → BreaksLeafRule simple text rule → rule_at (number_of rule) ≡ rule
 unfolding rule_at
 rule_at-number_of simple text BadText b = refl
 rule_at-number_of simple text BadLength b = refl

@@ -3,7 +3,7 @@ use Rattle.std.proofs.Common.{◌≡◌, ◌≢◌, ℕ, ◌<◌, ◌≤◌, inl
 use Rattle.std.specs.Prelude.{◌↔◌, IsTrue, MatchOption}
 use Rattle.std.specs.Str.{chars}
 use Rattle.pattern_match.specs.Reading.{Matches}
-use Rattle.pattern_match.specs.Compiled.{HasRead}
+use Rattle.pattern_match.specs.Compiled.{HasReadWord}
 use Rattle.pattern_match.specs.Recall.{Matching}
 use Rattle.data_types.specs.WhiteSpace.{IsCollapsed}
 use Rattle.data_types.specs.Collapsing.{HasCollapsed}
@@ -42,7 +42,7 @@ date_asked kind.Envelope codes text asked date = absurd date
 date_asked k codes text asked date = (λ h. h, λ h. h)
 
 pub accepts_text : (asked : Asked) (simple : Simple) (text : List ℕ) (matcher : Matching) (pattern : List ℕ) (r : Bool) → asked ≡ Text matcher → simple.pattern ≡ Some pattern
-    → ((w : List ℕ) → HasRead pattern matcher w → IsTrue r ↔ Matches (chars pattern) w) → HasAsked asked simple text
+    → ((w : List ℕ) → HasReadWord pattern matcher w → IsTrue r ↔ Matches (chars pattern) w) → HasAsked asked simple text
     → TellsPattern r simple text
 accepts_text asked simple text matcher pattern r is has test h = from (subst (λ a. HasAsked a simple text) is h)
   where
@@ -50,10 +50,10 @@ accepts_text asked simple text matcher pattern r is has test h = from (subst (λ
     from (text_kind, none, own, e, read) =
         let same : own ≡ pattern = let both : Some own ≡ Some pattern = sym e ∙ has in cc in
         asked_once simple text text pattern r has (asks_text simple.kind simple.codes text text_kind none) (λ other ask. text_asked simple.kind simple.codes text other text_kind ask)
-        (test text (subst (λ p. HasRead p matcher text) same read))
+        (test text (subst (λ p. HasReadWord p matcher text) same read))
 
 pub accepts_collapsed : (asked : Asked) (simple : Simple) (text : List ℕ) (collapse : Collapse) (matcher : Matching) (pattern : List ℕ) (r : Bool)
-    → asked ≡ Collapsed collapse matcher → simple.pattern ≡ Some pattern → ((w : List ℕ) → HasRead pattern matcher w → IsTrue r ↔ Matches (chars pattern) w)
+    → asked ≡ Collapsed collapse matcher → simple.pattern ≡ Some pattern → ((w : List ℕ) → HasReadWord pattern matcher w → IsTrue r ↔ Matches (chars pattern) w)
     → ((t w : List ℕ) → HasCollapsed collapse t w → IsCollapsed t w) → ((t one two : List ℕ) → IsCollapsed t one → IsCollapsed t two → one ≡ two)
     → HasAsked asked simple text → TellsPattern r simple text
 accepts_collapsed asked simple text collapse matcher pattern r is has test finish one_way h = from (subst (λ a. HasAsked a simple text) is h)
@@ -63,30 +63,30 @@ accepts_collapsed asked simple text collapse matcher pattern r is has test finis
         let same : own ≡ pattern = let both : Some own ≡ Some pattern = sym e ∙ has in cc in
         let whole = finish text what collapsed in
         asked_once simple text what pattern r has ((date_asked simple.kind simple.codes text what date).1 whole)
-        (λ other ask. one_way text other what ((date_asked simple.kind simple.codes text other date).0 ask) whole) (test what (subst (λ p. HasRead p matcher what) same read))
+        (λ other ask. one_way text other what ((date_asked simple.kind simple.codes text other date).0 ask) whole) (test what (subst (λ p. HasReadWord p matcher what) same read))
 
 pub takes_collapsed : (asked : Asked) (simple : Simple) (text : List ℕ) (c : ℕ) (collapse after : Collapse) (matcher : Matching) (pattern : List ℕ) (more : List ℕ) (next : Matching)
     → asked ≡ Collapsed collapse matcher → simple.pattern ≡ Some pattern
-    → ((t w : List ℕ) → HasCollapsed collapse t w → HasCollapsed after (t ++ c ∷ []) (w ++ more)) → ((w : List ℕ) → HasRead pattern matcher w → HasRead pattern next (w ++ more))
+    → ((t w : List ℕ) → HasCollapsed collapse t w → HasCollapsed after (t ++ c ∷ []) (w ++ more)) → ((w : List ℕ) → HasReadWord pattern matcher w → HasReadWord pattern next (w ++ more))
     → HasAsked asked simple text → HasAsked (Collapsed after next) simple (text ++ c ∷ [])
 takes_collapsed asked simple text c collapse after matcher pattern more next is has takes reads h = from (subst (λ a. HasAsked a simple text) is h)
   where
     from : HasAsked (Collapsed collapse matcher) simple text → HasAsked (Collapsed after next) simple (text ++ c ∷ [])
     from (date, own, what, e, collapsed, read) =
         let same : own ≡ pattern = let both : Some own ≡ Some pattern = sym e ∙ has in cc in
-        (date, pattern, what ++ more, has, takes text what collapsed, reads what (subst (λ p. HasRead p matcher what) same read))
+        (date, pattern, what ++ more, has, takes text what collapsed, reads what (subst (λ p. HasReadWord p matcher what) same read))
 
 -- the same for more characters at once
 pub takes_codes : (asked : Asked) (simple : Simple) (text codes : List ℕ) (collapse after : Collapse) (matcher : Matching) (pattern : List ℕ) (next : Matching)
     → asked ≡ Collapsed collapse matcher → simple.pattern ≡ Some pattern
-    → ((t w : List ℕ) → HasCollapsed collapse t w → HasRead pattern matcher w → (more : List ℕ) × HasCollapsed after (t ++ codes) more × HasRead pattern next more)
+    → ((t w : List ℕ) → HasCollapsed collapse t w → HasReadWord pattern matcher w → (more : List ℕ) × HasCollapsed after (t ++ codes) more × HasReadWord pattern next more)
     → HasAsked asked simple text → HasAsked (Collapsed after next) simple (text ++ codes)
 takes_codes asked simple text codes collapse after matcher pattern next is has takes h = from (subst (λ a. HasAsked a simple text) is h)
   where
     from : HasAsked (Collapsed collapse matcher) simple text → HasAsked (Collapsed after next) simple (text ++ codes)
     from (date, own, what, e, collapsed, read) =
         let same : own ≡ pattern = let both : Some own ≡ Some pattern = sym e ∙ has in cc in
-        let all = takes text what collapsed (subst (λ p. HasRead p matcher what) same read) in
+        let all = takes text what collapsed (subst (λ p. HasReadWord p matcher what) same read) in
         (date, pattern, all.0, has, all.1, all.2)
 
 -- what was asked of a text that may be too long

@@ -10,7 +10,7 @@ use Rattle.data_types.specs.declared.kind.Kind.TheVariants as kind
 use Rattle.data_types.proofs.LeafLaws.{one_leaf}
 use Rattle.facets.specs.declared.simple.Simple.{Simple}
 use Rattle.facets.specs.Facets.{HasLength, HasDigits, IsInRange}
-use Rattle.facets.specs.Rules.{HasLengths, IsAsked, Breaks, BreaksFirst}
+use Rattle.facets.specs.Rules.{HasLengths, IsAsked, BreaksLeafRule, BreaksFirst}
 use Rattle.facets.specs.LeafUnder.{IsLeafBy, GivesLeaf}
 
 -- what spells a decimal has the form of one
@@ -28,7 +28,7 @@ pub one_number : (text : List ℕ) (m n : DecimalNumber) → IsLeaf kind.Decimal
 one_number text m n h g = let same : Number m ≡ Number n = one_leaf kind.Decimal text (Number m) (Number n) h g in cc
 
 -- the rules that the text of a number can break: one of its digits, and one of its bounds
-pub number_breaks : (simple : Simple) (n : DecimalNumber) (text : List ℕ) → simple.kind ≡ kind.Decimal → IsLeaf kind.Decimal text (Number n) → (rule : Rule) → Breaks simple text rule
+pub number_breaks : (simple : Simple) (n : DecimalNumber) (text : List ℕ) → simple.kind ≡ kind.Decimal → IsLeaf kind.Decimal text (Number n) → (rule : Rule) → BreaksLeafRule simple text rule
     → ((rule ≡ Digits) × (HasDigits simple n → ⊥)) ⊎ ((rule ≡ OutOfRange) × (IsInRange simple n → ⊥))
 number_breaks simple n text e spelled BadText b = absurd (b (subst (λ (k : Kind). HasLeafForm k text) (sym e) (decimal_form text (Number n) spelled)))
 number_breaks simple n text e spelled BadLength b = absurd (subst (λ (k : Kind). HasLengths k simple.codes) e b.0)
@@ -39,7 +39,7 @@ number_breaks simple n text e spelled OutOfRange (decimal, m, is, none) = inr (r
 number_breaks simple n text e spelled rule b = absurd b
 
 -- the rule that the text of octets can break: that of their length
-pub octets_break : (simple : Simple) (octets text : List ℕ) → simple.kind ≡ kind.Binary → IsLeaf kind.Binary text (Bytes octets) → (rule : Rule) → Breaks simple text rule
+pub octets_break : (simple : Simple) (octets text : List ℕ) → simple.kind ≡ kind.Binary → IsLeaf kind.Binary text (Bytes octets) → (rule : Rule) → BreaksLeafRule simple text rule
     → (rule ≡ BadLength) × (HasLength simple (length octets) → ⊥)
 octets_break simple octets text e spelled BadText b = absurd (b (subst (λ (k : Kind). HasLeafForm k text) (sym e) (has_form kind.Binary text (Bytes octets) spelled)))
 octets_break simple octets text e spelled BadLength (has, leaf, is, none) =
@@ -54,7 +54,7 @@ octets_break simple octets text e spelled OutOfRange b = let decimal = b.0 in ab
 octets_break simple octets text e spelled rule b = absurd b
 
 -- a decimal that is no number breaks no rule before that of its digits
-no_less_digits : (simple : Simple) (text : List ℕ) → simple.kind ≡ kind.Decimal → HasLeafForm kind.Decimal text → (rule : Rule) → Breaks simple text rule → 26 ≤ number_of rule
+no_less_digits : (simple : Simple) (text : List ℕ) → simple.kind ≡ kind.Decimal → HasLeafForm kind.Decimal text → (rule : Rule) → BreaksLeafRule simple text rule → 26 ≤ number_of rule
 no_less_digits simple text e form BadText b = absurd (b (subst (λ (k : Kind). HasLeafForm k text) (sym e) form))
 no_less_digits simple text e form BadLength b = absurd (subst (λ (k : Kind). HasLengths k simple.codes) e b.0)
 no_less_digits simple text e form PatternFails (pattern, asked, is, ask, none) = absurd (subst (λ (k : Kind). IsAsked k simple.codes text asked) e ask)

@@ -11,7 +11,7 @@ use Rattle.data_types.specs.Leaf.{Leaf, Bytes, Number, Code, IsTextLeaf, HasLeaf
 use Rattle.data_types.specs.declared.kind.Kind.{Kind}
 use Rattle.data_types.specs.declared.kind.Kind.TheVariants as kind
 use Rattle.facets.specs.declared.simple.Simple.{Simple}
-use Rattle.facets.specs.Rules.{Breaks, BreaksFirst}
+use Rattle.facets.specs.Rules.{BreaksLeafRule, BreaksFirst}
 use Rattle.facets.specs.LeafUnder.{IsLeafBy, LeafUnder}
 
 text_characters : (text : List ℕ) (leaf : Leaf) → IsTextLeaf text leaf → AllByRecursion IsXmlChar text
@@ -20,12 +20,12 @@ text_characters text leaf h = absurd h
 
 module _ (simple : Simple) (text : List ℕ) where
   -- where no rule is the first that is broken, none is broken
-  none_below : ((rule : Rule) → BreaksFirst simple text rule → ⊥) → (n : ℕ) (rule : Rule) → number_of rule < n → Breaks simple text rule → ⊥
+  none_below : ((rule : Rule) → BreaksFirst simple text rule → ⊥) → (n : ℕ) (rule : Rule) → number_of rule < n → BreaksLeafRule simple text rule → ⊥
   none_below lacks zero rule lt b = omega arith
   none_below lacks (suc n) rule lt b = lacks rule (record { broken = b; first = λ other less c. none_below lacks n other (omega arith) c })
 
   -- where no rule is broken, what has the form of the kind spells a leaf
-  spells : (k : Kind) (codes : Option (List (List ℕ))) → simple.kind ≡ k → simple.codes ≡ codes → ((rule : Rule) → Breaks simple text rule → ⊥) → ((leaf : Leaf) → IsLeafBy k codes text leaf → ⊥)
+  spells : (k : Kind) (codes : Option (List (List ℕ))) → simple.kind ≡ k → simple.codes ≡ codes → ((rule : Rule) → BreaksLeafRule simple text rule → ⊥) → ((leaf : Leaf) → IsLeafBy k codes text leaf → ⊥)
       → HasLeafForm k text → ⊥
   spells kind.Decimal codes is has none lacks form = none Digits (is, form, λ number spelled digits. lacks (Number number) spelled)
   spells kind.Text (Some codes) is has none lacks (leaf, spelled) =
@@ -34,5 +34,5 @@ module _ (simple : Simple) (text : List ℕ) where
 
 pub some_answer : (simple : Simple) (text : List ℕ) → ¬ (¬ ((one : Result Leaf Rule) × LeafUnder simple text one))
 some_answer simple text lacks =
-    let none : (rule : Rule) → Breaks simple text rule → ⊥ = λ rule b. none_below simple text (λ first f. lacks (Err first, f)) (suc (number_of rule)) rule (omega arith) b in
+    let none : (rule : Rule) → BreaksLeafRule simple text rule → ⊥ = λ rule b. none_below simple text (λ first f. lacks (Err first, f)) (suc (number_of rule)) rule (omega arith) b in
     none BadText (λ form. spells simple text simple.kind simple.codes refl refl none (λ leaf spelled. lacks (Ok leaf, record { spelled = spelled; sound = none })) form)

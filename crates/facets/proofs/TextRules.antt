@@ -16,7 +16,7 @@ use Rattle.data_types.specs.declared.kind.Kind.{Kind}
 use Rattle.data_types.specs.declared.kind.Kind.TheVariants as kind
 use Rattle.facets.specs.declared.simple.Simple.{Simple}
 use Rattle.facets.specs.Facets.{HasLength}
-use Rattle.facets.specs.Rules.{HasLengths, IsAsked, Breaks, BreaksPattern, BreaksFirst}
+use Rattle.facets.specs.Rules.{HasLengths, IsAsked, BreaksLeafRule, BreaksPattern, BreaksFirst}
 use Rattle.facets.specs.LeafUnder.{IsCodeAt, IsLeafBy, GivesLeaf, IsAnswer}
 use Rattle.facets.specs.LeafChecks.{IsCodeAnswer, limit_by}
 use Rattle.facets.proofs.RuleLemmas.{has_form}
@@ -25,7 +25,7 @@ use Rattle.facets.proofs.RuleLemmas.{has_form}
 pub form_first : (simple : Simple) (text : List ℕ) → (HasLeafForm simple.kind text → ⊥) → BreaksFirst simple text BadText
 form_first simple text none = record { broken = none; first = lesser }
   where
-    lesser : (other : Rule) → number_of other < 22 → Breaks simple text other → ⊥
+    lesser : (other : Rule) → number_of other < 22 → BreaksLeafRule simple text other → ⊥
     lesser BadText lt b = omega (arith, lt)
     lesser BadLength lt b = omega (arith, lt)
     lesser PatternFails lt b = omega (arith, lt)
@@ -37,7 +37,7 @@ form_first simple text none = record { broken = none; first = lesser }
 -- ---- texts without codes
 
 -- the rules that a text can break where there are no codes
-pub text_breaks : (simple : Simple) (text : List ℕ) → simple.kind ≡ kind.Text → simple.codes ≡ None → AllByRecursion IsXmlChar text → (rule : Rule) → Breaks simple text rule
+pub text_breaks : (simple : Simple) (text : List ℕ) → simple.kind ≡ kind.Text → simple.codes ≡ None → AllByRecursion IsXmlChar text → (rule : Rule) → BreaksLeafRule simple text rule
     → ((rule ≡ BadLength) × (HasLength simple (length text) → ⊥)) ⊎ ((rule ≡ PatternFails) × BreaksPattern simple text)
 text_breaks simple text e none characters BadText b =
     absurd (b (subst (λ (k : Kind). HasLeafForm k text) (sym e) (Bytes (encode_utf8_all text), (characters, refl))))
@@ -101,7 +101,7 @@ text_answer simple text (Err rule) e none characters fits matches answer = absur
 
 -- the rule that a text can break where there are codes
 coded_breaks : (simple : Simple) (text : List ℕ) (codes : List (List ℕ)) → simple.kind ≡ kind.Text → simple.codes ≡ Some codes → AllByRecursion IsXmlChar text → (rule : Rule)
-    → Breaks simple text rule → (rule ≡ NotACode) × (Contains codes (encode_utf8_all text) → ⊥)
+    → BreaksLeafRule simple text rule → (rule ≡ NotACode) × (Contains codes (encode_utf8_all text) → ⊥)
 coded_breaks simple text codes e some characters BadText b =
     absurd (b (subst (λ (k : Kind). HasLeafForm k text) (sym e) (Bytes (encode_utf8_all text), (characters, refl))))
 coded_breaks simple text codes e some characters BadLength b =
@@ -141,7 +141,7 @@ no_lengths kind.Binary codes short has = short.no_binary refl
 no_lengths k codes short has = has
 
 -- the rule that the text of a truth value, a date or a time can break
-pub short_breaks : (simple : Simple) (text : List ℕ) (leaf : Leaf) → IsShortKind simple.kind → IsLeaf simple.kind text leaf → (rule : Rule) → Breaks simple text rule
+pub short_breaks : (simple : Simple) (text : List ℕ) (leaf : Leaf) → IsShortKind simple.kind → IsLeaf simple.kind text leaf → (rule : Rule) → BreaksLeafRule simple text rule
     → (rule ≡ PatternFails) × BreaksPattern simple text
 short_breaks simple text leaf short spelled BadText b = absurd (b (has_form simple.kind text leaf spelled))
 short_breaks simple text leaf short spelled BadLength b = absurd (no_lengths simple.kind simple.codes short b.0)

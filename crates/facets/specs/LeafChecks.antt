@@ -11,7 +11,7 @@ use Rattle.facets.specs.LeafUnder.{IsCodeAt}
 use Rattle.facets.specs.Facets.{HasLength}
 use Rattle.facets.specs.Rules.{BreaksPattern, BreaksFirst}
 use Rattle.facets.specs.Checks.{IsLengthAnswer, IsNumberAnswer}
-use Rattle.data_types.specs.LeafSteps.{HasTaken as HasTakenLeaf, kept as kept_by, in_place as in_place_of, room as room_of, spare as spare_of}
+use Rattle.data_types.specs.LeafSteps.{HasTakenLeaf, kept_by_step as kept_by, in_place as in_place_of, room as room_of, spare as spare_of}
 use Rattle.data_types.specs.declared.kind.Kind.{Kind}
 use Rattle.data_types.specs.declared.kind.Kind.TheVariants as kind
 use Rattle.facets.specs.declared.leaf_check.LeafCheck.{LeafCheck}
@@ -63,28 +63,28 @@ pub record HasSeen (progress : Progress) (most : Option ℕ) (simple : Simple) (
   pub limits : IsWithinLimits simple
 
 -- the check is one for the simple type, and was given these characters since it was made or begun anew
-pub record HasTaken (check : LeafCheck) (simple : Simple) (text : List ℕ) : Type 0 where
+pub record HasCheckTaken (check : LeafCheck) (simple : Simple) (text : List ℕ) : Type 0 where
   pub seen : HasSeen check.progress (keep_limit simple) simple text
 
 -- the check was made for the simple type
-abbrev pub IsMadeFor : LeafCheck → Simple → Type 0
-IsMadeFor check simple = (text : List ℕ) × HasTaken check simple text
+abbrev pub IsCheckMadeFor : LeafCheck → Simple → Type 0
+IsCheckMadeFor check simple = (text : List ℕ) × HasCheckTaken check simple text
 
 -- how many bytes a check keeps in memory
-abbrev pub kept : LeafCheck → ℕ
-kept check = kept_by check.progress.step
+abbrev pub check_kept : LeafCheck → ℕ
+check_kept check = kept_by check.progress.step
 
 -- how many it holds in place
-abbrev pub in_place : LeafCheck → ℕ
-in_place check = in_place_of check.progress.step
+abbrev pub check_in_place : LeafCheck → ℕ
+check_in_place check = in_place_of check.progress.step
 
 -- how many it may keep without asking for memory
-abbrev pub room : LeafCheck → ℕ
-room check = room_of check.progress.step
+abbrev pub check_room : LeafCheck → ℕ
+check_room check = room_of check.progress.step
 
 -- how many more it may keep without asking for memory
-abbrev pub spare : LeafCheck → ℕ
-spare check = spare_of check.progress.step
+abbrev pub check_spare : LeafCheck → ℕ
+check_spare check = spare_of check.progress.step
 
 -- the leaf is bytes, which are the code at this place
 abbrev pub IsByteCode : List (List ℕ) → ℕ → Leaf → Type 0
@@ -98,10 +98,10 @@ IsCodeAnswer codes text (Err NotACode) = Contains codes (encode_utf8_all text) �
 IsCodeAnswer codes text (Err rule) = ⊥
 
 -- the kinds whose leaves are measured: a number by its digits and bounds, a binary value by its length
-abbrev pub IsMeasured : Kind → Type 0
-IsMeasured kind.Decimal = Unit {0}
-IsMeasured kind.Binary = Unit {0}
-IsMeasured k = ⊥
+abbrev pub IsMeasuredKind : Kind → Type 0
+IsMeasuredKind kind.Decimal = Unit {0}
+IsMeasuredKind kind.Binary = Unit {0}
+IsMeasuredKind k = ⊥
 
 -- what the measure of a leaf answers
 abbrev pub IsMeasureAnswer : {T : Type 0} → Simple → Leaf → Result T Rule → Type 0

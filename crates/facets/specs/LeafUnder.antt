@@ -12,7 +12,7 @@ use Rattle.data_types.specs.declared.kind.Kind.{Kind}
 use Rattle.data_types.specs.declared.kind.Kind.TheVariants as kind
 use Rattle.facets.specs.declared.simple.Simple.{Simple}
 use Rattle.facets.specs.CodeLists.{AreSorted}
-use Rattle.facets.specs.Rules.{Breaks, BreaksFirst}
+use Rattle.facets.specs.Rules.{BreaksLeafRule, BreaksFirst}
 
 -- the codes of the simple type, where there are any, are sorted
 abbrev pub HasSortedCodes : Simple → Type 0
@@ -35,7 +35,7 @@ IsLeafBy k codes text leaf = IsLeaf k text leaf
 -- the characters spell this leaf, and break no rule
 pub record GivesLeaf (simple : Simple) (text : List ℕ) (leaf : Leaf) : Type 0 where
   pub spelled : IsLeafBy simple.kind simple.codes text leaf
-  pub sound : (rule : Rule) → Breaks simple text rule → ⊥
+  pub sound : (rule : Rule) → BreaksLeafRule simple text rule → ⊥
 
 -- what the characters are under the simple type: the leaf that they spell, or the least rule that they break
 abbrev pub LeafUnder : Simple → List ℕ → Result Leaf Rule → Type 0

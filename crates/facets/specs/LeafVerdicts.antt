@@ -2,7 +2,7 @@
 use Rattle.std.specs.Prelude.{◌≡◌, ℕ, List, Option, Some, None, Result, MatchResult}
 use Rattle.lexical_core.specs.declared.rule.Rule.{Rule}
 use Rattle.data_types.specs.Leaf.{Leaf}
-use Rattle.data_types.specs.LeafSteps.{kept as kept_by, in_place as in_place_of, room as room_of, spare as spare_of}
+use Rattle.data_types.specs.LeafSteps.{kept_by_step as kept_by, in_place as in_place_of, room as room_of, spare as spare_of}
 use Rattle.data_types.specs.declared.kind.Kind.{Kind}
 use Rattle.data_types.specs.declared.kind.Kind.TheVariants as kind
 use Rattle.facets.specs.declared.leaf_verdict.LeafVerdict.{LeafVerdict}
@@ -24,28 +24,28 @@ abbrev pub verdict_limit : Simple → Option ℕ
 verdict_limit simple = verdict_limit_by simple.kind simple.max simple.codes
 
 -- the check is one for the simple type, and was given these characters since it was made or begun anew
-pub record HasTaken (check : LeafVerdict) (simple : Simple) (text : List ℕ) : Type 0 where
+pub record HasVerdictTaken (check : LeafVerdict) (simple : Simple) (text : List ℕ) : Type 0 where
   pub seen : HasSeen check.progress (verdict_limit simple) simple text
 
 -- the check was made for the simple type
-abbrev pub IsMadeFor : LeafVerdict → Simple → Type 0
-IsMadeFor check simple = (text : List ℕ) × HasTaken check simple text
+abbrev pub IsVerdictMadeFor : LeafVerdict → Simple → Type 0
+IsVerdictMadeFor check simple = (text : List ℕ) × HasVerdictTaken check simple text
 
 -- how many bytes a check keeps in memory
-abbrev pub kept : LeafVerdict → ℕ
-kept check = kept_by check.progress.step
+abbrev pub verdict_kept : LeafVerdict → ℕ
+verdict_kept check = kept_by check.progress.step
 
 -- how many it holds in place
-abbrev pub in_place : LeafVerdict → ℕ
-in_place check = in_place_of check.progress.step
+abbrev pub verdict_in_place : LeafVerdict → ℕ
+verdict_in_place check = in_place_of check.progress.step
 
 -- how many it may keep without asking for memory
-abbrev pub room : LeafVerdict → ℕ
-room check = room_of check.progress.step
+abbrev pub verdict_room : LeafVerdict → ℕ
+verdict_room check = room_of check.progress.step
 
 -- how many more it may keep without asking for memory
-abbrev pub spare : LeafVerdict → ℕ
-spare check = spare_of check.progress.step
+abbrev pub verdict_spare : LeafVerdict → ℕ
+verdict_spare check = spare_of check.progress.step
 
 -- what is told of the characters: that they spell a leaf, or the least rule that they break
 abbrev pub IsVerdict : {T : Type 0} → Simple → List ℕ → Result T Rule → Type 0

@@ -1,6 +1,6 @@
 -- What the check of a pattern was asked of so far. Private functions alone cite this.
 use Rattle.std.specs.Prelude.{◌≡◌, ◌⊎◌, ℕ, Bool, true, false, List, length, Some, None}
-use Rattle.pattern_match.specs.Compiled.{HasRead}
+use Rattle.pattern_match.specs.Compiled.{HasReadWord}
 use Rattle.data_types.specs.Collapsing.{HasCollapsed}
 use Rattle.data_types.specs.declared.kind.Kind.{Kind}
 use Rattle.data_types.specs.declared.kind.Kind.TheVariants as kind
@@ -27,10 +27,10 @@ IsDateKind k = Unit {0}
 abbrev pub HasAsked : Asked → Simple → List ℕ → Type 0
 HasAsked Nothing simple text = (simple.pattern ≡ None) ⊎ HasNoPattern simple
 HasAsked (Text matcher) simple text =
-    (simple.kind ≡ kind.Text) × (simple.codes ≡ None) × (pattern : List ℕ) × (simple.pattern ≡ Some pattern) × HasRead pattern matcher text
+    (simple.kind ≡ kind.Text) × (simple.codes ≡ None) × (pattern : List ℕ) × (simple.pattern ≡ Some pattern) × HasReadWord pattern matcher text
 HasAsked (Collapsed collapse matcher) simple text =
     IsDateKind simple.kind × (pattern : List ℕ) × (asked : List ℕ) × (simple.pattern ≡ Some pattern)
-    × HasCollapsed collapse text asked × HasRead pattern matcher asked
+    × HasCollapsed collapse text asked × HasReadWord pattern matcher asked
 
 -- the same, but that it was given some of the characters alone where they are too many for a text
 abbrev pub HasFollowed : Asked → Simple → List ℕ → Type 0

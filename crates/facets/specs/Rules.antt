@@ -61,16 +61,16 @@ BreaksRange simple text =
     (simple.kind ≡ kind.Decimal) × (number : DecimalNumber) × IsLeaf kind.Decimal text (Number number) × (IsInRange simple number → ⊥)
 
 -- the characters break this rule under the simple type
-abbrev pub Breaks : Simple → List ℕ → Rule → Type 0
-Breaks simple text BadText = BreaksForm simple text
-Breaks simple text BadLength = BreaksLength simple text
-Breaks simple text PatternFails = BreaksPattern simple text
-Breaks simple text NotACode = BreaksCodes simple text
-Breaks simple text Digits = BreaksDigits simple text
-Breaks simple text OutOfRange = BreaksRange simple text
-Breaks simple text rule = ⊥
+abbrev pub BreaksLeafRule : Simple → List ℕ → Rule → Type 0
+BreaksLeafRule simple text BadText = BreaksForm simple text
+BreaksLeafRule simple text BadLength = BreaksLength simple text
+BreaksLeafRule simple text PatternFails = BreaksPattern simple text
+BreaksLeafRule simple text NotACode = BreaksCodes simple text
+BreaksLeafRule simple text Digits = BreaksDigits simple text
+BreaksLeafRule simple text OutOfRange = BreaksRange simple text
+BreaksLeafRule simple text rule = ⊥
 
 -- they break this rule, and none of a lesser number
 pub record BreaksFirst (simple : Simple) (text : List ℕ) (rule : Rule) : Type 0 where
-  pub broken : Breaks simple text rule
-  pub first : (other : Rule) → number_of other < number_of rule → Breaks simple text other → ⊥
+  pub broken : BreaksLeafRule simple text rule
+  pub first : (other : Rule) → number_of other < number_of rule → BreaksLeafRule simple text other → ⊥

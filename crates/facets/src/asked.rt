@@ -4,8 +4,8 @@ ghost use Rattle.std.specs.List.{AllByRecursion};
 ghost use Rattle.std.specs.Str.{chars};
 ghost use Rattle.lexical_core.specs.XmlRuns.{IsXmlRun};
 ghost use Rattle.lexical_core.specs.Characters.{IsSpace};
-ghost use Rattle.data_types.specs.Collapsing.{gained, gap_text, HasCollapsed};
-ghost use Rattle.pattern_match.specs.Compiled.{HasRead, IsMadeFor};
+ghost use Rattle.data_types.specs.Collapsing.{gain_of, gap_text, HasCollapsed};
+ghost use Rattle.pattern_match.specs.Compiled.{HasReadWord, IsMadeFor};
 ghost use Rattle.facets.specs.Counts.{HasCounted};
 ghost use Rattle.facets.specs.PatternChecks.{HasAsked, HasFollowed, TellsPattern};
 
@@ -181,8 +181,8 @@ impl Asked {
 /// Takes what the collapsed text gains at the characters of these codes.
 fn take_gains(pattern: &Pattern, collapse: &mut Collapse, matcher: &mut Matcher, codes: &[u8])
     requires { IsMadeFor pattern.now matcher.old }
-    ensures { (text collapsed : List ℕ) → HasCollapsed collapse.old text collapsed → HasRead pattern.now matcher.old collapsed
-        → (more : List ℕ) × HasCollapsed collapse.new (text ++ codes.now) more × HasRead pattern.now matcher.new more }
+    ensures { (text collapsed : List ℕ) → HasCollapsed collapse.old text collapsed → HasReadWord pattern.now matcher.old collapsed
+        → (more : List ℕ) × HasCollapsed collapse.new (text ++ codes.now) more × HasReadWord pattern.now matcher.new more }
 {
     let mut rest = codes;
     while !rest.is_empty() {
@@ -210,8 +210,8 @@ fn take_word(pattern: &Pattern, collapse: &mut Collapse, matcher: &mut Matcher, 
     requires made { IsMadeFor pattern.now matcher.old }
     requires word { AllByRecursion (λ c. IsSpace c → ⊥) word.now }
     ensures made { IsMadeFor pattern.now matcher.new }
-    ensures read { (text collapsed : List ℕ) → HasCollapsed collapse.old text collapsed → HasRead pattern.now matcher.old collapsed
-        → (more : List ℕ) × HasCollapsed collapse.new (text ++ word.now) more × HasRead pattern.now matcher.new more }
+    ensures read { (text collapsed : List ℕ) → HasCollapsed collapse.old text collapsed → HasReadWord pattern.now matcher.old collapsed
+        → (more : List ℕ) × HasCollapsed collapse.new (text ++ word.now) more × HasReadWord pattern.now matcher.new more }
 {
     if word.is_empty() {
         return;
@@ -224,8 +224,8 @@ fn take_word(pattern: &Pattern, collapse: &mut Collapse, matcher: &mut Matcher, 
 fn read_word(pattern: &Pattern, matcher: &mut Matcher, gap: bool, word: &[u8])
     requires { IsMadeFor pattern.now matcher.old }
     ensures made { IsMadeFor pattern.now matcher.new }
-    ensures read { (text : List ℕ) → HasRead pattern.now matcher.old text
-        → HasRead pattern.now matcher.new (text ++ (gap_text gap ++ word.now)) }
+    ensures read { (text : List ℕ) → HasReadWord pattern.now matcher.old text
+        → HasReadWord pattern.now matcher.new (text ++ (gap_text gap ++ word.now)) }
 {
     if gap {
         matcher.step(pattern, ' ');
@@ -236,8 +236,8 @@ fn read_word(pattern: &Pattern, matcher: &mut Matcher, gap: bool, word: &[u8])
 /// Takes what the collapsed text gains at a character.
 fn take_gained(pattern: &Pattern, matcher: &mut Matcher, gain: Collapsed, c: char)
     requires { IsMadeFor pattern.now matcher.old }
-    ensures { (text : List ℕ) → HasRead pattern.now matcher.old text
-        → HasRead pattern.now matcher.new (text ++ gained gain c) }
+    ensures { (text : List ℕ) → HasReadWord pattern.now matcher.old text
+        → HasReadWord pattern.now matcher.new (text ++ gain_of gain c) }
 {
     match gain {
         Collapsed::Nothing => {}

@@ -4,7 +4,7 @@ ghost use Rattle.lexical_core.specs.Characters.{IsXmlChar};
 ghost use Rattle.lexical_core.specs.XmlRuns.{IsXmlRun};
 ghost use Rattle.facets.specs.LeafUnder.{IsAnswer};
 ghost use Rattle.facets.specs.declared.simple.Simple.{Simple as SimpleType};
-ghost use Rattle.facets.specs.LeafChecks.{HasTaken, IsMadeFor, IsWithinLimits, IsHeldWithin, keep_limit, leaf_limit, kept, in_place, room, spare};
+ghost use Rattle.facets.specs.LeafChecks.{HasCheckTaken, IsCheckMadeFor, IsWithinLimits, IsHeldWithin, keep_limit, leaf_limit, check_kept, check_in_place, check_room, check_spare};
 
 use crate::progress::Progress;
 use crate::simple::Simple;
@@ -24,7 +24,7 @@ impl LeafCheck {
     /// where its kind is decimal.
     pub fn new(alloc: Global, simple: &Simple) -> Result<LeafCheck, AllocError>
         requires { IsWithinLimits simple.now }
-        ensures { IfOk result (λ check. HasTaken check simple.now []) }
+        ensures { IfOk result (λ check. HasCheckTaken check simple.now []) }
     {
         Ok(LeafCheck {
             progress: Progress::new(alloc, simple, limit(simple))?,
@@ -33,21 +33,21 @@ impl LeafCheck {
 
     /// Makes room for so many more bytes. Whatever the answer, the check goes on as before.
     pub fn reserve(&mut self, bytes: usize) -> Result<(), AllocError>
-        ensures ok { OnOk result (bytes ≤ spare self.new) }
-        ensures taken { (simple : SimpleType) (text : List ℕ) → HasTaken self.old simple text
-            → HasTaken self.new simple text }
-        ensures room { room self.old ≤ room self.new }
-        ensures kept { kept self.new ≡ kept self.old }
+        ensures ok { OnOk result (bytes ≤ check_spare self.new) }
+        ensures taken { (simple : SimpleType) (text : List ℕ) → HasCheckTaken self.old simple text
+            → HasCheckTaken self.new simple text }
+        ensures room { check_room self.old ≤ check_room self.new }
+        ensures kept { check_kept self.new ≡ check_kept self.old }
     {
         self.progress.reserve(bytes)
     }
 
     /// Makes the check as it was when it was new, with all its room as spare. It takes no memory.
     pub fn restart(&mut self, simple: &Simple)
-        requires { IsMadeFor self.old simple.now }
-        ensures taken { HasTaken self.new simple.now [] }
-        ensures spare { spare self.new ≡ room self.old }
-        ensures room { room self.new ≡ room self.old }
+        requires { IsCheckMadeFor self.old simple.now }
+        ensures taken { HasCheckTaken self.new simple.now [] }
+        ensures spare { check_spare self.new ≡ check_room self.old }
+        ensures room { check_room self.new ≡ check_room self.old }
     {
         self.progress.restart(simple);
     }
@@ -55,13 +55,13 @@ impl LeafCheck {
     /// Takes a character. After want of memory all is as before. It takes no memory while its spare is at least 4.
     pub fn take(&mut self, simple: &Simple, c: char) -> Result<(), AllocError>
         requires char { IsXmlChar c }
-        requires made { IsMadeFor self.old simple.now }
-        ensures ok { OnOk result ((text : List ℕ) → HasTaken self.old simple.now text
-            → HasTaken self.new simple.now (text ++ c ∷ [])) }
+        requires made { IsCheckMadeFor self.old simple.now }
+        ensures ok { OnOk result ((text : List ℕ) → HasCheckTaken self.old simple.now text
+            → HasCheckTaken self.new simple.now (text ++ c ∷ [])) }
         ensures err { OnErr result (self.new ≡ self.old) }
-        ensures within { 4 ≤ spare self.old → IsOk result }
-        ensures spare { spare self.old ≤ spare self.new + 4 }
-        ensures room { room self.old ≤ room self.new }
+        ensures within { 4 ≤ check_spare self.old → IsOk result }
+        ensures spare { check_spare self.old ≤ check_spare self.new + 4 }
+        ensures room { check_room self.old ≤ check_room self.new }
     {
         self.progress.take(simple, c)
     }
@@ -70,23 +70,23 @@ impl LeafCheck {
     /// is at least the bytes of the run and 3.
     pub fn take_run(&mut self, simple: &Simple, run: &[u8], count: usize) -> Result<(), AllocError>
         requires run { IsXmlRun run.now count }
-        requires made { IsMadeFor self.old simple.now }
-        ensures ok { OnOk result ((r : IsXmlRun run.now count) (text : List ℕ) → HasTaken self.old simple.now text
-            → HasTaken self.new simple.now (text ++ r.chars)) }
+        requires made { IsCheckMadeFor self.old simple.now }
+        ensures ok { OnOk result ((r : IsXmlRun run.now count) (text : List ℕ) → HasCheckTaken self.old simple.now text
+            → HasCheckTaken self.new simple.now (text ++ r.chars)) }
         ensures err { OnErr result (self.new ≡ self.old) }
-        ensures within { length run.now + 3 ≤ spare self.old → IsOk result }
-        ensures spare { spare self.old ≤ spare self.new + (length run.now + 3) }
-        ensures room { room self.old ≤ room self.new }
+        ensures within { length run.now + 3 ≤ check_spare self.old → IsOk result }
+        ensures spare { check_spare self.old ≤ check_spare self.new + (length run.now + 3) }
+        ensures room { check_room self.old ≤ check_room self.new }
     {
         self.progress.take_run(simple, run, count)
     }
 
     /// How many bytes are kept: at most four to each character, and no more than those within the limit.
     pub fn kept(&self) -> usize
-        ensures count { result ≡ kept self.now }
-        ensures chars { (simple : SimpleType) (text : List ℕ) → HasTaken self.now simple text
+        ensures count { result ≡ check_kept self.now }
+        ensures chars { (simple : SimpleType) (text : List ℕ) → HasCheckTaken self.now simple text
             → result ≤ 4 * length text }
-        ensures most { (simple : SimpleType) (text : List ℕ) (most : ℕ) → HasTaken self.now simple text
+        ensures most { (simple : SimpleType) (text : List ℕ) (most : ℕ) → HasCheckTaken self.now simple text
             → keep_limit simple ≡ Some most → result ≤ 4 * most }
     {
         self.progress.kept()
@@ -95,8 +95,8 @@ impl LeafCheck {
     /// How many bytes are held for the leaf, in memory and in place: at most four to each character within the
     /// limit, and 64.
     pub fn scratch(&self) -> u64
-        ensures count { result ≡ kept self.now + in_place self.now }
-        ensures bound { (simple : SimpleType) (text : List ℕ) → HasTaken self.now simple text
+        ensures count { result ≡ check_kept self.now + check_in_place self.now }
+        ensures bound { (simple : SimpleType) (text : List ℕ) → HasCheckTaken self.now simple text
             → IsHeldWithin (leaf_limit simple) (length text) result }
     {
         self.progress.kept() as u64 + self.progress.in_place() as u64
@@ -106,8 +106,8 @@ impl LeafCheck {
     /// they have not the form of the kind, `BadLength`, `PatternFails`, `NotACode`, `Digits`, `OutOfRange`. It takes
     /// no memory.
     pub fn finish(&self, simple: &Simple) -> Result<LeafRef<'_>, Rule>
-        requires { IsMadeFor self.now simple.now }
-        ensures { (text : List ℕ) → HasTaken self.now simple.now text → IsAnswer simple.now text result }
+        requires { IsCheckMadeFor self.now simple.now }
+        ensures { (text : List ℕ) → HasCheckTaken self.now simple.now text → IsAnswer simple.now text result }
     {
         self.progress.leaf(simple)
     }

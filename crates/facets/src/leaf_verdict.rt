@@ -4,7 +4,7 @@ ghost use Rattle.lexical_core.specs.Characters.{IsXmlChar};
 ghost use Rattle.lexical_core.specs.XmlRuns.{IsXmlRun};
 ghost use Rattle.facets.specs.declared.simple.Simple.{Simple as SimpleType};
 ghost use Rattle.facets.specs.LeafChecks.{IsWithinLimits, IsHeldWithin, leaf_limit};
-ghost use Rattle.facets.specs.LeafVerdicts.{HasTaken, IsMadeFor, IsVerdict, IsFreeText, verdict_limit, kept, in_place, room, spare};
+ghost use Rattle.facets.specs.LeafVerdicts.{HasVerdictTaken, IsVerdictMadeFor, IsVerdict, IsFreeText, verdict_limit, verdict_kept, verdict_in_place, verdict_room, verdict_spare};
 
 use crate::leaf_check::limit;
 use crate::progress::Progress;
@@ -25,7 +25,7 @@ impl LeafVerdict {
     /// where its kind is decimal.
     pub fn new(alloc: Global, simple: &Simple) -> Result<LeafVerdict, AllocError>
         requires { IsWithinLimits simple.now }
-        ensures { IfOk result (λ check. HasTaken check simple.now []) }
+        ensures { IfOk result (λ check. HasVerdictTaken check simple.now []) }
     {
         Ok(LeafVerdict {
             progress: Progress::new(alloc, simple, verdict_limit(simple))?,
@@ -34,10 +34,10 @@ impl LeafVerdict {
 
     /// Makes the check as it was when it was new, with all its room as spare. It takes no memory.
     pub fn restart(&mut self, simple: &Simple)
-        requires { IsMadeFor self.old simple.now }
-        ensures taken { HasTaken self.new simple.now [] }
-        ensures spare { spare self.new ≡ room self.old }
-        ensures room { room self.new ≡ room self.old }
+        requires { IsVerdictMadeFor self.old simple.now }
+        ensures taken { HasVerdictTaken self.new simple.now [] }
+        ensures spare { verdict_spare self.new ≡ verdict_room self.old }
+        ensures room { verdict_room self.new ≡ verdict_room self.old }
     {
         self.progress.restart(simple);
     }
@@ -45,13 +45,13 @@ impl LeafVerdict {
     /// Takes a character. After want of memory all is as before. It takes no memory while its spare is at least 4.
     pub fn take(&mut self, simple: &Simple, c: char) -> Result<(), AllocError>
         requires char { IsXmlChar c }
-        requires made { IsMadeFor self.old simple.now }
-        ensures ok { OnOk result ((text : List ℕ) → HasTaken self.old simple.now text
-            → HasTaken self.new simple.now (text ++ c ∷ [])) }
+        requires made { IsVerdictMadeFor self.old simple.now }
+        ensures ok { OnOk result ((text : List ℕ) → HasVerdictTaken self.old simple.now text
+            → HasVerdictTaken self.new simple.now (text ++ c ∷ [])) }
         ensures err { OnErr result (self.new ≡ self.old) }
-        ensures within { 4 ≤ spare self.old → IsOk result }
-        ensures spare { spare self.old ≤ spare self.new + 4 }
-        ensures room { room self.old ≤ room self.new }
+        ensures within { 4 ≤ verdict_spare self.old → IsOk result }
+        ensures spare { verdict_spare self.old ≤ verdict_spare self.new + 4 }
+        ensures room { verdict_room self.old ≤ verdict_room self.new }
     {
         self.progress.take(simple, c)
     }
@@ -60,13 +60,13 @@ impl LeafVerdict {
     /// is at least the bytes of the run and 3.
     pub fn take_run(&mut self, simple: &Simple, run: &[u8], count: usize) -> Result<(), AllocError>
         requires run { IsXmlRun run.now count }
-        requires made { IsMadeFor self.old simple.now }
-        ensures ok { OnOk result ((r : IsXmlRun run.now count) (text : List ℕ) → HasTaken self.old simple.now text
-            → HasTaken self.new simple.now (text ++ r.chars)) }
+        requires made { IsVerdictMadeFor self.old simple.now }
+        ensures ok { OnOk result ((r : IsXmlRun run.now count) (text : List ℕ) → HasVerdictTaken self.old simple.now text
+            → HasVerdictTaken self.new simple.now (text ++ r.chars)) }
         ensures err { OnErr result (self.new ≡ self.old) }
-        ensures within { length run.now + 3 ≤ spare self.old → IsOk result }
-        ensures spare { spare self.old ≤ spare self.new + (length run.now + 3) }
-        ensures room { room self.old ≤ room self.new }
+        ensures within { length run.now + 3 ≤ verdict_spare self.old → IsOk result }
+        ensures spare { verdict_spare self.old ≤ verdict_spare self.new + (length run.now + 3) }
+        ensures room { verdict_room self.old ≤ verdict_room self.new }
     {
         self.progress.take_run(simple, run, count)
     }
@@ -74,10 +74,10 @@ impl LeafVerdict {
     /// How many bytes are held for the leaf, in memory and in place: at most four to each character within the
     /// limit, and 64; of a text without codes none.
     pub fn scratch(&self) -> u64
-        ensures count { result ≡ kept self.now + in_place self.now }
-        ensures bound { (simple : SimpleType) (text : List ℕ) → HasTaken self.now simple text
+        ensures count { result ≡ verdict_kept self.now + verdict_in_place self.now }
+        ensures bound { (simple : SimpleType) (text : List ℕ) → HasVerdictTaken self.now simple text
             → IsHeldWithin (leaf_limit simple) (length text) result }
-        ensures none { (simple : SimpleType) (text : List ℕ) → HasTaken self.now simple text → IsFreeText simple → kept self.now ≡ 0 }
+        ensures none { (simple : SimpleType) (text : List ℕ) → HasVerdictTaken self.now simple text → IsFreeText simple → verdict_kept self.now ≡ 0 }
     {
         self.progress.kept() as u64 + self.progress.in_place() as u64
     }
@@ -85,8 +85,8 @@ impl LeafVerdict {
     /// Whether the characters spell a leaf under the simple type, or the least rule that they break, as
     /// `LeafCheck::finish`. It takes no memory.
     pub fn finish(&self, simple: &Simple) -> Result<(), Rule>
-        requires { IsMadeFor self.now simple.now }
-        ensures { (text : List ℕ) → HasTaken self.now simple.now text → IsVerdict simple.now text result }
+        requires { IsVerdictMadeFor self.now simple.now }
+        ensures { (text : List ℕ) → HasVerdictTaken self.now simple.now text → IsVerdict simple.now text result }
     {
         if is_free_text(simple) {
             return self.progress.check_text(simple);

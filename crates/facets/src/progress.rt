@@ -5,10 +5,10 @@ ghost use Rattle.lexical_core.specs.Characters.{IsXmlChar};
 ghost use Rattle.lexical_core.specs.XmlRuns.{IsXmlRun};
 ghost use Rattle.data_types.specs.declared.kind.Kind.TheVariants as kind;
 ghost use Rattle.data_types.specs.LeafAnswers.{leaf_of};
-ghost use Rattle.data_types.specs.LeafSteps.{HasTaken as HasTakenLeaf, IsShortKind, kept as kept_by, in_place as in_place_of, room as room_of, spare as spare_of};
+ghost use Rattle.data_types.specs.LeafSteps.{HasTakenLeaf, IsShortKind, kept_by_step as kept_by, in_place as in_place_of, room as room_of, spare as spare_of};
 ghost use Rattle.facets.specs.LeafUnder.{IsAnswer};
 ghost use Rattle.facets.specs.CodeLists.{longest_of};
-ghost use Rattle.facets.specs.LeafChecks.{IsCodeAnswer, IsByteCode, IsMeasured, IsMeasureAnswer, IsTextAnswer, HasSeen, IsWithinLimits, keep_limit};
+ghost use Rattle.facets.specs.LeafChecks.{IsCodeAnswer, IsByteCode, IsMeasuredKind, IsMeasureAnswer, IsTextAnswer, HasSeen, IsWithinLimits, keep_limit};
 ghost use Rattle.facets.specs.declared.simple.Simple.{Simple as SimpleType};
 
 use crate::asked::Asked;
@@ -191,7 +191,7 @@ impl Progress {
     /// The answer where the kind is decimal or binary.
     fn measured_leaf(&self, simple: &Simple) -> Result<LeafRef<'_>, Rule>
         requires made { (text : List ℕ) × HasSeen self.now (keep_limit simple.now) simple.now text }
-        ensures { (text : List ℕ) → IsMeasured simple.now.kind → HasSeen self.now (keep_limit simple.now) simple.now text
+        ensures { (text : List ℕ) → IsMeasuredKind simple.now.kind → HasSeen self.now (keep_limit simple.now) simple.now text
             → IsAnswer simple.now text result }
     {
         match self.step.finish() {

@@ -3,7 +3,7 @@ use Rattle.std.specs.Prelude.{ℕ, ◌+◌, Bool, true, false, ◌==◌, ◌||�
 use Rattle.std.specs.List.{flat_map}
 use Rattle.std.specs.Str.{bytes_eq}
 use Rattle.std.specs.Int.Digits.{digits_of}
-use Rattle.lexical_core.specs.Escapes.{escaped, reference_or}
+use Rattle.lexical_core.specs.Escapes.{escape_of, reference_or}
 use Rattle.lexical_core.specs.Tree.{Expanded, Entry, Nodes, Nothing, Element, Text, Tree}
 use Rattle.lexical_core.specs.Names.{xml_namespace, xmlns}
 
@@ -67,19 +67,19 @@ abbrev pub prefix_of : ℕ → List ℕ
 prefix_of number = 97 ∷ map (λ d. 48 + d) (digits_of 10 number)
 
 -- declarations of namespaces, numbered from here
-abbrev pub declarations : ℕ → List (List ℕ) → List Written
-declarations number [] = []
-declarations number (namespace ∷ more) = record { name = record { prefix = xmlns; local = prefix_of number }; value = namespace } ∷ declarations (number + 1) more
+abbrev pub numbered_declarations : ℕ → List (List ℕ) → List Written
+numbered_declarations number [] = []
+numbered_declarations number (namespace ∷ more) = record { name = record { prefix = xmlns; local = prefix_of number }; value = namespace } ∷ numbered_declarations (number + 1) more
 
 -- the number of a namespace among these, numbered from here
-abbrev pub number_of : ℕ → List (List ℕ) → List ℕ → ℕ
-number_of number [] namespace = number
-number_of number (first ∷ more) namespace = if bytes_eq first namespace then number else number_of (number + 1) more namespace
+abbrev pub number_among : ℕ → List (List ℕ) → List ℕ → ℕ
+number_among number [] namespace = number
+number_among number (first ∷ more) namespace = if bytes_eq first namespace then number else number_among (number + 1) more namespace
 
 abbrev pub attribute_prefix : List (List ℕ) → List ℕ → List ℕ
 attribute_prefix namespaces namespace =
     if bytes_eq namespace [] then []
-    else (if is_xml namespace then codes "xml" else prefix_of (number_of 1 namespaces namespace))
+    else (if is_xml namespace then codes "xml" else prefix_of (number_among 1 namespaces namespace))
 
 abbrev pub attribute_written : List (List ℕ) → Entry → Written
 attribute_written namespaces e = record { name = record { prefix = attribute_prefix namespaces e.name.namespace; local = e.name.local }; value = e.value }
@@ -87,7 +87,7 @@ attribute_written namespaces e = record { name = record { prefix = attribute_pre
 -- what a start tag says: the default's declaration, those of prefixes, the attributes
 abbrev pub tag_contents : Option (List ℕ) → Expanded → List Entry → List Written
 tag_contents default name attributes =
-    default_declaration default name ++ (declarations 1 (namespaces_of attributes) ++ map (attribute_written (namespaces_of attributes)) attributes)
+    default_declaration default name ++ (numbered_declarations 1 (namespaces_of attributes) ++ map (attribute_written (namespaces_of attributes)) attributes)
 
 abbrev pub start_text : Option (List ℕ) → Expanded → List Entry → List ℕ
 start_text default name attributes = 60 ∷ spelling_text (element_spelling name) ++ (flat_map written_text (tag_contents default name attributes) ++ 62 ∷ [])
@@ -100,7 +100,7 @@ abbrev pub nodes_text : Option (List ℕ) → Nodes → List ℕ
 nodes_text default Nothing = []
 nodes_text default (Element name attributes children rest) =
     start_text default name attributes ++ (nodes_text (default_within default name) children ++ (end_text name ++ nodes_text default rest))
-nodes_text default (Text char rest) = escaped false char ++ nodes_text default rest
+nodes_text default (Text char rest) = escape_of false char ++ nodes_text default rest
 
 -- the canonical fragment of a tree: no default namespace stands before it
 abbrev pub fragment : Tree → List ℕ

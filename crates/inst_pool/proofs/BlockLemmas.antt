@@ -7,14 +7,14 @@ use Rattle.std.specs.Prelude.{IfSome, IfNone}
 use Rattle.data_types.specs.Leaf.{Leaf, Bytes as BytesLeaf}
 use Rattle.data_types.specs.Value.{Piece, Holds}
 use Rattle.inst_pool.specs.Pieces.{piece_bytes, bytes_of, room_limit, piece_of}
-use Rattle.inst_pool.specs.Contents.{piece_in, IsInside, pieces_in, AreInside, AreBlocks, stored, plain_leaf}
+use Rattle.inst_pool.specs.Contents.{piece_in, IsContentInside, pieces_in, AreInside, AreBlocks, content_of_bytes, plain_leaf}
 use Rattle.inst_pool.specs.declared.piece.Piece.{Piece as PieceRef}
 use Rattle.inst_pool.specs.declared.content.Content.{Content}
 use Rattle.inst_pool.specs.declared.content.Content.TheVariants.{Open, Bytes, Number, Flag, Code, Close}
 use Rattle.inst_pool.proofs.ContentLemmas.{pieces-append, pieces-grow, inside-grow, inside-push, bytes_of-append}
 
 -- a node without bytes
-pub blocks-add : (contents : List Content) (bytes : List ℕ) (c : Content) → AreBlocks contents bytes → IsInside (length bytes) c → piece_bytes (piece_in bytes c) ≡ 0 → AreBlocks (contents ++ c ∷ []) bytes
+pub blocks-add : (contents : List Content) (bytes : List ℕ) (c : Content) → AreBlocks contents bytes → IsContentInside (length bytes) c → piece_bytes (piece_in bytes c) ≡ 0 → AreBlocks (contents ++ c ∷ []) bytes
 blocks-add contents bytes c h inside none = record {
   inside = inside-push (length bytes) contents (c) h.inside inside;
   count = ap bytes_of (pieces-append bytes contents (c ∷ [])) ∙ (bytes_of-append (pieces_in bytes contents) (piece_in bytes c ∷ []) ∙ (let e = h.count in omega (arith, e, none)));
@@ -32,15 +32,15 @@ range_end bytes more =
     whole (x ∷ l) = ap (λ (t : List ℕ). x ∷ t) (whole l)
 
 pub pieces-store : (contents : List Content) (bytes more : List ℕ) → AreInside (length bytes) contents
-    → pieces_in (bytes ++ more) (contents ++ stored bytes more ∷ []) ≡ pieces_in bytes contents ++ Holds (BytesLeaf more) ∷ []
-pieces-store contents bytes more h = pieces-append (bytes ++ more) contents (stored bytes more ∷ [])
+    → pieces_in (bytes ++ more) (contents ++ content_of_bytes bytes more ∷ []) ≡ pieces_in bytes contents ++ Holds (BytesLeaf more) ∷ []
+pieces-store contents bytes more h = pieces-append (bytes ++ more) contents (content_of_bytes bytes more ∷ [])
     ∙ ap₂ (λ (x y : List Piece). x ++ y) (pieces-grow bytes more contents h) (ap (λ (l : List ℕ). Holds (BytesLeaf l) ∷ []) (range_end bytes more))
 
 pub blocks-store : (contents : List Content) (bytes more : List ℕ) → AreBlocks contents bytes → length bytes + length more ≤ room_limit
-    → AreBlocks (contents ++ stored bytes more ∷ []) (bytes ++ more)
+    → AreBlocks (contents ++ content_of_bytes bytes more ∷ []) (bytes ++ more)
 blocks-store contents bytes more h byte_limit =
     let longer : length (bytes ++ more) ≡ length bytes + length more = length-append bytes more in record {
-      inside = inside-push (length (bytes ++ more)) contents (stored bytes more) (inside-grow (length bytes) (length (bytes ++ more)) contents (omega (arith, longer)) h.inside) (omega arith, omega (arith, longer));
+      inside = inside-push (length (bytes ++ more)) contents (content_of_bytes bytes more) (inside-grow (length bytes) (length (bytes ++ more)) contents (omega (arith, longer)) h.inside) (omega arith, omega (arith, longer));
       count = ap bytes_of (pieces-store contents bytes more h.inside) ∙ (bytes_of-append (pieces_in bytes contents) (Holds (BytesLeaf more) ∷ []) ∙ (let e = h.count in omega (arith, e, longer)));
       byte_limit = omega (arith, longer, byte_limit);
     }
@@ -54,7 +54,7 @@ plain_piece bytes (Flag f) leaf h = (let e : Some (Rattle.data_types.specs.Leaf.
 plain_piece bytes (Code k) leaf h = (let e : Some (Rattle.data_types.specs.Leaf.Code k) ≡ Some leaf = h in cc)
 plain_piece bytes (Close e) leaf h = absurd (let h' : None ≡ Some leaf = h in cc)
 
-pub plain_inside : (n : ℕ) (c : Content) (leaf : Leaf) → plain_leaf c ≡ Some leaf → IsInside n c
+pub plain_inside : (n : ℕ) (c : Content) (leaf : Leaf) → plain_leaf c ≡ Some leaf → IsContentInside n c
 plain_inside n (Open e) leaf h = tt
 plain_inside n (Bytes s e) leaf h = absurd (let h' : None ≡ Some leaf = h in cc)
 plain_inside n (Number k) leaf h = tt

@@ -3,9 +3,9 @@ use Rattle.std.proofs.Common.{◌≡◌, ℕ, ◌+◌, ◌≤◌, List, [], ◌�
 use Rattle.std.specs.Prelude.{vec_capacity}
 use Rattle.data_types.specs.Leaf.{Leaf, Bytes as BytesLeaf}
 use Rattle.data_types.specs.Value.{Edge, Piece, Begins, Holds, Ends}
-use Rattle.inst_pool.specs.Blocks.{HasRoom, SameItems, opened_in, pieces_of, AreBuilding}
-use Rattle.inst_pool.specs.Contents.{piece_in, stored, plain_leaf}
-use Rattle.inst_pool.specs.Pieces.{edge_of, open_in, open_behind, room_limit}
+use Rattle.inst_pool.specs.Blocks.{HasRoomInBlocks, SameItems, opened_in, block_pieces, AreBuilding}
+use Rattle.inst_pool.specs.Contents.{piece_in, content_of_bytes, plain_leaf}
+use Rattle.inst_pool.specs.Pieces.{edge_of, open_in, edges_open_behind, room_limit}
 use Rattle.inst_pool.specs.declared.blocks.Blocks.{Blocks}
 use Rattle.inst_pool.specs.declared.content.Content.{Content}
 use Rattle.inst_pool.specs.declared.content.Content.TheVariants.{Open, Close}
@@ -27,7 +27,7 @@ drop_most : (outer : List Edge) → length (drop 1 outer) ≤ length outer
 drop_most [] = omega arith
 drop_most (e ∷ outer) = omega arith
 
-open_most : (outer : List Edge) (ps : List Piece) → length (open_behind outer ps) ≤ length ps + length outer
+open_most : (outer : List Edge) (ps : List Piece) → length (edges_open_behind outer ps) ≤ length ps + length outer
 open_most outer [] = omega arith
 open_most outer (Begins e ∷ ps) = (let h = open_most (e ∷ outer) ps in omega (arith, h))
 open_most outer (Holds l ∷ ps) = (let h = open_most outer ps in omega (arith, h))
@@ -37,29 +37,29 @@ open_most outer (Ends e ∷ ps) = (let h = open_most (drop 1 outer) ps in let d 
 pub opened_most : (b : Blocks) → AreBuilding b → length b.opened.items ≤ length b.contents.items
 opened_most b h =
     let n = opened_count [] b.opened.items in
-    let e : length (opened_in [] b.opened.items) ≡ length (open_in (pieces_of b)) = ap length h.opened in
-    let m = open_most [] (pieces_of b) in
+    let e : length (opened_in [] b.opened.items) ≡ length (open_in (block_pieces b)) = ap length h.opened in
+    let m = open_most [] (block_pieces b) in
     let l = length_pieces b.bytes.items b.contents.items in omega (arith, n, e, m, l)
 
 empty : (es : List Told) → length es ≡ 0 → es ≡ []
 empty [] h = refl
 empty (e ∷ es) h = absurd (omega (arith, h))
 
-pub opened_none : (b : Blocks) → AreBuilding b → open_in (pieces_of b) ≡ [] → b.opened.items ≡ []
+pub opened_none : (b : Blocks) → AreBuilding b → open_in (block_pieces b) ≡ [] → b.opened.items ≡ []
 opened_none b h e =
     let n = opened_count [] b.opened.items in
     let l : length (opened_in [] b.opened.items) ≡ 0 = ap length (h.opened ∙ e) in empty b.opened.items (omega (arith, n, l))
 
 -- ---- one more content
 
-pub same_building : (b c : Blocks) → AreBuilding b → SameItems b c → HasRoom c → AreBuilding c
+pub same_building : (b c : Blocks) → AreBuilding b → SameItems b c → HasRoomInBlocks c → AreBuilding c
 same_building b c h s room = record {
   blocks = rw (s.contents, s.bytes) h.blocks;
   room = room;
   opened = rw (s.contents, s.bytes, s.opened) h.opened;
 }
 
-pub same_pieces : (b c : Blocks) → SameItems b c → pieces_of c ≡ pieces_of b
+pub same_pieces : (b c : Blocks) → SameItems b c → block_pieces c ≡ block_pieces b
 same_pieces b c s = rw (s.contents, s.bytes) refl
 
 -- a content is added, and the room is what it was
@@ -71,7 +71,7 @@ pub record Added (m n : Blocks) (x : Content) : Type 0 where
   pub groups : n.groups ≡ m.groups
   pub room : n.room ≡ m.room
 
-added_room : (m n : Blocks) (x : Content) → Added m n x → HasRoom m → length m.contents.items + 1 ≤ m.room → HasRoom n
+added_room : (m n : Blocks) (x : Content) → Added m n x → HasRoomInBlocks m → length m.contents.items + 1 ≤ m.room → HasRoomInBlocks n
 added_room m n x a h fits =
     let count = length-append m.contents.items (x ∷ []) in
     record {
@@ -83,7 +83,7 @@ added_room m n x a h fits =
       groups = rw (a.room, a.groups) h.groups;
     }
 
-pub added_pieces : (m n : Blocks) (x : Content) → Added m n x → n.bytes ≡ m.bytes → pieces_of n ≡ pieces_of m ++ piece_in m.bytes.items x ∷ []
+pub added_pieces : (m n : Blocks) (x : Content) → Added m n x → n.bytes ≡ m.bytes → block_pieces n ≡ block_pieces m ++ piece_in m.bytes.items x ∷ []
 added_pieces m n x a bytes = rw (a.contents, bytes) (pieces-append m.bytes.items m.contents.items (x ∷ []))
 
 -- an element that begins
@@ -92,11 +92,11 @@ building_begin m n edge h fits a bytes opened = record {
   blocks = rw (a.contents, bytes) (blocks-add m.contents.items m.bytes.items (Open edge) h.blocks tt refl);
   room = added_room m n (Open edge) a h.room fits;
   opened = ap (opened_in []) opened ∙ (opened-append [] m.opened.items (edge ∷ []) ∙ (ap (λ (l : List Edge). edge_of edge ∷ l) h.opened
-      ∙ sym (ap open_in (added_pieces m n (Open edge) a bytes) ∙ open-append [] (pieces_of m) (Begins (edge_of edge) ∷ []))));
+      ∙ sym (ap open_in (added_pieces m n (Open edge) a bytes) ∙ open-append [] (block_pieces m) (Begins (edge_of edge) ∷ []))));
 }
 
 -- the innermost open element is the one that was opened last
-pub innermost : (m : Blocks) (outer : List Told) (edge : Told) → AreBuilding m → m.opened.items ≡ outer ++ edge ∷ [] → open_in (pieces_of m) ≡ edge_of edge ∷ opened_in [] outer
+pub innermost : (m : Blocks) (outer : List Told) (edge : Told) → AreBuilding m → m.opened.items ≡ outer ++ edge ∷ [] → open_in (block_pieces m) ≡ edge_of edge ∷ opened_in [] outer
 innermost m outer edge h opened = sym h.opened ∙ (ap (opened_in []) opened ∙ opened-append [] outer (edge ∷ []))
 
 -- an element that ends
@@ -104,40 +104,40 @@ pub building_close : (m n : Blocks) (edge : Told) → AreBuilding m → length m
 building_close m n edge h fits a bytes opened = record {
   blocks = rw (a.contents, bytes) (blocks-add m.contents.items m.bytes.items (Close edge) h.blocks tt refl);
   room = added_room m n (Close edge) a h.room fits;
-  opened = sym (ap open_in (added_pieces m n (Close edge) a bytes) ∙ (open-append [] (pieces_of m) (Ends (edge_of edge) ∷ []) ∙ ap (λ (l : List Edge). drop 1 l) (innermost m n.opened.items edge h opened)));
+  opened = sym (ap open_in (added_pieces m n (Close edge) a bytes) ∙ (open-append [] (block_pieces m) (Ends (edge_of edge) ∷ []) ∙ ap (λ (l : List Edge). drop 1 l) (innermost m n.opened.items edge h opened)));
 }
 
 heads : (a b : Edge) (xs ys : List Edge) → a ∷ xs ≡ b ∷ ys → a ≡ b
 heads a b xs ys e = cc
 
-pub close_pieces : (m n : Blocks) (edge : Told) → AreBuilding m → Added m n (Close edge) → n.bytes ≡ m.bytes → m.opened.items ≡ n.opened.items ++ edge ∷ [] → (inner : Edge) (outer : List Edge) → open_in (pieces_of m) ≡ inner ∷ outer
-    → pieces_of n ≡ pieces_of m ++ Ends inner ∷ []
+pub close_pieces : (m n : Blocks) (edge : Told) → AreBuilding m → Added m n (Close edge) → n.bytes ≡ m.bytes → m.opened.items ≡ n.opened.items ++ edge ∷ [] → (inner : Edge) (outer : List Edge) → open_in (block_pieces m) ≡ inner ∷ outer
+    → block_pieces n ≡ block_pieces m ++ Ends inner ∷ []
 close_pieces m n edge h a bytes opened inner outer is =
     let same : edge_of edge ≡ inner = heads _ _ _ _ (sym (innermost m n.opened.items edge h opened) ∙ is) in
-    added_pieces m n (Close edge) a bytes ∙ ap (λ (x : Edge). pieces_of m ++ Ends x ∷ []) same
+    added_pieces m n (Close edge) a bytes ∙ ap (λ (x : Edge). block_pieces m ++ Ends x ∷ []) same
 
 -- a leaf
 open-hold : (ps : List Piece) (leaf : Leaf) → open_in (ps ++ Holds leaf ∷ []) ≡ open_in ps
 open-hold ps leaf = open-append [] ps (Holds leaf ∷ [])
 
-pub held_pieces : (m n : Blocks) (x : Content) (leaf : Leaf) → plain_leaf x ≡ Some leaf → Added m n x → n.bytes ≡ m.bytes → pieces_of n ≡ pieces_of m ++ Holds leaf ∷ []
-held_pieces m n x leaf is a bytes = added_pieces m n x a bytes ∙ ap (λ (p : Piece). pieces_of m ++ p ∷ []) (plain_piece m.bytes.items x leaf is)
+pub held_pieces : (m n : Blocks) (x : Content) (leaf : Leaf) → plain_leaf x ≡ Some leaf → Added m n x → n.bytes ≡ m.bytes → block_pieces n ≡ block_pieces m ++ Holds leaf ∷ []
+held_pieces m n x leaf is a bytes = added_pieces m n x a bytes ∙ ap (λ (p : Piece). block_pieces m ++ p ∷ []) (plain_piece m.bytes.items x leaf is)
 
 pub building_hold : (m n : Blocks) (x : Content) (leaf : Leaf) → plain_leaf x ≡ Some leaf → AreBuilding m → length m.contents.items + 1 ≤ m.room → Added m n x → n.bytes ≡ m.bytes → n.opened.items ≡ m.opened.items → AreBuilding n
 building_hold m n x leaf is h fits a bytes opened = record {
   blocks = rw (a.contents, bytes) (blocks-add m.contents.items m.bytes.items x h.blocks (plain_inside _ x leaf is) (plain_bytes _ x leaf is));
   room = added_room m n x a h.room fits;
-  opened = ap (opened_in []) opened ∙ (h.opened ∙ sym (ap open_in (held_pieces m n x leaf is a bytes) ∙ open-hold (pieces_of m) leaf));
+  opened = ap (opened_in []) opened ∙ (h.opened ∙ sym (ap open_in (held_pieces m n x leaf is a bytes) ∙ open-hold (block_pieces m) leaf));
 }
 
 -- a leaf of bytes
-pub stored_pieces : (m n : Blocks) (more : List ℕ) → AreBuilding m → Added m n (stored m.bytes.items more) → n.bytes.items ≡ m.bytes.items ++ more → pieces_of n ≡ pieces_of m ++ Holds (BytesLeaf more) ∷ []
+pub stored_pieces : (m n : Blocks) (more : List ℕ) → AreBuilding m → Added m n (content_of_bytes m.bytes.items more) → n.bytes.items ≡ m.bytes.items ++ more → block_pieces n ≡ block_pieces m ++ Holds (BytesLeaf more) ∷ []
 stored_pieces m n more h a bytes = rw (a.contents, bytes) (pieces-store m.contents.items m.bytes.items more h.blocks.inside)
 
-pub building_store : (m n : Blocks) (more : List ℕ) → AreBuilding m → length m.contents.items + 1 ≤ m.room → length m.bytes.items + length more ≤ room_limit → Added m n (stored m.bytes.items more) → n.bytes.items ≡ m.bytes.items ++ more
+pub building_store : (m n : Blocks) (more : List ℕ) → AreBuilding m → length m.contents.items + 1 ≤ m.room → length m.bytes.items + length more ≤ room_limit → Added m n (content_of_bytes m.bytes.items more) → n.bytes.items ≡ m.bytes.items ++ more
     → n.opened.items ≡ m.opened.items → AreBuilding n
 building_store m n more h fits limit a bytes opened = record {
   blocks = rw (a.contents, bytes) (blocks-store m.contents.items m.bytes.items more h.blocks limit);
-  room = added_room m n (stored m.bytes.items more) a h.room fits;
-  opened = ap (opened_in []) opened ∙ (h.opened ∙ sym (ap open_in (stored_pieces m n more h a bytes) ∙ open-hold (pieces_of m) (BytesLeaf more)));
+  room = added_room m n (content_of_bytes m.bytes.items more) a h.room fits;
+  opened = ap (opened_in []) opened ∙ (h.opened ∙ sym (ap open_in (stored_pieces m n more h a bytes) ∙ open-hold (block_pieces m) (BytesLeaf more)));
 }

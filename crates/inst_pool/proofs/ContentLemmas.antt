@@ -3,8 +3,8 @@ use Rattle.std.proofs.Common.{◌≡◌, ℕ, zero, suc, ◌+◌, ◌-◌, ◌�
 use Rattle.std.specs.Option.{option_map}
 use Rattle.std.proofs.lemmas.List.{take-append-le, drop-append-le}
 use Rattle.data_types.specs.Value.{Edge, Piece, Begins, Holds, Ends}
-use Rattle.inst_pool.specs.Pieces.{bytes_of, open_behind}
-use Rattle.inst_pool.specs.Contents.{piece_in, IsInside, pieces_in, AreInside}
+use Rattle.inst_pool.specs.Pieces.{bytes_of, edges_open_behind}
+use Rattle.inst_pool.specs.Contents.{piece_in, IsContentInside, pieces_in, AreInside}
 use Rattle.inst_pool.specs.declared.content.Content.{Content}
 use Rattle.inst_pool.specs.declared.content.Content.TheVariants.{Open, Bytes, Number, Flag, Code, Close}
 
@@ -23,7 +23,7 @@ range_grow bytes more s e low high =
     let left : length (drop s bytes) ≡ length bytes - s = length-drop s bytes in
     ap (λ l. take (e - s) l) (drop-append-le s bytes more within) ∙ take-append-le (e - s) (drop s bytes) more (omega (arith, left, low, high))
 
-pub piece-grow : (bytes more : List ℕ) (c : Content) → IsInside (length bytes) c → piece_in (bytes ++ more) c ≡ piece_in bytes c
+pub piece-grow : (bytes more : List ℕ) (c : Content) → IsContentInside (length bytes) c → piece_in (bytes ++ more) c ≡ piece_in bytes c
 piece-grow bytes more (Open e) h = refl
 piece-grow bytes more (Bytes s e) h = ap (λ b. Holds (Rattle.data_types.specs.Leaf.Bytes b)) (range_grow bytes more s e h.0 h.1)
 piece-grow bytes more (Number n) h = refl
@@ -35,7 +35,7 @@ pub pieces-grow : (bytes more : List ℕ) (contents : List Content) → AreInsid
 pieces-grow bytes more [] h = refl
 pieces-grow bytes more (n ∷ contents) h = ap₂ (λ (p : Piece) (l : List Piece). p ∷ l) (piece-grow bytes more n h.0) (pieces-grow bytes more contents h.1)
 
-inside_more : (n m : ℕ) (c : Content) → n ≤ m → IsInside n c → IsInside m c
+inside_more : (n m : ℕ) (c : Content) → n ≤ m → IsContentInside n c → IsContentInside m c
 inside_more n m (Open e) le h = tt
 inside_more n m (Bytes s e) le h = (h.0, omega (arith, h.1, le))
 inside_more n m (Number k) le h = tt
@@ -47,16 +47,16 @@ pub inside-grow : (n m : ℕ) (contents : List Content) → n ≤ m → AreInsid
 inside-grow n m [] le h = tt
 inside-grow n m (x ∷ contents) le h = (inside_more n m x le h.0, inside-grow n m contents le h.1)
 
-pub inside-push : (n : ℕ) (contents : List Content) (x : Content) → AreInside n contents → IsInside n x → AreInside n (contents ++ x ∷ [])
+pub inside-push : (n : ℕ) (contents : List Content) (x : Content) → AreInside n contents → IsContentInside n x → AreInside n (contents ++ x ∷ [])
 inside-push n [] x h i = (i, tt)
 inside-push n (y ∷ contents) x h i = (h.0, inside-push n contents x h.1 i)
 
 some_injective : (y x : Content) → Some y ≡ Some x → y ≡ x
 some_injective y x e = cc
 
-pub inside-at : (n : ℕ) (contents : List Content) (at : ℕ) (x : Content) → AreInside n contents → slice_get contents at ≡ Some x → IsInside n x
+pub inside-at : (n : ℕ) (contents : List Content) (at : ℕ) (x : Content) → AreInside n contents → slice_get contents at ≡ Some x → IsContentInside n x
 inside-at n [] at x h e = absurd (let e' : None ≡ Some x = e in cc)
-inside-at n (y ∷ contents) zero x h e = (let e' : y ≡ x = some_injective y x e in subst (λ (z : Content). IsInside n z) e' h.0)
+inside-at n (y ∷ contents) zero x h e = (let e' : y ≡ x = some_injective y x e in subst (λ (z : Content). IsContentInside n z) e' h.0)
 inside-at n (y ∷ contents) (suc at) x h e = inside-at n contents at x h.1 e
 
 pub bytes_of-append : (a b : List Piece) → bytes_of (a ++ b) ≡ bytes_of a + bytes_of b
@@ -68,7 +68,7 @@ get_piece bytes [] at = refl
 get_piece bytes (n ∷ contents) zero = refl
 get_piece bytes (n ∷ contents) (suc at) = get_piece bytes contents at
 
-pub open-append : (outer : List Edge) (a b : List Piece) → open_behind outer (a ++ b) ≡ open_behind (open_behind outer a) b
+pub open-append : (outer : List Edge) (a b : List Piece) → edges_open_behind outer (a ++ b) ≡ edges_open_behind (edges_open_behind outer a) b
 open-append outer [] b = refl
 open-append outer (Begins e ∷ a) b = open-append (e ∷ outer) a b
 open-append outer (Holds l ∷ a) b = open-append outer a b

@@ -7,7 +7,7 @@ use Rattle.inst_pool.specs.declared.piece.Edge.{Edge as Told}
 use Rattle.inst_pool.specs.declared.blocks.Blocks.{Blocks}
 
 -- there is room for so many pieces in each block that has an item a piece
-pub record HasRoom (b : Blocks) : Type 0 where
+pub record HasRoomInBlocks (b : Blocks) : Type 0 where
   pub pieces : length b.contents.items ≤ b.room
   pub limit : b.room ≤ room_limit
   pub contents : b.room ≤ b.contents.room
@@ -28,11 +28,11 @@ abbrev pub opened_in : List Edge → List Told → List Edge
 opened_in outer [] = outer
 opened_in outer (edge ∷ edges) = opened_in (edge_of edge ∷ outer) edges
 
-abbrev pub pieces_of : Blocks → List Piece
-pieces_of b = pieces_in b.bytes.items b.contents.items
+abbrev pub block_pieces : Blocks → List Piece
+block_pieces b = pieces_in b.bytes.items b.contents.items
 
 abbrev pub region_of : Blocks → Region
-region_of b = record { pieces = pieces_of b; node_room = b.room; byte_room = room_of (vec_capacity b.bytes) }
+region_of b = record { pieces = block_pieces b; node_room = b.room; byte_room = room_of (vec_capacity b.bytes) }
 
 abbrev pub held_of : Blocks → Held
 held_of b = record { region = region_of b; lens = b.lens.items; groups = b.groups.items }
@@ -40,13 +40,13 @@ held_of b = record { region = region_of b; lens = b.lens.items; groups = b.group
 -- the blocks of an instance that is being made: no number is kept yet
 pub record AreBuilding (b : Blocks) : Type 0 where
   pub blocks : AreBlocks b.contents.items b.bytes.items
-  pub room : HasRoom b
-  pub opened : opened_in [] b.opened.items ≡ open_in (pieces_of b)
+  pub room : HasRoomInBlocks b
+  pub opened : opened_in [] b.opened.items ≡ open_in (block_pieces b)
 
 -- the blocks of an instance, with two numbers beside each piece
 pub record AreWhole (b : Blocks) : Type 0 where
   pub blocks : AreBlocks b.contents.items b.bytes.items
-  pub room : HasRoom b
+  pub room : HasRoomInBlocks b
   pub opened : b.opened.items ≡ []
   pub lens : length b.lens.items ≡ length b.contents.items
   pub groups : length b.groups.items ≡ length b.contents.items

@@ -16,9 +16,9 @@ piece_in bytes (Code place) = Holds (CodeLeaf place)
 piece_in bytes (Close edge) = Ends (edge_of edge)
 
 -- its bytes stand within a block of so many
-abbrev pub IsInside : ℕ → Content → Type 0
-IsInside count (Bytes start end) = (start ≤ end) × (end ≤ count)
-IsInside count content = Unit {0}
+abbrev pub IsContentInside : ℕ → Content → Type 0
+IsContentInside count (Bytes start end) = (start ≤ end) × (end ≤ count)
+IsContentInside count content = Unit {0}
 
 -- the pieces that contents are
 abbrev pub pieces_in : List ℕ → List Content → List Piece
@@ -28,7 +28,7 @@ pieces_in bytes (content ∷ contents) = piece_in bytes content ∷ pieces_in by
 -- all bytes of contents stand within a block of so many
 abbrev pub AreInside : ℕ → List Content → Type 0
 AreInside count [] = Unit {0}
-AreInside count (content ∷ contents) = IsInside count content × AreInside count contents
+AreInside count (content ∷ contents) = IsContentInside count content × AreInside count contents
 
 -- the room of a block that can hold so many
 abbrev pub room_of : ℕ → ℕ
@@ -41,8 +41,8 @@ pub record AreBlocks (contents : List Content) (bytes : List ℕ) : Type 0 where
   pub byte_limit : length bytes ≤ room_limit
 
 -- the content of bytes that are added to a block
-abbrev pub stored : List ℕ → List ℕ → Content
-stored bytes more = Bytes (length bytes) (length bytes + length more)
+abbrev pub content_of_bytes : List ℕ → List ℕ → Content
+content_of_bytes bytes more = Bytes (length bytes) (length bytes + length more)
 
 -- the leaf of a content that has one and no bytes
 abbrev pub plain_leaf : Content → Option Leaf

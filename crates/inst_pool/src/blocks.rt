@@ -1,6 +1,6 @@
 // The blocks of a region.
 ghost use Rattle.std.specs.Prelude.{◌≡◌, ◌+◌, ◌<◌, ◌≤◌, [], length, OnOk, OnErr, IsOk, vec_len, vec_capacity};
-ghost use Rattle.inst_pool.specs.Blocks.{HasRoom, SameItems};
+ghost use Rattle.inst_pool.specs.Blocks.{HasRoomInBlocks, SameItems};
 ghost use Rattle.inst_pool.specs.Pieces.{room_limit};
 
 use crate::contents::Contents;
@@ -28,8 +28,8 @@ pub(crate) struct Blocks {
 /// Makes room for so many more pieces.
 #[inline(always)]
 pub(crate) fn make_piece_room(blocks: &mut Blocks, count: usize) -> Result<(), AllocError>
-    requires { HasRoom blocks.old }
-    ensures fits { HasRoom blocks.new }
+    requires { HasRoomInBlocks blocks.old }
+    ensures fits { HasRoomInBlocks blocks.new }
     ensures ok { OnOk result (length blocks.new.contents.items + count ≤ blocks.new.room) }
     ensures within { length blocks.old.contents.items + count ≤ blocks.old.room → IsOk result }
     ensures room { blocks.old.room ≤ blocks.new.room }
@@ -46,9 +46,9 @@ pub(crate) fn make_piece_room(blocks: &mut Blocks, count: usize) -> Result<(), A
 #[cold]
 #[inline(never)]
 fn widen_blocks(blocks: &mut Blocks, count: usize) -> Result<(), AllocError>
-    requires room { HasRoom blocks.old }
+    requires room { HasRoomInBlocks blocks.old }
     requires full { blocks.old.room < length blocks.old.contents.items + count }
-    ensures fits { HasRoom blocks.new }
+    ensures fits { HasRoomInBlocks blocks.new }
     ensures ok { OnOk result (length blocks.new.contents.items + count ≤ blocks.new.room) }
     ensures room { blocks.old.room ≤ blocks.new.room }
     ensures items { SameItems blocks.old blocks.new }

@@ -1,6 +1,6 @@
 // What is kept of a piece.
 ghost use Rattle.std.specs.Prelude.{◌≡◌, length};
-ghost use Rattle.inst_pool.specs.Contents.{piece_in, IsInside};
+ghost use Rattle.inst_pool.specs.Contents.{piece_in, IsContentInside};
 ghost use Rattle.inst_pool.specs.Pieces.{piece_of};
 
 use crate::piece::{Edge, Piece};
@@ -23,7 +23,7 @@ pub(crate) enum Content {
 
 /// The piece that is kept as a content.
 pub(crate) fn piece_of<'a>(content: Content, bytes: &'a [u8]) -> Piece<'a>
-    requires { IsInside (length bytes.now) content }
+    requires { IsContentInside (length bytes.now) content }
     ensures { piece_of result ≡ piece_in bytes.now content }
 {
     match content {

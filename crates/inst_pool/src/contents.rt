@@ -21,13 +21,13 @@ pub(crate) struct Contents {
 
 impl Model for Contents {
     ghost use Rattle.std.specs.Prelude.{◌≤◌, length, min, vec_capacity};
-    ghost use Rattle.inst_pool.specs.inner.Nodes.{Packed, contents_in, AreWithin};
+    ghost use Rattle.inst_pool.specs.inner.Nodes.{Packed, contents_in, AreNodesWithin};
 
     ghost Value = { Packed };
 
     ghost view = { λ c. record { items = contents_in c.long.items c.nodes.items; room = min (vec_capacity c.nodes) (vec_capacity c.long) } };
 
-    ghost invariant = { λ c. AreWithin (length c.long.items) c.nodes.items × (length c.long.items ≤ length c.nodes.items) };
+    ghost invariant = { λ c. AreNodesWithin (length c.long.items) c.nodes.items × (length c.long.items ≤ length c.nodes.items) };
 }
 
 impl Contents {

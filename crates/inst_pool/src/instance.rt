@@ -2,7 +2,7 @@
 ghost use Rattle.std.specs.Prelude.{◌≡◌, ◌<◌, [], length, slice_get, slice_index, slice_set};
 ghost use Rattle.std.specs.Option.{option_map};
 ghost use Rattle.inst_pool.specs.Blocks.{AreBuilding, region_of};
-ghost use Rattle.inst_pool.specs.Pieces.{piece_of, emptied, IsBounded};
+ghost use Rattle.inst_pool.specs.Pieces.{piece_of, empty_region, IsRegionBounded};
 
 use crate::blocks::Blocks;
 use crate::builder::Builder;
@@ -45,7 +45,7 @@ impl Instance {
         ensures count { result ≡ length self.now.region.pieces }
         ensures lens { result ≡ length self.now.lens }
         ensures groups { result ≡ length self.now.groups }
-        ensures bounded { IsBounded self.now.region }
+        ensures bounded { IsRegionBounded self.now.region }
     {
         self.blocks.contents.len()
     }
@@ -105,7 +105,7 @@ impl Instance {
 
     /// An empty builder with all the room.
     pub fn reset(self) -> Builder
-        ensures { result ≡ emptied self.region.node_room self.region.byte_room }
+        ensures { result ≡ empty_region self.region.node_room self.region.byte_room }
     {
         let Instance { mut blocks } = self;
         blocks.contents.clear();

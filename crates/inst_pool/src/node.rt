@@ -1,8 +1,8 @@
 // Contents in eight bytes each. What does not fit stands in a block of its own, of which the node has the place.
 ghost use Rattle.std.specs.Prelude.{◌≡◌, ◌<◌, ◌≤◌, ◌^◌, ℕ, List, true, length, slice_index_or, IfSome};
-ghost use Rattle.inst_pool.specs.Contents.{piece_in, IsInside};
+ghost use Rattle.inst_pool.specs.Contents.{piece_in, IsContentInside};
 ghost use Rattle.inst_pool.specs.Pieces.{piece_of};
-ghost use Rattle.inst_pool.specs.inner.Nodes.{edge_in, low_in, place_in, decimal_in, content_of, IsWithin, bytes_in};
+ghost use Rattle.inst_pool.specs.inner.Nodes.{edge_in, low_in, place_of_short, decimal_in, content_of, IsNodeWithin, bytes_in};
 ghost use Rattle.lexical_core.specs.Decimals.{IsDecimal};
 ghost use Rattle.inst_pool.specs.declared.content.Content.{Content};
 
@@ -113,7 +113,7 @@ fn short_number(number: u32) -> Short
 pub(crate) fn long_at(place: usize) -> Node
     requires { place < 2 ^ 48 }
     ensures content { (long : List Content) → content_of long result ≡ slice_index_or long place (Content.Code 0) }
-    ensures within { (count : ℕ) → place < count → IsWithin count result }
+    ensures within { (count : ℕ) → place < count → IsNodeWithin count result }
 {
     Node::Long(Short {
         first: (place % 65536) as u16,
@@ -126,7 +126,7 @@ pub(crate) fn long_at(place: usize) -> Node
 #[inline(always)]
 pub(crate) fn shortened(content: &Content) -> Option<Node>
     ensures content { IfSome result (λ n. (long : List Content) → content_of long n ≡ content.now) }
-    ensures within { IfSome result (λ n. (count : ℕ) → IsWithin count n) }
+    ensures within { IfSome result (λ n. (count : ℕ) → IsNodeWithin count n) }
 {
     match content {
         Content::Open(edge) => {
@@ -161,8 +161,8 @@ pub(crate) fn shortened(content: &Content) -> Option<Node>
 /// The piece that a node stands for, whose bytes stand in a block.
 #[inline(always)]
 pub(crate) fn piece_of<'a>(node: &Node, long: &[Content], bytes: &'a [u8]) -> Piece<'a>
-    requires within { IsWithin (length long.now) node.now }
-    requires inside { IsInside (length bytes.now) (content_of long.now node.now) }
+    requires within { IsNodeWithin (length long.now) node.now }
+    requires inside { IsContentInside (length bytes.now) (content_of long.now node.now) }
     ensures { piece_of result ≡ piece_in bytes.now (content_of long.now node.now) }
 {
     match node {
@@ -216,7 +216,7 @@ fn low_of(short: &Short) -> usize
 
 /// The number of 48 bits that the three tell.
 fn place_of(short: &Short) -> usize
-    ensures { result ≡ place_in short.now }
+    ensures { result ≡ place_of_short short.now }
 {
     low_of(short) + short.third as usize * 0x1_0000_0000
 }

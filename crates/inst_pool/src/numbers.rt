@@ -1,6 +1,6 @@
 // A number beside each piece.
 ghost use Rattle.std.specs.Prelude.{◌≡◌, ◌<◌, ◌≤◌, [], length, replicate, slice_index, slice_set, OnOk, vec_len, vec_capacity};
-ghost use Rattle.inst_pool.specs.inner.Numbers.{numbers_of, IsFilled};
+ghost use Rattle.inst_pool.specs.inner.Numbers.{numbers_kept_in, AreKeptInForm};
 
 use crate::room::widen;
 use std::alloc::{AllocError, Global};
@@ -32,13 +32,13 @@ pub(crate) struct Numbers {
 
 impl Model for Numbers {
     ghost use Rattle.std.specs.Prelude.{◌≤◌, min, vec_capacity};
-    ghost use Rattle.inst_pool.specs.inner.Numbers.{Column, numbers_of, IsFilled};
+    ghost use Rattle.inst_pool.specs.inner.Numbers.{Column, numbers_kept_in, AreKeptInForm};
 
     ghost Value = { Column };
 
-    ghost view = { λ n. record { items = numbers_of n.form n.count n.narrow.items n.wide.items; room = min (vec_capacity n.narrow) (vec_capacity n.wide) } };
+    ghost view = { λ n. record { items = numbers_kept_in n.form n.count n.narrow.items n.wide.items; room = min (vec_capacity n.narrow) (vec_capacity n.wide) } };
 
-    ghost invariant = { λ n. IsFilled n.form n.count n.narrow.items n.wide.items × (n.count ≤ min (vec_capacity n.narrow) (vec_capacity n.wide)) };
+    ghost invariant = { λ n. AreKeptInForm n.form n.count n.narrow.items n.wide.items × (n.count ≤ min (vec_capacity n.narrow) (vec_capacity n.wide)) };
 }
 
 impl Numbers {
@@ -156,8 +156,8 @@ fn keep(narrow: &mut Vec<u32>, wide: &mut Vec<u64>, at: usize, number: u64) -> F
     requires place { at < length narrow.old.items }
     requires empty { wide.old.items ≡ [] }
     requires room { length narrow.old.items ≤ vec_capacity wide.old }
-    ensures items { numbers_of result (length narrow.old.items) narrow.new.items wide.new.items ≡ slice_set narrow.old.items at number }
-    ensures filled { IsFilled result (length narrow.old.items) narrow.new.items wide.new.items }
+    ensures items { numbers_kept_in result (length narrow.old.items) narrow.new.items wide.new.items ≡ slice_set narrow.old.items at number }
+    ensures filled { AreKeptInForm result (length narrow.old.items) narrow.new.items wide.new.items }
     ensures room { (vec_capacity narrow.new ≡ vec_capacity narrow.old) × (vec_capacity wide.new ≡ vec_capacity wide.old) }
 {
     if number <= MOST {

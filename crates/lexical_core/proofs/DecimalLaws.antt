@@ -9,7 +9,7 @@ use Rattle.std.specs.Fmt.{decimal}
 use Rattle.std.specs.Int.{is_negative}
 use Rattle.std.specs.Int.RustNames.{unsigned_abs}
 use Rattle.std.specs.Str.Parse.{AllDigits, digits_value, digits_value_after}
-use Rattle.lexical_core.specs.Decimals.{Number, IsDecimal, IsNumber, signed, DecimalParts, fraction_digits, point_text, IsSign, PartsSpell, SpellsDecimal, IsShortFraction, IsCanonicalForm, IsCanonicalText}
+use Rattle.lexical_core.specs.Decimals.{Number, IsDecimal, IsNumber, signed_number, DecimalParts, fraction_digits, point_text, IsSign, PartsSpell, SpellsDecimal, IsShortFraction, IsCanonicalForm, IsCanonicalText}
 use Rattle.lexical_core.specs.Reals.{minus_text}
 use Rattle.lexical_core.proofs.DecimalTexts.{body_same, NoSign-digits, NoSign-point, NoDigit-point}
 use Rattle.lexical_core.proofs.Numerals.{own, digit_range, digit_value_is, value_ends}
@@ -49,7 +49,7 @@ same_fraction (Some ds) (Some fs) e = cc
 pub one_number : (negative : Bool) (size scale : ℕ) (m n : Number) → IsDecimal m → IsDecimal n → IsNumber negative size scale m → IsNumber negative size scale n → m ≡ n
 one_number negative size scale m n dm dn p q =
     let same = one_size negative negative size scale m n dm dn p q in
-    number_same m n (p.same_sign ∙ (ap (signed negative) same.0 ∙ sym q.same_sign)) same.1
+    number_same m n (p.same_sign ∙ (ap (signed_number negative) same.0 ∙ sym q.same_sign)) same.1
 
 pub text_number : (text : List ℕ) (m n : Number) → IsDecimal m → IsDecimal n → SpellsDecimal text m → SpellsDecimal text n → m ≡ n
 text_number text m n dm dn (b, p, ps, e) (b', p', ps', e') =
@@ -135,7 +135,7 @@ point_same (Some ds) None p q e = absurd (let h = ap length e in let some = p.0 
 point_same (Some ds) (Some fs) p q e = ap (λ x. 46 ∷ x) e
 
 -- the sign of a canonical text
-sign_is : (b : Bool) (sign : List ℕ) (z : ℤ) → IsSign b sign → sign ≢ 43 ∷ [] → (z ≡ pos 0 → sign ≡ []) → z ≡ signed b (unsigned_abs z) → sign ≡ minus_text (is_negative z)
+sign_is : (b : Bool) (sign : List ℕ) (z : ℤ) → IsSign b sign → sign ≢ 43 ∷ [] → (z ≡ pos 0 → sign ≡ []) → z ≡ signed_number b (unsigned_abs z) → sign ≡ minus_text (is_negative z)
 sign_is b sign (pos zero) is plus none e = none refl
 sign_is true sign (pos (suc k)) is plus none e = absurd (cc)
 sign_is false sign (pos (suc k)) (inl is) plus none e = is ∙ ap minus_text (sym (le-ltb (suc k) 0 (omega arith)))

@@ -11,7 +11,7 @@ use Rattle.std.specs.Str.Parse.{AllDigits, digits_value}
 use Rattle.lexical_core.specs.Decimals.{IsNumber, DecimalParts, fraction_digits, point_text, decimal_spelling, IsSign, AreParts, IsDecimalText}
 use Rattle.lexical_core.specs.Exponents.{NoDigit}
 use Rattle.lexical_core.specs.DecimalAnswers.{IsDecimalAnswer}
-use Rattle.lexical_core.specs.DecimalSoFar.{HasDigits, IsNumberAnswer, ReadWhole, ReadFraction, BeginsNone, HasRead, HasReadIn}
+use Rattle.lexical_core.specs.DecimalSoFar.{AreDigitsOf, IsDigitsAnswer, ReadWhole, ReadFraction, BeginsNone, HasRead, HasReadIn}
 use Rattle.lexical_core.specs.declared.decimal_text.DecimalText.{DecimalText}
 use Rattle.lexical_core.specs.declared.decimal_text.DecimalText.TheVariants.{Value, TooLong, Bad}
 use Rattle.lexical_core.specs.declared.decimal_text.Stage.{Stage}
@@ -123,7 +123,7 @@ digit_is : (c digit : ℕ) → digit + 48 ≡ c → digit < 10 → digit_value c
 digit_is c digit e low = let h = digit_value_digit c (omega arith, omega arith) in omega arith
 
 pub whole_digit : (s s' : DecimalStep) (text : List ℕ) (c digit : ℕ) → ReadWhole s text → digit + 48 ≡ c → digit < 10 → s'.negative ≡ s.negative
-    → s'.digits.some ≡ true → ((value : ℕ) → HasDigits s.digits value 0 → HasDigits s'.digits (value * 10 + digit) 0)
+    → s'.digits.some ≡ true → ((value : ℕ) → AreDigitsOf s.digits value 0 → AreDigitsOf s'.digits (value * 10 + digit) 0)
     → ReadWhole s' (text ++ c ∷ []) × (0 < length (text ++ c ∷ []))
 whole_digit s s' text c digit w e low same some grows =
     let is = digit_is c digit e low in
@@ -136,13 +136,13 @@ whole_digit s s' text c digit w e low same some grows =
         spelled = ap (λ t. t ++ c ∷ []) w.spelled ∙ append_assoc w.sign w.digits (c ∷ []);
         some = λ h. omega (arith, length-append w.digits (c ∷ []));
         none = λ h. absurd (cc);
-        number = subst (λ v. HasDigits s'.digits v 0) (sym value) (grows (digits_value 10 w.digits) w.number);
+        number = subst (λ v. AreDigitsOf s'.digits v 0) (sym value) (grows (digits_value 10 w.digits) w.number);
       },
       omega (arith, length-append text (c ∷ [])),
     )
 
 pub fraction_digit : (s s' : DecimalStep) (text : List ℕ) (c digit : ℕ) → ReadFraction s text → digit + 48 ≡ c → digit < 10 → s'.negative ≡ s.negative
-    → s'.digits.some ≡ true → ((value count : ℕ) → HasDigits s.digits value count → HasDigits s'.digits (value * 10 + digit) (count + 1))
+    → s'.digits.some ≡ true → ((value count : ℕ) → AreDigitsOf s.digits value count → AreDigitsOf s'.digits (value * 10 + digit) (count + 1))
     → ReadFraction s' (text ++ c ∷ [])
 fraction_digit s s' text c digit w e low same some grows =
     let is = digit_is c digit e low in
@@ -160,8 +160,8 @@ fraction_digit s s' text c digit w e low same some grows =
       spelled = ap (λ t. t ++ c ∷ []) w.spelled ∙ simp append_assoc;
       some = λ h. omega arith;
       none = λ h. absurd (cc);
-      number = subst (λ n. HasDigits s'.digits (digits_value 10 (w.digits ++ (w.after ++ c ∷ []))) n) (sym count)
-          (subst (λ v. HasDigits s'.digits v (length w.after + 1)) (sym value) grown);
+      number = subst (λ n. AreDigitsOf s'.digits (digits_value 10 (w.digits ++ (w.after ++ c ∷ []))) n) (sym count)
+          (subst (λ v. AreDigitsOf s'.digits v (length w.after + 1)) (sym value) grown);
     }
 
 empty_parts : (xs ys : List ℕ) → [] ≡ xs ++ ys → (xs ≡ []) × (ys ≡ [])
@@ -188,7 +188,7 @@ first_sign s s' text c w none is digits =
         spelled = ap (λ t. t ++ c ∷ []) none;
         some = λ h. let more = w.some (sym (ap (λ (d : _). d.some) digits) ∙ h) in omega (arith, ap length empty.1);
         none = λ h. refl;
-        number = subst (λ (d : _). HasDigits d 0 0) (sym digits) (subst (λ ds. HasDigits s.digits (digits_value 10 ds) 0) empty.1 w.number);
+        number = subst (λ (d : _). AreDigitsOf d 0 0) (sym digits) (subst (λ ds. AreDigitsOf s.digits (digits_value 10 ds) 0) empty.1 w.number);
       },
       omega (arith, length-append text (c ∷ [])),
     )
@@ -217,7 +217,7 @@ whole_spelled s text w = w.spelled ∙ ap (λ t. w.sign ++ t) (sym (append-nil w
 
 -- the answer on a text with no point
 pub whole_answer : (s : DecimalStep) (text : List ℕ) (answer : DecimalText) (w : ReadWhole s text)
-    → IsNumberAnswer s.negative (digits_value 10 w.digits) 0 s.digits.some answer → IsDecimalAnswer text answer
+    → IsDigitsAnswer s.negative (digits_value 10 w.digits) 0 s.digits.some answer → IsDecimalAnswer text answer
 whole_answer s text (Value n) w a = (
   a.1,
   (
@@ -253,7 +253,7 @@ fraction_are s text w some = record { sign = w.sign_is; whole = w.are_digits; fr
 
 -- the answer on a text with a point
 pub fraction_answer : (s : DecimalStep) (text : List ℕ) (answer : DecimalText) (w : ReadFraction s text)
-    → IsNumberAnswer s.negative (digits_value 10 (w.digits ++ w.after)) (length w.after) s.digits.some answer → IsDecimalAnswer text answer
+    → IsDigitsAnswer s.negative (digits_value 10 (w.digits ++ w.after)) (length w.after) s.digits.some answer → IsDecimalAnswer text answer
 fraction_answer s text (Value n) w a = (
   a.1,
   (

@@ -2,7 +2,7 @@
 use Rattle.std.proofs.Common.{◌≡◌, ℕ, ◌+◌, ◌*◌, ◌%◌, ◌^◌, ◌<◌, ◌≤◌, ◌⊎◌, inl, inr, min, refl, sym, ap, ◌∙◌, arith, Bool, true, false}
 use Rattle.std.proofs.Math.Nat.{mul-le-mul_left}
 use Rattle.lexical_core.specs.Decimals.{Number, IsNumber, HasNoDecimal}
-use Rattle.lexical_core.specs.DecimalSoFar.{HasDigits}
+use Rattle.lexical_core.specs.DecimalSoFar.{AreDigitsOf}
 use Rattle.lexical_core.specs.declared.digits.Digits.{Digits}
 use Rattle.lexical_core.proofs.Scales.{pow_positive, pow_more, pow_split, no_decimal, IsNumber-same}
 
@@ -10,8 +10,8 @@ pub bool_cases : (b : Bool) → (b ≡ true) ⊎ (b ≡ false)
 bool_cases true = inl refl
 bool_cases false = inr refl
 
-pub whole_fits : (d e : Digits) (digit value : ℕ) → HasDigits d value 0 → e.zeros ≡ d.zeros → e.long ≡ d.long → e.scale ≡ d.scale
-    → e.size ≡ d.size * 10 ^ 1 + digit → HasDigits e (value * 10 + digit) 0
+pub whole_fits : (d e : Digits) (digit value : ℕ) → AreDigitsOf d value 0 → e.zeros ≡ d.zeros → e.long ≡ d.long → e.scale ≡ d.scale
+    → e.size ≡ d.size * 10 ^ 1 + digit → AreDigitsOf e (value * 10 + digit) 0
 whole_fits d e digit value h zeros long scale size =
     let value_is = h.value_is in let count_is = h.count_is in let kept = h.zeros_kept in
     let no_zeros : h.zeros ≡ 0 = omega arith in
@@ -29,8 +29,8 @@ whole_fits d e digit value h zeros long scale size =
       too_long = λ full. elim (h.too_long (sym long ∙ full)) [ inl great ↦ inl (omega arith) | inr deep ↦ absurd (omega arith) ];
     }
 
-pub whole_long : (d e : Digits) (digit value : ℕ) → HasDigits d value 0 → e.zeros ≡ d.zeros → e.long ≡ true
-    → 10 ^ 18 ≤ d.size * 10 ^ 1 + digit → HasDigits e (value * 10 + digit) 0
+pub whole_long : (d e : Digits) (digit value : ℕ) → AreDigitsOf d value 0 → e.zeros ≡ d.zeros → e.long ≡ true
+    → 10 ^ 18 ≤ d.size * 10 ^ 1 + digit → AreDigitsOf e (value * 10 + digit) 0
 whole_long d e digit value h zeros long great =
     let value_is = h.value_is in let count_is = h.count_is in let kept = h.zeros_kept in
     let no_zeros : h.zeros ≡ 0 = omega arith in
@@ -52,8 +52,8 @@ whole_long d e digit value h zeros long great =
       too_long = λ full. inl size_great;
     }
 
-pub zero_after : (d e : Digits) (digit value count : ℕ) → digit ≡ 0 → HasDigits d value count → e.zeros ≡ min (d.zeros + 1) 19 → e.long ≡ d.long → e.scale ≡ d.scale
-    → e.size ≡ d.size → HasDigits e (value * 10 + digit) (count + 1)
+pub zero_after : (d e : Digits) (digit value count : ℕ) → digit ≡ 0 → AreDigitsOf d value count → e.zeros ≡ min (d.zeros + 1) 19 → e.long ≡ d.long → e.scale ≡ d.scale
+    → e.size ≡ d.size → AreDigitsOf e (value * 10 + digit) (count + 1)
 zero_after d e digit value count none h zeros long scale size =
     let value_is = h.value_is in let count_is = h.count_is in let kept = h.zeros_kept in
     let power = ap (λ n. h.size * n) (pow_more h.zeros) in
@@ -79,8 +79,8 @@ ends_in size zeros digit h = let power = ap (λ n. size * n) (pow_more zeros) in
 not_less : (size k digit : ℕ) → size ≤ size * 10 ^ k + digit
 not_less size k digit = let p : 1 ≤ 10 ^ k = pow_positive k in omega (arith, mul-le-mul_left size p)
 
-pub last_fits : (d e : Digits) (digit value count : ℕ) → 0 < digit → digit < 10 → HasDigits d value count → d.scale + d.zeros < 18 → e.zeros ≡ 0
-    → e.long ≡ d.long → e.scale ≡ d.scale + (d.zeros + 1) → e.size ≡ d.size * 10 ^ (d.zeros + 1) + digit → HasDigits e (value * 10 + digit) (count + 1)
+pub last_fits : (d e : Digits) (digit value count : ℕ) → 0 < digit → digit < 10 → AreDigitsOf d value count → d.scale + d.zeros < 18 → e.zeros ≡ 0
+    → e.long ≡ d.long → e.scale ≡ d.scale + (d.zeros + 1) → e.size ≡ d.size * 10 ^ (d.zeros + 1) + digit → AreDigitsOf e (value * 10 + digit) (count + 1)
 last_fits d e digit value count some below h room zeros long scale size =
     let count_is = h.count_is in let kept = h.zeros_kept in
     let same_zeros : d.zeros ≡ h.zeros = omega arith in
@@ -105,7 +105,7 @@ last_fits d e digit value count some below h room zeros long scale size =
 abbrev pub IsTooLong : Digits → ℕ → Type 0
 IsTooLong d digit = (18 ≤ d.scale + d.zeros) ⊎ ((d.scale + d.zeros < 18) × (10 ^ 18 ≤ d.size * 10 ^ (d.zeros + 1) + digit))
 
-still_long : (d : Digits) (digit value count : ℕ) → HasDigits d value count → IsTooLong d digit → (h : HasDigits d value count)
+still_long : (d : Digits) (digit value count : ℕ) → AreDigitsOf d value count → IsTooLong d digit → (h : AreDigitsOf d value count)
     → (10 ^ 18 ≤ h.size * 10 ^ (h.zeros + 1) + digit) ⊎ (18 < h.scale + (h.zeros + 1))
 still_long d digit value count h' why h =
     let kept = h.zeros_kept in
@@ -122,8 +122,8 @@ still_long d digit value count h' why h =
           ]
     ]
 
-pub last_long : (d e : Digits) (digit value count : ℕ) → 0 < digit → digit < 10 → HasDigits d value count → IsTooLong d digit → e.zeros ≡ 0
-    → e.long ≡ true → HasDigits e (value * 10 + digit) (count + 1)
+pub last_long : (d e : Digits) (digit value count : ℕ) → 0 < digit → digit < 10 → AreDigitsOf d value count → IsTooLong d digit → e.zeros ≡ 0
+    → e.long ≡ true → AreDigitsOf e (value * 10 + digit) (count + 1)
 last_long d e digit value count some below h why zeros long =
     let count_is = h.count_is in
     let last = ends_in h.size h.zeros digit below in
@@ -140,7 +140,7 @@ last_long d e digit value count some below h why zeros long =
     }
 
 -- the number of all digits
-pub number_is : (d : Digits) (negative : Bool) (value count : ℕ) (n : Number) → HasDigits d value count → d.long ≡ false → IsNumber negative d.size d.scale n
+pub number_is : (d : Digits) (negative : Bool) (value count : ℕ) (n : Number) → AreDigitsOf d value count → d.long ≡ false → IsNumber negative d.size d.scale n
     → IsNumber negative value count n
 number_is d negative value count n h short number =
     let old = h.kept short in
@@ -150,7 +150,7 @@ number_is d negative value count n h short number =
     IsNumber-same negative d.size d.scale value count n
     (ap (λ s. s * 10 ^ count) old.0 ∙ (omega (arith, scale_power, value_power) ∙ ap (λ s. value * 10 ^ s) (sym old.1))) number
 
-pub too_long_number : (d : Digits) (value count : ℕ) → HasDigits d value count → d.long ≡ true → (sign : Bool) → HasNoDecimal sign value count
+pub too_long_number : (d : Digits) (value count : ℕ) → AreDigitsOf d value count → d.long ≡ true → (sign : Bool) → HasNoDecimal sign value count
 too_long_number d value count h full sign =
     let power = pow_split h.scale h.zeros in
     let scale_power = ap (λ k. h.size * 10 ^ k) h.count_is ∙ ap (λ k. h.size * k) power in

@@ -8,7 +8,7 @@ use Rattle.std.specs.Char.{encode_utf8, IsScalar}
 use Rattle.std.specs.Str.{encode_utf8_all}
 use Rattle.std.specs.List.{AllByRecursion}
 use Rattle.lexical_core.specs.Characters.{IsTextOf}
-use Rattle.lexical_core.specs.Utf8.{IsFront, Steps, GoesOn, Stops}
+use Rattle.lexical_core.specs.Utf8.{IsFront, Steps, Utf8GoesOn, Utf8Stops}
 use Rattle.lexical_core.specs.declared.utf8.Utf8.TheVariants.{Char, Bad}
 
 -- the bytes read so far are whole characters, each with P, and a front of one more
@@ -80,7 +80,7 @@ pub ReadSoFar-whole : (P : ℕ → Type 0) (read chars : List ℕ) → ReadSoFar
 ReadSoFar-whole P read chars r = (chars, r.are, sym (r.spelled ∙ append-nil (encode_utf8_all chars)))
 
 -- no character that P has stands before a byte with which nothing goes on, nor begins with it
-pub no_char_begins : (P : ℕ → Type 0) (begun : List ℕ) (byte : ℕ) (rest : List ℕ) → (begun ≡ []) ⊎ IsFront begun → Stops P (Some begun) byte
+pub no_char_begins : (P : ℕ → Type 0) (begun : List ℕ) (byte : ℕ) (rest : List ℕ) → (begun ≡ []) ⊎ IsFront begun → Utf8Stops P (Some begun) byte
     → (d : ℕ) (tail : List ℕ) → P d → encode_utf8 d ++ tail ≡ begun ++ byte ∷ rest → ⊥
 no_char_begins P begun byte rest begins stops d tail p e =
     elim (cases_lt (length begun) (length (encode_utf8 d))) [
@@ -96,13 +96,13 @@ no_char_begins P begun byte rest begins stops d tail p e =
           ]
     ]
 
-no_text_begins : (P : ℕ → Type 0) (begun : List ℕ) (byte : ℕ) (rest : List ℕ) → (begun ≡ []) ⊎ IsFront begun → Stops P (Some begun) byte
+no_text_begins : (P : ℕ → Type 0) (begun : List ℕ) (byte : ℕ) (rest : List ℕ) → (begun ≡ []) ⊎ IsFront begun → Utf8Stops P (Some begun) byte
     → (ds : List ℕ) → AllByRecursion P ds → encode_utf8_all ds ≡ begun ++ byte ∷ rest → ⊥
 no_text_begins P begun byte rest begins stops [] all e = let n = ap length e in let m = length-append begun (byte ∷ rest) in omega arith
 no_text_begins P begun byte rest begins stops (d ∷ ds) all e = no_char_begins P begun byte rest begins stops d (encode_utf8_all ds) all.0 e
 
 -- after a byte with which nothing goes on there is no text
-pub ReadSoFar-stops : (P : ℕ → Type 0) (read chars begun : List ℕ) (byte : ℕ) (rest : List ℕ) → ReadSoFar P read chars begun → Stops P (Some begun) byte
+pub ReadSoFar-stops : (P : ℕ → Type 0) (read chars begun : List ℕ) (byte : ℕ) (rest : List ℕ) → ReadSoFar P read chars begun → Utf8Stops P (Some begun) byte
     → IsTextOf P (read ++ byte ∷ rest) → ⊥
 ReadSoFar-stops P read chars begun byte rest r stops text =
     let flat = text.2 ∙ (ap (λ t. t ++ byte ∷ rest) r.spelled ∙ append_assoc (encode_utf8_all chars) begun (byte ∷ rest)) in
@@ -134,7 +134,7 @@ ReadTo-next P place bytes begun chars next step h e r =
     }
 
 goes_on : (P : ℕ → Type 0) (place : ℕ) (bytes begun chars : List ℕ) (new : Option (List ℕ)) → place < length bytes
-    → ReadSoFar P (take place bytes) chars begun → GoesOn P (Some begun) (get_or bytes place 0) new → ReadTo P (place + 1) bytes new
+    → ReadSoFar P (take place bytes) chars begun → Utf8GoesOn P (Some begun) (get_or bytes place 0) new → ReadTo P (place + 1) bytes new
 goes_on P place bytes begun chars new h r (inl m) =
     ReadTo-next P place bytes _ chars [] new h m.1 (ReadSoFar-more P _ chars begun _ r m.0)
 goes_on P place bytes begun chars new h r (inr m) =
@@ -142,27 +142,27 @@ goes_on P place bytes begun chars new h r (inr m) =
 
 -- one more byte of the list
 pub ReadTo-goes : (P : ℕ → Type 0) (place : ℕ) (bytes : List ℕ) (old new : Option (List ℕ)) → place < length bytes → ReadTo P place bytes old
-    → GoesOn P old (get_or bytes place 0) new → ReadTo P (place + 1) bytes new
+    → Utf8GoesOn P old (get_or bytes place 0) new → ReadTo P (place + 1) bytes new
 ReadTo-goes P place bytes old new h r g =
-    goes_on P place bytes r.begun r.chars new h r.so_far (subst (λ o. GoesOn P o (get_or bytes place 0) new) r.step_is g)
+    goes_on P place bytes r.begun r.chars new h r.so_far (subst (λ o. Utf8GoesOn P o (get_or bytes place 0) new) r.step_is g)
 
 pub ReadTo-stops : (P : ℕ → Type 0) (place : ℕ) (bytes : List ℕ) (old : Option (List ℕ)) → place < length bytes → ReadTo P place bytes old
-    → Stops P old (get_or bytes place 0) → IsTextOf P bytes → ⊥
+    → Utf8Stops P old (get_or bytes place 0) → IsTextOf P bytes → ⊥
 ReadTo-stops P place bytes old h r s text =
     let split : bytes ≡ take place bytes ++ get_or bytes place 0 ∷ drop (place + 1) bytes =
     sym (take-append-drop place bytes) ∙ ap (λ t. take place bytes ++ t) (rw (add-one, drop-cons bytes place 0)) in
     ReadSoFar-stops P (take place bytes) r.chars r.begun (get_or bytes place 0) (drop (place + 1) bytes) r.so_far
-    (subst (λ o. Stops P o (get_or bytes place 0)) r.step_is s) (subst (IsTextOf P) split text)
+    (subst (λ o. Utf8Stops P o (get_or bytes place 0)) r.step_is s) (subst (IsTextOf P) split text)
 
 -- a character that P has not ends here: nothing with P begins so
-pub Stops-char : (P : ℕ → Type 0) (old new : Option (List ℕ)) (byte c : ℕ) → Steps old byte (Char c) new → (P c → ⊥) → Stops P old byte
+pub Stops-char : (P : ℕ → Type 0) (old new : Option (List ℕ)) (byte c : ℕ) → Steps old byte (Char c) new → (P c → ⊥) → Utf8Stops P old byte
 Stops-char P None new byte c s none = tt
 Stops-char P (Some begun) new byte c s none =
     λ d rest p e. let same = encode_same d c [] rest (append-nil (encode_utf8 d) ∙ (e ∙ (sym (append_assoc begun (byte ∷ []) rest) ∙ ap (λ t. t ++ rest) (sym s.1)))) in
     none (subst P same.0 p)
 
 -- no character begins so, and so none with P
-pub Stops-bad : (P : ℕ → Type 0) → ((c : ℕ) → P c → IsScalar c) → (old new : Option (List ℕ)) (byte : ℕ) → Steps old byte Bad new → Stops P old byte
+pub Stops-bad : (P : ℕ → Type 0) → ((c : ℕ) → P c → IsScalar c) → (old new : Option (List ℕ)) (byte : ℕ) → Steps old byte Bad new → Utf8Stops P old byte
 Stops-bad P scalars None new byte s = tt
 Stops-bad P scalars (Some begun) new byte s = λ d rest p e. s.0 d rest (scalars d p) (e ∙ sym (append_assoc begun (byte ∷ []) rest))
 

@@ -6,7 +6,7 @@ use Rattle.std.proofs.Math.Nat.{mul-le-mul_left}
 use Rattle.std.specs.Fmt.{decimal}
 use Rattle.std.specs.Int.RustNames.{unsigned_abs}
 use Rattle.std.specs.Str.Parse.{digits_value}
-use Rattle.lexical_core.specs.Decimals.{Number, IsDecimal, signed}
+use Rattle.lexical_core.specs.Decimals.{Number, IsDecimal, signed_number}
 use Rattle.lexical_core.specs.Reals.{minus_text, exponent_text, real_body, AreRealDigits, IsRealNumber, IsRealBody, IsReal}
 use Rattle.lexical_core.specs.Exponents.{IsPositiveNumeral}
 use Rattle.lexical_core.proofs.DecimalTexts.{digits_split}
@@ -17,7 +17,7 @@ use Rattle.lexical_core.proofs.Scales.{pow_positive, pow_more}
 use Rattle.lexical_core.proofs.Written.{contents_are}
 
 -- a number that is no zero has one sign
-one_sign : (b b' : Bool) (z : ℤ) → z ≡ signed b (unsigned_abs z) → z ≡ signed b' (unsigned_abs z) → 0 < unsigned_abs z → b ≡ b'
+one_sign : (b b' : Bool) (z : ℤ) → z ≡ signed_number b (unsigned_abs z) → z ≡ signed_number b' (unsigned_abs z) → 0 < unsigned_abs z → b ≡ b'
 one_sign b b' (pos zero) p q some = absurd (omega arith)
 one_sign false false (pos (suc k)) p q some = refl
 one_sign true b' (pos (suc k)) p q some = absurd (cc)
@@ -78,7 +78,7 @@ value_below b v (negsuc e) n d p ends =
     let same = one.0 in
     omega arith
 
-sign_of_real : (b : Bool) (v : ℕ) (e : ℤ) (n : Number) → IsRealNumber b v e n → n.whole ≡ signed b (unsigned_abs n.whole)
+sign_of_real : (b : Bool) (v : ℕ) (e : ℤ) (n : Number) → IsRealNumber b v e n → n.whole ≡ signed_number b (unsigned_abs n.whole)
 sign_of_real b v (pos e) n p = p.same_sign
 sign_of_real b v (negsuc e) n p = p.same_sign
 

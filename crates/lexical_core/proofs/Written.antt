@@ -11,7 +11,7 @@ use Rattle.std.specs.Fmt.{decimal}
 use Rattle.std.specs.Int.{is_negative}
 use Rattle.std.specs.Int.RustNames.{unsigned_abs}
 use Rattle.std.specs.Str.Parse.{AllDigits, digits_value}
-use Rattle.lexical_core.specs.Decimals.{Number, IsDecimal, IsNumber, signed, fraction_digits, decimal_spelling, IsSign, EndsInNoZero, IsShortFraction, IsCanonicalText}
+use Rattle.lexical_core.specs.Decimals.{Number, IsDecimal, IsNumber, signed_number, fraction_digits, decimal_spelling, IsSign, EndsInNoZero, IsShortFraction, IsCanonicalText}
 use Rattle.lexical_core.specs.CanonicalDecimals.{canonical_parts, fraction_of}
 use Rattle.lexical_core.specs.FixedDigits.{fixed_digits}
 use Rattle.lexical_core.specs.Reals.{minus_text, exponent_text, IsReal, IsRealNumber, AreRealDigits, real_body}
@@ -129,8 +129,8 @@ no_plus : (b : Bool) → minus_text b ≡ 43 ∷ [] → ⊥
 no_plus true e = let same = ap (λ t. get_or t 0 0) e in omega arith
 no_plus false e = cc
 
-signed_is : (z : ℤ) → z ≡ signed (is_negative z) (unsigned_abs z)
-signed_is (pos n) = ap (λ b. signed b n) (sym (le-ltb n 0 (omega arith)))
+signed_is : (z : ℤ) → z ≡ signed_number (is_negative z) (unsigned_abs z)
+signed_is (pos n) = ap (λ b. signed_number b n) (sym (le-ltb n 0 (omega arith)))
 signed_is (negsuc n) = refl
 
 pub number_itself : (n : Number) → IsNumber (is_negative n.whole) (unsigned_abs n.whole) n.scale n

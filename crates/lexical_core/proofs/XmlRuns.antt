@@ -9,8 +9,8 @@ use Rattle.std.proofs.lemmas.Str.{encode_ascii, length-encode, len_utf8_bounds, 
 use Rattle.std.proofs.lemmas.List.{length-take-le, take-append-drop, take_more}
 use Rattle.std.proofs.Math.Seq.{take-append_seam, drop-append_seam, take-append-add}
 use Rattle.lexical_core.specs.Characters.{IsXmlChar, IsXmlText}
-use Rattle.lexical_core.specs.Utf8.{IsFront, GoesOn, Stops}
-use Rattle.lexical_core.specs.XmlRuns.{IsXmlRun, IsPlain, is_plain, IsCharAt, BeginsNoChar}
+use Rattle.lexical_core.specs.Utf8.{IsFront, Utf8GoesOn, Utf8Stops}
+use Rattle.lexical_core.specs.XmlRuns.{IsXmlRun, IsPlainXmlByte, is_plain_xml_byte, IsCharAt, BeginsNoChar}
 use Rattle.lexical_core.proofs.ReadSoFar.{AllByRecursion-append, after_chars, no_char_begins, no_char_in_front}
 
 -- ---- the character at the front
@@ -23,27 +23,27 @@ pub record IsBegun (piece : List ℕ) (at : ℕ) (step : Option (List ℕ)) : Ty
 pub begun_none : (piece : List ℕ) (step : Option (List ℕ)) → step ≡ Some [] → IsBegun piece 0 step
 begun_none piece step e = record { step_is = e; begins = inl refl }
 
-byte_goes : (piece : List ℕ) (at : ℕ) (old new : Option (List ℕ)) → IsBegun piece at old → GoesOn IsXmlChar old (get_or piece at 0) new
-    → GoesOn IsXmlChar (Some (take at piece)) (get_or piece at 0) new
-byte_goes piece at old new b g = subst (λ o. GoesOn IsXmlChar o (get_or piece at 0) new) b.step_is g
+byte_goes : (piece : List ℕ) (at : ℕ) (old new : Option (List ℕ)) → IsBegun piece at old → Utf8GoesOn IsXmlChar old (get_or piece at 0) new
+    → Utf8GoesOn IsXmlChar (Some (take at piece)) (get_or piece at 0) new
+byte_goes piece at old new b g = subst (λ o. Utf8GoesOn IsXmlChar o (get_or piece at 0) new) b.step_is g
 
-pub begun_more : (piece : List ℕ) (at : ℕ) (old new : Option (List ℕ)) → at < length piece → IsBegun piece at old → GoesOn IsXmlChar old (get_or piece at 0) new
+pub begun_more : (piece : List ℕ) (at : ℕ) (old new : Option (List ℕ)) → at < length piece → IsBegun piece at old → Utf8GoesOn IsXmlChar old (get_or piece at 0) new
     → (new ≡ Some [] → ⊥) → IsBegun piece (at + 1) new
 begun_more piece at old new within b g not_whole = by (byte_goes piece at old new b g) where
   more : take (at + 1) piece ≡ take at piece ++ get_or piece at 0 ∷ []
   more = take_more piece at 0 within
 
-  by : GoesOn IsXmlChar (Some (take at piece)) (get_or piece at 0) new → IsBegun piece (at + 1) new
+  by : Utf8GoesOn IsXmlChar (Some (take at piece)) (get_or piece at 0) new → IsBegun piece (at + 1) new
   by (inl m) = record { step_is = m.1 ∙ ap Some (sym more); begins = inr (subst IsFront (sym more) m.0) }
   by (inr m) = absurd (not_whole m.3)
 
-pub begun_char : (piece : List ℕ) (at : ℕ) (old new : Option (List ℕ)) → at < length piece → IsBegun piece at old → GoesOn IsXmlChar old (get_or piece at 0) new
+pub begun_char : (piece : List ℕ) (at : ℕ) (old new : Option (List ℕ)) → at < length piece → IsBegun piece at old → Utf8GoesOn IsXmlChar old (get_or piece at 0) new
     → new ≡ Some [] → IsCharAt piece (at + 1)
 begun_char piece at old new within b g whole = by (byte_goes piece at old new b g) where
   more : take (at + 1) piece ≡ take at piece ++ get_or piece at 0 ∷ []
   more = take_more piece at 0 within
 
-  by : GoesOn IsXmlChar (Some (take at piece)) (get_or piece at 0) new → IsCharAt piece (at + 1)
+  by : Utf8GoesOn IsXmlChar (Some (take at piece)) (get_or piece at 0) new → IsCharAt piece (at + 1)
   by (inl m) =
       let same : take at piece ++ get_or piece at 0 ∷ [] ≡ [] = (let both = sym m.1 ∙ whole in cc) in
       absurd (omega (arith, ap length same, length-append (take at piece) (get_or piece at 0 ∷ [])))
@@ -55,11 +55,11 @@ begun_char piece at old new within b g whole = by (byte_goes piece at old new b 
     size_is = ap length (m.2 ∙ sym more) ∙ length-take-le (at + 1) piece (omega (arith, within));
   }
 
-pub begun_stops : (piece : List ℕ) (at : ℕ) (old : Option (List ℕ)) → at < length piece → IsBegun piece at old → Stops IsXmlChar old (get_or piece at 0) → BeginsNoChar piece
+pub begun_stops : (piece : List ℕ) (at : ℕ) (old : Option (List ℕ)) → at < length piece → IsBegun piece at old → Utf8Stops IsXmlChar old (get_or piece at 0) → BeginsNoChar piece
 begun_stops piece at old within b s c rest xml e =
     let split : piece ≡ take at piece ++ get_or piece at 0 ∷ drop (at + 1) piece =
     sym (take-append-drop at piece) ∙ ap (λ t. take at piece ++ t) (rw (add-one, drop-cons piece at 0)) in
-    no_char_begins IsXmlChar (take at piece) (get_or piece at 0) (drop (at + 1) piece) b.begins (subst (λ o. Stops IsXmlChar o (get_or piece at 0)) b.step_is s) c rest xml
+    no_char_begins IsXmlChar (take at piece) (get_or piece at 0) (drop (at + 1) piece) b.begins (subst (λ o. Utf8Stops IsXmlChar o (get_or piece at 0)) b.step_is s) c rest xml
     (sym e ∙ split)
 
 pub begun_ends : (piece : List ℕ) (at : ℕ) (old : Option (List ℕ)) → length piece ≤ at → IsBegun piece at old → BeginsNoChar piece
@@ -74,13 +74,13 @@ begun_ends piece at old over b c rest xml e = by b.begins where
 
 -- ---- bytes that are characters by themselves
 
-upper_is : (byte : ℕ) → is_plain byte ≡ true → 32 ≤ byte → byte ≤ 127
+upper_is : (byte : ℕ) → is_plain_xml_byte byte ≡ true → 32 ≤ byte → byte ≤ 127
 upper_is byte h high = grind (arith, nat_tests)
 
-lower_is : (byte : ℕ) → is_plain byte ≡ true → byte < 32 → byte ≢ 13 → (9 ≤ byte) × (byte ≤ 10)
+lower_is : (byte : ℕ) → is_plain_xml_byte byte ≡ true → byte < 32 → byte ≢ 13 → (9 ≤ byte) × (byte ≤ 10)
 lower_is byte h low other = (grind (arith, nat_tests), grind (arith, nat_tests))
 
-plain_is : (byte : ℕ) → is_plain byte ≡ true → IsPlain byte
+plain_is : (byte : ℕ) → is_plain_xml_byte byte ≡ true → IsPlainXmlByte byte
 plain_is byte h =
     elim (cases_lt byte 32) [
       | inl low ↦
@@ -91,15 +91,15 @@ plain_is byte h =
       | inr high ↦ record { ascii = omega (arith, upper_is byte h high); xml = inl (high, omega (arith, upper_is byte h high)) }
     ]
 
-front_by : (x : ℕ) (xs : List ℕ) (n : ℕ) (b : Bool) → is_plain x ≡ b → suc n ≤ cond b (1 + prefix_len is_plain xs) 0 → (n ≤ prefix_len is_plain xs → AllByRecursion IsPlain (take n xs))
-    → AllByRecursion IsPlain (x ∷ take n xs)
+front_by : (x : ℕ) (xs : List ℕ) (n : ℕ) (b : Bool) → is_plain_xml_byte x ≡ b → suc n ≤ cond b (1 + prefix_len is_plain_xml_byte xs) 0 → (n ≤ prefix_len is_plain_xml_byte xs → AllByRecursion IsPlainXmlByte (take n xs))
+    → AllByRecursion IsPlainXmlByte (x ∷ take n xs)
 front_by x xs n true e k rest = (plain_is x e, rest (omega (arith, k)))
 front_by x xs n false e k rest = absurd (omega (arith, k))
 
-pub plain_front : (piece : List ℕ) (n : ℕ) → n ≤ prefix_len is_plain piece → AllByRecursion IsPlain (take n piece)
+pub plain_front : (piece : List ℕ) (n : ℕ) → n ≤ prefix_len is_plain_xml_byte piece → AllByRecursion IsPlainXmlByte (take n piece)
 plain_front piece zero h = tt
 plain_front [] (suc n) h = tt
-plain_front (x ∷ xs) (suc n) h = front_by x xs n (is_plain x) refl h (plain_front xs n)
+plain_front (x ∷ xs) (suc n) h = front_by x xs n (is_plain_xml_byte x) refl h (plain_front xs n)
 
 -- ---- the run so far
 
@@ -131,14 +131,14 @@ walked_on piece bytes characters m n rest after cs w l e b k f = record {
 }
 
 -- plain bytes are their own characters
-pub plain_encoded : (xs : List ℕ) → AllByRecursion IsPlain xs → (encode_utf8_all xs ≡ xs) × AllByRecursion IsXmlChar xs
+pub plain_encoded : (xs : List ℕ) → AllByRecursion IsPlainXmlByte xs → (encode_utf8_all xs ≡ xs) × AllByRecursion IsXmlChar xs
 plain_encoded [] h = (refl, tt)
 plain_encoded (x ∷ xs) h =
     let k = plain_encoded xs h.1 in
     let first = h.0 in
     (ap (λ v. v ++ encode_utf8_all xs) (encode_ascii x first.ascii) ∙ ap (λ v. x ∷ v) k.0, (first.xml, k.1))
 
-pub walked_plain : (piece : List ℕ) (bytes characters n : ℕ) (rest after : List ℕ) → IsWalked piece bytes characters rest → AllByRecursion IsPlain (take n rest)
+pub walked_plain : (piece : List ℕ) (bytes characters n : ℕ) (rest after : List ℕ) → IsWalked piece bytes characters rest → AllByRecursion IsPlainXmlByte (take n rest)
     → n ≤ length rest → after ≡ drop n rest → IsWalked piece (bytes + n) (characters + n) after
 walked_plain piece bytes characters n rest after w p h e =
     let f = plain_encoded (take n rest) p in

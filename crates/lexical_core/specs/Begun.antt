@@ -4,12 +4,12 @@ use Rattle.lexical_core.specs.declared.utf8.Begun.{Begun}
 use Rattle.lexical_core.specs.declared.utf8.Begun.TheVariants.{Nothing, One, Two, Three, Failed}
 
 -- the bytes of the character that is begun, and None after a bad byte
-abbrev pub bytes_of : Begun → Option (List ℕ)
-bytes_of Nothing = Some []
-bytes_of (One a) = Some (a ∷ [])
-bytes_of (Two a b) = Some (a ∷ b ∷ [])
-bytes_of (Three a b c) = Some (a ∷ b ∷ c ∷ [])
-bytes_of Failed = None
+abbrev pub begun_bytes : Begun → Option (List ℕ)
+begun_bytes Nothing = Some []
+begun_bytes (One a) = Some (a ∷ [])
+begun_bytes (Two a b) = Some (a ∷ b ∷ [])
+begun_bytes (Three a b c) = Some (a ∷ b ∷ c ∷ [])
+begun_bytes Failed = None
 
 -- a byte after the first two
 abbrev pub IsTail : ℕ → Type 0

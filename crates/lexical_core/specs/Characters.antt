@@ -25,8 +25,8 @@ abbrev pub IsSpace : ℕ → Type 0
 IsSpace c = (c ≡ 32) ⊎ (c ≡ 9) ⊎ (c ≡ 10) ⊎ (c ≡ 13)
 
 -- the same as a test
-abbrev pub is_space : ℕ → Bool
-is_space c = c == 32 || c == 9 || c == 10 || c == 13
+abbrev pub is_white_space : ℕ → Bool
+is_white_space c = c == 32 || c == 9 || c == 10 || c == 13
 
 -- the bytes are the UTF-8 of characters that P has: RFC 3629 §3
 abbrev pub IsTextOf : (ℕ → Type 0) → List ℕ → Type 0

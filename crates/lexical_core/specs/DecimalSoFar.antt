@@ -10,7 +10,7 @@ use Rattle.lexical_core.specs.declared.decimal_text.Stage.TheVariants.{Start, Wh
 use Rattle.lexical_core.specs.declared.decimal_text.DecimalStep.{DecimalStep}
 
 -- digits of this value, `count` of them after the point: the value is `size` times ten to the zeros at their end after the point
-pub record HasDigits (d : Digits) (value count : ℕ) : Type 0 where
+pub record AreDigitsOf (d : Digits) (value count : ℕ) : Type 0 where
   pub size : ℕ
   pub scale : ℕ
   pub zeros : ℕ
@@ -22,10 +22,10 @@ pub record HasDigits (d : Digits) (value count : ℕ) : Type 0 where
   pub too_long : d.long ≡ true → (10 ^ 18 ≤ size) ⊎ (18 < scale)
 
 -- the answer by the value of all digits and the number of those after the point
-abbrev pub IsNumberAnswer : Bool → ℕ → ℕ → Bool → DecimalText → Type 0
-IsNumberAnswer negative value count some (Value n) = (some ≡ true) × IsDecimal n × IsNumber negative value count n
-IsNumberAnswer negative value count some TooLong = (some ≡ true) × ((sign : Bool) → HasNoDecimal sign value count)
-IsNumberAnswer negative value count some Bad = some ≡ false
+abbrev pub IsDigitsAnswer : Bool → ℕ → ℕ → Bool → DecimalText → Type 0
+IsDigitsAnswer negative value count some (Value n) = (some ≡ true) × IsDecimal n × IsNumber negative value count n
+IsDigitsAnswer negative value count some TooLong = (some ≡ true) × ((sign : Bool) → HasNoDecimal sign value count)
+IsDigitsAnswer negative value count some Bad = some ≡ false
 
 -- a sign and digits
 pub record ReadWhole (s : DecimalStep) (text : List ℕ) : Type 0 where
@@ -36,7 +36,7 @@ pub record ReadWhole (s : DecimalStep) (text : List ℕ) : Type 0 where
   pub spelled : text ≡ sign ++ digits
   pub some : s.digits.some ≡ true → 0 < length digits
   pub none : s.digits.some ≡ false → digits ≡ []
-  pub number : HasDigits s.digits (digits_value 10 digits) 0
+  pub number : AreDigitsOf s.digits (digits_value 10 digits) 0
 
 -- a sign, digits, the point and digits
 pub record ReadFraction (s : DecimalStep) (text : List ℕ) : Type 0 where
@@ -49,7 +49,7 @@ pub record ReadFraction (s : DecimalStep) (text : List ℕ) : Type 0 where
   pub spelled : text ≡ sign ++ (digits ++ 46 ∷ after)
   pub some : s.digits.some ≡ true → 0 < length digits + length after
   pub none : s.digits.some ≡ false → (digits ≡ []) × (after ≡ [])
-  pub number : HasDigits s.digits (digits_value 10 (digits ++ after)) (length after)
+  pub number : AreDigitsOf s.digits (digits_value 10 (digits ++ after)) (length after)
 
 -- no decimal text begins so
 abbrev pub BeginsNone : List ℕ → Type 0

@@ -10,14 +10,14 @@ pub record Number : Type 0 where
   pub scale : ℕ
 
 -- the whole number of this sign and size
-abbrev pub signed : Bool → ℕ → ℤ
-signed true size = neg_ℤ (pos size)
-signed false size = pos size
+abbrev pub signed_number : Bool → ℕ → ℤ
+signed_number true size = neg_ℤ (pos size)
+signed_number false size = pos size
 
 -- n is the number of this sign whose size is `size` times ten to the minus `scale`: both times ten to both scales are equal
 pub record IsNumber (negative : Bool) (size scale : ℕ) (n : Number) : Type 0 where
   pub same_size : unsigned_abs n.whole * 10 ^ scale ≡ size * 10 ^ n.scale
-  pub same_sign : n.whole ≡ signed negative (unsigned_abs n.whole)
+  pub same_sign : n.whole ≡ signed_number negative (unsigned_abs n.whole)
 
 -- a whole part of at most 18 digits, and the least scale that its number has, which is at most 18
 pub record IsDecimal (n : Number) : Type 0 where

@@ -14,5 +14,5 @@ reference_or attribute c plain =
     else plain))))))
 
 -- the spelling of a character in a text, and in the value of an attribute
-abbrev pub escaped : Bool → ℕ → List ℕ
-escaped attribute c = reference_or attribute c (encode_utf8 c)
+abbrev pub escape_of : Bool → ℕ → List ℕ
+escape_of attribute c = reference_or attribute c (encode_utf8 c)

@@ -42,14 +42,14 @@ abbrev pub flat : Tree → List Item
 flat t = Starts t.name t.attributes ∷ flat_nodes t.children ++ Ends t.name ∷ []
 
 -- the events that speak of the tree: nothing skipped, and no character outside the root; n elements are open
-abbrev pub counted : ℕ → List Item → List Item
-counted n [] = []
-counted n (Starts name attributes ∷ items) = Starts name attributes ∷ counted (Prim.Native.Nat.suc n) items
-counted n (Ends name ∷ items) = Ends name ∷ counted (Prim.Native.Nat.pred n) items
-counted Prim.Native.Nat.zero (Char c ∷ items) = counted Prim.Native.Nat.zero items
-counted (Prim.Native.Nat.suc n) (Char c ∷ items) = Char c ∷ counted (Prim.Native.Nat.suc n) items
-counted n (Skipped ∷ items) = counted n items
+abbrev pub tree_items : ℕ → List Item → List Item
+tree_items n [] = []
+tree_items n (Starts name attributes ∷ items) = Starts name attributes ∷ tree_items (Prim.Native.Nat.suc n) items
+tree_items n (Ends name ∷ items) = Ends name ∷ tree_items (Prim.Native.Nat.pred n) items
+tree_items Prim.Native.Nat.zero (Char c ∷ items) = tree_items Prim.Native.Nat.zero items
+tree_items (Prim.Native.Nat.suc n) (Char c ∷ items) = Char c ∷ tree_items (Prim.Native.Nat.suc n) items
+tree_items n (Skipped ∷ items) = tree_items n items
 
 -- The events are those of the tree.
 abbrev pub TreeIs : List Item → Tree → Type 0
-TreeIs items t = counted 0 items ≡ flat t
+TreeIs items t = tree_items 0 items ≡ flat t

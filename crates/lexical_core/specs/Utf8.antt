@@ -24,12 +24,12 @@ Steps (Some begun) byte More new = IsFront (begun ++ byte ∷ []) × (new ≡ So
 Steps (Some begun) byte Bad new = IsNoFront (begun ++ byte ∷ []) × (new ≡ None)
 
 -- one more byte goes on in a text of the characters that P has: it ends one of them, or goes on with one that is begun
-abbrev pub GoesOn : (ℕ → Type 0) → Option (List ℕ) → ℕ → Option (List ℕ) → Type 0
-GoesOn P None byte new = ⊥
-GoesOn P (Some begun) byte new = (IsFront (begun ++ byte ∷ []) × (new ≡ Some (begun ++ byte ∷ [])))
+abbrev pub Utf8GoesOn : (ℕ → Type 0) → Option (List ℕ) → ℕ → Option (List ℕ) → Type 0
+Utf8GoesOn P None byte new = ⊥
+Utf8GoesOn P (Some begun) byte new = (IsFront (begun ++ byte ∷ []) × (new ≡ Some (begun ++ byte ∷ [])))
     ⊎ ((c : ℕ) × P c × (encode_utf8 c ≡ begun ++ byte ∷ []) × (new ≡ Some []))
 
 -- one more byte goes on in no such text: no character that P has begins so
-abbrev pub Stops : (ℕ → Type 0) → Option (List ℕ) → ℕ → Type 0
-Stops P None byte = Unit {0}
-Stops P (Some begun) byte = (c : ℕ) (rest : List ℕ) → P c → encode_utf8 c ≡ begun ++ byte ∷ rest → ⊥
+abbrev pub Utf8Stops : (ℕ → Type 0) → Option (List ℕ) → ℕ → Type 0
+Utf8Stops P None byte = Unit {0}
+Utf8Stops P (Some begun) byte = (c : ℕ) (rest : List ℕ) → P c → encode_utf8 c ≡ begun ++ byte ∷ rest → ⊥

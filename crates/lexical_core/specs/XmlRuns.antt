@@ -11,13 +11,13 @@ pub record IsXmlRun (bytes : List ℕ) (count : ℕ) : Type 0 where
   pub are : AllByRecursion IsXmlChar chars
 
 -- a byte that is a character of XML by itself
-pub record IsPlain (byte : ℕ) : Type 0 where
+pub record IsPlainXmlByte (byte : ℕ) : Type 0 where
   pub ascii : byte < 128
   pub xml : IsXmlChar byte
 
 -- the same, as a test
-abbrev pub is_plain : ℕ → Bool
-is_plain byte = (nat_le 32 byte && nat_le byte 127) || (byte == 9) || (byte == 10) || (byte == 13)
+abbrev pub is_plain_xml_byte : ℕ → Bool
+is_plain_xml_byte byte = (nat_le 32 byte && nat_le byte 127) || (byte == 9) || (byte == 10) || (byte == 13)
 
 -- the piece begins with a character of XML, which has so many bytes
 pub record IsCharAt (piece : List ℕ) (size : ℕ) : Type 0 where

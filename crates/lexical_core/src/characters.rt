@@ -1,6 +1,6 @@
 // The characters of XML and of the names in it.
 ghost use Rattle.std.specs.Prelude.{◌≡◌, ◌↔◌, IsTrue};
-ghost use Rattle.lexical_core.specs.Characters.{IsXmlChar, IsNameStart, IsNameChar, IsSpace, is_space};
+ghost use Rattle.lexical_core.specs.Characters.{IsXmlChar, IsNameStart, IsNameChar, IsSpace, is_white_space};
 
 /// Whether the character may stand in a document: XML 1.0 §2.2, Char.
 #[inline]
@@ -57,7 +57,7 @@ pub fn is_name_char(c: char) -> bool
 #[inline]
 pub fn is_space(c: char) -> bool
     ensures fact { IsTrue result ↔ IsSpace c }
-    ensures test { result ≡ is_space c }
+    ensures test { result ≡ is_white_space c }
 {
     c == ' ' || c == '\t' || c == '\n' || c == '\r'
 }

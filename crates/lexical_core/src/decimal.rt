@@ -2,7 +2,7 @@
 ghost use Rattle.std.specs.Prelude.{◌≡◌, ◌*◌, ◌^◌, ◌%◌, ◌<◌, ◌≤◌, ◌↔◌, IsTrue, IfSome, IfNone, pos, ◌*ℤ◌, ◌<ℤ◌};
 ghost use Rattle.std.specs.Int.{is_negative};
 ghost use Rattle.std.specs.Int.RustNames.{unsigned_abs};
-ghost use Rattle.lexical_core.specs.Decimals.{signed, IsNumber, IsDecimal, HasNoDecimal};
+ghost use Rattle.lexical_core.specs.Decimals.{signed_number, IsNumber, IsDecimal, HasNoDecimal};
 
 use std::marker::Model;
 
@@ -123,7 +123,7 @@ fn least(mut size: u64, mut scale: u8) -> (u64, u8)
 /// The whole number of this sign and size.
 fn with_sign(negative: bool, size: u64) -> i64
     requires { size < 10 ^ 18 }
-    ensures { result ≡ signed negative size }
+    ensures { result ≡ signed_number negative size }
 {
     if negative {
         -(size as i64)

@@ -1,7 +1,7 @@
 // A decimal text read a character at a time: XML Schema part 2 §3.2.3.
 ghost use Rattle.std.specs.Prelude.{◌≡◌, ◌≢◌, ◌≤◌, ◌+◌, ◌<◌, ◌++◌, ◌∷◌, [], List, ℕ, length, take};
 ghost use Rattle.lexical_core.specs.DecimalAnswers.{IsDecimalAnswer};
-ghost use Rattle.lexical_core.specs.DecimalSoFar.{HasRead, ReadWhole, ReadFraction, IsNumberAnswer, HasDigits};
+ghost use Rattle.lexical_core.specs.DecimalSoFar.{HasRead, ReadWhole, ReadFraction, IsDigitsAnswer, AreDigitsOf};
 
 use crate::decimal::Decimal;
 use crate::digits::Digits;
@@ -239,8 +239,8 @@ impl DecimalStep {
 
 /// The number of these digits and this sign.
 fn number_of(digits: &Digits, negative: bool) -> DecimalText
-    ensures { (value count : ℕ) → HasDigits digits.now value count
-        → IsNumberAnswer negative value count digits.now.some result }
+    ensures { (value count : ℕ) → AreDigitsOf digits.now value count
+        → IsDigitsAnswer negative value count digits.now.some result }
 {
     if !digits.some {
         DecimalText::Bad

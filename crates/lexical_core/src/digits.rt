@@ -21,12 +21,12 @@ pub struct Digits {
 }
 
 impl Digits {
-    ghost use Rattle.lexical_core.specs.DecimalSoFar.{HasDigits};
+    ghost use Rattle.lexical_core.specs.DecimalSoFar.{AreDigitsOf};
 
     /// No digit.
     pub fn new() -> Digits
         ensures none { result.some ≡ false }
-        ensures number { HasDigits result 0 0 }
+        ensures number { AreDigitsOf result 0 0 }
     {
         Digits {
             some: false,
@@ -42,8 +42,8 @@ impl Digits {
     pub fn push_whole(&mut self, digit: u8)
         requires { digit < 10 }
         ensures some { self.new.some ≡ true }
-        ensures number { (value : ℕ) → HasDigits self.old value 0
-            → HasDigits self.new (value * 10 + digit) 0 }
+        ensures number { (value : ℕ) → AreDigitsOf self.old value 0
+            → AreDigitsOf self.new (value * 10 + digit) 0 }
     {
         self.some = true;
         match with_digit(self.size, 0, digit) {
@@ -57,8 +57,8 @@ impl Digits {
     pub fn push_fraction(&mut self, digit: u8)
         requires { digit < 10 }
         ensures some { self.new.some ≡ true }
-        ensures number { (value count : ℕ) → HasDigits self.old value count
-            → HasDigits self.new (value * 10 + digit) (count + 1) }
+        ensures number { (value count : ℕ) → AreDigitsOf self.old value count
+            → AreDigitsOf self.new (value * 10 + digit) (count + 1) }
     {
         self.some = true;
         if digit == 0 {
@@ -74,8 +74,8 @@ impl Digits {
         requires some { 0 < digit }
         requires digit { digit < 10 }
         ensures some { self.new.some ≡ self.old.some }
-        ensures number { (value count : ℕ) → HasDigits self.old value count
-            → HasDigits self.new (value * 10 + digit) (count + 1) }
+        ensures number { (value count : ℕ) → AreDigitsOf self.old value count
+            → AreDigitsOf self.new (value * 10 + digit) (count + 1) }
     {
         let zeros = self.zeros;
         self.zeros = 0;

@@ -1,6 +1,6 @@
 // The canonical spelling of a character in XML.
 ghost use Rattle.std.specs.Prelude.{◌≡◌, ◌≤◌, ℕ, List, true, false, IfSome, IfNone, take, length};
-ghost use Rattle.lexical_core.specs.Escapes.{escaped, reference_or};
+ghost use Rattle.lexical_core.specs.Escapes.{escape_of, reference_or};
 
 /// The reference to a character that does not stand for itself in a text, or in an attribute's value
 /// (XML 1.0 §2.4 and §3.3.3; what a reader would change is written as a reference); `None` for one that does.
@@ -35,7 +35,7 @@ fn only(wanted: bool, reference: &'static [u8]) -> Option<&'static [u8]>
 /// in an attribute's value, and gives its length. What stands behind it in the buffer is left open.
 pub fn escape(c: char, attribute: bool, buf: &mut [u8; 8]) -> usize
     ensures bound { result ≤ 8 }
-    ensures text { take result buf.new ≡ escaped attribute c }
+    ensures text { take result buf.new ≡ escape_of attribute c }
 {
     match reference_to(c, attribute) {
         Some(reference) => put(reference, buf),

@@ -2,7 +2,7 @@
 ghost use Rattle.std.specs.Prelude.{◌≤◌, ◌↔◌, ℕ, IsTrue, IfSome, IfNone, length, take};
 ghost use Rattle.std.specs.List.{AllByRecursion};
 ghost use Rattle.lexical_core.specs.Characters.{IsXmlText};
-ghost use Rattle.lexical_core.specs.XmlRuns.{IsXmlRun, IsPlain, is_plain, IsCharAt, BeginsNoChar};
+ghost use Rattle.lexical_core.specs.XmlRuns.{IsXmlRun, IsPlainXmlByte, is_plain_xml_byte, IsCharAt, BeginsNoChar};
 
 use crate::lanes::{ByteClass, run_length};
 use crate::utf8::Utf8Step;
@@ -48,7 +48,7 @@ pub fn xml_run(bytes: &[u8]) -> Run
 struct Plain;
 
 impl ByteClass for Plain {
-    ghost class = { λ _. is_plain };
+    ghost class = { λ _. is_plain_xml_byte };
 
     #[inline]
     fn has(&self, byte: u8) -> bool {
@@ -75,7 +75,7 @@ impl ByteClass for Plain {
 /// How many bytes at the front are characters of XML by themselves.
 fn plain_count(piece: &[u8]) -> usize
     ensures within { result ≤ length piece.now }
-    ensures plain { AllByRecursion IsPlain (take result piece.now) }
+    ensures plain { AllByRecursion IsPlainXmlByte (take result piece.now) }
 {
     run_length(&Plain, piece)
 }

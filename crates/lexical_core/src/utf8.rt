@@ -1,7 +1,7 @@
 // UTF-8 read a byte at a time (RFC 3629).
 ghost use Rattle.std.specs.Prelude.{◌≡◌, ◌↔◌, [], IsTrue, Some};
 ghost use Rattle.std.specs.Char.{IsScalar};
-ghost use Rattle.lexical_core.specs.Begun.{IsSecond, IsTail, bytes_of, CanGoOn};
+ghost use Rattle.lexical_core.specs.Begun.{IsSecond, IsTail, begun_bytes, CanGoOn};
 ghost use Rattle.lexical_core.specs.Utf8.{Steps};
 
 use std::marker::Model;
@@ -38,9 +38,9 @@ impl Model for Utf8Step {
 
     ghost Value = { Option (List ℕ) };
 
-    ghost use Rattle.lexical_core.specs.Begun.{bytes_of, CanGoOn};
+    ghost use Rattle.lexical_core.specs.Begun.{begun_bytes, CanGoOn};
 
-    ghost view = { λ s. bytes_of s.begun };
+    ghost view = { λ s. begun_bytes s.begun };
 
     ghost invariant = { λ s. CanGoOn s.begun };
 }
@@ -80,7 +80,7 @@ impl Begun {
     #[inline]
     fn with(self, byte: u8) -> (Utf8, Begun)
         requires { CanGoOn self }
-        ensures steps { Steps (bytes_of self) byte result.0 (bytes_of result.1) }
+        ensures steps { Steps (begun_bytes self) byte result.0 (begun_bytes result.1) }
         ensures goes_on { CanGoOn result.1 }
     {
         match self {
@@ -94,7 +94,7 @@ impl Begun {
 
     #[inline]
     fn with_first(byte: u8) -> (Utf8, Begun)
-        ensures steps { Steps (Some []) byte result.0 (bytes_of result.1) }
+        ensures steps { Steps (Some []) byte result.0 (begun_bytes result.1) }
         ensures goes_on { CanGoOn result.1 }
     {
         match byte {
@@ -106,7 +106,7 @@ impl Begun {
 
     fn with_second(first: u8, byte: u8) -> (Utf8, Begun)
         requires { CanGoOn (Begun.One first) }
-        ensures steps { Steps (bytes_of (Begun.One first)) byte result.0 (bytes_of result.1) }
+        ensures steps { Steps (begun_bytes (Begun.One first)) byte result.0 (begun_bytes result.1) }
         ensures goes_on { CanGoOn result.1 }
     {
         if !is_second(first, byte) {
@@ -121,7 +121,7 @@ impl Begun {
 
     fn with_third(first: u8, second: u8, byte: u8) -> (Utf8, Begun)
         requires { CanGoOn (Begun.Two first second) }
-        ensures steps { Steps (bytes_of (Begun.Two first second)) byte result.0 (bytes_of result.1) }
+        ensures steps { Steps (begun_bytes (Begun.Two first second)) byte result.0 (begun_bytes result.1) }
         ensures goes_on { CanGoOn result.1 }
     {
         if !is_tail(byte) {
@@ -138,7 +138,7 @@ impl Begun {
 
     fn with_fourth(first: u8, second: u8, third: u8, byte: u8) -> (Utf8, Begun)
         requires { CanGoOn (Begun.Three first second third) }
-        ensures steps { Steps (bytes_of (Begun.Three first second third)) byte result.0 (bytes_of result.1) }
+        ensures steps { Steps (begun_bytes (Begun.Three first second third)) byte result.0 (begun_bytes result.1) }
         ensures goes_on { CanGoOn result.1 }
     {
         if !is_tail(byte) {

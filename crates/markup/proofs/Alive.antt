@@ -10,7 +10,7 @@ use Rattle.markup.specs.Name.{Plain}
 use Rattle.markup.specs.Reference.{Ampersand as AmpersandEntity, Less as LessEntity, Named, Numbered, is_reference, number}
 use Rattle.markup.specs.Token.{Comment, Instruction, TypeDeclaration, Lf}
 use Rattle.markup.specs.Words.{word_text, letter_of}
-use Rattle.markup.specs.ReferenceScans.{reference_step, digit_step, first_digit, more_digits, digits_step, numbered, gives, letter_step}
+use Rattle.markup.specs.ReferenceScans.{reference_step, digit_step, first_digit, more_digits, digits_step, numbered_char, gives, letter_step}
 use Rattle.markup.specs.Scans.{step, fixed_ended, fits_letter, name_step, name_turn, name_word, referring, referring_in, behind_attribute_step, fixed_letter, field_letter, field_word_letter, field_end_step}
 use Rattle.markup.specs.declared.word.Word.{Word}
 use Rattle.markup.specs.declared.word.Word.TheVariants.{Utf8, One, Yes}
@@ -90,7 +90,7 @@ gives_good None = okr _ refl
 gives_good (Some c) = okr _ refl
 
 digits_good : (n c : ℕ) → GoodReference (digits_step n c)
-digits_good n c = gr (c == 59) _ Breaks (gives_good (numbered n)) (okr _ refl)
+digits_good n c = gr (c == 59) _ Breaks (gives_good (numbered_char n)) (okr _ refl)
 
 module _ (at : ℕ → ReferenceScan) (bound : (m : ℕ) → nat_le m 0x10_FFFF ≡ true → good_reference (at m) ≡ true) (radix : ℕ) where
   first_good : (c : ℕ) → GoodReference (first_digit at (digit_step radix 0 c))

@@ -5,7 +5,7 @@ use Rattle.std.proofs.lemmas.Bool.{and_parts, or_from, not-true, not_from_false,
 use Rattle.markup.specs.Chars.{is_xml_char, is_space, is_gap, is_name_start}
 use Rattle.markup.specs.Name.{Name, is_name, name_text}
 use Rattle.markup.specs.Reference.{Reference, reference_text}
-use Rattle.markup.specs.Attribute.{Piece, Literal, Refers, is_piece, piece_text, Attribute, is_attribute, attribute_text}
+use Rattle.markup.specs.Attribute.{ValuePiece, Literal, Refers, is_piece, piece_text, Attribute, is_attribute, attribute_text}
 use Rattle.markup.proofs.CharLemmas.{space_no_name, space_no_start, space_not, closes, closes_no_name, closes_no_start, closes_no_space, closes_no_colon, equals_no_name, equals_no_space, quote_no_space, quote_no_ampersand}
 use Rattle.markup.proofs.NameLemmas.{in_name, name_agree, name_begins, BeginsName}
 use Rattle.markup.proofs.ReferenceLemmas.{body, reference_agree, reference_then}
@@ -50,20 +50,20 @@ literal_facts quote c h =
 apart : (c d : ℕ) → (c == d) ≡ false → c ≡ d → ⊥
 apart c d h e = both_ways _ h (eq-eqb c d e)
 
-literal_same : (c d : ℕ) (ps qs : List Piece) → c ≡ d → ps ≡ qs → Literal c ∷ ps ≡ Literal d ∷ qs
+literal_same : (c d : ℕ) (ps qs : List ValuePiece) → c ≡ d → ps ≡ qs → Literal c ∷ ps ≡ Literal d ∷ qs
 literal_same c d ps qs e f = cc
 
-refers_same : (r s : Reference) (ps qs : List Piece) → r ≡ s → ps ≡ qs → Refers r ∷ ps ≡ Refers s ∷ qs
+refers_same : (r s : Reference) (ps qs : List ValuePiece) → r ≡ s → ps ≡ qs → Refers r ∷ ps ≡ Refers s ∷ qs
 refers_same r s ps qs e f = cc
 
-refers_then : (r : Reference) (ps : List Piece) (x : List ℕ) → flat_map piece_text (Refers r ∷ ps) ++ x ≡ reference_text r ++ (flat_map piece_text ps ++ x)
+refers_then : (r : Reference) (ps : List ValuePiece) (x : List ℕ) → flat_map piece_text (Refers r ∷ ps) ++ x ≡ reference_text r ++ (flat_map piece_text ps ++ x)
 refers_then r ps x = append_assoc (reference_text r) (flat_map piece_text ps) x
 
-pub refers_begins : (r : Reference) (ps : List Piece) (x : List ℕ) → flat_map piece_text (Refers r ∷ ps) ++ x ≡ 38 ∷ (body r ++ 59 ∷ (flat_map piece_text ps ++ x))
+pub refers_begins : (r : Reference) (ps : List ValuePiece) (x : List ℕ) → flat_map piece_text (Refers r ∷ ps) ++ x ≡ 38 ∷ (body r ++ 59 ∷ (flat_map piece_text ps ++ x))
 refers_begins r ps x = refers_then r ps x ∙ reference_then r (flat_map piece_text ps ++ x)
 
 -- two values of one quote at the front of one text are one
-pub pieces_agree : (q : ℕ) (ps qs : List Piece) (x y : List ℕ) → (q == 38) ≡ false → list_all (is_piece q) ps ≡ true → list_all (is_piece q) qs ≡ true → flat_map piece_text ps ++ q ∷ x ≡ flat_map piece_text qs ++ q ∷ y → (ps ≡ qs) × (x ≡ y)
+pub pieces_agree : (q : ℕ) (ps qs : List ValuePiece) (x y : List ℕ) → (q == 38) ≡ false → list_all (is_piece q) ps ≡ true → list_all (is_piece q) qs ≡ true → flat_map piece_text ps ++ q ∷ x ≡ flat_map piece_text qs ++ q ∷ y → (ps ≡ qs) × (x ≡ y)
 pieces_agree q [] [] x y k a b e = (refl, tails q q x y e)
 pieces_agree q [] (Literal d ∷ qs) x y k a b e = absurd (apart d q (literal_facts q d (and_parts _ _ b).0).no_quote (sym (heads q d _ _ e)))
 pieces_agree q [] (Refers s ∷ qs) x y k a b e = absurd (apart q 38 k (heads q 38 _ _ (e ∙ refers_begins s qs (q ∷ y))))
@@ -91,7 +91,7 @@ name_stops_space n w h = begun (name_text n) w (name_begins n h) where
     no_space : (c : ℕ) → is_name_start c ≡ true → not (is_space c) ≡ true
     no_space c h = elim (is_space c) as (λ v. is_space c ≡ v → not v ≡ true) [ true ↦ λ e. absurd (both_ways _ (space_no_start c e) h) | false ↦ λ _. refl ] refl
 
-attribute_same : (g h : List ℕ) (m n : Name) (b c a d : List ℕ) (q r : ℕ) (v u : List Piece) → g ≡ h → m ≡ n → b ≡ c → a ≡ d → q ≡ r → v ≡ u →
+attribute_same : (g h : List ℕ) (m n : Name) (b c a d : List ℕ) (q r : ℕ) (v u : List ValuePiece) → g ≡ h → m ≡ n → b ≡ c → a ≡ d → q ≡ r → v ≡ u →
     ◌≡◌ {A = Attribute} (record { gap = g; name = m; before = b; after = a; quote = q; value = v }) (record { gap = h; name = n; before = c; after = d; quote = r; value = u })
 attribute_same g h m n b c a d q r v u e1 e2 e3 e4 e5 e6 = cc
 

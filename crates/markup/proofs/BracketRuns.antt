@@ -19,9 +19,9 @@ use Rattle.markup.specs.Events.{Placed, open_tags}
 use Rattle.markup.specs.Faults.{is_outside}
 use Rattle.markup.specs.Literals.{IsOfText, IsRun, IsBracketRun, characters_from}
 use Rattle.markup.specs.Scopes.{placed_at}
-use Rattle.markup.specs.Contexts.{IsContext, HasOpen, bracketed}
+use Rattle.markup.specs.Contexts.{IsContext, HasOpen, with_brackets}
 use Rattle.markup.specs.TokenRules.{one_more}
-use Rattle.markup.specs.Tokenizers.{is_text, is_in_text, passed}
+use Rattle.markup.specs.Tokenizers.{is_text, is_in_text, after_whole_tokens}
 use Rattle.markup.specs.Reading.{HasTakenUnder, HasToldUnder}
 use Rattle.markup.specs.declared.context.Context.{Context}
 use Rattle.markup.specs.declared.reader.Reader.{Reader}
@@ -210,7 +210,7 @@ module _ {limit : ℕ} (r : Reader) (text : is_text r.tokenizer.scan ≡ true) (
 
 -- so many bytes are taken, each of which is a `]`
 abbrev pub bracketed_over : Reader → ℕ → Reader
-bracketed_over r n = record { tokenizer = passed r.tokenizer n; context = bracketed r.context n; failed = r.failed }
+bracketed_over r n = record { tokenizer = after_whole_tokens r.tokenizer n; context = with_brackets r.context n; failed = r.failed }
 
 -- a run of them is taken
 pub passes_brackets : {limit : ℕ} (r : Reader) (xs bytes : List ℕ) (told : List Placed) (n : ℕ) → n ≤ length xs → (run : IsRun (take n xs) n) → AllByRecursion IsBracket run.characters → is_in_text r.tokenizer ≡ true → HasOpen r.context → 0 < n → HasTakenUnder limit r bytes told → HasToldUnder limit (bracketed_over r n) (bytes ++ take n xs) (told ++ characters_from (length bytes) run.characters)

@@ -10,8 +10,8 @@ use Rattle.markup.specs.Marks.{in_cdata, stands, Front}
 use Rattle.markup.specs.Faults.{is_outside, rule_of, IsClean}
 use Rattle.markup.specs.Drafts.{no_draft}
 use Rattle.markup.specs.ScanRuns.{At, Over, run, position, ended_of, draft_of, ends_itself}
-use Rattle.markup.specs.Tokenizers.{IsOpen, SettlesOne, SettlesTwo}
-use Rattle.markup.specs.Inputs.{Reads, Any}
+use Rattle.markup.specs.Tokenizers.{IsTokenOpen, SettlesOne, SettlesTwo}
+use Rattle.markup.specs.Inputs.{ReadsTokens, Any}
 use Rattle.markup.specs.declared.scan.Scan.{Scan}
 use Rattle.markup.specs.declared.scan.Scan.TheVariants.{Begin}
 use Rattle.markup.specs.declared.scan.Ended.{Ended}
@@ -63,7 +63,7 @@ bracket_clean before h = by (is_space 93) (is_outside before) h where
   by false false h = refl
 
 -- a `]` that waits for what follows it stands in a CDATA section
-pub waits_in_cdata : {limit : ℕ} (z : Tokenizer) (before : List Token) (bytes rest after : List ℕ) → IsOpen limit z before bytes → bytes ≡ token_bytes (Character 93) ++ rest → stands before (Character 93) after ≡ true → in_cdata before ≡ true
+pub waits_in_cdata : {limit : ℕ} (z : Tokenizer) (before : List Token) (bytes rest after : List ℕ) → IsTokenOpen limit z before bytes → bytes ≡ token_bytes (Character 93) ++ rest → stands before (Character 93) after ≡ true → in_cdata before ≡ true
 waits_in_cdata z before bytes rest after o e s = by (cases_Bool (in_cdata before)) where
   not_over : (s : Scan) (d f : Draft) (k : Ended) (w : List ℕ) → At s d ≡ Over k f w → ⊥
   not_over s d f k w h = cc
@@ -80,7 +80,7 @@ waits_in_cdata z before bytes rest after o e s = by (cases_Bool (in_cdata before
   by (inl h) = h
   by (inr h) = absurd (outside h (compare_texts o.chars (93 ∷ []) o.part rest (sym o.bytes_are ∙ e)))
 
-module _ {limit : ℕ} (old new : Tokenizer) (input : List ℕ) (ts : List Token) (byte : ℕ) (r : Reads limit Any old input ts) (c : IsClean [] ts) where
+module _ {limit : ℕ} (old new : Tokenizer) (input : List ℕ) (ts : List Token) (byte : ℕ) (r : ReadsTokens limit Any old input ts) (c : IsClean [] ts) where
   inside : in_cdata (reverse ts) ≡ true → is_outside (reverse ts) ≡ false
   inside = cdata_inside limit ts (input ++ []) (r.bytes ++ []) (r.front [] tt) c
 

@@ -2,7 +2,7 @@
 use Rattle.std.proofs.Common.{◌≡◌, ◌↔◌, ℕ, Bool, true, false, ◌||◌, ◌==◌, List, [], ◌∷◌, ◌≤◌, ◌⊎◌, inl, inr, refl, sym, arith}
 use Rattle.std.specs.Char.{is_digit, to_ascii_lowercase, IsScalar}
 use Rattle.std.specs.Prelude.{None}
-use Rattle.markup.specs.ReferenceScans.{numbered}
+use Rattle.markup.specs.ReferenceScans.{numbered_char}
 use Rattle.std.specs.Int.{is_in_range}
 use Rattle.std.proofs.lemmas.Bool.{or_left, or_right, or_cases, and_parts, and_from, leb-true, le-leb, true≢false, cases_Bool}
 use Rattle.std.proofs.lemmas.Bool.Decides.{nat_tests}
@@ -134,8 +134,8 @@ unfolding is_xml_char
 xml_scalar c h = grind (arith, nat_tests)
 
 -- a number of no character is that of no XML character
-pub not_scalar : (c : ℕ) → (IsScalar c → ⊥) → None ≡ numbered c
-not_scalar c h = elim (cases_Bool (is_xml_char c)) as (λ _. None ≡ numbered c) [ inl k ↦ absurd (h (xml_scalar c k)) | inr k ↦ rw k refl ]
+pub not_scalar : (c : ℕ) → (IsScalar c → ⊥) → None ≡ numbered_char c
+not_scalar c h = elim (cases_Bool (is_xml_char c)) as (λ _. None ≡ numbered_char c) [ inl k ↦ absurd (h (xml_scalar c k)) | inr k ↦ rw k refl ]
 
 pub return_is_space : is_space 13 ≡ true
 unfolding is_space

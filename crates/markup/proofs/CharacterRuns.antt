@@ -15,13 +15,13 @@ use Rattle.markup.specs.Events.{Placed, items_of, open_tags}
 use Rattle.markup.specs.Faults.{is_outside, behind_brackets, rule_of}
 use Rattle.markup.specs.Literals.{is_literal, IsLiteral, IsRun, characters_from}
 use Rattle.markup.specs.Scopes.{placed_at}
-use Rattle.markup.specs.ScanRuns.{run, position, placed as placed_by}
+use Rattle.markup.specs.ScanRuns.{run, position, placed_by}
 use Rattle.markup.specs.Drafts.{no_draft}
-use Rattle.markup.specs.Contexts.{IsContext, HasOpen, unbracketed}
+use Rattle.markup.specs.Contexts.{IsContext, HasOpen, without_brackets}
 use Rattle.markup.specs.TokenRules.{one_more, brackets}
 use Rattle.markup.specs.Tokenizers.{is_between, is_ready}
 use Rattle.markup.specs.Reading.{HasTakenUnder, HasToldUnder, IsInsideUnder}
-use Rattle.markup.specs.inner.ReaderSteps.{IsReady, passed_over}
+use Rattle.markup.specs.inner.ReaderSteps.{IsReaderReady, passed_over}
 use Rattle.markup.specs.declared.context.Context.{Context}
 use Rattle.markup.specs.declared.reader.Reader.{Reader}
 use Rattle.markup.specs.declared.scan.Scan.TheVariants.{Begin}
@@ -94,10 +94,10 @@ line_stands before after = by (in_cdata before) where
 pub line_next : {limit : ℕ} (before : List Token) → IsNext limit before (LineEnd Lf)
 line_next before = record { is = line_stands before; short = refl; clean = refl; stays = λ p. refl }
 
-pub character_context : (before : List Token) (k : Context) (c : ℕ) → (c == 93) ≡ false → IsContext k before → IsContext (unbracketed k) (Character c ∷ before)
+pub character_context : (before : List Token) (k : Context) (c : ℕ) → (c == 93) ≡ false → IsContext k before → IsContext (without_brackets k) (Character c ∷ before)
 character_context before k c n i = record { scope = i.scope; root = i.root; brackets_are = sym (ap (λ (b : Bool). if b then one_more (brackets before) else 0) n) }
 
-pub line_context : (before : List Token) (k : Context) → IsContext k before → IsContext (unbracketed k) (LineEnd Lf ∷ before)
+pub line_context : (before : List Token) (k : Context) → IsContext k before → IsContext (without_brackets k) (LineEnd Lf ∷ before)
 line_context before k i = record { scope = i.scope; root = i.root; brackets_are = refl }
 
 -- ---- a reader behind them
@@ -134,13 +134,13 @@ module _ {limit : ℕ} (r : Reader) (between : is_between r.tokenizer.scan ≡ t
     inside = within (open_tags before) h.1.context.scope
 
     -- the token of the character
-    behind_token : (t : Token) → IsNext limit before t → token_bytes t ≡ encode_utf8 c → items_of before t ≡ Char c ∷ [] → IsContext (unbracketed (at r p b).context) (t ∷ before)
+    behind_token : (t : Token) → IsNext limit before t → token_bytes t ≡ encode_utf8 c → items_of before t ≡ Char c ∷ [] → IsContext (without_brackets (at r p b).context) (t ∷ before)
         → HasTakenUnder limit (at r (p + length (encode_utf8 c)) 0) (bytes ++ encode_utf8 c) (told ++ record { place = p; item = Char c } ∷ [])
     behind_token t next e i k =
         subst (λ q. HasTakenUnder limit (at r (p + length (encode_utf8 c)) 0) (bytes ++ encode_utf8 c) (told ++ record { place = q; item = Char c } ∷ [])) (sym h.1.place)
         (subst (λ v. HasTakenUnder limit (at r (p + length (encode_utf8 c)) 0) (bytes ++ encode_utf8 c) (told ++ placed_at (length bytes) v)) i
         (subst (λ v. HasTakenUnder limit (at r (p + length (encode_utf8 c)) 0) (bytes ++ v) (told ++ placed_at (length bytes) (items_of before t))) e
-        (takes_next (at r p b) bytes told h between (same_place p) t (length (encode_utf8 c)) (unbracketed (at r p b).context) next (ap length (sym e)) k)))
+        (takes_next (at r p b) bytes told h between (same_place p) t (length (encode_utf8 c)) (without_brackets (at r p b).context) next (ap length (sym e)) k)))
 
     step_literal : HasTakenUnder limit (at r (p + length (encode_utf8 c)) 0) (bytes ++ encode_utf8 c) (told ++ record { place = p; item = Char c } ∷ [])
     step_literal = by (c == 10) refl where
@@ -170,7 +170,7 @@ after_some b [] h = absurd (omega arith)
 after_some b (c ∷ cs) h = refl
 
 -- a run of them is taken
-pub passes : {limit : ℕ} (r : Reader) (xs bytes : List ℕ) (told : List Placed) (n m : ℕ) → n ≤ length xs → (run : IsRun (take n xs) m) → AllByRecursion IsLiteral run.characters → IsReady r → 0 < n → HasTakenUnder limit r bytes told → HasToldUnder limit (passed_over r n) (bytes ++ take n xs) (told ++ characters_from (length bytes) run.characters)
+pub passes : {limit : ℕ} (r : Reader) (xs bytes : List ℕ) (told : List Placed) (n m : ℕ) → n ≤ length xs → (run : IsRun (take n xs) m) → AllByRecursion IsLiteral run.characters → IsReaderReady r → 0 < n → HasTakenUnder limit r bytes told → HasToldUnder limit (passed_over r n) (bytes ++ take n xs) (told ++ characters_from (length bytes) run.characters)
 passes {limit} r xs bytes told n m w run free i s h =
     let z = r.tokenizer in
     let k = r.context in

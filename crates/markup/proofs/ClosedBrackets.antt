@@ -25,7 +25,7 @@ use Rattle.markup.specs.Tokenizers.{is_between}
 use Rattle.markup.specs.Inputs.{Any}
 use Rattle.markup.specs.Reading.{Keeps, HasTakenUnder, HasToldUnder}
 use Rattle.markup.specs.inner.ClosedBrackets.{IsClosedRun}
-use Rattle.markup.specs.inner.ReaderSteps.{IsReady, passed_over}
+use Rattle.markup.specs.inner.ReaderSteps.{IsReaderReady, passed_over}
 use Rattle.markup.specs.declared.reader.Reader.{Reader}
 use Rattle.markup.proofs.BracketRuns.{IsBracket, AreBrackets, at, behind, same_place, bracket_no_space, text_test, encoded_all, are_xml}
 use Rattle.markup.proofs.CharLemmas.{classes}
@@ -151,7 +151,7 @@ module _ {limit : ℕ} (r : Reader) (between : is_between r.tokenizer.scan ≡ t
         low x h = grind (arith, nat_tests)
 
 -- such a run is taken
-pub passes_closed : {limit : ℕ} (r : Reader) (xs bytes : List ℕ) (told : List Placed) (n : ℕ) → n ≤ length xs → (k : IsClosedRun (take n xs) n) → IsReady r → HasTakenUnder limit r bytes told → HasToldUnder limit (passed_over r n) (bytes ++ take n xs) (told ++ characters_from (length bytes) k.run.characters)
+pub passes_closed : {limit : ℕ} (r : Reader) (xs bytes : List ℕ) (told : List Placed) (n : ℕ) → n ≤ length xs → (k : IsClosedRun (take n xs) n) → IsReaderReady r → HasTakenUnder limit r bytes told → HasToldUnder limit (passed_over r n) (bytes ++ take n xs) (told ++ characters_from (length bytes) k.run.characters)
 passes_closed {limit} r xs bytes told n w k i h =
     let z = r.tokenizer in
     let a = and_parts (is_between z.scan) (z.place == z.start) i.ready in

@@ -6,12 +6,12 @@ use Rattle.std.proofs.lemmas.Bool.{and_parts, or_parts, and_right, not-true, bot
 use Rattle.std.proofs.lemmas.Bool.Decides.{nat_tests}
 use Rattle.markup.specs.Chars.{is_xml_char, is_name_start, is_name_char, is_space}
 use Rattle.markup.specs.Name.{name_text}
-use Rattle.markup.specs.Reference.{Reference, is_reference, referred, reference_text}
+use Rattle.markup.specs.Reference.{Reference, is_reference, referred_character, reference_text}
 use Rattle.markup.specs.Attribute.{attribute_text}
 use Rattle.markup.specs.Token.{Token, Mark, Declaration, Comment, Instruction, Opener, Closer, TypeDeclaration, Start, End, Refer, LineEnd, Character, Line, Lf, Cr, CrLf, is_comment, is_instruction_text, is_instruction, is_xml_word, token_text}
 use Rattle.markup.specs.Marks.{in_cdata, is_first, stands, stands_in_cdata, stands_outside}
-use Rattle.markup.specs.Drafts.{no_draft, noted, value_noted}
-use Rattle.markup.specs.ScanRuns.{placed, position, ended_of, draft_of, ends_itself}
+use Rattle.markup.specs.Drafts.{no_draft, note_character, value_noted}
+use Rattle.markup.specs.ScanRuns.{placed_by, position, ended_of, draft_of, ends_itself}
 use Rattle.markup.specs.Scans.{step, text_step, cdata_step, line_step, referring, target_step}
 use Rattle.markup.specs.declared.draft.Draft.{Draft}
 use Rattle.markup.specs.declared.reference.ReferenceScan.TheVariants.{Begun}
@@ -42,7 +42,7 @@ value_plain (Value q r) c d h = absurd (both_ways false refl h)
 value_plain (ValueReference q r) c d h = absurd (both_ways false refl h)
 value_plain _ c d h = refl
 
-pub noted_plain : (s t : Scan) (c : ℕ) (d : Draft) → plain s ≡ true → noted s t c d ≡ noted Target t c d
+pub noted_plain : (s t : Scan) (c : ℕ) (d : Draft) → plain s ≡ true → note_character s t c d ≡ note_character Target t c d
 noted_plain s (Value q r) c d h = value_plain s c d h
 noted_plain s _ c d h = refl
 
@@ -176,7 +176,7 @@ module _ (d : Draft) where
   -- the scans of a word's letters: one that is the letter in either case leads on, and others stand in another target
   letter_run : (s : Scan) (low up : ℕ) (next : Bool → Scan) (first : Bool) (left : List ℕ → Bool) (p t w : List ℕ) → plain s ≡ true
       → ((c : ℕ) → step s c ≡ (if c == low then Goes (next first) else (if c == up then Goes (next false) else target_step c)))
-      → ((f : Bool) (c : ℕ) → noted s (next f) c d ≡ d)
+      → ((f : Bool) (c : ℕ) → note_character s (next f) c d ≡ d)
       → ((f : Bool) (p : List ℕ) → list_all is_name_char p ≡ true → left p ≡ false → run (next f) d (p ++ (t ++ 63 ∷ 62 ∷ w)) ≡ Over Passed d w)
       → IsLetter low up → list_all is_name_char p ≡ true → begins_so low left p ≡ false → is_instruction_text t ≡ true → starts_blank t ≡ true → run s d (p ++ (t ++ 63 ∷ 62 ∷ w)) ≡ Over Passed d w
   letter_run s low up next first left [] t w l h m n i a e b k = target_like s [] t w l refl b k (behind t k) where
@@ -223,20 +223,20 @@ module _ (d : Draft) where
     by false true g k = goes (Question first) (TargetX false) c d d (p ++ (t ++ 63 ∷ 62 ∷ w)) (rw (g, k) refl) refl ∙ x_run false p t w (and_parts _ _ f.target).1 (no_word c p (letter_x.up c k) f.no_xml) f.text blank
     by false false g k = goes (Question first) Target c d d (p ++ (t ++ 63 ∷ 62 ∷ w)) (rw (g, k, (and_parts (is_name_start c) (list_all is_name_char p) f.target).0) refl) refl ∙ target_run p t w (and_parts _ _ f.target).1 f.text blank
 
-placed_text : (f : Bool) (c : ℕ) → step (Begin (placed f false)) c ≡ text_step f c
+placed_text : (f : Bool) (c : ℕ) → step (Begin (placed_by f false)) c ≡ text_step f c
 placed_text true c = refl
 placed_text false c = refl
 
 -- how a token begins outside a CDATA section
 pub begins_text : (before : List Token) (c : ℕ) → in_cdata before ≡ false → (length before == 0 && c == 0xFEFF) ≡ false → step (Begin (position before)) c ≡ text_step (is_first before) c
 begins_text [] c h k = rw k refl
-begins_text (t ∷ before) c h k = ap (λ b. step (Begin (placed (is_first (t ∷ before)) b)) c) h ∙ placed_text (is_first (t ∷ before)) c
+begins_text (t ∷ before) c h k = ap (λ b. step (Begin (placed_by (is_first (t ∷ before)) b)) c) h ∙ placed_text (is_first (t ∷ before)) c
 
 -- and in one
 pub begins_cdata : (before : List Token) (c : ℕ) → in_cdata before ≡ true → step (Begin (position before)) c ≡ cdata_step c
 begins_cdata [] c h = absurd (both_ways false refl h)
 begins_cdata (t ∷ before) c h = by (is_first (t ∷ before)) (in_cdata (t ∷ before)) h (first_outside (t ∷ before)) where
-  by : (f b : Bool) → b ≡ true → (f ≡ true → b ≡ false) → step (Begin (placed f b)) c ≡ cdata_step c
+  by : (f b : Bool) → b ≡ true → (f ≡ true → b ≡ false) → step (Begin (placed_by f b)) c ≡ cdata_step c
   by true b h k = absurd (both_ways b (k refl) h)
   by false true h k = refl
   by false false h k = absurd (both_ways false refl h)
@@ -248,13 +248,13 @@ no_mark b c h = and_right b _ h
 less_goes : (before : List Token) (w : List ℕ) → in_cdata before ≡ false → run (Begin (position before)) no_draft (60 ∷ w) ≡ run (Opened (is_first before)) no_draft w
 less_goes before w h = goes (Begin (position before)) (Opened (is_first before)) 60 no_draft no_draft w (begins_text before 60 h (no_mark (length before == 0) 60 refl)) refl
 
-refer_run : (before : List Token) (r : Reference) (w : List ℕ) → in_cdata before ≡ false → is_reference r ≡ true → run (Begin (position before)) no_draft (reference_text r ++ w) ≡ Over (ReferEnded (referred r)) no_draft w
+refer_run : (before : List Token) (r : Reference) (w : List ℕ) → in_cdata before ≡ false → is_reference r ≡ true → run (Begin (position before)) no_draft (reference_text r ++ w) ≡ Over (ReferEnded (referred_character r)) no_draft w
 refer_run before r w h a =
     let e = reference_end r a in
     ap (run (Begin (position before)) no_draft) (reference_then r w)
     ∙ (goes (Begin (position before)) (InReference Begun) 38 no_draft no_draft (body r ++ 59 ∷ w) (begins_text before 38 h (no_mark (length before == 0) 38 refl)) refl
     ∙ (reference_goes InReference no_draft (λ r t c k. ap referring k) (λ r t c. refl) Begun e.scan (body r) (59 ∷ w) e.read
-    ∙ ends (InReference e.scan) (ReferEnded (referred r)) 59 no_draft w (ap referring e.gives_is)))
+    ∙ ends (InReference e.scan) (ReferEnded (referred_character r)) 59 no_draft w (ap referring e.gives_is)))
 
 -- how a line end or another character begins anywhere
 begins_line : (before : List Token) (c : ℕ) → (c == 60) ≡ false → (c == 38) ≡ false → (c == 93) ≡ false → (c == 0xFEFF) ≡ false → step (Begin (position before)) c ≡ line_step c

@@ -11,7 +11,7 @@ use Rattle.markup.specs.Name.{name_text}
 use Rattle.markup.specs.Attribute.{Attribute, piece_text, attribute_text}
 use Rattle.markup.specs.Declaration.{is_field, is_version, is_encoding, is_standalone, is_declaration}
 use Rattle.markup.specs.Words.{letter_of}
-use Rattle.markup.specs.Drafts.{noted}
+use Rattle.markup.specs.Drafts.{note_character}
 use Rattle.markup.specs.Scans.{step, name_word, field_letter}
 use Rattle.markup.specs.declared.draft.Draft.{Draft}
 use Rattle.markup.specs.declared.word.Word.{Word}
@@ -117,7 +117,7 @@ module _ (d : Draft) where
   standalone_named_then : (v : List ℕ) → run (FieldGap Encoding) d (codes "standalone" ++ v) ≡ run (FieldName Standalone 10) d v
   standalone_named_then v = refl
 
-  gap_entered : (s t : Scan) (g w : List ℕ) → ((c : ℕ) → is_space c ≡ true → step s c ≡ Goes t) → ((c : ℕ) → is_space c ≡ true → step t c ≡ Goes t) → ((c : ℕ) → noted s t c d ≡ d) → ((c : ℕ) → noted t t c d ≡ d) → is_gap g ≡ true → run s d (g ++ w) ≡ run t d w
+  gap_entered : (s t : Scan) (g w : List ℕ) → ((c : ℕ) → is_space c ≡ true → step s c ≡ Goes t) → ((c : ℕ) → is_space c ≡ true → step t c ≡ Goes t) → ((c : ℕ) → note_character s t c d ≡ d) → ((c : ℕ) → note_character t t c d ≡ d) → is_gap g ≡ true → run s d (g ++ w) ≡ run t d w
   gap_entered s t [] w a b e f h = absurd (cc)
   gap_entered s t (c ∷ g) w a b e f h = goes s t c d d (g ++ w) (a c (and_parts (is_space c) (list_all is_space g) h).0) (e c) ∙ spaces_run t d g w b f (and_parts (is_space c) (list_all is_space g) h).1
 

@@ -2,7 +2,7 @@
 use Rattle.std.proofs.Common.{◌≡◌, List, [], ◌++◌, map, refl, sym, ◌∙◌, ap, append_assoc, append-nil}
 use Rattle.std.proofs.lemmas.List.{map-append}
 use Rattle.markup.specs.Events.{Placed}
-use Rattle.markup.specs.EventItems.{placed, Tells}
+use Rattle.markup.specs.EventItems.{placed_event, Tells}
 use Rattle.markup.specs.declared.event.Event.{Event}
 
 pub tells_none : (old new : List Event) → new ≡ old → Tells old new []
@@ -12,5 +12,5 @@ pub tells_twice : (a b c : List Event) (x y : List Placed) → Tells a b x → T
 tells_twice a b c x y k l = record {
   more = k.more ++ l.more;
   appended = l.appended ∙ (ap (λ v. v ++ l.more) k.appended ∙ append_assoc a k.more l.more);
-  told_are = map-append placed k.more l.more ∙ (ap (λ v. v ++ map placed l.more) k.told_are ∙ ap (λ v. x ++ v) l.told_are);
+  told_are = map-append placed_event k.more l.more ∙ (ap (λ v. v ++ map placed_event l.more) k.told_are ∙ ap (λ v. x ++ v) l.told_are);
 }

@@ -3,10 +3,10 @@ use Rattle.std.proofs.Common.{◌≡◌, ℕ, true, false, ◌==◌, ◌⊎◌, 
 use Rattle.std.proofs.lemmas.Bool.{and_parts, not-false, both_ways, cases_Bool, eqb-true}
 use Rattle.markup.specs.Token.{Token, LineEnd, Character, Lf, Cr, CrLf, token_text}
 use Rattle.markup.specs.Marks.{in_cdata, stands}
-use Rattle.markup.specs.Faults.{GoesOn}
-use Rattle.markup.specs.Drafts.{no_draft, noted}
+use Rattle.markup.specs.Faults.{TokenGoesOn}
+use Rattle.markup.specs.Drafts.{no_draft, note_character}
 use Rattle.markup.specs.Scans.{step}
-use Rattle.markup.specs.ScanRuns.{Run, At, Over, Failed, turned, run, position, ended_of, draft_of, ends_itself, ReadToken, ReadsGrammar}
+use Rattle.markup.specs.ScanRuns.{Run, At, Over, Failed, turn_run, run, position, ended_of, draft_of, ends_itself, ReadToken, ReadsGrammar}
 use Rattle.markup.specs.declared.draft.Draft.{Draft}
 use Rattle.markup.specs.declared.scan.Scan.{Scan}
 use Rattle.markup.specs.declared.scan.Scan.TheVariants.{Begin, AfterReturn, Bracket}
@@ -26,30 +26,30 @@ run_on s t d e [] w h = at_same s t d e h where
     from : Run → Run
     from (At s d) = run s d w
     from _ = Failed
-run_on s t d e (c ∷ cs) w h = by (λ u k. run_on u t (noted s u c d) e cs w k) (step s c) h where
-  by : ((u : Scan) → run u (noted s u c d) cs ≡ At t e → run u (noted s u c d) (cs ++ w) ≡ run t e w) → (k : Turn) → turned (λ u. run u (noted s u c d) cs) d cs k ≡ At t e → turned (λ u. run u (noted s u c d) (cs ++ w)) d (cs ++ w) k ≡ run t e w
+run_on s t d e (c ∷ cs) w h = by (λ u k. run_on u t (note_character s u c d) e cs w k) (step s c) h where
+  by : ((u : Scan) → run u (note_character s u c d) cs ≡ At t e → run u (note_character s u c d) (cs ++ w) ≡ run t e w) → (k : Turn) → turn_run (λ u. run u (note_character s u c d) cs) d cs k ≡ At t e → turn_run (λ u. run u (note_character s u c d) (cs ++ w)) d (cs ++ w) k ≡ run t e w
   by f (Goes u) h = f u h
   by f (Whole k) h = absurd (cc)
   by f Stuck h = absurd (cc)
 
 pub run_over : (s : Scan) (k : Ended) (d e : Draft) (cs v w : List ℕ) → run s d cs ≡ Over k e v → run s d (cs ++ w) ≡ Over k e (v ++ w)
 run_over s k d e [] v w h = absurd (cc)
-run_over s k d e (c ∷ cs) v w h = by (λ u h. run_over u k (noted s u c d) e cs v w h) (step s c) h where
+run_over s k d e (c ∷ cs) v w h = by (λ u h. run_over u k (note_character s u c d) e cs v w h) (step s c) h where
   over_same : (a b : Ended) (d e : Draft) (x y w : List ℕ) → Over a d x ≡ Over b e y → Over a d (x ++ w) ≡ Over b e (y ++ w)
   over_same a b d e x y w h = ap (λ r. from r) h where
     from : Run → Run
     from (Over a d x) = Over a d (x ++ w)
     from _ = Failed
 
-  by : ((u : Scan) → run u (noted s u c d) cs ≡ Over k e v → run u (noted s u c d) (cs ++ w) ≡ Over k e (v ++ w)) → (t : Turn) → turned (λ u. run u (noted s u c d) cs) d cs t ≡ Over k e v → turned (λ u. run u (noted s u c d) (cs ++ w)) d (cs ++ w) t ≡ Over k e (v ++ w)
+  by : ((u : Scan) → run u (note_character s u c d) cs ≡ Over k e v → run u (note_character s u c d) (cs ++ w) ≡ Over k e (v ++ w)) → (t : Turn) → turn_run (λ u. run u (note_character s u c d) cs) d cs t ≡ Over k e v → turn_run (λ u. run u (note_character s u c d) (cs ++ w)) d (cs ++ w) t ≡ Over k e (v ++ w)
   by f (Goes u) h = f u h
   by f (Whole a) h = over_same a k d e cs v w h
   by f Stuck h = absurd (cc)
 
 pub run_failed : (s : Scan) (d : Draft) (cs w : List ℕ) → run s d cs ≡ Failed → run s d (cs ++ w) ≡ Failed
 run_failed s d [] w h = absurd (cc)
-run_failed s d (c ∷ cs) w h = by (λ u h. run_failed u (noted s u c d) cs w h) (step s c) h where
-  by : ((u : Scan) → run u (noted s u c d) cs ≡ Failed → run u (noted s u c d) (cs ++ w) ≡ Failed) → (t : Turn) → turned (λ u. run u (noted s u c d) cs) d cs t ≡ Failed → turned (λ u. run u (noted s u c d) (cs ++ w)) d (cs ++ w) t ≡ Failed
+run_failed s d (c ∷ cs) w h = by (λ u h. run_failed u (note_character s u c d) cs w h) (step s c) h where
+  by : ((u : Scan) → run u (note_character s u c d) cs ≡ Failed → run u (note_character s u c d) (cs ++ w) ≡ Failed) → (t : Turn) → turn_run (λ u. run u (note_character s u c d) cs) d cs t ≡ Failed → turn_run (λ u. run u (note_character s u c d) (cs ++ w)) d (cs ++ w) t ≡ Failed
   by f (Goes u) h = f u h
   by f (Whole a) h = absurd (cc)
   by f Stuck h = refl
@@ -59,8 +59,8 @@ prefix_rest : (s t : Scan) (d e : Draft) (cs w : List ℕ) → run s d cs ≡ At
 prefix_rest s t d e [] w h r = subst (λ u. Rest Completed u w) (sym (scan_same s t d e h)) r where
   scan_same : (s t : Scan) (d e : Draft) → At s d ≡ At t e → s ≡ t
   scan_same s t d e h = cc
-prefix_rest s t d e (c ∷ cs) w h r = by (λ u h. prefix_rest u t (noted s u c d) e cs w h r) (step s c) refl h where
-  by : ((u : Scan) → run u (noted s u c d) cs ≡ At t e → Rest Completed u (cs ++ w)) → (k : Turn) → step s c ≡ k → turned (λ u. run u (noted s u c d) cs) d cs k ≡ At t e → Rest Completed s (c ∷ (cs ++ w))
+prefix_rest s t d e (c ∷ cs) w h r = by (λ u h. prefix_rest u t (note_character s u c d) e cs w h r) (step s c) refl h where
+  by : ((u : Scan) → run u (note_character s u c d) cs ≡ At t e → Rest Completed u (cs ++ w)) → (k : Turn) → step s c ≡ k → turn_run (λ u. run u (note_character s u c d) cs) d cs k ≡ At t e → Rest Completed s (c ∷ (cs ++ w))
   by f (Goes u) g h = sound s c (cs ++ w) (subst (Then Completed (cs ++ w)) (sym g) (f u h))
   by f (Whole a) g h = absurd (cc)
   by f Stuck g h = absurd (cc)
@@ -69,18 +69,18 @@ run_good : (s t : Scan) (d e : Draft) (cs : List ℕ) → run s d cs ≡ At t e 
 run_good s t d e [] h k = subst (λ u. good u ≡ true) (scan_same s t d e h) k where
   scan_same : (s t : Scan) (d e : Draft) → At s d ≡ At t e → s ≡ t
   scan_same s t d e h = cc
-run_good s t d e (c ∷ cs) h k = by (λ u h k. run_good u t (noted s u c d) e cs h k) (step s c) refl h where
-  by : ((u : Scan) → run u (noted s u c d) cs ≡ At t e → good u ≡ true → good t ≡ true) → (a : Turn) → step s c ≡ a → turned (λ u. run u (noted s u c d) cs) d cs a ≡ At t e → good t ≡ true
+run_good s t d e (c ∷ cs) h k = by (λ u h k. run_good u t (note_character s u c d) e cs h k) (step s c) refl h where
+  by : ((u : Scan) → run u (note_character s u c d) cs ≡ At t e → good u ≡ true → good t ≡ true) → (a : Turn) → step s c ≡ a → turn_run (λ u. run u (note_character s u c d) cs) d cs a ≡ At t e → good t ≡ true
   by f (Goes u) g h = f u h (step_good_at s u c g)
   by f (Whole a) g h = absurd (cc)
   by f Stuck g h = absurd (cc)
 
 -- as far as the scan goes some token begins so
-pub goes_on : (before : List Token) (cs : List ℕ) (s : Scan) (d : Draft) → run (Begin (position before)) no_draft cs ≡ At s d → GoesOn before cs
+pub goes_on : (before : List Token) (cs : List ℕ) (s : Scan) (d : Draft) → run (Begin (position before)) no_draft cs ≡ At s d → TokenGoesOn before cs
 goes_on before cs s d h =
     let w = alive s (run_good (Begin (position before)) s no_draft d cs h refl) in
     by w.0 (prefix_rest (Begin (position before)) s no_draft d cs w.0 h w.1) where
-      by : (w : List ℕ) → Completed (position before) (cs ++ w) → GoesOn before cs
+      by : (w : List ℕ) → Completed (position before) (cs ++ w) → TokenGoesOn before cs
       by w k = record { token = k.token; more = w; after = []; text = k.text; is = k.is before refl [] }
 
 -- the scan does not fail in a token
@@ -105,7 +105,7 @@ not_failed before t after h = elim (cases_Bool (ends_itself (in_cdata before) t)
 ]
 
 -- where it fails no token begins so
-pub no_more : (before : List Token) (cs : List ℕ) → run (Begin (position before)) no_draft cs ≡ Failed → GoesOn before cs → ⊥
+pub no_more : (before : List Token) (cs : List ℕ) → run (Begin (position before)) no_draft cs ≡ Failed → TokenGoesOn before cs → ⊥
 no_more before cs h g = subst NotFailed (ap (run (Begin (position before)) no_draft) g.text ∙ run_failed (Begin (position before)) no_draft cs g.more h) (not_failed before g.token g.after g.is)
 
 -- a token whose text is read to its end ends itself

@@ -18,10 +18,10 @@ use Rattle.markup.specs.declared.attributes.BoundAttr.{BoundAttr}
 use Rattle.markup.specs.declared.attributes.Collected.{Collected}
 use Rattle.markup.specs.declared.attributes.Expanded.{Expanded}
 use Rattle.markup.specs.declared.bindings.Bindings.{Bindings}
-use Rattle.markup.specs.Events.{declared_prefix, attribute_name, put, put_named, entries, expanded, namespace_of}
+use Rattle.markup.specs.Events.{declared_prefix, attribute_name, put, put_named, entries, expanded_in, namespace_of}
 use Rattle.markup.specs.Faults.{has_clash, clash, same_expanded}
 use Rattle.markup.specs.EventItems.{entry_of}
-use Rattle.markup.specs.inner.TagParts.{is_plain, is_unbound, is_named, IsCollected, IsExpanded, entry_from, entry_under, named_entry, sorted_entries, has_twins}
+use Rattle.markup.specs.inner.TagParts.{declares_none, is_unbound, is_named, IsCollected, IsExpanded, entry_from, entry_under, named_entry, sorted_entries, has_twins}
 use Rattle.markup.proofs.Twins.{any-put, any_twins, any_twins-put, twins_next}
 use Rattle.markup.proofs.TagPartLemmas.{or-false, or_comm}
 
@@ -45,7 +45,7 @@ any_named-put None m value es = refl
 any_named-put (Some x) None value es = refl
 any_named-put (Some x) (Some y) value es = sym (any-put (is_named x) (record { name = y; value = value }) es)
 
-any_clash : (tags : List Opening) (x : Given) → declared_prefix x.name ≡ None → (plain : List Given) → list_all is_plain plain ≡ true
+any_clash : (tags : List Opening) (x : Given) → declared_prefix x.name ≡ None → (plain : List Given) → list_all declares_none plain ≡ true
     → list_any (λ b. clash tags x.name b.name) plain ≡ any_named (attribute_name tags x.name) (entries tags plain)
 any_clash tags x none [] all = case (attribute_name tags x.name)
   where
@@ -53,7 +53,7 @@ any_clash tags x none [] all = case (attribute_name tags x.name)
     case None = refl
     case (Some name) = refl
 any_clash tags x none (b ∷ more) all =
-    let parts = and_parts (is_plain b) (list_all is_plain more) all in
+    let parts = and_parts (declares_none b) (list_all declares_none more) all in
     let none_b : declared_prefix b.name ≡ None = none_is (declared_prefix b.name) parts.0 in
     let here : clash tags x.name b.name ≡ same_expanded (attribute_name tags x.name) (attribute_name tags b.name) = clash-plain tags x b none none_b in
     let others : list_any (λ b. clash tags x.name b.name) more ≡ any_named (attribute_name tags x.name) (entries tags more) = any_clash tags x none more parts.1 in
@@ -65,9 +65,9 @@ any_clash tags x none (b ∷ more) all =
 
 -- the expanded name by what a look-up of the prefix gave
 pub attribute_name_is : (tags : List Opening) (name : Spelled) (prefix : List ℕ) (found : Option (List ℕ)) → prefix ≡ name.prefix
-    → found ≡ (if bytes_eq prefix [] then Some [] else namespace_of tags prefix) → attribute_name tags name ≡ expanded found name.local
+    → found ≡ (if bytes_eq prefix [] then Some [] else namespace_of tags prefix) → attribute_name tags name ≡ expanded_in found name.local
 attribute_name_is tags name prefix found same is =
-    ap (λ p. expanded (if bytes_eq p [] then Some [] else namespace_of tags p) name.local) (sym same) ∙ ap (λ o. expanded o name.local) (sym is)
+    ap (λ p. expanded_in (if bytes_eq p [] then Some [] else namespace_of tags p) name.local) (sym same) ∙ ap (λ o. expanded_in o name.local) (sym is)
 
 pub collect_unbound : (tags : List Opening) (next : Given) (plain : List Given) (kept : Bindings) (old : Collected) → attribute_name tags next.name ≡ None → IsCollected tags plain kept old
     → IsCollected tags (plain ++ next ∷ []) kept (record { attrs = old.attrs; is_unbound = true })
@@ -104,12 +104,12 @@ named_more kept old new left rest next attr whole popped pushed same was =
 -- ---- all of them
 
 -- the entries are those attributes in the order of their names
-entries_sorted : (tags : List Opening) (plain : List Given) → list_all is_plain plain ≡ true → entries tags plain ≡ sorted_entries (filter_map (entry_under tags) plain)
+entries_sorted : (tags : List Opening) (plain : List Given) → list_all declares_none plain ≡ true → entries tags plain ≡ sorted_entries (filter_map (entry_under tags) plain)
 entries_sorted tags [] all = refl
 entries_sorted tags (a ∷ more) all = case (attribute_name tags a.name) (entries_sorted tags more parts.1)
   where
-    parts : (is_plain a ≡ true) × (list_all is_plain more ≡ true)
-    parts = and_parts (is_plain a) (list_all is_plain more) all
+    parts : (declares_none a ≡ true) × (list_all declares_none more ≡ true)
+    parts = and_parts (declares_none a) (list_all declares_none more) all
 
     put_in : (n : Option FullName) → entries tags more ≡ sorted_entries (filter_map (entry_under tags) more) → put_named a.value n (entries tags more) ≡ sorted_entries (cons_option (named_entry a.value n) (filter_map (entry_under tags) more))
     put_in None so = so
@@ -119,10 +119,10 @@ entries_sorted tags (a ∷ more) all = case (attribute_name tags a.name) (entrie
     case n so = ap (λ b. if b then put_named a.value (attribute_name tags a.name) (entries tags more) else entries tags more) parts.0 ∙ put_in (attribute_name tags a.name) so
 
 -- two attributes clash where two entries have one name
-clash_twins : (tags : List Opening) (plain : List Given) → list_all is_plain plain ≡ true → has_clash tags plain ≡ any_twins (entries tags plain)
+clash_twins : (tags : List Opening) (plain : List Given) → list_all declares_none plain ≡ true → has_clash tags plain ≡ any_twins (entries tags plain)
 clash_twins tags [] all = refl
 clash_twins tags (a ∷ more) all =
-    let parts = and_parts (is_plain a) (list_all is_plain more) all in
+    let parts = and_parts (declares_none a) (list_all declares_none more) all in
     let kept : entries tags (a ∷ more) ≡ put_named a.value (attribute_name tags a.name) (entries tags more) = ap (λ b. if b then put_named a.value (attribute_name tags a.name) (entries tags more) else entries tags more) parts.0 in
     ap (λ b. b || has_clash tags more) (any_clash tags a (none_is (declared_prefix a.name) parts.0) more parts.1) ∙ ap (λ b. any_named (attribute_name tags a.name) (entries tags more) || b) (clash_twins tags more parts.1)
     ∙ twins_named (attribute_name tags a.name) ∙ ap any_twins (sym kept)
@@ -131,7 +131,7 @@ clash_twins tags (a ∷ more) all =
     twins_named None = refl
     twins_named (Some name) = sym (any_twins-put (record { name = name; value = a.value }) (entries tags more))
 
-pub expanded_is : (tags : List Opening) (plain : List Given) (kept : Bindings) (collected : Collected) (sorted : List BoundAttr) (expanded : Expanded) → list_all is_plain plain ≡ true → IsCollected tags plain kept collected
+pub expanded_is : (tags : List Opening) (plain : List Given) (kept : Bindings) (collected : Collected) (sorted : List BoundAttr) (expanded : Expanded) → list_all declares_none plain ≡ true → IsCollected tags plain kept collected
     → map (entry_from kept) sorted ≡ sorted_entries (map (entry_from kept) collected.attrs.items) → map entry_of expanded.attrs.items ≡ map (entry_from kept) sorted
     → expanded.has_clash ≡ has_twins (map (entry_from kept) sorted) → expanded.is_unbound ≡ collected.is_unbound
     → IsExpanded tags plain expanded

@@ -11,8 +11,8 @@ use Rattle.markup.specs.Scopes.{placed_at}
 use Rattle.markup.specs.Contexts.{IsContext}
 use Rattle.markup.specs.Drafts.{no_draft}
 use Rattle.markup.specs.ScanRuns.{At, position, ended_of}
-use Rattle.markup.specs.Tokenizers.{after_other, behind as behind_token, is_between, passed, IsOpen, open_at, FinishesBy}
-use Rattle.markup.specs.Inputs.{Reads, with_pending}
+use Rattle.markup.specs.Tokenizers.{after_other, behind_token, is_between, after_whole_tokens, IsTokenOpen, open_at, FinishesBy}
+use Rattle.markup.specs.Inputs.{ReadsTokens, with_pending}
 use Rattle.markup.specs.Reading.{Keeps}
 use Rattle.markup.specs.declared.context.Context.{Context}
 use Rattle.markup.specs.declared.reader.Reader.{Reader}
@@ -63,7 +63,7 @@ module _ {limit : ℕ} (Follows : List ℕ → Type 0) (some : List ℕ) (follow
 
   module _ (Then : List ℕ → Type 0) (some_then : List ℕ) (may : Then some_then) (t : Token) (leads : (more : List ℕ) → Then more → Follows (token_bytes t ++ more)) (n : ℕ) (c : Context) (next : IsNextBefore limit Then (reverse ts) t) (size : n ≡ length (token_bytes t)) (context : IsContext c (t ∷ reverse ts)) where
     abbrev after : Tokenizer
-    after = passed z n
+    after = after_whole_tokens z n
 
     place_now : z.place + n ≡ length (bytes ++ token_bytes t)
     place_now = ap (λ v. v + n) h.place ∙ (ap (λ v. length bytes + v) size ∙ sym (length-append bytes (token_bytes t)))
@@ -71,7 +71,7 @@ module _ {limit : ℕ} (Follows : List ℕ → Type 0) (some : List ℕ) (follow
     position_is : z.position ≡ position (t ∷ reverse ts)
     position_is = sym fresh.position_stays ∙ (ap after_other h.reads.opens.position_is ∙ (sym (next.stays (position (reverse ts))) ∙ sym (position_behind (reverse ts) t some_then (next.is some_then may))))
 
-    opens : IsOpen limit after (t ∷ reverse ts) []
+    opens : IsTokenOpen limit after (t ∷ reverse ts) []
     opens = record {
       chars = [];
       part = [];
@@ -93,8 +93,8 @@ module _ {limit : ℕ} (Follows : List ℕ → Type 0) (some : List ℕ) (follow
         subst (λ v. Front limit [] v (ts ++ t ∷ []) more) (sym (append_assoc bytes (token_bytes t) more))
         (front_snoc limit [] (bytes ++ (token_bytes t ++ more)) (token_bytes t ++ more) more ts t old (subst (λ b. Cell b t (token_bytes t ++ more) more) (behind ts) (record { spelled = refl; is = next.is more f })) next.short)
 
-    reads : Reads limit Then after (bytes ++ token_bytes t) (ts ++ t ∷ [])
-    reads = record { bytes = []; front = front; opens = subst (λ b. IsOpen limit after b []) (sym (reverse_snoc ts t)) opens }
+    reads : ReadsTokens limit Then after (bytes ++ token_bytes t) (ts ++ t ∷ [])
+    reads = record { bytes = []; front = front; opens = subst (λ b. IsTokenOpen limit after b []) (sym (reverse_snoc ts t)) opens }
 
     told_now : (f : Finish) → FinishesBy after f → told ++ placed_at (length bytes) (items_of (reverse ts) t) ≡ events [] 0 (with_pending f (ts ++ t ∷ []))
     told_now f q =

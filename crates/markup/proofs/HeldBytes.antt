@@ -7,12 +7,12 @@ use Rattle.std.proofs.lemmas.Str.{encode_ascii, length-encode, len_utf8_bounds}
 use Rattle.markup.specs.Chars.{is_xml_char, is_name_start, is_space}
 use Rattle.markup.specs.Events.{Placed}
 use Rattle.markup.specs.Words.{letter_of}
-use Rattle.markup.specs.Drafts.{no_draft, literal_char, given_by, given_char, add, value_noted, noted, held_name, held_all, held}
-use Rattle.markup.specs.ReferenceScans.{entity_char_of, letter_step, gives, numbered, digit_step, first_digit, more_digits, reference_step}
+use Rattle.markup.specs.Drafts.{no_draft, literal_char, given_by, given_char, add, value_noted, note_character, held_name, held_all, draft_size}
+use Rattle.markup.specs.ReferenceScans.{entity_char_of, letter_step, gives, numbered_char, digit_step, first_digit, more_digits, reference_step}
 use Rattle.markup.specs.Scans.{step, name_step, name_turn, referring, referring_in, text_step, line_step, behind_attribute_step, before_equals_step, end_gap_step}
-use Rattle.markup.specs.ScanRuns.{At, turned, run, position}
-use Rattle.markup.specs.Tokenizers.{is_tag, IsOpen}
-use Rattle.markup.specs.Reading.{HasTakenUnder, token}
+use Rattle.markup.specs.ScanRuns.{At, turn_run, run, position}
+use Rattle.markup.specs.Tokenizers.{is_tag, IsTokenOpen}
+use Rattle.markup.specs.Reading.{HasTakenUnder, open_token_held}
 use Rattle.markup.specs.declared.draft.Draft.{Draft}
 use Rattle.markup.specs.declared.reader.Reader.{Reader}
 use Rattle.markup.specs.declared.tag.Given.{Given}
@@ -116,11 +116,11 @@ hexadecimal_gives n None = pp _ _ refl
 hexadecimal_gives n (Some c) = pp _ _ (four_bytes c)
 
 decimal_more : (n c : ℕ) (o : Option ℕ) → Pays (Decimal n) (more_digits Decimal n c o)
-decimal_more n c None = pi (Decimal n) (c == 59) (gives (numbered n)) Breaks (decimal_gives n (numbered n)) (pp _ _ refl)
+decimal_more n c None = pi (Decimal n) (c == 59) (gives (numbered_char n)) Breaks (decimal_gives n (numbered_char n)) (pp _ _ refl)
 decimal_more n c (Some m) = pp _ _ refl
 
 hexadecimal_more : (n c : ℕ) (o : Option ℕ) → Pays (Hexadecimal n) (more_digits Hexadecimal n c o)
-hexadecimal_more n c None = pi (Hexadecimal n) (c == 59) (gives (numbered n)) Breaks (hexadecimal_gives n (numbered n)) (pp _ _ refl)
+hexadecimal_more n c None = pi (Hexadecimal n) (c == 59) (gives (numbered_char n)) Breaks (hexadecimal_gives n (numbered_char n)) (pp _ _ refl)
 hexadecimal_more n c (Some m) = pp _ _ refl
 
 reference_pays : (r : ReferenceScan) (c : ℕ) → Pays r (reference_step r c)
@@ -262,12 +262,12 @@ literal_within r c = by (c == 10 && r) (is_space c) where
   by false false = omega arith
 
 -- the value goes on
-value_within : (s : Scan) (c : ℕ) (d : Draft) → held (value_noted s c d) ≤ held d + (credit s + length (encode_utf8 c))
+value_within : (s : Scan) (c : ℕ) (d : Draft) → draft_size (value_noted s c d) ≤ draft_size d + (credit s + length (encode_utf8 c))
 value_within (Value q r) c d = omega (arith, length-append d.value (literal_char r c), literal_within r c)
 value_within (ValueReference q r) c d = omega (arith, length-append d.value (given_char r c), given_within r c)
 value_within _ c d = omega arith
 
-noted_within : (s t : Scan) (c : ℕ) (d : Draft) → credit t ≤ suc (credit s) → held (noted s t c d) + credit t ≤ held d + (credit s + length (encode_utf8 c))
+noted_within : (s t : Scan) (c : ℕ) (d : Draft) → credit t ≤ suc (credit s) → draft_size (note_character s t c d) + credit t ≤ draft_size d + (credit s + length (encode_utf8 c))
 noted_within s (StartName part) c d h = omega (arith, held_add part c d.name)
 noted_within s (EndName part) c d h = omega (arith, held_add part c d.name)
 noted_within s (AttributeName part) c d h = omega (arith, held_add part c d.attribute)
@@ -276,10 +276,10 @@ noted_within s AfterValue c d h = omega (arith, held_append d.given (record { na
 noted_within s (ValueReference q r) c d h = omega (arith, h, some_bytes c)
 noted_within s _ c d h = omega arith
 
-run_within : (s t : Scan) (d e : Draft) (cs : List ℕ) → run s d cs ≡ At t e → held e + credit t ≤ held d + (credit s + length (encode_utf8_all cs))
-run_within s t d e [] h = let k : (s ≡ t) × (d ≡ e) = at_same s t d e h in omega (arith, ap held k.1, ap credit k.0)
-run_within s t d e (c ∷ cs) h = by (step s c) refl h (λ u k. run_within u t (noted s u c d) e cs k) where
-  by : (u : Turn) → step s c ≡ u → turned (λ u. run u (noted s u c d) cs) d cs u ≡ At t e → ((u : Scan) → run u (noted s u c d) cs ≡ At t e → held e + credit t ≤ held (noted s u c d) + (credit u + length (encode_utf8_all cs))) → held e + credit t ≤ held d + (credit s + length (encode_utf8 c ++ encode_utf8_all cs))
+run_within : (s t : Scan) (d e : Draft) (cs : List ℕ) → run s d cs ≡ At t e → draft_size e + credit t ≤ draft_size d + (credit s + length (encode_utf8_all cs))
+run_within s t d e [] h = let k : (s ≡ t) × (d ≡ e) = at_same s t d e h in omega (arith, ap draft_size k.1, ap credit k.0)
+run_within s t d e (c ∷ cs) h = by (step s c) refl h (λ u k. run_within u t (note_character s u c d) e cs k) where
+  by : (u : Turn) → step s c ≡ u → turn_run (λ u. run u (note_character s u c d) cs) d cs u ≡ At t e → ((u : Scan) → run u (note_character s u c d) cs ≡ At t e → draft_size e + credit t ≤ draft_size (note_character s u c d) + (credit u + length (encode_utf8_all cs))) → draft_size e + credit t ≤ draft_size d + (credit s + length (encode_utf8 c ++ encode_utf8_all cs))
   by (Goes u) e h more = omega (arith, more u h, noted_within s u c d (goes_fits s u c e).0, length-append (encode_utf8 c) (encode_utf8_all cs))
   by (Whole k) e h more = absurd (cc)
   by Stuck e h more = absurd (cc)
@@ -287,7 +287,7 @@ run_within s t d e (c ∷ cs) h = by (step s c) refl h (λ u k. run_within u t (
 -- a tag stays one
 run_tag : (s t : Scan) (d e : Draft) (cs : List ℕ) → run s d cs ≡ At t e → is_tag s ≡ true → is_tag t ≡ true
 run_tag s t d e [] h k = subst (λ v. is_tag v ≡ true) (at_same s t d e h).0 k
-run_tag s t d e (c ∷ cs) h k = by (step s c) refl h (λ u k. run_tag u t (noted s u c d) e cs k) where
+run_tag s t d e (c ∷ cs) h k = by (step s c) refl h (λ u k. run_tag u t (note_character s u c d) e cs k) where
   stays : (a b : Bool) → (a || not b) ≡ true → b ≡ true → a ≡ true
   stays true b h k = refl
   stays false b h k = absurd (both_ways b (not_true b h) k) where
@@ -295,13 +295,13 @@ run_tag s t d e (c ∷ cs) h k = by (step s c) refl h (λ u k. run_tag u t (note
     not_true false h = refl
     not_true true h = absurd (both_ways false refl h)
 
-  by : (u : Turn) → step s c ≡ u → turned (λ u. run u (noted s u c d) cs) d cs u ≡ At t e → ((u : Scan) → run u (noted s u c d) cs ≡ At t e → is_tag u ≡ true → is_tag t ≡ true) → is_tag t ≡ true
+  by : (u : Turn) → step s c ≡ u → turn_run (λ u. run u (note_character s u c d) cs) d cs u ≡ At t e → ((u : Scan) → run u (note_character s u c d) cs ≡ At t e → is_tag u ≡ true → is_tag t ≡ true) → is_tag t ≡ true
   by (Goes u) e h more = more u h (stays (is_tag u) (is_tag s) (goes_fits s u c e).1 k)
   by (Whole k) e h more = absurd (cc)
   by Stuck e h more = absurd (cc)
 
 -- and outside of tags nothing is held
-noted_outside : (s t : Scan) (c : ℕ) (d : Draft) → is_tag t ≡ false → noted s t c d ≡ d
+noted_outside : (s t : Scan) (c : ℕ) (d : Draft) → is_tag t ≡ false → note_character s t c d ≡ d
 noted_outside s (StartName part) c d h = absurd (both_ways true h refl)
 noted_outside s (EndName part) c d h = absurd (both_ways true h refl)
 noted_outside s (AttributeName part) c d h = absurd (both_ways true h refl)
@@ -311,11 +311,11 @@ noted_outside s _ c d h = refl
 
 run_outside : (s t : Scan) (d e : Draft) (cs : List ℕ) → run s d cs ≡ At t e → is_tag t ≡ false → e ≡ d
 run_outside s t d e [] h k = sym (at_same s t d e h).1
-run_outside s t d e (c ∷ cs) h k = by (step s c) h (λ u k. run_outside u t (noted s u c d) e cs k) where
-  by : (u : Turn) → turned (λ u. run u (noted s u c d) cs) d cs u ≡ At t e → ((u : Scan) → run u (noted s u c d) cs ≡ At t e → is_tag t ≡ false → e ≡ noted s u c d) → e ≡ d
+run_outside s t d e (c ∷ cs) h k = by (step s c) h (λ u k. run_outside u t (note_character s u c d) e cs k) where
+  by : (u : Turn) → turn_run (λ u. run u (note_character s u c d) cs) d cs u ≡ At t e → ((u : Scan) → run u (note_character s u c d) cs ≡ At t e → is_tag t ≡ false → e ≡ note_character s u c d) → e ≡ d
   by (Goes u) h more = more u h k ∙ noted_outside s u c d (not_tag (cases_Bool (is_tag u))) where
     not_tag : (is_tag u ≡ true) ⊎ (is_tag u ≡ false) → is_tag u ≡ false
-    not_tag (inl y) = absurd (both_ways (is_tag t) k (run_tag u t (noted s u c d) e cs h y))
+    not_tag (inl y) = absurd (both_ways (is_tag t) k (run_tag u t (note_character s u c d) e cs h y))
     not_tag (inr n) = n
   by (Whole k) h more = absurd (cc)
   by Stuck h more = absurd (cc)
@@ -323,21 +323,21 @@ run_outside s t d e (c ∷ cs) h k = by (step s c) h (λ u k. run_outside u t (n
 -- ---- the reader
 
 module _ {limit : ℕ} (r : Reader) (bytes : List ℕ) (told : List Placed) (h : HasTakenUnder limit r bytes told) where
-  abbrev o : IsOpen limit r.tokenizer (reverse h.0) h.1.reads.bytes
+  abbrev o : IsTokenOpen limit r.tokenizer (reverse h.0) h.1.reads.bytes
   o = h.1.reads.opens
 
-  within_chars : token r ≤ length (encode_utf8_all o.chars)
+  within_chars : open_token_held r ≤ length (encode_utf8_all o.chars)
   within_chars = omega (arith, run_within (Begin (position (reverse h.0))) r.tokenizer.scan no_draft r.tokenizer.draft o.chars o.scan_is)
 
-  within_bytes : token r ≤ length h.1.reads.bytes
+  within_bytes : open_token_held r ≤ length h.1.reads.bytes
   within_bytes = omega (arith, within_chars, ap length o.bytes_are, length-append (encode_utf8_all o.chars) o.part)
 
   -- no more than the open token has
-  pub token_within : token r + r.tokenizer.start ≤ r.tokenizer.place
+  pub token_within : open_token_held r + r.tokenizer.start ≤ r.tokenizer.place
   token_within = omega (arith, within_bytes, o.place_is)
 
   -- and no more than a tag may have
-  pub token_bounded : token r ≤ limit
+  pub token_bounded : open_token_held r ≤ limit
   token_bounded = by (cases_Bool (is_tag r.tokenizer.scan)) where
     here : ScanPlaced o.chars r.tokenizer.scan
     here = run_placed (position (reverse h.0)) o.chars r.tokenizer.scan no_draft r.tokenizer.draft o.scan_is
@@ -348,6 +348,6 @@ module _ {limit : ℕ} (r : Reader) (bytes : List ℕ) (told : List Placed) (h :
     none : (n limit : ℕ) → n ≡ 0 → n ≤ limit
     none n limit h = omega arith
 
-    by : (is_tag r.tokenizer.scan ≡ true) ⊎ (is_tag r.tokenizer.scan ≡ false) → token r ≤ limit
-    by (inl y) = count (token r) (length h.1.reads.bytes) limit within_bytes (o.short (here.tag (here.same y)))
-    by (inr n) = none (token r) limit (ap held (run_outside (Begin (position (reverse h.0))) r.tokenizer.scan no_draft r.tokenizer.draft o.chars o.scan_is n))
+    by : (is_tag r.tokenizer.scan ≡ true) ⊎ (is_tag r.tokenizer.scan ≡ false) → open_token_held r ≤ limit
+    by (inl y) = count (open_token_held r) (length h.1.reads.bytes) limit within_bytes (o.short (here.tag (here.same y)))
+    by (inr n) = none (open_token_held r) limit (ap draft_size (run_outside (Begin (position (reverse h.0))) r.tokenizer.scan no_draft r.tokenizer.draft o.chars o.scan_is n))

@@ -11,7 +11,7 @@ use Rattle.markup.specs.Faults.{is_over, IsClean, NoToken, Next, broken, halts, 
 use Rattle.markup.specs.Drafts.{no_draft}
 use Rattle.markup.specs.ScanRuns.{position}
 use Rattle.markup.specs.Tokenizers.{open_at, Finishes, FinishesBy}
-use Rattle.markup.specs.Inputs.{Reads, Any, with_pending, is_cut}
+use Rattle.markup.specs.Inputs.{ReadsTokens, Any, with_pending, is_cut}
 use Rattle.markup.specs.Longest.{IsLongestUnder}
 use Rattle.markup.specs.declared.scan.Scan.TheVariants.{Begin}
 use Rattle.markup.specs.declared.tokenizer.Finish.{Finish}
@@ -80,15 +80,15 @@ record Ends (limit : ℕ) (input : List ℕ) (ts : List Token) : Type 0 where
   front : Front limit [] input ts rest
   none : NoToken (past [] ts) rest
 
-front_now : {limit : ℕ} (z : Tokenizer) (input : List ℕ) (ts : List Token) (r : Reads limit Any z input ts) → Front limit [] input ts r.bytes
+front_now : {limit : ℕ} (z : Tokenizer) (input : List ℕ) (ts : List Token) (r : ReadsTokens limit Any z input ts) → Front limit [] input ts r.bytes
 front_now {limit} z input ts r = subst (λ v. Front limit [] v ts r.bytes) (append-nil input) (subst (λ v. Front limit [] (input ++ []) ts v) (append-nil r.bytes) (r.front [] tt))
 
 -- a CR at the end of the input
-front_return : {limit : ℕ} (z : Tokenizer) (input : List ℕ) (ts : List Token) (r : Reads limit Any z input ts) → Finishes limit (reverse ts) r.bytes Return → Front limit [] input (ts ++ LineEnd Cr ∷ []) []
+front_return : {limit : ℕ} (z : Tokenizer) (input : List ℕ) (ts : List Token) (r : ReadsTokens limit Any z input ts) → Finishes limit (reverse ts) r.bytes Return → Front limit [] input (ts ++ LineEnd Cr ∷ []) []
 front_return {limit} z input ts r f = front_snoc limit [] input r.bytes [] ts (LineEnd Cr) (front_now z input ts r)
     (subst (λ b. Cell b (LineEnd Cr) r.bytes []) (behind ts) (record { spelled = f.0 ∙ sym (append-nil (token_bytes (LineEnd Cr))); is = f.1 })) refl
 
-ends : {limit : ℕ} (z : Tokenizer) (input : List ℕ) (ts : List Token) (r : Reads limit Any z input ts) (result : Finish) → Finishes limit (reverse ts) r.bytes result → Ends limit input (with_pending result ts)
+ends : {limit : ℕ} (z : Tokenizer) (input : List ℕ) (ts : List Token) (r : ReadsTokens limit Any z input ts) (result : Finish) → Finishes limit (reverse ts) r.bytes result → Ends limit input (with_pending result ts)
 ends {limit} z input ts r Nothing f = record { rest = []; front = subst (λ v. Front limit [] input ts v) f (front_now z input ts r); none = nothing_stands (past [] ts) }
 ends z input ts r Return f = record { rest = []; front = front_return z input ts r f; none = nothing_stands (past [] (ts ++ LineEnd Cr ∷ [])) }
 ends z input ts r Open f = record { rest = r.bytes; front = front_now z input ts r; none = subst (λ b. NoToken b r.bytes) (behind ts) (none_at_end (reverse ts) r.bytes Truncated (some_limit z (reverse ts) r.bytes r.opens) f) }
@@ -117,7 +117,7 @@ cut_at_end {limit} input ts f c o = record {
   place = ap length (front_bytes limit [] input [] ts f ∙ append-nil (flat_map token_bytes ts)) ∙ sym (add-zero (length (flat_map token_bytes ts)));
 }
 
-module _ {limit : ℕ} (z : Tokenizer) (input : List ℕ) (ts : List Token) (r : Reads limit Any z input ts) (result : Finish) (f : FinishesBy z result) where
+module _ {limit : ℕ} (z : Tokenizer) (input : List ℕ) (ts : List Token) (r : ReadsTokens limit Any z input ts) (result : Finish) (f : FinishesBy z result) where
   here : Finishes limit (reverse ts) r.bytes result
   here = f limit (reverse ts) r.bytes r.opens
 
@@ -142,7 +142,7 @@ module _ {limit : ℕ} (z : Tokenizer) (input : List ℕ) (ts : List Token) (r :
   ends_cut c k o = cut_at_end input (with_pending result ts) (to_end result here k) (clean_pending result ts c) (over_pending result ts ∙ o)
 
 -- it is cut short within a token
-pub ends_open : {limit : ℕ} (z : Tokenizer) (input : List ℕ) (ts : List Token) (r : Reads limit Any z input ts) → FinishesBy z Open → IsClean [] ts → MarkFaultUnder limit input (record { rule = Truncated; place = length input })
+pub ends_open : {limit : ℕ} (z : Tokenizer) (input : List ℕ) (ts : List Token) (r : ReadsTokens limit Any z input ts) → FinishesBy z Open → IsClean [] ts → MarkFaultUnder limit input (record { rule = Truncated; place = length input })
 ends_open {limit} z input ts r f c = record {
   tokens = ts;
   rest = r.bytes;
@@ -154,7 +154,7 @@ ends_open {limit} z input ts r f c = record {
 }
 
 -- of any input that has been read so far the fault is this one alone
-pub none_but_truncated : {limit : ℕ} (z : Tokenizer) (input : List ℕ) (ts : List Token) → Reads limit Any z input ts → IsClean [] ts → (f : Fault) → MarkFaultUnder limit input f → f.rule ≡ Truncated
+pub none_but_truncated : {limit : ℕ} (z : Tokenizer) (input : List ℕ) (ts : List Token) → ReadsTokens limit Any z input ts → IsClean [] ts → (f : Fault) → MarkFaultUnder limit input f → f.rule ≡ Truncated
 none_but_truncated {limit} z input ts r c f m = by (open_at z.scan z) (finishes_by z (open_at z.scan z) refl) (cases_Bool (is_cut (open_at z.scan z))) where
   same : MarkFaultUnder limit input (record { rule = Truncated; place = length input }) → f.rule ≡ Truncated
   same n = ap (λ (k : Fault). k.rule) (one_fault input f (record { rule = Truncated; place = length input }) m n)

@@ -14,7 +14,7 @@ use Rattle.markup.specs.Faults.{Next}
 use Rattle.markup.specs.Scopes.{placed_at}
 use Rattle.markup.specs.Drafts.{no_draft}
 use Rattle.markup.specs.ScanRuns.{At, Over, Failed, run, position}
-use Rattle.markup.specs.Tokenizers.{IsAwaited, IsOpen, EndsToken, SettlesOne, SettlesTwo, Settles, SettlesBy, Finishes, FinishesBy}
+use Rattle.markup.specs.Tokenizers.{IsAwaited, IsTokenOpen, EndsToken, SettlesOne, SettlesTwo, Settles, SettlesBy, Finishes, FinishesBy}
 use Rattle.markup.specs.TokenRules.{items_by}
 use Rattle.markup.specs.Inputs.{with_pending, is_return, settled_tokens, settled_events}
 use Rattle.markup.specs.declared.draft.Draft.{Draft}
@@ -40,7 +40,7 @@ use Rattle.markup.proofs.TokenRuleLemmas.{items_ended}
 use Rattle.markup.proofs.EventLemmas.{events_snoc, events_brackets, events_return}
 
 -- a CR is open where its byte is
-pub finish_is_return : {limit : ℕ} (z : Tokenizer) (before : List Token) (bytes rest : List ℕ) (result : Finish) → IsOpen limit z before bytes → FinishesBy z result → bytes ≡ token_bytes (LineEnd Cr) ++ rest → stands before (LineEnd Cr) rest ≡ true → result ≡ Return
+pub finish_is_return : {limit : ℕ} (z : Tokenizer) (before : List Token) (bytes rest : List ℕ) (result : Finish) → IsTokenOpen limit z before bytes → FinishesBy z result → bytes ≡ token_bytes (LineEnd Cr) ++ rest → stands before (LineEnd Cr) rest ≡ true → result ≡ Return
 finish_is_return {limit} z before bytes rest result o f e s = by result (f limit before bytes o) where
   none : [] ≡ token_bytes (LineEnd Cr) ++ rest → ⊥
   none q = absurd (cons (token_bytes (LineEnd Cr)) (line_bytes.2) q) where
@@ -53,7 +53,7 @@ finish_is_return {limit} z before bytes rest result o f e s = by result (f limit
   by Return h = refl
   by Open h = absurd (none_at_end before bytes Truncated (some_limit z before bytes o) h (LineEnd Cr) rest (record { spelled = e; is = s }))
 
-pub not_return : {limit : ℕ} (z : Tokenizer) (before : List Token) (bytes : List ℕ) (result : Finish) → IsOpen limit z before bytes → FinishesBy z result → (bytes ≡ token_bytes (LineEnd Cr) → ⊥) → is_return result ≡ false
+pub not_return : {limit : ℕ} (z : Tokenizer) (before : List Token) (bytes : List ℕ) (result : Finish) → IsTokenOpen limit z before bytes → FinishesBy z result → (bytes ≡ token_bytes (LineEnd Cr) → ⊥) → is_return result ≡ false
 not_return {limit} z before bytes result o f n = by result (f limit before bytes o) where
   by : (result : Finish) → Finishes limit before bytes result → is_return result ≡ false
   by Nothing h = refl
@@ -67,7 +67,7 @@ none_pending Return ts h = absurd (both_ways true h refl)
 none_pending Open ts h = refl
 
 -- what is open tells alone whether a CR is
-pub pending_same : {limit : ℕ} (z : Tokenizer) (before : List Token) (bytes : List ℕ) (f g : Finish) → IsOpen limit z before bytes → FinishesBy z f → FinishesBy z g → (ts : List Token) → with_pending f ts ≡ with_pending g ts
+pub pending_same : {limit : ℕ} (z : Tokenizer) (before : List Token) (bytes : List ℕ) (f g : Finish) → IsTokenOpen limit z before bytes → FinishesBy z f → FinishesBy z g → (ts : List Token) → with_pending f ts ≡ with_pending g ts
 pending_same {limit} z before bytes f g o h k ts = by f g (h limit before bytes o) (k limit before bytes o) (λ e. finish_is_return z before bytes [] f o h (e ∙ sym (append-nil (token_bytes (LineEnd Cr)))) (end_stands before)) (λ e. finish_is_return z before bytes [] g o k (e ∙ sym (append-nil (token_bytes (LineEnd Cr)))) (end_stands before)) where
   by : (f g : Finish) → Finishes limit before bytes f → Finishes limit before bytes g → (bytes ≡ token_bytes (LineEnd Cr) → f ≡ Return) → (bytes ≡ token_bytes (LineEnd Cr) → g ≡ Return) → with_pending f ts ≡ with_pending g ts
   by Return g h k p q = ap (λ x. with_pending x ts) (sym (q h.0))
@@ -92,7 +92,7 @@ unfolding encode_utf8
 bracket_return_bytes = refl
 
 -- no CR is open behind a `]` that waits
-bracket_then_return : {limit : ℕ} (z : Tokenizer) (before : List Token) (bytes after : List ℕ) → IsOpen limit z before bytes → bytes ≡ token_bytes (Character 93) ++ token_bytes (LineEnd Cr) → stands before (Character 93) after ≡ true → ⊥
+bracket_then_return : {limit : ℕ} (z : Tokenizer) (before : List Token) (bytes after : List ℕ) → IsTokenOpen limit z before bytes → bytes ≡ token_bytes (Character 93) ++ token_bytes (LineEnd Cr) → stands before (Character 93) after ≡ true → ⊥
 bracket_then_return z before bytes after o e s = by (compare_texts o.chars (93 ∷ 13 ∷ []) o.part [] (sym o.bytes_are ∙ (e ∙ bracket_return_bytes))) where
   failed : (more : List ℕ) → run (Begin (position before)) no_draft (93 ∷ 13 ∷ more) ≡ Failed
   failed more = bracket_run before (13 ∷ more) (waits_in_cdata z before bytes (token_bytes (LineEnd Cr)) after o e s)
@@ -113,7 +113,7 @@ left_none rest e = by rest (sym line_bytes.2 ∙ (e ∙ ap (λ v. v ++ rest) lin
   by : (rest : List ℕ) → 13 ∷ [] ≡ 13 ∷ rest → rest ≡ []
   by rest e = cc
 
-module _ {limit : ℕ} (old new : Tokenizer) (ts : List Token) (bytes : List ℕ) (byte : ℕ) (f g : Finish) (o : IsOpen limit old (reverse ts) bytes) (p : FinishesBy old f) (q : FinishesBy new g) where
+module _ {limit : ℕ} (old new : Tokenizer) (ts : List Token) (bytes : List ℕ) (byte : ℕ) (f g : Finish) (o : IsTokenOpen limit old (reverse ts) bytes) (p : FinishesBy old f) (q : FinishesBy new g) where
   abbrev place : ℕ
   place = length (flat_map token_bytes ts)
 
@@ -152,7 +152,7 @@ module _ {limit : ℕ} (old new : Tokenizer) (ts : List Token) (bytes : List ℕ
 
   -- a CR that is open goes on to a CR LF alone
   module _ (w : IsAwaited old.scan byte) where
-    no_more_behind : bytes ≡ token_bytes (LineEnd Cr) → IsOpen limit new (reverse ts) (bytes ++ byte ∷ []) → ⊥
+    no_more_behind : bytes ≡ token_bytes (LineEnd Cr) → IsTokenOpen limit new (reverse ts) (bytes ++ byte ∷ []) → ⊥
     no_more_behind e k = by (compare_texts k.chars (13 ∷ 10 ∷ []) k.part [] (sym k.bytes_are ∙ (awaited_crlf old (reverse ts) bytes byte o e w ∙ sym (append-nil (token_bytes (LineEnd CrLf)))))) where
       not_over : (s : Scan) (d f : Draft) (k : Ended) (w : List ℕ) → At s d ≡ Over k f w → ⊥
       not_over s d f k w h = cc
@@ -165,7 +165,7 @@ module _ {limit : ℕ} (old new : Tokenizer) (ts : List Token) (bytes : List ℕ
     no_fault_behind e rule n = next_none limit (reverse ts) ((bytes ++ byte ∷ []) ++ []) (LineEnd CrLf) [] rule 0 (n []) (record { spelled = ap (λ v. v ++ []) (awaited_crlf old (reverse ts) bytes byte o e w); is = crlf_stands (reverse ts) [] }) refl refl
 
     -- what a byte that does not end the token adds: a CR that has come
-    pub events-more : IsOpen limit new (reverse ts) (bytes ++ byte ∷ []) → events [] 0 (with_pending g ts) ≡ events [] 0 (with_pending f ts) ++ (if is_return g then placed_at (length (flat_map token_bytes ts)) (Char 10 ∷ []) else [])
+    pub events-more : IsTokenOpen limit new (reverse ts) (bytes ++ byte ∷ []) → events [] 0 (with_pending g ts) ≡ events [] 0 (with_pending f ts) ++ (if is_return g then placed_at (length (flat_map token_bytes ts)) (Char 10 ∷ []) else [])
     events-more k = by g ∙ ap (λ v. events [] 0 v ++ (if is_return g then placed_at place (Char 10 ∷ []) else [])) (sym (none_pending f ts (not_return old (reverse ts) bytes f o p (λ e. no_more_behind e k)))) where
       by : (g : Finish) → events [] 0 (with_pending g ts) ≡ events [] 0 ts ++ (if is_return g then placed_at place (Char 10 ∷ []) else [])
       by Nothing = sym (append-nil (events [] 0 ts))

@@ -7,11 +7,11 @@ use Rattle.markup.specs.Ascii.{is_ascii}
 use Rattle.markup.specs.Token.{Token, LineEnd, Character, Lf, Cr, CrLf, token_text}
 use Rattle.markup.specs.Marks.{in_cdata}
 use Rattle.markup.specs.Events.{Placed}
-use Rattle.markup.specs.Drafts.{no_draft, noted}
+use Rattle.markup.specs.Drafts.{no_draft, note_character}
 use Rattle.markup.specs.Reading.{MayTakeInsideUnder}
 use Rattle.markup.specs.Scans.{step}
-use Rattle.markup.specs.ScanRuns.{Run, At, Over, Failed, turned, run, position, ended_of, draft_of, ends_itself}
-use Rattle.markup.specs.Tokenizers.{IsOpen}
+use Rattle.markup.specs.ScanRuns.{Run, At, Over, Failed, turn_run, run, position, ended_of, draft_of, ends_itself}
+use Rattle.markup.specs.Tokenizers.{IsTokenOpen}
 use Rattle.markup.specs.inner.Inside.{GoesByOne, GoesByAll, is_inside}
 use Rattle.markup.specs.declared.draft.Draft.{Draft}
 use Rattle.markup.specs.declared.reader.Reader.{Reader}
@@ -44,7 +44,7 @@ splits (x ∷ xs) ys (y ∷ zs) rest e = by (splits xs ys zs rest (tail_same x y
 -- a run over some characters goes on with the first
 first_goes : (s t : Scan) (d e : Draft) (y : ℕ) (ys : List ℕ) → run s d (y ∷ ys) ≡ At t e → (u : Scan) × (step s y ≡ Goes u)
 first_goes s t d e y ys h = by (step s y) refl h where
-  by : (a : Turn) → step s y ≡ a → turned (λ u. run u (noted s u y d) ys) d ys a ≡ At t e → (u : Scan) × (step s y ≡ Goes u)
+  by : (a : Turn) → step s y ≡ a → turn_run (λ u. run u (note_character s u y d) ys) d ys a ≡ At t e → (u : Scan) × (step s y ≡ Goes u)
   by (Goes u) q h = (u, q)
   by (Whole k) q h = absurd (cc)
   by Stuck q h = absurd (cc)
@@ -80,7 +80,7 @@ module _ {limit : ℕ} (r : Reader) (bytes : List ℕ) (told : List Placed) (mor
   abbrev z : Tokenizer
   z = r.tokenizer
 
-  abbrev o : IsOpen limit z before m.keeps.reads.bytes
+  abbrev o : IsTokenOpen limit z before m.keeps.reads.bytes
   o = m.keeps.reads.opens
 
   abbrev chars : List ℕ

@@ -11,10 +11,10 @@ use Rattle.markup.specs.Events.{Placed, events}
 use Rattle.markup.specs.Faults.{IsTagBegun}
 use Rattle.markup.specs.Drafts.{no_draft}
 use Rattle.markup.specs.Inputs.{Any, with_pending}
-use Rattle.markup.specs.inner.Inside.{GoesOver, is_inside, may_be_tag, moved, GoesInside}
+use Rattle.markup.specs.inner.Inside.{GoesOver, is_inside, may_be_tag, after_count, GoesInside}
 use Rattle.markup.specs.Reading.{HasTakenUnder, HasToldUnder}
 use Rattle.markup.specs.ScanRuns.{At, run, position}
-use Rattle.markup.specs.Tokenizers.{is_tag, scanned, is_pending, IsOpen, open_at, FinishesBy}
+use Rattle.markup.specs.Tokenizers.{is_tag, with_scan, is_pending, IsTokenOpen, open_at, FinishesBy}
 use Rattle.markup.specs.declared.draft.Draft.{Draft}
 use Rattle.markup.specs.declared.reader.Reader.{Reader}
 use Rattle.markup.specs.declared.scan.Position.{Position}
@@ -42,14 +42,14 @@ pub over_then : (a b c : Tokenizer) (xs ys : List ℕ) → GoesOver a b xs → G
 over_then a b c xs ys g h = record {
   encoded = encodes-append xs ys ∙ (ap (λ v. v ++ encode_utf8_all ys) g.encoded ∙ ap (λ v. xs ++ v) h.encoded);
   scans = run_on a.scan b.scan a.draft b.draft xs ys g.scans ∙ h.scans;
-  after = h.after ∙ ap (λ z. scanned z c.scan c.draft) g.after;
+  after = h.after ∙ ap (λ z. with_scan z c.scan c.draft) g.after;
 }
 
 -- nothing changes over no bytes
 pub over_same : (old new : Tokenizer) → GoesOver old new [] → new ≡ old
 over_same old new g =
     let s : (old.scan ≡ new.scan) × (old.draft ≡ new.draft) = at_same old.scan new.scan old.draft new.draft g.scans in
-    g.after ∙ (ap (λ v. scanned old v new.draft) (sym s.0) ∙ ap (λ v. scanned old old.scan v) (sym s.1))
+    g.after ∙ (ap (λ v. with_scan old v new.draft) (sym s.0) ∙ ap (λ v. with_scan old old.scan v) (sym s.1))
 
 -- ---- the bytes of a piece so far
 
@@ -69,13 +69,13 @@ front_more a b c piece rest behind n f g e = record {
 }
 
 -- the front of a piece, so long that a tag stays shorter than its limit
-pub goes_front : (old between : Tokenizer) (piece front : List ℕ) (room count : ℕ) → is_inside old.scan ≡ true → old.utf8 ≡ Some [] → room ≤ length piece → front ≡ take room piece → count ≤ length front → (may_be_tag old.scan ≡ true → 0 < room → (old.place - old.start) + room < old.limit) → GoesOver old between (take count front) → 0 < count → GoesInside old (moved between count) (take count piece)
+pub goes_front : (old between : Tokenizer) (piece front : List ℕ) (room count : ℕ) → is_inside old.scan ≡ true → old.utf8 ≡ Some [] → room ≤ length piece → front ≡ take room piece → count ≤ length front → (may_be_tag old.scan ≡ true → 0 < room → (old.place - old.start) + room < old.limit) → GoesOver old between (take count front) → 0 < count → GoesInside old (after_count between count) (take count piece)
 goes_front old between piece front room count i w r f c s g some = record {
   inside = i;
   whole = w;
   between = between;
   over = subst (GoesOver old between) (ap (take count) f ∙ take_within) g;
-  after = ap (moved between) (sym size);
+  after = ap (after_count between) (sym size);
   short = λ t. omega (arith, s t (omega (arith, some, short_front)), size, short_front);
 } where
   short_front : count ≤ room
@@ -121,7 +121,7 @@ begun_may p s d (a ∷ b ∷ chars) more r i t = tag_may s (by (cases_Bool (in_t
   by (inl h) = tag_scan s h
   by (inr h) = absurd ((run_placed p (a ∷ b ∷ chars) s no_draft d r).no_tag h t)
 
-module _ {limit : ℕ} (old new : Tokenizer) (before : List Token) (bytes more : List ℕ) (o : IsOpen limit old before bytes) (g : GoesInside old new more) where
+module _ {limit : ℕ} (old new : Tokenizer) (before : List Token) (bytes more : List ℕ) (o : IsTokenOpen limit old before bytes) (g : GoesInside old new more) where
   abbrev z : Tokenizer
   z = g.between
 
@@ -144,8 +144,8 @@ module _ {limit : ℕ} (old new : Tokenizer) (before : List Token) (bytes more :
       none : (cs : List ℕ) → [] ≡ encode_utf8_all cs → cs ≡ []
       none cs e = (no_chars cs [] (ap length (append-nil (encode_utf8_all cs) ∙ sym e))).0
 
-  pub goes_open : IsOpen limit new before (bytes ++ more)
-  goes_open = subst (λ y. IsOpen limit y before (bytes ++ more)) (sym g.after) (subst (λ y. IsOpen limit (moved y (length more)) before (bytes ++ more)) (sym g.over.after) (record {
+  pub goes_open : IsTokenOpen limit new before (bytes ++ more)
+  goes_open = subst (λ y. IsTokenOpen limit y before (bytes ++ more)) (sym g.after) (subst (λ y. IsTokenOpen limit (after_count y (length more)) before (bytes ++ more)) (sym g.over.after) (record {
     chars = o.chars ++ more;
     part = [];
     bytes_are = more_are ∙ sym (append-nil (encode_utf8_all (o.chars ++ more)));
@@ -182,7 +182,7 @@ module _ {limit : ℕ} (r : Reader) (new : Tokenizer) (bytes more : List ℕ) (t
   abbrev opened : List ℕ
   opened = h.1.reads.bytes
 
-  opens : IsOpen limit new (reverse ts) (opened ++ more)
+  opens : IsTokenOpen limit new (reverse ts) (opened ++ more)
   opens = goes_open r.tokenizer new (reverse ts) opened more h.1.reads.opens g
 
   front : (m : List ℕ) → Any m → Front limit [] ((bytes ++ more) ++ m) ts ((opened ++ more) ++ m)

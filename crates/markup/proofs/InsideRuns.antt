@@ -8,11 +8,11 @@ use Rattle.std.proofs.lemmas.Bool.Decides.{nat_tests}
 use Rattle.std.proofs.lemmas.Str.{encode_ascii}
 use Rattle.markup.specs.Chars.{is_xml_char, is_space}
 use Rattle.markup.specs.PlainTags.{continues_plain}
-use Rattle.markup.specs.Drafts.{noted, literal_char, add_value}
+use Rattle.markup.specs.Drafts.{note_character, literal_char, add_value}
 use Rattle.markup.specs.PlainStarts.{is_literal_of}
-use Rattle.markup.specs.inner.Inside.{is_passed, extended, noted_all, IsStill}
+use Rattle.markup.specs.inner.Inside.{is_passed, extend_name, noted_all, IsStill}
 use Rattle.markup.specs.Scans.{step}
-use Rattle.markup.specs.ScanRuns.{At, turned, run}
+use Rattle.markup.specs.ScanRuns.{At, turn_run, run}
 use Rattle.markup.specs.declared.draft.Draft.{Draft}
 use Rattle.markup.specs.declared.tag.Spelled.{Spelled}
 use Rattle.markup.specs.declared.scan.NameScan.{NameScan}
@@ -26,11 +26,11 @@ use Rattle.markup.proofs.PlainTagLemmas.{continues_name, plain_ascii}
 pub record StaysBy (s : Scan) (c : ℕ) : Type 0 where
   pub ascii : c < 128
   pub goes : step s c ≡ Goes s
-  pub says : (d : Draft) → noted s s c d ≡ noted_all s (c ∷ []) d
+  pub says : (d : Draft) → note_character s s c d ≡ noted_all s (c ∷ []) d
 
 -- ---- what bytes say, one after another
 
-extended_more : (xs ys : List ℕ) (n : Spelled) → extended ys (extended xs n) ≡ extended (xs ++ ys) n
+extended_more : (xs ys : List ℕ) (n : Spelled) → extend_name ys (extend_name xs n) ≡ extend_name (xs ++ ys) n
 extended_more xs ys n = ap (λ v. record { prefix = n.prefix; local = v }) (append_assoc n.local xs ys)
 
 noted_more : (s : Scan) (xs ys : List ℕ) (d : Draft) → noted_all s ys (noted_all s xs d) ≡ noted_all s (xs ++ ys) d
@@ -40,7 +40,7 @@ noted_more (AttributeName n) xs ys d = ap (λ v. record { name = d.name; given =
 noted_more (Value q r) xs ys d = ap (λ v. record { name = d.name; given = d.given; attribute = d.attribute; value = v }) (append_assoc d.value xs ys)
 noted_more _ xs ys d = refl
 
-extended_none : (n : Spelled) → n ≡ extended [] n
+extended_none : (n : Spelled) → n ≡ extend_name [] n
 extended_none n = ap (λ v. record { prefix = n.prefix; local = v }) (sym (append-nil n.local))
 
 noted_none : (s : Scan) (d : Draft) → d ≡ noted_all s [] d
@@ -58,7 +58,7 @@ still_none s = record { encoded = refl; scans = λ d. ap (λ e. At s e) (noted_n
 still_one_more : (s : Scan) (c : ℕ) (cs : List ℕ) → StaysBy s c → IsStill s cs → IsStill s (c ∷ cs)
 still_one_more s c cs b k = record {
   encoded = ap (λ v. v ++ encode_utf8_all cs) (encode_ascii c b.ascii) ∙ ap (λ v. c ∷ v) k.encoded;
-  scans = λ d. ap (turned (λ t. run t (noted s t c d) cs) d cs) b.goes ∙ (k.scans (noted s s c d) ∙ ap (λ e. At s e) (ap (noted_all s cs) (b.says d) ∙ noted_more s (c ∷ []) cs d));
+  scans = λ d. ap (turn_run (λ t. run t (note_character s t c d) cs) d cs) b.goes ∙ (k.scans (note_character s s c d) ∙ ap (λ e. At s e) (ap (noted_all s cs) (b.says d) ∙ noted_more s (c ∷ []) cs d));
 }
 
 still_front : (s : Scan) (p : ℕ → Bool) → ((c : ℕ) → p c ≡ true → StaysBy s c) → (xs : List ℕ) (n : ℕ) → n ≤ prefix_len p xs → IsStill s (take n xs)
@@ -139,7 +139,7 @@ module _ (c : ℕ) (h : continues_plain c ≡ true) where
   encoded : encode_utf8 c ≡ c ∷ []
   encoded = encode_ascii c (plain_ascii c h)
 
-  more : (n : Spelled) → record { prefix = n.prefix; local = n.local ++ encode_utf8 c } ≡ extended (c ∷ []) n
+  more : (n : Spelled) → record { prefix = n.prefix; local = n.local ++ encode_utf8 c } ≡ extend_name (c ∷ []) n
   more n = ap (λ v. record { prefix = n.prefix; local = n.local ++ v }) encoded
 
   start_stays : (part : NameScan) → is_in_part part ≡ true → StaysBy (StartName part) c

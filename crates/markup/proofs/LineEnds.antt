@@ -6,7 +6,7 @@ use Rattle.markup.specs.Token.{Token, LineEnd, Cr, CrLf, token_bytes}
 use Rattle.markup.specs.Marks.{in_cdata, stands}
 use Rattle.markup.specs.Drafts.{no_draft}
 use Rattle.markup.specs.ScanRuns.{At, run, position}
-use Rattle.markup.specs.Tokenizers.{IsAwaited, IsOpen, EndsToken}
+use Rattle.markup.specs.Tokenizers.{IsAwaited, IsTokenOpen, EndsToken}
 use Rattle.markup.specs.declared.scan.Scan.{Scan}
 use Rattle.markup.specs.declared.scan.Scan.TheVariants.{Begin, AfterReturn}
 use Rattle.markup.specs.declared.scan.Ended.{Ended}
@@ -18,7 +18,7 @@ use Rattle.markup.proofs.NoTokens.{Shorter, Longer, compare_texts, no_whole}
 use Rattle.markup.proofs.TokenizerLemmas.{none_front}
 
 -- and where that byte is open, a CR is
-pub open_return : {limit : ℕ} (z : Tokenizer) (before : List Token) (bytes : List ℕ) → IsOpen limit z before bytes → bytes ≡ token_bytes (LineEnd Cr) → z.scan ≡ AfterReturn
+pub open_return : {limit : ℕ} (z : Tokenizer) (before : List Token) (bytes : List ℕ) → IsTokenOpen limit z before bytes → bytes ≡ token_bytes (LineEnd Cr) → z.scan ≡ AfterReturn
 open_return z before bytes o e = by (compare_texts o.chars (13 ∷ []) o.part [] (sym o.bytes_are ∙ (e ∙ sym (append-nil (token_bytes (LineEnd Cr)))))) where
   scan_same : (s t : Scan) (d f : Draft) → At s d ≡ At t f → s ≡ t
   scan_same s t d f h = cc
@@ -44,13 +44,13 @@ unfolding encode_utf8
 line_bytes = (refl, refl, refl)
 
 -- the byte that an open CR awaits makes a CR LF
-pub awaited_crlf : {limit : ℕ} (z : Tokenizer) (before : List Token) (bytes : List ℕ) (byte : ℕ) → IsOpen limit z before bytes → bytes ≡ token_bytes (LineEnd Cr) → IsAwaited z.scan byte → bytes ++ byte ∷ [] ≡ token_bytes (LineEnd CrLf)
+pub awaited_crlf : {limit : ℕ} (z : Tokenizer) (before : List Token) (bytes : List ℕ) (byte : ℕ) → IsTokenOpen limit z before bytes → bytes ≡ token_bytes (LineEnd Cr) → IsAwaited z.scan byte → bytes ++ byte ∷ [] ≡ token_bytes (LineEnd CrLf)
 awaited_crlf z before bytes byte o h w = both bytes (token_bytes (LineEnd Cr)) byte 10 h (subst (λ s. IsAwaited s byte) (open_return z before bytes o h) w) ∙ line_bytes.0 where
   both : (v w : List ℕ) (x y : ℕ) → v ≡ w → x ≡ y → v ++ x ∷ [] ≡ w ++ y ∷ []
   both v w x y e f = cc
 
 -- a byte that ends a CR that was open is the LF of a CR LF
-pub ends_crlf : {limit : ℕ} (old new : Tokenizer) (before : List Token) (bytes : List ℕ) (byte : ℕ) (e : Ended) (d : Draft) → IsOpen limit old before bytes → bytes ≡ token_bytes (LineEnd Cr) → IsAwaited old.scan byte → (k : EndsToken limit new before (bytes ++ byte ∷ []) e d) → k.token ≡ LineEnd CrLf
+pub ends_crlf : {limit : ℕ} (old new : Tokenizer) (before : List Token) (bytes : List ℕ) (byte : ℕ) (e : Ended) (d : Draft) → IsTokenOpen limit old before bytes → bytes ≡ token_bytes (LineEnd Cr) → IsAwaited old.scan byte → (k : EndsToken limit new before (bytes ++ byte ∷ []) e d) → k.token ≡ LineEnd CrLf
 ends_crlf old new before bytes byte e d o h w k = (one_token before k.token (LineEnd CrLf) (token_bytes (LineEnd CrLf)) [] []
     (record { spelled = sym (awaited_crlf old before bytes byte o h w) ∙ (sym k.bytes_are ∙ sym (append-nil (token_bytes k.token))); is = k.is [] })
     (record { spelled = sym (append-nil (token_bytes (LineEnd CrLf))); is = crlf_stands before [] })).0

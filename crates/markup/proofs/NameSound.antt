@@ -9,7 +9,7 @@ use Rattle.markup.specs.Chars.{is_xml_char, is_name_start, is_name_char}
 use Rattle.markup.specs.Name.{Plain, Prefixed}
 use Rattle.markup.specs.Reference.{Ampersand as AmpersandEntity, Less as LessEntity, Greater as GreaterEntity, Apostrophe as ApostropheEntity, Quote as QuoteEntity, Reference, Named, Numbered, is_reference}
 use Rattle.markup.specs.Words.{word_text, letter_of}
-use Rattle.markup.specs.ReferenceScans.{reference_step, digit_step, first_digit, more_digits, digits_step, numbered, gives, letter_step}
+use Rattle.markup.specs.ReferenceScans.{reference_step, digit_step, first_digit, more_digits, digits_step, numbered_char, gives, letter_step}
 use Rattle.markup.specs.Scans.{name_step}
 use Rattle.markup.specs.declared.word.Word.{Word}
 use Rattle.markup.specs.declared.reference.ReferenceScan.{ReferenceScan}
@@ -56,17 +56,17 @@ digit_part radix n c m h = by (is_digit c radix) (nat_le (n * radix + digit_valu
   by true false h = absurd (cc)
   by false b h = absurd (cc)
 
-numbered_part : (n g : ℕ) → numbered n ≡ Some g → is_xml_char n ≡ true
+numbered_part : (n g : ℕ) → numbered_char n ≡ Some g → is_xml_char n ≡ true
 numbered_part n g h = by (is_xml_char n) h where
   by : (b : Bool) → (if b then Some n else None) ≡ Some g → b ≡ true
   by true h = refl
   by false h = absurd (cc)
 
 digits_end : (radix n c : ℕ) (w v : List ℕ) → ReferenceThen w v (digits_step n c) → InDigits radix n (c ∷ w) v
-digits_end radix n c w v h = on_if (ReferenceThen w v) (c == 59) (gives (numbered n)) Breaks h
-    (λ e k. given (numbered n) refl e k)
+digits_end radix n c w v h = on_if (ReferenceThen w v) (c == 59) (gives (numbered_char n)) Breaks h
+    (λ e k. given (numbered_char n) refl e k)
     (λ e k. absurd k) where
-      given : (o : Option ℕ) → numbered n ≡ o → (c == 59) ≡ true → ReferenceThen w v (gives o) → InDigits radix n (c ∷ w) v
+      given : (o : Option ℕ) → numbered_char n ≡ o → (c == 59) ≡ true → ReferenceThen w v (gives o) → InDigits radix n (c ∷ w) v
       given None f e k = absurd k
       given (Some g) f e k = record { digits = []; text = cons_same c 59 w v (eqb-true c 59 e) k; are = refl; xml = numbered_part n g f } where
         cons_same : (c d : ℕ) (x y : List ℕ) → c ≡ d → x ≡ y → (c ∷ x) ≡ (d ∷ y)

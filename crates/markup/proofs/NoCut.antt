@@ -10,8 +10,8 @@ use Rattle.markup.specs.declared.tag.Spelled.{Spelled}
 use Rattle.markup.specs.Chars.{is_space}
 use Rattle.markup.specs.Token.{Token, Mark, Declaration, Comment, Instruction, Opener, Closer, TypeDeclaration, Start, End, Refer, LineEnd, Character, token_bytes}
 use Rattle.markup.specs.Marks.{in_cdata}
-use Rattle.markup.specs.Events.{opening, spelled, open_tags, element_name}
-use Rattle.markup.specs.Faults.{rule_of, start_rule, end_rule, outside_rule, is_outside, is_over, has_clash, is_bad_attribute, behind_brackets, Stops, no_char, bad_char, stuck, is_in_reference, Next, broken, halts, cut, too_long, Fault, MarkFaultUnder}
+use Rattle.markup.specs.Events.{opening, spelled_name, open_tags, element_name}
+use Rattle.markup.specs.Faults.{rule_of, start_rule, end_rule, outside_rule, is_outside, is_over, has_clash, is_bad_attribute, behind_brackets, TokenStops, no_char, bad_char, stuck, is_in_reference, Next, broken, halts, cut, too_long, Fault, MarkFaultUnder}
 use Rattle.markup.proofs.InputLemmas.{front_bytes}
 
 -- the rule is that of an input that ends too early
@@ -48,7 +48,7 @@ rule_no_cut before Opener = outside_no_cut before
 rule_no_cut before Closer = tt
 rule_no_cut before TypeDeclaration = refl
 rule_no_cut before (Start t) = start_no_cut (is_over before) (open_tags before) (opening t)
-rule_no_cut before (End n g) = end_no_cut (open_tags before) (spelled n)
+rule_no_cut before (End n g) = end_no_cut (open_tags before) (spelled_name n)
 rule_no_cut before (Refer r) = outside_no_cut before
 rule_no_cut before (LineEnd l) = tt
 rule_no_cut before (Character c) = no_cut_if (c == 62 && not (in_cdata before) && behind_brackets before) (Some BadMarkup) _ refl
@@ -58,7 +58,7 @@ stuck_no_cut : (b : Bool) → is_cut_rule (if b then BadReference else BadMarkup
 stuck_no_cut true = refl
 stuck_no_cut false = refl
 
-stops_no_cut : (before : List Token) (chars tail : List ℕ) (rule : Rule) (shown : ℕ) → Stops before chars tail rule shown → is_cut_rule rule ≡ false
+stops_no_cut : (before : List Token) (chars tail : List ℕ) (rule : Rule) (shown : ℕ) → TokenStops before chars tail rule shown → is_cut_rule rule ≡ false
 stops_no_cut before chars tail rule shown (no_char p x b e f n r s) = ap is_cut_rule r
 stops_no_cut before chars tail rule shown (bad_char c x e s n r h) = ap is_cut_rule r
 stops_no_cut before chars tail rule shown (stuck c x e s n r h) = ap is_cut_rule r ∙ stuck_no_cut (is_in_reference chars)

@@ -7,9 +7,9 @@ use Rattle.std.proofs.lemmas.Str.{encode_same}
 use Rattle.lexical_core.specs.Utf8.{IsFront, IsNoFront}
 use Rattle.markup.specs.Token.{Token, LineEnd, Character, Lf, Cr, CrLf, token_text}
 use Rattle.markup.specs.Marks.{in_cdata, begins_with, shows_no_closer, stands}
-use Rattle.markup.specs.Faults.{GoesOn, NoToken}
-use Rattle.markup.specs.Drafts.{no_draft, noted}
-use Rattle.markup.specs.ScanRuns.{Run, At, Over, turned, run, position, ended_of, draft_of, ends_itself}
+use Rattle.markup.specs.Faults.{TokenGoesOn, NoToken}
+use Rattle.markup.specs.Drafts.{no_draft, note_character}
+use Rattle.markup.specs.ScanRuns.{Run, At, Over, turn_run, run, position, ended_of, draft_of, ends_itself}
 use Rattle.markup.specs.declared.draft.Draft.{Draft}
 use Rattle.markup.specs.declared.scan.Scan.{Scan}
 use Rattle.markup.specs.declared.scan.Scan.TheVariants.{Begin, AfterReturn, Bracket, Brackets}
@@ -64,7 +64,7 @@ return_stands before [] tail s d h k a = both_ways (begins_with 10 tail) (not_tr
   not_true_false true h = absurd (both_ways false refl h)
   not_true_false false h = refl
 return_stands before (c ∷ m) tail s d h k a = by (c == 10) h where
-  by : (b : Bool) → turned (λ u. run u (noted AfterReturn u c no_draft) m) no_draft m (if b then Whole LineEnded else Stuck) ≡ At s d → ⊥
+  by : (b : Bool) → turn_run (λ u. run u (note_character AfterReturn u c no_draft) m) no_draft m (if b then Whole LineEnded else Stuck) ≡ At s d → ⊥
   by true h = cc
   by false h = cc
 
@@ -76,11 +76,11 @@ bracket_stands (c ∷ m) tail s d h k a = by (c == 93) refl h where
   after_two : (m : List ℕ) → run Brackets no_draft m ≡ At s d → shows_no_closer (encode_utf8_all (93 ∷ m) ++ tail) ≡ true → ⊥
   after_two [] h a = both_ways _ (settled_at Brackets s no_draft d tail h k) a
   after_two (e ∷ m) h a = third (e == 62) h where
-    third : (b : Bool) → turned (λ u. run u (noted Brackets u e no_draft) m) no_draft m (if b then Whole CloserEnded else Stuck) ≡ At s d → ⊥
+    third : (b : Bool) → turn_run (λ u. run u (note_character Brackets u e no_draft) m) no_draft m (if b then Whole CloserEnded else Stuck) ≡ At s d → ⊥
     third true h = cc
     third false h = cc
 
-  by : (b : Bool) → (c == 93) ≡ b → turned (λ u. run u (noted Bracket u c no_draft) m) no_draft m (if b then Goes Brackets else Stuck) ≡ At s d → ⊥
+  by : (b : Bool) → (c == 93) ≡ b → turn_run (λ u. run u (note_character Bracket u c no_draft) m) no_draft m (if b then Goes Brackets else Stuck) ≡ At s d → ⊥
   by true e h = after_two m h (subst (λ (x : ℕ). shows_no_closer (encode_utf8_all (x ∷ m) ++ tail) ≡ true) (eqb-true c 93 e) a)
   by false e h = absurd (cc)
 
@@ -106,7 +106,7 @@ none_within before t chars m tail s d h k e a = by (cases_Bool (ends_itself (in_
 
 -- no token stands where none ends within what was read and none goes on with what follows
 pub no_token : (before : List Token) (chars tail : List ℕ) (s : Scan) (d : Draft) → run (Begin (position before)) no_draft chars ≡ At s d → Settled s tail
-    → ((c : ℕ) (more after : List ℕ) → tail ≡ encode_utf8 c ++ after → GoesOn before (chars ++ c ∷ []) → all_xml (chars ++ c ∷ more) ≡ true → ⊥)
+    → ((c : ℕ) (more after : List ℕ) → tail ≡ encode_utf8 c ++ after → TokenGoesOn before (chars ++ c ∷ []) → all_xml (chars ++ c ∷ more) ≡ true → ⊥)
     → NoToken before (encode_utf8_all chars ++ tail)
 no_token before chars tail s d h k f t after cell = by (compare_texts chars (token_text t) tail after cell.spelled) where
   by : Shorter chars (token_text t) tail after ⊎ Longer chars (token_text t) tail after → ⊥

@@ -8,7 +8,7 @@ use Rattle.std.proofs.lemmas.Bool.{and_parts, and_from, both_ways, or_cases, eqb
 use Rattle.std.proofs.lemmas.Bool.Decides.{nat_tests}
 use Rattle.markup.specs.Chars.{is_xml_char}
 use Rattle.markup.specs.Reference.{Entity, Ampersand, Less, Greater, Apostrophe, Quote, entity_name, Reference, Named, Numbered, is_reference, reference_text, number}
-use Rattle.markup.specs.ReferenceScans.{digit_step, numbered}
+use Rattle.markup.specs.ReferenceScans.{digit_step, numbered_char}
 use Rattle.markup.specs.References.{IsReferenceAt}
 use Rattle.markup.specs.inner.Numbers.{number_mark}
 use Rattle.markup.proofs.CharLemmas.{digit_no_semicolon, digit_no_x}
@@ -75,7 +75,7 @@ counting_gives radix piece digits n bytes after r m i x l =
       size : length (reference_text (Numbered radix i.seen)) ≡ bytes
       size = omega (arith, l, ap length joined, length-append (reference_text (Numbered radix i.seen)) after)
 
-pub number_told : (radix : ℕ) (piece digits rest after : List ℕ) (n byte c : ℕ) → (radix == 10 || radix == 16) ≡ true → piece ≡ number_mark radix ++ digits → IsCounting radix digits n rest → rest ≡ byte ∷ after → byte ≡ 59 → Some c ≡ numbered n → IsReferenceAt piece c (length piece - length after)
+pub number_told : (radix : ℕ) (piece digits rest after : List ℕ) (n byte c : ℕ) → (radix == 10 || radix == 16) ≡ true → piece ≡ number_mark radix ++ digits → IsCounting radix digits n rest → rest ≡ byte ∷ after → byte ≡ 59 → Some c ≡ numbered_char n → IsReferenceAt piece c (length piece - length after)
 number_told radix piece digits rest after n byte c r m i e b s =
     let k = some_if (is_xml_char n) n c s in
     let f : rest ≡ 59 ∷ after = e ∙ ap (λ v. v ∷ after) b in
@@ -144,7 +144,7 @@ number_ends radix digits n byte rest after r i e s spelled more h b = by k.left 
       absurd (differ (n * radix + digit_value d) (s ∙ (ap (digit_step radix n) same ∙ digit_small radix n d (and_parts _ _ a).0 fits)))
 
 -- a number of a character is told
-pub is_numbered : (n : ℕ) → None ≡ numbered n → is_xml_char n ≡ true → ⊥
+pub is_numbered : (n : ℕ) → None ≡ numbered_char n → is_xml_char n ≡ true → ⊥
 is_numbered n e h = differ (e ∙ ap (λ (b : Bool). if b then Some n else None) h) where
   differ : None ≡ Some n → ⊥
   differ e = cc

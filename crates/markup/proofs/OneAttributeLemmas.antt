@@ -3,7 +3,7 @@ use Rattle.std.proofs.Common.{◌≡◌, ℕ, true, false, ◌||◌, ◌&&◌, L
 use Rattle.std.specs.Option.{is_none}
 use Rattle.std.specs.List.{list_any}
 use Rattle.std.specs.Str.{bytes_eq}
-use Rattle.markup.specs.Events.{declared_prefix, namespace_of, attribute_name, expanded, put_named, entries}
+use Rattle.markup.specs.Events.{declared_prefix, namespace_of, attribute_name, expanded_in, put_named, entries}
 use Rattle.markup.specs.EventItems.{entry_of}
 use Rattle.markup.specs.Faults.{has_clash, is_bad_attribute, is_bad_declaration}
 use Rattle.markup.specs.Bindings.{Binds}
@@ -20,7 +20,7 @@ module _ (a : Given) (bare : bytes_eq a.name.prefix [] ≡ true) (plain : declar
   none_declared = ap (λ p. if is_none p then [] else a ∷ []) plain
 
   name_of : (tags : List Opening) → attribute_name tags a.name ≡ Some (plain_entry a).name
-  name_of tags = ap (λ b. expanded (if b then Some [] else namespace_of tags a.name.prefix) a.name.local) bare
+  name_of tags = ap (λ b. expanded_in (if b then Some [] else namespace_of tags a.name.prefix) a.name.local) bare
 
   one_entry : (tags : List Opening) → entries tags (a ∷ []) ≡ plain_entry a ∷ []
   one_entry tags = ap (λ p. if is_none p then put_named a.value (attribute_name tags a.name) [] else []) plain ∙ ap (λ n. put_named a.value n []) (name_of tags)

@@ -12,7 +12,7 @@ use Rattle.markup.specs.Chars.{is_xml_char}
 use Rattle.markup.specs.Token.{Token, Mark, Declaration, Comment, Instruction, Opener, Closer, TypeDeclaration, Start, End, Refer, LineEnd, Character, Lf, Cr, CrLf, token_text, token_bytes}
 use Rattle.markup.specs.Reference.{Named, Numbered}
 use Rattle.markup.specs.Marks.{in_cdata, stands, Cell, Front, is_short}
-use Rattle.markup.specs.Faults.{rule_of, IsClean, NoToken, GoesOn, is_over, Stops, no_char, bad_char, stuck, IsTagBegun, IsUnended, Fault, MarkFaultUnder, IsWholeUnder, Next, broken, halts, cut, too_long}
+use Rattle.markup.specs.Faults.{rule_of, IsClean, NoToken, TokenGoesOn, is_over, TokenStops, no_char, bad_char, stuck, IsTagBegun, IsUnended, Fault, MarkFaultUnder, IsWholeUnder, Next, broken, halts, cut, too_long}
 use Rattle.markup.proofs.Spans.{heads, tails}
 use Rattle.markup.proofs.TokenLaw.{one_token}
 use Rattle.markup.proofs.TokenChars.{token_all, last_xml}
@@ -29,7 +29,7 @@ past before [] = before
 past before (t ∷ ts) = past (t ∷ before) ts
 
 -- what goes on did so before
-goes_less : (before : List Token) (chars more : List ℕ) (c : ℕ) → GoesOn before (chars ++ c ∷ more) → GoesOn before (chars ++ c ∷ [])
+goes_less : (before : List Token) (chars more : List ℕ) (c : ℕ) → TokenGoesOn before (chars ++ c ∷ more) → TokenGoesOn before (chars ++ c ∷ [])
 goes_less before chars more c g = record {
   token = g.token;
   more = more ++ g.more;
@@ -38,7 +38,7 @@ goes_less before chars more c g = record {
   text = g.text ∙ (append_assoc chars (c ∷ more) g.more ∙ sym (append_assoc chars (c ∷ []) (more ++ g.more)));
 }
 
-goes_xml : (before : List Token) (chars : List ℕ) (c : ℕ) → GoesOn before (chars ++ c ∷ []) → is_xml_char c ≡ true
+goes_xml : (before : List Token) (chars : List ℕ) (c : ℕ) → TokenGoesOn before (chars ++ c ∷ []) → is_xml_char c ≡ true
 goes_xml before chars c g = last_xml chars g.more c (subst (λ v. list_all is_xml_char v ≡ true) g.text (token_all before g.token g.after g.is))
 
 same_char : (c d : ℕ) (tail x y : List ℕ) → tail ≡ encode_utf8 c ++ x → tail ≡ encode_utf8 d ++ y → c ≡ d
@@ -58,13 +58,13 @@ whole_in part rest x c f e l = by (fronts part (encode_utf8 c) rest x e) where
   by (inr q) = no_whole part (q.0 ∷ q.1) c f q.2
 
 -- where a token stops, none goes on with the character that follows
-stops_not_on : (before : List Token) (chars tail m : List ℕ) (c : ℕ) (rule : Rule) (shown : ℕ) → Stops before chars tail rule shown → tail ≡ encode_utf8 c ++ m → GoesOn before (chars ++ c ∷ []) → ⊥
+stops_not_on : (before : List Token) (chars tail m : List ℕ) (c : ℕ) (rule : Rule) (shown : ℕ) → TokenStops before chars tail rule shown → tail ≡ encode_utf8 c ++ m → TokenGoesOn before (chars ++ c ∷ []) → ⊥
 stops_not_on before chars tail m c rule shown (no_char part rest b e f n r s) t g = char_no_front part rest m b c f n (xml_scalar c (goes_xml before chars c g)) (sym t ∙ e)
 stops_not_on before chars tail m c rule shown (bad_char d rest e k n r s) t g = both_ways (is_xml_char d) n (subst (λ x. is_xml_char x ≡ true) (same_char c d tail m rest t e) (goes_xml before chars c g))
-stops_not_on before chars tail m c rule shown (stuck d rest e x n r s) t g = n (subst (λ x. GoesOn before (chars ++ x ∷ [])) (same_char c d tail m rest t e) g)
+stops_not_on before chars tail m c rule shown (stuck d rest e x n r s) t g = n (subst (λ x. TokenGoesOn before (chars ++ x ∷ [])) (same_char c d tail m rest t e) g)
 
 -- two reasons to stop at one place give one rule
-stops_same : (before : List Token) (chars tail : List ℕ) (r1 r2 : Rule) (s1 s2 : ℕ) → Stops before chars tail r1 s1 → Stops before chars tail r2 s2 → r1 ≡ r2
+stops_same : (before : List Token) (chars tail : List ℕ) (r1 r2 : Rule) (s1 s2 : ℕ) → TokenStops before chars tail r1 s1 → TokenStops before chars tail r2 s2 → r1 ≡ r2
 stops_same before chars tail r1 r2 s1 s2 (no_char p1 x1 b1 e1 f1 n1 k1 _) (no_char p2 x2 b2 e2 f2 n2 k2 _) = k1 ∙ sym k2
 stops_same before chars tail r1 r2 s1 s2 (no_char p1 x1 b1 e1 f1 n1 k1 _) (bad_char c x e2 s n k2 _) = absurd (char_no_front p1 x1 x b1 c f1 n1 s (sym e2 ∙ e1))
 stops_same before chars tail r1 r2 s1 s2 (no_char p1 x1 b1 e1 f1 n1 k1 _) (stuck c x e2 h n k2 _) = absurd (char_no_front p1 x1 x b1 c f1 n1 (xml_scalar c h) (sym e2 ∙ e1))
@@ -76,7 +76,7 @@ stops_same before chars tail r1 r2 s1 s2 (stuck c x e1 h n k1 _) (bad_char d y e
 stops_same before chars tail r1 r2 s1 s2 (stuck c x e1 h n k1 _) (stuck d y e2 t m k2 _) = k1 ∙ sym k2
 
 -- what shows that a token stops is no front of a character
-stops_not_in : (before : List Token) (chars tail part rest : List ℕ) (rule : Rule) (shown : ℕ) → Stops before chars tail rule shown → IsFront part → tail ≡ part ++ rest → shown ≤ length part → ⊥
+stops_not_in : (before : List Token) (chars tail part rest : List ℕ) (rule : Rule) (shown : ℕ) → TokenStops before chars tail rule shown → IsFront part → tail ≡ part ++ rest → shown ≤ length part → ⊥
 stops_not_in before chars tail part rest rule shown (no_char p x b e f n r s) k t l = by (fronts part (p ++ b ∷ []) rest x (sym t ∙ (e ∙ sym (append_assoc p (b ∷ []) x)))) where
   longer : (m : List ℕ) (v : ℕ) → part ≡ (p ++ b ∷ []) ++ v ∷ m → ⊥
   longer m v q = front_no_front part (p ++ b ∷ []) k n (v ∷ m) q
@@ -121,7 +121,7 @@ tag_more (c ∷ []) more h = absurd h
 tag_more (c ∷ d ∷ m) more h = h
 
 -- a whole token is no shorter beginning of one that goes on
-begins_none : (before : List Token) (u : Token) (a chars m : List ℕ) → stands before u a ≡ true → GoesOn before chars → chars ≡ token_text u ++ m → IsTagBegun chars → IsUnended before chars → ⊥
+begins_none : (before : List Token) (u : Token) (a chars m : List ℕ) → stands before u a ≡ true → TokenGoesOn before chars → chars ≡ token_text u ++ m → IsTagBegun chars → IsUnended before chars → ⊥
 begins_none before u a chars [] h g e b n = n u a h (sym (append-nil (token_text u)) ∙ sym e)
 begins_none before u a chars (c ∷ m) h g e b n = by (cases_Bool (ends_itself (in_cdata before) u)) where
   starts_less : (v : List ℕ) (x : ℕ) → chars ≡ x ∷ v → (x == 60) ≡ false → ⊥
@@ -169,7 +169,7 @@ front_short part rest x c f e = by (fronts part (encode_utf8 c) rest x e) where
   by (inr q) = absurd (no_whole part (q.0 ∷ q.1) c f q.2)
 
 -- no tag that is too long stands
-too_long_none : (limit : ℕ) (before : List Token) (u : Token) (bytes a chars part rest : List ℕ) → Cell before u bytes a → is_short limit u ≡ true → bytes ≡ encode_utf8_all chars ++ part ++ rest → GoesOn before chars → IsUnended before chars → IsTagBegun chars → IsFront part → length (encode_utf8_all chars ++ part) ≡ limit → ⊥
+too_long_none : (limit : ℕ) (before : List Token) (u : Token) (bytes a chars part rest : List ℕ) → Cell before u bytes a → is_short limit u ≡ true → bytes ≡ encode_utf8_all chars ++ part ++ rest → TokenGoesOn before chars → IsUnended before chars → IsTagBegun chars → IsFront part → length (encode_utf8_all chars ++ part) ≡ limit → ⊥
 too_long_none limit before u bytes a chars part rest cell short e g n b f l = by (compare_texts chars (token_text u) (part ++ rest) a (sym (append_assoc (encode_utf8_all chars) part rest) ∙ (sym e ∙ cell.spelled))) where
   by : Shorter chars (token_text u) (part ++ rest) a ⊎ Longer chars (token_text u) (part ++ rest) a → ⊥
   by (inl r) = begins_none before u a chars r.more cell.is g r.text b n
@@ -195,19 +195,19 @@ swapped : (r1 r2 : Rule) (a1 a2 : ℕ) → SameFault r1 r2 a1 a2 → SameFault r
 swapped r1 r2 a1 a2 s = record { rule = sym s.rule; at = sym s.at }
 
 -- where one token begins with the characters of another that stops, both stop alike
-halts_halts : (before : List Token) (c1 c2 t1 t2 : List ℕ) (r1 r2 : Rule) (s1 s2 : ℕ) → encode_utf8_all c1 ++ t1 ≡ encode_utf8_all c2 ++ t2 → GoesOn before c1 → GoesOn before c2 → Stops before c1 t1 r1 s1 → Stops before c2 t2 r2 s2 → r1 ≡ r2
+halts_halts : (before : List Token) (c1 c2 t1 t2 : List ℕ) (r1 r2 : Rule) (s1 s2 : ℕ) → encode_utf8_all c1 ++ t1 ≡ encode_utf8_all c2 ++ t2 → TokenGoesOn before c1 → TokenGoesOn before c2 → TokenStops before c1 t1 r1 s1 → TokenStops before c2 t2 r2 s2 → r1 ≡ r2
 halts_halts before c1 c2 t1 t2 r1 r2 s1 s2 e g1 g2 h1 h2 = by (compare_texts c1 c2 t1 t2 e) where
   by : Shorter c1 c2 t1 t2 ⊎ Longer c1 c2 t1 t2 → r1 ≡ r2
   by (inl r) = shorter r.more r.text r.behind where
     shorter : (m : List ℕ) → c1 ≡ c2 ++ m → t2 ≡ encode_utf8_all m ++ t1 → r1 ≡ r2
-    shorter [] q b = stops_same before c1 t1 r1 r2 s1 s2 h1 (subst (λ v. Stops before c1 v r2 s2) b (subst (λ v. Stops before v t2 r2 s2) (sym (q ∙ append-nil c2)) h2))
-    shorter (c ∷ m) q b = absurd (stops_not_on before c2 t2 (encode_utf8_all m ++ t1) c r2 s2 h2 (b ∙ append_assoc (encode_utf8 c) (encode_utf8_all m) t1) (goes_less before c2 m c (subst (GoesOn before) q g1)))
-  by (inr r) = absurd (stops_not_on before c1 t1 (encode_utf8_all r.more ++ t2) r.next r1 s1 h1 (r.behind ∙ append_assoc (encode_utf8 r.next) (encode_utf8_all r.more) t2) (goes_less before c1 r.more r.next (subst (GoesOn before) r.text g2)))
+    shorter [] q b = stops_same before c1 t1 r1 r2 s1 s2 h1 (subst (λ v. TokenStops before c1 v r2 s2) b (subst (λ v. TokenStops before v t2 r2 s2) (sym (q ∙ append-nil c2)) h2))
+    shorter (c ∷ m) q b = absurd (stops_not_on before c2 t2 (encode_utf8_all m ++ t1) c r2 s2 h2 (b ∙ append_assoc (encode_utf8 c) (encode_utf8_all m) t1) (goes_less before c2 m c (subst (TokenGoesOn before) q g1)))
+  by (inr r) = absurd (stops_not_on before c1 t1 (encode_utf8_all r.more ++ t2) r.next r1 s1 h1 (r.behind ∙ append_assoc (encode_utf8 r.next) (encode_utf8_all r.more) t2) (goes_less before c1 r.more r.next (subst (TokenGoesOn before) r.text g2)))
 
 -- bytes that are cut short show no reason to stop
-halts_cut : (before : List Token) (c1 c2 t1 part : List ℕ) (r1 : Rule) (s1 : ℕ) → encode_utf8_all c1 ++ t1 ≡ encode_utf8_all c2 ++ part → GoesOn before c1 → GoesOn before c2 → Stops before c1 t1 r1 s1 → IsFront part → ⊥
+halts_cut : (before : List Token) (c1 c2 t1 part : List ℕ) (r1 : Rule) (s1 : ℕ) → encode_utf8_all c1 ++ t1 ≡ encode_utf8_all c2 ++ part → TokenGoesOn before c1 → TokenGoesOn before c2 → TokenStops before c1 t1 r1 s1 → IsFront part → ⊥
 halts_cut before c1 c2 t1 part r1 s1 e g1 g2 h1 f = by (compare_texts c1 c2 t1 part e) where
-  bound : (rule : Rule) (shown : ℕ) (tail : List ℕ) → Stops before c1 tail rule shown → shown ≤ length tail
+  bound : (rule : Rule) (shown : ℕ) (tail : List ℕ) → TokenStops before c1 tail rule shown → shown ≤ length tail
   bound rule shown tail (no_char p x b e f n r s) = omega (arith, s, ap length e, length-append p (b ∷ x))
   bound rule shown tail (bad_char c x e s n r h) = omega (arith, h, ap length e, length-append (encode_utf8 c) x)
   bound rule shown tail (stuck c x e s n r h) = omega (arith, h, ap length e, length-append (encode_utf8 c) x)
@@ -217,10 +217,10 @@ halts_cut before c1 c2 t1 part r1 s1 e g1 g2 h1 f = by (compare_texts c1 c2 t1 p
     shorter : (m : List ℕ) → c1 ≡ c2 ++ m → part ≡ encode_utf8_all m ++ t1 → ⊥
     shorter [] q b = stops_not_in before c1 t1 part [] r1 s1 h1 f (sym b ∙ sym (append-nil part)) (subst (λ v. s1 ≤ length v) (sym b) (bound r1 s1 t1 h1))
     shorter (c ∷ m) q b = no_whole part (encode_utf8_all m ++ t1) c f (b ∙ append_assoc (encode_utf8 c) (encode_utf8_all m) t1)
-  by (inr r) = stops_not_on before c1 t1 (encode_utf8_all r.more ++ part) r.next r1 s1 h1 (r.behind ∙ append_assoc (encode_utf8 r.next) (encode_utf8_all r.more) part) (goes_less before c1 r.more r.next (subst (GoesOn before) r.text g2))
+  by (inr r) = stops_not_on before c1 t1 (encode_utf8_all r.more ++ part) r.next r1 s1 h1 (r.behind ∙ append_assoc (encode_utf8 r.next) (encode_utf8_all r.more) part) (goes_less before c1 r.more r.next (subst (TokenGoesOn before) r.text g2))
 
 -- a tag that is too long has not stopped within the limit
-halts_too_long : (limit : ℕ) (before : List Token) (c1 c2 t1 part rest : List ℕ) (r1 : Rule) (s1 : ℕ) → encode_utf8_all c1 ++ t1 ≡ encode_utf8_all c2 ++ (part ++ rest) → GoesOn before c2 → Stops before c1 t1 r1 s1 → (IsTagBegun c1 → length (encode_utf8_all c1) + s1 ≤ limit) → IsTagBegun c2 → IsFront part → length (encode_utf8_all c2 ++ part) ≡ limit → ⊥
+halts_too_long : (limit : ℕ) (before : List Token) (c1 c2 t1 part rest : List ℕ) (r1 : Rule) (s1 : ℕ) → encode_utf8_all c1 ++ t1 ≡ encode_utf8_all c2 ++ (part ++ rest) → TokenGoesOn before c2 → TokenStops before c1 t1 r1 s1 → (IsTagBegun c1 → length (encode_utf8_all c1) + s1 ≤ limit) → IsTagBegun c2 → IsFront part → length (encode_utf8_all c2 ++ part) ≡ limit → ⊥
 halts_too_long limit before c1 c2 t1 part rest r1 s1 e g2 h1 k b f l = by (compare_texts c1 c2 t1 (part ++ rest) e) where
   by : Shorter c1 c2 t1 (part ++ rest) ⊎ Longer c1 c2 t1 (part ++ rest) → ⊥
   by (inl r) = shorter r.more r.text r.behind where
@@ -234,7 +234,7 @@ halts_too_long limit before c1 c2 t1 part rest r1 s1 e g2 h1 k b f l = by (compa
         (k (subst IsTagBegun (sym q) (tag_more c2 (c ∷ m) b))) where
           count : (p q w v : List ℕ) (bytes s limit : ℕ) → length (p ++ q) ≡ limit → length q < length w → bytes ≡ length (p ++ (w ++ v)) → bytes + s ≤ limit → ⊥
           count p q w v bytes s limit h k e m = omega (arith, length-append p q, length-append p (w ++ v), length-append w v)
-  by (inr r) = stops_not_on before c1 t1 (encode_utf8_all r.more ++ (part ++ rest)) r.next r1 s1 h1 (r.behind ∙ append_assoc (encode_utf8 r.next) (encode_utf8_all r.more) (part ++ rest)) (goes_less before c1 r.more r.next (subst (GoesOn before) r.text g2))
+  by (inr r) = stops_not_on before c1 t1 (encode_utf8_all r.more ++ (part ++ rest)) r.next r1 s1 h1 (r.behind ∙ append_assoc (encode_utf8 r.next) (encode_utf8_all r.more) (part ++ rest)) (goes_less before c1 r.more r.next (subst (TokenGoesOn before) r.text g2))
 
 -- a tag that is too long is not cut short
 cut_too_long : (limit : ℕ) (before : List Token) (c1 c2 p1 part rest : List ℕ) → encode_utf8_all c1 ++ p1 ≡ encode_utf8_all c2 ++ (part ++ rest) → IsFront p1 → (IsTagBegun c1 → length (encode_utf8_all c1 ++ p1) < limit) → IsTagBegun c2 → length (encode_utf8_all c2 ++ part) ≡ limit → ⊥
@@ -319,7 +319,7 @@ some_bytes c v e = omega (arith, length-append (encode_utf8 c) v, length-encode 
 pub nothing_stands : (before : List Token) → NoToken before []
 nothing_stands before = no_token before [] [] (Begin (position before)) no_draft refl tt (λ c more after e g x. some_bytes c after e)
 
-none_stops : (before : List Token) (chars tail : List ℕ) (rule : Rule) (shown : ℕ) → Stops before chars tail rule shown → tail ≡ [] → ⊥
+none_stops : (before : List Token) (chars tail : List ℕ) (rule : Rule) (shown : ℕ) → TokenStops before chars tail rule shown → tail ≡ [] → ⊥
 none_stops before chars tail rule shown (no_char p x b e f n r s) h = empty p b x (sym h ∙ e) where
   empty : (p : List ℕ) (b : ℕ) (x : List ℕ) → [] ≡ p ++ b ∷ x → ⊥
   empty [] b x e = absurd (cc)

@@ -10,7 +10,7 @@ use Rattle.lexical_core.specs.declared.rule.Rule.TheVariants.{DuplicateAttribute
 use Rattle.markup.specs.Name.{Name, Plain, Prefixed, is_part, is_name}
 use Rattle.markup.specs.Token.{Token, Mark, Declaration, Comment, Instruction, Opener, Closer, TypeDeclaration, Start, End, Refer, LineEnd, Character, token_bytes}
 use Rattle.markup.specs.Marks.{in_cdata, stands, Front}
-use Rattle.markup.specs.Events.{Placed, spelled, opening, open_tags, namespace_of, element_name, expanded, entries, started, ended, start_items, end_items, events, items_of}
+use Rattle.markup.specs.Events.{Placed, spelled_name, opening, open_tags, namespace_of, element_name, expanded_in, entries, start_tag_items, end_tag_items, start_items, end_items, events, items_of}
 use Rattle.markup.specs.Faults.{has_start, rule_of, start_rule, is_over, has_clash, is_bad_attribute, IsClean}
 use Rattle.markup.specs.PlainTags.{open_after, open_behind, innermost_namespace, IsPlainInside}
 use Rattle.markup.specs.declared.tag.Spelled.{Spelled}
@@ -36,7 +36,7 @@ standing_past limit before b rest (t ∷ ts) s f = standing_past limit (t ∷ be
 -- each open tag has the name of a token
 abbrev Named : List Opening → Type 0
 Named [] = Unit {0}
-Named (tag ∷ tags) = ((n : Name) × (is_name n ≡ true) × (spelled n ≡ tag.name)) × Named tags
+Named (tag ∷ tags) = ((n : Name) × (is_name n ≡ true) × (spelled_name n ≡ tag.name)) × Named tags
 
 named_drop : (tags : List Opening) → Named tags → Named (drop 1 tags)
 named_drop [] n = tt
@@ -72,7 +72,7 @@ no_part (c ∷ cs) h e = none (no_chars (c ∷ cs) [] (ap (λ v. length (v ++ []
   none : c ∷ cs ≡ [] → ⊥
   none q = cc
 
-plain_part : (n : Name) (opened : List ℕ) → is_name n ≡ true → spelled n ≡ record { prefix = []; local = opened } → IsPlainPart opened
+plain_part : (n : Name) (opened : List ℕ) → is_name n ≡ true → spelled_name n ≡ record { prefix = []; local = opened } → IsPlainPart opened
 plain_part (Plain local) opened h e = record { local = local; part = h; encoded = ap (λ (s : Spelled). s.local) e }
 plain_part (Prefixed prefix local) opened h e = absurd (no_part prefix (and_parts _ _ h).0 (ap (λ (s : Spelled). s.prefix) e))
 
@@ -104,8 +104,8 @@ has_name over tags tag h = by (has_clash (tag ∷ tags) tag.given) (element_name
 -- the open elements behind the events of a start tag
 start_expanded : (tags : List Opening) (tag : Opening) (opened : List Expanded) (p : ℕ) (e : Expanded) → element_name (tag ∷ tags) tag.name ≡ Some e → AreExpanded tags opened
     → AreExpanded (if tag.is_empty then tags else tag ∷ tags) (open_behind opened (placed_at p (start_items tags tag)))
-start_expanded tags tag opened p e n a = subst (λ o. AreExpanded (if tag.is_empty then tags else tag ∷ tags) (open_behind opened (placed_at p (started o (entries (tag ∷ tags) tag.given) tag.is_empty)))) (sym n) (by tag.is_empty) where
-  by : (b : Bool) → AreExpanded (if b then tags else tag ∷ tags) (open_behind opened (placed_at p (started (Some e) (entries (tag ∷ tags) tag.given) b)))
+start_expanded tags tag opened p e n a = subst (λ o. AreExpanded (if tag.is_empty then tags else tag ∷ tags) (open_behind opened (placed_at p (start_tag_items o (entries (tag ∷ tags) tag.given) tag.is_empty)))) (sym n) (by tag.is_empty) where
+  by : (b : Bool) → AreExpanded (if b then tags else tag ∷ tags) (open_behind opened (placed_at p (start_tag_items (Some e) (entries (tag ∷ tags) tag.given) b)))
   by true = a
   by false = (n, a)
 
@@ -113,7 +113,7 @@ end_expanded : (tags : List Opening) (opened : List Expanded) (p : ℕ) → AreE
 end_expanded [] [] p a = tt
 end_expanded [] (e ∷ es) p a = absurd a
 end_expanded (tag ∷ tags) [] p a = absurd a
-end_expanded (tag ∷ tags) (e ∷ es) p a = subst (λ o. AreExpanded tags (open_behind (e ∷ es) (placed_at p (ended o)))) (sym a.0) a.1
+end_expanded (tag ∷ tags) (e ∷ es) p a = subst (λ o. AreExpanded tags (open_behind (e ∷ es) (placed_at p (end_tag_items o)))) (sym a.0) a.1
 
 -- behind the events of a token
 token_expanded : (before : List Token) (t : Token) (opened : List Expanded) (p : ℕ) → rule_of before t ≡ None → AreExpanded (open_tags before) opened → AreExpanded (open_tags (t ∷ before)) (open_behind opened (placed_at p (items_of before t)))
@@ -147,7 +147,7 @@ open_expanded ts c = subst (λ b. AreExpanded (open_tags b) (open_behind [] (eve
 -- the namespace of the innermost element is the default one, where that element has no prefix
 default_of : (tag : Opening) (tags : List Opening) (opened : List ℕ) (e : Expanded) → tag.name ≡ record { prefix = []; local = opened } → element_name (tag ∷ tags) tag.name ≡ Some e → (namespace_of (tag ∷ tags) [] ≡ Some e.namespace) × (e.local ≡ opened)
 default_of tag tags opened e i n = by (namespace_of (tag ∷ tags) []) refl (sym (ap (element_name (tag ∷ tags)) i) ∙ n) where
-  by : (o : Option (List ℕ)) → namespace_of (tag ∷ tags) [] ≡ o → expanded o opened ≡ Some e → (namespace_of (tag ∷ tags) [] ≡ Some e.namespace) × (e.local ≡ opened)
+  by : (o : Option (List ℕ)) → namespace_of (tag ∷ tags) [] ≡ o → expanded_in o opened ≡ Some e → (namespace_of (tag ∷ tags) [] ≡ Some e.namespace) × (e.local ≡ opened)
   by None k h = absurd (cc)
   by (Some ns) k h = (k ∙ ap (λ v. Some v) (ap (λ (x : Expanded). x.namespace) (same _ e h)), sym (ap (λ (x : Expanded). x.local) (same _ e h))) where
     same : (x y : Expanded) → Some x ≡ Some y → x ≡ y
@@ -161,7 +161,7 @@ innermost_default (tag ∷ tags) (e ∷ es) opened a i = (default_of tag tags op
 pub innermost_ends : (tags : List Opening) (es : List Expanded) (opened : List ℕ) → AreExpanded tags es → IsPlainInside tags opened → end_items tags ≡ Ends (record { namespace = innermost_namespace es; local = opened }) ∷ []
 innermost_ends [] es opened a i = absurd i
 innermost_ends (tag ∷ tags) [] opened a i = absurd a
-innermost_ends (tag ∷ tags) (e ∷ es) opened a i = ap ended a.0 ∙ ap (λ v. Ends (record { namespace = e.namespace; local = v }) ∷ []) (default_of tag tags opened e i a.0).1
+innermost_ends (tag ∷ tags) (e ∷ es) opened a i = ap end_tag_items a.0 ∙ ap (λ v. Ends (record { namespace = e.namespace; local = v }) ∷ []) (default_of tag tags opened e i a.0).1
 
 -- ---- whether the root has come
 

@@ -4,9 +4,9 @@ use Rattle.std.proofs.lemmas.Bool.{both_ways, eqb-true}
 use Rattle.markup.specs.Chars.{is_xml_char, is_name_start, is_name_char, is_space}
 use Rattle.markup.specs.Words.{letter_of}
 use Rattle.markup.specs.ReferenceScans.{reference_step}
-use Rattle.markup.specs.Drafts.{noted}
+use Rattle.markup.specs.Drafts.{note_character}
 use Rattle.markup.specs.Scans.{step, name_step, name_turn, fixed_ended, fits_letter, fixed_letter, field_letter, field_word_letter, field_end_step, behind_attribute_step, referring, referring_in, text_step, line_step}
-use Rattle.markup.specs.ScanRuns.{At, turned, run}
+use Rattle.markup.specs.ScanRuns.{At, turn_run, run}
 use Rattle.markup.specs.inner.Inside.{is_inside}
 use Rattle.markup.specs.declared.draft.Draft.{Draft}
 use Rattle.markup.specs.declared.word.Word.{Word}
@@ -127,8 +127,8 @@ inner_run : (s t : Scan) (d e : Draft) (cs : List ℕ) → is_inside s ≡ true 
 inner_run s t d e [] k h = subst (λ u. is_inside u ≡ true) (scan_same s t d e h) k where
   scan_same : (s t : Scan) (d e : Draft) → At s d ≡ At t e → s ≡ t
   scan_same s t d e h = cc
-inner_run s t d e (c ∷ cs) k h = by (λ u k h. inner_run u t (noted s u c d) e cs k h) (step s c) (inner_turn s c k) h where
-  by : ((u : Scan) → is_inside u ≡ true → run u (noted s u c d) cs ≡ At t e → is_inside t ≡ true) → (a : Turn) → InnerTurn a → turned (λ u. run u (noted s u c d) cs) d cs a ≡ At t e → is_inside t ≡ true
+inner_run s t d e (c ∷ cs) k h = by (λ u k h. inner_run u t (note_character s u c d) e cs k h) (step s c) (inner_turn s c k) h where
+  by : ((u : Scan) → is_inside u ≡ true → run u (note_character s u c d) cs ≡ At t e → is_inside t ≡ true) → (a : Turn) → InnerTurn a → turn_run (λ u. run u (note_character s u c d) cs) d cs a ≡ At t e → is_inside t ≡ true
   by f (Goes u) g h = f u g.is h
   by f (Whole a) g h = absurd (cc)
   by f Stuck g h = absurd (cc)
@@ -172,34 +172,34 @@ at_same s t d e P h p = subst P (scan_same s t d e h) p where
 return_waits : (p : Position) (cs : List ℕ) (t : Scan) (d e : Draft) → run AfterReturn d cs ≡ At t e → Waits p (13 ∷ cs) t
 return_waits p [] t d e h = at_same AfterReturn t d e (Waits p (13 ∷ [])) h refl
 return_waits p (c ∷ cs) t d e h = by (c == 10) h where
-  by : (b : Bool) → turned (λ u. run u (noted AfterReturn u c d) cs) d cs (if b then Whole LineEnded else Stuck) ≡ At t e → Waits p (13 ∷ c ∷ cs) t
+  by : (b : Bool) → turn_run (λ u. run u (note_character AfterReturn u c d) cs) d cs (if b then Whole LineEnded else Stuck) ≡ At t e → Waits p (13 ∷ c ∷ cs) t
   by true h = absurd (cc)
   by false h = absurd (cc)
 
 brackets_waits : (cs : List ℕ) (t : Scan) (d e : Draft) → run Brackets d cs ≡ At t e → Waits Cdata (93 ∷ 93 ∷ cs) t
 brackets_waits [] t d e h = at_same Brackets t d e (Waits Cdata (93 ∷ 93 ∷ [])) h (refl, refl)
 brackets_waits (c ∷ cs) t d e h = by (c == 62) h where
-  by : (b : Bool) → turned (λ u. run u (noted Brackets u c d) cs) d cs (if b then Whole CloserEnded else Stuck) ≡ At t e → Waits Cdata (93 ∷ 93 ∷ c ∷ cs) t
+  by : (b : Bool) → turn_run (λ u. run u (note_character Brackets u c d) cs) d cs (if b then Whole CloserEnded else Stuck) ≡ At t e → Waits Cdata (93 ∷ 93 ∷ c ∷ cs) t
   by true h = absurd (cc)
   by false h = absurd (cc)
 
 bracket_waits : (cs : List ℕ) (t : Scan) (d e : Draft) → run Bracket d cs ≡ At t e → Waits Cdata (93 ∷ cs) t
 bracket_waits [] t d e h = at_same Bracket t d e (Waits Cdata (93 ∷ [])) h (refl, refl)
 bracket_waits (c ∷ cs) t d e h = by (c == 93) refl h where
-  by : (b : Bool) → (c == 93) ≡ b → turned (λ u. run u (noted Bracket u c d) cs) d cs (if b then Goes Brackets else Stuck) ≡ At t e → Waits Cdata (93 ∷ c ∷ cs) t
-  by true q h = subst (λ (x : ℕ). Waits Cdata (93 ∷ x ∷ cs) t) (sym (eqb-true c 93 q)) (brackets_waits cs t (noted Bracket Brackets c d) e h)
+  by : (b : Bool) → (c == 93) ≡ b → turn_run (λ u. run u (note_character Bracket u c d) cs) d cs (if b then Goes Brackets else Stuck) ≡ At t e → Waits Cdata (93 ∷ c ∷ cs) t
+  by true q h = subst (λ (x : ℕ). Waits Cdata (93 ∷ x ∷ cs) t) (sym (eqb-true c 93 q)) (brackets_waits cs t (note_character Bracket Brackets c d) e h)
   by false q h = absurd (cc)
 
 -- from a token's first character on
 pub run_waits : (p : Position) (chars : List ℕ) (t : Scan) (d e : Draft) → run (Begin p) d chars ≡ At t e → Waits p chars t
 run_waits p [] t d e h = at_same (Begin p) t d e (Waits p []) h tt
 run_waits p (c ∷ cs) t d e h = by (step (Begin p) c) (start_fact p c) h where
-  inside : (u : Scan) → is_inside u ≡ true → run u (noted (Begin p) u c d) cs ≡ At t e → Waits p (c ∷ cs) t
-  inside u k h = inner_waits p (c ∷ cs) t (inner_run u t (noted (Begin p) u c d) e cs k h)
+  inside : (u : Scan) → is_inside u ≡ true → run u (note_character (Begin p) u c d) cs ≡ At t e → Waits p (c ∷ cs) t
+  inside u k h = inner_waits p (c ∷ cs) t (inner_run u t (note_character (Begin p) u c d) e cs k h)
 
-  by : (a : Turn) → StartFact p c a → turned (λ u. run u (noted (Begin p) u c d) cs) d cs a ≡ At t e → Waits p (c ∷ cs) t
-  by (Goes AfterReturn) q h = subst (λ (x : ℕ). Waits p (x ∷ cs) t) (sym (eqb-true c 13 q)) (return_waits p cs t (noted (Begin p) AfterReturn c d) e h)
-  by (Goes Bracket) q h = subst (λ (x : ℕ). Waits p (x ∷ cs) t) (sym (eqb-true c 93 q.0)) (subst (λ r. Waits r (93 ∷ cs) t) (sym q.1) (bracket_waits cs t (noted (Begin p) Bracket c d) e h))
+  by : (a : Turn) → StartFact p c a → turn_run (λ u. run u (note_character (Begin p) u c d) cs) d cs a ≡ At t e → Waits p (c ∷ cs) t
+  by (Goes AfterReturn) q h = subst (λ (x : ℕ). Waits p (x ∷ cs) t) (sym (eqb-true c 13 q)) (return_waits p cs t (note_character (Begin p) AfterReturn c d) e h)
+  by (Goes Bracket) q h = subst (λ (x : ℕ). Waits p (x ∷ cs) t) (sym (eqb-true c 93 q.0)) (subst (λ r. Waits r (93 ∷ cs) t) (sym q.1) (bracket_waits cs t (note_character (Begin p) Bracket c d) e h))
   by (Goes u) q h = inside u q h
   by (Whole a) q h = absurd (cc)
   by Stuck q h = absurd (cc)
@@ -207,9 +207,9 @@ run_waits p (c ∷ cs) t d e h = by (step (Begin p) c) (start_fact p c) h where
 -- a token that begins with neither is open within
 pub run_inside : (p : Position) (c : ℕ) (cs : List ℕ) (t : Scan) (d e : Draft) → (c == 13) ≡ false → (c == 93) ≡ false → run (Begin p) d (c ∷ cs) ≡ At t e → is_inside t ≡ true
 run_inside p c cs t d e r b h = by (step (Begin p) c) (start_fact p c) h where
-  by : (a : Turn) → StartFact p c a → turned (λ u. run u (noted (Begin p) u c d) cs) d cs a ≡ At t e → is_inside t ≡ true
+  by : (a : Turn) → StartFact p c a → turn_run (λ u. run u (note_character (Begin p) u c d) cs) d cs a ≡ At t e → is_inside t ≡ true
   by (Goes AfterReturn) q h = absurd (both_ways (c == 13) r q)
   by (Goes Bracket) q h = absurd (both_ways (c == 93) b q.0)
-  by (Goes u) q h = inner_run u t (noted (Begin p) u c d) e cs q h
+  by (Goes u) q h = inner_run u t (note_character (Begin p) u c d) e cs q h
   by (Whole a) q h = absurd (cc)
   by Stuck q h = absurd (cc)

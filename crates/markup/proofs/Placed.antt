@@ -5,10 +5,10 @@ use Rattle.markup.specs.Chars.{is_xml_char, is_name_start, is_name_char, is_spac
 use Rattle.markup.specs.Faults.{ends_in_reference, is_in_reference, IsTagBegun}
 use Rattle.markup.specs.Words.{letter_of}
 use Rattle.markup.specs.ReferenceScans.{reference_step}
-use Rattle.markup.specs.Drafts.{noted}
+use Rattle.markup.specs.Drafts.{note_character}
 use Rattle.markup.specs.Scans.{step, fixed_ended, fits_letter, fixed_letter, field_letter, field_word_letter, field_end_step, text_step, line_step, opened_step, referring}
 use Rattle.markup.specs.Tokenizers.{is_tag}
-use Rattle.markup.specs.ScanRuns.{At, turned, run}
+use Rattle.markup.specs.ScanRuns.{At, turn_run, run}
 use Rattle.markup.specs.declared.draft.Draft.{Draft}
 use Rattle.markup.specs.declared.word.Word.{Word}
 use Rattle.markup.specs.declared.reference.ReferenceScan.{ReferenceScan}
@@ -129,8 +129,8 @@ other_run : (s t : Scan) (d e : Draft) (cs : List ℕ) → is_other s ≡ true �
 other_run s t d e [] k h = subst (λ u. is_other u ≡ true) (scan_same s t d e h) k where
   scan_same : (s t : Scan) (d e : Draft) → At s d ≡ At t e → s ≡ t
   scan_same s t d e h = cc
-other_run s t d e (c ∷ cs) k h = by (λ u k h. other_run u t (noted s u c d) e cs k h) (step s c) (other_turn s c k) h where
-  by : ((u : Scan) → is_other u ≡ true → run u (noted s u c d) cs ≡ At t e → is_other t ≡ true) → (a : Turn) → OtherTurn a → turned (λ u. run u (noted s u c d) cs) d cs a ≡ At t e → is_other t ≡ true
+other_run s t d e (c ∷ cs) k h = by (λ u k h. other_run u t (note_character s u c d) e cs k h) (step s c) (other_turn s c k) h where
+  by : ((u : Scan) → is_other u ≡ true → run u (note_character s u c d) cs ≡ At t e → is_other t ≡ true) → (a : Turn) → OtherTurn a → turn_run (λ u. run u (note_character s u c d) cs) d cs a ≡ At t e → is_other t ≡ true
   by f (Goes u) g h = f u g.is h
   by f (Whole a) g h = absurd (cc)
   by f Stuck g h = absurd (cc)
@@ -171,8 +171,8 @@ referring_run : (r : ReferenceScan) (t : Scan) (d e : Draft) (cs : List ℕ) →
 referring_run r t d e [] h = (subst (λ u. in_reference u ≡ true) (scan_same (InReference r) t d e h) refl, subst (λ u. in_tag u ≡ false) (scan_same (InReference r) t d e h) refl, refl, subst (λ u. is_tag u ≡ false) (scan_same (InReference r) t d e h) refl) where
   scan_same : (s t : Scan) (d e : Draft) → At s d ≡ At t e → s ≡ t
   scan_same s t d e h = cc
-referring_run r t d e (c ∷ cs) h = by (λ u k. referring_run u t (noted (InReference r) (InReference u) c d) e cs k) (reference_step r c) (reference_fact r c) h where
-  by : ((u : ReferenceScan) → run (InReference u) (noted (InReference r) (InReference u) c d) cs ≡ At t e → (in_reference t ≡ true) × (in_tag t ≡ false) × (ends_in_reference true cs ≡ true) × (is_tag t ≡ false)) → (a : ReferenceTurn) → ReferenceFact c a → turned (λ u. run u (noted (InReference r) u c d) cs) d cs (referring a) ≡ At t e → (in_reference t ≡ true) × (in_tag t ≡ false) × (ends_in_reference true (c ∷ cs) ≡ true) × (is_tag t ≡ false)
+referring_run r t d e (c ∷ cs) h = by (λ u k. referring_run u t (note_character (InReference r) (InReference u) c d) e cs k) (reference_step r c) (reference_fact r c) h where
+  by : ((u : ReferenceScan) → run (InReference u) (note_character (InReference r) (InReference u) c d) cs ≡ At t e → (in_reference t ≡ true) × (in_tag t ≡ false) × (ends_in_reference true cs ≡ true) × (is_tag t ≡ false)) → (a : ReferenceTurn) → ReferenceFact c a → turn_run (λ u. run u (note_character (InReference r) u c d) cs) d cs (referring a) ≡ At t e → (in_reference t ≡ true) × (in_tag t ≡ false) × (ends_in_reference true (c ∷ cs) ≡ true) × (is_tag t ≡ false)
   by f (Continues u) g h = let k = f u h in (k.0, k.1, stays (c == 38) (c == 59) g k.2, k.3) where
     stays : (a b : Bool) → b ≡ false → ends_in_reference true cs ≡ true → (if a then ends_in_reference true cs else (if b then ends_in_reference false cs else ends_in_reference true cs)) ≡ true
     stays true b e k = k
@@ -217,9 +217,9 @@ opened_placed first [] t d e h = subst (Placed (60 ∷ [])) (scan_same (Opened f
   scan_same : (s t : Scan) (d e : Draft) → At s d ≡ At t e → s ≡ t
   scan_same s t d e h = cc
 opened_placed first (c ∷ cs) t d e h = by (step (Opened first) c) (opened_fact first c) h where
-  in_one : (u : Scan) → in_tag u ≡ true → in_reference u ≡ false → (c == 33) ≡ false → (c == 63) ≡ false → IsQuiet c → run u (noted (Opened first) u c d) cs ≡ At t e → Placed (60 ∷ c ∷ cs) t
+  in_one : (u : Scan) → in_tag u ≡ true → in_reference u ≡ false → (c == 33) ≡ false → (c == 63) ≡ false → IsQuiet c → run u (note_character (Opened first) u c d) cs ≡ At t e → Placed (60 ∷ c ∷ cs) t
   in_one u k r n m q h =
-      let g = tag_run u t (noted (Opened first) u c d) e cs k h in
+      let g = tag_run u t (note_character (Opened first) u c d) e cs k h in
       record {
         reference = tag_chars c cs n m ∙ (quiet_ends c cs q ∙ (ap (λ b. ends_in_reference b cs) (sym r) ∙ g.1));
         tag = λ _. (refl, (λ x. eqb-false c 33 n x), (λ x. eqb-false c 63 m x));
@@ -227,12 +227,12 @@ opened_placed first (c ∷ cs) t d e h = by (step (Opened first) c) (opened_fact
         same = λ _. g.0;
       }
 
-  in_other : (u : Scan) (k : ℕ) → is_other u ≡ true → (c == k) ≡ true → is_in_reference (60 ∷ k ∷ cs) ≡ false → (IsTagBegun (60 ∷ k ∷ cs) → ⊥) → run u (noted (Opened first) u c d) cs ≡ At t e → Placed (60 ∷ c ∷ cs) t
+  in_other : (u : Scan) (k : ℕ) → is_other u ≡ true → (c == k) ≡ true → is_in_reference (60 ∷ k ∷ cs) ≡ false → (IsTagBegun (60 ∷ k ∷ cs) → ⊥) → run u (note_character (Opened first) u c d) cs ≡ At t e → Placed (60 ∷ c ∷ cs) t
   in_other u k o q i n h =
-      let g = other_is t (other_run u t (noted (Opened first) u c d) e cs o h) in
+      let g = other_is t (other_run u t (note_character (Opened first) u c d) e cs o h) in
       subst (λ (x : ℕ). Placed (60 ∷ x ∷ cs) t) (sym (eqb-true c k q)) (record { reference = i ∙ sym g.0; tag = λ x. absurd (both_ways _ g.1 x); no_tag = λ _ x. n x; same = λ x. absurd (both_ways _ g.2 x) })
 
-  by : (a : Turn) → OpenedFact c a → turned (λ u. run u (noted (Opened first) u c d) cs) d cs a ≡ At t e → Placed (60 ∷ c ∷ cs) t
+  by : (a : Turn) → OpenedFact c a → turn_run (λ u. run u (note_character (Opened first) u c d) cs) d cs a ≡ At t e → Placed (60 ∷ c ∷ cs) t
   by (Goes Bang) f h = in_other Bang 33 refl f refl (λ x. x.1 refl) h
   by (Goes (Question q)) f h = in_other (Question q) 63 refl f refl (λ x. x.2 refl) h
   by (Goes EndOpened) f h = in_one EndOpened refl refl f.0 f.1 f.2 h
@@ -270,9 +270,9 @@ run_placed p [] t d e h = subst (Placed []) (scan_same (Begin p) t d e h) (recor
   scan_same : (s t : Scan) (d e : Draft) → At s d ≡ At t e → s ≡ t
   scan_same s t d e h = cc
 run_placed p (c ∷ cs) t d e h = by (step (Begin p) c) (begin_fact p c) h where
-  alone : (u : Scan) (k : ℕ) → is_other u ≡ true → (c == k) ≡ true → ((cs : List ℕ) → is_in_reference (k ∷ cs) ≡ false) → ((cs : List ℕ) → IsTagBegun (k ∷ cs) → ⊥) → run u (noted (Begin p) u c d) cs ≡ At t e → Placed (c ∷ cs) t
+  alone : (u : Scan) (k : ℕ) → is_other u ≡ true → (c == k) ≡ true → ((cs : List ℕ) → is_in_reference (k ∷ cs) ≡ false) → ((cs : List ℕ) → IsTagBegun (k ∷ cs) → ⊥) → run u (note_character (Begin p) u c d) cs ≡ At t e → Placed (c ∷ cs) t
   alone u k o q i n h =
-      let g = other_is t (other_run u t (noted (Begin p) u c d) e cs o h) in
+      let g = other_is t (other_run u t (note_character (Begin p) u c d) e cs o h) in
       subst (λ (x : ℕ). Placed (x ∷ cs) t) (sym (eqb-true c k q)) (record { reference = i cs ∙ sym g.0; tag = λ x. absurd (both_ways _ g.1 x); no_tag = λ _ x. n cs x; same = λ x. absurd (both_ways _ g.2 x) })
 
   no_thirteen : (cs : List ℕ) → is_in_reference (13 ∷ cs) ≡ false
@@ -291,10 +291,10 @@ run_placed p (c ∷ cs) t d e h = by (step (Begin p) c) (begin_fact p c) h where
   in_ref [] h = refl
   in_ref (x ∷ cs) h = h
 
-  by : (a : Turn) → BeginFact c a → turned (λ u. run u (noted (Begin p) u c d) cs) d cs a ≡ At t e → Placed (c ∷ cs) t
-  by (Goes (Opened f)) q h = subst (λ (x : ℕ). Placed (x ∷ cs) t) (sym (eqb-true c 60 q)) (opened_placed f cs t (noted (Begin p) (Opened f) c d) e h)
+  by : (a : Turn) → BeginFact c a → turn_run (λ u. run u (note_character (Begin p) u c d) cs) d cs a ≡ At t e → Placed (c ∷ cs) t
+  by (Goes (Opened f)) q h = subst (λ (x : ℕ). Placed (x ∷ cs) t) (sym (eqb-true c 60 q)) (opened_placed f cs t (note_character (Begin p) (Opened f) c d) e h)
   by (Goes (InReference Begun)) q h =
-      let g = referring_run Begun t (noted (Begin p) (InReference Begun) c d) e cs h in
+      let g = referring_run Begun t (note_character (Begin p) (InReference Begun) c d) e cs h in
       subst (λ (x : ℕ). Placed (x ∷ cs) t) (sym (eqb-true c 38 q)) (record { reference = in_ref cs g.2 ∙ sym g.0; tag = λ x. absurd (both_ways _ g.1 x); no_tag = λ _ x. no_tag_at 38 refl cs x; same = λ x. absurd (both_ways _ g.3 x) })
   by (Goes AfterReturn) q h = alone AfterReturn 13 refl q no_thirteen (no_tag_at 13 refl) h
   by (Goes Bracket) q h = alone Bracket 93 refl q no_bracket (no_tag_at 93 refl) h

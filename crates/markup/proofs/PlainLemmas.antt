@@ -17,7 +17,7 @@ use Rattle.markup.specs.Scans.{line_step, goes_if, step}
 use Rattle.markup.specs.ScanRuns.{At, run, position, ended_of}
 use Rattle.markup.specs.Contexts.{IsContext}
 use Rattle.markup.specs.TokenRules.{is_cdata}
-use Rattle.markup.specs.Tokenizers.{EndedToken, after_other, on_turn, ended, charactered, counted, is_plain, is_between, is_text, starts_plain, TakesAlone, TakesPlain, AdvancedBy, is_pending, IsAwaited, IsOpen, Advances, SettlesBy, open_at, FinishesBy}
+use Rattle.markup.specs.Tokenizers.{EndedToken, after_other, on_turn, token_ended, after_character, byte_counted, is_plain_in, is_between, is_text, starts_plain, TakesAlone, TakesPlain, AdvancedBy, is_pending, IsAwaited, IsTokenOpen, Advances, SettlesBy, open_at, FinishesBy}
 use Rattle.markup.specs.Inputs.{is_return}
 use Rattle.markup.specs.Reading.{HasTakenUnder, GoesOnUnder, StopsUnder}
 use Rattle.markup.specs.inner.ReaderSteps.{SettlesEvents, TokenAnswered}
@@ -43,29 +43,29 @@ use Rattle.markup.proofs.SettleLemmas.{finishes_by}
 use Rattle.markup.proofs.TokenizerLemmas.{advances_by}
 
 -- a plain byte is ASCII, a character of XML, and none that opens or ends a line, a reference, markup or a section
-pub plain_ascii : (text : Bool) (c : ℕ) → is_plain text c ≡ true → c < 128
+pub plain_ascii : (text : Bool) (c : ℕ) → is_plain_in text c ≡ true → c < 128
 plain_ascii text c h = grind (arith, nat_tests)
 
-plain_xml : (text : Bool) (c : ℕ) → is_plain text c ≡ true → is_xml_char c ≡ true
+plain_xml : (text : Bool) (c : ℕ) → is_plain_in text c ≡ true → is_xml_char c ≡ true
 unfolding is_xml_char
 plain_xml text c h = grind (arith, nat_tests)
 
-plain_not : (text : Bool) (c : ℕ) → is_plain text c ≡ true → ((c == 60) ≡ false) × ((c == 38) ≡ false) × ((c == 13) ≡ false) × ((c == 10) ≡ false)
+plain_not : (text : Bool) (c : ℕ) → is_plain_in text c ≡ true → ((c == 60) ≡ false) × ((c == 38) ≡ false) × ((c == 13) ≡ false) × ((c == 10) ≡ false)
 plain_not text c h = (grind (arith, nat_tests), grind (arith, nat_tests), grind (arith, nat_tests), grind (arith, nat_tests))
 
 -- in a CDATA section it begins no end of the section
-plain_inside : (c : ℕ) → is_plain false c ≡ true → (c == 93) ≡ false
+plain_inside : (c : ℕ) → is_plain_in false c ≡ true → (c == 93) ≡ false
 plain_inside c h = grind (arith, nat_tests)
 
 -- so it is a token where one begins
-line_plain : (text : Bool) (c : ℕ) → is_plain text c ≡ true → line_step c ≡ Whole (Character c)
+line_plain : (text : Bool) (c : ℕ) → is_plain_in text c ≡ true → line_step c ≡ Whole (Character c)
 line_plain text c h =
     let n = plain_not text c h in
     subst (λ (b : Bool). (if b then Goes AfterReturn else (if c == 10 then Whole LineEnd else goes_if (is_xml_char c) (Whole (Character c)))) ≡ Whole (Character c)) (sym n.2)
     (subst (λ (b : Bool). (if b then Whole LineEnd else goes_if (is_xml_char c) (Whole (Character c))) ≡ Whole (Character c)) (sym n.3)
     (subst (λ (b : Bool). goes_if b (Whole (Character c)) ≡ Whole (Character c)) (sym (plain_xml text c h)) refl))
 
-plain_step : (s : Scan) (c : ℕ) → is_between s ≡ true → is_plain (is_text s) c ≡ true → step s c ≡ Whole (Character c)
+plain_step : (s : Scan) (c : ℕ) → is_between s ≡ true → is_plain_in (is_text s) c ≡ true → step s c ≡ Whole (Character c)
 plain_step (Begin Text) c b h =
     let n = plain_not true c h in
     subst (λ (b : Bool). (if b then Goes (Opened false) else (if c == 38 then Goes (Reference Begun) else line_step c)) ≡ Whole (Character c)) (sym n.0)
@@ -102,7 +102,7 @@ pub record IsFresh (z : Tokenizer) : Type 0 where
   pub scan_here : Begin z.position ≡ z.scan
   pub position_stays : after_other z.position ≡ z.position
 
-pub is_fresh : {limit : ℕ} (z : Tokenizer) → is_between z.scan ≡ true → (z.place == z.start) ≡ true → (before : List Token) (bytes : List ℕ) → IsOpen limit z before bytes → IsFresh z
+pub is_fresh : {limit : ℕ} (z : Tokenizer) → is_between z.scan ≡ true → (z.place == z.start) ≡ true → (before : List Token) (bytes : List ℕ) → IsTokenOpen limit z before bytes → IsFresh z
 is_fresh z between starts before bytes o = record { utf8_none = o.utf8_is ∙ ap (λ v. Some v) none.1; draft_none = same.1; scan_here = here; position_stays = stays z.position (ap is_between here ∙ between) } where
   none : (o.chars ≡ []) × (o.part ≡ [])
   none = no_chars o.chars o.part (ap length (sym o.bytes_are) ∙ count z.place z.start (length bytes) o.place_is (eqb-true z.place z.start starts)) where
@@ -130,12 +130,12 @@ behind_same z u p s d =
 abbrev behind_plain : Tokenizer → Tokenizer
 behind_plain z = made z z.utf8 z.position z.scan z.draft
 
-module _ (z : Tokenizer) (byte : ℕ) (between : is_between z.scan ≡ true) (starts : (z.place == z.start) ≡ true) (plain : is_plain (is_text z.scan) byte ≡ true) where
-  module _ (limit : ℕ) (before : List Token) (bytes : List ℕ) (o : IsOpen limit z before bytes) (w : IsAwaited z.scan byte) where
+module _ (z : Tokenizer) (byte : ℕ) (between : is_between z.scan ≡ true) (starts : (z.place == z.start) ≡ true) (plain : is_plain_in (is_text z.scan) byte ≡ true) where
+  module _ (limit : ℕ) (before : List Token) (bytes : List ℕ) (o : IsTokenOpen limit z before bytes) (w : IsAwaited z.scan byte) where
     fresh : IsFresh z
     fresh = is_fresh z between starts before bytes o
 
-    advanced : AdvancedBy z (charactered (counted z (Some [])) byte).1 byte (charactered (counted z (Some [])) byte).0
+    advanced : AdvancedBy z (after_character (byte_counted z (Some [])) byte).1 byte (after_character (byte_counted z (Some [])) byte).0
     advanced = record {
       utf8 = Char byte;
       begun = Some [];
@@ -144,26 +144,26 @@ module _ (z : Tokenizer) (byte : ℕ) (between : is_between z.scan ≡ true) (st
       after = refl;
     }
 
-    turn : charactered (counted z (Some [])) byte ≡ ended (counted z (Some [])) (Character byte)
-    turn = ap (on_turn (counted z (Some [])) byte) (plain_step z.scan byte between plain)
+    turn : after_character (byte_counted z (Some [])) byte ≡ token_ended (byte_counted z (Some [])) (Character byte)
+    turn = ap (on_turn (byte_counted z (Some [])) byte) (plain_step z.scan byte between plain)
 
-    behind_is : (ended (counted z (Some [])) (Character byte)).1 ≡ behind_plain z
+    behind_is : (token_ended (byte_counted z (Some [])) (Character byte)).1 ≡ behind_plain z
     behind_is = ap (λ u. made z u (after_other z.position) (Begin (after_other z.position)) no_draft) (sym fresh.utf8_none)
         ∙ behind_same z z.utf8 fresh.position_stays fresh.scan_here fresh.draft_none
 
     plain_here : Advances limit (behind_plain z) before (bytes ++ byte ∷ []) (EndedToken (Character byte) no_draft)
     plain_here =
         subst (λ y. Advances limit y before (bytes ++ byte ∷ []) (EndedToken (Character byte) no_draft)) behind_is
-        (subst (λ d. Advances limit (ended (counted z (Some [])) (Character byte)).1 before (bytes ++ byte ∷ []) (EndedToken (Character byte) d)) (sym fresh.draft_none)
+        (subst (λ d. Advances limit (token_ended (byte_counted z (Some [])) (Character byte)).1 before (bytes ++ byte ∷ []) (EndedToken (Character byte) d)) (sym fresh.draft_none)
         (subst (λ r. Advances limit r.1 before (bytes ++ byte ∷ []) r.0) turn
-        (advances_by z (charactered (counted z (Some [])) byte).1 byte (charactered (counted z (Some [])) byte).0 advanced limit before bytes o w)))
+        (advances_by z (after_character (byte_counted z (Some [])) byte).1 byte (after_character (byte_counted z (Some [])) byte).0 advanced limit before bytes o w)))
 
   takes_parts : TakesPlain z (behind_plain z) byte
   takes_parts = record { advances = plain_here; settled = not_waiting z.scan between; leaves = not_waiting z.scan between; place = refl }
 
 pub takes_plain : (z : Tokenizer) (byte : ℕ) → starts_plain z byte ≡ true → TakesPlain z (behind_plain z) byte
 takes_plain z byte h =
-    let a = and_parts (is_between z.scan && z.place == z.start) (is_plain (is_text z.scan) byte) h in
+    let a = and_parts (is_between z.scan && z.place == z.start) (is_plain_in (is_text z.scan) byte) h in
     let b = and_parts (is_between z.scan) (z.place == z.start) a.0 in
     takes_parts z byte b.0 b.1 a.1
 

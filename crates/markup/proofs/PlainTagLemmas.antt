@@ -17,14 +17,14 @@ use Rattle.markup.specs.Chars.{in_some, name_start_ranges, name_more_ranges, is_
 use Rattle.markup.specs.Name.{Plain, is_part}
 use Rattle.markup.specs.Token.{Token, Mark, Start, End, token_bytes}
 use Rattle.markup.specs.Marks.{in_cdata, is_first, stands, is_short}
-use Rattle.markup.specs.Events.{Placed, open_tags, namespace_of, expanded, started, events, items_of}
+use Rattle.markup.specs.Events.{Placed, open_tags, namespace_of, expanded_in, start_tag_items, events, items_of}
 use Rattle.markup.specs.Faults.{rule_of, is_over, is_outside, has_start, end_rule}
 use Rattle.markup.specs.Scopes.{IsScope, placed_at}
 use Rattle.markup.specs.Contexts.{IsContext}
 use Rattle.markup.specs.Drafts.{no_draft}
-use Rattle.markup.specs.ScanRuns.{run, position, placed as placed_by, ended_of}
+use Rattle.markup.specs.ScanRuns.{run, position, placed_by, ended_of}
 use Rattle.markup.specs.TokenRules.{is_cdata}
-use Rattle.markup.specs.Tokenizers.{after_other, behind as behind_token, is_between, is_in_text, is_text, passed}
+use Rattle.markup.specs.Tokenizers.{after_other, behind_token, is_between, is_in_text, is_text, after_whole_tokens}
 use Rattle.markup.specs.Reading.{Keeps, HasTakenUnder, HasToldUnder, MayTakeTagUnder, MayTakeStartUnder}
 use Rattle.markup.specs.Inputs.{Any}
 use Rattle.markup.specs.PlainStarts.{PlainStart}
@@ -152,8 +152,8 @@ module _ (before : List Token) (opened : List ℕ) (es : List Expanded) (inside 
     abbrev named : Expanded
     named = record { namespace = innermost_namespace es; local = name }
 
-    started_rule : (if is_none (expanded (namespace_of (open_tags before) []) (encode_utf8_all cs)) || false then Some BadPrefix else (if is_over before then Some AfterRoot else None)) ≡ None
-    started_rule = ap (λ o. if is_none (expanded o (encode_utf8_all cs)) || false then Some BadPrefix else (if is_over before then Some AfterRoot else None)) bound ∙ ap (λ b. if b then Some AfterRoot else None) not_over
+    started_rule : (if is_none (expanded_in (namespace_of (open_tags before) []) (encode_utf8_all cs)) || false then Some BadPrefix else (if is_over before then Some AfterRoot else None)) ≡ None
+    started_rule = ap (λ o. if is_none (expanded_in o (encode_utf8_all cs)) || false then Some BadPrefix else (if is_over before then Some AfterRoot else None)) bound ∙ ap (λ b. if b then Some AfterRoot else None) not_over
 
     ended_rule : (tags : List Opening) → IsPlainInside tags opened → name ≡ opened → end_rule tags (record { prefix = []; local = encode_utf8_all cs }) ≡ None
     ended_rule [] i e = absurd i
@@ -167,8 +167,8 @@ module _ (before : List Token) (opened : List ℕ) (es : List Expanded) (inside 
     clean EndKind m = ended_rule (open_tags before) inside m
 
     tells : (kind : TagKind) → may_be_named kind opened name → items_of before (tag_token kind cs) ≡ tag_items kind named
-    tells StartKind m = ap (λ o. started (expanded o (encode_utf8_all cs)) [] false) bound ∙ ap (λ v. started (Some (record { namespace = innermost_namespace es; local = v })) [] false) encoded
-    tells EmptyKind m = ap (λ o. started (expanded o (encode_utf8_all cs)) [] true) bound ∙ ap (λ v. started (Some (record { namespace = innermost_namespace es; local = v })) [] true) encoded
+    tells StartKind m = ap (λ o. start_tag_items (expanded_in o (encode_utf8_all cs)) [] false) bound ∙ ap (λ v. start_tag_items (Some (record { namespace = innermost_namespace es; local = v })) [] false) encoded
+    tells EmptyKind m = ap (λ o. start_tag_items (expanded_in o (encode_utf8_all cs)) [] true) bound ∙ ap (λ v. start_tag_items (Some (record { namespace = innermost_namespace es; local = v })) [] true) encoded
     tells EndKind m = innermost_ends (open_tags before) es opened expand inside ∙ ap (λ v. Ends (record { namespace = innermost_namespace es; local = v }) ∷ []) (sym m)
 
     stands_here : (kind : TagKind) → in_cdata before ≡ false → (after : List ℕ) → stands before (tag_token kind cs) after ≡ true
@@ -252,7 +252,7 @@ module _ {limit : ℕ} (r : Reader) (scope : Scope) (bytes piece : List ℕ) (to
   abbrev context : Context
   context = record { scope = scope; has_root = r.context.has_root; brackets = 0 }
 
-  taken : HasTakenUnder limit (record { tokenizer = passed r.tokenizer count; context = context; failed = r.failed }) (bytes ++ token_bytes token) (told ++ placed_at (length bytes) (items_of before token))
+  taken : HasTakenUnder limit (record { tokenizer = after_whole_tokens r.tokenizer count; context = context; failed = r.failed }) (bytes ++ token_bytes token) (told ++ placed_at (length bytes) (items_of before token))
   taken = takes_next r bytes told h between (and_parts _ _ text).1 token count context next (sym (ap length token_is ∙ size))
       (context_behind before t.opened es t.inside expand part.local name part.part part.encoded kind r.context scope h.1.context (scope_is tags t.opened h.1.context.scope t.inside))
 
@@ -260,10 +260,10 @@ module _ {limit : ℕ} (r : Reader) (scope : Scope) (bytes piece : List ℕ) (to
   items = tells before t.opened es t.inside expand part.local name part.part part.encoded kind t.at.named
       ∙ ap (λ v. tag_items kind (record { namespace = innermost_namespace (open_behind [] v); local = name })) (sym (all_told r bytes told h between (and_parts _ _ text).1))
 
-  pub takes_tag : HasToldUnder limit (record { tokenizer = passed r.tokenizer count; context = context; failed = r.failed }) (bytes ++ take count piece) (told ++ placed_at (length bytes) (tag_items kind (name_behind told name)))
-  takes_tag = told_so_far (record { tokenizer = passed r.tokenizer count; context = context; failed = r.failed }) (bytes ++ take count piece) (told ++ placed_at (length bytes) (tag_items kind (name_behind told name)))
-      (subst (λ v. HasTakenUnder limit (record { tokenizer = passed r.tokenizer count; context = context; failed = r.failed }) (bytes ++ v) (told ++ placed_at (length bytes) (tag_items kind (name_behind told name)))) (token_is ∙ sym t.at.spelled)
-      (subst (λ v. HasTakenUnder limit (record { tokenizer = passed r.tokenizer count; context = context; failed = r.failed }) (bytes ++ token_bytes token) (told ++ placed_at (length bytes) v)) items taken))
+  pub takes_tag : HasToldUnder limit (record { tokenizer = after_whole_tokens r.tokenizer count; context = context; failed = r.failed }) (bytes ++ take count piece) (told ++ placed_at (length bytes) (tag_items kind (name_behind told name)))
+  takes_tag = told_so_far (record { tokenizer = after_whole_tokens r.tokenizer count; context = context; failed = r.failed }) (bytes ++ take count piece) (told ++ placed_at (length bytes) (tag_items kind (name_behind told name)))
+      (subst (λ v. HasTakenUnder limit (record { tokenizer = after_whole_tokens r.tokenizer count; context = context; failed = r.failed }) (bytes ++ v) (told ++ placed_at (length bytes) (tag_items kind (name_behind told name)))) (token_is ∙ sym t.at.spelled)
+      (subst (λ v. HasTakenUnder limit (record { tokenizer = after_whole_tokens r.tokenizer count; context = context; failed = r.failed }) (bytes ++ token_bytes token) (told ++ placed_at (length bytes) v)) items taken))
 
 -- a reader behind which the tag may come is where one begins
 first_is_outside : (before : List Token) (opened : List ℕ) → is_first before ≡ true → IsPlainInside (open_tags before) opened → ⊥

@@ -4,7 +4,7 @@ use Rattle.std.specs.Str.{encode_utf8_all}
 use Rattle.std.proofs.lemmas.Bool.{and_parts}
 use Rattle.std.proofs.lemmas.Str.{encode_ascii, encodes-append}
 use Rattle.markup.specs.Name.{Name, Plain, Prefixed, is_name, name_text}
-use Rattle.markup.specs.Events.{spelled}
+use Rattle.markup.specs.Events.{spelled_name}
 use Rattle.markup.specs.PlainTags.{is_plain_name}
 use Rattle.markup.specs.PlainStarts.{is_plain_prefix, is_plain_qualified, joined_text, qualified_text}
 use Rattle.markup.specs.inner.WholeStarts.{named_by}
@@ -36,7 +36,7 @@ by_bytes (b ∷ more) local p l =
     encodes-append (b ∷ more) (58 ∷ local)
     ∙ (ap (λ v. v ++ encode_utf8_all (58 ∷ local)) (plain_encoded (b ∷ more) p) ∙ ap (λ v. (b ∷ more) ++ v) (ap (λ v. v ++ encode_utf8_all local) (encode_ascii 58 (omega arith)) ∙ ap (λ v. 58 ∷ v) (plain_encoded local l)))
 
-by_spelled : (prefix local : List ℕ) → is_plain_prefix prefix ≡ true → is_plain_name local ≡ true → spelled (name_by prefix local) ≡ named_by prefix local
+by_spelled : (prefix local : List ℕ) → is_plain_prefix prefix ≡ true → is_plain_name local ≡ true → spelled_name (name_by prefix local) ≡ named_by prefix local
 by_spelled [] local p l = ap (λ v. named_by [] v) (plain_encoded local l)
 by_spelled (b ∷ more) local p l = ap (λ v. named_by v (encode_utf8_all local)) (plain_encoded (b ∷ more) p) ∙ ap (λ v. named_by (b ∷ more) v) (plain_encoded local l)
 
@@ -53,5 +53,5 @@ module _ (n : Spelled) (h : is_plain_qualified n ≡ true) where
   pub qualified_encoded : encode_utf8_all (qualified_text n) ≡ qualified_text n
   qualified_encoded = by_bytes n.prefix n.local parts.0 parts.1
 
-  pub qualified_says : spelled (name_of n) ≡ n
+  pub qualified_says : spelled_name (name_of n) ≡ n
   qualified_says = by_spelled n.prefix n.local parts.0 parts.1

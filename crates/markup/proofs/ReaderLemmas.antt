@@ -15,12 +15,12 @@ use Rattle.markup.specs.Scopes.{placed_at}
 use Rattle.markup.specs.Contexts.{IsContext, TakesToken}
 use Rattle.markup.specs.ScanRuns.{ended_of, draft_of}
 use Rattle.markup.specs.TokenRules.{items_by, is_cdata, ends_tag}
-use Rattle.markup.specs.Tokenizers.{More, EndedToken, Refused, undrafted, handed_out, IsOpen, IsAwaited, Finishes, FinishesBy, SettlesBy, EndsToken, AdvancesBy, open_at}
-use Rattle.markup.specs.Inputs.{Reads, Any, Begins, with_pending, is_cut, is_return, settled_tokens, settled_events, SettlesInput, ReadsMore, ReadsToken}
+use Rattle.markup.specs.Tokenizers.{More, EndedToken, Refused, without_draft, handed_out, IsTokenOpen, IsAwaited, Finishes, FinishesBy, SettlesBy, EndsToken, AdvancesBy, open_at}
+use Rattle.markup.specs.Inputs.{ReadsTokens, Any, Begins, with_pending, is_cut, is_return, settled_tokens, settled_events, SettlesInput, ReadsMore, ReadsToken}
 use Rattle.markup.specs.Reading.{Keeps, HasTakenUnder, HasToldUnder, GoesOnUnder, RefusesUnder, RunsOutUnder, StopsUnder, IsWhollyUnder}
 use Rattle.markup.specs.declared.reader.MarkError.{MarkError}
 use Rattle.markup.specs.declared.reader.MarkError.TheVariants.{Refused as RefusedBy, Memory as NoMemory}
-use Rattle.markup.specs.inner.ReaderSteps.{TellsMore, SettlesEvents, TokenStopped, returned}
+use Rattle.markup.specs.inner.ReaderSteps.{TellsMore, SettlesEvents, TokenStopped, return_items}
 use Rattle.markup.specs.declared.context.Context.{Context}
 use Rattle.markup.specs.declared.draft.Draft.{Draft}
 use Rattle.markup.specs.declared.event.Event.{Event}
@@ -54,7 +54,7 @@ none : ◌≡◌ {A = List ℕ} [] (13 ∷ []) → ⊥
 none h = cc
 
 -- nothing is handed out where nothing is held
-pub kept : (z : Tokenizer) → z.draft ≡ no_draft → undrafted z ≡ z
+pub kept : (z : Tokenizer) → z.draft ≡ no_draft → without_draft z ≡ z
 kept z h = ap (λ d. record { alloc = z.alloc; limit = z.limit; utf8 = z.utf8; position = z.position; scan = z.scan; draft = d; start = z.start; place = z.place }) (sym h)
 
 -- a token that is no tag says nothing
@@ -64,14 +64,14 @@ no_tag (End n g) h = absurd (both_ways true h refl)
 no_tag _ h = refl
 
 -- so it is left as it stands
-pub handed : {limit : ℕ} (e : Ended) (z : Tokenizer) (before : List Token) (bytes : List ℕ) → EndsToken limit (undrafted z) before bytes e z.draft → handed_out e z ≡ undrafted z
+pub handed : {limit : ℕ} (e : Ended) (z : Tokenizer) (before : List Token) (bytes : List ℕ) → EndsToken limit (without_draft z) before bytes e z.draft → handed_out e z ≡ without_draft z
 handed e z before bytes t = by (ends_tag e) refl where
-  by : (b : Bool) → ends_tag e ≡ b → (if b then undrafted z else z) ≡ undrafted z
+  by : (b : Bool) → ends_tag e ≡ b → (if b then without_draft z else z) ≡ without_draft z
   by true h = refl
   by false h = sym (kept z (sym t.draft_is ∙ no_tag t.token (ap ends_tag t.ended_is ∙ h)))
 
 -- before the first byte
-pub new_taken : {limit : ℕ} (z : Tokenizer) (c : Context) → IsOpen limit z [] [] → z.place ≡ 0 → IsContext c [] → HasTakenUnder limit (record { tokenizer = z; context = c; failed = None }) [] []
+pub new_taken : {limit : ℕ} (z : Tokenizer) (c : Context) → IsTokenOpen limit z [] [] → z.place ≡ 0 → IsContext c [] → HasTakenUnder limit (record { tokenizer = z; context = c; failed = None }) [] []
 new_taken {limit} z c o p k = (
   [],
   record {
@@ -96,7 +96,7 @@ record ToldFront (limit : ℕ) (input : List ℕ) (told : List Placed) : Type 0 
   clean : IsClean [] tokens
   events_are : told ≡ events [] 0 tokens
 
-told_front : {limit : ℕ} (z : Tokenizer) (input : List ℕ) (ts : List Token) (byte : ℕ) (f : Finish) → Reads limit (Begins byte) z input ts → IsClean [] ts → IsAwaited z.scan byte → FinishesBy z f → ToldFront limit (input ++ byte ∷ []) (events [] 0 (with_pending f ts))
+told_front : {limit : ℕ} (z : Tokenizer) (input : List ℕ) (ts : List Token) (byte : ℕ) (f : Finish) → ReadsTokens limit (Begins byte) z input ts → IsClean [] ts → IsAwaited z.scan byte → FinishesBy z f → ToldFront limit (input ++ byte ∷ []) (events [] 0 (with_pending f ts))
 told_front {limit} z input ts byte f r l w q = by f (q limit (reverse ts) r.bytes r.opens) where
   by : (f : Finish) → Finishes limit (reverse ts) r.bytes f → ToldFront limit (input ++ byte ∷ []) (events [] 0 (with_pending f ts))
   by Nothing h = record { tokens = ts; rest = r.bytes ++ byte ∷ []; front = r.front (byte ∷ []) ([], refl); clean = l; events_are = refl }
@@ -111,7 +111,7 @@ told_front {limit} z input ts byte f r l w q = by f (q limit (reverse ts) r.byte
   }
 
 -- no memory, behind events that were told
-runs_out : {limit : ℕ} (z : Tokenizer) (input : List ℕ) (ts : List Token) (byte : ℕ) (f : Finish) (told front behind : List Placed) (old new : List Event) → Reads limit (Begins byte) z input ts → IsClean [] ts → IsAwaited z.scan byte → FinishesBy z f → told ++ (front ++ behind) ≡ events [] 0 (with_pending f ts) → Tells old new front → RunsOutUnder limit (input ++ byte ∷ []) told old new
+runs_out : {limit : ℕ} (z : Tokenizer) (input : List ℕ) (ts : List Token) (byte : ℕ) (f : Finish) (told front behind : List Placed) (old new : List Event) → ReadsTokens limit (Begins byte) z input ts → IsClean [] ts → IsAwaited z.scan byte → FinishesBy z f → told ++ (front ++ behind) ≡ events [] 0 (with_pending f ts) → Tells old new front → RunsOutUnder limit (input ++ byte ∷ []) told old new
 runs_out {limit} z input ts byte f told front behind old new r l w q e t =
     let k : ToldFront limit (input ++ byte ∷ []) (events [] 0 (with_pending f ts)) = told_front z input ts byte f r l w q in
     record { front = front; behind = behind; tokens = k.tokens; rest = k.rest; front_is = k.front; clean = k.clean; events_are = e ∙ k.events_are; tells = t }
@@ -167,19 +167,19 @@ module _ {limit : ℕ} (reader : Reader) (input : List ℕ) (ts : List Token) (t
     place_now : z.place ≡ length (input ++ byte ∷ [])
     place_now = p ∙ (ap (λ n. n + 1) k.place ∙ sym (length-append input (byte ∷ [])))
 
-    pub advance_more : (g : Finish) → FinishesBy z g → AdvancesBy reader.tokenizer z byte More → Tells old new (returned g reader.tokenizer.start) → TellsMore limit Any (record { tokenizer = z; context = reader.context; failed = reader.failed }) (input ++ byte ∷ []) told old new
+    pub advance_more : (g : Finish) → FinishesBy z g → AdvancesBy reader.tokenizer z byte More → Tells old new (return_items g reader.tokenizer.start) → TellsMore limit Any (record { tokenizer = z; context = reader.context; failed = reader.failed }) (input ++ byte ∷ []) told old new
     advance_more g q a t = record {
       tokens = ts;
-      more = returned g reader.tokenizer.start;
+      more = return_items g reader.tokenizer.start;
       tells = t;
       keeps = record { reads = m.reads; clean = k.clean; place = place_now; context = k.context; told_are = told_now; sound = k.sound };
     } where
       m : ReadsMore limit reader.tokenizer z (input ++ byte ∷ []) ts
       m = advances_input reader.tokenizer z input ts byte More a k.reads w k.clean
 
-      told_now : (h : Finish) → FinishesBy z h → told ++ returned g reader.tokenizer.start ≡ events [] 0 (with_pending h ts)
+      told_now : (h : Finish) → FinishesBy z h → told ++ return_items g reader.tokenizer.start ≡ events [] 0 (with_pending h ts)
       told_now h r =
-          ap (λ v. told ++ returned g v) (starts_begins byte k) ∙ (ap (λ v. v ++ returned g (length (flat_map token_bytes ts))) (k.told_are f (finish_is reader.tokenizer))
+          ap (λ v. told ++ return_items g v) (starts_begins byte k) ∙ (ap (λ v. v ++ return_items g (length (flat_map token_bytes ts))) (k.told_are f (finish_is reader.tokenizer))
           ∙ (sym (m.adds f g (finish_is reader.tokenizer) q) ∙ ap (events [] 0) (pending_same z (reverse ts) m.reads.bytes g h m.reads.opens q r ts)))
 
     -- whatever follows the byte, the tokens stand at the front
@@ -305,7 +305,7 @@ module _ {limit : ℕ} (reader : Reader) (input : List ℕ) (ts : List Token) (t
         more = [];
         tells = tells_none old new s;
         keeps = record {
-          reads = subst (λ t. Reads limit Any z (input ++ byte ∷ []) (ts ++ t ∷ [])) joined (reads_token z input byte ts reader.tokenizer k.reads e d line);
+          reads = subst (λ t. ReadsTokens limit Any z (input ++ byte ∷ []) (ts ++ t ∷ [])) joined (reads_token z input byte ts reader.tokenizer k.reads e d line);
           clean = clean_snoc ts (LineEnd CrLf) k.clean refl;
           place = place_now;
           context = subst (IsContext c) (sym (reverse_snoc ts (LineEnd CrLf))) (i (reverse ts) CrLf k.context);

@@ -6,10 +6,10 @@ use Rattle.std.proofs.lemmas.Bool.Decides.{nat_tests}
 use Rattle.markup.specs.Chars.{is_xml_char, is_name_start, is_name_char, is_space}
 use Rattle.markup.specs.Faults.{ends_in_reference}
 use Rattle.markup.specs.Words.{word_text, letter_of}
-use Rattle.markup.specs.ReferenceScans.{reference_step, digit_step, first_digit, more_digits, digits_step, numbered, gives, letter_step}
-use Rattle.markup.specs.Drafts.{noted}
+use Rattle.markup.specs.ReferenceScans.{reference_step, digit_step, first_digit, more_digits, digits_step, numbered_char, gives, letter_step}
+use Rattle.markup.specs.Drafts.{note_character}
 use Rattle.markup.specs.Scans.{step, name_step, name_turn, behind_attribute_step, before_equals_step, after_equals_step, end_gap_step, value_step, referring_in}
-use Rattle.markup.specs.ScanRuns.{At, turned, run}
+use Rattle.markup.specs.ScanRuns.{At, turn_run, run}
 use Rattle.markup.specs.declared.draft.Draft.{Draft}
 use Rattle.markup.specs.declared.word.Word.{Word}
 use Rattle.markup.specs.declared.word.Word.TheVariants.{Cdata as CdataWord, Doctype as DoctypeWord, Ampersand, Less, Greater, Apostrophe, Quote, Version as VersionWord, Encoding as EncodingWord, Standalone as StandaloneWord, One, Utf8, Yes, No}
@@ -187,7 +187,7 @@ digit_fact : (radix n c m : ℕ) → (radix == 10 || radix == 16) ≡ true → d
 digit_fact radix n c m r h = digit_no_semicolon radix c r (digit_part radix n c m h).0
 
 digits_fact : (n c : ℕ) → ReferenceFact c (digits_step n c)
-digits_fact n c = fact_if c (c == 59) _ Breaks (λ e. given (numbered n) e) (λ _. tt) where
+digits_fact n c = fact_if c (c == 59) _ Breaks (λ e. given (numbered_char n) e) (λ _. tt) where
   given : (o : Option ℕ) → (c == 59) ≡ true → ReferenceFact c (gives o)
   given None e = tt
   given (Some g) e = e
@@ -258,8 +258,8 @@ pub tag_run : (s t : Scan) (d e : Draft) (cs : List ℕ) → in_tag s ≡ true �
 tag_run s t d e [] k h = (subst (λ u. in_tag u ≡ true) (scan_same s t d e h) k, ap in_reference (scan_same s t d e h)) where
   scan_same : (s t : Scan) (d e : Draft) → At s d ≡ At t e → s ≡ t
   scan_same s t d e h = cc
-tag_run s t d e (c ∷ cs) k h = by (λ u k h. tag_run u t (noted s u c d) e cs k h) (step s c) (tag_turn s c k) h where
-  by : ((u : Scan) → in_tag u ≡ true → run u (noted s u c d) cs ≡ At t e → (in_tag t ≡ true) × (ends_in_reference (in_reference u) cs ≡ in_reference t)) → (a : Turn) → TagTurn (in_reference s) c a → turned (λ u. run u (noted s u c d) cs) d cs a ≡ At t e → (in_tag t ≡ true) × (ends_in_reference (in_reference s) (c ∷ cs) ≡ in_reference t)
+tag_run s t d e (c ∷ cs) k h = by (λ u k h. tag_run u t (note_character s u c d) e cs k h) (step s c) (tag_turn s c k) h where
+  by : ((u : Scan) → in_tag u ≡ true → run u (note_character s u c d) cs ≡ At t e → (in_tag t ≡ true) × (ends_in_reference (in_reference u) cs ≡ in_reference t)) → (a : Turn) → TagTurn (in_reference s) c a → turn_run (λ u. run u (note_character s u c d) cs) d cs a ≡ At t e → (in_tag t ≡ true) × (ends_in_reference (in_reference s) (c ∷ cs) ≡ in_reference t)
   by f (Goes u) g h = let r = f u g.0 h in (r.0, ends_one (in_reference s) c cs ∙ (ap (λ b. ends_in_reference b cs) g.1 ∙ r.1))
   by f (Whole a) g h = absurd (cc)
   by f Stuck g h = absurd (cc)

@@ -5,8 +5,8 @@ use Rattle.std.specs.Char.{is_digit, digit_value}
 use Rattle.std.proofs.lemmas.Bool.{and_parts, and_from, or_cases, eqb-true, le-leb}
 use Rattle.std.proofs.lemmas.Bool.Decides.{nat_tests}
 use Rattle.markup.specs.Chars.{is_xml_char}
-use Rattle.markup.specs.Reference.{Ampersand, Less, Greater, Apostrophe, Quote, Reference, Named, Numbered, is_reference, referred, number}
-use Rattle.markup.specs.Drafts.{noted}
+use Rattle.markup.specs.Reference.{Ampersand, Less, Greater, Apostrophe, Quote, Reference, Named, Numbered, is_reference, referred_character, number}
+use Rattle.markup.specs.Drafts.{note_character}
 use Rattle.markup.specs.ReferenceScans.{reference_step, digit_step, first_digit, more_digits}
 use Rattle.markup.specs.Scans.{step}
 use Rattle.markup.specs.declared.draft.Draft.{Draft}
@@ -67,7 +67,7 @@ module _ (radix : ℕ) (at : ℕ → ReferenceScan) (positive : 1 ≤ radix) (di
 pub record ReferenceEnd (r : Reference) : Type 0 where
   pub scan : ReferenceScan
   pub read : reference_run Begun (body r) ≡ Some scan
-  pub gives_is : reference_step scan 59 ≡ Gives (referred r)
+  pub gives_is : reference_step scan 59 ≡ Gives (referred_character r)
 
 decimal_gives : (n : ℕ) → is_xml_char n ≡ true → reference_step (Decimal n) 59 ≡ Gives n
 decimal_gives n h = rw h refl
@@ -116,7 +116,7 @@ reference_end (Numbered radix digits) h = by_radix radix digits (numbered_facts 
 -- a token that holds a reference, by the scans at, comes as far as the reference does
 module _ (at : ReferenceScan → Scan) (d : Draft)
     (goes_on : (r t : ReferenceScan) (c : ℕ) → reference_step r c ≡ Continues t → step (at r) c ≡ Goes (at t))
-    (notes : (r t : ReferenceScan) (c : ℕ) → noted (at r) (at t) c d ≡ d) where
+    (notes : (r t : ReferenceScan) (c : ℕ) → note_character (at r) (at t) c d ≡ d) where
   pub reference_goes : (r t : ReferenceScan) (cs w : List ℕ) → reference_run r cs ≡ Some t → run (at r) d (cs ++ w) ≡ run (at t) d w
   reference_goes r t [] w h = ap (λ u. run (at u) d w) (same r t h) where
     same : (r t : ReferenceScan) → Some r ≡ Some t → r ≡ t

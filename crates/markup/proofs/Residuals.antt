@@ -5,7 +5,7 @@ use Rattle.std.specs.Char.{is_digit, to_ascii_lowercase}
 use Rattle.markup.specs.Chars.{is_xml_char, is_name_start, is_name_char, is_space}
 use Rattle.markup.specs.Name.{Name, is_name, name_text}
 use Rattle.markup.specs.Reference.{Reference, is_reference, number}
-use Rattle.markup.specs.Attribute.{Piece, is_piece, piece_text, Attribute, is_attribute, attribute_text}
+use Rattle.markup.specs.Attribute.{ValuePiece, is_piece, piece_text, Attribute, is_attribute, attribute_text}
 use Rattle.markup.specs.Declaration.{is_declaration, is_encoding, is_standalone}
 use Rattle.markup.specs.Token.{Token, Mark, Declaration, Comment, Instruction, Opener, Closer, TypeDeclaration, Start, End, Refer, LineEnd, Character, is_start_tag, is_comment, is_instruction, is_instruction_text, token_text}
 use Rattle.markup.specs.Words.{word_text}
@@ -126,7 +126,7 @@ pub record Tail (w : List ℕ) : Type 0 where
 
 -- the pieces of a value, its quote and the rest of the tag
 pub record InValue (quote : ℕ) (w : List ℕ) : Type 0 where
-  pub pieces : List Piece
+  pub pieces : List ValuePiece
   pub after : List ℕ
   pub are : list_all (is_piece quote) pieces ≡ true
   pub text : w ≡ flat_map piece_text pieces ++ quote ∷ after

@@ -16,7 +16,7 @@ use Rattle.markup.specs.OpenNames.{OpenName, KeepsNames}
 use Rattle.markup.specs.declared.bindings.Bindings.{Bindings}
 use Rattle.markup.specs.declared.scope.Scope.{Scope}
 use Rattle.markup.specs.declared.scope.Resolved.{Resolved}
-use Rattle.markup.specs.Events.{namespace_of, element_name, expanded, entries, started, start_items}
+use Rattle.markup.specs.Events.{namespace_of, element_name, expanded_in, entries, start_tag_items, start_items}
 use Rattle.markup.specs.Faults.{has_clash, is_bad_attribute, start_rule}
 use Rattle.markup.specs.EventItems.{entry_of, Tells}
 use Rattle.markup.specs.Bindings.{Binds}
@@ -58,8 +58,8 @@ resolved tags tag scope given parts kept prefix namespace expanded attrs count i
 
 -- ---- a start tag that breaks no rule
 
-named : (tags : List Opening) (tag : Opening) (r : Resolved) (scope : Scope) (ns : List ℕ) → IsResolved tags tag r scope → r.namespace ≡ Some ns → element_name (tag ∷ tags) tag.name ≡ expanded (Some ns) tag.name.local
-named tags tag r scope ns is bound = ap (λ o. expanded o tag.name.local) (sym is.namespace ∙ bound)
+named : (tags : List Opening) (tag : Opening) (r : Resolved) (scope : Scope) (ns : List ℕ) → IsResolved tags tag r scope → r.namespace ≡ Some ns → element_name (tag ∷ tags) tag.name ≡ expanded_in (Some ns) tag.name.local
+named tags tag r scope ns is bound = ap (λ o. expanded_in o tag.name.local) (sym is.namespace ∙ bound)
 
 keeps_rules : (over : Bool) (tags : List Opening) (tag : Opening) (r : Resolved) (scope : Scope) (ns : List ℕ)
     → IsResolved tags tag r scope → r.has_clash ≡ false → r.namespace ≡ Some ns → r.is_bad ≡ false → over ≡ false → start_rule over tags tag ≡ None
@@ -70,15 +70,15 @@ keeps_rules over tags tag r scope ns is no_clash bound fine inside =
     ∙ ap (λ b. if b then Some BadPrefix else (if over then Some AfterRoot else None)) prefixes ∙ ap (λ b. if b then Some AfterRoot else None) inside
 
 its_items : (tags : List Opening) (tag : Opening) (r : Resolved) (scope : Scope) (ns : List ℕ) (is_empty : Bool)
-    → IsResolved tags tag r scope → r.namespace ≡ Some ns → tag.is_empty ≡ is_empty → started (expanded (Some ns) tag.name.local) (map entry_of r.attrs) is_empty ≡ start_items tags tag
+    → IsResolved tags tag r scope → r.namespace ≡ Some ns → tag.is_empty ≡ is_empty → start_tag_items (expanded_in (Some ns) tag.name.local) (map entry_of r.attrs) is_empty ≡ start_items tags tag
 its_items tags tag r scope ns is_empty is bound so =
-    ap (λ n. started n (map entry_of r.attrs) is_empty) (sym (named tags tag r scope ns is bound)) ∙ ap (λ es. started (element_name (tag ∷ tags) tag.name) es is_empty) is.entries
-    ∙ ap (λ b. started (element_name (tag ∷ tags) tag.name) (entries (tag ∷ tags) tag.given) b) (sym so)
+    ap (λ n. start_tag_items n (map entry_of r.attrs) is_empty) (sym (named tags tag r scope ns is bound)) ∙ ap (λ es. start_tag_items (element_name (tag ∷ tags) tag.name) es is_empty) is.entries
+    ∙ ap (λ b. start_tag_items (element_name (tag ∷ tags) tag.name) (entries (tag ∷ tags) tag.given) b) (sym so)
 
 pub takes_open : (over : Bool) (tags : List Opening) (tag : Opening) (place : ℕ) (old new : List Event) (r : Resolved) (before after : Scope) (ns : List ℕ)
     → IsResolved tags tag r before → r.has_clash ≡ false → r.namespace ≡ Some ns → r.is_bad ≡ false → over ≡ false → tag.is_empty ≡ false
     → ((names : List OpenName) → KeepsNames before.names names → KeepsNames after.names ((record { name = tag.name; declared = r.declared }) ∷ names)) → after.bindings ≡ before.bindings
-    → Tells old new (placed_at place (started (expanded (Some ns) tag.name.local) (map entry_of r.attrs) false)) → TakesStart over tags tag place old new after
+    → Tells old new (placed_at place (start_tag_items (expanded_in (Some ns) tag.name.local) (map entry_of r.attrs) false)) → TakesStart over tags tag place old new after
 takes_open over tags tag place old new r before after ns is no_clash bound fine inside so names_are declared_are tells =
     let opened : IsScope after (tag ∷ tags) = record {
       names = subst (λ n. KeepsNames after.names ((record { name = tag.name; declared = n }) ∷ map open_name tags)) is.count (names_are (map open_name tags) is.names);
@@ -93,7 +93,7 @@ takes_open over tags tag place old new r before after ns is no_clash bound fine 
 pub takes_empty : (over : Bool) (tags : List Opening) (tag : Opening) (place : ℕ) (old new : List Event) (r : Resolved) (before after : Scope) (ns : List ℕ)
     → IsResolved tags tag r before → r.has_clash ≡ false → r.namespace ≡ Some ns → r.is_bad ≡ false → over ≡ false → tag.is_empty ≡ true
     → after.names ≡ before.names → ((declared : List Given) → Binds before.bindings declared → Binds after.bindings (drop r.declared declared))
-    → Tells old new (placed_at place (started (expanded (Some ns) tag.name.local) (map entry_of r.attrs) true)) → TakesStart over tags tag place old new after
+    → Tells old new (placed_at place (start_tag_items (expanded_in (Some ns) tag.name.local) (map entry_of r.attrs) true)) → TakesStart over tags tag place old new after
 takes_empty over tags tag place old new r before after ns is no_clash bound fine inside so names_are declared_are tells =
     let closed : IsScope after tags = record {
       names = subst (λ k. KeepsNames k (map open_name tags)) (sym names_are) is.names;

@@ -8,8 +8,8 @@ use Rattle.markup.specs.Token.{Token, LineEnd, Character, Cr, token_bytes}
 use Rattle.markup.specs.Marks.{in_cdata, shows_no_closer, stands}
 use Rattle.markup.specs.Faults.{NoToken, Next, cut}
 use Rattle.markup.specs.Drafts.{no_draft}
-use Rattle.markup.specs.ScanRuns.{At, run, position, placed}
-use Rattle.markup.specs.Tokenizers.{after_other, is_pending, IsAwaited, IsOpen, restarted, second_bracket, settled_at, settled, SettlesOne, SettlesTwo, Settles, SettlesBy, open_at, Finishes, FinishesBy}
+use Rattle.markup.specs.ScanRuns.{At, run, position, placed_by}
+use Rattle.markup.specs.Tokenizers.{after_other, is_pending, IsAwaited, IsTokenOpen, at_next_token, second_bracket, settled_at, settle_character, SettlesOne, SettlesTwo, Settles, SettlesBy, open_at, Finishes, FinishesBy}
 use Rattle.markup.specs.declared.draft.Draft.{Draft}
 use Rattle.markup.specs.declared.scan.Position.TheVariants.{Cdata}
 use Rattle.markup.specs.declared.scan.Scan.{Scan}
@@ -55,12 +55,12 @@ draft_same s t d e h = cc
 abbrev Fits : ℕ → Tokenizer → List Token → List ℕ → ℕ → Settled × Tokenizer → Type 0
 Fits limit z before bytes byte r = Settles limit z r.1 before bytes byte r.0 × IsAwaited r.1.scan byte
 
-module _ {limit : ℕ} (z : Tokenizer) (before : List Token) (bytes : List ℕ) (byte : ℕ) (o : IsOpen limit z before bytes) where
+module _ {limit : ℕ} (z : Tokenizer) (before : List Token) (bytes : List ℕ) (byte : ℕ) (o : IsTokenOpen limit z before bytes) where
   whole_bytes : (cs v : List ℕ) → o.part ≡ [] → o.chars ≡ cs → encode_utf8_all cs ≡ v → bytes ≡ v
   whole_bytes cs v p c e = o.bytes_are ∙ (ap (λ x. encode_utf8_all o.chars ++ x) p ∙ (append-nil (encode_utf8_all o.chars) ∙ (ap encode_utf8_all c ∙ e)))
 
   -- the next token is open behind one that opens and closes nothing
-  reopened : (ts : List Token) → o.part ≡ [] → z.draft ≡ no_draft → after_other z.position ≡ position ts → IsOpen limit (restarted z) ts []
+  reopened : (ts : List Token) → o.part ≡ [] → z.draft ≡ no_draft → after_other z.position ≡ position ts → IsTokenOpen limit (at_next_token z) ts []
   reopened ts p d q = record {
     chars = [];
     part = [];
@@ -78,16 +78,16 @@ module _ {limit : ℕ} (z : Tokenizer) (before : List Token) (bytes : List ℕ) 
     at_next : position ts ≡ after_other z.position → no_draft ≡ z.draft → At (Begin (position ts)) no_draft ≡ At (Begin (after_other z.position)) z.draft
     at_next e f = ap (λ p. At (Begin p) no_draft) e ∙ ap (At (Begin (after_other z.position))) f
 
-  same_cdata : (b c : Bool) → b ≡ c → placed false b ≡ placed false c
-  same_cdata b c e = ap (placed false) e
+  same_cdata : (b c : Bool) → b ≡ c → placed_by false b ≡ placed_by false c
+  same_cdata b c e = ap (placed_by false) e
 
-  place_behind : after_other z.position ≡ placed false (in_cdata before)
+  place_behind : after_other z.position ≡ placed_by false (in_cdata before)
   place_behind = ap after_other o.position_is ∙ sym (other_place before)
 
   waits : Waits (position before) o.chars z.scan
   waits = run_waits (position before) o.chars z.scan no_draft z.draft o.scan_is
 
-  settle_return : z.scan ≡ AfterReturn → (byte == 10) ≡ false → SettlesOne limit (restarted z) before bytes byte (LineEnd Cr)
+  settle_return : z.scan ≡ AfterReturn → (byte == 10) ≡ false → SettlesOne limit (at_next_token z) before bytes byte (LineEnd Cr)
   settle_return e n =
       let w : o.chars ≡ 13 ∷ [] = subst (Waits (position before) o.chars) e waits in
       let p = o.settled (ap is_pending e) in
@@ -101,7 +101,7 @@ module _ {limit : ℕ} (z : Tokenizer) (before : List Token) (bytes : List ℕ) 
   in_section : (position before ≡ Cdata) → in_cdata before ≡ true
   in_section e = at_cdata before e
 
-  settle_bracket : z.scan ≡ Bracket → (byte == 93) ≡ false → SettlesOne limit (restarted z) before bytes byte (Character 93)
+  settle_bracket : z.scan ≡ Bracket → (byte == 93) ≡ false → SettlesOne limit (at_next_token z) before bytes byte (Character 93)
   settle_bracket e n =
       let w : (o.chars ≡ 93 ∷ []) × (position before ≡ Cdata) = subst (Waits (position before) o.chars) e waits in
       let p = o.settled (ap is_pending e) in
@@ -115,7 +115,7 @@ module _ {limit : ℕ} (z : Tokenizer) (before : List Token) (bytes : List ℕ) 
   two_run : in_cdata before ≡ true → run (Begin (position before)) no_draft (93 ∷ 93 ∷ []) ≡ At Brackets no_draft
   two_run h = bracket_run before (93 ∷ []) h
 
-  settle_brackets : z.scan ≡ Brackets → (byte == 62) ≡ false → (byte == 93) ≡ false → SettlesTwo limit (restarted z) before bytes byte
+  settle_brackets : z.scan ≡ Brackets → (byte == 62) ≡ false → (byte == 93) ≡ false → SettlesTwo limit (at_next_token z) before bytes byte
   settle_brackets e n m =
       let w : (o.chars ≡ 93 ∷ 93 ∷ []) × (position before ≡ Cdata) = subst (Waits (position before) o.chars) e waits in
       let p = o.settled (ap is_pending e) in
@@ -142,7 +142,7 @@ module _ {limit : ℕ} (z : Tokenizer) (before : List Token) (bytes : List ℕ) 
           utf8_is = o.utf8_is ∙ ap (λ x. Some x) p;
           front = none_front;
           scan_is = bracket_run (Character 93 ∷ before) [] (in_section w.1) ∙ ap (At Bracket) (draft_same Brackets z.scan no_draft z.draft (sym (two_run (in_section w.1)) ∙ (ap (run (Begin (position before)) no_draft) (sym w.0) ∙ o.scan_is)));
-          position_is = o.position_is ∙ (w.1 ∙ ap (placed false) (sym (in_section w.1)));
+          position_is = o.position_is ∙ (w.1 ∙ ap (placed_by false) (sym (in_section w.1)));
           place_is = place_one z.place z.start bytes o.place_is b;
           limit_is = o.limit_is;
           limited = o.limited;
@@ -158,24 +158,24 @@ module _ {limit : ℕ} (z : Tokenizer) (before : List Token) (bytes : List ℕ) 
 
   settles : (s : Scan) → z.scan ≡ s → Fits limit z before bytes byte (settled_at s z byte)
   settles AfterReturn e = by (byte == 10) refl where
-    by : (b : Bool) → (byte == 10) ≡ b → Fits limit z before bytes byte (if b then (Nothing, z) else (Return, restarted z))
+    by : (b : Bool) → (byte == 10) ≡ b → Fits limit z before bytes byte (if b then (Nothing, z) else (Return, at_next_token z))
     by true h = (refl, subst (λ s. IsAwaited s byte) (sym e) (eqb-true byte 10 h))
     by false h = (settle_return e h, tt)
   settles Bracket e = by (byte == 93) refl where
-    by : (b : Bool) → (byte == 93) ≡ b → Fits limit z before bytes byte (if b then (Nothing, z) else (OneBracket, restarted z))
+    by : (b : Bool) → (byte == 93) ≡ b → Fits limit z before bytes byte (if b then (Nothing, z) else (OneBracket, at_next_token z))
     by true h = (refl, subst (λ s. IsAwaited s byte) (sym e) (eqb-true byte 93 h))
     by false h = (settle_bracket e h, tt)
   settles Brackets e = by (byte == 62) (byte == 93) refl refl where
-    by : (b c : Bool) → (byte == 62) ≡ b → (byte == 93) ≡ c → Fits limit z before bytes byte (if b then (Nothing, z) else (if c then (OneBracket, second_bracket z) else (TwoBrackets, restarted z)))
+    by : (b c : Bool) → (byte == 62) ≡ b → (byte == 93) ≡ c → Fits limit z before bytes byte (if b then (Nothing, z) else (if c then (OneBracket, second_bracket z) else (TwoBrackets, at_next_token z)))
     by true c h k = (refl, subst (λ s. IsAwaited s byte) (sym e) (eqb-true byte 62 h))
     by false true h k = (settle_first e k, eqb-true byte 93 k)
     by false false h k = (settle_brackets e h k, tt)
   settles s e = (refl, subst (λ u. IsAwaited u byte) (sym e) tt)
 
-pub settles_by : (old new : Tokenizer) (byte : ℕ) (result : Settled) → result ≡ (settled old byte).0 → new ≡ (settled old byte).1 → SettlesBy old new byte result
+pub settles_by : (old new : Tokenizer) (byte : ℕ) (result : Settled) → result ≡ (settle_character old byte).0 → new ≡ (settle_character old byte).1 → SettlesBy old new byte result
 settles_by old new byte result e f limit before bytes o =
     subst (λ r. Settles limit old new before bytes byte r × IsAwaited new.scan byte) (sym e)
-    (subst (λ y. Settles limit old y before bytes byte (settled old byte).0 × IsAwaited y.scan byte) (sym f) (settles old before bytes byte o old.scan refl))
+    (subst (λ y. Settles limit old y before bytes byte (settle_character old byte).0 × IsAwaited y.scan byte) (sym f) (settles old before bytes byte o old.scan refl))
 
 -- a CR at the end of the input
 pub end_stands : (before : List Token) → stands before (LineEnd Cr) [] ≡ true
@@ -191,7 +191,7 @@ cut_settled Bracket part n p = subst (λ v. shows_no_closer v ≡ false) (sym (p
 cut_settled Brackets part n p = subst (λ v. shows_no_closer (93 ∷ v) ≡ false) (sym (p refl)) refl
 cut_settled _ part n p = tt
 
-module _ {limit : ℕ} (z : Tokenizer) (before : List Token) (bytes : List ℕ) (o : IsOpen limit z before bytes) where
+module _ {limit : ℕ} (z : Tokenizer) (before : List Token) (bytes : List ℕ) (o : IsTokenOpen limit z before bytes) where
   cut_here : (z.scan ≡ AfterReturn → ⊥) → (bytes ≡ [] → ⊥) → Next limit before bytes Truncated (length bytes)
   cut_here n m = cut o.chars o.part o.bytes_are
       (subst (NoToken before) (sym o.bytes_are) (no_token before o.chars o.part z.scan z.draft o.scan_is (cut_settled z.scan o.part n o.settled) (λ c m after e g x. no_whole o.part after c o.front e)))
@@ -270,19 +270,19 @@ place_of r = r.1.place
 
 settled_at_place : (s : Scan) (z : Tokenizer) (byte : ℕ) → place_of (settled_at s z byte) ≡ z.place
 settled_at_place AfterReturn z byte = by (byte == 10) where
-  by : (b : Bool) → place_of (if b then (Nothing, z) else (Return, restarted z)) ≡ z.place
+  by : (b : Bool) → place_of (if b then (Nothing, z) else (Return, at_next_token z)) ≡ z.place
   by true = refl
   by false = refl
 settled_at_place Bracket z byte = by (byte == 93) where
-  by : (b : Bool) → place_of (if b then (Nothing, z) else (OneBracket, restarted z)) ≡ z.place
+  by : (b : Bool) → place_of (if b then (Nothing, z) else (OneBracket, at_next_token z)) ≡ z.place
   by true = refl
   by false = refl
 settled_at_place Brackets z byte = by (byte == 62) (byte == 93) where
-  by : (b c : Bool) → place_of (if b then (Nothing, z) else (if c then (OneBracket, second_bracket z) else (TwoBrackets, restarted z))) ≡ z.place
+  by : (b c : Bool) → place_of (if b then (Nothing, z) else (if c then (OneBracket, second_bracket z) else (TwoBrackets, at_next_token z))) ≡ z.place
   by true c = refl
   by false true = refl
   by false false = refl
 settled_at_place s z byte = refl
 
-pub settled_place : (old new : Tokenizer) (byte : ℕ) → new ≡ (settled old byte).1 → new.place ≡ old.place
+pub settled_place : (old new : Tokenizer) (byte : ℕ) → new ≡ (settle_character old byte).1 → new.place ≡ old.place
 settled_place old new byte e = ap (λ (z : Tokenizer). z.place) e ∙ settled_at_place old.scan old byte

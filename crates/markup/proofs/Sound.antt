@@ -9,7 +9,7 @@ use Rattle.markup.specs.Reference.{is_reference}
 use Rattle.markup.specs.Attribute.{attribute_text}
 use Rattle.markup.specs.Token.{Token, Mark, Declaration, Comment, Instruction, Opener, Closer, TypeDeclaration, Start, End, Refer, LineEnd, Character, Line, Lf, CrLf, StartTag, is_instruction, is_instruction_text, is_xml_word, token_text}
 use Rattle.markup.specs.Marks.{in_cdata, is_first, is_line_end, stands}
-use Rattle.markup.specs.Drafts.{noted}
+use Rattle.markup.specs.Drafts.{note_character}
 use Rattle.markup.specs.Scans.{step, begin_step, text_step, line_step, opened_step, bang_step, question_step}
 use Rattle.markup.specs.declared.draft.Draft.{Draft}
 use Rattle.markup.specs.declared.scan.Field.TheVariants.{Version}
@@ -31,7 +31,7 @@ use Rattle.markup.proofs.TagSound.{cons_same, behind_sound, gap_sound, before_eq
 use Rattle.markup.proofs.TextSound.{comment_text_sound, comment_hyphen_sound, fixed_sound, instruction_sound, mark_sound, target_sound, target_xml_sound, target_xm_sound, target_x_sound, declaration_gap_sound, field_before_sound, field_name_sound, field_after_sound, field_word_sound, field_value_sound}
 use Rattle.markup.proofs.DeclarationSound.{DeclarationMade, declaration_made, field_end_sound, field_gap_sound}
 use Rattle.markup.proofs.Residuals.{IsReference, NameThen, Spaced, Gapped, Tail, EndClose, CommentRest, TargetRest, FieldNamed, stands_less, LessToken, Rest, Then}
-use Rattle.markup.specs.ScanRuns.{Over, placed, position, run, turned}
+use Rattle.markup.specs.ScanRuns.{Over, placed_by, position, run, turn_run}
 
 -- a token from its whole text
 whole : (t : Token) (w : List ℕ) → token_text t ++ [] ≡ w → token_text t ≡ w
@@ -172,22 +172,22 @@ text_char p first c a x n1 n2 n3 n4 m = record { token = Character c; is = λ be
   stand before after o k = rw o (and_from _ _ (and_from _ _ (and_from _ _ (and_from _ _ (and_from _ _ x (not_from_false _ n1)) (not_from_false _ n2)) (not_from_false _ n3)) (not_from_false _ n4)) (not_from_false _ k))
 
 -- behind the places
-placed_is_text : (f g : Bool) → placed f g ≡ Text → (f ≡ false) × (g ≡ false)
+placed_is_text : (f g : Bool) → placed_by f g ≡ Text → (f ≡ false) × (g ≡ false)
 placed_is_text true g e = absurd (cc)
 placed_is_text false true e = absurd (cc)
 placed_is_text false false e = (refl, refl)
 
-placed_is_after : (f g : Bool) → placed f g ≡ AfterMark → f ≡ true
+placed_is_after : (f g : Bool) → placed_by f g ≡ AfterMark → f ≡ true
 placed_is_after true g e = refl
 placed_is_after false true e = absurd (cc)
 placed_is_after false false e = absurd (cc)
 
-placed_is_cdata : (f g : Bool) → placed f g ≡ Cdata → g ≡ true
+placed_is_cdata : (f g : Bool) → placed_by f g ≡ Cdata → g ≡ true
 placed_is_cdata true g e = absurd (cc)
 placed_is_cdata false true e = refl
 placed_is_cdata false false e = absurd (cc)
 
-placed_no_start : (f g : Bool) → placed f g ≡ AtStart → ⊥
+placed_no_start : (f g : Bool) → placed_by f g ≡ AtStart → ⊥
 placed_no_start true g e = cc
 placed_no_start false true e = cc
 placed_no_start false false e = cc
@@ -358,11 +358,11 @@ sound EndGap c w h = end_gap_sound Completed c w h
 -- what the scan reads to the end of the characters completes its token
 pub run_sound : (s : Scan) (d e : Draft) (k : Ended) (w : List ℕ) → run s d w ≡ Over k e [] → Rest Completed s w
 run_sound s d e k [] h = absurd (cc)
-run_sound s d e k (c ∷ w) h = by (λ t f. run_sound t (noted s t c d) e k w f) (step s c) refl h where
+run_sound s d e k (c ∷ w) h = by (λ t f. run_sound t (note_character s t c d) e k w f) (step s c) refl h where
   over_same : (a b : Ended) (d e : Draft) (v : List ℕ) → Over a d v ≡ Over b e [] → v ≡ []
   over_same a b d e v h = cc
 
-  by : ((t : Scan) → run t (noted s t c d) w ≡ Over k e [] → Rest Completed t w) → (t : Turn) → step s c ≡ t → turned (λ u. run u (noted s u c d) w) d w t ≡ Over k e [] → Rest Completed s (c ∷ w)
+  by : ((t : Scan) → run t (note_character s t c d) w ≡ Over k e [] → Rest Completed t w) → (t : Turn) → step s c ≡ t → turn_run (λ u. run u (note_character s u c d) w) d w t ≡ Over k e [] → Rest Completed s (c ∷ w)
   by f (Goes t) g h = sound s c w (subst (Then Completed w) (sym g) (f t h))
   by f (Whole a) g h = sound s c w (subst (Then Completed w) (sym g) (over_same a k d e w h))
   by f Stuck g h = absurd (cc)

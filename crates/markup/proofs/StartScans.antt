@@ -19,8 +19,8 @@ use Rattle.markup.specs.Name.{is_name, name_text}
 use Rattle.markup.specs.Attribute.{Attribute, Literal, is_attribute, is_piece, piece_text, value_chars, begins_lf, attribute_text}
 use Rattle.markup.specs.Token.{StartTag, Start, token_bytes}
 use Rattle.markup.specs.Marks.{tag_limit}
-use Rattle.markup.specs.Events.{given as given_by}
-use Rattle.markup.specs.PlainTags.{begins_plain, continues_plain, is_plain_name, mark_count, closing, slashed}
+use Rattle.markup.specs.Events.{given_attribute as given_by}
+use Rattle.markup.specs.PlainTags.{begins_plain, continues_plain, is_plain_name, mark_count, closing, slash_kind}
 use Rattle.markup.specs.PlainStarts.{is_plain_qualified, qualified_text, is_quote, is_literal_of}
 use Rattle.markup.specs.inner.WholeStarts.{is_empty_kind, IsNameAt, IsValueAt, IsAttributeAt, AreGiven, IsStartAt}
 use Rattle.markup.specs.declared.plain_tag.TagKind.{TagKind}
@@ -190,7 +190,7 @@ ending_encoded EndKind = encoded_cons 62 [] [] (omega arith) refl
 closed_by : (after : List ℕ) (kind : TagKind) → closing after ≡ Some kind → (rest : List ℕ) × (after ≡ ending kind ++ rest) × (mark_count kind ≡ 1 + length (ending kind))
 closed_by [] kind h = absurd (cc)
 closed_by (b ∷ after) kind h = by (b == 62) (b == 47) refl refl h where
-  by : (t u : Bool) → (b == 62) ≡ t → (b == 47) ≡ u → (if t then Some StartKind else (if u then slashed after else None)) ≡ Some kind → (rest : List ℕ) × (b ∷ after ≡ ending kind ++ rest) × (mark_count kind ≡ 1 + length (ending kind))
+  by : (t u : Bool) → (b == 62) ≡ t → (b == 47) ≡ u → (if t then Some StartKind else (if u then slash_kind after else None)) ≡ Some kind → (rest : List ℕ) × (b ∷ after ≡ ending kind ++ rest) × (mark_count kind ≡ 1 + length (ending kind))
   by true u e f h = subst (λ k. (rest : List ℕ) × (b ∷ after ≡ ending k ++ rest) × (mark_count k ≡ 1 + length (ending k))) (kind_same StartKind kind h) (after, ap (λ x. x ∷ after) (eqb-true b 62 e), refl)
   by false true e f h = let s = slashed_is after kind h in
       subst (λ k. (rest : List ℕ) × (b ∷ after ≡ ending k ++ rest) × (mark_count k ≡ 1 + length (ending k))) (sym s.1) (s.0, ap (λ x. x ∷ after) (eqb-true b 47 f) ∙ ap (λ w. 47 ∷ w) s.2, refl)

@@ -14,7 +14,7 @@ use Rattle.markup.specs.Faults.{rule_of, MarkFaultUnder, broken}
 use Rattle.markup.specs.Scopes.{placed_at}
 use Rattle.markup.specs.Contexts.{TakesToken}
 use Rattle.markup.specs.Reading.{HasTakenUnder, HasToldUnder, GoesOnUnder, RefusesUnder, RunsOutUnder}
-use Rattle.markup.specs.Tokenizers.{is_between, is_in_text, passed}
+use Rattle.markup.specs.Tokenizers.{is_between, is_in_text, after_whole_tokens}
 use Rattle.markup.specs.inner.WholeStarts.{IsStartAt}
 use Rattle.markup.specs.declared.context.Context.{Context}
 use Rattle.markup.specs.declared.event.Event.{Event}
@@ -98,9 +98,9 @@ module _ {limit : ℕ} (r : Reader) (bytes piece : List ℕ) (told : List Placed
     so_far = all_told r bytes told h between (and_parts _ _ text).1
 
     -- the tag breaks no rule
-    pub goes_behind : (c : Context) → TakesToken before token r.tokenizer.start old new c → GoesOnUnder limit (record { tokenizer = passed r.tokenizer count; context = c; failed = r.failed }) (bytes ++ take count piece) told old new
+    pub goes_behind : (c : Context) → TakesToken before token r.tokenizer.start old new c → GoesOnUnder limit (record { tokenizer = after_whole_tokens r.tokenizer count; context = c; failed = r.failed }) (bytes ++ take count piece) told old new
     goes_behind c t =
-        let after : Reader = record { tokenizer = passed r.tokenizer count; context = c; failed = r.failed } in
+        let after : Reader = record { tokenizer = after_whole_tokens r.tokenizer count; context = c; failed = r.failed } in
         let more : List Placed = placed_at (length bytes) (items_of before token) in
         let k : HasToldUnder limit after (bytes ++ token_bytes token) (told ++ more) =
         told_so_far after (bytes ++ token_bytes token) (told ++ more) (takes_next r bytes told h between (and_parts _ _ text).1 token count c (next t.clean) size t.context_is) in

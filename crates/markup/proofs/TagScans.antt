@@ -7,7 +7,7 @@ use Rattle.std.proofs.lemmas.Bool.{and_parts, eqb-true}
 use Rattle.std.proofs.lemmas.List.{take-append-drop}
 use Rattle.std.proofs.Math.Seq.{take-append_seam, drop-append_seam}
 use Rattle.markup.specs.Marks.{tag_limit}
-use Rattle.markup.specs.PlainTags.{begins_plain, continues_plain, is_plain_name, tag_text, mark_count, may_be_named, IsTagAt, closing, slashed}
+use Rattle.markup.specs.PlainTags.{begins_plain, continues_plain, is_plain_name, tag_text, mark_count, may_be_named, IsTagAt, closing, slash_kind}
 use Rattle.markup.specs.declared.plain_tag.PlainTag.{PlainTag}
 use Rattle.std.specs.Option.{IfSome}
 use Rattle.markup.specs.declared.plain_tag.TagKind.{TagKind}
@@ -84,7 +84,7 @@ name_found b behind xs name n e h c t = subst (λ v. is_plain_name v ≡ true) (
 pub kind_same : (k l : TagKind) → Some k ≡ Some l → k ≡ l
 kind_same k l h = cc
 
-pub slashed_is : (after : List ℕ) (kind : TagKind) → slashed after ≡ Some kind → (rest : List ℕ) × (kind ≡ Empty) × (after ≡ 62 ∷ rest)
+pub slashed_is : (after : List ℕ) (kind : TagKind) → slash_kind after ≡ Some kind → (rest : List ℕ) × (kind ≡ Empty) × (after ≡ 62 ∷ rest)
 slashed_is [] kind h = absurd (cc)
 slashed_is (b ∷ rest) kind h = by (b == 62) refl h where
   by : (t : Bool) → (b == 62) ≡ t → (if t then Some Empty else None) ≡ Some kind → (r : List ℕ) × (kind ≡ Empty) × (b ∷ rest ≡ 62 ∷ r)
@@ -94,7 +94,7 @@ slashed_is (b ∷ rest) kind h = by (b == 62) refl h where
 pub closing_is : (name after : List ℕ) (kind : TagKind) → closing after ≡ Some kind → (rest : List ℕ) × (60 ∷ (name ++ after) ≡ tag_text kind name ++ rest) × ((opened : List ℕ) → is_plain_name name ≡ true → may_be_named kind opened name)
 closing_is name [] kind h = absurd (cc)
 closing_is name (b ∷ after) kind h = by (b == 62) (b == 47) refl refl h where
-  by : (t u : Bool) → (b == 62) ≡ t → (b == 47) ≡ u → (if t then Some Start else (if u then slashed after else None)) ≡ Some kind
+  by : (t u : Bool) → (b == 62) ≡ t → (b == 47) ≡ u → (if t then Some Start else (if u then slash_kind after else None)) ≡ Some kind
       → (rest : List ℕ) × (60 ∷ (name ++ b ∷ after) ≡ tag_text kind name ++ rest) × ((opened : List ℕ) → is_plain_name name ≡ true → may_be_named kind opened name)
   by true u e f h = (
     after,
@@ -112,7 +112,7 @@ closing_is name (b ∷ after) kind h = by (b == 62) (b == 47) refl refl h where
 ends_name : (after : List ℕ) (kind : TagKind) → closing after ≡ Some kind → prefix_len continues_plain after ≡ 0
 ends_name [] kind h = refl
 ends_name (b ∷ after) kind h = by (b == 62) (b == 47) refl refl h where
-  by : (t u : Bool) → (b == 62) ≡ t → (b == 47) ≡ u → (if t then Some Start else (if u then slashed after else None)) ≡ Some kind → prefix_len continues_plain (b ∷ after) ≡ 0
+  by : (t u : Bool) → (b == 62) ≡ t → (b == 47) ≡ u → (if t then Some Start else (if u then slash_kind after else None)) ≡ Some kind → prefix_len continues_plain (b ∷ after) ≡ 0
   by true u e f h = ap (λ x. prefix_len continues_plain (x ∷ after)) (eqb-true b 62 e)
   by false true e f h = ap (λ x. prefix_len continues_plain (x ∷ after)) (eqb-true b 47 f)
   by false false e f h = absurd (cc)

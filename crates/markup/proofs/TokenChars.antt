@@ -7,7 +7,7 @@ use Rattle.std.proofs.lemmas.Bool.Decides.{nat_tests}
 use Rattle.markup.specs.Chars.{is_xml_char, is_name_start, is_name_char, is_space}
 use Rattle.markup.specs.Name.{Name, Plain, Prefixed, is_name, name_text}
 use Rattle.markup.specs.Reference.{Ampersand, Less, Greater, Apostrophe, Quote, Reference, Named, Numbered, is_reference, reference_text}
-use Rattle.markup.specs.Attribute.{Piece, Literal, Refers, is_piece, piece_text, Attribute, is_attribute, attribute_text}
+use Rattle.markup.specs.Attribute.{ValuePiece, Literal, Refers, is_piece, piece_text, Attribute, is_attribute, attribute_text}
 use Rattle.markup.specs.Token.{Token, Mark, Declaration, Comment, Instruction, Opener, Closer, TypeDeclaration, Start, End, Refer, LineEnd, Character, Lf, Cr, CrLf, is_comment, is_instruction_text, token_text}
 use Rattle.markup.specs.Marks.{in_cdata, stands, stands_in_cdata, stands_outside}
 use Rattle.markup.proofs.CharLemmas.{space_xml}
@@ -90,7 +90,7 @@ reference_all (Numbered radix digits) h =
     (all_weaker (λ d. is_digit d radix) digits (λ c e. digit_xml radix c k.radix_is e) k.are))
     words.numbers.2
 
-pieces_all : (q : ℕ) (ps : List Piece) → list_all (is_piece q) ps ≡ true → all_xml (flat_map piece_text ps) ≡ true
+pieces_all : (q : ℕ) (ps : List ValuePiece) → list_all (is_piece q) ps ≡ true → all_xml (flat_map piece_text ps) ≡ true
 pieces_all q [] h = refl
 pieces_all q (Literal c ∷ ps) h = and_from _ _ (literal_facts q c (and_parts _ _ h).0).xml (pieces_all q ps (and_parts _ _ h).1)
 pieces_all q (Refers r ∷ ps) h = all_append (reference_text r) (flat_map piece_text ps) (reference_all r (and_parts _ _ h).0) (pieces_all q ps (and_parts _ _ h).1)

@@ -4,8 +4,8 @@ use Rattle.markup.specs.Token.{Token, Mark, Declaration, Comment, Instruction, O
 use Rattle.markup.specs.Marks.{in_cdata, is_first}
 use Rattle.markup.specs.Events.{open_tags, items_of}
 use Rattle.markup.specs.Faults.{has_start, is_over, behind_brackets, rule_of}
-use Rattle.markup.specs.ScanRuns.{position, placed, ended_of, draft_of}
-use Rattle.markup.specs.Tokenizers.{IsOpen}
+use Rattle.markup.specs.ScanRuns.{position, placed_by, ended_of, draft_of}
+use Rattle.markup.specs.Tokenizers.{IsTokenOpen}
 use Rattle.markup.specs.TokenRules.{rule_by, items_by, tags_by, started_by, brackets, brackets_by, is_cdata}
 use Rattle.markup.specs.declared.draft.Draft.{Draft}
 use Rattle.markup.specs.declared.scan.Ended.{Ended}
@@ -86,12 +86,12 @@ brackets_are before (Character c) = refl
 pub in_cdata-position : (before : List Token) → in_cdata before ≡ is_cdata (position before)
 in_cdata-position [] = refl
 in_cdata-position (t ∷ before) = by (is_first (t ∷ before)) (in_cdata (t ∷ before)) (first_outside (t ∷ before)) where
-  by : (f g : Bool) → (f ≡ true → g ≡ false) → g ≡ is_cdata (placed f g)
+  by : (f g : Bool) → (f ≡ true → g ≡ false) → g ≡ is_cdata (placed_by f g)
   by true g h = h refl
   by false true h = refl
   by false false h = refl
 
-pub in_cdata-open : {limit : ℕ} (z : Tokenizer) (before : List Token) (bytes : List ℕ) → IsOpen limit z before bytes → in_cdata before ≡ is_cdata z.position
+pub in_cdata-open : {limit : ℕ} (z : Tokenizer) (before : List Token) (bytes : List ℕ) → IsTokenOpen limit z before bytes → in_cdata before ≡ is_cdata z.position
 in_cdata-open z before bytes o = in_cdata-position before ∙ ap is_cdata (sym o.position_is)
 
 -- a token of which the scan says this

@@ -16,11 +16,11 @@ use Rattle.markup.specs.Name.{name_text}
 use Rattle.markup.specs.Attribute.{attribute_text}
 use Rattle.markup.specs.Token.{Token, Mark, Declaration, Comment, Instruction, Opener, Closer, TypeDeclaration, Start, End, Refer, LineEnd, Character, token_text, token_bytes}
 use Rattle.markup.specs.Marks.{in_cdata, is_first, stands, is_short, IsLimit}
-use Rattle.markup.specs.Faults.{GoesOn, NoToken, IsTagBegun, no_char, bad_char, stuck, Next, halts, too_long}
-use Rattle.markup.specs.Drafts.{no_draft, noted}
+use Rattle.markup.specs.Faults.{TokenGoesOn, NoToken, IsTagBegun, no_char, bad_char, stuck, Next, halts, too_long}
+use Rattle.markup.specs.Drafts.{no_draft, note_character}
 use Rattle.markup.specs.Scans.{step}
-use Rattle.markup.specs.ScanRuns.{At, turned, run, placed, position, ended_of, ReadToken}
-use Rattle.markup.specs.Tokenizers.{Outcome, More, Refused, outcome, after_other, behind, is_tag, is_reference, stuck_rule, bounded, ended, scanned, on_turn, charactered, counted, on_utf8, AdvancedBy, is_pending, IsAwaited, IsOpen, EndsToken, Advances, AdvancesBy}
+use Rattle.markup.specs.ScanRuns.{At, turn_run, run, placed_by, position, ended_of, ReadToken}
+use Rattle.markup.specs.Tokenizers.{Outcome, More, Refused, outcome, after_other, behind_token, is_tag, is_reference_open, stuck_rule, bound_outcome, token_ended, with_scan, on_turn, after_character, byte_counted, on_utf8, AdvancedBy, is_pending, IsAwaited, IsTokenOpen, EndsToken, Advances, AdvancesBy}
 use Rattle.markup.specs.declared.scan.Scan.{Scan}
 use Rattle.markup.specs.declared.scan.Scan.TheVariants.{Begin, AfterReturn, Bracket, Brackets, Value, ValueReference}
 use Rattle.markup.specs.declared.scan.Ended.{Ended}
@@ -69,17 +69,17 @@ tag_not_pending Brackets h = absurd (both_ways false refl h)
 tag_not_pending _ h = refl
 
 -- behind a token that opens and closes nothing
-pub other_place : (before : List Token) → placed false (in_cdata before) ≡ after_other (position before)
+pub other_place : (before : List Token) → placed_by false (in_cdata before) ≡ after_other (position before)
 other_place [] = refl
 other_place (t ∷ before) = by (is_first (t ∷ before)) (in_cdata (t ∷ before)) (first_outside (t ∷ before)) where
-  by : (f g : Bool) → (f ≡ true → g ≡ false) → placed false g ≡ after_other (placed f g)
+  by : (f g : Bool) → (f ≡ true → g ≡ false) → placed_by false g ≡ after_other (placed_by f g)
   by true true h = absurd (both_ways true (h refl) refl)
   by true false h = refl
   by false true h = refl
   by false false h = refl
 
 -- where the next token begins
-pub position_behind : (before : List Token) (t : Token) (after : List ℕ) → stands before t after ≡ true → position (t ∷ before) ≡ behind (position before) (ended_of t)
+pub position_behind : (before : List Token) (t : Token) (after : List ℕ) → stands before t after ≡ true → position (t ∷ before) ≡ behind_token (position before) (ended_of t)
 position_behind [] Mark after h = refl
 position_behind (b ∷ before) Mark after h = absurd (omega (arith, eqb-true (length (b ∷ before)) 0 h))
 position_behind before Opener after h = refl
@@ -125,7 +125,7 @@ ended_short before (End n g) chars c h e f =
 ended_short before _ chars c h e f = refl
 
 -- the token that is open behind a byte that does not end it, or a tag that is too long
-open_bounded : {limit : ℕ} (y : Tokenizer) (before : List Token) (bytes chars part : List ℕ) → bytes ≡ encode_utf8_all chars ++ part → y.utf8 ≡ Some part → IsFront part → run (Begin (position before)) no_draft chars ≡ At y.scan y.draft → y.position ≡ position before → y.place ≡ y.start + length bytes → (IsTagBegun chars → length bytes ≤ limit) → (is_pending y.scan ≡ true → part ≡ []) → y.limit ≡ limit → IsLimit limit → Advances limit y before bytes (bounded y)
+open_bounded : {limit : ℕ} (y : Tokenizer) (before : List Token) (bytes chars part : List ℕ) → bytes ≡ encode_utf8_all chars ++ part → y.utf8 ≡ Some part → IsFront part → run (Begin (position before)) no_draft chars ≡ At y.scan y.draft → y.position ≡ position before → y.place ≡ y.start + length bytes → (IsTagBegun chars → length bytes ≤ limit) → (is_pending y.scan ≡ true → part ≡ []) → y.limit ≡ limit → IsLimit limit → Advances limit y before bytes (bound_outcome y)
 open_bounded {limit} y before bytes chars part e u f r p l t q m i =
     subst (λ (n : ℕ). Advances limit y before bytes (if is_tag y.scan && nat_le n (y.place - y.start) then Refused BadMarkup else More)) (sym m) (by (is_tag y.scan) (nat_le limit (y.place - y.start)) refl refl) where
       here : Placed chars y.scan
@@ -142,7 +142,7 @@ open_bounded {limit} y before bytes chars part e u f r p l t q m i =
           (λ v after h k. none_within before v chars [] after y.scan y.draft r (not_pending y.scan after (tag_not_pending y.scan a)) (sym k ∙ sym (append-nil (token_text v))) h)
           (here.tag (here.same a)) f (ap length (sym e) ∙ far y.place y.start (length bytes) limit l (leb-true _ _ b) (t (here.tag (here.same a)))) refl refl
 
-      opened : (IsTagBegun chars → length bytes < limit) → IsOpen limit y before bytes
+      opened : (IsTagBegun chars → length bytes < limit) → IsTokenOpen limit y before bytes
       opened s = record { chars = chars; part = part; bytes_are = e; utf8_is = u; front = f; scan_is = r; position_is = p; place_is = l; limit_is = m; limited = i; short = s; settled = q }
 
       tag_here : IsTagBegun chars → is_tag y.scan ≡ true
@@ -157,7 +157,7 @@ open_bounded {limit} y before bytes chars part e u f r p l t q m i =
       by false b a _ = opened (λ k. absurd (both_ways _ a (tag_here k)))
 
 -- a limit is not nothing
-pub some_limit : {limit : ℕ} (z : Tokenizer) (before : List Token) (bytes : List ℕ) → IsOpen limit z before bytes → 0 < limit
+pub some_limit : {limit : ℕ} (z : Tokenizer) (before : List Token) (bytes : List ℕ) → IsTokenOpen limit z before bytes → 0 < limit
 some_limit z before bytes o = omega (arith, o.limited.0)
 
 -- the scans that wait for a byte take it
@@ -187,11 +187,11 @@ one_char (c ∷ d ∷ chars) h = absurd (omega arith)
 part_short : (part : List ℕ) → IsFront part → length part ≤ 4
 part_short part f = omega (arith, ap length f.spelled, length-append part f.rest, length-encode f.char, len_utf8_bounds f.char)
 
-module _ {limit : ℕ} (z : Tokenizer) (before : List Token) (bytes : List ℕ) (byte : ℕ) (o : IsOpen limit z before bytes) (w : IsAwaited z.scan byte) where
+module _ {limit : ℕ} (z : Tokenizer) (before : List Token) (bytes : List ℕ) (byte : ℕ) (o : IsTokenOpen limit z before bytes) (w : IsAwaited z.scan byte) where
   here : Placed o.chars z.scan
   here = run_placed (position before) o.chars z.scan no_draft z.draft o.scan_is
 
-  goes : GoesOn before o.chars
+  goes : TokenGoesOn before o.chars
   goes = goes_on before o.chars z.scan z.draft o.scan_is
 
   -- the bytes with one more
@@ -251,8 +251,8 @@ module _ {limit : ℕ} (z : Tokenizer) (before : List Token) (bytes : List ℕ) 
     pending_char : is_pending z.scan ≡ true → c ≡ byte
     pending_char h = (encode_same c byte [] [] (ap (λ v. v ++ []) (spelled ∙ (awaited_char h).0))).0
 
-    run_more : (t : Turn) → step z.scan c ≡ t → run (Begin (position before)) no_draft (o.chars ++ c ∷ []) ≡ turned (λ u. run u (noted z.scan u c z.draft) []) z.draft [] t
-    run_more t e = run_on (Begin (position before)) z.scan no_draft z.draft o.chars (c ∷ []) o.scan_is ∙ ap (turned (λ u. run u (noted z.scan u c z.draft) []) z.draft []) e
+    run_more : (t : Turn) → step z.scan c ≡ t → run (Begin (position before)) no_draft (o.chars ++ c ∷ []) ≡ turn_run (λ u. run u (note_character z.scan u c z.draft) []) z.draft [] t
+    run_more t e = run_on (Begin (position before)) z.scan no_draft z.draft o.chars (c ∷ []) o.scan_is ∙ ap (turn_run (λ u. run u (note_character z.scan u c z.draft) []) z.draft []) e
 
     char_bytes : bytes ++ byte ∷ [] ≡ encode_utf8_all (o.chars ++ c ∷ [])
     char_bytes = ap (λ v. v ++ byte ∷ []) o.bytes_are ∙ (append_assoc (encode_utf8_all o.chars) o.part (byte ∷ []) ∙ (ap (λ v. encode_utf8_all o.chars ++ v) (sym spelled ∙ sym (append-nil (encode_utf8 c))) ∙ sym (encodes-append o.chars (c ∷ []))))
@@ -266,23 +266,23 @@ module _ {limit : ℕ} (z : Tokenizer) (before : List Token) (bytes : List ℕ) 
       same : (x : ℕ) (after : List ℕ) → o.part ++ byte ∷ more ≡ encode_utf8 x ++ after → x ≡ c
       same x after k = (encode_same x c after more (sym k ∙ tail_is more)).0
 
-      no_more_here : GoesOn before (o.chars ++ c ∷ []) → ⊥
+      no_more_here : TokenGoesOn before (o.chars ++ c ∷ []) → ⊥
       no_more_here = no_more before (o.chars ++ c ∷ []) (run_more Stuck e)
 
-      none : ((x : ℕ) (m after : List ℕ) → o.part ++ byte ∷ more ≡ encode_utf8 x ++ after → GoesOn before (o.chars ++ x ∷ []) → list_all is_xml_char (o.chars ++ x ∷ m) ≡ true → ⊥) → NoToken before ((bytes ++ byte ∷ []) ++ more)
+      none : ((x : ℕ) (m after : List ℕ) → o.part ++ byte ∷ more ≡ encode_utf8 x ++ after → TokenGoesOn before (o.chars ++ x ∷ []) → list_all is_xml_char (o.chars ++ x ∷ m) ≡ true → ⊥) → NoToken before ((bytes ++ byte ∷ []) ++ more)
       none f = subst (NoToken before) (sym (more_bytes more)) (no_token before o.chars (o.part ++ byte ∷ more) z.scan z.draft o.scan_is settled f)
 
-      by : (b : Bool) → is_xml_char c ≡ b → Next limit before ((bytes ++ byte ∷ []) ++ more) (if not b then BadChar else (if is_reference z.scan then BadReference else BadMarkup)) 0
+      by : (b : Bool) → is_xml_char c ≡ b → Next limit before ((bytes ++ byte ∷ []) ++ more) (if not b then BadChar else (if is_reference_open z.scan then BadReference else BadMarkup)) 0
       by false k = halts o.chars (o.part ++ byte ∷ more) (length (encode_utf8 c)) (more_bytes more)
           (none (λ x m after q g a. both_ways (is_xml_char c) k (subst (λ v. is_xml_char v ≡ true) (same x after q) (xml_next x m a))))
           goes (bad_char c more (tail_is more) scalar k refl refl) (within (length (encode_utf8 c)) shown_is) refl
       by true k = halts o.chars (o.part ++ byte ∷ more) (length (encode_utf8 c)) (more_bytes more)
-          (none (λ x m after q g a. no_more_here (subst (λ v. GoesOn before (o.chars ++ v ∷ [])) (same x after q) g)))
+          (none (λ x m after q g a. no_more_here (subst (λ v. TokenGoesOn before (o.chars ++ v ∷ [])) (same x after q) g)))
           goes (stuck c more (tail_is more) k no_more_here (ap (λ (b : Bool). if b then BadReference else BadMarkup) (sym here.reference)) refl) (within (length (encode_utf8 c)) shown_is) refl
 
     -- the token goes on
-    goes_here : (s : Scan) → step z.scan c ≡ Goes s → Advances limit (scanned (counted z (Some [])) s (noted z.scan s c z.draft)) before (bytes ++ byte ∷ []) (bounded (scanned (counted z (Some [])) s (noted z.scan s c z.draft)))
-    goes_here s e = open_bounded (scanned (counted z (Some [])) s (noted z.scan s c z.draft)) before (bytes ++ byte ∷ []) (o.chars ++ c ∷ []) [] (char_bytes ∙ sym (append-nil (encode_utf8_all (o.chars ++ c ∷ [])))) refl none_front (run_more (Goes s) e) o.position_is (place_more z.place z.start bytes byte o.place_is) (λ t. limited (tag_or_short o.chars c t)) (λ _. refl) o.limit_is o.limited where
+    goes_here : (s : Scan) → step z.scan c ≡ Goes s → Advances limit (with_scan (byte_counted z (Some [])) s (note_character z.scan s c z.draft)) before (bytes ++ byte ∷ []) (bound_outcome (with_scan (byte_counted z (Some [])) s (note_character z.scan s c z.draft)))
+    goes_here s e = open_bounded (with_scan (byte_counted z (Some [])) s (note_character z.scan s c z.draft)) before (bytes ++ byte ∷ []) (o.chars ++ c ∷ []) [] (char_bytes ∙ sym (append-nil (encode_utf8_all (o.chars ++ c ∷ [])))) refl none_front (run_more (Goes s) e) o.position_is (place_more z.place z.start bytes byte o.place_is) (λ t. limited (tag_or_short o.chars c t)) (λ _. refl) o.limit_is o.limited where
       place_more : (p q : ℕ) (v : List ℕ) (x : ℕ) → p ≡ q + length v → p + 1 ≡ q + length (v ++ x ∷ [])
       place_more p q v x h = omega (arith, length-append v (x ∷ []))
 
@@ -293,12 +293,12 @@ module _ {limit : ℕ} (z : Tokenizer) (before : List Token) (bytes : List ℕ) 
       limited (inr l) = omega (arith, length-append bytes (byte ∷ []), ap length o.bytes_are, length-append (encode_utf8_all o.chars) o.part, one_char o.chars l, part_short o.part o.front, o.limited.0)
 
     -- the token has ended
-    whole_here : (e : Ended) → step z.scan c ≡ Whole e → EndsToken limit (ended (counted z (Some [])) e).1 before (bytes ++ byte ∷ []) e z.draft
+    whole_here : (e : Ended) → step z.scan c ≡ Whole e → EndsToken limit (token_ended (byte_counted z (Some [])) e).1 before (bytes ++ byte ∷ []) e z.draft
     whole_here e k = by (found before (o.chars ++ c ∷ []) e z.draft (run_more (Whole e) k)) where
       count : (n m limit : ℕ) → m ≡ n + 1 → n < limit → m ≤ limit
       count n m limit h l = omega arith
 
-      by : ReadToken before (o.chars ++ c ∷ []) e z.draft → EndsToken limit (ended (counted z (Some [])) e).1 before (bytes ++ byte ∷ []) e z.draft
+      by : ReadToken before (o.chars ++ c ∷ []) e z.draft → EndsToken limit (token_ended (byte_counted z (Some [])) e).1 before (bytes ++ byte ∷ []) e z.draft
       by r = record {
         token = r.token;
         is = r.is;
@@ -321,19 +321,19 @@ module _ {limit : ℕ} (z : Tokenizer) (before : List Token) (bytes : List ℕ) 
           settled = λ _. refl;
         };
       } where
-        place_next : position (r.token ∷ before) ≡ behind z.position e
-        place_next = position_behind before r.token [] (r.is []) ∙ (ap (λ p. behind p (ended_of r.token)) (sym o.position_is) ∙ ap (behind z.position) r.ended_is)
+        place_next : position (r.token ∷ before) ≡ behind_token z.position e
+        place_next = position_behind before r.token [] (r.is []) ∙ (ap (λ p. behind_token p (ended_of r.token)) (sym o.position_is) ∙ ap (behind_token z.position) r.ended_is)
 
-    char_here : Advances limit (charactered (counted z (Some [])) c).1 before (bytes ++ byte ∷ []) (charactered (counted z (Some [])) c).0
+    char_here : Advances limit (after_character (byte_counted z (Some [])) c).1 before (bytes ++ byte ∷ []) (after_character (byte_counted z (Some [])) c).0
     char_here = by (step z.scan c) refl where
-      by : (t : Turn) → step z.scan c ≡ t → Advances limit (on_turn (counted z (Some [])) c t).1 before (bytes ++ byte ∷ []) (on_turn (counted z (Some [])) c t).0
+      by : (t : Turn) → step z.scan c ≡ t → Advances limit (on_turn (byte_counted z (Some [])) c t).1 before (bytes ++ byte ∷ []) (on_turn (byte_counted z (Some [])) c t).0
       by (Goes s) e = goes_here s e
       by (Whole e) k = whole_here e k
       by Stuck e = stuck_here e
 
   -- a byte that does not end its character
-  more_here : IsFront (o.part ++ byte ∷ []) → Advances limit (counted z (Some (o.part ++ byte ∷ []))) before (bytes ++ byte ∷ []) (bounded (counted z (Some (o.part ++ byte ∷ []))))
-  more_here f = open_bounded (counted z (Some (o.part ++ byte ∷ []))) before (bytes ++ byte ∷ []) o.chars (o.part ++ byte ∷ [])
+  more_here : IsFront (o.part ++ byte ∷ []) → Advances limit (byte_counted z (Some (o.part ++ byte ∷ []))) before (bytes ++ byte ∷ []) (bound_outcome (byte_counted z (Some (o.part ++ byte ∷ []))))
+  more_here f = open_bounded (byte_counted z (Some (o.part ++ byte ∷ []))) before (bytes ++ byte ∷ []) o.chars (o.part ++ byte ∷ [])
       (ap (λ v. v ++ byte ∷ []) o.bytes_are ∙ append_assoc (encode_utf8_all o.chars) o.part (byte ∷ [])) refl f o.scan_is o.position_is
       (place_more z.place z.start bytes byte o.place_is)
       (λ t. count (length bytes) (length (bytes ++ byte ∷ [])) limit (length-append bytes (byte ∷ [])) (o.short t))
@@ -347,16 +347,16 @@ module _ {limit : ℕ} (z : Tokenizer) (before : List Token) (bytes : List ℕ) 
         whole_front : is_pending z.scan ≡ true → ⊥
         whole_front h = no_whole (o.part ++ byte ∷ []) [] byte f ((awaited_char h).0 ∙ sym (append-nil (encode_utf8 byte)))
 
-  utf8_here : (u : Utf8) (begun : Option (List ℕ)) → Steps (Some o.part) byte u begun → Advances limit (on_utf8 (counted z begun) u).1 before (bytes ++ byte ∷ []) (on_utf8 (counted z begun) u).0
-  utf8_here MoreBytes begun s = subst (λ v. Advances limit (counted z v) before (bytes ++ byte ∷ []) (bounded (counted z v))) (sym s.1) (more_here s.0)
+  utf8_here : (u : Utf8) (begun : Option (List ℕ)) → Steps (Some o.part) byte u begun → Advances limit (on_utf8 (byte_counted z begun) u).1 before (bytes ++ byte ∷ []) (on_utf8 (byte_counted z begun) u).0
+  utf8_here MoreBytes begun s = subst (λ v. Advances limit (byte_counted z v) before (bytes ++ byte ∷ []) (bound_outcome (byte_counted z v))) (sym s.1) (more_here s.0)
   utf8_here Bad begun s = no_utf8 s.0
-  utf8_here (Char c) begun s = subst (λ v. Advances limit (charactered (counted z v) c).1 before (bytes ++ byte ∷ []) (charactered (counted z v) c).0) (sym s.2) (char_here c s.0 s.1)
+  utf8_here (Char c) begun s = subst (λ v. Advances limit (after_character (byte_counted z v) c).1 before (bytes ++ byte ∷ []) (after_character (byte_counted z v) c).0) (sym s.2) (char_here c s.0 s.1)
 
 -- a byte gives the next token, or the next fault
 pub advances_by : (old new : Tokenizer) (byte : ℕ) (progress : Outcome) → AdvancedBy old new byte progress → AdvancesBy old new byte progress
 advances_by old new byte progress a limit before bytes o w =
     subst (λ p. Advances limit new before (bytes ++ byte ∷ []) p) (sym a.value)
-    (subst (λ y. Advances limit y before (bytes ++ byte ∷ []) (on_utf8 (counted old a.begun) a.utf8).0) (sym a.after)
+    (subst (λ y. Advances limit y before (bytes ++ byte ∷ []) (on_utf8 (byte_counted old a.begun) a.utf8).0) (sym a.after)
     (utf8_here old before bytes byte o w a.utf8 a.begun (subst (λ u. Steps u byte a.utf8 a.begun) o.utf8_is a.steps)))
 
 pub if_advanced : (r : Result Progress AllocError) (old new : Tokenizer) (byte : ℕ) → IfOk r (λ p. AdvancedBy old (outcome p new).1 byte (outcome p new).0) → IfOk r (λ p. AdvancesBy old (outcome p new).1 byte (outcome p new).0)
@@ -375,7 +375,7 @@ utf8_place z Bad = refl
 utf8_place z (Char c) = turned_place z c (step z.scan c)
 
 pub advanced_place : (old new : Tokenizer) (byte : ℕ) (progress : Outcome) → AdvancedBy old new byte progress → new.place ≡ old.place + 1
-advanced_place old new byte progress a = ap (λ (z : Tokenizer). z.place) a.after ∙ utf8_place (counted old a.begun) a.utf8
+advanced_place old new byte progress a = ap (λ (z : Tokenizer). z.place) a.after ∙ utf8_place (byte_counted old a.begun) a.utf8
 
 outcome_place : (p : Progress) (z : Tokenizer) → (outcome p z).1.place ≡ z.place
 outcome_place Continues z = refl

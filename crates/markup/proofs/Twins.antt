@@ -14,7 +14,7 @@ use Rattle.std.proofs.lemmas.Slice.Eq.{bytes_eq-Decides}
 use Rattle.lexical_core.specs.Tree.{Expanded, Entry}
 use Rattle.markup.specs.Events.{put}
 use Rattle.lexical_core.specs.Names.{name_cmp}
-use Rattle.markup.specs.inner.TagParts.{is_named, begins_with, has_twins, sorted_entries}
+use Rattle.markup.specs.inner.TagParts.{is_named, first_is_named, has_twins, sorted_entries}
 use Rattle.lexical_core.proofs.StableSort.{put_by, sorted_by, Climbs, NoneLess, climbs-sorted}
 use Rattle.markup.proofs.TagPartLemmas.{or_assoc, or_swap}
 
@@ -114,7 +114,7 @@ none_named e f (h ∷ hs) less all = case (is_named e.name h) refl (none_named e
         let other : is_lt (by_name h f) ≡ false = all.0 in
         absurd cc
 
-next_named : (e : Entry) (es : List Entry) → Climbs by_name (e ∷ es) → list_any (is_named e.name) es ≡ begins_with e.name es
+next_named : (e : Entry) (es : List Entry) → Climbs by_name (e ∷ es) → list_any (is_named e.name) es ≡ first_is_named e.name es
 next_named e [] up = refl
 next_named e (f ∷ fs) up = case (is_named e.name f) refl
   where
@@ -127,7 +127,7 @@ next_named e (f ∷ fs) up = case (is_named e.name f) refl
 
 twins_climb : (es : List Entry) → Climbs by_name es → any_twins es ≡ has_twins es
 twins_climb [] up = refl
-twins_climb (e ∷ es) up = ap (λ b. b || any_twins es) (next_named e es up) ∙ ap (λ b. begins_with e.name es || b) (twins_climb es up.1)
+twins_climb (e ∷ es) up = ap (λ b. b || any_twins es) (next_named e es up) ∙ ap (λ b. first_is_named e.name es || b) (twins_climb es up.1)
 
 pub twins_next : (es : List Entry) → any_twins (sorted_entries es) ≡ has_twins (sorted_entries es)
 twins_next es = ap any_twins (sorted_same es) ∙ twins_climb (sorted_by by_name es) (climbs-sorted entries_total es) ∙ ap has_twins (sym (sorted_same es))

@@ -12,8 +12,8 @@ use Rattle.markup.specs.Token.{Token}
 use Rattle.markup.specs.Marks.{tag_limit}
 use Rattle.markup.specs.Faults.{rule_of, is_over, IsClean, Fault, MarkFault, IsWhole, WholeOrFaulty}
 use Rattle.markup.specs.Drafts.{no_draft}
-use Rattle.markup.specs.Tokenizers.{Outcome, More, EndedToken, Refused, AdvancedBy, on_utf8, counted, settled, open_at, FinishesBy}
-use Rattle.markup.specs.Inputs.{Reads, Any, is_cut, AdvancesInput, SettlesInput, settled_tokens}
+use Rattle.markup.specs.Tokenizers.{Outcome, More, EndedToken, Refused, AdvancedBy, on_utf8, byte_counted, settle_character, open_at, FinishesBy}
+use Rattle.markup.specs.Inputs.{ReadsTokens, Any, is_cut, AdvancesInput, SettlesInput, settled_tokens}
 use Rattle.markup.specs.declared.scan.Position.TheVariants.{Start as AtStart}
 use Rattle.markup.specs.declared.scan.Scan.TheVariants.{Begin}
 use Rattle.markup.specs.declared.tokenizer.Settled.{Settled}
@@ -94,7 +94,7 @@ stepped begun byte = by (begins_so (begun ++ byte ∷ [])) where
 record HasRead (input : List ℕ) : Type 0 where
   z : Tokenizer
   tokens : List Token
-  reads : Reads tag_limit Any z input tokens
+  reads : ReadsTokens tag_limit Any z input tokens
   clean : IsClean [] tokens
   place : z.place ≡ length input
 
@@ -115,10 +115,10 @@ IsFaulty input = (more : List ℕ) → (f : Fault) × MarkFault (input ++ more) 
 
 module _ (input : List ℕ) (byte : ℕ) (h : HasRead input) where
   abbrev s : Settled
-  s = (settled h.z byte).0
+  s = (settle_character h.z byte).0
 
   abbrev z1 : Tokenizer
-  z1 = (settled h.z byte).1
+  z1 = (settle_character h.z byte).1
 
   ready : SettlesInput tag_limit h.z z1 input h.tokens byte s
   ready = settles_input h.z z1 input h.tokens byte s (settles_by h.z z1 byte s refl refl) h.reads h.clean
@@ -139,8 +139,8 @@ module _ (input : List ℕ) (byte : ℕ) (h : HasRead input) where
   read_byte =
       let part : List ℕ = ready.reads.opens.part in
       let u : Stepped part byte = stepped part byte in
-      let z2 : Tokenizer = (on_utf8 (counted z1 u.new) u.utf8).1 in
-      let progress : Outcome = (on_utf8 (counted z1 u.new) u.utf8).0 in
+      let z2 : Tokenizer = (on_utf8 (byte_counted z1 u.new) u.utf8).1 in
+      let progress : Outcome = (on_utf8 (byte_counted z1 u.new) u.utf8).0 in
       let a : AdvancedBy z1 z2 byte progress = record { utf8 = u.utf8; begun = u.new; steps = subst (λ v. Steps v byte u.utf8 u.new) (sym ready.reads.opens.utf8_is) u.steps; value = refl; after = refl } in
       advanced progress z2 (advanced_place z1 z2 byte progress a ∙ (ap (λ n. n + 1) (settled_place h.z z1 byte refl ∙ h.place) ∙ sym (length-append input (byte ∷ []))))
       (advances_input z1 z2 input ts byte progress (advances_by z1 z2 byte progress a) ready.reads ready.awaited ready.clean)

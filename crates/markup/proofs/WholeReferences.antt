@@ -12,16 +12,16 @@ use Rattle.std.proofs.Math.Seq.{take-append_seam}
 use Rattle.lexical_core.specs.Tree.{Char}
 use Rattle.lexical_core.specs.declared.rule.Rule.TheVariants.{TextOutside}
 use Rattle.markup.specs.Ascii.{is_ascii}
-use Rattle.markup.specs.Reference.{Ampersand, Less, Greater, Apostrophe, Quote, Reference, Named, Numbered, is_reference, referred, reference_text}
+use Rattle.markup.specs.Reference.{Ampersand, Less, Greater, Apostrophe, Quote, Reference, Named, Numbered, is_reference, referred_character, reference_text}
 use Rattle.markup.specs.References.{IsReferenceAt, MayReferUnder}
 use Rattle.markup.specs.Token.{Token, Mark, Refer, token_bytes}
 use Rattle.markup.specs.Marks.{in_cdata, is_first}
 use Rattle.markup.specs.Events.{Placed, open_tags}
 use Rattle.markup.specs.Faults.{is_outside}
 use Rattle.markup.specs.Scopes.{placed_at}
-use Rattle.markup.specs.ScanRuns.{run, position, placed as placed_by}
+use Rattle.markup.specs.ScanRuns.{run, position, placed_by}
 use Rattle.markup.specs.Drafts.{no_draft}
-use Rattle.markup.specs.Contexts.{IsContext, HasOpen, unbracketed}
+use Rattle.markup.specs.Contexts.{IsContext, HasOpen, without_brackets}
 use Rattle.markup.specs.TokenRules.{is_cdata}
 use Rattle.markup.specs.Tokenizers.{is_between, is_text, is_in_text}
 use Rattle.markup.specs.Reading.{HasTakenUnder, HasToldUnder}
@@ -101,7 +101,7 @@ letters_end piece word left [] h e = (left, h left refl)
 letters_end piece word left (c ∷ letters) h e = absurd (omega arith)
 
 -- a reference that stands there
-pub entity_here : (r : Reference) (piece : List ℕ) → ((rest : List ℕ) × (piece ≡ reference_text r ++ rest)) → is_reference r ≡ true → IsReferenceAt piece (referred r) (length (reference_text r))
+pub entity_here : (r : Reference) (piece : List ℕ) → ((rest : List ℕ) × (piece ≡ reference_text r ++ rest)) → is_reference r ≡ true → IsReferenceAt piece (referred_character r) (length (reference_text r))
 entity_here r piece (rest, e) h = record {
   reference = r;
   is = h;
@@ -155,14 +155,14 @@ module _ {limit : ℕ} (r : Reader) (bytes piece : List ℕ) (told : List Placed
     stays = λ p. refl;
   }
 
-  context_is : IsContext (unbracketed r.context) (token ∷ before)
+  context_is : IsContext (without_brackets r.context) (token ∷ before)
   context_is = record { scope = h.1.context.scope; root = h.1.context.root; brackets_are = refl }
 
   size : n ≡ length (token_bytes token)
   size = sym (length-take-le n piece a.within) ∙ ap length a.spelled
 
-  taken : HasTakenUnder limit (passed_over r n) (bytes ++ token_bytes token) (told ++ placed_at (length bytes) (Char (referred a.reference) ∷ []))
-  taken = takes_next r bytes told h between (and_parts _ _ text).1 token n (unbracketed r.context) next size context_is
+  taken : HasTakenUnder limit (passed_over r n) (bytes ++ token_bytes token) (told ++ placed_at (length bytes) (Char (referred_character a.reference) ∷ []))
+  taken = takes_next r bytes told h between (and_parts _ _ text).1 token n (without_brackets r.context) next size context_is
 
   pub takes_reference : HasToldUnder limit (passed_over r n) (bytes ++ take n piece) (told ++ placed_at (length bytes) (Char c ∷ []))
   takes_reference = told_so_far (passed_over r n) (bytes ++ take n piece) (told ++ placed_at (length bytes) (Char c ∷ []))

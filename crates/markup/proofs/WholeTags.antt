@@ -8,7 +8,7 @@ use Rattle.markup.specs.declared.tag.Given.{Given}
 use Rattle.markup.specs.declared.tag.Opening.{Opening}
 use Rattle.markup.specs.Events.{declared_prefix, attribute_name, entries}
 use Rattle.markup.specs.Faults.{same_declared, clash, has_clash, is_bad_declaration, is_bad_attribute}
-use Rattle.markup.specs.inner.TagParts.{is_plain, plain_attributes, declares_twice, declares_badly, is_unbound}
+use Rattle.markup.specs.inner.TagParts.{declares_none, plain_attributes, declares_twice, declares_badly, is_unbound}
 use Rattle.markup.proofs.TagPartLemmas.{or-false, or_assoc, or_swap, any_false}
 
 abbrev Prefix : Type 0
@@ -18,19 +18,19 @@ any_same : {X : Type 0} (f g : X → Bool) → ((x : X) → f x ≡ g x) → (xs
 any_same f g same [] = refl
 any_same f g same (x ∷ xs) = ap (λ b. b || list_any f xs) (same x) ∙ ap (λ b. g x || b) (any_same f g same xs)
 
-pub all_plain : (given : List Given) → list_all is_plain (plain_attributes given) ≡ true
+pub all_plain : (given : List Given) → list_all declares_none (plain_attributes given) ≡ true
 all_plain [] = refl
-all_plain (a ∷ more) = case (is_plain a) refl (all_plain more)
+all_plain (a ∷ more) = case (declares_none a) refl (all_plain more)
   where
-    case : (b : Bool) → is_plain a ≡ b → list_all is_plain (plain_attributes more) ≡ true → list_all is_plain (plain_attributes (a ∷ more)) ≡ true
+    case : (b : Bool) → declares_none a ≡ b → list_all declares_none (plain_attributes more) ≡ true → list_all declares_none (plain_attributes (a ∷ more)) ≡ true
     case true e so = simp (e, e) so
     case false e so = simp e so
 
 pub whole_entries : (tags : List Opening) (given : List Given) → entries tags given ≡ entries tags (plain_attributes given)
 whole_entries tags [] = refl
-whole_entries tags (a ∷ more) = case (is_plain a) refl (whole_entries tags more)
+whole_entries tags (a ∷ more) = case (declares_none a) refl (whole_entries tags more)
   where
-    case : (b : Bool) → is_plain a ≡ b → entries tags more ≡ entries tags (plain_attributes more) → entries tags (a ∷ more) ≡ entries tags (plain_attributes (a ∷ more))
+    case : (b : Bool) → declares_none a ≡ b → entries tags more ≡ entries tags (plain_attributes more) → entries tags (a ∷ more) ≡ entries tags (plain_attributes (a ∷ more))
     case true e so = simp (e, e, so)
     case false e so = simp (e, so)
 

@@ -7,7 +7,7 @@ use Rattle.markup.specs.Faults.{rule_of}
 use Rattle.markup.specs.Scopes.{placed_at}
 use Rattle.markup.specs.Contexts.{IsContext}
 use Rattle.markup.specs.ScanRuns.{ended_of}
-use Rattle.markup.specs.Tokenizers.{after_other, behind as behind_token, is_between, passed}
+use Rattle.markup.specs.Tokenizers.{after_other, behind_token, is_between, after_whole_tokens}
 use Rattle.markup.specs.Inputs.{Any}
 use Rattle.markup.specs.Reading.{HasTakenUnder}
 use Rattle.markup.specs.declared.context.Context.{Context}
@@ -31,7 +31,7 @@ module _ {limit : ℕ} (r : Reader) (bytes : List ℕ) (told : List Placed) (h :
   all_told = all_told_then Any [] tt r bytes h.0 told h.1 between starts
 
   pub takes_next : (t : Token) (n : ℕ) (c : Context) → IsNext limit (reverse h.0) t → n ≡ length (token_bytes t) → IsContext c (t ∷ reverse h.0)
-      → HasTakenUnder limit (record { tokenizer = passed r.tokenizer n; context = c; failed = r.failed }) (bytes ++ token_bytes t) (told ++ placed_at (length bytes) (items_of (reverse h.0) t))
+      → HasTakenUnder limit (record { tokenizer = after_whole_tokens r.tokenizer n; context = c; failed = r.failed }) (bytes ++ token_bytes t) (told ++ placed_at (length bytes) (items_of (reverse h.0) t))
   takes_next t n c next size context = (
     h.0 ++ t ∷ [],
     keeps_next Any [] tt r bytes h.0 told h.1 between starts Any [] tt t (λ more _. tt) n c (record { is = λ after _. next.is after; short = next.short; clean = next.clean; stays = next.stays }) size context,

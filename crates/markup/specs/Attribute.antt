@@ -3,20 +3,20 @@ use Rattle.std.specs.Prelude.{ℕ, Bool, ◌==◌, ◌||◌, ◌&&◌, not, fals
 use Rattle.std.specs.List.{list_all, flat_map}
 use Rattle.markup.specs.Chars.{is_xml_char, is_space, is_gap}
 use Rattle.markup.specs.Name.{Name, is_name, name_text}
-use Rattle.markup.specs.Reference.{Reference, is_reference, reference_text, referred}
+use Rattle.markup.specs.Reference.{Reference, is_reference, reference_text, referred_character}
 
 -- a piece of an attribute's value: a character, or a reference to one
-pub data Piece : Type 0 where
-  Literal : (char : ℕ) → Piece
-  Refers : (reference : Reference) → Piece
+pub data ValuePiece : Type 0 where
+  Literal : (char : ℕ) → ValuePiece
+  Refers : (reference : Reference) → ValuePiece
 
 -- a value has no `<` and not its own quote; `&` begins a reference (XML 1.0 §2.3, AttValue)
-abbrev pub is_piece : ℕ → Piece → Bool
+abbrev pub is_piece : ℕ → ValuePiece → Bool
 is_piece quote (Literal c) = is_xml_char c && not (c == 60) && not (c == 38) && not (c == quote)
 is_piece quote (Refers r) = is_reference r
 
 -- the piece as it is written
-abbrev pub piece_text : Piece → List ℕ
+abbrev pub piece_text : ValuePiece → List ℕ
 piece_text (Literal c) = c ∷ []
 piece_text (Refers r) = reference_text r
 
@@ -27,7 +27,7 @@ pub record Attribute : Type 0 where
   pub before : List ℕ
   pub after : List ℕ
   pub quote : ℕ
-  pub value : List Piece
+  pub value : List ValuePiece
 
 -- The white space before it may not be left out, and the quote is one of the two kinds (XML 1.0 §3.1, STag, Attribute; §2.8, Eq).
 abbrev pub is_attribute : Attribute → Bool
@@ -38,13 +38,13 @@ abbrev pub attribute_text : Attribute → List ℕ
 attribute_text a = a.gap ++ name_text a.name ++ a.before ++ codes "=" ++ a.after ++ a.quote ∷ [] ++ flat_map piece_text a.value ++ a.quote ∷ []
 
 -- the pieces begin with a literal LF
-abbrev pub begins_lf : List Piece → Bool
+abbrev pub begins_lf : List ValuePiece → Bool
 begins_lf [] = false
 begins_lf (Literal c ∷ pieces) = c == 10
 begins_lf (Refers r ∷ pieces) = false
 
 -- The value's characters: literal white space, with CR LF as one, is a space; a reference gives its character unchanged (XML 1.0 §2.11, §3.3.3).
-abbrev pub value_chars : List Piece → List ℕ
+abbrev pub value_chars : List ValuePiece → List ℕ
 value_chars [] = []
-value_chars (Refers r ∷ pieces) = referred r ∷ value_chars pieces
+value_chars (Refers r ∷ pieces) = referred_character r ∷ value_chars pieces
 value_chars (Literal c ∷ pieces) = if c == 13 && begins_lf pieces then value_chars pieces else (if is_space c then 32 else c) ∷ value_chars pieces

@@ -19,12 +19,12 @@ pub record IsContext (context : Context) (before : List Token) : Type 0 where
   pub brackets_are : context.brackets ≡ brackets before
 
 -- no literal `]` stands last
-abbrev pub unbracketed : Context → Context
-unbracketed c = record { scope = c.scope; has_root = c.has_root; brackets = 0 }
+abbrev pub without_brackets : Context → Context
+without_brackets c = record { scope = c.scope; has_root = c.has_root; brackets = 0 }
 
 -- so many literal `]` more stand last, of which there is one
-abbrev pub bracketed : Context → ℕ → Context
-bracketed c n = record { scope = c.scope; has_root = c.has_root; brackets = if c.brackets == 0 && n == 1 then 1 else 2 }
+abbrev pub with_brackets : Context → ℕ → Context
+with_brackets c n = record { scope = c.scope; has_root = c.has_root; brackets = if c.brackets == 0 && n == 1 then 1 else 2 }
 
 -- an element is open
 abbrev pub HasOpen : Context → Type 0

@@ -57,13 +57,13 @@ value_noted (ValueReference q r) c d = add_value (given_char r c) d
 value_noted _ c d = d
 
 -- what a character says, by the scans before it and behind it
-abbrev pub noted : Scan → Scan → ℕ → Draft → Draft
-noted from (StartName part) c d = record { name = add part c d.name; given = d.given; attribute = d.attribute; value = d.value }
-noted from (EndName part) c d = record { name = add part c d.name; given = d.given; attribute = d.attribute; value = d.value }
-noted from (AttributeName part) c d = record { name = d.name; given = d.given; attribute = add part c d.attribute; value = d.value }
-noted from (Value q after_return) c d = value_noted from c d
-noted from AfterValue c d = end_value d
-noted from _ c d = d
+abbrev pub note_character : Scan → Scan → ℕ → Draft → Draft
+note_character from (StartName part) c d = record { name = add part c d.name; given = d.given; attribute = d.attribute; value = d.value }
+note_character from (EndName part) c d = record { name = add part c d.name; given = d.given; attribute = d.attribute; value = d.value }
+note_character from (AttributeName part) c d = record { name = d.name; given = d.given; attribute = add part c d.attribute; value = d.value }
+note_character from (Value q after_return) c d = value_noted from c d
+note_character from AfterValue c d = end_value d
+note_character from _ c d = d
 
 -- how many bytes are held for a name, for attributes, and for an open tag
 abbrev pub held_name : Spelled → ℕ
@@ -73,5 +73,5 @@ abbrev pub held_all : List Given → ℕ
 held_all [] = 0
 held_all (g ∷ gs) = held_name g.name + length g.value + held_all gs
 
-abbrev pub held : Draft → ℕ
-held d = held_name d.name + held_name d.attribute + length d.value + held_all d.given
+abbrev pub draft_size : Draft → ℕ
+draft_size d = held_name d.name + held_name d.attribute + length d.value + held_all d.given

@@ -20,14 +20,14 @@ item_of (EndTold ns local) = Ends (record { namespace = ns; local = local })
 item_of SkippedTold = Skipped
 
 -- an event with its place
-abbrev pub placed : Event → Placed
-placed e = record { place = e.place; item = item_of e.what }
+abbrev pub placed_event : Event → Placed
+placed_event e = record { place = e.place; item = item_of e.what }
 
 -- these events are appended
 pub record Tells (old new : List Event) (told : List Placed) : Type 0 where
   pub more : List Event
   pub appended : new ≡ old ++ more
-  pub told_are : map placed more ≡ told
+  pub told_are : map placed_event more ≡ told
 
 -- a front of them is
 pub record TellsFront (old new : List Event) (told : List Placed) : Type 0 where

@@ -7,24 +7,24 @@ use Rattle.markup.specs.declared.tag.Spelled.{Spelled}
 use Rattle.markup.specs.declared.tag.Given.{Given}
 use Rattle.markup.specs.declared.tag.Opening.{Opening}
 use Rattle.markup.specs.Name.{Name, Plain, Prefixed}
-use Rattle.markup.specs.Reference.{referred}
+use Rattle.markup.specs.Reference.{referred_character}
 use Rattle.markup.specs.Attribute.{Attribute, value_chars}
 use Rattle.markup.specs.Token.{Token, Start, End, Refer, LineEnd, Character, StartTag, token_bytes}
 use Rattle.lexical_core.specs.Tree.{Expanded, Entry, Item, Starts, Char, Ends, Skipped}
 use Rattle.lexical_core.specs.Names.{xml_namespace, xmlns, name_cmp}
 
 -- the name's parts in bytes
-abbrev pub spelled : Name → Spelled
-spelled (Plain local) = record { prefix = []; local = encode_utf8_all local }
-spelled (Prefixed prefix local) = record { prefix = encode_utf8_all prefix; local = encode_utf8_all local }
+abbrev pub spelled_name : Name → Spelled
+spelled_name (Plain local) = record { prefix = []; local = encode_utf8_all local }
+spelled_name (Prefixed prefix local) = record { prefix = encode_utf8_all prefix; local = encode_utf8_all local }
 
 -- what an attribute gives
-abbrev pub given : Attribute → Given
-given a = record { name = spelled a.name; value = encode_utf8_all (value_chars a.value) }
+abbrev pub given_attribute : Attribute → Given
+given_attribute a = record { name = spelled_name a.name; value = encode_utf8_all (value_chars a.value) }
 
 -- what a start tag says
 abbrev pub opening : StartTag → Opening
-opening t = record { name = spelled t.name; given = map given t.attributes; is_empty = t.is_empty }
+opening t = record { name = spelled_name t.name; given = map given_attribute t.attributes; is_empty = t.is_empty }
 
 -- what the start tags said that are open behind these tokens, the innermost first; the tokens the latest first
 abbrev pub open_tags : List Token → List Opening
@@ -53,17 +53,17 @@ namespace_of [] prefix = if bytes_eq prefix [] then Some [] else (if bytes_eq pr
 namespace_of (tag ∷ tags) prefix = option_or (bound_by tag.given prefix) (namespace_of tags prefix)
 
 -- a local name in a namespace
-abbrev pub expanded : Option (List ℕ) → List ℕ → Option Expanded
-expanded None local = None
-expanded (Some namespace) local = Some (record { namespace = namespace; local = local })
+abbrev pub expanded_in : Option (List ℕ) → List ℕ → Option Expanded
+expanded_in None local = None
+expanded_in (Some namespace) local = Some (record { namespace = namespace; local = local })
 
 -- the expanded name of an element under these tags, its own the first (Namespaces §5)
 abbrev pub element_name : List Opening → Spelled → Option Expanded
-element_name tags n = expanded (namespace_of tags n.prefix) n.local
+element_name tags n = expanded_in (namespace_of tags n.prefix) n.local
 
 -- of an attribute: a default namespace does not apply to it (Namespaces §6.2)
 abbrev pub attribute_name : List Opening → Spelled → Option Expanded
-attribute_name tags n = expanded (if bytes_eq n.prefix [] then Some [] else namespace_of tags n.prefix) n.local
+attribute_name tags n = expanded_in (if bytes_eq n.prefix [] then Some [] else namespace_of tags n.prefix) n.local
 
 -- the attribute put at its place by `name_cmp`: namespace, then local name, by bytes
 abbrev pub put : Entry → List Entry → List Entry
@@ -81,29 +81,29 @@ entries tags [] = []
 entries tags (a ∷ more) = if is_none (declared_prefix a.name) then put_named a.value (attribute_name tags a.name) (entries tags more) else entries tags more
 
 -- the events of a start tag; an empty element ends as well
-abbrev pub started : Option Expanded → List Entry → Bool → List Item
-started None entries is_empty = []
-started (Some name) entries is_empty = Starts name entries ∷ (if is_empty then Ends name ∷ [] else [])
+abbrev pub start_tag_items : Option Expanded → List Entry → Bool → List Item
+start_tag_items None entries is_empty = []
+start_tag_items (Some name) entries is_empty = Starts name entries ∷ (if is_empty then Ends name ∷ [] else [])
 
 -- the events of a start tag under the tags that are open before it; its own declarations apply to it (Namespaces §6.1)
 abbrev pub start_items : List Opening → Opening → List Item
-start_items tags tag = started (element_name (tag ∷ tags) tag.name) (entries (tag ∷ tags) tag.given) tag.is_empty
+start_items tags tag = start_tag_items (element_name (tag ∷ tags) tag.name) (entries (tag ∷ tags) tag.given) tag.is_empty
 
 -- the event of an end
-abbrev pub ended : Option Expanded → List Item
-ended None = []
-ended (Some name) = Ends name ∷ []
+abbrev pub end_tag_items : Option Expanded → List Item
+end_tag_items None = []
+end_tag_items (Some name) = Ends name ∷ []
 
 -- the event of an end tag: the innermost open element ends
 abbrev pub end_items : List Opening → List Item
 end_items [] = []
-end_items (tag ∷ tags) = ended (element_name (tag ∷ tags) tag.name)
+end_items (tag ∷ tags) = end_tag_items (element_name (tag ∷ tags) tag.name)
 
 -- The events of a token, behind the tokens before it. A line end is an LF (XML 1.0 §2.11).
 abbrev pub items_of : List Token → Token → List Item
 items_of before (Start tag) = start_items (open_tags before) (opening tag)
 items_of before (End name gap) = end_items (open_tags before)
-items_of before (Refer reference) = Char (referred reference) ∷ []
+items_of before (Refer reference) = Char (referred_character reference) ∷ []
 items_of before (LineEnd line) = Char 10 ∷ []
 items_of before (Character c) = Char c ∷ []
 items_of before _ = Skipped ∷ []

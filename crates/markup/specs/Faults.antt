@@ -11,7 +11,7 @@ use Rattle.markup.specs.declared.tag.Opening.{Opening}
 use Rattle.markup.specs.Chars.{is_xml_char, is_space}
 use Rattle.markup.specs.Token.{Token, Mark, Declaration, Comment, Instruction, Opener, Closer, TypeDeclaration, Start, End, Refer, LineEnd, Character, token_text, token_bytes}
 use Rattle.markup.specs.Marks.{in_cdata, stands, Cell, Front, is_short, tag_limit}
-use Rattle.markup.specs.Events.{spelled, opening, open_tags, declared_prefix, same_prefix, element_name, attribute_name}
+use Rattle.markup.specs.Events.{spelled_name, opening, open_tags, declared_prefix, same_prefix, element_name, attribute_name}
 use Rattle.lexical_core.specs.Names.{xmlns, xml_namespace, xmlns_namespace}
 use Rattle.lexical_core.specs.Tree.{Expanded}
 use Rattle.lexical_core.specs.Utf8.{IsFront, IsNoFront}
@@ -96,7 +96,7 @@ rule_of before Opener = outside_rule before
 rule_of before Closer = None
 rule_of before TypeDeclaration = Some Doctype
 rule_of before (Start tag) = start_rule (is_over before) (open_tags before) (opening tag)
-rule_of before (End name gap) = end_rule (open_tags before) (spelled name)
+rule_of before (End name gap) = end_rule (open_tags before) (spelled_name name)
 rule_of before (Refer reference) = outside_rule before
 rule_of before (LineEnd line) = None
 rule_of before (Character c) = if c == 62 && not (in_cdata before) && behind_brackets before then Some BadMarkup else (if is_space c then None else outside_rule before)
@@ -111,7 +111,7 @@ abbrev pub NoToken : List Token → List ℕ → Type 0
 NoToken before bytes = (t : Token) (after : List ℕ) → Cell before t bytes after → ⊥
 
 -- Some token begins with these characters, or is them; its length and the bytes that are there behind them are not asked.
-pub record GoesOn (before : List Token) (chars : List ℕ) : Type 0 where
+pub record TokenGoesOn (before : List Token) (chars : List ℕ) : Type 0 where
   pub token : Token
   pub more : List ℕ
   pub after : List ℕ
@@ -130,10 +130,10 @@ is_in_reference (c ∷ []) = c == 38
 is_in_reference (c ∷ d ∷ cs) = (c == 38 || (c == 60 && not (d == 33) && not (d == 63))) && ends_in_reference false (c ∷ d ∷ cs)
 
 -- The bytes behind the characters of a token that goes on show that none goes on so; the rule, and the number of bytes that show it.
-pub data Stops (before : List Token) (chars tail : List ℕ) (rule : Rule) (shown : ℕ) : Type 0 where
-  no_char : (part rest : List ℕ) (b : ℕ) → tail ≡ part ++ b ∷ rest → IsFront part → IsNoFront (part ++ b ∷ []) → rule ≡ BadUtf8 → shown ≡ length part + 1 → Stops before chars tail rule shown
-  bad_char : (c : ℕ) (rest : List ℕ) → tail ≡ encode_utf8 c ++ rest → IsScalar c → is_xml_char c ≡ false → rule ≡ BadChar → shown ≡ length (encode_utf8 c) → Stops before chars tail rule shown
-  stuck : (c : ℕ) (rest : List ℕ) → tail ≡ encode_utf8 c ++ rest → is_xml_char c ≡ true → (GoesOn before (chars ++ c ∷ []) → ⊥) → rule ≡ (if is_in_reference chars then BadReference else BadMarkup) → shown ≡ length (encode_utf8 c) → Stops before chars tail rule shown
+pub data TokenStops (before : List Token) (chars tail : List ℕ) (rule : Rule) (shown : ℕ) : Type 0 where
+  no_char : (part rest : List ℕ) (b : ℕ) → tail ≡ part ++ b ∷ rest → IsFront part → IsNoFront (part ++ b ∷ []) → rule ≡ BadUtf8 → shown ≡ length part + 1 → TokenStops before chars tail rule shown
+  bad_char : (c : ℕ) (rest : List ℕ) → tail ≡ encode_utf8 c ++ rest → IsScalar c → is_xml_char c ≡ false → rule ≡ BadChar → shown ≡ length (encode_utf8 c) → TokenStops before chars tail rule shown
+  stuck : (c : ℕ) (rest : List ℕ) → tail ≡ encode_utf8 c ++ rest → is_xml_char c ≡ true → (TokenGoesOn before (chars ++ c ∷ []) → ⊥) → rule ≡ (if is_in_reference chars then BadReference else BadMarkup) → shown ≡ length (encode_utf8 c) → TokenStops before chars tail rule shown
 
 -- The characters begin a start tag or an end tag.
 abbrev pub IsTagBegun : List ℕ → Type 0
@@ -152,9 +152,9 @@ IsUnended before chars = (t : Token) (after : List ℕ) → stands before t afte
 -- too_long: a tag has neither ended nor stopped with the last byte of the limit.
 pub data Next (limit : ℕ) (before : List Token) (bytes : List ℕ) (rule : Rule) (at : ℕ) : Type 0 where
   broken : (t : Token) (after : List ℕ) → Cell before t bytes after → is_short limit t ≡ true → rule_of before t ≡ Some rule → at ≡ 0 → Next limit before bytes rule at
-  halts : (chars tail : List ℕ) (shown : ℕ) → bytes ≡ encode_utf8_all chars ++ tail → NoToken before bytes → GoesOn before chars → Stops before chars tail rule shown → (IsTagBegun chars → length (encode_utf8_all chars) + shown ≤ limit) → at ≡ 0 → Next limit before bytes rule at
-  cut : (chars part : List ℕ) → bytes ≡ encode_utf8_all chars ++ part → NoToken before bytes → GoesOn before chars → IsFront part → (IsTagBegun chars → length bytes < limit) → (bytes ≡ [] → is_over before ≡ false) → rule ≡ Truncated → at ≡ length bytes → Next limit before bytes rule at
-  too_long : (chars part rest : List ℕ) → bytes ≡ encode_utf8_all chars ++ part ++ rest → GoesOn before chars → IsUnended before chars → IsTagBegun chars → IsFront part → length (encode_utf8_all chars ++ part) ≡ limit → rule ≡ BadMarkup → at ≡ 0 → Next limit before bytes rule at
+  halts : (chars tail : List ℕ) (shown : ℕ) → bytes ≡ encode_utf8_all chars ++ tail → NoToken before bytes → TokenGoesOn before chars → TokenStops before chars tail rule shown → (IsTagBegun chars → length (encode_utf8_all chars) + shown ≤ limit) → at ≡ 0 → Next limit before bytes rule at
+  cut : (chars part : List ℕ) → bytes ≡ encode_utf8_all chars ++ part → NoToken before bytes → TokenGoesOn before chars → IsFront part → (IsTagBegun chars → length bytes < limit) → (bytes ≡ [] → is_over before ≡ false) → rule ≡ Truncated → at ≡ length bytes → Next limit before bytes rule at
+  too_long : (chars part rest : List ℕ) → bytes ≡ encode_utf8_all chars ++ part ++ rest → TokenGoesOn before chars → IsUnended before chars → IsTagBegun chars → IsFront part → length (encode_utf8_all chars ++ part) ≡ limit → rule ≡ BadMarkup → at ≡ 0 → Next limit before bytes rule at
 
 -- a rule and the place where it is broken, in bytes from the start of the input
 pub record Fault : Type 0 where

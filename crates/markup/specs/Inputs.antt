@@ -9,7 +9,7 @@ use Rattle.lexical_core.specs.Tree.{Char}
 use Rattle.markup.specs.Events.{Placed, open_tags, events}
 use Rattle.markup.specs.Scopes.{placed_at}
 use Rattle.markup.specs.ScanRuns.{ended_of, draft_of}
-use Rattle.markup.specs.Tokenizers.{Outcome, More, EndedToken, Refused, IsOpen, IsAwaited, FinishesBy}
+use Rattle.markup.specs.Tokenizers.{Outcome, More, EndedToken, Refused, IsTokenOpen, IsAwaited, FinishesBy}
 use Rattle.markup.specs.TokenRules.{items_by}
 use Rattle.markup.specs.declared.draft.Draft.{Draft}
 use Rattle.markup.specs.declared.scan.Ended.{Ended}
@@ -20,10 +20,10 @@ use Rattle.markup.specs.declared.tokenizer.Finish.TheVariants.{Return, Open}
 use Rattle.markup.specs.declared.tokenizer.Tokenizer.{Tokenizer}
 
 -- The reader has read these tokens of the input, in which tags have at most so many bytes, and the rest of it is open; whatever may follow that the fact allows.
-pub record Reads (limit : ℕ) (Follows : List ℕ → Type 0) (z : Tokenizer) (input : List ℕ) (ts : List Token) : Type 0 where
+pub record ReadsTokens (limit : ℕ) (Follows : List ℕ → Type 0) (z : Tokenizer) (input : List ℕ) (ts : List Token) : Type 0 where
   pub bytes : List ℕ
   pub front : (more : List ℕ) → Follows more → Front limit [] (input ++ more) ts (bytes ++ more)
-  pub opens : IsOpen limit z (reverse ts) bytes
+  pub opens : IsTokenOpen limit z (reverse ts) bytes
 
 -- what follows begins with the byte
 abbrev pub Begins : ℕ → List ℕ → Type 0
@@ -62,37 +62,37 @@ settled_events place BracketsSettled = placed_at place (Char 93 ∷ []) ++ place
 settled_events place _ = []
 
 -- These events come to those of the tokens, where a CR that is open counts as one of them.
-abbrev pub Adds : Tokenizer → Tokenizer → List Token → List Token → (Finish → Finish → List Placed) → Type 0
-Adds old new before after added = (f g : Finish) → FinishesBy old f → FinishesBy new g → events [] 0 (with_pending g after) ≡ events [] 0 (with_pending f before) ++ added f g
+abbrev pub AddsEvents : Tokenizer → Tokenizer → List Token → List Token → (Finish → Finish → List Placed) → Type 0
+AddsEvents old new before after added = (f g : Finish) → FinishesBy old f → FinishesBy new g → events [] 0 (with_pending g after) ≡ events [] 0 (with_pending f before) ++ added f g
 
 -- What the byte does not go on with are further tokens that break no rule, and what is left of the input goes on with it.
 pub record SettlesInput (limit : ℕ) (old new : Tokenizer) (input : List ℕ) (ts : List Token) (byte : ℕ) (result : Settled) : Type 0 where
-  pub reads : Reads limit (Begins byte) new input (settled_tokens result ts)
+  pub reads : ReadsTokens limit (Begins byte) new input (settled_tokens result ts)
   pub clean : IsClean [] (settled_tokens result ts)
   pub awaited : IsAwaited new.scan byte
-  pub adds : Adds old new ts (settled_tokens result ts) (λ f g. settled_events (length (flat_map token_bytes ts)) result)
+  pub adds : AddsEvents old new ts (settled_tokens result ts) (λ f g. settled_events (length (flat_map token_bytes ts)) result)
 
 -- Whatever follows the input, this rule is the first that is broken, behind these tokens.
-abbrev pub Shows : ℕ → List ℕ → List Token → Rule → Type 0
-Shows limit input ts rule = (more : List ℕ) → MarkFaultUnder limit (input ++ more) (record { rule = rule; place = length (flat_map token_bytes ts) })
+abbrev pub ShowsRule : ℕ → List ℕ → List Token → Rule → Type 0
+ShowsRule limit input ts rule = (more : List ℕ) → MarkFaultUnder limit (input ++ more) (record { rule = rule; place = length (flat_map token_bytes ts) })
 
 -- no more tokens of the input; where a CR has come it is told as a line end
 pub record ReadsMore (limit : ℕ) (old new : Tokenizer) (input : List ℕ) (ts : List Token) : Type 0 where
-  pub reads : Reads limit Any new input ts
-  pub adds : Adds old new ts ts (λ f g. if is_return g then placed_at (length (flat_map token_bytes ts)) (Char 10 ∷ []) else [])
+  pub reads : ReadsTokens limit Any new input ts
+  pub adds : AddsEvents old new ts ts (λ f g. if is_return g then placed_at (length (flat_map token_bytes ts)) (Char 10 ∷ []) else [])
 
 -- one more token of the input, of which the scan says this: it breaks a rule or none, and its events are told but for a CR LF whose CR was told
 pub record ReadsToken (limit : ℕ) (old new : Tokenizer) (input : List ℕ) (ts : List Token) (e : Ended) (d : Draft) : Type 0 where
   pub token : Token
   pub ended_is : ended_of token ≡ e
   pub draft_is : draft_of token ≡ d
-  pub reads : Reads limit Any new input (ts ++ token ∷ [])
+  pub reads : ReadsTokens limit Any new input (ts ++ token ∷ [])
   pub clean : rule_of (reverse ts) token ≡ None → IsClean [] (ts ++ token ∷ [])
-  pub broken : (rule : Rule) → rule_of (reverse ts) token ≡ Some rule → Shows limit input ts rule
-  pub adds : Adds old new ts (ts ++ token ∷ []) (λ f g. if is_return f then [] else placed_at (length (flat_map token_bytes ts)) (items_by (open_tags (reverse ts)) e d))
+  pub broken : (rule : Rule) → rule_of (reverse ts) token ≡ Some rule → ShowsRule limit input ts rule
+  pub adds : AddsEvents old new ts (ts ++ token ∷ []) (λ f g. if is_return f then [] else placed_at (length (flat_map token_bytes ts)) (items_by (open_tags (reverse ts)) e d))
 
 -- what the last byte of the input has made of these tokens
 abbrev pub AdvancesInput : ℕ → Tokenizer → Tokenizer → List ℕ → List Token → Outcome → Type 0
 AdvancesInput limit old new input ts More = ReadsMore limit old new input ts
 AdvancesInput limit old new input ts (EndedToken e d) = ReadsToken limit old new input ts e d
-AdvancesInput limit old new input ts (Refused rule) = Shows limit input ts rule
+AdvancesInput limit old new input ts (Refused rule) = ShowsRule limit input ts rule

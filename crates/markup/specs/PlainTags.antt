@@ -93,10 +93,10 @@ pub record IsTagInside (piece : List ℕ) (tags : List Opening) (kind : TagKind)
   pub at : IsTagAt piece opened kind name count
 
 -- what the bytes behind the name of a start tag make of it
-abbrev pub slashed : List ℕ → Option TagKind
-slashed [] = None
-slashed (b ∷ rest) = if b == 62 then Some Empty else None
+abbrev pub slash_kind : List ℕ → Option TagKind
+slash_kind [] = None
+slash_kind (b ∷ rest) = if b == 62 then Some Empty else None
 
 abbrev pub closing : List ℕ → Option TagKind
 closing [] = None
-closing (b ∷ rest) = if b == 62 then Some Start else (if b == 47 then slashed rest else None)
+closing (b ∷ rest) = if b == 62 then Some Start else (if b == 47 then slash_kind rest else None)

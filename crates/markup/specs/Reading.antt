@@ -9,10 +9,10 @@ use Rattle.markup.specs.Events.{Placed, events, open_tags}
 use Rattle.markup.specs.Faults.{IsClean, Fault, MarkFault, MarkFaultUnder, is_over, is_outside}
 use Rattle.markup.specs.Longest.{IsLongestUnder}
 use Rattle.markup.specs.EventItems.{Tells}
-use Rattle.markup.specs.Drafts.{held}
+use Rattle.markup.specs.Drafts.{draft_size}
 use Rattle.markup.specs.Tokenizers.{FinishesBy}
 use Rattle.markup.specs.declared.tokenizer.Finish.{Finish}
-use Rattle.markup.specs.Inputs.{Reads, Any, with_pending}
+use Rattle.markup.specs.Inputs.{ReadsTokens, Any, with_pending}
 use Rattle.markup.specs.Contexts.{IsContext}
 use Rattle.markup.specs.PlainTags.{tag_text, may_be_named, IsPlainInside}
 use Rattle.markup.specs.PlainStarts.{PlainStart, is_plain_start, plain_start_text}
@@ -24,20 +24,20 @@ use Rattle.markup.specs.declared.reader.MarkFault.{MarkFault as Told}
 use Rattle.markup.specs.declared.reader.Reader.{Reader}
 
 -- how many bytes the reader has taken
-abbrev pub taken : Reader → ℕ
-taken r = r.tokenizer.place
+abbrev pub bytes_taken : Reader → ℕ
+bytes_taken r = r.tokenizer.place
 
 -- how many bytes it holds for the open token: those of the names and values that a tag has said
-abbrev pub token : Reader → ℕ
-token r = held r.tokenizer.draft
+abbrev pub open_token_held : Reader → ℕ
+open_token_held r = draft_size r.tokenizer.draft
 
 -- and how many the open token has
 abbrev pub token_length : Reader → ℕ
 token_length r = r.tokenizer.place - r.tokenizer.start
 
 -- the answer that it gives for good, where there is one
-abbrev pub failed : Reader → Option MarkError
-failed r = r.failed
+abbrev pub reader_failure : Reader → Option MarkError
+reader_failure r = r.failed
 
 -- a fault that is told, as one of the definitions
 abbrev pub fault_of : Told → Fault
@@ -45,7 +45,7 @@ fault_of f = record { rule = f.rule; place = f.place }
 
 -- The parts of the reader speak of these tokens of the input, and it has told these events; whatever may follow that the fact allows.
 pub record Keeps (limit : ℕ) (Follows : List ℕ → Type 0) (reader : Reader) (input : List ℕ) (tokens : List Token) (told : List Placed) : Type 0 where
-  pub reads : Reads limit Follows reader.tokenizer input tokens
+  pub reads : ReadsTokens limit Follows reader.tokenizer input tokens
   pub clean : IsClean [] tokens
   pub place : reader.tokenizer.place ≡ length input
   pub context : IsContext reader.context (reverse tokens)

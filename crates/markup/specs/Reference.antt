@@ -44,9 +44,9 @@ is_reference (Named entity) = true
 is_reference (Numbered radix digits) = (radix == 10 || radix == 16) && not (length digits == 0) && list_all (λ d. is_digit d radix) digits && is_xml_char (number radix 0 digits)
 
 -- the character that the reference gives
-abbrev pub referred : Reference → ℕ
-referred (Named entity) = entity_char entity
-referred (Numbered radix digits) = number radix 0 digits
+abbrev pub referred_character : Reference → ℕ
+referred_character (Named entity) = entity_char entity
+referred_character (Numbered radix digits) = number radix 0 digits
 
 -- the reference as it is written
 abbrev pub reference_text : Reference → List ℕ

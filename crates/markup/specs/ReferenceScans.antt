@@ -15,8 +15,8 @@ abbrev pub digit_step : ℕ → ℕ → ℕ → Option ℕ
 digit_step radix n c = if is_digit c radix && nat_le (n * radix + digit_value c) 0x10_FFFF then Some (n * radix + digit_value c) else None
 
 -- the XML character of this number
-abbrev pub numbered : ℕ → Option ℕ
-numbered n = if is_xml_char n then Some n else None
+abbrev pub numbered_char : ℕ → Option ℕ
+numbered_char n = if is_xml_char n then Some n else None
 
 -- the character of an entity
 abbrev pub entity_char_of : Word → ℕ
@@ -42,7 +42,7 @@ gives (Some c) = Gives c
 
 -- behind the digits
 abbrev pub digits_step : ℕ → ℕ → ReferenceTurn
-digits_step n c = if c == 59 then gives (numbered n) else Breaks
+digits_step n c = if c == 59 then gives (numbered_char n) else Breaks
 
 -- the first digit
 abbrev pub first_digit : (ℕ → ReferenceScan) → Option ℕ → ReferenceTurn

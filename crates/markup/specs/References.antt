@@ -1,7 +1,7 @@
 -- References that stand whole at the front of bytes.
 use Rattle.std.specs.Prelude.{◌≡◌, ℕ, true, false, List, length, take, reverse, encode_utf8_all, ◌≤◌}
 use Rattle.std.specs.List.{flat_map}
-use Rattle.markup.specs.Reference.{Reference, is_reference, referred, reference_text}
+use Rattle.markup.specs.Reference.{Reference, is_reference, referred_character, reference_text}
 use Rattle.markup.specs.Token.{Token, token_bytes}
 use Rattle.markup.specs.Marks.{in_cdata}
 use Rattle.markup.specs.Events.{Placed}
@@ -14,7 +14,7 @@ use Rattle.markup.specs.declared.reader.Reader.{Reader}
 pub record IsReferenceAt (piece : List ℕ) (char size : ℕ) : Type 0 where
   pub reference : Reference
   pub is : is_reference reference ≡ true
-  pub char_is : char ≡ referred reference
+  pub char_is : char ≡ referred_character reference
   pub spelled : take size piece ≡ encode_utf8_all (reference_text reference)
   pub within : size ≤ length piece
 

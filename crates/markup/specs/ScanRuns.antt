@@ -1,11 +1,11 @@
 -- Runs of the scan over characters, and what they say of tokens. Private functions alone cite this.
 use Rattle.std.specs.Prelude.{◌≡◌, ℕ, Bool, ◌==◌, ◌&&◌, not, true, false, List, [], ◌∷◌, ◌++◌, map, if◌then◌else◌}
-use Rattle.markup.specs.Reference.{referred}
+use Rattle.markup.specs.Reference.{referred_character}
 use Rattle.markup.specs.Token.{Token, Mark, Declaration, Comment, Instruction, Opener, Closer, TypeDeclaration, Start, End, Refer, LineEnd, Character, Cr, token_text}
 use Rattle.markup.specs.Marks.{in_cdata, is_first, stands}
-use Rattle.markup.specs.Events.{spelled, given}
-use Rattle.markup.specs.Faults.{GoesOn}
-use Rattle.markup.specs.Drafts.{no_name, no_draft, noted}
+use Rattle.markup.specs.Events.{spelled_name, given_attribute}
+use Rattle.markup.specs.Faults.{TokenGoesOn}
+use Rattle.markup.specs.Drafts.{no_name, no_draft, note_character}
 use Rattle.markup.specs.Scans.{step}
 use Rattle.markup.specs.declared.draft.Draft.{Draft}
 use Rattle.markup.specs.declared.scan.Position.{Position}
@@ -23,23 +23,23 @@ pub data Run : Type 0 where
   Over : (ended : Ended) (draft : Draft) (behind : List ℕ) → Run
   Failed : Run
 
-abbrev pub turned : (Scan → Run) → Draft → List ℕ → Turn → Run
-turned go d w (Goes s) = go s
-turned go d w (Whole e) = Over e d w
-turned go d w Stuck = Failed
+abbrev pub turn_run : (Scan → Run) → Draft → List ℕ → Turn → Run
+turn_run go d w (Goes s) = go s
+turn_run go d w (Whole e) = Over e d w
+turn_run go d w Stuck = Failed
 
 -- from a scan and a draft, over these characters
 abbrev pub run : Scan → Draft → List ℕ → Run
 run s d [] = At s d
-run s d (c ∷ w) = turned (λ t. run t (noted s t c d) w) d w (step s c)
+run s d (c ∷ w) = turn_run (λ t. run t (note_character s t c d) w) d w (step s c)
 
 -- where a token begins behind these
-abbrev pub placed : Bool → Bool → Position
-placed first cdata = if first then AfterMark else (if cdata then Cdata else Text)
+abbrev pub placed_by : Bool → Bool → Position
+placed_by first cdata = if first then AfterMark else (if cdata then Cdata else Text)
 
 abbrev pub position : List Token → Position
 position [] = AtStart
-position (t ∷ before) = placed (is_first (t ∷ before)) (in_cdata (t ∷ before))
+position (t ∷ before) = placed_by (is_first (t ∷ before)) (in_cdata (t ∷ before))
 
 -- what the scan says of a token that has ended
 abbrev pub ended_of : Token → Ended
@@ -52,14 +52,14 @@ ended_of Closer = CloserEnded
 ended_of TypeDeclaration = TypeDeclarationEnded
 ended_of (Start t) = StartEnded t.is_empty
 ended_of (End n g) = EndEnded
-ended_of (Refer r) = ReferEnded (referred r)
+ended_of (Refer r) = ReferEnded (referred_character r)
 ended_of (LineEnd l) = LineEnded
 ended_of (Character c) = CharacterEnded c
 
 -- and what the tag said
 abbrev pub draft_of : Token → Draft
-draft_of (Start t) = record { name = spelled t.name; given = map given t.attributes; attribute = no_name; value = [] }
-draft_of (End n g) = record { name = spelled n; given = []; attribute = no_name; value = [] }
+draft_of (Start t) = record { name = spelled_name t.name; given = map given_attribute t.attributes; attribute = no_name; value = [] }
+draft_of (End n g) = record { name = spelled_name n; given = []; attribute = no_name; value = [] }
 draft_of _ = no_draft
 
 -- A CR alone, and a `]` in a CDATA section, end with what follows them.
@@ -80,5 +80,5 @@ pub record ReadToken (before : List Token) (chars : List ℕ) (ended : Ended) (d
 pub record ReadsGrammar : Type 0 where
   pub complete : (before : List Token) (t : Token) (after behind : List ℕ) → stands before t after ≡ true → ends_itself (in_cdata before) t ≡ true → run (Begin (position before)) no_draft (token_text t ++ behind) ≡ Over (ended_of t) (draft_of t) behind
   pub sound : (before : List Token) (chars : List ℕ) (ended : Ended) (draft : Draft) → run (Begin (position before)) no_draft chars ≡ Over ended draft [] → ReadToken before chars ended draft
-  pub goes_on : (before : List Token) (chars : List ℕ) (scan : Scan) (draft : Draft) → run (Begin (position before)) no_draft chars ≡ At scan draft → GoesOn before chars
-  pub no_more : (before : List Token) (chars : List ℕ) → run (Begin (position before)) no_draft chars ≡ Failed → GoesOn before chars → ⊥
+  pub goes_on : (before : List Token) (chars : List ℕ) (scan : Scan) (draft : Draft) → run (Begin (position before)) no_draft chars ≡ At scan draft → TokenGoesOn before chars
+  pub no_more : (before : List Token) (chars : List ℕ) → run (Begin (position before)) no_draft chars ≡ Failed → TokenGoesOn before chars → ⊥

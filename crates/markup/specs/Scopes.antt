@@ -49,8 +49,8 @@ pub record TakesStart (over : Bool) (tags : List Opening) (tag : Opening) (place
   pub scope_is : IsScope scope (if tag.is_empty then tags else tag ∷ tags)
 
 -- A start tag at the place: its events are told, or the least rule that it breaks.
-abbrev pub Begins : {T : Type 0} → Bool → List Opening → Opening → ℕ → List Event → List Event → Scope → Result T Stop → Type 0
-Begins over tags tag place old new scope result = MatchResult result (λ _. TakesStart over tags tag place old new scope) (λ stop. StopsStart over tags tag place old new stop)
+abbrev pub IsStartAnswer : {T : Type 0} → Bool → List Opening → Opening → ℕ → List Event → List Event → Scope → Result T Stop → Type 0
+IsStartAnswer over tags tag place old new scope result = MatchResult result (λ _. TakesStart over tags tag place old new scope) (λ stop. StopsStart over tags tag place old new stop)
 
 -- An end tag is not told, for this reason.
 abbrev pub StopsEnd : List Opening → Spelled → ℕ → List Event → List Event → Stop → Type 0

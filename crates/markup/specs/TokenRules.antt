@@ -17,8 +17,8 @@ use Rattle.markup.specs.declared.tokenizer.Settled.{Settled}
 use Rattle.markup.specs.declared.tokenizer.Settled.TheVariants.{Nothing as NothingSettled, Return as ReturnSettled, Bracket as BracketSettled, Brackets as BracketsSettled}
 
 -- what a start tag has said
-abbrev pub said : Bool → Draft → Opening
-said is_empty d = record { name = d.name; given = d.given; is_empty = is_empty }
+abbrev pub opening_of_draft : Bool → Draft → Opening
+opening_of_draft is_empty d = record { name = d.name; given = d.given; is_empty = is_empty }
 
 -- a start tag or an end tag has ended
 abbrev pub ends_tag : Ended → Bool
@@ -40,7 +40,7 @@ inner_rule cdata outside brackets _ = None
 
 -- The rule that any token breaks: in a CDATA section or not, behind the root's end or not, under these open tags, behind two literal `]` or not.
 abbrev pub rule_by : Bool → Bool → List Opening → Bool → Ended → Draft → Option Rule
-rule_by cdata over tags brackets (Start is_empty) d = start_rule over tags (said is_empty d)
+rule_by cdata over tags brackets (Start is_empty) d = start_rule over tags (opening_of_draft is_empty d)
 rule_by cdata over tags brackets End d = end_rule tags d.name
 rule_by cdata over tags brackets e d = inner_rule cdata (length tags == 0) brackets e
 
@@ -53,13 +53,13 @@ inner_items _ = Skipped ∷ []
 
 -- the events of any token, under these open tags
 abbrev pub items_by : List Opening → Ended → Draft → List Item
-items_by tags (Start is_empty) d = start_items tags (said is_empty d)
+items_by tags (Start is_empty) d = start_items tags (opening_of_draft is_empty d)
 items_by tags End d = end_items tags
 items_by tags e d = inner_items e
 
 -- the open tags behind a token
 abbrev pub tags_by : List Opening → Ended → Draft → List Opening
-tags_by tags (Start is_empty) d = if is_empty then tags else said is_empty d ∷ tags
+tags_by tags (Start is_empty) d = if is_empty then tags else opening_of_draft is_empty d ∷ tags
 tags_by tags End d = drop 1 tags
 tags_by tags e d = tags
 

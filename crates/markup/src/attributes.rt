@@ -10,7 +10,7 @@ ghost use Rattle.markup.specs.EventItems.{entry_of};
 ghost use Rattle.markup.specs.Bindings.{Binds};
 ghost use Rattle.markup.specs.inner.Origins.{namespace_from};
 ghost use Rattle.markup.specs.Scopes.{all_declarations};
-ghost use Rattle.markup.specs.inner.TagParts.{IsParted, AreDeclared, IsExpanded, IsCollected, is_plain, is_named, entry_from, sorted_entries, begins_with, has_twins};
+ghost use Rattle.markup.specs.inner.TagParts.{IsParted, AreDeclared, IsExpanded, IsCollected, declares_none, is_named, entry_from, sorted_entries, first_is_named, has_twins};
 
 use crate::bindings::Bindings;
 use crate::event::Attr;
@@ -152,7 +152,7 @@ impl Expanded {
         bindings: &Bindings,
         alloc: Global,
     ) -> Result<Expanded, AllocError>
-        requires { list_all is_plain (reverse attributes.items) ≡ true }
+        requires { list_all declares_none (reverse attributes.items) ≡ true }
         ensures { (tags : List Opening) → Binds bindings.now (all_declarations tags) → IfOk result (IsExpanded tags (reverse attributes.items)) }
     {
         let mut collected = Collected::of(attributes, bindings, alloc)?;
@@ -231,7 +231,7 @@ fn is_named(left: &BoundAttr, right: &BoundAttr, bindings: &Bindings) -> bool
 
 /// Whether the first of the others has the name of this one.
 fn is_twin(attr: &BoundAttr, others: &[BoundAttr], bindings: &Bindings) -> bool
-    ensures { result ≡ begins_with (entry_from bindings.now attr.now).name (map (entry_from bindings.now) others.now) }
+    ensures { result ≡ first_is_named (entry_from bindings.now attr.now).name (map (entry_from bindings.now) others.now) }
 {
     match others.first() {
         Some(next) => is_named(attr, next, bindings),

@@ -4,10 +4,10 @@ ghost use Rattle.std.specs.Prelude.{◌≡◌, ◌==◌, ◌<◌, ◌≤◌, ◌
 ghost use Rattle.lexical_core.specs.Tree.{Char};
 ghost use Rattle.markup.specs.Token.{Token, StartTag, Start, End, LineEnd, Line, Character};
 ghost use Rattle.markup.specs.Marks.{in_cdata};
-ghost use Rattle.markup.specs.Events.{opening, open_tags, spelled};
+ghost use Rattle.markup.specs.Events.{opening, open_tags, spelled_name};
 ghost use Rattle.markup.specs.EventItems.{Tells, TellsFront, item_of};
 ghost use Rattle.markup.specs.TokenRules.{inner_rule, inside_alone, inner_items, brackets_by, one_more, ends_tag};
-ghost use Rattle.markup.specs.Contexts.{IsContext, TokenTaken, HasOpen, unbracketed, bracketed};
+ghost use Rattle.markup.specs.Contexts.{IsContext, TokenTaken, HasOpen, without_brackets, with_brackets};
 ghost use Rattle.markup.specs.Inputs.{settled_tokens, settled_events};
 ghost use Rattle.markup.specs.Marks.{tag_limit};
 ghost use Rattle.markup.specs.PlainTags.{tag_text, may_be_named, IsPlainInside, tags_behind, IsTagAt, IsTagInside};
@@ -107,7 +107,7 @@ impl Context {
     /// Passes over characters none of which is `]`.
     #[inline]
     pub(crate) fn pass_characters(&mut self)
-        ensures { self.new ≡ unbracketed self.old }
+        ensures { self.new ≡ without_brackets self.old }
     {
         self.brackets = 0;
     }
@@ -115,7 +115,7 @@ impl Context {
     /// Passes over so many `]`, of which there is one.
     #[inline]
     pub(crate) fn pass_brackets(&mut self, count: usize)
-        ensures { self.new ≡ bracketed self.old count }
+        ensures { self.new ≡ with_brackets self.old count }
     {
         self.brackets = if self.brackets == 0 && count == 1 {
             1
@@ -289,7 +289,7 @@ impl Context {
 
     /// Takes an end tag.
     fn take_end(&mut self, name: Spelled, place: u64, out: &mut Events) -> Result<(), Stop>
-        ensures { (before : List Token) (n : Name) (gap : List ℕ) → IsContext self.old before → spelled n ≡ name → TokenTaken before (End n gap) place out.old out.new self.new result }
+        ensures { (before : List Token) (n : Name) (gap : List ℕ) → IsContext self.old before → spelled_name n ≡ name → TokenTaken before (End n gap) place out.old out.new self.new result }
     {
         self.scope.close(name, place, out)?;
         self.brackets = 0;

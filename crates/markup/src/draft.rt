@@ -1,7 +1,7 @@
 // What an open tag has said so far.
 ghost use Rattle.std.specs.Prelude.{◌≡◌, ◌++◌, ◌<◌, ◌^◌, OnOk, encode_utf8};
 ghost use Rattle.markup.specs.inner.Inside.{noted_all};
-ghost use Rattle.markup.specs.Drafts.{no_draft, literal_char, given_char, end_value, shift, add, noted, value_noted, add_value, held_all, held};
+ghost use Rattle.markup.specs.Drafts.{no_draft, literal_char, given_char, end_value, shift, add, note_character, value_noted, add_value, held_all, draft_size};
 
 use crate::characters::is_blank;
 use crate::reference::{ReferenceScan, ReferenceTurn};
@@ -99,7 +99,7 @@ impl Draft {
 
     /// How many bytes are held for the open tag.
     pub(crate) fn held(&self) -> u64
-        ensures { held self.now < 2 ^ 64 → result ≡ held self.now }
+        ensures { draft_size self.now < 2 ^ 64 → result ≡ draft_size self.now }
     {
         let names = self.name.held().saturating_add(self.attribute.held());
         names
@@ -116,7 +116,7 @@ impl Draft {
         c: char,
         alloc: Global,
     ) -> Result<(), AllocError>
-        ensures { OnOk result (self.new ≡ noted from to c self.old) }
+        ensures { OnOk result (self.new ≡ note_character from to c self.old) }
     {
         match to {
             Scan::StartName(part) => self.name.add(part, c, alloc),

@@ -9,8 +9,8 @@ ghost use Rattle.markup.specs.Faults.{MarkFaultUnder as HasMarkFault};
 ghost use Rattle.markup.specs.ScanRuns.{ended_of, draft_of};
 ghost use Rattle.markup.specs.Contexts.{IsContext};
 ghost use Rattle.markup.specs.TokenRules.{ends_tag};
-ghost use Rattle.markup.specs.Tokenizers.{IsAwaited, FinishesBy, undrafted, handed_out};
-ghost use Rattle.markup.specs.inner.ReaderSteps.{TellsMore, SettlesEvents, TokenAnswered, returned, IsReady};
+ghost use Rattle.markup.specs.Tokenizers.{IsAwaited, FinishesBy, without_draft, handed_out};
+ghost use Rattle.markup.specs.inner.ReaderSteps.{TellsMore, SettlesEvents, TokenAnswered, return_items, IsReaderReady};
 ghost use Rattle.markup.specs.Literals.{is_literal, is_still_space, IsRun, IsFreeRun, characters_from};
 ghost use Rattle.markup.specs.Events.{open_tags, Placed};
 ghost use Rattle.markup.specs.EventItems.{Tells};
@@ -19,7 +19,7 @@ ghost use Rattle.markup.specs.declared.plain_tag.TagKind.{TagKind};
 ghost use Rattle.markup.specs.PlainTags.{tag_text, tag_items, name_behind, IsTagAt, IsTagInside};
 ghost use Rattle.markup.specs.Scopes.{IsScope, placed_at};
 ghost use Rattle.markup.specs.Tokenizers.{is_in_text};
-ghost use Rattle.markup.specs.Reading.{taken, failed, token, token_length, HasTaken, HasTakenUnder, HasToldUnder, IsInsideUnder, MayTakeTagUnder, MayTakeInsideUnder, Keeps, GoesOnUnder, StopsUnder, IsWhollyUnder, EndsEarlyUnder, RunsOutUnder};
+ghost use Rattle.markup.specs.Reading.{bytes_taken, reader_failure, open_token_held, token_length, HasTaken, HasTakenUnder, HasToldUnder, IsInsideUnder, MayTakeTagUnder, MayTakeInsideUnder, Keeps, GoesOnUnder, StopsUnder, IsWhollyUnder, EndsEarlyUnder, RunsOutUnder};
 ghost use Rattle.markup.specs.Inputs.{Any, Begins, is_return};
 
 mod starts;
@@ -98,7 +98,7 @@ impl Reader {
     /// A reader before the first byte, of tags of at most 1,048,576 bytes. It takes no memory.
     pub fn new(alloc: Global) -> Reader
         ensures taken { HasTaken result [] [] }
-        ensures none { taken result ≡ 0 }
+        ensures none { bytes_taken result ≡ 0 }
     {
         Reader::under(alloc, TAG_LIMIT)
     }
@@ -107,7 +107,7 @@ impl Reader {
     /// than a document in XML. It takes no memory.
     pub fn without_limit(alloc: Global) -> Reader
         ensures taken { HasTakenUnder no_limit result [] [] }
-        ensures none { taken result ≡ 0 }
+        ensures none { bytes_taken result ≡ 0 }
     {
         Reader::under(alloc, NO_LIMIT)
     }
@@ -116,7 +116,7 @@ impl Reader {
     fn under(alloc: Global, limit: u64) -> Reader
         requires { IsLimit limit }
         ensures taken { HasTakenUnder limit result [] [] }
-        ensures none { taken result ≡ 0 }
+        ensures none { bytes_taken result ≡ 0 }
     {
         Reader {
             tokenizer: Tokenizer::new(alloc, limit),
@@ -130,14 +130,14 @@ impl Reader {
     /// not told yet; where there is no memory it appends a front of the events. After an error it
     /// gives the same answer to every later call.
     pub fn take(&mut self, byte: u8, out: &mut Events) -> Result<(), MarkError>
-        requires { failed self.old ≡ None → taken self.old < 2 ^ 40 }
+        requires { reader_failure self.old ≡ None → bytes_taken self.old < 2 ^ 40 }
         ensures ok { (limit : ℕ) (bytes : List ℕ) (told : List Placed) → HasTakenUnder limit self.old bytes told →
             IfOk result (λ _. GoesOnUnder limit self.new (bytes ++ byte ∷ []) told out.old out.new) }
         ensures err { (limit : ℕ) (bytes : List ℕ) (told : List Placed) → HasTakenUnder limit self.old bytes told →
             IfErr result (λ e. StopsUnder limit (bytes ++ byte ∷ []) told out.old out.new e) }
-        ensures failed { IfErr result (λ e. failed self.new ≡ Some e) }
-        ensures again { (e : MarkError) → failed self.old ≡ Some e → (result ≡ Err e) × (self.new ≡ self.old) × (out.new ≡ out.old) }
-        ensures count { IfOk result (λ _. taken self.new ≡ taken self.old + 1) }
+        ensures failed { IfErr result (λ e. reader_failure self.new ≡ Some e) }
+        ensures again { (e : MarkError) → reader_failure self.old ≡ Some e → (result ≡ Err e) × (self.new ≡ self.old) × (out.new ≡ out.old) }
+        ensures count { IfOk result (λ _. bytes_taken self.new ≡ bytes_taken self.old + 1) }
     {
         if let Some(error) = self.failed {
             return Err(error);
@@ -157,16 +157,16 @@ impl Reader {
     /// many bytes and characters they are, and whether all are white space, and after an error none. It
     /// takes no memory.
     pub fn take_characters(&mut self, piece: &[u8]) -> Run
-        requires { failed self.old ≡ None → taken self.old + length piece.now ≤ 2 ^ 40 }
+        requires { reader_failure self.old ≡ None → bytes_taken self.old + length piece.now ≤ 2 ^ 40 }
         ensures within { result.bytes ≤ length piece.now }
         ensures only { IsRun (take result.bytes piece.now) result.characters }
         ensures blank { result.blank ≡ list_all is_space (take result.bytes piece.now) }
         ensures taken { (limit : ℕ) (bytes : List ℕ) (told : List Placed) → HasTakenUnder limit self.old bytes told →
             (run : IsRun (take result.bytes piece.now) result.characters) × HasToldUnder limit self.new (bytes ++ take result.bytes piece.now) (told ++ characters_from (length bytes) run.characters) }
         ensures all { (limit : ℕ) (bytes : List ℕ) (told : List Placed) → IsInsideUnder limit self.old bytes told → prefix_len is_literal piece.now ≤ result.bytes }
-        ensures count { taken self.new ≡ taken self.old + result.bytes }
-        ensures failed { failed self.new ≡ failed self.old }
-        ensures again { (e : MarkError) → failed self.old ≡ Some e → (result.bytes ≡ 0) × (result.characters ≡ 0) × (self.new ≡ self.old) }
+        ensures count { bytes_taken self.new ≡ bytes_taken self.old + result.bytes }
+        ensures failed { reader_failure self.new ≡ reader_failure self.old }
+        ensures again { (e : MarkError) → reader_failure self.old ≡ Some e → (result.bytes ≡ 0) × (result.characters ≡ 0) × (self.new ≡ self.old) }
     {
         if begins_with_bracket(piece) {
             return self.take_brackets(piece);
@@ -185,16 +185,16 @@ impl Reader {
     /// none. It takes no memory.
     #[inline]
     pub fn take_blanks(&mut self, piece: &[u8]) -> usize
-        requires { failed self.old ≡ None → taken self.old + length piece.now ≤ 2 ^ 40 }
+        requires { reader_failure self.old ≡ None → bytes_taken self.old + length piece.now ≤ 2 ^ 40 }
         ensures within { result ≤ length piece.now }
         ensures only { IsRun (take result piece.now) result }
         ensures blank { list_all is_space (take result piece.now) ≡ true }
         ensures taken { (limit : ℕ) (bytes : List ℕ) (told : List Placed) → HasTakenUnder limit self.old bytes told →
             (run : IsRun (take result piece.now) result) × HasToldUnder limit self.new (bytes ++ take result piece.now) (told ++ characters_from (length bytes) run.characters) }
         ensures all { (limit : ℕ) (bytes : List ℕ) (told : List Placed) → IsInsideUnder limit self.old bytes told → result ≡ prefix_len is_still_space piece.now }
-        ensures count { taken self.new ≡ taken self.old + result }
-        ensures failed { failed self.new ≡ failed self.old }
-        ensures again { (e : MarkError) → failed self.old ≡ Some e → (result ≡ 0) × (self.new ≡ self.old) }
+        ensures count { bytes_taken self.new ≡ bytes_taken self.old + result }
+        ensures failed { reader_failure self.new ≡ reader_failure self.old }
+        ensures again { (e : MarkError) → reader_failure self.old ≡ Some e → (result ≡ 0) × (self.new ≡ self.old) }
     {
         let count = self.count_blanks(piece);
         if count > 0 {
@@ -210,17 +210,17 @@ impl Reader {
     /// tells, with names in the namespace of the innermost open element. Any other token is for
     /// `take`. Where there is no memory, and after an error, it answers as `take` does.
     pub fn take_tag<'a>(&mut self, piece: &'a [u8]) -> Result<Option<PlainTag<'a>>, MarkError>
-        requires { failed self.old ≡ None → taken self.old + length piece.now ≤ 2 ^ 40 }
+        requires { reader_failure self.old ≡ None → bytes_taken self.old + length piece.now ≤ 2 ^ 40 }
         ensures none { IfOk result (λ o. o ≡ None → self.new ≡ self.old) }
         ensures within { IfOk result (λ o. IfSome o (λ tag. (0 < tag.bytes) × (tag.bytes ≤ length piece.now))) }
         ensures spelled { IfOk result (λ o. IfSome o (λ tag. take tag.bytes piece.now ≡ tag_text tag.kind tag.name.now)) }
         ensures taken { (limit : ℕ) (bytes : List ℕ) (told : List Placed) → HasTakenUnder limit self.old bytes told → IfOk result (λ o. IfSome o (λ tag.
             HasToldUnder limit self.new (bytes ++ take tag.bytes piece.now) (told ++ placed_at (length bytes) (tag_items tag.kind (name_behind told tag.name.now))))) }
         ensures all { (limit : ℕ) (bytes : List ℕ) (told : List Placed) (kind : TagKind) (name rest : List ℕ) → MayTakeTagUnder limit self.old bytes told kind name → piece.now ≡ tag_text kind name ++ rest → IfOk result (λ o. IsSome o) }
-        ensures count { IfOk result (λ o. IfSome o (λ tag. taken self.new ≡ taken self.old + tag.bytes)) }
-        ensures failed { IfErr result (λ e. failed self.new ≡ Some e) }
-        ensures memory { failed self.old ≡ None → IfErr result (λ e. e ≡ MarkError.Memory) }
-        ensures again { (e : MarkError) → failed self.old ≡ Some e → (result ≡ Err e) × (self.new ≡ self.old) }
+        ensures count { IfOk result (λ o. IfSome o (λ tag. bytes_taken self.new ≡ bytes_taken self.old + tag.bytes)) }
+        ensures failed { IfErr result (λ e. reader_failure self.new ≡ Some e) }
+        ensures memory { reader_failure self.old ≡ None → IfErr result (λ e. e ≡ MarkError.Memory) }
+        ensures again { (e : MarkError) → reader_failure self.old ≡ Some e → (result ≡ Err e) × (self.new ≡ self.old) }
     {
         if let Some(error) = self.failed {
             return Err(error);
@@ -243,15 +243,15 @@ impl Reader {
     /// bytes than a tag may have. Where there is no memory, and after an error, it answers as `take`
     /// does.
     pub fn take_inside(&mut self, piece: &[u8]) -> Result<usize, MarkError>
-        requires { failed self.old ≡ None → taken self.old + length piece.now ≤ 2 ^ 40 }
+        requires { reader_failure self.old ≡ None → bytes_taken self.old + length piece.now ≤ 2 ^ 40 }
         ensures none { IfOk result (λ n. n ≡ 0 → self.new ≡ self.old) }
         ensures within { IfOk result (λ n. n ≤ length piece.now) }
         ensures taken { (limit : ℕ) (bytes : List ℕ) (told : List Placed) → HasTakenUnder limit self.old bytes told → IfOk result (λ n. 0 < n → HasToldUnder limit self.new (bytes ++ take n piece.now) told) }
         ensures all { (limit : ℕ) (bytes : List ℕ) (told : List Placed) (more rest : List ℕ) → MayTakeInsideUnder limit self.old bytes told more → piece.now ≡ more ++ rest → IfOk result (λ n. length more ≤ n) }
-        ensures count { IfOk result (λ n. taken self.new ≡ taken self.old + n) }
-        ensures failed { IfErr result (λ e. failed self.new ≡ Some e) }
-        ensures memory { failed self.old ≡ None → IfErr result (λ e. e ≡ MarkError.Memory) }
-        ensures again { (e : MarkError) → failed self.old ≡ Some e → (result ≡ Err e) × (self.new ≡ self.old) }
+        ensures count { IfOk result (λ n. bytes_taken self.new ≡ bytes_taken self.old + n) }
+        ensures failed { IfErr result (λ e. reader_failure self.new ≡ Some e) }
+        ensures memory { reader_failure self.old ≡ None → IfErr result (λ e. e ≡ MarkError.Memory) }
+        ensures again { (e : MarkError) → reader_failure self.old ≡ Some e → (result ≡ Err e) × (self.new ≡ self.old) }
     {
         if let Some(error) = self.failed {
             return Err(error);
@@ -275,8 +275,8 @@ impl Reader {
     /// How many bytes are held for the open token: those of the names and values that a tag has said
     /// so far. It takes no memory.
     pub fn token(&self) -> u64
-        ensures count { token self.now < 2 ^ 64 → result ≡ token self.now }
-        ensures held { (limit : ℕ) (bytes : List ℕ) (told : List Placed) → HasTakenUnder limit self.now bytes told → result ≡ token self.now }
+        ensures count { open_token_held self.now < 2 ^ 64 → result ≡ open_token_held self.now }
+        ensures held { (limit : ℕ) (bytes : List ℕ) (told : List Placed) → HasTakenUnder limit self.now bytes told → result ≡ open_token_held self.now }
         ensures within { (limit : ℕ) (bytes : List ℕ) (told : List Placed) → HasTakenUnder limit self.now bytes told → result ≤ token_length self.now }
         ensures bound { (limit : ℕ) (bytes : List ℕ) (told : List Placed) → HasTakenUnder limit self.now bytes told → result ≤ limit }
     {
@@ -286,9 +286,9 @@ impl Reader {
     /// Forgets what the open token has said, so that no bytes are held for it. It is for a reader that
     /// takes no more bytes.
     pub fn forget_token(&mut self)
-        ensures token { token self.new ≡ 0 }
-        ensures count { taken self.new ≡ taken self.old }
-        ensures failed { failed self.new ≡ failed self.old }
+        ensures token { open_token_held self.new ≡ 0 }
+        ensures count { bytes_taken self.new ≡ bytes_taken self.old }
+        ensures failed { reader_failure self.new ≡ reader_failure self.old }
     {
         let _ = self.tokenizer.take_draft();
     }
@@ -312,10 +312,10 @@ impl Reader {
         ensures within { result.bytes ≤ length piece.now }
         ensures only { IsFreeRun (take result.bytes piece.now) result.characters }
         ensures blank { result.blank ≡ list_all is_space (take result.bytes piece.now) }
-        ensures ready { 0 < result.bytes → IsReady self.now }
-        ensures sound { 0 < result.bytes → failed self.now ≡ None }
+        ensures ready { 0 < result.bytes → IsReaderReady self.now }
+        ensures sound { 0 < result.bytes → reader_failure self.now ≡ None }
         ensures all { (limit : ℕ) (bytes : List ℕ) (told : List Placed) → IsInsideUnder limit self.now bytes told → prefix_len is_literal piece.now ≤ result.bytes }
-        ensures none { (e : MarkError) → failed self.now ≡ Some e → (result.bytes ≡ 0) × (result.characters ≡ 0) }
+        ensures none { (e : MarkError) → reader_failure self.now ≡ Some e → (result.bytes ≡ 0) × (result.characters ≡ 0) }
     {
         let none = Run {
             bytes: 0,
@@ -343,10 +343,10 @@ impl Reader {
         ensures within { result ≤ length piece.now }
         ensures only { IsFreeRun (take result piece.now) result }
         ensures blank { list_all is_space (take result piece.now) ≡ true }
-        ensures ready { 0 < result → IsReady self.now }
-        ensures sound { 0 < result → failed self.now ≡ None }
+        ensures ready { 0 < result → IsReaderReady self.now }
+        ensures sound { 0 < result → reader_failure self.now ≡ None }
         ensures all { (limit : ℕ) (bytes : List ℕ) (told : List Placed) → IsInsideUnder limit self.now bytes told → result ≡ prefix_len is_still_space piece.now }
-        ensures none { (e : MarkError) → failed self.now ≡ Some e → result ≡ 0 }
+        ensures none { (e : MarkError) → reader_failure self.now ≡ Some e → result ≡ 0 }
     {
         if self.failed.is_some() {
             return 0;
@@ -367,8 +367,8 @@ impl Reader {
             IfOk result (λ _. IsWhollyUnder limit bytes told) }
         ensures err { (limit : ℕ) (bytes : List ℕ) (told : List Placed) → HasTakenUnder limit self.old bytes told →
             IfErr result (λ e. EndsEarlyUnder limit bytes e) }
-        ensures failed { IfErr result (λ e. failed self.new ≡ Some e) }
-        ensures again { (e : MarkError) → failed self.old ≡ Some e → (result ≡ Err e) × (self.new ≡ self.old) }
+        ensures failed { IfErr result (λ e. reader_failure self.new ≡ Some e) }
+        ensures again { (e : MarkError) → reader_failure self.old ≡ Some e → (result ≡ Err e) × (self.new ≡ self.old) }
         ensures still { IfOk result (λ _. self.new ≡ self.old) }
         ensures same { out.new ≡ out.old }
     {
@@ -389,12 +389,12 @@ impl Reader {
 
     /// Takes the next byte, where the reader has not failed.
     fn step(&mut self, byte: u8, out: &mut Events) -> Result<(), MarkError>
-        requires { taken self.old < 2 ^ 40 }
+        requires { bytes_taken self.old < 2 ^ 40 }
         ensures ok { (limit : ℕ) (bytes : List ℕ) (told : List Placed) → HasTakenUnder limit self.old bytes told →
             IfOk result (λ _. GoesOnUnder limit self.new (bytes ++ byte ∷ []) told out.old out.new) }
         ensures err { (limit : ℕ) (bytes : List ℕ) (told : List Placed) → HasTakenUnder limit self.old bytes told →
             IfErr result (λ e. StopsUnder limit (bytes ++ byte ∷ []) told out.old out.new e) }
-        ensures count { IfOk result (λ _. taken self.new ≡ taken self.old + 1) }
+        ensures count { IfOk result (λ _. bytes_taken self.new ≡ bytes_taken self.old + 1) }
     {
         let place = self.tokenizer.start();
         let cdata = self.tokenizer.in_cdata();
@@ -406,12 +406,12 @@ impl Reader {
 
     /// Takes any next byte, where the reader has not failed.
     fn step_any(&mut self, byte: u8, out: &mut Events) -> Result<(), MarkError>
-        requires { taken self.old < 2 ^ 40 }
+        requires { bytes_taken self.old < 2 ^ 40 }
         ensures ok { (limit : ℕ) (bytes : List ℕ) (told : List Placed) → HasTakenUnder limit self.old bytes told →
             IfOk result (λ _. GoesOnUnder limit self.new (bytes ++ byte ∷ []) told out.old out.new) }
         ensures err { (limit : ℕ) (bytes : List ℕ) (told : List Placed) → HasTakenUnder limit self.old bytes told →
             IfErr result (λ e. StopsUnder limit (bytes ++ byte ∷ []) told out.old out.new e) }
-        ensures count { IfOk result (λ _. taken self.new ≡ taken self.old + 1) }
+        ensures count { IfOk result (λ _. bytes_taken self.new ≡ bytes_taken self.old + 1) }
     {
         if self.settle(byte, out).is_err() {
             return Err(MarkError::Memory);
@@ -421,12 +421,12 @@ impl Reader {
 
     /// Tells what the byte does not go on with.
     fn settle(&mut self, byte: u8, out: &mut Events) -> Result<(), AllocError>
-        requires { taken self.old < 2 ^ 40 }
+        requires { bytes_taken self.old < 2 ^ 40 }
         ensures ok { (limit : ℕ) (bytes : List ℕ) (told : List Placed) → HasTakenUnder limit self.old bytes told →
             IfOk result (λ _. SettlesEvents limit self.new bytes told byte out.old out.new) }
         ensures err { (limit : ℕ) (bytes : List ℕ) (told : List Placed) → HasTakenUnder limit self.old bytes told →
             IfErr result (λ _. RunsOutUnder limit (bytes ++ byte ∷ []) told out.old out.new) }
-        ensures place { taken self.new ≡ taken self.old }
+        ensures place { bytes_taken self.new ≡ bytes_taken self.old }
     {
         let place = self.tokenizer.start();
         let settled = self.tokenizer.settle(byte);
@@ -435,12 +435,12 @@ impl Reader {
 
     /// Takes a byte that what is open goes on with.
     fn advance(&mut self, byte: u8, out: &mut Events) -> Result<(), MarkError>
-        requires { taken self.old < 2 ^ 40 }
+        requires { bytes_taken self.old < 2 ^ 40 }
         ensures ok { (limit : ℕ) (bytes : List ℕ) (tokens : List Token) (told : List Placed) → Keeps limit (Begins byte) self.old bytes tokens told → IsAwaited self.old.tokenizer.scan byte →
             IfOk result (λ _. TellsMore limit Any self.new (bytes ++ byte ∷ []) told out.old out.new) }
         ensures err { (limit : ℕ) (bytes : List ℕ) (tokens : List Token) (told : List Placed) → Keeps limit (Begins byte) self.old bytes tokens told → IsAwaited self.old.tokenizer.scan byte →
             IfErr result (λ e. StopsUnder limit (bytes ++ byte ∷ []) told out.old out.new e) }
-        ensures count { IfOk result (λ _. taken self.new ≡ taken self.old + 1) }
+        ensures count { IfOk result (λ _. bytes_taken self.new ≡ bytes_taken self.old + 1) }
     {
         let place = self.tokenizer.start();
         let cdata = self.tokenizer.in_cdata();
@@ -470,7 +470,7 @@ impl Reader {
 
     /// Tells a CR that has come.
     fn tell_return(&self, place: u64, out: &mut Events) -> Result<(), MarkError>
-        ensures ok { OnOk result ((f : Finish) × FinishesBy self.now.tokenizer f × Tells out.old out.new (returned f place)) }
+        ensures ok { OnOk result ((f : Finish) × FinishesBy self.now.tokenizer f × Tells out.old out.new (return_items f place)) }
         ensures err { IfErr result (λ e. (e ≡ MarkError.Memory) × (out.new ≡ out.old)) }
     {
         if self.has_open_return() && self.context.tell_line_end(place, out).is_err() {
@@ -509,7 +509,7 @@ impl Reader {
     ) -> Result<(), MarkError>
         ensures token { (before : List Token) (t : Token) → IsContext self.old.context before → ended_of t ≡ ended → draft_of t ≡ self.old.tokenizer.draft → in_cdata before ≡ cdata →
             TokenAnswered before t place out.old out.new self.new.context result }
-        ensures rest { (self.new.tokenizer ≡ undrafted self.old.tokenizer) × (self.new.failed ≡ self.old.failed) }
+        ensures rest { (self.new.tokenizer ≡ without_draft self.old.tokenizer) × (self.new.failed ≡ self.old.failed) }
     {
         let draft = self.tokenizer.take_draft();
         match self.context.take(ended, draft, cdata, place, out) {

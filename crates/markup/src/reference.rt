@@ -1,6 +1,6 @@
 // References, read a character at a time (XML 1.0 §4.1).
 ghost use Rattle.std.specs.Prelude.{◌≡◌, ◌≤◌};
-ghost use Rattle.markup.specs.ReferenceScans.{digit_step, numbered, entity_char_of, word_step, digits_step, reference_step};
+ghost use Rattle.markup.specs.ReferenceScans.{digit_step, numbered_char, entity_char_of, word_step, digits_step, reference_step};
 
 use crate::characters::is_allowed;
 use crate::word::Word;
@@ -115,7 +115,7 @@ fn behind_digits(number: u32, c: char) -> ReferenceTurn
 
 /// The XML character of this number.
 pub(crate) fn character(number: u32) -> Option<char>
-    ensures { result ≡ numbered number }
+    ensures { result ≡ numbered_char number }
 {
     match char::from_u32(number) {
         Some(c) => { if is_allowed(c) { Some(c) } else { None } }

@@ -1,6 +1,6 @@
 // The elements that are open, with the namespaces that their tags declare.
 ghost use Rattle.std.specs.Prelude.{◌≡◌, ◌==◌, ◌≤◌, ◌++◌, ◌∷◌, List, [], ℕ, length, drop, IfOk, OnOk, OnErr, IfSome, IsSome, Some, None, Option, map, false, true, ◌&&◌, if◌then◌else◌};
-ghost use Rattle.markup.specs.Events.{namespace_of, started, expanded, end_items};
+ghost use Rattle.markup.specs.Events.{namespace_of, start_tag_items, expanded_in, end_items};
 ghost use Rattle.markup.specs.EventItems.{entry_of, Tells, TellsFront};
 ghost use Rattle.markup.specs.Bindings.{Binds};
 ghost use Rattle.lexical_core.specs.declared.rule.Rule.TheVariants.{TagMismatch};
@@ -55,7 +55,7 @@ pub(crate) struct Scope {
 }
 
 impl Scope {
-    ghost use Rattle.markup.specs.Scopes.{IsScope, Begins, Closes};
+    ghost use Rattle.markup.specs.Scopes.{IsScope, IsStartAnswer, Closes};
     ghost use Rattle.markup.specs.inner.OneAttribute.{IsOnePlain};
     ghost use Rattle.markup.specs.inner.TagParts.{IsResolved};
 
@@ -94,7 +94,7 @@ impl Scope {
         place: u64,
         out: &mut Events,
     ) -> Result<(), Stop>
-        ensures { (tags : List Opening) → IsScope self.old tags → Begins over tags tag place out.old out.new self.new result }
+        ensures { (tags : List Opening) → IsScope self.old tags → IsStartAnswer over tags tag place out.old out.new self.new result }
     {
         let Opening {
             name,
@@ -191,7 +191,7 @@ impl Scope {
     ) -> Result<(), AllocError>
         ensures names { (names : List OpenName) → KeepsNames self.old.names names → OnOk result (KeepsNames self.new.names ((record { name = name; declared = declared }) ∷ names)) }
         ensures declared { self.new.bindings ≡ self.old.bindings }
-        ensures ok { OnOk result (Tells out.old out.new (placed_at place (started (expanded (Some ns) name.local) (map entry_of attrs) false))) }
+        ensures ok { OnOk result (Tells out.old out.new (placed_at place (start_tag_items (expanded_in (Some ns) name.local) (map entry_of attrs) false))) }
         ensures err { OnErr result (out.new ≡ out.old) }
     {
         self.names
@@ -212,8 +212,8 @@ impl Scope {
     ) -> Result<(), AllocError>
         ensures names { self.new.names ≡ self.old.names }
         ensures declared { (before : List Given) → Binds self.old.bindings before → Binds self.new.bindings (drop declared before) }
-        ensures ok { OnOk result (Tells out.old out.new (placed_at place (started (expanded (Some ns) name.local) (map entry_of attrs) true))) }
-        ensures err { OnErr result (TellsFront out.old out.new (placed_at place (started (expanded (Some ns) name.local) (map entry_of attrs) true))) }
+        ensures ok { OnOk result (Tells out.old out.new (placed_at place (start_tag_items (expanded_in (Some ns) name.local) (map entry_of attrs) true))) }
+        ensures err { OnErr result (TellsFront out.old out.new (placed_at place (start_tag_items (expanded_in (Some ns) name.local) (map entry_of attrs) true))) }
     {
         self.bindings.forget(declared);
         tell_both(out, place, ns, name.local, attrs, self.alloc)

@@ -1,7 +1,7 @@
 // Events that a tag tells, with the place of its first byte.
 ghost use Rattle.std.specs.Prelude.{◌≡◌, false, true, [], ◌∷◌, ◌++◌, OnOk, OnErr, map, Some};
 ghost use Rattle.lexical_core.specs.Tree.{Starts, Ends};
-ghost use Rattle.markup.specs.Events.{started, ended, expanded};
+ghost use Rattle.markup.specs.Events.{start_tag_items, end_tag_items, expanded_in};
 ghost use Rattle.markup.specs.EventItems.{entry_of, Tells, TellsFront};
 ghost use Rattle.markup.specs.Scopes.{placed_at};
 
@@ -26,7 +26,7 @@ pub(crate) fn tell_start(
     local: Text,
     attrs: Attrs,
 ) -> Result<(), AllocError>
-    ensures ok { OnOk result (Tells out.old out.new (placed_at place (started (expanded (Some ns) local) (map entry_of attrs) false))) }
+    ensures ok { OnOk result (Tells out.old out.new (placed_at place (start_tag_items (expanded_in (Some ns) local) (map entry_of attrs) false))) }
     ensures err { OnErr result (out.new ≡ out.old) }
 {
     tell(out, place, What::Start { ns, local, attrs })
@@ -39,7 +39,7 @@ pub(crate) fn tell_end(
     namespace: Option<Namespace>,
     local: Text,
 ) -> Result<(), AllocError>
-    ensures ok { OnOk result (Tells out.old out.new (placed_at place (ended (expanded namespace local)))) }
+    ensures ok { OnOk result (Tells out.old out.new (placed_at place (end_tag_items (expanded_in namespace local)))) }
     ensures err { OnErr result (out.new ≡ out.old) }
 {
     match namespace {
@@ -57,8 +57,8 @@ pub(crate) fn tell_both(
     attrs: Attrs,
     alloc: Global,
 ) -> Result<(), AllocError>
-    ensures ok { OnOk result (Tells out.old out.new (placed_at place (started (expanded (Some ns) local) (map entry_of attrs) true))) }
-    ensures err { OnErr result (TellsFront out.old out.new (placed_at place (started (expanded (Some ns) local) (map entry_of attrs) true))) }
+    ensures ok { OnOk result (Tells out.old out.new (placed_at place (start_tag_items (expanded_in (Some ns) local) (map entry_of attrs) true))) }
+    ensures err { OnErr result (TellsFront out.old out.new (placed_at place (start_tag_items (expanded_in (Some ns) local) (map entry_of attrs) true))) }
 {
     let ns_again = ns.share()?;
     let local_again = local.copy(alloc)?;

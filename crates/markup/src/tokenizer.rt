@@ -1,7 +1,7 @@
 // Tokens of bytes that come one at a time.
 ghost use Rattle.std.specs.Prelude.{◌≡◌, ℕ, ◌<◌, ◌≤◌, ◌^◌, ◌+◌, ◌-◌, ◌∷◌, ◌++◌, true, Some, List, [], IfOk, IsTrue, IsFalse, length, take};
 ghost use Rattle.markup.specs.Token.{Token};
-ghost use Rattle.markup.specs.Tokenizers.{is_plain};
+ghost use Rattle.markup.specs.Tokenizers.{is_plain_in};
 
 use crate::characters::is_allowed;
 use crate::draft::Draft;
@@ -68,11 +68,11 @@ pub(crate) struct Tokenizer {
 }
 
 impl Position {
-    ghost use Rattle.markup.specs.Tokenizers.{behind};
+    ghost use Rattle.markup.specs.Tokenizers.{behind_token};
 
     /// Where a token begins behind one that ended so.
     fn behind(self, ended: Ended) -> Position
-        ensures { result ≡ behind self ended }
+        ensures { result ≡ behind_token self ended }
     {
         match ended {
             Ended::Mark => Position::AfterMark,
@@ -90,13 +90,13 @@ impl Position {
 /// one from 0x20 to 0x7F that is not `<` or `&`, and in a CDATA section not `]`.
 #[inline]
 fn is_plain(is_text: bool, byte: u8) -> bool
-    ensures { result ≡ is_plain is_text byte }
+    ensures { result ≡ is_plain_in is_text byte }
 {
     byte >= 0x20 && byte <= 0x7F && byte != b'<' && byte != b'&' && (is_text || byte != b']')
 }
 
 impl Scan {
-    ghost use Rattle.markup.specs.Tokenizers.{is_between, is_text, is_tag, is_reference, stuck_rule};
+    ghost use Rattle.markup.specs.Tokenizers.{is_between, is_text, is_tag, is_reference_open, stuck_rule};
 
     /// Whether a token begins behind another that is not the byte order mark.
     #[inline]
@@ -140,7 +140,7 @@ impl Scan {
 
     /// Whether a reference is open.
     fn is_reference(self) -> bool
-        ensures { result ≡ is_reference self }
+        ensures { result ≡ is_reference_open self }
     {
         matches!(self, Scan::Reference(_) | Scan::ValueReference(_, _))
     }
@@ -162,14 +162,14 @@ impl Scan {
 impl Tokenizer {
     ghost use Rattle.markup.specs.inner.Inside.{is_inside, may_be_tag, GoesOver, GoesByOne, GoesByAll, GoesInside};
     ghost use Rattle.markup.specs.Marks.{IsLimit};
-    ghost use Rattle.markup.specs.Drafts.{held};
+    ghost use Rattle.markup.specs.Drafts.{draft_size};
     ghost use Rattle.markup.specs.TokenRules.{is_cdata};
-    ghost use Rattle.markup.specs.Tokenizers.{bounded, ended, undrafted, outcome, charactered, AdvancedBy, AdvancesBy, IsOpen, restarted, settled, SettlesBy, open_at, FinishesBy, starts_plain, TakesPlain, is_ready, is_in_text, passed};
+    ghost use Rattle.markup.specs.Tokenizers.{bound_outcome, token_ended, without_draft, outcome, after_character, AdvancedBy, AdvancesBy, IsTokenOpen, at_next_token, settle_character, SettlesBy, open_at, FinishesBy, starts_plain, TakesPlain, is_ready, is_in_text, after_whole_tokens};
 
     /// A reader before the first byte, of tags of at most so many bytes. It takes no memory.
     pub(crate) fn new(alloc: Global, limit: u64) -> Tokenizer
         requires { IsLimit limit }
-        ensures opens { IsOpen limit result [] [] }
+        ensures opens { IsTokenOpen limit result [] [] }
         ensures place { result.place ≡ 0 }
     {
         Tokenizer {
@@ -201,7 +201,7 @@ impl Tokenizer {
 
     /// How many bytes are held for the open token.
     pub(crate) fn held(&self) -> u64
-        ensures { held self.now.draft < 2 ^ 64 → result ≡ held self.now.draft }
+        ensures { draft_size self.now.draft < 2 ^ 64 → result ≡ draft_size self.now.draft }
     {
         self.draft.held()
     }
@@ -216,7 +216,7 @@ impl Tokenizer {
 
     /// The next token begins behind one that opens and closes nothing.
     fn restart(&mut self)
-        ensures { self.new ≡ restarted self.old }
+        ensures { self.new ≡ at_next_token self.old }
     {
         self.position = self.position.behind(Ended::LineEnd);
         self.scan = Scan::Begin(self.position);
@@ -226,8 +226,8 @@ impl Tokenizer {
     /// Ends what does not go on with the byte.
     #[inline]
     fn settle_open(&mut self, byte: u8) -> Settled
-        ensures value { result ≡ (settled self.old byte).0 }
-        ensures after { self.new ≡ (settled self.old byte).1 }
+        ensures value { result ≡ (settle_character self.old byte).0 }
+        ensures after { self.new ≡ (settle_character self.old byte).1 }
     {
         match self.scan {
             Scan::AfterReturn => {
@@ -275,7 +275,7 @@ impl Tokenizer {
     /// A tag that has not ended may not have all the bytes that it may have.
     #[inline]
     fn bounded(&self) -> Progress
-        ensures { outcome result self.now ≡ (bounded self.now, self.now) }
+        ensures { outcome result self.now ≡ (bound_outcome self.now, self.now) }
     {
         if self.scan.is_tag() && self.place.saturating_sub(self.start) >= self.limit {
             Progress::Refused(Rule::BadMarkup)
@@ -287,7 +287,7 @@ impl Tokenizer {
     /// The token has ended.
     #[inline]
     fn end(&mut self, token: Ended) -> Progress
-        ensures { outcome result self.new ≡ ended self.old token }
+        ensures { outcome result self.new ≡ token_ended self.old token }
     {
         self.position = self.position.behind(token);
         self.scan = Scan::Begin(self.position);
@@ -299,14 +299,14 @@ impl Tokenizer {
     #[inline]
     pub(crate) fn take_draft(&mut self) -> Draft
         ensures value { result ≡ self.old.draft }
-        ensures after { self.new ≡ undrafted self.old }
+        ensures after { self.new ≡ without_draft self.old }
     {
         mem::replace(&mut self.draft, Draft::new(self.alloc))
     }
 
     /// Takes a character.
     fn character(&mut self, c: char) -> Result<Progress, AllocError>
-        ensures { IfOk result (λ p. outcome p self.new ≡ charactered self.old c) }
+        ensures { IfOk result (λ p. outcome p self.new ≡ after_character self.old c) }
     {
         match self.scan.turn(c) {
             Turn::Goes(scan) => {
@@ -388,7 +388,7 @@ impl Tokenizer {
     #[inline]
     pub(crate) fn pass(&mut self, count: u64)
         requires { self.old.place + count ≤ 2 ^ 40 }
-        ensures { self.new ≡ passed self.old count }
+        ensures { self.new ≡ after_whole_tokens self.old count }
     {
         self.place += count;
         self.start = self.place;

@@ -7,7 +7,7 @@ use Rattle.facets.specs.declared.simple.Simple.{Simple}
 use Rattle.reference_check.specs.Forms.{Slot, Form, form_slots}
 use Rattle.reference_check.specs.Forms as form
 use Rattle.reference_check.specs.Words.{times, IsSequence}
-use Rattle.reference_check.specs.Steps.{Next, Slotted, OutOfOrder, TooMany, Second, has_room, first_lacking, after_order, find_slot, sequence_next, choice_next, CameAfter, Came, EndsWith, next, next_of, next_at, next_found}
+use Rattle.reference_check.specs.Steps.{NextSlot, Slotted, OutOfOrder, TooMany, Second, has_room, first_lacking, after_order, find_slot, sequence_next, choice_next, CameAfter, Came, EndsWith, next, next_of, next_at, next_found}
 use Rattle.message_model.specs.Sound.{IsSoundForm, SlotComes, count_with}
 use Rattle.reference_check.proofs.Words.{times-append}
 use Rattle.message_model.proofs.Quick.{Completed, came_completes, starts}
@@ -37,11 +37,11 @@ ends_new d k none = (d, refl, times-append k d (k ∷ []) ∙ one k (times k d) 
     one : (k n : ℕ) → n ≡ 0 → n + (cond (k == k) 1 0 + 0) ≡ 1
     one k n e = grind (arith, nat_tests)
 
-if_slotted : (b : Bool) (x y : Next) (k : ℕ) → (y ≡ Slotted k → ⊥) → (if b then x else y) ≡ Slotted k → b ≡ true
+if_slotted : (b : Bool) (x y : NextSlot) (k : ℕ) → (y ≡ Slotted k → ⊥) → (if b then x else y) ≡ Slotted k → b ≡ true
 if_slotted true x y k q e = refl
 if_slotted false x y k q e = absurd (q e)
 
-unless_slotted : (b : Bool) (x y : Next) (k : ℕ) → (x ≡ Slotted k → ⊥) → (if b then x else y) ≡ Slotted k → b ≡ false
+unless_slotted : (b : Bool) (x y : NextSlot) (k : ℕ) → (x ≡ Slotted k → ⊥) → (if b then x else y) ≡ Slotted k → b ≡ false
 unless_slotted true x y k q e = absurd (q e)
 unless_slotted false x y k q e = refl
 

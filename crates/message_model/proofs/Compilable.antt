@@ -5,7 +5,7 @@ use Rattle.std.proofs.lemmas.Option.{slice_get_within, get_or_from_slice_get, sl
 use Rattle.repo_objects.specs.declared.objects.ElementDef.{ElementDef}
 use Rattle.repo_objects.specs.declared.objects.MessageDef.{MessageDef}
 use Rattle.repo_objects.specs.declared.objects.Object.{Object}
-use Rattle.repo_objects.specs.Repository.{Entry, Contents, IsRepository}
+use Rattle.repo_objects.specs.Repository.{DictionaryEntry, Contents, IsRepository}
 use Rattle.reference_check.specs.declared.reached.Reach.{Reach}
 use Rattle.reference_check.specs.Graph.{Place, message, entry, references, find_entry, find_message}
 use Rattle.reference_check.specs.Reach.{Reaches, itself, element, currency, elements_of, elements_or_none, blocks_or_none, currency_or_none, rank_of}
@@ -13,7 +13,7 @@ use Rattle.reference_check.specs.Reached.{HasReach}
 use Rattle.reference_check.specs.Rules.{Breaks, Dangling, NotOneReference, LeftOutKind}
 use Rattle.message_model.specs.Ready.{IsReady, OnObjects, BadFacets}
 use Rattle.message_model.specs.Compiled.{IsReachedList}
-use Rattle.message_model.specs.inner.Numbers.{StandsAt, NamesPlace, NamePlaces, IsCompilable, AreCompilable, ids_at}
+use Rattle.message_model.specs.inner.Numbers.{StandsAmong, NamesPlace, NamePlaces, IsCompilable, AreCompilable, ids_at}
 use Rattle.message_model.proofs.Places.{found_entry, finds_at, ranks_at}
 use Rattle.message_model.proofs.Numbering.{ids_get, stands_get}
 
@@ -46,7 +46,7 @@ module _ (R : Contents) (m : List ℕ) (ready : IsReady R m) where
       by (Some x) h = (x, h)
 
   module _ (whole : IsRepository R) (r : Reach) (has : HasReach R m r) where
-    pub stands : (id : List ℕ) → Reaches R m (entry id) → StandsAt R.objects r.objects id
+    pub stands : (id : List ℕ) → Reaches R m (entry id) → StandsAmong R.objects r.objects id
     stands id reach =
         let found = object_there id reach in
         let at = found_entry R.objects id found.0 found.1 in
@@ -66,7 +66,7 @@ module _ (R : Contents) (m : List ℕ) (ready : IsReady R m) where
     pub blocks_name : (d : MessageDef) → find_message m R.messages ≡ Some d → NamePlaces R.objects r.objects d.blocks
     blocks_name d first e inside = names message e itself (subst (λ o. Contains (blocks_or_none o) e) (sym first) inside)
 
-    pub compilable : (k : ℕ) (e : Entry) → Contains r.objects k → slice_get R.objects k ≡ Some e → IsCompilable R r.objects e.object
+    pub compilable : (k : ℕ) (e : DictionaryEntry) → Contains r.objects k → slice_get R.objects k ≡ Some e → IsCompilable R r.objects e.object
     compilable k e inside at =
         let reach : Reaches R m (entry e.id) = (has.reached k e at).0 inside in
         let found : find_entry e.id R.objects ≡ Some e.object = finds_at R whole k e at in
@@ -80,13 +80,13 @@ module _ (R : Contents) (m : List ℕ) (ready : IsReady R m) where
     pub all_compilable : AreCompilable R r.objects
     all_compilable = record { within = has.within; each = compilable }
 
-    entry_at : (k : ℕ) → k < length R.objects → (e : Entry) × (slice_get R.objects k ≡ Some e)
+    entry_at : (k : ℕ) → k < length R.objects → (e : DictionaryEntry) × (slice_get R.objects k ≡ Some e)
     entry_at k lt = by (slice_get R.objects k) refl
       where
-        by : (o : Option Entry) → slice_get R.objects k ≡ o → (e : Entry) × (slice_get R.objects k ≡ Some e)
+        by : (o : Option DictionaryEntry) → slice_get R.objects k ≡ o → (e : DictionaryEntry) × (slice_get R.objects k ≡ Some e)
         by None h = absurd (none R.objects k lt h)
           where
-            none : (es : List Entry) (k : ℕ) → k < length es → slice_get es k ≡ None → ⊥
+            none : (es : List DictionaryEntry) (k : ℕ) → k < length es → slice_get es k ≡ None → ⊥
             none [] k lt h = omega arith
             none (e ∷ es) zero lt h = cc
             none (e ∷ es) (suc k) lt h = none es k (omega arith) h
@@ -94,7 +94,7 @@ module _ (R : Contents) (m : List ℕ) (ready : IsReady R m) where
 
     -- the place that stands there in the list, and its entry
     listed : (i : ℕ) (id : List ℕ) → slice_get (ids_at R.objects r.objects) i ≡ Some id
-        → (k : ℕ) × (e : Entry) × (slice_get r.objects i ≡ Some k) × (slice_get R.objects k ≡ Some e) × (e.id ≡ id)
+        → (k : ℕ) × (e : DictionaryEntry) × (slice_get r.objects i ≡ Some k) × (slice_get R.objects k ≡ Some e) × (e.id ≡ id)
     listed i id h = by (slice_get r.objects i) refl
       where
         past : (places : List ℕ) (i : ℕ) → slice_get places i ≡ None → slice_get (ids_at R.objects places) i ≡ None
@@ -102,7 +102,7 @@ module _ (R : Contents) (m : List ℕ) (ready : IsReady R m) where
         past (p ∷ places) zero g = absurd cc
         past (p ∷ places) (suc i) g = past places i g
 
-        by : (o : Option ℕ) → slice_get r.objects i ≡ o → (k : ℕ) × (e : Entry) × (slice_get r.objects i ≡ Some k) × (slice_get R.objects k ≡ Some e) × (e.id ≡ id)
+        by : (o : Option ℕ) → slice_get r.objects i ≡ o → (k : ℕ) × (e : DictionaryEntry) × (slice_get r.objects i ≡ Some k) × (slice_get R.objects k ≡ Some e) × (e.id ≡ id)
         by None g = (let none = past r.objects i g in absurd cc)
         by (Some k) g =
             let inside : get_or r.objects i k ≡ k = get_or_from_slice_get r.objects i k k g in

@@ -18,7 +18,7 @@ use Rattle.reference_check.specs.Laws.{ReadyAreFinite}
 use Rattle.reference_check.specs.Reach.{Reaches, itself}
 use Rattle.reference_check.specs.Rules.{NoMessage, LeftOutKind}
 use Rattle.reference_check.specs.Shapes.{Component, Nothing, Child, HasShape, IsFinite, AreFinite}
-use Rattle.reference_check.specs.Words.{IsWithin, IsSequence, times}
+use Rattle.reference_check.specs.Words.{MayComeTimes, IsSequence, times}
 use Rattle.reference_check.proofs.RenamedForms.{form_slot_to}
 use Rattle.message_model.specs.Compiled.{Compiles, IsReachedList, types, place_of}
 use Rattle.message_model.specs.Ready.{IsReady, OnObjects}
@@ -33,8 +33,8 @@ use Rattle.message_model.proofs.SoundTypes.{IsTypePlace, IsTarget, types_lead}
 one_comes : (s : Slot Place) → s.min ≡ 1 → s.max ≡ Some 1 → IsSequence (s ∷ []) (0 ∷ [])
 one_comes s min max = record { ordered = (omega arith, omega arith, tt); within = within }
   where
-    within : (k : ℕ) (t : Slot Place) → slice_get (s ∷ []) k ≡ Some t → IsWithin (times k (0 ∷ [])) t
-    within zero t at = subst (λ (x : Slot Place). IsWithin 1 x) (same_Some s t at) (rw min rw max (omega arith, omega arith))
+    within : (k : ℕ) (t : Slot Place) → slice_get (s ∷ []) k ≡ Some t → MayComeTimes (times k (0 ∷ [])) t
+    within zero t at = subst (λ (x : Slot Place). MayComeTimes 1 x) (same_Some s t at) (rw min rw max (omega arith, omega arith))
     within (suc k) t at = absurd cc
 
 module _ (finite : ReadyAreFinite) (R : Contents) (m : List ℕ) (ready : IsReady R m) where

@@ -7,7 +7,7 @@ use Rattle.reference_check.specs.Forms as form
 use Rattle.reference_check.specs.Words.{UpTo, IsChoice}
 use Rattle.reference_check.specs.Steps.{Slotted, next, next_of, next_at, next_found, Came}
 use Rattle.message_model.specs.Sound.{IsSoundForm}
-use Rattle.reference_check.specs.Shapes.{GoesOn}
+use Rattle.reference_check.specs.Shapes.{WordGoesOn}
 use Rattle.message_model.specs.Continued.{CameGoesOn, NextGoesOn, EndIsWord}
 use Rattle.reference_check.proofs.Words.{up_to_filled}
 use Rattle.message_model.proofs.CameMore.{came_more}
@@ -48,7 +48,7 @@ choice_on fs k d s sound found (m, e, room) = (
   ),
 )
 
-pub came_goes_on : {P : Type 0} (f : Form P Simple) (d : List ℕ) → IsSoundForm f → GoesOn f [] → Came f d → GoesOn f d
+pub came_goes_on : {P : Type 0} (f : Form P Simple) (d : List ℕ) → IsSoundForm f → WordGoesOn f [] → Came f d → WordGoesOn f d
 came_goes_on (form.Sequence fs) d sound start came = came_completes Simple fs [] d sound.bounds start came
 came_goes_on (form.Choice fs) [] sound start came = start
 came_goes_on (form.Choice fs) (k ∷ d) sound start ((s, found, first), came) =
@@ -58,13 +58,13 @@ came_goes_on f d sound (e, w) came = absurd w
 pub next_is : {P : Type 0} (f : Form P Simple) (d : List ℕ) (k : ℕ) (s : Slot P) → IsSoundForm f → slice_get (form_slots f) k ≡ Some s → next f d s.tag ≡ next_of f d k s
 next_is f d k s sound found = ap (next_found f (form_slots f) d) (sound.tags k s found) ∙ ap (next_at f d k) found
 
-pub next_goes_on : {P : Type 0} (f : Form P Simple) (d : List ℕ) (k : ℕ) (s : Slot P) → IsSoundForm f → GoesOn f [] → Came f d → slice_get (form_slots f) k ≡ Some s → (next f d s.tag ≡ Slotted k) ↔ GoesOn f (d ++ k ∷ [])
+pub next_goes_on : {P : Type 0} (f : Form P Simple) (d : List ℕ) (k : ℕ) (s : Slot P) → IsSoundForm f → WordGoesOn f [] → Came f d → slice_get (form_slots f) k ≡ Some s → (next f d s.tag ≡ Slotted k) ↔ WordGoesOn f (d ++ k ∷ [])
 next_goes_on f d k s sound start came found = (to, back)
   where
-    to : next f d s.tag ≡ Slotted k → GoesOn f (d ++ k ∷ [])
+    to : next f d s.tag ≡ Slotted k → WordGoesOn f (d ++ k ∷ [])
     to e = came_goes_on f (d ++ k ∷ []) sound start (came_more f d k s came found (sym (next_is f d k s sound found) ∙ e))
 
-    back : GoesOn f (d ++ k ∷ []) → next f d s.tag ≡ Slotted k
+    back : WordGoesOn f (d ++ k ∷ []) → next f d s.tag ≡ Slotted k
     back (more, word) = next_is f d k s sound found ∙ (agrees f sound).goes_on d more k s found (rw append_assoc at word)
 
 pub came_are : CameGoesOn

@@ -3,14 +3,14 @@ use Rattle.std.proofs.Common.{◌≡◌, ℕ, zero, suc, ◌+◌, List, [], ◌�
 use Rattle.std.specs.Prelude.{slice_get}
 use Rattle.std.specs.Option.{option_map}
 use Rattle.std.proofs.lemmas.Option.{slice_get-map, same_Some}
-use Rattle.repo_objects.specs.Repository.{Entry, Contents, IsRepository, HasIdAt}
+use Rattle.repo_objects.specs.Repository.{DictionaryEntry, Contents, IsRepository, HasIdAt}
 use Rattle.reference_check.specs.Graph.{entry}
 use Rattle.message_model.specs.Compiled.{place_of, place_or_nowhere}
-use Rattle.message_model.specs.inner.Numbers.{AreNumbers, StandsAt, ids_at, entry_id}
+use Rattle.message_model.specs.inner.Numbers.{AreNumbers, StandsAmong, ids_at, entry_id}
 use Rattle.message_model.proofs.Places.{same_place}
 
 -- the id that stands at a place of the list
-pub ids_get : (es : List Entry) (places : List ℕ) (i k : ℕ) (e : Entry) → slice_get places i ≡ Some k → slice_get es k ≡ Some e → slice_get (ids_at es places) i ≡ Some e.id
+pub ids_get : (es : List DictionaryEntry) (places : List ℕ) (i k : ℕ) (e : DictionaryEntry) → slice_get places i ≡ Some k → slice_get es k ≡ Some e → slice_get (ids_at es places) i ≡ Some e.id
 ids_get es [] i k e h g = absurd cc
 ids_get es (p ∷ places) zero k e h g =
     let same : p ≡ k = same_Some p k h in
@@ -24,11 +24,11 @@ place_behind ids i id h =
     let at : slice_get (map entry ids) i ≡ Some (entry id) = slice_get-map entry ids i ∙ ap (option_map entry) h in
     rw number (ap place_or_nowhere at)
 
-pub stands_get : (es : List Entry) (places : List ℕ) (id : List ℕ) (s : StandsAt es places id) → slice_get (ids_at es places) s.position ≡ Some id
+pub stands_get : (es : List DictionaryEntry) (places : List ℕ) (id : List ℕ) (s : StandsAmong es places id) → slice_get (ids_at es places) s.position ≡ Some id
 stands_get es places id s = ids_get es places s.position s.place (record { id = id; object = s.object }) s.there s.found
 
 -- the number that is kept for an object is that of its type
-pub numbered : (R : Contents) (whole : IsRepository R) (places numbers : List ℕ) (id : List ℕ) (k n : ℕ) → AreNumbers places numbers → StandsAt R.objects places id
+pub numbered : (R : Contents) (whole : IsRepository R) (places numbers : List ℕ) (id : List ℕ) (k n : ℕ) → AreNumbers places numbers → StandsAmong R.objects places id
     → HasIdAt R.objects k id → slice_get numbers k ≡ Some n → place_of (ids_at R.objects places) n ≡ entry id
 numbered R whole places numbers id k n are s (e, at, named) h =
     let same : k ≡ s.place = same_place R whole k s.place e (record { id = id; object = s.object }) at s.found named in
@@ -37,7 +37,7 @@ numbered R whole places numbers id k n are s (e, at, named) h =
     ap (place_of (ids_at R.objects places)) number ∙ place_behind (ids_at R.objects places) s.position id (stands_get R.objects places id s)
 
 -- each place of the list has a number
-pub has_number : (R : Contents) (whole : IsRepository R) (places numbers : List ℕ) (id : List ℕ) (k : ℕ) → AreNumbers places numbers → StandsAt R.objects places id
+pub has_number : (R : Contents) (whole : IsRepository R) (places numbers : List ℕ) (id : List ℕ) (k : ℕ) → AreNumbers places numbers → StandsAmong R.objects places id
     → HasIdAt R.objects k id → slice_get numbers k ≡ None → ⊥
 has_number R whole places numbers id k are s (e, at, named) h =
     let same : k ≡ s.place = same_place R whole k s.place e (record { id = id; object = s.object }) at s.found named in

@@ -11,20 +11,20 @@ use Rattle.reference_check.specs.Rules.{Rule, Breaks, NoMessage, TwoMessages, Da
 use Rattle.reference_check.proofs.Lookups.{IsFound, find_place}
 use Rattle.reference_check.proofs.RuleNumbers.{one_rule}
 use Rattle.message_model.specs.Laws.{OneRefusal, ReadyIsNotRefused, ReadyOrRefused}
-use Rattle.message_model.specs.Ready.{MessageRule, OnObjects, BadFacets, BadPattern, number_of, BreaksRule, IsRefused}
+use Rattle.message_model.specs.Ready.{MessageRule, OnObjects, BadFacets, BadPattern, message_rule_number, BreaksMessageRule, IsRefused}
 use Rattle.message_model.proofs.Compilable.{referrer}
 use Rattle.message_model.proofs.Places.{found_once}
 use Rattle.message_model.proofs.Refused.{part}
 
 -- ---- rules by their numbers
 
-not_between : (r : Rule) (n : ℕ) → number_of (OnObjects r) ≡ n → 11 < n → n < 14 → ⊥
+not_between : (r : Rule) (n : ℕ) → message_rule_number (OnObjects r) ≡ n → 11 < n → n < 14 → ⊥
 not_between r n is low high = elim (part r) [
   | inl below ↦ omega (arith, is, low, below)
   | inr above ↦ omega (arith, is, high, above)
 ]
 
-one_message_rule : (r s : MessageRule) → number_of r ≡ number_of s → r ≡ s
+one_message_rule : (r s : MessageRule) → message_rule_number r ≡ message_rule_number s → r ≡ s
 one_message_rule (OnObjects r) (OnObjects s) same = ap OnObjects (one_rule r s same)
 one_message_rule (OnObjects r) BadFacets same = absurd (not_between r 12 same (omega arith) (omega arith))
 one_message_rule (OnObjects r) BadPattern same = absurd (not_between r 13 same (omega arith) (omega arith))
@@ -45,7 +45,7 @@ module _ (R : Contents) (m : List ℕ) where
   absent_refers id none (inl (e, other, inside, named, h)) = none_in e (subst (λ o. Contains (elements_or_none o) e) none inside)
   absent_refers id none (inr (c, is, h)) = (let nothing : None ≡ Some c = ap currency_or_none (sym none) ∙ is in cc)
 
-  absent_low : (id : List ℕ) (none : find_entry id R.objects ≡ None) (r : MessageRule) → number_of r ≤ 3 → BreaksRule R m r (entry id) → ⊥
+  absent_low : (id : List ℕ) (none : find_entry id R.objects ≡ None) (r : MessageRule) → message_rule_number r ≤ 3 → BreaksMessageRule R m r (entry id) → ⊥
   absent_low id none (OnObjects NoMessage) low (at, h) = cc
   absent_low id none (OnObjects TwoMessages) low (at, h) = cc
   absent_low id none (OnObjects Dangling) low h = absent_refers id none h
@@ -53,7 +53,7 @@ module _ (R : Contents) (m : List ℕ) where
 
   not_absent : (r : MessageRule) (id : List ℕ) → IsRefused R m r (entry id) → find_entry id R.objects ≡ None → ⊥
   not_absent r id f none =
-      elim (cases_lt 3 (number_of r)) [
+      elim (cases_lt 3 (message_rule_number r)) [
         | inl above ↦ (let q = referrer R m f.reached id refl none in f.lowest (OnObjects Dangling) q.0 above q.1 q.2)
         | inr low ↦ absent_low id none r low f.broken
       ]
@@ -98,11 +98,11 @@ module _ (R : Contents) (m : List ℕ) where
 
   same_rule : (r s : MessageRule) (p q : Place) → IsRefused R m r p → IsRefused R m s q → r ≡ s
   same_rule r s p q f g =
-      elim (cases_lt (number_of r) (number_of s)) [
+      elim (cases_lt (message_rule_number r) (message_rule_number s)) [
         | inl below ↦ absurd (g.lowest r p below f.reached f.broken)
-        | inr past ↦ elim (cases_lt (number_of s) (number_of r)) [
+        | inr past ↦ elim (cases_lt (message_rule_number s) (message_rule_number r)) [
           | inl below ↦ absurd (f.lowest s q below g.reached g.broken)
-          | inr other ↦ (let numbers : number_of r ≡ number_of s = omega arith in one_message_rule r s numbers)
+          | inr other ↦ (let numbers : message_rule_number r ≡ message_rule_number s = omega arith in one_message_rule r s numbers)
         ]
       ]
 
@@ -119,16 +119,16 @@ ready_is_not_refused R m r p ready f = ready r p f.reached f.broken
 
 module _ (R : Contents) (m : List ℕ) (lacks : (r : MessageRule) (p : Place) → IsRefused R m r p → ⊥) where
   -- where no lower rule is broken, no place breaks this one
-  no_place : (r : MessageRule) → ((s : MessageRule) (q : Place) → number_of s < number_of r → Reaches R m q → BreaksRule R m s q → ⊥)
-      → (n : ℕ) (p : Place) → rank_of R p < n → Reaches R m p → BreaksRule R m r p → ⊥
+  no_place : (r : MessageRule) → ((s : MessageRule) (q : Place) → message_rule_number s < message_rule_number r → Reaches R m q → BreaksMessageRule R m s q → ⊥)
+      → (n : ℕ) (p : Place) → rank_of R p < n → Reaches R m p → BreaksMessageRule R m r p → ⊥
   no_place r lower zero p lt reach broken = omega (arith, lt)
   no_place r lower (suc n) p lt reach broken =
       lacks r p (record { reached = reach; broken = broken; lowest = lower; first = λ q less at breaks. no_place r lower n q (omega (arith, lt, less)) at breaks })
 
-  no_rule : (n : ℕ) (r : MessageRule) (p : Place) → number_of r < n → Reaches R m p → BreaksRule R m r p → ⊥
+  no_rule : (n : ℕ) (r : MessageRule) (p : Place) → message_rule_number r < n → Reaches R m p → BreaksMessageRule R m r p → ⊥
   no_rule zero r p lt reach broken = omega (arith, lt)
   no_rule (suc n) r p lt reach broken =
       no_place r (λ s q less at breaks. no_rule n s q (omega (arith, lt, less)) at breaks) (suc (rank_of R p)) p (omega arith) reach broken
 
 pub ready_or_refused : ReadyOrRefused
-ready_or_refused R m lacks = lacks (inl (λ r p reach broken. no_rule R m (λ s q f. lacks (inr (s, q, f))) (suc (number_of r)) r p (omega arith) reach broken))
+ready_or_refused R m lacks = lacks (inl (λ r p reach broken. no_rule R m (λ s q f. lacks (inr (s, q, f))) (suc (message_rule_number r)) r p (omega arith) reach broken))

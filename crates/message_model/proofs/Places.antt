@@ -8,7 +8,7 @@ use Rattle.std.proofs.lemmas.Bool.{cases_lt}
 use Rattle.std.proofs.lemmas.Option.{slice_get-map, slice_get_within, get_or_from_slice_get, same_Some}
 use Rattle.std.proofs.lemmas.Slice.Eq.{bytes_eq-Decides}
 use Rattle.repo_objects.specs.declared.objects.Object.{Object}
-use Rattle.repo_objects.specs.Repository.{Entry, Contents, ids_of, IsRepository}
+use Rattle.repo_objects.specs.Repository.{DictionaryEntry, Contents, ids_of, IsRepository}
 use Rattle.reference_check.specs.Graph.{entry, find_entry}
 use Rattle.reference_check.specs.Reach.{rank_of}
 use Rattle.reference_check.proofs.Lookups.{IsFound}
@@ -28,38 +28,38 @@ bytes_differ x y apart = by (bytes_eq x y) refl
     by false h = h
 
 -- no entry before that place has its id
-abbrev pub IsFirstAt : List Entry → ℕ → List ℕ → Type 0
-IsFirstAt es k id = (j : ℕ) (a : Entry) → j < k → slice_get es j ≡ Some a → a.id ≡ id → ⊥
+abbrev pub IsFirstAt : List DictionaryEntry → ℕ → List ℕ → Type 0
+IsFirstAt es k id = (j : ℕ) (a : DictionaryEntry) → j < k → slice_get es j ≡ Some a → a.id ≡ id → ⊥
 
-pub find_at : (es : List Entry) (k : ℕ) (e : Entry) → IsFirstAt es k e.id → slice_get es k ≡ Some e → find_entry e.id es ≡ Some e.object
+pub find_at : (es : List DictionaryEntry) (k : ℕ) (e : DictionaryEntry) → IsFirstAt es k e.id → slice_get es k ≡ Some e → find_entry e.id es ≡ Some e.object
 find_at [] k e first h = absurd cc
 find_at (a ∷ es) zero e first h =
     let same : a ≡ e = same_Some a e h in
-    let hit : bytes_eq a.id e.id ≡ true = ap (λ (x : Entry). bytes_eq x.id e.id) same ∙ bytes_same e.id in
-    rw hit (ap (λ (x : Entry). Some x.object) same)
+    let hit : bytes_eq a.id e.id ≡ true = ap (λ (x : DictionaryEntry). bytes_eq x.id e.id) same ∙ bytes_same e.id in
+    rw hit (ap (λ (x : DictionaryEntry). Some x.object) same)
 find_at (a ∷ es) (suc k) e first h =
     let miss : bytes_eq a.id e.id ≡ false = bytes_differ a.id e.id (first 0 a (omega arith) refl) in
     rw miss (find_at es k e (λ j b lt g. first (suc j) b (omega arith) g) h)
 
-pub rank_at : (es : List Entry) (k : ℕ) (e : Entry) → IsFirstAt es k e.id → slice_get es k ≡ Some e → position_or_len (λ (x : Entry). bytes_eq x.id e.id) es ≡ k
+pub rank_at : (es : List DictionaryEntry) (k : ℕ) (e : DictionaryEntry) → IsFirstAt es k e.id → slice_get es k ≡ Some e → position_or_len (λ (x : DictionaryEntry). bytes_eq x.id e.id) es ≡ k
 rank_at [] k e first h = absurd cc
 rank_at (a ∷ es) zero e first h =
     let same : a ≡ e = same_Some a e h in
-    let hit : bytes_eq a.id e.id ≡ true = ap (λ (x : Entry). bytes_eq x.id e.id) same ∙ bytes_same e.id in
+    let hit : bytes_eq a.id e.id ≡ true = ap (λ (x : DictionaryEntry). bytes_eq x.id e.id) same ∙ bytes_same e.id in
     rw hit refl
 rank_at (a ∷ es) (suc k) e first h =
     let miss : bytes_eq a.id e.id ≡ false = bytes_differ a.id e.id (first 0 a (omega arith) refl) in
     let rest = rank_at es k e (λ j b lt g. first (suc j) b (omega arith) g) h in
     rw miss (omega (arith, rest))
 
-same_entry : (a : Entry) (id : List ℕ) (o : Object) → a.id ≡ id → a.object ≡ o → a ≡ record { id = id; object = o }
+same_entry : (a : DictionaryEntry) (id : List ℕ) (o : Object) → a.id ≡ id → a.object ≡ o → a ≡ record { id = id; object = o }
 same_entry a id o name what =
-    let by_id : List ℕ → Entry = λ i. record { id = i; object = a.object } in
-    let by_object : Object → Entry = λ x. record { id = id; object = x } in
+    let by_id : List ℕ → DictionaryEntry = λ i. record { id = i; object = a.object } in
+    let by_object : Object → DictionaryEntry = λ x. record { id = id; object = x } in
     ap by_id name ∙ ap by_object what
 
 -- what is found by an id stands at some place
-pub found_entry : (es : List Entry) (id : List ℕ) (o : Object) → find_entry id es ≡ Some o → (k : ℕ) × (slice_get es k ≡ Some (record { id = id; object = o }))
+pub found_entry : (es : List DictionaryEntry) (id : List ℕ) (o : Object) → find_entry id es ≡ Some o → (k : ℕ) × (slice_get es k ≡ Some (record { id = id; object = o }))
 found_entry [] id o h = absurd cc
 found_entry (a ∷ es) id o h = by (bytes_eq a.id id) refl (λ k. found_entry es id o k)
   where
@@ -72,18 +72,18 @@ found_entry (a ∷ es) id o h = by (bytes_eq a.id id) refl (λ k. found_entry es
         (0, ap Some (same_entry a id o name what))
     by false miss later = (let r = later (rw miss at h) in (suc r.0, r.1))
 
-pub id_at : (es : List Entry) (k : ℕ) (e : Entry) → slice_get es k ≡ Some e → slice_get (ids_of es) k ≡ Some e.id
-id_at es k e h = slice_get-map (λ (x : Entry). x.id) es k ∙ ap (option_map (λ (x : Entry). x.id)) h
+pub id_at : (es : List DictionaryEntry) (k : ℕ) (e : DictionaryEntry) → slice_get es k ≡ Some e → slice_get (ids_of es) k ≡ Some e.id
+id_at es k e h = slice_get-map (λ (x : DictionaryEntry). x.id) es k ∙ ap (option_map (λ (x : DictionaryEntry). x.id)) h
 
 -- two ids that are found at one rank are the same
-pub found_once : (es : List Entry) (id other : List ℕ) (x : IsFound id es) (y : IsFound other es) → x.place ≡ y.place → id ≡ other
+pub found_once : (es : List DictionaryEntry) (id other : List ℕ) (x : IsFound id es) (y : IsFound other es) → x.place ≡ y.place → id ≡ other
 found_once es id other x y places =
     let both : Some x.there ≡ Some y.there = sym x.at ∙ (ap (slice_get es) places ∙ y.at) in
     let entries : x.there ≡ y.there = cc in
-    sym x.named ∙ (ap (λ (e : Entry). e.id) entries ∙ y.named)
+    sym x.named ∙ (ap (λ (e : DictionaryEntry). e.id) entries ∙ y.named)
 
 module _ (R : Contents) (whole : IsRepository R) where
-  differ : (i j : ℕ) (a b : Entry) → i < j → slice_get R.objects i ≡ Some a → slice_get R.objects j ≡ Some b → a.id ≡ b.id → ⊥
+  differ : (i j : ℕ) (a b : DictionaryEntry) → i < j → slice_get R.objects i ≡ Some a → slice_get R.objects j ≡ Some b → a.id ≡ b.id → ⊥
   differ i j a b lt ha hb same =
       let ga : slice_get (ids_of R.objects) i ≡ Some a.id = id_at R.objects i a ha in
       let gb : slice_get (ids_of R.objects) j ≡ Some b.id = id_at R.objects j b hb in
@@ -91,11 +91,11 @@ module _ (R : Contents) (whole : IsRepository R) where
       let ib : get_or (ids_of R.objects) j [] ≡ b.id = get_or_from_slice_get (ids_of R.objects) j b.id [] gb in
       whole.distinct i j [] lt (slice_get_within (ids_of R.objects) j b.id gb) (ia ∙ same ∙ sym ib)
 
-  pub first_at : (k : ℕ) (e : Entry) → slice_get R.objects k ≡ Some e → IsFirstAt R.objects k e.id
+  pub first_at : (k : ℕ) (e : DictionaryEntry) → slice_get R.objects k ≡ Some e → IsFirstAt R.objects k e.id
   first_at k e h j a lt g same = differ j k a e lt g h same
 
   -- an id has one place
-  pub same_place : (i j : ℕ) (a b : Entry) → slice_get R.objects i ≡ Some a → slice_get R.objects j ≡ Some b → a.id ≡ b.id → i ≡ j
+  pub same_place : (i j : ℕ) (a b : DictionaryEntry) → slice_get R.objects i ≡ Some a → slice_get R.objects j ≡ Some b → a.id ≡ b.id → i ≡ j
   same_place i j a b ha hb same =
       elim (cases_lt i j) [
         | inl below ↦ absurd (differ i j a b below ha hb same)
@@ -105,8 +105,8 @@ module _ (R : Contents) (whole : IsRepository R) where
         ]
       ]
 
-  pub finds_at : (k : ℕ) (e : Entry) → slice_get R.objects k ≡ Some e → find_entry e.id R.objects ≡ Some e.object
+  pub finds_at : (k : ℕ) (e : DictionaryEntry) → slice_get R.objects k ≡ Some e → find_entry e.id R.objects ≡ Some e.object
   finds_at k e h = find_at R.objects k e (first_at k e h) h
 
-  pub ranks_at : (k : ℕ) (e : Entry) → slice_get R.objects k ≡ Some e → rank_of R (entry e.id) ≡ k
+  pub ranks_at : (k : ℕ) (e : DictionaryEntry) → slice_get R.objects k ≡ Some e → rank_of R (entry e.id) ≡ k
   ranks_at k e h = rank_at R.objects k e (first_at k e h) h

@@ -6,8 +6,8 @@ use Rattle.std.proofs.lemmas.Option.{slice_get_within}
 use Rattle.facets.specs.declared.simple.Simple.{Simple}
 use Rattle.reference_check.specs.Forms.{Slot, Form, form_slots}
 use Rattle.reference_check.specs.Forms as form
-use Rattle.reference_check.specs.Words.{times, UpTo, IsWithin, IsOrderedFrom, IsSequence, IsChoice}
-use Rattle.reference_check.specs.Steps.{Next, Slotted, Fine, Lacks, end_after, choice_end, end_of, choice_next, Second, TooMany, has_room, first_lacking, CameAfter, Came}
+use Rattle.reference_check.specs.Words.{times, UpTo, MayComeTimes, IsOrderedFrom, IsSequence, IsChoice}
+use Rattle.reference_check.specs.Steps.{NextSlot, Slotted, Fine, Lacks, end_after, choice_end, end_of_slots, choice_next, Second, TooMany, has_room, first_lacking, CameAfter, Came}
 use Rattle.message_model.specs.Sound.{IsSoundForm, Agrees}
 use Rattle.reference_check.proofs.Words.{none_lacking, lacks_none, ordered-fill, times-fill, times-replicate, has_room_of, fill, completes, goes_on, IsProper, times-append}
 
@@ -30,7 +30,7 @@ came_completes {P} L fs before (k ∷ d) proper (e, w) ((s, found, fine), came) 
     next_word : IsSequence fs ((before ++ k ∷ []) ++ fill 0 fs (before ++ k ∷ []))
     next_word = completes fs before k s proper (ordered_front 0 (length fs) before e w.ordered) (λ i f h. up_to_front _ _ f.max (rw (times-append i before e) at (w.within i f h).1)) found fine
 
-lacks_nothing : (o : Option ℕ) → end_of o ≡ Fine → o ≡ None
+lacks_nothing : (o : Option ℕ) → end_of_slots o ≡ Fine → o ≡ None
 lacks_nothing None e = refl
 lacks_nothing (Some k) e = cc
 
@@ -75,7 +75,7 @@ choice_goes_on {P} (j ∷ d) e k s fs found (i, n, t, at, within, w) =
     choice_room j k (times k (j ∷ d)) s.max (heads ∙ sym r.0) room
 
 -- a word of a sequence may end
-sequence_ends : {P : Type 0} (fs : List (Slot P)) (d : List ℕ) → IsSequence fs d → end_of (first_lacking 0 (length fs) fs d) ≡ Fine
+sequence_ends : {P : Type 0} (fs : List (Slot P)) (d : List ℕ) → IsSequence fs d → end_of_slots (first_lacking 0 (length fs) fs d) ≡ Fine
 sequence_ends fs d w = rw (lacks_none 0 (length fs) fs d (λ i j s e g l. (w.within j s (let same : i ≡ j = omega arith in rw same at g)).0)) refl
 
 end_at : {P : Type 0} (n k : ℕ) (s : Slot P) → s.min ≤ n → choice_end n k (Some s) ≡ Fine
@@ -104,11 +104,11 @@ all_same {P} L fs i s n (k ∷ d) at room ((t, found, next), came) = go (λ room
     room_in true e = refl
     room_in false e = cc
 
-    second : (b : Bool) (x : Next) → b ≡ false → (if b then x else Second) ≡ Slotted k → ⊥
+    second : (b : Bool) (x : NextSlot) → b ≡ false → (if b then x else Second) ≡ Slotted k → ⊥
     second true x e h = cc
     second false x e h = cc
 
-    first : (b : Bool) (x : Next) → b ≡ true → (if b then x else Second) ≡ Slotted k → x ≡ Slotted k
+    first : (b : Bool) (x : NextSlot) → b ≡ true → (if b then x else Second) ≡ Slotted k → x ≡ Slotted k
     first true x e h = h
     first false x e h = cc
 
@@ -159,7 +159,7 @@ whole_choice {P} L fs (k ∷ d) proper some ((s, found, next), came) fine = go (
 pub starts : {P : Type 0} (fs : List (Slot P)) → IsProper fs → Completed fs []
 starts {P} fs proper = (fill 0 fs [], record { ordered = ordered-fill 0 (length fs) fs [] (omega arith); within = each })
   where
-    each : (k : ℕ) (s : Slot P) → slice_get fs k ≡ Some s → IsWithin (times k (fill 0 fs [])) s
+    each : (k : ℕ) (s : Slot P) → slice_get fs k ≡ Some s → MayComeTimes (times k (fill 0 fs [])) s
     each k s found =
         let counted : times k (fill 0 fs []) ≡ s.min = times-fill 0 k k fs [] s (omega arith) found ∙ minus s.min in
         (omega arith, rw counted (proper k s found))

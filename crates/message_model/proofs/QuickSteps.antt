@@ -8,7 +8,7 @@ use Rattle.facets.specs.declared.simple.Simple.{Simple}
 use Rattle.reference_check.specs.Forms.{Slot, Form}
 use Rattle.reference_check.specs.Forms as form
 use Rattle.reference_check.specs.Words.{times, UpTo, IsSequence}
-use Rattle.reference_check.specs.Steps.{Next, Slotted, TooMany, has_room, first_lacking, after_order, sequence_next, choice_next, choice_end, end_of, Second, CameAfter, Came, EndsWith, find_slot, next, next_at, next_found, end_after}
+use Rattle.reference_check.specs.Steps.{NextSlot, Slotted, TooMany, has_room, first_lacking, after_order, sequence_next, choice_next, choice_end, end_of_slots, Second, CameAfter, Came, EndsWith, find_slot, next, next_at, next_found, end_after}
 use Rattle.message_model.specs.inner.Quick.{quick_at, due, quick_slot, quick_found, quick_sequence_next, quick_sequence_end, quick_alternative, quick_choice_next, quick_choice_end}
 use Rattle.message_model.specs.Sound.{IsSoundForm}
 use Rattle.reference_check.proofs.Words.{times-append, IsProper}
@@ -114,7 +114,7 @@ choice_last {P} fs (j ∷ d) before l sound came e = (d, ap (λ x. x ∷ d) firs
 pub choice_steps : {P : Type 0} (fs : List (Slot P)) (d : List ℕ) (last : Option ℕ) (count : ℕ) (tag : List ℕ) → IsSoundForm {P = P} (form.Choice fs) → Came {L = Simple} (form.Choice fs) d → EndsWith d last count → quick_choice_next fs last count tag ≡ next {L = Simple} (form.Choice fs) d tag
 choice_steps {P} fs d last count tag sound came ends = go (find_slot 0 fs tag)
   where
-    turned : (a b : Bool) (k l : ℕ) (x : Next) → ((eqb k l ≡ true) × (k ≡ l)) ⊎ ((eqb k l ≡ false) × (k ≢ l)) → ((eqb l k ≡ true) × (l ≡ k)) ⊎ ((eqb l k ≡ false) × (l ≢ k)) → (if k == l then x else Second) ≡ (if l == k then x else Second)
+    turned : (a b : Bool) (k l : ℕ) (x : NextSlot) → ((eqb k l ≡ true) × (k ≡ l)) ⊎ ((eqb k l ≡ false) × (k ≢ l)) → ((eqb l k ≡ true) × (l ≡ k)) ⊎ ((eqb l k ≡ false) × (l ≢ k)) → (if k == l then x else Second) ≡ (if l == k then x else Second)
     turned a b k l x (inl (p, e)) (inl (q, f)) = rw (p, q) refl
     turned a b k l x (inl (p, e)) (inr (q, f)) = absurd (f (sym e))
     turned a b k l x (inr (p, e)) (inl (q, f)) = absurd (e (sym f))
@@ -157,6 +157,6 @@ sequence_ends {P} fs d (Some l) count sound came (before, e, counted) = go (came
     joined e' w = subst (λ (x : List ℕ). IsSequence fs x) (ap (λ x. x ++ e') e ∙ append_assoc before (l ∷ []) e') w
 
     go : Completed fs d → quick_sequence_end fs (Some l) count ≡ end_after {L = Simple} (form.Sequence fs) d
-    go (e', w) = ap end_of (ap (λ n. due fs l n (length fs)) (sym counted ∙ ap (times l) e)
+    go (e', w) = ap end_of_slots (ap (λ n. due fs l n (length fs)) (sym counted ∙ ap (times l) e)
         ∙ (sym (later_due fs (before ++ l ∷ []) before l (length fs) slot.0 slot.1 (slice_get_within fs l slot.0 slot.1) refl (none_later fs before e' l (joined e' w)))
         ∙ (sym (ends_later fs before e' l (joined e' w)) ∙ ap (first_lacking 0 (length fs) fs) (sym e))))

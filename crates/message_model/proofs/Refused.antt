@@ -4,7 +4,7 @@ use Rattle.std.specs.Prelude.{slice_get}
 use Rattle.std.proofs.lemmas.Bool.{cases_lt}
 use Rattle.std.proofs.lemmas.Option.{slice_get_within, get_or_from_slice_get, same_Some}
 use Rattle.repo_objects.specs.declared.objects.Object.{Object}
-use Rattle.repo_objects.specs.Repository.{Entry, Contents, IsRepository}
+use Rattle.repo_objects.specs.Repository.{DictionaryEntry, Contents, IsRepository}
 use Rattle.reference_check.specs.declared.reached.Reach.{Reach}
 use Rattle.reference_check.specs.declared.reached.ReadyError.{ReadyError}
 use Rattle.reference_check.specs.declared.reached.ReadyError.TheVariants.{Broken, Memory}
@@ -12,15 +12,15 @@ use Rattle.reference_check.specs.Graph.{Place, entry}
 use Rattle.reference_check.specs.Reach.{Reaches, rank_of}
 use Rattle.reference_check.specs.Reached.{HasReach, IsReachFor, TellsBroken}
 use Rattle.reference_check.specs.Rules as rules
-use Rattle.reference_check.specs.Rules.{Rule, Breaks, OfObject, IsSound, IsStructure, IsTail}
+use Rattle.reference_check.specs.Rules.{Rule, Breaks, OfObject, IsSound, IsStructure, IsTailRule}
 use Rattle.message_model.specs.FacetRules.{HasBadFacets}
-use Rattle.message_model.specs.Ready.{MessageRule, OnObjects, BadFacets, BadPattern, number_of, BreaksRule, HasBadPattern, HasGoodFacets, IsReady, TellsRefused}
+use Rattle.message_model.specs.Ready.{MessageRule, OnObjects, BadFacets, BadPattern, message_rule_number, BreaksMessageRule, HasBadPattern, HasGoodFacets, IsReady, TellsRefused}
 use Rattle.message_model.specs.inner.FirstPlaces.{IsFirstPlace, TellsPlace, TellsEntry}
 use Rattle.message_model.proofs.Places.{found_entry, finds_at, ranks_at}
 use Rattle.message_model.proofs.Compilable.{contains_at, at_contains}
 
 -- a rule of structure, or one of the others
-pub part : (r : Rule) → IsStructure r ⊎ IsTail r
+pub part : (r : Rule) → IsStructure r ⊎ IsTailRule r
 part rules.NoMessage = inl (omega arith)
 part rules.TwoMessages = inl (omega arith)
 part rules.Dangling = inl (omega arith)
@@ -52,13 +52,13 @@ module _ (R : Contents) (m : List ℕ) where
     name,
   )
     where
-      lowest : (r : MessageRule) (q : Place) → number_of r < rules.number_of rule → Reaches R m q → BreaksRule R m r q → ⊥
+      lowest : (r : MessageRule) (q : Place) → message_rule_number r < rules.object_rule_number rule → Reaches R m q → BreaksMessageRule R m r q → ⊥
       lowest (OnObjects r) q lt reach breaks = (let top = broken.asked in let asked : IsStructure r = omega (arith, lt, top) in broken.lowest r q asked lt reach breaks)
       lowest BadFacets q lt reach breaks = (let top = broken.asked in omega (arith, lt, top))
       lowest BadPattern q lt reach breaks = (let top = broken.asked in omega (arith, lt, top))
   from_structure Memory t = tt
 
-  pub from_tail : IsSound R m IsStructure → HasGoodFacets R m → (e : ReadyError) → TellsBroken R m IsTail e → TellsRefused R m e
+  pub from_tail : IsSound R m IsStructure → HasGoodFacets R m → (e : ReadyError) → TellsBroken R m IsTailRule e → TellsRefused R m e
   from_tail sound good (Broken told object) (rule, p, broken, number, name) = (
     OnObjects rule,
     p,
@@ -72,7 +72,7 @@ module _ (R : Contents) (m : List ℕ) where
     name,
   )
     where
-      lowest : (r : MessageRule) (q : Place) → number_of r < rules.number_of rule → Reaches R m q → BreaksRule R m r q → ⊥
+      lowest : (r : MessageRule) (q : Place) → message_rule_number r < rules.object_rule_number rule → Reaches R m q → BreaksMessageRule R m r q → ⊥
       lowest (OnObjects r) q lt reach breaks = elim (part r) [
         | inl low ↦ sound r q low reach breaks
         | inr high ↦ broken.lowest r q high lt reach breaks
@@ -81,7 +81,7 @@ module _ (R : Contents) (m : List ℕ) where
       lowest BadPattern q lt reach breaks = good.patterns q reach breaks
   from_tail sound good Memory t = tt
 
-  pub all_ready : IsSound R m IsStructure → HasGoodFacets R m → IsSound R m IsTail → IsReady R m
+  pub all_ready : IsSound R m IsStructure → HasGoodFacets R m → IsSound R m IsTailRule → IsReady R m
   all_ready low good high (OnObjects r) p reach breaks = elim (part r) [
     | inl is ↦ low r p is reach breaks
     | inr is ↦ high r p is reach breaks
@@ -92,10 +92,10 @@ module _ (R : Contents) (m : List ℕ) where
   module _ (whole : IsRepository R) (r : Reach) (has : HasReach R m r) (Says : Object → Type 0) where
     -- where a reached object stands
     stands_in : (q : Place) → Reaches R m q → OfObject R q Says
-        → (k : ℕ) × (e : Entry) × (i : ℕ) × (slice_get R.objects k ≡ Some e) × (slice_get r.objects i ≡ Some k) × Says e.object × (rank_of R q ≡ k)
+        → (k : ℕ) × (e : DictionaryEntry) × (i : ℕ) × (slice_get R.objects k ≡ Some e) × (slice_get r.objects i ≡ Some k) × Says e.object × (rank_of R q ≡ k)
     stands_in q reach (id, o, is, found, says) =
         let at = found_entry R.objects id o found in
-        let e : Entry = record { id = id; object = o } in
+        let e : DictionaryEntry = record { id = id; object = o } in
         let i = contains_at r.objects at.0 ((has.reached at.0 e at.1).1 (subst (λ x. Reaches R m x) is reach)) in
         (at.0, e, i.0, at.1, i.1, says, ap (rank_of R) is ∙ ranks_at R whole at.0 e at.1)
 
@@ -120,9 +120,9 @@ module _ (R : Contents) (m : List ℕ) where
           ]
         ]
 
-    module _ (rule : MessageRule) (gives : (q : Place) → OfObject R q Says → BreaksRule R m rule q) (takes : (q : Place) → BreaksRule R m rule q → OfObject R q Says)
-        (lower : (r : MessageRule) (q : Place) → number_of r < number_of rule → Reaches R m q → BreaksRule R m r q → ⊥) where
-      pub from_place : (k : ℕ) (e : ReadyError) → IsFirstPlace Says R.objects r.objects k → TellsEntry R.objects (number_of rule) k e → TellsRefused R m e
+    module _ (rule : MessageRule) (gives : (q : Place) → OfObject R q Says → BreaksMessageRule R m rule q) (takes : (q : Place) → BreaksMessageRule R m rule q → OfObject R q Says)
+        (lower : (r : MessageRule) (q : Place) → message_rule_number r < message_rule_number rule → Reaches R m q → BreaksMessageRule R m r q → ⊥) where
+      pub from_place : (k : ℕ) (e : ReadyError) → IsFirstPlace Says R.objects r.objects k → TellsEntry R.objects (message_rule_number rule) k e → TellsRefused R m e
       from_place k (Broken told object) f (number, name) = (
         rule,
         entry f.entry.id,
@@ -136,7 +136,7 @@ module _ (R : Contents) (m : List ℕ) where
         name f.entry f.found,
       )
         where
-          first : (q : Place) → rank_of R q < rank_of R (entry f.entry.id) → Reaches R m q → BreaksRule R m rule q → ⊥
+          first : (q : Place) → rank_of R q < rank_of R (entry f.entry.id) → Reaches R m q → BreaksMessageRule R m rule q → ⊥
           first q lt reach breaks =
               let s = stands_in q reach (takes q breaks) in
               let here : rank_of R (entry f.entry.id) ≡ k = ranks_at R whole k f.entry f.found in
@@ -145,7 +145,7 @@ module _ (R : Contents) (m : List ℕ) where
       from_place k Memory f t = tt
 
 module _ (R : Contents) (m : List ℕ) (whole : IsRepository R) (r : Reach) (is : IsReachFor R m r) where
-  below_facets : (x : MessageRule) (q : Place) → number_of x < 12 → Reaches R m q → BreaksRule R m x q → ⊥
+  below_facets : (x : MessageRule) (q : Place) → message_rule_number x < 12 → Reaches R m q → BreaksMessageRule R m x q → ⊥
   below_facets (OnObjects x) q lt reach breaks = elim (part x) [
     | inl low ↦ is.sound x q low reach breaks
     | inr high ↦ omega (arith, lt, high)
@@ -156,7 +156,7 @@ module _ (R : Contents) (m : List ℕ) (whole : IsRepository R) (r : Reach) (is 
   pub facets_refused : (k : ℕ) (e : ReadyError) → TellsPlace HasBadFacets R.objects r.objects (Some k) → TellsEntry R.objects 12 k e → TellsRefused R m e
   facets_refused k e f t = from_place R m whole r is.has HasBadFacets BadFacets (λ q x. x) (λ q x. x) below_facets k e f t
 
-  below_pattern : TellsPlace HasBadFacets R.objects r.objects None → (x : MessageRule) (q : Place) → number_of x < 13 → Reaches R m q → BreaksRule R m x q → ⊥
+  below_pattern : TellsPlace HasBadFacets R.objects r.objects None → (x : MessageRule) (q : Place) → message_rule_number x < 13 → Reaches R m q → BreaksMessageRule R m x q → ⊥
   below_pattern none (OnObjects x) q lt reach breaks = elim (part x) [
     | inl low ↦ is.sound x q low reach breaks
     | inr high ↦ omega (arith, lt, high)

@@ -5,11 +5,11 @@ use Rattle.std.specs.List.{AllByRecursion}
 use Rattle.facets.specs.declared.simple.Simple.{Simple}
 use Rattle.reference_check.specs.Forms.{Graph, Form, Slot, form_slots, slot_to, form_to}
 use Rattle.reference_check.specs.Forms as form
-use Rattle.reference_check.specs.Words.{times, IsWithin, IsWord, IsSequence, IsChoice, IsOrderedFrom}
+use Rattle.reference_check.specs.Words.{times, MayComeTimes, IsWordOf, IsSequence, IsChoice, IsOrderedFrom}
 use Rattle.reference_check.specs.Steps.{Slotted, next_of, Came}
 use Rattle.reference_check.proofs.RenamedForms.{get_to, get_from, sequence_to, sequence_from, choice_to, choice_from}
 use Rattle.message_model.specs.Sound.{IsSoundForm}
-use Rattle.reference_check.specs.Shapes.{Shape, Component, OpenLeaf, Shapes, Nothing, Child, HasShape, HaveShapes, numbers_in, then_shapes, IsFinite, AreFinite, GoesOn}
+use Rattle.reference_check.specs.Shapes.{Shape, Component, OpenLeaf, Shapes, Nothing, Child, HasShape, HaveShapes, numbers_in, then_shapes, IsFinite, AreFinite, WordGoesOn}
 use Rattle.message_model.specs.Continued.{NextShapes, SameShapes}
 use Rattle.message_model.proofs.CameMore.{came_more}
 use Rattle.message_model.proofs.Continues.{came_goes_on}
@@ -32,7 +32,7 @@ same_slots : {P : Type 0} (fs : List (Slot P)) (k n : ℕ) (s : Slot P) → slic
 same_slots fs k zero s found = tt
 same_slots fs k (suc n) s found = ((s, found), same_slots fs k n s found)
 
-word_slots : {P L : Type 0} (f : Form P L) (d : List ℕ) → IsWord f d → AreSlots (form_slots f) d
+word_slots : {P L : Type 0} (f : Form P L) (d : List ℕ) → IsWordOf f d → AreSlots (form_slots f) d
 word_slots (form.Sequence fs) d word = ordered_slots fs 0 d word.ordered
 word_slots (form.Choice fs) d (k, n, s, found, within, e) = rw e (same_slots fs k n s found)
 word_slots f d word = absurd word
@@ -57,12 +57,12 @@ shapes_then : {P L : Type 0} (types : Graph P L) (slots : List (Slot P)) (before
 shapes_then types slots Nothing behind h k = k
 shapes_then types slots (Child j v rest) behind h k = (h.0, shapes_then types slots rest behind h.1 k)
 
-of_word : {P L : Type 0} (types : Graph P L) (f : Form P L) (ks : Shapes) → IsWord f (numbers_in ks) → HaveShapes types (form_slots f) ks → HasShape types f (Component ks)
+of_word : {P L : Type 0} (types : Graph P L) (f : Form P L) (ks : Shapes) → IsWordOf f (numbers_in ks) → HaveShapes types (form_slots f) ks → HasShape types f (Component ks)
 of_word types (form.Sequence slots) ks word h = (word, h)
 of_word types (form.Choice slots) ks word h = (word, h)
 of_word types f ks word h = absurd word
 
-word_of : {P L : Type 0} (types : Graph P L) (f : Form P L) (v : Shape) (k : ℕ) (s : Slot P) → slice_get (form_slots f) k ≡ Some s → HasShape types f v → GoesOn f []
+word_of : {P L : Type 0} (types : Graph P L) (f : Form P L) (v : Shape) (k : ℕ) (s : Slot P) → slice_get (form_slots f) k ≡ Some s → HasShape types f v → WordGoesOn f []
 word_of types (form.Sequence slots) (Component ks) k s found h = (numbers_in ks, h.0)
 word_of types (form.Choice slots) (Component ks) k s found h = (numbers_in ks, h.0)
 word_of types (form.Simple x) OpenLeaf k s found h = absurd cc
@@ -78,13 +78,13 @@ pub slot_shapes : {P : Type 0} (types : Graph P Simple) (p : P) (before : Shapes
 slot_shapes {P} types p before k s v sound targets (w, shape) has came slotted found fits =
     of_more (came_goes_on (types p) (numbers_in before ++ k ∷ []) sound (word_of types (types p) w k s found shape) (came_more (types p) (numbers_in before) k s came found slotted))
   where
-    of_more : GoesOn (types p) (numbers_in before ++ k ∷ []) → (more : Shapes) × HasShape types (types p) (Component (then_shapes before (Child k v more)))
+    of_more : WordGoesOn (types p) (numbers_in before ++ k ∷ []) → (more : Shapes) × HasShape types (types p) (Component (then_shapes before (Child k v more)))
     of_more (e, word) = of_shapes (shapes_of types targets p e (slots_behind (form_slots (types p)) (numbers_in before ++ k ∷ []) e (word_slots (types p) ((numbers_in before ++ k ∷ []) ++ e) word)))
       where
         of_shapes : ((ks : Shapes) × (numbers_in ks ≡ e) × HaveShapes types (form_slots (types p)) ks) → (more : Shapes) × HasShape types (types p) (Component (then_shapes before (Child k v more)))
         of_shapes (ks, are, each) =
             let numbers : (numbers_in before ++ k ∷ []) ++ e ≡ numbers_in (then_shapes before (Child k v ks)) = append_assoc (numbers_in before) (k ∷ []) e ∙ (ap (λ x. numbers_in before ++ k ∷ x) (sym are) ∙ sym (numbers_then before (Child k v ks))) in
-            (ks, of_word types (types p) (then_shapes before (Child k v ks)) (subst (λ x. IsWord (types p) x) numbers word) (shapes_then types (form_slots (types p)) before (Child k v ks) has ((s, found, fits), each)))
+            (ks, of_word types (types p) (then_shapes before (Child k v ks)) (subst (λ x. IsWordOf (types p) x) numbers word) (shapes_then types (form_slots (types p)) before (Child k v ks) has ((s, found, fits), each)))
 
 -- ---- other names of the types
 

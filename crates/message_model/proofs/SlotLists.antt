@@ -14,7 +14,7 @@ use Rattle.reference_check.specs.Graph.{Place, entry, references, one_of, slot_o
 use Rattle.reference_check.specs.Reach.{kind_currency}
 use Rattle.message_model.specs.SimpleTypes.{facets_of}
 use Rattle.message_model.specs.Views.{slot_info, slots_view}
-use Rattle.message_model.specs.inner.Numbers.{StandsAt, IsCompilable}
+use Rattle.message_model.specs.inner.Numbers.{StandsAmong, IsCompilable}
 use Rattle.message_model.specs.declared.model.SlotInfo.{SlotInfo}
 
 -- a slot of the element's tag and bounds, whose number stands for what the element names
@@ -43,7 +43,7 @@ slots_more h slots s es i e new grown lt is before same =
 -- ---- amounts
 
 pub money_stands : (R : Contents) (places : List ℕ) (o : Object) (k : Kinds) (id : List ℕ) → IsCompilable R places o → o.kind ≡ object.Simple k → k ≡ kinds.Amount → o.currency ≡ Some id
-    → StandsAt R.objects places id
+    → StandsAmong R.objects places id
 money_stands R places o k id can is amount given = can.currency id (ap (λ x. kind_currency x o.currency) (is ∙ ap object.Simple amount) ∙ given)
 
 pub money_same : (R : Contents) (h : ℕ → Place) (o : Object) (k : Kinds) (id : List ℕ) (n : ℕ) (base : Simple) → k ≡ kinds.Amount → o.currency ≡ Some id → h n ≡ entry id → base ≡ facets_of R o

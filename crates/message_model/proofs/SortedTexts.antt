@@ -16,7 +16,7 @@ use Rattle.std.proofs.lemmas.Option.{slice_get-map, slice_get_within, same_Some}
 use Rattle.std.proofs.Math.Seq.{get_or-append_seam}
 use Rattle.repo_objects.specs.declared.objects.CodeDef.{CodeDef}
 use Rattle.repo_objects.specs.declared.objects.Object.{Object}
-use Rattle.repo_objects.specs.Repository.{Entry}
+use Rattle.repo_objects.specs.Repository.{DictionaryEntry}
 use Rattle.reference_check.specs.CodeTexts.{text_of_number, text_at, text_at_entry}
 use Rattle.facets.specs.CodeLists.{IsAboveLast}
 use Rattle.message_model.specs.SimpleTypes.{put_text, texts_of}
@@ -77,14 +77,14 @@ fold_append : (f : List (List ℕ) → List ℕ → List (List ℕ)) (a : List (
 fold_append f a [] ys = refl
 fold_append f a (x ∷ xs) ys = fold_append f (f a x) xs ys
 
-texts_rest : (es : List Entry) (o : Object) (cs : List CodeDef) (i : ℕ) → i < length cs
+texts_rest : (es : List DictionaryEntry) (o : Object) (cs : List CodeDef) (i : ℕ) → i < length cs
     → texts_of es o (drop i cs) ≡ option_to_list (text_of_number es (slice_get cs i) o) ++ texts_of es o (drop (suc i) cs)
 texts_rest es o [] i lt = absurd (omega (arith, lt))
 texts_rest es o (c ∷ cs) zero lt = refl
 texts_rest es o (c ∷ cs) (suc i) lt = texts_rest es o cs i (omega arith)
 
 -- one more code
-pub gathered_more : (es : List Entry) (id : List ℕ) (o : Object) (at i : ℕ) (old new goal : List (List ℕ)) → slice_get es at ≡ Some (record { id = id; object = o }) → i < length o.codes
+pub gathered_more : (es : List DictionaryEntry) (id : List ℕ) (o : Object) (at i : ℕ) (old new goal : List (List ℕ)) → slice_get es at ≡ Some (record { id = id; object = o }) → i < length o.codes
     → fold put_text old (texts_of es o (drop i o.codes)) ≡ goal → new ≡ fold put_text old (option_to_list (text_at es at i))
     → fold put_text new (texts_of es o (drop (i + 1) o.codes)) ≡ goal
 gathered_more es id o at i old new goal there lt before put =

@@ -11,7 +11,7 @@ use Rattle.repo_objects.specs.declared.objects.CodeDef.{CodeDef}
 use Rattle.repo_objects.specs.declared.objects.Object.{Object}
 use Rattle.repo_objects.specs.declared.objects.Kinds.TheVariants as kinds
 use Rattle.repo_objects.specs.declared.objects.ObjectKind.TheVariants as object
-use Rattle.repo_objects.specs.Repository.{Entry, Contents}
+use Rattle.repo_objects.specs.Repository.{DictionaryEntry, Contents}
 use Rattle.reference_check.specs.CodeTexts.{text_of_code}
 use Rattle.reference_check.specs.Rules.{set_codes}
 use Rattle.data_types.specs.declared.kind.Kind.TheVariants as kind
@@ -37,7 +37,7 @@ option_length : {A : Type 0} (o : Option A) → length (option_to_list o) ≤ 1
 option_length None = omega arith
 option_length (Some x) = omega arith
 
-texts_length : (es : List Entry) (o : Object) (cs : List CodeDef) → length (texts_of es o cs) ≤ length cs
+texts_length : (es : List DictionaryEntry) (o : Object) (cs : List CodeDef) → length (texts_of es o cs) ≤ length cs
 texts_length es o [] = omega arith
 texts_length es o (c ∷ cs) = joined (option_to_list (text_of_code es o c)) (option_length (text_of_code es o c)) (texts_length es o cs)
   where
@@ -47,7 +47,7 @@ texts_length es o (c ∷ cs) = joined (option_to_list (text_of_code es o c)) (op
     joined (x ∷ (y ∷ xs)) h g = absurd (omega (arith, h))
 
 -- no more codes than the set has
-pub codes_length : (es : List Entry) (o : Object) (cs : List CodeDef) → length (sorted_texts (texts_of es o cs)) ≤ length cs
+pub codes_length : (es : List DictionaryEntry) (o : Object) (cs : List CodeDef) → length (sorted_texts (texts_of es o cs)) ≤ length cs
 codes_length es o cs = (let h = fold_length (texts_of es o cs) [] in let g = texts_length es o cs in omega (arith, h, g))
 
 -- no more digits than 18

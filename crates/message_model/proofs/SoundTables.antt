@@ -5,7 +5,7 @@ use Rattle.std.specs.Option.{option_map}
 use Rattle.std.proofs.lemmas.Bool.{cases_lt}
 use Rattle.std.proofs.lemmas.List.{length-map}
 use Rattle.std.proofs.lemmas.Option.{slice_get-map, slice_get_within, slice_get_past, get_or_from_slice_get}
-use Rattle.repo_objects.specs.Repository.{Entry, Contents, IsRepository}
+use Rattle.repo_objects.specs.Repository.{DictionaryEntry, Contents, IsRepository}
 use Rattle.reference_check.specs.declared.reached.Reach.{Reach}
 use Rattle.reference_check.specs.Reached.{HasReach}
 use Rattle.reference_check.specs.Graph.{Place, message, entry, find_entry}
@@ -16,7 +16,7 @@ use Rattle.reference_check.specs.Forms.{Slot, Form, Graph, Money, Missing, form_
 use Rattle.reference_check.specs.Forms as form
 use Rattle.reference_check.proofs.RenamedForms.{form_slot_to}
 use Rattle.message_model.specs.Tables.{Tables, TypeEntry, types_of, form_or_missing}
-use Rattle.message_model.specs.Views.{tables, type_entry}
+use Rattle.message_model.specs.Views.{tables_from, type_entry}
 use Rattle.message_model.specs.declared.model.TypeInfo.{TypeInfo}
 use Rattle.message_model.specs.Sound.{IsSoundForm, AreSound, HaveCodes, HaveSortedCodes, HasRoot, AreLinked}
 use Rattle.message_model.specs.Ready.{IsReady, OnObjects}
@@ -165,7 +165,7 @@ module _ (R : Contents) (m : List ℕ) (ready : IsReady R m) (ids : List (List �
   pub tables_few : (T : Tables) → Compiles R m ids T → length T.types ≤ 65538
   tables_few T made = (let count = type_count R m ids T made in let few = few_ids in omega (arith, count, few))
 
-long_ids : (es : List Entry) (places : List ℕ) → length (ids_at es places) ≡ length places
+long_ids : (es : List DictionaryEntry) (places : List ℕ) → length (ids_at es places) ≡ length places
 long_ids es [] = refl
 long_ids es (k ∷ places) = ap suc (long_ids es places)
 
@@ -176,9 +176,9 @@ few_places R m ready whole r has =
     omega (arith, few, long_ids R.objects r.objects)
 
 -- of the types that are kept
-pub kept_few : (R : Contents) (m : List ℕ) (ready : IsReady R m) (ids : List (List ℕ)) (list : IsReachedList R m ids) (ts : List TypeInfo) → Compiles R m ids (tables m (map type_entry ts))
+pub kept_few : (R : Contents) (m : List ℕ) (ready : IsReady R m) (ids : List (List ℕ)) (list : IsReachedList R m ids) (ts : List TypeInfo) → Compiles R m ids (tables_from m (map type_entry ts))
     → length ts ≤ 65538
-kept_few R m ready ids list ts made = (let few = tables_few R m ready ids list (tables m (map type_entry ts)) made in omega (arith, few, long ts))
+kept_few R m ready ids list ts made = (let few = tables_few R m ready ids list (tables_from m (map type_entry ts)) made in omega (arith, few, long ts))
   where
     long : (ts : List TypeInfo) → length (map type_entry ts) ≡ length ts
     long [] = refl

@@ -2,7 +2,7 @@
 use Rattle.std.proofs.Common.{◌≡◌, ℕ, zero, suc, ◌+◌, ◌<◌, ◌≤◌, List, [], ◌∷◌, ◌++◌, length, map, take, get_or, Some, refl, sym, ap, subst, ◌∙◌, arith}
 use Rattle.std.specs.Prelude.{slice_get}
 use Rattle.std.proofs.lemmas.List.{take_more, map-append}
-use Rattle.repo_objects.specs.Repository.{Entry, Contents}
+use Rattle.repo_objects.specs.Repository.{DictionaryEntry, Contents}
 use Rattle.reference_check.specs.Graph.{Place, document, message, entry}
 use Rattle.message_model.specs.Tables.{TypeEntry}
 use Rattle.message_model.specs.Views.{type_entry}
@@ -10,7 +10,7 @@ use Rattle.message_model.specs.declared.model.TypeInfo.{TypeInfo}
 use Rattle.message_model.specs.Compiled.{places_of}
 use Rattle.message_model.specs.inner.Numbers.{IsTypeOf, AreTypesOf, ids_at, entry_id}
 
-ids_push : (es : List Entry) (places : List ℕ) (k : ℕ) → ids_at es (places ++ k ∷ []) ≡ ids_at es places ++ entry_id (slice_get es k) ∷ []
+ids_push : (es : List DictionaryEntry) (places : List ℕ) (k : ℕ) → ids_at es (places ++ k ∷ []) ≡ ids_at es places ++ entry_id (slice_get es k) ∷ []
 ids_push es [] k = refl
 ids_push es (p ∷ places) k = ap (λ xs. entry_id (slice_get es p) ∷ xs) (ids_push es places k)
 
@@ -22,7 +22,7 @@ module _ (R : Contents) (m places : List ℕ) where
   types_push (q ∷ ps) (u ∷ ts) p t are is = (are.0, types_push ps ts p t are.1 is)
 
   -- one more object
-  pub types_more : (i d : ℕ) (e : Entry) (ts : List TypeInfo) (t : TypeInfo) → i < length places → slice_get R.objects (get_or places i d) ≡ Some e
+  pub types_more : (i d : ℕ) (e : DictionaryEntry) (ts : List TypeInfo) (t : TypeInfo) → i < length places → slice_get R.objects (get_or places i d) ≡ Some e
       → AreTypesOf R m places (places_of (ids_at R.objects (take i places))) (map type_entry ts) → IsTypeOf R m places (entry e.id) (type_entry t)
       → AreTypesOf R m places (places_of (ids_at R.objects (take (i + 1) places))) (map type_entry (ts ++ t ∷ []))
   types_more i d e ts t lt at are is =

@@ -2,23 +2,23 @@
 use Rattle.std.specs.Prelude.{◌≡◌, ◌↔◌, ℕ, List, [], ◌∷◌, ◌++◌, Some, slice_get}
 use Rattle.facets.specs.declared.simple.Simple.{Simple}
 use Rattle.reference_check.specs.Forms.{Graph, Form, Slot, form_slots, form_to}
-use Rattle.reference_check.specs.Words.{IsWord}
+use Rattle.reference_check.specs.Words.{IsWordOf}
 use Rattle.reference_check.specs.Steps.{Slotted, Fine, next, next_of, end_after, Came}
 use Rattle.message_model.specs.Sound.{IsSoundForm, AreSound}
-use Rattle.reference_check.specs.Shapes.{Shape, Component, Shapes, Child, HasShape, HaveShapes, numbers_in, then_shapes, IsFinite, AreFinite, GoesOn}
+use Rattle.reference_check.specs.Shapes.{Shape, Component, Shapes, Child, HasShape, HaveShapes, numbers_in, then_shapes, IsFinite, AreFinite, WordGoesOn}
 
 -- Behind slots that came one by one, others may come so that all are a word, where the form has a word at all.
 abbrev pub CameGoesOn : Type 0
-CameGoesOn = (f : Form ℕ Simple) (d : List ℕ) → IsSoundForm f → GoesOn f [] → Came f d → GoesOn f d
+CameGoesOn = (f : Form ℕ Simple) (d : List ℕ) → IsSoundForm f → WordGoesOn f [] → Came f d → WordGoesOn f d
 
 -- A tag is that of slot k exactly where it is its tag and some word goes on with it.
 abbrev pub NextGoesOn : Type 0
-NextGoesOn = (f : Form ℕ Simple) (d : List ℕ) (k : ℕ) (s : Slot ℕ) → IsSoundForm f → GoesOn f [] → Came f d → slice_get (form_slots f) k ≡ Some s
-    → (next f d s.tag ≡ Slotted k) ↔ GoesOn f (d ++ k ∷ [])
+NextGoesOn = (f : Form ℕ Simple) (d : List ℕ) (k : ℕ) (s : Slot ℕ) → IsSoundForm f → WordGoesOn f [] → Came f d → slice_get (form_slots f) k ≡ Some s
+    → (next f d s.tag ≡ Slotted k) ↔ WordGoesOn f (d ++ k ∷ [])
 
 -- The end may come exactly behind a word.
 abbrev pub EndIsWord : Type 0
-EndIsWord = (f : Form ℕ Simple) (d : List ℕ) → IsSoundForm f → Came f d → (end_after f d ≡ Fine) ↔ IsWord f d
+EndIsWord = (f : Form ℕ Simple) (d : List ℕ) → IsSoundForm f → Came f d → (end_after f d ≡ Fine) ↔ IsWordOf f d
 
 -- Where a slot may come next, each shape of its type, behind shapes of what has come, is part of a shape of the type round it.
 abbrev pub NextShapes : Type 0

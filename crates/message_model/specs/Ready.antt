@@ -20,10 +20,10 @@ pub data MessageRule : Type 0 where
   BadPattern : MessageRule
 
 -- the number that the program prints
-abbrev pub number_of : MessageRule → ℕ
-number_of (OnObjects rule) = rules.number_of rule
-number_of BadFacets = 12
-number_of BadPattern = 13
+abbrev pub message_rule_number : MessageRule → ℕ
+message_rule_number (OnObjects rule) = rules.object_rule_number rule
+message_rule_number BadFacets = 12
+message_rule_number BadPattern = 13
 
 -- no pattern, or one of more than 65,536 positions (XML Schema part 2, appendix F)
 abbrev pub IsBadPattern : Option (List ℕ) → Type 0
@@ -40,10 +40,10 @@ abbrev pub HasBadPattern : Object → Type 0
 HasBadPattern o = (set_codes o ≡ []) × HasPatterns o.kind × IsBadPattern o.facets.pattern
 
 -- the message or an object breaks the rule
-abbrev pub BreaksRule : Contents → List ℕ → MessageRule → Place → Type 0
-BreaksRule R m (OnObjects rule) p = Breaks R m rule p
-BreaksRule R m BadFacets p = OfObject R p HasBadFacets
-BreaksRule R m BadPattern p = OfObject R p HasBadPattern
+abbrev pub BreaksMessageRule : Contents → List ℕ → MessageRule → Place → Type 0
+BreaksMessageRule R m (OnObjects rule) p = Breaks R m rule p
+BreaksMessageRule R m BadFacets p = OfObject R p HasBadFacets
+BreaksMessageRule R m BadPattern p = OfObject R p HasBadPattern
 
 -- no reached object has facets out of bounds or a bad pattern
 pub record HasGoodFacets (R : Contents) (m : List ℕ) : Type 0 where
@@ -52,16 +52,16 @@ pub record HasGoodFacets (R : Contents) (m : List ℕ) : Type 0 where
 
 -- neither the message nor an object that it reaches breaks a rule
 abbrev pub IsReady : Contents → List ℕ → Type 0
-IsReady R m = (r : MessageRule) (p : Place) → Reaches R m p → BreaksRule R m r p → ⊥
+IsReady R m = (r : MessageRule) (p : Place) → Reaches R m p → BreaksMessageRule R m r p → ⊥
 
 -- The lowest rule that is broken, and the first reached object that breaks it, the message behind all objects.
 pub record IsRefused (R : Contents) (m : List ℕ) (rule : MessageRule) (p : Place) : Type 0 where
   pub reached : Reaches R m p
-  pub broken : BreaksRule R m rule p
-  pub lowest : (r : MessageRule) (q : Place) → number_of r < number_of rule → Reaches R m q → BreaksRule R m r q → ⊥
-  pub first : (q : Place) → rank_of R q < rank_of R p → Reaches R m q → BreaksRule R m rule q → ⊥
+  pub broken : BreaksMessageRule R m rule p
+  pub lowest : (r : MessageRule) (q : Place) → message_rule_number r < message_rule_number rule → Reaches R m q → BreaksMessageRule R m r q → ⊥
+  pub first : (q : Place) → rank_of R q < rank_of R p → Reaches R m q → BreaksMessageRule R m rule q → ⊥
 
 -- what an error tells: the rule, and the id of the object or the identifier of the message
 abbrev pub TellsRefused : Contents → List ℕ → ReadyError → Type 0
-TellsRefused R m (Broken number object) = (rule : MessageRule) × (p : Place) × IsRefused R m rule p × (number ≡ number_of rule) × (object ≡ place_id m p)
+TellsRefused R m (Broken number object) = (rule : MessageRule) × (p : Place) × IsRefused R m rule p × (number ≡ message_rule_number rule) × (object ≡ place_id m p)
 TellsRefused R m Memory = Unit {0}

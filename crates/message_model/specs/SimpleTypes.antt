@@ -12,7 +12,7 @@ use Rattle.repo_objects.specs.declared.objects.Kinds.TheVariants as kinds
 use Rattle.repo_objects.specs.declared.objects.ObjectKind.{ObjectKind}
 use Rattle.repo_objects.specs.declared.objects.ObjectKind.TheVariants as object
 use Rattle.repo_objects.specs.declared.objects.RawFacets.{RawFacets}
-use Rattle.repo_objects.specs.Repository.{Entry, Contents}
+use Rattle.repo_objects.specs.Repository.{DictionaryEntry, Contents}
 use Rattle.reference_check.specs.CodeTexts.{text_of_code}
 use Rattle.reference_check.specs.Rules.{set_codes}
 use Rattle.data_types.specs.declared.kind.Kind.{Kind}
@@ -84,13 +84,13 @@ abbrev pub sorted_texts : List (List ℕ) → List (List ℕ)
 sorted_texts texts = fold put_text [] texts
 
 -- the texts of codes of an object, of those that have one
-abbrev pub texts_of : List Entry → Object → List CodeDef → List (List ℕ)
+abbrev pub texts_of : List DictionaryEntry → Object → List CodeDef → List (List ℕ)
 texts_of es o [] = []
 texts_of es o (c ∷ cs) = option_to_list (text_of_code es o c) ++ texts_of es o cs
 
 -- a data type without codes
-abbrev pub faceted : Object → Simple
-faceted o = record {
+abbrev pub faceted_type : Object → Simple
+faceted_type o = record {
   kind = base_of o.kind;
   min = least_length o.facets;
   max = greatest_length o.facets;
@@ -103,8 +103,8 @@ faceted o = record {
 }
 
 -- a set with these codes, which alone count
-abbrev pub enumerated : List (List ℕ) → Simple
-enumerated codes = record {
+abbrev pub type_of_codes : List (List ℕ) → Simple
+type_of_codes codes = record {
   kind = kind.Text;
   min = 0;
   max = None;
@@ -116,9 +116,9 @@ enumerated codes = record {
   codes = Some codes;
 }
 
-abbrev pub facets_by : List Entry → Object → List CodeDef → Simple
-facets_by es o [] = faceted o
-facets_by es o (c ∷ cs) = enumerated (sorted_texts (texts_of es o (c ∷ cs)))
+abbrev pub facets_by : List DictionaryEntry → Object → List CodeDef → Simple
+facets_by es o [] = faceted_type o
+facets_by es o (c ∷ cs) = type_of_codes (sorted_texts (texts_of es o (c ∷ cs)))
 
 -- the simple type of a data type
 abbrev pub facets_of : Contents → Object → Simple

@@ -7,7 +7,7 @@ use Rattle.reference_check.specs.Forms.{Simple as SimpleForm}
 use Rattle.facets.specs.LeafChecks.{IsWithinLimits}
 use Rattle.facets.specs.LeafUnder.{HasSortedCodes}
 use Rattle.message_model.specs.Tables.{Tables, types_of}
-use Rattle.reference_check.specs.Words.{UpTo, IsWord}
+use Rattle.reference_check.specs.Words.{UpTo, IsWordOf}
 use Rattle.reference_check.specs.Steps.{Slotted, Fine, find_slot, has_room, next, next_of, end_after, Came, EndsWith}
 
 -- an alternative of a choice comes at least once
@@ -52,9 +52,9 @@ AreLinked T = (n k : ℕ) (s : Slot ℕ) → slice_get (form_slots (types_of T n
 -- A tag finds its slot; a slot with which some word goes on may come; the end may come behind a word, and there alone, where the slots came one by one.
 pub record Agrees {P : Type 0} (form : Form P Simple) : Type 0 where
   pub tagged : (k : ℕ) (s : Slot P) → slice_get (form_slots form) k ≡ Some s → find_slot 0 (form_slots form) s.tag ≡ Some k
-  pub goes_on : (d e : List ℕ) (k : ℕ) (s : Slot P) → slice_get (form_slots form) k ≡ Some s → IsWord form (d ++ k ∷ e) → next_of form d k s ≡ Slotted k
-  pub ends : (d : List ℕ) → IsWord form d → end_after form d ≡ Fine
-  pub whole : (d : List ℕ) → Came form d → end_after form d ≡ Fine → IsWord form d
+  pub goes_on : (d e : List ℕ) (k : ℕ) (s : Slot P) → slice_get (form_slots form) k ≡ Some s → IsWordOf form (d ++ k ∷ e) → next_of form d k s ≡ Slotted k
+  pub ends : (d : List ℕ) → IsWordOf form d → end_after form d ≡ Fine
+  pub whole : (d : List ℕ) → Came form d → end_after form d ≡ Fine → IsWordOf form d
 
 -- of the numbered types of a message
 abbrev pub SoundFormsAgree : Type 0

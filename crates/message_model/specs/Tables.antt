@@ -33,8 +33,8 @@ abbrev pub namespace_front : List ℕ
 namespace_front = codes "urn:iso:std:iso:20022:tech:xsd:"
 
 -- the namespace of the message's elements
-abbrev pub namespace_of : Tables → List ℕ
-namespace_of T = namespace_front ++ T.id
+abbrev pub message_namespace : Tables → List ℕ
+message_namespace T = namespace_front ++ T.id
 
 -- where a child stands
 abbrev pub edge_at : ℕ → ℕ → Option (Slot ℕ) → Edge
@@ -57,7 +57,7 @@ abbrev mutual
 
 -- the message whose types these are
 abbrev pub message_of : Tables → Message ℕ
-message_of T = record { namespace = namespace_of T; forms = types_of T; root = 0 }
+message_of T = record { namespace = message_namespace T; forms = types_of T; root = 0 }
 
 -- the pieces of an instance: the message's element first, in slot 0 of `Document`
 abbrev pub pieces_of : (Tree → List ℕ) → Tables → Value → List Piece

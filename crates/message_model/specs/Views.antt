@@ -17,8 +17,8 @@ use Rattle.message_model.specs.declared.model.End.TheVariants as end
 use Rattle.message_model.specs.declared.model.Form.{Form}
 use Rattle.message_model.specs.declared.model.Form.TheVariants as form
 
-abbrev pub tables : List ℕ → List TypeEntry → Tables
-tables id types = record { id = id; types = types }
+abbrev pub tables_from : List ℕ → List TypeEntry → Tables
+tables_from id types = record { id = id; types = types }
 
 abbrev pub slot_info : SlotInfo → graph.Slot ℕ
 slot_info s = record { tag = s.tag; min = s.min; max = s.max; target = s.target }
@@ -40,7 +40,7 @@ abbrev pub slot_view : Option Slot → Option (graph.Slot ℕ)
 slot_view None = None
 slot_view (Some s) = Some (record { tag = s.tag.now; min = s.min; max = s.max; target = s.target })
 
-abbrev pub next_view : Next → step.Next
+abbrev pub next_view : Next → step.NextSlot
 next_view (next.Slot k) = step.Slotted k
 next_view next.Unknown = step.Unknown
 next_view next.OutOfOrder = step.OutOfOrder
@@ -48,7 +48,7 @@ next_view next.TooMany = step.TooMany
 next_view (next.Missing k) = step.Missing k
 next_view next.Second = step.Second
 
-abbrev pub end_view : End → step.End
+abbrev pub end_view : End → step.EndOfSlots
 end_view end.Fine = step.Fine
 end_view (end.Missing k) = step.Lacks k
 end_view end.NoAlternative = step.NoAlternative

@@ -17,8 +17,8 @@ use Rattle.reference_check.specs.Forms.{Graph, Form, Slot, form_slots}
 use Rattle.reference_check.specs.Forms as form
 
 -- a local name in a namespace
-abbrev pub named : List ℕ → List ℕ → Expanded
-named namespace local = record { namespace = namespace; local = local }
+abbrev pub name_in_namespace : List ℕ → List ℕ → Expanded
+name_in_namespace namespace local = record { namespace = namespace; local = local }
 
 -- the namespace of hints to a schema (XML Schema part 1 §2.6)
 abbrev pub schema_instance : List ℕ
@@ -26,11 +26,11 @@ schema_instance = codes "http://www.w3.org/2001/XMLSchema-instance"
 
 -- an attribute that only hints where a schema is, which every element may have (XML Schema part 1 §2.6.3)
 abbrev pub IsHint : Entry → Type 0
-IsHint a = (a.name ≡ named schema_instance (codes "schemaLocation")) ⊎ (a.name ≡ named schema_instance (codes "noNamespaceSchemaLocation"))
+IsHint a = (a.name ≡ name_in_namespace schema_instance (codes "schemaLocation")) ⊎ (a.name ≡ name_in_namespace schema_instance (codes "noNamespaceSchemaLocation"))
 
 -- the name of the attribute with the currency of an amount
 abbrev pub currency : Expanded
-currency = named [] (codes "Ccy")
+currency = name_in_namespace [] (codes "Ccy")
 
 -- the value of the attribute of this name
 abbrev pub value_of : Expanded → List Entry → Option (List ℕ)
@@ -99,14 +99,14 @@ WritesContent types ns form (value.Component (Child k v more)) tree.Nothing = �
 WritesContent types ns form (value.Component children) (Text c rest) = IsSpace c × WritesContent types ns form (value.Component children) rest
 WritesContent types ns form (value.Component Nothing) (Element name attributes inner rest) = ⊥
 WritesContent types ns form (value.Component (Child k v more)) (Element name attributes inner rest) =
-    AtSlot (form_slots form) k (λ s. (name ≡ named ns s.tag) × WritesAttributes types (types s.target) v attributes × MayHold (types s.target) inner
+    AtSlot (form_slots form) k (λ s. (name ≡ name_in_namespace ns s.tag) × WritesAttributes types (types s.target) v attributes × MayHold (types s.target) inner
     × WritesContent types ns (types s.target) v inner)
     × WritesContent types ns form (value.Component more) rest
 WritesContent types ns form v nodes = WritesLeaf form v nodes
 
 -- the tree writes the value, as an element `Document` of this form
 pub record WritesAs {P : Type 0} (types : Graph P Simple) (ns : List ℕ) (form : Form P Simple) (v : Value) (t : Tree) : Type 0 where
-  pub name : t.name ≡ named ns (codes "Document")
+  pub name : t.name ≡ name_in_namespace ns (codes "Document")
   pub attributes : WritesAttributes types form v t.attributes
   pub holds : MayHold form t.children
   pub content : WritesContent types ns form v t.children

@@ -3,9 +3,9 @@ ghost use Rattle.std.specs.Prelude.{◌≡◌, ◌↔◌, ◌<◌, ◌≤◌, �
 ghost use Rattle.std.specs.Option.{option_copied, option_map};
 ghost use Rattle.std.specs.Str.{bytes_eq};
 ghost use Rattle.reference_check.specs.Forms.{form_slots, text_type};
-ghost use Rattle.message_model.specs.Tables.{TypeEntry, types_of, namespace_of, namespace_front};
+ghost use Rattle.message_model.specs.Tables.{TypeEntry, types_of, message_namespace, namespace_front};
 ghost use Rattle.message_model.specs.Sound.{AreSound, HaveCodes, HaveSortedCodes, HasRoot, AreLinked, IsSoundForm};
-ghost use Rattle.reference_check.specs.Steps.{Came, EndsWith, next, end_after, end_of, find_slot, first_lacking, has_room, after_order};
+ghost use Rattle.reference_check.specs.Steps.{Came, EndsWith, next, end_after, end_of_slots, find_slot, first_lacking, has_room, after_order};
 ghost use Rattle.reference_check.specs.Forms.{Slot as Slotted};
 ghost use Rattle.message_model.specs.inner.Quick.{quick_sequence_next, quick_choice_next, quick_sequence_end, quick_choice_end, quick_at, due, HasTagAt, AreTagged};
 ghost use Rattle.message_model.specs.Views.{layout_form, slot_view, slots_view, next_view, end_view, IsFormOf};
@@ -98,13 +98,13 @@ impl std::marker::Model for Model {
     ghost use Rattle.std.specs.Prelude.{map, length, ◌≤◌};
     ghost use Rattle.message_model.specs.Tables.{Tables, types_of};
     ghost use Rattle.message_model.specs.Sound.{AreSound, HaveCodes, HaveSortedCodes, HasRoot, AreLinked};
-    ghost use Rattle.message_model.specs.Views.{type_entry, tables};
+    ghost use Rattle.message_model.specs.Views.{type_entry, tables_from};
 
     ghost Value = { Tables };
 
-    ghost view = { λ m. tables m.id (map type_entry m.types.items) };
+    ghost view = { λ m. tables_from m.id (map type_entry m.types.items) };
 
-    ghost invariant = { λ m. AreSound (types_of (tables m.id (map type_entry m.types.items))) × HaveCodes (types_of (tables m.id (map type_entry m.types.items))) × HaveSortedCodes (types_of (tables m.id (map type_entry m.types.items))) × HasRoot (types_of (tables m.id (map type_entry m.types.items))) × AreLinked (tables m.id (map type_entry m.types.items)) × (length m.types.items ≤ 65538) };
+    ghost invariant = { λ m. AreSound (types_of (tables_from m.id (map type_entry m.types.items))) × HaveCodes (types_of (tables_from m.id (map type_entry m.types.items))) × HaveSortedCodes (types_of (tables_from m.id (map type_entry m.types.items))) × HasRoot (types_of (tables_from m.id (map type_entry m.types.items))) × AreLinked (tables_from m.id (map type_entry m.types.items)) × (length m.types.items ≤ 65538) };
 }
 
 impl Model {
@@ -172,7 +172,7 @@ impl Model {
     /// Whether this is the namespace of the message's elements.
     #[tactic(auto, using(crate::proofs::Names::parts_eq))]
     pub fn is_namespace(&self, namespace: &[u8]) -> bool
-        ensures { result ≡ bytes_eq namespace.now (namespace_of self.now) }
+        ensures { result ≡ bytes_eq namespace.now (message_namespace self.now) }
     {
         if namespace.len() < NAMESPACE_FRONT.len() {
             return false;
@@ -415,7 +415,7 @@ fn layout_next(layout: &Layout, order: &TagOrder, last: Option<u32>, count: u64,
 
 /// The end, where this slot is the first that is due.
 fn lacks(due: Option<u32>) -> End
-    ensures { end_view result ≡ end_of due }
+    ensures { end_view result ≡ end_of_slots due }
 {
     match due {
         None => End::Fine,

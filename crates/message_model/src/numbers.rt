@@ -2,7 +2,7 @@
 ghost use Rattle.std.specs.Prelude.{◌≡◌, ◌<◌, ◌≤◌, ℕ, List, length, IfOk, All, AllPairs};
 ghost use Rattle.reference_check.specs.Graph.{entry};
 ghost use Rattle.message_model.specs.Compiled.{place_of};
-ghost use Rattle.message_model.specs.inner.Numbers.{AreNumbers, StandsAt, ids_at};
+ghost use Rattle.message_model.specs.inner.Numbers.{AreNumbers, StandsAmong, ids_at};
 
 use repo_objects::Repository;
 use std::alloc::{AllocError, Global};
@@ -36,7 +36,7 @@ fn write_numbers(numbers: &mut [u32], places: &[usize])
 
 /// The number of the type of the object with that id.
 pub(crate) fn number_of(repository: &Repository, numbers: &[u32], id: &[u8]) -> u32
-    ensures { (places : List ℕ) → AreNumbers places numbers.now → StandsAt repository.now.objects places id.now
+    ensures { (places : List ℕ) → AreNumbers places numbers.now → StandsAmong repository.now.objects places id.now
         → place_of (ids_at repository.now.objects places) result ≡ entry id.now }
 {
     let Some(place) = repository.place(id) else {

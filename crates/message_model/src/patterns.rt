@@ -3,7 +3,7 @@ ghost use Rattle.std.specs.Prelude.{◌≡◌, ◌↔◌, IsTrue, IfOk, ℕ, Lis
 ghost use Rattle.std.specs.Str.{chars};
 ghost use Rattle.lexical_core.specs.Characters.{IsXmlText};
 ghost use Rattle.repo_objects.specs.Objects.{IsXmlTextIfAny};
-ghost use Rattle.pattern_match.specs.Reading.{HasPositionsWithin, Refuses};
+ghost use Rattle.pattern_match.specs.Reading.{HasPositionsWithin, RefusesPattern};
 ghost use Rattle.reference_check.specs.Rules.{HasPatterns};
 ghost use Rattle.message_model.specs.Ready.{HasBadPattern, TellsBad};
 ghost use Rattle.message_model.specs.SimpleTypes.{pattern_of as spec_pattern_of};
@@ -53,7 +53,7 @@ fn is_bad(alloc: Global, text: &Text) -> Result<bool, AllocError>
 
 /// Whether the error says that a text is no pattern, or one of too many positions.
 fn is_refusal(error: PatternError) -> Result<bool, AllocError>
-    ensures { (text : List ℕ) → Refuses text error → IfOk result (λ bad. TellsBad bad (HasPositionsWithin text 65536)) }
+    ensures { (text : List ℕ) → RefusesPattern text error → IfOk result (λ bad. TellsBad bad (HasPositionsWithin text 65536)) }
 {
     match error {
         PatternError::Memory => Err(AllocError),

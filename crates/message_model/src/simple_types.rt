@@ -2,7 +2,7 @@
 ghost use Rattle.std.specs.Prelude.{◌≡◌, ◌≤◌, ◌<◌, ℕ, List, Some, IfOk, MatchOption, slice_get};
 ghost use Rattle.repo_objects.specs.Objects.{IsXmlTextIfAny};
 ghost use Rattle.message_model.specs.FacetRules.{HasBadFacets, total_of};
-ghost use Rattle.message_model.specs.SimpleTypes.{kind_of as spec_kind_of, base_of as spec_base_of, bound_of as spec_bound_of, faceted as spec_faceted, enumerated as spec_enumerated, least_length as spec_least_length, greatest_length as spec_greatest_length, facets_of};
+ghost use Rattle.message_model.specs.SimpleTypes.{kind_of as spec_kind_of, base_of as spec_base_of, bound_of as spec_bound_of, faceted_type as spec_faceted, type_of_codes as spec_enumerated, least_length as spec_least_length, greatest_length as spec_greatest_length, facets_of};
 
 use crate::facet_rules::{has_codes, most_digits};
 use crate::patterns::pattern_of;

@@ -5,7 +5,7 @@ use Rattle.std.proofs.Math.Seq.{drop-cons}
 use Rattle.pattern_match.specs.declared.instruction.Instruction.{Instruction}
 use Rattle.pattern_match.specs.declared.instruction.Place.{Place}
 use Rattle.pattern_match.specs.Building.{is_item}
-use Rattle.pattern_match.specs.inner.Drafting.{live, Leads, flagged_cell, flagged_cells, lifted, IsPlace, IsGroup}
+use Rattle.pattern_match.specs.inner.Drafting.{live, Leads, flagged_cell, flagged_cells, lift_group, IsPlace, IsGroup}
 use Rattle.pattern_match.proofs.DraftLemmas.{live_append, live_le, live_split, set_made_live}
 
 -- the cells that are empty and those that are not
@@ -53,7 +53,7 @@ marked_counts cells p i holes h c =
 
 -- an item that is lifted
 pub lifted_at : (e : Bool) (cells : List (Option Instruction)) (k : ℕ) (d : Option Instruction) → suc k < length cells
-    → set (set cells k (flagged_cell e false (get_or cells (suc k) d))) (suc k) None ≡ take k cells ++ lifted e (drop (suc k) cells)
+    → set (set cells k (flagged_cell e false (get_or cells (suc k) d))) (suc k) None ≡ take k cells ++ lift_group e (drop (suc k) cells)
 lifted_at e [] k d l = absurd (omega arith)
 lifted_at e (c ∷ []) k d l = absurd (omega arith)
 lifted_at e (c ∷ x ∷ cells) zero d l = refl
@@ -71,7 +71,7 @@ lifted_live_length e (Some c ∷ x ∷ cells) (suc k) d l h n = ap suc (lifted_l
 
 abbrev pub Lifts : Bool → List (Option Instruction) → Place → Option Instruction → Type 0
 Lifts e cells p c = (new : List (Option Instruction)) → new ≡ set (set cells p.cell c) (p.cell + 1) None
-    → (new ≡ take p.cell cells ++ lifted e (drop (p.cell + 1) cells)) × (length (live new) ≡ length (live cells) - 1)
+    → (new ≡ take p.cell cells ++ lift_group e (drop (p.cell + 1) cells)) × (length (live new) ≡ length (live cells) - 1)
 
 pub lifts : (e : Bool) (cells : List (Option Instruction)) (p : Place) (c d : Option Instruction) → IsGroup cells p → p.cell + 1 < length cells
     → c ≡ flagged_cell e false (get_or cells (p.cell + 1) d) → Lifts e cells p c
@@ -83,7 +83,7 @@ lifts e cells p c d h l f new n =
     let k : suc p.cell < length cells = omega arith in
     let m = lifted_live_length e cells p.cell d k h.place_is.leads (subst (λ x. Leads (drop x cells)) s h.inside) in
     let z = ap (λ x. length (live x)) g in
-    (g ∙ lifted_at e cells p.cell d k ∙ ap (λ x. take p.cell cells ++ lifted e (drop x cells)) (sym s), omega arith)
+    (g ∙ lifted_at e cells p.cell d k ∙ ap (λ x. take p.cell cells ++ lift_group e (drop x cells)) (sym s), omega arith)
 
 -- the item of a group
 rest_count : (cells : List (Option Instruction)) (k : ℕ) → Leads (drop k cells) → k < length cells → length (live (drop k cells)) ≡ suc (length (live (drop (suc k) cells)))

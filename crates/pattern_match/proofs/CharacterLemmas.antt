@@ -4,7 +4,7 @@ use Rattle.std.proofs.lemmas.Bool.{cond_both, eqb-false, ne_eqb}
 use Rattle.std.proofs.lemmas.Bool.Decides.{nat_tests}
 use Rattle.lexical_core.specs.Characters.{IsXmlChar}
 use Rattle.pattern_match.specs.Valid.{is_among, IsOrdinary, IsEscapeLetter, IsDigit}
-use Rattle.pattern_match.specs.Character.{is_xml, outside, within, in_number, is_escape_letter, behind_backslash}
+use Rattle.pattern_match.specs.Character.{is_xml_character, outside, within, in_number, is_escape_letter, behind_backslash}
 use Rattle.pattern_match.specs.declared.character.Outside.{Outside}
 use Rattle.pattern_match.specs.declared.character.Outside.TheVariants.{Ordinary, Dot, Backslash, OpenClass, OpenGroup, CloseGroup, Bar, Optional, AnyNumber, OneOrMore, OpenBounds, Stray}
 use Rattle.pattern_match.specs.declared.character.Within.{Within}
@@ -14,10 +14,10 @@ use Rattle.pattern_match.specs.declared.character.InNumber.TheVariants.{Digit, C
 use Rattle.pattern_match.specs.declared.character.BehindBackslash.{BehindBackslash}
 use Rattle.pattern_match.specs.declared.character.BehindBackslash.TheVariants.{Space, Letter, Stray as StrayBehind}
 
-pub xml_true : (c : ℕ) → is_xml c ≡ true → IsXmlChar c
+pub xml_true : (c : ℕ) → is_xml_character c ≡ true → IsXmlChar c
 xml_true c h = grind (arith, nat_tests)
 
-pub true_xml : (c : ℕ) → IsXmlChar c → is_xml c ≡ true
+pub true_xml : (c : ℕ) → IsXmlChar c → is_xml_character c ≡ true
 true_xml c h = grind (arith, nat_tests)
 
 abbrev Differ : List ℕ → ℕ → Type 0
@@ -42,7 +42,7 @@ OutsideTells c Optional = c ≡ 63
 OutsideTells c AnyNumber = c ≡ 42
 OutsideTells c OneOrMore = c ≡ 43
 OutsideTells c OpenBounds = c ≡ 123
-OutsideTells c Stray = ((c ≡ 93) ⊎ (c ≡ 125)) ⊎ (is_xml c ≡ false)
+OutsideTells c Stray = ((c ≡ 93) ⊎ (c ≡ 125)) ⊎ (is_xml_character c ≡ false)
 
 pub outside_tells : (c : ℕ) → OutsideTells c (outside c)
 outside_tells c =
@@ -58,7 +58,7 @@ outside_tells c =
     cond_both (c == 123) _ _ (OutsideTells c) (λ t. eqb-true c 123 t) (λ f10.
     cond_both (c == 93) _ _ (OutsideTells c) (λ t. inl (inl (eqb-true c 93 t))) (λ f11.
     cond_both (c == 125) _ _ (OutsideTells c) (λ t. inl (inr (eqb-true c 125 t))) (λ f12.
-    cond_both (is_xml c) _ _ (OutsideTells c)
+    cond_both (is_xml_character c) _ _ (OutsideTells c)
     (λ t. (xml_true c t, among_false (codes ".\\?*+()|[]{}") c (f1, (f2, (f7, (f8, (f9, (f4, (f5, (f6, (f3, (f11, (f10, (f12, tt))))))))))))))
     (λ f. inr f)))))))))))))
 
@@ -82,14 +82,14 @@ outside_ordinary c o = go (outside c) (outside_tells c)
     go OpenBounds t = absurd (outside_not c 123 o t refl)
     go Stray (inl (inl t)) = absurd (outside_not c 93 o t refl)
     go Stray (inl (inr t)) = absurd (outside_not c 125 o t refl)
-    go Stray (inr t) = let k : is_xml c ≡ true = true_xml c o.0 in cc
+    go Stray (inr t) = let k : is_xml_character c ≡ true = true_xml c o.0 in cc
 
 abbrev pub WithinTells : ℕ → Within → Type 0
 WithinTells c Plain = IsXmlChar c × (is_among (codes "\\[]-") c ≡ false)
 WithinTells c BackslashWithin = c ≡ 92
 WithinTells c Hyphen = c ≡ 45
 WithinTells c CloseClass = c ≡ 93
-WithinTells c StrayWithin = (c ≡ 91) ⊎ (is_xml c ≡ false)
+WithinTells c StrayWithin = (c ≡ 91) ⊎ (is_xml_character c ≡ false)
 
 pub within_tells : (c : ℕ) → WithinTells c (within c)
 within_tells c =
@@ -97,7 +97,7 @@ within_tells c =
     cond_both (c == 45) _ _ (WithinTells c) (λ t. eqb-true c 45 t) (λ f2.
     cond_both (c == 93) _ _ (WithinTells c) (λ t. eqb-true c 93 t) (λ f3.
     cond_both (c == 91) _ _ (WithinTells c) (λ t. inl (eqb-true c 91 t)) (λ f4.
-    cond_both (is_xml c) _ _ (WithinTells c)
+    cond_both (is_xml_character c) _ _ (WithinTells c)
     (λ t. (xml_true c t, among_false (codes "\\[]-") c (f1, (f4, (f3, (f2, tt))))))
     (λ f. inr f)))))
 
@@ -113,7 +113,7 @@ within_plain c x o = go (within c) (within_tells c)
     go Hyphen t = absurd (within_not c 45 o t refl)
     go CloseClass t = absurd (within_not c 93 o t refl)
     go StrayWithin (inl t) = absurd (within_not c 91 o t refl)
-    go StrayWithin (inr t) = let k : is_xml c ≡ true = true_xml c x in cc
+    go StrayWithin (inr t) = let k : is_xml_character c ≡ true = true_xml c x in cc
 
 abbrev pub NumberTells : ℕ → InNumber → Type 0
 NumberTells c (Digit digit) = IsDigit c × (digit ≡ c - 48)

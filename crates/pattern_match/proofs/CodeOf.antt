@@ -2,11 +2,11 @@
 use Rattle.std.proofs.Common.{◌≡◌, ℕ, zero, suc, ◌+◌, ◌-◌, ◌*◌, ◌≤◌, min, ◌⊎◌, inl, inr, Bool, true, false, cond, ◌||◌, ◌==◌, nat_lt, Option, Some, None, List, [], ◌∷◌, ◌++◌, length, take, drop, set, refl, sym, ap, ap₂, ◌∙◌, subst, arith, append_assoc, append-nil, length-append, drop-drop, eqb-true, eq-eqb, lt-ltb, mul-zero, le-mul_of_pos_right, zero-lt-suc, le_trans, zero-mul}
 use Rattle.std.proofs.Math.Seq.{take-append_seam, drop-append_seam, set-append_seam}
 use Rattle.std.proofs.lemmas.Bool.{eqb-false, ne_eqb}
-use Rattle.pattern_match.specs.Expression.{Item, One as OneItem, Range, Spaces, Hyphen, Atom, Character, Dot, Escape, Space, Class, Quantifier, Once, Optional, AnyNumber, OneOrMore, Exactly, AtLeast, Between, Expression, Empty, Piece, Group, Choice}
+use Rattle.pattern_match.specs.Expression.{ClassMember, One as OneItem, Range, Spaces, Hyphen, Atom, Character, Dot, Escape, Space, Class, Quantifier, Once, Optional, AnyNumber, OneOrMore, Exactly, AtLeast, Between, Expression, Empty, Piece, Group, Choice}
 use Rattle.pattern_match.specs.Valid.{IsBranch, IsExpression}
 use Rattle.pattern_match.specs.Positions.{copies, positions}
 use Rattle.pattern_match.specs.inner.Plan.{Plan, Nothing, One, Either, size}
-use Rattle.pattern_match.specs.Building.{Built, capped, flagged_first, repeated_code, kept, sum_of, is_branch_empty, is_item, wrapped, after_atom, after_open, after_bar, after_close_of, after_close, closed_code, piece_code, after_times, built, nothing_built, built_whole}
+use Rattle.pattern_match.specs.Building.{Built, cap_count, flagged_first, repeated_code, kept_copies, sum_of, is_branch_empty, is_item, wrapped_group, after_atom, after_open, after_bar, after_close_of, after_close, closed_code, piece_code, after_times, build_behind, nothing_built, built_whole}
 use Rattle.pattern_match.specs.declared.instruction.Instruction.{Instruction}
 use Rattle.pattern_match.specs.declared.instruction.Instruction.TheVariants.{Take, Open, Bar, Close}
 use Rattle.pattern_match.specs.declared.instruction.Begun.{Begun}
@@ -25,27 +25,27 @@ capped_cases n = grind arith
 many : (n k : ℕ) → 65537 ≤ n → 65537 ≤ n * suc k
 many n k h = let z : n ≤ n * suc k = le-mul_of_pos_right n (zero-lt-suc k) in le_trans h z
 
-same_zero : (n k : ℕ) → ((capped n * k == 0) ≡ (n * k == 0)) × ((nat_lt 65536 (capped n * k) ≡ nat_lt 65536 (n * k)) × (capped (capped n * k) ≡ capped (n * k)))
+same_zero : (n k : ℕ) → ((cap_count n * k == 0) ≡ (n * k == 0)) × ((nat_lt 65536 (cap_count n * k) ≡ nat_lt 65536 (n * k)) × (cap_count (cap_count n * k) ≡ cap_count (n * k)))
 same_zero n k = choose (capped_cases n)
   where
     choose : (min n 65537 ≡ n) ⊎ ((min n 65537 ≡ 65537) × (65537 ≤ n))
-        → ((capped n * k == 0) ≡ (n * k == 0)) × ((nat_lt 65536 (capped n * k) ≡ nat_lt 65536 (n * k)) × (capped (capped n * k) ≡ capped (n * k)))
-    choose (inl e) = (ap (λ x. x * k == 0) e, (ap (λ x. nat_lt 65536 (x * k)) e, ap (λ x. capped (x * k)) e))
+        → ((cap_count n * k == 0) ≡ (n * k == 0)) × ((nat_lt 65536 (cap_count n * k) ≡ nat_lt 65536 (n * k)) × (cap_count (cap_count n * k) ≡ cap_count (n * k)))
+    choose (inl e) = (ap (λ x. x * k == 0) e, (ap (λ x. nat_lt 65536 (x * k)) e, ap (λ x. cap_count (x * k)) e))
     choose (inr (e, l)) = by_copies k
       where
-        by_copies : (k : ℕ) → ((capped n * k == 0) ≡ (n * k == 0)) × ((nat_lt 65536 (capped n * k) ≡ nat_lt 65536 (n * k)) × (capped (capped n * k) ≡ capped (n * k)))
-        by_copies zero = (ap (λ x. x == 0) (z0 ∙ sym z1), (ap (λ x. nat_lt 65536 x) (z0 ∙ sym z1), ap capped (z0 ∙ sym z1)))
+        by_copies : (k : ℕ) → ((cap_count n * k == 0) ≡ (n * k == 0)) × ((nat_lt 65536 (cap_count n * k) ≡ nat_lt 65536 (n * k)) × (cap_count (cap_count n * k) ≡ cap_count (n * k)))
+        by_copies zero = (ap (λ x. x == 0) (z0 ∙ sym z1), (ap (λ x. nat_lt 65536 x) (z0 ∙ sym z1), ap cap_count (z0 ∙ sym z1)))
           where
-            z0 : capped n * 0 ≡ 0
-            z0 = mul-zero (capped n)
+            z0 : cap_count n * 0 ≡ 0
+            z0 = mul-zero (cap_count n)
 
             z1 : n * 0 ≡ 0
             z1 = mul-zero n
         by_copies (suc j) =
-            let a : 65537 ≤ capped n * suc j = many (capped n) j (omega arith) in
+            let a : 65537 ≤ cap_count n * suc j = many (cap_count n) j (omega arith) in
             let b : 65537 ≤ n * suc j = many n j l in (
-              ne_eqb (capped n * suc j) 0 (λ x. absurd (omega arith)) ∙ sym (ne_eqb (n * suc j) 0 (λ x. absurd (omega arith))),
-              (lt-ltb 65536 (capped n * suc j) (omega arith) ∙ sym (lt-ltb 65536 (n * suc j) (omega arith)), omega arith),
+              ne_eqb (cap_count n * suc j) 0 (λ x. absurd (omega arith)) ∙ sym (ne_eqb (n * suc j) 0 (λ x. absurd (omega arith))),
+              (lt-ltb 65536 (cap_count n * suc j) (omega arith) ∙ sym (lt-ltb 65536 (n * suc j) (omega arith)), omega arith),
             )
 
 -- what an atom or a group leaves: c before it, and its fragment where it has positions
@@ -70,14 +70,14 @@ around_last b = record { begun = b.begun; total = b.total; branch = b.branch; em
 pub record Ready (b : Built) (c f : List Instruction) (a : Around) (n : ℕ) : Type 0 where
   pub code_is : b.code ≡ c ++ fragment n f
   pub around_is : around_last b ≡ a
-  pub last_is : b.last ≡ capped n
+  pub last_is : b.last ≡ cap_count n
   pub start_is : b.start ≡ length c
 
 -- what a piece leaves
 pub record Done (b : Built) (c : List Instruction) (a : Around) (n : ℕ) : Type 0 where
   pub code_is : b.code ≡ c
   pub around_is : around_last b ≡ a
-  pub last_is : b.last ≡ capped n
+  pub last_is : b.last ≡ cap_count n
 
 zero_product : (n k : ℕ) → n ≡ 0 → n * k ≡ 0
 zero_product n k e = ap (λ x. x * k) e ∙ zero-mul k
@@ -85,19 +85,19 @@ zero_product n k e = ap (λ x. x * k) e ∙ zero-mul k
 module _ (item : Bool → Bool → Plan → Plan) (f : List Instruction) (h : ItemCode item f) where
   -- a fragment that is repeated
   repeated_is : (c : List Instruction) (n least : ℕ) (most : Option ℕ)
-      → piece_code (length c) (c ++ fragment n f) (capped n * kept least most) least most ≡ c ++ code (piece item n least most Nothing)
+      → piece_code (length c) (c ++ fragment n f) (cap_count n * kept_copies least most) least most ≡ c ++ code (piece item n least most Nothing)
   repeated_is c n least most =
-      ap (λ x. cond x (take (length c) (c ++ fragment n f)) (cond (nat_lt 65536 (capped n * kept least most)) (c ++ fragment n f)
-      (take (length c) (c ++ fragment n f) ++ repeated_code least most (drop (length c) (c ++ fragment n f))))) (same_zero n (kept least most)).0
-      ∙ ap (λ x. cond (n * kept least most == 0) (take (length c) (c ++ fragment n f)) (cond x (c ++ fragment n f)
-      (take (length c) (c ++ fragment n f) ++ repeated_code least most (drop (length c) (c ++ fragment n f))))) (same_zero n (kept least most)).1.0
-      ∙ choose (n * kept least most == 0) (nat_lt 65536 (n * kept least most)) (n == 0) refl refl
+      ap (λ x. cond x (take (length c) (c ++ fragment n f)) (cond (nat_lt 65536 (cap_count n * kept_copies least most)) (c ++ fragment n f)
+      (take (length c) (c ++ fragment n f) ++ repeated_code least most (drop (length c) (c ++ fragment n f))))) (same_zero n (kept_copies least most)).0
+      ∙ ap (λ x. cond (n * kept_copies least most == 0) (take (length c) (c ++ fragment n f)) (cond x (c ++ fragment n f)
+      (take (length c) (c ++ fragment n f) ++ repeated_code least most (drop (length c) (c ++ fragment n f))))) (same_zero n (kept_copies least most)).1.0
+      ∙ choose (n * kept_copies least most == 0) (nat_lt 65536 (n * kept_copies least most)) (n == 0) refl refl
     where
-      choose : (a b z : Bool) → (n * kept least most == 0) ≡ a → (n == 0) ≡ z
+      choose : (a b z : Bool) → (n * kept_copies least most == 0) ≡ a → (n == 0) ≡ z
           → cond a (take (length c) (c ++ cond z [] f)) (cond b (c ++ cond z [] f) (take (length c) (c ++ cond z [] f) ++ repeated_code least most (drop (length c) (c ++ cond z [] f))))
           ≡ c ++ code (cond a Nothing (cond b (item false false Nothing) (repeated item least most Nothing)))
       choose true b z e g = take-append_seam c (cond z [] f) ∙ sym (append-nil c)
-      choose false b true e g = absurd (eqb-false (n * kept least most) 0 e (zero_product n (kept least most) (eqb-true n 0 g)))
+      choose false b true e g = absurd (eqb-false (n * kept_copies least most) 0 e (zero_product n (kept_copies least most) (eqb-true n 0 g)))
       choose false true false e g = ap (λ x. c ++ x) (sym h.one)
       choose false false false e g =
           ap₂ (λ x y. x ++ repeated_code least most y) (take-append_seam c f) (drop-append_seam c f)
@@ -114,14 +114,14 @@ module _ (item : Bool → Bool → Plan → Plan) (f : List Instruction) (h : It
 
   -- behind a quantifier
   times_done : (b : Built) (c : List Instruction) (a : Around) (n least : ℕ) (most : Option ℕ) → Ready b c f a n
-      → Done (after_times least most b) (c ++ code (piece item n least most Nothing)) a (n * kept least most)
+      → Done (after_times least most b) (c ++ code (piece item n least most Nothing)) a (n * kept_copies least most)
   times_done b c a n least most r = record {
-    code_is = ap (λ x. piece_code x b.code (b.last * kept least most) least most) r.start_is
-        ∙ ap (λ x. piece_code (length c) x (b.last * kept least most) least most) r.code_is
-        ∙ ap (λ x. piece_code (length c) (c ++ fragment n f) (x * kept least most) least most) r.last_is
+    code_is = ap (λ x. piece_code x b.code (b.last * kept_copies least most) least most) r.start_is
+        ∙ ap (λ x. piece_code (length c) x (b.last * kept_copies least most) least most) r.code_is
+        ∙ ap (λ x. piece_code (length c) (c ++ fragment n f) (x * kept_copies least most) least most) r.last_is
         ∙ repeated_is c n least most;
     around_is = r.around_is;
-    last_is = ap (λ x. capped (x * kept least most)) r.last_is ∙ (same_zero n (kept least most)).1.1;
+    last_is = ap (λ x. cap_count (x * kept_copies least most)) r.last_is ∙ (same_zero n (kept_copies least most)).1.1;
   }
 
   once_done : (b : Built) (c : List Instruction) (a : Around) (n : ℕ) → Ready b c f a n
@@ -129,15 +129,15 @@ module _ (item : Bool → Bool → Plan → Plan) (f : List Instruction) (h : It
   once_done b c a n r = record {
     code_is = r.code_is ∙ once_is c n;
     around_is = r.around_is;
-    last_is = r.last_is ∙ ap capped (let z : n ≡ n * 1 = omega arith in z);
+    last_is = r.last_is ∙ ap cap_count (let z : n ≡ n * 1 = omega arith in z);
   }
 
   -- behind the tokens of a quantifier
   pub quantifier_done : (q : Quantifier) (at : ℕ) (more : List Token) (b : Built) (c : List Instruction) (a : Around) (n : ℕ) → Ready b c f a n
-      → (d : Built) × (built at (quantifier_tokens_then q more) b ≡ built (at + quantifier_width q) more d)
+      → (d : Built) × (build_behind at (quantifier_tokens_then q more) b ≡ build_behind (at + quantifier_width q) more d)
       × Done d (c ++ code (piece item n (least_of q) (most_of q) Nothing)) a (n * copies q)
   quantifier_done Once at more b c a n r =
-      (b, ap (λ i. built i more b) (let z : at ≡ at + 0 = omega arith in z), once_done b c a n r)
+      (b, ap (λ i. build_behind i more b) (let z : at ≡ at + 0 = omega arith in z), once_done b c a n r)
   quantifier_done Optional at more b c a n r = (after_times 0 (Some 1) b, refl, times_done b c a n 0 (Some 1) r)
   quantifier_done AnyNumber at more b c a n r = (after_times 0 None b, refl, times_done b c a n 0 None r)
   quantifier_done OneOrMore at more b c a n r = (after_times 1 None b, refl, times_done b c a n 1 None r)
@@ -146,18 +146,18 @@ module _ (item : Bool → Bool → Plan → Plan) (f : List Instruction) (h : It
   quantifier_done (Between l m) at more b c a n r = (after_times (least_of (Between l m)) (most_of (Between l m)) b, refl, times_done b c a n (least_of (Between l m)) (most_of (Between l m)) r)
 
 -- behind the tokens of an atom
-items_built : (items : List Item) (at : ℕ) (more : List Token) (b : Built) → built at (items_tokens_then items more) b ≡ built (at + items_width items) more b
-items_built [] at more b = ap (λ i. built i more b) (let z : at ≡ at + 0 = omega arith in z)
-items_built (OneItem s ∷ items) at more b = items_built items (at + 1) more b ∙ ap (λ i. built i more b) (let z : at + 1 + items_width items ≡ at + (1 + items_width items) = omega arith in z)
+items_built : (items : List ClassMember) (at : ℕ) (more : List Token) (b : Built) → build_behind at (items_tokens_then items more) b ≡ build_behind (at + items_width items) more b
+items_built [] at more b = ap (λ i. build_behind i more b) (let z : at ≡ at + 0 = omega arith in z)
+items_built (OneItem s ∷ items) at more b = items_built items (at + 1) more b ∙ ap (λ i. build_behind i more b) (let z : at + 1 + items_width items ≡ at + (1 + items_width items) = omega arith in z)
 items_built (Range low high ∷ items) at more b =
-    items_built items (at + 1 + 1) more b ∙ ap (λ i. built i more b) (let z : at + 1 + 1 + items_width items ≡ at + (2 + items_width items) = omega arith in z)
+    items_built items (at + 1 + 1) more b ∙ ap (λ i. build_behind i more b) (let z : at + 1 + 1 + items_width items ≡ at + (2 + items_width items) = omega arith in z)
 items_built (Spaces ∷ items) at more b =
-    items_built items (at + 1 + 1 + 1) more b ∙ ap (λ i. built i more b) (let z : at + 1 + 1 + 1 + items_width items ≡ at + (3 + items_width items) = omega arith in z)
-items_built (Hyphen ∷ items) at more b = items_built items (at + 1) more b ∙ ap (λ i. built i more b) (let z : at + 1 + items_width items ≡ at + (1 + items_width items) = omega arith in z)
+    items_built items (at + 1 + 1 + 1) more b ∙ ap (λ i. build_behind i more b) (let z : at + 1 + 1 + 1 + items_width items ≡ at + (3 + items_width items) = omega arith in z)
+items_built (Hyphen ∷ items) at more b = items_built items (at + 1) more b ∙ ap (λ i. build_behind i more b) (let z : at + 1 + items_width items ≡ at + (1 + items_width items) = omega arith in z)
 
-atom_built : (a : Atom) (at : ℕ) (more : List Token) (b : Built) → built at (atom_tokens_then a more) b ≡ built (at + atom_width a) more (after_atom at b)
+atom_built : (a : Atom) (at : ℕ) (more : List Token) (b : Built) → build_behind at (atom_tokens_then a more) b ≡ build_behind (at + atom_width a) more (after_atom at b)
 atom_built (Class negated items) at more b =
-    items_built items (at + 1) more (after_atom at b) ∙ ap (λ i. built i more (after_atom at b)) (let z : at + 1 + items_width items ≡ at + suc (items_width items) = omega arith in z)
+    items_built items (at + 1) more (after_atom at b) ∙ ap (λ i. build_behind i more (after_atom at b)) (let z : at + 1 + items_width items ≡ at + suc (items_width items) = omega arith in z)
 atom_built (Character c) at more b = refl
 atom_built Dot at more b = refl
 atom_built (Escape letter) at more b = refl
@@ -167,14 +167,14 @@ atom_ready : (at : ℕ) (b : Built) → Ready (after_atom at b) b.code (Take at 
 atom_ready at b = record { code_is = refl; around_is = refl; last_is = refl; start_is = refl }
 
 -- behind the end of a group
-capped_zero : (n : ℕ) → (capped n == 0) ≡ (n == 0)
+capped_zero : (n : ℕ) → (cap_count n == 0) ≡ (n == 0)
 capped_zero zero = refl
-capped_zero (suc n) = ne_eqb (capped (suc n)) 0 (λ e. absurd (omega arith)) ∙ sym (ne_eqb (suc n) 0 (λ e. absurd (omega arith)))
+capped_zero (suc n) = ne_eqb (cap_count (suc n)) 0 (λ e. absurd (omega arith)) ∙ sym (ne_eqb (suc n) 0 (λ e. absurd (omega arith)))
 
 -- the code of a group whose branches are p: it begins behind c
-wrapped_is : (c : List Instruction) (p : Plan) (empty : Bool) → wrapped (length c) empty ((c ++ Open 0 false false ∷ []) ++ code p) ≡ c ++ group_code p empty
+wrapped_is : (c : List Instruction) (p : Plan) (empty : Bool) → wrapped_group (length c) empty ((c ++ Open 0 false false ∷ []) ++ code p) ≡ c ++ group_code p empty
 wrapped_is c p empty =
-    ap (λ x. wrapped (length c) empty x) (append_assoc c (Open 0 false false ∷ []) (code p))
+    ap (λ x. wrapped_group (length c) empty x) (append_assoc c (Open 0 false false ∷ []) (code p))
     ∙ ap (λ x. cond (is_item x) (take (length c) whole ++ flagged_first empty false x) (set whole (length c) (Open (length whole - length c - 1) empty false) ++ Close ∷ [])) inner
     ∙ ap (λ x. cond x (take (length c) whole ++ flagged_first empty false (code p)) (set whole (length c) (Open (length whole - length c - 1) empty false) ++ Close ∷ [])) (item_single p)
     ∙ choose (single p)
@@ -200,7 +200,7 @@ wrapped_is c p empty =
 pub record Behind (b d : Built) (p : Plan) (n : ℕ) : Type 0 where
   pub code_is : d.code ≡ b.code ++ code p
   pub begun_is : d.begun ≡ b.begun
-  pub sum_is : sum_of d ≡ capped (sum_of b + n)
+  pub sum_is : sum_of d ≡ cap_count (sum_of b + n)
   pub branch_is : d.branch ≡ b.branch
   pub empty_is : d.empty ≡ b.empty
 
@@ -214,7 +214,7 @@ gapped d = is_branch_empty d || d.empty
 -- what the tokens of branches leave, the first of which begins here: p is what is kept of them, and empty whether one is left out
 pub record Left (b d : Built) (p : Plan) (empty : Bool) (n : ℕ) : Type 0 where
   pub begun_is : d.begun ≡ b.begun
-  pub sum_is : sum_of d ≡ capped (sum_of b + n)
+  pub sum_is : sum_of d ≡ cap_count (sum_of b + n)
   pub none : is_nothing p ≡ true → (d.code ≡ b.code) × (d.branch ≡ length b.code)
   pub some : is_nothing p ≡ false → (trimmed d ≡ b.code ++ code p) × (gapped d ≡ (empty || b.empty))
 
@@ -246,7 +246,7 @@ unfolding barred
 barred_is b true e = ap (λ y. cond y (barred true b) (barred false b)) e
 barred_is b false e = ap (λ y. cond y (barred true b) (barred false b)) e
 
-bar_sum : (s x y : ℕ) → capped (capped (capped (s + x) + 0) + y) ≡ capped (s + (x + y))
+bar_sum : (s x y : ℕ) → cap_count (cap_count (cap_count (s + x) + 0) + y) ≡ cap_count (s + (x + y))
 bar_sum s x y = omega arith
 
 or_true : (x : Bool) → (x || true) ≡ true
@@ -259,7 +259,7 @@ join_left : (b d e : Built) (p q : Plan) (empty : Bool) (m n : ℕ) (x y : Bool)
 unfolding barred
 join_left b d e p q empty m n true y i j f h k = record {
   begun_is = k.begun_is ∙ h.begun_is;
-  sum_is = k.sum_is ∙ ap (λ s. capped (capped (s + 0) + n)) h.sum_is ∙ bar_sum (sum_of b) m n;
+  sum_is = k.sum_is ∙ ap (λ s. cap_count (cap_count (s + 0) + n)) h.sum_is ∙ bar_sum (sum_of b) m n;
   none = λ z. ((k.none z).0 ∙ same, (k.none z).1 ∙ ap length same);
   some = λ z. ((k.some z).0 ∙ ap (λ c. c ++ code q) same, (k.some z).1 ∙ or_true empty);
 }
@@ -268,7 +268,7 @@ join_left b d e p q empty m n true y i j f h k = record {
     same = h.code_is ∙ ap (λ c. b.code ++ c) (nothing_code p i) ∙ append-nil b.code
 join_left b d e p q empty m n false true i j f h k = record {
   begun_is = k.begun_is ∙ h.begun_is;
-  sum_is = k.sum_is ∙ ap (λ s. capped (capped (s + 0) + n)) h.sum_is ∙ bar_sum (sum_of b) m n;
+  sum_is = k.sum_is ∙ ap (λ s. cap_count (cap_count (s + 0) + n)) h.sum_is ∙ bar_sum (sum_of b) m n;
   none = λ z. absurd (cc);
   some = λ z. (
     ap (λ t. cond t (take (e.branch - 1) e.code) e.code) at_end
@@ -283,7 +283,7 @@ join_left b d e p q empty m n false true i j f h k = record {
     at_end = eq-eqb (length e.code) e.branch (ap length (k.none j).0 ∙ sym (k.none j).1)
 join_left b d e p q empty m n false false i j f h k = record {
   begun_is = k.begun_is ∙ h.begun_is;
-  sum_is = k.sum_is ∙ ap (λ s. capped (capped (s + 0) + n)) h.sum_is ∙ bar_sum (sum_of b) m n;
+  sum_is = k.sum_is ∙ ap (λ s. cap_count (cap_count (s + 0) + n)) h.sum_is ∙ bar_sum (sum_of b) m n;
   none = λ z. absurd (cc);
   some = λ z. (
     (k.some j).0 ∙ ap (λ c. (c ++ Bar ∷ []) ++ code q) h.code_is
@@ -315,23 +315,23 @@ bar_here b d p m false i f h =
 
 -- behind the end of a group of n positions
 closed_is : (b d : Built) (p : Plan) (empty : Bool) (n : ℕ) → is_nothing p ≡ (n == 0) → Left (after_open b) d p empty n
-    → closed_code (length b.code) d.branch d.empty d.code (capped n) ≡ b.code ++ fragment n (group_code p empty)
+    → closed_code (length b.code) d.branch d.empty d.code (cap_count n) ≡ b.code ++ fragment n (group_code p empty)
 closed_is b d p empty n i h =
-    ap (λ x. cond x (take (length b.code) d.code) (cond (is_branch_empty d) (wrapped (length b.code) true (take (d.branch - 1) d.code)) (wrapped (length b.code) d.empty d.code))) (capped_zero n)
+    ap (λ x. cond x (take (length b.code) d.code) (cond (is_branch_empty d) (wrapped_group (length b.code) true (take (d.branch - 1) d.code)) (wrapped_group (length b.code) d.empty d.code))) (capped_zero n)
     ∙ choose (n == 0) refl
   where
-    by_branch : (x : Bool) → cond x (wrapped (length b.code) true (take (d.branch - 1) d.code)) (wrapped (length b.code) d.empty d.code)
-        ≡ wrapped (length b.code) (x || d.empty) (cond x (take (d.branch - 1) d.code) d.code)
+    by_branch : (x : Bool) → cond x (wrapped_group (length b.code) true (take (d.branch - 1) d.code)) (wrapped_group (length b.code) d.empty d.code)
+        ≡ wrapped_group (length b.code) (x || d.empty) (cond x (take (d.branch - 1) d.code) d.code)
     by_branch true = refl
     by_branch false = refl
 
     choose : (z : Bool) → (n == 0) ≡ z
-        → cond z (take (length b.code) d.code) (cond (is_branch_empty d) (wrapped (length b.code) true (take (d.branch - 1) d.code)) (wrapped (length b.code) d.empty d.code))
+        → cond z (take (length b.code) d.code) (cond (is_branch_empty d) (wrapped_group (length b.code) true (take (d.branch - 1) d.code)) (wrapped_group (length b.code) d.empty d.code))
         ≡ b.code ++ cond z [] (group_code p empty)
     choose true z = ap (λ c. take (length b.code) c) (h.none (i ∙ z)).0 ∙ take-append_seam b.code (Open 0 false false ∷ []) ∙ sym (append-nil b.code)
     choose false z =
         by_branch (is_branch_empty d)
-        ∙ ap₂ (λ x c. wrapped (length b.code) x c) ((h.some (i ∙ z)).1 ∙ or_false empty) (h.some (i ∙ z)).0
+        ∙ ap₂ (λ x c. wrapped_group (length b.code) x c) ((h.some (i ∙ z)).1 ∙ or_false empty) (h.some (i ∙ z)).0
         ∙ wrapped_is b.code p empty
 
 group_ready : (b d : Built) (p : Plan) (empty : Bool) (n : ℕ) → is_nothing p ≡ (n == 0) → Left (after_open b) d p empty n
@@ -345,13 +345,13 @@ group_ready b d p empty n i h =
       start_is = refl;
     })
   where
-    zero_sum : (n : ℕ) → capped (capped (0 + 0) + n) ≡ capped n
+    zero_sum : (n : ℕ) → cap_count (cap_count (0 + 0) + n) ≡ cap_count n
     zero_sum n = omega arith
 
-    sum : sum_of d ≡ capped n
+    sum : sum_of d ≡ cap_count n
     sum = h.sum_is ∙ zero_sum n
 
-capped_twice : (s x y : ℕ) → capped (capped (s + capped x) + y) ≡ capped (s + (x + y))
+capped_twice : (s x y : ℕ) → cap_count (cap_count (s + cap_count x) + y) ≡ cap_count (s + (x + y))
 capped_twice s x y = omega arith
 
 -- a piece and the rest
@@ -361,18 +361,18 @@ piece_behind item f h b d e n least most rest x y r k = record {
   code_is = k.code_is ∙ ap (λ c. c ++ code rest) r.code_is ∙ append_assoc b.code (code (piece item n least most Nothing)) (code rest)
       ∙ ap (λ c. b.code ++ c) (sym (piece_split item f h n least most rest));
   begun_is = k.begun_is ∙ ap (λ a. a.begun) r.around_is;
-  sum_is = k.sum_is ∙ ap₂ (λ s t. capped (capped (s + t) + y)) (ap (λ a. a.total) r.around_is) r.last_is ∙ capped_twice (sum_of b) x y;
+  sum_is = k.sum_is ∙ ap₂ (λ s t. cap_count (cap_count (s + t) + y)) (ap (λ a. a.total) r.around_is) r.last_is ∙ capped_twice (sum_of b) x y;
   branch_is = k.branch_is ∙ ap (λ a. a.branch) r.around_is;
   empty_is = k.empty_is ∙ ap (λ a. a.empty) r.around_is;
 }
 
 -- what the tokens of a tree leave: of a branch, and of branches
 abbrev BuildsBranch : Expression → ℕ → List Token → Type 0
-BuildsBranch t k more = (b : Built) → (d : Built) × (built k (tokens_then t more) b ≡ built (k + width t) more d) × Behind b d (plan t k) (positions t)
+BuildsBranch t k more = (b : Built) → (d : Built) × (build_behind k (tokens_then t more) b ≡ build_behind (k + width t) more d) × Behind b d (plan t k) (positions t)
 
 abbrev Builds : Expression → ℕ → List Token → Type 0
 Builds t k more =
-    (b : Built) → b.branch ≡ length b.code → (d : Built) × (built k (tokens_then t more) b ≡ built (k + width t) more d) × Left b d (plan t k) (gap t) (positions t)
+    (b : Built) → b.branch ≡ length b.code → (d : Built) × (build_behind k (tokens_then t more) b ≡ build_behind (k + width t) more d) × Left b d (plan t k) (gap t) (positions t)
 
 record BuildsTree (t : Expression) (k : ℕ) (more : List Token) : Type 0 where
   branch : IsBranch t → BuildsBranch t k more
@@ -387,7 +387,7 @@ of_branch t k more v h = record {
 empty_built : (k : ℕ) (more : List Token) → BuildsBranch Empty k more
 empty_built k more b = (
   b,
-  ap (λ i. built i more b) (let z : k ≡ k + 0 = omega arith in z),
+  ap (λ i. build_behind i more b) (let z : k ≡ k + 0 = omega arith in z),
   record {
     code_is = sym (append-nil b.code);
     begun_is = refl;
@@ -397,7 +397,7 @@ empty_built k more b = (
   },
 )
   where
-    sum_same : (x : ℕ) → capped x ≡ capped (capped x + 0)
+    sum_same : (x : ℕ) → cap_count x ≡ cap_count (cap_count x + 0)
     sum_same x = omega arith
 
 piece_built : (a : Atom) (q : Quantifier) (r : Expression) (k : ℕ) (more : List Token) → BuildsBranch r (k + (atom_width a + quantifier_width q)) more
@@ -407,8 +407,8 @@ piece_built a q r k more rest b =
     let e = rest d.0 in (
       e.0,
       atom_built a k (quantifier_tokens_then q (tokens_then r more)) b ∙ d.1
-          ∙ ap (λ i. built i (tokens_then r more) d.0) (let z : k + atom_width a + quantifier_width q ≡ k + (atom_width a + quantifier_width q) = omega arith in z)
-          ∙ e.1 ∙ ap (λ i. built i more e.0) (let z : k + (atom_width a + quantifier_width q) + width r ≡ k + (atom_width a + (quantifier_width q + width r)) = omega arith in z),
+          ∙ ap (λ i. build_behind i (tokens_then r more) d.0) (let z : k + atom_width a + quantifier_width q ≡ k + (atom_width a + quantifier_width q) = omega arith in z)
+          ∙ e.1 ∙ ap (λ i. build_behind i more e.0) (let z : k + (atom_width a + quantifier_width q) + width r ≡ k + (atom_width a + (quantifier_width q + width r)) = omega arith in z),
       subst (λ x. Behind b e.0 (plan (Piece a q r) k) (x + positions r)) (let z : 1 * copies q ≡ copies q = omega arith in z)
           (piece_behind (One k) (Take k false false ∷ []) (one_item k) b d.0 e.0 1 (least_of q) (most_of q) (plan r (k + (atom_width a + quantifier_width q))) (1 * copies q) (positions r) d.2 e.2),
     )
@@ -424,10 +424,10 @@ group_built p q r k more within rest b =
     let d = quantifier_done I F (group_item (plan p (suc k)) (gap p)) q (suc k + width p + 1) (tokens_then r more) (after_close g.0) b.code (around b) (positions p) ready in
     let e = rest d.0 in (
       e.0,
-      ap (λ j. built j (tokens_then p (CloseToken ∷ quantifier_tokens_then q (tokens_then r more))) (after_open b)) (let z : k + 1 ≡ suc k = omega arith in z)
+      ap (λ j. build_behind j (tokens_then p (CloseToken ∷ quantifier_tokens_then q (tokens_then r more))) (after_open b)) (let z : k + 1 ≡ suc k = omega arith in z)
           ∙ g.1 ∙ d.1
-          ∙ ap (λ j. built j (tokens_then r more) d.0) (let z : suc k + width p + 1 + quantifier_width q ≡ suc k + (width p + suc (quantifier_width q)) = omega arith in z)
-          ∙ e.1 ∙ ap (λ j. built j more e.0) (let z : suc k + (width p + suc (quantifier_width q)) + width r ≡ k + suc (width p + suc (quantifier_width q + width r)) = omega arith in z),
+          ∙ ap (λ j. build_behind j (tokens_then r more) d.0) (let z : suc k + width p + 1 + quantifier_width q ≡ suc k + (width p + suc (quantifier_width q)) = omega arith in z)
+          ∙ e.1 ∙ ap (λ j. build_behind j more e.0) (let z : suc k + (width p + suc (quantifier_width q)) + width r ≡ k + suc (width p + suc (quantifier_width q + width r)) = omega arith in z),
       piece_behind I F (group_item (plan p (suc k)) (gap p)) b d.0 e.0 (positions p) (least_of q) (most_of q) (plan r (suc k + (width p + suc (quantifier_width q))))
           (positions p * copies q) (positions r) d.2 e.2,
     )
@@ -440,9 +440,9 @@ choice_built l r k more first rest b f =
     let h = bar_here b d.0 (plan l k) (positions l) (is_nothing (plan l k)) refl f d.2 in
     let e = rest (barred (is_nothing (plan l k)) d.0) h.1 in (
       e.0,
-      d.1 ∙ ap (λ j. built j (tokens_then r more) (after_bar d.0)) (let z : k + width l + 1 ≡ k + suc (width l) = omega arith in z)
-          ∙ ap (λ x. built (k + suc (width l)) (tokens_then r more) x) h.0
-          ∙ e.1 ∙ ap (λ j. built j more e.0) (let z : k + suc (width l) + width r ≡ k + (width l + suc (width r)) = omega arith in z),
+      d.1 ∙ ap (λ j. build_behind j (tokens_then r more) (after_bar d.0)) (let z : k + width l + 1 ≡ k + suc (width l) = omega arith in z)
+          ∙ ap (λ x. build_behind (k + suc (width l)) (tokens_then r more) x) h.0
+          ∙ e.1 ∙ ap (λ j. build_behind j more e.0) (let z : k + suc (width l) + width r ≡ k + (width l + suc (width r)) = omega arith in z),
       subst (λ x. Left b e.0 (plan (Choice l r) k) x (positions (Choice l r)))
           (ap₂ (λ x y. x || (y || gap r)) n (plan_nothing r (k + suc (width l))))
           (join_left b d.0 e.0 (plan l k) (plan r (k + suc (width l))) (gap r) (positions l) (positions r)
@@ -464,7 +464,7 @@ tree_built (Choice l r) k more v = record {
 
 -- the code and the positions of a whole pattern
 pub whole_built : (t : Expression) → IsExpression t
-    → ((built_whole (tokens_then t [])).code ≡ code (whole t)) × ((built_whole (tokens_then t [])).last ≡ capped (positions t))
+    → ((built_whole (tokens_then t [])).code ≡ code (whole t)) × ((built_whole (tokens_then t [])).last ≡ cap_count (positions t))
 whole_built t v =
     let g = (tree_built t 0 [] v).all (after_open nothing_built) refl in
     let r = group_ready nothing_built g.0 (plan t 0) (gap t) (positions t) (plan_nothing t 0) g.2 in

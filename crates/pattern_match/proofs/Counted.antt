@@ -1,7 +1,7 @@
 -- The positions that are counted are those that the code is built by.
 use Rattle.std.proofs.Common.{◌≡◌, ℕ, ◌+◌, Bool, true, false, cond, List, [], ◌∷◌, ◌++◌, length, map, refl, sym, ap, ◌∙◌}
-use Rattle.pattern_match.specs.Building.{Built, sum_of, is_branch_empty, after_bar, after_close_of, after_open, after, built, built_whole, nothing_built}
-use Rattle.pattern_match.specs.inner.Counting.{Counted, counted_bar, counted_close_of, counted_close, counted_after, counted, counted_whole}
+use Rattle.pattern_match.specs.Building.{Built, sum_of, is_branch_empty, after_bar, after_close_of, after_open, after, build_behind, built_whole, nothing_built}
+use Rattle.pattern_match.specs.inner.Counting.{Counted, counted_bar, counted_close_of, counted_close, counted_after, counted_tokens, counted_whole}
 use Rattle.pattern_match.specs.declared.instruction.Instruction.TheVariants.{Bar as BarCode}
 use Rattle.pattern_match.specs.declared.instruction.Begun.{Begun}
 use Rattle.pattern_match.specs.declared.token.Token.{Token}
@@ -36,12 +36,12 @@ count_after (ClassStart negated) at b = refl
 count_after (Member low high) at b = refl
 count_after (Times least most) at b = refl
 
-count_built : (tokens : List Token) (at : ℕ) (b : Built) → count_of (built at tokens b) ≡ counted tokens (count_of b)
+count_built : (tokens : List Token) (at : ℕ) (b : Built) → count_of (build_behind at tokens b) ≡ counted_tokens tokens (count_of b)
 count_built [] at b = refl
-count_built (token ∷ tokens) at b = count_built tokens (at + 1) (after token at b) ∙ ap (λ c. counted tokens c) (count_after token at b)
+count_built (token ∷ tokens) at b = count_built tokens (at + 1) (after token at b) ∙ ap (λ c. counted_tokens tokens c) (count_after token at b)
 
 pub whole_counted : (tokens : List Token) → counted_whole tokens ≡ (built_whole tokens).last
 whole_counted tokens =
-    let b = built 0 tokens (after_open nothing_built) in
+    let b = build_behind 0 tokens (after_open nothing_built) in
     ap (λ c. (counted_close c).last) (sym (count_built tokens 0 (after_open nothing_built)))
     ∙ ap (λ c. c.last) (sym (count_close b.begun b))

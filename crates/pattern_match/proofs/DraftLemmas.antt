@@ -6,22 +6,22 @@ use Rattle.std.proofs.Math.ListN.{drop_of_length-le}
 use Rattle.pattern_match.specs.declared.instruction.Instruction.{Instruction}
 use Rattle.pattern_match.specs.declared.instruction.Place.{Place}
 use Rattle.pattern_match.specs.Building.{flagged_first}
-use Rattle.pattern_match.specs.inner.Drafting.{live, full, Leads, flagged_cells, lifted, Loses, IsPlace, IsGroup, IsBegun, Keeps}
+use Rattle.pattern_match.specs.inner.Drafting.{live, full_cells, Leads, flagged_cells, lift_group, Loses, IsPlace, IsGroup, IsGroupBegun, KeepsFront}
 
 pub live_append : (xs ys : List (Option Instruction)) → live (xs ++ ys) ≡ live xs ++ live ys
 live_append [] ys = refl
 live_append (None ∷ xs) ys = live_append xs ys
 live_append (Some i ∷ xs) ys = ap (λ zs. i ∷ zs) (live_append xs ys)
 
-pub live_full : (code : List Instruction) → live (full code) ≡ code
+pub live_full : (code : List Instruction) → live (full_cells code) ≡ code
 live_full [] = refl
 live_full (i ∷ code) = ap (λ zs. i ∷ zs) (live_full code)
 
-pub full_append : (a b : List Instruction) → full (a ++ b) ≡ full a ++ full b
+pub full_append : (a b : List Instruction) → full_cells (a ++ b) ≡ full_cells a ++ full_cells b
 full_append [] b = refl
 full_append (i ∷ a) b = ap (λ zs. Some i ∷ zs) (full_append a b)
 
-pub full_leads : (code : List Instruction) → Leads (full code)
+pub full_leads : (code : List Instruction) → Leads (full_cells code)
 full_leads [] = tt
 full_leads (i ∷ code) = tt
 
@@ -59,7 +59,7 @@ drop_made cells rest p h =
     subst (λ k. drop k (take p.cell cells ++ rest) ≡ rest) (front_length cells p h) (drop-append_seam (take p.cell cells) rest)
 
 -- what was made from a place on
-pub made_keeps : (old new rest : List (Option Instruction)) (p : Place) → IsPlace old p → Leads rest → new ≡ take p.cell old ++ rest → Keeps old new p
+pub made_keeps : (old new rest : List (Option Instruction)) (p : Place) → IsPlace old p → Leads rest → new ≡ take p.cell old ++ rest → KeepsFront old new p
 made_keeps old new rest p h l e =
     let f : take p.cell new ≡ take p.cell old = ap (λ x. take p.cell x) e ∙ take_made old rest p h in record {
       front = f;
@@ -74,13 +74,13 @@ pub made_live : (old new rest : List (Option Instruction)) (p : Place) → IsPla
     → live new ≡ take p.count (live old) ++ live rest
 made_live old new rest p h e = ap live e ∙ live_append (take p.cell old) rest ∙ ap (λ x. x ++ live rest) (sym (place_take old p h))
 
-pub truncated_keeps : (old new : List (Option Instruction)) (p : Place) → IsPlace old p → new ≡ take p.cell old → Keeps old new p
+pub truncated_keeps : (old new : List (Option Instruction)) (p : Place) → IsPlace old p → new ≡ take p.cell old → KeepsFront old new p
 truncated_keeps old new p h e = made_keeps old new [] p h tt (e ∙ sym (append-nil (take p.cell old)))
 
 pub truncated_live : (old new : List (Option Instruction)) (p : Place) → IsPlace old p → new ≡ take p.cell old → live new ≡ take p.count (live old)
 truncated_live old new p h e = ap live e ∙ sym (place_take old p h)
 
-pub same_keeps : (cells : List (Option Instruction)) (p : Place) → IsPlace cells p → Keeps cells cells p
+pub same_keeps : (cells : List (Option Instruction)) (p : Place) → IsPlace cells p → KeepsFront cells cells p
 same_keeps cells p h = record { front = refl; place_is = h }
 
 -- flags on the first instruction
@@ -94,12 +94,12 @@ flagged_leads o r [] h = tt
 flagged_leads o r (None ∷ cells) h = absurd h
 flagged_leads o r (Some i ∷ cells) h = tt
 
-pub lifted_live : (empty : Bool) (cells : List (Option Instruction)) → Leads cells → live (lifted empty cells) ≡ flagged_first empty false (live cells)
+pub lifted_live : (empty : Bool) (cells : List (Option Instruction)) → Leads cells → live (lift_group empty cells) ≡ flagged_first empty false (live cells)
 lifted_live empty [] h = refl
 lifted_live empty (None ∷ cells) h = absurd h
 lifted_live empty (Some i ∷ cells) h = refl
 
-pub lifted_leads : (empty : Bool) (cells : List (Option Instruction)) → Leads cells → Leads (lifted empty cells)
+pub lifted_leads : (empty : Bool) (cells : List (Option Instruction)) → Leads cells → Leads (lift_group empty cells)
 lifted_leads empty [] h = tt
 lifted_leads empty (None ∷ cells) h = absurd h
 lifted_leads empty (Some i ∷ cells) h = tt
@@ -191,10 +191,10 @@ tail_leads [] behind rest e h = tt
 tail_leads (c ∷ more) behind rest e h = front_leads more behind (subst (λ x. Leads (drop 1 x)) e h)
 
 pub record Kept (old new : List (Option Instruction)) (p : Place) : Type 0 where
-  pub keeps : Keeps old new p
+  pub keeps : KeepsFront old new p
   pub inside : Leads (drop (p.cell + 1) new)
 
-pub loses_keeps : (old new : List (Option Instruction)) (p : Place) → IsBegun old p → Loses old new → Kept old new p
+pub loses_keeps : (old new : List (Option Instruction)) (p : Place) → IsGroupBegun old p → Loses old new → Kept old new p
 loses_keeps old new p h l = by (drop p.cell old) refl
   where
     place : IsPlace old p
@@ -208,7 +208,7 @@ loses_keeps old new p h l = by (drop p.cell old) refl
 
     kept : (rest : List (Option Instruction)) → drop p.cell old ≡ rest → Before (take p.cell old) rest new l.last l.empty → Kept old new p
     kept rest e b =
-        let k : Keeps old new p = made_keeps old new b.more p place (front_leads b.more (Some l.last ∷ l.empty) (subst Leads (e ∙ b.rest_is) place.leads)) b.mid_is in record {
+        let k : KeepsFront old new p = made_keeps old new b.more p place (front_leads b.more (Some l.last ∷ l.empty) (subst Leads (e ∙ b.rest_is) place.leads)) b.mid_is in record {
           keeps = k;
           inside = subst Leads (ap (λ x. drop 1 x) (sym (ap (λ x. drop p.cell x) b.mid_is ∙ drop_made old b.more p place)) ∙ drop-drop 1 p.cell new)
               (tail_leads b.more (Some l.last ∷ l.empty) rest b.rest_is (subst (λ x. Leads (drop 1 x)) e inner));
@@ -221,7 +221,7 @@ loses_keeps old new p h l = by (drop p.cell old) refl
     by (Some i ∷ inside) e =
         kept (Some i ∷ inside) e (before (take p.cell old) i inside new l.last l.empty (ap (λ x. take p.cell old ++ x) (sym e) ∙ sym whole ∙ l.old_is) l.none)
 
-pub begun_some : (cells : List (Option Instruction)) (p : Place) → IsBegun cells p → 0 < length (live cells)
+pub begun_some : (cells : List (Option Instruction)) (p : Place) → IsGroupBegun cells p → 0 < length (live cells)
 begun_some cells p h = by (drop p.cell cells) refl
   where
     by : (rest : List (Option Instruction)) → drop p.cell cells ≡ rest → 0 < length (live cells)
@@ -241,21 +241,21 @@ marked_live old new p i last h e =
     ap live e ∙ live_append (set old p.cell (Some i)) (Some last ∷ []) ∙ ap (λ x. x ++ last ∷ []) (set_made_live old p i h)
 
 pub marked_keeps : (old new : List (Option Instruction)) (p : Place) (i last : Instruction) → IsPlace old p → new ≡ set old p.cell (Some i) ++ Some last ∷ []
-    → Keeps old new p
+    → KeepsFront old new p
 marked_keeps old new p i last h e =
     made_keeps old new (set (drop p.cell old) 0 (Some i) ++ Some last ∷ []) p h
     (leads_append (set (drop p.cell old) 0 (Some i)) (Some last ∷ []) (set_leads (drop p.cell old) i h.leads) tt)
     (e ∙ ap (λ x. x ++ Some last ∷ []) (set_made old p i h) ∙ append_assoc (take p.cell old) (set (drop p.cell old) 0 (Some i)) (Some last ∷ []))
 
 -- a piece that is copied
-pub copied_live : (old mid new : List (Option Instruction)) (p : Place) (code : List Instruction) → IsPlace old p → mid ≡ take p.cell old → new ≡ mid ++ full code
+pub copied_live : (old mid new : List (Option Instruction)) (p : Place) (code : List Instruction) → IsPlace old p → mid ≡ take p.cell old → new ≡ mid ++ full_cells code
     → live new ≡ take p.count (live old) ++ code
 copied_live old mid new p code h m e =
-    made_live old new (full code) p h (e ∙ ap (λ x. x ++ full code) m) ∙ ap (λ x. take p.count (live old) ++ x) (live_full code)
+    made_live old new (full_cells code) p h (e ∙ ap (λ x. x ++ full_cells code) m) ∙ ap (λ x. take p.count (live old) ++ x) (live_full code)
 
-pub copied_keeps : (old mid new : List (Option Instruction)) (p : Place) (code : List Instruction) → IsPlace old p → mid ≡ take p.cell old → new ≡ mid ++ full code
-    → Keeps old new p
-copied_keeps old mid new p code h m e = made_keeps old new (full code) p h (full_leads code) (e ∙ ap (λ x. x ++ full code) m)
+pub copied_keeps : (old mid new : List (Option Instruction)) (p : Place) (code : List Instruction) → IsPlace old p → mid ≡ take p.cell old → new ≡ mid ++ full_cells code
+    → KeepsFront old new p
+copied_keeps old mid new p code h m e = made_keeps old new (full_cells code) p h (full_leads code) (e ∙ ap (λ x. x ++ full_cells code) m)
 
 -- flags on the first instruction of a piece
 pub flags_live : (o r : Bool) (old new : List (Option Instruction)) (p : Place) → IsPlace old p → new ≡ take p.cell old ++ flagged_cells o r (drop p.cell old)
@@ -265,7 +265,7 @@ flags_live o r old new p h e =
     ∙ ap (λ x. take p.count (live old) ++ x) (flagged_live o r (drop p.cell old) h.leads ∙ ap (flagged_first o r) (sym (place_drop old p h)))
 
 pub flags_keeps : (o r : Bool) (old new : List (Option Instruction)) (p : Place) → IsPlace old p → new ≡ take p.cell old ++ flagged_cells o r (drop p.cell old)
-    → Keeps old new p
+    → KeepsFront old new p
 flags_keeps o r old new p h e = made_keeps old new (flagged_cells o r (drop p.cell old)) p h (flagged_leads o r (drop p.cell old) h.leads) e
 
 -- there is nothing from the end on
@@ -277,13 +277,13 @@ ended_flags o r cells p h l =
     nothing = drop_of_length-le cells l
 
 -- an item that takes the place of its group
-pub lift_live : (empty : Bool) (old new : List (Option Instruction)) (p : Place) → IsGroup old p → new ≡ take p.cell old ++ lifted empty (drop (p.cell + 1) old)
+pub lift_live : (empty : Bool) (old new : List (Option Instruction)) (p : Place) → IsGroup old p → new ≡ take p.cell old ++ lift_group empty (drop (p.cell + 1) old)
     → live new ≡ take p.count (live old) ++ flagged_first empty false (drop (p.count + 1) (live old))
 lift_live empty old new p h e =
-    made_live old new (lifted empty (drop (p.cell + 1) old)) p h.place_is e
+    made_live old new (lift_group empty (drop (p.cell + 1) old)) p h.place_is e
     ∙ ap (λ x. take p.count (live old) ++ x) (lifted_live empty (drop (p.cell + 1) old) h.inside ∙ ap (flagged_first empty false) (sym (group_drop old p h)))
 
-pub lift_keeps : (empty : Bool) (old new : List (Option Instruction)) (p : Place) → IsGroup old p → new ≡ take p.cell old ++ lifted empty (drop (p.cell + 1) old)
-    → Keeps old new p
+pub lift_keeps : (empty : Bool) (old new : List (Option Instruction)) (p : Place) → IsGroup old p → new ≡ take p.cell old ++ lift_group empty (drop (p.cell + 1) old)
+    → KeepsFront old new p
 lift_keeps empty old new p h e =
-    made_keeps old new (lifted empty (drop (p.cell + 1) old)) p h.place_is (lifted_leads empty (drop (p.cell + 1) old) h.inside) e
+    made_keeps old new (lift_group empty (drop (p.cell + 1) old)) p h.place_is (lifted_leads empty (drop (p.cell + 1) old) h.inside) e

@@ -3,7 +3,7 @@ use Rattle.std.proofs.Common.{◌≡◌, ℕ, suc, ◌+◌, ◌<◌, ◌≤◌, 
 use Rattle.std.proofs.lemmas.List.{length-replicate, replicate-append-replicate, take_at}
 use Rattle.std.proofs.Math.Seq.{take-length}
 use Rattle.pattern_match.specs.inner.Plan.{Plan, Nothing, One, Many, Either, size, code_then}
-use Rattle.pattern_match.specs.Marks.{Walk, AreEnded, Lists, IsDone}
+use Rattle.pattern_match.specs.Marks.{Walk, AreEnded, ListsPlaces, IsDone}
 use Rattle.pattern_match.specs.Compiled.{IsCompiled}
 use Rattle.pattern_match.specs.declared.instruction.Instruction.{Instruction}
 use Rattle.pattern_match.specs.declared.instruction.Instruction.TheVariants.{Bar, Close}
@@ -45,8 +45,8 @@ none_done c n walk l h e = subst (λ w. IsDone c w) (sym e) (record {
   listed = record {
     long = length-replicate (n + 1) false ∙ ap (λ k. k + 1) l;
     inside = omega arith;
-    behind = subst (λ x. Lists 0 x (take n (replicate (n + 1) false)) []) (sym front) ([], marks ∙ sym (append-nil (replicate (length c) false)), h);
-    ahead = subst (λ x. Lists n x (drop n (replicate (n + 1) false)) []) (sym none) (drop n (replicate (n + 1) false), refl, tt);
+    behind = subst (λ x. ListsPlaces 0 x (take n (replicate (n + 1) false)) []) (sym front) ([], marks ∙ sym (append-nil (replicate (length c) false)), h);
+    ahead = subst (λ x. ListsPlaces n x (drop n (replicate (n + 1) false)) []) (sym none) (drop n (replicate (n + 1) false), refl, tt);
   };
   at = l;
 })

@@ -2,11 +2,11 @@
 use Rattle.std.proofs.Common.{◌≡◌, ◌≢◌, ℕ, zero, suc, ◌+◌, ◌*◌, ◌/◌, ◌≤◌, ◌<◌, ◌⊎◌, inl, inr, Bool, true, false, cond, ◌==◌, nat_le, nat_lt, Option, Some, None, List, [], ◌∷◌, ◌++◌, length, refl, sym, ap, ◌∙◌, subst, ⊎_elim, arith, append_assoc, leb-true, eqb-true, ltb-false, le_refl, mul-le-mul, lit≤, lit<, ltb-true}
 use Rattle.std.proofs.lemmas.Bool.{eqb-false}
 use Rattle.std.specs.List.{AllByRecursion}
-use Rattle.pattern_match.specs.Expression.{Single, Plain, Escaped, Item, One, Range, Spaces, Hyphen, Atom, Character, Dot, Escape, Space, Class, Quantifier, Once, Optional, AnyNumber, OneOrMore, Exactly, AtLeast, Between, Expression, Empty, Piece, Group, Choice}
+use Rattle.pattern_match.specs.Expression.{Single, Plain, Escaped, ClassMember, One, Range, Spaces, Hyphen, Atom, Character, Dot, Escape, Space, Class, Quantifier, Once, Optional, AnyNumber, OneOrMore, Exactly, AtLeast, Between, Expression, Empty, Piece, Group, Choice}
 use Rattle.pattern_match.specs.Spelling.{single_spelling, items_spelling, negation_spelling, atom_spelling, quantifier_spelling, spelling}
-use Rattle.pattern_match.specs.Valid.{escaped, meant, IsSingle, AreLaterItems, AreItems, begins_with_caret, IsEscapeLetter, IsAtom, IsDigit, IsNumber, number, number_after, IsQuantifier, IsExpression}
+use Rattle.pattern_match.specs.Valid.{escaped_letter, meant, IsSingle, AreLaterItems, AreItems, begins_with_caret, IsEscapeLetter, IsAtom, IsDigit, AreNumberDigits, digits_number, number_after, IsQuantifier, IsExpression}
 use Rattle.pattern_match.specs.Character.{outside, within, in_number, behind_backslash}
-use Rattle.pattern_match.specs.Control.{full, outside_next, atom_next, escape_next, least_next, most_next, class_first_next, class_item_next, class_single_next, class_dash_next, class_end_next, class_escape_next, range_escape_next, depth_outside, reading, joined, run, may_end}
+use Rattle.pattern_match.specs.Control.{whole_weight, outside_next, atom_next, escape_next, least_next, most_next, class_first_next, class_item_next, class_single_next, class_dash_next, class_end_next, class_escape_next, range_escape_next, depth_outside, reading, joined_reading, run_reading, may_end}
 use Rattle.pattern_match.specs.declared.character.Outside.{Outside}
 use Rattle.pattern_match.specs.declared.character.Outside.TheVariants.{Ordinary, Dot as DotOutside, Backslash, OpenClass, OpenGroup, CloseGroup, Bar, Optional as OptionalOutside, AnyNumber as AnyNumberOutside, OneOrMore as OneOrMoreOutside, OpenBounds, Stray}
 use Rattle.pattern_match.specs.declared.character.Within.{Within}
@@ -21,18 +21,18 @@ use Rattle.pattern_match.specs.declared.control.Reading.{Reading}
 use Rattle.pattern_match.proofs.CharacterLemmas.{OutsideTells, outside_tells, WithinTells, within_tells, NumberTells, number_tells, BackslashTells, backslash_tells}
 use Rattle.pattern_match.proofs.ControlLemmas.{SoundIf, next_sound, room_digit}
 use Rattle.pattern_match.proofs.Leading.{shrunk}
-use Rattle.pattern_match.specs.Control.{IsSound, HasRoom}
+use Rattle.pattern_match.specs.Control.{IsSoundControl, HasRoomForDigits}
 
 -- the characters lead to where a pattern may end
 abbrev pub Accepted : Option Reading → List ℕ → Type 0
-Accepted o cs = (r : Reading) × (run o cs ≡ Some r) × (may_end r ≡ true)
+Accepted o cs = (r : Reading) × (run_reading o cs ≡ Some r) × (may_end r ≡ true)
 
-pub none_run : (cs : List ℕ) → run None cs ≡ None
+pub none_run : (cs : List ℕ) → run_reading None cs ≡ None
 none_run [] = refl
 none_run (c ∷ cs) = none_run cs
 
 pub not_none : (cs : List ℕ) → Accepted None cs → ⊥
-not_none cs (r, e, m) = let n : run None cs ≡ None = none_run cs in cc
+not_none cs (r, e, m) = let n : run_reading None cs ≡ None = none_run cs in cc
 
 -- a branch or pattern, and for each open group its end, its quantifier and what follows it
 abbrev pub Rest : ℕ → List ℕ → Type 0
@@ -45,11 +45,11 @@ AtomRest d cs = (q : Quantifier) × (more : List ℕ) × IsQuantifier q × (cs �
 
 -- behind parts of a class
 abbrev pub ItemsRest : ℕ → List ℕ → Type 0
-ItemsRest d cs = (items : List Item) × (more : List ℕ) × AreLaterItems items × (cs ≡ items_spelling items ++ 93 ∷ more) × AtomRest d more
+ItemsRest d cs = (items : List ClassMember) × (more : List ℕ) × AreLaterItems items × (cs ≡ items_spelling items ++ 93 ∷ more) × AtomRest d more
 
 abbrev pub RangeRest : ℕ → ℕ → List ℕ → Type 0
 RangeRest low d cs =
-    (high : Single) × (items : List Item) × (more : List ℕ) × IsSingle high × (low ≤ meant high) × AreLaterItems items
+    (high : Single) × (items : List ClassMember) × (more : List ℕ) × IsSingle high × (low ≤ meant high) × AreLaterItems items
     × (cs ≡ single_spelling high ++ (items_spelling items ++ 93 ∷ more)) × AtomRest d more
 
 abbrev pub SingleRest : ℕ → ℕ → List ℕ → Type 0
@@ -59,10 +59,10 @@ abbrev pub CloseRest : ℕ → List ℕ → Type 0
 CloseRest d cs = (more : List ℕ) × (cs ≡ 93 ∷ more) × AtomRest d more
 
 abbrev pub EscapeRest : ℕ → List ℕ → Type 0
-EscapeRest d cs = ((more : List ℕ) × (cs ≡ 115 ∷ more) × ItemsRest d more) ⊎ ((e : ℕ) × (more : List ℕ) × IsEscapeLetter e × (cs ≡ e ∷ more) × SingleRest (escaped e) d more)
+EscapeRest d cs = ((more : List ℕ) × (cs ≡ 115 ∷ more) × ItemsRest d more) ⊎ ((e : ℕ) × (more : List ℕ) × IsEscapeLetter e × (cs ≡ e ∷ more) × SingleRest (escaped_letter e) d more)
 
 abbrev pub FirstRest : Bool → ℕ → List ℕ → Type 0
-FirstRest negated d cs = (items : List Item) × (more : List ℕ) × AreItems negated items × (cs ≡ items_spelling items ++ 93 ∷ more) × AtomRest d more
+FirstRest negated d cs = (items : List ClassMember) × (more : List ℕ) × AreItems negated items × (cs ≡ items_spelling items ++ 93 ∷ more) × AtomRest d more
 
 -- digits that take their weight
 abbrev pub Took : List ℕ → ℕ → Type 0
@@ -72,15 +72,15 @@ Took (c ∷ digits) weight = (10 ≤ weight) × Took digits (weight / 10)
 abbrev pub MostRest : ℕ → ℕ → ℕ → ℕ → List ℕ → Type 0
 MostRest least weight value d cs =
     (digits : List ℕ) × (more : List ℕ) × AllByRecursion IsDigit digits × Took digits weight
-    × (((digits ≡ []) × (weight ≡ full)) ⊎ ((shrunk digits weight ≢ full) × (least ≤ number_after value digits)))
+    × (((digits ≡ []) × (weight ≡ whole_weight)) ⊎ ((shrunk digits weight ≢ whole_weight) × (least ≤ number_after value digits)))
     × (cs ≡ digits ++ 125 ∷ more) × Rest d more
 
 abbrev pub BoundsRest : ℕ → ℕ → List ℕ → Type 0
-BoundsRest value d cs = ((more : List ℕ) × (cs ≡ 125 ∷ more) × Rest d more) ⊎ ((more : List ℕ) × (cs ≡ 44 ∷ more) × MostRest value full 0 d more)
+BoundsRest value d cs = ((more : List ℕ) × (cs ≡ 125 ∷ more) × Rest d more) ⊎ ((more : List ℕ) × (cs ≡ 44 ∷ more) × MostRest value whole_weight 0 d more)
 
 abbrev pub LeastRest : ℕ → ℕ → ℕ → List ℕ → Type 0
 LeastRest weight value d cs =
-    (digits : List ℕ) × (more : List ℕ) × AllByRecursion IsDigit digits × Took digits weight × (shrunk digits weight < full)
+    (digits : List ℕ) × (more : List ℕ) × AllByRecursion IsDigit digits × Took digits weight × (shrunk digits weight < whole_weight)
     × (cs ≡ digits ++ more) × BoundsRest (number_after value digits) d more
 
 -- what is left by what stands before
@@ -96,7 +96,7 @@ Means ClassItem d cs = ItemsRest d cs
 Means (ClassSingle low) d cs = SingleRest low d cs
 Means (ClassDash low) d cs = CloseRest d cs ⊎ RangeRest low d cs
 Means ClassEscape d cs = EscapeRest d cs
-Means (RangeEscape low) d cs = (e : ℕ) × (more : List ℕ) × IsEscapeLetter e × (low ≤ escaped e) × (cs ≡ e ∷ more) × ItemsRest d more
+Means (RangeEscape low) d cs = (e : ℕ) × (more : List ℕ) × IsEscapeLetter e × (low ≤ escaped_letter e) × (cs ≡ e ∷ more) × ItemsRest d more
 Means ClassEnd d cs = CloseRest d cs
 
 -- a piece before a pattern
@@ -180,7 +180,7 @@ rest_bar (suc d) cs (t, q, more, v, vq, e, rest) = (Choice Empty t, q, more, (tt
 
 -- what the characters that are left mean, whatever stands before
 abbrev pub Known : List ℕ → Type 0
-Known cs = (k : Control) (d : ℕ) → IsSound k → Accepted (Some (reading k d)) cs → Means k d cs
+Known cs = (k : Control) (d : ℕ) → IsSoundControl k → Accepted (Some (reading k d)) cs → Means k d cs
 
 at : (P : ℕ → Type 0) (c x : ℕ) → c ≡ x → P x → P c
 at P c x e p = subst P (sym e) p
@@ -193,7 +193,7 @@ class_atom negated d cs (items, more, v, e, rest) =
     regroup = ap (λ x. negation_spelling negated ++ x) (e ∙ sym (append_assoc (items_spelling items) (93 ∷ []) more))
         ∙ sym (append_assoc (negation_spelling negated) (items_spelling items ++ 93 ∷ []) more)
 
-ext_start : (m : Outside) (c d : ℕ) (cs : List ℕ) → Known cs → OutsideTells c m → Accepted (joined (outside_next m) (depth_outside m d)) cs → Rest d (c ∷ cs)
+ext_start : (m : Outside) (c d : ℕ) (cs : List ℕ) → Known cs → OutsideTells c m → Accepted (joined_reading (outside_next m) (depth_outside m d)) cs → Rest d (c ∷ cs)
 ext_start Ordinary c d cs ih t a = rest_atom (Character c) d cs t (ih InAtom d tt a)
 ext_start DotOutside c d cs ih t a = at (λ x. Rest d (x ∷ cs)) c 46 t (rest_atom Dot d cs tt (ih InAtom d tt a))
 ext_start Backslash c d cs ih t a = at (λ x. Rest d (x ∷ cs)) c 92 t (⊎_elim space letter (ih InEscape d tt a))
@@ -228,27 +228,27 @@ took_bound n weight [] s t = omega arith
 took_bound zero weight (c ∷ digits) s t = absurd (let x = t.0 in omega arith)
 took_bound (suc n) weight (c ∷ digits) s t = let h = took_bound n (weight / 10) digits s t.1 in omega arith
 
-full_small : IsSmall 9 full
+full_small : IsSmall 9 whole_weight
 full_small = lit< tt
 
-is_number : (digits : List ℕ) → AllByRecursion IsDigit digits → Took digits full → shrunk digits full ≢ full → IsNumber digits
+is_number : (digits : List ℕ) → AllByRecursion IsDigit digits → Took digits whole_weight → shrunk digits whole_weight ≢ whole_weight → AreNumberDigits digits
 is_number [] d t n = absurd (n refl)
-is_number (c ∷ digits) d t n = record { each = d; least = omega arith; most = took_bound 9 full (c ∷ digits) full_small t }
+is_number (c ∷ digits) d t n = record { each = d; least = omega arith; most = took_bound 9 whole_weight (c ∷ digits) full_small t }
 
-bounds_rest : (d : ℕ) (cs : List ℕ) → LeastRest full 0 d cs → AtomRest d (123 ∷ cs)
+bounds_rest : (d : ℕ) (cs : List ℕ) → LeastRest whole_weight 0 d cs → AtomRest d (123 ∷ cs)
 bounds_rest d cs (digits, more, v, t, l, e, b) = ⊎_elim exactly comma b
   where
-    n : IsNumber digits
+    n : AreNumberDigits digits
     n = is_number digits v t (λ x. absurd (omega arith))
 
     exactly : (more2 : List ℕ) × (more ≡ 125 ∷ more2) × Rest d more2 → AtomRest d (123 ∷ cs)
     exactly (more2, e2, rest) =
         (Exactly digits, more2, n, (ap (λ x. 123 ∷ x) (e ∙ ap (λ x. digits ++ x) e2 ∙ sym (append_assoc digits (125 ∷ []) more2))), rest)
 
-    comma : (more2 : List ℕ) × (more ≡ 44 ∷ more2) × MostRest (number digits) full 0 d more2 → AtomRest d (123 ∷ cs)
+    comma : (more2 : List ℕ) × (more ≡ 44 ∷ more2) × MostRest (digits_number digits) whole_weight 0 d more2 → AtomRest d (123 ∷ cs)
     comma (more2, e2, (second, more3, v2, t2, how, e3, rest)) = ⊎_elim at_least between how
       where
-        at_least : (second ≡ []) × (full ≡ full) → AtomRest d (123 ∷ cs)
+        at_least : (second ≡ []) × (whole_weight ≡ whole_weight) → AtomRest d (123 ∷ cs)
         at_least (z, w) = (
           AtLeast digits,
           more3,
@@ -257,7 +257,7 @@ bounds_rest d cs (digits, more, v, t, l, e, b) = ⊎_elim exactly comma b
           rest,
         )
 
-        between : (shrunk second full ≢ full) × (number digits ≤ number second) → AtomRest d (123 ∷ cs)
+        between : (shrunk second whole_weight ≢ whole_weight) × (digits_number digits ≤ digits_number second) → AtomRest d (123 ∷ cs)
         between (w, le) = (
           Between digits second,
           more3,
@@ -270,7 +270,7 @@ bounds_rest d cs (digits, more, v, t, l, e, b) = ⊎_elim exactly comma b
 once_rest : (d : ℕ) (cs : List ℕ) → Rest d cs → AtomRest d cs
 once_rest d cs r = (Once, cs, tt, refl, r)
 
-ext_atom : (m : Outside) (c d : ℕ) (cs : List ℕ) → Known cs → OutsideTells c m → Accepted (joined (atom_next m) (depth_outside m d)) cs → AtomRest d (c ∷ cs)
+ext_atom : (m : Outside) (c d : ℕ) (cs : List ℕ) → Known cs → OutsideTells c m → Accepted (joined_reading (atom_next m) (depth_outside m d)) cs → AtomRest d (c ∷ cs)
 ext_atom Ordinary c d cs ih t a = once_rest d (c ∷ cs) (ext_start Ordinary c d cs ih t a)
 ext_atom DotOutside c d cs ih t a = once_rest d (c ∷ cs) (ext_start DotOutside c d cs ih t a)
 ext_atom Backslash c d cs ih t a = once_rest d (c ∷ cs) (ext_start Backslash c d cs ih t a)
@@ -282,22 +282,22 @@ ext_atom Bar c d cs ih t a = once_rest d (c ∷ cs) (ext_start Bar c d cs ih t a
 ext_atom OptionalOutside c d cs ih t a = at (λ x. AtomRest d (x ∷ cs)) c 63 t (Optional, cs, tt, refl, ih Start d tt a)
 ext_atom AnyNumberOutside c d cs ih t a = at (λ x. AtomRest d (x ∷ cs)) c 42 t (AnyNumber, cs, tt, refl, ih Start d tt a)
 ext_atom OneOrMoreOutside c d cs ih t a = at (λ x. AtomRest d (x ∷ cs)) c 43 t (OneOrMore, cs, tt, refl, ih Start d tt a)
-ext_atom OpenBounds c d cs ih t a = at (λ x. AtomRest d (x ∷ cs)) c 123 t (bounds_rest d cs (ih (Least full 0) d (lit≤ tt) a))
+ext_atom OpenBounds c d cs ih t a = at (λ x. AtomRest d (x ∷ cs)) c 123 t (bounds_rest d cs (ih (Least whole_weight 0) d (lit≤ tt) a))
 ext_atom Stray c d cs ih t a = absurd (not_none cs a)
 
-ext_escape : (m : BehindBackslash) (c d : ℕ) (cs : List ℕ) → Known cs → BackslashTells c m → Accepted (joined (escape_next m) (Some d)) cs → Means InEscape d (c ∷ cs)
+ext_escape : (m : BehindBackslash) (c d : ℕ) (cs : List ℕ) → Known cs → BackslashTells c m → Accepted (joined_reading (escape_next m) (Some d)) cs → Means InEscape d (c ∷ cs)
 ext_escape SpaceBehind c d cs ih t a = inl (cs, ap (λ x. x ∷ cs) t, ih InAtom d tt a)
 ext_escape Letter c d cs ih t a = inr (c, cs, t, refl, ih InAtom d tt a)
 ext_escape StrayBehind c d cs ih t a = absurd (not_none cs a)
 
 -- a choice that was accepted
-split : {A : Type 0} (b : Bool) (x y : Option Control) (d : ℕ) (cs : List ℕ) → (b ≡ true → Accepted (joined x (Some d)) cs → A) → (b ≡ false → Accepted (joined y (Some d)) cs → A)
-    → Accepted (joined (cond b x y) (Some d)) cs → A
+split : {A : Type 0} (b : Bool) (x y : Option Control) (d : ℕ) (cs : List ℕ) → (b ≡ true → Accepted (joined_reading x (Some d)) cs → A) → (b ≡ false → Accepted (joined_reading y (Some d)) cs → A)
+    → Accepted (joined_reading (cond b x y) (Some d)) cs → A
 split true x y d cs f g a = f refl a
 split false x y d cs f g a = g refl a
 
 ext_least : (weight value : ℕ) (m : InNumber) (c d : ℕ) (cs : List ℕ) → Known cs → SoundIf (least_next weight value m) → NumberTells c m
-    → Accepted (joined (least_next weight value m) (Some d)) cs → LeastRest weight value d (c ∷ cs)
+    → Accepted (joined_reading (least_next weight value m) (Some d)) cs → LeastRest weight value d (c ∷ cs)
 ext_least weight value (Digit digit) c d cs ih s t a =
     split (nat_lt weight 10) None (Some (Least (weight / 10) (10 * value + digit))) d cs (λ b x. absurd (not_none cs x))
     (λ b x. go b (ih (Least (weight / 10) (10 * value + digit)) d (subst (λ z. SoundIf (cond z None (Some (Least (weight / 10) (10 * value + digit))))) b s) x)) a
@@ -306,15 +306,15 @@ ext_least weight value (Digit digit) c d cs ih s t a =
     go b (digits, more, v, k, l, e, r) =
         (c ∷ digits, more, (t.0, v), (ltb-false weight 10 b, k), l, ap (λ x. c ∷ x) e, subst (λ z. BoundsRest (number_after (10 * value + z) digits) d more) t.1 r)
 ext_least weight value CloseBounds c d cs ih s t a =
-    split (nat_lt weight full) (Some Start) None d cs
-    (λ b x. ([], c ∷ cs, tt, tt, ltb-true weight full b, refl, inl (cs, ap (λ z. z ∷ cs) t, ih Start d tt x))) (λ b x. absurd (not_none cs x)) a
+    split (nat_lt weight whole_weight) (Some Start) None d cs
+    (λ b x. ([], c ∷ cs, tt, tt, ltb-true weight whole_weight b, refl, inl (cs, ap (λ z. z ∷ cs) t, ih Start d tt x))) (λ b x. absurd (not_none cs x)) a
 ext_least weight value Comma c d cs ih s t a =
-    split (nat_lt weight full) (Some (Most value full 0)) None d cs
-    (λ b x. ([], c ∷ cs, tt, tt, ltb-true weight full b, refl, inr (cs, ap (λ z. z ∷ cs) t, ih (Most value full 0) d (lit≤ tt) x))) (λ b x. absurd (not_none cs x)) a
+    split (nat_lt weight whole_weight) (Some (Most value whole_weight 0)) None d cs
+    (λ b x. ([], c ∷ cs, tt, tt, ltb-true weight whole_weight b, refl, inr (cs, ap (λ z. z ∷ cs) t, ih (Most value whole_weight 0) d (lit≤ tt) x))) (λ b x. absurd (not_none cs x)) a
 ext_least weight value StrayInNumber c d cs ih s t a = absurd (not_none cs a)
 
-ext_most : (least weight value : ℕ) (m : InNumber) (c d : ℕ) (cs : List ℕ) → Known cs → weight ≤ full → HasRoom weight value → NumberTells c m
-    → Accepted (joined (most_next least weight value m) (Some d)) cs → MostRest least weight value d (c ∷ cs)
+ext_most : (least weight value : ℕ) (m : InNumber) (c d : ℕ) (cs : List ℕ) → Known cs → weight ≤ whole_weight → HasRoomForDigits weight value → NumberTells c m
+    → Accepted (joined_reading (most_next least weight value m) (Some d)) cs → MostRest least weight value d (c ∷ cs)
 ext_most least weight value (Digit digit) c d cs ih w s t a =
     split (nat_lt weight 10) None (cond (nat_lt least ((10 * value + digit + 1) * (weight / 10))) (Some K) None) d cs (λ b x. absurd (not_none cs x))
     (λ b x. split (nat_lt least ((10 * value + digit + 1) * (weight / 10))) (Some K) None d cs
@@ -334,10 +334,10 @@ ext_most least weight value (Digit digit) c d cs ih w s t a =
       r,
     )
 ext_most least weight value CloseBounds c d cs ih w s t a =
-    split (weight == full) (Some Start) (cond (nat_le least value) (Some Start) None) d cs
-    (λ b x. ([], cs, tt, tt, inl (refl, eqb-true weight full b), ap (λ z. z ∷ cs) t, ih Start d tt x))
+    split (weight == whole_weight) (Some Start) (cond (nat_le least value) (Some Start) None) d cs
+    (λ b x. ([], cs, tt, tt, inl (refl, eqb-true weight whole_weight b), ap (λ z. z ∷ cs) t, ih Start d tt x))
     (λ b x. split (nat_le least value) (Some Start) None d cs
-    (λ g y. ([], cs, tt, tt, inr ((λ e. eqb-false weight full b e), leb-true least value g), ap (λ z. z ∷ cs) t, ih Start d tt y)) (λ g y. absurd (not_none cs y)) x) a
+    (λ g y. ([], cs, tt, tt, inr ((λ e. eqb-false weight whole_weight b e), leb-true least value g), ap (λ z. z ∷ cs) t, ih Start d tt y)) (λ g y. absurd (not_none cs y)) x) a
 ext_most least weight value Comma c d cs ih w s t a = absurd (not_none cs a)
 ext_most least weight value StrayInNumber c d cs ih w s t a = absurd (not_none cs a)
 
@@ -362,14 +362,14 @@ escape_items : (d : ℕ) (cs : List ℕ) → EscapeRest d cs → ItemsRest d (92
 escape_items d cs (inl (more, e, (items, more2, va, e2, rest))) = (Spaces ∷ items, more2, (tt, va), (ap (λ x. 92 ∷ x) (e ∙ ap (λ x. 115 ∷ x) e2)), rest)
 escape_items d cs (inr (e, more, v, q, rest)) = subst (λ x. ItemsRest d (92 ∷ x)) (sym q) (one_before (Escaped e) d more v rest)
 
-ext_item : (m : Within) (c d : ℕ) (cs : List ℕ) → Known cs → WithinTells c m → Accepted (joined (class_item_next m c) (Some d)) cs → ItemsRest d (c ∷ cs)
+ext_item : (m : Within) (c d : ℕ) (cs : List ℕ) → Known cs → WithinTells c m → Accepted (joined_reading (class_item_next m c) (Some d)) cs → ItemsRest d (c ∷ cs)
 ext_item PlainWithin c d cs ih t a = one_before (Plain c) d cs t (ih (ClassSingle c) d tt a)
 ext_item BackslashWithin c d cs ih t a = at (λ x. ItemsRest d (x ∷ cs)) c 92 t (escape_items d cs (ih ClassEscape d tt a))
 ext_item HyphenWithin c d cs ih t a = at (λ x. ItemsRest d (x ∷ cs)) c 45 t (hyphen_last d cs (ih ClassEnd d tt a))
 ext_item CloseClass c d cs ih t a = at (λ x. ItemsRest d (x ∷ cs)) c 93 t ([], cs, tt, refl, ih InAtom d tt a)
 ext_item StrayWithin c d cs ih t a = absurd (not_none cs a)
 
-ext_single : (low : ℕ) (m : Within) (c d : ℕ) (cs : List ℕ) → Known cs → WithinTells c m → Accepted (joined (class_single_next low m c) (Some d)) cs → SingleRest low d (c ∷ cs)
+ext_single : (low : ℕ) (m : Within) (c d : ℕ) (cs : List ℕ) → Known cs → WithinTells c m → Accepted (joined_reading (class_single_next low m c) (Some d)) cs → SingleRest low d (c ∷ cs)
 ext_single low PlainWithin c d cs ih t a = inl (one_before (Plain c) d cs t (ih (ClassSingle c) d tt a))
 ext_single low BackslashWithin c d cs ih t a = inl (at (λ x. ItemsRest d (x ∷ cs)) c 92 t (escape_items d cs (ih ClassEscape d tt a)))
 ext_single low HyphenWithin c d cs ih t a =
@@ -377,7 +377,7 @@ ext_single low HyphenWithin c d cs ih t a =
 ext_single low CloseClass c d cs ih t a = inl (at (λ x. ItemsRest d (x ∷ cs)) c 93 t ([], cs, tt, refl, ih InAtom d tt a))
 ext_single low StrayWithin c d cs ih t a = absurd (not_none cs a)
 
-ext_dash : (low : ℕ) (m : Within) (c d : ℕ) (cs : List ℕ) → Known cs → WithinTells c m → Accepted (joined (class_dash_next low m c) (Some d)) cs → Means (ClassDash low) d (c ∷ cs)
+ext_dash : (low : ℕ) (m : Within) (c d : ℕ) (cs : List ℕ) → Known cs → WithinTells c m → Accepted (joined_reading (class_dash_next low m c) (Some d)) cs → Means (ClassDash low) d (c ∷ cs)
 ext_dash low PlainWithin c d cs ih t a =
     split (nat_le low c) (Some ClassItem) None d cs
     (λ b x. let h = ih ClassItem d tt x in inr (Plain c, h.0, h.1, t, leb-true low c b, h.2, ap (λ z. c ∷ z) h.3, h.4)) (λ b x. absurd (not_none cs x)) a
@@ -389,23 +389,23 @@ ext_dash low HyphenWithin c d cs ih t a = absurd (not_none cs a)
 ext_dash low CloseClass c d cs ih t a = inl (cs, ap (λ z. z ∷ cs) t, ih InAtom d tt a)
 ext_dash low StrayWithin c d cs ih t a = absurd (not_none cs a)
 
-ext_end : (m : Within) (c d : ℕ) (cs : List ℕ) → Known cs → WithinTells c m → Accepted (joined (class_end_next m) (Some d)) cs → CloseRest d (c ∷ cs)
+ext_end : (m : Within) (c d : ℕ) (cs : List ℕ) → Known cs → WithinTells c m → Accepted (joined_reading (class_end_next m) (Some d)) cs → CloseRest d (c ∷ cs)
 ext_end PlainWithin c d cs ih t a = absurd (not_none cs a)
 ext_end BackslashWithin c d cs ih t a = absurd (not_none cs a)
 ext_end HyphenWithin c d cs ih t a = absurd (not_none cs a)
 ext_end CloseClass c d cs ih t a = (cs, ap (λ z. z ∷ cs) t, ih InAtom d tt a)
 ext_end StrayWithin c d cs ih t a = absurd (not_none cs a)
 
-ext_class_escape : (m : BehindBackslash) (c d : ℕ) (cs : List ℕ) → Known cs → BackslashTells c m → Accepted (joined (class_escape_next m c) (Some d)) cs → EscapeRest d (c ∷ cs)
+ext_class_escape : (m : BehindBackslash) (c d : ℕ) (cs : List ℕ) → Known cs → BackslashTells c m → Accepted (joined_reading (class_escape_next m c) (Some d)) cs → EscapeRest d (c ∷ cs)
 ext_class_escape SpaceBehind c d cs ih t a = inl (cs, ap (λ x. x ∷ cs) t, ih ClassItem d tt a)
-ext_class_escape Letter c d cs ih t a = inr (c, cs, t, refl, ih (ClassSingle (escaped c)) d tt a)
+ext_class_escape Letter c d cs ih t a = inr (c, cs, t, refl, ih (ClassSingle (escaped_letter c)) d tt a)
 ext_class_escape StrayBehind c d cs ih t a = absurd (not_none cs a)
 
-ext_range_escape : (low : ℕ) (m : BehindBackslash) (c d : ℕ) (cs : List ℕ) → Known cs → BackslashTells c m → Accepted (joined (range_escape_next low m c) (Some d)) cs
+ext_range_escape : (low : ℕ) (m : BehindBackslash) (c d : ℕ) (cs : List ℕ) → Known cs → BackslashTells c m → Accepted (joined_reading (range_escape_next low m c) (Some d)) cs
     → Means (RangeEscape low) d (c ∷ cs)
 ext_range_escape low SpaceBehind c d cs ih t a = absurd (not_none cs a)
 ext_range_escape low Letter c d cs ih t a =
-    split (nat_le low (escaped c)) (Some ClassItem) None d cs (λ b x. (c, cs, t, leb-true low (escaped c) b, refl, ih ClassItem d tt x)) (λ b x. absurd (not_none cs x)) a
+    split (nat_le low (escaped_letter c)) (Some ClassItem) None d cs (λ b x. (c, cs, t, leb-true low (escaped_letter c) b, refl, ih ClassItem d tt x)) (λ b x. absurd (not_none cs x)) a
 ext_range_escape low StrayBehind c d cs ih t a = absurd (not_none cs a)
 
 -- the first item of a class
@@ -430,7 +430,7 @@ first_escape negated d cs (inr (e, more, v, q, rest)) =
     subst (λ x. FirstRest negated d (92 ∷ x)) (sym q) (first_single negated (Escaped e) d more v (λ x. refl) (λ x high. refl) rest)
 
 ext_first : (negated : Bool) (m : Within) (c d : ℕ) (cs : List ℕ) → Known cs → WithinTells c m → (negated ≡ false → (c == 94) ≡ false)
-    → Accepted (joined (class_first_next m c) (Some d)) cs → FirstRest negated d (c ∷ cs)
+    → Accepted (joined_reading (class_first_next m c) (Some d)) cs → FirstRest negated d (c ∷ cs)
 ext_first negated PlainWithin c d cs ih t n a = first_single negated (Plain c) d cs t n (λ x high. n x) (ih (ClassSingle c) d tt a)
 ext_first negated BackslashWithin c d cs ih t n a = at (λ x. FirstRest negated d (x ∷ cs)) c 92 t (first_escape negated d cs (ih ClassEscape d tt a))
 ext_first negated HyphenWithin c d cs ih t n a =
@@ -439,10 +439,10 @@ ext_first negated HyphenWithin c d cs ih t n a =
 ext_first negated CloseClass c d cs ih t n a = absurd (not_none cs a)
 ext_first negated StrayWithin c d cs ih t n a = absurd (not_none cs a)
 
-pub room_full : (weight value : ℕ) → HasRoom weight value → weight ≤ full
+pub room_full : (weight value : ℕ) → HasRoomForDigits weight value → weight ≤ whole_weight
 room_full weight value h = let a : 1 * weight ≤ (value + 1) * weight = mul-le-mul (let z : 1 ≤ value + 1 = omega arith in z) (le_refl weight) in let b : 1 * weight ≡ weight = omega arith in omega arith
 
-extend : (k : Control) (c d : ℕ) (cs : List ℕ) → Known cs → IsSound k → Accepted (Some (reading k d)) (c ∷ cs) → Means k d (c ∷ cs)
+extend : (k : Control) (c d : ℕ) (cs : List ℕ) → Known cs → IsSoundControl k → Accepted (Some (reading k d)) (c ∷ cs) → Means k d (c ∷ cs)
 extend Start c d cs ih s a = ext_start (outside c) c d cs ih (outside_tells c) a
 extend InAtom c d cs ih s a = ext_atom (outside c) c d cs ih (outside_tells c) a
 extend InEscape c d cs ih s a = ext_escape (behind_backslash c) c d cs ih (backslash_tells c) a

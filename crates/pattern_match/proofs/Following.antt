@@ -1,6 +1,6 @@
 -- The tokens of a syntax tree have each quantifier behind a piece.
 use Rattle.std.proofs.Common.{ℕ, suc, Bool, true, false, List, [], ◌∷◌, refl, sym, subst}
-use Rattle.pattern_match.specs.Expression.{Item, One, Range, Spaces, Hyphen, Atom, Character, Dot, Escape, Space, Class, Quantifier, Once, Optional, AnyNumber, OneOrMore, Exactly, AtLeast, Between, Expression, Empty, Piece, Group, Choice}
+use Rattle.pattern_match.specs.Expression.{ClassMember, One, Range, Spaces, Hyphen, Atom, Character, Dot, Escape, Space, Class, Quantifier, Once, Optional, AnyNumber, OneOrMore, Exactly, AtLeast, Between, Expression, Empty, Piece, Group, Choice}
 use Rattle.pattern_match.specs.Reading.{IsPattern}
 use Rattle.pattern_match.specs.Compiled.{tokens_of_text}
 use Rattle.pattern_match.specs.inner.Drafting.{AreFollowing}
@@ -8,7 +8,7 @@ use Rattle.pattern_match.specs.declared.token.Token.{Token}
 use Rattle.pattern_match.proofs.Tokens.{items_tokens_then, atom_tokens_then, quantifier_tokens_then, tokens_then}
 use Rattle.pattern_match.proofs.Judging.{tree_tokens}
 
-items_follow : (items : List Item) (more : List Token) (n : ℕ) → AreFollowing n true more → AreFollowing n true (items_tokens_then items more)
+items_follow : (items : List ClassMember) (more : List Token) (n : ℕ) → AreFollowing n true more → AreFollowing n true (items_tokens_then items more)
 items_follow [] more n h = h
 items_follow (One s ∷ items) more n h = (tt, items_follow items more n h)
 items_follow (Range low high ∷ items) more n h = (tt, (tt, items_follow items more n h))

@@ -1,7 +1,7 @@
 -- The plan of a group: without marks where it has one item, and without its empty branches.
 use Rattle.std.proofs.Common.{◌≡◌, ℕ, ◌⊎◌, ◌↔◌, inl, inr, Bool, true, false, ◌||◌, cond, List, [], refl, ⊎_elim}
 use Rattle.pattern_match.specs.Language.{IsBoth}
-use Rattle.pattern_match.specs.inner.Plan.{Plan, Nothing, One, Many, Either, Flagged, IsTaken, PlanLang, IsOneBranch, IsPlan}
+use Rattle.pattern_match.specs.inner.Plan.{Plan, Nothing, One, Many, Either, Flagged, IsTakenAt, PlanLang, IsOneBranch, IsPlan}
 use Rattle.pattern_match.proofs.Planning.{iff_both, both_map}
 use Rattle.pattern_match.proofs.Flags.{compose, flagged_both, both_nothing}
 
@@ -103,7 +103,7 @@ module _ (Takes : ℕ → ℕ → Type 0) where
   merged_lang : (o r : Bool) (p rest : Plan) (w : List ℕ) → single p ≡ true
       → PlanLang Takes (merged o r p rest) w ↔ IsBoth (Flagged o r (PlanLang Takes p)) (PlanLang Takes rest) w
   merged_lang o r Nothing rest w h = absurd (cc)
-  merged_lang o r (One at e s x) rest w h = item_lang (IsTaken Takes at) o r e s x rest w h
+  merged_lang o r (One at e s x) rest w h = item_lang (IsTakenAt Takes at) o r e s x rest w h
   merged_lang o r (Many inner e s x) rest w h = item_lang (PlanLang Takes inner) o r e s x rest w h
   merged_lang o r (Either branch x) rest w h = absurd (cc)
 

@@ -1,11 +1,11 @@
 -- The groups that are begun, and what the passes do at the end of a branch and of a group.
 use Rattle.std.proofs.Common.{◌≡◌, ℕ, Bool, true, false, ◌||◌, List, [], ◌∷◌, refl, ap₂}
-use Rattle.pattern_match.specs.Marking.{frame, innermost, around, with_group, first_pass, second_pass}
+use Rattle.pattern_match.specs.Marking.{frame, innermost_group, around, with_group, first_pass, second_pass}
 use Rattle.pattern_match.specs.declared.instruction.Instruction.{Instruction}
 use Rattle.pattern_match.specs.declared.instruction.Instruction.TheVariants.{Bar, Close}
 use Rattle.pattern_match.specs.declared.instruction.Frame.{Frame}
 
-pub innermost_with : (entered left : Bool) (frames : List Frame) → innermost (with_group (frame entered left) frames) ≡ frame entered left
+pub innermost_with : (entered left : Bool) (frames : List Frame) → innermost_group (with_group (frame entered left) frames) ≡ frame entered left
 innermost_with true left [] = refl
 innermost_with false true [] = refl
 innermost_with false false [] = refl

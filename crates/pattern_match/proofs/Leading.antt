@@ -3,12 +3,12 @@ use Rattle.std.proofs.Common.{◌≡◌, ℕ, zero, suc, ◌+◌, ◌-◌, ◌*�
 use Rattle.std.proofs.lemmas.Bool.{ne_eqb}
 use Rattle.std.proofs.lemmas.Bool.Decides.{nat_tests}
 use Rattle.std.specs.List.{AllByRecursion}
-use Rattle.pattern_match.specs.Expression.{Single, Plain, Escaped, Item, One, Range, Spaces, Hyphen, Atom, Character, Dot, Escape, Space, Class, Quantifier, Once, Optional, AnyNumber, OneOrMore, Exactly, AtLeast, Between, Expression, Empty, Piece, Group, Choice}
+use Rattle.pattern_match.specs.Expression.{Single, Plain, Escaped, ClassMember, One, Range, Spaces, Hyphen, Atom, Character, Dot, Escape, Space, Class, Quantifier, Once, Optional, AnyNumber, OneOrMore, Exactly, AtLeast, Between, Expression, Empty, Piece, Group, Choice}
 use Rattle.pattern_match.specs.Spelling.{single_spelling, item_spelling, items_spelling, atom_spelling, quantifier_spelling, spelling}
-use Rattle.pattern_match.specs.Valid.{is_among, escaped, meant, IsSingle, AreLaterItems, AreItems, IsEscapeLetter, IsAtom, IsDigit, number, number_after, IsQuantifier, IsExpression}
+use Rattle.pattern_match.specs.Valid.{is_among, escaped_letter, meant, IsSingle, AreLaterItems, AreItems, IsEscapeLetter, IsAtom, IsDigit, digits_number, number_after, IsQuantifier, IsExpression}
 use Rattle.pattern_match.specs.Character.{outside, within}
-use Rattle.pattern_match.specs.Control.{full, outside_next, atom_next, escape_next, least_next, most_next, class_first_next, class_item_next, class_single_next, class_dash_next, class_escape_next, range_escape_next, next, depth_outside, reading, joined, step, run}
-use Rattle.pattern_match.specs.Tokens.{outside_tokens, behind_atom_tokens, escape_tokens, least_tokens, most_tokens, item_tokens, single_tokens, dash_tokens, class_escape_tokens, range_escape_tokens, emits, emitted}
+use Rattle.pattern_match.specs.Control.{whole_weight, outside_next, atom_next, escape_next, least_next, most_next, class_first_next, class_item_next, class_single_next, class_dash_next, class_escape_next, range_escape_next, next_control, depth_outside, reading, joined_reading, next_reading, run_reading}
+use Rattle.pattern_match.specs.Tokens.{outside_tokens, behind_atom_tokens, escape_tokens, least_tokens, most_tokens, item_tokens, single_tokens, dash_tokens, class_escape_tokens, range_escape_tokens, emits, emit_tokens}
 use Rattle.pattern_match.specs.declared.character.Outside.{Outside}
 use Rattle.pattern_match.specs.declared.character.Outside.TheVariants.{Ordinary, Dot as DotOutside, Backslash, OpenClass, OpenGroup, CloseGroup, Bar, Optional as OptionalOutside, AnyNumber as AnyNumberOutside, OneOrMore as OneOrMoreOutside, OpenBounds, Stray}
 use Rattle.pattern_match.specs.declared.character.Within.{Within}
@@ -24,8 +24,8 @@ use Rattle.pattern_match.proofs.Tokens.{items_tokens_then, atom_tokens_then, qua
 
 -- characters lead from one reading to another, with more left; F makes the tokens of all of those of what is left
 pub record Leads (r : Reading) (cs : List ℕ) (F : List Token → List Token) (after : Reading) (more : List ℕ) : Type 0 where
-  pub runs : run (Some r) cs ≡ run (Some after) more
-  pub tokens : emitted (Some r.control) cs ≡ F (emitted (Some after.control) more)
+  pub runs : run_reading (Some r) cs ≡ run_reading (Some after) more
+  pub tokens : emit_tokens (Some r.control) cs ≡ F (emit_tokens (Some after.control) more)
 
 pub stay : (r : Reading) (cs : List ℕ) → Leads r cs (λ x. x) r cs
 stay r cs = record { runs = refl; tokens = refl }
@@ -34,11 +34,11 @@ pub then : {r r1 r2 : Reading} {cs cs1 cs2 : List ℕ} {F G : List Token → Lis
 then {F = F} a b = record { runs = a.runs ∙ b.runs; tokens = a.tokens ∙ ap F b.tokens }
 
 -- one character
-pub one : (r after : Reading) (c : ℕ) (cs : List ℕ) (ts : List Token) → step r c ≡ Some after → next r.control c ≡ Some after.control → emits r.control c ≡ ts
+pub one : (r after : Reading) (c : ℕ) (cs : List ℕ) (ts : List Token) → next_reading r c ≡ Some after → next_control r.control c ≡ Some after.control → emits r.control c ≡ ts
     → Leads r (c ∷ cs) (λ x. ts ++ x) after cs
 one r after c cs ts s n e = record {
-  runs = ap (λ o. run o cs) s;
-  tokens = ap₂ (λ x o. x ++ emitted o cs) e n;
+  runs = ap (λ o. run_reading o cs) s;
+  tokens = ap₂ (λ x o. x ++ emit_tokens o cs) e n;
 }
 
 -- outside classes and quantifiers
@@ -73,12 +73,12 @@ pub outside_one : (k after : Control) (d e c : ℕ) (cs : List ℕ) (m : Outside
 outside_one k after d e c cs m (inl p) o n s t =
     subst (λ k. Leads (reading k d) (c ∷ cs) (λ x. outside_tokens m c ++ x) (reading after e) cs) (sym p)
     (one (reading Start d) (reading after e) c cs (outside_tokens m c)
-    (ap₂ joined (ap outside_next o ∙ s) (ap (λ y. depth_outside y d) o ∙ t)) (ap outside_next o ∙ s) (ap (λ y. outside_tokens y c) o))
+    (ap₂ joined_reading (ap outside_next o ∙ s) (ap (λ y. depth_outside y d) o ∙ t)) (ap outside_next o ∙ s) (ap (λ y. outside_tokens y c) o))
 outside_one k after d e c cs m (inr p) o n s t =
     let a = atom_as_outside m c n in
     subst (λ k. Leads (reading k d) (c ∷ cs) (λ x. outside_tokens m c ++ x) (reading after e) cs) (sym p)
     (one (reading InAtom d) (reading after e) c cs (outside_tokens m c)
-    (ap₂ joined (ap atom_next o ∙ a.0 ∙ s) (ap (λ y. depth_outside y d) o ∙ t)) (ap atom_next o ∙ a.0 ∙ s) (ap (λ y. behind_atom_tokens y c) o ∙ a.1))
+    (ap₂ joined_reading (ap atom_next o ∙ a.0 ∙ s) (ap (λ y. depth_outside y d) o ∙ t)) (ap atom_next o ∙ a.0 ∙ s) (ap (λ y. behind_atom_tokens y c) o ∙ a.1))
 
 -- in a class
 
@@ -91,9 +91,9 @@ IsItemAt k = ⊥
 single_after : (k : Control) (d c : ℕ) (cs : List ℕ) → IsItemAt k → within c ≡ PlainWithin
     → Leads (reading k d) (c ∷ cs) (λ x. Member c c ∷ x) (reading (ClassSingle c) d) cs
 single_after ClassItem d c cs i w = one (reading ClassItem d) (reading (ClassSingle c) d) c cs (Member c c ∷ [])
-    (ap (λ m. joined (class_item_next m c) (Some d)) w) (ap (λ m. class_item_next m c) w) (ap (λ m. item_tokens m c) w)
+    (ap (λ m. joined_reading (class_item_next m c) (Some d)) w) (ap (λ m. class_item_next m c) w) (ap (λ m. item_tokens m c) w)
 single_after (ClassSingle low) d c cs i w = one (reading (ClassSingle low) d) (reading (ClassSingle c) d) c cs (Member c c ∷ [])
-    (ap (λ m. joined (class_single_next low m c) (Some d)) w) (ap (λ m. class_single_next low m c) w) (ap (λ m. single_tokens m c) w)
+    (ap (λ m. joined_reading (class_single_next low m c) (Some d)) w) (ap (λ m. class_single_next low m c) w) (ap (λ m. single_tokens m c) w)
 single_after _ d c cs i w = absurd i
 
 escape_after : (k : Control) (d : ℕ) (cs : List ℕ) → IsItemAt k → Leads (reading k d) (92 ∷ cs) (λ x. x) (reading ClassEscape d) cs
@@ -101,11 +101,11 @@ escape_after ClassItem d cs i = one (reading ClassItem d) (reading ClassEscape d
 escape_after (ClassSingle low) d cs i = one (reading (ClassSingle low) d) (reading ClassEscape d) 92 cs [] refl refl refl
 escape_after _ d cs i = absurd i
 
-pub letter_after : (d e : ℕ) (cs : List ℕ) → IsEscapeLetter e → Leads (reading ClassEscape d) (e ∷ cs) (λ x. Member (escaped e) (escaped e) ∷ x) (reading (ClassSingle (escaped e)) d) cs
+pub letter_after : (d e : ℕ) (cs : List ℕ) → IsEscapeLetter e → Leads (reading ClassEscape d) (e ∷ cs) (λ x. Member (escaped_letter e) (escaped_letter e) ∷ x) (reading (ClassSingle (escaped_letter e)) d) cs
 letter_after d e cs l =
     let b = backslash_letter e l in
-    one (reading ClassEscape d) (reading (ClassSingle (escaped e)) d) e cs (Member (escaped e) (escaped e) ∷ [])
-    (ap (λ m. joined (class_escape_next m e) (Some d)) b) (ap (λ m. class_escape_next m e) b) (ap (λ m. class_escape_tokens m e) b)
+    one (reading ClassEscape d) (reading (ClassSingle (escaped_letter e)) d) e cs (Member (escaped_letter e) (escaped_letter e) ∷ [])
+    (ap (λ m. joined_reading (class_escape_next m e) (Some d)) b) (ap (λ m. class_escape_next m e) b) (ap (λ m. class_escape_tokens m e) b)
 
 spaces_after : (d : ℕ) (cs : List ℕ) → Leads (reading ClassEscape d) (115 ∷ cs) (λ x. Member 32 32 ∷ Member 9 10 ∷ Member 13 13 ∷ x) (reading ClassItem d) cs
 spaces_after d cs = one (reading ClassEscape d) (reading ClassItem d) 115 cs (Member 32 32 ∷ Member 9 10 ∷ Member 13 13 ∷ []) refl refl refl
@@ -148,10 +148,10 @@ letter_bound : (e : ℕ) → IsEscapeLetter e → e ≤ 125
 unfolding are_small
 letter_bound e l = among_bound (codes "nrt\\|.-^?*+{}()[]") e refl l
 
-pub escaped_bound : (e : ℕ) → IsEscapeLetter e → escaped e ≤ 125
+pub escaped_bound : (e : ℕ) → IsEscapeLetter e → escaped_letter e ≤ 125
 escaped_bound e l = small e (letter_bound e l)
   where
-    small : (e : ℕ) → e ≤ 125 → escaped e ≤ 125
+    small : (e : ℕ) → e ≤ 125 → escaped_letter e ≤ 125
     small e h = grind (arith, nat_tests)
 
 -- the end of a range
@@ -161,20 +161,20 @@ range_end low d (Plain c) cs v l =
     let w = within_plain c v.0 v.1 in
     let t : nat_le low c ≡ true = le-leb low c l in
     one (reading (ClassDash low) d) (reading ClassItem d) c cs (Member low c ∷ [])
-    (ap (λ m. joined (class_dash_next low m c) (Some d)) w ∙ ap (λ b. joined (cond b (Some ClassItem) None) (Some d)) t)
+    (ap (λ m. joined_reading (class_dash_next low m c) (Some d)) w ∙ ap (λ b. joined_reading (cond b (Some ClassItem) None) (Some d)) t)
     (ap (λ m. class_dash_next low m c) w ∙ ap (λ b. cond b (Some ClassItem) None) t) (ap (λ m. dash_tokens low m c) w)
 range_end low d (Escaped e) cs v l =
     let b = backslash_letter e v in
     let t : nat_le low 125 ≡ true = le-leb low 125 (le_trans l (escaped_bound e v)) in
-    let u : nat_le low (escaped e) ≡ true = le-leb low (escaped e) l in
+    let u : nat_le low (escaped_letter e) ≡ true = le-leb low (escaped_letter e) l in
     then (one (reading (ClassDash low) d) (reading (RangeEscape low) d) 92 (e ∷ cs) []
-    (ap (λ b. joined (cond b (Some (RangeEscape low)) None) (Some d)) t) (ap (λ b. cond b (Some (RangeEscape low)) None) t) refl)
-    (one (reading (RangeEscape low) d) (reading ClassItem d) e cs (Member low (escaped e) ∷ [])
-    (ap (λ m. joined (range_escape_next low m e) (Some d)) b ∙ ap (λ b. joined (cond b (Some ClassItem) None) (Some d)) u)
+    (ap (λ b. joined_reading (cond b (Some (RangeEscape low)) None) (Some d)) t) (ap (λ b. cond b (Some (RangeEscape low)) None) t) refl)
+    (one (reading (RangeEscape low) d) (reading ClassItem d) e cs (Member low (escaped_letter e) ∷ [])
+    (ap (λ m. joined_reading (range_escape_next low m e) (Some d)) b ∙ ap (λ b. joined_reading (cond b (Some ClassItem) None) (Some d)) u)
     (ap (λ m. range_escape_next low m e) b ∙ ap (λ b. cond b (Some ClassItem) None) u) (ap (λ m. range_escape_tokens low m e) b))
 
 -- the items of a class behind others, and its end
-pub items_lead : (items : List Item) (k : Control) (d : ℕ) (cs : List ℕ) → IsItemAt k → AreLaterItems items
+pub items_lead : (items : List ClassMember) (k : Control) (d : ℕ) (cs : List ℕ) → IsItemAt k → AreLaterItems items
     → Leads (reading k d) (items_spelling items ++ 93 ∷ cs) (items_tokens_then items) (reading InAtom d) cs
 items_lead [] k d cs i v = close_after k d cs i
 items_lead (Hyphen ∷ items) k d cs i v =
@@ -198,8 +198,8 @@ items_lead (Spaces ∷ items) k d cs i v =
 as_later : (d x : ℕ) (cs more : List ℕ) (F : List Token → List Token) (after : Reading) (m : Within) → within x ≡ m → (m ≡ PlainWithin) ⊎ (m ≡ BackslashWithin)
     → Leads (reading ClassItem d) (x ∷ cs) F after more → Leads (reading ClassNegated d) (x ∷ cs) F after more
 as_later d x cs more F after m w c l = record {
-  runs = ap (λ n. run (joined n (Some d)) cs) same ∙ l.runs;
-  tokens = ap (λ n. item_tokens (within x) x ++ emitted n cs) same ∙ l.tokens;
+  runs = ap (λ n. run_reading (joined_reading n (Some d)) cs) same ∙ l.runs;
+  tokens = ap (λ n. item_tokens (within x) x ++ emit_tokens n cs) same ∙ l.tokens;
 }
   where
     equal : (m : Within) → (m ≡ PlainWithin) ⊎ (m ≡ BackslashWithin) → class_first_next m x ≡ class_item_next m x
@@ -218,17 +218,17 @@ as_later d x cs more F after m w c l = record {
 as_negated : (d x : ℕ) (cs more : List ℕ) (F : List Token → List Token) (after : Reading) → (x == 94) ≡ false
     → Leads (reading ClassNegated d) (x ∷ cs) F after more → Leads (reading InClassStart d) (x ∷ cs) (λ y. ClassStart false ∷ F y) after more
 as_negated d x cs more F after n l = record {
-  runs = ap (λ b. run (joined (cond b (Some ClassNegated) (class_first_next (within x) x)) (Some d)) cs) n ∙ l.runs;
-  tokens = ap (λ b. cond b (ClassStart true ∷ []) (ClassStart false ∷ item_tokens (within x) x) ++ emitted (cond b (Some ClassNegated) (class_first_next (within x) x)) cs) n
+  runs = ap (λ b. run_reading (joined_reading (cond b (Some ClassNegated) (class_first_next (within x) x)) (Some d)) cs) n ∙ l.runs;
+  tokens = ap (λ b. cond b (ClassStart true ∷ []) (ClassStart false ∷ item_tokens (within x) x) ++ emit_tokens (cond b (Some ClassNegated) (class_first_next (within x) x)) cs) n
       ∙ ap (λ y. ClassStart false ∷ y) l.tokens;
 }
 
-hyphen_first : (d : ℕ) (items : List Item) (cs : List ℕ) → AreLaterItems items
+hyphen_first : (d : ℕ) (items : List ClassMember) (cs : List ℕ) → AreLaterItems items
     → Leads (reading ClassNegated d) (items_spelling (Hyphen ∷ items) ++ 93 ∷ cs) (items_tokens_then (Hyphen ∷ items)) (reading InAtom d) cs
 hyphen_first d items cs v =
     then (one (reading ClassNegated d) (reading ClassItem d) 45 (items_spelling items ++ 93 ∷ cs) (Member 45 45 ∷ []) refl refl refl) (items_lead items ClassItem d cs tt v)
 
-pub negated_lead : (negated : Bool) (d : ℕ) (items : List Item) (cs : List ℕ) → AreItems negated items
+pub negated_lead : (negated : Bool) (d : ℕ) (items : List ClassMember) (cs : List ℕ) → AreItems negated items
     → Leads (reading ClassNegated d) (items_spelling items ++ 93 ∷ cs) (items_tokens_then items) (reading InAtom d) cs
 negated_lead negated d [] cs v = absurd v
 negated_lead negated d (Hyphen ∷ items) cs v = hyphen_first d items cs v
@@ -248,7 +248,7 @@ negated_lead negated d (Spaces ∷ items) cs v =
     as_later d 92 (115 ∷ (items_spelling items ++ 93 ∷ cs)) cs (items_tokens_then (Spaces ∷ items)) (reading InAtom d) BackslashWithin refl (inr refl)
     (items_lead (Spaces ∷ items) ClassItem d cs tt (v.0, v.2))
 
-pub start_lead : (d : ℕ) (items : List Item) (cs : List ℕ) → AreItems false items
+pub start_lead : (d : ℕ) (items : List ClassMember) (cs : List ℕ) → AreItems false items
     → Leads (reading InClassStart d) (items_spelling items ++ 93 ∷ cs) (λ y. ClassStart false ∷ items_tokens_then items y) (reading InAtom d) cs
 start_lead d [] cs v = absurd v
 start_lead d (Hyphen ∷ items) cs v =
@@ -267,11 +267,11 @@ start_lead d (Spaces ∷ items) cs v =
     as_negated d 92 (115 ∷ (items_spelling items ++ 93 ∷ cs)) cs (items_tokens_then (Spaces ∷ items)) (reading InAtom d) refl (negated_lead false d (Spaces ∷ items) cs v)
 
 -- an atom
-pub letter_outside : (d e : ℕ) (cs : List ℕ) → IsEscapeLetter e → Leads (reading InEscape d) (e ∷ cs) (λ x. SingleToken (escaped e) ∷ x) (reading InAtom d) cs
+pub letter_outside : (d e : ℕ) (cs : List ℕ) → IsEscapeLetter e → Leads (reading InEscape d) (e ∷ cs) (λ x. SingleToken (escaped_letter e) ∷ x) (reading InAtom d) cs
 letter_outside d e cs l =
     let b = backslash_letter e l in
-    one (reading InEscape d) (reading InAtom d) e cs (SingleToken (escaped e) ∷ [])
-    (ap (λ m. joined (escape_next m) (Some d)) b) (ap escape_next b) (ap (λ m. escape_tokens m e) b)
+    one (reading InEscape d) (reading InAtom d) e cs (SingleToken (escaped_letter e) ∷ [])
+    (ap (λ m. joined_reading (escape_next m) (Some d)) b) (ap escape_next b) (ap (λ m. escape_tokens m e) b)
 
 pub atom_lead : (a : Atom) (k : Control) (d : ℕ) (cs : List ℕ) → IsPlainAt k → IsAtom a → Leads (reading k d) (atom_spelling a ++ cs) (atom_tokens_then a) (reading InAtom d) cs
 atom_lead (Character c) k d cs p v = outside_one k InAtom d d c cs Ordinary p (outside_ordinary c v) tt refl refl
@@ -312,16 +312,16 @@ weighs [] n weight l h = weight_positive n weight h
 weighs (c ∷ digits) zero weight l h = absurd (omega arith)
 weighs (c ∷ digits) (suc n) weight l h = (h.0, weighs digits n (weight / 10) (omega arith) h.1)
 
-full_weight : HasWeight 9 full
+full_weight : HasWeight 9 whole_weight
 full_weight = (lit≤ tt, (lit≤ tt, (lit≤ tt, (lit≤ tt, (lit≤ tt, (lit≤ tt, (lit≤ tt, (lit≤ tt, (lit≤ tt, lit≤ tt)))))))))
 
 shrunk_less : (digits : List ℕ) (weight : ℕ) → shrunk digits weight ≤ weight
 shrunk_less [] weight = le_refl weight
 shrunk_less (c ∷ digits) weight = let h = shrunk_less digits (weight / 10) in omega arith
 
-shrunk_full : (digits : List ℕ) → 1 ≤ length digits → shrunk digits full < full
+shrunk_full : (digits : List ℕ) → 1 ≤ length digits → shrunk digits whole_weight < whole_weight
 shrunk_full [] l = absurd (omega arith)
-shrunk_full (c ∷ digits) l = let h = shrunk_less digits (full / 10) in let e : full / 10 ≡ 100000000 = refl in omega arith
+shrunk_full (c ∷ digits) l = let h = shrunk_less digits (whole_weight / 10) in let e : whole_weight / 10 ≡ 100000000 = refl in omega arith
 
 -- the digits of a first bound
 pub least_digits : (digits : List ℕ) (weight value d : ℕ) (cs : List ℕ) → AllByRecursion IsDigit digits → Weighs digits weight
@@ -331,7 +331,7 @@ least_digits (c ∷ digits) weight value d cs v w =
     let n = number_digit c v.0 in
     let b : nat_lt weight 10 ≡ false = le-ltb weight 10 w.0 in
     then (one (reading (Least weight value) d) (reading (Least (weight / 10) (10 * value + (c - 48))) d) c (digits ++ cs) []
-    (ap (λ m. joined (least_next weight value m) (Some d)) n ∙ ap (λ z. joined (cond z None (Some (Least (weight / 10) (10 * value + (c - 48))))) (Some d)) b)
+    (ap (λ m. joined_reading (least_next weight value m) (Some d)) n ∙ ap (λ z. joined_reading (cond z None (Some (Least (weight / 10) (10 * value + (c - 48))))) (Some d)) b)
     (ap (λ m. least_next weight value m) n ∙ ap (λ z. cond z None (Some (Least (weight / 10) (10 * value + (c - 48))))) b)
     (ap (λ m. least_tokens value m) n))
     (least_digits digits (weight / 10) (10 * value + (c - 48)) d cs v.1 w.1)
@@ -360,7 +360,7 @@ most_digits (c ∷ digits) least weight value d cs v w l =
     let K = Most least (weight / 10) (10 * value + (c - 48)) in
     let T = nat_lt least ((10 * value + (c - 48) + 1) * (weight / 10)) in
     then (one (reading (Most least weight value) d) (reading K d) c (digits ++ cs) []
-    (ap (λ m. joined (most_next least weight value m) (Some d)) n ∙ ap (λ z. joined (cond z None (cond T (Some K) None)) (Some d)) b ∙ ap (λ z. joined (cond z (Some K) None) (Some d)) g)
+    (ap (λ m. joined_reading (most_next least weight value m) (Some d)) n ∙ ap (λ z. joined_reading (cond z None (cond T (Some K) None)) (Some d)) b ∙ ap (λ z. joined_reading (cond z (Some K) None) (Some d)) g)
     (ap (λ m. most_next least weight value m) n ∙ ap (λ z. cond z None (cond T (Some K) None)) b ∙ ap (λ z. cond z (Some K) None) g)
     (ap (λ m. most_tokens least weight value m) n))
     (most_digits digits least (weight / 10) (10 * value + (c - 48)) d cs v.1 w.1 l)
@@ -369,28 +369,28 @@ most_digits (c ∷ digits) least weight value d cs v w l =
 abbrev QuantifierLeads : Quantifier → ℕ → List ℕ → Type 0
 QuantifierLeads q d cs = (k : Control) × IsPlainAt k × Leads (reading InAtom d) (quantifier_spelling q ++ cs) (quantifier_tokens_then q) (reading k d) cs
 
-bounds_open : (d : ℕ) (cs : List ℕ) → Leads (reading InAtom d) (123 ∷ cs) (λ x. x) (reading (Least full 0) d) cs
-bounds_open d cs = one (reading InAtom d) (reading (Least full 0) d) 123 cs [] refl refl refl
+bounds_open : (d : ℕ) (cs : List ℕ) → Leads (reading InAtom d) (123 ∷ cs) (λ x. x) (reading (Least whole_weight 0) d) cs
+bounds_open d cs = one (reading InAtom d) (reading (Least whole_weight 0) d) 123 cs [] refl refl refl
 
-pub exact_close : (weight value d : ℕ) (cs : List ℕ) → weight < full → Leads (reading (Least weight value) d) (125 ∷ cs) (λ x. Times value (Some value) ∷ x) (reading Start d) cs
+pub exact_close : (weight value d : ℕ) (cs : List ℕ) → weight < whole_weight → Leads (reading (Least weight value) d) (125 ∷ cs) (λ x. Times value (Some value) ∷ x) (reading Start d) cs
 exact_close weight value d cs l =
-    let b : nat_lt weight full ≡ true = lt-ltb weight full l in
+    let b : nat_lt weight whole_weight ≡ true = lt-ltb weight whole_weight l in
     one (reading (Least weight value) d) (reading Start d) 125 cs (Times value (Some value) ∷ [])
-    (ap (λ z. joined (cond z (Some Start) None) (Some d)) b) (ap (λ z. cond z (Some Start) None) b) refl
+    (ap (λ z. joined_reading (cond z (Some Start) None) (Some d)) b) (ap (λ z. cond z (Some Start) None) b) refl
 
-bounds_comma : (weight value d : ℕ) (cs : List ℕ) → weight < full → Leads (reading (Least weight value) d) (44 ∷ cs) (λ x. x) (reading (Most value full 0) d) cs
+bounds_comma : (weight value d : ℕ) (cs : List ℕ) → weight < whole_weight → Leads (reading (Least weight value) d) (44 ∷ cs) (λ x. x) (reading (Most value whole_weight 0) d) cs
 bounds_comma weight value d cs l =
-    let b : nat_lt weight full ≡ true = lt-ltb weight full l in
-    one (reading (Least weight value) d) (reading (Most value full 0) d) 44 cs []
-    (ap (λ z. joined (cond z (Some (Most value full 0)) None) (Some d)) b) (ap (λ z. cond z (Some (Most value full 0)) None) b) refl
+    let b : nat_lt weight whole_weight ≡ true = lt-ltb weight whole_weight l in
+    one (reading (Least weight value) d) (reading (Most value whole_weight 0) d) 44 cs []
+    (ap (λ z. joined_reading (cond z (Some (Most value whole_weight 0)) None) (Some d)) b) (ap (λ z. cond z (Some (Most value whole_weight 0)) None) b) refl
 
-pub most_close : (least weight value d : ℕ) (cs : List ℕ) → weight < full → least ≤ value
+pub most_close : (least weight value d : ℕ) (cs : List ℕ) → weight < whole_weight → least ≤ value
     → Leads (reading (Most least weight value) d) (125 ∷ cs) (λ x. Times least (Some value) ∷ x) (reading Start d) cs
 most_close least weight value d cs l m =
-    let b : weight == full ≡ false = ne_eqb weight full (λ e. absurd (omega arith)) in
+    let b : weight == whole_weight ≡ false = ne_eqb weight whole_weight (λ e. absurd (omega arith)) in
     let t : nat_le least value ≡ true = le-leb least value m in
     one (reading (Most least weight value) d) (reading Start d) 125 cs (Times least (Some value) ∷ [])
-    (ap (λ z. joined (cond z (Some Start) (cond (nat_le least value) (Some Start) None)) (Some d)) b ∙ ap (λ z. joined (cond z (Some Start) None) (Some d)) t)
+    (ap (λ z. joined_reading (cond z (Some Start) (cond (nat_le least value) (Some Start) None)) (Some d)) b ∙ ap (λ z. joined_reading (cond z (Some Start) None) (Some d)) t)
     (ap (λ z. cond z (Some Start) (cond (nat_le least value) (Some Start) None)) b ∙ ap (λ z. cond z (Some Start) None) t)
     (ap (λ z. cond z (Times least None ∷ []) (Times least (Some value) ∷ [])) b)
 
@@ -403,25 +403,25 @@ quantifier_lead (Exactly n) d cs v = (
   Start,
   inl refl,
   subst (λ x. Leads (reading InAtom d) (123 ∷ x) (quantifier_tokens_then (Exactly n)) (reading Start d) cs) (sym (append_assoc n (125 ∷ []) cs))
-      (then (bounds_open d (n ++ 125 ∷ cs)) (then (least_digits n full 0 d (125 ∷ cs) v.each (weighs n 9 full v.most full_weight))
-      (exact_close (shrunk n full) (number n) d cs (shrunk_full n v.least)))),
+      (then (bounds_open d (n ++ 125 ∷ cs)) (then (least_digits n whole_weight 0 d (125 ∷ cs) v.each (weighs n 9 whole_weight v.most full_weight))
+      (exact_close (shrunk n whole_weight) (digits_number n) d cs (shrunk_full n v.least)))),
 )
 quantifier_lead (AtLeast n) d cs v = (
   Start,
   inl refl,
   subst (λ x. Leads (reading InAtom d) (123 ∷ x) (quantifier_tokens_then (AtLeast n)) (reading Start d) cs) (sym (append_assoc n (44 ∷ 125 ∷ []) cs))
-      (then (bounds_open d (n ++ 44 ∷ 125 ∷ cs)) (then (least_digits n full 0 d (44 ∷ 125 ∷ cs) v.each (weighs n 9 full v.most full_weight))
-      (then (bounds_comma (shrunk n full) (number n) d (125 ∷ cs) (shrunk_full n v.least))
-      (one (reading (Most (number n) full 0) d) (reading Start d) 125 cs (Times (number n) None ∷ []) refl refl refl)))),
+      (then (bounds_open d (n ++ 44 ∷ 125 ∷ cs)) (then (least_digits n whole_weight 0 d (44 ∷ 125 ∷ cs) v.each (weighs n 9 whole_weight v.most full_weight))
+      (then (bounds_comma (shrunk n whole_weight) (digits_number n) d (125 ∷ cs) (shrunk_full n v.least))
+      (one (reading (Most (digits_number n) whole_weight 0) d) (reading Start d) 125 cs (Times (digits_number n) None ∷ []) refl refl refl)))),
 )
 quantifier_lead (Between n m) d cs v = (
   Start,
   inl refl,
   subst (λ x. Leads (reading InAtom d) (123 ∷ x) (quantifier_tokens_then (Between n m)) (reading Start d) cs) (sym regroup)
-      (then (bounds_open d (n ++ 44 ∷ (m ++ 125 ∷ cs))) (then (least_digits n full 0 d (44 ∷ (m ++ 125 ∷ cs)) v.0.each (weighs n 9 full v.0.most full_weight))
-      (then (bounds_comma (shrunk n full) (number n) d (m ++ 125 ∷ cs) (shrunk_full n v.0.least))
-      (then (most_digits m (number n) full 0 d (125 ∷ cs) v.1.each (weighs m 9 full v.1.most full_weight) v.2)
-      (most_close (number n) (shrunk m full) (number m) d cs (shrunk_full m v.1.least) v.2))))),
+      (then (bounds_open d (n ++ 44 ∷ (m ++ 125 ∷ cs))) (then (least_digits n whole_weight 0 d (44 ∷ (m ++ 125 ∷ cs)) v.0.each (weighs n 9 whole_weight v.0.most full_weight))
+      (then (bounds_comma (shrunk n whole_weight) (digits_number n) d (m ++ 125 ∷ cs) (shrunk_full n v.0.least))
+      (then (most_digits m (digits_number n) whole_weight 0 d (125 ∷ cs) v.1.each (weighs m 9 whole_weight v.1.most full_weight) v.2)
+      (most_close (digits_number n) (shrunk m whole_weight) (digits_number m) d cs (shrunk_full m v.1.least) v.2))))),
 )
   where
     regroup : (n ++ 44 ∷ (m ++ 125 ∷ [])) ++ cs ≡ n ++ 44 ∷ (m ++ 125 ∷ cs)

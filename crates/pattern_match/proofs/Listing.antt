@@ -4,10 +4,10 @@ use Rattle.std.proofs.lemmas.Bool.{eq-eqb, ne_eqb}
 use Rattle.std.proofs.lemmas.List.{length-replicate, replicate-append-replicate, drop_at, drop-drop, drop-append-le}
 use Rattle.pattern_match.specs.declared.instruction.Instruction.{Instruction}
 use Rattle.pattern_match.specs.declared.instruction.Instruction.TheVariants.{Take, Open, Bar, Close}
-use Rattle.pattern_match.specs.Marks.{IsEnded, AreEnded, Lists, first_of, past}
+use Rattle.pattern_match.specs.Marks.{IsGroupEnded, AreEnded, ListsPlaces, first_place_or, past}
 
 -- groups that end
-pub ended_more : (i : Instruction) (n m : ℕ) → n ≤ m → IsEnded i n → IsEnded i m
+pub ended_more : (i : Instruction) (n m : ℕ) → n ≤ m → IsGroupEnded i n → IsGroupEnded i m
 ended_more (Take at o r) n m l h = tt
 ended_more (Open length o r) n m l h = omega arith
 ended_more Bar n m l h = tt
@@ -31,7 +31,7 @@ ended_append (i ∷ front) code n f h =
     (ended_more i (length front) (length front + n) (omega arith) f.0, ended_append front code n f.1 h)
 
 -- as many marks as instructions, and maybe more
-pub lists_length : (from : ℕ) (code : List Instruction) (marks : List Bool) (places : List ℕ) → Lists from code marks places → length code ≤ length marks
+pub lists_length : (from : ℕ) (code : List Instruction) (marks : List Bool) (places : List ℕ) → ListsPlaces from code marks places → length code ≤ length marks
 lists_length from code marks [] (more, e, h) =
     let a : length marks ≡ length (replicate (length code) false ++ more) = ap length e in
     let b = length-append (replicate (length code) false) more in
@@ -46,13 +46,13 @@ lists_length from code marks (place ∷ places) (unset, mark, later, p, l, e, h,
     omega arith
 
 -- the first place is one of theirs
-pub lists_first : (from : ℕ) (code : List Instruction) (marks : List Bool) (places : List ℕ) → Lists from code marks places
-    → (from ≤ first_of places (from + length code)) × (first_of places (from + length code) ≤ from + length code)
+pub lists_first : (from : ℕ) (code : List Instruction) (marks : List Bool) (places : List ℕ) → ListsPlaces from code marks places
+    → (from ≤ first_place_or places (from + length code)) × (first_place_or places (from + length code) ≤ from + length code)
 lists_first from code marks [] h = (omega arith, omega arith)
 lists_first from code marks (place ∷ places) (unset, mark, later, p, l, e, h, r) = (omega arith, omega arith)
 
 -- more marks behind those of the code
-pub lists_longer : (from : ℕ) (code : List Instruction) (marks more : List Bool) (places : List ℕ) → Lists from code marks places → Lists from code (marks ++ more) places
+pub lists_longer : (from : ℕ) (code : List Instruction) (marks more : List Bool) (places : List ℕ) → ListsPlaces from code marks places → ListsPlaces from code (marks ++ more) places
 lists_longer from code marks more [] (rest, e, h) = (rest ++ more, ap (λ x. x ++ more) e ∙ append_assoc (replicate (length code) false) rest more, h)
 lists_longer from code marks more (place ∷ places) (unset, mark, later, p, l, e, h, r) = (
   unset,
@@ -66,8 +66,8 @@ lists_longer from code marks more (place ∷ places) (unset, mark, later, p, l, 
 )
 
 -- the first place follows marks that are not set
-pub lists_skip : (from : ℕ) (code : List Instruction) (marks : List Bool) (places : List ℕ) (n : ℕ) → from + n ≡ first_of places (from + length code) → Lists from code marks places
-    → (marks ≡ replicate n false ++ drop n marks) × AreEnded n code × Lists (from + n) (drop n code) (drop n marks) places
+pub lists_skip : (from : ℕ) (code : List Instruction) (marks : List Bool) (places : List ℕ) (n : ℕ) → from + n ≡ first_place_or places (from + length code) → ListsPlaces from code marks places
+    → (marks ≡ replicate n false ++ drop n marks) × AreEnded n code × ListsPlaces (from + n) (drop n code) (drop n marks) places
 lists_skip from code marks [] n f (more, e, h) =
     let k : n ≡ length code = omega arith in
     let t : marks ≡ replicate n false ++ more = e ∙ ap (λ j. replicate j false ++ more) (sym k) in
@@ -75,7 +75,7 @@ lists_skip from code marks [] n f (more, e, h) =
     let c : drop n code ≡ [] = drop_of_length-le code (let z : length code ≤ n = omega arith in z) in (
       t ∙ ap (λ x. replicate n false ++ x) (sym d),
       subst (λ j. AreEnded j code) (sym k) h,
-      subst (λ x. Lists (from + n) x (drop n marks) []) (sym c) (drop n marks, refl, tt),
+      subst (λ x. ListsPlaces (from + n) x (drop n marks) []) (sym c) (drop n marks, refl, tt),
     )
 lists_skip from code marks (place ∷ places) n f (unset, mark, later, p, l, e, h, r) =
     let k : n ≡ unset = omega arith in
@@ -85,7 +85,7 @@ lists_skip from code marks (place ∷ places) n f (unset, mark, later, p, l, e, 
     let b = length-drop n code in (
       t ∙ ap (λ x. replicate n false ++ x) (sym d),
       subst (λ j. AreEnded j code) (sym k) h,
-      (0, mark, later, (let z : place ≡ from + n + 0 = omega arith in z), (let z : 0 < length (drop n code) = omega arith in z), d, tt, subst (λ x. Lists (place + 1) x later places) (sym c) r),
+      (0, mark, later, (let z : place ≡ from + n + 0 = omega arith in z), (let z : 0 < length (drop n code) = omega arith in z), d, tt, subst (λ x. ListsPlaces (place + 1) x later places) (sym c) r),
     )
 
 -- so do fewer of these
@@ -98,8 +98,8 @@ ended_behind (suc n) m [] h = none m
     none (suc k) = tt
 ended_behind (suc n) m (i ∷ code) h = ended_behind n m code (subst (λ k. AreEnded k (i ∷ code)) (suc-add n m) h).1
 
-pub lists_part : (from : ℕ) (code : List Instruction) (marks : List Bool) (places : List ℕ) (n : ℕ) → from + n ≤ first_of places (from + length code) → Lists from code marks places
-    → (marks ≡ replicate n false ++ drop n marks) × Lists (from + n) (drop n code) (drop n marks) places
+pub lists_part : (from : ℕ) (code : List Instruction) (marks : List Bool) (places : List ℕ) (n : ℕ) → from + n ≤ first_place_or places (from + length code) → ListsPlaces from code marks places
+    → (marks ≡ replicate n false ++ drop n marks) × ListsPlaces (from + n) (drop n code) (drop n marks) places
 lists_part from code marks [] n f (more, e, h) =
     let r = length code - n in
     let k : length code ≡ n + r = omega arith in
@@ -127,7 +127,7 @@ lists_part from code marks (place ∷ places) n f (unset, mark, later, p, l, e, 
         (let z : r < length (drop n code) = omega arith in z),
         d,
         ended_behind n r code (subst (λ j. AreEnded j code) k h),
-        subst (λ x. Lists (place + 1) x later places) (sym c) q,
+        subst (λ x. ListsPlaces (place + 1) x later places) (sym c) q,
       ),
     )
 
@@ -138,29 +138,29 @@ past_first from place places e = ap (λ b. if b then places else place ∷ place
 past_other : (from place : ℕ) (places : List ℕ) → place ≢ from → past from (place ∷ places) ≡ place ∷ places
 past_other from place places n = ap (λ b. if b then places else place ∷ places) (ne_eqb place from n)
 
-pub lists_past : (from : ℕ) (i : Instruction) (code : List Instruction) (mark : Bool) (marks : List Bool) (places : List ℕ) → Lists from (i ∷ code) (mark ∷ marks) places
-    → Lists (from + 1) code marks (past from places)
+pub lists_past : (from : ℕ) (i : Instruction) (code : List Instruction) (mark : Bool) (marks : List Bool) (places : List ℕ) → ListsPlaces from (i ∷ code) (mark ∷ marks) places
+    → ListsPlaces (from + 1) code marks (past from places)
 lists_past from i code mark marks [] (more, e, h) = (more, ap (λ x. drop 1 x) e, h.1)
 lists_past from i code mark marks (place ∷ places) (zero, first, later, p, l, e, h, r) =
     let q : place ≡ from = omega arith in
     let t : marks ≡ later = ap (λ x. drop 1 x) e in
-    subst (λ x. Lists (from + 1) code marks x) (sym (past_first from place places q))
-    (subst (λ x. Lists (from + 1) code x places) (sym t) (subst (λ k. Lists (k + 1) code later places) q r))
+    subst (λ x. ListsPlaces (from + 1) code marks x) (sym (past_first from place places q))
+    (subst (λ x. ListsPlaces (from + 1) code x places) (sym t) (subst (λ k. ListsPlaces (k + 1) code later places) q r))
 lists_past from i code mark marks (place ∷ places) (suc unset, first, later, p, l, e, h, r) =
     let q : place ≢ from = λ y. omega arith in
-    subst (λ x. Lists (from + 1) code marks x) (sym (past_other from place places q))
+    subst (λ x. ListsPlaces (from + 1) code marks x) (sym (past_other from place places q))
     (unset, first, later, (let z : place ≡ from + 1 + unset = omega arith in z), (let z : unset < length code = omega arith in z), ap (λ x. drop 1 x) e, h.1, r)
 
 -- a group none of whose marks is listed need not be listed
-pub lists_forget : (from : ℕ) (i : Instruction) (code : List Instruction) (marks : List Bool) (place : ℕ) (places : List ℕ) → Lists from (i ∷ code) (false ∷ marks) (place ∷ places)
-    → place ≡ from → (n : ℕ) → from + 1 + n ≡ first_of places (from + 1 + length code) → IsEnded i n → Lists from (i ∷ code) (false ∷ marks) places
+pub lists_forget : (from : ℕ) (i : Instruction) (code : List Instruction) (marks : List Bool) (place : ℕ) (places : List ℕ) → ListsPlaces from (i ∷ code) (false ∷ marks) (place ∷ places)
+    → place ≡ from → (n : ℕ) → from + 1 + n ≡ first_place_or places (from + 1 + length code) → IsGroupEnded i n → ListsPlaces from (i ∷ code) (false ∷ marks) places
 lists_forget from i code marks place places (zero, first, later, p, l, e, h, r) q n f g =
-    forget places f (subst (λ x. Lists (from + 1) code x places) (sym t) (subst (λ k. Lists (k + 1) code later places) q r))
+    forget places f (subst (λ x. ListsPlaces (from + 1) code x places) (sym t) (subst (λ k. ListsPlaces (k + 1) code later places) q r))
   where
     t : marks ≡ later
     t = ap (λ x. drop 1 x) e
 
-    forget : (ps : List ℕ) → from + 1 + n ≡ first_of ps (from + 1 + length code) → Lists (from + 1) code marks ps → Lists from (i ∷ code) (false ∷ marks) ps
+    forget : (ps : List ℕ) → from + 1 + n ≡ first_place_or ps (from + 1 + length code) → ListsPlaces (from + 1) code marks ps → ListsPlaces from (i ∷ code) (false ∷ marks) ps
     forget [] f2 (more, e2, h2) = (more, ap (λ x. false ∷ x) e2, (ended_more i n (length code) (omega arith) g, h2))
     forget (p2 ∷ ps) f2 (unset, mark2, later2, q2, l2, e2, h2, r2) = (
       suc unset,
@@ -175,8 +175,8 @@ lists_forget from i code marks place places (zero, first, later, p, l, e, h, r) 
 lists_forget from i code marks place places (suc unset, first, later, p, l, e, h, r) q n f g = absurd (omega arith)
 
 -- more instructions, none of which is marked
-pub lists_none : (from : ℕ) (code more : List Instruction) (marks : List Bool) (places : List ℕ) → length marks ≡ length code → AreEnded (length more) more → Lists from code marks places
-    → Lists from (code ++ more) (marks ++ replicate (length more) false) places
+pub lists_none : (from : ℕ) (code more : List Instruction) (marks : List Bool) (places : List ℕ) → length marks ≡ length code → AreEnded (length more) more → ListsPlaces from code marks places
+    → ListsPlaces from (code ++ more) (marks ++ replicate (length more) false) places
 lists_none from code more marks [] n a (rest, e, h) = (
   [],
   ap (λ x. x ++ replicate (length more) false) full ∙ replicate-append-replicate (length code) (length more) false
@@ -202,7 +202,7 @@ lists_none from code more marks (place ∷ places) n a (unset, mark, later, p, l
   (let z = length-append code more in omega arith),
   ap (λ x. x ++ replicate (length more) false) e ∙ append_assoc (replicate unset false) (mark ∷ later) (replicate (length more) false),
   ended_front unset code more (omega arith) h,
-  subst (λ x. Lists (place + 1) x (later ++ replicate (length more) false) places) (sym (drop-append-le (suc unset) code more (omega arith)))
+  subst (λ x. ListsPlaces (place + 1) x (later ++ replicate (length more) false) places) (sym (drop-append-le (suc unset) code more (omega arith)))
       (lists_none (place + 1) (drop (suc unset) code) more later places long a r),
 )
   where
@@ -215,8 +215,8 @@ lists_none from code more marks (place ∷ places) n a (unset, mark, later, p, l
         omega arith
 
 -- one instruction more, which is listed
-pub lists_one : (from : ℕ) (code : List Instruction) (i : Instruction) (marks : List Bool) (mark : Bool) (places : List ℕ) → length marks ≡ length code → Lists from code marks places
-    → Lists from (code ++ i ∷ []) (marks ++ mark ∷ []) (places ++ (from + length code) ∷ [])
+pub lists_one : (from : ℕ) (code : List Instruction) (i : Instruction) (marks : List Bool) (mark : Bool) (places : List ℕ) → length marks ≡ length code → ListsPlaces from code marks places
+    → ListsPlaces from (code ++ i ∷ []) (marks ++ mark ∷ []) (places ++ (from + length code) ∷ [])
 lists_one from code i marks mark [] n (rest, e, h) = (
   length code,
   mark,
@@ -225,7 +225,7 @@ lists_one from code i marks mark [] n (rest, e, h) = (
   (let z = length-append code (i ∷ []) in omega arith),
   ap (λ x. x ++ mark ∷ []) full,
   ended_front (length code) code (i ∷ []) (omega arith) h,
-  subst (λ x. Lists (from + length code + 1) x [] []) (sym d) ([], refl, tt),
+  subst (λ x. ListsPlaces (from + length code + 1) x [] []) (sym d) ([], refl, tt),
 )
   where
     none : (r : List Bool) → length r ≡ 0 → r ≡ []
@@ -249,8 +249,8 @@ lists_one from code i marks mark (place ∷ places) n (unset, first, later, p, l
   (let z = length-append code (i ∷ []) in omega arith),
   ap (λ x. x ++ mark ∷ []) e ∙ append_assoc (replicate unset false) (first ∷ later) (mark ∷ []),
   ended_front unset code (i ∷ []) (omega arith) h,
-  subst (λ x. Lists (place + 1) x (later ++ mark ∷ []) (places ++ (from + length code) ∷ [])) (sym (drop-append-le (suc unset) code (i ∷ []) (omega arith)))
-      (subst (λ k. Lists (place + 1) (drop (suc unset) code ++ i ∷ []) (later ++ mark ∷ []) (places ++ k ∷ [])) same
+  subst (λ x. ListsPlaces (place + 1) x (later ++ mark ∷ []) (places ++ (from + length code) ∷ [])) (sym (drop-append-le (suc unset) code (i ∷ []) (omega arith)))
+      (subst (λ k. ListsPlaces (place + 1) (drop (suc unset) code ++ i ∷ []) (later ++ mark ∷ []) (places ++ k ∷ [])) same
       (lists_one (place + 1) (drop (suc unset) code) i later mark places long r)),
 )
   where

@@ -6,10 +6,10 @@ use Rattle.pattern_match.specs.Valid.{IsExpression, IsBranch}
 use Rattle.pattern_match.specs.Positions.{positions}
 use Rattle.pattern_match.specs.Language.{IsBoth, Lang, IsQuantified, Repeats}
 use Rattle.pattern_match.specs.Reading.{IsTreeOf, HasPositionsWithin, Matches, IsDecided}
-use Rattle.pattern_match.specs.inner.Plan.{Plan, Nothing, One, Many, Either, size, Flagged, IsTaken, PlanLang, Begins, Ends, Marked, IsOneBranch, IsPlan}
+use Rattle.pattern_match.specs.inner.Plan.{Plan, Nothing, One, Many, Either, size, Flagged, IsTakenAt, PlanLang, BeginsPart, Ends, Marked, IsOneBranch, IsPlan}
 use Rattle.pattern_match.specs.Marking.{first_pass, second_pass}
 use Rattle.pattern_match.specs.Token.{admits}
-use Rattle.pattern_match.specs.Building.{limit}
+use Rattle.pattern_match.specs.Building.{position_limit}
 use Rattle.pattern_match.specs.Compiled.{tokens_of_text, code_of_text, IsCompiled, first_marks, next_marks, marks_from, follows, IsMarked}
 use Rattle.pattern_match.specs.declared.instruction.Instruction.{Instruction}
 use Rattle.pattern_match.specs.declared.instruction.Frame.{Frame}
@@ -133,8 +133,8 @@ hit_none a (One k o r rest) A more = (
   false,
   falses (size rest) more,
   refl,
-  false_not (Ends (Begins r A (IsTaken (λ at c. IsTrue (a at c)) k)) (IsTaken (λ at c. IsTrue (a at c)) k) []) (empty_ends (Begins r A (IsTaken (λ at c. IsTrue (a at c)) k)) (IsTaken (λ at c. IsTrue (a at c)) k)),
-  hit_none a rest (IsBoth A (Flagged o r (IsTaken (λ at c. IsTrue (a at c)) k))) more,
+  false_not (Ends (BeginsPart r A (IsTakenAt (λ at c. IsTrue (a at c)) k)) (IsTakenAt (λ at c. IsTrue (a at c)) k) []) (empty_ends (BeginsPart r A (IsTakenAt (λ at c. IsTrue (a at c)) k)) (IsTakenAt (λ at c. IsTrue (a at c)) k)),
+  hit_none a rest (IsBoth A (Flagged o r (IsTakenAt (λ at c. IsTrue (a at c)) k))) more,
 )
 hit_none a (Many inner o r rest) A more = (
   false,
@@ -142,8 +142,8 @@ hit_none a (Many inner o r rest) A more = (
   false,
   falses (size rest) more,
   ap (λ x. false ∷ x) (falses_add (size inner) (suc (size rest)) more),
-  hit_none a inner (Begins r A (PlanLang (λ at c. IsTrue (a at c)) inner)) (false ∷ falses (size rest) more),
-  (λ e. absurd (empty_ends (Begins r A (PlanLang (λ at c. IsTrue (a at c)) inner)) (PlanLang (λ at c. IsTrue (a at c)) inner) e)),
+  hit_none a inner (BeginsPart r A (PlanLang (λ at c. IsTrue (a at c)) inner)) (false ∷ falses (size rest) more),
+  (λ e. absurd (empty_ends (BeginsPart r A (PlanLang (λ at c. IsTrue (a at c)) inner)) (PlanLang (λ at c. IsTrue (a at c)) inner) e)),
   (λ t. absurd (cc)),
   hit_none a rest (IsBoth A (Flagged o r (PlanLang (λ at c. IsTrue (a at c)) inner))) more,
 )
@@ -158,11 +158,11 @@ get-behind_marks T Nothing A w marks more k h = ap (λ ms. get_or ms (0 + k) fal
 get-behind_marks T (One at o r rest) A w marks more k (mark, later, e, i, h) =
     ap (λ ms. get_or ms (suc (size rest) + k) false) e
     ∙ ap (λ n. get_or (mark ∷ later) n false) (suc-add (size rest) k)
-    ∙ get-behind_marks T rest (IsBoth A (Flagged o r (IsTaken T at))) w later more k h
+    ∙ get-behind_marks T rest (IsBoth A (Flagged o r (IsTakenAt T at))) w later more k h
 get-behind_marks T (Many inner o r rest) A w marks more k (mark, within, end, later, e, hi, h) =
     ap (λ ms. get_or ms (suc (size inner + suc (size rest)) + k) false) e
     ∙ ap (λ n. get_or (mark ∷ within) n false) (let z : suc (size inner + suc (size rest)) + k ≡ suc (size inner + suc (size rest + k)) = omega arith in z)
-    ∙ get-behind_marks T inner (Begins r A (PlanLang T inner)) w within (end ∷ later) (suc (size rest + k)) hi
+    ∙ get-behind_marks T inner (BeginsPart r A (PlanLang T inner)) w within (end ∷ later) (suc (size rest + k)) hi
     ∙ get-behind_marks T rest (IsBoth A (Flagged o r (PlanLang T inner))) w later more k h
 get-behind_marks T (Either branch rest) A w marks more k (mark, later, hb, h) =
     ap (λ n. get_or marks n false) (let z : size branch + suc (size rest) + k ≡ size branch + suc (size rest + k) = omega arith in z)
@@ -214,10 +214,10 @@ holds_from tokens p v b (c ∷ w) u marks h =
     (holds_from tokens p v b w (u ++ c ∷ []) (next_marks tokens (code p) c marks) (holds_next tokens p v b u marks c h))
 
 -- the plan of a whole pattern has the pattern's words
-whole_lang : (t : Expression) → IsExpression t → positions t ≤ limit → (w : List ℕ) → PlanLang (Takes (tokens_then t [])) (whole t) w ↔ Lang t w
+whole_lang : (t : Expression) → IsExpression t → positions t ≤ position_limit → (w : List ℕ) → PlanLang (Takes (tokens_then t [])) (whole t) w ↔ Lang t w
 whole_lang t v l w =
     iff_both
-    (piece_holds (Takes (tokens_then t [])) (group (plan t 0) (gap t)) (Lang t) (positions t) Once Nothing tt (let z : positions t * 1 ≤ limit = omega arith in z) (λ z. no_positions t v z)
+    (piece_holds (Takes (tokens_then t [])) (group (plan t 0) (gap t)) (Lang t) (positions t) Once Nothing tt (let z : positions t * 1 ≤ position_limit = omega arith in z) (λ z. no_positions t v z)
     (λ z o r rest u. group_part o r rest u) w)
     once_lang
   where
@@ -239,7 +239,7 @@ whole_lang t v l w =
             subst (Lang t) (sym (e1 ∙ e2)) r1.3
 
 -- the last mark tells whether the word is one of the tree
-for_tree : (text : List ℕ) (t : Expression) (w : List ℕ) (marks : List Bool) (n : ℕ) → IsTreeOf text t → HasPositionsWithin text limit
+for_tree : (text : List ℕ) (t : Expression) (w : List ℕ) (marks : List Bool) (n : ℕ) → IsTreeOf text t → HasPositionsWithin text position_limit
     → marks ≡ marks_from (tokens_of_text text) (code_of_text text) (first_marks (code_of_text text)) w → n ≡ length (code_of_text text)
     → IsTrue (get_or marks n false) ↔ Lang t w
 for_tree text t w marks n h p m l =
@@ -270,7 +270,7 @@ accepts_is bytes tokens c marks w i h = (
 )
 
 -- so a word is one of the pattern, or it is none
-pub decided : (bytes : List ℕ) (w : List ℕ) → HasPositionsWithin (chars bytes) limit → IsDecided (chars bytes) w
+pub decided : (bytes : List ℕ) (w : List ℕ) → HasPositionsWithin (chars bytes) position_limit → IsDecided (chars bytes) w
 decided bytes w within = choose (get_or marks (length (code_of_text (chars bytes))) false) refl
   where
     marks : List Bool

@@ -3,7 +3,7 @@ use Rattle.std.proofs.Common.{◌≡◌, ℕ, ◌≤◌, ◌⊎◌, inl, inr, Bo
 use Rattle.std.proofs.lemmas.Bool.{eqb-false}
 use Rattle.std.proofs.lemmas.Bool.Decides.{nat_tests}
 use Rattle.std.specs.List.{AllByRecursion}
-use Rattle.pattern_match.specs.Expression.{Single, Plain, Escaped, Item, One, Range, Spaces, Hyphen, Atom, Character, Dot, Escape, Space, Class, Quantifier, Once, Optional, AnyNumber, OneOrMore, Exactly, AtLeast, Between, Expression, Empty, Piece, Group, Choice}
+use Rattle.pattern_match.specs.Expression.{Single, Plain, Escaped, ClassMember, One, Range, Spaces, Hyphen, Atom, Character, Dot, Escape, Space, Class, Quantifier, Once, Optional, AnyNumber, OneOrMore, Exactly, AtLeast, Between, Expression, Empty, Piece, Group, Choice}
 use Rattle.pattern_match.specs.Spelling.{single_spelling, items_spelling, negation_spelling, atom_spelling, quantifier_spelling, spelling}
 use Rattle.pattern_match.specs.Valid.{is_among, IsSingle, AreLaterItems, AreItems, IsOrdinary, IsEscapeLetter, IsAtom, IsDigit, IsQuantifier, IsBranch, IsExpression}
 use Rattle.pattern_match.specs.Reading.{IsTreeOf}
@@ -50,17 +50,17 @@ single_not_space (Plain c) x y v e = plain_not c 92 v.1 refl (heads c 92 x (115 
 single_not_space (Escaped c) x y v e = letter_not c 115 v refl (heads c 115 x y (tails 92 92 (c ∷ x) (115 ∷ y) e))
 
 -- what a range is spelled as, before more
-range_split : (a b : Single) (items : List Item) (x : List ℕ)
+range_split : (a b : Single) (items : List ClassMember) (x : List ℕ)
     → items_spelling (Range a b ∷ items) ++ x ≡ single_spelling a ++ 45 ∷ (single_spelling b ++ (items_spelling items ++ x))
 range_split a b items x =
     append_assoc (single_spelling a ++ 45 ∷ single_spelling b) (items_spelling items) x
     ∙ append_assoc (single_spelling a) (45 ∷ single_spelling b) (items_spelling items ++ x)
 
-one_split : (s : Single) (items : List Item) (x : List ℕ) → items_spelling (One s ∷ items) ++ x ≡ single_spelling s ++ (items_spelling items ++ x)
+one_split : (s : Single) (items : List ClassMember) (x : List ℕ) → items_spelling (One s ∷ items) ++ x ≡ single_spelling s ++ (items_spelling items ++ x)
 one_split s items x = append_assoc (single_spelling s) (items_spelling items) x
 
 -- items after others that begin with a hyphen are one
-hyphen_rest : (items : List Item) (x z : List ℕ) → AreLaterItems items → items_spelling items ++ 93 ∷ x ≡ 45 ∷ z → (items ≡ Hyphen ∷ []) × (z ≡ 93 ∷ x)
+hyphen_rest : (items : List ClassMember) (x z : List ℕ) → AreLaterItems items → items_spelling items ++ 93 ∷ x ≡ 45 ∷ z → (items ≡ Hyphen ∷ []) × (z ≡ 93 ∷ x)
 hyphen_rest [] x z v e = absurd (clash 93 45 _ _ refl e)
 hyphen_rest (One s ∷ items) x z v e = absurd (single_not s 45 (items_spelling items ++ 93 ∷ x) z v.0 refl (sym (one_split s items (93 ∷ x)) ∙ e))
 hyphen_rest (Range a b ∷ items) x z v e =
@@ -72,7 +72,7 @@ hyphen_rest (Hyphen ∷ items) x z v e = (ap (λ k. Hyphen ∷ k) v, sym (tails 
 single_not_end : (s : Single) (x y : List ℕ) → IsSingle s → single_spelling s ++ x ≡ 93 ∷ y → ⊥
 single_not_end s x y v e = single_not s 93 x y v refl e
 
-items_one : (i j : List Item) (x y : List ℕ) → AreLaterItems i → AreLaterItems j → items_spelling i ++ 93 ∷ x ≡ items_spelling j ++ 93 ∷ y → Same (List Item) i j x y
+items_one : (i j : List ClassMember) (x y : List ℕ) → AreLaterItems i → AreLaterItems j → items_spelling i ++ 93 ∷ x ≡ items_spelling j ++ 93 ∷ y → Same (List ClassMember) i j x y
 items_one [] [] x y v w e = (refl, tails 93 93 x y e)
 items_one [] (One t ∷ j) x y v w e = absurd (single_not_end t (items_spelling j ++ 93 ∷ y) x w.0 (sym (e ∙ one_split t j (93 ∷ y))))
 items_one [] (Range a b ∷ j) x y v w e = absurd (single_not_end a (45 ∷ (single_spelling b ++ (items_spelling j ++ 93 ∷ y))) x w.0.0 (sym (e ∙ range_split a b j (93 ∷ y))))
@@ -122,23 +122,23 @@ items_one (Hyphen ∷ i) (Hyphen ∷ j) x y v w e = (
 )
 
 -- the items of a class are those after others, or a hyphen and such
-first_items : (n : Bool) (i : List Item) → AreItems n i → AreLaterItems i ⊎ ((k : List Item) × (i ≡ Hyphen ∷ k) × AreLaterItems k)
+first_items : (n : Bool) (i : List ClassMember) → AreItems n i → AreLaterItems i ⊎ ((k : List ClassMember) × (i ≡ Hyphen ∷ k) × AreLaterItems k)
 first_items n [] v = absurd v
 first_items n (Hyphen ∷ i) v = inr (i, refl, v)
 first_items n (One s ∷ i) v = inl (v.0, v.2)
 first_items n (Range a b ∷ i) v = inl (v.0, v.2)
 first_items n (Spaces ∷ i) v = inl (tt, v.2)
 
-mixed : (i k : List Item) (x y : List ℕ) → AreLaterItems i → AreLaterItems k → items_spelling i ++ 93 ∷ x ≡ items_spelling (Hyphen ∷ k) ++ 93 ∷ y → Same (List Item) i (Hyphen ∷ k) x y
+mixed : (i k : List ClassMember) (x y : List ℕ) → AreLaterItems i → AreLaterItems k → items_spelling i ++ 93 ∷ x ≡ items_spelling (Hyphen ∷ k) ++ 93 ∷ y → Same (List ClassMember) i (Hyphen ∷ k) x y
 mixed i k x y v w e =
     let h = hyphen_rest i x (items_spelling k ++ 93 ∷ y) v e in
     let g = items_one k [] y x w tt h.1 in
     (h.0 ∙ ap (λ z. Hyphen ∷ z) (sym g.0), sym g.1)
 
-all_items : (n m : Bool) (i j : List Item) (x y : List ℕ) → AreItems n i → AreItems m j → items_spelling i ++ 93 ∷ x ≡ items_spelling j ++ 93 ∷ y → Same (List Item) i j x y
+all_items : (n m : Bool) (i j : List ClassMember) (x y : List ℕ) → AreItems n i → AreItems m j → items_spelling i ++ 93 ∷ x ≡ items_spelling j ++ 93 ∷ y → Same (List ClassMember) i j x y
 all_items n m i j x y v w e = choose (first_items n i v) (first_items m j w)
   where
-    choose : AreLaterItems i ⊎ ((k : List Item) × (i ≡ Hyphen ∷ k) × AreLaterItems k) → AreLaterItems j ⊎ ((k : List Item) × (j ≡ Hyphen ∷ k) × AreLaterItems k) → Same (List Item) i j x y
+    choose : AreLaterItems i ⊎ ((k : List ClassMember) × (i ≡ Hyphen ∷ k) × AreLaterItems k) → AreLaterItems j ⊎ ((k : List ClassMember) × (j ≡ Hyphen ∷ k) × AreLaterItems k) → Same (List ClassMember) i j x y
     choose (inl a) (inl b) = items_one i j x y a b e
     choose (inl a) (inr (k, p, b)) =
         let g = mixed i k x y a b (e ∙ ap (λ z. items_spelling z ++ 93 ∷ y) p) in (g.0 ∙ sym p, g.1)
@@ -149,7 +149,7 @@ all_items n m i j x y v w e = choose (first_items n i v) (first_items m j w)
         let g = items_one k l x y a b (tails 45 45 (items_spelling k ++ 93 ∷ x) (items_spelling l ++ 93 ∷ y) f) in
         (p ∙ ap (λ z. Hyphen ∷ z) g.0 ∙ sym q, g.1)
 
-caret_not : (j : List Item) (z y : List ℕ) → AreItems false j → items_spelling j ++ z ≡ 94 ∷ y → ⊥
+caret_not : (j : List ClassMember) (z y : List ℕ) → AreItems false j → items_spelling j ++ z ≡ 94 ∷ y → ⊥
 caret_not [] z y v e = v
 caret_not (Hyphen ∷ j) z y v e = clash 45 94 _ _ refl e
 caret_not (Spaces ∷ j) z y v e = clash 92 94 _ _ refl e
@@ -159,11 +159,11 @@ caret_not (One (Plain c) ∷ j) z y v e = let h = heads c 94 (items_spelling j +
 caret_not (Range (Plain c) b ∷ j) z y v e =
     let h = heads c 94 ((45 ∷ single_spelling b ++ items_spelling j) ++ z) y e in let k : c == 94 ≡ true = eq-eqb c 94 h in let f : c == 94 ≡ false = v.1 refl in true≢false (sym k ∙ f)
 
-class_split : (n : Bool) (i : List Item) (x : List ℕ) → atom_spelling (Class n i) ++ x ≡ 91 ∷ (negation_spelling n ++ (items_spelling i ++ 93 ∷ x))
+class_split : (n : Bool) (i : List ClassMember) (x : List ℕ) → atom_spelling (Class n i) ++ x ≡ 91 ∷ (negation_spelling n ++ (items_spelling i ++ 93 ∷ x))
 class_split n i x =
     ap (λ z. 91 ∷ z) (append_assoc (negation_spelling n) (items_spelling i ++ 93 ∷ []) x ∙ ap (λ z. negation_spelling n ++ z) (append_assoc (items_spelling i) (93 ∷ []) x))
 
-class_one : (n m : Bool) (i j : List Item) (x y : List ℕ) → AreItems n i → AreItems m j
+class_one : (n m : Bool) (i j : List ClassMember) (x y : List ℕ) → AreItems n i → AreItems m j
     → negation_spelling n ++ (items_spelling i ++ 93 ∷ x) ≡ negation_spelling m ++ (items_spelling j ++ 93 ∷ y) → Same Atom (Class n i) (Class m j) x y
 class_one true true i j x y v w e =
     let g = all_items true true i j x y v w (tails 94 94 (items_spelling i ++ 93 ∷ x) (items_spelling j ++ 93 ∷ y) e) in (ap (λ k. Class true k) g.0, g.1)

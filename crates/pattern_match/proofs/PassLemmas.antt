@@ -1,7 +1,7 @@
 -- What the two passes over the instructions of a plan leave, by induction on the plan.
 use Rattle.std.proofs.Common.{◌≡◌, ℕ, suc, ◌+◌, ◌⊎◌, ◌↔◌, inl, inr, Bool, true, false, ◌||◌, ◌&&◌, IsTrue, List, [], ◌∷◌, ◌++◌, refl, sym, ap, ◌∙◌, subst, ⊎_elim, get_or, arith, zero-add, add-zero, suc-add, append-nil, append_assoc}
 use Rattle.pattern_match.specs.Language.{IsBoth}
-use Rattle.pattern_match.specs.inner.Plan.{Plan, Nothing, One, Many, Either, size, code_then, Flagged, IsTaken, PlanLang, Begins, Ends, Marked, IsOneBranch, IsPlan}
+use Rattle.pattern_match.specs.inner.Plan.{Plan, Nothing, One, Many, Either, size, code_then, Flagged, IsTakenAt, PlanLang, BeginsPart, Ends, Marked, IsOneBranch, IsPlan}
 use Rattle.pattern_match.specs.Marking.{frame, with_group, first_pass, second_pass}
 use Rattle.pattern_match.specs.declared.instruction.Instruction.{Instruction}
 use Rattle.pattern_match.specs.declared.instruction.Instruction.TheVariants.{Bar, Close}
@@ -29,16 +29,16 @@ true_and false b h k = absurd (cc)
 
 -- one part that may be left out or repeated, and then the rest
 pub item_out : (o r : Bool) (A P : List ℕ → Type 0) (w : List ℕ) (out now : Bool)
-    → (IsTrue out ↔ (IsTrue (o && now) ⊎ (Ends (Begins r A P) P w ⊎ (IsTrue now × P []))))
+    → (IsTrue out ↔ (IsTrue (o && now) ⊎ (Ends (BeginsPart r A P) P w ⊎ (IsTrue now × P []))))
     → (IsTrue out ↔ (Ends A (Flagged o r P) w ⊎ (IsTrue now × Flagged o r P [])))
 item_out o r A P w out now h = (λ t. forth (h.0 t), λ t. h.1 (back t))
   where
-    forth : IsTrue (o && now) ⊎ (Ends (Begins r A P) P w ⊎ (IsTrue now × P [])) → Ends A (Flagged o r P) w ⊎ (IsTrue now × Flagged o r P [])
+    forth : IsTrue (o && now) ⊎ (Ends (BeginsPart r A P) P w ⊎ (IsTrue now × P [])) → Ends A (Flagged o r P) w ⊎ (IsTrue now × Flagged o r P [])
     forth (inl t) = inr ((and_true o now t).1, empty_flagged o r P (inl (and_true o now t).0))
     forth (inr (inl e)) = inl (ends_flagged o r A P w e)
     forth (inr (inr (n, p))) = inr (n, empty_flagged o r P (inr p))
 
-    back : Ends A (Flagged o r P) w ⊎ (IsTrue now × Flagged o r P []) → IsTrue (o && now) ⊎ (Ends (Begins r A P) P w ⊎ (IsTrue now × P []))
+    back : Ends A (Flagged o r P) w ⊎ (IsTrue now × Flagged o r P []) → IsTrue (o && now) ⊎ (Ends (BeginsPart r A P) P w ⊎ (IsTrue now × P []))
     back (inl e) = inr (inl (flagged_ends o r A P w e))
     back (inr (n, f)) = ⊎_elim (λ t. inl (true_and o now t n)) (λ p. inr (inr (n, p))) (flagged_empty o r P f)
 
@@ -73,13 +73,13 @@ module _ (admits : ℕ → ℕ → Bool) where
   abbrev pub Hit : Plan → (List ℕ → Type 0) → List ℕ → List Bool → List Bool → Type 0
   Hit Nothing A w hits more = hits ≡ more
   Hit (One at o r rest) A w hits more =
-      (hit : Bool) × (later : List Bool) × (hits ≡ hit ∷ later) × (IsTrue hit ↔ Ends (Begins r A (IsTaken Takes at)) (IsTaken Takes at) w)
-      × Hit rest (IsBoth A (Flagged o r (IsTaken Takes at))) w later more
+      (hit : Bool) × (later : List Bool) × (hits ≡ hit ∷ later) × (IsTrue hit ↔ Ends (BeginsPart r A (IsTakenAt Takes at)) (IsTakenAt Takes at) w)
+      × Hit rest (IsBoth A (Flagged o r (IsTakenAt Takes at))) w later more
   Hit (Many inner o r rest) A w hits more =
       (mark : Bool) × (within : List Bool) × (end : Bool) × (later : List Bool) × (hits ≡ mark ∷ within)
-      × Hit inner (Begins r A (PlanLang Takes inner)) w within (end ∷ later)
-      × (Ends (Begins r A (PlanLang Takes inner)) (PlanLang Takes inner) w → IsTrue end)
-      × (IsTrue end → A w ⊎ Ends (Begins r A (PlanLang Takes inner)) (PlanLang Takes inner) w)
+      × Hit inner (BeginsPart r A (PlanLang Takes inner)) w within (end ∷ later)
+      × (Ends (BeginsPart r A (PlanLang Takes inner)) (PlanLang Takes inner) w → IsTrue end)
+      × (IsTrue end → A w ⊎ Ends (BeginsPart r A (PlanLang Takes inner)) (PlanLang Takes inner) w)
       × Hit rest (IsBoth A (Flagged o r (PlanLang Takes inner))) w later more
   Hit (Either branch rest) A w hits more =
       (mark : Bool) × (later : List Bool) × Hit branch A w hits (mark ∷ later) × Hit rest A w later more
@@ -123,7 +123,7 @@ module _ (admits : ℕ → ℕ → Bool) where
   first_nothing c A w marks more code now frames m a =
       (now, ap (λ ms. first_pass (λ at. admits at c) code ms now frames) m, (λ t. inr (t, refl), λ x. ⊎_elim (λ e. absurd (e.3 e.5)) (λ n. n.0) x))
 
-  no_empty : {at : ℕ} → IsTaken Takes at [] → ⊥
+  no_empty : {at : ℕ} → IsTakenAt Takes at [] → ⊥
   no_empty (d, e, t) = cc
 
   first_one : (c at : ℕ) (o r : Bool) (rest : Plan) → FirstBranch c rest → FirstBranch c (One at o r rest)
@@ -135,15 +135,15 @@ module _ (admits : ℕ → ℕ → Bool) where
       )
     where
       P : List ℕ → Type 0
-      P = IsTaken Takes at
+      P = IsTakenAt Takes at
 
       out : Bool
       out = (mark && admits at c) || (o && now)
 
-      hits : IsTrue (mark && admits at c) ↔ Ends (Begins r A (IsTaken Takes at)) (IsTaken Takes at) (w ++ c ∷ [])
+      hits : IsTrue (mark && admits at c) ↔ Ends (BeginsPart r A (IsTakenAt Takes at)) (IsTakenAt Takes at) (w ++ c ∷ [])
       hits = (
-        λ t. ends_taken (Begins r A (IsTaken Takes at)) (Takes at) w c (h.0 (and_true mark (admits at c) t).0) (and_true mark (admits at c) t).1,
-        λ z. let x = taken_ends (Begins r A (IsTaken Takes at)) (Takes at) w c z in true_and mark (admits at c) (h.1 x.0) x.1,
+        λ t. ends_taken (BeginsPart r A (IsTakenAt Takes at)) (Takes at) w c (h.0 (and_true mark (admits at c) t).0) (and_true mark (admits at c) t).1,
+        λ z. let x = taken_ends (BeginsPart r A (IsTakenAt Takes at)) (Takes at) w c z in true_and mark (admits at c) (h.1 x.0) x.1,
       )
 
       i : IsTrue out ↔ (Ends A (Flagged o r P) (w ++ c ∷ []) ⊎ (IsTrue now × Flagged o r P []))
@@ -165,7 +165,7 @@ module _ (admits : ℕ → ℕ → Bool) where
           out,
           first_pass (λ at. admits at c) (code_then rest code) later out frames,
           refl,
-          subst (λ ms. Hit inner (Begins r A P) (w ++ c ∷ []) (first_pass (λ at. admits at c) (code_then inner (Close ∷ code_then rest code)) within start (with_group (frame start (o && now)) frames)) ms)
+          subst (λ ms. Hit inner (BeginsPart r A P) (w ++ c ∷ []) (first_pass (λ at. admits at c) (code_then inner (Close ∷ code_then rest code)) within start (with_group (frame start (o && now)) frames)) ms)
               (first_close (λ at. admits at c) (code_then rest code) end later q.0 start q.1 frames) q.2,
           (λ z. i0.1 (inr (inl z))),
           ended,
@@ -183,13 +183,13 @@ module _ (admits : ℕ → ℕ → Bool) where
       started : IsTrue start ↔ IsTrue now
       started = (λ t. ⊎_elim (λ x. x) (λ x. absurd (cc)) (or_true now false t), λ t. true_or now false (inl t))
 
-      q : PatternAt c inner (Begins r A (PlanLang Takes inner)) w within (end ∷ later) (Close ∷ code_then rest code) start (o && now) frames
-      q = g (Begins r A P) w within (end ∷ later) (Close ∷ code_then rest code) start (o && now) frames mi (λ t. begins_first r A P (w ++ c ∷ []) (a (started.0 t)))
+      q : PatternAt c inner (BeginsPart r A (PlanLang Takes inner)) w within (end ∷ later) (Close ∷ code_then rest code) start (o && now) frames
+      q = g (BeginsPart r A P) w within (end ∷ later) (Close ∷ code_then rest code) start (o && now) frames mi (λ t. begins_first r A P (w ++ c ∷ []) (a (started.0 t)))
 
       out : Bool
       out = q.1 || q.0
 
-      i0 : IsTrue out ↔ (IsTrue (o && now) ⊎ (Ends (Begins r A P) P (w ++ c ∷ []) ⊎ (IsTrue now × P [])))
+      i0 : IsTrue out ↔ (IsTrue (o && now) ⊎ (Ends (BeginsPart r A P) P (w ++ c ∷ []) ⊎ (IsTrue now × P [])))
       i0 = (
         λ t. ⊎_elim (λ x. inl x) (λ x. inr (⊎_elim (λ y. inl y) (λ y. inr (started.0 y.0, y.1)) x)) (q.3.0 (or_true q.1 q.0 t)),
         λ x. true_or q.1 q.0 (q.3.1 (⊎_elim (λ y. inl y) (λ y. inr (⊎_elim (λ z. inl z) (λ z. inr (started.1 z.0, z.1)) y)) x)),
@@ -198,7 +198,7 @@ module _ (admits : ℕ → ℕ → Bool) where
       i : IsTrue out ↔ (Ends A (Flagged o r P) (w ++ c ∷ []) ⊎ (IsTrue now × Flagged o r P []))
       i = item_out o r A P (w ++ c ∷ []) out now i0
 
-      ended : IsTrue out → A (w ++ c ∷ []) ⊎ Ends (Begins r A P) P (w ++ c ∷ [])
+      ended : IsTrue out → A (w ++ c ∷ []) ⊎ Ends (BeginsPart r A P) P (w ++ c ∷ [])
       ended t = ⊎_elim (λ x. inl (a (and_true o now x).1)) (λ x. ⊎_elim (λ y. inr y) (λ y. inl (a y.0)) x) (i0.0 t)
 
       k : BranchAt c rest (IsBoth A (Flagged o r P)) w later more code out frames
@@ -253,11 +253,11 @@ module _ (admits : ℕ → ℕ → Bool) where
   get-behind_hits (One at o r rest) A w hits more k (hit, later, e, i, h) =
       ap (λ ms. get_or ms (suc (size rest) + k) false) e
       ∙ ap (λ n. get_or (hit ∷ later) n false) (suc-add (size rest) k)
-      ∙ get-behind_hits rest (IsBoth A (Flagged o r (IsTaken Takes at))) w later more k h
+      ∙ get-behind_hits rest (IsBoth A (Flagged o r (IsTakenAt Takes at))) w later more k h
   get-behind_hits (Many inner o r rest) A w hits more k (mark, within, end, later, e, hi, x, y, h) =
       ap (λ ms. get_or ms (suc (size inner + suc (size rest)) + k) false) e
       ∙ ap (λ n. get_or (mark ∷ within) n false) (let z : suc (size inner + suc (size rest)) + k ≡ suc (size inner + suc (size rest + k)) = omega arith in z)
-      ∙ get-behind_hits inner (Begins r A (PlanLang Takes inner)) w within (end ∷ later) (suc (size rest + k)) hi
+      ∙ get-behind_hits inner (BeginsPart r A (PlanLang Takes inner)) w within (end ∷ later) (suc (size rest + k)) hi
       ∙ get-behind_hits rest (IsBoth A (Flagged o r (PlanLang Takes inner))) w later more k h
   get-behind_hits (Either branch rest) A w hits more k (mark, later, hb, h) =
       ap (λ n. get_or hits n false) (let z : size branch + suc (size rest) + k ≡ size branch + suc (size rest + k) = omega arith in z)
@@ -320,14 +320,14 @@ module _ (admits : ℕ → ℕ → Bool) where
 
   -- whether a part may begin, from whether the first may and whether one ends
   begin_iff : (r : Bool) (A P : List ℕ → Type 0) (w : List ℕ) (now end : Bool) → (IsTrue now ↔ A w)
-      → (Ends (Begins r A P) P w → IsTrue end) → (IsTrue end → A w ⊎ Ends (Begins r A P) P w)
-      → (IsTrue (now || (r && end)) ↔ Begins r A P w)
+      → (Ends (BeginsPart r A P) P w → IsTrue end) → (IsTrue end → A w ⊎ Ends (BeginsPart r A P) P w)
+      → (IsTrue (now || (r && end)) ↔ BeginsPart r A P w)
   begin_iff r A P w now end a e d = (
     λ t. ⊎_elim (λ x. begins_first r A P w (a.0 x)) (λ x. again r (and_true r end x).0 (d (and_true r end x).1)) (or_true now (r && end) t),
     λ b. true_or now (r && end) (⊎_elim (λ x. inl (a.1 x)) (λ x. inr (true_and r end x.0 (e x.1))) (begins_cases r A P w b)),
   )
     where
-      again : (r : Bool) → IsTrue r → A w ⊎ Ends (Begins r A P) P w → Begins r A P w
+      again : (r : Bool) → IsTrue r → A w ⊎ Ends (BeginsPart r A P) P w → BeginsPart r A P w
       again true t (inl x) = begins_first true A P w x
       again true t (inr x) = begins_again A P w x
       again false t x = absurd (cc)
@@ -347,7 +347,7 @@ module _ (admits : ℕ → ℕ → Bool) where
       )
     where
       P : List ℕ → Type 0
-      P = IsTaken Takes at
+      P = IsTakenAt Takes at
 
       out : Bool
       out = hit || (o && now)
@@ -371,7 +371,7 @@ module _ (admits : ℕ → ℕ → Bool) where
           false,
           second_pass (code_then rest code) later out frames,
           refl,
-          subst (λ ms. Marked Takes inner (Begins r A P) w (second_pass (code_then inner (Close ∷ code_then rest code)) within start (with_group (frame start (o && now)) frames)) ms)
+          subst (λ ms. Marked Takes inner (BeginsPart r A P) w (second_pass (code_then inner (Close ∷ code_then rest code)) within start (with_group (frame start (o && now)) frames)) ms)
               (second_close (code_then rest code) end later q.0 start q.1 frames) q.2,
           k.1,
         ),
@@ -385,30 +385,30 @@ module _ (admits : ℕ → ℕ → Bool) where
       start = now || (r && get_or within (size inner) false)
 
       behind : get_or within (size inner) false ≡ end
-      behind = ap (λ n. get_or within n false) (sym (add-zero (size inner))) ∙ get-behind_hits inner (Begins r A P) w within (end ∷ later) 0 hi
+      behind = ap (λ n. get_or within n false) (sym (add-zero (size inner))) ∙ get-behind_hits inner (BeginsPart r A P) w within (end ∷ later) 0 hi
 
-      started : IsTrue start ↔ Begins r A P w
-      started = subst (λ z. IsTrue (now || (r && z)) ↔ Begins r A P w) (sym behind) (begin_iff r A P w now end a x y)
+      started : IsTrue start ↔ BeginsPart r A P w
+      started = subst (λ z. IsTrue (now || (r && z)) ↔ BeginsPart r A P w) (sym behind) (begin_iff r A P w now end a x y)
 
-      q : MarkedPatternAt inner (Begins r A (PlanLang Takes inner)) w within (end ∷ later) (Close ∷ code_then rest code) start (o && now) frames
-      q = g (Begins r A P) w within (end ∷ later) (Close ∷ code_then rest code) start (o && now) frames hi started
+      q : MarkedPatternAt inner (BeginsPart r A (PlanLang Takes inner)) w within (end ∷ later) (Close ∷ code_then rest code) start (o && now) frames
+      q = g (BeginsPart r A P) w within (end ∷ later) (Close ∷ code_then rest code) start (o && now) frames hi started
 
       out : Bool
       out = q.1 || q.0
 
-      i0 : IsTrue out ↔ (IsTrue (o && now) ⊎ (Ends (Begins r A P) P w ⊎ (IsTrue now × P [])))
+      i0 : IsTrue out ↔ (IsTrue (o && now) ⊎ (Ends (BeginsPart r A P) P w ⊎ (IsTrue now × P [])))
       i0 = (
-        λ t. ⊎_elim (λ z. inl z) (λ z. inr (forth (both_ends (Begins r A P) P w z))) (q.3.0 (or_true q.1 q.0 t)),
+        λ t. ⊎_elim (λ z. inl z) (λ z. inr (forth (both_ends (BeginsPart r A P) P w z))) (q.3.0 (or_true q.1 q.0 t)),
         λ z. true_or q.1 q.0 (q.3.1 (⊎_elim (λ l. inl l) (λ l. inr (back l)) z)),
       )
         where
-          forth : Ends (Begins r A P) P w ⊎ (Begins r A P w × P []) → Ends (Begins r A P) P w ⊎ (IsTrue now × P [])
+          forth : Ends (BeginsPart r A P) P w ⊎ (BeginsPart r A P w × P []) → Ends (BeginsPart r A P) P w ⊎ (IsTrue now × P [])
           forth (inl z) = inl z
           forth (inr (bg, p)) = ⊎_elim (λ z. inr (a.1 z, p)) (λ z. inl z.1) (begins_cases r A P w bg)
 
-          back : Ends (Begins r A P) P w ⊎ (IsTrue now × P []) → IsBoth (Begins r A P) P w
-          back (inl z) = ends_both (Begins r A P) P w (inl z)
-          back (inr (n, p)) = ends_both (Begins r A P) P w (inr (begins_first r A P w (a.0 n), p))
+          back : Ends (BeginsPart r A P) P w ⊎ (IsTrue now × P []) → IsBoth (BeginsPart r A P) P w
+          back (inl z) = ends_both (BeginsPart r A P) P w (inl z)
+          back (inr (n, p)) = ends_both (BeginsPart r A P) P w (inr (begins_first r A P w (a.0 n), p))
 
       i : IsTrue out ↔ (Ends A (Flagged o r P) w ⊎ (IsTrue now × Flagged o r P []))
       i = item_out o r A P w out now i0

@@ -5,7 +5,7 @@ use Rattle.pattern_match.specs.Expression.{Atom, Quantifier, Expression, Empty, 
 use Rattle.pattern_match.specs.Valid.{IsAtom, IsBranch, IsExpression}
 use Rattle.pattern_match.specs.Positions.{copies, positions}
 use Rattle.pattern_match.specs.Language.{IsBoth, IsQuantified, IsOneOf, Lang}
-use Rattle.pattern_match.specs.inner.Plan.{Plan, Nothing, One, Either, Flagged, IsTaken, PlanLang}
+use Rattle.pattern_match.specs.inner.Plan.{Plan, Nothing, One, Either, Flagged, IsTakenAt, PlanLang}
 use Rattle.pattern_match.specs.Token.{admits, first_admits}
 use Rattle.pattern_match.specs.declared.token.Token.{Token}
 use Rattle.pattern_match.specs.declared.token.Token.TheVariants.{Open as OpenToken, Close as CloseToken, Bar as BarToken}
@@ -134,7 +134,7 @@ module _ (tokens : List Token) where
   Takes at c = IsTrue (admits tokens at c)
 
   taken_one : (a : Atom) (k : ℕ) (more : List Token) → drop k tokens ≡ atom_tokens_then a more → IsAtom a → BeginsNoMember more
-      → (w : List ℕ) → IsTaken Takes k w ↔ IsOneOf a w
+      → (w : List ℕ) → IsTakenAt Takes k w ↔ IsOneOf a w
   taken_one a k more e v h w = (
     λ x. (x.0, x.1, (atom_true a x.0 more v h).0 (subst (λ ts. IsTrue (first_admits ts x.0)) e x.2)),
     λ x. (x.0, x.1, subst (λ ts. IsTrue (first_admits ts x.0)) (sym e) ((atom_true a x.0 more v h).1 x.2)),
@@ -154,7 +154,7 @@ module _ (tokens : List Token) where
   plan_lang (Piece a q r) k more v m e h w =
       iff_both
       (piece_holds Takes (One k) (IsOneOf a) 1 q (plan r (k + (atom_width a + quantifier_width q))) v.1 (omega arith) (λ z. absurd (omega arith))
-      (λ z o f rest u. flagged_both o f (IsTaken Takes k) (IsOneOf a) (PlanLang Takes rest)
+      (λ z o f rest u. flagged_both o f (IsTakenAt Takes k) (IsOneOf a) (PlanLang Takes rest)
       (λ y. taken_one a k (quantifier_tokens_then q (tokens_then r more)) e v.0 (quantifier_no_member q (tokens_then r more) (tokens_no_member r more h)) y) u) w)
       (both_second (IsQuantified (IsOneOf a) q) (PlanLang Takes (plan r (k + (atom_width a + quantifier_width q)))) (Lang r) w
       (λ u. as_branch r (k + (atom_width a + quantifier_width q)) u v.2

@@ -2,7 +2,7 @@
 use Rattle.std.proofs.Common.{◌≡◌, ◌≢◌, ℕ, zero, suc, ◌+◌, ◌-◌, ◌*◌, ◌≤◌, ◌<◌, max, ◌⊎◌, ◌↔◌, inl, inr, Bool, true, false, cond, ◌==◌, nat_lt, Option, Some, None, List, [], ◌++◌, refl, sym, ap, ◌∙◌, subst, ⊎_elim, arith, append_assoc, zero-add, eqb-true, ltb-true}
 use Rattle.std.proofs.lemmas.Bool.{eqb-false}
 use Rattle.pattern_match.specs.Expression.{Quantifier, Once, Optional, AnyNumber, OneOrMore, Exactly, AtLeast, Between, Expression, Empty, Piece, Group, Choice}
-use Rattle.pattern_match.specs.Valid.{IsExpression, IsQuantifier, number}
+use Rattle.pattern_match.specs.Valid.{IsExpression, IsQuantifier, digits_number}
 use Rattle.pattern_match.specs.Positions.{copies, positions}
 use Rattle.pattern_match.specs.Language.{Repeats, IsBoth, Allows, IsQuantified, IsOneOf, Lang}
 use Rattle.pattern_match.specs.inner.Plan.{Plan, Star, Flagged, PlanLang}
@@ -13,18 +13,18 @@ least_of Once = 1
 least_of Optional = 0
 least_of AnyNumber = 0
 least_of OneOrMore = 1
-least_of (Exactly n) = number n
-least_of (AtLeast n) = number n
-least_of (Between n m) = number n
+least_of (Exactly n) = digits_number n
+least_of (AtLeast n) = digits_number n
+least_of (Between n m) = digits_number n
 
 abbrev pub most_of : Quantifier → Option ℕ
 most_of Once = Some 1
 most_of Optional = Some 1
 most_of AnyNumber = None
 most_of OneOrMore = None
-most_of (Exactly n) = Some (number n)
+most_of (Exactly n) = Some (digits_number n)
 most_of (AtLeast n) = None
-most_of (Between n m) = Some (number m)
+most_of (Between n m) = Some (digits_number m)
 
 abbrev pub Within : ℕ → Option ℕ → ℕ → Type 0
 Within least None k = (least ≤ k) × Unit {0}

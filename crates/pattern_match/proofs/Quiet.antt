@@ -4,7 +4,7 @@ use Rattle.std.proofs.lemmas.Bool.{lt-ltb, ltb-true, ltb-false}
 use Rattle.std.proofs.lemmas.List.{replicate-append-replicate, drop-drop, drop_at}
 use Rattle.pattern_match.specs.inner.Plan.{Plan, Nothing, One, Many, Either, size, code_then}
 use Rattle.pattern_match.specs.Marking.{frame, first_pass, second_pass, second_live, second_frames}
-use Rattle.pattern_match.specs.Marks.{Walk, AreEnded, first_of, IsListed, Skips, first_rest, second_rest}
+use Rattle.pattern_match.specs.Marks.{Walk, AreEnded, first_place_or, IsListed, Skips, first_rest, second_rest}
 use Rattle.pattern_match.specs.Compiled.{IsCompiled}
 use Rattle.pattern_match.specs.declared.token.Token.{Token}
 use Rattle.pattern_match.specs.Gaps.{gap_of, gaps, IsQuiet, AreQuiet, HasGaps}
@@ -314,12 +314,12 @@ module _ (code : List Instruction) (old new : Walk) (s : Skips code old new) (q 
 
 -- a walk goes on to the next place that is listed, or to the end of the branch
 pub branch_to : (code : List Instruction) (old new : Walk) (gap : ℕ) → IsListed code old → HasGaps code → old.at < length code → gap ≡ get_or (gaps code) old.at 0
-    → new ≡ record old { at = min (first_of old.ahead (length code)) (old.at + gap) } → Skips code old new × IsQuiet (new.at - old.at) (drop old.at code)
+    → new ≡ record old { at = min (first_place_or old.ahead (length code)) (old.at + gap) } → Skips code old new × IsQuiet (new.at - old.at) (drop old.at code)
 branch_to code old new gap h g l e n =
     (skips_to code old new to h low high near ended n, subst (λ w. IsQuiet (w.at - old.at) (drop old.at code)) (sym n) (q.quiet (to - old.at) few ended))
   where
     first : ℕ
-    first = first_of old.ahead (length code)
+    first = first_place_or old.ahead (length code)
 
     to : ℕ
     to = min first (old.at + gap)

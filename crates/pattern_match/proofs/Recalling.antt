@@ -2,7 +2,7 @@
 use Rattle.std.proofs.Common.{◌≡◌, ◌≢◌, ℕ, suc, ◌+◌, ◌*◌, ◌<◌, ◌⊎◌, inl, inr, Bool, true, false, ◌==◌, Option, Some, None, List, [], ◌∷◌, ◌++◌, length, set, get_or, refl, sym, ap, ap₂, ◌∙◌, subst, arith, length-append, eqb-true}
 use Rattle.std.proofs.lemmas.Bool.{eqb-false}
 use Rattle.std.proofs.lemmas.List.{get_or-set_same, get_or-set_other, get_or_append_left}
-use Rattle.pattern_match.specs.Recall.{Known, row, cell, marks_behind, IsRightTable, IsRow, Matching, marks_at, reached}
+use Rattle.pattern_match.specs.Recall.{Known, row, cell, marks_behind, IsRightTable, IsRow, Matching, marks_at, reached_marks}
 
 -- rows that are as they were, and maybe one more
 abbrev pub Grows : Known → Known → List Bool → Type 0
@@ -72,8 +72,8 @@ pub here : (k : Known) (t : ℕ) (marks : List Bool) → t < length k.rows → r
 here k t marks l e s h = subst (λ x. (x < length k.rows) × (row k x ≡ marks)) (some_is t s h) (l, e)
 
 -- what a known cell tells
-pub recalled : (next : ℕ → List Bool → List Bool) (old : Matching) (s c t : ℕ) → IsRightTable next old.known → IsRow old.known old.at (reached old) → old.at ≡ Some s
-    → c < 128 → cell old.known s c ≡ suc t → (row old.known t ≡ next c (reached old)) × IsRow old.known (Some t) (row old.known t)
+pub recalled : (next : ℕ → List Bool → List Bool) (old : Matching) (s c t : ℕ) → IsRightTable next old.known → IsRow old.known old.at (reached_marks old) → old.at ≡ Some s
+    → c < 128 → cell old.known s c ≡ suc t → (row old.known t ≡ next c (reached_marks old)) × IsRow old.known (Some t) (row old.known t)
 recalled next old s c t h r a l i =
     let f = h s c t l i in (f.2 ∙ ap (λ x. next c x) (r s a).1, here old.known t (row old.known t) f.1 refl)
 

@@ -3,9 +3,9 @@ use Rattle.std.proofs.Common.{◌≡◌, ℕ, zero, suc, ◌+◌, ◌-◌, ◌*�
 use Rattle.std.proofs.lemmas.Bool.{cond_both}
 use Rattle.pattern_match.specs.Expression.{Plain, One}
 use Rattle.pattern_match.specs.Spelling.{spelling}
-use Rattle.pattern_match.specs.Valid.{escaped}
+use Rattle.pattern_match.specs.Valid.{escaped_letter}
 use Rattle.pattern_match.specs.Character.{outside, within, in_number, behind_backslash}
-use Rattle.pattern_match.specs.Control.{full, outside_next, atom_next, escape_next, least_next, most_next, class_first_next, class_item_next, class_single_next, class_dash_next, class_end_next, class_escape_next, range_escape_next, next, depth_after, reading, joined, step, step_from, run, may_end}
+use Rattle.pattern_match.specs.Control.{whole_weight, outside_next, atom_next, escape_next, least_next, most_next, class_first_next, class_item_next, class_single_next, class_dash_next, class_end_next, class_escape_next, range_escape_next, next_control, depth_after, reading, joined_reading, next_reading, step_from, run_reading, may_end}
 use Rattle.pattern_match.specs.declared.character.Outside.{Outside}
 use Rattle.pattern_match.specs.declared.character.Outside.TheVariants.{Ordinary, Dot as DotOutside, Backslash, OpenClass, OpenGroup, CloseGroup, Bar, Optional as OptionalOutside, AnyNumber as AnyNumberOutside, OneOrMore as OneOrMoreOutside, OpenBounds, Stray}
 use Rattle.pattern_match.specs.declared.character.Within.{Within}
@@ -23,9 +23,9 @@ use Rattle.pattern_match.proofs.CharacterLemmas.{NumberTells, number_tells}
 use Rattle.pattern_match.proofs.ControlLemmas.{room_digit}
 use Rattle.pattern_match.proofs.Leading.{Leads, then, one, IsPlainAt, outside_one, items_lead, negated_lead, start_lead, letter_after, letter_outside, least_digits, exact_close, most_close, tree_lead}
 use Rattle.pattern_match.proofs.Finding.{Accepted, none_run, found, room_full}
-use Rattle.pattern_match.specs.Control.{HasRoom}
-use Rattle.pattern_match.specs.Reading.{IsPattern, GoesOn, IsRefusedAt}
-use Rattle.pattern_match.specs.inner.Refusal.{start, refused, refused_from}
+use Rattle.pattern_match.specs.Control.{HasRoomForDigits}
+use Rattle.pattern_match.specs.Reading.{IsPattern, PatternGoesOn, IsRefusedAt}
+use Rattle.pattern_match.specs.inner.Refusal.{start, refusal_place, refused_from}
 
 -- a power of ten
 abbrev IsTen : ℕ → ℕ → Type 0
@@ -35,7 +35,7 @@ IsTen (suc j) weight = (weight ≡ 10 * (weight / 10)) × IsTen j (weight / 10)
 abbrev IsWeight : ℕ → Type 0
 IsWeight weight = (j : ℕ) × IsTen j weight
 
-full_is_weight : IsWeight full
+full_is_weight : IsWeight whole_weight
 full_is_weight = (9, (refl, (refl, (refl, (refl, (refl, (refl, (refl, (refl, (refl, refl))))))))))
 
 ten_positive : (j weight : ℕ) → IsTen j weight → 1 ≤ weight
@@ -48,7 +48,7 @@ tenth weight l (suc j, h) = ((j, h.1), h.0)
 
 -- some characters lead on to where a pattern may end
 abbrev Live : Control → Type 0
-Live (Least weight value) = IsWeight weight × HasRoom weight value
+Live (Least weight value) = IsWeight weight × HasRoomForDigits weight value
 Live (Most least weight value) = IsWeight weight × (least < (value + 1) * weight)
 Live (RangeEscape low) = low ≤ 125
 Live k = Unit {0}
@@ -71,7 +71,7 @@ outside_live OneOrMoreOutside = tt
 outside_live OpenBounds = tt
 outside_live Stray = tt
 
-full_live : Live (Least full 0)
+full_live : Live (Least whole_weight 0)
 full_live = (full_is_weight, lit≤ tt)
 
 atom_live : (m : Outside) → LiveIf (atom_next m)
@@ -93,7 +93,7 @@ escape_live SpaceBehind = tt
 escape_live Letter = tt
 escape_live StrayBehind = tt
 
-comma_live : (weight value : ℕ) → Live (Least weight value) → Live (Most value full 0)
+comma_live : (weight value : ℕ) → Live (Least weight value) → Live (Most value whole_weight 0)
 comma_live weight value (w, h) = (
   full_is_weight,
   let p = ten_positive w.0 weight w.1 in
@@ -105,8 +105,8 @@ least_live : (weight value c : ℕ) → Live (Least weight value) → (m : InNum
 least_live weight value c h (Digit digit) t =
     cond_both (nat_lt weight 10) None (Some (Least (weight / 10) (10 * value + digit))) LiveIf (λ b. tt)
     (λ b. let l = ltb-false weight 10 b in ((tenth weight l h.0).0, room_digit weight value digit (let z = t.0.1 in let u = t.1 in omega arith) l h.1))
-least_live weight value c h CloseBounds t = cond_both (nat_lt weight full) (Some Start) None LiveIf (λ b. tt) (λ b. tt)
-least_live weight value c h Comma t = cond_both (nat_lt weight full) (Some (Most value full 0)) None LiveIf (λ b. comma_live weight value h) (λ b. tt)
+least_live weight value c h CloseBounds t = cond_both (nat_lt weight whole_weight) (Some Start) None LiveIf (λ b. tt) (λ b. tt)
+least_live weight value c h Comma t = cond_both (nat_lt weight whole_weight) (Some (Most value whole_weight 0)) None LiveIf (λ b. comma_live weight value h) (λ b. tt)
 least_live weight value c h StrayInNumber t = tt
 
 most_live : (least weight value : ℕ) → Live (Most least weight value) → (m : InNumber) → LiveIf (most_next least weight value m)
@@ -115,7 +115,7 @@ most_live least weight value h (Digit digit) =
     (λ b. cond_both (nat_lt least ((10 * value + digit + 1) * (weight / 10))) (Some (Most least (weight / 10) (10 * value + digit))) None LiveIf
     (λ g. ((tenth weight (ltb-false weight 10 b) h.0).0, ltb-true least ((10 * value + digit + 1) * (weight / 10)) g)) (λ g. tt))
 most_live least weight value h CloseBounds =
-    cond_both (weight == full) (Some Start) (cond (nat_le least value) (Some Start) None) LiveIf (λ b. tt)
+    cond_both (weight == whole_weight) (Some Start) (cond (nat_le least value) (Some Start) None) LiveIf (λ b. tt)
     (λ b. cond_both (nat_le least value) (Some Start) None LiveIf (λ g. tt) (λ g. tt))
 most_live least weight value h Comma = tt
 most_live least weight value h StrayInNumber = tt
@@ -162,10 +162,10 @@ class_escape_live StrayBehind c = tt
 
 range_escape_live : (low : ℕ) (m : BehindBackslash) (c : ℕ) → LiveIf (range_escape_next low m c)
 range_escape_live low SpaceBehind c = tt
-range_escape_live low Letter c = cond_both (nat_le low (escaped c)) (Some ClassItem) None LiveIf (λ b. tt) (λ b. tt)
+range_escape_live low Letter c = cond_both (nat_le low (escaped_letter c)) (Some ClassItem) None LiveIf (λ b. tt) (λ b. tt)
 range_escape_live low StrayBehind c = tt
 
-next_live : (k : Control) (c : ℕ) → Live k → LiveIf (next k c)
+next_live : (k : Control) (c : ℕ) → Live k → LiveIf (next_control k c)
 next_live Start c h = outside_live (outside c)
 next_live InAtom c h = atom_live (outside c)
 next_live InEscape c h = escape_live (behind_backslash c)
@@ -184,16 +184,16 @@ abbrev LiveAt : Option Reading → Type 0
 LiveAt None = Unit {0}
 LiveAt (Some r) = Live r.control
 
-joined_live : (k : Option Control) (d : Option ℕ) → LiveIf k → LiveAt (joined k d)
+joined_live : (k : Option Control) (d : Option ℕ) → LiveIf k → LiveAt (joined_reading k d)
 joined_live None d h = tt
 joined_live (Some k) None h = tt
 joined_live (Some k) (Some d) h = h
 
 step_live : (o : Option Reading) (c : ℕ) → LiveAt o → LiveAt (step_from o c)
 step_live None c h = tt
-step_live (Some r) c h = joined_live (next r.control c) (depth_after r.control c r.depth) (next_live r.control c h)
+step_live (Some r) c h = joined_live (next_control r.control c) (depth_after r.control c r.depth) (next_live r.control c h)
 
-run_live : (cs : List ℕ) (o : Option Reading) → LiveAt o → LiveAt (run o cs)
+run_live : (cs : List ℕ) (o : Option Reading) → LiveAt o → LiveAt (run_reading o cs)
 run_live [] o h = h
 run_live (c ∷ cs) o h = run_live cs (step_from o c) (step_live o c h)
 
@@ -240,8 +240,8 @@ complete_most (suc j) least weight value d w l =
     let more = complete_most j least (weight / 10) (10 * value + 9) d w.1 q in (
       57 ∷ more.0,
       by_lead (one (reading (Most least weight value) d) (reading (Most least (weight / 10) (10 * value + 9)) d) 57 more.0 []
-          (ap (λ z. joined (cond z None (cond (nat_lt least ((10 * value + 9 + 1) * (weight / 10))) (Some (Most least (weight / 10) (10 * value + 9))) None)) (Some d)) b
-          ∙ ap (λ z. joined (cond z (Some (Most least (weight / 10) (10 * value + 9))) None) (Some d)) g)
+          (ap (λ z. joined_reading (cond z None (cond (nat_lt least ((10 * value + 9 + 1) * (weight / 10))) (Some (Most least (weight / 10) (10 * value + 9))) None)) (Some d)) b
+          ∙ ap (λ z. joined_reading (cond z (Some (Most least (weight / 10) (10 * value + 9))) None) (Some d)) g)
           (ap (λ z. cond z None (cond (nat_lt least ((10 * value + 9 + 1) * (weight / 10))) (Some (Most least (weight / 10) (10 * value + 9))) None)) b
           ∙ ap (λ z. cond z (Some (Most least (weight / 10) (10 * value + 9))) None) g)
           refl) more.1,
@@ -250,7 +250,7 @@ complete_most (suc j) least weight value d w l =
 complete_least : (weight value d : ℕ) → Live (Least weight value) → Completes (Least weight value) d
 complete_least weight value d h = choose (less_or_not weight 10)
   where
-    f : weight ≤ full
+    f : weight ≤ whole_weight
     f = room_full weight value h.1
 
     choose : (weight < 10) ⊎ (10 ≤ weight) → Completes (Least weight value) d
@@ -278,11 +278,11 @@ complete (RangeEscape low) d h =
     let t : nat_le low 125 ≡ true = le-leb low 125 h in
     by_atom (RangeEscape low) d (125 ∷ 93 ∷ closers d) _
     (then (one (reading (RangeEscape low) d) (reading ClassItem d) 125 (93 ∷ closers d) (Member low 125 ∷ [])
-    (ap (λ z. joined (cond z (Some ClassItem) None) (Some d)) t) (ap (λ z. cond z (Some ClassItem) None) t) refl)
+    (ap (λ z. joined_reading (cond z (Some ClassItem) None) (Some d)) t) (ap (λ z. cond z (Some ClassItem) None) t) refl)
     (items_lead [] ClassItem d (closers d) tt tt))
 complete ClassEnd d h = by_atom ClassEnd d (93 ∷ closers d) (λ x. x) (one (reading ClassEnd d) (reading InAtom d) 93 (closers d) [] refl refl refl)
 
-pub run_append : (xs ys : List ℕ) (o : Option Reading) → run o (xs ++ ys) ≡ run (run o xs) ys
+pub run_append : (xs ys : List ℕ) (o : Option Reading) → run_reading o (xs ++ ys) ≡ run_reading (run_reading o xs) ys
 run_append [] ys o = refl
 run_append (x ∷ xs) ys o = run_append xs ys (step_from o x)
 
@@ -290,49 +290,49 @@ run_append (x ∷ xs) ys o = run_append xs ys (step_from o x)
 pub accepted_pattern : (text : List ℕ) → Accepted (Some start) text → IsPattern text
 accepted_pattern text a = let f = found text Start 0 tt a in (f.0, record { valid = f.1; spelled = sym f.2 })
 
-pub pattern_run : (text : List ℕ) → IsPattern text → (k : Control) × IsPlainAt k × (run (Some start) text ≡ Some (reading k 0))
+pub pattern_run : (text : List ℕ) → IsPattern text → (k : Control) × IsPlainAt k × (run_reading (Some start) text ≡ Some (reading k 0))
 pattern_run text (t, h) =
     let l = tree_lead t Start 0 [] (inl refl) h.valid in
     let e : spelling t ++ [] ≡ text = append-nil (spelling t) ∙ h.spelled in
-    (l.0, l.1, subst (λ x. run (Some start) x ≡ Some (reading l.0 0)) e l.2.runs)
+    (l.0, l.1, subst (λ x. run_reading (Some start) x ≡ Some (reading l.0 0)) e l.2.runs)
 
 plain_end : (k : Control) → IsPlainAt k → may_end (reading k 0) ≡ true
 plain_end k (inl p) = ap (λ x. may_end (reading x 0)) p
 plain_end k (inr p) = ap (λ x. may_end (reading x 0)) p
 
 -- a front that is read goes on, and one that is not does not
-live_goes : (front : List ℕ) (r : Reading) → run (Some start) front ≡ Some r → GoesOn front
+live_goes : (front : List ℕ) (r : Reading) → run_reading (Some start) front ≡ Some r → PatternGoesOn front
 live_goes front r e =
     let l : Live r.control = subst LiveAt e (run_live front (Some start) tt) in
     let c = complete r.control r.depth l in
-    (c.0, accepted_pattern (front ++ c.0) (c.1.0, (run_append front c.0 (Some start) ∙ ap (λ o. run o c.0) e ∙ c.1.1), c.1.2))
+    (c.0, accepted_pattern (front ++ c.0) (c.1.0, (run_append front c.0 (Some start) ∙ ap (λ o. run_reading o c.0) e ∙ c.1.1), c.1.2))
 
-dead_stops : (front : List ℕ) → run (Some start) front ≡ None → GoesOn front → ⊥
+dead_stops : (front : List ℕ) → run_reading (Some start) front ≡ None → PatternGoesOn front → ⊥
 dead_stops front e (rest, p) =
     let r = pattern_run (front ++ rest) p in
-    let n : run (Some start) (front ++ rest) ≡ None = run_append front rest (Some start) ∙ ap (λ o. run o rest) e ∙ none_run rest in
+    let n : run_reading (Some start) (front ++ rest) ≡ None = run_append front rest (Some start) ∙ ap (λ o. run_reading o rest) e ∙ none_run rest in
     cc
 
 -- where the reading of what is left stops
 record Stopped (r : Reading) (cs : List ℕ) (k : ℕ) : Type 0 where
   within : k ≤ length cs
-  at_place : (r2 : Reading) × (run (Some r) (take k cs) ≡ Some r2) × (k ≡ length cs → may_end r2 ≡ false)
-  behind : k < length cs → run (Some r) (take (k + 1) cs) ≡ None
+  at_place : (r2 : Reading) × (run_reading (Some r) (take k cs) ≡ Some r2) × (k ≡ length cs → may_end r2 ≡ false)
+  behind : k < length cs → run_reading (Some r) (take (k + 1) cs) ≡ None
 
-refused_accepts : (cs : List ℕ) (r : Reading) (n : ℕ) → refused (Some r) n cs ≡ None → Accepted (Some r) cs
+refused_accepts : (cs : List ℕ) (r : Reading) (n : ℕ) → refusal_place (Some r) n cs ≡ None → Accepted (Some r) cs
 refused_accepts [] r n e = choose (may_end r) refl e
   where
     choose : (b : Bool) → may_end r ≡ b → cond b None (Some n) ≡ None → Accepted (Some r) []
     choose true m h = (r, refl, m)
     choose false m h = absurd (cc)
-refused_accepts (c ∷ cs) r n e = choose (step r c) refl e (λ r2. refused_accepts cs r2 (n + 1))
+refused_accepts (c ∷ cs) r n e = choose (next_reading r c) refl e (λ r2. refused_accepts cs r2 (n + 1))
   where
-    choose : (o : Option Reading) → step r c ≡ o → refused o (n + 1) cs ≡ None → ((r2 : Reading) → refused (Some r2) (n + 1) cs ≡ None → Accepted (Some r2) cs)
+    choose : (o : Option Reading) → next_reading r c ≡ o → refusal_place o (n + 1) cs ≡ None → ((r2 : Reading) → refusal_place (Some r2) (n + 1) cs ≡ None → Accepted (Some r2) cs)
         → Accepted (Some r) (c ∷ cs)
     choose None s h ih = absurd (cc)
-    choose (Some r2) s h ih = let a = ih r2 h in (a.0, (ap (λ o. run o cs) s ∙ a.1), a.2)
+    choose (Some r2) s h ih = let a = ih r2 h in (a.0, (ap (λ o. run_reading o cs) s ∙ a.1), a.2)
 
-refused_stops : (cs : List ℕ) (r : Reading) (n p : ℕ) → refused (Some r) n cs ≡ Some p → (k : ℕ) × (p ≡ n + k) × Stopped r cs k
+refused_stops : (cs : List ℕ) (r : Reading) (n p : ℕ) → refusal_place (Some r) n cs ≡ Some p → (k : ℕ) × (p ≡ n + k) × Stopped r cs k
 refused_stops [] r n p e = choose (may_end r) refl e
   where
     choose : (b : Bool) → may_end r ≡ b → cond b None (Some n) ≡ Some p → (k : ℕ) × (p ≡ n + k) × Stopped r [] k
@@ -340,9 +340,9 @@ refused_stops [] r n p e = choose (may_end r) refl e
     choose false m h =
         let e2 : n ≡ p = cc in
         (0, omega arith, record { within = omega arith; at_place = (r, refl, λ x. m); behind = λ x. absurd (omega arith) })
-refused_stops (c ∷ cs) r n p e = choose (step r c) refl e (λ r2. refused_stops cs r2 (n + 1) p)
+refused_stops (c ∷ cs) r n p e = choose (next_reading r c) refl e (λ r2. refused_stops cs r2 (n + 1) p)
   where
-    choose : (o : Option Reading) → step r c ≡ o → refused o (n + 1) cs ≡ Some p → ((r2 : Reading) → refused (Some r2) (n + 1) cs ≡ Some p → (k : ℕ) × (p ≡ n + 1 + k) × Stopped r2 cs k)
+    choose : (o : Option Reading) → next_reading r c ≡ o → refusal_place o (n + 1) cs ≡ Some p → ((r2 : Reading) → refusal_place (Some r2) (n + 1) cs ≡ Some p → (k : ℕ) × (p ≡ n + 1 + k) × Stopped r2 cs k)
         → (k : ℕ) × (p ≡ n + k) × Stopped r (c ∷ cs) k
     choose None s h ih =
         let e2 : n + 1 - 1 ≡ p = cc in
@@ -350,15 +350,15 @@ refused_stops (c ∷ cs) r n p e = choose (step r c) refl e (λ r2. refused_stop
     choose (Some r2) s h ih =
         let i = ih r2 h in
         let j = i.1 in
-        let q : (r3 : Reading) × (run (Some r2) (take i.0 cs) ≡ Some r3) × (i.0 ≡ length cs → may_end r3 ≡ false) = i.2.at_place in (
+        let q : (r3 : Reading) × (run_reading (Some r2) (take i.0 cs) ≡ Some r3) × (i.0 ≡ length cs → may_end r3 ≡ false) = i.2.at_place in (
           suc i.0,
           omega arith,
           record {
             within = let w = i.2.within in omega arith;
-            at_place = (q.0, (ap (λ o. run o (take i.0 cs)) s ∙ q.1), λ x. q.2 (omega arith));
+            at_place = (q.0, (ap (λ o. run_reading o (take i.0 cs)) s ∙ q.1), λ x. q.2 (omega arith));
             behind = λ x.
-                ap (λ m. run (Some r) (take m (c ∷ cs))) (let z : suc i.0 + 1 ≡ suc (i.0 + 1) = omega arith in z)
-                ∙ ap (λ o. run o (take (i.0 + 1) cs)) s ∙ i.2.behind (omega arith);
+                ap (λ m. run_reading (Some r) (take m (c ∷ cs))) (let z : suc i.0 + 1 ≡ suc (i.0 + 1) = omega arith in z)
+                ∙ ap (λ o. run_reading o (take (i.0 + 1) cs)) s ∙ i.2.behind (omega arith);
           },
         )
 
@@ -377,14 +377,14 @@ refused_at text p e =
     s : (k : ℕ) × (p ≡ 0 + k) × Stopped start text k
     s = refused_stops text start 0 p e
 
-    none : (k : Control) × IsPlainAt k × (run (Some start) text ≡ Some (reading k 0)) → ⊥
+    none : (k : Control) × IsPlainAt k × (run_reading (Some start) text ≡ Some (reading k 0)) → ⊥
     none (k, pl, r) = ⊎_elim inside whole (less_or_not s.0 (length text))
       where
         inside : s.0 < length text → ⊥
         inside l =
             let t : text ≡ take (s.0 + 1) text ++ drop (s.0 + 1) text = sym (take-append-drop (s.0 + 1) text) in
-            let n : run (Some start) text ≡ None = ap (λ x. run (Some start) x) t ∙ run_append (take (s.0 + 1) text) (drop (s.0 + 1) text) (Some start)
-            ∙ ap (λ o. run o (drop (s.0 + 1) text)) (s.2.behind l) ∙ none_run (drop (s.0 + 1) text) in
+            let n : run_reading (Some start) text ≡ None = ap (λ x. run_reading (Some start) x) t ∙ run_append (take (s.0 + 1) text) (drop (s.0 + 1) text) (Some start)
+            ∙ ap (λ o. run_reading o (drop (s.0 + 1) text)) (s.2.behind l) ∙ none_run (drop (s.0 + 1) text) in
             cc
 
         whole : length text ≤ s.0 → ⊥
@@ -393,7 +393,7 @@ refused_at text p e =
             let k2 : s.0 ≡ length text = omega arith in
             let t : take s.0 text ≡ text = take_all s.0 text l in
             let q = s.2.at_place in
-            let e2 : Some q.0 ≡ Some (reading k 0) = sym q.1 ∙ ap (λ x. run (Some start) x) t ∙ r in
+            let e2 : Some q.0 ≡ Some (reading k 0) = sym q.1 ∙ ap (λ x. run_reading (Some start) x) t ∙ r in
             let e3 : q.0 ≡ reading k 0 = cc in
             let f : may_end q.0 ≡ false = q.2 k2 in
             let g : may_end q.0 ≡ true = ap may_end e3 ∙ plain_end k pl in

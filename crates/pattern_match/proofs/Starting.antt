@@ -2,13 +2,13 @@
 use Rattle.std.proofs.Common.{◌≡◌, ℕ, zero, suc, ◌+◌, ◌-◌, ◌≤◌, ◌<◌, Bool, false, ◌||◌, if◌then◌else◌, List, [], ◌∷◌, ◌++◌, length, take, drop, set, get_or, replicate, refl, sym, ap, ap₂, ◌∙◌, subst, arith, length-drop, add-one}
 use Rattle.std.proofs.lemmas.List.{length-replicate, replicate-append-replicate, take_at, take_more_set, drop-drop}
 use Rattle.std.proofs.Math.Seq.{take-add, take-suc, drop-cons}
-use Rattle.pattern_match.specs.Marks.{Walk, Lists, AreEnded, first_of, past, is_open, IsListed, IsDone, Skips, Starts}
+use Rattle.pattern_match.specs.Marks.{Walk, ListsPlaces, AreEnded, first_place_or, past, is_open, IsListed, IsDone, Skips, Starts}
 use Rattle.pattern_match.specs.declared.instruction.Instruction.{Instruction}
 use Rattle.pattern_match.proofs.Listing.{lists_skip, lists_past}
 use Rattle.pattern_match.proofs.Walking.{begins, skip_take, puts}
 
 -- places that list marks list as many that are not set
-lists_clear : (from : ℕ) (code : List Instruction) (marks : List Bool) (places : List ℕ) (n : ℕ) → length code ≤ n → Lists from code marks places → Lists from code (replicate n false) places
+lists_clear : (from : ℕ) (code : List Instruction) (marks : List Bool) (places : List ℕ) (n : ℕ) → length code ≤ n → ListsPlaces from code marks places → ListsPlaces from code (replicate n false) places
 lists_clear from code marks [] n l (more, e, h) =
     (replicate (n - length code) false, ap (λ k. replicate k false) (let z : n ≡ length code + (n - length code) = omega arith in z) ∙ sym (replicate-append-replicate (length code) (n - length code) false), h)
 lists_clear from code marks (place ∷ places) n l (unset, mark, later, p, m, e, h, r) = (
@@ -30,11 +30,11 @@ starts_begin code first old new d h c a e = subst (λ w. Starts code first w) (s
     long = h.long;
     inside = h.inside;
     behind = h.behind;
-    ahead = subst (λ k. Lists k (drop k code) (drop k old.cells) first.behind) (sym a)
-        (subst (λ x. Lists 0 code x first.behind) (sym c) (lists_clear 0 code first.cells first.behind (length code + 1) (omega arith) g.ahead));
+    ahead = subst (λ k. ListsPlaces k (drop k code) (drop k old.cells) first.behind) (sym a)
+        (subst (λ x. ListsPlaces 0 code x first.behind) (sym c) (lists_clear 0 code first.cells first.behind (length code + 1) (omega arith) g.ahead));
   };
   long = d.listed.long;
-  ahead = subst (λ k. Lists k (drop k code) (drop k first.cells) first.behind) (sym a) g.ahead;
+  ahead = subst (λ k. ListsPlaces k (drop k code) (drop k first.cells) first.behind) (sym a) g.ahead;
   same = ap₂ (λ j k. take j old.cells) a a ∙ sym (ap (λ k. take k first.cells) a);
 })
   where
@@ -42,14 +42,14 @@ starts_begin code first old new d h c a e = subst (λ w. Starts code first w) (s
     g = begins code first (record { cells = first.cells; at = 0; behind = []; ahead = first.behind }) d refl
 
 -- it goes on to the next place that is listed
-pub starts_skip : (code : List Instruction) (first old new : Walk) → Starts code first old → Skips code old new → new ≡ record old { at = first_of old.ahead (length code) } → Starts code first new
+pub starts_skip : (code : List Instruction) (first old new : Walk) → Starts code first old → Skips code old new → new ≡ record old { at = first_place_or old.ahead (length code) } → Starts code first new
 starts_skip code first old new h s e = record {
   listed = s.listed;
   long = h.long;
-  ahead = subst (λ x. Lists new.at (drop new.at code) (drop new.at first.cells) x) (sym (ap (λ w. w.ahead) e))
-      (subst (λ k. Lists k (drop k code) (drop k first.cells) old.ahead) sum
-      (subst (λ x. Lists (old.at + n) x (drop (old.at + n) first.cells) old.ahead) (drop-drop n old.at code)
-      (subst (λ x. Lists (old.at + n) (drop n (drop old.at code)) x old.ahead) (drop-drop n old.at first.cells) l.2)));
+  ahead = subst (λ x. ListsPlaces new.at (drop new.at code) (drop new.at first.cells) x) (sym (ap (λ w. w.ahead) e))
+      (subst (λ k. ListsPlaces k (drop k code) (drop k first.cells) old.ahead) sum
+      (subst (λ x. ListsPlaces (old.at + n) x (drop (old.at + n) first.cells) old.ahead) (drop-drop n old.at code)
+      (subst (λ x. ListsPlaces (old.at + n) (drop n (drop old.at code)) x old.ahead) (drop-drop n old.at first.cells) l.2)));
   same = skip_take code old new s ∙ ap (λ x. x ++ replicate n false) h.same ∙ sym front;
 }
   where
@@ -63,8 +63,8 @@ starts_skip code first old new h s e = record {
     end = let z = length-drop old.at code in let y = h.listed.inside in omega arith
 
     l : (drop old.at first.cells ≡ replicate n false ++ drop n (drop old.at first.cells)) × AreEnded n (drop old.at code)
-        × Lists (old.at + n) (drop n (drop old.at code)) (drop n (drop old.at first.cells)) old.ahead
-    l = lists_skip old.at (drop old.at code) (drop old.at first.cells) old.ahead n (sum ∙ ap (λ w. w.at) e ∙ ap (λ k. first_of old.ahead k) (sym end)) h.ahead
+        × ListsPlaces (old.at + n) (drop n (drop old.at code)) (drop n (drop old.at first.cells)) old.ahead
+    l = lists_skip old.at (drop old.at code) (drop old.at first.cells) old.ahead n (sum ∙ ap (λ w. w.at) e ∙ ap (λ k. first_place_or old.ahead k) (sym end)) h.ahead
 
     front : take new.at first.cells ≡ take old.at first.cells ++ replicate n false
     front = ap (λ k. take k first.cells) (sym sum) ∙ take-add old.at n first.cells
@@ -77,10 +77,10 @@ pub starts_put : (code : List Instruction) (first old new : Walk) (d : Instructi
 starts_put code first old new d listed h l o c a b f = record {
   listed = puts code old new d v listed h.listed l o c a b f;
   long = h.long;
-  ahead = subst (λ k. Lists k (drop k code) (drop k first.cells) new.ahead) (sym a)
-      (subst (λ x. Lists (old.at + 1) (drop (old.at + 1) code) (drop (old.at + 1) first.cells) x) (sym f)
+  ahead = subst (λ k. ListsPlaces k (drop k code) (drop k first.cells) new.ahead) (sym a)
+      (subst (λ x. ListsPlaces (old.at + 1) (drop (old.at + 1) code) (drop (old.at + 1) first.cells) x) (sym f)
       (lists_past old.at i (drop (old.at + 1) code) v (drop (old.at + 1) first.cells) old.ahead
-      (subst (λ x. Lists old.at (i ∷ drop (old.at + 1) code) x old.ahead) marks_are (subst (λ x. Lists old.at x (drop old.at first.cells) old.ahead) code_is h.ahead))));
+      (subst (λ x. ListsPlaces old.at (i ∷ drop (old.at + 1) code) x old.ahead) marks_are (subst (λ x. ListsPlaces old.at x (drop old.at first.cells) old.ahead) code_is h.ahead))));
   same = ap₂ (λ k x. take k x) a c ∙ take_more_set old.cells old.at v (let z = h.listed.long in omega arith) ∙ ap (λ x. x ++ v ∷ []) h.same
       ∙ sym (ap (λ k. take k first.cells) (a ∙ add-one old.at) ∙ take-suc first.cells old.at false room);
 }

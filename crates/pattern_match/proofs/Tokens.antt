@@ -1,28 +1,28 @@
 -- The tokens of a syntax tree, and which characters its atoms have by them.
 use Rattle.std.proofs.Common.{◌≡◌, ℕ, suc, ◌+◌, ◌≤◌, ◌⊎◌, ◌↔◌, inl, inr, Bool, true, false, not, ◌||◌, ◌&&◌, ◌==◌, nat_le, IsTrue, List, [], ◌∷◌, drop, refl, sym, ap, ◌∙◌, subst, ⊎_elim, arith, leb-true, le-leb, eqb-true, eq-eqb, zero-add}
-use Rattle.pattern_match.specs.Expression.{Item, One, Range, Spaces, Hyphen, Atom, Character, Dot, Escape, Space, Class, Quantifier, Once, Optional, AnyNumber, OneOrMore, Exactly, AtLeast, Between, Expression, Empty, Piece, Group, Choice}
-use Rattle.pattern_match.specs.Valid.{escaped, meant, IsItem, AreLaterItems, AreItems, IsAtom}
-use Rattle.pattern_match.specs.Language.{IsSpace, ItemHas, SomeHas, AtomHas}
-use Rattle.pattern_match.specs.Token.{members_have, is_space, first_admits}
+use Rattle.pattern_match.specs.Expression.{ClassMember, One, Range, Spaces, Hyphen, Atom, Character, Dot, Escape, Space, Class, Quantifier, Once, Optional, AnyNumber, OneOrMore, Exactly, AtLeast, Between, Expression, Empty, Piece, Group, Choice}
+use Rattle.pattern_match.specs.Valid.{escaped_letter, meant, IsItem, AreLaterItems, AreItems, IsAtom}
+use Rattle.pattern_match.specs.Language.{IsPatternSpace, ItemHas, SomeHas, AtomHas}
+use Rattle.pattern_match.specs.Token.{members_have, is_pattern_space, first_admits}
 use Rattle.pattern_match.specs.declared.token.Token.{Token}
 use Rattle.pattern_match.specs.declared.token.Token.TheVariants.{Open as OpenToken, Close as CloseToken, Bar as BarToken, Single as SingleToken, Dot as DotToken, Spaces as SpacesToken, ClassStart, Member, Times}
 use Rattle.pattern_match.proofs.PassLemmas.{or_true, true_or, and_true, true_and}
 use Rattle.pattern_match.proofs.Planning.{least_of, most_of}
 
-abbrev pub item_tokens_then : Item → List Token → List Token
+abbrev pub item_tokens_then : ClassMember → List Token → List Token
 item_tokens_then (One s) more = Member (meant s) (meant s) ∷ more
 item_tokens_then (Range low high) more = Member (meant low) (meant low) ∷ Member (meant low) (meant high) ∷ more
 item_tokens_then Spaces more = Member 32 32 ∷ Member 9 10 ∷ Member 13 13 ∷ more
 item_tokens_then Hyphen more = Member 45 45 ∷ more
 
-abbrev pub items_tokens_then : List Item → List Token → List Token
+abbrev pub items_tokens_then : List ClassMember → List Token → List Token
 items_tokens_then [] more = more
 items_tokens_then (i ∷ items) more = item_tokens_then i (items_tokens_then items more)
 
 abbrev pub atom_tokens_then : Atom → List Token → List Token
 atom_tokens_then (Character c) more = SingleToken c ∷ more
 atom_tokens_then Dot more = DotToken ∷ more
-atom_tokens_then (Escape letter) more = SingleToken (escaped letter) ∷ more
+atom_tokens_then (Escape letter) more = SingleToken (escaped_letter letter) ∷ more
 atom_tokens_then Space more = SpacesToken ∷ more
 atom_tokens_then (Class negated items) more = ClassStart negated ∷ items_tokens_then items more
 
@@ -37,13 +37,13 @@ tokens_then (Group inner q rest) more = OpenToken ∷ tokens_then inner (CloseTo
 tokens_then (Choice branch rest) more = tokens_then branch (BarToken ∷ tokens_then rest more)
 
 -- how many tokens they have
-abbrev pub item_width : Item → ℕ
+abbrev pub item_width : ClassMember → ℕ
 item_width (One s) = 1
 item_width (Range low high) = 2
 item_width Spaces = 3
 item_width Hyphen = 1
 
-abbrev pub items_width : List Item → ℕ
+abbrev pub items_width : List ClassMember → ℕ
 items_width [] = 0
 items_width (i ∷ items) = item_width i + items_width items
 
@@ -99,14 +99,14 @@ range_true low high c = (
 equal_true : (a b : ℕ) → IsTrue (a == b) ↔ (a ≡ b)
 equal_true a b = (λ t. eqb-true a b t, λ e. eq-eqb a b e)
 
-pub space_true : (c : ℕ) → IsTrue (is_space c) ↔ IsSpace c
+pub space_true : (c : ℕ) → IsTrue (is_pattern_space c) ↔ IsPatternSpace c
 space_true c = (forth, back)
   where
-    forth : IsTrue (is_space c) → IsSpace c
+    forth : IsTrue (is_pattern_space c) → IsPatternSpace c
     forth t = ⊎_elim (λ x. ⊎_elim (λ y. ⊎_elim (λ z. inl (eqb-true c 32 z)) (λ z. inr (inl (eqb-true c 9 z))) (or_true (c == 32) (c == 9) y)) (λ y. inr (inr (inl (eqb-true c 10 y)))) (or_true ((c == 32) || (c == 9)) (c == 10) x))
         (λ x. inr (inr (inr (eqb-true c 13 x)))) (or_true ((c == 32) || (c == 9) || (c == 10)) (c == 13) t)
 
-    back : IsSpace c → IsTrue (is_space c)
+    back : IsPatternSpace c → IsTrue (is_pattern_space c)
     back (inl e) = true_or ((c == 32) || (c == 9) || (c == 10)) (c == 13) (inl (true_or ((c == 32) || (c == 9)) (c == 10) (inl (true_or (c == 32) (c == 9) (inl (eq-eqb c 32 e))))))
     back (inr (inl e)) = true_or ((c == 32) || (c == 9) || (c == 10)) (c == 13) (inl (true_or ((c == 32) || (c == 9)) (c == 10) (inl (true_or (c == 32) (c == 9) (inr (eq-eqb c 9 e))))))
     back (inr (inr (inl e))) = true_or ((c == 32) || (c == 9) || (c == 10)) (c == 13) (inl (true_or ((c == 32) || (c == 9)) (c == 10) (inr (eq-eqb c 10 e))))
@@ -118,7 +118,7 @@ member_true low high c more = (
   λ x. true_or (nat_le low c && nat_le c high) (members_have more c) (⊎_elim (λ y. inl ((range_true low high c).1 y)) (λ y. inr y) x),
 )
 
-item_true : (i : Item) (c : ℕ) (more : List Token) → IsItem i → IsTrue (members_have (item_tokens_then i more) c) ↔ (ItemHas i c ⊎ IsTrue (members_have more c))
+item_true : (i : ClassMember) (c : ℕ) (more : List Token) → IsItem i → IsTrue (members_have (item_tokens_then i more) c) ↔ (ItemHas i c ⊎ IsTrue (members_have more c))
 item_true (One s) c more v = (
   λ t. ⊎_elim (λ x. inl (omega arith)) (λ x. inr x) ((member_true (meant s) (meant s) c more).0 t),
   λ x. (member_true (meant s) (meant s) c more).1 (⊎_elim (λ y. inl (omega arith, omega arith)) (λ y. inr y) x),
@@ -137,7 +137,7 @@ item_true Spaces c more v = (
     ten : (9 ≤ c) × (c ≤ 10) → (c ≡ 9) ⊎ ((c ≡ 10) ⊎ (c ≡ 13))
     ten h = grind arith
 
-    back : IsSpace c → ((32 ≤ c) × (c ≤ 32)) ⊎ IsTrue (members_have (Member 9 10 ∷ Member 13 13 ∷ more) c)
+    back : IsPatternSpace c → ((32 ≤ c) × (c ≤ 32)) ⊎ IsTrue (members_have (Member 9 10 ∷ Member 13 13 ∷ more) c)
     back (inl e) = inl (omega arith, omega arith)
     back (inr (inl e)) = inr ((member_true 9 10 c (Member 13 13 ∷ more)).1 (inl (omega arith, omega arith)))
     back (inr (inr (inl e))) = inr ((member_true 9 10 c (Member 13 13 ∷ more)).1 (inl (omega arith, omega arith)))
@@ -160,25 +160,25 @@ no_member_false (ClassStart n ∷ more) c h t = cc
 no_member_false (Times l m ∷ more) c h t = cc
 
 -- each item by itself is one
-abbrev pub AreItemsAlone : List Item → Type 0
+abbrev pub AreItemsAlone : List ClassMember → Type 0
 AreItemsAlone [] = Unit {0}
 AreItemsAlone (i ∷ items) = IsItem i × AreItemsAlone items
 
-later_alone : (items : List Item) → AreLaterItems items → AreItemsAlone items
+later_alone : (items : List ClassMember) → AreLaterItems items → AreItemsAlone items
 later_alone [] v = tt
 later_alone (Hyphen ∷ items) v = (tt, subst AreItemsAlone (sym v) tt)
 later_alone (One s ∷ items) v = (v.0, later_alone items v.1)
 later_alone (Range a b ∷ items) v = (v.0, later_alone items v.1)
 later_alone (Spaces ∷ items) v = (v.0, later_alone items v.1)
 
-items_alone : (negated : Bool) (items : List Item) → AreItems negated items → AreItemsAlone items
+items_alone : (negated : Bool) (items : List ClassMember) → AreItems negated items → AreItemsAlone items
 items_alone negated [] v = absurd v
 items_alone negated (Hyphen ∷ items) v = (tt, later_alone items v)
 items_alone negated (One s ∷ items) v = (v.0, later_alone items v.2)
 items_alone negated (Range a b ∷ items) v = (v.0, later_alone items v.2)
 items_alone negated (Spaces ∷ items) v = (v.0, later_alone items v.2)
 
-items_true : (items : List Item) (c : ℕ) (more : List Token) → AreItemsAlone items → BeginsNoMember more
+items_true : (items : List ClassMember) (c : ℕ) (more : List Token) → AreItemsAlone items → BeginsNoMember more
     → IsTrue (members_have (items_tokens_then items more) c) ↔ SomeHas items c
 items_true [] c more v h = (λ t. no_member_false more c h t, λ x. absurd x)
 items_true (i ∷ items) c more v h =
@@ -200,7 +200,7 @@ atom_true Dot c more v h = (
   ),
   λ x. (not_true ((c == 10) || (c == 13))).1 (λ t. ⊎_elim (λ y. x.0 (eqb-true c 10 y)) (λ y. x.1 (eqb-true c 13 y)) (or_true (c == 10) (c == 13) t)),
 )
-atom_true (Escape letter) c more v h = equal_true c (escaped letter)
+atom_true (Escape letter) c more v h = equal_true c (escaped_letter letter)
 atom_true Space c more v h = space_true c
 atom_true (Class true items) c more v h =
     let k = items_true items c more (items_alone true items v) h in
@@ -208,13 +208,13 @@ atom_true (Class true items) c more v h =
 atom_true (Class false items) c more v h = items_true items c more (items_alone false items v) h
 
 -- what stands behind the tokens of an item, of items, of an atom, of a quantifier and of a tree
-item_rest : (i : Item) (more : List Token) (k : ℕ) → drop (item_width i + k) (item_tokens_then i more) ≡ drop k more
+item_rest : (i : ClassMember) (more : List Token) (k : ℕ) → drop (item_width i + k) (item_tokens_then i more) ≡ drop k more
 item_rest (One s) more k = ap (λ n. drop n (item_tokens_then (One s) more)) (let e : 1 + k ≡ suc k = omega arith in e)
 item_rest (Range a b) more k = ap (λ n. drop n (item_tokens_then (Range a b) more)) (let e : 2 + k ≡ suc (suc k) = omega arith in e)
 item_rest Spaces more k = ap (λ n. drop n (item_tokens_then Spaces more)) (let e : 3 + k ≡ suc (suc (suc k)) = omega arith in e)
 item_rest Hyphen more k = ap (λ n. drop n (item_tokens_then Hyphen more)) (let e : 1 + k ≡ suc k = omega arith in e)
 
-items_rest : (items : List Item) (more : List Token) (k : ℕ) → drop (items_width items + k) (items_tokens_then items more) ≡ drop k more
+items_rest : (items : List ClassMember) (more : List Token) (k : ℕ) → drop (items_width items + k) (items_tokens_then items more) ≡ drop k more
 items_rest [] more k = ap (λ n. drop n more) (zero-add k)
 items_rest (i ∷ items) more k =
     ap (λ n. drop n (items_tokens_then (i ∷ items) more)) (let e : item_width i + items_width items + k ≡ item_width i + (items_width items + k) = omega arith in e)

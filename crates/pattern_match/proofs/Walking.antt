@@ -3,8 +3,8 @@ use Rattle.std.proofs.Common.{◌≡◌, ℕ, zero, suc, ◌+◌, ◌-◌, ◌�
 use Rattle.std.proofs.lemmas.Bool.{eqb-true}
 use Rattle.std.proofs.lemmas.List.{length-take-le, length-replicate, replicate-append-replicate, take_at, drop-drop, take_more_set, take-set, drop-set-lt, take-append-drop}
 use Rattle.std.proofs.Math.Seq.{take-add, take-length, drop-cons, take-suc}
-use Rattle.pattern_match.specs.Marking.{first_pass, end_of, second_live, second_frames, second_pass}
-use Rattle.pattern_match.specs.Marks.{Walk, IsEnded, AreEnded, Lists, first_of, past, IsListed, IsDone, Skips, is_open, first_rest, second_rest}
+use Rattle.pattern_match.specs.Marking.{first_pass, end_of_group, second_live, second_frames, second_pass}
+use Rattle.pattern_match.specs.Marks.{Walk, IsGroupEnded, AreEnded, ListsPlaces, first_place_or, past, IsListed, IsDone, Skips, is_open, first_rest, second_rest}
 use Rattle.pattern_match.specs.declared.instruction.Frame.{Frame}
 use Rattle.pattern_match.specs.declared.instruction.Instruction.{Instruction}
 use Rattle.pattern_match.specs.declared.instruction.Instruction.TheVariants.{Take, Open, Bar, Close}
@@ -47,7 +47,7 @@ idle_second (suc n) (Bar ∷ code) marks l h = ap (λ x. false ∷ x) (idle_seco
 idle_second (suc n) (Close ∷ code) marks l h = ap (λ x. false ∷ x) (idle_second n code marks (omega arith) h.1)
 
 -- an instruction that begins no group
-pub not_open : (i : Instruction) → is_open i ≡ false → IsEnded i 0
+pub not_open : (i : Instruction) → is_open i ≡ false → IsGroupEnded i 0
 not_open (Take at o r) e = tt
 not_open (Open n o r) e = absurd (cc)
 not_open Bar e = tt
@@ -93,19 +93,19 @@ skipped_clear code old new s h =
     ∙ ap (λ k. replicate k false) (let z = s.further in let y : old.at + (new.at - old.at) ≡ new.at = omega arith in y)
 
 -- a walk goes on, up to the first place that is listed
-pub skips_to : (code : List Instruction) (old new : Walk) (to : ℕ) → IsListed code old → old.at ≤ to → to ≤ length code → to ≤ first_of old.ahead (length code)
+pub skips_to : (code : List Instruction) (old new : Walk) (to : ℕ) → IsListed code old → old.at ≤ to → to ≤ length code → to ≤ first_place_or old.ahead (length code)
     → AreEnded (to - old.at) (drop old.at code) → new ≡ record old { at = to } → Skips code old new
 skips_to code old new to h from to_code near ended e = subst (λ w. Skips code old w) (sym e) (record {
   listed = record {
     long = h.long;
     inside = to_code;
-    behind = subst (λ x. Lists 0 (take to code) x old.behind) (sym marks_are)
-        (subst (λ x. Lists 0 x (take old.at old.cells ++ replicate n false) old.behind) (sym code_is)
-        (subst (λ k. Lists 0 (take old.at code ++ take n (drop old.at code)) (take old.at old.cells ++ replicate k false) old.behind) long
+    behind = subst (λ x. ListsPlaces 0 (take to code) x old.behind) (sym marks_are)
+        (subst (λ x. ListsPlaces 0 x (take old.at old.cells ++ replicate n false) old.behind) (sym code_is)
+        (subst (λ k. ListsPlaces 0 (take old.at code ++ take n (drop old.at code)) (take old.at old.cells ++ replicate k false) old.behind) long
         (lists_none 0 (take old.at code) (take n (drop old.at code)) (take old.at old.cells) old.behind same (subst (λ k. AreEnded k (take n (drop old.at code))) (sym long) ended_there) h.behind)));
-    ahead = subst (λ k. Lists k (drop k code) (drop k old.cells) old.ahead) sum
-        (subst (λ x. Lists (old.at + n) x (drop (old.at + n) old.cells) old.ahead) (drop-drop n old.at code)
-        (subst (λ x. Lists (old.at + n) (drop n (drop old.at code)) x old.ahead) (drop-drop n old.at old.cells) s.1));
+    ahead = subst (λ k. ListsPlaces k (drop k code) (drop k old.cells) old.ahead) sum
+        (subst (λ x. ListsPlaces (old.at + n) x (drop (old.at + n) old.cells) old.ahead) (drop-drop n old.at code)
+        (subst (λ x. ListsPlaces (old.at + n) (drop n (drop old.at code)) x old.ahead) (drop-drop n old.at old.cells) s.1));
   };
   cells = refl;
   further = from;
@@ -122,9 +122,9 @@ skips_to code old new to h from to_code near ended e = subst (λ w. Skips code o
     sum : old.at + n ≡ to
     sum = omega (arith, from)
 
-    s : (drop old.at old.cells ≡ replicate n false ++ drop n (drop old.at old.cells)) × Lists (old.at + n) (drop n (drop old.at code)) (drop n (drop old.at old.cells)) old.ahead
+    s : (drop old.at old.cells ≡ replicate n false ++ drop n (drop old.at old.cells)) × ListsPlaces (old.at + n) (drop n (drop old.at code)) (drop n (drop old.at old.cells)) old.ahead
     s = lists_part old.at (drop old.at code) (drop old.at old.cells) old.ahead n
-        (subst (λ k. k ≤ first_of old.ahead (old.at + length (drop old.at code))) (sym sum) (subst (λ k. to ≤ first_of old.ahead k) (sym end) near)) h.ahead
+        (subst (λ k. k ≤ first_place_or old.ahead (old.at + length (drop old.at code))) (sym sum) (subst (λ k. to ≤ first_place_or old.ahead k) (sym end) near)) h.ahead
 
     room : n ≤ length (drop old.at code)
     room = omega (arith, from, to_code, end)
@@ -147,26 +147,26 @@ skips_to code old new to h from to_code near ended e = subst (λ w. Skips code o
 
 -- the first place that is listed
 pub ahead_first : (code : List Instruction) (walk : Walk) → IsListed code walk
-    → (walk.at ≤ first_of walk.ahead (length code)) × (first_of walk.ahead (length code) ≤ length code) × AreEnded (first_of walk.ahead (length code) - walk.at) (drop walk.at code)
+    → (walk.at ≤ first_place_or walk.ahead (length code)) × (first_place_or walk.ahead (length code) ≤ length code) × AreEnded (first_place_or walk.ahead (length code) - walk.at) (drop walk.at code)
 ahead_first code walk h = (bounds.0, bounds.1, ended)
   where
     end : walk.at + length (drop walk.at code) ≡ length code
     end = let z = length-drop walk.at code in let y = h.inside in omega arith
 
-    bounds : (walk.at ≤ first_of walk.ahead (length code)) × (first_of walk.ahead (length code) ≤ length code)
-    bounds = subst (λ k. (walk.at ≤ first_of walk.ahead k) × (first_of walk.ahead k ≤ k)) end (lists_first walk.at (drop walk.at code) (drop walk.at walk.cells) walk.ahead h.ahead)
+    bounds : (walk.at ≤ first_place_or walk.ahead (length code)) × (first_place_or walk.ahead (length code) ≤ length code)
+    bounds = subst (λ k. (walk.at ≤ first_place_or walk.ahead k) × (first_place_or walk.ahead k ≤ k)) end (lists_first walk.at (drop walk.at code) (drop walk.at walk.cells) walk.ahead h.ahead)
 
-    sum : walk.at + (first_of walk.ahead (length code) - walk.at) ≡ first_of walk.ahead (length code)
+    sum : walk.at + (first_place_or walk.ahead (length code) - walk.at) ≡ first_place_or walk.ahead (length code)
     sum = omega (arith, bounds.0)
 
-    ended : AreEnded (first_of walk.ahead (length code) - walk.at) (drop walk.at code)
-    ended = (lists_skip walk.at (drop walk.at code) (drop walk.at walk.cells) walk.ahead (first_of walk.ahead (length code) - walk.at) (sum ∙ ap (λ k. first_of walk.ahead k) (sym end)) h.ahead).1
+    ended : AreEnded (first_place_or walk.ahead (length code) - walk.at) (drop walk.at code)
+    ended = (lists_skip walk.at (drop walk.at code) (drop walk.at walk.cells) walk.ahead (first_place_or walk.ahead (length code) - walk.at) (sum ∙ ap (λ k. first_place_or walk.ahead k) (sym end)) h.ahead).1
 
-pub skips_on : (code : List Instruction) (old new : Walk) → IsListed code old → new ≡ record old { at = first_of old.ahead (length code) } → Skips code old new
+pub skips_on : (code : List Instruction) (old new : Walk) → IsListed code old → new ≡ record old { at = first_place_or old.ahead (length code) } → Skips code old new
 skips_on code old new h e =
     let f = ahead_first code old h in
-    let l : first_of old.ahead (length code) ≤ first_of old.ahead (length code) = omega arith in
-    skips_to code old new (first_of old.ahead (length code)) h f.0 f.1 l f.2 e
+    let l : first_place_or old.ahead (length code) ≤ first_place_or old.ahead (length code) = omega arith in
+    skips_to code old new (first_place_or old.ahead (length code)) h f.0 f.1 l f.2 e
 
 -- a walk that stays where it is
 stays : (code : List Instruction) (old new : Walk) → IsListed code new → new.cells ≡ old.cells → new.at ≡ old.at → Skips code old new
@@ -181,32 +181,32 @@ stays code old new h c a = record {
     none : new.at - old.at ≡ 0
     none = omega arith
 
-ended_open : (i : Instruction) (n : ℕ) → is_open i ≡ true → end_of i < n → IsEnded i n
+ended_open : (i : Instruction) (n : ℕ) → is_open i ≡ true → end_of_group i < n → IsGroupEnded i n
 ended_open (Take at o r) n e l = tt
 ended_open (Open k o r) n e l = l
 ended_open Bar n e l = tt
 ended_open Close n e l = tt
 
-forgets_place : (at : ℕ) (i : Instruction) (code : List Instruction) (marks : List Bool) (places : List ℕ) (n : ℕ) → Lists at (i ∷ code) (false ∷ marks) places
-    → at + 1 + n ≡ first_of (drop 1 places) (at + 1 + length code) → IsEnded i n → Lists at (i ∷ code) (false ∷ marks) (past at places)
+forgets_place : (at : ℕ) (i : Instruction) (code : List Instruction) (marks : List Bool) (places : List ℕ) (n : ℕ) → ListsPlaces at (i ∷ code) (false ∷ marks) places
+    → at + 1 + n ≡ first_place_or (drop 1 places) (at + 1 + length code) → IsGroupEnded i n → ListsPlaces at (i ∷ code) (false ∷ marks) (past at places)
 forgets_place at i code marks [] n h f g = h
 forgets_place at i code marks (place ∷ places) n h f g = choose (place == at) refl
   where
-    choose : (b : Bool) → (place == at) ≡ b → Lists at (i ∷ code) (false ∷ marks) (if b then places else place ∷ places)
+    choose : (b : Bool) → (place == at) ≡ b → ListsPlaces at (i ∷ code) (false ∷ marks) (if b then places else place ∷ places)
     choose true e = lists_forget at i code marks place places h (eqb-true place at e) n f g
     choose false e = h
 
 -- a group that is listed no longer
 pub forgets : (code : List Instruction) (old new : Walk) (d : Instruction) (next : ℕ) → IsListed code old → old.at < length code → is_open (get_or code old.at d) ≡ true
-    → get_or old.cells old.at false ≡ false → next ≡ first_of (drop 1 old.ahead) (length code) → old.at < next → end_of (get_or code old.at d) < next - old.at - 1
+    → get_or old.cells old.at false ≡ false → next ≡ first_place_or (drop 1 old.ahead) (length code) → old.at < next → end_of_group (get_or code old.at d) < next - old.at - 1
     → new ≡ record old { ahead = past old.at old.ahead } → Skips code old new
 forgets code old new d next h l o u f m g e =
     subst (λ w. Skips code old w) (sym e) (stays code old (record old { ahead = past old.at old.ahead }) (record {
       long = h.long;
       inside = h.inside;
       behind = h.behind;
-      ahead = subst (λ x. Lists old.at x (drop old.at old.cells) (past old.at old.ahead)) (sym code_is)
-          (subst (λ x. Lists old.at (i ∷ drop (suc old.at) code) x (past old.at old.ahead)) (sym marks_are)
+      ahead = subst (λ x. ListsPlaces old.at x (drop old.at old.cells) (past old.at old.ahead)) (sym code_is)
+          (subst (λ x. ListsPlaces old.at (i ∷ drop (suc old.at) code) x (past old.at old.ahead)) (sym marks_are)
           (forgets_place old.at i (drop (suc old.at) code) (drop (suc old.at) old.cells) old.ahead (next - old.at - 1) there first (ended_open i (next - old.at - 1) o g)));
     }) refl refl)
   where
@@ -219,14 +219,14 @@ forgets code old new d next h l o u f m g e =
     marks_are : drop old.at old.cells ≡ false ∷ drop (suc old.at) old.cells
     marks_are = drop-cons old.cells old.at false (let z = h.long in omega arith) ∙ ap (λ x. x ∷ drop (suc old.at) old.cells) u
 
-    there : Lists old.at (i ∷ drop (suc old.at) code) (false ∷ drop (suc old.at) old.cells) old.ahead
-    there = subst (λ x. Lists old.at (i ∷ drop (suc old.at) code) x old.ahead) marks_are (subst (λ x. Lists old.at x (drop old.at old.cells) old.ahead) code_is h.ahead)
+    there : ListsPlaces old.at (i ∷ drop (suc old.at) code) (false ∷ drop (suc old.at) old.cells) old.ahead
+    there = subst (λ x. ListsPlaces old.at (i ∷ drop (suc old.at) code) x old.ahead) marks_are (subst (λ x. ListsPlaces old.at x (drop old.at old.cells) old.ahead) code_is h.ahead)
 
     end : old.at + 1 + length (drop (suc old.at) code) ≡ length code
     end = let z = length-drop (suc old.at) code in omega arith
 
-    first : old.at + 1 + (next - old.at - 1) ≡ first_of (drop 1 old.ahead) (old.at + 1 + length (drop (suc old.at) code))
-    first = (let z : old.at + 1 + (next - old.at - 1) ≡ next = omega arith in z) ∙ f ∙ ap (λ k. first_of (drop 1 old.ahead) k) (sym end)
+    first : old.at + 1 + (next - old.at - 1) ≡ first_place_or (drop 1 old.ahead) (old.at + 1 + length (drop (suc old.at) code))
+    first = (let z : old.at + 1 + (next - old.at - 1) ≡ next = omega arith in z) ∙ f ∙ ap (λ k. first_place_or (drop 1 old.ahead) k) (sym end)
 
 -- a pass goes over one mark
 pub puts : (code : List Instruction) (old new : Walk) (d : Instruction) (mark listed : Bool) → IsListed code old → old.at < length code → listed ≡ is_open (get_or code old.at d)
@@ -235,17 +235,17 @@ pub puts : (code : List Instruction) (old new : Walk) (d : Instruction) (mark li
 puts code old new d mark listed h l o c a b f = record {
   long = ap length c ∙ length-set old.cells old.at mark ∙ h.long;
   inside = omega arith;
-  behind = subst (λ k. Lists 0 (take k code) (take k new.cells) new.behind) (sym a)
-      (subst (λ x. Lists 0 (take (old.at + 1) code) (take (old.at + 1) x) new.behind) (sym c)
-      (subst (λ x. Lists 0 x (take (old.at + 1) (set old.cells old.at mark)) new.behind) (sym front_code)
-      (subst (λ x. Lists 0 (take old.at code ++ i ∷ []) x new.behind) (sym (take_more_set old.cells old.at mark room))
-      (subst (λ x. Lists 0 (take old.at code ++ i ∷ []) (take old.at old.cells ++ mark ∷ []) x) (sym b) (more mark listed o)))));
-  ahead = subst (λ k. Lists k (drop k code) (drop k new.cells) new.ahead) (sym a)
-      (subst (λ x. Lists (old.at + 1) (drop (old.at + 1) code) (drop (old.at + 1) x) new.ahead) (sym c)
-      (subst (λ x. Lists (old.at + 1) (drop (old.at + 1) code) x new.ahead) (sym (drop-set-lt (old.at + 1) old.cells old.at mark (omega arith)))
-      (subst (λ x. Lists (old.at + 1) (drop (old.at + 1) code) (drop (old.at + 1) old.cells) x) (sym f)
+  behind = subst (λ k. ListsPlaces 0 (take k code) (take k new.cells) new.behind) (sym a)
+      (subst (λ x. ListsPlaces 0 (take (old.at + 1) code) (take (old.at + 1) x) new.behind) (sym c)
+      (subst (λ x. ListsPlaces 0 x (take (old.at + 1) (set old.cells old.at mark)) new.behind) (sym front_code)
+      (subst (λ x. ListsPlaces 0 (take old.at code ++ i ∷ []) x new.behind) (sym (take_more_set old.cells old.at mark room))
+      (subst (λ x. ListsPlaces 0 (take old.at code ++ i ∷ []) (take old.at old.cells ++ mark ∷ []) x) (sym b) (more mark listed o)))));
+  ahead = subst (λ k. ListsPlaces k (drop k code) (drop k new.cells) new.ahead) (sym a)
+      (subst (λ x. ListsPlaces (old.at + 1) (drop (old.at + 1) code) (drop (old.at + 1) x) new.ahead) (sym c)
+      (subst (λ x. ListsPlaces (old.at + 1) (drop (old.at + 1) code) x new.ahead) (sym (drop-set-lt (old.at + 1) old.cells old.at mark (omega arith)))
+      (subst (λ x. ListsPlaces (old.at + 1) (drop (old.at + 1) code) (drop (old.at + 1) old.cells) x) (sym f)
       (lists_past old.at i (drop (old.at + 1) code) (get_or old.cells old.at false) (drop (old.at + 1) old.cells) old.ahead
-      (subst (λ x. Lists old.at (i ∷ drop (old.at + 1) code) x old.ahead) marks_are (subst (λ x. Lists old.at x (drop old.at old.cells) old.ahead) code_is h.ahead))))));
+      (subst (λ x. ListsPlaces old.at (i ∷ drop (old.at + 1) code) x old.ahead) marks_are (subst (λ x. ListsPlaces old.at x (drop old.at old.cells) old.ahead) code_is h.ahead))))));
 }
   where
     i : Instruction
@@ -269,11 +269,11 @@ puts code old new d mark listed h l o c a b f = record {
     same : length (take old.at old.cells) ≡ length (take old.at code)
     same = length-take-le old.at old.cells (omega (arith, room)) ∙ sym long_code
 
-    listed_one : (m : Bool) → Lists 0 (take old.at code ++ i ∷ []) (take old.at old.cells ++ m ∷ []) (old.behind ++ old.at ∷ [])
-    listed_one m = subst (λ k. Lists 0 (take old.at code ++ i ∷ []) (take old.at old.cells ++ m ∷ []) (old.behind ++ k ∷ [])) (zero-add (length (take old.at code)) ∙ long_code)
+    listed_one : (m : Bool) → ListsPlaces 0 (take old.at code ++ i ∷ []) (take old.at old.cells ++ m ∷ []) (old.behind ++ old.at ∷ [])
+    listed_one m = subst (λ k. ListsPlaces 0 (take old.at code ++ i ∷ []) (take old.at old.cells ++ m ∷ []) (old.behind ++ k ∷ [])) (zero-add (length (take old.at code)) ∙ long_code)
         (lists_one 0 (take old.at code) i (take old.at old.cells) m old.behind same h.behind)
 
-    more : (m x : Bool) → x ≡ is_open i → Lists 0 (take old.at code ++ i ∷ []) (take old.at old.cells ++ m ∷ []) (if m || x then old.behind ++ old.at ∷ [] else old.behind)
+    more : (m x : Bool) → x ≡ is_open i → ListsPlaces 0 (take old.at code ++ i ∷ []) (take old.at old.cells ++ m ∷ []) (if m || x then old.behind ++ old.at ∷ [] else old.behind)
     more true x e = listed_one true
     more false true e = listed_one false
     more false false e = lists_none 0 (take old.at code) (i ∷ []) (take old.at old.cells) old.behind same (not_open i (sym e), tt) h.behind
@@ -284,9 +284,9 @@ begins code old new h e = subst (λ w. IsListed code w) (sym e) (record {
   long = h.listed.long;
   inside = omega arith;
   behind = ([], refl, tt);
-  ahead = subst (λ x. Lists 0 code x old.behind) (take-append-drop old.at old.cells)
+  ahead = subst (λ x. ListsPlaces 0 code x old.behind) (take-append-drop old.at old.cells)
       (lists_longer 0 code (take old.at old.cells) (drop old.at old.cells) old.behind
-      (subst (λ x. Lists 0 x (take old.at old.cells) old.behind) (ap (λ k. take k code) h.at ∙ take-length code) h.listed.behind));
+      (subst (λ x. ListsPlaces 0 x (take old.at old.cells) old.behind) (ap (λ k. take k code) h.at ∙ take-length code) h.listed.behind));
 })
 
 -- a pass ends
@@ -295,14 +295,14 @@ ends code old new mark h l e = subst (λ w. IsDone code w) (sym e) (record {
   listed = record {
     long = length-set old.cells old.at mark ∙ h.long;
     inside = h.inside;
-    behind = subst (λ x. Lists 0 (take old.at code) x old.behind) (sym (take-set old.cells old.at mark)) h.behind;
-    ahead = none old.ahead (subst (λ x. Lists old.at x (drop old.at old.cells) old.ahead) (drop_of_length-le code l) h.ahead);
+    behind = subst (λ x. ListsPlaces 0 (take old.at code) x old.behind) (sym (take-set old.cells old.at mark)) h.behind;
+    ahead = none old.ahead (subst (λ x. ListsPlaces old.at x (drop old.at old.cells) old.ahead) (drop_of_length-le code l) h.ahead);
   };
   at = (let z = h.inside in omega arith);
 })
   where
-    none : (places : List ℕ) → Lists old.at [] (drop old.at old.cells) places → Lists old.at (drop old.at code) (drop old.at (set old.cells old.at mark)) places
-    none [] x = subst (λ c. Lists old.at c (drop old.at (set old.cells old.at mark)) []) (sym (drop_of_length-le code l)) (drop old.at (set old.cells old.at mark), refl, tt)
+    none : (places : List ℕ) → ListsPlaces old.at [] (drop old.at old.cells) places → ListsPlaces old.at (drop old.at code) (drop old.at (set old.cells old.at mark)) places
+    none [] x = subst (λ c. ListsPlaces old.at c (drop old.at (set old.cells old.at mark)) []) (sym (drop_of_length-le code l)) (drop old.at (set old.cells old.at mark), refl, tt)
     none (p ∷ ps) x = absurd (let z = x.4 in omega arith)
 
 set_last : (xs : List Bool) (n : ℕ) (v : Bool) → length xs ≡ n + 1 → set xs n v ≡ take n xs ++ v ∷ []

@@ -1,7 +1,7 @@
 -- Lemmas on words that are made of parts.
 use Rattle.std.proofs.Common.{◌≡◌, ℕ, zero, suc, ◌⊎◌, inl, inr, Bool, true, false, IsTrue, List, [], ◌∷◌, ◌++◌, refl, sym, ap, ◌∙◌, subst, ap₂, ⊎_elim, append_assoc, append-nil}
 use Rattle.pattern_match.specs.Language.{Repeats, IsBoth}
-use Rattle.pattern_match.specs.inner.Plan.{Flagged, Begins, Ends}
+use Rattle.pattern_match.specs.inner.Plan.{Flagged, BeginsPart, Ends}
 
 pub append_nil_left : (u v : List ℕ) → [] ≡ u ++ v → (u ≡ []) × (v ≡ [])
 append_nil_left [] v e = (refl, sym e)
@@ -31,45 +31,45 @@ nil_of_append : (u v : List ℕ) → u ++ v ≡ [] → v ≡ []
 nil_of_append u v e = (append_nil_left u v (sym e)).1
 
 -- behind k more parts, the last of them that is not empty ends the word
-last_part : (A P : List ℕ → Type 0) (k : ℕ) (w u v : List ℕ) → w ≡ u ++ v → A u → Repeats P k v → (v ≡ []) ⊎ Ends (Begins true A P) P w
+last_part : (A P : List ℕ → Type 0) (k : ℕ) (w u v : List ℕ) → w ≡ u ++ v → A u → Repeats P k v → (v ≡ []) ⊎ Ends (BeginsPart true A P) P w
 last_part A P zero w u v e a r = inl r
 last_part A P (suc k) w u v e a r =
     let l = repeats_last P k v r in
     choose (λ x. last_part A P k w u x) l.0 l.1 l.2 l.3 l.4
   where
-    choose : ((x : List ℕ) → w ≡ u ++ x → A u → Repeats P k x → (x ≡ []) ⊎ Ends (Begins true A P) P w)
-        → (v1 v2 : List ℕ) → v ≡ v1 ++ v2 → Repeats P k v1 → P v2 → (v ≡ []) ⊎ Ends (Begins true A P) P w
+    choose : ((x : List ℕ) → w ≡ u ++ x → A u → Repeats P k x → (x ≡ []) ⊎ Ends (BeginsPart true A P) P w)
+        → (v1 v2 : List ℕ) → v ≡ v1 ++ v2 → Repeats P k v1 → P v2 → (v ≡ []) ⊎ Ends (BeginsPart true A P) P w
     choose ih v1 [] e2 r1 p =
         let e3 : v ≡ v1 = e2 ∙ append-nil v1 in
         ih v e a (subst (Repeats P k) (sym e3) r1)
     choose ih v1 (x ∷ v2) e2 r1 p = inr (u ++ v1, x ∷ v2, (e ∙ ap (λ y. u ++ y) e2 ∙ sym (append_assoc u v1 (x ∷ v2))), (λ h. cc), (u, v1, refl, a, (k, r1)), p)
 
 -- a part may begin where the first may, or behind a part
-pub begins_cases : (repeated : Bool) (A P : List ℕ → Type 0) (w : List ℕ) → Begins repeated A P w → A w ⊎ ((repeated ≡ true) × Ends (Begins repeated A P) P w)
+pub begins_cases : (repeated : Bool) (A P : List ℕ → Type 0) (w : List ℕ) → BeginsPart repeated A P w → A w ⊎ ((repeated ≡ true) × Ends (BeginsPart repeated A P) P w)
 begins_cases false A P w a = inl a
 begins_cases true A P w (u, v, e, a, (k, r)) = choose (last_part A P k w u v e a r)
   where
-    choose : (v ≡ []) ⊎ Ends (Begins true A P) P w → A w ⊎ ((true ≡ true) × Ends (Begins true A P) P w)
+    choose : (v ≡ []) ⊎ Ends (BeginsPart true A P) P w → A w ⊎ ((true ≡ true) × Ends (BeginsPart true A P) P w)
     choose (inl n) = let e2 : w ≡ u = e ∙ ap (λ y. u ++ y) n ∙ append-nil u in inl (subst A (sym e2) a)
     choose (inr h) = inr (refl, h)
 
-pub begins_first : (repeated : Bool) (A P : List ℕ → Type 0) (w : List ℕ) → A w → Begins repeated A P w
+pub begins_first : (repeated : Bool) (A P : List ℕ → Type 0) (w : List ℕ) → A w → BeginsPart repeated A P w
 begins_first false A P w a = a
 begins_first true A P w a = (w, [], sym (append-nil w), a, (0, refl))
 
-pub begins_again : (A P : List ℕ → Type 0) (w : List ℕ) → Ends (Begins true A P) P w → Begins true A P w
+pub begins_again : (A P : List ℕ → Type 0) (w : List ℕ) → Ends (BeginsPart true A P) P w → BeginsPart true A P w
 begins_again A P w (u, v, e, n, (u1, v1, e1, a, (k, r)), p) =
     (u1, v1 ++ v, (e ∙ ap (λ y. y ++ v) e1 ∙ append_assoc u1 v1 v), a, (suc k, repeats_snoc P k v1 v r p))
 
 -- where parts end is where the last part ends
-pub flagged_ends : (o r : Bool) (A P : List ℕ → Type 0) (w : List ℕ) → Ends A (Flagged o r P) w → Ends (Begins r A P) P w
+pub flagged_ends : (o r : Bool) (A P : List ℕ → Type 0) (w : List ℕ) → Ends A (Flagged o r P) w → Ends (BeginsPart r A P) P w
 flagged_ends false false A P w h = h
 flagged_ends true false A P w (u, v, e, n, a, inl z) = absurd (n z)
 flagged_ends true false A P w (u, v, e, n, a, inr p) = (u, v, e, n, a, p)
 flagged_ends false true A P w (u, v, e, n, a, (k, r)) = ⊎_elim (λ z. absurd (n z)) (λ h. h) (last_part A P (suc k) w u v e a r)
 flagged_ends true true A P w (u, v, e, n, a, (k, r)) = ⊎_elim (λ z. absurd (n z)) (λ h. h) (last_part A P k w u v e a r)
 
-pub ends_flagged : (o r : Bool) (A P : List ℕ → Type 0) (w : List ℕ) → Ends (Begins r A P) P w → Ends A (Flagged o r P) w
+pub ends_flagged : (o r : Bool) (A P : List ℕ → Type 0) (w : List ℕ) → Ends (BeginsPart r A P) P w → Ends A (Flagged o r P) w
 ends_flagged false false A P w h = h
 ends_flagged true false A P w (u, v, e, n, a, p) = (u, v, e, n, a, inr p)
 ends_flagged false true A P w (u, v, e, n, (u1, v1, e1, a, (k, r)), p) =

@@ -7,12 +7,12 @@ use Rattle.pattern_match.specs.declared.token.Token.{Token}
 use Rattle.pattern_match.specs.declared.token.Token.TheVariants.{Open as OpenToken, Close as CloseToken, Bar as BarToken, Single as SingleToken, Dot as DotToken, Spaces as SpacesToken, ClassStart, Member, Times}
 
 -- the most positions of a pattern
-abbrev pub limit : ℕ
-limit = 65536
+abbrev pub position_limit : ℕ
+position_limit = 65536
 
 -- positions are counted up to one more than the limit
-abbrev pub capped : ℕ → ℕ
-capped n = min n 65537
+abbrev pub cap_count : ℕ → ℕ
+cap_count n = min n 65537
 
 -- the code so far, the groups that are begun, the innermost first, the positions of the innermost but its last piece, those of its last piece, where that begins,
 -- where the last branch begins that may still be empty, and whether an empty one was left out
@@ -26,16 +26,16 @@ pub record Built : Type 0 where
   pub empty : Bool
 
 -- an instruction with these flags too
-abbrev pub flagged : Bool → Bool → Instruction → Instruction
-flagged optional repeated (Take at o r) = Take at (optional || o) (repeated || r)
-flagged optional repeated (Open length o r) = Open length (optional || o) (repeated || r)
-flagged optional repeated Bar = Bar
-flagged optional repeated Close = Close
+abbrev pub add_flags : Bool → Bool → Instruction → Instruction
+add_flags optional repeated (Take at o r) = Take at (optional || o) (repeated || r)
+add_flags optional repeated (Open length o r) = Open length (optional || o) (repeated || r)
+add_flags optional repeated Bar = Bar
+add_flags optional repeated Close = Close
 
 -- a fragment with these flags on its first instruction too
 abbrev pub flagged_first : Bool → Bool → List Instruction → List Instruction
 flagged_first optional repeated [] = []
-flagged_first optional repeated (i ∷ code) = flagged optional repeated i ∷ code
+flagged_first optional repeated (i ∷ code) = add_flags optional repeated i ∷ code
 
 -- so many copies, one after the other
 abbrev pub copies_code : ℕ → List Instruction → List Instruction
@@ -49,9 +49,9 @@ repeated_code least None code =
     if least == 0 then flagged_first true true code else copies_code (least - 1) (flagged_first false false code) ++ flagged_first false true code
 
 -- how many copies of a piece are kept
-abbrev pub kept : ℕ → Option ℕ → ℕ
-kept least None = max least 1
-kept least (Some most) = most
+abbrev pub kept_copies : ℕ → Option ℕ → ℕ
+kept_copies least None = max least 1
+kept_copies least (Some most) = most
 
 -- a group that begins here, where this is built around it
 abbrev pub begun_at : ℕ → ℕ → ℕ → Bool → Begun
@@ -59,7 +59,7 @@ begun_at start total branch empty = record { start = start; total = total; branc
 
 -- the positions of the innermost group
 abbrev pub sum_of : Built → ℕ
-sum_of b = capped (b.total + b.last)
+sum_of b = cap_count (b.total + b.last)
 
 -- behind an atom
 abbrev pub after_atom : ℕ → Built → Built
@@ -97,8 +97,8 @@ is_item (Bar ∷ code) = false
 is_item (Close ∷ code) = false
 
 -- the code of a group that begins here and may be left out or not: without marks where one atom or one group stands in it
-abbrev pub wrapped : ℕ → Bool → List Instruction → List Instruction
-wrapped start empty code =
+abbrev pub wrapped_group : ℕ → Bool → List Instruction → List Instruction
+wrapped_group start empty code =
     if is_item (drop (start + 1) code) then take start code ++ flagged_first empty false (drop (start + 1) code)
     else slice_set code start (Open (length code - start - 1) empty false) ++ Close ∷ []
 
@@ -106,8 +106,8 @@ wrapped start empty code =
 abbrev pub closed_code : ℕ → ℕ → Bool → List Instruction → ℕ → List Instruction
 closed_code start branch empty code positions =
     if positions == 0 then take start code
-    else if length code == branch then wrapped start true (take (branch - 1) code)
-    else wrapped start empty code
+    else if length code == branch then wrapped_group start true (take (branch - 1) code)
+    else wrapped_group start empty code
 
 -- behind the end of a group
 abbrev pub after_close_of : List Begun → Built → Built
@@ -129,15 +129,15 @@ after_close b = after_close_of b.begun b
 -- the code of a piece of so many positions, repeated as the bounds say: dropped where nothing is kept of it, as it is where too much would be
 abbrev pub piece_code : ℕ → List Instruction → ℕ → ℕ → Option ℕ → List Instruction
 piece_code start code positions least most =
-    if positions == 0 then take start code else if nat_lt limit positions then code else take start code ++ repeated_code least most (drop start code)
+    if positions == 0 then take start code else if nat_lt position_limit positions then code else take start code ++ repeated_code least most (drop start code)
 
 -- behind a quantifier
 abbrev pub after_times : ℕ → Option ℕ → Built → Built
 after_times least most b = record {
-  code = piece_code b.start b.code (b.last * kept least most) least most;
+  code = piece_code b.start b.code (b.last * kept_copies least most) least most;
   begun = b.begun;
   total = b.total;
-  last = capped (b.last * kept least most);
+  last = cap_count (b.last * kept_copies least most);
   start = b.start;
   branch = b.branch;
   empty = b.empty;
@@ -156,9 +156,9 @@ after (Member low high) at b = b
 after (Times least most) at b = after_times least most b
 
 -- behind tokens, the first of which has this number
-abbrev pub built : ℕ → List Token → Built → Built
-built at [] b = b
-built at (token ∷ tokens) b = built (at + 1) tokens (after token at b)
+abbrev pub build_behind : ℕ → List Token → Built → Built
+build_behind at [] b = b
+build_behind at (token ∷ tokens) b = build_behind (at + 1) tokens (after token at b)
 
 -- before the first token
 abbrev pub nothing_built : Built
@@ -166,4 +166,4 @@ nothing_built = record { code = []; begun = []; total = 0; last = 0; start = 0; 
 
 -- a whole pattern: one group
 abbrev pub built_whole : List Token → Built
-built_whole tokens = after_close (built 0 tokens (after_open nothing_built))
+built_whole tokens = after_close (build_behind 0 tokens (after_open nothing_built))

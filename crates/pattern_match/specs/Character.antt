@@ -11,21 +11,21 @@ use Rattle.pattern_match.specs.declared.character.BehindBackslash.{BehindBacksla
 use Rattle.pattern_match.specs.declared.character.BehindBackslash.TheVariants.{Space, Letter, Stray as StrayBehind}
 
 -- XML 1.0 §2.2, Char, as a test
-abbrev pub is_xml : ℕ → Bool
-is_xml c = (nat_le 0x20 c && nat_le c 0xD7FF) || (nat_le 0x9 c && nat_le c 0xA) || (c == 0xD) || (nat_le 0xE000 c && nat_le c 0xFFFD) || (nat_le 0x1_0000 c && nat_le c 0x10_FFFF)
+abbrev pub is_xml_character : ℕ → Bool
+is_xml_character c = (nat_le 0x20 c && nat_le c 0xD7FF) || (nat_le 0x9 c && nat_le c 0xA) || (c == 0xD) || (nat_le 0xE000 c && nat_le c 0xFFFD) || (nat_le 0x1_0000 c && nat_le c 0x10_FFFF)
 
 -- outside a class
 abbrev pub outside : ℕ → Outside
 outside c =
     if c == 46 then Dot else if c == 92 then Backslash else if c == 91 then OpenClass else if c == 40 then OpenGroup else if c == 41 then CloseGroup
     else if c == 124 then Bar else if c == 63 then Optional else if c == 42 then AnyNumber else if c == 43 then OneOrMore else if c == 123 then OpenBounds
-    else if c == 93 then Stray else if c == 125 then Stray else if is_xml c then Ordinary else Stray
+    else if c == 93 then Stray else if c == 125 then Stray else if is_xml_character c then Ordinary else Stray
 
 -- in a class
 abbrev pub within : ℕ → Within
 within c =
     if c == 92 then BackslashWithin else if c == 45 then Hyphen else if c == 93 then CloseClass else if c == 91 then StrayWithin
-    else if is_xml c then Plain else StrayWithin
+    else if is_xml_character c then Plain else StrayWithin
 
 -- in the bounds of a quantifier
 abbrev pub in_number : ℕ → InNumber

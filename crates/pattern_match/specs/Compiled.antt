@@ -3,10 +3,10 @@
 use Rattle.std.specs.Prelude.{ℕ, ◌≡◌, ◌+◌, Bool, true, false, Some, List, [], ◌∷◌, length, replicate}
 use Rattle.std.specs.Str.{chars}
 use Rattle.pattern_match.specs.Token.{admits}
-use Rattle.pattern_match.specs.Tokens.{emitted}
-use Rattle.pattern_match.specs.Building.{built_whole, limit}
+use Rattle.pattern_match.specs.Tokens.{emit_tokens}
+use Rattle.pattern_match.specs.Building.{built_whole, position_limit}
 use Rattle.pattern_match.specs.Marking.{first_pass, second_pass}
-use Rattle.pattern_match.specs.Recall.{Matching, reached, IsRightTable, IsRow}
+use Rattle.pattern_match.specs.Recall.{Matching, reached_marks, IsRightTable, IsRow}
 use Rattle.pattern_match.specs.Marks.{Walk, IsDone}
 use Rattle.pattern_match.specs.Reading.{HasPositionsWithin}
 use Rattle.pattern_match.specs.declared.control.Control.TheVariants.{Start}
@@ -15,7 +15,7 @@ use Rattle.pattern_match.specs.declared.token.Token.{Token}
 
 -- the tokens of a text, and their code
 abbrev pub tokens_of_text : List ℕ → List Token
-tokens_of_text text = emitted (Some Start) text
+tokens_of_text text = emit_tokens (Some Start) text
 
 -- the code of the tokens of a text
 abbrev pub code_of_text : List ℕ → List Instruction
@@ -23,7 +23,7 @@ code_of_text text = (built_whole (tokens_of_text text)).code
 
 -- the bytes are the text of a pattern that is not too large, with these tokens and this code
 pub record IsCompiled (bytes : List ℕ) (tokens : List Token) (code : List Instruction) : Type 0 where
-  pub pattern : HasPositionsWithin (chars bytes) limit
+  pub pattern : HasPositionsWithin (chars bytes) position_limit
   pub tokens_are : tokens ≡ tokens_of_text (chars bytes)
   pub code_is : code ≡ code_of_text (chars bytes)
 
@@ -54,14 +54,14 @@ pub record IsStart (bytes : List ℕ) (start : Walk) : Type 0 where
   pub marks : start.cells ≡ first_marks (code_of_text (chars bytes))
 
 -- the matcher has read the word with the pattern of the text, what it remembers is right, and its marks are those of the pattern's code
-pub record HasRead (bytes : List ℕ) (matcher : Matching) (w : List ℕ) : Type 0 where
-  pub marked : IsMarked bytes (reached matcher) w
+pub record HasReadWord (bytes : List ℕ) (matcher : Matching) (w : List ℕ) : Type 0 where
+  pub marked : IsMarked bytes (reached_marks matcher) w
   pub table : IsRightTable (follows bytes) matcher.known
-  pub at : IsRow matcher.known matcher.at (reached matcher)
+  pub at : IsRow matcher.known matcher.at (reached_marks matcher)
   pub first : IsRow matcher.known matcher.first (first_marks (code_of_text (chars bytes)))
   pub done : IsDone (code_of_text (chars bytes)) matcher.walk
   pub start : IsStart bytes matcher.start
 
 -- the matcher was made for the pattern of the text: it has read some word with it
 abbrev pub IsMadeFor : List ℕ → Matching → Type 0
-IsMadeFor bytes matcher = (w : List ℕ) × HasRead bytes matcher w
+IsMadeFor bytes matcher = (w : List ℕ) × HasReadWord bytes matcher w

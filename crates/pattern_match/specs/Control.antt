@@ -1,6 +1,6 @@
 -- How a character leads the reading of a pattern on, XML Schema part 2, appendix F: the state of a machine, which the contracts of private functions alone cite.
 use Rattle.std.specs.Prelude.{ℕ, ◌+◌, ◌*◌, ◌/◌, ◌≤◌, suc, zero, Bool, true, false, ◌&&◌, ◌==◌, nat_le, nat_lt, if◌then◌else◌, Option, Some, None, List, [], ◌∷◌}
-use Rattle.pattern_match.specs.Valid.{escaped}
+use Rattle.pattern_match.specs.Valid.{escaped_letter}
 use Rattle.pattern_match.specs.Character.{outside, within, in_number, behind_backslash}
 use Rattle.pattern_match.specs.declared.character.Outside.{Outside}
 use Rattle.pattern_match.specs.declared.character.Outside.TheVariants.{Ordinary, Dot, Backslash, OpenClass, OpenGroup, CloseGroup, Bar, Optional, AnyNumber, OneOrMore, OpenBounds, Stray}
@@ -15,8 +15,8 @@ use Rattle.pattern_match.specs.declared.control.Control.TheVariants.{Start, Atom
 use Rattle.pattern_match.specs.declared.control.Reading.{Reading}
 
 -- what no digits of a bound weigh
-abbrev pub full : ℕ
-full = 1000000000
+abbrev pub whole_weight : ℕ
+whole_weight = 1000000000
 
 -- from the start of a piece
 abbrev pub outside_next : Outside → Option Control
@@ -38,7 +38,7 @@ abbrev pub atom_next : Outside → Option Control
 atom_next Optional = Some Start
 atom_next AnyNumber = Some Start
 atom_next OneOrMore = Some Start
-atom_next OpenBounds = Some (Least full 0)
+atom_next OpenBounds = Some (Least whole_weight 0)
 atom_next Ordinary = Some Atom
 atom_next Dot = Some Atom
 atom_next CloseGroup = Some Atom
@@ -55,14 +55,14 @@ escape_next Letter = Some Atom
 escape_next StrayBehind = None
 
 -- digits that stand for value leave room for those that the weight counts
-abbrev pub HasRoom : ℕ → ℕ → Type 0
-HasRoom weight value = (value + 1) * weight ≤ full
+abbrev pub HasRoomForDigits : ℕ → ℕ → Type 0
+HasRoomForDigits weight value = (value + 1) * weight ≤ whole_weight
 
 -- in the first bound
 abbrev pub least_next : ℕ → ℕ → InNumber → Option Control
 least_next weight value (Digit digit) = if nat_lt weight 10 then None else Some (Least (weight / 10) (10 * value + digit))
-least_next weight value CloseBounds = if nat_lt weight full then Some Start else None
-least_next weight value Comma = if nat_lt weight full then Some (Most value full 0) else None
+least_next weight value CloseBounds = if nat_lt weight whole_weight then Some Start else None
+least_next weight value Comma = if nat_lt weight whole_weight then Some (Most value whole_weight 0) else None
 least_next weight value StrayInNumber = None
 
 -- in the second bound: some number of nine digits at most goes on so and is not below the first
@@ -70,7 +70,7 @@ abbrev pub most_next : ℕ → ℕ → ℕ → InNumber → Option Control
 most_next least weight value (Digit digit) =
     if nat_lt weight 10 then None
     else if nat_lt least ((10 * value + digit + 1) * (weight / 10)) then Some (Most least (weight / 10) (10 * value + digit)) else None
-most_next least weight value CloseBounds = if weight == full then Some Start else if nat_le least value then Some Start else None
+most_next least weight value CloseBounds = if weight == whole_weight then Some Start else if nat_le least value then Some Start else None
 most_next least weight value Comma = None
 most_next least weight value StrayInNumber = None
 
@@ -117,30 +117,30 @@ class_end_next StrayWithin = None
 -- from behind a backslash in a class
 abbrev pub class_escape_next : BehindBackslash → ℕ → Option Control
 class_escape_next Space c = Some ClassItem
-class_escape_next Letter c = Some (ClassSingle (escaped c))
+class_escape_next Letter c = Some (ClassSingle (escaped_letter c))
 class_escape_next StrayBehind c = None
 
 -- from behind a backslash where a range ends
 abbrev pub range_escape_next : ℕ → BehindBackslash → ℕ → Option Control
 range_escape_next low Space c = None
-range_escape_next low Letter c = if nat_le low (escaped c) then Some ClassItem else None
+range_escape_next low Letter c = if nat_le low (escaped_letter c) then Some ClassItem else None
 range_escape_next low StrayBehind c = None
 
 -- what stands before the character after c
-abbrev pub next : Control → ℕ → Option Control
-next Start c = outside_next (outside c)
-next Atom c = atom_next (outside c)
-next Escape c = escape_next (behind_backslash c)
-next (Least weight value) c = least_next weight value (in_number c)
-next (Most least weight value) c = most_next least weight value (in_number c)
-next ClassStart c = if c == 94 then Some ClassNegated else class_first_next (within c) c
-next ClassNegated c = class_first_next (within c) c
-next ClassItem c = class_item_next (within c) c
-next (ClassSingle low) c = class_single_next low (within c) c
-next (ClassDash low) c = class_dash_next low (within c) c
-next ClassEscape c = class_escape_next (behind_backslash c) c
-next (RangeEscape low) c = range_escape_next low (behind_backslash c) c
-next ClassEnd c = class_end_next (within c)
+abbrev pub next_control : Control → ℕ → Option Control
+next_control Start c = outside_next (outside c)
+next_control Atom c = atom_next (outside c)
+next_control Escape c = escape_next (behind_backslash c)
+next_control (Least weight value) c = least_next weight value (in_number c)
+next_control (Most least weight value) c = most_next least weight value (in_number c)
+next_control ClassStart c = if c == 94 then Some ClassNegated else class_first_next (within c) c
+next_control ClassNegated c = class_first_next (within c) c
+next_control ClassItem c = class_item_next (within c) c
+next_control (ClassSingle low) c = class_single_next low (within c) c
+next_control (ClassDash low) c = class_dash_next low (within c) c
+next_control ClassEscape c = class_escape_next (behind_backslash c) c
+next_control (RangeEscape low) c = range_escape_next low (behind_backslash c) c
+next_control ClassEnd c = class_end_next (within c)
 
 -- how many groups are open then
 abbrev pub depth_outside : Outside → ℕ → Option ℕ
@@ -160,24 +160,24 @@ abbrev pub reading : Control → ℕ → Reading
 reading control depth = record { control = control; depth = depth }
 
 -- both, where there are both
-abbrev pub joined : Option Control → Option ℕ → Option Reading
-joined None depth = None
-joined (Some control) None = None
-joined (Some control) (Some depth) = Some (reading control depth)
+abbrev pub joined_reading : Option Control → Option ℕ → Option Reading
+joined_reading None depth = None
+joined_reading (Some control) None = None
+joined_reading (Some control) (Some depth) = Some (reading control depth)
 
 -- where the reading stands behind c
-abbrev pub step : Reading → ℕ → Option Reading
-step r c = joined (next r.control c) (depth_after r.control c r.depth)
+abbrev pub next_reading : Reading → ℕ → Option Reading
+next_reading r c = joined_reading (next_control r.control c) (depth_after r.control c r.depth)
 
 -- behind one more character, where there was a reading
 abbrev pub step_from : Option Reading → ℕ → Option Reading
 step_from None c = None
-step_from (Some r) c = step r c
+step_from (Some r) c = next_reading r c
 
 -- where it stands behind characters
-abbrev pub run : Option Reading → List ℕ → Option Reading
-run r [] = r
-run r (c ∷ cs) = run (step_from r c) cs
+abbrev pub run_reading : Option Reading → List ℕ → Option Reading
+run_reading r [] = r
+run_reading r (c ∷ cs) = run_reading (step_from r c) cs
 
 -- a pattern may end there
 abbrev pub ends_piece : Control → Bool
@@ -190,7 +190,7 @@ abbrev pub may_end : Reading → Bool
 may_end r = ends_piece r.control && (r.depth == 0)
 
 -- the digits read leave room for those that may follow
-abbrev pub IsSound : Control → Type 0
-IsSound (Least weight value) = HasRoom weight value
-IsSound (Most least weight value) = HasRoom weight value
-IsSound control = Unit {0}
+abbrev pub IsSoundControl : Control → Type 0
+IsSoundControl (Least weight value) = HasRoomForDigits weight value
+IsSoundControl (Most least weight value) = HasRoomForDigits weight value
+IsSoundControl control = Unit {0}

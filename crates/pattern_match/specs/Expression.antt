@@ -7,11 +7,11 @@ pub data Single : Type 0 where
   Escaped : ℕ → Single
 
 -- what stands in a class: a single, a range of two singles [18], `\s` [37], or a hyphen that stands for itself [22]
-pub data Item : Type 0 where
-  One : Single → Item
-  Range : Single → Single → Item
-  Spaces : Item
-  Hyphen : Item
+pub data ClassMember : Type 0 where
+  One : Single → ClassMember
+  Range : Single → Single → ClassMember
+  Spaces : ClassMember
+  Hyphen : ClassMember
 
 -- what matches one character: a character [10], `.` [37], an escape [24], `\s` [37], or a class [12] that may be negated [15]
 pub data Atom : Type 0 where
@@ -19,7 +19,7 @@ pub data Atom : Type 0 where
   Dot : Atom
   Escape : ℕ → Atom
   Space : Atom
-  Class : (negated : Bool) → List Item → Atom
+  Class : (negated : Bool) → List ClassMember → Atom
 
 -- how often a piece stands: no quantifier, `?`, `*`, `+`, `{n}`, `{n,}` and `{n,m}` with the digits that are written: quantifier [4] to QuantExact [8]
 pub data Quantifier : Type 0 where

@@ -1,26 +1,26 @@
 -- Which words a pattern matches, by recursion on its syntax tree: XML Schema part 2, appendix F.
 use Rattle.std.specs.Prelude.{ℕ, zero, suc, ◌≡◌, ◌≢◌, ◌≤◌, ◌⊎◌, Bool, true, false, List, [], ◌∷◌, ◌++◌}
-use Rattle.pattern_match.specs.Expression.{Item, One, Range, Spaces, Hyphen, Atom, Character, Dot, Escape, Space, Class, Quantifier, Once, Optional, AnyNumber, OneOrMore, Exactly, AtLeast, Between, Expression, Empty, Piece, Group, Choice}
-use Rattle.pattern_match.specs.Valid.{escaped, meant, number}
+use Rattle.pattern_match.specs.Expression.{ClassMember, One, Range, Spaces, Hyphen, Atom, Character, Dot, Escape, Space, Class, Quantifier, Once, Optional, AnyNumber, OneOrMore, Exactly, AtLeast, Between, Expression, Empty, Piece, Group, Choice}
+use Rattle.pattern_match.specs.Valid.{escaped_letter, meant, digits_number}
 
 -- `\s`: space, tab, LF or CR [37]
-abbrev pub IsSpace : ℕ → Type 0
-IsSpace c = (c ≡ 32) ⊎ ((c ≡ 9) ⊎ ((c ≡ 10) ⊎ (c ≡ 13)))
+abbrev pub IsPatternSpace : ℕ → Type 0
+IsPatternSpace c = (c ≡ 32) ⊎ ((c ≡ 9) ⊎ ((c ≡ 10) ⊎ (c ≡ 13)))
 
 -- the characters of an item of a class
-abbrev pub ItemHas : Item → ℕ → Type 0
+abbrev pub ItemHas : ClassMember → ℕ → Type 0
 ItemHas (One s) c = c ≡ meant s
 ItemHas (Range low high) c = (meant low ≤ c) × (c ≤ meant high)
-ItemHas Spaces c = IsSpace c
+ItemHas Spaces c = IsPatternSpace c
 ItemHas Hyphen c = c ≡ 45
 
 -- the characters of some item: posCharGroup [14]
-abbrev pub SomeHas : List Item → ℕ → Type 0
+abbrev pub SomeHas : List ClassMember → ℕ → Type 0
 SomeHas [] c = ⊥
 SomeHas (i ∷ items) c = ItemHas i c ⊎ SomeHas items c
 
 -- the characters of a class: those of some item, or where it is negated all others [15]
-abbrev pub ClassHas : Bool → List Item → ℕ → Type 0
+abbrev pub ClassHas : Bool → List ClassMember → ℕ → Type 0
 ClassHas true items c = SomeHas items c → ⊥
 ClassHas false items c = SomeHas items c
 
@@ -28,8 +28,8 @@ ClassHas false items c = SomeHas items c
 abbrev pub AtomHas : Atom → ℕ → Type 0
 AtomHas (Character x) c = c ≡ x
 AtomHas Dot c = (c ≢ 10) × (c ≢ 13)
-AtomHas (Escape letter) c = c ≡ escaped letter
-AtomHas Space c = IsSpace c
+AtomHas (Escape letter) c = c ≡ escaped_letter letter
+AtomHas Space c = IsPatternSpace c
 AtomHas (Class negated items) c = ClassHas negated items c
 
 -- the words of one character that the atom matches
@@ -47,9 +47,9 @@ Allows Once k = k ≡ 1
 Allows Optional k = k ≤ 1
 Allows AnyNumber k = Unit {0}
 Allows OneOrMore k = 1 ≤ k
-Allows (Exactly n) k = k ≡ number n
-Allows (AtLeast n) k = number n ≤ k
-Allows (Between n m) k = (number n ≤ k) × (k ≤ number m)
+Allows (Exactly n) k = k ≡ digits_number n
+Allows (AtLeast n) k = digits_number n ≤ k
+Allows (Between n m) k = (digits_number n ≤ k) × (k ≤ digits_number m)
 
 -- some number of parts that the quantifier allows, each of which P has
 abbrev pub IsQuantified : (List ℕ → Type 0) → Quantifier → List ℕ → Type 0

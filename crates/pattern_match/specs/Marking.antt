@@ -9,9 +9,9 @@ abbrev pub frame : Bool → Bool → Frame
 frame entered left = record { entered = entered; left = left }
 
 -- the innermost group that is begun: where none is kept, one that no word has begun or left
-abbrev pub innermost : List Frame → Frame
-innermost [] = frame false false
-innermost (f ∷ frames) = f
+abbrev pub innermost_group : List Frame → Frame
+innermost_group [] = frame false false
+innermost_group (f ∷ frames) = f
 
 -- the groups around it
 abbrev pub around : List Frame → List Frame
@@ -25,15 +25,15 @@ with_group f (g ∷ frames) = f ∷ g ∷ frames
 
 -- whether a word may go on behind a bar
 abbrev pub now_at_bar : List Frame → Bool
-now_at_bar frames = (innermost frames).entered
+now_at_bar frames = (innermost_group frames).entered
 
 -- the groups that are begun behind a bar
 abbrev pub frames_at_bar : Bool → List Frame → List Frame
-frames_at_bar now frames = with_group (frame (innermost frames).entered ((innermost frames).left || now)) (around frames)
+frames_at_bar now frames = with_group (frame (innermost_group frames).entered ((innermost_group frames).left || now)) (around frames)
 
 -- whether a word may go on behind the end of a group
 abbrev pub now_at_close : Bool → List Frame → Bool
-now_at_close now frames = (innermost frames).left || now
+now_at_close now frames = (innermost_group frames).left || now
 
 -- one instruction of the first pass: its new mark, whether a word may go on behind it, and the groups that are begun then
 abbrev pub first_mark : (ℕ → Bool) → Instruction → Bool → Bool → List Frame → Bool
@@ -64,9 +64,9 @@ first_pass admits (i ∷ code) (mark ∷ marks) live frames =
     first_mark admits i mark live frames ∷ first_pass admits code marks (first_live admits i mark live frames) (first_frames i live frames)
 
 -- where the group that an instruction begins ends, behind it
-abbrev pub end_of : Instruction → ℕ
-end_of (Open length optional repeated) = length
-end_of i = 0
+abbrev pub end_of_group : Instruction → ℕ
+end_of_group (Open length optional repeated) = length
+end_of_group i = 0
 
 -- one instruction of the second pass
 abbrev pub second_mark : Instruction → Bool → Bool → List Frame → Bool
@@ -94,5 +94,5 @@ abbrev pub second_pass : List Instruction → List Bool → Bool → List Frame 
 second_pass [] hits live frames = live ∷ []
 second_pass (i ∷ code) [] live frames = []
 second_pass (i ∷ code) (hit ∷ hits) live frames =
-    let end = slice_index_or hits (end_of i) false in
+    let end = slice_index_or hits (end_of_group i) false in
     second_mark i hit live frames ∷ second_pass code hits (second_live i hit end live frames) (second_frames i end live frames)

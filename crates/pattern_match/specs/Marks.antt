@@ -13,29 +13,29 @@ pub record Walk : Type 0 where
   pub ahead : List ℕ
 
 -- a group that the instruction begins ends within so many instructions behind it
-abbrev pub IsEnded : Instruction → ℕ → Type 0
-IsEnded (Take at optional repeated) n = Unit {0}
-IsEnded (Open length optional repeated) n = length < n
-IsEnded Bar n = Unit {0}
-IsEnded Close n = Unit {0}
+abbrev pub IsGroupEnded : Instruction → ℕ → Type 0
+IsGroupEnded (Take at optional repeated) n = Unit {0}
+IsGroupEnded (Open length optional repeated) n = length < n
+IsGroupEnded Bar n = Unit {0}
+IsGroupEnded Close n = Unit {0}
 
 -- the groups that begin among the first n instructions end among them
 abbrev pub AreEnded : ℕ → List Instruction → Type 0
 AreEnded zero code = Unit {0}
 AreEnded (suc n) [] = Unit {0}
-AreEnded (suc n) (i ∷ code) = IsEnded i n × AreEnded n code
+AreEnded (suc n) (i ∷ code) = IsGroupEnded i n × AreEnded n code
 
 -- the places, in ascending order, of such instructions, the first of which has this one, that none of the others is marked, and each group that holds one of them is one too
-abbrev pub Lists : ℕ → List Instruction → List Bool → List ℕ → Type 0
-Lists from code marks [] = (more : List Bool) × (marks ≡ replicate (length code) false ++ more) × AreEnded (length code) code
-Lists from code marks (place ∷ places) =
+abbrev pub ListsPlaces : ℕ → List Instruction → List Bool → List ℕ → Type 0
+ListsPlaces from code marks [] = (more : List Bool) × (marks ≡ replicate (length code) false ++ more) × AreEnded (length code) code
+ListsPlaces from code marks (place ∷ places) =
     (unset : ℕ) × (mark : Bool) × (later : List Bool) × (place ≡ from + unset) × (unset < length code) × (marks ≡ replicate unset false ++ mark ∷ later)
-    × AreEnded unset code × Lists (place + 1) (drop (suc unset) code) later places
+    × AreEnded unset code × ListsPlaces (place + 1) (drop (suc unset) code) later places
 
 -- the first of the places, or this one
-abbrev pub first_of : List ℕ → ℕ → ℕ
-first_of [] none = none
-first_of (place ∷ places) none = place
+abbrev pub first_place_or : List ℕ → ℕ → ℕ
+first_place_or [] none = none
+first_place_or (place ∷ places) none = place
 
 -- the places behind this one, which may be the first of them
 abbrev pub past : ℕ → List ℕ → List ℕ
@@ -46,8 +46,8 @@ past at (place ∷ places) = if place == at then places else place ∷ places
 pub record IsListed (code : List Instruction) (walk : Walk) : Type 0 where
   pub long : length walk.cells ≡ length code + 1
   pub inside : walk.at ≤ length code
-  pub behind : Lists 0 (take walk.at code) (take walk.at walk.cells) walk.behind
-  pub ahead : Lists walk.at (drop walk.at code) (drop walk.at walk.cells) walk.ahead
+  pub behind : ListsPlaces 0 (take walk.at code) (take walk.at walk.cells) walk.behind
+  pub ahead : ListsPlaces walk.at (drop walk.at code) (drop walk.at walk.cells) walk.ahead
 
 -- the instruction begins a group
 abbrev pub is_open : Instruction → Bool
@@ -81,5 +81,5 @@ pub record IsDone (code : List Instruction) (walk : Walk) : Type 0 where
 pub record Starts (code : List Instruction) (first walk : Walk) : Type 0 where
   pub listed : IsListed code walk
   pub long : length first.cells ≡ length code + 1
-  pub ahead : Lists walk.at (drop walk.at code) (drop walk.at first.cells) walk.ahead
+  pub ahead : ListsPlaces walk.at (drop walk.at code) (drop walk.at first.cells) walk.ahead
   pub same : take walk.at walk.cells ≡ take walk.at first.cells

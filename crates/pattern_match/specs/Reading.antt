@@ -30,15 +30,15 @@ abbrev pub HasPositions : List ℕ → ℕ → Type 0
 HasPositions text n = (tree : Expression) × IsTreeOf text tree × (positions tree ≡ n)
 
 -- some pattern goes on so: the text is the front of one
-abbrev pub GoesOn : List ℕ → Type 0
-GoesOn front = (rest : List ℕ) × IsPattern (front ++ rest)
+abbrev pub PatternGoesOn : List ℕ → Type 0
+PatternGoesOn front = (rest : List ℕ) × IsPattern (front ++ rest)
 
 -- the text is no pattern, the characters before the place go on, and with the character there no pattern goes on so; or the text ends there
 pub record IsRefusedAt (text : List ℕ) (place : ℕ) : Type 0 where
   pub none : IsPattern text → ⊥
   pub within : place ≤ length text
-  pub before : GoesOn (take place text)
-  pub after : place < length text → GoesOn (take (place + 1) text) → ⊥
+  pub before : PatternGoesOn (take place text)
+  pub after : place < length text → PatternGoesOn (take (place + 1) text) → ⊥
 
 -- the word is one of the pattern that the text is
 abbrev pub Matches : List ℕ → List ℕ → Type 0
@@ -49,7 +49,7 @@ abbrev pub IsDecided : List ℕ → List ℕ → Type 0
 IsDecided text w = Matches text w ⊎ (Matches text w → ⊥)
 
 -- what an error of reading tells
-abbrev pub Refuses : List ℕ → PatternError → Type 0
-Refuses text (Refused place) = IsRefusedAt text place
-Refuses text TooLarge = HasMorePositions text 65536
-Refuses text Memory = Unit {0}
+abbrev pub RefusesPattern : List ℕ → PatternError → Type 0
+RefusesPattern text (Refused place) = IsRefusedAt text place
+RefusesPattern text TooLarge = HasMorePositions text 65536
+RefusesPattern text Memory = Unit {0}

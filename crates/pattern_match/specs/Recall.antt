@@ -47,5 +47,5 @@ marks_at None known cells = cells
 marks_at (Some s) known cells = row known s
 
 -- the marks that a matcher has reached
-abbrev pub reached : Matching → List Bool
-reached m = marks_at m.at m.known m.walk.cells
+abbrev pub reached_marks : Matching → List Bool
+reached_marks m = marks_at m.at m.known m.walk.cells

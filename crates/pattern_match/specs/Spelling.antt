@@ -1,6 +1,6 @@
 -- How the syntax tree of a pattern is spelled, as a list of characters: XML Schema part 2, appendix F.
 use Rattle.std.specs.Prelude.{ℕ, Bool, true, false, List, [], ◌∷◌, ◌++◌}
-use Rattle.pattern_match.specs.Expression.{Single, Plain, Escaped, Item, One, Range, Spaces, Hyphen, Atom, Character, Dot, Escape, Space, Class, Quantifier, Once, Optional, AnyNumber, OneOrMore, Exactly, AtLeast, Between, Expression, Empty, Piece, Group, Choice}
+use Rattle.pattern_match.specs.Expression.{Single, Plain, Escaped, ClassMember, One, Range, Spaces, Hyphen, Atom, Character, Dot, Escape, Space, Class, Quantifier, Once, Optional, AnyNumber, OneOrMore, Exactly, AtLeast, Between, Expression, Empty, Piece, Group, Choice}
 
 -- charOrEsc [20]
 abbrev pub single_spelling : Single → List ℕ
@@ -8,14 +8,14 @@ single_spelling (Plain c) = c ∷ []
 single_spelling (Escaped letter) = 92 ∷ letter ∷ []
 
 -- charRange [17] and seRange [18]
-abbrev pub item_spelling : Item → List ℕ
+abbrev pub item_spelling : ClassMember → List ℕ
 item_spelling (One s) = single_spelling s
 item_spelling (Range low high) = single_spelling low ++ 45 ∷ single_spelling high
 item_spelling Spaces = 92 ∷ 115 ∷ []
 item_spelling Hyphen = 45 ∷ []
 
 -- the items of a class, one after the other: posCharGroup [14]
-abbrev pub items_spelling : List Item → List ℕ
+abbrev pub items_spelling : List ClassMember → List ℕ
 items_spelling [] = []
 items_spelling (i ∷ items) = item_spelling i ++ items_spelling items
 

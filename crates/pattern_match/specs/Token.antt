@@ -10,15 +10,15 @@ members_have (Member low high ∷ tokens) c = (nat_le low c && nat_le c high) ||
 members_have (token ∷ tokens) c = false
 
 -- `\s`
-abbrev pub is_space : ℕ → Bool
-is_space c = (c == 32) || (c == 9) || (c == 10) || (c == 13)
+abbrev pub is_pattern_space : ℕ → Bool
+is_pattern_space c = (c == 32) || (c == 9) || (c == 10) || (c == 13)
 
 -- whether the atom whose token stands first has the character
 abbrev pub first_admits : List Token → ℕ → Bool
 first_admits [] c = false
 first_admits (Single x ∷ tokens) c = c == x
 first_admits (Dot ∷ tokens) c = not ((c == 10) || (c == 13))
-first_admits (Spaces ∷ tokens) c = is_space c
+first_admits (Spaces ∷ tokens) c = is_pattern_space c
 first_admits (ClassStart true ∷ tokens) c = not (members_have tokens c)
 first_admits (ClassStart false ∷ tokens) c = members_have tokens c
 first_admits (token ∷ tokens) c = false

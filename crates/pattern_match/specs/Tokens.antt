@@ -1,8 +1,8 @@
 -- The tokens of a pattern's text, character by character: the state of a machine, which the contracts of private functions alone cite.
 use Rattle.std.specs.Prelude.{ℕ, true, false, ◌==◌, if◌then◌else◌, Option, Some, None, List, [], ◌∷◌, ◌++◌}
-use Rattle.pattern_match.specs.Valid.{escaped}
+use Rattle.pattern_match.specs.Valid.{escaped_letter}
 use Rattle.pattern_match.specs.Character.{outside, within, in_number, behind_backslash}
-use Rattle.pattern_match.specs.Control.{full, next}
+use Rattle.pattern_match.specs.Control.{whole_weight, next_control}
 use Rattle.pattern_match.specs.declared.character.Outside.{Outside}
 use Rattle.pattern_match.specs.declared.character.Outside.TheVariants.{Ordinary, Dot, Backslash, OpenClass, OpenGroup, CloseGroup, Bar, Optional, AnyNumber, OneOrMore, OpenBounds, Stray}
 use Rattle.pattern_match.specs.declared.character.Within.{Within}
@@ -49,7 +49,7 @@ behind_atom_tokens Stray c = []
 -- behind a backslash outside a class
 abbrev pub escape_tokens : BehindBackslash → ℕ → List Token
 escape_tokens Space c = SpacesToken ∷ []
-escape_tokens Letter c = SingleToken (escaped c) ∷ []
+escape_tokens Letter c = SingleToken (escaped_letter c) ∷ []
 escape_tokens StrayBehind c = []
 
 -- in the first bound
@@ -63,7 +63,7 @@ least_tokens value StrayInNumber = []
 abbrev pub most_tokens : ℕ → ℕ → ℕ → InNumber → List Token
 most_tokens least weight value (Digit digit) = []
 most_tokens least weight value Comma = []
-most_tokens least weight value CloseBounds = if weight == full then Times least None ∷ [] else Times least (Some value) ∷ []
+most_tokens least weight value CloseBounds = if weight == whole_weight then Times least None ∷ [] else Times least (Some value) ∷ []
 most_tokens least weight value StrayInNumber = []
 
 -- where an item of a class may begin
@@ -93,13 +93,13 @@ dash_tokens low StrayWithin c = []
 -- behind a backslash in a class
 abbrev pub class_escape_tokens : BehindBackslash → ℕ → List Token
 class_escape_tokens Space c = Member 32 32 ∷ Member 9 10 ∷ Member 13 13 ∷ []
-class_escape_tokens Letter c = Member (escaped c) (escaped c) ∷ []
+class_escape_tokens Letter c = Member (escaped_letter c) (escaped_letter c) ∷ []
 class_escape_tokens StrayBehind c = []
 
 -- behind a backslash where a range ends
 abbrev pub range_escape_tokens : ℕ → BehindBackslash → ℕ → List Token
 range_escape_tokens low Space c = []
-range_escape_tokens low Letter c = Member low (escaped c) ∷ []
+range_escape_tokens low Letter c = Member low (escaped_letter c) ∷ []
 range_escape_tokens low StrayBehind c = []
 
 -- the tokens that a character ends
@@ -119,7 +119,7 @@ emits (RangeEscape low) c = range_escape_tokens low (behind_backslash c) c
 emits ClassEnd c = []
 
 -- the tokens of characters, up to one that no pattern has there
-abbrev pub emitted : Option Control → List ℕ → List Token
-emitted None cs = []
-emitted (Some control) [] = []
-emitted (Some control) (c ∷ cs) = emits control c ++ emitted (next control c) cs
+abbrev pub emit_tokens : Option Control → List ℕ → List Token
+emit_tokens None cs = []
+emit_tokens (Some control) [] = []
+emit_tokens (Some control) (c ∷ cs) = emits control c ++ emit_tokens (next_control control c) cs

@@ -1,8 +1,8 @@
 // The code of a pattern, made token by token.
 ghost use Rattle.std.specs.Prelude.{◌≡◌, ◌==◌, ℕ, ◌+◌, ◌-◌, ◌*◌, ◌<◌, false, not, IsTrue, Option, is_some, List, [], ◌++◌, length, take, drop, OnOk, IfOk};
 ghost use Rattle.pattern_match.specs.declared.instruction.Instruction.{Instruction};
-ghost use Rattle.pattern_match.specs.Building.{flagged_first, copies_code, repeated_code, wrapped, closed_code, piece_code, after_atom, after_open, after_bar, after_close, after_times, after, nothing_built, built_whole};
-ghost use Rattle.pattern_match.specs.inner.Drafting.{live, full, IsPlace, IsGroup, IsBegun, Keeps, AreBegun, Drafted, IsReady, MayTake, Leaves, AreFollowing};
+ghost use Rattle.pattern_match.specs.Building.{flagged_first, copies_code, repeated_code, wrapped_group, closed_code, piece_code, after_atom, after_open, after_bar, after_close, after_times, after, nothing_built, built_whole};
+ghost use Rattle.pattern_match.specs.inner.Drafting.{live, full_cells, IsPlace, IsGroup, IsGroupBegun, KeepsFront, AreBegun, Drafted, MayRepeatLast, MayTakeToken, Leaves, AreFollowing};
 
 use crate::counter::{LIMIT, capped_sum, copies_kept};
 use crate::draft::{Draft, with_flags};
@@ -18,7 +18,7 @@ fn push_copy(
     optional: bool,
     repeated: bool,
 ) -> Result<(), AllocError>
-    ensures { OnOk result (code.new ≡ code.old ++ full (flagged_first optional repeated fragment.now)) }
+    ensures { OnOk result (code.new ≡ code.old ++ full_cells (flagged_first optional repeated fragment.now)) }
 {
     if fragment.len() == 0 {
         return Ok(());
@@ -38,7 +38,7 @@ fn push_copies(
     optional: bool,
     repeated: bool,
 ) -> Result<(), AllocError>
-    ensures { OnOk result (code.new ≡ code.old ++ full (copies_code count (flagged_first optional repeated fragment.now))) }
+    ensures { OnOk result (code.new ≡ code.old ++ full_cells (copies_code count (flagged_first optional repeated fragment.now))) }
 {
     for i in 0..count {
         push_copy(code, fragment, optional, repeated)?;
@@ -53,7 +53,7 @@ fn push_repeated(
     least: u64,
     most: Option<u64>,
 ) -> Result<(), AllocError>
-    ensures { OnOk result (code.new ≡ code.old ++ full (repeated_code least most fragment.now)) }
+    ensures { OnOk result (code.new ≡ code.old ++ full_cells (repeated_code least most fragment.now)) }
 {
     match most {
         Some(most) => {
@@ -91,7 +91,7 @@ fn copy_piece(
 ) -> Result<(), AllocError>
     requires { IsPlace code.old start }
     ensures code { OnOk result (live code.new ≡ take start.count (live code.old) ++ repeated_code least most (drop start.count (live code.old))) }
-    ensures kept { OnOk result (Keeps code.old code.new start) }
+    ensures kept { OnOk result (KeepsFront code.old code.new start) }
 {
     let fragment = code.code_from(alloc, start)?;
     code.truncate(start);
@@ -110,7 +110,7 @@ fn repeat_piece(
 ) -> Result<(), AllocError>
     requires { IsPlace code.old start }
     ensures code { OnOk result (live code.new ≡ piece_code start.count (live code.old) positions least most) }
-    ensures kept { OnOk result (Keeps code.old code.new start) }
+    ensures kept { OnOk result (KeepsFront code.old code.new start) }
 {
     if positions == 0 {
         code.truncate(start);
@@ -129,8 +129,8 @@ fn repeat_piece(
 /// Marks a group that begins at `start`, where it has more than one item.
 fn wrap_group(code: &mut Draft, start: Place, empty: bool) -> Result<(), AllocError>
     requires { IsGroup code.old start }
-    ensures code { OnOk result (live code.new ≡ wrapped start.count empty (live code.old)) }
-    ensures kept { OnOk result (Keeps code.old code.new start) }
+    ensures code { OnOk result (live code.new ≡ wrapped_group start.count empty (live code.old)) }
+    ensures kept { OnOk result (KeepsFront code.old code.new start) }
 {
     if code.has_one_item(start) {
         code.lift_item(start, empty);
@@ -148,9 +148,9 @@ fn close_group(
     empty: bool,
     positions: u64,
 ) -> Result<(), AllocError>
-    requires { IsBegun code.old start }
+    requires { IsGroupBegun code.old start }
     ensures code { OnOk result (live code.new ≡ closed_code start.count branch empty (live code.old) positions) }
-    ensures kept { OnOk result (Keeps code.old code.new start) }
+    ensures kept { OnOk result (KeepsFront code.old code.new start) }
 {
     if positions == 0 {
         code.truncate(start);
@@ -223,7 +223,7 @@ impl Builder {
     fn push_atom(&mut self, at: usize) -> Result<(), AllocError>
         requires { AreBegun self.old.cells self.old.groups }
         ensures built { OnOk result (self.new.built ≡ after_atom at self.old.built) }
-        ensures ready { OnOk result (IsReady self.new) }
+        ensures ready { OnOk result (MayRepeatLast self.new) }
         ensures groups { self.new.groups ≡ self.old.groups }
     {
         self.total = capped_sum(self.total, self.last);
@@ -304,7 +304,7 @@ impl Builder {
     }
 
     fn repeat(&mut self, alloc: Global, least: u64, most: Option<u64>) -> Result<(), AllocError>
-        requires { IsReady self.old }
+        requires { MayRepeatLast self.old }
         ensures built { OnOk result (self.new.built ≡ after_times least most self.old.built) }
         ensures leaves { OnOk result (Leaves (Token.Times least most) self.old self.new) }
     {
@@ -316,7 +316,7 @@ impl Builder {
 
     /// Goes on with the token of this number.
     fn take(&mut self, alloc: Global, token: Token, at: usize) -> Result<(), AllocError>
-        requires { MayTake token self.old }
+        requires { MayTakeToken token self.old }
         ensures built { OnOk result (self.new.built ≡ after token at self.old.built) }
         ensures leaves { OnOk result (Leaves token self.old self.new) }
     {

@@ -1,7 +1,7 @@
 // What a character of a pattern's text means where it stands: XML Schema part 2, appendix F.
 ghost use Rattle.std.specs.Prelude.{◌≡◌, ℕ};
 ghost use Rattle.pattern_match.specs.Character.{outside, within, in_number, behind_backslash, is_escape_letter};
-ghost use Rattle.pattern_match.specs.Valid.{escaped};
+ghost use Rattle.pattern_match.specs.Valid.{escaped_letter};
 
 use lexical_core::is_xml_char;
 
@@ -146,7 +146,7 @@ pub fn meaning_behind_backslash(c: char) -> BehindBackslash
 
 /// The character that an escape of this letter stands for.
 pub fn escaped_char(letter: char) -> char
-    ensures { result ≡ escaped letter }
+    ensures { result ≡ escaped_letter letter }
 {
     match letter {
         'n' => '\n',

@@ -1,6 +1,6 @@
 // Where the reading of a pattern stands, and how a character leads on: XML Schema part 2, appendix F.
 ghost use Rattle.std.specs.Prelude.{◌≡◌, ℕ, ◌<◌, ◌^◌};
-ghost use Rattle.pattern_match.specs.Control.{outside_next, atom_next, escape_next, least_next, most_next, class_first_next, class_item_next, class_single_next, class_dash_next, class_end_next, class_escape_next, range_escape_next, next, depth_outside, depth_after, step, may_end, HasRoom, IsSound};
+ghost use Rattle.pattern_match.specs.Control.{outside_next, atom_next, escape_next, least_next, most_next, class_first_next, class_item_next, class_single_next, class_dash_next, class_end_next, class_escape_next, range_escape_next, next_control, depth_outside, depth_after, next_reading, may_end, HasRoomForDigits, IsSoundControl};
 
 use crate::character::{
     BehindBackslash, InNumber, Outside, Within, escaped_char, meaning_behind_backslash,
@@ -86,7 +86,7 @@ fn next_escape(meaning: BehindBackslash) -> Option<Control>
 }
 
 fn next_least(weight: u64, value: u64, meaning: InNumber) -> Option<Control>
-    requires { HasRoom weight value }
+    requires { HasRoomForDigits weight value }
     ensures { result ≡ least_next weight value meaning }
 {
     match meaning {
@@ -110,7 +110,7 @@ fn next_least(weight: u64, value: u64, meaning: InNumber) -> Option<Control>
 }
 
 fn next_most(least: u64, weight: u64, value: u64, meaning: InNumber) -> Option<Control>
-    requires { HasRoom weight value }
+    requires { HasRoomForDigits weight value }
     ensures { result ≡ most_next least weight value meaning }
 {
     match meaning {
@@ -213,8 +213,8 @@ fn next_range_escape(low: char, meaning: BehindBackslash, c: char) -> Option<Con
 
 /// What stands before the character after `c`, or none where no pattern goes on so in any group.
 pub fn control_after(control: Control, c: char) -> Option<Control>
-    requires { IsSound control }
-    ensures { result ≡ next control c }
+    requires { IsSoundControl control }
+    ensures { result ≡ next_control control c }
 {
     match control {
         Control::Start => next_outside(meaning_outside(c)),
@@ -266,9 +266,9 @@ fn groups_after(control: Control, c: char, depth: u64) -> Option<u64>
 
 /// Where the reading stands behind `c`, or none where no pattern goes on so.
 pub fn reading_after(at: Reading, c: char) -> Option<Reading>
-    requires sound { IsSound at.control }
+    requires sound { IsSoundControl at.control }
     requires depth { at.depth < 2 ^ 63 }
-    ensures { result ≡ step at c }
+    ensures { result ≡ next_reading at c }
 {
     let control = control_after(at.control, c)?;
     let depth = groups_after(at.control, c, at.depth)?;

@@ -1,6 +1,6 @@
 // Counts the positions of a pattern, token by token, before any code is made.
 ghost use Rattle.std.specs.Prelude.{◌≡◌, ℕ, ◌+◌, ◌<◌, ◌≤◌, [], length, IfOk};
-ghost use Rattle.pattern_match.specs.Building.{kept, capped};
+ghost use Rattle.pattern_match.specs.Building.{kept_copies, cap_count};
 ghost use Rattle.pattern_match.specs.inner.Counting.{counted_sum, counted_atom, counted_open, counted_bar, counted_close, counted_times, counted_after, nothing_counted, counted_whole};
 
 use crate::token::Token;
@@ -12,7 +12,7 @@ pub const LIMIT: u64 = 65_536;
 
 /// How many copies of a piece are kept.
 pub fn copies_kept(least: u64, most: Option<u64>) -> u64
-    ensures { result ≡ kept least most }
+    ensures { result ≡ kept_copies least most }
 {
     match most {
         Some(most) => most,
@@ -22,7 +22,7 @@ pub fn copies_kept(least: u64, most: Option<u64>) -> u64
 
 /// Positions, up to one more than the limit.
 pub fn capped_sum(a: u64, b: u64) -> u64
-    ensures { result ≡ capped (a + b) }
+    ensures { result ≡ cap_count (a + b) }
 {
     a.saturating_add(b).min(LIMIT + 1)
 }

@@ -3,8 +3,8 @@
 ghost use Rattle.std.specs.Prelude.{◌≡◌, ◌+◌, ◌-◌, ◌<◌, false, IsTrue, Option, Some, List, [], ◌∷◌, ◌++◌, length, take, drop, slice_set, OnOk, IfOk};
 ghost use Rattle.pattern_match.specs.declared.instruction.Instruction.{Instruction};
 ghost use Rattle.pattern_match.specs.declared.instruction.Place.{Place};
-ghost use Rattle.pattern_match.specs.Building.{flagged, flagged_first, is_item};
-ghost use Rattle.pattern_match.specs.inner.Drafting.{live, flagged_cell, end_of, IsPlace, IsGroup, IsBegun, Keeps, Loses};
+ghost use Rattle.pattern_match.specs.Building.{add_flags, flagged_first, is_item};
+ghost use Rattle.pattern_match.specs.inner.Drafting.{live, flagged_cell, next_cell_place, IsPlace, IsGroup, IsGroupBegun, KeepsFront, Loses};
 
 use crate::instruction::{Instruction, Place};
 use std::alloc::{AllocError, Global};
@@ -12,7 +12,7 @@ use std::marker::Model;
 
 /// An instruction with these flags too.
 pub fn with_flags(instruction: Instruction, optional: bool, repeated: bool) -> Instruction
-    ensures { result ≡ flagged optional repeated instruction }
+    ensures { result ≡ add_flags optional repeated instruction }
 {
     match instruction {
         Instruction::Take {
@@ -128,7 +128,7 @@ impl Draft {
 
     /// Where the next instruction stands.
     pub fn end(&self) -> Place
-        ensures { result ≡ end_of self.now }
+        ensures { result ≡ next_cell_place self.now }
     {
         Place {
             cell: self.cells.len(),
@@ -149,7 +149,7 @@ impl Draft {
         requires { IsPlace self.old place }
         ensures cells { self.new ≡ take place.cell self.old }
         ensures code { live self.new ≡ take place.count (live self.old) }
-        ensures kept { Keeps self.old self.new place }
+        ensures kept { KeepsFront self.old self.new place }
     {
         self.cells.truncate(place.cell);
         self.holes = place.cell.saturating_sub(place.count);
@@ -159,7 +159,7 @@ impl Draft {
     pub fn flag_at(&mut self, place: Place, optional: bool, repeated: bool)
         requires { IsPlace self.old place }
         ensures code { live self.new ≡ take place.count (live self.old) ++ flagged_first optional repeated (drop place.count (live self.old)) }
-        ensures kept { Keeps self.old self.new place }
+        ensures kept { KeepsFront self.old self.new place }
     {
         if place.cell < self.cells.len() {
             self.cells[place.cell] = cell_with_flags(self.cells[place.cell], optional, repeated);
@@ -170,8 +170,8 @@ impl Draft {
     pub fn drop_last(&mut self)
         requires { 0 < length (live self.old) }
         ensures code { live self.new ≡ take (length (live self.old) - 1) (live self.old) }
-        ensures kept { (place : Place) → IsBegun self.old place → Keeps self.old self.new place }
-        ensures group { (place : Place) → IsBegun self.old place → IsGroup self.new place }
+        ensures kept { (place : Place) → IsGroupBegun self.old place → KeepsFront self.old self.new place }
+        ensures group { (place : Place) → IsGroupBegun self.old place → IsGroup self.new place }
     {
         let left = self.len().saturating_sub(1);
         pop_last(&mut self.cells);
@@ -199,7 +199,7 @@ impl Draft {
         requires group { IsGroup self.old place }
         requires some { place.cell + 1 < length self.old }
         ensures code { live self.new ≡ take place.count (live self.old) ++ flagged_first empty false (drop (place.count + 1) (live self.old)) }
-        ensures kept { Keeps self.old self.new place }
+        ensures kept { KeepsFront self.old self.new place }
     {
         let holes = self
             .cells
@@ -229,7 +229,7 @@ impl Draft {
     pub fn mark_group(&mut self, place: Place, empty: bool) -> Result<(), AllocError>
         requires { IsPlace self.old place }
         ensures code { OnOk result (live self.new ≡ slice_set (live self.old) place.count (Instruction.Open (length (live self.old) - place.count - 1) empty false) ++ Instruction.Close ∷ []) }
-        ensures kept { OnOk result (Keeps self.old self.new place) }
+        ensures kept { OnOk result (KeepsFront self.old self.new place) }
     {
         self.set_open(place, empty);
         self.push(Instruction::Close)?;

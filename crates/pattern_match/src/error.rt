@@ -16,9 +16,9 @@ pub enum PatternError {
 
 impl fmt::Display for PatternError {
     ghost use Rattle.std.specs.Prelude.{Some};
-    ghost use Rattle.pattern_match.specs.ErrorText.{error_text};
+    ghost use Rattle.pattern_match.specs.ErrorText.{pattern_error_text};
 
-    ghost output = { λ e. Some (error_text e) };
+    ghost output = { λ e. Some (pattern_error_text e) };
 
     fn fmt<W: fmt::Write>(&self, f: &mut fmt::Formatter<W>) -> fmt::Result {
         match self {

@@ -1,6 +1,6 @@
 // What is carried from one instruction to the next, in memory that is taken once.
 ghost use Rattle.std.specs.Prelude.{◌≡◌, ℕ, ◌<◌, ◌≤◌, IsTrue, Bool, false, ◌||◌, ◌&&◌, List, [], ◌∷◌, length, IfOk, reverse, vec_capacity};
-ghost use Rattle.pattern_match.specs.Marking.{frame, innermost, around, with_group, now_at_bar, frames_at_bar, now_at_close};
+ghost use Rattle.pattern_match.specs.Marking.{frame, innermost_group, around, with_group, now_at_bar, frames_at_bar, now_at_close};
 
 use crate::instruction::Frame;
 use std::alloc::{AllocError, Global};
@@ -82,7 +82,7 @@ impl Flow {
 
     /// The innermost group, which is kept no longer.
     fn leave(&mut self) -> Frame
-        ensures result { result ≡ innermost self.old.frames }
+        ensures result { result ≡ innermost_group self.old.frames }
         ensures live { self.new.live ≡ self.old.live }
         ensures frames { self.new.frames ≡ around self.old.frames }
         ensures capacity { self.new.capacity ≡ self.old.capacity }

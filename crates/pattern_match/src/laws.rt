@@ -1,7 +1,7 @@
 // Laws of the definitions.
 ghost use Rattle.std.specs.Prelude.{◌≡◌, ℕ, List};
 ghost use Rattle.std.specs.Str.{chars};
-ghost use Rattle.pattern_match.specs.Building.{limit};
+ghost use Rattle.pattern_match.specs.Building.{position_limit};
 ghost use Rattle.pattern_match.specs.Expression.{Expression};
 ghost use Rattle.pattern_match.specs.Reading.{IsTreeOf, HasPositionsWithin, HasPositions, IsDecided};
 
@@ -17,5 +17,5 @@ pub fn one_number_of_positions()
 
 /// A word matches a pattern that is not too large, or it does not.
 pub fn a_word_matches_or_not()
-    ensures { (pattern word : List ℕ) → HasPositionsWithin (chars pattern) limit → IsDecided (chars pattern) word }
+    ensures { (pattern word : List ℕ) → HasPositionsWithin (chars pattern) position_limit → IsDecided (chars pattern) word }
 {}

@@ -1,7 +1,7 @@
 // The tokens of a pattern's text.
 ghost use Rattle.std.specs.Prelude.{◌≡◌, ℕ, List, [], ◌∷◌, ◌++◌, Some, OnOk, IfOk};
-ghost use Rattle.pattern_match.specs.Control.{IsSound};
-ghost use Rattle.pattern_match.specs.Tokens.{outside_tokens, behind_atom_tokens, escape_tokens, least_tokens, most_tokens, item_tokens, single_tokens, dash_tokens, class_escape_tokens, range_escape_tokens, emits, emitted};
+ghost use Rattle.pattern_match.specs.Control.{IsSoundControl};
+ghost use Rattle.pattern_match.specs.Tokens.{outside_tokens, behind_atom_tokens, escape_tokens, least_tokens, most_tokens, item_tokens, single_tokens, dash_tokens, class_escape_tokens, range_escape_tokens, emits, emit_tokens};
 
 use crate::character::{
     BehindBackslash, InNumber, Outside, Within, escaped_char, meaning_behind_backslash,
@@ -216,7 +216,7 @@ fn push_tokens(tokens: &mut Vec<Token>, control: Control, c: char) -> Result<(),
 
 /// The tokens of characters, up to one that no pattern has there.
 pub fn tokens_of(alloc: Global, text: &[char]) -> Result<Vec<Token>, AllocError>
-    ensures { IfOk result (λ v. v.items ≡ emitted (Some Control.Start) text.now) }
+    ensures { IfOk result (λ v. v.items ≡ emit_tokens (Some Control.Start) text.now) }
 {
     let mut tokens = Vec::new(alloc);
     let mut control = Control::Start;

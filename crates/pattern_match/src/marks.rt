@@ -1,6 +1,6 @@
 // The marks of a matcher: a pass goes over them from the first to the last, and knows where the next may be that is set.
 ghost use Rattle.std.specs.Prelude.{◌≡◌, ℕ, ◌+◌, ◌<◌, ◌≤◌, Bool, false, ◌||◌, if◌then◌else◌, List, [], ◌∷◌, ◌++◌, length, drop, replicate, slice_index_or, slice_set, IfOk, vec_capacity};
-ghost use Rattle.pattern_match.specs.Marks.{Walk, first_of, past};
+ghost use Rattle.pattern_match.specs.Marks.{Walk, first_place_or, past};
 
 use std::alloc::{AllocError, Global};
 use std::marker::Model;
@@ -37,7 +37,7 @@ fn no_cells(alloc: Global, count: usize) -> Result<Vec<bool>, AllocError>
 
 /// The first place behind so many, or the end.
 fn first_place(places: &[usize], passed: usize, end: usize) -> usize
-    ensures { result ≡ first_of (drop passed places.now) end }
+    ensures { result ≡ first_place_or (drop passed places.now) end }
 {
     if passed < places.len() {
         places[passed]
@@ -48,7 +48,7 @@ fn first_place(places: &[usize], passed: usize, end: usize) -> usize
 
 /// The first place behind so many and one more, or the end.
 fn second_place(places: &[usize], passed: usize, end: usize) -> usize
-    ensures { result ≡ first_of (drop 1 (drop passed places.now)) end }
+    ensures { result ≡ first_place_or (drop 1 (drop passed places.now)) end }
 {
     if passed >= places.len() {
         return end;
@@ -161,7 +161,7 @@ impl Marks {
 
     /// The next place that is listed, or the end.
     pub fn next(&self, end: usize) -> usize
-        ensures { result ≡ first_of self.now.ahead end }
+        ensures { result ≡ first_place_or self.now.ahead end }
     {
         first_place(self.before.as_slice(), self.passed, end)
     }
@@ -177,7 +177,7 @@ impl Marks {
 
     /// The next place that is listed but the first, or the end.
     pub fn second(&self, end: usize) -> usize
-        ensures { result ≡ first_of (drop 1 self.now.ahead) end }
+        ensures { result ≡ first_place_or (drop 1 self.now.ahead) end }
     {
         second_place(self.before.as_slice(), self.passed, end)
     }

@@ -2,9 +2,9 @@
 ghost use Rattle.std.specs.Prelude.{◌≡◌, ◌<◌, ◌≤◌, ◌+◌, ℕ, ◌↔◌, IsTrue, Bool, List, [], ◌∷◌, ◌++◌, IfOk, length, take, replicate, false};
 ghost use Rattle.std.specs.Str.{chars};
 ghost use Rattle.pattern_match.specs.Reading.{Matches};
-ghost use Rattle.pattern_match.specs.Recall.{IsRightTable, IsRow, reached};
+ghost use Rattle.pattern_match.specs.Recall.{IsRightTable, IsRow, reached_marks};
 ghost use Rattle.pattern_match.specs.Marks.{IsDone};
-ghost use Rattle.pattern_match.specs.Compiled.{IsMarked, HasRead, IsStart, IsMadeFor, tokens_of_text, code_of_text, first_marks, next_marks};
+ghost use Rattle.pattern_match.specs.Compiled.{IsMarked, HasReadWord, IsStart, IsMadeFor, tokens_of_text, code_of_text, first_marks, next_marks};
 
 use crate::flow::Flow;
 use crate::marks::Marks;
@@ -84,7 +84,7 @@ fn last_mark(pattern: &Pattern, marks: &[bool]) -> bool
 impl Matcher {
     /// A matcher for the pattern, which has read nothing.
     pub fn new(alloc: Global, pattern: &Pattern) -> Result<Matcher, Memory>
-        ensures read { IfOk result (λ m. HasRead pattern.now m []) }
+        ensures read { IfOk result (λ m. HasReadWord pattern.now m []) }
         ensures made { IfOk result (λ m. IsMadeFor pattern.now m) }
     {
         let count = pattern.code().len();
@@ -112,7 +112,7 @@ impl Matcher {
         ensures first { self.new.first ≡ self.old.first }
         ensures start { self.new.start ≡ self.old.start }
         ensures walk { self.new.walk ≡ self.old.walk }
-        ensures read { IsTrue result → (next : ℕ → List Bool → List Bool) → IsRightTable next self.old.known → IsRow self.old.known self.old.at (reached self.old) → (reached self.new ≡ next c (reached self.old)) × IsRow self.new.known self.new.at (reached self.new) }
+        ensures read { IsTrue result → (next : ℕ → List Bool → List Bool) → IsRightTable next self.old.known → IsRow self.old.known self.old.at (reached_marks self.old) → (reached_marks self.new ≡ next c (reached_marks self.old)) × IsRow self.new.known self.new.at (reached_marks self.new) }
         ensures kept { result ≡ false → self.new ≡ self.old }
     {
         let Some(at) = self.at else {
@@ -129,7 +129,7 @@ impl Matcher {
     fn recollect(&mut self, pattern: &Pattern)
         requires { IsMadeFor pattern.now self.old }
         ensures done { IsDone (code_of_text (chars pattern.now)) self.new.walk }
-        ensures marks { self.new.walk.cells ≡ reached self.old }
+        ensures marks { self.new.walk.cells ≡ reached_marks self.old }
         ensures at { self.new.at ≡ self.old.at }
         ensures first { self.new.first ≡ self.old.first }
         ensures start { self.new.start ≡ self.old.start }
@@ -145,7 +145,7 @@ impl Matcher {
     #[inline]
     pub fn step(&mut self, pattern: &Pattern, c: char)
         requires { IsMadeFor pattern.now self.old }
-        ensures read { (w : List ℕ) → HasRead pattern.now self.old w → HasRead pattern.now self.new (w ++ c ∷ []) }
+        ensures read { (w : List ℕ) → HasReadWord pattern.now self.old w → HasReadWord pattern.now self.new (w ++ c ∷ []) }
         ensures made { IsMadeFor pattern.now self.new }
     {
         if self.step_by_recall(c) {
@@ -157,7 +157,7 @@ impl Matcher {
     /// Reads one more character by the marks, and remembers which follow.
     fn step_by_marks(&mut self, pattern: &Pattern, c: char)
         requires { IsMadeFor pattern.now self.old }
-        ensures read { (w : List ℕ) → HasRead pattern.now self.old w → HasRead pattern.now self.new (w ++ c ∷ []) }
+        ensures read { (w : List ℕ) → HasReadWord pattern.now self.old w → HasReadWord pattern.now self.new (w ++ c ∷ []) }
         ensures made { IsMadeFor pattern.now self.new }
     {
         self.recollect(pattern);
@@ -169,7 +169,7 @@ impl Matcher {
     #[inline]
     fn step_by_known(&mut self, codes: &[u8]) -> usize
         ensures few { result ≤ length codes.now }
-        ensures read { (bytes w : List ℕ) → HasRead bytes self.old w → HasRead bytes self.new (w ++ take result codes.now) }
+        ensures read { (bytes w : List ℕ) → HasReadWord bytes self.old w → HasReadWord bytes self.new (w ++ take result codes.now) }
     {
         let Some(at) = self.at else {
             return 0;
@@ -186,7 +186,7 @@ impl Matcher {
         requires some { 0 < length codes.now }
         ensures some { 0 < result }
         ensures few { result ≤ length codes.now }
-        ensures read { (w : List ℕ) → HasRead pattern.now self.old w → HasRead pattern.now self.new (w ++ take result codes.now) }
+        ensures read { (w : List ℕ) → HasReadWord pattern.now self.old w → HasReadWord pattern.now self.new (w ++ take result codes.now) }
         ensures made { IsMadeFor pattern.now self.new }
     {
         let count = self.step_by_known(codes);
@@ -200,7 +200,7 @@ impl Matcher {
     /// Reads the characters of these codes, one after another. It takes no memory.
     pub fn step_codes(&mut self, pattern: &Pattern, codes: &[u8])
         requires { IsMadeFor pattern.now self.old }
-        ensures read { (w : List ℕ) → HasRead pattern.now self.old w → HasRead pattern.now self.new (w ++ codes.now) }
+        ensures read { (w : List ℕ) → HasReadWord pattern.now self.old w → HasReadWord pattern.now self.new (w ++ codes.now) }
         ensures made { IsMadeFor pattern.now self.new }
     {
         let mut rest = codes;
@@ -213,7 +213,7 @@ impl Matcher {
     /// Whether the characters that were read are a word of the pattern. It takes no memory.
     pub fn accepts(&self, pattern: &Pattern) -> bool
         requires { IsMadeFor pattern.now self.now }
-        ensures { (w : List ℕ) → HasRead pattern.now self.now w → IsTrue result ↔ Matches (chars pattern.now) w }
+        ensures { (w : List ℕ) → HasReadWord pattern.now self.now w → IsTrue result ↔ Matches (chars pattern.now) w }
     {
         match self.at {
             Some(at) => last_mark(pattern, self.recall.row(at)),
@@ -224,7 +224,7 @@ impl Matcher {
     /// Begins anew, as if nothing had been read. It takes no memory.
     pub fn restart(&mut self, pattern: &Pattern)
         requires { IsMadeFor pattern.now self.old }
-        ensures read { HasRead pattern.now self.new [] }
+        ensures read { HasReadWord pattern.now self.new [] }
         ensures made { IsMadeFor pattern.now self.new }
     {
         if let Some(first) = self.first {

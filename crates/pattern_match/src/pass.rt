@@ -1,8 +1,8 @@
 // The two passes over the instructions: a character passes through them, and then the empty word.
 ghost use Rattle.std.specs.Prelude.{◌≡◌, ℕ, ◌+◌, ◌-◌, ◌<◌, ◌≤◌, Bool, false, ◌||◌, ◌&&◌, List, [], ◌∷◌, length, take, drop, replicate, slice_index_or};
 ghost use Rattle.pattern_match.specs.Gaps.{HasGaps, IsQuiet, gaps as gaps_from};
-ghost use Rattle.pattern_match.specs.Marks.{IsListed, IsDone, Skips, Starts, first_of, first_rest, second_rest, is_open as is_open_of};
-ghost use Rattle.pattern_match.specs.Marking.{first_pass, second_pass, first_mark, first_live, first_frames, second_mark, second_live, second_frames, end_of};
+ghost use Rattle.pattern_match.specs.Marks.{IsListed, IsDone, Skips, Starts, first_place_or, first_rest, second_rest, is_open as is_open_of};
+ghost use Rattle.pattern_match.specs.Marking.{first_pass, second_pass, first_mark, first_live, first_frames, second_mark, second_live, second_frames, end_of_group};
 ghost use Rattle.pattern_match.specs.Token.{admits};
 
 use crate::flow::Flow;
@@ -95,7 +95,7 @@ fn is_open(instruction: Instruction) -> bool
 
 /// How many instructions behind this one its group ends.
 fn group_end(instruction: Instruction) -> usize
-    ensures { result ≡ end_of instruction }
+    ensures { result ≡ end_of_group instruction }
 {
     match instruction {
         Instruction::Open { length, .. } => length,
@@ -106,7 +106,7 @@ fn group_end(instruction: Instruction) -> usize
 /// What the first pass left where a group ends that the instruction of this number begins.
 fn hit_at_end(instruction: Instruction, hits: &[bool], i: usize) -> bool
     requires { i < length hits.now }
-    ensures { result ≡ slice_index_or (drop (i + 1) hits.now) (end_of instruction) false }
+    ensures { result ≡ slice_index_or (drop (i + 1) hits.now) (end_of_group instruction) false }
 {
     let later = &hits[i + 1..];
     let end = group_end(instruction);
@@ -127,7 +127,7 @@ fn begin_pass(code: &[Instruction], marks: &mut Marks)
 fn skip_unset(code: &[Instruction], marks: &mut Marks)
     requires { IsListed code.now marks.old }
     ensures skips { Skips code.now marks.old marks.new }
-    ensures walk { marks.new ≡ record marks.old { at = first_of marks.old.ahead (length code.now) } }
+    ensures walk { marks.new ≡ record marks.old { at = first_place_or marks.old.ahead (length code.now) } }
 {
     marks.jump(marks.next(code.len()));
 }

@@ -3,8 +3,8 @@ ghost use Rattle.std.specs.Prelude.{◌≡◌, ◌≤◌, ◌*◌, ℕ, List, le
 ghost use Rattle.std.specs.Str.{chars};
 ghost use Rattle.pattern_match.specs.Expression.{Expression};
 ghost use Rattle.pattern_match.specs.Positions.{positions};
-ghost use Rattle.pattern_match.specs.Reading.{IsTreeOf, HasPositionsWithin, HasPositions, Refuses};
-ghost use Rattle.pattern_match.specs.Building.{limit};
+ghost use Rattle.pattern_match.specs.Reading.{IsTreeOf, HasPositionsWithin, HasPositions, RefusesPattern};
+ghost use Rattle.pattern_match.specs.Building.{position_limit};
 ghost use Rattle.pattern_match.specs.Gaps.{HasGaps, gaps as gaps_from};
 ghost use Rattle.pattern_match.specs.Compiled.{IsCompiled, tokens_of_text, code_of_text};
 
@@ -52,8 +52,8 @@ struct Measured {
 fn measure_tokens(alloc: Global, text: &str) -> Result<Measured, PatternError>
     ensures tokens { IfOk result (λ m. m.tokens.items ≡ tokens_of_text (chars text.now)) }
     ensures positions { IfOk result (λ m. HasPositions (chars text.now) m.positions) }
-    ensures within { IfOk result (λ m. m.positions ≤ limit) }
-    ensures error { IfErr result (λ e. Refuses (chars text.now) e) }
+    ensures within { IfOk result (λ m. m.positions ≤ position_limit) }
+    ensures error { IfErr result (λ e. RefusesPattern (chars text.now) e) }
 {
     let characters = characters(alloc, text)?;
     match refusal(characters.as_slice()) {
@@ -80,8 +80,8 @@ impl Pattern {
     /// Reads a pattern from its whole text.
     pub fn read(alloc: Global, text: &str) -> Result<Pattern, PatternError>
         ensures text { IfOk result (λ p. p ≡ text.now) }
-        ensures positions { OnOk result (HasPositionsWithin (chars text.now) limit) }
-        ensures error { IfErr result (λ e. Refuses (chars text.now) e) }
+        ensures positions { OnOk result (HasPositionsWithin (chars text.now) position_limit) }
+        ensures error { IfErr result (λ e. RefusesPattern (chars text.now) e) }
     {
         let tokens = match measure_tokens(alloc, text) {
             Ok(measured) => measured.tokens,
@@ -103,8 +103,8 @@ impl Pattern {
     /// made, and the time that it takes is bounded by the characters of the text alone.
     pub fn measure(alloc: Global, text: &str) -> Result<u64, PatternError>
         ensures positions { IfOk result (λ n. HasPositions (chars text.now) n) }
-        ensures within { IfOk result (λ n. n ≤ limit) }
-        ensures error { IfErr result (λ e. Refuses (chars text.now) e) }
+        ensures within { IfOk result (λ n. n ≤ position_limit) }
+        ensures error { IfErr result (λ e. RefusesPattern (chars text.now) e) }
     {
         match measure_tokens(alloc, text) {
             Ok(measured) => Ok(measured.positions),

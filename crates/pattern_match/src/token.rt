@@ -1,6 +1,6 @@
 // The tokens of a pattern, in the order of its text.
 ghost use Rattle.std.specs.Prelude.{◌≡◌};
-ghost use Rattle.pattern_match.specs.Token.{members_have, is_space, admits};
+ghost use Rattle.pattern_match.specs.Token.{members_have, is_pattern_space, admits};
 
 /// One token. A class is its start and its members.
 #[derive(Clone, Copy, Drop)]
@@ -35,7 +35,7 @@ fn have_members(tokens: &[Token], c: char) -> bool
 
 /// Space, tab, LF or CR: XML Schema part 2, appendix F, `\s`.
 fn is_space_char(c: char) -> bool
-    ensures { result ≡ is_space c }
+    ensures { result ≡ is_pattern_space c }
 {
     c == ' ' || c == '\t' || c == '\n' || c == '\r'
 }

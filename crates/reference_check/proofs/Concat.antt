@@ -3,16 +3,16 @@ use Rattle.std.proofs.Common.{◌≡◌, ℕ, zero, suc, ◌+◌, true, false, L
 use Rattle.std.specs.Prelude.{slice_get}
 use Rattle.std.proofs.lemmas.Bool.Decides.{nat_tests, eqb_tells}
 use Rattle.reference_check.specs.Forms.{Slot}
-use Rattle.reference_check.specs.Words.{times, IsWithin, IsOrderedFrom}
+use Rattle.reference_check.specs.Words.{times, MayComeTimes, IsOrderedFrom}
 use Rattle.reference_check.proofs.Words.{times-first, times-later, times-below, ordered-replicate, ordered-weaken}
 
 -- the first slot, whose number is k, as often as it may come, and then a word of the others
 abbrev pub IsConcatenationFrom : {P : Type 0} → ℕ → List (Slot P) → List ℕ → Type 0
 IsConcatenationFrom k [] d = d ≡ []
-IsConcatenationFrom k (s ∷ fs) d = (n : ℕ) × (rest : List ℕ) × IsWithin n s × (d ≡ replicate n k ++ rest) × IsConcatenationFrom (suc k) fs rest
+IsConcatenationFrom k (s ∷ fs) d = (n : ℕ) × (rest : List ℕ) × MayComeTimes n s × (d ≡ replicate n k ++ rest) × IsConcatenationFrom (suc k) fs rest
 
 abbrev pub AreWithin : {P : Type 0} → ℕ → List (Slot P) → List ℕ → Type 0
-AreWithin {P} k fs d = (i j : ℕ) (s : Slot P) → j ≡ k + i → slice_get fs i ≡ Some s → IsWithin (times j d) s
+AreWithin {P} k fs d = (i j : ℕ) (s : Slot P) → j ≡ k + i → slice_get fs i ≡ Some s → MayComeTimes (times j d) s
 
 pub from_concatenation : {P : Type 0} (k top : ℕ) (fs : List (Slot P)) (d : List ℕ) → k + length fs ≡ top → IsConcatenationFrom k fs d → IsOrderedFrom k top d × AreWithin k fs d
 from_concatenation k top [] d h c = (rw c tt, λ i j s e g. cc)
@@ -21,7 +21,7 @@ from_concatenation {P} k top (f ∷ fs) d h (n, rest, within, e, c) = go (from_c
     go : IsOrderedFrom (suc k) top rest × AreWithin (suc k) fs rest → IsOrderedFrom k top d × AreWithin k (f ∷ fs) d
     go r = (rw e (ordered-replicate n k k top rest (omega arith) (omega arith) (ordered-weaken (suc k) k top rest (omega arith) r.0)), each)
       where
-        each : (i j : ℕ) (s : Slot P) → j ≡ k + i → slice_get (f ∷ fs) i ≡ Some s → IsWithin (times j d) s
+        each : (i j : ℕ) (s : Slot P) → j ≡ k + i → slice_get (f ∷ fs) i ≡ Some s → MayComeTimes (times j d) s
         each zero j s at g =
             let same : f ≡ s = cc in
             let at_k : j ≡ k = omega arith in

@@ -12,14 +12,14 @@ use Rattle.repo_objects.specs.declared.objects.MessageDef.{MessageDef}
 use Rattle.repo_objects.specs.declared.objects.Object.{Object}
 use Rattle.repo_objects.specs.declared.objects.ObjectKind.{ObjectKind}
 use Rattle.repo_objects.specs.declared.objects.ObjectKind.TheVariants.{Simple, Component, Choice, External, Other}
-use Rattle.repo_objects.specs.Repository.{Contents, Entry}
+use Rattle.repo_objects.specs.Repository.{Contents, DictionaryEntry}
 use Rattle.reference_check.specs.Forms.{Slot, Form, Graph, form_slots}
 use Rattle.reference_check.specs.Graph.{Place, document, message, entry, nowhere, graph, references, slot_of, find_entry}
 use Rattle.reference_check.specs.Forms as form
 use Rattle.reference_check.specs.Words.{UpTo}
 use Rattle.reference_check.specs.Shapes.{IsFinite, MayBeFound, IsReached}
 use Rattle.reference_check.specs.Reach.{elements_of, kind_elements, Reaches, itself, element, currency}
-use Rattle.reference_check.specs.Rules.{Rule, Endless, BadBounds, NotOneReference, number_of, IsSound, IsStructure, IsBelowEndless, Breaks}
+use Rattle.reference_check.specs.Rules.{Rule, Endless, BadBounds, NotOneReference, object_rule_number, IsSound, IsStructure, IsBelowEndless, Breaks}
 use Rattle.reference_check.specs.Laws.{ReadyAreFinite}
 use Rattle.reference_check.proofs.Words.{IsProper}
 use Rattle.reference_check.proofs.FiniteForms.{finite_form}
@@ -244,12 +244,12 @@ module _ (R : Contents) (m : List ℕ) (sound : IsSound R m IsBelowEndless) wher
       go (inl h) = h.1
       go (inr h) = absurd (sound NotOneReference p (omega arith) reach (e, here, h.1))
 
-  abbrev places : List Entry → List Place
+  abbrev places : List DictionaryEntry → List Place
   places [] = []
   places (e ∷ es) = entry e.id ∷ places es
 
   module _ (T : Place → Bool) where
-    entry_stable : (id : List ℕ) (es : List Entry) (o : Object) → find_entry id es ≡ Some o → IsStable (graph R m) T (places es) → grow (graph R m) T (entry id) ≡ T (entry id)
+    entry_stable : (id : List ℕ) (es : List DictionaryEntry) (o : Object) → find_entry id es ≡ Some o → IsStable (graph R m) T (places es) → grow (graph R m) T (entry id) ≡ T (entry id)
     entry_stable id [] o e h = absurd cc
     entry_stable id (x ∷ es) o e h = go (bytes_eq x.id id) refl (λ k. entry_stable id es o k h.1)
       where

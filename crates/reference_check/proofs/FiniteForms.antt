@@ -5,7 +5,7 @@ use Rattle.std.specs.List.{AllByRecursion}
 use Rattle.std.proofs.lemmas.Bool.Decides.{nat_tests, eqb_tells}
 use Rattle.reference_check.specs.Forms.{Graph, Form, Slot, form_slots}
 use Rattle.reference_check.specs.Forms as form
-use Rattle.reference_check.specs.Words.{times, UpTo, IsWithin, IsOrderedFrom}
+use Rattle.reference_check.specs.Words.{times, UpTo, MayComeTimes, IsOrderedFrom}
 use Rattle.reference_check.specs.Shapes.{Shape, Shapes, Component, OpenLeaf, Nothing, Child, numbers_in, HasShape, HaveShapes, IsFinite, MayBeFound, IsReached}
 use Rattle.reference_check.proofs.Words.{IsProper, times-replicate, up_to_less}
 use Rattle.reference_check.proofs.Concat.{IsConcatenationFrom, from_concatenation, AreWithin}
@@ -32,7 +32,7 @@ reached F k (s ∷ fs) d enough each =
     go zero e = inl e
     go (suc m) e = inr (each 0 k s (omega arith) refl (let h : s.min ≤ times k d = enough 0 k s (omega arith) refl in omega arith))
 
-of_choice : {P : Type 0} (F : P → Type 0) (n : ℕ) (s : Slot P) → IsWithin n s → (0 < n → F s.target) → IsReached F s
+of_choice : {P : Type 0} (F : P → Type 0) (n : ℕ) (s : Slot P) → MayComeTimes n s → (0 < n → F s.target) → IsReached F s
 of_choice F zero s w h = inl (omega arith)
 of_choice F (suc n) s w h = inr (h (omega arith))
 

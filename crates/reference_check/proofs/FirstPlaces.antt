@@ -7,7 +7,7 @@ use Rattle.std.proofs.lemmas.Option.{slice_get_within, get_or_from_slice_get}
 use Rattle.std.proofs.lemmas.Slice.Eq.{bytes_eq-Decides}
 use Rattle.repo_objects.specs.declared.objects.MessageDef.{MessageDef}
 use Rattle.repo_objects.specs.declared.objects.Object.{Object}
-use Rattle.repo_objects.specs.Repository.{Entry, Contents, IsRepository, HasEntryTexts}
+use Rattle.repo_objects.specs.Repository.{DictionaryEntry, Contents, IsRepository, HasEntryTexts}
 use Rattle.reference_check.specs.declared.reached.Reach.{Reach}
 use Rattle.reference_check.specs.declared.breaker.Breaker.TheVariants.{Object as object_breaker, Message as message_breaker}
 use Rattle.reference_check.specs.Graph.{Place, message, entry, find_entry, find_message}
@@ -82,7 +82,7 @@ BreaksWhereItStands R m rule = (p : Place) → Breaks R m rule p → Stands R p
 
 -- the rank of a place that has an object is a place of the dictionary
 pub ranked : (R : Contents) (id : List ℕ) (o : Object) → find_entry id R.objects ≡ Some o
-    → (k : ℕ) × (k ≡ rank_of R (entry id)) × (place_at R k ≡ entry id) × (e : Entry) × (slice_get R.objects k ≡ Some e) × (e.id ≡ id)
+    → (k : ℕ) × (k ≡ rank_of R (entry id)) × (place_at R k ≡ entry id) × (e : DictionaryEntry) × (slice_get R.objects k ≡ Some e) × (e.id ≡ id)
 ranked R id o h =
     let first = stands_first R.objects id o h in
     (rank_of R (entry id), refl, ap place_of_entry first.at ∙ ap entry first.id_is, first.entry, first.at, first.id_is)
@@ -127,16 +127,16 @@ rises_to R m r i at j k has l is long same below = by (lt_cases j i)
     by (inr (inr behind)) = let rise = has.rising i j k behind long in absurd (omega (arith, rise, at_k, same, below))
 
 -- the first place of an object is not behind its own
-first_place : (es : List Entry) (k : ℕ) (e : Entry) → slice_get es k ≡ Some e → position_or_len (λ (x : Entry). bytes_eq x.id e.id) es < suc k
+first_place : (es : List DictionaryEntry) (k : ℕ) (e : DictionaryEntry) → slice_get es k ≡ Some e → position_or_len (λ (x : DictionaryEntry). bytes_eq x.id e.id) es < suc k
 first_place [] k e h = omega arith
-first_place (x ∷ es) zero e h = let same : bytes_eq x.id e.id ≡ true = (bytes_eq-Decides x.id e.id).1 (let is : x ≡ e = cc in ap (λ (v : Entry). v.id) is) in rw same (omega arith)
+first_place (x ∷ es) zero e h = let same : bytes_eq x.id e.id ≡ true = (bytes_eq-Decides x.id e.id).1 (let is : x ≡ e = cc in ap (λ (v : DictionaryEntry). v.id) is) in rw same (omega arith)
 first_place (x ∷ es) (suc k) e h = by (bytes_eq x.id e.id) refl (first_place es k e h)
   where
-    by : (b : Bool) → bytes_eq x.id e.id ≡ b → position_or_len (λ (x : Entry). bytes_eq x.id e.id) es < suc k → position_or_len (λ (x : Entry). bytes_eq x.id e.id) (x ∷ es) < suc (suc k)
+    by : (b : Bool) → bytes_eq x.id e.id ≡ b → position_or_len (λ (x : DictionaryEntry). bytes_eq x.id e.id) es < suc k → position_or_len (λ (x : DictionaryEntry). bytes_eq x.id e.id) (x ∷ es) < suc (suc k)
     by true is before = rw is (omega arith)
     by false is before = rw is (omega arith)
 
-pub tells_object : (R : Contents) (m : List ℕ) (rule : Rule) (r : Reach) (i at : ℕ) (e : Entry) → HasReach R m r → BreaksWhereItStands R m rule → i < length r.objects → at ≡ get_or r.objects i at
+pub tells_object : (R : Contents) (m : List ℕ) (rule : Rule) (r : Reach) (i at : ℕ) (e : DictionaryEntry) → HasReach R m r → BreaksWhereItStands R m rule → i < length r.objects → at ≡ get_or r.objects i at
     → slice_get R.objects at ≡ Some e → NoneBreaks R m rule (take i r.objects) → Breaks R m rule (entry e.id) → TellsFirst R m rule (Some (object_breaker at))
 tells_object R m rule r i at e has stands l is there none broken =
     (entry e.id, (e, there, refl), record { reached = (has.reached at e there).0 (i, l, sym is); broken = broken; first = λ q lower reached b. by (stands q b) lower reached b })
@@ -200,10 +200,10 @@ module _ (R : Contents) (m : List ℕ) (rule : Rule) (r : Reach) (items : List �
 pub all_asked : (R : Contents) (m : List ℕ) (rule : Rule) (r : Reach) (items : List ℕ) (i : ℕ) → items ≡ r.objects → length items ≤ i → NoneBreaks R m rule (take i r.objects) → NoneBreaks R m rule r.objects
 all_asked R m rule r items i are l none = none_whole R m rule r.objects i (subst (λ ks. length ks ≤ i) are l) none
 
-entry_texts : (R : Contents) (at : ℕ) (e : Entry) → IsRepository R → slice_get R.objects at ≡ Some e → HasEntryTexts e
+entry_texts : (R : Contents) (at : ℕ) (e : DictionaryEntry) → IsRepository R → slice_get R.objects at ≡ Some e → HasEntryTexts e
 entry_texts R at e whole there = subst HasEntryTexts (get_or_from_slice_get R.objects at e e there) (whole.object_texts at e (slice_get_within R.objects at e there))
 
-pub stands_at : (R : Contents) (at : ℕ) (e : Entry) → Some e ≡ slice_get R.objects at → IsRepository R → StandsAt R at e.object
+pub stands_at : (R : Contents) (at : ℕ) (e : DictionaryEntry) → Some e ≡ slice_get R.objects at → IsRepository R → StandsAt R at e.object
 stands_at R at e there whole = record { stored = e; there = sym there; object_is = refl; found = entry_at R.objects at e whole.distinct (sym there); whole = whole; texts = (entry_texts R at e whole (sym there)).object }
 
 -- ---- a rule on objects alone

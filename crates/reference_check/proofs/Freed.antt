@@ -5,10 +5,10 @@ use Rattle.std.proofs.lemmas.Bool.Decides.{eqb_tells}
 use Rattle.repo_objects.specs.declared.objects.ElementDef.{ElementDef}
 use Rattle.repo_objects.specs.declared.objects.ObjectKind.{ObjectKind}
 use Rattle.repo_objects.specs.declared.objects.ObjectKind.TheVariants.{Component, Choice}
-use Rattle.repo_objects.specs.Repository.{Entry}
+use Rattle.repo_objects.specs.Repository.{DictionaryEntry}
 use Rattle.reference_check.specs.declared.finite.Mark.{Mark}
 use Rattle.reference_check.specs.declared.finite.Mark.TheVariants.{Unreached, Open, Finite}
-use Rattle.reference_check.specs.inner.FiniteSearch.{IsFoundAt, IsFree, IsBlocked, AreFree, HoldBack, open_count}
+use Rattle.reference_check.specs.inner.FiniteSearch.{IsFoundAt, IsFree, IsBlocked, AreFree, HoldBack, open_marks}
 
 pub same_or_not : (j k : ℕ) → (j ≡ k) ⊎ (j ≡ k → ⊥)
 same_or_not j k = go (eqb_tells j k)
@@ -34,7 +34,7 @@ none_in k (i, within, e) = omega arith
 
 -- ---- from one list of marks to another
 
-module _ (es : List Entry) (old new : List Mark) where
+module _ (es : List DictionaryEntry) (old new : List Mark) where
   pub free_more : ((k : ℕ) → IsFoundAt old k → IsFoundAt new k) → (d : ElementDef) → IsFree es old d → IsFree es new d
   free_more more d (inl z) = inl z
   free_more more d (inr (k, leads, found)) = inr (k, leads, more k found)
@@ -53,7 +53,7 @@ module _ (es : List Entry) (old new : List Mark) where
 
 -- ---- how many are open
 
-pub count_open : (marks : List Mark) (p n free : ℕ) → slice_get marks p ≡ Some (Open n) → open_count (slice_set marks p (Open free)) ≡ open_count marks
+pub count_open : (marks : List Mark) (p n free : ℕ) → slice_get marks p ≡ Some (Open n) → open_marks (slice_set marks p (Open free)) ≡ open_marks marks
 count_open [] p n free e = absurd cc
 count_open (Unreached ∷ marks) zero n free e = absurd cc
 count_open (Open x ∷ marks) zero n free e = refl
@@ -62,7 +62,7 @@ count_open (Unreached ∷ marks) (suc p) n free e = count_open marks p n free e
 count_open (Open x ∷ marks) (suc p) n free e = ap suc (count_open marks p n free e)
 count_open (Finite ∷ marks) (suc p) n free e = count_open marks p n free e
 
-pub count_found : (marks : List Mark) (p n : ℕ) → slice_get marks p ≡ Some (Open n) → suc (open_count (slice_set marks p Finite)) ≡ open_count marks
+pub count_found : (marks : List Mark) (p n : ℕ) → slice_get marks p ≡ Some (Open n) → suc (open_marks (slice_set marks p Finite)) ≡ open_marks marks
 count_found [] p n e = absurd cc
 count_found (Unreached ∷ marks) zero n e = absurd cc
 count_found (Open x ∷ marks) zero n e = refl

@@ -5,7 +5,7 @@ use Rattle.std.proofs.lemmas.List.{length-map, get_or-map}
 use Rattle.std.proofs.lemmas.List.Elements.{Contains-append_left, Contains-append_right, Contains-append_cases}
 use Rattle.repo_objects.specs.declared.objects.ElementDef.{ElementDef}
 use Rattle.repo_objects.specs.Repository.{Contents}
-use Rattle.reference_check.specs.Names.{is_name}
+use Rattle.reference_check.specs.Names.{is_profile_name}
 use Rattle.reference_check.specs.Rules.{HasBadName}
 use Rattle.reference_check.specs.inner.Subjects.{NamesNoEntry}
 
@@ -52,7 +52,7 @@ contained_tag (x ∷ es) tag (suc k, l, at) = later (contained_tag es tag (k, om
     later (e, has, same) = (e, Contains-append_right (x ∷ []) es e has, same)
 
 pub bad_name-append : (names : List (List ℕ)) (es : List ElementDef) (a b : Bool) → (IsTrue a ↔ HasBadName names)
-    → (IsTrue b ↔ ((e : ElementDef) × Contains es e × (is_name e.tag ≡ false)))
+    → (IsTrue b ↔ ((e : ElementDef) × Contains es e × (is_profile_name e.tag ≡ false)))
     → IsTrue (a || b) ↔ HasBadName (names ++ map (λ (x : ElementDef). x.tag) es)
 bad_name-append names es a b first second = (forward, backward)
   where
@@ -62,11 +62,11 @@ bad_name-append names es a b first second = (forward, backward)
     forward : IsTrue (a || b) → HasBadName (names ++ map (λ (x : ElementDef). x.tag) es)
     forward t = elim (either a b t) [
       | inl s ↦ (let h : HasBadName names = first.0 s in (h.0, Contains-append_left names _ h.0 h.1, h.2))
-      | inr s ↦ (let h : (e : ElementDef) × Contains es e × (is_name e.tag ≡ false) = second.0 s in (h.0.tag, Contains-append_right names _ h.0.tag (tag_contained es h.0 h.1), h.2))
+      | inr s ↦ (let h : (e : ElementDef) × Contains es e × (is_profile_name e.tag ≡ false) = second.0 s in (h.0.tag, Contains-append_right names _ h.0.tag (tag_contained es h.0 h.1), h.2))
     ]
 
-    of_tag : (name : List ℕ) → is_name name ≡ false → (e : ElementDef) × Contains es e × (e.tag ≡ name) → IsTrue b
-    of_tag name bad (e, has, same) = second.1 (e, has, ap is_name same ∙ bad)
+    of_tag : (name : List ℕ) → is_profile_name name ≡ false → (e : ElementDef) × Contains es e × (e.tag ≡ name) → IsTrue b
+    of_tag name bad (e, has, same) = second.1 (e, has, ap is_profile_name same ∙ bad)
 
     backward : HasBadName (names ++ map (λ (x : ElementDef). x.tag) es) → IsTrue (a || b)
     backward (name, has, bad) = elim (Contains-append_cases names _ name has) [

@@ -12,7 +12,7 @@ use Rattle.std.proofs.lemmas.Option.{slice_get_cases, slice_get_within, get_or_f
 use Rattle.std.proofs.lemmas.Slice.Eq.{bytes_eq-Decides}
 use Rattle.repo_objects.specs.declared.objects.MessageDef.{MessageDef}
 use Rattle.repo_objects.specs.declared.objects.Object.{Object}
-use Rattle.repo_objects.specs.Repository.{Entry, Contents, IsRepository, ids_of}
+use Rattle.repo_objects.specs.Repository.{DictionaryEntry, Contents, IsRepository, ids_of}
 use Rattle.reference_check.specs.declared.reached.Reach.{Reach}
 use Rattle.reference_check.specs.Graph.{document, message, entry, nowhere, find_entry}
 use Rattle.reference_check.specs.Reach.{Reaches, elements_or_none, blocks_or_none}
@@ -25,14 +25,14 @@ use Rattle.reference_check.proofs.Lists.{item_of}
 
 -- ---- the ids of places
 
-abbrev id_of : Option Entry → List ℕ
+abbrev id_of : Option DictionaryEntry → List ℕ
 id_of None = []
 id_of (Some e) = e.id
 
 abbrev id_at : Contents → ℕ → List ℕ
 id_at R k = id_of (slice_get R.objects k)
 
-pub entry_within : (es : List Entry) (k : ℕ) → k < length es → (e : Entry) × (slice_get es k ≡ Some e)
+pub entry_within : (es : List DictionaryEntry) (k : ℕ) → k < length es → (e : DictionaryEntry) × (slice_get es k ≡ Some e)
 entry_within es k l =
     elim ((slice_get_cases es k).1) [
       | inl here ↦ (here.0, here.2)
@@ -40,20 +40,20 @@ entry_within es k l =
     ]
 
 -- places of the dictionary have different ids
-pub other_ids : (R : Contents) (k l : ℕ) (a b : Entry) → IsRepository R → slice_get R.objects k ≡ Some a → slice_get R.objects l ≡ Some b → k < l → a.id ≡ b.id → ⊥
+pub other_ids : (R : Contents) (k l : ℕ) (a b : DictionaryEntry) → IsRepository R → slice_get R.objects k ≡ Some a → slice_get R.objects l ≡ Some b → k < l → a.id ≡ b.id → ⊥
 other_ids R k l a b whole first second less same =
-    whole.distinct k l [] less (subst (λ n. l < n) (sym (length-map R.objects (λ (v : Entry). v.id))) (slice_get_within R.objects l b second)) (at k a first ∙ same ∙ sym (at l b second))
+    whole.distinct k l [] less (subst (λ n. l < n) (sym (length-map R.objects (λ (v : DictionaryEntry). v.id))) (slice_get_within R.objects l b second)) (at k a first ∙ same ∙ sym (at l b second))
   where
-    at : (i : ℕ) (e : Entry) → slice_get R.objects i ≡ Some e → get_or (ids_of R.objects) i [] ≡ e.id
+    at : (i : ℕ) (e : DictionaryEntry) → slice_get R.objects i ≡ Some e → get_or (ids_of R.objects) i [] ≡ e.id
     at i e there =
-        get_or-map (λ (v : Entry). v.id) R.objects i e [] (slice_get_within R.objects i e there) ∙ ap (λ (v : Entry). v.id) (get_or_from_slice_get R.objects i e e there)
+        get_or-map (λ (v : DictionaryEntry). v.id) R.objects i e [] (slice_get_within R.objects i e there) ∙ ap (λ (v : DictionaryEntry). v.id) (get_or_from_slice_get R.objects i e e there)
 
 -- ---- the ids of what is reached
 
 -- the entry behind an id of a list of places
 record IsIdOf (R : Contents) (ks : List ℕ) (i : ℕ) (id : List ℕ) : Type 0 where
   within : i < length ks
-  stored : Entry
+  stored : DictionaryEntry
   there : slice_get R.objects (get_or ks i 0) ≡ Some stored
   id_is : id ≡ stored.id
 

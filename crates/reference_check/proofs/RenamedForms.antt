@@ -3,7 +3,7 @@ use Rattle.std.proofs.Common.{◌≡◌, ℕ, zero, suc, List, [], ◌∷◌, le
 use Rattle.std.specs.Prelude.{slice_get}
 use Rattle.reference_check.specs.Forms.{Form, Slot, form_slots, slot_to, form_to}
 use Rattle.reference_check.specs.Forms as form
-use Rattle.reference_check.specs.Words.{times, IsWithin, IsSequence, IsChoice}
+use Rattle.reference_check.specs.Words.{times, MayComeTimes, IsSequence, IsChoice}
 
 pub get_to : {P Q : Type 0} (h : P → Q) (slots : List (Slot P)) (k : ℕ) (s : Slot P) → slice_get slots k ≡ Some s → slice_get (map (slot_to h) slots) k ≡ Some (slot_to h s)
 get_to h [] k s e = absurd cc
@@ -22,7 +22,7 @@ length_to h (x ∷ slots) = ap suc (length_to h slots)
 pub sequence_to : {P Q : Type 0} (h : P → Q) (slots : List (Slot P)) (d : List ℕ) → IsSequence slots d → IsSequence (map (slot_to h) slots) d
 sequence_to {P} {Q} h slots d w = record { ordered = rw (length_to h slots) w.ordered; within = each }
   where
-    each : (k : ℕ) (t : Slot Q) → slice_get (map (slot_to h) slots) k ≡ Some t → IsWithin (times k d) t
+    each : (k : ℕ) (t : Slot Q) → slice_get (map (slot_to h) slots) k ≡ Some t → MayComeTimes (times k d) t
     each k t e = (let r : (s : Slot P) × (slice_get slots k ≡ Some s) × (t ≡ slot_to h s) = get_from h slots k t e in rw r.2 (w.within k r.0 r.1))
 
 pub sequence_from : {P Q : Type 0} (h : P → Q) (slots : List (Slot P)) (d : List ℕ) → IsSequence (map (slot_to h) slots) d → IsSequence slots d

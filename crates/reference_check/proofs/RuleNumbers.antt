@@ -9,14 +9,14 @@ use Rattle.reference_check.specs.declared.structure.StructureRule.{StructureRule
 use Rattle.reference_check.specs.declared.structure.StructureRule.TheVariants as asked
 use Rattle.reference_check.specs.inner.First.{TellsFirst}
 use Rattle.reference_check.specs.Reached.{TellsBroken}
-use Rattle.reference_check.specs.Rules.{Rule, NoMessage, TwoMessages, Dangling, BadCurrency, NotOneReference, BadName, TagTwice, BadBounds, OptionalAlternative, NoAlternatives, Endless, BadCodes, LeftOutKind, NameTwice, TooMany, number_of, IsStructure, Breaks}
-use Rattle.reference_check.specs.inner.Subjects.{rule_of}
+use Rattle.reference_check.specs.Rules.{Rule, NoMessage, TwoMessages, Dangling, BadCurrency, NotOneReference, BadName, TagTwice, BadBounds, OptionalAlternative, NoAlternatives, Endless, BadCodes, LeftOutKind, NameTwice, TooMany, object_rule_number, IsStructure, Breaks}
+use Rattle.reference_check.specs.inner.Subjects.{asked_rule}
 use Rattle.reference_check.specs.inner.Told.{IsSoundBelow, TellsRule}
 
 -- the number of the rule that is asked next; behind the last, 11
 abbrev pub next_number : Option StructureRule → ℕ
 next_number None = 11
-next_number (Some rule) = number_of (rule_of rule)
+next_number (Some rule) = object_rule_number (asked_rule rule)
 
 -- the rule of a number
 abbrev rule_at : ℕ → Rule
@@ -25,7 +25,7 @@ rule_at n =
     else (if n == 6 then BadName else (if n == 7 then TagTwice else (if n == 8 then BadBounds else (if n == 9 then OptionalAlternative else (if n == 10 then NoAlternatives
     else (if n == 11 then Endless else (if n == 14 then BadCodes else (if n == 15 then LeftOutKind else (if n == 16 then NameTwice else TooMany)))))))))))))
 
-at_number : (r : Rule) → rule_at (number_of r) ≡ r
+at_number : (r : Rule) → rule_at (object_rule_number r) ≡ r
 at_number NoMessage = refl
 at_number TwoMessages = refl
 at_number Dangling = refl
@@ -43,12 +43,12 @@ at_number NameTwice = refl
 at_number TooMany = refl
 
 -- two rules of one number are one
-pub one_rule : (r s : Rule) → number_of r ≡ number_of s → r ≡ s
+pub one_rule : (r s : Rule) → object_rule_number r ≡ object_rule_number s → r ≡ s
 one_rule r s same = sym (at_number r) ∙ ap rule_at same ∙ at_number s
 
 -- where a rule is not broken, and none below it is, none is up to it
-pub sound_more : (R : Contents) (m : List ℕ) (rule : Rule) (n : ℕ) → n ≡ number_of rule + 1 → IsSoundBelow R m (number_of rule) → TellsFirst R m rule None → IsSoundBelow R m n
-sound_more R m rule n is below none r p less reach broken = elim (cases_lt (number_of r) (number_of rule)) [
+pub sound_more : (R : Contents) (m : List ℕ) (rule : Rule) (n : ℕ) → n ≡ object_rule_number rule + 1 → IsSoundBelow R m (object_rule_number rule) → TellsFirst R m rule None → IsSoundBelow R m n
+sound_more R m rule n is below none r p less reach broken = elim (cases_lt (object_rule_number r) (object_rule_number rule)) [
   | inl lt ↦ below r p lt reach broken
   | inr past ↦
       (let same : r ≡ rule = one_rule r rule (omega arith) in
@@ -56,7 +56,7 @@ sound_more R m rule n is below none r p less reach broken = elim (cases_lt (numb
 ]
 
 -- the lowest rule that is broken is told
-pub tells_lowest : (R : Contents) (m : List ℕ) (rule : Rule) (e : ReadyError) → number_of rule ≤ 11 → IsSoundBelow R m (number_of rule) → TellsRule R m rule e → TellsBroken R m IsStructure e
+pub tells_lowest : (R : Contents) (m : List ℕ) (rule : Rule) (e : ReadyError) → object_rule_number rule ≤ 11 → IsSoundBelow R m (object_rule_number rule) → TellsRule R m rule e → TellsBroken R m IsStructure e
 tells_lowest R m rule (Broken n object) asked below (p, first, number, id) = (
   rule,
   p,
@@ -73,7 +73,7 @@ tells_lowest R m rule (Broken n object) asked below (p, first, number, id) = (
 tells_lowest R m rule Memory asked below told = tt
 
 -- numbers begin at 1
-pub not_zero : (r : Rule) → number_of r ≡ 0 → ⊥
+pub not_zero : (r : Rule) → object_rule_number r ≡ 0 → ⊥
 not_zero NoMessage e = omega arith
 not_zero TwoMessages e = omega arith
 not_zero Dangling e = omega arith
@@ -90,7 +90,7 @@ not_zero LeftOutKind e = omega arith
 not_zero NameTwice e = omega arith
 not_zero TooMany e = omega arith
 
-pub at_most_ten : (rule : StructureRule) → number_of (rule_of rule) ≤ 10
+pub at_most_ten : (rule : StructureRule) → object_rule_number (asked_rule rule) ≤ 10
 at_most_ten asked.Dangling = omega arith
 at_most_ten asked.BadCurrency = omega arith
 at_most_ten asked.NotOneReference = omega arith

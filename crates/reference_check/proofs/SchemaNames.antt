@@ -16,7 +16,7 @@ use Rattle.std.proofs.lemmas.Option.{slice_get_within, slice_get_past}
 use Rattle.std.proofs.lemmas.Slice.Eq.{bytes_eq-Decides}
 use Rattle.repo_objects.specs.declared.objects.MessageDef.{MessageDef}
 use Rattle.repo_objects.specs.declared.objects.Object.{Object}
-use Rattle.repo_objects.specs.Repository.{Entry, Contents, IsRepository}
+use Rattle.repo_objects.specs.Repository.{DictionaryEntry, Contents, IsRepository}
 use Rattle.reference_check.specs.declared.reached.Reach.{Reach}
 use Rattle.reference_check.specs.Graph.{Place, document, message, entry, nowhere, find_entry}
 use Rattle.reference_check.specs.inner.Owners.{owner_of, HasName, IsLastOwner, OwnersAre, object_type_names}
@@ -198,10 +198,10 @@ module _ (R : Contents) (m : List ℕ) (r : Reach) (has : HasReach R m r) where
   places_differ : IsRepository R → (j k : ℕ) → Contains (all_ranks R r) k → j < k → place_at R j ≡ place_at R k → ⊥
   places_differ whole j k in_k less same = by (slice_get R.objects k) refl
     where
-      first : (a : Entry) × (slice_get R.objects j ≡ Some a)
+      first : (a : DictionaryEntry) × (slice_get R.objects j ≡ Some a)
       first = entry_within R.objects j (let low = rank_low k in_k in omega (arith, less, low))
 
-      by : (b : Option Entry) → slice_get R.objects k ≡ b → ⊥
+      by : (b : Option DictionaryEntry) → slice_get R.objects k ≡ b → ⊥
       by None is = let places : entry first.0.id ≡ message = sym (ap place_of_entry first.1) ∙ same ∙ ap place_of_entry is in cc
       by (Some b) is =
           let places : entry first.0.id ≡ entry b.id = sym (ap place_of_entry first.1) ∙ same ∙ ap place_of_entry is in

@@ -10,7 +10,7 @@ use Rattle.repo_objects.specs.declared.objects.MessageDef.{MessageDef}
 use Rattle.repo_objects.specs.declared.objects.Object.{Object}
 use Rattle.repo_objects.specs.declared.objects.ObjectKind.{ObjectKind}
 use Rattle.repo_objects.specs.declared.objects.ObjectKind.TheVariants.{Component, Choice}
-use Rattle.repo_objects.specs.Repository.{Entry, Contents, ids_of, IsRepository}
+use Rattle.repo_objects.specs.Repository.{DictionaryEntry, Contents, ids_of, IsRepository}
 use Rattle.reference_check.specs.declared.breaker.Breaker.TheVariants as breaker
 use Rattle.reference_check.specs.declared.finite.Mark.{Mark}
 use Rattle.reference_check.specs.declared.finite.Mark.TheVariants.{Unreached, Open, Finite}
@@ -22,7 +22,7 @@ use Rattle.reference_check.specs.Reach.{Reaches, itself, element, currency, rank
 use Rattle.reference_check.specs.Reached.{HasReach}
 use Rattle.reference_check.specs.Rules.{Dangling, Endless, HasNoEntry, IsSound, IsBelowEndless}
 use Rattle.reference_check.specs.inner.First.{TellsFirst}
-use Rattle.reference_check.specs.inner.FiniteSearch.{IsFoundAt, IsBlocked, SomeBlocked, HoldBack, IsStart, AreStart, IsMarked, IsSearch, HoldsReached, TellsFirstOpen, TellsMessage}
+use Rattle.reference_check.specs.inner.FiniteSearch.{IsFoundAt, IsBlocked, SomeBlocked, HoldBack, IsStartMark, AreStart, IsReachedMark, IsSearch, HoldsReached, TellsFirstOpen, TellsMessage}
 use Rattle.reference_check.proofs.FiniteForms.{finite_form}
 use Rattle.reference_check.proofs.FiniteMarks.{finite_found, finite_marked}
 use Rattle.reference_check.proofs.Decided.{bounds_in, form_bounds, one_reference}
@@ -53,58 +53,58 @@ module _ (R : Contents) (m : List ℕ) (r : Reach) (has : HasReach R m r) where
     held = λ k n e at got. inr (start k (Open n) got).1;
   }
     where
-      marked' : (k : ℕ) (e : Entry) → slice_get R.objects k ≡ Some e → Reaches R m (entry e.id) → (x : Mark) × (slice_get marks k ≡ Some x) × IsMarked x
+      marked' : (k : ℕ) (e : DictionaryEntry) → slice_get R.objects k ≡ Some e → Reaches R m (entry e.id) → (x : Mark) × (slice_get marks k ≡ Some x) × IsReachedMark x
       marked' k e at reach = go (slice_below marks k (let h : k < length R.objects = slice_get_within R.objects k e at in omega arith))
         where
-          by : (x : Mark) → slice_get marks k ≡ Some x → IsStart r.objects k x → IsMarked x
+          by : (x : Mark) → slice_get marks k ≡ Some x → IsStartMark r.objects k x → IsReachedMark x
           by Unreached got none = none (holds_reached k e at reach)
           by (Open n) got h = tt
           by Finite got h = tt
 
-          go : ((x : Mark) × (slice_get marks k ≡ Some x)) → (x : Mark) × (slice_get marks k ≡ Some x) × IsMarked x
+          go : ((x : Mark) × (slice_get marks k ≡ Some x)) → (x : Mark) × (slice_get marks k ≡ Some x) × IsReachedMark x
           go (x, got) = (x, got, by x got (start k x got))
 
-      reached' : (k : ℕ) (e : Entry) (x : Mark) → slice_get R.objects k ≡ Some e → slice_get marks k ≡ Some x → IsMarked x → Reaches R m (entry e.id)
+      reached' : (k : ℕ) (e : DictionaryEntry) (x : Mark) → slice_get R.objects k ≡ Some e → slice_get marks k ≡ Some x → IsReachedMark x → Reaches R m (entry e.id)
       reached' k e x at got is = go x (start k x got) is
         where
-          go : (x : Mark) → IsStart r.objects k x → IsMarked x → Reaches R m (entry e.id)
+          go : (x : Mark) → IsStartMark r.objects k x → IsReachedMark x → Reaches R m (entry e.id)
           go Unreached h is = absurd is
           go (Open n) h is = (has.reached k e at).0 h.1
           go Finite h is = absurd h
 
 -- ---- the object of an id, by its place and its rank
 
-find_back : (es : List Entry) (id : List ℕ) (o : Object) → find_entry id es ≡ Some o → (k : ℕ) × (e : Entry) × (slice_get es k ≡ Some e) × (e.id ≡ id) × (e.object ≡ o)
+find_back : (es : List DictionaryEntry) (id : List ℕ) (o : Object) → find_entry id es ≡ Some o → (k : ℕ) × (e : DictionaryEntry) × (slice_get es k ≡ Some e) × (e.id ≡ id) × (e.object ≡ o)
 find_back [] id o h = absurd cc
 find_back (x ∷ es) id o h = go (bytes_eq x.id id) refl (λ later. find_back es id o later)
   where
-    go : (b : Bool) → bytes_eq x.id id ≡ b → (find_entry id es ≡ Some o → (k : ℕ) × (e : Entry) × (slice_get es k ≡ Some e) × (e.id ≡ id) × (e.object ≡ o))
-        → (k : ℕ) × (e : Entry) × (slice_get (x ∷ es) k ≡ Some e) × (e.id ≡ id) × (e.object ≡ o)
+    go : (b : Bool) → bytes_eq x.id id ≡ b → (find_entry id es ≡ Some o → (k : ℕ) × (e : DictionaryEntry) × (slice_get es k ≡ Some e) × (e.id ≡ id) × (e.object ≡ o))
+        → (k : ℕ) × (e : DictionaryEntry) × (slice_get (x ∷ es) k ≡ Some e) × (e.id ≡ id) × (e.object ≡ o)
     go true t later = (0, x, refl, (bytes_eq-Decides x.id id).0 t, some_some x.object o (rw t at h))
     go false t later = by (later (rw t at h))
       where
-        by : (k : ℕ) × (e : Entry) × (slice_get es k ≡ Some e) × (e.id ≡ id) × (e.object ≡ o) → (k : ℕ) × (e : Entry) × (slice_get (x ∷ es) k ≡ Some e) × (e.id ≡ id) × (e.object ≡ o)
+        by : (k : ℕ) × (e : DictionaryEntry) × (slice_get es k ≡ Some e) × (e.id ≡ id) × (e.object ≡ o) → (k : ℕ) × (e : DictionaryEntry) × (slice_get (x ∷ es) k ≡ Some e) × (e.id ≡ id) × (e.object ≡ o)
         by (k, e, at, same, is) = (suc k, e, at, same, is)
 
-abbrev position_of : List ℕ → List Entry → ℕ
-position_of id es = position_or_len (λ (e : Entry). bytes_eq e.id id) es
+abbrev position_of : List ℕ → List DictionaryEntry → ℕ
+position_of id es = position_or_len (λ (e : DictionaryEntry). bytes_eq e.id id) es
 
 -- the rank is a place of the id, or none has it
-rank_cases : (es : List Entry) (id : List ℕ) → ((e : Entry) × (slice_get es (position_of id es) ≡ Some e) × (e.id ≡ id)) ⊎ (position_of id es ≡ length es)
+rank_cases : (es : List DictionaryEntry) (id : List ℕ) → ((e : DictionaryEntry) × (slice_get es (position_of id es) ≡ Some e) × (e.id ≡ id)) ⊎ (position_of id es ≡ length es)
 rank_cases [] id = inr refl
 rank_cases (x ∷ es) id = go (bytes_eq x.id id) refl (rank_cases es id)
   where
-    go : (b : Bool) → bytes_eq x.id id ≡ b → ((e : Entry) × (slice_get es (position_of id es) ≡ Some e) × (e.id ≡ id)) ⊎ (position_of id es ≡ length es)
-        → ((e : Entry) × (slice_get (x ∷ es) (position_of id (x ∷ es)) ≡ Some e) × (e.id ≡ id)) ⊎ (position_of id (x ∷ es) ≡ length (x ∷ es))
+    go : (b : Bool) → bytes_eq x.id id ≡ b → ((e : DictionaryEntry) × (slice_get es (position_of id es) ≡ Some e) × (e.id ≡ id)) ⊎ (position_of id es ≡ length es)
+        → ((e : DictionaryEntry) × (slice_get (x ∷ es) (position_of id (x ∷ es)) ≡ Some e) × (e.id ≡ id)) ⊎ (position_of id (x ∷ es) ≡ length (x ∷ es))
     go true t later = inl (x, rw t refl, (bytes_eq-Decides x.id id).0 t)
     go false t (inl (e, at, same)) = inl (e, rw t (let n : 1 + position_of id es ≡ suc (position_of id es) = omega arith in rw n at), same)
     go false t (inr none) = inr (rw t (omega arith))
 
-rank_at : (es : List Entry) (k : ℕ) (e : Entry) → Apart (ids_of es) → slice_get es k ≡ Some e → position_of e.id es ≡ k
+rank_at : (es : List DictionaryEntry) (k : ℕ) (e : DictionaryEntry) → Apart (ids_of es) → slice_get es k ≡ Some e → position_of e.id es ≡ k
 rank_at [] k e apart at = absurd cc
 rank_at (x ∷ es) zero e apart at =
     let same : x ≡ e = some_some x e at in
-    let here : bytes_eq x.id e.id ≡ true = (bytes_eq-Decides x.id e.id).1 (ap (λ (y : Entry). y.id) same) in
+    let here : bytes_eq x.id e.id ≡ true = (bytes_eq-Decides x.id e.id).1 (ap (λ (y : DictionaryEntry). y.id) same) in
     rw here refl
 rank_at (x ∷ es) (suc k) e apart at = go (bytes_eq x.id e.id) refl (rank_at es k e (λ i j d l h. apart (suc i) (suc j) d (omega arith) (omega arith)) at)
   where
@@ -126,7 +126,7 @@ slot_back (d ∷ ds) (suc k) s e = slot_back ds k s e
 
 module _ {R : Contents} {m : List ℕ} {marks : List Mark} (s : IsSearch R m marks [] []) where
   abbrev IsFoundPlace : Place → Type 0
-  IsFoundPlace p = (k : ℕ) × (e : Entry) × (slice_get R.objects k ≡ Some e) × (p ≡ entry e.id) × IsFoundAt marks k
+  IsFoundPlace p = (k : ℕ) × (e : DictionaryEntry) × (slice_get R.objects k ≡ Some e) × (p ≡ entry e.id) × IsFoundAt marks k
 
   abbrev F : Place → Type 0
   F p = (p ≡ message) ⊎ IsFoundPlace p
@@ -165,7 +165,7 @@ module _ {R : Contents} {m : List ℕ} {marks : List Mark} (s : IsSearch R m mar
   stable nowhere reach may = absurd may
   stable (entry id) reach may = go (find_entry id R.objects) refl
     where
-      by_mark : (k : ℕ) (e : Entry) (o : Object) → find_entry id R.objects ≡ Some o → slice_get R.objects k ≡ Some e → e.id ≡ id → e.object ≡ o → (x : Mark) → slice_get marks k ≡ Some x → IsMarked x → F (entry id)
+      by_mark : (k : ℕ) (e : DictionaryEntry) (o : Object) → find_entry id R.objects ≡ Some o → slice_get R.objects k ≡ Some e → e.id ≡ id → e.object ≡ o → (x : Mark) → slice_get marks k ≡ Some x → IsReachedMark x → F (entry id)
       by_mark k e o found at same is Unreached got marked = absurd marked
       by_mark k e o found at same is Finite got marked = inr (k, e, at, ap entry (sym same), got)
       by_mark k e o found at same is (Open n) got marked = by_held (s.held k n e at got)
@@ -174,10 +174,10 @@ module _ {R : Contents} {m : List ℕ} {marks : List Mark} (s : IsSearch R m mar
           by_held (inr h) = absurd (none_in k h)
           by_held (inl h) = absurd (held_not o o.kind (subst (λ (x : Object). HoldBack R.objects marks [] x.kind x.elements) is h) (subst (λ (x : Option Object). MayBeFound F (entry_form R x)) found may))
 
-      by_place : (o : Object) → find_entry id R.objects ≡ Some o → ((k : ℕ) × (e : Entry) × (slice_get R.objects k ≡ Some e) × (e.id ≡ id) × (e.object ≡ o)) → F (entry id)
+      by_place : (o : Object) → find_entry id R.objects ≡ Some o → ((k : ℕ) × (e : DictionaryEntry) × (slice_get R.objects k ≡ Some e) × (e.id ≡ id) × (e.object ≡ o)) → F (entry id)
       by_place o found (k, e, at, same, is) = with_mark (s.marked k e at (subst (λ (i : List ℕ). Reaches R m (entry i)) (sym same) reach))
         where
-          with_mark : (x : Mark) × (slice_get marks k ≡ Some x) × IsMarked x → F (entry id)
+          with_mark : (x : Mark) × (slice_get marks k ≡ Some x) × IsReachedMark x → F (entry id)
           with_mark (x, got, marked) = by_mark k e o found at same is x got marked
 
       go : (o : Option Object) → find_entry id R.objects ≡ o → F (entry id)
@@ -188,7 +188,7 @@ module _ {R : Contents} {m : List ℕ} {marks : List Mark} (s : IsSearch R m mar
   finite_is_found p reach finite = finite_marked R m F stable (one_reference R m s.below) p reach finite
 
   -- an open object has no finite instance
-  open_endless : (k n : ℕ) (e : Entry) → slice_get R.objects k ≡ Some e → slice_get marks k ≡ Some (Open n) → IsFinite (graph R m) (entry e.id) → ⊥
+  open_endless : (k n : ℕ) (e : DictionaryEntry) → slice_get R.objects k ≡ Some e → slice_get marks k ≡ Some (Open n) → IsFinite (graph R m) (entry e.id) → ⊥
   open_endless k n e at got finite = go (finite_is_found (entry e.id) (s.reached k e (Open n) at got tt) finite)
     where
       go : F (entry e.id) → ⊥
@@ -209,27 +209,27 @@ module _ {R : Contents} {m : List ℕ} {marks : List Mark} (s : IsSearch R m mar
   endless_cases nowhere reach endless = absurd (no_nowhere reach)
   endless_cases (entry id) reach endless = go (find_entry id R.objects) refl
     where
-      by_mark : (k : ℕ) (e : Entry) → slice_get R.objects k ≡ Some e → e.id ≡ id → (x : Mark) → slice_get marks k ≡ Some x → IsMarked x → (entry id ≡ message) ⊎ ((k : ℕ) × (n : ℕ) × (rank_of R (entry id) ≡ k) × (slice_get marks k ≡ Some (Open n)))
+      by_mark : (k : ℕ) (e : DictionaryEntry) → slice_get R.objects k ≡ Some e → e.id ≡ id → (x : Mark) → slice_get marks k ≡ Some x → IsReachedMark x → (entry id ≡ message) ⊎ ((k : ℕ) × (n : ℕ) × (rank_of R (entry id) ≡ k) × (slice_get marks k ≡ Some (Open n)))
       by_mark k e at same Unreached got marked = absurd marked
       by_mark k e at same Finite got marked = absurd (endless (subst (λ (i : List ℕ). IsFinite (graph R m) (entry i)) same (s.finite k e at got)))
       by_mark k e at same (Open n) got marked = inr (k, n, subst (λ (i : List ℕ). position_of i R.objects ≡ k) same (rank_at R.objects k e s.whole.distinct at), got)
 
-      by_place : ((k : ℕ) × (e : Entry) × (slice_get R.objects k ≡ Some e) × (e.id ≡ id)) → (entry id ≡ message) ⊎ ((k : ℕ) × (n : ℕ) × (rank_of R (entry id) ≡ k) × (slice_get marks k ≡ Some (Open n)))
+      by_place : ((k : ℕ) × (e : DictionaryEntry) × (slice_get R.objects k ≡ Some e) × (e.id ≡ id)) → (entry id ≡ message) ⊎ ((k : ℕ) × (n : ℕ) × (rank_of R (entry id) ≡ k) × (slice_get marks k ≡ Some (Open n)))
       by_place (k, e, at, same) = with_mark (s.marked k e at (subst (λ (i : List ℕ). Reaches R m (entry i)) (sym same) reach))
         where
-          with_mark : (x : Mark) × (slice_get marks k ≡ Some x) × IsMarked x → (entry id ≡ message) ⊎ ((k : ℕ) × (n : ℕ) × (rank_of R (entry id) ≡ k) × (slice_get marks k ≡ Some (Open n)))
+          with_mark : (x : Mark) × (slice_get marks k ≡ Some x) × IsReachedMark x → (entry id ≡ message) ⊎ ((k : ℕ) × (n : ℕ) × (rank_of R (entry id) ≡ k) × (slice_get marks k ≡ Some (Open n)))
           with_mark (x, got, marked) = by_mark k e at same x got marked
 
       go : (o : Option Object) → find_entry id R.objects ≡ o → (entry id ≡ message) ⊎ ((k : ℕ) × (n : ℕ) × (rank_of R (entry id) ≡ k) × (slice_get marks k ≡ Some (Open n)))
       go None none = absurd (has_entry id reach none)
-      go (Some o) found = (let b : (k : ℕ) × (e : Entry) × (slice_get R.objects k ≡ Some e) × (e.id ≡ id) × (e.object ≡ o) = find_back R.objects id o found in by_place (b.0, b.1, b.2, b.3))
+      go (Some o) found = (let b : (k : ℕ) × (e : DictionaryEntry) × (slice_get R.objects k ≡ Some e) × (e.id ≡ id) × (e.object ≡ o) = find_back R.objects id o found in by_place (b.0, b.1, b.2, b.3))
 
   -- ---- the answer
 
   pub tells_object : (k : ℕ) → TellsFirstOpen marks (Some k) → TellsFirst R m Endless (Some (breaker.Object k))
   tells_object k (n, got, before) = go (slice_below R.objects k (let h : k < length marks = slice_get_within marks k (Open n) got in let size : length marks ≡ length R.objects = s.size in omega arith))
     where
-      go : (e : Entry) × (slice_get R.objects k ≡ Some e) → TellsFirst R m Endless (Some (breaker.Object k))
+      go : (e : DictionaryEntry) × (slice_get R.objects k ≡ Some e) → TellsFirst R m Endless (Some (breaker.Object k))
       go (e, at) = (entry e.id, (e, at, refl), record { reached = s.reached k e (Open n) at got tt; broken = open_endless k n e at got; first = first })
         where
           rank : position_of e.id R.objects ≡ k

@@ -12,14 +12,14 @@ use Rattle.repo_objects.specs.declared.objects.Kinds.{Kinds}
 use Rattle.repo_objects.specs.declared.objects.Kinds.TheVariants as kinds
 use Rattle.repo_objects.specs.declared.objects.ObjectKind.{ObjectKind}
 use Rattle.repo_objects.specs.declared.objects.ObjectKind.TheVariants.{Simple, Component, Choice, External, Other}
-use Rattle.repo_objects.specs.Repository.{Entry, Contents}
+use Rattle.repo_objects.specs.Repository.{DictionaryEntry, Contents}
 use Rattle.reference_check.specs.declared.finite.Mark.{Mark}
 use Rattle.reference_check.specs.declared.finite.Mark.TheVariants.{Open, Finite}
 use Rattle.reference_check.specs.Forms.{form_slots}
 use Rattle.reference_check.specs.Graph.{Place, entry, graph, slot_of, simple_form, object_form, entry_form, find_entry}
 use Rattle.reference_check.specs.Shapes.{IsFinite, IsReached, MayBeFound}
 use Rattle.reference_check.specs.Reach.{Reaches}
-use Rattle.reference_check.specs.inner.FiniteSearch.{LeadsTo, IsFoundAt, IsFree, IsBlocked, AreFree, LetThrough, HoldBack, TellsHeld, IsUser, AreListed, IsMarked, IsSearch, HoldsReached}
+use Rattle.reference_check.specs.inner.FiniteSearch.{LeadsTo, IsFoundAt, IsFree, IsBlocked, AreFree, LetThrough, HoldBack, TellsHeld, IsUser, AreListed, IsReachedMark, IsSearch, HoldsReached}
 use Rattle.reference_check.proofs.FiniteForms.{finite_form}
 use Rattle.reference_check.proofs.Decided.{bounds_in, form_bounds}
 use Rattle.reference_check.proofs.Targets.{target_is, leads_or_not, find_at}
@@ -27,7 +27,7 @@ use Rattle.reference_check.proofs.Freed.{same_or_not, get_set_same, get_set_othe
 
 -- ---- what lets an object through
 
-module _ (R : Contents) (m : List ℕ) (marks : List Mark) (F : Place → Type 0) (found : (k : ℕ) (e : Entry) → slice_get R.objects k ≡ Some e → IsFoundAt marks k → F (entry e.id)) where
+module _ (R : Contents) (m : List ℕ) (marks : List Mark) (F : Place → Type 0) (found : (k : ℕ) (e : DictionaryEntry) → slice_get R.objects k ≡ Some e → IsFoundAt marks k → F (entry e.id)) where
   pub free_reached : (d : ElementDef) → IsFree R.objects marks d → IsReached F (slot_of d)
   free_reached d (inl none) = inl none
   free_reached d (inr (k, (id, one, (e, at, same)), h)) =
@@ -51,7 +51,7 @@ module _ (R : Contents) (m : List ℕ) (marks : List Mark) (F : Place → Type 0
 
 module _ {R : Contents} {m : List ℕ} {marks : List Mark} {untold rest : List ℕ} (s : IsSearch R m marks untold rest) where
   -- an object that is let through has a finite instance
-  pub through_finite : (k : ℕ) (e : Entry) → slice_get R.objects k ≡ Some e → Reaches R m (entry e.id) → LetThrough R.objects marks e.object.kind e.object.elements → IsFinite (graph R m) (entry e.id)
+  pub through_finite : (k : ℕ) (e : DictionaryEntry) → slice_get R.objects k ≡ Some e → Reaches R m (entry e.id) → LetThrough R.objects marks e.object.kind e.object.elements → IsFinite (graph R m) (entry e.id)
   through_finite k e at reach h =
       let form_is : find_entry e.id R.objects ≡ Some e.object = find_at R.objects k e s.whole.distinct at in
       let may : MayBeFound (IsFinite (graph R m)) (object_form R e.object e.object.kind) = let_through R m marks (IsFinite (graph R m)) s.finite e.object e.object.kind h in
@@ -70,10 +70,10 @@ module _ {R : Contents} {m : List ℕ} {marks : List Mark} {untold rest : List �
       go (inr h) = h
 
   -- where it is no open object
-  pub not_open : ((n : ℕ) (e : Entry) → slice_get R.objects p ≡ Some e → slice_get marks p ≡ Some (Open n) → ⊥) → IsSearch R m marks untold rest
+  pub not_open : ((n : ℕ) (e : DictionaryEntry) → slice_get R.objects p ≡ Some e → slice_get marks p ≡ Some (Open n) → ⊥) → IsSearch R m marks untold rest
   not_open none = record { whole = s.whole; below = s.below; size = s.size; marked = s.marked; reached = s.reached; finite = s.finite; free = s.free; held = held' }
     where
-      held' : (k n : ℕ) (e : Entry) → slice_get R.objects k ≡ Some e → slice_get marks k ≡ Some (Open n) → HoldBack R.objects marks untold e.object.kind e.object.elements ⊎ Contains rest k
+      held' : (k n : ℕ) (e : DictionaryEntry) → slice_get R.objects k ≡ Some e → slice_get marks k ≡ Some (Open n) → HoldBack R.objects marks untold e.object.kind e.object.elements ⊎ Contains rest k
       held' k n e at got = go (same_or_not k p) (s.held k n e at got)
         where
           go : (k ≡ p) ⊎ (k ≡ p → ⊥) → HoldBack R.objects marks untold e.object.kind e.object.elements ⊎ Contains (p ∷ rest) k → HoldBack R.objects marks untold e.object.kind e.object.elements ⊎ Contains rest k
@@ -82,7 +82,7 @@ module _ {R : Contents} {m : List ℕ} {marks : List Mark} {untold rest : List �
           go (inr other) (inr h) = inr (later k other h)
 
   -- where it is open: the mark that it gets
-  module _ (n : ℕ) (e : Entry) (at : slice_get R.objects p ≡ Some e) (was : slice_get marks p ≡ Some (Open n)) where
+  module _ (n : ℕ) (e : DictionaryEntry) (at : slice_get R.objects p ≡ Some e) (was : slice_get marks p ≡ Some (Open n)) where
     reach_p : Reaches R m (entry e.id)
     reach_p = s.reached p e (Open n) at was tt
 
@@ -106,14 +106,14 @@ module _ {R : Contents} {m : List ℕ} {marks : List Mark} {untold rest : List �
           go (inl same) = absurd (let e : ◌≡◌ {A = Option Mark} (Some Finite) (Some (Open n)) = sym found ∙ (ap (slice_get marks) same ∙ was) in cc)
           go (inr other) = there k other ∙ found
 
-      marked' : IsMarked y → (k : ℕ) (f : Entry) → slice_get R.objects k ≡ Some f → Reaches R m (entry f.id) → (x : Mark) × (slice_get (slice_set marks p y) k ≡ Some x) × IsMarked x
+      marked' : IsReachedMark y → (k : ℕ) (f : DictionaryEntry) → slice_get R.objects k ≡ Some f → Reaches R m (entry f.id) → (x : Mark) × (slice_get (slice_set marks p y) k ≡ Some x) × IsReachedMark x
       marked' is k f got reach = go (same_or_not k p) (s.marked k f got reach)
         where
-          go : (k ≡ p) ⊎ (k ≡ p → ⊥) → ((x : Mark) × (slice_get marks k ≡ Some x) × IsMarked x) → (x : Mark) × (slice_get (slice_set marks p y) k ≡ Some x) × IsMarked x
+          go : (k ≡ p) ⊎ (k ≡ p → ⊥) → ((x : Mark) × (slice_get marks k ≡ Some x) × IsReachedMark x) → (x : Mark) × (slice_get (slice_set marks p y) k ≡ Some x) × IsReachedMark x
           go (inl same) h = (y, at_here k same, is)
           go (inr other) (x, e, h) = (x, there k other ∙ e, h)
 
-      reached' : (k : ℕ) (f : Entry) (x : Mark) → slice_get R.objects k ≡ Some f → slice_get (slice_set marks p y) k ≡ Some x → IsMarked x → Reaches R m (entry f.id)
+      reached' : (k : ℕ) (f : DictionaryEntry) (x : Mark) → slice_get R.objects k ≡ Some f → slice_get (slice_set marks p y) k ≡ Some x → IsReachedMark x → Reaches R m (entry f.id)
       reached' k f x got mark is = go (same_or_not k p)
         where
           go : (k ≡ p) ⊎ (k ≡ p → ⊥) → Reaches R m (entry f.id)
@@ -121,8 +121,8 @@ module _ {R : Contents} {m : List ℕ} {marks : List Mark} {untold rest : List �
           go (inr other) = s.reached k f x got (sym (there k other) ∙ mark) is
 
       -- what held back the others holds them back, where the users of what was found are told
-      held_on : (told : List ℕ) → ((k : ℕ) → IsFoundAt (slice_set marks p y) k → (IsFoundAt marks k → Contains untold k) → Contains told k) → ((k : ℕ) (f : Entry) (i : ℕ) → k ≡ p → slice_get R.objects k ≡ Some f → slice_get (slice_set marks p y) k ≡ Some (Open i) → HoldBack R.objects (slice_set marks p y) told f.object.kind f.object.elements)
-          → (k i : ℕ) (f : Entry) → slice_get R.objects k ≡ Some f → slice_get (slice_set marks p y) k ≡ Some (Open i) → HoldBack R.objects (slice_set marks p y) told f.object.kind f.object.elements ⊎ Contains rest k
+      held_on : (told : List ℕ) → ((k : ℕ) → IsFoundAt (slice_set marks p y) k → (IsFoundAt marks k → Contains untold k) → Contains told k) → ((k : ℕ) (f : DictionaryEntry) (i : ℕ) → k ≡ p → slice_get R.objects k ≡ Some f → slice_get (slice_set marks p y) k ≡ Some (Open i) → HoldBack R.objects (slice_set marks p y) told f.object.kind f.object.elements)
+          → (k i : ℕ) (f : DictionaryEntry) → slice_get R.objects k ≡ Some f → slice_get (slice_set marks p y) k ≡ Some (Open i) → HoldBack R.objects (slice_set marks p y) told f.object.kind f.object.elements ⊎ Contains rest k
       held_on told some self k i f got mark = go (same_or_not k p)
         where
           go : (k ≡ p) ⊎ (k ≡ p → ⊥) → HoldBack R.objects (slice_set marks p y) told f.object.kind f.object.elements ⊎ Contains rest k
@@ -142,8 +142,8 @@ module _ {R : Contents} {m : List ℕ} {marks : List Mark} {untold rest : List �
           go (inl same) = absurd (let e : ◌≡◌ {A = Option Mark} (Some Finite) (Some (Open free)) = sym found ∙ at_here (Open free) k same in cc)
           go (inr other) = sym (there (Open free) k other) ∙ found
 
-      same_entry : (k : ℕ) (f : Entry) → k ≡ p → slice_get R.objects k ≡ Some f → e ≡ f
-      same_entry k f same got = (let h : ◌≡◌ {A = Option Entry} (Some e) (Some f) = sym at ∙ (ap (slice_get R.objects) (sym same) ∙ got) in cc)
+      same_entry : (k : ℕ) (f : DictionaryEntry) → k ≡ p → slice_get R.objects k ≡ Some f → e ≡ f
+      same_entry k f same got = (let h : ◌≡◌ {A = Option DictionaryEntry} (Some e) (Some f) = sym at ∙ (ap (slice_get R.objects) (sym same) ∙ got) in cc)
 
       pub moves_on : TellsHeld R.objects marks e.object n (Some free) → IsSearch R m (slice_set marks p (Open free)) untold rest
       moves_on (hold, front) = record {
@@ -157,18 +157,18 @@ module _ {R : Contents} {m : List ℕ} {marks : List Mark} {untold rest : List �
         held = held_on (Open free) untold (λ k found told. told (back k found)) self;
       }
         where
-          free' : (k i : ℕ) (f : Entry) → slice_get R.objects k ≡ Some f → slice_get (slice_set marks p (Open free)) k ≡ Some (Open i) → AreFree R.objects (slice_set marks p (Open free)) f.object.elements 0 i
+          free' : (k i : ℕ) (f : DictionaryEntry) → slice_get R.objects k ≡ Some f → slice_get (slice_set marks p (Open free)) k ≡ Some (Open i) → AreFree R.objects (slice_set marks p (Open free)) f.object.elements 0 i
           free' k i f got mark = are_free_more R.objects marks (slice_set marks p (Open free)) (more (Open free)) f.object.elements 0 i (go (same_or_not k p))
             where
               go : (k ≡ p) ⊎ (k ≡ p → ⊥) → AreFree R.objects marks f.object.elements 0 i
               go (inl same) =
                   let number : free ≡ i = (let h : ◌≡◌ {A = Option Mark} (Some (Open free)) (Some (Open i)) = sym (at_here (Open free) k same) ∙ mark in cc) in
-                  subst (λ (j : ℕ). AreFree R.objects marks f.object.elements 0 j) number (subst (λ (x : Entry). AreFree R.objects marks x.object.elements 0 free) (same_entry k f same got) (front (s.free p n e at was)))
+                  subst (λ (j : ℕ). AreFree R.objects marks f.object.elements 0 j) number (subst (λ (x : DictionaryEntry). AreFree R.objects marks x.object.elements 0 free) (same_entry k f same got) (front (s.free p n e at was)))
               go (inr other) = s.free k i f got (sym (there (Open free) k other) ∙ mark)
 
-          self : (k : ℕ) (f : Entry) (i : ℕ) → k ≡ p → slice_get R.objects k ≡ Some f → slice_get (slice_set marks p (Open free)) k ≡ Some (Open i) → HoldBack R.objects (slice_set marks p (Open free)) untold f.object.kind f.object.elements
+          self : (k : ℕ) (f : DictionaryEntry) (i : ℕ) → k ≡ p → slice_get R.objects k ≡ Some f → slice_get (slice_set marks p (Open free)) k ≡ Some (Open i) → HoldBack R.objects (slice_set marks p (Open free)) untold f.object.kind f.object.elements
           self k f i same got mark =
-              subst (λ (x : Entry). HoldBack R.objects (slice_set marks p (Open free)) untold x.object.kind x.object.elements) (same_entry k f same got)
+              subst (λ (x : DictionaryEntry). HoldBack R.objects (slice_set marks p (Open free)) untold x.object.kind x.object.elements) (same_entry k f same got)
               (held_more R.objects marks (slice_set marks p (Open free)) [] untold (λ j found told. absurd (none_in j (told (back j found)))) e.object.kind e.object.elements hold)
 
     -- it has a finite instance
@@ -194,14 +194,14 @@ module _ {R : Contents} {m : List ℕ} {marks : List Mark} {untold rest : List �
         finite_p : IsFinite (graph R m) (entry e.id)
         finite_p = through_finite s p e at reach_p (through (s.free p n e at was))
 
-        finite' : (k : ℕ) (f : Entry) → slice_get R.objects k ≡ Some f → IsFoundAt (slice_set marks p Finite) k → IsFinite (graph R m) (entry f.id)
+        finite' : (k : ℕ) (f : DictionaryEntry) → slice_get R.objects k ≡ Some f → IsFoundAt (slice_set marks p Finite) k → IsFinite (graph R m) (entry f.id)
         finite' k f got found = go (only_p k found)
           where
             go : (k ≡ p) ⊎ IsFoundAt marks k → IsFinite (graph R m) (entry f.id)
-            go (inl same) = (let h : e ≡ f = (let q : ◌≡◌ {A = Option Entry} (Some e) (Some f) = sym at ∙ (ap (slice_get R.objects) (sym same) ∙ got) in cc) in subst (λ (x : Entry). IsFinite (graph R m) (entry x.id)) h finite_p)
+            go (inl same) = (let h : e ≡ f = (let q : ◌≡◌ {A = Option DictionaryEntry} (Some e) (Some f) = sym at ∙ (ap (slice_get R.objects) (sym same) ∙ got) in cc) in subst (λ (x : DictionaryEntry). IsFinite (graph R m) (entry x.id)) h finite_p)
             go (inr h) = s.finite k f got h
 
-        free' : (k i : ℕ) (f : Entry) → slice_get R.objects k ≡ Some f → slice_get (slice_set marks p Finite) k ≡ Some (Open i) → AreFree R.objects (slice_set marks p Finite) f.object.elements 0 i
+        free' : (k i : ℕ) (f : DictionaryEntry) → slice_get R.objects k ≡ Some f → slice_get (slice_set marks p Finite) k ≡ Some (Open i) → AreFree R.objects (slice_set marks p Finite) f.object.elements 0 i
         free' k i f got mark = are_free_more R.objects marks (slice_set marks p Finite) (more Finite) f.object.elements 0 i (go (same_or_not k p))
           where
             go : (k ≡ p) ⊎ (k ≡ p → ⊥) → AreFree R.objects marks f.object.elements 0 i
@@ -217,7 +217,7 @@ module _ {R : Contents} {m : List ℕ} {marks : List Mark} {untold rest : List �
 
 -- ---- the users of the object at p are told
 
-some_leads : (es : List Entry) (p : ℕ) (ds : List ElementDef) → ((i : ℕ) × (d : ElementDef) × (slice_get ds i ≡ Some d) × LeadsTo es d p) ⊎ ((i : ℕ) (d : ElementDef) → slice_get ds i ≡ Some d → LeadsTo es d p → ⊥)
+some_leads : (es : List DictionaryEntry) (p : ℕ) (ds : List ElementDef) → ((i : ℕ) × (d : ElementDef) × (slice_get ds i ≡ Some d) × LeadsTo es d p) ⊎ ((i : ℕ) (d : ElementDef) → slice_get ds i ≡ Some d → LeadsTo es d p → ⊥)
 some_leads es p [] = inr (λ i d at leads. absurd cc)
 some_leads es p (x ∷ ds) = go (leads_or_not es x p) (some_leads es p ds)
   where
@@ -241,10 +241,10 @@ module _ {R : Contents} {m : List ℕ} {marks : List Mark} (untold : List ℕ) (
       go k leads (inr (zero, within, e)) = absurd (other (subst (λ (x : ℕ). LeadsTo R.objects d x) (sym e) leads))
       go k leads (inr (suc i, within, e)) = absurd (omega arith)
 
-  pub told : (rest : List ℕ) → ((k n : ℕ) (e : Entry) (i : ℕ) (d : ElementDef) → slice_get R.objects k ≡ Some e → slice_get marks k ≡ Some (Open n) → slice_get e.object.elements i ≡ Some d → (d.min ≡ 0 → ⊥) → LeadsTo R.objects d p → Contains rest k) → IsSearch R m marks untold rest
+  pub told : (rest : List ℕ) → ((k n : ℕ) (e : DictionaryEntry) (i : ℕ) (d : ElementDef) → slice_get R.objects k ≡ Some e → slice_get marks k ≡ Some (Open n) → slice_get e.object.elements i ≡ Some d → (d.min ≡ 0 → ⊥) → LeadsTo R.objects d p → Contains rest k) → IsSearch R m marks untold rest
   told rest user = record { whole = s.whole; below = s.below; size = s.size; marked = s.marked; reached = s.reached; finite = s.finite; free = s.free; held = held' }
     where
-      held' : (k n : ℕ) (e : Entry) → slice_get R.objects k ≡ Some e → slice_get marks k ≡ Some (Open n) → HoldBack R.objects marks untold e.object.kind e.object.elements ⊎ Contains rest k
+      held' : (k n : ℕ) (e : DictionaryEntry) → slice_get R.objects k ≡ Some e → slice_get marks k ≡ Some (Open n) → HoldBack R.objects marks untold e.object.kind e.object.elements ⊎ Contains rest k
       held' k n e at got = go (s.held k n e at got)
         where
           by_kind : (kind : ObjectKind) → HoldBack R.objects marks (untold ++ p ∷ []) kind e.object.elements → HoldBack R.objects marks untold kind e.object.elements ⊎ Contains rest k
@@ -265,7 +265,7 @@ module _ {R : Contents} {m : List ℕ} {marks : List Mark} (untold : List ℕ) (
           go (inr h) = absurd (none_in k h)
 
   module _ (users : List (List ℕ)) (places : List ℕ) (listed : AreListed R.objects users places) (all : HoldsReached R m places) where
-    user_of : (k n : ℕ) (e : Entry) (i : ℕ) (d : ElementDef) → slice_get R.objects k ≡ Some e → slice_get marks k ≡ Some (Open n) → slice_get e.object.elements i ≡ Some d → (d.min ≡ 0 → ⊥) → LeadsTo R.objects d p → IsUser users p k
+    user_of : (k n : ℕ) (e : DictionaryEntry) (i : ℕ) (d : ElementDef) → slice_get R.objects k ≡ Some e → slice_get marks k ≡ Some (Open n) → slice_get e.object.elements i ≡ Some d → (d.min ≡ 0 → ⊥) → LeadsTo R.objects d p → IsUser users p k
     user_of k n e i d at got is must leads = listed k (all k e at (s.reached k e (Open n) at got tt)) e at i d is p must leads
 
     pub told_list : (list : List ℕ) → slice_get users p ≡ Some list → IsSearch R m marks untold list

@@ -12,7 +12,7 @@ use Rattle.repo_objects.specs.Objects.{HasCodeTexts, HasObjectTexts, IsXmlTextIf
 use Rattle.repo_objects.specs.Repository.{IsRepository}
 use Rattle.reference_check.specs.CodeTexts.{text_of_code}
 use Rattle.reference_check.specs.Rules.{IsLong, set_codes}
-use Rattle.reference_check.specs.inner.Sizes.{IsTooLarge, IsTooLong, HasLongCode}
+use Rattle.reference_check.specs.inner.Sizes.{IsTooLarge, IsTooLongObject, HasLongCode}
 use Rattle.reference_check.proofs.Characters.{fewer_characters}
 use Rattle.reference_check.proofs.TextsOfXml.{text_of_xml}
 
@@ -35,7 +35,7 @@ pub code_is_xml : (R : Contents) (o : Object) (c : CodeDef) (text : List ℕ) �
 code_is_xml R o c text whole texts found = subst IsXmlTextIfAny (sym found) (text_of_xml 16 R.objects o c whole.object_texts texts)
 
 -- where nothing else is too large, a code decides
-pub code_decides : (R : Contents) (o : Object) (long : Bool) → (IsTooLong o → ⊥) → (IsTrue long ↔ HasLongCode R o) → IsTrue long ↔ IsTooLarge R o
+pub code_decides : (R : Contents) (o : Object) (long : Bool) → (IsTooLongObject o → ⊥) → (IsTrue long ↔ HasLongCode R o) → IsTrue long ↔ IsTooLarge R o
 code_decides R o long fine (there, back) = (λ h. inr (inr (inl (there h))), large)
   where
     large : IsTooLarge R o → IsTrue long
@@ -44,6 +44,6 @@ code_decides R o long fine (there, back) = (λ h. inr (inr (inl (there h))), lar
     large (inr (inr (inl code))) = back code
     large (inr (inr (inr pattern))) = absurd (fine (inr (inr pattern)))
 
-pub result_decides : (R : Contents) (o : Object) (r : Result Bool AllocError) → (IsTooLong o → ⊥) → IfOk r (λ b. IsTrue b ↔ HasLongCode R o) → IfOk r (λ b. IsTrue b ↔ IsTooLarge R o)
+pub result_decides : (R : Contents) (o : Object) (r : Result Bool AllocError) → (IsTooLongObject o → ⊥) → IfOk r (λ b. IsTrue b ↔ HasLongCode R o) → IfOk r (λ b. IsTrue b ↔ IsTooLarge R o)
 result_decides R o (Ok b) fine h = code_decides R o b fine h
 result_decides R o (Err e) fine h = tt

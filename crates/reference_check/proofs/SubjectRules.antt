@@ -12,7 +12,7 @@ use Rattle.reference_check.specs.Reach.{elements_of, currency_of, elements_or_no
 use Rattle.reference_check.specs.Rules.{Breaks, OfObject, HasBadName}
 use Rattle.reference_check.specs.declared.subject.Subject.{Subject}
 use Rattle.reference_check.specs.declared.subject.Subject.TheVariants as subject
-use Rattle.reference_check.specs.inner.Subjects.{rule_of, BreaksRule, IsSubject, IsOptionalChoice, IsEmptyChoice}
+use Rattle.reference_check.specs.inner.Subjects.{asked_rule, BreaksStructureRule, IsSubject, IsOptionalChoice, IsEmptyChoice}
 use Rattle.reference_check.proofs.Marking.{none_in}
 use Rattle.reference_check.proofs.Lookups.{contains_at}
 
@@ -31,7 +31,7 @@ both : {P : Type 0} → P ↔ P
 both = (λ h. h, λ h. h)
 
 module _ (R : Contents) (m : List ℕ) (id : List ℕ) (o : Bor Object) (found : find_entry id R.objects ≡ Some o.now) where
-  entry_breaks : (rule : StructureRule) → BreaksRule R rule (subject.Entry o) ↔ Breaks R m (rule_of rule) (entry id)
+  entry_breaks : (rule : StructureRule) → BreaksStructureRule R rule (subject.Entry o) ↔ Breaks R m (asked_rule rule) (entry id)
   entry_breaks asked.Dangling = (λ h. rw found h, λ h. rw found at h)
   entry_breaks asked.BadCurrency = (λ h. rw found h, λ h. rw found at h)
   entry_breaks asked.NotOneReference = (λ h. rw found h, λ h. rw found at h)
@@ -45,7 +45,7 @@ no_object : (R : Contents) (Says : Object → Type 0) → OfObject R message Say
 no_object R Says (id, o, at, found, h) = cc
 
 module _ (R : Contents) (m : List ℕ) (d : Bor MessageDef) (found : find_message m R.messages ≡ Some d.now) where
-  message_breaks : (rule : StructureRule) → BreaksRule R rule (subject.Message d) ↔ Breaks R m (rule_of rule) message
+  message_breaks : (rule : StructureRule) → BreaksStructureRule R rule (subject.Message d) ↔ Breaks R m (asked_rule rule) message
   message_breaks asked.Dangling = (λ h. rw found h, λ h. rw found at h)
   message_breaks asked.BadCurrency = (λ h. h, λ h. h)
   message_breaks asked.NotOneReference = (λ h. rw found h, λ h. rw found at h)
@@ -55,9 +55,9 @@ module _ (R : Contents) (m : List ℕ) (d : Bor MessageDef) (found : find_messag
   message_breaks asked.OptionalAlternative = (λ h. absurd h, λ h. absurd (no_object R IsOptionalChoice h))
   message_breaks asked.NoAlternatives = (λ h. absurd h, λ h. absurd (no_object R IsEmptyChoice h))
 
-pub subject_breaks : (R : Contents) (m : List ℕ) (p : Place) (s : Subject) (rule : StructureRule) → IsSubject R m p s → BreaksRule R rule s ↔ Breaks R m (rule_of rule) p
-subject_breaks R m p (subject.Entry o) rule (id, at, found) = subst (λ q. BreaksRule R rule (subject.Entry o) ↔ Breaks R m (rule_of rule) q) (sym at) (entry_breaks R m id o found rule)
-subject_breaks R m p (subject.Message d) rule (at, found) = subst (λ q. BreaksRule R rule (subject.Message d) ↔ Breaks R m (rule_of rule) q) (sym at) (message_breaks R m d found rule)
+pub subject_breaks : (R : Contents) (m : List ℕ) (p : Place) (s : Subject) (rule : StructureRule) → IsSubject R m p s → BreaksStructureRule R rule s ↔ Breaks R m (asked_rule rule) p
+subject_breaks R m p (subject.Entry o) rule (id, at, found) = subst (λ q. BreaksStructureRule R rule (subject.Entry o) ↔ Breaks R m (asked_rule rule) q) (sym at) (entry_breaks R m id o found rule)
+subject_breaks R m p (subject.Message d) rule (at, found) = subst (λ q. BreaksStructureRule R rule (subject.Message d) ↔ Breaks R m (asked_rule rule) q) (sym at) (message_breaks R m d found rule)
 
 -- an id that names no object breaks none of these
 module _ (R : Contents) (m : List ℕ) (id : List ℕ) (none : find_entry id R.objects ≡ None) where
@@ -73,7 +73,7 @@ module _ (R : Contents) (m : List ℕ) (id : List ℕ) (none : find_entry id R.o
       let here : find_entry id R.objects ≡ Some x = subst (λ z. find_entry z R.objects ≡ Some x) (sym same_id) there in
       cc
 
-  pub absent_breaks : (rule : StructureRule) → Breaks R m (rule_of rule) (entry id) → ⊥
+  pub absent_breaks : (rule : StructureRule) → Breaks R m (asked_rule rule) (entry id) → ⊥
   absent_breaks asked.Dangling (inl (e, other, has, names, h)) = nothing e has
   absent_breaks asked.Dangling (inr (c, is, h)) = no_currency c is
   absent_breaks asked.BadCurrency (c, o, is, there, h) = no_currency c is

@@ -6,11 +6,11 @@ use Rattle.reference_check.specs.declared.reached.ReadyError.TheVariants.{Broken
 use Rattle.reference_check.specs.inner.First.{TellsFirst}
 use Rattle.reference_check.specs.inner.Ranks.{TellsAs}
 use Rattle.reference_check.specs.Reached.{TellsBroken}
-use Rattle.reference_check.specs.Rules.{Rule, BadCodes, LeftOutKind, NameTwice, TooMany, number_of, IsTail, IsSound}
+use Rattle.reference_check.specs.Rules.{Rule, BadCodes, LeftOutKind, NameTwice, TooMany, object_rule_number, IsTailRule, IsSound}
 
 -- no rule of the tail below a number is broken
 abbrev pub NoneBelow : Contents → List ℕ → ℕ → Type 0
-NoneBelow R m n = (r : Rule) → IsTail r → number_of r < n → TellsFirst R m r None
+NoneBelow R m n = (r : Rule) → IsTailRule r → object_rule_number r < n → TellsFirst R m r None
 
 module _ (R : Contents) (m : List ℕ) where
   pub below_codes : NoneBelow R m 14
@@ -31,7 +31,7 @@ module _ (R : Contents) (m : List ℕ) where
   below_counts codes kinds names NameTwice asked less = names
   below_counts codes kinds names _ asked less = absurd (omega (arith, asked, less))
 
-  pub sound_tail : TellsFirst R m BadCodes None → TellsFirst R m LeftOutKind None → TellsFirst R m NameTwice None → TellsFirst R m TooMany None → IsSound R m IsTail
+  pub sound_tail : TellsFirst R m BadCodes None → TellsFirst R m LeftOutKind None → TellsFirst R m NameTwice None → TellsFirst R m TooMany None → IsSound R m IsTailRule
   sound_tail codes kinds names counts BadCodes p asked = codes p
   sound_tail codes kinds names counts LeftOutKind p asked = kinds p
   sound_tail codes kinds names counts NameTwice p asked = names p
@@ -39,7 +39,7 @@ module _ (R : Contents) (m : List ℕ) where
   sound_tail codes kinds names counts _ p asked = absurd (omega (arith, asked))
 
   -- what is told of a rule where the lower ones are not broken
-  pub told : (r : Rule) (e : ReadyError) → IsTail r → NoneBelow R m (number_of r) → TellsAs R m r e → TellsBroken R m IsTail e
+  pub told : (r : Rule) (e : ReadyError) → IsTailRule r → NoneBelow R m (object_rule_number r) → TellsAs R m r e → TellsBroken R m IsTailRule e
   told r (Broken number object) asked none (p, first, number_is, object_is) =
       (r, p, record { asked = asked; reached = first.reached; broken = first.broken; lowest = λ q place tail less. none q tail less place; first = first.first }, number_is, object_is)
   told r Memory asked none h = tt

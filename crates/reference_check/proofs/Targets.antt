@@ -7,7 +7,7 @@ use Rattle.std.proofs.lemmas.Option.{slice_get_within, get_or_from_slice_get, sl
 use Rattle.std.proofs.lemmas.Slice.Eq.{bytes_eq-Decides}
 use native.Mathlib.Decide.{dec_lt}
 use Rattle.repo_objects.specs.declared.objects.ElementDef.{ElementDef}
-use Rattle.repo_objects.specs.Repository.{Entry, Contents, ids_of, HasId, HasIdAt, IsRepository}
+use Rattle.repo_objects.specs.Repository.{DictionaryEntry, Contents, ids_of, HasId, HasIdAt, IsRepository}
 use Rattle.reference_check.specs.Graph.{entry, one_of, slot_of, references, find_entry}
 use Rattle.reference_check.specs.inner.FiniteSearch.{only_one, LeadsTo, TellsTarget}
 
@@ -19,22 +19,22 @@ pub some_some : {A : Type 0} (x y : A) → ◌≡◌ {A = Option A} (Some x) (So
 some_some x y e = cc
 
 -- the id of the object at a place
-id_at : (es : List Entry) (k : ℕ) (id : List ℕ) → HasIdAt es k id → slice_get (ids_of es) k ≡ Some id
-id_at es k id (e, at, same) = slice_get-map (λ (x : Entry). x.id) es k ∙ (ap (option_map (λ (x : Entry). x.id)) at ∙ ap Some same)
+id_at : (es : List DictionaryEntry) (k : ℕ) (id : List ℕ) → HasIdAt es k id → slice_get (ids_of es) k ≡ Some id
+id_at es k id (e, at, same) = slice_get-map (λ (x : DictionaryEntry). x.id) es k ∙ (ap (option_map (λ (x : DictionaryEntry). x.id)) at ∙ ap Some same)
 
-pub has_id : (es : List Entry) (k : ℕ) (id : List ℕ) → HasIdAt es k id → HasId es id
+pub has_id : (es : List DictionaryEntry) (k : ℕ) (id : List ℕ) → HasIdAt es k id → HasId es id
 has_id es k id h =
     let at : slice_get (ids_of es) k ≡ Some id = id_at es k id h in
     (k, slice_get_within (ids_of es) k id at, get_or_from_slice_get (ids_of es) k id id at)
 
 -- no id stands at two places
-not_before : (es : List Entry) (j k : ℕ) (id : List ℕ) → Apart (ids_of es) → HasIdAt es j id → HasIdAt es k id → j < k → ⊥
+not_before : (es : List DictionaryEntry) (j k : ℕ) (id : List ℕ) → Apart (ids_of es) → HasIdAt es j id → HasIdAt es k id → j < k → ⊥
 not_before es j k id apart h i l =
     let at : slice_get (ids_of es) j ≡ Some id = id_at es j id h in
     let also : slice_get (ids_of es) k ≡ Some id = id_at es k id i in
     apart j k id l (slice_get_within (ids_of es) k id also) (get_or_from_slice_get (ids_of es) j id id at ∙ sym (get_or_from_slice_get (ids_of es) k id id also))
 
-pub one_place : (es : List Entry) (j k : ℕ) (id : List ℕ) → Apart (ids_of es) → HasIdAt es j id → HasIdAt es k id → j ≡ k
+pub one_place : (es : List DictionaryEntry) (j k : ℕ) (id : List ℕ) → Apart (ids_of es) → HasIdAt es j id → HasIdAt es k id → j ≡ k
 one_place es j k id apart h i = go (dec_lt j k) (dec_lt k j)
   where
     go : Dec (j < k) → Dec (k < j) → j ≡ k
@@ -47,7 +47,7 @@ one_place es j k id apart h i = go (dec_lt j k) (dec_lt k j)
 pub target_found : (R : Contents) (d : ElementDef) (id : List ℕ) (k : ℕ) → IsRepository R → only_one (references d) ≡ Some id → HasIdAt R.objects k id → TellsTarget R.objects d (Some k)
 target_found R d id k whole one at = ((id, one, at), λ j (i, o, h). one_place R.objects j k id whole.distinct (subst (λ (x : List ℕ). HasIdAt R.objects j x) (some_some i id (sym o ∙ one)) h) at)
 
-pub target_missing : (es : List Entry) (d : ElementDef) (id : List ℕ) → only_one (references d) ≡ Some id → (HasId es id → ⊥) → TellsTarget es d None
+pub target_missing : (es : List DictionaryEntry) (d : ElementDef) (id : List ℕ) → only_one (references d) ≡ Some id → (HasId es id → ⊥) → TellsTarget es d None
 target_missing es d id one none = λ j (i, o, h). none (subst (λ (x : List ℕ). HasId es x) (some_some i id (sym o ∙ one)) (has_id es j i h))
 
 -- the place that the graph names
@@ -68,19 +68,19 @@ pub only_target : (d : ElementDef) (id : List ℕ) → (slot_of d).target ≡ en
 only_target d id e = entry_one_of (references d) id e
 
 -- an element leads to the object at this place, or it does not
-leads_here : (es : List Entry) (d : ElementDef) (k : ℕ) (id : List ℕ) (e : Entry) → only_one (references d) ≡ Some id → slice_get es k ≡ Some e → (b : Bool) → bytes_eq e.id id ≡ b → LeadsTo es d k ⊎ (LeadsTo es d k → ⊥)
+leads_here : (es : List DictionaryEntry) (d : ElementDef) (k : ℕ) (id : List ℕ) (e : DictionaryEntry) → only_one (references d) ≡ Some id → slice_get es k ≡ Some e → (b : Bool) → bytes_eq e.id id ≡ b → LeadsTo es d k ⊎ (LeadsTo es d k → ⊥)
 leads_here es d k id e one at true t = inl (id, one, (e, at, (bytes_eq-Decides e.id id).0 t))
 leads_here es d k id e one at false t = inr (λ (i, o, (f, got, same)).
     let same_id : i ≡ id = some_some i id (sym o ∙ one) in
     let same_entry : f ≡ e = some_some f e (sym got ∙ at) in
-    let equal : e.id ≡ id = ap (λ (x : Entry). x.id) (sym same_entry) ∙ (same ∙ same_id) in
+    let equal : e.id ≡ id = ap (λ (x : DictionaryEntry). x.id) (sym same_entry) ∙ (same ∙ same_id) in
     true≢false (sym ((bytes_eq-Decides e.id id).1 equal) ∙ t))
 
-pub leads_or_not : (es : List Entry) (d : ElementDef) (k : ℕ) → LeadsTo es d k ⊎ (LeadsTo es d k → ⊥)
+pub leads_or_not : (es : List DictionaryEntry) (d : ElementDef) (k : ℕ) → LeadsTo es d k ⊎ (LeadsTo es d k → ⊥)
 leads_or_not es d k = by_id (only_one (references d)) refl
   where
-    by_entry : (id : List ℕ) (o : Option Entry) → only_one (references d) ≡ Some id → slice_get es k ≡ o → LeadsTo es d k ⊎ (LeadsTo es d k → ⊥)
-    by_entry id None one at = inr (λ (i, o, (f, got, same)). absurd (let e : ◌≡◌ {A = Option Entry} None (Some f) = sym at ∙ got in cc))
+    by_entry : (id : List ℕ) (o : Option DictionaryEntry) → only_one (references d) ≡ Some id → slice_get es k ≡ o → LeadsTo es d k ⊎ (LeadsTo es d k → ⊥)
+    by_entry id None one at = inr (λ (i, o, (f, got, same)). absurd (let e : ◌≡◌ {A = Option DictionaryEntry} None (Some f) = sym at ∙ got in cc))
     by_entry id (Some e) one at = leads_here es d k id e one at (bytes_eq e.id id) refl
 
     by_id : (o : Option (List ℕ)) → only_one (references d) ≡ o → LeadsTo es d k ⊎ (LeadsTo es d k → ⊥)
@@ -89,12 +89,12 @@ leads_or_not es d k = by_id (only_one (references d)) refl
 
 -- ---- the object of an id
 
-pub find_at : (es : List Entry) (k : ℕ) (e : Entry) → Apart (ids_of es) → slice_get es k ≡ Some e → find_entry e.id es ≡ Some e.object
+pub find_at : (es : List DictionaryEntry) (k : ℕ) (e : DictionaryEntry) → Apart (ids_of es) → slice_get es k ≡ Some e → find_entry e.id es ≡ Some e.object
 find_at [] k e apart at = absurd cc
 find_at (x ∷ es) zero e apart at =
     let same : x ≡ e = some_some x e at in
-    let here : bytes_eq x.id e.id ≡ true = (bytes_eq-Decides x.id e.id).1 (ap (λ (y : Entry). y.id) same) in
-    rw here (ap (λ (y : Entry). Some y.object) same)
+    let here : bytes_eq x.id e.id ≡ true = (bytes_eq-Decides x.id e.id).1 (ap (λ (y : DictionaryEntry). y.id) same) in
+    rw here (ap (λ (y : DictionaryEntry). Some y.object) same)
 find_at (x ∷ es) (suc k) e apart at = go (bytes_eq x.id e.id) refl (find_at es k e (λ i j d l h. apart (suc i) (suc j) d (omega arith) (omega arith)) at)
   where
     go : (b : Bool) → bytes_eq x.id e.id ≡ b → find_entry e.id es ≡ Some e.object → find_entry e.id (x ∷ es) ≡ Some e.object

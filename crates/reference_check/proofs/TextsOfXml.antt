@@ -6,7 +6,7 @@ use Rattle.std.proofs.lemmas.List.Elements.{All-tail}
 use Rattle.repo_objects.specs.declared.objects.CodeDef.{CodeDef}
 use Rattle.repo_objects.specs.declared.objects.Object.{Object}
 use Rattle.repo_objects.specs.Objects.{HasCodeTexts, HasObjectTexts, IsXmlTextIfAny}
-use Rattle.repo_objects.specs.Repository.{Entry, HasEntryTexts}
+use Rattle.repo_objects.specs.Repository.{DictionaryEntry, HasEntryTexts}
 use Rattle.reference_check.specs.Graph.{find_entry}
 use Rattle.reference_check.specs.CodeTexts.{find_code, text_in, text_in_object, text_in_trace, own_or, text_behind}
 
@@ -23,7 +23,7 @@ found_code name (c ∷ cs) all = by (bytes_eq c.name name) (found_code name cs (
     by true later = all 0 c (omega arith)
     by false later = later
 
-found_object : (id : List ℕ) (es : List Entry) → All HasEntryTexts es → OfFound HasObjectTexts (find_entry id es)
+found_object : (id : List ℕ) (es : List DictionaryEntry) → All HasEntryTexts es → OfFound HasObjectTexts (find_entry id es)
 found_object id [] all = tt
 found_object id (e ∷ es) all = by (bytes_eq e.id id) (found_object id es (All-tail HasEntryTexts e es all))
   where
@@ -41,7 +41,7 @@ module _ (text : Object → CodeDef → Option (List ℕ)) (every : (o : Object)
   through_object name None h = tt
   through_object name (Some o) h = through_code o (find_code name o.codes) (found_code name o.codes h.codes)
 
-  through_trace : (es : List Entry) (name : List ℕ) (trace : Option (List ℕ)) → All HasEntryTexts es → IsXmlTextIfAny (text_in_trace text es name trace)
+  through_trace : (es : List DictionaryEntry) (name : List ℕ) (trace : Option (List ℕ)) → All HasEntryTexts es → IsXmlTextIfAny (text_in_trace text es name trace)
   through_trace es name None all = tt
   through_trace es name (Some id) all = through_object name (find_entry id es) (found_object id es all)
 
@@ -49,7 +49,7 @@ one_or_other : (own other : Option (List ℕ)) → IsXmlTextIfAny own → IsXmlT
 one_or_other None other h k = k
 one_or_other (Some text) other h k = h
 
-pub text_of_xml : (n : ℕ) (es : List Entry) (o : Object) (c : CodeDef) → All HasEntryTexts es → HasCodeTexts c → IsXmlTextIfAny (text_behind n es o c)
+pub text_of_xml : (n : ℕ) (es : List DictionaryEntry) (o : Object) (c : CodeDef) → All HasEntryTexts es → HasCodeTexts c → IsXmlTextIfAny (text_behind n es o c)
 text_of_xml zero es o c all h = h.code
 text_of_xml (suc n) es o c all h =
     one_or_other c.code _ h.code (through_trace (text_behind n es) (λ p d k. text_of_xml n es p d all k) es c.name o.trace all)

@@ -6,7 +6,7 @@ use Rattle.std.proofs.lemmas.Bool.Decides.{nat_tests, eqb_tells}
 use native.Mathlib.Decide.{dec_lt}
 use Rattle.std.proofs.lemmas.Option.{slice_get_within}
 use Rattle.reference_check.specs.Forms.{Slot}
-use Rattle.reference_check.specs.Words.{times, UpTo, IsWithin, IsOrderedFrom, IsSequence}
+use Rattle.reference_check.specs.Words.{times, UpTo, MayComeTimes, IsOrderedFrom, IsSequence}
 use Rattle.reference_check.specs.Steps.{Slotted, OutOfOrder, TooMany, has_room, first_lacking, after_order, sequence_next}
 
 pub times-append : (k : ℕ) (d e : List ℕ) → times k (d ++ e) ≡ times k d + times k e
@@ -180,7 +180,7 @@ completes {P} fs d k s proper ordered most found fine = record { ordered = in_or
     in_order : IsOrderedFrom 0 (length fs) (d' ++ fill 0 fs d')
     in_order = rw append_assoc (ordered-append 0 k (length fs) d _ (omega arith) parts.0 ordered (omega arith, slice_get_within fs k s found, ordered-fill_from 0 k (length fs) fs d' (omega arith) (λ i j f e g l. le_trans (none_lacking 0 i j k fs d f parts.2 e g l) (more j))))
 
-    enough : (i : ℕ) (f : Slot P) → slice_get fs i ≡ Some f → IsWithin (times i (d' ++ fill 0 fs d')) f
+    enough : (i : ℕ) (f : Slot P) → slice_get fs i ≡ Some f → MayComeTimes (times i (d' ++ fill 0 fs d')) f
     enough i f e =
         let counted : times i (d' ++ fill 0 fs d') ≡ times i d' + (f.min - times i d') = times-append i d' (fill 0 fs d') ∙ ap (λ n. times i d' + n) (times-fill 0 i i fs d' f (omega arith) e) in
         (omega arith, rw counted (up_to_filled (times i d') f.min f.max (most' i f e) (proper i f e)))

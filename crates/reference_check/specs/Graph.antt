@@ -3,7 +3,7 @@ use Rattle.std.specs.Prelude.{ℕ, List, [], ◌∷◌, ◌++◌, map, Option, S
 use Rattle.repo_objects.specs.declared.objects.ElementDef.{ElementDef}
 use Rattle.repo_objects.specs.declared.objects.MessageDef.{MessageDef}
 use Rattle.repo_objects.specs.declared.objects.Object.{Object}
-use Rattle.repo_objects.specs.Repository.{Entry, Contents}
+use Rattle.repo_objects.specs.Repository.{DictionaryEntry, Contents}
 use Rattle.repo_objects.specs.declared.objects.Kinds.{Kinds}
 use Rattle.repo_objects.specs.declared.objects.Kinds.TheVariants as kinds
 use Rattle.repo_objects.specs.declared.objects.ObjectKind.{ObjectKind}
@@ -20,7 +20,7 @@ pub data Place : Type 0 where
   nowhere : Place
 
 -- the first object of that id
-abbrev pub find_entry : List ℕ → List Entry → Option Object
+abbrev pub find_entry : List ℕ → List DictionaryEntry → Option Object
 find_entry id [] = None
 find_entry id (e ∷ es) = if bytes_eq e.id id then Some e.object else find_entry id es
 
@@ -30,13 +30,13 @@ find_message id [] = None
 find_message id (m ∷ ms) = if bytes_eq m.id id then Some m else find_message id ms
 
 -- the id, where one is given
-abbrev pub given : Option (List ℕ) → List (List ℕ)
-given None = []
-given (Some id) = id ∷ []
+abbrev pub given_id : Option (List ℕ) → List (List ℕ)
+given_id None = []
+given_id (Some id) = id ∷ []
 
 -- the ids that an element names
 abbrev pub references : ElementDef → List (List ℕ)
-references e = given e.simple ++ given e.complex ++ given e.plain
+references e = given_id e.simple ++ given_id e.complex ++ given_id e.plain
 
 -- where an element leads, if it names one object
 abbrev pub one_of : List (List ℕ) → Place

@@ -11,7 +11,7 @@ use Rattle.repo_objects.specs.declared.objects.ObjectKind.TheVariants.{Simple, C
 use Rattle.repo_objects.specs.Repository.{Contents}
 use Rattle.reference_check.specs.Graph.{Place, message, entry, graph, find_entry, find_message, references}
 use Rattle.reference_check.specs.Shapes.{IsFinite}
-use Rattle.reference_check.specs.Names.{is_name}
+use Rattle.reference_check.specs.Names.{is_profile_name}
 use Rattle.reference_check.specs.CodeTexts.{text_of_code}
 use Rattle.reference_check.specs.Reach.{elements_of, currency_of, Reaches, rank_of}
 
@@ -34,22 +34,22 @@ pub data Rule : Type 0 where
   TooMany : Rule
 
 -- the number that the program prints
-abbrev pub number_of : Rule → ℕ
-number_of NoMessage = 1
-number_of TwoMessages = 2
-number_of Dangling = 3
-number_of BadCurrency = 4
-number_of NotOneReference = 5
-number_of BadName = 6
-number_of TagTwice = 7
-number_of BadBounds = 8
-number_of OptionalAlternative = 9
-number_of NoAlternatives = 10
-number_of Endless = 11
-number_of BadCodes = 14
-number_of LeftOutKind = 15
-number_of NameTwice = 16
-number_of TooMany = 17
+abbrev pub object_rule_number : Rule → ℕ
+object_rule_number NoMessage = 1
+object_rule_number TwoMessages = 2
+object_rule_number Dangling = 3
+object_rule_number BadCurrency = 4
+object_rule_number NotOneReference = 5
+object_rule_number BadName = 6
+object_rule_number TagTwice = 7
+object_rule_number BadBounds = 8
+object_rule_number OptionalAlternative = 9
+object_rule_number NoAlternatives = 10
+object_rule_number Endless = 11
+object_rule_number BadCodes = 14
+object_rule_number LeftOutKind = 15
+object_rule_number NameTwice = 16
+object_rule_number TooMany = 17
 
 -- ---- of an object
 
@@ -142,7 +142,7 @@ own_names R m _ = []
 
 -- some name is none
 abbrev pub HasBadName : List (List ℕ) → Type 0
-HasBadName names = (name : List ℕ) × Contains names name × (is_name name ≡ false)
+HasBadName names = (name : List ℕ) × Contains names name × (is_profile_name name ≡ false)
 
 -- ---- how many
 
@@ -168,13 +168,13 @@ HasTooMuch R o =
 
 -- ---- the rules
 
-abbrev pub is_named : List ℕ → MessageDef → Bool
-is_named m d = bytes_eq d.id m
+abbrev pub is_message_named : List ℕ → MessageDef → Bool
+is_message_named m d = bytes_eq d.id m
 
 -- the reached object or the message breaks the rule
 abbrev pub Breaks : Contents → List ℕ → Rule → Place → Type 0
 Breaks R m NoMessage p = (p ≡ message) × (find_message m R.messages ≡ None)
-Breaks R m TwoMessages p = (p ≡ message) × (2 ≤ count_by (is_named m) R.messages)
+Breaks R m TwoMessages p = (p ≡ message) × (2 ≤ count_by (is_message_named m) R.messages)
 Breaks R m Dangling p =
     ((e : ElementDef) × (id : List ℕ) × Contains (elements_of R m p) e × Contains (references e) id × HasNoEntry R id)
     ⊎ ((id : List ℕ) × (currency_of R p ≡ Some id) × HasNoEntry R id)
@@ -200,7 +200,7 @@ pub record IsBroken (R : Contents) (m : List ℕ) (IsAsked : Rule → Type 0) (r
   pub asked : IsAsked rule
   pub reached : Reaches R m p
   pub broken : Breaks R m rule p
-  pub lowest : (r : Rule) (q : Place) → IsAsked r → number_of r < number_of rule → Reaches R m q → Breaks R m r q → ⊥
+  pub lowest : (r : Rule) (q : Place) → IsAsked r → object_rule_number r < object_rule_number rule → Reaches R m q → Breaks R m r q → ⊥
   pub first : (q : Place) → rank_of R q < rank_of R p → Reaches R m q → Breaks R m rule q → ⊥
 
 -- no rule of those that are asked is broken
@@ -209,10 +209,10 @@ IsSound R m IsAsked = (r : Rule) (p : Place) → IsAsked r → Reaches R m p →
 
 -- the rules of structure but the last, all of them, and the others
 abbrev pub IsBelowEndless : Rule → Type 0
-IsBelowEndless r = number_of r ≤ 10
+IsBelowEndless r = object_rule_number r ≤ 10
 
 abbrev pub IsStructure : Rule → Type 0
-IsStructure r = number_of r ≤ 11
+IsStructure r = object_rule_number r ≤ 11
 
-abbrev pub IsTail : Rule → Type 0
-IsTail r = 14 ≤ number_of r
+abbrev pub IsTailRule : Rule → Type 0
+IsTailRule r = 14 ≤ object_rule_number r

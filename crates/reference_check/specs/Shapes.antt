@@ -3,7 +3,7 @@ use Rattle.std.specs.Prelude.{◌≡◌, ℕ, List, [], ◌∷◌, ◌++◌, Som
 use Rattle.std.specs.List.{AllByRecursion}
 use Rattle.reference_check.specs.Forms.{Graph, Form, Slot, form_slots, LeftOut}
 use Rattle.reference_check.specs.Forms as form
-use Rattle.reference_check.specs.Words.{IsSequence, IsChoice, IsWord}
+use Rattle.reference_check.specs.Words.{IsSequence, IsChoice, IsWordOf}
 
 -- a component, or the alternative of a choice, has the shapes of its elements in order, each with the number of its slot; all else is an open leaf
 mutual
@@ -47,8 +47,8 @@ abbrev pub IsFinite : {P L : Type 0} → Graph P L → P → Type 0
 IsFinite types p = (shape : Shape) × HasShape types (types p) shape
 
 -- more slots may come behind these, so that they are a word
-abbrev pub GoesOn : {P L : Type 0} → Form P L → List ℕ → Type 0
-GoesOn form d = (more : List ℕ) × IsWord form (d ++ more)
+abbrev pub WordGoesOn : {P L : Type 0} → Form P L → List ℕ → Type 0
+WordGoesOn form d = (more : List ℕ) × IsWordOf form (d ++ more)
 
 -- The root has a shape, and so has each type to which a slot leads; no type is of a kind that instances do not have.
 pub record AreFinite {P L : Type 0} (types : Graph P L) (root : P) : Type 0 where

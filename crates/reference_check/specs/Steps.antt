@@ -5,18 +5,18 @@ use Rattle.std.specs.Str.{bytes_eq}
 use Rattle.reference_check.specs.Forms.{Slot, Form, Sequence, Choice, form_slots}
 use Rattle.reference_check.specs.Words.{times}
 
-pub data Next : Type 0 where
-  Slotted : (slot : ℕ) → Next
-  Unknown : Next
-  OutOfOrder : Next
-  TooMany : Next
-  Missing : (slot : ℕ) → Next
-  Second : Next
+pub data NextSlot : Type 0 where
+  Slotted : (slot : ℕ) → NextSlot
+  Unknown : NextSlot
+  OutOfOrder : NextSlot
+  TooMany : NextSlot
+  Missing : (slot : ℕ) → NextSlot
+  Second : NextSlot
 
-pub data End : Type 0 where
-  Fine : End
-  Lacks : (slot : ℕ) → End
-  NoAlternative : End
+pub data EndOfSlots : Type 0 where
+  Fine : EndOfSlots
+  Lacks : (slot : ℕ) → EndOfSlots
+  NoAlternative : EndOfSlots
 
 -- the first slot of this tag; the list begins with slot k
 abbrev pub find_slot : {P : Type 0} → ℕ → List (Slot P) → List ℕ → Option ℕ
@@ -34,50 +34,50 @@ first_lacking k bound [] d = None
 first_lacking k bound (s ∷ slots) d =
     if nat_lt k bound then (if nat_lt (times k d) s.min then Some k else first_lacking (suc k) bound slots d) else None
 
-abbrev pub after_order : ℕ → Option ℕ → Next
+abbrev pub after_order : ℕ → Option ℕ → NextSlot
 after_order k None = Slotted k
 after_order k (Some j) = Missing j
 
 -- in a sequence: no later slot has come, the slot has room, and each earlier slot has its minimum
-abbrev pub sequence_next : {P : Type 0} → List (Slot P) → List ℕ → ℕ → Slot P → Next
+abbrev pub sequence_next : {P : Type 0} → List (Slot P) → List ℕ → ℕ → Slot P → NextSlot
 sequence_next slots d k s =
     if list_any (λ j. nat_lt k j) d then OutOfOrder
     else (if has_room (times k d) s.max then after_order k (first_lacking 0 k slots d) else TooMany)
 
 -- in a choice: nothing has come, or the same alternative, which has room
-abbrev pub choice_next : {P : Type 0} → List ℕ → ℕ → Slot P → Next
+abbrev pub choice_next : {P : Type 0} → List ℕ → ℕ → Slot P → NextSlot
 choice_next [] k s = Slotted k
 choice_next (j ∷ d) k s = if j == k then (if has_room (times k (j ∷ d)) s.max then Slotted k else TooMany) else Second
 
-abbrev pub next_of : {P L : Type 0} → Form P L → List ℕ → ℕ → Slot P → Next
+abbrev pub next_of : {P L : Type 0} → Form P L → List ℕ → ℕ → Slot P → NextSlot
 next_of (Sequence slots) d k s = sequence_next slots d k s
 next_of (Choice slots) d k s = choice_next d k s
 next_of _ d k s = Unknown
 
-abbrev pub next_at : {P L : Type 0} → Form P L → List ℕ → ℕ → Option (Slot P) → Next
+abbrev pub next_at : {P L : Type 0} → Form P L → List ℕ → ℕ → Option (Slot P) → NextSlot
 next_at form d k None = Unknown
 next_at form d k (Some s) = next_of form d k s
 
-abbrev pub next_found : {P L : Type 0} → Form P L → List (Slot P) → List ℕ → Option ℕ → Next
+abbrev pub next_found : {P L : Type 0} → Form P L → List (Slot P) → List ℕ → Option ℕ → NextSlot
 next_found form slots d None = Unknown
 next_found form slots d (Some k) = next_at form d k (slice_get slots k)
 
 -- what the tag is, where the slots d have come
-abbrev pub next : {P L : Type 0} → Form P L → List ℕ → List ℕ → Next
+abbrev pub next : {P L : Type 0} → Form P L → List ℕ → List ℕ → NextSlot
 next form d tag = next_found form (form_slots form) d (find_slot 0 (form_slots form) tag)
 
-abbrev pub end_of : Option ℕ → End
-end_of None = Fine
-end_of (Some k) = Lacks k
+abbrev pub end_of_slots : Option ℕ → EndOfSlots
+end_of_slots None = Fine
+end_of_slots (Some k) = Lacks k
 
 -- an alternative below its minimum is told by its tag, since it has come
-abbrev pub choice_end : {P : Type 0} → ℕ → ℕ → Option (Slot P) → End
+abbrev pub choice_end : {P : Type 0} → ℕ → ℕ → Option (Slot P) → EndOfSlots
 choice_end n k None = NoAlternative
 choice_end n k (Some s) = if nat_lt n s.min then Lacks k else Fine
 
 -- whether the end may come, where the slots d have come; what is no sequence and no choice has no end here
-abbrev pub end_after : {P L : Type 0} → Form P L → List ℕ → End
-end_after (Sequence slots) d = end_of (first_lacking 0 (length slots) slots d)
+abbrev pub end_after : {P L : Type 0} → Form P L → List ℕ → EndOfSlots
+end_after (Sequence slots) d = end_of_slots (first_lacking 0 (length slots) slots d)
 end_after (Choice slots) [] = NoAlternative
 end_after (Choice slots) (k ∷ d) = choice_end (times k (k ∷ d)) k (slice_get slots k)
 end_after _ d = NoAlternative

@@ -8,7 +8,7 @@ ghost use Rattle.reference_check.specs.inner.First.{TellsFirst};
 ghost use Rattle.reference_check.specs.Reach.{kind_elements};
 ghost use Rattle.reference_check.specs.Reached.{HasReach};
 ghost use Rattle.reference_check.specs.Rules.{TooMany, HasPatterns, IsLong, IsLongIfAny};
-ghost use Rattle.reference_check.specs.inner.Sizes.{IsTooLarge, IsTooLong, HasLongCode, HasLongPattern};
+ghost use Rattle.reference_check.specs.inner.Sizes.{IsTooLarge, IsTooLongObject, HasLongCode, HasLongPattern};
 
 use crate::breaker::Breaker;
 use crate::code_rule::set_codes;
@@ -72,7 +72,7 @@ fn is_too_large<'a>(texts: &mut CodeTexts<'a>, object: &'a Object) -> Result<boo
 // Whether the object has too many elements or codes, or a pattern that is too long.
 fn is_too_long(object: &Object) -> bool
     requires { HasObjectTexts object.now }
-    ensures { IsTrue result ↔ IsTooLong object.now }
+    ensures { IsTrue result ↔ IsTooLongObject object.now }
 {
     elements(object).len() > MOST_ELEMENTS
         || set_codes(object).len() > MOST

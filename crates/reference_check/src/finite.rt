@@ -3,7 +3,7 @@ ghost use Rattle.std.specs.Prelude.{◌≡◌, ℕ, ◌+◌, ◌≤◌, ◌<◌,
 ghost use Rattle.reference_check.specs.Reached.{HasReach};
 ghost use Rattle.reference_check.specs.Rules.{IsSound, IsBelowEndless, Endless};
 ghost use Rattle.reference_check.specs.inner.First.{TellsFirst};
-ghost use Rattle.reference_check.specs.inner.FiniteSearch.{IsFoundAt, TellsFree, TellsSomeFree, TellsBlocked, TellsHeld, AreListed, free_of, open_count, AreStart, IsSearch, HoldsReached, TellsFirstOpen, TellsMessage};
+ghost use Rattle.reference_check.specs.inner.FiniteSearch.{IsFoundAt, TellsFree, TellsSomeFree, TellsBlocked, TellsHeld, AreListed, free_of, open_marks, AreStart, IsSearch, HoldsReached, TellsFirstOpen, TellsMessage};
 
 use crate::breaker::Breaker;
 use crate::reached::{Places, Reach};
@@ -138,7 +138,7 @@ impl Marking {
     // Looks at the object at this place, if no finite instance of it was found.
     fn visit(&mut self, repository: &Repository, place: usize) -> Result<(), AllocError>
         ensures search { (m rest : List ℕ) → IsSearch repository.now m self.old.marks.items self.old.untold.items (place ∷ rest) → OnOk result (IsSearch repository.now m self.new.marks.items self.new.untold.items rest) }
-        ensures left { OnOk result (open_count self.new.marks.items + length self.new.untold.items ≤ open_count self.old.marks.items + length self.old.untold.items) }
+        ensures left { OnOk result (open_marks self.new.marks.items + length self.new.untold.items ≤ open_marks self.old.marks.items + length self.old.untold.items) }
     {
         let Some(free) = free_at(self.marks.as_slice(), place) else {
             return Ok(());
@@ -158,7 +158,7 @@ impl Marking {
     // Looks at the objects at these places.
     fn visit_all(&mut self, repository: &Repository, places: &[usize]) -> Result<(), AllocError>
         ensures search { (m : List ℕ) → IsSearch repository.now m self.old.marks.items self.old.untold.items places.now → OnOk result (IsSearch repository.now m self.new.marks.items self.new.untold.items []) }
-        ensures left { OnOk result (open_count self.new.marks.items + length self.new.untold.items ≤ open_count self.old.marks.items + length self.old.untold.items) }
+        ensures left { OnOk result (open_marks self.new.marks.items + length self.new.untold.items ≤ open_marks self.old.marks.items + length self.old.untold.items) }
     {
         for place in places {
             self.visit(repository, *place)?;

@@ -2,7 +2,7 @@
 ghost use Rattle.std.specs.Prelude.{◌≡◌, ◌∷◌, [], ◌<◌, ℕ, List, length, false, replicate, OnOk, IfOk};
 ghost use Rattle.std.specs.Option.{option_copied};
 ghost use Rattle.std.specs.List.{flat_map};
-ghost use Rattle.reference_check.specs.Graph.{references, given, message};
+ghost use Rattle.reference_check.specs.Graph.{references, given_id, message};
 ghost use Rattle.reference_check.specs.inner.Subjects.{subject_targets};
 ghost use Rattle.reference_check.specs.inner.Marking.{Adds, AddsAt, Visits, AreMarks, LeadsWithin};
 
@@ -61,7 +61,7 @@ impl Marks {
         reference: Option<&Text>,
     ) -> Result<(), AllocError>
         requires { length self.old.marked.items ≡ length repository.now.objects }
-        ensures { OnOk result (Adds repository.now (given (option_copied reference.entry)) self.old self.new) }
+        ensures { OnOk result (Adds repository.now (given_id (option_copied reference.entry)) self.old self.new) }
     {
         match reference {
             Some(id) => self.mark(repository, id.bytes()),

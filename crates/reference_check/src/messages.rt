@@ -4,7 +4,7 @@ ghost use Rattle.std.specs.Str.{bytes_eq};
 ghost use Rattle.repo_objects.specs.declared.objects.MessageDef.{MessageDef};
 ghost use Rattle.reference_check.specs.Graph.{find_message};
 ghost use Rattle.reference_check.specs.Reached.{TellsBroken};
-ghost use Rattle.reference_check.specs.Rules.{is_named, IsStructure};
+ghost use Rattle.reference_check.specs.Rules.{is_message_named, IsStructure};
 ghost use Rattle.reference_check.specs.inner.Told.{IsSoundBelow};
 
 use crate::reached::ReadyError;
@@ -46,7 +46,7 @@ fn first_message<'a>(repository: &'a Repository, id: &[u8]) -> Option<(usize, &'
 
 // How many messages have that identifier.
 fn message_count(repository: &Repository, id: &[u8]) -> usize
-    ensures { result ≡ count_by (is_named id.now) repository.now.messages }
+    ensures { result ≡ count_by (is_message_named id.now) repository.now.messages }
 {
     let mut count = 0;
     for at in 0..repository.message_count() {

@@ -2,7 +2,7 @@
 ghost use Rattle.std.specs.Prelude.{◌≡◌, ◌↔◌, ◌++◌, ℕ, List, IsTrue, Contains, IfOk, map, false};
 ghost use Rattle.std.specs.List.{list_all};
 ghost use Rattle.repo_objects.specs.declared.objects.ElementDef.{ElementDef};
-ghost use Rattle.reference_check.specs.Names.{is_name, is_name_first, is_name_byte};
+ghost use Rattle.reference_check.specs.Names.{is_profile_name, is_name_first, is_name_byte};
 ghost use Rattle.reference_check.specs.Rules.{HasBadName};
 ghost use Rattle.reference_check.specs.inner.Subjects.{subject_elements, subject_names, HasTagTwice};
 
@@ -33,7 +33,7 @@ fn has_bad_own_name(subject: &Subject<'_>) -> bool
 
 // Whether a tag has not the form of a name.
 fn has_bad_tag(elements: &[ElementDef]) -> bool
-    ensures { IsTrue result ↔ ((e : ElementDef) × Contains elements.now e × (is_name e.tag ≡ false)) }
+    ensures { IsTrue result ↔ ((e : ElementDef) × Contains elements.now e × (is_profile_name e.tag ≡ false)) }
 {
     for element in elements {
         if !is_name(element.tag.bytes()) {
@@ -46,7 +46,7 @@ fn has_bad_tag(elements: &[ElementDef]) -> bool
 // Whether the bytes have the form of a name: an ASCII letter or `_`, and then at most 255 ASCII letters,
 // digits, `_`, `-` or `.`.
 fn is_name(bytes: &[u8]) -> bool
-    ensures { result ≡ is_name bytes.now }
+    ensures { result ≡ is_profile_name bytes.now }
 {
     match bytes.split_first() {
         Some((first, rest)) => is_name_first(*first) && are_name_bytes(rest) && rest.len() <= 255,

@@ -3,14 +3,14 @@ ghost use Rattle.std.specs.Prelude.{◌≡◌, ◌↔◌, IsTrue, Contains};
 ghost use Rattle.repo_objects.specs.declared.objects.ElementDef.{ElementDef};
 ghost use Rattle.repo_objects.specs.declared.objects.ObjectKind.TheVariants.{Choice};
 ghost use Rattle.reference_check.specs.Rules.{UpToMax};
-ghost use Rattle.reference_check.specs.inner.Subjects.{OfEntry, HasBadBounds, IsOptionalChoice, IsEmptyChoice};
+ghost use Rattle.reference_check.specs.inner.Subjects.{OfEntry, HasBadElementBounds, IsOptionalChoice, IsEmptyChoice};
 
 use crate::subject::Subject;
 use repo_objects::{ElementDef, Object, ObjectKind};
 
 /// Whether an element's minimum is above its maximum, or its maximum is 0.
 pub(crate) fn has_bad_bounds(elements: &[ElementDef]) -> bool
-    ensures { IsTrue result ↔ HasBadBounds elements.now }
+    ensures { IsTrue result ↔ HasBadElementBounds elements.now }
 {
     for element in elements {
         if !has_bounds(element) {

@@ -3,7 +3,7 @@ ghost use Rattle.std.specs.Prelude.{◌≡◌, ◌↔◌, ℕ, List, IsTrue, Con
 ghost use Rattle.std.specs.Option.{option_copied};
 ghost use Rattle.repo_objects.specs.declared.objects.ElementDef.{ElementDef};
 ghost use Rattle.repo_objects.specs.declared.objects.Object.{Object};
-ghost use Rattle.reference_check.specs.Graph.{references, given, find_entry};
+ghost use Rattle.reference_check.specs.Graph.{references, given_id, find_entry};
 ghost use Rattle.reference_check.specs.Rules.{HasNoEntry, IsTextKind};
 ghost use Rattle.reference_check.specs.inner.Subjects.{subject_elements, subject_currency, NamesNoEntry, HasDangling, HasBadCurrency, NamesNotOne};
 
@@ -47,7 +47,7 @@ fn is_dangling(repository: &Repository, element: &ElementDef) -> bool
 
 // Whether the reference is there and its object is not.
 fn names_none(repository: &Repository, reference: &Option<Text>) -> bool
-    ensures { IsTrue result ↔ NamesNoEntry repository.now (given reference.now) }
+    ensures { IsTrue result ↔ NamesNoEntry repository.now (given_id reference.now) }
 {
     match reference {
         Some(id) => is_missing(repository, id.bytes()),

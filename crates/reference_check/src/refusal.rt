@@ -3,7 +3,7 @@ ghost use Rattle.std.specs.Prelude.{◌≡◌, None, OnOk, IfErr};
 ghost use Rattle.reference_check.specs.inner.First.{IsPlaceOf, TellsFirst};
 ghost use Rattle.reference_check.specs.Graph.{Place};
 ghost use Rattle.reference_check.specs.Reached.{place_id};
-ghost use Rattle.reference_check.specs.Rules.{Rule, number_of};
+ghost use Rattle.reference_check.specs.Rules.{Rule, object_rule_number};
 ghost use Rattle.reference_check.specs.inner.Told.{IsRefusal, TellsRule};
 
 use crate::breaker::Breaker;
@@ -32,7 +32,7 @@ pub(crate) fn refuse_broken(
     first: Option<Breaker>,
 ) -> Result<(), ReadyError>
     ensures sound { (r : Rule) → TellsFirst repository.now message.now r first → OnOk result (TellsFirst repository.now message.now r None) }
-    ensures told { (r : Rule) → rule ≡ number_of r → TellsFirst repository.now message.now r first → IfErr result (TellsRule repository.now message.now r) }
+    ensures told { (r : Rule) → rule ≡ object_rule_number r → TellsFirst repository.now message.now r first → IfErr result (TellsRule repository.now message.now r) }
 {
     match first {
         Some(breaker) => Err(refusal(alloc, rule, id_of(repository, message, breaker))),

@@ -2,7 +2,7 @@
 ghost use Rattle.std.specs.Prelude.{◌≡◌, ◌<◌, ◌↔◌, ℕ, List, [], Some, OnOk, IfOk, IfErr, AllPairs, Contains, slice_get, length};
 ghost use Rattle.repo_objects.specs.declared.objects.MessageDef.{MessageDef};
 ghost use Rattle.reference_check.specs.Graph.{message, find_message};
-ghost use Rattle.reference_check.specs.inner.Marking.{IsMarked, AreMarks, LeadsWithin};
+ghost use Rattle.reference_check.specs.inner.Marking.{IsObjectMarked, AreMarks, LeadsWithin};
 ghost use Rattle.reference_check.specs.Reached.{HasReach, TellsBroken};
 ghost use Rattle.reference_check.specs.Rules.{IsSound, IsStructure};
 
@@ -70,7 +70,7 @@ fn marks_of(
 // The places that are marked, in their order.
 fn marked_places(alloc: Global, marked: &[bool]) -> Result<Places, AllocError>
     ensures rising { IfOk result (AllPairs (λ i j. i < j)) }
-    ensures places { IfOk result (λ places. (k : ℕ) → Contains places k ↔ IsMarked marked.now k) }
+    ensures places { IfOk result (λ places. (k : ℕ) → Contains places k ↔ IsObjectMarked marked.now k) }
 {
     let mut places = Places::new(alloc);
     for (at, is_marked) in marked.iter().enumerate() {

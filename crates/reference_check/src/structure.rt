@@ -1,12 +1,12 @@
 // The rules of structure that each reached object, and the message, is asked by itself.
 ghost use Rattle.std.specs.Prelude.{◌≡◌, ◌↔◌, ◌+◌, ℕ, List, IsTrue, IfSome, IfNone, IfOk, IfErr, OnOk, Some, slice_get};
 ghost use Rattle.repo_objects.specs.declared.objects.MessageDef.{MessageDef};
-ghost use Rattle.repo_objects.specs.Repository.{Entry, IsRepository};
+ghost use Rattle.repo_objects.specs.Repository.{DictionaryEntry, IsRepository};
 ghost use Rattle.reference_check.specs.inner.First.{TellsFirst};
 ghost use Rattle.reference_check.specs.Graph.{message, entry, find_message};
 ghost use Rattle.reference_check.specs.Reached.{HasReach, TellsBroken};
-ghost use Rattle.reference_check.specs.Rules.{number_of, Breaks, IsStructure};
-ghost use Rattle.reference_check.specs.inner.Subjects.{BreaksRule, rule_of};
+ghost use Rattle.reference_check.specs.Rules.{object_rule_number, Breaks, IsStructure};
+ghost use Rattle.reference_check.specs.inner.Subjects.{BreaksStructureRule, asked_rule};
 ghost use Rattle.reference_check.specs.inner.Told.{IsSoundBelow};
 
 use crate::breaker::Breaker;
@@ -43,7 +43,7 @@ pub(crate) enum StructureRule {
 impl StructureRule {
     /// The number that is printed.
     pub(crate) fn number(self) -> u8
-        ensures { result ≡ number_of (rule_of self) }
+        ensures { result ≡ object_rule_number (asked_rule self) }
     {
         match self {
             StructureRule::Dangling => 3,
@@ -59,8 +59,8 @@ impl StructureRule {
 
     /// The rule of the next number; `None` behind the last.
     pub(crate) fn next(self) -> Option<StructureRule>
-        ensures next { IfSome result (λ r. number_of (rule_of r) ≡ number_of (rule_of self) + 1) }
-        ensures last { IfNone result (number_of (rule_of self) ≡ 10) }
+        ensures next { IfSome result (λ r. object_rule_number (asked_rule r) ≡ object_rule_number (asked_rule self) + 1) }
+        ensures last { IfNone result (object_rule_number (asked_rule self) ≡ 10) }
     {
         match self {
             StructureRule::Dangling => Some(StructureRule::BadCurrency),
@@ -81,7 +81,7 @@ impl StructureRule {
         repository: &Repository,
         subject: &Subject<'_>,
     ) -> Result<bool, AllocError>
-        ensures { IfOk result (λ broken. IsTrue broken ↔ BreaksRule repository.now self subject.now) }
+        ensures { IfOk result (λ broken. IsTrue broken ↔ BreaksStructureRule repository.now self subject.now) }
     {
         match self {
             StructureRule::Dangling => Ok(has_dangling(repository, subject)),
@@ -103,7 +103,7 @@ impl StructureRule {
         at: usize,
     ) -> Result<bool, AllocError>
         ensures whole { IsRepository repository.now }
-        ensures broken { (m : List ℕ) (e : Entry) → slice_get repository.now.objects at ≡ Some e → IfOk result (λ broken. IsTrue broken ↔ Breaks repository.now m (rule_of self) (entry e.id)) }
+        ensures broken { (m : List ℕ) (e : DictionaryEntry) → slice_get repository.now.objects at ≡ Some e → IfOk result (λ broken. IsTrue broken ↔ Breaks repository.now m (asked_rule self) (entry e.id)) }
     {
         match repository.object_at(at) {
             Some((_, object)) => self.is_broken(alloc, repository, &Subject::Entry(object)),
@@ -118,7 +118,7 @@ impl StructureRule {
         repository: &Repository,
         at: usize,
     ) -> Result<bool, AllocError>
-        ensures { (m : List ℕ) (d : MessageDef) → slice_get repository.now.messages at ≡ Some d → find_message m repository.now.messages ≡ Some d → IfOk result (λ broken. IsTrue broken ↔ Breaks repository.now m (rule_of self) message) }
+        ensures { (m : List ℕ) (d : MessageDef) → slice_get repository.now.messages at ≡ Some d → find_message m repository.now.messages ≡ Some d → IfOk result (λ broken. IsTrue broken ↔ Breaks repository.now m (asked_rule self) message) }
     {
         match repository.message_at(at) {
             Some(definition) => self.is_broken(alloc, repository, &Subject::Message(definition)),
@@ -133,7 +133,7 @@ impl StructureRule {
         repository: &Repository,
         reach: &Reach,
     ) -> Result<Option<Breaker>, AllocError>
-        ensures { (m : List ℕ) → HasReach repository.now m reach.now → IfOk result (TellsFirst repository.now m (rule_of self)) }
+        ensures { (m : List ℕ) → HasReach repository.now m reach.now → IfOk result (TellsFirst repository.now m (asked_rule self)) }
     {
         for at in reach.objects.as_slice() {
             if self.is_broken_at(alloc, repository, *at)? {

@@ -5,7 +5,7 @@ ghost use Rattle.reference_check.specs.Graph.{Place};
 ghost use Rattle.repo_objects.specs.declared.objects.ObjectKind.TheVariants.{Simple};
 ghost use Rattle.reference_check.specs.inner.Ranks.{StandsAt, TellsAs, IsLeftOut};
 ghost use Rattle.reference_check.specs.Reached.{HasReach, IsReachFor, TellsBroken, place_id};
-ghost use Rattle.reference_check.specs.Rules.{Rule, number_of, LeftOutKind, HasNoPatterns, IsSound, IsTail};
+ghost use Rattle.reference_check.specs.Rules.{Rule, object_rule_number, LeftOutKind, HasNoPatterns, IsSound, IsTailRule};
 
 use crate::breaker::Breaker;
 use crate::code_rule::first_bad_codes;
@@ -21,8 +21,8 @@ use std::alloc::Global;
 /// behind all objects; `Memory` that there was no memory to ask the rules.
 pub fn tail(alloc: Global, repository: &Repository, reach: &Reach) -> Result<(), ReadyError>
     requires { (m : List ℕ) × IsReachFor repository.now m reach.now }
-    ensures sound { (m : List ℕ) → IsReachFor repository.now m reach.now → OnOk result (IsSound repository.now m IsTail) }
-    ensures broken { (m : List ℕ) → IsReachFor repository.now m reach.now → IfErr result (λ e. TellsBroken repository.now m IsTail e) }
+    ensures sound { (m : List ℕ) → IsReachFor repository.now m reach.now → OnOk result (IsSound repository.now m IsTailRule) }
+    ensures broken { (m : List ℕ) → IsReachFor repository.now m reach.now → IfErr result (λ e. TellsBroken repository.now m IsTailRule e) }
 {
     if let Some(breaker) = first_bad_codes(alloc, repository, reach)? {
         return Err(refusal(alloc, repository, reach, 14, breaker));
@@ -48,7 +48,7 @@ fn refusal(
     breaker: Breaker,
 ) -> ReadyError
     requires { (m : List ℕ) × (r : Rule) × HasReach repository.now m reach.now × TellsFirst repository.now m r (Some breaker) }
-    ensures { (m : List ℕ) (r : Rule) → HasReach repository.now m reach.now → TellsFirst repository.now m r (Some breaker) → rule ≡ number_of r → TellsAs repository.now m r result }
+    ensures { (m : List ℕ) (r : Rule) → HasReach repository.now m reach.now → TellsFirst repository.now m r (Some breaker) → rule ≡ object_rule_number r → TellsAs repository.now m r result }
 {
     let mut object = Text::new(alloc);
     if object

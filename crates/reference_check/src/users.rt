@@ -2,7 +2,7 @@
 ghost use Rattle.std.specs.Prelude.{◌≡◌, ◌<◌, [], ◌∷◌, ◌++◌, length, slice_set, slice_index_or, OnOk, IfOk};
 ghost use Rattle.std.specs.Option.{option_copied};
 ghost use Rattle.reference_check.specs.Graph.{references};
-ghost use Rattle.reference_check.specs.inner.FiniteSearch.{only_one, TellsTarget, KeepsUsers, IsListedFor, IsListedForAll, IsListed, AreListed};
+ghost use Rattle.reference_check.specs.inner.FiniteSearch.{only_one, TellsTarget, KeepsUsers, IsListedFor, IsListedForAll, IsUserListed, AreListed};
 
 use crate::reached::Places;
 use lexical_core::Text;
@@ -111,7 +111,7 @@ fn add_object(
 ) -> Result<(), AllocError>
     requires { length lists.old.items ≡ length repository.now.objects }
     ensures length { length lists.new.items ≡ length lists.old.items }
-    ensures listed { OnOk result (IsListed repository.now.objects lists.new.items user) }
+    ensures listed { OnOk result (IsUserListed repository.now.objects lists.new.items user) }
     ensures kept { OnOk result (KeepsUsers lists.old.items lists.new.items) }
 {
     match repository.object_at(user) {

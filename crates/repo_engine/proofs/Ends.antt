@@ -7,12 +7,12 @@ use Rattle.outside.specs.declared.errors.SinkError.TheVariants as sink
 use Rattle.repo_engine.specs.declared.refusal.Stop.{Stop}
 use Rattle.repo_engine.specs.declared.refusal.Stop.TheVariants.{Refused, ReadFault, WriteFault, Memory}
 use Rattle.repo_engine.specs.inner.Arms.{IsOfInput, StopsBy, end_of}
-use Rattle.repo_engine.specs.Run.{End, GoesOut, Tells}
+use Rattle.repo_engine.specs.Run.{End, GoesOut, TellsVerdict}
 use Rattle.repo_engine.specs.Verdict.{Verdict, accepted, refused}
 
 -- the push of the text of an accepted command ends it
 pub tells_pushed : {O : Type 0} (held : O → Option (List ℕ)) (faults room : O → ℕ) (old new : O) (Is : Verdict → Type 0) (text : List ℕ) (push : Result (Unit {0}) SinkError)
-    → Is (accepted text) → Pushes held faults room old new push text → Tells Is (end_of push) (held old) (held new)
+    → Is (accepted text) → Pushes held faults room old new push text → TellsVerdict Is (end_of push) (held old) (held new)
 tells_pushed held faults room old new Is text (Ok done) is p = (text, is, p.appends)
 tells_pushed held faults room old new Is text (Err sink.Failed) is p = inr (text, is, p.appends)
 tells_pushed held faults room old new Is text (Err sink.Memory) is p = inr (text, is, p.appends)
@@ -51,7 +51,7 @@ keeps (Some s) = refl
 
 -- a stop of an earlier step is told by the whole, and nothing went out
 pub tells_stopped : (held : Option (List ℕ)) (Is Refuses : Verdict → Type 0) (stop : Stop) → ((v : Verdict) → Refuses v → Is v) → IsOfInput stop → StopsBy Refuses stop
-    → Tells Is (Err stop) held held
+    → TellsVerdict Is (Err stop) held held
 tells_stopped held Is Refuses (Refused refusal) is input h = ([], is (refused refusal []) h, appends_nothing held)
 tells_stopped held Is Refuses ReadFault is input h = tt
 tells_stopped held Is Refuses WriteFault is input h = absurd input

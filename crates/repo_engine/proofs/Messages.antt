@@ -14,8 +14,8 @@ use Rattle.transcoder.specs.declared.check_error.CheckError.{CheckError}
 use Rattle.transcoder.specs.declared.check_error.CheckError.TheVariants as check
 use Rattle.repo_engine.specs.Answer.{FromMessage, RefusesMessage, GivesTables}
 use Rattle.repo_engine.specs.inner.Arms.{GivesMessage, IsOfInput, IsReadAs, unread, read, RefusesUpToMessage, StopsBy, check_stop, end_of, ready_stop}
-use Rattle.repo_engine.specs.Run.{End, Tells}
-use Rattle.repo_engine.specs.Sources.{Use, Untouched, Ended, Whole, Failing, Refusing, IsRead, AreRead, one, both, AreReadInTurn, before, behind, ended_of, stop_ended}
+use Rattle.repo_engine.specs.Run.{End, TellsVerdict}
+use Rattle.repo_engine.specs.Sources.{Use, Untouched, Ended, Whole, Failing, Refusing, IsSourceRead, AreRead, one, both, AreReadInTurn, before, behind, source_ended_of, stop_ended}
 use Rattle.repo_engine.specs.Steps.{Then, refused, goes_on}
 use Rattle.repo_engine.specs.Verdict.{Verdict, accepted}
 use Rattle.repo_engine.specs.Verdict as verdict
@@ -35,12 +35,12 @@ pub ready_input : (e : ReadyError) → IsOfInput (ready_stop e) × (stop_ended (
 ready_input (ready.Broken number object) = (tt, λ e. absurd (cc))
 ready_input ready.Memory = (tt, λ e. absurd (cc))
 
-pub not_failing : {T : Type 0} (r : Result T Stop) → IfErr r (λ s. IsOfInput s × (stop_ended s ≢ Failing)) → ended_of r ≢ Failing
+pub not_failing : {T : Type 0} (r : Result T Stop) → IfErr r (λ s. IsOfInput s × (stop_ended s ≢ Failing)) → source_ended_of r ≢ Failing
 not_failing (Ok x) h e = absurd (cc)
 not_failing (Err s) h e = h.1 e
 
 -- what was read to its end stays so, however the command ends but by a failed source
-pub read_on : {S : Type 0} (ended : Ended) (u : Use S) → ended ≢ Failing → IsRead Whole u → IsRead ended u
+pub read_on : {S : Type 0} (ended : Ended) (u : Use S) → ended ≢ Failing → IsSourceRead Whole u → IsSourceRead ended u
 read_on ended u other is = record { later = is.later; whole = λ e. is.whole refl; failed = λ e. absurd (other e) }
 
 pub both_on : {S T : Type 0} (second : Bool) (ended : Ended) (u : Use S) (v : Use T) → ended ≢ Failing → AreRead second Whole u v → AreRead second ended u v
@@ -86,7 +86,7 @@ no_words WriteFault input e = absurd (cc)
 no_words Memory input e = absurd (cc)
 
 -- the end of a push is none of input
-pub push_ends : (push : Result (Unit {0}) SinkError) → (ended_of (end_of push) ≢ Failing) × (ended_of (end_of push) ≢ Refusing)
+pub push_ends : (push : Result (Unit {0}) SinkError) → (source_ended_of (end_of push) ≢ Failing) × (source_ended_of (end_of push) ≢ Refusing)
 push_ends (Ok done) = (λ e. absurd (cc), λ e. absurd (cc))
 push_ends (Err sink.Failed) = (λ e. absurd (cc), λ e. absurd (cc))
 push_ends (Err sink.Memory) = (λ e. absurd (cc), λ e. absurd (cc))
@@ -108,10 +108,10 @@ check_failing check.ReadFault h = refl
 check_failing check.Memory h = absurd (cc)
 
 pub check_tells : (Is : Verdict → Type 0) (HasFault : List ℕ → Fault → Type 0) (left : Option (List ℕ)) (i : List ℕ) (e : CheckError) (held : Option (List ℕ))
-    → ((fault : Fault) → HasFault i fault → Is (verdict.refused (refusal.Instance fault) [])) → left ≡ Some i → IfSome left (λ bytes. RefusesBy HasFault bytes e) → Tells Is (Err (check_stop e)) held held
+    → ((fault : Fault) → HasFault i fault → Is (verdict.refused (refusal.Instance fault) [])) → left ≡ Some i → IfSome left (λ bytes. RefusesBy HasFault bytes e) → TellsVerdict Is (Err (check_stop e)) held held
 check_tells Is HasFault left i e held is told h = tells e (subst (λ o. IfSome o (λ bytes. RefusesBy HasFault bytes e)) told h)
   where
-    tells : (e : CheckError) → RefusesBy HasFault i e → Tells Is (Err (check_stop e)) held held
+    tells : (e : CheckError) → RefusesBy HasFault i e → TellsVerdict Is (Err (check_stop e)) held held
     tells (check.Refused fault) h = ([], is fault h, appends_nothing held)
     tells check.ReadFault h = tt
     tells check.Memory h = inl (keeps held)

@@ -1,23 +1,23 @@
 -- Words and bytes have at most one answer: each step refuses in one way or gives one thing, and not both.
 use Rattle.std.proofs.Common.{◌≡◌, ℕ, List, [], length, sym, ap, subst, ◌∙◌, inl, inr}
 use Rattle.repo_objects.specs.Repository.{Contents}
-use Rattle.repo_loader.specs.Laws.{OneRepository, OneLoadFault, SpelledHasNone}
+use Rattle.repo_loader.specs.Laws.{OneRepository, OneLoadFault, SpelledHasNoLoadFault}
 use Rattle.repo_loader.specs.Loaded.{Spells}
-use Rattle.code_sets.specs.Codes.{Fault as CodesFault}
+use Rattle.code_sets.specs.Codes.{CodesFault}
 use Rattle.code_sets.specs.Laws.{OneJoined, OneCodesFault, JoinedHasNone}
 use Rattle.reference_check.specs.Reached.{place_id}
 use Rattle.message_model.specs.Laws.{OneModel, OneRefusal, ReadyIsNotRefused, CompiledAreSound}
-use Rattle.message_model.specs.Ready.{number_of}
+use Rattle.message_model.specs.Ready.{message_rule_number}
 use Rattle.message_model.specs.Tables.{Tables, message_of}
 use Rattle.data_types.specs.Value.{Value}
 use Rattle.transcoder.specs.Laws.{OneVerdict, HaveOneVerdict, OneDerVerdict, HaveOneDerVerdict, AreSoundTypes}
 use Rattle.xml_writer.specs.Laws.{OneCanonicalXml}
-use Rattle.drill.specs.BuiltIn.{tables}
+use Rattle.drill.specs.BuiltIn.{drill_tables}
 use Rattle.drill.specs.Drilled.{IsDrilled}
 use Rattle.drill.specs.Growing.{instance}
 use Rattle.drill.specs.declared.drilling.Drilled.{Drilled}
 use Rattle.repo_engine.specs.Texts.{drill_text}
-use Rattle.repo_engine.specs.Answer.{Answer, Of, OfVerb, Drills, FromXml, RefusesAsXml, GivesXmlValue, FromDer, RefusesAsDer, GivesDerValue, IsFine, GivesXml, GivesDer, FromRepository, RefusesFile, RefusesCodes, GivesJoined, RefusesMessage, GivesTables}
+use Rattle.repo_engine.specs.Answer.{Answer, Of, OfVerb, Drills, FromXml, RefusesAsXml, GivesXmlValue, FromDer, RefusesAsDer, GivesDerValue, IsFine, GivesXml, GivesDer, FromRepository, TellsFileFault, RefusesCodes, GivesJoined, RefusesMessage, GivesTables}
 use Rattle.repo_engine.specs.Command.{Command, list, message, drill}
 use Rattle.repo_engine.specs.Steps.{Then, refused, goes_on, One, IsStep}
 use Rattle.repo_engine.specs.Verdict.{Verdict}
@@ -39,7 +39,7 @@ one_then V A Refuses Gives Next step next v w (goes_on a h more) (goes_on b k al
 pub record StepLaws : Type 0 where
   pub one_repository : OneRepository
   pub one_load_fault : OneLoadFault
-  pub spelled_has_none : SpelledHasNone
+  pub spelled_has_none : SpelledHasNoLoadFault
   pub one_joined : OneJoined
   pub one_codes_fault : OneCodesFault
   pub joined_has_none : JoinedHasNone
@@ -52,7 +52,7 @@ pub record StepLaws : Type 0 where
   pub one_canonical_xml : OneCanonicalXml
 
 module _ (laws : StepLaws) where
-  file_step : (r : List ℕ) → IsStep Verdict Contents (RefusesFile r) (Spells r)
+  file_step : (r : List ℕ) → IsStep Verdict Contents (TellsFileFault r) (Spells r)
   file_step r = record {
     one_refusal = λ v w (f, h, is) (g, k, also). is ∙ (ap (λ x. verdict.refused (Repository x) []) (laws.one_load_fault r f g h k) ∙ sym also);
     one_gift = laws.one_repository r;
@@ -81,8 +81,8 @@ module _ (laws : StepLaws) where
       one : One Verdict (RefusesMessage R id)
       one v w (r, p, f, is) (s, q, g, also) =
           let both = laws.one_refusal R id r s p q f g in
-          let same : verdict.refused (Message (number_of r) (place_id id p)) [] ≡ verdict.refused (Message (number_of s) (place_id id q)) [] =
-          λ i. verdict.refused (Message (number_of (both.0 i)) (place_id id (both.1 i))) [] in
+          let same : verdict.refused (Message (message_rule_number r) (place_id id p)) [] ≡ verdict.refused (Message (message_rule_number s) (place_id id q)) [] =
+          λ i. verdict.refused (Message (message_rule_number (both.0 i)) (place_id id (both.1 i))) [] in
           is ∙ (same ∙ sym also)
 
       gift : One Tables (GivesTables R id)
@@ -130,14 +130,14 @@ module _ (laws : StepLaws) where
 
   one_from_repository : (codes_word r c : List ℕ) (Next : Contents → Verdict → Type 0) → ((R : Contents) → One Verdict (Next R)) → One Verdict (FromRepository codes_word r c Next)
   one_from_repository codes_word r c Next next =
-      one_then Verdict Contents (RefusesFile r) (Spells r) (λ own. Then Verdict Contents (RefusesCodes codes_word own c) (GivesJoined codes_word own c) Next) (file_step r)
+      one_then Verdict Contents (TellsFileFault r) (Spells r) (λ own. Then Verdict Contents (RefusesCodes codes_word own c) (GivesJoined codes_word own c) Next) (file_step r)
       (λ own spells. one_then Verdict Contents (RefusesCodes codes_word own c) (GivesJoined codes_word own c) Next (codes_step codes_word own c) (λ R joined. next R))
 
   one_drilled : (number size : ℕ) (a b : Drilled) → IsDrilled number size a → IsDrilled number size b → a ≡ b
   one_drilled number size a b is also =
       let nodes : a.nodes ≡ b.nodes = is.nodes ∙ sym also.nodes in
       let depth : a.depth ≡ b.depth = is.depth ∙ sym also.depth in
-      let texts = laws.one_canonical_xml (message_of tables) (instance number size) is.xml.0 also.xml.0 is.xml.1 also.xml.1 in
+      let texts = laws.one_canonical_xml (message_of drill_tables) (instance number size) is.xml.0 also.xml.0 is.xml.1 also.xml.1 in
       let xml : a.xml ≡ b.xml = is.xml.2 ∙ (ap length texts ∙ sym also.xml.2) in
       let der : a.der ≡ b.der = is.der ∙ sym also.der in
       λ i. record { nodes = nodes i; depth = depth i; xml = xml i; der = der i }

@@ -5,12 +5,12 @@ use Rattle.std.specs.Str.{bytes_eq}
 use Rattle.std.specs.Str.Parse.{digits_value}
 use Rattle.repo_engine.specs.Answer.{Answer, Of}
 use Rattle.repo_engine.specs.inner.Arms.{Carries}
-use Rattle.repo_engine.specs.inner.Commands.{AsksFor, IsBounded}
+use Rattle.repo_engine.specs.inner.Commands.{AsksFor, IsBoundedDrill}
 use Rattle.repo_engine.specs.declared.command.Command as declared
 use Rattle.repo_engine.specs.declared.command.Command.TheVariants as asked
-use Rattle.repo_engine.specs.Command.{Command, list, message, drill, HasForm, pulled, verb_word}
-use Rattle.repo_engine.specs.Run.{End, Performs, Tells}
-use Rattle.repo_engine.specs.Sources.{Use, AreUsed, ended_of}
+use Rattle.repo_engine.specs.Command.{Command, list, message, drill, HasCommandForm, pulled_by, verb_word}
+use Rattle.repo_engine.specs.Run.{End, Performs, TellsVerdict}
+use Rattle.repo_engine.specs.Sources.{Use, AreUsed, source_ended_of}
 use Rattle.repo_engine.specs.Verdict.{Verdict}
 use Rattle.repo_engine.specs.declared.command.Verb.{Verb}
 use Rattle.repo_engine.specs.declared.command.Verb.TheVariants.{Types, Xsd, Asn1, CheckXml, CheckDer, CanonXml, XmlToDer, DerToXml}
@@ -58,7 +58,7 @@ one_verb : (v w : Verb) → verb_word v ≡ verb_word w → v ≡ w
 one_verb v w e = sym (verb_is v) ∙ (ap verb_of e ∙ verb_is w)
 
 -- words have the form of one command
-pub one_command : (ws : List (List ℕ)) (a b : Command) → HasForm ws a → HasForm ws b → a ≡ b
+pub one_command : (ws : List (List ℕ)) (a b : Command) → HasCommandForm ws a → HasCommandForm ws b → a ≡ b
 one_command ws (list c) (list d) f g = ap list (ap third_of (sym f.1 ∙ g.1))
 one_command ws (list c) (message verb d id) f g = absurd (let n : 3 ≡ 4 = ap length (sym f.1 ∙ g.1) in omega (arith, n))
 one_command ws (message verb c id) (list d) f g = absurd (let n : 4 ≡ 3 = ap length (sym f.1 ∙ g.1) in omega (arith, n))
@@ -78,7 +78,7 @@ one_command ws (list c) (drill n s) f (a, b, e, x, y, z) = absurd (let k : 4 ≡
 one_command ws (drill n s) (message verb d id) (a, b, e, x, y, z) g = absurd (let k : 3 ≡ 4 = ap length (sym e ∙ g.1) in omega (arith, k))
 one_command ws (message verb c id) (drill n s) f (a, b, e, x, y, z) = absurd (let k : 4 ≡ 3 = ap length (sym f.1 ∙ e) in omega (arith, k))
 
-pub tells_more : (A B : Verdict → Type 0) (end : End) (h h' : Option (List ℕ)) → ((v : Verdict) → A v → B v) → Tells A end h h' → Tells B end h h'
+pub tells_more : (A B : Verdict → Type 0) (end : End) (h h' : Option (List ℕ)) → ((v : Verdict) → A v → B v) → TellsVerdict A end h h' → TellsVerdict B end h h'
 tells_more A B (Ok done) h h' f t = (t.0, f _ t.1, t.2)
 tells_more A B (Err (Refused refusal)) h h' f t = (t.0, f _ t.1, t.2)
 tells_more A B (Err ReadFault) h h' f t = tt
@@ -89,18 +89,18 @@ tells_more A B (Err Memory) h h' f (inr t) = inr (t.0, f _ t.1, t.2)
 
 -- words with the form of a command that is carried out
 pub performs_command : {R C I O : Type 0} (ws : List (List ℕ)) (command : Command) (repo : Use R) (codes : Use C) (inst : Use I) (held : O → Option (List ℕ)) (faults : O → ℕ) (old new : O) (end : End)
-    → HasForm ws command → Carries command repo codes inst held faults old new end → Performs ws repo codes inst held faults old new end
+    → HasCommandForm ws command → Carries command repo codes inst held faults old new end → Performs ws repo codes inst held faults old new end
 performs_command ws command repo codes inst held faults old new end form carries = record {
   words = (λ u. absurd (u command form), λ e. absurd (carries.no_words e));
   untouched = λ u. absurd (u command form);
-  sources = λ other same. subst (λ k. AreUsed (pulled k).repository (pulled k).codes (pulled k).instance (ended_of end) repo codes inst) (one_command ws command other form same) carries.sources;
+  sources = λ other same. subst (λ k. AreUsed (pulled_by k).repository (pulled_by k).codes (pulled_by k).instance (source_ended_of end) repo codes inst) (one_command ws command other form same) carries.sources;
   verdict = λ r c i left. tells_more (Of command r c i) (Answer ws r c i) end _ _ (λ v h. inr (command, form, h))
       (carries.verdict r c i (record { repository = left.repository command form; codes = left.codes command form; instance = left.instance command form }));
   out = carries.out;
 }
 
 -- a command that words ask for is bounded
-pub asked_bounded : (ws : List (List ℕ)) (command : declared.Command) → AsksFor ws command → IsBounded command
+pub asked_bounded : (ws : List (List ℕ)) (command : declared.Command) → AsksFor ws command → IsBoundedDrill command
 asked_bounded ws (asked.List codes_word) h = tt
 asked_bounded ws (asked.Message verb codes_word id) h = tt
 asked_bounded ws (asked.Drill number size) (one, other, is, x, y, small) = small

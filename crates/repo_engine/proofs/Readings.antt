@@ -1,6 +1,6 @@
 -- What reading a repository and its codes tells of its sources and of the bytes.
 use Rattle.std.proofs.Common.{◌≡◌, inl, inr, ℕ, List, Option, Some, refl, subst, IfSome}
-use Rattle.repo_objects.specs.Repository.{Contents, Entry}
+use Rattle.repo_objects.specs.Repository.{Contents, DictionaryEntry}
 use Rattle.repo_loader.specs.declared.fault.LoadError.{LoadError}
 use Rattle.repo_loader.specs.declared.fault.LoadError.TheVariants as load_error
 use Rattle.repo_loader.specs.LoadErrors.{RefusesFile as LoadRefuses}
@@ -9,18 +9,18 @@ use Rattle.code_sets.specs.declared.errors.CodesError.TheVariants as codes_error
 use Rattle.code_sets.specs.declared.record.CodeRecord.{CodeRecord}
 use Rattle.code_sets.specs.Codes.{long, reading, joining}
 use Rattle.code_sets.specs.CodesErrors.{RefusesJoin, RefusesSource}
-use Rattle.repo_engine.specs.Answer.{RefusesFile, IsCodesRefusal}
+use Rattle.repo_engine.specs.Answer.{TellsFileFault, IsCodesRefusal}
 use Rattle.repo_engine.specs.inner.Arms.{IsCodesText, IsOfInput, StopsBy, load_stop, codes_stop}
 use Rattle.repo_engine.specs.Sources.{Whole, Failing, stop_ended}
 
 -- a file is refused as it is loaded
-pub load_refuses : (bytes : List ℕ) (e : LoadError) → LoadRefuses bytes e → StopsBy (RefusesFile bytes) (load_stop e)
+pub load_refuses : (bytes : List ℕ) (e : LoadError) → LoadRefuses bytes e → StopsBy (TellsFileFault bytes) (load_stop e)
 load_refuses bytes (load_error.Refused fault) h = (fault, h, refl)
 load_refuses bytes load_error.ReadFault h = tt
 load_refuses bytes load_error.Memory h = tt
 
 -- the same where the source tells its bytes
-pub load_refuses_told : (left : Option (List ℕ)) (bytes : List ℕ) (e : LoadError) → left ≡ Some bytes → IfSome left (λ b. LoadRefuses b e) → StopsBy (RefusesFile bytes) (load_stop e)
+pub load_refuses_told : (left : Option (List ℕ)) (bytes : List ℕ) (e : LoadError) → left ≡ Some bytes → IfSome left (λ b. LoadRefuses b e) → StopsBy (TellsFileFault bytes) (load_stop e)
 load_refuses_told left bytes e told h = load_refuses bytes e (subst (λ o. IfSome o (λ b. LoadRefuses b e)) told h)
 
 -- how reading the file ended
@@ -64,7 +64,7 @@ join_refuses own bytes lists codes_error.ReadFault told h = absurd h
 join_refuses own bytes lists codes_error.Memory told h = tt
 
 -- and it is no failed source
-pub join_stops : (lists : List CodeRecord) (entries : List Entry) (e : CodesError) → RefusesJoin lists entries e → IsOfInput (codes_stop e) × (stop_ended (codes_stop e) ≡ Failing → ⊥)
+pub join_stops : (lists : List CodeRecord) (entries : List DictionaryEntry) (e : CodesError) → RefusesJoin lists entries e → IsOfInput (codes_stop e) × (stop_ended (codes_stop e) ≡ Failing → ⊥)
 join_stops lists entries (codes_error.Refused rule number) h = (tt, λ f. absurd (cc))
 join_stops lists entries codes_error.ReadFault h = absurd h
 join_stops lists entries codes_error.Memory h = (tt, λ f. absurd (cc))

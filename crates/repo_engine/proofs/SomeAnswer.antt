@@ -3,7 +3,7 @@ use Rattle.std.proofs.Common.{◌≡◌, ◌⊎◌, ℕ, ◌+◌, ◌≤◌, len
 use Rattle.repo_objects.specs.Repository.{Contents}
 use Rattle.repo_loader.specs.Laws.{OneOfBoth}
 use Rattle.repo_loader.specs.Loaded.{Spells}
-use Rattle.code_sets.specs.Codes.{Fault as CodesFault, HasCodesFault, Joins}
+use Rattle.code_sets.specs.Codes.{CodesFault, HasCodesFault, Joins}
 use Rattle.code_sets.specs.Laws.{JoinsOrHasFault}
 use Rattle.reference_check.specs.Graph.{Place}
 use Rattle.message_model.specs.Laws.{SomeModel, ReadyOrRefused, CompiledAreSound}
@@ -17,13 +17,13 @@ use Rattle.transcoder.specs.Laws.{SomeVerdict, SomeDerVerdict, AreSoundTypes}
 use Rattle.xml_writer.specs.CanonXml.{IsCanonXml}
 use Rattle.xml_writer.specs.Laws.{SomeCanonicalXml}
 use Rattle.der_model.specs.SomeAnswers.{HaveKinds, CompiledHaveKinds}
-use Rattle.drill.specs.BuiltIn.{tables}
+use Rattle.drill.specs.BuiltIn.{drill_tables}
 use Rattle.drill.specs.Drilled.{IsAdmitted}
 use Rattle.drill.specs.Growing.{instance, deepest, most_beside}
 use Rattle.der_model.specs.Der.{der_of}
 use Rattle.der_model.specs.DerMessage.{der_message}
-use Rattle.repo_engine.specs.Answer.{Answer, Of, OfVerb, Drills, FromXml, RefusesAsXml, GivesXmlValue, FromDer, RefusesAsDer, GivesDerValue, IsFine, GivesXml, GivesDer, FromRepository, RefusesFile, RefusesCodes, GivesJoined, RefusesMessage, GivesTables}
-use Rattle.repo_engine.specs.Command.{Command, list, message, drill, HasForm, hands_in}
+use Rattle.repo_engine.specs.Answer.{Answer, Of, OfVerb, Drills, FromXml, RefusesAsXml, GivesXmlValue, FromDer, RefusesAsDer, GivesDerValue, IsFine, GivesXml, GivesDer, FromRepository, TellsFileFault, RefusesCodes, GivesJoined, RefusesMessage, GivesTables}
+use Rattle.repo_engine.specs.Command.{Command, list, message, drill, HasCommandForm, hands_in}
 use Rattle.repo_engine.specs.Steps.{Then, refused, goes_on, IsTotal}
 use Rattle.repo_engine.specs.Verdict.{Verdict}
 use Rattle.repo_engine.specs.declared.command.Verb.{Verb}
@@ -56,7 +56,7 @@ pub record TotalLaws : Type 0 where
   pub instances_are_admitted : IsAdmitted
 
 module _ (laws : TotalLaws) where
-  file_total : (r : List ℕ) → ¬ (¬ IsTotal Verdict Contents (RefusesFile r) (Spells r))
+  file_total : (r : List ℕ) → ¬ (¬ IsTotal Verdict Contents (TellsFileFault r) (Spells r))
   file_total r lacks = laws.one_of_both r (λ own spells. lacks (inr (own, spells))) (λ f h. lacks (inl (_, (f, h, refl))))
 
   codes_total : (codes_word : List ℕ) (own : Contents) (c : List ℕ) → IsTotal Verdict Contents (RefusesCodes codes_word own c) (GivesJoined codes_word own c)
@@ -116,23 +116,23 @@ module _ (laws : TotalLaws) where
 
   some_from_repository : (codes_word r c : List ℕ) (Next : Contents → Verdict → Type 0) → ((R : Contents) → Told (Next R)) → Told (FromRepository codes_word r c Next)
   some_from_repository codes_word r c Next next =
-      some_then Contents (RefusesFile r) (Spells r) (λ own. Then Verdict Contents (RefusesCodes codes_word own c) (GivesJoined codes_word own c) Next) (file_total r)
+      some_then Contents (TellsFileFault r) (Spells r) (λ own. Then Verdict Contents (RefusesCodes codes_word own c) (GivesJoined codes_word own c) Next) (file_total r)
       (λ own spells. some_then Contents (RefusesCodes codes_word own c) (GivesJoined codes_word own c) Next (λ lacks. lacks (codes_total codes_word own c)) (λ R joined. next R))
 
   some_drill : (number size : ℕ) → size ≤ most_beside → Told (Drills number size)
-  some_drill number size small = some_xml_of (laws.some_canonical_xml (message_of tables) (instance number size) (laws.instances_are_admitted number size small))
+  some_drill number size small = some_xml_of (laws.some_canonical_xml (message_of drill_tables) (instance number size) (laws.instances_are_admitted number size small))
     where
-      some_xml_of : ((text : List ℕ) × IsCanonXml (message_of tables) (instance number size) text) → Told (Drills number size)
+      some_xml_of : ((text : List ℕ) × IsCanonXml (message_of drill_tables) (instance number size) text) → Told (Drills number size)
       some_xml_of (text, is) lacks = lacks (
         _,
         (
-          record { nodes = size + 1; depth = deepest number size; xml = length text; der = length (der_of (der_message tables) (instance number size)) },
+          record { nodes = size + 1; depth = deepest number size; xml = length text; der = length (der_of (der_message drill_tables) (instance number size)) },
           record { nodes = refl; depth = refl; xml = (text, is, refl); der = refl },
           refl,
         ),
       )
 
-  some_of : (ws : List (List ℕ)) (command : Command) (r c i : List ℕ) → HasForm ws command → Told (Of command r c i)
+  some_of : (ws : List (List ℕ)) (command : Command) (r c i : List ℕ) → HasCommandForm ws command → Told (Of command r c i)
   some_of ws (list codes_word) r c i form = some_from_repository codes_word r c _ (λ R lacks. lacks (_, refl))
   some_of ws (message verb codes_word id) r c i form =
       some_from_repository codes_word r c (λ R. Then Verdict Tables (RefusesMessage R id) (GivesTables R id) (OfVerb verb i))

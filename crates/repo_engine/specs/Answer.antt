@@ -4,15 +4,15 @@ use Rattle.repo_objects.specs.Repository.{Contents}
 use Rattle.repo_loader.specs.declared.fault.LoadFault.{LoadFault}
 use Rattle.repo_loader.specs.Loaded.{Spells, HasLoadFault}
 use Rattle.code_sets.specs.Codes.{HasCodesFault, Joins}
-use Rattle.code_sets.specs.Codes.{Fault as CodesFault}
+use Rattle.code_sets.specs.Codes.{CodesFault}
 use Rattle.reference_check.specs.Graph.{Place}
 use Rattle.reference_check.specs.Reached.{place_id}
 use Rattle.message_model.specs.Compiled.{Compiles, IsReachedList}
-use Rattle.message_model.specs.Ready.{IsReady, IsRefused, MessageRule, number_of}
+use Rattle.message_model.specs.Ready.{IsReady, IsRefused, MessageRule, message_rule_number}
 use Rattle.message_model.specs.Tables.{Tables, message_of}
 use Rattle.message_model.specs.declared.fault.Fault.{Fault}
 use Rattle.data_types.specs.Value.{Value}
-use Rattle.xml_instances.specs.XmlFaults.{limit}
+use Rattle.xml_instances.specs.XmlFaults.{xml_limit}
 use Rattle.xml_instances.specs.SpellsXml.{SpellsXml}
 use Rattle.xml_writer.specs.CanonXml.{IsCanonXml}
 use Rattle.der_model.specs.DerMessage.{der_message}
@@ -27,7 +27,7 @@ use Rattle.repo_engine.specs.declared.command.Verb.TheVariants.{Types, Xsd, Asn1
 use Rattle.repo_engine.specs.declared.refusal.Refusal.TheVariants.{Words, Repository, Codes, Message, Instance}
 use Rattle.drill.specs.Drilled.{IsDrilled}
 use Rattle.drill.specs.declared.drilling.Drilled.{Drilled}
-use Rattle.repo_engine.specs.Command.{Command, list, message, drill, HasForm, IsUnlisted, hands_in}
+use Rattle.repo_engine.specs.Command.{Command, list, message, drill, HasCommandForm, IsUnlisted, hands_in}
 use Rattle.repo_engine.specs.Steps.{Then}
 use Rattle.repo_engine.specs.Verdict.{Verdict, accepted, refused}
 use Rattle.repo_engine.specs.Texts.{list_text, types_text, drill_text}
@@ -35,8 +35,8 @@ use Rattle.repo_engine.specs.Texts.{list_text, types_text, drill_text}
 -- ---- the repository and its external codes
 
 -- the file has this first fault
-abbrev pub RefusesFile : List ℕ → Verdict → Type 0
-RefusesFile r v = (f : LoadFault) × HasLoadFault r f × (v ≡ refused (Repository f) [])
+abbrev pub TellsFileFault : List ℕ → Verdict → Type 0
+TellsFileFault r v = (f : LoadFault) × HasLoadFault r f × (v ≡ refused (Repository f) [])
 
 -- the codes have this first fault
 abbrev pub IsCodesRefusal : Contents → List ℕ → Verdict → Type 0
@@ -57,14 +57,14 @@ GivesRepository codes_word r c R = (own : Contents) × Spells r own × GivesJoin
 -- the repository is read, then the codes are joined to it
 abbrev pub FromRepository : List ℕ → List ℕ → List ℕ → (Contents → Verdict → Type 0) → Verdict → Type 0
 FromRepository codes_word r c Next =
-    Then Verdict Contents (RefusesFile r) (Spells r)
+    Then Verdict Contents (TellsFileFault r) (Spells r)
     (λ own. Then Verdict Contents (RefusesCodes codes_word own c) (GivesJoined codes_word own c) Next)
 
 -- ---- the compiled message
 
 -- the message, or an object that it reaches, breaks this rule first
 abbrev pub RefusesMessage : Contents → List ℕ → Verdict → Type 0
-RefusesMessage R id v = (rule : MessageRule) × (p : Place) × IsRefused R id rule p × (v ≡ refused (Message (number_of rule) (place_id id p)) [])
+RefusesMessage R id v = (rule : MessageRule) × (p : Place) × IsRefused R id rule p × (v ≡ refused (Message (message_rule_number rule) (place_id id p)) [])
 
 -- the tables of a message that breaks no rule
 abbrev pub GivesTables : Contents → List ℕ → Tables → Type 0
@@ -96,7 +96,7 @@ RefusesAsXml T i v = (fault : Fault) × HasXmlFault T i fault × (v ≡ refused 
 
 -- the bytes, no more than the limit, are XML of an instance with this value
 abbrev pub GivesXmlValue : Tables → List ℕ → Value → Type 0
-GivesXmlValue T i value = SpellsXml (message_of T) i value × (length i ≤ limit)
+GivesXmlValue T i value = SpellsXml (message_of T) i value × (length i ≤ xml_limit)
 
 -- an instance is read from XML
 abbrev pub FromXml : Tables → List ℕ → (Value → Verdict → Type 0) → Verdict → Type 0
@@ -108,7 +108,7 @@ RefusesAsDer T i v = (fault : Fault) × HasDerFault T i fault × (v ≡ refused 
 
 -- the bytes, no more than the limit, are the DER of an instance with this value
 abbrev pub GivesDerValue : Tables → List ℕ → Value → Type 0
-GivesDerValue T i value = SpellsDer (der_message T) i value × (length i ≤ limit)
+GivesDerValue T i value = SpellsDer (der_message T) i value × (length i ≤ xml_limit)
 
 -- an instance is read from DER
 abbrev pub FromDer : Tables → List ℕ → (Value → Verdict → Type 0) → Verdict → Type 0
@@ -153,4 +153,4 @@ Of (drill number size) r c i = Drills number size
 
 -- the verdict on words and bytes
 abbrev pub Answer : List (List ℕ) → List ℕ → List ℕ → List ℕ → Verdict → Type 0
-Answer ws r c i v = (IsUnlisted ws × (v ≡ refused Words [])) ⊎ ((command : Command) × HasForm ws command × Of command r c i v)
+Answer ws r c i v = (IsUnlisted ws × (v ≡ refused Words [])) ⊎ ((command : Command) × HasCommandForm ws command × Of command r c i v)

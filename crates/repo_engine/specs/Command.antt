@@ -50,14 +50,14 @@ abbrev pub IsNumberWord : List ℕ → ℕ → Type 0
 IsNumberWord word n = IsTrue (is_number_word word) × (digits_value 10 word ≡ n)
 
 -- the words have the form of the command, word for word
-abbrev pub HasForm : List (List ℕ) → Command → Type 0
-HasForm ws (list codes_word) = (repository : List ℕ) × (ws ≡ codes "list" ∷ (repository ∷ (codes_word ∷ [])))
-HasForm ws (message verb codes_word id) = (repository : List ℕ) × (ws ≡ verb_word verb ∷ (repository ∷ (codes_word ∷ (id ∷ [])))) × IsMessageId id
-HasForm ws (drill number size) = (one : List ℕ) × (other : List ℕ) × (ws ≡ codes "drill" ∷ (one ∷ (other ∷ []))) × IsNumberWord one number × IsNumberWord other size × (size ≤ most_beside)
+abbrev pub HasCommandForm : List (List ℕ) → Command → Type 0
+HasCommandForm ws (list codes_word) = (repository : List ℕ) × (ws ≡ codes "list" ∷ (repository ∷ (codes_word ∷ [])))
+HasCommandForm ws (message verb codes_word id) = (repository : List ℕ) × (ws ≡ verb_word verb ∷ (repository ∷ (codes_word ∷ (id ∷ [])))) × IsMessageId id
+HasCommandForm ws (drill number size) = (one : List ℕ) × (other : List ℕ) × (ws ≡ codes "drill" ∷ (one ∷ (other ∷ []))) × IsNumberWord one number × IsNumberWord other size × (size ≤ most_beside)
 
 -- the words have the form of no command
 abbrev pub IsUnlisted : List (List ℕ) → Type 0
-IsUnlisted ws = (command : Command) → HasForm ws command → ⊥
+IsUnlisted ws = (command : Command) → HasCommandForm ws command → ⊥
 
 -- the word for the codes hands some in
 abbrev pub hands_in : List ℕ → Bool
@@ -69,7 +69,7 @@ pub record Pulled : Type 0 where
   pub codes : Bool
   pub instance : Bool
 
-abbrev pub pulled : Command → Pulled
-pulled (list codes_word) = record { repository = true; codes = hands_in codes_word; instance = false }
-pulled (message verb codes_word id) = record { repository = true; codes = hands_in codes_word; instance = reads_instance verb }
-pulled (drill number size) = record { repository = false; codes = false; instance = false }
+abbrev pub pulled_by : Command → Pulled
+pulled_by (list codes_word) = record { repository = true; codes = hands_in codes_word; instance = false }
+pulled_by (message verb codes_word id) = record { repository = true; codes = hands_in codes_word; instance = reads_instance verb }
+pulled_by (drill number size) = record { repository = false; codes = false; instance = false }

@@ -3,7 +3,7 @@ use Rattle.std.specs.Prelude.{◌≡◌, ◌↔◌, ◌≤◌, ℕ, List, length
 use Rattle.repo_objects.specs.MessageId.{IsMessageId}
 use Rattle.repo_objects.specs.Repository.{Contents}
 use Rattle.message_model.specs.Tables.{Tables}
-use Rattle.xml_instances.specs.XmlFaults.{limit}
+use Rattle.xml_instances.specs.XmlFaults.{xml_limit}
 use Rattle.xml_writer.specs.SpellingLaw.{HasNoLongTag}
 use Rattle.repo_engine.specs.Answer.{OfVerb, GivesTables}
 use Rattle.repo_engine.specs.Verdict.{Verdict, accepted}
@@ -11,10 +11,10 @@ use Rattle.repo_engine.specs.declared.command.Verb.TheVariants.{CanonXml, XmlToD
 
 -- What `der-to-xml` answers to the DER that `xml-to-der` writes of an instance is what `canon-xml` answers to the instance.
 abbrev pub XmlComesBack : Type 0
-XmlComesBack = (R : Contents) (id : List ℕ) (T : Tables) (xml der : List ℕ) → GivesTables R id T → OfVerb XmlToDer xml T (accepted der) → length der ≤ limit
+XmlComesBack = (R : Contents) (id : List ℕ) (T : Tables) (xml der : List ℕ) → GivesTables R id T → OfVerb XmlToDer xml T (accepted der) → length der ≤ xml_limit
     → (v : Verdict) → OfVerb DerToXml der T v ↔ OfVerb CanonXml xml T v
 
 -- What `xml-to-der` answers to the XML that `der-to-xml` writes of an instance is the same instance in DER, where no tag is too long to be read.
 abbrev pub DerComesBack : Type 0
-DerComesBack = (R : Contents) (id : List ℕ) (T : Tables) (der xml : List ℕ) → IsMessageId id → GivesTables R id T → OfVerb DerToXml der T (accepted xml) → HasNoLongTag xml → length xml ≤ limit
+DerComesBack = (R : Contents) (id : List ℕ) (T : Tables) (der xml : List ℕ) → IsMessageId id → GivesTables R id T → OfVerb DerToXml der T (accepted xml) → HasNoLongTag xml → length xml ≤ xml_limit
     → (v : Verdict) → OfVerb XmlToDer xml T v ↔ (v ≡ accepted der)

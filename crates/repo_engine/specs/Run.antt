@@ -13,8 +13,8 @@ use Rattle.repo_engine.specs.declared.refusal.Refusal.TheVariants.{Words}
 use Rattle.repo_engine.specs.declared.status.Status.{Status}
 use Rattle.repo_engine.specs.declared.status.Status.TheVariants as status
 use Rattle.repo_engine.specs.Answer.{Answer}
-use Rattle.repo_engine.specs.Command.{Command, HasForm, IsUnlisted, pulled}
-use Rattle.repo_engine.specs.Sources.{Use, Untouched, AreUsed, ended_of}
+use Rattle.repo_engine.specs.Command.{Command, HasCommandForm, IsUnlisted, pulled_by}
+use Rattle.repo_engine.specs.Sources.{Use, Untouched, AreUsed, source_ended_of}
 use Rattle.repo_engine.specs.Verdict.{Verdict, accepted, refused, stop_line, stop_status}
 
 -- how a command ends, before anything is noted
@@ -22,19 +22,19 @@ abbrev pub End : Type 0
 End = Result (Unit {0}) Stop
 
 -- the sources that the command pulls from have these bytes left
-pub record AreLeft (ws : List (List ℕ)) (repo_left codes_left inst_left : Option (List ℕ)) (r c i : List ℕ) : Type 0 where
-  pub repository : (command : Command) → HasForm ws command → (pulled command).repository ≡ true → repo_left ≡ Some r
-  pub codes : (command : Command) → HasForm ws command → (pulled command).codes ≡ true → codes_left ≡ Some c
-  pub instance : (command : Command) → HasForm ws command → (pulled command).instance ≡ true → inst_left ≡ Some i
+pub record AreSourcesLeft (ws : List (List ℕ)) (repo_left codes_left inst_left : Option (List ℕ)) (r c i : List ℕ) : Type 0 where
+  pub repository : (command : Command) → HasCommandForm ws command → (pulled_by command).repository ≡ true → repo_left ≡ Some r
+  pub codes : (command : Command) → HasCommandForm ws command → (pulled_by command).codes ≡ true → codes_left ≡ Some c
+  pub instance : (command : Command) → HasCommandForm ws command → (pulled_by command).instance ≡ true → inst_left ≡ Some i
 
 -- The verdict that the end tells, and what went out with it: the whole text where it is Ok, and where a refusal has one. After a fault of a
 -- sink or want of memory, a front of the text that Ok would have brought, or nothing.
-abbrev pub Tells : (Verdict → Type 0) → End → Option (List ℕ) → Option (List ℕ) → Type 0
-Tells Is (Ok done) out out' = (text : List ℕ) × Is (accepted text) × Appends out out' text
-Tells Is (Err (Refused refusal)) out out' = (text : List ℕ) × Is (refused refusal text) × Appends out out' text
-Tells Is (Err ReadFault) out out' = Unit {0}
-Tells Is (Err WriteFault) out out' = Keeps out out' ⊎ ((text : List ℕ) × Is (accepted text) × AppendsFront out out' text)
-Tells Is (Err Memory) out out' = Keeps out out' ⊎ ((text : List ℕ) × Is (accepted text) × AppendsFront out out' text)
+abbrev pub TellsVerdict : (Verdict → Type 0) → End → Option (List ℕ) → Option (List ℕ) → Type 0
+TellsVerdict Is (Ok done) out out' = (text : List ℕ) × Is (accepted text) × Appends out out' text
+TellsVerdict Is (Err (Refused refusal)) out out' = (text : List ℕ) × Is (refused refusal text) × Appends out out' text
+TellsVerdict Is (Err ReadFault) out out' = Unit {0}
+TellsVerdict Is (Err WriteFault) out out' = Keeps out out' ⊎ ((text : List ℕ) × Is (accepted text) × AppendsFront out out' text)
+TellsVerdict Is (Err Memory) out out' = Keeps out out' ⊎ ((text : List ℕ) × Is (accepted text) × AppendsFront out out' text)
 
 -- the sink is as it was
 abbrev pub LeavesOut : End → Type 0
@@ -70,7 +70,7 @@ pub record Performs {R C I O : Type 0} (ws : List (List ℕ)) (repo : Use R) (co
   pub words : IsUnlisted ws ↔ (end ≡ Err (Refused Words))
   pub untouched : IsUnlisted ws → Untouched repo × Untouched codes × Untouched inst
   -- The sources that the command uses are read in turn, and the others are not touched.
-  pub sources : (command : Command) → HasForm ws command → AreUsed (pulled command).repository (pulled command).codes (pulled command).instance (ended_of end) repo codes inst
+  pub sources : (command : Command) → HasCommandForm ws command → AreUsed (pulled_by command).repository (pulled_by command).codes (pulled_by command).instance (source_ended_of end) repo codes inst
   -- Where those sources tell their bytes, the end is the verdict on words and bytes.
-  pub verdict : (r c i : List ℕ) → AreLeft ws (repo.left repo.old) (codes.left codes.old) (inst.left inst.old) r c i → Tells (Answer ws r c i) end (held old) (held new)
+  pub verdict : (r c i : List ℕ) → AreSourcesLeft ws (repo.left repo.old) (codes.left codes.old) (inst.left inst.old) r c i → TellsVerdict (Answer ws r c i) end (held old) (held new)
   pub out : GoesOut held faults old new end

@@ -29,29 +29,29 @@ stop_ended ReadFault = Failing
 stop_ended WriteFault = Stopping
 stop_ended Memory = Stopping
 
-abbrev pub ended_of : {T : Type 0} → Result T Stop → Ended
-ended_of (Ok value) = Whole
-ended_of (Err stop) = stop_ended stop
+abbrev pub source_ended_of : {T : Type 0} → Result T Stop → Ended
+source_ended_of (Ok value) = Whole
+source_ended_of (Err stop) = stop_ended stop
 
 -- the source was not touched
 abbrev pub Untouched : {S : Type 0} → Use S → Type 0
 Untouched u = u.new ≡ u.old
 
 -- What is left of a source that was read: nothing, where all was read. Its count of faults never falls, and rose where reading failed.
-pub record IsRead {S : Type 0} (ended : Ended) (u : Use S) : Type 0 where
+pub record IsSourceRead {S : Type 0} (ended : Ended) (u : Use S) : Type 0 where
   pub later : u.faults u.old ≤ u.faults u.new
   pub whole : ended ≡ Whole → IsAtEnd (u.left u.new)
   pub failed : ended ≡ Failing → Rose (u.faults u.old) (u.faults u.new)
 
 -- The second source is read behind the whole of the first; where a command does not pull from it, not at all.
 pub data AreRead {S T : Type 0} (second : Bool) (ended : Ended) (u : Use S) (v : Use T) : Type 0 where
-  one : IsRead ended u → Untouched v → (ended ≡ Whole → second ≡ false) → AreRead second ended u v
-  both : second ≡ true → IsRead Whole u → IsRead ended v → AreRead second ended u v
+  one : IsSourceRead ended u → Untouched v → (ended ≡ Whole → second ≡ false) → AreRead second ended u v
+  both : second ≡ true → IsSourceRead Whole u → IsSourceRead ended v → AreRead second ended u v
 
 -- The third is read behind the whole of those.
 pub data AreReadInTurn {S T U : Type 0} (second third : Bool) (ended : Ended) (u : Use S) (v : Use T) (w : Use U) : Type 0 where
   before : AreRead second ended u v → Untouched w → (ended ≡ Whole → third ≡ false) → AreReadInTurn second third ended u v w
-  behind : third ≡ true → AreRead second Whole u v → IsRead ended w → AreReadInTurn second third ended u v w
+  behind : third ≡ true → AreRead second Whole u v → IsSourceRead ended w → AreReadInTurn second third ended u v w
 
 -- No source is touched, where none is asked; and then the end is none of input.
 pub data AreUsed {S T U : Type 0} (first second third : Bool) (ended : Ended) (u : Use S) (v : Use T) (w : Use U) : Type 0 where

@@ -15,11 +15,11 @@ abbrev pub list_text : List MessageDef → List ℕ
 list_text messages = flat_map message_line messages
 
 -- a type by its number: the word for its kind, and its name
-abbrev pub type_text : ℕ → List ℕ → List ℕ → List ℕ
-type_text number word name = decimal number ++ (codes " " ++ (word ++ (codes " " ++ (name ++ codes "\n"))))
+abbrev pub type_entry_line : ℕ → List ℕ → List ℕ → List ℕ
+type_entry_line number word name = decimal number ++ (codes " " ++ (word ++ (codes " " ++ (name ++ codes "\n"))))
 
 abbrev pub type_line : ℕ → TypeEntry → List ℕ
-type_line number t = type_text number t.word t.name
+type_line number t = type_entry_line number t.word t.name
 
 -- the types, numbered from this number on
 abbrev pub types_text : ℕ → List TypeEntry → List ℕ

@@ -38,8 +38,8 @@ abbrev pub codes_line : ℕ → ℕ → List ℕ
 codes_line rule number = codes "refused: codes C" ++ (decimal rule ++ (if number == 0 then line_end else record_text number))
 
 -- as `refused: message M11 at _n`: the id of an object, or the message's identifier
-abbrev pub message_line : ℕ → List ℕ → List ℕ
-message_line rule object = codes "refused: message M" ++ (decimal rule ++ (codes " at " ++ (object ++ codes "\n")))
+abbrev pub refused_message_line : ℕ → List ℕ → List ℕ
+refused_message_line rule object = codes "refused: message M" ++ (decimal rule ++ (codes " at " ++ (object ++ codes "\n")))
 
 -- a rule of instances by its name
 abbrev pub rule_text : List ℕ → List ℕ
@@ -58,7 +58,7 @@ abbrev pub line_of : Refusal → List ℕ
 line_of Words = codes "refused: words\n"
 line_of (Repository fault) = repository_line fault
 line_of (Codes rule number) = codes_line rule number
-line_of (Message rule object) = message_line rule object
+line_of (Message rule object) = refused_message_line rule object
 line_of (Instance fault) = instance_line fault
 
 -- and its status

@@ -1,8 +1,8 @@
 //! The ASN.1 module of a compiled message.
 ghost use Rattle.std.specs.Prelude.{◌≡◌, ◌≢◌, Err};
 ghost use Rattle.repo_engine.specs.Answer.{GivesModule};
-ghost use Rattle.repo_engine.specs.Run.{GoesOut, Tells};
-ghost use Rattle.repo_engine.specs.Sources.{Failing, Refusing, ended_of};
+ghost use Rattle.repo_engine.specs.Run.{GoesOut, TellsVerdict};
+ghost use Rattle.repo_engine.specs.Sources.{Failing, Refusing, source_ended_of};
 
 use super::refusal::{Refusal, Stop, ended_by};
 use asn1_model::module_of;
@@ -14,8 +14,8 @@ use std::alloc::Global;
 /// Pushes the module of the message.
 pub fn give_module<O: Sink>(alloc: Global, model: &Model, out: &mut O) -> Result<(), Stop>
     ensures no_words { result ≢ Err (Stop.Refused Refusal.Words) }
-    ensures ends { (ended_of result ≢ Failing) × (ended_of result ≢ Refusing) }
-    ensures verdict { Tells (GivesModule model.now) result (O.held out.old) (O.held out.new) }
+    ensures ends { (source_ended_of result ≢ Failing) × (source_ended_of result ≢ Refusing) }
+    ensures verdict { TellsVerdict (GivesModule model.now) result (O.held out.old) (O.held out.new) }
     ensures goes_out { GoesOut O.held O.faults out.old out.new result }
 {
     match module_of(alloc, model) {

@@ -2,8 +2,8 @@
 ghost use Rattle.std.specs.Prelude.{◌≡◌, ◌≢◌, ℕ, List, Some, Err};
 ghost use Rattle.repo_engine.specs.Answer.{FromDer, FromXml, IsFine};
 ghost use Rattle.repo_engine.specs.inner.Arms.{check_stop};
-ghost use Rattle.repo_engine.specs.Run.{GoesOut, Tells};
-ghost use Rattle.repo_engine.specs.Sources.{IsRead, ended_of, of_source};
+ghost use Rattle.repo_engine.specs.Run.{GoesOut, TellsVerdict};
+ghost use Rattle.repo_engine.specs.Sources.{IsSourceRead, source_ended_of, of_source};
 
 use super::refusal::{Refusal, Stop, ended};
 use message_model::Model;
@@ -19,8 +19,8 @@ pub fn check<I: Source, O: Sink>(
     out: &mut O,
 ) -> Result<(), Stop>
     ensures no_words { result ≢ Err (Stop.Refused Refusal.Words) }
-    ensures source { IsRead (ended_of result) (of_source I.left I.faults inst.old inst.new) }
-    ensures verdict { (i : List ℕ) → I.left inst.old ≡ Some i → Tells (FromXml model.now i IsFine) result (O.held out.old) (O.held out.new) }
+    ensures source { IsSourceRead (source_ended_of result) (of_source I.left I.faults inst.old inst.new) }
+    ensures verdict { (i : List ℕ) → I.left inst.old ≡ Some i → TellsVerdict (FromXml model.now i IsFine) result (O.held out.old) (O.held out.new) }
     ensures goes_out { GoesOut O.held O.faults out.old out.new result }
 {
     match check_xml(alloc, model, inst) {
@@ -37,8 +37,8 @@ pub fn check_in_der<I: Source, O: Sink>(
     out: &mut O,
 ) -> Result<(), Stop>
     ensures no_words { result ≢ Err (Stop.Refused Refusal.Words) }
-    ensures source { IsRead (ended_of result) (of_source I.left I.faults inst.old inst.new) }
-    ensures verdict { (i : List ℕ) → I.left inst.old ≡ Some i → Tells (FromDer model.now i IsFine) result (O.held out.old) (O.held out.new) }
+    ensures source { IsSourceRead (source_ended_of result) (of_source I.left I.faults inst.old inst.new) }
+    ensures verdict { (i : List ℕ) → I.left inst.old ≡ Some i → TellsVerdict (FromDer model.now i IsFine) result (O.held out.old) (O.held out.new) }
     ensures goes_out { GoesOut O.held O.faults out.old out.new result }
 {
     match check_der(alloc, model, inst) {

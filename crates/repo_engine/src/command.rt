@@ -2,7 +2,7 @@
 ghost use Rattle.std.specs.Prelude.{◌≡◌, ◌≤◌, ℕ, List, [], ◌∷◌, length, IfSome, IfNone};
 ghost use Rattle.repo_objects.specs.MessageId.{IsMessageId};
 ghost use Rattle.drill.specs.Growing.{most_beside};
-ghost use Rattle.repo_engine.specs.Command.{texts, HasForm, IsNumberWord, IsUnlisted, verb_word, message, drill};
+ghost use Rattle.repo_engine.specs.Command.{texts, HasCommandForm, IsNumberWord, IsUnlisted, verb_word, message, drill};
 ghost use Rattle.repo_engine.specs.inner.Commands.{AsksFor, command_view};
 
 use super::number::number_of;
@@ -115,7 +115,7 @@ fn four_words(words: &Vec<String>) -> Option<Four<'_>>
 
 /// The command of three words.
 fn three_command(three: Three<'_>) -> Option<Command<'_>>
-    ensures found { IfSome result (λ command. HasForm (three.entry.word.now ∷ (three.entry.second.now ∷ (three.entry.third.now ∷ []))) (command_view command)) }
+    ensures found { IfSome result (λ command. HasCommandForm (three.entry.word.now ∷ (three.entry.second.now ∷ (three.entry.third.now ∷ []))) (command_view command)) }
     ensures none { IfNone result (IsUnlisted (three.entry.word.now ∷ (three.entry.second.now ∷ (three.entry.third.now ∷ [])))) }
 {
     if three.word == b"list".as_slice() {

@@ -3,8 +3,8 @@ ghost use Rattle.std.specs.Prelude.{◌≡◌, ◌≢◌, ◌≤◌, Err};
 ghost use Rattle.outside.specs.Pushes.{Pushes};
 ghost use Rattle.drill.specs.Growing.{most_beside};
 ghost use Rattle.repo_engine.specs.Answer.{Drills};
-ghost use Rattle.repo_engine.specs.Run.{GoesOut, Tells};
-ghost use Rattle.repo_engine.specs.Sources.{Failing, Refusing, ended_of};
+ghost use Rattle.repo_engine.specs.Run.{GoesOut, TellsVerdict};
+ghost use Rattle.repo_engine.specs.Sources.{Failing, Refusing, source_ended_of};
 ghost use Rattle.repo_engine.specs.Texts.{drill_text};
 
 use super::refusal::{Refusal, Stop, ended};
@@ -16,8 +16,8 @@ use std::alloc::Global;
 pub fn give_drill<O: Sink>(alloc: Global, number: u64, size: u32, out: &mut O) -> Result<(), Stop>
     requires { size ≤ most_beside }
     ensures no_words { result ≢ Err (Stop.Refused Refusal.Words) }
-    ensures ends { (ended_of result ≢ Failing) × (ended_of result ≢ Refusing) }
-    ensures verdict { Tells (Drills number size) result (O.held out.old) (O.held out.new) }
+    ensures ends { (source_ended_of result ≢ Failing) × (source_ended_of result ≢ Refusing) }
+    ensures verdict { TellsVerdict (Drills number size) result (O.held out.old) (O.held out.new) }
     ensures goes_out { GoesOut O.held O.faults out.old out.new result }
 {
     match drill(alloc, number, size) {

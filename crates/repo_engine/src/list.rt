@@ -4,8 +4,8 @@ ghost use Rattle.outside.specs.Pushes.{Pushes};
 ghost use Rattle.repo_engine.specs.inner.Arms.{FilesHaveLeft};
 ghost use Rattle.repo_engine.specs.Answer.{FromRepository, Lists};
 ghost use Rattle.repo_engine.specs.Command.{hands_in};
-ghost use Rattle.repo_engine.specs.Run.{GoesOut, Tells};
-ghost use Rattle.repo_engine.specs.Sources.{AreRead, ended_of, of_source};
+ghost use Rattle.repo_engine.specs.Run.{GoesOut, TellsVerdict};
+ghost use Rattle.repo_engine.specs.Sources.{AreRead, source_ended_of, of_source};
 ghost use Rattle.repo_engine.specs.Texts.{list_text, message_line};
 
 use super::refusal::{Refusal, Stop, ended};
@@ -23,10 +23,10 @@ pub fn list<R: Source, C: Source, O: Sink>(
     out: &mut O,
 ) -> Result<(), Stop>
     ensures no_words { result ≢ Err (Stop.Refused Refusal.Words) }
-    ensures sources { AreRead (hands_in codes_word.now) (ended_of result)
+    ensures sources { AreRead (hands_in codes_word.now) (source_ended_of result)
         (of_source R.left R.faults repo.old repo.new) (of_source C.left C.faults codes.old codes.new) }
     ensures verdict { (r c : List ℕ) → FilesHaveLeft codes_word.now (R.left repo.old) (C.left codes.old) r c →
-        Tells (FromRepository codes_word.now r c Lists) result (O.held out.old) (O.held out.new) }
+        TellsVerdict (FromRepository codes_word.now r c Lists) result (O.held out.old) (O.held out.new) }
     ensures goes_out { GoesOut O.held O.faults out.old out.new result }
 {
     match read_repository(alloc, codes_word, repo, codes) {

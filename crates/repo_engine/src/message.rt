@@ -3,8 +3,8 @@ ghost use Rattle.std.specs.Prelude.{◌≡◌, ◌≢◌, ℕ, List, true, Some,
 ghost use Rattle.repo_engine.specs.Answer.{FromMessage, GivesTables, OfVerb, RefusesMessage};
 ghost use Rattle.repo_engine.specs.inner.Arms.{FilesHaveLeft, GivesMessage, IsOfInput, IsReadAs, RefusesUpToMessage, StopsBy, ready_stop};
 ghost use Rattle.repo_engine.specs.Command.{hands_in, reads_instance};
-ghost use Rattle.repo_engine.specs.Run.{GoesOut, Tells};
-ghost use Rattle.repo_engine.specs.Sources.{AreRead, AreReadInTurn, Failing, ended_of, of_source, stop_ended};
+ghost use Rattle.repo_engine.specs.Run.{GoesOut, TellsVerdict};
+ghost use Rattle.repo_engine.specs.Sources.{AreRead, AreReadInTurn, Failing, source_ended_of, of_source, stop_ended};
 
 use super::asn1::give_module;
 use super::check::{check, check_in_der};
@@ -32,11 +32,11 @@ pub fn message<R: Source, C: Source, I: Source, O: Sink>(
     out: &mut O,
 ) -> Result<(), Stop>
     ensures no_words { result ≢ Err (Stop.Refused Refusal.Words) }
-    ensures sources { AreReadInTurn (hands_in codes_word.now) (reads_instance verb) (ended_of result)
+    ensures sources { AreReadInTurn (hands_in codes_word.now) (reads_instance verb) (source_ended_of result)
         (of_source R.left R.faults repo.old repo.new) (of_source C.left C.faults codes.old codes.new) (of_source I.left I.faults inst.old inst.new) }
     ensures verdict { (r c i : List ℕ) → FilesHaveLeft codes_word.now (R.left repo.old) (C.left codes.old) r c →
         (reads_instance verb ≡ true → I.left inst.old ≡ Some i) →
-        Tells (FromMessage codes_word.now id.now r c (OfVerb verb i)) result (O.held out.old) (O.held out.new) }
+        TellsVerdict (FromMessage codes_word.now id.now r c (OfVerb verb i)) result (O.held out.old) (O.held out.new) }
     ensures goes_out { GoesOut O.held O.faults out.old out.new result }
 {
     match read_message(alloc, codes_word, id, repo, codes) {
@@ -58,7 +58,7 @@ fn read_message<R: Source, C: Source>(
     ensures refuses { (r c : List ℕ) → FilesHaveLeft codes_word.now (R.left repo.old) (C.left codes.old) r c →
         IfErr result (λ stop. StopsBy (RefusesUpToMessage codes_word.now id.now r c) stop) }
     ensures input { IfErr result (λ stop. IsOfInput stop) }
-    ensures sources { AreRead (hands_in codes_word.now) (ended_of result)
+    ensures sources { AreRead (hands_in codes_word.now) (source_ended_of result)
         (of_source R.left R.faults repo.old repo.new) (of_source C.left C.faults codes.old codes.new) }
 {
     match read_repository(alloc, codes_word, repo, codes) {
@@ -98,9 +98,9 @@ fn on_model<I: Source, O: Sink>(
     out: &mut O,
 ) -> Result<(), Stop>
     ensures no_words { result ≢ Err (Stop.Refused Refusal.Words) }
-    ensures source { IsReadAs (reads_instance verb) (ended_of result) (of_source I.left I.faults inst.old inst.new) }
+    ensures source { IsReadAs (reads_instance verb) (source_ended_of result) (of_source I.left I.faults inst.old inst.new) }
     ensures verdict { (i : List ℕ) → (reads_instance verb ≡ true → I.left inst.old ≡ Some i) →
-        Tells (OfVerb verb i model.now) result (O.held out.old) (O.held out.new) }
+        TellsVerdict (OfVerb verb i model.now) result (O.held out.old) (O.held out.new) }
     ensures goes_out { GoesOut O.held O.faults out.old out.new result }
 {
     match verb {

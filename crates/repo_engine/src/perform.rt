@@ -1,7 +1,7 @@
 //! What a command does before anything is noted.
 ghost use Rattle.std.specs.Prelude.{◌≡◌, Err};
 ghost use Rattle.repo_engine.specs.Command.{texts};
-ghost use Rattle.repo_engine.specs.inner.Commands.{IsBounded, command_view};
+ghost use Rattle.repo_engine.specs.inner.Commands.{IsBoundedDrill, command_view};
 ghost use Rattle.repo_engine.specs.Run.{Performs};
 ghost use Rattle.repo_engine.specs.inner.Arms.{Carries};
 ghost use Rattle.repo_engine.specs.Sources.{of_source};
@@ -43,7 +43,7 @@ fn carry<R: Source, C: Source, I: Source, O: Sink>(
     inst: &mut I,
     out: &mut O,
 ) -> Result<(), Stop>
-    requires { IsBounded command }
+    requires { IsBoundedDrill command }
     ensures { Carries (command_view command.entry)
         (of_source R.left R.faults repo.old repo.new) (of_source C.left C.faults codes.old codes.new) (of_source I.left I.faults inst.old inst.new)
         O.held O.faults out.old out.new result }

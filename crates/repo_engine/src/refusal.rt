@@ -3,7 +3,7 @@ ghost use Rattle.std.specs.Prelude.{◌≡◌, ◌++◌};
 ghost use Rattle.std.specs.Fmt.{decimal};
 ghost use Rattle.outside.specs.Pushes.{Pushes, as_push};
 ghost use Rattle.repo_engine.specs.inner.Arms.{end_of};
-ghost use Rattle.repo_engine.specs.Verdict.{codes_line, instance_line, line_end, line_of, message_line, place_text, record_text, refusal_status, repository_line, rule_text, stop_line, stop_status};
+ghost use Rattle.repo_engine.specs.Verdict.{codes_line, instance_line, line_end, line_of, refused_message_line, place_text, record_text, refusal_status, repository_line, rule_text, stop_line, stop_status};
 
 use super::status::Status;
 use lexical_core::Text;
@@ -218,7 +218,7 @@ fn push_codes_record<O: Sink>(
 
 /// Pushes the line of a message that breaks a rule.
 fn push_message<O: Sink>(rule: u8, object: &[u8], sink: &mut O) -> Result<(), SinkError>
-    ensures { Pushes O.held O.faults O.room sink.old sink.new result (message_line rule object.now) }
+    ensures { Pushes O.held O.faults O.room sink.old sink.new result (refused_message_line rule object.now) }
 {
     let parts = [
         Part::Bytes(b"refused: message M"),

@@ -1,9 +1,9 @@
 //! A repository and its external codes, read from their sources.
 ghost use Rattle.std.specs.Prelude.{◌≡◌, List, ℕ, true, Some, IfOk, IfErr};
-ghost use Rattle.repo_engine.specs.Answer.{GivesJoined, GivesRepository, IsCodesRefusal, RefusesCodes, RefusesFile};
+ghost use Rattle.repo_engine.specs.Answer.{GivesJoined, GivesRepository, IsCodesRefusal, RefusesCodes, TellsFileFault};
 ghost use Rattle.repo_engine.specs.inner.Arms.{FilesHaveLeft, IsOfInput, IsReadIf, RefusesRepository, IsCodesText, StopsBy, codes_stop, load_stop};
 ghost use Rattle.repo_engine.specs.Command.{hands_in};
-ghost use Rattle.repo_engine.specs.Sources.{AreRead, Failing, IsRead, ended_of, of_source, stop_ended};
+ghost use Rattle.repo_engine.specs.Sources.{AreRead, Failing, IsSourceRead, source_ended_of, of_source, stop_ended};
 ghost use Rattle.repo_loader.specs.Loaded.{Spells};
 ghost use Rattle.code_sets.specs.Codes.{Joins};
 ghost use Rattle.code_sets.specs.CodesErrors.{AreCodes};
@@ -29,7 +29,7 @@ pub fn read_repository<R: Source, C: Source>(
     ensures refuses { (r c : List ℕ) → FilesHaveLeft codes_word.now (R.left repo.old) (C.left codes.old) r c →
         IfErr result (λ stop. StopsBy (RefusesRepository codes_word.now r c) stop) }
     ensures input { IfErr result (λ stop. IsOfInput stop) }
-    ensures sources { AreRead (hands_in codes_word.now) (ended_of result)
+    ensures sources { AreRead (hands_in codes_word.now) (source_ended_of result)
         (of_source R.left R.faults repo.old repo.new) (of_source C.left C.faults codes.old codes.new) }
 {
     match load_file(alloc, repo) {
@@ -50,7 +50,7 @@ fn with_codes<C: Source>(
     ensures refuses { (c : List ℕ) → (hands_in codes_word.now ≡ true → C.left codes.old ≡ Some c) →
         IfErr result (λ stop. StopsBy (RefusesCodes codes_word.now own c) stop) }
     ensures input { IfErr result (λ stop. IsOfInput stop) }
-    ensures source { IsReadIf (hands_in codes_word.now) (ended_of result) (of_source C.left C.faults codes.old codes.new) }
+    ensures source { IsReadIf (hands_in codes_word.now) (source_ended_of result) (of_source C.left C.faults codes.old codes.new) }
 {
     if codes_word == b"-".as_slice() {
         return Ok(own);
@@ -61,9 +61,9 @@ fn with_codes<C: Source>(
 /// The repository that the source has left.
 fn load_file<R: Source>(alloc: Global, repo: &mut R) -> Result<Repository, Stop>
     ensures gives { (r : List ℕ) → R.left repo.old ≡ Some r → IfOk result (λ own. Spells r own) }
-    ensures refuses { (r : List ℕ) → R.left repo.old ≡ Some r → IfErr result (λ stop. StopsBy (RefusesFile r) stop) }
+    ensures refuses { (r : List ℕ) → R.left repo.old ≡ Some r → IfErr result (λ stop. StopsBy (TellsFileFault r) stop) }
     ensures input { IfErr result (λ stop. IsOfInput stop) }
-    ensures source { IsRead (ended_of result) (of_source R.left R.faults repo.old repo.new) }
+    ensures source { IsSourceRead (source_ended_of result) (of_source R.left R.faults repo.old repo.new) }
 {
     match load(alloc, repo) {
         Ok(own) => Ok(own),
@@ -87,7 +87,7 @@ fn join_codes<C: Source>(alloc: Global, own: Repository, codes: &mut C) -> Resul
     ensures gives { (c : List ℕ) → C.left codes.old ≡ Some c → IfOk result (λ joined. Joins own c joined) }
     ensures refuses { (c : List ℕ) → C.left codes.old ≡ Some c → IfErr result (λ stop. StopsBy (IsCodesRefusal own c) stop) }
     ensures input { IfErr result (λ stop. IsOfInput stop) }
-    ensures source { IsRead (ended_of result) (of_source C.left C.faults codes.old codes.new) }
+    ensures source { IsSourceRead (source_ended_of result) (of_source C.left C.faults codes.old codes.new) }
 {
     match load_codes(alloc, codes) {
         Ok(lists) => join_lists(alloc, own, &lists),
@@ -101,7 +101,7 @@ fn load_codes<C: Source>(alloc: Global, codes: &mut C) -> Result<CodeLists, Stop
     ensures codes { IfOk result (λ lists. AreCodes lists) }
     ensures refuses { (c : List ℕ) → C.left codes.old ≡ Some c → IfErr result (λ stop. (own : Contents) → StopsBy (IsCodesRefusal own c) stop) }
     ensures input { IfErr result (λ stop. IsOfInput stop) }
-    ensures source { IsRead (ended_of result) (of_source C.left C.faults codes.old codes.new) }
+    ensures source { IsSourceRead (source_ended_of result) (of_source C.left C.faults codes.old codes.new) }
 {
     match pull_codes(alloc, codes) {
         Ok(lists) => Ok(lists),

@@ -1,6 +1,6 @@
 //! How a run ends.
 ghost use Rattle.std.specs.Prelude.{◌≡◌, ℕ};
-ghost use Rattle.repo_engine.specs.Exit.{code_of};
+ghost use Rattle.repo_engine.specs.Exit.{exit_code_of};
 
 use std::fmt;
 
@@ -52,7 +52,7 @@ impl fmt::Display for Status {
 impl Status {
     /// The exit status of the program, from 0 for `Done` to 8 for `Memory`.
     pub fn code(self) -> u8
-        ensures { result ≡ code_of self }
+        ensures { result ≡ exit_code_of self }
     {
         self as u8
     }

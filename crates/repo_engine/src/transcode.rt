@@ -2,8 +2,8 @@
 ghost use Rattle.std.specs.Prelude.{◌≡◌, ◌≢◌, ℕ, List, Some, Err};
 ghost use Rattle.repo_engine.specs.Answer.{FromDer, FromXml, GivesDer, GivesXml};
 ghost use Rattle.repo_engine.specs.inner.Arms.{trans_end};
-ghost use Rattle.repo_engine.specs.Run.{GoesOut, Tells};
-ghost use Rattle.repo_engine.specs.Sources.{IsRead, ended_of, of_source};
+ghost use Rattle.repo_engine.specs.Run.{GoesOut, TellsVerdict};
+ghost use Rattle.repo_engine.specs.Sources.{IsSourceRead, source_ended_of, of_source};
 
 use super::refusal::{Refusal, Stop};
 use message_model::Model;
@@ -19,8 +19,8 @@ pub fn canonize<I: Source, O: Sink>(
     out: &mut O,
 ) -> Result<(), Stop>
     ensures no_words { result ≢ Err (Stop.Refused Refusal.Words) }
-    ensures source { IsRead (ended_of result) (of_source I.left I.faults inst.old inst.new) }
-    ensures verdict { (i : List ℕ) → I.left inst.old ≡ Some i → Tells (FromXml model.now i (GivesXml model.now)) result (O.held out.old) (O.held out.new) }
+    ensures source { IsSourceRead (source_ended_of result) (of_source I.left I.faults inst.old inst.new) }
+    ensures verdict { (i : List ℕ) → I.left inst.old ≡ Some i → TellsVerdict (FromXml model.now i (GivesXml model.now)) result (O.held out.old) (O.held out.new) }
     ensures goes_out { GoesOut O.held O.faults out.old out.new result }
 {
     ended_so(xml_to_xml(alloc, model, inst, out))
@@ -34,8 +34,8 @@ pub fn to_der<I: Source, O: Sink>(
     out: &mut O,
 ) -> Result<(), Stop>
     ensures no_words { result ≢ Err (Stop.Refused Refusal.Words) }
-    ensures source { IsRead (ended_of result) (of_source I.left I.faults inst.old inst.new) }
-    ensures verdict { (i : List ℕ) → I.left inst.old ≡ Some i → Tells (FromXml model.now i (GivesDer model.now)) result (O.held out.old) (O.held out.new) }
+    ensures source { IsSourceRead (source_ended_of result) (of_source I.left I.faults inst.old inst.new) }
+    ensures verdict { (i : List ℕ) → I.left inst.old ≡ Some i → TellsVerdict (FromXml model.now i (GivesDer model.now)) result (O.held out.old) (O.held out.new) }
     ensures goes_out { GoesOut O.held O.faults out.old out.new result }
 {
     ended_so(xml_to_der(alloc, model, inst, out))
@@ -49,8 +49,8 @@ pub fn from_der<I: Source, O: Sink>(
     out: &mut O,
 ) -> Result<(), Stop>
     ensures no_words { result ≢ Err (Stop.Refused Refusal.Words) }
-    ensures source { IsRead (ended_of result) (of_source I.left I.faults inst.old inst.new) }
-    ensures verdict { (i : List ℕ) → I.left inst.old ≡ Some i → Tells (FromDer model.now i (GivesXml model.now)) result (O.held out.old) (O.held out.new) }
+    ensures source { IsSourceRead (source_ended_of result) (of_source I.left I.faults inst.old inst.new) }
+    ensures verdict { (i : List ℕ) → I.left inst.old ≡ Some i → TellsVerdict (FromDer model.now i (GivesXml model.now)) result (O.held out.old) (O.held out.new) }
     ensures goes_out { GoesOut O.held O.faults out.old out.new result }
 {
     ended_so(der_to_xml(alloc, model, inst, out))

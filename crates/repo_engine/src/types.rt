@@ -3,9 +3,9 @@ ghost use Rattle.std.specs.Prelude.{◌≡◌, ◌≢◌, Some, Err, slice_get};
 ghost use Rattle.outside.specs.Pushes.{Pushes};
 ghost use Rattle.message_model.specs.Tables.{TypeEntry};
 ghost use Rattle.repo_engine.specs.Answer.{GivesTypes};
-ghost use Rattle.repo_engine.specs.Run.{GoesOut, Tells};
-ghost use Rattle.repo_engine.specs.Sources.{Failing, Refusing, ended_of};
-ghost use Rattle.repo_engine.specs.Texts.{type_line, type_text, types_text};
+ghost use Rattle.repo_engine.specs.Run.{GoesOut, TellsVerdict};
+ghost use Rattle.repo_engine.specs.Sources.{Failing, Refusing, source_ended_of};
+ghost use Rattle.repo_engine.specs.Texts.{type_line, type_entry_line, types_text};
 
 use super::refusal::{Refusal, Stop, ended};
 use message_model::Model;
@@ -14,8 +14,8 @@ use outside::{Part, Sink, SinkError, render_all};
 /// Pushes the types of the message, a line each.
 pub fn give_types<O: Sink>(model: &Model, out: &mut O) -> Result<(), Stop>
     ensures no_words { result ≢ Err (Stop.Refused Refusal.Words) }
-    ensures ends { (ended_of result ≢ Failing) × (ended_of result ≢ Refusing) }
-    ensures verdict { Tells (GivesTypes model.now) result (O.held out.old) (O.held out.new) }
+    ensures ends { (source_ended_of result ≢ Failing) × (source_ended_of result ≢ Refusing) }
+    ensures verdict { TellsVerdict (GivesTypes model.now) result (O.held out.old) (O.held out.new) }
     ensures goes_out { GoesOut O.held O.faults out.old out.new result }
 {
     ended(push_types(model, out))
@@ -53,7 +53,7 @@ fn push_line<'a, O: Sink>(
     name: &'a [u8],
     out: &mut O,
 ) -> Result<(), SinkError>
-    ensures { Pushes O.held O.faults O.room out.old out.new result (type_text number word.now name.now) }
+    ensures { Pushes O.held O.faults O.room out.old out.new result (type_entry_line number word.now name.now) }
 {
     let parts = [
         Part::Number(u64::from(number)),

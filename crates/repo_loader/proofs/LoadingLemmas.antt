@@ -2,10 +2,10 @@
 use Rattle.std.proofs.Common.{◌≡◌, ℕ, true, false, List, [], ◌∷◌, ◌++◌, Option, Some, None, Bool, if◌then◌else◌, is_some, true≢false, refl, sym, ap, ◌∙◌, subst}
 use Rattle.repo_objects.specs.declared.objects.CodeDef.{CodeDef}
 use Rattle.repo_objects.specs.declared.objects.ElementDef.{ElementDef}
-use Rattle.repo_objects.specs.Repository.{Entry}
+use Rattle.repo_objects.specs.Repository.{DictionaryEntry}
 use Rattle.repo_loader.specs.declared.loading.OpenEntry.{OpenEntry}
 use Rattle.repo_loader.specs.declared.loading.Loading.{Loading}
-use Rattle.repo_loader.specs.Selected.{Tag}
+use Rattle.repo_loader.specs.Selected.{FileTag}
 use Rattle.repo_loader.specs.File.{is_entry, kind_at, objects, own_elements, own_codes}
 use Rattle.repo_loader.specs.File
 use Rattle.repo_loader.specs.inner.FileSteps.{with_last, with_parts}
@@ -15,14 +15,14 @@ use Rattle.repo_objects.specs.declared.objects.ObjectKind.{ObjectKind}
 use Rattle.repo_objects.specs.Repository.{HasId}
 use Rattle.repo_loader.specs.declared.part.Part.TheVariants as Part
 use Rattle.repo_loader.specs.declared.stop.Stop.{Stop}
-use Rattle.repo_loader.specs.FileNames.{value_of, id_name}
+use Rattle.repo_loader.specs.FileNames.{attribute_value, id_name}
 use Rattle.repo_loader.specs.inner.LoadingSteps.{HasIdIn}
-use Rattle.repo_loader.specs.inner.Stops.{IsLeastBroken, TellsFacets, TellsStop}
+use Rattle.repo_loader.specs.inner.Stops.{IsLeastTagRule, TellsFacets, TellsStop}
 use Rattle.repo_loader.proofs.EntryRules.{IsFirst, least_twice, least_number}
 use Rattle.repo_loader.proofs.Steps.{objects_snoc}
 
 -- the last of a list that ends so
-last_changed : (f : Entry → Entry) (xs : List Entry) (x : Entry) → with_last f (xs ++ x ∷ []) ≡ xs ++ f x ∷ []
+last_changed : (f : DictionaryEntry → DictionaryEntry) (xs : List DictionaryEntry) (x : DictionaryEntry) → with_last f (xs ++ x ∷ []) ≡ xs ++ f x ∷ []
 last_changed f [] x = refl
 last_changed f (y ∷ []) x = refl
 last_changed f (y ∷ (z ∷ xs)) x = ap (λ l. y ∷ l) (last_changed f (z ∷ xs) x)
@@ -32,11 +32,11 @@ abbrev pub with_given : List ElementDef → List CodeDef → Option OpenEntry �
 with_given es cs None = None
 with_given es cs (Some o) = Some (record { id = o.id; object = record o.object { elements = o.object.elements ++ es; codes = o.object.codes ++ cs } })
 
-abbrev pub with_tag : Tag → Option OpenEntry → Option OpenEntry
+abbrev pub with_tag : FileTag → Option OpenEntry → Option OpenEntry
 with_tag t o = with_given (own_elements t) (own_codes t) o
 
 -- a tag that is no entry's changes the open entry alone
-pub other_tag : (old new : Loading) (tags : List Tag) (t : Tag) → is_entry t.part ≡ false → HasObjects old tags → new.repository.objects ≡ old.repository.objects
+pub other_tag : (old new : Loading) (tags : List FileTag) (t : FileTag) → is_entry t.part ≡ false → HasObjects old tags → new.repository.objects ≡ old.repository.objects
     → new.entry ≡ with_tag t old.entry → HasObjects new (tags ++ t ∷ [])
 other_tag old new tags t other h same entry = by old.entry refl
   where
@@ -62,7 +62,7 @@ other_tag old new tags t other h same entry = by old.entry refl
         }
 
 -- an entry's tag opens a new entry, behind the one before
-pub entry_tag : (old new : Loading) (tags : List Tag) (t : Tag) (o : OpenEntry) → is_entry t.part ≡ true → HasObjects old tags
+pub entry_tag : (old new : Loading) (tags : List FileTag) (t : FileTag) (o : OpenEntry) → is_entry t.part ≡ true → HasObjects old tags
     → new.repository.objects ≡ old.repository.objects ++ entry_list old.entry → new.entry ≡ Some o → entry_is o ≡ File.entry (kind_at t.part) t.attributes []
     → HasObjects new (tags ++ t ∷ [])
 entry_tag old new tags t o is h closed opened same = record {
@@ -76,21 +76,21 @@ entry_tag old new tags t o is h closed opened same = record {
 
 -- ---- an entry's tag
 
-module _ (tags : List Tag) (kind : ObjectKind) (attributes : List Attribute) (here : List Entry) (same : objects tags ≡ here) where
+module _ (tags : List FileTag) (kind : ObjectKind) (attributes : List Attribute) (here : List DictionaryEntry) (same : objects tags ≡ here) where
   -- its id is there already
-  pub id_twice : HasIdIn here (value_of id_name attributes) → IsLeastBroken tags (record { part = Part.Entry kind; attributes = attributes }) 3
-  id_twice h = by (value_of id_name attributes) refl h
+  pub id_twice : HasIdIn here (attribute_value id_name attributes) → IsLeastTagRule tags (record { part = Part.Entry kind; attributes = attributes }) 3
+  id_twice h = by (attribute_value id_name attributes) refl h
     where
-      by : (o : Option (List ℕ)) → value_of id_name attributes ≡ o → HasIdIn here o → IsLeastBroken tags (record { part = Part.Entry kind; attributes = attributes }) 3
+      by : (o : Option (List ℕ)) → attribute_value id_name attributes ≡ o → HasIdIn here o → IsLeastTagRule tags (record { part = Part.Entry kind; attributes = attributes }) 3
       by None e h = absurd h
       by (Some id) e h = least_twice tags kind attributes id e (subst (λ os. HasId os id) (sym same) h)
 
   -- or it is new
-  pub id_first : (HasIdIn here (value_of id_name attributes) → ⊥) → IsFirst tags kind attributes
+  pub id_first : (HasIdIn here (attribute_value id_name attributes) → ⊥) → IsFirst tags kind attributes
   id_first none id e h = none (subst (HasIdIn here) (sym e) (subst (λ os. HasId os id) same h))
 
   -- its numbers are none, or there is no memory
-  pub tells_facets : (stop : Stop) → (HasIdIn here (value_of id_name attributes) → ⊥) → TellsFacets kind attributes stop → TellsStop tags (record { part = Part.Entry kind; attributes = attributes }) stop
+  pub tells_facets : (stop : Stop) → (HasIdIn here (attribute_value id_name attributes) → ⊥) → TellsFacets kind attributes stop → TellsStop tags (record { part = Part.Entry kind; attributes = attributes }) stop
   tells_facets (Stop.Rule n) none (e, h) =
-      subst (IsLeastBroken tags (record { part = Part.Entry kind; attributes = attributes })) (sym e) (least_number tags kind attributes (id_first none) h)
+      subst (IsLeastTagRule tags (record { part = Part.Entry kind; attributes = attributes })) (sym e) (least_number tags kind attributes (id_first none) h)
   tells_facets Stop.Memory none h = tt

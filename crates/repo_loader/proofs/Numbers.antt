@@ -7,7 +7,7 @@ use Rattle.std.specs.Char.{digit_value, is_ascii_digit}
 use Rattle.std.specs.Int.{is_in_range}
 use Rattle.std.specs.Int.RustNames.{unsigned_abs}
 use Rattle.std.specs.Str.Parse.{AllDigits, digits_value}
-use Rattle.lexical_core.specs.Decimals.{Number, IsNumber, IsDecimal, DecimalParts, AreParts, SpellsDecimal, IsDecimalText, IsSign, decimal_spelling, fraction_digits, point_text, signed}
+use Rattle.lexical_core.specs.Decimals.{Number, IsNumber, IsDecimal, DecimalParts, AreParts, SpellsDecimal, IsDecimalText, IsSign, decimal_spelling, fraction_digits, point_text, signed_number}
 use Rattle.lexical_core.specs.DecimalAnswers.{IsDecimalAnswer}
 use Rattle.lexical_core.specs.declared.decimal_text.DecimalText.{DecimalText}
 use Rattle.lexical_core.specs.declared.decimal_text.DecimalText.TheVariants.{Value, TooLong, Bad}
@@ -15,11 +15,11 @@ use Rattle.lexical_core.proofs.DecimalLaws.{same_least, number_same}
 use Rattle.lexical_core.proofs.DecimalTexts.{no_digit}
 use Rattle.lexical_core.proofs.Numerals.{digit_range}
 use Rattle.lexical_core.proofs.Scales.{cross}
-use Rattle.repo_loader.specs.FileValues.{least, number_of, digits_in, fraction_count, is_minus, IsBound}
+use Rattle.repo_loader.specs.FileValues.{least, number_from_text, digits_in, fraction_count, is_minus, IsBound}
 
 -- ---- the least scale
 
-signed_size : (b : Bool) (n : ℕ) → unsigned_abs (signed b n) ≡ n
+signed_size : (b : Bool) (n : ℕ) → unsigned_abs (signed_number b n) ≡ n
 signed_size true zero = refl
 signed_size true (suc n) = refl
 signed_size false n = refl
@@ -29,9 +29,9 @@ pub record IsLeast (b : Bool) (size scale : ℕ) (n : Number) : Type 0 where
   pub number : IsNumber b size scale n
   pub least_scale : 0 < n.scale → 0 < unsigned_abs n.whole % 10
 
-as_it_is : (b : Bool) (size scale : ℕ) → (0 < scale → 0 < size % 10) → IsLeast b size scale (record { whole = signed b size; scale = scale })
+as_it_is : (b : Bool) (size scale : ℕ) → (0 < scale → 0 < size % 10) → IsLeast b size scale (record { whole = signed_number b size; scale = scale })
 as_it_is b size scale h = record {
-  number = record { same_size = ap (λ x. x * 10 ^ scale) (signed_size b size); same_sign = sym (ap (signed b) (signed_size b size)) };
+  number = record { same_size = ap (λ x. x * 10 ^ scale) (signed_size b size); same_sign = sym (ap (signed_number b) (signed_size b size)) };
   least_scale = λ l. subst (λ x. 0 < x % 10) (sym (signed_size b size)) (h l);
 }
 
@@ -58,7 +58,7 @@ least_is b size (suc scale) = by (size % 10 == 0) refl (least_is b (size / 10) s
     not_zero n h = grind (arith, nat_tests)
 
     by : (c : Bool) → (size % 10 == 0) ≡ c → IsLeast b (size / 10) scale (least b (size / 10) scale)
-        → IsLeast b size (suc scale) (if c then least b (size / 10) scale else record { whole = signed b size; scale = suc scale })
+        → IsLeast b size (suc scale) (if c then least b (size / 10) scale else record { whole = signed_number b size; scale = suc scale })
     by true e l = shorter b size scale (least b (size / 10) scale) (is_zero (size % 10) e) l
     by false e l = as_it_is b size (suc scale) (λ k. not_zero (size % 10) e)
 
@@ -122,7 +122,7 @@ minus_is b p h = by b h.sign
 
 -- the number of a text by its parts
 parts_number : (b : Bool) (p : DecimalParts) → AreParts b p
-    → number_of (decimal_spelling p) ≡ least b (digits_value 10 (p.whole ++ fraction_digits p.fraction)) (length (fraction_digits p.fraction))
+    → number_from_text (decimal_spelling p) ≡ least b (digits_value 10 (p.whole ++ fraction_digits p.fraction)) (length (fraction_digits p.fraction))
 parts_number b p h =
     let digits = digits_sign b p.sign (unsigned_text p) h.sign ∙ digits_front p.whole (point_text p.fraction) h.whole ∙ ap (λ l. p.whole ++ l) (digits_point p.fraction h.fraction) in
     let count = count_sign b p.sign (unsigned_text p) h.sign ∙ count_front p.whole (point_text p.fraction) h.whole ∙ count_point p.fraction in
@@ -132,7 +132,7 @@ parts_number b p h =
 -- ---- both ways
 
 -- a decimal that the text spells is its number
-pub spelled_number : (text : List ℕ) (n : Number) → IsDecimal n → SpellsDecimal text n → n ≡ number_of text
+pub spelled_number : (text : List ℕ) (n : Number) → IsDecimal n → SpellsDecimal text n → n ≡ number_from_text text
 spelled_number text n d (b, p, ps, e) =
     let V = digits_value 10 (p.whole ++ fraction_digits p.fraction) in
     let F = length (fraction_digits p.fraction) in
@@ -140,20 +140,20 @@ spelled_number text n d (b, p, ps, e) =
     let least_l = least_is b V F in
     let same = same_least (unsigned_abs n.whole) n.scale (unsigned_abs l.whole) l.scale
     (cross (unsigned_abs n.whole) l.scale (unsigned_abs l.whole) n.scale V F ps.number.same_size least_l.number.same_size) d.least least_l.least_scale in
-    number_same n l (ps.number.same_sign ∙ (ap (signed b) same.0 ∙ sym least_l.number.same_sign)) same.1
-    ∙ sym (ap number_of e ∙ parts_number b p ps.parts)
+    number_same n l (ps.number.same_sign ∙ (ap (signed_number b) same.0 ∙ sym least_l.number.same_sign)) same.1
+    ∙ sym (ap number_from_text e ∙ parts_number b p ps.parts)
 
 -- a decimal text spells its number
-pub text_spells : (text : List ℕ) → IsDecimalText text → SpellsDecimal text (number_of text)
+pub text_spells : (text : List ℕ) → IsDecimalText text → SpellsDecimal text (number_from_text text)
 text_spells text (b, p, parts, e) =
-    let is = ap number_of e ∙ parts_number b p parts in
+    let is = ap number_from_text e ∙ parts_number b p parts in
     (b, p, record { parts = parts; number = subst (IsNumber b _ _) (sym is) (least_is b _ _).number }, e)
 
 -- ---- the reader's answers
 
 -- the text is a bound with this number, or it is none
 abbrev pub TellsBound : List ℕ → DecimalText → Type 0
-TellsBound text (Value n) = IsBound text × (n ≡ number_of text)
+TellsBound text (Value n) = IsBound text × (n ≡ number_from_text text)
 TellsBound text TooLong = IsBound text → ⊥
 TellsBound text Bad = IsBound text → ⊥
 
@@ -161,5 +161,5 @@ pub tells_bound : (text : List ℕ) (answer : DecimalText) → IsDecimalAnswer t
 tells_bound text (Value n) (d, (b, p, ps, e)) =
     let same = spelled_number text n d (b, p, ps, e) in
     (((b, p, ps.parts, e), subst IsDecimal same d), same)
-tells_bound text TooLong (t, none) = λ h. none (number_of text) h.1 (text_spells text h.0)
+tells_bound text TooLong (t, none) = λ h. none (number_from_text text) h.1 (text_spells text h.0)
 tells_bound text Bad none = λ h. none h.0

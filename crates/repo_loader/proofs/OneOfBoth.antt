@@ -13,11 +13,11 @@ use Rattle.markup.proofs.TokenLaw.{one_token}
 use Rattle.markup.proofs.OneFault.{past, behind, one_fault, whole_has_none}
 use Rattle.repo_objects.specs.Repository.{Contents}
 use Rattle.repo_loader.specs.declared.fault.LoadFault.{LoadFault}
-use Rattle.repo_loader.specs.Selected.{Tag, PlacedTag, tree_tags}
+use Rattle.repo_loader.specs.Selected.{FileTag, PlacedTag, tree_tags}
 use Rattle.repo_loader.specs.File.{contents_of}
-use Rattle.repo_loader.specs.FileFaults.{Breaks, AreSound, tags_of}
+use Rattle.repo_loader.specs.FileFaults.{BreaksTagRule, AreSoundTags, tags_of}
 use Rattle.repo_loader.specs.Laws.{OneOfBoth}
-use Rattle.repo_loader.specs.Loaded.{limit, token_tags, Spells, HasLoadFault, broken, markup, long}
+use Rattle.repo_loader.specs.Loaded.{file_limit, token_tags, Spells, HasLoadFault, broken, markup, long}
 use Rattle.repo_loader.proofs.OneRepository.{whole_longest}
 use Rattle.repo_loader.proofs.WholeTrees.{whole_tree}
 
@@ -35,17 +35,17 @@ has_least P (suc n) k le p none = none k p (λ o q. by o (nat_le k o) refl (λ l
 -- ---- the first element that breaks a rule
 
 -- an element that breaks a rule behind these, the first and its least rule
-record Found (acc : List Tag) (ts : List PlacedTag) : Type 0 where
+record Found (acc : List FileTag) (ts : List PlacedTag) : Type 0 where
   before : List PlacedTag
   tag : PlacedTag
   after : List PlacedTag
   rule : ℕ
   split : ts ≡ before ++ tag ∷ after
-  sound : AreSound acc before
-  breaks : Breaks (acc ++ tags_of before) tag.tag rule
-  least : (other : ℕ) → Breaks (acc ++ tags_of before) tag.tag other → rule ≤ other
+  sound : AreSoundTags acc before
+  breaks : BreaksTagRule (acc ++ tags_of before) tag.tag rule
+  least : (other : ℕ) → BreaksTagRule (acc ++ tags_of before) tag.tag other → rule ≤ other
 
-sound_or_found : (acc : List Tag) (ts : List PlacedTag) → (AreSound acc ts → ⊥) → (Found acc ts → ⊥) → ⊥
+sound_or_found : (acc : List FileTag) (ts : List PlacedTag) → (AreSoundTags acc ts → ⊥) → (Found acc ts → ⊥) → ⊥
 sound_or_found acc [] s f = s tt
 sound_or_found acc (t ∷ ts) s f =
     sound_or_found (acc ++ t.tag ∷ []) ts (λ later. s (head, later))
@@ -56,20 +56,20 @@ sound_or_found acc (t ∷ ts) s f =
       rule = k.rule;
       split = ap (λ l. t ∷ l) k.split;
       sound = (head, k.sound);
-      breaks = subst (λ a. Breaks a k.tag.tag k.rule) (append_assoc acc (t.tag ∷ []) (tags_of k.before)) k.breaks;
-      least = λ o b. k.least o (subst (λ a. Breaks a k.tag.tag o) (sym (append_assoc acc (t.tag ∷ []) (tags_of k.before))) b);
+      breaks = subst (λ a. BreaksTagRule a k.tag.tag k.rule) (append_assoc acc (t.tag ∷ []) (tags_of k.before)) k.breaks;
+      least = λ o b. k.least o (subst (λ a. BreaksTagRule a k.tag.tag o) (sym (append_assoc acc (t.tag ∷ []) (tags_of k.before))) b);
     }))
   where
-    head : (rule : ℕ) → Breaks acc t.tag rule → ⊥
-    head rule b = has_least (Breaks acc t.tag) rule rule (omega arith) b (λ r p l. f (record {
+    head : (rule : ℕ) → BreaksTagRule acc t.tag rule → ⊥
+    head rule b = has_least (BreaksTagRule acc t.tag) rule rule (omega arith) b (λ r p l. f (record {
       before = [];
       tag = t;
       after = ts;
       rule = r;
       split = refl;
       sound = tt;
-      breaks = subst (λ a. Breaks a t.tag r) (sym (append-nil acc)) p;
-      least = λ o q. l o (subst (λ a. Breaks a t.tag o) (append-nil acc) q);
+      breaks = subst (λ a. BreaksTagRule a t.tag r) (sym (append-nil acc)) p;
+      least = λ o q. l o (subst (λ a. BreaksTagRule a t.tag o) (append-nil acc) q);
     }))
 
 -- ---- bytes that end too early
@@ -98,21 +98,21 @@ cut_longest n before bytes x y (u ∷ us) (t ∷ ts) rule at f next e g =
 
 module _ (bytes : List ℕ) (none_spelled : (x : Contents) → Spells bytes x → ⊥) (none_fault : (f : LoadFault) → HasLoadFault bytes f → ⊥) where
   -- the elements of these tokens break no rule
-  all_sound : (ts : List Token) (rest : List ℕ) → Front tag_limit [] (take limit bytes) ts rest → IsClean [] ts → (AreSound [] (token_tags ts) → ⊥) → ⊥
+  all_sound : (ts : List Token) (rest : List ℕ) → Front tag_limit [] (take file_limit bytes) ts rest → IsClean [] ts → (AreSoundTags [] (token_tags ts) → ⊥) → ⊥
   all_sound ts rest f c s = sound_or_found [] (token_tags ts) s (λ k. none_fault (record { rule = k.rule; markup = None; place = k.tag.place })
       (broken ts rest f c (record { before = k.before; tag = k.tag; after = k.after; split = k.split; sound = k.sound; broken = k.breaks; least = k.least; place_is = refl }) refl))
 
-  whole : IsWhole (take limit bytes) → ⊥
-  whole w = all_sound w.tokens [] w.marks w.clean (λ sound. by sound (nat_le (length bytes) limit) refl)
+  whole : IsWhole (take file_limit bytes) → ⊥
+  whole w = all_sound w.tokens [] w.marks w.clean (λ sound. by sound (nat_le (length bytes) file_limit) refl)
     where
-      by : AreSound [] (token_tags w.tokens) → (b : Bool) → nat_le (length bytes) limit ≡ b → ⊥
+      by : AreSoundTags [] (token_tags w.tokens) → (b : Bool) → nat_le (length bytes) file_limit ≡ b → ⊥
       by sound true e =
-          let short : length bytes ≤ limit = grind (arith, nat_tests) in
+          let short : length bytes ≤ file_limit = grind (arith, nat_tests) in
           let tree = whole_tree w.tokens w.clean w.over in
           none_spelled (contents_of (tree_tags tree.0)) (record {
             short = short;
             tokens = w.tokens;
-            marks = subst (λ v. Front tag_limit [] v w.tokens []) (take_all limit bytes short) w.marks;
+            marks = subst (λ v. Front tag_limit [] v w.tokens []) (take_all file_limit bytes short) w.marks;
             clean = w.clean;
             over = w.over;
             sound = sound;
@@ -121,25 +121,25 @@ module _ (bytes : List ℕ) (none_spelled : (x : Contents) → Spells bytes x �
             contents_are = refl;
           })
       by sound false e =
-          let more : limit < length bytes = grind (arith, nat_tests) in
-          none_fault (record { rule = 6; markup = None; place = limit })
-          (long w.tokens more (record { rest = []; front = w.marks; longest = λ us y f. whole_longest tag_limit [] (take limit bytes) y w.tokens us w.marks f }) w.clean
-          (λ f m. absurd (whole_has_none (take limit bytes) f w m)) sound refl)
+          let more : file_limit < length bytes = grind (arith, nat_tests) in
+          none_fault (record { rule = 6; markup = None; place = file_limit })
+          (long w.tokens more (record { rest = []; front = w.marks; longest = λ us y f. whole_longest tag_limit [] (take file_limit bytes) y w.tokens us w.marks f }) w.clean
+          (λ f m. absurd (whole_has_none (take file_limit bytes) f w m)) sound refl)
 
-  faulty : (f : Fault) → MarkFault (take limit bytes) f → ⊥
-  faulty f m = all_sound m.tokens m.rest m.front m.clean (λ sound. none_fault (record { rule = 1; markup = Some f.rule; place = f.place }) (markup f m (λ e. by sound e (nat_le (length bytes) limit) refl) sound refl))
+  faulty : (f : Fault) → MarkFault (take file_limit bytes) f → ⊥
+  faulty f m = all_sound m.tokens m.rest m.front m.clean (λ sound. none_fault (record { rule = 1; markup = Some f.rule; place = f.place }) (markup f m (λ e. by sound e (nat_le (length bytes) file_limit) refl) sound refl))
     where
-      by : AreSound [] (token_tags m.tokens) → f.rule ≡ Truncated → (b : Bool) → nat_le (length bytes) limit ≡ b → length bytes ≤ limit
+      by : AreSoundTags [] (token_tags m.tokens) → f.rule ≡ Truncated → (b : Bool) → nat_le (length bytes) file_limit ≡ b → length bytes ≤ file_limit
       by sound e true k = grind (arith, nat_tests)
       by sound e false k =
-          let more : limit < length bytes = grind (arith, nat_tests) in
-          absurd (none_fault (record { rule = 6; markup = None; place = limit })
-          (long m.tokens more (record { rest = m.rest; front = m.front; longest = λ us y g. cut_longest tag_limit [] (take limit bytes) y m.rest m.tokens us f.rule m.at m.front (subst (λ v. Next tag_limit v m.rest f.rule m.at) (behind m.tokens) m.next) e g }) m.clean
-          (λ g k. ap (λ (x : Fault). x.rule) (one_fault (take limit bytes) g f k m) ∙ e) sound refl))
+          let more : file_limit < length bytes = grind (arith, nat_tests) in
+          absurd (none_fault (record { rule = 6; markup = None; place = file_limit })
+          (long m.tokens more (record { rest = m.rest; front = m.front; longest = λ us y g. cut_longest tag_limit [] (take file_limit bytes) y m.rest m.tokens us f.rule m.at m.front (subst (λ v. Next tag_limit v m.rest f.rule m.at) (behind m.tokens) m.next) e g }) m.clean
+          (λ g k. ap (λ (x : Fault). x.rule) (one_fault (take file_limit bytes) g f k m) ∙ e) sound refl))
 
 pub one_of_both : WholeOrFaulty → OneOfBoth
-one_of_both given bytes none_spelled none_fault = by (given (take limit bytes))
+one_of_both given bytes none_spelled none_fault = by (given (take file_limit bytes))
   where
-    by : IsWhole (take limit bytes) ⊎ ((f : Fault) × MarkFault (take limit bytes) f) → ⊥
+    by : IsWhole (take file_limit bytes) ⊎ ((f : Fault) × MarkFault (take file_limit bytes) f) → ⊥
     by (inl w) = whole bytes none_spelled none_fault w
     by (inr (f, m)) = faulty bytes none_spelled none_fault f m

@@ -12,7 +12,7 @@ use Rattle.repo_objects.specs.Repository.{Contents}
 use Rattle.repo_loader.specs.declared.fault.LoadFault.{LoadFault}
 use Rattle.repo_loader.specs.File.{contents_of}
 use Rattle.repo_loader.specs.FileFaults.{tags_of}
-use Rattle.repo_loader.specs.Loaded.{limit, token_tags, Spells, HasLoadFault, broken, markup, long}
+use Rattle.repo_loader.specs.Loaded.{file_limit, token_tags, Spells, HasLoadFault, broken, markup, long}
 use Rattle.repo_loader.proofs.TreeSelection.{selects_the_tree}
 use Rattle.repo_loader.proofs.OneLoadFault.{not_sound}
 
@@ -37,8 +37,8 @@ one_repository bytes x y h k =
 pub spelled_has_none : (bytes : List ℕ) (x : Contents) (f : LoadFault) → Spells bytes x → HasLoadFault bytes f → ⊥
 spelled_has_none bytes x f h k = by k
   where
-    all : take limit bytes ≡ bytes
-    all = take_all limit bytes h.short
+    all : take file_limit bytes ≡ bytes
+    all = take_all file_limit bytes h.short
 
     by : HasLoadFault bytes f → ⊥
     by (broken ts rest a b first none) =
@@ -46,4 +46,4 @@ spelled_has_none bytes x f h k = by k
         not_sound ts h.tokens r.0 f.rule f.place r.1 first h.sound
     by (markup m g counts s e) =
         whole_has_none bytes m (record { tokens = h.tokens; marks = h.marks; clean = h.clean; over = h.over }) (subst (λ v. MarkFault v m) all g)
-    by (long us over l c only s e) = let short : length bytes ≤ limit = h.short in omega (arith, short, over)
+    by (long us over l c only s e) = let short : length bytes ≤ file_limit = h.short in omega (arith, short, over)

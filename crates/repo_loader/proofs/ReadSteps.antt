@@ -8,10 +8,10 @@ use Rattle.lexical_core.specs.declared.rule.Rule.TheVariants.{Truncated}
 use Rattle.markup.specs.Token.{Token, token_bytes}
 use Rattle.markup.specs.Marks.{Front, tag_limit}
 use Rattle.markup.specs.Events.{Placed, events}
-use Rattle.markup.specs.EventItems.{placed, Tells}
+use Rattle.markup.specs.EventItems.{placed_event, Tells}
 use Rattle.markup.specs.Faults.{Fault, MarkFault, IsClean, Next}
 use Rattle.markup.specs.Literals.{IsRun, characters_from}
-use Rattle.markup.specs.Reading.{HasTaken, HasTold, IsWholly, GoesOn, Refuses, taken, fault_of}
+use Rattle.markup.specs.Reading.{HasTaken, HasTold, IsWholly, GoesOn, Refuses, bytes_taken, fault_of}
 use Rattle.markup.specs.declared.event.Event.{Event}
 use Rattle.markup.specs.declared.reader.MarkFault.{MarkFault as Told}
 use Rattle.markup.specs.declared.reader.Reader.{Reader}
@@ -21,11 +21,11 @@ use Rattle.repo_objects.specs.Repository.{Contents}
 use Rattle.repo_loader.specs.declared.fault.LoadFault.{LoadFault}
 use Rattle.repo_loader.specs.declared.progress.Progress.{Progress}
 use Rattle.repo_loader.specs.Selected.{event_tags}
-use Rattle.repo_loader.specs.FileFaults.{AreSound, IsFirstBroken}
-use Rattle.repo_loader.specs.Loaded.{limit, token_tags, HasLoadFault, Spells, broken, markup}
+use Rattle.repo_loader.specs.FileFaults.{AreSoundTags, IsFirstBroken}
+use Rattle.repo_loader.specs.Loaded.{file_limit, token_tags, HasLoadFault, Spells, broken, markup}
 use Rattle.repo_loader.specs.inner.SelectionSteps.{HasItemTexts, HaveTexts, HasLoaded, IsBrokenBy, LoadsOn}
 use Rattle.repo_loader.specs.declared.progress.Front.TheVariants.{Breaks}
-use Rattle.repo_loader.specs.inner.ProgressSteps.{markup_fault, HasRead, HasAll, TellsFault, Shows, ReadsOn, ReadsFront}
+use Rattle.repo_loader.specs.inner.ProgressSteps.{markup_fault, HasReadFile, HasAll, TellsFault, ShowsLoadFault, ReadsOn, ReadsFront}
 use Rattle.repo_loader.proofs.Texts.{events_texts}
 use Rattle.repo_loader.proofs.EventSteps.{run_loaded}
 use Rattle.repo_loader.proofs.OneLoadFault.{front_before}
@@ -39,16 +39,16 @@ texts_behind : (xs ys : List Placed) → PlacedTexts (xs ++ ys) → PlacedTexts 
 texts_behind [] ys h = h
 texts_behind (x ∷ xs) ys h = texts_behind xs ys h.1
 
-texts_of : (es : List Event) → PlacedTexts (map placed es) → HaveTexts es
+texts_of : (es : List Event) → PlacedTexts (map placed_event es) → HaveTexts es
 texts_of [] h = tt
 texts_of (e ∷ es) h = (h.0, texts_of es h.1)
 
-token_texts : (told : List Placed) (es : List Event) (bytes : List ℕ) (ts : List Token) (rest : List ℕ) → Front tag_limit [] bytes ts rest → told ++ map placed es ≡ events [] 0 ts → HaveTexts es
-token_texts told es bytes ts rest f e = texts_of es (texts_behind told (map placed es) (subst PlacedTexts (sym e) (events_texts tag_limit [] 0 bytes ts rest f)))
+token_texts : (told : List Placed) (es : List Event) (bytes : List ℕ) (ts : List Token) (rest : List ℕ) → Front tag_limit [] bytes ts rest → told ++ map placed_event es ≡ events [] 0 ts → HaveTexts es
+token_texts told es bytes ts rest f e = texts_of es (texts_behind told (map placed_event es) (subst PlacedTexts (sym e) (events_texts tag_limit [] 0 bytes ts rest f)))
 
 -- the events that were appended to none
-pub new_events : (old new : List Event) (more : List Placed) → old ≡ [] → Tells old new more → more ≡ map placed new
-new_events old new more e t = sym t.told_are ∙ ap (map placed) (sym (t.appended ∙ ap (λ v. v ++ t.more) e))
+pub new_events : (old new : List Event) (more : List Placed) → old ≡ [] → Tells old new more → more ≡ map placed_event new
+new_events old new more e t = sym t.told_are ∙ ap (map placed_event) (sym (t.appended ∙ ap (λ v. v ++ t.more) e))
 
 pub goes_texts : (reader : Reader) (bytes : List ℕ) (told : List Placed) (old new : List Event) → old ≡ [] → GoesOn reader bytes told old new → HaveTexts new
 goes_texts reader bytes told old new e g =
@@ -65,23 +65,23 @@ take_past xs ys n h = ap (λ k. take k (xs ++ ys)) (gap (length xs) n h) ∙ tak
   gap : (a n : ℕ) → a ≤ n → n ≡ a + (n - a)
   gap a n h = omega (arith, h)
 
-pub limit_of : (a rest : List ℕ) → length a ≤ limit → take limit (a ++ rest) ≡ a ++ take (limit - length a) rest
-limit_of a rest h = take_past a rest limit h
+pub limit_of : (a rest : List ℕ) → length a ≤ file_limit → take file_limit (a ++ rest) ≡ a ++ take (file_limit - length a) rest
+limit_of a rest h = take_past a rest file_limit h
 
 -- Whatever follows the bytes, the events are those of tokens at the front, in which nothing breaks a rule.
 abbrev Stays : List ℕ → List Placed → Type 0
 Stays bytes told = (more : List ℕ) → (tokens : List Token) × (rest : List ℕ) × Front tag_limit [] (bytes ++ more) tokens rest × IsClean [] tokens × (told ≡ events [] 0 tokens)
 
-broken_shows : (bytes : List ℕ) (told : List Placed) (fault : LoadFault) → Stays bytes told → IsBrokenBy told fault → Shows bytes fault
+broken_shows : (bytes : List ℕ) (told : List Placed) (fault : LoadFault) → Stays bytes told → IsBrokenBy told fault → ShowsLoadFault bytes fault
 broken_shows bytes told fault stays b more short =
-    let s = stays (take (limit - length bytes) more) in
+    let s = stays (take (file_limit - length bytes) more) in
     broken s.0 s.1 (subst (λ v. Front tag_limit [] v s.0 s.1) (sym (limit_of bytes more short)) s.2) s.3
     (subst (λ es. IsFirstBroken (event_tags [] es) fault.rule fault.place) s.4 b.first) b.no_markup
 
 -- a fault of markup, where the elements before it break none
-pub markup_found : (all x : List ℕ) (fault : Told) → take limit all ≡ x → (m : MarkFault x (fault_of fault)) → AreSound [] (token_tags m.tokens) → (fault.rule ≡ Truncated → length all ≤ limit) → HasLoadFault all (markup_fault fault)
+pub markup_found : (all x : List ℕ) (fault : Told) → take file_limit all ≡ x → (m : MarkFault x (fault_of fault)) → AreSoundTags [] (token_tags m.tokens) → (fault.rule ≡ Truncated → length all ≤ file_limit) → HasLoadFault all (markup_fault fault)
 markup_found all x fault e m s counts =
-    subst (λ v. (m : MarkFault v (fault_of fault)) → AreSound [] (token_tags m.tokens) → HasLoadFault all (markup_fault fault)) e (λ m s. markup (fault_of fault) m counts s refl) m s
+    subst (λ v. (m : MarkFault v (fault_of fault)) → AreSoundTags [] (token_tags m.tokens) → HasLoadFault all (markup_fault fault)) e (λ m s. markup (fault_of fault) m counts s refl) m s
 
 no_more : (more : List Token) → length (flat_map token_bytes more) ≡ 0 → more ≡ []
 no_more [] h = refl
@@ -105,46 +105,46 @@ same_tokens bytes ts rest fault m f clean before =
     let more : r.0 ≡ [] = no_more r.0 (omega (arith, place, before, long, bytes_more ts r.0)) in
     r.1 ∙ (ap (λ us. ts ++ us) more ∙ append-nil ts)
 
-markup_shows : (bytes : List ℕ) (told : List Placed) (old new : List Event) (fault : Told) → old ≡ [] → Refuses bytes told old new fault → AreSound [] (event_tags [] (told ++ map placed new)) → Shows bytes (markup_fault fault)
+markup_shows : (bytes : List ℕ) (told : List Placed) (old new : List Event) (fault : Told) → old ≡ [] → Refuses bytes told old new fault → AreSoundTags [] (event_tags [] (told ++ map placed_event new)) → ShowsLoadFault bytes (markup_fault fault)
 markup_shows bytes told old new fault e k s more short =
-    let behind = take (limit - length bytes) more in
+    let behind = take (file_limit - length bytes) more in
     let m = k.has_fault behind in
     let same = same_tokens (bytes ++ behind) k.tokens (k.rest ++ behind) (fault_of fault) m (k.front behind) k.clean k.before in
-    let are : told ++ map placed new ≡ events [] 0 m.tokens = ap (λ v. told ++ v) (sym (new_events old new k.more e k.tells)) ∙ k.events_are ∙ ap (events [] 0) (sym same) in
-    markup_found (bytes ++ more) (bytes ++ behind) fault (limit_of bytes more short) m (subst (λ es. AreSound [] (event_tags [] es)) are s) (λ t. absurd (k.no_cut t))
+    let are : told ++ map placed_event new ≡ events [] 0 m.tokens = ap (λ v. told ++ v) (sym (new_events old new k.more e k.tells)) ∙ k.events_are ∙ ap (events [] 0) (sym same) in
+    markup_found (bytes ++ more) (bytes ++ behind) fault (limit_of bytes more short) m (subst (λ es. AreSoundTags [] (event_tags [] es)) are s) (λ t. absurd (k.no_cut t))
 
 -- ---- more bytes, with the events that they show
 
-module _ (old new : Progress) (bytes more : List ℕ) (es : List Event) (h : HasRead old bytes) (g : GoesOn new.reader (bytes ++ more) h.told old.events es) where
-  now_taken : HasTaken new.reader (bytes ++ more) (h.told ++ map placed es)
+module _ (old new : Progress) (bytes more : List ℕ) (es : List Event) (h : HasReadFile old bytes) (g : GoesOn new.reader (bytes ++ more) h.told old.events es) where
+  now_taken : HasTaken new.reader (bytes ++ more) (h.told ++ map placed_event es)
   now_taken = subst (λ v. HasTaken new.reader (bytes ++ more) (h.told ++ v)) (new_events old.events es g.more h.none g.tells) g.taken_are
 
-  pub reads_on : taken new.reader ≡ taken old.reader + length more → new.events ≡ [] → (o : Option LoadFault) → LoadsOn new.selection (h.told ++ map placed es) o → ReadsOn new (bytes ++ more) o
+  pub reads_on : bytes_taken new.reader ≡ bytes_taken old.reader + length more → new.events ≡ [] → (o : Option LoadFault) → LoadsOn new.selection (h.told ++ map placed_event es) o → ReadsOn new (bytes ++ more) o
   reads_on n none None l = record {
-    told = h.told ++ map placed es;
+    told = h.told ++ map placed_event es;
     given = now_taken;
     counted = n ∙ (ap (λ v. v + length more) h.counted ∙ sym (length-append bytes more));
     loaded = l;
     none = none;
   }
-  reads_on n none (Some fault) b = broken_shows (bytes ++ more) (h.told ++ map placed es) fault (events_stay new.reader (bytes ++ more) (h.told ++ map placed es) now_taken) b
+  reads_on n none (Some fault) b = broken_shows (bytes ++ more) (h.told ++ map placed_event es) fault (events_stay new.reader (bytes ++ more) (h.told ++ map placed_event es) now_taken) b
 
 -- where nothing was taken, what was read stays
-pub still_read : (old new : Progress) (bytes : List ℕ) → new.reader ≡ old.reader → new.events ≡ old.events → new.selection ≡ old.selection → HasRead old bytes → HasRead new bytes
+pub still_read : (old new : Progress) (bytes : List ℕ) → new.reader ≡ old.reader → new.events ≡ old.events → new.selection ≡ old.selection → HasReadFile old bytes → HasReadFile new bytes
 still_read old new bytes reader events selection h = record {
   told = h.told;
   given = subst (λ r. HasTaken r bytes h.told) (sym reader) h.given;
-  counted = ap taken reader ∙ h.counted;
+  counted = ap bytes_taken reader ∙ h.counted;
   loaded = subst (λ s. HasLoaded s h.told) (sym selection) h.loaded;
   none = events ∙ h.none;
 }
 
 -- the bytes show a fault of markup
-pub first_shows : (bytes : List ℕ) (told : List Placed) (old new : List Event) (mark : Told) (fault : LoadFault) → old ≡ [] → Refuses bytes told old new mark → TellsFault (told ++ map placed new) mark fault → Shows bytes fault
+pub first_shows : (bytes : List ℕ) (told : List Placed) (old new : List Event) (mark : Told) (fault : LoadFault) → old ≡ [] → Refuses bytes told old new mark → TellsFault (told ++ map placed_event new) mark fault → ShowsLoadFault bytes fault
 first_shows bytes told old new mark fault e k (inl b) =
-    broken_shows bytes (told ++ map placed new) fault (λ more. (k.tokens, k.rest ++ more, k.front more, k.clean, ap (λ v. told ++ v) (sym (new_events old new k.more e k.tells)) ∙ k.events_are)) b
+    broken_shows bytes (told ++ map placed_event new) fault (λ more. (k.tokens, k.rest ++ more, k.front more, k.clean, ap (λ v. told ++ v) (sym (new_events old new k.more e k.tells)) ∙ k.events_are)) b
 first_shows bytes told old new mark fault e k (inr (s, same)) =
-    subst (Shows bytes) (sym same) (markup_shows bytes told old new mark e k s)
+    subst (ShowsLoadFault bytes) (sym same) (markup_shows bytes told old new mark e k s)
 
 pub if_none : {A E : Type 0} {P : Type 0} (r : Result (Option A) E) → P → IfOk r (λ o. IfNone o P)
 if_none (Ok None) p = p
@@ -157,14 +157,14 @@ ok_map (Err e) f p = tt
 
 -- The bytes that a source had left are all that were read, so they spell what these spell.
 pub all_spell : (left : Option (List ℕ)) (p : Progress) (r : Contents) → HasAll left p
-    → ((bytes : List ℕ) (told : List Placed) → HasLoaded p.selection told → IsWholly bytes told → length bytes ≤ limit → Spells bytes r) → IfSome left (λ bytes. Spells bytes r)
+    → ((bytes : List ℕ) (told : List Placed) → HasLoaded p.selection told → IsWholly bytes told → length bytes ≤ file_limit → Spells bytes r) → IfSome left (λ bytes. Spells bytes r)
 all_spell None p r h spell = tt
 all_spell (Some known) p r h spell = subst (λ b. Spells b r) (sym h.all) (spell h.bytes h.whole.told h.whole.loaded h.whole.wholly h.short)
 
 -- ---- a run of characters
 
-pub read_run : (old new : Progress) (bytes piece : List ℕ) (count : ℕ) (run : IsRun piece count) (h : HasRead old bytes) → HasTold new.reader (bytes ++ piece) (h.told ++ characters_from (length bytes) run.characters)
-    → taken new.reader ≡ taken old.reader + length piece → new.selection ≡ old.selection → new.events ≡ old.events → HasRead new (bytes ++ piece)
+pub read_run : (old new : Progress) (bytes piece : List ℕ) (count : ℕ) (run : IsRun piece count) (h : HasReadFile old bytes) → HasTold new.reader (bytes ++ piece) (h.told ++ characters_from (length bytes) run.characters)
+    → bytes_taken new.reader ≡ bytes_taken old.reader + length piece → new.selection ≡ old.selection → new.events ≡ old.events → HasReadFile new (bytes ++ piece)
 read_run old new bytes piece count run h g n same none = record {
   told = h.told ++ characters_from (length bytes) run.characters;
   given = g.taken_are;
@@ -174,13 +174,13 @@ read_run old new bytes piece count run h g n same none = record {
 }
 
 -- bytes inside a token show no event
-pub read_inside : (old new : Progress) (bytes piece : List ℕ) (n : ℕ) (h : HasRead old bytes) → n ≤ length piece
+pub read_inside : (old new : Progress) (bytes piece : List ℕ) (n : ℕ) (h : HasReadFile old bytes) → n ≤ length piece
     → (n ≡ 0 → new.reader ≡ old.reader) → (0 < n → HasTold new.reader (bytes ++ take n piece) h.told)
-    → taken new.reader ≡ taken old.reader + n → new.selection ≡ old.selection → new.events ≡ old.events → HasRead new (bytes ++ take n piece)
+    → bytes_taken new.reader ≡ bytes_taken old.reader + n → new.selection ≡ old.selection → new.events ≡ old.events → HasReadFile new (bytes ++ take n piece)
 read_inside old new bytes piece zero h within still told counted same none = record {
   told = h.told;
   given = subst (λ b. HasTaken new.reader b h.told) (sym (append-nil bytes)) (subst (λ r. HasTaken r bytes h.told) (sym (still refl)) h.given);
-  counted = ap taken (still refl) ∙ (h.counted ∙ ap length (sym (append-nil bytes)));
+  counted = ap bytes_taken (still refl) ∙ (h.counted ∙ ap length (sym (append-nil bytes)));
   loaded = subst (λ s. HasLoaded s h.told) (sym same) h.loaded;
   none = none ∙ h.none;
 }
@@ -198,45 +198,45 @@ read_inside old new bytes piece (suc n) h within still told counted same none = 
 pub record ReadSoFar (p : Progress) (bytes piece rest : List ℕ) : Type 0 where
   pub seen : List ℕ
   pub piece_is : piece ≡ seen ++ rest
-  pub read : HasRead p (bytes ++ seen)
+  pub read : HasReadFile p (bytes ++ seen)
 
-pub nothing_seen : (p : Progress) (bytes piece : List ℕ) → HasRead p bytes → ReadSoFar p bytes piece piece
-nothing_seen p bytes piece h = record { seen = []; piece_is = refl; read = subst (HasRead p) (sym (append-nil bytes)) h }
+pub nothing_seen : (p : Progress) (bytes piece : List ℕ) → HasReadFile p bytes → ReadSoFar p bytes piece piece
+nothing_seen p bytes piece h = record { seen = []; piece_is = refl; read = subst (HasReadFile p) (sym (append-nil bytes)) h }
 
 -- a run at the front of the rest is read
-pub run_seen : (old new : Progress) (bytes piece rest left : List ℕ) (n : ℕ) (s : ReadSoFar old bytes piece rest) → left ≡ drop n rest → HasRead new ((bytes ++ s.seen) ++ take n rest) → ReadSoFar new bytes piece left
+pub run_seen : (old new : Progress) (bytes piece rest left : List ℕ) (n : ℕ) (s : ReadSoFar old bytes piece rest) → left ≡ drop n rest → HasReadFile new ((bytes ++ s.seen) ++ take n rest) → ReadSoFar new bytes piece left
 run_seen old new bytes piece rest left n s e h = record {
   seen = s.seen ++ take n rest;
   piece_is = s.piece_is ∙ (ap (λ v. s.seen ++ v) (sym (take-append-drop n rest)) ∙ (sym (append_assoc s.seen (take n rest) (drop n rest)) ∙ ap (λ v. (s.seen ++ take n rest) ++ v) (sym e)));
-  read = subst (HasRead new) (append_assoc bytes s.seen (take n rest)) h;
+  read = subst (HasReadFile new) (append_assoc bytes s.seen (take n rest)) h;
 }
 
-shows_more : (bytes more : List ℕ) (fault : LoadFault) → Shows bytes fault → Shows (bytes ++ more) fault
+shows_more : (bytes more : List ℕ) (fault : LoadFault) → ShowsLoadFault bytes fault → ShowsLoadFault (bytes ++ more) fault
 shows_more bytes more fault s rest short =
     subst (λ v. HasLoadFault v fault) (sym (append_assoc bytes more rest)) (s (more ++ rest) (omega (arith, short, length-append bytes more)))
 
 -- a fault that bytes of the rest show
-pub fault_seen : (old : Progress) (bytes piece rest : List ℕ) (fault : LoadFault) (s : ReadSoFar old bytes piece rest) → Shows ((bytes ++ s.seen) ++ rest) fault → Shows (bytes ++ piece) fault
+pub fault_seen : (old : Progress) (bytes piece rest : List ℕ) (fault : LoadFault) (s : ReadSoFar old bytes piece rest) → ShowsLoadFault ((bytes ++ s.seen) ++ rest) fault → ShowsLoadFault (bytes ++ piece) fault
 fault_seen old bytes piece rest fault s k =
-    subst (λ v. Shows v fault) (append_assoc bytes s.seen rest ∙ ap (λ v. bytes ++ v) (sym s.piece_is)) k
+    subst (λ v. ShowsLoadFault v fault) (append_assoc bytes s.seen rest ∙ ap (λ v. bytes ++ v) (sym s.piece_is)) k
 
-pub all_seen : (p : Progress) (bytes piece : List ℕ) → ReadSoFar p bytes piece [] → HasRead p (bytes ++ piece)
-all_seen p bytes piece s = subst (λ v. HasRead p (bytes ++ v)) (sym (s.piece_is ∙ append-nil s.seen)) s.read
+pub all_seen : (p : Progress) (bytes piece : List ℕ) → ReadSoFar p bytes piece [] → HasReadFile p (bytes ++ piece)
+all_seen p bytes piece s = subst (λ v. HasReadFile p (bytes ++ v)) (sym (s.piece_is ∙ append-nil s.seen)) s.read
 
 -- ---- what stands at the front of a piece
 
 -- so many bytes of it were given to the reader, and their events are read
-pub front_on : (old new : Progress) (bytes piece : List ℕ) (n : ℕ) (reader : Reader) (es : List Event) (h : HasRead old bytes) → GoesOn reader (bytes ++ take n piece) h.told old.events es → n ≤ length piece
-    → taken reader ≡ taken old.reader + n → new.reader ≡ reader → new.events ≡ [] → (o : Option LoadFault) → LoadsOn new.selection (h.told ++ map placed es) o → ReadsOn new (bytes ++ take n piece) o
+pub front_on : (old new : Progress) (bytes piece : List ℕ) (n : ℕ) (reader : Reader) (es : List Event) (h : HasReadFile old bytes) → GoesOn reader (bytes ++ take n piece) h.told old.events es → n ≤ length piece
+    → bytes_taken reader ≡ bytes_taken old.reader + n → new.reader ≡ reader → new.events ≡ [] → (o : Option LoadFault) → LoadsOn new.selection (h.told ++ map placed_event es) o → ReadsOn new (bytes ++ take n piece) o
 front_on old new bytes piece n reader es h g within counted same none o l =
     reads_on old new bytes (take n piece) es h (subst (λ r. GoesOn r (bytes ++ take n piece) h.told old.events es) (sym same) g)
-    (ap taken same ∙ (counted ∙ ap (λ v. taken old.reader + v) (sym (length-take-le n piece within)))) none o l
+    (ap bytes_taken same ∙ (counted ∙ ap (λ v. bytes_taken old.reader + v) (sym (length-take-le n piece within)))) none o l
 
 -- no bytes were taken
-pub none_read : (p : Progress) (bytes piece : List ℕ) (n : ℕ) → n ≡ 0 → HasRead p (bytes ++ take n piece) → HasRead p bytes
-none_read p bytes piece n e h = subst (HasRead p) (append-nil bytes) (subst (λ k. HasRead p (bytes ++ take k piece)) e h)
+pub none_read : (p : Progress) (bytes piece : List ℕ) (n : ℕ) → n ≡ 0 → HasReadFile p (bytes ++ take n piece) → HasReadFile p bytes
+none_read p bytes piece n e h = subst (HasReadFile p) (append-nil bytes) (subst (λ k. HasReadFile p (bytes ++ take k piece)) e h)
 
 -- a fault that the front shows
 pub front_broken : (new : Progress) (bytes piece : List ℕ) (n : ℕ) (fault : LoadFault) → ReadsOn new (bytes ++ take n piece) (Some fault) → ReadsFront new bytes piece (Breaks fault)
 front_broken new bytes piece n fault h =
-    subst (λ v. Shows v fault) (append_assoc bytes (take n piece) (drop n piece) ∙ ap (λ v. bytes ++ v) (take-append-drop n piece)) (shows_more (bytes ++ take n piece) (drop n piece) fault h)
+    subst (λ v. ShowsLoadFault v fault) (append_assoc bytes (take n piece) (drop n piece) ∙ ap (λ v. bytes ++ v) (take-append-drop n piece)) (shows_more (bytes ++ take n piece) (drop n piece) fault h)

@@ -9,18 +9,18 @@ use Rattle.repo_objects.specs.declared.objects.ElementDef.{ElementDef}
 use Rattle.repo_objects.specs.declared.objects.Object.{Object}
 use Rattle.repo_objects.specs.Repository.{Contents}
 use Rattle.repo_loader.specs.FileNames.{own, id_name, type_name, root_name}
-use Rattle.repo_loader.specs.FileValues.{number_of, is_count, kind_of}
+use Rattle.repo_loader.specs.FileValues.{number_from_text, is_count, object_kind_of}
 use Rattle.repo_loader.specs.Selected.{tree_tags}
 use Rattle.repo_loader.specs.File.{contents_of}
 
 -- numbers
-one_and_a_half : number_of (codes "1.50") ≡ record { whole = pos 15; scale = 1 }
+one_and_a_half : number_from_text (codes "1.50") ≡ record { whole = pos 15; scale = 1 }
 one_and_a_half = refl
 
-minus_zero : number_of (codes "-0") ≡ record { whole = pos 0; scale = 0 }
+minus_zero : number_from_text (codes "-0") ≡ record { whole = pos 0; scale = 0 }
 minus_zero = refl
 
-below_zero : number_of (codes "-.5") ≡ record { whole = neg_ℤ (pos 5); scale = 1 }
+below_zero : number_from_text (codes "-.5") ≡ record { whole = neg_ℤ (pos 5); scale = 1 }
 below_zero = refl
 
 greatest : is_count (codes "4294967295") ≡ true
@@ -36,7 +36,7 @@ no_digits : is_count [] ≡ false
 no_digits = refl
 
 -- kinds
-two_colons : kind_of (record { name = type_name; value = codes "a:b:Text" } ∷ []) ≡ Other
+two_colons : object_kind_of (record { name = type_name; value = codes "a:b:Text" } ∷ []) ≡ Other
 two_colons = refl
 
 -- the file of a note

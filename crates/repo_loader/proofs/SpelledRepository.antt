@@ -5,15 +5,15 @@ use Rattle.std.proofs.lemmas.List.Elements.{Contains-get_or}
 use Rattle.std.proofs.lemmas.List.Quantifiers.{all_pairs_push}
 use Rattle.markup.specs.Events.{events}
 use Rattle.markup.specs.Marks.{tag_limit}
-use Rattle.repo_objects.specs.Repository.{Entry, Contents, ids_of, HasId, IsRepository}
+use Rattle.repo_objects.specs.Repository.{DictionaryEntry, Contents, ids_of, HasId, IsRepository}
 use Rattle.repo_loader.specs.declared.part.Part.{Part}
 use Rattle.repo_loader.specs.declared.part.Part.TheVariants as part
-use Rattle.repo_loader.specs.FileNames.{value_of, id_name}
+use Rattle.repo_loader.specs.FileNames.{attribute_value, id_name}
 use Rattle.repo_loader.specs.FileValues.{text_or_empty}
 use Rattle.repo_loader.specs.inner.FileSteps.{with_last, with_parts}
-use Rattle.repo_loader.specs.Selected.{Tag, PlacedTag}
+use Rattle.repo_loader.specs.Selected.{FileTag, PlacedTag}
 use Rattle.repo_loader.specs.File.{is_entry, kind_at, entry, objects, contents_of}
-use Rattle.repo_loader.specs.FileFaults.{IsEntry, twice, lacks_id, AreSound, tags_of}
+use Rattle.repo_loader.specs.FileFaults.{IsEntry, twice, lacks_id, AreSoundTags, tags_of}
 use Rattle.repo_loader.specs.Loaded.{token_tags, Spells}
 use Rattle.repo_loader.specs.inner.Stops.{IsSoundTag}
 use Rattle.repo_loader.proofs.Steps.{objects_snoc}
@@ -23,11 +23,11 @@ use Rattle.repo_loader.proofs.SpelledTexts.{HaveTagTexts, event_tags_texts, obje
 
 -- ---- the ids
 
-abbrev AreApart : List Entry → Type 0
+abbrev AreApart : List DictionaryEntry → Type 0
 AreApart entries = AllPairs (λ one other. one ≢ other) (ids_of entries)
 
 -- what a tag gives the last entry leaves its id
-same_ids : (t : Tag) (entries : List Entry) → ids_of (with_last (with_parts t) entries) ≡ ids_of entries
+same_ids : (t : FileTag) (entries : List DictionaryEntry) → ids_of (with_last (with_parts t) entries) ≡ ids_of entries
 same_ids t [] = refl
 same_ids t (e ∷ []) = refl
 same_ids t (e ∷ (f ∷ entries)) = ap (λ l. e.id ∷ l) (same_ids t (f ∷ entries))
@@ -37,25 +37,25 @@ of_entry (part.Entry kind) h = tt
 of_entry _ h = absurd (true≢false (sym h))
 
 -- no earlier entry has the id of one that breaks no rule
-new_id : (before : List Tag) (t : Tag) → is_entry t.part ≡ true → IsSoundTag before t → HasId (objects before) (text_or_empty (value_of id_name t.attributes)) → ⊥
-new_id before t is sound = by (value_of id_name t.attributes) refl
+new_id : (before : List FileTag) (t : FileTag) → is_entry t.part ≡ true → IsSoundTag before t → HasId (objects before) (text_or_empty (attribute_value id_name t.attributes)) → ⊥
+new_id before t is sound = by (attribute_value id_name t.attributes) refl
   where
-    by : (o : Option (List ℕ)) → value_of id_name t.attributes ≡ o → HasId (objects before) (text_or_empty o) → ⊥
+    by : (o : Option (List ℕ)) → attribute_value id_name t.attributes ≡ o → HasId (objects before) (text_or_empty o) → ⊥
     by None e h = sound 5 (lacks_id (of_entry t.part is) e refl)
     by (Some id) e h = sound 3 (twice id (of_entry t.part is) e h refl)
 
-apart_more : (entries : List Entry) (e : Entry) → AreApart entries → (HasId entries e.id → ⊥) → AreApart (entries ++ e ∷ [])
+apart_more : (entries : List DictionaryEntry) (e : DictionaryEntry) → AreApart entries → (HasId entries e.id → ⊥) → AreApart (entries ++ e ∷ [])
 apart_more entries e apart new =
     let others : (k : ℕ) (d : List ℕ) → k < length (ids_of entries) → get_or (ids_of entries) k d ≢ e.id =
     λ k d below same. new (subst (Contains (ids_of entries)) same (Contains-get_or (ids_of entries) k d below)) in
-    subst (AllPairs (λ one other. one ≢ other)) (sym (map-append (λ (e : Entry). e.id) entries (e ∷ [])))
+    subst (AllPairs (λ one other. one ≢ other)) (sym (map-append (λ (e : DictionaryEntry). e.id) entries (e ∷ [])))
     (all_pairs_push (λ one other. one ≢ other) (ids_of entries) e.id apart others)
 
 -- one element more that breaks no rule
-apart_step : (before : List Tag) (t : Tag) → IsSoundTag before t → AreApart (objects before) → AreApart (objects (before ++ t ∷ []))
+apart_step : (before : List FileTag) (t : FileTag) → IsSoundTag before t → AreApart (objects before) → AreApart (objects (before ++ t ∷ []))
 apart_step before t sound apart = subst AreApart (sym (objects_snoc t before)) (by (is_entry t.part) refl)
   where
-    here : Entry
+    here : DictionaryEntry
     here = entry (kind_at t.part) t.attributes []
 
     by : (b : Bool) → is_entry t.part ≡ b → AreApart (if b then objects before ++ here ∷ [] else with_last (with_parts t) (objects before))
@@ -63,7 +63,7 @@ apart_step before t sound apart = subst AreApart (sym (objects_snoc t before)) (
     by false is = subst (AllPairs (λ one other. one ≢ other)) (sym (same_ids t (objects before))) apart
 
 -- the entries among elements that break no rule have different ids
-ids_apart : (before : List Tag) (ts : List PlacedTag) → AreSound before ts → AreApart (objects before) → AreApart (objects (before ++ tags_of ts))
+ids_apart : (before : List FileTag) (ts : List PlacedTag) → AreSoundTags before ts → AreApart (objects before) → AreApart (objects (before ++ tags_of ts))
 ids_apart before [] sound apart = subst (λ l. AreApart (objects l)) (sym (append-nil before)) apart
 ids_apart before (t ∷ ts) sound apart =
     subst (λ l. AreApart (objects l)) (append_assoc before (t.tag ∷ []) (tags_of ts))
@@ -74,7 +74,7 @@ ids_apart before (t ∷ ts) sound apart =
 pub spelled_is_a_repository : (bytes : List ℕ) (x : Contents) → Spells bytes x → IsRepository x
 spelled_is_a_repository bytes x h = subst IsRepository (sym (contents_by_tokens bytes x h)) all
   where
-    tags : List Tag
+    tags : List FileTag
     tags = tags_of (token_tags h.tokens)
 
     texts : HaveTagTexts tags

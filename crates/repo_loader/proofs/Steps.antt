@@ -2,21 +2,21 @@
 use Rattle.std.proofs.Common.{◌≡◌, Bool, true, false, true≢false, List, [], ◌∷◌, ◌++◌, if◌then◌else◌, refl, sym, ap, ◌∙◌, append-nil, append_assoc}
 use Rattle.repo_objects.specs.declared.objects.ElementDef.{ElementDef}
 use Rattle.repo_objects.specs.declared.objects.CodeDef.{CodeDef}
-use Rattle.repo_objects.specs.Repository.{Entry as Named}
-use Rattle.repo_loader.specs.Selected.{Tag}
+use Rattle.repo_objects.specs.Repository.{DictionaryEntry as Named}
+use Rattle.repo_loader.specs.Selected.{FileTag}
 use Rattle.repo_loader.specs.File.{is_entry, kind_at, is_entry_tag, own_elements, own_codes, behind, entry, objects}
 use Rattle.repo_loader.specs.inner.FileSteps.{with_last, with_parts, object_step, has_stop}
 
 -- ---- what is gathered behind a tag
 
-module _ {A : Type 0} (stops : Tag → Bool) (own : Tag → List A) where
+module _ {A : Type 0} (stops : FileTag → Bool) (own : FileTag → List A) where
   -- the cases of one more tag at the front
-  more_is : (b : Bool) (u : Tag) (xs ys : List A) → (b ≡ false → xs ≡ ys) → (if b then [] else own u ++ xs) ≡ (if b then [] else own u ++ ys)
+  more_is : (b : Bool) (u : FileTag) (xs ys : List A) → (b ≡ false → xs ≡ ys) → (if b then [] else own u ++ xs) ≡ (if b then [] else own u ++ ys)
   more_is true u xs ys h = refl
   more_is false u xs ys h = ap (λ l. own u ++ l) (h refl)
 
   -- a tag that stops adds nothing
-  pub behind_stop : (ts : List Tag) (t : Tag) → stops t ≡ true → behind stops own (ts ++ t ∷ []) ≡ behind stops own ts
+  pub behind_stop : (ts : List FileTag) (t : FileTag) → stops t ≡ true → behind stops own (ts ++ t ∷ []) ≡ behind stops own ts
   behind_stop [] t h = ap (λ (b : Bool). if b then [] else own t ++ []) h
   behind_stop (u ∷ us) t h = more_is (stops u) u (behind stops own (us ++ t ∷ [])) (behind stops own us) (λ k. behind_stop us t h)
 
@@ -25,17 +25,17 @@ module _ {A : Type 0} (stops : Tag → Bool) (own : Tag → List A) where
   none_before false c h k = h
 
   -- behind one that stops another adds nothing
-  pub behind_closed : (ts : List Tag) (t : Tag) → has_stop stops ts ≡ true → behind stops own (ts ++ t ∷ []) ≡ behind stops own ts
+  pub behind_closed : (ts : List FileTag) (t : FileTag) → has_stop stops ts ≡ true → behind stops own (ts ++ t ∷ []) ≡ behind stops own ts
   behind_closed [] t h = absurd (true≢false (sym h))
   behind_closed (u ∷ us) t h =
       more_is (stops u) u (behind stops own (us ++ t ∷ [])) (behind stops own us) (λ k. behind_closed us t (none_before (stops u) (has_stop stops us) h k))
 
-  open_more : (b c : Bool) (u : Tag) (xs ys zs : List A) → (if b then true else c) ≡ false → (c ≡ false → xs ≡ ys ++ zs) → (if b then [] else own u ++ xs) ≡ (if b then [] else own u ++ ys) ++ zs
+  open_more : (b c : Bool) (u : FileTag) (xs ys zs : List A) → (if b then true else c) ≡ false → (c ≡ false → xs ≡ ys ++ zs) → (if b then [] else own u ++ xs) ≡ (if b then [] else own u ++ ys) ++ zs
   open_more true c u xs ys zs n h = absurd (true≢false n)
   open_more false c u xs ys zs n h = ap (λ l. own u ++ l) (h n) ∙ sym (append_assoc (own u) ys zs)
 
   -- and else its own
-  pub behind_open : (ts : List Tag) (t : Tag) → has_stop stops ts ≡ false → stops t ≡ false → behind stops own (ts ++ t ∷ []) ≡ behind stops own ts ++ own t
+  pub behind_open : (ts : List FileTag) (t : FileTag) → has_stop stops ts ≡ false → stops t ≡ false → behind stops own (ts ++ t ∷ []) ≡ behind stops own ts ++ own t
   behind_open [] t h k = ap (λ (b : Bool). if b then [] else own t ++ []) k ∙ append-nil (own t)
   behind_open (u ∷ us) t h k =
       open_more (stops u) (has_stop stops us) u (behind stops own (us ++ t ∷ [])) (behind stops own us) (own t) h (λ n. behind_open us t n k)
@@ -43,7 +43,7 @@ module _ {A : Type 0} (stops : Tag → Bool) (own : Tag → List A) where
 -- ---- the objects
 
 -- the tags of no entry say no object, and those of one say some
-no_objects : (ts : List Tag) → has_stop is_entry_tag ts ≡ false → objects ts ≡ []
+no_objects : (ts : List FileTag) → has_stop is_entry_tag ts ≡ false → objects ts ≡ []
 no_objects [] h = refl
 no_objects (t ∷ ts) h = by (is_entry t.part) h (no_objects ts)
   where
@@ -55,7 +55,7 @@ no_objects (t ∷ ts) h = by (is_entry t.part) h (no_objects ts)
 abbrev IsSome : List Named → Type 0
 IsSome xs = (o : Named) × (os : List Named) × (xs ≡ o ∷ os)
 
-some_objects : (ts : List Tag) → has_stop is_entry_tag ts ≡ true → IsSome (objects ts)
+some_objects : (ts : List FileTag) → has_stop is_entry_tag ts ≡ true → IsSome (objects ts)
 some_objects [] h = absurd (true≢false (sym h))
 some_objects (t ∷ ts) h = by (is_entry t.part) h (some_objects ts)
   where
@@ -65,12 +65,12 @@ some_objects (t ∷ ts) h = by (is_entry t.part) h (some_objects ts)
     by false k later = later k
 
 -- an entry with these elements and codes
-abbrev made : Tag → List ElementDef → List CodeDef → Named
+abbrev made : FileTag → List ElementDef → List CodeDef → Named
 made u es cs = record (entry (kind_at u.part) u.attributes []) { object = record (entry (kind_at u.part) u.attributes []).object { elements = es; codes = cs } }
 
-module _ (t : Tag) where
+module _ (t : FileTag) where
   -- an entry's tag stops what stands behind the one before
-  entry_closed : (ts : List Tag) → is_entry t.part ≡ true → objects (ts ++ t ∷ []) ≡ objects ts ++ entry (kind_at t.part) t.attributes [] ∷ []
+  entry_closed : (ts : List FileTag) → is_entry t.part ≡ true → objects (ts ++ t ∷ []) ≡ objects ts ++ entry (kind_at t.part) t.attributes [] ∷ []
   entry_closed [] h = ap (λ (b : Bool). if b then entry (kind_at t.part) t.attributes [] ∷ [] else []) h
   entry_closed (u ∷ us) h =
       by (is_entry u.part) (entry_closed us h)
@@ -87,7 +87,7 @@ module _ (t : Tag) where
       by false later same = later
 
   -- any other tag gives the last entry its own
-  entry_open : (u : Tag) (us : List Tag) → is_entry t.part ≡ false → objects (us ++ t ∷ []) ≡ with_last (with_parts t) (objects us)
+  entry_open : (u : FileTag) (us : List FileTag) → is_entry t.part ≡ false → objects (us ++ t ∷ []) ≡ with_last (with_parts t) (objects us)
       → entry (kind_at u.part) u.attributes (us ++ t ∷ []) ∷ objects (us ++ t ∷ []) ≡ with_last (with_parts t) (entry (kind_at u.part) u.attributes us ∷ objects us)
   entry_open u us other later = by (has_stop is_entry_tag us) refl
     where
@@ -108,7 +108,7 @@ module _ (t : Tag) where
           ∙ ap (λ l. with_parts t (entry (kind_at u.part) u.attributes us) ∷ with_last (with_parts t) l) none
           ∙ sym (ap (λ l. with_last (with_parts t) (entry (kind_at u.part) u.attributes us ∷ l)) none)
 
-  other_step : (ts : List Tag) → is_entry t.part ≡ false → objects (ts ++ t ∷ []) ≡ with_last (with_parts t) (objects ts)
+  other_step : (ts : List FileTag) → is_entry t.part ≡ false → objects (ts ++ t ∷ []) ≡ with_last (with_parts t) (objects ts)
   other_step [] h = ap (λ (b : Bool). if b then entry (kind_at t.part) t.attributes [] ∷ [] else []) h
   other_step (u ∷ us) h = by (is_entry u.part) (other_step us h) (entry_open u us h (other_step us h))
     where
@@ -120,7 +120,7 @@ module _ (t : Tag) where
       by false later more = later
 
   -- the objects behind one more tag
-  pub objects_snoc : (ts : List Tag) → objects (ts ++ t ∷ []) ≡ object_step t (objects ts)
+  pub objects_snoc : (ts : List FileTag) → objects (ts ++ t ∷ []) ≡ object_step t (objects ts)
   objects_snoc ts = by (is_entry t.part) refl
     where
       by : (b : Bool) → is_entry t.part ≡ b → objects (ts ++ t ∷ []) ≡ (if b then objects ts ++ entry (kind_at t.part) t.attributes [] ∷ [] else with_last (with_parts t) (objects ts))

@@ -6,7 +6,7 @@ use Rattle.lexical_core.specs.Tree.{Entry as Attribute}
 use Rattle.repo_objects.specs.declared.objects.ElementDef.{ElementDef}
 use Rattle.repo_objects.specs.declared.objects.CodeDef.{CodeDef}
 use Rattle.repo_objects.specs.declared.objects.MessageDef.{MessageDef}
-use Rattle.repo_objects.specs.Repository.{Entry, Contents}
+use Rattle.repo_objects.specs.Repository.{DictionaryEntry, Contents}
 use Rattle.repo_loader.specs.declared.loading.OpenEntry.{OpenEntry}
 use Rattle.repo_loader.specs.declared.loading.OpenMessage.{OpenMessage}
 use Rattle.repo_loader.specs.declared.loading.Loading.{Loading}
@@ -14,9 +14,9 @@ use Rattle.repo_loader.specs.declared.part.Part.{Part}
 use Rattle.repo_loader.specs.declared.part.Part.TheVariants.{Element, Alternative, Code, Block, Identifier, OtherRoot, Message, Entry as EntryPart}
 use Rattle.repo_loader.specs.declared.stop.Stop.{Stop}
 use Rattle.repo_loader.specs.declared.stop.Stop.TheVariants.{Rule, Memory}
-use Rattle.repo_loader.specs.Selected.{Tag}
-use Rattle.repo_loader.specs.inner.Stops.{IsSoundTag, IsLeastBroken, TellsStop, TellsNumbers}
-use Rattle.repo_loader.specs.File.{is_entry, is_message, element, code, identifier}
+use Rattle.repo_loader.specs.Selected.{FileTag}
+use Rattle.repo_loader.specs.inner.Stops.{IsSoundTag, IsLeastTagRule, TellsStop, TellsNumbers}
+use Rattle.repo_loader.specs.File.{is_entry, is_message, element, code, message_identifier}
 use Rattle.repo_loader.specs.inner.LoadingSteps.{AreTexts, IsNew, CanClose, CanCloseMessage, HasMessages, HasTags, TakesOther, grown_if, with_element, with_code, entry_after, message_after, OpensEntry}
 use Rattle.repo_loader.proofs.EntryRules.{sound_other, least_other}
 use Rattle.repo_loader.proofs.EntryTexts.{element_texts, code_texts}
@@ -24,7 +24,7 @@ use Rattle.repo_loader.proofs.TagTexts.{identifier_text, element_new, code_new, 
 use Rattle.repo_loader.proofs.LoadingLemmas.{with_given, with_tag, other_tag, entry_tag}
 use Rattle.repo_loader.proofs.MessageSteps.{other_message, grown_plain, grown_block, grown_identifier}
 
-abbrev pub tag_of : Part → List Attribute → Tag
+abbrev pub tag_of : Part → List Attribute → FileTag
 tag_of part as' = record { part = part; attributes = as' }
 
 -- ---- what is open
@@ -47,15 +47,15 @@ entry_tagged Alternative as' o = one_element (element 1 as') o
 entry_tagged Code as' o = one_code (code as') o
 entry_tagged _ as' o = nothing o
 
-message_tagged : (part : Part) (as' : List Attribute) (o : Option OpenMessage) (closed : List MessageDef) (tags : List Tag) → HasMessages o closed tags
+message_tagged : (part : Part) (as' : List Attribute) (o : Option OpenMessage) (closed : List MessageDef) (tags : List FileTag) → HasMessages o closed tags
     → message_after part as' o ≡ grown_if (tag_of part as') o
 message_tagged Block as' o closed tags h = sym (grown_block closed tags (tag_of Block as') o (element 0 as') h refl refl)
-message_tagged Identifier as' o closed tags h = sym (grown_identifier closed tags (tag_of Identifier as') o (identifier as') refl refl)
+message_tagged Identifier as' o closed tags h = sym (grown_identifier closed tags (tag_of Identifier as') o (message_identifier as') refl refl)
 message_tagged part as' o closed tags h = sym (grown_plain closed tags (tag_of part as') o h refl refl)
 
 -- ---- it can be closed
 
-entry_fit : (part : Part) (as' : List Attribute) (o : List Entry × Option OpenEntry) (h : AreTexts as') → IsNew o.0 o.1 → IsNew o.0 (entry_after part as' o.1)
+entry_fit : (part : Part) (as' : List Attribute) (o : List DictionaryEntry × Option OpenEntry) (h : AreTexts as') → IsNew o.0 o.1 → IsNew o.0 (entry_after part as' o.1)
 entry_fit Element as' o h new = element_new o.0 o.1 (element 0 as') (element_texts as' h 0) new
 entry_fit Alternative as' o h new = element_new o.0 o.1 (element 1 as') (element_texts as' h 1) new
 entry_fit Code as' o h new = code_new o.0 o.1 (code as') (code_texts as' h) new
@@ -63,7 +63,7 @@ entry_fit _ as' o h new = new
 
 message_fit : (part : Part) (as' : List Attribute) (o : Option OpenMessage) (h : AreTexts as') → CanCloseMessage o → CanCloseMessage (message_after part as' o)
 message_fit Block as' o h can = block_closes o (element 0 as') (element_texts as' h 0) can
-message_fit Identifier as' o h can = identifier_closes o (identifier as') (identifier_text as' h) can
+message_fit Identifier as' o h can = identifier_closes o (message_identifier as') (identifier_text as' h) can
 message_fit _ as' o h can = can
 
 module _ (old new : Loading) (part : Part) (as' : List Attribute) where
@@ -75,7 +75,7 @@ module _ (old new : Loading) (part : Part) (as' : List Attribute) where
   pub other_closes_message : AreTexts as' → CanCloseMessage old.message → TakesOther old new part as' → CanCloseMessage new.message
   other_closes_message texts can h = subst CanCloseMessage (sym h.message) (message_fit part as' old.message texts can)
 
-  pub other_tags : (tags : List Tag) → is_entry part ≡ false → is_message part ≡ false → HasTags old tags → TakesOther old new part as' → HasTags new (tags ++ tag_of part as' ∷ [])
+  pub other_tags : (tags : List FileTag) → is_entry part ≡ false → is_message part ≡ false → HasTags old tags → TakesOther old new part as' → HasTags new (tags ++ tag_of part as' ∷ [])
   other_tags tags entry message has h = record {
     objects = other_tag old new tags (tag_of part as') entry has.objects (ap (λ (r : Contents). r.objects) h.repository) (h.entry ∙ entry_tagged part as' old.entry);
     messages =
@@ -84,8 +84,8 @@ module _ (old new : Loading) (part : Part) (as' : List Attribute) where
         (other_message old.message old.repository.messages tags (tag_of part as') message has.messages));
   }
 
-pub tells_numbers : (tags : List Tag) (part : Part) (as' : List Attribute) (stop : Stop) → is_entry part ≡ false → (part ≡ OtherRoot → ⊥) → TellsNumbers part as' stop → TellsStop tags (tag_of part as') stop
-tells_numbers tags part as' (Rule n) entry root (e, h) = subst (IsLeastBroken tags (tag_of part as')) (sym e) (least_other tags (tag_of part as') entry root h)
+pub tells_numbers : (tags : List FileTag) (part : Part) (as' : List Attribute) (stop : Stop) → is_entry part ≡ false → (part ≡ OtherRoot → ⊥) → TellsNumbers part as' stop → TellsStop tags (tag_of part as') stop
+tells_numbers tags part as' (Rule n) entry root (e, h) = subst (IsLeastTagRule tags (tag_of part as')) (sym e) (least_other tags (tag_of part as') entry root h)
 tells_numbers tags part as' Memory entry root h = tt
 
 -- ---- the arms
@@ -98,7 +98,7 @@ pub no_message_part : (part : Part) → (part ≡ Message → ⊥) → is_messag
 no_message_part Message none = absurd (none refl)
 no_message_part _ none = refl
 
-pub entry_taken : {A E : Type 0} (r : Result A E) (old new : Loading) (tags : List Tag) (kind : ObjectKind) (as' : List Attribute) → HasTags old tags
+pub entry_taken : {A E : Type 0} (r : Result A E) (old new : Loading) (tags : List FileTag) (kind : ObjectKind) (as' : List Attribute) → HasTags old tags
     → OnOk r (OpensEntry old new kind as' × IsSoundTag tags (tag_of (EntryPart kind) as')) → OnOk r (new.repository.messages ≡ old.repository.messages) → OnOk r (new.message ≡ old.message)
     → OnOk r (HasTags new (tags ++ tag_of (EntryPart kind) as' ∷ []) × IsSoundTag tags (tag_of (EntryPart kind) as'))
 entry_taken (Err e) old new tags kind as' has h messages message = tt
@@ -112,7 +112,7 @@ entry_taken (Ok x) old new tags kind as' has h messages message = (
   h.1,
 )
 
-pub message_taken : (old new : Loading) (tags : List Tag) (as' : List Attribute) → HasTags old tags → HasMessages new.message new.repository.messages (tags ++ tag_of Message as' ∷ [])
+pub message_taken : (old new : Loading) (tags : List FileTag) (as' : List Attribute) → HasTags old tags → HasMessages new.message new.repository.messages (tags ++ tag_of Message as' ∷ [])
     → new.repository.objects ≡ old.repository.objects → new.entry ≡ old.entry → HasTags new (tags ++ tag_of Message as' ∷ []) × IsSoundTag tags (tag_of Message as')
 message_taken old new tags as' has messages objects entry = (
   record {

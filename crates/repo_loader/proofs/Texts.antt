@@ -8,13 +8,13 @@ use Rattle.lexical_core.specs.Characters.{IsXmlChar, IsXmlText}
 use Rattle.lexical_core.specs.Tree.{Expanded, Entry as Entry', Item}
 use Rattle.markup.specs.Chars.{is_xml_char, is_space, is_gap}
 use Rattle.markup.specs.Name.{is_name}
-use Rattle.markup.specs.Reference.{Reference, Named, Numbered, Ampersand, Less as LessEntity, Greater as GreaterEntity, Apostrophe, Quote, is_reference, referred}
-use Rattle.markup.specs.Attribute.{Piece, Literal, Refers, is_piece, Attribute, is_attribute, begins_lf, value_chars}
+use Rattle.markup.specs.Reference.{Reference, Named, Numbered, Ampersand, Less as LessEntity, Greater as GreaterEntity, Apostrophe, Quote, is_reference, referred_character}
+use Rattle.markup.specs.Attribute.{ValuePiece, Literal, Refers, is_piece, Attribute, is_attribute, begins_lf, value_chars}
 use Rattle.markup.specs.declared.tag.Given.{Given}
 use Rattle.markup.specs.declared.tag.Opening.{Opening}
 use Rattle.markup.specs.Token.{Token, Mark, Declaration, Comment, Instruction, Opener, Closer, TypeDeclaration, Start, End, Refer, LineEnd, Character, StartTag, is_start_tag, token_bytes}
 use Rattle.markup.specs.Marks.{stands, in_cdata, Front}
-use Rattle.markup.specs.Events.{Placed, events, items_of, open_tags, opening, given, element_name, attribute_name, declared_prefix, entries, put, put_named, started, ended, end_items}
+use Rattle.markup.specs.Events.{Placed, events, items_of, open_tags, opening, given_attribute, element_name, attribute_name, declared_prefix, entries, put, put_named, start_tag_items, end_tag_items, end_items}
 use Rattle.lexical_core.specs.Names.{name_cmp}
 use Rattle.markup.proofs.CharLemmas.{classes}
 use Rattle.repo_loader.specs.inner.LoadingSteps.{AreTexts}
@@ -58,7 +58,7 @@ space_xml : is_xml_char 32 ≡ true
 unfolding is_xml_char
 space_xml = refl
 
-referred_xml : (r : Reference) → is_reference r ≡ true → is_xml_char (referred r) ≡ true
+referred_xml : (r : Reference) → is_reference r ≡ true → is_xml_char (referred_character r) ≡ true
 unfolding is_xml_char
 referred_xml (Named Ampersand) h = refl
 referred_xml (Named LessEntity) h = refl
@@ -67,10 +67,10 @@ referred_xml (Named Apostrophe) h = refl
 referred_xml (Named Quote) h = refl
 referred_xml (Numbered radix digits) h = last_of_four (radix == 10 || radix == 16) (not (length digits == 0)) _ _ h
 
-value_xml : (quote : ℕ) (ps : List Piece) → list_all (is_piece quote) ps ≡ true → list_all is_xml_char (value_chars ps) ≡ true
+value_xml : (quote : ℕ) (ps : List ValuePiece) → list_all (is_piece quote) ps ≡ true → list_all is_xml_char (value_chars ps) ≡ true
 value_xml quote [] h = refl
 value_xml quote (Refers r ∷ ps) h =
-    and_both (is_xml_char (referred r)) (list_all is_xml_char (value_chars ps)) (referred_xml r (and_left (is_piece quote (Refers r)) _ h)) (value_xml quote ps (and_right (is_piece quote (Refers r)) _ h))
+    and_both (is_xml_char (referred_character r)) (list_all is_xml_char (value_chars ps)) (referred_xml r (and_left (is_piece quote (Refers r)) _ h)) (value_xml quote ps (and_right (is_piece quote (Refers r)) _ h))
 value_xml quote (Literal c ∷ ps) h =
     by (c == 13 && begins_lf ps) (is_space c) (first_of_four (is_xml_char c) (not (c == 60)) (not (c == 38)) (not (c == quote)) (and_left (is_piece quote (Literal c)) _ h))
     (value_xml quote ps (and_right (is_piece quote (Literal c)) _ h))
@@ -85,11 +85,11 @@ xml_chars : (cs : List ℕ) → list_all is_xml_char cs ≡ true → AllByRecurs
 xml_chars [] h = tt
 xml_chars (c ∷ cs) h = ((classes.xml c).0 (and_left (is_xml_char c) _ h), xml_chars cs (and_right (is_xml_char c) _ h))
 
-given_text : (a : Attribute) → is_attribute a ≡ true → IsXmlText (given a).value
+given_text : (a : Attribute) → is_attribute a ≡ true → IsXmlText (given_attribute a).value
 given_text a h =
     (value_chars a.value, xml_chars (value_chars a.value) (value_xml a.quote a.value (last_of_six (is_gap a.gap) (is_name a.name) (list_all is_space a.before) (list_all is_space a.after) (a.quote == 34 || a.quote == 39) (list_all (is_piece a.quote) a.value) h)), refl)
 
-givens_texts : (attributes : List Attribute) → list_all is_attribute attributes ≡ true → AllByRecursion (λ (g : Given). IsXmlText g.value) (map given attributes)
+givens_texts : (attributes : List Attribute) → list_all is_attribute attributes ≡ true → AllByRecursion (λ (g : Given). IsXmlText g.value) (map given_attribute attributes)
 givens_texts [] h = tt
 givens_texts (a ∷ rest) h = (given_text a (and_left (is_attribute a) _ h), givens_texts rest (and_right (is_attribute a) _ h))
 
@@ -111,7 +111,7 @@ entries_texts tags (g ∷ gs) h = by (is_none (declared_prefix g.name)) (attribu
     by true None later = later
     by true (Some name) later = put_texts (record { name = name; value = g.value }) (entries tags gs) h.0 later
 
-started_texts : (o : Option Expanded) (es : List Entry') (b : Bool) → AreTexts es → AllByRecursion HasItemTexts (started o es b)
+started_texts : (o : Option Expanded) (es : List Entry') (b : Bool) → AreTexts es → AllByRecursion HasItemTexts (start_tag_items o es b)
 started_texts None es b h = tt
 started_texts (Some n) es true h = (h, (tt, tt))
 started_texts (Some n) es false h = (h, tt)
@@ -120,7 +120,7 @@ ended_texts : (tags : List Opening) → AllByRecursion HasItemTexts (end_items t
 ended_texts [] = tt
 ended_texts (tag ∷ tags) = by (element_name (tag ∷ tags) tag.name)
   where
-    by : (o : Option Expanded) → AllByRecursion HasItemTexts (ended o)
+    by : (o : Option Expanded) → AllByRecursion HasItemTexts (end_tag_items o)
     by None = tt
     by (Some n) = (tt, tt)
 

@@ -1,11 +1,11 @@
 -- What is read by the events of a tree is what is read of the tree.
 use Rattle.std.proofs.Common.{◌≡◌, ℕ, zero, suc, pred, List, [], ◌∷◌, ◌++◌, map, refl, sym, ap, ◌∙◌, append_assoc, append-nil}
 use Rattle.std.proofs.lemmas.List.{map-append}
-use Rattle.lexical_core.specs.Tree.{Nodes, Nothing, Element, Text, Tree, Item, Starts, Ends, Char, Skipped, flat, flat_nodes, counted}
+use Rattle.lexical_core.specs.Tree.{Nodes, Nothing, Element, Text, Tree, Item, Starts, Ends, Char, Skipped, flat, flat_nodes, tree_items}
 use Rattle.markup.specs.Events.{Placed}
 use Rattle.repo_loader.specs.declared.part.Part.{Part}
 use Rattle.repo_loader.specs.declared.part.Part.TheVariants.{File}
-use Rattle.repo_loader.specs.Selected.{Tag, PlacedTag, part_in, tag_if, tags_in, tree_tags, innermost, item_tags, open_behind, item_list_tags, placed_tags, event_tags}
+use Rattle.repo_loader.specs.Selected.{FileTag, PlacedTag, part_in, tag_if, tags_in, tree_tags, innermost, item_tags, parts_open_behind, item_list_tags, placed_tags, event_tags}
 use Rattle.repo_loader.specs.FileFaults.{tags_of}
 use Rattle.repo_loader.specs.Laws.{SelectsTheTree}
 
@@ -37,7 +37,7 @@ open_count [] = 0
 open_count (part ∷ parts) = suc (open_count parts)
 
 -- events that say nothing of the tree read nothing
-counted_read : (parts : List Part) (n : ℕ) (items : List Item) → open_count parts ≡ n → item_list_tags parts (counted n items) ≡ item_list_tags parts items
+counted_read : (parts : List Part) (n : ℕ) (items : List Item) → open_count parts ≡ n → item_list_tags parts (tree_items n items) ≡ item_list_tags parts items
 counted_read parts n [] e = refl
 counted_read parts n (Starts name attributes ∷ items) e =
     ap (λ l. item_tags (innermost parts) (Starts name attributes) ++ l) (counted_read (part_in (innermost parts) name attributes ∷ parts) (suc n) items (ap suc e))
@@ -48,7 +48,7 @@ counted_read parts (suc n) (Char c ∷ items) e = counted_read parts (suc n) ite
 counted_read parts n (Skipped ∷ items) e = counted_read parts n items e
 
 -- places aside, these are the elements
-tags_placed : (place : ℕ) (tags : List Tag) → tags_of (placed_tags place tags) ≡ tags
+tags_placed : (place : ℕ) (tags : List FileTag) → tags_of (placed_tags place tags) ≡ tags
 tags_placed place [] = refl
 tags_placed place (tag ∷ tags) = ap (λ l. tag ∷ l) (tags_placed place tags)
 
@@ -57,10 +57,10 @@ items_read : (parts : List Part) (es : List Placed) → tags_of (event_tags part
 items_read parts [] = refl
 items_read parts (e ∷ es) =
     let here = item_tags (innermost parts) e.item in
-    let later = event_tags (open_behind parts e.item) es in
+    let later = event_tags (parts_open_behind parts e.item) es in
     map-append (λ (t : PlacedTag). t.tag) (placed_tags e.place here) later
     ∙ ap (λ l. l ++ tags_of later) (tags_placed e.place here)
-    ∙ ap (λ l. here ++ l) (items_read (open_behind parts e.item) es)
+    ∙ ap (λ l. here ++ l) (items_read (parts_open_behind parts e.item) es)
 
 -- what is read by the events of a tree is what is read of the tree
 pub selects_the_tree : SelectsTheTree

@@ -3,14 +3,14 @@ use Rattle.std.proofs.Common.{◌≡◌, ℕ, suc, Bool, true, false, true≢fal
 use Rattle.std.specs.Prelude.{is_none, drop, ◌==◌, ◌&&◌, reverse}
 use Rattle.std.specs.List.{list_any}
 use Rattle.std.proofs.lemmas.List.{map-append}
-use Rattle.lexical_core.specs.Tree.{Expanded, Entry as Attribute, Nodes, Nothing, Element, Text, Tree, TreeIs, Item, Starts, Ends, Char, flat_nodes, counted}
+use Rattle.lexical_core.specs.Tree.{Expanded, Entry as Attribute, Nodes, Nothing, Element, Text, Tree, TreeIs, Item, Starts, Ends, Char, flat_nodes, tree_items}
 use Rattle.markup.specs.declared.tag.Opening.{Opening}
 use Rattle.markup.specs.declared.tag.Spelled.{Spelled}
 use Rattle.markup.specs.Token.{Token, Mark, Declaration, Comment, Instruction, Opener, Closer, TypeDeclaration, Start, End, Refer, LineEnd, Character, StartTag}
-use Rattle.markup.specs.Events.{Placed, events, items_of, open_tags, opening, spelled, element_name, entries, started, ended, end_items}
+use Rattle.markup.specs.Events.{Placed, events, items_of, open_tags, opening, spelled_name, element_name, entries, start_tag_items, end_tag_items, end_items}
 use Rattle.std.proofs.lemmas.Bool.Decides.{nat_tests}
 use Rattle.markup.specs.Token.{token_bytes}
-use Rattle.markup.specs.Reference.{referred}
+use Rattle.markup.specs.Reference.{referred_character}
 use Rattle.markup.proofs.OneFault.{past, behind}
 use Rattle.markup.specs.Faults.{has_start, is_outside, is_over, start_rule, end_rule, rule_of, IsClean, has_clash, is_bad_attribute}
 
@@ -34,7 +34,7 @@ closing (n ∷ ns) (k ∷ ks) = flat_nodes k ++ (Ends n ∷ closing ns ks)
 
 -- the events close the open elements
 abbrev Closes : List Expanded → List Item → Type 0
-Closes ns items = (ks : List Nodes) × (counted (length ns) items ≡ closing ns ks)
+Closes ns items = (ks : List Nodes) × (tree_items (length ns) items ≡ closing ns ks)
 
 closing_first : (n : Expanded) (ns : List Expanded) (ks : List Nodes) → closing (n ∷ ns) ks ≡ flat_nodes (first ks) ++ (Ends n ∷ closing ns (drop 1 ks))
 unfolding first
@@ -111,7 +111,7 @@ behind_start true tags tag n ns items e named later = later ns named
 behind_start false tags tag n ns items e named later = later (n ∷ ns) (e, named)
 
 started_closes : (b : Bool) (n : Expanded) (attributes : List Attribute) (m : Expanded) (ms : List Expanded) (items : List Item)
-    → ByCase b (Closes (m ∷ ms) items) (Closes (n ∷ (m ∷ ms)) items) → Closes (m ∷ ms) (started (Some n) attributes b ++ items)
+    → ByCase b (Closes (m ∷ ms) items) (Closes (n ∷ (m ∷ ms)) items) → Closes (m ∷ ms) (start_tag_items (Some n) attributes b ++ items)
 started_closes true n attributes m ms items h = empty_closes n attributes m ms items h
 started_closes false n attributes m ms items h = start_closes n attributes m ms items h
 
@@ -131,7 +131,7 @@ start_token before tag [] items s named rule later =
 start_token before tag (m ∷ ms) items s named rule later =
     let r = (start_clean (is_over before) (open_tags before) (opening tag) rule).0 in
     let attributes = entries (opening tag ∷ open_tags before) (opening tag).given in
-    subst (λ o. Closes (m ∷ ms) (started o attributes tag.is_empty ++ items)) (sym r.1)
+    subst (λ o. Closes (m ∷ ms) (start_tag_items o attributes tag.is_empty ++ items)) (sym r.1)
     (started_closes tag.is_empty r.0 attributes m ms items (behind_start tag.is_empty (open_tags before) (opening tag) r.0 (m ∷ ms) items r.1 named later))
 
 end_token : (tags : List Opening) (name : Spelled) (ns : List Expanded) (items : List Item) → AreNamed tags ns → end_rule tags name ≡ None
@@ -139,7 +139,7 @@ end_token : (tags : List Opening) (name : Spelled) (ns : List Expanded) (items :
 end_token [] name ns items named rule later = absurd (not_none _ rule)
 end_token (tag ∷ tags) name [] items named rule later = absurd named
 end_token (tag ∷ tags) name (n ∷ ns) items (e, named) rule later =
-    subst (λ o. Closes (n ∷ ns) (ended o ++ items)) (sym e) (end_closes n ns items (later ns named))
+    subst (λ o. Closes (n ∷ ns) (end_tag_items o ++ items)) (sym e) (end_closes n ns items (later ns named))
 
 and_right : (a b : Bool) → (a && b) ≡ true → b ≡ true
 and_right true b h = h
@@ -171,8 +171,8 @@ tokens_close before (TypeDeclaration ∷ ts) ns s named c over = absurd (not_non
 tokens_close before (Start tag ∷ ts) ns s named c over =
     start_token before tag ns (token_items (Start tag ∷ before) ts) s named c.0 (λ ms h. tokens_close (Start tag ∷ before) ts ms refl h c.1 over)
 tokens_close before (End name gap ∷ ts) ns s named c over =
-    end_token (open_tags before) (spelled name) ns (token_items (End name gap ∷ before) ts) named c.0 (λ ms h. tokens_close (End name gap ∷ before) ts ms s h c.1 over)
-tokens_close before (Refer reference ∷ ts) ns s named c over = character_closes (referred reference) ns (token_items (Refer reference ∷ before) ts) (tokens_close (Refer reference ∷ before) ts ns s named c.1 over)
+    end_token (open_tags before) (spelled_name name) ns (token_items (End name gap ∷ before) ts) named c.0 (λ ms h. tokens_close (End name gap ∷ before) ts ms s h c.1 over)
+tokens_close before (Refer reference ∷ ts) ns s named c over = character_closes (referred_character reference) ns (token_items (Refer reference ∷ before) ts) (tokens_close (Refer reference ∷ before) ts ns s named c.1 over)
 tokens_close before (LineEnd line ∷ ts) ns s named c over = character_closes 10 ns (token_items (LineEnd line ∷ before) ts) (tokens_close (LineEnd line ∷ before) ts ns s named c.1 over)
 tokens_close before (Character char ∷ ts) ns s named c over = character_closes char ns (token_items (Character char ∷ before) ts) (tokens_close (Character char ∷ before) ts ns s named c.1 over)
 
@@ -182,7 +182,7 @@ abbrev IsTree : List Item → Type 0
 IsTree items = (t : Tree) × TreeIs items t
 
 root_tree : (b : Bool) (n : Expanded) (attributes : List Attribute) (items : List Item) → ByCase b (Closes [] items) (Closes (n ∷ []) items)
-    → IsTree (started (Some n) attributes b ++ items)
+    → IsTree (start_tag_items (Some n) attributes b ++ items)
 root_tree true n attributes items (ks, e) =
     (record { name = n; attributes = attributes; children = Nothing }, ap (λ l. Starts n attributes ∷ (Ends n ∷ l)) e)
 root_tree false n attributes items (ks, e) =
@@ -193,7 +193,7 @@ root_token : (before : List Token) (tag : StartTag) (items : List Item) → open
 root_token before tag items o rule later =
     let r = (start_clean (is_over before) (open_tags before) (opening tag) rule).0 in
     let attributes = entries (opening tag ∷ open_tags before) (opening tag).given in
-    subst (λ q. IsTree (started q attributes tag.is_empty ++ items)) (sym r.1)
+    subst (λ q. IsTree (start_tag_items q attributes tag.is_empty ++ items)) (sym r.1)
     (root_tree tag.is_empty r.0 attributes items
     (behind_start tag.is_empty (open_tags before) (opening tag) r.0 [] items r.1 (subst (λ tags. AreNamed tags []) (sym o) tt) later))
 
@@ -208,7 +208,7 @@ before_root before (Closer ∷ ts) s o c over = before_root (Closer ∷ before) 
 before_root before (TypeDeclaration ∷ ts) s o c over = absurd (not_none _ c.0)
 before_root before (Start tag ∷ ts) s o c over =
     root_token before tag (token_items (Start tag ∷ before) ts) o c.0 (λ ms h. tokens_close (Start tag ∷ before) ts ms refl h c.1 over)
-before_root before (End name gap ∷ ts) s o c over = absurd (not_none _ (subst (λ tags. end_rule tags (spelled name) ≡ None) o c.0))
+before_root before (End name gap ∷ ts) s o c over = absurd (not_none _ (subst (λ tags. end_rule tags (spelled_name name) ≡ None) o c.0))
 before_root before (Refer reference ∷ ts) s o c over = before_root (Refer reference ∷ before) ts s o c.1 over
 before_root before (LineEnd line ∷ ts) s o c over = before_root (LineEnd line ∷ before) ts s o c.1 over
 before_root before (Character char ∷ ts) s o c over = before_root (Character char ∷ before) ts s o c.1 over

@@ -15,7 +15,7 @@ fault_text_by rule place None = codes "L" ++ decimal rule ++ codes " at " ++ dec
 abbrev pub fault_text : LoadFault → List ℕ
 fault_text f = fault_text_by f.rule f.place f.markup
 
-abbrev pub error_text : LoadError → List ℕ
-error_text (Refused fault) = fault_text fault
-error_text ReadFault = codes "the source failed"
-error_text Memory = codes "out of memory"
+abbrev pub load_error_text : LoadError → List ℕ
+load_error_text (Refused fault) = fault_text fault
+load_error_text ReadFault = codes "the source failed"
+load_error_text Memory = codes "out of memory"

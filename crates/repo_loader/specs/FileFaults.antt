@@ -5,9 +5,9 @@ use Rattle.repo_objects.specs.declared.objects.ObjectKind.{ObjectKind}
 use Rattle.repo_objects.specs.Repository.{HasId}
 use Rattle.repo_loader.specs.declared.part.Part.{Part}
 use Rattle.repo_loader.specs.declared.part.Part.TheVariants.{OtherRoot, Entry, Element, Alternative, Block}
-use Rattle.repo_loader.specs.FileNames.{value_of, own, id_name, type_name}
+use Rattle.repo_loader.specs.FileNames.{attribute_value, own, id_name, type_name}
 use Rattle.repo_loader.specs.FileValues.{facet, has_lengths, has_digits, IsCountIfAny, IsBoundIfAny, IsGreatestIfAny}
-use Rattle.repo_loader.specs.Selected.{Tag, PlacedTag}
+use Rattle.repo_loader.specs.Selected.{FileTag, PlacedTag}
 use Rattle.repo_loader.specs.File.{objects}
 
 -- the numbers of an entry of the kind are numbers
@@ -24,8 +24,8 @@ pub record HasFacetNumbers (kind : ObjectKind) (attributes : List Attribute) : T
 
 -- those of an element, an alternative or a building block
 pub record HasOccurrences (attributes : List Attribute) : Type 0 where
-  pub min : IsCountIfAny (value_of (own (codes "minOccurs")) attributes)
-  pub max : IsGreatestIfAny (value_of (own (codes "maxOccurs")) attributes)
+  pub min : IsCountIfAny (attribute_value (own (codes "minOccurs")) attributes)
+  pub max : IsGreatestIfAny (attribute_value (own (codes "maxOccurs")) attributes)
 
 -- each known number attribute is a number of its range
 abbrev pub HasNumbers : Part → List Attribute → Type 0
@@ -42,21 +42,21 @@ IsEntry _ = ⊥
 
 -- A rule of its number that an element breaks, behind those before it: a root of another name; an entry with the id of an earlier one;
 -- a number attribute that is no number; an entry that lacks its id, its type or its name.
-pub data Breaks (before : List Tag) (tag : Tag) (rule : ℕ) : Type 0 where
-  other_root : tag.part ≡ OtherRoot → rule ≡ 2 → Breaks before tag rule
-  twice : (id : List ℕ) → IsEntry tag.part → value_of id_name tag.attributes ≡ Some id → HasId (objects before) id → rule ≡ 3 → Breaks before tag rule
-  no_number : (HasNumbers tag.part tag.attributes → ⊥) → rule ≡ 4 → Breaks before tag rule
-  lacks_id : IsEntry tag.part → value_of id_name tag.attributes ≡ None → rule ≡ 5 → Breaks before tag rule
-  lacks_type : IsEntry tag.part → value_of type_name tag.attributes ≡ None → rule ≡ 5 → Breaks before tag rule
-  lacks_name : IsEntry tag.part → value_of (own (codes "name")) tag.attributes ≡ None → rule ≡ 5 → Breaks before tag rule
+pub data BreaksTagRule (before : List FileTag) (tag : FileTag) (rule : ℕ) : Type 0 where
+  other_root : tag.part ≡ OtherRoot → rule ≡ 2 → BreaksTagRule before tag rule
+  twice : (id : List ℕ) → IsEntry tag.part → attribute_value id_name tag.attributes ≡ Some id → HasId (objects before) id → rule ≡ 3 → BreaksTagRule before tag rule
+  no_number : (HasNumbers tag.part tag.attributes → ⊥) → rule ≡ 4 → BreaksTagRule before tag rule
+  lacks_id : IsEntry tag.part → attribute_value id_name tag.attributes ≡ None → rule ≡ 5 → BreaksTagRule before tag rule
+  lacks_type : IsEntry tag.part → attribute_value type_name tag.attributes ≡ None → rule ≡ 5 → BreaksTagRule before tag rule
+  lacks_name : IsEntry tag.part → attribute_value (own (codes "name")) tag.attributes ≡ None → rule ≡ 5 → BreaksTagRule before tag rule
 
 -- the elements break no rule, behind those before them
-abbrev pub AreSound : List Tag → List PlacedTag → Type 0
-AreSound before [] = Unit {0}
-AreSound before (t ∷ ts) = ((rule : ℕ) → Breaks before t.tag rule → ⊥) × AreSound (before ++ t.tag ∷ []) ts
+abbrev pub AreSoundTags : List FileTag → List PlacedTag → Type 0
+AreSoundTags before [] = Unit {0}
+AreSoundTags before (t ∷ ts) = ((rule : ℕ) → BreaksTagRule before t.tag rule → ⊥) × AreSoundTags (before ++ t.tag ∷ []) ts
 
 -- the elements without their places
-abbrev pub tags_of : List PlacedTag → List Tag
+abbrev pub tags_of : List PlacedTag → List FileTag
 tags_of ts = map (λ (t : PlacedTag). t.tag) ts
 
 -- The first of the elements that breaks a rule stands at this place, and the rule is the least that it breaks.
@@ -65,7 +65,7 @@ pub record IsFirstBroken (tags : List PlacedTag) (rule place : ℕ) : Type 0 whe
   pub tag : PlacedTag
   pub after : List PlacedTag
   pub split : tags ≡ before ++ tag ∷ after
-  pub sound : AreSound [] before
-  pub broken : Breaks (tags_of before) tag.tag rule
-  pub least : (other : ℕ) → Breaks (tags_of before) tag.tag other → rule ≤ other
+  pub sound : AreSoundTags [] before
+  pub broken : BreaksTagRule (tags_of before) tag.tag rule
+  pub least : (other : ℕ) → BreaksTagRule (tags_of before) tag.tag other → rule ≤ other
   pub place_is : place ≡ tag.place

@@ -5,11 +5,11 @@ use Rattle.std.specs.Str.{bytes_eq, all_ascii_digits}
 use Rattle.std.specs.Str.Parse.{digits_value}
 use Rattle.std.specs.Char.{is_ascii_digit}
 use Rattle.lexical_core.specs.Tree.{Entry as Attribute}
-use Rattle.lexical_core.specs.Decimals.{Number, IsDecimal, IsDecimalText, signed}
+use Rattle.lexical_core.specs.Decimals.{Number, IsDecimal, IsDecimalText, signed_number}
 use Rattle.repo_objects.specs.declared.objects.ObjectKind.{ObjectKind}
 use Rattle.repo_objects.specs.declared.objects.ObjectKind.TheVariants.{Simple, Component, Choice, External, Other}
 use Rattle.repo_objects.specs.declared.objects.Kinds.TheVariants as kinds
-use Rattle.repo_loader.specs.FileNames.{value_of, own, type_name}
+use Rattle.repo_loader.specs.FileNames.{attribute_value, own, type_name}
 
 -- ---- texts
 
@@ -25,12 +25,12 @@ some_text (Some []) = None
 some_text (Some (c ∷ cs)) = Some (c ∷ cs)
 
 -- the attribute's text
-abbrev pub text : List ℕ → List Attribute → List ℕ
-text local attributes = text_or_empty (value_of (own local) attributes)
+abbrev pub text_of_attribute : List ℕ → List Attribute → List ℕ
+text_of_attribute local attributes = text_or_empty (attribute_value (own local) attributes)
 
 -- the attribute's text, where it is there and not empty
 abbrev pub reference : List ℕ → List Attribute → Option (List ℕ)
-reference local attributes = some_text (value_of (own local) attributes)
+reference local attributes = some_text (attribute_value (own local) attributes)
 
 -- ---- kinds
 
@@ -41,7 +41,7 @@ behind_colon whole (c ∷ cs) = if c == 58 then cs else behind_colon whole cs
 
 -- the word for the kind of an entry: of `xsi:type` what stands behind a colon
 abbrev pub word_of : List Attribute → List ℕ
-word_of attributes = let t = text_or_empty (value_of type_name attributes) in behind_colon t t
+word_of attributes = let t = text_or_empty (attribute_value type_name attributes) in behind_colon t t
 
 -- the words of the kinds
 abbrev pub component_words : List (List ℕ × ObjectKind)
@@ -67,8 +67,8 @@ kind_in [] word = Other
 kind_in (row ∷ rows) word = if bytes_eq word row.0 then row.1 else kind_in rows word
 
 -- the kind of an entry
-abbrev pub kind_of : List Attribute → ObjectKind
-kind_of attributes = kind_in kind_words (word_of attributes)
+abbrev pub object_kind_of : List Attribute → ObjectKind
+object_kind_of attributes = kind_in kind_words (word_of attributes)
 
 -- the kinds that have lengths
 abbrev pub has_lengths : ObjectKind → Bool
@@ -108,27 +108,27 @@ is_minus (c ∷ cs) = c == 45
 
 -- the number of this sign whose size is `size` times ten to the minus scale, with the least scale
 abbrev pub least : Bool → ℕ → ℕ → Number
-least negative size zero = record { whole = signed negative size; scale = 0 }
-least negative size (suc scale) = if size % 10 == 0 then least negative (size / 10) scale else record { whole = signed negative size; scale = suc scale }
+least negative size zero = record { whole = signed_number negative size; scale = 0 }
+least negative size (suc scale) = if size % 10 == 0 then least negative (size / 10) scale else record { whole = signed_number negative size; scale = suc scale }
 
 -- the number that a decimal text spells
-abbrev pub number_of : List ℕ → Number
-number_of t = least (is_minus t) (digits_value 10 (digits_in t)) (fraction_count t)
+abbrev pub number_from_text : List ℕ → Number
+number_from_text t = least (is_minus t) (digits_value 10 (digits_in t)) (fraction_count t)
 
 -- a decimal text of at most 18 digits
 abbrev pub IsBound : List ℕ → Type 0
-IsBound t = IsDecimalText t × IsDecimal (number_of t)
+IsBound t = IsDecimalText t × IsDecimal (number_from_text t)
 
 -- a facet that the kind has, where it is given
 abbrev pub facet : Bool → List ℕ → List Attribute → Option (List ℕ)
-facet has local attributes = if has then value_of (own local) attributes else None
+facet has local attributes = if has then attribute_value (own local) attributes else None
 
 -- the numbers of facets
 abbrev pub count : Bool → List ℕ → List Attribute → Option ℕ
 count has local attributes = option_map (digits_value 10) (facet has local attributes)
 
 abbrev pub bound : Bool → List ℕ → List Attribute → Option Number
-bound has local attributes = option_map number_of (facet has local attributes)
+bound has local attributes = option_map number_from_text (facet has local attributes)
 
 -- `minOccurs`, where absent this number
 abbrev pub least_of : ℕ → Option (List ℕ) → ℕ

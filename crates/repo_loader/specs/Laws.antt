@@ -25,8 +25,8 @@ abbrev pub OneLoadFault : Type 0
 OneLoadFault = (bytes : List ℕ) (f g : LoadFault) → HasLoadFault bytes f → HasLoadFault bytes g → f ≡ g
 
 -- They have none where they spell a repository.
-abbrev pub SpelledHasNone : Type 0
-SpelledHasNone = (bytes : List ℕ) (x : Contents) (f : LoadFault) → Spells bytes x → HasLoadFault bytes f → ⊥
+abbrev pub SpelledHasNoLoadFault : Type 0
+SpelledHasNoLoadFault = (bytes : List ℕ) (x : Contents) (f : LoadFault) → Spells bytes x → HasLoadFault bytes f → ⊥
 
 -- No bytes are without both a repository and a first fault.
 abbrev pub OneOfBoth : Type 0

@@ -14,9 +14,9 @@ RefusesFile bytes (Refused fault) = HasLoadFault bytes fault
 RefusesFile bytes _ = Unit {0}
 
 -- the fault is one of some bytes, also where the source tells none
-abbrev pub IsPlaced : LoadError → Type 0
-IsPlaced (Refused fault) = (bytes : List ℕ) × HasLoadFault bytes fault
-IsPlaced _ = Unit {0}
+abbrev pub IsFaultOfBytes : LoadError → Type 0
+IsFaultOfBytes (Refused fault) = (bytes : List ℕ) × HasLoadFault bytes fault
+IsFaultOfBytes _ = Unit {0}
 
 -- how many bytes are asked of a source at once
 abbrev pub piece_limit : ℕ

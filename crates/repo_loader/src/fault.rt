@@ -44,9 +44,9 @@ pub enum LoadError {
 
 impl fmt::Display for LoadError {
     ghost use Rattle.std.specs.Prelude.{Some};
-    ghost use Rattle.repo_loader.specs.ErrorTexts.{error_text};
+    ghost use Rattle.repo_loader.specs.ErrorTexts.{load_error_text};
 
-    ghost output = { λ e. Some (error_text e) };
+    ghost output = { λ e. Some (load_error_text e) };
 
     fn fmt<W: fmt::Write>(&self, f: &mut fmt::Formatter<W>) -> fmt::Result {
         match self {

@@ -3,8 +3,8 @@ ghost use Rattle.std.specs.Prelude.{◌≡◌, ◌<◌, ◌≤◌, [], IfOk, IfE
 ghost use Rattle.std.specs.Io.KnownBytes.{IsAtEnd};
 ghost use Rattle.outside.specs.Source.{Rose};
 ghost use Rattle.repo_loader.specs.Loaded.{Spells};
-ghost use Rattle.repo_loader.specs.inner.ProgressSteps.{HasRead, HasAll};
-ghost use Rattle.repo_loader.specs.LoadErrors.{RefusesFile, IsPlaced, PullsForFault, IsCaused};
+ghost use Rattle.repo_loader.specs.inner.ProgressSteps.{HasReadFile, HasAll};
+ghost use Rattle.repo_loader.specs.LoadErrors.{RefusesFile, IsFaultOfBytes, PullsForFault, IsCaused};
 
 use crate::fault::{LoadError, LoadFault};
 use crate::progress::Progress;
@@ -46,11 +46,11 @@ fn read_to_end<R: Source>(
 ) -> Result<(), LoadError>
     requires some { 0 < length piece.old }
     requires few { length piece.old ≤ PIECE }
-    requires read { HasRead progress.old [] }
+    requires read { HasReadFile progress.old [] }
     ensures ok { OnOk result (HasAll (R.left source.old) progress.new) }
     ensures whole { OnOk result (IsAtEnd (R.left source.new)) }
     ensures err { IfErr result (λ e. IfSome (R.left source.old) (λ bytes. RefusesFile bytes e)) }
-    ensures placed { IfErr result (λ e. IsPlaced e) }
+    ensures placed { IfErr result (λ e. IsFaultOfBytes e) }
     ensures pulled { IfErr result (λ e. PullsForFault (R.left source.old) (R.left source.new) e) }
     ensures cause { IfErr result (λ e. IsCaused (R.faults source.old) (R.faults source.new) e) }
     ensures later { R.faults source.old ≤ R.faults source.new }
@@ -87,11 +87,11 @@ fn load_into<R: Source>(
 ) -> Result<Repository, LoadError>
     requires some { 0 < length piece.old }
     requires few { length piece.old ≤ PIECE }
-    requires read { HasRead progress.old [] }
+    requires read { HasReadFile progress.old [] }
     ensures ok { IfOk result (λ r. IfSome (R.left source.old) (λ bytes. Spells bytes r)) }
     ensures whole { OnOk result (IsAtEnd (R.left source.new)) }
     ensures err { IfErr result (λ e. IfSome (R.left source.old) (λ bytes. RefusesFile bytes e)) }
-    ensures placed { IfErr result (λ e. IsPlaced e) }
+    ensures placed { IfErr result (λ e. IsFaultOfBytes e) }
     ensures pulled { IfErr result (λ e. PullsForFault (R.left source.old) (R.left source.new) e) }
     ensures fault { IsErrOf result LoadError.ReadFault → Rose (R.faults source.old) (R.faults source.new) }
     ensures later { R.faults source.old ≤ R.faults source.new }
@@ -108,7 +108,7 @@ pub fn load<R: Source>(alloc: Global, source: &mut R) -> Result<Repository, Load
     ensures ok { IfOk result (λ r. IfSome (R.left source.old) (λ bytes. Spells bytes r)) }
     ensures whole { OnOk result (IsAtEnd (R.left source.new)) }
     ensures err { IfErr result (λ e. IfSome (R.left source.old) (λ bytes. RefusesFile bytes e)) }
-    ensures placed { IfErr result (λ e. IsPlaced e) }
+    ensures placed { IfErr result (λ e. IsFaultOfBytes e) }
     ensures pulled { IfErr result (λ e. PullsForFault (R.left source.old) (R.left source.new) e) }
     ensures fault { IsErrOf result LoadError.ReadFault → Rose (R.faults source.old) (R.faults source.new) }
     ensures later { R.faults source.old ≤ R.faults source.new }

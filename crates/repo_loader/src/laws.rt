@@ -1,5 +1,5 @@
 //! What follows of the definitions: functions that do nothing, whose contracts are laws.
-ghost use Rattle.repo_loader.specs.Laws.{SelectsTheTree, OneRepository, SpelledIsARepository, OneLoadFault, SpelledHasNone, OneOfBoth};
+ghost use Rattle.repo_loader.specs.Laws.{SelectsTheTree, OneRepository, SpelledIsARepository, OneLoadFault, SpelledHasNoLoadFault, OneOfBoth};
 
 /// What is read by the events of a tree is what is read of the tree.
 pub fn events_and_tree_agree()
@@ -23,7 +23,7 @@ pub fn one_load_fault()
 
 /// Bytes that spell a repository have no fault.
 pub fn spelled_has_none()
-    ensures { SpelledHasNone }
+    ensures { SpelledHasNoLoadFault }
 {}
 
 /// No input neither spells a repository nor has a first fault.

@@ -5,8 +5,8 @@ ghost use Rattle.markup.specs.EventItems.{entry_of};
 ghost use Rattle.repo_objects.specs.Objects.{HasObjectTexts, HasElementTexts};
 ghost use Rattle.repo_objects.specs.Repository.{HasId, HasEntryTexts};
 ghost use Rattle.repo_loader.specs.declared.part.Part.TheVariants.{Entry as EntryPart, Message as MessagePart};
-ghost use Rattle.repo_loader.specs.FileNames.{own, id_name, type_name, value_of as spec_value_of};
-ghost use Rattle.repo_loader.specs.Selected.{Tag};
+ghost use Rattle.repo_loader.specs.FileNames.{own, id_name, type_name, attribute_value as spec_value_of};
+ghost use Rattle.repo_loader.specs.Selected.{FileTag};
 ghost use Rattle.repo_loader.specs.inner.Stops.{IsSoundTag, TellsStop, TellsNumbers};
 ghost use Rattle.repo_loader.specs.inner.LoadingSteps.{AreTexts, entry_list, CanClose, with_element, with_code, HasObjects, OpensEntry, HasIdIn, CanCloseMessage, open_messages, HasMessages, with_block, with_identifier, TakesOther, HasTags};
 ghost use Rattle.repo_loader.specs.File.{is_entry, contents_of};
@@ -111,8 +111,8 @@ impl Loading {
         ensures can_close { OnOk result (CanClose self.new) }
         ensures messages { OnOk result (self.new.repository.messages ≡ self.old.repository.messages) }
         ensures message { OnOk result (self.new.message ≡ self.old.message) }
-        ensures ok { (tags : List Tag) → HasObjects self.old tags → OnOk result (OpensEntry self.old self.new kind (map entry_of attributes.now) × IsSoundTag tags (record { part = EntryPart kind; attributes = map entry_of attributes.now })) }
-        ensures err { (tags : List Tag) → HasObjects self.old tags → IfErr result (λ e. TellsStop tags (record { part = EntryPart kind; attributes = map entry_of attributes.now }) e) }
+        ensures ok { (tags : List FileTag) → HasObjects self.old tags → OnOk result (OpensEntry self.old self.new kind (map entry_of attributes.now) × IsSoundTag tags (record { part = EntryPart kind; attributes = map entry_of attributes.now })) }
+        ensures err { (tags : List FileTag) → HasObjects self.old tags → IfErr result (λ e. TellsStop tags (record { part = EntryPart kind; attributes = map entry_of attributes.now }) e) }
     {
         self.close_entry()?;
         if self.has_id_of(attributes) {
@@ -174,7 +174,7 @@ impl Loading {
         requires closes { CanCloseMessage self.old.message }
         requires texts { AreTexts (map entry_of attributes.now) }
         ensures can_close { OnOk result (CanCloseMessage self.new.message) }
-        ensures ok { (tags : List Tag) → HasMessages self.old.message self.old.repository.messages tags
+        ensures ok { (tags : List FileTag) → HasMessages self.old.message self.old.repository.messages tags
             → OnOk result (HasMessages self.new.message self.new.repository.messages (tags ++ (record { part = MessagePart; attributes = map entry_of attributes.now }) ∷ [])) }
         ensures objects { OnOk result (self.new.repository.objects ≡ self.old.repository.objects) }
         ensures entry { self.new.entry ≡ self.old.entry }
@@ -237,8 +237,8 @@ impl Loading {
         requires texts { AreTexts (map entry_of attributes.now) }
         ensures can_close { OnOk result (CanClose self.new) }
         ensures can_close_message { OnOk result (CanCloseMessage self.new.message) }
-        ensures ok { (tags : List Tag) → HasTags self.old tags → OnOk result (HasTags self.new (tags ++ (record { part = part; attributes = map entry_of attributes.now }) ∷ []) × IsSoundTag tags (record { part = part; attributes = map entry_of attributes.now })) }
-        ensures err { (tags : List Tag) → HasTags self.old tags → IfErr result (λ e. TellsStop tags (record { part = part; attributes = map entry_of attributes.now }) e) }
+        ensures ok { (tags : List FileTag) → HasTags self.old tags → OnOk result (HasTags self.new (tags ++ (record { part = part; attributes = map entry_of attributes.now }) ∷ []) × IsSoundTag tags (record { part = part; attributes = map entry_of attributes.now })) }
+        ensures err { (tags : List FileTag) → HasTags self.old tags → IfErr result (λ e. TellsStop tags (record { part = part; attributes = map entry_of attributes.now }) e) }
     {
         match part {
             Part::OtherRoot => Err(Stop::Rule(2)),
@@ -252,7 +252,7 @@ impl Loading {
     pub fn take_repository(&mut self) -> Result<Repository, AllocError>
         requires closes { CanClose self.old }
         requires closes_message { CanCloseMessage self.old.message }
-        ensures { (tags : List Tag) → HasTags self.old tags → IfOk result (λ r. r ≡ contents_of tags) }
+        ensures { (tags : List FileTag) → HasTags self.old tags → IfOk result (λ r. r ≡ contents_of tags) }
     {
         self.close_entry()?;
         self.close_message()?;

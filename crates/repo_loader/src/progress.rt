@@ -1,11 +1,11 @@
 // How far a repository file is read.
 ghost use Rattle.std.specs.Prelude.{◌≡◌, ◌<◌, ◌≤◌, ◌^◌, ◌+◌, [], ◌∷◌, ◌++◌, ℕ, List, Some, IfOk, IfNone, length, take, map};
 ghost use Rattle.markup.specs.Events.{Placed};
-ghost use Rattle.markup.specs.EventItems.{placed};
-ghost use Rattle.markup.specs.Reading.{taken, IsWholly};
-ghost use Rattle.repo_loader.specs.Loaded.{limit, Spells};
+ghost use Rattle.markup.specs.EventItems.{placed_event};
+ghost use Rattle.markup.specs.Reading.{bytes_taken, IsWholly};
+ghost use Rattle.repo_loader.specs.Loaded.{file_limit, Spells};
 ghost use Rattle.repo_loader.specs.inner.SelectionSteps.{HasLoaded, LoadsOn, HaveTexts};
-ghost use Rattle.repo_loader.specs.inner.ProgressSteps.{HasRead, ReadsOn, ReadsFront, TakesSome, EndsAs, markup_fault, TellsFault};
+ghost use Rattle.repo_loader.specs.inner.ProgressSteps.{HasReadFile, ReadsOn, ReadsFront, TakesSome, FileEndsAs, markup_fault, TellsFault};
 
 use crate::fault::LoadFault;
 use crate::selection::Selection;
@@ -44,8 +44,8 @@ fn fault_of_markup(fault: MarkFault) -> LoadFault
 impl Progress {
     /// Before the first byte. It takes no memory.
     pub fn new(alloc: Global) -> Progress
-        ensures read { HasRead result [] }
-        ensures none { taken result.reader ≡ 0 }
+        ensures read { HasReadFile result [] }
+        ensures none { bytes_taken result.reader ≡ 0 }
     {
         Progress {
             reader: Reader::new(alloc),
@@ -60,7 +60,7 @@ impl Progress {
         requires texts { HaveTexts self.old.events }
         ensures reader { self.new.reader ≡ self.old.reader }
         ensures none { self.new.events ≡ [] }
-        ensures loaded { (told : List Placed) → HasLoaded self.old.selection told → IfOk result (λ o. LoadsOn self.new.selection (told ++ map placed self.old.events) o) }
+        ensures loaded { (told : List Placed) → HasLoaded self.old.selection told → IfOk result (λ o. LoadsOn self.new.selection (told ++ map placed_event self.old.events) o) }
     {
         let result = self.selection.take_events(self.events.as_slice());
         self.events.clear();
@@ -72,7 +72,7 @@ impl Progress {
     fn first_fault(&mut self, fault: MarkFault) -> Result<LoadFault, AllocError>
         requires loaded { (told : List Placed) × HasLoaded self.old.selection told }
         requires texts { HaveTexts self.old.events }
-        ensures { (told : List Placed) → HasLoaded self.old.selection told → IfOk result (λ f. TellsFault (told ++ map placed self.old.events) fault f) }
+        ensures { (told : List Placed) → HasLoaded self.old.selection told → IfOk result (λ f. TellsFault (told ++ map placed_event self.old.events) fault f) }
     {
         match self.take_events()? {
             Some(found) => Ok(found),
@@ -82,10 +82,10 @@ impl Progress {
 
     /// Takes the next byte. It answers the fault that the byte shows.
     fn take(&mut self, byte: u8) -> Result<Option<LoadFault>, AllocError>
-        requires count { taken self.old.reader < 2 ^ 40 }
-        requires read { (bytes : List ℕ) × HasRead self.old bytes }
-        ensures read { (bytes : List ℕ) → HasRead self.old bytes → IfOk result (λ o. ReadsOn self.new (bytes ++ byte ∷ []) o) }
-        ensures count { IfOk result (λ o. IfNone o (taken self.new.reader ≡ taken self.old.reader + 1)) }
+        requires count { bytes_taken self.old.reader < 2 ^ 40 }
+        requires read { (bytes : List ℕ) × HasReadFile self.old bytes }
+        ensures read { (bytes : List ℕ) → HasReadFile self.old bytes → IfOk result (λ o. ReadsOn self.new (bytes ++ byte ∷ []) o) }
+        ensures count { IfOk result (λ o. IfNone o (bytes_taken self.new.reader ≡ bytes_taken self.old.reader + 1)) }
     {
         match self.reader.take(byte, &mut self.events) {
             Ok(()) => self.take_events(),
@@ -97,10 +97,10 @@ impl Progress {
     /// Takes the characters at the front of the piece that the reader tells by their number alone:
     /// they say nothing.
     fn take_characters(&mut self, piece: &[u8]) -> usize
-        requires { taken self.old.reader + length piece.now < 2 ^ 40 }
+        requires { bytes_taken self.old.reader + length piece.now < 2 ^ 40 }
         ensures within { result ≤ length piece.now }
-        ensures read { (bytes : List ℕ) → HasRead self.old bytes → HasRead self.new (bytes ++ take result piece.now) }
-        ensures count { taken self.new.reader ≡ taken self.old.reader + result }
+        ensures read { (bytes : List ℕ) → HasReadFile self.old bytes → HasReadFile self.new (bytes ++ take result piece.now) }
+        ensures count { bytes_taken self.new.reader ≡ bytes_taken self.old.reader + result }
     {
         self.reader.take_characters(piece).bytes
     }
@@ -108,10 +108,10 @@ impl Progress {
     /// Takes the bytes at the front of the piece that go on with a tag, a comment or an instruction:
     /// they say nothing yet.
     fn take_inside(&mut self, piece: &[u8]) -> Result<usize, AllocError>
-        requires { taken self.old.reader + length piece.now < 2 ^ 40 }
+        requires { bytes_taken self.old.reader + length piece.now < 2 ^ 40 }
         ensures within { IfOk result (λ n. n ≤ length piece.now) }
-        ensures read { (bytes : List ℕ) → HasRead self.old bytes → IfOk result (λ n. HasRead self.new (bytes ++ take n piece.now)) }
-        ensures count { IfOk result (λ n. taken self.new.reader ≡ taken self.old.reader + n) }
+        ensures read { (bytes : List ℕ) → HasReadFile self.old bytes → IfOk result (λ n. HasReadFile self.new (bytes ++ take n piece.now)) }
+        ensures count { IfOk result (λ n. bytes_taken self.new.reader ≡ bytes_taken self.old.reader + n) }
     {
         match self.reader.take_inside(piece) {
             Ok(count) => Ok(count),
@@ -122,10 +122,10 @@ impl Progress {
     /// Takes the first byte of the piece.
     fn take_one(&mut self, piece: &[u8]) -> Result<Front, AllocError>
         requires some { 0 < length piece.now }
-        requires count { taken self.old.reader + length piece.now < 2 ^ 40 }
-        requires read { (bytes : List ℕ) × HasRead self.old bytes }
+        requires count { bytes_taken self.old.reader + length piece.now < 2 ^ 40 }
+        requires read { (bytes : List ℕ) × HasReadFile self.old bytes }
         ensures some { IfOk result (λ f. TakesSome self.old self.new piece.now f) }
-        ensures read { (bytes : List ℕ) → HasRead self.old bytes → IfOk result (λ f. ReadsFront self.new bytes piece.now f) }
+        ensures read { (bytes : List ℕ) → HasReadFile self.old bytes → IfOk result (λ f. ReadsFront self.new bytes piece.now f) }
     {
         let Some((byte, _)) = piece.split_first() else {
             return Ok(Front::Read(0));
@@ -140,10 +140,10 @@ impl Progress {
     /// a whole, or else the first byte.
     fn take_token(&mut self, piece: &[u8]) -> Result<Front, AllocError>
         requires some { 0 < length piece.now }
-        requires count { taken self.old.reader + length piece.now < 2 ^ 40 }
-        requires read { (bytes : List ℕ) × HasRead self.old bytes }
+        requires count { bytes_taken self.old.reader + length piece.now < 2 ^ 40 }
+        requires read { (bytes : List ℕ) × HasReadFile self.old bytes }
         ensures some { IfOk result (λ f. TakesSome self.old self.new piece.now f) }
-        ensures read { (bytes : List ℕ) → HasRead self.old bytes → IfOk result (λ f. ReadsFront self.new bytes piece.now f) }
+        ensures read { (bytes : List ℕ) → HasReadFile self.old bytes → IfOk result (λ f. ReadsFront self.new bytes piece.now f) }
     {
         match self.reader.take_start(piece, &mut self.events) {
             Ok(count) => {
@@ -164,10 +164,10 @@ impl Progress {
     /// or a start tag, or else its first byte.
     fn take_front(&mut self, piece: &[u8]) -> Result<Front, AllocError>
         requires some { 0 < length piece.now }
-        requires count { taken self.old.reader + length piece.now < 2 ^ 40 }
-        requires read { (bytes : List ℕ) × HasRead self.old bytes }
+        requires count { bytes_taken self.old.reader + length piece.now < 2 ^ 40 }
+        requires read { (bytes : List ℕ) × HasReadFile self.old bytes }
         ensures some { IfOk result (λ f. TakesSome self.old self.new piece.now f) }
-        ensures read { (bytes : List ℕ) → HasRead self.old bytes → IfOk result (λ f. ReadsFront self.new bytes piece.now f) }
+        ensures read { (bytes : List ℕ) → HasReadFile self.old bytes → IfOk result (λ f. ReadsFront self.new bytes piece.now f) }
     {
         let characters = self.take_characters(piece);
         if characters > 0 {
@@ -182,10 +182,10 @@ impl Progress {
 
     /// Takes the next bytes, as far as the first that shows a fault.
     pub fn take_all(&mut self, piece: &[u8]) -> Result<Option<LoadFault>, AllocError>
-        requires count { taken self.old.reader + length piece.now < 2 ^ 40 }
-        requires read { (bytes : List ℕ) × HasRead self.old bytes }
-        ensures read { (bytes : List ℕ) → HasRead self.old bytes → IfOk result (λ o. ReadsOn self.new (bytes ++ piece.now) o) }
-        ensures count { IfOk result (λ o. IfNone o (taken self.new.reader ≡ taken self.old.reader + length piece.now)) }
+        requires count { bytes_taken self.old.reader + length piece.now < 2 ^ 40 }
+        requires read { (bytes : List ℕ) × HasReadFile self.old bytes }
+        ensures read { (bytes : List ℕ) → HasReadFile self.old bytes → IfOk result (λ o. ReadsOn self.new (bytes ++ piece.now) o) }
+        ensures count { IfOk result (λ o. IfNone o (bytes_taken self.new.reader ≡ bytes_taken self.old.reader + length piece.now)) }
     {
         let mut rest = piece;
         while !rest.is_empty() {
@@ -201,7 +201,7 @@ impl Progress {
 
     /// The end of the bytes. It answers the fault where they end too early.
     pub fn finish(&mut self) -> Result<Option<LoadFault>, AllocError>
-        ensures { (bytes : List ℕ) → HasRead self.old bytes → IfOk result (λ o. EndsAs self.new bytes o) }
+        ensures { (bytes : List ℕ) → HasReadFile self.old bytes → IfOk result (λ o. FileEndsAs self.new bytes o) }
     {
         match self.reader.finish(&mut self.events) {
             Ok(()) => Ok(None),
@@ -213,7 +213,7 @@ impl Progress {
     /// The repository that the bytes spell, which are whole.
     pub fn take_repository(&mut self) -> Result<Repository, AllocError>
         requires { (told : List Placed) × HasLoaded self.old.selection told }
-        ensures { (bytes : List ℕ) (told : List Placed) → HasLoaded self.old.selection told → IsWholly bytes told → length bytes ≤ limit → IfOk result (λ r. Spells bytes r) }
+        ensures { (bytes : List ℕ) (told : List Placed) → HasLoaded self.old.selection told → IsWholly bytes told → length bytes ≤ file_limit → IfOk result (λ r. Spells bytes r) }
     {
         self.selection.take_repository()
     }

@@ -2,7 +2,7 @@
 ghost use Rattle.std.specs.Prelude.{◌≡◌, [], ◌∷◌, ◌++◌, List, IfOk, map, reverse};
 ghost use Rattle.lexical_core.specs.Tree.{Starts};
 ghost use Rattle.markup.specs.Events.{Placed};
-ghost use Rattle.markup.specs.EventItems.{entry_of, item_of, placed};
+ghost use Rattle.markup.specs.EventItems.{entry_of, item_of, placed_event};
 ghost use Rattle.repo_loader.specs.Selected.{innermost as spec_innermost};
 ghost use Rattle.repo_loader.specs.File.{contents_of};
 ghost use Rattle.repo_loader.specs.inner.LoadingSteps.{AreTexts};
@@ -78,7 +78,7 @@ impl Selection {
     fn take_event(&mut self, event: &Event) -> Result<Option<LoadFault>, AllocError>
         requires loaded { (told : List Placed) × HasLoaded self.old told }
         requires texts { HasItemTexts (item_of event.now.what) }
-        ensures { (told : List Placed) → HasLoaded self.old told → IfOk result (λ o. LoadsOn self.new (told ++ placed event.now ∷ []) o) }
+        ensures { (told : List Placed) → HasLoaded self.old told → IfOk result (λ o. LoadsOn self.new (told ++ placed_event event.now ∷ []) o) }
     {
         match &event.what {
             What::Start { ns, local, attrs } => {
@@ -97,7 +97,7 @@ impl Selection {
     pub fn take_events(&mut self, events: &[Event]) -> Result<Option<LoadFault>, AllocError>
         requires loaded { (told : List Placed) × HasLoaded self.old told }
         requires texts { HaveTexts events.now }
-        ensures { (told : List Placed) → HasLoaded self.old told → IfOk result (λ o. LoadsOn self.new (told ++ map placed events.now) o) }
+        ensures { (told : List Placed) → HasLoaded self.old told → IfOk result (λ o. LoadsOn self.new (told ++ map placed_event events.now) o) }
     {
         let mut rest = events;
         while let Some((event, after)) = rest.split_first() {

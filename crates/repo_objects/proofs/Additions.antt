@@ -8,10 +8,10 @@ use Rattle.std.specs.Prelude.{AllPairs}
 use Rattle.repo_objects.specs.declared.objects.MessageDef.{MessageDef}
 use Rattle.repo_objects.specs.Laws.{NamesOneObject}
 use Rattle.repo_objects.specs.Objects.{HasMessageTexts}
-use Rattle.repo_objects.specs.Repository.{Entry, Contents, ids_of, HasId, HasEntryTexts, IsRepository}
+use Rattle.repo_objects.specs.Repository.{DictionaryEntry, Contents, ids_of, HasId, HasEntryTexts, IsRepository}
 
 -- an object under an id that no other has
-pub with_object : (contents : Contents) (entry : Entry) → IsRepository contents → (HasId contents.objects entry.id → ⊥) → HasEntryTexts entry
+pub with_object : (contents : Contents) (entry : DictionaryEntry) → IsRepository contents → (HasId contents.objects entry.id → ⊥) → HasEntryTexts entry
     → IsRepository (record contents { objects = contents.objects ++ entry ∷ [] })
 with_object contents entry before new texts =
     let others : (k : ℕ) (d : List ℕ) → k < length (ids_of contents.objects) → get_or (ids_of contents.objects) k d ≢ entry.id =
@@ -57,10 +57,10 @@ one_object contents one other whole has_one has_other same =
     ]
   where
     in_ids : (k : ℕ) → k < length contents.objects → k < length (ids_of contents.objects)
-    in_ids k lt = subst (λ n. k < n) (sym (length-map contents.objects (λ (e : Entry). e.id))) lt
+    in_ids k lt = subst (λ n. k < n) (sym (length-map contents.objects (λ (e : DictionaryEntry). e.id))) lt
 
-    id_at : (k : ℕ) (entry : Entry) → k < length contents.objects → get_or contents.objects k entry ≡ entry → get_or (ids_of contents.objects) k entry.id ≡ entry.id
-    id_at k entry lt is = get_or-map (λ (e : Entry). e.id) contents.objects k entry entry.id lt ∙ ap (λ (e : Entry). e.id) is
+    id_at : (k : ℕ) (entry : DictionaryEntry) → k < length contents.objects → get_or contents.objects k entry ≡ entry → get_or (ids_of contents.objects) k entry.id ≡ entry.id
+    id_at k entry lt is = get_or-map (λ (e : DictionaryEntry). e.id) contents.objects k entry entry.id lt ∙ ap (λ (e : DictionaryEntry). e.id) is
 
     at_default : (k : ℕ) → k < length contents.objects → (d e : List ℕ) → get_or (ids_of contents.objects) k d ≡ get_or (ids_of contents.objects) k e
     at_default k lt d e = get_or_default (ids_of contents.objects) k d e (in_ids k lt)

@@ -7,17 +7,17 @@ use Rattle.indexmap.specs.IndexMap.{set_value_at}
 use Rattle.repo_objects.specs.declared.objects.Object.{Object}
 use Rattle.repo_objects.specs.declared.objects.CodeDef.{CodeDef}
 use Rattle.repo_objects.specs.Objects.{HasCodeTexts, HasObjectTexts}
-use Rattle.repo_objects.specs.Repository.{Entry, Contents, ids_of, HasEntryTexts, IsRepository, coded, with_codes}
-use Rattle.repo_objects.specs.Stored.{entry_of, entries_of}
+use Rattle.repo_objects.specs.Repository.{DictionaryEntry, Contents, ids_of, HasEntryTexts, IsRepository, entry_with_codes, with_codes}
+use Rattle.repo_objects.specs.Stored.{stored_entry, entries_of}
 
 -- the ids stay
-same_ids : (entries : List Entry) (at : ℕ) (codes : List CodeDef) → ids_of (with_codes entries at codes) ≡ ids_of entries
+same_ids : (entries : List DictionaryEntry) (at : ℕ) (codes : List CodeDef) → ids_of (with_codes entries at codes) ≡ ids_of entries
 same_ids [] at codes = refl
 same_ids (e ∷ es) zero codes = refl
 same_ids (e ∷ es) (suc at) codes = ap (λ l. e.id ∷ l) (same_ids es at codes)
 
 -- an entry with other codes has texts
-coded_texts : (codes : List CodeDef) (e : Entry) → All HasCodeTexts codes → HasEntryTexts e → HasEntryTexts (coded codes e)
+coded_texts : (codes : List CodeDef) (e : DictionaryEntry) → All HasCodeTexts codes → HasEntryTexts e → HasEntryTexts (entry_with_codes codes e)
 coded_texts codes e texts h = record {
   id = h.id;
   object = record {
@@ -31,10 +31,10 @@ coded_texts codes e texts h = record {
   };
 }
 
-texts_kept : (entries : List Entry) (at : ℕ) (codes : List CodeDef) → All HasCodeTexts codes → All HasEntryTexts entries → All HasEntryTexts (with_codes entries at codes)
+texts_kept : (entries : List DictionaryEntry) (at : ℕ) (codes : List CodeDef) → All HasCodeTexts codes → All HasEntryTexts entries → All HasEntryTexts (with_codes entries at codes)
 texts_kept [] at codes texts all = All-nil HasEntryTexts
 texts_kept (e ∷ es) zero codes texts all =
-    All-cons HasEntryTexts (coded codes e) es (coded_texts codes e texts (All-head HasEntryTexts e es all)) (All-tail HasEntryTexts e es all)
+    All-cons HasEntryTexts (entry_with_codes codes e) es (coded_texts codes e texts (All-head HasEntryTexts e es all)) (All-tail HasEntryTexts e es all)
 texts_kept (e ∷ es) (suc at) codes texts all =
     All-cons HasEntryTexts e (with_codes es at codes) (All-head HasEntryTexts e es all) (texts_kept es at codes texts (All-tail HasEntryTexts e es all))
 
@@ -53,4 +53,4 @@ pub codes_put : (stored : List (Vec ℕ Global × Object)) (at : ℕ) (object : 
 codes_put [] at object codes h = refl
 codes_put (e ∷ es) zero object codes h =
     ap (λ (o : Object). record { id = e.0.items; object = record o { codes = codes } } ∷ entries_of es) (sym (ap (λ (r : Option Object). unwrap_or r e.1) h))
-codes_put (e ∷ es) (suc at) object codes h = ap (λ l. entry_of e ∷ l) (codes_put es at object codes h)
+codes_put (e ∷ es) (suc at) object codes h = ap (λ l. stored_entry e ∷ l) (codes_put es at object codes h)

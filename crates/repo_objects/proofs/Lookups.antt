@@ -10,12 +10,12 @@ use Rattle.std.specs.Str.{bytes_eq}
 use Rattle.indexmap.specs.IndexMap.{IndexMap, get, insert_entry}
 use Rattle.indexmap.proofs.CallerLemmas.{insert_entry-new}
 use Rattle.repo_objects.specs.declared.objects.Object.{Object}
-use Rattle.repo_objects.specs.Repository.{Entry, HasId, HasIdAt}
+use Rattle.repo_objects.specs.Repository.{DictionaryEntry, HasId, HasIdAt}
 use Rattle.std.specs.Prelude.{position, map, slice_get}
 use Rattle.std.proofs.lemmas.List.Quantifiers.{position-Some}
 use Rattle.std.proofs.lemmas.List.{length-map, get_or-map}
 use Rattle.std.proofs.Common.{suc, zero, length, get_or, subst, ◌<◌}
-use Rattle.repo_objects.specs.Stored.{entry_of, entries_of}
+use Rattle.repo_objects.specs.Stored.{stored_entry, entries_of}
 
 -- what the map stores
 abbrev pub Stored : Type 0
@@ -31,7 +31,7 @@ pub found_there : (id : List ℕ) (stored : List Stored) (object : Object) → l
 found_there id [] object h = absurd (true≢false (sym (ap is_some h)))
 found_there id (e ∷ es) object h = by (named id e.0) refl h (found_there id es object)
   where
-    entry : Entry
+    entry : DictionaryEntry
     entry = record { id = id; object = object }
 
     by : (b : Bool) → named id e.0 ≡ b → cond b (Some e.1) (lookup (named id) es) ≡ Some object
@@ -40,7 +40,7 @@ found_there id (e ∷ es) object h = by (named id e.0) refl h (found_there id es
         let same_id : e.0.items ≡ id = sym ((bytes_eq-Decides id e.0.items).0 is) in
         let same : e.1 ≡ object = ap (λ r. unwrap_or r e.1) h in
         (0, omega arith, λ i. record { id = same_id i; object = same i })
-    by false is h later = Contains-append_right (entry_of e ∷ []) (entries_of es) entry (later h)
+    by false is h later = Contains-append_right (stored_entry e ∷ []) (entries_of es) entry (later h)
 
 -- so some object has that id
 pub found_id : (id : List ℕ) (stored : List Stored) → is_some (lookup (named id) stored) ≡ true → HasId (entries_of stored) id
@@ -96,7 +96,7 @@ pub inserted_last : {S : Type 0} (dictionary : IndexMap (Vec ℕ Global) Object 
     ≡ entries_of dictionary.entries ++ record { id = id.items; object = object } ∷ []
 inserted_last dictionary id object new =
     ap entries_of (insert_entry-new same_bytes dictionary id object (none_of (get same_bytes dictionary id) (λ some. new (found_id id.items dictionary.entries some))))
-    ∙ map-append entry_of dictionary.entries ((id, object) ∷ [])
+    ∙ map-append stored_entry dictionary.entries ((id, object) ∷ [])
   where
     none_of : (r : Option Object) → (is_some r ≡ true → ⊥) → r ≡ None
     none_of None h = refl
@@ -111,9 +111,9 @@ placed_at id (e ∷ es) k h =
     let within : k < length (e ∷ es) = subst (λ n. k < n) (length-map (e ∷ es) (λ (e : Stored). e.0)) at.0 in
     let stored = get_or (e ∷ es) k e in
     let key : get_or keys k e.0 ≡ stored.0 = get_or-map (λ (e : Stored). e.0) (e ∷ es) k e e.0 within in
-    (entry_of stored, there (e ∷ es) k e within, sym ((bytes_eq-Decides id stored.0.items).0 (subst (λ v. named id v ≡ true) key at.1)))
+    (stored_entry stored, there (e ∷ es) k e within, sym ((bytes_eq-Decides id stored.0.items).0 (subst (λ v. named id v ≡ true) key at.1)))
   where
-    there : (xs : List Stored) (k : ℕ) (d : Stored) → k < length xs → slice_get (entries_of xs) k ≡ Some (entry_of (get_or xs k d))
+    there : (xs : List Stored) (k : ℕ) (d : Stored) → k < length xs → slice_get (entries_of xs) k ≡ Some (stored_entry (get_or xs k d))
     there [] k d l = absurd (omega (arith, l))
     there (x ∷ xs) zero d l = refl
     there (x ∷ xs) (suc k) d l = there xs k d (omega (arith, l))

@@ -7,39 +7,39 @@ use Rattle.repo_objects.specs.declared.objects.CodeDef.{CodeDef}
 use Rattle.repo_objects.specs.Objects.{HasObjectTexts, HasMessageTexts}
 
 -- an object and the id that names it
-pub record Entry : Type 0 where
+pub record DictionaryEntry : Type 0 where
   pub id : List ℕ
   pub object : Object
 
 -- both lists are in file order
 pub record Contents : Type 0 where
-  pub objects : List Entry
+  pub objects : List DictionaryEntry
   pub messages : List MessageDef
 
 -- the ids, in file order
-abbrev pub ids_of : List Entry → List (List ℕ)
-ids_of entries = map (λ (entry : Entry). entry.id) entries
+abbrev pub ids_of : List DictionaryEntry → List (List ℕ)
+ids_of entries = map (λ (entry : DictionaryEntry). entry.id) entries
 
 -- some object has that id
-abbrev pub HasId : List Entry → List ℕ → Type 0
+abbrev pub HasId : List DictionaryEntry → List ℕ → Type 0
 HasId entries id = Contains (ids_of entries) id
 
 -- the object at that place has that id
-abbrev pub HasIdAt : List Entry → ℕ → List ℕ → Type 0
-HasIdAt entries at id = (e : Entry) × (slice_get entries at ≡ Some e) × (e.id ≡ id)
+abbrev pub HasIdAt : List DictionaryEntry → ℕ → List ℕ → Type 0
+HasIdAt entries at id = (e : DictionaryEntry) × (slice_get entries at ≡ Some e) × (e.id ≡ id)
 
 -- the entry with these codes in the place of its own
-abbrev pub coded : List CodeDef → Entry → Entry
-coded codes entry = record entry { object = record entry.object { codes = codes } }
+abbrev pub entry_with_codes : List CodeDef → DictionaryEntry → DictionaryEntry
+entry_with_codes codes entry = record entry { object = record entry.object { codes = codes } }
 
 -- the objects, where the one at that place has these codes in the place of its own
-abbrev pub with_codes : List Entry → ℕ → List CodeDef → List Entry
+abbrev pub with_codes : List DictionaryEntry → ℕ → List CodeDef → List DictionaryEntry
 with_codes [] at codes = []
-with_codes (entry ∷ entries) zero codes = coded codes entry ∷ entries
+with_codes (entry ∷ entries) zero codes = entry_with_codes codes entry ∷ entries
 with_codes (entry ∷ entries) (suc at) codes = entry ∷ with_codes entries at codes
 
 -- the texts of an entry
-pub record HasEntryTexts (entry : Entry) : Type 0 where
+pub record HasEntryTexts (entry : DictionaryEntry) : Type 0 where
   pub id : IsXmlText entry.id
   pub object : HasObjectTexts entry.object
 

@@ -3,7 +3,7 @@ ghost use Rattle.std.specs.Prelude.{◌≡◌, ◌↔◌, ◌<◌, [], ◌∷◌
 ghost use Rattle.std.specs.Option.{option_copied, option_map};
 ghost use Rattle.lexical_core.specs.Characters.{IsXmlText};
 ghost use Rattle.repo_objects.specs.Objects.{HasObjectTexts, HasMessageTexts, HasCodeTexts};
-ghost use Rattle.repo_objects.specs.Repository.{Entry, HasId, HasIdAt, IsRepository, with_codes};
+ghost use Rattle.repo_objects.specs.Repository.{DictionaryEntry, HasId, HasIdAt, IsRepository, with_codes};
 ghost use Rattle.repo_objects.specs.Stored.{entries_of};
 
 use crate::objects::{CodeDefs, MessageDef, Object};
@@ -139,7 +139,7 @@ impl Repository {
 
     /// The id and the object at that place, counted from 0 in file order; `None` past the last.
     pub fn object_at(&self, at: usize) -> Option<(&[u8], &Object)>
-        ensures entry { option_map (λ p. let entry : Entry = record { id = p.0.now; object = p.1.now } in entry) result ≡ slice_get self.now.objects at }
+        ensures entry { option_map (λ p. let entry : DictionaryEntry = record { id = p.0.now; object = p.1.now } in entry) result ≡ slice_get self.now.objects at }
         ensures whole { IsRepository self.now }
     {
         let (id, object) = self.objects.get_index(at)?;

@@ -7,7 +7,7 @@ use Rattle.lexical_core.specs.Characters.{IsXmlText}
 use Rattle.markup.specs.Chars.{is_space}
 use Rattle.markup.specs.Name.{name_text}
 use Rattle.markup.specs.Attribute.{Attribute, is_attribute, attribute_text, piece_text}
-use Rattle.markup.specs.Events.{given}
+use Rattle.markup.specs.Events.{given_attribute}
 use Rattle.markup.specs.declared.tag.Given.{Given}
 use Rattle.fragments.specs.Fragment.{Written, written_text}
 use Rattle.respell.proofs.Lists.{encode-append}
@@ -37,7 +37,7 @@ pub record HasAttribute (w : Written) : Type 0 where
   pub attribute : Attribute
   pub is : is_attribute attribute ≡ true
   pub bytes : encode_utf8_all (attribute_text attribute) ≡ written_text w
-  pub reads : given attribute ≡ given_as w
+  pub reads : given_attribute attribute ≡ given_as w
 
 pub attribute_of : (w : Written) → IsWritten w → HasAttribute w
 unfolding is_space
@@ -54,7 +54,7 @@ pub record HasAttributes (ws : List Written) : Type 0 where
   pub attributes : List Attribute
   pub are : list_all is_attribute attributes ≡ true
   pub bytes : encode_utf8_all (flat_map attribute_text attributes) ≡ flat_map written_text ws
-  pub reads : map given attributes ≡ map given_as ws
+  pub reads : map given_attribute attributes ≡ map given_as ws
 
 pub attributes_of : (ws : List Written) → AllByRecursion IsWritten ws → HasAttributes ws
 attributes_of [] h = record { attributes = []; are = refl; bytes = refl; reads = refl }

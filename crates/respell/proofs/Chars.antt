@@ -4,7 +4,7 @@ use Rattle.std.specs.Prelude.{codes, encode_utf8}
 use Rattle.std.proofs.lemmas.Bool.{cases_Bool}
 use Rattle.std.proofs.lemmas.Bool.Decides.{nat_tests}
 use Rattle.lexical_core.specs.Tree.{Char}
-use Rattle.lexical_core.specs.Escapes.{escaped}
+use Rattle.lexical_core.specs.Escapes.{escape_of}
 use Rattle.lexical_core.specs.declared.rule.Rule.{Rule}
 use Rattle.markup.specs.Chars.{is_xml_char, is_space}
 use Rattle.markup.specs.Reference.{Named, Numbered, Ampersand, Less, Greater}
@@ -16,7 +16,7 @@ use Rattle.markup.specs.Faults.{rule_of, is_outside}
 -- the token of a character, inside an element
 pub record HasToken (before : List Token) (c : ℕ) : Type 0 where
   pub token : Token
-  pub bytes : token_bytes token ≡ escaped false c
+  pub bytes : token_bytes token ≡ escape_of false c
   pub stand : (rest : List ℕ) → stands before token rest ≡ true
   pub rule : rule_of before token ≡ None
   pub items : items_of before token ≡ Char c ∷ []

@@ -5,7 +5,7 @@ use Rattle.std.specs.Str.{bytes_eq}
 use Rattle.std.proofs.lemmas.Bool.{cases_Bool, true≢false}
 use Rattle.lexical_core.specs.Tree.{Entry}
 use Rattle.lexical_core.specs.Names.{xmlns}
-use Rattle.fragments.specs.Fragment.{Written, written_text, needs_none, before_others, namespaces_of, declarations, prefix_of}
+use Rattle.fragments.specs.Fragment.{Written, written_text, needs_none, before_others, namespaces_of, numbered_declarations, prefix_of}
 use Rattle.respell.proofs.Prefixes.{same_bytes, bytes_same, other_bytes}
 use Rattle.respell.specs.inner.Declaring.{without, is_new}
 
@@ -73,13 +73,13 @@ without_none (e ∷ es) = elim (cases_Bool (needs_none e.name.namespace)) as (λ
 -- one more declaration, and those behind it
 pub declared_step : (old new whole : List ℕ) (number : ℕ) (last n : List ℕ) (e : Entry) (es left : List Entry) → left ≡ e ∷ es → n ≡ e.name.namespace → is_new last n ≡ true
     → new ≡ old ++ written_text (record { name = record { prefix = xmlns; local = prefix_of (number + 1) }; value = n })
-    → old ++ flat_map written_text (declarations (number + 1) (without last (namespaces_of left))) ≡ whole
-    → new ++ flat_map written_text (declarations (number + 1 + 1) (without n (namespaces_of es))) ≡ whole
+    → old ++ flat_map written_text (numbered_declarations (number + 1) (without last (namespaces_of left))) ≡ whole
+    → new ++ flat_map written_text (numbered_declarations (number + 1 + 1) (without n (namespaces_of es))) ≡ whole
 declared_step old new whole number last n e es left split named fresh pushed before =
     let w : Written = record { name = record { prefix = xmlns; local = prefix_of (number + 1) }; value = e.name.namespace } in
     let fresh' : is_new last e.name.namespace ≡ true = subst (λ (m : List ℕ). is_new last m ≡ true) named fresh in
-    let rest = flat_map written_text (declarations (number + 1 + 1) (without e.name.namespace (namespaces_of es))) in
-    let all : flat_map written_text (declarations (number + 1) (without last (namespaces_of left))) ≡ written_text w ++ rest =
-    ap (λ (l : List Entry). flat_map written_text (declarations (number + 1) (without last (namespaces_of l)))) split ∙ ap (λ (l : List (List ℕ)). flat_map written_text (declarations (number + 1) l)) (without_new last e es fresh') in
-    ap₂ (λ (x y : List ℕ). x ++ flat_map written_text (declarations (number + 1 + 1) (without y (namespaces_of es)))) (pushed ∙ ap (λ (m : List ℕ). old ++ written_text (record { name = record { prefix = xmlns; local = prefix_of (number + 1) }; value = m })) named) named
+    let rest = flat_map written_text (numbered_declarations (number + 1 + 1) (without e.name.namespace (namespaces_of es))) in
+    let all : flat_map written_text (numbered_declarations (number + 1) (without last (namespaces_of left))) ≡ written_text w ++ rest =
+    ap (λ (l : List Entry). flat_map written_text (numbered_declarations (number + 1) (without last (namespaces_of l)))) split ∙ ap (λ (l : List (List ℕ)). flat_map written_text (numbered_declarations (number + 1) l)) (without_new last e es fresh') in
+    ap₂ (λ (x y : List ℕ). x ++ flat_map written_text (numbered_declarations (number + 1 + 1) (without y (namespaces_of es)))) (pushed ∙ ap (λ (m : List ℕ). old ++ written_text (record { name = record { prefix = xmlns; local = prefix_of (number + 1) }; value = m })) named) named
     ∙ (append_assoc old (written_text w) rest ∙ (ap (λ (l : List ℕ). old ++ l) (sym all) ∙ before))

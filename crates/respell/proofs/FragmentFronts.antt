@@ -2,11 +2,11 @@
 use Rattle.std.proofs.Common.{◌≡◌, ◌≤◌, ℕ, length, List, [], ◌∷◌, ◌++◌, map, refl, sym, ap, subst, ◌∙◌, append_assoc, append-nil}
 use Rattle.std.specs.List.{AllByRecursion}
 use Rattle.std.proofs.lemmas.List.{append_cancel_left}
-use Rattle.lexical_core.specs.Tree.{Item, Starts, Char, Ends, Skipped, Tree, TreeIs, flat, counted}
+use Rattle.lexical_core.specs.Tree.{Item, Starts, Char, Ends, Skipped, Tree, TreeIs, flat, tree_items}
 use Rattle.markup.specs.Token.{Token}
 use Rattle.markup.specs.Marks.{Front, no_limit}
 use Rattle.markup.specs.Events.{Placed, events}
-use Rattle.markup.specs.EventItems.{item_of, placed}
+use Rattle.markup.specs.EventItems.{item_of, placed_event}
 use Rattle.markup.specs.Faults.{IsWholeUnder, MarkFaultUnder, Fault}
 use Rattle.markup.specs.Reading.{HasTakenUnder, GoesOnUnder, IsWhollyUnder}
 use Rattle.markup.specs.declared.event.Event.{Event}
@@ -14,7 +14,7 @@ use Rattle.markup.specs.declared.reader.Reader.{Reader}
 use Rattle.markup.proofs.OneFault.{whole_has_none}
 use Rattle.markup.proofs.Stays.{events_stay}
 use Rattle.fragments.specs.Plain.{IsPlain}
-use Rattle.respell.specs.Laws.{Reads, IsPlainItem}
+use Rattle.respell.specs.Laws.{ReadsTree, IsPlainItem}
 use Rattle.respell.specs.Respelling.{HasSortedAttributes, AreOf, told_of}
 use Rattle.respell.specs.inner.FragmentReading.{NoneOutside, IsFragment, event_items}
 use Rattle.respell.proofs.Fronts.{front_of}
@@ -29,8 +29,8 @@ items told = map (λ (p : Placed). p.item) told
 
 -- ---- a fragment to come
 
-pub reads_of : (bytes : List ℕ) (f : IsFragment bytes) → Reads no_limit bytes f.tree
-reads_of bytes f = subst (λ (b : List ℕ). Reads no_limit b f.tree) f.spelled (read_back f.tree no_limit f.plain (subst (λ (b : List ℕ). length b ≤ no_limit) (sym f.spelled) f.within))
+pub reads_of : (bytes : List ℕ) (f : IsFragment bytes) → ReadsTree no_limit bytes f.tree
+reads_of bytes f = subst (λ (b : List ℕ). ReadsTree no_limit b f.tree) f.spelled (read_back f.tree no_limit f.plain (subst (λ (b : List ℕ). length b ≤ no_limit) (sym f.spelled) f.within))
 
 whole_of : (bytes : List ℕ) → IsFragment bytes → IsWholeUnder no_limit bytes
 whole_of bytes f = let r = reads_of bytes f in record { tokens = r.tokens; marks = r.marks; clean = r.clean; over = r.over }
@@ -80,7 +80,7 @@ pub items-append_placed : (a b : List Placed) → items (a ++ b) ≡ items a ++ 
 items-append_placed [] b = refl
 items-append_placed (p ∷ a) b = ap (λ (l : List Item). p.item ∷ l) (items-append_placed a b)
 
-items_placed : (es : List Event) → items (map placed es) ≡ event_items es
+items_placed : (es : List Event) → items (map placed_event es) ≡ event_items es
 items_placed [] = refl
 items_placed (e ∷ es) = ap (λ (l : List Item). item_of e.what ∷ l) (items_placed es)
 
@@ -106,12 +106,12 @@ pub ends_tree : (bytes : List ℕ) (told : List Placed) → IsWhollyUnder no_lim
 ends_tree bytes told (tokens, marks, clean, over, is) inside =
     let (t, tree_is) = whole_tree tokens clean over in
     let same : items told ≡ items_in [] tokens = ap items is ∙ events_items [] 0 tokens in
-    let are : TreeIs (items (events [] 0 tokens)) t = ap (counted 0) (events_items [] 0 tokens) ∙ tree_is in
+    let are : TreeIs (items (events [] 0 tokens)) t = ap (tree_items 0) (events_items [] 0 tokens) ∙ tree_is in
     let plain = plain_tree no_limit bytes tokens t marks clean are in
     record {
       tree = t;
       plain = plain;
-      are = told_counted 0 (items told) inside ∙ (ap (λ (l : List Placed). counted 0 (items l)) is ∙ are);
+      are = told_counted 0 (items told) inside ∙ (ap (λ (l : List Placed). tree_items 0 (items l)) is ∙ are);
     }
 
 -- the tree of a fragment is the one that was told

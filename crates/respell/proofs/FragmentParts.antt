@@ -8,12 +8,12 @@ use Rattle.markup.specs.Events.{Placed}
 use Rattle.markup.specs.Literals.{IsRun, characters_from}
 use Rattle.markup.specs.PlainTags.{tag_items, name_behind, open_behind, open_after, innermost_namespace}
 use Rattle.markup.specs.Scopes.{placed_at}
-use Rattle.markup.specs.Reading.{taken, HasTakenUnder, HasToldUnder}
+use Rattle.markup.specs.Reading.{bytes_taken, HasTakenUnder, HasToldUnder}
 use Rattle.markup.specs.declared.plain_tag.TagKind.{TagKind}
 use Rattle.markup.specs.declared.plain_tag.TagKind.TheVariants as kind
 use Rattle.markup.specs.declared.reader.Reader.{Reader}
 use Rattle.respell.specs.Kept.{HasWritten, IsInDefault, opened_by}
-use Rattle.respell.specs.inner.FragmentReading.{NoneOutside, HasReadFront, IsFragment, ReadsOn, AdvancesSo}
+use Rattle.respell.specs.inner.FragmentReading.{NoneOutside, HasReadFront, IsFragment, ReadsFragmentOn, AdvancesSo}
 use Rattle.respell.specs.declared.respell.Respell.{Respell}
 use Rattle.respell.specs.declared.fragment_reader.FragmentReader.{FragmentReader}
 use Rattle.respell.specs.declared.fragment_reader.Advance.{Advance}
@@ -35,7 +35,7 @@ more_read old new front forgotten more placed is h same reads writes inside =
 
 -- ---- nothing
 
-pub reads_none : (r : FragmentReader) (bytes : List ℕ) → ReadsOn r r bytes 0
+pub reads_none : (r : FragmentReader) (bytes : List ℕ) → ReadsFragmentOn r r bytes 0
 reads_none r bytes = record {
   within = omega arith;
   moved = omega arith;
@@ -67,8 +67,8 @@ RunWritten old new run count = (forgotten : List ℕ) (is : List Item) (r : IsRu
 abbrev pub HasRoot : Respell → Type 0
 HasRoot r = (forgotten : List ℕ) (is : List Item) (characters : List ℕ) → HasWritten r forgotten is → NoneOutside 0 is → NoneOutside 0 (is ++ map (λ c. Char c) characters)
 
-pub reads_run : (old new : FragmentReader) (bytes : List ℕ) (room n count : ℕ) → n ≤ length (take room bytes) → taken new.reader ≡ taken old.reader + n → RunRead old.reader new.reader (take n (take room bytes)) count
-    → RunWritten old.respell new.respell (take n bytes) count → HasRoot old.respell → ReadsOn old new bytes n
+pub reads_run : (old new : FragmentReader) (bytes : List ℕ) (room n count : ℕ) → n ≤ length (take room bytes) → bytes_taken new.reader ≡ bytes_taken old.reader + n → RunRead old.reader new.reader (take n (take room bytes)) count
+    → RunWritten old.respell new.respell (take n bytes) count → HasRoot old.respell → ReadsFragmentOn old new bytes n
 reads_run old new bytes room n count within moved told written root =
     let w = run_within bytes n room within in
     let read : RunRead old.reader new.reader (take n bytes) count = subst (λ (l : List ℕ). RunRead old.reader new.reader l count) w.0 told in record {
@@ -109,7 +109,7 @@ TagWritten old new k name = (forgotten : List ℕ) (is : List Item) (n : Expande
 abbrev pub StandsInDefault : Respell → Type 0
 StandsInDefault r = (forgotten : List ℕ) (is : List Item) → HasWritten r forgotten is → IsInDefault r (innermost_namespace (opened_by [] is))
 
-pub reads_tag : (old new : FragmentReader) (bytes name : List ℕ) (k : TagKind) (n : ℕ) → n ≤ length bytes → taken new.reader ≡ taken old.reader + n → TagRead old.reader new.reader (take n bytes) k name → TagWritten old.respell new.respell k name → StandsInDefault old.respell → ReadsOn old new bytes n
+pub reads_tag : (old new : FragmentReader) (bytes name : List ℕ) (k : TagKind) (n : ℕ) → n ≤ length bytes → bytes_taken new.reader ≡ bytes_taken old.reader + n → TagRead old.reader new.reader (take n bytes) k name → TagWritten old.respell new.respell k name → StandsInDefault old.respell → ReadsFragmentOn old new bytes n
 reads_tag old new bytes name k n within moved told written default = record {
   within = within;
   moved = moved;
@@ -121,8 +121,8 @@ reads_tag old new bytes name k n within moved told written default = record {
 
 -- ---- bytes inside a token
 
-pub reads_inside : (old new : FragmentReader) (bytes : List ℕ) (n : ℕ) → n ≤ length bytes → taken new.reader ≡ taken old.reader + n → (n ≡ 0 → new.reader ≡ old.reader)
-    → ((front : List ℕ) (told : List Placed) → HasTakenUnder no_limit old.reader front told → 0 < n → HasToldUnder no_limit new.reader (front ++ take n bytes) told) → new.respell ≡ old.respell → ReadsOn old new bytes n
+pub reads_inside : (old new : FragmentReader) (bytes : List ℕ) (n : ℕ) → n ≤ length bytes → bytes_taken new.reader ≡ bytes_taken old.reader + n → (n ≡ 0 → new.reader ≡ old.reader)
+    → ((front : List ℕ) (told : List Placed) → HasTakenUnder no_limit old.reader front told → 0 < n → HasToldUnder no_limit new.reader (front ++ take n bytes) told) → new.respell ≡ old.respell → ReadsFragmentOn old new bytes n
 reads_inside old new bytes n within moved none some same = record {
   within = within;
   moved = moved;
@@ -141,7 +141,7 @@ reads_inside old new bytes n within moved none some same = record {
 
 -- ---- one byte
 
-pub reads_first : (old new : FragmentReader) (bytes behind : List ℕ) (byte : ℕ) → bytes ≡ byte ∷ behind → taken new.reader ≡ taken old.reader + 1
+pub reads_first : (old new : FragmentReader) (bytes behind : List ℕ) (byte : ℕ) → bytes ≡ byte ∷ behind → bytes_taken new.reader ≡ bytes_taken old.reader + 1
     → ((front forgotten : List ℕ) → HasReadFront old front forgotten → HasReadFront new (front ++ byte ∷ []) forgotten) → AdvancesSo old new bytes (Taken 1)
 reads_first old new bytes behind byte e moved reads = rw e ((omega arith), record { within = omega arith; moved = moved; reads = reads })
 
@@ -151,17 +151,17 @@ refuses_first old new bytes behind byte e stops = rw e (λ front forgotten h f. 
 
 -- ---- one after another
 
-same_read : (old new : FragmentReader) (bytes : List ℕ) (n : ℕ) → n ≡ 0 → ReadsOn old new bytes n → (front forgotten : List ℕ) → HasReadFront old front forgotten → HasReadFront new front forgotten
+same_read : (old new : FragmentReader) (bytes : List ℕ) (n : ℕ) → n ≡ 0 → ReadsFragmentOn old new bytes n → (front forgotten : List ℕ) → HasReadFront old front forgotten → HasReadFront new front forgotten
 same_read old new bytes n e a front forgotten h = subst (λ (l : List ℕ). HasReadFront new l forgotten) (append-nil front) (subst (λ (k : ℕ). HasReadFront new (front ++ take k bytes) forgotten) e (a.reads front forgotten h))
 
-pub reads_then : (old between new : FragmentReader) (bytes : List ℕ) (n m : ℕ) → n ≡ 0 → ReadsOn old between bytes n → ReadsOn between new bytes m → ReadsOn old new bytes m
+pub reads_then : (old between new : FragmentReader) (bytes : List ℕ) (n m : ℕ) → n ≡ 0 → ReadsFragmentOn old between bytes n → ReadsFragmentOn between new bytes m → ReadsFragmentOn old new bytes m
 reads_then old between new bytes n m e a b = record {
   within = b.within;
   moved = (let i = a.moved in let j = b.moved in omega (arith, i, j, e));
   reads = λ front forgotten h. b.reads front forgotten (same_read old between bytes n e a front forgotten h);
 }
 
-pub advances_then : (old between new : FragmentReader) (bytes : List ℕ) (n : ℕ) (a : Advance) → n ≡ 0 → ReadsOn old between bytes n → AdvancesSo between new bytes a → AdvancesSo old new bytes a
+pub advances_then : (old between new : FragmentReader) (bytes : List ℕ) (n : ℕ) (a : Advance) → n ≡ 0 → ReadsFragmentOn old between bytes n → AdvancesSo between new bytes a → AdvancesSo old new bytes a
 advances_then old between new bytes n (Taken m) e a b = (b.0, reads_then old between new bytes n m e a b.1)
 advances_then old between new bytes n NoFragment e a b = λ front forgotten h f. b front forgotten (same_read old between bytes n e a front forgotten h) f
 

@@ -17,7 +17,7 @@ use Rattle.markup.specs.declared.reader.MarkError.TheVariants.{Refused, Memory}
 use Rattle.markup.specs.declared.reader.MarkFault.{MarkFault as Told}
 use Rattle.fragments.specs.Plain.{IsPlain}
 use Rattle.fragments.specs.Fragment.{fragment}
-use Rattle.respell.specs.Respelling.{HasSortedAttributes, AreOf, respelled, defaults_behind}
+use Rattle.respell.specs.Respelling.{HasSortedAttributes, AreOf, respelled_text, defaults_behind}
 use Rattle.respell.specs.Kept.{HasWritten}
 use Rattle.respell.specs.inner.FragmentReading.{NoneOutside, HasReadFront, IsFragment, event_items}
 use Rattle.respell.specs.declared.fragment_reader.FragmentReader.{FragmentReader}
@@ -81,8 +81,8 @@ byte_refused old bytes forgotten more before after e fault h byte is stops f =
 text_front : (r : FragmentReader) (front forgotten others : List ℕ) (h : HasReadFront r front forgotten) → IsFragment (front ++ others) → (more : List ℕ) × ((forgotten ++ r.respell.text) ++ more ≡ front ++ others)
 text_front r front forgotten others h f =
     let m = told_front r.reader front others h.told h.reads f in (
-      respelled (defaults_behind [] (items h.told)) m.0,
-      ap (λ (l : List ℕ). l ++ respelled (defaults_behind [] (items h.told)) m.0) h.writes.text_is ∙ (sym (respelled-append [] (items h.told) m.0) ∙ (ap (respelled []) m.1 ∙ (respelled_tree f.tree ∙ f.spelled))),
+      respelled_text (defaults_behind [] (items h.told)) m.0,
+      ap (λ (l : List ℕ). l ++ respelled_text (defaults_behind [] (items h.told)) m.0) h.writes.text_is ∙ (sym (respelled-append [] (items h.told) m.0) ∙ (ap (respelled_text []) m.1 ∙ (respelled_tree f.tree ∙ f.spelled))),
     )
 
 pub front_differs : (r : FragmentReader) (front forgotten others bytes uncompared : List ℕ) → HasReadFront r front forgotten → front ++ others ≡ bytes → forgotten ++ uncompared ≡ bytes → ((rest : List ℕ) → uncompared ≡ r.respell.text ++ rest → ⊥) → IsFragment bytes → ⊥

@@ -3,16 +3,16 @@ use Rattle.std.proofs.Common.{◌≡◌, ℕ, Bool, true, false, ◌||◌, List,
 use Rattle.std.specs.List.{flat_map}
 use Rattle.std.proofs.lemmas.Bool.{true≢false}
 use Rattle.std.proofs.lemmas.List.{reverse-append, nil_from_length}
-use Rattle.lexical_core.specs.Escapes.{escaped}
+use Rattle.lexical_core.specs.Escapes.{escape_of}
 use Rattle.lexical_core.specs.Tree.{Expanded, Entry, Item, Starts, Char, Ends, Skipped}
 use Rattle.markup.specs.EventItems.{item_of, entry_of}
 use Rattle.markup.specs.PlainTags.{open_after}
 use Rattle.markup.specs.declared.event.Attr.{Attr}
 use Rattle.markup.specs.declared.event.What.{What}
 use Rattle.markup.specs.declared.event.What.TheVariants.{Start, Char as CharTold, End, Skipped as SkippedTold}
-use Rattle.fragments.specs.Plain.{AreSorted}
-use Rattle.fragments.specs.Fragment.{Written, is_xml, is_default, default_within, default_declaration, declarations, namespaces_of, attribute_written, tag_contents, written_text, start_text, end_text}
-use Rattle.respell.specs.Respelling.{nearest, respelled, defaults_behind, HasSortedAttributes}
+use Rattle.fragments.specs.Plain.{AreSortedEntries}
+use Rattle.fragments.specs.Fragment.{Written, is_xml, is_default, default_within, default_declaration, numbered_declarations, namespaces_of, attribute_written, tag_contents, written_text, start_text, end_text}
+use Rattle.respell.specs.Respelling.{nearest, respelled_text, defaults_behind, HasSortedAttributes}
 use Rattle.respell.specs.Kept.{KeepsDefaults, HasDefaults, HasWritten, opened_by, own_defaults}
 use Rattle.respell.specs.declared.respell.Respell.{Respell}
 use Rattle.respell.proofs.Lists.{flat_map-append}
@@ -68,12 +68,12 @@ kept_same declared old new ds name pushed same h =
 -- ---- a start tag
 
 pub start_written : (old t1 t2 t3 t4 t5 t6 spelling : List ℕ) (default : Option (List ℕ)) (name : Expanded) (attributes : List Entry)
-    → t1 ≡ old ++ 60 ∷ [] → t2 ≡ t1 ++ spelling → t3 ≡ t2 ++ flat_map written_text (default_declaration default name) → t4 ≡ t3 ++ flat_map written_text (declarations 1 (namespaces_of attributes))
+    → t1 ≡ old ++ 60 ∷ [] → t2 ≡ t1 ++ spelling → t3 ≡ t2 ++ flat_map written_text (default_declaration default name) → t4 ≡ t3 ++ flat_map written_text (numbered_declarations 1 (namespaces_of attributes))
     → t5 ≡ t4 ++ flat_map written_text (map (attribute_written (namespaces_of attributes)) attributes) → t6 ≡ t5 ++ 62 ∷ []
     → t6 ≡ old ++ (60 ∷ (spelling ++ (flat_map written_text (tag_contents default name attributes) ++ 62 ∷ [])))
 start_written old t1 t2 t3 t4 t5 t6 spelling default name attributes e1 e2 e3 e4 e5 e6 =
     let d : List Written = default_declaration default name in
-    let n : List Written = declarations 1 (namespaces_of attributes) in
+    let n : List Written = numbered_declarations 1 (namespaces_of attributes) in
     let a : List Written = map (attribute_written (namespaces_of attributes)) attributes in
     let parts : flat_map written_text (tag_contents default name attributes) ≡ flat_map written_text d ++ (flat_map written_text n ++ flat_map written_text a) =
     flat_map-append written_text d (n ++ a) ∙ ap (λ (l : List ℕ). flat_map written_text d ++ l) (flat_map-append written_text n a) in
@@ -116,16 +116,16 @@ own_start before after ds names name e own none = by before (is_xml name.namespa
 
 -- ---- more events
 
-pub taken_all : (r q : Respell) (forgotten : List ℕ) (items more : List Item) → HasWritten r forgotten items → q.failed ≡ r.failed → q.text ≡ r.text ++ respelled (defaults_behind [] items) more → HasDefaults q (defaults_behind (defaults_behind [] items) more)
+pub taken_all : (r q : Respell) (forgotten : List ℕ) (items more : List Item) → HasWritten r forgotten items → q.failed ≡ r.failed → q.text ≡ r.text ++ respelled_text (defaults_behind [] items) more → HasDefaults q (defaults_behind (defaults_behind [] items) more)
     → OwnBehind q items more → HasWritten q forgotten (items ++ more)
 taken_all r q forgotten items more h sound text defaults own = record {
   sound = sound ∙ h.sound;
-  text_is = ap (λ (l : List ℕ). forgotten ++ l) text ∙ (sym (append_assoc forgotten r.text (respelled (defaults_behind [] items) more)) ∙ (ap (λ (l : List ℕ). l ++ respelled (defaults_behind [] items) more) h.text_is ∙ sym (respelled-append [] items more)));
+  text_is = ap (λ (l : List ℕ). forgotten ++ l) text ∙ (sym (append_assoc forgotten r.text (respelled_text (defaults_behind [] items) more)) ∙ (ap (λ (l : List ℕ). l ++ respelled_text (defaults_behind [] items) more) h.text_is ∙ sym (respelled-append [] items more)));
   defaults_are = subst (λ (ds : List (Option (List ℕ))). HasDefaults q ds) (sym (defaults-append [] items more)) defaults;
   own_are = λ none. defaults-append [] items more ∙ (own none ∙ ap own_defaults (sym (opened-append [] items more)));
 }
 
-pub taken_more : (r q : Respell) (forgotten : List ℕ) (items : List Item) (i : Item) → HasWritten r forgotten items → q.failed ≡ r.failed → q.text ≡ r.text ++ respelled (defaults_behind [] items) (i ∷ []) → HasDefaults q (defaults_behind (defaults_behind [] items) (i ∷ []))
+pub taken_more : (r q : Respell) (forgotten : List ℕ) (items : List Item) (i : Item) → HasWritten r forgotten items → q.failed ≡ r.failed → q.text ≡ r.text ++ respelled_text (defaults_behind [] items) (i ∷ []) → HasDefaults q (defaults_behind (defaults_behind [] items) (i ∷ []))
     → OwnBehind q items (i ∷ []) → HasWritten q forgotten (items ++ i ∷ [])
 taken_more r q forgotten items i h sound text defaults own = taken_all r q forgotten items (i ∷ []) h sound text defaults own
 
@@ -133,7 +133,7 @@ pub last_text : (old new text : List ℕ) → new ≡ old ++ text → new ≡ ol
 last_text old new text e = e ∙ ap (λ (l : List ℕ). old ++ l) (sym (append-nil text))
 
 pub taken_start : (r q : Respell) (forgotten : List ℕ) (items : List Item) (w : What) (ns local n l : List ℕ) (attrs given : List Attr) → HasWritten r forgotten items → HasSortedAttributes (item_of w) → w ≡ Start ns local attrs → n ≡ ns → l ≡ local → given ≡ attrs
-    → ((ds : List (Option (List ℕ))) → HasDefaults r ds → AreSorted (map entry_of given) → q.text ≡ r.text ++ start_text (nearest ds) (record { namespace = n; local = l }) (map entry_of given))
+    → ((ds : List (Option (List ℕ))) → HasDefaults r ds → AreSortedEntries (map entry_of given) → q.text ≡ r.text ++ start_text (nearest ds) (record { namespace = n; local = l }) (map entry_of given))
     → ((ds : List (Option (List ℕ))) → HasDefaults r ds → HasDefaults q (default_within (nearest ds) (record { namespace = n; local = l }) ∷ ds)) → q.failed ≡ r.failed → q.prefixed ≡ (r.prefixed || is_xml n) → HasWritten q forgotten (items ++ item_of w ∷ [])
 taken_start r q forgotten items w ns local n l attrs given h sorted is en el eg text kept failed prefixed =
     let i : Item = Starts (record { namespace = n; local = l }) (map entry_of given) in
@@ -145,9 +145,9 @@ taken_start r q forgotten items w ns local n l attrs given h sorted is en el eg 
     named : (a b c d : List ℕ) (e f : List Attr) → a ≡ b → c ≡ d → e ≡ f → Starts (record { namespace = a; local = c }) (map entry_of e) ≡ Starts (record { namespace = b; local = d }) (map entry_of f)
     named a b c d e f x y z = ap₂ (λ (n : Expanded) (l : List Attr). Starts n (map entry_of l)) (ap₂ (λ (u v : List ℕ). record { namespace = u; local = v }) x y) z
 
-pub taken_char : (r q : Respell) (forgotten : List ℕ) (items : List Item) (w : What) (c : ℕ) → HasWritten r forgotten items → w ≡ CharTold c → q.text ≡ r.text ++ escaped false c → q.defaults ≡ r.defaults → q.declares ≡ r.declares → q.failed ≡ r.failed → q.prefixed ≡ r.prefixed → HasWritten q forgotten (items ++ item_of w ∷ [])
+pub taken_char : (r q : Respell) (forgotten : List ℕ) (items : List Item) (w : What) (c : ℕ) → HasWritten r forgotten items → w ≡ CharTold c → q.text ≡ r.text ++ escape_of false c → q.defaults ≡ r.defaults → q.declares ≡ r.declares → q.failed ≡ r.failed → q.prefixed ≡ r.prefixed → HasWritten q forgotten (items ++ item_of w ∷ [])
 taken_char r q forgotten items w c h is text defaults declares failed prefixed =
-    subst (λ (v : What). HasWritten q forgotten (items ++ item_of v ∷ [])) (sym is) (taken_more r q forgotten items (Char c) h failed (last_text r.text q.text (escaped false c) text) (same_defaults r q (defaults_behind [] items) defaults declares h.defaults_are)
+    subst (λ (v : What). HasWritten q forgotten (items ++ item_of v ∷ [])) (sym is) (taken_more r q forgotten items (Char c) h failed (last_text r.text q.text (escape_of false c) text) (same_defaults r q (defaults_behind [] items) defaults declares h.defaults_are)
     (own_same r q forgotten items h prefixed))
 
 pub taken_end : (r q : Respell) (forgotten : List ℕ) (items : List Item) (w : What) (ns local n l : List ℕ) → HasWritten r forgotten items → w ≡ End ns local → n ≡ ns → l ≡ local → q.text ≡ r.text ++ end_text (record { namespace = n; local = l })

@@ -8,7 +8,7 @@ use Rattle.std.proofs.lemmas.Str.{encode_ascii, length-le-encodes}
 use Rattle.lexical_core.specs.Characters.{IsNameChar}
 use Rattle.markup.specs.Chars.{is_name_char}
 use Rattle.markup.specs.Name.{Name, Plain, Prefixed, is_part, is_name, name_text}
-use Rattle.markup.specs.Events.{spelled}
+use Rattle.markup.specs.Events.{spelled_name}
 use Rattle.markup.specs.declared.tag.Spelled.{Spelled}
 use Rattle.markup.proofs.CharLemmas.{classes}
 use Rattle.fragments.specs.Plain.{IsPart}
@@ -28,7 +28,7 @@ pub record HasName (s : Spelling) : Type 0 where
   pub name : Name
   pub is : is_name name ≡ true
   pub bytes : encode_utf8_all (name_text name) ≡ spelling_text s
-  pub reads : spelled name ≡ read_as s
+  pub reads : spelled_name name ≡ read_as s
 
 all_name : (cs : List ℕ) → AllByRecursion IsNameChar cs → list_all is_name_char cs ≡ true
 all_name [] h = refl

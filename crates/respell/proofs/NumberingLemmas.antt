@@ -11,9 +11,9 @@ use Rattle.std.proofs.lemmas.Bool.{cases_Bool, true≢false, cond-true, cond-fal
 use Rattle.std.proofs.lemmas.Cmp.{nat_list_cmp_total}
 use Rattle.std.proofs.lemmas.Map.Text.{is_eq-slice_cmp}
 use Rattle.lexical_core.specs.Tree.{Entry}
-use Rattle.fragments.specs.Plain.{AreSorted}
+use Rattle.fragments.specs.Plain.{AreSortedEntries}
 use Rattle.lexical_core.specs.Names.{name_cmp}
-use Rattle.fragments.specs.Fragment.{Written, written_text, needs_none, namespaces_of, number_of, attribute_written, is_xml, prefix_of}
+use Rattle.fragments.specs.Fragment.{Written, written_text, needs_none, namespaces_of, number_among, attribute_written, is_xml, prefix_of}
 use Rattle.respell.specs.inner.Declaring.{without, is_new, number_behind, later, numbered_prefix, numbered_attribute}
 use Rattle.respell.proofs.Prefixes.{same_bytes, bytes_same, other_bytes}
 use Rattle.respell.proofs.TagNames.{IsOneOf}
@@ -25,10 +25,10 @@ NoneBelow last es = AllByRecursion (λ e. slice_cmp nat_cmp last e.name.namespac
 
 -- what the number of each namespace is that is still to come, where the last has this one
 pub record AreNumbered (all left : List Entry) (last : List ℕ) (number : ℕ) : Type 0 where
-  pub sorted : AreSorted left
+  pub sorted : AreSortedEntries left
   pub behind : NoneBelow last left
   pub numbers : (e : Entry) → IsOneOf e left → needs_none e.name.namespace ≡ false
-      → number_of 1 (namespaces_of all) e.name.namespace ≡ (if bytes_eq e.name.namespace last then number else number_of (number + 1) (without last (namespaces_of left)) e.name.namespace)
+      → number_among 1 (namespaces_of all) e.name.namespace ≡ (if bytes_eq e.name.namespace last then number else number_among (number + 1) (without last (namespaces_of left)) e.name.namespace)
 
 -- ---- at the start
 
@@ -44,11 +44,11 @@ needed_other : (n : List ℕ) → needs_none n ≡ false → bytes_eq n [] ≡ f
 needed_other [] h = absurd (true≢false h)
 needed_other (c ∷ n) h = refl
 
-pub numbered_none : (es : List Entry) → AreSorted es → AreNumbered es es [] 0
+pub numbered_none : (es : List Entry) → AreSortedEntries es → AreNumbered es es [] 0
 numbered_none es h = record {
   sorted = h;
   behind = none_below_empty es;
-  numbers = λ e one needed. sym (ap (λ (b : Bool). if b then 0 else number_of 1 (without [] (namespaces_of es)) e.name.namespace) (needed_other e.name.namespace needed) ∙ ap (λ (ns : List (List ℕ)). number_of 1 ns e.name.namespace) (without_none es));
+  numbers = λ e one needed. sym (ap (λ (b : Bool). if b then 0 else number_among 1 (without [] (namespaces_of es)) e.name.namespace) (needed_other e.name.namespace needed) ∙ ap (λ (ns : List (List ℕ)). number_among 1 ns e.name.namespace) (without_none es));
 }
 
 -- ---- one more
@@ -82,7 +82,7 @@ level a b f g = case (slice_cmp nat_cmp a b) refl
 
 -- what comes next, and what the number of this one is
 pub record NextNumbered (all : List Entry) (e : Entry) (es : List Entry) (last : List ℕ) (number : ℕ) : Type 0 where
-  pub this : needs_none e.name.namespace ≡ false → number_of 1 (namespaces_of all) e.name.namespace ≡ number_behind number last e.name.namespace
+  pub this : needs_none e.name.namespace ≡ false → number_among 1 (namespaces_of all) e.name.namespace ≡ number_behind number last e.name.namespace
   pub rest : AreNumbered all es (later last e.name.namespace) (number_behind number last e.name.namespace)
 
 -- it needs none
@@ -97,7 +97,7 @@ next_none all e es last number h t =
       rest = subst (λ (l : List ℕ). AreNumbered all es l (number_behind number last n)) (sym lat) (subst (λ (k : ℕ). AreNumbered all es last k) (sym num) (record {
         sorted = h.sorted.1;
         behind = h.behind.1;
-        numbers = λ f one needed. h.numbers f (inr one) needed ∙ ap (λ (ns : List (List ℕ)). if bytes_eq f.name.namespace last then number else number_of (number + 1) ns f.name.namespace) same;
+        numbers = λ f one needed. h.numbers f (inr one) needed ∙ ap (λ (ns : List (List ℕ)). if bytes_eq f.name.namespace last then number else number_among (number + 1) ns f.name.namespace) same;
       }));
     }
 
@@ -109,11 +109,11 @@ next_last all e es last number h f t =
     let num : number_behind number last n ≡ number = cond-false (is_new last n) (number + 1) number old in
     let lat : later last n ≡ last = cond-false (needs_none n) last n f ∙ bytes_same n last t in
     let same : without last (namespaces_of (e ∷ es)) ≡ without last (namespaces_of es) = without_old last e es old in record {
-      this = λ needed. h.numbers e (inl refl) needed ∙ (cond-true (bytes_eq n last) number (number_of (number + 1) (without last (namespaces_of (e ∷ es))) n) t ∙ sym num);
+      this = λ needed. h.numbers e (inl refl) needed ∙ (cond-true (bytes_eq n last) number (number_among (number + 1) (without last (namespaces_of (e ∷ es))) n) t ∙ sym num);
       rest = subst (λ (l : List ℕ). AreNumbered all es l (number_behind number last n)) (sym lat) (subst (λ (k : ℕ). AreNumbered all es last k) (sym num) (record {
         sorted = h.sorted.1;
         behind = h.behind.1;
-        numbers = λ f one needed. h.numbers f (inr one) needed ∙ ap (λ (ns : List (List ℕ)). if bytes_eq f.name.namespace last then number else number_of (number + 1) ns f.name.namespace) same;
+        numbers = λ f one needed. h.numbers f (inr one) needed ∙ ap (λ (ns : List (List ℕ)). if bytes_eq f.name.namespace last then number else number_among (number + 1) ns f.name.namespace) same;
       }));
     }
 
@@ -126,16 +126,16 @@ next_new all e es last number h f z =
     let lat : later last n ≡ n = cond-false (needs_none n) last n f in
     let rest : List (List ℕ) = without n (namespaces_of es) in
     let whole : without last (namespaces_of (e ∷ es)) ≡ n ∷ rest = without_new last e es new in
-    let at : (m : List ℕ) → bytes_eq m last ≡ false → (if bytes_eq m last then number else number_of (number + 1) (without last (namespaces_of (e ∷ es))) m) ≡ (if bytes_eq n m then number + 1 else number_of (number + 1 + 1) rest m) =
-    λ m g. cond-false (bytes_eq m last) number (number_of (number + 1) (without last (namespaces_of (e ∷ es))) m) g ∙ ap (λ (ns : List (List ℕ)). number_of (number + 1) ns m) whole in record {
-      this = λ needed. h.numbers e (inl refl) needed ∙ (at n z ∙ (cond-true (bytes_eq n n) (number + 1) (number_of (number + 1 + 1) rest n) (same_bytes n n refl) ∙ sym num));
+    let at : (m : List ℕ) → bytes_eq m last ≡ false → (if bytes_eq m last then number else number_among (number + 1) (without last (namespaces_of (e ∷ es))) m) ≡ (if bytes_eq n m then number + 1 else number_among (number + 1 + 1) rest m) =
+    λ m g. cond-false (bytes_eq m last) number (number_among (number + 1) (without last (namespaces_of (e ∷ es))) m) g ∙ ap (λ (ns : List (List ℕ)). number_among (number + 1) ns m) whole in record {
+      this = λ needed. h.numbers e (inl refl) needed ∙ (at n z ∙ (cond-true (bytes_eq n n) (number + 1) (number_among (number + 1 + 1) rest n) (same_bytes n n refl) ∙ sym num));
       rest = subst (λ (l : List ℕ). AreNumbered all es l (number_behind number last n)) (sym lat) (subst (λ (k : ℕ). AreNumbered all es n k) (sym num) (record {
         sorted = h.sorted.1;
         behind = none_below_more e es h.sorted.0;
         numbers = λ f one needed.
             let m : List ℕ = f.name.namespace in
             let apart : bytes_eq m last ≡ false = other_bytes m last (λ same. true≢false (sym (same_bytes n last (level n last (subst (λ (l : List ℕ). slice_cmp nat_cmp n l ≢ Greater) same (one_below n f es (none_below_more e es h.sorted.0) one)) h.behind.0)) ∙ z)) in
-            h.numbers f (inr one) needed ∙ (at m apart ∙ ap (λ (b : Bool). if b then number + 1 else number_of (number + 1 + 1) rest m) (swapped n m));
+            h.numbers f (inr one) needed ∙ (at m apart ∙ ap (λ (b : Bool). if b then number + 1 else number_among (number + 1 + 1) rest m) (swapped n m));
       }));
     }
   where
@@ -155,9 +155,9 @@ next_numbered all e es last number h = elim (cases_Bool (needs_none e.name.names
 ]
 
 -- an attribute with the number of its namespace
-numbered_is : (nss : List (List ℕ)) (e : Entry) (k : ℕ) → (needs_none e.name.namespace ≡ false → number_of 1 nss e.name.namespace ≡ k) → attribute_written nss e ≡ numbered_attribute k e
+numbered_is : (nss : List (List ℕ)) (e : Entry) (k : ℕ) → (needs_none e.name.namespace ≡ false → number_among 1 nss e.name.namespace ≡ k) → attribute_written nss e ≡ numbered_attribute k e
 numbered_is nss e k h = elim (cases_Bool (needs_none e.name.namespace)) [
-  | inl t ↦ ap (λ (p : List ℕ). record { name = record { prefix = p; local = e.name.local }; value = e.value }) (any (number_of 1 nss e.name.namespace) k e.name.namespace t)
+  | inl t ↦ ap (λ (p : List ℕ). record { name = record { prefix = p; local = e.name.local }; value = e.value }) (any (number_among 1 nss e.name.namespace) k e.name.namespace t)
   | inr f ↦ ap (λ (j : ℕ). numbered_attribute j e) (h f)
 ]
   where
@@ -171,7 +171,7 @@ numbered_is nss e k h = elim (cases_Bool (needs_none e.name.namespace)) [
 
 -- one more attribute is written
 pub attribute_step : (old new whole : List ℕ) (all : List Entry) (e : Entry) (es left : List Entry) (number : ℕ) → left ≡ e ∷ es
-    → (needs_none e.name.namespace ≡ false → number_of 1 (namespaces_of all) e.name.namespace ≡ number)
+    → (needs_none e.name.namespace ≡ false → number_among 1 (namespaces_of all) e.name.namespace ≡ number)
     → new ≡ old ++ written_text (numbered_attribute number e)
     → old ++ flat_map written_text (map (attribute_written (namespaces_of all)) left) ≡ whole
     → new ++ flat_map written_text (map (attribute_written (namespaces_of all)) es) ≡ whole
@@ -205,8 +205,8 @@ next_within number last n = elim (cases_Bool (is_new last n)) [
 -- the loop goes on with the next attribute
 pub attribute_preserved : (all es left : List Entry) (e : Entry) (old new whole last n m l : List ℕ) (number k : ℕ) → left ≡ e ∷ es → n ≡ e.name.namespace → m ≡ e.name.namespace → k ≡ number_behind number last n → l ≡ later last m
     → new ≡ old ++ written_text (numbered_attribute k e)
-    → (AreSorted all → AreNumbered all left last number × (old ++ flat_map written_text (map (attribute_written (namespaces_of all)) left) ≡ whole))
-    → AreSorted all → AreNumbered all es l k × (new ++ flat_map written_text (map (attribute_written (namespaces_of all)) es) ≡ whole)
+    → (AreSortedEntries all → AreNumbered all left last number × (old ++ flat_map written_text (map (attribute_written (namespaces_of all)) left) ≡ whole))
+    → AreSortedEntries all → AreNumbered all es l k × (new ++ flat_map written_text (map (attribute_written (namespaces_of all)) es) ≡ whole)
 attribute_preserved all es left e old new whole last n m l number k split is_n is_m is_k is_l pushed before sorted =
     let h = before sorted in
     let next = next_numbered all e es last number (subst (λ (es : List Entry). AreNumbered all es last number) split h.0) in

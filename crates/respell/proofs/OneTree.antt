@@ -8,8 +8,8 @@ use Rattle.lexical_core.proofs.SameTrees.{same_tree}
 use Rattle.markup.specs.Token.{Token, Mark, Declaration, Comment, Instruction, Opener, Closer, TypeDeclaration, Start, End, Refer, LineEnd, Character, token_bytes}
 use Rattle.markup.specs.Marks.{Front, is_short}
 use Rattle.markup.specs.declared.tag.Opening.{Opening}
-use Rattle.markup.specs.Reference.{referred}
-use Rattle.markup.specs.Events.{open_tags, ended, end_items}
+use Rattle.markup.specs.Reference.{referred_character}
+use Rattle.markup.specs.Events.{open_tags, end_tag_items, end_items}
 use Rattle.markup.specs.Faults.{is_over, has_start}
 use Rattle.markup.proofs.TokenLaw.{fronts_agree}
 use Rattle.fragments.specs.Plain.{IsPlain}
@@ -88,7 +88,7 @@ started before (Character c ∷ ts) h = started (Character c ∷ before) ts h
 heads_same : (i j : Item) (r s : List Item) → i ∷ r ≡ j ∷ s → i ≡ j
 heads_same i j r s e = cc
 
-ended_cases : (o : Option Expanded) → (ended o ≡ []) ⊎ ((n : Expanded) × (ended o ≡ Ends n ∷ []))
+ended_cases : (o : Option Expanded) → (end_tag_items o ≡ []) ⊎ ((n : Expanded) × (end_tag_items o ≡ Ends n ∷ []))
 ended_cases None = inl refl
 ended_cases (Some n) = inr (n, refl)
 
@@ -111,7 +111,7 @@ no_starts before (End m g ∷ ts) n a r e = elim (end_cases (open_tags before)) 
   | inl z ↦ no_starts (End m g ∷ before) ts n a r (ap (λ (l : List Item). l ++ items_in (End m g ∷ before) ts) (sym z) ∙ e)
   | inr (x, z) ↦ absurd (let h : Ends x ≡ Starts n a = heads_same _ _ _ _ (ap (λ (l : List Item). l ++ items_in (End m g ∷ before) ts) (sym z) ∙ e) in cc)
 ]
-no_starts before (Refer x ∷ ts) n a r e = absurd (let h : Char (referred x) ≡ Starts n a = heads_same _ _ _ _ e in cc)
+no_starts before (Refer x ∷ ts) n a r e = absurd (let h : Char (referred_character x) ≡ Starts n a = heads_same _ _ _ _ e in cc)
 no_starts before (LineEnd l ∷ ts) n a r e = absurd (let h : Char 10 ≡ Starts n a = heads_same _ _ _ _ e in cc)
 no_starts before (Character c ∷ ts) n a r e = absurd (let h : Char c ≡ Starts n a = heads_same _ _ _ _ e in cc)
 

@@ -3,7 +3,7 @@ use Rattle.std.proofs.Common.{◌≡◌, ℕ, zero, suc, ◌<◌, Bool, true, fa
 use Rattle.std.specs.Prelude.{◌==◌, IsTrue, IsFalse}
 use Rattle.std.proofs.lemmas.Bool.Decides.{nat_tests}
 use Rattle.std.proofs.lemmas.List.{length-reverse}
-use Rattle.lexical_core.specs.Tree.{Item, Starts, Char, Ends, Skipped, Nodes, Nothing, Element, Text, Tree, flat_nodes, flat, counted}
+use Rattle.lexical_core.specs.Tree.{Item, Starts, Char, Ends, Skipped, Nodes, Nothing, Element, Text, Tree, flat_nodes, flat, tree_items}
 use Rattle.markup.specs.EventItems.{item_of}
 use Rattle.markup.specs.declared.event.What.{What}
 use Rattle.markup.specs.declared.event.What.TheVariants.{Start as StartTold, Char as CharTold, End as EndTold, Skipped as SkippedTold}
@@ -55,7 +55,7 @@ pub tree_inside : (t : Tree) → NoneOutside 0 (flat t)
 tree_inside t = nodes_inside 0 t.children (Ends t.name ∷ []) tt
 
 -- where none is outside, all are counted
-pub told_counted : (n : ℕ) (items : List Item) → NoneOutside n items → told_of items ≡ counted n items
+pub told_counted : (n : ℕ) (items : List Item) → NoneOutside n items → told_of items ≡ tree_items n items
 told_counted n [] h = refl
 told_counted n (Starts m e ∷ items) h = ap (λ (l : List Item). Starts m e ∷ l) (told_counted (suc n) items h)
 told_counted n (Ends m ∷ items) h = ap (λ (l : List Item). Ends m ∷ l) (told_counted (Prim.Native.Nat.pred n) items h)

@@ -6,9 +6,9 @@ use Rattle.std.proofs.lemmas.Bool.{and_parts}
 use Rattle.lexical_core.specs.Characters.{IsXmlChar, IsNameChar, IsXmlText}
 use Rattle.markup.specs.Chars.{is_xml_char, is_space, is_name_char}
 use Rattle.markup.specs.Name.{Name, Plain, Prefixed, is_part, is_name}
-use Rattle.markup.specs.Reference.{Reference, Named, Numbered, Ampersand, Less, Greater, Apostrophe, Quote, is_reference, referred}
-use Rattle.markup.specs.Attribute.{Piece, Literal, Refers, is_piece, value_chars, begins_lf}
-use Rattle.markup.specs.Events.{spelled}
+use Rattle.markup.specs.Reference.{Reference, Named, Numbered, Ampersand, Less, Greater, Apostrophe, Quote, is_reference, referred_character}
+use Rattle.markup.specs.Attribute.{ValuePiece, Literal, Refers, is_piece, value_chars, begins_lf}
+use Rattle.markup.specs.Events.{spelled_name}
 use Rattle.markup.proofs.AttributeLemmas.{literal_facts}
 use Rattle.markup.proofs.CharLemmas.{classes}
 use Rattle.fragments.specs.Plain.{IsPart}
@@ -22,7 +22,7 @@ part_is [] h = absurd cc
 part_is (c ∷ cs) h = let p = and_parts _ _ h in record { first = c; others = cs; start = (classes.start c).0 p.0; more = all_names cs p.1; spelled = refl }
 
 -- the local part of a name
-pub local_is_part : (n : Name) → is_name n ≡ true → IsPart (spelled n).local
+pub local_is_part : (n : Name) → is_name n ≡ true → IsPart (spelled_name n).local
 local_is_part (Plain l) h = part_is l h
 local_is_part (Prefixed p l) h = part_is l (and_parts _ _ h).1
 
@@ -30,7 +30,7 @@ pub all_chars : (cs : List ℕ) → list_all is_xml_char cs ≡ true → AllByRe
 all_chars [] h = tt
 all_chars (c ∷ cs) h = let p = and_parts _ _ h in ((classes.xml c).0 p.0, all_chars cs p.1)
 
-pub referred_is_xml : (r : Reference) → is_reference r ≡ true → is_xml_char (referred r) ≡ true
+pub referred_is_xml : (r : Reference) → is_reference r ≡ true → is_xml_char (referred_character r) ≡ true
 unfolding is_xml_char
 referred_is_xml (Named Ampersand) h = refl
 referred_is_xml (Named Less) h = refl
@@ -47,9 +47,9 @@ pub line_feed_is_xml : is_xml_char 10 ≡ true
 unfolding is_xml_char
 line_feed_is_xml = refl
 
-value_is_xml : (quote : ℕ) (ps : List Piece) → list_all (is_piece quote) ps ≡ true → AllByRecursion IsXmlChar (value_chars ps)
+value_is_xml : (quote : ℕ) (ps : List ValuePiece) → list_all (is_piece quote) ps ≡ true → AllByRecursion IsXmlChar (value_chars ps)
 value_is_xml quote [] h = tt
-value_is_xml quote (Refers r ∷ ps) h = let p = and_parts (is_reference r) _ h in ((classes.xml (referred r)).0 (referred_is_xml r p.0), value_is_xml quote ps p.1)
+value_is_xml quote (Refers r ∷ ps) h = let p = and_parts (is_reference r) _ h in ((classes.xml (referred_character r)).0 (referred_is_xml r p.0), value_is_xml quote ps p.1)
 value_is_xml quote (Literal c ∷ ps) h =
     let p = and_parts (is_piece quote (Literal c)) _ h in
     step (c == 13 && begins_lf ps) (is_space c) c (value_chars ps) (literal_facts quote c p.0).xml (value_is_xml quote ps p.1)
@@ -60,5 +60,5 @@ value_is_xml quote (Literal c ∷ ps) h =
     step false false c cs x h = ((classes.xml c).0 x, h)
 
 -- the value of an attribute
-pub value_is_text : (quote : ℕ) (ps : List Piece) → list_all (is_piece quote) ps ≡ true → IsXmlText (encode_utf8_all (value_chars ps))
+pub value_is_text : (quote : ℕ) (ps : List ValuePiece) → list_all (is_piece quote) ps ≡ true → IsXmlText (encode_utf8_all (value_chars ps))
 value_is_text quote ps h = (value_chars ps, value_is_xml quote ps h, refl)

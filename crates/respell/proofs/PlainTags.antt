@@ -14,7 +14,7 @@ use Rattle.markup.specs.Chars.{is_xml_char}
 use Rattle.markup.specs.declared.tag.Spelled.{Spelled}
 use Rattle.markup.specs.declared.tag.Given.{Given}
 use Rattle.markup.specs.declared.tag.Opening.{Opening}
-use Rattle.markup.specs.Events.{given, declared_prefix, same_prefix, bound_by, namespace_of, expanded, element_name, attribute_name, entries, put, put_named}
+use Rattle.markup.specs.Events.{given_attribute, declared_prefix, same_prefix, bound_by, namespace_of, expanded_in, element_name, attribute_name, entries, put, put_named}
 use Rattle.lexical_core.specs.Names.{name_cmp, xml_namespace, xmlns_namespace, xmlns}
 use Rattle.markup.specs.Faults.{is_bad_declaration, is_bad_attribute}
 use Rattle.markup.proofs.AttributeLemmas.{attribute_facts}
@@ -121,7 +121,7 @@ xml_everywhere (tag ∷ tags) h = xml_bound tag.given h.0.given (namespace_of ta
 pub element_is_plain : (tags : List Opening) (s : Spelled) (name : Expanded) → AllByRecursion IsSoundTag tags → IsPart s.local → element_name tags s ≡ Some name → IsPlainName name
 element_is_plain tags s name h p e = step (namespace_of tags s.prefix) (λ n is. namespace_is tags s.prefix n h is) e
   where
-    step : (o : Option (List ℕ)) → ((n : List ℕ) → o ≡ Some n → IsNamespace s.prefix n) → expanded o s.local ≡ Some name → IsPlainName name
+    step : (o : Option (List ℕ)) → ((n : List ℕ) → o ≡ Some n → IsNamespace s.prefix n) → expanded_in o s.local ≡ Some name → IsPlainName name
     step None k e = absurd cc
     step (Some n) k e = subst IsPlainName (some_same _ name e) (record { local = p; namespace = (k n refl).text; no_declaration = (k n refl).other })
 
@@ -134,12 +134,12 @@ no_default s y none l =
 attribute_is_plain : (tags : List Opening) (s : Spelled) (value : List ℕ) (name : Expanded) → AllByRecursion IsSoundTag tags → IsPart s.local → IsXmlText value → declared_prefix s ≡ None → attribute_name tags s ≡ Some name
     → IsPlainEntry (record { name = name; value = value })
 attribute_is_plain tags s value name h p v none e = elim (cases_Bool (bytes_eq s.prefix [])) [
-  | inl y ↦ (let same : Some (record { namespace = []; local = s.local }) ≡ Some name = sym (ap (λ (b : Bool). expanded (if b then Some [] else namespace_of tags s.prefix) s.local) y) ∙ e in
+  | inl y ↦ (let same : Some (record { namespace = []; local = s.local }) ≡ Some name = sym (ap (λ (b : Bool). expanded_in (if b then Some [] else namespace_of tags s.prefix) s.local) y) ∙ e in
       subst (λ (n : Expanded). IsPlainEntry (record { name = n; value = value })) (some_same _ name same) (record { name = record { local = p; namespace = ([], tt, refl); no_declaration = λ e. absurd cc }; value = v; no_default = λ _. no_default s y none }))
-  | inr z ↦ step (namespace_of tags s.prefix) (λ n is. namespace_is tags s.prefix n h is) z (sym (ap (λ (b : Bool). expanded (if b then Some [] else namespace_of tags s.prefix) s.local) z) ∙ e)
+  | inr z ↦ step (namespace_of tags s.prefix) (λ n is. namespace_is tags s.prefix n h is) z (sym (ap (λ (b : Bool). expanded_in (if b then Some [] else namespace_of tags s.prefix) s.local) z) ∙ e)
 ]
   where
-    step : (o : Option (List ℕ)) → ((n : List ℕ) → o ≡ Some n → IsNamespace s.prefix n) → bytes_eq s.prefix [] ≡ false → expanded o s.local ≡ Some name → IsPlainEntry (record { name = name; value = value })
+    step : (o : Option (List ℕ)) → ((n : List ℕ) → o ≡ Some n → IsNamespace s.prefix n) → bytes_eq s.prefix [] ≡ false → expanded_in o s.local ≡ Some name → IsPlainEntry (record { name = name; value = value })
     step None k z e = absurd cc
     step (Some n) k z e = subst (λ (m : Expanded). IsPlainEntry (record { name = m; value = value })) (some_same _ name e)
         (record { name = record { local = p; namespace = (k n refl).text; no_declaration = (k n refl).other }; value = v; no_default = λ empty. absurd ((k n refl).some z empty) })
@@ -165,10 +165,10 @@ entries_are_plain tags (a ∷ gs) h g = step (declared_prefix a.name) (attribute
     step None (Some name) k all = all_put IsPlainEntry (record { name = name; value = a.value }) (entries tags gs) (k refl name refl) all
 
 -- what a tag's attributes say
-pub given_are_sound : (tags : List Opening) (attributes : List Attribute) → list_all is_attribute attributes ≡ true → list_any (is_bad_attribute tags) (map given attributes) ≡ false → AllByRecursion IsSound (map given attributes)
+pub given_are_sound : (tags : List Opening) (attributes : List Attribute) → list_all is_attribute attributes ≡ true → list_any (is_bad_attribute tags) (map given_attribute attributes) ≡ false → AllByRecursion IsSound (map given_attribute attributes)
 given_are_sound tags [] h g = tt
 given_are_sound tags (a ∷ attributes) h g =
     let first = and_parts (is_attribute a) (list_all is_attribute attributes) h in
-    let fine = or_parts (is_bad_attribute tags (given a)) (list_any (is_bad_attribute tags) (map given attributes)) g in
+    let fine = or_parts (is_bad_attribute tags (given_attribute a)) (list_any (is_bad_attribute tags) (map given_attribute attributes)) g in
     let facts = attribute_facts a first.0 in
     (record { local = local_is_part a.name facts.name; value = value_is_text a.quote a.value facts.value; fine = (or_parts _ _ fine.0).0 }, given_are_sound tags attributes first.1 fine.1)

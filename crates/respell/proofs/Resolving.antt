@@ -9,7 +9,7 @@ use Rattle.markup.specs.declared.tag.Given.{Given}
 use Rattle.markup.specs.Events.{declared_prefix, same_prefix, bound_by}
 use Rattle.fragments.specs.Plain.{IsPlainEntry}
 use Rattle.lexical_core.specs.Names.{xmlns}
-use Rattle.fragments.specs.Fragment.{is_xml, prefix_of, declarations, number_of, attribute_written}
+use Rattle.fragments.specs.Fragment.{is_xml, prefix_of, numbered_declarations, number_among, attribute_written}
 use Rattle.respell.proofs.Attributes.{given_as}
 use Rattle.respell.proofs.Prefixes.{same_bytes, bytes_same, other_bytes, other_prefix}
 
@@ -40,7 +40,7 @@ unbound nss [] p h = refl
 unbound nss (e ∷ es) p h = rw (no_declaration nss e h.0) (unbound nss es p h.1)
 
 -- a prefix that no declaration from this number on has
-pub bound_none : (k : ℕ) (nss : List (List ℕ)) (p : List ℕ) → ((j : ℕ) → k ≤ j → bytes_eq (prefix_of j) p ≡ false) → bound_by (map given_as (declarations k nss)) p ≡ None
+pub bound_none : (k : ℕ) (nss : List (List ℕ)) (p : List ℕ) → ((j : ℕ) → k ≤ j → bytes_eq (prefix_of j) p ≡ false) → bound_by (map given_as (numbered_declarations k nss)) p ≡ None
 bound_none k [] p h = refl
 bound_none k (n ∷ nss) p h = rw (h k (omega arith)) (bound_none (k + 1) nss p (λ j le. h j (omega (arith, le))))
 
@@ -48,16 +48,16 @@ abbrev pub IsAmong : List ℕ → List (List ℕ) → Type 0
 IsAmong n [] = ⊥
 IsAmong n (x ∷ xs) = (x ≡ n) ⊎ IsAmong n xs
 
-pub number_least : (k : ℕ) (nss : List (List ℕ)) (n : List ℕ) → k ≤ number_of k nss n
+pub number_least : (k : ℕ) (nss : List (List ℕ)) (n : List ℕ) → k ≤ number_among k nss n
 number_least k [] n = omega arith
-number_least k (x ∷ nss) n = elim (cases_Bool (bytes_eq x n)) as (λ _. k ≤ number_of k (x ∷ nss) n) [
+number_least k (x ∷ nss) n = elim (cases_Bool (bytes_eq x n)) as (λ _. k ≤ number_among k (x ∷ nss) n) [
   | inl h ↦ rw h (omega arith)
   | inr h ↦ rw h (let l = number_least (k + 1) nss n in omega (arith, l))
 ]
 
-pub bound_number : (k : ℕ) (nss : List (List ℕ)) (n : List ℕ) → IsAmong n nss → bound_by (map given_as (declarations k nss)) (prefix_of (number_of k nss n)) ≡ Some n
+pub bound_number : (k : ℕ) (nss : List (List ℕ)) (n : List ℕ) → IsAmong n nss → bound_by (map given_as (numbered_declarations k nss)) (prefix_of (number_among k nss n)) ≡ Some n
 bound_number k [] n h = absurd h
-bound_number k (x ∷ nss) n h = elim (cases_Bool (bytes_eq x n)) as (λ _. bound_by (map given_as (declarations k (x ∷ nss))) (prefix_of (number_of k (x ∷ nss) n)) ≡ Some n) [
+bound_number k (x ∷ nss) n h = elim (cases_Bool (bytes_eq x n)) as (λ _. bound_by (map given_as (numbered_declarations k (x ∷ nss))) (prefix_of (number_among k (x ∷ nss) n)) ≡ Some n) [
   | inl t ↦ rw (t, same_bytes (prefix_of k) (prefix_of k) refl) (ap (λ (l : List ℕ). Some l) (bytes_same x n t))
-  | inr f ↦ rw (f, other_prefix k (number_of (k + 1) nss n) (let l = number_least (k + 1) nss n in omega (arith, l))) (bound_number (k + 1) nss n (elim h [ inl e ↦ absurd (true≢false (sym (same_bytes x n e) ∙ f)) | inr r ↦ r ]))
+  | inr f ↦ rw (f, other_prefix k (number_among (k + 1) nss n) (let l = number_least (k + 1) nss n in omega (arith, l))) (bound_number (k + 1) nss n (elim h [ inl e ↦ absurd (true≢false (sym (same_bytes x n e) ∙ f)) | inr r ↦ r ]))
 ]

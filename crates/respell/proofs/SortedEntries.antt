@@ -17,7 +17,7 @@ use Rattle.markup.specs.Events.{declared_prefix, attribute_name, entries, put, p
 use Rattle.markup.specs.Faults.{clash, has_clash, same_declared, same_expanded}
 use Rattle.markup.specs.inner.TagParts.{is_named, sorted_entries}
 use Rattle.markup.proofs.Twins.{by_name, entries_total, any-put, any_twins, any_twins-put, sorted_same}
-use Rattle.fragments.specs.Plain.{AreSorted}
+use Rattle.fragments.specs.Plain.{AreSortedEntries}
 use Rattle.lexical_core.specs.Names.{name_cmp}
 
 -- ---- in order
@@ -111,9 +111,9 @@ all_less : (e : Entry) (es : List Entry) → NoneLess by_name e es → list_any 
 all_less e [] h g = tt
 all_less e (f ∷ es) h g = let parts = or_parts (is_named e.name f) (list_any (is_named e.name) es) g in (less e f h.0 parts.0, all_less e es h.1 parts.1)
 
-sorted_from : (es : List Entry) → Climbs by_name es → any_twins es ≡ false → AreSorted es
+sorted_from : (es : List Entry) → Climbs by_name es → any_twins es ≡ false → AreSortedEntries es
 sorted_from [] up h = tt
 sorted_from (e ∷ es) up h = let parts = or_parts (list_any (is_named e.name) es) (any_twins es) h in (all_less e es up.0 parts.0, sorted_from es up.1 parts.1)
 
-pub entries_are_sorted : (tags : List Opening) (given : List Given) → has_clash tags given ≡ false → AreSorted (entries tags given)
+pub entries_are_sorted : (tags : List Opening) (given : List Given) → has_clash tags given ≡ false → AreSortedEntries (entries tags given)
 entries_are_sorted tags given h = sorted_from (entries tags given) (entries_climb tags given) (entries_apart tags given h)

@@ -11,7 +11,7 @@ use Rattle.markup.specs.declared.tag.Opening.{Opening}
 use Rattle.markup.specs.Events.{attribute_name, entries, put}
 use Rattle.fragments.specs.Plain.{ArePlainEntries}
 use Rattle.lexical_core.specs.Names.{name_cmp}
-use Rattle.fragments.specs.Fragment.{Written, is_xml, is_default, default_declaration, namespaces_of, declarations, attribute_written, tag_contents}
+use Rattle.fragments.specs.Fragment.{Written, is_xml, is_default, default_declaration, namespaces_of, numbered_declarations, attribute_written, tag_contents}
 use Rattle.respell.proofs.Attributes.{given_as}
 use Rattle.respell.proofs.Prefixes.{bytes_same}
 use Rattle.respell.proofs.Resolving.{map-append, no_declaration}
@@ -55,7 +55,7 @@ entries_default tags default name more = elim (cases_Bool (is_xml name.namespace
   | inr h ↦ rw h refl
 ]
 
-entries_declared : (tags : List Opening) (k : ℕ) (nss : List (List ℕ)) (more : List Given) → entries tags (map given_as (declarations k nss) ++ more) ≡ entries tags more
+entries_declared : (tags : List Opening) (k : ℕ) (nss : List (List ℕ)) (more : List Given) → entries tags (map given_as (numbered_declarations k nss) ++ more) ≡ entries tags more
 entries_declared tags k [] more = refl
 entries_declared tags k (n ∷ nss) more = entries_declared tags (k + 1) nss more
 
@@ -66,11 +66,11 @@ entries_attributes tags nss (e ∷ es) p h =
     rw (no_declaration nss e p.0.0, h e (inl refl), entries_attributes tags nss es (p.0.1, p.1.1) (λ f one. h f (inr one))) (put_first e es p.1.0)
 
 pub given_three : (default : Option (List ℕ)) (name : Expanded) (attributes : List Entry)
-    → map given_as (tag_contents default name attributes) ≡ map given_as (default_declaration default name) ++ (map given_as (declarations 1 (namespaces_of attributes)) ++ map given_as (map (attribute_written (namespaces_of attributes)) attributes))
+    → map given_as (tag_contents default name attributes) ≡ map given_as (default_declaration default name) ++ (map given_as (numbered_declarations 1 (namespaces_of attributes)) ++ map given_as (map (attribute_written (namespaces_of attributes)) attributes))
 given_three default name attributes =
     let nss = namespaces_of attributes in
     let a : List Written = map (attribute_written nss) attributes in
-    map-append given_as (default_declaration default name) (declarations 1 nss ++ a) ∙ ap (λ (l : List Given). map given_as (default_declaration default name) ++ l) (map-append given_as (declarations 1 nss) a)
+    map-append given_as (default_declaration default name) (numbered_declarations 1 nss ++ a) ∙ ap (λ (l : List Given). map given_as (default_declaration default name) ++ l) (map-append given_as (numbered_declarations 1 nss) a)
 
 pub entries_are : (default : Option (List ℕ)) (name : Expanded) (attributes : List Entry) (tags : List Opening) → ArePlainEntries attributes → Knows tags default
     → entries (opening_of default name attributes ∷ tags) (map given_as (tag_contents default name attributes)) ≡ attributes

@@ -8,10 +8,10 @@ use Rattle.std.proofs.lemmas.Bool.{cases_Bool, true≢false}
 use Rattle.lexical_core.specs.Tree.{Expanded, Entry}
 use Rattle.markup.specs.declared.tag.Given.{Given}
 use Rattle.markup.specs.declared.tag.Opening.{Opening}
-use Rattle.markup.specs.Events.{bound_by, namespace_of, element_name, attribute_name, expanded}
+use Rattle.markup.specs.Events.{bound_by, namespace_of, element_name, attribute_name, expanded_in}
 use Rattle.fragments.specs.Plain.{IsPlainEntry}
 use Rattle.lexical_core.specs.Names.{xml_namespace, xmlns}
-use Rattle.fragments.specs.Fragment.{Written, is_xml, element_spelling, is_default, default_within, default_declaration, needs_none, before_others, namespaces_of, prefix_of, declarations, number_of, attribute_prefix, attribute_written, tag_contents}
+use Rattle.fragments.specs.Fragment.{Written, is_xml, element_spelling, is_default, default_within, default_declaration, needs_none, before_others, namespaces_of, prefix_of, numbered_declarations, number_among, attribute_prefix, attribute_written, tag_contents}
 use Rattle.respell.proofs.Names.{read_as}
 use Rattle.respell.proofs.Attributes.{given_as}
 use Rattle.respell.proofs.Prefixes.{bytes_same}
@@ -33,13 +33,13 @@ knows_none tags x = record { plain = λ n e. absurd (let h : None ≡ Some n = e
 -- the parts of a start tag
 pub given_parts : (default : Option (List ℕ)) (name : Expanded) (attributes : List Entry) (p : List ℕ)
     → bound_by (map given_as (tag_contents default name attributes)) p ≡ option_or (bound_by (map given_as (default_declaration default name)) p)
-    (option_or (bound_by (map given_as (declarations 1 (namespaces_of attributes))) p) (bound_by (map given_as (map (attribute_written (namespaces_of attributes)) attributes)) p))
+    (option_or (bound_by (map given_as (numbered_declarations 1 (namespaces_of attributes))) p) (bound_by (map given_as (map (attribute_written (namespaces_of attributes)) attributes)) p))
 given_parts default name attributes p =
     let nss = namespaces_of attributes in
     let a : List Written = map (attribute_written nss) attributes in
-    ap (λ (l : List Given). bound_by l p) (map-append given_as (default_declaration default name) (declarations 1 nss ++ a) ∙ ap (λ (l : List Given). map given_as (default_declaration default name) ++ l) (map-append given_as (declarations 1 nss) a))
-    ∙ (bound-append (map given_as (default_declaration default name)) (map given_as (declarations 1 nss) ++ map given_as a) p
-    ∙ ap (λ (o : Option (List ℕ)). option_or (bound_by (map given_as (default_declaration default name)) p) o) (bound-append (map given_as (declarations 1 nss)) (map given_as a) p))
+    ap (λ (l : List Given). bound_by l p) (map-append given_as (default_declaration default name) (numbered_declarations 1 nss ++ a) ∙ ap (λ (l : List Given). map given_as (default_declaration default name) ++ l) (map-append given_as (numbered_declarations 1 nss) a))
+    ∙ (bound-append (map given_as (default_declaration default name)) (map given_as (numbered_declarations 1 nss) ++ map given_as a) p
+    ∙ ap (λ (o : Option (List ℕ)). option_or (bound_by (map given_as (default_declaration default name)) p) o) (bound-append (map given_as (numbered_declarations 1 nss)) (map given_as a) p))
 
 or_none_right : (o : Option (List ℕ)) → option_or o None ≡ o
 or_none_right None = refl
@@ -47,10 +47,10 @@ or_none_right (Some x) = refl
 
 -- attributes bind nothing
 pub given_binds : (default : Option (List ℕ)) (name : Expanded) (attributes : List Entry) (p : List ℕ) → AllByRecursion IsPlainEntry attributes
-    → bound_by (map given_as (tag_contents default name attributes)) p ≡ option_or (bound_by (map given_as (default_declaration default name)) p) (bound_by (map given_as (declarations 1 (namespaces_of attributes))) p)
+    → bound_by (map given_as (tag_contents default name attributes)) p ≡ option_or (bound_by (map given_as (default_declaration default name)) p) (bound_by (map given_as (numbered_declarations 1 (namespaces_of attributes))) p)
 given_binds default name attributes p h =
     given_parts default name attributes p ∙ ap (λ (o : Option (List ℕ)). option_or (bound_by (map given_as (default_declaration default name)) p) o)
-    (ap (λ (o : Option (List ℕ)). option_or (bound_by (map given_as (declarations 1 (namespaces_of attributes))) p) o) (unbound (namespaces_of attributes) attributes p h) ∙ or_none_right _)
+    (ap (λ (o : Option (List ℕ)). option_or (bound_by (map given_as (numbered_declarations 1 (namespaces_of attributes))) p) o) (unbound (namespaces_of attributes) attributes p h) ∙ or_none_right _)
 
 -- a declaration of the default binds no prefix
 default_binds : (default : Option (List ℕ)) (name : Expanded) (c : ℕ) (cs : List ℕ) → bound_by (map given_as (default_declaration default name)) (c ∷ cs) ≡ None
@@ -108,11 +108,11 @@ pub element_is : (default : Option (List ℕ)) (name : Expanded) (attributes : L
 element_is default name attributes tags h k = elim (cases_Bool (is_xml name.namespace)) as (λ _. element_name (opening_of default name attributes ∷ tags) (read_as (element_spelling name)) ≡ Some name) [
   | inl x ↦ (let p : (if is_xml name.namespace then codes "xml" else []) ≡ codes "xml" = rw x refl in
       ap (λ (q : List ℕ). element_name (opening_of default name attributes ∷ tags) (record { prefix = q; local = name.local })) p
-      ∙ (ap (λ (o : Option (List ℕ)). expanded o name.local) (xml_stays default name attributes tags h k) ∙ ap (λ (n : List ℕ). Some (record { namespace = n; local = name.local })) (sym (bytes_same _ _ x))))
+      ∙ (ap (λ (o : Option (List ℕ)). expanded_in o name.local) (xml_stays default name attributes tags h k) ∙ ap (λ (n : List ℕ). Some (record { namespace = n; local = name.local })) (sym (bytes_same _ _ x))))
   | inr x ↦ (let p : (if is_xml name.namespace then codes "xml" else []) ≡ [] = rw x refl in
       let d : default_within default name ≡ Some name.namespace = rw x refl in
       ap (λ (q : List ℕ). element_name (opening_of default name attributes ∷ tags) (record { prefix = q; local = name.local })) p
-      ∙ ap (λ (o : Option (List ℕ)). expanded o name.local) (plain_within default name attributes tags h k name.namespace d))
+      ∙ ap (λ (o : Option (List ℕ)). expanded_in o name.local) (plain_within default name attributes tags h k name.namespace d))
 ]
 
 -- the namespaces of the attributes are declared
@@ -153,10 +153,10 @@ attribute_is default name attributes tags e h k one =
     elim (cases_Bool (bytes_eq e.name.namespace [])) as (λ _. attribute_name (op ∷ tags) (given_as (attribute_written nss e)).name ≡ Some e.name) [
       | inl t ↦ named [] (rw t refl) ∙ ap (λ (n : List ℕ). Some (record { namespace = n; local = e.name.local })) (sym (bytes_same _ _ t))
       | inr f ↦ elim (cases_Bool (is_xml e.name.namespace)) as (λ _. attribute_name (op ∷ tags) (given_as (attribute_written nss e)).name ≡ Some e.name) [
-        | inl x ↦ named (codes "xml") (rw (f, x) refl) ∙ (ap (λ (o : Option (List ℕ)). expanded o e.name.local) (xml_stays default name attributes tags h k) ∙ ap (λ (n : List ℕ). Some (record { namespace = n; local = e.name.local })) (sym (bytes_same _ _ x)))
-        | inr x ↦ (let q = prefix_of (number_of 1 nss e.name.namespace) in
+        | inl x ↦ named (codes "xml") (rw (f, x) refl) ∙ (ap (λ (o : Option (List ℕ)). expanded_in o e.name.local) (xml_stays default name attributes tags h k) ∙ ap (λ (n : List ℕ). Some (record { namespace = n; local = e.name.local })) (sym (bytes_same _ _ x)))
+        | inr x ↦ (let q = prefix_of (number_among 1 nss e.name.namespace) in
             let bound : bound_by (map given_as (tag_contents default name attributes)) q ≡ Some e.name.namespace =
             given_binds default name attributes q h ∙ ap₂ (λ (u v : Option (List ℕ)). option_or u v) (default_binds default name 97 _) (bound_number 1 nss e.name.namespace (among_all e attributes (rw (f, x) refl) one)) in
-            named q (rw (f, x) refl) ∙ ap (λ (o : Option (List ℕ)). expanded (option_or o (namespace_of tags q)) e.name.local) bound)
+            named q (rw (f, x) refl) ∙ ap (λ (o : Option (List ℕ)). expanded_in (option_or o (namespace_of tags q)) e.name.local) bound)
       ]
     ]

@@ -11,7 +11,7 @@ use Rattle.markup.specs.declared.tag.Opening.{Opening}
 use Rattle.markup.specs.Events.{declared_prefix, attribute_name}
 use Rattle.fragments.specs.Plain.{IsPlainName, IsPlainEntry, ArePlainEntries}
 use Rattle.lexical_core.specs.Names.{name_cmp, xmlns, xmlns_namespace}
-use Rattle.fragments.specs.Fragment.{is_xml, is_default, default_declaration, needs_none, before_others, namespaces_of, prefix_of, declarations, attribute_written, tag_contents}
+use Rattle.fragments.specs.Fragment.{is_xml, is_default, default_declaration, needs_none, before_others, namespaces_of, prefix_of, numbered_declarations, attribute_written, tag_contents}
 use Rattle.respell.proofs.Attributes.{given_as}
 use Rattle.respell.proofs.Prefixes.{same_bytes, other_bytes, other_prefix}
 use Rattle.respell.proofs.Resolving.{no_declaration}
@@ -61,7 +61,7 @@ any_append f (x ∷ a) b h g = elim (cases_Bool (f x)) as (λ _. list_any f ((x 
 
 -- nor with one of another prefix
 any_prefix : (tags : List Opening) (x : Spelled) (p : List ℕ) (k : ℕ) (nss : List (List ℕ)) → declared_prefix x ≡ Some p → ((j : ℕ) → k ≤ j → bytes_eq (prefix_of j) p ≡ false)
-    → list_any (λ (b : Given). clash tags x b.name) (map given_as (declarations k nss)) ≡ false
+    → list_any (λ (b : Given). clash tags x b.name) (map given_as (numbered_declarations k nss)) ≡ false
 any_prefix tags x p k [] d h = refl
 any_prefix tags x p k (n ∷ nss) d h = rw (d, h k (omega arith)) (any_prefix tags x p (k + 1) nss d (λ j le. h j (omega (arith, le))))
 
@@ -80,25 +80,25 @@ clash_attributes tags nss (e ∷ es) p b =
     rw (any_attribute tags nss e es p.0.0 p.0.1 p.1.0 (b e (inl refl)) (λ f one. b f (inr one))) (clash_attributes tags nss es (p.0.1, p.1.1) (λ f one. b f (inr one)))
 
 clash_declared : (tags : List Opening) (k : ℕ) (nss all : List (List ℕ)) (es : List Entry) → AllByRecursion IsPlainEntry es → has_clash tags (map given_as (map (attribute_written all) es)) ≡ false
-    → has_clash tags (map given_as (declarations k nss) ++ map given_as (map (attribute_written all) es)) ≡ false
+    → has_clash tags (map given_as (numbered_declarations k nss) ++ map given_as (map (attribute_written all) es)) ≡ false
 clash_declared tags k [] all es p h = h
 clash_declared tags k (n ∷ nss) all es p h =
     let x : Spelled = record { prefix = xmlns; local = prefix_of k } in
-    let any : list_any (λ (b : Given). clash tags x b.name) (map given_as (declarations (k + 1) nss) ++ map given_as (map (attribute_written all) es)) ≡ false =
-    any_append _ (map given_as (declarations (k + 1) nss)) _ (any_prefix tags x (prefix_of k) (k + 1) nss refl (λ j le. other_prefix_up k j (omega (arith, le)))) (any_declared tags x (prefix_of k) all es refl p) in
+    let any : list_any (λ (b : Given). clash tags x b.name) (map given_as (numbered_declarations (k + 1) nss) ++ map given_as (map (attribute_written all) es)) ≡ false =
+    any_append _ (map given_as (numbered_declarations (k + 1) nss)) _ (any_prefix tags x (prefix_of k) (k + 1) nss refl (λ j le. other_prefix_up k j (omega (arith, le)))) (any_declared tags x (prefix_of k) all es refl p) in
     rw any (clash_declared tags (k + 1) nss all es p h)
   where
     other_prefix_up : (k j : ℕ) → k < j → bytes_eq (prefix_of j) (prefix_of k) ≡ false
     other_prefix_up k j lt = other_bytes (prefix_of j) (prefix_of k) (λ e. absurd (true≢false (sym (same_bytes _ _ (sym e)) ∙ other_prefix k j lt)))
 
 clash_default : (tags : List Opening) (default : Option (List ℕ)) (name : Expanded) (nss all : List (List ℕ)) (es : List Entry) → AllByRecursion IsPlainEntry es
-    → has_clash tags (map given_as (declarations 1 nss) ++ map given_as (map (attribute_written all) es)) ≡ false
-    → has_clash tags (map given_as (default_declaration default name) ++ (map given_as (declarations 1 nss) ++ map given_as (map (attribute_written all) es))) ≡ false
-clash_default tags default name nss all es p h = elim (cases_Bool (is_xml name.namespace || is_default default name.namespace)) as (λ _. has_clash tags (map given_as (default_declaration default name) ++ (map given_as (declarations 1 nss) ++ map given_as (map (attribute_written all) es))) ≡ false) [
+    → has_clash tags (map given_as (numbered_declarations 1 nss) ++ map given_as (map (attribute_written all) es)) ≡ false
+    → has_clash tags (map given_as (default_declaration default name) ++ (map given_as (numbered_declarations 1 nss) ++ map given_as (map (attribute_written all) es))) ≡ false
+clash_default tags default name nss all es p h = elim (cases_Bool (is_xml name.namespace || is_default default name.namespace)) as (λ _. has_clash tags (map given_as (default_declaration default name) ++ (map given_as (numbered_declarations 1 nss) ++ map given_as (map (attribute_written all) es))) ≡ false) [
   | inl t ↦ rw t h
   | inr f ↦ (let x : Spelled = record { prefix = []; local = xmlns } in
-      let any : list_any (λ (b : Given). clash tags x b.name) (map given_as (declarations 1 nss) ++ map given_as (map (attribute_written all) es)) ≡ false =
-      any_append _ (map given_as (declarations 1 nss)) _ (any_prefix tags x [] 1 nss refl (λ j le. refl)) (any_declared tags x [] all es refl p) in
+      let any : list_any (λ (b : Given). clash tags x b.name) (map given_as (numbered_declarations 1 nss) ++ map given_as (map (attribute_written all) es)) ≡ false =
+      any_append _ (map given_as (numbered_declarations 1 nss)) _ (any_prefix tags x [] 1 nss refl (λ j le. refl)) (any_declared tags x [] all es refl p) in
       rw (f, any) h)
 ]
 
@@ -115,7 +115,7 @@ bad_attributes : (tags : List Opening) (nss : List (List ℕ)) (es : List Entry)
 bad_attributes tags nss [] p b = refl
 bad_attributes tags nss (e ∷ es) p b = rw (no_declaration nss e p.0, b e (inl refl)) (bad_attributes tags nss es p.1 (λ f one. b f (inr one)))
 
-bad_declared : (tags : List Opening) (k : ℕ) (nss : List (List ℕ)) → AllByRecursion IsDeclarable nss → list_any (is_bad_attribute tags) (map given_as (declarations k nss)) ≡ false
+bad_declared : (tags : List Opening) (k : ℕ) (nss : List (List ℕ)) → AllByRecursion IsDeclarable nss → list_any (is_bad_attribute tags) (map given_as (numbered_declarations k nss)) ≡ false
 bad_declared tags k [] h = refl
 bad_declared tags k (n ∷ nss) h = (let parts = needed_parts n h.0.needed in rw (parts.0, parts.1, h.0.reserved) (bad_declared tags (k + 1) nss h.1))
 
@@ -133,7 +133,7 @@ pub bad_none : (default : Option (List ℕ)) (name : Expanded) (attributes : Lis
 bad_none default name attributes tags n p k =
     let op = opening_of default name attributes in let nss = namespaces_of attributes in
     ap (list_any (is_bad_attribute (op ∷ tags))) (given_three default name attributes) ∙ any_append _ (map given_as (default_declaration default name)) _ (bad_default (op ∷ tags) default name n)
-    (any_append _ (map given_as (declarations 1 nss)) _ (bad_declared (op ∷ tags) 1 nss (declarable attributes p.0)) (bad_attributes (op ∷ tags) nss attributes p.0 (λ e one. attribute_is default name attributes tags e p.0 k one)))
+    (any_append _ (map given_as (numbered_declarations 1 nss)) _ (bad_declared (op ∷ tags) 1 nss (declarable attributes p.0)) (bad_attributes (op ∷ tags) nss attributes p.0 (λ e one. attribute_is default name attributes tags e p.0 k one)))
 
 -- the start tag keeps all rules where the root is not closed
 pub start_clean : (default : Option (List ℕ)) (name : Expanded) (attributes : List Entry) (tags : List Opening) → IsPlainName name → ArePlainEntries attributes → Knows tags default

@@ -4,10 +4,10 @@ use Rattle.std.specs.Prelude.{encode_utf8, encode_utf8_all, nat_le}
 use Rattle.std.specs.List.{AllByRecursion}
 use Rattle.std.proofs.lemmas.Bool.{cases_Bool, true≢false}
 use Rattle.std.proofs.lemmas.Bool.Decides.{nat_tests}
-use Rattle.lexical_core.specs.Escapes.{escaped}
+use Rattle.lexical_core.specs.Escapes.{escape_of}
 use Rattle.lexical_core.specs.Tree.{Expanded, Item, Char}
 use Rattle.markup.specs.Literals.{is_literal, IsOfText, IsRun}
-use Rattle.respell.specs.Respelling.{respelled, defaults_behind}
+use Rattle.respell.specs.Respelling.{respelled_text, defaults_behind}
 use Rattle.respell.specs.Kept.{HasDefaults, HasWritten, opened_by, own_defaults}
 use Rattle.respell.specs.declared.respell.Respell.{Respell}
 use Rattle.respell.proofs.KeptLemmas.{taken_all, same_defaults}
@@ -30,13 +30,13 @@ other_than c n h a b d = elim (cases_Bool (c == n)) [
     same : (c n : ℕ) → (c == n) ≡ true → c ≡ n
     same c n h = grind (arith, nat_tests, h)
 
-literal_escaped : (c : ℕ) → IsOfText c → escaped false c ≡ encode_utf8 c
+literal_escaped : (c : ℕ) → IsOfText c → escape_of false c ≡ encode_utf8 c
 literal_escaped c h = rw (other_than c 38 h refl refl refl, other_than c 60 h refl refl refl, other_than c 62 h refl refl refl, other_than c 13 h refl refl refl) refl
 
 abbrev pub chars_of : List ℕ → List Item
 chars_of cs = map (λ c. Char c) cs
 
-run_text : (ds : List (Option (List ℕ))) (cs : List ℕ) → AllByRecursion IsOfText cs → respelled ds (chars_of cs) ≡ encode_utf8_all cs
+run_text : (ds : List (Option (List ℕ))) (cs : List ℕ) → AllByRecursion IsOfText cs → respelled_text ds (chars_of cs) ≡ encode_utf8_all cs
 run_text ds [] h = refl
 run_text ds (c ∷ cs) h = ap₂ (λ (a b : List ℕ). a ++ b) (literal_escaped c h.0) (run_text ds cs h.1)
 

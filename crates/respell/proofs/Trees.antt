@@ -2,7 +2,7 @@
 use Rattle.std.proofs.Common.{◌≡◌, ℕ, Bool, true, false, ◌==◌, ◌&&◌, ◌≤◌, List, [], ◌∷◌, ◌++◌, length, refl, sym, ap, subst, ◌∙◌, Option, None, Some, arith, append_assoc, append-nil}
 use Rattle.std.proofs.lemmas.Bool.Decides.{nat_tests}
 use Rattle.lexical_core.specs.Tree.{Expanded, Entry, Item, Starts, Char, Ends, Nodes, Nothing, Element, Text, Tree, flat_nodes, flat}
-use Rattle.lexical_core.specs.Escapes.{escaped}
+use Rattle.lexical_core.specs.Escapes.{escape_of}
 use Rattle.markup.specs.declared.tag.Opening.{Opening}
 use Rattle.markup.specs.Token.{Token, token_bytes}
 use Rattle.markup.specs.Marks.{stands, in_cdata}
@@ -95,8 +95,8 @@ nodes_stay Nothing before op tags default p cdata are k = stays_none before
 nodes_stay (Text c rest) before op tags default p cdata are k =
     let t = token_of before c (inside_of before op tags cdata are) ((classes.xml c).1 p.0) in
     retext before _ _ _ _ (λ limit. Unit {0} × HaveShortTags limit default rest) (λ limit. HaveShortTags limit default rest) refl refl (λ limit. (λ h. h.1, λ h. (tt, h)))
-    (stays-append before (Char c ∷ []) (flat_nodes rest) (escaped false c) (nodes_text default rest) (λ limit. Unit {0}) (λ limit. HaveShortTags limit default rest)
-    (record { run = one_run before t.token (Char c ∷ []) (escaped false c) t.bytes t.stand t.rule t.items; tags = t.tags; cdata = t.cdata; short = λ limit. (λ h. (t.short limit, tt), λ h. tt) })
+    (stays-append before (Char c ∷ []) (flat_nodes rest) (escape_of false c) (nodes_text default rest) (λ limit. Unit {0}) (λ limit. HaveShortTags limit default rest)
+    (record { run = one_run before t.token (Char c ∷ []) (escape_of false c) t.bytes t.stand t.rule t.items; tags = t.tags; cdata = t.cdata; short = λ limit. (λ h. (t.short limit, tt), λ h. tt) })
     (nodes_stay rest (t.token ∷ before) op tags default p.1 (t.cdata ∙ cdata) (t.tags ∙ are) k))
 nodes_stay (Element name attributes children rest) before op tags default p cdata are k =
     let i = inside_of before op tags cdata are in

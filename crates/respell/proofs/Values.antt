@@ -8,13 +8,13 @@ use Rattle.std.proofs.lemmas.Str.{encode_ascii, inside_one}
 use Rattle.lexical_core.specs.Characters.{IsXmlChar, IsXmlText}
 use Rattle.markup.specs.Chars.{is_xml_char, is_space}
 use Rattle.markup.specs.Reference.{Named, Numbered, Ampersand, Less, Greater, Quote}
-use Rattle.markup.specs.Attribute.{Piece, Literal, Refers, is_piece, piece_text, value_chars}
+use Rattle.markup.specs.Attribute.{ValuePiece, Literal, Refers, is_piece, piece_text, value_chars}
 use Rattle.markup.proofs.CharLemmas.{classes}
 use Rattle.fragments.specs.Fragment.{value_byte}
 use Rattle.respell.proofs.Lists.{encode-append, flat_map-append}
 
 -- the piece that spells a character
-abbrev pub piece_for : ℕ → Piece
+abbrev pub piece_for : ℕ → ValuePiece
 piece_for c =
     if c == 38 then Refers (Named Ampersand)
     else (if c == 60 then Refers (Named Less)
@@ -26,10 +26,10 @@ piece_for c =
     else Literal c))))))
 
 -- what a piece does for its character
-pub record Spells (c : ℕ) (p : Piece) : Type 0 where
+pub record Spells (c : ℕ) (p : ValuePiece) : Type 0 where
   pub is : is_piece 34 p ≡ true
   pub bytes : encode_utf8_all (piece_text p) ≡ flat_map value_byte (encode_utf8 c)
-  pub gives : (ps : List Piece) → value_chars (p ∷ ps) ≡ c ∷ value_chars ps
+  pub gives : (ps : List ValuePiece) → value_chars (p ∷ ps) ≡ c ∷ value_chars ps
 
 -- a character that stands for itself in a value
 pub record IsOwn (c : ℕ) : Type 0 where
@@ -48,7 +48,7 @@ own_space : (c : ℕ) → IsOwn c → (if is_space c then 32 else c) ≡ c
 unfolding is_space
 own_space c o = (let a = o.n9 in let b = o.n10 in let d = o.n13 in grind (arith, nat_tests, a, b, d))
 
-own_gives : (c : ℕ) → IsOwn c → (ps : List Piece) → value_chars (Literal c ∷ ps) ≡ c ∷ value_chars ps
+own_gives : (c : ℕ) → IsOwn c → (ps : List ValuePiece) → value_chars (Literal c ∷ ps) ≡ c ∷ value_chars ps
 own_gives c o ps = rw (o.n13, own_space c o) refl
 
 high_bytes : (bytes : List ℕ) → ((k : ℕ) → k < length bytes → 128 ≤ get_or bytes k 0) → flat_map value_byte bytes ≡ bytes
@@ -70,7 +70,7 @@ own_bytes c o = elim (cases_lt c 128) [
 own_is : (c : ℕ) → IsOwn c → is_xml_char c ≡ true → is_piece 34 (Literal c) ≡ true
 own_is c o x = rw (x, o.n60, o.n38, o.n34) refl
 
-fixed : (c : ℕ) (p : Piece) → (is_piece 34 p ≡ true) → encode_utf8_all (piece_text p) ≡ flat_map value_byte (encode_utf8 c) → ((ps : List Piece) → value_chars (p ∷ ps) ≡ c ∷ value_chars ps) → Spells c p
+fixed : (c : ℕ) (p : ValuePiece) → (is_piece 34 p ≡ true) → encode_utf8_all (piece_text p) ≡ flat_map value_byte (encode_utf8 c) → ((ps : List ValuePiece) → value_chars (p ∷ ps) ≡ c ∷ value_chars ps) → Spells c p
 fixed c p i b g = record { is = i; bytes = b; gives = g }
 
 spells_38 : Spells 38 (Refers (Named Ampersand))
@@ -104,13 +104,13 @@ spells_10 = record { is = refl; bytes = refl; gives = λ ps. refl }
 same_char : (c n : ℕ) → (c == n) ≡ true → n ≡ c
 same_char c n h = grind (arith, nat_tests, h)
 
-move : (c n : ℕ) (p : Piece) → (c == n) ≡ true → Spells n p → Spells c p
+move : (c n : ℕ) (p : ValuePiece) → (c == n) ≡ true → Spells n p → Spells c p
 move c n p h s = Rattle.std.proofs.Common.subst (λ (k : ℕ). Spells k p) (same_char c n h) s
 
-abbrev chosen : ℕ → ℕ → Piece → Piece → Type 0
+abbrev chosen : ℕ → ℕ → ValuePiece → ValuePiece → Type 0
 chosen c n p q = Spells c (if c == n then p else q)
 
-choose : (c n : ℕ) (p q : Piece) → Spells n p → ((c == n) ≡ false → Spells c q) → Spells c (if c == n then p else q)
+choose : (c n : ℕ) (p q : ValuePiece) → Spells n p → ((c == n) ≡ false → Spells c q) → Spells c (if c == n then p else q)
 choose c n p q s f = elim (cases_Bool (c == n)) as (λ _. Spells c (if c == n then p else q)) [
   | inl h ↦ rw h (move c n p h s)
   | inr h ↦ rw h (f h)
@@ -125,13 +125,13 @@ spells_char c x =
 
 -- pieces that spell bytes
 pub record HasValue (bytes : List ℕ) : Type 0 where
-  pub pieces : List Piece
+  pub pieces : List ValuePiece
   pub are : list_all (is_piece 34) pieces ≡ true
   pub spelled : encode_utf8_all (flat_map piece_text pieces) ≡ flat_map value_byte bytes
   pub gives : encode_utf8_all (value_chars pieces) ≡ bytes
 
 pub record HasPieces (chars : List ℕ) : Type 0 where
-  pub pieces : List Piece
+  pub pieces : List ValuePiece
   pub are : list_all (is_piece 34) pieces ≡ true
   pub spelled : encode_utf8_all (flat_map piece_text pieces) ≡ flat_map value_byte (encode_utf8_all chars)
   pub gives : value_chars pieces ≡ chars

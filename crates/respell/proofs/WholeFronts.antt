@@ -6,8 +6,8 @@ use Rattle.std.proofs.lemmas.Bool.Decides.{nat_tests}
 use Rattle.std.proofs.lemmas.List.{reverse-append, nil_from_length}
 use Rattle.lexical_core.specs.Tree.{Item, Starts, Char, Ends, Skipped, Nodes, Nothing, Element, Text, Tree, flat_nodes, flat}
 use Rattle.fragments.specs.Fragment.{default_within, fragment}
-use Rattle.respell.specs.Respelling.{nearest, respelled, defaults_behind, told_of, AreFront, AreOf}
-use Rattle.respell.specs.Kept.{KeepsDefaults, HasTaken}
+use Rattle.respell.specs.Respelling.{nearest, respelled_text, defaults_behind, told_of, AreFront, AreOf}
+use Rattle.respell.specs.Kept.{KeepsDefaults, HasTakenItems}
 use Rattle.respell.specs.declared.respell.Respell.{Respell}
 use Rattle.respell.proofs.RespelledTrees.{respelled_told, whole_text}
 
@@ -114,21 +114,21 @@ reverse_none (b ∷ flags) e = absurd (let h : reverse flags ++ b ∷ [] ≡ [] 
     nonempty [] b e = absurd cc
     nonempty (x ∷ l) b e = absurd cc
 
-pub whole_if : (r : Respell) (items : List Item) → HasTaken r items → AreFront items → length r.declares.items ≡ 0 → (r.text ≡ [] → ⊥) → (t : Tree) × AreOf items t
+pub whole_if : (r : Respell) (items : List Item) → HasTakenItems r items → AreFront items → length r.declares.items ≡ 0 → (r.text ≡ [] → ⊥) → (t : Tree) × AreOf items t
 whole_if r items h (t, more, e) closed some =
     let none : defaults_behind [] items ≡ [] = no_flags (reverse r.defaults.items) (defaults_behind [] items) (subst (λ (l : List Bool). KeepsDefaults (reverse r.defaults.items) (reverse l) (defaults_behind [] items)) (nil_from_length r.declares.items closed) h.defaults_are) in
-    (t, all_told t (told_of items) more e (λ nothing. some (h.text_is ∙ (respelled_told [] items ∙ ap (respelled []) nothing))) (sym (defaults_told [] items) ∙ none))
+    (t, all_told t (told_of items) more e (λ nothing. some (h.text_is ∙ (respelled_told [] items ∙ ap (respelled_text []) nothing))) (sym (defaults_told [] items) ∙ none))
 
-pub whole_closed : (r : Respell) (items : List Item) (t : Tree) → HasTaken r items → AreOf items t → length r.declares.items ≡ 0
+pub whole_closed : (r : Respell) (items : List Item) (t : Tree) → HasTakenItems r items → AreOf items t → length r.declares.items ≡ 0
 whole_closed r items t h are =
     let none : defaults_behind [] items ≡ [] = defaults_told [] items ∙ (ap (defaults_behind []) are ∙ defaults_tree t) in
     reverse_none r.declares.items (no_defaults (reverse r.defaults.items) (reverse r.declares.items) (subst (λ (l : List (Option (List ℕ))). KeepsDefaults (reverse r.defaults.items) (reverse r.declares.items) l) none h.defaults_are))
 
-pub whole_some : (r : Respell) (items : List Item) (t : Tree) → HasTaken r items → AreOf items t → r.text ≡ [] → ⊥
+pub whole_some : (r : Respell) (items : List Item) (t : Tree) → HasTakenItems r items → AreOf items t → r.text ≡ [] → ⊥
 whole_some r items t h are empty = absurd (let e : fragment t ≡ [] = sym (whole_text items t are) ∙ (sym h.text_is ∙ empty) in cc)
 
 -- elements are open
-pub whole_not : (r : Respell) (items : List Item) (a : Bool) → a ≡ (length r.declares.items == 0) → a ≡ false → HasTaken r items → IsTrue a ↔ ((t : Tree) × AreOf items t)
+pub whole_not : (r : Respell) (items : List Item) (a : Bool) → a ≡ (length r.declares.items == 0) → a ≡ false → HasTakenItems r items → IsTrue a ↔ ((t : Tree) × AreOf items t)
 whole_not r items a is unmet h = (
   λ met. absurd (true≢false (sym met ∙ unmet)),
   λ p. absurd (true≢false (sym (is ∙ ap (λ (n : ℕ). n == 0) (whole_closed r items p.0 h p.1)) ∙ unmet)),
@@ -138,7 +138,7 @@ none_from : (n : ℕ) → (n == 0) ≡ true → n ≡ 0
 none_from n h = grind (arith, nat_tests, h)
 
 -- none is
-pub whole_test : (r : Respell) (items : List Item) (a b : Bool) → a ≡ (length r.declares.items == 0) → a ≡ true → b ≡ (length r.text == 0) → HasTaken r items → AreFront items → IsTrue (not b) ↔ ((t : Tree) × AreOf items t)
+pub whole_test : (r : Respell) (items : List Item) (a b : Bool) → a ≡ (length r.declares.items == 0) → a ≡ true → b ≡ (length r.text == 0) → HasTakenItems r items → AreFront items → IsTrue (not b) ↔ ((t : Tree) × AreOf items t)
 whole_test r items a b is met text h f = (
   λ some. whole_if r items h f (none_from (length r.declares.items) (sym is ∙ met)) (λ empty. true≢false (sym some ∙ ap (λ (x : Bool). not x) (text ∙ ap (λ (l : List ℕ). length l == 0) empty))),
   λ p. step b (λ t. whole_some r items p.0 h p.1 (nil_from_length r.text (none_from (length r.text) (sym text ∙ t)))),

@@ -5,12 +5,12 @@ use Rattle.std.specs.List.{list_any, AllByRecursion}
 use Rattle.std.proofs.lemmas.Bool.{and_parts}
 use Rattle.lexical_core.specs.declared.rule.Rule.{Rule}
 use Rattle.lexical_core.specs.declared.rule.Rule.TheVariants.{DuplicateAttribute, BadPrefix, AfterRoot}
-use Rattle.lexical_core.specs.Tree.{Expanded, Entry, Item, Starts, Char, Ends, Skipped, Nodes, Nothing, Element, Text, Tree, flat_nodes, flat, counted, TreeIs}
+use Rattle.lexical_core.specs.Tree.{Expanded, Entry, Item, Starts, Char, Ends, Skipped, Nodes, Nothing, Element, Text, Tree, flat_nodes, flat, tree_items, TreeIs}
 use Rattle.markup.specs.Chars.{is_xml_char}
 use Rattle.markup.specs.declared.tag.Opening.{Opening}
 use Rattle.markup.specs.Token.{Token, Mark, Declaration, Comment, Instruction, Opener, Closer, TypeDeclaration, Start, End, Refer, LineEnd, Character, StartTag}
 use Rattle.markup.specs.Marks.{stands, Front, in_cdata, tag_limit}
-use Rattle.markup.specs.Events.{Placed, events, open_tags, opening, items_of, started, ended, end_items, element_name, entries}
+use Rattle.markup.specs.Events.{Placed, events, open_tags, opening, items_of, start_tag_items, end_tag_items, end_items, element_name, entries}
 use Rattle.markup.specs.Faults.{rule_of, IsClean, has_clash, is_bad_attribute, is_over}
 use Rattle.markup.proofs.CharLemmas.{classes}
 use Rattle.markup.proofs.TokenKinds.{never_in}
@@ -50,12 +50,12 @@ kept_of before tag after h r =
     let parts = start_kept (is_over before) (has_clash tags (opening tag).given) (is_none (element_name tags (opening tag).name)) (list_any (is_bad_attribute tags) (opening tag).given) DuplicateAttribute BadPrefix AfterRoot r in
     record { tag_is = record { name = local_is_part tag.name facts.name; given = given_are_sound tags tag.attributes facts.attributes parts.1 }; clash = parts.0 }
 
-started_plain : (o : Option Expanded) (es : List Entry) (empty : Bool) → ((name : Expanded) → o ≡ Some name → IsPlainName name) → ArePlainEntries es → AllPlain (started o es empty)
+started_plain : (o : Option Expanded) (es : List Entry) (empty : Bool) → ((name : Expanded) → o ≡ Some name → IsPlainName name) → ArePlainEntries es → AllPlain (start_tag_items o es empty)
 started_plain None es empty k p = tt
 started_plain (Some name) es true k p = ((k name refl, p), (tt, tt))
 started_plain (Some name) es false k p = ((k name refl, p), tt)
 
-ended_plain : (o : Option Expanded) → AllPlain (ended o)
+ended_plain : (o : Option Expanded) → AllPlain (end_tag_items o)
 ended_plain None = tt
 ended_plain (Some name) = (tt, tt)
 
@@ -119,7 +119,7 @@ open_sound limit before bytes (t ∷ ts) rest s (after, cell, short, f) c = open
 
 -- ---- their tree
 
-counted_plain : (n : ℕ) (items : List Item) → AllPlain items → AllPlain (counted n items)
+counted_plain : (n : ℕ) (items : List Item) → AllPlain items → AllPlain (tree_items n items)
 counted_plain n [] h = tt
 counted_plain n (Starts name es ∷ items) h = (h.0, counted_plain (suc n) items h.1)
 counted_plain n (Ends name ∷ items) h = (h.0, counted_plain (Prim.Native.Nat.pred n) items h.1)

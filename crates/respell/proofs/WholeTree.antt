@@ -6,12 +6,12 @@ use Rattle.std.specs.List.{list_any}
 use Rattle.std.proofs.lemmas.Bool.{and_parts}
 use Rattle.lexical_core.specs.declared.rule.Rule.{Rule}
 use Rattle.lexical_core.specs.declared.rule.Rule.TheVariants.{DuplicateAttribute, BadPrefix, AfterRoot}
-use Rattle.lexical_core.specs.Tree.{Expanded, Entry, Nodes, Element, Text, Tree, TreeIs, Item, Starts, Char, Ends, Skipped, counted, flat, flat_nodes}
+use Rattle.lexical_core.specs.Tree.{Expanded, Entry, Nodes, Element, Text, Tree, TreeIs, Item, Starts, Char, Ends, Skipped, tree_items, flat, flat_nodes}
 use Rattle.lexical_core.specs.Tree as tree
 use Rattle.markup.specs.declared.tag.Opening.{Opening}
 use Rattle.markup.specs.declared.tag.Spelled.{Spelled}
 use Rattle.markup.specs.Token.{Token, Mark, Declaration, Comment, Instruction, Opener, Closer, TypeDeclaration, Start, End, Refer, LineEnd, Character}
-use Rattle.markup.specs.Events.{spelled, open_tags, opening, element_name, items_of, end_items, entries}
+use Rattle.markup.specs.Events.{spelled_name, open_tags, opening, element_name, items_of, end_items, entries}
 use Rattle.respell.proofs.Runs.{behind, items_in}
 use Rattle.markup.specs.Faults.{has_clash, is_bad_attribute, has_start, is_outside, is_over, end_rule, IsClean}
 
@@ -55,17 +55,17 @@ abbrev pub Begun : Bool → List Expanded → Type 0
 Begun begun [] = Unit {0}
 Begun begun (n ∷ ns) = begun ≡ true
 
-pub parse : (begun : Bool) (ns : List Expanded) (items : List Item) → Begun begun ns → Closes begun ns items → Rest begun ns (counted (length ns) items)
+pub parse : (begun : Bool) (ns : List Expanded) (items : List Item) → Begun begun ns → Closes begun ns items → Rest begun ns (tree_items (length ns) items)
 parse true [] [] b h = refl
 parse false [] [] b h = absurd cc
 parse begun (n ∷ ns) [] b h = absurd h
 parse true [] (Starts n a ∷ items) b h = (let e : ◌≡◌ {A = Bool} true false = h.0 in absurd cc)
-parse false [] (Starts n a ∷ items) b h = root_of n a (counted 1 items) (parse true (n ∷ []) items refl h.1)
-parse true (m ∷ ns) (Starts n a ∷ items) b h = element_more n m a (counted (suc (suc (length ns))) items) ns (parse true (n ∷ m ∷ ns) items refl h)
+parse false [] (Starts n a ∷ items) b h = root_of n a (tree_items 1 items) (parse true (n ∷ []) items refl h.1)
+parse true (m ∷ ns) (Starts n a ∷ items) b h = element_more n m a (tree_items (suc (suc (length ns))) items) ns (parse true (n ∷ m ∷ ns) items refl h)
 parse false (m ∷ ns) (Starts n a ∷ items) b h = absurd cc
 parse begun [] (Ends n ∷ items) b h = absurd h
 parse true (m ∷ ns) (Ends n ∷ items) b h =
-    (tree.Nothing, counted (length ns) items, ap (λ x. Ends x ∷ counted (length ns) items) h.0, rest_true ns (counted (length ns) items) (parse true ns items (begun_all ns) h.1))
+    (tree.Nothing, tree_items (length ns) items, ap (λ x. Ends x ∷ tree_items (length ns) items) h.0, rest_true ns (tree_items (length ns) items) (parse true ns items (begun_all ns) h.1))
   where
     begun_all : (ns : List Expanded) → Begun true ns
     begun_all [] = tt
@@ -73,7 +73,7 @@ parse true (m ∷ ns) (Ends n ∷ items) b h =
 parse false (m ∷ ns) (Ends n ∷ items) b h = absurd cc
 parse true [] (Char c ∷ items) b h = parse true [] items b h
 parse false [] (Char c ∷ items) b h = parse false [] items b h
-parse true (n ∷ ns) (Char c ∷ items) b h = char_more c n ns (counted (suc (length ns)) items) (parse true (n ∷ ns) items b h)
+parse true (n ∷ ns) (Char c ∷ items) b h = char_more c n ns (tree_items (suc (length ns)) items) (parse true (n ∷ ns) items b h)
 parse false (n ∷ ns) (Char c ∷ items) b h = absurd cc
 parse true ns (Skipped ∷ items) b h = parse true ns items b h
 parse false ns (Skipped ∷ items) b h = parse false ns items b h
@@ -155,7 +155,7 @@ tokens_close before (Start tag ∷ ts) ns clean names over = go (λ ms h. tokens
     go later (n, e) = rw e (start_closes (has_start before) tag.is_empty n (entries (opening tag ∷ open_tags before) (opening tag).given) ns (items_in (Start tag ∷ before) ts) outside
         (later (if tag.is_empty then ns else n ∷ ns) (names_if tag.is_empty (open_tags before) (opening tag) ns n names e)))
 tokens_close before (End name gap ∷ ts) ns clean names over =
-    ended_closes (has_start before) (open_tags before) (spelled name) ns (items_in (End name gap ∷ before) ts) clean.0 names (λ ms h. tokens_close (End name gap ∷ before) ts ms clean.1 h over)
+    ended_closes (has_start before) (open_tags before) (spelled_name name) ns (items_in (End name gap ∷ before) ts) clean.0 names (λ ms h. tokens_close (End name gap ∷ before) ts ms clean.1 h over)
 tokens_close before (Mark ∷ ts) ns clean names over = tokens_close (Mark ∷ before) ts ns clean.1 names over
 tokens_close before (Declaration fields gap ∷ ts) ns clean names over = tokens_close (Declaration fields gap ∷ before) ts ns clean.1 names over
 tokens_close before (Comment text ∷ ts) ns clean names over = tokens_close (Comment text ∷ before) ts ns clean.1 names over

@@ -7,7 +7,7 @@ use Rattle.std.proofs.lemmas.Bool.{cases_Bool}
 use Rattle.lexical_core.specs.Tree.{Expanded, Entry}
 use Rattle.fragments.specs.Plain.{IsPart, IsPlainName, IsPlainEntry}
 use Rattle.lexical_core.specs.Names.{xmlns}
-use Rattle.fragments.specs.Fragment.{Written, is_xml, is_default, element_spelling, default_declaration, declarations, namespaces_of, number_of, attribute_prefix, attribute_written, tag_contents}
+use Rattle.fragments.specs.Fragment.{Written, is_xml, is_default, element_spelling, default_declaration, numbered_declarations, namespaces_of, number_among, attribute_prefix, attribute_written, tag_contents}
 use Rattle.respell.proofs.Names.{IsSpelling}
 use Rattle.respell.proofs.Attributes.{IsWritten}
 use Rattle.respell.proofs.Prefixes.{prefix_part}
@@ -40,7 +40,7 @@ default_written default name p = elim (cases_Bool (is_xml name.namespace || is_d
   | inr h ↦ rw h (record { name = record { prefix = inl refl; local = xmlns_part }; value = p.namespace }, tt)
 ]
 
-declarations_written : (k : ℕ) (nss : List (List ℕ)) → AllByRecursion IsDeclarable nss → AllByRecursion IsWritten (declarations k nss)
+declarations_written : (k : ℕ) (nss : List (List ℕ)) → AllByRecursion IsDeclarable nss → AllByRecursion IsWritten (numbered_declarations k nss)
 declarations_written k [] h = tt
 declarations_written k (n ∷ nss) h = (record { name = record { prefix = inr xmlns_part; local = prefix_part k }; value = h.0.text }, declarations_written (k + 1) nss h.1)
 
@@ -49,7 +49,7 @@ prefix_written nss n = elim (cases_Bool (bytes_eq n [])) as (λ _. (attribute_pr
   | inl t ↦ inl (rw t refl)
   | inr f ↦ elim (cases_Bool (is_xml n)) as (λ _. (attribute_prefix nss n ≡ []) ⊎ IsPart (attribute_prefix nss n)) [
     | inl x ↦ inr (rw (f, x) xml_part)
-    | inr x ↦ inr (rw (f, x) (prefix_part (number_of 1 nss n)))
+    | inr x ↦ inr (rw (f, x) (prefix_part (number_among 1 nss n)))
   ]
 ]
 
@@ -59,4 +59,4 @@ attributes_written nss (e ∷ es) h = (record { name = record { prefix = prefix_
 
 pub contents_written : (default : Option (List ℕ)) (name : Expanded) (attributes : List Entry) → IsPlainName name → AllByRecursion IsPlainEntry attributes → AllByRecursion IsWritten (tag_contents default name attributes)
 contents_written default name attributes p h =
-    written-append (default_declaration default name) _ (default_written default name p) (written-append (declarations 1 (namespaces_of attributes)) _ (declarations_written 1 (namespaces_of attributes) (declarable attributes h)) (attributes_written (namespaces_of attributes) attributes h))
+    written-append (default_declaration default name) _ (default_written default name p) (written-append (numbered_declarations 1 (namespaces_of attributes)) _ (declarations_written 1 (namespaces_of attributes) (declarable attributes h)) (attributes_written (namespaces_of attributes) attributes h))

@@ -2,7 +2,7 @@
 use Rattle.std.specs.Prelude.{◌≡◌, ℕ, Bool, true, false, List, [], ◌∷◌, map, reverse, Option, Some, ◌++◌}
 use Rattle.lexical_core.specs.Tree.{Expanded, Item}
 use Rattle.markup.specs.PlainTags.{open_after}
-use Rattle.respell.specs.Respelling.{nearest, respelled, defaults_behind}
+use Rattle.respell.specs.Respelling.{nearest, respelled_text, defaults_behind}
 use Rattle.respell.specs.declared.respell.Respell.{Respell}
 
 -- the declared defaults and whether each open element declares one, both the innermost first, stand for these defaults
@@ -32,10 +32,10 @@ IsInDefault r namespace = (outer : List (List ℕ)) × (r.defaults.items ≡ out
 -- These events were taken, and of their text this front was forgotten.
 pub record HasWritten (r : Respell) (forgotten : List ℕ) (items : List Item) : Type 0 where
   pub sound : r.failed ≡ false
-  pub text_is : forgotten ++ r.text ≡ respelled [] items
+  pub text_is : forgotten ++ r.text ≡ respelled_text [] items
   pub defaults_are : HasDefaults r (defaults_behind [] items)
   pub own_are : r.prefixed ≡ false → defaults_behind [] items ≡ own_defaults (opened_by [] items)
 
 -- These events were taken.
-abbrev pub HasTaken : Respell → List Item → Type 0
-HasTaken r items = HasWritten r [] items
+abbrev pub HasTakenItems : Respell → List Item → Type 0
+HasTakenItems r items = HasWritten r [] items

@@ -21,7 +21,7 @@ abbrev pub NoProperFront : Type 0
 NoProperFront = (t u : Tree) (rest : List ℕ) → IsPlain t → IsPlain u → fragment t ++ rest ≡ fragment u → rest ≡ []
 
 -- The bytes, in which tags have at most so many bytes, are tokens that break no rule up to the root's end, and their events are those of the tree.
-pub record Reads (limit : ℕ) (bytes : List ℕ) (t : Tree) : Type 0 where
+pub record ReadsTree (limit : ℕ) (bytes : List ℕ) (t : Tree) : Type 0 where
   pub tokens : List Token
   pub marks : Front limit [] bytes tokens []
   pub clean : IsClean [] tokens
@@ -30,7 +30,7 @@ pub record Reads (limit : ℕ) (bytes : List ℕ) (t : Tree) : Type 0 where
 
 -- A fragment is read back as its tree, whatever limit its tags keep.
 abbrev pub ReadBack : Type 0
-ReadBack = (t : Tree) (limit : ℕ) → IsPlain t → length (fragment t) ≤ limit → Reads limit (fragment t) t
+ReadBack = (t : Tree) (limit : ℕ) → IsPlain t → length (fragment t) ≤ limit → ReadsTree limit (fragment t) t
 
 -- an event that speaks of a plain tree
 abbrev pub IsPlainItem : Item → Type 0

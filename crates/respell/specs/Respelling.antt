@@ -1,8 +1,8 @@
 -- The text of events, as a fragment has it.
 use Rattle.std.specs.Prelude.{◌≡◌, ℕ, false, List, [], ◌∷◌, ◌++◌, drop, Option, None}
 use Rattle.lexical_core.specs.Tree.{Item, Starts, Char, Ends, Skipped, Tree, flat}
-use Rattle.lexical_core.specs.Escapes.{escaped}
-use Rattle.fragments.specs.Plain.{AreSorted}
+use Rattle.lexical_core.specs.Escapes.{escape_of}
+use Rattle.fragments.specs.Plain.{AreSortedEntries}
 use Rattle.fragments.specs.Fragment.{default_within, start_text, end_text}
 
 -- the default namespace so far: that within the innermost open element
@@ -11,12 +11,12 @@ nearest [] = None
 nearest (default ∷ outer) = default
 
 -- the text of events, where these defaults stand within the open elements, the innermost first
-abbrev pub respelled : List (Option (List ℕ)) → List Item → List ℕ
-respelled defaults [] = []
-respelled defaults (Starts name attributes ∷ items) = start_text (nearest defaults) name attributes ++ respelled (default_within (nearest defaults) name ∷ defaults) items
-respelled defaults (Char c ∷ items) = escaped false c ++ respelled defaults items
-respelled defaults (Ends name ∷ items) = end_text name ++ respelled (drop 1 defaults) items
-respelled defaults (Skipped ∷ items) = respelled defaults items
+abbrev pub respelled_text : List (Option (List ℕ)) → List Item → List ℕ
+respelled_text defaults [] = []
+respelled_text defaults (Starts name attributes ∷ items) = start_text (nearest defaults) name attributes ++ respelled_text (default_within (nearest defaults) name ∷ defaults) items
+respelled_text defaults (Char c ∷ items) = escape_of false c ++ respelled_text defaults items
+respelled_text defaults (Ends name ∷ items) = end_text name ++ respelled_text (drop 1 defaults) items
+respelled_text defaults (Skipped ∷ items) = respelled_text defaults items
 
 -- the defaults behind them
 abbrev pub defaults_behind : List (Option (List ℕ)) → List Item → List (Option (List ℕ))
@@ -44,7 +44,7 @@ AreOf items t = told_of items ≡ flat t
 
 -- The attributes of an element that starts are sorted by namespace and then by local name, no two alike.
 abbrev pub HasSortedAttributes : Item → Type 0
-HasSortedAttributes (Starts name attributes) = AreSorted attributes
+HasSortedAttributes (Starts name attributes) = AreSortedEntries attributes
 HasSortedAttributes (Char c) = Unit {0}
 HasSortedAttributes (Ends name) = Unit {0}
 HasSortedAttributes Skipped = Unit {0}

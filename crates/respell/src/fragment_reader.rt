@@ -4,12 +4,12 @@ ghost use Rattle.std.specs.List.{AllByRecursion};
 ghost use Rattle.lexical_core.specs.Tree.{Item, Tree};
 ghost use Rattle.markup.specs.Marks.{no_limit};
 ghost use Rattle.markup.specs.Events.{Placed};
-ghost use Rattle.markup.specs.Reading.{taken, HasTakenUnder, IsWhollyUnder};
+ghost use Rattle.markup.specs.Reading.{bytes_taken, HasTakenUnder, IsWhollyUnder};
 ghost use Rattle.fragments.specs.Plain.{IsPlain};
 ghost use Rattle.fragments.specs.Fragment.{fragment};
 ghost use Rattle.respell.specs.Respelling.{HasSortedAttributes};
 ghost use Rattle.respell.specs.Kept.{HasWritten};
-ghost use Rattle.respell.specs.inner.FragmentReading.{NoneOutside, event_items, HasReadFront, IsFragment, ReadsOn, AdvancesSo};
+ghost use Rattle.respell.specs.inner.FragmentReading.{NoneOutside, event_items, HasReadFront, IsFragment, ReadsFragmentOn, AdvancesSo};
 
 use crate::respell::Respell;
 use markup::{Event, Events, MarkError, Reader};
@@ -49,7 +49,7 @@ impl FragmentReader {
     /// Nothing is read. It takes no memory.
     fn new(alloc: Global) -> FragmentReader
         ensures read { HasReadFront result [] [] }
-        ensures none { (taken result.reader ≡ 0) × (result.respell.text ≡ []) }
+        ensures none { (bytes_taken result.reader ≡ 0) × (result.respell.text ≡ []) }
     {
         FragmentReader {
             reader: Reader::without_limit(alloc),
@@ -60,7 +60,7 @@ impl FragmentReader {
 
     /// Reads all bytes, and answers whether they are a fragment.
     fn read(&mut self, bytes: &[u8]) -> Result<bool, AllocError>
-        requires { (taken self.old.reader ≡ 0) × (self.old.respell.text ≡ []) × (length bytes.now < 2 ^ 40) }
+        requires { (bytes_taken self.old.reader ≡ 0) × (self.old.respell.text ≡ []) × (length bytes.now < 2 ^ 40) }
         ensures { HasReadFront self.old [] [] → IfOk result (λ b. IsTrue b ↔ IsFragment bytes.now) }
     {
         let mut left = bytes;
@@ -86,7 +86,7 @@ impl FragmentReader {
     /// Takes a whole part from the front of the bytes, or else the first of them.
     fn advance(&mut self, bytes: &[u8]) -> Result<Advance, AllocError>
         requires some { 0 < length bytes.now }
-        requires room { taken self.old.reader + length bytes.now ≤ 2 ^ 40 }
+        requires room { bytes_taken self.old.reader + length bytes.now ≤ 2 ^ 40 }
         ensures { IfOk result (λ a. AdvancesSo self.old self.new bytes.now a) }
     {
         let count = self.take_part(bytes)?;
@@ -99,8 +99,8 @@ impl FragmentReader {
     /// Takes a run of characters, a whole tag or bytes inside a token from the front of the bytes, and answers how many
     /// bytes that are, 0 where none of them stands there.
     fn take_part(&mut self, bytes: &[u8]) -> Result<usize, AllocError>
-        requires { taken self.old.reader + length bytes.now ≤ 2 ^ 40 }
-        ensures { IfOk result (λ n. ReadsOn self.old self.new bytes.now n) }
+        requires { bytes_taken self.old.reader + length bytes.now ≤ 2 ^ 40 }
+        ensures { IfOk result (λ n. ReadsFragmentOn self.old self.new bytes.now n) }
     {
         let run = self.take_run(bytes)?;
         if run > 0 {
@@ -115,8 +115,8 @@ impl FragmentReader {
 
     /// Takes the run of characters at the front of the bytes, of at most 4,096 bytes, and answers how many they are.
     fn take_run(&mut self, bytes: &[u8]) -> Result<usize, AllocError>
-        requires { taken self.old.reader + length bytes.now ≤ 2 ^ 40 }
-        ensures { IfOk result (λ n. ReadsOn self.old self.new bytes.now n) }
+        requires { bytes_taken self.old.reader + length bytes.now ≤ 2 ^ 40 }
+        ensures { IfOk result (λ n. ReadsFragmentOn self.old self.new bytes.now n) }
     {
         if self.respell.is_closed() {
             return Ok(0);
@@ -132,8 +132,8 @@ impl FragmentReader {
     /// Takes the whole tag at the front of the bytes, if one stands there without attributes and in the default namespace
     /// so far, and answers how many bytes it has.
     fn take_tag(&mut self, bytes: &[u8]) -> Result<usize, AllocError>
-        requires { taken self.old.reader + length bytes.now ≤ 2 ^ 40 }
-        ensures { IfOk result (λ n. ReadsOn self.old self.new bytes.now n) }
+        requires { bytes_taken self.old.reader + length bytes.now ≤ 2 ^ 40 }
+        ensures { IfOk result (λ n. ReadsFragmentOn self.old self.new bytes.now n) }
     {
         if !self.respell.is_in_default() {
             return Ok(0);
@@ -151,8 +151,8 @@ impl FragmentReader {
 
     /// Takes the bytes at the front that go on with an open token and show no event, and answers how many they are.
     fn take_inside(&mut self, bytes: &[u8]) -> Result<usize, AllocError>
-        requires { taken self.old.reader + length bytes.now ≤ 2 ^ 40 }
-        ensures { IfOk result (λ n. ReadsOn self.old self.new bytes.now n) }
+        requires { bytes_taken self.old.reader + length bytes.now ≤ 2 ^ 40 }
+        ensures { IfOk result (λ n. ReadsFragmentOn self.old self.new bytes.now n) }
     {
         match self.reader.take_inside(bytes) {
             Ok(count) => Ok(count),
@@ -163,7 +163,7 @@ impl FragmentReader {
     /// Takes the first of the bytes.
     fn take_first(&mut self, bytes: &[u8]) -> Result<Advance, AllocError>
         requires some { 0 < length bytes.now }
-        requires room { taken self.old.reader + length bytes.now ≤ 2 ^ 40 }
+        requires room { bytes_taken self.old.reader + length bytes.now ≤ 2 ^ 40 }
         ensures { IfOk result (λ a. AdvancesSo self.old self.new bytes.now a) }
     {
         let Some((byte, _behind)) = bytes.split_first() else {
@@ -178,10 +178,10 @@ impl FragmentReader {
 
     /// Takes the next byte, and answers whether a fragment may begin with the bytes so far.
     fn take(&mut self, byte: u8) -> Result<bool, AllocError>
-        requires { taken self.old.reader < 2 ^ 40 }
+        requires { bytes_taken self.old.reader < 2 ^ 40 }
         ensures goes_on { (bytes forgotten : List ℕ) → HasReadFront self.old bytes forgotten → IfOk result (λ b. IsTrue b → HasReadFront self.new (bytes ++ byte ∷ []) forgotten) }
         ensures stops { (bytes forgotten behind : List ℕ) → HasReadFront self.old bytes forgotten → IfOk result (λ b. IsFalse b → IsFragment ((bytes ++ byte ∷ []) ++ behind) → ⊥) }
-        ensures count { IfOk result (λ b. IsTrue b → taken self.new.reader ≡ taken self.old.reader + 1) }
+        ensures count { IfOk result (λ b. IsTrue b → bytes_taken self.new.reader ≡ bytes_taken self.old.reader + 1) }
     {
         self.events.clear();
         match self.reader.take(byte, &mut self.events) {
@@ -197,7 +197,7 @@ impl FragmentReader {
         ensures none { (rest : List ℕ) → bytes.now ≡ self.old.respell.text ++ rest → IfNone result ⊥ }
         ensures written { (front forgotten : List ℕ) → HasReadFront self.old front forgotten → IfSome result (λ rest. HasReadFront self.new front (forgotten ++ self.old.respell.text)) }
         ensures forgotten { IfSome result (λ rest. self.new.respell.text ≡ []) }
-        ensures count { taken self.new.reader ≡ taken self.old.reader }
+        ensures count { bytes_taken self.new.reader ≡ bytes_taken self.old.reader }
     {
         let Some(rest) = bytes.strip_prefix(self.respell.so_far()) else {
             return None;

@@ -2,13 +2,13 @@
 ghost use Rattle.std.specs.Prelude.{◌≡◌, ◌↔◌, ◌||◌, ℕ, List, [], ◌∷◌, ◌++◌, Option, IsTrue, IsFalse, OnOk, IsErr, map, drop, true, false};
 ghost use Rattle.std.specs.List.{flat_map};
 ghost use Rattle.lexical_core.specs.Tree.{Item, Tree, Char};
-ghost use Rattle.lexical_core.specs.Escapes.{escaped};
+ghost use Rattle.lexical_core.specs.Escapes.{escape_of};
 ghost use Rattle.markup.specs.EventItems.{item_of, entry_of};
-ghost use Rattle.fragments.specs.Plain.{AreSorted};
+ghost use Rattle.fragments.specs.Plain.{AreSortedEntries};
 ghost use Rattle.lexical_core.specs.Names.{xmlns};
 ghost use Rattle.fragments.specs.Fragment.{fragment, spelling_text, element_spelling, default_declaration, default_within, is_default, is_xml, start_text, end_text, written_text};
 ghost use Rattle.respell.specs.Respelling.{AreFront, AreOf, HasSortedAttributes, nearest};
-ghost use Rattle.respell.specs.Kept.{HasTaken, HasWritten, HasDefaults};
+ghost use Rattle.respell.specs.Kept.{HasTakenItems, HasWritten, HasDefaults};
 ghost use Rattle.respell.specs.inner.FragmentReading.{NoneOutside};
 
 mod plain;
@@ -36,7 +36,7 @@ pub struct Respell {
 impl Respell {
     /// Nothing is taken. It takes no memory.
     pub fn new(alloc: Global) -> Respell
-        ensures { HasTaken result [] }
+        ensures { HasTakenItems result [] }
     {
         Respell {
             alloc,
@@ -52,7 +52,7 @@ impl Respell {
     /// Takes the next event. The attributes of an element that starts have to be sorted, as those of a `Reader`'s
     /// events are (`laws::events_are_plain`). After want of memory it answers so for good.
     pub fn take(&mut self, event: &Event) -> Result<(), AllocError>
-        ensures ok { (items : List Item) → HasTaken self.old items → HasSortedAttributes (item_of event.now.what) → OnOk result (HasTaken self.new (items ++ item_of event.now.what ∷ [])) }
+        ensures ok { (items : List Item) → HasTakenItems self.old items → HasSortedAttributes (item_of event.now.what) → OnOk result (HasTakenItems self.new (items ++ item_of event.now.what ∷ [])) }
         ensures again { self.old.failed ≡ true → IsErr result }
         ensures failed { IsErr result → self.new.failed ≡ true }
     {
@@ -68,14 +68,14 @@ impl Respell {
 
     /// Whether the events are all of an element.
     pub fn is_whole(&self) -> bool
-        ensures { (items : List Item) → HasTaken self.now items → AreFront items → IsTrue result ↔ ((t : Tree) × AreOf items t) }
+        ensures { (items : List Item) → HasTakenItems self.now items → AreFront items → IsTrue result ↔ ((t : Tree) × AreOf items t) }
     {
         self.declares.as_slice().is_empty() && !self.text.bytes().is_empty()
     }
 
     /// The fragment, where the events are all of an element.
     pub fn text(&self) -> &[u8]
-        ensures { (items : List Item) (t : Tree) → HasTaken self.now items → AreOf items t → result.now ≡ fragment t }
+        ensures { (items : List Item) (t : Tree) → HasTakenItems self.now items → AreOf items t → result.now ≡ fragment t }
     {
         self.text.bytes()
     }
@@ -136,7 +136,7 @@ impl Respell {
 
     /// Writes a start tag, and keeps the default within its element.
     fn start(&mut self, ns: &[u8], local: &[u8], attrs: &[Attr]) -> Result<(), AllocError>
-        ensures text { (defaults : List (Option (List ℕ))) → HasDefaults self.old defaults → AreSorted (map entry_of attrs.now) → OnOk result (self.new.text ≡ self.old.text ++ start_text (nearest defaults) (record { namespace = ns.now; local = local.now }) (map entry_of attrs.now)) }
+        ensures text { (defaults : List (Option (List ℕ))) → HasDefaults self.old defaults → AreSortedEntries (map entry_of attrs.now) → OnOk result (self.new.text ≡ self.old.text ++ start_text (nearest defaults) (record { namespace = ns.now; local = local.now }) (map entry_of attrs.now)) }
         ensures kept { (defaults : List (Option (List ℕ))) → HasDefaults self.old defaults → OnOk result (HasDefaults self.new (default_within (nearest defaults) (record { namespace = ns.now; local = local.now }) ∷ defaults)) }
         ensures failed { self.new.failed ≡ self.old.failed }
         ensures prefixed { OnOk result (self.new.prefixed ≡ (self.old.prefixed || is_xml ns.now)) }
@@ -219,7 +219,7 @@ impl Respell {
 
     /// Writes a character of the content.
     fn character(&mut self, c: char) -> Result<(), AllocError>
-        ensures text { OnOk result (self.new.text ≡ self.old.text ++ escaped false c) }
+        ensures text { OnOk result (self.new.text ≡ self.old.text ++ escape_of false c) }
         ensures rest { (self.new.defaults ≡ self.old.defaults) × (self.new.declares ≡ self.old.declares) × (self.new.failed ≡ self.old.failed) }
         ensures prefixed { self.new.prefixed ≡ self.old.prefixed }
     {

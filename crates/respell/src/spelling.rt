@@ -2,10 +2,10 @@
 ghost use Rattle.std.specs.Prelude.{◌≡◌, ◌+◌, ◌<◌, ◌^◌, false, [], ◌∷◌, ◌++◌, OnOk, map};
 ghost use Rattle.std.specs.List.{flat_map};
 ghost use Rattle.markup.specs.EventItems.{entry_of};
-ghost use Rattle.fragments.specs.Plain.{AreSorted};
+ghost use Rattle.fragments.specs.Plain.{AreSortedEntries};
 ghost use Rattle.lexical_core.specs.Names.{xmlns};
 ghost use Rattle.respell.specs.inner.Declaring.{is_new, number_behind, later, numbered_prefix, numbered_attribute};
-ghost use Rattle.fragments.specs.Fragment.{value_byte, written_text, spelling_text, prefix_of, declarations, namespaces_of, attribute_written, needs_none, is_xml};
+ghost use Rattle.fragments.specs.Fragment.{value_byte, written_text, spelling_text, prefix_of, numbered_declarations, namespaces_of, attribute_written, needs_none, is_xml};
 
 use lexical_core::{Text, reference_to};
 use markup::Attr;
@@ -99,7 +99,7 @@ pub(crate) fn push_declarations(
     prefix: &mut Text,
     attrs: &[Attr],
 ) -> Result<(), AllocError>
-    ensures { OnOk result (text.new ≡ text.old ++ flat_map written_text (declarations 1 (namespaces_of (map entry_of attrs.now)))) }
+    ensures { OnOk result (text.new ≡ text.old ++ flat_map written_text (numbered_declarations 1 (namespaces_of (map entry_of attrs.now)))) }
 {
     let mut last: &[u8] = b"";
     let mut number: u64 = 0;
@@ -137,7 +137,7 @@ pub(crate) fn push_attributes(
     prefix: &mut Text,
     attrs: &[Attr],
 ) -> Result<(), AllocError>
-    ensures { AreSorted (map entry_of attrs.now) → OnOk result (text.new ≡ text.old ++ flat_map written_text (map (attribute_written (namespaces_of (map entry_of attrs.now))) (map entry_of attrs.now))) }
+    ensures { AreSortedEntries (map entry_of attrs.now) → OnOk result (text.new ≡ text.old ++ flat_map written_text (map (attribute_written (namespaces_of (map entry_of attrs.now))) (map entry_of attrs.now))) }
 {
     let mut last: &[u8] = b"";
     let mut number: u64 = 0;

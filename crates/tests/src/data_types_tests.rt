@@ -1,7 +1,7 @@
 // What no clause says: that the clauses mean what the standard's own examples say, and that calls which
 // may want memory succeed where there is some.
 ghost use Rattle.std.specs.Prelude.{IfOk, Option, List, ℕ};
-ghost use Rattle.data_types.specs.LeafSteps.{HasTaken};
+ghost use Rattle.data_types.specs.LeafSteps.{HasTakenLeaf};
 ghost use Rattle.data_types.specs.declared.kind.Kind.{Kind};
 
 use data_types::{Kind, LeafRef, LeafStep, boolean_of, is_date_text, push_escaped, push_leaf};
@@ -139,7 +139,7 @@ static PARTS: [(Kind, &str, Verdict); 19] = [
 /// The reader, given the characters of the text too, as one run.
 fn read(step: LeafStep, text: &str) -> Result<LeafStep, AllocError>
     ensures { IfOk result (λ given. (kind : Kind) (most : Option ℕ) (chars : List ℕ)
-        → HasTaken step kind most chars → (all : List ℕ) × HasTaken given kind most all) }
+        → HasTakenLeaf step kind most chars → (all : List ℕ) × HasTakenLeaf given kind most all) }
 {
     let mut given = step;
     let run = xml_run(text.as_bytes());

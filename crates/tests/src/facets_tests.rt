@@ -1,8 +1,8 @@
 // What no clause says: that the definitions mean what the standard means, row by row, and that calls which may
 // want memory succeed where there is some.
 ghost use Rattle.std.specs.Prelude.{◌≡◌, IfOk, length};
-ghost use Rattle.facets.specs.LeafChecks.{IsMadeFor, IsWithinLimits};
-ghost use Rattle.facets.specs.LeafVerdicts.{IsMadeFor as IsVerdictFor};
+ghost use Rattle.facets.specs.LeafChecks.{IsCheckMadeFor, IsWithinLimits};
+ghost use Rattle.facets.specs.LeafVerdicts.{IsVerdictMadeFor as IsVerdictFor};
 
 use data_types::{Kind, LeafRef};
 use facets::{Bound, Codes, LeafCheck, LeafVerdict, Simple, check_number, check_octets};
@@ -282,7 +282,7 @@ fn place(
     simple: &Simple,
     text: &str,
 ) -> Result<Result<u32, Rule>, AllocError>
-    requires { IsMadeFor check.old simple.now }
+    requires { IsCheckMadeFor check.old simple.now }
 {
     let run = xml_run(text.as_bytes());
     check.take_run(
@@ -361,7 +361,7 @@ fn the_least_rule_is_told(rt: HostRuntime) -> Result<(), Fail> {
 }
 
 fn reserve_and_take(check: &mut LeafCheck, simple: &Simple) -> Result<(), AllocError>
-    requires { IsMadeFor check.old simple.now }
+    requires { IsCheckMadeFor check.old simple.now }
 {
     check.reserve(8)?;
     check.take(simple, 'A')

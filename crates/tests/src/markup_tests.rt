@@ -2,7 +2,7 @@
 mod runs;
 
 ghost use Rattle.std.specs.Prelude.{◌≡◌};
-ghost use Rattle.markup.specs.Reading.{taken};
+ghost use Rattle.markup.specs.Reading.{bytes_taken};
 
 use lexical_core::Rule;
 use markup::{Attr, Attrs, Events, MarkError, Reader, What};
@@ -149,7 +149,7 @@ fn read(alloc: Global, bytes: &[u8], out: &mut Events) -> Verdict {
 
 /// What a reader before the first byte says of the bytes. Their events are kept, or let go at each byte.
 fn take_all(reader: &mut Reader, bytes: &[u8], out: &mut Events, is_kept: bool) -> Verdict
-    requires { taken reader.old ≡ 0 }
+    requires { bytes_taken reader.old ≡ 0 }
 {
     let mut given = 0;
     for byte in bytes {

@@ -1,6 +1,6 @@
 // Rows of fragments: XML with the fragment of its root, and bytes that are fragments or not.
 ghost use Rattle.std.specs.Prelude.{◌≡◌};
-ghost use Rattle.markup.specs.Reading.{taken};
+ghost use Rattle.markup.specs.Reading.{bytes_taken};
 
 use lexical_core::Text;
 use markup::{Attrs, Event, Events, Namespace, Reader, TagKind, What};
@@ -78,7 +78,7 @@ fn respell_all(
     events: &mut Events,
     bytes: &[u8],
 ) -> Result<bool, AllocError>
-    requires { taken reader.old ≡ 0 }
+    requires { bytes_taken reader.old ≡ 0 }
 {
     let mut given = 0;
     for byte in bytes {

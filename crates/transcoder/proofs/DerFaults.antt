@@ -7,8 +7,8 @@ use Rattle.message_model.specs.declared.fault.InstanceError.{InstanceError}
 use Rattle.message_model.specs.declared.fault.InstanceError.TheVariants.{Refused, Memory}
 use Rattle.der_model.specs.DerMessage.{der_message}
 use Rattle.der_model.specs.Faults.{DerFault}
-use Rattle.der_model.specs.LimitedFaults.{LimitedFault, whole, early, cut, behind}
-use Rattle.der_codec.specs.Checking.{Stops, EndsAs, IsSpelled, fault_of}
+use Rattle.der_model.specs.LimitedFaults.{LimitedDerFault, whole, early, cut, behind}
+use Rattle.der_codec.specs.Checking.{DerStops, DerEndsAs, IsSpelledDer, der_fault_of}
 use Rattle.transcoder.specs.declared.check_error.CheckError.{CheckError}
 use Rattle.transcoder.specs.declared.check_error.CheckError.TheVariants as check
 use Rattle.transcoder.specs.Checked.{RefusesDer, IsDerFaultOfSome}
@@ -17,34 +17,34 @@ use Rattle.transcoder.specs.Reading.{RefusesBy, IsOfSome, GivesSome}
 
 -- the first faults of bytes as DER
 abbrev pub HasFault : Tables → List ℕ → Fault → Type 0
-HasFault T bytes fault = DerFault (der_message T) bytes (fault_of fault)
+HasFault T bytes fault = DerFault (der_message T) bytes (der_fault_of fault)
 
-pub stops_at : {W : Type 0} (T : Tables) (bytes : List ℕ) (r : Result W InstanceError) → IfErr r (λ e. Stops T bytes e) → IfErr r (λ e. StopsAt (HasFault T) DerTruncated bytes e)
+pub stops_at : {W : Type 0} (T : Tables) (bytes : List ℕ) (r : Result W InstanceError) → IfErr r (λ e. DerStops T bytes e) → IfErr r (λ e. StopsAt (HasFault T) DerTruncated bytes e)
 stops_at T bytes (Ok x) h = tt
 stops_at T bytes (Err (Refused fault)) h = record { has_fault = h.has_fault; no_cut = h.no_cut }
 stops_at T bytes (Err Memory) h = tt
 
 module _ (T : Tables) where
-  pub limited : {W : Type 0} (Gives : List ℕ → W → Type 0) (spells : (bytes : List ℕ) (x : W) → Gives bytes x → IsSpelled T bytes) (bytes : List ℕ) (fault : Fault)
-      → IsLimited (HasFault T) (GivesSome Gives) DerTruncated bytes fault → LimitedFault (der_message T) bytes (fault_of fault)
+  pub limited : {W : Type 0} (Gives : List ℕ → W → Type 0) (spells : (bytes : List ℕ) (x : W) → Gives bytes x → IsSpelledDer T bytes) (bytes : List ℕ) (fault : Fault)
+      → IsLimited (HasFault T) (GivesSome Gives) DerTruncated bytes fault → LimitedDerFault (der_message T) bytes (der_fault_of fault)
   limited Gives spells bytes fault (within short h) = whole short h
   limited Gives spells bytes fault (before long h other) = early long h other
-  limited Gives spells bytes fault (open_at f long h is told) = cut (fault_of f) long h is (ap fault_of told)
-  limited Gives spells bytes fault (over_at long (x, given) told) = (let v = spells _ x given in behind v.0 long v.1 (ap fault_of told))
+  limited Gives spells bytes fault (open_at f long h is told) = cut (der_fault_of f) long h is (ap der_fault_of told)
+  limited Gives spells bytes fault (over_at long (x, given) told) = (let v = spells _ x given in behind v.0 long v.1 (ap der_fault_of told))
 
-  pub refuses : {W : Type 0} (Gives : List ℕ → W → Type 0) (spells : (bytes : List ℕ) (x : W) → Gives bytes x → IsSpelled T bytes) (bytes : List ℕ) (e : CheckError)
+  pub refuses : {W : Type 0} (Gives : List ℕ → W → Type 0) (spells : (bytes : List ℕ) (x : W) → Gives bytes x → IsSpelledDer T bytes) (bytes : List ℕ) (e : CheckError)
       → RefusesBy (IsLimited (HasFault T) (GivesSome Gives) DerTruncated) bytes e → RefusesDer T bytes e
   refuses Gives spells bytes (check.Refused fault) h = limited Gives spells bytes fault h
   refuses Gives spells bytes check.ReadFault h = tt
   refuses Gives spells bytes check.Memory h = tt
 
-  pub refuses_left : {W U : Type 0} (Gives : List ℕ → W → Type 0) (spells : (bytes : List ℕ) (x : W) → Gives bytes x → IsSpelled T bytes) (left : Option (List ℕ)) (r : Result U CheckError)
+  pub refuses_left : {W U : Type 0} (Gives : List ℕ → W → Type 0) (spells : (bytes : List ℕ) (x : W) → Gives bytes x → IsSpelledDer T bytes) (left : Option (List ℕ)) (r : Result U CheckError)
       → IfErr r (λ e. IfSome left (λ bytes. RefusesBy (IsLimited (HasFault T) (GivesSome Gives) DerTruncated) bytes e)) → IfErr r (λ e. IfSome left (λ bytes. RefusesDer T bytes e))
   refuses_left Gives spells left (Ok x) h = tt
   refuses_left Gives spells None (Err e) h = tt
   refuses_left Gives spells (Some bytes) (Err e) h = refuses Gives spells bytes e h
 
-  pub of_some : {W U : Type 0} (Gives : List ℕ → W → Type 0) (spells : (bytes : List ℕ) (x : W) → Gives bytes x → IsSpelled T bytes) (r : Result U CheckError)
+  pub of_some : {W U : Type 0} (Gives : List ℕ → W → Type 0) (spells : (bytes : List ℕ) (x : W) → Gives bytes x → IsSpelledDer T bytes) (r : Result U CheckError)
       → IfErr r (λ e. IsOfSome (IsLimited (HasFault T) (GivesSome Gives) DerTruncated) e) → IfErr r (λ e. IsDerFaultOfSome T e)
   of_some Gives spells (Ok x) h = tt
   of_some Gives spells (Err (check.Refused fault)) (bytes, h) = (bytes, limited Gives spells bytes fault h)

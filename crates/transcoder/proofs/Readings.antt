@@ -13,7 +13,7 @@ use Rattle.transcoder.specs.declared.check_error.CheckError.{CheckError}
 use Rattle.transcoder.specs.declared.check_error.CheckError.TheVariants.{Refused, ReadFault, Memory}
 use Rattle.transcoder.specs.CheckErrors.{check_error}
 use Rattle.transcoder.specs.Limited.{most_bytes, too_many, IsLimited, within, before, open_at, over_at, ShowsFault, StopsAt, EndsBy}
-use Rattle.transcoder.specs.Reading.{HasRead, HasReadBeyond, RefusesBy, IsOfSome, SaysError, ReadsTo, EndsBeyond, end_told, Concludes, GivesSome}
+use Rattle.transcoder.specs.Reading.{HasReadSource, HasReadBeyond, RefusesBy, IsOfSome, SaysError, ReadsTo, EndsBeyond, end_told, Concludes, GivesSome}
 use Rattle.transcoder.specs.declared.reading.Extent.{Extent}
 use Rattle.transcoder.specs.declared.reading.Extent.TheVariants.{Whole, Longer}
 
@@ -82,7 +82,7 @@ module _ (Faulty : List ℕ → Fault → Type 0) (Given : List ℕ → Type 0) 
 -- ---- the start, and the next bytes
 
 module _ {S : Type 0} (Fed : S → List ℕ → Type 0) (Made : S → Type 0) where
-  pub read_none : (old : Option (List ℕ)) (state : S) → Made state → Fed state [] → HasRead Fed Made old old most_bytes state
+  pub read_none : (old : Option (List ℕ)) (state : S) → Made state → Fed state [] → HasReadSource Fed Made old old most_bytes state
   read_none old state made fed_are = record { taken_are = []; front = none old; counted = omega arith; made = made; fed_are = fed_are }
     where
       none : (a : Option (List ℕ)) → Consumes a a []
@@ -90,7 +90,7 @@ module _ {S : Type 0} (Fed : S → List ℕ → Type 0) (Made : S → Type 0) wh
       none (Some x) = refl
 
   -- the end
-  pub read_end : (old now next : Option (List ℕ)) (room : ℕ) (state : S) → HasRead Fed Made old now room state → Consumes now next [] → HasRead Fed Made old next room state
+  pub read_end : (old now next : Option (List ℕ)) (room : ℕ) (state : S) → HasReadSource Fed Made old now room state → Consumes now next [] → HasReadSource Fed Made old next room state
   read_end old now next room state h consumed = record {
     taken_are = h.taken_are;
     front = subst (λ v. Consumes old next v) (append-nil h.taken_are) (consumes_twice old now next h.taken_are [] h.front consumed);
@@ -99,8 +99,8 @@ module _ {S : Type 0} (Fed : S → List ℕ → Type 0) (Made : S → Type 0) wh
     fed_are = h.fed_are;
   }
 
-  module _ (old now next : Option (List ℕ)) (xs : List ℕ) (w room : ℕ) (state : S) (h : HasRead Fed Made old now room state) (consumed : Consumes now next xs) where
-    pub read_more : (count : ℕ) (after : S) → length xs ≡ count → w ≡ count → count ≤ room → Made after → Fed after (h.taken_are ++ take w xs) → HasRead Fed Made old next (room - count) after
+  module _ (old now next : Option (List ℕ)) (xs : List ℕ) (w room : ℕ) (state : S) (h : HasReadSource Fed Made old now room state) (consumed : Consumes now next xs) where
+    pub read_more : (count : ℕ) (after : S) → length xs ≡ count → w ≡ count → count ≤ room → Made after → Fed after (h.taken_are ++ take w xs) → HasReadSource Fed Made old next (room - count) after
     read_more count after long e fits made fed_are =
         let c = h.counted in
         record {
@@ -164,7 +164,7 @@ at_end (Some x) None bytes P p e k = absurd p
 at_end (Some x) (Some y) bytes P p e k = subst P (sym (p ∙ (ap (λ l. bytes ++ l) e ∙ append-nil bytes))) k
 
 module _ {S W : Type 0} (Fed : S → List ℕ → Type 0) (Made : S → Type 0) (Faulty : List ℕ → Fault → Type 0) (Gives : List ℕ → W → Type 0) (c : Rule) (old now : Option (List ℕ)) (state : S) where
-  ended_verdict : (room : ℕ) (end : Result W InstanceError) (h : HasRead Fed Made old now room state) → IsAtEnd now
+  ended_verdict : (room : ℕ) (end : Result W InstanceError) (h : HasReadSource Fed Made old now room state) → IsAtEnd now
       → IfOk end (λ x. Gives h.taken_are x) → IfErr end (λ e. EndsBy Faulty h.taken_are e) → IsVerdict Gives (IsLimited Faulty (GivesSome Gives) c) old now (end_told end)
   ended_verdict room end h last ok err = of_end end ok err
     where

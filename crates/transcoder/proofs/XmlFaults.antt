@@ -6,11 +6,11 @@ use Rattle.message_model.specs.Tables.{Tables, message_of, types_of}
 use Rattle.message_model.specs.declared.fault.Fault.{Fault}
 use Rattle.message_model.specs.declared.fault.InstanceError.{InstanceError}
 use Rattle.message_model.specs.declared.fault.InstanceError.TheVariants.{Refused, Memory}
-use Rattle.xml_instances.specs.XmlFaults.{XmlFault, LimitedFault, whole, early, cut, behind}
+use Rattle.xml_instances.specs.XmlFaults.{XmlFault, LimitedXmlFault, whole, early, cut, behind}
 use Rattle.xml_instances.specs.XmlFaults as xml
-use Rattle.xml_instances.specs.Laws.{SpelledHasNone}
+use Rattle.xml_instances.specs.Laws.{SpelledHasNoXmlFault}
 use Rattle.xml_instances.specs.SpellsXml.{SpellsXml}
-use Rattle.xml_instances.specs.Checking.{Stops, IsSpelled, fault_of}
+use Rattle.xml_instances.specs.Checking.{XmlStops, IsSpelledXml, xml_fault_of}
 use Rattle.transcoder.specs.declared.check_error.CheckError.{CheckError}
 use Rattle.transcoder.specs.declared.check_error.CheckError.TheVariants as check
 use Rattle.transcoder.specs.Checked.{RefusesXml, IsFaultOfSome}
@@ -19,37 +19,37 @@ use Rattle.transcoder.specs.Reading.{RefusesBy, IsOfSome, GivesSome}
 
 -- the first faults of bytes as XML
 abbrev pub HasFault : Tables → List ℕ → Fault → Type 0
-HasFault T bytes fault = XmlFault (message_of T) bytes (fault_of fault)
+HasFault T bytes fault = XmlFault (message_of T) bytes (xml_fault_of fault)
 
-pub stops_at : {W : Type 0} (T : Tables) (bytes : List ℕ) (r : Result W InstanceError) → IfErr r (λ e. Stops T bytes e) → IfErr r (λ e. StopsAt (HasFault T) Truncated bytes e)
+pub stops_at : {W : Type 0} (T : Tables) (bytes : List ℕ) (r : Result W InstanceError) → IfErr r (λ e. XmlStops T bytes e) → IfErr r (λ e. StopsAt (HasFault T) Truncated bytes e)
 stops_at T bytes (Ok x) h = tt
 stops_at T bytes (Err (Refused fault)) h = record { has_fault = h.has_fault; no_cut = h.no_cut }
 stops_at T bytes (Err Memory) h = tt
 
-module _ (none : SpelledHasNone) (T : Tables) (sound : AreSound (types_of T)) where
-  pub limited : {W : Type 0} (Gives : List ℕ → W → Type 0) (spells : (bytes : List ℕ) (x : W) → Gives bytes x → IsSpelled T bytes) (bytes : List ℕ) (fault : Fault)
-      → IsLimited (HasFault T) (GivesSome Gives) Truncated bytes fault → LimitedFault (message_of T) bytes (fault_of fault)
+module _ (none : SpelledHasNoXmlFault) (T : Tables) (sound : AreSound (types_of T)) where
+  pub limited : {W : Type 0} (Gives : List ℕ → W → Type 0) (spells : (bytes : List ℕ) (x : W) → Gives bytes x → IsSpelledXml T bytes) (bytes : List ℕ) (fault : Fault)
+      → IsLimited (HasFault T) (GivesSome Gives) Truncated bytes fault → LimitedXmlFault (message_of T) bytes (xml_fault_of fault)
   limited Gives spells bytes fault (within short h) = whole short h
   limited Gives spells bytes fault (before long h other) = early long h other
-  limited Gives spells bytes fault (open_at f long h is told) = cut (fault_of f) long h is (ap fault_of told)
+  limited Gives spells bytes fault (open_at f long h is told) = cut (xml_fault_of f) long h is (ap xml_fault_of told)
   limited Gives spells bytes fault (over_at long (x, given) told) =
-      let v : IsSpelled T (take xml.limit bytes) = spells _ x given in
+      let v : IsSpelledXml T (take xml.xml_limit bytes) = spells _ x given in
       let s = v.1 in
-      behind long (record { tokens = s.tokens; marks = s.marks; clean = s.clean; over = s.over }) (λ f k. none (message_of T) (take xml.limit bytes) v.0 f sound v.1 k) (ap fault_of told)
+      behind long (record { tokens = s.tokens; marks = s.marks; clean = s.clean; over = s.over }) (λ f k. none (message_of T) (take xml.xml_limit bytes) v.0 f sound v.1 k) (ap xml_fault_of told)
 
-  pub refuses : {W : Type 0} (Gives : List ℕ → W → Type 0) (spells : (bytes : List ℕ) (x : W) → Gives bytes x → IsSpelled T bytes) (bytes : List ℕ) (e : CheckError)
+  pub refuses : {W : Type 0} (Gives : List ℕ → W → Type 0) (spells : (bytes : List ℕ) (x : W) → Gives bytes x → IsSpelledXml T bytes) (bytes : List ℕ) (e : CheckError)
       → RefusesBy (IsLimited (HasFault T) (GivesSome Gives) Truncated) bytes e → RefusesXml T bytes e
   refuses Gives spells bytes (check.Refused fault) h = limited Gives spells bytes fault h
   refuses Gives spells bytes check.ReadFault h = tt
   refuses Gives spells bytes check.Memory h = tt
 
-  pub refuses_left : {W U : Type 0} (Gives : List ℕ → W → Type 0) (spells : (bytes : List ℕ) (x : W) → Gives bytes x → IsSpelled T bytes) (left : Option (List ℕ)) (r : Result U CheckError)
+  pub refuses_left : {W U : Type 0} (Gives : List ℕ → W → Type 0) (spells : (bytes : List ℕ) (x : W) → Gives bytes x → IsSpelledXml T bytes) (left : Option (List ℕ)) (r : Result U CheckError)
       → IfErr r (λ e. IfSome left (λ bytes. RefusesBy (IsLimited (HasFault T) (GivesSome Gives) Truncated) bytes e)) → IfErr r (λ e. IfSome left (λ bytes. RefusesXml T bytes e))
   refuses_left Gives spells left (Ok x) h = tt
   refuses_left Gives spells None (Err e) h = tt
   refuses_left Gives spells (Some bytes) (Err e) h = refuses Gives spells bytes e h
 
-  pub of_some : {W U : Type 0} (Gives : List ℕ → W → Type 0) (spells : (bytes : List ℕ) (x : W) → Gives bytes x → IsSpelled T bytes) (r : Result U CheckError)
+  pub of_some : {W U : Type 0} (Gives : List ℕ → W → Type 0) (spells : (bytes : List ℕ) (x : W) → Gives bytes x → IsSpelledXml T bytes) (r : Result U CheckError)
       → IfErr r (λ e. IsOfSome (IsLimited (HasFault T) (GivesSome Gives) Truncated) e) → IfErr r (λ e. IsFaultOfSome T e)
   of_some Gives spells (Ok x) h = tt
   of_some Gives spells (Err (check.Refused fault)) (bytes, h) = (bytes, limited Gives spells bytes fault h)

@@ -5,9 +5,9 @@ use Rattle.inst_pool.specs.Pieces.{Held}
 use Rattle.fragments.specs.Fragment.{fragment}
 use Rattle.message_model.specs.Tables.{Tables, message_of, pieces_of}
 use Rattle.message_model.specs.declared.fault.Fault.{Fault}
-use Rattle.xml_instances.specs.XmlFaults.{limit, LimitedFault}
+use Rattle.xml_instances.specs.XmlFaults.{xml_limit, LimitedXmlFault}
 use Rattle.xml_instances.specs.SpellsXml.{SpellsXml}
-use Rattle.xml_instances.specs.Checking.{IsSpelled, fault_of}
+use Rattle.xml_instances.specs.Checking.{IsSpelledXml, xml_fault_of}
 use Rattle.xml_writer.specs.CanonXml.{IsCanonXml}
 use Rattle.der_model.specs.DerMessage.{der_message}
 use Rattle.der_model.specs.Der.{SpellsDer, der_of}
@@ -20,11 +20,11 @@ use Rattle.transcoder.specs.Reading.{RefusesBy, IsOfSome}
 
 -- They spell a value that the message admits, and are no more than the limit.
 abbrev pub IsAccepted : Tables → List ℕ → Type 0
-IsAccepted T bytes = IsSpelled T bytes × (length bytes ≤ limit)
+IsAccepted T bytes = IsSpelledXml T bytes × (length bytes ≤ xml_limit)
 
 -- their first fault as XML
 abbrev pub HasXmlFault : Tables → List ℕ → Fault → Type 0
-HasXmlFault T bytes fault = LimitedFault (message_of T) bytes (fault_of fault)
+HasXmlFault T bytes fault = LimitedXmlFault (message_of T) bytes (xml_fault_of fault)
 
 -- They have the fault; that a source failed is said by its count.
 abbrev pub RefusesXml : Tables → List ℕ → CheckError → Type 0
@@ -37,10 +37,10 @@ IsFaultOfSome T = IsOfSome (HasXmlFault T)
 -- ---- DER
 
 abbrev pub IsDerAccepted : Tables → List ℕ → Type 0
-IsDerAccepted T bytes = der_checking.IsSpelled T bytes × (length bytes ≤ limit)
+IsDerAccepted T bytes = der_checking.IsSpelledDer T bytes × (length bytes ≤ xml_limit)
 
 abbrev pub HasDerFault : Tables → List ℕ → Fault → Type 0
-HasDerFault T bytes fault = der.LimitedFault (der_message T) bytes (der_checking.fault_of fault)
+HasDerFault T bytes fault = der.LimitedDerFault (der_message T) bytes (der_checking.der_fault_of fault)
 
 abbrev pub RefusesDer : Tables → List ℕ → CheckError → Type 0
 RefusesDer T = RefusesBy (HasDerFault T)
@@ -64,10 +64,10 @@ HoldsDer T bytes instance = HoldsAs (SpellsDer (der_message T)) T bytes instance
 
 -- the text is the DER of the value that the bytes, no more than the limit, spell as XML; its canonical XML; and the canonical XML of one in DER
 abbrev pub IsDerOfXml : Tables → List ℕ → List ℕ → Type 0
-IsDerOfXml T bytes text = (v : Value) × SpellsXml (message_of T) bytes v × (length bytes ≤ limit) × (text ≡ der_of (der_message T) v)
+IsDerOfXml T bytes text = (v : Value) × SpellsXml (message_of T) bytes v × (length bytes ≤ xml_limit) × (text ≡ der_of (der_message T) v)
 
 abbrev pub IsXmlOfXml : Tables → List ℕ → List ℕ → Type 0
-IsXmlOfXml T bytes text = (v : Value) × SpellsXml (message_of T) bytes v × (length bytes ≤ limit) × IsCanonXml (message_of T) v text
+IsXmlOfXml T bytes text = (v : Value) × SpellsXml (message_of T) bytes v × (length bytes ≤ xml_limit) × IsCanonXml (message_of T) v text
 
 abbrev pub IsXmlOfDer : Tables → List ℕ → List ℕ → Type 0
-IsXmlOfDer T bytes text = (v : Value) × SpellsDer (der_message T) bytes v × (length bytes ≤ limit) × IsCanonXml (message_of T) v text
+IsXmlOfDer T bytes text = (v : Value) × SpellsDer (der_message T) bytes v × (length bytes ≤ xml_limit) × IsCanonXml (message_of T) v text

@@ -12,7 +12,7 @@ use Rattle.transcoder.specs.Limited.{most_bytes, too_many}
 use Rattle.transcoder.specs.CheckErrors.{check_error}
 
 -- Bytes of the source were taken and fed to the reader, and so many more may still be.
-pub record HasRead {S : Type 0} (Fed : S → List ℕ → Type 0) (Made : S → Type 0) (old now : Option (List ℕ)) (room : ℕ) (state : S) : Type 0 where
+pub record HasReadSource {S : Type 0} (Fed : S → List ℕ → Type 0) (Made : S → Type 0) (old now : Option (List ℕ)) (room : ℕ) (state : S) : Type 0 where
   pub taken_are : List ℕ
   pub front : Consumes old now taken_are
   pub counted : length taken_are + room ≡ most_bytes
@@ -20,9 +20,9 @@ pub record HasRead {S : Type 0} (Fed : S → List ℕ → Type 0) (Made : S → 
   pub fed_are : Fed state taken_are
 
 -- that there are more bytes than the limit, with the path
-abbrev pub IsTooLong : List ℕ → CheckError → Type 0
-IsTooLong path (Refused fault) = fault ≡ too_many path
-IsTooLong path _ = ⊥
+abbrev pub IsTooManyBytes : List ℕ → CheckError → Type 0
+IsTooManyBytes path (Refused fault) = fault ≡ too_many path
+IsTooManyBytes path _ = ⊥
 
 -- what is told of bytes beyond the limit, where those before are an instance
 abbrev pub IsBeyondWhole : CheckError → Type 0
@@ -72,7 +72,7 @@ pub record SaysError (HasFault : List ℕ → Fault → Type 0) (old : Option (L
 
 -- how far the source was read
 abbrev pub ReadsTo : {S : Type 0} → (S → List ℕ → Type 0) → (S → Type 0) → (List ℕ → Fault → Type 0) → Option (List ℕ) → Option (List ℕ) → S → Result Extent CheckError → Type 0
-ReadsTo Fed Made HasFault old now state (Ok Whole) = (room : ℕ) × HasRead Fed Made old now room state × IsAtEnd now
+ReadsTo Fed Made HasFault old now state (Ok Whole) = (room : ℕ) × HasReadSource Fed Made old now room state × IsAtEnd now
 ReadsTo Fed Made HasFault old now state (Ok Longer) = HasReadBeyond Fed old now state
 ReadsTo Fed Made HasFault old now state (Err e) = SaysError HasFault old e
 

@@ -19,7 +19,7 @@ pub data IsTranscoded {O : Type 0} (held : O → Option (List ℕ)) (faults room
       → Pushes held faults room old new (as_push push) text → IsTranscoded held faults room IsText HasFault left left' old new result
 
 -- A writer pushed a text that is one of these.
-pub record IsWritten {O : Type 0} (held : O → Option (List ℕ)) (faults room : O → ℕ) (IsOut : List ℕ → Type 0) (old new : O) (result : Result (Unit {0}) TransError) : Type 0 where
+pub record IsWrittenOut {O : Type 0} (held : O → Option (List ℕ)) (faults room : O → ℕ) (IsOut : List ℕ → Type 0) (old new : O) (result : Result (Unit {0}) TransError) : Type 0 where
   pub text : List ℕ
   pub push : Result (Unit {0}) WriteError
   pub is_out : IsOut text

@@ -3,8 +3,8 @@ ghost use Rattle.std.specs.Prelude.{◌≡◌, ℕ, List};
 ghost use Rattle.lexical_core.specs.declared.rule.Rule.TheVariants.{DerTruncated};
 ghost use Rattle.der_model.specs.DerMessage.{der_message};
 ghost use Rattle.der_model.specs.Faults.{DerFault};
-ghost use Rattle.der_codec.specs.Checking.{HasFed, IsMadeFor, IsSpelled, fault_of};
-ghost use Rattle.der_codec.specs.ReadInstances.{HasKept, IsReaderFor};
+ghost use Rattle.der_codec.specs.Checking.{HasFedDer, IsDerCheckerFor, IsSpelledDer, der_fault_of};
+ghost use Rattle.der_codec.specs.ReadInstances.{HasKeptPieces, IsDerReaderFor};
 ghost use Rattle.transcoder.specs.Checked.{HoldsDer};
 
 use crate::intake::Intake;
@@ -13,13 +13,13 @@ use inst_pool::Instance;
 use message_model::{InstanceError, Model};
 
 impl Intake<()> for DerChecker {
-    ghost has_fed = { λ checker T bytes. HasFed checker T bytes };
+    ghost has_fed = { λ checker T bytes. HasFedDer checker T bytes };
 
-    ghost is_made_for = { λ checker T. IsMadeFor checker T };
+    ghost is_made_for = { λ checker T. IsDerCheckerFor checker T };
 
-    ghost is_faulty = { λ T bytes fault. DerFault (der_message T) bytes (fault_of fault) };
+    ghost is_faulty = { λ T bytes fault. DerFault (der_message T) bytes (der_fault_of fault) };
 
-    ghost gives = { λ T bytes _. IsSpelled T bytes };
+    ghost gives = { λ T bytes _. IsSpelledDer T bytes };
 
     ghost cut_rule = { DerTruncated };
 
@@ -33,11 +33,11 @@ impl Intake<()> for DerChecker {
 }
 
 impl Intake<Instance> for DerReader {
-    ghost has_fed = { λ reader T bytes. HasKept reader T bytes };
+    ghost has_fed = { λ reader T bytes. HasKeptPieces reader T bytes };
 
-    ghost is_made_for = { λ reader T. IsReaderFor reader T };
+    ghost is_made_for = { λ reader T. IsDerReaderFor reader T };
 
-    ghost is_faulty = { λ T bytes fault. DerFault (der_message T) bytes (fault_of fault) };
+    ghost is_faulty = { λ T bytes fault. DerFault (der_message T) bytes (der_fault_of fault) };
 
     ghost gives = { λ T bytes instance. HoldsDer T bytes instance };
 

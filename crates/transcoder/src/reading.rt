@@ -4,7 +4,7 @@ ghost use Rattle.std.specs.Io.KnownBytes.{IsAtEnd};
 ghost use Rattle.outside.specs.Source.{Rose};
 ghost use Rattle.message_model.specs.declared.fault.Fault.{Fault as Told};
 ghost use Rattle.transcoder.specs.Limited.{most_bytes, IsLimited};
-ghost use Rattle.transcoder.specs.Reading.{IsTooLong, IsBeyondWhole, IsBeyondError, Concludes, ReadsTo, RefusesBy, IsOfSome, GivesSome};
+ghost use Rattle.transcoder.specs.Reading.{IsTooManyBytes, IsBeyondWhole, IsBeyondError, Concludes, ReadsTo, RefusesBy, IsOfSome, GivesSome};
 
 use crate::check_error::CheckError;
 use crate::intake::Intake;
@@ -36,7 +36,7 @@ fn piece_buffer(alloc: Global) -> Result<Vec<u8>, AllocError>
 
 /// That there are more bytes than the limit, with the path of what is open there.
 fn too_long(path: Text) -> CheckError
-    ensures { IsTooLong path result }
+    ensures { IsTooManyBytes path result }
 {
     CheckError::Refused(Fault {
         rule: Rule::InputTooLong,

@@ -9,7 +9,7 @@ ghost use Rattle.xml_writer.specs.CanonXml.{IsCanonXml};
 ghost use Rattle.der_model.specs.DerMessage.{der_message};
 ghost use Rattle.der_model.specs.Der.{der_of};
 ghost use Rattle.transcoder.specs.Checked.{IsDerOfXml, IsXmlOfDer, IsXmlOfXml, HasXmlFault, HasDerFault};
-ghost use Rattle.transcoder.specs.Transcoding.{IsTranscoded, IsWritten};
+ghost use Rattle.transcoder.specs.Transcoding.{IsTranscoded, IsWrittenOut};
 ghost use Rattle.transcoder.specs.TransErrors.{written_end};
 
 use crate::read::{read_der, read_xml};
@@ -79,7 +79,7 @@ pub fn xml_to_xml<I: Source, O: Sink>(
 fn push_xml<O: Sink>(model: &Model, instance: Instance, sink: &mut O) -> Result<(), TransError>
     requires held { (v : Value) × AdmitsAs (types_of model.now) (types_of model.now 0) v × (instance.region.pieces ≡ pieces_of fragment model.now v) }
     ensures { (v : Value) → AdmitsAs (types_of model.now) (types_of model.now 0) v → instance.region.pieces ≡ pieces_of fragment model.now v
-        → IsWritten O.held O.faults O.room (λ text. IsCanonXml (message_of model.now) v text) sink.old sink.new result }
+        → IsWrittenOut O.held O.faults O.room (λ text. IsCanonXml (message_of model.now) v text) sink.old sink.new result }
 {
     ended(write_xml(model, &instance, sink))
 }
@@ -88,7 +88,7 @@ fn push_xml<O: Sink>(model: &Model, instance: Instance, sink: &mut O) -> Result<
 fn push_der<O: Sink>(model: &Model, instance: Instance, sink: &mut O) -> Result<(), TransError>
     requires held { (v : Value) × AdmitsAs (types_of model.now) (types_of model.now 0) v × (instance.region.pieces ≡ pieces_of fragment model.now v) }
     ensures { (v : Value) → AdmitsAs (types_of model.now) (types_of model.now 0) v → instance.region.pieces ≡ pieces_of fragment model.now v
-        → IsWritten O.held O.faults O.room (λ text. text ≡ der_of (der_message model.now) v) sink.old sink.new result }
+        → IsWrittenOut O.held O.faults O.room (λ text. text ≡ der_of (der_message model.now) v) sink.old sink.new result }
 {
     let mut instance = instance;
     measure(model, &mut instance);

@@ -3,8 +3,8 @@ ghost use Rattle.std.specs.Prelude.{ℕ, List};
 ghost use Rattle.lexical_core.specs.declared.rule.Rule.TheVariants.{Truncated};
 ghost use Rattle.message_model.specs.Tables.{message_of};
 ghost use Rattle.xml_instances.specs.XmlFaults.{XmlFault};
-ghost use Rattle.xml_instances.specs.Checking.{HasFed, IsMadeFor, IsSpelled, fault_of};
-ghost use Rattle.xml_instances.specs.ReadInstances.{HasFedReader, IsReaderFor};
+ghost use Rattle.xml_instances.specs.Checking.{HasFedXml, IsXmlCheckerFor, IsSpelledXml, xml_fault_of};
+ghost use Rattle.xml_instances.specs.ReadInstances.{HasFedReader, IsXmlReaderFor};
 ghost use Rattle.transcoder.specs.Checked.{HoldsXml};
 
 use crate::intake::Intake;
@@ -13,13 +13,13 @@ use message_model::{InstanceError, Model};
 use xml_instances::{XmlChecker, XmlReader};
 
 impl Intake<()> for XmlChecker {
-    ghost has_fed = { λ checker T bytes. HasFed checker T bytes };
+    ghost has_fed = { λ checker T bytes. HasFedXml checker T bytes };
 
-    ghost is_made_for = { λ checker T. IsMadeFor checker T };
+    ghost is_made_for = { λ checker T. IsXmlCheckerFor checker T };
 
-    ghost is_faulty = { λ T bytes fault. XmlFault (message_of T) bytes (fault_of fault) };
+    ghost is_faulty = { λ T bytes fault. XmlFault (message_of T) bytes (xml_fault_of fault) };
 
-    ghost gives = { λ T bytes _. IsSpelled T bytes };
+    ghost gives = { λ T bytes _. IsSpelledXml T bytes };
 
     ghost cut_rule = { Truncated };
 
@@ -35,9 +35,9 @@ impl Intake<()> for XmlChecker {
 impl Intake<Instance> for XmlReader {
     ghost has_fed = { λ reader T bytes. HasFedReader reader T bytes };
 
-    ghost is_made_for = { λ reader T. IsReaderFor reader T };
+    ghost is_made_for = { λ reader T. IsXmlReaderFor reader T };
 
-    ghost is_faulty = { λ T bytes fault. XmlFault (message_of T) bytes (fault_of fault) };
+    ghost is_faulty = { λ T bytes fault. XmlFault (message_of T) bytes (xml_fault_of fault) };
 
     ghost gives = { λ T bytes instance. HoldsXml T bytes instance };
 

@@ -20,14 +20,14 @@ use Rattle.data_types.specs.declared.kind.Kind.TheVariants as kind
 use Rattle.facets.specs.LeafUnder.{GivesLeaf, Fits, IsLeafBy}
 use Rattle.reference_check.specs.Forms.{Graph, Form, Slot, form_slots}
 use Rattle.reference_check.specs.Forms as form
-use Rattle.reference_check.specs.Words.{IsWord, times}
-use Rattle.reference_check.specs.Steps.{End, Slotted, Fine, OutOfOrder, TooMany, Second, Lacks, NoAlternative, next, next_of, find_slot, end_after, has_room, first_lacking, after_order, CameAfter, Came}
+use Rattle.reference_check.specs.Words.{IsWordOf, times}
+use Rattle.reference_check.specs.Steps.{EndOfSlots, Slotted, Fine, OutOfOrder, TooMany, Second, Lacks, NoAlternative, next, next_of, find_slot, end_after, has_room, first_lacking, after_order, CameAfter, Came}
 use Rattle.message_model.specs.Admits.{AdmitsAs, AdmitsChildren, FitsCode, numbers_of}
-use Rattle.message_model.specs.Writes.{named, IsHint, IsHintOrCurrency, currency, value_of, SpellsCode, WritesAttributes, text_nodes, IsBlank, Wraps, MayHold, WritesContent, WritesLeaf}
+use Rattle.message_model.specs.Writes.{name_in_namespace, IsHint, IsHintOrCurrency, currency, value_of, SpellsCode, WritesAttributes, text_nodes, IsBlank, Wraps, MayHold, WritesContent, WritesLeaf}
 use Rattle.lexical_core.specs.Names.{same_name}
 use Rattle.message_model.specs.Message.{Message}
 use Rattle.xml_instances.specs.SpellsXml.{IsInstance}
-use Rattle.xml_instances.specs.Levels.{Level, Parent, Leaf, Envelope, Foreign, begun, path_in, form_of_start, round_start}
+use Rattle.xml_instances.specs.Levels.{Level, Parent, Leaf, Envelope, Foreign, begun_level, path_in, form_of_start, round_start}
 use Rattle.xml_instances.specs.EventFaults.{Broken, AreFine, AttributeFault, RequiredFault, CurrencyFault, CodeFault, Unless, place_fault, next_fault, end_fault, unknown_fault, is_known, is_hint, is_bare, has_currency, space_fault}
 
 -- the slot that a tag finds has that tag
@@ -90,7 +90,7 @@ pub bare_in : (b s : Bool) → (not b && s) ≡ true → (b ≡ false) × (s ≡
 bare_in true s e = cc
 bare_in false s e = (refl, e)
 
-pub end_fine : {P : Type 0} (path : List ℕ) (f : Form P Simple) (e : End) → None ≡ end_fault path f e → e ≡ Fine
+pub end_fine : {P : Type 0} (path : List ℕ) (f : Form P Simple) (e : EndOfSlots) → None ≡ end_fault path f e → e ≡ Fine
 end_fine path f Fine h = refl
 end_fine path f (Lacks k) h = no_fault _ (sym h)
 end_fine path f NoAlternative h = no_fault _ (sym h)
@@ -109,7 +109,7 @@ name_in a b e =
     let r : (bytes_eq a.namespace b.namespace ≡ true) × (bytes_eq a.local b.local ≡ true) = both_in _ _ e in
     joined a.namespace a.local b.namespace b.local ((bytes_eq-Decides a.namespace b.namespace).0 r.0) ((bytes_eq-Decides a.local b.local).0 r.1)
   where
-    joined : (n l o k : List ℕ) → n ≡ o → l ≡ k → named n l ≡ named o k
+    joined : (n l o k : List ℕ) → n ≡ o → l ≡ k → name_in_namespace n l ≡ name_in_namespace o k
     joined n l o k p q = rw (p, q) refl
 
 or_in : (a b : Bool) → (a || b) ≡ true → (a ≡ true) ⊎ (b ≡ true)
@@ -176,11 +176,11 @@ holds_in [] nodes (inr e) = e
 holds_in (s ∷ fs) nodes x = tt
 
 module _ {P : Type 0} (m : Message P)
-    (whole : (p : P) (d : List ℕ) → Came (m.forms p) d → end_after (m.forms p) d ≡ Fine → IsWord (m.forms p) d)
+    (whole : (p : P) (d : List ℕ) → Came (m.forms p) d → end_after (m.forms p) d ≡ Fine → IsWordOf (m.forms p) d)
     (fits : (s : Simple) (w : List ℕ) (l : leaf.Leaf) → GivesLeaf s w l → Fits s l)
     (decimal : (p c : P) (s : Simple) → m.forms p ≡ form.Money c s → s.kind ≡ kind.Decimal) where
-  whole_at : (p : P) (f : Form P Simple) (d : List ℕ) → m.forms p ≡ f → Came f d → end_after f d ≡ Fine → IsWord f d
-  whole_at p f d at = subst (λ (f : Form P Simple). Came f d → end_after f d ≡ Fine → IsWord f d) at (whole p d)
+  whole_at : (p : P) (f : Form P Simple) (d : List ℕ) → m.forms p ≡ f → Came f d → end_after f d ≡ Fine → IsWordOf f d
+  whole_at p f d at = subst (λ (f : Form P Simple). Came f d → end_after f d ≡ Fine → IsWordOf f d) at (whole p d)
 
   fits_code : (f : Form P Simple) (w : List ℕ) (l : leaf.Leaf) → SpellsCode f w l → FitsCode f l
   fits_code (form.Simple s) w l h = fits s w l h
@@ -256,7 +256,7 @@ module _ {P : Type 0} (m : Message P)
       (money_in c s attributes (if_in _ _ r.0), currency_in (m.forms c) (value_of currency attributes) (path ++ codes "/@Ccy") r.1)
 
   element_in : (nodes : Nodes) (p : P) (f : Form P Simple) (attributes : List Entry) (path : List ℕ) (n : Expanded) (above : List (Level P)) (rest : List Item) → ArePlain nodes → ChildrenIn nodes → m.forms p ≡ f
-      → AttributeFault m (Some f) attributes path None → AreFine m (begun f ∷ above) (flat_nodes nodes ++ (Ends n ∷ rest)) → ElementOf f attributes nodes above rest
+      → AttributeFault m (Some f) attributes path None → AreFine m (begun_level f ∷ above) (flat_nodes nodes ++ (Ends n ∷ rest)) → ElementOf f attributes nodes above rest
   element_in nodes p (form.Sequence fs) attributes path n above rest plain children at known h = of_children (children plain p (form.Sequence fs) [] n above rest at h)
     where
       of_children : ChildrenOf (form.Sequence fs) [] nodes above rest → ElementOf (form.Sequence fs) attributes nodes above rest
@@ -303,7 +303,7 @@ module _ {P : Type 0} (m : Message P)
   -- an element of a slot begins
   abbrev pub StartedIn : (f : Form P Simple) (before : List ℕ) (n : Expanded) (attributes : List Entry) (above : List (Level P)) (items : List Item) → Comes f before n.local → Type 0
   StartedIn f before n attributes above items c =
-      (path : List ℕ) × AttributeFault m (Some (m.forms c.1.target)) attributes path None × AreFine m (begun (m.forms c.1.target) ∷ Parent f (before ++ c.0 ∷ []) ∷ above) items
+      (path : List ℕ) × AttributeFault m (Some (m.forms c.1.target)) attributes path None × AreFine m (begun_level (m.forms c.1.target) ∷ Parent f (before ++ c.0 ∷ []) ∷ above) items
 
   start_in : (f : Form P Simple) (before : List ℕ) (n : Expanded) (attributes : List Entry) (above : List (Level P)) (items : List Item) → AreFine m (Parent f before ∷ above) (Starts n attributes ∷ items)
       → (n.namespace ≡ m.namespace) × ((c : Comes f before n.local) × StartedIn f before n attributes above items c)
@@ -315,7 +315,7 @@ module _ {P : Type 0} (m : Message P)
       of_comes : AttributeFault m (form_of_start m (Parent f before ∷ above) n) attributes (path_in (round_start (Parent f before ∷ above) n)) None → Comes f before n.local → (c : Comes f before n.local) × StartedIn f before n attributes above items c
       of_comes known (k, s, found, tag, fine, slotted) = ((k, s, found, tag, fine, slotted), (_, rw (slotted, found) at known, rw (slotted, found) at h.1))
 
-  named_is : (n : Expanded) (a b : List ℕ) → n.namespace ≡ a → n.local ≡ b → n ≡ named a b
+  named_is : (n : Expanded) (a b : List ℕ) → n.namespace ≡ a → n.local ≡ b → n ≡ name_in_namespace a b
   named_is n a b p q = rw (← p, ← q) refl
 
   text_written : (f : Form P Simple) (ks : Children) (c : ℕ) (more : Nodes) → IsSpace c → WritesContent m.forms m.namespace f (value.Component ks) more → WritesContent m.forms m.namespace f (value.Component ks) (Text c more)
@@ -363,10 +363,10 @@ module _ {P : Type 0} (m : Message P)
       if_named true x e = refl
       if_named false x e = no_fault x e
 
-      of_element : t.name ≡ named m.namespace (codes "Document") → ElementOf (m.forms m.root) t.attributes t.children [] [] → (v : Value) × IsInstance m v t
+      of_element : t.name ≡ name_in_namespace m.namespace (codes "Document") → ElementOf (m.forms m.root) t.attributes t.children [] [] → (v : Value) × IsInstance m v t
       of_element e (v, admits, attributes_are, holds, content, fine) = (v, record { admitted = admits; written = record { name = e; attributes = attributes_are; holds = holds; content = content } })
 
-      of_start : ((place_fault m [] t.name ≡ None) × AttributeFault m (Some (m.forms m.root)) t.attributes (codes "/Document[1]") None) → AreFine m (begun (m.forms m.root) ∷ []) (flat_nodes t.children ++ Ends t.name ∷ []) → (v : Value) × IsInstance m v t
+      of_start : ((place_fault m [] t.name ≡ None) × AttributeFault m (Some (m.forms m.root)) t.attributes (codes "/Document[1]") None) → AreFine m (begun_level (m.forms m.root) ∷ []) (flat_nodes t.children ++ Ends t.name ∷ []) → (v : Value) × IsInstance m v t
       of_start (place, known) fine =
           of_element (name_in t.name _ (if_named _ _ place))
           (element_in t.children m.root (m.forms m.root) t.attributes (codes "/Document[1]") t.name [] [] plain.children (children_in t.children) refl known fine)

@@ -8,12 +8,12 @@ use Rattle.lexical_core.specs.Tree as tree
 use Rattle.facets.specs.declared.simple.Simple.{Simple}
 use Rattle.reference_check.specs.Forms.{Graph, Form, Slot, form_slots}
 use Rattle.reference_check.specs.Forms as form
-use Rattle.reference_check.specs.Words.{IsWord, IsOrderedFrom}
+use Rattle.reference_check.specs.Words.{IsWordOf, IsOrderedFrom}
 use Rattle.reference_check.specs.Steps.{Slotted, next, next_of, CameAfter, Came}
-use Rattle.reference_check.specs.Shapes.{Shape, Component, OpenLeaf, Shapes, Nothing, Child, HasShape, HaveShapes, numbers_in, IsFinite, GoesOn, AreFinite}
-use Rattle.message_model.specs.Writes.{named, MayHold}
+use Rattle.reference_check.specs.Shapes.{Shape, Component, OpenLeaf, Shapes, Nothing, Child, HasShape, HaveShapes, numbers_in, IsFinite, WordGoesOn, AreFinite}
+use Rattle.message_model.specs.Writes.{name_in_namespace, MayHold}
 use Rattle.message_model.specs.Message.{Message}
-use Rattle.xml_instances.specs.Levels.{Level, Parent, Leaf, Envelope, Foreign, begun, levels_after, levels_over}
+use Rattle.xml_instances.specs.Levels.{Level, Parent, Leaf, Envelope, Foreign, begun_level, levels_after, levels_over}
 use Rattle.xml_instances.specs.EventFaults.{EventFault, AreFine, is_bare, place_fault, next_fault}
 use Rattle.xml_instances.specs.OpenInstances.{ContentSoFar}
 use Rattle.xml_instances.proofs.Accepts.{Comes, comes, no_fault, unless_in, if_else, not_bare}
@@ -51,7 +51,7 @@ module _ {P : Type 0} (m : Message P) (kinds : (p : P) → m.forms p ≡ form.Le
       → ((left : ℕ) → left ≡ 0 → AreMade left f ks) → AreMade come f (Child k v ks)
   element_before come f k v ks s e found (inner, holds, content) later =
       let r : AreMade (come - (length (flat_nodes inner) + 2)) f ks = later (come - (length (flat_nodes inner) + 2)) (omega arith) in
-      (Element (named m.namespace s.tag) [] inner r.0, (λ h. absurd cc), ((s, found, (refl, (λ some. absurd (text_made come e some)), holds, content)), r.2))
+      (Element (name_in_namespace m.namespace s.tag) [] inner r.0, (λ h. absurd cc), ((s, found, (refl, (λ some. absurd (text_made come e some)), holds, content)), r.2))
 
   mutual
     made : (come : ℕ) (p : P) (f : Form P Simple) (v : Shape) → come ≡ 0 → m.forms p ≡ f → HasShape m.forms f v → (nodes : Nodes) × MayHold f nodes × ContentSoFar m.forms m.namespace come f v nodes
@@ -67,7 +67,7 @@ module _ {P : Type 0} (m : Message P) (kinds : (p : P) → m.forms p ≡ form.Le
     made come p (form.Simple s) OpenLeaf e at has = (tree.Nothing, tt, ([], refl, λ some. absurd (text_made come e some)))
     made come p (form.Money c s) OpenLeaf e at has = (tree.Nothing, tt, ([], refl, λ some. absurd (text_made come e some)))
     made come p form.Envelope OpenLeaf e at has =
-        (Element (named [] (codes "Any")) [] tree.Nothing tree.Nothing, tt, (record { name = named [] (codes "Any"); attributes = []; children = tree.Nothing }, (refl, tt)))
+        (Element (name_in_namespace [] (codes "Any")) [] tree.Nothing tree.Nothing, tt, (record { name = name_in_namespace [] (codes "Any"); attributes = []; children = tree.Nothing }, (refl, tt)))
     made come p form.LeftOut OpenLeaf e at has = absurd (kinds p at)
     made come p f v e at has = absurd has
 
@@ -87,14 +87,14 @@ module _ {P : Type 0} (m : Message P) (kinds : (p : P) → m.forms p ≡ form.Le
 module _ {P : Type 0} (m : Message P) (finite : AreFinite m.forms m.root) where
   -- an open element with elements: a type of the message, which has a word, and slots that came one by one
   abbrev pub Stands : Level P → Type 0
-  Stands (Parent f d) = (p : P) × (m.forms p ≡ f) × GoesOn f [] × Came f d
+  Stands (Parent f d) = (p : P) × (m.forms p ≡ f) × WordGoesOn f [] × Came f d
   Stands l = Unit {0}
 
   abbrev pub AllStand : List (Level P) → Type 0
   AllStand [] = Unit {0}
   AllStand (l ∷ ls) = Stands l × AllStand ls
 
-  begun_stands : (p : P) (f : Form P Simple) (v : Shape) → m.forms p ≡ f → HasShape m.forms f v → Stands (begun f)
+  begun_stands : (p : P) (f : Form P Simple) (v : Shape) → m.forms p ≡ f → HasShape m.forms f v → Stands (begun_level f)
   begun_stands p (form.Sequence fs) (Component ks) at has = (p, at, (numbers_in ks, has.0), tt)
   begun_stands p (form.Choice fs) (Component ks) at has = (p, at, (numbers_in ks, has.0), tt)
   begun_stands p (form.Simple s) OpenLeaf at has = tt
@@ -103,7 +103,7 @@ module _ {P : Type 0} (m : Message P) (finite : AreFinite m.forms m.root) where
   begun_stands p form.LeftOut OpenLeaf at has = absurd (finite.kinds p at)
   begun_stands p f v at has = absurd has
 
-  type_stands : (p : P) → IsFinite m.forms p → Stands (begun (m.forms p))
+  type_stands : (p : P) → IsFinite m.forms p → Stands (begun_level (m.forms p))
   type_stands p (v, has) = begun_stands p (m.forms p) v refl has
 
   came_one_more : (f : Form P Simple) (before d : List ℕ) (k : ℕ) (s : Slot P) → slice_get (form_slots f) k ≡ Some s → next_of f (before ++ d) k s ≡ Slotted k → CameAfter f before d → CameAfter f before (d ++ k ∷ [])
@@ -162,7 +162,7 @@ module _ {P : Type 0} (m : Message P) (finite : AreFinite m.forms m.root) where
   same_slots fs k zero s found = tt
   same_slots fs k (suc n) s found = ((s, found), same_slots fs k n s found)
 
-  pub word_slots : (f : Form P Simple) (d : List ℕ) → IsWord f d → AreSlots f d
+  pub word_slots : (f : Form P Simple) (d : List ℕ) → IsWordOf f d → AreSlots f d
   word_slots (form.Sequence fs) d word = ordered_slots fs 0 d word.ordered
   word_slots (form.Choice fs) d (k, n, s, found, within, e) = rw e (same_slots fs k n s found)
   word_slots f d word = absurd word
@@ -204,14 +204,14 @@ tree_nested t = (refl, nodes_nested t.children t.name [] (Ends t.name ∷ []) (r
 -- ---- the completion, level by level
 
 module _ {P : Type 0} (m : Message P) (finite : AreFinite m.forms m.root) (steady : IsSteady m.forms)
-    (goes : (p : P) (f : Form P Simple) (d : List ℕ) → m.forms p ≡ f → GoesOn f [] → Came f d → GoesOn f d) where
+    (goes : (p : P) (f : Form P Simple) (d : List ℕ) → m.forms p ≡ f → WordGoesOn f [] → Came f d → WordGoesOn f d) where
   abbrev pub Completed : List (Level P) → List Expanded → Type 0
   Completed ls ns = (rest : List Item) × MayFollow m 0 ls rest × Nested true ns rest
 
   none_more : (n : ℕ) (ls : List (Level P)) (rest : List Item) → n ≡ 0 → MayFollow m 0 ls rest → MayFollow m n ls rest
   none_more n ls rest e h = rw e h
 
-  close_parent : (p : P) (f : Form P Simple) (d : List ℕ) (n : Expanded) (ls : List (Level P)) (ns : List Expanded) → m.forms p ≡ f → GoesOn f d → Completed ls ns → Completed (Parent f d ∷ ls) (n ∷ ns)
+  close_parent : (p : P) (f : Form P Simple) (d : List ℕ) (n : Expanded) (ls : List (Level P)) (ns : List Expanded) → m.forms p ≡ f → WordGoesOn f d → Completed ls ns → Completed (Parent f d ∷ ls) (n ∷ ns)
   close_parent p f d n ls ns at (more, word) (rest, may, nested) = of_shapes (shapes_of m finite p f more at (slots_behind m finite f d more (word_slots m finite f (d ++ more) word)))
     where
       bare_or_none : (ks : Shapes) (nodes : Nodes) → HaveShapes m.forms (form_slots f) ks → (numbers_in ks ≡ [] → nodes ≡ tree.Nothing) → (is_bare f ≡ false) ⊎ (nodes ≡ tree.Nothing)
@@ -221,7 +221,7 @@ module _ {P : Type 0} (m : Message P) (finite : AreFinite m.forms m.root) (stead
       of_shapes : ((ks : Shapes) × (numbers_in ks ≡ more) × HaveShapes m.forms (form_slots f) ks) → Completed (Parent f d ∷ ls) (n ∷ ns)
       of_shapes (ks, e, has) =
           let made : AreMade m finite.kinds 0 f ks = made_children m finite.kinds 0 f ks refl has in
-          let whole : IsWord f (d ++ numbers_in ks) = rw e word in (
+          let whole : IsWordOf f (d ++ numbers_in ks) = rw e word in (
             flat_nodes made.0 ++ (Ends n ∷ rest),
             children_may m steady made.0 0 0 p f d ks ls (Ends n ∷ rest) (omega arith) at (bare_or_none ks made.0 has made.1) whole has made.2 (ends_of m steady p f (d ++ numbers_in ks) at whole, none_more (0 - 1) ls rest (omega arith) may),
             nodes_nested made.0 n ns (Ends n ∷ rest) (refl, nested),
@@ -232,7 +232,7 @@ module _ {P : Type 0} (m : Message P) (finite : AreFinite m.forms m.root) (stead
   close (Leaf s w) n ls ns stands (rest, may, nested) = (Ends n ∷ rest, ((λ some. absurd (omega arith)), none_more (0 - 1) ls rest (omega arith) may), (refl, nested))
   close (Envelope true) n ls ns stands (rest, may, nested) = (Ends n ∷ rest, (tt, none_more (0 - 1) ls rest (omega arith) may), (refl, nested))
   close (Envelope false) n ls ns stands (rest, may, nested) =
-      (Starts (named [] (codes "Any")) [] ∷ Ends (named [] (codes "Any")) ∷ Ends n ∷ rest, ((refl, λ some. refl), (tt, (tt, none_more (0 - 1 - 1 - 1) ls rest (omega arith) may))), (refl, (refl, nested)))
+      (Starts (name_in_namespace [] (codes "Any")) [] ∷ Ends (name_in_namespace [] (codes "Any")) ∷ Ends n ∷ rest, ((refl, λ some. refl), (tt, (tt, none_more (0 - 1 - 1 - 1) ls rest (omega arith) may))), (refl, (refl, nested)))
   close Foreign n ls ns stands (rest, may, nested) = (Ends n ∷ rest, (tt, none_more (0 - 1) ls rest (omega arith) may), (refl, nested))
 
   pub complete : (ls : List (Level P)) (ns : List Expanded) → length ls ≡ length ns → AllStand m finite ls → Completed ls ns

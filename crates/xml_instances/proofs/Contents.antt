@@ -8,25 +8,25 @@ use Rattle.lexical_core.specs.declared.rule.Rule.TheVariants as rule
 use Rattle.lexical_core.specs.Tree.{Expanded, Entry, Starts, Char, Ends}
 use Rattle.facets.specs.declared.simple.Simple.{Simple}
 use Rattle.xml_instances.specs.declared.judge.Judge.{Judge}
-use Rattle.xml_instances.specs.Judges.{HasTaken, IsMadeFor}
+use Rattle.xml_instances.specs.Judges.{HasJudgeTaken, IsJudgeMadeFor}
 use Rattle.reference_check.specs.Forms.{Graph, Form, Slot, text_type}
 use Rattle.reference_check.specs.Forms as form
 use Rattle.message_model.specs.Message.{Message}
 use Rattle.message_model.specs.Views.{IsFormOf}
 use Rattle.message_model.specs.declared.model.Form.{Form as ToldForm}
 use Rattle.message_model.specs.declared.model.Form.TheVariants as told_form
-use Rattle.reference_check.specs.Steps.{Next, Slotted, next, Came, EndsWith}
-use Rattle.message_model.specs.Writes.{named, value_of, currency}
+use Rattle.reference_check.specs.Steps.{NextSlot, Slotted, next, Came, EndsWith}
+use Rattle.message_model.specs.Writes.{name_in_namespace, value_of, currency}
 use Rattle.message_model.specs.Sound.{count_with}
 use Rattle.std.specs.Str.{bytes_eq, chars}
 use Rattle.markup.specs.Chars.{is_space}
 use Rattle.markup.specs.EventItems.{entry_of}
 use Rattle.markup.specs.declared.event.Attr.{Attr}
-use Rattle.xml_instances.specs.Levels.{Level, Parent, Leaf, Envelope, Foreign, levels_after, with_char, level_of_start, begun, slot_form, form_by, form_of_start, round_start, with_slot, path_in}
-use Rattle.xml_instances.specs.EventFaults.{Broken, broken, EventFault, AttributeFault, EndFault, LeafFault, place_fault, next_fault, Unless, space_fault, is_bare, char_fault, has_currency, CurrencyFault}
+use Rattle.xml_instances.specs.Levels.{Level, Parent, Leaf, Envelope, Foreign, levels_after, with_char, level_of_start, begun_level, slot_form, form_by, form_of_start, round_start, with_slot, path_in}
+use Rattle.xml_instances.specs.EventFaults.{Broken, broken_rule, EventFault, AttributeFault, EndFault, LeafFault, place_fault, next_fault, Unless, space_fault, is_bare, char_fault, has_currency, CurrencyFault}
 use Rattle.xml_instances.specs.inner.Known.{has_unknown}
-use Rattle.xml_instances.specs.Open.{IsOpen, IsCode, HoldsText, StandsFor, StandFor, Stands, IsRound, IsMadeAt, IsTextMade, names_of, Refuses, Says, IsItemTaken, form_at, IsPlaced, IsEntered, IsFilled, IsChild, IsStepped, IsBegun}
-use Rattle.xml_instances.specs.Verdicts.{IsVerdict, IsTextVerdict}
+use Rattle.xml_instances.specs.Open.{IsOpen, IsCodeForm, HoldsText, StandsFor, StandFor, StandsOpen, IsRound, IsMadeAt, IsTextMade, path_round, RefusesWith, Says, IsItemTaken, form_at, IsPlaced, IsEntered, IsEnvelopeFilled, IsChild, IsStepped, IsElementBegun}
+use Rattle.xml_instances.specs.Verdicts.{IsVerdictJudge, IsTextVerdict}
 use Rattle.xml_instances.specs.declared.content.Content.{Content}
 use Rattle.xml_instances.specs.declared.content.OpenText.{OpenText}
 use Rattle.xml_instances.specs.declared.opened.Opened.{Opened}
@@ -36,12 +36,12 @@ use Rattle.xml_instances.specs.declared.opened.Refusal.TheVariants.{Breaks, Memo
 use Rattle.xml_instances.proofs.Paths.{names_are}
 
 -- a check that was made for one simple type of a number was made for each that the number has
-pub made_at : (types : Graph ℕ Simple) (n : ℕ) (check : Judge) (simple : Simple) → text_type (types n) ≡ Some simple → IsMadeFor check simple → IsMadeAt types n check
-made_at types n check simple e made other q = (let same : simple ≡ other = (let h : Some simple ≡ Some other = sym e ∙ q in cc) in subst (IsMadeFor check) same made)
+pub made_at : (types : Graph ℕ Simple) (n : ℕ) (check : Judge) (simple : Simple) → text_type (types n) ≡ Some simple → IsJudgeMadeFor check simple → IsMadeAt types n check
+made_at types n check simple e made other q = (let same : simple ≡ other = (let h : Some simple ≡ Some other = sym e ∙ q in cc) in subst (IsJudgeMadeFor check) same made)
 
 -- what the open text has is what its check has
-pub text_simple : (m : Message ℕ) (t : OpenText) (s simple : Simple) (text : List ℕ) → text_type (m.forms t.number) ≡ Some s → HoldsText m (Some t) simple text → (s ≡ simple) × HasTaken t.judge.value s text
-text_simple m t s simple text e h = (let same : s ≡ simple = (let q : Some s ≡ Some simple = sym e ∙ h.0 in cc) in (same, subst (λ (x : Simple). HasTaken t.judge.value x text) (sym same) h.1))
+pub text_simple : (m : Message ℕ) (t : OpenText) (s simple : Simple) (text : List ℕ) → text_type (m.forms t.number) ≡ Some s → HoldsText m (Some t) simple text → (s ≡ simple) × HasJudgeTaken t.judge.value s text
+text_simple m t s simple text e h = (let same : s ≡ simple = (let q : Some s ≡ Some simple = sym e ∙ h.0 in cc) in (same, subst (λ (x : Simple). HasJudgeTaken t.judge.value x text) (sym same) h.1))
 
 pub held : (m : Message ℕ) (text : Option OpenText) (t : OpenText) (simple : Simple) (taken : List ℕ) → text ≡ Some t → HoldsText m text simple taken → HoldsText m (Some t) simple taken
 held m text t simple taken e h = subst (λ (x : Option OpenText). HoldsText m x simple taken) e h
@@ -49,7 +49,7 @@ held m text t simple taken e h = subst (λ (x : Option OpenText). HoldsText m x 
 pub made_text : (types : Graph ℕ Simple) (text : Option OpenText) (t : OpenText) → text ≡ Some t → IsTextMade types text → IsMadeAt types t.number t.judge.value
 made_text types text t e h = subst (IsTextMade types) e h
 
-pub verdict_text : (text : Option OpenText) (t : OpenText) → text ≡ Some t → IsTextVerdict text → IsVerdict t.judge.value
+pub verdict_text : (text : Option OpenText) (t : OpenText) → text ≡ Some t → IsTextVerdict text → IsVerdictJudge t.judge.value
 verdict_text text t e h = subst IsTextVerdict e h
 
 pub says_at : {T : Type 0} (simple s : Simple) (text path : List ℕ) (r : Result T Refusal) → s ≡ simple → Says (LeafFault s text (path ++ [])) r → Says (LeafFault simple text path) r
@@ -57,8 +57,8 @@ says_at simple s text path r e h = subst (λ (x : Simple). Says (LeafFault x tex
 
 -- ---- an element that begins
 
-begun_text : {E : Type 0} (m : Message ℕ) (f : Form ℕ Simple) (simple : Simple) (content : Content) (r : Result (Unit {0}) E) → begun f ≡ Leaf simple []
-    → OnOk r ((content.innermost ≡ Some opened.Text) × HoldsText m content.text simple []) → IsBegun m f content r
+begun_text : {E : Type 0} (m : Message ℕ) (f : Form ℕ Simple) (simple : Simple) (content : Content) (r : Result (Unit {0}) E) → begun_level f ≡ Leaf simple []
+    → OnOk r ((content.innermost ≡ Some opened.Text) × HoldsText m content.text simple []) → IsElementBegun m f content r
 begun_text m f simple content (Ok x) e h = (opened.Text, h.0, subst (StandsFor m content.text opened.Text) (sym e) h.1)
 begun_text m f simple content (Err x) e h = tt
 
@@ -88,12 +88,12 @@ money_form f told code base e h = go f (subst (λ (x : ToldForm). IsFormOf (Some
     go form.Missing h = absurd h
 
 pub begun_simple : {E : Type 0} (m : Message ℕ) (f : Form ℕ Simple) (told : ToldForm) (simple : Bor Simple) (content : Content) (r : Result (Unit {0}) E) → told ≡ told_form.Simple simple → IsFormOf (Some told) f
-    → OnOk r ((content.innermost ≡ Some opened.Text) × HoldsText m content.text simple.now []) → IsBegun m f content r
-begun_simple m f told simple content r e h k = begun_text m f simple.now content r (ap begun (simple_form f told simple e h)) k
+    → OnOk r ((content.innermost ≡ Some opened.Text) × HoldsText m content.text simple.now []) → IsElementBegun m f content r
+begun_simple m f told simple content r e h k = begun_text m f simple.now content r (ap begun_level (simple_form f told simple e h)) k
 
 pub begun_money : {E : Type 0} (m : Message ℕ) (f : Form ℕ Simple) (told : ToldForm) (code : ℕ) (base : Bor Simple) (content : Content) (r : Result (Unit {0}) E) → told ≡ told_form.Money code base → IsFormOf (Some told) f
-    → OnOk r ((content.innermost ≡ Some opened.Text) × HoldsText m content.text base.now []) → IsBegun m f content r
-begun_money m f told code base content r e h k = begun_text m f base.now content r (ap begun (money_form f told code base e h)) k
+    → OnOk r ((content.innermost ≡ Some opened.Text) × HoldsText m content.text base.now []) → IsElementBegun m f content r
+begun_money m f told code base content r e h k = begun_text m f base.now content r (ap begun_level (money_form f told code base e h)) k
 
 -- ---- the end of an element
 
@@ -117,41 +117,41 @@ stands_in m text opened.Text (Envelope has) h = absurd h
 stands_in m text opened.Text Foreign h = absurd h
 
 -- the last of those round it is innermost then
-pub stands_popped : (m : Message ℕ) (text : Option OpenText) (round rest : List Opened) (o : Option Opened) (ls : List (Level ℕ)) → round ≡ rest ++ option_to_list o → StandFor m (reverse round) ls → (o ≡ None → rest ≡ []) → Stands m text o rest ls
+pub stands_popped : (m : Message ℕ) (text : Option OpenText) (round rest : List Opened) (o : Option Opened) (ls : List (Level ℕ)) → round ≡ rest ++ option_to_list o → StandFor m (reverse round) ls → (o ≡ None → rest ≡ []) → StandsOpen m text o rest ls
 stands_popped m text round rest None [] e h none = none refl
 stands_popped m text round rest None (l ∷ ls) e h none = absurd (subst (λ (x : List Opened). StandFor m (reverse x) (l ∷ ls)) (e ∙ (append-nil rest ∙ none refl)) h)
 stands_popped m text round rest (Some x) ls e h none = by ls (subst (λ (x : List Opened). StandFor m x ls) (ap reverse e ∙ reverse-append rest (x ∷ [])) h)
   where
-    by : (ls : List (Level ℕ)) → StandFor m (x ∷ reverse rest) ls → Stands m text (Some x) rest ls
+    by : (ls : List (Level ℕ)) → StandFor m (x ∷ reverse rest) ls → StandsOpen m text (Some x) rest ls
     by [] h = absurd h
     by (l ∷ ls) h = (stands_in m text x l h.0, h.1)
 
-pub ended : (m : Message ℕ) (ls : List (Level ℕ)) (n : Expanded) (content : Content) (e : Opened) (text : Option OpenText) (round : List Opened) → Stands m text (Some e) round ls
-    → ((l : Level ℕ) → StandsFor m text e l → EndFault l (names_of m.forms round) None) → round ≡ content.round.items ++ option_to_list content.innermost → (content.innermost ≡ None → content.round.items ≡ [])
+pub ended : (m : Message ℕ) (ls : List (Level ℕ)) (n : Expanded) (content : Content) (e : Opened) (text : Option OpenText) (round : List Opened) → StandsOpen m text (Some e) round ls
+    → ((l : Level ℕ) → StandsFor m text e l → EndFault l (path_round m.forms round) None) → round ≡ content.round.items ++ option_to_list content.innermost → (content.innermost ≡ None → content.round.items ≡ [])
     → EventFault m ls (Ends n) None × IsOpen content m (levels_after m ls (Ends n))
 ended m [] n content e text round h fine q none = absurd h
 ended m (l ∷ ls) n content e text round h fine q none =
     (subst (λ (p : List ℕ). EndFault l p None) (names_are m (reverse round) ls h.1) (fine l h.0), stands_popped m content.text round content.round.items content.innermost ls q h.1 none)
 
-pub ended_out : (m : Message ℕ) (ls : List (Level ℕ)) (n : Expanded) (content : Content) (text : Option OpenText) (round : List Opened) → Stands m text None round ls → round ≡ content.round.items ++ option_to_list content.innermost
+pub ended_out : (m : Message ℕ) (ls : List (Level ℕ)) (n : Expanded) (content : Content) (text : Option OpenText) (round : List Opened) → StandsOpen m text None round ls → round ≡ content.round.items ++ option_to_list content.innermost
     → EventFault m ls (Ends n) None × IsOpen content m (levels_after m ls (Ends n))
 ended_out m [] n content text round h q = (refl, stands_popped m content.text round content.round.items content.innermost [] q (subst (λ (x : List Opened). StandFor m (reverse x) []) (sym h) tt) (λ e. sym (append-nil _) ∙ (ap (λ o. content.round.items ++ option_to_list o) (sym e) ∙ (sym q ∙ h))))
 ended_out m (l ∷ ls) n content text round h q = absurd h
 
-pub not_ended : (T : Type 0) (m : Message ℕ) (ls : List (Level ℕ)) (n : Expanded) (content : Content) (e : Opened) (text : Option OpenText) (round : List Opened) (r : Refusal) → Stands m text (Some e) round ls
-    → ((l : Level ℕ) → StandsFor m text e l → Says {T = T} (EndFault l (names_of m.forms round)) (Err r)) → IsItemTaken {T = T} m ls (Ends n) content (Err r)
+pub not_ended : (T : Type 0) (m : Message ℕ) (ls : List (Level ℕ)) (n : Expanded) (content : Content) (e : Opened) (text : Option OpenText) (round : List Opened) (r : Refusal) → StandsOpen m text (Some e) round ls
+    → ((l : Level ℕ) → StandsFor m text e l → Says {T = T} (EndFault l (path_round m.forms round)) (Err r)) → IsItemTaken {T = T} m ls (Ends n) content (Err r)
 not_ended T m [] n content e text round r h broken = absurd h
 not_ended T m (l ∷ ls) n content e text round (Breaks rule path) h broken = subst (λ (p : List ℕ). EndFault l p (Some (record { rule = rule; path = path }))) (names_are m (reverse round) ls h.1) (broken l h.0)
 not_ended T m (l ∷ ls) n content e text round Memory h broken = tt
 
-pub ended_all : (m : Message ℕ) (ls : List (Level ℕ)) (n : Expanded) (content : Content) (o : Option Opened) (text : Option OpenText) (round : List Opened) → Stands m text o round ls
-    → ((l : Level ℕ) (e : Opened) → o ≡ Some e → StandsFor m text e l → EndFault l (names_of m.forms round) None) → round ≡ content.round.items ++ option_to_list content.innermost → (content.innermost ≡ None → content.round.items ≡ [])
+pub ended_all : (m : Message ℕ) (ls : List (Level ℕ)) (n : Expanded) (content : Content) (o : Option Opened) (text : Option OpenText) (round : List Opened) → StandsOpen m text o round ls
+    → ((l : Level ℕ) (e : Opened) → o ≡ Some e → StandsFor m text e l → EndFault l (path_round m.forms round) None) → round ≡ content.round.items ++ option_to_list content.innermost → (content.innermost ≡ None → content.round.items ≡ [])
     → EventFault m ls (Ends n) None × IsOpen content m (levels_after m ls (Ends n))
 ended_all m ls n content (Some e) text round h fine q none = ended m ls n content e text round h (λ l s. fine l e refl s) q none
 ended_all m ls n content None text round h fine q none = ended_out m ls n content text round h q
 
-pub not_ended_all : (T : Type 0) (m : Message ℕ) (ls : List (Level ℕ)) (n : Expanded) (content : Content) (o : Option Opened) (text : Option OpenText) (round : List Opened) (r : Refusal) → Stands m text o round ls
-    → (o ≡ None → ⊥) → ((l : Level ℕ) (e : Opened) → o ≡ Some e → StandsFor m text e l → Says {T = T} (EndFault l (names_of m.forms round)) (Err r)) → IsItemTaken {T = T} m ls (Ends n) content (Err r)
+pub not_ended_all : (T : Type 0) (m : Message ℕ) (ls : List (Level ℕ)) (n : Expanded) (content : Content) (o : Option Opened) (text : Option OpenText) (round : List Opened) (r : Refusal) → StandsOpen m text o round ls
+    → (o ≡ None → ⊥) → ((l : Level ℕ) (e : Opened) → o ≡ Some e → StandsFor m text e l → Says {T = T} (EndFault l (path_round m.forms round)) (Err r)) → IsItemTaken {T = T} m ls (Ends n) content (Err r)
 not_ended_all T m ls n content (Some e) text round r h some fault = not_ended T m ls n content e text round r h (λ l s. fault l e refl s)
 not_ended_all T m ls n content None text round r h some fault = absurd (some refl)
 
@@ -171,40 +171,40 @@ text_ended {T} m text o e l path r is same h k = go l (subst (λ (x : Opened). S
 
 -- ---- a character
 
-pub char_text : (m : Message ℕ) (ls : List (Level ℕ)) (c : ℕ) (content : Content) (old : Option OpenText) (o : Option Opened) (round : List Opened) → o ≡ Some opened.Text → content.innermost ≡ o → content.round.items ≡ round → Stands m old o round ls
+pub char_text : (m : Message ℕ) (ls : List (Level ℕ)) (c : ℕ) (content : Content) (old : Option OpenText) (o : Option Opened) (round : List Opened) → o ≡ Some opened.Text → content.innermost ≡ o → content.round.items ≡ round → StandsOpen m old o round ls
     → ((simple : Simple) (t : List ℕ) → HoldsText m old simple t → HoldsText m content.text simple (t ++ c ∷ [])) → EventFault m ls (Char c) None × IsOpen content m (levels_after m ls (Char c))
-char_text m ls c content old o round is kept same h taken = by ls (subst (λ (x : Option Opened). Stands m old x round ls) is h)
+char_text m ls c content old o round is kept same h taken = by ls (subst (λ (x : Option Opened). StandsOpen m old x round ls) is h)
   where
-    here : (l : Level ℕ) (ls : List (Level ℕ)) → StandsFor m old opened.Text l → StandFor m (reverse round) ls → EventFault m (l ∷ ls) (Char c) None × Stands m content.text (Some opened.Text) round (levels_after m (l ∷ ls) (Char c))
+    here : (l : Level ℕ) (ls : List (Level ℕ)) → StandsFor m old opened.Text l → StandFor m (reverse round) ls → EventFault m (l ∷ ls) (Char c) None × StandsOpen m content.text (Some opened.Text) round (levels_after m (l ∷ ls) (Char c))
     here (Leaf simple t) ls s r = (refl, (taken simple t s, r))
     here (Parent f d) ls s r = absurd s
     here (Envelope has) ls s r = absurd s
     here Foreign ls s r = absurd s
 
-    by : (ls : List (Level ℕ)) → Stands m old (Some opened.Text) round ls → EventFault m ls (Char c) None × IsOpen content m (levels_after m ls (Char c))
+    by : (ls : List (Level ℕ)) → StandsOpen m old (Some opened.Text) round ls → EventFault m ls (Char c) None × IsOpen content m (levels_after m ls (Char c))
     by [] h = absurd h
     by (l ∷ ls) h =
         let k = here l ls h.0 h.1 in
-        (k.0, subst (λ (x : Option Opened). Stands m content.text x content.round.items (levels_after m (l ∷ ls) (Char c))) (sym (kept ∙ is)) (subst (λ (x : List Opened). Stands m content.text (Some opened.Text) x (levels_after m (l ∷ ls) (Char c))) (sym same) k.1))
+        (k.0, subst (λ (x : Option Opened). StandsOpen m content.text x content.round.items (levels_after m (l ∷ ls) (Char c))) (sym (kept ∙ is)) (subst (λ (x : List Opened). StandsOpen m content.text (Some opened.Text) x (levels_after m (l ∷ ls) (Char c))) (sym same) k.1))
 
 char_space : {T : Type 0} (m : Message ℕ) (ls : List (Level ℕ)) (c : ℕ) (content : Content) (e : Opened) (fits : Bool) (r : Result T Refusal) → content.innermost ≡ Some e → IsOpen content m ls
-    → ((l : Level ℕ) (path : List ℕ) → StandsFor m content.text e l → (char_fault l path c ≡ space_fault fits path) × (with_char l c ≡ l)) → Says (λ o. o ≡ space_fault fits (names_of m.forms content.round.items)) r → IsItemTaken m ls (Char c) content r
-char_space {T} m ls c content e fits r is h same says = by ls h (subst (λ (x : Option Opened). Stands m content.text x content.round.items ls) is h)
+    → ((l : Level ℕ) (path : List ℕ) → StandsFor m content.text e l → (char_fault l path c ≡ space_fault fits path) × (with_char l c ≡ l)) → Says (λ o. o ≡ space_fault fits (path_round m.forms content.round.items)) r → IsItemTaken m ls (Char c) content r
+char_space {T} m ls c content e fits r is h same says = by ls h (subst (λ (x : Option Opened). StandsOpen m content.text x content.round.items ls) is h)
   where
-    of_path : (l : Level ℕ) (ls : List (Level ℕ)) → StandsFor m content.text e l → StandFor m (reverse content.round.items) ls → char_fault l (path_in ls) c ≡ space_fault fits (names_of m.forms content.round.items)
+    of_path : (l : Level ℕ) (ls : List (Level ℕ)) → StandsFor m content.text e l → StandFor m (reverse content.round.items) ls → char_fault l (path_in ls) c ≡ space_fault fits (path_round m.forms content.round.items)
     of_path l ls s k = (same l (path_in ls) s).0 ∙ ap (space_fault fits) (sym (names_are m (reverse content.round.items) ls k))
 
-    answer : (r : Result T Refusal) (l : Level ℕ) (ls : List (Level ℕ)) → Says (λ o. o ≡ space_fault fits (names_of m.forms content.round.items)) r → IsOpen content m (l ∷ ls) → StandsFor m content.text e l → StandFor m (reverse content.round.items) ls → IsItemTaken m (l ∷ ls) (Char c) content r
+    answer : (r : Result T Refusal) (l : Level ℕ) (ls : List (Level ℕ)) → Says (λ o. o ≡ space_fault fits (path_round m.forms content.round.items)) r → IsOpen content m (l ∷ ls) → StandsFor m content.text e l → StandFor m (reverse content.round.items) ls → IsItemTaken m (l ∷ ls) (Char c) content r
     answer (Ok x) l ls w h s k = (w ∙ sym (of_path l ls s k), subst (λ (y : Level ℕ). IsOpen content m (y ∷ ls)) (sym (same l (path_in ls) s).1) h)
     answer (Err (Breaks q p)) l ls w h s k = w ∙ sym (of_path l ls s k)
     answer (Err Memory) l ls w h s k = tt
 
-    by : (ls : List (Level ℕ)) → IsOpen content m ls → Stands m content.text (Some e) content.round.items ls → IsItemTaken m ls (Char c) content r
+    by : (ls : List (Level ℕ)) → IsOpen content m ls → StandsOpen m content.text (Some e) content.round.items ls → IsItemTaken m ls (Char c) content r
     by [] h k = absurd k
     by (l ∷ ls) h k = answer r l ls says h k.0 k.1
 
 pub char_envelope : {T : Type 0} (m : Message ℕ) (ls : List (Level ℕ)) (c : ℕ) (content : Content) (filled fits : Bool) (r : Result T Refusal) → content.innermost ≡ Some (opened.Envelope filled) → IsOpen content m ls
-    → fits ≡ is_space c → Says (λ o. o ≡ space_fault fits (names_of m.forms content.round.items)) r → IsItemTaken m ls (Char c) content r
+    → fits ≡ is_space c → Says (λ o. o ≡ space_fault fits (path_round m.forms content.round.items)) r → IsItemTaken m ls (Char c) content r
 char_envelope m ls c content filled fits r is h e says = char_space m ls c content (opened.Envelope filled) fits r is h same says
   where
     same : (l : Level ℕ) (path : List ℕ) → StandsFor m content.text (opened.Envelope filled) l → (char_fault l path c ≡ space_fault fits path) × (with_char l c ≡ l)
@@ -214,7 +214,7 @@ char_envelope m ls c content filled fits r is h e says = char_space m ls c conte
     same Foreign path h = absurd h
 
 pub char_parent : {T : Type 0} (m : Message ℕ) (ls : List (Level ℕ)) (c : ℕ) (content : Content) (n : ℕ) (last : Option ℕ) (count : ℕ) (fits : Bool) (r : Result T Refusal) → content.innermost ≡ Some (opened.Parent n last count) → IsOpen content m ls
-    → fits ≡ (not (is_bare (m.forms n)) && is_space c) → Says (λ o. o ≡ space_fault fits (names_of m.forms content.round.items)) r → IsItemTaken m ls (Char c) content r
+    → fits ≡ (not (is_bare (m.forms n)) && is_space c) → Says (λ o. o ≡ space_fault fits (path_round m.forms content.round.items)) r → IsItemTaken m ls (Char c) content r
 char_parent m ls c content n last count fits r is h e says = char_space m ls c content (opened.Parent n last count) fits r is h same says
   where
     same : (l : Level ℕ) (path : List ℕ) → StandsFor m content.text (opened.Parent n last count) l → (char_fault l path c ≡ space_fault fits path) × (with_char l c ≡ l)
@@ -233,32 +233,32 @@ child_slot m n d tag path last count k innermost (Err (Breaks q p)) h e longer =
 child_slot m n d tag path last count k None (Err Memory) h e longer = tt
 child_slot m n d tag path last count k (Some x) (Err Memory) h e longer = tt
 
-same_broken : (rule q : Rule) (path p : List ℕ) → q ≡ rule → p ≡ path ++ [] → broken rule path ≡ Some (record { rule = q; path = p })
+same_broken : (rule q : Rule) (path p : List ℕ) → q ≡ rule → p ≡ path ++ [] → broken_rule rule path ≡ Some (record { rule = q; path = p })
 same_broken rule q path p e f = rw (e, f, append-nil path) refl
 
-refused_at : (m : Message ℕ) (ls : List (Level ℕ)) (n : Expanded) (content : Content) (e : Opened) (old : Option OpenText) (round : List Opened) (rule : Rule) (r : Refusal) → Stands m old (Some e) round ls
-    → ((l : Level ℕ) (ls : List (Level ℕ)) → StandsFor m old e l → place_fault m (l ∷ ls) n ≡ broken rule (path_in ls)) → Refuses rule (names_of m.forms round ++ []) r → IsPlaced m ls n content (Err r)
+refused_at : (m : Message ℕ) (ls : List (Level ℕ)) (n : Expanded) (content : Content) (e : Opened) (old : Option OpenText) (round : List Opened) (rule : Rule) (r : Refusal) → StandsOpen m old (Some e) round ls
+    → ((l : Level ℕ) (ls : List (Level ℕ)) → StandsFor m old e l → place_fault m (l ∷ ls) n ≡ broken_rule rule (path_in ls)) → RefusesWith rule (path_round m.forms round ++ []) r → IsPlaced m ls n content (Err r)
 refused_at m [] n content e old round rule r h fault told = absurd h
 refused_at m (l ∷ ls) n content e old round rule (Breaks q p) h fault told =
-    fault l ls h.0 ∙ (ap (broken rule) (sym (names_are m (reverse round) ls h.1)) ∙ same_broken rule q (names_of m.forms round) p told.0 told.1)
+    fault l ls h.0 ∙ (ap (broken_rule rule) (sym (names_are m (reverse round) ls h.1)) ∙ same_broken rule q (path_round m.forms round) p told.0 told.1)
 refused_at m (l ∷ ls) n content e old round rule Memory h fault told = tt
 
-pub place_text : (m : Message ℕ) (ls : List (Level ℕ)) (n : Expanded) (content : Content) (o : Option Opened) (old : Option OpenText) (round : List Opened) (r : Refusal) → o ≡ Some opened.Text → Stands m old o round ls
-    → Refuses rule.ElementInSimple (names_of m.forms round ++ []) r → IsPlaced m ls n content (Err r)
-place_text m ls n content o old round r is h told = refused_at m ls n content opened.Text old round rule.ElementInSimple r (subst (λ (x : Option Opened). Stands m old x round ls) is h) fault told
+pub place_text : (m : Message ℕ) (ls : List (Level ℕ)) (n : Expanded) (content : Content) (o : Option Opened) (old : Option OpenText) (round : List Opened) (r : Refusal) → o ≡ Some opened.Text → StandsOpen m old o round ls
+    → RefusesWith rule.ElementInSimple (path_round m.forms round ++ []) r → IsPlaced m ls n content (Err r)
+place_text m ls n content o old round r is h told = refused_at m ls n content opened.Text old round rule.ElementInSimple r (subst (λ (x : Option Opened). StandsOpen m old x round ls) is h) fault told
   where
-    fault : (l : Level ℕ) (ls : List (Level ℕ)) → StandsFor m old opened.Text l → place_fault m (l ∷ ls) n ≡ broken rule.ElementInSimple (path_in ls)
+    fault : (l : Level ℕ) (ls : List (Level ℕ)) → StandsFor m old opened.Text l → place_fault m (l ∷ ls) n ≡ broken_rule rule.ElementInSimple (path_in ls)
     fault (Leaf simple t) ls h = refl
     fault (Parent f d) ls h = absurd h
     fault (Envelope has) ls h = absurd h
     fault Foreign ls h = absurd h
 
 pub place_other : (m : Message ℕ) (ls : List (Level ℕ)) (n : Expanded) (content : Content) (o : Option Opened) (number : ℕ) (last : Option ℕ) (count : ℕ) (old : Option OpenText) (round : List Opened) (r : Refusal)
-    → o ≡ Some (opened.Parent number last count) → Stands m old o round ls → bytes_eq n.namespace m.namespace ≡ false → Refuses rule.UnknownElement (names_of m.forms round ++ []) r → IsPlaced m ls n content (Err r)
+    → o ≡ Some (opened.Parent number last count) → StandsOpen m old o round ls → bytes_eq n.namespace m.namespace ≡ false → RefusesWith rule.UnknownElement (path_round m.forms round ++ []) r → IsPlaced m ls n content (Err r)
 place_other m ls n content o number last count old round r is h other told =
-    refused_at m ls n content (opened.Parent number last count) old round rule.UnknownElement r (subst (λ (x : Option Opened). Stands m old x round ls) is h) fault told
+    refused_at m ls n content (opened.Parent number last count) old round rule.UnknownElement r (subst (λ (x : Option Opened). StandsOpen m old x round ls) is h) fault told
   where
-    fault : (l : Level ℕ) (ls : List (Level ℕ)) → StandsFor m old (opened.Parent number last count) l → place_fault m (l ∷ ls) n ≡ broken rule.UnknownElement (path_in ls)
+    fault : (l : Level ℕ) (ls : List (Level ℕ)) → StandsFor m old (opened.Parent number last count) l → place_fault m (l ∷ ls) n ≡ broken_rule rule.UnknownElement (path_in ls)
     fault (Parent f d) ls h = rw other refl
     fault (Leaf simple t) ls h = absurd h
     fault (Envelope has) ls h = absurd h
@@ -273,13 +273,13 @@ is_round m content round e l ls q i h k =
     (subst (λ (x : List Opened). StandFor m (reverse (x ++ e ∷ [])) (l ∷ ls)) (sym q) (round_of m round e l ls h k))
 
 pub place_envelope : (m : Message ℕ) (ls : List (Level ℕ)) (n : Expanded) (content : Content) (o : Option Opened) (filled : Bool) (old : Option OpenText) (round : List Opened) (r : Result (Option ℕ) Refusal)
-    → o ≡ Some (opened.Envelope filled) → content.round.items ≡ round → Stands m old o round ls → IsFilled filled (names_of m.forms round) content.innermost r → IsPlaced m ls n content r
-place_envelope m ls n content o filled old round r is q h told = by ls r (subst (λ (x : Option Opened). Stands m old x round ls) is h) told
+    → o ≡ Some (opened.Envelope filled) → content.round.items ≡ round → StandsOpen m old o round ls → IsEnvelopeFilled filled (path_round m.forms round) content.innermost r → IsPlaced m ls n content r
+place_envelope m ls n content o filled old round r is q h told = by ls r (subst (λ (x : Option Opened). StandsOpen m old x round ls) is h) told
   where
-    of_path : (has : Bool) (ls : List (Level ℕ)) (q : Rule) (p : List ℕ) → has ≡ true → StandFor m (reverse round) ls → q ≡ rule.TooMany → p ≡ names_of m.forms round → place_fault m (Envelope has ∷ ls) n ≡ Some (record { rule = q; path = p })
-    of_path has ls q p e k f g = rw (e, f, g) (ap (broken rule.TooMany) (sym (names_are m (reverse round) ls k)))
+    of_path : (has : Bool) (ls : List (Level ℕ)) (q : Rule) (p : List ℕ) → has ≡ true → StandFor m (reverse round) ls → q ≡ rule.TooMany → p ≡ path_round m.forms round → place_fault m (Envelope has ∷ ls) n ≡ Some (record { rule = q; path = p })
+    of_path has ls q p e k f g = rw (e, f, g) (ap (broken_rule rule.TooMany) (sym (names_are m (reverse round) ls k)))
 
-    here : (l : Level ℕ) (ls : List (Level ℕ)) (r : Result (Option ℕ) Refusal) → StandsFor m old (opened.Envelope filled) l → StandFor m (reverse round) ls → IsFilled filled (names_of m.forms round) content.innermost r → IsPlaced m (l ∷ ls) n content r
+    here : (l : Level ℕ) (ls : List (Level ℕ)) (r : Result (Option ℕ) Refusal) → StandsFor m old (opened.Envelope filled) l → StandFor m (reverse round) ls → IsEnvelopeFilled filled (path_round m.forms round) content.innermost r → IsPlaced m (l ∷ ls) n content r
     here (Envelope has) ls (Ok type) s k (empty, t, i) = (let e : has ≡ false = sym s ∙ empty in rw e refl, ap (form_at m) (sym t), is_round m content round (opened.Envelope true) (Envelope true) ls q i refl k)
     here (Envelope has) ls (Err (Breaks f p)) s k (full, w, v) = of_path has ls f p (sym s ∙ full) k w v
     here (Envelope has) ls (Err Memory) s k t = tt
@@ -287,19 +287,19 @@ place_envelope m ls n content o filled old round r is q h told = by ls r (subst 
     here (Leaf simple x) ls r s k t = absurd s
     here Foreign ls r s k t = absurd s
 
-    by : (ls : List (Level ℕ)) (r : Result (Option ℕ) Refusal) → Stands m old (Some (opened.Envelope filled)) round ls → IsFilled filled (names_of m.forms round) content.innermost r → IsPlaced m ls n content r
+    by : (ls : List (Level ℕ)) (r : Result (Option ℕ) Refusal) → StandsOpen m old (Some (opened.Envelope filled)) round ls → IsEnvelopeFilled filled (path_round m.forms round) content.innermost r → IsPlaced m ls n content r
     by [] r h t = absurd h
     by (l ∷ ls) r h t = here l ls r h.0 h.1 t
 
 pub place_child : (m : Message ℕ) (ls : List (Level ℕ)) (n : Expanded) (content : Content) (o : Option Opened) (number : ℕ) (last : Option ℕ) (count : ℕ) (old : Option OpenText) (round : List Opened) (r : Result (Option ℕ) Refusal)
-    → o ≡ Some (opened.Parent number last count) → content.round.items ≡ round → Stands m old o round ls → bytes_eq n.namespace m.namespace ≡ true
-    → ((d : List ℕ) → Came (m.forms number) d → EndsWith d last count → IsChild m (m.forms number) d (names_of m.forms round) n.local content.innermost r) → IsPlaced m ls n content r
-place_child m ls n content o number last count old round r is q h own child = by ls (subst (λ (x : Option Opened). Stands m old x round ls) is h)
+    → o ≡ Some (opened.Parent number last count) → content.round.items ≡ round → StandsOpen m old o round ls → bytes_eq n.namespace m.namespace ≡ true
+    → ((d : List ℕ) → Came (m.forms number) d → EndsWith d last count → IsChild m (m.forms number) d (path_round m.forms round) n.local content.innermost r) → IsPlaced m ls n content r
+place_child m ls n content o number last count old round r is q h own child = by ls (subst (λ (x : Option Opened). StandsOpen m old x round ls) is h)
   where
-    placed : (f : Form ℕ Simple) (d : List ℕ) (ls : List (Level ℕ)) (i : Option Opened) (r : Result (Option ℕ) Refusal) → content.innermost ≡ i → StandFor m (reverse round) ls → IsChild m f d (names_of m.forms round) n.local i r → IsPlaced m (Parent f d ∷ ls) n content r
+    placed : (f : Form ℕ Simple) (d : List ℕ) (ls : List (Level ℕ)) (i : Option Opened) (r : Result (Option ℕ) Refusal) → content.innermost ≡ i → StandFor m (reverse round) ls → IsChild m f d (path_round m.forms round) n.local i r → IsPlaced m (Parent f d ∷ ls) n content r
     placed f d ls None (Ok type) e k c = absurd c
     placed f d ls (Some x) (Ok type) e k (slot, came, target, stands) =
-        (rw (own, came) refl, ap (form_by m.forms f) came ∙ target, subst (λ (w : Next). IsRound content m (Parent f (with_slot d w) ∷ ls)) (sym came) (is_round m content round x (Parent f (d ++ slot ∷ [])) ls q e stands k))
+        (rw (own, came) refl, ap (form_by m.forms f) came ∙ target, subst (λ (w : NextSlot). IsRound content m (Parent f (with_slot d w) ∷ ls)) (sym came) (is_round m content round x (Parent f (d ++ slot ∷ [])) ls q e stands k))
     placed f d ls None (Err (Breaks z p)) e k c = rw own (ap (λ v. next_fault v f (next f d n.local)) (sym (names_are m (reverse round) ls k)) ∙ c)
     placed f d ls (Some x) (Err (Breaks z p)) e k c = rw own (ap (λ v. next_fault v f (next f d n.local)) (sym (names_are m (reverse round) ls k)) ∙ c)
     placed f d ls None (Err Memory) e k c = tt
@@ -307,12 +307,12 @@ place_child m ls n content o number last count old round r is q h own child = by
 
     here : (l : Level ℕ) (ls : List (Level ℕ)) → StandsFor m old (opened.Parent number last count) l → StandFor m (reverse round) ls → IsPlaced m (l ∷ ls) n content r
     here (Parent f d) ls (e, came, ends) k =
-        placed f d ls content.innermost r refl k (subst (λ (g : Form ℕ Simple). IsChild m g d (names_of m.forms round) n.local content.innermost r) e (child d (subst (λ (g : Form ℕ Simple). Came g d) (sym e) came) ends))
+        placed f d ls content.innermost r refl k (subst (λ (g : Form ℕ Simple). IsChild m g d (path_round m.forms round) n.local content.innermost r) e (child d (subst (λ (g : Form ℕ Simple). Came g d) (sym e) came) ends))
     here (Envelope has) ls s k = absurd s
     here (Leaf simple x) ls s k = absurd s
     here Foreign ls s k = absurd s
 
-    by : (ls : List (Level ℕ)) → Stands m old (Some (opened.Parent number last count)) round ls → IsPlaced m ls n content r
+    by : (ls : List (Level ℕ)) → StandsOpen m old (Some (opened.Parent number last count)) round ls → IsPlaced m ls n content r
     by [] h = absurd h
     by (l ∷ ls) h = here l ls h.0 h.1
 
@@ -336,13 +336,13 @@ placed_wrong T m ls n attributes content Memory h = tt
 
 -- ---- attributes
 
-pub currency_said : {T : Type 0} (f : Form ℕ Simple) (s : Simple) (o : Option (List ℕ)) (value path : List ℕ) (r : Result T Refusal) → IsCode f → Some s ≡ text_type f → Some value ≡ o → Says (LeafFault s (chars value) path) r → Says (CurrencyFault f o path) r
+pub currency_said : {T : Type 0} (f : Form ℕ Simple) (s : Simple) (o : Option (List ℕ)) (value path : List ℕ) (r : Result T Refusal) → IsCodeForm f → Some s ≡ text_type f → Some value ≡ o → Says (LeafFault s (chars value) path) r → Says (CurrencyFault f o path) r
 currency_said {T} f s o value path r (simple, code) e q h = subst (λ (x : Option (List ℕ)). Says (CurrencyFault f x path) r) q (subst (λ (g : Form ℕ Simple). Says (CurrencyFault g (Some value) path) r) (sym code) (subst (λ (x : Simple). Says (LeafFault x (chars value) path) r) same h))
   where
     same : s ≡ simple
     same = (let k : Some s ≡ Some simple = e ∙ ap text_type code in cc)
 
-pub unknown_said : (T : Type 0) (m : Message ℕ) (f : Form ℕ Simple) (attributes : List Entry) (path : List ℕ) (money : Bool) (r : Refusal) → money ≡ has_currency f → has_unknown money attributes ≡ true → Refuses rule.UnknownAttribute (path ++ []) r
+pub unknown_said : (T : Type 0) (m : Message ℕ) (f : Form ℕ Simple) (attributes : List Entry) (path : List ℕ) (money : Bool) (r : Refusal) → money ≡ has_currency f → has_unknown money attributes ≡ true → RefusesWith rule.UnknownAttribute (path ++ []) r
     → Says {T = T} (AttributeFault m (Some f) attributes path) (Err r)
 unknown_said T m f attributes path money (Breaks q p) e h told = (let k : has_unknown (has_currency f) attributes ≡ true = ap (λ b. has_unknown b attributes) (sym e) ∙ h in rw k (sym (same_broken rule.UnknownAttribute q path p told.0 told.1)))
 unknown_said T m f attributes path money Memory e h told = tt
@@ -365,21 +365,21 @@ pub in_round : (m : Message ℕ) (ls : List (Level ℕ)) (old new : Content) →
 in_round m ls old new h e = subst (λ (x : List Opened). StandFor m (reverse x) ls) (sym e) h
 
 pub entered_wrong : (T : Type 0) (m : Message ℕ) (ls : List (Level ℕ)) (attributes : List Entry) (content : Content) (round : List Opened) (number : Option ℕ) (n : ℕ) (r : Refusal) → number ≡ Some n → StandFor m (reverse round) ls
-    → Says {T = T} (AttributeFault m (Some (m.forms n)) attributes (names_of m.forms round)) (Err r) → IsEntered {T = T} m ls (form_at m number) attributes content (Err r)
+    → Says {T = T} (AttributeFault m (Some (m.forms n)) attributes (path_round m.forms round)) (Err r) → IsEntered {T = T} m ls (form_at m number) attributes content (Err r)
 entered_wrong T m ls attributes content round number n (Breaks q p) is h k =
     subst (λ (o : Option ℕ). AttributeFault m (form_at m o) attributes (path_in ls) (Some (record { rule = q; path = p }))) (sym is)
     (subst (λ (v : List ℕ). AttributeFault m (Some (m.forms n)) attributes v (Some (record { rule = q; path = p }))) (names_are m (reverse round) ls h) k)
 entered_wrong T m ls attributes content round number n Memory is h k = tt
 
-pub says_round : {T : Type 0} (types : Graph ℕ Simple) (simple : Simple) (text tail : List ℕ) (a b : List Opened) (r : Result T Refusal) → a ≡ b → Says (LeafFault simple text (names_of types a ++ tail)) r → Says (LeafFault simple text (names_of types b ++ tail)) r
-says_round types simple text tail a b r e h = subst (λ (x : List Opened). Says (LeafFault simple text (names_of types x ++ tail)) r) e h
+pub says_round : {T : Type 0} (types : Graph ℕ Simple) (simple : Simple) (text tail : List ℕ) (a b : List Opened) (r : Result T Refusal) → a ≡ b → Says (LeafFault simple text (path_round types a ++ tail)) r → Says (LeafFault simple text (path_round types b ++ tail)) r
+says_round types simple text tail a b r e h = subst (λ (x : List Opened). Says (LeafFault simple text (path_round types x ++ tail)) r) e h
 
 pub start_at : {T : Type 0} (m : Message ℕ) (ls : List (Level ℕ)) (content : Content) (r : Result T Refusal) (ns space local tag : List ℕ) (attrs more : List Attr) → ns ≡ space → local ≡ tag → attrs ≡ more
-    → IsItemTaken m ls (Starts (named ns local) (map entry_of attrs)) content r → IsItemTaken m ls (Starts (named space tag) (map entry_of more)) content r
+    → IsItemTaken m ls (Starts (name_in_namespace ns local) (map entry_of attrs)) content r → IsItemTaken m ls (Starts (name_in_namespace space tag) (map entry_of more)) content r
 start_at m ls content r ns space local tag attrs more e f g h =
-    subst (λ (x : List ℕ). IsItemTaken m ls (Starts (named x tag) (map entry_of more)) content r) e
-    (subst (λ (x : List ℕ). IsItemTaken m ls (Starts (named ns x) (map entry_of more)) content r) f
-    (subst (λ (x : List Attr). IsItemTaken m ls (Starts (named ns local) (map entry_of x)) content r) g h))
+    subst (λ (x : List ℕ). IsItemTaken m ls (Starts (name_in_namespace x tag) (map entry_of more)) content r) e
+    (subst (λ (x : List ℕ). IsItemTaken m ls (Starts (name_in_namespace ns x) (map entry_of more)) content r) f
+    (subst (λ (x : List Attr). IsItemTaken m ls (Starts (name_in_namespace ns local) (map entry_of x)) content r) g h))
 
 pub was_ok : {T E : Type 0} (P : Type 0) (r : Result T E) → is_err r ≡ false → OnOk r P → P
 was_ok P (Ok x) e h = h

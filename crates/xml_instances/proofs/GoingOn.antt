@@ -11,17 +11,17 @@ use Rattle.reference_check.specs.Forms as form
 use Rattle.reference_check.specs.Steps.{next}
 use Rattle.message_model.specs.Message.{Message}
 use Rattle.message_model.specs.Tables.{Tables, message_of, types_of}
-use Rattle.message_model.specs.Writes.{named, currency, value_of, SpellsCode}
+use Rattle.message_model.specs.Writes.{name_in_namespace, currency, value_of, SpellsCode}
 use Rattle.markup.specs.EventItems.{entry_of}
 use Rattle.markup.specs.PlainTags.{tag_items}
 use Rattle.markup.specs.declared.plain_tag.TagKind.{TagKind}
 use Rattle.markup.specs.declared.plain_tag.TagKind.TheVariants.{Start, Empty, End}
 use Rattle.markup.specs.declared.event.Attr.{Attr}
-use Rattle.xml_instances.specs.Levels.{Level, Parent, Leaf, Envelope, Foreign, begun, levels_after, levels_over, form_of_start, round_start, path_in}
+use Rattle.xml_instances.specs.Levels.{Level, Parent, Leaf, Envelope, Foreign, begun_level, levels_after, levels_over, form_of_start, round_start, path_in}
 use Rattle.xml_instances.specs.EventFaults.{EventFault, AreFine, AttributeFault, place_fault, next_fault}
 use Rattle.xml_instances.specs.Built.{Shown, nothing_shown, with_event, with_inside, TextShown, CurrencyShown, CodeShown, LeafShown, EndShown, StartShown, ShowsBeside, EventShows, EventsShow}
-use Rattle.xml_instances.specs.Keeping.{PiecesKept, GoOn, KeepsShown, IsBuilt, MayShowName, TagShowsBeside, with_all_inside, with_events}
-use Rattle.xml_instances.specs.Open.{Stands, StandsFor, HoldsText, IsOpen, IsCode, form_at, AreMade, AreKept, IsTextMade}
+use Rattle.xml_instances.specs.Keeping.{PiecesKept, GoOn, KeepsSomeShown, IsBuilt, MayShowName, TagShowsBeside, with_all_inside, with_events}
+use Rattle.xml_instances.specs.Open.{StandsOpen, StandsFor, HoldsText, IsOpen, IsCodeForm, form_at, AreMade, AreKept, IsTextMade}
 use Rattle.xml_instances.specs.inner.Quick.{AreItemsTaken}
 use Rattle.xml_instances.specs.declared.opened.Refusal.{Refusal}
 use Rattle.xml_instances.specs.declared.spare.Checks.{Checks}
@@ -80,7 +80,7 @@ text_leaf {T} {E} m text o e l r a b is same h k = go l (subst (λ (x : Opened).
 pub text_shown : {T E : Type 0} (simple other : Simple) (text : List ℕ) (rule : Option Rule) (r : Result T E) (a b : Option PiecesKept) → other ≡ simple → OnOk r (rule ≡ None) → (rule ≡ None → GoOn a b (TextShown other text)) → OnOk r (GoOn a b (TextShown simple text))
 text_shown simple other text rule r a b same ok shown = on_ok r (λ none. subst (λ (x : Simple). GoOn a b (TextShown x text)) same (shown none)) ok
 
-pub end_shown : (T : Tables) (ls : List (Level ℕ)) (n : Expanded) (o : Option Opened) (text : Option OpenText) (round : List Opened) (a b : Option PiecesKept) → Stands (message_of T) text o round ls
+pub end_shown : (T : Tables) (ls : List (Level ℕ)) (n : Expanded) (o : Option Opened) (text : Option OpenText) (round : List Opened) (a b : Option PiecesKept) → StandsOpen (message_of T) text o round ls
     → (o ≡ None → b ≡ a) → ((l : Level ℕ) (e : Opened) → o ≡ Some e → StandsFor (message_of T) text e l → GoOn a b (EndShown l)) → GoOn a b (ShowsBeside T ls (Ends n))
 end_shown T [] n None text round a b h out ends = go_still a b (out refl)
 end_shown T [] n (Some e) text round a b h out ends = absurd h
@@ -96,13 +96,13 @@ start_shown tables ls n attributes type a b c r is first = on_ok r (λ then_.
     (λ s u t x y. (u, x, subst (λ (f : Option (Form ℕ Simple)). CodeShown tables f attributes u t) (sym is) y)) first then_)
 
 pub start_shown_at : {T E : Type 0} (tables : Tables) (ls : List (Level ℕ)) (a b : Option PiecesKept) (r : Result T E) (ns space local tag : List ℕ) (attrs more : List Attr) → ns ≡ space → local ≡ tag → attrs ≡ more
-    → OnOk r (GoOn a b (ShowsBeside tables ls (Starts (named ns local) (map entry_of attrs)))) → OnOk r (GoOn a b (ShowsBeside tables ls (Starts (named space tag) (map entry_of more))))
+    → OnOk r (GoOn a b (ShowsBeside tables ls (Starts (name_in_namespace ns local) (map entry_of attrs)))) → OnOk r (GoOn a b (ShowsBeside tables ls (Starts (name_in_namespace space tag) (map entry_of more))))
 start_shown_at tables ls a b r ns space local tag attrs more e f g h =
-    subst (λ (x : List ℕ). OnOk r (GoOn a b (ShowsBeside tables ls (Starts (named x tag) (map entry_of more))))) e
-    (subst (λ (x : List ℕ). OnOk r (GoOn a b (ShowsBeside tables ls (Starts (named ns x) (map entry_of more))))) f
-    (subst (λ (x : List Attr). OnOk r (GoOn a b (ShowsBeside tables ls (Starts (named ns local) (map entry_of x))))) g h))
+    subst (λ (x : List ℕ). OnOk r (GoOn a b (ShowsBeside tables ls (Starts (name_in_namespace x tag) (map entry_of more))))) e
+    (subst (λ (x : List ℕ). OnOk r (GoOn a b (ShowsBeside tables ls (Starts (name_in_namespace ns x) (map entry_of more))))) f
+    (subst (λ (x : List Attr). OnOk r (GoOn a b (ShowsBeside tables ls (Starts (name_in_namespace ns local) (map entry_of x))))) g h))
 
-pub currency_shown : {T E : Type 0} (f : Form ℕ Simple) (simple : Simple) (value : List ℕ) (attributes : List Entry) (rule : Option Rule) (r : Result T E) (a b : Option PiecesKept) → IsCode f → Some simple ≡ text_type f → Some value ≡ value_of currency attributes
+pub currency_shown : {T E : Type 0} (f : Form ℕ Simple) (simple : Simple) (value : List ℕ) (attributes : List Entry) (rule : Option Rule) (r : Result T E) (a b : Option PiecesKept) → IsCodeForm f → Some simple ≡ text_type f → Some value ≡ value_of currency attributes
     → OnOk r (rule ≡ None) → (rule ≡ None → GoOn a b (TextShown simple (chars value))) → OnOk r (GoOn a b (CurrencyShown f attributes))
 currency_shown f simple value attributes rule r a b (s, code) e found ok shown = on_ok r (λ none.
     go_as {R = TextShown simple (chars value)} {S = CurrencyShown f attributes} a b
@@ -117,7 +117,7 @@ code_of_form tables f code number attributes a b r is h = subst (λ (g : Form �
 
 -- ---- an element without content
 
-begun_ends : (f : Form ℕ Simple) (ls : List (Level ℕ)) (n : Expanded) (s : Shown) → with_event (begun f ∷ ls) (Ends n) s ≡ s
+begun_ends : (f : Form ℕ Simple) (ls : List (Level ℕ)) (n : Expanded) (s : Shown) → with_event (begun_level f ∷ ls) (Ends n) s ≡ s
 begun_ends (form.Sequence fs) ls n s = refl
 begun_ends (form.Choice fs) ls n s = refl
 begun_ends (form.Simple simple) ls n s = refl
@@ -186,7 +186,7 @@ foreign_tag T ls Empty n s u t e (v, (a, x1, x2), (b, y1, y2)) = (
   ),
 )
 
-tag_shown : (T : Tables) (ls : List (Level ℕ)) (kind : TagKind) (n : Expanded) (o : Option Opened) (text : Option OpenText) (round : List Opened) (p : PiecesKept) (s u t : Shown) → Stands (message_of T) text o round ls → MayShowName (Some p) o n
+tag_shown : (T : Tables) (ls : List (Level ℕ)) (kind : TagKind) (n : Expanded) (o : Option Opened) (text : Option OpenText) (round : List Opened) (p : PiecesKept) (s u t : Shown) → StandsOpen (message_of T) text o round ls → MayShowName (Some p) o n
     → AreFine (message_of T) ls (tag_items kind n) → u ≡ with_events ls (tag_items kind n) s → TagShowsBeside T ls kind n u t → EventsShow T ls (tag_items kind n) s t
 tag_shown T ls kind n o text round p s u t h may fine e x = by ls o h may fine e x
   where
@@ -199,7 +199,7 @@ tag_shown T ls kind n o text round p s u t h may fine e x = by ls o h may fine e
     envelope opened.Text has h may = h
     envelope (opened.Parent x last count) has h may = h
 
-    by : (ls : List (Level ℕ)) (o : Option Opened) → Stands (message_of T) text o round ls → MayShowName (Some p) o n → AreFine (message_of T) ls (tag_items kind n) → u ≡ with_events ls (tag_items kind n) s → TagShowsBeside T ls kind n u t
+    by : (ls : List (Level ℕ)) (o : Option Opened) → StandsOpen (message_of T) text o round ls → MayShowName (Some p) o n → AreFine (message_of T) ls (tag_items kind n) → u ≡ with_events ls (tag_items kind n) s → TagShowsBeside T ls kind n u t
         → EventsShow T ls (tag_items kind n) s t
     by [] o h may fine e x = beside [] tt fine e x
     by (Parent f d ∷ ls) o h may fine e x = beside (Parent f d ∷ ls) tt fine e x
@@ -209,7 +209,7 @@ tag_shown T ls kind n o text round p s u t h may fine e x = by ls o h may fine e
     by (Foreign ∷ ls) o h may fine e x = foreign_tag T ls kind n s u t e x
 
 -- a tag whose events are kept first
-pub tag_goes_on : (T : Tables) (ls : List (Level ℕ)) (kind : TagKind) (n : Expanded) (o : Option Opened) (text : Option OpenText) (round : List Opened) (a b c : Option PiecesKept) → Stands (message_of T) text o round ls → MayShowName a o n
+pub tag_goes_on : (T : Tables) (ls : List (Level ℕ)) (kind : TagKind) (n : Expanded) (o : Option Opened) (text : Option OpenText) (round : List Opened) (a b c : Option PiecesKept) → StandsOpen (message_of T) text o round ls → MayShowName a o n
     → AreFine (message_of T) ls (tag_items kind n) → GoOn a b (λ s u. u ≡ with_events ls (tag_items kind n) s) → GoOn b c (TagShowsBeside T ls kind n) → GoOn a c (EventsShow T ls (tag_items kind n))
 tag_goes_on T ls kind n o text round None None None h may fine f g = tt
 tag_goes_on T ls kind n o text round None None (Some r) h may fine f g = absurd g
@@ -217,17 +217,17 @@ tag_goes_on T ls kind n o text round None (Some q) c h may fine f g = absurd f
 tag_goes_on T ls kind n o text round (Some p) b c h may fine f g =
     go_then {Q = EventsShow T ls (tag_items kind n)} {R = λ s u. u ≡ with_events ls (tag_items kind n) s} {S = TagShowsBeside T ls kind n} (Some p) b c (λ s u t e x. tag_shown T ls kind n o text round p s u t h may fine e x) f g
 
-pub tag_held : (T : Tables) (ls : List (Level ℕ)) (kind : TagKind) (n : Expanded) (o : Option Opened) (text : Option OpenText) (round : List Opened) (a b : Option PiecesKept) (new : Content) (r : Result (Unit {0}) Refusal) → Stands (message_of T) text o round ls → MayShowName a o n
+pub tag_held : (T : Tables) (ls : List (Level ℕ)) (kind : TagKind) (n : Expanded) (o : Option Opened) (text : Option OpenText) (round : List Opened) (a b : Option PiecesKept) (new : Content) (r : Result (Unit {0}) Refusal) → StandsOpen (message_of T) text o round ls → MayShowName a o n
     → GoOn a b (λ s u. u ≡ with_events ls (tag_items kind n) s) → AreItemsTaken (message_of T) ls (tag_items kind n) new r → OnOk r (GoOn b new.pieces (TagShowsBeside T ls kind n)) → OnOk r (GoOn a new.pieces (EventsShow T ls (tag_items kind n)))
 tag_held T ls kind n o text round a b new (Ok x) h may f taken g = tag_goes_on T ls kind n o text round a b new.pieces h may taken.0 f g
 tag_held T ls kind n o text round a b new (Err e) h may f taken g = tt
 
 -- the events of a tag in an envelope are kept, of another none
-pub tag_kept : (m : Message ℕ) (ls : List (Level ℕ)) (items : List Item) (o : Option Opened) (text : Option OpenText) (round : List Opened) (a b : Option PiecesKept) → Stands m text o round ls → o ≡ Some opened.Foreign → GoOn a b (λ s t. t ≡ with_all_inside items s)
+pub tag_kept : (m : Message ℕ) (ls : List (Level ℕ)) (items : List Item) (o : Option Opened) (text : Option OpenText) (round : List Opened) (a b : Option PiecesKept) → StandsOpen m text o round ls → o ≡ Some opened.Foreign → GoOn a b (λ s t. t ≡ with_all_inside items s)
     → GoOn a b (λ s t. t ≡ with_events ls items s)
-tag_kept m ls items o text round a b h is go = by ls (subst (λ (x : Option Opened). Stands m text x round ls) is h)
+tag_kept m ls items o text round a b h is go = by ls (subst (λ (x : Option Opened). StandsOpen m text x round ls) is h)
   where
-    by : (ls : List (Level ℕ)) → Stands m text (Some opened.Foreign) round ls → GoOn a b (λ s t. t ≡ with_events ls items s)
+    by : (ls : List (Level ℕ)) → StandsOpen m text (Some opened.Foreign) round ls → GoOn a b (λ s t. t ≡ with_events ls items s)
     by [] h = absurd h
     by (Foreign ∷ ls) h = go
     by (Parent f d ∷ ls) h = absurd h.0
@@ -237,7 +237,7 @@ tag_kept m ls items o text round a b h is go = by ls (subst (λ (x : Option Open
 -- ---- characters
 
 -- a run of characters beside the elements in an envelope shows nothing
-run_shown : (T : Tables) (ls : List (Level ℕ)) (cs : List ℕ) (o : Option Opened) (text : Option OpenText) (round : List Opened) (s : Shown) → Stands (message_of T) text o round ls → IsNoForeign o → EventsShow T ls (map (λ c. Char c) cs) s s
+run_shown : (T : Tables) (ls : List (Level ℕ)) (cs : List ℕ) (o : Option Opened) (text : Option OpenText) (round : List Opened) (s : Shown) → StandsOpen (message_of T) text o round ls → IsNoForeign o → EventsShow T ls (map (λ c. Char c) cs) s s
 run_shown T ls cs o text round s h may = by o ls h may
   where
     none : (cs : List ℕ) → EventsShow T [] (map (λ c. Char c) cs) s s
@@ -265,7 +265,7 @@ run_shown T ls cs o text round s h may = by o ls h may
     at (opened.Envelope filled) Foreign ls h may = absurd h
     at (opened.Parent n last count) Foreign ls h may = absurd h
 
-    by : (o : Option Opened) (ls : List (Level ℕ)) → Stands (message_of T) text o round ls → IsNoForeign o → EventsShow T ls (map (λ c. Char c) cs) s s
+    by : (o : Option Opened) (ls : List (Level ℕ)) → StandsOpen (message_of T) text o round ls → IsNoForeign o → EventsShow T ls (map (λ c. Char c) cs) s s
     by None [] h may = none cs
     by None (l ∷ ls) h may = absurd h
     by (Some e) [] h may = absurd h
@@ -275,8 +275,8 @@ run_shown T ls cs o text round s h may = by o ls h may
 
 pub open_same : (m : Message ℕ) (old new : Content) (ls : List (Level ℕ)) → new.text ≡ old.text → new.innermost ≡ old.innermost → new.round ≡ old.round → IsOpen old m ls → IsOpen new m ls
 open_same m old new ls t i r h =
-    subst (λ (x : Option OpenText). Stands m x new.innermost new.round.items ls) (sym t)
-    (subst (λ (x : Option Opened). Stands m old.text x new.round.items ls) (sym i) (subst (λ (x : List Opened). Stands m old.text old.innermost x ls) (sym (ap (λ v. v.items) r)) h))
+    subst (λ (x : Option OpenText). StandsOpen m x new.innermost new.round.items ls) (sym t)
+    (subst (λ (x : Option Opened). StandsOpen m old.text x new.round.items ls) (sym i) (subst (λ (x : List Opened). StandsOpen m old.text old.innermost x ls) (sym (ap (λ v. v.items) r)) h))
 
 -- ---- several events
 
@@ -302,7 +302,7 @@ pub built_still : (T : Tables) (items : List Item) (a b : Option PiecesKept) →
 built_still T items a b e h = subst (λ (x : Option PiecesKept). IsBuilt x T items) (sym e) h
 
 -- a run of characters
-pub run_goes_on : (T : Tables) (ls : List (Level ℕ)) (cs : List ℕ) (o : Option Opened) (text : Option OpenText) (round : List Opened) (a b : Option PiecesKept) → b ≡ a → Stands (message_of T) text o round ls → IsNoForeign o → GoOn a b (EventsShow T ls (map (λ c. Char c) cs))
+pub run_goes_on : (T : Tables) (ls : List (Level ℕ)) (cs : List ℕ) (o : Option Opened) (text : Option OpenText) (round : List Opened) (a b : Option PiecesKept) → b ≡ a → StandsOpen (message_of T) text o round ls → IsNoForeign o → GoOn a b (EventsShow T ls (map (λ c. Char c) cs))
 run_goes_on T ls cs o text round a b e h may = subst (λ (x : Option PiecesKept). GoOn a x (EventsShow T ls (map (λ c. Char c) cs))) (sym e) (by a)
   where
     by : (a : Option PiecesKept) → GoOn a a (EventsShow T ls (map (λ c. Char c) cs))
@@ -318,11 +318,11 @@ foreign_run T ls (c ∷ cs) s = (
   subst (λ (is : List Item). EventsShow T (Foreign ∷ ls) (map (λ c. Char c) cs) (with_inside (Char c) s) (record { edges = s.edges; inside = is; pieces = s.pieces })) (append_assoc s.inside (Char c ∷ []) (map (λ c. Char c) cs)) (foreign_run T ls cs (with_inside (Char c) s)),
 )
 
-pub run_kept : (T : Tables) (ls : List (Level ℕ)) (cs : List ℕ) (o : Option Opened) (text : Option OpenText) (round : List Opened) (a b : Option PiecesKept) → Stands (message_of T) text o round ls → o ≡ Some opened.Foreign → GoOn a b (λ s t. t ≡ with_all_inside (map (λ c. Char c) cs) s)
+pub run_kept : (T : Tables) (ls : List (Level ℕ)) (cs : List ℕ) (o : Option Opened) (text : Option OpenText) (round : List Opened) (a b : Option PiecesKept) → StandsOpen (message_of T) text o round ls → o ≡ Some opened.Foreign → GoOn a b (λ s t. t ≡ with_all_inside (map (λ c. Char c) cs) s)
     → GoOn a b (EventsShow T ls (map (λ c. Char c) cs))
-run_kept T ls cs o text round a b h is go = by ls (subst (λ (x : Option Opened). Stands (message_of T) text x round ls) is h)
+run_kept T ls cs o text round a b h is go = by ls (subst (λ (x : Option Opened). StandsOpen (message_of T) text x round ls) is h)
   where
-    by : (ls : List (Level ℕ)) → Stands (message_of T) text (Some opened.Foreign) round ls → GoOn a b (EventsShow T ls (map (λ c. Char c) cs))
+    by : (ls : List (Level ℕ)) → StandsOpen (message_of T) text (Some opened.Foreign) round ls → GoOn a b (EventsShow T ls (map (λ c. Char c) cs))
     by [] h = absurd h
     by (Foreign ∷ ls) h = go_as {R = λ s t. t ≡ with_all_inside (map (λ c. Char c) cs) s} {S = EventsShow T (Foreign ∷ ls) (map (λ c. Char c) cs)} a b
         (λ s t e. subst (λ (x : Shown). EventsShow T (Foreign ∷ ls) (map (λ c. Char c) cs) s x) (sym e) (foreign_run T ls cs s)) go
@@ -331,7 +331,7 @@ run_kept T ls cs o text round a b h is go = by ls (subst (λ (x : Option Opened)
     by (Envelope has ∷ ls) h = absurd h.0
 
 -- pieces are kept from the start
-pub built_first : (T : Tables) (a : Option PiecesKept) → KeepsShown a nothing_shown → IsBuilt a T []
+pub built_first : (T : Tables) (a : Option PiecesKept) → KeepsSomeShown a nothing_shown → IsBuilt a T []
 built_first T None h = absurd h
 built_first T (Some p) h = (nothing_shown, refl, h)
 

@@ -13,13 +13,13 @@ use Rattle.respell.specs.Kept.{opened_by, IsInDefault}
 use Rattle.respell.proofs.KeptLemmas.{opened-append}
 use Rattle.message_model.specs.Message.{Message}
 use Rattle.message_model.specs.Tables.{Tables, message_of}
-use Rattle.xml_instances.specs.Levels.{Level, Parent, Leaf, Envelope, Foreign, begun, with_char, levels_after, levels_over, form_of_start, round_start, path_in}
+use Rattle.xml_instances.specs.Levels.{Level, Parent, Leaf, Envelope, Foreign, begun_level, with_char, levels_after, levels_over, form_of_start, round_start, path_in}
 use Rattle.xml_instances.specs.EventFaults.{EventFault, AreFine, AttributeFault, place_fault, next_fault}
 use Rattle.xml_instances.specs.XmlFaults.{items_told}
-use Rattle.xml_instances.specs.Built.{Shown, nothing_shown, with_inside, with_begun, closed, closed_at, edge_of_start, CodeShown, ShowsBeside, EventShows, EventsShow}
+use Rattle.xml_instances.specs.Built.{Shown, nothing_shown, with_inside, with_begun, close_shown, closed_at, edge_of_start, CodeShown, ShowsBeside, EventShows, EventsShow}
 use Rattle.data_types.specs.Value.{Edge}
 use Rattle.xml_instances.specs.Keeping.{PiecesKept, IsBuilt, MayShow, MayShowName}
-use Rattle.xml_instances.specs.Open.{Stands}
+use Rattle.xml_instances.specs.Open.{StandsOpen}
 use Rattle.xml_instances.specs.declared.content.OpenText.{OpenText}
 use Rattle.xml_instances.specs.declared.opened.Opened.{Opened}
 use Rattle.xml_instances.specs.declared.opened.Opened.TheVariants as opened
@@ -76,7 +76,7 @@ closed_inside : (es : List Edge) (s : Shown) → (closed_at es s).inside ≡ s.i
 closed_inside [] s = refl
 closed_inside (e ∷ es) s = refl
 
-ended_inside : (s t u : Shown) → t ≡ closed u → t.inside ≡ u.inside
+ended_inside : (s t u : Shown) → t ≡ close_shown u → t.inside ≡ u.inside
 ended_inside s t u e = ap (λ v. v.inside) e ∙ closed_inside u.edges u
 
 -- ---- the names of those that are open
@@ -91,7 +91,7 @@ same_within ls ns s t e h = subst (λ (is : List Item). AreWithin ls ns (opened_
 one_inside : (s : Shown) (item : Item) → opened_by [] (s.inside ++ item ∷ []) ≡ open_after (opened_by [] s.inside) item
 one_inside s item = opened-append [] s.inside (item ∷ [])
 
-begun_within : (f : Form ℕ Simple) (ls : List (Level ℕ)) (n : Expanded) (ns inside : List Expanded) → inside ≡ [] → NoneWithin ls ns → AreWithin (begun f ∷ ls) (n ∷ ns) inside
+begun_within : (f : Form ℕ Simple) (ls : List (Level ℕ)) (n : Expanded) (ns inside : List Expanded) → inside ≡ [] → NoneWithin ls ns → AreWithin (begun_level f ∷ ls) (n ∷ ns) inside
 begun_within (form.Sequence fs) ls n ns inside e h = (e, h)
 begun_within (form.Choice fs) ls n ns inside e h = (e, h)
 begun_within (form.Simple simple) ls n ns inside e h = (e, h)
@@ -171,7 +171,7 @@ within_over T ls [] s t ns fine h x = same_within ls ns s t (ap (λ v. v.inside)
 within_over T ls (e ∷ es) s t ns fine h (u, x, more) = within_over T (levels_after (message_of T) ls e.item) es u t (open_after ns e.item) fine.1 (within_after T ls e.item s u ns fine.0 h x) more
 
 -- the innermost element that is open inside is that which is open
-innermost_within : (T : Tables) (text : Option OpenText) (round : List Opened) (ls : List (Level ℕ)) (ns inside : List Expanded) → Stands (message_of T) text (Some opened.Foreign) round ls → AreWithin ls ns inside → innermost_namespace inside ≡ innermost_namespace ns
+innermost_within : (T : Tables) (text : Option OpenText) (round : List Opened) (ls : List (Level ℕ)) (ns inside : List Expanded) → StandsOpen (message_of T) text (Some opened.Foreign) round ls → AreWithin ls ns inside → innermost_namespace inside ≡ innermost_namespace ns
 innermost_within T text round [] ns inside o h = absurd o
 innermost_within T text round (Parent f d ∷ ls) ns inside o h = absurd o.0
 innermost_within T text round (Leaf simple t ∷ ls) ns inside o h = absurd o.0
@@ -180,7 +180,7 @@ innermost_within T text round (Foreign ∷ ls) [] inside o h = absurd h
 innermost_within T text round (Foreign ∷ ls) (n ∷ ns) inside o (more, e, h) = ap innermost_namespace e
 
 -- a name in the namespace of the innermost element, behind events that break no rule
-pub may_show_name : (T : Tables) (told : List Placed) (local : List ℕ) (text : Option OpenText) (round : List Opened) (o : Option Opened) (p : Option PiecesKept) → AreFine (message_of T) [] (items_told told) → Stands (message_of T) text o round (levels_over (message_of T) [] (items_told told))
+pub may_show_name : (T : Tables) (told : List Placed) (local : List ℕ) (text : Option OpenText) (round : List Opened) (o : Option Opened) (p : Option PiecesKept) → AreFine (message_of T) [] (items_told told) → StandsOpen (message_of T) text o round (levels_over (message_of T) [] (items_told told))
     → IsBuilt p T (items_told told) → MayShow p o → MayShowName p o (name_behind told local)
 may_show_name T told local text round o None fine h built may = tt
 may_show_name T told local text round None (Some p) fine h built may = tt

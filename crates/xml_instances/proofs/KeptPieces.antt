@@ -8,15 +8,15 @@ use Rattle.lexical_core.specs.Tree as tree
 use Rattle.respell.specs.Respelling.{told_of, AreOf}
 use Rattle.data_types.specs.Leaf as leaf
 use Rattle.data_types.specs.Value.{Edge, Piece, Begins, Holds, Ends}
-use Rattle.inst_pool.specs.Pieces.{open_in, open_behind}
-use Rattle.respell.specs.Kept.{HasTaken}
+use Rattle.inst_pool.specs.Pieces.{open_in, edges_open_behind}
+use Rattle.respell.specs.Kept.{HasTakenItems}
 use Rattle.respell.specs.declared.respell.Respell.{Respell}
-use Rattle.xml_instances.specs.Built.{Shown, type_at, with_begun, with_leaf, without_inside, closed, closed_at}
+use Rattle.xml_instances.specs.Built.{Shown, type_at, with_begun, with_leaf, without_inside, close_shown, closed_at}
 use Rattle.xml_instances.specs.Keeping.{PiecesKept, HasShown, GoOn, with_all_inside}
 
 -- ---- the open elements behind more pieces
 
-open-append : (outer : List Edge) (a b : List Piece) → open_behind outer (a ++ b) ≡ open_behind (open_behind outer a) b
+open-append : (outer : List Edge) (a b : List Piece) → edges_open_behind outer (a ++ b) ≡ edges_open_behind (edges_open_behind outer a) b
 open-append outer [] b = refl
 open-append outer (Begins e ∷ a) b = open-append (e ∷ outer) a b
 open-append outer (Holds l ∷ a) b = open-append outer a b
@@ -67,7 +67,7 @@ pub closed_types : (o : Option ℕ) (n k : ℕ) (types new : List ℕ) (pieces m
 closed_types o n k types new pieces more e outer is_open known split counted front appended = by o split counted
   where
     here : types_in more ≡ map (λ (e : Edge). e.target) outer
-    here = ap types_in appended ∙ (ap (map (λ (e : Edge). e.target)) (open-append [] pieces (Ends e ∷ [])) ∙ ap (λ (es : List Edge). map (λ (e : Edge). e.target) (open_behind es (Ends e ∷ []))) is_open)
+    here = ap types_in appended ∙ (ap (map (λ (e : Edge). e.target)) (open-append [] pieces (Ends e ∷ [])) ∙ ap (λ (es : List Edge). map (λ (e : Edge). e.target) (edges_open_behind es (Ends e ∷ []))) is_open)
 
     listed : e.target ∷ map (λ (e : Edge). e.target) outer ≡ reverse types
     listed = sym (ap (map (λ (e : Edge). e.target)) is_open) ∙ known
@@ -82,21 +82,21 @@ closed_types o n k types new pieces more e outer is_open known split counted fro
     by (Some x) split counted = here ∙ tails e.target x (map (λ (e : Edge). e.target) outer) (reverse new) (listed ∙ (ap reverse split ∙ reverse-append new (x ∷ [])))
     by None split counted = none_open (listed ∙ ap reverse (split ∙ (append-nil new ∙ (front ∙ ap (λ v. take (v - 1) types) counted.0))))
 
-pub closed_shown : (old : PiecesKept) (s : Shown) (more : List Piece) (e : Edge) (outer : List Edge) → HasShown old s → open_in old.pieces ≡ e ∷ outer → more ≡ old.pieces ++ Ends e ∷ [] → HasShown (kept_as more old.element) (closed s)
+pub closed_shown : (old : PiecesKept) (s : Shown) (more : List Piece) (e : Edge) (outer : List Edge) → HasShown old s → open_in old.pieces ≡ e ∷ outer → more ≡ old.pieces ++ Ends e ∷ [] → HasShown (kept_as more old.element) (close_shown s)
 closed_shown old s more e outer h is_open appended = subst (λ (es : List Edge). HasShown (kept_as more old.element) (closed_at es s)) (sym is_open ∙ h.open_are) (record {
   pieces_are = appended ∙ ap (λ (ps : List Piece). ps ++ Ends e ∷ []) h.pieces_are;
-  open_are = ap open_in appended ∙ (open-append [] old.pieces (Ends e ∷ []) ∙ ap (λ (es : List Edge). open_behind es (Ends e ∷ [])) is_open);
+  open_are = ap open_in appended ∙ (open-append [] old.pieces (Ends e ∷ []) ∙ ap (λ (es : List Edge). edges_open_behind es (Ends e ∷ [])) is_open);
   inside_are = h.inside_are;
 })
 
 -- where none is open, nothing ends
-pub still_closed : (old : PiecesKept) (s : Shown) → HasShown old s → open_in old.pieces ≡ [] → HasShown old (closed s)
+pub still_closed : (old : PiecesKept) (s : Shown) → HasShown old s → open_in old.pieces ≡ [] → HasShown old (close_shown s)
 still_closed old s h is_open = subst (λ (es : List Edge). HasShown old (closed_at es s)) (sym is_open ∙ h.open_are) (same s.edges (sym h.open_are ∙ is_open))
   where
     same : (es : List Edge) → es ≡ [] → HasShown old (closed_at [] s)
     same es e = h
 
-pub envelope_shown : (old : PiecesKept) (s : Shown) (bytes : List ℕ) (more : List Piece) (element : Respell) → HasShown old s → HasTaken element [] → more ≡ old.pieces ++ Holds (leaf.Bytes bytes) ∷ []
+pub envelope_shown : (old : PiecesKept) (s : Shown) (bytes : List ℕ) (more : List Piece) (element : Respell) → HasShown old s → HasTakenItems element [] → more ≡ old.pieces ++ Holds (leaf.Bytes bytes) ∷ []
     → HasShown (kept_as more element) (without_inside (with_leaf (leaf.Bytes bytes) s))
 envelope_shown old s bytes more element h empty appended = record {
   pieces_are = appended ∙ ap (λ (ps : List Piece). ps ++ Holds (leaf.Bytes bytes) ∷ []) h.pieces_are;
@@ -105,7 +105,7 @@ envelope_shown old s bytes more element h empty appended = record {
 }
 
 -- events of the element of an envelope
-pub inside_ok : {T E : Type 0} (old : PiecesKept) (s : Shown) (items : List Item) (element : Respell) (r : Result T E) → HasShown old s → OnOk r (HasTaken element (s.inside ++ items)) → OnOk r (HasShown (kept_as old.pieces element) (with_all_inside items s))
+pub inside_ok : {T E : Type 0} (old : PiecesKept) (s : Shown) (items : List Item) (element : Respell) (r : Result T E) → HasShown old s → OnOk r (HasTakenItems element (s.inside ++ items)) → OnOk r (HasShown (kept_as old.pieces element) (with_all_inside items s))
 inside_ok old s items element (Ok x) h taken = record { pieces_are = h.pieces_are; open_are = h.open_are; inside_are = taken }
 inside_ok old s items element (Err e) h taken = tt
 

@@ -10,8 +10,8 @@ use Rattle.markup.specs.declared.tag.Spelled.{Spelled}
 use Rattle.markup.specs.Chars.{is_space}
 use Rattle.markup.specs.Token.{Token, Mark, Declaration, Comment, Instruction, Opener, Closer, TypeDeclaration, Start, End, Refer, LineEnd, Character}
 use Rattle.markup.specs.Marks.{in_cdata, tag_limit}
-use Rattle.markup.specs.Events.{opening, spelled, open_tags, element_name}
-use Rattle.markup.specs.Faults.{rule_of, start_rule, end_rule, outside_rule, is_outside, is_over, has_clash, is_bad_attribute, behind_brackets, Stops, no_char, bad_char, stuck, is_in_reference, Next, broken, halts, cut, too_long}
+use Rattle.markup.specs.Events.{opening, spelled_name, open_tags, element_name}
+use Rattle.markup.specs.Faults.{rule_of, start_rule, end_rule, outside_rule, is_outside, is_over, has_clash, is_bad_attribute, behind_brackets, TokenStops, no_char, bad_char, stuck, is_in_reference, Next, broken, halts, cut, too_long}
 
 abbrev IsOfMarkup : Option Rule → Type 0
 IsOfMarkup None = Unit {0}
@@ -42,7 +42,7 @@ token_low before Opener = outside_low before
 token_low before Closer = tt
 token_low before TypeDeclaration = omega arith
 token_low before (Start tag) = start_low (is_over before) (open_tags before) (opening tag)
-token_low before (End name gap) = end_low (open_tags before) (spelled name)
+token_low before (End name gap) = end_low (open_tags before) (spelled_name name)
 token_low before (Refer reference) = outside_low before
 token_low before (LineEnd line) = tt
 token_low before (Character c) = one_of (c == 62 && not (in_cdata before) && behind_brackets before) (Some BadMarkup) _ (omega arith)
@@ -52,7 +52,7 @@ stuck_low : (b : Bool) → number_of (if b then BadReference else BadMarkup) ≤
 stuck_low true = omega arith
 stuck_low false = omega arith
 
-stops_low : (before : List Token) (chars tail : List ℕ) (rule : Rule) (shown : ℕ) → Stops before chars tail rule shown → number_of rule ≤ 11
+stops_low : (before : List Token) (chars tail : List ℕ) (rule : Rule) (shown : ℕ) → TokenStops before chars tail rule shown → number_of rule ≤ 11
 stops_low before chars tail rule shown (no_char p x b e f n r s) = rw r (omega arith)
 stops_low before chars tail rule shown (bad_char c x e s n r h) = rw r (omega arith)
 stops_low before chars tail rule shown (stuck c x e s n r h) = rw r (stuck_low (is_in_reference chars))

@@ -9,16 +9,16 @@ use Rattle.lexical_core.specs.Tree.{Expanded, Entry, Item, Starts, Char, Ends, S
 use Rattle.markup.specs.Chars.{is_space}
 use Rattle.markup.proofs.NoCut.{is_cut_rule}
 use Rattle.facets.specs.declared.simple.Simple.{Simple}
-use Rattle.facets.specs.Rules.{Breaks}
+use Rattle.facets.specs.Rules.{BreaksLeafRule}
 use Rattle.reference_check.specs.Forms.{Form}
 use Rattle.reference_check.specs.Forms as form
 use Rattle.reference_check.specs.Steps as step
-use Rattle.reference_check.specs.Steps.{Next, End, next, end_after}
-use Rattle.message_model.specs.Writes.{named, currency, value_of}
+use Rattle.reference_check.specs.Steps.{NextSlot, EndOfSlots, next, end_after}
+use Rattle.message_model.specs.Writes.{name_in_namespace, currency, value_of}
 use Rattle.lexical_core.specs.Names.{same_name}
 use Rattle.message_model.specs.Message.{Message}
 use Rattle.xml_instances.specs.Levels.{Level, Parent, Leaf, Envelope, Foreign, form_of_start, round_start, path_in}
-use Rattle.xml_instances.specs.EventFaults.{Broken, broken, Unless, next_fault, place_fault, is_known, LeafFault, CodeFault, CurrencyFault, RequiredFault, unknown_fault, AttributeFault, end_fault, EndFault, is_bare, space_fault, char_fault, EventFault}
+use Rattle.xml_instances.specs.EventFaults.{Broken, broken_rule, Unless, next_fault, place_fault, is_known, LeafFault, CodeFault, CurrencyFault, RequiredFault, unknown_fault, AttributeFault, end_fault, EndFault, is_bare, space_fault, char_fault, EventFault}
 
 abbrev NoCut : Option Broken → Type 0
 NoCut None = Unit {0}
@@ -37,10 +37,10 @@ unless_no_cut (Some b) Other o p q h = same_no_cut o (Some b) h p
 unless_no_cut None Other o p q h = q h
 
 space_no_cut : (fits : Bool) (path : List ℕ) → NoCut (space_fault fits path)
-space_no_cut fits path = no_cut_if fits None (broken TextInComplex path) tt refl
+space_no_cut fits path = no_cut_if fits None (broken_rule TextInComplex path) tt refl
 
 module _ {P : Type 0} where
-  next_no_cut : (path : List ℕ) (f : Form P Simple) (n : Next) → NoCut (next_fault path f n)
+  next_no_cut : (path : List ℕ) (f : Form P Simple) (n : NextSlot) → NoCut (next_fault path f n)
   next_no_cut path f (step.Slotted k) = tt
   next_no_cut path f step.Unknown = refl
   next_no_cut path f step.OutOfOrder = refl
@@ -49,18 +49,18 @@ module _ {P : Type 0} where
   next_no_cut path f step.Second = refl
 
   place_no_cut : (m : Message P) (ls : List (Level P)) (n : Expanded) → NoCut (place_fault m ls n)
-  place_no_cut m [] n = no_cut_if (same_name n (named m.namespace (codes "Document"))) None (broken WrongRoot (codes "/")) tt refl
+  place_no_cut m [] n = no_cut_if (same_name n (name_in_namespace m.namespace (codes "Document"))) None (broken_rule WrongRoot (codes "/")) tt refl
   place_no_cut m (Parent f d ∷ ls) n =
-      no_cut_if (bytes_eq n.namespace m.namespace) (next_fault (path_in ls) f (next f d n.local)) (broken UnknownElement (path_in ls)) (next_no_cut (path_in ls) f (next f d n.local)) refl
+      no_cut_if (bytes_eq n.namespace m.namespace) (next_fault (path_in ls) f (next f d n.local)) (broken_rule UnknownElement (path_in ls)) (next_no_cut (path_in ls) f (next f d n.local)) refl
   place_no_cut m (Leaf simple text ∷ ls) n = refl
   place_no_cut m (Envelope true ∷ ls) n = refl
   place_no_cut m (Envelope false ∷ ls) n = tt
   place_no_cut m (Foreign ∷ ls) n = tt
 
-breaks_no_cut : (simple : Simple) (text : List ℕ) (rule : Rule) → Breaks simple text rule → is_cut_rule rule ≡ false
+breaks_no_cut : (simple : Simple) (text : List ℕ) (rule : Rule) → BreaksLeafRule simple text rule → is_cut_rule rule ≡ false
 breaks_no_cut simple text rule h = by rule h
   where
-    by : (rule : Rule) → Breaks simple text rule → is_cut_rule rule ≡ false
+    by : (rule : Rule) → BreaksLeafRule simple text rule → is_cut_rule rule ≡ false
     by Truncated h = absurd h
     by _ h = refl
 
@@ -84,9 +84,9 @@ module _ {P : Type 0} where
   attribute_no_cut : (m : Message P) (f : Option (Form P Simple)) (attributes : List Entry) (path : List ℕ) (o : Option Broken) → AttributeFault m f attributes path o → NoCut o
   attribute_no_cut m None attributes path o h = same_no_cut o None h tt
   attribute_no_cut m (Some f) attributes path o h =
-      unless_no_cut (unknown_fault f attributes path) (RequiredFault m f attributes path) o (no_cut_if (list_any (λ a. not (is_known f a)) attributes) (broken UnknownAttribute path) None refl tt) (required_no_cut m f attributes path o) h
+      unless_no_cut (unknown_fault f attributes path) (RequiredFault m f attributes path) o (no_cut_if (list_any (λ a. not (is_known f a)) attributes) (broken_rule UnknownAttribute path) None refl tt) (required_no_cut m f attributes path o) h
 
-  end_no_cut : (path : List ℕ) (f : Form P Simple) (e : End) → NoCut (end_fault path f e)
+  end_no_cut : (path : List ℕ) (f : Form P Simple) (e : EndOfSlots) → NoCut (end_fault path f e)
   end_no_cut path f step.Fine = tt
   end_no_cut path f (step.Lacks k) = refl
   end_no_cut path f step.NoAlternative = refl

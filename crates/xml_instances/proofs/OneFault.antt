@@ -16,7 +16,7 @@ use Rattle.message_model.specs.Writes.{currency, value_of}
 use Rattle.message_model.specs.Message.{Message}
 use Rattle.xml_instances.specs.Levels.{Level, Parent, Leaf as LeafLevel, Envelope, Foreign, levels_after, levels_over, form_of_start, round_start, path_in}
 use Rattle.xml_instances.specs.EventFaults.{Broken, EventFault, AreFine, FirstFault, Unless, AttributeFault, RequiredFault, CurrencyFault, CodeFault, LeafFault, EndFault, place_fault, unknown_fault}
-use Rattle.xml_instances.specs.XmlFaults.{NextFault, markup, content, Fault, XmlFault}
+use Rattle.xml_instances.specs.XmlFaults.{NextFault, markup, content, FaultInXml, XmlFault}
 use Rattle.respell.proofs.Runs.{behind, items_in}
 use Rattle.xml_instances.proofs.Whole.{reversed, items_are}
 
@@ -155,7 +155,7 @@ module _ {P : Type 0} (m : Message P) (first_rule : (s : Simple) (w : List ℕ) 
             let s : (b ≡ c) × (length (flat_map token_bytes ts) + i ≡ length (flat_map token_bytes us) + j) = later k' in
             (s.0, count t u ts us i j e s.1)
 
-    behind_of : (bytes : List ℕ) (f : Fault) (h : XmlFault m bytes f) → Behind [] [] bytes h.tokens h.rest f.broken h.at
+    behind_of : (bytes : List ℕ) (f : FaultInXml) (h : XmlFault m bytes f) → Behind [] [] bytes h.tokens h.rest f.broken h.at
     behind_of bytes f h = record {
       front = h.front;
       clean = h.clean;
@@ -164,10 +164,10 @@ module _ {P : Type 0} (m : Message P) (first_rule : (s : Simple) (w : List ℕ) 
           (subst (λ (x : List Item). NextFault m (reverse h.tokens) (levels_over m [] x) h.rest f.broken h.at) (items_are h.tokens) h.next);
     }
 
-    fault_same : (b c : Broken) (p q : ℕ) → b ≡ c → p ≡ q → ◌≡◌ {A = Fault} (record { broken = b; place = p }) (record { broken = c; place = q })
+    fault_same : (b c : Broken) (p q : ℕ) → b ≡ c → p ≡ q → ◌≡◌ {A = FaultInXml} (record { broken = b; place = p }) (record { broken = c; place = q })
     fault_same b c p q e f = cc
 
-    pub one_fault : (bytes : List ℕ) (f g : Fault) → XmlFault m bytes f → XmlFault m bytes g → f ≡ g
+    pub one_fault : (bytes : List ℕ) (f g : FaultInXml) → XmlFault m bytes f → XmlFault m bytes g → f ≡ g
     one_fault bytes f g h k =
         let s : (f.broken ≡ g.broken) × (length (flat_map token_bytes h.tokens) + h.at ≡ length (flat_map token_bytes k.tokens) + k.at) =
         same_from [] [] bytes h.tokens k.tokens h.rest k.rest f.broken g.broken h.at k.at (behind_of bytes f h) (behind_of bytes g k) in
@@ -193,5 +193,5 @@ module _ {P : Type 0} (m : Message P) (first_rule : (s : Simple) (w : List ℕ) 
               later (subst (λ (v : Token). Behind (v ∷ before) (levels_over m ls (items_of before v)) f.0 us y c j) (sym e)
               (subst (λ (v : List ℕ). Behind (u ∷ before) (levels_over m ls (items_of before u)) v us y c j) (sym g) (tail before ls bytes u us y c j k)))
 
-      pub fine_has_none : (bytes : List ℕ) (ts : List Token) (f : Fault) → Front tag_limit [] bytes ts [] → IsClean [] ts → is_over (behind [] ts) ≡ true → AreFine m [] (items_in [] ts) → XmlFault m bytes f → ⊥
+      pub fine_has_none : (bytes : List ℕ) (ts : List Token) (f : FaultInXml) → Front tag_limit [] bytes ts [] → IsClean [] ts → is_over (behind [] ts) ≡ true → AreFine m [] (items_in [] ts) → XmlFault m bytes f → ⊥
       fine_has_none bytes ts f front clean over fine h = none_from [] [] bytes ts h.tokens h.rest f.broken h.at front clean over fine (behind_of bytes f h)

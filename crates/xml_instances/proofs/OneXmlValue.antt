@@ -2,7 +2,7 @@
 use Rattle.std.proofs.Common.{◌≡◌, ℕ, Bool, true, false, List, [], ◌∷◌, ◌++◌, Option, Some, None, refl, sym, ap, ap₂, ◌∙◌, subst, arith, append-nil}
 use Rattle.std.specs.Prelude.{slice_get, length, reverse, Result, Ok, Err}
 use Rattle.std.specs.Str.{chars}
-use Rattle.lexical_core.specs.Tree.{Expanded, Entry, Nodes, Element, Text, Tree, Item, TreeIs, flat, counted}
+use Rattle.lexical_core.specs.Tree.{Expanded, Entry, Nodes, Element, Text, Tree, Item, TreeIs, flat, tree_items}
 use Rattle.lexical_core.specs.Tree as tree
 use Rattle.lexical_core.specs.Decimals.{Number}
 use Rattle.lexical_core.specs.Characters.{IsSpace}
@@ -20,7 +20,7 @@ use Rattle.reference_check.specs.Steps.{find_slot}
 use Rattle.message_model.specs.Admits.{AdmitsAs, AdmitsChildren, FitsCode}
 use Rattle.message_model.specs.Message.{Message}
 use Rattle.message_model.specs.Sound.{AreSound, HaveSortedCodes}
-use Rattle.message_model.specs.Writes.{named, currency, value_of, HasCurrency, SpellsCode, WritesAttributes, text_nodes, SpellsText, IsBlank, Wraps, MayHold, WritesContent, WritesLeaf}
+use Rattle.message_model.specs.Writes.{name_in_namespace, currency, value_of, HasCurrency, SpellsCode, WritesAttributes, text_nodes, SpellsText, IsBlank, Wraps, MayHold, WritesContent, WritesLeaf}
 use Rattle.xml_instances.specs.SpellsXml.{SpellsXml, IsInstance}
 use Rattle.xml_instances.specs.XmlFaults.{items}
 use Rattle.lexical_core.proofs.SameTrees.{same_tree}
@@ -177,5 +177,5 @@ module _ (one : OneLeaf) (m : Message ℕ) (sound : AreSound m.forms) (sorted : 
   pub one_spelled : OneMarking → (bytes : List ℕ) (v w : Value) → SpellsXml m bytes v → SpellsXml m bytes w → v ≡ w
   one_spelled one_marking bytes v w s r =
       let tokens_are : s.tokens ≡ r.tokens = one_marking bytes s.tokens r.tokens s.marks r.marks in
-      let trees_are : r.tree ≡ s.tree = same_tree r.tree s.tree [] (append-nil (flat r.tree) ∙ (sym r.tree_is ∙ (ap (λ x. counted 0 (items x)) (sym tokens_are) ∙ s.tree_is))) in
+      let trees_are : r.tree ≡ s.tree = same_tree r.tree s.tree [] (append-nil (flat r.tree) ∙ (sym r.tree_is ∙ (ap (λ x. tree_items 0 (items x)) (sym tokens_are) ∙ s.tree_is))) in
       tree_same v w s.tree s.instance (subst (λ x. IsInstance m w x) trees_are r.instance)

@@ -12,12 +12,12 @@ use Rattle.facets.specs.declared.simple.Simple.{Simple}
 use Rattle.facets.specs.LeafUnder.{GivesLeaf}
 use Rattle.reference_check.specs.Forms.{Graph, Form, form_slots}
 use Rattle.reference_check.specs.Forms as form
-use Rattle.reference_check.specs.Words.{IsWord}
+use Rattle.reference_check.specs.Words.{IsWordOf}
 use Rattle.reference_check.specs.Steps.{Fine, next, end_after, CameAfter, Came}
 use Rattle.reference_check.specs.Shapes.{Shape, Component, OpenLeaf, Shapes, Nothing, Child, HasShape, HaveShapes, numbers_in}
-use Rattle.message_model.specs.Writes.{named, currency, value_of, SpellsCode, text_nodes, IsBlank, Wraps, MayHold}
+use Rattle.message_model.specs.Writes.{name_in_namespace, currency, value_of, SpellsCode, text_nodes, IsBlank, Wraps, MayHold}
 use Rattle.message_model.specs.Message.{Message}
-use Rattle.xml_instances.specs.Levels.{Level, Parent, Leaf, Envelope, Foreign, begun, path_in, form_of_start, round_start}
+use Rattle.xml_instances.specs.Levels.{Level, Parent, Leaf, Envelope, Foreign, begun_level, path_in, form_of_start, round_start}
 use Rattle.xml_instances.specs.EventFaults.{Broken, AttributeFault, RequiredFault, next_fault, unknown_fault, is_bare}
 use Rattle.xml_instances.specs.OpenInstances.{AreKnown, TextSoFar, LeafSoFar, ContentSoFar, IsSoFar}
 use Rattle.xml_instances.proofs.Accepts.{Comes, comes, no_fault, space_of, space_in, bare_in, not_bare, name_in, unless_in, if_in, if_else, hints_of, holds_in, money_in, currency_in}
@@ -25,9 +25,9 @@ use Rattle.xml_instances.proofs.Following.{MayFollow}
 use Rattle.xml_instances.proofs.OpenRuns.{element_size}
 
 module _ {P : Type 0} (m : Message P)
-    (whole : (p : P) (d : List ℕ) → Came (m.forms p) d → end_after (m.forms p) d ≡ Fine → IsWord (m.forms p) d) where
-  whole_of : (p : P) (f : Form P Simple) (d : List ℕ) → m.forms p ≡ f → Came f d → end_after f d ≡ Fine → IsWord f d
-  whole_of p f d at = subst (λ (f : Form P Simple). Came f d → end_after f d ≡ Fine → IsWord f d) at (whole p d)
+    (whole : (p : P) (d : List ℕ) → Came (m.forms p) d → end_after (m.forms p) d ≡ Fine → IsWordOf (m.forms p) d) where
+  whole_of : (p : P) (f : Form P Simple) (d : List ℕ) → m.forms p ≡ f → Came f d → end_after f d ≡ Fine → IsWordOf f d
+  whole_of p f d at = subst (λ (f : Form P Simple). Came f d → end_after f d ≡ Fine → IsWordOf f d) at (whole p d)
 
   -- the events behind those of an element, of which so many have come
   abbrev pub Behind : ℕ → ℕ → List (Level P) → List Item → Type 0
@@ -104,7 +104,7 @@ module _ {P : Type 0} (m : Message P)
   text_is come s nodes above rest (w, e, fits, b) = ((w, e, fits), b)
 
   element_so : (come : ℕ) (nodes : Nodes) (p : P) (f : Form P Simple) (n : Expanded) (above : List (Level P)) (rest : List Item) → ChildrenSo nodes → m.forms p ≡ f
-      → MayFollow m come (begun f ∷ above) (flat_nodes nodes ++ (Ends n ∷ rest)) → ElementOf come f nodes above rest
+      → MayFollow m come (begun_level f ∷ above) (flat_nodes nodes ++ (Ends n ∷ rest)) → ElementOf come f nodes above rest
   element_so come nodes p (form.Sequence fs) n above rest children at h = of_children (children come p (form.Sequence fs) [] n above rest at h)
     where
       of_children : ChildrenOf come (form.Sequence fs) [] nodes above rest → ElementOf come (form.Sequence fs) nodes above rest
@@ -135,7 +135,7 @@ module _ {P : Type 0} (m : Message P)
   -- an element of a slot begins
   abbrev pub StartedSo : ℕ → (f : Form P Simple) (before : List ℕ) (n : Expanded) (attributes : List Entry) (above : List (Level P)) (items : List Item) → Comes f before n.local → Type 0
   StartedSo come f before n attributes above items c =
-      (0 < come → AreKnown m.forms (m.forms c.1.target) attributes) × MayFollow m (come - 1) (begun (m.forms c.1.target) ∷ Parent f (before ++ c.0 ∷ []) ∷ above) items
+      (0 < come → AreKnown m.forms (m.forms c.1.target) attributes) × MayFollow m (come - 1) (begun_level (m.forms c.1.target) ∷ Parent f (before ++ c.0 ∷ []) ∷ above) items
 
   start_so : (come : ℕ) (f : Form P Simple) (before : List ℕ) (n : Expanded) (attributes : List Entry) (above : List (Level P)) (items : List Item) → MayFollow m come (Parent f before ∷ above) (Starts n attributes ∷ items)
       → (n.namespace ≡ m.namespace) × ((c : Comes f before n.local) × StartedSo come f before n attributes above items c)
@@ -146,7 +146,7 @@ module _ {P : Type 0} (m : Message P)
       of_comes : (0 < come → AttributeFault m (form_of_start m (Parent f before ∷ above) n) attributes (path_in (round_start (Parent f before ∷ above) n)) None) → Comes f before n.local → (c : Comes f before n.local) × StartedSo come f before n attributes above items c
       of_comes known (k, s, found, tag, fine, slotted) = ((k, s, found, tag, fine, slotted), ((λ some. known_in (m.forms s.target) attributes _ (rw (slotted, found) at (known some))), rw (slotted, found) at h.1))
 
-  named_is : (n : Expanded) (a b : List ℕ) → n.namespace ≡ a → n.local ≡ b → n ≡ named a b
+  named_is : (n : Expanded) (a b : List ℕ) → n.namespace ≡ a → n.local ≡ b → n ≡ name_in_namespace a b
   named_is n a b p q = rw (← p, ← q) refl
 
   text_so_far : (come : ℕ) (f : Form P Simple) (ks : Shapes) (c : ℕ) (more : Nodes) → IsSpace c → ContentSoFar m.forms m.namespace (come - 1) f (Component ks) more → ContentSoFar m.forms m.namespace come f (Component ks) (Text c more)

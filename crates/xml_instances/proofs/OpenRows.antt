@@ -1,21 +1,21 @@
 -- A message with a type that reaches itself: its types are finite, and what events go on to.
 use Rattle.std.proofs.Common.{◌≡◌, ℕ, zero, suc, true, List, [], ◌∷◌, ◌++◌, Some, None, refl, ap, arith, length}
 use Rattle.std.specs.Prelude.{slice_get, codes}
-use Rattle.lexical_core.specs.Tree.{Item, Starts, Char, Ends, Nodes, Element, Text, Tree, flat, counted}
+use Rattle.lexical_core.specs.Tree.{Item, Starts, Char, Ends, Nodes, Element, Text, Tree, flat, tree_items}
 use Rattle.lexical_core.specs.Tree as tree
 use Rattle.facets.specs.declared.simple.Simple.{Simple}
 use Rattle.reference_check.specs.Forms.{Form, Slot, Sequence, Missing, form_slots, text_type}
 use Rattle.facets.specs.LeafChecks.{IsWithinLimits}
 use Rattle.reference_check.specs.Forms as form
-use Rattle.reference_check.specs.Words.{times, UpTo, IsWithin}
+use Rattle.reference_check.specs.Words.{times, UpTo, MayComeTimes}
 use Rattle.reference_check.specs.Steps.{find_slot, has_room}
 use Rattle.message_model.specs.Sound.{IsSoundForm, AreSound, SoundFormsAgree}
 use Rattle.message_model.specs.Continued.{CameGoesOn}
 use Rattle.reference_check.specs.Shapes.{Component, OpenLeaf, Nothing, Child, HasShape, IsFinite, AreFinite}
 use Rattle.message_model.specs.Message.{Message}
-use Rattle.message_model.specs.Writes.{named}
+use Rattle.message_model.specs.Writes.{name_in_namespace}
 use Rattle.xml_instances.specs.EventFaults.{AreFine}
-use Rattle.xml_instances.specs.OpenInstances.{Open, IsTreeFront}
+use Rattle.xml_instances.specs.OpenInstances.{AreEventsOpen, IsTreeFront}
 use Rattle.xml_instances.proofs.OpenLaw.{fine_are_open}
 
 module _ (x : Simple) (limited : IsWithinLimits x) where
@@ -94,12 +94,12 @@ module _ (x : Simple) (limited : IsWithinLimits x) where
   node_shape : HasShape forms (forms 2) (Component (Child 0 OpenLeaf Nothing))
   node_shape = (record { ordered = (omega arith, omega arith, tt); within = within }, ((name_slot, refl, tt), tt))
     where
-      within : (k : ℕ) (s : Slot ℕ) → slice_get (name_slot ∷ child_slot ∷ []) k ≡ Some s → IsWithin (times k (0 ∷ [])) s
+      within : (k : ℕ) (s : Slot ℕ) → slice_get (name_slot ∷ child_slot ∷ []) k ≡ Some s → MayComeTimes (times k (0 ∷ [])) s
       within zero s e = (let same : name_slot ≡ s = cc in rw (← same) (omega arith, omega arith))
       within (suc zero) s e = (let same : child_slot ≡ s = cc in rw (← same) (omega arith, tt))
       within (suc (suc k)) s e = absurd cc
 
-  one_within : (t : Slot ℕ) → t.min ≡ 1 → t.max ≡ Some 1 → (k : ℕ) (s : Slot ℕ) → slice_get (t ∷ []) k ≡ Some s → IsWithin (times k (0 ∷ [])) s
+  one_within : (t : Slot ℕ) → t.min ≡ 1 → t.max ≡ Some 1 → (k : ℕ) (s : Slot ℕ) → slice_get (t ∷ []) k ≡ Some s → MayComeTimes (times k (0 ∷ [])) s
   one_within t low top zero s e = (let same : t ≡ s = cc in rw (← same) (rw (low, top) (omega arith, omega arith)))
   one_within t low top (suc k) s e = absurd cc
 
@@ -133,10 +133,10 @@ module _ (x : Simple) (limited : IsWithinLimits x) where
       kinds (suc (suc (suc (suc n)))) e = cc
 
   abbrev starts : List ℕ → Item
-  starts tag = Starts (named (codes "u") tag) []
+  starts tag = Starts (name_in_namespace (codes "u") tag) []
 
   abbrev ends : List ℕ → Item
-  ends tag = Ends (named (codes "u") tag)
+  ends tag = Ends (name_in_namespace (codes "u") tag)
 
   abbrev to_node : List Item
   to_node = starts (codes "Document") ∷ starts (codes "Tree") ∷ starts (codes "Nd") ∷ []
@@ -145,11 +145,11 @@ module _ (x : Simple) (limited : IsWithinLimits x) where
   name_front : IsTreeFront (to_node ++ starts (codes "Nm") ∷ Char 65 ∷ [])
   name_front = (
     ends (codes "Nm") ∷ ends (codes "Nd") ∷ ends (codes "Tree") ∷ ends (codes "Document") ∷ [],
-    record { name = named (codes "u") (codes "Document"); attributes = []; children = Element (named (codes "u") (codes "Tree")) [] (Element (named (codes "u") (codes "Nd")) [] (Element (named (codes "u") (codes "Nm")) [] (Text 65 tree.Nothing) tree.Nothing) tree.Nothing) tree.Nothing },
+    record { name = name_in_namespace (codes "u") (codes "Document"); attributes = []; children = Element (name_in_namespace (codes "u") (codes "Tree")) [] (Element (name_in_namespace (codes "u") (codes "Nd")) [] (Element (name_in_namespace (codes "u") (codes "Nm")) [] (Text 65 tree.Nothing) tree.Nothing) tree.Nothing) tree.Nothing },
     refl,
   )
 
-  name_open : SoundFormsAgree → CameGoesOn → Open message (to_node ++ starts (codes "Nm") ∷ Char 65 ∷ [])
+  name_open : SoundFormsAgree → CameGoesOn → AreEventsOpen message (to_node ++ starts (codes "Nm") ∷ Char 65 ∷ [])
   name_open agree goes = (fine_are_open agree goes message (to_node ++ starts (codes "Nm") ∷ Char 65 ∷ []) sound finite name_front).0 (fine agree)
     where
       fine : SoundFormsAgree → AreFine message [] (to_node ++ starts (codes "Nm") ∷ Char 65 ∷ [])
@@ -159,11 +159,11 @@ module _ (x : Simple) (limited : IsWithinLimits x) where
   child_front : IsTreeFront (to_node ++ starts (codes "Chld") ∷ [])
   child_front = (
     ends (codes "Chld") ∷ ends (codes "Nd") ∷ ends (codes "Tree") ∷ ends (codes "Document") ∷ [],
-    record { name = named (codes "u") (codes "Document"); attributes = []; children = Element (named (codes "u") (codes "Tree")) [] (Element (named (codes "u") (codes "Nd")) [] (Element (named (codes "u") (codes "Chld")) [] tree.Nothing tree.Nothing) tree.Nothing) tree.Nothing },
+    record { name = name_in_namespace (codes "u") (codes "Document"); attributes = []; children = Element (name_in_namespace (codes "u") (codes "Tree")) [] (Element (name_in_namespace (codes "u") (codes "Nd")) [] (Element (name_in_namespace (codes "u") (codes "Chld")) [] tree.Nothing tree.Nothing) tree.Nothing) tree.Nothing },
     refl,
   )
 
-  child_not_open : SoundFormsAgree → CameGoesOn → Open message (to_node ++ starts (codes "Chld") ∷ []) → ⊥
+  child_not_open : SoundFormsAgree → CameGoesOn → AreEventsOpen message (to_node ++ starts (codes "Chld") ∷ []) → ⊥
   child_not_open agree goes o = no_fault ((fine_are_open agree goes message (to_node ++ starts (codes "Chld") ∷ []) sound finite child_front).1 o)
     where
       no_fault : AreFine message [] (to_node ++ starts (codes "Chld") ∷ []) → ⊥

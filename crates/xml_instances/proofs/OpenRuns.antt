@@ -12,13 +12,13 @@ use Rattle.markup.specs.Chars.{is_space}
 use Rattle.facets.specs.declared.simple.Simple.{Simple}
 use Rattle.reference_check.specs.Forms.{Graph, Form, Slot, form_slots}
 use Rattle.reference_check.specs.Forms as form
-use Rattle.reference_check.specs.Words.{IsWord}
+use Rattle.reference_check.specs.Words.{IsWordOf}
 use Rattle.reference_check.specs.Steps.{Slotted, Fine, next, next_found, next_at, end_after}
 use Rattle.reference_check.specs.Shapes.{Shape, Component, OpenLeaf, Shapes, Nothing, Child, HasShape, HaveShapes, numbers_in}
-use Rattle.message_model.specs.Writes.{named, SpellsCode, text_nodes, IsBlank, Wraps, MayHold}
+use Rattle.message_model.specs.Writes.{name_in_namespace, SpellsCode, text_nodes, IsBlank, Wraps, MayHold}
 use Rattle.lexical_core.specs.Names.{same_name}
 use Rattle.message_model.specs.Message.{Message}
-use Rattle.xml_instances.specs.Levels.{Level, Parent, Leaf, Envelope, Foreign, begun, path_in}
+use Rattle.xml_instances.specs.Levels.{Level, Parent, Leaf, Envelope, Foreign, begun_level, path_in}
 use Rattle.xml_instances.specs.EventFaults.{AttributeFault, CurrencyFault, CodeFault, place_fault, is_bare, space_fault}
 use Rattle.xml_instances.specs.OpenInstances.{AreKnown, TextSoFar, LeafSoFar, ContentSoFar, IsSoFar}
 use Rattle.xml_instances.proofs.Runs.{IsSteady, space_passes, same_names, hints_known, money_known, if_false}
@@ -49,14 +49,14 @@ module _ {P : Type 0} (m : Message P) (steady : IsSteady m.forms) where
   known_fine form.LeftOut attributes path h = unless_both _ _ (if_false _ _ _ (hints_known {P = P} form.LeftOut attributes h)) refl
   known_fine form.Missing attributes path h = unless_both _ _ (if_false _ _ _ (hints_known {P = P} form.Missing attributes h)) refl
 
-  slotted_next : (p : P) (f : Form P Simple) (d e : List ℕ) (k : ℕ) (s : Slot P) → m.forms p ≡ f → slice_get (form_slots f) k ≡ Some s → IsWord f (d ++ k ∷ e) → next f d s.tag ≡ Slotted k
-  slotted_next p f d e k s at = subst (λ (f : Form P Simple). slice_get (form_slots f) k ≡ Some s → IsWord f (d ++ k ∷ e) → next f d s.tag ≡ Slotted k) at of_place
+  slotted_next : (p : P) (f : Form P Simple) (d e : List ℕ) (k : ℕ) (s : Slot P) → m.forms p ≡ f → slice_get (form_slots f) k ≡ Some s → IsWordOf f (d ++ k ∷ e) → next f d s.tag ≡ Slotted k
+  slotted_next p f d e k s at = subst (λ (f : Form P Simple). slice_get (form_slots f) k ≡ Some s → IsWordOf f (d ++ k ∷ e) → next f d s.tag ≡ Slotted k) at of_place
     where
-      of_place : slice_get (form_slots (m.forms p)) k ≡ Some s → IsWord (m.forms p) (d ++ k ∷ e) → next (m.forms p) d s.tag ≡ Slotted k
+      of_place : slice_get (form_slots (m.forms p)) k ≡ Some s → IsWordOf (m.forms p) (d ++ k ∷ e) → next (m.forms p) d s.tag ≡ Slotted k
       of_place found word = ap (next_found (m.forms p) (form_slots (m.forms p)) d) (steady.tagged p k s found) ∙ (ap (next_at (m.forms p) d k) found ∙ steady.goes_on p d e k s found word)
 
-  pub ends_of : (p : P) (f : Form P Simple) (d : List ℕ) → m.forms p ≡ f → IsWord f d → end_after f d ≡ Fine
-  ends_of p f d at = subst (λ (f : Form P Simple). IsWord f d → end_after f d ≡ Fine) at (steady.ends p d)
+  pub ends_of : (p : P) (f : Form P Simple) (d : List ℕ) → m.forms p ≡ f → IsWordOf f d → end_after f d ≡ Fine
+  ends_of p f d at = subst (λ (f : Form P Simple). IsWordOf f d → end_after f d ≡ Fine) at (steady.ends p d)
 
   foreign_may : (come left : ℕ) (nodes : Nodes) (above : List (Level P)) (rest : List Item) → left ≡ come - length (flat_nodes nodes) → MayFollow m left (Foreign ∷ above) rest → MayFollow m come (Foreign ∷ above) (flat_nodes nodes ++ rest)
   foreign_may come left tree.Nothing above rest e h = (let same : left ≡ come = omega arith in rw (← same) h)
@@ -103,7 +103,7 @@ module _ {P : Type 0} (m : Message P) (steady : IsSteady m.forms) where
   abbrev pub ChildrenMay : Nodes → Type 0
   ChildrenMay nodes =
       (come left : ℕ) (p : P) (f : Form P Simple) (before : List ℕ) (ks : Shapes) (above : List (Level P)) (rest : List Item) → left ≡ come - length (flat_nodes nodes) → m.forms p ≡ f
-      → (is_bare f ≡ false) ⊎ (nodes ≡ tree.Nothing) → IsWord f (before ++ numbers_in ks) → HaveShapes m.forms (form_slots f) ks
+      → (is_bare f ≡ false) ⊎ (nodes ≡ tree.Nothing) → IsWordOf f (before ++ numbers_in ks) → HaveShapes m.forms (form_slots f) ks
       → ContentSoFar m.forms m.namespace come f (Component ks) nodes → MayFollow m left (Parent f (before ++ numbers_in ks) ∷ above) rest
       → MayFollow m come (Parent f before ∷ above) (flat_nodes nodes ++ rest)
 
@@ -122,7 +122,7 @@ module _ {P : Type 0} (m : Message P) (steady : IsSteady m.forms) where
   -- the content of an element and its end
   element_may : (come left : ℕ) (nodes : Nodes) (p : P) (f : Form P Simple) (v : Shape) (n : Expanded) (above : List (Level P)) (rest : List Item) → ChildrenMay nodes → m.forms p ≡ f
       → HasShape m.forms f v → MayHold f nodes → ContentSoFar m.forms m.namespace come f v nodes → left ≡ come - (length (flat_nodes nodes) + 1) → MayFollow m left above rest
-      → MayFollow m come (begun f ∷ above) (flat_nodes nodes ++ (Ends n ∷ rest))
+      → MayFollow m come (begun_level f ∷ above) (flat_nodes nodes ++ (Ends n ∷ rest))
   element_may come left nodes p (form.Sequence fs) (Component ks) n above rest children at (word, shapes) holds so_far e h =
       let count : left ≡ come - length (flat_nodes nodes) - 1 = omega arith in
       children come (come - length (flat_nodes nodes)) p (form.Sequence fs) [] ks above (Ends n ∷ rest) refl at (bare_or_empty fs nodes holds) word shapes so_far (ends_of p (form.Sequence fs) _ at word, rw count at h)
@@ -140,9 +140,9 @@ module _ {P : Type 0} (m : Message P) (steady : IsSteady m.forms) where
   element_may come left nodes p form.LeftOut OpenLeaf n above rest children at a holds so_far e h = absurd (leaf_content come form.LeftOut nodes so_far)
   element_may come left nodes p f v n above rest children at a holds so_far e h = absurd a
 
-  starts_may : (come : ℕ) (f : Form P Simple) (before : List ℕ) (k : ℕ) (s : Slot P) (n : Expanded) (attributes : List Entry) (above : List (Level P)) (items : List Item) → n ≡ named m.namespace s.tag
+  starts_may : (come : ℕ) (f : Form P Simple) (before : List ℕ) (k : ℕ) (s : Slot P) (n : Expanded) (attributes : List Entry) (above : List (Level P)) (items : List Item) → n ≡ name_in_namespace m.namespace s.tag
       → next f before s.tag ≡ Slotted k → slice_get (form_slots f) k ≡ Some s → (0 < come → AttributeFault m (Some (m.forms s.target)) attributes (path_in (Parent f (before ++ k ∷ []) ∷ above)) None)
-      → MayFollow m (come - 1) (begun (m.forms s.target) ∷ Parent f (before ++ k ∷ []) ∷ above) items → MayFollow m come (Parent f before ∷ above) (Starts n attributes ∷ items)
+      → MayFollow m (come - 1) (begun_level (m.forms s.target) ∷ Parent f (before ++ k ∷ []) ∷ above) items → MayFollow m come (Parent f before ∷ above) (Starts n attributes ∷ items)
   starts_may come f before k s n attributes above items e slotted found known may =
       let here : next f before n.local ≡ Slotted k = ap (λ x. next f before x.local) e ∙ slotted in
       let space : bytes_eq n.namespace m.namespace ≡ true = (bytes_eq-Decides n.namespace m.namespace).1 (ap (λ x. x.namespace) e) in
@@ -167,8 +167,8 @@ module _ {P : Type 0} (m : Message P) (steady : IsSteady m.forms) where
       (subst (λ (x : Slot P). MayHold (m.forms x.target) inner) same holds) (subst (λ (x : Slot P). ContentSoFar m.forms m.namespace (come - 1) (m.forms x.target) v inner) same content) (omega arith)
       (children_may more (come - (length (flat_nodes inner) + 2)) left p f (before ++ k ∷ []) ks above rest (omega (arith, element_size n attributes inner more)) at (inl e) (rw append_assoc word) shapes so_far (rw append_assoc may))))
 
-  place_root : (n : Expanded) → n ≡ named m.namespace (codes "Document") → place_fault m [] n ≡ None
-  place_root n e = (let same : same_name n (named m.namespace (codes "Document")) ≡ true = same_names n (named m.namespace (codes "Document")) e in rw same refl)
+  place_root : (n : Expanded) → n ≡ name_in_namespace m.namespace (codes "Document") → place_fault m [] n ≡ None
+  place_root n e = (let same : same_name n (name_in_namespace m.namespace (codes "Document")) ≡ true = same_names n (name_in_namespace m.namespace (codes "Document")) e in rw same refl)
 
   pub root_may : (come : ℕ) (t : Tree) (v : Shape) → HasShape m.forms (m.forms m.root) v → IsSoFar m come v t → MayFollow m come [] (flat t)
   root_may come t v has i = (

@@ -8,7 +8,7 @@ use Rattle.markup.specs.Events.{Placed}
 use Rattle.markup.specs.PlainTags.{open_after, open_behind, innermost_namespace, name_behind}
 use Rattle.reference_check.specs.Steps.{next}
 use Rattle.message_model.specs.Message.{Message}
-use Rattle.message_model.specs.Writes.{named}
+use Rattle.message_model.specs.Writes.{name_in_namespace}
 use Rattle.lexical_core.specs.Names.{same_name}
 use Rattle.xml_instances.specs.Levels.{Level, Parent, Leaf, Envelope, Foreign, levels_after, levels_over, with_char, form_of_start, level_of_start, round_start, path_in}
 use Rattle.xml_instances.specs.EventFaults.{Broken, EventFault, AttributeFault, AreFine, Unless, next_fault}
@@ -62,7 +62,7 @@ same_space a b h = (bytes_eq-Decides a b).0 h
 named_start : (m : Message ℕ) (ls : List (Level ℕ)) (n : Expanded) (attributes : List Entry) (ns : List Expanded) → EventFault m ls (Starts n attributes) None → AreNamed m ls ns
     → AreNamed m (level_of_start (form_of_start m ls n) ∷ round_start ls n) (n ∷ ns)
 named_start m [] n attributes [] h k =
-    let e = if_none (same_name n (named m.namespace (codes "Document"))) None (record { rule = WrongRoot; path = codes "/" }) (unless_none _ (AttributeFault m (form_of_start m [] n) attributes (path_in (round_start {P = ℕ} [] n))) h) in
+    let e = if_none (same_name n (name_in_namespace m.namespace (codes "Document"))) None (record { rule = WrongRoot; path = codes "/" }) (unless_none _ (AttributeFault m (form_of_start m [] n) attributes (path_in (round_start {P = ℕ} [] n))) h) in
     (is_named m (level_of_start (form_of_start m [] n)) n (same_space n.namespace m.namespace (both_true (bytes_eq n.namespace m.namespace) (bytes_eq n.local (codes "Document")) e).0), tt)
 named_start m [] n attributes (p ∷ ns) h k = absurd k
 named_start m (l ∷ ls) n attributes [] h k = absurd k

@@ -12,7 +12,7 @@ use Rattle.xml_instances.specs.Levels.{Level, Parent, Leaf, Envelope, Foreign, f
 use Rattle.xml_instances.specs.EventFaults.{has_currency}
 use Rattle.xml_instances.specs.Built.{Shown, type_at, edge_by, with_begun, with_end, CodeShown, TextShown, EventShows, EventsShow}
 use Rattle.xml_instances.specs.Keeping.{PiecesKept, GoOn}
-use Rattle.xml_instances.specs.Open.{Stands, StandsFor, HoldsText}
+use Rattle.xml_instances.specs.Open.{StandsOpen, StandsFor, HoldsText}
 use Rattle.xml_instances.specs.inner.Quick.{IsTargetOf}
 use Rattle.xml_instances.specs.declared.content.OpenText.{OpenText}
 use Rattle.xml_instances.specs.declared.opened.Opened.{Opened}
@@ -41,13 +41,13 @@ begins T ls d n local number k target s t e comes (slot, found, aim, none) q = (
 
 -- an element starts in one with elements
 pub started_shown : (T : Tables) (ls : List (Level ℕ)) (n : Expanded) (local : List ℕ) (o : Option Opened) (number : ℕ) (last : Option ℕ) (count : ℕ) (text : Option OpenText) (round : List Opened) (a b c : Option PiecesKept) (k target : ℕ)
-    → o ≡ Some (opened.Parent number last count) → Stands (message_of T) text o round ls → n.local ≡ local → IsTargetOf (types_of T) number k target
+    → o ≡ Some (opened.Parent number last count) → StandsOpen (message_of T) text o round ls → n.local ≡ local → IsTargetOf (types_of T) number k target
     → ((d : List ℕ) → Came (types_of T number) d → EndsWith d last count → next (types_of T number) d local ≡ Slotted k) → c ≡ b
     → GoOn a b (λ s t. t ≡ with_begun (Some (record { slot = k; target = target; parent = type_at s.edges })) s) → GoOn a c (EventShows T ls (Starts n []))
 started_shown T ls n local o number last count text round a b c k target is h e aim comes same go =
-    subst (λ (x : Option PiecesKept). GoOn a x (EventShows T ls (Starts n []))) (sym same) (by ls (subst (λ (x : Option Opened). Stands (message_of T) text x round ls) is h))
+    subst (λ (x : Option PiecesKept). GoOn a x (EventShows T ls (Starts n []))) (sym same) (by ls (subst (λ (x : Option Opened). StandsOpen (message_of T) text x round ls) is h))
   where
-    by : (ls : List (Level ℕ)) → Stands (message_of T) text (Some (opened.Parent number last count)) round ls → GoOn a b (EventShows T ls (Starts n []))
+    by : (ls : List (Level ℕ)) → StandsOpen (message_of T) text (Some (opened.Parent number last count)) round ls → GoOn a b (EventShows T ls (Starts n []))
     by [] h = absurd h
     by (Parent f d ∷ ls) ((same, came, ends), others) =
         go_as {R = λ s t. t ≡ with_begun (Some (record { slot = k; target = target; parent = type_at s.edges })) s} {S = EventShows T (Parent f d ∷ ls) (Starts n [])} a b
@@ -58,12 +58,12 @@ started_shown T ls n local o number last count text round a b c k target is h e 
     by (Foreign ∷ ls) h = absurd h.0
 
 -- one with a text ends
-pub text_closed : (T : Tables) (ls : List (Level ℕ)) (n : Expanded) (o : Option Opened) (text : Option OpenText) (round : List Opened) (a b c : Option PiecesKept) → o ≡ Some opened.Text → Stands (message_of T) text o round ls
+pub text_closed : (T : Tables) (ls : List (Level ℕ)) (n : Expanded) (o : Option Opened) (text : Option OpenText) (round : List Opened) (a b c : Option PiecesKept) → o ≡ Some opened.Text → StandsOpen (message_of T) text o round ls
     → ((simple : Simple) (t : List ℕ) → HoldsText (message_of T) text simple t → GoOn a b (TextShown simple t)) → ((l : Level ℕ) → StandsFor (message_of T) text opened.Text l → GoOn b c (λ s t. t ≡ with_end l s))
     → GoOn a c (EventShows T ls (Ends n))
-text_closed T ls n o text round a b c is h leaf close = by ls (subst (λ (x : Option Opened). Stands (message_of T) text x round ls) is h)
+text_closed T ls n o text round a b c is h leaf close = by ls (subst (λ (x : Option Opened). StandsOpen (message_of T) text x round ls) is h)
   where
-    by : (ls : List (Level ℕ)) → Stands (message_of T) text (Some opened.Text) round ls → GoOn a c (EventShows T ls (Ends n))
+    by : (ls : List (Level ℕ)) → StandsOpen (message_of T) text (Some opened.Text) round ls → GoOn a c (EventShows T ls (Ends n))
     by [] h = absurd h
     by (Leaf simple w ∷ ls) h =
         go_then {Q = EventShows T (Leaf simple w ∷ ls) (Ends n)} {R = TextShown simple w} {S = λ s t. t ≡ with_end (Leaf simple w) s} a b c (λ s u t x y. (u, x, y)) (leaf simple w h.0) (close (Leaf simple w) h.0)
@@ -73,10 +73,10 @@ text_closed T ls n o text round a b c is h leaf close = by ls (subst (λ (x : Op
 
 -- one with elements ends
 pub parent_closed : (T : Tables) (ls : List (Level ℕ)) (n : Expanded) (o : Option Opened) (number : ℕ) (last : Option ℕ) (count : ℕ) (text : Option OpenText) (round : List Opened) (a c : Option PiecesKept) → o ≡ Some (opened.Parent number last count)
-    → Stands (message_of T) text o round ls → ((l : Level ℕ) → StandsFor (message_of T) text (opened.Parent number last count) l → GoOn a c (λ s t. t ≡ with_end l s)) → GoOn a c (EventShows T ls (Ends n))
-parent_closed T ls n o number last count text round a c is h close = by ls (subst (λ (x : Option Opened). Stands (message_of T) text x round ls) is h)
+    → StandsOpen (message_of T) text o round ls → ((l : Level ℕ) → StandsFor (message_of T) text (opened.Parent number last count) l → GoOn a c (λ s t. t ≡ with_end l s)) → GoOn a c (EventShows T ls (Ends n))
+parent_closed T ls n o number last count text round a c is h close = by ls (subst (λ (x : Option Opened). StandsOpen (message_of T) text x round ls) is h)
   where
-    by : (ls : List (Level ℕ)) → Stands (message_of T) text (Some (opened.Parent number last count)) round ls → GoOn a c (EventShows T ls (Ends n))
+    by : (ls : List (Level ℕ)) → StandsOpen (message_of T) text (Some (opened.Parent number last count)) round ls → GoOn a c (EventShows T ls (Ends n))
     by [] h = absurd h
     by (Parent f d ∷ ls) h = go_as {R = λ s t. t ≡ with_end (Parent f d) s} {S = EventShows T (Parent f d ∷ ls) (Ends n)} a c (λ s t q. (s, refl, q)) (close (Parent f d) h.0)
     by (Leaf simple w ∷ ls) h = absurd h.0

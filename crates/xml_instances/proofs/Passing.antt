@@ -9,9 +9,9 @@ use Rattle.reference_check.specs.Forms as form
 use Rattle.reference_check.specs.Steps.{Came, EndsWith, Slotted, next}
 use Rattle.message_model.specs.Message.{Message}
 use Rattle.message_model.specs.Sound.{count_with}
-use Rattle.xml_instances.specs.Levels.{Level, begun, path_in, round_start}
+use Rattle.xml_instances.specs.Levels.{Level, begun_level, path_in, round_start}
 use Rattle.xml_instances.specs.EventFaults.{AttributeFault, has_currency}
-use Rattle.xml_instances.specs.Open.{IsOpen, IsRound, IsBegun, IsEntered, IsStepped, IsPlaced, Stands, StandFor, names_of}
+use Rattle.xml_instances.specs.Open.{IsOpen, IsRound, IsElementBegun, IsEntered, IsStepped, IsPlaced, StandsOpen, StandFor, path_round}
 use Rattle.xml_instances.specs.inner.Quick.{IsOurs, IsTargetOf, Passes, PassAll}
 use Rattle.xml_instances.specs.declared.content.Content.{Content}
 use Rattle.xml_instances.specs.declared.opened.Opened.{Opened}
@@ -31,10 +31,10 @@ no_attributes m form.Missing path e = refl
 no_attributes m form.LeftOut path e = refl
 
 entered : (m : Message ℕ) (ls : List (Level ℕ)) (between gone content : Content) (n : ℕ) → IsRound between m ls → gone.round.items ≡ between.round.items ++ option_to_list between.innermost → content.round ≡ gone.round
-    → has_currency (m.forms n) ≡ false → IsBegun {T = Unit {0}} {E = AllocError} m (m.forms n) content (Ok tt) → IsEntered {T = Unit {0}} m ls (Some (m.forms n)) [] content (Ok tt)
+    → has_currency (m.forms n) ≡ false → IsElementBegun {T = Unit {0}} {E = AllocError} m (m.forms n) content (Ok tt) → IsEntered {T = Unit {0}} m ls (Some (m.forms n)) [] content (Ok tt)
 entered m ls between gone content n h e same none (o, is, stands) = (
   no_attributes m (m.forms n) (path_in ls) none,
-  subst (λ (x : Option Opened). Stands m content.text x content.round.items (begun (m.forms n) ∷ ls)) (sym is)
+  subst (λ (x : Option Opened). StandsOpen m content.text x content.round.items (begun_level (m.forms n) ∷ ls)) (sym is)
       (stands, subst (λ (x : List Opened). StandFor m (reverse x) ls) (sym (ap (λ v. v.items) same)) (in_round m ls between gone h e)),
 )
 
@@ -43,12 +43,12 @@ pub started : (m : Message ℕ) (ls : List (Level ℕ)) (n : Expanded) (local : 
     → old.innermost ≡ Some (opened.Parent number last count) → between.innermost ≡ Some (opened.Parent number (Some k) again) → again ≡ count_with last count k → between.round ≡ old.round
     → IsOpen old m ls → IsOurs m ls n → n.local ≡ local → IsTargetOf m.forms number k target → ((d : List ℕ) → Came (m.forms number) d → EndsWith d last count → next (m.forms number) d local ≡ Slotted k)
     → ((d : List ℕ) → Came (m.forms number) d → EndsWith d last count → next (m.forms number) d local ≡ Slotted k → Came (m.forms number) (d ++ k ∷ []) × EndsWith (d ++ k ∷ []) (Some k) (count_with last count k))
-    → gone.round.items ≡ between.round.items ++ option_to_list between.innermost → content.round ≡ gone.round → IsBegun {T = Unit {0}} {E = AllocError} m (m.forms target) content (Ok tt) → Passes m ls (Starts n []) content
+    → gone.round.items ≡ between.round.items ++ option_to_list between.innermost → content.round ≡ gone.round → IsElementBegun {T = Unit {0}} {E = AllocError} m (m.forms target) content (Ok tt) → Passes m ls (Starts n []) content
 started m ls n local old between gone content number target k last count again is is_then counted same h ours e (s, found, aim, none) longer comes gone_in kept begins =
     let stepped : IsStepped m.forms number last count k between.innermost (Ok (Some target)) = (s, found, ap Some aim, is_then ∙ ap (λ x. Some (opened.Parent number (Some k) x)) counted) in
     let placed : IsPlaced m ls n between (Ok (Some target)) =
     place_ours m ls n local between old.innermost number last count old.text old.round.items (Ok (Some target)) is (ap (λ v. v.items) same) h ours e
-    (λ d came ends. child_slot m number d local (names_of m.forms old.round.items) last count k between.innermost (Ok (Some target)) stepped (longer d came ends) (comes d came ends (longer d came ends))) in
+    (λ d came ends. child_slot m number d local (path_round m.forms old.round.items) last count k between.innermost (Ok (Some target)) stepped (longer d came ends) (comes d came ends (longer d came ends))) in
     placed_entered {T = Unit {0}} m ls n [] between content (Some target) (Ok tt) placed (λ round. entered m (round_start ls n) between gone content target round gone_in kept none begins)
 
 -- one event is all that a tag has

@@ -13,7 +13,7 @@ use Rattle.markup.specs.Literals.{IsRun, characters_from}
 use Rattle.markup.specs.PlainTags.{tag_items, name_behind}
 use Rattle.markup.specs.declared.plain_tag.PlainTag.{PlainTag}
 use Rattle.markup.specs.declared.plain_tag.TagKind.{TagKind}
-use Rattle.markup.specs.Reading.{HasTaken, HasTold, taken}
+use Rattle.markup.specs.Reading.{HasTaken, HasTold, bytes_taken}
 use Rattle.markup.specs.Scopes.{placed_at}
 use Rattle.markup.specs.Standing.{EventsStay}
 use Rattle.markup.specs.declared.reader.Reader.{Reader}
@@ -27,7 +27,7 @@ use Rattle.xml_instances.specs.XmlFaults.{XmlFault, items_told}
 use Rattle.xml_instances.specs.Open.{IsOpen}
 use Rattle.xml_instances.specs.inner.Quick.{AreItemsTaken, IsRunTaken, IsOurs}
 use Rattle.xml_instances.specs.inner.Fronts.{TagTaken}
-use Rattle.xml_instances.specs.Checking.{HasFed, Stops, IsTold, TakesFront, fault_of, fed}
+use Rattle.xml_instances.specs.Checking.{HasFedXml, XmlStops, IsTold, TakesXmlFront, xml_fault_of, xml_bytes_fed}
 use Rattle.xml_instances.specs.declared.content.Content.{Content}
 use Rattle.xml_instances.specs.declared.opened.Refusal.{Refusal}
 use Rattle.xml_instances.specs.declared.opened.Refusal.TheVariants.{Breaks, Memory as NoMemory}
@@ -50,10 +50,10 @@ tag_told place [] = refl
 tag_told place (i ∷ is) = ap (λ v. i ∷ v) (tag_told place is)
 
 -- more bytes, whose events break no rule
-pub more_fed : (T : Tables) (old new : XmlChecker) (bytes more : List ℕ) (placed : List Placed) (items : List Item) (h : HasFed old T bytes) → items_told placed ≡ items → HasTold new.reader (bytes ++ more) (h.told ++ placed)
-    → taken new.reader ≡ taken old.reader + length more → new.place ≡ length (bytes ++ more) → AreFine (message_of T) (levels_over (message_of T) [] (items_told h.told)) items
+pub more_fed : (T : Tables) (old new : XmlChecker) (bytes more : List ℕ) (placed : List Placed) (items : List Item) (h : HasFedXml old T bytes) → items_told placed ≡ items → HasTold new.reader (bytes ++ more) (h.told ++ placed)
+    → bytes_taken new.reader ≡ bytes_taken old.reader + length more → new.place ≡ length (bytes ++ more) → AreFine (message_of T) (levels_over (message_of T) [] (items_told h.told)) items
     → IsOpen new.content (message_of T) (levels_over (message_of T) (levels_over (message_of T) [] (items_told h.told)) items)
-    → GoOn old.content.pieces new.content.pieces (EventsShow T (levels_over (message_of T) [] (items_told h.told)) items) → new.events ≡ [] → new.failed ≡ None → HasFed new T (bytes ++ more)
+    → GoOn old.content.pieces new.content.pieces (EventsShow T (levels_over (message_of T) [] (items_told h.told)) items) → new.events ≡ [] → new.failed ≡ None → HasFedXml new T (bytes ++ more)
 more_fed T old new bytes more placed items h same g n place fine opens go e sound = record {
   told = h.told ++ placed;
   given = g.taken_are;
@@ -87,18 +87,18 @@ first_at m bytes tokens rest told place (i ∷ is) b front clean e fine (inr h) 
     (subst (λ (x : List Item). AreFine m [] x) (sym q) (fine_joined m [] (items_told told) (i ∷ []) fine (h.0, tt)))
     (subst (λ (x : List (Level ℕ)). FirstFault m x is b) (sym (ap (levels_over m []) q ∙ over_joined m [] (items_told told) (i ∷ []))) h.1)
 
-pub stops_more : (T : Tables) (bytes more : List ℕ) (e : InstanceError) → Stops T bytes e → Stops T (bytes ++ more) e
+pub stops_more : (T : Tables) (bytes more : List ℕ) (e : InstanceError) → XmlStops T bytes e → XmlStops T (bytes ++ more) e
 stops_more T bytes more Memory h = tt
 stops_more T bytes more (Refused fault) h = record {
-  has_fault = λ behind. subst (λ (v : List ℕ). XmlFault (message_of T) v (fault_of fault)) (sym (append_assoc bytes more behind)) (h.has_fault (more ++ behind));
+  has_fault = λ behind. subst (λ (v : List ℕ). XmlFault (message_of T) v (xml_fault_of fault)) (sym (append_assoc bytes more behind)) (h.has_fault (more ++ behind));
   no_cut = h.no_cut;
 }
 
 abbrev events_of : List Token → List Placed
 events_of tokens = events [] 0 tokens
 
-pub stops_at_tag : (T : Tables) (old : XmlChecker) (reader : Reader) (bytes tag : List ℕ) (items : List Item) (content : Content) (r : Refusal) (e : InstanceError) (h : HasFed old T bytes) → EventsStay
-    → HasTold reader (bytes ++ tag) (h.told ++ placed_at (length bytes) items) → AreItemsTaken {T = Unit {0}} (message_of T) (levels_over (message_of T) [] (items_told h.told)) items content (Err r) → IsTold r old.place e → Stops T (bytes ++ tag) e
+pub stops_at_tag : (T : Tables) (old : XmlChecker) (reader : Reader) (bytes tag : List ℕ) (items : List Item) (content : Content) (r : Refusal) (e : InstanceError) (h : HasFedXml old T bytes) → EventsStay
+    → HasTold reader (bytes ++ tag) (h.told ++ placed_at (length bytes) items) → AreItemsTaken {T = Unit {0}} (message_of T) (levels_over (message_of T) [] (items_told h.told)) items content (Err r) → IsTold r old.place e → XmlStops T (bytes ++ tag) e
 stops_at_tag T old reader bytes tag items content NoMemory Memory h stay g k told = tt
 stops_at_tag T old reader bytes tag items content NoMemory (Refused fault) h stay g k told = absurd told
 stops_at_tag T old reader bytes tag items content (Breaks rule path) Memory h stay g k told = absurd told
@@ -107,7 +107,7 @@ stops_at_tag T old reader bytes tag items content (Breaks rule path) (Refused fa
   no_cut = λ q. first_no_cut (message_of T) (levels_over (message_of T) [] (items_told h.told)) items (record { rule = rule; path = path }) k (sym same_rule ∙ q);
 }
   where
-    of_stay : (behind : List ℕ) → ((tokens : List Token) × (rest : List ℕ) × Front tag_limit [] ((bytes ++ tag) ++ behind) tokens rest × IsClean [] tokens × (h.told ++ placed_at (length bytes) items ≡ events_of tokens)) → XmlFault (message_of T) ((bytes ++ tag) ++ behind) (fault_of fault)
+    of_stay : (behind : List ℕ) → ((tokens : List Token) × (rest : List ℕ) × Front tag_limit [] ((bytes ++ tag) ++ behind) tokens rest × IsClean [] tokens × (h.told ++ placed_at (length bytes) items ≡ events_of tokens)) → XmlFault (message_of T) ((bytes ++ tag) ++ behind) (xml_fault_of fault)
     of_stay behind (tokens, rest, front, clean, told_are) =
         rw (same_rule, same_path, same_place ∙ h.placed) (first_at (message_of T) ((bytes ++ tag) ++ behind) tokens rest h.told (length bytes) items (record { rule = rule; path = path }) front clean told_are h.fine k)
 
@@ -128,20 +128,20 @@ RunTold old new run count = (bytes : List ℕ) (told : List Placed) → HasTaken
 abbrev pub RunShown : Tables → Content → Content → List ℕ → ℕ → Type 0
 RunShown T old new run count = (r : IsRun run count) (ls : List (Level ℕ)) → IsOpen old (message_of T) ls → GoOn old.pieces new.pieces (EventsShow T ls (map (λ c. Char c) r.characters))
 
-run_fed : (T : Tables) (old new : XmlChecker) (run : List ℕ) (count n : ℕ) → RunTold old.reader new.reader run count → taken new.reader ≡ taken old.reader + n → n ≡ length run
-    → ((bytes : List ℕ) → HasFed old T bytes → new.place ≡ length (bytes ++ run)) → new.events ≡ old.events → new.failed ≡ old.failed
+run_fed : (T : Tables) (old new : XmlChecker) (run : List ℕ) (count n : ℕ) → RunTold old.reader new.reader run count → bytes_taken new.reader ≡ bytes_taken old.reader + n → n ≡ length run
+    → ((bytes : List ℕ) → HasFedXml old T bytes → new.place ≡ length (bytes ++ run)) → new.events ≡ old.events → new.failed ≡ old.failed
     → ((r : IsRun run count) (ls : List (Level ℕ)) → IsOpen old.content (message_of T) ls → IsRunTaken (message_of T) ls r.characters new.content)
-    → RunShown T old.content new.content run count → (bytes : List ℕ) → HasFed old T bytes → HasFed new T (bytes ++ run)
+    → RunShown T old.content new.content run count → (bytes : List ℕ) → HasFedXml old T bytes → HasFedXml new T (bytes ++ run)
 run_fed T old new run count n tells moved e place events failed taken_are shown_are bytes h =
     let k = tells bytes h.told h.given in
     let t = taken_are k.0 (levels_over (message_of T) [] (items_told h.told)) h.open_are in
     more_fed T old new bytes run (characters_from (length bytes) k.0.characters) (map (λ c. Char c) k.0.characters) h (chars_told (length bytes) k.0.characters) k.1
-    (moved ∙ ap (λ v. taken old.reader + v) e) (place bytes h) t.0 t.1
+    (moved ∙ ap (λ v. bytes_taken old.reader + v) e) (place bytes h) t.0 t.1
     (shown_are k.0 (levels_over (message_of T) [] (items_told h.told)) h.open_are) (events ∙ h.none) (failed ∙ h.sound)
 
 -- nothing is taken
-nothing_fed : (T : Tables) (old new : XmlChecker) (count : ℕ) → RunTold old.reader new.reader [] count → taken new.reader ≡ taken old.reader → new.place ≡ old.place → new.events ≡ old.events → new.failed ≡ old.failed → new.content ≡ old.content
-    → (bytes : List ℕ) → HasFed old T bytes → HasFed new T (bytes ++ [])
+nothing_fed : (T : Tables) (old new : XmlChecker) (count : ℕ) → RunTold old.reader new.reader [] count → bytes_taken new.reader ≡ bytes_taken old.reader → new.place ≡ old.place → new.events ≡ old.events → new.failed ≡ old.failed → new.content ≡ old.content
+    → (bytes : List ℕ) → HasFedXml old T bytes → HasFedXml new T (bytes ++ [])
 nothing_fed T old new count tells moved place events failed content bytes h =
     let k = tells bytes h.told h.given in
     let none : k.0.characters ≡ [] = no_characters [] count k.0 refl in
@@ -149,12 +149,12 @@ nothing_fed T old new count tells moved place events failed content bytes h =
     (moved ∙ omega arith) (place ∙ (h.placed ∙ ap length (sym (append-nil bytes)))) tt (subst (λ (v : Content). IsOpen v (message_of T) (levels_over (message_of T) [] (items_told h.told))) (sym content) h.open_are)
     (go_still old.content.pieces new.content.pieces (ap (λ v. v.pieces) content)) (events ∙ h.none) (failed ∙ h.sound)
 
-pub front_run : (T : Tables) (old new : XmlChecker) (piece : List ℕ) (count n : ℕ) → n ≤ length piece → fed old + length piece ≤ 2 ^ 40 → RunTold old.reader new.reader (take n piece) count → taken new.reader ≡ taken old.reader + n
+pub front_run : (T : Tables) (old new : XmlChecker) (piece : List ℕ) (count n : ℕ) → n ≤ length piece → xml_bytes_fed old + length piece ≤ 2 ^ 40 → RunTold old.reader new.reader (take n piece) count → bytes_taken new.reader ≡ bytes_taken old.reader + n
     → new.place ≡ min (old.place + n) (2 ^ 64 - 1) → new.events ≡ old.events → new.failed ≡ old.failed
     → ((r : IsRun (take n piece) count) (ls : List (Level ℕ)) → IsOpen old.content (message_of T) ls → IsRunTaken (message_of T) ls r.characters new.content)
-    → RunShown T old.content new.content (take n piece) count → TakesFront T old new piece (Ok n)
+    → RunShown T old.content new.content (take n piece) count → TakesXmlFront T old new piece (Ok n)
 front_run T old new piece count n within room tells moved place events failed taken_are shown_are = record {
-  ok = run_fed T old new (take n piece) count n tells moved (sym long) (λ bytes h. place ∙ place_more bytes (take n piece) old.place (taken old.reader) n h.placed h.counted (sym long) (omega (arith, within, room))) events failed taken_are shown_are;
+  ok = run_fed T old new (take n piece) count n tells moved (sym long) (λ bytes h. place ∙ place_more bytes (take n piece) old.place (bytes_taken old.reader) n h.placed h.counted (sym long) (omega (arith, within, room))) events failed taken_are shown_are;
   err = λ bytes h. tt;
   within = within;
   count = moved;
@@ -163,8 +163,8 @@ front_run T old new piece count n within room tells moved place events failed ta
     long : length (take n piece) ≡ n
     long = length-take-le n piece within
 
-pub front_nothing : (T : Tables) (old new : XmlChecker) (piece run : List ℕ) (count : ℕ) → run ≡ [] → RunTold old.reader new.reader run count → taken new.reader ≡ taken old.reader + 0 → new.place ≡ old.place → new.events ≡ old.events → new.failed ≡ old.failed → new.content ≡ old.content
-    → TakesFront T old new piece (Ok 0)
+pub front_nothing : (T : Tables) (old new : XmlChecker) (piece run : List ℕ) (count : ℕ) → run ≡ [] → RunTold old.reader new.reader run count → bytes_taken new.reader ≡ bytes_taken old.reader + 0 → new.place ≡ old.place → new.events ≡ old.events → new.failed ≡ old.failed → new.content ≡ old.content
+    → TakesXmlFront T old new piece (Ok 0)
 front_nothing T old new piece run count e tells moved place events failed content = record {
   ok = nothing_fed T old new count (subst (λ (v : List ℕ). RunTold old.reader new.reader v count) e tells) (moved ∙ omega arith) place events failed content;
   err = λ bytes h. tt;
@@ -172,12 +172,12 @@ front_nothing T old new piece run count e tells moved place events failed conten
   count = moved;
 }
 
-pub front_still : (T : Tables) (old new : XmlChecker) (piece : List ℕ) → new.reader ≡ old.reader → new.place ≡ old.place → new.events ≡ old.events → new.failed ≡ old.failed → new.content ≡ old.content → TakesFront T old new piece (Ok 0)
+pub front_still : (T : Tables) (old new : XmlChecker) (piece : List ℕ) → new.reader ≡ old.reader → new.place ≡ old.place → new.events ≡ old.events → new.failed ≡ old.failed → new.content ≡ old.content → TakesXmlFront T old new piece (Ok 0)
 front_still T old new piece reader place events failed content = record {
   ok = λ bytes h. record {
     told = h.told;
     given = subst (λ (v : Reader). HasTaken v (bytes ++ []) h.told) (sym reader) (subst (λ (v : List ℕ). HasTaken old.reader v h.told) (sym (append-nil bytes)) h.given);
-    counted = ap taken reader ∙ (h.counted ∙ ap length (sym (append-nil bytes)));
+    counted = ap bytes_taken reader ∙ (h.counted ∙ ap length (sym (append-nil bytes)));
     placed = place ∙ (h.placed ∙ ap length (sym (append-nil bytes)));
     fine = h.fine;
     open_are = subst (λ (v : Content). IsOpen v (message_of T) (levels_over (message_of T) [] (items_told h.told))) (sym content) h.open_are;
@@ -187,7 +187,7 @@ front_still T old new piece reader place events failed content = record {
   };
   err = λ bytes h. tt;
   within = omega arith;
-  count = ap taken reader ∙ omega arith;
+  count = ap bytes_taken reader ∙ omega arith;
 }
 
 -- ---- whole tags
@@ -203,67 +203,67 @@ told_tag old new piece o tag e h bytes told k = subst (λ (v : Option PlainTag).
 pub tag_within : (piece : List ℕ) (o : Option PlainTag) (tag : PlainTag) → o ≡ Some tag → IfSome o (λ t. (0 < t.bytes) × (t.bytes ≤ length piece)) → tag.bytes ≤ length piece
 tag_within piece o tag e h = let k = subst (λ (v : Option PlainTag). IfSome v (λ t. (0 < t.bytes) × (t.bytes ≤ length piece))) e h in k.1
 
-pub tag_moved : (old new : Reader) (o : Option PlainTag) (tag : PlainTag) → o ≡ Some tag → IfSome o (λ t. taken new ≡ taken old + t.bytes) → taken new ≡ taken old + tag.bytes
-tag_moved old new o tag e h = subst (λ (v : Option PlainTag). IfSome v (λ t. taken new ≡ taken old + t.bytes)) e h
+pub tag_moved : (old new : Reader) (o : Option PlainTag) (tag : PlainTag) → o ≡ Some tag → IfSome o (λ t. bytes_taken new ≡ bytes_taken old + t.bytes) → bytes_taken new ≡ bytes_taken old + tag.bytes
+tag_moved old new o tag e h = subst (λ (v : Option PlainTag). IfSome v (λ t. bytes_taken new ≡ bytes_taken old + t.bytes)) e h
 
 -- what it shows
 abbrev pub TagShown : Tables → Content → Content → TagKind → List ℕ → Type 0
 TagShown T old new kind name = (ls : List (Level ℕ)) (n : Expanded) → n.local ≡ name → IsOurs (message_of T) ls n → IsOpen old (message_of T) ls → MayShowName old.pieces old.innermost n → GoOn old.pieces new.pieces (EventsShow T ls (tag_items kind n))
 
-pub front_tag : (T : Tables) (old new : XmlChecker) (piece name : List ℕ) (kind : TagKind) (n : ℕ) → n ≤ length piece → fed old + length piece ≤ 2 ^ 40 → TagTold old.reader new.reader (take n piece) kind name → taken new.reader ≡ taken old.reader + n
+pub front_tag : (T : Tables) (old new : XmlChecker) (piece name : List ℕ) (kind : TagKind) (n : ℕ) → n ≤ length piece → xml_bytes_fed old + length piece ≤ 2 ^ 40 → TagTold old.reader new.reader (take n piece) kind name → bytes_taken new.reader ≡ bytes_taken old.reader + n
     → new.place ≡ min (old.place + n) (2 ^ 64 - 1) → new.events ≡ old.events → new.failed ≡ old.failed → TagTaken {U = Unit {0}} (message_of T) old.content new.content kind name (Ok tt)
-    → TagShown T old.content new.content kind name → MayShow old.content.pieces old.content.innermost → TakesFront T old new piece (Ok n)
+    → TagShown T old.content new.content kind name → MayShow old.content.pieces old.content.innermost → TakesXmlFront T old new piece (Ok n)
 front_tag T old new piece name kind n within room tells moved place events failed taken_are shown_are may = record { ok = ok; err = λ bytes h. tt; within = within; count = moved }
   where
     long : length (take n piece) ≡ n
     long = length-take-le n piece within
 
-    ok : (bytes : List ℕ) → HasFed old T bytes → HasFed new T (bytes ++ take n piece)
+    ok : (bytes : List ℕ) → HasFedXml old T bytes → HasFedXml new T (bytes ++ take n piece)
     ok bytes h =
         let items = tag_items kind (name_behind h.told name) in
         let t = taken_are (levels_over (message_of T) [] (items_told h.told)) (name_behind h.told name) refl (ours_behind (message_of T) h.told name h.fine) h.open_are in
-        more_fed T old new bytes (take n piece) (placed_at (length bytes) items) items h (tag_told (length bytes) items) (tells bytes h.told h.given) (moved ∙ ap (λ v. taken old.reader + v) (sym long))
-        (place ∙ place_more bytes (take n piece) old.place (taken old.reader) n h.placed h.counted (sym long) (omega (arith, within, room))) t.0 t.1
+        more_fed T old new bytes (take n piece) (placed_at (length bytes) items) items h (tag_told (length bytes) items) (tells bytes h.told h.given) (moved ∙ ap (λ v. bytes_taken old.reader + v) (sym long))
+        (place ∙ place_more bytes (take n piece) old.place (bytes_taken old.reader) n h.placed h.counted (sym long) (omega (arith, within, room))) t.0 t.1
         (shown_are (levels_over (message_of T) [] (items_told h.told)) (name_behind h.told name) refl (ours_behind (message_of T) h.told name h.fine) h.open_are
         (may_show_name T h.told name old.content.text old.content.round.items old.content.innermost old.content.pieces h.fine h.open_are h.built may)) (events ∙ h.none) (failed ∙ h.sound)
 
 pub front_tag_stops : (T : Tables) (old new : XmlChecker) (piece name : List ℕ) (kind : TagKind) (n : ℕ) (r : Refusal) (e : InstanceError) → EventsStay → TagTold old.reader new.reader (take n piece) kind name
-    → TagTaken {U = Unit {0}} (message_of T) old.content new.content kind name (Err r) → IsTold r old.place e → TakesFront T old new piece (Err e)
+    → TagTaken {U = Unit {0}} (message_of T) old.content new.content kind name (Err r) → IsTold r old.place e → TakesXmlFront T old new piece (Err e)
 front_tag_stops T old new piece name kind n r e stay tells taken_are told = record { ok = λ bytes h. tt; err = err; within = tt; count = tt }
   where
-    err : (bytes : List ℕ) → HasFed old T bytes → Stops T (bytes ++ piece) e
-    err bytes h = subst (λ (v : List ℕ). Stops T v e) (append_assoc bytes (take n piece) (drop n piece) ∙ ap (λ v. bytes ++ v) (take-append-drop n piece))
+    err : (bytes : List ℕ) → HasFedXml old T bytes → XmlStops T (bytes ++ piece) e
+    err bytes h = subst (λ (v : List ℕ). XmlStops T v e) (append_assoc bytes (take n piece) (drop n piece) ∙ ap (λ v. bytes ++ v) (take-append-drop n piece))
         (stops_more T (bytes ++ take n piece) (drop n piece) e (stops_at_tag T old new.reader bytes (take n piece) (tag_items kind (name_behind h.told name)) new.content r e h stay (tells bytes h.told h.given)
         (taken_are (levels_over (message_of T) [] (items_told h.told)) (name_behind h.told name) refl (ours_behind (message_of T) h.told name h.fine) h.open_are) told))
 
 -- ---- bytes inside a token
 
-pub front_inside : (T : Tables) (old new : XmlChecker) (piece : List ℕ) (n : ℕ) → n ≤ length piece → fed old + length piece ≤ 2 ^ 40 → ((bytes : List ℕ) (told : List Placed) → HasTaken old.reader bytes told → HasTold new.reader (bytes ++ take n piece) told)
-    → taken new.reader ≡ taken old.reader + n → new.place ≡ min (old.place + n) (2 ^ 64 - 1) → new.events ≡ old.events → new.failed ≡ old.failed → new.content ≡ old.content → TakesFront T old new piece (Ok n)
+pub front_inside : (T : Tables) (old new : XmlChecker) (piece : List ℕ) (n : ℕ) → n ≤ length piece → xml_bytes_fed old + length piece ≤ 2 ^ 40 → ((bytes : List ℕ) (told : List Placed) → HasTaken old.reader bytes told → HasTold new.reader (bytes ++ take n piece) told)
+    → bytes_taken new.reader ≡ bytes_taken old.reader + n → new.place ≡ min (old.place + n) (2 ^ 64 - 1) → new.events ≡ old.events → new.failed ≡ old.failed → new.content ≡ old.content → TakesXmlFront T old new piece (Ok n)
 front_inside T old new piece n within room tells moved place events failed content = record { ok = ok; err = λ bytes h. tt; within = within; count = moved }
   where
     long : length (take n piece) ≡ n
     long = length-take-le n piece within
 
-    ok : (bytes : List ℕ) → HasFed old T bytes → HasFed new T (bytes ++ take n piece)
+    ok : (bytes : List ℕ) → HasFedXml old T bytes → HasFedXml new T (bytes ++ take n piece)
     ok bytes h = more_fed T old new bytes (take n piece) [] [] h refl (subst (λ (x : List Placed). HasTold new.reader (bytes ++ take n piece) x) (sym (append-nil h.told)) (tells bytes h.told h.given))
-        (moved ∙ ap (λ v. taken old.reader + v) (sym long)) (place ∙ place_more bytes (take n piece) old.place (taken old.reader) n h.placed h.counted (sym long) (omega (arith, within, room))) tt
+        (moved ∙ ap (λ v. bytes_taken old.reader + v) (sym long)) (place ∙ place_more bytes (take n piece) old.place (bytes_taken old.reader) n h.placed h.counted (sym long) (omega (arith, within, room))) tt
         (subst (λ (v : Content). IsOpen v (message_of T) (levels_over (message_of T) [] (items_told h.told))) (sym content) h.open_are) (go_still old.content.pieces new.content.pieces (ap (λ v. v.pieces) content)) (events ∙ h.none) (failed ∙ h.sound)
 
 -- ---- a byte
 
-pub front_byte : (T : Tables) (old new : XmlChecker) (piece rest : List ℕ) (byte : ℕ) → piece ≡ byte ∷ rest → ((bytes : List ℕ) → HasFed old T bytes → HasFed new T (bytes ++ byte ∷ [])) → fed new ≡ fed old + 1 → TakesFront T old new piece (Ok 1)
+pub front_byte : (T : Tables) (old new : XmlChecker) (piece rest : List ℕ) (byte : ℕ) → piece ≡ byte ∷ rest → ((bytes : List ℕ) → HasFedXml old T bytes → HasFedXml new T (bytes ++ byte ∷ [])) → xml_bytes_fed new ≡ xml_bytes_fed old + 1 → TakesXmlFront T old new piece (Ok 1)
 front_byte T old new piece rest byte e ok count = rw e (record { ok = ok; err = λ bytes h. tt; within = omega arith; count = count })
 
-pub front_byte_stops : (T : Tables) (old new : XmlChecker) (piece rest : List ℕ) (byte : ℕ) (error : InstanceError) → piece ≡ byte ∷ rest → ((bytes : List ℕ) → HasFed old T bytes → Stops T (bytes ++ byte ∷ []) error) → TakesFront T old new piece (Err error)
+pub front_byte_stops : (T : Tables) (old new : XmlChecker) (piece rest : List ℕ) (byte : ℕ) (error : InstanceError) → piece ≡ byte ∷ rest → ((bytes : List ℕ) → HasFedXml old T bytes → XmlStops T (bytes ++ byte ∷ []) error) → TakesXmlFront T old new piece (Err error)
 front_byte_stops T old new piece rest byte error e err = record { ok = λ bytes h. tt; err = of_piece; within = tt; count = tt }
   where
-    of_piece : (bytes : List ℕ) → HasFed old T bytes → Stops T (bytes ++ piece) error
-    of_piece bytes h = subst (λ (v : List ℕ). Stops T v error) (append_assoc bytes (byte ∷ []) rest ∙ ap (λ v. bytes ++ v) (sym e)) (stops_more T (bytes ++ byte ∷ []) rest error (err bytes h))
+    of_piece : (bytes : List ℕ) → HasFedXml old T bytes → XmlStops T (bytes ++ piece) error
+    of_piece bytes h = subst (λ (v : List ℕ). XmlStops T v error) (append_assoc bytes (byte ∷ []) rest ∙ ap (λ v. bytes ++ v) (sym e)) (stops_more T (bytes ++ byte ∷ []) rest error (err bytes h))
 
 -- ---- one after another
 
-pub front_then : (T : Tables) (old between new : XmlChecker) (piece : List ℕ) (n : ℕ) (result : Result ℕ InstanceError) → TakesFront T old between piece (Ok n) → n ≡ 0 → TakesFront T between new piece result → TakesFront T old new piece result
+pub front_then : (T : Tables) (old between new : XmlChecker) (piece : List ℕ) (n : ℕ) (result : Result ℕ InstanceError) → TakesXmlFront T old between piece (Ok n) → n ≡ 0 → TakesXmlFront T between new piece result → TakesXmlFront T old new piece result
 front_then T old between new piece n result a e b = record {
   ok = λ bytes h. b.ok bytes (same bytes h);
   err = λ bytes h. b.err bytes (same bytes h);
@@ -271,19 +271,19 @@ front_then T old between new piece n result a e b = record {
   count = of_count result b.count;
 }
   where
-    same : (bytes : List ℕ) → HasFed old T bytes → HasFed between T bytes
-    same bytes h = subst (λ (v : List ℕ). HasFed between T v) (append-nil bytes) (subst (λ (k : ℕ). HasFed between T (bytes ++ take k piece)) e (a.ok bytes h))
+    same : (bytes : List ℕ) → HasFedXml old T bytes → HasFedXml between T bytes
+    same bytes h = subst (λ (v : List ℕ). HasFedXml between T v) (append-nil bytes) (subst (λ (k : ℕ). HasFedXml between T (bytes ++ take k piece)) e (a.ok bytes h))
 
-    of_count : (r : Result ℕ InstanceError) → IfOk r (λ k. fed new ≡ fed between + k) → IfOk r (λ k. fed new ≡ fed old + k)
+    of_count : (r : Result ℕ InstanceError) → IfOk r (λ k. xml_bytes_fed new ≡ xml_bytes_fed between + k) → IfOk r (λ k. xml_bytes_fed new ≡ xml_bytes_fed old + k)
     of_count (Ok k) h = let c = a.count in omega (arith, h, c, e)
     of_count (Err x) h = tt
 
-pub fronts_fed : (T : Tables) (old new : XmlChecker) (bytes piece rest behind : List ℕ) (n : ℕ) (s : FedSoFar T old bytes piece rest) → behind ≡ drop n rest → HasFed new T ((bytes ++ s.seen) ++ take n rest) → FedSoFar T new bytes piece behind
+pub fronts_fed : (T : Tables) (old new : XmlChecker) (bytes piece rest behind : List ℕ) (n : ℕ) (s : FedSoFar T old bytes piece rest) → behind ≡ drop n rest → HasFedXml new T ((bytes ++ s.seen) ++ take n rest) → FedSoFar T new bytes piece behind
 fronts_fed T old new bytes piece rest behind n s e h = record {
   seen = s.seen ++ take n rest;
   piece_is = s.piece_is ∙ (ap (λ v. s.seen ++ v) (sym (take-append-drop n rest)) ∙ (sym (append_assoc s.seen (take n rest) (drop n rest)) ∙ ap (λ v. (s.seen ++ take n rest) ++ v) (sym e)));
-  fed_are = subst (HasFed new T) (append_assoc bytes s.seen (take n rest)) h;
+  fed_are = subst (HasFedXml new T) (append_assoc bytes s.seen (take n rest)) h;
 }
 
-pub fronts_stop : (T : Tables) (old : XmlChecker) (bytes piece rest : List ℕ) (e : InstanceError) (s : FedSoFar T old bytes piece rest) → Stops T ((bytes ++ s.seen) ++ rest) e → Stops T (bytes ++ piece) e
-fronts_stop T old bytes piece rest e s h = subst (λ (v : List ℕ). Stops T v e) (append_assoc bytes s.seen rest ∙ ap (λ v. bytes ++ v) (sym s.piece_is)) h
+pub fronts_stop : (T : Tables) (old : XmlChecker) (bytes piece rest : List ℕ) (e : InstanceError) (s : FedSoFar T old bytes piece rest) → XmlStops T ((bytes ++ s.seen) ++ rest) e → XmlStops T (bytes ++ piece) e
+fronts_stop T old bytes piece rest e s h = subst (λ (v : List ℕ). XmlStops T v e) (append_assoc bytes s.seen rest ∙ ap (λ v. bytes ++ v) (sym s.piece_is)) h

@@ -10,10 +10,10 @@ use Rattle.reference_check.specs.Forms.{Form}
 use Rattle.message_model.specs.Message.{Message}
 use Rattle.facets.specs.declared.simple.Simple.{Simple}
 use Rattle.xml_instances.specs.declared.judge.Judge.{Judge}
-use Rattle.xml_instances.specs.Judges.{HasTaken, IsMadeFor}
+use Rattle.xml_instances.specs.Judges.{HasJudgeTaken, IsJudgeMadeFor}
 use Rattle.xml_instances.specs.Levels.{Level, Parent, Leaf, Envelope, Foreign, levels_after, levels_over, with_char, path_in}
 use Rattle.xml_instances.specs.EventFaults.{AreFine, char_fault, is_bare}
-use Rattle.xml_instances.specs.Open.{IsOpen, HoldsText, StandsFor, StandFor, Stands, IsItemTaken}
+use Rattle.xml_instances.specs.Open.{IsOpen, HoldsText, StandsFor, StandFor, StandsOpen, IsItemTaken}
 use Rattle.xml_instances.specs.inner.Quick.{MayTake, IsRunTaken, AreItemsTaken}
 use Rattle.xml_instances.specs.declared.content.Content.{Content}
 use Rattle.xml_instances.specs.declared.content.OpenText.{OpenText}
@@ -66,23 +66,23 @@ blank_chars m l ls (c ∷ cs) still h =
 parent_blank : (m : Message ℕ) (n : ℕ) (f : Form ℕ Simple) (d : List ℕ) (path : List ℕ) (c : ℕ) → m.forms n ≡ f → is_bare (m.forms n) ≡ false → is_space c ≡ true → None ≡ char_fault (Parent f d) path c
 parent_blank m n f d path c e bare blank = rw (sym (ap is_bare e) ∙ bare, blank) refl
 
-pub run_text : (m : Message ℕ) (ls : List (Level ℕ)) (cs : List ℕ) (content : Content) (old : Option OpenText) (o : Option Opened) (round : List Opened) → o ≡ Some opened.Text → content.innermost ≡ o → content.round.items ≡ round → Stands m old o round ls
+pub run_text : (m : Message ℕ) (ls : List (Level ℕ)) (cs : List ℕ) (content : Content) (old : Option OpenText) (o : Option Opened) (round : List Opened) → o ≡ Some opened.Text → content.innermost ≡ o → content.round.items ≡ round → StandsOpen m old o round ls
     → ((simple : Simple) (t : List ℕ) → HoldsText m old simple t → HoldsText m content.text simple (t ++ cs)) → IsRunTaken m ls cs content
-run_text m ls cs content old o round is kept same h taken = by ls (subst (λ (x : Option Opened). Stands m old x round ls) is h)
+run_text m ls cs content old o round is kept same h taken = by ls (subst (λ (x : Option Opened). StandsOpen m old x round ls) is h)
   where
-    here : (l : Level ℕ) (ls : List (Level ℕ)) → StandsFor m old opened.Text l → StandFor m (reverse round) ls → AreFine m (l ∷ ls) (chars_of cs) × Stands m content.text (Some opened.Text) round (levels_over m (l ∷ ls) (chars_of cs))
+    here : (l : Level ℕ) (ls : List (Level ℕ)) → StandsFor m old opened.Text l → StandFor m (reverse round) ls → AreFine m (l ∷ ls) (chars_of cs) × StandsOpen m content.text (Some opened.Text) round (levels_over m (l ∷ ls) (chars_of cs))
     here (Leaf simple t) ls s r =
         let k = text_chars m simple t ls cs in
-        (k.0, subst (λ (x : List (Level ℕ)). Stands m content.text (Some opened.Text) round x) (sym k.1) (taken simple t s, r))
+        (k.0, subst (λ (x : List (Level ℕ)). StandsOpen m content.text (Some opened.Text) round x) (sym k.1) (taken simple t s, r))
     here (Parent f d) ls s r = absurd s
     here (Envelope has) ls s r = absurd s
     here Foreign ls s r = absurd s
 
-    by : (ls : List (Level ℕ)) → Stands m old (Some opened.Text) round ls → IsRunTaken m ls cs content
+    by : (ls : List (Level ℕ)) → StandsOpen m old (Some opened.Text) round ls → IsRunTaken m ls cs content
     by [] h = absurd h
     by (l ∷ ls) h =
         let k = here l ls h.0 h.1 in
-        (k.0, subst (λ (x : Option Opened). Stands m content.text x content.round.items (levels_over m (l ∷ ls) (chars_of cs))) (sym (kept ∙ is)) (subst (λ (x : List Opened). Stands m content.text (Some opened.Text) x (levels_over m (l ∷ ls) (chars_of cs))) (sym same) k.1))
+        (k.0, subst (λ (x : Option Opened). StandsOpen m content.text x content.round.items (levels_over m (l ∷ ls) (chars_of cs))) (sym (kept ∙ is)) (subst (λ (x : List Opened). StandsOpen m content.text (Some opened.Text) x (levels_over m (l ∷ ls) (chars_of cs))) (sym same) k.1))
 
 -- the innermost element has no text of its own
 abbrev pub IsNoText : Option Opened → Type 0
@@ -93,7 +93,7 @@ IsNoText (Some (opened.Envelope filled)) = Unit {0}
 IsNoText (Some (opened.Parent n last count)) = Unit {0}
 
 pub run_other : (m : Message ℕ) (ls : List (Level ℕ)) (bytes : List ℕ) (count : ℕ) (r : IsRun bytes count) (content : Content) (o : Option Opened) → content.innermost ≡ o → IsNoText o → MayTake m.forms content.innermost bytes → IsOpen content m ls → IsRunTaken m ls r.characters content
-run_other m ls bytes count r content o is none may h = by o ls none (subst (λ (x : Option Opened). MayTake m.forms x bytes) is may) (subst (λ (x : Option Opened). Stands m content.text x content.round.items ls) is h) h
+run_other m ls bytes count r content o is none may h = by o ls none (subst (λ (x : Option Opened). MayTake m.forms x bytes) is may) (subst (λ (x : Option Opened). StandsOpen m content.text x content.round.items ls) is h) h
   where
     same : (ls : List (Level ℕ)) → AreFine m ls (chars_of r.characters) × (levels_over m ls (chars_of r.characters) ≡ ls) → IsOpen content m ls → IsRunTaken m ls r.characters content
     same ls k h = (k.0, subst (λ (x : List (Level ℕ)). IsOpen content m x) (sym k.1) h)
@@ -116,28 +116,28 @@ run_other m ls bytes count r content o is none may h = by o ls none (subst (λ (
     at (opened.Parent n last k) (Envelope has) ls none may s = absurd s
     at (opened.Parent n last k) Foreign ls none may s = absurd s
 
-    by : (o : Option Opened) (ls : List (Level ℕ)) → IsNoText o → MayTake m.forms o bytes → Stands m content.text o content.round.items ls → IsOpen content m ls → IsRunTaken m ls r.characters content
+    by : (o : Option Opened) (ls : List (Level ℕ)) → IsNoText o → MayTake m.forms o bytes → StandsOpen m content.text o content.round.items ls → IsOpen content m ls → IsRunTaken m ls r.characters content
     by None [] none may k h = same [] (no_chars m r.characters) h
     by None (l ∷ ls) none may k h = absurd k
     by (Some e) [] none may k h = absurd k
     by (Some e) (l ∷ ls) none may k h = same (l ∷ ls) (at e l ls none may k.0) h
 
 pub run_text_all : {E : Type 0} (m : Message ℕ) (bytes : List ℕ) (count : ℕ) (res : Result (Unit {0}) E) (content : Content) (old : Option OpenText) (o : Option Opened) (round : List Opened) → o ≡ Some opened.Text → content.innermost ≡ o → content.round.items ≡ round
-    → ((r : IsRun bytes count) (simple : Simple) (t : List ℕ) → HoldsText m old simple t → OnOk res (HoldsText m content.text simple (t ++ r.characters))) → OnOk res ((r : IsRun bytes count) (ls : List (Level ℕ)) → Stands m old o round ls → IsRunTaken m ls r.characters content)
+    → ((r : IsRun bytes count) (simple : Simple) (t : List ℕ) → HoldsText m old simple t → OnOk res (HoldsText m content.text simple (t ++ r.characters))) → OnOk res ((r : IsRun bytes count) (ls : List (Level ℕ)) → StandsOpen m old o round ls → IsRunTaken m ls r.characters content)
 run_text_all m bytes count (Ok x) content old o round is kept same taken = λ r ls h. run_text m ls r.characters content old o round is kept same h (λ simple t k. taken r simple t k)
 run_text_all m bytes count (Err x) content old o round is kept same taken = tt
 
 -- ---- the check of a text
 
-pub run_taken : {T E : Type 0} (res : Result T E) (bytes : List ℕ) (count : ℕ) (old new : Judge) (simple : Simple) → OnOk res ((r : IsXmlRun bytes count) (text : List ℕ) → HasTaken old simple text → HasTaken new simple (text ++ r.chars))
-    → OnOk res ((r : IsRun bytes count) (text : List ℕ) → HasTaken old simple text → HasTaken new simple (text ++ r.characters))
+pub run_taken : {T E : Type 0} (res : Result T E) (bytes : List ℕ) (count : ℕ) (old new : Judge) (simple : Simple) → OnOk res ((r : IsXmlRun bytes count) (text : List ℕ) → HasJudgeTaken old simple text → HasJudgeTaken new simple (text ++ r.chars))
+    → OnOk res ((r : IsRun bytes count) (text : List ℕ) → HasJudgeTaken old simple text → HasJudgeTaken new simple (text ++ r.characters))
 run_taken (Ok x) bytes count old new simple h = λ r text t. h (xml_run bytes count r) text t
 run_taken (Err x) bytes count old new simple h = tt
 
-pub run_made : {T E : Type 0} (res : Result T E) (bytes : List ℕ) (count : ℕ) (old new : Judge) (simple : Simple) → IsXmlRun bytes count → OnOk res ((r : IsXmlRun bytes count) (text : List ℕ) → HasTaken old simple text → HasTaken new simple (text ++ r.chars))
-    → OnErr res (new ≡ old) → IsMadeFor old simple → IsMadeFor new simple
+pub run_made : {T E : Type 0} (res : Result T E) (bytes : List ℕ) (count : ℕ) (old new : Judge) (simple : Simple) → IsXmlRun bytes count → OnOk res ((r : IsXmlRun bytes count) (text : List ℕ) → HasJudgeTaken old simple text → HasJudgeTaken new simple (text ++ r.chars))
+    → OnErr res (new ≡ old) → IsJudgeMadeFor old simple → IsJudgeMadeFor new simple
 run_made (Ok x) bytes count old new simple r h e (text, t) = (text ++ r.chars, h r text t)
-run_made (Err x) bytes count old new simple r h e made = subst (λ (v : Judge). IsMadeFor v simple) (sym e) made
+run_made (Err x) bytes count old new simple r h e made = subst (λ (v : Judge). IsJudgeMadeFor v simple) (sym e) made
 
 -- ---- the events of a tag
 

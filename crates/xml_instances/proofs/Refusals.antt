@@ -8,17 +8,17 @@ use Rattle.lexical_core.specs.Tree.{Item}
 use Rattle.markup.specs.Token.{Token, token_bytes}
 use Rattle.markup.specs.Marks.{Front, tag_limit, OneToken, FrontsAgree}
 use Rattle.markup.specs.Events.{Placed, events}
-use Rattle.markup.specs.EventItems.{item_of, placed, Tells}
+use Rattle.markup.specs.EventItems.{item_of, placed_event, Tells}
 use Rattle.markup.specs.Faults.{Next, IsClean, MarkFault, Fault as Marked}
 use Rattle.markup.specs.Reading.{AreEvents, Refuses, GoesOn, fault_of as mark_of}
 use Rattle.markup.specs.Standing.{NothingAtClean, TokensHaveBytes, EventsStay}
 use Rattle.markup.specs.declared.event.Event.{Event}
 use Rattle.markup.specs.declared.reader.MarkFault.{MarkFault as MarkTold}
 use Rattle.message_model.specs.Message.{Message}
-use Rattle.xml_instances.specs.Levels.{Level, levels_over, path_of}
+use Rattle.xml_instances.specs.Levels.{Level, levels_over, levels_path}
 use Rattle.xml_instances.specs.EventFaults.{Broken, EventFault, AreFine}
-use Rattle.xml_instances.specs.XmlFaults.{Fault, XmlFault, items_told}
-use Rattle.xml_instances.specs.Checking.{items_of, BreaksAt, AreTaken, Stops, EndsAs, IsMarkTold, fault_of, HasFed}
+use Rattle.xml_instances.specs.XmlFaults.{FaultInXml, XmlFault, items_told}
+use Rattle.xml_instances.specs.Checking.{items_in_events, BreaksAt, AreTaken, XmlStops, XmlEndsAs, IsMarkTold, xml_fault_of, HasFedXml}
 use Rattle.std.specs.Prelude.{Err}
 use Rattle.message_model.specs.Tables.{Tables, message_of}
 use Rattle.message_model.specs.declared.fault.InstanceError.{InstanceError}
@@ -41,8 +41,8 @@ module _ (one_token : OneToken) (nothing_at_clean : NothingAtClean) where
       last_is (u ∷ before) f.0 us vs rest z rule at f.3 (subst (λ (v : List ℕ). Front tag_limit (u ∷ before) v (us ++ vs) z) (sym (one_token before u u b f.0 g.0 f.1 g.1).1) g.3) c.1 n
 
 module _ (m : Message ℕ) (one_token : OneToken) (nothing_at_clean : NothingAtClean) where
-  abbrev told_fault : Rule → List (Level ℕ) → ℕ → Fault
-  told_fault rule ls place = record { broken = record { rule = rule; path = path_of ls }; place = place }
+  abbrev told_fault : Rule → List (Level ℕ) → ℕ → FaultInXml
+  told_fault rule ls place = record { broken = record { rule = rule; path = levels_path ls }; place = place }
 
   -- at the end of the input
   pub mark_end : (bytes : List ℕ) (told : List Placed) (f : Marked) → AreEvents bytes told → AreFine m [] (items_told told) → MarkFault bytes f → XmlFault m bytes (told_fault f.rule (levels_over m [] (items_told told)) f.place)
@@ -94,61 +94,61 @@ pub content_fault : (m : Message ℕ) (bytes : List ℕ) (tokens : List Token) (
     → old ≡ [] → Tells old new more → AreFine m [] (items_told told) → BreaksAt m (levels_over m [] (items_told told)) new b place → XmlFault m bytes (record { broken = b; place = place })
 content_fault m bytes tokens rest told more old new b place front clean told_are none tells fine k =
     subst (λ (v : ℕ). XmlFault m bytes (record { broken = b; place = v })) (sym k.place_is)
-    (event_fault m bytes tokens rest (told ++ map placed k.before) (map placed k.behind) (placed k.event) b front clean split
-    (subst (λ (v : List Item). AreFine m [] v) (sym front_items) (fine_joined m [] (items_told told) (items_of k.before) fine k.fine))
-    (subst (λ (v : List (Level ℕ)). EventFault m v (item_of k.event.what) (Some b)) (sym (ap (levels_over m []) front_items ∙ over_joined m [] (items_told told) (items_of k.before))) k.broken))
+    (event_fault m bytes tokens rest (told ++ map placed_event k.before) (map placed_event k.behind) (placed_event k.event) b front clean split
+    (subst (λ (v : List Item). AreFine m [] v) (sym front_items) (fine_joined m [] (items_told told) (items_in_events k.before) fine k.fine))
+    (subst (λ (v : List (Level ℕ)). EventFault m v (item_of k.event.what) (Some b)) (sym (ap (levels_over m []) front_items ∙ over_joined m [] (items_told told) (items_in_events k.before))) k.broken))
   where
-    front_items : items_told (told ++ map placed k.before) ≡ items_told told ++ items_of k.before
-    front_items = told_joined told (map placed k.before) ∙ ap (λ v. items_told told ++ v) (items_placed k.before)
+    front_items : items_told (told ++ map placed_event k.before) ≡ items_told told ++ items_in_events k.before
+    front_items = told_joined told (map placed_event k.before) ∙ ap (λ v. items_told told ++ v) (items_placed k.before)
 
-    more_is : more ≡ map placed k.before ++ placed k.event ∷ map placed k.behind
-    more_is = sym tells.told_are ∙ (ap (map placed) (sym (tells.appended ∙ ap (λ v. v ++ tells.more) none) ∙ k.events_are) ∙ map-append placed k.before (k.event ∷ k.behind))
+    more_is : more ≡ map placed_event k.before ++ placed_event k.event ∷ map placed_event k.behind
+    more_is = sym tells.told_are ∙ (ap (map placed_event) (sym (tells.appended ∙ ap (λ v. v ++ tells.more) none) ∙ k.events_are) ∙ map-append placed_event k.before (k.event ∷ k.behind))
 
-    split : events [] 0 tokens ≡ (told ++ map placed k.before) ++ placed k.event ∷ map placed k.behind
-    split = sym told_are ∙ (ap (λ v. told ++ v) more_is ∙ sym (append_assoc told (map placed k.before) (placed k.event ∷ map placed k.behind)))
+    split : events [] 0 tokens ≡ (told ++ map placed_event k.before) ++ placed_event k.event ∷ map placed_event k.behind
+    split = sym told_are ∙ (ap (λ v. told ++ v) more_is ∙ sym (append_assoc told (map placed_event k.before) (placed_event k.event ∷ map placed_event k.behind)))
 
 abbrev events_of : List Token → List Placed
 events_of tokens = events [] 0 tokens
 
 -- an event of bytes that the reader took
-pub stops_at_event : (T : Tables) (checker : XmlChecker) (reader : Reader) (bytes seen : List ℕ) (events : List Event) (content : Content) (e : InstanceError) (h : HasFed checker T bytes) → EventsStay → GoesOn reader (bytes ++ seen) h.told checker.events events
-    → AreTaken {T = Unit {0}} (message_of T) (levels_over (message_of T) [] (items_told h.told)) events content (Err e) → Stops T (bytes ++ seen) e
+pub stops_at_event : (T : Tables) (checker : XmlChecker) (reader : Reader) (bytes seen : List ℕ) (events : List Event) (content : Content) (e : InstanceError) (h : HasFedXml checker T bytes) → EventsStay → GoesOn reader (bytes ++ seen) h.told checker.events events
+    → AreTaken {T = Unit {0}} (message_of T) (levels_over (message_of T) [] (items_told h.told)) events content (Err e) → XmlStops T (bytes ++ seen) e
 stops_at_event T checker reader bytes seen events content Memory h stay g k = tt
 stops_at_event T checker reader bytes seen events content (Refused fault) h stay g k = record {
   has_fault = λ behind. of_stay behind (stay reader (bytes ++ seen) (h.told ++ g.more) g.taken_are behind);
-  no_cut = event_no_cut (message_of T) (levels_over (message_of T) (levels_over (message_of T) [] (items_told h.told)) (items_of k.before)) (item_of k.event.what) (fault_of fault).broken k.broken;
+  no_cut = event_no_cut (message_of T) (levels_over (message_of T) (levels_over (message_of T) [] (items_told h.told)) (items_in_events k.before)) (item_of k.event.what) (xml_fault_of fault).broken k.broken;
 }
   where
-    of_stay : (behind : List ℕ) → ((tokens : List Token) × (rest : List ℕ) × Front tag_limit [] ((bytes ++ seen) ++ behind) tokens rest × IsClean [] tokens × (h.told ++ g.more ≡ events_of tokens)) → XmlFault (message_of T) ((bytes ++ seen) ++ behind) (fault_of fault)
-    of_stay behind (tokens, rest, front, clean, told_are) = content_fault (message_of T) ((bytes ++ seen) ++ behind) tokens rest h.told g.more checker.events events (fault_of fault).broken fault.place front clean told_are h.none g.tells h.fine k
+    of_stay : (behind : List ℕ) → ((tokens : List Token) × (rest : List ℕ) × Front tag_limit [] ((bytes ++ seen) ++ behind) tokens rest × IsClean [] tokens × (h.told ++ g.more ≡ events_of tokens)) → XmlFault (message_of T) ((bytes ++ seen) ++ behind) (xml_fault_of fault)
+    of_stay behind (tokens, rest, front, clean, told_are) = content_fault (message_of T) ((bytes ++ seen) ++ behind) tokens rest h.told g.more checker.events events (xml_fault_of fault).broken fault.place front clean told_are h.none g.tells h.fine k
 
 -- an event that bytes have shown which are refused
-pub stops_before_mark : (T : Tables) (checker : XmlChecker) (bytes seen : List ℕ) (events : List Event) (content : Content) (mark : MarkTold) (e : InstanceError) (h : HasFed checker T bytes) → Refuses (bytes ++ seen) h.told checker.events events mark
-    → AreTaken {T = Unit {0}} (message_of T) (levels_over (message_of T) [] (items_told h.told)) events content (Err e) → Stops T (bytes ++ seen) e
+pub stops_before_mark : (T : Tables) (checker : XmlChecker) (bytes seen : List ℕ) (events : List Event) (content : Content) (mark : MarkTold) (e : InstanceError) (h : HasFedXml checker T bytes) → Refuses (bytes ++ seen) h.told checker.events events mark
+    → AreTaken {T = Unit {0}} (message_of T) (levels_over (message_of T) [] (items_told h.told)) events content (Err e) → XmlStops T (bytes ++ seen) e
 stops_before_mark T checker bytes seen events content mark Memory h r k = tt
 stops_before_mark T checker bytes seen events content mark (Refused fault) h r k = record {
-  has_fault = λ behind. content_fault (message_of T) ((bytes ++ seen) ++ behind) r.tokens (r.rest ++ behind) h.told r.more checker.events events (fault_of fault).broken fault.place (r.front behind) r.clean r.events_are h.none r.tells h.fine k;
-  no_cut = event_no_cut (message_of T) (levels_over (message_of T) (levels_over (message_of T) [] (items_told h.told)) (items_of k.before)) (item_of k.event.what) (fault_of fault).broken k.broken;
+  has_fault = λ behind. content_fault (message_of T) ((bytes ++ seen) ++ behind) r.tokens (r.rest ++ behind) h.told r.more checker.events events (xml_fault_of fault).broken fault.place (r.front behind) r.clean r.events_are h.none r.tells h.fine k;
+  no_cut = event_no_cut (message_of T) (levels_over (message_of T) (levels_over (message_of T) [] (items_told h.told)) (items_in_events k.before)) (item_of k.event.what) (xml_fault_of fault).broken k.broken;
 }
 
 -- a fault of markup
-pub stops_at_mark : (T : Tables) (checker : XmlChecker) (bytes seen : List ℕ) (events : List Event) (mark : MarkTold) (e : InstanceError) (h : HasFed checker T bytes) → OneToken → FrontsAgree → NothingAtClean → TokensHaveBytes → Refuses (bytes ++ seen) h.told checker.events events mark
-    → AreFine (message_of T) (levels_over (message_of T) [] (items_told h.told)) (items_of events) → IsMarkTold mark (levels_over (message_of T) (levels_over (message_of T) [] (items_told h.told)) (items_of events)) e → Stops T (bytes ++ seen) e
+pub stops_at_mark : (T : Tables) (checker : XmlChecker) (bytes seen : List ℕ) (events : List Event) (mark : MarkTold) (e : InstanceError) (h : HasFedXml checker T bytes) → OneToken → FrontsAgree → NothingAtClean → TokensHaveBytes → Refuses (bytes ++ seen) h.told checker.events events mark
+    → AreFine (message_of T) (levels_over (message_of T) [] (items_told h.told)) (items_in_events events) → IsMarkTold mark (levels_over (message_of T) (levels_over (message_of T) [] (items_told h.told)) (items_in_events events)) e → XmlStops T (bytes ++ seen) e
 stops_at_mark T checker bytes seen events mark Memory h one agree none some r fine k = tt
 stops_at_mark T checker bytes seen events mark (Refused fault) h one agree none some r fine (same_rule, same_path, same_place) = record { has_fault = shown; no_cut = λ e. r.no_cut (sym same_rule ∙ e) }
   where
-    items_are : items_told (h.told ++ r.more) ≡ items_told h.told ++ items_of events
+    items_are : items_told (h.told ++ r.more) ≡ items_told h.told ++ items_in_events events
     items_are = told_joined h.told r.more ∙ ap (λ v. items_told h.told ++ v) (items_new checker.events events r.more h.none r.tells)
 
-    levels_are : levels_over (message_of T) [] (items_told (h.told ++ r.more)) ≡ levels_over (message_of T) (levels_over (message_of T) [] (items_told h.told)) (items_of events)
-    levels_are = ap (levels_over (message_of T) []) items_are ∙ over_joined (message_of T) [] (items_told h.told) (items_of events)
+    levels_are : levels_over (message_of T) [] (items_told (h.told ++ r.more)) ≡ levels_over (message_of T) (levels_over (message_of T) [] (items_told h.told)) (items_in_events events)
+    levels_are = ap (levels_over (message_of T) []) items_are ∙ over_joined (message_of T) [] (items_told h.told) (items_in_events events)
 
-    shown : (behind : List ℕ) → XmlFault (message_of T) ((bytes ++ seen) ++ behind) (fault_of fault)
+    shown : (behind : List ℕ) → XmlFault (message_of T) ((bytes ++ seen) ++ behind) (xml_fault_of fault)
     shown behind =
-        rw (same_rule, same_path, same_place, ← levels_are) (mark_refused (message_of T) one none agree some (bytes ++ seen) h.told checker.events events mark r (subst (λ (v : List Item). AreFine (message_of T) [] v) (sym items_are) (fine_joined (message_of T) [] (items_told h.told) (items_of events) h.fine fine)) behind)
+        rw (same_rule, same_path, same_place, ← levels_are) (mark_refused (message_of T) one none agree some (bytes ++ seen) h.told checker.events events mark r (subst (λ (v : List Item). AreFine (message_of T) [] v) (sym items_are) (fine_joined (message_of T) [] (items_told h.told) (items_in_events events) h.fine fine)) behind)
 
 -- at the end
-pub ends_at_mark : (T : Tables) (checker : XmlChecker) (bytes : List ℕ) (mark : MarkTold) (e : InstanceError) (h : HasFed checker T bytes) → OneToken → NothingAtClean → AreEvents bytes h.told → MarkFault bytes (mark_of mark)
-    → IsMarkTold mark (levels_over (message_of T) [] (items_told h.told)) e → EndsAs T bytes e
+pub ends_at_mark : (T : Tables) (checker : XmlChecker) (bytes : List ℕ) (mark : MarkTold) (e : InstanceError) (h : HasFedXml checker T bytes) → OneToken → NothingAtClean → AreEvents bytes h.told → MarkFault bytes (mark_of mark)
+    → IsMarkTold mark (levels_over (message_of T) [] (items_told h.told)) e → XmlEndsAs T bytes e
 ends_at_mark T checker bytes mark Memory h one none all f k = tt
 ends_at_mark T checker bytes mark (Refused fault) h one none all f (same_rule, same_path, same_place) = rw (same_rule, same_path, same_place) (mark_end (message_of T) one none bytes h.told (mark_of mark) all h.fine f)

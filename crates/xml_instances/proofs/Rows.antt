@@ -10,7 +10,7 @@ use Rattle.facets.specs.declared.simple.Simple.{Simple}
 use Rattle.reference_check.specs.Forms.{Form, Slot, Sequence, Choice, Missing}
 use Rattle.reference_check.specs.Forms as form
 use Rattle.message_model.specs.Message.{Message}
-use Rattle.message_model.specs.Writes.{named, schema_instance}
+use Rattle.message_model.specs.Writes.{name_in_namespace, schema_instance}
 use Rattle.xml_instances.specs.EventFaults.{FirstFault, AreFine}
 
 module _ (s : Simple) where
@@ -38,10 +38,10 @@ module _ (s : Simple) where
   note_path = codes "/Document[1]" ++ numbered_tag (codes "/Note")
 
   abbrev starts : List ℕ → Item
-  starts tag = Starts (named (codes "u") tag) []
+  starts tag = Starts (name_in_namespace (codes "u") tag) []
 
   abbrev ends : List ℕ → Item
-  ends tag = Ends (named (codes "u") tag)
+  ends tag = Ends (name_in_namespace (codes "u") tag)
 
   abbrev Tells : List Item → Rule → List ℕ → Type 0
   Tells items r path = FirstFault note [] items (record { rule = r; path = path })
@@ -71,10 +71,10 @@ module _ (s : Simple) where
   unfolding slot forms
   in_text = inr (refl, inr (refl, inr (refl, inr (refl, inl refl))))
 
-  bad_attribute : Tells (Starts (named (codes "u") (codes "Document")) (record { name = named [] (codes "a"); value = [] } ∷ []) ∷ []) rule.UnknownAttribute (codes "/Document[1]")
+  bad_attribute : Tells (Starts (name_in_namespace (codes "u") (codes "Document")) (record { name = name_in_namespace [] (codes "a"); value = [] } ∷ []) ∷ []) rule.UnknownAttribute (codes "/Document[1]")
   unfolding slot forms
   bad_attribute = inl refl
 
-  hint : AreFine note [] (Starts (named (codes "u") (codes "Document")) (record { name = named schema_instance (codes "schemaLocation"); value = [] } ∷ []) ∷ Skipped ∷ [])
+  hint : AreFine note [] (Starts (name_in_namespace (codes "u") (codes "Document")) (record { name = name_in_namespace schema_instance (codes "schemaLocation"); value = [] } ∷ []) ∷ Skipped ∷ [])
   unfolding slot forms
   hint = (refl, (refl, tt))

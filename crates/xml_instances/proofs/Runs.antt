@@ -14,14 +14,14 @@ use Rattle.markup.specs.Chars.{is_space}
 use Rattle.facets.specs.declared.simple.Simple.{Simple}
 use Rattle.reference_check.specs.Forms.{Graph, Form, Slot, form_slots}
 use Rattle.reference_check.specs.Forms as form
-use Rattle.reference_check.specs.Words.{IsWord}
+use Rattle.reference_check.specs.Words.{IsWordOf}
 use Rattle.reference_check.specs.Steps.{Slotted, Fine, next, next_of, next_found, next_at, find_slot, end_after}
 use Rattle.message_model.specs.Admits.{AdmitsAs, AdmitsChildren, numbers_of}
-use Rattle.message_model.specs.Writes.{named, IsHint, IsHintOrCurrency, currency, SpellsCode, WritesAttributes, text_nodes, IsBlank, Wraps, MayHold, WritesContent, WritesLeaf, SpellsText}
+use Rattle.message_model.specs.Writes.{name_in_namespace, IsHint, IsHintOrCurrency, currency, SpellsCode, WritesAttributes, text_nodes, IsBlank, Wraps, MayHold, WritesContent, WritesLeaf, SpellsText}
 use Rattle.lexical_core.specs.Names.{same_name}
 use Rattle.message_model.specs.Message.{Message}
 use Rattle.xml_instances.specs.SpellsXml.{IsInstance}
-use Rattle.xml_instances.specs.Levels.{Level, Parent, Leaf, Envelope, Foreign, begun, path_in}
+use Rattle.xml_instances.specs.Levels.{Level, Parent, Leaf, Envelope, Foreign, begun_level, path_in}
 use Rattle.xml_instances.specs.EventFaults.{Broken, AreFine, AttributeFault, CurrencyFault, CodeFault, Unless, place_fault, is_known, is_hint, is_bare, space_fault}
 
 pub space_passes : (c : ℕ) → IsSpace c → is_space c ≡ true
@@ -37,8 +37,8 @@ same_bytes a = (bytes_eq-Decides a a).1 refl
 -- of the forms of a message: a tag finds its slot, what a word goes on with may come, and a word may end
 pub record IsSteady {P : Type 0} (g : Graph P Simple) : Type 0 where
   pub tagged : (p : P) (k : ℕ) (s : Slot P) → slice_get (form_slots (g p)) k ≡ Some s → find_slot 0 (form_slots (g p)) s.tag ≡ Some k
-  pub goes_on : (p : P) (d e : List ℕ) (k : ℕ) (s : Slot P) → slice_get (form_slots (g p)) k ≡ Some s → IsWord (g p) (d ++ k ∷ e) → next_of (g p) d k s ≡ Slotted k
-  pub ends : (p : P) (d : List ℕ) → IsWord (g p) d → end_after (g p) d ≡ Fine
+  pub goes_on : (p : P) (d e : List ℕ) (k : ℕ) (s : Slot P) → slice_get (form_slots (g p)) k ≡ Some s → IsWordOf (g p) (d ++ k ∷ e) → next_of (g p) d k s ≡ Slotted k
+  pub ends : (p : P) (d : List ℕ) → IsWordOf (g p) d → end_after (g p) d ≡ Fine
 
 both_true : (a b : Bool) → a ≡ true → b ≡ true → (a && b) ≡ true
 both_true true b e f = f
@@ -103,14 +103,14 @@ module _ {P : Type 0} (m : Message P) (steady : IsSteady m.forms) where
   attributes_fine form.LeftOut v attributes path a h = unless_none _ _ (if_false _ _ _ (hints_known {P = P} form.LeftOut attributes h)) refl
   attributes_fine form.Missing v attributes path a h = unless_none _ _ (if_false _ _ _ (hints_known {P = P} form.Missing attributes h)) refl
 
-  pub next_slotted : (p : P) (f : Form P Simple) (d e : List ℕ) (k : ℕ) (s : Slot P) → m.forms p ≡ f → slice_get (form_slots f) k ≡ Some s → IsWord f (d ++ k ∷ e) → next f d s.tag ≡ Slotted k
-  next_slotted p f d e k s at = subst (λ (f : Form P Simple). slice_get (form_slots f) k ≡ Some s → IsWord f (d ++ k ∷ e) → next f d s.tag ≡ Slotted k) at of_place
+  pub next_slotted : (p : P) (f : Form P Simple) (d e : List ℕ) (k : ℕ) (s : Slot P) → m.forms p ≡ f → slice_get (form_slots f) k ≡ Some s → IsWordOf f (d ++ k ∷ e) → next f d s.tag ≡ Slotted k
+  next_slotted p f d e k s at = subst (λ (f : Form P Simple). slice_get (form_slots f) k ≡ Some s → IsWordOf f (d ++ k ∷ e) → next f d s.tag ≡ Slotted k) at of_place
     where
-      of_place : slice_get (form_slots (m.forms p)) k ≡ Some s → IsWord (m.forms p) (d ++ k ∷ e) → next (m.forms p) d s.tag ≡ Slotted k
+      of_place : slice_get (form_slots (m.forms p)) k ≡ Some s → IsWordOf (m.forms p) (d ++ k ∷ e) → next (m.forms p) d s.tag ≡ Slotted k
       of_place found word = ap (next_found (m.forms p) (form_slots (m.forms p)) d) (steady.tagged p k s found) ∙ (ap (next_at (m.forms p) d k) found ∙ steady.goes_on p d e k s found word)
 
-  ends_at : (p : P) (f : Form P Simple) (d : List ℕ) → m.forms p ≡ f → IsWord f d → end_after f d ≡ Fine
-  ends_at p f d at = subst (λ (f : Form P Simple). IsWord f d → end_after f d ≡ Fine) at (steady.ends p d)
+  ends_at : (p : P) (f : Form P Simple) (d : List ℕ) → m.forms p ≡ f → IsWordOf f d → end_after f d ≡ Fine
+  ends_at p f d at = subst (λ (f : Form P Simple). IsWordOf f d → end_after f d ≡ Fine) at (steady.ends p d)
 
   foreign_fine : (nodes : Nodes) (above : List (Level P)) (rest : List Item) → AreFine m (Foreign ∷ above) rest → AreFine m (Foreign ∷ above) (flat_nodes nodes ++ rest)
   foreign_fine tree.Nothing above rest h = h
@@ -144,7 +144,7 @@ module _ {P : Type 0} (m : Message P) (steady : IsSteady m.forms) where
   abbrev pub ChildrenFine : Nodes → Type 0
   ChildrenFine nodes =
       (p : P) (f : Form P Simple) (before : List ℕ) (ks : Children) (above : List (Level P)) (rest : List Item) → m.forms p ≡ f
-      → (is_bare f ≡ false) ⊎ (nodes ≡ tree.Nothing) → IsWord f (before ++ numbers_of ks) → AdmitsChildren m.forms (form_slots f) ks
+      → (is_bare f ≡ false) ⊎ (nodes ≡ tree.Nothing) → IsWordOf f (before ++ numbers_of ks) → AdmitsChildren m.forms (form_slots f) ks
       → WritesContent m.forms m.namespace f (value.Component ks) nodes → AreFine m (Parent f (before ++ numbers_of ks) ∷ above) rest
       → AreFine m (Parent f before ∷ above) (flat_nodes nodes ++ rest)
 
@@ -170,7 +170,7 @@ module _ {P : Type 0} (m : Message P) (steady : IsSteady m.forms) where
 
   -- the content of an element and its end
   element_fine : (nodes : Nodes) (p : P) (f : Form P Simple) (v : Value) (n : Expanded) (above : List (Level P)) (rest : List Item) → ChildrenFine nodes → m.forms p ≡ f
-      → AdmitsAs m.forms f v → MayHold f nodes → WritesContent m.forms m.namespace f v nodes → AreFine m above rest → AreFine m (begun f ∷ above) (flat_nodes nodes ++ (Ends n ∷ rest))
+      → AdmitsAs m.forms f v → MayHold f nodes → WritesContent m.forms m.namespace f v nodes → AreFine m above rest → AreFine m (begun_level f ∷ above) (flat_nodes nodes ++ (Ends n ∷ rest))
   element_fine nodes p (form.Sequence fs) (value.Component ks) n above rest children at (word, admitted) holds written fine =
       children p (form.Sequence fs) [] ks above (Ends n ∷ rest) at (bare_or_empty fs nodes holds) word admitted written (rw (ends_at p (form.Sequence fs) _ at word) refl, fine)
   element_fine nodes p (form.Choice fs) (value.Component ks) n above rest children at (word, admitted) holds written fine =
@@ -181,9 +181,9 @@ module _ {P : Type 0} (m : Message P) (steady : IsSteady m.forms) where
       wraps_fine t nodes above (Ends n ∷ rest) (leaf_content form.Envelope (value.External t) nodes tt h) (refl, fine)
   element_fine nodes p f v n above rest children at a holds h fine = absurd a
 
-  starts_fine : (f : Form P Simple) (before : List ℕ) (k : ℕ) (s : Slot P) (n : Expanded) (attributes : List Entry) (above : List (Level P)) (items : List Item) → n ≡ named m.namespace s.tag
+  starts_fine : (f : Form P Simple) (before : List ℕ) (k : ℕ) (s : Slot P) (n : Expanded) (attributes : List Entry) (above : List (Level P)) (items : List Item) → n ≡ name_in_namespace m.namespace s.tag
       → next f before s.tag ≡ Slotted k → slice_get (form_slots f) k ≡ Some s → AttributeFault m (Some (m.forms s.target)) attributes (path_in (Parent f (before ++ k ∷ []) ∷ above)) None
-      → AreFine m (begun (m.forms s.target) ∷ Parent f (before ++ k ∷ []) ∷ above) items → AreFine m (Parent f before ∷ above) (Starts n attributes ∷ items)
+      → AreFine m (begun_level (m.forms s.target) ∷ Parent f (before ++ k ∷ []) ∷ above) items → AreFine m (Parent f before ∷ above) (Starts n attributes ∷ items)
   starts_fine f before k s n attributes above items e slotted found known fine =
       let here : next f before n.local ≡ Slotted k = ap (λ x. next f before x.local) e ∙ slotted in
       let space : bytes_eq n.namespace m.namespace ≡ true = (bytes_eq-Decides n.namespace m.namespace).1 (ap (λ x. x.namespace) e) in
@@ -206,8 +206,8 @@ module _ {P : Type 0} (m : Message P) (steady : IsSteady m.forms) where
       (element_fine inner s.target (m.forms s.target) v n (Parent f (before ++ k ∷ []) ∷ above) (flat_nodes more ++ rest) (children_fine inner) refl admits (subst (λ (x : Slot P). MayHold (m.forms x.target) inner) same holds) (subst (λ (x : Slot P). WritesContent m.forms m.namespace (m.forms x.target) v inner) same content)
       (children_fine more p f (before ++ k ∷ []) ks above rest at (inl e) (rw append_assoc word) admitted written (rw append_assoc fine))))
 
-  place_root : (n : Expanded) → n ≡ named m.namespace (codes "Document") → place_fault m [] n ≡ None
-  place_root n e = (let same : same_name n (named m.namespace (codes "Document")) ≡ true = same_names n (named m.namespace (codes "Document")) e in rw same refl)
+  place_root : (n : Expanded) → n ≡ name_in_namespace m.namespace (codes "Document") → place_fault m [] n ≡ None
+  place_root n e = (let same : same_name n (name_in_namespace m.namespace (codes "Document")) ≡ true = same_names n (name_in_namespace m.namespace (codes "Document")) e in rw same refl)
 
   pub root_fine : (t : Tree) (v : Value) → IsInstance m v t → AreFine m [] (flat t)
   root_fine t v i = (

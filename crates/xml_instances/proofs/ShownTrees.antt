@@ -2,7 +2,7 @@
 use Rattle.std.proofs.Common.{subst, ◌≡◌, ℕ, zero, suc, true, false, arith, length, List, [], ◌∷◌, ◌++◌, Option, Some, refl, sym, ap, ◌∙◌, append_assoc, append-nil}
 use Rattle.std.specs.Prelude.{slice_get, Result, Ok}
 use Rattle.std.specs.Str.{chars}
-use Rattle.lexical_core.specs.Tree.{Expanded, Entry, Nodes, Element, Text, Tree, Item, Starts, Char, Ends, Skipped, flat, flat_nodes, counted}
+use Rattle.lexical_core.specs.Tree.{Expanded, Entry, Nodes, Element, Text, Tree, Item, Starts, Char, Ends, Skipped, flat, flat_nodes, tree_items}
 use Rattle.lexical_core.specs.Tree as tree
 use Rattle.data_types.specs.Value.{Value, Children, Nothing, Child, Edge, Piece, Begins, Holds, Ends as EndsPiece}
 use Rattle.data_types.specs.Value as value
@@ -13,7 +13,7 @@ use Rattle.facets.specs.declared.simple.Simple.{Simple}
 use Rattle.fragments.specs.Fragment.{fragment}
 use Rattle.reference_check.specs.Forms.{Graph, Form, Slot, form_slots, text_type}
 use Rattle.reference_check.specs.Forms as form
-use Rattle.reference_check.specs.Words.{IsWord}
+use Rattle.reference_check.specs.Words.{IsWordOf}
 use Rattle.reference_check.specs.Steps.{Slotted, next}
 use Rattle.message_model.specs.Admits.{AdmitsAs, AdmitsChildren, numbers_of}
 use Rattle.message_model.specs.Tables.{Tables, types_of, message_of, pieces, child_pieces, pieces_of}
@@ -22,8 +22,8 @@ use Rattle.message_model.specs.Sound.{SoundFormsAgree}
 use Rattle.xml_instances.specs.SpellsXml.{IsInstance}
 use Rattle.xml_instances.specs.XmlFaults.{items}
 use Rattle.xml_instances.specs.Laws.{PiecesAreShown}
-use Rattle.xml_instances.specs.Levels.{Level, Parent, Leaf, Envelope, Foreign, begun, with_char}
-use Rattle.xml_instances.specs.Built.{Shown, nothing_shown, type_at, with_begun, with_leaf, closed, with_inside, without_inside, with_event, CodeShown, EventsShow}
+use Rattle.xml_instances.specs.Levels.{Level, Parent, Leaf, Envelope, Foreign, begun_level, with_char}
+use Rattle.xml_instances.specs.Built.{Shown, nothing_shown, type_at, with_begun, with_leaf, close_shown, with_inside, without_inside, with_event, CodeShown, EventsShow}
 use Rattle.xml_instances.proofs.Runs.{IsSteady, next_slotted}
 use Rattle.xml_instances.proofs.Counted.{round_length}
 
@@ -130,18 +130,18 @@ module _ (T : Tables) (steady : IsSteady (types_of T)) (sorted : (p : ℕ) (simp
 
   -- an element with a text ends
   leaf_shown : (p : ℕ) (simple : Simple) (l : leaf.Leaf) (nodes : Nodes) (n : Expanded) (above : List (Level ℕ)) (rest : List Item) (s t : Shown) → text_type (types_of T p) ≡ Some simple → SpellsText simple l nodes
-      → EventsShow T (Leaf simple [] ∷ above) (flat_nodes nodes ++ (Ends n ∷ rest)) s t → EventsShow T above rest (closed (with_pieces (Holds l ∷ []) s)) t
+      → EventsShow T (Leaf simple [] ∷ above) (flat_nodes nodes ++ (Ends n ∷ rest)) s t → EventsShow T above rest (close_shown (with_pieces (Holds l ∷ []) s)) t
   leaf_shown p simple l nodes n above rest s t at (w, is, gives) h =
       of_end (text_shown simple [] w above (Ends n ∷ rest) s t (subst (λ (x : Nodes). EventsShow T (Leaf simple [] ∷ above) (flat_nodes x ++ (Ends n ∷ rest)) s t) is h))
     where
-      of_end : EventsShow T (Leaf simple w ∷ above) (Ends n ∷ rest) s t → EventsShow T above rest (closed (with_pieces (Holds l ∷ []) s)) t
+      of_end : EventsShow T (Leaf simple w ∷ above) (Ends n ∷ rest) s t → EventsShow T above rest (close_shown (with_pieces (Holds l ∷ []) s)) t
       of_end (x, (u, (k, same, e), q), r) =
-          from above rest x (closed (with_pieces (Holds l ∷ []) s)) t (q ∙ ap closed (e ∙ ap (λ (y : leaf.Leaf). with_leaf y s) (one simple w k l (sorted p simple at) same gives))) r
+          from above rest x (close_shown (with_pieces (Holds l ∷ []) s)) t (q ∙ ap close_shown (e ∙ ap (λ (y : leaf.Leaf). with_leaf y s) (one simple w k l (sorted p simple at) same gives))) r
 
   -- ---- envelopes that end
 
   envelope_shown : (tr : Tree) (nodes : Nodes) (n : Expanded) (above : List (Level ℕ)) (rest : List Item) (s t : Shown) → s.inside ≡ [] → Wraps tr nodes
-      → EventsShow T (Envelope false ∷ above) (flat_nodes nodes ++ (Ends n ∷ rest)) s t → EventsShow T above rest (closed (with_pieces (Holds (leaf.Bytes (fragment tr)) ∷ []) s)) t
+      → EventsShow T (Envelope false ∷ above) (flat_nodes nodes ++ (Ends n ∷ rest)) s t → EventsShow T above rest (close_shown (with_pieces (Holds (leaf.Bytes (fragment tr)) ∷ []) s)) t
   envelope_shown tr nodes n above rest s t empty w h = of_end (wraps_shown tr nodes above (Ends n ∷ rest) s t w h)
     where
       kept : (with_items (flat tr) s).inside ≡ flat tr
@@ -150,8 +150,8 @@ module _ (T : Tables) (steady : IsSteady (types_of T)) (sorted : (p : ℕ) (simp
       emptied : (bytes : List ℕ) → bytes ≡ fragment tr → without_inside (with_leaf (leaf.Bytes bytes) (with_items (flat tr) s)) ≡ with_pieces (Holds (leaf.Bytes (fragment tr)) ∷ []) s
       emptied bytes is = ap (λ (b : List ℕ). shown s.edges [] (s.pieces ++ Holds (leaf.Bytes b) ∷ [])) is ∙ ap (λ (e : List Item). shown s.edges e (s.pieces ++ Holds (leaf.Bytes (fragment tr)) ∷ [])) (sym empty)
 
-      of_end : EventsShow T (Envelope true ∷ above) (Ends n ∷ rest) (with_items (flat tr) s) t → EventsShow T above rest (closed (with_pieces (Holds (leaf.Bytes (fragment tr)) ∷ []) s)) t
-      of_end (x, (u, (bytes, is, e), q), r) = from above rest x (closed (with_pieces (Holds (leaf.Bytes (fragment tr)) ∷ []) s)) t (q ∙ ap closed (e ∙ emptied bytes (is tr kept))) r
+      of_end : EventsShow T (Envelope true ∷ above) (Ends n ∷ rest) (with_items (flat tr) s) t → EventsShow T above rest (close_shown (with_pieces (Holds (leaf.Bytes (fragment tr)) ∷ []) s)) t
+      of_end (x, (u, (bytes, is, e), q), r) = from above rest x (close_shown (with_pieces (Holds (leaf.Bytes (fragment tr)) ∷ []) s)) t (q ∙ ap close_shown (e ∙ emptied bytes (is tr kept))) r
 
   -- ---- amounts: the code
 
@@ -179,12 +179,12 @@ module _ (T : Tables) (steady : IsSteady (types_of T)) (sorted : (p : ℕ) (simp
   abbrev ChildrenShown : Nodes → Type 0
   ChildrenShown nodes =
       (n : ℕ) (f : Form ℕ Simple) (before : List ℕ) (ks : Children) (above : List (Level ℕ)) (rest : List Item) (s t : Shown) → types_of T n ≡ f → type_at s.edges ≡ n → s.inside ≡ []
-      → IsWord f (before ++ numbers_of ks) → AdmitsChildren (types_of T) (form_slots f) ks → WritesContent (types_of T) (message_of T).namespace f (value.Component ks) nodes
+      → IsWordOf f (before ++ numbers_of ks) → AdmitsChildren (types_of T) (form_slots f) ks → WritesContent (types_of T) (message_of T).namespace f (value.Component ks) nodes
       → EventsShow T (Parent f before ∷ above) (flat_nodes nodes ++ rest) s t → EventsShow T (Parent f (before ++ numbers_of ks) ∷ above) rest (with_pieces (child_pieces fragment (types_of T) n ks) s) t
 
   parent_ends : (n : ℕ) (f : Form ℕ Simple) (ks : Children) (name : Expanded) (above : List (Level ℕ)) (rest : List Item) (s t : Shown)
-      → EventsShow T (Parent f (numbers_of ks) ∷ above) (Ends name ∷ rest) (with_pieces (child_pieces fragment (types_of T) n ks) s) t → EventsShow T above rest (closed (with_pieces (child_pieces fragment (types_of T) n ks) s)) t
-  parent_ends n f ks name above rest s t (x, (u, e, q), r) = from above rest x (closed (with_pieces (child_pieces fragment (types_of T) n ks) s)) t (q ∙ ap closed e) r
+      → EventsShow T (Parent f (numbers_of ks) ∷ above) (Ends name ∷ rest) (with_pieces (child_pieces fragment (types_of T) n ks) s) t → EventsShow T above rest (close_shown (with_pieces (child_pieces fragment (types_of T) n ks) s)) t
+  parent_ends n f ks name above rest s t (x, (u, e, q), r) = from above rest x (close_shown (with_pieces (child_pieces fragment (types_of T) n ks) s)) t (q ∙ ap close_shown e) r
 
   leaf_content : (f : Form ℕ Simple) (l : leaf.Leaf) (nodes : Nodes) → WritesContent (types_of T) (message_of T).namespace f (value.Simple l) nodes → WritesLeaf f (value.Simple l) nodes
   leaf_content f l nodes h = h
@@ -197,7 +197,7 @@ module _ (T : Tables) (steady : IsSteady (types_of T)) (sorted : (p : ℕ) (simp
 
   -- the content of an element and its end
   element_shown : (nodes : Nodes) (n : ℕ) (f : Form ℕ Simple) (v : Value) (name : Expanded) (above : List (Level ℕ)) (rest : List Item) (s t : Shown) → ChildrenShown nodes → types_of T n ≡ f → type_at s.edges ≡ n → s.inside ≡ []
-      → AdmitsAs (types_of T) f v → WritesContent (types_of T) (message_of T).namespace f v nodes → EventsShow T (begun f ∷ above) (flat_nodes nodes ++ (Ends name ∷ rest)) s t → EventsShow T above rest (closed (with_pieces (left_of (types_of T) n v) s)) t
+      → AdmitsAs (types_of T) f v → WritesContent (types_of T) (message_of T).namespace f v nodes → EventsShow T (begun_level f ∷ above) (flat_nodes nodes ++ (Ends name ∷ rest)) s t → EventsShow T above rest (close_shown (with_pieces (left_of (types_of T) n v) s)) t
   element_shown nodes n (form.Sequence fs) (value.Component ks) name above rest s t children at type empty (word, admitted) written h =
       parent_ends n (form.Sequence fs) ks name above rest s t (children n (form.Sequence fs) [] ks above (Ends name ∷ rest) s t at type empty word admitted written h)
   element_shown nodes n (form.Choice fs) (value.Component ks) name above rest s t children at type empty (word, admitted) written h =
@@ -223,7 +223,7 @@ module _ (T : Tables) (steady : IsSteady (types_of T)) (sorted : (p : ℕ) (simp
   -- an element of a slot starts
   started : (n k : ℕ) (f : Form ℕ Simple) (before : List ℕ) (slot : Slot ℕ) (name : Expanded) (attributes : List Entry) (above : List (Level ℕ)) (items : List Item) (s t : Shown)
       → type_at s.edges ≡ n → next f before name.local ≡ Slotted k → slice_get (form_slots f) k ≡ Some slot → EventsShow T (Parent f before ∷ above) (Starts name attributes ∷ items) s t
-      → (u : Shown) × CodeShown T (Some (types_of T slot.target)) attributes (with_begun (Some (edge_of n k slot)) s) u × EventsShow T (begun (types_of T slot.target) ∷ Parent f (before ++ k ∷ []) ∷ above) items u t
+      → (u : Shown) × CodeShown T (Some (types_of T slot.target)) attributes (with_begun (Some (edge_of n k slot)) s) u × EventsShow T (begun_level (types_of T slot.target) ∷ Parent f (before ++ k ∷ []) ∷ above) items u t
   started n k f before slot name attributes above items s t type slotted found (u, (y, i, c), r) =
       (u, of_code (rw (type, slotted, found) at i) (rw (slotted, found) at c), rw (slotted, found) at r)
     where
@@ -267,7 +267,7 @@ module _ (T : Tables) (steady : IsSteady (types_of T)) (sorted : (p : ℕ) (simp
       grouped : (a b c d : List Piece) → ((a ++ b) ++ c) ++ d ≡ a ++ (b ++ (c ++ d))
       grouped a b c d = append_assoc (a ++ b) c d ∙ append_assoc a b (c ++ d)
 
-      child_is : closed (with_pieces (left_of (types_of T) slot.target v) (with_pieces (code_of v) (with_begun (Some (edge_of n k slot)) s))) ≡ (behind_child n k slot v s)
+      child_is : close_shown (with_pieces (left_of (types_of T) slot.target v) (with_pieces (code_of v) (with_begun (Some (edge_of n k slot)) s))) ≡ (behind_child n k slot v s)
       child_is =
           let e : Edge = edge_of n k slot in
           ap (λ (ps : List Piece). shown s.edges s.inside ps)
@@ -288,26 +288,26 @@ module _ (T : Tables) (steady : IsSteady (types_of T)) (sorted : (p : ℕ) (simp
           (from (Parent f ((before ++ k ∷ []) ++ numbers_of ks) ∷ above) rest (with_pieces (child_pieces fragment (types_of T) n ks) (behind_child n k slot v s)) (with_pieces (child_pieces fragment (types_of T) n (Child k v ks)) s) t all_children q)
 
       of_start : ((u : Shown) × CodeShown T (Some (types_of T slot.target)) attributes (with_begun (Some (edge_of n k slot)) s) u
-          × EventsShow T (begun (types_of T slot.target) ∷ Parent f (before ++ k ∷ []) ∷ above) (flat_nodes inner ++ (Ends name ∷ (flat_nodes more ++ rest))) u t)
+          × EventsShow T (begun_level (types_of T slot.target) ∷ Parent f (before ++ k ∷ []) ∷ above) (flat_nodes inner ++ (Ends name ∷ (flat_nodes more ++ rest))) u t)
           → ChildrenShown inner
           → ((x : Shown) → type_at x.edges ≡ n → x.inside ≡ [] → EventsShow T (Parent f (before ++ k ∷ []) ∷ above) (flat_nodes more ++ rest) x t → EventsShow T (Parent f ((before ++ k ∷ []) ++ numbers_of ks) ∷ above) rest (with_pieces (child_pieces fragment (types_of T) n ks) x) t)
           → EventsShow T (Parent f (before ++ k ∷ numbers_of ks) ∷ above) rest (with_pieces (child_pieces fragment (types_of T) n (Child k v ks)) s) t
       of_start (u, c, r) inside later =
           let begun_at : Shown = with_pieces (code_of v) (with_begun (Some (edge_of n k slot)) s) in
-          let ended : EventsShow T (Parent f (before ++ k ∷ []) ∷ above) (flat_nodes more ++ rest) (closed (with_pieces (left_of (types_of T) slot.target v) begun_at)) t =
+          let ended : EventsShow T (Parent f (before ++ k ∷ []) ∷ above) (flat_nodes more ++ rest) (close_shown (with_pieces (left_of (types_of T) slot.target v) begun_at)) t =
           element_shown inner slot.target (types_of T slot.target) v name (Parent f (before ++ k ∷ []) ∷ above) (flat_nodes more ++ rest) begun_at t inside refl (begun_type s n k slot v) (empty_type s n k slot v empty) admits
           (subst (λ (x : Slot ℕ). WritesContent (types_of T) (message_of T).namespace (types_of T x.target) v inner) same content)
-          (from (begun (types_of T slot.target) ∷ Parent f (before ++ k ∷ []) ∷ above) (flat_nodes inner ++ (Ends name ∷ (flat_nodes more ++ rest))) u begun_at t (code u c) r) in
-          of_rest (later (behind_child n k slot v s) (rest_of (behind_child n k slot v s) refl).0 (rest_of (behind_child n k slot v s) refl).1 (from (Parent f (before ++ k ∷ []) ∷ above) (flat_nodes more ++ rest) (closed (with_pieces (left_of (types_of T) slot.target v) begun_at)) (behind_child n k slot v s) t child_is ended))
+          (from (begun_level (types_of T slot.target) ∷ Parent f (before ++ k ∷ []) ∷ above) (flat_nodes inner ++ (Ends name ∷ (flat_nodes more ++ rest))) u begun_at t (code u c) r) in
+          of_rest (later (behind_child n k slot v s) (rest_of (behind_child n k slot v s) refl).0 (rest_of (behind_child n k slot v s) refl).1 (from (Parent f (before ++ k ∷ []) ∷ above) (flat_nodes more ++ rest) (close_shown (with_pieces (left_of (types_of T) slot.target v) begun_at)) (behind_child n k slot v s) t child_is ended))
 
   -- ---- the root
 
   pub root_shown : (tr : Tree) (v : Value) (t : Shown) → IsInstance (message_of T) v tr → EventsShow T [] (flat tr) nothing_shown t → t.pieces ≡ pieces_of fragment T v
   root_shown tr v t i (u, (y, e, c), r) =
       at_end (element_shown tr.children 0 (types_of T 0) v tr.name [] [] (with_pieces (code_of v) nothing_shown) t (children_shown tr.children) refl refl refl i.admitted i.written.content
-      (from (begun (types_of T 0) ∷ []) (flat_nodes tr.children ++ (Ends tr.name ∷ [])) u (with_pieces (code_of v) nothing_shown) t (code_shown (types_of T 0) v tr.attributes nothing_shown u i.admitted i.written.attributes (subst (λ (x : Shown). CodeShown T (Some (types_of T 0)) tr.attributes x u) e c)) r))
+      (from (begun_level (types_of T 0) ∷ []) (flat_nodes tr.children ++ (Ends tr.name ∷ [])) u (with_pieces (code_of v) nothing_shown) t (code_shown (types_of T 0) v tr.attributes nothing_shown u i.admitted i.written.attributes (subst (λ (x : Shown). CodeShown T (Some (types_of T 0)) tr.attributes x u) e c)) r))
     where
-      at_end : t ≡ closed (with_pieces (left_of (types_of T) 0 v) (with_pieces (code_of v) nothing_shown)) → t.pieces ≡ pieces_of fragment T v
+      at_end : t ≡ close_shown (with_pieces (left_of (types_of T) 0 v) (with_pieces (code_of v) nothing_shown)) → t.pieces ≡ pieces_of fragment T v
       at_end e = ap (λ (x : Shown). x.pieces) e ∙ in_two (types_of T) 0 v
 
 -- ---- whole inputs
@@ -320,7 +320,7 @@ module _ (T : Tables) where
   skipped_same Foreign ls s = refl
 
   -- skipped events and characters outside the root show nothing
-  shown_counted : (n : ℕ) (ls : List (Level ℕ)) (items : List Item) (s t : Shown) → length ls ≡ n → EventsShow T ls items s t → EventsShow T ls (counted n items) s t
+  shown_counted : (n : ℕ) (ls : List (Level ℕ)) (items : List Item) (s t : Shown) → length ls ≡ n → EventsShow T ls items s t → EventsShow T ls (tree_items n items) s t
   shown_counted n ls [] s t e h = h
   shown_counted n ls (Starts k a ∷ items) s t e (u, x, r) = (u, x, shown_counted (suc n) _ items u t (ap suc (round_length (message_of T) ls k ∙ e)) r)
   shown_counted zero [] (Char c ∷ items) s t e (u, x, r) = shown_counted zero [] items s t e (subst (λ (y : Shown). EventsShow T [] items y t) x r)

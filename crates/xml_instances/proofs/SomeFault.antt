@@ -12,7 +12,7 @@ use Rattle.markup.specs.Faults.{WholeOrFaulty, IsWhole, MarkFault}
 use Rattle.markup.specs.Faults as mark
 use Rattle.reference_check.specs.Forms.{Form, Slot, form_slots}
 use Rattle.reference_check.specs.Forms as form
-use Rattle.reference_check.specs.Steps.{Next}
+use Rattle.reference_check.specs.Steps.{NextSlot}
 use Rattle.reference_check.specs.Steps as step
 use Rattle.message_model.specs.Writes.{currency, value_of}
 use Rattle.message_model.specs.Message.{Message}
@@ -20,7 +20,7 @@ use Rattle.message_model.specs.Sound.{HaveCodes}
 use Rattle.xml_instances.specs.Levels.{Level, Parent, Leaf as LeafLevel, Envelope, Foreign, levels_after, levels_over, form_of_start, form_by, slot_form, round_start, path_in}
 use Rattle.xml_instances.specs.EventFaults.{Broken, EventFault, AreFine, Unless, AttributeFault, RequiredFault, CurrencyFault, LeafFault, CodeFault, EndFault, place_fault, unknown_fault}
 use Rattle.xml_instances.specs.XmlFaults.{items_told}
-use Rattle.xml_instances.specs.Laws.{FineIsSpelled, SpelledOrFaulty}
+use Rattle.xml_instances.specs.Laws.{FineIsSpelled, XmlSpelledOrFaulty}
 use Rattle.xml_instances.proofs.FaultAt.{event_fault, markup_fault}
 
 -- no characters are without an answer under a simple type
@@ -72,7 +72,7 @@ module _ {P : Type 0} (m : Message P) (codes : HaveCodes m.forms) (answers : Has
   slot_typed None = tt
   slot_typed (Some s) = (s.target, refl)
 
-  step_typed : (f : Form P Simple) (next : Next) → IsOfType (form_by m.forms f next)
+  step_typed : (f : Form P Simple) (next : NextSlot) → IsOfType (form_by m.forms f next)
   step_typed f (step.Slotted k) = slot_typed (slice_get (form_slots f) k)
   step_typed f step.Unknown = tt
   step_typed f step.OutOfOrder = tt
@@ -139,7 +139,7 @@ module _ {P : Type 0} (m : Message P) (codes : HaveCodes m.forms) (answers : Has
 
 -- ---- bytes
 
-pub spelled_or_faulty : HasLeafAnswers → WholeOrFaulty → FineIsSpelled → SpelledOrFaulty
+pub spelled_or_faulty : HasLeafAnswers → WholeOrFaulty → FineIsSpelled → XmlSpelledOrFaulty
 spelled_or_faulty answers whole_or_faulty fine_is_spelled m bytes sound codes lacks = by (whole_or_faulty bytes)
   where
     of_whole : (w : IsWhole bytes) → (AreFine m [] (items_told (events [] 0 w.tokens)) ⊎ FirstBroken m codes answers [] (events [] 0 w.tokens)) → ⊥

@@ -7,7 +7,7 @@ use Rattle.facets.specs.declared.simple.Simple.{Simple}
 use Rattle.xml_instances.specs.declared.judge.Judge.{Judge}
 use Rattle.reference_check.specs.Forms.{Graph}
 use Rattle.xml_instances.specs.Open.{IsMade, IsMadeAt}
-use Rattle.xml_instances.specs.Verdicts.{IsVerdict, IsGivenVerdict}
+use Rattle.xml_instances.specs.Verdicts.{IsVerdictJudge, IsGivenVerdict}
 
 -- a check, as it is kept
 abbrev pub Held : Type 0
@@ -53,6 +53,6 @@ pub made_of : (types : Graph ℕ Simple) (n : ℕ) (o : Option Held) → IsAt (I
 made_of types n None h = tt
 made_of types n (Some check) h = h
 
-pub verdict_of : (n : ℕ) (o : Option Held) → IsAt (λ _ j. IsVerdict j) n o → IsGivenVerdict o
+pub verdict_of : (n : ℕ) (o : Option Held) → IsAt (λ _ j. IsVerdictJudge j) n o → IsGivenVerdict o
 verdict_of n None h = tt
 verdict_of n (Some check) h = h

@@ -23,10 +23,10 @@ use Rattle.message_model.specs.Sound.{AreSound}
 use Rattle.message_model.specs.Tables.{Tables, types_of, message_of}
 use Rattle.xml_instances.specs.Levels.{Level, levels_after, levels_over}
 use Rattle.xml_instances.specs.EventFaults.{Broken, EventFault, AreFine, FirstFault}
-use Rattle.xml_instances.specs.XmlFaults.{Fault, XmlFault, NextFault, markup, content, items, items_told}
-use Rattle.xml_instances.specs.OpenInstances.{Open}
-use Rattle.xml_instances.specs.OpenLaws.{FineIsOpen, OneMoreIsOpen, CleanAreFronts, BrokenIsNotOpen, FedIsOpen}
-use Rattle.xml_instances.specs.ReadyLaws.{IsToldAtEvent, ReadyTellsAtOnce, ReadyTokensTellAtOnce, ReadyFedIsOpen, ReadyFaultIsAtEvent}
+use Rattle.xml_instances.specs.XmlFaults.{FaultInXml, XmlFault, NextFault, markup, content, items, items_told}
+use Rattle.xml_instances.specs.OpenInstances.{AreEventsOpen}
+use Rattle.xml_instances.specs.OpenLaws.{FineIsOpen, OneMoreIsOpen, CleanAreFronts, BrokenEventIsNotOpen, FedIsOpen}
+use Rattle.xml_instances.specs.ReadyLaws.{IsToldAtEvent, ReadyXmlTellsAtOnce, ReadyTokensTellAtOnce, ReadyFedXmlIsOpen, ReadyFaultIsAtEvent}
 use Rattle.message_model.proofs.CompiledFinite.{tables_finite}
 use Rattle.xml_instances.proofs.FaultAt.{fine_joined, over_joined}
 use Rattle.xml_instances.proofs.MarkupRules.{next_low}
@@ -57,9 +57,9 @@ placed_joined place a b = map-append (λ (i : Item). record { place = place; ite
 
 -- ---- a fault of bytes
 
-module _ (open_are : FineIsOpen) (not_open : BrokenIsNotOpen) (fronts : CleanAreFronts) (m : Message ℕ) (sound : AreSound m.forms) (finite : AreFinite m.forms m.root) where
+module _ (open_are : FineIsOpen) (not_open : BrokenEventIsNotOpen) (fronts : CleanAreFronts) (m : Message ℕ) (sound : AreSound m.forms) (finite : AreFinite m.forms m.root) where
   -- events at the end of tokens, of which one is the first that breaks a rule
-  at_event : (bytes : List ℕ) (fault : Fault) (ts : List Token) (t : Token) (rest : List ℕ) → Front tag_limit [] bytes (ts ++ t ∷ []) rest → IsClean [] (ts ++ t ∷ []) → AreFine m [] (items ts)
+  at_event : (bytes : List ℕ) (fault : FaultInXml) (ts : List Token) (t : Token) (rest : List ℕ) → Front tag_limit [] bytes (ts ++ t ∷ []) rest → IsClean [] (ts ++ t ∷ []) → AreFine m [] (items ts)
       → length (flat_map token_bytes ts) ≡ fault.place → IsSplit m (levels_over m [] (items ts)) (items_of (reverse ts) t) fault.broken → IsToldAtEvent m bytes fault
   at_event bytes fault ts t rest front clean fine at s = record {
     tokens = ts ++ t ∷ [];
@@ -73,7 +73,7 @@ module _ (open_are : FineIsOpen) (not_open : BrokenIsNotOpen) (fronts : CleanAre
     place = at;
     goes_on = (open_are m (items_told told) sound finite (fronts (ts ++ t ∷ []) (items_told told) (s.item ∷ s.behind) clean first)).0 all_fine;
     goes_no_further = λ o. not_open m (items_told told) s.item fault.broken sound finite (fronts (ts ++ t ∷ []) (items_told told ++ s.item ∷ []) s.behind clean second) all_fine
-        (subst (λ (x : List (Level ℕ)). EventFault m x s.item (Some fault.broken)) (sym levels_are) s.broken) (subst (λ (x : List Item). Open m x) (told_joined told (event ∷ [])) o);
+        (subst (λ (x : List (Level ℕ)). EventFault m x s.item (Some fault.broken)) (sym levels_are) s.broken) (subst (λ (x : List Item). AreEventsOpen m x) (told_joined told (event ∷ [])) o);
   }
     where
       place : ℕ
@@ -104,7 +104,7 @@ module _ (open_are : FineIsOpen) (not_open : BrokenIsNotOpen) (fronts : CleanAre
       second : items (ts ++ t ∷ []) ≡ (items_told told ++ s.item ∷ []) ++ s.behind
       second = first ∙ sym (append_assoc (items_told told) (s.item ∷ []) s.behind)
 
-  told_at_event : (bytes : List ℕ) (fault : Fault) → XmlFault m bytes fault → 12 ≤ number_of fault.broken.rule → IsToldAtEvent m bytes fault
+  told_at_event : (bytes : List ℕ) (fault : FaultInXml) → XmlFault m bytes fault → 12 ≤ number_of fault.broken.rule → IsToldAtEvent m bytes fault
   told_at_event bytes fault h high = of_next h.next
     where
       of_next : NextFault m (reverse h.tokens) (levels_over m [] (items h.tokens)) h.rest fault.broken h.at → IsToldAtEvent m bytes fault
@@ -123,7 +123,7 @@ module _ (compiled : CompiledAreSound) (reached : ReadyAreFinite) where
   finite_of : (R : Contents) (m : List ℕ) (ids : List (List ℕ)) (T : Tables) → IsReady R m → IsReachedList R m ids → Compiles R m ids T → AreFinite (types_of T) 0
   finite_of R m ids T ready list made = tables_finite reached R m ready ids list T made
 
-  pub tells_at_once : OneMoreIsOpen → ReadyTellsAtOnce
+  pub tells_at_once : OneMoreIsOpen → ReadyXmlTellsAtOnce
   tells_at_once one_more R m ids T ready list made before item front fine =
       one_more (message_of T) before item (sound_of R m ids T ready list made) (finite_of R m ids T ready list made) front fine
 
@@ -132,9 +132,9 @@ module _ (compiled : CompiledAreSound) (reached : ReadyAreFinite) where
       tells_at_once one_more R m ids T ready list made before item
       (fronts ts (before ++ item ∷ []) behind clean (are ∙ sym (append_assoc before (item ∷ []) behind))) fine
 
-  pub ready_fed_is_open : FedIsOpen → ReadyFedIsOpen
+  pub ready_fed_is_open : FedIsOpen → ReadyFedXmlIsOpen
   ready_fed_is_open fed R m ids T ready list made checker bytes h = fed T checker bytes (sound_of R m ids T ready list made) (finite_of R m ids T ready list made) h
 
-  pub fault_is_at_event : FineIsOpen → BrokenIsNotOpen → CleanAreFronts → ReadyFaultIsAtEvent
+  pub fault_is_at_event : FineIsOpen → BrokenEventIsNotOpen → CleanAreFronts → ReadyFaultIsAtEvent
   fault_is_at_event open_are not_open fronts R m ids T ready list made bytes fault h high =
       told_at_event open_are not_open fronts (message_of T) (sound_of R m ids T ready list made) (finite_of R m ids T ready list made) bytes fault h high

@@ -9,7 +9,7 @@ use Rattle.facets.specs.declared.simple.Simple.{Simple}
 use Rattle.fragments.specs.Fragment.{fragment}
 use Rattle.reference_check.specs.Forms.{Form, form_slots}
 use Rattle.reference_check.specs.Forms as form
-use Rattle.reference_check.specs.Steps.{Next, Slotted, next}
+use Rattle.reference_check.specs.Steps.{NextSlot, Slotted, next}
 use Rattle.message_model.specs.Tables.{Tables, types_of, message_of, edge_at}
 use Rattle.message_model.specs.Writes.{currency, value_of, SpellsCode}
 use Rattle.xml_instances.specs.Levels.{Level, Parent, Leaf, Envelope, Foreign, levels_after, form_of_start}
@@ -31,7 +31,7 @@ abbrev pub type_at : List Edge → ℕ
 type_at [] = 0
 type_at (e ∷ edges) = e.target
 
-abbrev pub edge_by : ℕ → Form ℕ Simple → Next → Option Edge
+abbrev pub edge_by : ℕ → Form ℕ Simple → NextSlot → Option Edge
 edge_by number f (Slotted k) = Some (edge_at number k (slice_get (form_slots f) k))
 edge_by number f _ = None
 
@@ -46,7 +46,7 @@ with_begun None s = s
 with_begun (Some e) s = record { edges = e ∷ s.edges; inside = s.inside; pieces = s.pieces ++ Begins e ∷ [] }
 
 -- the start of an element: in one with elements, at the slot that comes next
-abbrev pub ChildShown : Form ℕ Simple → Next → Shown → Shown → Type 0
+abbrev pub ChildShown : Form ℕ Simple → NextSlot → Shown → Shown → Type 0
 ChildShown f comes s t = t ≡ with_begun (edge_by (type_at s.edges) f comes) s
 
 abbrev pub StartShown : List (Level ℕ) → List ℕ → Shown → Shown → Type 0
@@ -61,8 +61,8 @@ abbrev pub closed_at : List Edge → Shown → Shown
 closed_at [] s = s
 closed_at (e ∷ edges) s = record { edges = edges; inside = s.inside; pieces = s.pieces ++ EndsPiece e ∷ [] }
 
-abbrev pub closed : Shown → Shown
-closed s = closed_at s.edges s
+abbrev pub close_shown : Shown → Shown
+close_shown s = closed_at s.edges s
 
 abbrev pub with_inside : Item → Shown → Shown
 with_inside item s = record { edges = s.edges; inside = s.inside ++ item ∷ []; pieces = s.pieces }
@@ -102,7 +102,7 @@ LeafShown l s t = t ≡ s
 
 abbrev pub with_end : Level ℕ → Shown → Shown
 with_end Foreign s = s
-with_end l s = closed s
+with_end l s = close_shown s
 
 -- the end of an element
 abbrev pub EndShown : Level ℕ → Shown → Shown → Type 0

@@ -5,7 +5,7 @@ use Rattle.data_types.specs.Value.{Value, Piece}
 use Rattle.fragments.specs.Fragment.{fragment}
 use Rattle.markup.specs.Events.{Placed}
 use Rattle.markup.specs.EventItems.{item_of}
-use Rattle.markup.specs.Reading.{HasTaken, taken}
+use Rattle.markup.specs.Reading.{HasTaken, bytes_taken}
 use Rattle.lexical_core.specs.Tree.{Item}
 use Rattle.markup.specs.declared.event.Event.{Event}
 use Rattle.message_model.specs.Message.{Message}
@@ -14,9 +14,9 @@ use Rattle.message_model.specs.declared.fault.Fault.{Fault as Told}
 use Rattle.message_model.specs.declared.fault.InstanceError.{InstanceError}
 use Rattle.message_model.specs.declared.fault.InstanceError.TheVariants.{Refused, Memory}
 use Rattle.markup.specs.declared.reader.MarkFault.{MarkFault as MarkTold}
-use Rattle.xml_instances.specs.Levels.{Level, levels_over, path_of}
+use Rattle.xml_instances.specs.Levels.{Level, levels_over, levels_path}
 use Rattle.xml_instances.specs.EventFaults.{Broken, AreFine, EventFault}
-use Rattle.xml_instances.specs.XmlFaults.{Fault, XmlFault, items, items_told}
+use Rattle.xml_instances.specs.XmlFaults.{FaultInXml, XmlFault, items, items_told}
 use Rattle.xml_instances.specs.SpellsXml.{SpellsXml}
 use Rattle.xml_instances.specs.Open.{IsOpen, AreMade}
 use Rattle.xml_instances.specs.Keeping.{IsBuilt}
@@ -26,17 +26,17 @@ use Rattle.xml_instances.specs.declared.opened.Refusal.TheVariants.{Breaks, Memo
 use Rattle.xml_instances.specs.declared.checker.XmlChecker.{XmlChecker}
 
 -- a fault that is told, as one of the definitions
-abbrev pub fault_of : Told → Fault
-fault_of f = record { broken = record { rule = f.rule; path = f.path }; place = f.place }
+abbrev pub xml_fault_of : Told → FaultInXml
+xml_fault_of f = record { broken = record { rule = f.rule; path = f.path }; place = f.place }
 
-abbrev pub items_of : List Event → List Item
-items_of events = map (λ (e : Event). item_of e.what) events
+abbrev pub items_in_events : List Event → List Item
+items_in_events events = map (λ (e : Event). item_of e.what) events
 
 -- the checker goes on: it was given these bytes, and none of their events breaks a rule
-pub record HasFed (checker : XmlChecker) (T : Tables) (bytes : List ℕ) : Type 0 where
+pub record HasFedXml (checker : XmlChecker) (T : Tables) (bytes : List ℕ) : Type 0 where
   pub told : List Placed
   pub given : HasTaken checker.reader bytes told
-  pub counted : taken checker.reader ≡ length bytes
+  pub counted : bytes_taken checker.reader ≡ length bytes
   pub placed : checker.place ≡ length bytes
   pub fine : AreFine (message_of T) [] (items_told told)
   pub open_are : IsOpen checker.content (message_of T) (levels_over (message_of T) [] (items_told told))
@@ -45,16 +45,16 @@ pub record HasFed (checker : XmlChecker) (T : Tables) (bytes : List ℕ) : Type 
   pub sound : checker.failed ≡ None
 
 -- the checker was made for the message of these tables
-abbrev pub IsMadeFor : XmlChecker → Tables → Type 0
-IsMadeFor checker T = AreMade (types_of T) checker.content
+abbrev pub IsXmlCheckerFor : XmlChecker → Tables → Type 0
+IsXmlCheckerFor checker T = AreMade (types_of T) checker.content
 
 -- how many bytes the checker was given
-abbrev pub fed : XmlChecker → ℕ
-fed checker = taken checker.reader
+abbrev pub xml_bytes_fed : XmlChecker → ℕ
+xml_bytes_fed checker = bytes_taken checker.reader
 
 -- the answer that it gives for good, where there is one
-abbrev pub failed : XmlChecker → Option InstanceError
-failed checker = checker.failed
+abbrev pub xml_failure : XmlChecker → Option InstanceError
+xml_failure checker = checker.failed
 
 -- what the comparison of the events that were told together answers: all break no rule, or the first that breaks one
 pub record BreaksAt (m : Message ℕ) (ls : List (Level ℕ)) (events : List Event) (b : Broken) (place : ℕ) : Type 0 where
@@ -62,8 +62,8 @@ pub record BreaksAt (m : Message ℕ) (ls : List (Level ℕ)) (events : List Eve
   pub event : Event
   pub behind : List Event
   pub events_are : events ≡ before ++ event ∷ behind
-  pub fine : AreFine m ls (items_of before)
-  pub broken : EventFault m (levels_over m ls (items_of before)) (item_of event.what) (Some b)
+  pub fine : AreFine m ls (items_in_events before)
+  pub broken : EventFault m (levels_over m ls (items_in_events before)) (item_of event.what) (Some b)
   pub place_is : place ≡ event.place
 
 -- a refusal of an event at the place, as it is told
@@ -73,35 +73,35 @@ IsTold NoMemory place Memory = Unit {0}
 IsTold refusal place e = ⊥
 
 abbrev pub AreTaken : {T : Type 0} → Message ℕ → List (Level ℕ) → List Event → Content → Result T InstanceError → Type 0
-AreTaken m ls events content (Ok x) = AreFine m ls (items_of events) × IsOpen content m (levels_over m ls (items_of events))
-AreTaken m ls events content (Err (Refused fault)) = BreaksAt m ls events (fault_of fault).broken fault.place
+AreTaken m ls events content (Ok x) = AreFine m ls (items_in_events events) × IsOpen content m (levels_over m ls (items_in_events events))
+AreTaken m ls events content (Err (Refused fault)) = BreaksAt m ls events (xml_fault_of fault).broken fault.place
 AreTaken m ls events content (Err Memory) = Unit {0}
 
 -- The bytes have this first fault, whatever follows them, and it is not that they end too early.
-pub record Shows (T : Tables) (bytes : List ℕ) (fault : Told) : Type 0 where
-  pub has_fault : (behind : List ℕ) → XmlFault (message_of T) (bytes ++ behind) (fault_of fault)
+pub record ShowsXmlFault (T : Tables) (bytes : List ℕ) (fault : Told) : Type 0 where
+  pub has_fault : (behind : List ℕ) → XmlFault (message_of T) (bytes ++ behind) (xml_fault_of fault)
   pub no_cut : fault.rule ≢ Truncated
 
 -- a fault of markup, as it is told where these elements are open
 abbrev pub IsMarkTold : MarkTold → List (Level ℕ) → InstanceError → Type 0
-IsMarkTold mark ls (Refused fault) = (fault.rule ≡ mark.rule) × (fault.path ≡ path_of ls) × (fault.place ≡ mark.place)
+IsMarkTold mark ls (Refused fault) = (fault.rule ≡ mark.rule) × (fault.path ≡ levels_path ls) × (fault.place ≡ mark.place)
 IsMarkTold mark ls Memory = Unit {0}
 
 -- why a checker does not go on
-abbrev pub Stops : Tables → List ℕ → InstanceError → Type 0
-Stops T bytes (Refused fault) = Shows T bytes fault
-Stops T bytes Memory = Unit {0}
+abbrev pub XmlStops : Tables → List ℕ → InstanceError → Type 0
+XmlStops T bytes (Refused fault) = ShowsXmlFault T bytes fault
+XmlStops T bytes Memory = Unit {0}
 
 -- A front of the piece is taken, of so many bytes.
-pub record TakesFront (T : Tables) (old new : XmlChecker) (piece : List ℕ) (result : Result ℕ InstanceError) : Type 0 where
-  pub ok : (bytes : List ℕ) → HasFed old T bytes → IfOk result (λ n. HasFed new T (bytes ++ take n piece))
-  pub err : (bytes : List ℕ) → HasFed old T bytes → IfErr result (λ e. Stops T (bytes ++ piece) e)
+pub record TakesXmlFront (T : Tables) (old new : XmlChecker) (piece : List ℕ) (result : Result ℕ InstanceError) : Type 0 where
+  pub ok : (bytes : List ℕ) → HasFedXml old T bytes → IfOk result (λ n. HasFedXml new T (bytes ++ take n piece))
+  pub err : (bytes : List ℕ) → HasFedXml old T bytes → IfErr result (λ e. XmlStops T (bytes ++ piece) e)
   pub within : IfOk result (λ n. n ≤ length piece)
-  pub count : IfOk result (λ n. fed new ≡ fed old + n)
+  pub count : IfOk result (λ n. xml_bytes_fed new ≡ xml_bytes_fed old + n)
 
 -- the bytes spell an instance
-abbrev pub IsSpelled : Tables → List ℕ → Type 0
-IsSpelled T bytes = (v : Value) × SpellsXml (message_of T) bytes v
+abbrev pub IsSpelledXml : Tables → List ℕ → Type 0
+IsSpelledXml T bytes = (v : Value) × SpellsXml (message_of T) bytes v
 
 -- the same, where these are their events
 abbrev pub IsSpelledBy : Tables → List ℕ → List Item → Type 0
@@ -112,6 +112,6 @@ abbrev pub IsSpelledAs : Tables → List ℕ → List Piece → Type 0
 IsSpelledAs T bytes pieces = (v : Value) × SpellsXml (message_of T) bytes v × (pieces ≡ pieces_of fragment T v)
 
 -- why the bytes are refused at their end
-abbrev pub EndsAs : Tables → List ℕ → InstanceError → Type 0
-EndsAs T bytes (Refused fault) = XmlFault (message_of T) bytes (fault_of fault)
-EndsAs T bytes Memory = Unit {0}
+abbrev pub XmlEndsAs : Tables → List ℕ → InstanceError → Type 0
+XmlEndsAs T bytes (Refused fault) = XmlFault (message_of T) bytes (xml_fault_of fault)
+XmlEndsAs T bytes Memory = Unit {0}

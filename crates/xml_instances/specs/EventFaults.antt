@@ -13,19 +13,19 @@ use Rattle.facets.specs.LeafUnder.{GivesLeaf}
 use Rattle.reference_check.specs.Forms.{Form, form_slots}
 use Rattle.reference_check.specs.Forms as form
 use Rattle.reference_check.specs.Steps as step
-use Rattle.reference_check.specs.Steps.{Next, End, next, end_after}
-use Rattle.message_model.specs.Writes.{named, schema_instance, currency, value_of}
+use Rattle.reference_check.specs.Steps.{NextSlot, EndOfSlots, next, end_after}
+use Rattle.message_model.specs.Writes.{name_in_namespace, schema_instance, currency, value_of}
 use Rattle.lexical_core.specs.Names.{same_name}
 use Rattle.message_model.specs.Message.{Message}
-use Rattle.xml_instances.specs.Levels.{Level, Parent, Leaf, Envelope, Foreign, form_of_start, round_start, levels_after, path_in, tag_text}
+use Rattle.xml_instances.specs.Levels.{Level, Parent, Leaf, Envelope, Foreign, form_of_start, round_start, levels_after, path_in, slot_tag_text}
 
 -- a rule that is broken, and the path that is told with it
 pub record Broken : Type 0 where
   pub rule : Rule
   pub path : List ℕ
 
-abbrev pub broken : Rule → List ℕ → Option Broken
-broken rule path = Some (record { rule = rule; path = path })
+abbrev pub broken_rule : Rule → List ℕ → Option Broken
+broken_rule rule path = Some (record { rule = rule; path = path })
 
 -- the first of two, where there is one, and else the other
 abbrev pub Unless : Option Broken → (Option Broken → Type 0) → Option Broken → Type 0
@@ -35,26 +35,26 @@ Unless None Other o = Other o
 -- ---- where an element starts
 
 -- at its tag, in an element with this path
-abbrev pub next_fault : {P : Type 0} → List ℕ → Form P Simple → Next → Option Broken
+abbrev pub next_fault : {P : Type 0} → List ℕ → Form P Simple → NextSlot → Option Broken
 next_fault path f (step.Slotted k) = None
-next_fault path f step.Unknown = broken UnknownElement path
-next_fault path f step.OutOfOrder = broken OutOfOrder path
-next_fault path f step.TooMany = broken TooMany path
-next_fault path f (step.Missing k) = broken Missing (path ++ tag_text (slice_get (form_slots f) k))
-next_fault path f step.Second = broken SecondAlternative path
+next_fault path f step.Unknown = broken_rule UnknownElement path
+next_fault path f step.OutOfOrder = broken_rule OutOfOrder path
+next_fault path f step.TooMany = broken_rule TooMany path
+next_fault path f (step.Missing k) = broken_rule Missing (path ++ slot_tag_text (slice_get (form_slots f) k))
+next_fault path f step.Second = broken_rule SecondAlternative path
 
 -- at its place: the root is `Document`; an element of the message stands where its slot may come; a text has no elements; an envelope has one
 abbrev pub place_fault : {P : Type 0} → Message P → List (Level P) → Expanded → Option Broken
-place_fault m [] n = if same_name n (named m.namespace (codes "Document")) then None else broken WrongRoot (codes "/")
+place_fault m [] n = if same_name n (name_in_namespace m.namespace (codes "Document")) then None else broken_rule WrongRoot (codes "/")
 place_fault m (Parent f d ∷ ls) n =
-    if bytes_eq n.namespace m.namespace then next_fault (path_in ls) f (next f d n.local) else broken UnknownElement (path_in ls)
-place_fault m (Leaf simple text ∷ ls) n = broken ElementInSimple (path_in ls)
-place_fault m (Envelope true ∷ ls) n = broken TooMany (path_in ls)
+    if bytes_eq n.namespace m.namespace then next_fault (path_in ls) f (next f d n.local) else broken_rule UnknownElement (path_in ls)
+place_fault m (Leaf simple text ∷ ls) n = broken_rule ElementInSimple (path_in ls)
+place_fault m (Envelope true ∷ ls) n = broken_rule TooMany (path_in ls)
 place_fault m (Envelope false ∷ ls) n = None
 place_fault m (Foreign ∷ ls) n = None
 
 abbrev pub is_hint : Entry → Bool
-is_hint a = same_name a.name (named schema_instance (codes "schemaLocation")) || same_name a.name (named schema_instance (codes "noNamespaceSchemaLocation"))
+is_hint a = same_name a.name (name_in_namespace schema_instance (codes "schemaLocation")) || same_name a.name (name_in_namespace schema_instance (codes "noNamespaceSchemaLocation"))
 
 abbrev pub has_currency : {P : Type 0} → Form P Simple → Bool
 has_currency (form.Money code number) = true
@@ -76,7 +76,7 @@ CodeFault _ text path o = ⊥
 
 -- an amount's currency is there, and spells its code
 abbrev pub CurrencyFault : {P : Type 0} → Form P Simple → Option (List ℕ) → List ℕ → Option Broken → Type 0
-CurrencyFault f None path o = o ≡ broken MissingAttribute path
+CurrencyFault f None path o = o ≡ broken_rule MissingAttribute path
 CurrencyFault f (Some value) path o = CodeFault f (chars value) path o
 
 abbrev pub RequiredFault : {P : Type 0} → Message P → Form P Simple → List Entry → List ℕ → Option Broken → Type 0
@@ -84,7 +84,7 @@ RequiredFault m (form.Money code number) attributes path o = CurrencyFault (m.fo
 RequiredFault m _ attributes path o = o ≡ None
 
 abbrev pub unknown_fault : {P : Type 0} → Form P Simple → List Entry → List ℕ → Option Broken
-unknown_fault f attributes path = if list_any (λ a. not (is_known f a)) attributes then broken UnknownAttribute path else None
+unknown_fault f attributes path = if list_any (λ a. not (is_known f a)) attributes then broken_rule UnknownAttribute path else None
 
 -- at its attributes: all are known, and the required one is there and spells its leaf; in an envelope all may stand
 abbrev pub AttributeFault : {P : Type 0} → Message P → Option (Form P Simple) → List Entry → List ℕ → Option Broken → Type 0
@@ -93,16 +93,16 @@ AttributeFault m (Some f) attributes path o = Unless (unknown_fault f attributes
 
 -- ---- where one ends
 
-abbrev pub end_fault : {P : Type 0} → List ℕ → Form P Simple → End → Option Broken
+abbrev pub end_fault : {P : Type 0} → List ℕ → Form P Simple → EndOfSlots → Option Broken
 end_fault path f step.Fine = None
-end_fault path f (step.Lacks k) = broken Missing (path ++ tag_text (slice_get (form_slots f) k))
-end_fault path f step.NoAlternative = broken Missing (path ++ codes "/*")
+end_fault path f (step.Lacks k) = broken_rule Missing (path ++ slot_tag_text (slice_get (form_slots f) k))
+end_fault path f step.NoAlternative = broken_rule Missing (path ++ codes "/*")
 
 abbrev pub EndFault : {P : Type 0} → Level P → List ℕ → Option Broken → Type 0
 EndFault (Parent f d) path o = o ≡ end_fault path f (end_after f d)
 EndFault (Leaf simple text) path o = LeafFault simple text path o
 EndFault (Envelope true) path o = o ≡ None
-EndFault (Envelope false) path o = o ≡ broken Missing (path ++ codes "/*")
+EndFault (Envelope false) path o = o ≡ broken_rule Missing (path ++ codes "/*")
 EndFault Foreign path o = o ≡ None
 
 -- ---- at a character
@@ -113,7 +113,7 @@ is_bare (form.Sequence []) = true
 is_bare _ = false
 
 abbrev pub space_fault : Bool → List ℕ → Option Broken
-space_fault fits path = if fits then None else broken TextInComplex path
+space_fault fits path = if fits then None else broken_rule TextInComplex path
 
 abbrev pub char_fault : {P : Type 0} → Level P → List ℕ → ℕ → Option Broken
 char_fault (Parent f d) path c = space_fault (not (is_bare f) && is_space c) path

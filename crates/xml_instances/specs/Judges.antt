@@ -7,15 +7,15 @@ use Rattle.xml_instances.specs.declared.judge.Judge.{Judge}
 use Rattle.xml_instances.specs.declared.judge.Judge.TheVariants.{Check, Verdict}
 
 -- it is one for the simple type, and was given these characters since it was made or begun anew
-abbrev pub HasTaken : Judge → Simple → List ℕ → Type 0
-HasTaken (Check check) simple text = checks.HasTaken check simple text
-HasTaken (Verdict verdict) simple text = verdicts.HasTaken verdict simple text
+abbrev pub HasJudgeTaken : Judge → Simple → List ℕ → Type 0
+HasJudgeTaken (Check check) simple text = checks.HasCheckTaken check simple text
+HasJudgeTaken (Verdict verdict) simple text = verdicts.HasVerdictTaken verdict simple text
 
 -- it was made for the simple type
-abbrev pub IsMadeFor : Judge → Simple → Type 0
-IsMadeFor judge simple = (text : List ℕ) × HasTaken judge simple text
+abbrev pub IsJudgeMadeFor : Judge → Simple → Type 0
+IsJudgeMadeFor judge simple = (text : List ℕ) × HasJudgeTaken judge simple text
 
 -- how many bytes it holds, in memory and in place
-abbrev pub held : Judge → ℕ
-held (Check check) = checks.kept check + checks.in_place check
-held (Verdict verdict) = verdicts.kept verdict + verdicts.in_place verdict
+abbrev pub held_by_judge : Judge → ℕ
+held_by_judge (Check check) = checks.check_kept check + checks.check_in_place check
+held_by_judge (Verdict verdict) = verdicts.verdict_kept verdict + verdicts.verdict_in_place verdict

@@ -6,7 +6,7 @@ use Rattle.markup.specs.declared.plain_tag.TagKind.{TagKind}
 use Rattle.markup.specs.declared.plain_tag.TagKind.TheVariants.{Start, Empty, End}
 use Rattle.data_types.specs.Value.{Piece}
 use Rattle.inst_pool.specs.Pieces.{open_in}
-use Rattle.respell.specs.Kept.{HasTaken, IsInDefault, opened_by}
+use Rattle.respell.specs.Kept.{HasTakenItems, IsInDefault, opened_by}
 use Rattle.respell.specs.declared.respell.Respell.{Respell}
 use Rattle.message_model.specs.Tables.{Tables, message_of}
 use Rattle.xml_instances.specs.Levels.{Level, Foreign, levels_after}
@@ -23,7 +23,7 @@ pub record PiecesKept : Type 0 where
 pub record HasShown (kept : PiecesKept) (s : Shown) : Type 0 where
   pub pieces_are : kept.pieces ≡ s.pieces
   pub open_are : open_in kept.pieces ≡ s.edges
-  pub inside_are : HasTaken kept.element s.inside
+  pub inside_are : HasTakenItems kept.element s.inside
 
 -- where pieces are kept, they go on as what is shown does
 abbrev pub GoOn : Option PiecesKept → Option PiecesKept → (Shown → Shown → Type 0) → Type 0
@@ -32,9 +32,9 @@ GoOn (Some old) (Some new) Step = (s : Shown) → HasShown old s → (t : Shown)
 GoOn _ _ Step = ⊥
 
 -- pieces are kept, and this was shown
-abbrev pub KeepsShown : Option PiecesKept → Shown → Type 0
-KeepsShown None s = ⊥
-KeepsShown (Some kept) s = HasShown kept s
+abbrev pub KeepsSomeShown : Option PiecesKept → Shown → Type 0
+KeepsSomeShown None s = ⊥
+KeepsSomeShown (Some kept) s = HasShown kept s
 
 -- where this is the innermost element, the event is one of the element of an envelope
 abbrev pub is_within : Option Opened → Item → Bool

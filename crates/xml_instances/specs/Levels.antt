@@ -6,7 +6,7 @@ use Rattle.facets.specs.declared.simple.Simple.{Simple}
 use Rattle.reference_check.specs.Forms.{Graph, Form, Slot, form_slots}
 use Rattle.reference_check.specs.Forms as form
 use Rattle.reference_check.specs.Words.{times}
-use Rattle.reference_check.specs.Steps.{Next, Slotted, next}
+use Rattle.reference_check.specs.Steps.{NextSlot, Slotted, next}
 use Rattle.message_model.specs.Message.{Message}
 
 -- An element that is open: one with elements of the message, and the slots that have come; one with a text, and its characters so far;
@@ -18,17 +18,17 @@ pub data Level (P : Type 0) : Type 0 where
   Foreign : Level P
 
 -- an element of a type, with nothing in it
-abbrev pub begun : {P : Type 0} → Form P Simple → Level P
-begun (form.Simple simple) = Leaf simple []
-begun (form.Money code number) = Leaf number []
-begun form.Envelope = Envelope false
-begun f = Parent f []
+abbrev pub begun_level : {P : Type 0} → Form P Simple → Level P
+begun_level (form.Simple simple) = Leaf simple []
+begun_level (form.Money code number) = Leaf number []
+begun_level form.Envelope = Envelope false
+begun_level f = Parent f []
 
 abbrev pub slot_form : {P : Type 0} → Graph P Simple → Option (Slot P) → Option (Form P Simple)
 slot_form g None = None
 slot_form g (Some s) = Some (g s.target)
 
-abbrev pub form_by : {P : Type 0} → Graph P Simple → Form P Simple → Next → Option (Form P Simple)
+abbrev pub form_by : {P : Type 0} → Graph P Simple → Form P Simple → NextSlot → Option (Form P Simple)
 form_by g f (Slotted k) = slot_form g (slice_get (form_slots f) k)
 form_by g f _ = None
 
@@ -40,9 +40,9 @@ form_of_start m _ n = None
 
 abbrev pub level_of_start : {P : Type 0} → Option (Form P Simple) → Level P
 level_of_start None = Foreign
-level_of_start (Some f) = begun f
+level_of_start (Some f) = begun_level f
 
-abbrev pub with_slot : List ℕ → Next → List ℕ
+abbrev pub with_slot : List ℕ → NextSlot → List ℕ
 with_slot d (Slotted k) = d ++ k ∷ []
 with_slot d _ = d
 
@@ -73,18 +73,18 @@ levels_over m ls (item ∷ items) = levels_over m (levels_after m ls item) items
 
 -- ---- the path
 
-abbrev pub tag_text : {P : Type 0} → Option (Slot P) → List ℕ
-tag_text None = []
-tag_text (Some s) = 47 ∷ s.tag
+abbrev pub slot_tag_text : {P : Type 0} → Option (Slot P) → List ℕ
+slot_tag_text None = []
+slot_tag_text (Some s) = 47 ∷ s.tag
 
 -- a slash, the tag of a slot, and which of its elements this is
-abbrev pub numbered : {P : Type 0} → Form P Simple → ℕ → ℕ → List ℕ
-numbered f k n = tag_text (slice_get (form_slots f) k) ++ 91 ∷ decimal n ++ 93 ∷ []
+abbrev pub numbered_step : {P : Type 0} → Form P Simple → ℕ → ℕ → List ℕ
+numbered_step f k n = slot_tag_text (slice_get (form_slots f) k) ++ 91 ∷ decimal n ++ 93 ∷ []
 
 -- the last element that has come: d are the slots so far, of which the rest are still to be gone through
 abbrev pub last_name : {P : Type 0} → Form P Simple → List ℕ → List ℕ → List ℕ
 last_name f d [] = []
-last_name f d (k ∷ []) = numbered f k (times k d)
+last_name f d (k ∷ []) = numbered_step f k (times k d)
 last_name f d (k ∷ j ∷ rest) = last_name f d (j ∷ rest)
 
 -- the path of an element, where these are open round it; elements in an envelope have none of their own
@@ -94,6 +94,6 @@ path_in (Parent f d ∷ ls) = path_in ls ++ last_name f d d
 path_in (l ∷ ls) = path_in ls
 
 -- the path of the open elements
-abbrev pub path_of : {P : Type 0} → List (Level P) → List ℕ
-path_of [] = codes "/"
-path_of (l ∷ ls) = path_in ls
+abbrev pub levels_path : {P : Type 0} → List (Level P) → List ℕ
+levels_path [] = codes "/"
+levels_path (l ∷ ls) = path_in ls

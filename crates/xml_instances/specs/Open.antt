@@ -15,9 +15,9 @@ use Rattle.reference_check.specs.Forms.{Simple as SimpleForm}
 use Rattle.message_model.specs.Sound.{count_with}
 use Rattle.reference_check.specs.Steps.{Slotted, next, Came, EndsWith}
 use Rattle.message_model.specs.Message.{Message}
-use Rattle.xml_instances.specs.Levels.{Level, Parent, Leaf, Envelope, Foreign, levels_after, level_of_start, begun, slot_form, form_of_start, round_start, numbered, path_in}
+use Rattle.xml_instances.specs.Levels.{Level, Parent, Leaf, Envelope, Foreign, levels_after, level_of_start, begun_level, slot_form, form_of_start, round_start, numbered_step, path_in}
 use Rattle.xml_instances.specs.EventFaults.{Broken, EventFault, AttributeFault, place_fault, next_fault}
-use Rattle.xml_instances.specs.Judges.{HasTaken, IsMadeFor}
+use Rattle.xml_instances.specs.Judges.{HasJudgeTaken, IsJudgeMadeFor}
 use Rattle.xml_instances.specs.declared.judge.Judge.{Judge}
 use Rattle.xml_instances.specs.declared.spare.Checks.{Checks}
 use Rattle.xml_instances.specs.declared.opened.Opened.{Opened}
@@ -32,7 +32,7 @@ use Rattle.xml_instances.specs.declared.content.Content.{Content}
 -- the check of the open text has taken its characters
 abbrev pub HoldsText : Message ℕ → Option OpenText → Simple → List ℕ → Type 0
 HoldsText m None simple text = ⊥
-HoldsText m (Some t) simple text = (text_type (m.forms t.number) ≡ Some simple) × HasTaken t.judge.value simple text
+HoldsText m (Some t) simple text = (text_type (m.forms t.number) ≡ Some simple) × HasJudgeTaken t.judge.value simple text
 
 -- an element is kept as this; of one with elements its type, and the last slot with its count
 abbrev pub StandsFor : Message ℕ → Option OpenText → Opened → Level ℕ → Type 0
@@ -49,14 +49,14 @@ StandFor m (e ∷ es) (l ∷ ls) = StandsFor m None e l × StandFor m es ls
 StandFor m _ _ = ⊥
 
 -- the innermost element, and those round it
-abbrev pub Stands : Message ℕ → Option OpenText → Option Opened → List Opened → List (Level ℕ) → Type 0
-Stands m text None round [] = round ≡ []
-Stands m text (Some e) round (l ∷ ls) = StandsFor m text e l × StandFor m (reverse round) ls
-Stands m text _ round _ = ⊥
+abbrev pub StandsOpen : Message ℕ → Option OpenText → Option Opened → List Opened → List (Level ℕ) → Type 0
+StandsOpen m text None round [] = round ≡ []
+StandsOpen m text (Some e) round (l ∷ ls) = StandsFor m text e l × StandFor m (reverse round) ls
+StandsOpen m text _ round _ = ⊥
 
 -- the content stands where these elements are open
 abbrev pub IsOpen : Content → Message ℕ → List (Level ℕ) → Type 0
-IsOpen content m ls = Stands m content.text content.innermost content.round.items ls
+IsOpen content m ls = StandsOpen m content.text content.innermost content.round.items ls
 
 -- all open elements, of which the innermost is no text
 abbrev pub IsRound : Content → Message ℕ → List (Level ℕ) → Type 0
@@ -65,7 +65,7 @@ IsRound content m ls = StandFor m (reverse (content.round.items ++ option_to_lis
 -- ---- checks of leaves
 
 abbrev pub IsMadeAt : Graph ℕ Simple → ℕ → Judge → Type 0
-IsMadeAt types n check = (simple : Simple) → text_type (types n) ≡ Some simple → IsMadeFor check simple
+IsMadeAt types n check = (simple : Simple) → text_type (types n) ≡ Some simple → IsJudgeMadeFor check simple
 
 -- each check that is kept was made for the type of its number
 abbrev pub AreKept : Graph ℕ Simple → Checks → Type 0
@@ -92,28 +92,28 @@ IsRuleOf simple text (Some rule) = BreaksFirst simple text rule
 -- ---- the path
 
 -- what the path says of the last element in one that is open
-abbrev pub name_of : Graph ℕ Simple → Opened → List ℕ
-name_of types (opened.Parent number (Some k) count) = numbered (types number) k count
-name_of types _ = []
+abbrev pub last_step_of : Graph ℕ Simple → Opened → List ℕ
+last_step_of types (opened.Parent number (Some k) count) = numbered_step (types number) k count
+last_step_of types _ = []
 
-abbrev pub names_in : Graph ℕ Simple → List Opened → List ℕ
-names_in types [] = codes "/Document[1]"
-names_in types (e ∷ es) = names_in types es ++ name_of types e
+abbrev pub path_so_far : Graph ℕ Simple → List Opened → List ℕ
+path_so_far types [] = codes "/Document[1]"
+path_so_far types (e ∷ es) = path_so_far types es ++ last_step_of types e
 
 -- the path of an element where these are open round it, the outermost first
-abbrev pub names_of : Graph ℕ Simple → List Opened → List ℕ
-names_of types round = names_in types (reverse round)
+abbrev pub path_round : Graph ℕ Simple → List Opened → List ℕ
+path_round types round = path_so_far types (reverse round)
 
 -- ---- answers
 
 -- the rule is told with the path
-abbrev pub Refuses : Rule → List ℕ → Refusal → Type 0
-Refuses rule path (Breaks r p) = (r ≡ rule) × (p ≡ path)
-Refuses rule path Memory = Unit {0}
+abbrev pub RefusesWith : Rule → List ℕ → Refusal → Type 0
+RefusesWith rule path (Breaks r p) = (r ≡ rule) × (p ≡ path)
+RefusesWith rule path Memory = Unit {0}
 
 -- the rule is told with the path, where there was memory for it
 abbrev pub IsPathTold : {E : Type 0} → Rule → Result (List ℕ) E → Refusal → Type 0
-IsPathTold rule (Ok path) r = Refuses rule path r
+IsPathTold rule (Ok path) r = RefusesWith rule path r
 IsPathTold rule (Err e) (Breaks q p) = ⊥
 IsPathTold rule (Err e) Memory = Unit {0}
 
@@ -157,10 +157,10 @@ IsRoot m n (Err (Breaks rule path)) = place_fault m [] n ≡ Some (record { rule
 IsRoot m n (Err Memory) = Unit {0}
 
 -- of the element of an envelope,
-abbrev pub IsFilled : Bool → List ℕ → Option Opened → Result (Option ℕ) Refusal → Type 0
-IsFilled filled path innermost (Ok type) = (filled ≡ false) × (type ≡ None) × (innermost ≡ Some (opened.Envelope true))
-IsFilled filled path innermost (Err (Breaks rule p)) = (filled ≡ true) × (rule ≡ TooMany) × (p ≡ path)
-IsFilled filled path innermost (Err Memory) = Unit {0}
+abbrev pub IsEnvelopeFilled : Bool → List ℕ → Option Opened → Result (Option ℕ) Refusal → Type 0
+IsEnvelopeFilled filled path innermost (Ok type) = (filled ≡ false) × (type ≡ None) × (innermost ≡ Some (opened.Envelope true))
+IsEnvelopeFilled filled path innermost (Err (Breaks rule p)) = (filled ≡ true) × (rule ≡ TooMany) × (p ≡ path)
+IsEnvelopeFilled filled path innermost (Err Memory) = Unit {0}
 
 -- of the slot that comes,
 abbrev pub IsStepped : Graph ℕ Simple → ℕ → Option ℕ → ℕ → ℕ → Option Opened → Result (Option ℕ) Refusal → Type 0
@@ -178,10 +178,10 @@ IsChild m f d path tag innermost (Err (Breaks rule p)) = next_fault path f (next
 IsChild m f d path tag innermost (Err Memory) = Unit {0}
 
 -- of an element that is open then,
-abbrev pub IsBegun : {T E : Type 0} → Message ℕ → Form ℕ Simple → Content → Result T E → Type 0
-IsBegun m f content (Ok x) = (e : Opened) × (content.innermost ≡ Some e) × StandsFor m content.text e (begun f)
-IsBegun m f content (Err e) = Unit {0}
+abbrev pub IsElementBegun : {T E : Type 0} → Message ℕ → Form ℕ Simple → Content → Result T E → Type 0
+IsElementBegun m f content (Ok x) = (e : Opened) × (content.innermost ≡ Some e) × StandsFor m content.text e (begun_level f)
+IsElementBegun m f content (Err e) = Unit {0}
 
 -- the form of a code's type
-abbrev pub IsCode : Form ℕ Simple → Type 0
-IsCode f = (simple : Simple) × (f ≡ SimpleForm simple)
+abbrev pub IsCodeForm : Form ℕ Simple → Type 0
+IsCodeForm f = (simple : Simple) × (f ≡ SimpleForm simple)

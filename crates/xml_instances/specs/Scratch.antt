@@ -1,9 +1,9 @@
 -- How many bytes are held for the text of the open leaf, and for the open token.
 use Rattle.std.specs.Prelude.{◌≡◌, ℕ, List, ◌∷◌, Option, Some, None, length}
 use Rattle.facets.specs.LeafChecks.{IsHeldWithin, leaf_limit}
-use Rattle.markup.specs.Reading.{token as held_open}
+use Rattle.markup.specs.Reading.{open_token_held as held_open}
 use Rattle.xml_instances.specs.Levels.{Level, Leaf}
-use Rattle.xml_instances.specs.Judges.{held}
+use Rattle.xml_instances.specs.Judges.{held_by_judge}
 use Rattle.xml_instances.specs.Verdicts.{IsLean}
 use Rattle.xml_instances.specs.declared.checker.XmlChecker.{XmlChecker}
 use Rattle.xml_instances.specs.declared.content.Content.{Content}
@@ -13,7 +13,7 @@ use Rattle.xml_instances.specs.declared.opened.Opened.TheVariants as opened
 
 -- those that its judge holds; none where no leaf is open
 abbrev pub held_by : Option Opened → Option OpenText → ℕ
-held_by (Some opened.Text) (Some t) = held t.judge.value
+held_by (Some opened.Text) (Some t) = held_by_judge t.judge.value
 held_by innermost text = 0
 
 abbrev pub held_in : Content → ℕ
@@ -31,8 +31,8 @@ abbrev pub scratch : XmlChecker → ℕ
 scratch checker = held_in checker.content
 
 -- how many bytes it holds for the open token
-abbrev pub token : XmlChecker → ℕ
-token checker = held_open checker.reader
+abbrev pub checker_token : XmlChecker → ℕ
+checker_token checker = held_open checker.reader
 
 -- Where these elements are open, so many bytes are at most four to each character so far of a leaf, within the limit of its type, and 64. Where the innermost is no
 -- leaf there are none.

@@ -10,21 +10,21 @@ use Rattle.xml_instances.specs.declared.content.OpenText.{OpenText}
 use Rattle.xml_instances.specs.declared.content.Content.{Content}
 
 -- it tells no more than whether there is a leaf
-abbrev pub IsVerdict : Judge → Type 0
-IsVerdict (Check check) = ⊥
-IsVerdict (Verdict verdict) = Unit {0}
+abbrev pub IsVerdictJudge : Judge → Type 0
+IsVerdictJudge (Check check) = ⊥
+IsVerdictJudge (Verdict verdict) = Unit {0}
 
 -- so of a judge that is given, of one that is open, and of all that are kept
 abbrev pub IsGivenVerdict : Option (Box Judge) → Type 0
 IsGivenVerdict None = Unit {0}
-IsGivenVerdict (Some judge) = IsVerdict judge.value
+IsGivenVerdict (Some judge) = IsVerdictJudge judge.value
 
 abbrev pub IsTextVerdict : Option OpenText → Type 0
 IsTextVerdict None = Unit {0}
-IsTextVerdict (Some t) = IsVerdict t.judge.value
+IsTextVerdict (Some t) = IsVerdictJudge t.judge.value
 
 abbrev pub AreVerdicts : Checks → Type 0
-AreVerdicts checks = (n : ℕ) (judge : Box Judge) → slice_get checks.entries.items n ≡ Some (Some judge) → IsVerdict judge.value
+AreVerdicts checks = (n : ℕ) (judge : Box Judge) → slice_get checks.entries.items n ≡ Some (Some judge) → IsVerdictJudge judge.value
 
 -- no pieces are kept, and all judges are such
 pub record IsLean (content : Content) : Type 0 where

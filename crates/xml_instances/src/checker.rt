@@ -1,6 +1,6 @@
 // A checker of XML instances that takes their bytes in pieces.
 ghost use Rattle.std.specs.Prelude.{◌≡◌, ◌<◌, ◌+◌, ◌≤◌, ◌^◌, ◌∷◌, ◌++◌, ℕ, List, [], IfOk, OnOk, IfErr, Option, Some, None, Err, length};
-ghost use Rattle.markup.specs.Reading.{taken};
+ghost use Rattle.markup.specs.Reading.{bytes_taken};
 ghost use Rattle.markup.specs.Marks.{tag_limit};
 ghost use Rattle.facets.specs.declared.simple.Simple.{Simple as SimpleType};
 ghost use Rattle.reference_check.specs.Forms.{Graph};
@@ -12,9 +12,9 @@ ghost use Rattle.xml_instances.specs.XmlFaults.{items_told};
 ghost use Rattle.xml_instances.specs.Open.{IsOpen, AreMade};
 ghost use Rattle.xml_instances.specs.Built.{EventsShow};
 ghost use Rattle.xml_instances.specs.Keeping.{GoOn};
-ghost use Rattle.xml_instances.specs.Checking.{items_of, HasFed, AreTaken, IsTold, IsMarkTold, Stops, IsSpelled, IsSpelledBy, EndsAs, IsSpelledAs, IsMadeFor, fed, failed};
+ghost use Rattle.xml_instances.specs.Checking.{items_in_events, HasFedXml, AreTaken, IsTold, IsMarkTold, XmlStops, IsSpelledXml, IsSpelledBy, XmlEndsAs, IsSpelledAs, IsXmlCheckerFor, xml_bytes_fed, xml_failure};
 ghost use Rattle.message_model.specs.Errors.{IsSameOrMemory, IsAgain};
-ghost use Rattle.xml_instances.specs.Scratch.{scratch, token, KeepsNoLeaf, KeepsNoPieces, IsScratchWithin};
+ghost use Rattle.xml_instances.specs.Scratch.{scratch, checker_token, KeepsNoLeaf, KeepsNoPieces, IsScratchWithin};
 ghost use Rattle.xml_instances.specs.Verdicts.{IsLean, HasFreeText};
 
 mod fronts;
@@ -63,7 +63,7 @@ fn take_all(content: &mut Content, model: &Model, events: &[Event]) -> Result<()
     ensures made { AreMade (types_of model.now) content.new }
     ensures lean { IsLean content.old → IsLean content.new }
     ensures taken { (ls : List (Level ℕ)) → IsOpen content.old (message_of model.now) ls → AreTaken (message_of model.now) ls events.now content.new result }
-    ensures shown { (ls : List (Level ℕ)) → IsOpen content.old (message_of model.now) ls → AllByRecursion HasSortedAttributes (items_of events.now) → OnOk result (GoOn content.old.pieces content.new.pieces (EventsShow model.now ls (items_of events.now))) }
+    ensures shown { (ls : List (Level ℕ)) → IsOpen content.old (message_of model.now) ls → AllByRecursion HasSortedAttributes (items_in_events events.now) → OnOk result (GoOn content.old.pieces content.new.pieces (EventsShow model.now ls (items_in_events events.now))) }
 {
     let mut rest = events;
     while let Some((event, after)) = rest.split_first() {
@@ -79,9 +79,9 @@ fn take_all(content: &mut Content, model: &Model, events: &[Event]) -> Result<()
 impl XmlChecker {
     /// A checker for the message before the first byte.
     pub fn new(alloc: Global, model: &Model) -> Result<XmlChecker, AllocError>
-        ensures fed { IfOk result (λ c. HasFed c model.now []) }
-        ensures made { IfOk result (λ c. IsMadeFor c model.now) }
-        ensures none { IfOk result (λ c. fed c ≡ 0) }
+        ensures fed { IfOk result (λ c. HasFedXml c model.now []) }
+        ensures made { IfOk result (λ c. IsXmlCheckerFor c model.now) }
+        ensures none { IfOk result (λ c. xml_bytes_fed c ≡ 0) }
         ensures lean { IfOk result (λ c. KeepsNoLeaf c) }
     {
         Ok(XmlChecker {
@@ -96,9 +96,9 @@ impl XmlChecker {
 
     /// The same, keeping the pieces of the instance.
     pub(crate) fn with_pieces(alloc: Global, model: &Model) -> Result<XmlChecker, AllocError>
-        ensures fed { IfOk result (λ c. HasFed c model.now []) }
-        ensures made { IfOk result (λ c. IsMadeFor c model.now) }
-        ensures none { IfOk result (λ c. fed c ≡ 0) }
+        ensures fed { IfOk result (λ c. HasFedXml c model.now []) }
+        ensures made { IfOk result (λ c. IsXmlCheckerFor c model.now) }
+        ensures none { IfOk result (λ c. xml_bytes_fed c ≡ 0) }
     {
         let mut content = Content::new(alloc, model);
         content.keep_pieces();
@@ -114,7 +114,7 @@ impl XmlChecker {
 
     /// How many elements are open, those in envelopes too.
     pub fn depth(&self) -> usize
-        ensures { (T : Tables) (bytes : List ℕ) (h : HasFed self.now T bytes) → result ≡ length (levels_over (message_of T) [] (items_told h.told)) }
+        ensures { (T : Tables) (bytes : List ℕ) (h : HasFedXml self.now T bytes) → result ≡ length (levels_over (message_of T) [] (items_told h.told)) }
     {
         self.content.depth()
     }
@@ -124,8 +124,8 @@ impl XmlChecker {
     /// It takes no memory.
     pub fn scratch(&self) -> u64
         ensures count { result ≡ scratch self.now }
-        ensures free { (T : Tables) (bytes : List ℕ) (h : HasFed self.now T bytes) → KeepsNoLeaf self.now → HasFreeText (levels_over (message_of T) [] (items_told h.told)) → result ≡ 0 }
-        ensures bound { (T : Tables) (bytes : List ℕ) (h : HasFed self.now T bytes) → IsScratchWithin (levels_over (message_of T) [] (items_told h.told)) result }
+        ensures free { (T : Tables) (bytes : List ℕ) (h : HasFedXml self.now T bytes) → KeepsNoLeaf self.now → HasFreeText (levels_over (message_of T) [] (items_told h.told)) → result ≡ 0 }
+        ensures bound { (T : Tables) (bytes : List ℕ) (h : HasFedXml self.now T bytes) → IsScratchWithin (levels_over (message_of T) [] (items_told h.told)) result }
     {
         self.content.scratch()
     }
@@ -133,9 +133,9 @@ impl XmlChecker {
     /// How many bytes are held for the open token: those of the names and values that a tag has said so far.
     /// It takes no memory.
     pub fn token(&self) -> u64
-        ensures count { token self.now < 2 ^ 64 → result ≡ token self.now }
-        ensures held { (T : Tables) (bytes : List ℕ) → HasFed self.now T bytes → result ≡ token self.now }
-        ensures bound { (T : Tables) (bytes : List ℕ) → HasFed self.now T bytes → result ≤ tag_limit }
+        ensures count { checker_token self.now < 2 ^ 64 → result ≡ checker_token self.now }
+        ensures held { (T : Tables) (bytes : List ℕ) → HasFedXml self.now T bytes → result ≡ checker_token self.now }
+        ensures bound { (T : Tables) (bytes : List ℕ) → HasFedXml self.now T bytes → result ≤ tag_limit }
     {
         self.reader.token()
     }
@@ -159,18 +159,18 @@ impl XmlChecker {
     /// later call, or that there is no memory for it, and holds no bytes of a leaf and of a token, and
     /// no pieces.
     pub fn feed(&mut self, model: &Model, piece: &[u8]) -> Result<(), InstanceError>
-        requires room { failed self.old ≡ None → fed self.old + length piece.now ≤ 2 ^ 40 }
-        requires made { IsMadeFor self.old model.now }
-        ensures made { IsMadeFor self.new model.now }
+        requires room { xml_failure self.old ≡ None → xml_bytes_fed self.old + length piece.now ≤ 2 ^ 40 }
+        requires made { IsXmlCheckerFor self.old model.now }
+        ensures made { IsXmlCheckerFor self.new model.now }
         ensures lean { KeepsNoLeaf self.old → KeepsNoLeaf self.new }
-        ensures ok { (bytes : List ℕ) → HasFed self.old model.now bytes → IfOk result (λ _. HasFed self.new model.now (bytes ++ piece.now)) }
-        ensures err { (bytes : List ℕ) → HasFed self.old model.now bytes → IfErr result (λ e. Stops model.now (bytes ++ piece.now) e) }
-        ensures count { IfOk result (λ _. fed self.new ≡ fed self.old + length piece.now) }
-        ensures failed { failed self.old ≡ None → IfErr result (λ e. failed self.new ≡ Some e) }
-        ensures again { (e : InstanceError) → failed self.old ≡ Some e → IsAgain e result × (failed self.new ≡ failed self.old) }
-        ensures still { (e : InstanceError) → failed self.old ≡ Some e → self.new ≡ self.old }
-        ensures freed { failed self.old ≡ None → IfErr result (λ _. (scratch self.new ≡ 0) × (token self.new ≡ 0)) }
-        ensures bare { failed self.old ≡ None → IfErr result (λ _. KeepsNoPieces self.new) }
+        ensures ok { (bytes : List ℕ) → HasFedXml self.old model.now bytes → IfOk result (λ _. HasFedXml self.new model.now (bytes ++ piece.now)) }
+        ensures err { (bytes : List ℕ) → HasFedXml self.old model.now bytes → IfErr result (λ e. XmlStops model.now (bytes ++ piece.now) e) }
+        ensures count { IfOk result (λ _. xml_bytes_fed self.new ≡ xml_bytes_fed self.old + length piece.now) }
+        ensures failed { xml_failure self.old ≡ None → IfErr result (λ e. xml_failure self.new ≡ Some e) }
+        ensures again { (e : InstanceError) → xml_failure self.old ≡ Some e → IsAgain e result × (xml_failure self.new ≡ xml_failure self.old) }
+        ensures still { (e : InstanceError) → xml_failure self.old ≡ Some e → self.new ≡ self.old }
+        ensures freed { xml_failure self.old ≡ None → IfErr result (λ _. (scratch self.new ≡ 0) × (checker_token self.new ≡ 0)) }
+        ensures bare { xml_failure self.old ≡ None → IfErr result (λ _. KeepsNoPieces self.new) }
     {
         if let Some(error) = &self.failed {
             return Err(match error.copy(self.alloc) {
@@ -187,10 +187,10 @@ impl XmlChecker {
     /// Goes on no more, and keeps why; where there is no memory for that, the error is that. What is open is let go.
     fn stop(&mut self, error: InstanceError) -> InstanceError
         ensures same { IsSameOrMemory error result }
-        ensures kept { failed self.new ≡ Some result }
+        ensures kept { xml_failure self.new ≡ Some result }
         ensures made { (types : Graph ℕ SimpleType) → AreMade types self.old.content → AreMade types self.new.content }
         ensures lean { KeepsNoLeaf self.old → KeepsNoLeaf self.new }
-        ensures freed { (scratch self.new ≡ 0) × (token self.new ≡ 0) }
+        ensures freed { (scratch self.new ≡ 0) × (checker_token self.new ≡ 0) }
         ensures bare { KeepsNoPieces self.new }
     {
         self.content.let_go();
@@ -211,13 +211,13 @@ impl XmlChecker {
     /// Takes the next bytes, where nothing was refused.
     #[tactic(auto, using(crate::proofs::Checks::none_fed, crate::proofs::Checks::all_fed))]
     fn feed_all(&mut self, model: &Model, piece: &[u8]) -> Result<(), InstanceError>
-        requires room { fed self.old + length piece.now ≤ 2 ^ 40 }
-        requires made { IsMadeFor self.old model.now }
-        ensures made { IsMadeFor self.new model.now }
+        requires room { xml_bytes_fed self.old + length piece.now ≤ 2 ^ 40 }
+        requires made { IsXmlCheckerFor self.old model.now }
+        ensures made { IsXmlCheckerFor self.new model.now }
         ensures lean { KeepsNoLeaf self.old → KeepsNoLeaf self.new }
-        ensures ok { (bytes : List ℕ) → HasFed self.old model.now bytes → IfOk result (λ _. HasFed self.new model.now (bytes ++ piece.now)) }
-        ensures err { (bytes : List ℕ) → HasFed self.old model.now bytes → IfErr result (λ e. Stops model.now (bytes ++ piece.now) e) }
-        ensures count { IfOk result (λ _. fed self.new ≡ fed self.old + length piece.now) }
+        ensures ok { (bytes : List ℕ) → HasFedXml self.old model.now bytes → IfOk result (λ _. HasFedXml self.new model.now (bytes ++ piece.now)) }
+        ensures err { (bytes : List ℕ) → HasFedXml self.old model.now bytes → IfErr result (λ e. XmlStops model.now (bytes ++ piece.now) e) }
+        ensures count { IfOk result (λ _. xml_bytes_fed self.new ≡ xml_bytes_fed self.old + length piece.now) }
     {
         let mut stop = InstanceError::Memory;
         let mut rest = piece;
@@ -236,13 +236,13 @@ impl XmlChecker {
     /// Takes the next byte.
     #[tactic(auto, using(crate::proofs::Checks::fed_on))]
     fn take(&mut self, model: &Model, byte: u8) -> Result<(), InstanceError>
-        requires room { fed self.old < 2 ^ 40 }
-        requires made { IsMadeFor self.old model.now }
-        ensures made { IsMadeFor self.new model.now }
+        requires room { xml_bytes_fed self.old < 2 ^ 40 }
+        requires made { IsXmlCheckerFor self.old model.now }
+        ensures made { IsXmlCheckerFor self.new model.now }
         ensures lean { KeepsNoLeaf self.old → KeepsNoLeaf self.new }
-        ensures ok { (bytes : List ℕ) → HasFed self.old model.now bytes → IfOk result (λ _. HasFed self.new model.now (bytes ++ byte ∷ [])) }
-        ensures err { (bytes : List ℕ) → HasFed self.old model.now bytes → IfErr result (λ e. Stops model.now (bytes ++ byte ∷ []) e) }
-        ensures count { IfOk result (λ _. fed self.new ≡ fed self.old + 1) }
+        ensures ok { (bytes : List ℕ) → HasFedXml self.old model.now bytes → IfOk result (λ _. HasFedXml self.new model.now (bytes ++ byte ∷ [])) }
+        ensures err { (bytes : List ℕ) → HasFedXml self.old model.now bytes → IfErr result (λ e. XmlStops model.now (bytes ++ byte ∷ []) e) }
+        ensures count { IfOk result (λ _. xml_bytes_fed self.new ≡ xml_bytes_fed self.old + 1) }
     {
         markup::laws::one_token();
         markup::laws::fronts_agree();
@@ -272,29 +272,29 @@ impl XmlChecker {
     /// The end of the bytes: they spell an instance, or have a first fault. After an error of `feed`
     /// it gives the same.
     pub fn finish(mut self, model: &Model) -> Result<(), InstanceError>
-        ensures ok { (bytes : List ℕ) → HasFed self model.now bytes → IfOk result (λ _. IsSpelled model.now bytes) }
-        ensures err { (bytes : List ℕ) → HasFed self model.now bytes → IfErr result (λ e. EndsAs model.now bytes e) }
-        ensures again { (e : InstanceError) → failed self ≡ Some e → result ≡ Err e }
+        ensures ok { (bytes : List ℕ) → HasFedXml self model.now bytes → IfOk result (λ _. IsSpelledXml model.now bytes) }
+        ensures err { (bytes : List ℕ) → HasFedXml self model.now bytes → IfErr result (λ e. XmlEndsAs model.now bytes e) }
+        ensures again { (e : InstanceError) → xml_failure self ≡ Some e → result ≡ Err e }
     {
         self.end(model)
     }
 
     /// The end of the bytes, as `finish`, with the pieces of the instance.
     pub(crate) fn finish_pieces(mut self, model: &Model) -> Result<Instance, InstanceError>
-        ensures ok { (bytes : List ℕ) → HasFed self model.now bytes → IfOk result (λ i. IsSpelledAs model.now bytes i.region.pieces) }
-        ensures err { (bytes : List ℕ) → HasFed self model.now bytes → IfErr result (λ e. EndsAs model.now bytes e) }
-        ensures again { (e : InstanceError) → failed self ≡ Some e → result ≡ Err e }
+        ensures ok { (bytes : List ℕ) → HasFedXml self model.now bytes → IfOk result (λ i. IsSpelledAs model.now bytes i.region.pieces) }
+        ensures err { (bytes : List ℕ) → HasFedXml self model.now bytes → IfErr result (λ e. XmlEndsAs model.now bytes e) }
+        ensures again { (e : InstanceError) → xml_failure self ≡ Some e → result ≡ Err e }
     {
         self.end_with_pieces(model)
     }
 
     /// The end of the bytes, or what was refused before it.
     fn end(&mut self, model: &Model) -> Result<(), InstanceError>
-        ensures ok { (bytes : List ℕ) → HasFed self.old model.now bytes → IfOk result (λ _. IsSpelled model.now bytes) }
-        ensures spelled_by { (bytes : List ℕ) (h : HasFed self.old model.now bytes) → IfOk result (λ _. IsSpelledBy model.now bytes (items_told h.told)) }
+        ensures ok { (bytes : List ℕ) → HasFedXml self.old model.now bytes → IfOk result (λ _. IsSpelledXml model.now bytes) }
+        ensures spelled_by { (bytes : List ℕ) (h : HasFedXml self.old model.now bytes) → IfOk result (λ _. IsSpelledBy model.now bytes (items_told h.told)) }
         ensures content { self.new.content ≡ self.old.content }
-        ensures err { (bytes : List ℕ) → HasFed self.old model.now bytes → IfErr result (λ e. EndsAs model.now bytes e) }
-        ensures again { (e : InstanceError) → failed self.old ≡ Some e → result ≡ Err e }
+        ensures err { (bytes : List ℕ) → HasFedXml self.old model.now bytes → IfErr result (λ e. XmlEndsAs model.now bytes e) }
+        ensures again { (e : InstanceError) → xml_failure self.old ≡ Some e → result ≡ Err e }
     {
         if let Some(error) = self.failed.take() {
             return Err(error);
@@ -304,9 +304,9 @@ impl XmlChecker {
 
     /// The end of the bytes, as `end`, with the pieces of the instance.
     fn end_with_pieces(&mut self, model: &Model) -> Result<Instance, InstanceError>
-        ensures ok { (bytes : List ℕ) → HasFed self.old model.now bytes → IfOk result (λ i. IsSpelledAs model.now bytes i.region.pieces) }
-        ensures err { (bytes : List ℕ) → HasFed self.old model.now bytes → IfErr result (λ e. EndsAs model.now bytes e) }
-        ensures again { (e : InstanceError) → failed self.old ≡ Some e → result ≡ Err e }
+        ensures ok { (bytes : List ℕ) → HasFedXml self.old model.now bytes → IfOk result (λ i. IsSpelledAs model.now bytes i.region.pieces) }
+        ensures err { (bytes : List ℕ) → HasFedXml self.old model.now bytes → IfErr result (λ e. XmlEndsAs model.now bytes e) }
+        ensures again { (e : InstanceError) → xml_failure self.old ≡ Some e → result ≡ Err e }
     {
         crate::laws::pieces_are_shown();
         let _ = model.type_count();
@@ -321,10 +321,10 @@ impl XmlChecker {
 
     /// The end of the bytes, where nothing was refused.
     fn finish_all(&mut self, model: &Model) -> Result<(), InstanceError>
-        ensures ok { (bytes : List ℕ) → HasFed self.old model.now bytes → IfOk result (λ _. IsSpelled model.now bytes) }
-        ensures spelled_by { (bytes : List ℕ) (h : HasFed self.old model.now bytes) → IfOk result (λ _. IsSpelledBy model.now bytes (items_told h.told)) }
+        ensures ok { (bytes : List ℕ) → HasFedXml self.old model.now bytes → IfOk result (λ _. IsSpelledXml model.now bytes) }
+        ensures spelled_by { (bytes : List ℕ) (h : HasFedXml self.old model.now bytes) → IfOk result (λ _. IsSpelledBy model.now bytes (items_told h.told)) }
         ensures content { self.new.content ≡ self.old.content }
-        ensures err { (bytes : List ℕ) → HasFed self.old model.now bytes → IfErr result (λ e. EndsAs model.now bytes e) }
+        ensures err { (bytes : List ℕ) → HasFedXml self.old model.now bytes → IfErr result (λ e. XmlEndsAs model.now bytes e) }
     {
         markup::laws::one_token();
         markup::laws::events_are_all();

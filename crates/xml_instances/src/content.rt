@@ -11,10 +11,10 @@ ghost use Rattle.reference_check.specs.Steps.{Came, EndsWith, Slotted, next};
 ghost use Rattle.message_model.specs.Message.{Message};
 ghost use Rattle.message_model.specs.Sound.{count_with};
 ghost use Rattle.message_model.specs.Tables.{message_of, types_of};
-ghost use Rattle.message_model.specs.Writes.{named};
-ghost use Rattle.xml_instances.specs.Levels.{Level, path_of};
+ghost use Rattle.message_model.specs.Writes.{name_in_namespace};
+ghost use Rattle.xml_instances.specs.Levels.{Level, levels_path};
 ghost use Rattle.xml_instances.specs.EventFaults.{space_fault, is_bare};
-ghost use Rattle.xml_instances.specs.Open.{IsOpen, IsTaken, IsItemTaken, AreMade, names_of, Says, Refuses, IsPlaced, IsEntered, IsRound, form_at, IsFilled, IsChild, IsStepped, IsBegun, IsRoot};
+ghost use Rattle.xml_instances.specs.Open.{IsOpen, IsTaken, IsItemTaken, AreMade, path_round, Says, RefusesWith, IsPlaced, IsEntered, IsRound, form_at, IsEnvelopeFilled, IsChild, IsStepped, IsElementBegun, IsRoot};
 ghost use Rattle.xml_instances.specs.Scratch.{held_in};
 ghost use Rattle.xml_instances.specs.Verdicts.{IsLean};
 
@@ -130,7 +130,7 @@ impl Content {
 
     /// The path of the open elements.
     pub(crate) fn path(&self, alloc: Global, model: &Model) -> Result<Text, AllocError>
-        ensures { (ls : List (Level ℕ)) → IsOpen self.now (message_of model.now) ls → IfOk result (λ t. t ≡ path_of ls) }
+        ensures { (ls : List (Level ℕ)) → IsOpen self.now (message_of model.now) ls → IfOk result (λ t. t ≡ levels_path ls) }
     {
         match self.innermost {
             None => slash(alloc),
@@ -174,7 +174,7 @@ impl Content {
 
     /// A character between elements.
     fn space(&self, model: &Model, fits: bool) -> Result<(), Refusal>
-        ensures { Says (λ o. o ≡ space_fault fits (names_of (types_of model.now) self.now.round.items)) result }
+        ensures { Says (λ o. o ≡ space_fault fits (path_round (types_of model.now) self.now.round.items)) result }
     {
         if fits {
             Ok(())
@@ -185,7 +185,7 @@ impl Content {
 
     /// The rule, with the path of what is open, and more behind it.
     fn refused(&self, model: &Model, rule: Rule, behind: &[u8]) -> Refusal
-        ensures { Refuses rule (names_of (types_of model.now) self.now.round.items ++ behind.now) result }
+        ensures { RefusesWith rule (path_round (types_of model.now) self.now.round.items ++ behind.now) result }
     {
         breaks(self.alloc, model, rule, self.round.as_slice(), behind)
     }
@@ -203,9 +203,9 @@ impl Content {
         requires { AreMade (types_of model.now) self.old }
         ensures made { AreMade (types_of model.now) self.new }
         ensures lean { IsLean self.old → IsLean self.new }
-        ensures taken { (ls : List (Level ℕ)) → IsOpen self.old (message_of model.now) ls → IsItemTaken (message_of model.now) ls (Starts (named namespace.now local.now) (map entry_of attrs.now)) self.new result }
+        ensures taken { (ls : List (Level ℕ)) → IsOpen self.old (message_of model.now) ls → IsItemTaken (message_of model.now) ls (Starts (name_in_namespace namespace.now local.now) (map entry_of attrs.now)) self.new result }
         ensures shown { (ls : List (Level ℕ)) → IsOpen self.old (message_of model.now) ls
-            → OnOk result (GoOn self.old.pieces self.new.pieces (ShowsBeside model.now ls (Starts (named namespace.now local.now) (map entry_of attrs.now)))) }
+            → OnOk result (GoOn self.old.pieces self.new.pieces (ShowsBeside model.now ls (Starts (name_in_namespace namespace.now local.now) (map entry_of attrs.now)))) }
     {
         match self.place(model, namespace, local) {
             Ok(number) => self.enter(model, number, attrs),
@@ -223,7 +223,7 @@ impl Content {
         requires { AreMade (types_of model.now) self.old }
         ensures made { AreMade (types_of model.now) self.new }
         ensures lean { IsLean self.old → IsLean self.new }
-        ensures taken { (ls : List (Level ℕ)) → IsOpen self.old (message_of model.now) ls → IsPlaced (message_of model.now) ls (named namespace.now local.now) self.new result }
+        ensures taken { (ls : List (Level ℕ)) → IsOpen self.old (message_of model.now) ls → IsPlaced (message_of model.now) ls (name_in_namespace namespace.now local.now) self.new result }
         ensures shown { (ls : List (Level ℕ)) → IsOpen self.old (message_of model.now) ls
             → OnOk result (GoOn self.old.pieces self.new.pieces (StartShown ls local.now)) }
     {
@@ -254,7 +254,7 @@ impl Content {
         ensures checks { self.new.checks ≡ self.old.checks }
         ensures round { self.new.round ≡ self.old.round }
         ensures pieces { self.new.pieces ≡ self.old.pieces }
-        ensures taken { IsFilled filled (names_of (types_of model.now) self.old.round.items) self.new.innermost result }
+        ensures taken { IsEnvelopeFilled filled (path_round (types_of model.now) self.old.round.items) self.new.innermost result }
     {
         if filled {
             return Err(self.refused(model, Rule::TooMany, b""));
@@ -277,7 +277,7 @@ impl Content {
         ensures round { self.new.round ≡ self.old.round }
         ensures bare { self.old.pieces ≡ None → self.new.pieces ≡ None }
         ensures taken { (d : List ℕ) → Came (types_of model.now number) d → EndsWith d last count
-            → IsChild (message_of model.now) (types_of model.now number) d (names_of (types_of model.now) self.old.round.items) local.now self.new.innermost result }
+            → IsChild (message_of model.now) (types_of model.now number) d (path_round (types_of model.now) self.old.round.items) local.now self.new.innermost result }
         ensures shown { (d : List ℕ) → Came (types_of model.now number) d → EndsWith d last count
             → OnOk result (GoOn self.old.pieces self.new.pieces (ChildShown (types_of model.now number) (next (types_of model.now number) d local.now))) }
     {
@@ -377,7 +377,7 @@ impl Content {
         ensures lean { IsLean self.old → IsLean self.new }
         ensures round { self.new.round ≡ self.old.round }
         ensures pieces { self.new.pieces ≡ self.old.pieces }
-        ensures taken { IsBegun (message_of model.now) (types_of model.now number) self.new result }
+        ensures taken { IsElementBegun (message_of model.now) (types_of model.now number) self.new result }
     {
         match model.form(number) {
             Some(Form::Simple(simple)) => self.begin_text(model, number, simple),
@@ -414,7 +414,7 @@ fn root(
     namespace: &[u8],
     local: &[u8],
 ) -> Result<Option<u32>, Refusal>
-    ensures { IsRoot (message_of model.now) (named namespace.now local.now) result }
+    ensures { IsRoot (message_of model.now) (name_in_namespace namespace.now local.now) result }
 {
     if model.is_namespace(namespace) && local == DOCUMENT {
         return Ok(Some(0));

@@ -4,9 +4,9 @@ ghost use Rattle.lexical_core.specs.Characters.{IsXmlChar};
 ghost use Rattle.lexical_core.specs.XmlRuns.{IsXmlRun};
 ghost use Rattle.facets.specs.declared.simple.Simple.{Simple as SimpleType};
 ghost use Rattle.facets.specs.LeafChecks.{IsWithinLimits, IsHeldWithin, leaf_limit};
-ghost use Rattle.xml_instances.specs.Judges.{HasTaken, IsMadeFor, held};
+ghost use Rattle.xml_instances.specs.Judges.{HasJudgeTaken, IsJudgeMadeFor, held_by_judge};
 ghost use Rattle.facets.specs.LeafVerdicts.{IsFreeText};
-ghost use Rattle.xml_instances.specs.Verdicts.{IsVerdict};
+ghost use Rattle.xml_instances.specs.Verdicts.{IsVerdictJudge};
 
 use facets::{LeafCheck, LeafVerdict, Simple};
 use std::alloc::{AllocError, Global};
@@ -24,7 +24,7 @@ impl Judge {
     /// One that gives the leaf, before the first character.
     pub(crate) fn check(alloc: Global, simple: &Simple) -> Result<Judge, AllocError>
         requires { IsWithinLimits simple.now }
-        ensures { IfOk result (λ judge. HasTaken judge simple.now []) }
+        ensures { IfOk result (λ judge. HasJudgeTaken judge simple.now []) }
     {
         Ok(Judge::Check(LeafCheck::new(alloc, simple)?))
     }
@@ -32,17 +32,17 @@ impl Judge {
     /// One that tells no more than whether there is a leaf, before the first character.
     pub(crate) fn verdict(alloc: Global, simple: &Simple) -> Result<Judge, AllocError>
         requires { IsWithinLimits simple.now }
-        ensures taken { IfOk result (λ judge. HasTaken judge simple.now []) }
-        ensures verdict { IfOk result (λ judge. IsVerdict judge) }
+        ensures taken { IfOk result (λ judge. HasJudgeTaken judge simple.now []) }
+        ensures verdict { IfOk result (λ judge. IsVerdictJudge judge) }
     {
         Ok(Judge::Verdict(LeafVerdict::new(alloc, simple)?))
     }
 
     /// Makes it as it was when it was new. It takes no memory.
     pub(crate) fn restart(&mut self, simple: &Simple)
-        requires { IsMadeFor self.old simple.now }
-        ensures taken { HasTaken self.new simple.now [] }
-        ensures verdict { IsVerdict self.old → IsVerdict self.new }
+        requires { IsJudgeMadeFor self.old simple.now }
+        ensures taken { HasJudgeTaken self.new simple.now [] }
+        ensures verdict { IsVerdictJudge self.old → IsVerdictJudge self.new }
     {
         match self {
             Judge::Check(check) => check.restart(simple),
@@ -53,10 +53,10 @@ impl Judge {
     /// Takes a character. After want of memory all is as before.
     pub(crate) fn take(&mut self, simple: &Simple, c: char) -> Result<(), AllocError>
         requires char { IsXmlChar c }
-        requires made { IsMadeFor self.old simple.now }
-        ensures ok { OnOk result ((text : List ℕ) → HasTaken self.old simple.now text → HasTaken self.new simple.now (text ++ c ∷ [])) }
+        requires made { IsJudgeMadeFor self.old simple.now }
+        ensures ok { OnOk result ((text : List ℕ) → HasJudgeTaken self.old simple.now text → HasJudgeTaken self.new simple.now (text ++ c ∷ [])) }
         ensures err { OnErr result (self.new ≡ self.old) }
-        ensures verdict { IsVerdict self.old → IsVerdict self.new }
+        ensures verdict { IsVerdictJudge self.old → IsVerdictJudge self.new }
     {
         match self {
             Judge::Check(check) => check.take(simple, c),
@@ -72,10 +72,10 @@ impl Judge {
         count: usize,
     ) -> Result<(), AllocError>
         requires run { IsXmlRun run.now count }
-        requires made { IsMadeFor self.old simple.now }
-        ensures ok { OnOk result ((r : IsXmlRun run.now count) (text : List ℕ) → HasTaken self.old simple.now text → HasTaken self.new simple.now (text ++ r.chars)) }
+        requires made { IsJudgeMadeFor self.old simple.now }
+        ensures ok { OnOk result ((r : IsXmlRun run.now count) (text : List ℕ) → HasJudgeTaken self.old simple.now text → HasJudgeTaken self.new simple.now (text ++ r.chars)) }
         ensures err { OnErr result (self.new ≡ self.old) }
-        ensures verdict { IsVerdict self.old → IsVerdict self.new }
+        ensures verdict { IsVerdictJudge self.old → IsVerdictJudge self.new }
     {
         match self {
             Judge::Check(check) => check.take_run(simple, run, count),
@@ -86,9 +86,9 @@ impl Judge {
     /// How many bytes are held for the leaf: at most four to each character within its limit, and 64; by one that
     /// gives no leaf none of a text without codes.
     pub(crate) fn scratch(&self) -> u64
-        ensures count { result ≡ held self.now }
-        ensures bound { (simple : SimpleType) (text : List ℕ) → HasTaken self.now simple text → IsHeldWithin (leaf_limit simple) (length text) result }
-        ensures free { (simple : SimpleType) (text : List ℕ) → HasTaken self.now simple text → IsVerdict self.now → IsFreeText simple → result ≡ 0 }
+        ensures count { result ≡ held_by_judge self.now }
+        ensures bound { (simple : SimpleType) (text : List ℕ) → HasJudgeTaken self.now simple text → IsHeldWithin (leaf_limit simple) (length text) result }
+        ensures free { (simple : SimpleType) (text : List ℕ) → HasJudgeTaken self.now simple text → IsVerdictJudge self.now → IsFreeText simple → result ≡ 0 }
     {
         match self {
             Judge::Check(check) => check.scratch(),

@@ -4,8 +4,8 @@ ghost use Rattle.std.specs.Fmt.{decimal};
 ghost use Rattle.lexical_core.specs.declared.rule.Rule.TheVariants.{Missing};
 ghost use Rattle.reference_check.specs.Forms.{form_slots};
 ghost use Rattle.message_model.specs.Tables.{types_of};
-ghost use Rattle.xml_instances.specs.Levels.{tag_text};
-ghost use Rattle.xml_instances.specs.Open.{name_of, names_of, Refuses, IsPathTold};
+ghost use Rattle.xml_instances.specs.Levels.{slot_tag_text};
+ghost use Rattle.xml_instances.specs.Open.{last_step_of, path_round, RefusesWith, IsPathTold};
 
 use lexical_core::{Rule, Text};
 use message_model::Model;
@@ -41,7 +41,7 @@ pub(crate) enum Refusal {
 
 /// Appends a slash and the tag of an element of the type.
 fn put_tag(text: &mut Text, model: &Model, number: u32, at: u32) -> Result<(), AllocError>
-    ensures { OnOk result (text.new ≡ text.old ++ tag_text (slice_get (form_slots (types_of model.now number)) at)) }
+    ensures { OnOk result (text.new ≡ text.old ++ slot_tag_text (slice_get (form_slots (types_of model.now number)) at)) }
 {
     let Some(slot) = model.slot(number, at) else {
         return Ok(());
@@ -60,7 +60,7 @@ fn put_count(text: &mut Text, alloc: Global, count: u64) -> Result<(), AllocErro
 
 /// Appends the name of the last element in one that is open.
 fn put_name(text: &mut Text, alloc: Global, model: &Model, opened: Opened) -> Result<(), AllocError>
-    ensures { OnOk result (text.new ≡ text.old ++ name_of (types_of model.now) opened) }
+    ensures { OnOk result (text.new ≡ text.old ++ last_step_of (types_of model.now) opened) }
 {
     let Opened::Parent {
         number,
@@ -77,7 +77,7 @@ fn put_name(text: &mut Text, alloc: Global, model: &Model, opened: Opened) -> Re
 /// The path of an element, where these are open round it.
 #[tactic(auto, using(crate::proofs::Paths::one_name))]
 pub(crate) fn names(alloc: Global, model: &Model, round: &[Opened]) -> Result<Text, AllocError>
-    ensures { IfOk result (λ t. t ≡ names_of (types_of model.now) round.now) }
+    ensures { IfOk result (λ t. t ≡ path_round (types_of model.now) round.now) }
 {
     let mut text = Text::new(alloc);
     text.extend(b"/Document[1]")?;
@@ -94,7 +94,7 @@ fn names_and(
     round: &[Opened],
     behind: &[u8],
 ) -> Result<Text, AllocError>
-    ensures { IfOk result (λ t. t ≡ names_of (types_of model.now) round.now ++ behind.now) }
+    ensures { IfOk result (λ t. t ≡ path_round (types_of model.now) round.now ++ behind.now) }
 {
     let mut text = names(alloc, model, round)?;
     text.extend(behind)?;
@@ -109,7 +109,7 @@ fn names_and_tag(
     number: u32,
     at: u32,
 ) -> Result<Text, AllocError>
-    ensures { IfOk result (λ t. t ≡ names_of (types_of model.now) round.now ++ tag_text (slice_get (form_slots (types_of model.now number)) at)) }
+    ensures { IfOk result (λ t. t ≡ path_round (types_of model.now) round.now ++ slot_tag_text (slice_get (form_slots (types_of model.now number)) at)) }
 {
     let mut text = names(alloc, model, round)?;
     put_tag(&mut text, model, number, at)?;
@@ -134,7 +134,7 @@ pub(crate) fn breaks(
     round: &[Opened],
     behind: &[u8],
 ) -> Refusal
-    ensures { Refuses rule (names_of (types_of model.now) round.now ++ behind.now) result }
+    ensures { RefusesWith rule (path_round (types_of model.now) round.now ++ behind.now) result }
 {
     told(rule, names_and(alloc, model, round, behind))
 }
@@ -147,7 +147,7 @@ pub(crate) fn missing(
     number: u32,
     at: u32,
 ) -> Refusal
-    ensures { Refuses Missing (names_of (types_of model.now) round.now ++ tag_text (slice_get (form_slots (types_of model.now number)) at)) result }
+    ensures { RefusesWith Missing (path_round (types_of model.now) round.now ++ slot_tag_text (slice_get (form_slots (types_of model.now number)) at)) result }
 {
     told(
         Rule::Missing,

@@ -10,7 +10,7 @@ ghost use Rattle.markup.specs.Literals.{IsRun};
 ghost use Rattle.markup.specs.PlainTags.{tag_items};
 ghost use Rattle.respell.specs.Kept.{IsInDefault};
 ghost use Rattle.respell.specs.Respelling.{HasSortedAttributes};
-ghost use Rattle.xml_instances.specs.Built.{Shown, nothing_shown, type_at, with_begun, with_leaf, with_inside, closed, FragmentShown};
+ghost use Rattle.xml_instances.specs.Built.{Shown, nothing_shown, type_at, with_begun, with_leaf, with_inside, close_shown, FragmentShown};
 ghost use Rattle.xml_instances.specs.Keeping.{HasShown, GoOn, IsInnermostDefault, IsKeptDefault, with_all_inside};
 
 use crate::growth::make_room;
@@ -106,7 +106,7 @@ impl Pieces {
     /// The innermost element ends.
     #[inline(always)]
     fn close(&mut self) -> Result<(), AllocError>
-        ensures { (s : Shown) → HasShown self.old s → OnOk result (HasShown self.new (closed s)) }
+        ensures { (s : Shown) → HasShown self.old s → OnOk result (HasShown self.new (close_shown s)) }
     {
         if self.is_closed() {
             return Ok(());
@@ -227,7 +227,7 @@ pub(crate) fn leaf(pieces: &mut Option<Pieces>, leaf: &LeafRef<'_>) -> Result<()
 #[inline(always)]
 pub(crate) fn close(pieces: &mut Option<Pieces>) -> Result<(), AllocError>
     ensures bare { pieces.old ≡ None → pieces.new ≡ None }
-    ensures shown { OnOk result (GoOn pieces.old pieces.new (λ s t. t ≡ closed s)) }
+    ensures shown { OnOk result (GoOn pieces.old pieces.new (λ s t. t ≡ close_shown s)) }
 {
     match pieces {
         None => Ok(()),

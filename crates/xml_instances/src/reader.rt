@@ -3,10 +3,10 @@ ghost use Rattle.std.specs.Prelude.{◌≡◌, ◌+◌, ◌<◌, ◌≤◌, ◌^
 ghost use Rattle.message_model.specs.Tables.{Tables, message_of};
 ghost use Rattle.xml_instances.specs.Levels.{levels_over};
 ghost use Rattle.xml_instances.specs.XmlFaults.{items_told};
-ghost use Rattle.xml_instances.specs.Checking.{Stops, EndsAs, IsSpelledAs};
+ghost use Rattle.xml_instances.specs.Checking.{XmlStops, XmlEndsAs, IsSpelledAs};
 ghost use Rattle.message_model.specs.Errors.{IsAgain};
 ghost use Rattle.markup.specs.Marks.{tag_limit};
-ghost use Rattle.xml_instances.specs.ReadInstances.{HasFedReader, IsReaderFor, reader_fed, reader_failed, reader_scratch, reader_token, IsReaderBare};
+ghost use Rattle.xml_instances.specs.ReadInstances.{HasFedReader, IsXmlReaderFor, reader_fed, reader_failed, reader_scratch, reader_token, IsReaderBare};
 ghost use Rattle.xml_instances.specs.Scratch.{IsScratchWithin};
 
 use crate::checker::XmlChecker;
@@ -25,7 +25,7 @@ impl XmlReader {
     /// A reader for the message before the first byte.
     pub fn new(alloc: Global, model: &Model) -> Result<XmlReader, AllocError>
         ensures fed { IfOk result (λ r. HasFedReader r model.now []) }
-        ensures made { IfOk result (λ r. IsReaderFor r model.now) }
+        ensures made { IfOk result (λ r. IsXmlReaderFor r model.now) }
         ensures none { IfOk result (λ r. reader_fed r ≡ 0) }
     {
         Ok(XmlReader {
@@ -63,10 +63,10 @@ impl XmlReader {
     /// no pieces.
     pub fn feed(&mut self, model: &Model, piece: &[u8]) -> Result<(), InstanceError>
         requires room { reader_failed self.old ≡ None → reader_fed self.old + length piece.now ≤ 2 ^ 40 }
-        requires made { IsReaderFor self.old model.now }
-        ensures made { IsReaderFor self.new model.now }
+        requires made { IsXmlReaderFor self.old model.now }
+        ensures made { IsXmlReaderFor self.new model.now }
         ensures ok { (bytes : List ℕ) → HasFedReader self.old model.now bytes → IfOk result (λ _. HasFedReader self.new model.now (bytes ++ piece.now)) }
-        ensures err { (bytes : List ℕ) → HasFedReader self.old model.now bytes → IfErr result (λ e. Stops model.now (bytes ++ piece.now) e) }
+        ensures err { (bytes : List ℕ) → HasFedReader self.old model.now bytes → IfErr result (λ e. XmlStops model.now (bytes ++ piece.now) e) }
         ensures count { IfOk result (λ _. reader_fed self.new ≡ reader_fed self.old + length piece.now) }
         ensures failed { reader_failed self.old ≡ None → IfErr result (λ e. reader_failed self.new ≡ Some e) }
         ensures again { (e : InstanceError) → reader_failed self.old ≡ Some e → IsAgain e result × (reader_failed self.new ≡ reader_failed self.old) }
@@ -81,7 +81,7 @@ impl XmlReader {
     /// an error of `feed` it gives the same.
     pub fn finish(self, model: &Model) -> Result<Instance, InstanceError>
         ensures ok { (bytes : List ℕ) → HasFedReader self model.now bytes → IfOk result (λ i. IsSpelledAs model.now bytes i.region.pieces) }
-        ensures err { (bytes : List ℕ) → HasFedReader self model.now bytes → IfErr result (λ e. EndsAs model.now bytes e) }
+        ensures err { (bytes : List ℕ) → HasFedReader self model.now bytes → IfErr result (λ e. XmlEndsAs model.now bytes e) }
         ensures again { (e : InstanceError) → reader_failed self ≡ Some e → result ≡ Err e }
     {
         self.checker.finish_pieces(model)

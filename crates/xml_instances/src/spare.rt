@@ -3,7 +3,7 @@ ghost use Rattle.std.specs.Prelude.{ℕ};
 ghost use Rattle.facets.specs.declared.simple.Simple.{Simple as SimpleType};
 ghost use Rattle.reference_check.specs.Forms.{Graph};
 ghost use Rattle.xml_instances.specs.Open.{AreKept, IsMade, IsMadeAt};
-ghost use Rattle.xml_instances.specs.Verdicts.{IsVerdict, IsGivenVerdict, AreVerdicts};
+ghost use Rattle.xml_instances.specs.Verdicts.{IsVerdictJudge, IsGivenVerdict, AreVerdicts};
 
 use crate::judge::Judge;
 use std::alloc::Global;
@@ -43,7 +43,7 @@ impl Checks {
     /// Keeps a check of the type, unless there is no memory for it.
     pub(crate) fn keep(&mut self, number: u32, check: Box<Judge>)
         ensures kept { (types : Graph ℕ SimpleType) → AreKept types self.old → IsMadeAt types number check.value → AreKept types self.new }
-        ensures lean { AreVerdicts self.old → IsVerdict check.value → AreVerdicts self.new }
+        ensures lean { AreVerdicts self.old → IsVerdictJudge check.value → AreVerdicts self.new }
     {
         let at = number as usize;
         if !self.grow(number) {

@@ -6,10 +6,10 @@ ghost use Rattle.markup.specs.Literals.{IsRun};
 ghost use Rattle.facets.specs.LeafChecks as checks;
 ghost use Rattle.facets.specs.LeafVerdicts as verdicts;
 ghost use Rattle.xml_instances.specs.Built.{TextShown};
-ghost use Rattle.xml_instances.specs.Judges.{HasTaken, IsMadeFor};
+ghost use Rattle.xml_instances.specs.Judges.{HasJudgeTaken, IsJudgeMadeFor};
 ghost use Rattle.xml_instances.specs.Keeping.{GoOn};
 ghost use Rattle.xml_instances.specs.Open.{IsRuleOf};
-ghost use Rattle.xml_instances.specs.Verdicts.{IsVerdict};
+ghost use Rattle.xml_instances.specs.Verdicts.{IsVerdictJudge};
 
 use crate::judge::Judge;
 use crate::pieces::{Pieces, leaf};
@@ -27,10 +27,10 @@ pub(crate) fn is_space(c: char) -> bool
 
 /// Takes a character of a text.
 pub(crate) fn take_character(check: &mut Judge, simple: &Simple, c: char) -> Result<(), AllocError>
-    requires { IsMadeFor check.old simple.now }
-    ensures made { IsMadeFor check.new simple.now }
-    ensures verdict { IsVerdict check.old → IsVerdict check.new }
-    ensures taken { OnOk result ((text : List ℕ) → HasTaken check.old simple.now text → HasTaken check.new simple.now (text ++ c ∷ [])) }
+    requires { IsJudgeMadeFor check.old simple.now }
+    ensures made { IsJudgeMadeFor check.new simple.now }
+    ensures verdict { IsVerdictJudge check.old → IsVerdictJudge check.new }
+    ensures taken { OnOk result ((text : List ℕ) → HasJudgeTaken check.old simple.now text → HasJudgeTaken check.new simple.now (text ++ c ∷ [])) }
 {
     if !is_xml_char(c) {
         return Err(AllocError);
@@ -44,10 +44,10 @@ pub(crate) fn take_characters(
     simple: &Simple,
     text: &str,
 ) -> Result<(), AllocError>
-    requires { IsMadeFor check.old simple.now }
-    ensures made { IsMadeFor check.new simple.now }
-    ensures verdict { IsVerdict check.old → IsVerdict check.new }
-    ensures taken { HasTaken check.old simple.now [] → OnOk result (HasTaken check.new simple.now (chars text.now)) }
+    requires { IsJudgeMadeFor check.old simple.now }
+    ensures made { IsJudgeMadeFor check.new simple.now }
+    ensures verdict { IsVerdictJudge check.old → IsVerdictJudge check.new }
+    ensures taken { HasJudgeTaken check.old simple.now [] → OnOk result (HasJudgeTaken check.new simple.now (chars text.now)) }
 {
     for c in text.chars() {
         take_character(check, simple, c)?;
@@ -63,10 +63,10 @@ pub(crate) fn take_run(
     count: usize,
 ) -> Result<(), AllocError>
     requires run { IsRun run.now count }
-    requires made { IsMadeFor check.old simple.now }
-    ensures made { IsMadeFor check.new simple.now }
-    ensures verdict { IsVerdict check.old → IsVerdict check.new }
-    ensures taken { OnOk result ((r : IsRun run.now count) (text : List ℕ) → HasTaken check.old simple.now text → HasTaken check.new simple.now (text ++ r.characters)) }
+    requires made { IsJudgeMadeFor check.old simple.now }
+    ensures made { IsJudgeMadeFor check.new simple.now }
+    ensures verdict { IsVerdictJudge check.old → IsVerdictJudge check.new }
+    ensures taken { OnOk result ((r : IsRun run.now count) (text : List ℕ) → HasJudgeTaken check.old simple.now text → HasJudgeTaken check.new simple.now (text ++ r.characters)) }
 {
     check.take_run(simple, run, count)
 }
@@ -77,10 +77,10 @@ pub(crate) fn ending_of(
     simple: &Simple,
     pieces: &mut Option<Pieces>,
 ) -> Result<Option<Rule>, AllocError>
-    requires { IsMadeFor judge.now simple.now }
+    requires { IsJudgeMadeFor judge.now simple.now }
     ensures bare { pieces.old ≡ None → pieces.new ≡ None }
-    ensures taken { (text : List ℕ) → HasTaken judge.now simple.now text → IfOk result (λ rule. IsRuleOf simple.now text rule) }
-    ensures shown { (text : List ℕ) → HasTaken judge.now simple.now text → IfOk result (λ rule. rule ≡ None → GoOn pieces.old pieces.new (TextShown simple.now text)) }
+    ensures taken { (text : List ℕ) → HasJudgeTaken judge.now simple.now text → IfOk result (λ rule. IsRuleOf simple.now text rule) }
+    ensures shown { (text : List ℕ) → HasJudgeTaken judge.now simple.now text → IfOk result (λ rule. rule ≡ None → GoOn pieces.old pieces.new (TextShown simple.now text)) }
 {
     match judge {
         Judge::Check(check) => show_leaf(check, simple, pieces),
@@ -94,10 +94,10 @@ fn show_leaf(
     simple: &Simple,
     pieces: &mut Option<Pieces>,
 ) -> Result<Option<Rule>, AllocError>
-    requires { checks.IsMadeFor check.now simple.now }
+    requires { checks.IsCheckMadeFor check.now simple.now }
     ensures bare { pieces.old ≡ None → pieces.new ≡ None }
-    ensures taken { (text : List ℕ) → checks.HasTaken check.now simple.now text → IfOk result (λ rule. IsRuleOf simple.now text rule) }
-    ensures shown { (text : List ℕ) → checks.HasTaken check.now simple.now text → IfOk result (λ rule. rule ≡ None → GoOn pieces.old pieces.new (TextShown simple.now text)) }
+    ensures taken { (text : List ℕ) → checks.HasCheckTaken check.now simple.now text → IfOk result (λ rule. IsRuleOf simple.now text rule) }
+    ensures shown { (text : List ℕ) → checks.HasCheckTaken check.now simple.now text → IfOk result (λ rule. rule ≡ None → GoOn pieces.old pieces.new (TextShown simple.now text)) }
 {
     match check.finish(simple) {
         Ok(found) => match leaf(pieces, &found) {
@@ -114,8 +114,8 @@ fn rule_of(
     simple: &Simple,
     pieces: &Option<Pieces>,
 ) -> Result<Option<Rule>, AllocError>
-    requires { verdicts.IsMadeFor verdict.now simple.now }
-    ensures taken { (text : List ℕ) → verdicts.HasTaken verdict.now simple.now text → IfOk result (λ rule. IsRuleOf simple.now text rule) }
+    requires { verdicts.IsVerdictMadeFor verdict.now simple.now }
+    ensures taken { (text : List ℕ) → verdicts.HasVerdictTaken verdict.now simple.now text → IfOk result (λ rule. IsRuleOf simple.now text rule) }
     ensures bare { IsOk result → pieces.now ≡ None }
 {
     if pieces.is_some() {
@@ -133,11 +133,11 @@ pub(crate) fn pass_leaf(
     simple: &Simple,
     pieces: &mut Option<Pieces>,
 ) -> Result<bool, AllocError>
-    requires { IsMadeFor judge.now simple.now }
+    requires { IsJudgeMadeFor judge.now simple.now }
     ensures kept { IfOk result (λ done. done ≡ false → pieces.new ≡ pieces.old) }
     ensures bare { pieces.old ≡ None → pieces.new ≡ None }
-    ensures taken { (text : List ℕ) → HasTaken judge.now simple.now text → IfOk result (λ done. done ≡ true → IsRuleOf simple.now text None) }
-    ensures shown { (text : List ℕ) → HasTaken judge.now simple.now text → IfOk result (λ done. done ≡ true → GoOn pieces.old pieces.new (TextShown simple.now text)) }
+    ensures taken { (text : List ℕ) → HasJudgeTaken judge.now simple.now text → IfOk result (λ done. done ≡ true → IsRuleOf simple.now text None) }
+    ensures shown { (text : List ℕ) → HasJudgeTaken judge.now simple.now text → IfOk result (λ done. done ≡ true → GoOn pieces.old pieces.new (TextShown simple.now text)) }
 {
     match judge {
         Judge::Check(check) => pass_check(check, simple, pieces),
@@ -151,11 +151,11 @@ fn pass_check(
     simple: &Simple,
     pieces: &mut Option<Pieces>,
 ) -> Result<bool, AllocError>
-    requires { checks.IsMadeFor check.now simple.now }
+    requires { checks.IsCheckMadeFor check.now simple.now }
     ensures kept { IfOk result (λ done. done ≡ false → pieces.new ≡ pieces.old) }
     ensures bare { pieces.old ≡ None → pieces.new ≡ None }
-    ensures taken { (text : List ℕ) → checks.HasTaken check.now simple.now text → IfOk result (λ done. done ≡ true → IsRuleOf simple.now text None) }
-    ensures shown { (text : List ℕ) → checks.HasTaken check.now simple.now text → IfOk result (λ done. done ≡ true → GoOn pieces.old pieces.new (TextShown simple.now text)) }
+    ensures taken { (text : List ℕ) → checks.HasCheckTaken check.now simple.now text → IfOk result (λ done. done ≡ true → IsRuleOf simple.now text None) }
+    ensures shown { (text : List ℕ) → checks.HasCheckTaken check.now simple.now text → IfOk result (λ done. done ≡ true → GoOn pieces.old pieces.new (TextShown simple.now text)) }
 {
     match check.finish(simple) {
         Ok(found) => match leaf(pieces, &found) {
@@ -168,9 +168,9 @@ fn pass_check(
 
 /// The same by one that gives no leaf, where no pieces are kept.
 fn pass_verdict(verdict: &LeafVerdict, simple: &Simple, pieces: &Option<Pieces>) -> bool
-    requires { verdicts.IsMadeFor verdict.now simple.now }
+    requires { verdicts.IsVerdictMadeFor verdict.now simple.now }
     ensures bare { result ≡ true → pieces.now ≡ None }
-    ensures taken { (text : List ℕ) → verdicts.HasTaken verdict.now simple.now text → result ≡ true → IsRuleOf simple.now text None }
+    ensures taken { (text : List ℕ) → verdicts.HasVerdictTaken verdict.now simple.now text → result ≡ true → IsRuleOf simple.now text None }
 {
     if pieces.is_some() {
         return false;

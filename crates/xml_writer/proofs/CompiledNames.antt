@@ -21,14 +21,14 @@ use Rattle.repo_objects.specs.declared.objects.Kinds.TheVariants as kinds
 use Rattle.repo_objects.specs.declared.objects.ObjectKind.{ObjectKind}
 use Rattle.repo_objects.specs.declared.objects.ObjectKind.TheVariants as object
 use Rattle.repo_objects.specs.Repository.{Contents}
-use Rattle.reference_check.specs.Names.{is_name, is_name_first, is_name_byte}
+use Rattle.reference_check.specs.Names.{is_profile_name, is_name_first, is_name_byte}
 use Rattle.reference_check.specs.Graph.{Place, document, message, entry, nowhere, find_entry, find_message, simple_form, object_form, entry_form, message_form, document_form}
 use Rattle.reference_check.specs.Reach.{Reaches, itself, elements_of, elements_or_none, blocks_or_none, kind_elements}
 use Rattle.reference_check.specs.Rules.{BadName, own_names}
 use Rattle.reference_check.specs.Forms.{Slot, Form, form_slots, form_to, slot_to}
 use Rattle.reference_check.specs.Forms as form
 use Rattle.message_model.specs.SimpleTypes.{facets_of}
-use Rattle.message_model.specs.Tables.{Tables, types_of, namespace_front, namespace_of, message_of}
+use Rattle.message_model.specs.Tables.{Tables, types_of, namespace_front, message_namespace, message_of}
 use Rattle.message_model.specs.Ready.{IsReady, OnObjects}
 use Rattle.message_model.specs.Compiled.{IsReachedList, Compiles, types, place_of}
 use Rattle.message_model.proofs.Compilable.{object_there, at_contains}
@@ -84,7 +84,7 @@ bytes_go_on (c ∷ cs) h =
     let one = encode_ascii c (ascii_byte c parts.0) in
     ((byte_goes_on c parts.0, r.0), rw (one, r.1) refl)
 
-name_part : (name : List ℕ) → is_name name ≡ true → IsPart name
+name_part : (name : List ℕ) → is_profile_name name ≡ true → IsPart name
 name_part [] h = absurd cc
 name_part (c ∷ cs) h =
     let parts = and_parts _ _ h in
@@ -100,7 +100,7 @@ contains_map f xs k x e = at_contains (map f xs) (f x) k (slice_get-map f xs k �
 
 module _ (R : Contents) (m : List ℕ) (ready : IsReady R m) where
   good_name : (p : Place) → Reaches R m p → (name : List ℕ) → Contains (own_names R m p ++ map (λ (e : ElementDef). e.tag) (elements_of R m p)) name → IsPart name
-  good_name p reach name inside = name_part name (elim (cases_Bool (is_name name)) [
+  good_name p reach name inside = name_part name (elim (cases_Bool (is_profile_name name)) [
     | inl good ↦ good
     | inr bad ↦ absurd (ready (OnObjects BadName) p reach (name, inside, bad))
   ])
@@ -171,11 +171,11 @@ tables_named R m ready ids list T made n k s at =
 
 pub compiled_names : (R : Contents) (m : List ℕ) (ids : List (List ℕ)) (T : Tables) → IsMessageId m → IsReady R m → IsReachedList R m ids → Compiles R m ids T → HasXmlNames (message_of T)
 compiled_names R m ids T id ready list made =
-    let visible : AreVisible (namespace_of T) = subst (λ t. AreVisible (namespace_front ++ t)) (sym made.id) (namespace_visible m id) in
+    let visible : AreVisible (message_namespace T) = subst (λ t. AreVisible (namespace_front ++ t)) (sym made.id) (namespace_visible m id) in
     record {
       tags = tables_named R m ready ids list T made;
-      namespace = visible_xml (namespace_of T) visible;
-      literal = visible_literal (namespace_of T) visible;
+      namespace = visible_xml (message_namespace T) visible;
+      literal = visible_literal (message_namespace T) visible;
       no_xml = not_xml_namespace T.id;
       no_declaration = not_xmlns_namespace T.id;
     }

@@ -7,12 +7,12 @@ use Rattle.lexical_core.specs.CanonicalDecimals.{canonical_parts}
 use Rattle.lexical_core.proofs.Written.{canonical_is}
 use Rattle.data_types.specs.Leaf.{Bytes, Code, Number as NumberLeaf}
 use Rattle.xml_writer.specs.CanonXml.{IsLeafText, IsCodeText, IsCanonXml}
-use Rattle.xml_writer.specs.CanonXmlExample.{text_type, code_form, number_type, example_number, example_message, example_value}
+use Rattle.xml_writer.specs.CanonXmlExample.{example_text_type, code_form, number_type, example_number, example_message, example_value}
 
 plain : (c : ℕ) → 32 ≤ c → c ≤ 127 → IsXmlChar c
 plain c low high = inl (low, omega (arith, high))
 
-name_written : IsLeafText text_type (Bytes (codes "A>\"B")) (codes "A&gt;\"B")
+name_written : IsLeafText example_text_type (Bytes (codes "A>\"B")) (codes "A&gt;\"B")
 unfolding lib.Utf8.encode
 name_written =
     (codes "A>\"B", ((plain 65 (omega arith) (omega arith), (plain 62 (omega arith) (omega arith), (plain 34 (omega arith) (omega arith), (plain 66 (omega arith) (omega arith), tt)))), refl), refl)

@@ -2,7 +2,7 @@
 use Rattle.std.proofs.Common.{◌≡◌, ℕ, true, List, ◌++◌, Option, Some, codes, flat_map, sym, ap, ap₂, ◌∙◌}
 use Rattle.std.specs.Prelude.{encode_utf8_all, slice_get}
 use Rattle.std.proofs.lemmas.Str.{encodes_same}
-use Rattle.lexical_core.specs.Escapes.{escaped}
+use Rattle.lexical_core.specs.Escapes.{escape_of}
 use Rattle.data_types.specs.Canonical.{escaped_text}
 use Rattle.data_types.specs.Leaf.{Leaf, Code, Number}
 use Rattle.data_types.specs.Value.{Value, Children, Nothing, Child}
@@ -30,7 +30,7 @@ text_one : (simple : Simple) (l : Leaf) (one two : List ℕ) → IsLeafText simp
 text_one simple l one two (a, h, e) (b, g, d) = e ∙ ap escaped_text (chars_one simple.kind simple.codes l a b h g) ∙ sym d
 
 value_one : {P : Type 0} (f : Form P Simple) (l : Leaf) (one two : List ℕ) → IsCodeText f l one → IsCodeText f l two → one ≡ two
-value_one (form.Simple simple) l one two (a, h, e) (b, g, d) = e ∙ ap (flat_map (escaped true)) (chars_one simple.kind simple.codes l a b h g) ∙ sym d
+value_one (form.Simple simple) l one two (a, h, e) (b, g, d) = e ∙ ap (flat_map (escape_of true)) (chars_one simple.kind simple.codes l a b h g) ∙ sym d
 value_one f l one two h g = absurd h
 
 leaf_one : {P : Type 0} (f : Form P Simple) (v : Value) (one two : List ℕ) → IsLeafContent f v one → IsLeafContent f v two → one ≡ two

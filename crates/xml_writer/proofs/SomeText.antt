@@ -1,6 +1,6 @@
 -- A value that the types admit has a canonical XML.
 use Rattle.std.proofs.Common.{ℕ, true, List, [], ◌++◌, codes, flat_map, refl}
-use Rattle.lexical_core.specs.Escapes.{escaped}
+use Rattle.lexical_core.specs.Escapes.{escape_of}
 use Rattle.data_types.specs.Canonical.{escaped_text}
 use Rattle.data_types.specs.Leaf.{Leaf, Number}
 use Rattle.data_types.specs.Value.{Value, Children, Nothing, Child}
@@ -18,7 +18,7 @@ pub text_some : (simple : Simple) (l : Leaf) → Fits simple l → (bytes : List
 text_some simple l (w, canonical, given) = (escaped_text w, (w, canonical, refl))
 
 pub code_some : {P : Type 0} (f : Form P Simple) (l : Leaf) → FitsCode f l → (bytes : List ℕ) × IsCodeText f l bytes
-code_some (form.Simple simple) l (w, canonical, given) = (flat_map (escaped true) w, (w, canonical, refl))
+code_some (form.Simple simple) l (w, canonical, given) = (flat_map (escape_of true) w, (w, canonical, refl))
 code_some f l fits = absurd fits
 
 module _ {P : Type 0} (g : Graph P Simple) where

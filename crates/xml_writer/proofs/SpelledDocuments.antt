@@ -1,8 +1,8 @@
 -- A document of canonical XML, as tokens: they break no rule, and their events are those of a tree that writes the value.
 use Rattle.std.proofs.Common.{◌≡◌, ◌≤◌, inl, ℕ, suc, true, false, List, [], ◌∷◌, ◌++◌, None, codes, length, flat_map, refl, sym, ap, ap₂, subst, ◌∙◌, append_assoc, append-nil, arith, rules}
-use Rattle.lexical_core.specs.Tree.{Entry, Expanded, Item, Starts, Char, Ends, Skipped, Nodes, Nothing, Element, Text, flat_nodes, counted}
+use Rattle.lexical_core.specs.Tree.{Entry, Expanded, Item, Starts, Char, Ends, Skipped, Nodes, Nothing, Element, Text, flat_nodes, tree_items}
 use Rattle.data_types.specs.Value.{Value}
-use Rattle.markup.specs.Attribute.{Attribute, Piece, Literal}
+use Rattle.markup.specs.Attribute.{Attribute, ValuePiece, Literal}
 use Rattle.markup.specs.Chars.{is_xml_char, is_space, is_name_start, is_name_char}
 use Rattle.markup.specs.Name.{Plain}
 use Rattle.markup.specs.Token.{Token, Declaration, LineEnd, Lf, token_bytes}
@@ -13,7 +13,7 @@ use Rattle.fragments.specs.Plain.{IsPart}
 use Rattle.fragments.specs.Fragment.{start_text, end_text}
 use Rattle.message_model.specs.Admits.{AdmitsAs}
 use Rattle.message_model.specs.Message.{Message}
-use Rattle.message_model.specs.Writes.{named}
+use Rattle.message_model.specs.Writes.{name_in_namespace}
 use Rattle.respell.proofs.Runs.{behind, behind-append, Runs, runs-append, runs_front, events_items, AllStand, AllShort}
 use Rattle.respell.proofs.TagNames.{opening_of, Knows, knows_none, knows_within}
 use Rattle.respell.proofs.Trees.{Stays, one_run, element_stays}
@@ -26,7 +26,7 @@ use Rattle.xml_writer.proofs.SpelledValues.{HasAttributes, attributes_of, IsSpel
 
 -- ---- the declaration
 
-abbrev field : List ℕ → List Piece → Attribute
+abbrev field : List ℕ → List ValuePiece → Attribute
 field name value = record { gap = 32 ∷ []; name = Plain name; before = []; after = []; quote = 34; value = value }
 
 abbrev declaration : Token
@@ -57,21 +57,21 @@ line_run before cdata = one_run before (LineEnd Lf) (Char 10 ∷ []) (codes "\n"
 
 -- ---- the events
 
-counted_nodes : (n : ℕ) (ns : Nodes) (more : List Item) → counted (suc n) (flat_nodes ns ++ more) ≡ flat_nodes ns ++ counted (suc n) more
+counted_nodes : (n : ℕ) (ns : Nodes) (more : List Item) → tree_items (suc n) (flat_nodes ns ++ more) ≡ flat_nodes ns ++ tree_items (suc n) more
 counted_nodes n Nothing more = refl
 counted_nodes n (Text c rest) more = ap (λ (l : List Item). Char c ∷ l) (counted_nodes n rest more)
 counted_nodes n (Element name es children rest) more =
     ap (λ (l : List Item). Starts name es ∷ l) (
-    ap (counted (suc (suc n))) (append_assoc (flat_nodes children) (Ends name ∷ flat_nodes rest) more)
+    ap (tree_items (suc (suc n))) (append_assoc (flat_nodes children) (Ends name ∷ flat_nodes rest) more)
     ∙ counted_nodes (suc n) children (Ends name ∷ (flat_nodes rest ++ more))
     ∙ ap (λ (l : List Item). flat_nodes children ++ Ends name ∷ l) (counted_nodes n rest more)
-    ∙ sym (append_assoc (flat_nodes children) (Ends name ∷ flat_nodes rest) (counted (suc n) more))
+    ∙ sym (append_assoc (flat_nodes children) (Ends name ∷ flat_nodes rest) (tree_items (suc n) more))
     )
 
 document_items : (name : Expanded) (es : List Entry) (ns : Nodes)
-    → counted 0 ((Skipped ∷ Char 10 ∷ []) ++ ((Starts name es ∷ [] ++ (flat_nodes ns ++ Ends name ∷ [])) ++ Char 10 ∷ [])) ≡ Starts name es ∷ flat_nodes ns ++ Ends name ∷ []
+    → tree_items 0 ((Skipped ∷ Char 10 ∷ []) ++ ((Starts name es ∷ [] ++ (flat_nodes ns ++ Ends name ∷ [])) ++ Char 10 ∷ [])) ≡ Starts name es ∷ flat_nodes ns ++ Ends name ∷ []
 document_items name es ns =
-    ap (λ (l : List Item). Starts name es ∷ l) (ap (counted 1) (append_assoc (flat_nodes ns) (Ends name ∷ []) (Char 10 ∷ [])) ∙ counted_nodes 0 ns (Ends name ∷ Char 10 ∷ []))
+    ap (λ (l : List Item). Starts name es ∷ l) (ap (tree_items 1) (append_assoc (flat_nodes ns) (Ends name ∷ []) (Char 10 ∷ [])) ∙ counted_nodes 0 ns (Ends name ∷ Char 10 ∷ []))
 
 document_part : IsPart (codes "Document")
 unfolding lib.Utf8.encode
@@ -88,7 +88,7 @@ document_part = record {
 module _ {P : Type 0} (m : Message P) (names : HasXmlNames m) (v : Value) (admits : AdmitsAs m.forms (m.forms m.root) v) (own content : List ℕ)
     (es : HasAttributes m names (m.forms m.root) v own) (x : IsSpelled m names (m.forms m.root) v content) where
   abbrev name : Expanded
-  name = named m.namespace (codes "Document")
+  name = name_in_namespace m.namespace (codes "Document")
 
   abbrev start : List ℕ
   start = start_text None name es.entries
@@ -142,7 +142,7 @@ module _ {P : Type 0} (m : Message P) (names : HasXmlNames m) (v : Value) (admit
         clean = document.clean;
         over = over_of (behind [] tokens) has_root none_open;
         tree = record { name = name; attributes = es.entries; children = x.nodes };
-        tree_is = ap (counted 0) (events_items [] 0 tokens ∙ document.told) ∙ document_items name es.entries x.nodes;
+        tree_is = ap (tree_items 0) (events_items [] 0 tokens ∙ document.told) ∙ document_items name es.entries x.nodes;
         instance = record { admitted = admits; written = record { name = refl; attributes = es.writes; holds = x.holds; content = x.writes } };
       }
 

@@ -2,7 +2,7 @@
 use Rattle.std.proofs.Common.{◌≡◌, ◌≢◌, ◌⊎◌, inl, inr, ℕ, false, List, [], ◌∷◌, ◌++◌, Option, Some, None, refl, ap, subst, arith}
 use Rattle.std.specs.List.{AllByRecursion}
 use Rattle.lexical_core.specs.Characters.{IsXmlChar}
-use Rattle.lexical_core.specs.Escapes.{escaped}
+use Rattle.lexical_core.specs.Escapes.{escape_of}
 use Rattle.data_types.specs.Canonical.{escaped_text}
 use Rattle.data_types.specs.Leaf.{Leaf, Bytes, Code}
 use Rattle.data_types.specs.declared.kind.Kind.{Kind}
@@ -53,4 +53,4 @@ text_plain (c ∷ chars) h = (h.0, text_plain chars h.1)
 
 pub text_written : (default : Option (List ℕ)) (chars : List ℕ) → nodes_text default (text_nodes chars) ≡ escaped_text chars
 text_written default [] = refl
-text_written default (c ∷ chars) = ap (λ t. escaped false c ++ t) (text_written default chars)
+text_written default (c ∷ chars) = ap (λ t. escape_of false c ++ t) (text_written default chars)

@@ -23,7 +23,7 @@ use Rattle.reference_check.specs.Forms.{Graph, Form, Slot, form_slots}
 use Rattle.reference_check.specs.Forms as form
 use Rattle.message_model.specs.Admits.{AdmitsAs, AdmitsChildren, FitsCode}
 use Rattle.message_model.specs.Message.{Message}
-use Rattle.message_model.specs.Writes.{named, WritesAttributes, WritesContent, MayHold, SpellsCode, SpellsText, text_nodes}
+use Rattle.message_model.specs.Writes.{name_in_namespace, WritesAttributes, WritesContent, MayHold, SpellsCode, SpellsText, text_nodes}
 use Rattle.message_model.proofs.XmlTexts.{xml_utf8}
 use Rattle.respell.proofs.Runs.{behind}
 use Rattle.respell.proofs.TagNames.{opening_of, Knows, knows_within}
@@ -48,7 +48,7 @@ not_xmlns e = absurd cc
 
 coded_plain : (code : List ℕ) → AllByRecursion IsXmlChar code → ArePlainEntries (currency_entry (encode_utf8_all code) ∷ [])
 coded_plain code all =
-    let name : IsPlainName (named [] (codes "Ccy")) = record { local = currency_part; namespace = ([], tt, refl); no_declaration = no_namespace } in
+    let name : IsPlainName (name_in_namespace [] (codes "Ccy")) = record { local = currency_part; namespace = ([], tt, refl); no_declaration = no_namespace } in
     let entry : IsPlainEntry (currency_entry (encode_utf8_all code)) = record { name = name; value = (code, all, refl); no_default = λ none. not_xmlns } in
     ((entry, tt), (tt, tt))
 
@@ -139,7 +139,7 @@ module _ {P : Type 0} (m : Message P) (names : HasXmlNames m) where
   sequence_holds [] nodes h = h refl
   sequence_holds (s ∷ slots) nodes h = tt
 
-  pub tag_plain : (tag : List ℕ) → IsPart tag → IsPlainName (named m.namespace tag)
+  pub tag_plain : (tag : List ℕ) → IsPart tag → IsPlainName (name_in_namespace m.namespace tag)
   tag_plain tag part = record { local = part; namespace = names.namespace; no_declaration = names.no_declaration }
 
   none_there : (slots : List (Slot P)) (k : ℕ) (s : Slot P) → slice_get slots k ≡ Some s → slots ≡ [] → ⊥
@@ -151,7 +151,7 @@ module _ {P : Type 0} (m : Message P) (names : HasXmlNames m) where
       → one ≡ start_tag s.tag a ++ (inner ++ end_tag s.tag) → text ≡ one ++ more → HasAttributes (m.forms s.target) v a → IsSpelled (m.forms s.target) v inner → AreSpelled slots rest more
       → AreSpelled slots (Child k v rest) text
   child_spelled slots k s v rest a inner one more text at part one_is text_is es x ys =
-      let name = named m.namespace s.tag in
+      let name = name_in_namespace m.namespace s.tag in
       let start = start_text (Some m.namespace) name es.entries in
       let end = end_text name in
       let First : ℕ → Type 0 = λ limit. (length start ≤ limit) × (length end ≤ limit) × x.Short limit in

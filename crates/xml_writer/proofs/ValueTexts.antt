@@ -3,7 +3,7 @@ use Rattle.std.proofs.Common.{◌≡◌, ◌≢◌, ℕ, Bool, true, false, List
 use Rattle.std.proofs.lemmas.Bool.Decides.{nat_tests}
 use Rattle.std.proofs.lemmas.Str.{encode_ascii}
 use Rattle.std.specs.Prelude.{encode_utf8}
-use Rattle.lexical_core.specs.Escapes.{escaped}
+use Rattle.lexical_core.specs.Escapes.{escape_of}
 use Rattle.data_types.specs.Leaf.{Leaf, Bytes, Number, Flag, IsLeaf, IsDateLeaf, IsBinaryLeaf}
 use Rattle.data_types.specs.Canonical.{IsCanonicalLeaf, IsCanonicalDecimal, IsCanonicalBoolean, IsCanonicalBinary, IsCanonicalDate, escaped_text}
 use Rattle.data_types.specs.declared.kind.Kind.{Kind}
@@ -49,18 +49,18 @@ canonical_visible Envelope leaf from chars other h e = absurd h
 
 -- ---- what is visible stands for itself
 
-visible_char : (c : ℕ) → IsVisible c → escaped true c ≡ c ∷ []
+visible_char : (c : ℕ) → IsVisible c → escape_of true c ≡ c ∷ []
 visible_char c v =
     let low = v.low in let high = v.high in let n = v.no_ampersand in let l = v.no_less in let g = v.no_greater in let q = v.no_quote in
     let ascii = encode_ascii c (omega (arith, high)) in
-    let own : escaped true c ≡ encode_utf8 c = grind (arith, nat_tests, low, n, l, g, q) in
+    let own : escape_of true c ≡ encode_utf8 c = grind (arith, nat_tests, low, n, l, g, q) in
     own ∙ ascii
 
-pub visible_value : (chars : List ℕ) → AreVisible chars → flat_map (escaped true) chars ≡ chars
+pub visible_value : (chars : List ℕ) → AreVisible chars → flat_map (escape_of true) chars ≡ chars
 visible_value [] v = refl
 visible_value (c ∷ chars) v = ap₂ (λ (x y : List ℕ). x ++ y) (visible_char c v.0) (visible_value chars v.1)
 
-pub same_escaped : (attribute : Bool) (chars : List ℕ) → AreVisible chars → escaped_text chars ≡ flat_map (escaped attribute) chars
+pub same_escaped : (attribute : Bool) (chars : List ℕ) → AreVisible chars → escaped_text chars ≡ flat_map (escape_of attribute) chars
 same_escaped true chars v = visible_text chars v ∙ sym (visible_value chars v)
 same_escaped false chars v = refl
 
@@ -82,7 +82,7 @@ is_canonical simple leaf chars other h = canonical_apart simple.kind simple.code
 
 -- such a text is the same in an element and in the value of an attribute
 pub value_same : (simple : Simple) (leaf : Leaf) (attribute : Bool) (chars : List ℕ) → simple.kind ≢ Text → Fits simple leaf → IsCanonicalUnder simple leaf chars
-    → escaped_text chars ≡ flat_map (escaped attribute) chars
+    → escaped_text chars ≡ flat_map (escape_of attribute) chars
 value_same simple leaf attribute chars other fits h =
     let l = is_leaf simple leaf other fits in
     same_escaped attribute chars (canonical_visible simple.kind leaf l.0 chars other l.1 (is_canonical simple leaf chars other h))

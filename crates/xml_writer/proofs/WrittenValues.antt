@@ -9,7 +9,7 @@ use Rattle.reference_check.specs.Forms.{Graph, Form, Slot, form_slots}
 use Rattle.reference_check.specs.Forms as form
 use Rattle.fragments.specs.Fragment.{fragment}
 use Rattle.message_model.specs.Admits.{AdmitsAs, AdmitsChildren}
-use Rattle.message_model.specs.Tables.{Tables, types_of, namespace_of, message_of, edge_at, pieces, child_pieces, pieces_of}
+use Rattle.message_model.specs.Tables.{Tables, types_of, message_namespace, message_of, edge_at, pieces, child_pieces, pieces_of}
 use Rattle.xml_writer.specs.CanonXml.{currency_text, IsAttributes, start_tag, end_tag, IsContent, AreElements, xml_declaration, namespace_text, IsCanonXml}
 use Rattle.xml_writer.specs.inner.PieceTexts.{is_amount, innermost_begun, innermost_ended, begun_tag, IsHeldText, AreWritten, document_head, document_tail, document_text}
 use Rattle.xml_writer.specs.declared.innermost.Innermost.{Innermost}
@@ -155,13 +155,13 @@ pub written_value : (T : Tables) (v : Value) → AdmitsAs (types_of T) (types_of
 written_value T v admits =
     let attributes = attributes_some (types_of T) (types_of T 0) v admits in
     let content = content_some (types_of T) (types_of T 0) v admits in
-    let all = namespace_text (namespace_of T) ++ attributes.0 in
+    let all = namespace_text (message_namespace T) ++ attributes.0 in
     record {
       content = inner_text (types_of T 0) attributes.0 content.0;
       pieces_write = written (types_of T) v admits attributes.0 content.0 attributes.1 content.1;
       canonical = (
         start_tag (codes "Document") all ++ (content.0 ++ end_tag (codes "Document")),
         (all, content.0, (attributes.0, attributes.1, refl), content.1, refl),
-        root_is (types_of T) (types_of T 0) v (namespace_of T) attributes.0 content.0 attributes.1,
+        root_is (types_of T) (types_of T 0) v (message_namespace T) attributes.0 content.0 attributes.1,
       );
     }

@@ -1,7 +1,7 @@
 -- The canonical XML of a value (XML 1.0 §2.1, §2.8, §3.1; Namespaces in XML 1.0 §6.2): one declaration, one namespace, no white space
 -- between elements, every element with a start tag and an end tag; the texts of Canonical XML 1.0 §2.3.
 use Rattle.std.specs.Prelude.{◌≡◌, ℕ, true, List, [], ◌++◌, codes, flat_map}
-use Rattle.lexical_core.specs.Escapes.{escaped}
+use Rattle.lexical_core.specs.Escapes.{escape_of}
 use Rattle.data_types.specs.Canonical.{escaped_text}
 use Rattle.data_types.specs.Leaf as leaf
 use Rattle.data_types.specs.Value.{Value, Children, Nothing, Child}
@@ -20,7 +20,7 @@ IsLeafText simple l bytes = (w : List ℕ) × IsCanonicalUnder simple l w × (by
 
 -- the same in the value of an attribute (§3.3.3)
 abbrev pub IsCodeText : {P : Type 0} → Form P Simple → leaf.Leaf → List ℕ → Type 0
-IsCodeText (form.Simple simple) l bytes = (w : List ℕ) × IsCanonicalUnder simple l w × (bytes ≡ flat_map (escaped true) w)
+IsCodeText (form.Simple simple) l bytes = (w : List ℕ) × IsCanonicalUnder simple l w × (bytes ≡ flat_map (escape_of true) w)
 IsCodeText _ l bytes = ⊥
 
 -- the attribute with this text

@@ -17,8 +17,8 @@ use Rattle.message_model.specs.Message.{Message}
 abbrev simple_type : Kind → Option (List (List ℕ)) → Simple
 simple_type kind codes = record { kind = kind; min = 0; max = None; total = 18; fraction = None; low = None; high = None; pattern = None; codes = codes }
 
-abbrev pub text_type : Simple
-text_type = simple_type kind.Text None
+abbrev pub example_text_type : Simple
+example_text_type = simple_type kind.Text None
 
 abbrev pub code_form : Form ℕ Simple
 code_form = form.Simple (simple_type kind.Text (Some (codes "CHF" ∷ codes "EUR" ∷ [])))
@@ -32,7 +32,7 @@ one_slot tag target = record { tag = tag; min = 1; max = Some 1; target = target
 abbrev example_forms : Graph ℕ Simple
 example_forms zero = form.Sequence (one_slot (codes "Note") 1 ∷ [])
 example_forms (suc zero) = form.Sequence (one_slot (codes "Nm") 2 ∷ one_slot (codes "Amt") 3 ∷ one_slot (codes "Any") 5 ∷ [])
-example_forms (suc (suc zero)) = form.Simple text_type
+example_forms (suc (suc zero)) = form.Simple example_text_type
 example_forms (suc (suc (suc zero))) = form.Money 4 number_type
 example_forms (suc (suc (suc (suc zero)))) = code_form
 example_forms _ = form.Envelope

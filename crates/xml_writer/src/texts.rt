@@ -2,8 +2,8 @@
 ghost use Rattle.std.specs.Prelude.{◌≡◌, ℕ, List, IsTrue, encode_utf8_all, flat_map, length};
 ghost use Rattle.std.specs.List.{prefix_len};
 ghost use Rattle.outside.specs.Pushes.{Pushes};
-ghost use Rattle.lexical_core.specs.Escapes.{escaped};
-ghost use Rattle.xml_writer.specs.inner.PlainTexts.{is_plain};
+ghost use Rattle.lexical_core.specs.Escapes.{escape_of};
+ghost use Rattle.xml_writer.specs.inner.PlainTexts.{is_plain_anywhere};
 
 use data_types::push_escaped;
 use lexical_core::{ByteClass, run_length};
@@ -14,7 +14,7 @@ use std::simd::prelude::*;
 struct Plain;
 
 impl ByteClass for Plain {
-    ghost class = { λ _. is_plain };
+    ghost class = { λ _. is_plain_anywhere };
 
     #[inline]
     fn has(&self, byte: u8) -> bool {
@@ -49,7 +49,7 @@ pub(crate) fn push_spelled<O: Sink>(
     sink: &mut O,
 ) -> Result<(), SinkError>
     ensures { (chars : List ℕ) → text.now ≡ encode_utf8_all chars
-        → Pushes O.held O.faults O.room sink.old sink.new result (flat_map (escaped attribute) chars) }
+        → Pushes O.held O.faults O.room sink.old sink.new result (flat_map (escape_of attribute) chars) }
 {
     if stands_for_itself(text) {
         return push_bytes(text, sink);
@@ -60,7 +60,7 @@ pub(crate) fn push_spelled<O: Sink>(
 /// Whether each byte of the text stands for itself, and none is a control.
 #[inline]
 fn stands_for_itself(text: &[u8]) -> bool
-    ensures { IsTrue result → prefix_len is_plain text.now ≡ length text.now }
+    ensures { IsTrue result → prefix_len is_plain_anywhere text.now ≡ length text.now }
 {
     run_length(&Plain, text) == text.len()
 }

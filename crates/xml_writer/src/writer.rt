@@ -4,7 +4,7 @@ ghost use Rattle.outside.specs.Pushes.{Pushes, as_push};
 ghost use Rattle.data_types.specs.Value.{Value};
 ghost use Rattle.fragments.specs.Fragment.{fragment};
 ghost use Rattle.message_model.specs.Admits.{AdmitsAs};
-ghost use Rattle.message_model.specs.Tables.{types_of, namespace_of, message_of, pieces_of};
+ghost use Rattle.message_model.specs.Tables.{types_of, message_namespace, message_of, pieces_of};
 ghost use Rattle.xml_writer.specs.CanonXml.{IsCanonXml};
 ghost use Rattle.xml_writer.specs.inner.PieceTexts.{is_amount, innermost_begun, AreWritten, document_head, document_text, root_text};
 
@@ -51,7 +51,7 @@ fn push_document<O: Sink>(model: &Model, instance: &Instance, sink: &mut O) -> R
 
 /// Pushes what stands before the content of the root; the start tag of an amount is not ended.
 fn push_head<O: Sink>(model: &Model, sink: &mut O) -> Result<(), SinkError>
-    ensures { Pushes O.held O.faults O.room sink.old sink.new result (document_head (namespace_of model.now) (is_amount (types_of model.now 0))) }
+    ensures { Pushes O.held O.faults O.room sink.old sink.new result (document_head (message_namespace model.now) (is_amount (types_of model.now 0))) }
 {
     let end = tag_end(is_amount(model, 0));
     push_root(NAMESPACE_FRONT, model.id().bytes(), end, sink)

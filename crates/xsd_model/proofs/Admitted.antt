@@ -17,7 +17,7 @@ use Rattle.fragments.specs.Plain.{IsPlain}
 use Rattle.reference_check.specs.Forms.{Graph, Form, Slot, form_slots}
 use Rattle.reference_check.specs.Forms as form
 use Rattle.message_model.specs.Admits.{AdmitsAs, AdmitsChildren, FitsCode, numbers_of}
-use Rattle.message_model.specs.Writes.{named, SpellsCode, WritesAttributes, SpellsText, Wraps, MayHold, WritesLeaf, WritesContent, WritesAs}
+use Rattle.message_model.specs.Writes.{name_in_namespace, SpellsCode, WritesAttributes, SpellsText, Wraps, MayHold, WritesLeaf, WritesContent, WritesAs}
 use Rattle.xsd_model.specs.declared.schema.Part.{Part}
 use Rattle.xsd_model.specs.declared.schema.Schema.{Schema}
 use Rattle.xsd_model.specs.declared.schema.SchemaShape.{SchemaShape}
@@ -174,7 +174,7 @@ module _ (g : Graph ℕ Simple) (name base : ℕ → List ℕ) (S : Schema) (agr
       one (s, there, same) (others, at, admitted, written) typed =
           let target : find_type part.target S.types ≡ shape_by name (base s.target) (g s.target) =
           ap (λ (x : Part). find_type x.target S.types) (sym same) ∙ agree.typed s.target in
-          let tag : n ≡ named S.namespace s.tag = named_so ∙ ap (λ (x : Part). named S.namespace x.tag) (sym same) in
+          let tag : n ≡ name_in_namespace S.namespace s.tag = named_so ∙ ap (λ (x : Part). name_in_namespace S.namespace x.tag) (sym same) in
           let own : Spelled (g s.target) attributes children =
           typed s.target (subst (λ o. HasType S.types o attributes children (λ inner own. AreValid S inner own children)) target valid) in
           (Child k own.0 others, ap (λ x. k ∷ x) at, ((s, there, own.1), admitted), ((s, there, (tag, own.2, own.3, own.4)), written))

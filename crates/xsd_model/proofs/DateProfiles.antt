@@ -10,7 +10,7 @@ use Rattle.std.specs.Str.Parse.{AllDigits}
 use Rattle.std.proofs.lemmas.List.{get_or-append_right}
 use Rattle.lexical_core.proofs.Numerals.{digit_range}
 use Rattle.pattern_match.specs.Expression.{Plain, Escaped, One, Range, Atom, Character, Escape, Class, Once, Optional, Exactly, Between, Expression, Empty, Piece, Group, Choice}
-use Rattle.pattern_match.specs.Valid.{number, IsExpression, IsBranch, IsAtom, IsOrdinary, IsNumber}
+use Rattle.pattern_match.specs.Valid.{digits_number, IsExpression, IsBranch, IsAtom, IsOrdinary, AreNumberDigits}
 use Rattle.pattern_match.specs.Spelling.{spelling}
 use Rattle.pattern_match.specs.Language.{Lang, AtomHas, IsOneOf, Repeats}
 use Rattle.pattern_match.specs.Reading.{Matches}
@@ -117,7 +117,7 @@ digits_front (suc n) form (c ∷ text) f =
     let r = digits_front n form text f.1 in
     (c ∷ r.0, r.1, ap (λ t. c ∷ t) r.2, ap suc r.3, (digit_has c (is_digit c f.0), r.4), r.5)
 
-digits_word : (n : ℕ) (ds form : List ℕ) (rest : Expression) (text v : List ℕ) → n ≡ number ds → Forms (replicate n 100 ++ form) text
+digits_word : (n : ℕ) (ds form : List ℕ) (rest : Expression) (text v : List ℕ) → n ≡ digits_number ds → Forms (replicate n 100 ++ form) text
     → ((more : List ℕ) → Forms form more → Lang rest (more ++ v)) → Lang (Piece digit (Exactly ds) rest) (text ++ v)
 digits_word n ds form rest text v e f k =
     let r = digits_front n form text f in
@@ -310,16 +310,16 @@ char_valid c rest is branch valid = (is, tt, branch, valid)
 atom_valid : (a : Atom) (rest : Expression) → IsAtom a → IsBranch rest → IsExpression rest → IsExpression (Piece a Once rest)
 atom_valid a rest is branch valid = (is, tt, branch, valid)
 
-digits_valid : (ds : List ℕ) (rest : Expression) → IsNumber ds → IsBranch rest → IsExpression rest → IsExpression (digits ds rest)
+digits_valid : (ds : List ℕ) (rest : Expression) → AreNumberDigits ds → IsBranch rest → IsExpression rest → IsExpression (digits ds rest)
 digits_valid ds rest is branch valid = (digit_atom, is, branch, valid)
 
-one_digit : (c : ℕ) → (48 ≤ c) × (c ≤ 57) → IsNumber (c ∷ [])
+one_digit : (c : ℕ) → (48 ≤ c) × (c ≤ 57) → AreNumberDigits (c ∷ [])
 one_digit c is = record { each = (is, tt); least = lit≤ tt; most = lit≤ tt }
 
-two : IsNumber (codes "2")
+two : AreNumberDigits (codes "2")
 two = one_digit 50 (lit≤ tt, lit≤ tt)
 
-four : IsNumber (codes "4")
+four : AreNumberDigits (codes "4")
 four = one_digit 52 (lit≤ tt, lit≤ tt)
 
 hyphen_is : IsOrdinary 45

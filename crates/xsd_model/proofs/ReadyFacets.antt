@@ -24,7 +24,7 @@ use Rattle.reference_check.specs.Forms as form
 use Rattle.reference_check.specs.Graph.{Place, document, message, entry, nowhere, find_entry, find_message, simple_form, object_form, entry_form, message_form, document_form}
 use Rattle.reference_check.specs.Reach.{Reaches, itself}
 use Rattle.reference_check.specs.Rules.{HasPatterns, set_codes, NoMessage, BadCodes, LeftOutKind}
-use Rattle.message_model.specs.SimpleTypes.{kind_of, base_of, pattern_of, put_text, sorted_texts, texts_of, faceted, facets_by, facets_of}
+use Rattle.message_model.specs.SimpleTypes.{kind_of, base_of, pattern_of, put_text, sorted_texts, texts_of, faceted_type, facets_by, facets_of}
 use Rattle.message_model.specs.Ready.{IsReady, IsBadPattern, OnObjects, BadFacets, BadPattern}
 use Rattle.message_model.specs.Compiled.{types}
 use Rattle.message_model.proofs.Compilable.{object_there, at_contains}
@@ -95,7 +95,7 @@ module _ (R : Contents) (m : List ℕ) (ready : IsReady R m) where
     small_if_any kinds.Binary is none = tt
     small_if_any _ is none = small_pattern none (subst (λ x. HasPatterns x) (sym is) tt) o.facets.pattern refl
 
-    faceted_sound : (k : Kinds) → o.kind ≡ object.Simple k → set_codes o ≡ [] → IsSoundSimple (faceted o)
+    faceted_sound : (k : Kinds) → o.kind ≡ object.Simple k → set_codes o ≡ [] → IsSoundSimple (faceted_type o)
     faceted_sound k is none = record {
       no_envelope = λ e. no_envelope k (ap base_of (sym is) ∙ e);
       total = λ e. total_within o none (λ bad. ready BadFacets (entry id) reach (id, o, refl, found, bad));

@@ -16,7 +16,7 @@ use Rattle.repo_objects.specs.Repository.{Contents}
 use Rattle.reference_check.specs.Forms.{Form, form_to}
 use Rattle.reference_check.specs.Forms as form
 use Rattle.reference_check.specs.Graph.{Place, document, message, entry, nowhere, find_entry, find_message, simple_form, object_form, entry_form, message_form, document_form}
-use Rattle.reference_check.specs.Names.{is_name}
+use Rattle.reference_check.specs.Names.{is_profile_name}
 use Rattle.reference_check.specs.Reach.{Reaches, itself, kind_currency, currency_or_none, rank_of}
 use Rattle.reference_check.specs.Rules.{BadName, NameTwice, with_currency, object_names, message_names, schema_names}
 use Rattle.message_model.specs.SimpleTypes.{facets_of}
@@ -25,7 +25,7 @@ use Rattle.message_model.specs.Tables.{Tables, TypeEntry, form_or_missing}
 use Rattle.message_model.specs.Compiled.{IsReachedList, types, places_of, place_or_nowhere, place_name, object_name, message_name}
 use Rattle.message_model.proofs.Compilable.{object_there, at_contains}
 use Rattle.xsd_model.specs.declared.schema.SchemaType.{SchemaType}
-use Rattle.xsd_model.specs.SchemaOf.{names, name_of, base_name, types_by, types_of_entry}
+use Rattle.xsd_model.specs.SchemaOf.{names, schema_name_of, base_name, types_by, types_of_entry}
 use Rattle.xsd_model.proofs.DistinctNames.{distinct_none, distinct_one, distinct_two, all_from, in_some, distinct_flat}
 use Rattle.xsd_model.proofs.ReadyFacets.{message_found}
 use Rattle.xsd_model.proofs.Sequences.{slice_get-back}
@@ -108,7 +108,7 @@ module _ (R : Contents) (m : List ℕ) where
       let own : t.name ≡ place_name R m p = cc in
       let rest : map (λ (x : TypeEntry). x.name) ts ≡ map (place_name R m) ps = cc in
       let here : names (types_of_entry T t) ≡ place_names p =
-      typed_names (name_of T) t.name t.form ∙ (names_to h t.name t.form ∙ (ap (λ n. names_by n (form_to h (λ x. x) t.form)) own ∙ ap (λ (F : Form Place Simple). names_by (place_name R m p) F) (f 0))) in
+      typed_names (schema_name_of T) t.name t.form ∙ (names_to h t.name t.form ∙ (ap (λ n. names_by n (form_to h (λ x. x) t.form)) own ∙ ap (λ (F : Form Place Simple). names_by (place_name R m p) F) (f 0))) in
       map-append (λ (x : SchemaType). x.name) (types_of_entry T t) (flat_map (types_of_entry T) ts)
       ∙ ap₂ (λ (xs ys : List (List ℕ)). xs ++ ys) here (names_listed T h ts ps rest (λ n. f (suc n)))
 
@@ -168,20 +168,20 @@ module _ (R : Contents) (m : List ℕ) where
 
     -- ---- no name is empty
 
-    some_name : (name : List ℕ) → (is_name name ≡ false → ⊥) → 0 < length name
+    some_name : (name : List ℕ) → (is_profile_name name ≡ false → ⊥) → 0 < length name
     some_name [] good = absurd (good refl)
     some_name (b ∷ bs) good = omega arith
 
     message_some : 0 < length (place_name R m message)
     message_some =
         let d = message_found R m ready in
-        let good : is_name d.0.name ≡ false → ⊥ = λ bad. ready (OnObjects BadName) message itself (rw d.1 (d.0.name, (0, omega arith, refl), bad)) in
+        let good : is_profile_name d.0.name ≡ false → ⊥ = λ bad. ready (OnObjects BadName) message itself (rw d.1 (d.0.name, (0, omega arith, refl), bad)) in
         subst (λ o. 0 < length (message_name o)) (sym d.1) (some_name d.0.name good)
 
     entry_some : (id : List ℕ) → Reaches R m (entry id) → 0 < length (place_name R m (entry id))
     entry_some id reach =
         let there = object_there R m ready id reach in
-        let good : is_name there.0.name ≡ false → ⊥ = λ bad. ready (OnObjects BadName) (entry id) reach (rw there.1 (there.0.name, (0, omega arith, refl), bad)) in
+        let good : is_profile_name there.0.name ≡ false → ⊥ = λ bad. ready (OnObjects BadName) (entry id) reach (rw there.1 (there.0.name, (0, omega arith, refl), bad)) in
         subst (λ o. 0 < length (object_name o)) (sym there.1) (some_name there.0.name good)
 
     place_some : (p : Place) → (p ≡ document) ⊎ Reaches R m p → 0 < length (place_name R m p)

@@ -18,13 +18,13 @@ use Rattle.message_model.specs.Tables.{Tables, TypeEntry, types_of, namespace_fr
 use Rattle.message_model.specs.Compiled.{IsReachedList, Compiles, types, places_of, place_of, place_or_nowhere, place_name}
 use Rattle.message_model.proofs.SoundTables.{tables_sound}
 use Rattle.xsd_model.specs.Trees.{IsValid}
-use Rattle.xsd_model.specs.SchemaOf.{schema_of, names, all_types, name_of, HasSoundNames, HasSoundFacets}
+use Rattle.xsd_model.specs.SchemaOf.{schema_of, names, all_types, schema_name_of, HasSoundNames, HasSoundFacets}
 use Rattle.xsd_model.proofs.ReadyFacets.{facets_from, facets_at}
 use Rattle.xsd_model.proofs.ReadyNames.{place_names, names_listed, listed, names_distinct, names_some}
 use Rattle.xsd_model.proofs.SchemaLaw.{same_trees_of}
 
 module _ (R : Contents) (m : List ℕ) (ready : IsReady R m) (ids : List (List ℕ)) (list : IsReachedList R m ids) (T : Tables) (made : Compiles R m ids T) where
-  root : (ts : List TypeEntry) → map (λ (t : TypeEntry). t.name) ts ≡ map (place_name R m) (places_of ids) → name_of (record { id = T.id; types = ts }) 0 ≡ codes "Document"
+  root : (ts : List TypeEntry) → map (λ (t : TypeEntry). t.name) ts ≡ map (place_name R m) (places_of ids) → schema_name_of (record { id = T.id; types = ts }) 0 ≡ codes "Document"
   root [] e = absurd cc
   root (t ∷ ts) e = cc
 

@@ -11,10 +11,10 @@ use Rattle.data_types.specs.Value as value
 use Rattle.facets.specs.declared.simple.Simple.{Simple}
 use Rattle.reference_check.specs.Forms.{Graph, Form, Slot, form_slots, slot_to, form_to}
 use Rattle.reference_check.specs.Forms as form
-use Rattle.reference_check.specs.Words.{IsOrderedFrom, IsWithin, IsSequence, IsChoice}
+use Rattle.reference_check.specs.Words.{IsOrderedFrom, MayComeTimes, IsSequence, IsChoice}
 use Rattle.reference_check.proofs.RenamedForms.{slots_to, sequence_to, sequence_from, choice_to, choice_from}
 use Rattle.message_model.specs.Admits.{AdmitsAs, AdmitsChildren, FitsCode, numbers_of}
-use Rattle.message_model.specs.Writes.{named, SpellsCode, WritesAttributes, MayHold, WritesLeaf, WritesContent, WritesAs}
+use Rattle.message_model.specs.Writes.{name_in_namespace, SpellsCode, WritesAttributes, MayHold, WritesLeaf, WritesContent, WritesAs}
 use Rattle.xsd_model.proofs.Sequences.{slice_get-part, slice_get-back}
 
 abbrev same : Simple → Simple
@@ -143,7 +143,7 @@ module _ {P Q : Type 0} (g : Graph P Simple) (k : Graph Q Simple) (h : P → Q) 
               s,
               there,
               (
-                tag ∙ ap (λ (x : Slot Q). named ns x.tag) (sym at),
+                tag ∙ ap (λ (x : Slot Q). name_in_namespace ns x.tag) (sym at),
                 attributes_here (g s.target) v attributes (subst (λ G. WritesAttributes k G v attributes) F_is hints),
                 hold_here h (g s.target) inner (subst (λ G. MayHold G inner) F_is may),
                 below s.target (subst (λ G. WritesContent k ns G v inner) F_is written),

@@ -4,9 +4,9 @@ use Rattle.std.specs.Prelude.{slice_get}
 use Rattle.std.specs.Option.{option_map}
 use Rattle.std.proofs.lemmas.Option.{slice_get-map}
 use Rattle.reference_check.specs.Forms.{Slot}
-use Rattle.reference_check.specs.Words.{UpTo, IsWithin, IsSequence, IsChoice}
+use Rattle.reference_check.specs.Words.{UpTo, MayComeTimes, IsSequence, IsChoice}
 use Rattle.reference_check.proofs.Concat.{IsConcatenationFrom, from_concatenation, to_concatenation}
-use Rattle.xsd_model.specs.Trees.{Occurs, IsSequenceFrom, IsAlternative}
+use Rattle.xsd_model.specs.Trees.{OccursTimes, IsSequenceFrom, IsAlternative}
 use Rattle.xsd_model.specs.SchemaOf.{part_of}
 
 up_to : (o : Option ℕ) (n : ℕ) → MatchOption o (Unit {0}) (λ max. n ≤ max) → UpTo n o
@@ -17,10 +17,10 @@ to_max : (o : Option ℕ) (n : ℕ) → UpTo n o → MatchOption o (Unit {0}) (�
 to_max None n h = tt
 to_max (Some max) n h = h
 
-within_of : (name : ℕ → List ℕ) (s : Slot ℕ) (n : ℕ) → Occurs (part_of name s) n → IsWithin n s
+within_of : (name : ℕ → List ℕ) (s : Slot ℕ) (n : ℕ) → OccursTimes (part_of name s) n → MayComeTimes n s
 within_of name s n h = (h.0, up_to s.max n h.1)
 
-occurs_of : (name : ℕ → List ℕ) (s : Slot ℕ) (n : ℕ) → IsWithin n s → Occurs (part_of name s) n
+occurs_of : (name : ℕ → List ℕ) (s : Slot ℕ) (n : ℕ) → MayComeTimes n s → OccursTimes (part_of name s) n
 occurs_of name s n h = (h.0, to_max s.max n h.1)
 
 -- a word of the parts is one of the slots
@@ -54,7 +54,7 @@ pub choice_from : (name : ℕ → List ℕ) (slots : List (Slot ℕ)) (d : List 
 choice_from name slots d (k, n, part, e, occurs, at) = go (slice_get-back (part_of name) slots k part e)
   where
     go : (s : Slot ℕ) × (slice_get slots k ≡ Some s) × (part_of name s ≡ part) → IsChoice slots d
-    go (s, found, same) = (let w : Occurs (part_of name s) n = subst (λ p. Occurs p n) (sym same) occurs in (k, n, s, found, within_of name s n w, at))
+    go (s, found, same) = (let w : OccursTimes (part_of name s) n = subst (λ p. OccursTimes p n) (sym same) occurs in (k, n, s, found, within_of name s n w, at))
 
 pub choice_to : (name : ℕ → List ℕ) (slots : List (Slot ℕ)) (d : List ℕ) → IsChoice slots d → IsAlternative (map (part_of name) slots) d
 choice_to name slots d (k, n, s, e, within, at) = (k, n, part_of name s, slice_get-part (part_of name) slots k s e, occurs_of name s n within, at)

@@ -11,7 +11,7 @@ use Rattle.std.proofs.lemmas.Cmp.{nat_list_cmp_total, on_total}
 use Rattle.std.proofs.lemmas.Fn.{always_returns_same}
 use Rattle.std.proofs.lemmas.List.Sorted.{ranks_by}
 use Rattle.xsd_model.specs.declared.schema.SchemaType.{SchemaType}
-use Rattle.xsd_model.specs.SchemaOf.{insert, placed, sorted}
+use Rattle.xsd_model.specs.SchemaOf.{insert_type, placed_type, sorted_types}
 use Rattle.lexical_core.proofs.StableSort.{put_by, sorted_by, by_less, sorted_is}
 use denote.Param.Members.{Mut}
 
@@ -21,26 +21,26 @@ by_name x y = slice_cmp nat_cmp x.name y.name
 names_total : IsTotalOrder by_name
 names_total = on_total (λ (type : SchemaType). type.name) nat_list_cmp_total
 
-put-insert : (t : SchemaType) (xs : List SchemaType) → put_by by_name t xs ≡ insert t xs
+put-insert : (t : SchemaType) (xs : List SchemaType) → put_by by_name t xs ≡ insert_type t xs
 put-insert t [] = refl
 put-insert t (x ∷ xs) = case (by_name t x) (put-insert t xs)
   where
-    case : (o : Ordering) → put_by by_name t xs ≡ insert t xs
-        → elim o as (λ _. List SchemaType) [ Less ↦ t ∷ x ∷ xs | Equal ↦ t ∷ x ∷ xs | Greater ↦ x ∷ put_by by_name t xs ] ≡ placed o t x xs (insert t xs)
+    case : (o : Ordering) → put_by by_name t xs ≡ insert_type t xs
+        → elim o as (λ _. List SchemaType) [ Less ↦ t ∷ x ∷ xs | Equal ↦ t ∷ x ∷ xs | Greater ↦ x ∷ put_by by_name t xs ] ≡ placed_type o t x xs (insert_type t xs)
     case Less so = refl
     case Equal so = refl
     case Greater so = ap (λ zs. x ∷ zs) so
 
-sorted_by-sorted : (xs : List SchemaType) → sorted_by by_name xs ≡ sorted xs
+sorted_by-sorted : (xs : List SchemaType) → sorted_by by_name xs ≡ sorted_types xs
 sorted_by-sorted [] = refl
-sorted_by-sorted (x ∷ xs) = put-insert x (sorted_by by_name xs) ∙ ap (insert x) (sorted_by-sorted xs)
+sorted_by-sorted (x ∷ xs) = put-insert x (sorted_by by_name xs) ∙ ap (insert_type x) (sorted_by-sorted xs)
 
 -- from what `sort_by` says of a closure that compares names
 pub sorted_names : {F : Type 0} {g : Mut F (Bor SchemaType × (Bor SchemaType × Unit {0})) Ordering} {f : F} (xs ys : List SchemaType)
     → ((lt : SchemaType → SchemaType → Bool) → IsStrictWeakOrder lt → ComparesAs g lt f → IsSortedBy lt ys)
     → ((lt : SchemaType → SchemaType → Bool) → IsStrictWeakOrder lt → ComparesAs g lt f → IsStableBy lt xs ys)
     → ((a : Bor SchemaType × (Bor SchemaType × Unit {0})) (r : Ordering) (f' : F) → Called g f a r f' → (r ≡ by_name a.0.now a.1.0.now) × (f' ≡ f))
-    → ys ≡ sorted xs
+    → ys ≡ sorted_types xs
 sorted_names {g = g} {f = f} xs ys up stable calls =
     let order : IsStrictWeakOrder (by_less by_name) = ranks_by names_total (λ x. x) in
     let compares : ComparesAs g (by_less by_name) f = always_returns_same g (λ a r. is_lt r ≡ by_less by_name a.0.now a.1.0.now) f (λ a r f' k. (ap is_lt (calls a r f' k).0, (calls a r f' k).1)) in

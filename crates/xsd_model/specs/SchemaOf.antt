@@ -9,7 +9,7 @@ use Rattle.std.specs.declared.cmp.Ordering.TheVariants.{Less, Equal, Greater}
 use Rattle.facets.specs.declared.simple.Simple.{Simple}
 use Rattle.reference_check.specs.Forms.{Graph, Form, Slot}
 use Rattle.reference_check.specs.Forms as form
-use Rattle.message_model.specs.Tables.{Tables, TypeEntry, types_of, namespace_of}
+use Rattle.message_model.specs.Tables.{Tables, TypeEntry, types_of, message_namespace}
 use Rattle.xsd_model.specs.StepsOf.{steps_of, IsSoundSimple}
 use Rattle.xsd_model.specs.declared.schema.Part.{Part}
 use Rattle.xsd_model.specs.declared.schema.Schema.{Schema}
@@ -21,8 +21,8 @@ name_or_none None = []
 name_or_none (Some entry) = entry.name
 
 -- the name of each type by its number, and none where there is no type
-abbrev pub name_of : Tables → ℕ → List ℕ
-name_of tables number = name_or_none (slice_get tables.types number)
+abbrev pub schema_name_of : Tables → ℕ → List ℕ
+schema_name_of tables number = name_or_none (slice_get tables.types number)
 
 -- the name of the number of an amount with a currency
 abbrev pub base_name : List ℕ → List ℕ
@@ -43,29 +43,29 @@ types_by name own form.LeftOut = []
 types_by name own form.Missing = []
 
 abbrev pub types_of_entry : Tables → TypeEntry → List SchemaType
-types_of_entry tables entry = types_by (name_of tables) entry.name entry.form
+types_of_entry tables entry = types_by (schema_name_of tables) entry.name entry.form
 
 -- put before the first of a greater name
-abbrev pub placed : Ordering → SchemaType → SchemaType → List SchemaType → List SchemaType → List SchemaType
-placed Less type first rest more = type ∷ first ∷ rest
-placed Equal type first rest more = type ∷ first ∷ rest
-placed Greater type first rest more = first ∷ more
+abbrev pub placed_type : Ordering → SchemaType → SchemaType → List SchemaType → List SchemaType → List SchemaType
+placed_type Less type first rest more = type ∷ first ∷ rest
+placed_type Equal type first rest more = type ∷ first ∷ rest
+placed_type Greater type first rest more = first ∷ more
 
-abbrev pub insert : SchemaType → List SchemaType → List SchemaType
-insert type [] = type ∷ []
-insert type (first ∷ rest) = placed (slice_cmp nat_cmp type.name first.name) type first rest (insert type rest)
+abbrev pub insert_type : SchemaType → List SchemaType → List SchemaType
+insert_type type [] = type ∷ []
+insert_type type (first ∷ rest) = placed_type (slice_cmp nat_cmp type.name first.name) type first rest (insert_type type rest)
 
 -- sorted by the bytes of their names
-abbrev pub sorted : List SchemaType → List SchemaType
-sorted [] = []
-sorted (type ∷ types) = insert type (sorted types)
+abbrev pub sorted_types : List SchemaType → List SchemaType
+sorted_types [] = []
+sorted_types (type ∷ types) = insert_type type (sorted_types types)
 
 -- the types before they are sorted: in the order of the message's types
 abbrev pub all_types : Tables → List SchemaType
 all_types tables = flat_map (types_of_entry tables) tables.types
 
 abbrev pub schema_of : Tables → Schema
-schema_of tables = record { namespace = namespace_of tables; types = sorted (all_types tables) }
+schema_of tables = record { namespace = message_namespace tables; types = sorted_types (all_types tables) }
 
 abbrev pub names : List SchemaType → List (List ℕ)
 names types = map (λ (type : SchemaType). type.name) types
@@ -81,7 +81,7 @@ HasSoundFacets other = Unit {0}
 -- What the types of a message are that breaks no rule of the repository: the names that the schema gives are distinct and none is empty,
 -- type 0 is `Document`, and facets are sound.
 pub record HasSoundNames (tables : Tables) : Type 0 where
-  pub root : name_of tables 0 ≡ codes "Document"
+  pub root : schema_name_of tables 0 ≡ codes "Document"
   pub distinct : IsDistinct bytes_eq (names (all_types tables))
   pub some : AllByRecursion (λ name. 0 < length name) (names (all_types tables))
   pub facets : (number : ℕ) → number < length tables.types → HasSoundFacets (types_of tables number)

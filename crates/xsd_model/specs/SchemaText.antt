@@ -30,14 +30,14 @@ abbrev pub max_text : Option ℕ → List ℕ
 max_text None = codes " maxOccurs=\"unbounded\""
 max_text (Some max) = if max == 1 then [] else concat (codes " maxOccurs=\"" ∷ decimal max ∷ codes "\"" ∷ [])
 
-abbrev pub part_text : Part → List ℕ
-part_text part =
+abbrev pub schema_part_text : Part → List ℕ
+schema_part_text part =
     line 3 (codes "<xs:element name=\"" ∷ escaped_bytes true part.tag ∷ codes "\" type=\"" ∷ escaped_bytes true part.target ∷ codes "\"" ∷ min_text part.min ∷ max_text part.max ∷ codes "/>\n" ∷ [])
 
 -- a content model: `sequence` or `choice`
 abbrev pub model_text : List ℕ → List Part → List ℕ
 model_text word [] = line 2 (codes "<xs:" ∷ word ∷ codes "/>\n" ∷ [])
-model_text word (part ∷ parts) = line 2 (codes "<xs:" ∷ word ∷ codes ">\n" ∷ []) ++ (flat_map part_text (part ∷ parts) ++ line 2 (codes "</xs:" ∷ word ∷ codes ">\n" ∷ []))
+model_text word (part ∷ parts) = line 2 (codes "<xs:" ∷ word ∷ codes ">\n" ∷ []) ++ (flat_map schema_part_text (part ∷ parts) ++ line 2 (codes "</xs:" ∷ word ∷ codes ">\n" ∷ []))
 
 -- ---- facets
 

@@ -7,7 +7,7 @@ ghost use Rattle.reference_check.specs.Graph.{document};
 ghost use Rattle.message_model.specs.Admits.{AdmitsAs};
 ghost use Rattle.message_model.specs.Writes.{WritesAs};
 ghost use Rattle.message_model.specs.Sound.{AreSound};
-ghost use Rattle.message_model.specs.Tables.{Tables, types_of, namespace_of, namespace_front};
+ghost use Rattle.message_model.specs.Tables.{Tables, types_of, message_namespace, namespace_front};
 ghost use Rattle.message_model.specs.Compiled.{IsReachedList, Compiles, types};
 ghost use Rattle.message_model.specs.Ready.{IsReady};
 ghost use Rattle.xsd_model.specs.Trees.{IsValid};
@@ -17,7 +17,7 @@ ghost use Rattle.xsd_model.specs.SchemaOf.{schema_of, HasSoundNames};
 #[tactic(auto, using(crate::proofs::SchemaLaw::same_trees))]
 pub fn schema_admits_the_same_trees()
     ensures { (tables : Tables) (t : Tree) → HasSoundNames tables → AreSound (types_of tables)
-        → IsValid (schema_of tables) t ↔ ((v : Value) × AdmitsAs (types_of tables) (types_of tables 0) v × WritesAs (types_of tables) (namespace_of tables) (types_of tables 0) v t) }
+        → IsValid (schema_of tables) t ↔ ((v : Value) × AdmitsAs (types_of tables) (types_of tables 0) v × WritesAs (types_of tables) (message_namespace tables) (types_of tables 0) v t) }
 {}
 
 /// A tree is valid for the schema of a message that breaks no rule (ISO 20022-4) exactly where it writes a value that the

@@ -1,7 +1,7 @@
 // The schema of a compiled message.
 ghost use Rattle.std.specs.Prelude.{◌≡◌, IfOk, OnOk};
-ghost use Rattle.message_model.specs.Tables.{namespace_of};
-ghost use Rattle.xsd_model.specs.SchemaOf.{schema_of as schema_of_tables, sorted};
+ghost use Rattle.message_model.specs.Tables.{message_namespace};
+ghost use Rattle.xsd_model.specs.SchemaOf.{schema_of as schema_of_tables, sorted_types};
 
 use crate::schema::{Schema, SchemaType};
 use crate::types::all_types;
@@ -24,7 +24,7 @@ pub fn schema_of(alloc: Global, model: &Model) -> Result<Schema, AllocError>
 
 /// The namespace of the message's elements.
 fn namespace_of(alloc: Global, model: &Model) -> Result<Text, AllocError>
-    ensures { IfOk result (λ namespace. namespace ≡ namespace_of model.now) }
+    ensures { IfOk result (λ namespace. namespace ≡ message_namespace model.now) }
 {
     let mut namespace = Text::new(alloc);
     namespace.extend(NAMESPACE_FRONT)?;
@@ -34,7 +34,7 @@ fn namespace_of(alloc: Global, model: &Model) -> Result<Text, AllocError>
 
 /// Puts the types into the order of their names.
 fn sort(types: &mut Vec<SchemaType>) -> Result<(), AllocError>
-    ensures { OnOk result (types.new.items ≡ sorted types.old.items) }
+    ensures { OnOk result (types.new.items ≡ sorted_types types.old.items) }
 {
     types.sort_by(|left, right| left.name.bytes().cmp(right.name.bytes()))?;
     Ok(())

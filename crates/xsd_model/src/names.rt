@@ -1,6 +1,6 @@
 // The names of a message's types.
 ghost use Rattle.std.specs.Prelude.{◌≡◌, IfOk};
-ghost use Rattle.xsd_model.specs.SchemaOf.{base_name, name_of};
+ghost use Rattle.xsd_model.specs.SchemaOf.{base_name, schema_name_of};
 
 use lexical_core::Text;
 use message_model::Model;
@@ -11,7 +11,7 @@ const BASE_END: &[u8] = b"_SimpleType";
 
 /// The name of a type; empty where there is no type of this number.
 pub(crate) fn name_of(model: &Model, number: u32) -> &[u8]
-    ensures { result.now ≡ name_of model.now number }
+    ensures { result.now ≡ schema_name_of model.now number }
 {
     match model.name(number) {
         Some(name) => name,

@@ -2,7 +2,7 @@
 ghost use Rattle.std.specs.Prelude.{◌≡◌, [], ◌∷◌, Some, None, IfOk};
 ghost use Rattle.std.specs.Option.{option_to_list};
 ghost use Rattle.facets.specs.Steps.{least_written, plain_step};
-ghost use Rattle.xsd_model.specs.StepsOf.{dated, profile_pattern, steps_by, steps_of};
+ghost use Rattle.xsd_model.specs.StepsOf.{date_steps, profile_pattern, steps_by, steps_of};
 
 use crate::names::text_of;
 use crate::schema::Steps;
@@ -124,7 +124,7 @@ fn own_pattern(alloc: Global, simple: &Simple) -> Result<Texts, AllocError>
 
 /// The steps of a date or a time: the base with its profile, and a pattern of its own in a step of its own.
 fn dated(alloc: Global, simple: &Simple) -> Result<Steps, AllocError>
-    ensures { IfOk result (λ steps. steps ≡ dated simple.now.kind simple.now.pattern) }
+    ensures { IfOk result (λ steps. steps ≡ date_steps simple.now.kind simple.now.pattern) }
 {
     let profile = profile_pattern(simple.kind);
     let mut steps = one_step(alloc, patterned(alloc, Some(simple.kind), profile)?)?;

@@ -4,7 +4,7 @@ ghost use Rattle.reference_check.specs.Forms.{Money};
 ghost use Rattle.message_model.specs.Tables.{types_of};
 ghost use Rattle.message_model.specs.Sound.{AreSound};
 ghost use Rattle.xsd_model.specs.StepsOf.{steps_of};
-ghost use Rattle.xsd_model.specs.SchemaOf.{all_types, base_name, name_of, types_by};
+ghost use Rattle.xsd_model.specs.SchemaOf.{all_types, base_name, schema_name_of, types_by};
 
 use crate::names::{base_name, name_of, text_of};
 use crate::parts::parts_of;
@@ -33,7 +33,7 @@ fn add_types(
     types: &mut Vec<SchemaType>,
 ) -> Result<(), AllocError>
     requires { AreSound (types_of model.now) }
-    ensures { OnOk result (types.new.items ≡ types.old.items ++ types_by (name_of model.now) (name_of model.now number) (types_of model.now number)) }
+    ensures { OnOk result (types.new.items ≡ types.old.items ++ types_by (schema_name_of model.now) (schema_name_of model.now number) (types_of model.now number)) }
 {
     let Some(form) = model.form(number) else {
         return Ok(());
@@ -59,7 +59,7 @@ fn add_amount(
     base: &Simple,
     types: &mut Vec<SchemaType>,
 ) -> Result<(), AllocError>
-    ensures { OnOk result (types.new.items ≡ types.old.items ++ types_by (name_of model.now) (name_of model.now number) (Money code base.now)) }
+    ensures { OnOk result (types.new.items ≡ types.old.items ++ types_by (schema_name_of model.now) (schema_name_of model.now number) (Money code base.now)) }
 {
     let own = name_of(model, number);
     types.push(SchemaType {

@@ -4,9 +4,9 @@ use Rattle.std.specs.List.{concat}
 use Rattle.data_types.specs.Escaping.{escaped_bytes}
 use Rattle.facets.specs.declared.step.Step.{Step}
 use Rattle.xsd_model.specs.declared.schema.Part.{Part}
-use Rattle.xsd_model.specs.SchemaText.{amount_text, facet_text, facets_text, first_text, has_facets, line, model_text, part_text}
+use Rattle.xsd_model.specs.SchemaText.{amount_text, facet_text, facets_text, first_text, has_facets, line, model_text, schema_part_text}
 use Rattle.xsd_writer.specs.inner.Fragments.{step_level}
-use Rattle.xsd_writer.specs.inner.StepLines.{opening, step_end, step_start}
+use Rattle.xsd_writer.specs.inner.StepLines.{opening_lines, step_end, step_start}
 
 regroup : (a b c d e f : List ℕ) → (a ++ (b ++ (c ++ (d ++ [])))) ++ (e ++ f) ≡ a ++ (b ++ (c ++ (d ++ (e ++ f))))
 regroup a b c d e f = simp (append_assoc, append-nil)
@@ -20,7 +20,7 @@ pub facet_is : (level : ℕ) (word value : List ℕ) → facet_start level word 
 facet_is level word value = regroup (replicate (2 * level) 32) (codes "<xs:") word (codes " value=\"") value (codes "\"/>\n")
 
 -- the two lines that a later step begins with
-pub opening_is : (steps : ℕ) → replicate (2 * (step_level steps + 0)) 32 ++ (codes "<xs:restriction>\n" ++ (replicate (2 * (step_level steps + 1)) 32 ++ (codes "<xs:simpleType>\n" ++ []))) ≡ opening steps
+pub opening_is : (steps : ℕ) → replicate (2 * (step_level steps + 0)) 32 ++ (codes "<xs:restriction>\n" ++ (replicate (2 * (step_level steps + 1)) 32 ++ (codes "<xs:simpleType>\n" ++ []))) ≡ opening_lines steps
 opening_is steps =
     let space : ℕ = 32 in
     let second = replicate (2 * (step_level steps + 1)) space ++ codes "<xs:simpleType>\n" in
@@ -34,7 +34,7 @@ model_start word = line 2 (codes "<xs:" ∷ word ∷ codes ">\n" ∷ [])
 abbrev pub model_end : List ℕ → List ℕ
 model_end word = line 2 (codes "</xs:" ∷ word ∷ codes ">\n" ∷ [])
 
-pub model_some : (word : List ℕ) (parts : List Part) → (parts ≡ [] → ⊥) → model_start word ++ (flat_map part_text parts ++ model_end word) ≡ model_text word parts
+pub model_some : (word : List ℕ) (parts : List Part) → (parts ≡ [] → ⊥) → model_start word ++ (flat_map schema_part_text parts ++ model_end word) ≡ model_text word parts
 model_some word [] some = absurd (some refl)
 model_some word (part ∷ parts) some = refl
 

@@ -4,7 +4,7 @@ ghost use Rattle.outside.specs.Pushes.{Pushes};
 ghost use Rattle.xsd_model.specs.SchemaText.{first_text, has_facets, steps_text};
 ghost use Rattle.xsd_writer.specs.inner.NumberedTexts.{texts_below};
 ghost use Rattle.xsd_writer.specs.inner.Fragments.{step_level};
-ghost use Rattle.xsd_writer.specs.inner.StepLines.{closing, closings, inner_end, opening, step_end, step_start};
+ghost use Rattle.xsd_writer.specs.inner.StepLines.{closing_lines, closings, inner_end, opening_lines, step_end, step_start};
 
 use crate::facet_lines::push_facets;
 use crate::fragment::Fragment;
@@ -31,7 +31,7 @@ pub fn push_steps<O: Sink>(steps: &Steps, sink: &mut O) -> Result<(), SinkError>
 
 /// Pushes the lines that so many later steps begin with, from the last step on.
 fn push_openings<O: Sink>(count: usize, sink: &mut O) -> Result<(), SinkError>
-    ensures { Pushes O.held O.faults O.room sink.old sink.new result (texts_below opening count) }
+    ensures { Pushes O.held O.faults O.room sink.old sink.new result (texts_below opening_lines count) }
 {
     for steps in 0..count {
         if let Err(error) = push_opening(steps, sink) {
@@ -43,7 +43,7 @@ fn push_openings<O: Sink>(count: usize, sink: &mut O) -> Result<(), SinkError>
 
 /// Pushes the lines that a later step begins with, inside so many others.
 fn push_opening<O: Sink>(steps: usize, sink: &mut O) -> Result<(), SinkError>
-    ensures { Pushes O.held O.faults O.room sink.old sink.new result (opening steps) }
+    ensures { Pushes O.held O.faults O.room sink.old sink.new result (opening_lines steps) }
 {
     let fragments = [
         Fragment::Inside { steps, more: 0 },
@@ -118,7 +118,7 @@ fn push_closings<O: Sink>(later: &[Step], sink: &mut O) -> Result<(), SinkError>
 
 /// Pushes the lines that a later step ends with, inside so many others.
 fn push_closing<O: Sink>(step: &Step, steps: usize, sink: &mut O) -> Result<(), SinkError>
-    ensures { Pushes O.held O.faults O.room sink.old sink.new result (closing steps step.now) }
+    ensures { Pushes O.held O.faults O.room sink.old sink.new result (closing_lines steps step.now) }
 {
     if let Err(error) = push_inner_end(steps, sink) {
         return Err(error);

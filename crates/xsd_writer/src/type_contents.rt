@@ -1,7 +1,7 @@
 // The lines between the first and the last of a type.
 ghost use Rattle.std.specs.Prelude.{◌≡◌, ◌∷◌, [], codes, flat_map};
 ghost use Rattle.outside.specs.Pushes.{Pushes};
-ghost use Rattle.xsd_model.specs.SchemaText.{amount_text, any_text, line, model_text, part_text};
+ghost use Rattle.xsd_model.specs.SchemaText.{amount_text, any_text, line, model_text, schema_part_text};
 ghost use Rattle.xsd_writer.specs.inner.TypeContents.{contents_text};
 
 use crate::fragment::Fragment;
@@ -59,7 +59,7 @@ fn push_model<O: Sink>(word: &[u8], parts: &Parts, sink: &mut O) -> Result<(), S
 
 /// Pushes the elements of a content model.
 fn push_parts<O: Sink>(parts: &Parts, sink: &mut O) -> Result<(), SinkError>
-    ensures { Pushes O.held O.faults O.room sink.old sink.new result (flat_map part_text parts.now) }
+    ensures { Pushes O.held O.faults O.room sink.old sink.new result (flat_map schema_part_text parts.now) }
 {
     for part in parts.as_slice() {
         if let Err(error) = push_part(part, sink) {
@@ -71,7 +71,7 @@ fn push_parts<O: Sink>(parts: &Parts, sink: &mut O) -> Result<(), SinkError>
 
 /// Pushes an element of a content model: part 1 §3.3.
 fn push_part<O: Sink>(part: &Part, sink: &mut O) -> Result<(), SinkError>
-    ensures { Pushes O.held O.faults O.room sink.old sink.new result (part_text part.now) }
+    ensures { Pushes O.held O.faults O.room sink.old sink.new result (schema_part_text part.now) }
 {
     let fragments = [
         Fragment::Indent(3),

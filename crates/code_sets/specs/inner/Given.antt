@@ -8,13 +8,13 @@ use Rattle.std.specs.Option.{option_map_or}
 use Rattle.std.specs.Ordering.{nat_cmp}
 use Rattle.std.specs.Str.{bytes_eq}
 use Rattle.indexmap.specs.IndexSet.{IndexSet}
-use Rattle.repo_objects.specs.Repository.{Entry, coded}
+use Rattle.repo_objects.specs.Repository.{DictionaryEntry, entry_with_codes}
 use Rattle.code_sets.specs.declared.record.CodeRecord.{CodeRecord}
 use Rattle.code_sets.specs.Codes.{code_of, has_own_codes, is_code_set, is_none_yet}
 
 -- the texts that the keys hold
-abbrev pub texts_of : List (Vec ℕ) → List (List ℕ)
-texts_of keys = map (λ (k : Vec ℕ). k.items) keys
+abbrev pub key_texts : List (Vec ℕ) → List (List ℕ)
+key_texts keys = map (λ (k : Vec ℕ). k.items) keys
 
 -- the texts with one more at their end, unless it is one of them
 abbrev pub with_text : List (List ℕ) → List ℕ → List (List ℕ)
@@ -23,24 +23,24 @@ with_text texts text = if list_any (bytes_eq text) texts then texts else texts +
 module _ {S : Type 0} where
   -- the codes that are kept for the code sets of this name
   abbrev pub codes_in : BTreeMap (Vec ℕ) (IndexSet (Vec ℕ) S) → List ℕ → List (List ℕ)
-  codes_in given name = option_map_or (λ (s : IndexSet (Vec ℕ) S). texts_of s.keys) (get_by (λ k. slice_cmp nat_cmp name k.items) given) []
+  codes_in given name = option_map_or (λ (s : IndexSet (Vec ℕ) S). key_texts s.keys) (get_by (λ k. slice_cmp nat_cmp name k.items) given) []
 
   -- there is room for codes under this name
   abbrev pub HasName : BTreeMap (Vec ℕ) (IndexSet (Vec ℕ) S) → List ℕ → Type 0
   HasName given name = IsSome (get_by (λ k. slice_cmp nat_cmp name k.items) given)
 
 -- an entry with the codes that are kept for its name
-abbrev pub given_entry : (List ℕ → List (List ℕ)) → Entry → Entry
-given_entry kept e = if is_code_set e.object.kind && is_none_yet e.object.codes then coded (map code_of (kept e.object.name)) e else e
+abbrev pub given_entry : (List ℕ → List (List ℕ)) → DictionaryEntry → DictionaryEntry
+given_entry kept e = if is_code_set e.object.kind && is_none_yet e.object.codes then entry_with_codes (map code_of (kept e.object.name)) e else e
 
 -- the names with that of the entry, where it is a code set with codes of its own
-abbrev pub with_own_name : List (List ℕ) → Entry → List (List ℕ)
+abbrev pub with_own_name : List (List ℕ) → DictionaryEntry → List (List ℕ)
 with_own_name names e = if is_code_set e.object.kind && not (is_none_yet e.object.codes) then with_text names e.object.name else names
 
 -- these are the names of the code sets with codes of their own
-abbrev pub NamesOwn : List (List ℕ) → List Entry → Type 0
+abbrev pub NamesOwn : List (List ℕ) → List DictionaryEntry → Type 0
 NamesOwn names entries = (name : List ℕ) → list_any (bytes_eq name) names ≡ list_any (has_own_codes name) entries
 
 -- the record names a code set that has one of these names
-abbrev pub is_named : List (List ℕ) → CodeRecord → Bool
-is_named names r = list_any (bytes_eq r.set) names
+abbrev pub is_set_named : List (List ℕ) → CodeRecord → Bool
+is_set_named names r = list_any (bytes_eq r.set) names

@@ -3,8 +3,8 @@ use Rattle.std.specs.Prelude.{◌≡◌, ℕ, ◌+◌, ◌<◌, ◌≤◌, Bool,
 use Rattle.data_types.specs.Dates.{IsFraction, IsZone}
 
 -- the digits of a second after its point, where there are any, and a zone or none
-abbrev pub IsRest : Bool → List ℕ → Type 0
-IsRest seconds text = (fraction zone : List ℕ) × (text ≡ fraction ++ zone) × IsFraction seconds fraction × IsZone zone
+abbrev pub IsFractionAndZone : Bool → List ℕ → Type 0
+IsFractionAndZone seconds text = (fraction zone : List ℕ) × (text ≡ fraction ++ zone) × IsFraction seconds fraction × IsZone zone
 
 -- two bytes stand there, and none is below a digit
 pub record AreDigits (text : List ℕ) (at : ℕ) : Type 0 where

@@ -7,7 +7,7 @@ use Rattle.der_octets.specs.declared.tag_step.TagStep.{TagStep}
 use Rattle.der_model.specs.DerMessage.{DerMessage}
 use Rattle.der_codec.specs.Judging.{HoldsContents}
 use Rattle.der_codec.specs.Levels.{inwards, rest_of}
-use Rattle.der_codec.specs.Decoding.{Reads, IsAdvanced, IsBelow, end_of_levels, level_at}
+use Rattle.der_codec.specs.Decoding.{Reads, IsAdvanced, IsBelowEnd, end_of_levels, level_at}
 use Rattle.der_codec.specs.declared.begun.Begun.{Begun}
 use Rattle.der_codec.specs.declared.level.Spot.{Spot}
 use Rattle.der_codec.specs.declared.level.Level.{Level}
@@ -15,14 +15,14 @@ use Rattle.der_codec.specs.declared.decoder.Decoder.{Decoder}
 use Rattle.der_codec.specs.declared.decoder.Due.TheVariants as due
 
 -- Behind these bytes the octets o and n are the header of a component of the innermost level, which goes on as said: it has come, and the component fits into it.
-pub record HasBegun (m : DerMessage ℕ) (d : Decoder) (bytes : List ℕ) (o n : ℕ) (b : Begun) : Type 0 where
+pub record HasBegunComponent (m : DerMessage ℕ) (d : Decoder) (bytes : List ℕ) (o n : ℕ) (b : Begun) : Type 0 where
   pub step : LengthStep
-  pub none_taken : lengths.HasTaken step []
+  pub none_taken : lengths.HasTakenLength step []
   pub read : Reads m (b.around ∷ rest_of (inwards d.levels.items)) (due.Length b.constructed b.spot step) (d.place + 1) (d.place + 1) (bytes ++ o ∷ [])
   pub short : n < 128
   pub tag_step : TagStep
   pub due_is : d.due ≡ due.Tag tag_step
-  pub below : IsBelow d.place (end_of_levels d.levels.items)
+  pub below : IsBelowEnd d.place (end_of_levels d.levels.items)
   pub end_is : b.end ≡ d.place + 2 + n
   pub fits : b.end ≤ b.around.end
 
@@ -30,11 +30,11 @@ pub record HasBegun (m : DerMessage ℕ) (d : Decoder) (bytes : List ℕ) (o n :
 pub record StandsFirst (m : DerMessage ℕ) (d : Decoder) (bytes : List ℕ) (b : Begun) (n : ℕ) (behind piece : List ℕ) : Type 0 where
   pub first : ℕ
   pub piece_is : piece ≡ first ∷ n ∷ behind
-  pub begun : HasBegun m d bytes first n b
+  pub begun : HasBegunComponent m d bytes first n b
 
 -- a value of so many contents octets, which begin at the place, is open or its contents are due, within these levels
 abbrev pub Awaits : Decoder → Bool → Spot → ℕ → ℕ → List Level → Type 0
-Awaits d true spot place count around = (inwards d.levels.items ≡ level_at spot (place + count) ∷ around) × (step : TagStep) × (d.due ≡ due.Tag step) × tags.HasTaken step []
+Awaits d true spot place count around = (inwards d.levels.items ≡ level_at spot (place + count) ∷ around) × (step : TagStep) × (d.due ≡ due.Tag step) × tags.HasTakenTag step []
 Awaits d false spot place count around = (inwards d.levels.items ≡ around) × (d.due ≡ due.Contents spot count)
 
 -- The component of this number of the innermost level begins, and fits into it, behind two octets.
@@ -47,7 +47,7 @@ pub record Enters (old new : Decoder) (level : Level) (number : ℕ) (constructe
   pub awaits : Awaits new constructed spot (old.place + 2) count (around ∷ rest_of (inwards old.levels.items))
 
 -- The leaf of this number of the innermost level, which has these contents, fits into it behind two octets, and is passed.
-pub record Passes (m : DerMessage ℕ) (old new : Decoder) (level : Level) (number : ℕ) (spot : Spot) (contents : List ℕ) : Type 0 where
+pub record PassesLeaf (m : DerMessage ℕ) (old new : Decoder) (level : Level) (number : ℕ) (spot : Spot) (contents : List ℕ) : Type 0 where
   pub around : Level
   pub is_advanced : IsAdvanced level number around
   pub fits : old.place + 2 + length contents ≤ level.end
@@ -56,5 +56,5 @@ pub record Passes (m : DerMessage ℕ) (old new : Decoder) (level : Level) (numb
   pub levels_are : inwards new.levels.items ≡ around ∷ rest_of (inwards old.levels.items)
   pub fresh : TagStep
   pub due_is : new.due ≡ due.Tag fresh
-  pub none_taken : tags.HasTaken fresh []
+  pub none_taken : tags.HasTakenTag fresh []
   pub holds : HoldsContents m spot contents

@@ -21,5 +21,5 @@ AreShort (Primitive tag contents rest) = IsShortTag tag × IsShortLength (length
 AreShort (Constructed tag inner rest) = IsShortTag tag × IsShortLength (length (octets inner)) × AreShort inner × AreShort rest
 
 -- the values of an instance
-abbrev pub IsInstance : {P : Type 0} → DerMessage P → Values → Type 0
-IsInstance m inner = Conforms m (structure m Instance) [] inner
+abbrev pub AreInstanceValues : {P : Type 0} → DerMessage P → Values → Type 0
+AreInstanceValues m inner = Conforms m (structure m Instance) [] inner

@@ -59,9 +59,9 @@ pub record Knows (held : Held) (at around total : ℕ) (s : Stage) : Type 0 wher
   pub ended : AreAwaited held at around s.frames
 
 -- no element has more octets behind it than there are, nor more that follow it
-abbrev pub AreWithin : ℕ → List Frame → Type 0
-AreWithin sum [] = Unit {0}
-AreWithin sum (frame ∷ frames) = (frame.behind ≤ sum) × ((k : ℕ) → frame.following k ≤ frame.behind) × AreWithin sum frames
+abbrev pub AreFramesWithin : ℕ → List Frame → Type 0
+AreFramesWithin sum [] = Unit {0}
+AreFramesWithin sum (frame ∷ frames) = (frame.behind ≤ sum) × ((k : ℕ) → frame.following k ≤ frame.behind) × AreFramesWithin sum frames
 
 -- beside each beginning of an element stand numbers that count
 abbrev pub AreBeside : List Piece → List Beside → Type 0

@@ -6,7 +6,7 @@ use Rattle.der_model.specs.DerMessage.{der_message}
 use Rattle.message_model.specs.Admits.{AdmitsAs}
 use Rattle.message_model.specs.Tables.{Tables, message_of, types_of}
 use Rattle.xml_instances.specs.SpellsXml.{SpellsXml}
-use Rattle.xml_instances.specs.XmlFaults.{limit}
+use Rattle.xml_instances.specs.XmlFaults.{xml_limit}
 use Rattle.xml_writer.specs.CanonXml.{IsCanonXml}
 
 -- the texts are those of the value, and both can be read
@@ -14,6 +14,6 @@ pub record AreForms (T : Tables) (v : Value) (xml der : List ℕ) : Type 0 where
   pub admitted : AdmitsAs (types_of T) (types_of T 0) v
   pub xml_is : IsCanonXml (message_of T) v xml
   pub xml_spells : SpellsXml (message_of T) xml v
-  pub xml_within : length xml ≤ limit
+  pub xml_within : length xml ≤ xml_limit
   pub der_is : der ≡ der_of (der_message T) v
-  pub der_within : length der ≤ limit
+  pub der_within : length der ≤ xml_limit

@@ -5,8 +5,8 @@ use Rattle.data_types.specs.Value.{Value, Edge, Piece, Begins, Holds, Ends}
 use Rattle.fragments.specs.Fragment.{fragment}
 use Rattle.inst_pool.specs.Pieces.{open_in}
 use Rattle.message_model.specs.Tables.{types_of, child_pieces}
-use Rattle.drill.specs.BuiltIn.{tables}
-use Rattle.drill.specs.Growing.{OpenNode, Path, Growth, open_node, name_of, below, depth_of}
+use Rattle.drill.specs.BuiltIn.{drill_tables}
+use Rattle.drill.specs.Growing.{OpenNode, Path, Growth, open_node, node_name, below, path_depth}
 use Rattle.drill.specs.declared.stem.Stem.{Stem}
 use Rattle.drill.specs.declared.growing.Sprout.{Sprout}
 
@@ -25,11 +25,11 @@ child_edge = record { slot = 1; target = 3; parent = 3 }
 
 -- a name with its element
 abbrev pub name_pieces : ℕ → List Piece
-name_pieces number = Begins name_edge ∷ (Holds (Bytes (name_of number)) ∷ (Ends name_edge ∷ []))
+name_pieces number = Begins name_edge ∷ (Holds (Bytes (node_name number)) ∷ (Ends name_edge ∷ []))
 
 -- the nodes below one
 abbrev pub below_pieces : List Value → List Piece
-below_pieces values = child_pieces fragment (types_of tables) 3 (below values)
+below_pieces values = child_pieces fragment (types_of drill_tables) 3 (below values)
 
 -- what is within an open node so far
 abbrev pub inside_pieces : OpenNode → List Piece
@@ -56,7 +56,7 @@ first_path = record { inner = open_node 0; outers = [] }
 pub record HasPath (p : Path) (s : Stem) : Type 0 where
   pub pieces : s.builder.pieces ≡ pieces_so_far p
   pub open_are : open_in s.builder.pieces ≡ edges_round p.outers
-  pub depth : s.depth ≡ depth_of p
+  pub depth : s.depth ≡ path_depth p
 
 -- what has grown
 pub record HasGrown (g : Growth) (s : Sprout) : Type 0 where

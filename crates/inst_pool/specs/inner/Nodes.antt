@@ -17,8 +17,8 @@ abbrev pub low_in : Short → ℕ
 low_in s = s.first + s.second * 65536
 
 -- the number of 48 bits that the three tell
-abbrev pub place_in : Short → ℕ
-place_in s = low_in s + s.third * 0x1_0000_0000
+abbrev pub place_of_short : Short → ℕ
+place_of_short s = low_in s + s.third * 0x1_0000_0000
 
 -- the number whose whole part the first two tell, and whose scale the third
 abbrev pub decimal_in : Short → DecimalNumber
@@ -35,17 +35,17 @@ content_of block (Number s) = long.Number (decimal_in s)
 content_of block (Flag flag) = long.Flag flag
 content_of block (Code s) = long.Code (low_in s)
 content_of block (Close s) = long.Close (edge_in s)
-content_of block (Long s) = slice_index_or block (place_in s) (long.Code 0)
+content_of block (Long s) = slice_index_or block (place_of_short s) (long.Code 0)
 
 -- its place is one of a block of so many, and its number one that a leaf has
-abbrev pub IsWithin : ℕ → Node → Type 0
-IsWithin count (Number s) = IsDecimal (decimal_in s)
-IsWithin count (Long s) = place_in s < count
-IsWithin count node = Unit {0}
+abbrev pub IsNodeWithin : ℕ → Node → Type 0
+IsNodeWithin count (Number s) = IsDecimal (decimal_in s)
+IsNodeWithin count (Long s) = place_of_short s < count
+IsNodeWithin count node = Unit {0}
 
-abbrev pub AreWithin : ℕ → List Node → Type 0
-AreWithin count [] = Unit {0}
-AreWithin count (node ∷ nodes) = IsWithin count node × AreWithin count nodes
+abbrev pub AreNodesWithin : ℕ → List Node → Type 0
+AreNodesWithin count [] = Unit {0}
+AreNodesWithin count (node ∷ nodes) = IsNodeWithin count node × AreNodesWithin count nodes
 
 -- the contents that nodes stand for
 abbrev pub contents_in : List Content → List Node → List Content

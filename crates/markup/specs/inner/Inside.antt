@@ -5,7 +5,7 @@ use Rattle.markup.specs.Ascii.{is_ascii}
 use Rattle.markup.specs.Drafts.{add_value}
 use Rattle.markup.specs.Scans.{step}
 use Rattle.markup.specs.ScanRuns.{run, At}
-use Rattle.markup.specs.Tokenizers.{is_tag, scanned}
+use Rattle.markup.specs.Tokenizers.{is_tag, with_scan}
 use Rattle.markup.specs.declared.classes.Passed.{Passed}
 use Rattle.markup.specs.declared.classes.Passed.TheVariants.{Comment, Instruction}
 use Rattle.markup.specs.declared.draft.Draft.{Draft}
@@ -25,14 +25,14 @@ passed_end Comment = 45
 passed_end Instruction = 63
 
 -- more characters of a name
-abbrev pub extended : List ℕ → Spelled → Spelled
-extended bytes n = record { prefix = n.prefix; local = n.local ++ bytes }
+abbrev pub extend_name : List ℕ → Spelled → Spelled
+extend_name bytes n = record { prefix = n.prefix; local = n.local ++ bytes }
 
 -- what bytes say that leave the scan as it is
 abbrev pub noted_all : Scan → List ℕ → Draft → Draft
-noted_all (StartName part) bytes d = record { name = extended bytes d.name; given = d.given; attribute = d.attribute; value = d.value }
-noted_all (EndName part) bytes d = record { name = extended bytes d.name; given = d.given; attribute = d.attribute; value = d.value }
-noted_all (AttributeName part) bytes d = record { name = d.name; given = d.given; attribute = extended bytes d.attribute; value = d.value }
+noted_all (StartName part) bytes d = record { name = extend_name bytes d.name; given = d.given; attribute = d.attribute; value = d.value }
+noted_all (EndName part) bytes d = record { name = extend_name bytes d.name; given = d.given; attribute = d.attribute; value = d.value }
+noted_all (AttributeName part) bytes d = record { name = d.name; given = d.given; attribute = extend_name bytes d.attribute; value = d.value }
 noted_all (Value q after_return) bytes d = add_value bytes d
 noted_all _ bytes d = d
 
@@ -45,7 +45,7 @@ pub record IsStill (scan : Scan) (bytes : List ℕ) : Type 0 where
 pub record GoesOver (old new : Tokenizer) (bytes : List ℕ) : Type 0 where
   pub encoded : encode_utf8_all bytes ≡ bytes
   pub scans : run old.scan old.draft bytes ≡ At new.scan new.draft
-  pub after : new ≡ scanned old new.scan new.draft
+  pub after : new ≡ with_scan old new.scan new.draft
 
 -- The open token goes on with the byte of ASCII.
 pub record GoesByOne (z : Tokenizer) (byte : ℕ) : Type 0 where
@@ -74,8 +74,8 @@ may_be_tag (Opened first) = true
 may_be_tag s = is_tag s
 
 -- so many bytes are counted
-abbrev pub moved : Tokenizer → ℕ → Tokenizer
-moved z n = record { alloc = z.alloc; limit = z.limit; utf8 = z.utf8; position = z.position; scan = z.scan; draft = z.draft; start = z.start; place = z.place + n }
+abbrev pub after_count : Tokenizer → ℕ → Tokenizer
+after_count z n = record { alloc = z.alloc; limit = z.limit; utf8 = z.utf8; position = z.position; scan = z.scan; draft = z.draft; start = z.start; place = z.place + n }
 
 -- Bytes go on with the open token, and end none; a tag stays shorter than its limit.
 pub record GoesInside (old new : Tokenizer) (bytes : List ℕ) : Type 0 where
@@ -83,5 +83,5 @@ pub record GoesInside (old new : Tokenizer) (bytes : List ℕ) : Type 0 where
   pub whole : old.utf8 ≡ Some []
   pub between : Tokenizer
   pub over : GoesOver old between bytes
-  pub after : new ≡ moved between (length bytes)
+  pub after : new ≡ after_count between (length bytes)
   pub short : may_be_tag old.scan ≡ true → (old.place - old.start) + length bytes < old.limit

@@ -6,12 +6,12 @@ use Rattle.markup.specs.Events.{Placed, items_of}
 use Rattle.markup.specs.Faults.{rule_of}
 use Rattle.markup.specs.EventItems.{Tells, TellsClean}
 use Rattle.markup.specs.Scopes.{placed_at}
-use Rattle.markup.specs.Contexts.{TakesToken, HasOpen, unbracketed}
+use Rattle.markup.specs.Contexts.{TakesToken, HasOpen, without_brackets}
 use Rattle.markup.specs.declared.context.Context.{Context}
 use Rattle.markup.specs.declared.reader.MarkError.{MarkError}
 use Rattle.markup.specs.declared.reader.MarkError.TheVariants.{Refused, Memory}
 use Rattle.markup.specs.declared.tokenizer.Finish.{Finish}
-use Rattle.markup.specs.Tokenizers.{IsAwaited, is_ready, passed}
+use Rattle.markup.specs.Tokenizers.{IsAwaited, is_ready, after_whole_tokens}
 use Rattle.markup.specs.Inputs.{Begins, is_return}
 use Rattle.markup.specs.Reading.{Keeps}
 use Rattle.markup.specs.declared.event.Event.{Event}
@@ -30,8 +30,8 @@ pub record SettlesEvents (limit : ℕ) (reader : Reader) (input : List ℕ) (tol
   pub awaited : IsAwaited reader.tokenizer.scan byte
 
 -- the event of a CR that has come
-abbrev pub returned : Finish → ℕ → List Placed
-returned f place = if is_return f then placed_at place (Char 10 ∷ []) else []
+abbrev pub return_items : Finish → ℕ → List Placed
+return_items f place = if is_return f then placed_at place (Char 10 ∷ []) else []
 
 -- A token is not taken, for this reason.
 abbrev pub TokenStopped : List Token → Token → ℕ → List Event → List Event → MarkError → Type 0
@@ -43,10 +43,10 @@ abbrev pub TokenAnswered : {T : Type 0} → List Token → Token → ℕ → Lis
 TokenAnswered before t place old new context result = MatchResult result (λ _. TakesToken before t place old new context) (λ e. TokenStopped before t place old new e)
 
 -- A character may come next, and an element is open.
-pub record IsReady (reader : Reader) : Type 0 where
+pub record IsReaderReady (reader : Reader) : Type 0 where
   pub ready : is_ready reader.tokenizer ≡ true
   pub inside : HasOpen reader.context
 
 -- so many bytes are taken, each of which is a character
 abbrev pub passed_over : Reader → ℕ → Reader
-passed_over r n = record { tokenizer = passed r.tokenizer n; context = unbracketed r.context; failed = r.failed }
+passed_over r n = record { tokenizer = after_whole_tokens r.tokenizer n; context = without_brackets r.context; failed = r.failed }

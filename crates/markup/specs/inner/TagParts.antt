@@ -21,13 +21,13 @@ use Rattle.markup.specs.OpenNames.{KeepsNames}
 use Rattle.markup.specs.Scopes.{declarations, all_declarations, open_name}
 
 -- It declares no namespace.
-abbrev pub is_plain : Given → Bool
-is_plain a = is_none (declared_prefix a.name)
+abbrev pub declares_none : Given → Bool
+declares_none a = is_none (declared_prefix a.name)
 
 -- the attributes of a tag that declare none
 abbrev pub plain_attributes : List Given → List Given
 plain_attributes [] = []
-plain_attributes (a ∷ more) = if is_plain a then a ∷ plain_attributes more else plain_attributes more
+plain_attributes (a ∷ more) = if declares_none a then a ∷ plain_attributes more else plain_attributes more
 
 -- two of these declare one prefix
 abbrev pub declares_twice : List Given → Bool
@@ -47,14 +47,14 @@ abbrev pub is_named : Expanded → Entry → Bool
 is_named name e = bytes_eq name.namespace e.name.namespace && bytes_eq name.local e.name.local
 
 -- The first of the entries has the name.
-abbrev pub begins_with : Expanded → List Entry → Bool
-begins_with name [] = false
-begins_with name (e ∷ es) = is_named name e
+abbrev pub first_is_named : Expanded → List Entry → Bool
+first_is_named name [] = false
+first_is_named name (e ∷ es) = is_named name e
 
 -- Two neighbours have one name.
 abbrev pub has_twins : List Entry → Bool
 has_twins [] = false
-has_twins (e ∷ es) = begins_with e.name es || has_twins es
+has_twins (e ∷ es) = first_is_named e.name es || has_twins es
 
 -- the entries in the order of their names
 abbrev pub sorted_entries : List Entry → List Entry

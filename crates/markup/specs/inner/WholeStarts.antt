@@ -5,7 +5,7 @@ use Rattle.markup.specs.Attribute.{Attribute, is_attribute, attribute_text}
 use Rattle.markup.specs.Token.{StartTag, Start, is_start_tag, token_bytes}
 use Rattle.markup.specs.Marks.{tag_limit, begins_with}
 use Rattle.markup.specs.Events.{opening}
-use Rattle.markup.specs.Events.{given as given_by}
+use Rattle.markup.specs.Events.{given_attribute as given_by}
 use Rattle.markup.specs.PlainTags.{continues_plain, is_plain_name}
 use Rattle.markup.specs.PlainStarts.{is_plain_qualified, qualified_text, is_quote, is_literal_of, PlainAttribute, is_plain_attribute, plain_attribute_text}
 use Rattle.markup.specs.declared.plain_tag.TagKind.{TagKind}

@@ -5,10 +5,10 @@ ghost use Rattle.markup.specs.Chars.{is_space};
 ghost use Rattle.markup.specs.Contexts.{HasOpen};
 ghost use Rattle.markup.specs.Events.{Placed};
 ghost use Rattle.markup.specs.Literals.{IsRun, IsBracketRun, characters_from};
-ghost use Rattle.markup.specs.Reading.{taken, failed, HasTakenUnder, HasToldUnder};
+ghost use Rattle.markup.specs.Reading.{bytes_taken, reader_failure, HasTakenUnder, HasToldUnder};
 ghost use Rattle.markup.specs.Tokenizers.{is_in_text};
 ghost use Rattle.markup.specs.inner.ClosedBrackets.{IsClosedRun};
-ghost use Rattle.markup.specs.inner.ReaderSteps.{IsReady};
+ghost use Rattle.markup.specs.inner.ReaderSteps.{IsReaderReady};
 
 use super::{MarkError, Reader};
 use crate::literals::{Run, bracket_length, closed_length};
@@ -17,15 +17,15 @@ impl Reader {
     /// Takes the `]` at the front of the piece, where an element is open and no token is. In a CDATA
     /// section, which may end with them, it takes them with the character behind them alone.
     pub(super) fn take_brackets(&mut self, piece: &[u8]) -> Run
-        requires { failed self.old ≡ None → taken self.old + length piece.now ≤ 2 ^ 40 }
+        requires { reader_failure self.old ≡ None → bytes_taken self.old + length piece.now ≤ 2 ^ 40 }
         ensures within { result.bytes ≤ length piece.now }
         ensures only { IsRun (take result.bytes piece.now) result.characters }
         ensures blank { result.blank ≡ list_all is_space (take result.bytes piece.now) }
         ensures taken { (limit : ℕ) (bytes : List ℕ) (told : List Placed) → HasTakenUnder limit self.old bytes told →
             (run : IsRun (take result.bytes piece.now) result.characters) × HasToldUnder limit self.new (bytes ++ take result.bytes piece.now) (told ++ characters_from (length bytes) run.characters) }
-        ensures count { taken self.new ≡ taken self.old + result.bytes }
-        ensures failed { failed self.new ≡ failed self.old }
-        ensures again { (e : MarkError) → failed self.old ≡ Some e → (result.bytes ≡ 0) × (result.characters ≡ 0) × (self.new ≡ self.old) }
+        ensures count { bytes_taken self.new ≡ bytes_taken self.old + result.bytes }
+        ensures failed { reader_failure self.new ≡ reader_failure self.old }
+        ensures again { (e : MarkError) → reader_failure self.old ≡ Some e → (result.bytes ≡ 0) × (result.characters ≡ 0) × (self.new ≡ self.old) }
     {
         let count = self.count_brackets(piece);
         if count == 0 {
@@ -47,8 +47,8 @@ impl Reader {
         ensures only { IsBracketRun (take result piece.now) result }
         ensures ready { 0 < result → is_in_text self.now.tokenizer ≡ true }
         ensures inside { 0 < result → HasOpen self.now.context }
-        ensures sound { 0 < result → failed self.now ≡ None }
-        ensures none { (e : MarkError) → failed self.now ≡ Some e → result ≡ 0 }
+        ensures sound { 0 < result → reader_failure self.now ≡ None }
+        ensures none { (e : MarkError) → reader_failure self.now ≡ Some e → result ≡ 0 }
     {
         if self.failed.is_some() {
             return 0;
@@ -64,15 +64,15 @@ impl Reader {
 
     /// Takes the `]` at the front of the piece with the character behind them.
     fn take_closed(&mut self, piece: &[u8]) -> Run
-        requires { failed self.old ≡ None → taken self.old + length piece.now ≤ 2 ^ 40 }
+        requires { reader_failure self.old ≡ None → bytes_taken self.old + length piece.now ≤ 2 ^ 40 }
         ensures within { result.bytes ≤ length piece.now }
         ensures only { IsRun (take result.bytes piece.now) result.characters }
         ensures blank { result.blank ≡ list_all is_space (take result.bytes piece.now) }
         ensures taken { (limit : ℕ) (bytes : List ℕ) (told : List Placed) → HasTakenUnder limit self.old bytes told →
             (run : IsRun (take result.bytes piece.now) result.characters) × HasToldUnder limit self.new (bytes ++ take result.bytes piece.now) (told ++ characters_from (length bytes) run.characters) }
-        ensures count { taken self.new ≡ taken self.old + result.bytes }
-        ensures failed { failed self.new ≡ failed self.old }
-        ensures again { (e : MarkError) → failed self.old ≡ Some e → (result.bytes ≡ 0) × (result.characters ≡ 0) × (self.new ≡ self.old) }
+        ensures count { bytes_taken self.new ≡ bytes_taken self.old + result.bytes }
+        ensures failed { reader_failure self.new ≡ reader_failure self.old }
+        ensures again { (e : MarkError) → reader_failure self.old ≡ Some e → (result.bytes ≡ 0) × (result.characters ≡ 0) × (self.new ≡ self.old) }
     {
         let count = self.count_closed(piece);
         if count == 0 {
@@ -96,9 +96,9 @@ impl Reader {
     fn count_closed(&self, piece: &[u8]) -> usize
         ensures within { result ≤ length piece.now }
         ensures only { 0 < result → IsClosedRun (take result piece.now) result }
-        ensures ready { 0 < result → IsReady self.now }
-        ensures sound { 0 < result → failed self.now ≡ None }
-        ensures none { (e : MarkError) → failed self.now ≡ Some e → result ≡ 0 }
+        ensures ready { 0 < result → IsReaderReady self.now }
+        ensures sound { 0 < result → reader_failure self.now ≡ None }
+        ensures none { (e : MarkError) → reader_failure self.now ≡ Some e → result ≡ 0 }
     {
         if self.failed.is_some() {
             return 0;

@@ -2,7 +2,7 @@
 ghost use Rattle.std.specs.Prelude.{◌≡◌, ◌<◌, ◌≤◌, ◌^◌, ◌+◌, ◌++◌, ℕ, List, IfOk, IfErr, IfSome, IsSome, IsSomeAnd, Some, None, Err, true, length, take};
 ghost use Rattle.markup.specs.Events.{Placed};
 ghost use Rattle.markup.specs.PlainStarts.{PlainStart, plain_start_text};
-ghost use Rattle.markup.specs.Reading.{taken, failed, HasTakenUnder, MayTakeStartUnder, GoesOnUnder, StopsUnder};
+ghost use Rattle.markup.specs.Reading.{bytes_taken, reader_failure, HasTakenUnder, MayTakeStartUnder, GoesOnUnder, StopsUnder};
 ghost use Rattle.markup.specs.Tokenizers.{is_in_text};
 ghost use Rattle.markup.specs.inner.WholeStarts.{IsStartAt};
 
@@ -23,7 +23,7 @@ impl Reader {
     /// `take` tells it with the tag's last byte. Where there is no memory, and after an error, it
     /// answers as `take` does.
     pub fn take_start(&mut self, piece: &[u8], out: &mut Events) -> Result<usize, MarkError>
-        requires { failed self.old ≡ None → taken self.old + length piece.now ≤ 2 ^ 40 }
+        requires { reader_failure self.old ≡ None → bytes_taken self.old + length piece.now ≤ 2 ^ 40 }
         ensures none { IfOk result (λ n. n ≡ 0 → (self.new ≡ self.old) × (out.new ≡ out.old)) }
         ensures within { IfOk result (λ n. n ≤ length piece.now) }
         ensures ok { (limit : ℕ) (bytes : List ℕ) (told : List Placed) → HasTakenUnder limit self.old bytes told →
@@ -32,9 +32,9 @@ impl Reader {
             IfErr result (λ e. StopsUnder limit (bytes ++ piece.now) told out.old out.new e) }
         ensures all { (limit : ℕ) (bytes : List ℕ) (told : List Placed) (tag : PlainStart) (rest : List ℕ) → MayTakeStartUnder limit self.old bytes told tag → piece.now ≡ plain_start_text tag ++ rest →
             IfOk result (λ n. n ≡ length (plain_start_text tag)) }
-        ensures count { IfOk result (λ n. taken self.new ≡ taken self.old + n) }
-        ensures failed { IfErr result (λ e. failed self.new ≡ Some e) }
-        ensures again { (e : MarkError) → failed self.old ≡ Some e → (result ≡ Err e) × (self.new ≡ self.old) × (out.new ≡ out.old) }
+        ensures count { IfOk result (λ n. bytes_taken self.new ≡ bytes_taken self.old + n) }
+        ensures failed { IfErr result (λ e. reader_failure self.new ≡ Some e) }
+        ensures again { (e : MarkError) → reader_failure self.old ≡ Some e → (result ≡ Err e) × (self.new ≡ self.old) × (out.new ≡ out.old) }
     {
         if let Some(error) = self.failed {
             return Err(error);
@@ -48,7 +48,7 @@ impl Reader {
 
     /// Takes such a start tag, where the reader has not failed.
     fn step_start(&mut self, piece: &[u8], out: &mut Events) -> Result<usize, MarkError>
-        requires { taken self.old + length piece.now ≤ 2 ^ 40 }
+        requires { bytes_taken self.old + length piece.now ≤ 2 ^ 40 }
         ensures none { IfOk result (λ n. n ≡ 0 → (self.new ≡ self.old) × (out.new ≡ out.old)) }
         ensures within { IfOk result (λ n. n ≤ length piece.now) }
         ensures ok { (limit : ℕ) (bytes : List ℕ) (told : List Placed) → HasTakenUnder limit self.old bytes told →
@@ -57,7 +57,7 @@ impl Reader {
             IfErr result (λ e. StopsUnder limit (bytes ++ piece.now) told out.old out.new e) }
         ensures all { (limit : ℕ) (bytes : List ℕ) (told : List Placed) (tag : PlainStart) (rest : List ℕ) → MayTakeStartUnder limit self.old bytes told tag → piece.now ≡ plain_start_text tag ++ rest →
             IfOk result (λ n. n ≡ length (plain_start_text tag)) }
-        ensures count { IfOk result (λ n. taken self.new ≡ taken self.old + n) }
+        ensures count { IfOk result (λ n. bytes_taken self.new ≡ bytes_taken self.old + n) }
     {
         let place = self.tokenizer.start();
         let start = match self.next_start(piece) {

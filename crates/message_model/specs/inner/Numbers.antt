@@ -4,7 +4,7 @@ use Rattle.repo_objects.specs.declared.objects.ElementDef.{ElementDef}
 use Rattle.repo_objects.specs.declared.objects.Object.{Object}
 use Rattle.repo_objects.specs.declared.objects.Kinds.{Kinds}
 use Rattle.repo_objects.specs.declared.objects.ObjectKind.TheVariants as object
-use Rattle.repo_objects.specs.Repository.{Entry, Contents}
+use Rattle.repo_objects.specs.Repository.{DictionaryEntry, Contents}
 use Rattle.reference_check.specs.Graph.{Place, references}
 use Rattle.reference_check.specs.Reach.{kind_elements, kind_currency}
 use Rattle.facets.specs.declared.simple.Simple.{Simple}
@@ -19,17 +19,17 @@ use Rattle.message_model.specs.Compiled.{types, place_of, place_word, place_name
 abbrev pub AreNumbers : List ℕ → List ℕ → Type 0
 AreNumbers places numbers = (i k : ℕ) → slice_get places i ≡ Some k → slice_get numbers k ≡ Some (i + 2)
 
-abbrev pub entry_id : Option Entry → List ℕ
+abbrev pub entry_id : Option DictionaryEntry → List ℕ
 entry_id None = []
 entry_id (Some e) = e.id
 
 -- the ids of the objects at the places
-abbrev pub ids_at : List Entry → List ℕ → List (List ℕ)
+abbrev pub ids_at : List DictionaryEntry → List ℕ → List (List ℕ)
 ids_at es [] = []
 ids_at es (k ∷ places) = entry_id (slice_get es k) ∷ ids_at es places
 
 -- the object of that id stands at one of the places
-pub record StandsAt (es : List Entry) (places : List ℕ) (id : List ℕ) : Type 0 where
+pub record StandsAmong (es : List DictionaryEntry) (places : List ℕ) (id : List ℕ) : Type 0 where
   pub position : ℕ
   pub place : ℕ
   pub object : Object
@@ -37,19 +37,19 @@ pub record StandsAt (es : List Entry) (places : List ℕ) (id : List ℕ) : Type
   pub found : slice_get es place ≡ Some (record { id = id; object = object })
 
 -- the element names one object, at one of the places
-pub record NamesPlace (es : List Entry) (places : List ℕ) (e : ElementDef) : Type 0 where
+pub record NamesPlace (es : List DictionaryEntry) (places : List ℕ) (e : ElementDef) : Type 0 where
   pub id : List ℕ
   pub one : references e ≡ id ∷ []
-  pub stands : StandsAt es places id
+  pub stands : StandsAmong es places id
 
 -- so do all of these elements
-abbrev pub NamePlaces : List Entry → List ℕ → List ElementDef → Type 0
+abbrev pub NamePlaces : List DictionaryEntry → List ℕ → List ElementDef → Type 0
 NamePlaces es places elements = (e : ElementDef) → Contains elements e → NamesPlace es places e
 
 -- The object can be compiled: its elements and its currency name objects at the places, its facets are within bounds, and its kind has a form.
 pub record IsCompilable (R : Contents) (places : List ℕ) (o : Object) : Type 0 where
   pub elements : NamePlaces R.objects places (kind_elements o.kind o.elements)
-  pub currency : (c : List ℕ) → kind_currency o.kind o.currency ≡ Some c → StandsAt R.objects places c
+  pub currency : (c : List ℕ) → kind_currency o.kind o.currency ≡ Some c → StandsAmong R.objects places c
   pub facets : HasBadFacets o → ⊥
   pub kind : o.kind ≡ object.Other → ⊥
 
@@ -72,7 +72,7 @@ AreTypesOf R m places _ _ = ⊥
 -- each object at the places can be compiled
 pub record AreCompilable (R : Contents) (places : List ℕ) : Type 0 where
   pub within : All (λ k. k < length R.objects) places
-  pub each : (k : ℕ) (e : Entry) → Contains places k → slice_get R.objects k ≡ Some e → IsCompilable R places e.object
+  pub each : (k : ℕ) (e : DictionaryEntry) → Contains places k → slice_get R.objects k ≡ Some e → IsCompilable R places e.object
 
 -- the same of a data type of this kind with these facets
 abbrev pub IsSimpleLayout : Contents → List ℕ → Object → Kinds → Simple → Form ℕ Simple → Type 0

@@ -1,6 +1,6 @@
 -- How a token goes on with the count of a pattern's positions: the state of a machine, which the contracts of private functions alone cite.
 use Rattle.std.specs.Prelude.{ℕ, ◌+◌, ◌*◌, Option, List, [], ◌∷◌}
-use Rattle.pattern_match.specs.Building.{capped, kept}
+use Rattle.pattern_match.specs.Building.{cap_count, kept_copies}
 use Rattle.pattern_match.specs.declared.token.Token.{Token}
 use Rattle.pattern_match.specs.declared.token.Token.TheVariants.{Open, Close, Bar, Single, Dot, Spaces, ClassStart, Member, Times}
 
@@ -17,7 +17,7 @@ pub record Counting : Type 0 where
 
 -- the positions of the innermost group
 abbrev pub counted_sum : Counted → ℕ
-counted_sum c = capped (c.total + c.last)
+counted_sum c = cap_count (c.total + c.last)
 
 -- behind an atom
 abbrev pub counted_atom : Counted → Counted
@@ -42,7 +42,7 @@ counted_close c = counted_close_of c.outer c
 
 -- behind a quantifier
 abbrev pub counted_times : ℕ → Option ℕ → Counted → Counted
-counted_times least most c = record { outer = c.outer; total = c.total; last = capped (c.last * kept least most) }
+counted_times least most c = record { outer = c.outer; total = c.total; last = cap_count (c.last * kept_copies least most) }
 
 -- behind a token
 abbrev pub counted_after : Token → Counted → Counted
@@ -57,9 +57,9 @@ counted_after (Member low high) c = c
 counted_after (Times least most) c = counted_times least most c
 
 -- behind tokens
-abbrev pub counted : List Token → Counted → Counted
-counted [] c = c
-counted (token ∷ tokens) c = counted tokens (counted_after token c)
+abbrev pub counted_tokens : List Token → Counted → Counted
+counted_tokens [] c = c
+counted_tokens (token ∷ tokens) c = counted_tokens tokens (counted_after token c)
 
 -- before the first token
 abbrev pub nothing_counted : Counted
@@ -67,4 +67,4 @@ nothing_counted = record { outer = []; total = 0; last = 0 }
 
 -- the positions of a whole pattern, up to one more than the limit: it is one group
 abbrev pub counted_whole : List Token → ℕ
-counted_whole tokens = (counted_close (counted tokens (counted_open nothing_counted))).last
+counted_whole tokens = (counted_close (counted_tokens tokens (counted_open nothing_counted))).last

@@ -5,7 +5,7 @@ use Rattle.pattern_match.specs.declared.instruction.Place.{Place}
 use Rattle.pattern_match.specs.declared.instruction.Group.{Group}
 use Rattle.pattern_match.specs.declared.token.Token.{Token}
 use Rattle.pattern_match.specs.declared.token.Token.TheVariants.{Open, Close, Bar, Member, Times}
-use Rattle.pattern_match.specs.Building.{Built, flagged}
+use Rattle.pattern_match.specs.Building.{Built, add_flags}
 
 -- the instructions that the cells have
 abbrev pub live : List (Option Instruction) → List Instruction
@@ -14,8 +14,8 @@ live (None ∷ cells) = live cells
 live (Some i ∷ cells) = i ∷ live cells
 
 -- each instruction in a cell
-abbrev pub full : List Instruction → List (Option Instruction)
-full code = map (λ i. Some i) code
+abbrev pub full_cells : List Instruction → List (Option Instruction)
+full_cells code = map (λ i. Some i) code
 
 -- the first cell, where there is one, is not empty
 abbrev pub Leads : List (Option Instruction) → Type 0
@@ -26,7 +26,7 @@ Leads (Some i ∷ cells) = Unit {0}
 -- a cell with these flags too
 abbrev pub flagged_cell : Bool → Bool → Option Instruction → Option Instruction
 flagged_cell optional repeated None = None
-flagged_cell optional repeated (Some i) = Some (flagged optional repeated i)
+flagged_cell optional repeated (Some i) = Some (add_flags optional repeated i)
 
 -- cells with these flags on the first one too
 abbrev pub flagged_cells : Bool → Bool → List (Option Instruction) → List (Option Instruction)
@@ -34,13 +34,13 @@ flagged_cells optional repeated [] = []
 flagged_cells optional repeated (c ∷ cells) = flagged_cell optional repeated c ∷ cells
 
 -- the item of a group, in the place of the `Open` and of the item: it may be left out where the group may
-abbrev pub lifted : Bool → List (Option Instruction) → List (Option Instruction)
-lifted empty [] = []
-lifted empty (c ∷ cells) = flagged_cell empty false c ∷ None ∷ cells
+abbrev pub lift_group : Bool → List (Option Instruction) → List (Option Instruction)
+lift_group empty [] = []
+lift_group empty (c ∷ cells) = flagged_cell empty false c ∷ None ∷ cells
 
 -- where the next instruction stands
-abbrev pub end_of : List (Option Instruction) → Place
-end_of cells = record { cell = length cells; count = length (live cells) }
+abbrev pub next_cell_place : List (Option Instruction) → Place
+next_cell_place cells = record { cell = length cells; count = length (live cells) }
 
 -- the last instruction is gone, and the empty cells behind it
 pub record Loses (old new : List (Option Instruction)) : Type 0 where
@@ -61,23 +61,23 @@ pub record IsGroup (cells : List (Option Instruction)) (place : Place) : Type 0 
   pub inside : Leads (drop (place.cell + 1) cells)
 
 -- a group is begun at the place
-pub record IsBegun (cells : List (Option Instruction)) (place : Place) : Type 0 where
+pub record IsGroupBegun (cells : List (Option Instruction)) (place : Place) : Type 0 where
   pub group : IsGroup cells place
   pub here : place.cell < length cells
 
 -- what stands before the place has stayed, and a piece may begin there
-pub record Keeps (old new : List (Option Instruction)) (place : Place) : Type 0 where
+pub record KeepsFront (old new : List (Option Instruction)) (place : Place) : Type 0 where
   pub front : take place.cell new ≡ take place.cell old
   pub place_is : IsPlace new place
 
 -- where a group begins
-abbrev pub place_of : Group → Place
-place_of g = record { cell = g.cell; count = g.around.start }
+abbrev pub group_place : Group → Place
+group_place g = record { cell = g.cell; count = g.around.start }
 
 -- the groups are begun, the innermost first
 abbrev pub AreBegun : List (Option Instruction) → List Group → Type 0
 AreBegun cells [] = Leads cells
-AreBegun cells (g ∷ groups) = IsBegun cells (place_of g) × AreBegun (take g.cell cells) groups
+AreBegun cells (g ∷ groups) = IsGroupBegun cells (group_place g) × AreBegun (take g.cell cells) groups
 
 -- what is built, and the cells, the groups and the cell that it stands in
 pub record Drafted : Type 0 where
@@ -91,21 +91,21 @@ abbrev pub last_place : Drafted → Place
 last_place d = record { cell = d.cell; count = d.built.start }
 
 -- the last piece may be repeated
-pub record IsReady (d : Drafted) : Type 0 where
+pub record MayRepeatLast (d : Drafted) : Type 0 where
   pub place : IsPlace d.cells (last_place d)
   pub begun : AreBegun (take d.cell d.cells) d.groups
 
 -- a token may come next
-abbrev pub MayTake : Token → Drafted → Type 0
-MayTake (Times least most) d = IsReady d
-MayTake token d = AreBegun d.cells d.groups
+abbrev pub MayTakeToken : Token → Drafted → Type 0
+MayTakeToken (Times least most) d = MayRepeatLast d
+MayTakeToken token d = AreBegun d.cells d.groups
 
 -- how many groups are begun behind a token
-abbrev pub depth_after : Token → ℕ → ℕ
-depth_after Open n = suc n
-depth_after Close zero = zero
-depth_after Close (suc n) = n
-depth_after token n = n
+abbrev pub groups_begun : Token → ℕ → ℕ
+groups_begun Open n = suc n
+groups_begun Close zero = zero
+groups_begun Close (suc n) = n
+groups_begun token n = n
 
 -- whether a piece stands directly before the next token
 abbrev pub ready_after : Token → ℕ → Bool → Bool
@@ -124,17 +124,17 @@ MayFollow token ready = Unit {0}
 -- each quantifier stands behind a piece, where so many groups are begun, and a piece stands before or not
 abbrev pub AreFollowing : ℕ → Bool → List Token → Type 0
 AreFollowing n ready [] = Unit {0}
-AreFollowing n ready (token ∷ tokens) = MayFollow token ready × AreFollowing (depth_after token n) (ready_after token n ready) tokens
+AreFollowing n ready (token ∷ tokens) = MayFollow token ready × AreFollowing (groups_begun token n) (ready_after token n ready) tokens
 
 -- what a token leaves
 pub record Leaves (token : Token) (old new : Drafted) : Type 0 where
   pub begun : AreBegun new.cells new.groups
-  pub depth : length new.groups ≡ depth_after token (length old.groups)
-  pub ready : (ready : Bool) → (IsTrue ready → IsReady old) → IsTrue (ready_after token (length old.groups) ready) → IsReady new
+  pub depth : length new.groups ≡ groups_begun token (length old.groups)
+  pub ready : (ready : Bool) → (IsTrue ready → MayRepeatLast old) → IsTrue (ready_after token (length old.groups) ready) → MayRepeatLast new
 
 -- the tokens may come next
 pub record IsFed (d : Drafted) (tokens : List Token) : Type 0 where
   pub ready : Bool
   pub begun : AreBegun d.cells d.groups
-  pub is_ready : IsTrue ready → IsReady d
+  pub is_ready : IsTrue ready → MayRepeatLast d
   pub follow : AreFollowing (length d.groups) ready tokens

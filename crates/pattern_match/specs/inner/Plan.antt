@@ -37,20 +37,20 @@ Flagged false true P w = (k : ℕ) × Repeats P (suc k) w
 Flagged true true P w = Star P w
 
 -- words of one character that the atom at a token takes
-abbrev pub IsTaken : (ℕ → ℕ → Type 0) → ℕ → List ℕ → Type 0
-IsTaken Takes at w = (c : ℕ) × (w ≡ c ∷ []) × Takes at c
+abbrev pub IsTakenAt : (ℕ → ℕ → Type 0) → ℕ → List ℕ → Type 0
+IsTakenAt Takes at w = (c : ℕ) × (w ≡ c ∷ []) × Takes at c
 
 -- its words
 abbrev pub PlanLang : (ℕ → ℕ → Type 0) → Plan → List ℕ → Type 0
 PlanLang Takes Nothing w = w ≡ []
-PlanLang Takes (One at optional repeated rest) w = IsBoth (Flagged optional repeated (IsTaken Takes at)) (PlanLang Takes rest) w
+PlanLang Takes (One at optional repeated rest) w = IsBoth (Flagged optional repeated (IsTakenAt Takes at)) (PlanLang Takes rest) w
 PlanLang Takes (Many inner optional repeated rest) w = IsBoth (Flagged optional repeated (PlanLang Takes inner)) (PlanLang Takes rest) w
 PlanLang Takes (Either branch rest) w = PlanLang Takes branch w ⊎ PlanLang Takes rest w
 
 -- where a part may begin: where the first may, and behind each where it may be repeated
-abbrev pub Begins : Bool → (List ℕ → Type 0) → (List ℕ → Type 0) → List ℕ → Type 0
-Begins false A P w = A w
-Begins true A P w = IsBoth A (Star P) w
+abbrev pub BeginsPart : Bool → (List ℕ → Type 0) → (List ℕ → Type 0) → List ℕ → Type 0
+BeginsPart false A P w = A w
+BeginsPart true A P w = IsBoth A (Star P) w
 
 -- a word of A and then one of P that is not empty
 abbrev pub Ends : (List ℕ → Type 0) → (List ℕ → Type 0) → List ℕ → Type 0
@@ -60,11 +60,11 @@ Ends A P w = (u : List ℕ) × (v : List ℕ) × (w ≡ u ++ v) × (v ≢ []) ×
 abbrev pub Marked : (ℕ → ℕ → Type 0) → Plan → (List ℕ → Type 0) → List ℕ → List Bool → List Bool → Type 0
 Marked Takes Nothing A w marks more = marks ≡ more
 Marked Takes (One at optional repeated rest) A w marks more =
-    (mark : Bool) × (later : List Bool) × (marks ≡ mark ∷ later) × (IsTrue mark ↔ Begins repeated A (IsTaken Takes at) w)
-    × Marked Takes rest (IsBoth A (Flagged optional repeated (IsTaken Takes at))) w later more
+    (mark : Bool) × (later : List Bool) × (marks ≡ mark ∷ later) × (IsTrue mark ↔ BeginsPart repeated A (IsTakenAt Takes at) w)
+    × Marked Takes rest (IsBoth A (Flagged optional repeated (IsTakenAt Takes at))) w later more
 Marked Takes (Many inner optional repeated rest) A w marks more =
     (mark : Bool) × (within : List Bool) × (end : Bool) × (later : List Bool) × (marks ≡ mark ∷ within)
-    × Marked Takes inner (Begins repeated A (PlanLang Takes inner)) w within (end ∷ later)
+    × Marked Takes inner (BeginsPart repeated A (PlanLang Takes inner)) w within (end ∷ later)
     × Marked Takes rest (IsBoth A (Flagged optional repeated (PlanLang Takes inner))) w later more
 Marked Takes (Either branch rest) A w marks more =
     (mark : Bool) × (later : List Bool) × Marked Takes branch A w marks (mark ∷ later) × Marked Takes rest A w later more

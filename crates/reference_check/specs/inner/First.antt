@@ -1,6 +1,6 @@
 -- The first that breaks a rule.
 use Rattle.std.specs.Prelude.{◌≡◌, ℕ, ◌<◌, List, Option, Some, None, slice_get}
-use Rattle.repo_objects.specs.Repository.{Entry, Contents}
+use Rattle.repo_objects.specs.Repository.{DictionaryEntry, Contents}
 use Rattle.reference_check.specs.declared.breaker.Breaker.{Breaker}
 use Rattle.reference_check.specs.declared.breaker.Breaker.TheVariants.{Object, Message}
 use Rattle.reference_check.specs.Graph.{Place, message, entry}
@@ -15,7 +15,7 @@ pub record IsFirst (R : Contents) (m : List ℕ) (rule : Rule) (p : Place) : Typ
 
 -- the place of what breaks a rule: an object by its place in file order, or the message
 abbrev pub IsPlaceOf : Contents → Breaker → Place → Type 0
-IsPlaceOf R (Object k) p = (e : Entry) × (slice_get R.objects k ≡ Some e) × (p ≡ entry e.id)
+IsPlaceOf R (Object k) p = (e : DictionaryEntry) × (slice_get R.objects k ≡ Some e) × (p ≡ entry e.id)
 IsPlaceOf R Message p = p ≡ message
 
 -- what breaks the rule first, if something that is reached does

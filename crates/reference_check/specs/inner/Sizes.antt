@@ -20,5 +20,5 @@ abbrev pub IsTooLarge : Contents → Object → Type 0
 IsTooLarge R o = (4096 < length (kind_elements o.kind o.elements)) ⊎ HasTooMuch R o
 
 -- the same without the texts of its codes
-abbrev pub IsTooLong : Object → Type 0
-IsTooLong o = (4096 < length (kind_elements o.kind o.elements)) ⊎ (65536 < length (set_codes o)) ⊎ HasLongPattern o
+abbrev pub IsTooLongObject : Object → Type 0
+IsTooLongObject o = (4096 < length (kind_elements o.kind o.elements)) ⊎ (65536 < length (set_codes o)) ⊎ HasLongPattern o

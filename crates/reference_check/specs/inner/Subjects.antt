@@ -9,7 +9,7 @@ use Rattle.reference_check.specs.declared.subject.Subject.{Subject}
 use Rattle.reference_check.specs.declared.subject.Subject.TheVariants.{Entry, Message}
 use Rattle.reference_check.specs.declared.structure.StructureRule.{StructureRule}
 use Rattle.reference_check.specs.declared.structure.StructureRule.TheVariants as asked
-use Rattle.reference_check.specs.Graph.{Place, message, entry, find_entry, find_message, references, given}
+use Rattle.reference_check.specs.Graph.{Place, message, entry, find_entry, find_message, references, given_id}
 use Rattle.reference_check.specs.Reach.{kind_elements, kind_currency}
 use Rattle.reference_check.specs.Rules as rule
 use Rattle.reference_check.specs.Rules.{Rule, HasNoEntry, IsTextKind, HasBadName, UpToMax}
@@ -34,20 +34,20 @@ subject_names (Message d) = d.now.name ∷ (d.now.tag ∷ [])
 
 -- the ids that it refers to
 abbrev pub subject_targets : Subject → List (List ℕ)
-subject_targets s = flat_map references (subject_elements s) ++ given (subject_currency s)
+subject_targets s = flat_map references (subject_elements s) ++ given_id (subject_currency s)
 
 -- ---- the rules of structure
 
 -- what is asked, as a rule
-abbrev pub rule_of : StructureRule → Rule
-rule_of asked.Dangling = rule.Dangling
-rule_of asked.BadCurrency = rule.BadCurrency
-rule_of asked.NotOneReference = rule.NotOneReference
-rule_of asked.BadName = rule.BadName
-rule_of asked.TagTwice = rule.TagTwice
-rule_of asked.BadBounds = rule.BadBounds
-rule_of asked.OptionalAlternative = rule.OptionalAlternative
-rule_of asked.NoAlternatives = rule.NoAlternatives
+abbrev pub asked_rule : StructureRule → Rule
+asked_rule asked.Dangling = rule.Dangling
+asked_rule asked.BadCurrency = rule.BadCurrency
+asked_rule asked.NotOneReference = rule.NotOneReference
+asked_rule asked.BadName = rule.BadName
+asked_rule asked.TagTwice = rule.TagTwice
+asked_rule asked.BadBounds = rule.BadBounds
+asked_rule asked.OptionalAlternative = rule.OptionalAlternative
+asked_rule asked.NoAlternatives = rule.NoAlternatives
 
 -- an id among these names no entry
 abbrev pub NamesNoEntry : Contents → List (List ℕ) → Type 0
@@ -67,8 +67,8 @@ NamesNotOne es = (e : ElementDef) × Contains es e × (length (references e) ≡
 abbrev pub HasTagTwice : List ElementDef → Type 0
 HasTagTwice es = (i : ℕ) × (j : ℕ) × (a : ElementDef) × (b : ElementDef) × (i < j) × (slice_get es i ≡ Some a) × (slice_get es j ≡ Some b) × (a.tag ≡ b.tag)
 
-abbrev pub HasBadBounds : List ElementDef → Type 0
-HasBadBounds es = (e : ElementDef) × Contains es e × (UpToMax e.min e.max → ⊥)
+abbrev pub HasBadElementBounds : List ElementDef → Type 0
+HasBadElementBounds es = (e : ElementDef) × Contains es e × (UpToMax e.min e.max → ⊥)
 
 abbrev pub IsOptionalChoice : Object → Type 0
 IsOptionalChoice o = (o.kind ≡ Choice) × (e : ElementDef) × Contains o.elements e × (e.min ≡ 0)
@@ -82,12 +82,12 @@ OfEntry (Entry o) Says = Says o.now
 OfEntry (Message d) Says = ⊥
 
 -- it breaks the rule
-abbrev pub BreaksRule : Contents → StructureRule → Subject → Type 0
-BreaksRule R asked.Dangling s = HasDangling R (subject_elements s) (subject_currency s)
-BreaksRule R asked.BadCurrency s = HasBadCurrency R (subject_currency s)
-BreaksRule R asked.NotOneReference s = NamesNotOne (subject_elements s)
-BreaksRule R asked.BadName s = HasBadName (subject_names s ++ map (λ (e : ElementDef). e.tag) (subject_elements s))
-BreaksRule R asked.TagTwice s = HasTagTwice (subject_elements s)
-BreaksRule R asked.BadBounds s = HasBadBounds (subject_elements s)
-BreaksRule R asked.OptionalAlternative s = OfEntry s IsOptionalChoice
-BreaksRule R asked.NoAlternatives s = OfEntry s IsEmptyChoice
+abbrev pub BreaksStructureRule : Contents → StructureRule → Subject → Type 0
+BreaksStructureRule R asked.Dangling s = HasDangling R (subject_elements s) (subject_currency s)
+BreaksStructureRule R asked.BadCurrency s = HasBadCurrency R (subject_currency s)
+BreaksStructureRule R asked.NotOneReference s = NamesNotOne (subject_elements s)
+BreaksStructureRule R asked.BadName s = HasBadName (subject_names s ++ map (λ (e : ElementDef). e.tag) (subject_elements s))
+BreaksStructureRule R asked.TagTwice s = HasTagTwice (subject_elements s)
+BreaksStructureRule R asked.BadBounds s = HasBadElementBounds (subject_elements s)
+BreaksStructureRule R asked.OptionalAlternative s = OfEntry s IsOptionalChoice
+BreaksStructureRule R asked.NoAlternatives s = OfEntry s IsEmptyChoice

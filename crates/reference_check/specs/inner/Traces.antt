@@ -2,7 +2,7 @@
 use Rattle.std.specs.Prelude.{ℕ, List, Option, Some, None}
 use Rattle.repo_objects.specs.declared.objects.CodeDef.{CodeDef}
 use Rattle.repo_objects.specs.declared.objects.Object.{Object}
-use Rattle.repo_objects.specs.Repository.{Entry}
+use Rattle.repo_objects.specs.Repository.{DictionaryEntry}
 use Rattle.reference_check.specs.Graph.{find_entry}
 use Rattle.reference_check.specs.CodeTexts.{find_code}
 
@@ -17,6 +17,6 @@ code_in name None = None
 code_in name (Some o) = with_object o (find_code name o.codes)
 
 -- the code of that name in the object that a trace names
-abbrev pub code_traced : List Entry → List ℕ → Option (List ℕ) → Option (Object × CodeDef)
+abbrev pub code_traced : List DictionaryEntry → List ℕ → Option (List ℕ) → Option (Object × CodeDef)
 code_traced es name None = None
 code_traced es name (Some id) = code_in name (find_entry id es)

@@ -6,7 +6,7 @@ use Rattle.repo_objects.specs.Repository.{Contents}
 use Rattle.code_sets.specs.declared.errors.CodesError.{CodesError}
 use Rattle.code_sets.specs.declared.errors.CodesError.TheVariants as codes_error
 use Rattle.code_sets.specs.declared.record.CodeRecord.{CodeRecord}
-use Rattle.code_sets.specs.Codes.{Reads, limit}
+use Rattle.code_sets.specs.Codes.{ReadsCodes, codes_limit}
 use Rattle.repo_loader.specs.Loaded.{Spells}
 use Rattle.repo_loader.specs.declared.fault.LoadError.{LoadError}
 use Rattle.repo_loader.specs.declared.fault.LoadError.TheVariants as load_error
@@ -20,30 +20,30 @@ use Rattle.transcoder.specs.declared.trans_error.TransError.TheVariants as trans
 use Rattle.repo_engine.specs.declared.refusal.Stop.{Stop}
 use Rattle.repo_engine.specs.declared.refusal.Stop.TheVariants.{Refused, ReadFault, WriteFault, Memory}
 use Rattle.repo_engine.specs.declared.refusal.Refusal.TheVariants.{Words, Repository, Codes, Message, Instance}
-use Rattle.repo_engine.specs.Answer.{Of, RefusesFile, RefusesCodes, RefusesMessage, GivesRepository, GivesTables}
-use Rattle.repo_engine.specs.Command.{Command, pulled, hands_in}
-use Rattle.repo_engine.specs.Run.{End, GoesOut, Tells}
-use Rattle.repo_engine.specs.Sources.{Use, AreUsed, Ended, IsRead, Untouched, Failing, Refusing, Whole, ended_of}
+use Rattle.repo_engine.specs.Answer.{Of, TellsFileFault, RefusesCodes, RefusesMessage, GivesRepository, GivesTables}
+use Rattle.repo_engine.specs.Command.{Command, pulled_by, hands_in}
+use Rattle.repo_engine.specs.Run.{End, GoesOut, TellsVerdict}
+use Rattle.repo_engine.specs.Sources.{Use, AreUsed, Ended, IsSourceRead, Untouched, Failing, Refusing, Whole, source_ended_of}
 use Rattle.repo_engine.specs.Verdict.{Verdict, refused}
 
 -- the sources that a command pulls from have these bytes left
 pub record HaveLeft (command : Command) (repo_left codes_left inst_left : Option (List ℕ)) (r c i : List ℕ) : Type 0 where
-  pub repository : (pulled command).repository ≡ true → repo_left ≡ Some r
-  pub codes : (pulled command).codes ≡ true → codes_left ≡ Some c
-  pub instance : (pulled command).instance ≡ true → inst_left ≡ Some i
+  pub repository : (pulled_by command).repository ≡ true → repo_left ≡ Some r
+  pub codes : (pulled_by command).codes ≡ true → codes_left ≡ Some c
+  pub instance : (pulled_by command).instance ≡ true → inst_left ≡ Some i
 
 -- what a command does
 pub record Carries {R C I O : Type 0} (command : Command) (repo : Use R) (codes : Use C) (inst : Use I)
     (held : O → Option (List ℕ)) (faults : O → ℕ) (old new : O) (end : End) : Type 0 where
   pub no_words : end ≢ Err (Refused Words)
-  pub sources : AreUsed (pulled command).repository (pulled command).codes (pulled command).instance (ended_of end) repo codes inst
+  pub sources : AreUsed (pulled_by command).repository (pulled_by command).codes (pulled_by command).instance (source_ended_of end) repo codes inst
   pub verdict : (r c i : List ℕ) → HaveLeft command (repo.left repo.old) (codes.left codes.old) (inst.left inst.old) r c i
-      → Tells (Of command r c i) end (held old) (held new)
+      → TellsVerdict (Of command r c i) end (held old) (held new)
   pub out : GoesOut held faults old new end
 
 -- the bytes are not too many, and say these codes
 abbrev pub IsCodesText : List ℕ → List CodeRecord → Type 0
-IsCodesText bytes lists = (length bytes ≤ limit) × Reads bytes lists
+IsCodesText bytes lists = (length bytes ≤ codes_limit) × ReadsCodes bytes lists
 
 -- a stop that refuses tells this refusal
 abbrev pub StopsBy : (Verdict → Type 0) → Stop → Type 0
@@ -106,11 +106,11 @@ IsOfInput Memory = Unit {0}
 -- a source that is read, where it is asked
 pub data IsReadIf {S : Type 0} (asked : Bool) (ended : Ended) (u : Use S) : Type 0 where
   unasked : asked ≡ false → ended ≡ Whole → Untouched u → IsReadIf asked ended u
-  asked : asked ≡ true → IsRead ended u → IsReadIf asked ended u
+  asked : asked ≡ true → IsSourceRead ended u → IsReadIf asked ended u
 
 -- why there is no repository with its codes
 abbrev pub RefusesRepository : List ℕ → List ℕ → List ℕ → Verdict → Type 0
-RefusesRepository codes_word r c v = RefusesFile r v ⊎ ((own : Contents) × Spells r own × RefusesCodes codes_word own c v)
+RefusesRepository codes_word r c v = TellsFileFault r v ⊎ ((own : Contents) × Spells r own × RefusesCodes codes_word own c v)
 
 -- the bytes that reading a repository with that word for its codes needs
 pub record FilesHaveLeft (codes_word : List ℕ) (repo_left codes_left : Option (List ℕ)) (r c : List ℕ) : Type 0 where
@@ -120,7 +120,7 @@ pub record FilesHaveLeft (codes_word : List ℕ) (repo_left codes_left : Option 
 -- a source that the verb reads, or leaves alone; then its end is none of input
 pub data IsReadAs {S : Type 0} (reads : Bool) (ended : Ended) (u : Use S) : Type 0 where
   unread : reads ≡ false → ended ≢ Failing → ended ≢ Refusing → Untouched u → IsReadAs reads ended u
-  read : reads ≡ true → IsRead ended u → IsReadAs reads ended u
+  read : reads ≡ true → IsSourceRead ended u → IsReadAs reads ended u
 
 -- the compiled message, or why there is none
 abbrev pub GivesMessage : List ℕ → List ℕ → List ℕ → List ℕ → Tables → Type 0

@@ -3,14 +3,14 @@ use Rattle.std.specs.Prelude.{◌≡◌, ◌||◌, Bool, true, false, if◌then�
 use Rattle.repo_objects.specs.declared.objects.CodeDef.{CodeDef}
 use Rattle.repo_objects.specs.declared.objects.ElementDef.{ElementDef}
 use Rattle.repo_objects.specs.Objects.{HasMessageTexts}
-use Rattle.repo_objects.specs.Repository.{Entry, HasId, HasEntryTexts}
+use Rattle.repo_objects.specs.Repository.{DictionaryEntry, HasId, HasEntryTexts}
 use Rattle.repo_loader.specs.declared.loading.OpenEntry.{OpenEntry}
 use Rattle.repo_loader.specs.declared.loading.Loading.{Loading}
-use Rattle.repo_loader.specs.Selected.{Tag}
+use Rattle.repo_loader.specs.Selected.{FileTag}
 use Rattle.repo_loader.specs.declared.loading.OpenMessage.{OpenMessage}
 use Rattle.repo_objects.specs.declared.objects.MessageDef.{MessageDef}
 use Rattle.repo_loader.specs.inner.FileSteps.{has_stop}
-use Rattle.repo_loader.specs.File.{objects, entry, is_message, is_message_tag, messages, message, behind, own_blocks, own_identifiers, first_of, element, code, identifier}
+use Rattle.repo_loader.specs.File.{objects, entry, is_message, is_message_tag, messages, message, behind, own_blocks, own_identifiers, first_or_empty, element, code, message_identifier}
 use Rattle.repo_loader.specs.declared.part.Part.{Part}
 use Rattle.repo_loader.specs.declared.part.Part.TheVariants.{Element, Alternative, Code, Block, Identifier}
 use Rattle.repo_loader.specs.FileFaults.{HasNumbers}
@@ -29,15 +29,15 @@ abbrev pub AreTexts : List Attribute → Type 0
 AreTexts attributes = AllByRecursion (λ (a : Attribute). IsXmlText a.value) attributes
 
 -- the open entry, as one of the data dictionary
-abbrev pub entry_is : OpenEntry → Entry
+abbrev pub entry_is : OpenEntry → DictionaryEntry
 entry_is o = record { id = o.id; object = o.object }
 
-abbrev pub entry_list : Option OpenEntry → List Entry
+abbrev pub entry_list : Option OpenEntry → List DictionaryEntry
 entry_list None = []
 entry_list (Some o) = entry_is o ∷ []
 
 -- its id is new, and its texts are texts
-abbrev pub IsNew : List Entry → Option OpenEntry → Type 0
+abbrev pub IsNew : List DictionaryEntry → Option OpenEntry → Type 0
 IsNew objects None = Unit {0}
 IsNew objects (Some o) = (HasId objects o.id → ⊥) × HasEntryTexts (entry_is o)
 
@@ -50,12 +50,12 @@ with_element e None = None
 with_element e (Some o) = Some (record { id = o.id; object = record o.object { elements = o.object.elements ++ e ∷ [] } })
 
 -- the tags of the elements that were read say these objects; before the first entry there is none
-pub record HasObjects (l : Loading) (tags : List Tag) : Type 0 where
+pub record HasObjects (l : Loading) (tags : List FileTag) : Type 0 where
   pub objects_are : objects tags ≡ l.repository.objects ++ entry_list l.entry
   pub none_before : l.entry ≡ None → l.repository.objects ≡ []
 
 -- some object has the id, where there is one
-abbrev pub HasIdIn : List Entry → Option (List ℕ) → Type 0
+abbrev pub HasIdIn : List DictionaryEntry → Option (List ℕ) → Type 0
 HasIdIn objects None = ⊥
 HasIdIn objects (Some id) = HasId objects id
 
@@ -67,10 +67,10 @@ pub record OpensEntry (old new : Loading) (kind : ObjectKind) (attributes : List
   pub same : entry_is holds ≡ entry kind attributes []
 
 -- the open message is the one of the last message's tag, and knows whether an identifier came
-pub record LastMessage (o : OpenMessage) (closed : List MessageDef) (tags : List Tag) : Type 0 where
-  pub before : List Tag
-  pub tag : Tag
-  pub after : List Tag
+pub record LastMessage (o : OpenMessage) (closed : List MessageDef) (tags : List FileTag) : Type 0 where
+  pub before : List FileTag
+  pub tag : FileTag
+  pub after : List FileTag
   pub tags_are : tags ≡ before ++ tag ∷ after
   pub is : is_message tag.part ≡ true
   pub last : has_stop is_message_tag after ≡ false
@@ -79,20 +79,20 @@ pub record LastMessage (o : OpenMessage) (closed : List MessageDef) (tags : List
   pub identified : o.identified ≡ is_some_list (behind is_message_tag own_identifiers after)
 
 -- no message's tag came, or the open message is that of the last
-abbrev pub HasMessages : Option OpenMessage → List MessageDef → List Tag → Type 0
+abbrev pub HasMessages : Option OpenMessage → List MessageDef → List FileTag → Type 0
 HasMessages None closed tags = (closed ≡ []) × (has_stop is_message_tag tags ≡ false)
 HasMessages (Some o) closed tags = LastMessage o closed tags
 
 -- what one more tag, which is no message's, makes of the open message
-abbrev pub grown : Tag → OpenMessage → OpenMessage
-grown t o = record {
-  message = record o.message { blocks = o.message.blocks ++ own_blocks t; id = if o.identified then o.message.id else first_of (own_identifiers t) };
+abbrev pub grow_message : FileTag → OpenMessage → OpenMessage
+grow_message t o = record {
+  message = record o.message { blocks = o.message.blocks ++ own_blocks t; id = if o.identified then o.message.id else first_or_empty (own_identifiers t) };
   identified = o.identified || is_some_list (own_identifiers t);
 }
 
-abbrev pub grown_if : Tag → Option OpenMessage → Option OpenMessage
+abbrev pub grown_if : FileTag → Option OpenMessage → Option OpenMessage
 grown_if t None = None
-grown_if t (Some o) = Some (grown t o)
+grown_if t (Some o) = Some (grow_message t o)
 
 -- the messages so far are those that are closed, and the open one
 abbrev pub open_messages : Option OpenMessage → List MessageDef
@@ -127,7 +127,7 @@ entry_after _ attributes o = o
 
 abbrev pub message_after : Part → List Attribute → Option OpenMessage → Option OpenMessage
 message_after Block attributes o = with_block (element 0 attributes) o
-message_after Identifier attributes o = with_identifier (identifier attributes) o
+message_after Identifier attributes o = with_identifier (message_identifier attributes) o
 message_after _ attributes o = o
 
 -- the tag gives what is open its own
@@ -138,6 +138,6 @@ pub record TakesOther (old new : Loading) (part : Part) (attributes : List Attri
   pub numbers : HasNumbers part attributes
 
 -- these tags say what is read
-pub record HasTags (l : Loading) (tags : List Tag) : Type 0 where
+pub record HasTags (l : Loading) (tags : List FileTag) : Type 0 where
   pub objects : HasObjects l tags
   pub messages : HasMessages l.message l.repository.messages tags

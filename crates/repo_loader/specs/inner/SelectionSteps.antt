@@ -8,8 +8,8 @@ use Rattle.markup.specs.declared.event.Event.{Event}
 use Rattle.repo_loader.specs.declared.fault.LoadFault.{LoadFault}
 use Rattle.repo_loader.specs.declared.loading.Loading.{Loading}
 use Rattle.repo_loader.specs.declared.selection.Selection.{Selection}
-use Rattle.repo_loader.specs.Selected.{Tag, event_tags, open_after}
-use Rattle.repo_loader.specs.FileFaults.{AreSound, IsFirstBroken, tags_of}
+use Rattle.repo_loader.specs.Selected.{FileTag, event_tags, parts_open_after}
+use Rattle.repo_loader.specs.FileFaults.{AreSoundTags, IsFirstBroken, tags_of}
 use Rattle.repo_loader.specs.inner.LoadingSteps.{AreTexts, CanClose, CanCloseMessage, HasTags}
 
 -- the values of an event's attributes are texts
@@ -22,7 +22,7 @@ abbrev pub HaveTexts : List Event → Type 0
 HaveTexts events = AllByRecursion (λ (e : Event). HasItemTexts (item_of e.what)) events
 
 -- the elements that these events start and that are read
-abbrev pub tags_told : List Placed → List Tag
+abbrev pub tags_told : List Placed → List FileTag
 tags_told told = tags_of (event_tags [] told)
 
 -- what is open can be closed
@@ -32,8 +32,8 @@ pub record CanEnd (l : Loading) : Type 0 where
 
 -- What these events say is read, and none of their elements breaks a rule.
 pub record HasLoaded (s : Selection) (told : List Placed) : Type 0 where
-  pub open_are : reverse s.open_parts.items ≡ open_after [] told
-  pub sound : AreSound [] (event_tags [] told)
+  pub open_are : reverse s.open_parts.items ≡ parts_open_after [] told
+  pub sound : AreSoundTags [] (event_tags [] told)
   pub tags : HasTags s.loading (tags_told told)
   pub closes : CanEnd s.loading
 

@@ -5,8 +5,8 @@ use Rattle.repo_loader.specs.declared.stop.Stop.{Stop}
 use Rattle.repo_loader.specs.declared.stop.Stop.TheVariants.{Rule, Memory}
 use Rattle.std.specs.Prelude.{ℕ, ◌≤◌}
 use Rattle.repo_objects.specs.declared.objects.ObjectKind.{ObjectKind}
-use Rattle.repo_loader.specs.Selected.{Tag}
-use Rattle.repo_loader.specs.FileFaults.{HasOccurrences, HasFacetNumbers, HasNumbers, Breaks}
+use Rattle.repo_loader.specs.Selected.{FileTag}
+use Rattle.repo_loader.specs.FileFaults.{HasOccurrences, HasFacetNumbers, HasNumbers, BreaksTagRule}
 use Rattle.repo_loader.specs.declared.part.Part.{Part}
 
 -- its numbers are none
@@ -19,14 +19,14 @@ TellsFacets kind attributes (Rule n) = (n ≡ 4) × (HasFacetNumbers kind attrib
 TellsFacets kind attributes Memory = Unit {0}
 
 -- behind these elements the element breaks no rule, or this is the least
-abbrev pub IsSoundTag : List Tag → Tag → Type 0
-IsSoundTag tags t = (rule : ℕ) → Breaks tags t rule → ⊥
+abbrev pub IsSoundTag : List FileTag → FileTag → Type 0
+IsSoundTag tags t = (rule : ℕ) → BreaksTagRule tags t rule → ⊥
 
-abbrev pub IsLeastBroken : List Tag → Tag → ℕ → Type 0
-IsLeastBroken tags t rule = Breaks tags t rule × ((other : ℕ) → Breaks tags t other → rule ≤ other)
+abbrev pub IsLeastTagRule : List FileTag → FileTag → ℕ → Type 0
+IsLeastTagRule tags t rule = BreaksTagRule tags t rule × ((other : ℕ) → BreaksTagRule tags t other → rule ≤ other)
 
-abbrev pub TellsStop : List Tag → Tag → Stop → Type 0
-TellsStop tags t (Rule n) = IsLeastBroken tags t n
+abbrev pub TellsStop : List FileTag → FileTag → Stop → Type 0
+TellsStop tags t (Rule n) = IsLeastTagRule tags t n
 TellsStop tags t Memory = Unit {0}
 
 abbrev pub TellsNumbers : Part → List Attribute → Stop → Type 0

@@ -4,7 +4,7 @@ use Rattle.lexical_core.specs.Tree.{Item, Starts, Char, Ends, Skipped, Tree}
 use Rattle.markup.specs.Marks.{no_limit}
 use Rattle.markup.specs.Events.{Placed}
 use Rattle.markup.specs.EventItems.{item_of}
-use Rattle.markup.specs.Reading.{taken, HasTakenUnder}
+use Rattle.markup.specs.Reading.{bytes_taken, HasTakenUnder}
 use Rattle.markup.specs.declared.event.Event.{Event}
 use Rattle.fragments.specs.Plain.{IsPlain}
 use Rattle.fragments.specs.Fragment.{fragment}
@@ -40,12 +40,12 @@ pub record IsFragment (bytes : List ℕ) : Type 0 where
   pub spelled : fragment tree ≡ bytes
 
 -- The reader takes so many of the bytes, and a fragment may begin with what it has read then.
-pub record ReadsOn (old new : FragmentReader) (bytes : List ℕ) (count : ℕ) : Type 0 where
+pub record ReadsFragmentOn (old new : FragmentReader) (bytes : List ℕ) (count : ℕ) : Type 0 where
   pub within : count ≤ length bytes
-  pub moved : taken new.reader ≡ taken old.reader + count
+  pub moved : bytes_taken new.reader ≡ bytes_taken old.reader + count
   pub reads : (front forgotten : List ℕ) → HasReadFront old front forgotten → HasReadFront new (front ++ take count bytes) forgotten
 
 -- Some of the bytes are taken, or no fragment goes on with them.
 abbrev pub AdvancesSo : FragmentReader → FragmentReader → List ℕ → Advance → Type 0
-AdvancesSo old new bytes (Taken count) = (0 < count) × ReadsOn old new bytes count
+AdvancesSo old new bytes (Taken count) = (0 < count) × ReadsFragmentOn old new bytes count
 AdvancesSo old new bytes NoFragment = (front forgotten : List ℕ) → HasReadFront old front forgotten → IsFragment (front ++ bytes) → ⊥

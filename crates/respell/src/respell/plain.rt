@@ -3,7 +3,7 @@ ghost use Rattle.std.specs.Prelude.{◌≡◌, ℕ, List, [], ◌∷◌, ◌++�
 ghost use Rattle.lexical_core.specs.Tree.{Expanded, Item, Starts, Char, Ends};
 ghost use Rattle.markup.specs.Literals.{IsRun};
 ghost use Rattle.markup.specs.PlainTags.{tag_items, innermost_namespace};
-ghost use Rattle.respell.specs.Kept.{HasTaken, HasWritten, IsInDefault, opened_by};
+ghost use Rattle.respell.specs.Kept.{HasTakenItems, HasWritten, IsInDefault, opened_by};
 
 use super::Respell;
 use markup::TagKind;
@@ -13,7 +13,7 @@ impl Respell {
     /// Takes a run of characters that stand by themselves, as `markup`'s `Reader` tells them, each as its event. After
     /// want of memory it answers so for good.
     pub fn take_run(&mut self, run: &[u8]) -> Result<(), AllocError>
-        ensures ok { (items : List Item) (count : ℕ) (r : IsRun run.now count) → HasTaken self.old items → OnOk result (HasTaken self.new (items ++ map (λ c. Char c) r.characters)) }
+        ensures ok { (items : List Item) (count : ℕ) (r : IsRun run.now count) → HasTakenItems self.old items → OnOk result (HasTakenItems self.new (items ++ map (λ c. Char c) r.characters)) }
         ensures again { self.old.failed ≡ true → IsErr result }
         ensures failed { IsErr result → self.new.failed ≡ true }
     {
@@ -30,7 +30,7 @@ impl Respell {
     /// Takes a tag without attributes, as its events: its name is in the default namespace so far. After want of memory
     /// it answers so for good.
     pub fn take_tag(&mut self, kind: TagKind, local: &[u8]) -> Result<(), AllocError>
-        ensures ok { (items : List Item) (n : Expanded) → n.local ≡ local.now → HasTaken self.old items → IsInDefault self.old n.namespace → OnOk result (HasTaken self.new (items ++ tag_items kind n)) }
+        ensures ok { (items : List Item) (n : Expanded) → n.local ≡ local.now → HasTakenItems self.old items → IsInDefault self.old n.namespace → OnOk result (HasTakenItems self.new (items ++ tag_items kind n)) }
         ensures again { self.old.failed ≡ true → IsErr result }
         ensures failed { IsErr result → self.new.failed ≡ true }
     {

@@ -1,6 +1,6 @@
 // Texts that a reader takes by whole tags and runs of characters where it can.
 ghost use Rattle.std.specs.Prelude.{◌≡◌, ◌<◌, ◌≤◌, ◌+◌, ◌^◌, IfOk, IfSome, IsTrue, length};
-ghost use Rattle.markup.specs.Reading.{taken};
+ghost use Rattle.markup.specs.Reading.{bytes_taken};
 
 use super::{ALONE, BEHIND_ROOT, LIMIT, ROOT, Verdict, answer, end, refusal, repeated};
 use Verdict::Whole;
@@ -12,10 +12,10 @@ use std::process::Abort;
 /// Gives the reader what it takes at once of the piece, or its first byte, and answers how many
 /// bytes they are.
 fn take_some(reader: &mut Reader, out: &mut Events, piece: &[u8]) -> Result<usize, Verdict>
-    requires { taken reader.old + length piece.now ≤ 2 ^ 40 }
+    requires { bytes_taken reader.old + length piece.now ≤ 2 ^ 40 }
     ensures within { IfOk result (λ n. n ≤ length piece.now) }
     ensures some { IfOk result (λ n. 0 < length piece.now → 0 < n) }
-    ensures count { IfOk result (λ n. taken reader.new ≡ taken reader.old + n) }
+    ensures count { IfOk result (λ n. bytes_taken reader.new ≡ bytes_taken reader.old + n) }
 {
     let run = reader.take_characters(piece);
     if run.bytes > 0 {
@@ -54,14 +54,14 @@ fn take_some(reader: &mut Reader, out: &mut Events, piece: &[u8]) -> Result<usiz
 
 /// What a reader before the first byte says of the bytes in pieces of this size.
 fn answer_by_pieces(mut reader: Reader, alloc: Global, bytes: &[u8], size: usize) -> Verdict
-    requires { taken reader ≡ 0 }
+    requires { bytes_taken reader ≡ 0 }
 {
     let mut out = Events::new(alloc);
     take_pieces(&mut reader, &mut out, bytes, size)
 }
 
 fn take_pieces(reader: &mut Reader, out: &mut Events, bytes: &[u8], size: usize) -> Verdict
-    requires { taken reader.old ≡ 0 }
+    requires { bytes_taken reader.old ≡ 0 }
 {
     if bytes.len() as u64 > LIMIT || size == 0 {
         return Verdict::TooLong;
@@ -145,7 +145,7 @@ fn tags_of_any_length(rt: HostRuntime) -> Result<(), AllocError> {
 
 /// A reader that has taken these bytes, where they have no fault.
 fn behind(alloc: Global, bytes: &[u8]) -> Option<Reader>
-    ensures { IfSome result (λ reader. taken reader ≤ 100) }
+    ensures { IfSome result (λ reader. bytes_taken reader ≤ 100) }
 {
     let mut out = Events::new(alloc);
     let mut reader = Reader::new(alloc);
@@ -158,8 +158,8 @@ fn behind(alloc: Global, bytes: &[u8]) -> Option<Reader>
 
 /// Whether the bytes have no fault for a reader before the first byte, and are few.
 fn are_taken(reader: &mut Reader, out: &mut Events, bytes: &[u8]) -> bool
-    requires { taken reader.old ≡ 0 }
-    ensures { IsTrue result → taken reader.new ≤ 100 }
+    requires { bytes_taken reader.old ≡ 0 }
+    ensures { IsTrue result → bytes_taken reader.new ≤ 100 }
 {
     if bytes.len() > 100 {
         return false;
@@ -212,7 +212,7 @@ fn run_behind(alloc: Global, piece: &[u8]) -> Option<Run> {
 }
 
 fn run_taken(reader: &mut Reader, piece: &[u8]) -> Option<Run>
-    requires { taken reader.old ≤ 100 }
+    requires { bytes_taken reader.old ≤ 100 }
 {
     if piece.len() > 100 {
         return None;
@@ -253,7 +253,7 @@ fn reference_behind(alloc: Global, front: &[u8], piece: &[u8]) -> Option<(usize,
 }
 
 fn reference_taken(reader: &mut Reader, piece: &[u8]) -> Option<(usize, char)>
-    requires { taken reader.old ≤ 100 }
+    requires { bytes_taken reader.old ≤ 100 }
 {
     if piece.len() > 100 {
         return None;
@@ -296,7 +296,7 @@ fn tag_behind(alloc: Global, piece: &[u8]) -> Option<usize> {
 }
 
 fn tag_taken(reader: &mut Reader, piece: &[u8]) -> Option<usize>
-    requires { taken reader.old ≤ 100 }
+    requires { bytes_taken reader.old ≤ 100 }
 {
     if piece.len() > 100 {
         return None;
@@ -352,7 +352,7 @@ fn start_behind(alloc: Global, piece: &[u8]) -> Option<(usize, usize)> {
 }
 
 fn start_taken(reader: &mut Reader, out: &mut Events, piece: &[u8]) -> Option<(usize, usize)>
-    requires { taken reader.old ≤ 100 }
+    requires { bytes_taken reader.old ≤ 100 }
 {
     if piece.len() > 100 {
         return None;
@@ -396,7 +396,7 @@ fn inside_behind(alloc: Global, front: &[u8], piece: &[u8]) -> Option<usize> {
 }
 
 fn inside_taken(reader: &mut Reader, piece: &[u8]) -> Option<usize>
-    requires { taken reader.old ≤ 100 }
+    requires { bytes_taken reader.old ≤ 100 }
 {
     if piece.len() > 100 {
         return None;

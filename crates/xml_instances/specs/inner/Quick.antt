@@ -26,12 +26,12 @@ MayTake types (Some opened.Foreign) bytes = Unit {0}
 MayTake types None bytes = Unit {0}
 
 -- what may be characters of the innermost element
-abbrev pub HasRoom : Graph ℕ Simple → Option Opened → Room → Type 0
-HasRoom types innermost All = (bytes : List ℕ) → MayTake types innermost bytes
-HasRoom types (Some (opened.Parent number last count)) Blanks = is_bare (types number) ≡ false
-HasRoom types (Some (opened.Envelope filled)) Blanks = Unit {0}
-HasRoom types innermost Blanks = ⊥
-HasRoom types innermost Nothing = Unit {0}
+abbrev pub IsRoomIn : Graph ℕ Simple → Option Opened → Room → Type 0
+IsRoomIn types innermost All = (bytes : List ℕ) → MayTake types innermost bytes
+IsRoomIn types (Some (opened.Parent number last count)) Blanks = is_bare (types number) ≡ false
+IsRoomIn types (Some (opened.Envelope filled)) Blanks = Unit {0}
+IsRoomIn types innermost Blanks = ⊥
+IsRoomIn types innermost Nothing = Unit {0}
 
 -- the characters break no rule, and the content stands behind them
 abbrev pub IsRunTaken : Message ℕ → List (Level ℕ) → List ℕ → Content → Type 0

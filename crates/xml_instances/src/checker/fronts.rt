@@ -2,9 +2,9 @@
 ghost use Rattle.std.specs.Prelude.{◌≡◌, ◌<◌, ◌+◌, ◌≤◌, ◌^◌, IfOk, length};
 ghost use Rattle.message_model.specs.Tables.{types_of};
 ghost use Rattle.message_model.specs.declared.fault.InstanceError.TheVariants.{Memory};
-ghost use Rattle.xml_instances.specs.Checking.{IsMadeFor, TakesFront, fed};
+ghost use Rattle.xml_instances.specs.Checking.{IsXmlCheckerFor, TakesXmlFront, xml_bytes_fed};
 ghost use Rattle.xml_instances.specs.inner.Fronts.{because};
-ghost use Rattle.xml_instances.specs.inner.Quick.{HasRoom};
+ghost use Rattle.xml_instances.specs.inner.Quick.{IsRoomIn};
 ghost use Rattle.xml_instances.specs.Scratch.{KeepsNoLeaf};
 ghost use Rattle.xml_instances.specs.declared.content.quick.Room.TheVariants.{All as AllCharacters, Blanks as BlankCharacters};
 
@@ -26,12 +26,12 @@ impl XmlChecker {
         stop: &mut InstanceError,
     ) -> Result<usize, Stopped>
         requires some { 0 < length piece.now }
-        requires room { fed self.old + length piece.now ≤ 2 ^ 40 }
-        requires made { IsMadeFor self.old model.now }
+        requires room { xml_bytes_fed self.old + length piece.now ≤ 2 ^ 40 }
+        requires made { IsXmlCheckerFor self.old model.now }
         requires none { stop.old ≡ Memory }
-        ensures made { IsMadeFor self.new model.now }
+        ensures made { IsXmlCheckerFor self.new model.now }
         ensures lean { KeepsNoLeaf self.old → KeepsNoLeaf self.new }
-        ensures front { TakesFront model.now self.old self.new piece.now (because stop.new result) }
+        ensures front { TakesXmlFront model.now self.old self.new piece.now (because stop.new result) }
         ensures some { IfOk result (λ n. 0 < n) }
         ensures none { IfOk result (λ _. stop.new ≡ Memory) }
     {
@@ -52,12 +52,12 @@ impl XmlChecker {
         stop: &mut InstanceError,
     ) -> Result<usize, Stopped>
         requires some { 0 < length piece.now }
-        requires room { fed self.old + length piece.now ≤ 2 ^ 40 }
-        requires made { IsMadeFor self.old model.now }
+        requires room { xml_bytes_fed self.old + length piece.now ≤ 2 ^ 40 }
+        requires made { IsXmlCheckerFor self.old model.now }
         requires none { stop.old ≡ Memory }
-        ensures made { IsMadeFor self.new model.now }
+        ensures made { IsXmlCheckerFor self.new model.now }
         ensures lean { KeepsNoLeaf self.old → KeepsNoLeaf self.new }
-        ensures front { TakesFront model.now self.old self.new piece.now (because stop.new result) }
+        ensures front { TakesXmlFront model.now self.old self.new piece.now (because stop.new result) }
         ensures some { IfOk result (λ n. 0 < n) }
         ensures none { IfOk result (λ _. stop.new ≡ Memory) }
     {
@@ -79,12 +79,12 @@ impl XmlChecker {
         stop: &mut InstanceError,
     ) -> Result<usize, Stopped>
         requires some { 0 < length piece.now }
-        requires room { fed self.old + length piece.now ≤ 2 ^ 40 }
-        requires made { IsMadeFor self.old model.now }
+        requires room { xml_bytes_fed self.old + length piece.now ≤ 2 ^ 40 }
+        requires made { IsXmlCheckerFor self.old model.now }
         requires none { stop.old ≡ Memory }
-        ensures made { IsMadeFor self.new model.now }
+        ensures made { IsXmlCheckerFor self.new model.now }
         ensures lean { KeepsNoLeaf self.old → KeepsNoLeaf self.new }
-        ensures front { TakesFront model.now self.old self.new piece.now (because stop.new result) }
+        ensures front { TakesXmlFront model.now self.old self.new piece.now (because stop.new result) }
         ensures some { IfOk result (λ n. 0 < n) }
         ensures none { IfOk result (λ _. stop.new ≡ Memory) }
     {
@@ -107,12 +107,12 @@ impl XmlChecker {
         stop: &mut InstanceError,
     ) -> Result<usize, Stopped>
         requires some { 0 < length piece.now }
-        requires room { fed self.old + length piece.now ≤ 2 ^ 40 }
-        requires made { IsMadeFor self.old model.now }
+        requires room { xml_bytes_fed self.old + length piece.now ≤ 2 ^ 40 }
+        requires made { IsXmlCheckerFor self.old model.now }
         requires none { stop.old ≡ Memory }
-        ensures made { IsMadeFor self.new model.now }
+        ensures made { IsXmlCheckerFor self.new model.now }
         ensures lean { KeepsNoLeaf self.old → KeepsNoLeaf self.new }
-        ensures front { TakesFront model.now self.old self.new piece.now (because stop.new result) }
+        ensures front { TakesXmlFront model.now self.old self.new piece.now (because stop.new result) }
         ensures some { IfOk result (λ n. 0 < n) }
         ensures none { IfOk result (λ _. stop.new ≡ Memory) }
     {
@@ -128,11 +128,11 @@ impl XmlChecker {
     /// Takes a whole reference, a start tag with attributes, bytes inside a token or else a byte from the front of the piece.
     fn take_rare(&mut self, model: &Model, piece: &[u8]) -> Result<usize, InstanceError>
         requires some { 0 < length piece.now }
-        requires room { fed self.old + length piece.now ≤ 2 ^ 40 }
-        requires made { IsMadeFor self.old model.now }
-        ensures made { IsMadeFor self.new model.now }
+        requires room { xml_bytes_fed self.old + length piece.now ≤ 2 ^ 40 }
+        requires made { IsXmlCheckerFor self.old model.now }
+        ensures made { IsXmlCheckerFor self.new model.now }
         ensures lean { KeepsNoLeaf self.old → KeepsNoLeaf self.new }
-        ensures front { TakesFront model.now self.old self.new piece.now result }
+        ensures front { TakesXmlFront model.now self.old self.new piece.now result }
         ensures some { IfOk result (λ n. 0 < n) }
     {
         if piece[0] == b'<' {
@@ -147,11 +147,11 @@ impl XmlChecker {
     /// Takes a start tag with attributes, bytes inside a token or else a byte from the front of the piece.
     fn take_starting(&mut self, model: &Model, piece: &[u8]) -> Result<usize, InstanceError>
         requires some { 0 < length piece.now }
-        requires room { fed self.old + length piece.now ≤ 2 ^ 40 }
-        requires made { IsMadeFor self.old model.now }
-        ensures made { IsMadeFor self.new model.now }
+        requires room { xml_bytes_fed self.old + length piece.now ≤ 2 ^ 40 }
+        requires made { IsXmlCheckerFor self.old model.now }
+        ensures made { IsXmlCheckerFor self.new model.now }
         ensures lean { KeepsNoLeaf self.old → KeepsNoLeaf self.new }
-        ensures front { TakesFront model.now self.old self.new piece.now result }
+        ensures front { TakesXmlFront model.now self.old self.new piece.now result }
         ensures some { IfOk result (λ n. 0 < n) }
     {
         let start = match self.take_start(model, piece) {
@@ -167,11 +167,11 @@ impl XmlChecker {
     /// Takes a whole reference, bytes inside a token or else a byte from the front of the piece.
     fn take_referring(&mut self, model: &Model, piece: &[u8]) -> Result<usize, InstanceError>
         requires some { 0 < length piece.now }
-        requires room { fed self.old + length piece.now ≤ 2 ^ 40 }
-        requires made { IsMadeFor self.old model.now }
-        ensures made { IsMadeFor self.new model.now }
+        requires room { xml_bytes_fed self.old + length piece.now ≤ 2 ^ 40 }
+        requires made { IsXmlCheckerFor self.old model.now }
+        ensures made { IsXmlCheckerFor self.new model.now }
         ensures lean { KeepsNoLeaf self.old → KeepsNoLeaf self.new }
-        ensures front { TakesFront model.now self.old self.new piece.now result }
+        ensures front { TakesXmlFront model.now self.old self.new piece.now result }
         ensures some { IfOk result (λ n. 0 < n) }
     {
         let reference = match self.take_reference(model, piece) {
@@ -187,11 +187,11 @@ impl XmlChecker {
     /// Takes bytes inside a token or else a byte from the front of the piece.
     fn take_slowly(&mut self, model: &Model, piece: &[u8]) -> Result<usize, InstanceError>
         requires some { 0 < length piece.now }
-        requires room { fed self.old + length piece.now ≤ 2 ^ 40 }
-        requires made { IsMadeFor self.old model.now }
-        ensures made { IsMadeFor self.new model.now }
+        requires room { xml_bytes_fed self.old + length piece.now ≤ 2 ^ 40 }
+        requires made { IsXmlCheckerFor self.old model.now }
+        ensures made { IsXmlCheckerFor self.new model.now }
         ensures lean { KeepsNoLeaf self.old → KeepsNoLeaf self.new }
-        ensures front { TakesFront model.now self.old self.new piece.now result }
+        ensures front { TakesXmlFront model.now self.old self.new piece.now result }
         ensures some { IfOk result (λ n. 0 < n) }
     {
         let inside = match self.take_inside(model, piece) {
@@ -207,11 +207,11 @@ impl XmlChecker {
     /// Takes the run of characters at the front of the piece that may stand in the innermost element,
     /// if there is one.
     fn take_run(&mut self, model: &Model, piece: &[u8]) -> Result<usize, AllocError>
-        requires room { fed self.old + length piece.now ≤ 2 ^ 40 }
-        requires made { IsMadeFor self.old model.now }
-        ensures made { IsMadeFor self.new model.now }
+        requires room { xml_bytes_fed self.old + length piece.now ≤ 2 ^ 40 }
+        requires made { IsXmlCheckerFor self.old model.now }
+        ensures made { IsXmlCheckerFor self.new model.now }
         ensures lean { KeepsNoLeaf self.old → KeepsNoLeaf self.new }
-        ensures front { TakesFront model.now self.old self.new piece.now (because Memory result) }
+        ensures front { TakesXmlFront model.now self.old self.new piece.now (because Memory result) }
     {
         match self.content.room(model) {
             Room::All => self.take_characters(model, piece),
@@ -222,12 +222,12 @@ impl XmlChecker {
 
     /// Takes the run of characters at the front of the piece, where all may stand.
     fn take_characters(&mut self, model: &Model, piece: &[u8]) -> Result<usize, AllocError>
-        requires room { fed self.old + length piece.now ≤ 2 ^ 40 }
-        requires made { IsMadeFor self.old model.now }
-        requires fits { HasRoom (types_of model.now) self.old.content.innermost AllCharacters }
-        ensures made { IsMadeFor self.new model.now }
+        requires room { xml_bytes_fed self.old + length piece.now ≤ 2 ^ 40 }
+        requires made { IsXmlCheckerFor self.old model.now }
+        requires fits { IsRoomIn (types_of model.now) self.old.content.innermost AllCharacters }
+        ensures made { IsXmlCheckerFor self.new model.now }
         ensures lean { KeepsNoLeaf self.old → KeepsNoLeaf self.new }
-        ensures front { TakesFront model.now self.old self.new piece.now (because Memory result) }
+        ensures front { TakesXmlFront model.now self.old self.new piece.now (because Memory result) }
     {
         let run = self.reader.take_characters(piece);
         if run.bytes == 0 {
@@ -247,12 +247,12 @@ impl XmlChecker {
 
     /// Takes the white space at the front of the piece, where that may stand.
     fn take_blanks(&mut self, model: &Model, piece: &[u8]) -> Result<usize, AllocError>
-        requires room { fed self.old + length piece.now ≤ 2 ^ 40 }
-        requires made { IsMadeFor self.old model.now }
-        requires fits { HasRoom (types_of model.now) self.old.content.innermost BlankCharacters }
-        ensures made { IsMadeFor self.new model.now }
+        requires room { xml_bytes_fed self.old + length piece.now ≤ 2 ^ 40 }
+        requires made { IsXmlCheckerFor self.old model.now }
+        requires fits { IsRoomIn (types_of model.now) self.old.content.innermost BlankCharacters }
+        ensures made { IsXmlCheckerFor self.new model.now }
         ensures lean { KeepsNoLeaf self.old → KeepsNoLeaf self.new }
-        ensures front { TakesFront model.now self.old self.new piece.now (because Memory result) }
+        ensures front { TakesXmlFront model.now self.old self.new piece.now (because Memory result) }
     {
         let count = self.reader.take_blanks(piece);
         if count == 0 {
@@ -269,12 +269,12 @@ impl XmlChecker {
         piece: &[u8],
         stop: &mut InstanceError,
     ) -> Result<usize, Stopped>
-        requires room { fed self.old + length piece.now ≤ 2 ^ 40 }
-        requires made { IsMadeFor self.old model.now }
+        requires room { xml_bytes_fed self.old + length piece.now ≤ 2 ^ 40 }
+        requires made { IsXmlCheckerFor self.old model.now }
         requires none { stop.old ≡ Memory }
-        ensures made { IsMadeFor self.new model.now }
+        ensures made { IsXmlCheckerFor self.new model.now }
         ensures lean { KeepsNoLeaf self.old → KeepsNoLeaf self.new }
-        ensures front { TakesFront model.now self.old self.new piece.now (because stop.new result) }
+        ensures front { TakesXmlFront model.now self.old self.new piece.now (because stop.new result) }
         ensures none { IfOk result (λ _. stop.new ≡ Memory) }
     {
         markup::laws::events_stay();
@@ -299,11 +299,11 @@ impl XmlChecker {
     /// Takes the whole start tag at the front of the piece, if one stands there with attributes that the
     /// reader takes at once.
     fn take_start(&mut self, model: &Model, piece: &[u8]) -> Result<usize, InstanceError>
-        requires room { fed self.old + length piece.now ≤ 2 ^ 40 }
-        requires made { IsMadeFor self.old model.now }
-        ensures made { IsMadeFor self.new model.now }
+        requires room { xml_bytes_fed self.old + length piece.now ≤ 2 ^ 40 }
+        requires made { IsXmlCheckerFor self.old model.now }
+        ensures made { IsXmlCheckerFor self.new model.now }
         ensures lean { KeepsNoLeaf self.old → KeepsNoLeaf self.new }
-        ensures front { TakesFront model.now self.old self.new piece.now result }
+        ensures front { TakesXmlFront model.now self.old self.new piece.now result }
     {
         markup::laws::one_token();
         markup::laws::fronts_agree();
@@ -335,11 +335,11 @@ impl XmlChecker {
 
     /// Takes the bytes at the front of the piece that go on with an open token and show no event, if there are some.
     fn take_inside(&mut self, model: &Model, piece: &[u8]) -> Result<usize, InstanceError>
-        requires room { fed self.old + length piece.now ≤ 2 ^ 40 }
-        requires made { IsMadeFor self.old model.now }
-        ensures made { IsMadeFor self.new model.now }
+        requires room { xml_bytes_fed self.old + length piece.now ≤ 2 ^ 40 }
+        requires made { IsXmlCheckerFor self.old model.now }
+        ensures made { IsXmlCheckerFor self.new model.now }
         ensures lean { KeepsNoLeaf self.old → KeepsNoLeaf self.new }
-        ensures front { TakesFront model.now self.old self.new piece.now result }
+        ensures front { TakesXmlFront model.now self.old self.new piece.now result }
     {
         let _ = model.type_count();
         let count = match self.reader.take_inside(piece) {
@@ -356,11 +356,11 @@ impl XmlChecker {
     /// Takes the first byte of the piece.
     fn take_first(&mut self, model: &Model, piece: &[u8]) -> Result<usize, InstanceError>
         requires some { 0 < length piece.now }
-        requires room { fed self.old + length piece.now ≤ 2 ^ 40 }
-        requires made { IsMadeFor self.old model.now }
-        ensures made { IsMadeFor self.new model.now }
+        requires room { xml_bytes_fed self.old + length piece.now ≤ 2 ^ 40 }
+        requires made { IsXmlCheckerFor self.old model.now }
+        ensures made { IsXmlCheckerFor self.new model.now }
         ensures lean { KeepsNoLeaf self.old → KeepsNoLeaf self.new }
-        ensures front { TakesFront model.now self.old self.new piece.now result }
+        ensures front { TakesXmlFront model.now self.old self.new piece.now result }
         ensures some { IfOk result (λ n. 0 < n) }
     {
         let Some((byte, _behind)) = piece.split_first() else {

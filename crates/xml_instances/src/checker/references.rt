@@ -1,6 +1,6 @@
 // A whole reference that a checker takes at once.
 ghost use Rattle.std.specs.Prelude.{◌≡◌, ◌+◌, ◌≤◌, ◌^◌, length};
-ghost use Rattle.xml_instances.specs.Checking.{IsMadeFor, TakesFront, fed};
+ghost use Rattle.xml_instances.specs.Checking.{IsXmlCheckerFor, TakesXmlFront, xml_bytes_fed};
 ghost use Rattle.xml_instances.specs.Scratch.{KeepsNoLeaf};
 
 use super::{XmlChecker, told};
@@ -13,11 +13,11 @@ impl XmlChecker {
         model: &Model,
         piece: &[u8],
     ) -> Result<usize, InstanceError>
-        requires room { fed self.old + length piece.now ≤ 2 ^ 40 }
-        requires made { IsMadeFor self.old model.now }
-        ensures made { IsMadeFor self.new model.now }
+        requires room { xml_bytes_fed self.old + length piece.now ≤ 2 ^ 40 }
+        requires made { IsXmlCheckerFor self.old model.now }
+        ensures made { IsXmlCheckerFor self.new model.now }
         ensures lean { KeepsNoLeaf self.old → KeepsNoLeaf self.new }
-        ensures front { TakesFront model.now self.old self.new piece.now result }
+        ensures front { TakesXmlFront model.now self.old self.new piece.now result }
     {
         markup::laws::events_stay();
         let place = self.place;

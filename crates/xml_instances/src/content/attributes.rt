@@ -10,7 +10,7 @@ ghost use Rattle.message_model.specs.Writes.{value_of, currency};
 ghost use Rattle.xml_instances.specs.EventFaults.{has_currency, CurrencyFault, AttributeFault};
 ghost use Rattle.xml_instances.specs.Built.{CodeShown, CurrencyShown, TextShown};
 ghost use Rattle.xml_instances.specs.Keeping.{GoOn};
-ghost use Rattle.xml_instances.specs.Open.{AreMade, IsRuleOf, names_of, Says, IsCode};
+ghost use Rattle.xml_instances.specs.Open.{AreMade, IsRuleOf, path_round, Says, IsCodeForm};
 ghost use Rattle.xml_instances.specs.Verdicts.{IsLean};
 
 use super::Content;
@@ -36,7 +36,7 @@ impl Content {
         ensures lean { IsLean self.old → IsLean self.new }
         ensures kept { self.new.innermost ≡ self.old.innermost }
         ensures round { self.new.round ≡ self.old.round }
-        ensures taken { Says (AttributeFault (message_of model.now) (Some (types_of model.now number)) (map entry_of attrs.now) (names_of (types_of model.now) self.old.round.items)) result }
+        ensures taken { Says (AttributeFault (message_of model.now) (Some (types_of model.now number)) (map entry_of attrs.now) (path_round (types_of model.now) self.old.round.items)) result }
         ensures shown { OnOk result (GoOn self.old.pieces self.new.pieces (CodeShown model.now (Some (types_of model.now number)) (map entry_of attrs.now))) }
     {
         let _ = model.type_count();
@@ -63,8 +63,8 @@ impl Content {
         ensures lean { IsLean self.old → IsLean self.new }
         ensures kept { self.new.innermost ≡ self.old.innermost }
         ensures round { self.new.round ≡ self.old.round }
-        ensures taken { IsCode (types_of model.now code) → Says (CurrencyFault (types_of model.now code) (value_of currency (map entry_of attrs.now)) (names_of (types_of model.now) self.old.round.items ++ codes "/@Ccy")) result }
-        ensures shown { IsCode (types_of model.now code) → OnOk result (GoOn self.old.pieces self.new.pieces (CurrencyShown (types_of model.now code) (map entry_of attrs.now))) }
+        ensures taken { IsCodeForm (types_of model.now code) → Says (CurrencyFault (types_of model.now code) (value_of currency (map entry_of attrs.now)) (path_round (types_of model.now) self.old.round.items ++ codes "/@Ccy")) result }
+        ensures shown { IsCodeForm (types_of model.now code) → OnOk result (GoOn self.old.pieces self.new.pieces (CurrencyShown (types_of model.now code) (map entry_of attrs.now))) }
     {
         let Some(value) = currency_of(attrs) else {
             return Err(self.refused(model, Rule::MissingAttribute, b"/@Ccy"));

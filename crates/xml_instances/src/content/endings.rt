@@ -8,7 +8,7 @@ ghost use Rattle.xml_instances.specs.Levels.{Level};
 ghost use Rattle.xml_instances.specs.EventFaults.{end_fault, EndFault, LeafFault};
 ghost use Rattle.xml_instances.specs.Built.{ShowsBeside, EndShown, LeafShown};
 ghost use Rattle.xml_instances.specs.Keeping.{GoOn};
-ghost use Rattle.xml_instances.specs.Open.{IsOpen, IsItemTaken, AreMade, IsRuleOf, names_of, Says, StandsFor};
+ghost use Rattle.xml_instances.specs.Open.{IsOpen, IsItemTaken, AreMade, IsRuleOf, path_round, Says, StandsFor};
 ghost use Rattle.xml_instances.specs.declared.opened.Opened.{Opened as OpenedType};
 ghost use Rattle.xml_instances.specs.Verdicts.{IsLean};
 
@@ -46,7 +46,7 @@ impl Content {
         ensures round { self.new.round ≡ self.old.round }
         ensures out { self.old.innermost ≡ None → IsOk result × (self.new.pieces ≡ self.old.pieces) }
         ensures taken { (l : Level ℕ) (e : OpenedType) → self.old.innermost ≡ Some e → StandsFor (message_of model.now) self.old.text e l
-            → Says (EndFault l (names_of (types_of model.now) self.old.round.items)) result }
+            → Says (EndFault l (path_round (types_of model.now) self.old.round.items)) result }
         ensures shown { (l : Level ℕ) (e : OpenedType) → self.old.innermost ≡ Some e → StandsFor (message_of model.now) self.old.text e l
             → OnOk result (GoOn self.old.pieces self.new.pieces (EndShown l)) }
     {
@@ -68,7 +68,7 @@ impl Content {
         ensures round { self.new.round ≡ self.old.round }
         ensures out { self.old.innermost ≡ None → IsOk result × (self.new.pieces ≡ self.old.pieces) }
         ensures taken { (l : Level ℕ) (e : OpenedType) → self.old.innermost ≡ Some e → StandsFor (message_of model.now) self.old.text e l
-            → Says (EndFault l (names_of (types_of model.now) self.old.round.items)) result }
+            → Says (EndFault l (path_round (types_of model.now) self.old.round.items)) result }
         ensures shown { (l : Level ℕ) (e : OpenedType) → self.old.innermost ≡ Some e → StandsFor (message_of model.now) self.old.text e l
             → OnOk result (GoOn self.old.pieces self.new.pieces (LeafShown l)) }
     {
@@ -104,7 +104,7 @@ impl Content {
         count: u64,
     ) -> Result<(), Refusal>
         ensures { (d : List ℕ) → Came (types_of model.now number) d → EndsWith d last count
-            → Says (λ o. o ≡ end_fault (names_of (types_of model.now) self.now.round.items) (types_of model.now number) (end_after (types_of model.now number) d)) result }
+            → Says (λ o. o ≡ end_fault (path_round (types_of model.now) self.now.round.items) (types_of model.now number) (end_after (types_of model.now number) d)) result }
     {
         match model.end(number, last, count) {
             End::Fine => Ok(()),
@@ -122,7 +122,7 @@ impl Content {
     ) -> Result<(), Refusal>
         ensures ok { OnOk result (rule ≡ None) }
         ensures said { (simple : SimpleType) (text : List ℕ) → IsRuleOf simple text rule
-            → Says (LeafFault simple text (names_of (types_of model.now) self.now.round.items ++ behind.now)) result }
+            → Says (LeafFault simple text (path_round (types_of model.now) self.now.round.items ++ behind.now)) result }
     {
         match rule {
             None => Ok(()),

@@ -6,14 +6,14 @@ ghost use Rattle.reference_check.specs.Forms.{Graph, text_type};
 ghost use Rattle.message_model.specs.Tables.{message_of, types_of};
 ghost use Rattle.xml_instances.specs.EventFaults.{LeafFault};
 ghost use Rattle.xml_instances.specs.Built.{TextShown};
-ghost use Rattle.xml_instances.specs.Judges.{HasTaken};
+ghost use Rattle.xml_instances.specs.Judges.{HasJudgeTaken};
 ghost use Rattle.xml_instances.specs.Levels.{Level};
 ghost use Rattle.xml_instances.specs.Scratch.{held_by, held_in, IsScratchWithin};
 ghost use Rattle.message_model.specs.Message.{Message};
 ghost use Rattle.xml_instances.specs.Keeping.{GoOn};
-ghost use Rattle.xml_instances.specs.Open.{IsOpen, AreMade, names_of, Says, HoldsText};
+ghost use Rattle.xml_instances.specs.Open.{IsOpen, AreMade, path_round, Says, HoldsText};
 ghost use Rattle.xml_instances.specs.declared.opened.Opened.TheVariants.{Text as OpenedText};
-ghost use Rattle.xml_instances.specs.Verdicts.{IsVerdict, IsTextVerdict, IsLean, HasFreeText};
+ghost use Rattle.xml_instances.specs.Verdicts.{IsVerdictJudge, IsTextVerdict, IsLean, HasFreeText};
 ghost use Rattle.facets.specs.LeafVerdicts.{IsFreeText};
 
 use super::{Content, OpenText};
@@ -56,7 +56,7 @@ impl Content {
         ensures kept { self.new.innermost ≡ self.old.innermost }
         ensures round { self.new.round ≡ self.old.round }
         ensures taken { (simple : SimpleType) (text : List ℕ) → HoldsText (message_of model.now) self.old.text simple text
-            → Says (LeafFault simple text (names_of (types_of model.now) self.old.round.items)) result }
+            → Says (LeafFault simple text (path_round (types_of model.now) self.old.round.items)) result }
         ensures shown { (simple : SimpleType) (text : List ℕ) → HoldsText (message_of model.now) self.old.text simple text
             → OnOk result (GoOn self.old.pieces self.new.pieces (TextShown simple text)) }
     {
@@ -88,8 +88,8 @@ impl Content {
         ensures lean { IsLean self.old → IsLean self.new }
         ensures kept { self.new.innermost ≡ self.old.innermost }
         ensures round { self.new.round ≡ self.old.round }
-        ensures taken { IfOk result (λ judge. HasTaken judge.value simple.now []) }
-        ensures verdict { IsLean self.old → IfOk result (λ judge. IsVerdict judge.value) }
+        ensures taken { IfOk result (λ judge. HasJudgeTaken judge.value simple.now []) }
+        ensures verdict { IsLean self.old → IfOk result (λ judge. IsVerdictJudge judge.value) }
         ensures pieces { self.new.pieces ≡ self.old.pieces }
     {
         let _ = model.type_count();
@@ -170,8 +170,8 @@ fn text_scratch(text: &Option<OpenText>) -> u64
 #[inline(never)]
 fn fresh(alloc: Global, simple: &Simple, pieces: &Option<Pieces>) -> Result<Box<Judge>, AllocError>
     requires { IsWithinLimits simple.now }
-    ensures taken { IfOk result (λ judge. HasTaken judge.value simple.now []) }
-    ensures verdict { pieces.now ≡ None → IfOk result (λ judge. IsVerdict judge.value) }
+    ensures taken { IfOk result (λ judge. HasJudgeTaken judge.value simple.now []) }
+    ensures verdict { pieces.now ≡ None → IfOk result (λ judge. IsVerdictJudge judge.value) }
 {
     if pieces.is_none() {
         return Ok(Box::new(alloc, Judge::verdict(alloc, simple)?)?);

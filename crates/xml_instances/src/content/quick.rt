@@ -9,7 +9,7 @@ ghost use Rattle.xml_instances.specs.Levels.{Level};
 ghost use Rattle.xml_instances.specs.Built.{EventsShow, ShowsBeside, StartShown};
 ghost use Rattle.xml_instances.specs.Keeping.{GoOn, MayShowName, TagShowsBeside};
 ghost use Rattle.xml_instances.specs.Open.{IsOpen, AreMade, IsPlaced, IsItemTaken, IsTextMade, HoldsText};
-ghost use Rattle.xml_instances.specs.inner.Quick.{MayTake, HasRoom, IsRunTaken, AreItemsTaken, IsOurs};
+ghost use Rattle.xml_instances.specs.inner.Quick.{MayTake, IsRoomIn, IsRunTaken, AreItemsTaken, IsOurs};
 ghost use Rattle.xml_instances.specs.Verdicts.{IsLean, IsTextVerdict};
 
 use super::{Content, OpenText, is_bare, root};
@@ -36,7 +36,7 @@ impl Content {
     /// Which characters may stand in the innermost element.
     #[inline]
     pub(crate) fn room(&self, model: &Model) -> Room
-        ensures { HasRoom (types_of model.now) self.now.innermost result }
+        ensures { IsRoomIn (types_of model.now) self.now.innermost result }
     {
         match self.innermost {
             None | Some(Opened::Text | Opened::Foreign) => Room::All,

@@ -8,7 +8,7 @@ ghost use Rattle.respell.specs.Respelling.{HasSortedAttributes};
 ghost use Rattle.xml_instances.specs.Levels.{Level};
 ghost use Rattle.xml_instances.specs.Built.{nothing_shown, with_event, with_end};
 ghost use Rattle.xml_instances.specs.Open.{IsOpen, StandsFor};
-ghost use Rattle.xml_instances.specs.Keeping.{GoOn, KeepsShown, AreKeptPieces, MayShow, MayShowName, is_within, with_events};
+ghost use Rattle.xml_instances.specs.Keeping.{GoOn, KeepsSomeShown, AreKeptPieces, MayShow, MayShowName, is_within, with_events};
 ghost use Rattle.xml_instances.specs.declared.content.OpenText.{OpenText as OpenTextType};
 ghost use Rattle.xml_instances.specs.declared.opened.Opened.{Opened as OpenedType};
 
@@ -26,7 +26,7 @@ impl Content {
         ensures round { self.new.round ≡ self.old.round }
         ensures text { self.new.text ≡ self.old.text }
         ensures checks { self.new.checks ≡ self.old.checks }
-        ensures shown { KeepsShown self.new.pieces nothing_shown }
+        ensures shown { KeepsSomeShown self.new.pieces nothing_shown }
     {
         self.pieces = Some(Pieces::new(self.alloc));
     }

@@ -8,7 +8,7 @@ use Rattle.reference_check.specs.Forms.{Graph, Form, form_slots}
 use Rattle.reference_check.specs.Forms as form
 use Rattle.message_model.specs.Admits.{FitsCode}
 use Rattle.message_model.specs.Writes.{AtSlot}
-use Rattle.message_model.specs.Tables.{Tables, types_of, namespace_of}
+use Rattle.message_model.specs.Tables.{Tables, types_of, message_namespace}
 use Rattle.xml_writer.specs.CanonXml.{IsLeafText, IsCodeText, currency_text, end_tag, xml_declaration, namespace_text}
 use Rattle.xml_writer.specs.declared.innermost.Innermost.{Innermost}
 
@@ -77,4 +77,4 @@ document_tail = codes "</Document>\n"
 
 -- what stands in the root, within the document
 abbrev pub document_text : Tables → List ℕ → List ℕ
-document_text T content = document_head (namespace_of T) (is_amount (types_of T 0)) ++ (content ++ document_tail)
+document_text T content = document_head (message_namespace T) (is_amount (types_of T 0)) ++ (content ++ document_tail)

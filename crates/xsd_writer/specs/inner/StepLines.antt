@@ -17,14 +17,14 @@ abbrev pub inner_end : ℕ → List ℕ
 inner_end steps = line (step_level steps + 1) (codes "</xs:simpleType>\n" ∷ [])
 
 -- the lines that a later step begins with, inside so many others
-abbrev pub opening : ℕ → List ℕ
-opening steps = line (step_level steps) (codes "<xs:restriction>\n" ∷ []) ++ line (step_level steps + 1) (codes "<xs:simpleType>\n" ∷ [])
+abbrev pub opening_lines : ℕ → List ℕ
+opening_lines steps = line (step_level steps) (codes "<xs:restriction>\n" ∷ []) ++ line (step_level steps + 1) (codes "<xs:simpleType>\n" ∷ [])
 
 -- the lines that a later step ends with, inside so many others
-abbrev pub closing : ℕ → Step → List ℕ
-closing steps step = inner_end steps ++ (facets_text (step_level steps + 1) step ++ step_end steps)
+abbrev pub closing_lines : ℕ → Step → List ℕ
+closing_lines steps step = inner_end steps ++ (facets_text (step_level steps + 1) step ++ step_end steps)
 
 -- those of later steps, from the first of them on
 abbrev pub closings : List Step → List ℕ
 closings [] = []
-closings (step ∷ steps) = closing (length steps) step ++ closings steps
+closings (step ∷ steps) = closing_lines (length steps) step ++ closings steps

@@ -3,15 +3,15 @@ use Rattle.std.proofs.Common.{◌<◌, ◌∷◌, [], ◌++◌, List, length, ma
 use Rattle.std.proofs.lemmas.List.{map-append}
 use Rattle.asn1_model.specs.declared.order.NamedType.{NamedType}
 use Rattle.asn1_model.specs.ModuleOf.{Numbered}
-use Rattle.asn1_model.specs.inner.Order.{numbered}
+use Rattle.asn1_model.specs.inner.Order.{numbered_type}
 use Rattle.asn1_model.proofs.NumberedTypes.{numbered_more, not_nameless}
 use Rattle.asn1_model.proofs.order.by_number.Goals as goal
 
 pub loop-number-preserved : goal.loop-number-preserved
 loop-number-preserved c =
     let one : NamedType = record { number = c.loop-number.number; name = c.in-Some.name } in
-    ap (map numbered) c.in_ok-push.ensures.items ∙ map-append numbered c.loop-number.types.items (one ∷ [])
-    ∙ ap (λ (l : List Numbered). l ++ numbered one ∷ []) c.loop-number.invariant
+    ap (map numbered_type) c.in_ok-push.ensures.items ∙ map-append numbered_type c.loop-number.types.items (one ∷ [])
+    ∙ ap (λ (l : List Numbered). l ++ numbered_type one ∷ []) c.loop-number.invariant
     ∙ sym (numbered_more c.args.model.now.types c.loop-number.number c.in-Some.name.now c.in-Some.ensures)
 
 pub returns-in_default : goal.returns-in_default

@@ -4,7 +4,7 @@ use Rattle.std.specs.Prelude.{replicate}
 use Rattle.std.proofs.lemmas.Grind.{common_steps}
 use Rattle.std.proofs.lemmas.List.{length-set, length-replicate}
 use Rattle.asn1_model.specs.ModuleOf.{name_in}
-use Rattle.asn1_model.specs.inner.Order.{numbered}
+use Rattle.asn1_model.specs.inner.Order.{numbered_type}
 use Rattle.asn1_model.specs.inner.Places.{name_at}
 use Rattle.asn1_model.proofs.PlaceLemmas.{place_more, place_none}
 use Rattle.asn1_model.proofs.places.places.Goals as goal
@@ -32,5 +32,5 @@ loop-left-preserved c =
       named = λ given same p inside.
           ap (λ ps. name_at ps given p) c.set_place.ensures
           ∙ place_more types given places i p _ lt same (omega (arith, inside, c.loop-left.invariant.count))
-          (subst (λ n. name_at places given p ≡ name_in (map numbered (drop n types)) (drop n given) p) (sym more) (c.loop-left.invariant.named given same p inside));
+          (subst (λ n. name_at places given p ≡ name_in (map numbered_type (drop n types)) (drop n given) p) (sym more) (c.loop-left.invariant.named given same p inside));
     }

@@ -1,5 +1,5 @@
 use Rattle.std.proofs.Common.{length, sym, ap, subst}
-use Rattle.data_types.specs.inner.DateParts.{IsRest}
+use Rattle.data_types.specs.inner.DateParts.{IsFractionAndZone}
 use Rattle.data_types.proofs.DateLemmas.{neither, neither_by, text_short, text_told, text_parted}
 use Rattle.data_types.proofs.dates.is_other_text.Goals as goal
 
@@ -9,8 +9,8 @@ returns c =
     let rest = c.split_at.result.1.now in
     let len = ap length (sym c.form_of-form.ensures) in (
       λ e. text_told c.args.kind text _ _ _ c.split_at.ensures.front c.split_at.ensures.back (c.is_other_fixed_part.ensures.0 c.if-not-is_other_fixed_part.false)
-          (subst (λ b. IsRest b rest) c.has_seconds.ensures (c.is_rest.ensures.0 e)),
-      λ h. c.is_rest.ensures.1 (subst (λ b. IsRest b rest) (sym c.has_seconds.ensures) (text_parted c.args.kind text _ _ _ len c.split_at.ensures.front c.split_at.ensures.back h).1),
+          (subst (λ b. IsFractionAndZone b rest) c.has_seconds.ensures (c.is_rest.ensures.0 e)),
+      λ h. c.is_rest.ensures.1 (subst (λ b. IsFractionAndZone b rest) (sym c.has_seconds.ensures) (text_parted c.args.kind text _ _ _ len c.split_at.ensures.front c.split_at.ensures.back h).1),
     )
 
 pub returns-then-not-is_other_fixed_part : goal.returns-then-not-is_other_fixed_part

@@ -4,7 +4,7 @@ use Rattle.der_model.specs.DerMessage.{der_message}
 use Rattle.fragments.specs.Fragment.{fragment}
 use Rattle.message_model.specs.Tables.{message_of, pieces_of}
 use Rattle.xml_writer.specs.CanonXml.{IsCanonXml}
-use Rattle.drill.specs.BuiltIn.{tables}
+use Rattle.drill.specs.BuiltIn.{drill_tables}
 use Rattle.drill.specs.inner.Forms.{AreForms}
 use Rattle.drill.specs.Growing.{instance}
 use Rattle.drill.proofs.BothForms.{admitted_by, both_forms}
@@ -26,7 +26,7 @@ compare_both-requires c =
       v,
       subst (λ T. AreForms T v c.bytes.result.now c.bytes-2.result.now) (sym c.in_ok-model.ensures)
           (both_forms c.args.number c.args.size c.bytes.result.now c.bytes-2.result.now c.the_message_is_compiled.ensures c.instances_are_admitted.ensures c.their_xml_is_readable.ensures c.their_der_is_readable.ensures
-          c.canonical_xml_of_a_message_spells_its_value.ensures c.requires (subst (λ l. IsCanonXml (message_of tables) v l) (sym c.bytes.ensures) xml) (c.bytes-2.ensures ∙ der)),
+          c.canonical_xml_of_a_message_spells_its_value.ensures c.requires (subst (λ l. IsCanonXml (message_of drill_tables) v l) (sym c.bytes.ensures) xml) (c.bytes-2.ensures ∙ der)),
     )
 
 pub returns : goal.returns

@@ -2,7 +2,7 @@ use Rattle.std.proofs.Common.{◌≡◌, ℕ, ◌+◌, ◌<◌, List, length, ma
 use Rattle.std.specs.Prelude.{slice_get, Contains}
 use Rattle.std.proofs.lemmas.Option.{get_or_from_slice_get, slice_get_within}
 use Rattle.repo_objects.specs.Objects.{HasObjectTexts}
-use Rattle.repo_objects.specs.Repository.{Entry, Contents, IsRepository, HasEntryTexts}
+use Rattle.repo_objects.specs.Repository.{DictionaryEntry, Contents, IsRepository, HasEntryTexts}
 use Rattle.message_model.specs.Compiled.{places_of}
 use Rattle.message_model.specs.inner.Numbers.{IsCompilable, AreCompilable, AreTypesOf, ids_at}
 use Rattle.message_model.specs.Views.{type_entry}
@@ -14,11 +14,11 @@ use Rattle.message_model.proofs.TypeLists.{types_more}
 use Rattle.message_model.proofs.object_types.with_objects.Goals as goal
 
 -- the object at a place has texts of XML
-texts_at : (R : Contents) (at : ℕ) (e : Entry) → IsRepository R → slice_get R.objects at ≡ Some e → HasObjectTexts e.object
+texts_at : (R : Contents) (at : ℕ) (e : DictionaryEntry) → IsRepository R → slice_get R.objects at ≡ Some e → HasObjectTexts e.object
 texts_at R at e whole there = (subst HasEntryTexts (get_or_from_slice_get R.objects at e e there) (whole.object_texts at e (slice_get_within R.objects at e there))).object
 
 -- the object at one of the places can be compiled
-compilable_at : (R : Contents) (places : List ℕ) (i : ℕ) (e : Entry) → AreCompilable R places → i < length places → Some e ≡ slice_get R.objects (get_or places i 0) → IsCompilable R places e.object
+compilable_at : (R : Contents) (places : List ℕ) (i : ℕ) (e : DictionaryEntry) → AreCompilable R places → i < length places → Some e ≡ slice_get R.objects (get_or places i 0) → IsCompilable R places e.object
 compilable_at R places i e can inside at = can.each (get_or places i 0) e (Contains-get_or places i 0 inside) (sym at)
 
 pub object_type-requires-clause-facets : goal.object_type-requires-clause-facets
@@ -38,7 +38,7 @@ loop-place-preserved c = record {
   stays = c.in_ok-object_type.ensures.stays ∙ c.loop-place.invariant.stays;
   types = λ m are first.
       let k = get_or c.args.places.now c.loop-place.place-index 0 in
-      let e : Entry = record { id = c.in-Some.field-0-0.now; object = c.in-Some.object.now } in
+      let e : DictionaryEntry = record { id = c.in-Some.field-0-0.now; object = c.in-Some.object.now } in
       let inside : Contains c.args.places.now (get_or c.args.places.now c.loop-place.place-index 0) = Contains-get_or c.args.places.now c.loop-place.place-index 0 c.loop-place-test.true in
       let at : slice_get c.args.repository.now.objects k ≡ Some e = sym c.in-Some.ensures.entry in
       let found = finds_at c.args.repository.now c.object_at.ensures.whole k e at in

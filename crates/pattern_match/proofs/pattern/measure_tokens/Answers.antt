@@ -1,7 +1,7 @@
 use Rattle.std.proofs.Common.{◌≡◌, ◌≤◌, ◌<◌, chars, sym, ap, ◌∙◌, subst, Some, None}
 use Rattle.pattern_match.specs.Reading.{IsPattern, HasPositions}
 use Rattle.pattern_match.specs.inner.Refusal.{refused_from, start}
-use Rattle.pattern_match.specs.Building.{limit}
+use Rattle.pattern_match.specs.Building.{position_limit}
 use Rattle.pattern_match.specs.inner.Counting.{counted_whole}
 use Rattle.pattern_match.specs.Compiled.{tokens_of_text}
 use Rattle.pattern_match.proofs.Refusing.{refused_at, not_refused}
@@ -21,7 +21,7 @@ returns-then-positions-gt-LIMIT-clause-error c =
     let ts : c.in_ok-tokens.tokens.items ≡ tokens_of_text (chars c.args.text.now) = c.in_ok-tokens.ensures ∙ ap tokens_of_text t2 in
     let t3 : c.as_slice-3.result.now ≡ tokens_of_text (chars c.args.text.now) = c.as_slice-3.ensures.value ∙ ts in
     let n : c.count-positions.result ≡ counted_whole (tokens_of_text (chars c.args.text.now)) = c.count-positions.ensures ∙ ap counted_whole t3 in
-    too_large (chars c.args.text.now) p (subst (λ x. limit < x) n c.if-positions-gt-LIMIT.true)
+    too_large (chars c.args.text.now) p (subst (λ x. position_limit < x) n c.if-positions-gt-LIMIT.true)
 
 pub returns-clause-tokens : goal.returns-clause-tokens
 returns-clause-tokens c = c.in_ok-tokens.ensures ∙ ap tokens_of_text (c.as_slice-2.ensures.value ∙ c.in_ok-characters.ensures)
@@ -34,4 +34,4 @@ returns-clause-positions c =
     let ts : c.in_ok-tokens.tokens.items ≡ tokens_of_text (chars c.args.text.now) = c.in_ok-tokens.ensures ∙ ap tokens_of_text t2 in
     let t3 : c.as_slice-3.result.now ≡ tokens_of_text (chars c.args.text.now) = c.as_slice-3.ensures.value ∙ ts in
     let n : c.count-positions.result ≡ counted_whole (tokens_of_text (chars c.args.text.now)) = c.count-positions.ensures ∙ ap counted_whole t3 in
-    subst (HasPositions (chars c.args.text.now)) (sym n) (measured_positions (chars c.args.text.now) p (subst (λ x. x ≤ limit) n c.if-positions-gt-LIMIT.false))
+    subst (HasPositions (chars c.args.text.now)) (sym n) (measured_positions (chars c.args.text.now) p (subst (λ x. x ≤ position_limit) n c.if-positions-gt-LIMIT.false))

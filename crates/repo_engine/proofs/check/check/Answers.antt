@@ -4,7 +4,7 @@ use Rattle.repo_engine.proofs.Messages.{read_on, push_ends, push_words, check_fa
 use Rattle.repo_engine.specs.Answer.{FromXml, IsFine}
 use Rattle.repo_engine.specs.Steps.{refused, goes_on}
 use Rattle.repo_engine.specs.inner.Arms.{end_of}
-use Rattle.repo_engine.specs.Sources.{ended_of}
+use Rattle.repo_engine.specs.Sources.{source_ended_of}
 use Rattle.transcoder.specs.Checked.{IsAccepted, HasXmlFault}
 use Rattle.transcoder.specs.declared.check_error.CheckError.TheVariants as check
 use Rattle.repo_engine.proofs.check.check.Goals as goal
@@ -13,7 +13,7 @@ pub returns-in-Ok-clause-no_words : goal.returns-in-Ok-clause-no_words
 returns-in-Ok-clause-no_words g c = rw c.ended.ensures (push_words c.push_bytes.result)
 
 pub returns-in-Ok-clause-source : goal.returns-in-Ok-clause-source
-returns-in-Ok-clause-source g c = rw c.ended.ensures (read_on (ended_of (end_of c.push_bytes.result)) _ (push_ends c.push_bytes.result).0 (record {
+returns-in-Ok-clause-source g c = rw c.ended.ensures (read_on (source_ended_of (end_of c.push_bytes.result)) _ (push_ends c.push_bytes.result).0 (record {
   later = c.check_xml.ensures.later;
   whole = λ _. c.in-Ok.ensures.whole;
   failed = λ e. absurd (cc);

@@ -1,7 +1,7 @@
 use Rattle.std.proofs.Common.{inl, inr}
 use Rattle.repo_engine.specs.Answer.{RefusesMessage}
 use Rattle.repo_engine.specs.inner.Arms.{RefusesRepository, RefusesUpToMessage}
-use Rattle.repo_engine.specs.Sources.{ended_of}
+use Rattle.repo_engine.specs.Sources.{source_ended_of}
 use Rattle.repo_engine.proofs.Steps.{if_ok, if_err, stops_by}
 use Rattle.repo_engine.proofs.Messages.{both_on, not_failing}
 use Rattle.repo_engine.proofs.message.read_message.Goals as goal
@@ -19,7 +19,7 @@ pub returns-in-Ok-clause-input : goal.returns-in-Ok-clause-input
 returns-in-Ok-clause-input g c = if_err _ _ c.compile.result (λ stop h. h.0) c.compile.ensures.stops
 
 pub returns-in-Ok-clause-sources : goal.returns-in-Ok-clause-sources
-returns-in-Ok-clause-sources g c = both_on _ (ended_of c.compile.result) _ _ (not_failing c.compile.result c.compile.ensures.stops) c.in-Ok.ensures.sources
+returns-in-Ok-clause-sources g c = both_on _ (source_ended_of c.compile.result) _ _ (not_failing c.compile.result c.compile.ensures.stops) c.in-Ok.ensures.sources
 
 pub returns-in-Err-clause-refuses : goal.returns-in-Err-clause-refuses
 returns-in-Err-clause-refuses g c r bytes left =

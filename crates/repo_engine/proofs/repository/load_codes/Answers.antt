@@ -1,5 +1,5 @@
 use Rattle.std.proofs.Common.{rules, ◌≡◌, ◌≤◌, length, subst, IfSome}
-use Rattle.code_sets.specs.Codes.{Reads, limit}
+use Rattle.code_sets.specs.Codes.{ReadsCodes, codes_limit}
 use Rattle.code_sets.specs.declared.errors.CodesError.TheVariants as codes_error
 use Rattle.repo_engine.proofs.Readings.{source_refuses_told, codes_failing, codes_not_whole}
 use Rattle.repo_engine.proofs.repository.load_codes.Goals as goal
@@ -13,8 +13,8 @@ returns-in-Ok-clause-source g c = record {
 
 pub returns-in-Ok-clause-gives : goal.returns-in-Ok-clause-gives
 returns-in-Ok-clause-gives g c bytes told = (
-  subst (λ o. IfSome o (λ b. length b ≤ limit)) told c.in-Ok.ensures.short,
-  subst (λ o. IfSome o (λ b. Reads b c.in-Ok.lists)) told c.in-Ok.ensures.ok,
+  subst (λ o. IfSome o (λ b. length b ≤ codes_limit)) told c.in-Ok.ensures.short,
+  subst (λ o. IfSome o (λ b. ReadsCodes b c.in-Ok.lists)) told c.in-Ok.ensures.ok,
 )
 
 pub returns-in-Err-clause-refuses : goal.returns-in-Err-clause-refuses

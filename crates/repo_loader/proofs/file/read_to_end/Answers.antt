@@ -3,7 +3,7 @@ use Rattle.std.proofs.Common.{rules, take, [], sym, subst, arith}
 use Rattle.std.specs.Prelude.{ℕ, List, IfSome, Some, None}
 use Rattle.repo_loader.specs.declared.fault.LoadFault.{LoadFault}
 use Rattle.repo_loader.specs.Loaded.{HasLoadFault}
-use Rattle.repo_loader.specs.inner.ProgressSteps.{EndsAs}
+use Rattle.repo_loader.specs.inner.ProgressSteps.{FileEndsAs}
 use Rattle.repo_loader.proofs.FileVerdicts.{front_taken, room_whole, fault_found, fault_placed, long_found, long_placed, room_left, last_piece, end_found, end_placed, end_whole}
 use Rattle.repo_loader.proofs.file.read_to_end.Goals as goal
 
@@ -24,13 +24,13 @@ pub returns-in-Some-clause-err : goal.returns-in-Some-clause-err
 returns-in-Some-clause-err g c =
     let h = c.loop-count.invariant.so_far in
     end_found (g.R.Source.left c.args.source.now) (g.R.Source.left c.loop-count.source) c.loop-count.room c.loop-count.progress h (g.R.Source.left c.pull.new.self) (search rules) (search rules) c.in-Some.fault
-    (subst (EndsAs c.finish.new.self h.taken_are) c.in-Some.is (c.in_ok-fault.ensures h.taken_are h.read))
+    (subst (FileEndsAs c.finish.new.self h.taken_are) c.in-Some.is (c.in_ok-fault.ensures h.taken_are h.read))
 
 pub returns-in-Some-clause-placed : goal.returns-in-Some-clause-placed
 returns-in-Some-clause-placed g c =
     let h = c.loop-count.invariant.so_far in
     end_placed (g.R.Source.left c.args.source.now) (g.R.Source.left c.loop-count.source) c.loop-count.room c.loop-count.progress h c.in-Some.fault
-    (subst (EndsAs c.finish.new.self h.taken_are) c.in-Some.is (c.in_ok-fault.ensures h.taken_are h.read))
+    (subst (FileEndsAs c.finish.new.self h.taken_are) c.in-Some.is (c.in_ok-fault.ensures h.taken_are h.read))
 
 pub returns-in-Some-clause-pulled : goal.returns-in-Some-clause-pulled
 returns-in-Some-clause-pulled g c =
@@ -41,7 +41,7 @@ pub returns-in-None-clause-ok : goal.returns-in-None-clause-ok
 returns-in-None-clause-ok g c =
     let h = c.loop-count.invariant.so_far in
     end_whole (g.R.Source.left c.args.source.now) (g.R.Source.left c.loop-count.source) c.loop-count.room c.loop-count.progress h (g.R.Source.left c.pull.new.self) (search rules) (search rules) c.finish.new.self
-    (subst (EndsAs c.finish.new.self h.taken_are) c.in-None.is (c.in_ok-fault.ensures h.taken_are h.read))
+    (subst (FileEndsAs c.finish.new.self h.taken_are) c.in-None.is (c.in_ok-fault.ensures h.taken_are h.read))
 
 -- ---- a fault in the piece
 

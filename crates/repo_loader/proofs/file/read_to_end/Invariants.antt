@@ -1,7 +1,7 @@
 -- No count fell, and what was taken is read.
 use Rattle.std.proofs.Common.{◌<◌, ◌≤◌, length}
 use Rattle.repo_loader.specs.LoadErrors.{piece_limit}
-use Rattle.repo_loader.specs.inner.ProgressSteps.{HasRoom}
+use Rattle.repo_loader.specs.inner.ProgressSteps.{HasReadWithRoom}
 use Rattle.repo_loader.proofs.file.read_to_end.Given as goal
 
 abbrev pub invariant-loop-count : goal.invariant-loop-count
@@ -9,7 +9,7 @@ invariant-loop-count g l = record {
   later : g.R.Source.faults l.fn.source ≤ g.R.Source.faults l.source;
   some : 0 < length l.piece;
   few : length l.piece ≤ piece_limit;
-  so_far : HasRoom (g.R.Source.left l.fn.source) (g.R.Source.left l.source) l.room l.progress;
+  so_far : HasReadWithRoom (g.R.Source.left l.fn.source) (g.R.Source.left l.source) l.room l.progress;
 }
 
 -- the bytes that may still come

@@ -2,12 +2,12 @@ use Rattle.std.proofs.Common.{◌++◌, map, ℕ, List, sym, ap, arith}
 use Rattle.std.specs.List.{flat_map}
 use Rattle.markup.specs.declared.event.Attr.{Attr}
 use Rattle.markup.specs.EventItems.{entry_of}
-use Rattle.fragments.specs.Fragment.{written_text, declarations}
+use Rattle.fragments.specs.Fragment.{written_text, numbered_declarations}
 use Rattle.respell.proofs.DeclaringLemmas.{without_none, declared_step}
 use Rattle.respell.proofs.spelling.push_declarations.Goals as goal
 
 pub loop-attr-init : goal.loop-attr-init
-loop-attr-init c = (ap (λ (l : List (List ℕ)). c.args.text.now ++ flat_map written_text (declarations 1 l)) (without_none (map entry_of c.args.attrs.now)), omega arith)
+loop-attr-init c = (ap (λ (l : List (List ℕ)). c.args.text.now ++ flat_map written_text (numbered_declarations 1 l)) (without_none (map entry_of c.args.attrs.now)), omega arith)
 
 pub loop-attr-preserved-in_ok-push_declaration : goal.loop-attr-preserved-in_ok-push_declaration
 loop-attr-preserved-in_ok-push_declaration c = (

@@ -1,5 +1,5 @@
 use Rattle.transcoder.proofs.XmlFaults.{refuses_left, of_some}
-use Rattle.xml_instances.specs.Checking.{IsSpelled}
+use Rattle.xml_instances.specs.Checking.{IsSpelledXml}
 use Rattle.transcoder.proofs.check.check_xml.Goals as goal
 
 pub read_instance-requires-clause-only_cut : goal.read_instance-requires-clause-only_cut
@@ -7,8 +7,8 @@ read_instance-requires-clause-only_cut g c x bytes fault h k = c.only_cut.ensure
 
 pub returns-clause-refused : goal.returns-clause-refused
 returns-clause-refused g c =
-    refuses_left c.spelled_has_none.ensures c.args.model.now c.type_count.ensures.sound (λ bytes (_ : Unit {0}). IsSpelled c.args.model.now bytes) (λ bytes x s. s) (g.I.Source.left c.args.source.now) c.read_instance.result c.read_instance.ensures.refused
+    refuses_left c.spelled_has_none.ensures c.args.model.now c.type_count.ensures.sound (λ bytes (_ : Unit {0}). IsSpelledXml c.args.model.now bytes) (λ bytes x s. s) (g.I.Source.left c.args.source.now) c.read_instance.result c.read_instance.ensures.refused
 
 pub returns-clause-placed : goal.returns-clause-placed
 returns-clause-placed g c =
-    of_some c.spelled_has_none.ensures c.args.model.now c.type_count.ensures.sound (λ bytes (_ : Unit {0}). IsSpelled c.args.model.now bytes) (λ bytes x s. s) c.read_instance.result c.read_instance.ensures.placed
+    of_some c.spelled_has_none.ensures c.args.model.now c.type_count.ensures.sound (λ bytes (_ : Unit {0}). IsSpelledXml c.args.model.now bytes) (λ bytes x s. s) c.read_instance.result c.read_instance.ensures.placed

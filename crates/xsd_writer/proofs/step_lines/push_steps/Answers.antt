@@ -5,7 +5,7 @@ use Rattle.xsd_writer.proofs.Blocks.{first_stops, second_stops, third_ends}
 use Rattle.xsd_writer.proofs.NestedSteps.{steps_are}
 use Rattle.xsd_writer.specs.inner.NumberedTexts.{texts_below}
 use Rattle.xsd_writer.specs.inner.Fragments.{step_level}
-use Rattle.xsd_writer.specs.inner.StepLines.{closings, opening}
+use Rattle.xsd_writer.specs.inner.StepLines.{closings, opening_lines}
 use Rattle.xsd_writer.proofs.step_lines.push_steps.Goals as goal
 
 pub returns-in-Err : goal.returns-in-Err
@@ -14,7 +14,7 @@ returns-in-Err g c =
     let later = c.in-Some.later.now in
     let n = length later in
     let is : c.args.steps.now ≡ first ∷ later = sym c.as_slice.ensures ∙ c.in-Some.ensures.cases.0 in
-    first_stops g.O.Sink.held g.O.Sink.faults g.O.Sink.room (texts_below opening n) (first_text first (step_level n)) (closings later) _ (steps_are c.args.steps.now first later is) _ _ c.in-Err.error c.in-Err.ensures
+    first_stops g.O.Sink.held g.O.Sink.faults g.O.Sink.room (texts_below opening_lines n) (first_text first (step_level n)) (closings later) _ (steps_are c.args.steps.now first later is) _ _ c.in-Err.error c.in-Err.ensures
 
 pub returns-in-Err-push_first : goal.returns-in-Err-push_first
 returns-in-Err-push_first g c =
@@ -22,7 +22,7 @@ returns-in-Err-push_first g c =
     let later = c.in-Some.later.now in
     let n = length later in
     let is : c.args.steps.now ≡ first ∷ later = sym c.as_slice.ensures ∙ c.in-Some.ensures.cases.0 in
-    second_stops g.O.Sink.held g.O.Sink.faults g.O.Sink.room (texts_below opening n) (first_text first (step_level n)) (closings later) _ (steps_are c.args.steps.now first later is) _ _ _ c.in-Err-push_first.error c.in_default-push_openings.ensures c.in-Err-push_first.ensures
+    second_stops g.O.Sink.held g.O.Sink.faults g.O.Sink.room (texts_below opening_lines n) (first_text first (step_level n)) (closings later) _ (steps_are c.args.steps.now first later is) _ _ _ c.in-Err-push_first.error c.in_default-push_openings.ensures c.in-Err-push_first.ensures
 
 pub returns : goal.returns
 returns g c =
@@ -30,4 +30,4 @@ returns g c =
     let later = c.in-Some.later.now in
     let n = length later in
     let is : c.args.steps.now ≡ first ∷ later = sym c.as_slice.ensures ∙ c.in-Some.ensures.cases.0 in
-    third_ends g.O.Sink.held g.O.Sink.faults g.O.Sink.room (texts_below opening n) (first_text first (step_level n)) (closings later) _ (steps_are c.args.steps.now first later is) _ _ _ _ c.push_closings.result c.in_default-push_openings.ensures c.in_default-push_first.ensures c.push_closings.ensures
+    third_ends g.O.Sink.held g.O.Sink.faults g.O.Sink.room (texts_below opening_lines n) (first_text first (step_level n)) (closings later) _ (steps_are c.args.steps.now first later is) _ _ _ _ c.push_closings.result c.in_default-push_openings.ensures c.in_default-push_first.ensures c.push_closings.ensures

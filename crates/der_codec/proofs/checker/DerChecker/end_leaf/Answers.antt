@@ -1,6 +1,6 @@
 use Rattle.std.proofs.Common.{◌∙◌, ap, sym, subst}
 use Rattle.der_model.specs.DerMessage.{der_message}
-use Rattle.der_codec.specs.Decoding.{HasRead, IsFresh}
+use Rattle.der_codec.specs.Decoding.{HasReadParts, IsFresh}
 use Rattle.der_codec.specs.KeptPieces.{KeepsShown}
 use Rattle.der_codec.specs.declared.decoder.Decoder.{Decoder}
 use Rattle.der_codec.proofs.Fed.{at_memory}
@@ -22,7 +22,7 @@ end_here-requires-clause-given c =
     let h = c.in-Ok.ensures in
     let new = c.end_component.new.self in (
       g.0,
-      subst (λ (z : Decoder). HasRead m z g.0) (sym h.decoder) g.1.read,
+      subst (λ (z : Decoder). HasReadParts m z g.0) (sym h.decoder) g.1.read,
       subst (λ (z : Decoder). KeepsShown m z new.pieces g.0) (sym h.decoder) (g.1.closes new.pieces (λ t. h.shown g.0 t (g.1.around t))),
     )
 
@@ -31,10 +31,10 @@ returns-in-Ok-clause-ok c = λ bytes g.
     let m = der_message c.args.model.now in
     let h = c.in-Ok.ensures in
     let new = c.end_component.new.self in
-    c.end_here.ensures.ok bytes (subst (λ (z : Decoder). HasRead m z bytes) (sym h.decoder) g.read) (subst (λ (z : Decoder). KeepsShown m z new.pieces bytes) (sym h.decoder) (g.closes new.pieces (λ t. h.shown bytes t (g.around t))))
+    c.end_here.ensures.ok bytes (subst (λ (z : Decoder). HasReadParts m z bytes) (sym h.decoder) g.read) (subst (λ (z : Decoder). KeepsShown m z new.pieces bytes) (sym h.decoder) (g.closes new.pieces (λ t. h.shown bytes t (g.around t))))
 
 pub returns-in-Ok-clause-err : goal.returns-in-Ok-clause-err
-returns-in-Ok-clause-err c = λ bytes r. c.end_here.ensures.err bytes (subst (λ (z : Decoder). HasRead (der_message c.args.model.now) z bytes) (sym c.in-Ok.ensures.decoder) r)
+returns-in-Ok-clause-err c = λ bytes r. c.end_here.ensures.err bytes (subst (λ (z : Decoder). HasReadParts (der_message c.args.model.now) z bytes) (sym c.in-Ok.ensures.decoder) r)
 
 pub returns-in-Err-clause-err : goal.returns-in-Err-clause-err
 returns-in-Err-clause-err c = λ bytes r. at_memory c.args.model.now c.end_component.new.self.decoder bytes c.in-Err.stop c.in-Err.ensures.err

@@ -1,7 +1,7 @@
 use Rattle.std.proofs.Common.{[], sym, subst, append-nil}
 use Rattle.fragments.specs.Fragment.{fragment}
 use Rattle.der_model.specs.DerMessage.{der_message}
-use Rattle.der_codec.specs.Decoding.{IsReady, end_of_levels}
+use Rattle.der_codec.specs.Decoding.{IsOctetAwaited, end_of_levels}
 use Rattle.der_codec.specs.KeptPieces.{KeepsShown}
 use Rattle.der_codec.specs.declared.decoder.Decoder.{Decoder}
 use Rattle.der_codec.proofs.Fed.{stop_within}
@@ -22,7 +22,7 @@ pub returns-then-not-ended-clause-open : goal.returns-then-not-ended-clause-open
 returns-then-not-ended-clause-open c = λ bytes r same.
     let d = c.args.self.now.decoder in
     let h = c.in-Ok.ensures.open fragment bytes r (let e = c.if-not-ended.true in cc) in
-    subst (λ (z : Decoder). IsReady z.due z.place (end_of_levels z.levels.items)) (sym h.0) (ready_below d.due d.place (end_of_levels d.levels.items) c.requires.fresh h.1)
+    subst (λ (z : Decoder). IsOctetAwaited z.due z.place (end_of_levels z.levels.items)) (sym h.0) (ready_below d.due d.place (end_of_levels d.levels.items) c.requires.fresh h.1)
 
 pub end_component-requires : goal.end_component-requires
 end_component-requires c =

@@ -1,11 +1,11 @@
 use Rattle.std.proofs.Common.{rules, ◌≡◌, ◌++◌, None}
-use Rattle.der_codec.specs.Checking.{failed}
+use Rattle.der_codec.specs.Checking.{der_failure}
 use Rattle.der_codec.proofs.Fed.{count_is, stops_same}
 use Rattle.der_codec.proofs.checker.DerChecker.feed.Goals as goal
 
 pub returns-in-Ok-feed_all-clause-count : goal.returns-in-Ok-feed_all-clause-count
 returns-in-Ok-feed_all-clause-count c =
-    let none : failed c.args.self.now ≡ None = search rules in
+    let none : der_failure c.args.self.now ≡ None = search rules in
     let g = c.requires.made.given none in
     count_is c.args.model.now c.args.self.now c.feed_all.new.self g.0 c.args.piece.now g.1 (c.in-Ok-feed_all.ensures.ok g.0 g.1)
 

@@ -1,12 +1,12 @@
 use Rattle.std.proofs.Common.{List, ℕ, length}
 use Rattle.message_model.specs.Tables.{types_of}
 use Rattle.der_codec.specs.Checked.{CheckTypes}
-use Rattle.der_codec.specs.Checking.{HasFed}
+use Rattle.der_codec.specs.Checking.{HasFedDer}
 use Rattle.der_codec.proofs.Fed.{GivenSoFar}
 use Rattle.der_codec.proofs.checker.DerChecker.feed_all.Given as goal
 
 abbrev pub invariant-loop-rest : goal.invariant-loop-rest
-invariant-loop-rest l = CheckTypes (types_of l.model) l.self.checks × ((bytes : List ℕ) → HasFed l.initial.self l.model bytes → GivenSoFar l.model l.self bytes l.piece l.rest)
+invariant-loop-rest l = CheckTypes (types_of l.model) l.self.checks × ((bytes : List ℕ) → HasFedDer l.initial.self l.model bytes → GivenSoFar l.model l.self bytes l.piece l.rest)
 
 abbrev pub decreases-loop-rest : goal.decreases-loop-rest
 decreases-loop-rest l = length l.rest

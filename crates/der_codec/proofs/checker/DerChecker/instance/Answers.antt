@@ -2,7 +2,7 @@ use Rattle.std.proofs.Common.{refl, sym, subst}
 use Rattle.inst_pool.specs.Pieces.{Region}
 use Rattle.der_model.specs.DerMessage.{der_message}
 use Rattle.der_codec.specs.KeptPieces.{KeepsShown}
-use Rattle.der_codec.specs.ReadInstances.{IsRead}
+use Rattle.der_codec.specs.ReadInstances.{IsSpelledDerAs}
 use Rattle.der_codec.proofs.ShownFed.{whole_shown, whole_closed}
 use Rattle.der_codec.proofs.checker.DerChecker.instance.Goals as goal
 
@@ -17,5 +17,5 @@ pub returns-clause-ok : goal.returns-clause-ok
 returns-clause-ok c = λ bytes r shows.
     let T = c.args.model.now in
     let d = c.args.self.decoder in
-    subst (λ (z : Region). IsRead T bytes z.pieces) (sym c.finish.ensures)
+    subst (λ (z : Region). IsSpelledDerAs T bytes z.pieces) (sym c.finish.ensures)
     (whole_shown T d c.in-Some.builder bytes c.is_sound.ensures (c.if-not-is_over.ensures.yes refl) r (subst (λ z. KeepsShown (der_message T) d z bytes) c.in-Some.is shows))

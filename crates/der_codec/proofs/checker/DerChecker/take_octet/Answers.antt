@@ -1,8 +1,8 @@
 use Rattle.std.proofs.Common.{◌++◌, ◌∷◌, [], refl, sym, subst}
 use Rattle.fragments.specs.Fragment.{fragment}
 use Rattle.der_model.specs.DerMessage.{der_message}
-use Rattle.der_codec.specs.Decoding.{IsOpen}
-use Rattle.der_codec.specs.KeptPieces.{KeepsShown, GoOn, begun_pieces}
+use Rattle.der_codec.specs.Decoding.{IsOpenState}
+use Rattle.der_codec.specs.KeptPieces.{KeepsShown, PiecesGoOn, begun_pieces}
 use Rattle.der_codec.specs.Levels.{inwards}
 use Rattle.der_codec.specs.declared.decoder.Decoder.{Decoder}
 use Rattle.der_codec.proofs.PiecesOpen.{ok_for}
@@ -17,7 +17,7 @@ returns-in-Tag-clause-shown c = λ bytes r shows.
     let new = c.begin_component.new.self in
     let o = c.args.octet in
     let h = c.in-Ok.ensures in
-    ok_for c.begin_component.result (λ v. IsOpen m (inwards d.levels.items) d.due v) (λ v. GoOn s.pieces new.pieces (begun_pieces m v)) (KeepsShown m new.decoder new.pieces (bytes ++ o ∷ [])) c.begin_component.ensures.shown
+    ok_for c.begin_component.result (λ v. IsOpenState m (inwards d.levels.items) d.due v) (λ v. PiecesGoOn s.pieces new.pieces (begun_pieces m v)) (KeepsShown m new.decoder new.pieces (bytes ++ o ∷ [])) c.begin_component.ensures.shown
     (λ goes. subst (λ (z : Decoder). KeepsShown m z new.pieces (bytes ++ o ∷ [])) (sym c.begin_component.ensures.decoder) (tag_shown m s.decoder d s.pieces new.pieces bytes o c.in-Tag.field-0 c.in-Tag.is c.requires.low r shows h.low h.begun goes))
 
 pub returns-in_default : goal.returns-in_default

@@ -1,6 +1,6 @@
 use Rattle.std.proofs.Common.{◌++◌, ◌∙◌, length, take, sym, ap, subst, arith, append-nil, refl}
 use Rattle.std.proofs.lemmas.List.{length-drop}
-use Rattle.der_codec.specs.Checking.{HasFed}
+use Rattle.der_codec.specs.Checking.{HasFedDer}
 use Rattle.der_codec.proofs.UsualFed.{front_room, run_stopped, run_ends}
 use Rattle.der_codec.proofs.UsualSteps.{run_more}
 use Rattle.der_codec.proofs.checker.DerChecker.take_shown.Goals as goal
@@ -8,7 +8,7 @@ use Rattle.der_codec.proofs.checker.DerChecker.take_shown.Goals as goal
 pub loop-count-init : goal.loop-count-init
 loop-count-init c = (
   c.requires.checks,
-  λ bytes h. subst (HasFed c.args.self.now c.args.model.now) (sym (append-nil bytes)) h,
+  λ bytes h. subst (HasFedDer c.args.self.now c.args.model.now) (sym (append-nil bytes)) h,
   omega arith,
   λ none. refl,
 )
@@ -60,7 +60,7 @@ loop-count-preserved c =
     let i = c.loop-count.invariant in
     let few = i.2 in (
       c.in-Ok.ensures.checks,
-      λ bytes h. subst (HasFed c.show_next.new.self c.args.model.now) (run_more bytes piece c.split_at.result.1.now taken count c.split_at.ensures.back) (c.in-Ok.ensures.front.ok (bytes ++ take taken piece) (i.1 bytes h)),
+      λ bytes h. subst (HasFedDer c.show_next.new.self c.args.model.now) (run_more bytes piece c.split_at.result.1.now taken count c.split_at.ensures.back) (c.in-Ok.ensures.front.ok (bytes ++ take taken piece) (i.1 bytes h)),
       omega (arith, within, behind, few),
       λ none. absurd (omega (arith, none, some)),
     )

@@ -3,7 +3,7 @@ use Rattle.der_model.specs.DerMessage.{in_der}
 use Rattle.std.proofs.Common.{◌≡◌, ◌∷◌, ◌++◌, [], ◌+◌, sym, subst, refl, arith, ap, ◌∙◌, Some, None}
 use Rattle.lexical_core.specs.declared.rule.Rule.TheVariants.{Overrun, UnexpectedTag}
 use Rattle.der_codec.specs.Levels.{inwards, first_of, rest_of}
-use Rattle.der_codec.specs.Decoding.{IsStopped, IsPast, end_of_first}
+use Rattle.der_codec.specs.Decoding.{IsStopped, IsPastEnd, end_of_first}
 use Rattle.der_codec.specs.declared.decoder.Due.TheVariants as due
 use Rattle.der_codec.specs.declared.decoder.Stop.TheVariants as stop
 use Rattle.der_codec.specs.declared.components.Added.TheVariants as added
@@ -67,7 +67,7 @@ returns-in-Begins-clause-err c = λ fragment bytes r has.
     let d = c.await_length.ensures.due in
     let place : c.set_innermost.new.self.place + 1 ≡ s.place + 1 = ap (λ z. z + 1) c.set_innermost.ensures.place in
     err_when c.await_length.result _ _ c.await_length.ensures.err (λ x h.
-    let past : IsPast (s.place + 1) (end_of_first (level ∷ rest_of (inwards s.levels.items))) = subst (λ z. IsPast z (end_of_first (level ∷ rest_of (inwards s.levels.items)))) place (subst (λ z. IsPast (c.set_innermost.new.self.place + 1) (end_of_first z)) c.set_innermost.ensures.levels h.1) in
+    let past : IsPastEnd (s.place + 1) (end_of_first (level ∷ rest_of (inwards s.levels.items))) = subst (λ z. IsPastEnd z (end_of_first (level ∷ rest_of (inwards s.levels.items)))) place (subst (λ z. IsPastEnd (c.set_innermost.new.self.place + 1) (end_of_first z)) c.set_innermost.ensures.levels h.1) in
     subst (λ z. IsStopped m new (bytes ++ c.args.octet ∷ []) z) (sym (h.0 ∙ ap (λ z. stop.Fault Overrun z added.Nothing) place))
     (fails_as m (inwards new.levels.items) (level ∷ rest_of (inwards s.levels.items)) new.due (due.Length c.args.id.constructed c.in-Begins.spot d.0) (bytes ++ c.args.octet ∷ []) Overrun (s.place + 1) (s.place + 1) []
     (ap (λ v. inwards v.items) c.await_length.ensures.levels ∙ c.set_innermost.ensures.levels) d.1 refl

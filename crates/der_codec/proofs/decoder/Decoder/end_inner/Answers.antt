@@ -1,7 +1,7 @@
 use Rattle.std.proofs.Common.{sym, subst, arith}
 use Rattle.fragments.specs.Fragment.{fragment}
 use Rattle.der_model.specs.DerMessage.{der_message}
-use Rattle.der_codec.specs.Decoding.{HasRead, IsFresh}
+use Rattle.der_codec.specs.Decoding.{HasReadParts, IsFresh}
 use Rattle.der_codec.specs.declared.decoder.Decoder.{Decoder}
 use Rattle.der_codec.proofs.UsualSteps.{fresh_after}
 use Rattle.der_codec.proofs.decoder.Decoder.end_inner.Goals as goal
@@ -16,7 +16,7 @@ returns-in-Ok-clause-fresh c =
     fresh_after c.args.self.now c.end.new.self c.in-Ok.ended c.requires (omega (arith, two)) h.same h.one h.due
 
 pub returns-in-Err-clause-ok : goal.returns-in-Err-clause-ok
-returns-in-Err-clause-ok c = λ bytes r. subst (λ (z : Decoder). HasRead (der_message c.args.model.now) z bytes) (sym c.in-Err.ensures.kept) r
+returns-in-Err-clause-ok c = λ bytes r. subst (λ (z : Decoder). HasReadParts (der_message c.args.model.now) z bytes) (sym c.in-Err.ensures.kept) r
 
 pub returns-in-Err-clause-fresh : goal.returns-in-Err-clause-fresh
 returns-in-Err-clause-fresh c = subst (λ (z : Decoder). IsFresh z.due) (sym c.in-Err.ensures.kept) c.requires

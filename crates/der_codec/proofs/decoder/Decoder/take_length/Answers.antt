@@ -2,7 +2,7 @@ use Rattle.std.proofs.Common.{◌∷◌, ◌++◌, [], ◌+◌, sym, subst, refl
 use Rattle.lexical_core.specs.declared.rule.Rule.TheVariants.{Overrun, BadLengthOctets}
 use Rattle.der_octets.specs.LengthSteps as lengths
 use Rattle.der_codec.specs.Levels.{inwards}
-use Rattle.der_codec.specs.Decoding.{IsStopped, IsBegun, HasLength}
+use Rattle.der_codec.specs.Decoding.{IsStopped, IsBegun, HasLengthOctets}
 use Rattle.der_codec.specs.declared.decoder.Due.TheVariants as due
 use Rattle.der_codec.proofs.Steps.{bad_length, more_length, overrun_length}
 use Rattle.der_codec.proofs.StepTies.{reads_as, fails_as, ok_always, err_when}
@@ -44,15 +44,15 @@ returns-in-More-clause-err c = λ m bytes r.
 pub returns-in-Done-clause-ok : goal.returns-in-Done-clause-ok
 returns-in-Done-clause-ok c = λ m bytes r.
     let s = c.args.self.now in
-    let begun : lengths.HasTaken c.args.step r.rest = subst (λ z. IsBegun z r.state r.rest) c.requires.due r.is_begun in
+    let begun : lengths.HasTakenLength c.args.step r.rest = subst (λ z. IsBegun z r.state r.rest) c.requires.due r.is_begun in
     let done = c.in-Done.ensures r.rest begun in
-    let has : HasLength s.due c.args.constructed c.args.spot r.rest c.args.octet c.in-Done.n = subst (λ z. HasLength z c.args.constructed c.args.spot r.rest c.args.octet c.in-Done.n) (sym c.requires.due) (refl, refl, done.0, done.1) in
+    let has : HasLengthOctets s.due c.args.constructed c.args.spot r.rest c.args.octet c.in-Done.n = subst (λ z. HasLengthOctets z c.args.constructed c.args.spot r.rest c.args.octet c.in-Done.n) (sym c.requires.due) (refl, refl, done.0, done.1) in
     c.open.ensures.ok m bytes r has
 
 pub returns-in-Done-clause-err : goal.returns-in-Done-clause-err
 returns-in-Done-clause-err c = λ m bytes r.
     let s = c.args.self.now in
-    let begun : lengths.HasTaken c.args.step r.rest = subst (λ z. IsBegun z r.state r.rest) c.requires.due r.is_begun in
+    let begun : lengths.HasTakenLength c.args.step r.rest = subst (λ z. IsBegun z r.state r.rest) c.requires.due r.is_begun in
     let done = c.in-Done.ensures r.rest begun in
-    let has : HasLength s.due c.args.constructed c.args.spot r.rest c.args.octet c.in-Done.n = subst (λ z. HasLength z c.args.constructed c.args.spot r.rest c.args.octet c.in-Done.n) (sym c.requires.due) (refl, refl, done.0, done.1) in
+    let has : HasLengthOctets s.due c.args.constructed c.args.spot r.rest c.args.octet c.in-Done.n = subst (λ z. HasLengthOctets z c.args.constructed c.args.spot r.rest c.args.octet c.in-Done.n) (sym c.requires.due) (refl, refl, done.0, done.1) in
     c.open.ensures.err m bytes r has

@@ -1,7 +1,7 @@
 use Rattle.std.proofs.Common.{◌+◌, ◌++◌, ◌∙◌, length, take, refl, sym, ap, subst, arith, append-nil}
 use Rattle.std.proofs.lemmas.List.{length-drop}
 use Rattle.der_model.specs.DerMessage.{der_message}
-use Rattle.der_codec.specs.Decoding.{HasRead, IsFresh, end_of_levels}
+use Rattle.der_codec.specs.Decoding.{HasReadParts, IsFresh, end_of_levels}
 use Rattle.der_codec.specs.declared.decoder.Decoder.{Decoder}
 use Rattle.der_codec.proofs.Nested.{ready_below, ready_waits}
 use Rattle.der_codec.proofs.UsualSteps.{run_more, run_room}
@@ -10,7 +10,7 @@ use Rattle.der_codec.proofs.decoder.Decoder.take_run.Goals as goal
 pub loop-count-init : goal.loop-count-init
 loop-count-init c = (
   c.requires.checks,
-  λ bytes r. subst (HasRead (der_message c.args.model.now) c.args.self.now) (sym (append-nil bytes)) r,
+  λ bytes r. subst (HasReadParts (der_message c.args.model.now) c.args.self.now) (sym (append-nil bytes)) r,
   omega arith,
   c.requires.waits,
   λ some. absurd (omega (arith, some)),
@@ -37,7 +37,7 @@ take_next-requires-clause-read c = (let g = c.requires.read in (g.0 ++ take c.lo
 
 pub returns-in-None-clause-ok : goal.returns-in-None-clause-ok
 returns-in-None-clause-ok c = λ bytes r.
-    subst (λ (z : Decoder). HasRead (der_message c.args.model.now) z (bytes ++ take c.loop-count.taken c.args.piece.now)) (sym c.in-None.ensures.kept) (c.loop-count.invariant.1 bytes r)
+    subst (λ (z : Decoder). HasReadParts (der_message c.args.model.now) z (bytes ++ take c.loop-count.taken c.args.piece.now)) (sym c.in-None.ensures.kept) (c.loop-count.invariant.1 bytes r)
 
 pub returns-in-None-clause-none : goal.returns-in-None-clause-none
 returns-in-None-clause-none c = λ none. c.in-None.ensures.kept ∙ c.loop-count.invariant.5 none
@@ -52,7 +52,7 @@ returns-then-not-end_usual-clause-ok c = λ bytes r.
     let taken = c.loop-count.taken in
     let count = c.in-Some.count in
     c.if-not-end_usual.ensures.ok (bytes ++ take (taken + count) piece)
-    (subst (HasRead m c.take_next.new.self) (run_more bytes piece c.split_at.result.1.now taken count c.split_at.ensures.back) (c.in-Some.ensures.ok (bytes ++ take taken piece) (c.loop-count.invariant.1 bytes r)))
+    (subst (HasReadParts m c.take_next.new.self) (run_more bytes piece c.split_at.result.1.now taken count c.split_at.ensures.back) (c.in-Some.ensures.ok (bytes ++ take taken piece) (c.loop-count.invariant.1 bytes r)))
 
 pub loop-count-smaller : goal.loop-count-smaller
 loop-count-smaller c =
@@ -78,7 +78,7 @@ loop-count-preserved c =
     let mid = c.take_next.new.self in
     let g = c.requires.read in (
       c.in-Some.ensures.checks,
-      λ bytes r. h.ok (bytes ++ take (taken + count) piece) (subst (HasRead m mid) (run_more bytes piece c.split_at.result.1.now taken count c.split_at.ensures.back) (c.in-Some.ensures.ok (bytes ++ take taken piece) (i.1 bytes r))),
+      λ bytes r. h.ok (bytes ++ take (taken + count) piece) (subst (HasReadParts m mid) (run_more bytes piece c.split_at.result.1.now taken count c.split_at.ensures.back) (c.in-Some.ensures.ok (bytes ++ take taken piece) (i.1 bytes r))),
       omega (arith, within, behind, few),
       ready_waits d.due d.place (end_of_levels d.levels.items) (ready_below d.due d.place (end_of_levels d.levels.items) h.fresh (h.low refl ((g.0 ++ take taken piece) ++ take count c.split_at.result.1.now) (c.in-Some.ensures.ok (g.0 ++ take taken piece) (i.1 g.0 g.1)))),
       λ k. h.fresh,

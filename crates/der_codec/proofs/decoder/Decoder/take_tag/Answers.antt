@@ -50,7 +50,7 @@ returns-in-More-clause-err c = λ fragment bytes r.
 pub returns-in-Done-clause-ok : goal.returns-in-Done-clause-ok
 returns-in-Done-clause-ok c = λ fragment bytes r.
     let s = c.args.self.now in
-    let begun : tags.HasTaken c.args.step r.rest = subst (λ z. IsBegun z r.state r.rest) c.requires.due r.is_begun in
+    let begun : tags.HasTakenTag c.args.step r.rest = subst (λ z. IsBegun z r.state r.rest) c.requires.due r.is_begun in
     let done = c.in-Done.ensures r.rest begun in
     let has : HasIdentifier s.due r.rest c.args.octet c.in-Done.id = subst (λ z. HasIdentifier z r.rest c.args.octet c.in-Done.id) (sym c.requires.due) done in
     c.begin.ensures.ok fragment bytes r has
@@ -58,7 +58,7 @@ returns-in-Done-clause-ok c = λ fragment bytes r.
 pub returns-in-Done-clause-err : goal.returns-in-Done-clause-err
 returns-in-Done-clause-err c = λ fragment bytes r.
     let s = c.args.self.now in
-    let begun : tags.HasTaken c.args.step r.rest = subst (λ z. IsBegun z r.state r.rest) c.requires.due r.is_begun in
+    let begun : tags.HasTakenTag c.args.step r.rest = subst (λ z. IsBegun z r.state r.rest) c.requires.due r.is_begun in
     let done = c.in-Done.ensures r.rest begun in
     let has : HasIdentifier s.due r.rest c.args.octet c.in-Done.id = subst (λ z. HasIdentifier z r.rest c.args.octet c.in-Done.id) (sym c.requires.due) done in
     c.begin.ensures.err fragment bytes r has

@@ -1,5 +1,5 @@
 use Rattle.std.proofs.Common.{◌≡◌, length, arith, true, false}
-use Rattle.inst_pool.specs.Blocks.{pieces_of}
+use Rattle.inst_pool.specs.Blocks.{block_pieces}
 use Rattle.inst_pool.specs.Pieces.{bytes_of}
 use Rattle.inst_pool.proofs.ContentLemmas.{length_pieces}
 use Rattle.inst_pool.proofs.builder.Builder.reserve.Goals as goal
@@ -14,6 +14,6 @@ returns-clause-ok c =
     let m = c.make_piece_room.new.blocks in
     let items = c.in_ok-make_piece_room.ensures.items in
     let l = length_pieces m.bytes.items m.contents.items in let fits = c.in_ok-make_piece_room.ensures.ok in
-    let n : bytes_of (pieces_of m) ≡ length m.bytes.items = rw (items.contents, items.bytes) c.self.invariant.blocks.count in
+    let n : bytes_of (block_pieces m) ≡ length m.bytes.items = rw (items.contents, items.bytes) c.self.invariant.blocks.count in
     let b = m.bytes.ok.0 in let byte_fits = c.in_ok-make_room.ensures.ok in let byte_same = c.in_ok-make_room.ensures.len in
     rw c.in_ok-make_room.ensures.items (omega (arith, l, fits), omega (arith, n, b, byte_fits, byte_same))

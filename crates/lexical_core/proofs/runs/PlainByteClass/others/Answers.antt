@@ -1,6 +1,6 @@
 use Rattle.std.proofs.Common.{leb, cond, not, refl, arith}
 use Rattle.std.proofs.lemmas.Simd.{zip2_splat}
-use Rattle.lexical_core.specs.XmlRuns.{is_plain}
+use Rattle.lexical_core.specs.XmlRuns.{is_plain_xml_byte}
 use Rattle.lexical_core.proofs.LaneRuns.{joined, splat_is, masked}
 use Rattle.lexical_core.proofs.runs.PlainByteClass.others.Goals as goal
 
@@ -8,6 +8,6 @@ pub returns : goal.returns
 returns c =
     let v = c.args.bytes in
     let long = c.fits-bytes.0 in
-    masked _ (λ byte. not (is_plain byte)) v _ (omega arith) c.fits-bytes.1
+    masked _ (λ byte. not (is_plain_xml_byte byte)) v _ (omega arith) c.fits-bytes.1
     (joined _ _ _ v (joined _ _ _ v (joined _ _ _ v (joined (λ a b. cond (leb a b) 255 0) _ _ v (splat_is v 16 96 long) (zip2_splat _ v 16 32 long))
     (zip2_splat _ v 16 9 long)) (zip2_splat _ v 16 10 long)) (zip2_splat _ v 16 13 long)) refl

@@ -2,8 +2,8 @@ use Rattle.std.proofs.Common.{◌∷◌, ◌++◌, [], reverse, refl, sym, ◌�
 use Rattle.markup.specs.EventItems.{Tells}
 use Rattle.markup.specs.Inputs.{Any}
 use Rattle.markup.specs.Reading.{StopsUnder, RefusesUnder}
-use Rattle.markup.specs.inner.ReaderSteps.{returned, TellsMore, TokenAnswered}
-use Rattle.markup.specs.Tokenizers.{AdvancesBy, outcome, undrafted}
+use Rattle.markup.specs.inner.ReaderSteps.{return_items, TellsMore, TokenAnswered}
+use Rattle.markup.specs.Tokenizers.{AdvancesBy, outcome, without_draft}
 use Rattle.markup.proofs.ResultLemmas.{on_ok_if, if_err_if, match_ok, match_err}
 use Rattle.markup.proofs.ReaderLemmas.{advance_more, advance_refused, advance_out, answered, token_here, token_stopped, return_ok, return_draft, kept, handed}
 use Rattle.markup.proofs.reader.Reader.advance.Goals as goal
@@ -12,7 +12,7 @@ pub returns-in-Ok-More-clause-ok : goal.returns-in-Ok-More-clause-ok
 returns-in-Ok-More-clause-ok c limit bytes tokens told k w = on_ok_if c.tell_return.result _ _
     (λ t _. advance_more c.args.self.now bytes tokens told c.advance.new.self c.args.byte c.args.out.now c.tell_return.new.out k w (c.in-Ok-More.ensures).place t.0 t.1
     (subst (λ p. AdvancesBy c.args.self.now.tokenizer (outcome p c.advance.new.self).1 c.args.byte (outcome p c.advance.new.self).0) c.in-Ok-More.field-0-is (c.in-Ok-More.ensures).advances)
-    (subst (λ v. Tells c.args.out.now c.tell_return.new.out (returned t.0 v)) c.start-place.ensures t.2))
+    (subst (λ v. Tells c.args.out.now c.tell_return.new.out (return_items t.0 v)) c.start-place.ensures t.2))
     c.tell_return.ensures.ok
 
 pub returns-in-Ok-More-clause-err : goal.returns-in-Ok-More-clause-err
@@ -29,8 +29,8 @@ returns-then-is_told-clause-ok c limit bytes tokens told k w =
     let p = (c.in-Ok-Token.ensures).place in
     let out = c.args.out.now in
     subst (λ v. TellsMore limit Any (record { tokenizer = v; context = c.pass_line_end.new.self; failed = c.args.self.now.failed }) (bytes ++ c.args.byte ∷ []) told out out)
-    (kept z (return_draft c.args.self.now bytes tokens told (undrafted z) c.args.byte out out k w p c.in-Ok-Token.ended z.draft a o.0 o.1 n))
-    (return_ok c.args.self.now bytes tokens told (undrafted z) c.args.byte out out k w p c.in-Ok-Token.ended z.draft a o.0 o.1 n c.pass_line_end.new.self c.pass_line_end.ensures refl)
+    (kept z (return_draft c.args.self.now bytes tokens told (without_draft z) c.args.byte out out k w p c.in-Ok-Token.ended z.draft a o.0 o.1 n))
+    (return_ok c.args.self.now bytes tokens told (without_draft z) c.args.byte out out k w p c.in-Ok-Token.ended z.draft a o.0 o.1 n c.pass_line_end.new.self c.pass_line_end.ensures refl)
 
 pub returns-else-is_told-clause-ok : goal.returns-else-is_told-clause-ok
 returns-else-is_told-clause-ok c limit bytes tokens told k w =
@@ -40,9 +40,9 @@ returns-else-is_told-clause-ok c limit bytes tokens told k w =
     let n = sym o.2 ∙ c.if-is_told.false in
     let p = (c.in-Ok-Token.ensures).place in
     match_ok c.take_token.result _ _ _
-    (λ _ h. token_here c.args.self.now bytes tokens told (undrafted z) c.args.byte c.args.out.now c.take_token.new.out k w p c.in-Ok-Token.ended z.draft a o.0 o.1 n c.take_token.new.self
+    (λ _ h. token_here c.args.self.now bytes tokens told (without_draft z) c.args.byte c.args.out.now c.take_token.new.out k w p c.in-Ok-Token.ended z.draft a o.0 o.1 n c.take_token.new.self
     (c.take_token.ensures.rest.0 ∙ handed c.in-Ok-Token.ended z (reverse tokens) (k.reads.bytes ++ c.args.byte ∷ []) (a limit (reverse tokens) k.reads.bytes k.reads.opens w)) c.take_token.ensures.rest.1 h)
-    (answered c.args.self.now bytes tokens told (undrafted z) c.args.byte c.args.out.now c.take_token.new.out k w p c.in-Ok-Token.ended z.draft a o.0 o.1 n
+    (answered c.args.self.now bytes tokens told (without_draft z) c.args.byte c.args.out.now c.take_token.new.out k w p c.in-Ok-Token.ended z.draft a o.0 o.1 n
     (λ before t i x y v. TokenAnswered before t c.args.self.now.tokenizer.start c.args.out.now c.take_token.new.out c.take_token.new.self.context c.take_token.result)
     (λ before t i x y v. subst (λ v. TokenAnswered before t v c.args.out.now c.take_token.new.out c.take_token.new.self.context c.take_token.result) c.start-place.ensures (c.take_token.ensures.token before t i x y (v ∙ sym c.in_cdata-cdata.ensures))))
 
@@ -54,8 +54,8 @@ returns-else-is_told-clause-err c limit bytes tokens told k w =
     let n = sym o.2 ∙ c.if-is_told.false in
     let p = (c.in-Ok-Token.ensures).place in
     match_err c.take_token.result _ _ _
-    (token_stopped c.args.self.now bytes tokens told (undrafted z) c.args.byte c.args.out.now c.take_token.new.out k w p c.in-Ok-Token.ended z.draft a o.0 o.1 n)
-    (answered c.args.self.now bytes tokens told (undrafted z) c.args.byte c.args.out.now c.take_token.new.out k w p c.in-Ok-Token.ended z.draft a o.0 o.1 n
+    (token_stopped c.args.self.now bytes tokens told (without_draft z) c.args.byte c.args.out.now c.take_token.new.out k w p c.in-Ok-Token.ended z.draft a o.0 o.1 n)
+    (answered c.args.self.now bytes tokens told (without_draft z) c.args.byte c.args.out.now c.take_token.new.out k w p c.in-Ok-Token.ended z.draft a o.0 o.1 n
     (λ before t i x y v. TokenAnswered before t c.args.self.now.tokenizer.start c.args.out.now c.take_token.new.out c.take_token.new.self.context c.take_token.result)
     (λ before t i x y v. subst (λ v. TokenAnswered before t v c.args.out.now c.take_token.new.out c.take_token.new.self.context c.take_token.result) c.start-place.ensures (c.take_token.ensures.token before t i x y (v ∙ sym c.in_cdata-cdata.ensures))))
 

@@ -1,7 +1,7 @@
 -- The parts of the tag and its expanded attributes are those of the whole tag.
 use Rattle.std.proofs.Common.{◌++◌, sym, ap, ◌∙◌}
 use Rattle.std.specs.List.{list_all}
-use Rattle.markup.specs.inner.TagParts.{is_plain}
+use Rattle.markup.specs.inner.TagParts.{declares_none}
 use Rattle.markup.specs.Scopes.{declarations, all_declarations}
 use Rattle.markup.proofs.WholeTags.{all_plain}
 use Rattle.markup.specs.declared.tag.Spelled.{Spelled}
@@ -9,7 +9,7 @@ use Rattle.markup.proofs.ScopeLemmas.{resolved, counted_own}
 use Rattle.markup.proofs.scope.Scope.resolve_all.Goals as goal
 
 pub of-requires-2 : goal.of-requires-2
-of-requires-2 c = ap (list_all is_plain) c.in_ok-parts.ensures.parted.attributes ∙ all_plain c.args.given
+of-requires-2 c = ap (list_all declares_none) c.in_ok-parts.ensures.parted.attributes ∙ all_plain c.args.given
 
 pub returns : goal.returns
 returns c tags tag is_scope is_name is_given =

@@ -1,7 +1,7 @@
 use Rattle.std.proofs.Common.{◌≡◌, ◌++◌, ◌+◌, ◌-◌, ◌<◌, false, Option, None, List, length, take, drop, set, refl, sym, subst, ap, ◌∙◌, arith}
 use Rattle.std.proofs.lemmas.List.{length-set}
 use Rattle.pattern_match.specs.declared.instruction.Instruction.{Instruction}
-use Rattle.pattern_match.specs.inner.Drafting.{live, flagged_cell, lifted, IsGroup}
+use Rattle.pattern_match.specs.inner.Drafting.{live, flagged_cell, lift_group, IsGroup}
 use Rattle.pattern_match.proofs.DraftLemmas.{live_le, lift_live, lift_keeps}
 use Rattle.pattern_match.proofs.CellCounts.{lifts}
 use Rattle.pattern_match.proofs.draft.Draft.lift_item.Goals as goal
@@ -34,7 +34,7 @@ returns-clause-code c =
     (subst (λ x. IsGroup x c.args.place) (sym v) c.requires.group) (subst (λ x. c.args.place.cell + 1 < length x) (sym v) c.requires.some)
     (c.cell_with_flags.ensures ∙ ap (λ i. flagged_cell c.args.empty false i) c.index.ensures) _ refl in
     lift_live c.args.empty c.args.self.now _ c.args.place c.requires.group
-    (r.0 ∙ ap (λ x. take c.args.place.cell x ++ lifted c.args.empty (drop (c.args.place.cell + 1) x)) v)
+    (r.0 ∙ ap (λ x. take c.args.place.cell x ++ lift_group c.args.empty (drop (c.args.place.cell + 1) x)) v)
 
 pub returns-clause-kept : goal.returns-clause-kept
 returns-clause-kept c =
@@ -43,4 +43,4 @@ returns-clause-kept c =
     (subst (λ x. IsGroup x c.args.place) (sym v) c.requires.group) (subst (λ x. c.args.place.cell + 1 < length x) (sym v) c.requires.some)
     (c.cell_with_flags.ensures ∙ ap (λ i. flagged_cell c.args.empty false i) c.index.ensures) _ refl in
     lift_keeps c.args.empty c.args.self.now _ c.args.place c.requires.group
-    (r.0 ∙ ap (λ x. take c.args.place.cell x ++ lifted c.args.empty (drop (c.args.place.cell + 1) x)) v)
+    (r.0 ∙ ap (λ x. take c.args.place.cell x ++ lift_group c.args.empty (drop (c.args.place.cell + 1) x)) v)

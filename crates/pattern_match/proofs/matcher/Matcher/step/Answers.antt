@@ -1,5 +1,5 @@
 use Rattle.std.proofs.Common.{◌++◌, ◌∷◌, [], sym, subst}
-use Rattle.pattern_match.specs.Compiled.{follows, HasRead, IsMadeFor}
+use Rattle.pattern_match.specs.Compiled.{follows, HasReadWord, IsMadeFor}
 use Rattle.pattern_match.proofs.Stepping.{read_known}
 use Rattle.pattern_match.proofs.matcher.Matcher.step.Goals as goal
 
@@ -16,4 +16,4 @@ pub step_by_marks-requires : goal.step_by_marks-requires
 step_by_marks-requires c = subst (IsMadeFor c.args.pattern.now) (sym (c.step_by_recall.ensures.kept c.if-step_by_recall.false)) c.requires
 
 pub returns-clause-read : goal.returns-clause-read
-returns-clause-read c w h = c.step_by_marks.ensures.read w (subst (λ m. HasRead c.args.pattern.now m w) (sym (c.step_by_recall.ensures.kept c.if-step_by_recall.false)) h)
+returns-clause-read c w h = c.step_by_marks.ensures.read w (subst (λ m. HasReadWord c.args.pattern.now m w) (sym (c.step_by_recall.ensures.kept c.if-step_by_recall.false)) h)

@@ -1,7 +1,7 @@
 use Rattle.std.proofs.Common.{◌≡◌, ◌==◌, true, ℕ, suc, List, [], ◌∷◌, ◌++◌, length, take, refl, sym, ap, subst, ◌∙◌, append_assoc, append-nil, take-append-drop, arith}
 use Rattle.std.proofs.lemmas.Bool.Decides.{nat_tests}
 use Rattle.lexical_core.proofs.Lists.{none_left}
-use Rattle.pattern_match.specs.Compiled.{HasRead}
+use Rattle.pattern_match.specs.Compiled.{HasReadWord}
 use Rattle.pattern_match.proofs.matcher.Matcher.step_codes.Goals as goal
 
 pub loop-rest-init : goal.loop-rest-init
@@ -9,7 +9,7 @@ loop-rest-init c = record {
   seen = [];
   joined = refl;
   made = c.requires;
-  read = λ w h. subst (HasRead c.args.pattern.now c.args.self.now) (sym (append-nil w)) h;
+  read = λ w h. subst (HasReadWord c.args.pattern.now c.args.self.now) (sym (append-nil w)) h;
 }
 
 pub loop-rest-preserved : goal.loop-rest-preserved
@@ -22,7 +22,7 @@ loop-rest-preserved c =
       joined = before.joined ∙ ap (λ t. before.seen ++ t) (sym (take-append-drop count rest) ∙ ap (λ t. take count rest ++ t) (sym c.split_at.ensures.back))
           ∙ sym (append_assoc before.seen (take count rest) _);
       made = c.step_front-count.ensures.made;
-      read = λ w h. subst (HasRead c.args.pattern.now c.step_front-count.new.self) (append_assoc w before.seen _) (c.step_front-count.ensures.read _ (before.read w h));
+      read = λ w h. subst (HasReadWord c.args.pattern.now c.step_front-count.new.self) (append_assoc w before.seen _) (c.step_front-count.ensures.read _ (before.read w h));
     }
 
 pub returns-clause-read : goal.returns-clause-read
@@ -30,4 +30,4 @@ returns-clause-read c w h =
     let before = c.loop-rest.invariant in
     let none : c.loop-rest.rest.now ≡ [] = none_left c.loop-rest.rest.now (let test = c.loop-rest-test.false in let says = c.is_empty.ensures in cc) in
     let all : before.seen ≡ c.args.codes.now = sym (before.joined ∙ (ap (λ t. before.seen ++ t) none ∙ append-nil before.seen)) in
-    subst (λ t. HasRead c.args.pattern.now c.loop-rest.self (w ++ t)) all (before.read w h)
+    subst (λ t. HasReadWord c.args.pattern.now c.loop-rest.self (w ++ t)) all (before.read w h)

@@ -1,7 +1,7 @@
 -- The entry before is closed; then the least rule is told.
 use Rattle.std.proofs.Common.{◌≡◌, ◌∙◌, sym, ap, map, true≢false, subst, Some}
 use Rattle.repo_objects.specs.Repository.{HasId, HasEntryTexts}
-use Rattle.repo_loader.specs.FileNames.{value_of, id_name}
+use Rattle.repo_loader.specs.FileNames.{attribute_value, id_name}
 use Rattle.repo_loader.specs.FileValues.{text_or_empty}
 use Rattle.repo_loader.specs.inner.LoadingSteps.{HasIdIn}
 use Rattle.repo_loader.proofs.EntryTexts.{entry_texts}
@@ -23,8 +23,8 @@ pub returns-clause-can_close : goal.returns-clause-can_close
 returns-clause-can_close c =
     let attributes = map entry_of c.args.attributes.now in
     let here = c.close_entry.new.self.repository.objects in
-    let id : value_of id_name attributes ≡ Some c.in-Some.id.now = c.in-Some.ensures.some.0 in
-    let kept : c.in_ok-copied.field-0 ≡ text_or_empty (value_of id_name attributes) = c.in_ok-copied.ensures ∙ sym (ap text_or_empty id) in (
+    let id : attribute_value id_name attributes ≡ Some c.in-Some.id.now = c.in-Some.ensures.some.0 in
+    let kept : c.in_ok-copied.field-0 ≡ text_or_empty (attribute_value id_name attributes) = c.in_ok-copied.ensures ∙ sym (ap text_or_empty id) in (
       λ has. true≢false (sym (c.has_id_of.ensures.1 (subst (HasIdIn here) (sym id) (subst (HasId here) c.in_ok-copied.ensures has))) ∙ c.if-has_id_of.false),
       subst HasEntryTexts (λ i. record { id = sym kept i; object = sym c.in-Ok.ensures.ok.1 i }) (entry_texts attributes c.requires.texts c.args.kind),
     )

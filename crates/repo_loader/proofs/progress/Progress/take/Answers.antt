@@ -1,6 +1,6 @@
 -- The events are read, or they show a fault, or the byte does.
 use Rattle.std.proofs.Common.{◌∷◌, ◌++◌, [], sym, subst, ap, ◌∙◌}
-use Rattle.markup.specs.Reading.{GoesOn, Stops, taken}
+use Rattle.markup.specs.Reading.{GoesOn, Stops, bytes_taken}
 use Rattle.repo_loader.proofs.ReadSteps.{goes_texts, refuses_texts, reads_on, first_shows, if_none, ok_map}
 use Rattle.repo_loader.proofs.progress.Progress.take.Goals as goal
 
@@ -26,9 +26,9 @@ returns-in-Ok c = record {
   read = λ bytes h. ok_map c.take_events.result
       (reads_on c.args.self.now c.take_events.new.self bytes (c.args.byte ∷ []) c.take.new.out h
       (subst (λ r. GoesOn r (bytes ++ c.args.byte ∷ []) h.told c.args.self.now.events c.take.new.out) (sym c.take_events.ensures.reader) (c.in-Ok.ensures.ok _ bytes h.told h.given))
-      (ap taken c.take_events.ensures.reader ∙ c.in-Ok.ensures.count) c.take_events.ensures.none)
+      (ap bytes_taken c.take_events.ensures.reader ∙ c.in-Ok.ensures.count) c.take_events.ensures.none)
       (c.take_events.ensures.loaded h.told h.loaded);
-  count = if_none c.take_events.result (ap taken c.take_events.ensures.reader ∙ c.in-Ok.ensures.count);
+  count = if_none c.take_events.result (ap bytes_taken c.take_events.ensures.reader ∙ c.in-Ok.ensures.count);
 }
 
 pub returns-in_ok-first_fault-in-Err-Refused-clause-read : goal.returns-in_ok-first_fault-in-Err-Refused-clause-read

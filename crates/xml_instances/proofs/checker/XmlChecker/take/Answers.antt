@@ -11,7 +11,7 @@ use Rattle.respell.specs.Respelling.{HasSortedAttributes}
 use Rattle.xml_instances.specs.Built.{EventsShow}
 use Rattle.xml_instances.specs.Keeping.{GoOn}
 use Rattle.xml_instances.specs.Open.{IsOpen}
-use Rattle.xml_instances.specs.Checking.{items_of, AreTaken}
+use Rattle.xml_instances.specs.Checking.{items_in_events, AreTaken}
 use Rattle.xml_instances.proofs.Checks.{fed_on, sorted_told}
 use Rattle.xml_instances.proofs.Refusals.{stops_at_event, stops_before_mark, stops_at_mark}
 use Rattle.xml_instances.proofs.checker.XmlChecker.take.Goals as goal
@@ -24,9 +24,9 @@ returns-in_default-clause-ok c bytes h =
     let sorted = sorted_told c.take.new.self (bytes ++ c.args.byte ∷ []) h.told c.args.self.now.events c.take.new.out c.events_stay.ensures c.events_are_plain.ensures (c.in-Ok.ensures.ok _ bytes h.told h.given) h.none in
     fed_on c.args.model.now c.args.self.now (record { alloc = c.args.self.now.alloc; reader = c.take.new.self; events = c.clear.new.self; content = c.take_all.new.content; place = c.saturating_add-self.result; failed = c.args.self.now.failed }) bytes c.args.byte c.take.new.out h
     (c.in-Ok.ensures.ok _ bytes h.told h.given) c.in-Ok.ensures.count
-    (subst (λ (es : List Event). AreFine m ls (items_of es)) c.as_slice.ensures k.0)
-    (subst (λ (es : List Event). IsOpen c.take_all.new.content m (levels_over m ls (items_of es))) c.as_slice.ensures k.1)
-    (subst (λ (es : List Event). GoOn c.args.self.now.content.pieces c.take_all.new.content.pieces (EventsShow c.args.model.now ls (items_of es))) c.as_slice.ensures (c.in_default.ensures.shown ls h.open_are (subst (λ (es : List Event). AllByRecursion HasSortedAttributes (items_of es)) (sym c.as_slice.ensures) sorted)))
+    (subst (λ (es : List Event). AreFine m ls (items_in_events es)) c.as_slice.ensures k.0)
+    (subst (λ (es : List Event). IsOpen c.take_all.new.content m (levels_over m ls (items_in_events es))) c.as_slice.ensures k.1)
+    (subst (λ (es : List Event). GoOn c.args.self.now.content.pieces c.take_all.new.content.pieces (EventsShow c.args.model.now ls (items_in_events es))) c.as_slice.ensures (c.in_default.ensures.shown ls h.open_are (subst (λ (es : List Event). AllByRecursion HasSortedAttributes (items_in_events es)) (sym c.as_slice.ensures) sorted)))
     c.clear.ensures
     h.sound c.saturating_add-self.ensures c.requires.room
 
@@ -52,5 +52,5 @@ returns-in_default-take_all-clause-err c bytes h =
     let k = c.in_default-take_all.ensures.taken ls h.open_are in
     stops_at_mark c.args.model.now c.args.self.now bytes (c.args.byte ∷ []) c.take.new.out c.in-Err-Refused.fault c.mark_error.result h c.one_token.ensures c.fronts_agree.ensures c.nothing_at_clean.ensures c.tokens_have_bytes.ensures
     (subst (MarkStops (bytes ++ c.args.byte ∷ []) h.told c.args.self.now.events c.take.new.out) c.in-Err-Refused.field-0-is (c.in-Err-Refused.ensures.err _ bytes h.told h.given))
-    (subst (λ (es : List Event). AreFine m ls (items_of es)) c.as_slice-in-Err-Refused.ensures k.0)
-    (c.mark_error.ensures (levels_over m ls (items_of c.take.new.out)) (subst (λ (es : List Event). IsOpen c.take_all-in-Err-Refused.new.content m (levels_over m ls (items_of es))) c.as_slice-in-Err-Refused.ensures k.1))
+    (subst (λ (es : List Event). AreFine m ls (items_in_events es)) c.as_slice-in-Err-Refused.ensures k.0)
+    (c.mark_error.ensures (levels_over m ls (items_in_events c.take.new.out)) (subst (λ (es : List Event). IsOpen c.take_all-in-Err-Refused.new.content m (levels_over m ls (items_in_events es))) c.as_slice-in-Err-Refused.ensures k.1))

@@ -1,5 +1,5 @@
 use Rattle.std.proofs.Common.{◌+◌, take, refl, ap, ◌∙◌}
-use Rattle.markup.specs.Reading.{taken}
+use Rattle.markup.specs.Reading.{bytes_taken}
 use Rattle.message_model.specs.Tables.{message_of}
 use Rattle.xml_instances.proofs.QuickFed.{front_run, front_nothing}
 use Rattle.xml_instances.proofs.Blanks.{blanks_taken, blanks_shown}
@@ -10,7 +10,7 @@ returns-then-count-eq0-clause-front c =
     let xs = c.args.piece.now in
     let n = c.take_blanks-count.result in
     front_nothing c.args.model.now c.args.self.now _ xs (take n xs) n (ap (λ n. take n xs) c.if-count-eq0.true) (c.take_blanks-count.ensures.taken _)
-    (c.take_blanks-count.ensures.count ∙ ap (λ v. taken c.args.self.now.reader + v) c.if-count-eq0.true) refl refl refl refl
+    (c.take_blanks-count.ensures.count ∙ ap (λ v. bytes_taken c.args.self.now.reader + v) c.if-count-eq0.true) refl refl refl refl
 
 pub returns-clause-front : goal.returns-clause-front
 returns-clause-front c =

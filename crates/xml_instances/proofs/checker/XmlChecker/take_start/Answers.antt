@@ -13,7 +13,7 @@ use Rattle.respell.specs.Respelling.{HasSortedAttributes}
 use Rattle.xml_instances.specs.Built.{EventsShow}
 use Rattle.xml_instances.specs.Keeping.{GoOn}
 use Rattle.xml_instances.specs.Open.{IsOpen}
-use Rattle.xml_instances.specs.Checking.{items_of, AreTaken}
+use Rattle.xml_instances.specs.Checking.{items_in_events, AreTaken}
 use Rattle.xml_instances.proofs.Checks.{events_fed, sorted_told}
 use Rattle.xml_instances.proofs.QuickFed.{front_still}
 use Rattle.xml_instances.proofs.StartFronts.{front_refused, front_stops}
@@ -39,9 +39,9 @@ returns-in_default-clause-front c =
           let sorted = sorted_told c.take_start.new.self (bytes ++ seen) h.told c.args.self.now.events c.take_start.new.out c.events_stay.ensures c.events_are_plain.ensures g h.none in
           events_fed c.args.model.now c.args.self.now (record { alloc = c.args.self.now.alloc; reader = c.take_start.new.self; events = c.clear.new.self; content = c.take_all.new.content; place = c.saturating_add-self.result; failed = c.args.self.now.failed }) bytes seen n c.take_start.new.out h
           g c.in-Ok.ensures.count (sym (length-take-le n c.args.piece.now c.in-Ok.ensures.within))
-          (subst (λ (es : List Event). AreFine m ls (items_of es)) c.as_slice.ensures k.0)
-          (subst (λ (es : List Event). IsOpen c.take_all.new.content m (levels_over m ls (items_of es))) c.as_slice.ensures k.1)
-          (subst (λ (es : List Event). GoOn c.args.self.now.content.pieces c.take_all.new.content.pieces (EventsShow c.args.model.now ls (items_of es))) c.as_slice.ensures (c.in_default.ensures.shown ls h.open_are (subst (λ (es : List Event). AllByRecursion HasSortedAttributes (items_of es)) (sym c.as_slice.ensures) sorted)))
+          (subst (λ (es : List Event). AreFine m ls (items_in_events es)) c.as_slice.ensures k.0)
+          (subst (λ (es : List Event). IsOpen c.take_all.new.content m (levels_over m ls (items_in_events es))) c.as_slice.ensures k.1)
+          (subst (λ (es : List Event). GoOn c.args.self.now.content.pieces c.take_all.new.content.pieces (EventsShow c.args.model.now ls (items_in_events es))) c.as_slice.ensures (c.in_default.ensures.shown ls h.open_are (subst (λ (es : List Event). AllByRecursion HasSortedAttributes (items_in_events es)) (sym c.as_slice.ensures) sorted)))
           c.clear.ensures
           h.sound c.saturating_add-self.ensures (let w = c.in-Ok.ensures.within in let r = c.requires.room in omega (arith, w, r));
       err = λ bytes h. tt;
@@ -79,5 +79,5 @@ returns-in_default-take_all-clause-front c =
     let k = c.in_default-take_all.ensures.taken ls h.open_are in
     stops_at_mark c.args.model.now c.args.self.now bytes c.args.piece.now c.take_start.new.out c.in-Err-Refused.fault c.mark_error.result h c.one_token.ensures c.fronts_agree.ensures c.nothing_at_clean.ensures c.tokens_have_bytes.ensures
     (subst (MarkStops (bytes ++ c.args.piece.now) h.told c.args.self.now.events c.take_start.new.out) c.in-Err-Refused.field-0-is (c.in-Err-Refused.ensures.err _ bytes h.told h.given))
-    (subst (λ (es : List Event). AreFine m ls (items_of es)) c.as_slice-in-Err-Refused.ensures k.0)
-    (c.mark_error.ensures (levels_over m ls (items_of c.take_start.new.out)) (subst (λ (es : List Event). IsOpen c.take_all-in-Err-Refused.new.content m (levels_over m ls (items_of es))) c.as_slice-in-Err-Refused.ensures k.1)))
+    (subst (λ (es : List Event). AreFine m ls (items_in_events es)) c.as_slice-in-Err-Refused.ensures k.0)
+    (c.mark_error.ensures (levels_over m ls (items_in_events c.take_start.new.out)) (subst (λ (es : List Event). IsOpen c.take_all-in-Err-Refused.new.content m (levels_over m ls (items_in_events es))) c.as_slice-in-Err-Refused.ensures k.1)))
