@@ -2,23 +2,20 @@
 use Rattle.std.proofs.Common.{◌≡◌, ℕ, zero, suc, ◌+◌, ◌<◌, Bool, true, false, ◌||◌, leb, List, [], ◌∷◌, ◌++◌, length, reverse, drop, get_or, Option, Some, None, ⊎_elim, refl, sym, ap, subst, ◌∙◌, arith}
 use Rattle.std.specs.Global.{Vec}
 use Rattle.std.specs.Bool.{if◌then◌else◌}
-use Rattle.std.specs.BTreeMap.{BTreeMap, UpdatesBy, is_at}
+use Rattle.std.specs.BTreeMap.{BTreeMap, UpdatesBy}
 use Rattle.std.specs.Cmp.Lexicographic.{slice_cmp}
 use Rattle.std.specs.List.{list_any}
-use Rattle.std.specs.Map.{lookup, IsKeyTest, AreApart, KeepsOthers}
 use Rattle.std.specs.Option.{unwrap_or, is_some, IsSome}
-use Rattle.std.specs.declared.cmp.Ordering.{Ordering}
 use Rattle.std.specs.declared.cmp.Ordering.TheVariants.{Equal}
-use Rattle.std.specs.Ordering.{is_eq, nat_cmp, eq_by_cmp}
+use Rattle.std.specs.Ordering.{nat_cmp}
 use Rattle.std.specs.Str.{bytes_eq}
-use Rattle.std.proofs.lemmas.Cmp.{eq_by_cmp_equiv, nat_list_cmp_total, nat_list_eq_equiv}
 use Rattle.std.proofs.lemmas.Bool.{le-leb}
 use Rattle.std.proofs.lemmas.Bool.Decides.{leb_tells}
 use Rattle.std.proofs.lemmas.List.{reverse-append, reverse-reverse, length-reverse, length-append, get_or_append_left}
-use Rattle.std.proofs.lemmas.Map.Text.{is_eq-slice_cmp}
 use Rattle.std.proofs.lemmas.Slice.Eq.{bytes_eq-Decides}
 use Rattle.std.proofs.Math.Nat.{suc-add}
 use Rattle.std.proofs.Math.Seq.{get_or-append_seam, drop-nil}
+use Rattle.lexical_core.proofs.ByteKeys.{key_cmp, found_updated}
 use Rattle.markup.specs.declared.tag.Given.{Given}
 use Rattle.markup.specs.declared.open_bindings.Binding.{Binding}
 use Rattle.markup.specs.declared.bindings.Bindings.{Bindings}
@@ -42,29 +39,9 @@ popped_none all left last popped is = let none : last ∷ reverse left ≡ [] = 
 
 -- ---- the map by bytes
 
--- a key by its bytes
-abbrev keyed : List ℕ → Vec ℕ → Bool
-keyed q = is_at (λ k. slice_cmp nat_cmp q k.items)
-
--- how keys stand
-abbrev pub key_cmp : Vec ℕ → Vec ℕ → Ordering
-key_cmp x y = slice_cmp nat_cmp x.items y.items
-
-apart : (p q k : List ℕ) → bytes_eq p q ≡ false → is_eq (slice_cmp nat_cmp p k) ≡ true → is_eq (slice_cmp nat_cmp q k) ≡ false
-apart p q k n y =
-    is_eq-slice_cmp q k ∙ nat_list_eq_equiv.symm q k ∙ sym (nat_list_eq_equiv.congr p k q (sym (is_eq-slice_cmp p k) ∙ y)) ∙ n
-
-others : (test : Vec ℕ → Bool) (old new : List (Vec ℕ × ℕ)) → KeepsOthers (eq_by_cmp key_cmp) test old new → (other : Vec ℕ → Bool) → IsKeyTest (eq_by_cmp key_cmp) other → AreApart test other → lookup other new ≡ lookup other old
-unfolding KeepsOthers
-others test old new h = h
-
 -- what is found under any prefix once one was changed
 pub places_updated : (p : List ℕ) (m n : BTreeMap (Vec ℕ) ℕ) (w : Option ℕ) → UpdatesBy key_cmp (λ k. slice_cmp nat_cmp p k.items) m n w → (q : List ℕ) → place_in n q ≡ (if bytes_eq p q then w else place_in m q)
-places_updated p m n w h q = case (bytes_eq p q) refl
-  where
-    case : (b : Bool) → bytes_eq p q ≡ b → place_in n q ≡ (if b then w else place_in m q)
-    case true e = subst (λ l. place_in n l ≡ w) ((bytes_eq-Decides p q).0 e) h.1
-    case false e = others (keyed p) m.entries n.entries h.3 (keyed q) (λ x y. (eq_by_cmp_equiv nat_list_cmp_total).congr q x.items y.items) (λ k. apart p q k.items e)
+places_updated p m n w h q = found_updated p m n w h q
 
 -- ---- the place of a prefix's latest declaration
 
