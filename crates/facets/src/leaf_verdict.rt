@@ -32,6 +32,17 @@ impl LeafVerdict {
         })
     }
 
+    /// Makes room for so many more bytes. Whatever the answer, the check goes on as before.
+    pub fn reserve(&mut self, bytes: usize) -> Result<(), AllocError>
+        ensures ok { OnOk result (bytes ≤ verdict_spare self.new) }
+        ensures taken { (simple : SimpleType) (text : List ℕ) → HasVerdictTaken self.old simple text
+            → HasVerdictTaken self.new simple text }
+        ensures room { verdict_room self.old ≤ verdict_room self.new }
+        ensures kept { verdict_kept self.new ≡ verdict_kept self.old }
+    {
+        self.progress.reserve(bytes)
+    }
+
     /// Makes the check as it was when it was new, with all its room as spare. It takes no memory.
     pub fn restart(&mut self, simple: &Simple)
         requires { IsVerdictMadeFor self.old simple.now }
