@@ -32,10 +32,10 @@ nothing_over m place at bytes rest (Length n ∷ ps) (after, is, h, u, c, f) = a
 nothing_over m place at bytes rest (states.Contents o ∷ ps) (after, is, h, u, c, f) = absurd h
 nothing_over m place at bytes rest (End ∷ ps) (after, is, h, u, c, f) = absurd h
 
--- what the parts of an instance show, by its values
-instance_parts : (m : DerMessage ℕ) (bytes : List ℕ) (inner : Values) (parts : List Part) (at : ℕ) (shown : List Piece) → AreInstanceValues m inner → AreShort (whole_values_of inner) → bytes ≡ octets (whole_values_of inner)
-    → DerFront m Start 0 bytes parts (Within []) at [] → PartsShow m Start 0 parts shown → ValuesShow m Instance [] inner shown
-instance_parts m bytes inner parts at shown conf (s1, s2, s3, s4) is f told = go (subst (λ z. PartsShow m Start 0 z shown) all told)
+-- the parts of an instance
+pub instance_are : (m : DerMessage ℕ) (bytes : List ℕ) (inner : Values) (parts : List Part) (at : ℕ) → AreInstanceValues m inner → AreShort (whole_values_of inner) → bytes ≡ octets (whole_values_of inner) → DerFront m Start 0 bytes parts (Within []) at []
+    → parts ≡ Identifier true (universal 16) ∷ Length (length (octets inner)) ∷ parts_then inner []
+instance_are m bytes inner parts at conf (s1, s2, s3, s4) is f = one.are ∙ (ap (λ z. Identifier true (universal 16) ∷ z) two.are ∙ ap (λ z. Identifier true (universal 16) ∷ Length n ∷ z) (held.are ∙ ap (parts_then inner) (nothing_over m opened.end at [] [] held.behind held.front)))
   where
     id : List ℕ
     id = identifier true (universal 16)
@@ -58,12 +58,20 @@ instance_parts m bytes inner parts at shown conf (s1, s2, s3, s4) is f told = go
     held : PartsBehind {P = ℕ} m inner [] opened.end [] two.others at []
     held = parts_of_values m inner opened [] (0 + length id + length (length_octets n)) (octets inner ++ []) [] two.others at [] refl refl s3 conf two.front
 
-    all : parts ≡ Identifier true (universal 16) ∷ Length n ∷ parts_then inner []
-    all = one.are ∙ (ap (λ z. Identifier true (universal 16) ∷ z) two.are ∙ ap (λ z. Identifier true (universal 16) ∷ Length n ∷ z) (held.are ∙ ap (parts_then inner) (nothing_over m opened.end at [] [] held.behind held.front)))
+-- what the parts of an instance show, by its values
+instance_parts : (m : DerMessage ℕ) (bytes : List ℕ) (inner : Values) (parts : List Part) (at : ℕ) (shown : List Piece) → AreInstanceValues m inner → AreShort (whole_values_of inner) → bytes ≡ octets (whole_values_of inner)
+    → DerFront m Start 0 bytes parts (Within []) at [] → PartsShow m Start 0 parts shown → ValuesShow m Instance [] inner shown
+instance_parts m bytes inner parts at shown conf short is f told = go (subst (λ z. PartsShow m Start 0 z shown) (instance_are m bytes inner parts at conf short is f) told)
+  where
+    n : ℕ
+    n = length (octets inner)
+
+    opened : DerLevel ℕ
+    opened = record { spot = Instance; names = Numbered (codes "Document") 1 ∷ []; came = []; end = end_from (0 + length (identifier true (universal 16))) n }
 
     go : PartsShow m Start 0 (Identifier true (universal 16) ∷ Length n ∷ parts_then inner []) shown → ValuesShow m Instance [] inner shown
     go (f1, m1, o1, (f2, m2, o2, rest, is2), is1) =
-        let r = shown_by_values m inner opened [] (0 + length id + length (length_octets n)) [] m2 conf rest in
+        let r = shown_by_values m inner opened [] (0 + length (identifier true (universal 16)) + length (length_octets n)) [] m2 conf rest in
         let here : m2 ≡ r.here = r.is ∙ (ap (λ z. r.here ++ z) r.others ∙ append-nil r.here) in
         subst (ValuesShow m Instance [] inner) (sym (is1 ∙ (ap (λ z. z ++ m1) o1 ∙ (is2 ∙ (ap (λ z. z ++ m2) o2 ∙ here))))) r.values
 
