@@ -28,7 +28,7 @@ const RESERVED: [&[u8]; 16] = [
 ];
 
 /// The identifier of a tag or a code: X.680 §12.3.
-#[tactic(auto, unfolding(crate::specs::Names::identifier))]
+#[tactic(auto, unfolding(crate::specs::Names::asn_identifier))]
 pub(crate) fn identifier(alloc: Global, text: &[u8]) -> Result<Vec<u8>, AllocError>
     ensures { IfOk result (λ name. name.items ≡ asn_identifier text.now) }
 {
@@ -38,7 +38,7 @@ pub(crate) fn identifier(alloc: Global, text: &[u8]) -> Result<Vec<u8>, AllocErr
 }
 
 /// The name of a type: X.680 §12.2.
-#[tactic(auto, unfolding(crate::specs::Names::type_name))]
+#[tactic(auto, unfolding(crate::specs::Names::asn_type_name))]
 pub(crate) fn type_name(alloc: Global, text: &[u8]) -> Result<Vec<u8>, AllocError>
     ensures { IfOk result (λ name. name.items ≡ asn_type_name text.now) }
 {

@@ -24,7 +24,7 @@ use Rattle.reference_check.specs.Forms as form
 use Rattle.message_model.specs.Admits.{AdmitsAs, AdmitsChildren, FitsCode}
 use Rattle.message_model.specs.Message.{Message}
 use Rattle.message_model.specs.Writes.{name_in_namespace, WritesAttributes, WritesContent, MayHold, SpellsCode, SpellsText, text_nodes}
-use Rattle.message_model.proofs.XmlTexts.{xml_utf8}
+use Rattle.lexical_core.proofs.CharacterLemmas.{xml_text_is_utf8}
 use Rattle.respell.proofs.Runs.{behind}
 use Rattle.respell.proofs.TagNames.{opening_of, Knows, knows_within}
 use Rattle.respell.proofs.Trees.{Stays, stays_none, inside_of, not_over, element_stays, stays-append, retext, nodes_stay, fragment_within}
@@ -80,7 +80,7 @@ module _ {P : Type 0} (m : Message P) (names : HasXmlNames m) where
         entries = currency_entry bytes ∷ [];
         text_is = inr (bytes, refl, e ∙ ap currency_text r.3);
         plain = coded_plain r.0 r.1;
-        writes = (bytes, (refl, (inr refl, tt)), subst (λ t. SpellsCode (m.forms code) t l) (chars_from_encodes r.0 bytes (xml_utf8 bytes (r.0, r.1, refl)) refl) r.2);
+        writes = (bytes, (refl, (inr refl, tt)), subst (λ t. SpellsCode (m.forms code) t l) (chars_from_encodes r.0 bytes (xml_text_is_utf8 bytes (r.0, r.1, refl)) refl) r.2);
       }
   attributes_of form.Envelope v admits text h = no_attributes form.Envelope v text h tt
   attributes_of f v admits text h = absurd admits

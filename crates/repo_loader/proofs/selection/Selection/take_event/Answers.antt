@@ -1,12 +1,16 @@
 -- A start is taken; an end closes the innermost element; all else says nothing.
 use Rattle.std.proofs.Common.{◌≡◌, ◌+◌, [], ◌∷◌, List, length, refl, sym, ap, ◌∙◌, subst, arith}
-use Rattle.std.specs.Prelude.{MatchOption, Option, vec_len}
-use Rattle.markup.proofs.BindingLemmas.{counted}
+use Rattle.std.specs.Global.{Vec}
+use Rattle.std.specs.Prelude.{ℕ, MatchOption, Option, vec_len}
+use Rattle.std.proofs.lemmas.Grind.{common_steps}
 use Rattle.markup.specs.EventItems.{placed_event, item_of}
 use Rattle.repo_loader.specs.declared.part.Part.{Part}
 use Rattle.repo_loader.specs.Selected.{innermost, item_tags, parts_open_behind, parts_open_after}
 use Rattle.repo_loader.proofs.EventSteps.{close_one, quiet_event}
 use Rattle.repo_loader.proofs.selection.Selection.take_event.Goals as goal
+
+counted : {X : Type 0} (v : Vec X) (n : ℕ) → n ≡ vec_len v → n ≡ length v.items
+counted v n is = grind (arith, common_steps)
 
 none_left : (xs : List Part) → length xs ≡ 0 → xs ≡ []
 none_left [] h = refl
