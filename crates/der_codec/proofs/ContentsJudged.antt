@@ -1,16 +1,20 @@
 -- Contents in a value, by those of its simple type.
-use Rattle.std.proofs.Common.{◌≡◌, ℕ, List, Some, Result, Ok, Err, sym, ap, subst, Bor}
+use Rattle.std.proofs.Common.{◌≡◌, ℕ, List, Option, None, Some, Result, Ok, Err, refl, sym, ap, subst, Bor}
 use Rattle.data_types.specs.Leaf.{Leaf}
 use Rattle.data_types.specs.declared.leaf.LeafRef.{LeafRef}
 use Rattle.facets.specs.declared.simple.Simple.{Simple}
+use Rattle.message_model.specs.Tables.{Tables, types_of}
 use Rattle.message_model.specs.Views.{IsFormOf}
+use Rattle.message_model.specs.declared.model.Form.{Form}
 use Rattle.message_model.specs.declared.model.Form.TheVariants as form
 use Rattle.reference_check.specs.Forms as graph
 use Rattle.reference_check.specs.Forms.{Graph, text_type}
-use Rattle.der_model.specs.DerMessage.{DerMessage}
+use Rattle.der_model.specs.DerMessage.{DerMessage, der_message}
 use Rattle.der_model.specs.Faults.{IsHeldIn}
-use Rattle.der_model.specs.Structures.{Structure, Holds, LeafOf, Fragment, form_structure, number_structure}
+use Rattle.der_model.specs.OpenParts.{IsPrimitive}
+use Rattle.der_model.specs.Structures.{Spot, Instance, Structure, Holds, LeafOf, Fragment, form_structure, number_structure, structure}
 use Rattle.der_codec.specs.Judging.{IsJudged, HoldsLeaf, IsJudgedAt}
+use Rattle.der_codec.specs.Rooms.{HasNoEnvelopes}
 use Rattle.der_codec.specs.declared.checks.Refusal.TheVariants as refused
 use Rattle.der_codec.specs.declared.checks.Refusal.{Refusal}
 
@@ -45,3 +49,32 @@ pub holds : (m : DerMessage ℕ) (s : Structure ℕ) (octets : List ℕ) (leaf :
 holds m (Holds (LeafOf simple)) octets leaf h = (leaf, h)
 holds m (Holds Fragment) octets leaf h = h.0
 holds m s octets leaf h = absurd h
+
+-- a value that is no leaf holds no octets
+pub no_value : (g : Graph ℕ Simple) (p : ℕ) (o : Option Form) (f : graph.Form ℕ Simple) → IsFormOf o f → ((told : Bor Simple) → o ≡ Some (form.Simple told) → ⊥) → (o ≡ Some form.Envelope → ⊥) → IsPrimitive (form_structure g p f) → ⊥
+no_value g p (Some (form.Simple told)) f is simple envelope h = simple told refl
+no_value g p (Some form.Envelope) f is simple envelope h = envelope refl
+no_value g p (Some form.Sequence) (graph.Sequence slots) is simple envelope h = h
+no_value g p (Some form.Choice) (graph.Choice slots) is simple envelope h = h
+no_value g p (Some (form.Money told base)) (graph.Money code number) is simple envelope h = h
+no_value g p None graph.Missing is simple envelope h = h
+no_value g p o f is simple envelope h = absurd is
+
+pub no_number : (o : Option Form) (f : graph.Form ℕ Simple) → IsFormOf o f → ((told : ℕ) (base : Bor Simple) → o ≡ Some (form.Money told base) → ⊥) → IsPrimitive (number_structure f) → ⊥
+no_number (Some (form.Money told base)) f is money h = money told base refl
+no_number (Some (form.Simple told)) (graph.Simple simple) is money h = h
+no_number (Some form.Envelope) graph.Envelope is money h = h
+no_number (Some form.Sequence) (graph.Sequence slots) is money h = h
+no_number (Some form.Choice) (graph.Choice slots) is money h = h
+no_number None graph.Missing is money h = h
+no_number o f is money h = absurd is
+
+pub no_envelope : (g : Graph ℕ Simple) (p : ℕ) → HasNoEnvelopes g → IsFormOf (Some form.Envelope) (g p) → ⊥
+no_envelope g p none is = none p (envelope_is (g p) is)
+  where
+    envelope_is : (f : graph.Form ℕ Simple) → IsFormOf (Some form.Envelope) f → f ≡ graph.Envelope
+    envelope_is graph.Envelope is = refl
+    envelope_is f is = absurd is
+
+pub no_instance : (T : Tables) (slots : List (graph.Slot ℕ)) (of : Spot ℕ) → types_of T 0 ≡ graph.Sequence slots → of ≡ Instance → IsPrimitive (structure (der_message T) of) → ⊥
+no_instance T slots of root is h = subst (λ z. IsPrimitive (form_structure (types_of T) 0 z)) root (subst (λ z. IsPrimitive (structure (der_message T) z)) is h)

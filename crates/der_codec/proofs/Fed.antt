@@ -136,7 +136,7 @@ ready_reading T d kept pieces bytes read shows ready none = record {
   shows = shows;
 }
 
-kept_at : (T : Tables) (d : Due) (spot : Spot) (left start : ℕ) (bytes kept : List ℕ) → d ≡ due.Contents spot left → KeepsContents T d start bytes kept → IsKeptAt (der_message T) spot kept (drop start bytes)
+pub kept_at : (T : Tables) (d : Due) (spot : Spot) (left start : ℕ) (bytes kept : List ℕ) → d ≡ due.Contents spot left → KeepsContents T d start bytes kept → IsKeptAt (der_message T) spot kept (drop start bytes)
 kept_at T d spot left start bytes kept is h = subst (λ z. KeepsContents T z start bytes kept) is h
 
 pub keep_reading : (T : Tables) (d e : Decoder) (kept less : List ℕ) (pieces : Option Region) (bytes front : List ℕ) (spot : Spot) (left : ℕ) → d.due ≡ due.Contents spot left → length front < left → IsReading T d kept pieces bytes → HasReadParts (der_message T) e (bytes ++ front)

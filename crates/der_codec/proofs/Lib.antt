@@ -14,6 +14,8 @@ pub mod ContentsJudged
 pub mod PathsWritten
 pub mod Named
 pub mod PiecesOpen
+pub mod Growing
+pub mod RoomFronts
 pub mod NoCuts
 pub mod PathsOpen
 pub mod ContentsSteps
@@ -28,3 +30,6 @@ pub mod PartsBetween
 pub mod ShownSteps
 pub mod ShownFed
 pub mod ShownUsual
+pub mod Keeping
+pub mod RoomSteps
+pub mod Widened

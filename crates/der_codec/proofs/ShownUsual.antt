@@ -71,7 +71,7 @@ shows_as m xs ys d e start start2 place place2 kept bytes a b c f s =
     subst (λ z. Shows m z d start place kept bytes) (sym a) (subst (λ z. Shows m ys z start place kept bytes) (sym b) (subst (λ z. Shows m ys e z place kept bytes) (sym c) (subst (λ z. Shows m ys e start2 z kept bytes) (sym f) s)))
 
 -- the elements of the component
-begun_shows : (m : DerMessage ℕ) (x : Level) (xs : List Level) (c : Bool) (spot : Spot) (step : LengthStep) (edges : List Edge) → AreLast m x edges → (s : State ℕ) → IsOpenState m (x ∷ xs) (due.Length c spot step) s → begin_each edges ≡ begun_pieces m s
+pub begun_shows : (m : DerMessage ℕ) (x : Level) (xs : List Level) (c : Bool) (spot : Spot) (step : LengthStep) (edges : List Edge) → AreLast m x edges → (s : State ℕ) → IsOpenState m (x ∷ xs) (due.Length c spot step) s → begin_each edges ≡ begun_pieces m s
 begun_shows m x xs c spot step edges are (AwaitsLength b of names []) op = absurd op.2
 begun_shows m x xs c spot step edges are (AwaitsLength b of names (l ∷ ls)) op = ap begin_each (are l op.2.0)
 begun_shows m x xs c spot step edges are s op = absurd op

@@ -2,10 +2,12 @@ pub mod Levels
 pub mod Components
 pub mod Decoding
 pub mod Checked
+pub mod Rooms
 pub mod Judging
 pub mod Limits
 pub mod KeptOctets
 pub mod KeptPieces
+pub mod Reserved
 pub mod Checking
 pub mod ReadInstances
 pub mod Laws

@@ -1,5 +1,5 @@
 -- What a reader of DER that keeps an instance was given, and what it answers: it is a checker that keeps pieces.
-use Rattle.std.specs.Prelude.{◌≡◌, ℕ, List, Option}
+use Rattle.std.specs.Prelude.{◌≡◌, ℕ, List, Option, None}
 use Rattle.fragments.specs.Fragment.{fragment}
 use Rattle.data_types.specs.Value.{Value, Piece}
 use Rattle.message_model.specs.Tables.{Tables, pieces_of}
@@ -7,7 +7,9 @@ use Rattle.message_model.specs.declared.fault.InstanceError.{InstanceError}
 use Rattle.der_model.specs.DerMessage.{der_message}
 use Rattle.der_model.specs.Der.{SpellsDer}
 use Rattle.der_codec.specs.Checking.{HasFedDer, IsDerCheckerFor, IsFreed, der_bytes_fed, der_failure, held_contents, token_held}
+use Rattle.der_codec.specs.Reserved.{IsKeeping}
 use Rattle.der_codec.specs.declared.reader.DerReader.{DerReader}
+use Rattle.der_codec.specs.declared.room.Room.{Room}
 
 -- The reader goes on: it was given these bytes, which break nothing so far, and keeps the pieces that they show.
 pub record HasKeptPieces (reader : DerReader) (T : Tables) (bytes : List ℕ) : Type 0 where
@@ -33,9 +35,13 @@ reader_token_held reader = token_held reader.checker
 abbrev pub IsReaderFreed : DerReader → Type 0
 IsReaderFreed reader = IsFreed reader.checker
 
--- the reader was made for the message of these tables
+-- the reader was made for the message of these tables, and keeps pieces
 abbrev pub IsDerReaderFor : DerReader → Tables → Type 0
-IsDerReaderFor reader T = IsDerCheckerFor reader.checker T
+IsDerReaderFor reader T = IsDerCheckerFor reader.checker T × (der_reader_failure reader ≡ None → IsKeeping reader.checker T)
+
+-- how much is reserved
+abbrev pub reserved_room : DerReader → Room
+reserved_room reader = reader.checker.room
 
 -- the bytes spell an instance that has these pieces
 abbrev pub IsSpelledDerAs : Tables → List ℕ → List Piece → Type 0

@@ -1,11 +1,13 @@
 // A checker of the DER of instances that takes their bytes in pieces.
-ghost use Rattle.std.specs.Prelude.{◌≡◌, ◌<◌, ◌+◌, ◌≤◌, ◌^◌, ◌++◌, ℕ, List, [], IfOk, IfErr, Some, None, Err, length, take};
+ghost use Rattle.std.specs.Prelude.{◌≡◌, ◌<◌, ◌+◌, ◌≤◌, ◌^◌, ◌++◌, ℕ, List, [], IsOk, IfOk, IfErr, IsErrOf, Some, None, Err, length, take};
+ghost use Rattle.inst_pool.specs.Pieces.{Region};
 ghost use Rattle.message_model.specs.Tables.{Tables, types_of};
 ghost use Rattle.der_model.specs.DerMessage.{der_message};
 ghost use Rattle.der_codec.specs.Checked.{CheckTypes};
 ghost use Rattle.der_codec.specs.ReadInstances.{IsSpelledDerAs};
 ghost use Rattle.der_codec.specs.Decoding.{HasReadParts, IsStopped, IsSettled, IsFresh, BeginsContents, IsHeaderDue, end_of_levels};
 ghost use Rattle.der_codec.specs.KeptPieces.{KeepsShown, AreNone};
+ghost use Rattle.der_codec.specs.Reserved.{IsKeeping, HasEnough};
 ghost use Rattle.der_codec.specs.Limits.{open_limit, leaf_come, token_come};
 ghost use Rattle.facets.specs.LeafChecks.{IsHeldWithin};
 ghost use Rattle.der_codec.specs.Checking.{HasFedDer, IsReading, IsDerCheckerFor, StopsWithin, TakesDerFront, DerStops, IsSpelledDer, DerEndsAs, IsFreed, open_count, der_bytes_fed, der_failure, held_contents, token_held};
@@ -14,6 +16,7 @@ ghost use Rattle.message_model.specs.Errors.{IsSameOrMemory, IsAgain};
 use crate::checks::Checks;
 use crate::decoder::{Decoder, Due, Stop};
 use crate::envelopes::fragments_apart;
+use crate::room::Room;
 use inst_pool::{Builder, Instance};
 use message_model::{Fault, InstanceError, Model};
 use std::alloc::{AllocError, Global};
@@ -29,6 +32,8 @@ pub struct DerChecker {
     pub(crate) checks: Checks,
     /// The pieces of what has come, where they are kept.
     pub(crate) pieces: Option<Builder>,
+    /// How much is reserved, where pieces are kept.
+    pub(crate) room: Room,
     /// The answer that it gives for good, where there is one.
     failed: Option<InstanceError>,
 }
@@ -48,6 +53,7 @@ impl DerChecker {
     pub(crate) fn with_pieces(alloc: Global, model: &Model) -> Result<DerChecker, AllocError>
         ensures fed { IfOk result (λ c. HasFedDer c model.now []) }
         ensures made { IfOk result (λ c. IsDerCheckerFor c model.now) }
+        ensures keeping { IfOk result (λ c. IsKeeping c model.now) }
         ensures none { IfOk result (λ c. der_bytes_fed c ≡ 0) }
     {
         let _ = model;
@@ -59,6 +65,7 @@ impl DerChecker {
         requires { AreNone pieces }
         ensures fed { (T : Tables) → HasFedDer result T [] }
         ensures made { (T : Tables) → IsDerCheckerFor result T }
+        ensures keeping { (T : Tables) (region : Region) → pieces ≡ Some region → IsKeeping result T }
         ensures none { der_bytes_fed result ≡ 0 }
     {
         DerChecker {
@@ -67,6 +74,11 @@ impl DerChecker {
             kept: Vec::new(alloc),
             checks: Checks::new(alloc),
             pieces,
+            room: Room {
+                depth: 0,
+                nodes: 0,
+                bytes: 0,
+            },
             failed: None,
         }
     }
@@ -113,6 +125,9 @@ impl DerChecker {
         ensures failed { der_failure self.old ≡ None → IfErr result (λ e. der_failure self.new ≡ Some e) }
         ensures again { (e : InstanceError) → der_failure self.old ≡ Some e → IsAgain e result × (der_failure self.new ≡ der_failure self.old) }
         ensures freed { IfErr result (λ _. IsFreed self.new) }
+        ensures keeps { IsKeeping self.old model.now → IfOk result (λ _. IsKeeping self.new model.now) }
+        ensures room { IfOk result (λ _. self.new.room ≡ self.old.room) }
+        ensures memory { (bytes : List ℕ) → HasFedDer self.old model.now bytes → HasEnough self.old model.now (bytes ++ piece.now) → IsOk result }
     {
         if let Some(error) = &self.failed {
             return Err(match error.copy(self.alloc) {
@@ -183,6 +198,9 @@ impl DerChecker {
         ensures checks { CheckTypes (types_of model.now) self.new.checks }
         ensures ok { (bytes : List ℕ) → HasFedDer self.old model.now bytes → IfOk result (λ _. HasFedDer self.new model.now (bytes ++ piece.now)) }
         ensures err { (bytes : List ℕ) → HasFedDer self.old model.now bytes → IfErr result (λ stop. StopsWithin model.now self.new.decoder (bytes ++ piece.now) stop) }
+        ensures keeps { IsKeeping self.old model.now → IsKeeping self.new model.now }
+        ensures same { self.new.room ≡ self.old.room }
+        ensures memory { (bytes : List ℕ) → HasFedDer self.old model.now bytes → HasEnough self.old model.now (bytes ++ piece.now) → IsErrOf result Stop.Memory → ⊥ }
     {
         let mut rest = piece;
         while !rest.is_empty() {
@@ -206,6 +224,9 @@ impl DerChecker {
         requires given { (bytes : List ℕ) × HasFedDer self.old model.now bytes }
         ensures checks { CheckTypes (types_of model.now) self.new.checks }
         ensures front { TakesDerFront model.now self.old self.new piece.now result }
+        ensures keeps { IsKeeping self.old model.now → IsKeeping self.new model.now }
+        ensures same { self.new.room ≡ self.old.room }
+        ensures memory { (bytes : List ℕ) → HasFedDer self.old model.now bytes → HasEnough self.old model.now (bytes ++ piece.now) → IsErrOf result Stop.Memory → ⊥ }
         ensures some { IfOk result (λ n. 0 < n) }
     {
         match self.decoder.due {
@@ -226,6 +247,9 @@ impl DerChecker {
         requires given { (bytes : List ℕ) × HasFedDer self.old model.now bytes }
         ensures checks { CheckTypes (types_of model.now) self.new.checks }
         ensures front { TakesDerFront model.now self.old self.new piece.now result }
+        ensures keeps { IsKeeping self.old model.now → IsKeeping self.new model.now }
+        ensures same { self.new.room ≡ self.old.room }
+        ensures memory { (bytes : List ℕ) → HasFedDer self.old model.now bytes → HasEnough self.old model.now (bytes ++ piece.now) → IsErrOf result Stop.Memory → ⊥ }
         ensures some { IfOk result (λ n. 0 < n) }
     {
         if self.pieces.is_some() {
@@ -253,6 +277,7 @@ impl DerChecker {
         ensures unchanged { result ≡ 0 → self.new.decoder ≡ self.old.decoder }
         ensures kept { self.new.kept ≡ self.old.kept }
         ensures pieces { self.new.pieces ≡ self.old.pieces }
+        ensures same { self.new.room ≡ self.old.room }
         ensures sound { self.new.failed ≡ self.old.failed }
         ensures none { 0 < result → self.new.pieces ≡ None }
         ensures within { result ≤ length piece.now }
@@ -273,6 +298,9 @@ impl DerChecker {
         requires given { (bytes : List ℕ) × HasFedDer self.old model.now bytes }
         ensures checks { CheckTypes (types_of model.now) self.new.checks }
         ensures front { TakesDerFront model.now self.old self.new piece.now result }
+        ensures keeps { IsKeeping self.old model.now → IsKeeping self.new model.now }
+        ensures same { self.new.room ≡ self.old.room }
+        ensures memory { (bytes : List ℕ) → HasFedDer self.old model.now bytes → HasEnough self.old model.now (bytes ++ piece.now) → IsErrOf result Stop.Memory → ⊥ }
         ensures some { IfOk result (λ n. 0 < n) }
     {
         let Some((byte, behind)) = piece.split_first() else {
@@ -301,6 +329,9 @@ impl DerChecker {
         ensures within { IfOk result (λ n. n ≤ length behind.now) }
         ensures ok { (bytes : List ℕ) → HasReadParts (der_message model.now) self.old.decoder bytes → KeepsShown (der_message model.now) self.old.decoder self.old.pieces bytes → IfOk result (λ n. IsReading model.now self.new.decoder self.new.kept.items self.new.pieces (bytes ++ take n behind.now)) }
         ensures err { (bytes : List ℕ) → HasReadParts (der_message model.now) self.old.decoder bytes → IfErr result (λ stop. StopsWithin model.now self.new.decoder (bytes ++ behind.now) stop) }
+        ensures keeps { IsKeeping self.old model.now → IsKeeping self.new model.now }
+        ensures same { self.new.room ≡ self.old.room }
+        ensures memory { (bytes : List ℕ) → HasReadParts (der_message model.now) self.old.decoder bytes → KeepsShown (der_message model.now) self.old.decoder self.old.pieces bytes → HasEnough self.old model.now (bytes ++ behind.now) → IsErrOf result Stop.Memory → ⊥ }
     {
         match self.decoder.take_short(behind) {
             Ok(count) => {
@@ -329,6 +360,9 @@ impl DerChecker {
         ensures within { IfOk result (λ n. n ≤ length behind.now) }
         ensures ok { (bytes : List ℕ) → HasReadParts (der_message model.now) self.old.decoder bytes → KeepsShown (der_message model.now) self.old.decoder self.old.pieces bytes → IfOk result (λ n. IsReading model.now self.new.decoder self.new.kept.items self.new.pieces (bytes ++ take n behind.now)) }
         ensures err { (bytes : List ℕ) → HasReadParts (der_message model.now) self.old.decoder bytes → IfErr result (λ stop. StopsWithin model.now self.new.decoder (bytes ++ behind.now) stop) }
+        ensures keeps { IsKeeping self.old model.now → IsKeeping self.new model.now }
+        ensures same { self.new.room ≡ self.old.room }
+        ensures memory { (bytes : List ℕ) → HasReadParts (der_message model.now) self.old.decoder bytes → KeepsShown (der_message model.now) self.old.decoder self.old.pieces bytes → HasEnough self.old model.now (bytes ++ behind.now) → IsErrOf result Stop.Memory → ⊥ }
     {
         match self.decoder.due {
             Due::Contents { spot, left } => self.begin_contents(model, spot, left, behind),

@@ -1,12 +1,17 @@
 // The contents of primitive values: X.690 §8.1.4.
-ghost use Rattle.std.specs.Prelude.{◌≡◌, ◌<◌, ◌^◌, ℕ, length, true, false, IfOk};
+ghost use Rattle.std.specs.Prelude.{◌≡◌, ◌<◌, ◌≤◌, ◌^◌, ◌∷◌, [], ℕ, length, true, false, IsOk, IfOk, IsErrOf};
+ghost use Rattle.data_types.specs.Leaf.{Leaf};
+ghost use Rattle.data_types.specs.Value.{Holds as HoldsPiece};
 ghost use Rattle.fragments.specs.Fragment.{fragment};
 ghost use Rattle.message_model.specs.Tables.{types_of};
 ghost use Rattle.der_model.specs.DerMessage.{DerMessage, der_message};
 ghost use Rattle.der_model.specs.Structures as structures;
 ghost use Rattle.der_model.specs.Structures.{structure, Holds, Fragment};
+ghost use Rattle.der_model.specs.OpenParts.{IsPrimitive};
 ghost use Rattle.der_codec.specs.Checked.{CheckTypes};
-ghost use Rattle.der_codec.specs.KeptPieces.{GoesOnByLeaf, GoesOnByLast};
+ghost use Rattle.der_codec.specs.KeptPieces.{HoldsLeafAt, GoesOnByLeaf, GoesOnByLast};
+ghost use Rattle.der_codec.specs.Reserved.{HasChecks, GrowsRoom, HoldMore, HoldLeafWithin, IsPrimitiveAt};
+ghost use Rattle.der_codec.specs.Rooms.{HasNoEnvelopes};
 ghost use Rattle.der_codec.specs.Judging.{HoldsContents, IsJudgedAt, IsJudgedFor, IsVerdictFor};
 
 use crate::checks::{Checks, Refusal};
@@ -33,11 +38,15 @@ pub fn judge<'a>(
     requires made { CheckTypes (types_of model.now) checks.old }
     ensures made { CheckTypes (types_of model.now) checks.new }
     ensures judged { IsJudgedFor (der_message model.now) spot octets.now result }
+    ensures room { (bytes : ℕ) → HasChecks (types_of model.now) bytes checks.old → HasChecks (types_of model.now) bytes checks.new }
+    ensures within { (bytes : ℕ) → HasChecks (types_of model.now) bytes checks.old → HasNoEnvelopes (types_of model.now) → length octets.now ≤ bytes → IsPrimitiveAt (der_message model.now) spot → IsErrOf result Refusal.Memory → ⊥ }
 {
+    let _ = model.type_count();
     match spot {
         Spot::Value(number) => judge_value(checks, model, number, octets),
         Spot::Number(number) => judge_number(checks, model, number, octets),
-        _ => Err(Refusal::Memory),
+        Spot::Instance => Err(Refusal::Memory),
+        Spot::List { parent: _, slot: _ } => Err(Refusal::Memory),
     }
 }
 
@@ -55,6 +64,10 @@ pub(crate) fn tell(
     ensures made { CheckTypes (types_of model.now) checks.new }
     ensures judged { IsVerdictFor (der_message model.now) spot octets.now result }
     ensures shown { IfOk result (λ _. GoesOnByLeaf (der_message model.now) spot octets.now pieces.old pieces.new) }
+    ensures room { (bytes : ℕ) → HasChecks (types_of model.now) bytes checks.old → HasChecks (types_of model.now) bytes checks.new }
+    ensures grows { GrowsRoom pieces.old pieces.new }
+    ensures within { (bytes : ℕ) → HasChecks (types_of model.now) bytes checks.old → HasNoEnvelopes (types_of model.now) → length octets.now ≤ bytes → IsPrimitiveAt (der_message model.now) spot
+        → ((leaf : Leaf) → HoldsLeafAt (der_message model.now) spot octets.now leaf → HoldMore pieces.old (HoldsPiece leaf ∷ [])) → IsErrOf result Refusal.Memory → ⊥ }
 {
     match judge(checks, model, spot, octets) {
         Ok(leaf) => match hold(pieces, &leaf) {
@@ -82,6 +95,9 @@ pub(crate) fn tell_last(
     ensures same { IfOk result (λ told. told ≡ false → pieces.new ≡ pieces.old) }
     ensures held { IfOk result (λ told. told ≡ true → HoldsContents (der_message model.now) spot octets.now) }
     ensures shown { IfOk result (λ told. told ≡ true → GoesOnByLast (der_message model.now) around.now spot octets.now pieces.old pieces.new) }
+    ensures room { (bytes : ℕ) → HasChecks (types_of model.now) bytes checks.old → HasChecks (types_of model.now) bytes checks.new }
+    ensures grows { GrowsRoom pieces.old pieces.new }
+    ensures within { ((leaf : Leaf) → HoldsLeafAt (der_message model.now) spot octets.now leaf → HoldLeafWithin (der_message model.now) around.now leaf pieces.old) → IsOk result }
 {
     match judge(checks, model, spot, octets) {
         Ok(leaf) => match hold_last(pieces, model, around, &leaf) {
@@ -118,6 +134,8 @@ fn judge_value<'a>(
     requires made { CheckTypes (types_of model.now) checks.old }
     ensures made { CheckTypes (types_of model.now) checks.new }
     ensures judged { IsJudgedAt (der_message model.now) (structure (der_message model.now) (structures.Value number)) octets.now result }
+    ensures room { (bytes : ℕ) → HasChecks (types_of model.now) bytes checks.old → HasChecks (types_of model.now) bytes checks.new }
+    ensures within { (bytes : ℕ) → HasChecks (types_of model.now) bytes checks.old → HasNoEnvelopes (types_of model.now) → length octets.now ≤ bytes → IsPrimitive (structure (der_message model.now) (structures.Value number)) → IsErrOf result Refusal.Memory → ⊥ }
 {
     let _ = model.type_count();
     match model.form(number) {
@@ -138,6 +156,8 @@ fn judge_number<'a>(
     requires made { CheckTypes (types_of model.now) checks.old }
     ensures made { CheckTypes (types_of model.now) checks.new }
     ensures judged { IsJudgedAt (der_message model.now) (structure (der_message model.now) (structures.NumberOf number)) octets.now result }
+    ensures room { (bytes : ℕ) → HasChecks (types_of model.now) bytes checks.old → HasChecks (types_of model.now) bytes checks.new }
+    ensures within { (bytes : ℕ) → HasChecks (types_of model.now) bytes checks.old → HasNoEnvelopes (types_of model.now) → length octets.now ≤ bytes → IsPrimitive (structure (der_message model.now) (structures.NumberOf number)) → IsErrOf result Refusal.Memory → ⊥ }
 {
     let _ = model.type_count();
     match model.form(number) {

@@ -268,6 +268,7 @@ impl Decoder {
         requires count { count ≤ left }
         ensures read { (m : DerMessage ℕ) (bytes more : List ℕ) → HasReadParts m self.old bytes → length more ≡ count → HasReadParts m self.new (bytes ++ more) }
         ensures due { self.new.due ≡ Due.Contents spot (left - count) }
+        ensures levels { self.new.levels ≡ self.old.levels }
         ensures start { self.new.start ≡ self.old.start }
         ensures place { self.new.place ≡ self.old.place + count }
     {
@@ -336,6 +337,7 @@ impl Decoder {
         requires { IsOver self.now.due }
         ensures stopped { (m : DerMessage ℕ) (bytes : List ℕ) (octet : ℕ) → HasReadParts m self.now bytes → IsStopped m self.now (bytes ++ octet ∷ []) result }
         ensures stays { IsNoCut result }
+        ensures memory { result ≡ Stop.Memory → ⊥ }
     {
         Stop::Fault {
             rule: Rule::Trailing,

@@ -1,5 +1,5 @@
 // The elements that begin and end with the components of open values.
-ghost use Rattle.std.specs.Prelude.{◌≡◌, ◌++◌, ◌∷◌, [], ℕ, List, OnOk, Some, slice_get, reverse};
+ghost use Rattle.std.specs.Prelude.{◌≡◌, ◌++◌, ◌∷◌, [], ℕ, List, IsOk, OnOk, Some, slice_get, reverse};
 ghost use Rattle.data_types.specs.LeafAnswers.{leaf_of};
 ghost use Rattle.data_types.specs.Value.{Edge as EdgeOf, Holds};
 ghost use Rattle.inst_pool.specs.Pieces.{open_in};
@@ -13,6 +13,7 @@ ghost use Rattle.der_model.specs.ShownPieces.{begin_each, end_each, slot_element
 ghost use Rattle.der_model.specs.NestedPieces.{elements_around};
 ghost use Rattle.der_codec.specs.Levels.{IsSpot, IsLevel, AreLevels, first_of};
 ghost use Rattle.der_codec.specs.KeptPieces.{ShowsBegun, ShowsLeaf};
+ghost use Rattle.der_codec.specs.Reserved.{GrowsRoom, HoldsMore, HoldsBegun, HoldsLeafWithin};
 ghost use Rattle.der_codec.specs.inner.Elements.{edge_if, edges_of};
 
 use crate::components::{comes_once, is_choice};
@@ -113,7 +114,9 @@ fn last_begun(model: &Model, level: &Level) -> Elements
 /// An element begins, where there is one.
 #[inline(always)]
 fn begin_one(builder: &mut Builder, element: Option<Edge>) -> Result<(), AllocError>
-    ensures { OnOk result (builder.new.pieces ≡ builder.old.pieces ++ begin_each (edge_if element)) }
+    ensures begun { OnOk result (builder.new.pieces ≡ builder.old.pieces ++ begin_each (edge_if element)) }
+    ensures room { GrowsRoom (Some builder.old) (Some builder.new) }
+    ensures within { HoldsMore builder.old (begin_each (edge_if element)) → IsOk result }
 {
     match element {
         None => Ok(()),
@@ -124,7 +127,9 @@ fn begin_one(builder: &mut Builder, element: Option<Edge>) -> Result<(), AllocEr
 /// The elements begin, the outermost first.
 #[inline(always)]
 fn begin_elements(builder: &mut Builder, begun: &Elements) -> Result<(), AllocError>
-    ensures { OnOk result (builder.new.pieces ≡ builder.old.pieces ++ begin_each (edges_of begun.now)) }
+    ensures begun { OnOk result (builder.new.pieces ≡ builder.old.pieces ++ begin_each (edges_of begun.now)) }
+    ensures room { GrowsRoom (Some builder.old) (Some builder.new) }
+    ensures within { HoldsMore builder.old (begin_each (edges_of begun.now)) → IsOk result }
 {
     match begin_one(builder, begun.outer) {
         Err(error) => Err(error),
@@ -138,8 +143,10 @@ pub(crate) fn begin_component(
     model: &Model,
     around: Option<Level>,
 ) -> Result<(), AllocError>
-    ensures { (xs : List Level) (ls : List (states.DerLevel ℕ)) → around ≡ first_of xs → AreLevels (types_of model.now) xs ls
+    ensures begun { (xs : List Level) (ls : List (states.DerLevel ℕ)) → around ≡ first_of xs → AreLevels (types_of model.now) xs ls
         → OnOk result (builder.new.pieces ≡ builder.old.pieces ++ begin_each (elements_ended (der_message model.now) ls)) }
+    ensures room { GrowsRoom (Some builder.old) (Some builder.new) }
+    ensures within { (xs : List Level) (ls : List (states.DerLevel ℕ)) → around ≡ first_of xs → AreLevels (types_of model.now) xs ls → HoldsMore builder.old (begin_each (elements_ended (der_message model.now) ls)) → IsOk result }
 {
     match around {
         None => Ok(()),
@@ -153,7 +160,9 @@ pub(crate) fn begin_last(
     model: &Model,
     around: &Level,
 ) -> Result<(), AllocError>
-    ensures { OnOk result (ShowsBegun (der_message model.now) around.now builder.old.pieces builder.new.pieces) }
+    ensures begun { OnOk result (ShowsBegun (der_message model.now) around.now builder.old.pieces builder.new.pieces) }
+    ensures room { GrowsRoom (Some builder.old) (Some builder.new) }
+    ensures within { HoldsBegun (der_message model.now) around.now builder.old → IsOk result }
 {
     let begun = last_begun(model, around);
     begin_elements(builder, &begun)
@@ -167,7 +176,9 @@ pub(crate) fn hold_last(
     around: &Level,
     leaf: &LeafRef<'_>,
 ) -> Result<(), AllocError>
-    ensures { OnOk result (ShowsLeaf (der_message model.now) around.now (leaf_of leaf.now) builder.old.pieces builder.new.pieces) }
+    ensures held { OnOk result (ShowsLeaf (der_message model.now) around.now (leaf_of leaf.now) builder.old.pieces builder.new.pieces) }
+    ensures room { GrowsRoom (Some builder.old) (Some builder.new) }
+    ensures within { HoldsLeafWithin (der_message model.now) around.now (leaf_of leaf.now) builder.old → IsOk result }
 {
     let begun = last_begun(model, around);
     hold_within(builder, &begun, leaf)
@@ -180,7 +191,9 @@ fn hold_within(
     begun: &Elements,
     leaf: &LeafRef<'_>,
 ) -> Result<(), AllocError>
-    ensures { OnOk result (builder.new.pieces ≡ builder.old.pieces ++ (begin_each (edges_of begun.now) ++ Holds (leaf_of leaf.now) ∷ end_each (edges_of begun.now))) }
+    ensures held { OnOk result (builder.new.pieces ≡ builder.old.pieces ++ (begin_each (edges_of begun.now) ++ Holds (leaf_of leaf.now) ∷ end_each (edges_of begun.now))) }
+    ensures room { GrowsRoom (Some builder.old) (Some builder.new) }
+    ensures within { HoldsMore builder.old (begin_each (edges_of begun.now) ++ Holds (leaf_of leaf.now) ∷ end_each (edges_of begun.now)) → IsOk result }
 {
     if let Err(error) = begin_elements(builder, begun) {
         return Err(error);
@@ -194,7 +207,9 @@ fn hold_within(
 /// A leaf comes.
 #[inline(always)]
 pub(crate) fn append(builder: &mut Builder, leaf: &LeafRef<'_>) -> Result<(), AllocError>
-    ensures { OnOk result (builder.new.pieces ≡ builder.old.pieces ++ Holds (leaf_of leaf.now) ∷ []) }
+    ensures held { OnOk result (builder.new.pieces ≡ builder.old.pieces ++ Holds (leaf_of leaf.now) ∷ []) }
+    ensures room { GrowsRoom (Some builder.old) (Some builder.new) }
+    ensures within { HoldsMore builder.old (Holds (leaf_of leaf.now) ∷ []) → IsOk result }
 {
     match leaf {
         LeafRef::Bytes(bytes) => builder.leaf(LeafRef::Bytes(bytes)),
@@ -210,6 +225,8 @@ fn end_one(builder: &mut Builder, element: Option<Edge>) -> Result<(), AllocErro
     requires { (around : List EdgeOf) × (open_in builder.old.pieces ≡ edge_if element ++ around) }
     ensures ended { (around : List EdgeOf) → open_in builder.old.pieces ≡ edge_if element ++ around → OnOk result (builder.new.pieces ≡ builder.old.pieces ++ end_each (edge_if element)) }
     ensures open { (around : List EdgeOf) → open_in builder.old.pieces ≡ edge_if element ++ around → OnOk result (open_in builder.new.pieces ≡ around) }
+    ensures room { GrowsRoom (Some builder.old) (Some builder.new) }
+    ensures within { HoldsMore builder.old (end_each (edge_if element)) → IsOk result }
 {
     match element {
         None => Ok(()),
@@ -221,7 +238,9 @@ fn end_one(builder: &mut Builder, element: Option<Edge>) -> Result<(), AllocErro
 #[inline(always)]
 fn end_elements(builder: &mut Builder, ended: &Elements) -> Result<(), AllocError>
     requires { (around : List EdgeOf) × (open_in builder.old.pieces ≡ reverse (edges_of ended.now) ++ around) }
-    ensures { (around : List EdgeOf) → open_in builder.old.pieces ≡ reverse (edges_of ended.now) ++ around → OnOk result (builder.new.pieces ≡ builder.old.pieces ++ end_each (edges_of ended.now)) }
+    ensures ended { (around : List EdgeOf) → open_in builder.old.pieces ≡ reverse (edges_of ended.now) ++ around → OnOk result (builder.new.pieces ≡ builder.old.pieces ++ end_each (edges_of ended.now)) }
+    ensures room { GrowsRoom (Some builder.old) (Some builder.new) }
+    ensures within { HoldsMore builder.old (end_each (edges_of ended.now)) → IsOk result }
 {
     match end_one(builder, ended.inner) {
         Err(error) => Err(error),
@@ -238,8 +257,10 @@ pub(crate) fn end_component(
     around: Option<Level>,
 ) -> Result<(), AllocError>
     requires { (xs : List Level) × (ls : List (states.DerLevel ℕ)) × (around ≡ first_of xs) × AreLevels (types_of model.now) xs ls × (open_in builder.old.pieces ≡ elements_around (der_message model.now) ls) }
-    ensures { (xs : List Level) (ls : List (states.DerLevel ℕ)) → around ≡ first_of xs → AreLevels (types_of model.now) xs ls → open_in builder.old.pieces ≡ elements_around (der_message model.now) ls
+    ensures ended { (xs : List Level) (ls : List (states.DerLevel ℕ)) → around ≡ first_of xs → AreLevels (types_of model.now) xs ls → open_in builder.old.pieces ≡ elements_around (der_message model.now) ls
         → OnOk result (builder.new.pieces ≡ builder.old.pieces ++ end_each (elements_ended (der_message model.now) ls)) }
+    ensures room { GrowsRoom (Some builder.old) (Some builder.new) }
+    ensures within { (xs : List Level) (ls : List (states.DerLevel ℕ)) → around ≡ first_of xs → AreLevels (types_of model.now) xs ls → HoldsMore builder.old (end_each (elements_ended (der_message model.now) ls)) → IsOk result }
 {
     match around {
         None => Ok(()),

@@ -49,6 +49,7 @@ impl Decoder {
         ensures stays { (fragment : Tree → List ℕ) (bytes : List ℕ) → HasReadParts (in_der fragment (message_of model.now)) self.old bytes → IfErr result (λ stop. IsNoCut stop) }
         ensures begun { IfOk result (λ _. BeginsContents self.new.due self.new.start self.new.place) }
         ensures depth { IsLengthDue self.old.due → IfOk result (λ _. depth_of self.new ≡ depth_of self.old) }
+        ensures long { IsErrOf result Stop.Memory → IsLengthDue self.old.due }
     {
         match self.due {
             Due::Tag(step) => self.take_tag(model, step, octet),
@@ -206,6 +207,9 @@ impl Decoder {
         ensures stays { IfErr result (λ stop. IsNoCut stop) }
         ensures begun { IfOk result (λ _. BeginsContents self.new.due self.new.start self.new.place) }
         ensures depth { IfOk result (λ _. depth_of self.new ≡ depth_of self.old) }
+        ensures full { IsErrOf result Stop.Memory → IsFull self.old.levels }
+        ensures long { IsErrOf result Stop.Memory → IsLengthDue self.old.due }
+        ensures room { vec_capacity self.old.levels ≤ vec_capacity self.new.levels }
         ensures none { IfOk result (λ n. n ≡ 0 → self.new ≡ self.old) }
         ensures due { IfOk result (λ n. 0 < n → IsLengthDue self.old.due) }
         ensures few { IfOk result (λ n. n ≤ 1) }

@@ -1,5 +1,6 @@
 // How a checker takes the contents octets of leaves.
-ghost use Rattle.std.specs.Prelude.{◌≡◌, ◌<◌, ◌+◌, ◌≤◌, ◌^◌, ◌++◌, ◌⊎◌, ℕ, List, [], IfOk, IfErr, OnOk, length, take};
+ghost use Rattle.std.specs.Prelude.{◌≡◌, ◌<◌, ◌+◌, ◌≤◌, ◌^◌, ◌++◌, ◌⊎◌, ℕ, List, [], IsOk, IfOk, IfErr, IsErrOf, OnOk, length, take, vec_capacity};
+ghost use Rattle.der_codec.specs.Reserved.{IsKeeping, HasEnough, HoldsWhole};
 ghost use Rattle.message_model.specs.Tables.{types_of};
 ghost use Rattle.der_model.specs.DerMessage.{der_message};
 ghost use Rattle.der_codec.specs.Checked.{CheckTypes};
@@ -39,6 +40,9 @@ impl DerChecker {
         ensures within { IfOk result (λ n. n ≤ length behind.now) }
         ensures ok { (bytes : List ℕ) → HasReadParts (der_message model.now) self.old.decoder bytes → KeepsShown (der_message model.now) self.old.decoder self.old.pieces bytes → IfOk result (λ n. IsReading model.now self.new.decoder self.new.kept.items self.new.pieces (bytes ++ take n behind.now)) }
         ensures err { (bytes : List ℕ) → HasReadParts (der_message model.now) self.old.decoder bytes → IfErr result (λ stop. StopsWithin model.now self.new.decoder (bytes ++ behind.now) stop) }
+        ensures keeps { IsKeeping self.old model.now → IsKeeping self.new model.now }
+        ensures same { self.new.room ≡ self.old.room }
+        ensures memory { (bytes : List ℕ) → HasReadParts (der_message model.now) self.old.decoder bytes → KeepsShown (der_message model.now) self.old.decoder self.old.pieces bytes → HasEnough self.old model.now (bytes ++ behind.now) → IsErrOf result Stop.Memory → ⊥ }
     {
         if (behind.len() as u64) < left {
             return Ok(0);
@@ -68,6 +72,9 @@ impl DerChecker {
         requires given { (bytes : List ℕ) × HasFedDer self.old model.now bytes }
         ensures checks { CheckTypes (types_of model.now) self.new.checks }
         ensures front { TakesDerFront model.now self.old self.new piece.now result }
+        ensures keeps { IsKeeping self.old model.now → IsKeeping self.new model.now }
+        ensures same { self.new.room ≡ self.old.room }
+        ensures memory { (bytes : List ℕ) → HasFedDer self.old model.now bytes → HasEnough self.old model.now (bytes ++ piece.now) → IsErrOf result Stop.Memory → ⊥ }
         ensures some { IfOk result (λ n. 0 < n) }
     {
         let count = fewer(piece.len(), left);
@@ -93,6 +100,9 @@ impl DerChecker {
         ensures sound { self.new.failed ≡ self.old.failed }
         ensures ok { (bytes : List ℕ) → IsReading model.now self.old.decoder self.old.kept.items self.old.pieces bytes → IfOk result (λ _. IsReading model.now self.new.decoder self.new.kept.items self.new.pieces (bytes ++ front.now)) }
         ensures err { IfErr result (λ stop. stop ≡ Stop.Memory) }
+        ensures keeps { IsKeeping self.old model.now → IsKeeping self.new model.now }
+        ensures same { self.new.room ≡ self.old.room }
+        ensures memory { (bytes : List ℕ) → IsReading model.now self.old.decoder self.old.kept.items self.old.pieces bytes → HasEnough self.old model.now (bytes ++ front.now) → IsErrOf result Stop.Memory → ⊥ }
     {
         match self.hold(model, spot, front) {
             Ok(()) => {
@@ -110,9 +120,15 @@ impl DerChecker {
         ensures checks { self.new.checks ≡ self.old.checks }
         ensures sound { self.new.failed ≡ self.old.failed }
         ensures pieces { self.new.pieces ≡ self.old.pieces }
+        ensures same { self.new.room ≡ self.old.room }
+        ensures room { vec_capacity self.old.kept ≤ vec_capacity self.new.kept }
+        ensures within { length self.old.kept.items + length front.now ≤ vec_capacity self.old.kept → IsOk result }
     {
-        self.kept.extend_from_slice(front)?;
-        shorten(self.alloc, model, spot, &mut self.kept)
+        if let Err(error) = self.kept.extend_from_slice(front) {
+            return Err(error);
+        }
+        shorten(model, spot, &mut self.kept);
+        Ok(())
     }
 
     /// Takes the last contents octets of a leaf, judges it, and ends the values that end behind it.
@@ -128,6 +144,9 @@ impl DerChecker {
         ensures ok { (bytes : List ℕ) → KeepsRead model.now self.old.decoder self.old.kept.items bytes → KeepsShown (der_message model.now) self.old.decoder self.old.pieces bytes
             → IfOk result (λ _. IsReading model.now self.new.decoder self.new.kept.items self.new.pieces (bytes ++ front.now)) }
         ensures err { (bytes : List ℕ) → KeepsRead model.now self.old.decoder self.old.kept.items bytes → IfErr result (λ stop. StopsWithin model.now self.new.decoder (bytes ++ front.now) stop) }
+        ensures keeps { IsKeeping self.old model.now → IsKeeping self.new model.now }
+        ensures same { self.new.room ≡ self.old.room }
+        ensures memory { (bytes : List ℕ) → KeepsRead model.now self.old.decoder self.old.kept.items bytes → KeepsShown (der_message model.now) self.old.decoder self.old.pieces bytes → HasEnough self.old model.now (bytes ++ front.now) → IsErrOf result Stop.Memory → ⊥ }
     {
         match self.judge_whole(model, spot, front) {
             Ok(()) => {
@@ -149,11 +168,14 @@ impl DerChecker {
         ensures sound { self.new.failed ≡ self.old.failed }
         ensures kept { IfOk result (λ _. self.new.kept.items ≡ []) }
         ensures shown { IfOk result (λ _. GoesOnByLeaf (der_message model.now) spot (self.old.kept.items ++ front.now) self.old.pieces self.new.pieces) }
+        ensures keeps { IsKeeping self.old model.now → IsKeeping self.new model.now }
+        ensures same { self.new.room ≡ self.old.room }
+        ensures within { HoldsWhole self.old model.now spot front.now → IsErrOf result Refusal.Memory → ⊥ }
     {
         if self.kept.is_empty() {
             return tell(&mut self.checks, &mut self.pieces, model, spot, front);
         }
-        if self.kept.extend_from_slice(front).is_err() {
+        if let Err(_error) = self.kept.extend_from_slice(front) {
             return Err(Refusal::Memory);
         }
         let result = tell(

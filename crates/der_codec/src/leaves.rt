@@ -1,5 +1,5 @@
 // The leaves of contents octets under simple types: X.690 §8.2, §8.3, §8.5, §8.7, §8.23 and §11.
-ghost use Rattle.std.specs.Prelude.{◌≡◌, ◌↔◌, ◌<◌, ◌≤◌, ◌^◌, ◌∷◌, ℕ, Bool, [], length, Some, None, IfSome, IfNone, IsTrue};
+ghost use Rattle.std.specs.Prelude.{◌≡◌, ◌↔◌, ◌<◌, ◌≤◌, ◌^◌, ◌∷◌, ℕ, Bool, [], length, Some, None, IfSome, IfNone, IsErrOf, IsTrue};
 ghost use Rattle.std.specs.Int.Digits.{number_from_digits};
 ghost use Rattle.base64.specs.GeneralPurpose.{IsBytes};
 ghost use Rattle.lexical_core.specs.Characters.{IsXmlText};
@@ -11,6 +11,7 @@ ghost use Rattle.facets.specs.PatternChecks.{IsDateKind};
 ghost use Rattle.reference_check.specs.Forms.{Graph, text_type};
 ghost use Rattle.der_model.specs.LeafContents.{integer_octets, IsInteger, flag_octet};
 ghost use Rattle.der_codec.specs.Checked.{CheckTypes, IsToldOf};
+ghost use Rattle.der_codec.specs.Reserved.{WantsCheck, HasCheckAt, HasChecks};
 ghost use Rattle.der_codec.specs.Judging.{IsJudged, IsXmlCode, IsNoDate};
 
 use crate::checks::{Checks, Refusal};
@@ -30,6 +31,8 @@ pub(crate) fn judge_simple<'a>(
     requires made { (types : Graph ℕ SimpleType) × (text_type (types number) ≡ Some simple.now) × CheckTypes types checks.old }
     ensures made { (types : Graph ℕ SimpleType) → text_type (types number) ≡ Some simple.now → CheckTypes types checks.old → CheckTypes types checks.new }
     ensures judged { IsJudged simple.now octets.now result }
+    ensures room { (types : Graph ℕ SimpleType) (bytes : ℕ) → HasChecks types bytes checks.old → HasChecks types bytes checks.new }
+    ensures within { (bytes : ℕ) → (WantsCheck simple.now → HasCheckAt bytes checks.old.entries.items number) → length octets.now ≤ bytes → IsErrOf result Refusal.Memory → ⊥ }
 {
     match simple.kind {
         Kind::Decimal => judge_decimal(simple, octets),
@@ -48,7 +51,8 @@ pub(crate) fn judge_simple<'a>(
 #[inline(always)]
 fn judge_binary<'a>(simple: &Simple, octets: &'a [u8]) -> Result<LeafRef<'a>, Refusal>
     requires { simple.now.kind ≡ kind.Binary }
-    ensures { IsJudged simple.now octets.now result }
+    ensures judged { IsJudged simple.now octets.now result }
+    ensures never { IsErrOf result Refusal.Memory → ⊥ }
 {
     match check_octets(simple, octets.len() as u64) {
         Ok(()) => Ok(LeafRef::Bytes(octets)),
@@ -60,7 +64,8 @@ fn judge_binary<'a>(simple: &Simple, octets: &'a [u8]) -> Result<LeafRef<'a>, Re
 #[inline(always)]
 fn judge_decimal<'a>(simple: &Simple, octets: &'a [u8]) -> Result<LeafRef<'a>, Refusal>
     requires { simple.now.kind ≡ kind.Decimal }
-    ensures { IsJudged simple.now octets.now result }
+    ensures judged { IsJudged simple.now octets.now result }
+    ensures never { IsErrOf result Refusal.Memory → ⊥ }
 {
     let Some(number) = read_nr3(octets) else {
         return Err(Refusal::Breaks(Rule::BadContents));
@@ -75,7 +80,8 @@ fn judge_decimal<'a>(simple: &Simple, octets: &'a [u8]) -> Result<LeafRef<'a>, R
 #[inline(always)]
 fn judge_boolean<'a>(simple: &Simple, octets: &'a [u8]) -> Result<LeafRef<'a>, Refusal>
     requires { simple.now.kind ≡ kind.Boolean }
-    ensures { IsJudged simple.now octets.now result }
+    ensures judged { IsJudged simple.now octets.now result }
+    ensures never { IsErrOf result Refusal.Memory → ⊥ }
 {
     let _ = simple;
     match flag_of(octets) {
@@ -118,6 +124,8 @@ fn judge_text<'a>(
     requires made { (types : Graph ℕ SimpleType) × (text_type (types number) ≡ Some simple.now) × CheckTypes types checks.old }
     ensures made { (types : Graph ℕ SimpleType) → text_type (types number) ≡ Some simple.now → CheckTypes types checks.old → CheckTypes types checks.new }
     ensures judged { IsJudged simple.now octets.now result }
+    ensures room { (types : Graph ℕ SimpleType) (bytes : ℕ) → HasChecks types bytes checks.old → HasChecks types bytes checks.new }
+    ensures within { (bytes : ℕ) → (WantsCheck simple.now → HasCheckAt bytes checks.old.entries.items number) → length octets.now ≤ bytes → IsErrOf result Refusal.Memory → ⊥ }
 {
     let Some(count) = characters(octets) else {
         return Err(Refusal::Breaks(Rule::BadContents));
@@ -145,6 +153,8 @@ fn tell_text(
     requires made { (types : Graph ℕ SimpleType) × (text_type (types number) ≡ Some simple.now) × CheckTypes types checks.old }
     ensures made { (types : Graph ℕ SimpleType) → text_type (types number) ≡ Some simple.now → CheckTypes types checks.old → CheckTypes types checks.new }
     ensures told { (r : IsXmlRun run.now count) → IsToldOf simple.now r.chars result }
+    ensures room { (types : Graph ℕ SimpleType) (bytes : ℕ) → HasChecks types bytes checks.old → HasChecks types bytes checks.new }
+    ensures within { (bytes : ℕ) → (WantsCheck simple.now → HasCheckAt bytes checks.old.entries.items number) → length run.now ≤ bytes → IsErrOf result Refusal.Memory → ⊥ }
 {
     if simple.pattern.is_some() {
         return checks.tell(number, simple, run, count);
@@ -168,6 +178,8 @@ fn judge_date<'a>(
     requires made { (types : Graph ℕ SimpleType) × (text_type (types number) ≡ Some simple.now) × CheckTypes types checks.old }
     ensures made { (types : Graph ℕ SimpleType) → text_type (types number) ≡ Some simple.now → CheckTypes types checks.old → CheckTypes types checks.new }
     ensures judged { IsJudged simple.now octets.now result }
+    ensures room { (types : Graph ℕ SimpleType) (bytes : ℕ) → HasChecks types bytes checks.old → HasChecks types bytes checks.new }
+    ensures within { (bytes : ℕ) → (WantsCheck simple.now → HasCheckAt bytes checks.old.entries.items number) → length octets.now ≤ bytes → IsErrOf result Refusal.Memory → ⊥ }
 {
     if !is_date_text(simple.kind, octets) {
         return Err(Refusal::Breaks(no_date(octets)));
@@ -218,7 +230,8 @@ fn judge_code<'a>(simple: &Simple, codes: &Codes, octets: &'a [u8]) -> Result<Le
     requires kind { simple.now.kind ≡ kind.Text }
     requires codes { simple.now.codes ≡ Some codes.now }
     requires limits { IsWithinLimits simple.now }
-    ensures { IsJudged simple.now octets.now result }
+    ensures judged { IsJudged simple.now octets.now result }
+    ensures never { IsErrOf result Refusal.Memory → ⊥ }
 {
     let _ = simple;
     if !is_integer(octets) {

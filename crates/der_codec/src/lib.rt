@@ -29,9 +29,12 @@ mod limits;
 mod paths;
 mod pieces;
 mod reader;
+mod reserved;
+mod room;
 mod shown;
 mod usual;
 mod values;
 
 pub use checker::DerChecker;
 pub use reader::DerReader;
+pub use room::Room;

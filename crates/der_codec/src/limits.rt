@@ -1,5 +1,5 @@
 // How many octets are kept of contents that come in pieces: no more than tell what the contents are.
-ghost use Rattle.std.specs.Prelude.{◌≡◌, ◌+◌, ◌*◌, ◌<◌, ◌≤◌, ◌^◌, ◌++◌, ◌∷◌, [], ℕ, List, length, take, replicate, OnOk, IfOk, IfSome, IfNone, IsSome, IsTrue, IsFalse, Some, None};
+ghost use Rattle.std.specs.Prelude.{◌≡◌, ◌+◌, ◌-◌, ◌*◌, ◌<◌, ◌≤◌, ◌++◌, ◌∷◌, [], ℕ, List, length, drop, replicate, vec_capacity, IfSome, IfNone, IsTrue, IsFalse, Some, None};
 ghost use Rattle.base64.specs.GeneralPurpose.{IsBytes};
 ghost use Rattle.data_types.specs.declared.kind.Kind.TheVariants as kind;
 ghost use Rattle.facets.specs.LeafChecks.{IsWithinLimits};
@@ -13,21 +13,16 @@ use data_types::Kind;
 use facets::Simple;
 use lexical_core::xml_run;
 use message_model::{Form, Model};
-use std::alloc::{AllocError, Global};
 
 /// Cuts down the contents octets at the spot that have come, behind which more are due. What they are with those
 /// is not changed.
-pub(crate) fn shorten(
-    alloc: Global,
-    model: &Model,
-    spot: Spot,
-    kept: &mut Vec<u8>,
-) -> Result<(), AllocError>
-    ensures { OnOk result (IsKeptAt (der_message model.now) spot kept.new.items kept.old.items) }
+pub(crate) fn shorten(model: &Model, spot: Spot, kept: &mut Vec<u8>)
+    ensures kept { IsKeptAt (der_message model.now) spot kept.new.items kept.old.items }
+    ensures room { vec_capacity kept.old ≤ vec_capacity kept.new }
 {
     match simple_at(model, spot) {
-        Some(simple) => shorten_leaf(alloc, simple, kept),
-        None => Ok(()),
+        Some(simple) => shorten_leaf(simple, kept),
+        None => {}
     }
 }
 
@@ -70,60 +65,61 @@ fn number_at(model: &Model, number: u32) -> Option<&Simple>
 }
 
 /// Cuts down the contents octets of a leaf.
-fn shorten_leaf(alloc: Global, simple: &Simple, kept: &mut Vec<u8>) -> Result<(), AllocError>
+fn shorten_leaf(simple: &Simple, kept: &mut Vec<u8>)
     requires limits { IsWithinLimits simple.now }
     requires sorted { HasSortedCodes simple.now }
-    ensures { OnOk result (IsKeptUnder simple.now kept.new.items kept.old.items) }
+    ensures kept { IsKeptUnder simple.now kept.new.items kept.old.items }
+    ensures room { vec_capacity kept.old ≤ vec_capacity kept.new }
 {
     match simple.kind {
         Kind::Text => match &simple.codes {
             Some(_) => cut_code(simple, kept),
-            None => cut_text(alloc, simple, kept),
+            None => cut_text(simple, kept),
         },
         Kind::Binary => cut_octets(simple, kept),
         Kind::Decimal | Kind::Boolean | Kind::Envelope => cut_short(simple, kept),
-        _ => cut_date(alloc, simple, kept),
+        _ => cut_date(simple, kept),
     }
 }
 
 /// Of contents that are short, or are none, the first octets tell which.
-fn cut_short(simple: &Simple, kept: &mut Vec<u8>) -> Result<(), AllocError>
+fn cut_short(simple: &Simple, kept: &mut Vec<u8>)
     requires kind { IsShortForm simple.now.kind }
     requires sorted { HasSortedCodes simple.now }
-    ensures { OnOk result (IsKeptUnder simple.now kept.new.items kept.old.items) }
+    ensures kept { IsKeptUnder simple.now kept.new.items kept.old.items }
+    ensures room { vec_capacity kept.old ≤ vec_capacity kept.new }
 {
     let _ = simple;
     kept.truncate(64);
-    Ok(())
 }
 
 /// Of the number of a code the first octets tell whether it is too great.
-fn cut_code(simple: &Simple, kept: &mut Vec<u8>) -> Result<(), AllocError>
+fn cut_code(simple: &Simple, kept: &mut Vec<u8>)
     requires kind { simple.now.kind ≡ kind.Text }
     requires codes { (codes : List (List ℕ)) × (simple.now.codes ≡ Some codes) }
     requires limits { IsWithinLimits simple.now }
     requires sorted { HasSortedCodes simple.now }
-    ensures { OnOk result (IsKeptUnder simple.now kept.new.items kept.old.items) }
+    ensures kept { IsKeptUnder simple.now kept.new.items kept.old.items }
+    ensures room { vec_capacity kept.old ≤ vec_capacity kept.new }
 {
     let _ = simple;
     kept.truncate(64);
-    Ok(())
 }
 
 /// Of a binary value only its length counts.
-fn cut_octets(simple: &Simple, kept: &mut Vec<u8>) -> Result<(), AllocError>
+fn cut_octets(simple: &Simple, kept: &mut Vec<u8>)
     requires kind { simple.now.kind ≡ kind.Binary }
     requires sorted { HasSortedCodes simple.now }
-    ensures { OnOk result (IsKeptUnder simple.now kept.new.items kept.old.items) }
+    ensures kept { IsKeptUnder simple.now kept.new.items kept.old.items }
+    ensures room { vec_capacity kept.old ≤ vec_capacity kept.new }
 {
     are_octets(kept.as_slice());
     let Some(most) = simple.max else {
-        return Ok(());
+        return;
     };
     if kept.len() as u64 > most {
         kept.truncate(most as usize + 1);
     }
-    Ok(())
 }
 
 /// They are octets.
@@ -134,42 +130,44 @@ fn are_octets(octets: &[u8])
 }
 
 /// Of a text that is too long only that it is one counts.
-fn cut_text(alloc: Global, simple: &Simple, kept: &mut Vec<u8>) -> Result<(), AllocError>
+fn cut_text(simple: &Simple, kept: &mut Vec<u8>)
     requires kind { simple.now.kind ≡ kind.Text }
     requires codes { simple.now.codes ≡ None }
     requires sorted { HasSortedCodes simple.now }
-    ensures { OnOk result (IsKeptUnder simple.now kept.new.items kept.old.items) }
+    ensures kept { IsKeptUnder simple.now kept.new.items kept.old.items }
+    ensures room { vec_capacity kept.old ≤ vec_capacity kept.new }
 {
     let Some(most) = simple.max else {
-        return Ok(());
+        return;
     };
-    shorten_text(alloc, most, kept)
+    shorten_text(most, kept);
 }
 
 /// The same of a text that is too long for a date or a time.
-fn cut_date(alloc: Global, simple: &Simple, kept: &mut Vec<u8>) -> Result<(), AllocError>
+fn cut_date(simple: &Simple, kept: &mut Vec<u8>)
     requires kind { IsDateKind simple.now.kind }
     requires sorted { HasSortedCodes simple.now }
-    ensures { OnOk result (IsKeptUnder simple.now kept.new.items kept.old.items) }
+    ensures kept { IsKeptUnder simple.now kept.new.items kept.old.items }
+    ensures room { vec_capacity kept.old ≤ vec_capacity kept.new }
 {
     let _ = simple;
-    shorten_text(alloc, 64, kept)
+    shorten_text(64, kept);
 }
 
 /// Where a text has more characters than so many, these are cut down to one more.
-fn shorten_text(alloc: Global, most: u64, kept: &mut Vec<u8>) -> Result<(), AllocError>
-    ensures { OnOk result (IsTextKept most kept.new.items kept.old.items) }
+fn shorten_text(most: u64, kept: &mut Vec<u8>)
+    ensures kept { IsTextKept most kept.new.items kept.old.items }
+    ensures room { vec_capacity kept.old ≤ vec_capacity kept.new }
 {
     if is_held(kept.len(), most) {
-        return Ok(());
+        return;
     }
     let run = xml_run(kept.as_slice());
     if kept.len() - run.bytes > 3 {
-        return no_text(kept);
+        no_text(kept);
+        return;
     }
-    let short = spaces(alloc, most, kept.as_slice().split_at(run.bytes).1)?;
-    *kept = short;
-    Ok(())
+    spaces(most, run.bytes, kept);
 }
 
 /// Whether so many octets are few enough to be held of a text of so many characters.
@@ -181,20 +179,38 @@ fn is_held(count: usize, most: u64) -> bool
 }
 
 /// An octet that begins no text, in the place of octets of which no text comes.
-fn no_text(kept: &mut Vec<u8>) -> Result<(), AllocError>
-    ensures { OnOk result (kept.new.items ≡ 0 ∷ []) }
+fn no_text(kept: &mut Vec<u8>)
+    requires { 0 < length kept.old.items }
+    ensures kept { kept.new.items ≡ 0 ∷ [] }
+    ensures room { vec_capacity kept.old ≤ vec_capacity kept.new }
 {
     kept.clear();
-    kept.push(0)?;
-    Ok(())
+    kept.push_reserved(0);
 }
 
-/// One space more than so many, and octets behind them.
-fn spaces(alloc: Global, most: u64, behind: &[u8]) -> Result<Vec<u8>, AllocError>
-    requires { most + 1 < 2 ^ 63 }
-    ensures { IfOk result (λ v. v.items ≡ replicate (most + 1) 32 ++ behind.now) }
+/// One space more than so many, in the place of the octets before the place.
+fn spaces(most: u64, at: usize, kept: &mut Vec<u8>)
+    requires within { at ≤ length kept.old.items }
+    requires room { most + 1 ≤ at }
+    ensures kept { kept.new.items ≡ replicate (most + 1) 32 ++ drop at kept.old.items }
+    ensures room { vec_capacity kept.old ≤ vec_capacity kept.new }
 {
-    let mut short = vec![in alloc; b' '; most as usize + 1]?;
-    short.extend_from_slice(behind)?;
-    Ok(short)
+    let behind = kept.len() - at;
+    kept.rotate_left(at);
+    kept.truncate(behind);
+    pad(kept, behind + most as usize + 1);
+    kept.rotate_left(behind);
+}
+
+/// Fills up with spaces to this length, where there is room.
+fn pad(kept: &mut Vec<u8>, size: usize)
+    requires more { length kept.old.items ≤ size }
+    requires room { size ≤ vec_capacity kept.old }
+    ensures kept { kept.new.items ≡ kept.old.items ++ replicate (size - length kept.old.items) 32 }
+    ensures room { vec_capacity kept.old ≤ vec_capacity kept.new }
+{
+    match kept.resize(size, b' ') {
+        Ok(()) => {}
+        Err(_) => unreachable!(),
+    }
 }

@@ -1,5 +1,5 @@
 // The pieces of an instance, where they are kept as its parts come.
-ghost use Rattle.std.specs.Prelude.{◌≡◌, ◌++◌, ◌∷◌, [], ℕ, List, OnOk};
+ghost use Rattle.std.specs.Prelude.{◌≡◌, ◌++◌, ◌∷◌, [], ℕ, List, IsOk, OnOk};
 ghost use Rattle.data_types.specs.LeafAnswers.{leaf_of};
 ghost use Rattle.data_types.specs.Value.{Holds};
 ghost use Rattle.message_model.specs.Tables.{types_of};
@@ -9,6 +9,7 @@ ghost use Rattle.der_model.specs.ShownPieces.{begin_each, end_each, elements_end
 ghost use Rattle.der_model.specs.States as states;
 ghost use Rattle.der_codec.specs.KeptPieces.{PiecesGoOn, GoOnByBegun, GoOnByLeaf, AreOpen};
 ghost use Rattle.der_codec.specs.Levels.{AreLevels, inwards};
+ghost use Rattle.der_codec.specs.Reserved.{GrowsRoom, HoldMore, HoldBegun, HoldLeafWithin};
 
 use crate::decoder::Decoder;
 use crate::elements::{self, append, begin_component, end_component};
@@ -25,8 +26,10 @@ pub(crate) fn begin(
     model: &Model,
     decoder: &Decoder,
 ) -> Result<(), AllocError>
-    ensures { (ls : List (states.DerLevel ℕ)) → AreLevels (types_of model.now) (inwards decoder.now.levels.items) ls
+    ensures begun { (ls : List (states.DerLevel ℕ)) → AreLevels (types_of model.now) (inwards decoder.now.levels.items) ls
         → OnOk result (PiecesGoOn pieces.old pieces.new (begin_each (elements_ended (der_message model.now) ls))) }
+    ensures room { GrowsRoom pieces.old pieces.new }
+    ensures within { (ls : List (states.DerLevel ℕ)) → AreLevels (types_of model.now) (inwards decoder.now.levels.items) ls → HoldMore pieces.old (begin_each (elements_ended (der_message model.now) ls)) → IsOk result }
 {
     match pieces {
         None => Ok(()),
@@ -42,8 +45,10 @@ pub(crate) fn end(
     decoder: &Decoder,
 ) -> Result<(), AllocError>
     requires { (ls : List (states.DerLevel ℕ)) × AreLevels (types_of model.now) (inwards decoder.now.levels.items) ls × AreOpen pieces.old (elements_around (der_message model.now) ls) }
-    ensures { (ls : List (states.DerLevel ℕ)) → AreLevels (types_of model.now) (inwards decoder.now.levels.items) ls → AreOpen pieces.old (elements_around (der_message model.now) ls)
+    ensures ended { (ls : List (states.DerLevel ℕ)) → AreLevels (types_of model.now) (inwards decoder.now.levels.items) ls → AreOpen pieces.old (elements_around (der_message model.now) ls)
         → OnOk result (PiecesGoOn pieces.old pieces.new (end_each (elements_ended (der_message model.now) ls))) }
+    ensures room { GrowsRoom pieces.old pieces.new }
+    ensures within { (ls : List (states.DerLevel ℕ)) → AreLevels (types_of model.now) (inwards decoder.now.levels.items) ls → HoldMore pieces.old (end_each (elements_ended (der_message model.now) ls)) → IsOk result }
 {
     match pieces {
         None => Ok(()),
@@ -53,7 +58,9 @@ pub(crate) fn end(
 
 /// A leaf comes.
 pub(crate) fn hold(pieces: &mut Option<Builder>, leaf: &LeafRef<'_>) -> Result<(), AllocError>
-    ensures { OnOk result (PiecesGoOn pieces.old pieces.new (Holds (leaf_of leaf.now) ∷ [])) }
+    ensures held { OnOk result (PiecesGoOn pieces.old pieces.new (Holds (leaf_of leaf.now) ∷ [])) }
+    ensures room { GrowsRoom pieces.old pieces.new }
+    ensures within { HoldMore pieces.old (Holds (leaf_of leaf.now) ∷ []) → IsOk result }
 {
     match pieces {
         None => Ok(()),
@@ -68,7 +75,9 @@ pub(crate) fn begin_last(
     model: &Model,
     around: &Level,
 ) -> Result<(), AllocError>
-    ensures { OnOk result (GoOnByBegun (der_message model.now) around.now pieces.old pieces.new) }
+    ensures begun { OnOk result (GoOnByBegun (der_message model.now) around.now pieces.old pieces.new) }
+    ensures room { GrowsRoom pieces.old pieces.new }
+    ensures within { HoldBegun (der_message model.now) around.now pieces.old → IsOk result }
 {
     match pieces {
         None => Ok(()),
@@ -84,7 +93,9 @@ pub(crate) fn hold_last(
     around: &Level,
     leaf: &LeafRef<'_>,
 ) -> Result<(), AllocError>
-    ensures { OnOk result (GoOnByLeaf (der_message model.now) around.now (leaf_of leaf.now) pieces.old pieces.new) }
+    ensures held { OnOk result (GoOnByLeaf (der_message model.now) around.now (leaf_of leaf.now) pieces.old pieces.new) }
+    ensures room { GrowsRoom pieces.old pieces.new }
+    ensures within { HoldLeafWithin (der_message model.now) around.now (leaf_of leaf.now) pieces.old → IsOk result }
 {
     match pieces {
         None => Ok(()),

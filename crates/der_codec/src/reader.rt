@@ -1,14 +1,17 @@
 // A reader of the DER of instances that takes their bytes in pieces, and keeps the pieces of the instance.
-ghost use Rattle.std.specs.Prelude.{◌≡◌, ◌+◌, ◌≤◌, ◌^◌, ◌++◌, ℕ, List, [], IfOk, IfErr, Some, None, Err, length};
+ghost use Rattle.std.specs.Prelude.{◌≡◌, ◌+◌, ◌≤◌, ◌^◌, ◌++◌, ℕ, List, [], IsOk, IfOk, IfErr, OnOk, OnErr, Some, None, Err, length};
 ghost use Rattle.facets.specs.LeafChecks.{IsHeldWithin};
 ghost use Rattle.message_model.specs.Tables.{Tables};
 ghost use Rattle.der_model.specs.DerMessage.{der_message};
 ghost use Rattle.der_codec.specs.Checking.{DerStops, DerEndsAs, open_count};
 ghost use Rattle.message_model.specs.Errors.{IsAgain};
 ghost use Rattle.der_codec.specs.Limits.{open_limit, leaf_come, token_come};
-ghost use Rattle.der_codec.specs.ReadInstances.{HasKeptPieces, IsDerReaderFor, IsReaderFreed, IsSpelledDerAs, read_so_far, der_reader_failure, reader_held, reader_token_held};
+ghost use Rattle.der_codec.specs.ReadInstances.{HasKeptPieces, IsDerReaderFor, IsReaderFreed, IsSpelledDerAs, read_so_far, der_reader_failure, reserved_room, reader_held, reader_token_held};
+ghost use Rattle.der_codec.specs.Rooms.{BeginsEnough};
 
 use crate::checker::DerChecker;
+use crate::envelopes::is_sound;
+use crate::room::Room;
 use inst_pool::Instance;
 use message_model::{InstanceError, Model};
 use std::alloc::{AllocError, Global};
@@ -30,6 +33,20 @@ impl DerReader {
             Err(error) => Err(error),
             Ok(checker) => Ok(DerReader { checker }),
         }
+    }
+
+    /// Takes the memory for so much from the first byte on, in the place of what was reserved before: reading does not
+    /// want any while the room is enough, in a message without envelopes. Whatever the answer, what was read is as before.
+    pub fn reserve(&mut self, model: &Model, room: Room) -> Result<(), AllocError>
+        requires made { IsDerReaderFor self.old model.now }
+        ensures made { IsDerReaderFor self.new model.now }
+        ensures kept { (bytes : List ℕ) → HasKeptPieces self.old model.now bytes → HasKeptPieces self.new model.now bytes }
+        ensures ok { OnOk result (reserved_room self.new ≡ room) }
+        ensures err { OnErr result (reserved_room self.new ≡ reserved_room self.old) }
+        ensures count { read_so_far self.new ≡ read_so_far self.old }
+        ensures failed { der_reader_failure self.new ≡ der_reader_failure self.old }
+    {
+        self.checker.reserve(model, room)
     }
 
     /// How many values and lists have begun and not ended.
@@ -71,7 +88,10 @@ impl DerReader {
         ensures failed { der_reader_failure self.old ≡ None → IfErr result (λ e. der_reader_failure self.new ≡ Some e) }
         ensures again { (e : InstanceError) → der_reader_failure self.old ≡ Some e → IsAgain e result × (der_reader_failure self.new ≡ der_reader_failure self.old) }
         ensures freed { IfErr result (λ _. IsReaderFreed self.new) }
+        ensures room { IfOk result (λ _. reserved_room self.new ≡ reserved_room self.old) }
+        ensures memory { (bytes : List ℕ) → HasKeptPieces self.old model.now bytes → BeginsEnough model.now (reserved_room self.old) (bytes ++ piece.now) → IsOk result }
     {
+        is_sound(model);
         self.checker.feed(model, piece)
     }
 

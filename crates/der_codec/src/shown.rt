@@ -1,5 +1,6 @@
 // How a checker that keeps pieces takes a component of the usual form at once: its header, and with it a leaf.
-ghost use Rattle.std.specs.Prelude.{◌≡◌, ◌+◌, ◌<◌, ◌≤◌, ◌^◌, ℕ, List, IfOk, true, false, length};
+ghost use Rattle.std.specs.Prelude.{◌≡◌, ◌+◌, ◌<◌, ◌≤◌, ◌^◌, ◌++◌, ℕ, List, IfOk, IsErrOf, true, false, length};
+ghost use Rattle.der_codec.specs.Reserved.{IsKeeping, HasEnough};
 ghost use Rattle.message_model.specs.Tables.{types_of};
 ghost use Rattle.der_model.specs.DerMessage.{der_message};
 ghost use Rattle.der_codec.specs.Checked.{CheckTypes};
@@ -26,6 +27,9 @@ impl DerChecker {
         requires given { (bytes : List ℕ) × HasFedDer self.old model.now bytes }
         ensures checks { CheckTypes (types_of model.now) self.new.checks }
         ensures front { TakesDerFront model.now self.old self.new piece.now result }
+        ensures keeps { IsKeeping self.old model.now → IsKeeping self.new model.now }
+        ensures same { self.new.room ≡ self.old.room }
+        ensures memory { (bytes : List ℕ) → HasFedDer self.old model.now bytes → HasEnough self.old model.now (bytes ++ piece.now) → IsErrOf result Stop.Memory → ⊥ }
         ensures some { IfOk result (λ n. 0 < n) }
     {
         let taken = match self.take_shown(model, piece) {
@@ -47,6 +51,9 @@ impl DerChecker {
         requires given { (bytes : List ℕ) × HasFedDer self.old model.now bytes }
         ensures checks { CheckTypes (types_of model.now) self.new.checks }
         ensures front { TakesDerFront model.now self.old self.new piece.now result }
+        ensures keeps { IsKeeping self.old model.now → IsKeeping self.new model.now }
+        ensures same { self.new.room ≡ self.old.room }
+        ensures memory { (bytes : List ℕ) → HasFedDer self.old model.now bytes → HasEnough self.old model.now (bytes ++ piece.now) → IsErrOf result Stop.Memory → ⊥ }
         ensures unchanged { IfOk result (λ n. n ≡ 0 → self.new.decoder ≡ self.old.decoder) }
     {
         let mut taken = 0_usize;
@@ -73,6 +80,9 @@ impl DerChecker {
         requires given { (bytes : List ℕ) × HasFedDer self.old model.now bytes }
         ensures checks { CheckTypes (types_of model.now) self.new.checks }
         ensures front { TakesDerFront model.now self.old self.new piece.now result }
+        ensures keeps { IsKeeping self.old model.now → IsKeeping self.new model.now }
+        ensures same { self.new.room ≡ self.old.room }
+        ensures memory { (bytes : List ℕ) → HasFedDer self.old model.now bytes → HasEnough self.old model.now (bytes ++ piece.now) → IsErrOf result Stop.Memory → ⊥ }
         ensures unchanged { IfOk result (λ n. n ≡ 0 → self.new.decoder ≡ self.old.decoder) }
     {
         let Some((first, others)) = piece.split_first() else {
@@ -104,6 +114,9 @@ impl DerChecker {
         requires stands { (bytes : List ℕ) → HasFedDer self.old model.now bytes → (n : ℕ) × (behind : List ℕ) × StandsFirst (der_message model.now) self.old.decoder bytes begun n behind piece.now }
         ensures checks { CheckTypes (types_of model.now) self.new.checks }
         ensures front { TakesDerFront model.now self.old self.new piece.now result }
+        ensures keeps { IsKeeping self.old model.now → IsKeeping self.new model.now }
+        ensures same { self.new.room ≡ self.old.room }
+        ensures memory { (bytes : List ℕ) → HasFedDer self.old model.now bytes → HasEnough self.old model.now (bytes ++ piece.now) → IsErrOf result Stop.Memory → ⊥ }
         ensures unchanged { IfOk result (λ n. n ≡ 0 → self.new.decoder ≡ self.old.decoder) }
     {
         let _ = piece;
@@ -141,6 +154,9 @@ impl DerChecker {
         requires stands { (bytes : List ℕ) → HasFedDer self.old model.now bytes → StandsFirst (der_message model.now) self.old.decoder bytes begun second behind.now piece.now }
         ensures checks { CheckTypes (types_of model.now) self.new.checks }
         ensures front { TakesDerFront model.now self.old self.new piece.now result }
+        ensures keeps { IsKeeping self.old model.now → IsKeeping self.new model.now }
+        ensures same { self.new.room ≡ self.old.room }
+        ensures memory { (bytes : List ℕ) → HasFedDer self.old model.now bytes → HasEnough self.old model.now (bytes ++ piece.now) → IsErrOf result Stop.Memory → ⊥ }
         ensures unchanged { IfOk result (λ n. n ≡ 0 → self.new.decoder ≡ self.old.decoder) }
     {
         let _ = piece;

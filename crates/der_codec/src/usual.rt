@@ -271,6 +271,7 @@ impl Decoder {
         ensures start { self.new.start ≡ place }
         ensures due { (step : Steps) × (self.new.due ≡ Due.Tag step) × tags.HasTakenTag step [] }
         ensures fresh { IsFresh self.new.due }
+        ensures room { vec_capacity self.old.levels ≤ vec_capacity self.new.levels }
     {
         self.set_innermost(around);
         self.append(Level {
@@ -290,6 +291,7 @@ impl Decoder {
     fn append(&mut self, level: Level)
         requires { length self.old.levels.items < vec_capacity self.old.levels }
         ensures levels { inwards self.new.levels.items ≡ level ∷ inwards self.old.levels.items }
+        ensures room { vec_capacity self.old.levels ≤ vec_capacity self.new.levels }
     {
         self.levels.push_reserved(level);
     }
@@ -343,6 +345,7 @@ impl Decoder {
         ensures start { self.new.start ≡ place }
         ensures due { (step : Steps) × (self.new.due ≡ Due.Tag step) × tags.HasTakenTag step [] }
         ensures fresh { IsFresh self.new.due }
+        ensures room { vec_capacity self.old.levels ≤ vec_capacity self.new.levels }
     {
         self.set_innermost(around);
         self.place = place;

@@ -1,5 +1,5 @@
 // How a checker begins and ends values, and the elements of an instance with them.
-ghost use Rattle.std.specs.Prelude.{◌≡◌, ◌<◌, ◌+◌, ◌^◌, ◌++◌, ◌∷◌, [], ℕ, List, IfOk, IfErr, OnOk, length, true, false};
+ghost use Rattle.std.specs.Prelude.{◌≡◌, ◌<◌, ◌+◌, ◌^◌, ◌++◌, ◌∷◌, [], ℕ, List, IsOk, IfOk, IfErr, IsErrOf, OnOk, length, true, false};
 ghost use Rattle.der_model.specs.DerMessage.{der_message};
 ghost use Rattle.der_model.specs.NestedPieces.{elements_around};
 ghost use Rattle.der_model.specs.ShownPieces.{end_each, elements_ended};
@@ -9,6 +9,7 @@ ghost use Rattle.der_codec.specs.Decoding.{HasReadParts, IsStopped, IsSettled, I
 ghost use Rattle.der_codec.specs.KeptPieces.{KeepsShown, PiecesGoOn, AreOpen, EndsLeaf, around_of, begun_pieces};
 ghost use Rattle.der_codec.specs.Levels.{inwards};
 ghost use Rattle.der_codec.specs.ReadInstances.{IsSpelledDerAs};
+ghost use Rattle.der_codec.specs.Reserved.{IsKeeping, HasEnough, HoldMore};
 
 use crate::checker::DerChecker;
 use crate::decoder::{Due, Stop};
@@ -34,6 +35,9 @@ impl DerChecker {
         ensures place { IfOk result (λ _. der_bytes_fed self.new ≡ der_bytes_fed self.old + 1) }
         ensures low { IfOk result (λ _. IsSettled self.new.decoder.due self.new.decoder.place (end_of_levels self.new.decoder.levels.items)) }
         ensures begun { IfOk result (λ _. BeginsContents self.new.decoder.due self.new.decoder.start self.new.decoder.place) }
+        ensures keeps { IsKeeping self.old model.now → IsKeeping self.new model.now }
+        ensures same { self.new.room ≡ self.old.room }
+        ensures memory { (bytes : List ℕ) → HasReadParts (der_message model.now) self.old.decoder bytes → KeepsShown (der_message model.now) self.old.decoder self.old.pieces bytes → HasEnough self.old model.now (bytes ++ octet ∷ []) → IsErrOf result Stop.Memory → ⊥ }
     {
         let due = self.decoder.due;
         match self.decoder.take_header(model, octet) {
@@ -53,6 +57,9 @@ impl DerChecker {
         ensures sound { self.new.failed ≡ self.old.failed }
         ensures shown { (state : State ℕ) → IsOpenState (der_message model.now) (inwards self.old.decoder.levels.items) self.old.decoder.due state → OnOk result (PiecesGoOn self.old.pieces self.new.pieces (begun_pieces (der_message model.now) state)) }
         ensures err { IfErr result (λ stop. stop ≡ Stop.Memory) }
+        ensures keeps { IsKeeping self.old model.now → IsKeeping self.new model.now }
+        ensures same { self.new.room ≡ self.old.room }
+        ensures within { (state : State ℕ) → IsOpenState (der_message model.now) (inwards self.old.decoder.levels.items) self.old.decoder.due state → HoldMore self.old.pieces (begun_pieces (der_message model.now) state) → IsOk result }
     {
         match self.decoder.due {
             Due::Length { .. } => match begin(&mut self.pieces, model, &self.decoder) {
@@ -74,6 +81,9 @@ impl DerChecker {
         ensures shown { (bytes : List ℕ) (r : HasReadParts (der_message model.now) self.old.decoder bytes) → AreOpen self.old.pieces (elements_around (der_message model.now) (around_of r.state))
             → OnOk result (PiecesGoOn self.old.pieces self.new.pieces (end_each (elements_ended (der_message model.now) (around_of r.state)))) }
         ensures err { IfErr result (λ stop. stop ≡ Stop.Memory) }
+        ensures keeps { IsKeeping self.old model.now → IsKeeping self.new model.now }
+        ensures same { self.new.room ≡ self.old.room }
+        ensures within { (bytes : List ℕ) (r : HasReadParts (der_message model.now) self.old.decoder bytes) → HoldMore self.old.pieces (end_each (elements_ended (der_message model.now) (around_of r.state))) → IsOk result }
     {
         match end(&mut self.pieces, model, &self.decoder) {
             Ok(()) => Ok(()),
@@ -92,6 +102,9 @@ impl DerChecker {
         ensures sound { self.new.failed ≡ self.old.failed }
         ensures ok { (bytes : List ℕ) → HasReadParts (der_message model.now) self.old.decoder bytes → KeepsShown (der_message model.now) self.old.decoder self.old.pieces bytes → IfOk result (λ _. IsReading model.now self.new.decoder self.new.kept.items self.new.pieces bytes) }
         ensures err { (bytes : List ℕ) → HasReadParts (der_message model.now) self.old.decoder bytes → IfErr result (λ stop. StopsWithin model.now self.new.decoder bytes stop) }
+        ensures keeps { IsKeeping self.old model.now → IsKeeping self.new model.now }
+        ensures same { self.new.room ≡ self.old.room }
+        ensures memory { (bytes : List ℕ) → HasReadParts (der_message model.now) self.old.decoder bytes → KeepsShown (der_message model.now) self.old.decoder self.old.pieces bytes → HasEnough self.old model.now (bytes) → IsErrOf result Stop.Memory → ⊥ }
     {
         if self.decoder.is_fresh() {
             return self.end_here(model);
@@ -109,6 +122,9 @@ impl DerChecker {
         ensures sound { self.new.failed ≡ self.old.failed }
         ensures ok { (bytes : List ℕ) → HasReadParts (der_message model.now) self.old.decoder bytes → KeepsShown (der_message model.now) self.old.decoder self.old.pieces bytes → IfOk result (λ _. IsReading model.now self.new.decoder self.new.kept.items self.new.pieces bytes) }
         ensures err { (bytes : List ℕ) → HasReadParts (der_message model.now) self.old.decoder bytes → IfErr result (λ stop. StopsWithin model.now self.new.decoder bytes stop) }
+        ensures keeps { IsKeeping self.old model.now → IsKeeping self.new model.now }
+        ensures same { self.new.room ≡ self.old.room }
+        ensures memory { (bytes : List ℕ) → HasReadParts (der_message model.now) self.old.decoder bytes → KeepsShown (der_message model.now) self.old.decoder self.old.pieces bytes → HasEnough self.old model.now (bytes) → IsErrOf result Stop.Memory → ⊥ }
     {
         if !self.decoder.ends_here() {
             return Ok(());
@@ -126,6 +142,9 @@ impl DerChecker {
         ensures sound { self.new.failed ≡ self.old.failed }
         ensures ok { (bytes : List ℕ) → HasReadParts (der_message model.now) self.old.decoder bytes → KeepsShown (der_message model.now) self.old.decoder self.old.pieces bytes → IfOk result (λ _. IsReading model.now self.new.decoder self.new.kept.items self.new.pieces bytes) }
         ensures err { (bytes : List ℕ) → HasReadParts (der_message model.now) self.old.decoder bytes → IfErr result (λ stop. StopsWithin model.now self.new.decoder bytes stop) }
+        ensures keeps { IsKeeping self.old model.now → IsKeeping self.new model.now }
+        ensures same { self.new.room ≡ self.old.room }
+        ensures memory { (bytes : List ℕ) → HasReadParts (der_message model.now) self.old.decoder bytes → KeepsShown (der_message model.now) self.old.decoder self.old.pieces bytes → HasEnough self.old model.now (bytes) → IsErrOf result Stop.Memory → ⊥ }
     {
         loop {
             let ended = match self.end_one(model) {
@@ -152,6 +171,9 @@ impl DerChecker {
         ensures ok { (bytes : List ℕ) → HasReadParts (der_message model.now) self.old.decoder bytes → IfOk result (λ _. HasReadParts (der_message model.now) self.new.decoder bytes) }
         ensures shown { (bytes : List ℕ) → HasReadParts (der_message model.now) self.old.decoder bytes → KeepsShown (der_message model.now) self.old.decoder self.old.pieces bytes → IfOk result (λ _. KeepsShown (der_message model.now) self.new.decoder self.new.pieces bytes) }
         ensures err { (bytes : List ℕ) → HasReadParts (der_message model.now) self.old.decoder bytes → IfErr result (λ stop. StopsWithin model.now self.new.decoder bytes stop) }
+        ensures keeps { IsKeeping self.old model.now → IsKeeping self.new model.now }
+        ensures same { self.new.room ≡ self.old.room }
+        ensures memory { (bytes : List ℕ) → HasReadParts (der_message model.now) self.old.decoder bytes → KeepsShown (der_message model.now) self.old.decoder self.old.pieces bytes → HasEnough self.old model.now (bytes) → IsErrOf result Stop.Memory → ⊥ }
         ensures ended { IfOk result (λ ended. ended ≡ true → IsFreshOrOver self.new.decoder.due) }
         ensures less { IfOk result (λ ended. ended ≡ true → length self.new.decoder.levels.items < length self.old.decoder.levels.items) }
         ensures open { (bytes : List ℕ) → HasReadParts (der_message model.now) self.old.decoder bytes → IfOk result (λ ended. ended ≡ false → IsOctetAwaited self.new.decoder.due self.new.decoder.place (end_of_levels self.new.decoder.levels.items)) }
@@ -179,6 +201,9 @@ impl DerChecker {
         ensures sound { self.new.failed ≡ self.old.failed }
         ensures ok { (bytes : List ℕ) → EndsLeaf (der_message model.now) self.old.decoder self.old.pieces bytes → IfOk result (λ _. IsReading model.now self.new.decoder self.new.kept.items self.new.pieces bytes) }
         ensures err { (bytes : List ℕ) → HasReadParts (der_message model.now) self.old.decoder bytes → IfErr result (λ stop. StopsWithin model.now self.new.decoder bytes stop) }
+        ensures keeps { IsKeeping self.old model.now → IsKeeping self.new model.now }
+        ensures same { self.new.room ≡ self.old.room }
+        ensures memory { (bytes : List ℕ) → EndsLeaf (der_message model.now) self.old.decoder self.old.pieces bytes → HasEnough self.old model.now (bytes) → IsErrOf result Stop.Memory → ⊥ }
     {
         match self.end_component(model) {
             Ok(()) => self.end_here(model),

@@ -37,3 +37,14 @@ returns-in-Some-Money-clause-judged c =
     let e : told.field-0 ≡ form.Money told.field-0-0 told.base = (let a = told.field-0-is in let b = told.base-is in cc) in
     let is : IsFormOf (Some (form.Money told.field-0-0 told.base)) at = subst (λ z. IsFormOf (Some z) at) e told.ensures.form in
     money_judged (der_message c.args.model.now) at told.field-0-0 told.base c.args.octets.now c.judge_simple.result is c.judge_simple.ensures.judged
+
+pub returns-in-Some-Money-clause-within : goal.returns-in-Some-Money-clause-within
+returns-in-Some-Money-clause-within c = λ bytes h plain few prim is.
+    let at = types_of c.args.model.now c.args.number in
+    let told = c.in-Some-Money in
+    let e : told.field-0 ≡ form.Money told.field-0-0 told.base = (let a = told.field-0-is in let b = told.base-is in cc) in
+    let of : IsFormOf (Some (form.Money told.field-0-0 told.base)) at = subst (λ z. IsFormOf (Some z) at) e told.ensures.form in
+    c.judge_simple.ensures.within bytes (λ wants. h c.args.number told.base.now (money_text at told.field-0-0 told.base of) wants) few is
+
+pub returns-in-Some-Money-clause-room : goal.returns-in-Some-Money-clause-room
+returns-in-Some-Money-clause-room c = λ bytes h. c.judge_simple.ensures.room (types_of c.args.model.now) bytes h

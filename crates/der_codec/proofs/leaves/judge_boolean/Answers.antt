@@ -4,5 +4,5 @@ use Rattle.der_model.specs.LeafContents.{IsContents}
 use Rattle.der_codec.proofs.LeavesJudged.{flag_fits}
 use Rattle.der_codec.proofs.leaves.judge_boolean.Goals as goal
 
-pub returns-in-Some : goal.returns-in-Some
-returns-in-Some c = (subst (λ z. IsContents z c.args.simple.now.codes c.args.octets.now (Flag c.in-Some.flag)) (sym c.requires) c.in-Some.ensures.some, flag_fits c.args.simple.now c.in-Some.flag c.requires)
+pub returns-in-Some-clause-judged : goal.returns-in-Some-clause-judged
+returns-in-Some-clause-judged c = (subst (λ z. IsContents z c.args.simple.now.codes c.args.octets.now (Flag c.in-Some.flag)) (sym c.requires) c.in-Some.ensures.some, flag_fits c.args.simple.now c.in-Some.flag c.requires)

@@ -4,8 +4,8 @@ use Rattle.der_codec.specs.KeptOctets.{IsKeptUnder}
 use Rattle.der_codec.proofs.CutContents.{octets_kept}
 use Rattle.der_codec.proofs.limits.cut_octets.Goals as goal
 
-pub returns-then-len-most : goal.returns-then-len-most
-returns-then-len-most c =
+pub returns-then-len-most-clause-kept : goal.returns-then-len-most-clause-kept
+returns-then-len-most-clause-kept c =
     let octets = c.args.kept.now.items in
     let bytes : IsBytes octets = subst IsBytes c.as_slice.ensures.value c.are_octets.ensures in
     let long : c.in-Some.most < length octets = search rules in

@@ -1,8 +1,6 @@
-use Rattle.std.proofs.lemmas.Result.{on_ok_weaker}
 use Rattle.der_codec.proofs.CutContents.{text_kept}
 use Rattle.der_codec.proofs.limits.cut_text.Goals as goal
 
-pub returns : goal.returns
-returns c =
-    on_ok_weaker c.shorten_text.result
-    (λ k. text_kept c.args.simple.now c.shorten_text.new.kept.items c.args.kept.now.items c.in-Some.most c.requires.kind c.requires.codes c.in-Some.is c.requires.sorted k) c.shorten_text.ensures
+pub returns-clause-kept : goal.returns-clause-kept
+returns-clause-kept c =
+    text_kept c.args.simple.now c.shorten_text.new.kept.items c.args.kept.now.items c.in-Some.most c.requires.kind c.requires.codes c.in-Some.is c.requires.sorted c.shorten_text.ensures.kept

@@ -1,6 +1,7 @@
 use Rattle.std.proofs.Common.{◌≡◌, ◌++◌, ◌∙◌, take, ap, sym, subst, arith}
 use Rattle.der_codec.specs.Checking.{IsReading}
 use Rattle.der_codec.proofs.Fed.{fresh_keeps, fresh_reading, none_more, further_stops, joined}
+use Rattle.der_codec.proofs.Keeping.{enough_less, behind_is, err_as}
 use Rattle.der_codec.proofs.checker.DerChecker.begin_contents.Goals as goal
 
 pub returns-then-behind-left-clause-ok : goal.returns-then-behind-left-clause-ok
@@ -32,3 +33,13 @@ returns-in-Err-clause-err c = λ bytes r.
     let keeps = fresh_keeps T s.decoder s.kept.items bytes c.args.spot c.args.left c.requires.due c.requires.begun c.requires.kept r in
     let whole : c.args.behind.now ≡ front ++ behind = joined c.args.left c.args.behind.now ∙ (ap (λ z. take c.args.left c.args.behind.now ++ z) (sym c.split_at.ensures.back) ∙ ap (λ z. z ++ behind) (sym c.split_at.ensures.front)) in
     further_stops T c.take_last.new.self.decoder bytes front behind c.args.behind.now c.in-Err.stop whole (c.in-Err.ensures.err bytes (r, keeps))
+
+pub returns-in-Err-clause-memory : goal.returns-in-Err-clause-memory
+returns-in-Err-clause-memory c = λ bytes r shows e is.
+    let s = c.args.self.now in
+    let T = c.args.model.now in
+    let front = c.split_at.result.0.now in
+    let behind = c.split_at.result.1.now in
+    let keeps = fresh_keeps T s.decoder s.kept.items bytes c.args.spot c.args.left c.requires.due c.requires.begun c.requires.kept r in
+    let whole : c.args.behind.now ≡ front ++ behind = joined c.args.left c.args.behind.now ∙ (ap (λ z. take c.args.left c.args.behind.now ++ z) (sym c.split_at.ensures.back) ∙ ap (λ z. z ++ behind) (sym c.split_at.ensures.front)) in
+    c.in-Err.ensures.memory bytes (r, keeps) shows (enough_less T s (bytes ++ front) behind (bytes ++ c.args.behind.now) (behind_is bytes c.args.behind.now front behind whole) e) (err_as _ _ is)

@@ -1,10 +1,11 @@
 use Rattle.std.proofs.Common.{refl, ◌∙◌, ap}
 use Rattle.der_codec.specs.Decoding.{end_of_levels}
 use Rattle.der_codec.proofs.Fed.{ready_reading, over_ready}
+use Rattle.der_codec.proofs.Keeping.{enough_then, err_as}
 use Rattle.der_codec.proofs.checker.DerChecker.end_all.Goals as goal
 
 pub loop-ended-init : goal.loop-ended-init
-loop-ended-init c = (c.requires.fresh, refl, refl, refl, λ bytes r. r, λ bytes r shows. shows)
+loop-ended-init c = (c.requires.fresh, refl, refl, refl, λ bytes r. r, λ bytes r shows. shows, λ k. k, refl)
 
 pub end_one-requires-clause-fresh : goal.end_one-requires-clause-fresh
 end_one-requires-clause-fresh c = c.loop-ended.invariant.0
@@ -48,4 +49,29 @@ loop-ended-preserved c =
       h.sound ∙ i.3,
       λ bytes r. h.ok bytes (i.4 bytes r),
       λ bytes r shows. h.shown bytes (i.4 bytes r) (i.5 bytes r shows),
+      λ k. h.keeps (i.6 k),
+      h.same ∙ i.7,
     )
+
+pub returns-in-Err-clause-keeps : goal.returns-in-Err-clause-keeps
+returns-in-Err-clause-keeps c = λ k. c.in-Err.ensures.keeps (c.loop-ended.invariant.6 k)
+
+pub returns-in-Err-clause-same : goal.returns-in-Err-clause-same
+returns-in-Err-clause-same c = c.in-Err.ensures.same ∙ c.loop-ended.invariant.7
+
+pub returns-then-not-ended-clause-keeps : goal.returns-then-not-ended-clause-keeps
+returns-then-not-ended-clause-keeps c = λ k. c.in-Ok.ensures.keeps (c.loop-ended.invariant.6 k)
+
+pub returns-then-not-ended-clause-same : goal.returns-then-not-ended-clause-same
+returns-then-not-ended-clause-same c = c.in-Ok.ensures.same ∙ c.loop-ended.invariant.7
+
+pub returns-then-is_over-clause-keeps : goal.returns-then-is_over-clause-keeps
+returns-then-is_over-clause-keeps c = λ k. c.in-Ok.ensures.keeps (c.loop-ended.invariant.6 k)
+
+pub returns-then-is_over-clause-same : goal.returns-then-is_over-clause-same
+returns-then-is_over-clause-same c = c.in-Ok.ensures.same ∙ c.loop-ended.invariant.7
+
+pub returns-in-Err-clause-memory : goal.returns-in-Err-clause-memory
+returns-in-Err-clause-memory c = λ bytes r shows e is.
+    let i = c.loop-ended.invariant in
+    c.in-Err.ensures.memory bytes (i.4 bytes r) (i.5 bytes r shows) (enough_then c.args.model.now c.args.self.now c.loop-ended.self bytes bytes refl i.6 i.7 e) (err_as _ _ is)

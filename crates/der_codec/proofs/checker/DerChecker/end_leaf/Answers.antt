@@ -1,9 +1,11 @@
-use Rattle.std.proofs.Common.{◌∙◌, ap, sym, subst}
+use Rattle.std.proofs.Common.{◌∙◌, ap, sym, subst, refl}
 use Rattle.der_model.specs.DerMessage.{der_message}
 use Rattle.der_codec.specs.Decoding.{HasReadParts, IsFresh}
 use Rattle.der_codec.specs.KeptPieces.{KeepsShown}
 use Rattle.der_codec.specs.declared.decoder.Decoder.{Decoder}
 use Rattle.der_codec.proofs.Fed.{at_memory}
+use Rattle.der_codec.proofs.Keeping.{enough_then, err_as, not_ok}
+use Rattle.der_codec.proofs.RoomSteps.{leaf_end_enough}
 use Rattle.der_codec.proofs.checker.DerChecker.end_leaf.Goals as goal
 
 pub end_component-requires : goal.end_component-requires
@@ -38,3 +40,14 @@ returns-in-Ok-clause-err c = λ bytes r. c.end_here.ensures.err bytes (subst (λ
 
 pub returns-in-Err-clause-err : goal.returns-in-Err-clause-err
 returns-in-Err-clause-err c = λ bytes r. at_memory c.args.model.now c.end_component.new.self.decoder bytes c.in-Err.stop c.in-Err.ensures.err
+
+pub returns-in-Ok-clause-memory : goal.returns-in-Ok-clause-memory
+returns-in-Ok-clause-memory c = λ bytes g e is.
+    let m = der_message c.args.model.now in
+    let h = c.in-Ok.ensures in
+    let new = c.end_component.new.self in
+    c.end_here.ensures.memory bytes (subst (λ (z : Decoder). HasReadParts m z bytes) (sym h.decoder) g.read) (subst (λ (z : Decoder). KeepsShown m z new.pieces bytes) (sym h.decoder) (g.closes new.pieces (λ t. h.shown bytes t (g.around t))))
+    (enough_then c.args.model.now c.args.self.now new bytes bytes refl h.keeps h.same e) is
+
+pub returns-in-Err-clause-memory : goal.returns-in-Err-clause-memory
+returns-in-Err-clause-memory c = λ bytes g e is. not_ok (c.in-Err.ensures.within bytes g.read (leaf_end_enough c.args.model.now c.args.self.now bytes g e))

@@ -1,6 +1,9 @@
 use Rattle.std.proofs.Common.{◌+◌, ◌++◌, length, take, drop, refl, ap, arith}
 use Rattle.der_codec.proofs.Fed.{taken_front, stopped_front, joined}
 use Rattle.der_codec.proofs.UsualFed.{fed_as, none_front_as, passed}
+use Rattle.der_codec.proofs.Keeping.{keeping_as, enough_less, enough_then, behind_is, err_as, not_ok}
+use Rattle.der_codec.proofs.RoomSteps.{leaf_enough}
+use Rattle.der_codec.specs.declared.checker.DerChecker.{DerChecker}
 use Rattle.der_codec.proofs.checker.DerChecker.pass_shown.Goals as goal
 
 pub end_here-requires-clause-given : goal.end_here-requires-clause-given
@@ -49,3 +52,36 @@ returns-then-not-told-clause-front c =
 
 pub returns-in-Ok-end_here-clause-unchanged : goal.returns-in-Ok-end_here-clause-unchanged
 returns-in-Ok-end_here-clause-unchanged c = λ none. absurd (omega (arith, none))
+
+pub returns-in-Err-clause-keeps : goal.returns-in-Err-clause-keeps
+returns-in-Err-clause-keeps c = λ k. keeping_as c.args.model.now c.args.self.now _ refl (omega arith) (omega arith) c.tell_last.ensures.room c.tell_last.ensures.grows k
+
+pub returns-then-not-told-clause-keeps : goal.returns-then-not-told-clause-keeps
+returns-then-not-told-clause-keeps c = λ k. keeping_as c.args.model.now c.args.self.now _ refl (omega arith) (omega arith) c.tell_last.ensures.room c.tell_last.ensures.grows k
+
+pub returns-in-Ok-end_here-clause-keeps : goal.returns-in-Ok-end_here-clause-keeps
+returns-in-Ok-end_here-clause-keeps c = λ k. c.end_here.ensures.keeps (keeping_as c.args.model.now c.args.self.now _ refl c.go_behind.ensures.room (omega arith) c.tell_last.ensures.room c.tell_last.ensures.grows k)
+
+pub returns-in-Err-end_here-clause-keeps : goal.returns-in-Err-end_here-clause-keeps
+returns-in-Err-end_here-clause-keeps c = λ k. c.end_here.ensures.keeps (keeping_as c.args.model.now c.args.self.now _ refl c.go_behind.ensures.room (omega arith) c.tell_last.ensures.room c.tell_last.ensures.grows k)
+
+pub returns-in-Err-clause-memory : goal.returns-in-Err-clause-memory
+returns-in-Err-clause-memory c = λ bytes k e is.
+    let few = c.if-behind-count.false in
+    not_ok (c.in-Err.ensures.within (λ leaf at. leaf_enough c.args.model.now c.args.self.now c.args.begun c.args.second c.args.behind.now c.args.piece.now bytes c.split_at.result.0.now leaf k (c.requires.stands bytes k) c.requires.primitive c.split_at.ensures.front (omega (arith, few)) c.requires.open at e))
+
+pub returns-in-Err-end_here-clause-memory : goal.returns-in-Err-end_here-clause-memory
+returns-in-Err-end_here-clause-memory c = λ bytes k e is.
+    let T = c.args.model.now in
+    let s = c.args.self.now in
+    let piece = c.args.piece.now in
+    let n = c.args.second in
+    let few = c.if-behind-count.false in
+    let d = c.go_behind.ensures in
+    let t = c.in-Ok.ensures in
+    let mid : DerChecker = record s { decoder = c.go_behind.new.self; checks = c.tell_last.new.checks; pieces = c.tell_last.new.pieces } in
+    let both =
+    passed T s c.go_behind.new.self c.args.begun n c.args.behind.now piece bytes c.split_at.result.0.now c.tell_last.new.pieces k (c.requires.stands bytes k) c.requires.primitive c.split_at.ensures.front (omega (arith, few)) (t.held (let e = c.if-not-told.false in cc)) (t.shown (let e = c.if-not-told.false in cc)) d.levels d.place
+    d.start d.due d.fresh in
+    c.in-Err-end_here.ensures.memory (bytes ++ take (2 + n) piece) both.0 both.1
+    (enough_then T s mid (bytes ++ take (2 + n) piece) (bytes ++ take (2 + n) piece) refl (λ k. keeping_as T s mid refl c.go_behind.ensures.room (omega arith) c.tell_last.ensures.room c.tell_last.ensures.grows k) refl (enough_less T s (bytes ++ take (2 + n) piece) (drop (2 + n) piece) (bytes ++ piece) (behind_is bytes piece (take (2 + n) piece) (drop (2 + n) piece) (joined (2 + n) piece)) e)) (err_as _ _ is)

@@ -7,7 +7,7 @@ use Rattle.der_codec.proofs.checker.DerChecker.start.Goals as goal
 
 pub returns-clause-made : goal.returns-clause-made
 returns-clause-made c = λ T. record {
-  checks = c.new-3.ensures (types_of T);
+  checks = c.new-3.ensures.made (types_of T);
   given = λ none. (
     [],
     record {
@@ -34,4 +34,11 @@ returns-clause-fed c = λ T. record {
   };
   short = omega arith;
   sound = refl;
+}
+
+pub returns-clause-keeping : goal.returns-clause-keeping
+returns-clause-keeping c = λ T region is. record {
+  region = region;
+  is = is;
+  reserved = record { depth = omega arith; octets = omega arith; nodes = omega arith; bytes = omega arith; checks = λ some. absurd (omega (arith, some)) };
 }

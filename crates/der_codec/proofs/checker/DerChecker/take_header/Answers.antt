@@ -4,6 +4,7 @@ use Rattle.der_codec.specs.Decoding.{IsHeaderDue}
 use Rattle.der_codec.specs.declared.decoder.Decoder.{Decoder}
 use Rattle.der_codec.proofs.TextLengths.{none_there}
 use Rattle.der_codec.proofs.UsualFed.{none_shown, fed_as, front_as, usual_taken, usual_stopped, some_taken}
+use Rattle.der_codec.proofs.Keeping.{none_keeping}
 use Rattle.der_codec.proofs.checker.DerChecker.take_header.Goals as goal
 
 pub take_run-taken-requires-clause-alone : goal.take_run-taken-requires-clause-alone
@@ -47,3 +48,18 @@ returns-in-Ok-clause-front c =
 pub returns-in-Err-clause-front : goal.returns-in-Err-clause-front
 returns-in-Err-clause-front c =
     usual_stopped c.args.model.now c.args.self.now c.take_run-taken.new.self c.end_here.new.self c.args.piece.now c.take_run-taken.result c.in-Err.stop c.take_run-taken.ensures.ok c.in-Err.ensures.err
+
+pub returns-then-taken-eq0-clause-keeps : goal.returns-then-taken-eq0-clause-keeps
+returns-then-taken-eq0-clause-keeps c = λ k. absurd (none_keeping c.args.model.now c.args.self.now (none_there c.args.self.now.pieces (sym c.is_some.ensures ∙ c.if-is_some.false)) k)
+
+pub returns-in-Ok-clause-keeps : goal.returns-in-Ok-clause-keeps
+returns-in-Ok-clause-keeps c = λ k. absurd (none_keeping c.args.model.now c.args.self.now (none_there c.args.self.now.pieces (sym c.is_some.ensures ∙ c.if-is_some.false)) k)
+
+pub returns-in-Err-clause-keeps : goal.returns-in-Err-clause-keeps
+returns-in-Err-clause-keeps c = λ k. absurd (none_keeping c.args.model.now c.args.self.now (none_there c.args.self.now.pieces (sym c.is_some.ensures ∙ c.if-is_some.false)) k)
+
+pub returns-then-taken-eq0-clause-memory : goal.returns-then-taken-eq0-clause-memory
+returns-then-taken-eq0-clause-memory c = λ bytes h e is. none_keeping c.args.model.now c.args.self.now (none_there c.args.self.now.pieces (sym c.is_some.ensures ∙ c.if-is_some.false)) e.keeping
+
+pub returns-in-Err-clause-memory : goal.returns-in-Err-clause-memory
+returns-in-Err-clause-memory c = λ bytes h e is. none_keeping c.args.model.now c.args.self.now (none_there c.args.self.now.pieces (sym c.is_some.ensures ∙ c.if-is_some.false)) e.keeping

@@ -1,7 +1,8 @@
-use Rattle.std.proofs.Common.{◌+◌, ◌≤◌, ◌^◌, length, sym, subst}
+use Rattle.std.proofs.Common.{◌+◌, ◌≤◌, ◌^◌, length, sym, subst, refl}
 use Rattle.der_codec.specs.Decoding.{IsHeaderDue}
 use Rattle.der_codec.specs.declared.decoder.Decoder.{Decoder}
 use Rattle.der_codec.proofs.UsualFed.{front_as, none_fed, some_taken}
+use Rattle.der_codec.proofs.Keeping.{enough_then, err_as}
 use Rattle.der_codec.proofs.checker.DerChecker.take_kept.Goals as goal
 
 pub take_first-requires-clause-room : goal.take_first-requires-clause-room
@@ -22,3 +23,9 @@ returns-then-taken-eq0-clause-front c =
 
 pub returns-clause-some : goal.returns-clause-some
 returns-clause-some c = some_taken c.in-Ok.taken c.if-taken-eq0.false
+
+pub returns-then-taken-eq0-clause-memory : goal.returns-then-taken-eq0-clause-memory
+returns-then-taken-eq0-clause-memory c = λ bytes h e is.
+    let s = c.args.self.now in
+    let mid = c.take_shown.new.self in
+    c.take_first.ensures.memory bytes (none_fed c.args.model.now s mid bytes c.args.piece.now c.in-Ok.taken c.if-taken-eq0.true c.in-Ok.ensures.front h) (enough_then c.args.model.now s mid _ _ refl c.in-Ok.ensures.keeps c.in-Ok.ensures.same e) is

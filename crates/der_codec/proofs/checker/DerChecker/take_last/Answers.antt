@@ -1,5 +1,10 @@
-use Rattle.std.proofs.Common.{arith, ◌++◌}
+use Rattle.std.proofs.Common.{◌≡◌, arith, ◌++◌, refl, ◌∙◌, ap}
 use Rattle.der_codec.proofs.Fed.{kept_short, last_has, last_ends, refused_within}
+use Rattle.der_codec.proofs.Keeping.{keeping_as, levels_same, grows_same, enough_then, err_as}
+use Rattle.der_codec.proofs.RoomSteps.{whole_enough, refused_memory}
+use Rattle.std.specs.Prelude.{Err}
+use Rattle.der_codec.specs.declared.decoder.Stop.TheVariants as stop
+use Rattle.der_codec.specs.declared.checker.DerChecker.{DerChecker}
 use Rattle.der_codec.proofs.checker.DerChecker.take_last.Goals as goal
 
 pub judge_whole-requires-clause-short : goal.judge_whole-requires-clause-short
@@ -43,3 +48,24 @@ pub returns-in-Err-clause-err : goal.returns-in-Err-clause-err
 returns-in-Err-clause-err c = λ bytes h.
     let s = c.args.self.now in
     refused_within c.args.model.now s.decoder c.judge_whole.new.self.decoder s.kept.items bytes c.args.front.now c.args.spot c.args.left c.in-Err.refusal c.refused.result c.in-Err.ensures.decoder c.requires.due h c.requires.last c.in-Err.ensures.judged c.refused.ensures
+
+pub returns-in-Ok-clause-keeps : goal.returns-in-Ok-clause-keeps
+returns-in-Ok-clause-keeps c = λ k. c.end_leaf.ensures.keeps (keeping_as c.args.model.now c.judge_whole.new.self _ refl (levels_same c.judge_whole.new.self.decoder c.judge_whole.new.self.decoder c.end_contents.new.self refl c.end_contents.ensures.levels) (omega arith) (λ bytes h. h) (grows_same c.judge_whole.new.self.pieces) (c.in-Ok.ensures.keeps k))
+
+pub returns-in-Ok-clause-memory : goal.returns-in-Ok-clause-memory
+returns-in-Ok-clause-memory c = λ bytes r shows e is.
+    let s = c.args.self.now in
+    let j = c.judge_whole.new.self in
+    let front = c.args.front.now in
+    let h = c.in-Ok.ensures in
+    let d = c.end_contents.ensures in
+    let mid : DerChecker = record j { decoder = c.end_contents.new.self } in
+    c.end_leaf.ensures.memory (bytes ++ front)
+    (last_ends c.args.model.now s.decoder j.decoder c.end_contents.new.self s.kept.items s.pieces j.pieces bytes front c.args.spot c.args.left h.decoder c.requires.due r shows c.requires.last h.judged h.shown d.fresh d.levels d.read)
+    (enough_then c.args.model.now s mid (bytes ++ front) (bytes ++ front) refl (λ k. keeping_as c.args.model.now j mid refl (levels_same c.judge_whole.new.self.decoder c.judge_whole.new.self.decoder c.end_contents.new.self refl c.end_contents.ensures.levels) (omega arith) (λ bytes h. h) (grows_same c.judge_whole.new.self.pieces) (h.keeps k)) h.same e) is
+
+pub returns-in-Err-clause-memory : goal.returns-in-Err-clause-memory
+returns-in-Err-clause-memory c = λ bytes r shows e is.
+    let s = c.args.self.now in
+    let stops : c.refused.result ≡ stop.Memory = cc in
+    c.in-Err.ensures.within (whole_enough c.args.model.now s c.args.spot c.args.left bytes c.args.front.now c.requires.due c.requires.last r shows e) (ap Err (refused_memory _ c.in-Err.refusal c.refused.result c.refused.ensures stops))

@@ -1,4 +1,4 @@
-use Rattle.std.proofs.Common.{◌++◌, ◌∷◌, [], refl, sym, subst}
+use Rattle.std.proofs.Common.{◌++◌, ◌∷◌, [], refl, sym, subst, arith}
 use Rattle.fragments.specs.Fragment.{fragment}
 use Rattle.der_model.specs.DerMessage.{der_message}
 use Rattle.der_codec.specs.Decoding.{IsOpenState}
@@ -7,6 +7,8 @@ use Rattle.der_codec.specs.Levels.{inwards}
 use Rattle.der_codec.specs.declared.decoder.Decoder.{Decoder}
 use Rattle.der_codec.proofs.PiecesOpen.{ok_for}
 use Rattle.der_codec.proofs.ShownFed.{tag_shown, length_shown, length_due}
+use Rattle.der_codec.proofs.Keeping.{keeping_as, grows_same, length_enough, err_as, ok_no_err}
+use Rattle.der_codec.proofs.RoomSteps.{tag_enough}
 use Rattle.der_codec.proofs.checker.DerChecker.take_octet.Goals as goal
 
 pub returns-in-Tag-clause-shown : goal.returns-in-Tag-clause-shown
@@ -38,7 +40,25 @@ returns-in_default c =
       place = h.place;
       low = h.low;
       begun = h.begun;
+      keeps = λ k. keeping_as c.args.model.now c.args.self.now _ refl c.take_header.ensures.room (omega arith) (λ bytes h. h) (grows_same c.args.self.now.pieces) k;
+      same = refl;
+      memory = λ bytes r shows e is. absurd cc;
     }
 
 pub returns-in-Err-clause-stays : goal.returns-in-Err-clause-stays
 returns-in-Err-clause-stays c = λ bytes r. c.in-Err.ensures.stays fragment bytes r
+
+pub returns-in-Tag-clause-keeps : goal.returns-in-Tag-clause-keeps
+returns-in-Tag-clause-keeps c = λ k. c.begin_component.ensures.keeps (keeping_as c.args.model.now c.args.self.now _ refl c.take_header.ensures.room (omega arith) (λ bytes h. h) (grows_same c.args.self.now.pieces) k)
+
+pub returns-in-Err-clause-keeps : goal.returns-in-Err-clause-keeps
+returns-in-Err-clause-keeps c = λ k. keeping_as c.args.model.now c.args.self.now _ refl c.take_header.ensures.room (omega arith) (λ bytes h. h) (grows_same c.args.self.now.pieces) k
+
+pub returns-in-Tag-clause-memory : goal.returns-in-Tag-clause-memory
+returns-in-Tag-clause-memory c = λ bytes r shows e is.
+    let h = c.in-Ok.ensures in
+    let t = h.ok fragment bytes r in
+    ok_no_err c.begin_component.result _ (c.begin_component.ensures.within t.state t.is_open (tag_enough c.args.model.now c.args.self.now c.take_header.new.self bytes c.args.octet c.in-Tag.field-0 c.in-Tag.is c.requires.low r shows h.low h.begun t e)) is
+
+pub returns-in-Err-clause-memory : goal.returns-in-Err-clause-memory
+returns-in-Err-clause-memory c = λ bytes r shows e is. length_enough c.args.model.now c.args.self.now bytes (c.args.octet ∷ []) r shows e (c.in-Err.ensures.long is) (c.in-Err.ensures.full is)

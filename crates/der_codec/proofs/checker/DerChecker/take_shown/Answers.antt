@@ -1,8 +1,10 @@
-use Rattle.std.proofs.Common.{◌++◌, ◌∙◌, length, take, sym, ap, subst, arith, append-nil, refl}
+use Rattle.std.proofs.Common.{◌++◌, ◌∙◌, length, take, sym, ap, subst, arith, append-nil, refl, drop, append_assoc}
 use Rattle.std.proofs.lemmas.List.{length-drop}
 use Rattle.der_codec.specs.Checking.{HasFedDer}
 use Rattle.der_codec.proofs.UsualFed.{front_room, run_stopped, run_ends}
 use Rattle.der_codec.proofs.UsualSteps.{run_more}
+use Rattle.der_codec.proofs.Fed.{joined}
+use Rattle.der_codec.proofs.Keeping.{enough_then, err_as}
 use Rattle.der_codec.proofs.checker.DerChecker.take_shown.Goals as goal
 
 pub loop-count-init : goal.loop-count-init
@@ -11,6 +13,8 @@ loop-count-init c = (
   λ bytes h. subst (HasFedDer c.args.self.now c.args.model.now) (sym (append-nil bytes)) h,
   omega arith,
   λ none. refl,
+  λ k. k,
+  refl,
 )
 
 pub split_at-requires : goal.split_at-requires
@@ -63,4 +67,26 @@ loop-count-preserved c =
       λ bytes h. subst (HasFedDer c.show_next.new.self c.args.model.now) (run_more bytes piece c.split_at.result.1.now taken count c.split_at.ensures.back) (c.in-Ok.ensures.front.ok (bytes ++ take taken piece) (i.1 bytes h)),
       omega (arith, within, behind, few),
       λ none. absurd (omega (arith, none, some)),
+      λ k. c.in-Ok.ensures.keeps (i.4 k),
+      c.in-Ok.ensures.same ∙ i.5,
     )
+
+pub returns-in-Err-clause-keeps : goal.returns-in-Err-clause-keeps
+returns-in-Err-clause-keeps c = λ k. c.in-Err.ensures.keeps (c.loop-count.invariant.4 k)
+
+pub returns-in-Err-clause-same : goal.returns-in-Err-clause-same
+returns-in-Err-clause-same c = c.in-Err.ensures.same ∙ c.loop-count.invariant.5
+
+pub returns-then-count-eq0-clause-keeps : goal.returns-then-count-eq0-clause-keeps
+returns-then-count-eq0-clause-keeps c = λ k. c.in-Ok.ensures.keeps (c.loop-count.invariant.4 k)
+
+pub returns-then-count-eq0-clause-same : goal.returns-then-count-eq0-clause-same
+returns-then-count-eq0-clause-same c = c.in-Ok.ensures.same ∙ c.loop-count.invariant.5
+
+pub returns-in-Err-clause-memory : goal.returns-in-Err-clause-memory
+returns-in-Err-clause-memory c = λ bytes h e is.
+    let i = c.loop-count.invariant in
+    let piece = c.args.piece.now in
+    let taken = c.loop-count.taken in
+    let all = ap (λ z. bytes ++ z) (joined taken piece) ∙ (sym (append_assoc bytes (take taken piece) (drop taken piece)) ∙ ap (λ z. (bytes ++ take taken piece) ++ z) (sym c.split_at.ensures.back)) in
+    c.in-Err.ensures.memory (bytes ++ take taken piece) (i.1 bytes h) (enough_then c.args.model.now c.args.self.now c.loop-count.self ((bytes ++ take taken piece) ++ c.split_at.result.1.now) (bytes ++ piece) all i.4 i.5 e) (err_as _ _ is)

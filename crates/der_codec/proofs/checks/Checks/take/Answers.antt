@@ -1,6 +1,9 @@
 use Rattle.std.proofs.Common.{rules}
-use Rattle.der_codec.proofs.KeptChecks.{taken_at}
+use Rattle.der_codec.proofs.KeptChecks.{taken_at, found_roomy, set_other}
 use Rattle.der_codec.proofs.checks.Checks.take.Goals as goal
 
 pub returns-then-at-len-clause-made : goal.returns-then-at-len-clause-made
 returns-then-at-len-clause-made c types h = taken_at types c.args.self.now.entries.items c.args.number c.take.result h (search rules) (search rules)
+
+pub returns-then-at-len-clause-there : goal.returns-then-at-len-clause-there
+returns-then-at-len-clause-there c = λ bytes h. found_roomy bytes c.args.self.now.entries.items c.args.number c.take.result h (search rules) (search rules)

@@ -1,4 +1,6 @@
 use Rattle.der_codec.proofs.StepTies.{ok_when}
+use Rattle.std.proofs.Common.{refl}
+use Rattle.der_codec.proofs.Keeping.{made_keeps}
 use Rattle.der_codec.proofs.reader.DerReader.feed.Goals as goal
 
 pub returns-clause-ok : goal.returns-clause-ok
@@ -6,3 +8,9 @@ returns-clause-ok c = λ bytes h. ok_when c.feed.result _ _ (c.feed.ensures.ok b
 
 pub returns-clause-err : goal.returns-clause-err
 returns-clause-err c = λ bytes h. c.feed.ensures.err bytes h.given
+
+pub returns-clause-made : goal.returns-clause-made
+returns-clause-made c = (c.feed.ensures.made, λ none. made_keeps c.args.model.now c.feed.result c.args.self.now.checker c.feed.new.self none c.requires.made.1 c.feed.ensures.keeps c.feed.ensures.failed c.feed.ensures.again)
+
+pub returns-clause-memory : goal.returns-clause-memory
+returns-clause-memory c = λ bytes h b. c.feed.ensures.memory bytes h.given (record { keeping = c.requires.made.1 h.given.sound; sound = c.is_sound.ensures; begins = b })

@@ -1,0 +1,262 @@
+-- Bytes that begin the DER of an instance show a front of its pieces and of its parts, for which the room is enough.
+use Rattle.std.proofs.Common.{◌≡◌, ℕ, suc, ◌+◌, ◌-◌, ◌≤◌, ◌<◌, ◌^◌, true, false, List, [], ◌∷◌, ◌++◌, length, Option, Some, None, Ok, refl, sym, ap, ◌∙◌, subst, arith, append_assoc, length-append}
+use Rattle.fragments.specs.Fragment.{fragment}
+use Rattle.data_types.specs.Leaf.{Leaf, Bytes, Number, Flag, Code}
+use Rattle.data_types.specs.Value.{Value, Edge, Piece}
+use Rattle.data_types.specs.Value as value
+use Rattle.data_types.specs.declared.kind.Kind.{Kind}
+use Rattle.data_types.specs.declared.kind.Kind.TheVariants as kind
+use Rattle.facets.specs.declared.simple.Simple.{Simple}
+use Rattle.inst_pool.specs.Pieces.{bytes_of, leaf_bytes}
+use Rattle.message_model.specs.Tables.{Tables, types_of, pieces_of}
+use Rattle.der_octets.specs.Octets.{Values, Nothing, Primitive, Constructed, octets, universal}
+use Rattle.der_octets.proofs.OneReading.{octets_same}
+use Rattle.der_model.specs.DerMessage.{DerMessage, der_message}
+use Rattle.der_model.specs.Der.{SpellsDer, der_values}
+use Rattle.der_model.specs.Faults.{DerFront, IsWholeDer, IsHeldIn, IsCleanPart}
+use Rattle.der_model.specs.LeafContents.{IsContents}
+use Rattle.der_model.specs.OpenParts.{parts_of, without_lengths, IsPrimitive}
+use Rattle.der_model.specs.ShownPieces.{PartShows, PartsShow, IsLeafIn, begin_each, end_each, elements_ended}
+use Rattle.der_model.specs.Sound.{IsSoundDer}
+use Rattle.der_model.specs.States.{Part, Identifier, Length, End, part_octets, DerLevel, PathName, State, Start, AwaitsLength, AwaitsContents, Within, begun_state, level_answer, state_after, Stands}
+use Rattle.der_model.specs.States as states
+use Rattle.der_model.specs.Structures as structures
+use Rattle.der_model.specs.Structures.{Spot, Structure, Holds, LeafOf, Fragment, Fields, OneOf, Items, Empty, structure}
+use Rattle.der_model.proofs.Answered.{spelled_is_whole, one_value}
+use Rattle.der_model.proofs.Continued.{front_more}
+use Rattle.der_model.proofs.ShownParts.{parts_then, first_part}
+use Rattle.der_model.proofs.ShownPieces.{instance_are, whole_shows_pieces, front_shows_pieces, show_one_pieces, parts_show_then}
+use Rattle.der_model.proofs.WholeValues.{values_of_whole, whole_values_of}
+use Rattle.der_codec.specs.Checking.{open_count}
+use Rattle.der_codec.specs.Rooms.{contents_size, open_next, StaysOpen, IsEnough, BeginsEnough}
+use Rattle.der_codec.specs.declared.room.Room.{Room}
+use Rattle.der_codec.proofs.Growing.{bytes_append}
+
+-- ---- the parts of an instance
+
+without_then : (vs : Values) (behind : List Part) → without_lengths (parts_then vs behind) ≡ parts_of vs ++ End ∷ without_lengths behind
+without_then Nothing behind = refl
+without_then (Primitive tag contents rest) behind = ap (λ z. Identifier false tag ∷ states.Contents contents ∷ z) (without_then rest behind)
+without_then (Constructed tag inner rest) behind =
+    ap (λ z. Identifier true tag ∷ z)
+    (without_then inner (parts_then rest behind) ∙ (ap (λ z. parts_of inner ++ End ∷ z) (without_then rest behind) ∙ sym (append_assoc (parts_of inner) (End ∷ parts_of rest) (End ∷ without_lengths behind))))
+
+without_append : (ps qs : List Part) → without_lengths (ps ++ qs) ≡ without_lengths ps ++ without_lengths qs
+without_append [] qs = refl
+without_append (Identifier b t ∷ ps) qs = ap (λ z. Identifier b t ∷ z) (without_append ps qs)
+without_append (Length n ∷ ps) qs = without_append ps qs
+without_append (states.Contents o ∷ ps) qs = ap (λ z. states.Contents o ∷ z) (without_append ps qs)
+without_append (End ∷ ps) qs = ap (λ z. End ∷ z) (without_append ps qs)
+
+-- whole bytes are these parts, which show the pieces
+pub record WholeParts (T : Tables) (bytes : List ℕ) (v : Value) : Type 0 where
+  pub whole : IsWholeDer (der_message T) bytes
+  pub are : without_lengths whole.parts ≡ parts_of (der_values (der_message T) v)
+  pub show : PartsShow (der_message T) Start 0 whole.parts (pieces_of fragment T v)
+
+whole_parts : (T : Tables) (bytes : List ℕ) (v : Value) → IsSoundDer (der_message T) → length bytes < 2 ^ 63 → SpellsDer (der_message T) bytes v → WholeParts T bytes v
+whole_parts T bytes v sound short spelled =
+    let m = der_message T in
+    let w = spelled_is_whole m sound bytes v short spelled in
+    let s = front_shows_pieces m Start (Within []) 0 w.at bytes [] w.parts w.front in
+    let (u, also, shown) = whole_shows_pieces m sound bytes w.parts w.at s.0 w.front s.1 in
+    let same : u ≡ v = one_value m sound bytes u v also spelled in
+    let (inner, conf, small, is) = values_of_whole m bytes w in
+    let values : whole_values_of inner ≡ der_values m v = octets_same (whole_values_of inner) (der_values m v) (sym is ∙ spelled.1) in
+    let parts = instance_are m bytes inner w.parts w.at conf small is w.front in
+    record {
+      whole = w;
+      are = ap without_lengths parts ∙ (ap (λ z. Identifier true (universal 16) ∷ z) (without_then inner []) ∙ ap parts_of values);
+      show = subst (PartsShow m Start 0 w.parts) (shown ∙ ap (pieces_of fragment T) same) s.1;
+    }
+
+-- ---- parts further
+
+none_over : {P : Type 0} (s : State P) (place : ℕ) (p : Part) → s ≡ Within [] → Stands s place p → ⊥
+none_over {P} s place p e h = go p (subst (λ z. Stands z place p) e h)
+  where
+    go : (p : Part) → Stands {P = P} (Within []) place p → ⊥
+    go (Identifier b t) h = h
+    go (Length n) h = h
+    go (states.Contents o) h = h
+    go End h = h
+
+pub record Further {P : Type 0} (m : DerMessage P) (ps all : List Part) (state : State P) (at : ℕ) (rest : List ℕ) (end : ℕ) : Type 0 where
+  pub later : List Part
+  pub are : all ≡ ps ++ later
+  pub front : DerFront m state at rest later (Within []) end []
+
+further : {P : Type 0} (m : DerMessage P) (s : State P) (place : ℕ) (bytes : List ℕ) (ps all : List Part) (state : State P) (at : ℕ) (rest : List ℕ) (end : ℕ) → DerFront m s place bytes ps state at rest → DerFront m s place bytes all (Within []) end []
+    → Further m ps all state at rest end
+further m s place bytes [] all state at rest end (p, q, r) whole = record {
+  later = all;
+  are = refl;
+  front = subst (λ z. DerFront m z at rest all (Within []) end []) p (subst (λ z. DerFront m s z rest all (Within []) end []) q (subst (λ z. DerFront m s place z all (Within []) end []) r whole));
+}
+further m s place bytes (p ∷ ps) all state at rest end (after, is, stands, up, clean, f) whole =
+    let one = first_part m s place bytes p after all end [] (λ e. none_over s place p e stands) stands is whole in
+    let r = further m (state_after m s place p) (place + length (part_octets p)) after ps one.others state at rest end f one.front in
+    record { later = r.later; are = one.are ∙ ap (λ z. p ∷ z) r.are; front = r.front }
+
+-- ---- how much they are
+
+contents_append : (ps qs : List Part) → contents_size (ps ++ qs) ≡ contents_size ps + contents_size qs
+contents_append [] qs = omega arith
+contents_append (Identifier b t ∷ ps) qs = contents_append ps qs
+contents_append (Length n ∷ ps) qs = contents_append ps qs
+contents_append (states.Contents o ∷ ps) qs = (let rest = contents_append ps qs in omega (arith, rest))
+contents_append (End ∷ ps) qs = contents_append ps qs
+
+contents_without : (ps : List Part) → contents_size (without_lengths ps) ≡ contents_size ps
+contents_without [] = refl
+contents_without (Identifier b t ∷ ps) = contents_without ps
+contents_without (Length n ∷ ps) = contents_without ps
+contents_without (states.Contents o ∷ ps) = ap (λ z. length o + z) (contents_without ps)
+contents_without (End ∷ ps) = contents_without ps
+
+leaf_small : (k : Kind) (codes : Option (List (List ℕ))) (o : List ℕ) (leaf : Leaf) → IsContents k codes o leaf → leaf_bytes leaf ≤ length o
+leaf_small k codes o (Number x) h = omega arith
+leaf_small k codes o (Flag x) h = omega arith
+leaf_small k codes o (Code x) h = omega arith
+leaf_small kind.Text None o (Bytes b) h = (let e = ap length h.1 in omega (arith, e))
+leaf_small kind.Text (Some codes) o (Bytes b) h = absurd h
+leaf_small kind.Decimal codes o (Bytes b) h = absurd h
+leaf_small kind.Boolean codes o (Bytes b) h = absurd h
+leaf_small kind.Binary codes o (Bytes b) h = (let e = ap length h.1 in omega (arith, e))
+leaf_small kind.Envelope codes o (Bytes b) h = absurd h
+leaf_small kind.Date codes o (Bytes b) h = (let e = ap length h.1 in omega (arith, e))
+leaf_small kind.DateTime codes o (Bytes b) h = (let e = ap length h.1 in omega (arith, e))
+leaf_small kind.Time codes o (Bytes b) h = (let e = ap length h.1 in omega (arith, e))
+leaf_small kind.Year codes o (Bytes b) h = (let e = ap length h.1 in omega (arith, e))
+leaf_small kind.YearMonth codes o (Bytes b) h = (let e = ap length h.1 in omega (arith, e))
+leaf_small kind.MonthDay codes o (Bytes b) h = (let e = ap length h.1 in omega (arith, e))
+leaf_small kind.Month codes o (Bytes b) h = (let e = ap length h.1 in omega (arith, e))
+leaf_small kind.Day codes o (Bytes b) h = (let e = ap length h.1 in omega (arith, e))
+
+held_small : {P : Type 0} (s : Structure P) (o : List ℕ) (leaf : Leaf) → IsLeafIn s o leaf → leaf_bytes leaf ≤ length o
+held_small (Holds (LeafOf simple)) o leaf h = leaf_small simple.kind simple.codes o leaf h.0
+held_small (Holds Fragment) o leaf h = (let e : leaf_bytes leaf ≡ length o = ap leaf_bytes h in omega (arith, e))
+held_small (Fields cs) o leaf h = absurd h
+held_small (OneOf cs) o leaf h = absurd h
+held_small (Items s cs) o leaf h = absurd h
+held_small Empty o leaf h = absurd h
+
+none_begun : (edges : List Edge) → bytes_of (begin_each edges) ≡ 0
+none_begun [] = refl
+none_begun (e ∷ edges) = (let rest = none_begun edges in omega (arith, rest))
+
+none_ended : (edges : List Edge) → bytes_of (end_each edges) ≡ 0
+none_ended [] = refl
+none_ended (e ∷ edges) = (let sum = bytes_append (end_each edges) (value.Ends e ∷ []) in let rest = none_ended edges in omega (arith, sum, rest))
+
+part_bytes : (m : DerMessage ℕ) (s : State ℕ) (p : Part) (shown : List Piece) → PartShows m s p shown → bytes_of shown ≤ contents_size (p ∷ [])
+part_bytes m Start p shown h = none shown h
+  where
+    none : (shown : List Piece) → shown ≡ [] → bytes_of shown ≤ contents_size (p ∷ [])
+    none shown e = (let z = ap bytes_of e in omega (arith, z))
+part_bytes m (AwaitsLength b spot names around) p shown h = (let z = ap bytes_of h in omega (arith, z))
+part_bytes m (AwaitsContents spot names count around) (states.Contents o) shown (leaf, is, e) =
+    let z = ap bytes_of e in let few = held_small (structure m spot) o leaf is in let none = none_ended (elements_ended m around) in omega (arith, z, few, none)
+part_bytes m (AwaitsContents spot names count around) (Identifier b t) shown h = (let z = ap bytes_of h in omega (arith, z))
+part_bytes m (AwaitsContents spot names count around) (Length n) shown h = (let z = ap bytes_of h in omega (arith, z))
+part_bytes m (AwaitsContents spot names count around) End shown h = (let z = ap bytes_of h in omega (arith, z))
+part_bytes m (Within []) p shown h = (let z = ap bytes_of h in omega (arith, z))
+part_bytes m (Within (l ∷ ls)) (Identifier b t) shown h = (let z = ap bytes_of h ∙ none_begun _ in omega (arith, z))
+part_bytes m (Within (l ∷ ls)) End shown h = (let z = ap bytes_of h ∙ none_ended (elements_ended m ls) in omega (arith, z))
+part_bytes m (Within (l ∷ ls)) (Length n) shown h = (let z = ap bytes_of h in omega (arith, z))
+part_bytes m (Within (l ∷ ls)) (states.Contents o) shown h = (let z = ap bytes_of h in omega (arith, z))
+
+parts_bytes : (m : DerMessage ℕ) (s : State ℕ) (place : ℕ) (ps : List Part) (shown : List Piece) → PartsShow m s place ps shown → bytes_of shown ≤ contents_size ps
+parts_bytes m s place [] shown h = (let z = ap bytes_of h in omega (arith, z))
+parts_bytes m s place (p ∷ ps) shown (first, behind, one, rest, is) =
+    let z = ap bytes_of is ∙ bytes_append first behind in
+    let a = part_bytes m s p first one in
+    let b = parts_bytes m (state_after m s place p) (place + length (part_octets p)) ps behind rest in
+    let sum = contents_append (p ∷ []) ps in
+    omega (arith, z, a, b, sum)
+
+-- ---- how many are open
+
+stays_first : (depth n : ℕ) (ps : List Part) → StaysOpen depth n ps → n ≤ depth
+stays_first depth n [] h = h
+stays_first depth n (p ∷ ps) h = h.0
+
+-- one part on
+stays_next : (m : DerMessage ℕ) (s : State ℕ) (place depth : ℕ) (p : Part) (ps : List Part) → Stands s place p → IsCleanPart m s place p → StaysOpen depth (open_count s) (without_lengths (p ∷ ps)) → StaysOpen depth (open_count (state_after m s place p)) (without_lengths ps)
+stays_next m Start place depth (Identifier b t) ps st cl h = h.1
+stays_next m (Within (l ∷ ls)) place depth (Identifier b t) ps st (k, c, e) h = subst (λ z. StaysOpen depth (open_count (begun_state m l ls b z)) (without_lengths ps)) (sym e) h.1
+stays_next m (AwaitsLength true spot names around) place depth (Length n) ps st cl h = h
+stays_next m (AwaitsLength false spot names around) place depth (Length n) ps st cl h = h
+stays_next m (AwaitsContents spot names count around) place depth (states.Contents o) ps st cl h = (let one : suc (length around) - 1 ≡ length around = omega arith in subst (λ z. StaysOpen depth z (without_lengths ps)) one h.1)
+stays_next m (Within (l ∷ ls)) place depth End ps st cl h = (let one : suc (length ls) - 1 ≡ length ls = omega arith in subst (λ z. StaysOpen depth z (without_lengths ps)) one h.1)
+stays_next m s place depth p ps st cl h = absurd st
+
+stays_front : (m : DerMessage ℕ) (s : State ℕ) (place depth : ℕ) (bytes : List ℕ) (ps later : List Part) (state : State ℕ) (at : ℕ) (rest : List ℕ) → DerFront m s place bytes ps state at rest → StaysOpen depth (open_count s) (without_lengths (ps ++ later)) → open_count state ≤ depth
+stays_front m s place depth bytes [] later state at rest (p, q, r) h = subst (λ z. open_count z ≤ depth) p (stays_first depth (open_count s) (without_lengths later) h)
+stays_front m s place depth bytes (p ∷ ps) later state at rest (after, is, st, up, cl, f) h =
+    stays_front m (state_after m s place p) (place + length (part_octets p)) depth after ps later state at rest f (stays_next m s place depth p (ps ++ later) st cl h)
+
+-- ---- contents that are due
+
+held_primitive : {P : Type 0} (m : DerMessage P) (s : Structure P) (o : List ℕ) → IsHeldIn m s o → IsPrimitive s
+held_primitive m (Holds contents) o h = tt
+held_primitive m (Fields cs) o h = absurd h
+held_primitive m (OneOf cs) o h = absurd h
+held_primitive m (Items s cs) o h = absurd h
+held_primitive m Empty o h = absurd h
+
+due_contents : (m : DerMessage ℕ) (spot : Spot ℕ) (names : List PathName) (count : ℕ) (around : List (DerLevel ℕ)) (at : ℕ) (bytes : List ℕ) (later : List Part) (end : ℕ) → DerFront m (AwaitsContents spot names count around) at bytes later (Within []) end []
+    → (count ≤ contents_size later) × IsPrimitive (structure m spot)
+due_contents m spot names count around at bytes [] end (p, q, r) = absurd (let e : AwaitsContents spot names count around ≡ Within [] = p in cc)
+due_contents m spot names count around at bytes (states.Contents o ∷ later) end (after, is, st, up, cl, f) = (omega (arith, st), held_primitive m (structure m spot) o cl)
+due_contents m spot names count around at bytes (p ∷ later) end (after, is, st, up, cl, f) = absurd st
+
+-- ---- what the room is enough for
+
+-- The room is enough for what was read, which shows these pieces, and for the contents that are due.
+pub record FrontEnough (m : DerMessage ℕ) (room : Room) (state : State ℕ) (shown : List Piece) : Type 0 where
+  pub nodes : length shown ≤ room.nodes
+  pub bytes : bytes_of shown ≤ room.bytes
+  pub depth : open_count state ≤ room.depth
+  pub contents : (spot : Spot ℕ) (names : List PathName) (count : ℕ) (around : List (DerLevel ℕ)) → state ≡ AwaitsContents spot names count around → (count ≤ room.bytes) × IsPrimitive (structure m spot)
+
+pub front_enough : (T : Tables) (room : Room) (bytes more : List ℕ) (ps : List Part) (state : State ℕ) (at : ℕ) (rest : List ℕ) (shown : List Piece) → IsSoundDer (der_message T) → BeginsEnough T room (bytes ++ more) → DerFront (der_message T) Start 0 bytes ps state at rest
+    → PartsShow (der_message T) Start 0 ps shown → FrontEnough (der_message T) room state shown
+front_enough T room bytes more ps state at rest shown sound b front show = record {
+  nodes = (let e = ap length pieces in let sum = length-append shown last.0 in let all = b.enough.nodes in omega (arith, e, sum, all));
+  bytes = (let few = parts_bytes m Start 0 ps shown show in let sum = contents_append ps f.later in let all = b.enough.bytes in let e = size in omega (arith, few, sum, all, e));
+  depth = stays_front m Start 0 room.depth bytes ps f.later state at rest front (subst (StaysOpen room.depth 0) (sym same) b.enough.depth);
+  contents = λ spot names count around e.
+      let d = due_contents m spot names count around at (rest ++ others) f.later whole.at (subst (λ z. DerFront m z at (rest ++ others) f.later (Within []) whole.at []) e f.front) in
+      (let few = d.0 in let sum = contents_append ps f.later in let all = b.enough.bytes in let e = size in omega (arith, few, sum, all, e), d.1);
+}
+  where
+    m : DerMessage ℕ
+    m = der_message T
+
+    others : List ℕ
+    others = more ++ b.behind
+
+    all : List ℕ
+    all = (bytes ++ more) ++ b.behind
+
+    parts : WholeParts T all b.value
+    parts = whole_parts T all b.value sound b.short b.spelled
+
+    whole : IsWholeDer m all
+    whole = parts.whole
+
+    f : Further m ps whole.parts state at (rest ++ others) whole.at
+    f = further m Start 0 all ps whole.parts state at (rest ++ others) whole.at (subst (λ z. DerFront m Start 0 z ps state at (rest ++ others)) (sym (append_assoc bytes more b.behind)) (front_more m Start 0 bytes ps state at rest others front)) whole.front
+
+    same : without_lengths (ps ++ f.later) ≡ parts_of (der_values m b.value)
+    same = ap without_lengths (sym f.are) ∙ parts.are
+
+    size : contents_size (ps ++ f.later) ≡ contents_size (parts_of (der_values m b.value))
+    size = sym (contents_without (ps ++ f.later)) ∙ ap contents_size same
+
+    last : (more : List Piece) × PartsShow m state at f.later more
+    last = front_shows_pieces m state (Within []) at whole.at (rest ++ others) [] f.later f.front
+
+    pieces : pieces_of fragment T b.value ≡ shown ++ last.0
+    pieces = show_one_pieces m Start 0 (ps ++ f.later) _ _ (subst (λ z. PartsShow m Start 0 z (pieces_of fragment T b.value)) f.are parts.show) (parts_show_then m Start state 0 at bytes rest ps f.later shown last.0 front show last.1)

@@ -1,0 +1,52 @@
+-- Where only the room grows, what was given stays so.
+use Rattle.std.proofs.Common.{◌≡◌, ℕ, List, Option, Some, None, length, sym, ap, ◌∙◌, subst}
+use Rattle.inst_pool.specs.Pieces.{Region}
+use Rattle.message_model.specs.Tables.{Tables, types_of}
+use Rattle.der_model.specs.DerMessage.{DerMessage, der_message}
+use Rattle.der_model.specs.ShownPieces.{PartsShow}
+use Rattle.der_model.specs.States.{Start}
+use Rattle.der_codec.specs.Checked.{CheckTypes}
+use Rattle.der_codec.specs.Checking.{HasFedDer, IsDerCheckerFor, IsFreed, IsReading, KeepsContents}
+use Rattle.der_codec.specs.Decoding.{Reads, IsWaiting, end_of_levels, header_come}
+use Rattle.der_codec.specs.KeptPieces.{Shows}
+use Rattle.der_codec.specs.Levels.{inwards}
+use Rattle.der_codec.specs.Reserved.{HasSamePieces, IsWidened}
+use Rattle.der_codec.specs.declared.checker.DerChecker.{DerChecker}
+use Rattle.der_codec.specs.declared.decoder.Due.{Due}
+use Rattle.der_codec.specs.declared.level.Level.{Level}
+
+-- what holds of the open levels, of what is due and of both places
+as_before : (P : List Level → Due → ℕ → ℕ → Type 0) (old new : DerChecker) → IsWidened old new → P old.decoder.levels.items old.decoder.due old.decoder.start old.decoder.place → P new.decoder.levels.items new.decoder.due new.decoder.start new.decoder.place
+as_before P old new w h =
+    let d = old.decoder in
+    let e = new.decoder in
+    subst (λ z. P z e.due e.start e.place) (sym w.levels) (subst (λ z. P d.levels.items z e.start e.place) (sym w.due) (subst (λ z. P d.levels.items d.due z e.place) (sym w.start) (subst (λ z. P d.levels.items d.due d.start z) (sym w.place) h)))
+
+shows_same : (m : DerMessage ℕ) (xs : List Level) (d : Due) (start place : ℕ) (bytes : List ℕ) (old new : Option Region) → HasSamePieces old new → Shows m xs d start place old bytes → Shows m xs d start place new bytes
+shows_same m xs d start place bytes None None same h = tt
+shows_same m xs d start place bytes (Some a) (Some b) same h = λ r. subst (PartsShow m Start 0 r.parts) (sym same) (h r)
+shows_same m xs d start place bytes None (Some b) same h = absurd same
+shows_same m xs d start place bytes (Some a) None same h = absurd same
+
+pub widened_fed : (T : Tables) (old new : DerChecker) → IsWidened old new → (bytes : List ℕ) → HasFedDer old T bytes → HasFedDer new T bytes
+widened_fed T old new w bytes h =
+    let m = der_message T in
+    let g = h.reading in
+    let e = new.decoder in
+    let reading : IsReading T e new.kept.items new.pieces bytes = record {
+      read = as_before (λ xs a s p. Reads m (inwards xs) a s p bytes) old new w g.read;
+      waits = as_before (λ xs a s p. IsWaiting a p (end_of_levels xs)) old new w g.waits;
+      keeps = subst (KeepsContents T e.due e.start bytes) (sym w.kept) (as_before (λ xs a s p. KeepsContents T a s bytes old.kept.items) old new w g.keeps);
+      shows = shows_same m (inwards e.levels.items) e.due e.start e.place bytes old.pieces new.pieces w.pieces (as_before (λ xs a s p. Shows m (inwards xs) a s p old.pieces bytes) old new w g.shows);
+    } in
+    record { reading = reading; short = h.short; sound = w.failed ∙ h.sound }
+
+pub widened_made : (T : Tables) (old new : DerChecker) → IsWidened old new → CheckTypes (types_of T) new.checks → IsDerCheckerFor old T → IsDerCheckerFor new T
+widened_made T old new w checks h = record {
+  checks = checks;
+  given = λ none. (let g = h.given (sym w.failed ∙ none) in (g.0, widened_fed T old new w g.0 g.1));
+  freed = λ e failed. widened_freed (h.freed e (sym w.failed ∙ failed));
+}
+  where
+    widened_freed : IsFreed old → IsFreed new
+    widened_freed f = record { leaf = ap length w.kept ∙ f.leaf; header = as_before (λ xs a s p. header_come a s p ≡ 0) old new w f.header }
