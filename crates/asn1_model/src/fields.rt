@@ -1,4 +1,4 @@
-// The components of a sequence and the alternatives of a choice.
+//! The components of a sequence and the alternatives of a choice.
 ghost use Rattle.std.specs.Prelude.{◌≡◌, IfOk, map};
 ghost use Rattle.reference_check.specs.Forms.{form_slots};
 ghost use Rattle.message_model.specs.Sound.{AreSound};

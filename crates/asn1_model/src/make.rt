@@ -1,4 +1,4 @@
-// The module of a compiled message.
+//! The module of a compiled message.
 ghost use Rattle.std.specs.Prelude.{◌≡◌, ◌++◌, [], IfOk, OnOk, map};
 ghost use Rattle.message_model.specs.Sound.{AreSound};
 ghost use Rattle.message_model.specs.Tables.{types_of};

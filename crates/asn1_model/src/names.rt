@@ -1,4 +1,4 @@
-// The names of a module, made from the names of message definitions: X.680 §12.2, §12.3.
+//! The names of a module, made from the names of message definitions: X.680 §12.2, §12.3.
 ghost use Rattle.std.specs.Prelude.{◌≡◌, false, ◌++◌, IfOk, OnOk, not, ◌||◌};
 ghost use Rattle.std.specs.List.{list_any};
 ghost use Rattle.std.specs.Str.{bytes_eq};

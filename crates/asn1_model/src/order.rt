@@ -1,4 +1,4 @@
-// The types of a message in the order of their names.
+//! The types of a message in the order of their names.
 ghost use Rattle.std.specs.Prelude.{◌≡◌, IfOk, OnOk, map};
 ghost use Rattle.asn1_model.specs.ModuleOf.{by_name};
 ghost use Rattle.asn1_model.specs.inner.Order.{numbered_type, numbered_from, sorted_by_name};

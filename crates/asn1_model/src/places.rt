@@ -1,4 +1,4 @@
-// Where the name of each type stands among those that are given in the order of names.
+//! Where the name of each type stands among those that are given in the order of names.
 ghost use Rattle.std.specs.Prelude.{◌≡◌, ℕ, ◌<◌, List, IfOk, map, length, slice_set};
 ghost use Rattle.asn1_model.specs.ModuleOf.{name_in};
 ghost use Rattle.asn1_model.specs.inner.Order.{numbered_type};

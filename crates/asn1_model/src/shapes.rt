@@ -1,4 +1,4 @@
-// What the types of a message are in a module.
+//! What the types of a message are in a module.
 ghost use Rattle.std.specs.Prelude.{◌≡◌, IfOk, map};
 ghost use Rattle.message_model.specs.Sound.{AreSound};
 ghost use Rattle.message_model.specs.Tables.{Tables, types_of};

@@ -1,4 +1,4 @@
-// The facets that a simple type has in a module.
+//! The facets that a simple type has in a module.
 ghost use Rattle.std.specs.Prelude.{◌≡◌, Some};
 ghost use Rattle.facets.specs.Steps.{plain_step, least_written};
 ghost use Rattle.asn1_model.specs.ModuleOf.{sized_step, number_step, step_of};

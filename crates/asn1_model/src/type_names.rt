@@ -1,4 +1,4 @@
-// The names that the types of a message are given in a module.
+//! The names that the types of a message are given in a module.
 ghost use Rattle.std.specs.Prelude.{◌≡◌, IfOk, length, map, slice_get, slice_index_or};
 ghost use Rattle.std.specs.Option.{option_copied};
 ghost use Rattle.message_model.specs.Tables.{Tables};

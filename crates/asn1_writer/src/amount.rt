@@ -1,4 +1,4 @@
-// The lines of an amount, and the type of decimals.
+//! The lines of an amount, and the type of decimals.
 ghost use Rattle.std.specs.Prelude.{◌∷◌, [], codes};
 ghost use Rattle.std.specs.List.{concat};
 ghost use Rattle.outside.specs.Pushes.{Pushes};

@@ -1,4 +1,4 @@
-// A text within a comment: X.680 §12.6.
+//! A text within a comment: X.680 §12.6.
 ghost use Rattle.std.specs.Prelude.{◌≡◌, ◌<◌, ◌≤◌, ◌∷◌, [], ◌++◌, IfSome, IfNone, length, take, drop};
 ghost use Rattle.outside.specs.Pushes.{Pushes};
 ghost use Rattle.asn1_model.specs.ModuleText.{begins_with_hyphen, comment_part, comment_text};

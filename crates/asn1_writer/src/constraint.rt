@@ -1,4 +1,4 @@
-// What stands behind the name of a type: its size, and constraints that are comments.
+//! What stands behind the name of a type: its size, and constraints that are comments.
 ghost use Rattle.std.specs.Prelude.{◌≡◌, ◌∷◌, [], Some, codes};
 ghost use Rattle.std.specs.Fmt.{decimal};
 ghost use Rattle.std.specs.List.{concat};

@@ -1,4 +1,4 @@
-// The lines of codes, as named numbers.
+//! The lines of codes, as named numbers.
 ghost use Rattle.std.specs.Prelude.{◌∷◌};
 ghost use Rattle.std.specs.List.{concat};
 ghost use Rattle.outside.specs.Pushes.{Pushes};

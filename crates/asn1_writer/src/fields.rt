@@ -1,4 +1,4 @@
-// The lines of fields: components of a sequence, or alternatives of a choice.
+//! The lines of fields: components of a sequence, or alternatives of a choice.
 ghost use Rattle.std.specs.Prelude.{◌≡◌, ◌∷◌, [], Some, codes};
 ghost use Rattle.std.specs.List.{concat};
 ghost use Rattle.outside.specs.Pushes.{Pushes};

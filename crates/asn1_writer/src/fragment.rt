@@ -1,4 +1,4 @@
-// Fragments of a type's text, pushed one after the other.
+//! Fragments of a type's text, pushed one after the other.
 ghost use Rattle.outside.specs.Pushes.{Pushes};
 ghost use Rattle.asn1_writer.specs.inner.Fragments.{asn_fragment_text};
 

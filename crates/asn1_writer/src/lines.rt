@@ -1,4 +1,4 @@
-// The lines of a type in braces.
+//! The lines of a type in braces.
 ghost use Rattle.std.specs.Prelude.{◌≡◌};
 ghost use Rattle.asn1_model.specs.ModuleText.{separator};
 

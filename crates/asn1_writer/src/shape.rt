@@ -1,4 +1,4 @@
-// What a type is.
+//! What a type is.
 ghost use Rattle.std.specs.Prelude.{◌≡◌, ◌∷◌, [], codes};
 ghost use Rattle.std.specs.List.{concat};
 ghost use Rattle.outside.specs.Pushes.{Pushes};

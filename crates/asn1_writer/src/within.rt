@@ -1,4 +1,4 @@
-// A text between two others.
+//! A text between two others.
 ghost use Rattle.std.specs.Prelude.{◌++◌};
 ghost use Rattle.outside.specs.Pushes.{Pushes};
 

@@ -1,4 +1,4 @@
-// The text of a module.
+//! The text of a module.
 ghost use Rattle.std.specs.Prelude.{flat_map};
 ghost use Rattle.outside.specs.Pushes.{Pushes, as_push};
 ghost use Rattle.asn1_model.specs.ModuleText.{module_text, asn_type_text};

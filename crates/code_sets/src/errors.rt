@@ -1,4 +1,4 @@
-// Why codes are refused.
+//! Why codes are refused.
 ghost use Rattle.std.specs.Prelude.{◌≡◌};
 ghost use Rattle.code_sets.specs.declared.errors.CodesError.TheVariants.{Memory};
 

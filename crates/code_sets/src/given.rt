@@ -1,4 +1,4 @@
-// The codes that are given to each code set, while they are joined.
+//! The codes that are given to each code set, while they are joined.
 ghost use Rattle.std.specs.Prelude.{◌≡◌, [], List, ℕ, IfOk, OnOk, IsSome, map, if◌then◌else◌};
 ghost use Rattle.std.specs.List.{list_any};
 ghost use Rattle.std.specs.Str.{bytes_eq};

@@ -1,4 +1,4 @@
-// The codes that a source has.
+//! The codes that a source has.
 ghost use Rattle.std.specs.Prelude.{◌≡◌, ◌≤◌, length, IfOk, IfErr, IfSome, OnOk, IsErrOf};
 ghost use Rattle.std.specs.Io.KnownBytes.{IsAtEnd};
 ghost use Rattle.outside.specs.Source.{Rose};

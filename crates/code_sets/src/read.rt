@@ -1,4 +1,4 @@
-// The records of external codes, read by `csv`.
+//! The records of external codes, read by `csv`.
 ghost use Rattle.std.specs.Prelude.{◌≡◌, ◌↔◌, ◌∷◌, [], IfOk, IfErr, IsTrue, IsUtf8};
 ghost use Rattle.csv.specs.Records.{fields_of};
 ghost use Rattle.lexical_core.specs.Characters.{IsXmlText};

@@ -1,4 +1,4 @@
-// The texts of truth values: XML Schema part 2 §3.2.2.
+//! The texts of truth values: XML Schema part 2 §3.2.2.
 ghost use Rattle.std.specs.Prelude.{◌≡◌, IfSome, IfNone, Bool};
 ghost use Rattle.data_types.specs.Booleans.{IsBooleanText, boolean_text};
 

@@ -1,4 +1,4 @@
-// White space collapsed, a character at a time: XML Schema part 2 §4.3.6.
+//! White space collapsed, a character at a time: XML Schema part 2 §4.3.6.
 ghost use Rattle.std.specs.Prelude.{◌≡◌, ◌++◌, ◌∷◌, ◌≢◌, ◌<◌, [], List, ℕ, length};
 ghost use Rattle.std.specs.List.{AllByRecursion};
 ghost use Rattle.data_types.specs.WhiteSpace.{IsWord, IsCollapsed};

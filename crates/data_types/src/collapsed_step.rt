@@ -1,4 +1,4 @@
-// The leaf that characters spell once their white space is collapsed: XML Schema part 2 §3.2 and §4.3.6.
+//! The leaf that characters spell once their white space is collapsed: XML Schema part 2 §3.2 and §4.3.6.
 ghost use Rattle.std.specs.Prelude.{◌≡◌, ◌+◌, ◌≤◌, ◌<◌, ◌^◌, ◌++◌, ◌∷◌, [], length, Option, List, ℕ, IsOk, OnOk, OnErr};
 ghost use Rattle.std.specs.List.{AllByRecursion};
 ghost use Rattle.std.specs.Str.{chars};

@@ -1,4 +1,4 @@
-// Bytes that are kept as long as their size, in characters or octets, is within a limit.
+//! Bytes that are kept as long as their size, in characters or octets, is within a limit.
 ghost use Rattle.std.specs.Prelude.{◌≡◌, ◌+◌, ◌*◌, ◌^◌, ◌<◌, ◌≤◌, [], ◌++◌, length, Option, List, ℕ, OnOk, OnErr, IsOk, IfSome, IfNone};
 ghost use Rattle.data_types.specs.Limits.{IsWithin, IsPast};
 

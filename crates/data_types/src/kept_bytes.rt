@@ -1,4 +1,4 @@
-// Bytes that are kept in memory, with the room that there is for more.
+//! Bytes that are kept in memory, with the room that there is for more.
 ghost use Rattle.std.specs.Prelude.{◌≡◌, ◌+◌, ◌≤◌, ◌<◌, ◌^◌, [], ◌∷◌, ◌++◌, length, OnOk, OnErr, IsOk};
 
 use std::alloc::{AllocError, Global};

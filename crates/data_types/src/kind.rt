@@ -1,4 +1,4 @@
-// The kinds of data that an element without elements can hold.
+//! The kinds of data that an element without elements can hold.
 
 /// The kind of a simple type, by its base in XML Schema part 2, §3.2 and §3.3.
 #[derive(Clone, Copy, Debug, PartialEq, Eq)]

@@ -1,4 +1,4 @@
-// Laws on the definitions of leaves and their texts: each is the contract of a function that does nothing.
+//! Laws on the definitions of leaves and their texts: each is the contract of a function that does nothing.
 ghost use Rattle.std.specs.Prelude.{◌≡◌, ◌≢◌, ◌↔◌, Bool, List, ℕ, length};
 ghost use Rattle.std.specs.List.{AllByRecursion};
 ghost use Rattle.base64.specs.GeneralPurpose.{IsBytes};

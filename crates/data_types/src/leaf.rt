@@ -1,4 +1,4 @@
-// What an element without elements holds.
+//! What an element without elements holds.
 use lexical_core::Decimal;
 
 /// A leaf of a message: the value of a text.

@@ -1,4 +1,4 @@
-// The leaf that characters spell, taken one at a time: XML Schema part 2 §3.2.
+//! The leaf that characters spell, taken one at a time: XML Schema part 2 §3.2.
 ghost use Rattle.std.specs.Prelude.{◌≡◌, ◌+◌, ◌*◌, ◌^◌, ◌<◌, ◌≤◌, ◌++◌, ◌∷◌, [], length, Option, List, ℕ, IsOk, OnOk, OnErr};
 ghost use Rattle.lexical_core.specs.Characters.{IsXmlChar};
 ghost use Rattle.lexical_core.specs.XmlRuns.{IsXmlRun};

@@ -1,4 +1,4 @@
-// The base64 text of octets, pushed on a sink in chunks: XML Schema part 2 §3.2.16, as in RFC 4648 §4.
+//! The base64 text of octets, pushed on a sink in chunks: XML Schema part 2 §3.2.16, as in RFC 4648 §4.
 ghost use Rattle.std.specs.Prelude.{◌≡◌, ◌≤◌, length, take};
 ghost use Rattle.base64.specs.Engines.{standard};
 ghost use Rattle.base64.specs.GeneralPurpose.{encode_of};

@@ -1,4 +1,4 @@
-// The octets of a base64 text that is taken a character at a time: XML Schema part 2 §3.2.16, as in RFC 4648 §4.
+//! The octets of a base64 text that is taken a character at a time: XML Schema part 2 §3.2.16, as in RFC 4648 §4.
 ghost use Rattle.std.specs.Prelude.{◌≡◌, ◌+◌, ◌≤◌, ◌<◌, ◌^◌, ◌++◌, ◌∷◌, [], length, take, Option, List, ℕ, IsTrue, IsOk, IfOk, IfErr, IfSome, IfNone, OnOk, OnErr};
 ghost use Rattle.base64.specs.Engines.{standard};
 ghost use Rattle.base64.specs.GeneralPurpose.{IsBytes, encode_of};

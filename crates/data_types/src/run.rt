@@ -1,4 +1,4 @@
-// The characters of a run of bytes.
+//! The characters of a run of bytes.
 ghost use Rattle.lexical_core.specs.XmlRuns.{IsXmlRun};
 ghost use Rattle.data_types.specs.RunChars.{SpellsRun, HasBytes};
 

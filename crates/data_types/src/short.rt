@@ -1,4 +1,4 @@
-// A short ASCII text that is taken a character at a time and kept in place.
+//! A short ASCII text that is taken a character at a time and kept in place.
 ghost use Rattle.std.specs.Prelude.{◌≡◌, ◌≤◌, ◌<◌, ◌++◌, ◌∷◌, [], List, ℕ, IfSome, IfNone};
 ghost use Rattle.std.specs.List.{AllByRecursion};
 

@@ -1,4 +1,4 @@
-// How far white space goes, and how far a word: XML Schema part 2 §4.3.6.
+//! How far white space goes, and how far a word: XML Schema part 2 §4.3.6.
 ghost use Rattle.std.specs.Prelude.{◌≡◌, ◌+◌, ◌≤◌, ◌<◌, true, length, take, drop, slice_index};
 ghost use Rattle.std.specs.List.{AllByRecursion};
 ghost use Rattle.lexical_core.specs.Characters.{IsSpace};

@@ -1,4 +1,4 @@
-// The component that begins at a place, where it is of the usual form: a header of one identifier octet and one length octet.
+//! The component that begins at a place, where it is of the usual form: a header of one identifier octet and one length octet.
 ghost use Rattle.std.specs.Prelude.{◌≡◌, ◌+◌, ◌<◌, ◌≤◌, ◌^◌, ℕ, List, IfSome, length};
 ghost use Rattle.der_model.specs.DerMessage.{der_message};
 ghost use Rattle.der_codec.specs.Decoding.{HasReadParts, HasIdentifier, IsBelowEnd, IsWaiting, end_of_levels};

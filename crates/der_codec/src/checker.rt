@@ -1,4 +1,4 @@
-// A checker of the DER of instances that takes their bytes in pieces.
+//! A checker of the DER of instances that takes their bytes in pieces.
 ghost use Rattle.std.specs.Prelude.{◌≡◌, ◌<◌, ◌+◌, ◌≤◌, ◌^◌, ◌++◌, ℕ, List, [], IsOk, IfOk, IfErr, IsErrOf, Some, None, Err, length, take};
 ghost use Rattle.inst_pool.specs.Pieces.{Region};
 ghost use Rattle.message_model.specs.Tables.{Tables, types_of};

@@ -1,4 +1,4 @@
-// Checks of leaves that are kept for the next leaf of their type.
+//! Checks of leaves that are kept for the next leaf of their type.
 ghost use Rattle.std.specs.Prelude.{◌≡◌, ◌+◌, ◌<◌, ◌≤◌, [], ℕ, length, true, Some, None, IsOk, IfOk, OnOk, IsErrOf, IsFalse};
 ghost use Rattle.std.specs.Option.{is_some};
 ghost use Rattle.lexical_core.specs.XmlRuns.{IsXmlRun};

@@ -1,4 +1,4 @@
-// What identifier octets and ends are where they stand.
+//! What identifier octets and ends are where they stand.
 ghost use Rattle.std.specs.Prelude.{◌≡◌, ◌↔◌, ◌<◌, ℕ, List, length, slice_get, drop, Some, IfSome, IfNone, IsTrue, IsFalse, true, nat_lt, if◌then◌else◌};
 ghost use Rattle.der_octets.specs.Octets.{context, universal};
 ghost use Rattle.der_octets.specs.TagSteps.{tag_view};

@@ -1,4 +1,4 @@
-// The contents of primitive values: X.690 §8.1.4.
+//! The contents of primitive values: X.690 §8.1.4.
 ghost use Rattle.std.specs.Prelude.{◌≡◌, ◌<◌, ◌≤◌, ◌^◌, ◌∷◌, [], ℕ, length, true, false, IsOk, IfOk, IsErrOf};
 ghost use Rattle.data_types.specs.Leaf.{Leaf};
 ghost use Rattle.data_types.specs.Value.{Holds as HoldsPiece};

@@ -1,4 +1,4 @@
-// The reader of DER, an octet at a time: X.690 §8.1.
+//! The reader of DER, an octet at a time: X.690 §8.1.
 ghost use Rattle.std.specs.Prelude.{◌≡◌, ◌↔◌, ◌+◌, ◌-◌, ◌<◌, ◌≤◌, ◌^◌, ◌++◌, ◌∷◌, [], ℕ, List, IfOk, IfErr, IsErrOf, IsTrue, IsFalse, true, false, Some, None, length, drop, vec_capacity};
 ghost use Rattle.lexical_core.specs.Tree.{Tree};
 ghost use Rattle.message_model.specs.Tables.{message_of, types_of};

@@ -1,4 +1,4 @@
-// The elements that begin and end with the components of open values.
+//! The elements that begin and end with the components of open values.
 ghost use Rattle.std.specs.Prelude.{◌≡◌, ◌++◌, ◌∷◌, [], ℕ, List, IsOk, OnOk, Some, slice_get, reverse};
 ghost use Rattle.data_types.specs.LeafAnswers.{leaf_of};
 ghost use Rattle.data_types.specs.Value.{Edge as EdgeOf, Holds};

@@ -1,4 +1,4 @@
-// The fragments of envelopes, and the messages whose instances have them.
+//! The fragments of envelopes, and the messages whose instances have them.
 ghost use Rattle.fragments.specs.Fragment.{fragment};
 ghost use Rattle.der_model.specs.DerMessage.{der_message};
 ghost use Rattle.der_model.specs.Sound.{IsSoundDer, TellsApart};

@@ -1,4 +1,4 @@
-// The octets of headers, as the reader of DER takes them: X.690 §8.1.2, §8.1.3.
+//! The octets of headers, as the reader of DER takes them: X.690 §8.1.2, §8.1.3.
 ghost use Rattle.std.specs.Prelude.{◌≡◌, ◌↔◌, ◌+◌, ◌<◌, ◌≤◌, ◌^◌, ◌++◌, ◌∷◌, [], ℕ, List, IfOk, IfErr, IfSome, IsErrOf, IsTrue, IsFalse, true, false, Some, None, length, take, drop, vec_capacity};
 ghost use Rattle.der_octets.specs.TagSteps as tags;
 ghost use Rattle.der_octets.specs.LengthSteps as lengths;

@@ -1,4 +1,4 @@
-// Laws on what a checker was given, and on where its faults are told: each is the contract of a function that does nothing.
+//! Laws on what a checker was given, and on where its faults are told: each is the contract of a function that does nothing.
 ghost use Rattle.der_codec.specs.Laws.{OnlyDerCut};
 ghost use Rattle.der_codec.specs.ReadyLaws.{ReadyDerTellsAtOnce, ReadyFedDerIsOpen, ReadyFaultIsAtPart};
 

@@ -1,4 +1,4 @@
-// How a checker takes the contents octets of leaves.
+//! How a checker takes the contents octets of leaves.
 ghost use Rattle.std.specs.Prelude.{◌≡◌, ◌<◌, ◌+◌, ◌≤◌, ◌^◌, ◌++◌, ◌⊎◌, ℕ, List, [], IsOk, IfOk, IfErr, IsErrOf, OnOk, length, take, vec_capacity};
 ghost use Rattle.der_codec.specs.Reserved.{IsKeeping, HasEnough, HoldsWhole};
 ghost use Rattle.message_model.specs.Tables.{types_of};

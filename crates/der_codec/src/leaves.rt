@@ -1,4 +1,4 @@
-// The leaves of contents octets under simple types: X.690 §8.2, §8.3, §8.5, §8.7, §8.23 and §11.
+//! The leaves of contents octets under simple types: X.690 §8.2, §8.3, §8.5, §8.7, §8.23 and §11.
 ghost use Rattle.std.specs.Prelude.{◌≡◌, ◌↔◌, ◌<◌, ◌≤◌, ◌^◌, ◌∷◌, ℕ, Bool, [], length, Some, None, IfSome, IfNone, IsErrOf, IsTrue};
 ghost use Rattle.std.specs.Int.Digits.{number_from_digits};
 ghost use Rattle.base64.specs.GeneralPurpose.{IsBytes};

@@ -1,4 +1,4 @@
-// How many octets are kept of contents that come in pieces: no more than tell what the contents are.
+//! How many octets are kept of contents that come in pieces: no more than tell what the contents are.
 ghost use Rattle.std.specs.Prelude.{◌≡◌, ◌+◌, ◌-◌, ◌*◌, ◌<◌, ◌≤◌, ◌++◌, ◌∷◌, [], ℕ, List, length, drop, replicate, vec_capacity, IfSome, IfNone, IsTrue, IsFalse, Some, None};
 ghost use Rattle.base64.specs.GeneralPurpose.{IsBytes};
 ghost use Rattle.data_types.specs.declared.kind.Kind.TheVariants as kind;

@@ -1,4 +1,4 @@
-// The path of what is open.
+//! The path of what is open.
 ghost use Rattle.std.specs.Prelude.{◌≡◌, ℕ, List, [], ◌∷◌, ◌++◌, Some, IfOk, OnOk, slice_get, codes};
 ghost use Rattle.std.specs.Fmt.{decimal};
 ghost use Rattle.facets.specs.declared.simple.Simple.{Simple as SimpleType};

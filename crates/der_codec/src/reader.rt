@@ -1,4 +1,4 @@
-// A reader of the DER of instances that takes their bytes in pieces, and keeps the pieces of the instance.
+//! A reader of the DER of instances that takes their bytes in pieces, and keeps the pieces of the instance.
 ghost use Rattle.std.specs.Prelude.{◌≡◌, ◌+◌, ◌≤◌, ◌^◌, ◌++◌, ℕ, List, [], IsOk, IfOk, IfErr, OnOk, OnErr, Some, None, Err, length};
 ghost use Rattle.facets.specs.LeafChecks.{IsHeldWithin};
 ghost use Rattle.message_model.specs.Tables.{Tables};

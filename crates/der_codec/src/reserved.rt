@@ -1,4 +1,4 @@
-// How a checker that keeps pieces reserves what it grows while it reads.
+//! How a checker that keeps pieces reserves what it grows while it reads.
 ghost use Rattle.std.specs.Prelude.{◌≡◌, ◌≤◌, OnOk, OnErr, vec_capacity};
 ghost use Rattle.message_model.specs.Tables.{types_of};
 ghost use Rattle.der_codec.specs.Checked.{CheckTypes};

@@ -1,4 +1,4 @@
-// How much is reserved for what is read.
+//! How much is reserved for what is read.
 
 /// So much is reserved that reading wants no memory up to it, from the first byte on.
 #[derive(Clone, Copy, Debug)]

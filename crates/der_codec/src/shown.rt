@@ -1,4 +1,4 @@
-// How a checker that keeps pieces takes a component of the usual form at once: its header, and with it a leaf.
+//! How a checker that keeps pieces takes a component of the usual form at once: its header, and with it a leaf.
 ghost use Rattle.std.specs.Prelude.{◌≡◌, ◌+◌, ◌<◌, ◌≤◌, ◌^◌, ◌++◌, ℕ, List, IfOk, IsErrOf, true, false, length};
 ghost use Rattle.der_codec.specs.Reserved.{IsKeeping, HasEnough};
 ghost use Rattle.message_model.specs.Tables.{types_of};

@@ -1,4 +1,4 @@
-// Components of the usual form, taken at once: a header of one identifier octet and one length octet, and with it a leaf.
+//! Components of the usual form, taken at once: a header of one identifier octet and one length octet, and with it a leaf.
 ghost use Rattle.std.specs.Prelude.{◌≡◌, ◌+◌, ◌<◌, ◌≤◌, ◌^◌, ◌++◌, ◌∷◌, [], ℕ, List, IfSome, IfNone, true, false, length, take, vec_capacity};
 ghost use Rattle.der_octets.specs.TagSteps as tags;
 ghost use Rattle.message_model.specs.Tables.{types_of};

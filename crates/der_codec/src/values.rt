@@ -1,4 +1,4 @@
-// How a checker begins and ends values, and the elements of an instance with them.
+//! How a checker begins and ends values, and the elements of an instance with them.
 ghost use Rattle.std.specs.Prelude.{◌≡◌, ◌<◌, ◌+◌, ◌^◌, ◌++◌, ◌∷◌, [], ℕ, List, IsOk, IfOk, IfErr, IsErrOf, OnOk, length, true, false};
 ghost use Rattle.der_model.specs.DerMessage.{der_message};
 ghost use Rattle.der_model.specs.NestedPieces.{elements_around};

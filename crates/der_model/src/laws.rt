@@ -1,4 +1,4 @@
-// Laws on the definitions of DER: each is the contract of a function that does nothing.
+//! Laws on the definitions of DER: each is the contract of a function that does nothing.
 ghost use Rattle.std.specs.Prelude.{◌≡◌, ℕ, [], ◌∷◌, Some, None, codes};
 ghost use Rattle.lexical_core.specs.declared.rule.Rule.TheVariants.{UnexpectedTag, DerMissing, TooFew, Overrun};
 ghost use Rattle.data_types.specs.Leaf.{Bytes};

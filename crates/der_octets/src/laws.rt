@@ -1,4 +1,4 @@
-// Laws on the definitions of octets: each is the contract of a function that does nothing.
+//! Laws on the definitions of octets: each is the contract of a function that does nothing.
 ghost use Rattle.std.specs.Prelude.{◌≡◌, [], List, ℕ, ◌∷◌, ◌++◌, true, false, codes};
 ghost use Rattle.der_octets.specs.Octets.{Values, Nothing, Primitive, Constructed, Application, universal, context, IsOne, identifier, length_octets, octets};
 

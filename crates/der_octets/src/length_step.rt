@@ -1,4 +1,4 @@
-// Length octets, one at a time: X.690 §8.1.3 and §10.1.
+//! Length octets, one at a time: X.690 §8.1.3 and §10.1.
 ghost use Rattle.std.specs.Prelude.{◌≡◌, ◌+◌, ◌*◌, ◌^◌, ◌<◌, ◌≤◌, ◌↔◌, ◌++◌, ◌∷◌, [], ℕ, List, IsTrue, IsFalse};
 ghost use Rattle.der_octets.specs.LengthSteps.{HasTakenLength, HasBegun, IsLengthRead, IsLead};
 

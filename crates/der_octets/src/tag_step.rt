@@ -1,4 +1,4 @@
-// Identifier octets, one at a time: X.690 §8.1.2.
+//! Identifier octets, one at a time: X.690 §8.1.2.
 ghost use Rattle.std.specs.Prelude.{◌≡◌, ◌≢◌, ◌↔◌, ◌+◌, ◌*◌, ◌/◌, ◌%◌, ◌<◌, ◌≤◌, ◌++◌, ◌∷◌, [], ℕ, List, IsTrue, IsFalse};
 ghost use Rattle.der_octets.specs.Octets.{class_bits, form_bit};
 ghost use Rattle.der_octets.specs.TagSteps.{HasTakenTag, HasFirst, HasSecond, IsTagRead, class_view};

@@ -1,4 +1,4 @@
-// The contents octets of leaves: X.690 §8.2, §8.3, §8.5, §11.1, §11.3.
+//! The contents octets of leaves: X.690 §8.2, §8.3, §8.5, §11.1, §11.3.
 ghost use Rattle.std.specs.Prelude.{◌≡◌, ◌+◌, ◌<◌, ◌≤◌, [], ◌∷◌, ◌++◌, length};
 ghost use Rattle.data_types.specs.LeafAnswers.{leaf_of};
 ghost use Rattle.outside.specs.Pushes.{Pushes};

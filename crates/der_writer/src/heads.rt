@@ -1,4 +1,4 @@
-// Identifier octets and length octets, and how many there are: X.690 §8.1.2, §8.1.3, §10.1.
+//! Identifier octets and length octets, and how many there are: X.690 §8.1.2, §8.1.3, §10.1.
 ghost use Rattle.std.specs.Prelude.{◌≡◌, ◌+◌, ◌<◌, ◌≤◌, ◌++◌, Bool, true, length};
 ghost use Rattle.std.specs.Int.Digits.{digits_of};
 ghost use Rattle.outside.specs.Pushes.{Pushes};

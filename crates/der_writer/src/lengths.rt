@@ -1,7 +1,7 @@
-// The lengths of an instance, filled in from the last piece to the first. An element's contents are known where it begins:
-// they are what was added since it ended. What the pass has to know of elements that stand open meanwhile it keeps beside
-// their ends, so that it takes no memory. A piece adds less than 50,000 octets to its own bytes, and a region has at most
-// 2^48 pieces and bytes, so that no sum comes to 15 * 10^18.
+//! The lengths of an instance, filled in from the last piece to the first. An element's contents are known where it begins:
+//! they are what was added since it ended. What the pass has to know of elements that stand open meanwhile it keeps beside
+//! their ends, so that it takes no memory. A piece adds less than 50,000 octets to its own bytes, and a region has at most
+//! 2^48 pieces and bytes, so that no sum comes to 15 * 10^18.
 ghost use Rattle.std.specs.Prelude.{◌≡◌, ℕ, ◌+◌, ◌*◌, ◌<◌, ◌≤◌, List, length, drop, Some, slice_get, slice_set, ◌-◌};
 ghost use Rattle.data_types.specs.Leaf.{Leaf};
 ghost use Rattle.data_types.specs.Value.{Piece as PieceOf, Begins, Holds, Ends};

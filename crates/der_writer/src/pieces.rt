@@ -1,4 +1,4 @@
-// What stands before a piece, and the heads of elements, lists and leaves.
+//! What stands before a piece, and the heads of elements, lists and leaves.
 ghost use Rattle.std.specs.Prelude.{◌≡◌, ◌<◌, ◌^◌, ℕ, Bool, true, false, [], ◌++◌, length, Some, suc, ◌==◌, if◌then◌else◌};
 ghost use Rattle.data_types.specs.Leaf.{Leaf};
 ghost use Rattle.message_model.specs.Tables.{types_of};

@@ -1,4 +1,4 @@
-// What stands before a place.
+//! What stands before a place.
 ghost use Rattle.std.specs.Prelude.{◌≡◌, ◌≤◌, length};
 ghost use Rattle.der_writer.specs.inner.PieceOctets.{Begun, document_edge, next_slot};
 ghost use Rattle.der_writer.specs.inner.Heads.{before_view};

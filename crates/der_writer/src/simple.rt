@@ -1,4 +1,4 @@
-// Elements of a simple type, as most are: three pieces, of which the second is the leaf.
+//! Elements of a simple type, as most are: three pieces, of which the second is the leaf.
 ghost use Rattle.std.specs.Prelude.{◌≡◌, ◌-◌, ◌<◌, ◌≤◌, true, [], length, slice_get, Some, IfSome};
 ghost use Rattle.data_types.specs.Leaf.{Leaf};
 ghost use Rattle.data_types.specs.Value.{Edge as EdgeOf, Begins, Holds, Ends};

@@ -1,4 +1,4 @@
-// The slots in which nothing has come: X.690 §8.10, a list of no items.
+//! The slots in which nothing has come: X.690 §8.10, a list of no items.
 ghost use Rattle.std.specs.Prelude.{◌≡◌, ◌-◌, ◌≤◌, true, false, [], take, drop, length};
 ghost use Rattle.outside.specs.Pushes.{Pushes};
 ghost use Rattle.reference_check.specs.Forms.{form_slots};

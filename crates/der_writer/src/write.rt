@@ -1,4 +1,4 @@
-// The DER of an instance, pushed piece by piece: X.690 §8.1, §10.1.
+//! The DER of an instance, pushed piece by piece: X.690 §8.1, §10.1.
 ghost use Rattle.std.specs.Prelude.{◌≡◌, ◌++◌, ◌<◌, ◌≤◌, ◌-◌, ℕ, IsTrue, true, false, [], drop, length, slice_index, if◌then◌else◌};
 ghost use Rattle.der_octets.specs.Octets.{context};
 ghost use Rattle.data_types.specs.Value.{Value, Begins};

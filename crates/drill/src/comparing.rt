@@ -1,4 +1,4 @@
-// Both forms of an instance, brought into each other and compared.
+//! Both forms of an instance, brought into each other and compared.
 ghost use Rattle.std.specs.Prelude.{◌≡◌, ◌≤◌, IfOk, length};
 ghost use Rattle.data_types.specs.Value.{Value};
 ghost use Rattle.der_model.specs.Der.{der_of, SpellsDer};

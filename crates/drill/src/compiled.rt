@@ -1,4 +1,4 @@
-// The built-in message, compiled.
+//! The built-in message, compiled.
 ghost use Rattle.std.specs.Prelude.{◌≡◌, IfOk};
 ghost use Rattle.drill.specs.BuiltIn.{message_id, drill_tables};
 

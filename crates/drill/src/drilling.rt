@@ -1,4 +1,4 @@
-// A drill.
+//! A drill.
 ghost use Rattle.std.specs.Prelude.{◌≤◌, IfOk};
 ghost use Rattle.drill.specs.Drilled.{IsDrilled};
 ghost use Rattle.drill.specs.Growing.{most_beside};

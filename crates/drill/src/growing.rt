@@ -1,4 +1,4 @@
-// The instance that grows from two numbers.
+//! The instance that grows from two numbers.
 ghost use Rattle.std.specs.Prelude.{◌≡◌, ◌+◌, ◌<◌, ◌≤◌, ◌^◌, IfOk, OnOk};
 ghost use Rattle.rand_pcg.specs.Lcg.{Lcg};
 ghost use Rattle.fragments.specs.Fragment.{fragment};

@@ -1,4 +1,4 @@
-// A sink of bytes that are known before they come.
+//! A sink of bytes that are known before they come.
 ghost use Rattle.std.specs.Prelude.{◌≡◌, ◌+◌, ◌<◌, ◌≤◌, ◌++◌, ◌↔◌, Some, [], length, take, IsTrue, OnErr, IfErr};
 ghost use Rattle.outside.specs.Sink.{PushAppends, HasSinkCause, HasRoom};
 

@@ -1,4 +1,4 @@
-// Laws of the built-in message and its instances: each is the contract of a function that does nothing.
+//! Laws of the built-in message and its instances: each is the contract of a function that does nothing.
 ghost use Rattle.drill.specs.Drilled.{BothComeBack, IsAdmitted, IsTreeCompiled, XmlIsReadable, DerIsReadable};
 
 /// The built-in message breaks no rule, and is compiled to the tables of the definitions.

@@ -1,4 +1,4 @@
-// The name of a node.
+//! The name of a node.
 ghost use Rattle.std.specs.Prelude.{◌≡◌, OnOk};
 ghost use Rattle.drill.specs.Growing.{node_name};
 

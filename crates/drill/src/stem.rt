@@ -1,4 +1,4 @@
-// The innermost open node and those round it, and the pieces of all that has grown.
+//! The innermost open node and those round it, and the pieces of all that has grown.
 ghost use Rattle.std.specs.Prelude.{◌≡◌, ◌+◌, ◌<◌, ◌^◌, ◌++◌, ◌∷◌, [], IfOk, OnOk};
 ghost use Rattle.data_types.specs.Leaf.{Bytes};
 ghost use Rattle.data_types.specs.Value.{Begins, Holds, Ends};

@@ -1,4 +1,4 @@
-// An instance, written in both forms.
+//! An instance, written in both forms.
 ghost use Rattle.std.specs.Prelude.{◌≡◌, IfOk};
 ghost use Rattle.data_types.specs.Value.{Value};
 ghost use Rattle.der_model.specs.Der.{der_of};

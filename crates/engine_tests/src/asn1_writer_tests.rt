@@ -1,4 +1,4 @@
-// What no clause says: that the text is the module that is meant, and that calls which may want memory succeed where there is some.
+//! What no clause says: that the text is the module that is meant, and that calls which may want memory succeed where there is some.
 use asn1_model::{AsnShape, AsnType, AsnTypes, Field, Fields, Mode, Module, Names};
 use asn1_writer::write_module;
 use data_types::Kind;

@@ -1,4 +1,4 @@
-// What the program's cases cannot show: pieces of every size, and sources and sinks that fail at each call.
+//! What the program's cases cannot show: pieces of every size, and sources and sinks that fail at each call.
 ghost use Rattle.std.specs.Prelude.{◌<◌};
 
 use outside::{LentSource, MemSink, MemSource};

@@ -1,5 +1,5 @@
-// What no clause says: that the text is a schema as the standard has it, for each shape and each facet, and that it is
-// written where there is memory.
+//! What no clause says: that the text is a schema as the standard has it, for each shape and each facet, and that it is
+//! written where there is memory.
 use data_types::Kind;
 use facets::{Bound, Codes, Step, Texts};
 use lexical_core::{Decimal, Text};

@@ -1,4 +1,4 @@
-// The pattern of a simple type, asked of the characters of a text as they come.
+//! The pattern of a simple type, asked of the characters of a text as they come.
 ghost use Rattle.std.specs.Prelude.{◌∷◌, ◌++◌, [], ℕ, List, length, IfOk};
 ghost use Rattle.std.specs.List.{AllByRecursion};
 ghost use Rattle.std.specs.Str.{chars};

@@ -1,4 +1,4 @@
-// How many characters a text has so far.
+//! How many characters a text has so far.
 ghost use Rattle.std.specs.Prelude.{◌+◌, ◌↔◌, ℕ, IsTrue};
 ghost use Rattle.facets.specs.Facets.{HasLength};
 ghost use Rattle.facets.specs.Counts.{HasCounted, IsTooLong};

@@ -1,4 +1,4 @@
-// Digits and bounds of numbers: XML Schema part 2 §4.3.7 to §4.3.12.
+//! Digits and bounds of numbers: XML Schema part 2 §4.3.7 to §4.3.12.
 ghost use Rattle.std.specs.Prelude.{◌≡◌, ◌<◌, ◌^◌, ◌↔◌, IsTrue, MatchOption};
 ghost use Rattle.std.specs.Int.RustNames.{unsigned_abs};
 ghost use Rattle.lexical_core.specs.Decimals.{IsDecimal};

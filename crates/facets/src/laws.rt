@@ -1,4 +1,4 @@
-// Laws on the definitions of leaves under a simple type: each is the contract of a function that does nothing.
+//! Laws on the definitions of leaves under a simple type: each is the contract of a function that does nothing.
 ghost use Rattle.std.specs.Prelude.{◌≡◌, ◌<◌, Bool, Result, List, ℕ};
 ghost use Rattle.lexical_core.specs.declared.rule.Rule.{Rule};
 ghost use Rattle.data_types.specs.Leaf.{Leaf, Flag, Code};

@@ -1,4 +1,4 @@
-// The check of a leaf's text against a simple type, a character or a run of characters at a time: XML Schema part 2 §4.3.
+//! The check of a leaf's text against a simple type, a character or a run of characters at a time: XML Schema part 2 §4.3.
 ghost use Rattle.std.specs.Prelude.{◌≡◌, ◌+◌, ◌*◌, ◌≤◌, ◌++◌, ◌∷◌, [], ℕ, List, length, Some, IsOk, IfOk, OnOk, OnErr};
 ghost use Rattle.lexical_core.specs.Characters.{IsXmlChar};
 ghost use Rattle.lexical_core.specs.XmlRuns.{IsXmlRun};

@@ -1,4 +1,4 @@
-// The check of a leaf's text that tells no more than whether it spells a leaf: XML Schema part 2 §4.3.
+//! The check of a leaf's text that tells no more than whether it spells a leaf: XML Schema part 2 §4.3.
 ghost use Rattle.std.specs.Prelude.{◌≡◌, ◌↔◌, ◌+◌, ◌≤◌, ◌++◌, ◌∷◌, [], ℕ, List, length, IsTrue, IsOk, IfOk, OnOk, OnErr};
 ghost use Rattle.lexical_core.specs.Characters.{IsXmlChar};
 ghost use Rattle.lexical_core.specs.XmlRuns.{IsXmlRun};

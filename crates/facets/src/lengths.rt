@@ -1,4 +1,4 @@
-// Lengths of texts and binary values: XML Schema part 2 §4.3.1 to §4.3.3.
+//! Lengths of texts and binary values: XML Schema part 2 §4.3.1 to §4.3.3.
 ghost use Rattle.std.specs.Prelude.{◌≡◌, ◌↔◌, ℕ, List, length, IsTrue};
 ghost use Rattle.base64.specs.GeneralPurpose.{IsBytes};
 ghost use Rattle.data_types.specs.Leaf.{Bytes};

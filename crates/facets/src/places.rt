@@ -1,4 +1,4 @@
-// The number of a code, by its place among the codes: XML Schema part 2 §4.3.5.
+//! The number of a code, by its place among the codes: XML Schema part 2 §4.3.5.
 ghost use Rattle.std.specs.Prelude.{◌≡◌, IfOk};
 ghost use Rattle.data_types.specs.Leaf.{Code};
 ghost use Rattle.facets.specs.Checks.{IsPlaceAnswer, place_count};

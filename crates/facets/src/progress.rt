@@ -1,4 +1,4 @@
-// What is known of the characters of a leaf so far, as its simple type asks: XML Schema part 2 §4.3.
+//! What is known of the characters of a leaf so far, as its simple type asks: XML Schema part 2 §4.3.
 ghost use Rattle.std.specs.Prelude.{◌≡◌, ◌+◌, ◌*◌, ◌^◌, ◌<◌, ◌≤◌, ◌++◌, ◌∷◌, [], ℕ, List, Option, length, Some, None, IsOk, IfOk, IfSome, IfNone, OnOk, OnErr};
 ghost use Rattle.std.specs.List.{AllByRecursion};
 ghost use Rattle.lexical_core.specs.Characters.{IsXmlChar};

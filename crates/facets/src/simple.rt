@@ -1,4 +1,4 @@
-// A simple type: a kind and its facets.
+//! A simple type: a kind and its facets.
 use crate::codes::Codes;
 use data_types::Kind;
 use lexical_core::Decimal;

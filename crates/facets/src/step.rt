@@ -1,4 +1,4 @@
-// A step of the derivation of a simple type, as a schema writes it.
+//! A step of the derivation of a simple type, as a schema writes it.
 use crate::codes::Codes;
 use crate::simple::Bound;
 use data_types::Kind;

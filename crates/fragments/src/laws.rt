@@ -1,4 +1,4 @@
-// Laws on fragments: each is the contract of a function that does nothing.
+//! Laws on fragments: each is the contract of a function that does nothing.
 ghost use Rattle.std.specs.Prelude.{◌≡◌, [], ◌∷◌, codes};
 ghost use Rattle.lexical_core.specs.Tree.{Element, Nothing};
 ghost use Rattle.lexical_core.specs.Names.{xml_namespace};

@@ -1,4 +1,4 @@
-// The blocks of a region.
+//! The blocks of a region.
 ghost use Rattle.std.specs.Prelude.{◌≡◌, ◌+◌, ◌<◌, ◌≤◌, [], length, OnOk, OnErr, IsOk, vec_len, vec_capacity};
 ghost use Rattle.inst_pool.specs.Blocks.{HasRoomInBlocks, SameItems};
 ghost use Rattle.inst_pool.specs.Pieces.{room_limit};

@@ -1,4 +1,4 @@
-// A builder of instances.
+//! A builder of instances.
 ghost use Rattle.std.specs.Prelude.{◌≡◌, ◌+◌, ◌<◌, ◌≤◌, List, [], ◌∷◌, ◌++◌, length, Some, OnOk, OnErr, IfOk, IsOk, vec_capacity};
 ghost use Rattle.data_types.specs.Leaf.{Leaf, Bytes as BytesLeaf};
 ghost use Rattle.data_types.specs.LeafAnswers.{leaf_of};

@@ -1,4 +1,4 @@
-// What is kept of a piece.
+//! What is kept of a piece.
 ghost use Rattle.std.specs.Prelude.{◌≡◌, length};
 ghost use Rattle.inst_pool.specs.Contents.{piece_in, IsContentInside};
 ghost use Rattle.inst_pool.specs.Pieces.{piece_of};

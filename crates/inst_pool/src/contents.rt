@@ -1,4 +1,4 @@
-// A list of contents.
+//! A list of contents.
 ghost use Rattle.std.specs.Prelude.{◌≡◌, ◌<◌, ◌≤◌, ◌++◌, [], ◌∷◌, length, slice_get, Some, OnOk, vec_len, vec_capacity};
 ghost use Rattle.std.specs.Option.{option_map};
 ghost use Rattle.inst_pool.specs.Contents.{piece_in, AreInside};

@@ -1,4 +1,4 @@
-// An instance in its region.
+//! An instance in its region.
 ghost use Rattle.std.specs.Prelude.{◌≡◌, ◌<◌, [], length, slice_get, slice_index, slice_set};
 ghost use Rattle.std.specs.Option.{option_map};
 ghost use Rattle.inst_pool.specs.Blocks.{AreBuilding, region_of};

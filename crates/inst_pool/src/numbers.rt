@@ -1,4 +1,4 @@
-// A number beside each piece.
+//! A number beside each piece.
 ghost use Rattle.std.specs.Prelude.{◌≡◌, ◌<◌, ◌≤◌, [], length, replicate, slice_index, slice_set, OnOk, vec_len, vec_capacity};
 ghost use Rattle.inst_pool.specs.inner.Numbers.{numbers_kept_in, AreKeptInForm};
 

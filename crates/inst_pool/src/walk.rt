@@ -1,4 +1,4 @@
-// A walk over the pieces of an instance.
+//! A walk over the pieces of an instance.
 ghost use Rattle.std.specs.Prelude.{◌≡◌, [], ◌∷◌, length, IfSome, IfNone};
 ghost use Rattle.inst_pool.specs.Pieces.{piece_of};
 

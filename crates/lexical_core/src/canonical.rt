@@ -1,4 +1,4 @@
-// The canonical text of a decimal: XML Schema part 2 §3.2.3.2.
+//! The canonical text of a decimal: XML Schema part 2 §3.2.3.2.
 ghost use Rattle.std.specs.Prelude.{◌≡◌, ◌≤◌, ◌<◌, ◌+◌, ◌/◌, ◌%◌, ◌^◌, take, length};
 ghost use Rattle.std.specs.Fmt.{decimal};
 ghost use Rattle.std.specs.Int.RustNames.{unsigned_abs};

@@ -1,4 +1,4 @@
-// The characters of XML and of the names in it.
+//! The characters of XML and of the names in it.
 ghost use Rattle.std.specs.Prelude.{◌≡◌, ◌↔◌, IsTrue};
 ghost use Rattle.lexical_core.specs.Characters.{IsXmlChar, IsNameStart, IsNameChar, IsSpace, is_white_space};
 

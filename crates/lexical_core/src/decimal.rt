@@ -1,4 +1,4 @@
-// Decimal numbers of at most 18 digits: XML Schema part 2 §3.2.3.
+//! Decimal numbers of at most 18 digits: XML Schema part 2 §3.2.3.
 ghost use Rattle.std.specs.Prelude.{◌≡◌, ◌*◌, ◌^◌, ◌%◌, ◌<◌, ◌≤◌, ◌↔◌, IsTrue, IfSome, IfNone, pos, ◌*ℤ◌, ◌<ℤ◌};
 ghost use Rattle.std.specs.Int.{is_negative};
 ghost use Rattle.std.specs.Int.RustNames.{unsigned_abs};

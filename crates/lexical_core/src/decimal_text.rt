@@ -1,4 +1,4 @@
-// A decimal text read a character at a time: XML Schema part 2 §3.2.3.
+//! A decimal text read a character at a time: XML Schema part 2 §3.2.3.
 ghost use Rattle.std.specs.Prelude.{◌≡◌, ◌≢◌, ◌≤◌, ◌+◌, ◌<◌, ◌++◌, ◌∷◌, [], List, ℕ, length, take};
 ghost use Rattle.lexical_core.specs.DecimalAnswers.{IsDecimalAnswer};
 ghost use Rattle.lexical_core.specs.DecimalSoFar.{HasRead, ReadWhole, ReadFraction, IsDigitsAnswer, AreDigitsOf};

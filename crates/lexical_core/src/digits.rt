@@ -1,4 +1,4 @@
-// Digits, and the number that those of a decimal text make as far as they were read.
+//! Digits, and the number that those of a decimal text make as far as they were read.
 ghost use Rattle.std.specs.Prelude.{◌≡◌, ◌+◌, ◌*◌, ◌<◌, ◌≤◌, ◌^◌, ℕ, true, false, IfSome, IfNone, length, take, drop};
 ghost use Rattle.std.specs.Str.Parse.{AllDigits};
 ghost use Rattle.lexical_core.specs.Exponents.{NoDigit};

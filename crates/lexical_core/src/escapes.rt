@@ -1,4 +1,4 @@
-// The canonical spelling of a character in XML.
+//! The canonical spelling of a character in XML.
 ghost use Rattle.std.specs.Prelude.{◌≡◌, ◌≤◌, ℕ, List, true, false, IfSome, IfNone, take, length};
 ghost use Rattle.lexical_core.specs.Escapes.{escape_of, reference_or};
 

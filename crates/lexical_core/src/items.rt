@@ -1,4 +1,4 @@
-// A list of items that grows at its end: the form of every list type.
+//! A list of items that grows at its end: the form of every list type.
 ghost use Rattle.std.specs.Prelude.{◌≡◌, [], ◌∷◌, ◌++◌, ◌↔◌, length, IsTrue, slice_get, OnOk, OnErr};
 ghost use Rattle.std.specs.Option.{option_copied};
 

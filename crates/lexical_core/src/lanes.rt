@@ -1,4 +1,4 @@
-// Runs of bytes of one class, found sixteen at a time.
+//! Runs of bytes of one class, found sixteen at a time.
 ghost use Rattle.std.specs.Prelude.{◌≡◌, ◌+◌, ◌≤◌, ℕ, Bool, not, map, length, drop};
 ghost use Rattle.std.specs.List.{prefix_len};
 ghost use Rattle.std.specs.Simd.Lanes.{mask_l};

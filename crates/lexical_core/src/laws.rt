@@ -1,4 +1,4 @@
-// Laws on the definitions of decimals: each is the contract of a function that does nothing.
+//! Laws on the definitions of decimals: each is the contract of a function that does nothing.
 ghost use Rattle.std.specs.Prelude.{◌≡◌, ◌≤◌, List, ℕ, length};
 ghost use Rattle.lexical_core.specs.Decimals.{Number, IsDecimal, SpellsDecimal, IsCanonicalText};
 ghost use Rattle.lexical_core.specs.Reals.{IsReal};

@@ -1,4 +1,4 @@
-// Writing into a buffer, behind what stands there already.
+//! Writing into a buffer, behind what stands there already.
 ghost use Rattle.std.specs.Prelude.{◌≡◌, ◌+◌, ◌<◌, ◌≤◌, [], ◌∷◌, ◌++◌, length, take};
 ghost use Rattle.std.specs.Fmt.{decimal};
 ghost use Rattle.lexical_core.specs.FixedDigits.{fixed_digits};

@@ -1,4 +1,4 @@
-// The contents of a REAL in its decimal form: X.690 §8.5.8 and §11.3.2, with the numbers of ISO 6093, NR3.
+//! The contents of a REAL in its decimal form: X.690 §8.5.8 and §11.3.2, with the numbers of ISO 6093, NR3.
 ghost use Rattle.std.specs.Prelude.{◌≡◌, ◌≢◌, ◌≤◌, ◌<◌, ◌+◌, ◌*◌, ◌%◌, ◌^◌, ◌++◌, ◌∷◌, [], take, drop, length, IfSome, IfNone, MatchOption, List, IsTrue, ◌↔◌, ℤ, ℕ, slice_index, pos};
 ghost use Rattle.std.specs.Fmt.{decimal};
 ghost use Rattle.std.specs.Int.RustNames.{unsigned_abs};

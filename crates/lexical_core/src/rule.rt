@@ -1,4 +1,4 @@
-// The rules that an instance can break, with their names and numbers.
+//! The rules that an instance can break, with their names and numbers.
 ghost use Rattle.std.specs.Prelude.{◌≡◌, codes};
 ghost use Rattle.lexical_core.specs.Rules.{name_of, number_of};
 

@@ -1,4 +1,4 @@
-// Runs of whole characters of XML at the front of bytes.
+//! Runs of whole characters of XML at the front of bytes.
 ghost use Rattle.std.specs.Prelude.{◌≤◌, ◌↔◌, ℕ, IsTrue, IfSome, IfNone, length, take};
 ghost use Rattle.std.specs.List.{AllByRecursion};
 ghost use Rattle.lexical_core.specs.Characters.{IsXmlText};

@@ -1,4 +1,4 @@
-// Whether two runs of bytes are the same, by words: quick on short ones, as names and tags are.
+//! Whether two runs of bytes are the same, by words: quick on short ones, as names and tags are.
 ghost use Rattle.std.specs.Prelude.{◌≡◌, ◌≤◌, ◌+◌, length, take, drop};
 ghost use Rattle.std.specs.Bool.{Decides};
 ghost use Rattle.std.specs.Str.{bytes_eq};

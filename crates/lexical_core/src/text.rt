@@ -1,4 +1,4 @@
-// A text: a list of bytes that grows at its end.
+//! A text: a list of bytes that grows at its end.
 ghost use Rattle.std.specs.Prelude.{◌≡◌, [], ◌++◌, OnOk, OnErr, IfOk};
 
 use std::alloc::{AllocError, Global};

@@ -1,4 +1,4 @@
-// UTF-8 read a byte at a time (RFC 3629).
+//! UTF-8 read a byte at a time (RFC 3629).
 ghost use Rattle.std.specs.Prelude.{◌≡◌, ◌↔◌, [], IsTrue, Some};
 ghost use Rattle.std.specs.Char.{IsScalar};
 ghost use Rattle.lexical_core.specs.Begun.{IsSecond, IsTail, begun_bytes, CanGoOn};

@@ -1,4 +1,4 @@
-// Whether bytes are a text that an XML document may have.
+//! Whether bytes are a text that an XML document may have.
 ghost use Rattle.std.specs.Prelude.{◌↔◌, IsTrue};
 ghost use Rattle.lexical_core.specs.Characters.{IsXmlChar, IsXmlText};
 ghost use Rattle.lexical_core.specs.Utf8.{Utf8GoesOn, Utf8Stops};

@@ -1,5 +1,5 @@
-// The declarations and attributes of a start tag, and the attributes with expanded names
-// (Namespaces in XML 1.0 §6.3).
+//! The declarations and attributes of a start tag, and the attributes with expanded names
+//! (Namespaces in XML 1.0 §6.3).
 ghost use Rattle.std.specs.Prelude.{◌≡◌, ◌++◌, ◌∷◌, List, [], IfOk, OnOk, Some, length, map, if◌then◌else◌, true, reverse};
 ghost use Rattle.std.specs.List.{list_all};
 ghost use Rattle.std.specs.Option.{option_map};

@@ -1,4 +1,4 @@
-// The declarations of the open tags, with a look-up by the prefix (Namespaces in XML 1.0 §6.1).
+//! The declarations of the open tags, with a look-up by the prefix (Namespaces in XML 1.0 §6.1).
 ghost use Rattle.std.specs.Prelude.{◌≡◌, ◌∷◌, ◌++◌, List, [], ℕ, length, drop, Some, OnOk, IfSome, IsSome, if◌then◌else◌, Option, IfOk};
 ghost use Rattle.std.specs.List.{list_any};
 ghost use Rattle.std.specs.Option.{option_copied, option_map, unwrap_or};

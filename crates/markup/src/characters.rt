@@ -1,4 +1,4 @@
-// The classes of characters that tokens are made of (XML 1.0 §2.2, §2.3).
+//! The classes of characters that tokens are made of (XML 1.0 §2.2, §2.3).
 ghost use Rattle.std.specs.Prelude.{◌≡◌};
 ghost use Rattle.markup.specs.Chars.{is_xml_char, is_name_start, is_name_char, is_space};
 

@@ -1,4 +1,4 @@
-// Classes of bytes that runs are made of.
+//! Classes of bytes that runs are made of.
 ghost use Rattle.std.specs.Prelude.{◌≡◌};
 ghost use Rattle.markup.specs.Chars.{is_space};
 ghost use Rattle.markup.specs.PlainStarts.{is_literal_of};

@@ -1,5 +1,5 @@
-// What stands before a token: the open elements, whether the root has come, and the literal `]`
-// that stand last. It decides the rule that a token breaks and the events that it has.
+//! What stands before a token: the open elements, whether the root has come, and the literal `]`
+//! that stand last. It decides the rule that a token breaks and the events that it has.
 ghost use Rattle.std.specs.Prelude.{◌≡◌, ◌==◌, ◌<◌, ◌≤◌, ◌^◌, false, reverse, length, List, [], ◌∷◌, ◌++◌, ℕ, OnOk, OnErr, IfSome, IsSome, IsTrue};
 ghost use Rattle.lexical_core.specs.Tree.{Char};
 ghost use Rattle.markup.specs.Token.{Token, StartTag, Start, End, LineEnd, Line, Character};

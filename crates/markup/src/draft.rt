@@ -1,4 +1,4 @@
-// What an open tag has said so far.
+//! What an open tag has said so far.
 ghost use Rattle.std.specs.Prelude.{◌≡◌, ◌++◌, ◌<◌, ◌^◌, OnOk, encode_utf8};
 ghost use Rattle.markup.specs.inner.Inside.{noted_all};
 ghost use Rattle.markup.specs.Drafts.{no_draft, literal_char, given_char, end_value, shift, add, note_character, value_noted, add_value, held_all, draft_size};

@@ -1,4 +1,4 @@
-// What a reader tells: the events of a text, with their places.
+//! What a reader tells: the events of a text, with their places.
 use crate::namespace::Namespace;
 use lexical_core::{Items, Text};
 

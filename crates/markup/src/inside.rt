@@ -1,4 +1,4 @@
-// Bytes with which an open token goes on as it stands: of a name, a value, a comment, an instruction.
+//! Bytes with which an open token goes on as it stands: of a name, a value, a comment, an instruction.
 ghost use Rattle.std.specs.Prelude.{◌≡◌, ◌≤◌, true, length, take};
 ghost use Rattle.std.specs.List.{prefix_len};
 ghost use Rattle.markup.specs.PlainStarts.{is_quote, is_literal_of};

@@ -1,4 +1,4 @@
-// Laws of the definitions, each the contract of a function with an empty body.
+//! Laws of the definitions, each the contract of a function with an empty body.
 ghost use Rattle.markup.specs.Faults.{OneFault, WholeHasNone, WholeOrFaulty, FaultWithin};
 ghost use Rattle.markup.specs.Marks.{OneToken, FrontsAgree, OneMarking};
 ghost use Rattle.markup.specs.Reading.{NoFaultTaken};

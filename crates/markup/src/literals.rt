@@ -1,4 +1,4 @@
-// Runs of characters that stand by themselves.
+//! Runs of characters that stand by themselves.
 ghost use Rattle.std.specs.Prelude.{◌≡◌, ◌<◌, ◌≤◌, ◌↔◌, IfSome, IsTrue, true, length, take};
 ghost use Rattle.lexical_core.specs.Begun.{IsTail};
 ghost use Rattle.std.specs.List.{prefix_len, list_all};

@@ -1,4 +1,4 @@
-// One block of bytes, to whose end short names are written by words.
+//! One block of bytes, to whose end short names are written by words.
 ghost use Rattle.std.specs.Prelude.{◌≡◌, ◌+◌, ◌≤◌, ◌++◌, [], length, take, OnOk, vec_len};
 ghost use Rattle.markup.specs.inner.Written.{IsWritten};
 

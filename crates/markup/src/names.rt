@@ -1,4 +1,4 @@
-// Names of tags: which ones declare a namespace, and what a prefix stands for (Namespaces in XML 1.0).
+//! Names of tags: which ones declare a namespace, and what a prefix stands for (Namespaces in XML 1.0).
 ghost use Rattle.std.specs.Prelude.{◌≡◌, ℕ, List, [], Some, codes, not, if◌then◌else◌};
 ghost use Rattle.std.specs.Str.{bytes_eq};
 ghost use Rattle.std.specs.Option.{option_copied};

@@ -1,4 +1,4 @@
-// The name of a namespace, shared by all that stands in it.
+//! The name of a namespace, shared by all that stands in it.
 ghost use Rattle.std.specs.Prelude.{◌≡◌, [], IfOk};
 
 use lexical_core::Text;

@@ -1,5 +1,5 @@
-// The open declarations as a stack. Long namespaces among them are kept in order, so that two of them are
-// compared by two numbers, however long they are and however often that is asked.
+//! The open declarations as a stack. Long namespaces among them are kept in order, so that two of them are
+//! compared by two numbers, however long they are and however often that is asked.
 ghost use Rattle.std.specs.Prelude.{◌≡◌, ◌<◌, ◌≤◌, ◌++◌, ◌∷◌, ◌↔◌, List, [], Some, length, get_or, IfSome, IfNone, IsTrue, OnOk, OnErr};
 ghost use Rattle.std.specs.List.{insert};
 ghost use Rattle.std.specs.Option.{option_copied, option_to_list, unwrap_or};

@@ -1,4 +1,4 @@
-// The names of the open elements, in one block of bytes.
+//! The names of the open elements, in one block of bytes.
 ghost use Rattle.std.specs.Prelude.{◌≡◌, ◌==◌, ◌∷◌, ◌++◌, List, [], ℕ, length, OnOk, MatchOption};
 ghost use Rattle.markup.specs.OpenNames.{OpenName, KeepsNames, IsInnermost};
 

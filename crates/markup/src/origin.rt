@@ -1,4 +1,4 @@
-// What gives a prefix its namespace (Namespaces in XML 1.0 §3, §6).
+//! What gives a prefix its namespace (Namespaces in XML 1.0 §3, §6).
 ghost use Rattle.std.specs.Prelude.{◌≡◌, [], IsTrue};
 ghost use Rattle.std.specs.Option.{option_map};
 ghost use Rattle.markup.specs.Events.{namespace_of};

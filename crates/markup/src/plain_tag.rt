@@ -1,4 +1,4 @@
-// Tags that stand whole at the front of a piece of the input.
+//! Tags that stand whole at the front of a piece of the input.
 ghost use Rattle.std.specs.Prelude.{◌≡◌, ◌≤◌, ◌<◌, ◌+◌, ◌∷◌, ◌++◌, List, ℕ, true, Some, length, IfSome, IsSome};
 ghost use Rattle.std.specs.List.{prefix_len};
 ghost use Rattle.markup.specs.Marks.{tag_limit};

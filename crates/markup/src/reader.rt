@@ -1,4 +1,4 @@
-// A reader of XML that takes a byte at a time, or many at once.
+//! A reader of XML that takes a byte at a time, or many at once.
 ghost use Rattle.std.specs.Prelude.{◌≡◌, ◌<◌, ◌≤◌, ◌^◌, ◌+◌, ◌∷◌, ◌++◌, ℕ, List, [], IfOk, IfErr, IfSome, IsSome, OnOk, IsTrue, IsFalse, true, Some, None, Err, false, length, reverse, take};
 ghost use Rattle.std.specs.List.{prefix_len, list_all};
 ghost use Rattle.markup.specs.Chars.{is_space};

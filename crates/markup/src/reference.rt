@@ -1,4 +1,4 @@
-// References, read a character at a time (XML 1.0 §4.1).
+//! References, read a character at a time (XML 1.0 §4.1).
 ghost use Rattle.std.specs.Prelude.{◌≡◌, ◌≤◌};
 ghost use Rattle.markup.specs.ReferenceScans.{digit_step, numbered_char, entity_char_of, word_step, digits_step, reference_step};
 

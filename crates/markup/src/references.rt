@@ -1,4 +1,4 @@
-// Whole references at the front of a piece (XML 1.0 §4.1).
+//! Whole references at the front of a piece (XML 1.0 §4.1).
 ghost use Rattle.std.specs.Prelude.{◌≡◌, ◌==◌, ◌||◌, ◌∷◌, ◌++◌, ℕ, List, IfSome, IsSome, IsTrue, true, encode_utf8_all};
 ghost use Rattle.markup.specs.Reference.{Reference, Entity, Named, Numbered, is_reference, reference_text};
 ghost use Rattle.markup.specs.inner.Numbers.{number_mark};

@@ -1,4 +1,4 @@
-// How far a token has come, and what one more character makes of it.
+//! How far a token has come, and what one more character makes of it.
 ghost use Rattle.std.specs.Prelude.{◌≡◌};
 ghost use Rattle.markup.specs.ScanRuns.{ReadsGrammar};
 ghost use Rattle.markup.specs.Scans.{goes_if, name_step, step};

@@ -1,4 +1,4 @@
-// The elements that are open, with the namespaces that their tags declare.
+//! The elements that are open, with the namespaces that their tags declare.
 ghost use Rattle.std.specs.Prelude.{◌≡◌, ◌==◌, ◌≤◌, ◌++◌, ◌∷◌, List, [], ℕ, length, drop, IfOk, OnOk, OnErr, IfSome, IsSome, Some, None, Option, map, false, true, ◌&&◌, if◌then◌else◌};
 ghost use Rattle.markup.specs.Events.{namespace_of, start_tag_items, expanded_in, end_items};
 ghost use Rattle.markup.specs.EventItems.{entry_of, Tells, TellsFront};

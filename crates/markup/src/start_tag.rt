@@ -1,4 +1,4 @@
-// Start tags with attributes that stand whole at the front of a piece of the input.
+//! Start tags with attributes that stand whole at the front of a piece of the input.
 ghost use Rattle.std.specs.Prelude.{◌≡◌, ◌<◌, ◌≤◌, ◌++◌, ℕ, List, [], length, take, drop, IfOk, IfSome, IsSomeAnd, true, false};
 ghost use Rattle.std.specs.List.{list_all, flat_map, prefix_len};
 ghost use Rattle.markup.specs.Marks.{tag_limit, begins_with};

@@ -1,4 +1,4 @@
-// What a tag says, whatever its white space, quotes and references.
+//! What a tag says, whatever its white space, quotes and references.
 use lexical_core::{Items, Text};
 
 /// A name as bytes of UTF-8; the prefix is empty where there is none (Namespaces in XML 1.0 §4).

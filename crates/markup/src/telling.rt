@@ -1,4 +1,4 @@
-// Events that a tag tells, with the place of its first byte.
+//! Events that a tag tells, with the place of its first byte.
 ghost use Rattle.std.specs.Prelude.{◌≡◌, false, true, [], ◌∷◌, ◌++◌, OnOk, OnErr, map, Some};
 ghost use Rattle.lexical_core.specs.Tree.{Starts, Ends};
 ghost use Rattle.markup.specs.Events.{start_tag_items, end_tag_items, expanded_in};

@@ -1,4 +1,4 @@
-// Tokens of bytes that come one at a time.
+//! Tokens of bytes that come one at a time.
 ghost use Rattle.std.specs.Prelude.{◌≡◌, ℕ, ◌<◌, ◌≤◌, ◌^◌, ◌+◌, ◌-◌, ◌∷◌, ◌++◌, true, Some, List, [], IfOk, IsTrue, IsFalse, length, take};
 ghost use Rattle.markup.specs.Token.{Token};
 ghost use Rattle.markup.specs.Tokenizers.{is_plain_in};

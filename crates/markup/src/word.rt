@@ -1,4 +1,4 @@
-// The fixed words of tokens, read a letter at a time.
+//! The fixed words of tokens, read a letter at a time.
 ghost use Rattle.std.specs.Prelude.{◌≡◌, ◌<◌, OnSome};
 ghost use Rattle.markup.specs.Words.{word_text, letter_of};
 

@@ -1,4 +1,4 @@
-// Whether the facets of an object are out of bounds.
+//! Whether the facets of an object are out of bounds.
 ghost use Rattle.std.specs.Prelude.{◌≡◌, ◌↔◌, [], IsTrue, true, false, ◌⊎◌};
 ghost use Rattle.reference_check.specs.Rules.{set_codes};
 ghost use Rattle.message_model.specs.FacetRules.{HasBadLengths, HasBadDigits, HasBadBounds, HasBadFacets, AreBoth, HoldNothing, IsAboveIfAny, total_of};

@@ -1,4 +1,4 @@
-// The layouts of the types of objects.
+//! The layouts of the types of objects.
 ghost use Rattle.std.specs.Prelude.{◌≡◌, ℕ, List, Some, IfOk, slice_get};
 ghost use Rattle.repo_objects.specs.declared.objects.ObjectKind.TheVariants.{Other};
 ghost use Rattle.repo_objects.specs.Objects.{IsXmlTextIfAny};

@@ -1,4 +1,4 @@
-// The compiled types of a message, by number.
+//! The compiled types of a message, by number.
 ghost use Rattle.std.specs.Prelude.{◌≡◌, ◌↔◌, ◌<◌, ◌≤◌, ℕ, IsSome, IfSome, List, [], length, slice_get, drop, Some, true};
 ghost use Rattle.std.specs.Option.{option_copied, option_map};
 ghost use Rattle.std.specs.Str.{bytes_eq};

@@ -1,4 +1,4 @@
-// The numbers of types by the places of their objects.
+//! The numbers of types by the places of their objects.
 ghost use Rattle.std.specs.Prelude.{◌≡◌, ◌<◌, ◌≤◌, ℕ, List, length, IfOk, All, AllPairs};
 ghost use Rattle.reference_check.specs.Graph.{entry};
 ghost use Rattle.message_model.specs.Compiled.{place_of};

@@ -1,4 +1,4 @@
-// The types of a message, one after another.
+//! The types of a message, one after another.
 ghost use Rattle.std.specs.Prelude.{◌≡◌, ℕ, List, [], ◌∷◌, Some, IfOk, map, slice_get};
 ghost use Rattle.reference_check.specs.Graph.{document, message, entry, find_entry, find_message};
 ghost use Rattle.reference_check.specs.Reached.{HasReach};

@@ -1,4 +1,4 @@
-// The patterns of data types.
+//! The patterns of data types.
 ghost use Rattle.std.specs.Prelude.{◌≡◌, ◌↔◌, IsTrue, IfOk, ℕ, List};
 ghost use Rattle.std.specs.Str.{chars};
 ghost use Rattle.lexical_core.specs.Characters.{IsXmlText};

@@ -1,4 +1,4 @@
-// The simple types of data types.
+//! The simple types of data types.
 ghost use Rattle.std.specs.Prelude.{◌≡◌, ◌≤◌, ◌<◌, ℕ, List, Some, IfOk, MatchOption, slice_get};
 ghost use Rattle.repo_objects.specs.Objects.{IsXmlTextIfAny};
 ghost use Rattle.message_model.specs.FacetRules.{HasBadFacets, total_of};

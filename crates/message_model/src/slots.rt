@@ -1,4 +1,4 @@
-// The slots of a component, a choice or a message.
+//! The slots of a component, a choice or a message.
 ghost use Rattle.std.specs.Prelude.{◌≡◌, ℕ, List, [], ◌∷◌, IfOk, map};
 ghost use Rattle.reference_check.specs.Graph.{references};
 ghost use Rattle.reference_check.specs.Forms.{slot_to};

@@ -1,4 +1,4 @@
-// The codes of a code set, in the order of their bytes.
+//! The codes of a code set, in the order of their bytes.
 ghost use Rattle.std.specs.Prelude.{◌≡◌, ℕ, List, Some, OnOk, IfOk, slice_get};
 ghost use Rattle.message_model.specs.SimpleTypes.{put_text, sorted_texts, texts_of};
 ghost use Rattle.std.specs.Option.{option_map, option_to_list};

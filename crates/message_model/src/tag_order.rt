@@ -1,4 +1,4 @@
-// The slots of a type by their tags, for a search among many.
+//! The slots of a type by their tags, for a search among many.
 ghost use Rattle.std.specs.Prelude.{◌≤◌, IfSome};
 ghost use Rattle.message_model.specs.inner.Quick.{HasTagAt};
 ghost use Rattle.message_model.specs.Views.{slots_view};

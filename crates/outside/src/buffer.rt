@@ -1,4 +1,4 @@
-// Bytes that are gathered before they go to a sink.
+//! Bytes that are gathered before they go to a sink.
 ghost use Rattle.std.specs.Prelude.{◌≡◌, ◌-◌, ◌<◌, ◌≤◌, Some, [], length, take};
 ghost use Rattle.outside.specs.Pushes.{Pushes};
 ghost use Rattle.outside.specs.Sink.{PushAppends, HasSinkCause, HasRoom};

@@ -1,4 +1,4 @@
-// What a source, a sink and a writer answer when they cannot go on.
+//! What a source, a sink and a writer answer when they cannot go on.
 ghost use Rattle.std.specs.Prelude.{◌≡◌, Some, codes};
 
 use std::alloc::AllocError;

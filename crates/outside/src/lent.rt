@@ -1,4 +1,4 @@
-// A source over bytes that are lent.
+//! A source over bytes that are lent.
 ghost use Rattle.std.specs.Prelude.{◌≡◌, Some};
 ghost use Rattle.std.specs.Io.{ReadsAtMost};
 ghost use Rattle.std.specs.Io.KnownBytes.{ReadConsumes};

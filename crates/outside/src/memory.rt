@@ -1,4 +1,4 @@
-// A source and a sink in memory whose calls of given numbers fail.
+//! A source and a sink in memory whose calls of given numbers fail.
 ghost use Rattle.std.specs.Prelude.{◌≡◌, ℕ, ◌+◌, ◌-◌, ◌^◌, ◌<◌, ◌≤◌, ◌↔◌, Some, [], ◌++◌, length, min, drop, IfOk, IfErr, OnErr, IsErr, IsErrOf, MatchResult, Contains, IsTrue, MatchBool};
 ghost use Rattle.std.specs.Io.{ReadsAtMost};
 ghost use Rattle.std.specs.Io.KnownBytes.{ReadConsumes};

@@ -1,4 +1,4 @@
-// Texts that are pushed as they are made, and never built.
+//! Texts that are pushed as they are made, and never built.
 ghost use Rattle.std.specs.Prelude.{◌≡◌, ℕ, List, [], flat_map};
 ghost use Rattle.std.specs.Fmt.{decimal};
 ghost use Rattle.outside.specs.Pushes.{Pushes, as_push};

@@ -1,4 +1,4 @@
-// How a source in memory gives its next bytes.
+//! How a source in memory gives its next bytes.
 ghost use Rattle.std.specs.Prelude.{◌≡◌, ◌<◌, ◌≤◌, [], length, min, take, drop};
 
 /// Copies the next bytes to the front of `buf`, as many as `piece` and `buf` let through.

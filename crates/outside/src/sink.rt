@@ -1,4 +1,4 @@
-// Where bytes go to.
+//! Where bytes go to.
 ghost use Rattle.std.specs.Prelude.{ℕ, List, Option};
 ghost use Rattle.outside.specs.Sink.{PushAppends, HasSinkCause, HasRoom};
 

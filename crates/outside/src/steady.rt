@@ -1,4 +1,4 @@
-// A source and a sink in memory that never fail.
+//! A source and a sink in memory that never fail.
 ghost use Rattle.std.specs.Prelude.{◌≡◌, ℕ, ◌+◌, ◌-◌, ◌<◌, ◌≤◌, Some, [], ◌++◌, length, min, take, drop, Ok, Err, IfOk, IsOk, IsErrOf, OnErr};
 ghost use Rattle.std.specs.Io.{ReadsAtMost};
 ghost use Rattle.std.specs.Io.KnownBytes.{ReadConsumes};

@@ -1,5 +1,5 @@
-// The code of a pattern while it is made. A group of one item loses its marks: then the item's first instruction takes
-// the place of the `Open`, and leaves an empty cell.
+//! The code of a pattern while it is made. A group of one item loses its marks: then the item's first instruction takes
+//! the place of the `Open`, and leaves an empty cell.
 ghost use Rattle.std.specs.Prelude.{◌≡◌, ◌+◌, ◌-◌, ◌<◌, false, IsTrue, Option, Some, List, [], ◌∷◌, ◌++◌, length, take, drop, slice_set, OnOk, IfOk};
 ghost use Rattle.pattern_match.specs.declared.instruction.Instruction.{Instruction};
 ghost use Rattle.pattern_match.specs.declared.instruction.Place.{Place};

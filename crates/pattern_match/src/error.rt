@@ -1,4 +1,4 @@
-// Why a text is not read as a pattern.
+//! Why a text is not read as a pattern.
 use std::alloc::{AllocError, AllocFailed};
 use std::fmt;
 

@@ -1,4 +1,4 @@
-// How far it is to the end of a branch, from each instruction of a code.
+//! How far it is to the end of a branch, from each instruction of a code.
 ghost use Rattle.std.specs.Prelude.{◌≡◌, ℕ, ◌+◌, ◌<◌, ◌≤◌, length, drop, slice_index_or, IfOk};
 ghost use Rattle.pattern_match.specs.Gaps.{gap_of, gaps as gaps_from};
 

@@ -1,4 +1,4 @@
-// The instructions that a pattern is compiled to.
+//! The instructions that a pattern is compiled to.
 
 /// One instruction. They are passed from the first to the last, and carry whether a word may end there.
 #[derive(Clone, Copy, Drop)]

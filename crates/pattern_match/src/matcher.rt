@@ -1,4 +1,4 @@
-// A matcher: which atoms of a pattern may take the next character.
+//! A matcher: which atoms of a pattern may take the next character.
 ghost use Rattle.std.specs.Prelude.{◌≡◌, ◌<◌, ◌≤◌, ◌+◌, ℕ, ◌↔◌, IsTrue, Bool, List, [], ◌∷◌, ◌++◌, IfOk, length, take, replicate, false};
 ghost use Rattle.std.specs.Str.{chars};
 ghost use Rattle.pattern_match.specs.Reading.{Matches};

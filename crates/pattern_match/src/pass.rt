@@ -1,4 +1,4 @@
-// The two passes over the instructions: a character passes through them, and then the empty word.
+//! The two passes over the instructions: a character passes through them, and then the empty word.
 ghost use Rattle.std.specs.Prelude.{◌≡◌, ℕ, ◌+◌, ◌-◌, ◌<◌, ◌≤◌, Bool, false, ◌||◌, ◌&&◌, List, [], ◌∷◌, length, take, drop, replicate, slice_index_or};
 ghost use Rattle.pattern_match.specs.Gaps.{HasGaps, IsQuiet, gaps as gaps_from};
 ghost use Rattle.pattern_match.specs.Marks.{IsListed, IsDone, Skips, Starts, first_place_or, first_rest, second_rest, is_open as is_open_of};

@@ -1,4 +1,4 @@
-// A pattern that was read from its text.
+//! A pattern that was read from its text.
 ghost use Rattle.std.specs.Prelude.{◌≡◌, ◌≤◌, ◌*◌, ℕ, List, length, IfOk, IfErr, OnOk};
 ghost use Rattle.std.specs.Str.{chars};
 ghost use Rattle.pattern_match.specs.Expression.{Expression};

@@ -1,4 +1,4 @@
-// Where characters are no pattern: they are read one at a time, and that takes no memory.
+//! Where characters are no pattern: they are read one at a time, and that takes no memory.
 ghost use Rattle.std.specs.Prelude.{◌≡◌, ℕ};
 ghost use Rattle.pattern_match.specs.inner.Refusal.{refused_from, start};
 

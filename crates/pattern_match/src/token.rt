@@ -1,4 +1,4 @@
-// The tokens of a pattern, in the order of its text.
+//! The tokens of a pattern, in the order of its text.
 ghost use Rattle.std.specs.Prelude.{◌≡◌};
 ghost use Rattle.pattern_match.specs.Token.{members_have, is_pattern_space, admits};
 

@@ -1,4 +1,5 @@
-// What breaks a rule.
+//! What breaks a rule.
+
 /// What breaks a rule first.
 #[derive(Clone, Copy, Debug, PartialEq, Eq)]
 pub(crate) enum Breaker {

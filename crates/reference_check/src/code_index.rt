@@ -1,4 +1,4 @@
-// The codes of a set by their names.
+//! The codes of a set by their names.
 ghost use Rattle.std.specs.Prelude.{◌≡◌, IfOk};
 ghost use Rattle.std.specs.Option.{option_copied};
 ghost use Rattle.reference_check.specs.CodeTexts.{find_code};

@@ -1,4 +1,4 @@
-// The rule that each code of a code set has a text of its own.
+//! The rule that each code of a code set has a text of its own.
 ghost use Rattle.std.specs.Prelude.{◌≡◌, ℕ, List, IsTrue, ◌↔◌, IfOk};
 ghost use Rattle.reference_check.specs.inner.First.{TellsFirst};
 ghost use Rattle.reference_check.specs.Reached.{HasReach};

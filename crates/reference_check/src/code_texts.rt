@@ -1,4 +1,4 @@
-// The text of a code, which may stand in a set that its own set is traced to.
+//! The text of a code, which may stand in a set that its own set is traced to.
 ghost use Rattle.std.specs.Prelude.{◌≡◌, IfOk, IfSome};
 ghost use Rattle.std.specs.Option.{option_copied, option_map};
 ghost use Rattle.std.specs.Str.{bytes_eq};

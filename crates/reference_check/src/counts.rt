@@ -1,4 +1,4 @@
-// The rule on how many objects, elements and codes there are, and on how long texts are.
+//! The rule on how many objects, elements and codes there are, and on how long texts are.
 ghost use Rattle.std.specs.Prelude.{◌≡◌, ◌⊎◌, ◌<◌, ℕ, List, IsTrue, ◌↔◌, length, chars, IfOk};
 ghost use Rattle.lexical_core.specs.Characters.{IsXmlText};
 ghost use Rattle.repo_objects.specs.Objects.{HasCodeTexts, HasObjectTexts};

@@ -1,4 +1,4 @@
-// Which reached objects have a finite instance.
+//! Which reached objects have a finite instance.
 ghost use Rattle.std.specs.Prelude.{◌≡◌, ℕ, ◌+◌, ◌≤◌, ◌<◌, ◌↔◌, List, [], ◌∷◌, ◌++◌, length, slice_get, slice_set, replicate, IsTrue, IfOk, OnOk};
 ghost use Rattle.reference_check.specs.Reached.{HasReach};
 ghost use Rattle.reference_check.specs.Rules.{IsSound, IsBelowEndless, Endless};

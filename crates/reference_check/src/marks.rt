@@ -1,4 +1,4 @@
-// The objects that are reached, found by following references.
+//! The objects that are reached, found by following references.
 ghost use Rattle.std.specs.Prelude.{◌≡◌, ◌∷◌, [], ◌<◌, ℕ, List, length, false, replicate, OnOk, IfOk};
 ghost use Rattle.std.specs.Option.{option_copied};
 ghost use Rattle.std.specs.List.{flat_map};

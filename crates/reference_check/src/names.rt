@@ -1,4 +1,4 @@
-// What is asked of names and tags.
+//! What is asked of names and tags.
 ghost use Rattle.std.specs.Prelude.{◌≡◌, ◌↔◌, ◌++◌, ℕ, List, IsTrue, Contains, IfOk, map, false};
 ghost use Rattle.std.specs.List.{list_all};
 ghost use Rattle.repo_objects.specs.declared.objects.ElementDef.{ElementDef};

@@ -1,4 +1,4 @@
-// What is asked of how often elements may stand.
+//! What is asked of how often elements may stand.
 ghost use Rattle.std.specs.Prelude.{◌≡◌, ◌↔◌, IsTrue, Contains};
 ghost use Rattle.repo_objects.specs.declared.objects.ElementDef.{ElementDef};
 ghost use Rattle.repo_objects.specs.declared.objects.ObjectKind.TheVariants.{Choice};

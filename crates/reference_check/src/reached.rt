@@ -1,4 +1,4 @@
-// What a message reaches, and why one is refused.
+//! What a message reaches, and why one is refused.
 ghost use Rattle.std.specs.Prelude.{◌≡◌};
 
 use lexical_core::{Items, Text};

@@ -1,4 +1,4 @@
-// What is asked of references to objects.
+//! What is asked of references to objects.
 ghost use Rattle.std.specs.Prelude.{◌≡◌, ◌↔◌, ℕ, List, IsTrue, Contains, length, Some};
 ghost use Rattle.std.specs.Option.{option_copied};
 ghost use Rattle.repo_objects.specs.declared.objects.ElementDef.{ElementDef};

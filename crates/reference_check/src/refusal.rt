@@ -1,4 +1,4 @@
-// What is told of a message that breaks a rule.
+//! What is told of a message that breaks a rule.
 ghost use Rattle.std.specs.Prelude.{◌≡◌, None, OnOk, IfErr};
 ghost use Rattle.reference_check.specs.inner.First.{IsPlaceOf, TellsFirst};
 ghost use Rattle.reference_check.specs.Graph.{Place};

@@ -1,4 +1,4 @@
-// The rule that each schema type name stands for one object.
+//! The rule that each schema type name stands for one object.
 ghost use Rattle.std.specs.Prelude.{◌≡◌, ◌≢◌, ◌⊎◌, ℕ, List, ◌∷◌, [], ◌++◌, is_some, length, codes, Some, IsTrue, ◌↔◌, OnOk, IfOk, Contains, if◌then◌else◌, slice_get};
 ghost use Rattle.std.specs.List.{list_any};
 ghost use Rattle.std.specs.Str.{bytes_eq};

@@ -1,4 +1,4 @@
-// What a message reaches.
+//! What a message reaches.
 ghost use Rattle.std.specs.Prelude.{◌≡◌, ◌<◌, ◌↔◌, ℕ, List, [], Some, OnOk, IfOk, IfErr, AllPairs, Contains, slice_get, length};
 ghost use Rattle.repo_objects.specs.declared.objects.MessageDef.{MessageDef};
 ghost use Rattle.reference_check.specs.Graph.{message, find_message};

@@ -1,4 +1,4 @@
-// The rules of structure that each reached object, and the message, is asked by itself.
+//! The rules of structure that each reached object, and the message, is asked by itself.
 ghost use Rattle.std.specs.Prelude.{◌≡◌, ◌↔◌, ◌+◌, ℕ, List, IsTrue, IfSome, IfNone, IfOk, IfErr, OnOk, Some, slice_get};
 ghost use Rattle.repo_objects.specs.declared.objects.MessageDef.{MessageDef};
 ghost use Rattle.repo_objects.specs.Repository.{DictionaryEntry, IsRepository};

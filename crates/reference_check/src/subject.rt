@@ -1,4 +1,4 @@
-// What the rules are asked of: a reached object or the message.
+//! What the rules are asked of: a reached object or the message.
 ghost use Rattle.std.specs.Prelude.{◌≡◌};
 ghost use Rattle.std.specs.Option.{option_copied};
 ghost use Rattle.reference_check.specs.Reach.{kind_elements, kind_currency};

@@ -1,4 +1,4 @@
-// The rules that are asked once the structure of a message is sound.
+//! The rules that are asked once the structure of a message is sound.
 ghost use Rattle.std.specs.Prelude.{◌≡◌, ℕ, ◌<◌, List, length, Some, None, IsTrue, ◌↔◌, OnOk, IfErr};
 ghost use Rattle.reference_check.specs.inner.First.{IsPlaceOf, TellsFirst};
 ghost use Rattle.reference_check.specs.Graph.{Place};

@@ -1,4 +1,4 @@
-// What the elements of objects lead to, and for each object the objects whose elements lead to it.
+//! What the elements of objects lead to, and for each object the objects whose elements lead to it.
 ghost use Rattle.std.specs.Prelude.{◌≡◌, ◌<◌, [], ◌∷◌, ◌++◌, length, slice_set, slice_index_or, OnOk, IfOk};
 ghost use Rattle.std.specs.Option.{option_copied};
 ghost use Rattle.reference_check.specs.Graph.{references};

@@ -1,4 +1,4 @@
-// Why a repository file is refused, or not loaded.
+//! Why a repository file is refused, or not loaded.
 ghost use Rattle.std.specs.Prelude.{◌≡◌};
 
 use lexical_core::Rule;

@@ -1,4 +1,4 @@
-// The kinds of entries by their words.
+//! The kinds of entries by their words.
 ghost use Rattle.std.specs.Prelude.{◌≡◌, map};
 ghost use Rattle.repo_loader.specs.FileValues.{kind_in, kind_words, date_words, component_words};
 ghost use Rattle.markup.specs.EventItems.{entry_of};

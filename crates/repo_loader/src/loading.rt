@@ -1,4 +1,4 @@
-// What has been read of a repository file so far.
+//! What has been read of a repository file so far.
 ghost use Rattle.std.specs.Prelude.{◌≡◌, ◌↔◌, [], ◌∷◌, ◌++◌, ℕ, List, OnOk, OnErr, IfOk, IfErr, IfSome, IsTrue, true, false, None, Some, map, codes};
 ghost use Rattle.std.specs.Option.{option_map, is_some};
 ghost use Rattle.markup.specs.EventItems.{entry_of};

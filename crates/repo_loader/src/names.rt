@@ -1,4 +1,4 @@
-// The names of a repository file (profile), and the values of attributes by their names.
+//! The names of a repository file (profile), and the values of attributes by their names.
 ghost use Rattle.std.specs.Prelude.{◌≡◌, ◌||◌, [], map};
 ghost use Rattle.std.specs.Str.{bytes_eq};
 ghost use Rattle.std.specs.Option.{option_map};

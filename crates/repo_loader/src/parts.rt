@@ -1,4 +1,4 @@
-// What the elements of a repository file are.
+//! What the elements of a repository file are.
 ghost use Rattle.std.specs.Prelude.{◌≡◌, List, map};
 ghost use Rattle.lexical_core.specs.Tree.{Entry as Attribute};
 ghost use Rattle.markup.specs.EventItems.{entry_of};

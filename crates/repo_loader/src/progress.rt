@@ -1,4 +1,4 @@
-// How far a repository file is read.
+//! How far a repository file is read.
 ghost use Rattle.std.specs.Prelude.{◌≡◌, ◌<◌, ◌≤◌, ◌^◌, ◌+◌, [], ◌∷◌, ◌++◌, ℕ, List, Some, IfOk, IfNone, length, take, map};
 ghost use Rattle.markup.specs.Events.{Placed};
 ghost use Rattle.markup.specs.EventItems.{placed_event};

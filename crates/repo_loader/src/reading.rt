@@ -1,4 +1,4 @@
-// What the attributes of an element say.
+//! What the attributes of an element say.
 ghost use Rattle.std.specs.Prelude.{◌≡◌, IfOk, OnErr, IfErr, map, codes, []};
 ghost use Rattle.markup.specs.EventItems.{entry_of};
 ghost use Rattle.repo_loader.specs.FileNames.{own, attribute_value as spec_value_of};

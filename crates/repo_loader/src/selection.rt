@@ -1,4 +1,4 @@
-// The elements of a repository file that are read, by its events.
+//! The elements of a repository file that are read, by its events.
 ghost use Rattle.std.specs.Prelude.{◌≡◌, [], ◌∷◌, ◌++◌, List, IfOk, map, reverse};
 ghost use Rattle.lexical_core.specs.Tree.{Starts};
 ghost use Rattle.markup.specs.Events.{Placed};

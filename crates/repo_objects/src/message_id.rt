@@ -1,4 +1,4 @@
-// The identifier of a message definition, as `pacs.008.001.08`.
+//! The identifier of a message definition, as `pacs.008.001.08`.
 ghost use Rattle.std.specs.Prelude.{◌≡◌, ◌↔◌, List, ℕ, IsSome, IsTrue, IfSome};
 ghost use Rattle.std.specs.List.{list_all};
 ghost use Rattle.repo_objects.specs.MessageId.{IsMessageId, is_lower_letter, is_letter_or_digit, is_digit};

@@ -1,4 +1,4 @@
-// What a repository file says of an entry of its data dictionary and of a message.
+//! What a repository file says of an entry of its data dictionary and of a message.
 use lexical_core::{Decimal, Items, Text};
 
 /// The kind of a data type (ISO 20022-1, data types).

@@ -1,4 +1,4 @@
-// A repository in memory.
+//! A repository in memory.
 ghost use Rattle.std.specs.Prelude.{◌≡◌, ◌↔◌, ◌<◌, [], ◌∷◌, ◌++◌, length, IsTrue, IsSome, IfSome, OnOk, OnErr, IsErrOf, Contains, slice_get, All};
 ghost use Rattle.std.specs.Option.{option_copied, option_map};
 ghost use Rattle.lexical_core.specs.Characters.{IsXmlText};

@@ -1,4 +1,4 @@
-// Fragments told from other bytes: these are read as XML, and their events are written again.
+//! Fragments told from other bytes: these are read as XML, and their events are written again.
 ghost use Rattle.std.specs.Prelude.{◌≡◌, ◌+◌, ◌<◌, ◌≤◌, ◌^◌, ◌↔◌, ℕ, List, [], ◌∷◌, ◌++◌, IsTrue, IsFalse, IfOk, IfSome, IfNone, length};
 ghost use Rattle.std.specs.List.{AllByRecursion};
 ghost use Rattle.lexical_core.specs.Tree.{Item, Tree};

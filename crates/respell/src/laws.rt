@@ -1,4 +1,4 @@
-// Laws of fragments, each the contract of a function with an empty body.
+//! Laws of fragments, each the contract of a function with an empty body.
 ghost use Rattle.respell.specs.Laws.{OneTree, NoProperFront, ReadBack, FragmentWithin, EventsArePlain, TreeIsPlain, WholeIsPlain};
 
 /// A fragment is that of one tree.

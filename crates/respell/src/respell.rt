@@ -1,4 +1,4 @@
-// Events written again.
+//! Events written again.
 ghost use Rattle.std.specs.Prelude.{◌≡◌, ◌↔◌, ◌||◌, ℕ, List, [], ◌∷◌, ◌++◌, Option, IsTrue, IsFalse, OnOk, IsErr, map, drop, true, false};
 ghost use Rattle.std.specs.List.{flat_map};
 ghost use Rattle.lexical_core.specs.Tree.{Item, Tree, Char};

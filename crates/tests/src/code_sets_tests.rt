@@ -1,4 +1,4 @@
-// What no contract says: that there is memory for codes, and how records read that other programs write.
+//! What no contract says: that there is memory for codes, and how records read that other programs write.
 ghost use Rattle.std.specs.Prelude.{◌<◌, IfOk, All};
 ghost use Rattle.lexical_core.specs.Characters.{IsXmlText};
 ghost use Rattle.repo_objects.specs.Objects.{HasCodeTexts, HasObjectTexts};

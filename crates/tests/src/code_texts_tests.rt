@@ -1,4 +1,4 @@
-// What no contract says: that there is memory for the texts of codes.
+//! What no contract says: that there is memory for the texts of codes.
 ghost use Rattle.std.specs.Prelude.{IfOk, All};
 ghost use Rattle.lexical_core.specs.Characters.{IsXmlText};
 ghost use Rattle.repo_objects.specs.Objects.{HasCodeTexts, HasObjectTexts, IsXmlTextIfAny};

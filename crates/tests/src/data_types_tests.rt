@@ -1,5 +1,5 @@
-// What no clause says: that the clauses mean what the standard's own examples say, and that calls which
-// may want memory succeed where there is some.
+//! What no clause says: that the clauses mean what the standard's own examples say, and that calls which
+//! may want memory succeed where there is some.
 ghost use Rattle.std.specs.Prelude.{IfOk, Option, List, ℕ};
 ghost use Rattle.data_types.specs.LeafSteps.{HasTakenLeaf};
 ghost use Rattle.data_types.specs.declared.kind.Kind.{Kind};

@@ -1,5 +1,5 @@
-// What no clause says: that the definitions mean what the standard means, row by row, and that calls which may
-// want memory succeed where there is some.
+//! What no clause says: that the definitions mean what the standard means, row by row, and that calls which may
+//! want memory succeed where there is some.
 ghost use Rattle.std.specs.Prelude.{◌≡◌, IfOk, length};
 ghost use Rattle.facets.specs.LeafChecks.{IsCheckMadeFor, IsWithinLimits};
 ghost use Rattle.facets.specs.LeafVerdicts.{IsVerdictMadeFor as IsVerdictFor};

@@ -1,4 +1,4 @@
-// What no clause says: that the calls go through where memory is there, and what is told of the pieces.
+//! What no clause says: that the calls go through where memory is there, and what is told of the pieces.
 ghost use Rattle.std.specs.Prelude.{◌≡◌, [], ◌∷◌, ◌++◌, OnOk};
 ghost use Rattle.data_types.specs.Leaf.{Leaf};
 ghost use Rattle.data_types.specs.Value.{Holds};

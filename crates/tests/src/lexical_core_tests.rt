@@ -1,5 +1,5 @@
-// What no clause says: that the clauses mean what the standards' own examples say, and that calls which
-// may want memory succeed where there is some.
+//! What no clause says: that the clauses mean what the standards' own examples say, and that calls which
+//! may want memory succeed where there is some.
 use lexical_core::{Decimal, DecimalStep, DecimalText, Items, Text, read_nr3};
 use std::alloc::{AllocError, Global};
 use std::test::Fail;

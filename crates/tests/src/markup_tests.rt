@@ -1,4 +1,4 @@
-// The worked texts: their faults and events; hostile texts, which are answered as well.
+//! The worked texts: their faults and events; hostile texts, which are answered as well.
 mod runs;
 
 ghost use Rattle.std.specs.Prelude.{◌≡◌};

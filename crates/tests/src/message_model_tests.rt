@@ -1,4 +1,4 @@
-// What no contract says: that there is memory for a compiled message; and examples of rules and look-ups.
+//! What no contract says: that there is memory for a compiled message; and examples of rules and look-ups.
 ghost use Rattle.std.specs.Prelude.{IfOk};
 ghost use Rattle.lexical_core.specs.Characters.{IsXmlText};
 ghost use Rattle.repo_objects.specs.Objects.{HasObjectTexts, HasMessageTexts, HasElementTexts};

@@ -1,4 +1,4 @@
-// What no contract says: readers and writers that do little at a time and fail in mid-stream.
+//! What no contract says: readers and writers that do little at a time and fail in mid-stream.
 use outside::{
     Failed, MemSink, MemSource, ReadError, ReadSource, Sink, SinkError, Source, SteadySink,
     SteadySource, WriteSink, read_all,

@@ -1,4 +1,4 @@
-// The worked patterns: which texts are read, where the others are refused, and which words are accepted.
+//! The worked patterns: which texts are read, where the others are refused, and which words are accepted.
 use pattern_match::{Matcher, Pattern, PatternError};
 use std::alloc::{AllocError, Global};
 use std::process::Abort;

@@ -1,4 +1,4 @@
-// Files with what is read of them, or their first fault: by the table of the profile's rules.
+//! Files with what is read of them, or their first fault: by the table of the profile's rules.
 ghost use Rattle.std.specs.Prelude.{◌<◌};
 
 use lexical_core::Rule;

@@ -1,4 +1,4 @@
-// What no contract says: that there is memory for a repository, and which words are identifiers.
+//! What no contract says: that there is memory for a repository, and which words are identifiers.
 ghost use Rattle.std.specs.Prelude.{IfOk};
 ghost use Rattle.lexical_core.specs.Characters.{IsXmlText};
 ghost use Rattle.repo_objects.specs.Objects.{HasObjectTexts, HasMessageTexts};

@@ -1,4 +1,4 @@
-// Rows of fragments: XML with the fragment of its root, and bytes that are fragments or not.
+//! Rows of fragments: XML with the fragment of its root, and bytes that are fragments or not.
 ghost use Rattle.std.specs.Prelude.{◌≡◌};
 ghost use Rattle.markup.specs.Reading.{bytes_taken};
 

@@ -1,4 +1,4 @@
-// Why a check of an instance does not end in `Ok`.
+//! Why a check of an instance does not end in `Ok`.
 ghost use Rattle.std.specs.Prelude.{◌≡◌};
 ghost use Rattle.transcoder.specs.CheckErrors.{check_error};
 ghost use Rattle.transcoder.specs.declared.check_error.CheckError.TheVariants.{Memory};

@@ -1,4 +1,4 @@
-// What a reader of instances promises to those that feed it from a source.
+//! What a reader of instances promises to those that feed it from a source.
 ghost use Rattle.std.specs.Prelude.{ℕ, ◌+◌, ◌≤◌, ◌++◌, List, length, IfOk, IfErr};
 ghost use Rattle.lexical_core.specs.declared.rule.Rule.{Rule};
 ghost use Rattle.message_model.specs.Tables.{Tables};

@@ -1,4 +1,4 @@
-// Laws of the definitions, each the contract of a function with an empty body.
+//! Laws of the definitions, each the contract of a function with an empty body.
 ghost use Rattle.transcoder.specs.Laws.{OneVerdict, SomeVerdict, OneDerVerdict, SomeDerVerdict};
 
 /// Bytes are XML of one instance of a message or have one first fault, and not both.

@@ -1,4 +1,4 @@
-// An instance, read as it comes from a source, and kept as pieces.
+//! An instance, read as it comes from a source, and kept as pieces.
 ghost use Rattle.std.specs.Prelude.{◌≡◌, ◌≤◌, ℕ, List, IfOk, IfErr, IfSome, OnOk, IsErrOf, length};
 ghost use Rattle.std.specs.Io.KnownBytes.{IsAtEnd};
 ghost use Rattle.outside.specs.Source.{Rose};

@@ -1,4 +1,4 @@
-// Why a transcoding does not end in `Ok`.
+//! Why a transcoding does not end in `Ok`.
 ghost use Rattle.std.specs.Prelude.{◌≡◌};
 ghost use Rattle.transcoder.specs.TransErrors.{trans_error, written_error};
 

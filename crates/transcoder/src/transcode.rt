@@ -1,4 +1,4 @@
-// An instance, read in one form and written in another.
+//! An instance, read in one form and written in another.
 ghost use Rattle.std.specs.Prelude.{◌≡◌, ◌≤◌, IsErrOf};
 ghost use Rattle.outside.specs.Source.{Rose};
 ghost use Rattle.data_types.specs.Value.{Value};

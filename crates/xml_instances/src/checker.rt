@@ -1,4 +1,4 @@
-// A checker of XML instances that takes their bytes in pieces.
+//! A checker of XML instances that takes their bytes in pieces.
 ghost use Rattle.std.specs.Prelude.{◌≡◌, ◌<◌, ◌+◌, ◌≤◌, ◌^◌, ◌∷◌, ◌++◌, ℕ, List, [], IfOk, OnOk, IfErr, Option, Some, None, Err, length};
 ghost use Rattle.markup.specs.Reading.{bytes_taken};
 ghost use Rattle.markup.specs.Marks.{tag_limit};

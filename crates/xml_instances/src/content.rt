@@ -1,4 +1,4 @@
-// The elements of an instance that are open, held to the types of its message.
+//! The elements of an instance that are open, held to the types of its message.
 ghost use Rattle.std.specs.Prelude.{◌≡◌, ℕ, List, [], ◌++◌, Option, Some, None, IfOk, IfSome, OnOk, codes, length, map, not, ◌&&◌, option_to_list};
 ghost use Rattle.lexical_core.specs.Tree.{Char, Starts};
 ghost use Rattle.xml_instances.specs.Built.{EventShows, ShowsBeside, StartShown, ChildShown, CodeShown};

@@ -1,4 +1,4 @@
-// Room for one more item, so that the push that follows cannot fail and is short where it is called.
+//! Room for one more item, so that the push that follows cannot fail and is short where it is called.
 ghost use Rattle.std.specs.Prelude.{◌≡◌, ◌<◌, OnOk, vec_len, vec_capacity};
 
 use std::alloc::AllocError;

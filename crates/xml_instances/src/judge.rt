@@ -1,4 +1,4 @@
-// What judges the text of a leaf, a character or a run of characters at a time.
+//! What judges the text of a leaf, a character or a run of characters at a time.
 ghost use Rattle.std.specs.Prelude.{◌≡◌, ◌++◌, ◌∷◌, [], ℕ, List, length, IfOk, OnOk, OnErr};
 ghost use Rattle.lexical_core.specs.Characters.{IsXmlChar};
 ghost use Rattle.lexical_core.specs.XmlRuns.{IsXmlRun};

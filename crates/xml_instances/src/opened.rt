@@ -1,4 +1,4 @@
-// What is kept of an open element, and the path of those that are open.
+//! What is kept of an open element, and the path of those that are open.
 ghost use Rattle.std.specs.Prelude.{◌≡◌, [], ◌∷◌, ◌++◌, IfOk, OnOk, slice_get};
 ghost use Rattle.std.specs.Fmt.{decimal};
 ghost use Rattle.lexical_core.specs.declared.rule.Rule.TheVariants.{Missing};

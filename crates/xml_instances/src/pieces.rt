@@ -1,4 +1,4 @@
-// The pieces of an instance, kept as its events come.
+//! The pieces of an instance, kept as its events come.
 ghost use Rattle.std.specs.Prelude.{◌≡◌, ◌++◌, ◌∷◌, [], ℕ, Some, None, OnOk, OnErr, IfSome, IsTrue, true, false, ◌<◌, length, map};
 ghost use Rattle.data_types.specs.Leaf.{Bytes};
 ghost use Rattle.data_types.specs.LeafAnswers.{leaf_of};

@@ -1,4 +1,4 @@
-// A reader of XML instances that takes their bytes in pieces, and keeps the pieces of the instance.
+//! A reader of XML instances that takes their bytes in pieces, and keeps the pieces of the instance.
 ghost use Rattle.std.specs.Prelude.{◌≡◌, ◌+◌, ◌<◌, ◌≤◌, ◌^◌, ◌++◌, ℕ, List, [], IfOk, IfErr, Some, None, Err, length};
 ghost use Rattle.message_model.specs.Tables.{Tables, message_of};
 ghost use Rattle.xml_instances.specs.Levels.{levels_over};

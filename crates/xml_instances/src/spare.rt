@@ -1,4 +1,4 @@
-// Checks of leaves that are kept for the next leaf of their type.
+//! Checks of leaves that are kept for the next leaf of their type.
 ghost use Rattle.std.specs.Prelude.{ℕ};
 ghost use Rattle.facets.specs.declared.simple.Simple.{Simple as SimpleType};
 ghost use Rattle.reference_check.specs.Forms.{Graph};

@@ -1,4 +1,4 @@
-// The text of a leaf.
+//! The text of a leaf.
 ghost use Rattle.std.specs.Prelude.{◌≡◌, ℕ, List, [], ◌∷◌, ◌++◌, None, true, false, IsOk, IfOk, OnOk};
 ghost use Rattle.std.specs.Str.{chars};
 ghost use Rattle.markup.specs.Chars.{is_space};

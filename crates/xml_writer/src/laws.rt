@@ -1,4 +1,4 @@
-// Laws on canonical XML: each is the contract of a function that does nothing.
+//! Laws on canonical XML: each is the contract of a function that does nothing.
 ghost use Rattle.xml_writer.specs.Laws.{SomeCanonicalXml, OneCanonicalXml};
 ghost use Rattle.std.specs.Prelude.{◌≡◌, ℕ, List, codes};
 ghost use Rattle.data_types.specs.Value.{Value};

@@ -1,4 +1,4 @@
-// The texts of leaves: XML 1.0 §2.4 and §3.3.3, as in Canonical XML 1.0 §2.3.
+//! The texts of leaves: XML 1.0 §2.4 and §3.3.3, as in Canonical XML 1.0 §2.3.
 ghost use Rattle.std.specs.Prelude.{◌≡◌, ◌≢◌, ◌++◌, ℕ, List, Some, IfSome, IfNone, codes, encode_utf8_all, flat_map, slice_get};
 ghost use Rattle.outside.specs.Pushes.{Pushes};
 ghost use Rattle.lexical_core.specs.Escapes.{escape_of};

@@ -1,4 +1,4 @@
-// What the pieces of an instance write.
+//! What the pieces of an instance write.
 ghost use Rattle.std.specs.Prelude.{◌≡◌, ◌++◌, ◌≤◌, ℕ, List, IsTrue, false, length, drop};
 ghost use Rattle.outside.specs.Pushes.{Pushes};
 ghost use Rattle.inst_pool.specs.Pieces.{piece_of};

@@ -1,4 +1,4 @@
-// The tags of elements: XML 1.0 §3.1.
+//! The tags of elements: XML 1.0 §3.1.
 ghost use Rattle.std.specs.Prelude.{◌≡◌, ℕ, Some, slice_get};
 ghost use Rattle.outside.specs.Pushes.{Pushes};
 ghost use Rattle.reference_check.specs.Forms.{Slot as Slotted, form_slots};

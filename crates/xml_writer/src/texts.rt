@@ -1,4 +1,4 @@
-// Texts as XML spells them: XML 1.0 §2.4 and §3.3.3.
+//! Texts as XML spells them: XML 1.0 §2.4 and §3.3.3.
 ghost use Rattle.std.specs.Prelude.{◌≡◌, ℕ, List, IsTrue, encode_utf8_all, flat_map, length};
 ghost use Rattle.std.specs.List.{prefix_len};
 ghost use Rattle.outside.specs.Pushes.{Pushes};

@@ -1,4 +1,4 @@
-// The canonical XML of an instance.
+//! The canonical XML of an instance.
 ghost use Rattle.std.specs.Prelude.{◌≡◌, ◌++◌, ℕ, List, codes};
 ghost use Rattle.outside.specs.Pushes.{Pushes, as_push};
 ghost use Rattle.data_types.specs.Value.{Value};

@@ -1,4 +1,4 @@
-// The laws of the schema: each the contract of a function that does nothing.
+//! The laws of the schema: each the contract of a function that does nothing.
 ghost use Rattle.std.specs.Prelude.{◌++◌, ◌↔◌, ℕ, List};
 ghost use Rattle.lexical_core.specs.Tree.{Tree};
 ghost use Rattle.data_types.specs.Value.{Value};

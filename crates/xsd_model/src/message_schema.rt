@@ -1,4 +1,4 @@
-// The schema of a compiled message.
+//! The schema of a compiled message.
 ghost use Rattle.std.specs.Prelude.{◌≡◌, IfOk, OnOk};
 ghost use Rattle.message_model.specs.Tables.{message_namespace};
 ghost use Rattle.xsd_model.specs.SchemaOf.{schema_of as schema_of_tables, sorted_types};

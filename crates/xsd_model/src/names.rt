@@ -1,4 +1,4 @@
-// The names of a message's types.
+//! The names of a message's types.
 ghost use Rattle.std.specs.Prelude.{◌≡◌, IfOk};
 ghost use Rattle.xsd_model.specs.SchemaOf.{base_name, schema_name_of};
 

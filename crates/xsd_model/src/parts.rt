@@ -1,4 +1,4 @@
-// The parts of a component or a choice.
+//! The parts of a component or a choice.
 ghost use Rattle.std.specs.Prelude.{◌≡◌, IfOk, map};
 ghost use Rattle.reference_check.specs.Forms.{form_slots};
 ghost use Rattle.message_model.specs.Tables.{types_of};

@@ -1,4 +1,4 @@
-// The steps of a simple type, as a schema writes them (XML Schema part 2 §4.1.2).
+//! The steps of a simple type, as a schema writes them (XML Schema part 2 §4.1.2).
 ghost use Rattle.std.specs.Prelude.{◌≡◌, [], ◌∷◌, Some, None, IfOk};
 ghost use Rattle.std.specs.Option.{option_to_list};
 ghost use Rattle.facets.specs.Steps.{least_written, plain_step};

@@ -1,4 +1,4 @@
-// Fragments of a line, pushed one after the other.
+//! Fragments of a line, pushed one after the other.
 ghost use Rattle.std.specs.Prelude.{◌≡◌, ◌+◌, ◌*◌, true, [], ◌∷◌, codes, replicate};
 ghost use Rattle.std.specs.Fmt.{decimal};
 ghost use Rattle.std.specs.List.{concat};

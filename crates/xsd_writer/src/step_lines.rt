@@ -1,4 +1,4 @@
-// The lines of the steps of a simple type: XML Schema part 2 §4.1.2. A step stands inside the one behind it.
+//! The lines of the steps of a simple type: XML Schema part 2 §4.1.2. A step stands inside the one behind it.
 ghost use Rattle.std.specs.Prelude.{◌≡◌};
 ghost use Rattle.outside.specs.Pushes.{Pushes};
 ghost use Rattle.xsd_model.specs.SchemaText.{first_text, has_facets, steps_text};

@@ -1,4 +1,4 @@
-// A schema, from its first line to its last one.
+//! A schema, from its first line to its last one.
 ghost use Rattle.std.specs.Prelude.{◌≡◌, ◌∷◌, true, [], codes, flat_map};
 ghost use Rattle.data_types.specs.Escaping.{escaped_bytes};
 ghost use Rattle.outside.specs.Pushes.{Pushes, as_push};

@@ -1,4 +1,4 @@
-// The `]` of an element's text that a reader takes at once.
+//! The `]` of an element's text that a reader takes at once.
 ghost use Rattle.std.specs.Prelude.{◌≡◌, ◌<◌, ◌≤◌, ◌^◌, ◌+◌, ◌++◌, ℕ, List, true, Some, None, length, take};
 ghost use Rattle.std.specs.List.{list_all};
 ghost use Rattle.markup.specs.Chars.{is_space};

@@ -1,4 +1,4 @@
-// A whole reference that a reader takes at once.
+//! A whole reference that a reader takes at once.
 ghost use Rattle.std.specs.Prelude.{◌≡◌, ◌<◌, ◌≤◌, ◌^◌, ◌+◌, ◌∷◌, ◌++◌, ℕ, List, [], IfSome, IsSome, true, Some, None, length, take, encode_utf8_all};
 ghost use Rattle.lexical_core.specs.Tree.{Char};
 ghost use Rattle.markup.specs.Contexts.{HasOpen};

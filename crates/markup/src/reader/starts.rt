@@ -1,4 +1,4 @@
-// Start tags with attributes that a reader takes whole.
+//! Start tags with attributes that a reader takes whole.
 ghost use Rattle.std.specs.Prelude.{◌≡◌, ◌<◌, ◌≤◌, ◌^◌, ◌+◌, ◌++◌, ℕ, List, IfOk, IfErr, IfSome, IsSome, IsSomeAnd, Some, None, Err, true, length, take};
 ghost use Rattle.markup.specs.Events.{Placed};
 ghost use Rattle.markup.specs.PlainStarts.{PlainStart, plain_start_text};

@@ -1,4 +1,4 @@
-// Tokens of text and of CDATA sections, and how markup begins (XML 1.0 §2.4, §2.7, §3.1).
+//! Tokens of text and of CDATA sections, and how markup begins (XML 1.0 §2.4, §2.7, §3.1).
 ghost use Rattle.std.specs.Prelude.{◌≡◌};
 ghost use Rattle.markup.specs.Scans.{begin_step, text_step, line_step, cdata_step, reference_turn, opened_step};
 

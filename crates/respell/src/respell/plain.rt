@@ -1,4 +1,4 @@
-// Runs of characters and whole tags written again, as their events one after the other.
+//! Runs of characters and whole tags written again, as their events one after the other.
 ghost use Rattle.std.specs.Prelude.{◌≡◌, ℕ, List, [], ◌∷◌, ◌++◌, IsTrue, OnOk, IsErr, map, true};
 ghost use Rattle.lexical_core.specs.Tree.{Expanded, Item, Starts, Char, Ends};
 ghost use Rattle.markup.specs.Literals.{IsRun};

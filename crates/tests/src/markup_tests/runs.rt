@@ -1,4 +1,4 @@
-// Texts that a reader takes by whole tags and runs of characters where it can.
+//! Texts that a reader takes by whole tags and runs of characters where it can.
 ghost use Rattle.std.specs.Prelude.{◌≡◌, ◌<◌, ◌≤◌, ◌+◌, ◌^◌, IfOk, IfSome, IsTrue, length};
 ghost use Rattle.markup.specs.Reading.{bytes_taken};
 

@@ -1,4 +1,4 @@
-// Fronts of a piece that a checker takes: whole tags, whole references, runs of characters, bytes inside tokens, single bytes.
+//! Fronts of a piece that a checker takes: whole tags, whole references, runs of characters, bytes inside tokens, single bytes.
 ghost use Rattle.std.specs.Prelude.{◌≡◌, ◌<◌, ◌+◌, ◌≤◌, ◌^◌, IfOk, length};
 ghost use Rattle.message_model.specs.Tables.{types_of};
 ghost use Rattle.message_model.specs.declared.fault.InstanceError.TheVariants.{Memory};

@@ -1,4 +1,4 @@
-// A tag without attributes, held to the message; the refusal of one is told apart from the answer.
+//! A tag without attributes, held to the message; the refusal of one is told apart from the answer.
 ghost use Rattle.std.specs.Prelude.{◌≡◌};
 ghost use Rattle.message_model.specs.Tables.{types_of};
 ghost use Rattle.message_model.specs.declared.fault.InstanceError.TheVariants.{Memory};

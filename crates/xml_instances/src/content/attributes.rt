@@ -1,4 +1,4 @@
-// The attributes of an element, and the currency of an amount: ISO 20022-4, XML Schema part 1 §3.4.4.
+//! The attributes of an element, and the currency of an amount: ISO 20022-4, XML Schema part 1 §3.4.4.
 ghost use Rattle.std.specs.Prelude.{◌≡◌, ◌++◌, ℕ, Some, None, IfOk, OnOk, codes, map};
 ghost use Rattle.std.specs.Str.{chars};
 ghost use Rattle.facets.specs.declared.simple.Simple.{Simple as SimpleType};

@@ -1,4 +1,4 @@
-// The end of an element: what it breaks, and what it shows.
+//! The end of an element: what it breaks, and what it shows.
 ghost use Rattle.std.specs.Prelude.{◌≡◌, ◌++◌, ℕ, List, Option, Some, None, OnOk, IsOk};
 ghost use Rattle.lexical_core.specs.Tree.{Ends, Expanded};
 ghost use Rattle.facets.specs.declared.simple.Simple.{Simple as SimpleType};

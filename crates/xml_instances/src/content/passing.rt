@@ -1,4 +1,4 @@
-// Tags that break no rule: taken without what a refusal needs.
+//! Tags that break no rule: taken without what a refusal needs.
 ghost use Rattle.std.specs.Prelude.{◌≡◌, ◌++◌, ◌∷◌, ℕ, List, [], IfOk, OnOk, IfSome, None, Some, true, false};
 ghost use Rattle.lexical_core.specs.Tree.{Expanded, Starts, Ends};
 ghost use Rattle.facets.specs.declared.simple.Simple.{Simple as SimpleType};

@@ -1,4 +1,4 @@
-// Runs of characters and whole tags, held to the types of the message.
+//! Runs of characters and whole tags, held to the types of the message.
 ghost use Rattle.std.specs.Prelude.{◌≡◌, ◌++◌, ℕ, List, [], Some, OnOk, map};
 ghost use Rattle.lexical_core.specs.Tree.{Expanded, Starts, Char};
 ghost use Rattle.facets.specs.declared.simple.Simple.{Simple as SimpleType};

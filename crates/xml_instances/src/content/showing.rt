@@ -1,4 +1,4 @@
-// The pieces that events show, where they are kept.
+//! The pieces that events show, where they are kept.
 ghost use Rattle.std.specs.Prelude.{◌≡◌, ℕ, List, Option, Some, None, OnOk, IfSome, IsOk, false};
 ghost use Rattle.lexical_core.specs.Tree.{Expanded};
 ghost use Rattle.markup.specs.EventItems.{item_of};

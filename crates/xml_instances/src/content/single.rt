@@ -1,4 +1,4 @@
-// A single character, held to the types of the message.
+//! A single character, held to the types of the message.
 ghost use Rattle.std.specs.Prelude.{ℕ, List, OnOk};
 ghost use Rattle.lexical_core.specs.Tree.{Char};
 ghost use Rattle.message_model.specs.Tables.{message_of, types_of};
