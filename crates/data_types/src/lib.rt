@@ -1,5 +1,11 @@
 //! The kinds of data that elements without elements hold, and their texts (XML Schema part 2): `LeafStep` reads a leaf from
 //! its characters, one at a time or by runs, `push_leaf` and `push_escaped` push its canonical text.
+//!
+//! Of the kind `Decimal` the characters of ` 01.50 ` spell the number 1.5, whose canonical text is `1.5`; those of `1,5` answer
+//! the rule `BadText`. Of the kind `Text` each character counts, white space too.
+//!
+//! Limits: a decimal has at most 18 digits, and at most 18 after its point, else the rule is `Digits`. Years are 0001 to
+//! 9999, time zones at most 14 hours. Of a text that is longer than it may be no more is kept than it may have.
 #![tactic(auto)]
 
 mod booleans;

@@ -1,6 +1,13 @@
 //! Simple types with their facets (XML Schema part 2 §4.3): `LeafCheck` gives the leaf that characters spell, or the first
 //! rule that it breaks, `LeafVerdict` no more than whether there is one; `check_number`, `check_octets` and `check_code`
 //! judge a leaf that is known.
+//!
+//! Where a `Simple` of the kind `Text` asks for one to four characters, `EUR` is a leaf, the empty text and `EUROS` break
+//! `BadLength`. With the codes `EUR` and `USD` the first is the code 0, for codes are numbered in the order of their bytes,
+//! and `GBP` breaks `NotACode`: lengths and pattern count nowhere then. Facets of another kind count nowhere either.
+//!
+//! Limits: a simple type has fewer than 2^32 codes, and a total of at most 18 digits. A verdict keeps no text but what may
+//! still be a code.
 #![tactic(auto)]
 
 mod asked;
