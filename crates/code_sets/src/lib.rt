@@ -4,6 +4,11 @@
 //! [`pull_codes`] reads them from a source, or [`read_codes`] from bytes, and [`join`] puts them into a
 //! repository. Bytes and a repository have one answer: the repository that they make, or one first
 //! fault ([`laws`]).
+//!
+//! The two lines `Currency,EUR` and `Currency,USD` are two records, which give two codes to each code set of that name that
+//! has none. Where one has codes of its own, `join` answers rule 4 with the record 1; the line `EUR` alone breaks rule 1.
+//!
+//! Limits: there are at most 2^28 bytes. Nothing is trimmed, and names that no code set has count for nothing.
 #![tactic(auto)]
 
 mod errors;

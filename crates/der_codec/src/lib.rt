@@ -9,6 +9,9 @@
 //! the instance: it is a checker that appends them as the parts come (`values`, `pieces`, those of a component of the
 //! usual form as a whole, `shown`), and keeps no more of its input (`KeptPieces`).
 //!
+//! Of a message `Note` with a text `Id`, `feed` of `30 04 A0 02 81` answers the rule `UnexpectedTag` at 4 in
+//! `/Document[1]/Note[1]` with the last octet, whether they come at once or one by one: `Id` is the slot 0, and its tag 80.
+//!
 //! Tag numbers are below 2^14, lengths below 2^63.
 #![tactic(auto)]
 

@@ -6,6 +6,10 @@
 //! instance the parts show (`ShownPieces`), and the rule, the place and the path of what is wrong first
 //! (`Faults`). `laws` says that these agree.
 //!
+//! Of a message `Note` with a text `Id` the value whose `Id` is `A1` has the DER `30 06 A0 04 80 02 41 31`: `Document` is a
+//! sequence, and each slot has its number as a tag. Of `30 06 A0 04 80 02 41` the fault is `Truncated` at 7, of
+//! `30 04 A0 02 81 00` it is `UnexpectedTag` at 4 in `/Document[1]/Note[1]`.
+//!
 //! Tag numbers are below 2^14, lengths below 2^63.
 #![tactic(auto)]
 

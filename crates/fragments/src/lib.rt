@@ -2,7 +2,11 @@
 //! envelope holds in canonical XML and in DER (XML 1.0 §2, Namespaces in XML 1.0 §3 and §6; the order of
 //! attributes and the escapes as in Canonical XML 1.0 §2.3).
 //!
-//! `specs/` has the definitions: `Plain` says which trees these are, `Fragment` what their text is.
+//! `specs/` has the definitions: `Plain` says which trees these are, `Fragment` what their text is. An element `X` in the
+//! namespace `u:a`, with an attribute `b` in none and one `c` in `u:p`, is
+//! `<X xmlns="u:a" xmlns:a1="u:p" b="1" a1:c="2"></X>`, whatever prefixes it was read with.
+//!
+//! Nothing here runs but the empty functions of `laws`: `respell` writes fragments, and tells them.
 #![tactic(auto)]
 
 pub mod laws;

@@ -1,4 +1,12 @@
 //! Which objects of a repository a message reaches, and which rules they break.
+//!
+//! `reach` follows the references of a message, and gives the places of the objects that it reaches, in file order, or the
+//! lowest of the rules M1 to M11 that is broken, with the first object in file order that breaks it; `tail` asks M14 to M17 of
+//! what was reached. docs/FORMATS.md has the rules. Where an element names the id `_x`, which no entry has, `reach` answers
+//! `Broken` with the rule 3 and the id of the object that has the element; what the message does not reach may break any rule.
+//!
+//! `laws` says which objects have a finite instance. Limits: a list of elements may have any length here, for M17 is asked
+//! last; references are followed without recursion.
 #![tactic(auto)]
 
 mod breaker;

@@ -1,6 +1,11 @@
-//! `isorepo`: lists the messages of an ISO 20022 repository, and checks their instances.
+//! `isorepo`: lists the messages of an ISO 20022 repository, writes their schemas and modules, checks their instances, and
+//! brings these from XML into DER and back.
 //!
-//! The program opens what its words name, calls `repo_engine::run` once, and ends with its status.
+//! The program opens what its words name, calls `repo_engine::run` once, and ends with its status: 0 where the answer stands
+//! on standard output, else that of the line on standard error. `isorepo check-xml P - demo.001.001.01` with a note on
+//! standard input prints `accepted`. docs/FORMATS.md has the words, the lines and the numbers.
+//!
+//! Limits: words are UTF-8, else the status is 9. A file that cannot be opened is told by the status of a failed read.
 #![tactic(auto)]
 
 use outside::{ReadSource, WriteSink};
