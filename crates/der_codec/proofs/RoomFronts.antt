@@ -7,7 +7,7 @@ use Rattle.data_types.specs.Value as value
 use Rattle.data_types.specs.declared.kind.Kind.{Kind}
 use Rattle.data_types.specs.declared.kind.Kind.TheVariants as kind
 use Rattle.facets.specs.declared.simple.Simple.{Simple}
-use Rattle.inst_pool.specs.Pieces.{bytes_of, leaf_bytes}
+use Rattle.inst_pool.specs.Pieces.{Region, bytes_of, leaf_bytes}
 use Rattle.message_model.specs.Tables.{Tables, types_of, pieces_of}
 use Rattle.der_octets.specs.Octets.{Values, Nothing, Primitive, Constructed, octets, universal}
 use Rattle.der_octets.proofs.OneReading.{octets_same}
@@ -27,8 +27,11 @@ use Rattle.der_model.proofs.Continued.{front_more}
 use Rattle.der_model.proofs.ShownParts.{parts_then, first_part}
 use Rattle.der_model.proofs.ShownPieces.{instance_are, whole_shows_pieces, front_shows_pieces, show_one_pieces, parts_show_then}
 use Rattle.der_model.proofs.WholeValues.{values_of_whole, whole_values_of}
-use Rattle.der_codec.specs.Checking.{open_count}
+use Rattle.der_codec.specs.Checking.{HasFedDer, open_count}
+use Rattle.der_codec.specs.KeptPieces.{Shows}
+use Rattle.der_codec.specs.Levels.{inwards}
 use Rattle.der_codec.specs.Rooms.{contents_size, open_next, StaysOpen, IsEnough, BeginsEnough}
+use Rattle.der_codec.specs.declared.checker.DerChecker.{DerChecker}
 use Rattle.der_codec.specs.declared.room.Room.{Room}
 use Rattle.der_codec.proofs.Growing.{bytes_append}
 
@@ -211,6 +214,27 @@ due_contents m spot names count around at bytes [] end (p, q, r) = absurd (let e
 due_contents m spot names count around at bytes (states.Contents o ∷ later) end (after, is, st, up, cl, f) = (omega (arith, st), held_primitive m (structure m spot) o cl)
 due_contents m spot names count around at bytes (p ∷ later) end (after, is, st, up, cl, f) = absurd st
 
+-- ---- what is kept
+
+-- What parts show that were read is a front of the pieces of each instance whose DER begins so.
+shown_front : (T : Tables) (bytes more : List ℕ) (ps : List Part) (state : State ℕ) (at : ℕ) (rest : List ℕ) (shown : List Piece) (v : Value) → IsSoundDer (der_message T) → length (bytes ++ more) < 2 ^ 63 → SpellsDer (der_message T) (bytes ++ more) v
+    → DerFront (der_message T) Start 0 bytes ps state at rest → PartsShow (der_message T) Start 0 ps shown → (later : List Piece) × (pieces_of fragment T v ≡ shown ++ later)
+shown_front T bytes more ps state at rest shown v sound short spelled front show =
+    let m = der_message T in
+    let parts = whole_parts T (bytes ++ more) v sound short spelled in
+    let whole = parts.whole in
+    let f = further m Start 0 (bytes ++ more) ps whole.parts state at (rest ++ more) whole.at (front_more m Start 0 bytes ps state at rest more front) whole.front in
+    let last = front_shows_pieces m state (Within []) at whole.at (rest ++ more) [] f.later f.front in
+    (last.0, show_one_pieces m Start 0 (ps ++ f.later) _ _ (subst (λ z. PartsShow m Start 0 z (pieces_of fragment T v)) f.are parts.show) (parts_show_then m Start state 0 at bytes rest ps f.later shown last.0 front show last.1))
+
+pub kept_front : (T : Tables) (checker : DerChecker) (bytes behind : List ℕ) (kept : Region) (v : Value) → IsSoundDer (der_message T) → HasFedDer checker T bytes → checker.pieces ≡ Some kept
+    → length (bytes ++ behind) < 2 ^ 63 → SpellsDer (der_message T) (bytes ++ behind) v → (later : List Piece) × (pieces_of fragment T v ≡ kept.pieces ++ later)
+kept_front T checker bytes behind kept v sound h is short spelled =
+    let r = h.reading.read in
+    let d = checker.decoder in
+    let shows = subst (λ z. Shows (der_message T) (inwards d.levels.items) d.due d.start d.place z bytes) is h.reading.shows in
+    shown_front T bytes behind r.parts r.state r.at r.rest kept.pieces v sound short spelled r.front (shows r)
+
 -- ---- what the room is enough for
 
 -- The room is enough for what was read, which shows these pieces, and for the contents that are due.
@@ -223,7 +247,7 @@ pub record FrontEnough (m : DerMessage ℕ) (room : Room) (state : State ℕ) (s
 pub front_enough : (T : Tables) (room : Room) (bytes more : List ℕ) (ps : List Part) (state : State ℕ) (at : ℕ) (rest : List ℕ) (shown : List Piece) → IsSoundDer (der_message T) → BeginsEnough T room (bytes ++ more) → DerFront (der_message T) Start 0 bytes ps state at rest
     → PartsShow (der_message T) Start 0 ps shown → FrontEnough (der_message T) room state shown
 front_enough T room bytes more ps state at rest shown sound b front show = record {
-  nodes = (let e = ap length pieces in let sum = length-append shown last.0 in let all = b.enough.nodes in omega (arith, e, sum, all));
+  nodes = (let e = ap length is_front.1 in let sum = length-append shown is_front.0 in let all = b.enough.nodes in omega (arith, e, sum, all));
   bytes = (let few = parts_bytes m Start 0 ps shown show in let sum = contents_append ps f.later in let all = b.enough.bytes in let e = size in omega (arith, few, sum, all, e));
   depth = stays_front m Start 0 room.depth bytes ps f.later state at rest front (subst (StaysOpen room.depth 0) (sym same) b.enough.depth);
   contents = λ spot names count around e.
@@ -255,8 +279,8 @@ front_enough T room bytes more ps state at rest shown sound b front show = recor
     size : contents_size (ps ++ f.later) ≡ contents_size (parts_of (der_values m b.value))
     size = sym (contents_without (ps ++ f.later)) ∙ ap contents_size same
 
-    last : (more : List Piece) × PartsShow m state at f.later more
-    last = front_shows_pieces m state (Within []) at whole.at (rest ++ others) [] f.later f.front
+    one : (bytes ++ more) ++ b.behind ≡ bytes ++ others
+    one = append_assoc bytes more b.behind
 
-    pieces : pieces_of fragment T b.value ≡ shown ++ last.0
-    pieces = show_one_pieces m Start 0 (ps ++ f.later) _ _ (subst (λ z. PartsShow m Start 0 z (pieces_of fragment T b.value)) f.are parts.show) (parts_show_then m Start state 0 at bytes rest ps f.later shown last.0 front show last.1)
+    is_front : (later : List Piece) × (pieces_of fragment T b.value ≡ shown ++ later)
+    is_front = shown_front T bytes others ps state at rest shown b.value sound (subst (λ z. length z < 2 ^ 63) one b.short) (subst (λ z. SpellsDer m z b.value) one b.spelled) front show

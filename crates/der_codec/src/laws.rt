@@ -1,10 +1,15 @@
 //! Laws on what a checker was given, and on where its faults are told: each is the contract of a function that does nothing.
-ghost use Rattle.der_codec.specs.Laws.{OnlyDerCut};
+ghost use Rattle.der_codec.specs.Laws.{OnlyDerCut, KeepsAFront};
 ghost use Rattle.der_codec.specs.ReadyLaws.{ReadyDerTellsAtOnce, ReadyFedDerIsOpen, ReadyFaultIsAtPart};
 
 /// What a checker was given has no fault but that it may end too early.
 pub fn only_cut()
     ensures { OnlyDerCut }
+{}
+
+/// What a reader keeps is a front of the pieces of each instance whose DER begins with the bytes that it was given.
+pub fn what_is_kept_is_a_front()
+    ensures { KeepsAFront }
 {}
 
 /// In a message that breaks no rule of its repository a fault is told at its part: behind parts that break no rule, one
