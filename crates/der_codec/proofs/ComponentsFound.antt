@@ -11,16 +11,10 @@ use Rattle.reference_check.specs.Forms.{Graph, Slot}
 use Rattle.der_model.specs.Structures.{Component, Label, Element, Listed, is_single, component, components, amount_components}
 use Rattle.der_model.specs.States.{IdentifierAnswer, Begins, Breaks, Fine, EndBreaks, is_under, field_answer, any_answer, field_end, skipping, missing_text}
 use Rattle.std.proofs.Math.ListN.{length-drop}
-use Rattle.std.proofs.lemmas.Bool.{cases_lt}
+use Rattle.std.proofs.lemmas.Bool.{cases_lt, cond-true, cond-false}
 use Rattle.der_model.proofs.Fields.{under_own, under_other, any_found}
 use Rattle.der_model.proofs.WholeValues.{under_same}
 use Rattle.der_codec.specs.Components.{has_to_come, NoneDue, IsDue}
-
-if_true : {A : Type 0} (b : Bool) (x y : A) → b ≡ true → (if b then x else y) ≡ x
-if_true b x y e = rw e refl
-
-if_false : {A : Type 0} (b : Bool) (x y : A) → b ≡ false → (if b then x else y) ≡ y
-if_false b x y e = rw e refl
 
 pub drop_components : {P : Type 0} (g : Graph P Simple) (p : P) (n i j : ℕ) (fs : List (Slot P)) → i + n ≡ j → drop n (components g p i fs) ≡ components g p j (drop n fs)
 drop_components g p zero i j fs e = (let same : i ≡ j = omega arith in ap (λ z. components g p z fs) same)
@@ -54,13 +48,13 @@ pub field_none : {P : Type 0} (g : Graph P Simple) (p : P) (i : ℕ) (fs : List 
 field_none g p i [] b t none = refl
 field_none g p i (s ∷ fs) b t none =
     let rest = field_none g p (suc i) fs b t (later_under g p i s fs b t none) in
-    if_false (is_under (component g p i s) b t) _ _ (first_under g p i s fs b t none)
+    cond-false (is_under (component g p i s) b t) _ _ (first_under g p i s fs b t none)
     ∙ (ap (λ z. if (component g p i s).required then skipping (component g p i s).label z else z) rest ∙ either_way (component g p i s).required)
 
 pub any_none : {P : Type 0} (g : Graph P Simple) (p : P) (i : ℕ) (fs : List (Slot P)) (b : Bool) (t : Tag) → NoneUnder g p i fs b t → any_answer i (components g p i fs) b t ≡ Breaks UnexpectedTag []
 any_none g p i [] b t none = refl
 any_none g p i (s ∷ fs) b t none =
-    if_false (is_under (component g p i s) b t) _ _ (first_under g p i s fs b t none) ∙ any_none g p (suc i) fs b t (later_under g p i s fs b t none)
+    cond-false (is_under (component g p i s) b t) _ _ (first_under g p i s fs b t none) ∙ any_none g p (suc i) fs b t (later_under g p i s fs b t none)
 
 -- what is added for a slot's component
 pub missing_slot : {P : Type 0} (g : Graph P Simple) (p : P) (i : ℕ) (s : Slot P) → missing_text (component g p i s).label ≡ 47 ∷ s.tag
@@ -82,10 +76,10 @@ field_found g p [] i d j s e is none = absurd cc
 field_found g p (f ∷ fs) i zero j s e is none =
     let same : f ≡ s = cc in
     let here : i ≡ j = omega arith in
-    rw (here, same) (if_true (is_under (component g p j s) (component g p j s).constructed (context j)) (Begins j (component g p j s)) _ (under_own (component g p j s)))
+    rw (here, same) (cond-true (is_under (component g p j s) (component g p j s).constructed (context j)) (Begins j (component g p j s)) _ (under_own (component g p j s)))
 field_found g p (f ∷ fs) i (suc d) j s e is none =
-    if_false (is_under (component g p i f) (component g p j s).constructed (context j)) _ _ (under_other (component g p i f) i j (component g p j s).constructed refl (omega arith))
-    ∙ (if_false (has_to_come f) _ _ (first_none d f fs none) ∙ field_found g p fs (suc i) d j s (omega arith) is (none_later d f fs none))
+    cond-false (is_under (component g p i f) (component g p j s).constructed (context j)) _ _ (under_other (component g p i f) i j (component g p j s).constructed refl (omega arith))
+    ∙ (cond-false (has_to_come f) _ _ (first_none d f fs none) ∙ field_found g p fs (suc i) d j s (omega arith) is (none_later d f fs none))
 
 -- what is found behind some that have to come
 pub data Behind (x : IdentifierAnswer ℕ) : Type 0 where
@@ -101,12 +95,12 @@ behind g p [] i d j s e is = absurd cc
 behind g p (f ∷ fs) i zero j s e is = begins j (component g p j s) (
     let same : f ≡ s = cc in
     let here : i ≡ j = omega arith in
-    rw (here, same) (if_true (is_under (component g p j s) (component g p j s).constructed (context j)) (Begins j (component g p j s)) _ (under_own (component g p j s))))
+    rw (here, same) (cond-true (is_under (component g p j s) (component g p j s).constructed (context j)) (Begins j (component g p j s)) _ (under_own (component g p j s))))
 behind g p (f ∷ fs) i (suc d) j s e is =
     let rest = behind g p fs (suc i) d j s (omega arith) is in
     let later = field_answer (suc i) (components g p (suc i) fs) (component g p j s).constructed (context j) in
     let here : field_answer i (components g p i (f ∷ fs)) (component g p j s).constructed (context j) ≡ (if has_to_come f then skipping (component g p i f).label later else later) =
-    if_false (is_under (component g p i f) (component g p j s).constructed (context j)) _ _ (under_other (component g p i f) i j (component g p j s).constructed refl (omega arith)) in
+    cond-false (is_under (component g p i f) (component g p j s).constructed (context j)) _ _ (under_other (component g p i f) i j (component g p j s).constructed refl (omega arith)) in
     subst Behind (sym here) (either (has_to_come f) (component g p i f).label later rest)
   where
     either : (r : Bool) (label : Label) (x : IdentifierAnswer ℕ) → Behind x → Behind (if r then skipping label x else x)
@@ -121,24 +115,24 @@ field_due g p (f ∷ fs) i (suc d) j zero s q sum is low due comes none =
     let same : f ≡ q = cc in
     let later = field_answer (suc i) (components g p (suc i) fs) (component g p j s).constructed (context j) in
     let text : missing_text (component g p i f).label ≡ 47 ∷ q.tag = missing_slot g p i f ∙ ap (λ (z : Slot ℕ). 47 ∷ z.tag) same in
-    if_false (is_under (component g p i f) (component g p j s).constructed (context j)) _ _ (under_other (component g p i f) i j (component g p j s).constructed refl (omega arith))
-    ∙ (if_true (has_to_come f) _ _ (ap has_to_come same ∙ comes) ∙ (skipped (component g p i f).label later (behind g p fs (suc i) d j s (omega arith) is) ∙ ap (Breaks DerMissing) text))
+    cond-false (is_under (component g p i f) (component g p j s).constructed (context j)) _ _ (under_other (component g p i f) i j (component g p j s).constructed refl (omega arith))
+    ∙ (cond-true (has_to_come f) _ _ (ap has_to_come same ∙ comes) ∙ (skipped (component g p i f).label later (behind g p fs (suc i) d j s (omega arith) is) ∙ ap (Breaks DerMissing) text))
 field_due g p (f ∷ fs) i (suc d) j (suc e) s q sum is low due comes none =
-    if_false (is_under (component g p i f) (component g p j s).constructed (context j)) _ _ (under_other (component g p i f) i j (component g p j s).constructed refl (omega arith))
-    ∙ (if_false (has_to_come f) _ _ (first_none e f fs none) ∙ field_due g p fs (suc i) d j e s q (omega arith) is (omega arith) due comes (none_later e f fs none))
+    cond-false (is_under (component g p i f) (component g p j s).constructed (context j)) _ _ (under_other (component g p i f) i j (component g p j s).constructed refl (omega arith))
+    ∙ (cond-false (has_to_come f) _ _ (first_none e f fs none) ∙ field_due g p fs (suc i) d j e s q (omega arith) is (omega arith) due comes (none_later e f fs none))
 
 -- the end of a sequence
 pub end_none : (g : Graph ℕ Simple) (p : ℕ) (fs : List (Slot ℕ)) (i : ℕ) → NoneDue fs 0 (length fs) → field_end (components g p i fs) ≡ Fine
 end_none g p [] i none = refl
-end_none g p (f ∷ fs) i none = if_false (has_to_come f) _ _ (none 0 f (omega arith) (omega arith) refl) ∙ end_none g p fs (suc i) (λ k s low high e. none (suc k) s (omega arith) (omega arith) e)
+end_none g p (f ∷ fs) i none = cond-false (has_to_come f) _ _ (none 0 f (omega arith) (omega arith) refl) ∙ end_none g p fs (suc i) (λ k s low high e. none (suc k) s (omega arith) (omega arith) e)
 
 pub end_due : (g : Graph ℕ Simple) (p : ℕ) (fs : List (Slot ℕ)) (i e : ℕ) (q : Slot ℕ) → slice_get fs e ≡ Some q → has_to_come q ≡ true → NoneDue fs 0 e → field_end (components g p i fs) ≡ EndBreaks DerMissing (47 ∷ q.tag)
 end_due g p [] i e q is comes none = absurd cc
 end_due g p (f ∷ fs) i zero q is comes none =
     let same : f ≡ q = cc in
     let text : missing_text (component g p i f).label ≡ 47 ∷ q.tag = missing_slot g p i f ∙ ap (λ (z : Slot ℕ). 47 ∷ z.tag) same in
-    if_true (has_to_come f) _ _ (ap has_to_come same ∙ comes) ∙ ap (EndBreaks DerMissing) text
-end_due g p (f ∷ fs) i (suc e) q is comes none = if_false (has_to_come f) _ _ (first_none e f fs none) ∙ end_due g p fs (suc i) e q is comes (none_later e f fs none)
+    cond-true (has_to_come f) _ _ (ap has_to_come same ∙ comes) ∙ ap (EndBreaks DerMissing) text
+end_due g p (f ∷ fs) i (suc e) q is comes none = cond-false (has_to_come f) _ _ (first_none e f fs none) ∙ end_due g p fs (suc i) e q is comes (none_later e f fs none)
 
 -- the same from the number that is next
 pub due_from : (fs : List (Slot ℕ)) (n d : ℕ) → NoneDue fs n (n + d) → NoneDue (drop n fs) 0 d
@@ -200,7 +194,7 @@ anys_found g p fs at s b t tag is form =
 field_nothing : (k : ℕ) (cs : List (Component ℕ)) (b : Bool) (t : Tag) → ((d : ℕ) (c : Component ℕ) → slice_get cs d ≡ Some c → is_under c b t ≡ false) → field_answer k cs b t ≡ Breaks UnexpectedTag []
 field_nothing k [] b t none = refl
 field_nothing k (c ∷ cs) b t none =
-    if_false (is_under c b t) _ _ (none 0 c refl)
+    cond-false (is_under c b t) _ _ (none 0 c refl)
     ∙ (ap (λ z. if c.required then skipping c.label z else z) (field_nothing (suc k) cs b t (λ d e is. none (suc d) e is)) ∙ either_way c.required)
 
 refused : (c : Component ℕ) (b : Bool) (t : Tag) → (c.constructed ≡ b → c.tag ≡ t → ⊥) → is_under c b t ≡ false

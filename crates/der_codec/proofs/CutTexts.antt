@@ -3,6 +3,7 @@ use Rattle.std.proofs.Common.{◌≡◌, ℕ, zero, suc, ◌+◌, ◌-◌, ◌*�
 use Rattle.std.specs.List.{AllByRecursion}
 use Rattle.std.specs.Prelude.{Some}
 use Rattle.std.proofs.lemmas.List.{take-append-drop, take-append-le, length-drop, length-take-le, length-replicate, take_at}
+use Rattle.std.proofs.Math.Seq.{take-add}
 use Rattle.std.proofs.lemmas.Str.{encode_same, encode_ascii, encodes-append, cons_from_encodes, length-encode, len_utf8_bounds}
 use Rattle.lexical_core.specs.Characters.{IsXmlChar, IsXmlText}
 use Rattle.lexical_core.specs.XmlRuns.{IsXmlRun, IsPlainXmlByte}
@@ -94,17 +95,6 @@ no_nul more (c ∷ cs, all, e) =
     let same = encode_same c 0 (encode_utf8_all cs) more (e ∙ sym (ap (λ z. z ++ more) zero_is)) in
     nul_is_none (subst IsXmlChar same.0 all.0)
 
-take_more : (n k : ℕ) (xs : List ℕ) → take (n + k) xs ≡ take n xs ++ take k (drop n xs)
-take_more zero k xs = (let z : 0 + k ≡ k = omega arith in ap (λ m. take m xs) z)
-take_more (suc n) k [] = nothing (suc n + k) k
-  where
-    nothing : (a b : ℕ) → take {A = ℕ} a [] ≡ take {A = ℕ} b []
-    nothing zero zero = refl
-    nothing zero (suc b) = refl
-    nothing (suc a) zero = refl
-    nothing (suc a) (suc b) = refl
-take_more (suc n) k (x ∷ xs) = (let s : suc n + k ≡ suc (n + k) = omega arith in ap (λ m. take m (x ∷ xs)) s ∙ ap (λ z. x ∷ z) (take_more n k xs))
-
 -- four octets behind the longest run begin no character
 pub none_comes : (octets : List ℕ) (bytes count : ℕ) → IsXmlRun (take bytes octets) count → ((n : ℕ) → n ≤ length octets → IsXmlText (take n octets) → n ≤ bytes) → 3 < length octets - bytes
     → (more : List ℕ) → IsXmlText (octets ++ more) → ⊥
@@ -122,7 +112,7 @@ none_comes octets bytes count run longest some more t =
         let fits : k ≤ length (drop bytes octets) = omega (arith, bounds.0, bounds.1, is, size, some) in
         let front : take k (drop bytes octets) ≡ encode_utf8 c = sym (take-append-le k (drop bytes octets) more fits) ∙ (ap (take k) (sym e) ∙ take_at (encode_utf8 c) (encode_utf8_all cs) k refl) in
         let text : IsXmlText (take bytes octets ++ take k (drop bytes octets)) = text_both (take bytes octets) (take k (drop bytes octets)) count run (c ∷ [], (all.0, tt), append-nil (encode_utf8 c) ∙ sym front) in
-        let no = longest (bytes + k) (omega (arith, fits, size, some)) (subst IsXmlText (sym (take_more bytes k octets)) text) in
+        let no = longest (bytes + k) (omega (arith, fits, size, some)) (subst IsXmlText (sym (take-add bytes k octets)) text) in
         omega (arith, no, bounds.0, is)
 
 -- ---- spaces

@@ -1,6 +1,7 @@
 -- What a checker was given, and what it then tells.
 use Rattle.std.specs.Prelude.{Ok, Err}
 use Rattle.std.proofs.Common.{◌≡◌, ◌≢◌, ℕ, zero, suc, ◌+◌, ◌-◌, ◌≤◌, ◌<◌, ◌^◌, List, [], ◌∷◌, ◌++◌, length, take, drop, Option, refl, sym, ap, ◌∙◌, subst, arith, append-nil, append_assoc, length-append, ◌⊎◌, inl, inr}
+use Rattle.std.proofs.Math.Seq.{take-add}
 use Rattle.lexical_core.specs.declared.rule.Rule.{Rule}
 use Rattle.lexical_core.specs.declared.rule.Rule.TheVariants.{DerTruncated}
 use Rattle.message_model.specs.Tables.{Tables, types_of}
@@ -290,20 +291,10 @@ none_more T d kept pieces bytes behind h = subst (IsReading T d kept pieces) (sy
 pub further_stops : (T : Tables) (d : Decoder) (bytes front behind all : List ℕ) (s : Stop) → all ≡ front ++ behind → StopsWithin T d (bytes ++ front) s → StopsWithin T d (bytes ++ all) s
 further_stops T d bytes front behind all s is h = within_more T d (bytes ++ front) behind (bytes ++ all) s (ap (λ z. bytes ++ z) is ∙ sym (append_assoc bytes front behind)) h
 
-take_none : (n : ℕ) → take {A = ℕ} n [] ≡ []
-take_none zero = refl
-take_none (suc n) = refl
-
--- a front, and a front of what is behind it
-take_further : (n k : ℕ) (xs : List ℕ) → take (n + k) xs ≡ take n xs ++ take k (drop n xs)
-take_further zero k xs = (let e : 0 + k ≡ k = omega arith in ap (λ z. take z xs) e)
-take_further (suc n) k [] = take_none (suc n + k) ∙ sym (take_none k)
-take_further (suc n) k (x ∷ xs) = (let e : suc n + k ≡ suc (n + k) = omega arith in ap (λ z. take z (x ∷ xs)) e ∙ ap (λ z. x ∷ z) (take_further n k xs))
-
 pub taken_further : (T : Tables) (d : Decoder) (kept : List ℕ) (pieces : Option Region) (bytes behind left : List ℕ) (n k : ℕ) → left ≡ drop n behind → IsReading T d kept pieces ((bytes ++ take n behind) ++ take k left)
     → IsReading T d kept pieces (bytes ++ take (n + k) behind)
 taken_further T d kept pieces bytes behind left n k is h =
-    subst (IsReading T d kept pieces) (append_assoc bytes (take n behind) (take k left) ∙ ap (λ z. bytes ++ z) (ap (λ z. take n behind ++ take k z) is ∙ sym (take_further n k behind))) h
+    subst (IsReading T d kept pieces) (append_assoc bytes (take n behind) (take k left) ∙ ap (λ z. bytes ++ z) (ap (λ z. take n behind ++ take k z) is ∙ sym (take-add n k behind))) h
 
 pub stopped_further : (T : Tables) (d : Decoder) (bytes behind left : List ℕ) (n : ℕ) (s : Stop) → left ≡ drop n behind → StopsWithin T d ((bytes ++ take n behind) ++ left) s → StopsWithin T d (bytes ++ behind) s
 stopped_further T d bytes behind left n s is h =

@@ -3,7 +3,8 @@ use Rattle.std.proofs.Common.{◌≡◌, ℕ, zero, suc, ◌+◌, ◌<◌, ◌�
 use Rattle.data_types.specs.Leaf.{Leaf}
 use Rattle.data_types.specs.Value.{Value, Edge, Piece, Begins, Holds, Ends}
 use Rattle.fragments.specs.Fragment.{fragment}
-use Rattle.inst_pool.specs.Pieces.{open_in, edges_open_behind}
+use Rattle.inst_pool.specs.Pieces.{open_in}
+use Rattle.inst_pool.proofs.ContentLemmas.{open-append}
 use Rattle.message_model.specs.Tables.{pieces_of, pieces, types_of}
 use Rattle.drill.specs.BuiltIn.{drill_tables}
 use Rattle.drill.specs.Growing.{OpenNode, Path, with_below, node, path_outside, path_outside_from, path_after, path_under, tree_of, tree_of_from, document}
@@ -40,20 +41,14 @@ all_closed inner = ap (λ ps. Begins message_edge ∷ (Begins root_edge ∷ ps))
 
 -- ---- the elements that are open
 
-open_then : (outer : List Edge) (a b : List Piece) → edges_open_behind outer (a ++ b) ≡ edges_open_behind (edges_open_behind outer a) b
-open_then outer [] b = refl
-open_then outer (Begins e ∷ a) b = open_then (e ∷ outer) a b
-open_then outer (Holds l ∷ a) b = open_then outer a b
-open_then outer (Ends e ∷ a) b = open_then (drop 1 outer) a b
-
 pub begun_open : (old new : List Piece) (e : Edge) → new ≡ old ++ Begins e ∷ [] → open_in new ≡ e ∷ open_in old
-begun_open old new e is = ap open_in is ∙ open_then [] old (Begins e ∷ [])
+begun_open old new e is = ap open_in is ∙ open-append [] old (Begins e ∷ [])
 
 pub held_open : (old new : List Piece) (l : Leaf) → new ≡ old ++ Holds l ∷ [] → open_in new ≡ open_in old
-held_open old new l is = ap open_in is ∙ open_then [] old (Holds l ∷ [])
+held_open old new l is = ap open_in is ∙ open-append [] old (Holds l ∷ [])
 
 pub ended_open : (old new : List Piece) (e first : Edge) (outer : List Edge) → new ≡ old ++ Ends e ∷ [] → open_in old ≡ first ∷ outer → open_in new ≡ outer
-ended_open old new e first outer is around = ap open_in is ∙ (open_then [] old (Ends e ∷ []) ∙ ap (drop 1) around)
+ended_open old new e first outer is around = ap open_in is ∙ (open-append [] old (Ends e ∷ []) ∙ ap (drop 1) around)
 
 pub some_open : (pieces : List Piece) (e : Edge) (outer : List Edge) → open_in pieces ≡ e ∷ outer → 0 < length (open_in pieces)
 some_open pieces e outer is = rw is (omega arith)

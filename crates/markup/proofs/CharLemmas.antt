@@ -1,11 +1,12 @@
 -- The classes of characters that do not meet.
-use Rattle.std.proofs.Common.{◌≡◌, ◌↔◌, ℕ, Bool, true, false, ◌||◌, ◌==◌, List, [], ◌∷◌, ◌≤◌, ◌⊎◌, inl, inr, refl, sym, arith}
-use Rattle.std.specs.Char.{is_digit, to_ascii_lowercase, IsScalar}
+use Rattle.std.proofs.Common.{◌≡◌, ◌↔◌, ℕ, Bool, true, false, ◌||◌, ◌==◌, List, [], ◌∷◌, length, ◌≤◌, ◌⊎◌, inl, inr, refl, sym, arith}
+use Rattle.std.specs.Char.{is_digit, to_ascii_lowercase, IsScalar, encode_utf8}
 use Rattle.std.specs.Prelude.{None}
 use Rattle.markup.specs.ReferenceScans.{numbered_char}
 use Rattle.std.specs.Int.{is_in_range}
 use Rattle.std.proofs.lemmas.Bool.{or_left, or_right, or_cases, and_parts, and_from, leb-true, le-leb, true≢false, cases_Bool}
 use Rattle.std.proofs.lemmas.Bool.Decides.{nat_tests}
+use Rattle.std.proofs.lemmas.Str.{length-encode, len_utf8_bounds}
 use Rattle.markup.specs.Chars.{is_xml_char, is_name_start, is_name_char, is_space, in_some, xml_ranges, name_start_ranges, name_more_ranges, AreClasses}
 use Rattle.lexical_core.specs.Characters.{IsInSome, IsXmlChar, IsNameStart, IsNameChar}
 
@@ -84,6 +85,10 @@ xml_in_name = (refl, refl, refl)
 pub question_no_name : is_name_char 63 ≡ false
 unfolding is_name_char is_name_start
 question_no_name = refl
+
+-- each character takes at least one byte
+pub some_bytes : (c : ℕ) → 1 ≤ length (encode_utf8 c)
+some_bytes c = omega (arith, length-encode c, len_utf8_bounds c)
 
 range_in : (lo hi c : ℕ) → is_in_range lo hi c ≡ true → (lo ≤ c) × (c ≤ hi)
 range_in lo hi c h = (leb-true lo c (and_parts _ _ h).0, leb-true c hi (and_parts _ _ h).1)

@@ -3,7 +3,7 @@ use Rattle.std.proofs.Common.{◌≡◌, ℕ, zero, suc, Bool, true, false, ◌=
 use Rattle.std.specs.Char.{encode_utf8}
 use Rattle.std.specs.Str.{encode_utf8_all}
 use Rattle.std.specs.List.{AllByRecursion}
-use Rattle.std.proofs.lemmas.Bool.{and_parts, both_ways, eqb-true}
+use Rattle.std.proofs.lemmas.Bool.{and_parts, and_from, both_ways, eqb-true}
 use Rattle.std.proofs.lemmas.List.{length-take-le}
 use Rattle.std.proofs.lemmas.Bool.Decides.{nat_tests}
 use Rattle.lexical_core.specs.Tree.{Char}
@@ -222,9 +222,6 @@ inside_ready r bytes told h =
     let begun : r.tokenizer.place ≡ r.tokenizer.start = k.place ∙ (ap length (sym h.2) ∙ sym (starts r bytes ts told k)) in
     let none = no_chars o.chars o.part (ap length (sym o.bytes_are) ∙ count r.tokenizer.place r.tokenizer.start (length k.reads.bytes) o.place_is begun) in
     let scan_is : (Begin (position (reverse ts)) ≡ r.tokenizer.scan) × (no_draft ≡ r.tokenizer.draft) = at_same (Begin (position (reverse ts))) r.tokenizer.scan no_draft r.tokenizer.draft (ap (run (Begin (position (reverse ts))) no_draft) (sym none.0) ∙ o.scan_is) in
-    both (is_between r.tokenizer.scan) (r.tokenizer.place == r.tokenizer.start) (ap is_between (sym scan_is.0) ∙ inside_between (reverse ts) h.3) (subst (λ v. (r.tokenizer.place == v) ≡ true) begun (same_place r.tokenizer.place)) where
+    and_from (is_between r.tokenizer.scan) (r.tokenizer.place == r.tokenizer.start) (ap is_between (sym scan_is.0) ∙ inside_between (reverse ts) h.3) (subst (λ v. (r.tokenizer.place == v) ≡ true) begun (same_place r.tokenizer.place)) where
       count : (p s n : ℕ) → p ≡ s + n → p ≡ s → n ≡ 0
       count p s n h k = omega arith
-
-      both : (x y : Bool) → x ≡ true → y ≡ true → (x && y) ≡ true
-      both x y e f = cc

@@ -33,6 +33,7 @@ use Rattle.markup.specs.declared.scan.Scan.{Scan}
 use Rattle.markup.specs.declared.scan.Scan.TheVariants.{Begin, Reference as InReference, Opened, StartName, Gap, AttributeName, BeforeEquals, AfterEquals, Value, ValueReference, AfterValue, Slash, EndOpened, EndName, EndGap}
 use Rattle.markup.specs.declared.scan.Turn.{Turn}
 use Rattle.markup.specs.declared.scan.Turn.TheVariants.{Goes, Whole, Stuck}
+use Rattle.markup.proofs.CharLemmas.{some_bytes}
 use Rattle.markup.proofs.Placed.{is_other, other_goes, other_turn, Placed as ScanPlaced, run_placed}
 use Rattle.markup.proofs.PlainLemmas.{at_same}
 
@@ -131,9 +132,6 @@ reference_pays Hash c = pi Hash (c == 120) (Continues HashX) (first_digit Decima
 reference_pays HashX c = hexadecimal_first (digit_step 16 0 c)
 reference_pays (Decimal n) c = decimal_more n c (digit_step 10 n c)
 reference_pays (Hexadecimal n) c = hexadecimal_more n c (digit_step 16 n c)
-
-some_bytes : (c : ℕ) → 1 ≤ length (encode_utf8 c)
-some_bytes c = omega (arith, length-encode c, len_utf8_bounds c)
 
 given_within : (r : ReferenceScan) (c : ℕ) → length (given_char r c) ≤ credit_of r + length (encode_utf8 c)
 given_within r c = by (reference_step r c) (reference_pays r c).is where

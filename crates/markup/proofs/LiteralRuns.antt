@@ -14,7 +14,7 @@ use Rattle.lexical_core.specs.Utf8.{Steps}
 use Rattle.lexical_core.specs.declared.utf8.Utf8.TheVariants.{More, Char}
 use Rattle.markup.specs.Chars.{is_xml_char, is_space}
 use Rattle.lexical_core.proofs.ByteForms.{Spells, spells_2, spells_3}
-use Rattle.markup.proofs.CharLemmas.{classes}
+use Rattle.markup.proofs.CharLemmas.{classes, some_bytes}
 use Rattle.markup.specs.Literals.{is_literal, is_still_space, IsLiteral, IsOfText, IsFreeRun, IsAt, IsWideAt}
 
 -- so many bytes of the piece have come, which are a front of one character
@@ -196,16 +196,13 @@ walked_plain piece bytes characters n rest after w p h e =
     (sym (take-append-drop n rest) ∙ (ap (λ v. v ++ drop n rest) (sym f.0) ∙ ap (λ v. encode_utf8_all (take n rest) ++ v) (sym e)))
     (ap length f.0 ∙ l) l (omega arith)
 
-size_above : (c n : ℕ) → length (encode_utf8 c) ≡ n → 1 ≤ n
-size_above c n h = omega (arith, h, length-encode c, len_utf8_bounds c)
-
 wide_rest : (size : ℕ) (rest after : List ℕ) (a : IsAt rest size) → after ≡ drop size rest → after ≡ a.rest
 wide_rest size rest after a e = e ∙ (ap (λ n. drop n rest) (sym a.size_is) ∙ (ap (drop (length (encode_utf8 a.char))) a.joined ∙ drop-append_seam (encode_utf8 a.char) a.rest))
 
 pub is_shorter : (size : ℕ) (rest after : List ℕ) → IsWideAt rest size → after ≡ drop size rest → length after < length rest
 is_shorter size rest after w e =
     let a = w.is_at in
-    omega (arith, ap length (wide_rest size rest after a e), ap length a.joined, length-append (encode_utf8 a.char) a.rest, a.size_is, size_above a.char size a.size_is)
+    omega (arith, ap length (wide_rest size rest after a e), ap length a.joined, length-append (encode_utf8 a.char) a.rest, a.size_is, some_bytes a.char)
 
 -- a character of several bytes
 pub walked_wide : (piece : List ℕ) (bytes characters size : ℕ) (rest after : List ℕ) → IsWalked piece bytes characters rest → IsWideAt rest size → after ≡ drop size rest → IsWalked piece (bytes + size) (characters + 1) after
@@ -214,7 +211,7 @@ walked_wide piece bytes characters size rest after w a e =
     let none : encode_utf8_all (c ∷ []) ≡ encode_utf8 c = append-nil (encode_utf8 c) in
     walked_on piece bytes characters size 1 rest after (c ∷ []) w (inr (a.wide, a.is_at.allowed), tt)
     (a.is_at.joined ∙ (ap (λ v. v ++ a.is_at.rest) (sym none) ∙ ap (λ v. encode_utf8_all (c ∷ []) ++ v) (sym (wide_rest size rest after a.is_at e))))
-    (ap length none ∙ a.is_at.size_is) refl (size_above c size a.is_at.size_is)
+    (ap length none ∙ a.is_at.size_is) refl (subst (λ n. 1 ≤ n) a.is_at.size_is (some_bytes c))
 
 pub walked_run : (piece : List ℕ) (bytes characters : ℕ) (rest : List ℕ) → IsWalked piece bytes characters rest → IsFreeRun (take bytes piece) characters
 walked_run piece bytes characters rest w = subst (λ v. IsFreeRun v characters) (sym front) w.run where

@@ -6,7 +6,7 @@ use Rattle.std.specs.Int.{is_in_range}
 use Rattle.std.specs.List.{list_all, flat_map}
 use Rattle.std.specs.Option.{is_none}
 use Rattle.std.specs.Str.{encode_utf8_all, bytes_eq}
-use Rattle.std.proofs.lemmas.Bool.{and_parts, both_ways, eqb-true, le-leb}
+use Rattle.std.proofs.lemmas.Bool.{and_parts, and_from, both_ways, eqb-true, le-leb}
 use Rattle.std.proofs.lemmas.Bool.Decides.{nat_tests}
 use Rattle.std.proofs.lemmas.List.{length-take-le}
 use Rattle.std.proofs.lemmas.Slice.Eq.{bytes_eq-Decides}
@@ -80,9 +80,7 @@ continues_name c h = one_of (begins_plain c) (is_in_range 48 57 c) (is_in_range 
 
 continue_name : (cs : List ℕ) → list_all continues_plain cs ≡ true → list_all is_name_char cs ≡ true
 continue_name [] h = refl
-continue_name (c ∷ cs) h = let a = and_parts _ _ h in both _ _ (continues_name c a.0) (continue_name cs a.1) where
-  both : (x y : Bool) → x ≡ true → y ≡ true → (x && y) ≡ true
-  both x y e f = cc
+continue_name (c ∷ cs) h = let a = and_parts _ _ h in and_from _ _ (continues_name c a.0) (continue_name cs a.1)
 
 pub plain_ascii : (c : ℕ) → continues_plain c ≡ true → c < 128
 plain_ascii c h = grind (arith, nat_tests)
@@ -98,9 +96,7 @@ begins_continues c h = first_holds (begins_plain c || is_in_range 48 57 c) (is_i
 -- a plain name is its own characters
 pub plain_is_part : (name : List ℕ) → is_plain_name name ≡ true → is_part name ≡ true
 plain_is_part [] h = absurd (both_ways false refl h)
-plain_is_part (c ∷ cs) h = let a = and_parts _ _ h in both _ _ (begins_name c a.0) (continue_name cs a.1) where
-  both : (x y : Bool) → x ≡ true → y ≡ true → (x && y) ≡ true
-  both x y e f = cc
+plain_is_part (c ∷ cs) h = let a = and_parts _ _ h in and_from _ _ (begins_name c a.0) (continue_name cs a.1)
 
 pub plain_encoded : (name : List ℕ) → is_plain_name name ≡ true → encode_utf8_all name ≡ name
 plain_encoded [] h = absurd (both_ways false refl h)
@@ -295,15 +291,12 @@ text_behind r bytes told ts keeps whole in_text behind =
     let begun : r.tokenizer.place ≡ r.tokenizer.start = keeps.place ∙ (ap length (sym whole) ∙ sym (starts r bytes ts told keeps)) in
     let none = no_chars o.chars o.part (ap length (sym o.bytes_are) ∙ count r.tokenizer.place r.tokenizer.start (length keeps.reads.bytes) o.place_is begun) in
     let scan_is : (Begin (position (reverse ts)) ≡ r.tokenizer.scan) × (no_draft ≡ r.tokenizer.draft) = at_same (Begin (position (reverse ts))) r.tokenizer.scan no_draft r.tokenizer.draft (ap (run (Begin (position (reverse ts))) no_draft) (sym none.0) ∙ o.scan_is) in
-    both (is_text r.tokenizer.scan) (r.tokenizer.place == r.tokenizer.start) (ap is_text (sym scan_is.0) ∙ begins_text (reverse ts) in_text behind) (subst (λ v. (r.tokenizer.place == v) ≡ true) begun (same_place r.tokenizer.place)) where
+    and_from (is_text r.tokenizer.scan) (r.tokenizer.place == r.tokenizer.start) (ap is_text (sym scan_is.0) ∙ begins_text (reverse ts) in_text behind) (subst (λ v. (r.tokenizer.place == v) ≡ true) begun (same_place r.tokenizer.place)) where
       count : (p s n : ℕ) → p ≡ s + n → p ≡ s → n ≡ 0
       count p s n h k = omega arith
 
       same_place : (p : ℕ) → (p == p) ≡ true
       same_place p = grind (arith, nat_tests)
-
-      both : (x y : Bool) → x ≡ true → y ≡ true → (x && y) ≡ true
-      both x y e f = cc
 
 pub text_here : {limit : ℕ} (r : Reader) (bytes : List ℕ) (told : List Placed) (kind : TagKind) (name : List ℕ) → MayTakeTagUnder limit r bytes told kind name → is_in_text r.tokenizer ≡ true
 text_here r bytes told kind name m = text_behind r bytes told m.tokens m.keeps m.whole m.in_text (not_first (reverse m.tokens) m.opened m.inside)

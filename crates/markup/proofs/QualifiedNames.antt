@@ -1,7 +1,7 @@
 -- Plain names with a prefix or without one, as names of the grammar and at the front of bytes.
-use Rattle.std.proofs.Common.{◌≡◌, ℕ, Bool, true, ◌&&◌, List, [], ◌∷◌, ◌++◌, refl, ◌∙◌, ap, arith}
+use Rattle.std.proofs.Common.{◌≡◌, ℕ, true, List, [], ◌∷◌, ◌++◌, refl, ◌∙◌, ap, arith}
 use Rattle.std.specs.Str.{encode_utf8_all}
-use Rattle.std.proofs.lemmas.Bool.{and_parts}
+use Rattle.std.proofs.lemmas.Bool.{and_parts, and_from}
 use Rattle.std.proofs.lemmas.Str.{encode_ascii, encodes-append}
 use Rattle.markup.specs.Name.{Name, Plain, Prefixed, is_name, name_text}
 use Rattle.markup.specs.Events.{spelled_name}
@@ -22,9 +22,7 @@ name_of n = name_by n.prefix n.local
 
 by_parts : (prefix local : List ℕ) → is_plain_prefix prefix ≡ true → is_plain_name local ≡ true → is_name (name_by prefix local) ≡ true
 by_parts [] local p l = plain_is_part local l
-by_parts (b ∷ more) local p l = both _ _ (plain_is_part (b ∷ more) p) (plain_is_part local l) where
-  both : (x y : Bool) → x ≡ true → y ≡ true → (x && y) ≡ true
-  both x y e f = cc
+by_parts (b ∷ more) local p l = and_from _ _ (plain_is_part (b ∷ more) p) (plain_is_part local l)
 
 by_text : (prefix local : List ℕ) → name_text (name_by prefix local) ≡ joined_text prefix local
 by_text [] local = refl

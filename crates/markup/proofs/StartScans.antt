@@ -7,7 +7,7 @@ use Rattle.std.specs.Option.{IfSome}
 use Rattle.std.specs.Result.{IfOk}
 use Rattle.std.specs.Prelude.{Result, Ok, Err}
 use Rattle.std.specs.declared.alloc.AllocError.{AllocError}
-use Rattle.std.proofs.lemmas.Bool.{and_parts, both_ways, eqb-true}
+use Rattle.std.proofs.lemmas.Bool.{and_parts, and_from, both_ways, eqb-true}
 use Rattle.std.proofs.lemmas.Bool.Decides.{nat_tests}
 use Rattle.std.proofs.lemmas.Grind.{flat_map-append}
 use Rattle.std.proofs.lemmas.List.{take-append-drop, take-append-le, length-take-le, map-append}
@@ -42,9 +42,6 @@ encoded_cons c xs ys h e = ap (λ v. v ++ encode_utf8_all xs) (encode_ascii c h)
 encoded_append : (xs ys zs ws : List ℕ) → encode_utf8_all xs ≡ zs → encode_utf8_all ys ≡ ws → encode_utf8_all (xs ++ ys) ≡ zs ++ ws
 encoded_append xs ys zs ws e f = encodes-append xs ys ∙ (ap (λ v. v ++ encode_utf8_all ys) e ∙ ap (λ v. zs ++ v) f)
 
-both : (x y : Bool) → x ≡ true → y ≡ true → (x && y) ≡ true
-both x y e f = cc
-
 -- ---- a value
 
 module _ (q : ℕ) where
@@ -53,7 +50,7 @@ module _ (q : ℕ) where
 
   literal_pieces : (v : List ℕ) → list_all (is_literal_of q) v ≡ true → list_all (is_piece q) (map Literal v) ≡ true
   literal_pieces [] h = refl
-  literal_pieces (c ∷ v) h = let a = and_parts _ _ h in both _ _ (literal_piece c a.0) (literal_pieces v a.1)
+  literal_pieces (c ∷ v) h = let a = and_parts _ _ h in and_from _ _ (literal_piece c a.0) (literal_pieces v a.1)
 
   literal_encoded : (v : List ℕ) → list_all (is_literal_of q) v ≡ true → encode_utf8_all v ≡ v
   literal_encoded [] h = refl
@@ -136,7 +133,7 @@ more_given bytes rest name value behind old new s a e =
     ∙ encoded_append (flat_map attribute_text s.attributes) (attribute_text x) (encode_utf8_all (flat_map attribute_text s.attributes)) (attribute_bytes name a.quote value) refl (attribute_encoded name a.quote value a.named a.quoted a.literal) in
     record {
       attributes = s.attributes ++ x ∷ [];
-      are = list_all-append is_attribute s.attributes (x ∷ []) ∙ both _ _ s.are (both _ _ (attribute_is name a.quote value a.named a.quoted a.literal) refl);
+      are = list_all-append is_attribute s.attributes (x ∷ []) ∙ and_from _ _ s.are (and_from _ _ (attribute_is name a.quote value a.named a.quoted a.literal) refl);
       spelled = s.spelled ∙ (ap (λ w. encode_utf8_all (flat_map attribute_text s.attributes) ++ w) (a.spelled ∙ attribute_apart name a.quote value a.named a.quoted a.literal behind)
           ∙ (sym (append_assoc (encode_utf8_all (flat_map attribute_text s.attributes)) (attribute_bytes name a.quote value) behind) ∙ ap (λ w. w ++ behind) (sym one)));
       give = map-append given_by s.attributes (x ∷ []) ∙ (ap (λ w. w ++ given_by x ∷ []) s.give ∙ (ap (λ g. old ++ g ∷ []) (attribute_gives name a.quote value a.named a.quoted a.literal) ∙ sym e));
@@ -153,7 +150,7 @@ take_literal q xs zero h = refl
 take_literal q [] (suc n) h = refl
 take_literal q (x ∷ xs) (suc n) h = by (is_literal_of q x) refl h (λ k. take_literal q xs n k) where
   by : (b : Bool) → is_literal_of q x ≡ b → suc n ≤ cond b (1 + prefix_len (is_literal_of q) xs) 0 → (n ≤ prefix_len (is_literal_of q) xs → list_all (is_literal_of q) (take n xs) ≡ true) → list_all (is_literal_of q) (x ∷ take n xs) ≡ true
-  by true e h more = both _ _ e (more (omega arith))
+  by true e h more = and_from _ _ e (more (omega arith))
   by false e h more = absurd (omega arith)
 
 pub value_found : (bytes inside value ended behind : List ℕ) (q last n : ℕ) → bytes ≡ q ∷ inside → is_quote q ≡ true → n ≤ prefix_len (is_literal_of q) inside → value ≡ take n inside → ended ≡ drop n inside → ended ≡ last ∷ behind → last ≡ q → IsValueAt bytes value behind
@@ -241,7 +238,7 @@ module _ (front named : List ℕ) (name : Spelled) (behind last : List ℕ) (fir
   pub start_found : IsStartAt front (record { name = name; given = given; is_empty = is_empty_kind kind }) (count + size + mark_count kind)
   start_found = record {
     start = start;
-    is = both _ _ (both _ _ (qualified_is name at.named) are.are) refl;
+    is = and_from _ _ (and_from _ _ (qualified_is name at.named) are.are) refl;
     spelled = ap (λ n. take n front) size_is ∙ (ap (take (length (token_bytes (Start start)))) spelled_so ∙ take-append_seam (token_bytes (Start start)) closed.0);
     says = ap (λ (x : Spelled). let t : Opening = record { name = x; given = map given_by are.attributes; is_empty = is_empty_kind kind } in t) (qualified_says name at.named)
         ∙ ap (λ (g : List Given). let t : Opening = record { name = name; given = g; is_empty = is_empty_kind kind } in t) are.give;

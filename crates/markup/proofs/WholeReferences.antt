@@ -1,10 +1,10 @@
 -- A whole reference at the front of a piece, read a byte at a time, is the token of its place.
-use Rattle.std.proofs.Common.{◌≡◌, ℕ, Bool, true, false, ◌==◌, ◌||◌, ◌&&◌, ◌+◌, ◌<◌, List, [], ◌∷◌, ◌++◌, length, take, reverse, codes, None, Some, refl, sym, ◌∙◌, ap, subst, append-nil, length-append, arith}
+use Rattle.std.proofs.Common.{◌≡◌, ℕ, Bool, true, false, ◌==◌, ◌||◌, ◌+◌, ◌<◌, List, [], ◌∷◌, ◌++◌, length, take, reverse, codes, None, Some, refl, sym, ◌∙◌, ap, subst, append-nil, length-append, arith}
 use Rattle.std.specs.Bool.{if◌then◌else◌}
 use Rattle.std.specs.Char.{is_digit}
 use Rattle.std.specs.List.{list_all}
 use Rattle.std.specs.Str.{encode_utf8_all}
-use Rattle.std.proofs.lemmas.Bool.{and_parts, both_ways}
+use Rattle.std.proofs.lemmas.Bool.{and_parts, and_from, both_ways}
 use Rattle.std.proofs.lemmas.Bool.Decides.{nat_tests}
 use Rattle.std.proofs.lemmas.List.{length-take-le}
 use Rattle.std.proofs.lemmas.Str.{encode_ascii}
@@ -51,12 +51,9 @@ ascii_all (c ∷ cs) h = let a = and_parts _ _ h in
 digit_ascii : (radix d : ℕ) → (radix == 10 || radix == 16) ≡ true → is_digit d radix ≡ true → is_ascii d ≡ true
 digit_ascii radix d r h = grind (arith, nat_tests)
 
-both : (x y : Bool) → x ≡ true → y ≡ true → (x && y) ≡ true
-both x y e f = cc
-
 digits_ascii : (radix : ℕ) (ds : List ℕ) → (radix == 10 || radix == 16) ≡ true → list_all (λ d. is_digit d radix) ds ≡ true → list_all is_ascii ds ≡ true
 digits_ascii radix [] r h = refl
-digits_ascii radix (d ∷ ds) r h = let a = and_parts _ _ h in both _ _ (digit_ascii radix d r a.0) (digits_ascii radix ds r a.1)
+digits_ascii radix (d ∷ ds) r h = let a = and_parts _ _ h in and_from _ _ (digit_ascii radix d r a.0) (digits_ascii radix ds r a.1)
 
 body_ascii : (r : Reference) → is_reference r ≡ true → list_all is_ascii (body r) ≡ true
 body_ascii (Named Ampersand) h = refl
@@ -73,7 +70,7 @@ body_ascii (Numbered radix digits) h = numbered_ascii radix digits (numbered_fac
 
 ends_ascii : (cs : List ℕ) → list_all is_ascii cs ≡ true → list_all is_ascii (cs ++ 59 ∷ []) ≡ true
 ends_ascii [] h = refl
-ends_ascii (c ∷ cs) h = let a = and_parts _ _ h in both _ _ a.0 (ends_ascii cs a.1)
+ends_ascii (c ∷ cs) h = let a = and_parts _ _ h in and_from _ _ a.0 (ends_ascii cs a.1)
 
 pub text_is : (r : Reference) → reference_text r ≡ 38 ∷ (body r ++ 59 ∷ [])
 text_is r = sym (append-nil (reference_text r)) ∙ reference_then r []
@@ -198,7 +195,7 @@ text_here r bytes told m =
     let begun : r.tokenizer.place ≡ r.tokenizer.start = m.keeps.place ∙ (ap length (sym m.whole) ∙ sym (starts r bytes ts told m.keeps)) in
     let none = no_chars o.chars o.part (ap length (sym o.bytes_are) ∙ count r.tokenizer.place r.tokenizer.start (length m.keeps.reads.bytes) o.place_is begun) in
     let scan_is : (Begin (position (reverse ts)) ≡ r.tokenizer.scan) × (no_draft ≡ r.tokenizer.draft) = at_same (Begin (position (reverse ts))) r.tokenizer.scan no_draft r.tokenizer.draft (ap (run (Begin (position (reverse ts))) no_draft) (sym none.0) ∙ o.scan_is) in
-    both (is_text r.tokenizer.scan) (r.tokenizer.place == r.tokenizer.start) (ap is_text (sym scan_is.0) ∙ begins_text (reverse ts) m.in_text m.inside) (subst (λ v. (r.tokenizer.place == v) ≡ true) begun (same_place r.tokenizer.place)) where
+    and_from (is_text r.tokenizer.scan) (r.tokenizer.place == r.tokenizer.start) (ap is_text (sym scan_is.0) ∙ begins_text (reverse ts) m.in_text m.inside) (subst (λ v. (r.tokenizer.place == v) ≡ true) begun (same_place r.tokenizer.place)) where
       count : (p s n : ℕ) → p ≡ s + n → p ≡ s → n ≡ 0
       count p s n h k = omega arith
 

@@ -1,8 +1,9 @@
 -- How a push ends a command, and what an earlier step's stop is to the whole.
-use Rattle.std.proofs.Common.{◌≡◌, inl, inr, ℕ, List, [], Option, Some, None, Result, Ok, Err, refl, sym, take, append-nil, arith}
-use Rattle.std.specs.Io.KnownBytes.{Appends, Keeps}
+use Rattle.std.proofs.Common.{◌≡◌, inl, inr, ℕ, List, [], Option, Some, None, Result, Ok, Err, refl, take, arith}
+use Rattle.std.specs.Io.KnownBytes.{Keeps}
 use Rattle.outside.specs.Pushes.{Pushes}
 use Rattle.outside.specs.declared.errors.SinkError.{SinkError}
+use Rattle.outside.proofs.Pushing.{appends_nothing}
 use Rattle.outside.specs.declared.errors.SinkError.TheVariants as sink
 use Rattle.repo_engine.specs.declared.refusal.Stop.{Stop}
 use Rattle.repo_engine.specs.declared.refusal.Stop.TheVariants.{Refused, ReadFault, WriteFault, Memory}
@@ -40,10 +41,6 @@ goes_pushed held faults room old new text (Err sink.Memory) p = record {
   quiet = λ h. p.cause.same (λ e. absurd (cc));
   later = p.cause.later;
 }
-
-pub appends_nothing : (a : Option (List ℕ)) → Appends a a []
-appends_nothing None = tt
-appends_nothing (Some s) = sym (append-nil s)
 
 pub keeps : (a : Option (List ℕ)) → Keeps a a
 keeps None = tt

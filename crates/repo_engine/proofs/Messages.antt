@@ -22,8 +22,9 @@ use Rattle.repo_engine.specs.Verdict as verdict
 use Rattle.repo_engine.specs.declared.refusal.Stop.{Stop}
 use Rattle.repo_engine.specs.declared.refusal.Stop.TheVariants.{Refused, ReadFault, WriteFault, Memory}
 use Rattle.repo_engine.specs.declared.refusal.Refusal.TheVariants as refusal
+use Rattle.outside.proofs.Pushing.{appends_nothing}
 use Rattle.repo_engine.proofs.Steps.{from_refused, from_given}
-use Rattle.repo_engine.proofs.Ends.{appends_nothing, keeps}
+use Rattle.repo_engine.proofs.Ends.{keeps}
 
 -- a message is refused as it is compiled
 pub ready_refuses : (R : Contents) (m : List ℕ) (e : ReadyError) → TellsRefused R m e → StopsBy (RefusesMessage R m) (ready_stop e)

@@ -4,6 +4,7 @@ use Rattle.std.specs.Prelude.{◌==◌, ◌||◌, ◌&&◌, not, is_none}
 use Rattle.std.specs.List.{list_all, AllByRecursion}
 use Rattle.std.specs.declared.cmp.Ordering.{Ordering}
 use Rattle.std.specs.declared.cmp.Ordering.TheVariants.{Less, Equal, Greater}
+use Rattle.std.proofs.lemmas.Bool.{and_parts, and_from}
 use Rattle.lexical_core.specs.Characters.{IsXmlChar, IsXmlText}
 use Rattle.lexical_core.specs.Tree.{Expanded, Entry as Entry', Item}
 use Rattle.markup.specs.Chars.{is_xml_char, is_space, is_gap}
@@ -19,17 +20,6 @@ use Rattle.lexical_core.specs.Names.{name_cmp}
 use Rattle.markup.proofs.CharLemmas.{classes}
 use Rattle.repo_loader.specs.inner.LoadingSteps.{AreTexts}
 use Rattle.repo_loader.specs.inner.SelectionSteps.{HasItemTexts}
-
-and_left : (a b : Bool) → (a && b) ≡ true → a ≡ true
-and_left true b h = refl
-and_left false b h = absurd (true≢false (sym h))
-
-and_right : (a b : Bool) → (a && b) ≡ true → b ≡ true
-and_right true b h = h
-and_right false b h = absurd (true≢false (sym h))
-
-and_both : (a b : Bool) → a ≡ true → b ≡ true → (a && b) ≡ true
-and_both a b h k = rw (h, k) refl
 
 last_of_four : (a b c d : Bool) → (a && b && c && d) ≡ true → d ≡ true
 last_of_four true true true d h = h
@@ -70,20 +60,20 @@ referred_xml (Numbered radix digits) h = last_of_four (radix == 10 || radix == 1
 value_xml : (quote : ℕ) (ps : List ValuePiece) → list_all (is_piece quote) ps ≡ true → list_all is_xml_char (value_chars ps) ≡ true
 value_xml quote [] h = refl
 value_xml quote (Refers r ∷ ps) h =
-    and_both (is_xml_char (referred_character r)) (list_all is_xml_char (value_chars ps)) (referred_xml r (and_left (is_piece quote (Refers r)) _ h)) (value_xml quote ps (and_right (is_piece quote (Refers r)) _ h))
+    and_from (is_xml_char (referred_character r)) (list_all is_xml_char (value_chars ps)) (referred_xml r (and_parts (is_piece quote (Refers r)) _ h).0) (value_xml quote ps (and_parts (is_piece quote (Refers r)) _ h).1)
 value_xml quote (Literal c ∷ ps) h =
-    by (c == 13 && begins_lf ps) (is_space c) (first_of_four (is_xml_char c) (not (c == 60)) (not (c == 38)) (not (c == quote)) (and_left (is_piece quote (Literal c)) _ h))
-    (value_xml quote ps (and_right (is_piece quote (Literal c)) _ h))
+    by (c == 13 && begins_lf ps) (is_space c) (first_of_four (is_xml_char c) (not (c == 60)) (not (c == 38)) (not (c == quote)) (and_parts (is_piece quote (Literal c)) _ h).0)
+    (value_xml quote ps (and_parts (is_piece quote (Literal c)) _ h).1)
   where
     by : (b s : Bool) → is_xml_char c ≡ true → list_all is_xml_char (value_chars ps) ≡ true
         → list_all is_xml_char (if b then value_chars ps else (if s then 32 else c) ∷ value_chars ps) ≡ true
     by true s x later = later
-    by false true x later = and_both (is_xml_char 32) _ space_xml later
-    by false false x later = and_both (is_xml_char c) _ x later
+    by false true x later = and_from (is_xml_char 32) _ space_xml later
+    by false false x later = and_from (is_xml_char c) _ x later
 
 xml_chars : (cs : List ℕ) → list_all is_xml_char cs ≡ true → AllByRecursion IsXmlChar cs
 xml_chars [] h = tt
-xml_chars (c ∷ cs) h = ((classes.xml c).0 (and_left (is_xml_char c) _ h), xml_chars cs (and_right (is_xml_char c) _ h))
+xml_chars (c ∷ cs) h = ((classes.xml c).0 (and_parts (is_xml_char c) _ h).0, xml_chars cs (and_parts (is_xml_char c) _ h).1)
 
 given_text : (a : Attribute) → is_attribute a ≡ true → IsXmlText (given_attribute a).value
 given_text a h =
@@ -91,7 +81,7 @@ given_text a h =
 
 givens_texts : (attributes : List Attribute) → list_all is_attribute attributes ≡ true → AllByRecursion (λ (g : Given). IsXmlText g.value) (map given_attribute attributes)
 givens_texts [] h = tt
-givens_texts (a ∷ rest) h = (given_text a (and_left (is_attribute a) _ h), givens_texts rest (and_right (is_attribute a) _ h))
+givens_texts (a ∷ rest) h = (given_text a (and_parts (is_attribute a) _ h).0, givens_texts rest (and_parts (is_attribute a) _ h).1)
 
 put_texts : (x : Entry') (ys : List Entry') → IsXmlText x.value → AreTexts ys → AreTexts (put x ys)
 put_texts x [] h all = (h, tt)

@@ -1,5 +1,5 @@
 -- Pieces that are kept go on as what is shown.
-use Rattle.std.proofs.Common.{◌≡◌, ℕ, ◌<◌, ◌+◌, ◌-◌, List, [], ◌∷◌, ◌++◌, Option, Some, None, refl, sym, ap, ◌∙◌, subst, map, reverse, length, take, drop, append-nil, append_assoc, arith}
+use Rattle.std.proofs.Common.{◌≡◌, ℕ, ◌<◌, ◌+◌, ◌-◌, List, [], ◌∷◌, ◌++◌, Option, Some, None, refl, sym, ap, ◌∙◌, subst, map, reverse, length, take, append-nil, append_assoc, arith}
 use Rattle.std.specs.Prelude.{MatchOption, option_to_list, Result, Ok, Err, OnOk, OnErr}
 use Rattle.std.proofs.lemmas.List.{reverse-append}
 use Rattle.lexical_core.specs.Tree.{Item, Starts, Char, Nodes, Element, Text, Tree, flat, flat_nodes}
@@ -9,18 +9,13 @@ use Rattle.respell.specs.Respelling.{told_of, AreOf}
 use Rattle.data_types.specs.Leaf as leaf
 use Rattle.data_types.specs.Value.{Edge, Piece, Begins, Holds, Ends}
 use Rattle.inst_pool.specs.Pieces.{open_in, edges_open_behind}
+use Rattle.inst_pool.proofs.ContentLemmas.{open-append}
 use Rattle.respell.specs.Kept.{HasTakenItems}
 use Rattle.respell.specs.declared.respell.Respell.{Respell}
 use Rattle.xml_instances.specs.Built.{Shown, type_at, with_begun, with_leaf, without_inside, close_shown, closed_at}
 use Rattle.xml_instances.specs.Keeping.{PiecesKept, HasShown, GoOn, with_all_inside}
 
 -- ---- the open elements behind more pieces
-
-open-append : (outer : List Edge) (a b : List Piece) → edges_open_behind outer (a ++ b) ≡ edges_open_behind (edges_open_behind outer a) b
-open-append outer [] b = refl
-open-append outer (Begins e ∷ a) b = open-append (e ∷ outer) a b
-open-append outer (Holds l ∷ a) b = open-append outer a b
-open-append outer (Ends e ∷ a) b = open-append (drop 1 outer) a b
 
 abbrev pub types_in : List Piece → List ℕ
 types_in pieces = map (λ (e : Edge). e.target) (open_in pieces)

@@ -2,6 +2,7 @@
 use Rattle.std.proofs.Common.{◌≡◌, ℕ, Bool, true, false, List, [], ◌∷◌, Option, Some, None, refl}
 use Rattle.std.specs.Prelude.{if◌then◌else◌, codes}
 use Rattle.std.specs.Str.{bytes_eq}
+use Rattle.std.proofs.lemmas.Bool.{and_parts}
 use Rattle.std.proofs.lemmas.Slice.Eq.{bytes_eq-Decides}
 use Rattle.lexical_core.specs.Tree.{Expanded, Entry, Item, Starts, Char, Ends, Skipped}
 use Rattle.markup.specs.Events.{Placed}
@@ -15,7 +16,6 @@ use Rattle.xml_instances.specs.EventFaults.{Broken, EventFault, AttributeFault, 
 use Rattle.xml_instances.specs.XmlFaults.{items_told}
 use Rattle.xml_instances.specs.inner.Quick.{IsOurs}
 use Rattle.lexical_core.specs.declared.rule.Rule.TheVariants.{WrongRoot, UnknownElement}
-use Rattle.xml_instances.proofs.QuickRuns.{both_true}
 
 -- an element that has elements of the message has a name of its namespace
 abbrev IsNamed : Message ℕ → Level ℕ → Expanded → Type 0
@@ -63,7 +63,7 @@ named_start : (m : Message ℕ) (ls : List (Level ℕ)) (n : Expanded) (attribut
     → AreNamed m (level_of_start (form_of_start m ls n) ∷ round_start ls n) (n ∷ ns)
 named_start m [] n attributes [] h k =
     let e = if_none (same_name n (name_in_namespace m.namespace (codes "Document"))) None (record { rule = WrongRoot; path = codes "/" }) (unless_none _ (AttributeFault m (form_of_start m [] n) attributes (path_in (round_start {P = ℕ} [] n))) h) in
-    (is_named m (level_of_start (form_of_start m [] n)) n (same_space n.namespace m.namespace (both_true (bytes_eq n.namespace m.namespace) (bytes_eq n.local (codes "Document")) e).0), tt)
+    (is_named m (level_of_start (form_of_start m [] n)) n (same_space n.namespace m.namespace (and_parts (bytes_eq n.namespace m.namespace) (bytes_eq n.local (codes "Document")) e).0), tt)
 named_start m [] n attributes (p ∷ ns) h k = absurd k
 named_start m (l ∷ ls) n attributes [] h k = absurd k
 named_start m (Parent f d ∷ ls) n attributes (p ∷ ns) h k =

@@ -1,7 +1,8 @@
 -- Runs of characters, and the events of a tag, held to the content.
-use Rattle.std.proofs.Common.{◌≡◌, ℕ, Bool, true, false, ◌&&◌, List, [], ◌∷◌, ◌++◌, Option, Some, None, refl, sym, ap, subst, ◌∙◌, reverse, append-nil, append_assoc, inl, inr}
+use Rattle.std.proofs.Common.{◌≡◌, ℕ, true, false, List, [], ◌∷◌, ◌++◌, Option, Some, None, refl, sym, ap, subst, ◌∙◌, reverse, append-nil, append_assoc, inl, inr}
 use Rattle.std.specs.Prelude.{Result, Ok, Err, OnOk, OnErr, map}
 use Rattle.std.specs.List.{list_all}
+use Rattle.std.proofs.lemmas.Bool.{and_parts}
 use Rattle.lexical_core.specs.Tree.{Item, Char}
 use Rattle.lexical_core.specs.XmlRuns.{IsXmlRun}
 use Rattle.markup.specs.Chars.{is_space}
@@ -21,13 +22,6 @@ use Rattle.xml_instances.specs.declared.opened.Opened.{Opened}
 use Rattle.xml_instances.specs.declared.opened.Opened.TheVariants as opened
 use Rattle.xml_instances.specs.declared.opened.Refusal.{Refusal}
 use Rattle.xml_instances.specs.declared.opened.Refusal.TheVariants.{Breaks, Memory}
-
-pub both_true : (a b : Bool) → (a && b) ≡ true → (a ≡ true) × (b ≡ true)
-both_true true b h = (refl, h)
-both_true false b h = absurd (differ h)
-  where
-    differ : false ≡ true → ⊥
-    differ k = cc
 
 -- ---- a run of characters
 
@@ -58,7 +52,7 @@ blank_chars : (m : Message ℕ) (l : Level ℕ) (ls : List (Level ℕ)) (cs : Li
     → AreFine m (l ∷ ls) (chars_of cs) × (levels_over m (l ∷ ls) (chars_of cs) ≡ l ∷ ls)
 blank_chars m l ls [] still h = (tt, refl)
 blank_chars m l ls (c ∷ cs) still h =
-    let b = both_true (is_space c) (list_all is_space cs) h in
+    let b = and_parts (is_space c) (list_all is_space cs) h in
     let s = still c b.0 in
     let k = blank_chars m l ls cs still b.1 in
     ((s.0, subst (λ (x : Level ℕ). AreFine m (x ∷ ls) (chars_of cs)) (sym s.1) k.0), ap (λ x. levels_over m (x ∷ ls) (chars_of cs)) s.1 ∙ k.1)

@@ -1,8 +1,9 @@
 -- The events of a tree that writes an admitted value break nothing.
 use Rattle.std.proofs.Common.{subst, ◌≡◌, ℕ, Bool, true, false, List, [], ◌∷◌, ◌++◌, Option, Some, None, refl, ap, ◌∙◌, sym, ◌⊎◌, inl, inr, append_assoc, append-nil, cond}
-use Rattle.std.specs.Prelude.{slice_get, not, ◌&&◌, ◌||◌, codes}
+use Rattle.std.specs.Prelude.{slice_get, not, ◌||◌, codes}
 use Rattle.std.specs.List.{AllByRecursion, list_any}
 use Rattle.std.specs.Str.{bytes_eq, chars}
+use Rattle.std.proofs.lemmas.Bool.{and_from, or_left, or_right}
 use Rattle.std.proofs.lemmas.Slice.Eq.{bytes_eq-Decides}
 use Rattle.lexical_core.specs.Tree.{Expanded, Entry, Nodes, Element, Text, Tree, Item, Starts, Char, Ends, flat, flat_nodes}
 use Rattle.lexical_core.specs.Tree as tree
@@ -40,24 +41,12 @@ pub record IsSteady {P : Type 0} (g : Graph P Simple) : Type 0 where
   pub goes_on : (p : P) (d e : List ℕ) (k : ℕ) (s : Slot P) → slice_get (form_slots (g p)) k ≡ Some s → IsWordOf (g p) (d ++ k ∷ e) → next_of (g p) d k s ≡ Slotted k
   pub ends : (p : P) (d : List ℕ) → IsWordOf (g p) d → end_after (g p) d ≡ Fine
 
-both_true : (a b : Bool) → a ≡ true → b ≡ true → (a && b) ≡ true
-both_true true b e f = f
-both_true false b e f = cc
-
 pub same_names : (a b : Expanded) → a ≡ b → same_name a b ≡ true
-same_names a b e = both_true _ _ ((bytes_eq-Decides a.namespace b.namespace).1 (ap (λ x. x.namespace) e)) ((bytes_eq-Decides a.local b.local).1 (ap (λ x. x.local) e))
-
-or_first : (a b : Bool) → a ≡ true → (a || b) ≡ true
-or_first true b e = refl
-or_first false b e = cc
-
-or_second : (a b : Bool) → b ≡ true → (a || b) ≡ true
-or_second true b e = refl
-or_second false b e = e
+same_names a b e = and_from _ _ ((bytes_eq-Decides a.namespace b.namespace).1 (ap (λ x. x.namespace) e)) ((bytes_eq-Decides a.local b.local).1 (ap (λ x. x.local) e))
 
 pub hint_known : (a : Entry) → IsHint a → is_hint a ≡ true
-hint_known a (inl e) = or_first _ _ (same_names a.name _ e)
-hint_known a (inr e) = or_second _ _ (same_names a.name _ e)
+hint_known a (inl e) = or_left _ _ (same_names a.name _ e)
+hint_known a (inr e) = or_right _ _ (same_names a.name _ e)
 
 none_unknown : (k b : Bool) → k ≡ true → b ≡ false → (not k || b) ≡ false
 none_unknown true b e f = f
@@ -65,12 +54,12 @@ none_unknown false b e f = cc
 
 pub hints_known : {P : Type 0} (f : Form P Simple) (attributes : List Entry) → AllByRecursion IsHint attributes → list_any (λ a. not (is_known f a)) attributes ≡ false
 hints_known f [] h = refl
-hints_known f (a ∷ attributes) h = none_unknown (is_known f a) _ (or_first _ _ (hint_known a h.0)) (hints_known f attributes h.1)
+hints_known f (a ∷ attributes) h = none_unknown (is_known f a) _ (or_left _ _ (hint_known a h.0)) (hints_known f attributes h.1)
 
 pub money_known : {P : Type 0} (c : P) (s : Simple) (attributes : List Entry) → AllByRecursion IsHintOrCurrency attributes → list_any (λ a. not (is_known (form.Money c s) a)) attributes ≡ false
 money_known c s [] h = refl
-money_known c s (a ∷ attributes) (inl e, h) = none_unknown (is_known (form.Money c s) a) _ (or_first _ _ (hint_known a e)) (money_known c s attributes h)
-money_known c s (a ∷ attributes) (inr e, h) = none_unknown (is_known (form.Money c s) a) _ (or_second _ _ (same_names a.name currency e)) (money_known c s attributes h)
+money_known c s (a ∷ attributes) (inl e, h) = none_unknown (is_known (form.Money c s) a) _ (or_left _ _ (hint_known a e)) (money_known c s attributes h)
+money_known c s (a ∷ attributes) (inr e, h) = none_unknown (is_known (form.Money c s) a) _ (or_right _ _ (same_names a.name currency e)) (money_known c s attributes h)
 
 pub if_false : (b : Bool) (o p : Option Broken) → b ≡ false → cond b o p ≡ p
 if_false true o p e = cc
