@@ -1,6 +1,6 @@
 -- Room for pieces, and for more behind them.
 use Rattle.std.specs.Prelude.{Result, Ok, Err, IsOk, OnOk}
-use Rattle.std.proofs.Common.{◌≡◌, ℕ, ◌+◌, ◌-◌, ◌≤◌, ◌<◌, List, [], ◌∷◌, ◌++◌, length, Option, Some, None, refl, sym, ap, ◌∙◌, subst, arith, append_assoc, length-append}
+use Rattle.std.proofs.Common.{◌≡◌, ℕ, ◌+◌, ◌-◌, ◌≤◌, ◌<◌, List, [], ◌∷◌, ◌++◌, length, Option, Some, None, refl, ap, ◌∙◌, arith, append_assoc, length-append}
 use Rattle.data_types.specs.Leaf.{Leaf}
 use Rattle.data_types.specs.Value.{Edge, Piece, Begins, Holds, Ends}
 use Rattle.inst_pool.specs.Pieces.{Region, bytes_of, piece_bytes, leaf_bytes, spare_nodes, spare_bytes}
@@ -44,9 +44,3 @@ ended_each None None = refl
 ended_each None (Some b) = refl
 ended_each (Some a) None = refl
 ended_each (Some a) (Some b) = refl
-
-pub grows_self : (r : Region) → GrowsRoom (Some r) (Some r)
-grows_self r = (omega arith, omega arith)
-
-pub grows_twice : (a b c : Region) → GrowsRoom (Some a) (Some b) → GrowsRoom (Some b) (Some c) → GrowsRoom (Some a) (Some c)
-grows_twice a b c g h = (let x = g.0 in let y = h.0 in omega (arith, x, y), let x = g.1 in let y = h.1 in omega (arith, x, y))

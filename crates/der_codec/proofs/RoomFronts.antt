@@ -41,13 +41,6 @@ without_then (Constructed tag inner rest) behind =
     ap (λ z. Identifier true tag ∷ z)
     (without_then inner (parts_then rest behind) ∙ (ap (λ z. parts_of inner ++ End ∷ z) (without_then rest behind) ∙ sym (append_assoc (parts_of inner) (End ∷ parts_of rest) (End ∷ without_lengths behind))))
 
-without_append : (ps qs : List Part) → without_lengths (ps ++ qs) ≡ without_lengths ps ++ without_lengths qs
-without_append [] qs = refl
-without_append (Identifier b t ∷ ps) qs = ap (λ z. Identifier b t ∷ z) (without_append ps qs)
-without_append (Length n ∷ ps) qs = without_append ps qs
-without_append (states.Contents o ∷ ps) qs = ap (λ z. states.Contents o ∷ z) (without_append ps qs)
-without_append (End ∷ ps) qs = ap (λ z. End ∷ z) (without_append ps qs)
-
 -- whole bytes are these parts, which show the pieces
 pub record WholeParts (T : Tables) (bytes : List ℕ) (v : Value) : Type 0 where
   pub whole : IsWholeDer (der_message T) bytes
