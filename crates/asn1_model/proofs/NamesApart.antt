@@ -4,6 +4,7 @@ use Rattle.std.specs.Prelude.{if◌then◌else◌}
 use Rattle.std.specs.Fmt.{decimal}
 use Rattle.std.specs.Str.{bytes_eq}
 use Rattle.std.proofs.lemmas.Fmt.{decimal_injective}
+use Rattle.std.proofs.lemmas.Bool.{or_parts}
 use Rattle.std.proofs.lemmas.Bool.Decides.{eqb_tells}
 use Rattle.asn1_model.specs.Names.{is_name_among, candidate, first_free, given_after, hyphen}
 use Rattle.asn1_model.proofs.GivenLemmas.{same_name}
@@ -13,10 +14,6 @@ use Rattle.asn1_model.proofs.GivenLemmas.{same_name}
 either : (a b : Bool) → (a || b) ≡ true → (a ≡ true) ⊎ ((a ≡ false) × (b ≡ true))
 either true b e = inl refl
 either false b e = inr (refl, e)
-
-pub neither : (a b : Bool) → (a || b) ≡ false → (a ≡ false) × (b ≡ false)
-neither true b e = absurd cc
-neither false b e = (refl, e)
 
 -- ---- one more name than were given
 
@@ -116,4 +113,4 @@ given_are_new taken (n ∷ ns) small = (given_is_new n taken (omega arith), give
 pub later_new : (taken ns : List (List ℕ)) (k : ℕ) → AreNew taken ns → k < length ns → is_name_among taken (get_or ns k []) ≡ false
 later_new taken [] k new lt = absurd (omega arith)
 later_new taken (n ∷ ns) zero new lt = new.0
-later_new taken (n ∷ ns) (suc k) new lt = (neither (bytes_eq (get_or ns k []) n) (is_name_among taken (get_or ns k [])) (later_new (n ∷ taken) ns k new.1 (omega arith))).1
+later_new taken (n ∷ ns) (suc k) new lt = (or_parts (bytes_eq (get_or ns k []) n) (is_name_among taken (get_or ns k [])) (later_new (n ∷ taken) ns k new.1 (omega arith))).1

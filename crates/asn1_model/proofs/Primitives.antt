@@ -2,6 +2,7 @@
 use Rattle.std.proofs.Common.{◌≡◌, ℕ, zero, suc, ◌<◌, ◌^◌, List, [], ◌∷◌, map, length, get_or, Option, Some, None, Ok, Contains, refl, sym, ap, subst, ◌∙◌, arith}
 use Rattle.std.specs.Prelude.{encode_utf8_all}
 use Rattle.std.specs.Str.{bytes_eq}
+use Rattle.std.proofs.lemmas.Bool.{or_parts}
 use Rattle.std.proofs.lemmas.List.{length-map}
 use Rattle.std.proofs.lemmas.List.Elements.{Contains-get_or}
 use Rattle.std.proofs.lemmas.Option.{slice_get_within, slice_get-get_or}
@@ -26,7 +27,7 @@ use Rattle.asn1_model.specs.Names.{is_name_among, asn_identifier}
 use Rattle.asn1_model.specs.Sound.{IsSoundSimpleType}
 use Rattle.asn1_model.proofs.GivenLemmas.{self_same}
 use Rattle.asn1_model.proofs.TypeNameLemmas.{length-given}
-use Rattle.asn1_model.proofs.NamesApart.{AreNew, given_are_new, later_new, neither}
+use Rattle.asn1_model.proofs.NamesApart.{AreNew, given_are_new, later_new}
 use Rattle.asn1_model.proofs.Leaves.{leaf_in, text_there, text_back, number_there, number_back, octets_there, octets_back, boolean_there, boolean_back, IsDate, date_there, date_back}
 
 -- ---- identifiers
@@ -36,7 +37,7 @@ place_is : (taken ns : List (List ℕ)) (k : ℕ) → AreNew taken ns → k < le
 place_is taken [] k new lt = absurd (omega arith)
 place_is taken (n ∷ ns) zero new lt = rw (self_same n) refl
 place_is taken (n ∷ ns) (suc k) new lt =
-    let apart = (neither (bytes_eq (get_or ns k []) n) (is_name_among taken (get_or ns k [])) (later_new (n ∷ taken) ns k new.1 (omega arith))).0 in
+    let apart = (or_parts (bytes_eq (get_or ns k []) n) (is_name_among taken (get_or ns k [])) (later_new (n ∷ taken) ns k new.1 (omega arith))).0 in
     rw apart (ap suc (place_is (n ∷ taken) ns k new.1 (omega arith)))
 
 names_length : (codes : List (List ℕ)) → length (code_names codes) ≡ length codes

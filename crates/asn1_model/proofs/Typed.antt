@@ -3,6 +3,7 @@ use Rattle.std.proofs.Common.{◌≡◌, ◌≢◌, ◌⊎◌, inl, inr, ℕ, ze
 use Rattle.std.specs.Prelude.{if◌then◌else◌, ◌==◌, codes}
 use Rattle.std.specs.Str.{bytes_eq}
 use Rattle.std.specs.List.{list_any}
+use Rattle.std.proofs.lemmas.Bool.{or_parts, or_right}
 use Rattle.std.proofs.lemmas.Bool.Decides.{eqb_tells, Decides-ltb}
 use Rattle.std.proofs.lemmas.List.{length-map}
 use Rattle.std.proofs.lemmas.Option.{slice_get_past}
@@ -14,7 +15,7 @@ use Rattle.asn1_model.specs.Names.{is_name_among, is_name_digit, is_lower, begun
 use Rattle.asn1_model.specs.ModuleOf.{Numbered, comes_before, insert_numbered, sorted_from, by_name, type_name_of, names_given, name_in, asn_name_of, with_shape, types_with, shape_of, module_of}
 use Rattle.asn1_model.proofs.GivenLemmas.{same_name, self_same}
 use Rattle.asn1_model.proofs.TypeNameLemmas.{length-given}
-use Rattle.asn1_model.proofs.NamesApart.{AreNew, given_are_new, neither}
+use Rattle.asn1_model.proofs.NamesApart.{AreNew, given_are_new}
 
 -- ---- no name is empty
 
@@ -136,11 +137,7 @@ not_later T taken n [] ns old new = refl
 not_later T taken n (t ∷ ts) [] old new = refl
 not_later T taken n (t ∷ ts) (m ∷ ns) old (first, new) =
     skip n m (shape_of (asn_name_of T) (types_of T t.number)) (types_with T ts ns) (apart taken m n first old)
-    ∙ not_later T (m ∷ taken) n ts ns (or_true (bytes_eq n m) (is_name_among taken n) old) new
-  where
-    or_true : (a b : Bool) → b ≡ true → (a || b) ≡ true
-    or_true true b e = refl
-    or_true false b e = e
+    ∙ not_later T (m ∷ taken) n ts ns (or_right (bytes_eq n m) (is_name_among taken n) old) new
 
 -- the empty name is that of no type
 none_empty : (T : Tables) (ts : List Numbered) (ns : List (List ℕ)) → AllSome ns → find_asn_type [] (types_with T ts ns) ≡ None
@@ -158,7 +155,7 @@ name_new taken (t ∷ ts) (n ∷ ns) p (first, new) long h = go (eqb_tells t.num
     go : ((eqb t.number p ≡ true) × (t.number ≡ p)) ⊎ ((eqb t.number p ≡ false) × (t.number ≢ p)) → (t.number ≡ p) ⊎ IsIn p ts → (IsIn p ts → is_name_among (n ∷ taken) (name_in ts ns p) ≡ false) → is_name_among taken (if t.number == p then n else name_in ts ns p) ≡ false
     go (inl (b, e)) x more = rw b first
     go (inr (b, other)) (inl e) more = absurd (other e)
-    go (inr (b, other)) (inr x) more = rw b (neither (bytes_eq (name_in ts ns p) n) (is_name_among taken (name_in ts ns p)) (more x)).1
+    go (inr (b, other)) (inr x) more = rw b (or_parts (bytes_eq (name_in ts ns p) n) (is_name_among taken (name_in ts ns p)) (more x)).1
 
 found : (T : Tables) (taken : List (List ℕ)) (ts : List Numbered) (ns : List (List ℕ)) (p : ℕ) → AreNew taken ns → length ts ≡ length ns → IsIn p ts
     → find_asn_type (name_in ts ns p) (types_with T ts ns) ≡ shape_of (asn_name_of T) (types_of T p)
@@ -176,7 +173,7 @@ found T taken (t ∷ ts) (n ∷ ns) p (first, new) long h = go (eqb_tells t.numb
     go (inl (b, e)) x more other = rw b (here (shape_of (asn_name_of T) (types_of T t.number)) ∙ ap (λ (q : ℕ). shape_of (asn_name_of T) (types_of T q)) e)
     go (inr (b, no_one)) (inl e) more other = absurd (no_one e)
     go (inr (b, no_one)) (inr x) more other =
-        rw b (skip (name_in ts ns p) n (shape_of (asn_name_of T) (types_of T t.number)) (types_with T ts ns) (neither (bytes_eq (name_in ts ns p) n) (is_name_among taken (name_in ts ns p)) (other x)).0 ∙ more x)
+        rw b (skip (name_in ts ns p) n (shape_of (asn_name_of T) (types_of T t.number)) (types_with T ts ns) (or_parts (bytes_eq (name_in ts ns p) n) (is_name_among taken (name_in ts ns p)) (other x)).0 ∙ more x)
 
 in_or_nameless : (ts : List Numbered) (ns : List (List ℕ)) (p : ℕ) → IsIn p ts ⊎ (name_in ts ns p ≡ [])
 in_or_nameless [] ns p = inr refl

@@ -54,10 +54,10 @@ use Rattle.der_codec.proofs.ShownFed.{depth_counts, pass_shown, leaf_ends}
 abbrev pub TellsPath : Tables → Decoder → Added → List ℕ → Type 0
 TellsPath T d added path = (s : State ℕ) → IsOpenState (der_message T) (inwards d.levels.items) d.due s → IsNamed (der_message T) s → path ≡ path_of s ++ added_text (types_of T) added
 
--- a fault with its path is one of the definitions
-fault_told : (T : Tables) (d : Decoder) (bytes : List ℕ) (rule : Rule) (place : ℕ) (added : Added) (path : List ℕ) → TellsPath T d added path → IsFault (der_message T) d bytes rule place (added_text (types_of T) added)
+-- a fault with the path to where it is, is one of the definitions
+pub fault_at : (T : Tables) (d : Decoder) (bytes : List ℕ) (rule : Rule) (place : ℕ) (added : Added) (path : List ℕ) (f : IsFault (der_message T) d bytes rule place (added_text (types_of T) added)) → path ≡ path_of f.state ++ added_text (types_of T) added
     → DerFault (der_message T) bytes (record { rule = rule; place = place; path = path })
-fault_told T d bytes rule place added path tells f = record {
+fault_at T d bytes rule place added path f is = record {
   parts = f.parts;
   state = f.state;
   at = f.at;
@@ -67,8 +67,14 @@ fault_told T d bytes rule place added path tells f = record {
   front = f.front;
   next = f.next;
   place = f.place_is;
-  path = tells f.state f.is_open (front_named (der_message T) Start 0 bytes f.parts f.state f.at f.rest tt f.front);
+  path = is;
 }
+
+-- and so is one with what is told
+fault_told : (T : Tables) (d : Decoder) (bytes : List ℕ) (rule : Rule) (place : ℕ) (added : Added) (path : List ℕ) → TellsPath T d added path → IsFault (der_message T) d bytes rule place (added_text (types_of T) added)
+    → DerFault (der_message T) bytes (record { rule = rule; place = place; path = path })
+fault_told T d bytes rule place added path tells f =
+    fault_at T d bytes rule place added path f (tells f.state f.is_open (front_named (der_message T) Start 0 bytes f.parts f.state f.at f.rest tt f.front))
 
 pub end_told : (T : Tables) (d : Decoder) (bytes : List ℕ) (rule : Rule) (place : ℕ) (added : Added) (path : List ℕ) → TellsPath T d added path → IsStopped (der_message T) d bytes (stop.Fault rule place added)
     → DerEndsAs T bytes (Refused (record { rule = rule; place = place; path = path }))

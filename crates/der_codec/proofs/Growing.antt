@@ -1,24 +1,21 @@
 -- Room for pieces, and for more behind them.
 use Rattle.std.specs.Prelude.{Result, Ok, Err, IsOk, OnOk}
-use Rattle.std.proofs.Common.{◌≡◌, ℕ, ◌+◌, ◌-◌, ◌≤◌, ◌<◌, List, [], ◌∷◌, ◌++◌, length, Option, Some, None, refl, sym, ap, ◌∙◌, subst, arith, append_assoc, length-append}
+use Rattle.std.proofs.Common.{◌≡◌, ℕ, ◌+◌, ◌-◌, ◌≤◌, ◌<◌, List, [], ◌∷◌, ◌++◌, length, Option, Some, None, refl, ap, ◌∙◌, arith, append_assoc, length-append}
 use Rattle.data_types.specs.Leaf.{Leaf}
 use Rattle.data_types.specs.Value.{Edge, Piece, Begins, Holds, Ends}
 use Rattle.inst_pool.specs.Pieces.{Region, bytes_of, piece_bytes, leaf_bytes, spare_nodes, spare_bytes}
+use Rattle.inst_pool.proofs.ContentLemmas.{bytes_of-append}
 use Rattle.inst_pool.specs.declared.piece.Edge.{Edge as Told}
 use Rattle.der_model.specs.ShownPieces.{begin_each, end_each}
 use Rattle.der_codec.specs.Reserved.{GrowsRoom, HoldsMore}
 use Rattle.der_codec.specs.inner.Elements.{edge_if}
-
-pub bytes_append : (xs ys : List Piece) → bytes_of (xs ++ ys) ≡ bytes_of xs + bytes_of ys
-bytes_append [] ys = omega arith
-bytes_append (x ∷ xs) ys = (let rest = bytes_append xs ys in omega (arith, rest))
 
 pub holds_first : (old : Region) (a b : List Piece) → HoldsMore old (a ++ b) → HoldsMore old a
 holds_first old a b h =
     let n = ap length (append_assoc old.pieces a b) in
     let m = length-append (old.pieces ++ a) b in
     let x = ap bytes_of (append_assoc old.pieces a b) in
-    let y = bytes_append (old.pieces ++ a) b in
+    let y = bytes_of-append (old.pieces ++ a) b in
     (let a0 = h.0 in omega (arith, a0, n, m), let a1 = h.1 in omega (arith, a1, x, y))
 
 pub holds_then : (old mid : Region) (a b : List Piece) → HoldsMore old (a ++ b) → mid.pieces ≡ old.pieces ++ a → GrowsRoom (Some old) (Some mid) → HoldsMore mid b
@@ -32,7 +29,7 @@ pub one_spare : (old : Region) (piece : Piece) → HoldsMore old (piece ∷ []) 
 one_spare old piece h = (let sum = length-append old.pieces (piece ∷ []) in let a0 = h.0 in omega (arith, a0, sum))
 
 pub leaf_spare : (old : Region) (leaf : Leaf) → HoldsMore old (Holds leaf ∷ []) → leaf_bytes leaf ≤ spare_bytes old
-leaf_spare old leaf h = (let sum = bytes_append old.pieces (Holds leaf ∷ []) in let a1 = h.1 in omega (arith, a1, sum))
+leaf_spare old leaf h = (let sum = bytes_of-append old.pieces (Holds leaf ∷ []) in let a1 = h.1 in omega (arith, a1, sum))
 
 -- the elements of a component, one after the other
 pub begun_each : (outer inner : Option Told) → begin_each (edge_if outer ++ edge_if inner) ≡ begin_each (edge_if outer) ++ begin_each (edge_if inner)
@@ -44,9 +41,3 @@ ended_each None None = refl
 ended_each None (Some b) = refl
 ended_each (Some a) None = refl
 ended_each (Some a) (Some b) = refl
-
-pub grows_self : (r : Region) → GrowsRoom (Some r) (Some r)
-grows_self r = (omega arith, omega arith)
-
-pub grows_twice : (a b c : Region) → GrowsRoom (Some a) (Some b) → GrowsRoom (Some b) (Some c) → GrowsRoom (Some a) (Some c)
-grows_twice a b c g h = (let x = g.0 in let y = h.0 in omega (arith, x, y), let x = g.1 in let y = h.1 in omega (arith, x, y))

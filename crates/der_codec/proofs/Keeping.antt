@@ -1,5 +1,5 @@
 -- What is reserved is kept, and is enough: of a checker that goes on, and of what it is given.
-use Rattle.std.proofs.Common.{◌≡◌, ℕ, ◌+◌, ◌≤◌, ◌<◌, ◌^◌, false, true, List, [], ◌∷◌, ◌++◌, length, drop, take, Option, Some, None, refl, sym, ap, ◌∙◌, subst, arith, append_assoc, append-nil, length-append}
+use Rattle.std.proofs.Common.{◌≡◌, ℕ, ◌+◌, ◌≤◌, ◌<◌, ◌^◌, false, true, List, [], ◌∷◌, ◌++◌, length, drop, take, Option, Some, None, refl, sym, ap, ◌∙◌, subst, arith, append_assoc, append-nil}
 use Rattle.std.specs.Prelude.{vec_capacity, Result, Ok, Err, IsOk, IfOk, IfErr, IsErrOf}
 use Rattle.lexical_core.specs.declared.rule.Rule.TheVariants.{DerTruncated}
 use Rattle.std.specs.Global.{Vec}
@@ -41,6 +41,7 @@ use Rattle.der_codec.specs.declared.level.Level.{Level}
 use Rattle.der_codec.specs.declared.level.Spot.{Spot}
 use Rattle.der_codec.specs.declared.room.Room.{Room}
 use Rattle.der_codec.proofs.ContentsSteps.{rest_from}
+use Rattle.der_codec.proofs.Fed.{fault_at}
 use Rattle.der_codec.proofs.RoomFronts.{FrontEnough, front_enough}
 use Rattle.der_codec.proofs.ShownFed.{depth_counts}
 use Rattle.der_codec.proofs.ShownSteps.{Adds}
@@ -117,18 +118,7 @@ never_stops T c d bytes (stop.Fault rule place added) h (front, behind, is, f, o
     let b = h.begins in
     let told : FaultInDer = record { rule = rule; place = place; path = path_of f.state ++ added_text (types_of T) added } in
     let all : bytes ++ b.behind ≡ front ++ (behind ++ b.behind) = ap (λ z. z ++ b.behind) is ∙ append_assoc front behind b.behind in
-    let fault = fault_stays m front (behind ++ b.behind) told other (record {
-      parts = f.parts;
-      state = f.state;
-      at = f.at;
-      rest = f.rest;
-      off = f.off;
-      added = added_text (types_of T) added;
-      front = f.front;
-      next = f.next;
-      place = f.place_is;
-      path = refl;
-    }) in
+    let fault = fault_stays m front (behind ++ b.behind) told other (fault_at T d front rule place added told.path f refl) in
     spelled_has_none m h.sound (front ++ (behind ++ b.behind)) b.value told (subst (λ z. length z < 2 ^ 63) all b.short) (b.spelled.0, sym all ∙ b.spelled.1) fault
 
 -- ---- what was read

@@ -5,18 +5,14 @@ use Rattle.der_octets.specs.Octets.{Tag}
 use Rattle.der_model.specs.DerMessage.{DerMessage}
 use Rattle.der_model.specs.Structures.{Component, Label, Structure, Holds, Fields, OneOf, Items, Empty, structure}
 use Rattle.der_model.specs.States as states
-use Rattle.der_model.specs.States.{Part, Identifier, Length, End, part_octets, DerLevel, State, Start, AwaitsLength, AwaitsContents, Within, IdentifierAnswer, Begins, Breaks, is_under, field_answer, any_answer, one_answer, item_answer, identifier_answer, next_number, skipping, level_answer, begun_state, names_in, state_after, Stands}
-use Rattle.lexical_core.specs.declared.rule.Rule.TheVariants.{UnexpectedTag}
+use Rattle.der_model.specs.States.{Part, Identifier, Length, End, part_octets, DerLevel, State, Start, AwaitsLength, AwaitsContents, Within, IdentifierAnswer, Begins, Breaks, is_under, field_answer, any_answer, identifier_answer, next_number, skipping, level_answer, begun_state, names_in, state_after, Stands}
 use Rattle.reference_check.specs.Steps.{has_room}
 use Rattle.der_model.specs.Faults.{DerFront, IsCleanPart}
 use Rattle.der_model.specs.OpenParts.{components_of}
+use Rattle.der_model.proofs.BegunSlots.{no_begin}
+use Rattle.der_model.proofs.ShownSlots.{one_begun, item_begun}
 use Rattle.der_codec.specs.inner.OpenNames.{names_of_part, IsNamed}
 use Rattle.der_codec.proofs.ComponentsFound.{get_drop}
-
-no_begin : {P : Type 0} (label : Label) (x : IdentifierAnswer P) (k : ℕ) (c : Component P) → skipping label x ≡ Begins k c → ⊥
-no_begin label (Begins j d) k c e = cc
-no_begin label (Breaks UnexpectedTag added) k c e = cc
-no_begin label (Breaks rule added) k c e = cc
 
 same_begin : {P : Type 0} (i k : ℕ) (d c : Component P) → Begins i d ≡ Begins k c → (k ≡ i) × (d ≡ c)
 same_begin i k d c e = (cc, cc)
@@ -52,21 +48,12 @@ any_at i (d ∷ cs) b t k c e = any_case i d cs k c (any_answer (suc i) cs b t) 
 from_start : {P : Type 0} (cs : List (Component P)) (k : ℕ) (c : Component P) → (off : ℕ) × (k ≡ 0 + off) × (slice_get cs off ≡ Some c) → slice_get cs k ≡ Some c
 from_start cs k c (off, n, e) = (let same : k ≡ off = omega arith in ap (slice_get cs) same ∙ e)
 
-one_at : {P : Type 0} (came : List ℕ) (x : IdentifierAnswer P) (k : ℕ) (c : Component P) → one_answer came x ≡ Begins k c → x ≡ Begins k c
-one_at [] x k c e = e
-one_at (j ∷ came) x k c e = absurd cc
-
-item_at : {P : Type 0} (r : Bool) (x : IdentifierAnswer P) (k : ℕ) (c : Component P) → item_answer r x ≡ Begins k c → x ≡ Begins k c
-item_at true x k c e = e
-item_at false (Begins j d) k c e = absurd cc
-item_at false (Breaks rule added) k c e = absurd cc
-
 pub begins_at : {P : Type 0} (s : Structure P) (came : List ℕ) (b : Bool) (t : Tag) (k : ℕ) (c : Component P) → identifier_answer s came b t ≡ Begins k c → slice_get (components_of s) k ≡ Some c
 begins_at (Fields cs) came b t k c e =
     let r = field_at (next_number came) (drop (next_number came) cs) b t k c e in
     ap (slice_get cs) r.1 ∙ (sym (get_drop (next_number came) r.0 cs) ∙ r.2)
-begins_at (OneOf cs) came b t k c e = from_start cs k c (any_at 0 cs b t k c (one_at came (any_answer 0 cs b t) k c e))
-begins_at (Items s cs) came b t k c e = from_start cs k c (any_at 0 cs b t k c (item_at (has_room (length came) s.max) (any_answer 0 cs b t) k c e))
+begins_at (OneOf cs) came b t k c e = from_start cs k c (any_at 0 cs b t k c (one_begun came (any_answer 0 cs b t) k c e))
+begins_at (Items s cs) came b t k c e = from_start cs k c (any_at 0 cs b t k c (item_begun (has_room (length came) s.max) (any_answer 0 cs b t) k c e))
 begins_at (Holds contents) came b t k c e = absurd cc
 begins_at Empty came b t k c e = absurd cc
 

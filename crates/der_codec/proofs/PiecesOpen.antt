@@ -5,6 +5,7 @@ use Rattle.data_types.specs.Leaf.{Leaf}
 use Rattle.data_types.specs.Value.{Edge, Piece, Begins, Holds, Ends}
 use Rattle.inst_pool.specs.Pieces.{open_in, edges_open_behind}
 use Rattle.inst_pool.specs.declared.piece.Edge.{Edge as Told}
+use Rattle.inst_pool.proofs.ContentLemmas.{open-append}
 use Rattle.der_model.specs.ShownPieces.{begin_each}
 use Rattle.der_codec.specs.inner.Elements.{edge_if}
 
@@ -12,17 +13,11 @@ pub on_ok_when : {A E : Type 0} (r : Result A E) (P Q : Type 0) → OnOk r P →
 on_ok_when (Ok a) P Q p f = f p
 on_ok_when (Err e) P Q p f = tt
 
-open_then : (outer : List Edge) (shown more : List Piece) → edges_open_behind outer (shown ++ more) ≡ edges_open_behind (edges_open_behind outer shown) more
-open_then outer [] more = refl
-open_then outer (Begins edge ∷ shown) more = open_then (edge ∷ outer) shown more
-open_then outer (Holds leaf ∷ shown) more = open_then outer shown more
-open_then outer (Ends edge ∷ shown) more = open_then (drop 1 outer) shown more
-
 pub closed_open : (shown : List Piece) (edge : Edge) (outer : List Edge) → open_in shown ≡ edge ∷ outer → open_in (shown ++ Ends edge ∷ []) ≡ outer
-closed_open shown edge outer e = open_then [] shown (Ends edge ∷ []) ∙ ap (drop 1) e
+closed_open shown edge outer e = open-append [] shown (Ends edge ∷ []) ∙ ap (drop 1) e
 
 pub held_open : (shown : List Piece) (leaf : Leaf) → open_in (shown ++ Holds leaf ∷ []) ≡ open_in shown
-held_open shown leaf = open_then [] shown (Holds leaf ∷ [])
+held_open shown leaf = open-append [] shown (Holds leaf ∷ [])
 
 begun_open : (outer inner : Option Told) (around : List Edge) → edges_open_behind around (begin_each (edge_if outer ++ edge_if inner)) ≡ reverse (edge_if outer ++ edge_if inner) ++ around
 begun_open None None around = refl
@@ -34,7 +29,7 @@ begun_open (Some a) (Some b) around = refl
 pub leaf_open : (outer inner : Option Told) (shown : List Piece) (leaf : Leaf) → open_in ((shown ++ begin_each (edge_if outer ++ edge_if inner)) ++ Holds leaf ∷ []) ≡ reverse (edge_if outer ++ edge_if inner) ++ open_in shown
 leaf_open outer inner shown leaf =
     let edges = begin_each (edge_if outer ++ edge_if inner) in
-    held_open (shown ++ edges) leaf ∙ (open_then [] shown edges ∙ begun_open outer inner (open_in shown))
+    held_open (shown ++ edges) leaf ∙ (open-append [] shown edges ∙ begun_open outer inner (open_in shown))
 
 -- what holds for each of these where it is Ok
 pub ok_for : {A E S : Type 0} (r : Result A E) (X G : S → Type 0) (Q : Type 0) → ((s : S) → X s → OnOk r (G s)) → (((s : S) → X s → G s) → Q) → IfOk r (λ _. Q)

@@ -8,6 +8,7 @@ use Rattle.data_types.specs.declared.kind.Kind.{Kind}
 use Rattle.data_types.specs.declared.kind.Kind.TheVariants as kind
 use Rattle.facets.specs.declared.simple.Simple.{Simple}
 use Rattle.inst_pool.specs.Pieces.{Region, bytes_of, leaf_bytes}
+use Rattle.inst_pool.proofs.ContentLemmas.{bytes_of-append}
 use Rattle.message_model.specs.Tables.{Tables, types_of, pieces_of}
 use Rattle.der_octets.specs.Octets.{Values, Nothing, Primitive, Constructed, octets, universal}
 use Rattle.der_octets.proofs.OneReading.{octets_same}
@@ -33,7 +34,6 @@ use Rattle.der_codec.specs.Levels.{inwards}
 use Rattle.der_codec.specs.Rooms.{contents_size, open_next, StaysOpen, IsEnough, BeginsEnough}
 use Rattle.der_codec.specs.declared.checker.DerChecker.{DerChecker}
 use Rattle.der_codec.specs.declared.room.Room.{Room}
-use Rattle.der_codec.proofs.Growing.{bytes_append}
 
 -- ---- the parts of an instance
 
@@ -43,13 +43,6 @@ without_then (Primitive tag contents rest) behind = ap (λ z. Identifier false t
 without_then (Constructed tag inner rest) behind =
     ap (λ z. Identifier true tag ∷ z)
     (without_then inner (parts_then rest behind) ∙ (ap (λ z. parts_of inner ++ End ∷ z) (without_then rest behind) ∙ sym (append_assoc (parts_of inner) (End ∷ parts_of rest) (End ∷ without_lengths behind))))
-
-without_append : (ps qs : List Part) → without_lengths (ps ++ qs) ≡ without_lengths ps ++ without_lengths qs
-without_append [] qs = refl
-without_append (Identifier b t ∷ ps) qs = ap (λ z. Identifier b t ∷ z) (without_append ps qs)
-without_append (Length n ∷ ps) qs = without_append ps qs
-without_append (states.Contents o ∷ ps) qs = ap (λ z. states.Contents o ∷ z) (without_append ps qs)
-without_append (End ∷ ps) qs = ap (λ z. End ∷ z) (without_append ps qs)
 
 -- whole bytes are these parts, which show the pieces
 pub record WholeParts (T : Tables) (bytes : List ℕ) (v : Value) : Type 0 where
@@ -150,7 +143,7 @@ none_begun (e ∷ edges) = (let rest = none_begun edges in omega (arith, rest))
 
 none_ended : (edges : List Edge) → bytes_of (end_each edges) ≡ 0
 none_ended [] = refl
-none_ended (e ∷ edges) = (let sum = bytes_append (end_each edges) (value.Ends e ∷ []) in let rest = none_ended edges in omega (arith, sum, rest))
+none_ended (e ∷ edges) = (let sum = bytes_of-append (end_each edges) (value.Ends e ∷ []) in let rest = none_ended edges in omega (arith, sum, rest))
 
 part_bytes : (m : DerMessage ℕ) (s : State ℕ) (p : Part) (shown : List Piece) → PartShows m s p shown → bytes_of shown ≤ contents_size (p ∷ [])
 part_bytes m Start p shown h = none shown h
@@ -172,7 +165,7 @@ part_bytes m (Within (l ∷ ls)) (states.Contents o) shown h = (let z = ap bytes
 parts_bytes : (m : DerMessage ℕ) (s : State ℕ) (place : ℕ) (ps : List Part) (shown : List Piece) → PartsShow m s place ps shown → bytes_of shown ≤ contents_size ps
 parts_bytes m s place [] shown h = (let z = ap bytes_of h in omega (arith, z))
 parts_bytes m s place (p ∷ ps) shown (first, behind, one, rest, is) =
-    let z = ap bytes_of is ∙ bytes_append first behind in
+    let z = ap bytes_of is ∙ bytes_of-append first behind in
     let a = part_bytes m s p first one in
     let b = parts_bytes m (state_after m s place p) (place + length (part_octets p)) ps behind rest in
     let sum = contents_append (p ∷ []) ps in

@@ -1,5 +1,5 @@
 -- Where a step of a checker wants room, there is some.
-use Rattle.std.proofs.Common.{◌≡◌, ℕ, suc, ◌+◌, ◌-◌, ◌≤◌, ◌<◌, Bool, false, true, List, [], ◌∷◌, ◌++◌, length, drop, take, Option, Some, None, refl, sym, ap, ◌∙◌, subst, arith, append_assoc, append-nil, length-append}
+use Rattle.std.proofs.Common.{◌≡◌, ℕ, suc, ◌+◌, ◌-◌, ◌≤◌, ◌<◌, Bool, false, true, List, [], ◌∷◌, ◌++◌, length, drop, take, Option, Some, None, refl, sym, ap, ◌∙◌, subst, arith}
 use Rattle.std.specs.Prelude.{vec_capacity, slice_get}
 use Rattle.std.specs.Vec.{with_item}
 use Rattle.data_types.specs.Leaf.{Leaf}
@@ -42,7 +42,7 @@ use Rattle.der_codec.proofs.Fed.{kept_at, last_leaf, joined}
 use Rattle.der_codec.proofs.Inwards.{set_inwards}
 use Rattle.der_codec.proofs.Growing.{holds_first}
 use Rattle.der_codec.proofs.Keeping.{adds_enough, contents_enough, enough_less, shown_enough, behind_is}
-use Rattle.der_codec.proofs.ShownFed.{open_length, value_ends}
+use Rattle.der_codec.proofs.ShownFed.{open_length}
 use Rattle.der_codec.proofs.ShownSteps.{Closes, levels_open, tag_adds, contents_close}
 use Rattle.der_codec.proofs.ShownUsual.{begun_shows}
 use Rattle.der_codec.proofs.UsualFed.{passed}

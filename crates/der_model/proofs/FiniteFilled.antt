@@ -2,7 +2,6 @@
 use Rattle.std.proofs.Common.{◌≡◌, ℕ, zero, suc, ◌+◌, ◌-◌, ◌≤◌, ◌<◌, Bool, true, false, List, [], ◌∷◌, length, replicate, Option, Some, refl, sym, ap, subst, arith, eqb, ◌⊎◌, inl, inr, ◌≢◌}
 use Rattle.std.specs.Prelude.{slice_get, ◌==◌, cond, nat_lt, if◌then◌else◌}
 use Rattle.std.specs.List.{AllByRecursion}
-use Rattle.std.proofs.lemmas.Bool.Decides.{nat_tests, eqb_tells}
 use Rattle.facets.specs.declared.simple.Simple.{Simple}
 use Rattle.der_octets.specs.Octets.{context, Values, Nothing, Primitive, Constructed}
 use Rattle.reference_check.specs.Forms.{Graph, Form, Slot, form_slots}

@@ -15,7 +15,3 @@ shorter_front (a ∷ more) (b ∷ bs) x y l e =
 pub none_left : {A : Type 0} (z : List A) → 0 < length z → z ≡ [] → ⊥
 none_left [] l e = absurd (omega arith)
 none_left (a ∷ z) l e = absurd cc
-
-pub append_nil_right : {A : Type 0} (a z : List A) → a ++ z ≡ a → z ≡ []
-append_nil_right [] z e = e
-append_nil_right (a ∷ more) z e = append_nil_right more z cc

@@ -125,7 +125,7 @@ alternative_begun m p fs b tag k c e =
     let number : k ≡ r.0 = omega (arith, r.2) in
     (r.1, subst (λ z. slice_get fs z ≡ Some r.1) (sym number) r.3, r.4, sym (ap (λ (z : Component ℕ). z.tag) r.4) ∙ (under_same c b tag r.5).1)
 
-one_begun : {P : Type 0} (came : List ℕ) (a : IdentifierAnswer P) (k : ℕ) (c : Component P) → one_answer came a ≡ Begins k c → a ≡ Begins k c
+pub one_begun : {P : Type 0} (came : List ℕ) (a : IdentifierAnswer P) (k : ℕ) (c : Component P) → one_answer came a ≡ Begins k c → a ≡ Begins k c
 one_begun [] a k c e = e
 one_begun (j ∷ came) a k c e = absurd cc
 

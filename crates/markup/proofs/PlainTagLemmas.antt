@@ -6,7 +6,7 @@ use Rattle.std.specs.Int.{is_in_range}
 use Rattle.std.specs.List.{list_all, flat_map}
 use Rattle.std.specs.Option.{is_none}
 use Rattle.std.specs.Str.{encode_utf8_all, bytes_eq}
-use Rattle.std.proofs.lemmas.Bool.{and_parts, and_from, both_ways, eqb-true, le-leb}
+use Rattle.std.proofs.lemmas.Bool.{and_parts, and_from, or_left, or_right, both_ways, eqb-true, le-leb}
 use Rattle.std.proofs.lemmas.Bool.Decides.{nat_tests}
 use Rattle.std.proofs.lemmas.List.{length-take-le}
 use Rattle.std.proofs.lemmas.Slice.Eq.{bytes_eq-Decides}
@@ -57,26 +57,19 @@ one_of false true z R h f g k = g refl
 one_of false false true R h f g k = k refl
 one_of false false false R h f g k = absurd (both_ways false refl h)
 
-first_holds : (x y : Bool) → x ≡ true → (x || y) ≡ true
-first_holds x y h = ap (λ b. b || y) h
-
-second_holds : (x y : Bool) → y ≡ true → (x || y) ≡ true
-second_holds true y h = refl
-second_holds false y h = h
-
 begins_name : (c : ℕ) → begins_plain c ≡ true → is_name_start c ≡ true
 unfolding is_name_start
 begins_name c h = one_of (is_in_range 97 122 c) (is_in_range 65 90 c) (c == 95) (in_some name_start_ranges c ≡ true) h
-    (λ e. second_holds (is_in_range 65 90 c) _ (second_holds (is_in_range 95 95 c) _ (first_holds (is_in_range 97 122 c) _ e)))
-    (λ e. first_holds (is_in_range 65 90 c) _ e)
+    (λ e. or_right (is_in_range 65 90 c) _ (or_right (is_in_range 95 95 c) _ (or_left (is_in_range 97 122 c) _ e)))
+    (λ e. or_left (is_in_range 65 90 c) _ e)
     (λ e. subst (λ d. in_some name_start_ranges d ≡ true) (sym (eqb-true c 95 e)) refl)
 
 pub continues_name : (c : ℕ) → continues_plain c ≡ true → is_name_char c ≡ true
 unfolding is_name_char
 continues_name c h = one_of (begins_plain c) (is_in_range 48 57 c) (is_in_range 45 46 c) ((is_name_start c || in_some name_more_ranges c) ≡ true) h
-    (λ e. first_holds (is_name_start c) (in_some name_more_ranges c) (begins_name c e))
-    (λ e. second_holds (is_name_start c) _ (second_holds (is_in_range 45 46 c) _ (first_holds (is_in_range 48 57 c) _ e)))
-    (λ e. second_holds (is_name_start c) _ (first_holds (is_in_range 45 46 c) _ e))
+    (λ e. or_left (is_name_start c) (in_some name_more_ranges c) (begins_name c e))
+    (λ e. or_right (is_name_start c) _ (or_right (is_in_range 45 46 c) _ (or_left (is_in_range 48 57 c) _ e)))
+    (λ e. or_right (is_name_start c) _ (or_left (is_in_range 45 46 c) _ e))
 
 continue_name : (cs : List ℕ) → list_all continues_plain cs ≡ true → list_all is_name_char cs ≡ true
 continue_name [] h = refl
@@ -91,7 +84,7 @@ ascii_all (c ∷ cs) h = let a = and_parts _ _ h in
     ap (λ v. v ++ encode_utf8_all cs) (encode_ascii c (plain_ascii c a.0)) ∙ ap (λ v. c ∷ v) (ascii_all cs a.1)
 
 begins_continues : (c : ℕ) → begins_plain c ≡ true → continues_plain c ≡ true
-begins_continues c h = first_holds (begins_plain c || is_in_range 48 57 c) (is_in_range 45 46 c) (first_holds (begins_plain c) (is_in_range 48 57 c) h)
+begins_continues c h = or_left (begins_plain c || is_in_range 48 57 c) (is_in_range 45 46 c) (or_left (begins_plain c) (is_in_range 48 57 c) h)
 
 -- a plain name is its own characters
 pub plain_is_part : (name : List ℕ) → is_plain_name name ≡ true → is_part name ≡ true

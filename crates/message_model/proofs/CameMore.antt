@@ -2,6 +2,7 @@
 use Rattle.std.proofs.Common.{◌≡◌, ℕ, ◌+◌, ◌≤◌, cond, Bool, true, false, ◌||◌, List, [], ◌∷◌, ◌++◌, Option, Some, None, refl, sym, ap, ◌∙◌, arith, append_assoc, append-nil, subst, eqb, ◌⊎◌, inl, inr, ◌≢◌}
 use Rattle.std.specs.Prelude.{slice_get, ◌==◌, nat_lt, if◌then◌else◌}
 use Rattle.std.specs.List.{list_any}
+use Rattle.std.proofs.lemmas.Bool.{or_parts}
 use Rattle.std.proofs.lemmas.Bool.Decides.{nat_tests, eqb_tells}
 use Rattle.facets.specs.declared.simple.Simple.{Simple}
 use Rattle.reference_check.specs.Forms.{Slot, Form, form_slots}
@@ -50,11 +51,7 @@ any_last k l [] h = one k l h
   where
     one : (k l : ℕ) → (nat_lt k l || false) ≡ false → l ≤ k
     one k l h = grind (arith, nat_tests)
-any_last k l (i ∷ before) h = any_last k l before (second (nat_lt k i) _ h)
-  where
-    second : (a b : Bool) → (a || b) ≡ false → b ≡ false
-    second true b h = cc
-    second false b h = h
+any_last k l (i ∷ before) h = any_last k l before (or_parts (nat_lt k i) _ h).1
 
 -- the next slot of a sequence, where it is another than the last, had not come
 new_in_sequence : {P : Type 0} (fs : List (Slot P)) (d before : List ℕ) (l k : ℕ) (s : Slot P) → IsSoundForm {P = P} (form.Sequence fs) → Came {L = Simple} (form.Sequence fs) d → d ≡ before ++ l ∷ [] → sequence_next fs d k s ≡ Slotted k → (l ≡ k → ⊥) → times k d ≡ 0

@@ -2,7 +2,7 @@
 use Rattle.std.proofs.Common.{◌≡◌, ℕ, zero, suc, List, [], ◌∷◌, map, Option, Some, None, refl, sym, ap, subst, ◌∙◌, arith, inl}
 use Rattle.std.specs.Prelude.{slice_get}
 use Rattle.std.specs.Option.{option_map}
-use Rattle.std.proofs.lemmas.Option.{slice_get-map, same_Some}
+use Rattle.std.proofs.lemmas.Option.{same_Some}
 use Rattle.facets.specs.declared.simple.Simple.{Simple}
 use Rattle.repo_objects.specs.declared.objects.MessageDef.{MessageDef}
 use Rattle.repo_objects.specs.declared.objects.Object.{Object}

@@ -1,5 +1,5 @@
 -- The beginning of the search for the reached objects that have a finite instance, and what it has found at its end.
-use Rattle.std.proofs.Common.{◌≡◌, ℕ, zero, suc, ◌+◌, ◌<◌, Bool, true, false, List, [], ◌∷◌, length, map, Option, Some, None, refl, sym, ap, ◌∙◌, subst, arith, ◌⊎◌, inl, inr}
+use Rattle.std.proofs.Common.{◌≡◌, ℕ, zero, suc, ◌<◌, Bool, true, false, List, [], ◌∷◌, length, map, Option, Some, None, refl, sym, ap, ◌∙◌, subst, arith, ◌⊎◌, inl, inr}
 use Rattle.std.specs.Prelude.{slice_get, Contains}
 use Rattle.std.specs.List.{AllByRecursion, position_or_len}
 use Rattle.std.specs.Str.{bytes_eq}
@@ -88,17 +88,6 @@ find_back (x ∷ es) id o h = go (bytes_eq x.id id) refl (λ later. find_back es
 
 abbrev position_of : List ℕ → List DictionaryEntry → ℕ
 position_of id es = position_or_len (λ (e : DictionaryEntry). bytes_eq e.id id) es
-
--- the rank is a place of the id, or none has it
-rank_cases : (es : List DictionaryEntry) (id : List ℕ) → ((e : DictionaryEntry) × (slice_get es (position_of id es) ≡ Some e) × (e.id ≡ id)) ⊎ (position_of id es ≡ length es)
-rank_cases [] id = inr refl
-rank_cases (x ∷ es) id = go (bytes_eq x.id id) refl (rank_cases es id)
-  where
-    go : (b : Bool) → bytes_eq x.id id ≡ b → ((e : DictionaryEntry) × (slice_get es (position_of id es) ≡ Some e) × (e.id ≡ id)) ⊎ (position_of id es ≡ length es)
-        → ((e : DictionaryEntry) × (slice_get (x ∷ es) (position_of id (x ∷ es)) ≡ Some e) × (e.id ≡ id)) ⊎ (position_of id (x ∷ es) ≡ length (x ∷ es))
-    go true t later = inl (x, rw t refl, (bytes_eq-Decides x.id id).0 t)
-    go false t (inl (e, at, same)) = inl (e, rw t (let n : 1 + position_of id es ≡ suc (position_of id es) = omega arith in rw n at), same)
-    go false t (inr none) = inr (rw t (omega arith))
 
 rank_at : (es : List DictionaryEntry) (k : ℕ) (e : DictionaryEntry) → Apart (ids_of es) → slice_get es k ≡ Some e → position_of e.id es ≡ k
 rank_at [] k e apart at = absurd cc

@@ -8,6 +8,7 @@ use Rattle.markup.specs.declared.tag.Opening.{Opening}
 use Rattle.markup.specs.declared.tag.Spelled.{Spelled}
 use Rattle.markup.specs.Token.{Token, Mark, Declaration, Comment, Instruction, Opener, Closer, TypeDeclaration, Start, End, Refer, LineEnd, Character, StartTag}
 use Rattle.markup.specs.Events.{Placed, events, items_of, open_tags, opening, spelled_name, element_name, entries, start_tag_items, end_tag_items, end_items}
+use Rattle.std.proofs.lemmas.Bool.{and_parts, or_parts}
 use Rattle.std.proofs.lemmas.Bool.Decides.{nat_tests}
 use Rattle.markup.specs.Token.{token_bytes}
 use Rattle.markup.specs.Reference.{referred_character}
@@ -86,10 +87,6 @@ some_is (Some x) h = (x, refl)
 not_none : {A : Type 0} (x : A) → ◌≡◌ {A = Option A} (Some x) None → ⊥
 not_none x h = true≢false (ap is_some h)
 
-or_false : (a b : Bool) → (a || b) ≡ false → a ≡ false
-or_false true b h = absurd (true≢false h)
-or_false false b h = refl
-
 rules_none : {A : Type 0} (a b c : Bool) (x y z : A) → (if a then Some x else (if b then Some y else (if c then Some z else None))) ≡ None → (b ≡ false) × (c ≡ false)
 rules_none true b c x y z h = absurd (not_none x h)
 rules_none false true c x y z h = absurd (not_none y h)
@@ -100,7 +97,7 @@ rules_none false false false x y z h = (refl, refl)
 start_clean : (over : Bool) (tags : List Opening) (tag : Opening) → start_rule over tags tag ≡ None → ((n : Expanded) × (element_name (tag ∷ tags) tag.name ≡ Some n)) × (over ≡ false)
 start_clean over tags tag h =
     let r = rules_none (has_clash (tag ∷ tags) tag.given) (is_none (element_name (tag ∷ tags) tag.name) || list_any (is_bad_attribute (tag ∷ tags)) tag.given) over _ _ _ h in
-    (some_is (element_name (tag ∷ tags) tag.name) (or_false (is_none (element_name (tag ∷ tags) tag.name)) (list_any (is_bad_attribute (tag ∷ tags)) tag.given) r.0), r.1)
+    (some_is (element_name (tag ∷ tags) tag.name) (or_parts (is_none (element_name (tag ∷ tags) tag.name)) (list_any (is_bad_attribute (tag ∷ tags)) tag.given) r.0).0, r.1)
 
 -- what is said of the tags behind a start tag, of an empty element or not
 behind_start : (b : Bool) (tags : List Opening) (tag : Opening) (n : Expanded) (ns : List Expanded) (items : List Item)
@@ -141,10 +138,6 @@ end_token (tag ∷ tags) name [] items named rule later = absurd named
 end_token (tag ∷ tags) name (n ∷ ns) items (e, named) rule later =
     subst (λ o. Closes (n ∷ ns) (end_tag_items o ++ items)) (sym e) (end_closes n ns items (later ns named))
 
-and_right : (a b : Bool) → (a && b) ≡ true → b ≡ true
-and_right true b h = h
-and_right false b h = absurd (true≢false (sym h))
-
 not_zero : (n : ℕ) → (suc n == 0) ≡ true → ⊥
 not_zero n h = grind (arith, nat_tests)
 
@@ -155,7 +148,7 @@ none_open before ns named over = by (open_tags before) ns refl named
     by [] [] e h = ([], refl)
     by [] (n ∷ ns) e h = absurd h
     by (t ∷ tags) [] e h = absurd h
-    by (t ∷ tags) (n ∷ ns) e h = absurd (not_zero (length tags) (ap (λ ts. length ts == 0) (sym e) ∙ and_right (has_start before) (is_outside before) over))
+    by (t ∷ tags) (n ∷ ns) e h = absurd (not_zero (length tags) (ap (λ ts. length ts == 0) (sym e) ∙ (and_parts (has_start before) (is_outside before) over).1))
 
 -- behind the root's start tag, tokens that break no rule close what is open
 tokens_close : (before ts : List Token) (ns : List Expanded) → has_start before ≡ true → AreNamed (open_tags before) ns → IsClean before ts → is_over (past before ts) ≡ true

@@ -35,13 +35,6 @@ outside_parts n (Ends m ∷ a) b h = outside_parts (Prim.Native.Nat.pred n) a b 
 outside_parts n (Char c ∷ a) b h = let r = outside_parts n a b h.1 in ((h.0, r.0), r.1)
 outside_parts n (Skipped ∷ a) b h = outside_parts n a b h
 
-depth-append : (n : ℕ) (a b : List Item) → depth n (a ++ b) ≡ depth (depth n a) b
-depth-append n [] b = refl
-depth-append n (Starts m e ∷ a) b = depth-append (suc n) a b
-depth-append n (Ends m ∷ a) b = depth-append (Prim.Native.Nat.pred n) a b
-depth-append n (Char c ∷ a) b = depth-append n a b
-depth-append n (Skipped ∷ a) b = depth-append n a b
-
 -- ---- the events of a tree
 
 nodes_inside : (n : ℕ) (ns : Nodes) (more : List Item) → NoneOutside (suc n) more → NoneOutside (suc n) (flat_nodes ns ++ more)

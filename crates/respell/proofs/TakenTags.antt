@@ -1,6 +1,7 @@
 -- A tag without attributes, of a name in the default namespace so far.
-use Rattle.std.proofs.Common.{◌≡◌, ℕ, Bool, true, false, ◌||◌, List, [], ◌∷◌, ◌++◌, reverse, length, drop, refl, sym, ap, ap₂, subst, ◌∙◌, Option, Some, None, append_assoc, if◌then◌else◌}
+use Rattle.std.proofs.Common.{◌≡◌, ℕ, Bool, true, false, List, [], ◌∷◌, ◌++◌, reverse, length, drop, refl, sym, ap, ap₂, subst, ◌∙◌, Option, Some, None, append_assoc, if◌then◌else◌}
 use Rattle.std.specs.List.{AllByRecursion}
+use Rattle.std.proofs.lemmas.Bool.{or_right}
 use Rattle.std.proofs.lemmas.List.{reverse-append, reverse-reverse}
 use Rattle.lexical_core.specs.Tree.{Expanded, Item, Starts, Char, Ends, Skipped}
 use Rattle.markup.specs.PlainTags.{innermost_namespace}
@@ -67,10 +68,6 @@ three old t1 t2 t3 a b e1 e2 e3 =
 default_kept : (declared : List (List ℕ)) (old new : List Bool) (ds : List (Option (List ℕ))) (n : Expanded) → new ≡ old ++ false ∷ [] → nearest ds ≡ Some n.namespace → KeepsDefaults declared (reverse old) ds
     → KeepsDefaults declared (reverse new) (default_within (nearest ds) n ∷ ds)
 default_kept declared old new ds n pushed near h = kept_same declared old new ds n pushed (or_right (is_xml n.namespace) (is_default (nearest ds) n.namespace) (ap (λ (d : Option (List ℕ)). is_default d n.namespace) near ∙ same_bytes n.namespace n.namespace refl)) h
-  where
-    or_right : (a b : Bool) → b ≡ true → (a || b) ≡ true
-    or_right true b e = refl
-    or_right false b e = e
 
 pub plain_start : (r q : Respell) (forgotten : List ℕ) (items : List Item) (n : Expanded) (local t1 t2 : List ℕ) → n.local ≡ local → HasWritten r forgotten items → IsInDefault r n.namespace → t1 ≡ r.text ++ 60 ∷ [] → t2 ≡ t1 ++ local → q.text ≡ t2 ++ 62 ∷ []
     → q.defaults ≡ r.defaults → q.declares.items ≡ r.declares.items ++ false ∷ [] → q.failed ≡ r.failed → q.prefixed ≡ r.prefixed → HasWritten q forgotten (items ++ Starts n [] ∷ [])

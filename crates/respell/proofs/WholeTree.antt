@@ -96,13 +96,7 @@ start_parts over false false true x y z e = absurd cc
 start_parts true false false false x y z e = absurd cc
 start_parts false false false false x y z e = (refl, refl)
 
--- where no element is open
-outside_names : (tags : List Opening) (ns : List Expanded) → AreNames tags ns → (length tags ≡ length ns)
-outside_names [] [] h = refl
-outside_names (t ∷ tags) (n ∷ ns) h = ap suc (outside_names tags ns h.1)
-outside_names [] (n ∷ ns) h = absurd h
-outside_names (t ∷ tags) [] h = absurd h
-
+-- a start tag, and items that close what it leaves open
 pub start_closes : (begun empty : Bool) (name : Expanded) (es : List Entry) (ns : List Expanded) (items : List Item) → (ns ≡ [] → begun ≡ false)
     → Closes true (if empty then ns else name ∷ ns) items → Closes begun ns ((Starts name es ∷ (if empty then Ends name ∷ [] else [])) ++ items)
 start_closes begun true name es [] items out h = (out refl, (refl, h))

@@ -1,5 +1,5 @@
 -- The faults of XML instances as readers that are fed from a source tell them.
-use Rattle.std.proofs.Common.{◌≡◌, ℕ, List, [], ◌<◌, ◌≤◌, length, take, Result, Ok, Err, IfErr, IfSome, Option, Some, None, sym, ap, ◌∙◌}
+use Rattle.std.proofs.Common.{◌≡◌, ℕ, List, [], ◌<◌, ◌≤◌, length, take, Result, Ok, Err, IfErr, IfSome, Option, Some, None, ap, ◌∙◌}
 use Rattle.lexical_core.specs.declared.rule.Rule.TheVariants.{Truncated}
 use Rattle.message_model.specs.Sound.{AreSound}
 use Rattle.message_model.specs.Tables.{Tables, message_of, types_of}

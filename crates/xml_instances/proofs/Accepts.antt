@@ -4,6 +4,7 @@ use Rattle.std.specs.Prelude.{slice_get, nat_lt, ◌==◌, not, ◌&&◌, ◌||�
 use Rattle.std.specs.Str.{bytes_eq, chars}
 use Rattle.std.specs.List.{AllByRecursion, list_any}
 use Rattle.std.proofs.lemmas.Slice.Eq.{bytes_eq-Decides}
+use Rattle.std.proofs.lemmas.Bool.{and_parts, or_cases}
 use Rattle.std.proofs.lemmas.Bool.Decides.{nat_tests}
 use Rattle.lexical_core.specs.Tree.{Expanded, Entry, Nodes, Element, Text, Tree, Item, Starts, Char, Ends, flat, flat_nodes}
 use Rattle.lexical_core.specs.Tree as tree
@@ -100,24 +101,16 @@ not_bare (form.Sequence []) k s e = cc
 not_bare (form.Sequence (f ∷ fs)) k s e = refl
 not_bare _ k s e = refl
 
-both_in : (a b : Bool) → (a && b) ≡ true → (a ≡ true) × (b ≡ true)
-both_in true b e = (refl, e)
-both_in false b e = cc
-
 pub name_in : (a b : Expanded) → same_name a b ≡ true → a ≡ b
 name_in a b e =
-    let r : (bytes_eq a.namespace b.namespace ≡ true) × (bytes_eq a.local b.local ≡ true) = both_in _ _ e in
+    let r : (bytes_eq a.namespace b.namespace ≡ true) × (bytes_eq a.local b.local ≡ true) = and_parts _ _ e in
     joined a.namespace a.local b.namespace b.local ((bytes_eq-Decides a.namespace b.namespace).0 r.0) ((bytes_eq-Decides a.local b.local).0 r.1)
   where
     joined : (n l o k : List ℕ) → n ≡ o → l ≡ k → name_in_namespace n l ≡ name_in_namespace o k
     joined n l o k p q = rw (p, q) refl
 
-or_in : (a b : Bool) → (a || b) ≡ true → (a ≡ true) ⊎ (b ≡ true)
-or_in true b e = inl refl
-or_in false b e = inr e
-
 hint_in : (a : Entry) → is_hint a ≡ true → IsHint a
-hint_in a e = elim (or_in _ _ e) [ inl h ↦ inl (name_in a.name _ h) | inr h ↦ inr (name_in a.name _ h) ]
+hint_in a e = elim (or_cases _ _ e) [ inl h ↦ inl (name_in a.name _ h) | inr h ↦ inr (name_in a.name _ h) ]
 
 known_in : (k b : Bool) → (not k || b) ≡ false → (k ≡ true) × (b ≡ false)
 known_in true b e = (refl, e)
@@ -138,7 +131,7 @@ pub money_in : {P : Type 0} (c : P) (s : Simple) (attributes : List Entry) → l
 money_in c s [] e = tt
 money_in c s (a ∷ attributes) e =
     let r : (is_known (form.Money c s) a ≡ true) × (list_any (λ a. not (is_known (form.Money c s) a)) attributes ≡ false) = known_in (is_known (form.Money c s) a) _ e in
-    (elim (or_in (is_hint a) (same_name a.name currency) r.0) [ inl h ↦ inl (hint_in a h) | inr h ↦ inr (name_in a.name _ h) ], money_in c s attributes r.1)
+    (elim (or_cases (is_hint a) (same_name a.name currency) r.0) [ inl h ↦ inl (hint_in a h) | inr h ↦ inr (name_in a.name _ h) ], money_in c s attributes r.1)
 
 pub unless_in : (o : Option Broken) (Other : Option Broken → Type 0) → Unless o Other None → (o ≡ None) × Other None
 unless_in None Other h = (refl, h)

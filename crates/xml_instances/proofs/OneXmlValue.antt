@@ -20,7 +20,7 @@ use Rattle.reference_check.specs.Steps.{find_slot}
 use Rattle.message_model.specs.Admits.{AdmitsAs, AdmitsChildren, FitsCode}
 use Rattle.message_model.specs.Message.{Message}
 use Rattle.message_model.specs.Sound.{AreSound, HaveSortedCodes}
-use Rattle.message_model.specs.Writes.{name_in_namespace, currency, value_of, HasCurrency, SpellsCode, WritesAttributes, text_nodes, SpellsText, IsBlank, Wraps, MayHold, WritesContent, WritesLeaf}
+use Rattle.message_model.specs.Writes.{name_in_namespace, currency, value_of, HasCurrency, SpellsCode, WritesAttributes, text_nodes, SpellsText, Wraps, MayHold, WritesContent, WritesLeaf}
 use Rattle.xml_instances.specs.SpellsXml.{SpellsXml, IsInstance}
 use Rattle.xml_instances.specs.XmlFaults.{items}
 use Rattle.lexical_core.proofs.SameTrees.{same_tree}
@@ -53,11 +53,6 @@ number_same : (a b : Number) → leaf.Number a ≡ leaf.Number b → a ≡ b
 number_same a b e = cc
 
 -- nodes wrap one tree
-blank_no_tree : {A : Type 0} (t : Tree) (nodes : Nodes) → IsBlank nodes → Wraps t nodes → A
-blank_no_tree t tree.Nothing b w = absurd w
-blank_no_tree t (Text c rest) b w = blank_no_tree t rest b.1 w.1
-blank_no_tree t (Element n a c rest) b w = absurd b
-
 trees_same : (t u : Tree) (nodes : Nodes) → Wraps t nodes → Wraps u nodes → t ≡ u
 trees_same t u tree.Nothing h k = absurd h
 trees_same t u (Text c rest) h k = trees_same t u rest h.1 k.1

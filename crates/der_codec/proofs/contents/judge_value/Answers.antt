@@ -3,7 +3,7 @@ use Rattle.message_model.specs.Tables.{types_of}
 use Rattle.message_model.specs.Views.{IsFormOf}
 use Rattle.message_model.specs.declared.model.Form.TheVariants as form
 use Rattle.der_model.specs.DerMessage.{der_message}
-use Rattle.der_codec.proofs.ContentsJudged.{simple_judged, simple_text, envelope_judged, no_value, no_envelope}
+use Rattle.der_codec.proofs.ContentsJudged.{simple_judged, simple_text, envelope_judged, no_envelope}
 use Rattle.der_codec.proofs.contents.judge_value.Goals as goal
 
 pub judge_simple-requires-clause-limits : goal.judge_simple-requires-clause-limits

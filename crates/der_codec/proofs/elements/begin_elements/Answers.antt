@@ -2,7 +2,7 @@ use Rattle.std.proofs.Common.{subst}
 use Rattle.der_model.specs.ShownPieces.{begin_each}
 use Rattle.der_codec.specs.Reserved.{HoldsMore}
 use Rattle.der_codec.specs.inner.Elements.{edge_if}
-use Rattle.der_codec.proofs.Growing.{holds_first, holds_then, begun_each, grows_twice}
+use Rattle.der_codec.proofs.Growing.{holds_first, begun_each}
 use Rattle.der_codec.proofs.elements.begin_elements.Goals as goal
 
 pub returns-in-Err-clause-within : goal.returns-in-Err-clause-within

@@ -4,7 +4,7 @@ use Rattle.inst_pool.specs.Pieces.{edge_of}
 use Rattle.der_model.specs.ShownPieces.{begin_each}
 use Rattle.der_codec.specs.Reserved.{HoldsMore}
 use Rattle.der_codec.specs.inner.Elements.{edge_if}
-use Rattle.der_codec.proofs.Growing.{one_spare, grows_self}
+use Rattle.der_codec.proofs.Growing.{one_spare}
 use Rattle.der_codec.proofs.elements.begin_one.Goals as goal
 
 pub returns-in-Some-clause-within : goal.returns-in-Some-clause-within

@@ -1,4 +1,4 @@
-use Rattle.std.proofs.Common.{◌++◌, ◌∷◌, [], ap, ◌∙◌, subst}
+use Rattle.std.proofs.Common.{◌++◌, ◌∷◌, [], ap, ◌∙◌}
 use Rattle.data_types.specs.LeafAnswers.{leaf_of}
 use Rattle.data_types.specs.Value.{Holds}
 use Rattle.inst_pool.specs.Pieces.{open_in}
@@ -7,7 +7,7 @@ use Rattle.der_codec.specs.inner.Elements.{edges_of}
 use Rattle.der_codec.proofs.PiecesOpen.{on_ok_when, leaf_open}
 use Rattle.der_codec.proofs.ShownUsual.{pieces_join}
 use Rattle.der_codec.specs.Reserved.{HoldsMore, GrowsRoom}
-use Rattle.der_codec.proofs.Growing.{holds_first, holds_then, grows_twice}
+use Rattle.der_codec.proofs.Growing.{holds_first, holds_then}
 use Rattle.std.specs.Prelude.{Some}
 use Rattle.der_codec.proofs.elements.hold_within.Goals as goal
 

@@ -4,7 +4,7 @@ use Rattle.der_codec.specs.Decoding.{HasReadParts, IsFresh}
 use Rattle.der_codec.specs.KeptPieces.{KeepsShown}
 use Rattle.der_codec.specs.declared.decoder.Decoder.{Decoder}
 use Rattle.der_codec.proofs.Fed.{at_memory}
-use Rattle.der_codec.proofs.Keeping.{enough_then, err_as, not_ok}
+use Rattle.der_codec.proofs.Keeping.{enough_then, not_ok}
 use Rattle.der_codec.proofs.RoomSteps.{leaf_end_enough}
 use Rattle.der_codec.proofs.checker.DerChecker.end_leaf.Goals as goal
 

@@ -7,7 +7,7 @@ use Rattle.der_codec.specs.declared.decoder.Decoder.{Decoder}
 use Rattle.der_codec.proofs.Fed.{stop_within}
 use Rattle.der_codec.proofs.Nested.{ready_below}
 use Rattle.der_codec.proofs.ShownFed.{end_open, end_shown, value_ends}
-use Rattle.der_codec.proofs.Keeping.{keeping_as, grows_same, enough_then, err_as, not_ok}
+use Rattle.der_codec.proofs.Keeping.{keeping_as, grows_same, not_ok}
 use Rattle.der_codec.proofs.RoomSteps.{value_end_enough}
 use Rattle.der_codec.proofs.checker.DerChecker.end_one.Goals as goal
 

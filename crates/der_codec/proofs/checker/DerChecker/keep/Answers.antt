@@ -4,7 +4,7 @@ use Rattle.der_codec.specs.Checking.{IsReading}
 use Rattle.der_codec.specs.declared.decoder.Decoder.{Decoder}
 use Rattle.der_codec.specs.declared.decoder.Due.TheVariants as due
 use Rattle.der_codec.proofs.Fed.{keep_reading}
-use Rattle.der_codec.proofs.Keeping.{keeping_as, levels_same, checks_same, grows_as, enough_less, not_ok}
+use Rattle.der_codec.proofs.Keeping.{keeping_as, levels_same, checks_same, grows_as, not_ok}
 use Rattle.der_codec.proofs.RoomSteps.{kept_enough}
 use Rattle.message_model.specs.Tables.{types_of}
 use Rattle.der_codec.proofs.checker.DerChecker.keep.Goals as goal

@@ -2,7 +2,7 @@ use Rattle.std.proofs.Common.{◌++◌, take, ◌∙◌, drop, sym, ap, refl, ar
 use Rattle.der_model.specs.DerMessage.{der_message}
 use Rattle.der_codec.proofs.Fed.{taken_further, stopped_further, stopped_early, joined}
 use Rattle.der_codec.proofs.ShownFed.{short_shown}
-use Rattle.der_codec.proofs.Keeping.{enough_less, enough_then, keeping_as, grows_same, length_enough, err_as}
+use Rattle.der_codec.proofs.Keeping.{enough_then, keeping_as, grows_same, length_enough, err_as}
 use Rattle.der_codec.specs.declared.checker.DerChecker.{DerChecker}
 use Rattle.der_codec.proofs.checker.DerChecker.take_behind.Goals as goal
 

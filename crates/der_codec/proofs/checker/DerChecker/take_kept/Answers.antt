@@ -2,7 +2,7 @@ use Rattle.std.proofs.Common.{◌+◌, ◌≤◌, ◌^◌, length, sym, subst, r
 use Rattle.der_codec.specs.Decoding.{IsHeaderDue}
 use Rattle.der_codec.specs.declared.decoder.Decoder.{Decoder}
 use Rattle.der_codec.proofs.UsualFed.{front_as, none_fed, some_taken}
-use Rattle.der_codec.proofs.Keeping.{enough_then, err_as}
+use Rattle.der_codec.proofs.Keeping.{enough_then}
 use Rattle.der_codec.proofs.checker.DerChecker.take_kept.Goals as goal
 
 pub take_first-requires-clause-room : goal.take_first-requires-clause-room

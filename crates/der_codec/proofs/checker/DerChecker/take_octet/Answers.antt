@@ -7,7 +7,7 @@ use Rattle.der_codec.specs.Levels.{inwards}
 use Rattle.der_codec.specs.declared.decoder.Decoder.{Decoder}
 use Rattle.der_codec.proofs.PiecesOpen.{ok_for}
 use Rattle.der_codec.proofs.ShownFed.{tag_shown, length_shown, length_due}
-use Rattle.der_codec.proofs.Keeping.{keeping_as, grows_same, length_enough, err_as, ok_no_err}
+use Rattle.der_codec.proofs.Keeping.{keeping_as, grows_same, length_enough, ok_no_err}
 use Rattle.der_codec.proofs.RoomSteps.{tag_enough}
 use Rattle.der_codec.proofs.checker.DerChecker.take_octet.Goals as goal
 

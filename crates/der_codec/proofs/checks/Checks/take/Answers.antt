@@ -1,5 +1,5 @@
 use Rattle.std.proofs.Common.{rules}
-use Rattle.der_codec.proofs.KeptChecks.{taken_at, found_roomy, set_other}
+use Rattle.der_codec.proofs.KeptChecks.{taken_at, found_roomy}
 use Rattle.der_codec.proofs.checks.Checks.take.Goals as goal
 
 pub returns-then-at-len-clause-made : goal.returns-then-at-len-clause-made
