@@ -8,8 +8,6 @@
 #[cfg(test)]
 mod code_sets_tests;
 #[cfg(test)]
-mod code_texts_tests;
-#[cfg(test)]
 mod data_types_tests;
 #[cfg(test)]
 mod facets_tests;

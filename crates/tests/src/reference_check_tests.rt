@@ -1,5 +1,7 @@
 //! What no contract says: that there is memory to follow references, and what is told of small
 //! repositories.
+mod code_texts;
+
 ghost use Rattle.std.specs.Prelude.{IfOk, All};
 ghost use Rattle.lexical_core.specs.Characters.{IsXmlText};
 ghost use Rattle.repo_objects.specs.Objects.{HasElementTexts, HasObjectTexts, HasMessageTexts, IsXmlTextIfAny};
