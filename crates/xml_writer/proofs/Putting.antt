@@ -34,3 +34,15 @@ module _ (g : Graph ℕ Simple) (pieces : List Piece) where
           let e : buffer ++ r.0 ≡ left ++ parts.1 =
           ap (λ t. buffer ++ t) parts.4 ∙ (sym (append_assoc buffer parts.0 parts.1) ∙ ap (λ t. t ++ parts.1) (sym (puts parts.0 parts.2))) in
           (parts.1, parts.3, r.2 ∙ e)
+
+-- what is at a place of the pieces is what was found there
+module _ (g : Graph ℕ Simple) (i : Innermost) (pieces : List Piece) (at : ℕ) (p : Piece) (is : slice_get pieces at ≡ Some p) where
+  found_same : (q : Piece) → slice_get pieces at ≡ Some q → q ≡ p
+  found_same q there = cc
+
+  pub found_writes : (q : Piece) × (bytes : List ℕ) × (slice_get pieces at ≡ Some q) × IsPieceText g i q bytes → (bytes : List ℕ) × IsPieceText g i p bytes
+  found_writes (q, bytes, there, w) = (bytes, subst (λ x. IsPieceText g i x bytes) (found_same q there) w)
+
+  pub found_puts : (buffer left : List ℕ) → ((bytes : List ℕ) → IsPieceText g i p bytes → left ≡ buffer ++ bytes)
+      → (q : Piece) (bytes : List ℕ) → slice_get pieces at ≡ Some q → IsPieceText g i q bytes → left ≡ buffer ++ bytes
+  found_puts buffer left puts q bytes there w = puts bytes (subst (λ x. IsPieceText g i x bytes) (found_same q there) w)

@@ -1,3 +1,4 @@
 -- What private functions alone cite, in reading order.
 pub mod PieceTexts
 pub mod PlainTexts
+pub mod Placed

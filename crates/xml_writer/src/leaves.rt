@@ -1,5 +1,5 @@
 //! The texts of leaves: XML 1.0 §2.4 and §3.3.3, as in Canonical XML 1.0 §2.3.
-ghost use Rattle.std.specs.Prelude.{◌≡◌, ◌≢◌, ◌++◌, ℕ, List, Some, IfSome, IfNone, codes, encode_utf8_all, flat_map, slice_get};
+ghost use Rattle.std.specs.Prelude.{◌≡◌, ◌≢◌, ◌++◌, ℕ, List, IsTrue, false, Some, IfSome, IfNone, codes, encode_utf8_all, flat_map, slice_get};
 ghost use Rattle.outside.specs.Pushes.{Pushes};
 ghost use Rattle.lexical_core.specs.Escapes.{escape_of};
 ghost use Rattle.data_types.specs.Leaf.{Bytes as BytesLeaf};
@@ -11,7 +11,8 @@ ghost use Rattle.xml_writer.specs.CanonXml.{IsCodeText, currency_text};
 ghost use Rattle.xml_writer.specs.inner.PieceTexts.{IsHeldText};
 
 use crate::innermost::Innermost;
-use crate::texts::push_spelled;
+use crate::page::Page;
+use crate::texts::{push_spelled, put_spelled};
 use data_types::{Kind, LeafRef, push_leaf};
 use facets::Simple;
 use message_model::{Form, Model};
@@ -108,7 +109,42 @@ fn push_text<O: Sink>(
     }
 }
 
+/// Puts the text that a leaf of the innermost element writes into the buffer, where each of its bytes stands for itself. `false` where
+/// one does not, where the leaf is no text, or the buffer has not the room; it is as before.
+#[inline(always)]
+pub(crate) fn put_plain(
+    model: &Model,
+    innermost: Innermost,
+    leaf: &LeafRef<'_>,
+    buffer: &mut Page,
+) -> bool
+    requires { (bytes : List ℕ) × IsHeldText (types_of model.now) innermost.unended (types_of model.now innermost.number) (leaf_of leaf.now) bytes }
+    ensures put { IsTrue result → (bytes : List ℕ) → IsHeldText (types_of model.now) innermost.unended (types_of model.now innermost.number) (leaf_of leaf.now) bytes
+        → buffer.new ≡ buffer.old ++ bytes }
+    ensures kept { result ≡ false → buffer.new ≡ buffer.old }
+{
+    match model.form(innermost.number) {
+        Some(Form::Simple(simple)) => put_plain_text(simple, leaf, buffer),
+        _ => false,
+    }
+}
+
+/// Puts the canonical text of a leaf that fits into the buffer, where each of its bytes stands for itself.
+#[inline(always)]
+fn put_plain_text(simple: &Simple, leaf: &LeafRef<'_>, buffer: &mut Page) -> bool
+    requires { Fits simple.now (leaf_of leaf.now) }
+    ensures put { IsTrue result → (chars : List ℕ) → IsCanonicalUnder simple.now (leaf_of leaf.now) chars
+        → buffer.new ≡ buffer.old ++ flat_map (escape_of false) chars }
+    ensures kept { result ≡ false → buffer.new ≡ buffer.old }
+{
+    match text_of(simple, leaf) {
+        Some(text) => put_spelled(text, buffer),
+        None => false,
+    }
+}
+
 /// The text of a leaf of a text that fits: that of its code where there are codes. `None` where it is of another kind.
+#[inline(always)]
 fn text_of<'a>(simple: &'a Simple, leaf: &LeafRef<'a>) -> Option<&'a [u8]>
     requires { Fits simple.now (leaf_of leaf.now) }
     ensures some { IfSome result (λ text. (chars : List ℕ) → IsCanonicalUnder simple.now (leaf_of leaf.now) chars → text.now ≡ encode_utf8_all chars) }
@@ -125,6 +161,7 @@ fn text_of<'a>(simple: &'a Simple, leaf: &LeafRef<'a>) -> Option<&'a [u8]>
 }
 
 /// The text of the code at that place.
+#[inline(always)]
 fn code_at(simple: &Simple, place: u32) -> &[u8]
     requires { (codes : List (List ℕ)) × (text : List ℕ) × (simple.now.codes ≡ Some codes) × (slice_get codes place ≡ Some text) }
     ensures { (codes : List (List ℕ)) (text : List ℕ) → simple.now.codes ≡ Some codes → slice_get codes place ≡ Some text → result.now ≡ text }

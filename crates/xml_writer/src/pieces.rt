@@ -1,18 +1,20 @@
 //! What the pieces of an instance write.
-ghost use Rattle.std.specs.Prelude.{◌≡◌, ◌++◌, ◌≤◌, ℕ, List, IsTrue, false, length, drop};
+ghost use Rattle.std.specs.Prelude.{◌≡◌, ◌++◌, ◌≤◌, ℕ, List, IsTrue, false, length, drop, slice_get, Some};
 ghost use Rattle.outside.specs.Pushes.{Pushes};
+ghost use Rattle.data_types.specs.Value.{Piece as OnePiece};
 ghost use Rattle.inst_pool.specs.Pieces.{piece_of};
 ghost use Rattle.message_model.specs.Tables.{types_of};
 ghost use Rattle.outside.specs.Gathering.{Gathers};
 ghost use Rattle.xml_writer.specs.inner.PieceTexts.{innermost_begun, innermost_behind, IsPieceText, AreWritten, HasPut};
 
 use crate::innermost::{Innermost, innermost_begun, innermost_behind};
-use crate::leaves::push_held;
-use crate::tags::{push_begin, push_end};
+use crate::leaves::{push_held, put_plain};
+use crate::page::Page;
+use crate::tags::{push_begin, push_end, put_begin, put_end};
 use data_types::LeafRef;
 use inst_pool::{Instance, Piece};
 use message_model::Model;
-use outside::{Buffer, Sink, SinkError};
+use outside::{Sink, SinkError};
 
 /// Where a writer is among the pieces of an instance.
 #[derive(Clone, Copy, Debug)]
@@ -33,7 +35,7 @@ pub(crate) fn push_pieces<O: Sink>(
     ensures { (bytes : List ℕ) → AreWritten (types_of model.now) (innermost_begun (types_of model.now) 0) instance.now.region.pieces bytes
         → Pushes O.held O.faults O.room sink.old sink.new result bytes }
 {
-    let mut buffer = Buffer::new();
+    let mut buffer = Page::new();
     let count = instance.count();
     let begun = Place {
         at: 0,
@@ -65,7 +67,7 @@ pub(crate) fn push_pieces<O: Sink>(
 }
 
 /// Puts what the pieces from the place on write into the buffer, up to one for which it has not the room.
-fn put_pieces(model: &Model, instance: &Instance, place: Place, buffer: &mut Buffer) -> Place
+fn put_pieces(model: &Model, instance: &Instance, place: Place, buffer: &mut Page) -> Place
     requires within { place.at ≤ length instance.now.region.pieces }
     requires text { (rest : List ℕ) × AreWritten (types_of model.now) place.innermost (drop place.at instance.now.region.pieces) rest }
     ensures later { place.at ≤ result.at }
@@ -79,7 +81,7 @@ fn put_pieces(model: &Model, instance: &Instance, place: Place, buffer: &mut Buf
             unreachable!()
         };
         let behind = innermost_behind(model, next.innermost, &piece);
-        if !put_piece(model, next.innermost, behind.unended, &piece, buffer) {
+        if !put_at(model, instance, next, behind.unended, &piece, buffer) {
             return next;
         }
         next = Place {
@@ -90,6 +92,70 @@ fn put_pieces(model: &Model, instance: &Instance, place: Place, buffer: &mut Buf
     next
 }
 
+/// Puts what the piece at a place writes into the buffer. `false` where it has not the room; it is as before.
+#[inline(always)]
+fn put_at(
+    model: &Model,
+    instance: &Instance,
+    place: Place,
+    unended: bool,
+    piece: &Piece<'_>,
+    buffer: &mut Page,
+) -> bool
+    requires piece { slice_get instance.now.region.pieces place.at ≡ Some (piece_of piece.now) }
+    requires behind { unended ≡ (innermost_behind (types_of model.now) place.innermost (piece_of piece.now)).unended }
+    requires text { (bytes : List ℕ) × IsPieceText (types_of model.now) place.innermost (piece_of piece.now) bytes }
+    ensures put { IsTrue result → (bytes : List ℕ) → IsPieceText (types_of model.now) place.innermost (piece_of piece.now) bytes → buffer.new ≡ buffer.old ++ bytes }
+    ensures kept { result ≡ false → buffer.new ≡ buffer.old }
+{
+    if put_usual(model, place.innermost, unended, piece, buffer) {
+        return true;
+    }
+    put_unusual(model, instance, place.at, place.innermost, buffer)
+}
+
+/// The same, where the piece is a tag, or a text of bytes that stand for themselves. `false` where it is another too.
+#[inline(always)]
+fn put_usual(
+    model: &Model,
+    innermost: Innermost,
+    unended: bool,
+    piece: &Piece<'_>,
+    buffer: &mut Page,
+) -> bool
+    requires behind { unended ≡ (innermost_behind (types_of model.now) innermost (piece_of piece.now)).unended }
+    requires text { (bytes : List ℕ) × IsPieceText (types_of model.now) innermost (piece_of piece.now) bytes }
+    ensures put { IsTrue result → (bytes : List ℕ) → IsPieceText (types_of model.now) innermost (piece_of piece.now) bytes → buffer.new ≡ buffer.old ++ bytes }
+    ensures kept { result ≡ false → buffer.new ≡ buffer.old }
+{
+    match piece {
+        Piece::Open(edge) => put_begin(model, edge, unended, buffer),
+        Piece::Leaf(leaf) => put_plain(model, innermost, leaf, buffer),
+        Piece::Close(edge) => put_end(model, edge, buffer),
+    }
+}
+
+/// Puts what the piece at a place writes into the buffer, whatever it is. `false` where it has not the room; it is as before.
+#[inline(never)]
+fn put_unusual(
+    model: &Model,
+    instance: &Instance,
+    at: usize,
+    innermost: Innermost,
+    buffer: &mut Page,
+) -> bool
+    requires { (p : OnePiece) × (bytes : List ℕ) × (slice_get instance.now.region.pieces at ≡ Some p) × IsPieceText (types_of model.now) innermost p bytes }
+    ensures put { IsTrue result → (p : OnePiece) (bytes : List ℕ) → slice_get instance.now.region.pieces at ≡ Some p → IsPieceText (types_of model.now) innermost p bytes
+        → buffer.new ≡ buffer.old ++ bytes }
+    ensures kept { result ≡ false → buffer.new ≡ buffer.old }
+{
+    let Some(piece) = instance.piece(at) else {
+        unreachable!()
+    };
+    let behind = innermost_behind(model, innermost, &piece);
+    put_piece(model, innermost, behind.unended, &piece, buffer)
+}
+
 /// Pushes what the buffer has; what a piece writes waits in it then, or is pushed too where it is too long for that.
 #[cold]
 #[inline(never)]
@@ -98,7 +164,7 @@ fn push_past<O: Sink>(
     innermost: Innermost,
     unended: bool,
     piece: &Piece<'_>,
-    buffer: &mut Buffer,
+    buffer: &mut Page,
     sink: &mut O,
 ) -> Result<(), SinkError>
     requires behind { unended ≡ (innermost_behind (types_of model.now) innermost (piece_of piece.now)).unended }
@@ -122,7 +188,7 @@ fn put_piece(
     innermost: Innermost,
     unended: bool,
     piece: &Piece<'_>,
-    buffer: &mut Buffer,
+    buffer: &mut Page,
 ) -> bool
     requires behind { unended ≡ (innermost_behind (types_of model.now) innermost (piece_of piece.now)).unended }
     requires text { (bytes : List ℕ) × IsPieceText (types_of model.now) innermost (piece_of piece.now) bytes }

@@ -1,11 +1,12 @@
 //! The tags of elements: XML 1.0 §3.1.
-ghost use Rattle.std.specs.Prelude.{◌≡◌, ℕ, Some, slice_get};
+ghost use Rattle.std.specs.Prelude.{◌≡◌, ◌++◌, ℕ, IsTrue, false, Some, slice_get};
 ghost use Rattle.outside.specs.Pushes.{Pushes};
 ghost use Rattle.reference_check.specs.Forms.{Slot as Slotted, form_slots};
 ghost use Rattle.message_model.specs.Tables.{types_of};
 ghost use Rattle.xml_writer.specs.CanonXml.{end_tag};
 ghost use Rattle.xml_writer.specs.inner.PieceTexts.{begun_tag, tag_end};
 
+use crate::page::Page;
 use inst_pool::Edge;
 use message_model::Model;
 use outside::{Sink, SinkError, push_bytes};
@@ -47,7 +48,30 @@ pub(crate) fn push_end<O: Sink>(model: &Model, edge: &Edge, sink: &mut O) -> Res
     push_bytes(b">", sink)
 }
 
+/// Puts the start tag of an element into the buffer, which may be left unended. `false` where it has not the room; it is as before.
+#[inline(always)]
+pub(crate) fn put_begin(model: &Model, edge: &Edge, unended: bool, buffer: &mut Page) -> bool
+    requires { (s : Slotted ℕ) × (slice_get (form_slots (types_of model.now edge.now.parent)) edge.now.slot ≡ Some s) }
+    ensures put { IsTrue result → (s : Slotted ℕ) → slice_get (form_slots (types_of model.now edge.now.parent)) edge.now.slot ≡ Some s
+        → buffer.new ≡ buffer.old ++ begun_tag s.tag unended }
+    ensures kept { result ≡ false → buffer.new ≡ buffer.old }
+{
+    buffer.put_start_tag(tag_of(model, edge), unended)
+}
+
+/// Puts the end tag of an element into the buffer. `false` where it has not the room; it is as before.
+#[inline(always)]
+pub(crate) fn put_end(model: &Model, edge: &Edge, buffer: &mut Page) -> bool
+    requires { (s : Slotted ℕ) × (slice_get (form_slots (types_of model.now edge.now.parent)) edge.now.slot ≡ Some s) }
+    ensures put { IsTrue result → (s : Slotted ℕ) → slice_get (form_slots (types_of model.now edge.now.parent)) edge.now.slot ≡ Some s
+        → buffer.new ≡ buffer.old ++ end_tag s.tag }
+    ensures kept { result ≡ false → buffer.new ≡ buffer.old }
+{
+    buffer.put_end_tag(tag_of(model, edge))
+}
+
 /// The tag of an element.
+#[inline(always)]
 fn tag_of<'a>(model: &'a Model, edge: &Edge) -> &'a [u8]
     requires { (s : Slotted ℕ) × (slice_get (form_slots (types_of model.now edge.now.parent)) edge.now.slot ≡ Some s) }
     ensures { (s : Slotted ℕ) → slice_get (form_slots (types_of model.now edge.now.parent)) edge.now.slot ≡ Some s → result.now ≡ s.tag }

@@ -1,10 +1,11 @@
 //! Texts as XML spells them: XML 1.0 §2.4 and §3.3.3.
-ghost use Rattle.std.specs.Prelude.{◌≡◌, ℕ, List, IsTrue, encode_utf8_all, flat_map, length};
+ghost use Rattle.std.specs.Prelude.{◌≡◌, ◌++◌, ℕ, List, IsTrue, false, encode_utf8_all, flat_map, length};
 ghost use Rattle.std.specs.List.{prefix_len};
 ghost use Rattle.outside.specs.Pushes.{Pushes};
 ghost use Rattle.lexical_core.specs.Escapes.{escape_of};
 ghost use Rattle.xml_writer.specs.inner.PlainTexts.{is_plain_anywhere};
 
+use crate::page::Page;
 use data_types::push_escaped;
 use lexical_core::{ByteClass, run_length};
 use outside::{Sink, SinkError, push_bytes};
@@ -55,6 +56,19 @@ pub(crate) fn push_spelled<O: Sink>(
         return push_bytes(text, sink);
     }
     push_escaped(text, attribute, sink)
+}
+
+/// Puts a text into the buffer, where each of its bytes stands for itself. `false` where one does not, or the buffer has not the
+/// room; it is as before.
+#[inline(always)]
+pub(crate) fn put_spelled(text: &[u8], buffer: &mut Page) -> bool
+    ensures put { IsTrue result → (chars : List ℕ) → text.now ≡ encode_utf8_all chars → buffer.new ≡ buffer.old ++ flat_map (escape_of false) chars }
+    ensures kept { result ≡ false → buffer.new ≡ buffer.old }
+{
+    if !stands_for_itself(text) {
+        return false;
+    }
+    buffer.put_text(text)
 }
 
 /// Whether each byte of the text stands for itself, and none is a control.
