@@ -15,5 +15,6 @@ pub mod DecimalLaws
 pub mod RealLaws
 pub mod StableSort
 pub mod LaneRuns
+pub mod PlacedBytes
 mod SameWords
 pub mod SameTrees

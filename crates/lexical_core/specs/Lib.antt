@@ -13,3 +13,4 @@ pub mod Exponents
 pub mod Escapes
 pub mod Tree
 pub mod Names
+pub mod Placed

@@ -9,7 +9,7 @@
 //!
 //! A `ByteClass` says of a byte, of eight and of sixteen at once which are in it, and `run_length` how many at the front
 //! are: of `ab<c` and a class of letters 2. `xml_run` gives the longest front that is whole characters of XML. `are_same`
-//! compares short runs of bytes, as names and tags are, by words.
+//! compares short runs of bytes, as names and tags are, by words, and `put_bytes` puts them into a buffer by words.
 //!
 //! Limits: a `Decimal` has at most 18 digits and a scale of at most 18. Nothing says that a `Text` is UTF-8.
 #![tactic(auto)]
@@ -39,6 +39,7 @@ pub use digits::digit_count;
 pub use escapes::{escape, reference_to};
 pub use items::Items;
 pub use lanes::{ByteClass, run_length};
+pub use put::put_bytes;
 pub use real::read_nr3;
 pub use rule::Rule;
 pub use runs::{Run, xml_run};

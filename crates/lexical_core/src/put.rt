@@ -1,8 +1,11 @@
-//! Writing into a buffer, behind what stands there already.
+//! Writing into a buffer, behind what stands there already. Few bytes are two words, which may overlap.
 ghost use Rattle.std.specs.Prelude.{◌≡◌, ◌+◌, ◌<◌, ◌≤◌, [], ◌∷◌, ◌++◌, length, take};
 ghost use Rattle.std.specs.Fmt.{decimal};
 ghost use Rattle.lexical_core.specs.FixedDigits.{fixed_digits};
 ghost use Rattle.lexical_core.specs.Reals.{minus_text};
+ghost use Rattle.lexical_core.specs.Placed.{ArePlaced};
+
+use std::simd::Simd;
 
 /// Puts a byte at that place, and gives the place behind it.
 pub fn put_byte(buf: &mut [u8], at: usize, byte: u8) -> usize
@@ -52,4 +55,72 @@ pub fn put_fixed(buf: &mut [u8], at: usize, count: u8, value: u64) -> usize
     }
     let last = put_fixed(buf, at, count - 1, value / 10);
     put_byte(buf, last, b'0' + (value % 10) as u8)
+}
+
+/// Puts bytes at a place of a buffer, and answers the place behind them. Up to 32 take two stores at most.
+#[inline(always)]
+pub fn put_bytes(buffer: &mut [u8], at: usize, bytes: &[u8]) -> usize
+    requires { at + length bytes.now ≤ length buffer.old }
+    ensures { ArePlaced buffer.old buffer.new at bytes.now result }
+{
+    let count = bytes.len();
+    if count > 32 {
+        put_many(buffer, at, bytes)
+    } else if count > 16 {
+        put_ends::<16>(buffer, at, bytes)
+    } else if count >= 8 {
+        put_ends::<8>(buffer, at, bytes)
+    } else if count >= 4 {
+        put_ends::<4>(buffer, at, bytes)
+    } else if count >= 2 {
+        put_ends::<2>(buffer, at, bytes)
+    } else {
+        put_few(buffer, at, bytes)
+    }
+}
+
+/// The same, of fewer than two bytes.
+#[inline(always)]
+fn put_few(buffer: &mut [u8], at: usize, bytes: &[u8]) -> usize
+    requires fits { at + length bytes.now ≤ length buffer.old }
+    requires few { length bytes.now < 2 }
+    ensures { ArePlaced buffer.old buffer.new at bytes.now result }
+{
+    if bytes.is_empty() {
+        return at;
+    }
+    put_front::<1>(buffer, at, bytes)
+}
+
+/// The same, of any number of bytes.
+#[inline(never)]
+fn put_many(buffer: &mut [u8], at: usize, bytes: &[u8]) -> usize
+    requires { at + length bytes.now ≤ length buffer.old }
+    ensures { ArePlaced buffer.old buffer.new at bytes.now result }
+{
+    let end = at + bytes.len();
+    buffer[at..end].copy_from_slice(bytes);
+    end
+}
+
+/// The same, by the first bytes and the last ones, which may overlap.
+#[inline(always)]
+fn put_ends<const N: usize>(buffer: &mut [u8], at: usize, bytes: &[u8]) -> usize
+    requires fits { at + length bytes.now ≤ length buffer.old }
+    requires covers { (N ≤ length bytes.now) × (length bytes.now ≤ N + N) }
+    ensures { ArePlaced buffer.old buffer.new at bytes.now result }
+{
+    let last = bytes.len() - N;
+    put_front::<N>(buffer, at, bytes);
+    put_front::<N>(buffer, at + last, &bytes[last..])
+}
+
+/// Puts the first bytes at the place, by one load and one store.
+#[inline(always)]
+fn put_front<const N: usize>(buffer: &mut [u8], at: usize, bytes: &[u8]) -> usize
+    requires { (N ≤ length bytes.now) × (at + N ≤ length buffer.old) }
+    ensures { ArePlaced buffer.old buffer.new at (take N bytes.now) result }
+{
+    Simd::<u8, N>::from_slice(bytes).copy_to_slice(&mut buffer[at..]);
+    at + N
 }

@@ -69,7 +69,6 @@ pub mod BindingLemmas
 pub mod TagPartLemmas
 pub mod ExpandedLemmas
 pub mod WholeTags
-pub mod WrittenLemmas
 pub mod ScopeLemmas
 mod OneAttributeLemmas
 pub mod Twins

@@ -8,4 +8,3 @@ pub mod OneAttribute
 pub mod WholeStarts
 pub mod Numbers
 pub mod ClosedBrackets
-pub mod Written

@@ -1,10 +1,9 @@
 //! One block of bytes, to whose end short names are written by words.
-ghost use Rattle.std.specs.Prelude.{◌≡◌, ◌+◌, ◌≤◌, ◌++◌, [], length, take, OnOk, vec_len};
-ghost use Rattle.markup.specs.inner.Written.{IsWritten};
+ghost use Rattle.std.specs.Prelude.{◌≡◌, ◌+◌, ◌≤◌, ◌++◌, [], length, take, OnOk};
 
+use lexical_core::put_bytes;
 use std::alloc::{AllocError, Global};
 use std::marker::Model;
-use std::simd::Simd;
 
 /// Bytes, with room behind them. What stands in the room says nothing.
 #[derive(Drop)]
@@ -68,7 +67,7 @@ impl NameBlock {
         if self.room.len() - self.used < more.len() {
             lengthen(&mut self.room, self.used, more.len())?;
         }
-        self.used = write(self.room.as_mut_slice(), self.used, more);
+        self.used = put_bytes(self.room.as_mut_slice(), self.used, more);
         Ok(())
     }
 }
@@ -83,56 +82,4 @@ fn lengthen(room: &mut Vec<u8>, used: usize, more: usize) -> Result<(), AllocErr
 {
     room.reserve(more)?;
     room.resize(room.capacity(), 0)
-}
-
-/// Writes the first bytes of a name, by one load and one store.
-#[inline(always)]
-fn write_front<const N: usize>(room: &mut [u8], at: usize, name: &[u8]) -> usize
-    requires { (N ≤ length name.now) × (at + N ≤ length room.old) }
-    ensures { IsWritten room.old room.new at (take N name.now) result }
-{
-    Simd::<u8, N>::from_slice(name).copy_to_slice(&mut room[at..]);
-    at + N
-}
-
-/// Writes the first bytes and the last ones, which may overlap.
-#[inline(always)]
-fn write_ends<const N: usize>(room: &mut [u8], at: usize, name: &[u8]) -> usize
-    requires fits { at + length name.now ≤ length room.old }
-    requires covers { (N ≤ length name.now) × (length name.now ≤ N + N) }
-    ensures { IsWritten room.old room.new at name.now result }
-{
-    let last = name.len() - N;
-    write_front::<N>(room, at, name);
-    write_front::<N>(room, at + last, &name[last..])
-}
-
-/// Writes a name of any length.
-fn write_any(room: &mut [u8], at: usize, name: &[u8]) -> usize
-    requires { at + length name.now ≤ length room.old }
-    ensures { IsWritten room.old room.new at name.now result }
-{
-    let end = at + name.len();
-    room[at..end].copy_from_slice(name);
-    end
-}
-
-/// Writes a name, and answers where it ends.
-#[inline(always)]
-fn write(room: &mut [u8], at: usize, name: &[u8]) -> usize
-    requires { at + length name.now ≤ length room.old }
-    ensures { IsWritten room.old room.new at name.now result }
-{
-    let length = name.len();
-    if length > 16 {
-        write_any(room, at, name)
-    } else if length >= 8 {
-        write_ends::<8>(room, at, name)
-    } else if length >= 4 {
-        write_ends::<4>(room, at, name)
-    } else if length >= 2 {
-        write_ends::<2>(room, at, name)
-    } else {
-        write_any(room, at, name)
-    }
 }

@@ -1,11 +1,12 @@
 //! Bytes that are gathered before they go to a sink.
-ghost use Rattle.std.specs.Prelude.{◌≡◌, ◌-◌, ◌<◌, ◌≤◌, Some, [], length, take};
+ghost use Rattle.std.specs.Prelude.{◌≡◌, ◌+◌, ◌-◌, ◌<◌, ◌≤◌, ◌++◌, IsTrue, false, Some, [], length, take};
 ghost use Rattle.outside.specs.Pushes.{Pushes};
 ghost use Rattle.outside.specs.Sink.{PushAppends, HasSinkCause, HasRoom};
 
 use super::errors::SinkError;
 use super::render::push_bytes;
 use super::sink::Sink;
+use lexical_core::put_bytes;
 use std::marker::Model;
 
 /// The most bytes that are gathered.
@@ -61,6 +62,23 @@ impl Buffer {
         self.count = count;
     }
 
+    /// Puts three texts, one behind the other, with one look at the room. `false` where there is not the room for all three; all is
+    /// as before.
+    #[inline(always)]
+    pub fn put_all(&mut self, front: &[u8], middle: &[u8], end: &[u8]) -> bool
+        ensures put { IsTrue result → self.new ≡ self.old ++ (front.now ++ (middle.now ++ end.now)) }
+        ensures kept { result ≡ false → self.new ≡ self.old }
+        ensures full { result ≡ false → 8192 - length self.old < length front.now + (length middle.now + length end.now) }
+    {
+        if !all_fit(ROOM - self.count, front.len(), middle.len(), end.len()) {
+            return false;
+        }
+        let behind_front = put_bytes(&mut self.bytes, self.count, front);
+        let behind_middle = put_bytes(&mut self.bytes, behind_front, middle);
+        self.count = put_bytes(&mut self.bytes, behind_middle, end);
+        true
+    }
+
     /// Pushes all bytes to the sink; none is left, also after an error.
     pub fn flush<O: Sink>(&mut self, sink: &mut O) -> Result<(), SinkError>
         ensures push { Pushes O.held O.faults O.room sink.old sink.new result self.old }
@@ -89,9 +107,16 @@ impl Sink for Buffer {
         if bytes.len() > ROOM - self.count {
             return Err(SinkError::Memory);
         }
-        let end = self.count + bytes.len();
-        self.bytes[self.count..end].copy_from_slice(bytes);
-        self.count = end;
+        self.count = put_bytes(&mut self.bytes, self.count, bytes);
         Ok(())
     }
+}
+
+/// Whether there is the room for three texts. Their lengths together may be more than a number holds.
+#[inline(always)]
+fn all_fit(room: usize, front: usize, middle: usize, end: usize) -> bool
+    ensures fit { IsTrue result → front + (middle + end) ≤ room }
+    ensures less { result ≡ false → room < front + (middle + end) }
+{
+    front <= room && end <= room - front && middle <= room - front - end
 }

@@ -3,7 +3,6 @@ pub mod ValueTexts
 pub mod PlainTexts
 pub mod Ahead
 pub mod Putting
-pub mod PlacedBytes
 pub mod SomeText
 pub mod OneText
 pub mod WrittenValues

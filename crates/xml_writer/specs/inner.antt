@@ -1,4 +1,3 @@
 -- What private functions alone cite, in reading order.
 pub mod PieceTexts
 pub mod PlainTexts
-pub mod Placed

@@ -11,12 +11,11 @@ ghost use Rattle.xml_writer.specs.CanonXml.{IsCodeText, currency_text};
 ghost use Rattle.xml_writer.specs.inner.PieceTexts.{IsHeldText};
 
 use crate::innermost::Innermost;
-use crate::page::Page;
 use crate::texts::{push_spelled, put_spelled};
 use data_types::{Kind, LeafRef, push_leaf};
 use facets::Simple;
 use message_model::{Form, Model};
-use outside::{Sink, SinkError, push_bytes};
+use outside::{Buffer, Sink, SinkError, push_bytes};
 
 /// Pushes what a leaf of the innermost element writes.
 #[inline(always)]
@@ -116,7 +115,7 @@ pub(crate) fn put_plain(
     model: &Model,
     innermost: Innermost,
     leaf: &LeafRef<'_>,
-    buffer: &mut Page,
+    buffer: &mut Buffer,
 ) -> bool
     requires { (bytes : List ℕ) × IsHeldText (types_of model.now) innermost.unended (types_of model.now innermost.number) (leaf_of leaf.now) bytes }
     ensures put { IsTrue result → (bytes : List ℕ) → IsHeldText (types_of model.now) innermost.unended (types_of model.now innermost.number) (leaf_of leaf.now) bytes
@@ -131,7 +130,7 @@ pub(crate) fn put_plain(
 
 /// Puts the canonical text of a leaf that fits into the buffer, where each of its bytes stands for itself.
 #[inline(always)]
-fn put_plain_text(simple: &Simple, leaf: &LeafRef<'_>, buffer: &mut Page) -> bool
+fn put_plain_text(simple: &Simple, leaf: &LeafRef<'_>, buffer: &mut Buffer) -> bool
     requires { Fits simple.now (leaf_of leaf.now) }
     ensures put { IsTrue result → (chars : List ℕ) → IsCanonicalUnder simple.now (leaf_of leaf.now) chars
         → buffer.new ≡ buffer.old ++ flat_map (escape_of false) chars }

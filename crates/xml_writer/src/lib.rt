@@ -12,9 +12,7 @@
 mod innermost;
 pub mod laws;
 mod leaves;
-mod page;
 mod pieces;
-mod places;
 mod tags;
 mod texts;
 mod writer;

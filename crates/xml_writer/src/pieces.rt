@@ -9,12 +9,11 @@ ghost use Rattle.xml_writer.specs.inner.PieceTexts.{innermost_begun, innermost_b
 
 use crate::innermost::{Innermost, innermost_begun, innermost_behind};
 use crate::leaves::{push_held, put_plain};
-use crate::page::Page;
 use crate::tags::{push_begin, push_end, put_begin, put_end};
 use data_types::LeafRef;
 use inst_pool::{Instance, Piece};
 use message_model::Model;
-use outside::{Sink, SinkError};
+use outside::{Buffer, Sink, SinkError};
 
 /// Where a writer is among the pieces of an instance.
 #[derive(Clone, Copy, Debug)]
@@ -35,7 +34,7 @@ pub(crate) fn push_pieces<O: Sink>(
     ensures { (bytes : List ℕ) → AreWritten (types_of model.now) (innermost_begun (types_of model.now) 0) instance.now.region.pieces bytes
         → Pushes O.held O.faults O.room sink.old sink.new result bytes }
 {
-    let mut buffer = Page::new();
+    let mut buffer = Buffer::new();
     let count = instance.count();
     let begun = Place {
         at: 0,
@@ -67,7 +66,7 @@ pub(crate) fn push_pieces<O: Sink>(
 }
 
 /// Puts what the pieces from the place on write into the buffer, up to one for which it has not the room.
-fn put_pieces(model: &Model, instance: &Instance, place: Place, buffer: &mut Page) -> Place
+fn put_pieces(model: &Model, instance: &Instance, place: Place, buffer: &mut Buffer) -> Place
     requires within { place.at ≤ length instance.now.region.pieces }
     requires text { (rest : List ℕ) × AreWritten (types_of model.now) place.innermost (drop place.at instance.now.region.pieces) rest }
     ensures later { place.at ≤ result.at }
@@ -100,7 +99,7 @@ fn put_at(
     place: Place,
     unended: bool,
     piece: &Piece<'_>,
-    buffer: &mut Page,
+    buffer: &mut Buffer,
 ) -> bool
     requires piece { slice_get instance.now.region.pieces place.at ≡ Some (piece_of piece.now) }
     requires behind { unended ≡ (innermost_behind (types_of model.now) place.innermost (piece_of piece.now)).unended }
@@ -121,7 +120,7 @@ fn put_usual(
     innermost: Innermost,
     unended: bool,
     piece: &Piece<'_>,
-    buffer: &mut Page,
+    buffer: &mut Buffer,
 ) -> bool
     requires behind { unended ≡ (innermost_behind (types_of model.now) innermost (piece_of piece.now)).unended }
     requires text { (bytes : List ℕ) × IsPieceText (types_of model.now) innermost (piece_of piece.now) bytes }
@@ -142,7 +141,7 @@ fn put_unusual(
     instance: &Instance,
     at: usize,
     innermost: Innermost,
-    buffer: &mut Page,
+    buffer: &mut Buffer,
 ) -> bool
     requires { (p : OnePiece) × (bytes : List ℕ) × (slice_get instance.now.region.pieces at ≡ Some p) × IsPieceText (types_of model.now) innermost p bytes }
     ensures put { IsTrue result → (p : OnePiece) (bytes : List ℕ) → slice_get instance.now.region.pieces at ≡ Some p → IsPieceText (types_of model.now) innermost p bytes
@@ -164,7 +163,7 @@ fn push_past<O: Sink>(
     innermost: Innermost,
     unended: bool,
     piece: &Piece<'_>,
-    buffer: &mut Page,
+    buffer: &mut Buffer,
     sink: &mut O,
 ) -> Result<(), SinkError>
     requires behind { unended ≡ (innermost_behind (types_of model.now) innermost (piece_of piece.now)).unended }
@@ -188,7 +187,7 @@ fn put_piece(
     innermost: Innermost,
     unended: bool,
     piece: &Piece<'_>,
-    buffer: &mut Page,
+    buffer: &mut Buffer,
 ) -> bool
     requires behind { unended ≡ (innermost_behind (types_of model.now) innermost (piece_of piece.now)).unended }
     requires text { (bytes : List ℕ) × IsPieceText (types_of model.now) innermost (piece_of piece.now) bytes }

@@ -6,10 +6,9 @@ ghost use Rattle.message_model.specs.Tables.{types_of};
 ghost use Rattle.xml_writer.specs.CanonXml.{end_tag};
 ghost use Rattle.xml_writer.specs.inner.PieceTexts.{begun_tag, tag_end};
 
-use crate::page::Page;
 use inst_pool::Edge;
 use message_model::Model;
-use outside::{Sink, SinkError, push_bytes};
+use outside::{Buffer, Sink, SinkError, push_bytes};
 
 /// Pushes the start tag of an element, which may be left unended.
 #[inline(always)]
@@ -50,24 +49,24 @@ pub(crate) fn push_end<O: Sink>(model: &Model, edge: &Edge, sink: &mut O) -> Res
 
 /// Puts the start tag of an element into the buffer, which may be left unended. `false` where it has not the room; it is as before.
 #[inline(always)]
-pub(crate) fn put_begin(model: &Model, edge: &Edge, unended: bool, buffer: &mut Page) -> bool
+pub(crate) fn put_begin(model: &Model, edge: &Edge, unended: bool, buffer: &mut Buffer) -> bool
     requires { (s : Slotted ℕ) × (slice_get (form_slots (types_of model.now edge.now.parent)) edge.now.slot ≡ Some s) }
     ensures put { IsTrue result → (s : Slotted ℕ) → slice_get (form_slots (types_of model.now edge.now.parent)) edge.now.slot ≡ Some s
         → buffer.new ≡ buffer.old ++ begun_tag s.tag unended }
     ensures kept { result ≡ false → buffer.new ≡ buffer.old }
 {
-    buffer.put_start_tag(tag_of(model, edge), unended)
+    buffer.put_all(b"<", tag_of(model, edge), tag_end(unended))
 }
 
 /// Puts the end tag of an element into the buffer. `false` where it has not the room; it is as before.
 #[inline(always)]
-pub(crate) fn put_end(model: &Model, edge: &Edge, buffer: &mut Page) -> bool
+pub(crate) fn put_end(model: &Model, edge: &Edge, buffer: &mut Buffer) -> bool
     requires { (s : Slotted ℕ) × (slice_get (form_slots (types_of model.now edge.now.parent)) edge.now.slot ≡ Some s) }
     ensures put { IsTrue result → (s : Slotted ℕ) → slice_get (form_slots (types_of model.now edge.now.parent)) edge.now.slot ≡ Some s
         → buffer.new ≡ buffer.old ++ end_tag s.tag }
     ensures kept { result ≡ false → buffer.new ≡ buffer.old }
 {
-    buffer.put_end_tag(tag_of(model, edge))
+    buffer.put_all(b"</", tag_of(model, edge), b">")
 }
 
 /// The tag of an element.
@@ -83,6 +82,7 @@ fn tag_of<'a>(model: &'a Model, edge: &Edge) -> &'a [u8]
 }
 
 /// How a start tag ends that may be left unended.
+#[inline(always)]
 pub(crate) fn tag_end(unended: bool) -> &'static [u8]
     ensures { result.now ≡ tag_end unended }
 {

@@ -5,10 +5,9 @@ ghost use Rattle.outside.specs.Pushes.{Pushes};
 ghost use Rattle.lexical_core.specs.Escapes.{escape_of};
 ghost use Rattle.xml_writer.specs.inner.PlainTexts.{is_plain_anywhere};
 
-use crate::page::Page;
 use data_types::push_escaped;
 use lexical_core::{ByteClass, run_length};
-use outside::{Sink, SinkError, push_bytes};
+use outside::{Buffer, Sink, SinkError, push_bytes};
 use std::simd::prelude::*;
 
 /// The bytes that stand for themselves in an element and in the value of an attribute, but for controls.
@@ -61,14 +60,14 @@ pub(crate) fn push_spelled<O: Sink>(
 /// Puts a text into the buffer, where each of its bytes stands for itself. `false` where one does not, or the buffer has not the
 /// room; it is as before.
 #[inline(always)]
-pub(crate) fn put_spelled(text: &[u8], buffer: &mut Page) -> bool
+pub(crate) fn put_spelled(text: &[u8], buffer: &mut Buffer) -> bool
     ensures put { IsTrue result → (chars : List ℕ) → text.now ≡ encode_utf8_all chars → buffer.new ≡ buffer.old ++ flat_map (escape_of false) chars }
     ensures kept { result ≡ false → buffer.new ≡ buffer.old }
 {
     if !stands_for_itself(text) {
         return false;
     }
-    buffer.put_text(text)
+    buffer.put_all(b"", text, b"")
 }
 
 /// Whether each byte of the text stands for itself, and none is a control.

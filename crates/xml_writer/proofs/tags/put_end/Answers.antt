@@ -4,4 +4,4 @@ use Rattle.xml_writer.specs.CanonXml.{end_tag}
 use Rattle.xml_writer.proofs.tags.put_end.Goals as goal
 
 pub returns-clause-put : goal.returns-clause-put
-returns-clause-put c = λ yes s is. c.put_end_tag.ensures.put yes ∙ ap (λ t. c.args.buffer.now ++ end_tag t) (c.tag_of.ensures s is)
+returns-clause-put c = λ yes s is. c.put_all.ensures.put yes ∙ ap (λ t. c.args.buffer.now ++ end_tag t) (c.tag_of.ensures s is)

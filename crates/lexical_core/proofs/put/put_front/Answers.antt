@@ -1,7 +1,7 @@
 -- One store.
 use Rattle.std.proofs.Common.{◌≡◌, length, take, arith, length-take-le}
 use Rattle.std.proofs.lemmas.Simd.{take_more_put_chunk, length-put_chunk}
-use Rattle.xml_writer.proofs.places.place_front.Goals as goal
+use Rattle.lexical_core.proofs.put.put_front.Goals as goal
 
 pub returns : goal.returns
 returns g c =

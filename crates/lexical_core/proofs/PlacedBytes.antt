@@ -1,8 +1,6 @@
 -- Bytes at places of one buffer, one behind the other.
-use Rattle.std.proofs.Common.{◌≡◌, ℕ, ◌+◌, ◌-◌, ◌≤◌, Bool, true, false, List, codes, ◌++◌, length, take, drop, ap, sym, ◌∙◌, arith, append_assoc, length-append, length-take-le, length-drop, take-add, take-take, take_at, drop_at, take_all, take-append-drop}
-use Rattle.xml_writer.specs.CanonXml.{end_tag}
-use Rattle.xml_writer.specs.inner.PieceTexts.{begun_tag, tag_end}
-use Rattle.xml_writer.specs.inner.Placed.{ArePlaced}
+use Rattle.std.proofs.Common.{◌≡◌, ℕ, ◌+◌, ◌-◌, ◌≤◌, List, ◌++◌, length, take, drop, ap, sym, ◌∙◌, arith, append_assoc, length-append, length-take-le, length-drop, take-add, take-take, take_at, drop_at, take_all, take-append-drop}
+use Rattle.lexical_core.specs.Placed.{ArePlaced}
 
 -- what is put second begins where the first ended
 pub placed_then : {a b c xs ys : List ℕ} {i j k : ℕ} → ArePlaced a b i xs j → ArePlaced b c j ys k → ArePlaced a c i (xs ++ ys) k
@@ -32,11 +30,3 @@ placed_ends {a} {b} {c} {i} {j} {k} bytes half within fits covers p q =
     let whole : take last (take half bytes) ++ take half (drop last bytes) ≡ bytes =
     (λ x. take-take last half bytes (omega arith) x ++ take_all half (drop last bytes) (omega (arith, length-drop last bytes)) x) ∙ take-append-drop last bytes in
     record { front = both.front ∙ ap (λ l. take i a ++ l) whole; moved = both.moved ∙ ap (λ l. i + length l) whole; size = both.size }
-
--- a tag takes at most three bytes more than its name
-pub begun_within : (tag : List ℕ) (unended : Bool) → length (begun_tag tag unended) ≤ length tag + 3
-begun_within tag true = omega (arith, length-append tag (tag_end true))
-begun_within tag false = omega (arith, length-append tag (tag_end false))
-
-pub ended_within : (tag : List ℕ) → length (end_tag tag) ≤ length tag + 3
-ended_within tag = omega (arith, length-append tag (codes ">"))
