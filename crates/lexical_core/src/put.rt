@@ -64,18 +64,31 @@ pub fn put_bytes(buffer: &mut [u8], at: usize, bytes: &[u8]) -> usize
     ensures { ArePlaced buffer.old buffer.new at bytes.now result }
 {
     let count = bytes.len();
-    if count > 32 {
-        put_many(buffer, at, bytes)
-    } else if count > 16 {
-        put_ends::<16>(buffer, at, bytes)
-    } else if count >= 8 {
-        put_ends::<8>(buffer, at, bytes)
+    if count >= 8 {
+        put_longer(buffer, at, bytes)
     } else if count >= 4 {
         put_ends::<4>(buffer, at, bytes)
     } else if count >= 2 {
         put_ends::<2>(buffer, at, bytes)
     } else {
         put_few(buffer, at, bytes)
+    }
+}
+
+/// The same, of eight bytes or more.
+#[inline(always)]
+fn put_longer(buffer: &mut [u8], at: usize, bytes: &[u8]) -> usize
+    requires fits { at + length bytes.now ≤ length buffer.old }
+    requires long { 8 ≤ length bytes.now }
+    ensures { ArePlaced buffer.old buffer.new at bytes.now result }
+{
+    let count = bytes.len();
+    if count <= 16 {
+        put_ends::<8>(buffer, at, bytes)
+    } else if count <= 32 {
+        put_ends::<16>(buffer, at, bytes)
+    } else {
+        put_many(buffer, at, bytes)
     }
 }
 

@@ -55,7 +55,11 @@ pub(crate) fn put_begin(model: &Model, edge: &Edge, unended: bool, buffer: &mut 
         → buffer.new ≡ buffer.old ++ begun_tag s.tag unended }
     ensures kept { result ≡ false → buffer.new ≡ buffer.old }
 {
-    buffer.put_all(b"<", tag_of(model, edge), tag_end(unended))
+    let tag = tag_of(model, edge);
+    if unended {
+        return buffer.put_all(b"<", tag, b"");
+    }
+    buffer.put_all(b"<", tag, b">")
 }
 
 /// Puts the end tag of an element into the buffer. `false` where it has not the room; it is as before.
