@@ -1,7 +1,9 @@
 -- What a reader of DER that keeps an instance was given, and what it answers: it is a checker that keeps pieces.
 use Rattle.std.specs.Prelude.{◌≡◌, ℕ, List, Option, None}
+use Rattle.std.specs.Option.{option_map}
 use Rattle.fragments.specs.Fragment.{fragment}
 use Rattle.data_types.specs.Value.{Value, Piece}
+use Rattle.inst_pool.specs.Pieces.{Region}
 use Rattle.message_model.specs.Tables.{Tables, pieces_of}
 use Rattle.message_model.specs.declared.fault.InstanceError.{InstanceError}
 use Rattle.der_model.specs.DerMessage.{der_message}
@@ -14,6 +16,10 @@ use Rattle.der_codec.specs.declared.room.Room.{Room}
 -- The reader goes on: it was given these bytes, which break nothing so far, and keeps the pieces that they show.
 pub record HasKeptPieces (reader : DerReader) (T : Tables) (bytes : List ℕ) : Type 0 where
   pub given : HasFedDer reader.checker T bytes
+
+-- the pieces that the reader keeps
+abbrev pub kept_pieces : DerReader → Option (List Piece)
+kept_pieces reader = option_map (λ (region : Region). region.pieces) reader.checker.pieces
 
 -- how many bytes the reader was given
 abbrev pub read_so_far : DerReader → ℕ
