@@ -13,12 +13,12 @@ use Rattle.facets.specs.LeafUnder.{Fits}
 use Rattle.reference_check.specs.Forms.{Graph, Form, Slot}
 use Rattle.reference_check.specs.Forms as form
 use Rattle.reference_check.specs.Words.{times, UpTo, MayComeTimes, IsOrderedFrom}
-use Rattle.reference_check.proofs.Words.{times-replicate, ordered-weaken}
+use Rattle.reference_check.proofs.Words.{times-replicate, ordered-weaken, times-append}
 use Rattle.message_model.specs.Admits.{AdmitsAs, AdmitsChildren, FitsCode, numbers_of}
 use Rattle.der_model.specs.DerMessage.{DerMessage}
 use Rattle.der_model.specs.Structures.{is_single, is_one}
 use Rattle.der_model.proofs.Spelled.{at_most_one}
-use Rattle.der_model.proofs.ChildLists.{then_children, slots_then, admits_then, times_then, times_none, times_other, ordered_then}
+use Rattle.der_model.proofs.ChildLists.{then_children, slots_then, admits_then, times_none, times_other, ordered_then}
 use Rattle.asn1_model.specs.declared.module.Module.{Module}
 use Rattle.asn1_model.specs.declared.module.AsnShape.{AsnShape}
 use Rattle.asn1_model.specs.declared.module.AsnShape.TheVariants as shape
@@ -128,7 +128,7 @@ module _ {P : Type 0} (May : P → Type 0) (message : DerMessage P) (name : P �
       are = slots_then own more ∙ ap (λ d. d ++ numbers_of more) r.alike
 
       count : (k : ℕ) → times k (numbers_of (then_children own more)) ≡ times k (replicate n i) + times k (numbers_of more)
-      count k = ap (times k) are ∙ times_then k (replicate n i) (numbers_of more)
+      count k = ap (times k) are ∙ times-append k (replicate n i) (numbers_of more)
 
       here : times i (numbers_of more) ≡ 0
       here = times_none (suc i) (length all) i (numbers_of more) b.ordered (omega arith)

@@ -5,6 +5,7 @@ use Rattle.lexical_core.specs.Characters.{IsXmlText}
 use Rattle.repo_objects.specs.declared.objects.CodeDef.{CodeDef}
 use Rattle.repo_objects.specs.Objects.{HasCodeTexts}
 use Rattle.repo_objects.specs.Repository.{DictionaryEntry, Contents, ids_of, HasEntryTexts, IsRepository, entry_with_codes}
+use Rattle.repo_objects.proofs.Codes.{coded_texts}
 use Rattle.code_sets.specs.declared.record.CodeRecord.{CodeRecord}
 use Rattle.code_sets.specs.Codes.{Fields, IsCode, no_code, IsSoundRecord, AreSoundRecords, numbered_records, Joins, is_code_set, is_none_yet, code_of, codes_for, once, joined_contents, joined_entry}
 use Rattle.code_sets.specs.CodesErrors.{AreCodes}
@@ -31,20 +32,6 @@ codes_are n ((set ∷ (code ∷ [])) ∷ rows) h =
 codes_are n ((set ∷ (code ∷ (more ∷ fields))) ∷ rows) h = codes_are (suc n) rows h.1
 
 -- ---- the entries
-
-coded_texts : (codes : List CodeDef) (e : DictionaryEntry) → All HasCodeTexts codes → HasEntryTexts e → HasEntryTexts (entry_with_codes codes e)
-coded_texts codes e texts h = record {
-  id = h.id;
-  object = record {
-    name = h.object.name;
-    word = h.object.word;
-    pattern = h.object.pattern;
-    elements = h.object.elements;
-    codes = texts;
-    trace = h.object.trace;
-    currency = h.object.currency;
-  };
-}
 
 module _ (lists : List CodeRecord) where
   -- the codes that are given to an entry

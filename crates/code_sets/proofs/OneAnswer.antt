@@ -1,5 +1,6 @@
 -- Bytes of codes have one answer: the codes that they say, or the first record that breaks a rule.
 use Rattle.std.proofs.Common.{◌≡◌, ℕ, List, [], ◌∷◌, ◌++◌, length, Option, Some, None, is_some, unwrap_or, true≢false, refl, sym, ap, ◌∙◌, subst, arith, ◌⊎◌, inl, inr, append_assoc, append-nil, length-append}
+use Rattle.std.proofs.lemmas.List.{nil_from_length}
 use Rattle.csv.specs.Machine.{Read, next_record}
 use Rattle.csv.specs.Reading.{Reached, default_config, strip_bom}
 use Rattle.csv.specs.declared.parser.Config.{Config}
@@ -94,11 +95,8 @@ one_reading bytes a b (rows, (s, rest, reached, none), sound, is) (rows', (s', r
     let other = all_longest default_config st.StartRecord (strip_bom bytes) rows' rows s' s rest' rest reached' none' reached in
     is ∙ ap (numbered_records 1) (same rows rows' one.0 other.0 one.1 other.1) ∙ sym is'
   where
-    none_left : (xs : List Fields) → length xs ≡ 0 → xs ≡ []
-    none_left [] h = refl
-    none_left (x ∷ xs) h = absurd (omega (arith, h))
 
     same : (xs ys m k : List Fields) → xs ≡ ys ++ m → ys ≡ xs ++ k → xs ≡ ys
     same xs ys m k e f =
         let none : length k ≡ 0 = omega (arith, ap length e, ap length f, length-append ys m, length-append xs k) in
-        sym (f ∙ ap (λ l. xs ++ l) (none_left k none) ∙ append-nil xs)
+        sym (f ∙ ap (λ l. xs ++ l) (nil_from_length k none) ∙ append-nil xs)

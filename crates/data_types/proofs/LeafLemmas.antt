@@ -1,8 +1,8 @@
 -- The leaf that is kept, a character at a time, and its answers.
-use Rattle.std.proofs.Common.{◌≡◌, ℕ, ◌+◌, ◌≤◌, ◌⊎◌, inl, inr, Bool, true, false, List, [], ◌∷◌, ◌++◌, length, Option, Err, refl, sym, ap, subst, ◌∙◌, append_assoc, append-nil, length-append, arith, ◌==◌}
+use Rattle.std.proofs.Common.{◌≡◌, ℕ, ◌+◌, ◌≤◌, ◌⊎◌, inl, inr, Bool, true, false, List, [], ◌∷◌, ◌++◌, length, Option, Err, refl, sym, ap, subst, ◌∙◌, length-append, arith, ◌==◌}
 use Rattle.std.proofs.lemmas.List.Elements.{filter-append}
 use Rattle.std.proofs.lemmas.Str.{encodes-append}
-use Rattle.lexical_core.proofs.ReadSoFar.{AllByRecursion-append}
+use Rattle.lexical_core.proofs.ReadSoFar.{AllByRecursion-append, encodes-push}
 use Rattle.std.proofs.lemmas.Bool.Decides.{nat_tests}
 use Rattle.std.specs.Prelude.{encode_utf8, encode_utf8_all}
 use Rattle.std.specs.List.{AllByRecursion}
@@ -33,10 +33,6 @@ use Rattle.data_types.proofs.CollapseLaw.{one_collapsed}
 
 -- ---- texts
 
-encode_push : (chars : List ℕ) (c : ℕ) → encode_utf8_all (chars ++ c ∷ []) ≡ encode_utf8_all chars ++ encode_utf8 c
-encode_push [] c = append-nil (encode_utf8 c)
-encode_push (x ∷ chars) c = ap (λ t. encode_utf8 x ++ t) (encode_push chars c) ∙ sym (append_assoc (encode_utf8 x) (encode_utf8_all chars) (encode_utf8 c))
-
 all_push : (P : ℕ → Type 0) (xs : List ℕ) (x : ℕ) → AllByRecursion P xs → P x → AllByRecursion P (xs ++ x ∷ [])
 all_push P [] x a p = (p, tt)
 all_push P (y ∷ ys) x a p = (a.0, all_push P ys x a.1 p)
@@ -45,7 +41,7 @@ pub text_taken : (old now : Kept) (bytes : List ℕ) (c : ℕ) → bytes ≡ enc
     → ((most : Option ℕ) (before : ℕ) (all : List ℕ) → Holds old most before all → Holds now most (before + 1) (all ++ bytes))
     → (most : Option ℕ) (chars : List ℕ) → IsText old most chars → IsText now most (chars ++ c ∷ [])
 text_taken old now bytes c code xml takes most chars has =
-    let joined : encode_utf8_all chars ++ bytes ≡ encode_utf8_all (chars ++ c ∷ []) = ap (λ b. encode_utf8_all chars ++ b) code ∙ sym (encode_push chars c) in
+    let joined : encode_utf8_all chars ++ bytes ≡ encode_utf8_all (chars ++ c ∷ []) = ap (λ b. encode_utf8_all chars ++ b) code ∙ sym (encodes-push chars c) in
     let count : length chars + 1 ≡ length (chars ++ c ∷ []) = sym (length-append chars (c ∷ [])) in (
       all_push IsXmlChar chars c has.0 xml,
       subst (λ n. Holds now most n (encode_utf8_all (chars ++ c ∷ []))) count

@@ -26,14 +26,14 @@ pub record IsVisible (c : ℕ) : Type 0 where
 abbrev pub AreVisible : List ℕ → Type 0
 AreVisible text = AllByRecursion IsVisible text
 
-visible : ℕ → Bool
+unfoldable pub visible : ℕ → Bool
 visible c = nat_le 33 c && (nat_lt c 127 && (not (c == 38) && (not (c == 60) && (not (c == 62) && not (c == 34)))))
 
-all_visible : List ℕ → Bool
+unfoldable pub all_visible : List ℕ → Bool
 all_visible [] = true
 all_visible (c ∷ cs) = visible c && all_visible cs
 
-visible_is : (c : ℕ) → visible c ≡ true → IsVisible c
+pub visible_is : (c : ℕ) → visible c ≡ true → IsVisible c
 unfolding visible
 visible_is c h = record {
   low = grind (arith, nat_tests);
@@ -44,7 +44,7 @@ visible_is c h = record {
   no_quote = grind (arith, nat_tests);
 }
 
-all_visible_are : (text : List ℕ) → all_visible text ≡ true → AreVisible text
+pub all_visible_are : (text : List ℕ) → all_visible text ≡ true → AreVisible text
 unfolding all_visible
 all_visible_are [] h = tt
 all_visible_are (c ∷ cs) h = let parts = and_parts (visible c) (all_visible cs) h in (visible_is c parts.0, all_visible_are cs parts.1)

@@ -12,19 +12,16 @@ use Rattle.der_model.specs.Structures.{Component, Label, Element, Listed, is_sin
 use Rattle.der_model.specs.States.{IdentifierAnswer, Begins, Breaks, Fine, EndBreaks, is_under, field_answer, any_answer, field_end, skipping, missing_text}
 use Rattle.std.proofs.Math.ListN.{length-drop}
 use Rattle.std.proofs.lemmas.Bool.{cases_lt, cond-true, cond-false}
+use Rattle.std.proofs.lemmas.Option.{slice_get_within}
 use Rattle.der_model.proofs.Fields.{under_own, under_other, any_found}
 use Rattle.der_model.proofs.WholeValues.{under_same}
+use Rattle.der_model.proofs.OneLevel.{drop_get}
 use Rattle.der_codec.specs.Components.{has_to_come, NoneDue, IsDue}
 
 pub drop_components : {P : Type 0} (g : Graph P Simple) (p : P) (n i j : ℕ) (fs : List (Slot P)) → i + n ≡ j → drop n (components g p i fs) ≡ components g p j (drop n fs)
 drop_components g p zero i j fs e = (let same : i ≡ j = omega arith in ap (λ z. components g p z fs) same)
 drop_components g p (suc n) i j [] e = refl
 drop_components g p (suc n) i j (s ∷ fs) e = drop_components g p n (suc i) j fs (omega arith)
-
-pub get_drop : {A : Type 0} (n i : ℕ) (fs : List A) → slice_get (drop n fs) i ≡ slice_get fs (n + i)
-get_drop zero i fs = (let same : 0 + i ≡ i = omega arith in rw same refl)
-get_drop (suc n) i [] = refl
-get_drop (suc n) i (s ∷ fs) = (let same : suc n + i ≡ suc (n + i) = omega arith in rw same (get_drop n i fs))
 
 -- no component is under the identifier
 abbrev pub NoneUnder : {P : Type 0} → Graph P Simple → P → ℕ → List (Slot P) → Bool → Tag → Type 0
@@ -136,11 +133,11 @@ end_due g p (f ∷ fs) i (suc e) q is comes none = cond-false (has_to_come f) _ 
 
 -- the same from the number that is next
 pub due_from : (fs : List (Slot ℕ)) (n d : ℕ) → NoneDue fs n (n + d) → NoneDue (drop n fs) 0 d
-due_from fs n d none i s low high e = none (n + i) s (omega arith) (omega arith) (sym (get_drop n i fs) ∙ e)
+due_from fs n d none i s low high e = none (n + i) s (omega arith) (omega arith) (sym (drop_get n i fs) ∙ e)
 
 -- over the tables: what the code finds
 open_under : (g : Graph ℕ Simple) (p : ℕ) (fs : List (Slot ℕ)) (n d : ℕ) (s : Slot ℕ) (b : Bool) (t : Tag) → slice_get (drop n fs) d ≡ Some s → is_under (component g p (n + d) s) b t ≡ true → (t ≡ context (n + d)) × (slice_get fs (n + d) ≡ Some s) × ((component g p (n + d) s).constructed ≡ b)
-open_under g p fs n d s b t e u = (let r = under_same (component g p (n + d) s) b t u in (sym r.1, sym (get_drop n d fs) ∙ e, r.0))
+open_under g p fs n d s b t e u = (let r = under_same (component g p (n + d) s) b t u in (sym r.1, sym (drop_get n d fs) ∙ e, r.0))
 
 dropped : (g : Graph ℕ Simple) (p : ℕ) (fs : List (Slot ℕ)) (n : ℕ) (b : Bool) (t : Tag) → field_answer n (drop n (components g p 0 fs)) b t ≡ field_answer n (components g p n (drop n fs)) b t
 dropped g p fs n b t = ap (λ z. field_answer n z b t) (drop_components g p n 0 n fs (omega arith))
@@ -164,7 +161,7 @@ apart n at low = (at - n, omega arith)
 pub fields_found : (g : Graph ℕ Simple) (p : ℕ) (fs : List (Slot ℕ)) (n at : ℕ) (s : Slot ℕ) (b : Bool) (t : Tag) → t ≡ context at → n ≤ at → slice_get fs at ≡ Some s → (component g p at s).constructed ≡ b → NoneDue fs n at → field_answer n (drop n (components g p 0 fs)) b t ≡ Begins at (component g p at s)
 fields_found g p fs n at s b t tag low is form none =
     let d = apart n at low in
-    let here : slice_get (drop n fs) d.0 ≡ Some s = get_drop n d.0 fs ∙ (ap (slice_get fs) d.1 ∙ is) in
+    let here : slice_get (drop n fs) d.0 ≡ Some s = drop_get n d.0 fs ∙ (ap (slice_get fs) d.1 ∙ is) in
     let due : NoneDue (drop n fs) 0 d.0 = due_from fs n d.0 (subst (NoneDue fs n) (sym d.1) none) in
     dropped g p fs n b t ∙ (ap (λ z. field_answer n (components g p n (drop n fs)) b z) tag ∙ (ap (λ z. field_answer n (components g p n (drop n fs)) z (context at)) (sym form) ∙ field_found g p (drop n fs) n d.0 at s d.1 here due))
 
@@ -173,8 +170,8 @@ fields_due g p fs n at s b t tag low is form e due =
     let d = apart n at low in
     let k = apart n e due.low in
     let high = due.high in
-    let here : slice_get (drop n fs) d.0 ≡ Some s = get_drop n d.0 fs ∙ (ap (slice_get fs) d.1 ∙ is) in
-    let there : slice_get (drop n fs) k.0 ≡ Some due.slot = get_drop n k.0 fs ∙ (ap (slice_get fs) k.1 ∙ due.found) in
+    let here : slice_get (drop n fs) d.0 ≡ Some s = drop_get n d.0 fs ∙ (ap (slice_get fs) d.1 ∙ is) in
+    let there : slice_get (drop n fs) k.0 ≡ Some due.slot = drop_get n k.0 fs ∙ (ap (slice_get fs) k.1 ∙ due.found) in
     let first : NoneDue (drop n fs) 0 k.0 = due_from fs n k.0 (subst (NoneDue fs n) (sym k.1) due.first) in
     dropped g p fs n b t ∙ (ap (λ z. field_answer n (components g p n (drop n fs)) b z) tag ∙ (ap (λ z. field_answer n (components g p n (drop n fs)) z (context at)) (sym form)
     ∙ field_due g p (drop n fs) n d.0 at k.0 s due.slot d.1 here (let one = d.1 in let two = k.1 in omega arith) there due.due first))
@@ -205,7 +202,7 @@ refused c b t h = go (is_under c b t) refl
     go false e = e
 
 pub amount_none : (p c n : ℕ) (b : Bool) (t : Tag) → ((k : ℕ) → n ≤ k → k < 2 → context k ≡ t → false ≡ b → ⊥) → field_answer n (drop n (amount_components p c)) b t ≡ Breaks UnexpectedTag []
-amount_none p c n b t h = field_nothing n (drop n (amount_components p c)) b t (λ d x is. by d x (sym (get_drop n d (amount_components p c)) ∙ is))
+amount_none p c n b t h = field_nothing n (drop n (amount_components p c)) b t (λ d x is. by d x (sym (drop_get n d (amount_components p c)) ∙ is))
   where
     at : (k : ℕ) (x : Component ℕ) → n ≤ k → slice_get (amount_components p c) k ≡ Some x → is_under x b t ≡ false
     at zero x low is = refused x b t (λ f e. h 0 low (omega arith) (ap (λ (y : Component ℕ). y.tag) (the_first x is) ∙ e) (ap (λ (y : Component ℕ). y.constructed) (the_first x is) ∙ f))
@@ -223,7 +220,7 @@ amount_none p c n b t h = field_nothing n (drop n (amount_components p c)) b t (
 
 -- the end of a sequence from the number that is next
 pub ends_none : (g : Graph ℕ Simple) (p : ℕ) (fs : List (Slot ℕ)) (n : ℕ) → NoneDue fs n (length fs) → field_end (drop n (components g p 0 fs)) ≡ Fine
-ends_none g p fs n none = ap field_end (drop_components g p n 0 n fs (omega arith)) ∙ end_none g p (drop n fs) n (λ i s low high e. none (n + i) s (omega arith) (within i high) (sym (get_drop n i fs) ∙ e))
+ends_none g p fs n none = ap field_end (drop_components g p n 0 n fs (omega arith)) ∙ end_none g p (drop n fs) n (λ i s low high e. none (n + i) s (omega arith) (within i high) (sym (drop_get n i fs) ∙ e))
   where
     within : (i : ℕ) → i < length (drop n fs) → n + i < length fs
     within i h = (let l = length-drop n fs in omega arith)
@@ -231,14 +228,9 @@ ends_none g p fs n none = ap field_end (drop_components g p n 0 n fs (omega arit
 pub ends_due : (g : Graph ℕ Simple) (p : ℕ) (fs : List (Slot ℕ)) (n e : ℕ) (due : IsDue fs n (length fs) e) → field_end (drop n (components g p 0 fs)) ≡ EndBreaks DerMissing (47 ∷ due.slot.tag)
 ends_due g p fs n e due =
     let k = apart n e due.low in
-    let there : slice_get (drop n fs) k.0 ≡ Some due.slot = get_drop n k.0 fs ∙ (ap (slice_get fs) k.1 ∙ due.found) in
+    let there : slice_get (drop n fs) k.0 ≡ Some due.slot = drop_get n k.0 fs ∙ (ap (slice_get fs) k.1 ∙ due.found) in
     let first : NoneDue (drop n fs) 0 k.0 = due_from fs n k.0 (subst (NoneDue fs n) (sym k.1) due.first) in
     ap field_end (drop_components g p n 0 n fs (omega arith)) ∙ end_due g p (drop n fs) n k.0 due.slot there due.due first
-
-get_within : {A : Type 0} (fs : List A) (k : ℕ) (s : A) → slice_get fs k ≡ Some s → k < length fs
-get_within [] k s e = absurd cc
-get_within (f ∷ fs) zero s e = omega arith
-get_within (f ∷ fs) (suc k) s e = (let r = get_within fs k s e in omega arith)
 
 none_within : {A : Type 0} (fs : List A) (k : ℕ) → slice_get fs k ≡ None → length fs ≤ k
 none_within [] k e = omega arith
@@ -257,10 +249,10 @@ none_further fs from at to gone none i s low high e = by (cases_lt i at)
   where
     by : (i < at) ⊎ (at ≤ i) → has_to_come s ≡ false
     by (inl before) = none i s low before e
-    by (inr behind) = absurd (let there = get_within fs i s e in let past = none_within fs at gone in omega arith)
+    by (inr behind) = absurd (let there = slice_get_within fs i s e in let past = none_within fs at gone in omega arith)
 
 pub due_within : (fs : List (Slot ℕ)) (from to at : ℕ) → IsDue fs from to at → IsDue fs from (length fs) at
-due_within fs from to at due = record { low = due.low; high = get_within fs at due.slot due.found; slot = due.slot; found = due.found; due = due.due; first = due.first }
+due_within fs from to at due = record { low = due.low; high = slice_get_within fs at due.slot due.found; slot = due.slot; found = due.found; due = due.due; first = due.first }
 
 pub none_due_within : (fs : List (Slot ℕ)) (from to : ℕ) → length fs ≤ to → NoneDue fs from to → NoneDue fs from (length fs)
 none_due_within fs from to enough none i s low high e = none i s low (omega arith) e

@@ -1,5 +1,6 @@
 -- The steps of contents.
 use Rattle.std.proofs.Common.{◌≡◌, ℕ, ◌+◌, ◌-◌, ◌≤◌, ◌<◌, true, false, List, [], ◌∷◌, ◌++◌, length, drop, refl, sym, ap, ◌∙◌, subst, arith, append-nil, append_assoc, length-append}
+use Rattle.std.proofs.lemmas.List.{nil_from_length}
 use Rattle.lexical_core.specs.declared.rule.Rule.{Rule}
 use Rattle.der_octets.specs.TagSteps as tags
 use Rattle.der_octets.specs.declared.tag_step.TagStep.{TagStep}
@@ -66,11 +67,7 @@ place_counts m xs d start place bytes r =
 
 -- none of them has come where the start is the place
 pub none_kept : (m : DerMessage ℕ) (xs : List Level) (d : Due) (start place : ℕ) (bytes : List ℕ) → Reads m xs d start place bytes → start ≡ place → drop start bytes ≡ []
-none_kept m xs d start place bytes r e = rest_from m xs d start place bytes r ∙ empty r.rest (let a = r.start_is in let b = r.place_is in omega arith)
-  where
-    empty : (xs : List ℕ) → length xs ≡ 0 → xs ≡ []
-    empty [] z = refl
-    empty (x ∷ xs) z = absurd (omega arith)
+none_kept m xs d start place bytes r e = rest_from m xs d start place bytes r ∙ nil_from_length r.rest (let a = r.start_is in let b = r.place_is in omega arith)
 
 -- ---- contents stand behind other octets
 

@@ -280,10 +280,6 @@ over_front T old new (x ∷ xs) s some same stops other =
     stopped_front T old new (x ∷ xs) (x ∷ []) xs s refl
     (λ bytes h. subst (λ (z : Decoder). StopsWithin T z (bytes ++ x ∷ []) s) (sym same) (stop_within T old.decoder (bytes ++ x ∷ []) [] (bytes ++ x ∷ []) s (sym (append-nil (bytes ++ x ∷ []))) (stops bytes x h.reading.read) other))
 
-pub nothing_left : (xs : List ℕ) → length xs ≡ 0 → xs ≡ []
-nothing_left [] e = refl
-nothing_left (x ∷ xs) e = absurd (omega arith)
-
 pub joined : (n : ℕ) (xs : List ℕ) → xs ≡ take n xs ++ drop n xs
 joined zero xs = refl
 joined (suc n) [] = refl

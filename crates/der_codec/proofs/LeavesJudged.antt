@@ -1,5 +1,5 @@
 -- What leaves are under simple types, as contents octets.
-use Rattle.std.proofs.Common.{◌≡◌, ℕ, ◌<◌, ◌^◌, Bool, List, [], ◌∷◌, length, Option, Some, None, Ok, Err, refl, sym, ap, ◌∙◌, subst, arith, ◌⊎◌, inl, inr, encode_utf8_all}
+use Rattle.std.proofs.Common.{◌≡◌, ℕ, ◌<◌, ◌^◌, List, [], ◌∷◌, length, Option, Some, None, Ok, Err, refl, sym, ap, ◌∙◌, subst, arith, ◌⊎◌, inl, inr, encode_utf8_all}
 use Rattle.std.specs.Prelude.{MatchOption}
 use Rattle.std.proofs.lemmas.Option.{slice_get_within}
 use Rattle.std.specs.List.{AllByRecursion}
@@ -8,13 +8,12 @@ use Rattle.lexical_core.specs.XmlRuns.{IsXmlRun, IsPlainXmlByte}
 use Rattle.lexical_core.specs.declared.rule.Rule.{Rule}
 use Rattle.lexical_core.specs.declared.rule.Rule.TheVariants.{BadLength, PatternFails, NotACode, BadContents, BadText}
 use Rattle.lexical_core.proofs.XmlRuns.{plain_encoded}
-use Rattle.data_types.specs.Booleans.{boolean_text}
 use Rattle.data_types.specs.Dates.{IsDateText}
-use Rattle.data_types.specs.Leaf.{Leaf, Bytes, Flag, Code, IsLeaf, IsTextLeaf}
+use Rattle.data_types.specs.Leaf.{Leaf, Bytes, Code, IsLeaf, IsTextLeaf}
 use Rattle.data_types.specs.LeafSteps.{IsShortKind}
 use Rattle.data_types.specs.declared.kind.Kind.{Kind}
 use Rattle.data_types.specs.declared.kind.Kind.TheVariants as kind
-use Rattle.data_types.proofs.CanonicalLemmas.{own, spells_boolean}
+use Rattle.data_types.proofs.CanonicalLemmas.{own}
 use Rattle.data_types.proofs.LeafLaws.{one_leaf}
 use Rattle.data_types.proofs.VisibleTexts.{AreVisible, date_visible}
 use Rattle.data_types.specs.declared.leaf.LeafRef.TheVariants as held
@@ -22,10 +21,10 @@ use Rattle.facets.specs.LeafChecks.{IsWithinLimits}
 use Rattle.facets.specs.LeafUnder.{IsCodeAt, IsLeafBy, GivesLeaf, IsCanonicalBy, Fits, BreaksAs}
 use Rattle.facets.specs.Facets.{HasLength}
 use Rattle.facets.specs.PatternChecks.{IsDateKind}
-use Rattle.facets.specs.Rules.{IsAsked, BreaksFirst, BreaksPattern}
+use Rattle.facets.specs.Rules.{BreaksFirst, BreaksPattern}
 use Rattle.facets.specs.declared.simple.Simple.{Simple}
 use Rattle.facets.proofs.FitLemmas.{given_fits}
-use Rattle.facets.proofs.TextRules.{text_breaks, short_breaks, short_given, coded_answer}
+use Rattle.facets.proofs.TextRules.{text_breaks, short_breaks, coded_answer}
 use Rattle.der_model.specs.LeafContents.{integer_octets, IsInteger, IsContents, HasContentsForm, HasCodes, ContentsUnder}
 use Rattle.der_codec.specs.Judging.{IsJudged, IsXmlCode, IsNoDate}
 use Rattle.der_codec.specs.Checked.{IsToldOf}
@@ -184,20 +183,6 @@ pub no_date : (simple : Simple) (octets : List ℕ) (rule : Rule) → IsDateKind
 no_date simple octets BadText d other h = ((text_form simple.kind simple.codes octets d).1 h, date_codes simple.kind simple.codes d, λ leaf c. other (contents_date simple.kind simple.codes octets leaf d c))
 no_date simple octets BadContents d other h = λ form. h ((text_form simple.kind simple.codes octets d).0 form)
 no_date simple octets rule d other h = absurd h
-
--- ---- truth values
-
-flag_short : IsShortKind kind.Boolean
-flag_short = record { no_text = λ e. cc; no_decimal = λ e. cc; no_binary = λ e. cc }
-
-flag_given : (simple : Simple) (flag : Bool) → simple.kind ≡ kind.Boolean → GivesLeaf simple (boolean_text flag) (Flag flag)
-flag_given simple flag e =
-    short_given simple (boolean_text flag) (Flag flag) (subst IsShortKind (sym e) flag_short)
-    (subst (λ z. IsLeaf z (boolean_text flag) (Flag flag)) (sym e) (spells_boolean (Flag flag) (boolean_text flag) refl))
-    (λ b. subst (λ z. IsAsked z simple.codes (boolean_text flag) b.1) e b.3)
-
-pub flag_fits : (simple : Simple) (flag : Bool) → simple.kind ≡ kind.Boolean → Fits simple (Flag flag)
-flag_fits simple flag e = given_fits simple (boolean_text flag) (Flag flag) (flag_given simple flag e)
 
 -- ---- codes
 

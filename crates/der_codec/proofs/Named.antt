@@ -11,8 +11,8 @@ use Rattle.der_model.specs.Faults.{DerFront, IsCleanPart}
 use Rattle.der_model.specs.OpenParts.{components_of}
 use Rattle.der_model.proofs.BegunSlots.{no_begin}
 use Rattle.der_model.proofs.ShownSlots.{one_begun, item_begun}
+use Rattle.der_model.proofs.OneLevel.{drop_get}
 use Rattle.der_codec.specs.inner.OpenNames.{names_of_part, IsNamed}
-use Rattle.der_codec.proofs.ComponentsFound.{get_drop}
 
 same_begin : {P : Type 0} (i k : ℕ) (d c : Component P) → Begins i d ≡ Begins k c → (k ≡ i) × (d ≡ c)
 same_begin i k d c e = (cc, cc)
@@ -51,7 +51,7 @@ from_start cs k c (off, n, e) = (let same : k ≡ off = omega arith in ap (slice
 pub begins_at : {P : Type 0} (s : Structure P) (came : List ℕ) (b : Bool) (t : Tag) (k : ℕ) (c : Component P) → identifier_answer s came b t ≡ Begins k c → slice_get (components_of s) k ≡ Some c
 begins_at (Fields cs) came b t k c e =
     let r = field_at (next_number came) (drop (next_number came) cs) b t k c e in
-    ap (slice_get cs) r.1 ∙ (sym (get_drop (next_number came) r.0 cs) ∙ r.2)
+    ap (slice_get cs) r.1 ∙ (sym (drop_get (next_number came) r.0 cs) ∙ r.2)
 begins_at (OneOf cs) came b t k c e = from_start cs k c (any_at 0 cs b t k c (one_begun came (any_answer 0 cs b t) k c e))
 begins_at (Items s cs) came b t k c e = from_start cs k c (any_at 0 cs b t k c (item_begun (has_room (length came) s.max) (any_answer 0 cs b t) k c e))
 begins_at (Holds contents) came b t k c e = absurd cc

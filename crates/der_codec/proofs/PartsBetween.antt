@@ -1,6 +1,7 @@
 -- The parts that come between those that were read and those that were read with more bytes.
 use Rattle.std.proofs.Common.{◌≡◌, ℕ, ◌+◌, ◌<◌, Bool, List, [], ◌∷◌, ◌++◌, length, refl, sym, ap, ◌∙◌, subst, arith, append_assoc, append-nil, length-append, ◌⊎◌, inl, inr}
 use Rattle.std.proofs.lemmas.Bool.{cases_lt}
+use Rattle.std.proofs.lemmas.List.{nil_from_length}
 use Rattle.der_octets.specs.Octets.{Tag, identifier, length_octets}
 use Rattle.der_octets.specs.TagSteps as tags
 use Rattle.der_octets.specs.LengthSteps as lengths
@@ -25,10 +26,6 @@ use Rattle.der_codec.specs.declared.decoder.Due.TheVariants as due
 use Rattle.der_codec.proofs.Nested.{front_rest}
 use Rattle.der_codec.proofs.Steps.{open_limit}
 
-pub none_long : (xs : List ℕ) → length xs ≡ 0 → xs ≡ []
-none_long [] e = refl
-none_long (x ∷ xs) e = absurd (omega (arith, e))
-
 -- ---- headers that are whole
 
 no_whole_tag : (step : TagStep) (rest after : List ℕ) (c : Bool) (t : Tag) → tags.HasTakenTag step rest → rest ≡ identifier c t ++ after → ⊥
@@ -50,7 +47,7 @@ no_whole_length step rest after n taken is =
 -- octets of which one more ends what stands in front
 front_ends : (header rest after : List ℕ) (o : ℕ) → rest ++ o ∷ [] ≡ header ++ after → ((z : List ℕ) → rest ≡ header ++ z → ⊥) → after ≡ []
 front_ends header rest after o is none = elim (cases_lt (length rest) (length header)) [
-  | inl below ↦ none_long after (let a = ap length is in let b = length-append rest (o ∷ []) in let c = length-append header after in omega (arith, a, b, c, below))
+  | inl below ↦ nil_from_length after (let a = ap length is in let b = length-append rest (o ∷ []) in let c = length-append header after in omega (arith, a, b, c, below))
   | inr above ↦ absurd (let r = shorter_front header rest after (o ∷ []) above (sym is) in none r.0 r.1)
 ]
 

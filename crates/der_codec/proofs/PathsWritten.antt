@@ -1,5 +1,5 @@
 -- A path, name by name.
-use Rattle.std.specs.Prelude.{Result, Ok, Err, OnOk, slice_get, if◌then◌else◌}
+use Rattle.std.specs.Prelude.{slice_get, if◌then◌else◌}
 use Rattle.std.proofs.Common.{◌≡◌, ℕ, false, List, [], ◌∷◌, ◌++◌, Option, Some, refl, sym, ap, ◌∙◌, subst, arith, append-nil, append_assoc, length-append}
 use Rattle.std.specs.Fmt.{decimal}
 use Rattle.facets.specs.declared.simple.Simple.{Simple}
@@ -11,10 +11,6 @@ use Rattle.der_model.specs.Paths.{path_name_text, names_text, path_text}
 use Rattle.der_codec.specs.Components.{slot_text}
 use Rattle.der_codec.specs.inner.OpenNames.{closed_text, list_alone, last_list, held_text, HasNames, slot_names, item_names, alternative_names}
 use Rattle.der_codec.specs.declared.paths.Path.{Path}
-
-pub on_ok : {A E : Type 0} (r : Result A E) (P Q : Type 0) → OnOk r P → (P → Q) → OnOk r Q
-on_ok (Ok a) P Q p f = f p
-on_ok (Err e) P Q p f = tt
 
 closed_join : (xs bs : List PathName) → closed_text (xs ++ bs) ≡ closed_text xs ++ closed_text bs
 closed_join [] bs = refl

@@ -6,6 +6,7 @@ use Rattle.data_types.specs.Value.{Edge, Piece, Begins, Holds, Ends}
 use Rattle.inst_pool.specs.Pieces.{open_in, edges_open_behind}
 use Rattle.inst_pool.specs.declared.piece.Edge.{Edge as Told}
 use Rattle.inst_pool.proofs.ContentLemmas.{open-append}
+use Rattle.inst_pool.proofs.BuildingLemmas.{open-hold}
 use Rattle.der_model.specs.ShownPieces.{begin_each}
 use Rattle.der_codec.specs.inner.Elements.{edge_if}
 
@@ -15,9 +16,6 @@ on_ok_when (Err e) P Q p f = tt
 
 pub closed_open : (shown : List Piece) (edge : Edge) (outer : List Edge) → open_in shown ≡ edge ∷ outer → open_in (shown ++ Ends edge ∷ []) ≡ outer
 closed_open shown edge outer e = open-append [] shown (Ends edge ∷ []) ∙ ap (drop 1) e
-
-pub held_open : (shown : List Piece) (leaf : Leaf) → open_in (shown ++ Holds leaf ∷ []) ≡ open_in shown
-held_open shown leaf = open-append [] shown (Holds leaf ∷ [])
 
 begun_open : (outer inner : Option Told) (around : List Edge) → edges_open_behind around (begin_each (edge_if outer ++ edge_if inner)) ≡ reverse (edge_if outer ++ edge_if inner) ++ around
 begun_open None None around = refl
@@ -29,7 +27,7 @@ begun_open (Some a) (Some b) around = refl
 pub leaf_open : (outer inner : Option Told) (shown : List Piece) (leaf : Leaf) → open_in ((shown ++ begin_each (edge_if outer ++ edge_if inner)) ++ Holds leaf ∷ []) ≡ reverse (edge_if outer ++ edge_if inner) ++ open_in shown
 leaf_open outer inner shown leaf =
     let edges = begin_each (edge_if outer ++ edge_if inner) in
-    held_open (shown ++ edges) leaf ∙ (open-append [] shown edges ∙ begun_open outer inner (open_in shown))
+    open-hold (shown ++ edges) leaf ∙ (open-append [] shown edges ∙ begun_open outer inner (open_in shown))
 
 -- what holds for each of these where it is Ok
 pub ok_for : {A E S : Type 0} (r : Result A E) (X G : S → Type 0) (Q : Type 0) → ((s : S) → X s → OnOk r (G s)) → (((s : S) → X s → G s) → Q) → IfOk r (λ _. Q)

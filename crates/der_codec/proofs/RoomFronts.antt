@@ -14,7 +14,7 @@ use Rattle.der_octets.specs.Octets.{Values, Nothing, Primitive, Constructed, oct
 use Rattle.der_octets.proofs.OneReading.{octets_same}
 use Rattle.der_model.specs.DerMessage.{DerMessage, der_message}
 use Rattle.der_model.specs.Der.{SpellsDer, der_values}
-use Rattle.der_model.specs.Faults.{DerFront, IsWholeDer, IsHeldIn, IsCleanPart}
+use Rattle.der_model.specs.Faults.{DerFront, IsWholeDer, IsCleanPart}
 use Rattle.der_model.specs.LeafContents.{IsContents}
 use Rattle.der_model.specs.OpenParts.{parts_of, without_lengths, IsPrimitive}
 use Rattle.der_model.specs.ShownPieces.{PartShows, PartsShow, IsLeafIn, begin_each, end_each, elements_ended}
@@ -28,6 +28,8 @@ use Rattle.der_model.proofs.Continued.{front_more}
 use Rattle.der_model.proofs.ShownParts.{parts_then, first_part}
 use Rattle.der_model.proofs.ShownPieces.{instance_are, whole_shows_pieces, front_shows_pieces, show_one_pieces, parts_show_then}
 use Rattle.der_model.proofs.WholeValues.{values_of_whole, whole_values_of}
+use Rattle.der_model.proofs.OneFault.{nothing_over}
+use Rattle.der_model.proofs.PartsFront.{held_primitive}
 use Rattle.der_codec.specs.Checking.{HasFedDer, open_count}
 use Rattle.der_codec.specs.KeptPieces.{Shows}
 use Rattle.der_codec.specs.Levels.{inwards}
@@ -68,15 +70,6 @@ whole_parts T bytes v sound short spelled =
 
 -- ---- parts further
 
-none_over : {P : Type 0} (s : State P) (place : ℕ) (p : Part) → s ≡ Within [] → Stands s place p → ⊥
-none_over {P} s place p e h = go p (subst (λ z. Stands z place p) e h)
-  where
-    go : (p : Part) → Stands {P = P} (Within []) place p → ⊥
-    go (Identifier b t) h = h
-    go (Length n) h = h
-    go (states.Contents o) h = h
-    go End h = h
-
 pub record Further {P : Type 0} (m : DerMessage P) (ps all : List Part) (state : State P) (at : ℕ) (rest : List ℕ) (end : ℕ) : Type 0 where
   pub later : List Part
   pub are : all ≡ ps ++ later
@@ -90,7 +83,7 @@ further m s place bytes [] all state at rest end (p, q, r) whole = record {
   front = subst (λ z. DerFront m z at rest all (Within []) end []) p (subst (λ z. DerFront m s z rest all (Within []) end []) q (subst (λ z. DerFront m s place z all (Within []) end []) r whole));
 }
 further m s place bytes (p ∷ ps) all state at rest end (after, is, stands, up, clean, f) whole =
-    let one = first_part m s place bytes p after all end [] (λ e. none_over s place p e stands) stands is whole in
+    let one = first_part m s place bytes p after all end [] (λ e. nothing_over s place p e stands) stands is whole in
     let r = further m (state_after m s place p) (place + length (part_octets p)) after ps one.others state at rest end f one.front in
     record { later = r.later; are = one.are ∙ ap (λ z. p ∷ z) r.are; front = r.front }
 
@@ -193,13 +186,6 @@ stays_front m s place depth bytes (p ∷ ps) later state at rest (after, is, st,
     stays_front m (state_after m s place p) (place + length (part_octets p)) depth after ps later state at rest f (stays_next m s place depth p (ps ++ later) st cl h)
 
 -- ---- contents that are due
-
-held_primitive : {P : Type 0} (m : DerMessage P) (s : Structure P) (o : List ℕ) → IsHeldIn m s o → IsPrimitive s
-held_primitive m (Holds contents) o h = tt
-held_primitive m (Fields cs) o h = absurd h
-held_primitive m (OneOf cs) o h = absurd h
-held_primitive m (Items s cs) o h = absurd h
-held_primitive m Empty o h = absurd h
 
 due_contents : (m : DerMessage ℕ) (spot : Spot ℕ) (names : List PathName) (count : ℕ) (around : List (DerLevel ℕ)) (at : ℕ) (bytes : List ℕ) (later : List Part) (end : ℕ) → DerFront m (AwaitsContents spot names count around) at bytes later (Within []) end []
     → (count ≤ contents_size later) × IsPrimitive (structure m spot)

@@ -4,6 +4,7 @@ use Rattle.data_types.specs.Leaf.{Leaf}
 use Rattle.data_types.specs.Value.{Edge, Piece, Holds}
 use Rattle.facets.specs.declared.simple.Simple.{Simple}
 use Rattle.inst_pool.specs.Pieces.{Region, open_in}
+use Rattle.inst_pool.proofs.BuildingLemmas.{open-hold}
 use Rattle.message_model.specs.Tables.{Tables}
 use Rattle.reference_check.specs.Forms.{Graph}
 use Rattle.der_octets.specs.declared.tag_step.TagStep.{TagStep}
@@ -27,7 +28,6 @@ use Rattle.der_codec.specs.declared.decoder.Decoder.{Decoder}
 use Rattle.der_codec.specs.declared.decoder.Due.{Due}
 use Rattle.der_codec.specs.declared.decoder.Due.TheVariants as due
 use Rattle.der_codec.proofs.PartsBetween.{none_first}
-use Rattle.der_codec.proofs.PiecesOpen.{held_open}
 use Rattle.der_codec.proofs.ShownSteps.{shows_on, goes_same, goes_twice, shown_open, tag_adds, length_adds, pass_adds, Closes, contents_close, end_closes}
 
 -- ---- how deep it is
@@ -118,7 +118,7 @@ pass_shown m d e kept bytes more spot left is now few read shows =
 
 leaf_open : (old mid : Option Region) (leaf : Leaf) (edges : List Edge) → PiecesGoOn old mid (Holds leaf ∷ []) → AreOpen old edges → AreOpen mid edges
 leaf_open None None leaf edges goes open_are = tt
-leaf_open (Some old) (Some mid) leaf edges goes open_are = ap open_in goes ∙ (held_open old.pieces leaf ∙ open_are)
+leaf_open (Some old) (Some mid) leaf edges goes open_are = ap open_in goes ∙ (open-hold old.pieces leaf ∙ open_are)
 leaf_open None (Some mid) leaf edges goes open_are = absurd goes
 leaf_open (Some old) None leaf edges goes open_are = absurd goes
 

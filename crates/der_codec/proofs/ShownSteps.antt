@@ -1,6 +1,7 @@
 -- Which pieces are shown with each step of the reader.
 use Rattle.std.specs.Prelude.{codes}
 use Rattle.std.proofs.Common.{◌≡◌, ℕ, suc, ◌+◌, ◌<◌, Bool, true, false, List, [], ◌∷◌, ◌++◌, length, drop, Option, Some, None, refl, sym, ap, ◌∙◌, subst, arith, append_assoc, append-nil, length-append, ◌⊎◌, inl, inr}
+use Rattle.std.proofs.lemmas.List.{nil_from_length}
 use Rattle.data_types.specs.Leaf.{Leaf}
 use Rattle.data_types.specs.Value.{Piece, Holds}
 use Rattle.inst_pool.specs.Pieces.{Region, edges_open_behind}
@@ -29,7 +30,7 @@ use Rattle.der_codec.specs.declared.decoder.Due.{Due}
 use Rattle.der_codec.specs.declared.decoder.Due.TheVariants as due
 use Rattle.der_codec.proofs.ContentsSteps.{rest_from}
 use Rattle.der_codec.proofs.Steps.{open_limit}
-use Rattle.der_codec.proofs.PartsBetween.{Between, Behind, either_further, none_further, ends_alone, none_awaited, tag_ends, length_ends, no_identifier, none_long}
+use Rattle.der_codec.proofs.PartsBetween.{Between, Behind, either_further, none_further, ends_alone, none_awaited, tag_ends, length_ends, no_identifier}
 
 -- Parts come behind those that were read, and show these pieces.
 pub record Adds (m : DerMessage ℕ) (before : List Part) (s : State ℕ) (at : ℕ) (all : List Part) (more : List Piece) : Type 0 where
@@ -214,7 +215,7 @@ contents_close m xs ys spot left e start place begin end bytes more leaf r size 
     go s op beg count [] (p, q, z) = absurd (let same : open_count s ≡ open_count t.state = ap open_count p in omega (arith, same, count))
     go (AwaitsContents of names n ls) op beg count (states.Contents x ∷ ps) (after, is, st, up, cl, f) =
         let a = ap length is in let b = length-append r.rest more in let c = length-append x after in
-        let nothing : after ≡ [] = none_long after (omega (arith, a, b, c, st, beg, size)) in
+        let nothing : after ≡ [] = nil_from_length after (omega (arith, a, b, c, st, beg, size)) in
         let whole : r.rest ++ more ≡ x = is ∙ (ap (λ z. x ++ z) nothing ∙ append-nil x) in
         let ends = ends_alone m (Within ls) (r.at + length x) after ps t.state t.at t.rest nothing f in
         let few : length ps ≡ 0 = omega (arith, ends, count) in

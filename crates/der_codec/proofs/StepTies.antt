@@ -1,6 +1,7 @@
 -- The steps of the reader, as its functions have them.
 use Rattle.std.specs.Prelude.{Result, Ok, Err, IfOk, IfErr}
-use Rattle.std.proofs.Common.{◌≡◌, ℕ, ◌+◌, ◌<◌, Bool, true, false, List, [], ◌∷◌, ◌++◌, length, Some, None, refl, sym, ap, ◌∙◌, subst, arith}
+use Rattle.std.proofs.Common.{◌≡◌, ℕ, ◌+◌, ◌<◌, Bool, true, false, List, [], ◌∷◌, ◌++◌, Some, None, refl, sym, ap, ◌∙◌, subst, arith}
+use Rattle.std.proofs.lemmas.List.{nil_from_length}
 use Rattle.lexical_core.specs.declared.rule.Rule.{Rule}
 use Rattle.lexical_core.specs.declared.rule.Rule.TheVariants.{Overrun, UnexpectedTag}
 use Rattle.der_octets.specs.Octets.{universal, identifier}
@@ -110,14 +111,10 @@ open_constructed m x xs (due.Length false spot1 step) spot fresh start place n b
 open_constructed m x xs (due.Length true spot1 step) spot fresh start place n bytes o r c is has fits a b e f new = opened_read m x xs spot1 step fresh start place n bytes o r has.2 has.3 fits (a ∙ sym has.1) b e f new
 open_constructed m x xs d spot fresh start place n bytes o r c is has fits a b e f new = absurd has
 
-empty : (xs : List ℕ) → length xs ≡ 0 → xs ≡ []
-empty [] e = refl
-empty (x ∷ xs) e = absurd (omega arith)
-
 -- an octet below 128 is a whole length, where none of it has come
 pub short_has : (m : DerMessage ℕ) (xs : List Level) (d : Due) (c : Bool) (spot : Spot) (step : LengthStep) (start place : ℕ) (bytes : List ℕ) (o n : ℕ) (r : Reads m xs d start place bytes) → d ≡ due.Length c spot step → start ≡ place → o < 128 → n ≡ o → HasLengthOctets d c spot r.rest o n
 short_has m xs d c spot step start place bytes o n r is none low same =
-    let rest : r.rest ≡ [] = empty r.rest (let a = r.start_is in let b = r.place_is in omega arith) in
+    let rest : r.rest ≡ [] = nil_from_length r.rest (let a = r.start_is in let b = r.place_is in omega arith) in
     let one = one_octet o low in
     subst (λ z. HasLengthOctets d c spot r.rest o z) (sym same) (subst (λ z. HasLengthOctets z c spot r.rest o o) (sym is) (refl, refl, one.0, ap (λ z. z ++ o ∷ []) rest ∙ one.1))
 

@@ -29,10 +29,6 @@ pub admits_then : {P : Type 0} (g : Graph P Simple) (fs : List (Slot P)) (a b : 
 admits_then g fs value.Nothing b p q = q
 admits_then g fs (value.Child j v rest) b (x, more) q = (x, admits_then g fs rest b more q)
 
-pub times_then : (k : ℕ) (a b : List ℕ) → times k (a ++ b) ≡ times k a + times k b
-times_then k [] b = omega arith
-times_then k (j ∷ a) b = (let r = times_then k a b in omega arith)
-
 pub values_own : {P : Type 0} (m : DerMessage P) (k n : ℕ) (s : Slot P) (a b : Children) → numbers_of a ≡ replicate n k → values_at m k s b ≡ Nothing → values_at m k s (then_children a b) ≡ values_at m k s a
 values_own m k n s value.Nothing b is none = none
 values_own m k zero s (value.Child j v rest) b is none = absurd cc

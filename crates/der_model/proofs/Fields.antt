@@ -12,7 +12,7 @@ use Rattle.der_model.specs.States.{Begins, is_under, field_answer, any_answer, f
 pub own_number : (n : ℕ) → (n == n) ≡ true
 own_number n = grind (arith, nat_tests)
 
-other_number : (i j : ℕ) → i ≢ j → (i == j) ≡ false
+pub other_number : (i j : ℕ) → i ≢ j → (i == j) ≡ false
 other_number i j h = grind (arith, nat_tests)
 
 -- a component has its own identifier octets

@@ -11,6 +11,7 @@ use Rattle.der_octets.specs.Octets.{context, Values, Nothing}
 use Rattle.reference_check.specs.Forms.{Graph, Form, Slot, form_slots}
 use Rattle.reference_check.specs.Forms as form
 use Rattle.reference_check.specs.Words.{times, UpTo, MayComeTimes, IsOrderedFrom}
+use Rattle.reference_check.proofs.Words.{times-replicate, times-append}
 use Rattle.message_model.specs.Admits.{numbers_of}
 use Rattle.message_model.specs.Admits.{AdmitsAs, AdmitsChildren}
 use Rattle.der_model.specs.DerMessage.{DerMessage}
@@ -19,8 +20,7 @@ use Rattle.der_model.specs.Der.{Body, Octets, under, slot_values, all_slots, bod
 use Rattle.der_model.specs.States.{Fine, field_end, next_number}
 use Rattle.der_model.specs.Faults.{IsHeldIn}
 use Rattle.der_model.proofs.ContentsLaws.{contents_are_written}
-use Rattle.der_model.proofs.Spelled.{times_all}
-use Rattle.der_model.proofs.ChildLists.{then_children, slots_then, admits_then, times_then, values_own, values_other, values_none, times_none, ordered_then, slots_skip, slots_congr, times_other, free_slot, zero_upto, compared}
+use Rattle.der_model.proofs.ChildLists.{then_children, slots_then, admits_then, values_own, values_other, values_none, times_none, ordered_then, slots_skip, slots_congr, times_other, free_slot, zero_upto, compared}
 use Rattle.der_model.proofs.BegunSlots.{drop_get, drop_drop, get_drop, drop_components, apart_by, put_drop}
 
 -- what a form's body decodes to
@@ -76,7 +76,7 @@ fields_step {P} m p fs n k off s count vs rest number there room free slot withi
     below = slice_get_within fs k s there
 
     counts : (i : ℕ) → times i (numbers_of (then_children a b)) ≡ times i (numbers_of a) + times i (numbers_of b)
-    counts i = ap (times i) (slots_then a b) ∙ times_then i (numbers_of a) (numbers_of b)
+    counts i = ap (times i) (slots_then a b) ∙ times-append i (numbers_of a) (numbers_of b)
 
     each : (i : ℕ) (u : Slot P) → n ≤ i → slice_get fs i ≡ Some u → (i < k) ⊎ ((i ≡ k) ⊎ (k < i)) → MayComeTimes (times i (numbers_of (then_children a b))) u
     each i u l f (inl h) =
@@ -87,7 +87,7 @@ fields_step {P} m p fs n k off s count vs rest number there room free slot withi
         let d = free i u l h f in
         subst (λ z. MayComeTimes z u) (sym zero_count) (omega (arith, d.1), zero_upto u.max)
     each i u l f (inr (inl h)) =
-        let one : times i (numbers_of a) ≡ count = ap (times i) slot.alike ∙ (ap (λ z. times z (replicate count k)) h ∙ times_all k count) in
+        let one : times i (numbers_of a) ≡ count = ap (times i) slot.alike ∙ (ap (λ z. times z (replicate count k)) h ∙ times-replicate k count) in
         let two : times i (numbers_of b) ≡ 0 = times_none (suc k) (length fs) i (numbers_of b) fields.ordered (omega arith) in
         let c = counts i in
         let same : times i (numbers_of (then_children a b)) ≡ count = omega arith in

@@ -89,7 +89,7 @@ contents_long s spot names count around place p bytes after e h is low = go p (s
     go (Length n) h is = absurd h
     go End h is = absurd h
 
-nothing_over : {P : Type 0} (s : State P) (place : ℕ) (p : Part) → s ≡ Within [] → Stands s place p → ⊥
+pub nothing_over : {P : Type 0} (s : State P) (place : ℕ) (p : Part) → s ≡ Within [] → Stands s place p → ⊥
 nothing_over {P} s place p e h = go p (subst (λ z. Stands z place p) e h)
   where
     go : (p : Part) → Stands {P = P} (Within []) place p → ⊥

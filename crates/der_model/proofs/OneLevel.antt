@@ -38,7 +38,7 @@ apart_drop zero cs h = h
 apart_drop (suc n) [] h = h
 apart_drop (suc n) (c ∷ cs) h = apart_drop n cs h.1
 
-drop_get : {A : Type 0} (n i : ℕ) (xs : List A) → slice_get (drop n xs) i ≡ slice_get xs (n + i)
+pub drop_get : {A : Type 0} (n i : ℕ) (xs : List A) → slice_get (drop n xs) i ≡ slice_get xs (n + i)
 drop_get zero i xs = ap (slice_get xs) (zero_add i)
   where
     zero_add : (i : ℕ) → i ≡ 0 + i

@@ -14,6 +14,7 @@ use Rattle.der_octets.specs.Octets.{Tag, context, Values, Nothing, Primitive, Co
 use Rattle.reference_check.specs.Forms.{Graph, Form, Slot}
 use Rattle.reference_check.specs.Forms as form
 use Rattle.reference_check.specs.Words.{times, UpTo, IsOrderedFrom, IsSequence}
+use Rattle.reference_check.proofs.Words.{times-replicate}
 use Rattle.message_model.specs.Admits.{numbers_of}
 use Rattle.message_model.specs.Admits.{AdmitsAs, AdmitsChildren, FitsCode}
 use Rattle.der_model.specs.LeafContents.{leaf_contents}
@@ -24,7 +25,7 @@ use Rattle.message_model.specs.Sound.{IsNoOption}
 use Rattle.der_model.specs.Sound.{FragmentsApart}
 use Rattle.der_model.proofs.SoundMessages.{HaveNoOptions}
 use Rattle.der_model.proofs.ContentsLaws.{contents_same}
-use Rattle.der_model.proofs.Spelled.{FitsAs, IsOneOf, value_fits, then_under, at_most_one, chosen_is, times_all, none_is_no_value, IsSingle, children_single}
+use Rattle.der_model.proofs.Spelled.{FitsAs, IsOneOf, value_fits, then_under, at_most_one, chosen_is, none_is_no_value, IsSingle, children_single}
 
 -- an admitted value has its children in order
 mutual
@@ -282,8 +283,8 @@ choice_same : {P : Type 0} (m : DerMessage P) → HaveNoOptions m → (p : P) (f
 choice_same m opts p fs ks ls at ((k, zero, s, found, within, is), a) q e kids = absurd (let some : 0 < s.min = subst IsNoOption at (opts p) k s found in omega (arith, within.0))
 choice_same m opts p fs ks ls at ((k, suc n, s, found, within, is), a) ((j, zero, t, found2, within2, is2), b) e kids = absurd (let some : 0 < t.min = subst IsNoOption at (opts p) j t found2 in omega (arith, within2.0))
 choice_same {P} m opts p fs ks ls at ((k, suc n, s, found, within, is), a) ((j, suc n2, t, found2, within2, is2), b) e kids =
-    let counted : times k (numbers_of ks) ≡ suc n = ap (times k) is ∙ times_all k (suc n) in
-    let counted2 : times j (numbers_of ls) ≡ suc n2 = ap (times j) is2 ∙ times_all j (suc n2) in
+    let counted : times k (numbers_of ks) ≡ suc n = ap (times k) is ∙ times-replicate k (suc n) in
+    let counted2 : times j (numbers_of ls) ≡ suc n2 = ap (times j) is2 ∙ times-replicate j (suc n2) in
     let few1 : is_single s ≡ true → times k (numbers_of ks) ≤ 1 = λ h. at_most_one (times k (numbers_of ks)) s.max h (subst (λ z. UpTo z s.max) (sym counted) within.1) in
     let few2 : is_single t ≡ true → times j (numbers_of ls) ≤ 1 = λ h. at_most_one (times j (numbers_of ls)) t.max h (subst (λ z. UpTo z t.max) (sym counted2) within2.1) in
     let s1 : is_single s ≡ true → IsSingle m k s (times k (numbers_of ks)) (values_at m k s ks) = λ h. children_single m opts fs k s ks found a h (few1 h) in

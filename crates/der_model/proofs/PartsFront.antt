@@ -24,7 +24,7 @@ stage_of (AwaitsLength false spot names around) = Held spot (cells around)
 stage_of (AwaitsContents spot names count around) = Held spot (cells around)
 stage_of (Within levels) = In (cells levels)
 
-held_primitive : {P : Type 0} (m : DerMessage P) (sh : Structure P) (octets : List ℕ) → IsHeldIn m sh octets → IsPrimitive sh
+pub held_primitive : {P : Type 0} (m : DerMessage P) (sh : Structure P) (octets : List ℕ) → IsHeldIn m sh octets → IsPrimitive sh
 held_primitive m (Holds contents) octets h = tt
 held_primitive m (Fields cs) octets h = absurd h
 held_primitive m (OneOf cs) octets h = absurd h

@@ -12,6 +12,7 @@ use Rattle.der_octets.specs.Octets.{context, Values, Nothing, Primitive, Constru
 use Rattle.reference_check.specs.Forms.{Form, Slot, form_slots}
 use Rattle.reference_check.specs.Forms as form
 use Rattle.reference_check.specs.Words.{times, UpTo, IsOrderedFrom}
+use Rattle.reference_check.proofs.Words.{times-replicate}
 use Rattle.message_model.specs.Admits.{AdmitsAs, AdmitsChildren, FitsCode, numbers_of}
 use Rattle.message_model.specs.Tables.{pieces, child_pieces}
 use Rattle.message_model.specs.Sound.{IsNoOption}
@@ -24,7 +25,7 @@ use Rattle.der_model.specs.States.{Begins, identifier_answer}
 use Rattle.der_model.specs.ShownPieces.{slot_elements, component_elements, IsLeafIn}
 use Rattle.der_model.proofs.SoundMessages.{HaveNoOptions}
 use Rattle.der_model.proofs.ContentsLaws.{one_leaf, written_contents}
-use Rattle.der_model.proofs.Spelled.{at_most_one, chosen_is, times_all}
+use Rattle.der_model.proofs.Spelled.{at_most_one, chosen_is}
 use Rattle.der_model.proofs.ShownParts.{framed, ValuesShow}
 use Rattle.der_model.proofs.ShownSlots.{BodyShows, AlternativeShows, ShowsAs, sequence_finds}
 use Rattle.der_model.proofs.ShownChildren.{ChildrenShow, SlotShows, slot_pieces, slot_shown}
@@ -83,7 +84,7 @@ choice_shown m opts p fs ks at ((k, suc n, s, found, within, is), admits) shows 
     go (slot_shown m p fs k s ks found (λ single. at_most_one (times k (numbers_of ks)) s.max single (subst (λ z. UpTo z s.max) (sym counted) within.1)) shows)
   where
     counted : times k (numbers_of ks) ≡ suc n
-    counted = ap (times k) is ∙ times_all k (suc n)
+    counted = ap (times k) is ∙ times-replicate k (suc n)
 
     go : SlotShows m p k s (times k (numbers_of ks)) (slot_values k s (values_at m k s ks) Nothing) (slot_pieces m p k s ks) → AlternativeShows m p fs (inner_of (body m (form.Choice fs) (value.Component ks))) (child_pieces m.fragment m.forms p ks)
     go (inl (none, nothing, silent)) = absurd (omega (arith, counted, none))

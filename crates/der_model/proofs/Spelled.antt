@@ -21,12 +21,13 @@ use Rattle.der_model.specs.Structures as structures
 use Rattle.der_model.specs.Der.{Body, Octets, Inner, under, inner_of, item, placed_value, slot_values, all_slots, chosen_slot, alternative, body, values_at}
 use Rattle.der_model.specs.States.{Begins, Fine, is_under, field_answer, any_answer, field_end, item_answer, item_end, next_number}
 use Rattle.reference_check.specs.Steps.{has_room}
+use Rattle.reference_check.proofs.Words.{times-replicate, up_to_less}
 use Rattle.der_model.specs.Faults.{IsHeldIn}
 use Rattle.der_model.specs.inner.Conforms.{Conforms}
 use Rattle.message_model.specs.Sound.{IsNoOption}
 use Rattle.der_model.proofs.SoundMessages.{HaveNoOptions}
 use Rattle.der_model.proofs.ContentsLaws.{written_contents}
-use Rattle.der_model.proofs.Fields.{Skips, skips_none, skips_more, begins_here, any_found, under_own, own_number, drop_more}
+use Rattle.der_model.proofs.Fields.{Skips, skips_none, skips_more, begins_here, any_found, under_own, drop_more}
 
 -- one value, which is a component
 abbrev pub IsOneOf : {P : Type 0} → DerMessage P → List (Component P) → Values → Type 0
@@ -128,10 +129,6 @@ true_room n (Some most) h = lt n most h
 
 enough : (n low : ℕ) → low ≤ n → nat_lt n low ≡ false
 enough n low h = grind (arith, nat_tests)
-
-upto_less : (a b : ℕ) (o : Option ℕ) → a ≤ b → UpTo b o → UpTo a o
-upto_less a b None l h = tt
-upto_less a b (Some top) l h = omega arith
 
 own_item : {P : Type 0} (c : Component P) → any_answer 0 (c ∷ []) c.constructed c.tag ≡ Begins 0 c
 own_item c = cond-true (is_under c c.constructed c.tag) (Begins 0 c) _ (under_own c)
@@ -236,7 +233,7 @@ list_child {P} m fs k j s t b count came vs here there list fits most least rest
         let found : slice_get fs k ≡ Some t = subst (λ z. slice_get fs z ≡ Some t) e.1 there in
         let same : t ≡ s = cc in
         let fit : FitsAs m s.target (m.forms s.target) (b s) = subst (λ z. FitsAs m z.target (m.forms z.target) (b z)) same fits in
-        let room = true_room (length came) s.max (upto_less (suc (length came)) (length came + (cond (j == k) 1 0 + count)) s.max (omega arith) most) in
+        let room = true_room (length came) s.max (up_to_less (suc (length came)) (length came + (cond (j == k) 1 0 + count)) s.max (omega arith) most) in
         let one = item_step m s (m.forms s.target) (b s) came vs refl room fit (again more) in
         subst (Conforms m (Items s (item_components m.forms s.target (m.forms s.target))) came) (sym (cond-true (j == k) (placed_value m.forms k s (b s) vs) vs e.0 ∙ cond-false (is_single s) (under (context k) (b s) vs) (item (m.forms s.target) (b s) vs) list)) one
     go (inr e) =
@@ -287,10 +284,6 @@ alternative_fits {P} m p fs k count s vs found some slot = go (is_single s) refl
         subst (IsOneOf m (components m.forms p 0 fs)) (sym (cond-false (is_single s) (then_values vs Nothing) (Constructed (context k) vs Nothing) e))
         (inr (context k, vs, k, component m.forms p k s, refl, subst (λ z. any_answer 0 (components m.forms p 0 fs) z (context k) ≡ Begins k (component m.forms p k s)) c.0 begins, subst (λ z. Conforms m z [] vs) (sym c.1) (slot.1 e)))
 
-pub times_all : (k n : ℕ) → times k (replicate n k) ≡ n
-times_all k zero = refl
-times_all k (suc n) = some_child k k (times k (replicate n k)) (own_number k) ∙ ap suc (times_all k n)
-
 -- a slot, by the two ways in which its values may stand
 pub slot_by : {P : Type 0} (m : DerMessage P) (k : ℕ) (s : Slot P) (count : ℕ) (vs : Values) → MayComeTimes count s → (is_single s ≡ true → count ≤ 1 → IsSingle m k s count vs)
     → (is_single s ≡ false → UpTo (length {A = ℕ} [] + count) s.max → s.min ≤ length {A = ℕ} [] + count → Conforms m (Items s (item_components m.forms s.target (m.forms s.target))) [] vs) → IsSlot m k s count vs
@@ -309,7 +302,7 @@ mutual
   value_fits m opts p (form.Choice fs) (value.Component ks) at ((k, zero, s, found, within, is), admits) =
       absurd (let some : 0 < s.min = subst IsNoOption at (opts p) k s found in omega (arith, within.0))
   value_fits m opts p (form.Choice fs) (value.Component ks) at ((k, suc n, s, found, within, is), admits) =
-      let counted : times k (numbers_of ks) ≡ suc n = ap (times k) is ∙ times_all k (suc n) in
+      let counted : times k (numbers_of ks) ≡ suc n = ap (times k) is ∙ times-replicate k (suc n) in
       let slot = slot_by m k s (times k (numbers_of ks)) (values_at m k s ks) (subst (λ z. MayComeTimes z s) (sym counted) within) (λ e l. children_single m opts fs k s ks found admits e l) (λ e u l. children_list m opts fs k s ks [] found admits e u l) in
       subst (IsOneOf m (components m.forms p 0 fs)) (sym (chosen_is fs (numbers_of ks) k n s (λ k s. values_at m k s ks) found is))
       (alternative_fits m p fs k (times k (numbers_of ks)) s (values_at m k s ks) found (omega (arith, counted)) slot)

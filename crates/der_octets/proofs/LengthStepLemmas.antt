@@ -5,6 +5,7 @@ use Rattle.der_octets.specs.LengthSteps.{IsLead, IsLedBy, HasBegun, HasTakenLeng
 use Rattle.std.proofs.lemmas.Bool.{cases_lt}
 use Rattle.std.specs.Int.Digits.{number_from_digits, AllBelowBase}
 use Rattle.std.proofs.lemmas.Int.Digits.{number_push, number_lt}
+use Rattle.std.proofs.lemmas.List.{nil_from_length}
 use Rattle.der_octets.proofs.LengthsRead.{short, read_is_written}
 use Rattle.der_octets.proofs.LengthFronts.{more_pow, below_append, announced_is, Begun, alone, counted, length_begun}
 
@@ -21,16 +22,12 @@ bad_first octet high bad n more small e = by (length_begun n octet more small e)
 octets_push : (ds : List ℕ) (d : ℕ) → AllBelowBase 256 ds → d < 256 → AllBelowBase 256 (ds ++ d ∷ [])
 octets_push ds d below low = below_append ds (d ∷ []) below (low, tt)
 
-nothing : (ds : List ℕ) → length ds ≡ 0 → ds ≡ []
-nothing [] e = refl
-nothing (d ∷ ds) e = absurd (omega arith)
-
 heads : (x y : ℕ) (xs ys : List ℕ) → x ∷ xs ≡ y ∷ ys → (x ≡ y) × (xs ≡ ys)
 heads x y xs ys e = (cc, cc)
 
 pub bad_lead : (count value octet : ℕ) (octets : List ℕ) → HasBegun count 0 value octets → (IsLead count octet → ⊥) → (n : ℕ) (more : List ℕ) → IsShortLength n → length_octets n ≡ (octets ++ octet ∷ []) ++ more → ⊥
 bad_lead count value octet octets begun bad n more small e =
-    let none = nothing begun.others begun.come_is in
+    let none = nil_from_length begun.others begun.come_is in
     let is : octets ≡ (128 + count) ∷ [] = begun.octets_are ∙ ap (λ z. (128 + count) ∷ z) none in
     let all : length_octets n ≡ (128 + count) ∷ octet ∷ more = e ∙ ap (λ z. (z ++ octet ∷ []) ++ more) is in
     by (length_begun n (128 + count) (octet ∷ more) small all)

@@ -1,7 +1,7 @@
 -- What stands at a child of an element, and behind it.
-use Rattle.std.proofs.Common.{◌≡◌, ◌≢◌, ℕ, zero, suc, ◌+◌, ◌-◌, ◌≤◌, ◌<◌, Bool, true, false, List, [], ◌∷◌, ◌++◌, length, replicate, take, drop, Option, Some, None, refl, sym, ap, ap₂, ◌∙◌, subst, arith, append_assoc, append-nil, ◌⊎◌, inl, inr}
+use Rattle.std.proofs.Common.{◌≡◌, ℕ, zero, suc, ◌+◌, ◌-◌, ◌≤◌, ◌<◌, Bool, true, false, List, [], ◌∷◌, ◌++◌, length, replicate, take, drop, Option, Some, None, refl, sym, ap, ap₂, ◌∙◌, subst, arith, append_assoc, append-nil, ◌⊎◌, inl, inr}
 use Rattle.std.specs.Prelude.{◌==◌, if◌then◌else◌, slice_get}
-use Rattle.std.proofs.lemmas.Bool.Decides.{nat_tests}
+use Rattle.std.proofs.lemmas.Bool.{cond-true, cond-false}
 use Rattle.data_types.specs.Value.{Value, Children, Edge}
 use Rattle.data_types.specs.Value as value
 use Rattle.facets.specs.declared.simple.Simple.{Simple}
@@ -14,9 +14,11 @@ use Rattle.der_model.specs.DerMessage.{DerMessage}
 use Rattle.der_model.specs.Structures.{is_single}
 use Rattle.der_model.specs.Der.{Body, placed_value, all_slots, alternative, chosen_slot, body, values_at}
 use Rattle.der_model.proofs.ChildLists.{values_none, slots_congr, compared}
+use Rattle.der_model.proofs.Fields.{own_number, other_number}
+use Rattle.der_model.proofs.BegunSlots.{drop_get}
 use Rattle.der_writer.specs.Measured.{contents_octets, slot_octets}
 use Rattle.der_writer.specs.inner.PieceOctets.{Before, Begun, Filled, Ended, next_slot, head, empty_slots, sequence_slots, list_head, element_head}
-use Rattle.der_writer.proofs.OctetLemmas.{IsBodyOf, placed_octets, slot_is, slots_skipped, slots_empty, drop_get, drop_twice}
+use Rattle.der_writer.proofs.OctetLemmas.{IsBodyOf, placed_octets, slot_is, slots_skipped, slots_empty, drop_twice}
 
 -- the octets of children behind a piece, and of the slots without children
 abbrev pub rest_octets : DerMessage ℕ → Form ℕ Simple → Before → Children → List ℕ
@@ -34,18 +36,6 @@ Comes (form.Choice slots) (Ended e) cs = (n : ℕ) × (numbers_of cs ≡ replica
 Comes (form.Choice slots) before cs = (k : ℕ) × (n : ℕ) × (numbers_of cs ≡ replicate n k)
 Comes form before cs = ⊥
 
-own_number : (n : ℕ) → (n == n) ≡ true
-own_number n = grind (arith, nat_tests)
-
-other_number : (i j : ℕ) → i ≢ j → (i == j) ≡ false
-other_number i j h = grind (arith, nat_tests)
-
-pub if_true : {A : Type 0} (b : Bool) (x y : A) → b ≡ true → (if b then x else y) ≡ x
-if_true b x y e = rw e refl
-
-pub if_false : {A : Type 0} (b : Bool) (x y : A) → b ≡ false → (if b then x else y) ≡ y
-if_false b x y e = rw e refl
-
 module _ (m : DerMessage ℕ) (v : Value) (rest : Children) (e : Edge) (s : Slot ℕ) (fits : IsBodyOf (m.forms s.target) (body m (m.forms s.target) v)) where
   abbrev children : Children
   children = value.Child e.slot v rest
@@ -59,12 +49,12 @@ module _ (m : DerMessage ℕ) (v : Value) (rest : Children) (e : Edge) (s : Slot
   -- the octets of the slot from the child on
   pub slot_from : octets (values_at m e.slot s children) ≡ own_octets (octets (values_at m e.slot s rest))
   slot_from =
-      ap octets (if_true (e.slot == e.slot) (placed_value m.forms e.slot s held (values_at m e.slot s rest)) (values_at m e.slot s rest) (own_number e.slot))
+      ap octets (cond-true (e.slot == e.slot) (placed_value m.forms e.slot s held (values_at m e.slot s rest)) (values_at m e.slot s rest) (own_number e.slot))
       ∙ placed_octets m.forms e.slot s held (values_at m e.slot s rest) fits
 
   -- slots behind are without the child
   slots_later : (i : ℕ) (fs : List (Slot ℕ)) → e.slot < i → all_slots i fs (λ k t. values_at m k t children) ≡ all_slots i fs (λ k t. values_at m k t rest)
-  slots_later i fs l = slots_congr i fs (λ k t. values_at m k t children) (λ k t. values_at m k t rest) (λ j t u. if_false (e.slot == j) _ _ (other_number e.slot j (λ q. absurd (omega (arith, q)))))
+  slots_later i fs l = slots_congr i fs (λ k t. values_at m k t children) (λ k t. values_at m k t rest) (λ j t u. cond-false (e.slot == j) _ _ (other_number e.slot j (λ q. absurd (omega (arith, q)))))
 
   abbrev list_from : List ℕ
   list_from = if is_single s then [] else head true (context e.slot) (length (octets (values_at m e.slot s children)))
@@ -97,10 +87,10 @@ module _ (m : DerMessage ℕ) (v : Value) (rest : Children) (e : Edge) (s : Slot
 
       go : (z : Bool) → (if z then [] else (if j == e.slot then [] else head true (context e.slot) group)) ≡ []
       go true = refl
-      go false = if_true (j == e.slot) [] (head true (context e.slot) group) test
+      go false = cond-true (j == e.slot) [] (head true (context e.slot) group) test
 
   new_list : (j : ℕ) (group : ℕ) → j < e.slot → (if is_single s then [] else head true (context e.slot) group) ≡ (if is_single s then [] else (if j == e.slot then [] else head true (context e.slot) group))
-  new_list j group l = ap (λ z. if is_single s then [] else z) (sym (if_false (j == e.slot) [] (head true (context e.slot) group) (other_number j e.slot (λ q. absurd (omega (arith, q))))))
+  new_list j group l = ap (λ z. if is_single s then [] else z) (sym (cond-false (j == e.slot) [] (head true (context e.slot) group) (other_number j e.slot (λ q. absurd (omega (arith, q))))))
 
   slot_none : (j : ℕ) (o : Option (Slot ℕ)) (top : ℕ) → j < e.slot → IsOrderedFrom e.slot top (numbers_of children) → slot_octets m j o children ≡ []
   slot_none j None top l o = refl

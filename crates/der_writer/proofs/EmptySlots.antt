@@ -8,7 +8,7 @@ use Rattle.reference_check.specs.Forms.{Slot, Form, form_slots}
 use Rattle.reference_check.specs.Forms as form
 use Rattle.message_model.specs.declared.model.Slot.{Slot as Told}
 use Rattle.der_writer.specs.inner.PieceOctets.{empty_slot, empty_slots, sequence_slots}
-use Rattle.der_writer.proofs.OctetLemmas.{drop_get}
+use Rattle.der_model.proofs.BegunSlots.{drop_get}
 
 -- those from slot k on and before another
 abbrev pub empty_from : ℕ → ℕ → List (Slot ℕ) → List ℕ
@@ -40,11 +40,6 @@ empty_between k to slots l = (let none : 0 ≡ to - k = omega arith in ap (λ c.
 -- the slot that is told
 abbrev pub told : Told → Slot ℕ
 told t = record { tag = t.tag.now; min = t.min; max = t.max; target = t.target }
-
-pub get_below : {A : Type 0} (xs : List A) (k : ℕ) (x : A) → slice_get xs k ≡ Some x → k < length xs
-get_below [] k x e = absurd cc
-get_below (y ∷ xs) zero x e = omega arith
-get_below (y ∷ xs) (suc k) x e = (let r = get_below xs k x e in omega arith)
 
 -- all slots behind are before one that is past them
 pub all_taken : {A : Type 0} (xs : List A) (from top : ℕ) → length xs ≤ top → take (top - from) (drop from xs) ≡ drop from xs

@@ -3,6 +3,7 @@ use Rattle.std.proofs.Common.{◌≡◌, ◌≢◌, ℕ, zero, suc, ◌+◌, ◌
 use Rattle.std.specs.Prelude.{slice_get, slice_index, slice_set, ◌==◌}
 use Rattle.std.proofs.lemmas.List.{get_or-set_same, get_or-set_other}
 use Rattle.std.proofs.lemmas.Bool.Decides.{nat_tests}
+use Rattle.std.proofs.lemmas.Bool.{cond-true, cond-false}
 use Rattle.data_types.specs.Leaf.{Leaf}
 use Rattle.data_types.specs.Value.{Edge, Piece, Begins, Holds, Ends}
 use Rattle.facets.specs.declared.simple.Simple.{Simple}
@@ -11,10 +12,9 @@ use Rattle.inst_pool.specs.Pieces.{Held, piece_bytes, bytes_of}
 use Rattle.der_writer.specs.Measured.{Beside, Free, Counts}
 use Rattle.der_writer.specs.inner.PieceOctets.{Begun, Filled, Ended, before_of}
 use Rattle.der_writer.specs.inner.Passes.{Frame, Stage, following, innermost_frame, piece_step, stage}
-use Rattle.der_writer.proofs.OctetLemmas.{drop_get}
-use Rattle.der_writer.proofs.ChildOctets.{if_true, if_false}
 use Rattle.der_writer.proofs.Whole.{is_there}
 use Rattle.der_writer.specs.inner.Measuring.{AreBeside, following_piece, following_at, AreAwaited, Knows, before_place, behind_piece, IsSizeOf, IsSizeAt}
+use Rattle.der_model.proofs.BegunSlots.{drop_get}
 
 pub ended_lower : (held : Held) (low more around : ℕ) (fs : List Frame) → more ≤ low → AreAwaited held low around fs → AreAwaited held more around fs
 ended_lower held low more around [] l h = h
@@ -190,7 +190,7 @@ holds_there (Ends x) h = absurd cc
 pub following_begun : (held : Held) (at k : ℕ) (e : Edge) → slice_get held.region.pieces at ≡ Some (Begins e) → e.slot ≡ k → slice_index held.groups at ≡ following_at held at k
 following_begun held at k e there same =
     let test : (e.slot == k) ≡ true = subst (λ z. (e.slot == z) ≡ true) same (own e.slot) in
-    sym (ap (λ z. following_piece z (slice_index held.groups at) k) there ∙ if_true (e.slot == k) (slice_index held.groups at) 0 test)
+    sym (ap (λ z. following_piece z (slice_index held.groups at) k) there ∙ cond-true (e.slot == k) (slice_index held.groups at) 0 test)
   where
     own : (n : ℕ) → (n == n) ≡ true
     own n = grind (arith, nat_tests)
@@ -199,7 +199,7 @@ following_begun held at k e there same =
 pub following_other : (held : Held) (at k : ℕ) (e : Edge) → slice_get held.region.pieces at ≡ Some (Begins e) → e.slot ≢ k → 0 ≡ following_at held at k
 following_other held at k e there other =
     let test : (e.slot == k) ≡ false = grind (arith, nat_tests) in
-    sym (ap (λ z. following_piece z (slice_index held.groups at) k) there ∙ if_false (e.slot == k) (slice_index held.groups at) 0 test)
+    sym (ap (λ z. following_piece z (slice_index held.groups at) k) there ∙ cond-false (e.slot == k) (slice_index held.groups at) 0 test)
 
 -- the size of the leaf that was read
 pub size_there : (ps : List Piece) (at size : ℕ) (p : Piece) → slice_get ps at ≡ Some p → IsSizeAt (slice_get ps at) size → IsSizeOf p size

@@ -1,6 +1,6 @@
 -- The octets of values: of a value and what follows, of a slot, of slots in which nothing stands.
 use Rattle.std.proofs.Common.{◌≡◌, ℕ, zero, suc, ◌+◌, ◌≤◌, ◌<◌, Bool, true, false, List, [], ◌∷◌, ◌++◌, length, take, drop, Some, refl, sym, ap, ◌∙◌, arith, append_assoc}
-use Rattle.std.specs.Prelude.{if◌then◌else◌, slice_get}
+use Rattle.std.specs.Prelude.{if◌then◌else◌}
 use Rattle.data_types.specs.Value as value
 use Rattle.data_types.specs.Value.{Value}
 use Rattle.facets.specs.declared.simple.Simple.{Simple}
@@ -100,11 +100,6 @@ slots_empty i [] at none = refl
 slots_empty i (s ∷ fs) at none =
     ap (λ z. octets (slot_values i s z (all_slots (suc i) fs at))) (none i s)
     ∙ (slot_is i s Nothing (all_slots (suc i) fs at) ∙ ap (λ z. empty_slot i s ++ z) (slots_empty (suc i) fs at none))
-
-pub drop_get : {A : Type 0} (xs : List A) (k : ℕ) (x : A) → slice_get xs k ≡ Some x → drop k xs ≡ x ∷ drop (suc k) xs
-drop_get [] k x e = absurd cc
-drop_get (y ∷ xs) zero x e = (let same : y ≡ x = cc in ap (λ z. z ∷ xs) same)
-drop_get (y ∷ xs) (suc k) x e = drop_get xs k x e
 
 pub drop_twice : {A : Type 0} (c i : ℕ) (xs : List A) → drop c (drop i xs) ≡ drop (i + c) xs
 drop_twice c zero xs = (let e : c ≡ 0 + c = omega arith in ap (λ z. drop z xs) e)

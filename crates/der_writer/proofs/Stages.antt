@@ -2,6 +2,7 @@
 use Rattle.std.proofs.Common.{◌≡◌, ◌≢◌, ℕ, zero, suc, ◌+◌, ◌-◌, true, false, List, [], ◌∷◌, ◌++◌, length, replicate, drop, Option, Some, None, refl, sym, ap, ap₂, ◌∙◌, subst, arith, append_assoc, length-append, eqb, ◌⊎◌, inl, inr}
 use Rattle.std.specs.Prelude.{slice_get, if◌then◌else◌, ◌==◌}
 use Rattle.std.proofs.lemmas.Bool.Decides.{eqb_tells}
+use Rattle.std.proofs.lemmas.Bool.{cond-true, cond-false}
 use Rattle.data_types.specs.Value.{Value, Children, Edge, Piece, Begins, Holds, Ends}
 use Rattle.data_types.specs.Value as value
 use Rattle.facets.specs.declared.simple.Simple.{Simple}
@@ -18,7 +19,7 @@ use Rattle.der_writer.specs.Measured.{Beside, Free, Counts, contents_octets, slo
 use Rattle.der_writer.specs.inner.PieceOctets.{Before, Begun, Filled, Ended, element_head, begin_octets, piece_octets, counted_octets, len_of, group_of}
 use Rattle.der_writer.specs.inner.Passes.{Frame, Stage, following, innermost_frame, piece_step, stage}
 use Rattle.der_writer.proofs.OctetLemmas.{body_fits}
-use Rattle.der_writer.proofs.ChildOctets.{Comes, comes_on, slot_from, if_true, if_false}
+use Rattle.der_writer.proofs.ChildOctets.{Comes, comes_on, slot_from}
 use Rattle.der_writer.proofs.ValueOctets.{value_octets}
 
 abbrev first : List Beside → Beside
@@ -68,11 +69,11 @@ module _ (T : Tables) where
       go : ((eqb j e.slot ≡ true) × (j ≡ e.slot)) ⊎ ((eqb j e.slot ≡ false) × (j ≢ e.slot))
           → (if j == e.slot then length (slot_octets m j (slice_get (form_slots (g n)) j) (value.Child j w more)) else 0) ≡ length (octets (values_at m e.slot s (value.Child j w more)))
       go (inl t) =
-          if_true (j == e.slot) _ 0 t.0
+          cond-true (j == e.slot) _ 0 t.0
           ∙ (ap (λ z. length (slot_octets m z (slice_get (form_slots (g n)) z) (value.Child j w more))) t.1
           ∙ (ap (λ z. length (slot_octets m e.slot (slice_get (form_slots z) e.slot) (value.Child j w more))) at
           ∙ ap (λ z. length (slot_octets m e.slot z (value.Child j w more))) found))
-      go (inr t) = if_false (j == e.slot) _ 0 t.0 ∙ sym (ap (λ z. length (octets z)) (none_before f e s j w more come t.1))
+      go (inr t) = cond-false (j == e.slot) _ 0 t.0 ∙ sym (ap (λ z. length (octets z)) (none_before f e s j w more come t.1))
 
   -- the pass at the beginning of an element, where it knows what stands in it and behind it
   begins : (b : Before) (e : Edge) (ps : List Piece) (r : Stage) (x : ℕ) (frame : Frame) (F : List Frame) (bs : List Beside) → r.sum ≡ x + frame.behind → r.frames ≡ frame ∷ F → r.beside ≡ bs

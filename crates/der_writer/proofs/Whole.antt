@@ -14,12 +14,13 @@ use Rattle.message_model.specs.Sound.{HasRoot}
 use Rattle.message_model.specs.Tables.{Tables, types_of, edge_at, pieces, child_pieces, pieces_of}
 use Rattle.der_model.specs.DerMessage.{DerMessage, der_message}
 use Rattle.der_model.specs.Der.{body, inner_of, der_of}
+use Rattle.der_model.proofs.BegunSlots.{drop_get}
 use Rattle.inst_pool.specs.Pieces.{Held}
 use Rattle.der_writer.specs.Measured.{Beside, Free, Counts, contents_octets, value_counts, child_counts, IsMeasured}
 use Rattle.der_writer.specs.inner.PieceOctets.{Before, Begun, before_of, head, document_edge, slots_behind, piece_octets, pieces_octets, counted_octets}
 use Rattle.der_writer.specs.inner.Passes.{stage}
 use Rattle.der_writer.specs.inner.Measuring.{AreBeside, NumbersAreKept, before_place, behind_piece, octets_at, octets_there}
-use Rattle.der_writer.proofs.OctetLemmas.{wrapped_is, drop_get, drop_twice}
+use Rattle.der_writer.proofs.OctetLemmas.{wrapped_is, drop_twice}
 use Rattle.der_writer.proofs.ValueOctets.{children_octets}
 use Rattle.der_writer.proofs.Stages.{sum_is, children_staged}
 

@@ -1,6 +1,7 @@
 -- The message admits what grows.
 use Rattle.std.proofs.Common.{◌≡◌, ℕ, zero, suc, ◌%◌, ◌<◌, ◌≤◌, ◌^◌, List, [], ◌∷◌, Some, None, refl, sym, subst, arith, slice_get, codes, Option}
 use Rattle.std.specs.List.{AllByRecursion}
+use Rattle.std.proofs.lemmas.Option.{same_Some}
 use Rattle.rand_pcg.specs.Lcg.{Lcg}
 use Rattle.rand_pcg.specs.Pcg.{pcg32}
 use Rattle.data_types.specs.Value.{Value}
@@ -36,14 +37,11 @@ no_name : (values : List Value) → times 0 (numbers_of (below values)) ≡ 0
 no_name [] = refl
 no_name (v ∷ values) = let rest = no_name values in omega (arith, rest)
 
-same_some : {A : Type 0} (x y : A) → Some x ≡ Some y → x ≡ y
-same_some x y e = cc
-
 node_within : (values : List Value) (k : ℕ) (s : Slot ℕ) → slice_get node_slots k ≡ Some s → MayComeTimes (times k (0 ∷ numbers_of (below values))) s
 node_within values zero s e =
     let rest = no_name values in
-    subst (λ (t : Slot ℕ). MayComeTimes (times 0 (0 ∷ numbers_of (below values))) t) (same_some name_slot s e) (omega (arith, rest), omega (arith, rest))
-node_within values (suc zero) s e = subst (λ (t : Slot ℕ). MayComeTimes (times 1 (0 ∷ numbers_of (below values))) t) (same_some child_slot s e) (omega arith, tt)
+    subst (λ (t : Slot ℕ). MayComeTimes (times 0 (0 ∷ numbers_of (below values))) t) (same_Some name_slot s e) (omega (arith, rest), omega (arith, rest))
+node_within values (suc zero) s e = subst (λ (t : Slot ℕ). MayComeTimes (times 1 (0 ∷ numbers_of (below values))) t) (same_Some child_slot s e) (omega arith, tt)
 node_within values (suc (suc k)) s e = absurd (let none : None ≡ Some s = e in cc)
 
 node_word : (values : List Value) → IsSequence node_slots (0 ∷ numbers_of (below values))
@@ -105,7 +103,7 @@ closed_admitted inner (outer ∷ outers) a all = closed_admitted (with_below out
 
 one_within : (slot : Slot ℕ) (k : ℕ) (s : Slot ℕ) → slot.min ≡ 1 → slot.max ≡ Some 1 → slice_get (slot ∷ []) k ≡ Some s → MayComeTimes (times k (0 ∷ [])) s
 one_within slot zero s min max e =
-    subst (λ (t : Slot ℕ). MayComeTimes 1 t) (same_some slot s e) (omega (arith, min), subst (λ (m : Option ℕ). UpTo 1 m) (sym max) (omega arith))
+    subst (λ (t : Slot ℕ). MayComeTimes 1 t) (same_Some slot s e) (omega (arith, min), subst (λ (m : Option ℕ). UpTo 1 m) (sym max) (omega arith))
 one_within slot (suc k) s min max e = absurd (let none : None ≡ Some s = e in cc)
 
 one_word : (slot : Slot ℕ) → slot.min ≡ 1 → slot.max ≡ Some 1 → IsSequence (slot ∷ []) (0 ∷ [])

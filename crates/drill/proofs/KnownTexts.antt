@@ -1,14 +1,9 @@
 -- Bytes that come, and a text that they are compared with.
-use Rattle.std.proofs.Common.{◌≡◌, ℕ, ◌+◌, Bool, true, List, [], ◌∷◌, ◌++◌, length, take, drop, Some, Result, Ok, Err, sym, ap, ◌∙◌, append-nil, append_assoc, refl, arith}
+use Rattle.std.proofs.Common.{◌≡◌, ℕ, ◌+◌, Bool, true, List, [], ◌++◌, length, take, drop, Some, Result, Ok, Err, sym, ap, ◌∙◌, append-nil, append_assoc}
 use Rattle.std.specs.Bool.{Decides}
 use Rattle.std.proofs.Math.Seq.{take-add, take-append_seam, drop-append_seam}
 use Rattle.outside.specs.Sink.{PushAppends}
 use Rattle.outside.specs.declared.errors.SinkError.{SinkError}
-
--- a list of no items
-pub none_in : (xs : List ℕ) → length xs ≡ 0 → xs ≡ []
-none_in [] e = refl
-none_in (x ∷ xs) e = absurd (omega (arith, e))
 
 -- where no others came, the next bytes of the text join those that came before
 pub next_taken : (text behind bytes others : List ℕ) (count : ℕ) → others ≡ [] → behind ≡ drop count text → behind ≡ bytes ++ drop (length bytes) behind

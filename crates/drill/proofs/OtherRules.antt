@@ -11,13 +11,11 @@ use Rattle.reference_check.specs.Reach.{elements_of}
 use Rattle.message_model.specs.Ready.{HasBadPattern}
 use Rattle.reference_check.specs.Rules.{Breaks, OfObject, HasNoPatterns, HasBadCodes, HasTooMuch, AreReached, schema_names}
 use Rattle.reference_check.specs.Rules as rules
+use Rattle.reference_check.proofs.Marking.{none_in}
 use Rattle.drill.specs.BuiltIn.{contents, message_id, text_id, node_id, text_object, node_object, no_facets}
 use Rattle.drill.proofs.ReachedPlaces.{IsPlace, at_message, at_text, at_node, among, of_object}
 
 -- ---- what no object of these is
-
-none_in : {X : Type 0} (x : X) → Contains [] x → ⊥
-none_in x (k, lt, is) = omega (arith, lt)
 
 -- a set without codes
 text_codes : HasBadCodes contents text_object → ⊥

@@ -1,53 +1,24 @@
 -- A document without attributes, as tokens: none of its tags is long where those of its nodes are short.
-use Rattle.std.proofs.Common.{◌≡◌, ◌≢◌, inl, ℕ, ◌+◌, ◌≤◌, List, [], ◌∷◌, ◌++◌, Some, None, codes, length, flat_map, refl, sym, ap, ap₂, subst, ◌∙◌, arith, rules, length-append, append-nil}
+use Rattle.std.proofs.Common.{◌≡◌, ◌≢◌, inl, ℕ, ◌+◌, ◌≤◌, List, [], ◌∷◌, ◌++◌, Some, None, codes, length, flat_map, refl, sym, ap, ap₂, subst, ◌∙◌, arith, length-append, append-nil}
 use Rattle.lexical_core.specs.Characters.{IsXmlText}
 use Rattle.lexical_core.specs.Tree.{Expanded, Nodes, Nothing, Element, Tree, flat}
-use Rattle.fragments.specs.Plain.{IsPart, ArePlain, IsPlain}
+use Rattle.fragments.specs.Plain.{ArePlain, IsPlain}
 use Rattle.lexical_core.specs.Names.{xml_namespace, xmlns_namespace}
 use Rattle.fragments.specs.Fragment.{value_byte, start_text, end_text, nodes_text, fragment}
-use Rattle.markup.specs.Attribute.{Attribute, ValuePiece, Literal}
-use Rattle.markup.specs.Chars.{is_xml_char, is_space, is_name_start, is_name_char}
-use Rattle.markup.specs.Name.{Plain}
-use Rattle.markup.specs.Token.{Token, Declaration, LineEnd, Lf, token_bytes}
+use Rattle.markup.specs.Token.{Token, LineEnd, Lf, token_bytes}
 use Rattle.message_model.specs.Writes.{name_in_namespace}
 use Rattle.respell.specs.ShortTags.{HaveShortTags}
 use Rattle.respell.proofs.Runs.{AllStand, AllShort, stand-append, short-append, tokens-append}
 use Rattle.respell.proofs.Trees.{Stays, fragment_within}
 use Rattle.xml_writer.specs.CanonXml.{start_tag, end_tag, xml_declaration, namespace_text}
 use Rattle.xml_writer.proofs.TagTexts.{end_is, within_is, root_start_is}
+use Rattle.xml_writer.proofs.SpelledDocuments.{declaration, first_tokens, first_bytes, first_stand, document_part}
 
 -- ---- the declaration, and the line end behind the root
-
-abbrev field : List ℕ → List ValuePiece → Attribute
-field name value = record { gap = 32 ∷ []; name = Plain name; before = []; after = []; quote = 34; value = value }
-
-abbrev declaration : Token
-declaration = Declaration (field (codes "version") (Literal 49 ∷ Literal 46 ∷ Literal 48 ∷ []) ∷ field (codes "encoding") (Literal 85 ∷ Literal 84 ∷ Literal 70 ∷ Literal 45 ∷ Literal 56 ∷ []) ∷ []) []
-
-abbrev first_tokens : List Token
-first_tokens = declaration ∷ LineEnd Lf ∷ []
-
-first_bytes : flat_map token_bytes first_tokens ≡ xml_declaration
-unfolding lib.Utf8.encode
-first_bytes = refl
-
-first_stand : AllStand [] first_tokens
-unfolding is_xml_char is_space is_name_start is_name_char
-first_stand = (λ rest. refl, (λ rest. refl, tt))
 
 line_bytes : flat_map token_bytes (LineEnd Lf ∷ []) ≡ codes "\n"
 unfolding lib.Utf8.encode
 line_bytes = refl
-
-document_part : IsPart (codes "Document")
-unfolding lib.Utf8.encode
-document_part = record {
-  first = 68;
-  others = codes "ocument";
-  start = inl (omega arith, omega arith);
-  more = search rules;
-  spelled = refl;
-}
 
 pub root_tag_size : (ns : List ℕ) → length (start_tag (codes "Document") (namespace_text ns ++ [])) ≡ 19 + length ns
 unfolding lib.Utf8.encode

@@ -36,7 +36,7 @@ one_code_text codes place a b h g =
     one_canonical kind.Text (Bytes (encode_utf8_all a)) a b (h.0, refl) (g.0, same)
 
 -- a leaf has one canonical text under a simple type
-one_canonical_by : (k : Kind) (codes : Option (List (List ℕ))) (leaf : Leaf) (a b : List ℕ) → IsCanonicalBy k codes leaf a → IsCanonicalBy k codes leaf b → a ≡ b
+pub one_canonical_by : (k : Kind) (codes : Option (List (List ℕ))) (leaf : Leaf) (a b : List ℕ) → IsCanonicalBy k codes leaf a → IsCanonicalBy k codes leaf b → a ≡ b
 one_canonical_by kind.Text (Some codes) (Code place) a b h g = one_code_text codes place a b h g
 one_canonical_by k codes leaf a b h g = one_canonical k leaf a b h g
 

@@ -16,7 +16,7 @@ use Rattle.facets.specs.Rules.{IsAsked, BreaksLeafRule}
 use Rattle.facets.specs.LeafUnder.{IsLeafBy, GivesLeaf, IsCanonicalBy, Fits}
 use Rattle.facets.proofs.RuleLemmas.{has_form}
 
-is_text : (k : Kind) → (k ≡ kind.Text) ⊎ (k ≢ kind.Text)
+pub is_text : (k : Kind) → (k ≡ kind.Text) ⊎ (k ≢ kind.Text)
 is_text kind.Text = inl refl
 is_text k = inr (λ e. absurd cc)
 

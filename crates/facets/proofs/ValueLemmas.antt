@@ -1,19 +1,18 @@
 -- Whether a value that is no text fits a simple type: its canonical text, and the one rule that this breaks.
-use Rattle.std.proofs.Common.{◌≡◌, ◌==◌, inl, false, ℕ, List, [], ◌∷◌, length, refl, ap, sym, subst, arith}
-use Rattle.std.proofs.lemmas.Bool.Decides.{nat_tests}
+use Rattle.std.proofs.Common.{◌≡◌, inl, ℕ, List, [], length, refl, sym, subst}
 use Rattle.lexical_core.specs.Decimals.{Number as DecimalNumber, IsDecimal, decimal_spelling}
 use Rattle.lexical_core.specs.CanonicalDecimals.{canonical_parts}
 use Rattle.lexical_core.specs.declared.rule.Rule.TheVariants.{BadLength, Digits, OutOfRange}
 use Rattle.lexical_core.proofs.Written.{canonical_is}
 use Rattle.base64.specs.GeneralPurpose.{IsBytes}
 use Rattle.data_types.specs.Leaf.{Bytes, Number, IsLeaf}
-use Rattle.data_types.specs.Binaries.{without_spaces, binary_text}
+use Rattle.data_types.specs.Binaries.{binary_text}
 use Rattle.data_types.specs.Canonical.{IsCanonicalLeaf}
 use Rattle.data_types.specs.declared.kind.Kind.{Kind}
 use Rattle.data_types.specs.declared.kind.Kind.TheVariants as kind
 use Rattle.data_types.proofs.CollapseLaw.{own_collapsed}
-use Rattle.data_types.proofs.VisibleTexts.{AreVisible, no_space}
-use Rattle.data_types.proofs.CanonicalLemmas.{number_visible, octets_visible}
+use Rattle.data_types.proofs.VisibleTexts.{no_space}
+use Rattle.data_types.proofs.CanonicalLemmas.{number_visible, octets_visible, no_spaces}
 use Rattle.facets.specs.declared.simple.Simple.{Simple}
 use Rattle.facets.specs.Facets.{HasLength, HasDigits, IsInRange}
 use Rattle.facets.specs.LeafUnder.{IsCanonicalBy, IsCanonicalUnder, Fits, BreaksAs}
@@ -61,13 +60,6 @@ range_breaks simple n is e digits out = inl (
 )
 
 -- ---- octets
-
-no_spaces : (text : List ℕ) → AreVisible text → without_spaces text ≡ text
-no_spaces [] v = refl
-no_spaces (c ∷ text) v =
-    let low = v.0.low in
-    let no : (c == 32) ≡ false = grind (arith, nat_tests, low) in
-    rw no (ap (λ t. c ∷ t) (no_spaces text v.1))
 
 octets_spelled : (octets : List ℕ) → IsBytes octets → IsLeaf kind.Binary (binary_text octets) (Bytes octets)
 octets_spelled octets bytes =

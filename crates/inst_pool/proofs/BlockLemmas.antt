@@ -76,12 +76,6 @@ drop-get [] at p e = absurd (let e' : None ≡ Some p = e in cc)
 drop-get (q ∷ ps) zero p e = (let e' : Some q ≡ Some p = e in cc)
 drop-get (q ∷ ps) (suc at) p e = drop-get ps at p e
 
-pub drop-past : (ps : List Piece) (at : ℕ) → length ps ≤ at → drop at ps ≡ []
-drop-past [] zero h = refl
-drop-past [] (suc at) h = refl
-drop-past (q ∷ ps) zero h = absurd (omega (arith, h))
-drop-past (q ∷ ps) (suc at) h = drop-past ps at (omega (arith, h))
-
 -- what a walk answers
 pub walk_some : (ps : List Piece) (at : ℕ) (r : Option PieceRef) → option_map piece_of r ≡ slice_get ps at → IfSome r (λ p. drop at ps ≡ piece_of p ∷ drop (at + 1) ps)
 walk_some ps at None e = tt

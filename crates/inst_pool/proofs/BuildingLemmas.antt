@@ -1,6 +1,7 @@
 -- The blocks of an instance that is being made, with one more content.
 use Rattle.std.proofs.Common.{◌≡◌, ℕ, ◌+◌, ◌≤◌, List, [], ◌∷◌, ◌++◌, length, drop, Some, refl, sym, ap, ◌∙◌, arith, length-append}
 use Rattle.std.specs.Prelude.{vec_capacity}
+use Rattle.std.proofs.lemmas.List.{nil_from_length}
 use Rattle.data_types.specs.Leaf.{Leaf, Bytes as BytesLeaf}
 use Rattle.data_types.specs.Value.{Edge, Piece, Begins, Holds, Ends}
 use Rattle.inst_pool.specs.Blocks.{HasRoomInBlocks, SameItems, opened_in, block_pieces, AreBuilding}
@@ -41,14 +42,10 @@ opened_most b h =
     let m = open_most [] (block_pieces b) in
     let l = length_pieces b.bytes.items b.contents.items in omega (arith, n, e, m, l)
 
-empty : (es : List Told) → length es ≡ 0 → es ≡ []
-empty [] h = refl
-empty (e ∷ es) h = absurd (omega (arith, h))
-
 pub opened_none : (b : Blocks) → AreBuilding b → open_in (block_pieces b) ≡ [] → b.opened.items ≡ []
 opened_none b h e =
     let n = opened_count [] b.opened.items in
-    let l : length (opened_in [] b.opened.items) ≡ 0 = ap length (h.opened ∙ e) in empty b.opened.items (omega (arith, n, l))
+    let l : length (opened_in [] b.opened.items) ≡ 0 = ap length (h.opened ∙ e) in nil_from_length b.opened.items (omega (arith, n, l))
 
 -- ---- one more content
 
@@ -117,7 +114,7 @@ close_pieces m n edge h a bytes opened inner outer is =
     added_pieces m n (Close edge) a bytes ∙ ap (λ (x : Edge). block_pieces m ++ Ends x ∷ []) same
 
 -- a leaf
-open-hold : (ps : List Piece) (leaf : Leaf) → open_in (ps ++ Holds leaf ∷ []) ≡ open_in ps
+pub open-hold : (ps : List Piece) (leaf : Leaf) → open_in (ps ++ Holds leaf ∷ []) ≡ open_in ps
 open-hold ps leaf = open-append [] ps (Holds leaf ∷ [])
 
 pub held_pieces : (m n : Blocks) (x : Content) (leaf : Leaf) → plain_leaf x ≡ Some leaf → Added m n x → n.bytes ≡ m.bytes → block_pieces n ≡ block_pieces m ++ Holds leaf ∷ []

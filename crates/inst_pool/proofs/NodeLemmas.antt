@@ -40,10 +40,6 @@ within_more n m (Code s) le h = tt
 within_more n m (Close s) le h = tt
 within_more n m (Long s) le h = omega (arith, le, h)
 
-within_grow : (n m : ℕ) (nodes : List Node) → n ≤ m → AreNodesWithin n nodes → AreNodesWithin m nodes
-within_grow n m [] le h = tt
-within_grow n m (x ∷ nodes) le h = (within_more n m x le h.0, within_grow n m nodes le h.1)
-
 -- one more node, over a block that may be longer
 pub within-push : (n m : ℕ) (nodes : List Node) (x : Node) → n ≤ m → AreNodesWithin n nodes → IsNodeWithin m x → AreNodesWithin m (nodes ++ x ∷ [])
 within-push n m [] x le h i = (i, tt)

@@ -61,7 +61,7 @@ pub ReadSoFar-more : (P : ℕ → Type 0) (read chars begun : List ℕ) (byte : 
 ReadSoFar-more P read chars begun byte r f =
     record { begins = inr f; are = r.are; spelled = ap (λ t. t ++ byte ∷ []) r.spelled ∙ append_assoc (encode_utf8_all chars) begun (byte ∷ []) }
 
-encodes-push : (cs : List ℕ) (c : ℕ) → encode_utf8_all (cs ++ c ∷ []) ≡ encode_utf8_all cs ++ encode_utf8 c
+pub encodes-push : (cs : List ℕ) (c : ℕ) → encode_utf8_all (cs ++ c ∷ []) ≡ encode_utf8_all cs ++ encode_utf8 c
 encodes-push cs c = encodes-append cs (c ∷ []) ∙ ap (λ t. encode_utf8_all cs ++ t) (append-nil (encode_utf8 c))
 
 -- a byte that ends a character

@@ -15,6 +15,7 @@ use Rattle.std.proofs.lemmas.List.{reverse-append, reverse-reverse, length-rever
 use Rattle.std.proofs.lemmas.Slice.Eq.{bytes_eq-Decides}
 use Rattle.std.proofs.Math.Nat.{suc-add}
 use Rattle.std.proofs.Math.Seq.{get_or-append_seam, drop-nil}
+use Rattle.std.proofs.lemmas.Option.{same_Some}
 use Rattle.lexical_core.proofs.ByteKeys.{key_cmp, found_updated}
 use Rattle.markup.specs.declared.tag.Given.{Given}
 use Rattle.markup.specs.declared.open_bindings.Binding.{Binding}
@@ -58,15 +59,12 @@ module _ (d : Given) (before : List Given) (p : List ℕ) where
   bound_behind : declares p d ≡ false → bound_by (d ∷ before) p ≡ bound_by before p
   bound_behind e = ap (λ b. if b then Some d.value else bound_by before p) e
 
-some_same : {X : Type 0} (x y : X) → Some x ≡ Some y → x ≡ y
-some_same x y e = cc
-
 pub place_within : (declared : List Given) (p : List ℕ) (i : ℕ) → place_declared declared p ≡ Some i → i < length declared
 place_within [] p i e = absurd cc
 place_within (d ∷ before) p i e = case (declares p d) refl (place_within before p i)
   where
     case : (b : Bool) → declares p d ≡ b → (place_declared before p ≡ Some i → i < length before) → i < length (d ∷ before)
-    case true is so = let same : length before ≡ i = some_same (length before) i (sym (placed_here d before p is) ∙ e) in omega arith
+    case true is so = let same : length before ≡ i = same_Some (length before) i (sym (placed_here d before p is) ∙ e) in omega arith
     case false is so = let below : i < length before = so (sym (placed_behind d before p is) ∙ e) in omega arith
 
 -- ---- what is kept at a place
@@ -96,7 +94,7 @@ turned_at (d ∷ before) p i e is = case (declares p d) refl (turned_at before p
 
     case : (b : Bool) → declares p d ≡ b → (place_declared before p ≡ Some i → Some (get_or kept i e).namespace ≡ bound_by before p) → Some (get_or (reverse (bindings (d ∷ before))) i e).namespace ≡ bound_by (d ∷ before) p
     case true here so =
-        let spot : i ≡ length kept = sym (some_same (length before) i (sym (placed_here d before p here) ∙ is)) ∙ sym long in
+        let spot : i ≡ length kept = sym (same_Some (length before) i (sym (placed_here d before p here) ∙ is)) ∙ sym long in
         whole ∙ ap (λ (n : ℕ). Some (get_or (kept ++ binding d before ∷ []) n e).namespace) spot
         ∙ ap (λ (b : Binding). Some b.namespace) (get_or-append_seam kept (binding d before) [] e) ∙ sym (bound_here d before p here)
     case false here so =
@@ -134,7 +132,7 @@ is_behind (d ∷ own) before p i e = case (declares p d) refl (is_behind own bef
   where
     case : (b : Bool) → declares p d ≡ b → (place_declared (own ++ before) p ≡ Some i → leb (length before) i ≡ list_any (declares p) own) → leb (length before) i ≡ list_any (declares p) (d ∷ own)
     case true is so =
-        let same : length (own ++ before) ≡ i = some_same (length (own ++ before)) i (sym (placed_here d (own ++ before) p is) ∙ e) in
+        let same : length (own ++ before) ≡ i = same_Some (length (own ++ before)) i (sym (placed_here d (own ++ before) p is) ∙ e) in
         le-leb (length before) i (omega (arith, same, length-append own before)) ∙ sym (ap (λ b. b || list_any (declares p) own) is)
     case false is so = so (sym (placed_behind d (own ++ before) p is) ∙ e) ∙ sym (ap (λ b. b || list_any (declares p) own) is)
 

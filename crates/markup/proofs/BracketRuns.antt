@@ -27,10 +27,9 @@ use Rattle.markup.specs.declared.context.Context.{Context}
 use Rattle.markup.specs.declared.reader.Reader.{Reader}
 use Rattle.markup.specs.declared.tokenizer.Tokenizer.{Tokenizer}
 use Rattle.markup.proofs.CharLemmas.{classes}
-use Rattle.markup.proofs.PlainLemmas.{is_fresh}
+use Rattle.markup.proofs.PlainLemmas.{is_fresh, text_place, text_between}
 use Rattle.markup.proofs.ReaderLemmas.{told_so_far}
 use Rattle.markup.proofs.TokenRuleLemmas.{in_cdata-open}
-use Rattle.markup.proofs.WholeReferences.{text_place, text_between}
 use Rattle.markup.proofs.WholeTokens.{IsNext, takes_next}
 
 -- ---- a run of them, found from the front

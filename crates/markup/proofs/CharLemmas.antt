@@ -90,7 +90,7 @@ question_no_name = refl
 pub some_bytes : (c : ℕ) → 1 ≤ length (encode_utf8 c)
 some_bytes c = omega (arith, length-encode c, len_utf8_bounds c)
 
-range_in : (lo hi c : ℕ) → is_in_range lo hi c ≡ true → (lo ≤ c) × (c ≤ hi)
+pub range_in : (lo hi c : ℕ) → is_in_range lo hi c ≡ true → (lo ≤ c) × (c ≤ hi)
 range_in lo hi c h = (leb-true lo c (and_parts _ _ h).0, leb-true c hi (and_parts _ _ h).1)
 
 in_range : (lo hi c : ℕ) → (lo ≤ c) × (c ≤ hi) → is_in_range lo hi c ≡ true

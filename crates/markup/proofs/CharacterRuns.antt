@@ -59,7 +59,7 @@ text_test a l r m n o p e f g h i j = cc
 not_zero : (n : ℕ) → (suc n == 0) ≡ false
 not_zero n = grind (arith, nat_tests)
 
-some_before : (before : List Token) → is_outside before ≡ false → (length before == 0) ≡ false
+pub some_before : (before : List Token) → is_outside before ≡ false → (length before == 0) ≡ false
 some_before [] h = h
 some_before (t ∷ before) h = not_zero (length before)
 

@@ -3,6 +3,7 @@ use Rattle.std.proofs.Common.{◌≡◌, ◌<◌, ℕ, true, false, ◌⊎◌, i
 use Rattle.std.specs.List.{flat_map}
 use Rattle.std.specs.Str.{encode_utf8_all}
 use Rattle.std.proofs.lemmas.Bool.{both_ways, cases_Bool}
+use Rattle.std.proofs.lemmas.List.{nil_from_length}
 use Rattle.lexical_core.specs.declared.rule.Rule.{Rule}
 use Rattle.lexical_core.specs.declared.rule.Rule.TheVariants.{Truncated}
 use Rattle.markup.specs.Token.{Token, LineEnd, Cr, token_bytes}
@@ -61,13 +62,9 @@ one_longest bytes ts us l k = by ts us (l.longest us k.rest k.front) (k.longest 
   by : (ts us : List Token) → (m : List Token) × (ts ≡ us ++ m) → (n : List Token) × (us ≡ ts ++ n) → ts ≡ us
   by ts us p q = none ts us p.0 p.1 (longer ts us p.0 q.0 p.1 q.1)
 
-no_bytes : (v : List ℕ) → length v ≡ 0 → v ≡ []
-no_bytes [] h = refl
-no_bytes (c ∷ v) h = absurd (omega (arith, h))
-
 -- a fault at the end of the bytes leaves no token
 pub none_at_end : {limit : ℕ} (before : List Token) (bytes : List ℕ) (rule : Rule) → 0 < limit → Next limit before bytes rule (length bytes) → NoToken before bytes
-none_at_end before bytes rule some (broken t after cell s k p) = subst (NoToken before) (sym (no_bytes bytes p)) (nothing_stands before)
+none_at_end before bytes rule some (broken t after cell s k p) = subst (NoToken before) (sym (nil_from_length bytes p)) (nothing_stands before)
 none_at_end before bytes rule some (halts chars tail shown e n g h k p) = n
 none_at_end before bytes rule some (cut chars part e n g f k o r p) = n
 none_at_end {limit} before bytes rule some (too_long chars part rest e g n b f l r p) = absurd (long (encode_utf8_all chars ++ part) rest limit some l (e ∙ refl) p) where

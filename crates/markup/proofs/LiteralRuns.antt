@@ -5,7 +5,7 @@ use Rattle.std.specs.Str.{encode_utf8_all}
 use Rattle.std.specs.List.{AllByRecursion, list_all, prefix_len}
 use Rattle.lexical_core.specs.Characters.{IsXmlChar}
 use Rattle.std.proofs.lemmas.Bool.Decides.{nat_tests}
-use Rattle.std.proofs.lemmas.Str.{encode_ascii, encode_same, length-encode, len_utf8_bounds}
+use Rattle.std.proofs.lemmas.Str.{encode_ascii, encode_same, length-encode, len_utf8_bounds, encodes-append}
 use Rattle.std.proofs.lemmas.Bool.{cases_lt, le-leb}
 use Rattle.std.proofs.lemmas.List.{length-take-le, take-append-drop}
 use Rattle.std.proofs.Math.Seq.{take-append_seam, drop-append_seam}
@@ -104,10 +104,6 @@ no_run = (record { characters = []; bytes_are = refl; count_is = refl; literal =
 pub walked_none : (piece : List ℕ) → IsWalked piece 0 0 piece
 walked_none piece = record { seen = []; joined = refl; bytes_are = refl; run = no_run; few = omega arith }
 
-encodes_append : (cs ds : List ℕ) → encode_utf8_all (cs ++ ds) ≡ encode_utf8_all cs ++ encode_utf8_all ds
-encodes_append [] ds = refl
-encodes_append (c ∷ cs) ds = ap (λ v. encode_utf8 c ++ v) (encodes_append cs ds) ∙ sym (append_assoc (encode_utf8 c) (encode_utf8_all cs) (encode_utf8_all ds))
-
 all_append : (cs ds : List ℕ) → AllByRecursion IsLiteral cs → AllByRecursion IsLiteral ds → AllByRecursion IsLiteral (cs ++ ds)
 all_append [] ds h k = k
 all_append (c ∷ cs) ds h k = (h.0, all_append cs ds h.1 k)
@@ -176,11 +172,11 @@ walked_on piece bytes characters m n rest after cs w l e b k f = record {
   run = (
     record {
       characters = w.run.0.characters ++ cs;
-      bytes_are = ap (λ v. v ++ encode_utf8_all cs) w.run.0.bytes_are ∙ sym (encodes_append w.run.0.characters cs);
+      bytes_are = ap (λ v. v ++ encode_utf8_all cs) w.run.0.bytes_are ∙ sym (encodes-append w.run.0.characters cs);
       count_is = length-append w.run.0.characters cs ∙ (ap (λ v. v + length cs) w.run.0.count_is ∙ ap (λ v. characters + v) k);
       literal = of_text (w.run.0.characters ++ cs) (all_append w.run.0.characters cs w.run.1 l);
       allowed = literals_allowed (w.run.0.characters ++ cs) (all_append w.run.0.characters cs w.run.1 l);
-      blank_is = ap (list_all is_space) (ap (λ v. v ++ encode_utf8_all cs) w.run.0.bytes_are ∙ sym (encodes_append w.run.0.characters cs)) ∙ blanks_encoded (w.run.0.characters ++ cs);
+      blank_is = ap (list_all is_space) (ap (λ v. v ++ encode_utf8_all cs) w.run.0.bytes_are ∙ sym (encodes-append w.run.0.characters cs)) ∙ blanks_encoded (w.run.0.characters ++ cs);
     },
     all_append w.run.0.characters cs w.run.1 l,
   );

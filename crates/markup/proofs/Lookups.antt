@@ -27,7 +27,7 @@ bound_by_declarations (a ∷ more) prefix = case (declared_prefix a.name) refl (
     case None e so = simp e so
     case (Some p) e so = simp (e, so)
 
-bound_by-append : (xs ys : List Given) (prefix : List ℕ) → bound_by (xs ++ ys) prefix ≡ option_or (bound_by xs prefix) (bound_by ys prefix)
+pub bound_by-append : (xs ys : List Given) (prefix : List ℕ) → bound_by (xs ++ ys) prefix ≡ option_or (bound_by xs prefix) (bound_by ys prefix)
 bound_by-append [] ys prefix = refl
 bound_by-append (a ∷ xs) ys prefix = case (same_prefix (declared_prefix a.name) prefix) refl (bound_by-append xs ys prefix)
   where

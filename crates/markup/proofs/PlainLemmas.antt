@@ -82,6 +82,17 @@ no_chars (c ∷ cs) part h = absurd (omega (arith, h, length-append (encode_utf8
 pub at_same : (s t : Scan) (d e : Draft) → At s d ≡ At t e → (s ≡ t) × (d ≡ e)
 at_same s t d e h = (cc, cc)
 
+-- in character data a token begins in no CDATA section, and between two tokens
+pub text_place : (s : Scan) (p : Position) → is_text s ≡ true → Begin p ≡ s → is_cdata p ≡ false
+text_place s Cdata h e = absurd (both_ways false refl (ap is_text e ∙ h))
+text_place s Start h e = refl
+text_place s AfterMark h e = refl
+text_place s Text h e = refl
+
+pub text_between : (s : Scan) → is_text s ≡ true → is_between s ≡ true
+text_between (Begin Text) h = refl
+text_between _ h = absurd (both_ways false refl h)
+
 stays : (p : Position) → is_between (Begin p) ≡ true → after_other p ≡ p
 stays Start h = absurd (both_ways false refl h)
 stays AfterMark h = absurd (both_ways false refl h)

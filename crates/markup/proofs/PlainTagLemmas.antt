@@ -23,7 +23,6 @@ use Rattle.markup.specs.Scopes.{IsScope, placed_at}
 use Rattle.markup.specs.Contexts.{IsContext}
 use Rattle.markup.specs.Drafts.{no_draft}
 use Rattle.markup.specs.ScanRuns.{run, position, placed_by, ended_of}
-use Rattle.markup.specs.TokenRules.{is_cdata}
 use Rattle.markup.specs.Tokenizers.{after_other, behind_token, is_between, is_in_text, is_text, after_whole_tokens}
 use Rattle.markup.specs.Reading.{Keeps, HasTakenUnder, HasToldUnder, MayTakeTagUnder, MayTakeStartUnder}
 use Rattle.markup.specs.Inputs.{Any}
@@ -34,14 +33,12 @@ use Rattle.markup.specs.declared.plain_tag.TagKind.{TagKind}
 use Rattle.markup.specs.declared.plain_tag.TagKind.TheVariants.{Start as StartKind, Empty as EmptyKind, End as EndKind}
 use Rattle.markup.specs.declared.reader.Reader.{Reader}
 use Rattle.markup.specs.declared.scan.Position.{Position}
-use Rattle.markup.specs.declared.scan.Position.TheVariants.{Start as AtStart, AfterMark, Text, Cdata}
-use Rattle.markup.specs.declared.scan.Scan.{Scan}
 use Rattle.markup.specs.declared.scan.Scan.TheVariants.{Begin}
 use Rattle.markup.specs.declared.scope.Scope.{Scope}
 use Rattle.markup.specs.declared.tag.Opening.{Opening}
 use Rattle.markup.specs.declared.tag.Spelled.{Spelled}
 use Rattle.markup.proofs.OpenTags.{IsPlainPart, innermost_part, AreExpanded, open_expanded, innermost_default, innermost_ends, inside_started}
-use Rattle.markup.proofs.PlainLemmas.{is_fresh, no_chars, at_same}
+use Rattle.markup.proofs.PlainLemmas.{is_fresh, no_chars, at_same, text_place, text_between}
 use Rattle.markup.proofs.ReaderLemmas.{told_so_far, starts}
 use Rattle.markup.proofs.TokenRuleLemmas.{in_cdata-open}
 use Rattle.markup.proofs.WholeTokens.{IsNext, all_told, takes_next}
@@ -184,16 +181,6 @@ module _ (before : List Token) (opened : List ℕ) (es : List Expanded) (inside 
     context_behind EndKind k scope i s = record { scope = s; root = i.root; brackets_are = refl }
 
 -- ---- the reader
-
-pub text_place : (s : Scan) (p : Position) → is_text s ≡ true → Begin p ≡ s → is_cdata p ≡ false
-text_place s Cdata h e = absurd (both_ways false refl (ap is_text e ∙ h))
-text_place s AtStart h e = refl
-text_place s AfterMark h e = refl
-text_place s Text h e = refl
-
-pub text_between : (s : Scan) → is_text s ≡ true → is_between s ≡ true
-text_between (Begin Text) h = refl
-text_between _ h = absurd (both_ways false refl h)
 
 module _ {limit : ℕ} (r : Reader) (scope : Scope) (bytes piece : List ℕ) (told : List Placed) (kind : TagKind) (name : List ℕ) (count : ℕ) (h : HasTakenUnder limit r bytes told) (text : is_in_text r.tokenizer ≡ true)
     (tag : (tags : List Opening) → IsScope r.context.scope tags → IsTagInside piece tags kind name count)

@@ -3,6 +3,7 @@ use Rattle.std.proofs.Common.{◌≡◌, ℕ, Bool, true, false, not, ◌==◌, 
 use Rattle.std.specs.Str.{encode_utf8_all}
 use Rattle.std.specs.Char.{encode_utf8}
 use Rattle.std.proofs.lemmas.Bool.{and_left, not_from_false, both_ways, eqb-true, eq-eqb}
+use Rattle.std.proofs.lemmas.List.{nil_from_length}
 use Rattle.markup.specs.Chars.{is_xml_char}
 use Rattle.markup.specs.Token.{Token, LineEnd, Character, Cr, token_bytes}
 use Rattle.markup.specs.Marks.{in_cdata, shows_no_closer, stands}
@@ -203,14 +204,10 @@ module _ {limit : ℕ} (z : Tokenizer) (before : List Token) (bytes : List ℕ) 
   some_open : (p q : ℕ) (v : List ℕ) → p ≡ q + length v → (p == q) ≡ false → v ≡ [] → ⊥
   some_open p q v h k e = both_ways (p == q) k (eq-eqb p q (h ∙ (ap (λ u. q + length u) e ∙ add-zero q)))
 
-  no_bytes : (v : List ℕ) → length v ≡ 0 → v ≡ []
-  no_bytes [] h = refl
-  no_bytes (c ∷ v) h = absurd (omega (arith, h))
-
   other_open : (s : Scan) → z.scan ≡ s → (s ≡ AfterReturn → ⊥) → Finishes limit before bytes (if z.place == z.start then NothingOpen else Open)
   other_open s e n = by (z.place == z.start) refl where
     by : (b : Bool) → (z.place == z.start) ≡ b → Finishes limit before bytes (if b then NothingOpen else Open)
-    by true h = no_bytes bytes (none_open z.place z.start (length bytes) o.place_is h)
+    by true h = nil_from_length bytes (none_open z.place z.start (length bytes) o.place_is h)
     by false h = cut_here (λ k. n (sym e ∙ k)) (some_open z.place z.start bytes o.place_is h)
 
   pub finish_return : z.scan ≡ AfterReturn → (bytes ≡ token_bytes (LineEnd Cr)) × (stands before (LineEnd Cr) [] ≡ true)

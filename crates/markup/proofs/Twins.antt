@@ -35,7 +35,7 @@ both_equal Equal s e = (refl, e)
 both_equal Greater s e = absurd cc
 
 -- entries that tie have one name
-tied_named : (x y : Entry) → by_name x y ≡ Equal → is_named x.name y ≡ true
+pub tied_named : (x y : Entry) → by_name x y ≡ Equal → is_named x.name y ≡ true
 tied_named x y e =
     let parts = both_equal (slice_cmp nat_cmp x.name.namespace y.name.namespace) (slice_cmp nat_cmp x.name.local y.name.local) e in
     let first : bytes_eq x.name.namespace y.name.namespace ≡ true = sym (is_eq-slice_cmp x.name.namespace y.name.namespace) ∙ ap is_eq parts.0 in

@@ -22,16 +22,12 @@ use Rattle.markup.specs.Scopes.{placed_at}
 use Rattle.markup.specs.ScanRuns.{run, position, placed_by}
 use Rattle.markup.specs.Drafts.{no_draft}
 use Rattle.markup.specs.Contexts.{IsContext, HasOpen, without_brackets}
-use Rattle.markup.specs.TokenRules.{is_cdata}
 use Rattle.markup.specs.Tokenizers.{is_between, is_text, is_in_text}
 use Rattle.markup.specs.Reading.{HasTakenUnder, HasToldUnder}
 use Rattle.markup.specs.inner.ReaderSteps.{passed_over}
 use Rattle.markup.specs.declared.reader.Reader.{Reader}
-use Rattle.markup.specs.declared.scan.Position.{Position}
-use Rattle.markup.specs.declared.scan.Position.TheVariants.{Start as AtStart, AfterMark, Text, Cdata}
-use Rattle.markup.specs.declared.scan.Scan.{Scan}
 use Rattle.markup.specs.declared.scan.Scan.TheVariants.{Begin}
-use Rattle.markup.proofs.PlainLemmas.{is_fresh, no_chars, at_same}
+use Rattle.markup.proofs.PlainLemmas.{is_fresh, no_chars, at_same, text_place, text_between}
 use Rattle.markup.proofs.ReaderLemmas.{told_so_far, starts}
 use Rattle.markup.proofs.ReferenceLemmas.{body, reference_then, IsNumbered, numbered_facts}
 use Rattle.markup.proofs.Spans.{heads, tails}
@@ -117,16 +113,6 @@ pub begins_so : (piece : List ℕ) (r : Reference) (more : List ℕ) → is_refe
 begins_so piece r more h e = e ∙ ap (λ v. v ++ more) (text_ascii r h)
 
 -- ---- the token in its place
-
-pub text_place : (s : Scan) (p : Position) → is_text s ≡ true → Begin p ≡ s → is_cdata p ≡ false
-text_place s Cdata h e = absurd (both_ways false refl (ap is_text e ∙ h))
-text_place s AtStart h e = refl
-text_place s AfterMark h e = refl
-text_place s Text h e = refl
-
-pub text_between : (s : Scan) → is_text s ≡ true → is_between s ≡ true
-text_between (Begin Text) h = refl
-text_between _ h = absurd (both_ways false refl h)
 
 module _ {limit : ℕ} (r : Reader) (bytes piece : List ℕ) (told : List Placed) (c n : ℕ) (h : HasTakenUnder limit r bytes told) (text : is_in_text r.tokenizer ≡ true) (open_here : HasOpen r.context) (a : IsReferenceAt piece c n) where
   abbrev before : List Token

@@ -1,10 +1,10 @@
 -- Which trees write a value (ISO 20022-4, XML Schema part 1 §2.6): elements in the message's namespace under the tags of their slots,
 -- white space between them, and the text of a leaf alone in its element.
-use Rattle.std.specs.Prelude.{◌≡◌, ℕ, List, [], ◌∷◌, Option, Some, None, slice_get, ◌⊎◌, codes, if◌then◌else◌}
+use Rattle.std.specs.Prelude.{◌≡◌, ℕ, List, [], ◌∷◌, Some, slice_get, ◌⊎◌, codes}
 use Rattle.std.specs.List.{AllByRecursion}
 use Rattle.std.specs.Str.{chars}
 use Rattle.lexical_core.specs.Tree.{Expanded, Entry, Nodes, Element, Text, Tree}
-use Rattle.lexical_core.specs.Names.{same_name}
+use Rattle.lexical_core.specs.Names.{attribute_value}
 use Rattle.lexical_core.specs.Tree as tree
 use Rattle.lexical_core.specs.Characters.{IsSpace}
 use Rattle.data_types.specs.Leaf as leaf
@@ -32,18 +32,13 @@ IsHint a = (a.name ≡ name_in_namespace schema_instance (codes "schemaLocation"
 abbrev pub currency : Expanded
 currency = name_in_namespace [] (codes "Ccy")
 
--- the value of the attribute of this name
-abbrev pub value_of : Expanded → List Entry → Option (List ℕ)
-value_of name [] = None
-value_of name (a ∷ more) = if same_name a.name name then Some a.value else value_of name more
-
 -- an attribute that an amount with a currency may have
 abbrev pub IsHintOrCurrency : Entry → Type 0
 IsHintOrCurrency a = IsHint a ⊎ (a.name ≡ currency)
 
 -- the attributes are hints and a currency, with this value
 abbrev pub HasCurrency : List Entry → List ℕ → Type 0
-HasCurrency attributes w = (value_of currency attributes ≡ Some w) × AllByRecursion IsHintOrCurrency attributes
+HasCurrency attributes w = (attribute_value currency attributes ≡ Some w) × AllByRecursion IsHintOrCurrency attributes
 
 -- the characters spell the leaf under the simple type of a code
 abbrev pub SpellsCode : {P : Type 0} → Form P Simple → List ℕ → Leaf → Type 0

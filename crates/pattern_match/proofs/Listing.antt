@@ -1,7 +1,7 @@
 -- The places of the marks that are set, as a pass goes over the marks.
 use Rattle.std.proofs.Common.{suc-add, ◌-◌, ◌≡◌, ◌≢◌, ℕ, zero, suc, ◌+◌, ◌≤◌, ◌<◌, Bool, false, if◌then◌else◌, List, [], ◌∷◌, ◌++◌, length, take, drop, replicate, refl, sym, ap, ◌∙◌, subst, arith, append_assoc, append-nil, length-append, length-drop, drop_of_length-le, zero-add}
 use Rattle.std.proofs.lemmas.Bool.{eq-eqb, ne_eqb}
-use Rattle.std.proofs.lemmas.List.{length-replicate, replicate-append-replicate, drop_at, drop-drop, drop-append-le}
+use Rattle.std.proofs.lemmas.List.{length-replicate, replicate-append-replicate, drop_at, drop-drop, drop-append-le, nil_from_length}
 use Rattle.pattern_match.specs.declared.instruction.Instruction.{Instruction}
 use Rattle.pattern_match.specs.declared.instruction.Instruction.TheVariants.{Take, Open, Bar, Close}
 use Rattle.pattern_match.specs.Marks.{IsGroupEnded, AreEnded, ListsPlaces, first_place_or, past}
@@ -29,21 +29,6 @@ ended_append [] code n f h = subst (λ k. AreEnded k code) (sym (zero-add n)) h
 ended_append (i ∷ front) code n f h =
     subst (λ k. AreEnded k (i ∷ (front ++ code))) (let z : suc (length front + n) ≡ suc (length front) + n = omega arith in z)
     (ended_more i (length front) (length front + n) (omega arith) f.0, ended_append front code n f.1 h)
-
--- as many marks as instructions, and maybe more
-pub lists_length : (from : ℕ) (code : List Instruction) (marks : List Bool) (places : List ℕ) → ListsPlaces from code marks places → length code ≤ length marks
-lists_length from code marks [] (more, e, h) =
-    let a : length marks ≡ length (replicate (length code) false ++ more) = ap length e in
-    let b = length-append (replicate (length code) false) more in
-    let c = length-replicate (length code) false in
-    omega arith
-lists_length from code marks (place ∷ places) (unset, mark, later, p, l, e, h, r) =
-    let a : length marks ≡ length (replicate unset false ++ mark ∷ later) = ap length e in
-    let b = length-append (replicate unset false) (mark ∷ later) in
-    let c = length-replicate unset false in
-    let d = lists_length (place + 1) (drop (suc unset) code) later places r in
-    let f = length-drop (suc unset) code in
-    omega arith
 
 -- the first place is one of theirs
 pub lists_first : (from : ℕ) (code : List Instruction) (marks : List Bool) (places : List ℕ) → ListsPlaces from code marks places
@@ -184,16 +169,12 @@ lists_none from code more marks [] n a (rest, e, h) = (
   subst (λ k. AreEnded k (code ++ more)) (sym (length-append code more)) (ended_append code more (length more) h a),
 )
   where
-    none : (r : List Bool) → length r ≡ 0 → r ≡ []
-    none [] z = refl
-    none (x ∷ r) z = absurd (omega arith)
-
     full : marks ≡ replicate (length code) false
     full =
         let b : length marks ≡ length (replicate (length code) false ++ rest) = ap length e in
         let c = length-append (replicate (length code) false) rest in
         let d = length-replicate (length code) false in
-        e ∙ ap (λ r. replicate (length code) false ++ r) (none rest (omega arith)) ∙ append-nil (replicate (length code) false)
+        e ∙ ap (λ r. replicate (length code) false ++ r) (nil_from_length rest (omega arith)) ∙ append-nil (replicate (length code) false)
 lists_none from code more marks (place ∷ places) n a (unset, mark, later, p, l, e, h, r) = (
   unset,
   mark,
@@ -228,10 +209,6 @@ lists_one from code i marks mark [] n (rest, e, h) = (
   subst (λ x. ListsPlaces (from + length code + 1) x [] []) (sym d) ([], refl, tt),
 )
   where
-    none : (r : List Bool) → length r ≡ 0 → r ≡ []
-    none [] z = refl
-    none (x ∷ r) z = absurd (omega arith)
-
     d : drop (suc (length code)) (code ++ i ∷ []) ≡ []
     d = drop_of_length-le (code ++ i ∷ []) (let y = length-append code (i ∷ []) in let z : length (code ++ i ∷ []) ≤ suc (length code) = omega arith in z)
 
@@ -240,7 +217,7 @@ lists_one from code i marks mark [] n (rest, e, h) = (
         let b : length marks ≡ length (replicate (length code) false ++ rest) = ap length e in
         let c = length-append (replicate (length code) false) rest in
         let f = length-replicate (length code) false in
-        e ∙ ap (λ r. replicate (length code) false ++ r) (none rest (omega arith)) ∙ append-nil (replicate (length code) false)
+        e ∙ ap (λ r. replicate (length code) false ++ r) (nil_from_length rest (omega arith)) ∙ append-nil (replicate (length code) false)
 lists_one from code i marks mark (place ∷ places) n (unset, first, later, p, l, e, h, r) = (
   unset,
   first,

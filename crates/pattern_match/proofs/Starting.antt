@@ -1,5 +1,5 @@
 -- Marks that are set as the first are, by the places that are listed of these; and marks that stay as they are.
-use Rattle.std.proofs.Common.{◌≡◌, ℕ, zero, suc, ◌+◌, ◌-◌, ◌≤◌, ◌<◌, Bool, false, ◌||◌, if◌then◌else◌, List, [], ◌∷◌, ◌++◌, length, take, drop, set, get_or, replicate, refl, sym, ap, ap₂, ◌∙◌, subst, arith, length-drop, add-one}
+use Rattle.std.proofs.Common.{◌≡◌, ℕ, suc, ◌+◌, ◌-◌, ◌≤◌, ◌<◌, Bool, false, ◌||◌, if◌then◌else◌, List, [], ◌∷◌, ◌++◌, length, take, drop, set, get_or, replicate, refl, sym, ap, ap₂, ◌∙◌, subst, arith, length-drop, add-one}
 use Rattle.std.proofs.lemmas.List.{length-replicate, replicate-append-replicate, take_at, take_more_set, drop-drop}
 use Rattle.std.proofs.Math.Seq.{take-add, take-suc, drop-cons}
 use Rattle.pattern_match.specs.Marks.{Walk, ListsPlaces, AreEnded, first_place_or, past, is_open, IsListed, IsDone, Skips, Starts}
@@ -99,9 +99,3 @@ starts_put code first old new d listed h l o c a b f = record {
 
     marks_are : drop old.at first.cells ≡ v ∷ drop (old.at + 1) first.cells
     marks_are = drop-cons first.cells old.at false room ∙ ap (λ k. v ∷ drop k first.cells) (sym (add-one old.at))
-
--- a mark that stays as it is
-pub set_same : (xs : List Bool) (n : ℕ) → n < length xs → set xs n (get_or xs n false) ≡ xs
-set_same [] n l = absurd (omega arith)
-set_same (x ∷ xs) zero l = refl
-set_same (x ∷ xs) (suc n) l = ap (λ ys. x ∷ ys) (set_same xs n (omega arith))

@@ -132,10 +132,6 @@ listed_one_more es old new u at ds d is kept listed before i x h got = go (same_
 
 -- ---- results
 
-pub on_ok : {T E : Type 0} {P Q : Type 0} (r : Result T E) → OnOk r P → (P → Q) → OnOk r Q
-on_ok (Ok x) p f = f p
-on_ok (Err e) p f = tt
-
 pub on_ok_two : {T E : Type 0} {P Q S : Type 0} (r : Result T E) → OnOk r P → OnOk r Q → (P → Q → S) → OnOk r S
 on_ok_two (Ok x) p q f = f p q
 on_ok_two (Err e) p q f = tt

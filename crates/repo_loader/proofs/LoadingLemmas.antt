@@ -11,11 +11,12 @@ use Rattle.repo_loader.specs.File
 use Rattle.repo_loader.specs.inner.FileSteps.{with_last, with_parts}
 use Rattle.repo_loader.specs.inner.LoadingSteps.{entry_is, entry_list, HasObjects}
 use Rattle.lexical_core.specs.Tree.{Entry as Attribute}
+use Rattle.lexical_core.specs.Names.{attribute_value}
 use Rattle.repo_objects.specs.declared.objects.ObjectKind.{ObjectKind}
 use Rattle.repo_objects.specs.Repository.{HasId}
 use Rattle.repo_loader.specs.declared.part.Part.TheVariants as Part
 use Rattle.repo_loader.specs.declared.stop.Stop.{Stop}
-use Rattle.repo_loader.specs.FileNames.{attribute_value, id_name}
+use Rattle.repo_loader.specs.FileNames.{id_name}
 use Rattle.repo_loader.specs.inner.LoadingSteps.{HasIdIn}
 use Rattle.repo_loader.specs.inner.Stops.{IsLeastTagRule, TellsFacets, TellsStop}
 use Rattle.repo_loader.proofs.EntryRules.{IsFirst, least_twice, least_number}

@@ -8,7 +8,7 @@ use Rattle.markup.specs.Marks.{tag_limit}
 use Rattle.repo_objects.specs.Repository.{DictionaryEntry, Contents, ids_of, HasId, IsRepository}
 use Rattle.repo_loader.specs.declared.part.Part.{Part}
 use Rattle.repo_loader.specs.declared.part.Part.TheVariants as part
-use Rattle.repo_loader.specs.FileNames.{attribute_value, id_name}
+use Rattle.repo_loader.specs.FileNames.{id_name}
 use Rattle.repo_loader.specs.FileValues.{text_or_empty}
 use Rattle.repo_loader.specs.inner.FileSteps.{with_last, with_parts}
 use Rattle.repo_loader.specs.Selected.{FileTag, PlacedTag}
@@ -20,6 +20,7 @@ use Rattle.repo_loader.proofs.Steps.{objects_snoc}
 use Rattle.repo_loader.proofs.Texts.{events_texts}
 use Rattle.repo_loader.proofs.OneRepository.{contents_by_tokens}
 use Rattle.repo_loader.proofs.SpelledTexts.{HaveTagTexts, event_tags_texts, object_texts, all_message_texts}
+use Rattle.lexical_core.specs.Names.{attribute_value}
 
 -- ---- the ids
 

@@ -122,10 +122,6 @@ message_taken old new tags as' has messages objects entry = (
   sound_other tags (tag_of Message as') refl (λ e. true≢false (ap is_message e)) tt,
 )
 
-pub on_ok : {A E : Type 0} {P Q : Type 0} (r : Result A E) → (P → Q) → OnOk r P → OnOk r Q
-on_ok (Ok x) f p = f p
-on_ok (Err e) f p = tt
-
 pub if_err : {A E : Type 0} {P Q : E → Type 0} (r : Result A E) → ((e : E) → P e → Q e) → IfErr r P → IfErr r Q
 if_err (Ok x) f p = tt
 if_err (Err e) f p = f e p

@@ -1,9 +1,8 @@
 -- What tags give is text, where their attributes are: so what is open can be closed.
-use Rattle.std.proofs.Common.{◌≡◌, ℕ, Bool, true, false, List, [], ◌∷◌, ◌++◌, Option, Some, None, codes, inl, if◌then◌else◌, arith, refl, sym, ap, ◌∙◌, append_assoc}
-use Rattle.std.specs.Prelude.{encode_utf8, encode_utf8_all}
+use Rattle.std.proofs.Common.{ℕ, Bool, true, false, List, [], ◌∷◌, ◌++◌, Option, Some, None, codes, inl, if◌then◌else◌, arith, ap, ◌∙◌}
 use Rattle.std.specs.List.{AllByRecursion}
 use Rattle.std.proofs.lemmas.List.Elements.{All-nil, All-push}
-use Rattle.std.proofs.lemmas.Str.{encode_ascii}
+use Rattle.std.proofs.lemmas.Str.{encode_ascii, encodes-append}
 use Rattle.lexical_core.specs.Characters.{IsXmlChar, IsXmlText}
 use Rattle.lexical_core.specs.Tree.{Entry as Attribute}
 use Rattle.repo_objects.specs.declared.objects.ElementDef.{ElementDef}
@@ -23,12 +22,8 @@ chars_append : (xs ys : List ℕ) → AllByRecursion IsXmlChar xs → AllByRecur
 chars_append [] ys h k = k
 chars_append (x ∷ xs) ys h k = (h.0, chars_append xs ys h.1 k)
 
-encoded_append : (xs ys : List ℕ) → encode_utf8_all (xs ++ ys) ≡ encode_utf8_all xs ++ encode_utf8_all ys
-encoded_append [] ys = refl
-encoded_append (x ∷ xs) ys = ap (λ l. encode_utf8 x ++ l) (encoded_append xs ys) ∙ sym (append_assoc (encode_utf8 x) (encode_utf8_all xs) (encode_utf8_all ys))
-
 both_texts : (xs ys : List ℕ) → IsXmlText xs → IsXmlText ys → IsXmlText (xs ++ ys)
-both_texts xs ys h k = (h.0 ++ k.0, chars_append h.0 k.0 h.1 k.1, encoded_append h.0 k.0 ∙ (λ i. h.2 i ++ k.2 i))
+both_texts xs ys h k = (h.0 ++ k.0, chars_append h.0 k.0 h.1 k.1, encodes-append h.0 k.0 ∙ (λ i. h.2 i ++ k.2 i))
 
 point_text : IsXmlText (codes ".")
 point_text = (codes ".", (inl (omega arith, omega arith), tt), ap (λ l. l ++ []) (encode_ascii 46 (omega arith)))

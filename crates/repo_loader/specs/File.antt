@@ -1,6 +1,7 @@
 -- What a repository file says: the objects of its data dictionary and its messages, by the elements that are read.
 use Rattle.std.specs.Prelude.{ℕ, Bool, true, false, List, [], ◌∷◌, ◌++◌, codes, if◌then◌else◌}
 use Rattle.lexical_core.specs.Tree.{Entry as Attribute}
+use Rattle.lexical_core.specs.Names.{attribute_value}
 use Rattle.repo_objects.specs.declared.objects.ObjectKind.{ObjectKind}
 use Rattle.repo_objects.specs.declared.objects.ObjectKind.TheVariants.{Other}
 use Rattle.repo_objects.specs.declared.objects.RawFacets.{RawFacets}
@@ -11,7 +12,7 @@ use Rattle.repo_objects.specs.declared.objects.MessageDef.{MessageDef}
 use Rattle.repo_objects.specs.Repository.{DictionaryEntry as Named, Contents}
 use Rattle.repo_loader.specs.declared.part.Part.{Part}
 use Rattle.repo_loader.specs.declared.part.Part.TheVariants.{Entry, Element, Alternative, Code, Message, Block, Identifier}
-use Rattle.repo_loader.specs.FileNames.{attribute_value, id_name}
+use Rattle.repo_loader.specs.FileNames.{id_name}
 use Rattle.repo_loader.specs.FileValues.{text_of_attribute, text_or_empty, reference, word_of, has_lengths, has_digits, count, bound, least_of, greatest_of}
 use Rattle.repo_loader.specs.FileNames.{own}
 use Rattle.repo_loader.specs.Selected.{FileTag}

@@ -1,11 +1,12 @@
 -- Which rules the elements of a repository file break, and the first that is broken.
 use Rattle.std.specs.Prelude.{◌≡◌, ℕ, ◌≤◌, List, [], ◌∷◌, ◌++◌, map, codes, Some, None}
 use Rattle.lexical_core.specs.Tree.{Entry as Attribute}
+use Rattle.lexical_core.specs.Names.{attribute_value}
 use Rattle.repo_objects.specs.declared.objects.ObjectKind.{ObjectKind}
 use Rattle.repo_objects.specs.Repository.{HasId}
 use Rattle.repo_loader.specs.declared.part.Part.{Part}
 use Rattle.repo_loader.specs.declared.part.Part.TheVariants.{OtherRoot, Entry, Element, Alternative, Block}
-use Rattle.repo_loader.specs.FileNames.{attribute_value, own, id_name, type_name}
+use Rattle.repo_loader.specs.FileNames.{own, id_name, type_name}
 use Rattle.repo_loader.specs.FileValues.{facet, has_lengths, has_digits, IsCountIfAny, IsBoundIfAny, IsGreatestIfAny}
 use Rattle.repo_loader.specs.Selected.{FileTag, PlacedTag}
 use Rattle.repo_loader.specs.File.{objects}

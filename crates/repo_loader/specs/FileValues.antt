@@ -6,10 +6,11 @@ use Rattle.std.specs.Str.Parse.{digits_value}
 use Rattle.std.specs.Char.{is_ascii_digit}
 use Rattle.lexical_core.specs.Tree.{Entry as Attribute}
 use Rattle.lexical_core.specs.Decimals.{Number, IsDecimal, IsDecimalText, signed_number}
+use Rattle.lexical_core.specs.Names.{attribute_value}
 use Rattle.repo_objects.specs.declared.objects.ObjectKind.{ObjectKind}
 use Rattle.repo_objects.specs.declared.objects.ObjectKind.TheVariants.{Simple, Component, Choice, External, Other}
 use Rattle.repo_objects.specs.declared.objects.Kinds.TheVariants as kinds
-use Rattle.repo_loader.specs.FileNames.{attribute_value, own, type_name}
+use Rattle.repo_loader.specs.FileNames.{own, type_name}
 
 -- ---- texts
 

@@ -17,7 +17,7 @@ same_ids (e ∷ es) zero codes = refl
 same_ids (e ∷ es) (suc at) codes = ap (λ l. e.id ∷ l) (same_ids es at codes)
 
 -- an entry with other codes has texts
-coded_texts : (codes : List CodeDef) (e : DictionaryEntry) → All HasCodeTexts codes → HasEntryTexts e → HasEntryTexts (entry_with_codes codes e)
+pub coded_texts : (codes : List CodeDef) (e : DictionaryEntry) → All HasCodeTexts codes → HasEntryTexts e → HasEntryTexts (entry_with_codes codes e)
 coded_texts codes e texts h = record {
   id = h.id;
   object = record {

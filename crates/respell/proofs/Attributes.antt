@@ -3,6 +3,7 @@ use Rattle.std.proofs.Common.{◌≡◌, ℕ, true, List, [], ◌∷◌, ◌++�
 use Rattle.std.specs.Prelude.{encode_utf8, encode_utf8_all, codes}
 use Rattle.std.specs.List.{flat_map, list_all, AllByRecursion}
 use Rattle.std.proofs.lemmas.Bool.{and_from}
+use Rattle.std.proofs.lemmas.Str.{encodes-append}
 use Rattle.lexical_core.specs.Characters.{IsXmlText}
 use Rattle.markup.specs.Chars.{is_space}
 use Rattle.markup.specs.Name.{name_text}
@@ -10,7 +11,6 @@ use Rattle.markup.specs.Attribute.{Attribute, is_attribute, attribute_text, piec
 use Rattle.markup.specs.Events.{given_attribute}
 use Rattle.markup.specs.declared.tag.Given.{Given}
 use Rattle.fragments.specs.Fragment.{Written, written_text}
-use Rattle.respell.proofs.Lists.{encode-append}
 use Rattle.respell.proofs.Values.{value_of}
 use Rattle.respell.proofs.Names.{IsSpelling, name_of, read_as}
 
@@ -27,10 +27,10 @@ written_bytes : (n v : List ℕ) → encode_utf8_all (32 ∷ [] ++ n ++ [] ++ co
 unfolding lib.Utf8.encode
 written_bytes n v =
     let flat : ((((n ++ []) ++ 61 ∷ []) ++ []) ++ 34 ∷ []) ≡ n ++ 61 ∷ 34 ∷ [] = rw (append-nil n, append-nil (n ++ 61 ∷ [])) (append_assoc n (61 ∷ []) (34 ∷ [])) in
-    let front : encode_utf8_all ((((n ++ []) ++ 61 ∷ []) ++ []) ++ 34 ∷ []) ≡ encode_utf8_all n ++ 61 ∷ 34 ∷ [] = ap encode_utf8_all flat ∙ encode-append n (61 ∷ 34 ∷ []) in
+    let front : encode_utf8_all ((((n ++ []) ++ 61 ∷ []) ++ []) ++ 34 ∷ []) ≡ encode_utf8_all n ++ 61 ∷ 34 ∷ [] = ap encode_utf8_all flat ∙ encodes-append n (61 ∷ 34 ∷ []) in
     let y : List ℕ = (((n ++ []) ++ 61 ∷ []) ++ []) ++ 34 ∷ [] in
     ap (λ (l : List ℕ). 32 ∷ l) (
-    encode-append (y ++ v) (34 ∷ []) ∙ (ap (λ (l : List ℕ). l ++ 34 ∷ []) (encode-append y v ∙ ap (λ (l : List ℕ). l ++ encode_utf8_all v) front)
+    encodes-append (y ++ v) (34 ∷ []) ∙ (ap (λ (l : List ℕ). l ++ 34 ∷ []) (encodes-append y v ∙ ap (λ (l : List ℕ). l ++ encode_utf8_all v) front)
     ∙ (ap (λ (l : List ℕ). l ++ 34 ∷ []) (append_assoc (encode_utf8_all n) (61 ∷ 34 ∷ []) (encode_utf8_all v)))))
 
 pub record HasAttribute (w : Written) : Type 0 where
@@ -62,6 +62,6 @@ attributes_of (w ∷ ws) h =
     let a = attribute_of w h.0 in let r = attributes_of ws h.1 in record {
       attributes = a.attribute ∷ r.attributes;
       are = and_from _ _ a.is r.are;
-      bytes = encode-append (attribute_text a.attribute) (flat_map attribute_text r.attributes) ∙ ap₂ (λ (x y : List ℕ). x ++ y) a.bytes r.bytes;
+      bytes = encodes-append (attribute_text a.attribute) (flat_map attribute_text r.attributes) ∙ ap₂ (λ (x y : List ℕ). x ++ y) a.bytes r.bytes;
       reads = ap₂ (λ (x : Given) (y : List Given). x ∷ y) a.reads r.reads;
     }

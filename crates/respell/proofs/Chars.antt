@@ -1,5 +1,5 @@
 -- A character of an element's content, as the token that spells it.
-use Rattle.std.proofs.Common.{◌≡◌, ℕ, Bool, true, false, ◌==◌, inl, inr, List, [], ◌∷◌, length, refl, subst, ◌∙◌, Option, None, arith, append-nil, if◌then◌else◌}
+use Rattle.std.proofs.Common.{◌≡◌, ℕ, Bool, true, false, ◌==◌, inl, inr, List, [], ◌∷◌, refl, subst, ◌∙◌, Option, None, arith, append-nil, if◌then◌else◌}
 use Rattle.std.specs.Prelude.{codes, encode_utf8}
 use Rattle.std.proofs.lemmas.Bool.{cases_Bool}
 use Rattle.std.proofs.lemmas.Bool.Decides.{nat_tests}
@@ -12,6 +12,7 @@ use Rattle.markup.specs.Token.{Token, Refer, LineEnd, Character, Lf, token_bytes
 use Rattle.markup.specs.Marks.{stands, in_cdata, is_short}
 use Rattle.markup.specs.Events.{items_of, open_tags}
 use Rattle.markup.specs.Faults.{rule_of, is_outside}
+use Rattle.markup.proofs.CharacterRuns.{some_before}
 
 -- the token of a character, inside an element
 pub record HasToken (before : List Token) (c : ℕ) : Type 0 where
@@ -28,10 +29,6 @@ pub record HasToken (before : List Token) (c : ℕ) : Type 0 where
 pub record IsInside (before : List Token) : Type 0 where
   pub cdata : in_cdata before ≡ false
   pub open_some : is_outside before ≡ false
-
-some_before : (before : List Token) → is_outside before ≡ false → (length before == 0) ≡ false
-some_before [] h = h
-some_before (t ∷ before) h = grind (arith, nat_tests)
 
 choose : (before : List Token) (c n : ℕ) → HasToken before n → ((c == n) ≡ false → HasToken before c) → HasToken before c
 choose before c n s f = elim (cases_Bool (c == n)) [

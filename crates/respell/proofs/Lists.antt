@@ -1,11 +1,6 @@
 -- Lists of bytes and characters.
 use Rattle.std.proofs.Common.{◌≡◌, ℕ, List, [], ◌∷◌, ◌++◌, refl, sym, ap, ◌∙◌, append_assoc}
-use Rattle.std.specs.Prelude.{encode_utf8, encode_utf8_all}
 use Rattle.std.specs.List.{flat_map}
-
-pub encode-append : (a b : List ℕ) → encode_utf8_all (a ++ b) ≡ encode_utf8_all a ++ encode_utf8_all b
-encode-append [] b = refl
-encode-append (x ∷ a) b = ap (λ (l : List ℕ). encode_utf8 x ++ l) (encode-append a b) ∙ sym (append_assoc (encode_utf8 x) (encode_utf8_all a) (encode_utf8_all b))
 
 pub flat_map-append : {A : Type 0} (f : A → List ℕ) (a b : List A) → flat_map f (a ++ b) ≡ flat_map f a ++ flat_map f b
 flat_map-append f [] b = refl

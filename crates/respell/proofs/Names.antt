@@ -4,7 +4,7 @@ use Rattle.std.specs.Prelude.{encode_utf8_all}
 use Rattle.std.specs.List.{list_all, AllByRecursion}
 use Rattle.std.specs.Str.{bytes_eq}
 use Rattle.std.proofs.lemmas.Bool.{and_from}
-use Rattle.std.proofs.lemmas.Str.{encode_ascii, length-le-encodes}
+use Rattle.std.proofs.lemmas.Str.{encode_ascii, length-le-encodes, encodes-append}
 use Rattle.lexical_core.specs.Characters.{IsNameChar}
 use Rattle.markup.specs.Chars.{is_name_char}
 use Rattle.markup.specs.Name.{Name, Plain, Prefixed, is_part, is_name, name_text}
@@ -13,7 +13,6 @@ use Rattle.markup.specs.declared.tag.Spelled.{Spelled}
 use Rattle.markup.proofs.CharLemmas.{classes}
 use Rattle.fragments.specs.Plain.{IsPart}
 use Rattle.fragments.specs.Fragment.{Spelling, spelling_text}
-use Rattle.respell.proofs.Lists.{encode-append}
 
 -- the spelling as the reader keeps it
 abbrev pub read_as : Spelling → Spelled
@@ -56,7 +55,7 @@ prefixed_name : (s : Spelling) → IsPart s.prefix → IsPart s.local → HasNam
 prefixed_name s q p = record {
   name = Prefixed (q.first ∷ q.others) (p.first ∷ p.others);
   is = and_from _ _ (part_of s.prefix q) (part_of s.local p);
-  bytes = encode-append (q.first ∷ q.others) (58 ∷ p.first ∷ p.others) ∙ (ap₂ (λ (x y : List ℕ). x ++ y) q.spelled (ap₂ (λ (x y : List ℕ). x ++ y) (encode_ascii 58 (omega arith)) p.spelled) ∙ rw (part_some s.prefix q) refl);
+  bytes = encodes-append (q.first ∷ q.others) (58 ∷ p.first ∷ p.others) ∙ (ap₂ (λ (x y : List ℕ). x ++ y) q.spelled (ap₂ (λ (x y : List ℕ). x ++ y) (encode_ascii 58 (omega arith)) p.spelled) ∙ rw (part_some s.prefix q) refl);
   reads = ap₂ (λ (x y : List ℕ). record { prefix = x; local = y }) q.spelled p.spelled;
 }
 

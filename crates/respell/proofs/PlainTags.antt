@@ -7,6 +7,7 @@ use Rattle.std.specs.Str.{bytes_eq}
 use Rattle.std.specs.declared.cmp.Ordering.{Ordering}
 use Rattle.std.specs.declared.cmp.Ordering.TheVariants.{Less, Equal, Greater}
 use Rattle.std.proofs.lemmas.Bool.{cases_Bool, true≢false, and_parts, or_parts}
+use Rattle.std.proofs.lemmas.Option.{same_Some}
 use Rattle.lexical_core.specs.Characters.{IsXmlText}
 use Rattle.lexical_core.specs.Tree.{Expanded, Entry}
 use Rattle.markup.specs.Attribute.{Attribute, is_attribute}
@@ -38,9 +39,6 @@ record IsNamespace (prefix n : List ℕ) : Type 0 where
   other : n ≢ xmlns_namespace
   some : bytes_eq prefix [] ≡ false → n ≢ []
 
-some_same : {A : Type 0} (a b : A) → Some a ≡ Some b → a ≡ b
-some_same a b h = cc
-
 declared_is : (prefix n : List ℕ) → IsXmlText n → is_bad_declaration (Some prefix) n ≡ false → IsNamespace prefix n
 declared_is prefix n t f =
     let last = or_parts _ (not (bytes_eq prefix []) && bytes_eq n []) f in
@@ -58,7 +56,7 @@ bound_is (a ∷ gs) prefix n h e = step (declared_prefix a.name) a.value (bound_
     step None v o t f k e = k e
     step (Some q) v o t f k e = elim (cases_Bool (bytes_eq q prefix)) [
       | inl y ↦ (let same : Some v ≡ Some n = sym (ap (λ (b : Bool). if b then Some v else o) y) ∙ e in
-          subst (λ (p : List ℕ). IsNamespace p n) (bytes_same q prefix y) (subst (λ (m : List ℕ). IsNamespace q m) (some_same v n same) (declared_is q v t f)))
+          subst (λ (p : List ℕ). IsNamespace p n) (bytes_same q prefix y) (subst (λ (m : List ℕ). IsNamespace q m) (same_Some v n same) (declared_is q v t f)))
       | inr z ↦ k (sym (ap (λ (b : Bool). if b then Some v else o) z) ∙ e)
     ]
 
@@ -75,13 +73,13 @@ xml_is prefix = record { text = xml_text; other = λ e. absurd (let h : bytes_eq
 namespace_is : (tags : List Opening) (prefix n : List ℕ) → AllByRecursion IsSoundTag tags → namespace_of tags prefix ≡ Some n → IsNamespace prefix n
 namespace_is [] prefix n h e = elim (cases_Bool (bytes_eq prefix [])) [
   | inl y ↦ (let same : Some [] ≡ Some n = sym (ap (λ (b : Bool). if b then Some [] else (if bytes_eq prefix (codes "xml") then Some xml_namespace else None)) y) ∙ e in
-      subst (λ (m : List ℕ). IsNamespace prefix m) (some_same [] n same) (none_is prefix y))
+      subst (λ (m : List ℕ). IsNamespace prefix m) (same_Some [] n same) (none_is prefix y))
   | inr z ↦ (let rest : (if bytes_eq prefix (codes "xml") then Some xml_namespace else None) ≡ Some n = sym (ap (λ (b : Bool). if b then Some [] else (if bytes_eq prefix (codes "xml") then Some xml_namespace else None)) z) ∙ e in
       step (bytes_eq prefix (codes "xml")) rest)
 ]
   where
     step : (b : Bool) → (if b then Some xml_namespace else None) ≡ Some n → IsNamespace prefix n
-    step true e = subst (λ (m : List ℕ). IsNamespace prefix m) (some_same xml_namespace n e) (xml_is prefix)
+    step true e = subst (λ (m : List ℕ). IsNamespace prefix m) (same_Some xml_namespace n e) (xml_is prefix)
     step false e = absurd cc
 namespace_is (tag ∷ tags) prefix n h e = step (bound_by tag.given prefix) (namespace_of tags prefix) (bound_is tag.given prefix n h.0.given) (namespace_is tags prefix n h.1) e
   where
@@ -123,7 +121,7 @@ element_is_plain tags s name h p e = step (namespace_of tags s.prefix) (λ n is.
   where
     step : (o : Option (List ℕ)) → ((n : List ℕ) → o ≡ Some n → IsNamespace s.prefix n) → expanded_in o s.local ≡ Some name → IsPlainName name
     step None k e = absurd cc
-    step (Some n) k e = subst IsPlainName (some_same _ name e) (record { local = p; namespace = (k n refl).text; no_declaration = (k n refl).other })
+    step (Some n) k e = subst IsPlainName (same_Some _ name e) (record { local = p; namespace = (k n refl).text; no_declaration = (k n refl).other })
 
 -- without a prefix it is no declaration of the default
 no_default : (s : Spelled) → bytes_eq s.prefix [] ≡ true → declared_prefix s ≡ None → s.local ≢ xmlns
@@ -135,13 +133,13 @@ attribute_is_plain : (tags : List Opening) (s : Spelled) (value : List ℕ) (nam
     → IsPlainEntry (record { name = name; value = value })
 attribute_is_plain tags s value name h p v none e = elim (cases_Bool (bytes_eq s.prefix [])) [
   | inl y ↦ (let same : Some (record { namespace = []; local = s.local }) ≡ Some name = sym (ap (λ (b : Bool). expanded_in (if b then Some [] else namespace_of tags s.prefix) s.local) y) ∙ e in
-      subst (λ (n : Expanded). IsPlainEntry (record { name = n; value = value })) (some_same _ name same) (record { name = record { local = p; namespace = ([], tt, refl); no_declaration = λ e. absurd cc }; value = v; no_default = λ _. no_default s y none }))
+      subst (λ (n : Expanded). IsPlainEntry (record { name = n; value = value })) (same_Some _ name same) (record { name = record { local = p; namespace = ([], tt, refl); no_declaration = λ e. absurd cc }; value = v; no_default = λ _. no_default s y none }))
   | inr z ↦ step (namespace_of tags s.prefix) (λ n is. namespace_is tags s.prefix n h is) z (sym (ap (λ (b : Bool). expanded_in (if b then Some [] else namespace_of tags s.prefix) s.local) z) ∙ e)
 ]
   where
     step : (o : Option (List ℕ)) → ((n : List ℕ) → o ≡ Some n → IsNamespace s.prefix n) → bytes_eq s.prefix [] ≡ false → expanded_in o s.local ≡ Some name → IsPlainEntry (record { name = name; value = value })
     step None k z e = absurd cc
-    step (Some n) k z e = subst (λ (m : Expanded). IsPlainEntry (record { name = m; value = value })) (some_same _ name e)
+    step (Some n) k z e = subst (λ (m : Expanded). IsPlainEntry (record { name = m; value = value })) (same_Some _ name e)
         (record { name = record { local = p; namespace = (k n refl).text; no_declaration = (k n refl).other }; value = v; no_default = λ empty. absurd ((k n refl).some z empty) })
 
 all_put : (P : Entry → Type 0) (x : Entry) (ys : List Entry) → P x → AllByRecursion P ys → AllByRecursion P (put x ys)

@@ -1,12 +1,10 @@
 -- The names in a start tag, expanded by its own declarations and those of the tags round it.
-use Rattle.std.proofs.Common.{◌≡◌, ℕ, ◌+◌, ◌≤◌, ◌⊎◌, inl, inr, Bool, true, false, List, [], ◌∷◌, ◌++◌, map, Option, Some, None, refl, sym, ap, ◌∙◌, arith, if◌then◌else◌}
+use Rattle.std.proofs.Common.{◌≡◌, ℕ, ◌+◌, ◌≤◌, ◌⊎◌, inl, inr, false, List, [], ◌∷◌, ◌++◌, map, Some, None, refl, sym, ap, ◌∙◌, arith}
 use Rattle.std.specs.List.{AllByRecursion}
-use Rattle.std.specs.Option.{option_or}
 use Rattle.std.specs.Str.{bytes_eq}
 use Rattle.std.proofs.lemmas.Bool.{cases_Bool, true≢false}
 use Rattle.lexical_core.specs.Tree.{Entry}
-use Rattle.markup.specs.declared.tag.Given.{Given}
-use Rattle.markup.specs.Events.{declared_prefix, same_prefix, bound_by}
+use Rattle.markup.specs.Events.{declared_prefix, bound_by}
 use Rattle.fragments.specs.Plain.{IsPlainEntry}
 use Rattle.lexical_core.specs.Names.{xmlns}
 use Rattle.fragments.specs.Fragment.{is_xml, prefix_of, numbered_declarations, number_among, attribute_written}
@@ -16,14 +14,6 @@ use Rattle.respell.proofs.Prefixes.{same_bytes, bytes_same, other_bytes, other_p
 pub map-append : {A B : Type 0} (f : A → B) (a b : List A) → map f (a ++ b) ≡ map f a ++ map f b
 map-append f [] b = refl
 map-append f (x ∷ a) b = ap (λ l. f x ∷ l) (map-append f a b)
-
-pub bound-append : (a b : List Given) (p : List ℕ) → bound_by (a ++ b) p ≡ option_or (bound_by a p) (bound_by b p)
-bound-append [] b p = refl
-bound-append (x ∷ a) b p = step (same_prefix (declared_prefix x.name) p) x.value (bound_by (a ++ b) p) (bound_by a p) (bound_by b p) (bound-append a b p)
-  where
-    step : (t : Bool) (v : List ℕ) (u w z : Option (List ℕ)) → u ≡ option_or w z → (if t then Some v else u) ≡ option_or (if t then Some v else w) z
-    step true v u w z e = refl
-    step false v u w z e = e
 
 -- what an attribute's name is to declarations
 pub no_declaration : (nss : List (List ℕ)) (e : Entry) → IsPlainEntry e → declared_prefix (given_as (attribute_written nss e)).name ≡ None

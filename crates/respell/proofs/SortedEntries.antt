@@ -1,13 +1,10 @@
 -- The attributes of a start tag in which no names clash are told in order, no two alike.
 use Rattle.std.proofs.Common.{◌≡◌, ℕ, Bool, true, false, List, [], ◌∷◌, ◌||◌, ◌&&◌, Option, Some, None, refl, sym, ap, ap₂, ◌∙◌, if◌then◌else◌}
 use Rattle.std.specs.Prelude.{is_none}
-use Rattle.std.specs.Cmp.Lexicographic.{slice_cmp}
 use Rattle.std.specs.List.{list_any, AllByRecursion}
-use Rattle.std.specs.Ordering.{nat_cmp, is_lt, is_eq, ordering_then, ordering_reverse}
-use Rattle.std.specs.Str.{bytes_eq}
+use Rattle.std.specs.Ordering.{is_lt, ordering_reverse}
 use Rattle.std.specs.declared.cmp.Ordering.{Ordering}
 use Rattle.std.specs.declared.cmp.Ordering.TheVariants.{Less, Equal, Greater}
-use Rattle.std.proofs.lemmas.Map.Text.{is_eq-slice_cmp}
 use Rattle.std.proofs.lemmas.Bool.{or_parts}
 use Rattle.lexical_core.specs.Tree.{Expanded, Entry}
 use Rattle.lexical_core.proofs.StableSort.{Climbs, NoneLess, climbs-sorted}
@@ -16,7 +13,7 @@ use Rattle.markup.specs.declared.tag.Opening.{Opening}
 use Rattle.markup.specs.Events.{declared_prefix, attribute_name, entries, put, put_named}
 use Rattle.markup.specs.Faults.{clash, has_clash, same_declared, same_expanded}
 use Rattle.markup.specs.inner.TagParts.{is_named, sorted_entries}
-use Rattle.markup.proofs.Twins.{by_name, entries_total, any-put, any_twins, any_twins-put, sorted_same}
+use Rattle.markup.proofs.Twins.{by_name, entries_total, any-put, any_twins, any_twins-put, sorted_same, tied_named}
 use Rattle.fragments.specs.Plain.{AreSortedEntries}
 use Rattle.lexical_core.specs.Names.{name_cmp}
 
@@ -86,18 +83,6 @@ entries_apart tags (a ∷ more) h =
     step (Some p) n v es k g = g
 
 -- ---- each before all that follow
-
-both_equal : (r s : Ordering) → ordering_then r s ≡ Equal → (r ≡ Equal) × (s ≡ Equal)
-both_equal Less s e = absurd cc
-both_equal Equal s e = (refl, e)
-both_equal Greater s e = absurd cc
-
-tied_named : (x y : Entry) → by_name x y ≡ Equal → is_named x.name y ≡ true
-tied_named x y e =
-    let parts = both_equal (slice_cmp nat_cmp x.name.namespace y.name.namespace) (slice_cmp nat_cmp x.name.local y.name.local) e in
-    let first : bytes_eq x.name.namespace y.name.namespace ≡ true = sym (is_eq-slice_cmp x.name.namespace y.name.namespace) ∙ ap is_eq parts.0 in
-    let second : bytes_eq x.name.local y.name.local ≡ true = sym (is_eq-slice_cmp x.name.local y.name.local) ∙ ap is_eq parts.1 in
-    ap₂ (λ (a b : Bool). a && b) first second
 
 less : (e f : Entry) → is_lt (by_name f e) ≡ false → is_named e.name f ≡ false → by_name e f ≡ Less
 less e f h g = case (by_name e f) refl

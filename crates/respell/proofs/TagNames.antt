@@ -5,17 +5,19 @@ use Rattle.std.specs.List.{AllByRecursion}
 use Rattle.std.specs.Option.{option_or}
 use Rattle.std.specs.Str.{bytes_eq}
 use Rattle.std.proofs.lemmas.Bool.{cases_Bool, true≢false}
+use Rattle.std.proofs.lemmas.Option.{same_Some}
 use Rattle.lexical_core.specs.Tree.{Expanded, Entry}
 use Rattle.markup.specs.declared.tag.Given.{Given}
 use Rattle.markup.specs.declared.tag.Opening.{Opening}
 use Rattle.markup.specs.Events.{bound_by, namespace_of, element_name, attribute_name, expanded_in}
+use Rattle.markup.proofs.Lookups.{bound_by-append}
 use Rattle.fragments.specs.Plain.{IsPlainEntry}
 use Rattle.lexical_core.specs.Names.{xml_namespace, xmlns}
 use Rattle.fragments.specs.Fragment.{Written, is_xml, element_spelling, is_default, default_within, default_declaration, needs_none, before_others, namespaces_of, prefix_of, numbered_declarations, number_among, attribute_prefix, attribute_written, tag_contents}
 use Rattle.respell.proofs.Names.{read_as}
 use Rattle.respell.proofs.Attributes.{given_as}
 use Rattle.respell.proofs.Prefixes.{bytes_same}
-use Rattle.respell.proofs.Resolving.{map-append, bound-append, unbound, bound_none, IsAmong, bound_number}
+use Rattle.respell.proofs.Resolving.{map-append, unbound, bound_none, IsAmong, bound_number}
 
 -- the start tag as it is read
 abbrev pub opening_of : Option (List ℕ) → Expanded → List Entry → Opening
@@ -38,8 +40,8 @@ given_parts default name attributes p =
     let nss = namespaces_of attributes in
     let a : List Written = map (attribute_written nss) attributes in
     ap (λ (l : List Given). bound_by l p) (map-append given_as (default_declaration default name) (numbered_declarations 1 nss ++ a) ∙ ap (λ (l : List Given). map given_as (default_declaration default name) ++ l) (map-append given_as (numbered_declarations 1 nss) a))
-    ∙ (bound-append (map given_as (default_declaration default name)) (map given_as (numbered_declarations 1 nss) ++ map given_as a) p
-    ∙ ap (λ (o : Option (List ℕ)). option_or (bound_by (map given_as (default_declaration default name)) p) o) (bound-append (map given_as (numbered_declarations 1 nss)) (map given_as a) p))
+    ∙ (bound_by-append (map given_as (default_declaration default name)) (map given_as (numbered_declarations 1 nss) ++ map given_as a) p
+    ∙ ap (λ (o : Option (List ℕ)). option_or (bound_by (map given_as (default_declaration default name)) p) o) (bound_by-append (map given_as (numbered_declarations 1 nss)) (map given_as a) p))
 
 or_none_right : (o : Option (List ℕ)) → option_or o None ≡ o
 or_none_right None = refl
@@ -82,16 +84,13 @@ plain_bound : (default : Option (List ℕ)) (name : Expanded) (attributes : List
     → bound_by (map given_as (tag_contents default name attributes)) [] ≡ bound_by (map given_as (default_declaration default name)) []
 plain_bound default name attributes h = given_binds default name attributes [] h ∙ (ap (λ (o : Option (List ℕ)). option_or (bound_by (map given_as (default_declaration default name)) []) o) (bound_none 1 (namespaces_of attributes) [] no_plain) ∙ or_none_right _)
 
-some_same : (a b : List ℕ) → Some a ≡ Some b → a ≡ b
-some_same a b h = cc
-
 pub plain_within : (default : Option (List ℕ)) (name : Expanded) (attributes : List Entry) (tags : List Opening) → AllByRecursion IsPlainEntry attributes → Knows tags default
     → (n : List ℕ) → default_within default name ≡ Some n → namespace_of (opening_of default name attributes ∷ tags) [] ≡ Some n
 plain_within default name attributes tags h k n e =
     ap (λ (o : Option (List ℕ)). option_or o (namespace_of tags [])) (plain_bound default name attributes h) ∙ (elim (cases_Bool (is_xml name.namespace)) as (λ _. option_or (bound_by (map given_as (default_declaration default name)) []) (namespace_of tags []) ≡ Some n) [
       | inl x ↦ (let same : default_within default name ≡ default = rw x refl in rw x (k.plain n (sym same ∙ e)))
       | inr x ↦ (let within : default_within default name ≡ Some name.namespace = rw x refl in
-          let same : name.namespace ≡ n = some_same _ _ (sym within ∙ e) in
+          let same : name.namespace ≡ n = same_Some _ _ (sym within ∙ e) in
           rw x (elim (cases_Bool (is_default default name.namespace)) as (λ _. option_or (bound_by (map given_as (if false || is_default default name.namespace then [] else record { name = record { prefix = []; local = xmlns }; value = name.namespace } ∷ [])) []) (namespace_of tags []) ≡ Some n) [
             | inl d ↦ rw d (k.plain n (is_default_some default name.namespace d ∙ ap (λ (l : List ℕ). Some l) same))
             | inr d ↦ rw d (ap (λ (l : List ℕ). Some l) same)

@@ -2,6 +2,7 @@
 use Rattle.std.proofs.Common.{◌≡◌, ℕ, ◌≤◌, length, true, false, List, [], ◌∷◌, ◌++◌, drop, refl, ap, ap₂, ◌∙◌, Option, None, append_assoc, append-nil}
 use Rattle.std.specs.Prelude.{◌↔◌, codes, encode_utf8, encode_utf8_all}
 use Rattle.std.specs.List.{flat_map}
+use Rattle.std.proofs.lemmas.Str.{encodes-append}
 use Rattle.lexical_core.specs.Tree.{Expanded, Entry, Starts, Ends}
 use Rattle.markup.specs.declared.tag.Spelled.{Spelled}
 use Rattle.markup.specs.declared.tag.Given.{Given}
@@ -14,7 +15,6 @@ use Rattle.markup.specs.Events.{items_of, open_tags, opening, start_items}
 use Rattle.markup.specs.Faults.{rule_of, is_over, start_rule}
 use Rattle.fragments.specs.Plain.{IsPlainName, ArePlainEntries}
 use Rattle.fragments.specs.Fragment.{element_spelling, tag_contents, start_text, end_text}
-use Rattle.respell.proofs.Lists.{encode-append}
 use Rattle.respell.proofs.Runs.{short_text}
 use Rattle.respell.proofs.Names.{name_of}
 use Rattle.respell.proofs.Attributes.{attributes_of}
@@ -39,7 +39,7 @@ tag_bytes : (n a : List ℕ) → encode_utf8_all (codes "<" ++ n ++ a ++ [] ++ c
 unfolding lib.Utf8.encode
 tag_bytes n a =
     let flat : (((n ++ a) ++ []) ++ 62 ∷ []) ≡ n ++ (a ++ 62 ∷ []) = rw (append-nil (n ++ a)) (append_assoc n a (62 ∷ [])) in
-    ap (λ (l : List ℕ). 60 ∷ l) (ap encode_utf8_all flat ∙ (encode-append n (a ++ 62 ∷ []) ∙ ap (λ (l : List ℕ). encode_utf8_all n ++ l) (encode-append a (62 ∷ []))))
+    ap (λ (l : List ℕ). 60 ∷ l) (ap encode_utf8_all flat ∙ (encodes-append n (a ++ 62 ∷ []) ∙ ap (λ (l : List ℕ). encode_utf8_all n ++ l) (encodes-append a (62 ∷ []))))
 
 pub start_of : (before : List Token) (tags : List Opening) (default : Option (List ℕ)) (name : Expanded) (attributes : List Entry)
     → in_cdata before ≡ false → open_tags before ≡ tags → is_over before ≡ false → Knows tags default → IsPlainName name → ArePlainEntries attributes → HasStart before default name attributes
@@ -75,7 +75,7 @@ end_bytes : (n : List ℕ) → encode_utf8_all (codes "</" ++ n ++ [] ++ codes "
 unfolding lib.Utf8.encode
 end_bytes n =
     let flat : ((n ++ []) ++ 62 ∷ []) ≡ n ++ 62 ∷ [] = rw (append-nil n) refl in
-    ap (λ (l : List ℕ). 60 ∷ 47 ∷ l) (ap encode_utf8_all flat ∙ encode-append n (62 ∷ []))
+    ap (λ (l : List ℕ). 60 ∷ 47 ∷ l) (ap encode_utf8_all flat ∙ encodes-append n (62 ∷ []))
 
 pub end_of : (before : List Token) (tags : List Opening) (default : Option (List ℕ)) (name : Expanded) (attributes : List Entry)
     → in_cdata before ≡ false → open_tags before ≡ opening_of default name attributes ∷ tags → Knows tags default → IsPlainName name → ArePlainEntries attributes → HasEnd before tags name

@@ -4,14 +4,14 @@ use Rattle.std.specs.Prelude.{encode_utf8, encode_utf8_all, codes}
 use Rattle.std.specs.List.{flat_map, list_all, AllByRecursion}
 use Rattle.std.proofs.lemmas.Bool.{cases_lt, cases_Bool, and_from}
 use Rattle.std.proofs.lemmas.Bool.Decides.{nat_tests}
-use Rattle.std.proofs.lemmas.Str.{encode_ascii, inside_one}
+use Rattle.std.proofs.lemmas.Str.{encode_ascii, inside_one, encodes-append}
 use Rattle.lexical_core.specs.Characters.{IsXmlChar, IsXmlText}
 use Rattle.markup.specs.Chars.{is_xml_char, is_space}
 use Rattle.markup.specs.Reference.{Named, Numbered, Ampersand, Less, Greater, Quote}
 use Rattle.markup.specs.Attribute.{ValuePiece, Literal, Refers, is_piece, piece_text, value_chars}
 use Rattle.markup.proofs.CharLemmas.{classes}
 use Rattle.fragments.specs.Fragment.{value_byte}
-use Rattle.respell.proofs.Lists.{encode-append, flat_map-append}
+use Rattle.respell.proofs.Lists.{flat_map-append}
 
 -- the piece that spells a character
 abbrev pub piece_for : ℕ → ValuePiece
@@ -142,7 +142,7 @@ pieces_of (c ∷ chars) h =
     let s = spells_char c ((classes.xml c).1 h.0) in let r = pieces_of chars h.1 in record {
       pieces = piece_for c ∷ r.pieces;
       are = and_from _ _ s.is r.are;
-      spelled = encode-append (piece_text (piece_for c)) (flat_map piece_text r.pieces) ∙ (ap₂ (λ (x y : List ℕ). x ++ y) s.bytes r.spelled ∙ sym (flat_map-append value_byte (encode_utf8 c) (encode_utf8_all chars)));
+      spelled = encodes-append (piece_text (piece_for c)) (flat_map piece_text r.pieces) ∙ (ap₂ (λ (x y : List ℕ). x ++ y) s.bytes r.spelled ∙ sym (flat_map-append value_byte (encode_utf8 c) (encode_utf8_all chars)));
       gives = s.gives r.pieces ∙ ap (λ (l : List ℕ). c ∷ l) r.gives;
     }
 

@@ -1,13 +1,13 @@
 //! What no contract says: that there is memory for codes, and how records read that other programs write.
 ghost use Rattle.std.specs.Prelude.{◌<◌, IfOk, All};
-ghost use Rattle.lexical_core.specs.Characters.{IsXmlText};
 ghost use Rattle.repo_objects.specs.Objects.{HasCodeTexts, HasObjectTexts};
 ghost use Rattle.code_sets.specs.CodesErrors.{AreCodes};
 
+use crate::made::{object_of, text_of};
 use code_sets::{CodeLists, CodesError, join, pull_codes, read_codes};
-use lexical_core::{Text, is_xml_text};
+use lexical_core::Text;
 use outside::MemSource;
-use repo_objects::{CodeDef, CodeDefs, Elements, Kinds, Object, ObjectKind, RawFacets, Repository};
+use repo_objects::{CodeDef, CodeDefs, Kinds, Object, ObjectKind, Repository};
 use std::alloc::Global;
 use std::test::Fail;
 
@@ -57,43 +57,6 @@ fn faults_of_records_are_told(rt: HostRuntime) {
         };
         assert!(rt; read_codes(rt.alloc(), bytes).err() == Some(fault));
     }
-}
-
-fn text_of(alloc: Global, word: &str) -> Result<Text, Fail>
-    ensures { IfOk result IsXmlText }
-{
-    let mut text = Text::new(alloc);
-    text.extend(word.as_bytes())?;
-    if !is_xml_text(text.bytes()) {
-        return Err("no text of XML".into());
-    }
-    Ok(text)
-}
-
-fn object_of(alloc: Global, name: &str, kind: ObjectKind) -> Result<Object, Fail>
-    ensures { IfOk result HasObjectTexts }
-{
-    Ok(Object {
-        name: text_of(alloc, name)?,
-        kind,
-        word: Text::new(alloc),
-        facets: RawFacets {
-            min_length: None,
-            max_length: None,
-            length: None,
-            total: None,
-            fraction: None,
-            min_in: None,
-            min_ex: None,
-            max_in: None,
-            max_ex: None,
-            pattern: None,
-        },
-        elements: Elements::new(alloc),
-        codes: CodeDefs::new(alloc),
-        trace: None,
-        currency: None,
-    })
 }
 
 fn one_code(alloc: Global, name: &str) -> Result<CodeDefs, Fail>

@@ -2,7 +2,8 @@
 //! mean what the standards' own examples say, and that calls which may want memory succeed where there is some.
 //!
 //! They stand in a crate of their own, since a check of tests proves their crate anew. A file is called after the crate
-//! that it is about. Those of what stands higher are in `engine_tests`, and what the program shows as a whole is in `cases/`.
+//! that it is about; `made` has what several of them make. Those of what stands higher are in `engine_tests`, and what the
+//! program shows as a whole is in `cases/`.
 #![tactic(auto)]
 
 #[cfg(test)]
@@ -15,6 +16,8 @@ mod facets_tests;
 mod inst_pool_tests;
 #[cfg(test)]
 mod lexical_core_tests;
+#[cfg(test)]
+mod made;
 #[cfg(test)]
 mod markup_tests;
 #[cfg(test)]

@@ -1,9 +1,9 @@
 //! What no contract says: that there is memory for a compiled message; and examples of rules and look-ups.
 ghost use Rattle.std.specs.Prelude.{IfOk};
-ghost use Rattle.lexical_core.specs.Characters.{IsXmlText};
 ghost use Rattle.repo_objects.specs.Objects.{HasObjectTexts, HasMessageTexts, HasElementTexts};
 
-use lexical_core::{Text, is_xml_text};
+use crate::made::text_of;
+use lexical_core::Text;
 use message_model::{End, Model, Next, ReadyError};
 use repo_objects::{
     CodeDefs, ElementDef, Elements, Kinds, MessageDef, MessageId, Object, ObjectKind, RawFacets,
@@ -15,17 +15,6 @@ use std::test::Fail;
 
 /// The identifier of the message.
 const ID: &str = "note.001.001.01";
-
-fn text_of(alloc: Global, word: &str) -> Result<Text, Fail>
-    ensures { IfOk result IsXmlText }
-{
-    let mut text = Text::new(alloc);
-    text.extend(word.as_bytes())?;
-    if !is_xml_text(text.bytes()) {
-        return Err("no text of XML".into());
-    }
-    Ok(text)
-}
 
 /// A text of these lengths and this pattern.
 fn text_type(alloc: Global, least: u32, most: u32, pattern: &str) -> Result<Object, Fail>

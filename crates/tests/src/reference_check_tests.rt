@@ -3,14 +3,12 @@
 mod code_texts;
 
 ghost use Rattle.std.specs.Prelude.{IfOk, All};
-ghost use Rattle.lexical_core.specs.Characters.{IsXmlText};
-ghost use Rattle.repo_objects.specs.Objects.{HasElementTexts, HasObjectTexts, HasMessageTexts, IsXmlTextIfAny};
+ghost use Rattle.repo_objects.specs.Objects.{HasElementTexts, HasObjectTexts, HasMessageTexts};
 
-use lexical_core::{Text, is_xml_text};
+use crate::made::{object_of, text_if_any, text_of};
 use reference_check::{Reach, ReadyError, reach};
 use repo_objects::{
-    CodeDefs, ElementDef, Elements, Kinds, MessageDef, MessageId, Object, ObjectKind, RawFacets,
-    Repository,
+    ElementDef, Elements, Kinds, MessageDef, MessageId, Object, ObjectKind, Repository,
 };
 use std::alloc::Global;
 use std::test::Fail;
@@ -144,26 +142,6 @@ static ROWS: [Row; 13] = [
     ),
 ];
 
-fn text_of(alloc: Global, word: &str) -> Result<Text, Fail>
-    ensures { IfOk result IsXmlText }
-{
-    let mut text = Text::new(alloc);
-    text.extend(word.as_bytes())?;
-    if !is_xml_text(text.bytes()) {
-        return Err("no text of XML".into());
-    }
-    Ok(text)
-}
-
-fn text_if_any(alloc: Global, word: &str) -> Result<Option<Text>, Fail>
-    ensures { IfOk result IsXmlTextIfAny }
-{
-    if word.is_empty() {
-        return Ok(None);
-    }
-    Ok(Some(text_of(alloc, word)?))
-}
-
 fn element_of(alloc: Global, part: &Part) -> Result<ElementDef, Fail>
     ensures { IfOk result HasElementTexts }
 {
@@ -188,30 +166,13 @@ fn elements_of(alloc: Global, parts: &[Part]) -> Result<Elements, Fail>
     Ok(elements)
 }
 
-fn object_of(alloc: Global, entry: &Entry) -> Result<Object, Fail>
+fn entry_of(alloc: Global, entry: &Entry) -> Result<Object, Fail>
     ensures { IfOk result HasObjectTexts }
 {
-    Ok(Object {
-        name: text_of(alloc, "Thing")?,
-        kind: entry.1,
-        word: Text::new(alloc),
-        facets: RawFacets {
-            min_length: None,
-            max_length: None,
-            length: None,
-            total: None,
-            fraction: None,
-            min_in: None,
-            min_ex: None,
-            max_in: None,
-            max_ex: None,
-            pattern: None,
-        },
-        elements: elements_of(alloc, entry.3)?,
-        codes: CodeDefs::new(alloc),
-        trace: None,
-        currency: text_if_any(alloc, entry.2)?,
-    })
+    let mut object = object_of(alloc, "Thing", entry.1)?;
+    object.elements = elements_of(alloc, entry.3)?;
+    object.currency = text_if_any(alloc, entry.2)?;
+    Ok(object)
 }
 
 fn message_of(alloc: Global, id: &str, blocks: &[Part]) -> Result<MessageDef, Fail>
@@ -227,7 +188,7 @@ fn message_of(alloc: Global, id: &str, blocks: &[Part]) -> Result<MessageDef, Fa
 
 fn fill(alloc: Global, row: &Row, repository: &mut Repository) -> Result<(), Fail> {
     for entry in row.2 {
-        repository.add_object(text_of(alloc, entry.0)?, object_of(alloc, entry)?)?;
+        repository.add_object(text_of(alloc, entry.0)?, entry_of(alloc, entry)?)?;
     }
     for id in row.0 {
         repository.add_message(message_of(alloc, id, row.1)?)?;

@@ -1,26 +1,15 @@
 //! What no contract says: that there is memory for a repository, and which words are identifiers.
 ghost use Rattle.std.specs.Prelude.{IfOk};
-ghost use Rattle.lexical_core.specs.Characters.{IsXmlText};
 ghost use Rattle.repo_objects.specs.Objects.{HasObjectTexts, HasMessageTexts};
 
-use lexical_core::{Text, is_xml_text};
+use crate::made::text_of;
+use lexical_core::Text;
 use repo_objects::{
     AddError, CodeDefs, Elements, Kinds, MessageDef, MessageId, Object, ObjectKind, RawFacets,
     Repository,
 };
 use std::alloc::Global;
 use std::test::Fail;
-
-fn text_of(alloc: Global, word: &str) -> Result<Text, Fail>
-    ensures { IfOk result IsXmlText }
-{
-    let mut text = Text::new(alloc);
-    text.extend(word.as_bytes())?;
-    if !is_xml_text(text.bytes()) {
-        return Err("no text of XML".into());
-    }
-    Ok(text)
-}
 
 fn object_of(alloc: Global, name: &str) -> Result<Object, Fail>
     ensures { IfOk result HasObjectTexts }

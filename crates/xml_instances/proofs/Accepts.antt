@@ -24,8 +24,8 @@ use Rattle.reference_check.specs.Forms as form
 use Rattle.reference_check.specs.Words.{IsWordOf, times}
 use Rattle.reference_check.specs.Steps.{EndOfSlots, Slotted, Fine, OutOfOrder, TooMany, Second, Lacks, NoAlternative, next, next_of, find_slot, end_after, has_room, first_lacking, after_order, CameAfter, Came}
 use Rattle.message_model.specs.Admits.{AdmitsAs, AdmitsChildren, FitsCode, numbers_of}
-use Rattle.message_model.specs.Writes.{name_in_namespace, IsHint, IsHintOrCurrency, currency, value_of, SpellsCode, WritesAttributes, text_nodes, IsBlank, Wraps, MayHold, WritesContent, WritesLeaf}
-use Rattle.lexical_core.specs.Names.{same_name}
+use Rattle.message_model.specs.Writes.{name_in_namespace, IsHint, IsHintOrCurrency, currency, SpellsCode, WritesAttributes, text_nodes, IsBlank, Wraps, MayHold, WritesContent, WritesLeaf}
+use Rattle.lexical_core.specs.Names.{same_name, attribute_value}
 use Rattle.message_model.specs.Message.{Message}
 use Rattle.xml_instances.specs.SpellsXml.{IsInstance}
 use Rattle.xml_instances.specs.Levels.{Level, Parent, Leaf, Envelope, Foreign, begun_level, path_in, form_of_start, round_start}
@@ -243,10 +243,10 @@ module _ {P : Type 0} (m : Message P)
   tree_written f t nodes h = h
 
   currency_known : (c : P) (s : Simple) (attributes : List Entry) (path : List ℕ) → AttributeFault m (Some (form.Money c s)) attributes path None
-      → AllByRecursion IsHintOrCurrency attributes × ((w : List ℕ) × (l : leaf.Leaf) × (value_of currency attributes ≡ Some w) × SpellsCode (m.forms c) (chars w) l)
+      → AllByRecursion IsHintOrCurrency attributes × ((w : List ℕ) × (l : leaf.Leaf) × (attribute_value currency attributes ≡ Some w) × SpellsCode (m.forms c) (chars w) l)
   currency_known c s attributes path known =
       let r : (unknown_fault (form.Money c s) attributes path ≡ None) × RequiredFault m (form.Money c s) attributes path None = unless_in _ (RequiredFault m (form.Money c s) attributes path) known in
-      (money_in c s attributes (if_in _ _ r.0), currency_in (m.forms c) (value_of currency attributes) (path ++ codes "/@Ccy") r.1)
+      (money_in c s attributes (if_in _ _ r.0), currency_in (m.forms c) (attribute_value currency attributes) (path ++ codes "/@Ccy") r.1)
 
   element_in : (nodes : Nodes) (p : P) (f : Form P Simple) (attributes : List Entry) (path : List ℕ) (n : Expanded) (above : List (Level P)) (rest : List Item) → ArePlain nodes → ChildrenIn nodes → m.forms p ≡ f
       → AttributeFault m (Some f) attributes path None → AreFine m (begun_level f ∷ above) (flat_nodes nodes ++ (Ends n ∷ rest)) → ElementOf f attributes nodes above rest
@@ -270,14 +270,14 @@ module _ {P : Type 0} (m : Message P)
       number_of : (u : List ℕ) (i : leaf.Leaf) (k : Number) → i ≡ leaf.Number k → GivesLeaf s u i → GivesLeaf s u (leaf.Number k)
       number_of u i k same gives = subst (λ (x : leaf.Leaf). GivesLeaf s u x) same gives
 
-      of_number : (w : List ℕ) (l : leaf.Leaf) → (value_of currency attributes ≡ Some w) → SpellsCode (m.forms c) (chars w) l → (u : List ℕ) (i : leaf.Leaf) (k : Number) → i ≡ leaf.Number k → nodes ≡ text_nodes u → GivesLeaf s u i → AreFine m above rest → ElementOf (form.Money c s) attributes nodes above rest
+      of_number : (w : List ℕ) (l : leaf.Leaf) → (attribute_value currency attributes ≡ Some w) → SpellsCode (m.forms c) (chars w) l → (u : List ℕ) (i : leaf.Leaf) (k : Number) → i ≡ leaf.Number k → nodes ≡ text_nodes u → GivesLeaf s u i → AreFine m above rest → ElementOf (form.Money c s) attributes nodes above rest
       of_number w l found spelled u i k same e gives fine =
           (value.Amount l k, (fits_code (m.forms c) (chars w) l spelled, fits s u (leaf.Number k) (number_of u i k same gives)), (w, (found, (currency_known c s attributes path known).0), spelled), tt, amount_written (form.Money c s) l k nodes (u, e, number_of u i k same gives), fine)
 
       number_at : (u : List ℕ) (i : leaf.Leaf) → GivesLeaf s u i → (k : Number) × (i ≡ leaf.Number k)
       number_at u i gives = number_by s.kind s.codes u i (decimal p c s at) gives.spelled
 
-      of_amount : ((w : List ℕ) × (l : leaf.Leaf) × (value_of currency attributes ≡ Some w) × SpellsCode (m.forms c) (chars w) l) → TextOf s [] nodes above rest → ElementOf (form.Money c s) attributes nodes above rest
+      of_amount : ((w : List ℕ) × (l : leaf.Leaf) × (attribute_value currency attributes ≡ Some w) × SpellsCode (m.forms c) (chars w) l) → TextOf s [] nodes above rest → ElementOf (form.Money c s) attributes nodes above rest
       of_amount (w, l, found, spelled) (u, e, (i, gives), fine) =
           of_number w l found spelled u i (number_at u i gives).0 (number_at u i gives).1 e gives fine
   element_in nodes p form.Envelope attributes path n above rest plain children at known h = of_wraps (wraps_in nodes n above rest plain h)

@@ -6,6 +6,7 @@ use Rattle.std.proofs.lemmas.List.{reverse-append}
 use Rattle.lexical_core.specs.declared.rule.Rule.{Rule}
 use Rattle.lexical_core.specs.declared.rule.Rule.TheVariants as rule
 use Rattle.lexical_core.specs.Tree.{Expanded, Entry, Starts, Char, Ends}
+use Rattle.lexical_core.specs.Names.{attribute_value}
 use Rattle.facets.specs.declared.simple.Simple.{Simple}
 use Rattle.xml_instances.specs.declared.judge.Judge.{Judge}
 use Rattle.xml_instances.specs.Judges.{HasJudgeTaken, IsJudgeMadeFor}
@@ -16,7 +17,7 @@ use Rattle.message_model.specs.Views.{IsFormOf}
 use Rattle.message_model.specs.declared.model.Form.{Form as ToldForm}
 use Rattle.message_model.specs.declared.model.Form.TheVariants as told_form
 use Rattle.reference_check.specs.Steps.{NextSlot, Slotted, next, Came, EndsWith}
-use Rattle.message_model.specs.Writes.{name_in_namespace, value_of, currency}
+use Rattle.message_model.specs.Writes.{name_in_namespace, currency}
 use Rattle.message_model.specs.Sound.{count_with}
 use Rattle.std.specs.Str.{bytes_eq, chars}
 use Rattle.markup.specs.Chars.{is_space}
@@ -348,13 +349,13 @@ unknown_said T m f attributes path money (Breaks q p) e h told = (let k : has_un
 unknown_said T m f attributes path money Memory e h told = tt
 
 pub money_said : {T : Type 0} (m : Message ℕ) (f : Form ℕ Simple) (code : ℕ) (number : Simple) (attributes : List Entry) (path : List ℕ) (money : Bool) (r : Result T Refusal) → f ≡ form.Money code number → money ≡ has_currency f → has_unknown money attributes ≡ false
-    → Says (CurrencyFault (m.forms code) (value_of currency attributes) (path ++ codes "/@Ccy")) r → Says (AttributeFault m (Some f) attributes path) r
+    → Says (CurrencyFault (m.forms code) (attribute_value currency attributes) (path ++ codes "/@Ccy")) r → Says (AttributeFault m (Some f) attributes path) r
 money_said {T} m f code number attributes path money r is e h told = subst (λ (g : Form ℕ Simple). Says (AttributeFault m (Some g) attributes path) r) (sym is) (go r told)
   where
     known : has_unknown true attributes ≡ false
     known = ap (λ b. has_unknown b attributes) (sym (e ∙ ap has_currency is)) ∙ h
 
-    go : (r : Result T Refusal) → Says (CurrencyFault (m.forms code) (value_of currency attributes) (path ++ codes "/@Ccy")) r → Says (AttributeFault m (Some (form.Money code number)) attributes path) r
+    go : (r : Result T Refusal) → Says (CurrencyFault (m.forms code) (attribute_value currency attributes) (path ++ codes "/@Ccy")) r → Says (AttributeFault m (Some (form.Money code number)) attributes path) r
     go (Ok x) t = rw known t
     go (Err (Breaks q p)) t = rw known t
     go (Err Memory) t = tt

@@ -2,8 +2,10 @@
 use Rattle.std.proofs.Common.{◌≡◌, ℕ, Bool, true, List, [], ◌∷◌, ◌++◌, Option, Some, None, refl, sym, ap, ◌∙◌, subst, append_assoc, append-nil}
 use Rattle.std.specs.Prelude.{Result, Ok, Err, OnOk, map}
 use Rattle.std.specs.Str.{bytes_eq, chars}
+use Rattle.std.proofs.lemmas.Result.{on_ok_weaker}
 use Rattle.lexical_core.specs.Tree.{Expanded, Entry, Item, Starts, Char, Ends}
 use Rattle.lexical_core.specs.declared.rule.Rule.{Rule}
+use Rattle.lexical_core.specs.Names.{attribute_value}
 use Rattle.facets.specs.LeafUnder.{GivesLeaf}
 use Rattle.facets.specs.declared.simple.Simple.{Simple}
 use Rattle.reference_check.specs.Forms.{Graph, Form, text_type}
@@ -11,7 +13,7 @@ use Rattle.reference_check.specs.Forms as form
 use Rattle.reference_check.specs.Steps.{next}
 use Rattle.message_model.specs.Message.{Message}
 use Rattle.message_model.specs.Tables.{Tables, message_of, types_of}
-use Rattle.message_model.specs.Writes.{name_in_namespace, currency, value_of, SpellsCode}
+use Rattle.message_model.specs.Writes.{name_in_namespace, currency, SpellsCode}
 use Rattle.markup.specs.EventItems.{entry_of}
 use Rattle.markup.specs.PlainTags.{tag_items}
 use Rattle.markup.specs.declared.plain_tag.TagKind.{TagKind}
@@ -61,10 +63,6 @@ go_still a b e = subst (λ (x : Option PiecesKept). GoOn a x (λ s t. t ≡ s)) 
     same None = tt
     same (Some p) = λ s h. (s, refl, h)
 
-pub on_ok : {T E : Type 0} {P Q : Type 0} (r : Result T E) → (P → Q) → OnOk r P → OnOk r Q
-on_ok (Ok x) f h = f h
-on_ok (Err e) f h = tt
-
 -- ---- the end of an element
 
 pub text_leaf : {T E : Type 0} (m : Message ℕ) (text : Option OpenText) (o : Option Opened) (e : Opened) (l : Level ℕ) (r : Result T E) (a b : Option PiecesKept) → o ≡ Some opened.Text → o ≡ Some e → StandsFor m text e l
@@ -78,7 +76,7 @@ text_leaf {T} {E} m text o e l r a b is same h k = go l (subst (λ (x : Opened).
     go Foreign h = absurd h
 
 pub text_shown : {T E : Type 0} (simple other : Simple) (text : List ℕ) (rule : Option Rule) (r : Result T E) (a b : Option PiecesKept) → other ≡ simple → OnOk r (rule ≡ None) → (rule ≡ None → GoOn a b (TextShown other text)) → OnOk r (GoOn a b (TextShown simple text))
-text_shown simple other text rule r a b same ok shown = on_ok r (λ none. subst (λ (x : Simple). GoOn a b (TextShown x text)) same (shown none)) ok
+text_shown simple other text rule r a b same ok shown = on_ok_weaker r (λ none. subst (λ (x : Simple). GoOn a b (TextShown x text)) same (shown none)) ok
 
 pub end_shown : (T : Tables) (ls : List (Level ℕ)) (n : Expanded) (o : Option Opened) (text : Option OpenText) (round : List Opened) (a b : Option PiecesKept) → StandsOpen (message_of T) text o round ls
     → (o ≡ None → b ≡ a) → ((l : Level ℕ) (e : Opened) → o ≡ Some e → StandsFor (message_of T) text e l → GoOn a b (EndShown l)) → GoOn a b (ShowsBeside T ls (Ends n))
@@ -91,7 +89,7 @@ end_shown T (l ∷ ls) n (Some e) text round a b h out ends = ends l e refl h.0
 
 pub start_shown : {T E : Type 0} (tables : Tables) (ls : List (Level ℕ)) (n : Expanded) (attributes : List Entry) (type : Option ℕ) (a b c : Option PiecesKept) (r : Result T E) → form_of_start (message_of tables) ls n ≡ form_at (message_of tables) type
     → GoOn a b (StartShown ls n.local) → OnOk r (GoOn b c (CodeShown tables (form_at (message_of tables) type) attributes)) → OnOk r (GoOn a c (ShowsBeside tables ls (Starts n attributes)))
-start_shown tables ls n attributes type a b c r is first = on_ok r (λ then_.
+start_shown tables ls n attributes type a b c r is first = on_ok_weaker r (λ then_.
     go_then {Q = ShowsBeside tables ls (Starts n attributes)} {R = StartShown ls n.local} {S = CodeShown tables (form_at (message_of tables) type) attributes} a b c
     (λ s u t x y. (u, x, subst (λ (f : Option (Form ℕ Simple)). CodeShown tables f attributes u t) (sym is) y)) first then_)
 
@@ -102,9 +100,9 @@ start_shown_at tables ls a b r ns space local tag attrs more e f g h =
     (subst (λ (x : List ℕ). OnOk r (GoOn a b (ShowsBeside tables ls (Starts (name_in_namespace ns x) (map entry_of more))))) f
     (subst (λ (x : List Attr). OnOk r (GoOn a b (ShowsBeside tables ls (Starts (name_in_namespace ns local) (map entry_of x))))) g h))
 
-pub currency_shown : {T E : Type 0} (f : Form ℕ Simple) (simple : Simple) (value : List ℕ) (attributes : List Entry) (rule : Option Rule) (r : Result T E) (a b : Option PiecesKept) → IsCodeForm f → Some simple ≡ text_type f → Some value ≡ value_of currency attributes
+pub currency_shown : {T E : Type 0} (f : Form ℕ Simple) (simple : Simple) (value : List ℕ) (attributes : List Entry) (rule : Option Rule) (r : Result T E) (a b : Option PiecesKept) → IsCodeForm f → Some simple ≡ text_type f → Some value ≡ attribute_value currency attributes
     → OnOk r (rule ≡ None) → (rule ≡ None → GoOn a b (TextShown simple (chars value))) → OnOk r (GoOn a b (CurrencyShown f attributes))
-currency_shown f simple value attributes rule r a b (s, code) e found ok shown = on_ok r (λ none.
+currency_shown f simple value attributes rule r a b (s, code) e found ok shown = on_ok_weaker r (λ none.
     go_as {R = TextShown simple (chars value)} {S = CurrencyShown f attributes} a b
     (λ x y (l, gives, is). (value, l, sym found, subst (λ (g : Form ℕ Simple). SpellsCode g (chars value) l) (sym code) (subst (λ (z : Simple). GivesLeaf z (chars value) l) same gives), is)) (shown none)) ok
   where

@@ -14,8 +14,8 @@ use Rattle.reference_check.specs.Forms.{Form}
 use Rattle.reference_check.specs.Forms as form
 use Rattle.reference_check.specs.Steps as step
 use Rattle.reference_check.specs.Steps.{NextSlot, EndOfSlots, next, end_after}
-use Rattle.message_model.specs.Writes.{name_in_namespace, currency, value_of}
-use Rattle.lexical_core.specs.Names.{same_name}
+use Rattle.message_model.specs.Writes.{name_in_namespace, currency}
+use Rattle.lexical_core.specs.Names.{same_name, attribute_value}
 use Rattle.message_model.specs.Message.{Message}
 use Rattle.xml_instances.specs.Levels.{Level, Parent, Leaf, Envelope, Foreign, form_of_start, round_start, path_in}
 use Rattle.xml_instances.specs.EventFaults.{Broken, broken_rule, Unless, next_fault, place_fault, is_known, LeafFault, CodeFault, CurrencyFault, RequiredFault, unknown_fault, AttributeFault, end_fault, EndFault, is_bare, space_fault, char_fault, EventFault}
@@ -78,7 +78,7 @@ module _ {P : Type 0} where
   currency_no_cut f (Some value) path o h = code_no_cut f (chars value) path o h
 
   required_no_cut : (m : Message P) (f : Form P Simple) (attributes : List Entry) (path : List ℕ) (o : Option Broken) → RequiredFault m f attributes path o → NoCut o
-  required_no_cut m (form.Money code number) attributes path o h = currency_no_cut (m.forms code) (value_of currency attributes) (path ++ codes "/@Ccy") o h
+  required_no_cut m (form.Money code number) attributes path o h = currency_no_cut (m.forms code) (attribute_value currency attributes) (path ++ codes "/@Ccy") o h
   required_no_cut m _ attributes path o h = same_no_cut o None h tt
 
   attribute_no_cut : (m : Message P) (f : Option (Form P Simple)) (attributes : List Entry) (path : List ℕ) (o : Option Broken) → AttributeFault m f attributes path o → NoCut o

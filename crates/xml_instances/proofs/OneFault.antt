@@ -2,8 +2,10 @@
 use Rattle.std.proofs.Common.{◌≡◌, ℕ, ◌+◌, true, false, List, [], ◌∷◌, ◌++◌, Option, Some, None, refl, sym, ap, ◌∙◌, length, reverse, arith, subst, inl, inr, length-append}
 use Rattle.std.specs.List.{flat_map}
 use Rattle.std.specs.Str.{chars}
+use Rattle.std.proofs.lemmas.Option.{same_Some}
 use Rattle.lexical_core.specs.declared.rule.Rule.{Rule}
 use Rattle.lexical_core.specs.Tree.{Item, Entry, Starts, Char, Ends, Skipped}
+use Rattle.lexical_core.specs.Names.{attribute_value}
 use Rattle.facets.specs.declared.simple.Simple.{Simple}
 use Rattle.facets.specs.Rules.{BreaksFirst}
 use Rattle.markup.specs.Token.{Token, token_bytes}
@@ -12,7 +14,7 @@ use Rattle.markup.specs.Events.{items_of}
 use Rattle.markup.specs.Faults.{Next, IsClean, rule_of, is_over}
 use Rattle.reference_check.specs.Forms.{Form}
 use Rattle.reference_check.specs.Forms as form
-use Rattle.message_model.specs.Writes.{currency, value_of}
+use Rattle.message_model.specs.Writes.{currency}
 use Rattle.message_model.specs.Message.{Message}
 use Rattle.xml_instances.specs.Levels.{Level, Parent, Leaf as LeafLevel, Envelope, Foreign, levels_after, levels_over, form_of_start, round_start, path_in}
 use Rattle.xml_instances.specs.EventFaults.{Broken, EventFault, AreFine, FirstFault, Unless, AttributeFault, RequiredFault, CurrencyFault, CodeFault, LeafFault, EndFault, place_fault, unknown_fault}
@@ -43,7 +45,7 @@ module _ {P : Type 0} (m : Message P) (first_rule : (s : Simple) (w : List ℕ) 
   currency_same f (Some w) path o p h k = code_same f (chars w) path o p h k
 
   required_same : (f : Form P Simple) (a : List Entry) (path : List ℕ) (o p : Option Broken) → RequiredFault m f a path o → RequiredFault m f a path p → o ≡ p
-  required_same (form.Money c s) a path o p h k = currency_same (m.forms c) (value_of currency a) _ o p h k
+  required_same (form.Money c s) a path o p h k = currency_same (m.forms c) (attribute_value currency a) _ o p h k
   required_same _ a path o p h k = h ∙ sym k
 
   unless_same : (first : Option Broken) (Other : Option Broken → Type 0) (o p : Option Broken) → (Other o → Other p → o ≡ p) → Unless first Other o → Unless first Other p → o ≡ p
@@ -71,12 +73,9 @@ module _ {P : Type 0} (m : Message P) (first_rule : (s : Simple) (w : List ℕ) 
   event_same (l ∷ ls) (Ends n) o p h k = end_same l (path_in ls) o p h k
   event_same (l ∷ ls) Skipped o p h k = h ∙ sym k
 
-  some_same : (b c : Broken) → ◌≡◌ {A = Option Broken} (Some b) (Some c) → b ≡ c
-  some_same b c e = cc
-
   first_same : (ls : List (Level P)) (is : List Item) (b c : Broken) → FirstFault m ls is b → FirstFault m ls is c → b ≡ c
   first_same ls [] b c h k = absurd h
-  first_same ls (i ∷ is) b c (inl h) (inl k) = some_same b c (event_same ls i (Some b) (Some c) h k)
+  first_same ls (i ∷ is) b c (inl h) (inl k) = same_Some b c (event_same ls i (Some b) (Some c) h k)
   first_same ls (i ∷ is) b c (inl h) (inr k) = none_some b (event_same ls i None (Some b) k.0 h)
   first_same ls (i ∷ is) b c (inr h) (inl k) = none_some c (event_same ls i None (Some c) h.0 k)
   first_same ls (i ∷ is) b c (inr h) (inr k) = first_same (levels_after m ls i) is b c h.1 k.1

@@ -2,6 +2,7 @@
 use Rattle.std.proofs.Common.{◌≡◌, ℕ, Bool, true, false, List, [], ◌∷◌, ◌++◌, Option, Some, None, refl, sym, ap, ap₂, ◌∙◌, subst, arith, append-nil}
 use Rattle.std.specs.Prelude.{slice_get, length, reverse, Result, Ok, Err}
 use Rattle.std.specs.Str.{chars}
+use Rattle.std.proofs.lemmas.Option.{same_Some}
 use Rattle.lexical_core.specs.Tree.{Expanded, Entry, Nodes, Element, Text, Tree, Item, TreeIs, flat, tree_items}
 use Rattle.lexical_core.specs.Tree as tree
 use Rattle.lexical_core.specs.Decimals.{Number}
@@ -20,7 +21,7 @@ use Rattle.reference_check.specs.Steps.{find_slot}
 use Rattle.message_model.specs.Admits.{AdmitsAs, AdmitsChildren, FitsCode}
 use Rattle.message_model.specs.Message.{Message}
 use Rattle.message_model.specs.Sound.{AreSound, HaveSortedCodes}
-use Rattle.message_model.specs.Writes.{name_in_namespace, currency, value_of, HasCurrency, SpellsCode, WritesAttributes, text_nodes, SpellsText, Wraps, MayHold, WritesContent, WritesLeaf}
+use Rattle.message_model.specs.Writes.{name_in_namespace, currency, HasCurrency, SpellsCode, WritesAttributes, text_nodes, SpellsText, Wraps, MayHold, WritesContent, WritesLeaf}
 use Rattle.xml_instances.specs.SpellsXml.{SpellsXml, IsInstance}
 use Rattle.xml_instances.specs.XmlFaults.{items}
 use Rattle.lexical_core.proofs.SameTrees.{same_tree}
@@ -34,9 +35,6 @@ ok_same a b e = cc
 
 leaves_same : OneLeaf → (simple : Simple) (text : List ℕ) (a b : Leaf) → HasSortedCodes simple → GivesLeaf simple text a → GivesLeaf simple text b → a ≡ b
 leaves_same one simple text a b sorted h k = ok_same a b (one simple text (Ok a) (Ok b) sorted h k)
-
-some_same : {A : Type 0} (a b : A) → Some a ≡ Some b → a ≡ b
-some_same a b e = cc
 
 texts_same : (a b : List ℕ) → text_nodes a ≡ text_nodes b → a ≡ b
 texts_same [] [] e = refl
@@ -61,7 +59,7 @@ trees_same t u (Element n a c rest) h k = h.0 ∙ sym k.0
 -- a name is that of one slot
 slots_same : (slots : List (Slot ℕ)) (k j : ℕ) (s t : Slot ℕ) → ((i : ℕ) (u : Slot ℕ) → slice_get slots i ≡ Some u → find_slot 0 slots u.tag ≡ Some i)
     → slice_get slots k ≡ Some s → slice_get slots j ≡ Some t → s.tag ≡ t.tag → k ≡ j
-slots_same slots k j s t tags at also e = some_same k j (sym (tags k s at) ∙ (ap (find_slot 0 slots) e ∙ tags j t also))
+slots_same slots k j s t tags at also e = same_Some k j (sym (tags k s at) ∙ (ap (find_slot 0 slots) e ∙ tags j t also))
 
 module _ (one : OneLeaf) (m : Message ℕ) (sound : AreSound m.forms) (sorted : HaveSortedCodes m.forms) where
   code_same : (p : ℕ) (text : List ℕ) (a b : Leaf) → SpellsCode (m.forms p) text a → SpellsCode (m.forms p) text b → a ≡ b
@@ -85,7 +83,7 @@ module _ (one : OneLeaf) (m : Message ℕ) (sound : AreSound m.forms) (sorted : 
       → WritesAttributes m.forms (form.Money code number) (value.Amount l n) attributes → WritesAttributes m.forms (form.Money code number) (value.Amount k o) attributes
       → SpellsText number (leaf.Number n) nodes → SpellsText number (leaf.Number o) nodes → value.Amount l n ≡ value.Amount k o
   money_same code number is_sorted l k n o attributes nodes (v, has, spells) (w, also_has, also_spells) text also_text =
-      let same : v ≡ w = some_same v w (sym has.0 ∙ also_has.0) in
+      let same : v ≡ w = same_Some v w (sym has.0 ∙ also_has.0) in
       let codes_same : l ≡ k = code_same code (chars v) l k spells (subst (λ x. SpellsCode (m.forms code) (chars x) k) (sym same) also_spells) in
       let numbers : n ≡ o = number_same n o (text_same one number (leaf.Number n) (leaf.Number o) nodes is_sorted text also_text) in
       ap₂ (λ (x : Leaf) (y : Number). value.Amount x y) codes_same numbers
@@ -147,11 +145,11 @@ module _ (one : OneLeaf) (m : Message ℕ) (sound : AreSound m.forms) (sorted : 
   children_same f tags (Element n attributes inner rest) Nothing b h k c d = absurd c
   children_same f tags (Element n attributes inner rest) (Child i v more) Nothing h k c d = absurd d
   children_same f tags (Element n attributes inner rest) (Child i v more) (Child j w also) ((s, at, admits), others) ((t, at_also, admits_also), others_also) ((u, is_u, q), content) ((x, is_x, r), content_also) =
-      let s_is : s ≡ u = some_same s u (sym at ∙ is_u) in
-      let t_is : t ≡ x = some_same t x (sym at_also ∙ is_x) in
+      let s_is : s ≡ u = same_Some s u (sym at ∙ is_u) in
+      let t_is : t ≡ x = same_Some t x (sym at_also ∙ is_x) in
       let tags_same : u.tag ≡ x.tag = ap (λ (y : Expanded). y.local) (sym q.0 ∙ r.0) in
       let number : i ≡ j = slots_same (form_slots f) i j u x tags is_u is_x tags_same in
-      let slot : u ≡ x = some_same u x (sym is_u ∙ (ap (slice_get (form_slots f)) number ∙ is_x)) in
+      let slot : u ≡ x = same_Some u x (sym is_u ∙ (ap (slice_get (form_slots f)) number ∙ is_x)) in
       let p = u.target in
       let v_is : v ≡ w = value_same p (m.forms p) refl v w attributes inner (children_same (m.forms p) (let k = sound p in k.tags) inner) (subst (λ (y : Slot ℕ). AdmitsAs m.forms (m.forms y.target) v) s_is admits)
       (subst (λ (y : Slot ℕ). AdmitsAs m.forms (m.forms y.target) w) (t_is ∙ sym slot) admits_also) q.1 (subst (λ (y : Slot ℕ). WritesAttributes m.forms (m.forms y.target) w attributes) (sym slot) r.1)

@@ -6,6 +6,7 @@ use Rattle.std.proofs.lemmas.Slice.Eq.{bytes_eq-Decides}
 use Rattle.lexical_core.specs.Tree.{Expanded, Entry, Nodes, Element, Text, Tree, Item, Starts, Char, Ends, flat, flat_nodes}
 use Rattle.lexical_core.specs.Tree as tree
 use Rattle.lexical_core.specs.Characters.{IsSpace}
+use Rattle.lexical_core.specs.Names.{attribute_value}
 use Rattle.data_types.specs.Leaf as leaf
 use Rattle.markup.specs.Chars.{is_space}
 use Rattle.facets.specs.declared.simple.Simple.{Simple}
@@ -15,7 +16,7 @@ use Rattle.reference_check.specs.Forms as form
 use Rattle.reference_check.specs.Words.{IsWordOf}
 use Rattle.reference_check.specs.Steps.{Fine, next, end_after, CameAfter, Came}
 use Rattle.reference_check.specs.Shapes.{Shape, Component, OpenLeaf, Shapes, Nothing, Child, HasShape, HaveShapes, numbers_in}
-use Rattle.message_model.specs.Writes.{name_in_namespace, currency, value_of, SpellsCode, text_nodes, IsBlank, Wraps, MayHold}
+use Rattle.message_model.specs.Writes.{name_in_namespace, currency, SpellsCode, text_nodes, IsBlank, Wraps, MayHold}
 use Rattle.message_model.specs.Message.{Message}
 use Rattle.xml_instances.specs.Levels.{Level, Parent, Leaf, Envelope, Foreign, begun_level, path_in, form_of_start, round_start}
 use Rattle.xml_instances.specs.EventFaults.{Broken, AttributeFault, RequiredFault, next_fault, unknown_fault, is_bare}
@@ -86,7 +87,7 @@ module _ {P : Type 0} (m : Message P)
   known_in : (f : Form P Simple) (attributes : List Entry) (path : List ℕ) → AttributeFault m (Some f) attributes path None → AreKnown m.forms f attributes
   known_in (form.Money c s) attributes path known =
       let r : (unknown_fault (form.Money c s) attributes path ≡ None) × RequiredFault m (form.Money c s) attributes path None = unless_in _ (RequiredFault m (form.Money c s) attributes path) known in
-      let q : (w : List ℕ) × (l : leaf.Leaf) × (value_of currency attributes ≡ Some w) × SpellsCode (m.forms c) (chars w) l = currency_in (m.forms c) (value_of currency attributes) (path ++ codes "/@Ccy") r.1 in
+      let q : (w : List ℕ) × (l : leaf.Leaf) × (attribute_value currency attributes ≡ Some w) × SpellsCode (m.forms c) (chars w) l = currency_in (m.forms c) (attribute_value currency attributes) (path ++ codes "/@Ccy") r.1 in
       (q.0, q.1, (q.2, money_in c s attributes (if_in _ _ r.0)), q.3)
   known_in (form.Sequence fs) attributes path h = hints_of m (form.Sequence fs) attributes path refl h
   known_in (form.Choice fs) attributes path h = hints_of m (form.Choice fs) attributes path refl h

@@ -1,6 +1,7 @@
 -- Events that are the first of a tree break nothing exactly where they go on to those of an instance.
 use Rattle.std.proofs.Common.{subst, ◌≡◌, ℕ, suc, ◌-◌, Bool, true, false, List, [], ◌∷◌, ◌++◌, Some, None, refl, sym, ap, ◌∙◌, arith, length}
 use Rattle.std.specs.Prelude.{◌↔◌, codes}
+use Rattle.std.proofs.lemmas.List.{nil_from_length}
 use Rattle.lexical_core.specs.Tree.{Expanded, Entry, Nodes, Element, Text, Tree, Item, Starts, Char, Ends, Skipped, tree_items, flat, flat_nodes}
 use Rattle.lexical_core.specs.Tree as tree
 use Rattle.facets.specs.declared.simple.Simple.{Simple}
@@ -111,10 +112,6 @@ module _ {P : Type 0} (m : Message P) (finite : AreFinite m.forms m.root) (stead
           let may : MayFollow m 0 [] (flat t) = root_may m steady 0 t finite.document.0 finite.document.1 (record { name = refl; attributes = λ some. absurd (omega arith); holds = holds; content = content }) in
           open_by items (flat t) fine (subst (λ (x : List (Level P)). MayFollow m 0 x (flat t)) (sym none) may) (goes_on (flat t) (tree_nested t))
 
-  no_length : {A : Type 0} (xs : List A) → length xs ≡ 0 → xs ≡ []
-  no_length [] e = refl
-  no_length (x ∷ xs) e = cc
-
   pub fine_is_open : (items : List Item) → IsTreeFront items → AreFine m [] items → AreEventsOpen m items
   fine_is_open items (behind, t, e) fine = go (splits false [] [] (tree_items 0 items) behind tt refl (subst (λ (x : List Item). Nested false [] x) (sym e) (tree_nested t)))
     where
@@ -126,7 +123,7 @@ module _ {P : Type 0} (m : Message P) (finite : AreFinite m.forms m.root) (stead
 
       go : Splits false [] [] (tree_items 0 items) → AreEventsOpen m items
       go (true, left, b, size, goes_on) = of_completed left goes_on (complete m finite steady goes (levels_over m [] (tree_items 0 items)) left size (over_stands m finite [] (tree_items 0 items) tt here))
-      go (false, [], b, size, goes_on) = open_at_once items here (no_length _ size) goes_on
+      go (false, [], b, size, goes_on) = open_at_once items here (nil_from_length _ size) goes_on
       go (false, n ∷ left, b, size, goes_on) = absurd cc
 
   pub open_is_fine : (items : List Item) → AreEventsOpen m items → AreFine m [] items

@@ -4,6 +4,8 @@ use Rattle.std.specs.Prelude.{slice_get, codes}
 use Rattle.std.specs.Str.{bytes_eq, chars}
 use Rattle.std.proofs.lemmas.List.{length-append}
 use Rattle.std.proofs.lemmas.Slice.Eq.{bytes_eq-Decides}
+use Rattle.std.proofs.lemmas.Bool.{cond-false}
+use Rattle.std.proofs.lemmas.Option.{same_Some}
 use Rattle.lexical_core.specs.Tree.{Expanded, Entry, Nodes, Element, Text, Tree, Item, Starts, Char, Ends, flat, flat_nodes}
 use Rattle.lexical_core.specs.Tree as tree
 use Rattle.lexical_core.specs.Characters.{IsSpace}
@@ -21,7 +23,7 @@ use Rattle.message_model.specs.Message.{Message}
 use Rattle.xml_instances.specs.Levels.{Level, Parent, Leaf, Envelope, Foreign, begun_level, path_in}
 use Rattle.xml_instances.specs.EventFaults.{AttributeFault, CurrencyFault, CodeFault, place_fault, is_bare, space_fault}
 use Rattle.xml_instances.specs.OpenInstances.{AreKnown, TextSoFar, LeafSoFar, ContentSoFar, IsSoFar}
-use Rattle.xml_instances.proofs.Runs.{IsSteady, space_passes, same_names, hints_known, money_known, if_false}
+use Rattle.xml_instances.proofs.Runs.{IsSteady, space_passes, same_names, hints_known, money_known}
 use Rattle.xml_instances.proofs.Following.{MayFollow, unless_both}
 
 pub element_size : (n : Expanded) (a : List Entry) (inner more : Nodes) → length (flat_nodes (Element n a inner more)) ≡ length (flat_nodes inner) + (length (flat_nodes more) + 2)
@@ -41,13 +43,13 @@ currency_passes f (Some u) w path l e h = (let same : w ≡ u = cc in code_passe
 
 module _ {P : Type 0} (m : Message P) (steady : IsSteady m.forms) where
   known_fine : (f : Form P Simple) (attributes : List Entry) (path : List ℕ) → AreKnown m.forms f attributes → AttributeFault m (Some f) attributes path None
-  known_fine (form.Money c s) attributes path (w, l, (found, known), spelled) = unless_both _ _ (if_false _ _ _ (money_known c s attributes known)) (currency_passes (m.forms c) _ w _ l found spelled)
-  known_fine (form.Sequence fs) attributes path h = unless_both _ _ (if_false _ _ _ (hints_known {P = P} (form.Sequence fs) attributes h)) refl
-  known_fine (form.Choice fs) attributes path h = unless_both _ _ (if_false _ _ _ (hints_known {P = P} (form.Choice fs) attributes h)) refl
-  known_fine (form.Simple s) attributes path h = unless_both _ _ (if_false _ _ _ (hints_known {P = P} (form.Simple s) attributes h)) refl
-  known_fine form.Envelope attributes path h = unless_both _ _ (if_false _ _ _ (hints_known {P = P} form.Envelope attributes h)) refl
-  known_fine form.LeftOut attributes path h = unless_both _ _ (if_false _ _ _ (hints_known {P = P} form.LeftOut attributes h)) refl
-  known_fine form.Missing attributes path h = unless_both _ _ (if_false _ _ _ (hints_known {P = P} form.Missing attributes h)) refl
+  known_fine (form.Money c s) attributes path (w, l, (found, known), spelled) = unless_both _ _ (cond-false _ _ _ (money_known c s attributes known)) (currency_passes (m.forms c) _ w _ l found spelled)
+  known_fine (form.Sequence fs) attributes path h = unless_both _ _ (cond-false _ _ _ (hints_known {P = P} (form.Sequence fs) attributes h)) refl
+  known_fine (form.Choice fs) attributes path h = unless_both _ _ (cond-false _ _ _ (hints_known {P = P} (form.Choice fs) attributes h)) refl
+  known_fine (form.Simple s) attributes path h = unless_both _ _ (cond-false _ _ _ (hints_known {P = P} (form.Simple s) attributes h)) refl
+  known_fine form.Envelope attributes path h = unless_both _ _ (cond-false _ _ _ (hints_known {P = P} form.Envelope attributes h)) refl
+  known_fine form.LeftOut attributes path h = unless_both _ _ (cond-false _ _ _ (hints_known {P = P} form.LeftOut attributes h)) refl
+  known_fine form.Missing attributes path h = unless_both _ _ (cond-false _ _ _ (hints_known {P = P} form.Missing attributes h)) refl
 
   slotted_next : (p : P) (f : Form P Simple) (d e : List ℕ) (k : ℕ) (s : Slot P) → m.forms p ≡ f → slice_get (form_slots f) k ≡ Some s → IsWordOf f (d ++ k ∷ e) → next f d s.tag ≡ Slotted k
   slotted_next p f d e k s at = subst (λ (f : Form P Simple). slice_get (form_slots f) k ≡ Some s → IsWordOf f (d ++ k ∷ e) → next f d s.tag ≡ Slotted k) at of_place
@@ -116,9 +118,6 @@ module _ {P : Type 0} (m : Message P) (steady : IsSteady m.forms) where
   leaf_content come f (Text c more) h = h
   leaf_content come f (Element n a inner more) h = h
 
-  some_is : {A : Type 0} (a b : A) → ◌≡◌ {A = Option A} (Some a) (Some b) → a ≡ b
-  some_is a b e = cc
-
   -- the content of an element and its end
   element_may : (come left : ℕ) (nodes : Nodes) (p : P) (f : Form P Simple) (v : Shape) (n : Expanded) (above : List (Level P)) (rest : List Item) → ChildrenMay nodes → m.forms p ≡ f
       → HasShape m.forms f v → MayHold f nodes → ContentSoFar m.forms m.namespace come f v nodes → left ≡ come - (length (flat_nodes nodes) + 1) → MayFollow m left above rest
@@ -158,7 +157,7 @@ module _ {P : Type 0} (m : Message P) (steady : IsSteady m.forms) where
   children_may (Element n attributes inner more) come left p f before ks above rest count at (inr e) word shapes so_far may = absurd cc
   children_may (Element n attributes inner more) come left p f before Nothing above rest count at (inl e) word shapes so_far may = absurd so_far
   children_may (Element n attributes inner more) come left p f before (Child k v ks) above rest count at (inl e) word ((s, found, has), shapes) ((t, found', (name_is, known, holds, content)), so_far) may =
-      let same : t ≡ s = some_is t s (sym found' ∙ found) in
+      let same : t ≡ s = same_Some t s (sym found' ∙ found) in
       let known' : 0 < come → AreKnown m.forms (m.forms s.target) attributes = subst (λ (x : Slot P). 0 < come → AreKnown m.forms (m.forms x.target) attributes) same known in
       rw (append_assoc (flat_nodes inner) (Ends n ∷ flat_nodes more) rest)
       (starts_may come f before k s n attributes above (flat_nodes inner ++ (Ends n ∷ (flat_nodes more ++ rest))) (rw same at name_is) (slotted_next p f before (numbers_in ks) k s at found word) found

@@ -1,10 +1,11 @@
 -- The events of a tree that writes an admitted value break nothing.
-use Rattle.std.proofs.Common.{subst, ◌≡◌, ℕ, Bool, true, false, List, [], ◌∷◌, ◌++◌, Option, Some, None, refl, ap, ◌∙◌, sym, ◌⊎◌, inl, inr, append_assoc, append-nil, cond}
+use Rattle.std.proofs.Common.{subst, ◌≡◌, ℕ, Bool, true, false, List, [], ◌∷◌, ◌++◌, Option, Some, None, refl, ap, ◌∙◌, sym, ◌⊎◌, inl, inr, append_assoc, append-nil}
 use Rattle.std.specs.Prelude.{slice_get, not, ◌||◌, codes}
 use Rattle.std.specs.List.{AllByRecursion, list_any}
 use Rattle.std.specs.Str.{bytes_eq, chars}
-use Rattle.std.proofs.lemmas.Bool.{and_from, or_left, or_right}
+use Rattle.std.proofs.lemmas.Bool.{and_from, or_left, or_right, cond-false}
 use Rattle.std.proofs.lemmas.Slice.Eq.{bytes_eq-Decides}
+use Rattle.std.proofs.lemmas.Option.{same_Some}
 use Rattle.lexical_core.specs.Tree.{Expanded, Entry, Nodes, Element, Text, Tree, Item, Starts, Char, Ends, flat, flat_nodes}
 use Rattle.lexical_core.specs.Tree as tree
 use Rattle.lexical_core.specs.Characters.{IsSpace}
@@ -61,10 +62,6 @@ money_known c s [] h = refl
 money_known c s (a ∷ attributes) (inl e, h) = none_unknown (is_known (form.Money c s) a) _ (or_left _ _ (hint_known a e)) (money_known c s attributes h)
 money_known c s (a ∷ attributes) (inr e, h) = none_unknown (is_known (form.Money c s) a) _ (or_right _ _ (same_names a.name currency e)) (money_known c s attributes h)
 
-pub if_false : (b : Bool) (o p : Option Broken) → b ≡ false → cond b o p ≡ p
-if_false true o p e = cc
-if_false false o p e = refl
-
 code_fine : {P : Type 0} (f : Form P Simple) (text path : List ℕ) (l : leaf.Leaf) → SpellsCode f text l → CodeFault f text path None
 code_fine (form.Simple s) text path l h = (l, h)
 code_fine _ text path l h = absurd h
@@ -81,16 +78,16 @@ module _ {P : Type 0} (m : Message P) (steady : IsSteady m.forms) where
 
   attributes_fine : (f : Form P Simple) (v : Value) (attributes : List Entry) (path : List ℕ) → AdmitsAs m.forms f v → WritesAttributes m.forms f v attributes → AttributeFault m (Some f) attributes path None
   attributes_fine (form.Money c s) (value.Amount l n) attributes path a (w, (found, known), spelled) =
-      unless_none _ _ (if_false _ _ _ (money_known c s attributes known)) (currency_fine (m.forms c) _ w _ l found spelled)
+      unless_none _ _ (cond-false _ _ _ (money_known c s attributes known)) (currency_fine (m.forms c) _ w _ l found spelled)
   attributes_fine (form.Money c s) (value.Component ks) attributes path a h = absurd a
   attributes_fine (form.Money c s) (value.Simple l) attributes path a h = absurd a
   attributes_fine (form.Money c s) (value.External t) attributes path a h = absurd a
-  attributes_fine (form.Sequence fs) v attributes path a h = unless_none _ _ (if_false _ _ _ (hints_known {P = P} (form.Sequence fs) attributes h)) refl
-  attributes_fine (form.Choice fs) v attributes path a h = unless_none _ _ (if_false _ _ _ (hints_known {P = P} (form.Choice fs) attributes h)) refl
-  attributes_fine (form.Simple s) v attributes path a h = unless_none _ _ (if_false _ _ _ (hints_known {P = P} (form.Simple s) attributes h)) refl
-  attributes_fine form.Envelope v attributes path a h = unless_none _ _ (if_false _ _ _ (hints_known {P = P} form.Envelope attributes h)) refl
-  attributes_fine form.LeftOut v attributes path a h = unless_none _ _ (if_false _ _ _ (hints_known {P = P} form.LeftOut attributes h)) refl
-  attributes_fine form.Missing v attributes path a h = unless_none _ _ (if_false _ _ _ (hints_known {P = P} form.Missing attributes h)) refl
+  attributes_fine (form.Sequence fs) v attributes path a h = unless_none _ _ (cond-false _ _ _ (hints_known {P = P} (form.Sequence fs) attributes h)) refl
+  attributes_fine (form.Choice fs) v attributes path a h = unless_none _ _ (cond-false _ _ _ (hints_known {P = P} (form.Choice fs) attributes h)) refl
+  attributes_fine (form.Simple s) v attributes path a h = unless_none _ _ (cond-false _ _ _ (hints_known {P = P} (form.Simple s) attributes h)) refl
+  attributes_fine form.Envelope v attributes path a h = unless_none _ _ (cond-false _ _ _ (hints_known {P = P} form.Envelope attributes h)) refl
+  attributes_fine form.LeftOut v attributes path a h = unless_none _ _ (cond-false _ _ _ (hints_known {P = P} form.LeftOut attributes h)) refl
+  attributes_fine form.Missing v attributes path a h = unless_none _ _ (cond-false _ _ _ (hints_known {P = P} form.Missing attributes h)) refl
 
   pub next_slotted : (p : P) (f : Form P Simple) (d e : List ℕ) (k : ℕ) (s : Slot P) → m.forms p ≡ f → slice_get (form_slots f) k ≡ Some s → IsWordOf f (d ++ k ∷ e) → next f d s.tag ≡ Slotted k
   next_slotted p f d e k s at = subst (λ (f : Form P Simple). slice_get (form_slots f) k ≡ Some s → IsWordOf f (d ++ k ∷ e) → next f d s.tag ≡ Slotted k) at of_place
@@ -154,9 +151,6 @@ module _ {P : Type 0} (m : Message P) (steady : IsSteady m.forms) where
   text_content f Nothing c more h = h
   text_content f (Child k v ks) c more h = h
 
-  some_is : {A : Type 0} (a b : A) → ◌≡◌ {A = Option A} (Some a) (Some b) → a ≡ b
-  some_is a b e = cc
-
   -- the content of an element and its end
   element_fine : (nodes : Nodes) (p : P) (f : Form P Simple) (v : Value) (n : Expanded) (above : List (Level P)) (rest : List Item) → ChildrenFine nodes → m.forms p ≡ f
       → AdmitsAs m.forms f v → MayHold f nodes → WritesContent m.forms m.namespace f v nodes → AreFine m above rest → AreFine m (begun_level f ∷ above) (flat_nodes nodes ++ (Ends n ∷ rest))
@@ -188,7 +182,7 @@ module _ {P : Type 0} (m : Message P) (steady : IsSteady m.forms) where
   children_fine (Element n attributes inner more) p f before ks above rest at (inr e) word admitted written fine = absurd cc
   children_fine (Element n attributes inner more) p f before Nothing above rest at (inl e) word admitted written fine = absurd written
   children_fine (Element n attributes inner more) p f before (Child k v ks) above rest at (inl e) word ((s, found, admits), admitted) ((t, found', (name_is, attributes_are, holds, content)), written) fine =
-      let same : t ≡ s = some_is t s (sym found' ∙ found) in
+      let same : t ≡ s = same_Some t s (sym found' ∙ found) in
       rw (append_assoc (flat_nodes inner) (Ends n ∷ flat_nodes more) rest)
       (starts_fine f before k s n attributes above (flat_nodes inner ++ (Ends n ∷ (flat_nodes more ++ rest))) (rw same at name_is) (next_slotted p f before (numbers_of ks) k s at found word) found
       (attributes_fine (m.forms s.target) v attributes _ admits (subst (λ (x : Slot P). WritesAttributes m.forms (m.forms x.target) v attributes) same attributes_are))

@@ -1,7 +1,8 @@
 -- The events of a tree that writes an admitted value show its pieces.
-use Rattle.std.proofs.Common.{subst, ◌≡◌, ℕ, zero, suc, true, false, arith, length, List, [], ◌∷◌, ◌++◌, Option, Some, refl, sym, ap, ◌∙◌, append_assoc, append-nil}
+use Rattle.std.proofs.Common.{subst, ◌≡◌, ℕ, zero, suc, true, false, arith, length, List, [], ◌∷◌, ◌++◌, Some, refl, sym, ap, ◌∙◌, append_assoc, append-nil}
 use Rattle.std.specs.Prelude.{slice_get, Result, Ok}
 use Rattle.std.specs.Str.{chars}
+use Rattle.std.proofs.lemmas.Option.{same_Some}
 use Rattle.lexical_core.specs.Tree.{Expanded, Entry, Nodes, Element, Text, Tree, Item, Starts, Char, Ends, Skipped, flat, flat_nodes, tree_items}
 use Rattle.lexical_core.specs.Tree as tree
 use Rattle.data_types.specs.Value.{Value, Children, Nothing, Child, Edge, Piece, Begins, Holds, Ends as EndsPiece}
@@ -52,9 +53,6 @@ items_then a b s = ap (λ (is : List Item). shown s.edges is s.pieces) (append_a
 
 one_inside : (item : Item) (s u : Shown) → u ≡ with_inside item s → u ≡ with_items (item ∷ []) s
 one_inside item s u e = e
-
-some_is : {A : Type 0} (a b : A) → ◌≡◌ {A = Option A} (Some a) (Some b) → a ≡ b
-some_is a b e = cc
 
 -- ---- the pieces of a value: the code of an amount comes with the element's start, and what is left before its end
 
@@ -161,7 +159,7 @@ module _ (T : Tables) (steady : IsSteady (types_of T)) (sorted : (p : ℕ) (simp
 
   code_shown : (f : Form ℕ Simple) (v : Value) (attributes : List Entry) (s t : Shown) → AdmitsAs (types_of T) f v → WritesAttributes (types_of T) f v attributes → CodeShown T (Some f) attributes s t → t ≡ with_pieces (code_of v) s
   code_shown (form.Money code number) (value.Amount l k) attributes s t admits (w, (found, known), spelled) (x, b, at, spells, e) =
-      (let same : x ≡ w = some_is x w (sym at ∙ found) in
+      (let same : x ≡ w = same_Some x w (sym at ∙ found) in
       let leaves : b ≡ l = code_one code (types_of T code) (chars w) b l refl (subst (λ (y : List ℕ). SpellsCode (types_of T code) (chars y) b) same spells) spelled in
       e ∙ ap (λ (y : leaf.Leaf). with_leaf y s) leaves)
   code_shown (form.Money code number) (value.Component ks) attributes s t admits written h = absurd admits
@@ -253,7 +251,7 @@ module _ (T : Tables) (steady : IsSteady (types_of T)) (sorted : (p : ℕ) (simp
       (children_shown inner) (λ x y z q. children_shown more n f (before ++ k ∷ []) ks above rest x t at y z (rw append_assoc word) admitted written q)
     where
       same : other ≡ slot
-      same = some_is other slot (sym found' ∙ found)
+      same = same_Some other slot (sym found' ∙ found)
 
       slotted : next f before name.local ≡ Slotted k
       slotted = ap (λ (x : Expanded). next f before x.local) name_is ∙ (ap (λ (x : Slot ℕ). next f before x.tag) same ∙ next_slotted (message_of T) steady n f before (numbers_of ks) k slot at found word)

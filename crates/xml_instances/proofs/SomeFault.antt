@@ -4,6 +4,7 @@ use Rattle.std.specs.Prelude.{slice_get}
 use Rattle.std.specs.Str.{chars}
 use Rattle.lexical_core.specs.declared.rule.Rule.{Rule}
 use Rattle.lexical_core.specs.Tree.{Item, Entry, Expanded, Starts, Char, Ends, Skipped}
+use Rattle.lexical_core.specs.Names.{attribute_value}
 use Rattle.data_types.specs.Leaf.{Leaf}
 use Rattle.facets.specs.declared.simple.Simple.{Simple}
 use Rattle.facets.specs.LeafUnder.{LeafUnder}
@@ -14,7 +15,7 @@ use Rattle.reference_check.specs.Forms.{Form, Slot, form_slots}
 use Rattle.reference_check.specs.Forms as form
 use Rattle.reference_check.specs.Steps.{NextSlot}
 use Rattle.reference_check.specs.Steps as step
-use Rattle.message_model.specs.Writes.{currency, value_of}
+use Rattle.message_model.specs.Writes.{currency}
 use Rattle.message_model.specs.Message.{Message}
 use Rattle.message_model.specs.Sound.{HaveCodes}
 use Rattle.xml_instances.specs.Levels.{Level, Parent, Leaf as LeafLevel, Envelope, Foreign, levels_after, levels_over, form_of_start, form_by, slot_form, round_start, path_in}
@@ -47,7 +48,7 @@ module _ {P : Type 0} (m : Message P) (codes : HaveCodes m.forms) (answers : Has
       some_leaf simple (chars value) path (λ (o, h). lacks (o, subst (λ (x : Form P Simple). CodeFault x (chars value) path o) (sym is) h))
 
   some_required : (p : P) (f : Form P Simple) → m.forms p ≡ f → (attributes : List Entry) (path : List ℕ) → Told (RequiredFault m f attributes path)
-  some_required p (form.Money code number) is attributes path lacks = (let c = codes p code number is in some_currency (m.forms code) c.0 c.1 (value_of currency attributes) _ lacks)
+  some_required p (form.Money code number) is attributes path lacks = (let c = codes p code number is in some_currency (m.forms code) c.0 c.1 (attribute_value currency attributes) _ lacks)
   some_required p (form.Sequence slots) is attributes path lacks = lacks (None, refl)
   some_required p (form.Choice slots) is attributes path lacks = lacks (None, refl)
   some_required p (form.Simple simple) is attributes path lacks = lacks (None, refl)

@@ -2,6 +2,7 @@
 use Rattle.std.specs.Prelude.{◌≡◌, ℕ, List, [], ◌∷◌, ◌++◌, Option, Some, None, slice_get}
 use Rattle.std.specs.Str.{chars}
 use Rattle.lexical_core.specs.Tree.{Entry, Item, Starts, Ends, Skipped, Tree, flat}
+use Rattle.lexical_core.specs.Names.{attribute_value}
 use Rattle.data_types.specs.Leaf as leaf
 use Rattle.data_types.specs.Value.{Edge, Piece, Begins, Holds, Ends as EndsPiece}
 use Rattle.facets.specs.LeafUnder.{GivesLeaf}
@@ -11,7 +12,7 @@ use Rattle.reference_check.specs.Forms.{Form, form_slots}
 use Rattle.reference_check.specs.Forms as form
 use Rattle.reference_check.specs.Steps.{NextSlot, Slotted, next}
 use Rattle.message_model.specs.Tables.{Tables, types_of, message_of, edge_at}
-use Rattle.message_model.specs.Writes.{currency, value_of, SpellsCode}
+use Rattle.message_model.specs.Writes.{currency, SpellsCode}
 use Rattle.xml_instances.specs.Levels.{Level, Parent, Leaf, Envelope, Foreign, levels_after, form_of_start}
 
 -- What events have shown: where the open elements stand, the innermost first (`Document` and elements in an envelope stand at no edge);
@@ -83,7 +84,7 @@ TextShown simple text s t = (l : leaf.Leaf) × GivesLeaf simple text l × (t ≡
 
 -- the currency is shown as the leaf that it spells under the form of a code
 abbrev pub CurrencyShown : Form ℕ Simple → List Entry → Shown → Shown → Type 0
-CurrencyShown f attributes s t = (w : List ℕ) × (l : leaf.Leaf) × (value_of currency attributes ≡ Some w) × SpellsCode f (chars w) l × (t ≡ with_leaf l s)
+CurrencyShown f attributes s t = (w : List ℕ) × (l : leaf.Leaf) × (attribute_value currency attributes ≡ Some w) × SpellsCode f (chars w) l × (t ≡ with_leaf l s)
 
 -- an element with a code, that of an amount, shows it
 abbrev pub CodeShown : Tables → Option (Form ℕ Simple) → List Entry → Shown → Shown → Type 0

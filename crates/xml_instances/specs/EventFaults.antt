@@ -14,8 +14,8 @@ use Rattle.reference_check.specs.Forms.{Form, form_slots}
 use Rattle.reference_check.specs.Forms as form
 use Rattle.reference_check.specs.Steps as step
 use Rattle.reference_check.specs.Steps.{NextSlot, EndOfSlots, next, end_after}
-use Rattle.message_model.specs.Writes.{name_in_namespace, schema_instance, currency, value_of}
-use Rattle.lexical_core.specs.Names.{same_name}
+use Rattle.message_model.specs.Writes.{name_in_namespace, schema_instance, currency}
+use Rattle.lexical_core.specs.Names.{same_name, attribute_value}
 use Rattle.message_model.specs.Message.{Message}
 use Rattle.xml_instances.specs.Levels.{Level, Parent, Leaf, Envelope, Foreign, form_of_start, round_start, levels_after, path_in, slot_tag_text}
 
@@ -80,7 +80,7 @@ CurrencyFault f None path o = o ≡ broken_rule MissingAttribute path
 CurrencyFault f (Some value) path o = CodeFault f (chars value) path o
 
 abbrev pub RequiredFault : {P : Type 0} → Message P → Form P Simple → List Entry → List ℕ → Option Broken → Type 0
-RequiredFault m (form.Money code number) attributes path o = CurrencyFault (m.forms code) (value_of currency attributes) (path ++ codes "/@Ccy") o
+RequiredFault m (form.Money code number) attributes path o = CurrencyFault (m.forms code) (attribute_value currency attributes) (path ++ codes "/@Ccy") o
 RequiredFault m _ attributes path o = o ≡ None
 
 abbrev pub unknown_fault : {P : Type 0} → Form P Simple → List Entry → List ℕ → Option Broken

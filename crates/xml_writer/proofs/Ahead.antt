@@ -1,6 +1,7 @@
 -- What is still to come of the pieces of an instance.
-use Rattle.std.proofs.Common.{◌≡◌, ℕ, zero, suc, ◌+◌, ◌≤◌, List, [], ◌∷◌, ◌++◌, Option, Some, Result, length, refl, ap, sym, subst, ◌∙◌, append_assoc, append-nil, arith, drop}
+use Rattle.std.proofs.Common.{◌≡◌, ℕ, zero, suc, ◌+◌, ◌≤◌, List, [], ◌∷◌, ◌++◌, Option, Some, Result, length, ap, sym, subst, ◌∙◌, append_assoc, append-nil, arith, drop}
 use Rattle.std.specs.Prelude.{slice_get}
+use Rattle.std.proofs.lemmas.List.{drop_all}
 use Rattle.outside.specs.Pushes.{Pushes}
 use Rattle.outside.specs.declared.errors.SinkError.{SinkError}
 use Rattle.outside.proofs.Pushing.{done, stopped, then_push}
@@ -17,12 +18,6 @@ pub from_piece : (pieces : List Piece) (at : ℕ) (p : Piece) → slice_get piec
 from_piece [] at p e = absurd cc
 from_piece (x ∷ pieces) zero p e = let same : x ≡ p = cc in ap (λ y. y ∷ pieces) same
 from_piece (x ∷ pieces) (suc at) p e = (let n : suc at + 1 ≡ suc (at + 1) = omega arith in rw n (from_piece pieces at p e))
-
-drop-past : (pieces : List Piece) (at : ℕ) → length pieces ≤ at → drop at pieces ≡ []
-drop-past [] zero le = refl
-drop-past [] (suc at) le = refl
-drop-past (x ∷ pieces) zero le = absurd (omega (arith, le))
-drop-past (x ∷ pieces) (suc at) le = drop-past pieces at (omega (arith, le))
 
 -- two texts in front of a third one
 moved : (buffer one front left more : List ℕ) → buffer ++ one ≡ front ++ left → buffer ++ (one ++ more) ≡ front ++ (left ++ more)
@@ -79,7 +74,7 @@ module _ {S : Type 0} (held : S → Option (List ℕ)) (faults room : S → ℕ)
         → (bytes : List ℕ) → AreWritten g first pieces bytes → Pushes held faults room old then r bytes
     ends past then r p bytes w =
         let h = ahead bytes w in
-        let none : h.0 ≡ [] = subst (λ ps. AreWritten g innermost ps h.0) (drop-past pieces at past) h.2 in
+        let none : h.0 ≡ [] = subst (λ ps. AreWritten g innermost ps h.0) (drop_all at pieces past) h.2 in
         let whole : bytes ≡ h.1.front ++ buffer = h.1.whole_is ∙ ap (λ t. h.1.front ++ (buffer ++ t)) none ∙ ap (λ t. h.1.front ++ t) (append-nil buffer) in
         subst (λ t. Pushes held faults room old then r t) (sym whole) (then_push held faults room old now then r h.1.front buffer h.1.push p)
 

@@ -5,7 +5,7 @@ use Rattle.std.specs.Int.{is_in_range}
 use Rattle.std.specs.Char.{is_ascii_alphabetic, is_ascii_alphanumeric}
 use Rattle.std.specs.List.{AllByRecursion, list_all}
 use Rattle.std.specs.Option.{option_map}
-use Rattle.std.proofs.lemmas.Bool.{cases_Bool, and_parts, or_cases, leb-true}
+use Rattle.std.proofs.lemmas.Bool.{cases_Bool, and_parts, or_cases}
 use Rattle.std.proofs.lemmas.Bool.Decides.{nat_tests}
 use Rattle.std.proofs.lemmas.List.Elements.{Contains-append_left, Contains-append_right}
 use Rattle.std.proofs.lemmas.Option.{slice_get-map, same_Some}
@@ -40,25 +40,23 @@ use Rattle.repo_objects.specs.MessageId.{IsMessageId}
 use Rattle.xml_writer.specs.SpellingLaw.{HasXmlNames, CompiledSpells}
 use Rattle.xml_writer.proofs.MessageNames.{namespace_visible, visible_xml, visible_literal, not_xml_namespace, not_xmlns_namespace}
 use Rattle.xml_writer.proofs.SpelledDocuments.{canonical_spells}
+use Rattle.markup.proofs.CharLemmas.{range_in}
 
 -- ---- a name of the repository is a name of XML
-
-in_range : (lo hi c : ℕ) → is_in_range lo hi c ≡ true → (lo ≤ c) × (c ≤ hi)
-in_range lo hi c h = (leb-true lo c (and_parts _ _ h).0, leb-true c hi (and_parts _ _ h).1)
 
 is_that : (c n : ℕ) → (c == n) ≡ true → (n ≤ c) × (c ≤ n)
 is_that c n h = (grind (arith, nat_tests, h), grind (arith, nat_tests, h))
 
 letter_starts : (c : ℕ) → is_ascii_alphabetic c ≡ true → IsNameStart c
-letter_starts c h = elim (or_cases (is_in_range 65 90 c) (is_in_range 97 122 c) h) [ inl u ↦ inl (in_range 65 90 c u) | inr l ↦ inr (inr (inl (in_range 97 122 c l))) ]
+letter_starts c h = elim (or_cases (is_in_range 65 90 c) (is_in_range 97 122 c) h) [ inl u ↦ inl (range_in 65 90 c u) | inr l ↦ inr (inr (inl (range_in 97 122 c l))) ]
 
 first_starts : (c : ℕ) → is_name_first c ≡ true → IsNameStart c
 first_starts c h = elim (or_cases (is_ascii_alphabetic c) (c == 95) h) [ inl a ↦ letter_starts c a | inr u ↦ inr (inl (is_that c 95 u)) ]
 
 alphanumeric_goes_on : (c : ℕ) → is_ascii_alphanumeric c ≡ true → IsNameChar c
 alphanumeric_goes_on c h = elim (or_cases (is_in_range 48 57 c || is_in_range 65 90 c) (is_in_range 97 122 c) h) [
-  | inl x ↦ elim (or_cases (is_in_range 48 57 c) (is_in_range 65 90 c) x) [ inl d ↦ inr (inr (inl (in_range 48 57 c d))) | inr u ↦ inl (inl (in_range 65 90 c u)) ]
-  | inr l ↦ inl (inr (inr (inl (in_range 97 122 c l))))
+  | inl x ↦ elim (or_cases (is_in_range 48 57 c) (is_in_range 65 90 c) x) [ inl d ↦ inr (inr (inl (range_in 48 57 c d))) | inr u ↦ inl (inl (range_in 65 90 c u)) ]
+  | inr l ↦ inl (inr (inr (inl (range_in 97 122 c l))))
 ]
 
 byte_goes_on : (c : ℕ) → is_name_byte c ≡ true → IsNameChar c

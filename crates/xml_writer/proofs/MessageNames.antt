@@ -1,15 +1,15 @@
 -- The namespace of a message is of characters that stand for themselves.
-use Rattle.std.proofs.Common.{◌≡◌, ◌≢◌, ◌<◌, ◌≤◌, ◌+◌, ◌==◌, ◌&&◌, not, nat_le, nat_lt, ℕ, zero, suc, Bool, true, false, List, [], ◌∷◌, ◌++◌, length, take, drop, get_or, flat_map, refl, sym, ap, subst, ◌∙◌, arith}
+use Rattle.std.proofs.Common.{◌≡◌, ◌≢◌, ◌<◌, ◌+◌, ◌==◌, ◌&&◌, ℕ, zero, suc, Bool, true, false, List, [], ◌∷◌, ◌++◌, length, take, drop, get_or, flat_map, refl, sym, ap, subst, ◌∙◌, arith}
 use Rattle.std.specs.Prelude.{encode_utf8_all}
 use Rattle.std.specs.List.{list_all}
 use Rattle.std.proofs.Math.Seq.{drop-cons}
 use Rattle.std.proofs.lemmas.Bool.{and_parts}
 use Rattle.std.proofs.lemmas.Bool.Decides.{nat_tests}
-use Rattle.std.proofs.lemmas.List.{drop-drop}
+use Rattle.std.proofs.lemmas.List.{drop-drop, drop_all}
 use Rattle.std.proofs.lemmas.Str.{encode_ascii}
 use Rattle.lexical_core.specs.Characters.{IsXmlText}
 use Rattle.data_types.proofs.EscapeLemmas.{escaped_by_chars}
-use Rattle.data_types.proofs.VisibleTexts.{IsVisible, AreVisible, join_visible, point_is_visible}
+use Rattle.data_types.proofs.VisibleTexts.{IsVisible, AreVisible, join_visible, point_is_visible, visible, all_visible, all_visible_are}
 use Rattle.lexical_core.specs.Names.{xml_namespace, xmlns_namespace}
 use Rattle.fragments.specs.Fragment.{value_byte}
 use Rattle.message_model.specs.Tables.{namespace_front}
@@ -18,29 +18,6 @@ use Rattle.xml_writer.proofs.SpelledLeaves.{all_xml}
 use Rattle.xml_writer.proofs.ValueTexts.{visible_value}
 
 -- ---- texts that are visible
-
-visible : ℕ → Bool
-visible c = nat_le 33 c && (nat_lt c 127 && (not (c == 38) && (not (c == 60) && (not (c == 62) && not (c == 34)))))
-
-all_visible : List ℕ → Bool
-all_visible [] = true
-all_visible (c ∷ cs) = visible c && all_visible cs
-
-visible_is : (c : ℕ) → visible c ≡ true → IsVisible c
-unfolding visible
-visible_is c h = record {
-  low = grind (arith, nat_tests);
-  high = grind (arith, nat_tests);
-  no_ampersand = grind (arith, nat_tests);
-  no_less = grind (arith, nat_tests);
-  no_greater = grind (arith, nat_tests);
-  no_quote = grind (arith, nat_tests);
-}
-
-all_visible_are : (text : List ℕ) → all_visible text ≡ true → AreVisible text
-unfolding all_visible
-all_visible_are [] h = tt
-all_visible_are (c ∷ cs) h = (let parts = and_parts (visible c) (all_visible cs) h in (visible_is c parts.0, all_visible_are cs parts.1))
 
 front_visible : AreVisible namespace_front
 unfolding visible all_visible
@@ -81,12 +58,6 @@ run_visible at n cs lt run point rest =
     let split : drop (at + n) cs ≡ 46 ∷ drop (suc (at + n)) cs = drop-cons cs (at + n) 0 lt ∙ ap (λ c. c ∷ drop (suc (at + n)) cs) there in
     both_visible n (drop at cs) run (subst AreVisible (sym (drop-drop n at cs ∙ split)) (point_is_visible, rest))
 
-past : (n : ℕ) (cs : List ℕ) → length cs ≤ n → drop n cs ≡ []
-past zero [] le = refl
-past (suc n) [] le = refl
-past zero (c ∷ cs) le = absurd (omega (arith, le))
-past (suc n) (c ∷ cs) le = past n cs (omega (arith, le))
-
 eight : (a b c d e f g h : Bool) → (a && b && c && d && e && f && g && h) ≡ true
     → (a ≡ true) × (b ≡ true) × (c ≡ true) × (d ≡ true) × (e ≡ true) × (f ≡ true) × (g ≡ true) × (h ≡ true)
 eight a b c d e f g h k =
@@ -105,7 +76,7 @@ id_visible id h =
     (list_all is_digit (take 3 (drop 9 id))) (is_point_at 12 id) (list_all is_digit (take 2 (drop 13 id))) h in
     let size : length id ≡ 15 = (let e = parts.0 in grind (arith, nat_tests, e)) in
     let digits = signs_visible is_digit (λ c k. sign_visible c (digit_is c k)) in
-    let none : AreVisible (drop 15 id) = subst AreVisible (sym (past 15 id (omega (arith, size)))) tt in
+    let none : AreVisible (drop 15 id) = subst AreVisible (sym (drop_all 15 id (omega (arith, size)))) tt in
     let version : AreVisible (drop 13 id) = both_visible 2 (drop 13 id) (digits (take 2 (drop 13 id)) parts.7) (subst AreVisible (sym (drop-drop 2 13 id)) none) in
     let flavour : AreVisible (drop 9 id) = run_visible 9 3 id (omega (arith, size)) (digits (take 3 (drop 9 id)) parts.5) parts.6 version in
     let functionality : AreVisible (drop 5 id) = run_visible 5 3 id (omega (arith, size)) (signs_visible is_letter_or_digit sign_visible (take 3 (drop 5 id)) parts.3) parts.4 flavour in

@@ -1,17 +1,13 @@
 -- A value has at most one canonical XML.
-use Rattle.std.proofs.Common.{◌≡◌, ℕ, true, List, ◌++◌, Option, Some, codes, flat_map, sym, ap, ap₂, ◌∙◌}
-use Rattle.std.specs.Prelude.{encode_utf8_all, slice_get}
-use Rattle.std.proofs.lemmas.Str.{encodes_same}
+use Rattle.std.proofs.Common.{◌≡◌, ℕ, true, List, ◌++◌, codes, flat_map, sym, ap, ap₂, ◌∙◌}
 use Rattle.lexical_core.specs.Escapes.{escape_of}
 use Rattle.data_types.specs.Canonical.{escaped_text}
-use Rattle.data_types.specs.Leaf.{Leaf, Code, Number}
+use Rattle.data_types.specs.Leaf.{Leaf, Number}
 use Rattle.data_types.specs.Value.{Value, Children, Nothing, Child}
 use Rattle.data_types.specs.Value as value
-use Rattle.data_types.specs.declared.kind.Kind.{Kind}
 use Rattle.data_types.specs.declared.kind.Kind.TheVariants as kind
-use Rattle.data_types.proofs.CanonicalLemmas.{one_canonical}
-use Rattle.facets.specs.LeafUnder.{IsCanonicalBy}
 use Rattle.facets.specs.declared.simple.Simple.{Simple}
+use Rattle.facets.proofs.CodeVerdicts.{one_canonical_by}
 use Rattle.reference_check.specs.Forms.{Graph, Form, Slot, form_slots}
 use Rattle.reference_check.specs.Forms as form
 use Rattle.message_model.specs.Message.{Message}
@@ -19,18 +15,11 @@ use Rattle.xml_writer.specs.CanonXml.{IsLeafText, IsCodeText, currency_text, IsA
 
 -- ---- leaves
 
-code_one : (codes : List (List ℕ)) (place : ℕ) (a b : List ℕ) → slice_get codes place ≡ Some (encode_utf8_all a) → slice_get codes place ≡ Some (encode_utf8_all b) → a ≡ b
-code_one codes place a b h g = (let same : encode_utf8_all a ≡ encode_utf8_all b = cc in encodes_same a b same)
-
-pub chars_one : (k : Kind) (codes : Option (List (List ℕ))) (l : Leaf) (a b : List ℕ) → IsCanonicalBy k codes l a → IsCanonicalBy k codes l b → a ≡ b
-chars_one kind.Text (Some codes) (Code place) a b h g = code_one codes place a b h.1 g.1
-chars_one k codes l a b h g = one_canonical k l a b h g
-
 text_one : (simple : Simple) (l : Leaf) (one two : List ℕ) → IsLeafText simple l one → IsLeafText simple l two → one ≡ two
-text_one simple l one two (a, h, e) (b, g, d) = e ∙ ap escaped_text (chars_one simple.kind simple.codes l a b h g) ∙ sym d
+text_one simple l one two (a, h, e) (b, g, d) = e ∙ ap escaped_text (one_canonical_by simple.kind simple.codes l a b h g) ∙ sym d
 
 value_one : {P : Type 0} (f : Form P Simple) (l : Leaf) (one two : List ℕ) → IsCodeText f l one → IsCodeText f l two → one ≡ two
-value_one (form.Simple simple) l one two (a, h, e) (b, g, d) = e ∙ ap (flat_map (escape_of true)) (chars_one simple.kind simple.codes l a b h g) ∙ sym d
+value_one (form.Simple simple) l one two (a, h, e) (b, g, d) = e ∙ ap (flat_map (escape_of true)) (one_canonical_by simple.kind simple.codes l a b h g) ∙ sym d
 value_one f l one two h g = absurd h
 
 leaf_one : {P : Type 0} (f : Form P Simple) (v : Value) (one two : List ℕ) → IsLeafContent f v one → IsLeafContent f v two → one ≡ two

@@ -26,20 +26,20 @@ use Rattle.xml_writer.proofs.SpelledValues.{HasAttributes, attributes_of, IsSpel
 
 -- ---- the declaration
 
-abbrev field : List ℕ → List ValuePiece → Attribute
+abbrev pub field : List ℕ → List ValuePiece → Attribute
 field name value = record { gap = 32 ∷ []; name = Plain name; before = []; after = []; quote = 34; value = value }
 
-abbrev declaration : Token
+abbrev pub declaration : Token
 declaration = Declaration (field (codes "version") (Literal 49 ∷ Literal 46 ∷ Literal 48 ∷ []) ∷ field (codes "encoding") (Literal 85 ∷ Literal 84 ∷ Literal 70 ∷ Literal 45 ∷ Literal 56 ∷ []) ∷ []) []
 
-abbrev first_tokens : List Token
+abbrev pub first_tokens : List Token
 first_tokens = declaration ∷ LineEnd Lf ∷ []
 
-first_bytes : flat_map token_bytes first_tokens ≡ xml_declaration
+pub first_bytes : flat_map token_bytes first_tokens ≡ xml_declaration
 unfolding lib.Utf8.encode
 first_bytes = refl
 
-first_stand : AllStand [] first_tokens
+pub first_stand : AllStand [] first_tokens
 unfolding is_xml_char is_space is_name_start is_name_char
 first_stand = (λ rest. refl, (λ rest. refl, tt))
 
@@ -73,7 +73,7 @@ document_items : (name : Expanded) (es : List Entry) (ns : Nodes)
 document_items name es ns =
     ap (λ (l : List Item). Starts name es ∷ l) (ap (tree_items 1) (append_assoc (flat_nodes ns) (Ends name ∷ []) (Char 10 ∷ [])) ∙ counted_nodes 0 ns (Ends name ∷ Char 10 ∷ []))
 
-document_part : IsPart (codes "Document")
+pub document_part : IsPart (codes "Document")
 unfolding lib.Utf8.encode
 document_part = record {
   first = 68;

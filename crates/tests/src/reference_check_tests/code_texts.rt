@@ -1,11 +1,10 @@
 //! What no contract says: that there is memory for the texts of codes.
 ghost use Rattle.std.specs.Prelude.{IfOk, All};
-ghost use Rattle.lexical_core.specs.Characters.{IsXmlText};
-ghost use Rattle.repo_objects.specs.Objects.{HasCodeTexts, HasObjectTexts, IsXmlTextIfAny};
+ghost use Rattle.repo_objects.specs.Objects.{HasCodeTexts, HasObjectTexts};
 
-use lexical_core::{Text, is_xml_text};
+use crate::made::{object_of, text_if_any, text_of};
 use reference_check::{CodeTexts, code_text};
-use repo_objects::{CodeDef, CodeDefs, Elements, Kinds, Object, ObjectKind, RawFacets, Repository};
+use repo_objects::{CodeDef, CodeDefs, Kinds, Object, ObjectKind, Repository};
 use std::alloc::{AllocError, Global};
 use std::process::Abort;
 use std::test::Fail;
@@ -15,27 +14,6 @@ static CHAIN: [&str; 18] = [
     "_a", "_b", "_c", "_d", "_e", "_f", "_g", "_h", "_i", "_j", "_k", "_l", "_m", "_n", "_o", "_p",
     "_q", "_r",
 ];
-
-fn text_of(alloc: Global, word: &str) -> Result<Text, Fail>
-    ensures { IfOk result IsXmlText }
-{
-    let mut text = Text::new(alloc);
-    text.extend(word.as_bytes())?;
-    if !is_xml_text(text.bytes()) {
-        return Err("no text of XML".into());
-    }
-    Ok(text)
-}
-
-// The text of the word; none where it is empty.
-fn text_if_any(alloc: Global, word: &str) -> Result<Option<Text>, Fail>
-    ensures { IfOk result IsXmlTextIfAny }
-{
-    if word.is_empty() {
-        return Ok(None);
-    }
-    Ok(Some(text_of(alloc, word)?))
-}
 
 fn code_of(alloc: Global, text: &str) -> Result<CodeDef, Fail>
     ensures { IfOk result HasCodeTexts }
@@ -57,30 +35,10 @@ fn one_code(alloc: Global, text: &str) -> Result<CodeDefs, Fail>
 fn set_of(alloc: Global, text: &str, before: &str) -> Result<Object, Fail>
     ensures { IfOk result HasObjectTexts }
 {
-    let name = text_of(alloc, "ClearingCode")?;
-    let codes = one_code(alloc, text)?;
-    let trace = text_if_any(alloc, before)?;
-    Ok(Object {
-        name,
-        kind: ObjectKind::Simple(Kinds::CodeSet),
-        word: Text::new(alloc),
-        facets: RawFacets {
-            min_length: None,
-            max_length: None,
-            length: None,
-            total: None,
-            fraction: None,
-            min_in: None,
-            min_ex: None,
-            max_in: None,
-            max_ex: None,
-            pattern: None,
-        },
-        elements: Elements::new(alloc),
-        codes,
-        trace,
-        currency: None,
-    })
+    let mut set = object_of(alloc, "ClearingCode", ObjectKind::Simple(Kinds::CodeSet))?;
+    set.codes = one_code(alloc, text)?;
+    set.trace = text_if_any(alloc, before)?;
+    Ok(set)
 }
 
 fn add_set(

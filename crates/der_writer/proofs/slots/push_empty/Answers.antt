@@ -1,7 +1,8 @@
 use Rattle.std.proofs.Common.{◌<◌, length, sym, arith}
+use Rattle.std.proofs.lemmas.Option.{slice_get_within}
 use Rattle.reference_check.specs.Forms.{form_slots}
 use Rattle.message_model.specs.Tables.{types_of}
-use Rattle.der_writer.proofs.EmptySlots.{empty_more, empty_past, get_below, told}
+use Rattle.der_writer.proofs.EmptySlots.{empty_more, empty_past, told}
 use Rattle.der_writer.proofs.Pairs.{same_text}
 use Rattle.outside.proofs.PushedFronts.{to_more, to_stops, to_all}
 use Rattle.der_writer.proofs.slots.push_empty.Goals as goal
@@ -9,7 +10,7 @@ use Rattle.der_writer.proofs.slots.push_empty.Goals as goal
 pub empty_head-requires : goal.empty_head-requires
 empty_head-requires g c =
     let slots = form_slots (types_of c.args.model.now c.args.number) in
-    let low : c.loop-k.k < length slots = get_below slots c.loop-k.k (told c.in-Some.slot) (sym c.in-Some.ensures) in
+    let low : c.loop-k.k < length slots = slice_get_within slots c.loop-k.k (told c.in-Some.slot) (sym c.in-Some.ensures) in
     let short = (c.type_count-count.ensures.sound c.args.number).short in
     omega (arith, low, short)
 

@@ -1,5 +1,6 @@
 use Rattle.std.proofs.Common.{rules, ◌≡◌, ◌++◌, ◌∙◌, sym, ap, take, subst, refl, append_assoc}
-use Rattle.der_codec.proofs.Fed.{GivenSoFar, none_given, all_given, more_given, stops_given, room_left, joined, nothing_left}
+use Rattle.std.proofs.lemmas.List.{nil_from_length}
+use Rattle.der_codec.proofs.Fed.{GivenSoFar, none_given, all_given, more_given, stops_given, room_left, joined}
 use Rattle.der_codec.proofs.Keeping.{enough_then, err_as}
 use Rattle.der_codec.proofs.checker.DerChecker.feed_all.Goals as goal
 
@@ -30,7 +31,7 @@ returns-in-Err-clause-err c = λ bytes h.
 
 pub returns-clause-ok : goal.returns-clause-ok
 returns-clause-ok c = λ bytes h.
-    let none = nothing_left c.loop-rest.rest.now (search rules) in
+    let none = nil_from_length c.loop-rest.rest.now (search rules) in
     all_given c.args.model.now c.loop-rest.self bytes c.args.piece.now (subst (GivenSoFar c.args.model.now c.loop-rest.self bytes c.args.piece.now) none (c.loop-rest.invariant.1 bytes h))
 
 pub returns-in-Err-clause-keeps : goal.returns-in-Err-clause-keeps

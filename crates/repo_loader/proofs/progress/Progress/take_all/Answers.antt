@@ -1,19 +1,16 @@
 -- What stands at the front of the rest, as far as the first that shows a fault.
-use Rattle.std.proofs.Common.{rules, ◌≡◌, ℕ, List, [], ◌∷◌, ◌++◌, length, refl, subst, arith}
+use Rattle.std.proofs.Common.{rules, [], ◌++◌, refl, subst, arith}
+use Rattle.std.proofs.lemmas.List.{nil_from_length}
 use Rattle.repo_loader.specs.inner.ProgressSteps.{ReadsFront, TakesSome}
 use Rattle.repo_loader.proofs.ReadSteps.{ReadSoFar, nothing_seen, run_seen, fault_seen, all_seen}
 use Rattle.repo_loader.proofs.progress.Progress.take_all.Goals as goal
-
-none_left : (xs : List ℕ) → length xs ≡ 0 → xs ≡ []
-none_left [] h = refl
-none_left (x ∷ xs) h = absurd (omega arith)
 
 pub loop-rest-init : goal.loop-rest-init
 loop-rest-init c = record { some = c.requires.read; read = λ bytes h. nothing_seen c.args.self.now bytes c.args.piece.now h; counted = refl }
 
 pub returns-clause-read : goal.returns-clause-read
 returns-clause-read c bytes h =
-    let none = none_left c.loop-rest.rest.now (search rules) in
+    let none = nil_from_length c.loop-rest.rest.now (search rules) in
     all_seen c.loop-rest.self bytes c.args.piece.now (subst (ReadSoFar c.loop-rest.self bytes c.args.piece.now) none (c.loop-rest.invariant.read bytes h))
 
 pub returns-in-Breaks-clause-read : goal.returns-in-Breaks-clause-read

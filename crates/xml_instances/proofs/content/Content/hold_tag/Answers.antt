@@ -8,8 +8,9 @@ use Rattle.message_model.specs.Tables.{message_of}
 use Rattle.xml_instances.specs.Levels.{levels_after}
 use Rattle.xml_instances.specs.inner.Quick.{AreItemsTaken}
 use Rattle.xml_instances.proofs.QuickRuns.{one_item, first_wrong, two_items}
-use Rattle.xml_instances.proofs.GoingOn.{on_ok, go_then}
+use Rattle.xml_instances.proofs.GoingOn.{go_then}
 use Rattle.std.specs.Prelude.{OnOk}
+use Rattle.std.proofs.lemmas.Result.{on_ok_weaker}
 use Rattle.xml_instances.specs.Built.{ShowsBeside}
 use Rattle.xml_instances.specs.Keeping.{GoOn, TagShowsBeside}
 use Rattle.xml_instances.proofs.content.Content.hold_tag.Goals as goal
@@ -48,6 +49,6 @@ returns-in-Ok-clause-shown c ls n e ours h =
     let m = message_of c.args.model.now in
     let taken = c.in-Ok.ensures.taken ls n e ours h in
     subst (λ (k : TagKind). OnOk c.end.result (GoOn c.args.self.now.pieces c.end.new.self.pieces (TagShowsBeside c.args.model.now ls k n))) (sym c.in-Empty.is)
-    (on_ok c.end.result (λ on. go_then {Q = TagShowsBeside c.args.model.now ls Empty n} {R = ShowsBeside c.args.model.now ls (Starts n [])} {S = ShowsBeside c.args.model.now (levels_after m ls (Starts n [])) (Ends n)}
+    (on_ok_weaker c.end.result (λ on. go_then {Q = TagShowsBeside c.args.model.now ls Empty n} {R = ShowsBeside c.args.model.now ls (Starts n [])} {S = ShowsBeside c.args.model.now (levels_after m ls (Starts n [])) (Ends n)}
     c.args.self.now.pieces c.start_inside-in-Empty.new.self.pieces c.end.new.self.pieces (λ s u t x y. (u, x, y)) (c.in-Ok.ensures.shown ls n e h ours) on)
     (c.end.ensures.shown (levels_after m ls (Starts n [])) n taken.1))

@@ -1,10 +1,11 @@
 use Rattle.std.proofs.Common.{◌≡◌, Option, rules, ap, Some, None, refl, sym, subst}
 use Rattle.std.specs.Prelude.{Result, Ok, Err, OnOk}
+use Rattle.std.proofs.lemmas.Result.{on_ok_weaker}
 use Rattle.message_model.specs.Tables.{message_of}
 use Rattle.xml_instances.specs.declared.opened.Opened.{Opened}
 use Rattle.xml_instances.specs.declared.opened.Opened.TheVariants as opened
 use Rattle.xml_instances.proofs.QuickRuns.{run_text_all, run_other}
-use Rattle.xml_instances.proofs.GoingOn.{IsNoForeign, run_goes_on, run_kept, on_ok}
+use Rattle.xml_instances.proofs.GoingOn.{IsNoForeign, run_goes_on, run_kept}
 use Rattle.xml_instances.proofs.content.Content.take_run.Goals as goal
 
 any_ok : {T E P : Type 0} (r : Result T E) → P → OnOk r P
@@ -38,7 +39,7 @@ returns-in-Some-Text-clause-shown c r ls h = any_ok c.text_run.result (run_goes_
 pub returns-in-Some-Foreign-clause-shown : goal.returns-in-Some-Foreign-clause-shown
 returns-in-Some-Foreign-clause-shown c r ls h =
     let is : c.args.self.now.innermost ≡ Some opened.Foreign = search rules in
-    on_ok c.inside_run.result (λ go. run_kept c.args.model.now ls r.characters c.args.self.now.innermost c.args.self.now.text c.args.self.now.round.items c.args.self.now.pieces c.inside_run.new.pieces h is go) (c.inside_run.ensures.shown c.args.count r)
+    on_ok_weaker c.inside_run.result (λ go. run_kept c.args.model.now ls r.characters c.args.self.now.innermost c.args.self.now.text c.args.self.now.round.items c.args.self.now.pieces c.inside_run.new.pieces h is go) (c.inside_run.ensures.shown c.args.count r)
 
 pub returns-in-None-clause-shown : goal.returns-in-None-clause-shown
 returns-in-None-clause-shown c r ls h = run_goes_on c.args.model.now ls r.characters c.args.self.now.innermost c.args.self.now.text c.args.self.now.round.items c.args.self.now.pieces c.args.self.now.pieces refl h (no_foreign c.args.self.now.innermost None (search rules) tt)
