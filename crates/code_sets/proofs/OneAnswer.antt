@@ -95,7 +95,6 @@ one_reading bytes a b (rows, (s, rest, reached, none), sound, is) (rows', (s', r
     let other = all_longest default_config st.StartRecord (strip_bom bytes) rows' rows s' s rest' rest reached' none' reached in
     is ∙ ap (numbered_records 1) (same rows rows' one.0 other.0 one.1 other.1) ∙ sym is'
   where
-
     same : (xs ys m k : List Fields) → xs ≡ ys ++ m → ys ≡ xs ++ k → xs ≡ ys
     same xs ys m k e f =
         let none : length k ≡ 0 = omega (arith, ap length e, ap length f, length-append ys m, length-append xs k) in

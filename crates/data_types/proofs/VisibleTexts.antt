@@ -1,14 +1,16 @@
 -- The texts of dates and truth values are short, and they and the texts of decimals and octets have no white space.
 use Rattle.std.proofs.Common.{◌≡◌, ◌≢◌, ◌==◌, ℕ, zero, suc, slice_index, ◌<◌, ◌≤◌, ◌⊎◌, inl, inr, Bool, true, false, List, [], ◌∷◌, ◌++◌, length, refl, codes, sym, ap, subst, arith, length-append, not, ◌&&◌, nat_le, nat_lt}
+use Rattle.std.specs.Prelude.{encode_utf8_all}
 use Rattle.std.proofs.lemmas.Bool.{and_parts, leb-true}
 use Rattle.std.proofs.lemmas.Bool.Decides.{nat_tests}
+use Rattle.std.proofs.lemmas.Str.{encode_ascii}
 use Rattle.std.specs.List.{AllByRecursion}
 use Rattle.std.specs.Char.{digit_value}
 use Rattle.std.specs.Str.Parse.{AllDigits}
 use Rattle.base64.specs.Engines.{standard}
 use Rattle.data_types.specs.declared.kind.Kind.{Kind}
 use Rattle.data_types.specs.declared.kind.Kind.TheVariants.{Text, Decimal, Boolean, Binary, Date, DateTime, Time, Year, YearMonth, MonthDay, Month, Day, Envelope}
-use Rattle.lexical_core.specs.Characters.{IsSpace}
+use Rattle.lexical_core.specs.Characters.{IsSpace, IsXmlChar, IsXmlText}
 use Rattle.data_types.specs.Kinds.{form_of, has_seconds}
 use Rattle.data_types.specs.Booleans.{IsBooleanText}
 use Rattle.data_types.specs.Dates.{FitsPlace, HasForm, IsFraction, IsZone, IsDateText}
@@ -207,3 +209,19 @@ no_space (c ∷ cs) h = (λ space. not_both c h.0 space, no_space cs h.1)
       | inr (inr (inl e)) ↦ omega (arith, e, low)
       | inr (inr (inr e)) ↦ omega (arith, e, low)
     ]
+
+-- ---- a visible text is one of XML, and its bytes are its characters
+
+visible_char : (c : ℕ) → IsVisible c → IsXmlChar c
+visible_char c v = let low = v.low in let high = v.high in inl (omega (arith, low), omega (arith, high))
+
+pub all_xml : (text : List ℕ) → AreVisible text → AllByRecursion IsXmlChar text
+all_xml [] v = tt
+all_xml (c ∷ cs) v = (visible_char c v.0, all_xml cs v.1)
+
+pub own_bytes : (text : List ℕ) → AreVisible text → encode_utf8_all text ≡ text
+own_bytes [] v = refl
+own_bytes (c ∷ cs) v = (let high = v.0.high in let one = encode_ascii c (omega (arith, high)) in rw (one, own_bytes cs v.1) refl)
+
+pub visible_xml : (text : List ℕ) → AreVisible text → IsXmlText text
+visible_xml text v = (text, all_xml text v, own_bytes text v)

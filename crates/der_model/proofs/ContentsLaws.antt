@@ -1,10 +1,9 @@
 -- Contents octets are at most one thing under a simple type, and each leaf that fits has just one.
 use Rattle.std.proofs.Common.{◌≡◌, ◌≢◌, ℕ, Bool, true, false, List, [], ◌∷◌, ◌++◌, get_or, Option, Some, None, refl, sym, ap, ◌∙◌, subst, arith, inl, inr}
-use Rattle.std.specs.Prelude.{Result, Ok, Err, encode_utf8_all}
+use Rattle.std.specs.Prelude.{Result, Ok, Err}
 use Rattle.std.specs.List.{AllByRecursion}
 use Rattle.base64.specs.GeneralPurpose.{IsBytes}
-use Rattle.std.proofs.lemmas.Str.{encode_ascii}
-use Rattle.lexical_core.specs.Characters.{IsXmlChar, IsXmlText}
+use Rattle.lexical_core.specs.Characters.{IsXmlText}
 use Rattle.lexical_core.specs.Rules.{number_of}
 use Rattle.lexical_core.specs.declared.rule.Rule.{Rule}
 use Rattle.lexical_core.specs.declared.rule.Rule.TheVariants as rule
@@ -12,7 +11,7 @@ use Rattle.lexical_core.proofs.RealLaws.{contents_number}
 use Rattle.data_types.specs.Leaf.{Leaf, Bytes, Number, Flag, Code, IsTextLeaf, IsDecimalLeaf, IsBooleanLeaf, IsBinaryLeaf, IsDateLeaf}
 use Rattle.data_types.specs.declared.kind.Kind.{Kind}
 use Rattle.data_types.specs.declared.kind.Kind.TheVariants as kind
-use Rattle.data_types.proofs.VisibleTexts.{IsVisible, AreVisible, date_visible}
+use Rattle.data_types.proofs.VisibleTexts.{date_visible, visible_xml}
 use Rattle.data_types.specs.Canonical.{IsCanonicalLeaf}
 use Rattle.data_types.proofs.CanonicalLemmas.{one_canonical}
 use Rattle.data_types.proofs.LeavesByKind.{binary_leaves}
@@ -71,20 +70,6 @@ one_leaf kind.Envelope codes o a b p q = absurd p
 one_leaf k codes o a b p q = one_date k o a b p q
 
 -- a date's text is one of XML characters
-visible_xml : (text : List ℕ) → AreVisible text → IsXmlText text
-visible_xml text v = (text, all text v, encoded text v)
-  where
-    xml : (c : ℕ) → IsVisible c → IsXmlChar c
-    xml c v = (let low = v.low in let high = v.high in inl (omega arith, omega arith))
-
-    all : (text : List ℕ) → AreVisible text → AllByRecursion IsXmlChar text
-    all [] v = tt
-    all (c ∷ cs) v = (xml c v.0, all cs v.1)
-
-    encoded : (text : List ℕ) → AreVisible text → encode_utf8_all text ≡ text
-    encoded [] v = refl
-    encoded (c ∷ cs) v = (let high = v.0.high in let one = encode_ascii c (omega arith) in ap (λ z. z ++ encode_utf8_all cs) one ∙ ap (λ z. c ∷ z) (encoded cs v.1))
-
 date_form : (k : Kind) (o : List ℕ) (a : Leaf) → IsDateContents k o a → IsXmlText o
 date_form k o (Bytes x) p = visible_xml o (date_visible k o p.0).0
 date_form k o a p = absurd p

@@ -19,7 +19,6 @@ pub mod EntryTexts
 pub mod MessageSteps
 pub mod TagTexts
 pub mod TagSteps
-pub mod Consumed
 pub mod EventSteps
 pub mod ReadSteps
 pub mod FileVerdicts

@@ -5,6 +5,7 @@ use Rattle.std.proofs.lemmas.Bool.{cases_lt}
 use Rattle.std.proofs.lemmas.List.{take_all, take-append-drop, length-take, length-drop}
 use Rattle.std.proofs.Math.Seq.{take-append-add, take-append_seam}
 use Rattle.std.specs.Io.KnownBytes.{Consumes, IsAtEnd}
+use Rattle.outside.proofs.Consumed.{consumes_twice}
 use Rattle.lexical_core.specs.declared.rule.Rule.{Rule}
 use Rattle.message_model.specs.declared.fault.Fault.{Fault}
 use Rattle.message_model.specs.declared.fault.InstanceError.{InstanceError}
@@ -16,12 +17,6 @@ use Rattle.transcoder.specs.Limited.{most_bytes, too_many, IsLimited, within, be
 use Rattle.transcoder.specs.Reading.{HasReadSource, HasReadBeyond, RefusesBy, IsOfSome, SaysError, ReadsTo, EndsBeyond, end_told, Concludes, GivesSome}
 use Rattle.transcoder.specs.declared.reading.Extent.{Extent}
 use Rattle.transcoder.specs.declared.reading.Extent.TheVariants.{Whole, Longer}
-
-consumes_twice : (a b c : Option (List ℕ)) (xs ys : List ℕ) → Consumes a b xs → Consumes b c ys → Consumes a c (xs ++ ys)
-consumes_twice None b c xs ys p q = tt
-consumes_twice (Some x) None c xs ys p q = absurd p
-consumes_twice (Some x) (Some y) None xs ys p q = absurd q
-consumes_twice (Some x) (Some y) (Some z) xs ys p q = p ∙ ap (λ l. xs ++ l) q ∙ sym (append_assoc xs ys z)
 
 -- an error that says nothing of the bytes
 pub says_nothing : (HasFault : List ℕ → Fault → Type 0) (old : Option (List ℕ)) (e : CheckError) → ((bytes : List ℕ) → RefusesBy HasFault bytes e) → IsOfSome HasFault e → SaysError HasFault old e

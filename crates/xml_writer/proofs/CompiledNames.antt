@@ -35,10 +35,10 @@ use Rattle.message_model.proofs.Compilable.{object_there, at_contains}
 use Rattle.message_model.proofs.SoundElements.{slots_by, slot_from}
 use Rattle.message_model.proofs.SoundTypes.{IsTypePlace}
 use Rattle.message_model.proofs.SoundTables.{type_place}
-use Rattle.data_types.proofs.VisibleTexts.{AreVisible}
+use Rattle.data_types.proofs.VisibleTexts.{AreVisible, visible_xml}
 use Rattle.repo_objects.specs.MessageId.{IsMessageId}
 use Rattle.xml_writer.specs.SpellingLaw.{HasXmlNames, CompiledSpells}
-use Rattle.xml_writer.proofs.MessageNames.{namespace_visible, visible_xml, visible_literal, not_xml_namespace, not_xmlns_namespace}
+use Rattle.xml_writer.proofs.MessageNames.{namespace_visible, visible_literal, not_xml_namespace, not_xmlns_namespace}
 use Rattle.xml_writer.proofs.SpelledDocuments.{canonical_spells}
 use Rattle.markup.proofs.CharLemmas.{range_in}
 

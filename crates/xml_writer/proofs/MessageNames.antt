@@ -1,20 +1,16 @@
 -- The namespace of a message is of characters that stand for themselves.
 use Rattle.std.proofs.Common.{◌≡◌, ◌≢◌, ◌<◌, ◌+◌, ◌==◌, ◌&&◌, ℕ, zero, suc, Bool, true, false, List, [], ◌∷◌, ◌++◌, length, take, drop, get_or, flat_map, refl, sym, ap, subst, ◌∙◌, arith}
-use Rattle.std.specs.Prelude.{encode_utf8_all}
 use Rattle.std.specs.List.{list_all}
 use Rattle.std.proofs.Math.Seq.{drop-cons}
 use Rattle.std.proofs.lemmas.Bool.{and_parts}
 use Rattle.std.proofs.lemmas.Bool.Decides.{nat_tests}
 use Rattle.std.proofs.lemmas.List.{drop-drop, drop_all}
-use Rattle.std.proofs.lemmas.Str.{encode_ascii}
-use Rattle.lexical_core.specs.Characters.{IsXmlText}
 use Rattle.data_types.proofs.EscapeLemmas.{escaped_by_chars}
-use Rattle.data_types.proofs.VisibleTexts.{IsVisible, AreVisible, join_visible, point_is_visible, visible, all_visible, all_visible_are}
+use Rattle.data_types.proofs.VisibleTexts.{IsVisible, AreVisible, join_visible, point_is_visible, visible, all_visible, all_visible_are, own_bytes}
 use Rattle.lexical_core.specs.Names.{xml_namespace, xmlns_namespace}
 use Rattle.fragments.specs.Fragment.{value_byte}
 use Rattle.message_model.specs.Tables.{namespace_front}
 use Rattle.repo_objects.specs.MessageId.{IsMessageId, is_letter_or_digit, is_lower_letter, is_digit, is_point_at}
-use Rattle.xml_writer.proofs.SpelledLeaves.{all_xml}
 use Rattle.xml_writer.proofs.ValueTexts.{visible_value}
 
 -- ---- texts that are visible
@@ -86,13 +82,6 @@ id_visible id h =
 
 pub namespace_visible : (id : List ℕ) → IsMessageId id → AreVisible (namespace_front ++ id)
 namespace_visible id h = join_visible namespace_front id front_visible (id_visible id h)
-
-own_bytes : (text : List ℕ) → AreVisible text → encode_utf8_all text ≡ text
-own_bytes [] v = refl
-own_bytes (c ∷ cs) v = (let high = v.0.high in let one = encode_ascii c (omega (arith, high)) in rw (one, own_bytes cs v.1) refl)
-
-pub visible_xml : (text : List ℕ) → AreVisible text → IsXmlText text
-visible_xml text v = (text, all_xml text v, own_bytes text v)
 
 pub visible_literal : (text : List ℕ) → AreVisible text → flat_map value_byte text ≡ text
 visible_literal text v = ap (flat_map value_byte) (sym (own_bytes text v)) ∙ (escaped_by_chars true text ∙ visible_value text v)

@@ -7,7 +7,7 @@ use Rattle.data_types.specs.Canonical.{escaped_text}
 use Rattle.data_types.specs.Leaf.{Leaf, Bytes, Code}
 use Rattle.data_types.specs.declared.kind.Kind.{Kind}
 use Rattle.data_types.specs.declared.kind.Kind.TheVariants as kind
-use Rattle.data_types.proofs.VisibleTexts.{IsVisible, AreVisible}
+use Rattle.data_types.proofs.VisibleTexts.{all_xml}
 use Rattle.facets.specs.LeafUnder.{IsLeafBy, IsCanonicalBy, IsCanonicalUnder, GivesLeaf, Fits}
 use Rattle.facets.specs.declared.simple.Simple.{Simple}
 use Rattle.facets.proofs.CodeVerdicts.{one_canonical_by}
@@ -16,13 +16,6 @@ use Rattle.fragments.specs.Plain.{ArePlain}
 use Rattle.fragments.specs.Fragment.{nodes_text}
 use Rattle.message_model.specs.Writes.{text_nodes}
 use Rattle.xml_writer.proofs.ValueTexts.{canonical_visible, leaf_apart, canonical_apart}
-
-xml_visible : (c : ℕ) → IsVisible c → IsXmlChar c
-xml_visible c v = let low = v.low in let high = v.high in inl (omega (arith, low), omega (arith, high))
-
-pub all_xml : (chars : List ℕ) → AreVisible chars → AllByRecursion IsXmlChar chars
-all_xml [] v = tt
-all_xml (c ∷ chars) v = (xml_visible c v.0, all_xml chars v.1)
 
 text_xml : (codes : Option (List (List ℕ))) (chars : List ℕ) (l : Leaf) → IsLeafBy kind.Text codes chars l → AllByRecursion IsXmlChar chars
 text_xml (Some codes) chars (Code place) h = h.0
