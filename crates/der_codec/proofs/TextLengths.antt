@@ -1,5 +1,6 @@
 -- A text without codes and without a pattern is told by its length.
-use Rattle.std.proofs.Common.{◌≡◌, ℕ, List, length, None, Some, Err, refl, sym, ◌∙◌, encode_utf8_all}
+use Rattle.std.proofs.Common.{◌≡◌, ℕ, List, length, Option, None, Some, Err, false, refl, sym, ◌∙◌, encode_utf8_all}
+use Rattle.std.specs.Option.{is_some}
 use Rattle.std.specs.List.{AllByRecursion}
 use Rattle.lexical_core.specs.Characters.{IsXmlChar}
 use Rattle.lexical_core.specs.declared.rule.Rule.{Rule}
@@ -12,6 +13,10 @@ use Rattle.facets.specs.LeafUnder.{GivesLeaf}
 use Rattle.facets.specs.Rules.{BreaksFirst, BreaksPattern}
 use Rattle.facets.specs.declared.simple.Simple.{Simple}
 use Rattle.facets.proofs.TextRules.{length_broken, text_given}
+
+pub none_there : {A : Type 0} (o : Option A) → is_some o ≡ false → o ≡ None
+none_there None e = refl
+none_there (Some x) e = absurd cc
 
 no_pattern : (simple : Simple) (text : List ℕ) → simple.pattern ≡ None → BreaksPattern simple text → ⊥
 no_pattern simple text none (pattern, asked, some, is, other) = absurd (let both : None ≡ Some pattern = sym none ∙ some in cc)

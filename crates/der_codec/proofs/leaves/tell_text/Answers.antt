@@ -1,13 +1,12 @@
 use Rattle.std.proofs.Common.{Err, sym, ◌∙◌, subst}
-use Rattle.core.proofs.option.Match.{None-if_not_some}
 use Rattle.facets.specs.Checks.{IsLengthAnswer}
 use Rattle.facets.specs.Facets.{HasLength}
-use Rattle.der_codec.proofs.TextLengths.{length_fits, length_refused}
+use Rattle.der_codec.proofs.TextLengths.{none_there, length_fits, length_refused}
 use Rattle.der_codec.proofs.leaves.tell_text.Goals as goal
 
 pub returns-in-Ok-clause-told : goal.returns-in-Ok-clause-told
 returns-in-Ok-clause-told c = λ r.
-    let none = None-if_not_some c.args.simple.now.pattern (sym c.is_some.ensures ∙ c.if-is_some.false) in
+    let none = none_there c.args.simple.now.pattern (sym c.is_some.ensures ∙ c.if-is_some.false) in
     length_fits c.args.simple.now r.chars c.requires.kind c.requires.codes none r.are (subst (HasLength c.args.simple.now) (sym r.count_is) c.in-Ok.ensures.length)
 
 pub returns-in-Err-clause-told : goal.returns-in-Err-clause-told

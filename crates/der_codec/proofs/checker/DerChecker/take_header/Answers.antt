@@ -1,14 +1,14 @@
 use Rattle.std.proofs.Common.{◌+◌, ◌≤◌, ◌^◌, ◌++◌, ◌∙◌, length, take, sym, subst}
-use Rattle.core.proofs.option.Match.{None-if_not_some}
 use Rattle.der_model.specs.DerMessage.{der_message}
 use Rattle.der_codec.specs.Decoding.{IsHeaderDue}
 use Rattle.der_codec.specs.declared.decoder.Decoder.{Decoder}
+use Rattle.der_codec.proofs.TextLengths.{none_there}
 use Rattle.der_codec.proofs.UsualFed.{none_shown, fed_as, front_as, usual_taken, usual_stopped, some_taken}
 use Rattle.der_codec.proofs.Keeping.{none_keeping}
 use Rattle.der_codec.proofs.checker.DerChecker.take_header.Goals as goal
 
 pub take_run-taken-requires-clause-alone : goal.take_run-taken-requires-clause-alone
-take_run-taken-requires-clause-alone c = None-if_not_some c.args.self.now.pieces (sym c.is_some.ensures ∙ c.if-is_some.false)
+take_run-taken-requires-clause-alone c = none_there c.args.self.now.pieces (sym c.is_some.ensures ∙ c.if-is_some.false)
 
 pub take_first-requires-clause-room : goal.take_first-requires-clause-room
 take_first-requires-clause-room c = subst (λ (z : Decoder). z.place + length c.args.piece.now ≤ 2 ^ 40) (sym (c.take_run-taken.ensures.unchanged c.if-taken-eq0.true)) c.requires.room
@@ -50,16 +50,16 @@ returns-in-Err-clause-front c =
     usual_stopped c.args.model.now c.args.self.now c.take_run-taken.new.self c.end_here.new.self c.args.piece.now c.take_run-taken.result c.in-Err.stop c.take_run-taken.ensures.ok c.in-Err.ensures.err
 
 pub returns-then-taken-eq0-clause-keeps : goal.returns-then-taken-eq0-clause-keeps
-returns-then-taken-eq0-clause-keeps c = λ k. absurd (none_keeping c.args.model.now c.args.self.now (None-if_not_some c.args.self.now.pieces (sym c.is_some.ensures ∙ c.if-is_some.false)) k)
+returns-then-taken-eq0-clause-keeps c = λ k. absurd (none_keeping c.args.model.now c.args.self.now (none_there c.args.self.now.pieces (sym c.is_some.ensures ∙ c.if-is_some.false)) k)
 
 pub returns-in-Ok-clause-keeps : goal.returns-in-Ok-clause-keeps
-returns-in-Ok-clause-keeps c = λ k. absurd (none_keeping c.args.model.now c.args.self.now (None-if_not_some c.args.self.now.pieces (sym c.is_some.ensures ∙ c.if-is_some.false)) k)
+returns-in-Ok-clause-keeps c = λ k. absurd (none_keeping c.args.model.now c.args.self.now (none_there c.args.self.now.pieces (sym c.is_some.ensures ∙ c.if-is_some.false)) k)
 
 pub returns-in-Err-clause-keeps : goal.returns-in-Err-clause-keeps
-returns-in-Err-clause-keeps c = λ k. absurd (none_keeping c.args.model.now c.args.self.now (None-if_not_some c.args.self.now.pieces (sym c.is_some.ensures ∙ c.if-is_some.false)) k)
+returns-in-Err-clause-keeps c = λ k. absurd (none_keeping c.args.model.now c.args.self.now (none_there c.args.self.now.pieces (sym c.is_some.ensures ∙ c.if-is_some.false)) k)
 
 pub returns-then-taken-eq0-clause-memory : goal.returns-then-taken-eq0-clause-memory
-returns-then-taken-eq0-clause-memory c = λ bytes h e is. none_keeping c.args.model.now c.args.self.now (None-if_not_some c.args.self.now.pieces (sym c.is_some.ensures ∙ c.if-is_some.false)) e.keeping
+returns-then-taken-eq0-clause-memory c = λ bytes h e is. none_keeping c.args.model.now c.args.self.now (none_there c.args.self.now.pieces (sym c.is_some.ensures ∙ c.if-is_some.false)) e.keeping
 
 pub returns-in-Err-clause-memory : goal.returns-in-Err-clause-memory
-returns-in-Err-clause-memory c = λ bytes h e is. none_keeping c.args.model.now c.args.self.now (None-if_not_some c.args.self.now.pieces (sym c.is_some.ensures ∙ c.if-is_some.false)) e.keeping
+returns-in-Err-clause-memory c = λ bytes h e is. none_keeping c.args.model.now c.args.self.now (none_there c.args.self.now.pieces (sym c.is_some.ensures ∙ c.if-is_some.false)) e.keeping
