@@ -1,12 +1,12 @@
 -- The canonical XML of an instance has short tags, and is no longer than what is read.
 use Rattle.std.proofs.Common.{◌≡◌, inl, ℕ, zero, suc, ◌+◌, ◌≤◌, List, [], ◌++◌, codes, length, refl, sym, ap, ◌∙◌, arith, rules, length-append}
 use Rattle.data_types.specs.Value.{Value}
-use Rattle.data_types.proofs.VisibleTexts.{AreVisible}
+use Rattle.data_types.proofs.VisibleTexts.{AreVisible, visible_xml}
 use Rattle.markup.specs.Marks.{tag_limit}
 use Rattle.message_model.specs.Tables.{types_of, message_namespace, message_of}
 use Rattle.xml_writer.specs.CanonXml.{start_tag, end_tag, xml_declaration, namespace_text, IsCanonXml}
 use Rattle.xml_writer.specs.SpellingLaw.{HasNoLongTag}
-use Rattle.xml_writer.proofs.MessageNames.{namespace_visible, visible_xml, visible_literal, not_xml_namespace, not_xmlns_namespace}
+use Rattle.xml_writer.proofs.MessageNames.{namespace_visible, visible_literal, not_xml_namespace, not_xmlns_namespace}
 use Rattle.drill.specs.BuiltIn.{message_id, drill_tables}
 use Rattle.drill.specs.Growing.{instance}
 use Rattle.drill.specs.Drilled.{XmlIsReadable}
