@@ -209,7 +209,6 @@ impl Reader {
     /// tag of ASCII letters, digits, `-`, `.` and `_` (XML 1.0 §3.1). Its events are those that `take`
     /// tells, with names in the namespace of the innermost open element. Any other token is for
     /// `take`. Where there is no memory, and after an error, it answers as `take` does.
-    #[inline(always)]
     pub fn take_tag<'a>(&mut self, piece: &'a [u8]) -> Result<Option<PlainTag<'a>>, MarkError>
         requires { reader_failure self.old ≡ None → bytes_taken self.old + length piece.now ≤ 2 ^ 40 }
         ensures none { IfOk result (λ o. o ≡ None → self.new ≡ self.old) }
