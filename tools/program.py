@@ -30,9 +30,10 @@ class Fault(NamedTuple):
 
 
 class Source(NamedTuple):
-    """A file: the name that was given, and a path where its bytes can be read more than once."""
+    """A file: the name that was given, a path where its bytes can be read more than once, and why there is none where there should be a copy."""
     name: str
     path: str
+    fault: Optional[str] = None
 
 
 def source(name, stack):
@@ -41,16 +42,26 @@ def source(name, stack):
         is_kept = stat.S_ISREG(os.stat(name).st_mode) and not name.startswith(('/dev/', '/proc/'))
         if is_kept or os.path.isdir(name):
             return Source(name, name)
-        # These take as long to load as all else.
-        import shutil
-        import tempfile
-        copy = stack.enter_context(tempfile.NamedTemporaryFile(prefix='isorepo-'))
-        with open(name, 'rb') as file:
-            shutil.copyfileobj(file, copy)
-        copy.flush()
-        return Source(name, copy.name)
+        file = open(name, 'rb')
     except OSError:
         return Source(name, name)
+    with file:
+        return copied(name, file, stack)
+
+
+def copied(name, file, stack):
+    """A copy of an open file. Where it cannot be made whole, what was read of the pipe is gone: a folder stands for it, which no one can read."""
+    # These take as long to load as all else.
+    import shutil
+    import tempfile
+    try:
+        number, path = tempfile.mkstemp(prefix='isorepo-')
+        stack.callback(os.unlink, path)
+        with open(number, 'wb') as copy:
+            shutil.copyfileobj(file, copy)
+    except OSError as error:
+        return Source(name, '/', f'no copy of it in {tempfile.tempdir or "a folder"} could be made: {error.strerror}')
+    return Source(name, path)
 
 
 def codes_source(name, stack):

@@ -20,7 +20,7 @@ def unreadable(path):
 
 def read_faults(sources):
     """A line for each of the files that cannot be read."""
-    why = ((source.name, unreadable(source.path)) for source in sources)
+    why = ((source.name, source.fault or unreadable(source.path)) for source in sources)
     return [f'{name}: {text}' for name, text in why if text]
 
 
