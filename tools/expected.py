@@ -92,7 +92,8 @@ def tag_list(elements):
 
 def may_come(entry, came):
     """The tags that may come next in a component, choice or message after these, and whether its end may."""
-    came = [tag for tag in came if any(it.tag == tag for it in entry.elements)]
+    known = {it.tag for it in entry.elements}
+    came = [tag for tag in came if tag in known]
     last = next((place for place, it in enumerate(entry.elements) if came and it.tag == came[-1]), None)
     tags = []
     if last is not None:
@@ -133,6 +134,6 @@ def read_codes(path):
     if path != '-':
         with open(path, encoding='utf-8-sig', errors='replace', newline='') as file:
             for record in csv.reader(file):
-                if len(record) == 2 and record[1] not in codes.setdefault(record[0], []):
-                    codes[record[0]].append(record[1])
-    return codes
+                if len(record) == 2:
+                    codes.setdefault(record[0], {})[record[1]] = None
+    return {name: list(texts) for name, texts in codes.items()}

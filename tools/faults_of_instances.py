@@ -1,7 +1,6 @@
 """What a message has where an instance is refused, and which part of the line breaks the rule, for each rule."""
-import re
-
 from expected import FORMS, bounds_of, closest, may_come
+from faults_of_markup import bad_declaration, bad_octet, first_twice, is_closer, markup_expected
 from page import LINE_END, WIDTH
 from pattern_match import how_far
 from place import XSI
@@ -11,9 +10,6 @@ NAMESPACE = 'urn:iso:std:iso:20022:tech:xsd:'
 LEAF_RULES = ('BadText', 'BadLength', 'PatternFails', 'NotACode', 'Digits', 'OutOfRange')
 TAG_RULES = ('UnknownElement', 'OutOfOrder', 'TooMany', 'SecondAlternative', 'TextInComplex')
 PASSED_OVER = (f'{XSI} schemaLocation', f'{XSI} noNamespaceSchemaLocation')
-NO_CHARACTER = re.compile('[^\t\n\r\x20-\ud7ff\ue000-\ufffd\U00010000-\U0010ffff]')
-XML = 'http://www.w3.org/XML/1998/namespace'
-XMLNS = 'http://www.w3.org/2000/xmlns/'
 CLASSES = ('universal ', 'application ', '', 'private ')
 
 
@@ -24,16 +20,6 @@ def named(place, name):
     return next((it for it in reversed(place.attributes()) if it.name == name), None)
 
 
-def first_twice(place):
-    """The first attribute whose name came before."""
-    names = []
-    for it in place.attributes():
-        if it.name in names:
-            return it
-        names.append(it.name)
-    return None
-
-
 def first_unknown(place):
     """The first attribute that no element has; of several that one type has alone, as Ccy, the others come first."""
     expanded = place.expanded()
@@ -41,29 +27,6 @@ def first_unknown(place):
     names = expanded[2] if expanded and len(expanded[2]) == len(spelled) else [it.name for it in spelled]
     unknown = [it for it, name in zip(spelled, names) if name not in PASSED_OVER]
     return next((it for it in unknown if it.name != 'Ccy'), unknown[0] if unknown else None)
-
-
-def bad_declaration(place):
-    """The first declaration that binds what may not be bound so (Namespaces in XML 1.0, sections 3 and 5)."""
-    for it in place.attributes():
-        prefix = it.name.partition(':')[2]
-        if it.is_declaration() and (prefix == 'xmlns' or (prefix == 'xml') != (it.value == XML) or it.value == XMLNS or prefix and not it.value):
-            return it
-    return None
-
-
-def is_closer(place, at):
-    """Whether the place is at the end of `]]>`."""
-    return place.token == b'>' and place.data[:at].endswith(b']]')
-
-
-def bad_octet(place, at):
-    """Where behind a place the octets are no more UTF-8."""
-    try:
-        place.data[at:].decode()
-    except UnicodeDecodeError as error:
-        return at + error.start
-    return at
 
 
 def attribute_at_fault(fault, place):
@@ -175,10 +138,11 @@ def text_told(rule, text):
     """What the text has that the rule counts."""
     if rule == 'BadLength':
         return [f'the text has {len(text)} character{"" if len(text) == 1 else "s"}']
-    number = re.fullmatch(r'[+-]?0*([0-9]*)(?:\.([0-9]*?)0*)?', text.strip(' \t\r\n'))
-    if rule == 'Digits' and number:
-        whole, fraction = number[1], number[2] or ''
-        return [f'the number has {len(whole + fraction) if whole else len(fraction.lstrip("0"))} digits, {len(fraction)} behind the point']
+    if rule == 'Digits':
+        whole, _, fraction = text.strip(' \t\r\n').lstrip('+-').partition('.')
+        whole, fraction = whole.lstrip('0'), fraction.rstrip('0')
+        count = len(whole + fraction) if whole else len(fraction.lstrip('0'))
+        return [f'the number has {count} digit{"" if count == 1 else "s"}, {len(fraction)} behind the point']
     return []
 
 
@@ -220,78 +184,6 @@ def attribute_expected(types, fault, place):
     entry = open_entry(types, fault)
     told = ['Ccy alone'] if entry is not None and entry.currency else ['no attribute']
     return told + here_stands(first_unknown(place))
-
-
-# ---- faults of XML
-
-def utf8_expected(place, at):
-    if place.data[:2] in (b'\xfe\xff', b'\xff\xfe'):
-        return ['UTF-8; the file is in UTF-16']
-    octet = place.data[bad_octet(place, at):][:1]
-    character = octet.decode('cp1252', 'replace')
-    return ['UTF-8' + (f'; the octet {octet.hex()} is {character} in Windows-1252' if character.isprintable() else '')]
-
-
-def markup_told(place, at):
-    """What XML has where this is no markup."""
-    token = place.token
-    if re.match(rb'<\?xml\s', token):
-        if place.data[:at].removeprefix(b'\xef\xbb\xbf'):
-            return ['the declaration <?xml ..?> at the very start of the file, before anything else']
-        return ['<?xml version="1.0" encoding="UTF-8"?>, the one version and encoding that is read']
-    if token.startswith(b'<!--'):
-        return ['a comment in which no two hyphens stand together, and none at its end']
-    if is_closer(place, at):
-        return [']]&gt; for ]]> in a text']
-    if token.startswith(b'<?'):
-        return ['an instruction as <?name text?>, whose name is not xml']
-    if token.startswith(b'</'):
-        return ['an end tag as </Name>']
-    if not re.match(rb'<[A-Za-z_:\x80-\xff]', token):
-        return ['the sign < itself is &lt;'] if token.startswith(b'<') else []
-    if not token.endswith(b'>'):
-        return ['the > of this tag before the next <; the sign < itself is &lt;']
-    return ['attributes as name="value", each behind a space; in a value < is &lt;']
-
-
-def prefix_told(place):
-    bad, prefixes = bad_declaration(place), place.prefixes()
-    if bad or not prefixes:
-        return [f'no {bad.name}="{bad.value}"'] if bad else []
-    return ['another prefix than xmlns'] if 'xmlns' in prefixes else [f'a declaration of {", ".join(prefixes)}']
-
-
-def end_expected(fault, place):
-    """The end of the element that is open, and where it begins; of a token that is cut off its rest."""
-    cut = re.search(rb'<[^>]*\Z', place.data) if fault.rule == 'Truncated' else None
-    if not place.data:
-        return ['a document; the file is empty']
-    if cut:
-        return [f'the rest of {cut.group()[:WIDTH].decode(errors="replace")}']
-    if not place.open or fault.path == '/':
-        return []
-    return [f'</{place.open_name()}>, the end of what begins at {place.open[-1].line}:{place.open[-1].column}']
-
-
-def markup_expected(fault, place):
-    """What XML has there."""
-    at = int(fault.where)
-    if fault.rule == 'BadUtf8':
-        return utf8_expected(place, at)
-    if fault.rule == 'BadMarkup':
-        return markup_told(place, at)
-    if fault.rule == 'BadReference':
-        return ['&amp; &lt; &gt; &quot; &apos; or the number of a character, as &#233;; the sign & itself is &amp;']
-    if fault.rule == 'BadChar':
-        found = NO_CHARACTER.search(place.token_text())
-        return [f'no U+{ord(found.group()):04X}'] if found else []
-    if fault.rule == 'BadPrefix':
-        return prefix_told(place)
-    if fault.rule == 'DuplicateAttribute' and first_twice(place):
-        return [f'{first_twice(place).name} once']
-    if fault.rule == 'TextOutside' and at == 0 and place.data[:1] == b'0':
-        return ['XML; the file may be in DER, which `show --der` reads']
-    return end_expected(fault, place) if fault.rule in ('TagMismatch', 'Truncated') else []
 
 
 # ---- by the rule

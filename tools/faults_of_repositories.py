@@ -1,7 +1,8 @@
 """What a repository, its codes or a message should have where they are refused, and which part breaks the rule."""
 import re
 
-from faults_of_instances import markup_expected, parts_of
+from faults_of_instances import parts_of
+from faults_of_markup import markup_expected
 from pattern_language import PatternFault, read_pattern
 from place import Place
 from repository_file import REPOSITORY

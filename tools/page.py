@@ -6,6 +6,7 @@ from typing import NamedTuple
 WIDTH = 110
 LEAST_WIDTH = 10
 FAR = 2000
+BOM = b'\xef\xbb\xbf'
 LINE_END = re.compile(rb'\r\n|\r|\n')
 COLOURS = {'head': '\033[1m', 'mark': '\033[1;31m', 'label': '\033[36m', 'end': '\033[0m'}
 
@@ -39,7 +40,7 @@ class Style:
 def spot_of(data, place, parts):
     """The spot of an octet of `data`, which goes on behind it to the end of its line, or far. Parts are octets from and to, and marked as far as they are shown."""
     begins = [match.end() for match in LINE_END.finditer(data, 0, place)]
-    line_start = begins[-1] if begins else 0
+    line_start = begins[-1] if begins else len(BOM) if data.startswith(BOM) and place >= len(BOM) else 0
     end = LINE_END.search(data, place)
     stop = min(end.start() if end else len(data), place + FAR)
     start = max(line_start, place - FAR)

@@ -1,7 +1,10 @@
 """What stands before a place of an instance in XML, and the token at it."""
 import re
+from functools import lru_cache
 from typing import NamedTuple
 from xml.parsers import expat
+
+from page import BOM
 
 XSI = 'http://www.w3.org/2001/XMLSchema-instance'
 TOKEN = re.compile(rb'<!--.*?-->|<\?.*?\?>|<!\[CDATA\[.*?\]\]>|<(?:[^<>"\']|"[^"]*"|\'[^\']*\')*>?|&(?:#?\w+;)?|[\xc0-\xff][\x80-\xbf]{0,3}|.', re.S)
@@ -30,11 +33,12 @@ class Attribute(NamedTuple):
 
 
 class Place:
-    """The elements that are open before a place, the last text, and the token there; `data` goes on behind the place."""
+    """The elements that are open before a place, the last text, and the token there; `data` goes on behind the place. It `follows` where expat takes all that stands before."""
 
     def __init__(self, data, place):
         self.data = data
         self.open = []
+        self.last_tag = None
         self.bound = {'xml': 1}
         self.pieces = []
         found = TOKEN.match(data, place)
@@ -43,17 +47,23 @@ class Place:
         self.parser.buffer_text = True
         self.parser.ordered_attributes = True
         self.parser.StartElementHandler = self.start
-        self.parser.EndElementHandler = lambda _name: self.open.pop()
+        self.parser.EndElementHandler = self.end
         self.parser.CharacterDataHandler = self.pieces.append
         self.parser.StartNamespaceDeclHandler = self.bind
         self.parser.EndNamespaceDeclHandler = self.unbind
-        self.parse(data[:place])
+        # Of a text expat holds `]` and CR at its end back until it sees that a tag begins.
+        self.is_tag = data[place:place + 1] == b'<'
+        self.follows = self.parse(data[:place + self.is_tag])
+        if not self.follows:
+            self.open.clear()
 
     def parse(self, data):
+        """Whether expat takes the data."""
         try:
             self.parser.Parse(data, False)
         except (expat.ExpatError, LookupError, ValueError):
-            pass
+            return False
+        return True
 
     def bind(self, prefix, _space):
         self.bound[prefix] = self.bound.get(prefix, 0) + 1
@@ -65,9 +75,18 @@ class Place:
         tag = name.rpartition(' ')[2]
         if self.open:
             self.open[-1].children.append(tag)
-        at = self.parser.CurrentByteIndex, self.parser.CurrentLineNumber, self.parser.CurrentColumnNumber + 1
-        self.open.append(Open(tag, *at, []))
+        line, column = self.parser.CurrentLineNumber, self.parser.CurrentColumnNumber + 1
+        self.last_tag = self.parser.CurrentByteIndex
+        self.open.append(Open(tag, self.last_tag, line, column - (line == 1 and self.data.startswith(BOM)), []))
         self.pieces.clear()
+
+    def end(self, _name):
+        self.open.pop()
+        self.last_tag = self.parser.CurrentByteIndex
+
+    def tag_end(self):
+        """The octet behind the last tag; 0: there is none."""
+        return 0 if self.last_tag is None else TOKEN.match(self.data, self.last_tag).end()
 
     def text(self):
         """The text behind the last start tag."""
@@ -83,12 +102,13 @@ class Place:
         found = TOKEN.match(self.data, self.open[-1].octet) if self.open else None
         return found.end() if found else 0
 
+    @lru_cache(None)
     def expanded(self):
-        """The namespace and tag of the start tag at the place, and the names of its attributes; None of any other token. Nothing else is asked behind it."""
+        """The namespace and tag of the start tag at the place, and the names of its attributes; None of any other token. No events are asked behind it."""
         started = []
         self.parser.StartElementHandler = lambda name, attributes: started.append((name, attributes[::2]))
         self.parser.EndElementHandler = None
-        self.parse(self.token)
+        self.parse(self.token[self.is_tag:])
         if not started:
             return None
         space, _, tag = started[0][0].rpartition(' ')

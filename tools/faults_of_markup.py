@@ -1,0 +1,134 @@
+"""What XML has where an instance or a repository breaks a rule of it, for each of these rules."""
+import re
+
+from page import WIDTH, spot_of
+from place import TOKEN
+
+NO_CHARACTER = re.compile('[^\t\n\r\x20-\ud7ff\ue000-\ufffd\U00010000-\U0010ffff]')
+XML = 'http://www.w3.org/XML/1998/namespace'
+XMLNS = 'http://www.w3.org/2000/xmlns/'
+# what ends a comment, a CDATA section and an instruction
+CLOSERS = {b'<!--': b'-->', b'<![CDATA[': b']]>', b'<?': b'?>'}
+
+
+# ---- the part that breaks the rule
+
+def first_twice(place):
+    """The first attribute whose name came before."""
+    names = []
+    for it in place.attributes():
+        if it.name in names:
+            return it
+        names.append(it.name)
+    return None
+
+
+def bad_declaration(place):
+    """The first declaration that binds what may not be bound so (Namespaces in XML 1.0, sections 3 and 5)."""
+    for it in place.attributes():
+        prefix = it.name.partition(':')[2]
+        if it.is_declaration() and (prefix == 'xmlns' or (prefix == 'xml') != (it.value == XML) or it.value == XMLNS or prefix and not it.value):
+            return it
+    return None
+
+
+def is_closer(place, at):
+    """Whether the place is at the end of `]]>`."""
+    return place.token == b'>' and place.data[:at].endswith(b']]')
+
+
+def bad_octet(place, at):
+    """Where behind a place the octets are no more UTF-8."""
+    try:
+        place.data[at:].decode()
+    except UnicodeDecodeError as error:
+        return at + error.start
+    return at
+
+
+# ---- what was expected
+
+def utf8_expected(place, at):
+    if place.data[:2] in (b'\xfe\xff', b'\xff\xfe'):
+        return ['UTF-8; the file is in UTF-16']
+    octet = place.data[bad_octet(place, at):][:1]
+    character = octet.decode('cp1252', 'replace')
+    return ['UTF-8' + (f'; the octet {octet.hex()} is {character} in Windows-1252' if character.isprintable() else '')]
+
+
+def markup_told(place, at):
+    """What XML has where this is no markup."""
+    token = place.token
+    if re.match(rb'<\?xml\s', token):
+        if place.data[:at].removeprefix(b'\xef\xbb\xbf'):
+            return ['the declaration <?xml ..?> at the very start of the file, before anything else']
+        return ['<?xml version="1.0" encoding="UTF-8"?>, the one version and encoding that is read']
+    if token.startswith(b'<!--'):
+        return ['a comment in which no two hyphens stand together, and none at its end']
+    if is_closer(place, at):
+        return [']]&gt; for ]]> in a text']
+    if token.startswith(b'<?'):
+        return ['an instruction as <?name text?>, whose name is not xml']
+    if token.startswith(b'</'):
+        return ['an end tag as </Name>']
+    if not re.match(rb'<[A-Za-z_:\x80-\xff]', token):
+        return ['the sign < itself is &lt;'] if token.startswith(b'<') else []
+    if not token.endswith(b'>'):
+        return ['the > of this tag before the next <; the sign < itself is &lt;']
+    return ['attributes as name="value", each behind a space; in a value < is &lt;']
+
+
+def prefix_told(place):
+    bad, prefixes = bad_declaration(place), place.prefixes()
+    if bad or not prefixes:
+        return [f'no {bad.name}="{bad.value}"'] if bad else []
+    return ['another prefix than xmlns'] if 'xmlns' in prefixes else [f'a declaration of {", ".join(prefixes)}']
+
+
+def cut_token(place):
+    """The octet where a token begins that the end of the file cuts off, and what ends such a token, but for a tag; None: there is none."""
+    at = place.data.find(b'<', place.tag_end())
+    while at >= 0:
+        opener = next((it for it in CLOSERS if place.data.startswith(it, at)), None)
+        token = TOKEN.match(place.data, at).group()
+        end = place.data.find(CLOSERS[opener], at + len(opener)) if opener else at + len(token) if token.endswith(b'>') else -1
+        if end < 0:
+            return at, CLOSERS[opener].decode() if opener else ''
+        at = place.data.find(b'<', end)
+    return None
+
+
+def end_expected(fault, place):
+    """The end of the element that is open, and where it begins; of a token that is cut off its rest."""
+    if not place.data:
+        return ['a document; the file is empty']
+    cut = cut_token(place) if fault.rule == 'Truncated' else None
+    if cut and cut[1]:
+        spot = spot_of(place.data, cut[0], [])
+        return [f'{cut[1]}, the end of what begins at {spot.line}:{spot.column}']
+    if cut:
+        return [f'the rest of {place.data[cut[0]:][:WIDTH].decode(errors="replace")}']
+    if not place.open or fault.path == '/':
+        return []
+    return [f'</{place.open_name()}>, the end of what begins at {place.open[-1].line}:{place.open[-1].column}']
+
+
+def markup_expected(fault, place):
+    """What XML has there."""
+    at = int(fault.where)
+    if fault.rule == 'BadUtf8':
+        return utf8_expected(place, at)
+    if fault.rule == 'BadMarkup':
+        return markup_told(place, at)
+    if fault.rule == 'BadReference':
+        return ['&amp; &lt; &gt; &quot; &apos; or the number of a character, as &#233;; the sign & itself is &amp;']
+    if fault.rule == 'BadChar':
+        found = NO_CHARACTER.search(place.token_text())
+        return [f'no U+{ord(found.group()):04X}'] if found else []
+    if fault.rule == 'BadPrefix':
+        return prefix_told(place)
+    if fault.rule == 'DuplicateAttribute' and first_twice(place):
+        return [f'{first_twice(place).name} once']
+    if fault.rule == 'TextOutside' and at == 0 and place.data[:1] == b'0':
+        return ['XML; the file may be in DER, which `show --der` reads']
+    return end_expected(fault, place) if fault.rule in ('TagMismatch', 'Truncated') else []
