@@ -8,6 +8,7 @@ from repository_file import COMPONENTS, Entry, codes_of
 FORMS = {'Date': '2026-11-27', 'DateTime': '2026-11-27T09:30:00', 'Time': '09:30:00', 'Year': '2026', 'YearMonth': '2026-11',
          'MonthDay': '--11-27', 'Month': '--11', 'Day': '---27'}
 FIRST_CODES = 8
+LONGEST_MEANT = 256
 csv.field_size_limit(2 ** 31 - 1)
 
 
@@ -112,7 +113,9 @@ def may_come(entry, came):
 
 
 def closest(word, words):
-    """The word that may have been meant, whatever its capitals."""
+    """The word that may have been meant, whatever its capitals; of a long one it is not asked, since that takes long."""
+    if len(word) > LONGEST_MEANT:
+        return None
     small = {it.lower(): it for it in reversed(words)}
     found = difflib.get_close_matches(word, words, 1) or difflib.get_close_matches(word.lower(), small, 1)
     return small.get(found[0], found[0]) if found else None

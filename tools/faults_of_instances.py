@@ -33,7 +33,7 @@ def attribute_at_fault(fault, place):
     if fault.path and fault.path.endswith('@Ccy') and fault.rule in LEAF_RULES:
         return named(place, 'Ccy')
     if fault.rule == 'UnknownAttribute':
-        return first_unknown(place)
+        return first_unknown(place) if place.follows else None
     by_rule = {'DuplicateAttribute': first_twice, 'BadPrefix': bad_declaration}
     return by_rule[fault.rule](place) if fault.rule in by_rule else None
 
@@ -189,9 +189,11 @@ def attribute_expected(types, fault, place):
 # ---- by the rule
 
 def expected(types, fault, place):
-    """Lines that say what the message has there."""
+    """Lines that say what the message has there; none where its types, or what stands before the place, could not be read."""
     if fault.rule in MARKUP:
         return markup_expected(fault, place)
+    if types is None or not place.follows:
+        return []
     if fault.rule == 'WrongRoot':
         return root_expected(types, place)
     if fault.rule == 'Missing':
@@ -209,6 +211,8 @@ def octets_expected(types, fault, octets):
     """Lines that say what the message has at a place of DER, before these octets."""
     if fault.where == '0' and octets.removeprefix(b'\xef\xbb\xbf').lstrip()[:1] == b'<':
         return ['DER; the file may be in XML, which `show` without --der reads']
+    if types is None:
+        return []
     if fault.rule == 'Missing':
         return missing_expected(types, fault)
     if fault.rule == 'Truncated' and fault.where == '0':

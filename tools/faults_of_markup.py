@@ -79,7 +79,7 @@ def markup_told(place, at):
 
 
 def prefix_told(place):
-    bad, prefixes = bad_declaration(place), place.prefixes()
+    bad, prefixes = bad_declaration(place), place.prefixes() if place.follows else []
     if bad or not prefixes:
         return [f'no {bad.name}="{bad.value}"'] if bad else []
     return ['another prefix than xmlns'] if 'xmlns' in prefixes else [f'a declaration of {", ".join(prefixes)}']

@@ -82,12 +82,12 @@ def pattern_fault(text):
 
 def message_fault(rule, line, elements, entry, entries):
     """The line of the element at fault, else that of its owner, and what was expected."""
-    tags = []
+    tags = set()
     for element in elements:
         told = element_fault(rule, element, entries, tags)
         if told:
             return element.line, [told]
-        tags.append(element.tag)
+        tags.add(element.tag)
     if rule == 'M13' and entry is not None and 'pattern' in entry.facets:
         return line, pattern_fault(entry.facets['pattern'])
     if rule == 'M3' and entry is not None and entry.currency is not None:

@@ -108,43 +108,47 @@ def read_element(node, least):
                    references[0] if references else None, node.line)
 
 
+def all_of(node, name):
+    """The children of the name, in no namespace or in that of a repository."""
+    return [child for child in node.children if child.name == name and child.space in ('', REPOSITORY)]
+
+
 def read_entry(node):
+    """An entry; elements and codes within one of another kind are none, whatever they have."""
     kind = node.get(f'{{{XSI}}}type', '').partition(':')[2] or node.get(f'{{{XSI}}}type', '')
     least = 1 if kind == 'ChoiceComponent' else 0
     return Entry(kind, node.get('name', ''), {name: node.get(name) for name in FACETS if node.get(name)},
-                 [(code.get('name', ''), code.get('codeName') or None) for code in node.all_of('code')],
-                 [read_element(child, least) for child in node.all_of('messageElement')],
+                 [(code.get('name', ''), code.get('codeName') or None) for code in all_of(node, 'code') if kind == 'CodeSet'],
+                 [read_element(child, least) for child in all_of(node, 'messageElement') if kind in COMPONENTS],
                  node.get('currencyIdentifierSet') or None, node.get('trace') or None, node.line)
 
 
 def read_message(node):
-    identifiers = node.all_of('messageDefinitionIdentifier')
+    identifiers = all_of(node, 'messageDefinitionIdentifier')
     identifier = '.'.join(identifiers[0].get(part, '') for part in IDENTIFIER) if identifiers else ''
     return Message(identifier, node.get('name', ''), node.get('xmlTag', ''),
-                   [read_element(child, 0) for child in node.all_of('messageBuildingBlock')], node.line)
+                   [read_element(child, 0) for child in all_of(node, 'messageBuildingBlock')], node.line)
 
 
 def read_repository(data):
-    """The entries by id and the messages of a repository file that the program accepts."""
+    """The entries by id and the messages of a repository file that the program accepts; NotXml where expat does not take it."""
     root = read_tree(data)
     entries = {}
-    for dictionary in root.all_of('dataDictionary'):
-        for node in dictionary.all_of('topLevelDictionaryEntry'):
+    for dictionary in all_of(root, 'dataDictionary'):
+        for node in all_of(dictionary, 'topLevelDictionaryEntry'):
             entries.setdefault(node.get(f'{{{XMI}}}id', ''), read_entry(node))
-    return entries, [read_message(node) for catalogue in root.all_of('businessProcessCatalogue')
-                     for top in catalogue.all_of('topLevelCatalogueEntry') for node in top.all_of('messageDefinition')]
+    return entries, [read_message(node) for catalogue in all_of(root, 'businessProcessCatalogue')
+                     for top in all_of(catalogue, 'topLevelCatalogueEntry') for node in all_of(top, 'messageDefinition')]
 
 
 def codes_of(entries, identity):
     """The texts of a code set's codes, those by trace with it."""
     entry = entries[identity]
-    return [text for text in (code_text(entries, entry, name, text) for name, text in entry.codes) if text]
-
-
-def code_text(entries, entry, name, text):
+    found = list(entry.codes)
     for _ in range(16):
         entry = entries.get(entry.trace)
-        if text or entry is None:
+        if entry is None:
             break
-        text = next((other_text for other, other_text in entry.codes if other == name), None)
-    return text
+        first = dict(reversed(entry.codes))
+        found = [(name, text or first.get(name)) for name, text in found]
+    return [text for _, text in found if text]

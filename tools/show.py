@@ -16,6 +16,7 @@ from program import CODES, INSTANCE, MESSAGE, REPOSITORY, Fault, Source, check, 
 from repository_file import read_repository
 from rule_sentences import SENTENCES
 from word_faults import word_faults
+from xml_tree import NotXml
 
 USAGE = 'usage: isorepo show [--der] [--json] REPO CODES MSGID FILE'
 FIRST_MESSAGES = 8
@@ -51,8 +52,11 @@ class Call:
             return read_repository(file.read())
 
     def types(self):
-        """The types of the message, which the program has compiled."""
-        entries, messages = self.read_repository()
+        """The types of the message, which the program has compiled; None where expat does not take the repository, as for names in characters that it does not know."""
+        try:
+            entries, messages = self.read_repository()
+        except NotXml:
+            return None
         message = next(it for it in messages if it.identifier == self.message)
         return Types(entries, message, read_codes(self.codes.path), [it.identifier for it in messages])
 
@@ -83,8 +87,11 @@ def of_repository(call, fault):
 
 
 def of_message(call, fault):
-    """A fault of a message is in the line of its object or of an element of it, where the repository has it."""
-    entries, messages = call.read_repository()
+    """A fault of a message is in the line of its object or of an element of it, where the repository has it and expat takes it."""
+    try:
+        entries, messages = call.read_repository()
+    except NotXml:
+        return Told(call.repository, fault, None, [])
     entry = entries.get(fault.where)
     message = next((it for it in messages if it.identifier == fault.where), None)
     if entry or message:

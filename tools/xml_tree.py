@@ -17,10 +17,6 @@ class Node:
     def get(self, name, default=None):
         return self.attributes.get(name, default)
 
-    def all_of(self, name):
-        """The children of the name, in no namespace or in that of this element."""
-        return [child for child in self.children if child.name == name and child.space in ('', self.space)]
-
 
 class NotXml(Exception):
     """The bytes are no XML, or have a document type; `line` says where."""
