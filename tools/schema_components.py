@@ -1,9 +1,11 @@
 """The complex types of a schema as components, choices, envelopes and amounts of a repository, and its message."""
+import collections
 import re
 
-from repository_file import COMPONENTS, Element, Entry, Message
+from repository_file import Element, Entry, Message
 from schema_file import NAMESPACE, XS, parts
-from schema_simple_types import MOST_NUMBER, SimpleTypes, facet_texts, kind_of
+from schema_finite import finite
+from schema_simple_types import MOST_NUMBER, SimpleTypes, facet_texts, kind_of, number_of
 
 GROUPS = ('sequence', 'choice')
 KIND_OF_GROUP = {'sequence': 'MessageComponent', 'choice': 'ChoiceComponent'}
@@ -29,7 +31,7 @@ class Components:
         self.schema = schema
         self.simple_types = SimpleTypes(schema)
         self.entries = {}
-        self.waiting = []
+        self.waiting = collections.deque()
         self.taken = {'Document'}
 
     # ---- occurrences and groups
@@ -38,10 +40,11 @@ class Components:
         text = node.get(name, '1').strip()
         if name == 'maxOccurs' and text == 'unbounded':
             return None
-        if not re.fullmatch('[0-9]+', text) or int(text) > MOST_NUMBER:
+        number = number_of(text)
+        if number is None:
             self.schema.tell(node, f'{name} is not a number up to {MOST_NUMBER}')
             return 1
-        return int(text)
+        return number
 
     def group(self, node):
         """The group with inner groups joined where that says the same."""
@@ -76,10 +79,11 @@ class Components:
         return kept
 
     def check_elements(self, group, found, kept):
-        tags = [element.tag for element in kept]
-        for place, element in enumerate(kept):
-            if element.tag in tags[:place]:
+        tags = set()
+        for element in kept:
+            if element.tag in tags:
                 self.schema.problems.tell(self.schema.path, element.line, f'the tag {element.tag} twice in one {group.kind}')
+            tags.add(element.tag)
         if group.kind == 'choice':
             for element in found:
                 if element.least == 0 or element.most == 0:
@@ -140,7 +144,7 @@ class Components:
 
     def make_waiting(self):
         while self.waiting:
-            key, node = self.waiting.pop(0)
+            key, node = self.waiting.popleft()
             if node.name == 'simpleType':
                 simple = self.simple_types.of_node(node)
                 if simple is not None:
@@ -161,6 +165,7 @@ class Components:
         return self.group(inner[0]) if inner[0].name in GROUPS else inner[0]
 
     def complex_type(self, entry, node):
+        told = len(self.schema.problems.found)
         content = self.content(node)
         if content is None:
             return
@@ -171,13 +176,13 @@ class Components:
         else:
             entry.kind = KIND_OF_GROUP.get(content.kind, 'MessageComponent')
             entry.elements = self.elements(content, entry.name)
-            self.check_empty(node, entry.elements)
+            self.check_empty(node, entry.elements, told)
 
-    def check_empty(self, node, elements):
+    def check_empty(self, node, elements, told):
         """In a complex type whose group has parts white space may stand, even if they are no elements."""
         for group in parts(node):
             if parts(group) and not elements:
-                self.schema.tell(group, f'a {group.name} with parts, but without elements: white space may stand in it')
+                self.tell_alone(group, f'a {group.name} with parts, but without elements: white space may stand in it', told)
 
     def envelope(self, entry, node):
         entry.kind = 'ExternalSchema'
@@ -228,17 +233,22 @@ class Components:
         if block is None:
             return None
         name = block.get('type', '').strip().rpartition(':')[2] or block.get('name', '')
-        node = self.declared_type(block)
+        node, before = self.declared_type(block), len(self.schema.problems.found)
         content = None if node is None else self.content(node)
         if not isinstance(content, Group) or content.kind == 'choice':
-            self.schema.tell(block, f'the message `{name}` is no sequence of elements')
+            self.tell_alone(block, f'the message `{name}` is no sequence of elements', before)
             return None
         message = Message(identifier, name, block.get('name', ''), self.elements(content, name), node.line)
-        self.check_empty(node, message.blocks)
+        self.check_empty(node, message.blocks, before)
         self.make_waiting()
         self.check_reached(message)
         self.name_apart(message)
         return message if len(self.schema.problems.found) == told else None
+
+    def tell_alone(self, node, what, told):
+        """Tells of something, but where more was told than so many things: it follows of these."""
+        if len(self.schema.problems.found) == told:
+            self.schema.tell(node, what)
 
     def declared_type(self, node):
         """The complex type of Document or of its element; None where it has none."""
@@ -262,10 +272,10 @@ class Components:
             return None
         root = documents[0]
         self.schema.only(root, 'name', 'type')
-        node = self.declared_type(root)
+        node, told = self.declared_type(root), len(self.schema.problems.found)
         content = None if node is None else self.content(node)
         if not isinstance(content, Group) or len(content.members) != 1 or getattr(content.members[0], 'name', '') != 'element':
-            self.schema.tell(root, 'Document does not hold one element')
+            self.tell_alone(root, 'Document does not hold one element', told)
             return None
         block = content.members[0]
         self.schema.only(block, 'name', 'type', 'minOccurs', 'maxOccurs')
@@ -286,25 +296,8 @@ class Components:
                 tell(self.schema.path, named.line, f'the name `{named.name}` is not an ASCII name of at most 256 characters')
         if len(self.entries) > MOST_ENTRIES:
             tell(self.schema.path, message.line, f'more than {MOST_ENTRIES} types')
-        for key in set(self.entries) - self.finite():
+        for key in set(self.entries) - finite(self.entries):
             tell(self.schema.path, self.entries[key].line, f'{self.entries[key].name} has no finite instance')
-
-    def finite(self):
-        """The keys of the types that have a finite instance."""
-        known = set()
-        grown = True
-        while grown:
-            more = {key for key, entry in self.entries.items() if key not in known and self.is_finite(entry, known)}
-            known |= more
-            grown = bool(more)
-        return known
-
-    @staticmethod
-    def is_finite(entry, known):
-        if entry.kind not in COMPONENTS:
-            return True
-        needed = [element.reference is None or element.reference in known for element in entry.elements if element.least > 0]
-        return any(needed) or not needed if entry.kind == 'ChoiceComponent' else all(needed)
 
     def name_apart(self, message):
         """Gives a name that is taken a number behind it; an amount takes a second name (rule M16)."""

@@ -12,11 +12,10 @@ class Problems:
     """What is found that a repository cannot say, by file and line."""
 
     def __init__(self):
-        self.found = []
+        self.found = {}
 
     def tell(self, path, line, what):
-        if (path, line, what) not in self.found:
-            self.found.append((path, line, what))
+        self.found[path, line, what] = None
 
     def lines(self):
         """A line for each, by file in the order in which files were given, and by line."""

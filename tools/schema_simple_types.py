@@ -34,6 +34,13 @@ class SimpleType:
     codes: list = field(default_factory=list)
 
 
+def number_of(text):
+    """The number that digits are; None: they are none, or it is above MOST_NUMBER."""
+    digits = text.lstrip('0') or '0'
+    is_number = re.fullmatch('[0-9]+', text) and len(digits) <= len(str(MOST_NUMBER)) and int(digits) <= MOST_NUMBER
+    return int(digits) if is_number else None
+
+
 def facets_of_family(family):
     """The facets that a repository has for it."""
     if family == 'text':
@@ -106,33 +113,35 @@ class SimpleTypes:
     def take_values(self, steps, base, result):
         """Numbers and bounds; a bound takes the place of the base's bound on its side."""
         for facet in steps:
-            if facet.name not in facets_of_family(base.family) or facet.get('value') is None:
+            if facet.name not in LENGTHS + DIGITS + LOWER + UPPER or facet.name not in facets_of_family(base.family) or facet.get('value') is None:
                 continue
-            if facet.name in LENGTHS + DIGITS:
-                result.facets[facet.name] = self.number(facet)
+            value = self.number(facet) if facet.name in LENGTHS + DIGITS else self.decimal(facet)
+            if value is None:
+                continue
             for side in (LOWER, UPPER):
                 if facet.name in side:
                     for name in side:
                         result.facets.pop(name, None)
-                    result.facets[facet.name] = self.decimal(facet)
+            result.facets[facet.name] = value
 
     def number(self, facet):
-        text = facet.get('value').strip().lstrip('+')
-        if not re.fullmatch('[0-9]+', text) or int(text) > MOST_NUMBER:
+        """The number of a facet; None where it was told that it is none."""
+        value = number_of(facet.get('value').strip().lstrip('+'))
+        if value is None:
             self.schema.tell(facet, f'{facet.name} is not a number up to {MOST_NUMBER}')
-            return 0
-        return int(text)
+        return value
 
     def decimal(self, facet):
+        """The decimal of a facet; None where it was told that it is none."""
         text = facet.get('value').strip()
         if not re.fullmatch(r'[+-]?([0-9]+(\.[0-9]*)?|\.[0-9]+)', text):
             self.schema.tell(facet, f'{facet.name} is not a decimal')
-            return Decimal(0)
-        value = Decimal(text)
-        digits = format(value.copy_abs(), 'f').strip('0') if '.' in text else str(abs(int(text)))
-        if sum(character.isdigit() for character in digits) > MOST_DIGITS:
+            return None
+        whole, _, fraction = text.lstrip('+-').partition('.')
+        if len(whole.lstrip('0') + fraction.rstrip('0')) > MOST_DIGITS:
             self.schema.tell(facet, f'{facet.name} has more than {MOST_DIGITS} digits')
-        return value
+            return None
+        return Decimal(text)
 
     def take_patterns(self, facets, base, result):
         """Patterns of one restriction are alternatives; those of two restrictions both count."""
