@@ -8,8 +8,10 @@ import os
 import signal
 from concurrent.futures import ThreadPoolExecutor
 from pathlib import Path
+from typing import NamedTuple
 
-from program import DONE, FAILED_READ, READ, answer, check, codes_source, fault_of, source
+from page import BOM
+from program import DONE, FAILED_READ, READ, WORDS, Answer, answer, check, codes_source, fault_of, source
 from rule_sentences import SENTENCES
 from word_faults import word_faults
 
@@ -17,14 +19,22 @@ HEAD = ('file', 'status', 'rule', 'place', 'path', 'line')
 USAGE = 'usage: isorepo check-all [--der] [--from LIST] REPO CODES MSGID FILES..'
 BAR = 40
 AT_ONCE = 4096
+UNREAD = Answer(READ, '', FAILED_READ)
+
+
+class File(NamedTuple):
+    """A file that is asked about; one that was found below a folder and is no plain file is not read."""
+    path: str
+    is_read: bool = True
 
 
 def files_below(folder, ending):
-    """The files below a folder whose names have the ending, a link to nothing too, and the folders that cannot be read."""
+    """What is below a folder and has the ending, in order; the folders that cannot be read, and links to folders, too."""
     found = []
-    for at, _, names in os.walk(folder, onerror=lambda error: found.append(error.filename)):
-        paths = (os.path.join(at, name) for name in names if os.path.splitext(name)[1].lower() == ending)
-        found += [str(Path(path)) for path in paths if os.path.isfile(path) or not os.path.exists(path)]
+    for at, folders, names in os.walk(folder, onerror=lambda error: found.append(File(error.filename, False))):
+        paths = [os.path.join(at, name) for name in names if name.lower().endswith(ending)]
+        links = [path for path in (os.path.join(at, name) for name in folders) if os.path.islink(path)]
+        found += [File(str(Path(path)), os.path.isfile(path)) for path in paths + links]
     return sorted(found)
 
 
@@ -34,13 +44,13 @@ def files_of(words, ending):
         if os.path.isdir(word):
             yield from files_below(word, ending)
         else:
-            yield word
+            yield File(word)
 
 
 def names_of(path):
     """The names in a list, a line each, or parted by zero octets if it has some; `-` is standard input."""
     with open(0 if path == '-' else path, 'rb') as file:
-        data = file.read()
+        data = file.read().removeprefix(BOM)
     return [os.fsdecode(name) for name in (data.split(b'\0') if b'\0' in data else data.splitlines()) if name]
 
 
@@ -86,7 +96,7 @@ def summary(counts):
 def answers(pool, verb, words, files):
     """The answer for each file, in their order. Some thousands are asked for at a time, so that a million of files takes no more memory."""
     for start in range(0, len(files), AT_ONCE):
-        yield from pool.map(lambda path: check(*words, path, verb), files[start:start + AT_ONCE])
+        yield from pool.map(lambda file: check(*words, file.path, verb) if file.is_read else UNREAD, files[start:start + AT_ONCE])
 
 
 def check_files(verb, words, files, counts):
@@ -96,10 +106,10 @@ def check_files(verb, words, files, counts):
     worst, progress = DONE, Progress(len(files))
     pool = ThreadPoolExecutor(len(os.sched_getaffinity(0)))
     try:
-        for done, (path, given) in enumerate(zip(files, answers(pool, verb, words, files)), 1):
+        for done, (file, given) in enumerate(zip(files, answers(pool, verb, words, files)), 1):
             if given.status == SIGNALLED + signal.SIGINT:
                 raise KeyboardInterrupt
-            row = row_of(path, given)
+            row = row_of(file.path, given)
             table.writerow(row)
             worst = max(worst, given.status)
             counts[row[2] or ('accepted' if given.status == DONE else given.line or f'status {given.status}')] += 1
@@ -111,12 +121,15 @@ def check_files(verb, words, files, counts):
 
 
 def check_all(verb, repository, codes, message, files):
-    """The table and its summary; only a line where repository, codes or message are refused."""
+    """The table and its summary; only a line where repository, codes or message are refused, or there are no files."""
     words = (repository.path, codes.path, message)
     first = answer(['types', *words])
     if first.status != DONE:
         NOTES.write(''.join(line + '\n' for line in (first.line, *word_faults(first, repository, codes, message)) if line))
         return first.status
+    if not files:
+        NOTES.line('isorepo: there is no file to check')
+        return WORDS
     counts = collections.Counter()
     try:
         worst = check_files(verb, words, files, counts)
