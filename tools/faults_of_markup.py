@@ -7,6 +7,9 @@ from place import TOKEN
 NO_CHARACTER = re.compile('[^\t\n\r\x20-\ud7ff\ue000-\ufffd\U00010000-\U0010ffff]')
 XML = 'http://www.w3.org/XML/1998/namespace'
 XMLNS = 'http://www.w3.org/2000/xmlns/'
+# by what other encodings begin, with a byte order mark or `<` (XML 1.0, appendix F)
+ENCODINGS = ((b'\xff\xfe\0\0', 'UTF-32'), (b'\0\0\xfe\xff', 'UTF-32'), (b'<\0\0\0', 'UTF-32'), (b'\0\0\0<', 'UTF-32'),
+             (b'\xff\xfe', 'UTF-16'), (b'\xfe\xff', 'UTF-16'), (b'<\0', 'UTF-16'), (b'\0<', 'UTF-16'))
 # what ends a comment, a CDATA section and an instruction
 CLOSERS = {b'<!--': b'-->', b'<![CDATA[': b']]>', b'<?': b'?>'}
 
@@ -49,8 +52,6 @@ def bad_octet(place, at):
 # ---- what was expected
 
 def utf8_expected(place, at):
-    if place.data[:2] in (b'\xfe\xff', b'\xff\xfe'):
-        return ['UTF-8; the file is in UTF-16']
     octet = place.data[bad_octet(place, at):][:1]
     character = octet.decode('cp1252', 'replace')
     return ['UTF-8' + (f'; the octet {octet.hex()} is {character} in Windows-1252' if character.isprintable() else '')]
@@ -116,6 +117,9 @@ def end_expected(fault, place):
 def markup_expected(fault, place):
     """What XML has there."""
     at = int(fault.where)
+    encoding = next((name for octets, name in ENCODINGS if place.data.startswith(octets)), None)
+    if at == 0 and encoding:
+        return [f'UTF-8; the file is in {encoding}']
     if fault.rule == 'BadUtf8':
         return utf8_expected(place, at)
     if fault.rule == 'BadMarkup':

@@ -138,6 +138,11 @@ def page(told, style):
     return [style.colour('head', f'{style.name(told.file.name)}{at}: {fault.rule}'), *shown, *rows(labelled, style)]
 
 
+def spelled(text):
+    """The text with U+FFFD for what is no UTF-8, as a file's name may be."""
+    return text.encode('utf-8', 'surrogateescape').decode('utf-8', 'replace')
+
+
 def as_json(call, answer, told, more):
     """One object, in a line."""
     found = {'file': call.file.name, 'status': answer.status, 'answer': answer.line or answer.out.strip()}
@@ -148,7 +153,7 @@ def as_json(call, answer, told, more):
                      says=told.sentence(), expected=told.expected)
     elif more:
         found.update(says='; '.join(more))
-    return json.dumps(found).encode('utf-8', 'replace').decode()
+    return json.dumps({key: spelled(value) if isinstance(value, str) else value for key, value in found.items()})
 
 
 def show(call, is_json):
