@@ -23,7 +23,7 @@ _isorepo() {
     check-all) wanted=(REPO CODES MSGID FILES..) options='--der --from' ;;
     help) wanted=('[COMMAND]') ;;
     try) wanted=(COMMAND WORDS..) ;;
-    explain) wanted=(RULE) ;;
+    explain) wanted=('[RULE]') ;;
     install) wanted=(DIR) ;;
     esac
     local count=${#wanted[@]} first=2
@@ -51,7 +51,8 @@ _isorepo() {
     MSGID) mapfile -t COMPREPLY < <(compgen -W "$("${COMP_WORDS[0]}" list "${COMP_WORDS[first]}" "${COMP_WORDS[first + 1]}" 2>/dev/null | cut -d ' ' -f 1)" -- "$word") ;;
     DIR) mapfile -t COMPREPLY < <(compgen -d -- "$word") ;;
     '[COMMAND]') mapfile -t COMPREPLY < <(compgen -W 'list types xsd asn1 check-xml check-der canon-xml xml-to-der der-to-xml drill import show check-all help try --version explain install' -- "$word") ;;
-    RULE) mapfile -t COMPREPLY < <(compgen -W "$("${COMP_WORDS[0]}" explain 2>/dev/null)" -- "$word") ;;
+    COMMAND) mapfile -t COMPREPLY < <(compgen -W 'list types xsd asn1 check-xml check-der canon-xml xml-to-der der-to-xml drill show' -- "$word") ;;
+    '[RULE]') mapfile -t COMPREPLY < <(compgen -W "$("${COMP_WORDS[0]}" explain 2>/dev/null)" -- "$word") ;;
     CODES) mapfile -t COMPREPLY < <(compgen -W - -- "$word"; compgen -f -- "$word") ;;
     *) mapfile -t COMPREPLY < <(compgen -f -- "$word") ;;
     esac

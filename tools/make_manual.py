@@ -10,7 +10,10 @@ ANSWERS = 'An answer of the program other than what the command prints is one li
 FIRST = 'The first fault is told; a PLACE is a byte number from 0. The exit status says which answer it is:'
 TOOLS = 'import, show and check-all are scripts of Python 3 round the program, whose lines and statuses they hand on. No proof is about them.'
 SHOW = ('show and check-all read FILE and REPO anew to say more than the line of the program: what they add is help, and the verdict is that of the program alone. '
-        'Colours, the progress of check-all, and what is said of mistaken words and files come on a terminal alone. '
+        'Which word is mistaken, or which file cannot be read, show says on standard output and check-all on standard error; '
+        'of a command of the program it is said on a terminal alone, but for a word that is no command while the program is not built. '
+        'Colours and the progress of check-all come on a terminal alone. '
+        'With more or fewer words than they have import, show and check-all say their usage in one line on standard error, and end with 1. '
         'The status of check-all is the greatest of its files.')
 
 
@@ -126,7 +129,8 @@ _isorepo() {{
     MSGID) mapfile -t COMPREPLY < <(compgen -W "$("${{COMP_WORDS[0]}}" list "${{COMP_WORDS[first]}}" "${{COMP_WORDS[first + 1]}}" 2>/dev/null | cut -d ' ' -f 1)" -- "$word") ;;
     DIR) mapfile -t COMPREPLY < <(compgen -d -- "$word") ;;
     '[COMMAND]') mapfile -t COMPREPLY < <(compgen -W '{first}' -- "$word") ;;
-    RULE) mapfile -t COMPREPLY < <(compgen -W "$("${{COMP_WORDS[0]}}" explain 2>/dev/null)" -- "$word") ;;
+    COMMAND) mapfile -t COMPREPLY < <(compgen -W '{tried}' -- "$word") ;;
+    '[RULE]') mapfile -t COMPREPLY < <(compgen -W "$("${{COMP_WORDS[0]}}" explain 2>/dev/null)" -- "$word") ;;
     CODES) mapfile -t COMPREPLY < <(compgen -W - -- "$word"; compgen -f -- "$word") ;;
     *) mapfile -t COMPREPLY < <(compgen -f -- "$word") ;;
     esac
@@ -138,7 +142,7 @@ complete -F _isorepo isorepo ./isorepo
 def arrays(words):
     """The words that a command wants, and its options; the words of an option stand in brackets."""
     options = [word.strip('[]') for word in words if word.startswith('[--')]
-    wanted = [word for number, word in enumerate(words) if word == '[COMMAND]' or not (word.startswith('[--') or word.endswith(']'))]
+    wanted = [word for word in words if word in ('[COMMAND]', '[RULE]') or not (word.startswith('[--') or word.endswith(']'))]
     return f"wanted=({' '.join(map(shlex.quote, wanted))})" + (f" options='{' '.join(options)}'" if options else '')
 
 
@@ -146,7 +150,8 @@ def completions():
     commands, words = entries()
     named = [words_of.split(' ') for words_of, _ in commands + words]
     cases = '\n'.join(f"    {first}) {arrays(rest)} ;;" for first, *rest in named if rest)
-    return COMPLETION.format(first=' '.join(first for first, *_ in named), cases=cases)
+    tried = [words_of.split(' ')[0] for who, words_of, _ in rows('command') if who == 'program'] + ['show']
+    return COMPLETION.format(first=' '.join(first for first, *_ in named), cases=cases, tried=' '.join(tried))
 
 
 def main(folder):
