@@ -19,7 +19,8 @@ AHEAD = 4
 
 
 def check_batch(launcher, message, repository, codes, batch):
-    """On a worker: the rows of check-all for the batch, a list of names and bytes."""
+    """On a worker: the rows of check-all for the batch, a list of names and bytes, and its answer where there is no table."""
+    csv.field_size_limit(2 ** 31 - 1)
     with tempfile.TemporaryDirectory() as name:
         folder = Path(name)
         (folder / 'repository').write_bytes(repository)
@@ -32,7 +33,7 @@ def check_batch(launcher, message, repository, codes, batch):
         if run.returncode > 5:
             raise RuntimeError(run.stderr)
         rows = list(csv.reader(io.StringIO(run.stdout)))[1:]
-        return [[batch[int(row[0])][0], *row[1:]] for row in rows] or [[run.stderr]]
+        return [[batch[int(row[0])][0], *row[1:]] for row in rows], '' if rows else run.stderr
 
 
 def batches(names):
@@ -41,7 +42,7 @@ def batches(names):
 
 
 def check_all(client, words, names):
-    """The rows of all files, as they come; some batches for each worker are under way at a time."""
+    """The rows of all files, as they come; some batches for each worker are under way at a time. An answer without table is noted."""
     waiting = batches(names)
 
     def submit():
@@ -51,7 +52,9 @@ def check_all(client, words, names):
     started = [future for _ in range(AHEAD * max(1, len(client.ncores()))) for future in submit()]
     done = as_completed(started)
     for future in done:
-        yield from future.result()
+        rows, answer = future.result()
+        sys.stderr.write(answer)
+        yield from rows
         for more in submit():
             done.add(more)
 
