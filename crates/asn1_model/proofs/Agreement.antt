@@ -4,11 +4,11 @@ use Rattle.lexical_core.specs.Tree.{Tree}
 use Rattle.data_types.specs.Value.{Value}
 use Rattle.data_types.specs.Value as value
 use Rattle.facets.specs.declared.simple.Simple.{Simple}
+use Rattle.der_octets.specs.Octets.{Nothing, Constructed, universal, octets}
 use Rattle.reference_check.specs.Forms.{Form, Slot}
 use Rattle.reference_check.specs.Forms as form
 use Rattle.message_model.specs.Admits.{AdmitsAs}
 use Rattle.message_model.specs.Tables.{Tables, types_of, message_of}
-use Rattle.der_octets.specs.Octets.{Nothing, Constructed, universal, octets}
 use Rattle.der_model.specs.DerMessage.{DerMessage, in_der}
 use Rattle.der_model.specs.Der.{inner_of, body, der_of, SpellsDer}
 use Rattle.asn1_model.specs.Values.{AsnValue, One, AsnHas, contents, values_of_item, asn_der, find_asn_type}

@@ -9,11 +9,13 @@ use Rattle.std.specs.Cmp.Lexicographic.{slice_cmp}
 use Rattle.std.specs.Ordering.{nat_cmp, is_lt, ordering_then}
 use Rattle.std.specs.declared.cmp.Ordering.TheVariants.{Equal, Greater}
 use Rattle.std.proofs.lemmas.Bool.Decides.{eqb_tells}
+use Rattle.lexical_core.proofs.EqualBytes.{equal_bytes}
+use Rattle.lexical_core.proofs.Lists.{same_parts}
 use Rattle.message_model.specs.Tables.{Tables, TypeEntry}
 use Rattle.asn1_model.specs.Names.{is_name_among, is_name_digit, is_lower, is_in_name, hyphen, with_hyphens, without_gap, begun_with_letter, bare_name, to_upper, first_upper, reserved_names, asn_type_name, candidate, first_free, given_after}
 use Rattle.asn1_model.specs.ModuleOf.{Numbered, comes_before, insert_numbered, sorted_from, type_name_of, name_in, asn_name_of}
 use Rattle.asn1_model.specs.Sound.{BeginsName, AllBegin}
-use Rattle.asn1_model.proofs.GivenLemmas.{same_name, taken_free}
+use Rattle.asn1_model.proofs.GivenLemmas.{taken_free}
 
 -- ---- texts without a hyphen
 
@@ -74,18 +76,15 @@ upper_d c e = go (is_lower c) refl
 later : (c : ℕ) (cs : List ℕ) → 68 < c → is_lt (slice_cmp nat_cmp (c ∷ cs) (codes "Document")) ≡ true → ⊥
 later c cs more lt = (let greater : Greater ≡ nat_cmp c 68 = nat_cmp_is c 68 Greater more in let x : is_lt Greater ≡ true = ap (λ o. is_lt (ordering_then o (slice_cmp nat_cmp cs (codes "ocument")))) greater ∙ lt in absurd cc)
 
-cut_head : (a b : ℕ) (more rest : List ℕ) → a ∷ more ≡ b ∷ rest → (a ≡ b) × (more ≡ rest)
-cut_head a b more rest e = (cc, cc)
-
 begun_is : (y : List ℕ) → first_upper (begun_with_letter y) ≡ codes "Document" → (c : ℕ) × (y ≡ c ∷ codes "ocument") × (to_upper c ≡ 68)
-begun_is [] e = absurd (let x = (cut_head 88 68 [] (codes "ocument") e).0 in omega (arith, x))
+begun_is [] e = absurd (let x = (same_parts 88 68 [] (codes "ocument") e).0 in omega (arith, x))
 begun_is (c ∷ cs) e = go (is_name_digit c) refl
   where
     go : (b : Bool) → is_name_digit c ≡ b → (d : ℕ) × (c ∷ cs ≡ d ∷ codes "ocument") × (to_upper d ≡ 68)
-    go true h = absurd (let z : first_upper (codes "x" ++ c ∷ cs) ≡ codes "Document" = (let y : first_upper (begun_with_letter (c ∷ cs)) ≡ codes "Document" = e in rw h at y) in let x = (cut_head 88 68 (c ∷ cs) (codes "ocument") z).0 in omega (arith, x))
+    go true h = absurd (let z : first_upper (codes "x" ++ c ∷ cs) ≡ codes "Document" = (let y : first_upper (begun_with_letter (c ∷ cs)) ≡ codes "Document" = e in rw h at y) in let x = (same_parts 88 68 (c ∷ cs) (codes "ocument") z).0 in omega (arith, x))
     go false h =
         let z : to_upper c ∷ cs ≡ codes "Document" = (let y : first_upper (begun_with_letter (c ∷ cs)) ≡ codes "Document" = e in rw h at y) in
-        let parts = cut_head (to_upper c) 68 cs (codes "ocument") z in
+        let parts = same_parts (to_upper c) 68 cs (codes "ocument") z in
         (c, ap (λ x. c ∷ x) parts.1, parts.0)
 
 in_order : (a : ℕ) (more : List ℕ) → (is_in_name a ≡ true) ⊎ (a ≡ 95) → is_lt (slice_cmp nat_cmp (a ∷ more) (codes "Document")) ≡ true → (c : ℕ) × (with_hyphens false (without_gap (a ∷ more)) ≡ c ∷ codes "ocument") × (to_upper c ≡ 68) → ⊥
@@ -93,7 +92,7 @@ in_order a more (inr score) lt found = later a more (omega (arith, score)) lt
 in_order a more (inl h) lt (c, e, upper) =
     let z : with_hyphens false (a ∷ more) ≡ c ∷ codes "ocument" = (let y : with_hyphens false (without_gap (a ∷ more)) ≡ c ∷ codes "ocument" = e in rw h at y) in
     let x : a ∷ with_hyphens false more ≡ c ∷ codes "ocument" = rw h at z in
-    let parts = cut_head a c (with_hyphens false more) (codes "ocument") x in
+    let parts = same_parts a c (with_hyphens false more) (codes "ocument") x in
     elim (upper_d c upper) [
       | inl d ↦ (let equal : Equal ≡ nat_cmp a 68 = nat_cmp_is a 68 Equal (parts.0 ∙ d) in
           not_before more (codes "ocument") bare_rest parts.1 (ap (λ o. is_lt (ordering_then o (slice_cmp nat_cmp more (codes "ocument")))) equal ∙ lt))
@@ -150,7 +149,7 @@ still_free : (taken : List (List ℕ)) (n : List ℕ) → is_name_among taken (c
 still_free taken n free other = go (bytes_eq (codes "Document") n) refl
   where
     go : (b : Bool) → bytes_eq (codes "Document") n ≡ b → (b || is_name_among taken (codes "Document")) ≡ false
-    go true e = absurd (other (sym (same_name (codes "Document") n e)))
+    go true e = absurd (other (sym (equal_bytes (codes "Document") n e)))
     go false e = free
 
 document_in : (taken : List (List ℕ)) (ts : List Numbered) (d : Numbered) → d.number ≡ 0 → d.name ≡ codes "Document" → asn_type_name d.name ≡ codes "Document" → Others ts → is_name_among taken (codes "Document") ≡ false

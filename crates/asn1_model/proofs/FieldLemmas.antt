@@ -2,7 +2,7 @@
 use Rattle.std.proofs.Common.{◌≡◌, ℕ, zero, suc, ◌+◌, ◌<◌, List, [], ◌∷◌, ◌++◌, length, map, take, drop, get_or, Option, Some, None, refl, sym, ap, ◌∙◌, append-nil, arith}
 use Rattle.std.specs.Prelude.{slice_get}
 use Rattle.std.proofs.Math.Seq.{drop-cons}
-use Rattle.std.proofs.lemmas.List.{map-append, append_assoc}
+use Rattle.std.proofs.lemmas.List.{map-append, append_assoc, drop_more}
 use Rattle.std.proofs.lemmas.Option.{slice_get_within, get_or_from_slice_get}
 use Rattle.lexical_core.proofs.Lists.{take_item}
 use Rattle.message_model.specs.declared.model.Slot.{Slot}
@@ -21,11 +21,6 @@ drop_item xs n x e =
     let next : suc n ≡ n + 1 = omega arith in
     drop-cons xs n x (slice_get_within xs n x e) ∙ ap (λ y. y ∷ drop (suc n) xs) (get_or_from_slice_get xs n x x e) ∙ ap (λ m. x ∷ drop m xs) next
 
-drop_at : {X : Type 0} (xs : List X) (n : ℕ) (d : X) → n < length xs → drop n xs ≡ get_or xs n d ∷ drop (n + 1) xs
-drop_at xs n d lt =
-    let next : suc n ≡ n + 1 = omega arith in
-    drop-cons xs n d lt ∙ ap (λ m. get_or xs n d ∷ drop m xs) next
-
 drop_none : {X : Type 0} (xs : List X) (n : ℕ) → None ≡ slice_get xs n → drop n xs ≡ []
 drop_none [] zero e = refl
 drop_none [] (suc n) e = refl
@@ -43,7 +38,7 @@ pub fields_more : (name : ℕ → List ℕ) (slots : List Slot) (given : List (L
     → all ≡ new ++ fields_with name (map slot_in (drop (n + 1) slots)) (drop (n + 1) given)
 fields_more name slots given all old new n d g lt there before grown =
     before
-    ∙ (ap (λ l. old ++ fields_with name (map slot_in l) (drop n given)) (drop_at slots n d lt)
+    ∙ (ap (λ l. old ++ fields_with name (map slot_in l) (drop n given)) (drop_more slots n d lt)
     ∙ (ap (λ l. old ++ fields_with name (slot_in (get_or slots n d) ∷ map slot_in (drop (n + 1) slots)) l) (drop_item given n g (sym there))
     ∙ (sym (append_assoc old (field_of name (slot_in (get_or slots n d)) g ∷ []) (fields_with name (map slot_in (drop (n + 1) slots)) (drop (n + 1) given)))
     ∙ ap (λ l. l ++ fields_with name (map slot_in (drop (n + 1) slots)) (drop (n + 1) given)) (sym grown))))
@@ -70,7 +65,7 @@ pub types_more : (T : Tables) (order : List NamedType) (given : List (List ℕ))
     → all ≡ new ++ types_with T (map numbered_type (drop (n + 1) order)) (drop (n + 1) given)
 types_more T order given all old new n d g lt there before grown =
     before
-    ∙ (ap (λ l. old ++ types_with T (map numbered_type l) (drop n given)) (drop_at order n d lt)
+    ∙ (ap (λ l. old ++ types_with T (map numbered_type l) (drop n given)) (drop_more order n d lt)
     ∙ (ap (λ l. old ++ types_with T (numbered_type t ∷ map numbered_type (drop (n + 1) order)) l) (drop_item given n g (sym there))
     ∙ (ap (λ l. old ++ l) (with_rest g shape rest)
     ∙ (sym (append_assoc old (with_shape g shape []) rest) ∙ ap (λ l. l ++ rest) (sym grown)))))

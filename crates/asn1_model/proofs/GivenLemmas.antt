@@ -10,23 +10,17 @@ use Rattle.std.specs.declared.cmp.Ordering.{Ordering}
 use Rattle.std.specs.Ordering.{is_eq, nat_cmp, eq_by_cmp}
 use Rattle.std.specs.Str.{bytes_eq}
 use Rattle.std.proofs.lemmas.Cmp.{nat_list_eq_equiv}
-use Rattle.std.proofs.lemmas.Slice.Eq.{bytes_eq-Decides}
+use Rattle.lexical_core.proofs.EqualBytes.{equal_bytes, same_bytes}
 use Rattle.asn1_model.specs.declared.given.Given.{Given}
 use Rattle.asn1_model.specs.Names.{is_name_among, candidate, first_free}
 use Rattle.asn1_model.specs.inner.Given.{ending_of, AreAllGiven, HasGivenNames}
-
-pub same_name : (a b : List ℕ) → bytes_eq a b ≡ true → a ≡ b
-same_name a b e = (bytes_eq-Decides a b).0 e
-
-pub self_same : (a : List ℕ) → bytes_eq a a ≡ true
-self_same a = (bytes_eq-Decides a a).1 refl
 
 turned : (a b : List ℕ) → bytes_eq a b ≡ bytes_eq b a
 turned a b = nat_list_eq_equiv.symm a b
 
 -- the latest is among them
 pub among_first : (name : List ℕ) (taken : List (List ℕ)) → is_name_among (name ∷ taken) name ≡ true
-among_first name taken = ap (λ b. b || is_name_among taken name) (self_same name)
+among_first name taken = ap (λ b. b || is_name_among taken name) (same_bytes name)
 
 -- and so are those before
 pub among_more : (given q : List ℕ) (taken : List (List ℕ)) → is_name_among taken q ≡ true → is_name_among (given ∷ taken) q ≡ true
@@ -49,7 +43,7 @@ module _ (old new : Given) (taken more : List (List ℕ)) (name : List ℕ) (k :
   changed_kept q = by (bytes_eq name q) refl
     where
       by : (b : Bool) → bytes_eq name q ≡ b → is_some (ending_of new.endings q) ≡ is_name_among more q
-      by true e = ap is_some (is q ∙ ap (λ b. if b then Some k else ending_of old.endings q) e) ∙ sym here ∙ ap (is_name_among more) (same_name name q e)
+      by true e = ap is_some (is q ∙ ap (λ b. if b then Some k else ending_of old.endings q) e) ∙ sym here ∙ ap (is_name_among more) (equal_bytes name q e)
       by false e = ap is_some (is q ∙ ap (λ b. if b then Some k else ending_of old.endings q) e) ∙ kept.kept q ∙ sym (same q e)
 
   some_same : (x y : ℕ) → Some x ≡ Some y → x ≡ y
@@ -61,7 +55,7 @@ module _ (old new : Given) (taken more : List (List ℕ)) (name : List ℕ) (k :
       by : (b : Bool) → bytes_eq name q ≡ b → (m ≤ length more) × AreAllGiven more q m
       by true e =
           let now : k ≡ m = some_same k m (sym (is q ∙ ap (λ b. if b then Some k else ending_of old.endings q) e) ∙ found) in
-          subst (λ n. (n ≤ length more) × AreAllGiven more q n) now (low, subst (λ (p : List ℕ). AreAllGiven more p k) (same_name name q e) all)
+          subst (λ n. (n ≤ length more) × AreAllGiven more q n) now (low, subst (λ (p : List ℕ). AreAllGiven more p k) (equal_bytes name q e) all)
       by false e =
           let before : ending_of old.endings q ≡ Some m = sym (is q ∙ ap (λ b. if b then Some k else ending_of old.endings q) e) ∙ found in
           (omega (arith, kept.short q m before), λ j lt. still (candidate q j) (kept.below q m before j lt))

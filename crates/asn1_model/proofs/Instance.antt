@@ -10,12 +10,12 @@ use Rattle.data_types.specs.declared.kind.Kind.{Kind}
 use Rattle.data_types.specs.declared.kind.Kind.TheVariants as kind
 use Rattle.facets.specs.declared.simple.Simple.{Simple}
 use Rattle.facets.specs.LeafUnder.{Fits}
+use Rattle.der_octets.specs.Octets.{context, universal, Values, Nothing, Constructed, then_values}
 use Rattle.reference_check.specs.Forms.{Form, Slot}
 use Rattle.reference_check.specs.Forms as form
 use Rattle.reference_check.specs.Words.{times, UpTo, MayComeTimes}
 use Rattle.reference_check.proofs.Words.{times-replicate}
 use Rattle.message_model.specs.Admits.{AdmitsAs, AdmitsChildren, FitsCode, numbers_of}
-use Rattle.der_octets.specs.Octets.{context, universal, Values, Nothing, Constructed, then_values}
 use Rattle.der_model.specs.DerMessage.{DerMessage}
 use Rattle.der_model.specs.LeafContents.{leaf_contents}
 use Rattle.der_model.specs.Structures.{is_single, simple_number}

@@ -17,10 +17,12 @@ use Rattle.facets.specs.Facets.{HasLength, HasDigits, IsInRange}
 use Rattle.facets.specs.Rules.{BreaksLength, BreaksPattern, BreaksDigits, BreaksRange, HasLengths, IsAsked}
 use Rattle.facets.specs.LeafUnder.{Fits, IsLeafBy}
 use Rattle.facets.specs.Steps.{least_written}
+use Rattle.facets.specs.PatternChecks.{IsDateKind}
 use Rattle.facets.proofs.ValueLemmas.{number_fits, octets_fit}
 use Rattle.facets.proofs.RuleLemmas.{has_form, one_number}
 use Rattle.facets.proofs.TextRules.{text_given, short_given}
 use Rattle.facets.proofs.FitLemmas.{given_fits}
+use Rattle.facets.proofs.PatternLemmas.{date_is_short, date_asked}
 use Rattle.xsd_model.proofs.Decided.{stable, matches_decided, length_decided, digits_decided, range_decided}
 use Rattle.asn1_model.specs.Constraints.{HasSize, HasFewDigits, IsWithinRange, HasPattern, IsTextValue, IsRealValue, IsBooleanValue, IsOctetsValue, IsDateValue}
 use Rattle.asn1_model.specs.ModuleOf.{sized_step, number_step}
@@ -175,24 +177,7 @@ boolean_back s (Flag f) e h =
     (λ (p, asked, is, ask, none_is). let none : ⊥ = subst (λ (k : Kind). IsAsked k s.codes own.0 asked) e ask in none))
 boolean_back s leaf e h = absurd h
 
--- the kinds of dates and times
-abbrev pub IsDate : Kind → Type 0
-IsDate kind.Text = ⊥
-IsDate kind.Decimal = ⊥
-IsDate kind.Boolean = ⊥
-IsDate kind.Binary = ⊥
-IsDate kind.Envelope = ⊥
-IsDate k = Unit {0}
-
-date_asked : (k : Kind) (codes : Option (List (List ℕ))) (text asked : List ℕ) → IsDate k → IsCollapsed text asked → IsAsked k codes text asked
-date_asked kind.Text codes text asked d c = absurd d
-date_asked kind.Decimal codes text asked d c = absurd d
-date_asked kind.Boolean codes text asked d c = absurd d
-date_asked kind.Binary codes text asked d c = absurd d
-date_asked kind.Envelope codes text asked d c = absurd d
-date_asked k codes text asked d c = c
-
-asked_date : (k : Kind) (codes : Option (List (List ℕ))) (text asked : List ℕ) → IsDate k → IsAsked k codes text asked → IsCollapsed text asked
+asked_date : (k : Kind) (codes : Option (List (List ℕ))) (text asked : List ℕ) → IsDateKind k → IsAsked k codes text asked → IsCollapsed text asked
 asked_date kind.Text codes text asked d c = absurd d
 asked_date kind.Decimal codes text asked d c = absurd d
 asked_date kind.Boolean codes text asked d c = absurd d
@@ -200,7 +185,7 @@ asked_date kind.Binary codes text asked d c = absurd d
 asked_date kind.Envelope codes text asked d c = absurd d
 asked_date k codes text asked d c = c
 
-date_in : (k : Kind) (codes : Option (List (List ℕ))) (text : List ℕ) (leaf : Leaf) → IsDate k → IsLeafBy k codes text leaf → IsDateLeaf k text leaf
+date_in : (k : Kind) (codes : Option (List (List ℕ))) (text : List ℕ) (leaf : Leaf) → IsDateKind k → IsLeafBy k codes text leaf → IsDateLeaf k text leaf
 date_in kind.Text codes text leaf d h = absurd d
 date_in kind.Decimal codes text leaf d h = absurd d
 date_in kind.Boolean codes text leaf d h = absurd d
@@ -208,28 +193,21 @@ date_in kind.Binary codes text leaf d h = absurd d
 date_in kind.Envelope codes text leaf d h = absurd d
 date_in k codes text leaf d h = h
 
-date_short : (k : Kind) → IsDate k → IsShortKind k
-date_short k d = record {
-  no_text = λ e. subst IsDate e d;
-  no_decimal = λ e. subst IsDate e d;
-  no_binary = λ e. subst IsDate e d;
-}
-
-pub date_there : (s : Simple) (leaf : Leaf) → IsSoundSimpleType s → IsDate s.kind → Fits s leaf → IsDateValue s.kind s.pattern leaf
+pub date_there : (s : Simple) (leaf : Leaf) → IsSoundSimpleType s → IsDateKind s.kind → Fits s leaf → IsDateValue s.kind s.pattern leaf
 date_there s leaf sound d (text, canonical, given) = go leaf (date_in s.kind s.codes text leaf d given.spelled)
   where
     go : (leaf : Leaf) → IsDateLeaf s.kind text leaf → IsDateValue s.kind s.pattern leaf
-    go (Bytes b) (collapsed, is) = (is, pattern_held s.pattern b sound.pattern (λ p e none_is. given.sound PatternFails (p, b, e, date_asked s.kind s.codes text b d collapsed, none_is)))
+    go (Bytes b) (collapsed, is) = (is, pattern_held s.pattern b sound.pattern (λ p e none_is. given.sound PatternFails (p, b, e, (date_asked s.kind s.codes text b d).1 collapsed, none_is)))
     go leaf h = absurd h
 
-pub date_back : (s : Simple) (leaf : Leaf) → IsDate s.kind → IsDateValue s.kind s.pattern leaf → Fits s leaf
+pub date_back : (s : Simple) (leaf : Leaf) → IsDateKind s.kind → IsDateValue s.kind s.pattern leaf → Fits s leaf
 date_back s (Bytes b) d (is, held) =
-    let own = (date_leaves s.kind b (λ e. subst IsDate e d) (λ e. subst IsDate e d)).1 is in
+    let own = (date_leaves s.kind b (λ e. subst IsDateKind e d) (λ e. subst IsDateKind e d)).1 is in
     let spelled : IsDateLeaf s.kind own.0 (Bytes b) = date_in s.kind None own.0 (Bytes b) d (leaf_none s.kind own.0 (Bytes b) d own.1) in
-    given_fits s own.0 (Bytes b) (short_given s own.0 (Bytes b) (date_short s.kind d) own.1
+    given_fits s own.0 (Bytes b) (short_given s own.0 (Bytes b) (date_is_short s.kind d) own.1
     (λ (p, asked, e, ask, none_is). none_is (subst (λ w. Matches (chars p) w) (one_collapsed own.0 b asked spelled.0 (asked_date s.kind s.codes own.0 asked d ask)) (pattern_has s.pattern p b e held))))
   where
-    leaf_none : (k : Kind) (text : List ℕ) (leaf : Leaf) → IsDate k → IsLeaf k text leaf → IsLeafBy k None text leaf
+    leaf_none : (k : Kind) (text : List ℕ) (leaf : Leaf) → IsDateKind k → IsLeaf k text leaf → IsLeafBy k None text leaf
     leaf_none kind.Text text leaf d h = absurd d
     leaf_none k text leaf d h = h
 date_back s leaf d h = absurd h

@@ -6,8 +6,8 @@ use Rattle.std.specs.Str.{bytes_eq}
 use Rattle.std.proofs.lemmas.Fmt.{decimal_injective}
 use Rattle.std.proofs.lemmas.Bool.{or_parts}
 use Rattle.std.proofs.lemmas.Bool.Decides.{eqb_tells}
+use Rattle.lexical_core.proofs.EqualBytes.{equal_bytes}
 use Rattle.asn1_model.specs.Names.{is_name_among, candidate, first_free, given_after, hyphen}
-use Rattle.asn1_model.proofs.GivenLemmas.{same_name}
 
 -- ---- tests
 
@@ -37,7 +37,7 @@ without_among name other [] apart e = e
 without_among name other (n ∷ ns) apart e = go (bytes_eq name n) refl (bytes_eq other n) refl (λ h. without_among name other ns apart h)
   where
     go : (r : Bool) → bytes_eq name n ≡ r → (q : Bool) → bytes_eq other n ≡ q → (is_name_among ns other ≡ true → is_name_among (without name ns) other ≡ true) → is_name_among (without name (n ∷ ns)) other ≡ true
-    go true h true g more = absurd (apart (same_name other n g ∙ sym (same_name name n h)))
+    go true h true g more = absurd (apart (equal_bytes other n g ∙ sym (equal_bytes name n h)))
     go true h false g more = rw h (let x : (bytes_eq other n || is_name_among ns other) ≡ true = e in rw g at x)
     go false h true g more = rw (h, g) refl
     go false h false g more = rw (h, g) (more (let x : (bytes_eq other n || is_name_among ns other) ≡ true = e in rw g at x))

@@ -8,12 +8,14 @@ use Rattle.std.proofs.lemmas.List.Elements.{Contains-get_or}
 use Rattle.std.proofs.lemmas.Option.{slice_get_within, slice_get-get_or}
 use Rattle.lexical_core.specs.Characters.{IsXmlText}
 use Rattle.lexical_core.specs.Tree.{Tree}
+use Rattle.lexical_core.proofs.EqualBytes.{same_bytes}
 use Rattle.data_types.specs.Leaf.{Leaf, Code}
 use Rattle.data_types.specs.declared.kind.Kind.{Kind}
 use Rattle.data_types.specs.declared.kind.Kind.TheVariants as kind
 use Rattle.data_types.specs.declared.leaf.LeafRef.TheVariants as ref
 use Rattle.facets.specs.declared.simple.Simple.{Simple}
 use Rattle.facets.specs.LeafUnder.{Fits, IsLeafBy, IsCodeAt}
+use Rattle.facets.specs.PatternChecks.{IsDateKind}
 use Rattle.facets.proofs.FitLemmas.{given_fits}
 use Rattle.facets.proofs.TextRules.{coded_answer}
 use Rattle.der_model.specs.LeafContents.{leaf_contents, integer_octets}
@@ -25,17 +27,16 @@ use Rattle.asn1_model.specs.InstanceValues.{leaf_by}
 use Rattle.asn1_model.specs.ModuleOf.{step_by, shape_by, simple_shape, code_names}
 use Rattle.asn1_model.specs.Names.{is_name_among, asn_identifier}
 use Rattle.asn1_model.specs.Sound.{IsSoundSimpleType}
-use Rattle.asn1_model.proofs.GivenLemmas.{self_same}
 use Rattle.asn1_model.proofs.TypeNameLemmas.{length-given}
 use Rattle.asn1_model.proofs.NamesApart.{AreNew, given_are_new, later_new}
-use Rattle.asn1_model.proofs.Leaves.{leaf_in, text_there, text_back, number_there, number_back, octets_there, octets_back, boolean_there, boolean_back, IsDate, date_there, date_back}
+use Rattle.asn1_model.proofs.Leaves.{leaf_in, text_there, text_back, number_there, number_back, octets_there, octets_back, boolean_there, boolean_back, date_there, date_back}
 
 -- ---- identifiers
 
 -- the place of a name that is new
 place_is : (taken ns : List (List ℕ)) (k : ℕ) → AreNew taken ns → k < length ns → identifier_place (get_or ns k []) ns ≡ k
 place_is taken [] k new lt = absurd (omega arith)
-place_is taken (n ∷ ns) zero new lt = rw (self_same n) refl
+place_is taken (n ∷ ns) zero new lt = rw (same_bytes n) refl
 place_is taken (n ∷ ns) (suc k) new lt =
     let apart = (or_parts (bytes_eq (get_or ns k []) n) (is_name_among taken (get_or ns k [])) (later_new (n ∷ taken) ns k new.1 (omega arith))).0 in
     rw apart (ap suc (place_is (n ∷ taken) ns k new.1 (omega arith)))
@@ -67,7 +68,7 @@ code_there fragment M s codes leaf sound e c (text, canonical, given) = go (code
         )
 
 -- the kinds of dates
-date_plain : (fragment : Tree → List ℕ) (M : Module) (s : Simple) (k : Kind) (codes : Option (List (List ℕ))) (leaf : Leaf) → IsDate k → IsDateValue k s.pattern leaf → There fragment M s k codes leaf
+date_plain : (fragment : Tree → List ℕ) (M : Module) (s : Simple) (k : Kind) (codes : Option (List (List ℕ))) (leaf : Leaf) → IsDateKind k → IsDateValue k s.pattern leaf → There fragment M s k codes leaf
 date_plain fragment M s kind.Text codes leaf d h = absurd d
 date_plain fragment M s kind.Decimal codes leaf d h = absurd d
 date_plain fragment M s kind.Boolean codes leaf d h = absurd d
@@ -75,8 +76,8 @@ date_plain fragment M s kind.Binary codes leaf d h = absurd d
 date_plain fragment M s kind.Envelope codes leaf d h = absurd d
 date_plain fragment M s k codes leaf d h = (h, refl)
 
-date_at : (s : Simple) (k : Kind) (leaf : Leaf) → IsSoundSimpleType s → s.kind ≡ k → IsDate k → Fits s leaf → IsDateValue k s.pattern leaf
-date_at s k leaf sound e d f = subst (λ (x : Kind). IsDateValue x s.pattern leaf) e (date_there s leaf sound (subst IsDate (sym e) d) f)
+date_at : (s : Simple) (k : Kind) (leaf : Leaf) → IsSoundSimpleType s → s.kind ≡ k → IsDateKind k → Fits s leaf → IsDateValue k s.pattern leaf
+date_at s k leaf sound e d f = subst (λ (x : Kind). IsDateValue x s.pattern leaf) e (date_there s leaf sound (subst IsDateKind (sym e) d) f)
 
 there_by : (fragment : Tree → List ℕ) (M : Module) (s : Simple) (k : Kind) (codes : Option (List (List ℕ))) (leaf : Leaf) → IsSoundSimpleType s → s.kind ≡ k → s.codes ≡ codes → Fits s leaf → There fragment M s k codes leaf
 there_by fragment M s kind.Text None leaf sound e c f = (subst (λ x. IsTextValue x s.pattern leaf) (sym (ap (λ (k : Kind). step_by k s) e)) (text_there s leaf sound e c f), refl)
@@ -121,8 +122,8 @@ code_back s codes name sound e c (k, lt, is) = (
     default_free (n ∷ ns) zero d lt = refl
     default_free (n ∷ ns) (suc k) d lt = default_free ns k d (omega arith)
 
-date_back_at : (s : Simple) (k : Kind) (leaf : Leaf) → s.kind ≡ k → IsDate k → IsDateValue k s.pattern leaf → Fits s leaf
-date_back_at s k leaf e d h = date_back s leaf (subst IsDate (sym e) d) (subst (λ (x : Kind). IsDateValue x s.pattern leaf) (sym e) h)
+date_back_at : (s : Simple) (k : Kind) (leaf : Leaf) → s.kind ≡ k → IsDateKind k → IsDateValue k s.pattern leaf → Fits s leaf
+date_back_at s k leaf e d h = date_back s leaf (subst IsDateKind (sym e) d) (subst (λ (x : Kind). IsDateValue x s.pattern leaf) (sym e) h)
 
 back_by : (fragment : Tree → List ℕ) (M : Module) (s : Simple) (k : Kind) (codes : Option (List (List ℕ))) (a : AsnValue) → IsSoundSimpleType s → s.kind ≡ k → s.codes ≡ codes → AsnHas fragment M (One (Some (shape_by k codes s))) a → Back s k codes a
 back_by fragment M s kind.Text None (Primitive leaf) sound e c h = (leaf, text_back s leaf e c (subst (λ x. IsTextValue x s.pattern leaf) (ap (λ (k : Kind). step_by k s) e) h), refl)

@@ -9,15 +9,15 @@ use Rattle.data_types.specs.Leaf.{Leaf}
 use Rattle.data_types.specs.Value.{Value, Children}
 use Rattle.data_types.specs.Value as value
 use Rattle.facets.specs.declared.simple.Simple.{Simple}
+use Rattle.der_octets.specs.Octets.{Values, Nothing, Constructed, universal, context, octets}
 use Rattle.reference_check.specs.Forms.{Graph, Form, Slot, form_to, slot_to}
 use Rattle.reference_check.specs.Forms as form
 use Rattle.reference_check.specs.Words.{IsOrderedFrom, MayComeTimes, IsSequence, IsChoice}
 use Rattle.message_model.specs.Admits.{AdmitsAs, AdmitsChildren, FitsCode, numbers_of}
-use Rattle.der_octets.specs.Octets.{Values, Nothing, Constructed, universal, context, octets}
 use Rattle.der_model.specs.DerMessage.{DerMessage}
 use Rattle.der_model.specs.Structures.{is_single}
-use Rattle.xsd_model.proofs.Sequences.{slice_get-part, slice_get-back}
 use Rattle.der_model.specs.Der.{Body, Octets, Inner, under, inner_of, item, placed_value, slot_values, all_slots, chosen_slot, form_values, body, values_at, der_of}
+use Rattle.xsd_model.proofs.Sequences.{slice_get-part, slice_get-back}
 
 module _ {P Q : Type 0} (h : P → Q) where
   abbrev renamed : Form P Simple → Form Q Simple

@@ -5,10 +5,10 @@ use Rattle.std.proofs.lemmas.Fmt.{decimal_digit, decimal_step}
 use Rattle.data_types.specs.Leaf.{Bytes}
 use Rattle.data_types.specs.declared.kind.Kind.TheVariants as kind
 use Rattle.facets.specs.declared.simple.Simple.{Simple}
+use Rattle.der_octets.specs.Octets.{identifier as tag_octets, length_octets, wrapped}
 use Rattle.reference_check.specs.Forms as form
 use Rattle.reference_check.specs.Words.{UpTo}
 use Rattle.message_model.specs.Tables.{Tables, types_of}
-use Rattle.der_octets.specs.Octets.{identifier as tag_octets, length_octets, wrapped}
 use Rattle.der_model.specs.LeafContents.{integer_octets}
 use Rattle.der_model.specs.Der.{Octets}
 use Rattle.asn1_model.specs.Names.{asn_identifier, asn_type_name, candidate}

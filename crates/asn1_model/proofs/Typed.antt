@@ -7,13 +7,13 @@ use Rattle.std.proofs.lemmas.Bool.{or_parts, or_right}
 use Rattle.std.proofs.lemmas.Bool.Decides.{eqb_tells, Decides-ltb}
 use Rattle.std.proofs.lemmas.List.{length-map}
 use Rattle.std.proofs.lemmas.Option.{slice_get_past}
+use Rattle.lexical_core.proofs.EqualBytes.{equal_bytes, same_bytes}
 use Rattle.message_model.specs.Tables.{Tables, TypeEntry, types_of, form_or_missing}
 use Rattle.asn1_model.specs.declared.module.AsnType.{AsnType}
 use Rattle.asn1_model.specs.declared.module.AsnShape.{AsnShape}
 use Rattle.asn1_model.specs.Values.{find_asn_type}
 use Rattle.asn1_model.specs.Names.{is_name_among, is_name_digit, is_lower, begun_with_letter, bare_name, with_hyphens, without_gap, first_upper, with_one, reserved_names, asn_type_name, candidate, first_free, given_after}
 use Rattle.asn1_model.specs.ModuleOf.{Numbered, comes_before, insert_numbered, sorted_from, by_name, type_name_of, names_given, name_in, asn_name_of, with_shape, types_with, shape_of, module_of}
-use Rattle.asn1_model.proofs.GivenLemmas.{same_name, self_same}
 use Rattle.asn1_model.proofs.TypeNameLemmas.{length-given}
 use Rattle.asn1_model.proofs.NamesApart.{AreNew, given_are_new}
 
@@ -124,7 +124,7 @@ apart : (taken : List (List ℕ)) (m n : List ℕ) → is_name_among taken m ≡
 apart taken m n new old = go (bytes_eq n m) refl
   where
     go : (b : Bool) → bytes_eq n m ≡ b → bytes_eq n m ≡ false
-    go true e = (let same : n ≡ m = same_name n m e in let x : is_name_among taken m ≡ true = subst (λ y. is_name_among taken y ≡ true) same old in let z : false ≡ true = sym new ∙ x in absurd cc)
+    go true e = (let same : n ≡ m = equal_bytes n m e in let x : is_name_among taken m ≡ true = subst (λ y. is_name_among taken y ≡ true) same old in let z : false ≡ true = sym new ∙ x in absurd cc)
     go false e = e
 
 skip : (n m : List ℕ) (sh : Option AsnShape) (rest : List AsnType) → bytes_eq n m ≡ false → find_asn_type n (with_shape m sh rest) ≡ find_asn_type n rest
@@ -164,8 +164,8 @@ found T taken (t ∷ ts) [] p new long h = absurd cc
 found T taken (t ∷ ts) (n ∷ ns) p (first, new) long h = go (eqb_tells t.number p) h (found T (n ∷ taken) ts ns p new cc) (name_new (n ∷ taken) ts ns p new cc)
   where
     here : (sh : Option AsnShape) → find_asn_type n (with_shape n sh (types_with T ts ns)) ≡ sh
-    here None = not_later T (n ∷ taken) n ts ns (rw (self_same n) refl) new
-    here (Some s) = rw (self_same n) refl
+    here None = not_later T (n ∷ taken) n ts ns (rw (same_bytes n) refl) new
+    here (Some s) = rw (same_bytes n) refl
 
     go : ((eqb t.number p ≡ true) × (t.number ≡ p)) ⊎ ((eqb t.number p ≡ false) × (t.number ≢ p)) → (t.number ≡ p) ⊎ IsIn p ts
         → (IsIn p ts → find_asn_type (name_in ts ns p) (types_with T ts ns) ≡ shape_of (asn_name_of T) (types_of T p)) → (IsIn p ts → is_name_among (n ∷ taken) (name_in ts ns p) ≡ false)

@@ -9,9 +9,9 @@ use Rattle.facets.specs.declared.step.Step.{Step}
 use Rattle.facets.specs.Steps.{plain_step, least_written}
 use Rattle.reference_check.specs.Forms.{Form, Slot}
 use Rattle.reference_check.specs.Forms as form
+use Rattle.message_model.specs.Tables.{Tables, TypeEntry, types_of}
 use Rattle.der_model.specs.Structures.{is_single}
 use Rattle.asn1_model.specs.Names.{asn_identifier, asn_type_name, given_names}
-use Rattle.message_model.specs.Tables.{Tables, TypeEntry, types_of}
 use Rattle.asn1_model.specs.declared.module.Module.{Module}
 use Rattle.asn1_model.specs.declared.module.AsnType.{AsnType}
 use Rattle.asn1_model.specs.declared.module.AsnShape.{AsnShape}

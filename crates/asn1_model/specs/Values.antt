@@ -5,8 +5,8 @@ use Rattle.lexical_core.specs.Tree.{Tree}
 use Rattle.data_types.specs.Leaf.{Leaf, Bytes}
 use Rattle.data_types.specs.declared.kind.Kind.TheVariants as kind
 use Rattle.facets.specs.declared.step.Step.{Step}
-use Rattle.fragments.specs.Plain.{IsPlain}
 use Rattle.der_octets.specs.Octets.{Tag, universal, context, Values, Nothing, octets, then_values}
+use Rattle.fragments.specs.Plain.{IsPlain}
 use Rattle.der_model.specs.LeafContents.{leaf_contents, integer_octets}
 use Rattle.der_model.specs.Structures.{kind_number}
 use Rattle.der_model.specs.Der.{Body, Octets, Inner, under, inner_of}

@@ -2,10 +2,10 @@
 ghost use Rattle.std.specs.Prelude.{◌≡◌, ◌∷◌, [], Some, codes};
 ghost use Rattle.std.specs.Fmt.{decimal};
 ghost use Rattle.std.specs.List.{concat};
-ghost use Rattle.outside.specs.Parts.{part_text};
-ghost use Rattle.outside.specs.Pushes.{Pushes};
 ghost use Rattle.lexical_core.specs.CanonicalDecimals.{canonical_parts};
 ghost use Rattle.lexical_core.specs.Decimals.{decimal_spelling};
+ghost use Rattle.outside.specs.Parts.{part_text};
+ghost use Rattle.outside.specs.Pushes.{Pushes};
 ghost use Rattle.asn1_model.specs.ModuleText.{bound_constraint, constraint_text, digits_constraint, pattern_constraint, size_text, strictness};
 
 use crate::comment::Comment;

@@ -13,8 +13,8 @@ use Rattle.std.specs.Str.{bytes_eq}
 use Rattle.std.proofs.lemmas.List.{map-append}
 use Rattle.std.proofs.Math.Seq.{take-suc}
 use Rattle.std.proofs.lemmas.Slice.Eq.{bytes_eq-Decides}
-use Rattle.lexical_core.proofs.ByteKeys.{key_cmp, found, found_updated}
 use Rattle.indexmap.specs.IndexSet.{IndexSet, insert_key}
+use Rattle.lexical_core.proofs.ByteKeys.{key_cmp, found, found_updated}
 use Rattle.code_sets.specs.declared.record.CodeRecord.{CodeRecord}
 use Rattle.code_sets.specs.Codes.{codes_for, once}
 use Rattle.code_sets.specs.inner.Given.{key_texts, with_text, codes_in}

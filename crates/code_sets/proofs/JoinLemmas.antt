@@ -9,6 +9,7 @@ use Rattle.std.proofs.lemmas.List.Elements.{All-nil, All-cons, All-head, All-tai
 use Rattle.std.proofs.lemmas.List.Folds.{list_any-append}
 use Rattle.std.proofs.lemmas.Slice.Eq.{bytes_eq-Decides}
 use Rattle.lexical_core.specs.Characters.{IsXmlText}
+use Rattle.lexical_core.proofs.Tests.{or_false}
 use Rattle.repo_objects.specs.declared.objects.CodeDef.{CodeDef}
 use Rattle.repo_objects.specs.declared.objects.MessageDef.{MessageDef}
 use Rattle.repo_objects.specs.declared.objects.Object.{Object}
@@ -45,10 +46,6 @@ map_same f g [] h = refl
 map_same f g (x ∷ xs) h = λ i. h x i ∷ map_same f g xs h i
 
 -- ---- the names of code sets with codes of their own
-
-or_false : (a : Bool) → (a || false) ≡ a
-or_false true = refl
-or_false false = refl
 
 or_both : (a b : Bool) → (b ≡ true → a ≡ true) → a ≡ (a || b)
 or_both true b h = refl

@@ -3,8 +3,8 @@ use Rattle.std.proofs.Common.{◌≡◌, ℕ, ◌<◌, List, [], ◌∷◌, ◌+
 use Rattle.std.proofs.lemmas.List.{append-nil}
 use Rattle.std.proofs.lemmas.Bool.Decides.{nat_tests}
 use Rattle.std.specs.List.{AllByRecursion}
-use Rattle.data_types.specs.WhiteSpace.{IsWord, SpacedWord, IsLaterPart, AreSpacedWords, spaced_word_text, join_words, words_of, IsCollapsed}
 use Rattle.lexical_core.specs.Characters.{IsSpace}
+use Rattle.data_types.specs.WhiteSpace.{IsWord, SpacedWord, IsLaterPart, AreSpacedWords, spaced_word_text, join_words, words_of, IsCollapsed}
 
 -- the white space characters, as a test
 space : ℕ → Bool

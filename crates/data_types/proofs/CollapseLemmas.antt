@@ -2,10 +2,10 @@
 use Rattle.std.proofs.Common.{◌≡◌, ℕ, ◌<◌, ◌⊎◌, inl, inr, List, [], ◌∷◌, ◌++◌, length, flat_map, refl, sym, ap, subst, ◌∙◌, arith, append_assoc, length-append}
 use Rattle.std.proofs.lemmas.List.{append-nil}
 use Rattle.std.specs.List.{AllByRecursion}
+use Rattle.lexical_core.specs.Characters.{IsSpace}
 use Rattle.data_types.specs.declared.collapse.Place.{Place}
 use Rattle.data_types.specs.declared.collapse.Place.TheVariants.{Before, Within, Behind}
 use Rattle.data_types.specs.WhiteSpace.{IsWord, SpacedWord, IsLaterPart, AreSpacedWords, spaced_word_text, join_words, words_of, IsCollapsed}
-use Rattle.lexical_core.specs.Characters.{IsSpace}
 use Rattle.data_types.specs.Collapsing.{HasWords, HasCollapsedAt}
 
 pub all_push : {X : Type 0} (P : X → Type 0) (xs : List X) (x : X) → AllByRecursion P xs → P x → AllByRecursion P (xs ++ x ∷ [])

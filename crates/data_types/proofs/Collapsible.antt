@@ -2,10 +2,10 @@
 use Rattle.std.proofs.Common.{◌≡◌, ℕ, ◌≤◌, ◌⊎◌, inl, inr, List, [], ◌∷◌, ◌++◌, length, flat_map, refl, sym, ap, subst, ◌∙◌, arith, append_assoc, append-nil, length-append}
 use Rattle.std.proofs.lemmas.Bool.{cases_eq}
 use Rattle.std.specs.List.{AllByRecursion}
+use Rattle.lexical_core.specs.Characters.{IsSpace}
 use Rattle.data_types.specs.declared.collapse.Place.{Place}
 use Rattle.data_types.specs.declared.collapse.Place.TheVariants.{Before, Within, Behind}
 use Rattle.data_types.specs.WhiteSpace.{SpacedWord, spaced_word_text, join_words, words_of, IsCollapsed}
-use Rattle.lexical_core.specs.Characters.{IsSpace}
 use Rattle.data_types.specs.Collapsing.{HasCollapsedAt}
 use Rattle.data_types.proofs.CollapseLemmas.{space_within, space_behind, char_before, char_within, char_behind, all_push, is_collapsed}
 

@@ -1,10 +1,10 @@
 -- A text that is pushed in pieces.
 use Rattle.std.proofs.Common.{◌≡◌, ℕ, ◌+◌, ◌≤◌, List, [], ◌++◌, Option, Result, Ok, Err, length, refl, sym, ap, subst, ◌∙◌, arith, append_assoc, append-nil, length-append}
 use Rattle.std.specs.Io.KnownBytes.{Appends}
-use Rattle.std.proofs.KnownBytes.{Appends-nil}
+use Rattle.std.proofs.KnownBytes.{Appends-nil, Appends-trans}
 use Rattle.outside.specs.Sink.{AppendsFront, PushAppends, HasRoom}
 use Rattle.outside.specs.declared.errors.SinkError.{SinkError}
-use Rattle.outside.proofs.Pushing.{append_twice, append_then_front, front_of_front}
+use Rattle.outside.proofs.Pushing.{append_then_front, front_of_front}
 
 -- some of the text was pushed, no fault was counted, and the rest is still to come
 pub record HasPushed (old now : Option (List ℕ)) (faults faults' room room' : ℕ) (whole rest : List ℕ) : Type 0 where
@@ -27,7 +27,7 @@ pub pushed_more : (a b c : Option (List ℕ)) (fa fb fc ra rb rc : ℕ) (whole r
     → Appends b c piece → fc ≡ fb → rb ≤ rc + length piece → HasPushed a c fa fc ra rc whole behind
 pushed_more a b c fa fb fc ra rb rc whole rest piece behind h e more same falls = record {
   text = h.text ++ piece;
-  written = append_twice a b c h.text piece h.written more;
+  written = Appends-trans a b c h.text piece h.written more;
   same = same ∙ h.same;
   falls = let f = h.falls in omega (arith, f, falls, length-append h.text piece);
   whole_is = h.whole_is ∙ (ap (λ t. h.text ++ t) e ∙ sym (append_assoc h.text piece behind));
@@ -36,7 +36,7 @@ pushed_more a b c fa fb fc ra rb rc whole rest piece behind h e more same falls 
 -- the last piece, or one that does not go through
 pub pushed_bytes : (a b c : Option (List ℕ)) (fa fb ra rb : ℕ) (whole rest : List ℕ) (r : Result (Unit {0}) SinkError) → HasPushed a b fa fb ra rb whole rest
     → PushAppends b c r rest → PushAppends a c r whole
-pushed_bytes a b c fa fb ra rb whole rest (Ok x) h p = subst (Appends a c) (sym h.whole_is) (append_twice a b c h.text rest h.written p)
+pushed_bytes a b c fa fb ra rb whole rest (Ok x) h p = subst (Appends a c) (sym h.whole_is) (Appends-trans a b c h.text rest h.written p)
 pushed_bytes a b c fa fb ra rb whole rest (Err e) h p = subst (AppendsFront a c) (sym h.whole_is) (append_then_front a b c h.text rest h.written p)
 
 -- an error at a piece of what is left

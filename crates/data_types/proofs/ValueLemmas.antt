@@ -1,6 +1,7 @@
 -- Children in order are the values of their slots.
 use Rattle.std.proofs.Common.{◌≡◌, ℕ, ◌<◌, ◌≤◌, ◌⊎◌, inl, inr, List, [], ◌∷◌, if◌then◌else◌, ◌==◌, refl, sym, ◌∙◌, arith}
 use Rattle.std.proofs.lemmas.Bool.Decides.{nat_tests}
+use Rattle.lexical_core.proofs.Tests.{compared}
 use Rattle.data_types.specs.Value.{Value, Children, Nothing, Child, values_at, IsOrdered, AreOrderedFrom, AreOrdered}
 
 first_here : (k : ℕ) (v : Value) (r : List Value) → (if k == k then v ∷ r else r) ≡ v ∷ r
@@ -19,9 +20,6 @@ values_below k low (Child j v rest) h o = skip k j v (values_at k rest) (omega (
 
 values_tails : (k j : ℕ) (v : Value) (r s : List Value) → (if k == j then v ∷ r else r) ≡ (if k == j then v ∷ s else s) → r ≡ s
 values_tails k j v r s e = grind (arith, nat_tests)
-
-compared : (k j : ℕ) → (k < j) ⊎ ((k ≡ j) ⊎ (j < k))
-compared k j = grind arith
 
 step : (k j : ℕ) (v w : Value) (xs ys : Children) → IsOrdered v → IsOrdered w → AreOrderedFrom k xs → AreOrderedFrom j ys
     → ((i : ℕ) → values_at i (Child k v xs) ≡ values_at i (Child j w ys)) → (k < j) ⊎ ((k ≡ j) ⊎ (j < k))

@@ -8,9 +8,9 @@ use Rattle.std.specs.List.{AllByRecursion}
 use Rattle.std.specs.Char.{digit_value}
 use Rattle.std.specs.Str.Parse.{AllDigits}
 use Rattle.base64.specs.Engines.{standard}
+use Rattle.lexical_core.specs.Characters.{IsSpace, IsXmlChar, IsXmlText}
 use Rattle.data_types.specs.declared.kind.Kind.{Kind}
 use Rattle.data_types.specs.declared.kind.Kind.TheVariants.{Text, Decimal, Boolean, Binary, Date, DateTime, Time, Year, YearMonth, MonthDay, Month, Day, Envelope}
-use Rattle.lexical_core.specs.Characters.{IsSpace, IsXmlChar, IsXmlText}
 use Rattle.data_types.specs.Kinds.{form_of, has_seconds}
 use Rattle.data_types.specs.Booleans.{IsBooleanText}
 use Rattle.data_types.specs.Dates.{FitsPlace, HasForm, IsFraction, IsZone, IsDateText}

@@ -1,13 +1,13 @@
 -- What is kept of a text while its white space is collapsed.
 use Rattle.std.specs.Prelude.{◌≡◌, ℕ, Bool, true, false, ◌<◌, ◌⊎◌, List, [], ◌∷◌, ◌++◌, length, flat_map}
 use Rattle.std.specs.List.{AllByRecursion}
+use Rattle.lexical_core.specs.Characters.{IsSpace}
 use Rattle.data_types.specs.declared.collapse.Collapsed.{Collapsed}
 use Rattle.data_types.specs.declared.collapse.Collapsed.TheVariants.{Nothing, Char, SpaceAndChar}
 use Rattle.data_types.specs.declared.collapse.Place.{Place}
 use Rattle.data_types.specs.declared.collapse.Place.TheVariants.{Before, Within, Behind}
 use Rattle.data_types.specs.declared.collapse.Collapse.{Collapse}
 use Rattle.data_types.specs.WhiteSpace.{IsWord, SpacedWord, AreSpacedWords, spaced_word_text, join_words, words_of}
-use Rattle.lexical_core.specs.Characters.{IsSpace}
 
 -- the characters that the collapsed text gains at this character
 abbrev pub gain_of : Collapsed → ℕ → List ℕ

@@ -1,8 +1,8 @@
 -- The forms of dates and times by their kinds.
 use Rattle.std.specs.Prelude.{List, [], codes}
+use Rattle.std.specs.Prelude.{ℕ, Bool, true, false}
 use Rattle.data_types.specs.declared.kind.Kind.{Kind}
 use Rattle.data_types.specs.declared.kind.Kind.TheVariants.{Text, Decimal, Boolean, Binary, Date, DateTime, Time, Year, YearMonth, MonthDay, Month, Day, Envelope}
-use Rattle.std.specs.Prelude.{ℕ, Bool, true, false}
 
 -- the form of the part with a fixed length: `d` stands for a digit, and every other byte for itself
 abbrev pub form_of : Kind → List ℕ

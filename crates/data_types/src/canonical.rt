@@ -1,7 +1,7 @@
 //! The canonical text of a leaf, pushed on a sink: XML Schema part 2 §3.2, and XML 1.0 §2.4 for what is escaped.
 ghost use Rattle.std.specs.Prelude.{List, ℕ};
-ghost use Rattle.outside.specs.Sink.{PushAppends, HasSinkCause, HasRoom};
 ghost use Rattle.lexical_core.specs.Decimals.{IsDecimal, IsCanonicalText};
+ghost use Rattle.outside.specs.Sink.{PushAppends, HasSinkCause, HasRoom};
 ghost use Rattle.data_types.specs.Leaf.{IsLeafOf};
 ghost use Rattle.data_types.specs.LeafAnswers.{leaf_of};
 ghost use Rattle.data_types.specs.Canonical.{IsCanonicalLeaf, escaped_text};

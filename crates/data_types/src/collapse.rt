@@ -1,8 +1,8 @@
 //! White space collapsed, a character at a time: XML Schema part 2 §4.3.6.
 ghost use Rattle.std.specs.Prelude.{◌≡◌, ◌++◌, ◌∷◌, ◌≢◌, ◌<◌, [], List, ℕ, length};
 ghost use Rattle.std.specs.List.{AllByRecursion};
-ghost use Rattle.data_types.specs.WhiteSpace.{IsWord, IsCollapsed};
 ghost use Rattle.lexical_core.specs.Characters.{IsSpace};
+ghost use Rattle.data_types.specs.WhiteSpace.{IsWord, IsCollapsed};
 ghost use Rattle.data_types.specs.Collapsing.{gain_of, gap_text, HasCollapsed, HasCollapsedAt};
 
 use lexical_core::is_space;

@@ -1,7 +1,7 @@
 //! The bytes of a text, pushed on a sink with what XML asks to be escaped: XML 1.0 §2.4, §2.11 and §3.3.3.
 ghost use Rattle.std.specs.Prelude.{◌≡◌, ◌<◌, ◌≤◌, ℕ, List, IsTrue, encode_utf8_all, flat_map, length, take};
-ghost use Rattle.outside.specs.Sink.{PushAppends, HasSinkCause, HasRoom};
 ghost use Rattle.lexical_core.specs.Escapes.{escape_of};
+ghost use Rattle.outside.specs.Sink.{PushAppends, HasSinkCause, HasRoom};
 ghost use Rattle.data_types.specs.Escaping.{escaped_bytes, IsPlainByte};
 
 use lexical_core::reference_to;

@@ -5,6 +5,7 @@ use Rattle.std.specs.Int.Digits.{digits_of, number_from_digits, AllBelowBase}
 use Rattle.std.proofs.lemmas.Bool.Decides.{leb_tells}
 use Rattle.std.proofs.lemmas.Int.Digits.{length-digits_of-le, number_lt}
 use Rattle.base64.specs.GeneralPurpose.{IsBytes}
+use Rattle.lexical_core.proofs.Tests.{below_128, from_128}
 use Rattle.der_octets.proofs.Digits.{digits_of_number}
 use Rattle.der_model.specs.LeafContents.{with_sign_bit, integer_octets, IsInteger}
 use Rattle.der_model.proofs.Integers.{integer_same}
@@ -14,25 +15,11 @@ pub below : (xs : List ℕ) → IsBytes xs → AllBelowBase 256 xs
 below [] h = tt
 below (x ∷ xs) h = (h 0, below xs (λ i. h (suc i)))
 
-low_test : (d : ℕ) → d < 128 → nat_lt d 128 ≡ true
-low_test d low = go (leb_tells (suc d) 128)
-  where
-    go : ((ltb d 128 ≡ true) × (suc d ≤ 128)) ⊎ ((ltb d 128 ≡ false) × (128 < suc d)) → nat_lt d 128 ≡ true
-    go (inl t) = t.0
-    go (inr t) = absurd (omega arith)
-
-high_test : (d : ℕ) → 128 ≤ d → nat_lt d 128 ≡ false
-high_test d high = go (leb_tells (suc d) 128)
-  where
-    go : ((ltb d 128 ≡ true) × (suc d ≤ 128)) ⊎ ((ltb d 128 ≡ false) × (128 < suc d)) → nat_lt d 128 ≡ false
-    go (inl t) = absurd (omega arith)
-    go (inr t) = t.0
-
 as_it_is : (d : ℕ) (ds : List ℕ) → d < 128 → with_sign_bit (d ∷ ds) ≡ d ∷ ds
-as_it_is d ds low = ap (λ z. if z then d ∷ ds else 0 ∷ d ∷ ds) (low_test d low)
+as_it_is d ds low = ap (λ z. if z then d ∷ ds else 0 ∷ d ∷ ds) (below_128 d low)
 
 behind_zero : (d : ℕ) (ds : List ℕ) → 128 ≤ d → with_sign_bit (d ∷ ds) ≡ 0 ∷ d ∷ ds
-behind_zero d ds high = ap (λ z. if z then d ∷ ds else 0 ∷ d ∷ ds) (high_test d high)
+behind_zero d ds high = ap (λ z. if z then d ∷ ds else 0 ∷ d ∷ ds) (from_128 d high)
 
 -- a first digit that is not 0, and leaves the sign bit free
 leads : (d : ℕ) (ds : List ℕ) → 0 < d → d < 128 → AllBelowBase 256 (d ∷ ds) → integer_octets (number_from_digits 256 (d ∷ ds)) ≡ d ∷ ds

@@ -1,6 +1,9 @@
 -- Identifier octets and ends among the components of slots.
 use Rattle.std.proofs.Common.{◌≡◌, ℕ, zero, suc, ◌+◌, ◌-◌, ◌≤◌, ◌<◌, Bool, true, false, List, [], ◌∷◌, length, drop, Some, None, refl, sym, ap, ◌∙◌, subst, arith, ◌⊎◌, inl, inr}
 use Rattle.std.specs.Prelude.{if◌then◌else◌, slice_get, slice_index_or}
+use Rattle.std.proofs.Math.ListN.{length-drop}
+use Rattle.std.proofs.lemmas.Bool.{cases_lt, cond-true, cond-false}
+use Rattle.std.proofs.lemmas.Option.{slice_get_within}
 use Rattle.lexical_core.specs.declared.rule.Rule.TheVariants.{UnexpectedTag, DerMissing}
 use Rattle.facets.specs.declared.simple.Simple.{Simple}
 use Rattle.der_octets.specs.Octets.{Tag, Context, context}
@@ -10,9 +13,6 @@ use Rattle.der_octets.specs.declared.tag_step.TagClass.TheVariants as class
 use Rattle.reference_check.specs.Forms.{Graph, Slot}
 use Rattle.der_model.specs.Structures.{Component, Label, Element, Listed, is_single, component, components, amount_components}
 use Rattle.der_model.specs.States.{IdentifierAnswer, Begins, Breaks, Fine, EndBreaks, is_under, field_answer, any_answer, field_end, skipping, missing_text}
-use Rattle.std.proofs.Math.ListN.{length-drop}
-use Rattle.std.proofs.lemmas.Bool.{cases_lt, cond-true, cond-false}
-use Rattle.std.proofs.lemmas.Option.{slice_get_within}
 use Rattle.der_model.proofs.Fields.{under_own, under_other, any_found}
 use Rattle.der_model.proofs.WholeValues.{under_same}
 use Rattle.der_model.proofs.OneLevel.{drop_get}

@@ -3,12 +3,12 @@ use Rattle.std.proofs.Common.{◌≡◌, ℕ, List, Option, None, Some, Result, 
 use Rattle.data_types.specs.Leaf.{Leaf}
 use Rattle.data_types.specs.declared.leaf.LeafRef.{LeafRef}
 use Rattle.facets.specs.declared.simple.Simple.{Simple}
+use Rattle.reference_check.specs.Forms as graph
+use Rattle.reference_check.specs.Forms.{Graph, text_type}
 use Rattle.message_model.specs.Tables.{Tables, types_of}
 use Rattle.message_model.specs.Views.{IsFormOf}
 use Rattle.message_model.specs.declared.model.Form.{Form}
 use Rattle.message_model.specs.declared.model.Form.TheVariants as form
-use Rattle.reference_check.specs.Forms as graph
-use Rattle.reference_check.specs.Forms.{Graph, text_type}
 use Rattle.der_model.specs.DerMessage.{DerMessage, der_message}
 use Rattle.der_model.specs.Faults.{IsHeldIn}
 use Rattle.der_model.specs.OpenParts.{IsPrimitive}

@@ -1,15 +1,15 @@
 -- What is kept of contents in values, and what is held of what is open.
 use Rattle.std.proofs.Common.{◌≡◌, ℕ, zero, suc, ◌-◌, ◌≤◌, List, [], ◌∷◌, ◌++◌, length, drop, Option, Some, None, Ok, Err, refl, sym, ap, ◌∙◌, subst, arith, append_assoc, length-append, Bor}
-use Rattle.der_octets.specs.TagSteps as tags
-use Rattle.der_octets.specs.LengthSteps as lengths
 use Rattle.facets.specs.LeafChecks.{IsHeldWithin}
 use Rattle.facets.specs.declared.simple.Simple.{Simple}
+use Rattle.der_octets.specs.TagSteps as tags
+use Rattle.der_octets.specs.LengthSteps as lengths
+use Rattle.reference_check.specs.Forms as graph
+use Rattle.reference_check.specs.Forms.{Graph, text_type}
 use Rattle.message_model.specs.Sound.{AreSound, HaveSortedCodes}
 use Rattle.message_model.specs.Tables.{Tables, types_of}
 use Rattle.message_model.specs.Views.{IsFormOf}
 use Rattle.message_model.specs.declared.model.Form.TheVariants as form
-use Rattle.reference_check.specs.Forms as graph
-use Rattle.reference_check.specs.Forms.{Graph, text_type}
 use Rattle.der_model.specs.DerMessage.{DerMessage, der_message}
 use Rattle.der_model.specs.Faults.{IsHeldIn, BreaksIn}
 use Rattle.der_model.specs.Structures.{Structure, Holds, LeafOf, structure, form_structure, number_structure}

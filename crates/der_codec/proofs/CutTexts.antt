@@ -8,9 +8,11 @@ use Rattle.std.proofs.lemmas.Str.{encode_same, encode_ascii, encodes-append, con
 use Rattle.lexical_core.specs.Characters.{IsXmlChar, IsXmlText}
 use Rattle.lexical_core.specs.XmlRuns.{IsXmlRun, IsPlainXmlByte}
 use Rattle.lexical_core.proofs.XmlRuns.{plain_encoded}
+use Rattle.lexical_core.proofs.CharacterLemmas.{chars_joined}
 use Rattle.data_types.proofs.RunLemmas.{run_short}
 use Rattle.facets.specs.LeafChecks.{IsHeldWithin}
 use Rattle.der_codec.specs.KeptOctets.{IsPassed, IsTextKept}
+use Rattle.der_codec.proofs.LeavesJudged.{run_text}
 
 -- ---- characters behind others
 
@@ -25,10 +27,6 @@ all_behind : (ps ds : List ℕ) → AllByRecursion IsXmlChar (ps ++ ds) → AllB
 all_behind [] ds h = h
 all_behind (p ∷ ps) ds h = all_behind ps ds h.1
 
-all_both : (ps ds : List ℕ) → AllByRecursion IsXmlChar ps → AllByRecursion IsXmlChar ds → AllByRecursion IsXmlChar (ps ++ ds)
-all_both [] ds h g = g
-all_both (p ∷ ps) ds h g = (h.0, all_both ps ds h.1 g)
-
 -- what stands behind a run of a text is a text
 text_behind : (front rest : List ℕ) (count : ℕ) → IsXmlRun front count → IsXmlText (front ++ rest) → IsXmlText rest
 text_behind front rest count r (cs, all, e) =
@@ -37,7 +35,7 @@ text_behind front rest count r (cs, all, e) =
 
 text_both : (front rest : List ℕ) (count : ℕ) → IsXmlRun front count → IsXmlText rest → IsXmlText (front ++ rest)
 text_both front rest count r (ds, all, e) =
-    (r.chars ++ ds, all_both r.chars ds r.are all, encodes-append r.chars ds ∙ (ap (λ z. encode_utf8_all r.chars ++ z) e ∙ ap (λ z. z ++ rest) (sym r.spelled)))
+    (r.chars ++ ds, chars_joined r.chars ds r.are all, encodes-append r.chars ds ∙ (ap (λ z. encode_utf8_all r.chars ++ z) e ∙ ap (λ z. z ++ rest) (sym r.spelled)))
 
 -- a text is as long as its front
 run_longer : (front rest : List ℕ) (count all : ℕ) → IsXmlRun front count → IsXmlRun (front ++ rest) all → count ≤ all
@@ -48,9 +46,6 @@ run_longer front rest count all r w =
 
 pub run_of : (octets : List ℕ) (t : IsXmlText octets) → IsXmlRun octets (length t.0)
 run_of octets t = record { chars = t.0; spelled = sym t.2; count_is = refl; are = t.1 }
-
-text_of : (octets : List ℕ) (count : ℕ) → IsXmlRun octets count → IsXmlText octets
-text_of octets count r = (r.chars, r.are, sym r.spelled)
 
 -- ---- a run that is too long, in the place of another
 
@@ -76,8 +71,8 @@ pub none_pass : (most : ℕ) (kept octets : List ℕ) → ((more : List ℕ) →
 none_pass most kept octets never none = record {
   there = λ more t. absurd (never more t);
   back = λ more t. absurd (none more t);
-  kept_long = λ more count run. absurd (never more (text_of (kept ++ more) count run));
-  octets_long = λ more count run. absurd (none more (text_of (octets ++ more) count run));
+  kept_long = λ more count run. absurd (never more (run_text (kept ++ more) count run));
+  octets_long = λ more count run. absurd (none more (run_text (octets ++ more) count run));
 }
 
 nul_is_none : IsXmlChar 0 → ⊥

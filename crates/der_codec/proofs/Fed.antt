@@ -4,9 +4,13 @@ use Rattle.std.proofs.Common.{◌≡◌, ◌≢◌, ℕ, zero, suc, ◌+◌, ◌
 use Rattle.std.proofs.Math.Seq.{take-add}
 use Rattle.lexical_core.specs.declared.rule.Rule.{Rule}
 use Rattle.lexical_core.specs.declared.rule.Rule.TheVariants.{DerTruncated}
+use Rattle.data_types.specs.Leaf.{Leaf}
+use Rattle.facets.specs.LeafChecks.{IsHeldWithin}
+use Rattle.inst_pool.specs.Pieces.{Region}
 use Rattle.message_model.specs.Tables.{Tables, types_of}
 use Rattle.message_model.specs.declared.fault.InstanceError.{InstanceError}
 use Rattle.message_model.specs.declared.fault.InstanceError.TheVariants.{Refused}
+use Rattle.message_model.specs.Errors.{IsSameOrMemory}
 use Rattle.der_model.specs.DerMessage.{DerMessage, der_message}
 use Rattle.der_model.specs.Faults.{FaultInDer, DerFault}
 use Rattle.der_model.specs.Paths.{path_of}
@@ -15,14 +19,12 @@ use Rattle.der_model.specs.Structures.{structure}
 use Rattle.der_model.specs.States.{State, Start, AwaitsContents}
 use Rattle.der_model.proofs.Continued.{fault_stays}
 use Rattle.der_model.proofs.Answered.{spelled_has_none}
-use Rattle.facets.specs.LeafChecks.{IsHeldWithin}
 use Rattle.der_codec.specs.Levels.{inwards}
 use Rattle.der_codec.specs.Components.{added_text}
 use Rattle.der_codec.specs.Decoding.{due_depth, Reads, Fails, HasReadParts, IsOpenState, IsFresh, IsFault, IsStopped, IsOver, IsOctetAwaited, IsWaiting, IsNoCut, IsRefusedAs, end_of_levels}
 use Rattle.der_codec.specs.Judging.{HoldsContents, BreaksContentsAt, IsVerdictFor}
 use Rattle.der_codec.specs.inner.OpenNames.{IsNamed}
 use Rattle.der_codec.specs.Checking.{IsReading, KeepsContents, KeepsRead, HasFedDer, TakesDerFront, StopsWithin, DerStops, IsSpelledDer, DerEndsAs, open_count, der_bytes_fed, token_held}
-use Rattle.message_model.specs.Errors.{IsSameOrMemory}
 use Rattle.der_codec.specs.declared.checks.Refusal.{Refusal}
 use Rattle.der_codec.specs.declared.checks.Refusal.TheVariants as refused
 use Rattle.der_codec.specs.declared.components.Added.TheVariants as added
@@ -39,8 +41,6 @@ use Rattle.der_codec.proofs.InputEnds.{goes_on, is_spelled}
 use Rattle.der_codec.proofs.Named.{front_named}
 use Rattle.der_codec.specs.KeptOctets.{IsKeptAt}
 use Rattle.der_codec.specs.KeptPieces.{KeepsShown, HoldsLeafAt, GoesOnByLeaf, EndsLeaf}
-use Rattle.inst_pool.specs.Pieces.{Region}
-use Rattle.data_types.specs.Leaf.{Leaf}
 use Rattle.der_codec.specs.Limits.{open_limit, leaf_come, token_come}
 use Rattle.der_codec.proofs.CutSpots.{none_held, held_then, held_open, token_open}
 use Rattle.der_codec.proofs.ContentsSteps.{place_counts, kept_more, none_kept, rest_from, some_before, contents_break}

@@ -1,9 +1,9 @@
 -- Room for pieces, and for more behind them.
 use Rattle.std.specs.Prelude.{Result, Ok, Err, IsOk, OnOk}
 use Rattle.std.proofs.Common.{◌≡◌, ℕ, ◌+◌, ◌-◌, ◌≤◌, ◌<◌, List, [], ◌∷◌, ◌++◌, length, Option, Some, None, refl, ap, ◌∙◌, arith, append_assoc, length-append}
-use Rattle.data_types.specs.Leaf.{Leaf}
+use Rattle.data_types.specs.Leaf.{Leaf, octet_count}
 use Rattle.data_types.specs.Value.{Edge, Piece, Begins, Holds, Ends}
-use Rattle.inst_pool.specs.Pieces.{Region, bytes_of, piece_bytes, leaf_bytes, spare_nodes, spare_bytes}
+use Rattle.inst_pool.specs.Pieces.{Region, bytes_of, piece_bytes, spare_nodes, spare_bytes}
 use Rattle.inst_pool.proofs.ContentLemmas.{bytes_of-append}
 use Rattle.inst_pool.specs.declared.piece.Edge.{Edge as Told}
 use Rattle.der_model.specs.ShownPieces.{begin_each, end_each}
@@ -28,7 +28,7 @@ holds_then old mid a b h is grows =
 pub one_spare : (old : Region) (piece : Piece) → HoldsMore old (piece ∷ []) → 0 < spare_nodes old
 one_spare old piece h = (let sum = length-append old.pieces (piece ∷ []) in let a0 = h.0 in omega (arith, a0, sum))
 
-pub leaf_spare : (old : Region) (leaf : Leaf) → HoldsMore old (Holds leaf ∷ []) → leaf_bytes leaf ≤ spare_bytes old
+pub leaf_spare : (old : Region) (leaf : Leaf) → HoldsMore old (Holds leaf ∷ []) → octet_count leaf ≤ spare_bytes old
 leaf_spare old leaf h = (let sum = bytes_of-append old.pieces (Holds leaf ∷ []) in let a1 = h.1 in omega (arith, a1, sum))
 
 -- the elements of a component, one after the other

@@ -1,9 +1,9 @@
 -- What is known where the input ends, or goes on behind the instance.
-use Rattle.std.proofs.Common.{◌≡◌, ℕ, ◌+◌, ◌^◌, ◌≤◌, ◌<◌, List, [], ◌∷◌, ◌++◌, length, Option, Some, None, refl, sym, ap, ◌∙◌, subst, arith, inl, inr}
+use Rattle.std.proofs.Common.{◌≡◌, ℕ, ◌+◌, ◌^◌, ◌<◌, List, [], ◌∷◌, ◌++◌, length, Option, Some, None, refl, sym, ap, ◌∙◌, subst, arith, inl, inr}
 use Rattle.lexical_core.specs.declared.rule.Rule.TheVariants.{DerTruncated, Trailing}
+use Rattle.data_types.specs.Value.{Value}
 use Rattle.der_octets.specs.TagSteps as tags
 use Rattle.der_octets.specs.declared.tag_step.TagStep.{TagStep}
-use Rattle.data_types.specs.Value.{Value}
 use Rattle.der_model.specs.States.{State, Start, AwaitsContents, Within, innermost_end}
 use Rattle.der_model.specs.Der.{SpellsDer}
 use Rattle.der_model.specs.Sound.{IsSoundDer}
@@ -17,7 +17,7 @@ use Rattle.der_codec.specs.Decoding.{IsOpenState, IsBegun, Reads, Fails, IsBelow
 use Rattle.der_codec.specs.declared.level.Level.{Level}
 use Rattle.der_codec.specs.declared.decoder.Due.{Due}
 use Rattle.der_codec.specs.declared.decoder.Due.TheVariants as due
-use Rattle.der_codec.proofs.Steps.{open_limit, tag_front, length_front}
+use Rattle.der_codec.proofs.Steps.{open_limit, tag_front, length_front, lower}
 
 below_limit : (o : Option ℕ) (place end : ℕ) → IsBelowEnd place o → o ≡ Some end → place < end
 below_limit None place end h e = absurd cc
@@ -28,13 +28,9 @@ under m xs d start place bytes r low end e =
     let p = r.place_is in
     let below = below_limit (end_of_first xs) place end low (sym (open_limit m xs d r.state r.is_open) ∙ e) in omega arith
 
-lower_at : (o : Option ℕ) (at place : ℕ) → at ≤ place → IsBelowEnd place o → IsBelowEnd at o
-lower_at None at place l h = tt
-lower_at (Some e) at place l h = omega arith
-
 pub waits : (m : DerMessage ℕ) (xs : List Level) (d : Due) (start place : ℕ) (bytes : List ℕ) (r : Reads m xs d start place bytes) → IsWaiting d place (end_of_first xs) → (IsOver d → ⊥) → Waits r.state r.at r.rest
 waits m xs (due.Tag step) start place bytes r low going =
-    inl (under m xs (due.Tag step) start place bytes r low, tag_front m xs step r.state r.at r.rest r.is_open r.is_begun (lower_at (end_of_first xs) r.at place (let p = r.place_is in omega arith) low))
+    inl (under m xs (due.Tag step) start place bytes r low, tag_front m xs step r.state r.at r.rest r.is_open r.is_begun (lower (end_of_first xs) r.at place (let p = r.place_is in omega arith) low))
 waits m xs (due.Length c spot step) start place bytes r low going =
     inl (under m xs (due.Length c spot step) start place bytes r low, length_front m xs c spot step r.state r.at r.rest r.is_open r.is_begun)
 waits m xs (due.Contents spot left) start place bytes r low going = by r.state r.is_open r.is_begun

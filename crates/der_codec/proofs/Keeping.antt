@@ -1,14 +1,16 @@
 -- What is reserved is kept, and is enough: of a checker that goes on, and of what it is given.
 use Rattle.std.proofs.Common.{◌≡◌, ℕ, ◌+◌, ◌≤◌, ◌<◌, ◌^◌, false, true, List, [], ◌∷◌, ◌++◌, length, drop, take, Option, Some, None, refl, sym, ap, ◌∙◌, subst, arith, append_assoc, append-nil}
 use Rattle.std.specs.Prelude.{vec_capacity, Result, Ok, Err, IsOk, IfOk, IfErr, IsErrOf}
-use Rattle.lexical_core.specs.declared.rule.Rule.TheVariants.{DerTruncated}
 use Rattle.std.specs.Global.{Vec}
+use Rattle.lexical_core.specs.declared.rule.Rule.TheVariants.{DerTruncated}
 use Rattle.data_types.specs.Value.{Piece}
 use Rattle.facets.specs.declared.simple.Simple.{Simple}
-use Rattle.inst_pool.specs.Pieces.{Region, bytes_of}
-use Rattle.message_model.specs.Tables.{Tables, types_of}
-use Rattle.reference_check.specs.Forms.{Graph}
 use Rattle.der_octets.specs.declared.tag_step.TagStep.{TagStep}
+use Rattle.inst_pool.specs.Pieces.{Region, bytes_of}
+use Rattle.reference_check.specs.Forms.{Graph}
+use Rattle.message_model.specs.Tables.{Tables, types_of}
+use Rattle.message_model.specs.Errors.{IsAgain}
+use Rattle.message_model.specs.declared.fault.InstanceError.{InstanceError}
 use Rattle.der_model.specs.DerMessage.{DerMessage, der_message}
 use Rattle.der_model.specs.Faults.{FaultInDer}
 use Rattle.der_model.specs.OpenParts.{IsPrimitive}
@@ -21,8 +23,6 @@ use Rattle.der_model.specs.Structures.{structure}
 use Rattle.der_model.proofs.Answered.{spelled_has_none}
 use Rattle.der_model.proofs.Continued.{fault_stays}
 use Rattle.der_model.proofs.ShownPieces.{parts_show_then}
-use Rattle.message_model.specs.Errors.{IsAgain}
-use Rattle.message_model.specs.declared.fault.InstanceError.{InstanceError}
 use Rattle.der_codec.specs.Checking.{StopsWithin, open_count, der_failure}
 use Rattle.der_codec.specs.Components.{added_text}
 use Rattle.der_codec.specs.Decoding.{Reads, HasReadParts, IsOpenState, IsBegun, IsFull, IsLengthDue, due_depth}

@@ -4,6 +4,7 @@ use Rattle.std.proofs.lemmas.Bool.{cases_lt}
 use Rattle.std.proofs.lemmas.Option.{slice_get_read}
 use Rattle.std.specs.Global.{Box}
 use Rattle.std.specs.Prelude.{slice_get, slice_set}
+use Rattle.lexical_core.proofs.Lists.{get_before, get_set}
 use Rattle.facets.specs.declared.simple.Simple.{Simple}
 use Rattle.facets.specs.declared.leaf_verdict.LeafVerdict.{LeafVerdict}
 use Rattle.reference_check.specs.Forms.{Graph, text_type}
@@ -18,22 +19,9 @@ Held = Box LeafVerdict
 abbrev pub KeptIn : Graph ℕ Simple → List (Option Held) → Type 0
 KeptIn types xs = (n : ℕ) (check : Held) → slice_get xs n ≡ Some (Some check) → ChecksType types n check.value
 
-get_before : (xs : List (Option Held)) (n : ℕ) (check : Held) → slice_get (xs ++ None ∷ []) n ≡ Some (Some check) → slice_get xs n ≡ Some (Some check)
-get_before [] zero check e = cc
-get_before [] (suc n) check e = cc
-get_before (x ∷ xs) zero check e = e
-get_before (x ∷ xs) (suc n) check e = get_before xs n check e
-
 pub pushed : (types : Graph ℕ Simple) (xs ys : List (Option Held)) (b : Bool) → ys ≡ cond b (xs ++ None ∷ []) xs → KeptIn types xs → KeptIn types ys
 pushed types xs ys true e h n check found = h n check (get_before xs n check (ap (λ v. slice_get v n) (sym e) ∙ found))
 pushed types xs ys false e h n check found = h n check (ap (λ v. slice_get v n) (sym e) ∙ found)
-
-get_set : (xs : List (Option Held)) (k n : ℕ) (o : Option Held) (check : Held) → slice_get (slice_set xs k o) n ≡ Some (Some check) → ((n ≡ k) × (o ≡ Some check)) ⊎ (slice_get xs n ≡ Some (Some check))
-get_set [] k n o check e = inr e
-get_set (x ∷ xs) zero zero o check e = inl (refl, cc)
-get_set (x ∷ xs) zero (suc n) o check e = inr e
-get_set (x ∷ xs) (suc k) zero o check e = inr e
-get_set (x ∷ xs) (suc k) (suc n) o check e = elim (get_set xs k n o check e) [ inl h ↦ inl (ap suc h.0, h.1) | inr h ↦ inr h ]
 
 pub set_one : (types : Graph ℕ Simple) (xs : List (Option Held)) (k : ℕ) (o : Option Held) → ChecksIfAny types k o → KeptIn types xs → KeptIn types (slice_set xs k o)
 set_one types xs k o made h n check found = go (get_set xs k n o check found)

@@ -10,7 +10,6 @@ use Rattle.lexical_core.specs.declared.rule.Rule.TheVariants.{BadLength, Pattern
 use Rattle.lexical_core.proofs.XmlRuns.{plain_encoded}
 use Rattle.data_types.specs.Dates.{IsDateText}
 use Rattle.data_types.specs.Leaf.{Leaf, Bytes, Code, IsLeaf, IsTextLeaf}
-use Rattle.data_types.specs.LeafSteps.{IsShortKind}
 use Rattle.data_types.specs.declared.kind.Kind.{Kind}
 use Rattle.data_types.specs.declared.kind.Kind.TheVariants as kind
 use Rattle.data_types.proofs.CanonicalLemmas.{own}
@@ -25,6 +24,7 @@ use Rattle.facets.specs.Rules.{BreaksFirst, BreaksPattern}
 use Rattle.facets.specs.declared.simple.Simple.{Simple}
 use Rattle.facets.proofs.FitLemmas.{given_fits}
 use Rattle.facets.proofs.TextRules.{text_breaks, short_breaks, coded_answer}
+use Rattle.facets.proofs.PatternLemmas.{date_is_short}
 use Rattle.der_model.specs.LeafContents.{integer_octets, IsInteger, IsContents, HasContentsForm, HasCodes, ContentsUnder}
 use Rattle.der_codec.specs.Judging.{IsJudged, IsXmlCode, IsNoDate}
 use Rattle.der_codec.specs.Checked.{IsToldOf}
@@ -88,12 +88,6 @@ no_text simple octets e n other = λ h. other (subst (λ z. HasContentsForm kind
 
 -- ---- dates and times
 
-short : (k : Kind) → IsDateKind k → IsShortKind k
-short kind.Text h = absurd h
-short kind.Decimal h = absurd h
-short kind.Binary h = absurd h
-short k h = record { no_text = λ e. cc; no_decimal = λ e. cc; no_binary = λ e. cc }
-
 visible_plain : (xs : List ℕ) → AreVisible xs → AllByRecursion IsPlainXmlByte xs
 visible_plain [] v = tt
 visible_plain (x ∷ xs) v = (let low = v.0.low in let high = v.0.high in record { ascii = omega arith; xml = inl (omega arith, omega arith) }, visible_plain xs v.1)
@@ -144,7 +138,7 @@ date_fits simple octets leaf d is g = (
 
 pub date_breaks : (simple : Simple) (octets : List ℕ) (rule : Rule) → IsDateKind simple.kind → IsDateText simple.kind octets → BreaksFirst simple octets rule → ContentsUnder simple octets (Err rule)
 date_breaks simple octets rule d is b =
-    let fails = (short_breaks simple octets (Bytes octets) (short simple.kind d) (date_leaf simple.kind octets d is) rule b.broken).0 in
+    let fails = (short_breaks simple octets (Bytes octets) (date_is_short simple.kind d) (date_leaf simple.kind octets d is) rule b.broken).0 in
     subst (λ z. ContentsUnder simple octets (Err z)) (sym fails)
     (date_codes simple.kind simple.codes d, Bytes octets, date_contents simple.kind simple.codes octets d is, inl (octets, date_canonical simple.kind simple.codes octets d, subst (BreaksFirst simple octets) fails b))
 

@@ -2,6 +2,7 @@
 use Rattle.std.proofs.Common.{◌≡◌, ℕ, ◌+◌, ◌<◌, Bool, List, [], ◌∷◌, ◌++◌, length, refl, sym, ap, ◌∙◌, subst, arith, append_assoc, append-nil, length-append, ◌⊎◌, inl, inr}
 use Rattle.std.proofs.lemmas.Bool.{cases_lt}
 use Rattle.std.proofs.lemmas.List.{nil_from_length}
+use Rattle.lexical_core.proofs.Lists.{nothing_behind}
 use Rattle.der_octets.specs.Octets.{Tag, identifier, length_octets}
 use Rattle.der_octets.specs.TagSteps as tags
 use Rattle.der_octets.specs.LengthSteps as lengths
@@ -58,10 +59,6 @@ pub length_ends : (step : LengthStep) (rest after : List ℕ) (o n : ℕ) → le
 length_ends step rest after o n taken is = front_ends (length_octets n) rest after o is (λ z e. no_whole_length step rest z n taken e)
 
 -- ---- parts of no octets
-
-nothing_behind : (xs ys : List ℕ) → [] ≡ xs ++ ys → ys ≡ []
-nothing_behind [] ys e = sym e
-nothing_behind (x ∷ xs) ys e = absurd cc
 
 pub no_identifier : (c : Bool) (t : Tag) (bytes after : List ℕ) → bytes ≡ [] → bytes ≡ identifier c t ++ after → ⊥
 no_identifier c t bytes after none is = absurd (let some = some_identifier c t in let sum = length-append (identifier c t) after in let a = ap length is in let b = ap length none in omega (arith, some, sum, a, b))

@@ -10,9 +10,9 @@ use Rattle.der_model.specs.Structures.{Component, Label, Element, Listed, Unname
 use Rattle.der_model.specs.States as states
 use Rattle.der_model.specs.States.{PathName, Numbered, ListName, State, Start, AwaitsLength, AwaitsContents, Within, label_names, next_number}
 use Rattle.der_model.specs.Paths.{path_text, path_of, names_of}
+use Rattle.der_model.specs.OpenParts.{components_of}
 use Rattle.der_codec.specs.Levels.{IsSpot, IsLevel, AreLevels, inwards, rest_of}
 use Rattle.der_codec.specs.Decoding.{IsOpenState, AwaitsValue}
-use Rattle.der_model.specs.OpenParts.{components_of}
 use Rattle.der_codec.specs.inner.OpenNames.{label_of, names_of_part, names_at, document_names, names_within, AreNamed, IsNamed, slot_names, amount_names, form_names, alternative_names, item_names, spot_names, numbered_names, level_names, names_over}
 use Rattle.der_codec.specs.declared.level.Spot.{Spot}
 use Rattle.der_codec.specs.declared.level.Spot.TheVariants as spots

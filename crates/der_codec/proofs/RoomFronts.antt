@@ -1,17 +1,17 @@
 -- Bytes that begin the DER of an instance show a front of its pieces and of its parts, for which the room is enough.
 use Rattle.std.proofs.Common.{◌≡◌, ℕ, suc, ◌+◌, ◌-◌, ◌≤◌, ◌<◌, ◌^◌, true, false, List, [], ◌∷◌, ◌++◌, length, Option, Some, None, Ok, refl, sym, ap, ◌∙◌, subst, arith, append_assoc, length-append}
-use Rattle.fragments.specs.Fragment.{fragment}
-use Rattle.data_types.specs.Leaf.{Leaf, Bytes, Number, Flag, Code}
+use Rattle.data_types.specs.Leaf.{Leaf, Bytes, Number, Flag, Code, octet_count}
 use Rattle.data_types.specs.Value.{Value, Edge, Piece}
 use Rattle.data_types.specs.Value as value
 use Rattle.data_types.specs.declared.kind.Kind.{Kind}
 use Rattle.data_types.specs.declared.kind.Kind.TheVariants as kind
 use Rattle.facets.specs.declared.simple.Simple.{Simple}
-use Rattle.inst_pool.specs.Pieces.{Region, bytes_of, leaf_bytes}
-use Rattle.inst_pool.proofs.ContentLemmas.{bytes_of-append}
-use Rattle.message_model.specs.Tables.{Tables, types_of, pieces_of}
 use Rattle.der_octets.specs.Octets.{Values, Nothing, Primitive, Constructed, octets, universal}
 use Rattle.der_octets.proofs.OneReading.{octets_same}
+use Rattle.fragments.specs.Fragment.{fragment}
+use Rattle.inst_pool.specs.Pieces.{Region, bytes_of}
+use Rattle.inst_pool.proofs.ContentLemmas.{bytes_of-append}
+use Rattle.message_model.specs.Tables.{Tables, types_of, pieces_of}
 use Rattle.der_model.specs.DerMessage.{DerMessage, der_message}
 use Rattle.der_model.specs.Der.{SpellsDer, der_values}
 use Rattle.der_model.specs.Faults.{DerFront, IsWholeDer, IsCleanPart}
@@ -103,7 +103,7 @@ contents_without (Length n ∷ ps) = contents_without ps
 contents_without (states.Contents o ∷ ps) = ap (λ z. length o + z) (contents_without ps)
 contents_without (End ∷ ps) = contents_without ps
 
-leaf_small : (k : Kind) (codes : Option (List (List ℕ))) (o : List ℕ) (leaf : Leaf) → IsContents k codes o leaf → leaf_bytes leaf ≤ length o
+leaf_small : (k : Kind) (codes : Option (List (List ℕ))) (o : List ℕ) (leaf : Leaf) → IsContents k codes o leaf → octet_count leaf ≤ length o
 leaf_small k codes o (Number x) h = omega arith
 leaf_small k codes o (Flag x) h = omega arith
 leaf_small k codes o (Code x) h = omega arith
@@ -122,9 +122,9 @@ leaf_small kind.MonthDay codes o (Bytes b) h = (let e = ap length h.1 in omega (
 leaf_small kind.Month codes o (Bytes b) h = (let e = ap length h.1 in omega (arith, e))
 leaf_small kind.Day codes o (Bytes b) h = (let e = ap length h.1 in omega (arith, e))
 
-held_small : {P : Type 0} (s : Structure P) (o : List ℕ) (leaf : Leaf) → IsLeafIn s o leaf → leaf_bytes leaf ≤ length o
+held_small : {P : Type 0} (s : Structure P) (o : List ℕ) (leaf : Leaf) → IsLeafIn s o leaf → octet_count leaf ≤ length o
 held_small (Holds (LeafOf simple)) o leaf h = leaf_small simple.kind simple.codes o leaf h.0
-held_small (Holds Fragment) o leaf h = (let e : leaf_bytes leaf ≡ length o = ap leaf_bytes h in omega (arith, e))
+held_small (Holds Fragment) o leaf h = (let e : octet_count leaf ≡ length o = ap octet_count h in omega (arith, e))
 held_small (Fields cs) o leaf h = absurd h
 held_small (OneOf cs) o leaf h = absurd h
 held_small (Items s cs) o leaf h = absurd h

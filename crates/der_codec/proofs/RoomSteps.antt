@@ -5,12 +5,12 @@ use Rattle.std.specs.Vec.{with_item}
 use Rattle.data_types.specs.Leaf.{Leaf}
 use Rattle.data_types.specs.Value.{Edge, Piece, Holds}
 use Rattle.facets.specs.declared.simple.Simple.{Simple}
-use Rattle.inst_pool.specs.Pieces.{Region, bytes_of}
-use Rattle.message_model.specs.Tables.{Tables, types_of}
-use Rattle.reference_check.specs.Forms.{Graph}
 use Rattle.der_octets.specs.declared.length_step.LengthStep.{LengthStep}
 use Rattle.der_octets.specs.declared.tag_step.TagStep.{TagStep}
 use Rattle.der_octets.proofs.TagStepLemmas.{taken_none}
+use Rattle.inst_pool.specs.Pieces.{Region, bytes_of}
+use Rattle.reference_check.specs.Forms.{Graph}
+use Rattle.message_model.specs.Tables.{Tables, types_of}
 use Rattle.der_model.specs.DerMessage.{DerMessage, der_message}
 use Rattle.der_model.specs.ShownPieces.{begin_each, end_each, elements_ended, last_elements}
 use Rattle.der_model.specs.States as states

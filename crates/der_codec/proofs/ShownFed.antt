@@ -3,12 +3,12 @@ use Rattle.std.proofs.Common.{◌≡◌, ℕ, zero, suc, ◌+◌, ◌-◌, ◌�
 use Rattle.data_types.specs.Leaf.{Leaf}
 use Rattle.data_types.specs.Value.{Edge, Piece, Holds}
 use Rattle.facets.specs.declared.simple.Simple.{Simple}
-use Rattle.inst_pool.specs.Pieces.{Region, open_in}
-use Rattle.inst_pool.proofs.BuildingLemmas.{open-hold}
-use Rattle.message_model.specs.Tables.{Tables}
-use Rattle.reference_check.specs.Forms.{Graph}
 use Rattle.der_octets.specs.declared.tag_step.TagStep.{TagStep}
 use Rattle.der_octets.proofs.TagStepLemmas.{taken_none}
+use Rattle.inst_pool.specs.Pieces.{Region, open_in}
+use Rattle.inst_pool.proofs.BuildingLemmas.{open-hold}
+use Rattle.reference_check.specs.Forms.{Graph}
+use Rattle.message_model.specs.Tables.{Tables}
 use Rattle.der_model.specs.DerMessage.{DerMessage, der_message}
 use Rattle.der_model.specs.Faults.{DerFront}
 use Rattle.der_model.specs.ShownPieces.{PartsShow, end_each, elements_ended}

@@ -4,10 +4,10 @@ use Rattle.std.proofs.Common.{◌≡◌, ℕ, suc, ◌+◌, ◌<◌, Bool, true,
 use Rattle.std.proofs.lemmas.List.{nil_from_length}
 use Rattle.data_types.specs.Leaf.{Leaf}
 use Rattle.data_types.specs.Value.{Piece, Holds}
-use Rattle.inst_pool.specs.Pieces.{Region, edges_open_behind}
 use Rattle.der_octets.specs.Octets.{identifier, length_octets}
 use Rattle.der_octets.specs.declared.tag_step.TagStep.{TagStep}
 use Rattle.der_octets.specs.declared.length_step.LengthStep.{LengthStep}
+use Rattle.inst_pool.specs.Pieces.{Region, edges_open_behind}
 use Rattle.der_model.specs.DerMessage.{DerMessage}
 use Rattle.der_model.specs.Structures as structures
 use Rattle.der_model.specs.Structures.{structure, Structure, Holds as HoldsOctets, Fields, OneOf, Items, Empty, LeafOf, Fragment}

@@ -2,11 +2,11 @@
 use Rattle.std.proofs.Common.{◌≡◌, ℕ, ◌+◌, Bool, false, List, [], ◌∷◌, ◌++◌, length, drop, Option, Some, None, refl, sym, ap, ◌∙◌, subst, arith, append_assoc}
 use Rattle.data_types.specs.Leaf.{Leaf}
 use Rattle.data_types.specs.Value.{Edge, Piece, Holds}
-use Rattle.inst_pool.specs.Pieces.{Region}
 use Rattle.der_octets.specs.TagSteps as tags
 use Rattle.der_octets.specs.declared.tag_step.Identifier as ids
 use Rattle.der_octets.specs.declared.tag_step.TagStep.{TagStep}
 use Rattle.der_octets.specs.declared.length_step.LengthStep.{LengthStep}
+use Rattle.inst_pool.specs.Pieces.{Region}
 use Rattle.der_model.specs.DerMessage.{DerMessage}
 use Rattle.der_model.specs.ShownPieces.{begin_each, end_each, elements_ended}
 use Rattle.der_model.specs.States as states

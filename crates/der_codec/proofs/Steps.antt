@@ -10,12 +10,12 @@ use Rattle.der_octets.specs.declared.tag_step.TagStep.{TagStep}
 use Rattle.der_octets.specs.declared.length_step.LengthStep.{LengthStep}
 use Rattle.der_octets.proofs.StepFronts.{tag_goes_on, length_goes_on}
 use Rattle.der_octets.proofs.TagStepLemmas.{taken_none}
+use Rattle.reference_check.specs.Words.{UpTo}
 use Rattle.der_model.specs.Structures as structures
 use Rattle.der_model.specs.DerMessage.{DerMessage}
 use Rattle.der_model.specs.Structures.{Component, structure}
 use Rattle.der_model.specs.States as states
 use Rattle.der_model.specs.States.{Part, Identifier, Length, End, part_octets, PathName, State, Start, AwaitsLength, AwaitsContents, Within, IdentifierAnswer, level_answer, begun_state, names_in, state_after, innermost_end, level_end, IsHeader, Stands, end_from, next_number, is_under, end_answer, EndAnswer, Fine, EndBreaks}
-use Rattle.reference_check.specs.Words.{UpTo}
 use Rattle.der_model.specs.Faults.{DerFront, broken, halts, overruns, IsHeaderFront, IsNoHeader, header_rule, outermost}
 use Rattle.der_model.proofs.Continued.{front_more}
 use Rattle.der_model.proofs.WholeValues.{front_then, under_same}
@@ -47,7 +47,7 @@ up_to : (o : Option ℕ) (place p : ℕ) → IsBelowEnd place o → p ≤ place 
 up_to None place p h l = tt
 up_to (Some e) place p h l = omega arith
 
-lower : (o : Option ℕ) (at place : ℕ) → at ≤ place → IsBelowEnd place o → IsBelowEnd at o
+pub lower : (o : Option ℕ) (at place : ℕ) → at ≤ place → IsBelowEnd place o → IsBelowEnd at o
 lower None at place l h = tt
 lower (Some e) at place l h = omega arith
 

@@ -11,6 +11,7 @@ use Rattle.message_model.specs.Compiled.{Compiles, IsReachedList}
 use Rattle.message_model.specs.Laws.{CompiledAreSound}
 use Rattle.message_model.specs.Ready.{IsReady}
 use Rattle.message_model.specs.Tables.{Tables, types_of}
+use Rattle.message_model.proofs.CompiledFinite.{tables_finite}
 use Rattle.der_model.specs.DerMessage.{DerMessage, der_message}
 use Rattle.der_model.specs.Faults.{FaultInDer, DerFault, NextPart, broken, halts, overruns, cut, short, trailing, BreaksRule, header_rule}
 use Rattle.der_model.specs.Laws.{TablesAreSound}
@@ -19,7 +20,6 @@ use Rattle.der_model.specs.Sound.{IsSoundDer, TellsApart}
 use Rattle.der_model.specs.States as states
 use Rattle.der_model.specs.States.{Part, Identifier, Length, End, State, Start, AwaitsLength, AwaitsContents, Within, Stands}
 use Rattle.der_codec.specs.ReadyLaws.{IsOnValues, IsToldAtPart, ReadyDerTellsAtOnce, ReadyFedDerIsOpen, ReadyFaultIsAtPart}
-use Rattle.message_model.proofs.CompiledFinite.{tables_finite}
 
 -- ---- the rules that are not on values
 

@@ -2,6 +2,7 @@
 use Rattle.std.specs.Prelude.{Ok, Err, Result}
 use Rattle.std.proofs.lemmas.List.{length-take-le}
 use Rattle.std.proofs.Common.{◌≡◌, ℕ, zero, suc, ◌+◌, ◌≤◌, ◌<◌, ◌^◌, true, false, List, [], ◌∷◌, ◌++◌, length, take, drop, Option, None, refl, sym, ap, ◌∙◌, subst, arith, append-nil}
+use Rattle.std.specs.Global.{Vec}
 use Rattle.der_octets.specs.TagSteps as tags
 use Rattle.der_octets.specs.declared.tag_step.TagStep.{TagStep}
 use Rattle.inst_pool.specs.Pieces.{Region}
@@ -21,7 +22,6 @@ use Rattle.der_codec.specs.declared.decoder.Stop.{Stop}
 use Rattle.der_codec.proofs.Fed.{taken_front, stopped_front, stopped_further, joined}
 use Rattle.der_codec.proofs.ShownUsual.{header_read, leaf_taken, entered_shown, leaf_shown}
 use Rattle.der_codec.proofs.UsualSteps.{front_more, run_room}
-use Rattle.std.specs.Global.{Vec}
 
 pub none_shown : (m : DerMessage ℕ) (d : Decoder) (kept : Option Region) (bytes : List ℕ) → kept ≡ None → KeepsShown m d kept bytes
 none_shown m d kept bytes none = subst (λ z. KeepsShown m d z bytes) (sym none) tt

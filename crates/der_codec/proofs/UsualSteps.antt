@@ -6,9 +6,9 @@ use Rattle.der_octets.specs.TagSteps.{tag_view}
 use Rattle.der_octets.specs.LengthSteps as lengths
 use Rattle.der_octets.specs.declared.tag_step.Identifier as ids
 use Rattle.der_octets.specs.declared.length_step.LengthStep.{LengthStep}
+use Rattle.reference_check.specs.Words.{UpTo}
 use Rattle.der_model.specs.States as states
 use Rattle.der_model.specs.States.{level_answer}
-use Rattle.reference_check.specs.Words.{UpTo}
 use Rattle.der_model.specs.DerMessage.{DerMessage}
 use Rattle.der_codec.specs.Levels.{IsLevel, inwards, first_of, rest_of}
 use Rattle.der_codec.specs.Components.{IsFound}

@@ -1,8 +1,8 @@
 -- What is found of identifier octets and ends.
 use Rattle.std.specs.Prelude.{◌≡◌, ℕ, ◌<◌, ◌≤◌, Bool, true, false, List, [], ◌∷◌, Option, Some, None, slice_get, codes, nat_lt, if◌then◌else◌}
+use Rattle.facets.specs.declared.simple.Simple.{Simple}
 use Rattle.reference_check.specs.Forms as graph
 use Rattle.reference_check.specs.Forms.{Graph, form_slots}
-use Rattle.facets.specs.declared.simple.Simple.{Simple}
 use Rattle.der_model.specs.Structures.{is_single}
 use Rattle.der_model.specs.States as states
 use Rattle.der_codec.specs.Levels.{IsSpot}

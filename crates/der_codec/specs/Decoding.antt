@@ -7,11 +7,11 @@ use Rattle.der_octets.specs.TagSteps as tags
 use Rattle.der_octets.specs.LengthSteps as lengths
 use Rattle.der_octets.specs.Octets.{universal, identifier, length_octets, IsShortTag, IsShortLength}
 use Rattle.der_octets.specs.declared.tag_step.Identifier.{Identifier}
-use Rattle.der_codec.specs.declared.level.Spot.{Spot}
-use Rattle.der_codec.specs.declared.level.Spot.TheVariants as spots
 use Rattle.der_model.specs.States.{State, Start, AwaitsLength, AwaitsContents, Within, Part}
 use Rattle.der_model.specs.Faults.{DerFront, NextPart}
 use Rattle.der_model.specs.DerMessage.{DerMessage}
+use Rattle.der_codec.specs.declared.level.Spot.{Spot}
+use Rattle.der_codec.specs.declared.level.Spot.TheVariants as spots
 use Rattle.der_codec.specs.Levels.{IsSpot, AreLevels, inwards}
 use Rattle.der_codec.specs.Components.{added_text}
 use Rattle.der_codec.specs.declared.checks.Refusal.{Refusal}

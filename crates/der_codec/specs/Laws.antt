@@ -1,8 +1,8 @@
 -- What the laws of this crate say.
 use Rattle.std.specs.Prelude.{◌≡◌, ℕ, ◌<◌, ◌^◌, List, ◌++◌, length, Some}
 use Rattle.lexical_core.specs.declared.rule.Rule.TheVariants.{DerTruncated}
-use Rattle.fragments.specs.Fragment.{fragment}
 use Rattle.data_types.specs.Value.{Value, Piece}
+use Rattle.fragments.specs.Fragment.{fragment}
 use Rattle.message_model.specs.Tables.{Tables, pieces_of}
 use Rattle.der_model.specs.DerMessage.{der_message}
 use Rattle.der_model.specs.Der.{SpellsDer}

@@ -1,8 +1,8 @@
 -- What the open values that a reader keeps are to the definitions.
 use Rattle.std.specs.Prelude.{◌≡◌, ℕ, List, [], ◌∷◌, ◌++◌, Option, Some, None, slice_get, length}
+use Rattle.facets.specs.declared.simple.Simple.{Simple}
 use Rattle.reference_check.specs.Forms as graph
 use Rattle.reference_check.specs.Forms.{Graph, form_slots}
-use Rattle.facets.specs.declared.simple.Simple.{Simple}
 use Rattle.der_model.specs.Structures as structures
 use Rattle.der_model.specs.States as states
 use Rattle.der_model.specs.States.{next_number}

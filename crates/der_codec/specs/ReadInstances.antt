@@ -1,8 +1,8 @@
 -- What a reader of DER that keeps an instance was given, and what it answers: it is a checker that keeps pieces.
 use Rattle.std.specs.Prelude.{◌≡◌, ℕ, List, Option, None}
 use Rattle.std.specs.Option.{option_map}
-use Rattle.fragments.specs.Fragment.{fragment}
 use Rattle.data_types.specs.Value.{Value, Piece}
+use Rattle.fragments.specs.Fragment.{fragment}
 use Rattle.inst_pool.specs.Pieces.{Region}
 use Rattle.message_model.specs.Tables.{Tables, pieces_of}
 use Rattle.message_model.specs.declared.fault.InstanceError.{InstanceError}

@@ -1,8 +1,8 @@
 -- What a reader of DER wants room for: the pieces of an instance, the contents octets of its primitive values, and the values that are open at one time.
 use Rattle.std.specs.Prelude.{◌≡◌, ℕ, suc, ◌+◌, ◌-◌, ◌<◌, ◌≤◌, ◌^◌, List, [], ◌∷◌, ◌++◌, length}
+use Rattle.data_types.specs.Value.{Value, Piece}
 use Rattle.facets.specs.declared.simple.Simple.{Simple}
 use Rattle.fragments.specs.Fragment.{fragment}
-use Rattle.data_types.specs.Value.{Value, Piece}
 use Rattle.reference_check.specs.Forms.{Graph, Envelope}
 use Rattle.message_model.specs.Tables.{Tables, types_of, pieces_of}
 use Rattle.der_model.specs.DerMessage.{der_message}

@@ -1,7 +1,9 @@
 //! A checker of the DER of instances that takes their bytes in pieces.
 ghost use Rattle.std.specs.Prelude.{◌≡◌, ◌<◌, ◌+◌, ◌≤◌, ◌^◌, ◌++◌, ℕ, List, [], IsOk, IfOk, IfErr, IsErrOf, Some, None, Err, length, take};
+ghost use Rattle.facets.specs.LeafChecks.{IsHeldWithin};
 ghost use Rattle.inst_pool.specs.Pieces.{Region};
 ghost use Rattle.message_model.specs.Tables.{Tables, types_of};
+ghost use Rattle.message_model.specs.Errors.{IsSameOrMemory, IsAgain};
 ghost use Rattle.der_model.specs.DerMessage.{der_message};
 ghost use Rattle.der_codec.specs.Checked.{CheckTypes};
 ghost use Rattle.der_codec.specs.ReadInstances.{IsSpelledDerAs};
@@ -9,9 +11,7 @@ ghost use Rattle.der_codec.specs.Decoding.{HasReadParts, IsStopped, IsSettled, I
 ghost use Rattle.der_codec.specs.KeptPieces.{KeepsShown, AreNone};
 ghost use Rattle.der_codec.specs.Reserved.{IsKeeping, HasEnough};
 ghost use Rattle.der_codec.specs.Limits.{open_limit, leaf_come, token_come};
-ghost use Rattle.facets.specs.LeafChecks.{IsHeldWithin};
 ghost use Rattle.der_codec.specs.Checking.{HasFedDer, IsReading, IsDerCheckerFor, StopsWithin, TakesDerFront, DerStops, IsSpelledDer, DerEndsAs, IsFreed, open_count, der_bytes_fed, der_failure, held_contents, token_held};
-ghost use Rattle.message_model.specs.Errors.{IsSameOrMemory, IsAgain};
 
 use crate::checks::Checks;
 use crate::decoder::{Decoder, Due, Stop};

@@ -1,12 +1,12 @@
 //! What identifier octets and ends are where they stand.
 ghost use Rattle.std.specs.Prelude.{◌≡◌, ◌↔◌, ◌<◌, ℕ, List, length, slice_get, drop, Some, IfSome, IfNone, IsTrue, IsFalse, true, nat_lt, if◌then◌else◌};
+ghost use Rattle.lexical_core.specs.Tree.{Tree};
+ghost use Rattle.facets.specs.declared.simple.Simple.{Simple as SimpleType};
 ghost use Rattle.der_octets.specs.Octets.{context, universal};
 ghost use Rattle.der_octets.specs.TagSteps.{tag_view};
 ghost use Rattle.reference_check.specs.Forms as graph;
 ghost use Rattle.reference_check.specs.Forms.{Graph, form_slots};
 ghost use Rattle.reference_check.specs.Steps.{has_room};
-ghost use Rattle.facets.specs.declared.simple.Simple.{Simple as SimpleType};
-ghost use Rattle.lexical_core.specs.Tree.{Tree};
 ghost use Rattle.message_model.specs.Tables.{types_of, message_of};
 ghost use Rattle.der_model.specs.DerMessage.{in_der};
 ghost use Rattle.der_model.specs.Structures.{components, item_components, amount_components, is_one, is_constructed, component, universal_tag, structure};

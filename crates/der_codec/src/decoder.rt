@@ -1,19 +1,19 @@
 //! The reader of DER, an octet at a time: X.690 §8.1.
 ghost use Rattle.std.specs.Prelude.{◌≡◌, ◌↔◌, ◌+◌, ◌-◌, ◌<◌, ◌≤◌, ◌^◌, ◌++◌, ◌∷◌, [], ℕ, List, IfOk, IfErr, IsErrOf, IsTrue, IsFalse, true, false, Some, None, length, drop, vec_capacity};
 ghost use Rattle.lexical_core.specs.Tree.{Tree};
+ghost use Rattle.data_types.specs.Value.{Value};
 ghost use Rattle.message_model.specs.Tables.{message_of, types_of};
 ghost use Rattle.der_model.specs.DerMessage.{DerMessage, in_der};
-ghost use Rattle.der_codec.specs.Levels.{inwards, first_of, rest_of};
-ghost use Rattle.der_codec.specs.Decoding.{HasReadParts, IsStopped, IsBelowEnd, IsPastEnd, end_of_levels, IsFresh, IsFreshOrOver, due_after, IsOctetAwaited, IsOver, IsWaiting, IsOpenState, IsNoCut, AwaitsValue, IsRefusedAs, due_depth, header_come};
-ghost use Rattle.der_codec.specs.Components.{added_text};
-ghost use Rattle.der_codec.specs.inner.OpenNames.{IsNamed};
-ghost use Rattle.der_codec.specs.Judging.{HoldsContents};
 ghost use Rattle.der_model.specs.Paths.{path_of};
 ghost use Rattle.der_model.specs.States.{State};
 ghost use Rattle.der_model.specs.Faults.{IsWholeDer as WholeBytes};
 ghost use Rattle.der_model.specs.Der.{SpellsDer};
 ghost use Rattle.der_model.specs.Sound.{IsSoundDer};
-ghost use Rattle.data_types.specs.Value.{Value};
+ghost use Rattle.der_codec.specs.Levels.{inwards, first_of, rest_of};
+ghost use Rattle.der_codec.specs.Decoding.{HasReadParts, IsStopped, IsBelowEnd, IsPastEnd, end_of_levels, IsFresh, IsFreshOrOver, due_after, IsOctetAwaited, IsOver, IsWaiting, IsOpenState, IsNoCut, AwaitsValue, IsRefusedAs, due_depth, header_come};
+ghost use Rattle.der_codec.specs.Components.{added_text};
+ghost use Rattle.der_codec.specs.inner.OpenNames.{IsNamed};
+ghost use Rattle.der_codec.specs.Judging.{HoldsContents};
 
 use crate::checks::Refusal;
 use crate::components::{Added, Ended, end_of};

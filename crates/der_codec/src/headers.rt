@@ -1,15 +1,15 @@
 //! The octets of headers, as the reader of DER takes them: X.690 §8.1.2, §8.1.3.
 ghost use Rattle.std.specs.Prelude.{◌≡◌, ◌↔◌, ◌+◌, ◌<◌, ◌≤◌, ◌^◌, ◌++◌, ◌∷◌, [], ℕ, List, IfOk, IfErr, IfSome, IsErrOf, IsTrue, IsFalse, true, false, Some, None, length, take, drop, vec_capacity};
+ghost use Rattle.lexical_core.specs.Tree.{Tree};
 ghost use Rattle.der_octets.specs.TagSteps as tags;
 ghost use Rattle.der_octets.specs.LengthSteps as lengths;
-ghost use Rattle.lexical_core.specs.Tree.{Tree};
+ghost use Rattle.der_octets.specs.declared.length_step.LengthStep.{LengthStep as Lengths};
+ghost use Rattle.der_octets.specs.declared.tag_step.TagStep.{TagStep as Steps};
+ghost use Rattle.reference_check.specs.Words.{UpTo};
 ghost use Rattle.message_model.specs.Tables.{message_of};
 ghost use Rattle.der_model.specs.DerMessage.{DerMessage, in_der};
 ghost use Rattle.der_codec.specs.Levels.{inwards};
 ghost use Rattle.der_codec.specs.Decoding.{HasReadParts, IsStopped, IsBelowEnd, IsPastEnd, end_of_levels, IsHeaderDue, IsAdvanced, IsSettled, IsOutermost, AwaitsInstance, HasIdentifier, HasLengthOctets, level_at, IsFull, IsNoCut, BeginsContents, IsLengthDue, depth_of};
-ghost use Rattle.reference_check.specs.Words.{UpTo};
-ghost use Rattle.der_octets.specs.declared.length_step.LengthStep.{LengthStep as Lengths};
-ghost use Rattle.der_octets.specs.declared.tag_step.TagStep.{TagStep as Steps};
 
 use crate::components::{Added, Found, identify};
 use crate::decoder::{Decoder, Due, Stop};

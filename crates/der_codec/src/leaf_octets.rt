@@ -1,8 +1,8 @@
 //! How a checker takes the contents octets of leaves.
 ghost use Rattle.std.specs.Prelude.{◌≡◌, ◌<◌, ◌+◌, ◌≤◌, ◌^◌, ◌++◌, ◌⊎◌, ℕ, List, [], IsOk, IfOk, IfErr, IsErrOf, OnOk, length, take, vec_capacity};
-ghost use Rattle.der_codec.specs.Reserved.{IsKeeping, HasEnough, HoldsWhole};
 ghost use Rattle.message_model.specs.Tables.{types_of};
 ghost use Rattle.der_model.specs.DerMessage.{der_message};
+ghost use Rattle.der_codec.specs.Reserved.{IsKeeping, HasEnough, HoldsWhole};
 ghost use Rattle.der_codec.specs.Checked.{CheckTypes};
 ghost use Rattle.der_codec.specs.Decoding.{HasReadParts};
 ghost use Rattle.der_codec.specs.KeptPieces.{KeepsShown, GoesOnByLeaf};

@@ -2,9 +2,9 @@
 ghost use Rattle.std.specs.Prelude.{◌≡◌, ◌+◌, ◌≤◌, ◌^◌, ◌++◌, ℕ, List, [], IsOk, IfOk, IfErr, OnOk, OnErr, Some, None, Err, length};
 ghost use Rattle.facets.specs.LeafChecks.{IsHeldWithin};
 ghost use Rattle.message_model.specs.Tables.{Tables};
+ghost use Rattle.message_model.specs.Errors.{IsAgain};
 ghost use Rattle.der_model.specs.DerMessage.{der_message};
 ghost use Rattle.der_codec.specs.Checking.{DerStops, DerEndsAs, open_count};
-ghost use Rattle.message_model.specs.Errors.{IsAgain};
 ghost use Rattle.der_codec.specs.Limits.{open_limit, leaf_come, token_come};
 ghost use Rattle.der_codec.specs.ReadInstances.{HasKeptPieces, IsDerReaderFor, IsReaderFreed, IsSpelledDerAs, read_so_far, der_reader_failure, reserved_room, reader_held, reader_token_held};
 ghost use Rattle.der_codec.specs.Rooms.{BeginsEnough};

@@ -1,8 +1,8 @@
 //! How a checker that keeps pieces takes a component of the usual form at once: its header, and with it a leaf.
 ghost use Rattle.std.specs.Prelude.{◌≡◌, ◌+◌, ◌<◌, ◌≤◌, ◌^◌, ◌++◌, ℕ, List, IfOk, IsErrOf, true, false, length};
-ghost use Rattle.der_codec.specs.Reserved.{IsKeeping, HasEnough};
 ghost use Rattle.message_model.specs.Tables.{types_of};
 ghost use Rattle.der_model.specs.DerMessage.{der_message};
+ghost use Rattle.der_codec.specs.Reserved.{IsKeeping, HasEnough};
 ghost use Rattle.der_codec.specs.Checked.{CheckTypes};
 ghost use Rattle.der_codec.specs.Checking.{HasFedDer, TakesDerFront, der_bytes_fed};
 ghost use Rattle.der_codec.specs.Decoding.{IsHeaderDue};

@@ -1,6 +1,7 @@
 //! Components of the usual form, taken at once: a header of one identifier octet and one length octet, and with it a leaf.
 ghost use Rattle.std.specs.Prelude.{◌≡◌, ◌+◌, ◌<◌, ◌≤◌, ◌^◌, ◌++◌, ◌∷◌, [], ℕ, List, IfSome, IfNone, true, false, length, take, vec_capacity};
 ghost use Rattle.der_octets.specs.TagSteps as tags;
+ghost use Rattle.der_octets.specs.declared.tag_step.TagStep.{TagStep as Steps};
 ghost use Rattle.message_model.specs.Tables.{types_of};
 ghost use Rattle.der_model.specs.DerMessage.{der_message};
 ghost use Rattle.der_codec.specs.Checked.{CheckTypes};
@@ -8,7 +9,6 @@ ghost use Rattle.der_codec.specs.Judging.{HoldsContents};
 ghost use Rattle.der_codec.specs.Levels.{inwards, rest_of};
 ghost use Rattle.der_codec.specs.Decoding.{HasReadParts, IsBelowEnd, IsFresh, IsWaiting, end_of_levels, HasIdentifier, level_at};
 ghost use Rattle.der_codec.specs.inner.Entering.{Enters, PassesLeaf};
-ghost use Rattle.der_octets.specs.declared.tag_step.TagStep.{TagStep as Steps};
 
 use crate::checks::Checks;
 use crate::components::{Found, identify};

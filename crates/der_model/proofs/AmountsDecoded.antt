@@ -11,6 +11,7 @@ use Rattle.data_types.specs.declared.kind.Kind.TheVariants as kind
 use Rattle.facets.specs.LeafUnder.{Fits}
 use Rattle.facets.specs.declared.simple.Simple.{Simple}
 use Rattle.der_octets.specs.Octets.{Tag, context, Values, Nothing, Primitive, Constructed}
+use Rattle.der_octets.proofs.OneReading.{not_false}
 use Rattle.reference_check.specs.Forms.{Graph, Form, Slot, form_slots}
 use Rattle.reference_check.specs.Forms as form
 use Rattle.message_model.specs.Admits.{FitsCode}
@@ -58,9 +59,6 @@ code_of_contents m c form.Envelope x o e h = absurd cc
 code_of_contents m c form.LeftOut x o e h = absurd h
 code_of_contents m c form.Missing x o e h = absurd h
 
-true_false : true ≡ false → ⊥
-true_false e = absurd cc
-
 abbrev code_part : {P : Type 0} → P → Component P
 code_part c = record { constructed = false; tag = context 0; required = true; label = structures.Attribute (codes "Ccy"); spot = structures.Value c }
 
@@ -69,7 +67,7 @@ number_part p = record { constructed = false; tag = context 1; required = true; 
 
 amount_body : {P : Type 0} (m : DerMessage P) (p c : P) (s : Simple) → m.forms p ≡ form.Money c s → IsAmount m.forms (form.Money c s) → (inner : Values) → Conforms m (Fields (amount_components p c)) [] inner → FromBody m (form.Money c s) (Inner inner)
 amount_body m p c s at amount Nothing e = absurd cc
-amount_body m p c s at amount (Constructed tag i rest) (k, d, begins, held, more) = absurd (true_false (sym (must_come 0 (code_part c) (number_part p ∷ []) true tag k d refl begins).2))
+amount_body m p c s at amount (Constructed tag i rest) (k, d, begins, held, more) = absurd (not_false (sym (must_come 0 (code_part c) (number_part p ∷ []) true tag k d refl begins).2))
 amount_body {P} m p c s at (decimal, x, code) (Primitive tag o rest) (k, d, begins, held, more) =
     let first = must_come 0 (code_part c) (number_part p ∷ []) false tag k d refl begins in
     let held2 : IsHeldIn m (form_structure m.forms c (m.forms c)) o = subst (λ (z : Component P). IsHeldIn m (structure m z.spot) o) (sym first.1) held in
@@ -78,7 +76,7 @@ amount_body {P} m p c s at (decimal, x, code) (Primitive tag o rest) (k, d, begi
   where
     second : (tag : Tag) (o : List ℕ) → ((l : Leaf) × FitsCode (m.forms c) l × (leaf_contents l ≡ o)) → context 0 ≡ tag → (rest : Values) → Conforms m (Fields (amount_components p c)) (0 ∷ []) rest → FromBody m (form.Money c s) (Inner (Primitive tag o rest))
     second tag o l t Nothing e = absurd cc
-    second tag o l t (Constructed u i more) (k, d, begins, held, last) = absurd (true_false (sym (must_come 1 (number_part p) [] true u k d refl begins).2))
+    second tag o l t (Constructed u i more) (k, d, begins, held, last) = absurd (not_false (sym (must_come 1 (number_part p) [] true u k d refl begins).2))
     second tag o l t (Primitive u q more) (k, d, begins, held, last) =
         let next = must_come 1 (number_part p) [] false u k d refl begins in
         let number : IsHeldIn {P = P} m (Holds (LeafOf s)) q = subst (λ z. IsHeldIn m (number_structure z) q) at (subst (λ (z : Component P). IsHeldIn m (structure m z.spot) q) (sym next.1) held) in

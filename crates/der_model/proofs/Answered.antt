@@ -23,7 +23,7 @@ use Rattle.der_model.proofs.Spelled.{instance_conforms}
 use Rattle.der_model.proofs.OneValue.{body_same}
 use Rattle.der_model.proofs.ShortTags.{value_short, short_lengths, inner_short}
 
-inner_same : (a b : Values) → Constructed (universal 16) a Nothing ≡ Constructed (universal 16) b Nothing → a ≡ b
+pub inner_same : (a b : Values) → Constructed (universal 16) a Nothing ≡ Constructed (universal 16) b Nothing → a ≡ b
 inner_same a b e = cc
 
 -- values of the root with the same inner values are one

@@ -3,13 +3,13 @@ use Rattle.std.proofs.Common.{◌≡◌, ℕ, zero, suc, ◌+◌, ◌≤◌, ◌
 use Rattle.std.specs.Prelude.{slice_get}
 use Rattle.std.proofs.lemmas.Bool.{cond-true, cond-false}
 use Rattle.std.proofs.lemmas.Option.{slice_get_within}
+use Rattle.lexical_core.specs.declared.rule.Rule.TheVariants as rule
 use Rattle.facets.specs.declared.simple.Simple.{Simple}
 use Rattle.der_octets.specs.Octets.{Tag, context}
 use Rattle.reference_check.specs.Forms.{Graph, Slot}
 use Rattle.der_model.specs.DerMessage.{DerMessage}
 use Rattle.der_model.specs.Structures.{Label, Component, component, components, is_single}
 use Rattle.der_model.specs.States.{IdentifierAnswer, Begins, Breaks, is_under, field_answer, any_answer, skipping, next_number}
-use Rattle.lexical_core.specs.declared.rule.Rule.TheVariants as rule
 use Rattle.der_model.proofs.WholeValues.{under_same}
 use Rattle.der_model.proofs.ChildLists.{free_slot}
 
@@ -94,12 +94,6 @@ pub drop_get : {A : Type 0} (fs : List A) (k : ℕ) (s : A) → slice_get fs k �
 drop_get [] k s e = absurd cc
 drop_get (f ∷ fs) zero s e = cc
 drop_get (f ∷ fs) (suc k) s e = drop_get fs k s e
-
-pub drop_drop : {A : Type 0} (n k : ℕ) (fs : List A) → drop k (drop n fs) ≡ drop (n + k) fs
-drop_drop zero k fs = (let e : k ≡ 0 + k = omega arith in ap (λ z. drop z fs) e)
-drop_drop (suc n) zero [] = (let e : suc n ≡ suc n + 0 = omega arith in ap (λ z. drop z []) e)
-drop_drop (suc n) (suc k) [] = (let e : suc (n + suc k) ≡ suc n + suc k = omega arith in ap (λ z. drop z []) e)
-drop_drop (suc n) k (f ∷ fs) = (let e : suc (n + k) ≡ suc n + k = omega arith in drop_drop n k fs ∙ ap (λ z. drop z (f ∷ fs)) e)
 
 pub get_drop : {A : Type 0} (n k : ℕ) (fs : List A) (s : A) → slice_get (drop n fs) k ≡ Some s → slice_get fs (n + k) ≡ Some s
 get_drop zero k fs s e = (let q : k ≡ 0 + k = omega arith in subst (λ z. slice_get fs z ≡ Some s) q e)

@@ -1,5 +1,5 @@
 -- Children one list before another: their slots, and their values by slot.
-use Rattle.std.proofs.Common.{◌≡◌, ◌≢◌, ℕ, zero, suc, ◌+◌, ◌≤◌, ◌<◌, Bool, true, false, List, [], ◌∷◌, ◌++◌, length, replicate, drop, Option, Some, None, refl, sym, ap, ◌∙◌, subst, arith, ◌⊎◌, inl, inr}
+use Rattle.std.proofs.Common.{◌≡◌, ◌≢◌, ℕ, zero, suc, ◌+◌, ◌≤◌, ◌<◌, Bool, true, false, List, [], ◌∷◌, ◌++◌, length, replicate, drop, Option, Some, None, refl, sym, ap, ◌∙◌, subst, arith}
 use Rattle.std.specs.Prelude.{◌==◌, if◌then◌else◌, slice_get, nat_lt}
 use Rattle.std.proofs.lemmas.Bool.Decides.{nat_tests}
 use Rattle.std.proofs.lemmas.Bool.{cond-true, cond-false}
@@ -113,15 +113,3 @@ free_slot g p k s e = go (is_single s) refl
 pub zero_upto : (o : Option ℕ) → UpTo 0 o
 zero_upto None = tt
 zero_upto (Some most) = omega arith
-
--- which of two numbers is less
-pub compared : (i k : ℕ) → (i < k) ⊎ ((i ≡ k) ⊎ (k < i))
-compared zero zero = inr (inl refl)
-compared zero (suc k) = inl (omega arith)
-compared (suc i) zero = inr (inr (omega arith))
-compared (suc i) (suc k) = by (compared i k)
-  where
-    by : (i < k) ⊎ ((i ≡ k) ⊎ (k < i)) → (suc i < suc k) ⊎ ((suc i ≡ suc k) ⊎ (suc k < suc i))
-    by (inl h) = inl (omega arith)
-    by (inr (inl h)) = inr (inl (ap suc h))
-    by (inr (inr h)) = inr (inr (omega arith))

@@ -101,7 +101,7 @@ canonical_leaf kind.Text None leaf text bare c = c
 canonical_leaf kind.Text (Some codes) leaf text bare c = absurd (bare tt)
 canonical_leaf k codes leaf text bare c = c
 
-err_same : (r s : Rule) → ◌≡◌ {A = Result Leaf Rule} (Err r) (Err s) → r ≡ s
+pub err_same : (r s : Rule) → ◌≡◌ {A = Result Leaf Rule} (Err r) (Err s) → r ≡ s
 err_same r s e = cc
 
 -- a leaf that fits breaks nothing

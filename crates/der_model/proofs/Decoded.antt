@@ -1,6 +1,6 @@
 -- What may stand in a message's DER is the DER of an instance that the message admits.
-use Rattle.std.proofs.Common.{◌≡◌, ℕ, zero, suc, ◌+◌, ◌≤◌, ◌<◌, Bool, true, false, List, [], ◌∷◌, length, replicate, Option, Some, None, refl, sym, ap, ◌∙◌, subst, arith}
-use Rattle.std.specs.Prelude.{◌==◌, slice_get, nat_lt}
+use Rattle.std.proofs.Common.{◌≡◌, ℕ, zero, suc, ◌+◌, ◌≤◌, ◌<◌, Bool, true, false, List, [], ◌∷◌, length, replicate, Some, refl, sym, ap, ◌∙◌, subst, arith}
+use Rattle.std.specs.Prelude.{◌==◌, slice_get}
 use Rattle.std.proofs.lemmas.Bool.Decides.{nat_tests}
 use Rattle.std.proofs.lemmas.Bool.{cond-true, cond-false}
 use Rattle.data_types.specs.Value.{Value, Children}
@@ -10,16 +10,16 @@ use Rattle.der_octets.specs.Octets.{Tag, context, Values, Nothing, Primitive, Co
 use Rattle.reference_check.specs.Forms.{Graph, Form, Slot, form_slots}
 use Rattle.reference_check.specs.Forms as form
 use Rattle.reference_check.specs.Words.{UpTo, MayComeTimes}
+use Rattle.reference_check.specs.Steps.{has_room}
 use Rattle.message_model.specs.Admits.{numbers_of}
+use Rattle.message_model.specs.Sound.{IsNoOption}
 use Rattle.der_model.specs.DerMessage.{DerMessage}
 use Rattle.der_model.specs.Structures.{Spot, Instance, ListOf, Label, Component, PrimitiveContents, LeafOf, Fragment, Structure, Holds, Fields, OneOf, Items, Empty, structure, form_structure, component, components, item_components, amount_components, number_structure, is_one, is_single, is_constructed, universal_tag}
 use Rattle.der_model.specs.Structures as structures
 use Rattle.der_model.specs.Der.{Body, Octets, Inner, under, item, slot_values, alternative, values_at}
-use Rattle.der_model.specs.States.{IdentifierAnswer, Begins, Breaks, Fine, is_under, any_answer, item_answer, item_end, next_number}
-use Rattle.reference_check.specs.Steps.{has_room}
+use Rattle.der_model.specs.States.{Begins, is_under, any_answer, next_number}
 use Rattle.der_model.specs.Faults.{IsHeldIn}
 use Rattle.der_model.specs.inner.Conforms.{Conforms}
-use Rattle.message_model.specs.Sound.{IsNoOption}
 use Rattle.der_model.specs.Sound.{IsSoundDer}
 use Rattle.der_model.proofs.SoundMessages.{HasBounds, no_options, bounds_of}
 use Rattle.der_model.proofs.WholeValues.{under_same}
@@ -28,35 +28,13 @@ use Rattle.der_model.proofs.ChildLists.{zero_upto}
 use Rattle.der_model.proofs.BegunSlots.{any_slot, begun_slot}
 use Rattle.der_model.proofs.FieldsDecoded.{FromBody, FromSlot, FromFields, body_of_octets, fields_step, form_false, one_value, one_within, fields_end}
 use Rattle.der_model.proofs.AmountsDecoded.{body_of_values}
+use Rattle.der_model.proofs.OneLevel.{room_less, ends_item, room_in}
 
 -- the children of a list
 pub record FromItems {P : Type 0} (m : DerMessage P) (fs : List (Slot P)) (k : ℕ) (s : Slot P) (before : ℕ) (vs : Values) : Type 0 where
   pub count : ℕ
   pub slot : FromSlot m fs k s count vs
   pub within : MayComeTimes (before + count) s
-
-room_upto : (n : ℕ) (o : Option ℕ) → has_room n o ≡ true → UpTo (suc n) o
-room_upto n None e = tt
-room_upto n (Some most) e = lt n most e
-  where
-    lt : (n most : ℕ) → nat_lt n most ≡ true → suc n ≤ most
-    lt n most e = grind (arith, nat_tests)
-
-enough_items : (n low : ℕ) → item_end (nat_lt n low) ≡ Fine → low ≤ n
-enough_items n low e = go (nat_lt n low) refl
-  where
-    high : (n low : ℕ) → nat_lt n low ≡ false → low ≤ n
-    high n low e = grind (arith, nat_tests)
-
-    go : (z : Bool) → nat_lt n low ≡ z → low ≤ n
-    go true h = absurd (let q = sym (ap item_end h) ∙ e in cc)
-    go false h = high n low h
-
--- an item that begins: there is room, and it is one of the components
-item_begins : {P : Type 0} (room : Bool) (a : IdentifierAnswer P) (k : ℕ) (c : Component P) → item_answer room a ≡ Begins k c → (room ≡ true) × (a ≡ Begins k c)
-item_begins true a k c e = (refl, e)
-item_begins false (Begins j d) k c e = absurd cc
-item_begins false (Breaks r x) k c e = absurd cc
 
 -- a value, as an item before others
 item_added : {P : Type 0} (m : DerMessage P) (fs : List (Slot P)) (k : ℕ) (s : Slot P) (before : ℕ) (b : Body) (rest : Values) → slice_get fs k ≡ Some s → is_single s ≡ false → FromBody m (m.forms s.target) b → FromItems m fs k s (suc before) rest → FromItems m fs k s before (item (m.forms s.target) b rest)
@@ -260,12 +238,12 @@ mutual
 
   pub items_from : {P : Type 0} (m : DerMessage P) → IsSoundDer m → (fs : List (Slot P)) (k : ℕ) (s : Slot P) (f : Form P Simple) (came : List ℕ) (vs : Values) → slice_get fs k ≡ Some s → is_single s ≡ false → UpTo s.min s.max → m.forms s.target ≡ f → UpTo (length came) s.max
       → Conforms m (Items s (item_components m.forms s.target f)) came vs → FromItems m fs k s (length came) vs
-  items_from m sound fs k s f came Nothing there list bounds at high e = items_end m fs k s (length came) (enough_items (length came) s.min e) high
+  items_from m sound fs k s f came Nothing there list bounds at high e = items_end m fs k s (length came) (ends_item (length came) s.min e) high
   items_from m sound fs k s f came (Primitive tag o rest) there list bounds at high (q, c, begins, held, more) =
-      let b = item_begins (has_room (length came) s.max) (any_answer 0 (item_components m.forms s.target f) false tag) q c begins in
-      item_primitive m sound fs k s f (length came) tag o rest q c there list at b.1 held (items_from m sound fs k s f (q ∷ came) rest there list bounds at (room_upto (length came) s.max b.0) more)
+      let b = room_in (has_room (length came) s.max) (any_answer 0 (item_components m.forms s.target f) false tag) q c begins in
+      item_primitive m sound fs k s f (length came) tag o rest q c there list at b.1 held (items_from m sound fs k s f (q ∷ came) rest there list bounds at (room_less (length came) s.max b.0) more)
   items_from m sound fs k s f came (Constructed tag inner rest) there list bounds at high (q, c, begins, held, more) =
-      let b = item_begins (has_room (length came) s.max) (any_answer 0 (item_components m.forms s.target f) true tag) q c begins in
+      let b = room_in (has_room (length came) s.max) (any_answer 0 (item_components m.forms s.target f) true tag) q c begins in
       item_constructed m sound fs k s f (length came) tag inner rest q c there list at b.1 held (λ p gs e conf. fields_from m sound p gs 0 [] inner e refl conf) (λ p gs e conf. one_from m sound p gs inner e conf)
       (λ gs k s there list bounds conf. items_from m sound gs k s (m.forms s.target) [] inner there list bounds refl (zero_upto s.max) conf)
-      (items_from m sound fs k s f (q ∷ came) rest there list bounds at (room_upto (length came) s.max b.0) more)
+      (items_from m sound fs k s f (q ∷ came) rest there list bounds at (room_less (length came) s.max b.0) more)

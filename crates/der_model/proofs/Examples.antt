@@ -3,6 +3,7 @@ use Rattle.std.proofs.Common.{◌≡◌, ℕ, zero, suc, ◌≤◌, true, false,
 use Rattle.std.specs.Prelude.{codes, slice_get}
 use Rattle.std.specs.Fmt.{decimal}
 use Rattle.std.proofs.lemmas.Fmt.{decimal_digit}
+use Rattle.std.proofs.lemmas.Option.{same_Some}
 use Rattle.lexical_core.specs.declared.rule.Rule.TheVariants.{UnexpectedTag, DerMissing, TooFew, Overrun}
 use Rattle.data_types.specs.Leaf.{Bytes}
 use Rattle.data_types.specs.Value as value
@@ -11,12 +12,12 @@ use Rattle.data_types.specs.declared.kind.Kind.TheVariants as kind
 use Rattle.facets.specs.LeafUnder.{HasSortedCodes}
 use Rattle.facets.specs.LeafChecks.{IsWithinLimits}
 use Rattle.facets.specs.declared.simple.Simple.{Simple}
+use Rattle.der_octets.specs.Octets.{universal, context, identifier, length_octets, wrapped}
 use Rattle.reference_check.specs.Forms.{Form, Slot, form_slots, text_type}
 use Rattle.reference_check.specs.Forms as form
 use Rattle.reference_check.specs.Words.{UpTo}
 use Rattle.reference_check.specs.Steps.{find_slot, has_room}
 use Rattle.message_model.specs.Sound.{IsSoundForm, AreSound, HaveCodes, HaveSortedCodes}
-use Rattle.der_octets.specs.Octets.{universal, context, identifier, length_octets, wrapped}
 use Rattle.der_model.specs.RealContents.{real_contents}
 use Rattle.der_model.specs.LeafContents.{integer_octets}
 use Rattle.der_model.specs.Structures.{Instance, Value, ListOf}
@@ -161,9 +162,6 @@ row_overrun =
       path = rw (decimal_digit 1 (lit< tt)) refl;
     }
 
-some_same : {A : Type 0} (a b : A) → Some a ≡ Some b → a ≡ b
-some_same a b e = cc
-
 -- the message with a text, a list of texts and an amount meets what is asked of one
 abbrev slots_of_note : List (Slot ℕ)
 slots_of_note = text_slot (Some 1) ∷ list_slot ∷ amount_slot ∷ []
@@ -174,16 +172,16 @@ record IsFine (slots : List (Slot ℕ)) (k : ℕ) (s : Slot ℕ) : Type 0 where
   room : has_room 0 s.max ≡ true
 
 fine_note : (k : ℕ) (s : Slot ℕ) → slice_get slots_of_note k ≡ Some s → IsFine slots_of_note k s
-fine_note zero s e = subst (IsFine slots_of_note 0) (some_same _ s e) (record { tagged = refl; bounds = lit≤ tt; room = refl })
-fine_note (suc zero) s e = subst (IsFine slots_of_note 1) (some_same _ s e) (record { tagged = refl; bounds = tt; room = refl })
-fine_note (suc (suc zero)) s e = subst (IsFine slots_of_note 2) (some_same _ s e) (record { tagged = refl; bounds = lit≤ tt; room = refl })
+fine_note zero s e = subst (IsFine slots_of_note 0) (same_Some _ s e) (record { tagged = refl; bounds = lit≤ tt; room = refl })
+fine_note (suc zero) s e = subst (IsFine slots_of_note 1) (same_Some _ s e) (record { tagged = refl; bounds = tt; room = refl })
+fine_note (suc (suc zero)) s e = subst (IsFine slots_of_note 2) (same_Some _ s e) (record { tagged = refl; bounds = lit≤ tt; room = refl })
 fine_note (suc (suc (suc k))) s e = absurd cc
 
 abbrev slots_of_document : List (Slot ℕ)
 slots_of_document = record { tag = codes "Note"; min = 1; max = Some 1; target = 1 } ∷ []
 
 fine_document : (k : ℕ) (s : Slot ℕ) → slice_get slots_of_document k ≡ Some s → IsFine slots_of_document k s
-fine_document zero s e = subst (IsFine slots_of_document 0) (some_same _ s e) (record { tagged = refl; bounds = lit≤ tt; room = refl })
+fine_document zero s e = subst (IsFine slots_of_document 0) (same_Some _ s e) (record { tagged = refl; bounds = lit≤ tt; room = refl })
 fine_document (suc k) s e = absurd cc
 
 plain_within : (k : Kind) → IsWithinLimits (plain k)
@@ -209,7 +207,7 @@ text_sound = record {
   short = lit≤ tt;
   alternatives = tt;
   number = tt;
-  limits = λ simple e. subst IsWithinLimits (some_same _ simple e) (plain_within kind.Text);
+  limits = λ simple e. subst IsWithinLimits (same_Some _ simple e) (plain_within kind.Text);
 }
 
 amount_sound : IsSoundForm {P = ℕ} (form.Money 2 (plain kind.Decimal))
@@ -221,7 +219,7 @@ amount_sound = record {
   short = lit≤ tt;
   alternatives = tt;
   number = refl;
-  limits = λ simple e. subst IsWithinLimits (some_same _ simple e) (plain_within kind.Decimal);
+  limits = λ simple e. subst IsWithinLimits (same_Some _ simple e) (plain_within kind.Decimal);
 }
 
 missing_sound : IsSoundForm {P = ℕ} form.Missing
@@ -262,8 +260,8 @@ codes_sorted : HaveSortedCodes (forms slots_of_note)
 unfolding forms
 codes_sorted zero simple e = absurd cc
 codes_sorted (suc zero) simple e = absurd cc
-codes_sorted (suc (suc zero)) simple e = subst HasSortedCodes (some_same _ simple e) (none_listed kind.Text)
-codes_sorted (suc (suc (suc zero))) simple e = subst HasSortedCodes (some_same _ simple e) (none_listed kind.Decimal)
+codes_sorted (suc (suc zero)) simple e = subst HasSortedCodes (same_Some _ simple e) (none_listed kind.Text)
+codes_sorted (suc (suc (suc zero))) simple e = subst HasSortedCodes (same_Some _ simple e) (none_listed kind.Decimal)
 codes_sorted (suc (suc (suc (suc n)))) simple e = absurd cc
 
 no_envelope : (n : ℕ) → forms slots_of_note n ≡ form.Envelope → ⊥

@@ -3,21 +3,19 @@ use Rattle.std.proofs.Common.{◌≡◌, ◌≢◌, ℕ, zero, suc, ◌+◌, ◌
 use Rattle.std.specs.Prelude.{◌==◌, ◌&&◌, if◌then◌else◌, slice_get}
 use Rattle.std.proofs.lemmas.Bool.Decides.{nat_tests}
 use Rattle.std.proofs.lemmas.Bool.{and_right, and_from, cond-true, cond-false}
+use Rattle.lexical_core.proofs.Tests.{same_number}
 use Rattle.facets.specs.declared.simple.Simple.{Simple}
 use Rattle.der_octets.specs.Octets.{Tag, context, class_bits, form_bit}
 use Rattle.reference_check.specs.Forms.{Graph, Slot}
 use Rattle.der_model.specs.Structures.{Component, component, components}
 use Rattle.der_model.specs.States.{Begins, is_under, field_answer, any_answer, field_end, skipping}
 
-pub own_number : (n : ℕ) → (n == n) ≡ true
-own_number n = grind (arith, nat_tests)
-
 pub other_number : (i j : ℕ) → i ≢ j → (i == j) ≡ false
 other_number i j h = grind (arith, nat_tests)
 
 -- a component has its own identifier octets
 pub under_own : {P : Type 0} (c : Component P) → is_under c c.constructed c.tag ≡ true
-under_own c = and_from _ _ (own_number (class_bits c.tag.class + form_bit c.constructed)) (own_number c.tag.number)
+under_own c = and_from _ _ (same_number (class_bits c.tag.class + form_bit c.constructed)) (same_number c.tag.number)
 
 -- and not those of another number
 pub under_other : {P : Type 0} (c : Component P) (i j : ℕ) (b : Bool) → c.tag ≡ context i → i < j → is_under c b (context j) ≡ false

@@ -1,9 +1,10 @@
 -- The children of slots in order, from the values that may stand there.
-use Rattle.std.proofs.Common.{◌≡◌, ℕ, zero, suc, ◌+◌, ◌≤◌, ◌<◌, Bool, true, false, List, [], ◌∷◌, length, replicate, drop, Option, Some, None, refl, sym, ap, ◌∙◌, subst, arith, ◌⊎◌, inl, inr}
+use Rattle.std.proofs.Common.{◌≡◌, ℕ, zero, suc, ◌+◌, ◌≤◌, ◌<◌, Bool, true, false, List, [], ◌∷◌, length, replicate, drop, Option, Some, None, refl, sym, ap, ◌∙◌, subst, arith, ◌⊎◌, inl, inr, drop-drop}
 use Rattle.std.specs.Prelude.{◌==◌, slice_get}
 use Rattle.std.proofs.lemmas.Bool.Decides.{nat_tests}
 use Rattle.std.proofs.lemmas.Bool.{cond-true, cond-false}
 use Rattle.std.proofs.lemmas.Option.{slice_get_within}
+use Rattle.lexical_core.proofs.Tests.{compared}
 use Rattle.data_types.specs.Value.{Value, Children}
 use Rattle.data_types.specs.Value as value
 use Rattle.facets.specs.declared.simple.Simple.{Simple}
@@ -20,8 +21,8 @@ use Rattle.der_model.specs.Der.{Body, Octets, under, slot_values, all_slots, bod
 use Rattle.der_model.specs.States.{Fine, field_end, next_number}
 use Rattle.der_model.specs.Faults.{IsHeldIn}
 use Rattle.der_model.proofs.ContentsLaws.{contents_are_written}
-use Rattle.der_model.proofs.ChildLists.{then_children, slots_then, admits_then, values_own, values_other, values_none, times_none, ordered_then, slots_skip, slots_congr, times_other, free_slot, zero_upto, compared}
-use Rattle.der_model.proofs.BegunSlots.{drop_get, drop_drop, get_drop, drop_components, apart_by, put_drop}
+use Rattle.der_model.proofs.ChildLists.{then_children, slots_then, admits_then, values_own, values_other, values_none, times_none, ordered_then, slots_skip, slots_congr, times_other, free_slot, zero_upto}
+use Rattle.der_model.proofs.BegunSlots.{drop_get, get_drop, drop_components, apart_by, put_drop}
 
 -- what a form's body decodes to
 pub record FromBody {P : Type 0} (m : DerMessage P) (f : Form P Simple) (b : Body) : Type 0 where
@@ -107,7 +108,7 @@ fields_step {P} m p fs n k off s count vs rest number there room free slot withi
           (free (n + i) u (omega arith) (omega arith) g).0,
           values_other m (n + i) k count u a b slot.alike (λ e. absurd (omega arith)) ∙ values_none m (suc k) (length fs) (n + i) u b fields.ordered (omega arith),
         )) room
-        ∙ (ap (λ z. all_slots (n + off) z (λ k s. values_at m k s (then_children a b))) (drop_drop n off fs)
+        ∙ (ap (λ z. all_slots (n + off) z (λ k s. values_at m k s (then_children a b))) (drop-drop off n fs)
         ∙ (ap (λ z. all_slots z (drop z fs) (λ k s. values_at m k s (then_children a b))) (sym number)
         ∙ (ap (λ z. all_slots k z (λ k s. values_at m k s (then_children a b))) (drop_get fs k s there)
         ∙ (ap (λ z. slot_values k s z (all_slots (suc k) (drop (suc k) fs) (λ k s. values_at m k s (then_children a b)))) (values_own m k count s a b slot.alike (values_none m (suc k) (length fs) k s b fields.ordered (omega arith)) ∙ slot.written)

@@ -1,23 +1,25 @@
 -- Where each type has a structure, each value that may stand in an instance can be filled.
-use Rattle.std.proofs.Common.{◌≡◌, ℕ, zero, suc, ◌+◌, ◌-◌, ◌≤◌, ◌<◌, Bool, true, false, List, [], ◌∷◌, length, replicate, Option, Some, refl, sym, ap, subst, arith, eqb, ◌⊎◌, inl, inr, ◌≢◌}
+use Rattle.std.proofs.Common.{◌≡◌, ℕ, zero, suc, ◌+◌, ◌-◌, ◌≤◌, ◌<◌, Bool, true, false, List, [], ◌∷◌, length, replicate, Some, refl, sym, subst, arith, eqb, ◌⊎◌, inl, inr, ◌≢◌}
 use Rattle.std.specs.Prelude.{slice_get, ◌==◌, cond, nat_lt, if◌then◌else◌}
 use Rattle.std.specs.List.{AllByRecursion}
+use Rattle.std.proofs.lemmas.List.{length-replicate}
 use Rattle.facets.specs.declared.simple.Simple.{Simple}
 use Rattle.der_octets.specs.Octets.{context, Values, Nothing, Primitive, Constructed}
 use Rattle.reference_check.specs.Forms.{Graph, Form, Slot, form_slots}
 use Rattle.reference_check.specs.Forms as form
 use Rattle.reference_check.specs.Words.{times, UpTo, MayComeTimes}
-use Rattle.der_model.specs.DerMessage.{DerMessage}
-use Rattle.der_model.specs.Structures.{Spot, Instance, Component, Structure, Holds, Fields, OneOf, Items, Empty, structure, form_structure, number_structure, component, components, item_components, amount_components, is_single, is_constructed, universal_tag, Element, Listed, Unnamed}
-use Rattle.der_model.specs.Structures as structures
-use Rattle.message_model.specs.Sound.{IsNoOption}
-use Rattle.der_model.specs.Sound.{IsSoundDer}
-use Rattle.der_model.proofs.SoundMessages.{IsAmount, no_options, bounds_of, amounts_of}
 use Rattle.reference_check.proofs.FiniteForms.{finite_in}
 use Rattle.reference_check.specs.Shapes as shaped
 use Rattle.reference_check.specs.Shapes.{HasShape, HaveShapes, IsFinite, AreFinite, IsReached, MayBeFound, numbers_in}
+use Rattle.message_model.specs.Sound.{IsNoOption}
+use Rattle.der_model.specs.DerMessage.{DerMessage}
+use Rattle.der_model.specs.Structures.{Spot, Instance, Component, Structure, Holds, Fields, OneOf, Items, Empty, structure, form_structure, number_structure, component, components, item_components, amount_components, is_single, is_constructed, universal_tag, Element, Listed, Unnamed}
+use Rattle.der_model.specs.Structures as structures
+use Rattle.der_model.specs.Sound.{IsSoundDer}
+use Rattle.der_model.proofs.SoundMessages.{IsAmount, no_options, bounds_of, amounts_of}
 use Rattle.der_model.specs.OpenParts.{MayHoldComponents, AreInOrder, components_of, IsPrimitive, ValuesSoFar, HasValues, IsFilled, AreFilled, Occurs, outermost, within}
 use Rattle.der_model.proofs.PartsLaw.{component_values}
+use Rattle.der_model.proofs.OneLevel.{up_to_same}
 
 -- ---- the components of slots
 
@@ -36,13 +38,6 @@ component_is g p i zero n (f ∷ fs) c e found =
     let at : n ≡ i = omega arith in
     (f, refl, rw at (sym same))
 component_is g p i (suc j) n (f ∷ fs) c e found = component_is g p (suc i) j n fs c (omega arith) found
-
-replicate_size : (n k : ℕ) → length (replicate n k) ≡ n
-replicate_size zero k = refl
-replicate_size (suc n) k = ap suc (replicate_size n k)
-
-up_to_as : (n m : ℕ) (max : Option ℕ) → n ≡ m → UpTo n max → UpTo m max
-up_to_as n m max e u = rw (← e) u
 
 none_needed : (n : ℕ) → n ≡ 0 → nat_lt 0 n ≡ false
 none_needed n e = rw e refl
@@ -78,14 +73,14 @@ module _ {P : Type 0} (m : DerMessage P) (sound : IsSoundDer m) (finite : AreFin
 
   -- a list, with as few items as there may be
   list_filled : (s : Slot P) → UpTo s.min s.max → IsReached TypeFilled s → HasValues m (Items s (item_components m.forms s.target (m.forms s.target)))
-  list_filled s bounds (inl none) = ([], Nothing, (omega arith, up_to_as s.min 0 s.max none bounds), tt)
+  list_filled s bounds (inl none) = ([], Nothing, (omega arith, up_to_same s.min 0 s.max none bounds), tt)
   list_filled s bounds (inr filled) = of_item (item_filled s.target (m.forms s.target) refl filled)
     where
       of_item : ((j : ℕ) × (c : Component P) × (slice_get (item_components m.forms s.target (m.forms s.target)) j ≡ Some c) × IsFilled m c) → HasValues m (Items s (item_components m.forms s.target (m.forms s.target)))
       of_item (j, c, found, is) =
-          let size : length (replicate s.min j) ≡ s.min = replicate_size s.min j in
+          let size : length (replicate s.min j) ≡ s.min = length-replicate s.min j in
           let v : (vs : Values) × ValuesSoFar m 0 (Items s (item_components m.forms s.target (m.forms s.target))) (replicate s.min j) vs = some_items (Items s (item_components m.forms s.target (m.forms s.target))) s.min j c found is in
-          (replicate s.min j, v.0, (omega (arith, size), up_to_as s.min (length (replicate s.min j)) s.max (sym size) bounds), v.1)
+          (replicate s.min j, v.0, (omega (arith, size), up_to_same s.min (length (replicate s.min j)) s.max (sym size) bounds), v.1)
 
   -- the component of a slot whose type can be filled
   slot_with : (p : P) (k : ℕ) (s : Slot P) → UpTo s.min s.max → TypeFilled s.target → IsFilled m (component m.forms p k s)

@@ -3,16 +3,16 @@ use Rattle.std.proofs.Common.{◌≡◌, ℕ, ◌+◌, ◌≤◌, ◌<◌, Bool,
 use Rattle.std.specs.Prelude.{Result, Ok, Err}
 use Rattle.lexical_core.specs.declared.rule.Rule.{Rule}
 use Rattle.data_types.specs.Leaf.{Leaf}
+use Rattle.reference_check.specs.Words.{UpTo}
 use Rattle.der_model.specs.DerMessage.{DerMessage}
 use Rattle.der_model.specs.Structures.{Spot, LeafOf, Fragment, Structure, Holds, Fields, OneOf, Items, Empty, structure, Component}
 use Rattle.der_model.specs.States.{Part, Identifier, Length, End, part_octets, DerLevel, State, Start, AwaitsLength, AwaitsContents, Within, PathName, IdentifierAnswer, Begins, Breaks, EndAnswer, Fine, EndBreaks, level_answer, end_answer, state_after, innermost_end, IsHeader, Stands}
-use Rattle.reference_check.specs.Words.{UpTo}
 use Rattle.der_model.specs.States as states
 use Rattle.der_model.specs.Paths.{path_of}
 use Rattle.der_model.specs.Faults.{IsHeldIn, BreaksIn, IsCleanPart, BreaksRule, DerFront, IsHeaderFront, IsNoHeader, NextPart, broken, halts, overruns, cut, short, trailing, FaultInDer, DerFault, IsWholeDer}
 use Rattle.der_model.proofs.Lists.{shorter_front, none_left}
 use Rattle.der_model.proofs.SoundMessages.{HasSorted, IsSorted}
-use Rattle.der_model.proofs.ContentsLaws.{one_contents}
+use Rattle.der_model.proofs.ContentsLaws.{one_contents, err_same}
 use Rattle.der_model.proofs.OnePart.{one_part, part_is_header, no_longer, goes_on}
 
 true_false : (b : Bool) → b ≡ true → b ≡ false → ⊥
@@ -40,9 +40,6 @@ held_breaks m (Fields cs) one octets rule h b = absurd h
 held_breaks m (OneOf cs) one octets rule h b = absurd h
 held_breaks m (Items s cs) one octets rule h b = absurd h
 held_breaks m Empty one octets rule h b = absurd h
-
-err_same : (r s : Rule) → ◌≡◌ {A = Result Leaf Rule} (Err r) (Err s) → r ≡ s
-err_same r s e = cc
 
 breaks_same : {P : Type 0} (m : DerMessage P) (sh : Structure P) → HasSorted sh → (octets : List ℕ) (r s : Rule) → BreaksIn m sh octets r → BreaksIn m sh octets s → r ≡ s
 breaks_same m (Holds (LeafOf simple)) one octets r s h b = err_same r s (one_contents simple octets (Err r) (Err s) one h b)

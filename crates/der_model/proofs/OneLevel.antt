@@ -1,19 +1,21 @@
 -- One open value: identifier octets, or the end, may come exactly where the components that it may hold go on so.
-use Rattle.std.proofs.Common.{◌≡◌, ℕ, zero, suc, ◌+◌, ◌-◌, ◌≤◌, ◌<◌, Bool, true, false, List, [], ◌∷◌, length, drop, replicate, Option, Some, None, refl, sym, ap, ◌∙◌, subst, arith, inl, inr}
+use Rattle.std.proofs.Common.{◌≡◌, ℕ, zero, suc, ◌+◌, ◌-◌, ◌≤◌, ◌<◌, Bool, true, false, List, [], ◌∷◌, length, drop, replicate, Option, Some, None, refl, sym, ap, ◌∙◌, subst, arith, inl, inr, drop-drop}
 use Rattle.std.specs.Prelude.{if◌then◌else◌, slice_get, nat_lt}
 use Rattle.std.specs.List.{AllByRecursion}
 use Rattle.std.proofs.lemmas.Bool.Decides.{nat_tests}
 use Rattle.std.proofs.lemmas.Bool.{cond-true, cond-false}
-use Rattle.reference_check.proofs.Words.{has_room_of, up_to_filled, up_to_less}
-use Rattle.der_octets.specs.Octets.{Tag}
-use Rattle.reference_check.specs.Words.{UpTo}
-use Rattle.der_model.specs.Structures.{Label, Component, Structure, Holds, Fields, OneOf, Items, Empty}
-use Rattle.der_model.specs.States.{IdentifierAnswer, Begins, Breaks, Fine, EndBreaks, is_under, skipping, field_answer, any_answer, next_number, item_answer, identifier_answer, field_end, item_end, end_answer, missing_text}
-use Rattle.reference_check.specs.Steps.{has_room}
+use Rattle.std.proofs.lemmas.List.{length-replicate}
 use Rattle.lexical_core.specs.declared.rule.Rule.TheVariants as rule
+use Rattle.der_octets.specs.Octets.{Tag}
+use Rattle.reference_check.proofs.Words.{has_room_of, up_to_filled, up_to_less}
+use Rattle.reference_check.specs.Words.{UpTo}
+use Rattle.reference_check.specs.Steps.{has_room}
+use Rattle.der_model.specs.Structures.{Component, Structure, Holds, Fields, OneOf, Items, Empty}
+use Rattle.der_model.specs.States.{IdentifierAnswer, Begins, Breaks, Fine, EndBreaks, is_under, field_answer, any_answer, next_number, item_answer, identifier_answer, field_end, item_end, end_answer, missing_text}
 use Rattle.der_model.specs.OpenParts.{AreInOrder, MayHoldComponents, components_of}
 use Rattle.der_model.proofs.Fields.{under_own}
 use Rattle.der_model.proofs.WholeValues.{under_same}
+use Rattle.der_model.proofs.BegunSlots.{no_begin}
 
 -- no component has the form and tag of a later one
 abbrev pub AreApart : {P : Type 0} → List (Component P) → Type 0
@@ -49,21 +51,6 @@ drop_get (suc n) i (x ∷ xs) = drop_get n i xs ∙ ap (slice_get (x ∷ xs)) (s
     suc_add : (n i : ℕ) → suc (n + i) ≡ suc n + i
     suc_add n i = omega arith
 
-drop_none : {A : Type 0} (i : ℕ) → ◌≡◌ {A = List A} (drop i []) []
-drop_none zero = refl
-drop_none (suc i) = refl
-
-drop_drop : {A : Type 0} (n i : ℕ) (xs : List A) → drop i (drop n xs) ≡ drop (n + i) xs
-drop_drop zero i xs = ap (λ j. drop j xs) (zero_add i)
-  where
-    zero_add : (i : ℕ) → i ≡ 0 + i
-    zero_add i = omega arith
-drop_drop (suc n) i [] = drop_none i ∙ sym (drop_none (suc n + i))
-drop_drop (suc n) i (x ∷ xs) = drop_drop n i xs ∙ ap (λ j. drop j (x ∷ xs)) (suc_add n i)
-  where
-    suc_add : (n i : ℕ) → suc (n + i) ≡ suc n + i
-    suc_add n i = omega arith
-
 -- ---- components in order
 
 order_low : {P : Type 0} (n k : ℕ) (cs : List (Component P)) (d : List ℕ) → AreInOrder n cs (k ∷ d) → n ≤ k
@@ -85,11 +72,6 @@ field_begins n k zero (x ∷ cs) d c apart (inr (free, o)) e found = (let low : 
 field_begins n k (suc i) (x ∷ cs) d c apart (inr (free, o)) e found =
     let r : (field_answer (suc n) cs c.constructed c.tag ≡ Begins k c) × AreInOrder (suc k) (drop (suc i) cs) d = field_begins (suc n) k i cs d c apart.1 o (omega arith) found in
     (cond-false (is_under x c.constructed c.tag) _ _ (apart.0 i c found) ∙ (cond-false x.required _ _ free ∙ r.0), r.1)
-
-no_begin : {P : Type 0} (l : Label) (a : IdentifierAnswer P) (k : ℕ) (c : Component P) → skipping l a ≡ Begins k c → ⊥
-no_begin l (Begins j d) k c e = absurd cc
-no_begin l (Breaks rule.UnexpectedTag x) k c e = absurd cc
-no_begin l (Breaks r x) k c e = absurd cc
 
 -- a component that begins: it is there under its own form and tag, and what may come behind it may come with it
 pub record Found {P : Type 0} (n : ℕ) (cs : List (Component P)) (b : Bool) (t : Tag) (k : ℕ) (c : Component P) : Type 0 where
@@ -162,19 +144,19 @@ any_found {P} n k (x ∷ cs) b t c e = go (is_under x b t) refl (λ h. any_found
             record { off = 0; number = omega arith; there = ap Some same; form = subst (λ (z : Component P). z.constructed ≡ b) same u.0; tag = subst (λ (z : Component P). z.tag ≡ t) same u.1 }
     go false h again = (let f : Found (suc n) cs b t k c = again (sym (cond-false (is_under x b t) _ _ h) ∙ e) in let at : k ≡ suc n + f.off = f.number in record { off = suc f.off; number = omega arith; there = f.there; form = f.form; tag = f.tag })
 
-room_in : {P : Type 0} (r : Bool) (a : IdentifierAnswer P) (k : ℕ) (c : Component P) → item_answer r a ≡ Begins k c → (r ≡ true) × (a ≡ Begins k c)
+pub room_in : {P : Type 0} (r : Bool) (a : IdentifierAnswer P) (k : ℕ) (c : Component P) → item_answer r a ≡ Begins k c → (r ≡ true) × (a ≡ Begins k c)
 room_in true a k c e = (refl, e)
 room_in false (Begins j d) k c e = absurd cc
 room_in false (Breaks r x) k c e = absurd cc
 
-room_less : (n : ℕ) (max : Option ℕ) → has_room n max ≡ true → UpTo (suc n) max
+pub room_less : (n : ℕ) (max : Option ℕ) → has_room n max ≡ true → UpTo (suc n) max
 room_less n None e = tt
 room_less n (Some top) e = less n top e
   where
     less : (n top : ℕ) → nat_lt n top ≡ true → suc n ≤ top
     less n top e = grind (arith, nat_tests)
 
-up_to_same : (n m : ℕ) (max : Option ℕ) → n ≡ m → UpTo n max → UpTo m max
+pub up_to_same : (n m : ℕ) (max : Option ℕ) → n ≡ m → UpTo n max → UpTo m max
 up_to_same n m max e u = rw (← e) u
 
 -- ---- a value of any structure
@@ -192,7 +174,7 @@ remains_begins {P} (Fields cs) came k d c apart h found =
     let behind : n + suc (k - n) ≡ suc k = omega arith in
     let there : slice_get (drop n cs) (k - n) ≡ Some c = drop_get n (k - n) cs ∙ (ap (slice_get cs) (sym at) ∙ found) in
     let r : (field_answer n (drop n cs) c.constructed c.tag ≡ Begins k c) × AreInOrder (suc k) (drop (suc (k - n)) (drop n cs)) d = field_begins n k (k - n) (drop n cs) d c (apart_drop n cs apart) h at there in
-    let same : drop (suc (k - n)) (drop n cs) ≡ drop (suc k) cs = drop_drop n (suc (k - n)) cs ∙ ap (λ j. drop j cs) behind in
+    let same : drop (suc (k - n)) (drop n cs) ≡ drop (suc k) cs = drop-drop (suc (k - n)) n cs ∙ ap (λ j. drop j cs) behind in
     (r.0, subst (λ (z : List (Component P)). AreInOrder (suc k) z d) same r.1)
 remains_begins {P} (OneOf cs) [] k d c apart (j, e) found =
     let r : any_answer 0 cs c.constructed c.tag ≡ Begins (0 + k) c = any_begins 0 k cs c apart found in
@@ -215,7 +197,7 @@ begins_remains {P} (Fields cs) came b t k c e =
     let r : (f : Found n (drop n cs) b t k c) × ((d : List ℕ) → AreInOrder (suc k) (drop (suc f.off) (drop n cs)) d → AreInOrder n (drop n cs) (k ∷ d)) = field_found n k (drop n cs) b t c e in
     let at : k ≡ n + r.0.off = r.0.number in
     let behind : n + suc r.0.off ≡ suc k = omega arith in
-    let same : drop (suc r.0.off) (drop n cs) ≡ drop (suc k) cs = drop_drop n (suc r.0.off) cs ∙ ap (λ j. drop j cs) behind in
+    let same : drop (suc r.0.off) (drop n cs) ≡ drop (suc k) cs = drop-drop (suc r.0.off) n cs ∙ ap (λ j. drop j cs) behind in
     (ap (slice_get cs) at ∙ (sym (drop_get n r.0.off cs) ∙ r.0.there), r.0.form, r.0.tag, tt, λ d o. r.1 d (subst (λ (z : List (Component P)). AreInOrder (suc k) z d) (sym same) o))
 begins_remains (OneOf cs) [] b t k c e =
     let f : Found 0 cs b t k c = any_found 0 k cs b t c e in
@@ -238,7 +220,7 @@ item_ends n m l = (let e : nat_lt n m ≡ false = ge n m l in rw e refl)
     ge : (n m : ℕ) → m ≤ n → nat_lt n m ≡ false
     ge n m l = grind (arith, nat_tests)
 
-ends_item : (n m : ℕ) → item_end (nat_lt n m) ≡ Fine → m ≤ n
+pub ends_item : (n m : ℕ) → item_end (nat_lt n m) ≡ Fine → m ≤ n
 ends_item n m e = go (nat_lt n m) refl e
   where
     go : (b : Bool) → nat_lt n m ≡ b → item_end b ≡ Fine → m ≤ n
@@ -302,10 +284,6 @@ same_components : {P : Type 0} (cs : List (Component P)) (k n : ℕ) (c : Compon
 same_components cs k zero c found = tt
 same_components cs k (suc n) c found = ((c, found), same_components cs k n c found)
 
-replicate_length : (n k : ℕ) → length (replicate n k) ≡ n
-replicate_length zero k = refl
-replicate_length (suc n) k = ap suc (replicate_length n k)
-
 -- some components may come behind those that have, up to the end
 pub remain_some : {P : Type 0} (sh : Structure P) (came d : List ℕ) → MayHoldComponents sh d → AreComponents (components_of sh) d → HasRoom sh came → (more : List ℕ) × Remain sh came more × AreComponents (components_of sh) more
 remain_some (Fields cs) came d h each room =
@@ -314,7 +292,7 @@ remain_some (OneOf cs) [] d h each room = (d, h, each)
 remain_some (OneOf cs) (j ∷ came) d h each room = ([], refl, tt)
 remain_some (Items s cs) came [] h each room = ([], (omega (arith, h.0), up_to_same _ _ s.max (omega arith) room), tt)
 remain_some (Items s cs) came (k ∷ d) h ((c, found), each) room =
-    let count : length (replicate (s.min - length came) k) ≡ s.min - length came = replicate_length (s.min - length came) k in (
+    let count : length (replicate (s.min - length came) k) ≡ s.min - length came = length-replicate (s.min - length came) k in (
       replicate (s.min - length came) k,
       (omega (arith, count), up_to_same _ _ s.max (ap (λ z. length came + z) (sym count)) (up_to_filled (length came) s.min s.max room (up_to_less s.min (length (k ∷ d)) s.max h.0 h.1))),
       same_components cs k (s.min - length came) c found,

@@ -17,11 +17,11 @@ use Rattle.reference_check.specs.Words.{times, UpTo, IsOrderedFrom, IsSequence}
 use Rattle.reference_check.proofs.Words.{times-replicate}
 use Rattle.message_model.specs.Admits.{numbers_of}
 use Rattle.message_model.specs.Admits.{AdmitsAs, AdmitsChildren, FitsCode}
+use Rattle.message_model.specs.Sound.{IsNoOption}
 use Rattle.der_model.specs.LeafContents.{leaf_contents}
 use Rattle.der_model.specs.DerMessage.{DerMessage}
 use Rattle.der_model.specs.Structures.{Component, components, is_single}
 use Rattle.der_model.specs.Der.{Body, Octets, Inner, under, inner_of, item, placed_value, slot_values, all_slots, alternative, body, values_at}
-use Rattle.message_model.specs.Sound.{IsNoOption}
 use Rattle.der_model.specs.Sound.{FragmentsApart}
 use Rattle.der_model.proofs.SoundMessages.{HaveNoOptions}
 use Rattle.der_model.proofs.ContentsLaws.{contents_same}

@@ -1,8 +1,8 @@
 -- Where each element leads to a type of a kind that instances have, a primitive value holds contents.
 use Rattle.std.proofs.Common.{◌≡◌, ℕ, zero, suc, Bool, true, false, List, [], ◌∷◌, Some, refl, sym, ◌∙◌, subst}
 use Rattle.std.specs.Prelude.{slice_get}
-use Rattle.der_octets.specs.Octets.{Tag}
 use Rattle.facets.specs.declared.simple.Simple.{Simple}
+use Rattle.der_octets.specs.Octets.{Tag}
 use Rattle.reference_check.specs.Forms.{Graph, Form, Slot, form_slots}
 use Rattle.reference_check.specs.Forms as form
 use Rattle.der_model.specs.DerMessage.{DerMessage}

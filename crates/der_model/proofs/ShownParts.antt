@@ -4,7 +4,7 @@ use Rattle.data_types.specs.Leaf.{Leaf}
 use Rattle.data_types.specs.Value.{Piece, Edge}
 use Rattle.data_types.specs.Value as value
 use Rattle.der_octets.specs.Octets.{Tag, Values, Nothing, Primitive, Constructed, octets, wrapped, identifier, length_octets, IsShortTag, IsShortLength}
-use Rattle.der_octets.proofs.Headers.{wrapped_nested, some_identifier}
+use Rattle.der_octets.proofs.Headers.{some_identifier}
 use Rattle.der_model.specs.DerMessage.{DerMessage}
 use Rattle.der_model.specs.Structures.{Spot, Component, structure}
 use Rattle.der_model.specs.States.{Part, Identifier, Length, End, part_octets, DerLevel, State, AwaitsLength, AwaitsContents, Within, IdentifierAnswer, Begins, begun_state, level_answer, identifier_answer, end_from, names_in, state_after, Stands}
@@ -13,7 +13,7 @@ use Rattle.der_model.specs.Faults.{DerFront}
 use Rattle.der_model.specs.inner.Conforms.{Conforms, AreShort}
 use Rattle.der_model.specs.ShownPieces.{begin_each, end_each, component_elements, elements_begun, elements_ended, IsLeafIn, PartsShow}
 use Rattle.der_model.proofs.OnePart.{one_part}
-use Rattle.der_model.proofs.WholeValues.{came_more, length-wrapped}
+use Rattle.der_model.proofs.WholeValues.{came_more, length-wrapped, nested}
 
 -- the parts of values, the end of the value round them, and others behind
 abbrev pub parts_then : Values → List Part → List Part
@@ -61,9 +61,6 @@ pub record PartsBehind {P : Type 0} (m : DerMessage P) (vs : Values) (ls : List 
   pub behind : List Part
   pub are : parts ≡ parts_then vs behind
   pub front : DerFront m (Within ls) end after behind (Within []) at rest
-
-nested : (h c x y : List ℕ) → (wrapped h c ++ x) ++ y ≡ h ++ (length_octets (length c) ++ (c ++ (x ++ y)))
-nested h c x y = append_assoc (wrapped h c) x y ∙ wrapped_nested h c (x ++ y)
 
 pub parts_of_values : {P : Type 0} (m : DerMessage P) (vs : Values) (l : DerLevel P) (ls : List (DerLevel P)) (place : ℕ) (bytes after : List ℕ) (parts : List Part) (at : ℕ) (rest : List ℕ)
     → bytes ≡ octets vs ++ after → l.end ≡ place + length (octets vs) → AreShort vs → Conforms m (structure m l.spot) l.came vs → DerFront m (Within (l ∷ ls)) place bytes parts (Within []) at rest → PartsBehind m vs ls l.end after parts at rest

@@ -4,7 +4,7 @@ use Rattle.std.specs.Prelude.{codes}
 use Rattle.data_types.specs.Leaf.{Leaf, Bytes}
 use Rattle.data_types.specs.Value.{Piece}
 use Rattle.data_types.specs.Value as value
-use Rattle.der_octets.specs.Octets.{universal, Values, Nothing, Constructed, octets, identifier, length_octets}
+use Rattle.der_octets.specs.Octets.{universal, Values, octets, identifier, length_octets}
 use Rattle.der_octets.proofs.Headers.{wrapped_nested}
 use Rattle.der_octets.proofs.OneReading.{octets_same}
 use Rattle.der_model.specs.DerMessage.{DerMessage}
@@ -20,7 +20,7 @@ use Rattle.der_model.specs.ShownLaws.{WholeShowsPieces, FrontShowsPieces, ShowOn
 use Rattle.der_model.proofs.SoundMessages.{no_options}
 use Rattle.der_model.proofs.ContentsLaws.{one_leaf}
 use Rattle.der_model.proofs.WholeValues.{values_of_whole, whole_values_of}
-use Rattle.der_model.proofs.Answered.{whole_spells}
+use Rattle.der_model.proofs.Answered.{whole_spells, inner_same}
 use Rattle.der_model.proofs.ShownParts.{parts_then, FirstPart, first_part, PartsBehind, parts_of_values, shown_by_values, ValuesShow}
 use Rattle.der_model.proofs.ShownValues.{root_shows}
 
@@ -74,9 +74,6 @@ instance_parts m bytes inner parts at shown conf short is f told = go (subst (λ
         let r = shown_by_values m inner opened [] (0 + length (identifier true (universal 16)) + length (length_octets n)) [] m2 conf rest in
         let here : m2 ≡ r.here = r.is ∙ (ap (λ z. r.here ++ z) r.others ∙ append-nil r.here) in
         subst (ValuesShow m Instance [] inner) (sym (is1 ∙ (ap (λ z. z ++ m1) o1 ∙ (is2 ∙ (ap (λ z. z ++ m2) o2 ∙ here))))) r.values
-
-inner_same : (a b : Values) → Constructed (universal 16) a Nothing ≡ Constructed (universal 16) b Nothing → a ≡ b
-inner_same a b e = cc
 
 pub whole_shows_pieces : (m : DerMessage ℕ) → IsSoundDer m → WholeShowsPieces m
 whole_shows_pieces m sound bytes parts at shown front told =

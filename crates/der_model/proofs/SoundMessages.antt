@@ -1,9 +1,9 @@
 -- What a sound message gives of each value of its DER.
 use Rattle.std.proofs.Common.{◌≡◌, ℕ, ◌^◌, ◌<◌, Some, length, refl, arith}
 use Rattle.std.specs.Prelude.{slice_get}
+use Rattle.data_types.specs.declared.kind.Kind.TheVariants as kind
 use Rattle.facets.specs.LeafUnder.{HasSortedCodes}
 use Rattle.facets.specs.declared.simple.Simple.{Simple}
-use Rattle.data_types.specs.declared.kind.Kind.TheVariants as kind
 use Rattle.reference_check.specs.Forms.{Graph, Form, Slot, form_slots, text_type}
 use Rattle.reference_check.specs.Forms as form
 use Rattle.reference_check.specs.Words.{UpTo}

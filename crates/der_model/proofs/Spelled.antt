@@ -12,19 +12,19 @@ use Rattle.der_octets.specs.Octets.{Tag, context, Values, Nothing, Primitive, Co
 use Rattle.reference_check.specs.Forms.{Graph, Form, Slot}
 use Rattle.reference_check.specs.Forms as form
 use Rattle.reference_check.specs.Words.{times, UpTo, MayComeTimes}
+use Rattle.reference_check.specs.Steps.{has_room}
+use Rattle.reference_check.proofs.Words.{times-replicate, up_to_less}
 use Rattle.message_model.specs.Admits.{numbers_of}
 use Rattle.message_model.specs.Admits.{AdmitsAs, AdmitsChildren, FitsCode}
+use Rattle.message_model.specs.Sound.{IsNoOption}
 use Rattle.der_model.specs.LeafContents.{leaf_contents}
 use Rattle.der_model.specs.DerMessage.{DerMessage}
 use Rattle.der_model.specs.Structures.{Spot, Instance, ListOf, Label, Component, PrimitiveContents, LeafOf, Fragment, Structure, Holds, Fields, OneOf, Items, Empty, structure, form_structure, component, components, item_components, amount_components, number_structure, is_one, is_single, is_constructed, universal_tag}
 use Rattle.der_model.specs.Structures as structures
 use Rattle.der_model.specs.Der.{Body, Octets, Inner, under, inner_of, item, placed_value, slot_values, all_slots, chosen_slot, alternative, body, values_at}
 use Rattle.der_model.specs.States.{Begins, Fine, is_under, field_answer, any_answer, field_end, item_answer, item_end, next_number}
-use Rattle.reference_check.specs.Steps.{has_room}
-use Rattle.reference_check.proofs.Words.{times-replicate, up_to_less}
 use Rattle.der_model.specs.Faults.{IsHeldIn}
 use Rattle.der_model.specs.inner.Conforms.{Conforms}
-use Rattle.message_model.specs.Sound.{IsNoOption}
 use Rattle.der_model.proofs.SoundMessages.{HaveNoOptions}
 use Rattle.der_model.proofs.ContentsLaws.{written_contents}
 use Rattle.der_model.proofs.Fields.{Skips, skips_none, skips_more, begins_here, any_found, under_own, drop_more}

@@ -1,15 +1,15 @@
 -- Whole parts that break no rule are those of values that may stand there.
 use Rattle.std.proofs.Common.{◌≡◌, ℕ, zero, suc, ◌+◌, ◌≤◌, ◌<◌, Bool, true, false, List, [], ◌∷◌, ◌++◌, length, refl, sym, ap, ◌∙◌, subst, arith, append_assoc, append-nil, length-append}
+use Rattle.std.specs.Prelude.{◌==◌, codes}
+use Rattle.std.proofs.lemmas.Bool.{and_parts}
+use Rattle.std.proofs.lemmas.Bool.Decides.{nat_tests}
 use Rattle.der_octets.specs.Octets.{Tag, universal, Values, Nothing, Primitive, Constructed, octets, wrapped, identifier, length_octets, IsShortTag, IsShortLength}
 use Rattle.der_octets.proofs.Headers.{wrapped_nested, bits_tell, some_identifier}
+use Rattle.der_octets.specs.Octets.{class_bits, form_bit}
 use Rattle.der_model.specs.DerMessage.{DerMessage}
 use Rattle.der_model.specs.Structures.{Spot, Instance, Component, structure}
 use Rattle.der_model.specs.States.{Part, Identifier, Length, End, part_octets, DerLevel, State, Start, AwaitsLength, AwaitsContents, Within, PathName, Numbered, IdentifierAnswer, Begins, Fine, begun_state, level_answer, end_answer, end_from, names_in, state_after, innermost_end, level_end, Stands}
 use Rattle.der_model.specs.States as states
-use Rattle.std.specs.Prelude.{◌==◌, codes}
-use Rattle.std.proofs.lemmas.Bool.{and_parts}
-use Rattle.std.proofs.lemmas.Bool.Decides.{nat_tests}
-use Rattle.der_octets.specs.Octets.{class_bits, form_bit}
 use Rattle.der_model.specs.States.{is_under}
 use Rattle.der_model.specs.Faults.{IsHeldIn, DerFront, IsWholeDer, outermost}
 use Rattle.der_model.specs.inner.Conforms.{Conforms, AreShort, AreInstanceValues}
@@ -49,7 +49,7 @@ pub length-wrapped : (h c : List ℕ) → length (wrapped h c) ≡ length h + le
 unfolding wrapped
 length-wrapped h c = (let p = length-append h (length_octets (length c) ++ c) in let q = length-append (length_octets (length c)) c in omega arith)
 
-nested : (h c x y : List ℕ) → (wrapped h c ++ x) ++ y ≡ h ++ (length_octets (length c) ++ (c ++ (x ++ y)))
+pub nested : (h c x y : List ℕ) → (wrapped h c ++ x) ++ y ≡ h ++ (length_octets (length c) ++ (c ++ (x ++ y)))
 nested h c x y = append_assoc (wrapped h c) x y ∙ wrapped_nested h c (x ++ y)
 
 -- values that may stand in an open value, up to its end, are clean parts

@@ -3,8 +3,8 @@
 use Rattle.std.specs.Prelude.{ℕ, List}
 use Rattle.lexical_core.specs.Tree.{Tree}
 use Rattle.facets.specs.declared.simple.Simple.{Simple}
-use Rattle.reference_check.specs.Forms.{Graph}
 use Rattle.fragments.specs.Fragment.{fragment}
+use Rattle.reference_check.specs.Forms.{Graph}
 use Rattle.message_model.specs.Message.{Message}
 use Rattle.message_model.specs.Tables.{Tables, message_of}
 

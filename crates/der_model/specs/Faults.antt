@@ -4,15 +4,15 @@ use Rattle.lexical_core.specs.Tree.{Tree}
 use Rattle.lexical_core.specs.declared.rule.Rule.{Rule}
 use Rattle.lexical_core.specs.declared.rule.Rule.TheVariants.{BadTagOctets, BadLengthOctets, Overrun, UnexpectedTag, BadContents, Trailing, DerTruncated}
 use Rattle.data_types.specs.Leaf.{Leaf}
-use Rattle.fragments.specs.Plain.{IsPlain}
 use Rattle.der_octets.specs.Octets.{universal}
+use Rattle.fragments.specs.Plain.{IsPlain}
+use Rattle.reference_check.specs.Words.{UpTo}
 use Rattle.der_model.specs.DerMessage.{DerMessage}
 use Rattle.der_model.specs.LeafContents.{ContentsUnder}
 use Rattle.der_model.specs.Structures.{Spot, Instance, PrimitiveContents, LeafOf, Fragment, Structure, Holds, structure, Component}
 use Rattle.der_model.specs.Structures as structures
 use Rattle.der_model.specs.States.{Part, Identifier, Length, End, part_octets, DerLevel, State, Start, AwaitsLength, AwaitsContents, Within, IdentifierAnswer, Begins, Breaks, is_under, level_answer, EndAnswer, Fine, EndBreaks, end_answer, end_from, state_after, innermost_end, IsHeader, Stands}
 use Rattle.der_model.specs.States as states
-use Rattle.reference_check.specs.Words.{UpTo}
 use Rattle.der_model.specs.Paths.{path_of}
 
 -- contents octets are some of the kind that a value holds, or break a rule

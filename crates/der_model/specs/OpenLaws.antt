@@ -1,9 +1,9 @@
 -- What the laws on the earliest fault say.
 use Rattle.std.specs.Prelude.{◌↔◌, ℕ, List, [], ◌∷◌, ◌++◌}
+use Rattle.lexical_core.specs.declared.rule.Rule.{Rule}
 use Rattle.reference_check.specs.Words.{UpTo}
 use Rattle.der_model.specs.DerMessage.{DerMessage}
 use Rattle.der_model.specs.States.{Part, Length, State, Start, Stands, innermost_end, end_from}
-use Rattle.lexical_core.specs.declared.rule.Rule.{Rule}
 use Rattle.der_model.specs.Faults.{IsCleanPart, BreaksRule, DerFront}
 use Rattle.der_model.specs.OpenParts.{ArePartsOpen, without_lengths}
 

@@ -2,8 +2,8 @@
 use Rattle.std.specs.Prelude.{ℕ, zero, suc, true, false, List, [], ◌∷◌, Some, None, codes}
 use Rattle.data_types.specs.Leaf.{Bytes}
 use Rattle.data_types.specs.Value.{Edge, Piece, Begins, Holds, Ends}
-use Rattle.der_octets.specs.Octets.{universal, context}
 use Rattle.facets.specs.declared.simple.Simple.{Simple}
+use Rattle.der_octets.specs.Octets.{universal, context}
 use Rattle.reference_check.specs.Forms.{Form}
 use Rattle.reference_check.specs.Forms as form
 use Rattle.der_model.specs.DerMessage.{DerMessage}

@@ -2,9 +2,9 @@
 use Rattle.std.proofs.Common.{◌≡◌, ℕ, suc, ◌+◌, ◌*◌, ◌≤◌, ◌<◌, Bool, true, false, List, [], ◌∷◌, ◌++◌, length, refl, sym, ap, ◌∙◌, arith, ltb, ◌⊎◌, inl, inr, append_assoc}
 use Rattle.std.specs.Prelude.{nat_lt}
 use Rattle.std.proofs.lemmas.Bool.Decides.{leb_tells}
-use Rattle.der_octets.specs.Octets.{Class, Universal, Application, Context, Private, Tag, class_bits, form_bit, with_high_bits, identifier, length_octets, wrapped}
 use Rattle.std.specs.Int.Digits.{digits_of, AllBelowBase}
 use Rattle.std.proofs.lemmas.Int.Digits.{same_from_digits_of, all_below_base_digits_of}
+use Rattle.der_octets.specs.Octets.{Class, Universal, Application, Context, Private, Tag, class_bits, form_bit, with_high_bits, identifier, length_octets, wrapped}
 use Rattle.der_octets.proofs.Digits.{some-digits_of}
 
 -- fronts of one length are equal

@@ -1,11 +1,11 @@
 -- The reader of length octets.
 use Rattle.std.proofs.Common.{◌≡◌, ℕ, zero, suc, ◌+◌, ◌-◌, ◌*◌, ◌^◌, ◌≤◌, ◌<◌, List, [], ◌∷◌, ◌++◌, length, refl, sym, ap, ◌∙◌, subst, arith, ◌⊎◌, inl, inr, length-append}
-use Rattle.der_octets.specs.Octets.{length_octets, IsShortLength}
-use Rattle.der_octets.specs.LengthSteps.{IsLead, IsLedBy, HasBegun, HasTakenLengthIn}
 use Rattle.std.proofs.lemmas.Bool.{cases_lt}
 use Rattle.std.specs.Int.Digits.{number_from_digits, AllBelowBase}
 use Rattle.std.proofs.lemmas.Int.Digits.{number_push, number_lt}
 use Rattle.std.proofs.lemmas.List.{nil_from_length}
+use Rattle.der_octets.specs.Octets.{length_octets, IsShortLength}
+use Rattle.der_octets.specs.LengthSteps.{IsLead, IsLedBy, HasBegun, HasTakenLengthIn}
 use Rattle.der_octets.proofs.LengthsRead.{short, read_is_written}
 use Rattle.der_octets.proofs.LengthFronts.{more_pow, below_append, announced_is, Begun, alone, counted, length_begun}
 
@@ -22,7 +22,7 @@ bad_first octet high bad n more small e = by (length_begun n octet more small e)
 octets_push : (ds : List ℕ) (d : ℕ) → AllBelowBase 256 ds → d < 256 → AllBelowBase 256 (ds ++ d ∷ [])
 octets_push ds d below low = below_append ds (d ∷ []) below (low, tt)
 
-heads : (x y : ℕ) (xs ys : List ℕ) → x ∷ xs ≡ y ∷ ys → (x ≡ y) × (xs ≡ ys)
+pub heads : (x y : ℕ) (xs ys : List ℕ) → x ∷ xs ≡ y ∷ ys → (x ≡ y) × (xs ≡ ys)
 heads x y xs ys e = (cc, cc)
 
 pub bad_lead : (count value octet : ℕ) (octets : List ℕ) → HasBegun count 0 value octets → (IsLead count octet → ⊥) → (n : ℕ) (more : List ℕ) → IsShortLength n → length_octets n ≡ (octets ++ octet ∷ []) ++ more → ⊥

@@ -10,7 +10,7 @@ primitive_same t u c d v w p q r = cc
 constructed_same : (t u : Tag) (a b : Values) (v w : Values) → t ≡ u → a ≡ b → v ≡ w → Constructed t a v ≡ Constructed u b w
 constructed_same t u a b v w p q r = cc
 
-not_false : true ≡ false → ⊥
+pub not_false : true ≡ false → ⊥
 not_false e = cc
 
 -- the octets of values determine them

@@ -1,10 +1,10 @@
 -- What the readers of headers have taken goes on as a header.
 use Rattle.std.proofs.Common.{◌≡◌, ℕ, zero, suc, ◌+◌, ◌-◌, ◌*◌, ◌/◌, ◌%◌, ◌<◌, Bool, true, false, List, [], ◌∷◌, ◌++◌, length, refl, sym, ap, ◌∙◌, subst, arith}
+use Rattle.std.specs.Int.Digits.{AllBelowBase}
 use Rattle.der_octets.specs.Octets.{Class, Universal, Application, Context, Private, Tag, universal, class_bits, form_bit, identifier, length_octets, IsShortTag, IsShortLength}
 use Rattle.der_octets.specs.TagSteps as tags
 use Rattle.der_octets.specs.LengthSteps as lengths
 use Rattle.der_octets.specs.LengthSteps.{HasBegun, IsLedBy}
-use Rattle.std.specs.Int.Digits.{AllBelowBase}
 use Rattle.der_octets.proofs.LengthFronts.{zeros, length-zeros, goes_on, count_begins}
 use Rattle.der_octets.proofs.LengthStepLemmas as lengthy
 use Rattle.der_octets.proofs.TagFronts.{tag_bits, one_octet, two_octets, three_octets}

@@ -3,9 +3,7 @@ use Rattle.std.proofs.Common.{◌≡◌, ◌≢◌, ℕ, zero, suc, ◌+◌, ◌
 use Rattle.der_octets.specs.Octets.{Tag, class_bits, form_bit, identifier, IsShortTag}
 use Rattle.der_octets.specs.TagSteps.{HasFirst, HasSecond, HasTakenTagIn}
 use Rattle.der_octets.proofs.TagFronts.{tag_bits, one_octet, two_octets, three_octets, TagBegun, one, two, three, tag_begun}
-
-heads : (x y : ℕ) (xs ys : List ℕ) → x ∷ xs ≡ y ∷ ys → (x ≡ y) × (xs ≡ ys)
-heads x y xs ys e = (cc, cc)
+use Rattle.der_octets.proofs.LengthStepLemmas.{heads}
 
 -- the answers with one octet, two and three
 pub short_done : (b : Bool) (t : Tag) (first : ℕ) → t.number < 31 → class_bits t.class + form_bit b + first % 32 ≡ first → t.number ≡ first % 32 → IsShortTag t × (first ∷ [] ≡ identifier b t)

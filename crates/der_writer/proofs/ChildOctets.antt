@@ -1,7 +1,8 @@
 -- What stands at a child of an element, and behind it.
-use Rattle.std.proofs.Common.{◌≡◌, ℕ, zero, suc, ◌+◌, ◌-◌, ◌≤◌, ◌<◌, Bool, true, false, List, [], ◌∷◌, ◌++◌, length, replicate, take, drop, Option, Some, None, refl, sym, ap, ap₂, ◌∙◌, subst, arith, append_assoc, append-nil, ◌⊎◌, inl, inr}
+use Rattle.std.proofs.Common.{◌≡◌, ℕ, zero, suc, ◌+◌, ◌-◌, ◌≤◌, ◌<◌, Bool, true, false, List, [], ◌∷◌, ◌++◌, length, replicate, take, drop, Option, Some, None, refl, sym, ap, ap₂, ◌∙◌, subst, arith, append_assoc, append-nil, ◌⊎◌, inl, inr, drop-drop}
 use Rattle.std.specs.Prelude.{◌==◌, if◌then◌else◌, slice_get}
 use Rattle.std.proofs.lemmas.Bool.{cond-true, cond-false}
+use Rattle.lexical_core.proofs.Tests.{same_number, compared}
 use Rattle.data_types.specs.Value.{Value, Children, Edge}
 use Rattle.data_types.specs.Value as value
 use Rattle.facets.specs.declared.simple.Simple.{Simple}
@@ -13,12 +14,12 @@ use Rattle.message_model.specs.Admits.{numbers_of}
 use Rattle.der_model.specs.DerMessage.{DerMessage}
 use Rattle.der_model.specs.Structures.{is_single}
 use Rattle.der_model.specs.Der.{Body, placed_value, all_slots, alternative, chosen_slot, body, values_at}
-use Rattle.der_model.proofs.ChildLists.{values_none, slots_congr, compared}
-use Rattle.der_model.proofs.Fields.{own_number, other_number}
+use Rattle.der_model.proofs.ChildLists.{values_none, slots_congr}
+use Rattle.der_model.proofs.Fields.{other_number}
 use Rattle.der_model.proofs.BegunSlots.{drop_get}
 use Rattle.der_writer.specs.Measured.{contents_octets, slot_octets}
 use Rattle.der_writer.specs.inner.PieceOctets.{Before, Begun, Filled, Ended, next_slot, head, empty_slots, sequence_slots, list_head, element_head}
-use Rattle.der_writer.proofs.OctetLemmas.{IsBodyOf, placed_octets, slot_is, slots_skipped, slots_empty, drop_twice}
+use Rattle.der_writer.proofs.OctetLemmas.{IsBodyOf, placed_octets, slot_is, slots_skipped, slots_empty}
 
 -- the octets of children behind a piece, and of the slots without children
 abbrev pub rest_octets : DerMessage ℕ → Form ℕ Simple → Before → Children → List ℕ
@@ -49,7 +50,7 @@ module _ (m : DerMessage ℕ) (v : Value) (rest : Children) (e : Edge) (s : Slot
   -- the octets of the slot from the child on
   pub slot_from : octets (values_at m e.slot s children) ≡ own_octets (octets (values_at m e.slot s rest))
   slot_from =
-      ap octets (cond-true (e.slot == e.slot) (placed_value m.forms e.slot s held (values_at m e.slot s rest)) (values_at m e.slot s rest) (own_number e.slot))
+      ap octets (cond-true (e.slot == e.slot) (placed_value m.forms e.slot s held (values_at m e.slot s rest)) (values_at m e.slot s rest) (same_number e.slot))
       ∙ placed_octets m.forms e.slot s held (values_at m e.slot s rest) fits
 
   -- slots behind are without the child
@@ -68,7 +69,7 @@ module _ (m : DerMessage ℕ) (v : Value) (rest : Children) (e : Edge) (s : Slot
       ≡ (empty_slots i (take (e.slot - i) (drop i slots)) ++ list_from) ++ own_octets (octets (values_at m e.slot s rest) ++ octets (all_slots (suc e.slot) (drop (suc e.slot) slots) (λ k t. values_at m k t rest)))
   sequence_from slots i top l found o =
       let sum : i + (e.slot - i) ≡ e.slot = omega arith in
-      let behind : drop (e.slot - i) (drop i slots) ≡ s ∷ drop (suc e.slot) slots = drop_twice (e.slot - i) i slots ∙ (ap (λ z. drop z slots) sum ∙ drop_get slots e.slot s found) in
+      let behind : drop (e.slot - i) (drop i slots) ≡ s ∷ drop (suc e.slot) slots = drop-drop (e.slot - i) i slots ∙ (ap (λ z. drop z slots) sum ∙ drop_get slots e.slot s found) in
       let V = λ (k : ℕ) (t : Slot ℕ). values_at m k t children in
       slots_skipped i (e.slot - i) (drop i slots) V (λ j t low high. values_none m e.slot top j t children o (omega arith))
       ∙ (ap (λ z. empty_slots i (take (e.slot - i) (drop i slots)) ++ octets z) (ap (λ z. all_slots z (drop (e.slot - i) (drop i slots)) V) sum ∙ ap (λ z. all_slots e.slot z V) behind)
@@ -83,7 +84,7 @@ module _ (m : DerMessage ℕ) (v : Value) (rest : Children) (e : Edge) (s : Slot
   no_list j group same = go (is_single s)
     where
       test : (j == e.slot) ≡ true
-      test = subst (λ z. (z == e.slot) ≡ true) (sym same) (own_number e.slot)
+      test = subst (λ z. (z == e.slot) ≡ true) (sym same) (same_number e.slot)
 
       go : (z : Bool) → (if z then [] else (if j == e.slot then [] else head true (context e.slot) group)) ≡ []
       go true = refl

@@ -2,17 +2,11 @@
 use Rattle.std.proofs.Common.{◌≡◌, ℕ, zero, suc, ◌/◌, ◌%◌, ◌≤◌, ◌<◌, Bool, true, false, List, [], ◌∷◌, ◌++◌, length, refl, sym, ap, ap₂, ◌∙◌, arith, ◌⊎◌, inl, inr}
 use Rattle.std.specs.Prelude.{nat_lt, if◌then◌else◌}
 use Rattle.std.proofs.lemmas.Bool.{cases_lt}
-use Rattle.std.proofs.lemmas.Bool.Decides.{nat_tests}
 use Rattle.std.specs.Int.Digits.{digits_of}
 use Rattle.std.proofs.lemmas.Int.Digits.{digits_of_step}
+use Rattle.lexical_core.proofs.Tests.{below_128, from_128}
 use Rattle.der_octets.proofs.Digits.{digits_of_digit, some-digits_of}
 use Rattle.der_model.specs.LeafContents.{with_sign_bit, integer_octets}
-
-below_128 : (n : ℕ) → n < 128 → nat_lt n 128 ≡ true
-below_128 n l = grind (arith, nat_tests)
-
-from_128 : (n : ℕ) → 128 ≤ n → nat_lt n 128 ≡ false
-from_128 n l = grind (arith, nat_tests)
 
 pub code_one : (n : ℕ) → n < 128 → integer_octets n ≡ n ∷ []
 unfolding integer_octets

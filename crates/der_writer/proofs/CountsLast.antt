@@ -5,12 +5,12 @@ use Rattle.std.proofs.lemmas.List.{get_or-set_other}
 use Rattle.data_types.specs.Value.{Value, Children}
 use Rattle.data_types.specs.Value as value
 use Rattle.fragments.specs.Fragment.{fragment}
+use Rattle.inst_pool.specs.Pieces.{Held}
 use Rattle.reference_check.specs.Forms.{form_slots}
 use Rattle.message_model.specs.Admits.{AdmitsAs}
 use Rattle.message_model.specs.Sound.{HasRoot}
 use Rattle.message_model.specs.Tables.{Tables, types_of, edge_at, pieces_of}
 use Rattle.der_model.specs.DerMessage.{DerMessage, der_message}
-use Rattle.inst_pool.specs.Pieces.{Held}
 use Rattle.der_writer.specs.Measured.{Beside, Free, Counts, value_counts, child_counts, HasCounts}
 use Rattle.der_writer.specs.inner.PieceOctets.{Begun, document_edge}
 use Rattle.der_writer.specs.inner.Passes.{stage}

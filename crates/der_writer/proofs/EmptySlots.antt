@@ -7,8 +7,8 @@ use Rattle.facets.specs.declared.simple.Simple.{Simple}
 use Rattle.reference_check.specs.Forms.{Slot, Form, form_slots}
 use Rattle.reference_check.specs.Forms as form
 use Rattle.message_model.specs.declared.model.Slot.{Slot as Told}
-use Rattle.der_writer.specs.inner.PieceOctets.{empty_slot, empty_slots, sequence_slots}
 use Rattle.der_model.proofs.BegunSlots.{drop_get}
+use Rattle.der_writer.specs.inner.PieceOctets.{empty_slot, empty_slots, sequence_slots}
 
 -- those from slot k on and before another
 abbrev pub empty_from : ℕ → ℕ → List (Slot ℕ) → List ℕ

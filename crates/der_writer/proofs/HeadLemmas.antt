@@ -1,9 +1,8 @@
 -- How many octets heads have, and the digits of lengths.
-use Rattle.std.proofs.Common.{◌≡◌, ℕ, ◌+◌, ◌/◌, ◌%◌, ◌^◌, ◌≤◌, ◌<◌, Bool, true, false, [], ◌∷◌, ◌++◌, length, sym, ap, arith}
-use Rattle.std.specs.Prelude.{nat_lt}
-use Rattle.std.proofs.lemmas.Bool.Decides.{nat_tests}
+use Rattle.std.proofs.Common.{◌≡◌, ℕ, ◌+◌, ◌/◌, ◌%◌, ◌^◌, ◌≤◌, ◌<◌, Bool, [], ◌∷◌, ◌++◌, length, sym, ap, arith}
 use Rattle.std.specs.Int.Digits.{digits_of}
 use Rattle.std.proofs.lemmas.Int.Digits.{length-digits_of-le, length-digits_of_step, digits_of_step}
+use Rattle.lexical_core.proofs.Tests.{below_128, from_128}
 use Rattle.der_octets.specs.Octets.{Tag, identifier, length_octets, IsShortTag}
 use Rattle.der_octets.proofs.Headers.{short_length, long_length}
 use Rattle.der_octets.proofs.TagFronts.{one_octet, two_octets, three_octets}
@@ -26,12 +25,6 @@ digit_more n some = length-digits_of_step 256 n (omega arith) some
 
 pub digits_more : (n : ℕ) → 0 < n → digits_of 256 (n / 256) ++ n % 256 ∷ [] ≡ digits_of 256 n
 digits_more n some = sym (digits_of_step 256 n (omega arith) some)
-
-below_128 : (n : ℕ) → n < 128 → nat_lt n 128 ≡ true
-below_128 n l = grind (arith, nat_tests)
-
-from_128 : (n : ℕ) → 128 ≤ n → nat_lt n 128 ≡ false
-from_128 n l = grind (arith, nat_tests)
 
 pub short_is : (n : ℕ) → n < 128 → n ∷ [] ≡ length_octets n
 short_is n l = sym (short_length n (below_128 n l))

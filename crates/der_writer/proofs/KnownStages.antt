@@ -1,5 +1,5 @@
 -- The pass knows one piece more: what it kept beside the pieces behind stays, and what it keeps beside this one is known.
-use Rattle.std.proofs.Common.{◌≡◌, ◌≢◌, ℕ, zero, suc, ◌+◌, ◌≤◌, ◌<◌, true, false, List, [], ◌∷◌, length, drop, Option, Some, None, refl, sym, ap, ap₂, ◌∙◌, subst, arith}
+use Rattle.std.proofs.Common.{◌≡◌, ◌≢◌, ℕ, zero, suc, ◌+◌, ◌≤◌, ◌<◌, true, false, List, [], ◌∷◌, length, drop, Option, Some, None, refl, sym, ap, ap₂, ◌∙◌, subst, arith, add-one}
 use Rattle.std.specs.Prelude.{slice_get, slice_index, slice_set, ◌==◌}
 use Rattle.std.proofs.lemmas.List.{get_or-set_same, get_or-set_other}
 use Rattle.std.proofs.lemmas.Bool.Decides.{nat_tests}
@@ -7,14 +7,14 @@ use Rattle.std.proofs.lemmas.Bool.{cond-true, cond-false}
 use Rattle.data_types.specs.Leaf.{Leaf}
 use Rattle.data_types.specs.Value.{Edge, Piece, Begins, Holds, Ends}
 use Rattle.facets.specs.declared.simple.Simple.{Simple}
-use Rattle.reference_check.specs.Forms.{Graph}
 use Rattle.inst_pool.specs.Pieces.{Held, piece_bytes, bytes_of}
+use Rattle.reference_check.specs.Forms.{Graph}
+use Rattle.der_model.proofs.BegunSlots.{drop_get}
 use Rattle.der_writer.specs.Measured.{Beside, Free, Counts}
 use Rattle.der_writer.specs.inner.PieceOctets.{Begun, Filled, Ended, before_of}
 use Rattle.der_writer.specs.inner.Passes.{Frame, Stage, following, innermost_frame, piece_step, stage}
 use Rattle.der_writer.proofs.Whole.{is_there}
 use Rattle.der_writer.specs.inner.Measuring.{AreBeside, following_piece, following_at, AreAwaited, Knows, before_place, behind_piece, IsSizeOf, IsSizeAt}
-use Rattle.der_model.proofs.BegunSlots.{drop_get}
 
 pub ended_lower : (held : Held) (low more around : ℕ) (fs : List Frame) → more ≤ low → AreAwaited held low around fs → AreAwaited held more around fs
 ended_lower held low more around [] l h = h
@@ -160,16 +160,13 @@ sets_same old mid new at x y l k lens (r, g) groups (r2, l2) =
       ap (λ z. slice_index z at) both ∙ index_set old.groups at y k,
     )
 
-pub next_place : (at : ℕ) → at + 1 ≡ suc at
-next_place at = omega arith
-
 -- the piece that is there, by what stands before the one behind it
 pub piece_there : (ps : List Piece) (at : ℕ) → at < length ps → (p : Piece) × (slice_get ps at ≡ Some p) × (before_place ps (at + 1) ≡ before_of p)
 piece_there ps at l = go (slice_get ps at) refl
   where
     go : (o : Option Piece) → slice_get ps at ≡ o → (p : Piece) × (slice_get ps at ≡ Some p) × (before_place ps (at + 1) ≡ before_of p)
     go None e = absurd (is_there at ps l e)
-    go (Some p) e = (p, e, ap (before_place ps) (next_place at) ∙ ap behind_piece e)
+    go (Some p) e = (p, e, ap (before_place ps) (add-one at) ∙ ap behind_piece e)
 
 pub begins_there : (p : Piece) (e : Edge) → before_of p ≡ Begun e → p ≡ Begins e
 begins_there (Begins x) e h = cc
@@ -213,7 +210,7 @@ size_within (Ends e) size h = omega (arith, h)
 pub stage_at : (g : Graph ℕ Simple) (ps : List Piece) (at : ℕ) (p : Piece) → slice_get ps at ≡ Some p
     → stage g (before_place ps at) (drop at ps) ≡ piece_step g (before_place ps at) p (drop (at + 1) ps) (stage g (before_place ps (at + 1)) (drop (at + 1) ps))
 stage_at g ps at p e =
-    let next = next_place at in
+    let next = add-one at in
     let before : before_of p ≡ before_place ps (at + 1) = sym (ap (before_place ps) next ∙ ap behind_piece e) in
     ap (stage g (before_place ps at)) (drop_get ps at p e ∙ ap (λ z. p ∷ drop z ps) (sym next))
     ∙ ap (λ z. piece_step g (before_place ps at) p (drop (at + 1) ps) (stage g z (drop (at + 1) ps))) before
@@ -225,7 +222,7 @@ bytes_at (x ∷ ps) zero p e = (let same : x ≡ p = cc in subst (λ z. piece_by
 bytes_at (x ∷ ps) (suc at) p e = (let r = bytes_at ps at p e in omega arith)
 
 pub bytes_from : (ps : List Piece) (at : ℕ) (p : Piece) → slice_get ps at ≡ Some p → bytes_of (drop at ps) ≡ piece_bytes p + bytes_of (drop (at + 1) ps)
-bytes_from ps at p e = ap bytes_of (drop_get ps at p e) ∙ ap (λ z. piece_bytes p + bytes_of (drop z ps)) (sym (next_place at))
+bytes_from ps at p e = ap bytes_of (drop_get ps at p e) ∙ ap (λ z. piece_bytes p + bytes_of (drop z ps)) (sym (add-one at))
 
 pub bytes_within : (ps : List Piece) (at : ℕ) → bytes_of (drop at ps) ≤ bytes_of ps
 bytes_within [] zero = omega arith

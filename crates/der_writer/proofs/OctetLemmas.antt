@@ -50,7 +50,7 @@ under_octets : (f : Form ℕ Simple) (t : Tag) (b : Body) (rest : Values) → Is
 under_octets f t (Octets o) rest e = value_is false t o (octets rest) ∙ ap (λ z. head z t (length o) ++ (o ++ octets rest)) (sym e)
 under_octets f t (Inner vs) rest e = value_is true t (octets vs) (octets rest) ∙ ap (λ z. head z t (length (octets vs)) ++ (octets vs ++ octets rest)) (sym e)
 
-abbrev form_tag : Form ℕ Simple → Tag
+abbrev pub form_tag : Form ℕ Simple → Tag
 form_tag f = universal_tag f
 
 item_octets : (f : Form ℕ Simple) (b : Body) (rest : Values) → IsBodyOf f b → octets (item f b rest) ≡ item_head f (length (contents_octets b)) ++ (contents_octets b ++ octets rest)
@@ -100,9 +100,3 @@ slots_empty i [] at none = refl
 slots_empty i (s ∷ fs) at none =
     ap (λ z. octets (slot_values i s z (all_slots (suc i) fs at))) (none i s)
     ∙ (slot_is i s Nothing (all_slots (suc i) fs at) ∙ ap (λ z. empty_slot i s ++ z) (slots_empty (suc i) fs at none))
-
-pub drop_twice : {A : Type 0} (c i : ℕ) (xs : List A) → drop c (drop i xs) ≡ drop (i + c) xs
-drop_twice c zero xs = (let e : c ≡ 0 + c = omega arith in ap (λ z. drop z xs) e)
-drop_twice zero (suc i) [] = (let e : suc i ≡ suc i + 0 = omega arith in ap (λ z. drop z []) e)
-drop_twice (suc c) (suc i) [] = (let e : suc (i + suc c) ≡ suc i + suc c = omega arith in ap (λ z. drop z []) e)
-drop_twice c (suc i) (x ∷ xs) = drop_twice c i xs ∙ (let e : suc (i + c) ≡ suc i + c = omega arith in ap (λ z. drop z (x ∷ xs)) e)

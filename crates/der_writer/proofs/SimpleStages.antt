@@ -3,8 +3,8 @@ use Rattle.std.proofs.Common.{◌≡◌, ℕ, suc, ◌+◌, ◌-◌, ◌≤◌, 
 use Rattle.std.specs.Prelude.{slice_get, slice_index}
 use Rattle.data_types.specs.Value.{Edge, Piece, Begins, Holds, Ends}
 use Rattle.facets.specs.declared.simple.Simple.{Simple}
-use Rattle.reference_check.specs.Forms.{Graph}
 use Rattle.inst_pool.specs.Pieces.{Held, piece_bytes, bytes_of}
+use Rattle.reference_check.specs.Forms.{Graph}
 use Rattle.der_writer.specs.Measured.{Free, Counts}
 use Rattle.der_writer.specs.inner.PieceOctets.{Begun, Filled, before_of, begin_octets, leaf_octets, octets_before, slots_behind}
 use Rattle.der_writer.specs.inner.Passes.{Stage, following, piece_step, stage}

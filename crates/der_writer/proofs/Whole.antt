@@ -1,5 +1,5 @@
 -- The octets of a whole instance, by the numbers that stand beside its pieces.
-use Rattle.std.proofs.Common.{◌≡◌, ℕ, zero, suc, ◌+◌, ◌-◌, ◌≤◌, ◌<◌, true, List, [], ◌∷◌, ◌++◌, length, drop, Option, Some, None, refl, sym, ap, ap₂, ◌∙◌, subst, arith, append-nil}
+use Rattle.std.proofs.Common.{◌≡◌, ℕ, zero, suc, ◌+◌, ◌-◌, ◌≤◌, ◌<◌, true, List, [], ◌∷◌, ◌++◌, length, drop, Option, Some, None, refl, sym, ap, ap₂, ◌∙◌, subst, arith, append-nil, drop-drop}
 use Rattle.std.specs.Prelude.{slice_get, slice_index}
 use Rattle.std.proofs.Math.ListN.{drop_of_length-le}
 use Rattle.data_types.specs.Value.{Value, Children, Edge, Piece, Begins, Holds, Ends}
@@ -7,6 +7,7 @@ use Rattle.data_types.specs.Value as value
 use Rattle.facets.specs.declared.simple.Simple.{Simple}
 use Rattle.der_octets.specs.Octets.{universal, Nothing, Constructed, octets}
 use Rattle.fragments.specs.Fragment.{fragment}
+use Rattle.inst_pool.specs.Pieces.{Held}
 use Rattle.reference_check.specs.Forms.{Graph, Form, Slot, form_slots}
 use Rattle.reference_check.specs.Forms as form
 use Rattle.message_model.specs.Admits.{AdmitsAs}
@@ -15,12 +16,11 @@ use Rattle.message_model.specs.Tables.{Tables, types_of, edge_at, pieces, child_
 use Rattle.der_model.specs.DerMessage.{DerMessage, der_message}
 use Rattle.der_model.specs.Der.{body, inner_of, der_of}
 use Rattle.der_model.proofs.BegunSlots.{drop_get}
-use Rattle.inst_pool.specs.Pieces.{Held}
 use Rattle.der_writer.specs.Measured.{Beside, Free, Counts, contents_octets, value_counts, child_counts, IsMeasured}
 use Rattle.der_writer.specs.inner.PieceOctets.{Before, Begun, before_of, head, document_edge, slots_behind, piece_octets, pieces_octets, counted_octets}
 use Rattle.der_writer.specs.inner.Passes.{stage}
 use Rattle.der_writer.specs.inner.Measuring.{AreBeside, NumbersAreKept, before_place, behind_piece, octets_at, octets_there}
-use Rattle.der_writer.proofs.OctetLemmas.{wrapped_is, drop_twice}
+use Rattle.der_writer.proofs.OctetLemmas.{wrapped_is}
 use Rattle.der_writer.proofs.ValueOctets.{children_octets}
 use Rattle.der_writer.proofs.Stages.{sum_is, children_staged}
 
@@ -43,7 +43,7 @@ numbers_agree g b (Holds l ∷ ps) (c ∷ bs) lens groups m k = ap (λ y. piece_
 numbers_agree g b (Ends e ∷ ps) (c ∷ bs) lens groups m k = ap (λ y. piece_octets g b (Ends e) 0 0 ++ y) (numbers_agree g (before_of (Ends e)) ps bs (drop 1 lens) (drop 1 groups) m (kept_behind c bs lens groups k))
 
 drop_one : {A : Type 0} (at : ℕ) (xs : List A) → drop 1 (drop at xs) ≡ drop (at + 1) xs
-drop_one at xs = drop_twice 1 at xs
+drop_one at xs = drop-drop 1 at xs
 
 index_at : (at : ℕ) (xs : List ℕ) → slice_index (drop at xs) 0 ≡ slice_index xs at
 index_at zero xs = refl

@@ -4,12 +4,12 @@ use Rattle.data_types.specs.Value.{Value, Children, Nothing, Child}
 use Rattle.data_types.specs.Value as value
 use Rattle.der_octets.specs.Octets.{octets}
 use Rattle.fragments.specs.Fragment.{fragment}
+use Rattle.inst_pool.specs.Pieces.{Held}
 use Rattle.reference_check.specs.Forms.{Slot, form_slots}
 use Rattle.message_model.specs.Admits.{AdmitsAs}
 use Rattle.message_model.specs.Tables.{Tables, types_of, edge_at, pieces_of}
 use Rattle.der_model.specs.DerMessage.{DerMessage, der_message}
 use Rattle.der_model.specs.Der.{Body, Octets, Inner, body, values_at}
-use Rattle.inst_pool.specs.Pieces.{Held}
 
 -- what stands beside a piece: any two numbers, or these
 pub data Beside : Type 0 where

@@ -1,10 +1,10 @@
 //! The contents octets of leaves: X.690 §8.2, §8.3, §8.5, §11.1, §11.3.
 ghost use Rattle.std.specs.Prelude.{◌≡◌, ◌+◌, ◌<◌, ◌≤◌, [], ◌∷◌, ◌++◌, length};
-ghost use Rattle.data_types.specs.LeafAnswers.{leaf_of};
 ghost use Rattle.outside.specs.Pushes.{Pushes};
+ghost use Rattle.data_types.specs.LeafAnswers.{leaf_of};
+ghost use Rattle.data_types.specs.Leaf.{octet_count};
 ghost use Rattle.der_model.specs.LeafContents.{leaf_contents, integer_octets, flag_octet};
 ghost use Rattle.der_model.specs.RealContents.{real_contents};
-ghost use Rattle.inst_pool.specs.Pieces.{leaf_bytes};
 ghost use Rattle.der_writer.specs.inner.Heads.{head_octets};
 
 use crate::head::Head;
@@ -127,7 +127,7 @@ pub(crate) fn push_leaf<O: Sink>(
 /// How many contents octets a leaf has.
 pub(crate) fn leaf_size(leaf: &LeafRef<'_>) -> u64
     ensures size { result ≡ length (leaf_contents (leaf_of leaf.now)) }
-    ensures most { result ≤ leaf_bytes (leaf_of leaf.now) + 32 }
+    ensures most { result ≤ octet_count (leaf_of leaf.now) + 32 }
 {
     match leaf {
         LeafRef::Bytes(bytes) => bytes.len() as u64,

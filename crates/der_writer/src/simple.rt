@@ -2,9 +2,9 @@
 ghost use Rattle.std.specs.Prelude.{◌≡◌, ◌-◌, ◌<◌, ◌≤◌, true, [], length, slice_get, Some, IfSome};
 ghost use Rattle.data_types.specs.Leaf.{Leaf};
 ghost use Rattle.data_types.specs.Value.{Edge as EdgeOf, Begins, Holds, Ends};
+ghost use Rattle.inst_pool.specs.Pieces.{edge_of};
 ghost use Rattle.message_model.specs.Tables.{types_of};
 ghost use Rattle.der_model.specs.LeafContents.{leaf_contents};
-ghost use Rattle.inst_pool.specs.Pieces.{edge_of};
 ghost use Rattle.der_writer.specs.inner.PieceOctets.{first_leaf, sequence_slots};
 ghost use Rattle.der_writer.specs.inner.Measuring.{IsSimpleAt, IsSizeOf};
 

@@ -1,15 +1,15 @@
 //! The DER of an instance, pushed piece by piece: X.690 §8.1, §10.1.
 ghost use Rattle.std.specs.Prelude.{◌≡◌, ◌++◌, ◌<◌, ◌≤◌, ◌-◌, ℕ, IsTrue, true, false, [], drop, length, slice_index, if◌then◌else◌};
-ghost use Rattle.der_octets.specs.Octets.{context};
-ghost use Rattle.data_types.specs.Value.{Value, Begins};
 ghost use Rattle.outside.specs.Pushes.{Pushes, as_push};
+ghost use Rattle.outside.specs.Gathering.{Gathers};
+ghost use Rattle.data_types.specs.Value.{Value, Begins};
+ghost use Rattle.der_octets.specs.Octets.{context};
 ghost use Rattle.fragments.specs.Fragment.{fragment};
+ghost use Rattle.inst_pool.specs.Pieces.{edge_of};
 ghost use Rattle.message_model.specs.Admits.{AdmitsAs};
 ghost use Rattle.message_model.specs.Tables.{types_of, pieces_of};
 ghost use Rattle.der_model.specs.DerMessage.{der_message};
 ghost use Rattle.der_model.specs.Der.{der_of};
-ghost use Rattle.inst_pool.specs.Pieces.{edge_of};
-ghost use Rattle.outside.specs.Gathering.{Gathers};
 ghost use Rattle.der_writer.specs.Measured.{IsMeasured};
 ghost use Rattle.der_writer.specs.inner.PieceOctets.{Before, Begun, begin_octets, document_edge, empty_slots, goes_on, head, item_head, list_head, next_slot, own_slot, piece_octets, pieces_octets, sequence_slots, slots_behind};
 ghost use Rattle.der_writer.specs.inner.Measuring.{before_place, octets_at};

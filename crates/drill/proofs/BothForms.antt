@@ -1,9 +1,9 @@
 -- Both texts of an instance can be read.
 use Rattle.std.proofs.Common.{◌≡◌, ℕ, ◌≤◌, List, [], ◌∷◌, length, refl, subst, sym}
-use Rattle.der_model.specs.Der.{der_of}
-use Rattle.der_model.specs.DerMessage.{der_message}
 use Rattle.message_model.specs.Admits.{AdmitsAs}
 use Rattle.message_model.specs.Tables.{Tables, message_of, types_of}
+use Rattle.der_model.specs.Der.{der_of}
+use Rattle.der_model.specs.DerMessage.{der_message}
 use Rattle.xml_instances.specs.XmlFaults.{xml_limit}
 use Rattle.xml_writer.specs.CanonXml.{IsCanonXml}
 use Rattle.xml_writer.specs.SpellingLaw.{CompiledSpells}

@@ -1,8 +1,8 @@
 -- A bound on the bytes that a value has in either form.
 use Rattle.std.proofs.Common.{ℕ, ◌+◌, ◌*◌, length}
-use Rattle.fragments.specs.Fragment.{fragment}
 use Rattle.data_types.specs.Leaf.{Number}
 use Rattle.data_types.specs.Value.{Value, Component, Simple, Amount, External, Children, Nothing, Child}
+use Rattle.fragments.specs.Fragment.{fragment}
 use Rattle.der_model.specs.LeafContents.{leaf_contents}
 
 -- a value with its tags, or with its head; a character of a text is escaped by five at most

@@ -6,20 +6,20 @@ use Rattle.std.proofs.lemmas.Int.Digits.{length-digits_of-le}
 use Rattle.data_types.specs.Leaf.{Number}
 use Rattle.data_types.specs.Value.{Value, Children, Child}
 use Rattle.data_types.specs.Value as value
-use Rattle.facets.specs.declared.simple.Simple.{Simple}
 use Rattle.data_types.specs.declared.kind.Kind.{Kind}
 use Rattle.data_types.specs.declared.kind.Kind.TheVariants as kind
+use Rattle.facets.specs.declared.simple.Simple.{Simple}
 use Rattle.der_octets.specs.Octets.{Tag, universal, context, Values, Nothing, Primitive, then_values, octets, identifier, length_octets, wrapped}
+use Rattle.fragments.specs.Fragment.{fragment}
 use Rattle.reference_check.specs.Forms.{Graph, Form, Slot}
 use Rattle.reference_check.specs.Forms as form
 use Rattle.message_model.specs.Admits.{numbers_of}
 use Rattle.der_model.specs.DerMessage.{DerMessage}
 use Rattle.der_model.specs.LeafContents.{leaf_contents}
-use Rattle.der_model.specs.Structures.{is_single, universal_tag, kind_number, simple_number}
+use Rattle.der_model.specs.Structures.{is_single, kind_number, simple_number}
 use Rattle.der_model.specs.Der.{Body, Octets, Inner, under, inner_of, item, placed_value, slot_values, all_slots, form_values, body, values_at, der_of}
 use Rattle.der_writer.specs.Measured.{contents_octets}
-use Rattle.der_writer.proofs.OctetLemmas.{octets_then}
-use Rattle.fragments.specs.Fragment.{fragment}
+use Rattle.der_writer.proofs.OctetLemmas.{octets_then, form_tag}
 use Rattle.drill.proofs.Bulks.{bulk, bulks}
 
 -- ---- heads
@@ -78,9 +78,6 @@ simple_small : (k : Kind) (texts : Option (List (List ℕ))) → nat_lt (simple_
 simple_small kind.Text (Some texts) = refl
 simple_small kind.Text None = refl
 simple_small k texts = kind_small k
-
-abbrev form_tag : Form ℕ Simple → Tag
-form_tag f = universal_tag f
 
 item_size : (f : Form ℕ Simple) (b : Body) (rest : Values) → IsLow (length (contents_octets b)) → length (octets (item f b rest)) ≤ 10 + (length (contents_octets b) + length (octets rest))
 item_size (form.Choice slots) b rest low = let own = then_size (inner_of b) rest in let inner = inner_size b in omega arith

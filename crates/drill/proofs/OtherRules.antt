@@ -1,18 +1,19 @@
 -- The built-in message breaks no rule of codes, kinds, names and sizes, and none of facets and patterns.
-use Rattle.std.proofs.Common.{◌≡◌, ◌≢◌, ℕ, zero, suc, ◌<◌, ◌≤◌, ◌⊎◌, List, [], ◌∷◌, length, get_or, Some, None, refl, sym, ap, subst, ◌∙◌, arith, inl, inr}
+use Rattle.std.proofs.Common.{◌≡◌, ℕ, ◌<◌, ◌≤◌, ◌⊎◌, List, [], ◌∷◌, length, get_or, Some, refl, sym, ap, subst, ◌∙◌, arith, inl, inr}
 use Rattle.std.specs.Prelude.{Contains, codes}
 use Rattle.std.proofs.lemmas.List.{get_or_default}
 use Rattle.std.proofs.lemmas.Option.{slice_get-get_or}
-use Rattle.repo_objects.specs.declared.objects.Object.{Object}
-use Rattle.repo_objects.specs.declared.objects.ObjectKind.TheVariants.{Other}
-use Rattle.message_model.specs.FacetRules.{HasBadFacets, HasBadLengths, HasBadDigits, HasBadBounds}
+use Rattle.lexical_core.proofs.Lists.{only_one}
+use Rattle.repo_objects.specs.Objects.{no_facets}
+use Rattle.reference_check.specs.inner.Ranks.{IsLeftOut}
 use Rattle.reference_check.specs.Graph.{Place, entry}
 use Rattle.reference_check.specs.Reach.{elements_of}
-use Rattle.message_model.specs.Ready.{HasBadPattern}
-use Rattle.reference_check.specs.Rules.{Breaks, OfObject, HasNoPatterns, HasBadCodes, HasTooMuch, AreReached, schema_names}
+use Rattle.reference_check.specs.Rules.{Breaks, OfObject, HasBadCodes, HasTooMuch, AreReached, schema_names}
 use Rattle.reference_check.specs.Rules as rules
 use Rattle.reference_check.proofs.Marking.{none_in}
-use Rattle.drill.specs.BuiltIn.{contents, message_id, text_id, node_id, text_object, node_object, no_facets}
+use Rattle.message_model.specs.FacetRules.{HasBadFacets, HasBadLengths, HasBadDigits, HasBadBounds}
+use Rattle.message_model.specs.Ready.{HasBadPattern}
+use Rattle.drill.specs.BuiltIn.{contents, message_id, text_id, node_id, text_object, node_object}
 use Rattle.drill.proofs.ReachedPlaces.{IsPlace, at_message, at_text, at_node, among, of_object}
 
 -- ---- what no object of these is
@@ -28,10 +29,6 @@ node_codes (inr (i, j, a, b, text, lt, ga, gb, ta, tb)) = cc
 
 pub no_codes : (p : Place) → IsPlace p → Breaks contents message_id rules.BadCodes p → ⊥
 no_codes p at of = elim (of_object p (HasBadCodes contents) at of) [ inl h ↦ text_codes h | inr h ↦ node_codes h ]
-
--- what the rule on kinds says of an object
-abbrev IsLeftOut : Object → Type 0
-IsLeftOut o = (o.kind ≡ Other) ⊎ (HasNoPatterns o.kind × (o.facets.pattern ≢ None))
 
 pub not_left_out : (p : Place) → IsPlace p → Breaks contents message_id rules.LeftOutKind p → ⊥
 not_left_out p at of = elim (of_object p IsLeftOut at of) [
@@ -93,10 +90,6 @@ one_name : (p : Place) (at : IsPlace p) → schema_names contents message_id p �
 one_name p at_message = refl
 one_name p at_text = refl
 one_name p at_node = refl
-
-only_one : (x y : List ℕ) → Contains (x ∷ []) y → x ≡ y
-only_one x y (zero, lt, is) = is
-only_one x y (suc k, lt, is) = absurd (omega (arith, lt))
 
 is_name_at : (p : Place) (at : IsPlace p) (name : List ℕ) → Contains (schema_names contents message_id p) name → name_at p at ≡ name
 is_name_at p at name inside = only_one (name_at p at) name (subst (λ xs. Contains xs name) (one_name p at) inside)

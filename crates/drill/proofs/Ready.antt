@@ -1,7 +1,7 @@
 -- The built-in message breaks no rule.
 use Rattle.reference_check.specs.Graph.{Place}
-use Rattle.message_model.specs.Ready.{MessageRule, OnObjects, BadFacets, BadPattern, BreaksMessageRule, IsReady}
 use Rattle.reference_check.specs.Rules as rules
+use Rattle.message_model.specs.Ready.{MessageRule, OnObjects, BadFacets, BadPattern, BreaksMessageRule, IsReady}
 use Rattle.drill.specs.BuiltIn.{contents, message_id}
 use Rattle.drill.proofs.ReachedPlaces.{IsPlace, among}
 use Rattle.drill.proofs.StructureRules.{is_there, is_one, entries_there, no_set, one_each, good_names, tags_differ, good_bounds, no_optional, no_alternatives, not_endless}

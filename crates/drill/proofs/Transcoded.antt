@@ -1,7 +1,7 @@
 -- A transcoding of an instance in memory ends well, or for want of memory.
 use Rattle.std.proofs.Common.{◌≡◌, ℕ, List, Option, Some, Result, Ok, Err, refl, sym, ◌∙◌, arith}
-use Rattle.outside.specs.Source.{Rose}
 use Rattle.std.specs.Io.KnownBytes.{Appends}
+use Rattle.outside.specs.Source.{Rose}
 use Rattle.outside.specs.declared.errors.WriteError.TheVariants as written
 use Rattle.message_model.specs.declared.fault.Fault.{Fault}
 use Rattle.transcoder.specs.Transcoding.{IsTranscoded, unread, pushed}

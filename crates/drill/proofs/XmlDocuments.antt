@@ -2,14 +2,14 @@
 use Rattle.std.proofs.Common.{◌≡◌, ◌≢◌, inl, ℕ, ◌+◌, ◌≤◌, List, [], ◌∷◌, ◌++◌, Some, None, codes, length, flat_map, refl, sym, ap, ap₂, subst, ◌∙◌, arith, length-append, append-nil}
 use Rattle.lexical_core.specs.Characters.{IsXmlText}
 use Rattle.lexical_core.specs.Tree.{Expanded, Nodes, Nothing, Element, Tree, flat}
-use Rattle.fragments.specs.Plain.{ArePlain, IsPlain}
 use Rattle.lexical_core.specs.Names.{xml_namespace, xmlns_namespace}
-use Rattle.fragments.specs.Fragment.{value_byte, start_text, end_text, nodes_text, fragment}
 use Rattle.markup.specs.Token.{Token, LineEnd, Lf, token_bytes}
-use Rattle.message_model.specs.Writes.{name_in_namespace}
+use Rattle.fragments.specs.Plain.{ArePlain, IsPlain}
+use Rattle.fragments.specs.Fragment.{value_byte, start_text, end_text, nodes_text, fragment}
 use Rattle.respell.specs.ShortTags.{HaveShortTags}
 use Rattle.respell.proofs.Runs.{AllStand, AllShort, stand-append, short-append, tokens-append}
 use Rattle.respell.proofs.Trees.{Stays, fragment_within}
+use Rattle.message_model.specs.Writes.{name_in_namespace}
 use Rattle.xml_writer.specs.CanonXml.{start_tag, end_tag, xml_declaration, namespace_text}
 use Rattle.xml_writer.proofs.TagTexts.{end_is, within_is, root_start_is}
 use Rattle.xml_writer.proofs.SpelledDocuments.{declaration, first_tokens, first_bytes, first_stand, document_part}

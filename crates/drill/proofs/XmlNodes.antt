@@ -6,6 +6,7 @@ use Rattle.std.proofs.lemmas.Bool.{cases_Bool}
 use Rattle.lexical_core.specs.Characters.{IsXmlText}
 use Rattle.lexical_core.specs.Tree.{Nodes, Element, Text}
 use Rattle.lexical_core.specs.Tree as tree
+use Rattle.lexical_core.specs.Names.{xml_namespace, xmlns_namespace}
 use Rattle.data_types.specs.Canonical.{escaped_text}
 use Rattle.data_types.specs.Escaping.{escaped_byte, escaped_bytes}
 use Rattle.data_types.specs.Leaf.{Leaf, Bytes, Number, Flag, Code}
@@ -14,12 +15,11 @@ use Rattle.data_types.specs.Value as value
 use Rattle.data_types.proofs.EscapeLemmas.{escaped_chars}
 use Rattle.facets.specs.declared.simple.Simple.{Simple}
 use Rattle.fragments.specs.Plain.{IsPart, IsPlainName, ArePlain}
-use Rattle.lexical_core.specs.Names.{xml_namespace, xmlns_namespace}
 use Rattle.fragments.specs.Fragment.{default_within, start_text, end_text, nodes_text}
+use Rattle.respell.specs.ShortTags.{HaveShortTags}
 use Rattle.reference_check.specs.Forms.{Graph, Form, Slot, form_slots}
 use Rattle.reference_check.specs.Forms as form
 use Rattle.message_model.specs.Writes.{name_in_namespace, text_nodes}
-use Rattle.respell.specs.ShortTags.{HaveShortTags}
 use Rattle.xml_writer.specs.CanonXml.{IsLeafText, IsAttributes, start_tag, end_tag, IsContent, AreElements}
 use Rattle.xml_writer.proofs.SpelledLeaves.{text_plain, text_written}
 use Rattle.xml_writer.proofs.TagTexts.{start_is, end_is, within_is}

@@ -1,33 +1,19 @@
 -- The message that drills make instances of: nodes, each with a name and with nodes below it.
 use Rattle.std.specs.Prelude.{ℕ, List, [], ◌∷◌, Some, None, codes}
-use Rattle.facets.specs.declared.simple.Simple.{Simple}
 use Rattle.data_types.specs.declared.kind.Kind.TheVariants as kind
+use Rattle.facets.specs.declared.simple.Simple.{Simple}
 use Rattle.repo_objects.specs.declared.objects.ElementDef.{ElementDef}
 use Rattle.repo_objects.specs.declared.objects.Kinds.TheVariants as kinds
 use Rattle.repo_objects.specs.declared.objects.MessageDef.{MessageDef}
 use Rattle.repo_objects.specs.declared.objects.Object.{Object}
 use Rattle.repo_objects.specs.declared.objects.ObjectKind.TheVariants as object
-use Rattle.repo_objects.specs.declared.objects.RawFacets.{RawFacets}
+use Rattle.repo_objects.specs.Objects.{no_facets}
 use Rattle.repo_objects.specs.Repository.{Contents}
 use Rattle.reference_check.specs.Forms as form
 use Rattle.reference_check.specs.Forms.{Slot}
 use Rattle.message_model.specs.Tables.{Tables, TypeEntry}
 
 -- ---- the repository
-
-abbrev pub no_facets : RawFacets
-no_facets = record {
-  min_length = None;
-  max_length = None;
-  length = None;
-  total = None;
-  fraction = None;
-  min_in = None;
-  min_ex = None;
-  max_in = None;
-  max_ex = None;
-  pattern = None;
-}
 
 -- the ids of the text and of the node
 abbrev pub text_id : List ℕ

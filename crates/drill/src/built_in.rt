@@ -3,7 +3,7 @@ ghost use Rattle.std.specs.Prelude.{◌≡◌, IfOk, OnOk, [], ◌∷◌, ◌++�
 ghost use Rattle.lexical_core.specs.Characters.{IsXmlText};
 ghost use Rattle.repo_objects.specs.Objects.{HasObjectTexts};
 ghost use Rattle.repo_objects.specs.Repository.{HasId};
-ghost use Rattle.drill.specs.BuiltIn.{contents, no_facets, text_id, text_object, name_element, child_element, node_object, node_block, tree_message};
+ghost use Rattle.drill.specs.BuiltIn.{contents, text_id, text_object, name_element, child_element, node_object, node_block, tree_message};
 
 use lexical_core::Text;
 use repo_objects::{
@@ -77,24 +77,6 @@ fn text_of(alloc: Global, word: &str) -> Result<Text, AllocError>
     Ok(text)
 }
 
-/// No facet.
-fn without_facets() -> RawFacets
-    ensures { result ≡ no_facets }
-{
-    RawFacets {
-        min_length: None,
-        max_length: None,
-        length: None,
-        total: None,
-        fraction: None,
-        min_in: None,
-        min_ex: None,
-        max_in: None,
-        max_ex: None,
-        pattern: None,
-    }
-}
-
 /// The text of 1 to 35 characters.
 fn text(alloc: Global) -> Result<Object, AllocError>
     ensures { IfOk result (λ o. o ≡ text_object) }
@@ -108,7 +90,7 @@ fn text(alloc: Global) -> Result<Object, AllocError>
         facets: RawFacets {
             min_length: Some(1),
             max_length: Some(35),
-            ..without_facets()
+            ..RawFacets::none()
         },
         elements: Elements::new(alloc),
         codes: CodeDefs::new(alloc),
@@ -166,7 +148,7 @@ fn node(alloc: Global) -> Result<Object, AllocError>
         name,
         kind: ObjectKind::Component,
         word,
-        facets: without_facets(),
+        facets: RawFacets::none(),
         elements,
         codes: CodeDefs::new(alloc),
         trace: None,

@@ -1,9 +1,9 @@
 //! Both forms of an instance, brought into each other and compared.
 ghost use Rattle.std.specs.Prelude.{◌≡◌, ◌≤◌, IfOk, length};
 ghost use Rattle.data_types.specs.Value.{Value};
+ghost use Rattle.message_model.specs.Tables.{message_of};
 ghost use Rattle.der_model.specs.Der.{der_of, SpellsDer};
 ghost use Rattle.der_model.specs.DerMessage.{der_message};
-ghost use Rattle.message_model.specs.Tables.{message_of};
 ghost use Rattle.xml_instances.specs.SpellsXml.{SpellsXml};
 ghost use Rattle.xml_instances.specs.XmlFaults.{xml_limit};
 ghost use Rattle.xml_writer.specs.CanonXml.{IsCanonXml};

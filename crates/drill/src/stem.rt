@@ -4,9 +4,9 @@ ghost use Rattle.data_types.specs.Leaf.{Bytes};
 ghost use Rattle.data_types.specs.Value.{Begins, Holds, Ends};
 ghost use Rattle.data_types.specs.LeafAnswers.{leaf_of};
 ghost use Rattle.fragments.specs.Fragment.{fragment};
+ghost use Rattle.inst_pool.specs.Pieces.{open_in};
 ghost use Rattle.message_model.specs.Tables.{pieces_of};
 ghost use Rattle.drill.specs.BuiltIn.{drill_tables};
-ghost use Rattle.inst_pool.specs.Pieces.{open_in};
 ghost use Rattle.drill.specs.Growing.{Path, path_outside, path_after, path_under, node_name, tree_of, document};
 ghost use Rattle.drill.specs.inner.PathPieces.{HasPath, name_edge, first_path};
 

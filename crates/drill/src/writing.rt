@@ -1,11 +1,11 @@
 //! An instance, written in both forms.
 ghost use Rattle.std.specs.Prelude.{◌≡◌, IfOk};
 ghost use Rattle.data_types.specs.Value.{Value};
-ghost use Rattle.der_model.specs.Der.{der_of};
-ghost use Rattle.der_model.specs.DerMessage.{der_message};
 ghost use Rattle.fragments.specs.Fragment.{fragment};
 ghost use Rattle.message_model.specs.Admits.{AdmitsAs};
 ghost use Rattle.message_model.specs.Tables.{message_of, pieces_of, types_of};
+ghost use Rattle.der_model.specs.Der.{der_of};
+ghost use Rattle.der_model.specs.DerMessage.{der_message};
 ghost use Rattle.xml_writer.specs.CanonXml.{IsCanonXml};
 
 use der_writer::{measure, write_der};

@@ -10,6 +10,7 @@ use Rattle.data_types.specs.Collapsing.{HasCollapsed}
 use Rattle.data_types.specs.declared.collapse.Collapse.{Collapse}
 use Rattle.data_types.specs.declared.kind.Kind.{Kind}
 use Rattle.data_types.specs.declared.kind.Kind.TheVariants as kind
+use Rattle.data_types.specs.LeafSteps.{IsShortKind}
 use Rattle.facets.specs.declared.asked.Asked.{Asked}
 use Rattle.facets.specs.declared.asked.Asked.TheVariants.{Text, Collapsed}
 use Rattle.facets.specs.declared.simple.Simple.{Simple}
@@ -115,3 +116,11 @@ asked_within check simple text fits (inr ((is, most, has, long), some, h)) =
 pub asked_other : (check : Asked) (simple : Simple) (text : List ℕ) → simple.kind ≢ kind.Text → HasFollowed check simple text → HasAsked check simple text
 asked_other check simple text other (inl h) = h
 asked_other check simple text other (inr (long, some, h)) = absurd (other long.0)
+
+-- the text of a date or a time is kept as a short one
+pub date_is_short : (k : Kind) → IsDateKind k → IsShortKind k
+date_is_short k d = record {
+  no_text = λ e. subst IsDateKind e d;
+  no_decimal = λ e. subst IsDateKind e d;
+  no_binary = λ e. subst IsDateKind e d;
+}

@@ -1,10 +1,10 @@
 -- Whether a value that is no text fits a simple type: its canonical text, and the one rule that this breaks.
 use Rattle.std.proofs.Common.{◌≡◌, inl, ℕ, List, [], length, refl, sym, subst}
+use Rattle.base64.specs.GeneralPurpose.{IsBytes}
 use Rattle.lexical_core.specs.Decimals.{Number as DecimalNumber, IsDecimal, decimal_spelling}
 use Rattle.lexical_core.specs.CanonicalDecimals.{canonical_parts}
 use Rattle.lexical_core.specs.declared.rule.Rule.TheVariants.{BadLength, Digits, OutOfRange}
 use Rattle.lexical_core.proofs.Written.{canonical_is}
-use Rattle.base64.specs.GeneralPurpose.{IsBytes}
 use Rattle.data_types.specs.Leaf.{Bytes, Number, IsLeaf}
 use Rattle.data_types.specs.Binaries.{binary_text}
 use Rattle.data_types.specs.Canonical.{IsCanonicalLeaf}

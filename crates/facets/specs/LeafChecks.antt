@@ -7,13 +7,13 @@ use Rattle.lexical_core.specs.declared.rule.Rule.TheVariants.{NotACode}
 use Rattle.data_types.specs.LeafAnswers.{leaf_of}
 use Rattle.data_types.specs.declared.leaf.LeafRef.{LeafRef}
 use Rattle.data_types.specs.Leaf.{Leaf, Bytes, Number}
+use Rattle.data_types.specs.LeafSteps.{HasTakenLeaf, kept_by_step as kept_by, in_place as in_place_of, room as room_of, spare as spare_of}
+use Rattle.data_types.specs.declared.kind.Kind.{Kind}
+use Rattle.data_types.specs.declared.kind.Kind.TheVariants as kind
 use Rattle.facets.specs.LeafUnder.{IsCodeAt}
 use Rattle.facets.specs.Facets.{HasLength}
 use Rattle.facets.specs.Rules.{BreaksPattern, BreaksFirst}
 use Rattle.facets.specs.Checks.{IsLengthAnswer, IsNumberAnswer}
-use Rattle.data_types.specs.LeafSteps.{HasTakenLeaf, kept_by_step as kept_by, in_place as in_place_of, room as room_of, spare as spare_of}
-use Rattle.data_types.specs.declared.kind.Kind.{Kind}
-use Rattle.data_types.specs.declared.kind.Kind.TheVariants as kind
 use Rattle.facets.specs.declared.leaf_check.LeafCheck.{LeafCheck}
 use Rattle.facets.specs.declared.progress.Progress.{Progress}
 use Rattle.facets.specs.declared.simple.Simple.{Simple}

@@ -4,8 +4,8 @@ ghost use Rattle.std.specs.List.{AllByRecursion};
 ghost use Rattle.std.specs.Str.{chars};
 ghost use Rattle.lexical_core.specs.XmlRuns.{IsXmlRun};
 ghost use Rattle.lexical_core.specs.Characters.{IsSpace};
-ghost use Rattle.data_types.specs.Collapsing.{gain_of, gap_text, HasCollapsed};
 ghost use Rattle.pattern_match.specs.Compiled.{HasReadWord, IsMadeFor};
+ghost use Rattle.data_types.specs.Collapsing.{gain_of, gap_text, HasCollapsed};
 ghost use Rattle.facets.specs.Counts.{HasCounted};
 ghost use Rattle.facets.specs.PatternChecks.{HasAsked, HasFollowed, TellsPattern};
 

@@ -1,11 +1,11 @@
 //! A builder of instances.
 ghost use Rattle.std.specs.Prelude.{◌≡◌, ◌+◌, ◌<◌, ◌≤◌, List, [], ◌∷◌, ◌++◌, length, Some, OnOk, OnErr, IfOk, IsOk, vec_capacity};
-ghost use Rattle.data_types.specs.Leaf.{Leaf, Bytes as BytesLeaf};
+ghost use Rattle.data_types.specs.Leaf.{Leaf, Bytes as BytesLeaf, octet_count};
 ghost use Rattle.data_types.specs.LeafAnswers.{leaf_of};
 ghost use Rattle.data_types.specs.Value.{Edge as EdgeOf, Begins, Holds, Ends};
 ghost use Rattle.inst_pool.specs.Blocks.{AreBuilding, region_of};
 ghost use Rattle.inst_pool.specs.Contents.{plain_leaf, room_of};
-ghost use Rattle.inst_pool.specs.Pieces.{edge_of, leaf_bytes, open_in, spare_nodes, spare_bytes, room_limit};
+ghost use Rattle.inst_pool.specs.Pieces.{edge_of, open_in, spare_nodes, spare_bytes, room_limit};
 
 use crate::blocks::{Blocks, make_piece_room};
 use crate::content::Content;
@@ -106,7 +106,7 @@ impl Builder {
     pub fn leaf(&mut self, leaf: LeafRef<'_>) -> Result<(), AllocError>
         ensures ok { OnOk result (self.new.pieces ≡ self.old.pieces ++ Holds (leaf_of leaf.entry) ∷ []) }
         ensures err { OnErr result (self.new.pieces ≡ self.old.pieces) }
-        ensures within { 0 < spare_nodes self.old → leaf_bytes (leaf_of leaf.entry) ≤ spare_bytes self.old → IsOk result }
+        ensures within { 0 < spare_nodes self.old → octet_count (leaf_of leaf.entry) ≤ spare_bytes self.old → IsOk result }
         ensures room { (self.old.node_room ≤ self.new.node_room) × (self.old.byte_room ≤ self.new.byte_room) }
     {
         match leaf {

@@ -1,5 +1,5 @@
 -- Facts on the tables of characters.
-use Rattle.std.proofs.Common.{◌≡◌, ℕ, true, List, [], ◌∷◌, inl, inr, refl, arith}
+use Rattle.std.proofs.Common.{◌≡◌, ℕ, true, List, [], ◌∷◌, ◌++◌, inl, inr, refl, arith}
 use Rattle.std.proofs.lemmas.Bool.Decides.{nat_tests}
 use Rattle.std.specs.Char.{IsScalar}
 use Rattle.std.specs.List.{AllByRecursion}
@@ -23,3 +23,7 @@ xml_scalars (c ∷ cs) (first, rest) = rw (IsScalar-xml_char c first) (xml_scala
 -- a text of XML is UTF-8
 pub xml_text_is_utf8 : (text : List ℕ) → IsXmlText text → IsUtf8 text
 xml_text_is_utf8 text (cs, all, spelled) = (cs, (xml_scalars cs all, spelled))
+
+pub chars_joined : (cs ds : List ℕ) → AllByRecursion IsXmlChar cs → AllByRecursion IsXmlChar ds → AllByRecursion IsXmlChar (cs ++ ds)
+chars_joined [] ds h g = g
+chars_joined (c ∷ cs) ds h g = (h.0, chars_joined cs ds h.1 g)

@@ -16,6 +16,7 @@ use Rattle.lexical_core.specs.declared.decimal_text.DecimalText.{DecimalText}
 use Rattle.lexical_core.specs.declared.decimal_text.DecimalText.TheVariants.{Value, TooLong, Bad}
 use Rattle.lexical_core.specs.declared.decimal_text.Stage.{Stage}
 use Rattle.lexical_core.specs.declared.decimal_text.DecimalStep.{DecimalStep}
+use Rattle.lexical_core.proofs.Lists.{nothing_joined}
 
 -- a text begins with no sign
 abbrev pub NoSign : List ℕ → Type 0
@@ -164,22 +165,18 @@ fraction_digit s s' text c digit w e low same some grows =
           (subst (λ v. AreDigitsOf s'.digits v (length w.after + 1)) (sym value) grown);
     }
 
-empty_parts : (xs ys : List ℕ) → [] ≡ xs ++ ys → (xs ≡ []) × (ys ≡ [])
-empty_parts [] ys e = (refl, sym e)
-empty_parts (x ∷ xs) ys e = absurd (cc)
-
 not_minus : (negative : Bool) (sign : List ℕ) → IsSign negative sign → sign ≡ [] → negative ≡ false
 not_minus false sign is e = refl
 not_minus true sign is e = absurd (cc)
 
 -- before the first character
 pub not_negative : (s : DecimalStep) (text : List ℕ) → ReadWhole s text → text ≡ [] → s.negative ≡ false
-not_negative s text w none = not_minus s.negative w.sign w.sign_is (empty_parts w.sign w.digits (sym none ∙ w.spelled)).0
+not_negative s text w none = not_minus s.negative w.sign w.sign_is (nothing_joined w.sign w.digits (sym none ∙ w.spelled)).0
 
 pub first_sign : (s s' : DecimalStep) (text : List ℕ) (c : ℕ) → ReadWhole s text → text ≡ [] → IsSign s'.negative (c ∷ []) → s'.digits ≡ s.digits
     → ReadWhole s' (text ++ c ∷ []) × (0 < length (text ++ c ∷ []))
 first_sign s s' text c w none is digits =
-    let empty = empty_parts w.sign w.digits (sym none ∙ w.spelled) in (
+    let empty = nothing_joined w.sign w.digits (sym none ∙ w.spelled) in (
       record {
         sign = c ∷ [];
         digits = [];
@@ -195,8 +192,8 @@ first_sign s s' text c w none is digits =
 
 pub empty_is_none : IsDecimalText [] → ⊥
 empty_is_none t =
-    let one = empty_parts t.1.sign (t.1.whole ++ point_text t.1.fraction) t.3 in
-    let two = empty_parts t.1.whole (point_text t.1.fraction) (sym one.1) in
+    let one = nothing_joined t.1.sign (t.1.whole ++ point_text t.1.fraction) t.3 in
+    let two = nothing_joined t.1.whole (point_text t.1.fraction) (sym one.1) in
     let some = t.2.some in
     omega (arith, ap length two.0, ap length (point_none t.1.fraction (sym two.1)))
 

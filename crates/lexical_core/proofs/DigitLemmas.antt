@@ -1,14 +1,11 @@
 -- What the digits read so far make, digit by digit.
 use Rattle.std.proofs.Common.{◌≡◌, ℕ, ◌+◌, ◌*◌, ◌%◌, ◌^◌, ◌<◌, ◌≤◌, ◌⊎◌, inl, inr, min, refl, sym, ap, ◌∙◌, arith, Bool, true, false}
 use Rattle.std.proofs.Math.Nat.{mul-le-mul_left}
+use Rattle.std.proofs.lemmas.Bool.{cases_Bool}
 use Rattle.lexical_core.specs.Decimals.{Number, IsNumber, HasNoDecimal}
 use Rattle.lexical_core.specs.DecimalSoFar.{AreDigitsOf}
 use Rattle.lexical_core.specs.declared.digits.Digits.{Digits}
 use Rattle.lexical_core.proofs.Scales.{pow_positive, pow_more, pow_split, no_decimal, IsNumber-same}
-
-pub bool_cases : (b : Bool) → (b ≡ true) ⊎ (b ≡ false)
-bool_cases true = inl refl
-bool_cases false = inr refl
 
 pub whole_fits : (d e : Digits) (digit value : ℕ) → AreDigitsOf d value 0 → e.zeros ≡ d.zeros → e.long ≡ d.long → e.scale ≡ d.scale
     → e.size ≡ d.size * 10 ^ 1 + digit → AreDigitsOf e (value * 10 + digit) 0
@@ -36,7 +33,7 @@ whole_long d e digit value h zeros long great =
     let no_zeros : h.zeros ≡ 0 = omega arith in
     let power = ap (λ n. 10 ^ n) no_zeros in
     let plain : value ≡ h.size = value_is ∙ (ap (λ n. h.size * n) power ∙ omega arith) in
-    let size_great : 10 ^ 18 ≤ h.size * 10 + digit = elim (bool_cases d.long) [
+    let size_great : 10 ^ 18 ≤ h.size * 10 + digit = elim (cases_Bool d.long) [
       | inl full ↦ elim (h.too_long full) [ inl big ↦ omega arith | inr deep ↦ absurd (omega arith) ]
       | inr short ↦ let same = (h.kept short).0 in omega arith
     ] in
@@ -110,7 +107,7 @@ still_long : (d : Digits) (digit value count : ℕ) → AreDigitsOf d value coun
 still_long d digit value count h' why h =
     let kept = h.zeros_kept in
     let grows = not_less h.size (h.zeros + 1) digit in
-    elim (bool_cases d.long) [
+    elim (cases_Bool d.long) [
       | inl full ↦ elim (h.too_long full) [ inl great ↦ inl (omega arith) | inr deep ↦ inr (omega arith) ]
       | inr short ↦ let old = h.kept short in let size = old.0 in let scale = old.1 in
           elim why [

@@ -18,3 +18,5 @@ pub mod LaneRuns
 pub mod PlacedBytes
 mod SameWords
 pub mod SameTrees
+pub mod EqualBytes
+pub mod Tests

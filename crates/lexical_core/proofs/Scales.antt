@@ -3,8 +3,8 @@ use Rattle.std.proofs.Common.{◌≡◌, ℕ, zero, suc, ◌+◌, ◌-◌, ◌*�
 use Rattle.std.proofs.lemmas.Bool.{cases_lt}
 use Rattle.std.proofs.lemmas.Nat.{pow-add}
 use Rattle.std.proofs.Math.Nat.{pow-suc, mul-le-mul_left}
-use Rattle.lexical_core.specs.Decimals.{Number, IsNumber, IsDecimal, HasNoDecimal}
 use Rattle.std.specs.Int.RustNames.{unsigned_abs}
+use Rattle.lexical_core.specs.Decimals.{Number, IsNumber, IsDecimal, HasNoDecimal}
 
 pub pow_positive : (k : ℕ) → 0 < 10 ^ k
 pow_positive zero = lit< tt

@@ -7,6 +7,7 @@ use Rattle.std.specs.Ordering.{is_lt, ordering_reverse}
 use Rattle.std.specs.declared.cmp.Ordering.{Ordering}
 use Rattle.std.specs.declared.cmp.Ordering.TheVariants.{Less, Equal, Greater}
 use Rattle.std.proofs.lemmas.List.Sorted.{ranks_by, sorted_far}
+use Rattle.lexical_core.proofs.Lists.{same_first, same_rest}
 
 -- the element put at its place
 abbrev pub put_by : {X : Type 0} → (X → X → Ordering) → X → List X → List X
@@ -143,12 +144,6 @@ not_alone {R = R} o z zs same =
     let there : [] ≡ z ∷ rest = same ∙ ap (λ t. cond t (z ∷ rest) rest) (ties_self o z) in
     absurd cc
 
-cons_heads : {X : Type 0} (x y : X) (xs ys : List X) → x ∷ xs ≡ y ∷ ys → x ≡ y
-cons_heads x y xs ys e = cc
-
-cons_tails : {X : Type 0} (x y : X) (xs ys : List X) → x ∷ xs ≡ y ∷ ys → xs ≡ ys
-cons_tails x y xs ys e = cc
-
 same_heads : {X : Type 0} {R : X → X → Ordering} → IsTotalOrder R → (y z : X) (ys zs : List X) → NoneLess R y ys → NoneLess R z zs
     → ((w : X) → filter (ties (by_less R) w) (y ∷ ys) ≡ filter (ties (by_less R) w) (z ∷ zs)) → y ≡ z
 same_heads {R = R} o y z ys zs all_y all_z same = case (by_less R y z) (by_less R z y) refl refl
@@ -160,10 +155,10 @@ same_heads {R = R} o y z ys zs all_y all_z same = case (by_less R y z) (by_less 
         let tied : ties (by_less R) y z ≡ true = ap (λ b. not b && not (by_less R z y)) e ∙ ap not f in
         let left : List _ = filter (ties (by_less R) y) ys in
         let right : List _ = filter (ties (by_less R) y) zs in
-        cons_heads y z left right (sym (ap (λ t. cond t (y ∷ left) left) (ties_self o y)) ∙ same y ∙ ap (λ t. cond t (z ∷ right) right) tied)
+        same_first y z left right (sym (ap (λ t. cond t (y ∷ left) left) (ties_self o y)) ∙ same y ∙ ap (λ t. cond t (z ∷ right) right) tied)
 
 same_tails : {X : Type 0} (b c : Bool) (y z : X) (ys zs : List X) → b ≡ c → cond b (y ∷ ys) ys ≡ cond c (z ∷ zs) zs → ys ≡ zs
-same_tails true true y z ys zs e same = cons_tails y z ys zs same
+same_tails true true y z ys zs e same = same_rest y z ys zs same
 same_tails true false y z ys zs e same = absurd cc
 same_tails false true y z ys zs e same = absurd cc
 same_tails false false y z ys zs e same = same

@@ -1,5 +1,5 @@
 -- Decimals as they are written: how long their texts are, and that these are the canonical ones.
-use Rattle.std.proofs.Common.{◌≡◌, ℕ, zero, suc, ◌+◌, ◌-◌, ◌*◌, ◌/◌, ◌%◌, ◌^◌, ◌<◌, ◌≤◌, ◌==◌, cond, le-ltb, inl, inr, Bool, true, false, List, [], ◌∷◌, ◌++◌, length, get_or, Some, None, ℤ, pos, negsuc, refl, sym, ap, subst, ◌∙◌, arith, append_assoc, length-append, lit<}
+use Rattle.std.proofs.Common.{◌≡◌, ℕ, zero, suc, ◌+◌, ◌-◌, ◌*◌, ◌/◌, ◌%◌, ◌^◌, ◌<◌, ◌≤◌, cond, le-ltb, inl, inr, Bool, true, false, List, [], ◌∷◌, ◌++◌, length, get_or, Some, None, ℤ, pos, negsuc, refl, sym, ap, subst, ◌∙◌, arith, append_assoc, length-append, lit<}
 use Rattle.std.proofs.lemmas.Bool.{cases_lt}
 use Rattle.std.proofs.lemmas.Bool.Decides.{nat_tests}
 use Rattle.std.proofs.lemmas.List.{append-nil, get_or_push}
@@ -18,6 +18,7 @@ use Rattle.lexical_core.specs.Reals.{minus_text, exponent_text, IsReal, IsRealNu
 use Rattle.lexical_core.specs.Exponents.{exponent_for}
 use Rattle.lexical_core.proofs.Numerals.{decimal_is_numeral, value_ends_back}
 use Rattle.lexical_core.proofs.Scales.{pow_positive, pow_more, pow_split, pow_le}
+use Rattle.lexical_core.proofs.Tests.{suc_not_zero}
 
 -- the digits before the point, with those after it
 pub whole_room : (size scale : ℕ) → size < 10 ^ 18 → scale ≤ 18 → length (decimal (size / 10 ^ scale)) + scale ≤ 19
@@ -96,9 +97,6 @@ value_with_fixed ds (suc count) n small =
     ap (digits_value 10) (sym (append_assoc ds (fixed_digits count (n / 10)) ((48 + n % 10) ∷ [])))
     ∙ (push ∙ (ap (λ d. digits_value 10 front * 10 + d) value
     ∙ (fixed_value_step (digits_value 10 ds) n (10 ^ count) (digits_value 10 front) rest ∙ ap (λ p. digits_value 10 ds * p + n) (sym power))))
-
-suc_not_zero : (k : ℕ) → (suc k == 0) ≡ false
-suc_not_zero k = grind (arith, nat_tests)
 
 fraction_some : (k rest : ℕ) → fraction_of (suc k) rest ≡ Some (fixed_digits (suc k) rest)
 fraction_some k rest = ap (λ b. cond b None (Some (fixed_digits (suc k) rest))) (suc_not_zero k)

@@ -1,5 +1,5 @@
 -- Look-ups of prefixes by the map, and the declarations that are open.
-use Rattle.std.proofs.Common.{◌≡◌, ℕ, zero, suc, ◌+◌, ◌<◌, Bool, true, false, ◌||◌, leb, List, [], ◌∷◌, ◌++◌, length, reverse, drop, get_or, Option, Some, None, ⊎_elim, refl, sym, ap, subst, ◌∙◌, arith}
+use Rattle.std.proofs.Common.{◌≡◌, ℕ, zero, suc, ◌+◌, ◌<◌, Bool, true, false, ◌||◌, leb, List, [], ◌∷◌, ◌++◌, length, reverse, drop, get_or, Option, Some, None, refl, sym, ap, subst, ◌∙◌, arith}
 use Rattle.std.specs.Global.{Vec}
 use Rattle.std.specs.Bool.{if◌then◌else◌}
 use Rattle.std.specs.BTreeMap.{BTreeMap, UpdatesBy}
@@ -9,14 +9,14 @@ use Rattle.std.specs.Option.{unwrap_or, is_some, IsSome}
 use Rattle.std.specs.declared.cmp.Ordering.TheVariants.{Equal}
 use Rattle.std.specs.Ordering.{nat_cmp}
 use Rattle.std.specs.Str.{bytes_eq}
-use Rattle.std.proofs.lemmas.Bool.{le-leb}
-use Rattle.std.proofs.lemmas.Bool.Decides.{leb_tells}
+use Rattle.std.proofs.lemmas.Bool.{le-leb, lt-leb}
 use Rattle.std.proofs.lemmas.List.{reverse-append, reverse-reverse, length-reverse, length-append, get_or_append_left}
 use Rattle.std.proofs.lemmas.Slice.Eq.{bytes_eq-Decides}
 use Rattle.std.proofs.Math.Nat.{suc-add}
 use Rattle.std.proofs.Math.Seq.{get_or-append_seam, drop-nil}
 use Rattle.std.proofs.lemmas.Option.{same_Some}
 use Rattle.lexical_core.proofs.ByteKeys.{key_cmp, found_updated}
+use Rattle.lexical_core.proofs.Lists.{same_parts}
 use Rattle.markup.specs.declared.tag.Given.{Given}
 use Rattle.markup.specs.declared.open_bindings.Binding.{Binding}
 use Rattle.markup.specs.declared.bindings.Bindings.{Bindings}
@@ -28,12 +28,9 @@ use Rattle.markup.specs.inner.Origins.{namespace_from}
 
 -- ---- vectors as stacks
 
-parts_same : {X : Type 0} (x y : X) (xs ys : List X) → x ∷ xs ≡ y ∷ ys → (x ≡ y) × (xs ≡ ys)
-parts_same x y xs ys e = (cc, cc)
-
 -- the last element that is taken from the end is the first in reverse
 pub popped_first : {X : Type 0} (all left : List X) (last first : X) (others : List X) → all ≡ left ++ last ∷ [] → reverse all ≡ first ∷ others → (last ≡ first) × (reverse left ≡ others)
-popped_first all left last first others popped is = parts_same last first (reverse left) others (sym (reverse-append left (last ∷ [])) ∙ sym (ap reverse popped) ∙ is)
+popped_first all left last first others popped is = same_parts last first (reverse left) others (sym (reverse-append left (last ∷ [])) ∙ sym (ap reverse popped) ∙ is)
 
 pub popped_none : {X : Type 0} (all left : List X) (last : X) → all ≡ left ++ last ∷ [] → reverse all ≡ [] → ⊥
 popped_none all left last popped is = let none : last ∷ reverse left ≡ [] = sym (reverse-append left (last ∷ [])) ∙ sym (ap reverse popped) ∙ is in absurd cc
@@ -122,12 +119,9 @@ one_compared kept left right same = sym (same_compared (namespace_from kept left
 
 -- ---- what is open behind the outer declarations
 
-leb_no : (m i : ℕ) → i < m → leb m i ≡ false
-leb_no m i h = ⊎_elim (λ t. absurd (omega (arith, t.1))) (λ t. t.0) (leb_tells m i)
-
 -- a place is behind those of the outer declarations where one of the others declares the prefix
 pub is_behind : (own before : List Given) (p : List ℕ) (i : ℕ) → place_declared (own ++ before) p ≡ Some i → leb (length before) i ≡ list_any (declares p) own
-is_behind [] before p i e = leb_no (length before) i (place_within before p i e)
+is_behind [] before p i e = lt-leb (length before) i (place_within before p i e)
 is_behind (d ∷ own) before p i e = case (declares p d) refl (is_behind own before p i)
   where
     case : (b : Bool) → declares p d ≡ b → (place_declared (own ++ before) p ≡ Some i → leb (length before) i ≡ list_any (declares p) own) → leb (length before) i ≡ list_any (declares p) (d ∷ own)

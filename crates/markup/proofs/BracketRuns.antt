@@ -12,6 +12,7 @@ use Rattle.std.proofs.Math.Seq.{take-append_seam}
 use Rattle.lexical_core.specs.Characters.{IsXmlChar}
 use Rattle.lexical_core.specs.Tree.{Char}
 use Rattle.lexical_core.specs.declared.rule.Rule.TheVariants.{TextOutside}
+use Rattle.lexical_core.proofs.Tests.{same_number}
 use Rattle.markup.specs.Chars.{is_space, is_xml_char}
 use Rattle.markup.specs.Token.{Token, Character}
 use Rattle.markup.specs.Marks.{in_cdata, stands_in_cdata, stands_outside}
@@ -25,12 +26,12 @@ use Rattle.markup.specs.Tokenizers.{is_text, is_in_text, after_whole_tokens}
 use Rattle.markup.specs.Reading.{HasTakenUnder, HasToldUnder}
 use Rattle.markup.specs.declared.context.Context.{Context}
 use Rattle.markup.specs.declared.reader.Reader.{Reader}
-use Rattle.markup.specs.declared.tokenizer.Tokenizer.{Tokenizer}
 use Rattle.markup.proofs.CharLemmas.{classes}
 use Rattle.markup.proofs.PlainLemmas.{is_fresh, text_place, text_between}
 use Rattle.markup.proofs.ReaderLemmas.{told_so_far}
 use Rattle.markup.proofs.TokenRuleLemmas.{in_cdata-open}
 use Rattle.markup.proofs.WholeTokens.{IsNext, takes_next}
+use Rattle.markup.proofs.CharacterRuns.{at_place}
 
 -- ---- a run of them, found from the front
 
@@ -127,18 +128,12 @@ bracket_next before text inside = record {
 
 -- ---- a reader behind them
 
-abbrev pub at_place : Tokenizer → ℕ → Tokenizer
-at_place z p = record { alloc = z.alloc; limit = z.limit; utf8 = z.utf8; position = z.position; scan = z.scan; draft = z.draft; start = p; place = p }
-
 abbrev pub behind : Context → ℕ → Context
 behind k b = record { scope = k.scope; has_root = k.has_root; brackets = b }
 
 -- the reader at a place between tokens, behind so many literal `]`
 abbrev pub at : Reader → ℕ → ℕ → Reader
 at r p b = record { tokenizer = at_place r.tokenizer p; context = behind r.context b; failed = r.failed }
-
-pub same_place : (p : ℕ) → (p == p) ≡ true
-same_place p = grind (arith, nat_tests)
 
 -- the count of literal `]` behind these
 abbrev count_behind : ℕ → List ℕ → ℕ
@@ -178,12 +173,12 @@ module _ {limit : ℕ} (r : Reader) (text : is_text r.tokenizer.scan ≡ true) (
   step_bracket p b c bytes told e h =
       subst (λ q. HasTakenUnder limit (at r (p + length (encode_utf8 c)) (one_more b)) (bytes ++ encode_utf8 c) (told ++ record { place = q; item = Char c } ∷ [])) (sym h.1.place)
       (subst (λ v. HasTakenUnder limit (at r (p + length (encode_utf8 c)) (one_more b)) (bytes ++ v) (told ++ placed_at (length bytes) (Char c ∷ []))) (append-nil (encode_utf8 c))
-      (takes_next (at r p b) bytes told h (text_between r.tokenizer.scan text) (same_place p) (Character c) (length (encode_utf8 c)) (behind r.context (one_more b)) next (ap length (sym (append-nil (encode_utf8 c)))) context)) where
+      (takes_next (at r p b) bytes told h (text_between r.tokenizer.scan text) (same_number p) (Character c) (length (encode_utf8 c)) (behind r.context (one_more b)) next (ap length (sym (append-nil (encode_utf8 c)))) context)) where
         inside : is_outside (reverse h.0) ≡ false
         inside = within (open_tags (reverse h.0)) h.1.context.scope
 
         no_cdata : in_cdata (reverse h.0) ≡ false
-        no_cdata = in_cdata-open (at_place r.tokenizer p) (reverse h.0) h.1.reads.bytes h.1.reads.opens ∙ text_place r.tokenizer.scan r.tokenizer.position text (is_fresh (at_place r.tokenizer p) (text_between r.tokenizer.scan text) (same_place p) (reverse h.0) h.1.reads.bytes h.1.reads.opens).scan_here
+        no_cdata = in_cdata-open (at_place r.tokenizer p) (reverse h.0) h.1.reads.bytes h.1.reads.opens ∙ text_place r.tokenizer.scan r.tokenizer.position text (is_fresh (at_place r.tokenizer p) (text_between r.tokenizer.scan text) (same_number p) (reverse h.0) h.1.reads.bytes h.1.reads.opens).scan_here
 
         next : IsNext limit (reverse h.0) (Character c)
         next = subst (λ (x : ℕ). IsNext limit (reverse h.0) (Character x)) (sym e) (bracket_next (reverse h.0) no_cdata inside)

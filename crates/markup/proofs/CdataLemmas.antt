@@ -20,8 +20,8 @@ use Rattle.markup.specs.declared.tokenizer.Tokenizer.{Tokenizer}
 use Rattle.markup.proofs.TokenKinds.{never_in}
 use Rattle.markup.proofs.Complete.{complete}
 use Rattle.markup.proofs.NoTokens.{Shorter, Longer, compare_texts, no_whole}
-use Rattle.markup.proofs.OneFault.{past, behind}
 use Rattle.markup.proofs.InputLemmas.{reverse_snoc, clean_snoc, bracket_bytes}
+use Rattle.markup.proofs.TokensBehind.{tokens_behind, behind}
 
 -- where a CDATA section is open, so is an element
 abbrev IsInside : List Token → Type 0
@@ -46,7 +46,7 @@ still_inside before (Refer r) after s c k = k
 still_inside before (LineEnd l) after s c k = k
 still_inside before (Character x) after s c k = k
 
-inside_past : (limit : ℕ) (before ts : List Token) (b rest : List ℕ) → Front limit before b ts rest → IsClean before ts → IsInside before → IsInside (past before ts)
+inside_past : (limit : ℕ) (before ts : List Token) (b rest : List ℕ) → Front limit before b ts rest → IsClean before ts → IsInside before → IsInside (tokens_behind before ts)
 inside_past limit before [] b rest f c k = k
 inside_past limit before (t ∷ ts) b rest f c k = inside_past limit (t ∷ before) ts f.0 rest f.3 c.1 (still_inside before t f.0 f.1.is c.0 k)
 

@@ -2,13 +2,13 @@
 use Rattle.std.proofs.Common.{◌≡◌, ◌↔◌, ℕ, Bool, true, false, ◌||◌, ◌==◌, List, [], ◌∷◌, length, ◌≤◌, ◌⊎◌, inl, inr, refl, sym, arith}
 use Rattle.std.specs.Char.{is_digit, to_ascii_lowercase, IsScalar, encode_utf8}
 use Rattle.std.specs.Prelude.{None}
-use Rattle.markup.specs.ReferenceScans.{numbered_char}
 use Rattle.std.specs.Int.{is_in_range}
 use Rattle.std.proofs.lemmas.Bool.{or_left, or_right, or_cases, and_parts, and_from, leb-true, le-leb, true≢false, cases_Bool}
 use Rattle.std.proofs.lemmas.Bool.Decides.{nat_tests}
 use Rattle.std.proofs.lemmas.Str.{length-encode, len_utf8_bounds}
-use Rattle.markup.specs.Chars.{is_xml_char, is_name_start, is_name_char, is_space, in_some, xml_ranges, name_start_ranges, name_more_ranges, AreClasses}
 use Rattle.lexical_core.specs.Characters.{IsInSome, IsXmlChar, IsNameStart, IsNameChar}
+use Rattle.markup.specs.ReferenceScans.{numbered_char}
+use Rattle.markup.specs.Chars.{is_xml_char, is_name_start, is_name_char, is_space, in_some, xml_ranges, name_start_ranges, name_more_ranges, AreClasses}
 
 -- white space is no character of a name, and no colon
 pub space_no_name : (c : ℕ) → is_space c ≡ true → is_name_char c ≡ false

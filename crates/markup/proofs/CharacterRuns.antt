@@ -8,6 +8,7 @@ use Rattle.std.proofs.lemmas.List.{length-take-le}
 use Rattle.std.proofs.lemmas.Bool.Decides.{nat_tests}
 use Rattle.lexical_core.specs.Tree.{Char}
 use Rattle.lexical_core.specs.declared.rule.Rule.TheVariants.{BadMarkup, TextOutside}
+use Rattle.lexical_core.proofs.Tests.{suc_not_zero, same_number}
 use Rattle.markup.specs.Chars.{is_space, is_xml_char}
 use Rattle.markup.specs.Token.{Token, Mark, LineEnd, Lf, Character, token_bytes}
 use Rattle.markup.specs.Marks.{in_cdata, is_first, shows_no_closer, stands_in_cdata, stands_outside, stands}
@@ -56,12 +57,9 @@ cdata_test a l r b s e f g h = cc
 text_test : (a l r m n o p : Bool) → a ≡ true → l ≡ false → r ≡ false → m ≡ false → n ≡ false → o ≡ false → ((a && not l && not r && not m && not n) && not (o && p)) ≡ true
 text_test a l r m n o p e f g h i j = cc
 
-not_zero : (n : ℕ) → (suc n == 0) ≡ false
-not_zero n = grind (arith, nat_tests)
-
 pub some_before : (before : List Token) → is_outside before ≡ false → (length before == 0) ≡ false
 some_before [] h = h
-some_before (t ∷ before) h = not_zero (length before)
+some_before (t ∷ before) h = suc_not_zero (length before)
 
 module _ (before : List Token) (inside : is_outside before ≡ false) (c : ℕ) (l : IsLiteral c) where
   character_stands : (c == 10) ≡ false → (after : List ℕ) → stands before (Character c) after ≡ true
@@ -102,7 +100,7 @@ line_context before k i = record { scope = i.scope; root = i.root; brackets_are 
 
 -- ---- a reader behind them
 
-abbrev at_place : Tokenizer → ℕ → Tokenizer
+abbrev pub at_place : Tokenizer → ℕ → Tokenizer
 at_place z p = record { alloc = z.alloc; limit = z.limit; utf8 = z.utf8; position = z.position; scan = z.scan; draft = z.draft; start = p; place = p }
 
 -- the reader at a place between tokens, behind so many literal `]`
@@ -112,9 +110,6 @@ at r p b = record {
   context = record { scope = r.context.scope; has_root = r.context.has_root; brackets = b };
   failed = r.failed;
 }
-
-same_place : (p : ℕ) → (p == p) ≡ true
-same_place p = grind (arith, nat_tests)
 
 -- the count of literal `]` behind these characters
 abbrev after : ℕ → List ℕ → ℕ
@@ -140,7 +135,7 @@ module _ {limit : ℕ} (r : Reader) (between : is_between r.tokenizer.scan ≡ t
         subst (λ q. HasTakenUnder limit (at r (p + length (encode_utf8 c)) 0) (bytes ++ encode_utf8 c) (told ++ record { place = q; item = Char c } ∷ [])) (sym h.1.place)
         (subst (λ v. HasTakenUnder limit (at r (p + length (encode_utf8 c)) 0) (bytes ++ encode_utf8 c) (told ++ placed_at (length bytes) v)) i
         (subst (λ v. HasTakenUnder limit (at r (p + length (encode_utf8 c)) 0) (bytes ++ v) (told ++ placed_at (length bytes) (items_of before t))) e
-        (takes_next (at r p b) bytes told h between (same_place p) t (length (encode_utf8 c)) (without_brackets (at r p b).context) next (ap length (sym e)) k)))
+        (takes_next (at r p b) bytes told h between (same_number p) t (length (encode_utf8 c)) (without_brackets (at r p b).context) next (ap length (sym e)) k)))
 
     step_literal : HasTakenUnder limit (at r (p + length (encode_utf8 c)) 0) (bytes ++ encode_utf8 c) (told ++ record { place = p; item = Char c } ∷ [])
     step_literal = by (c == 10) refl where
@@ -198,7 +193,7 @@ passes_none {limit} r xs bytes told zero m w run h =
 passes_none r xs bytes told (suc n) m w run h = absurd (omega arith)
 
 -- behind whole tokens, where an element is open, a token begins that may be such a character
-first_is_outside : (before : List Token) → is_first before ≡ true → is_outside before ≡ true
+pub first_is_outside : (before : List Token) → is_first before ≡ true → is_outside before ≡ true
 first_is_outside [] h = refl
 first_is_outside (Mark ∷ []) h = refl
 first_is_outside (t ∷ before) h = first_two t before h where
@@ -222,6 +217,6 @@ inside_ready r bytes told h =
     let begun : r.tokenizer.place ≡ r.tokenizer.start = k.place ∙ (ap length (sym h.2) ∙ sym (starts r bytes ts told k)) in
     let none = no_chars o.chars o.part (ap length (sym o.bytes_are) ∙ count r.tokenizer.place r.tokenizer.start (length k.reads.bytes) o.place_is begun) in
     let scan_is : (Begin (position (reverse ts)) ≡ r.tokenizer.scan) × (no_draft ≡ r.tokenizer.draft) = at_same (Begin (position (reverse ts))) r.tokenizer.scan no_draft r.tokenizer.draft (ap (run (Begin (position (reverse ts))) no_draft) (sym none.0) ∙ o.scan_is) in
-    and_from (is_between r.tokenizer.scan) (r.tokenizer.place == r.tokenizer.start) (ap is_between (sym scan_is.0) ∙ inside_between (reverse ts) h.3) (subst (λ v. (r.tokenizer.place == v) ≡ true) begun (same_place r.tokenizer.place)) where
+    and_from (is_between r.tokenizer.scan) (r.tokenizer.place == r.tokenizer.start) (ap is_between (sym scan_is.0) ∙ inside_between (reverse ts) h.3) (subst (λ v. (r.tokenizer.place == v) ≡ true) begun (same_number r.tokenizer.place)) where
       count : (p s n : ℕ) → p ≡ s + n → p ≡ s → n ≡ 0
       count p s n h k = omega arith

@@ -12,6 +12,7 @@ use Rattle.std.proofs.Math.Seq.{take-append_seam}
 use Rattle.lexical_core.specs.Characters.{IsXmlChar}
 use Rattle.lexical_core.specs.Tree.{Char}
 use Rattle.lexical_core.specs.declared.rule.Rule.TheVariants.{TextOutside}
+use Rattle.lexical_core.proofs.Tests.{same_number}
 use Rattle.markup.specs.Chars.{is_space, is_xml_char}
 use Rattle.markup.specs.Token.{Token, LineEnd, Lf, Character, token_bytes}
 use Rattle.markup.specs.Marks.{in_cdata, shows_no_closer, stands_in_cdata, stands_outside}
@@ -27,7 +28,7 @@ use Rattle.markup.specs.Reading.{Keeps, HasTakenUnder, HasToldUnder}
 use Rattle.markup.specs.inner.ClosedBrackets.{IsClosedRun}
 use Rattle.markup.specs.inner.ReaderSteps.{IsReaderReady, passed_over}
 use Rattle.markup.specs.declared.reader.Reader.{Reader}
-use Rattle.markup.proofs.BracketRuns.{IsBracket, AreBrackets, at, behind, same_place, bracket_no_space, text_test, encoded_all, are_xml}
+use Rattle.markup.proofs.BracketRuns.{IsBracket, AreBrackets, at, behind, bracket_no_space, text_test, encoded_all, are_xml}
 use Rattle.markup.proofs.CharLemmas.{classes}
 use Rattle.markup.proofs.CharacterRuns.{character_next, line_next, character_context, line_context, plain_not}
 use Rattle.markup.proofs.FollowedTokens.{IsNextBefore, keeps_next}
@@ -98,7 +99,7 @@ module _ {limit : ℕ} (r : Reader) (between : is_between r.tokenizer.scan ≡ t
         subst (λ q. Keeps limit Then (at r (p + length (encode_utf8 c)) count) (bytes ++ encode_utf8 c) (ts ++ t ∷ []) (told ++ record { place = q; item = Char c } ∷ [])) (sym h.place)
         (subst (λ v. Keeps limit Then (at r (p + length (encode_utf8 c)) count) (bytes ++ encode_utf8 c) (ts ++ t ∷ []) (told ++ placed_at (length bytes) v)) i
         (subst (λ v. Keeps limit Then (at r (p + length (encode_utf8 c)) count) (bytes ++ v) (ts ++ t ∷ []) (told ++ placed_at (length bytes) (items_of (reverse ts) t))) e
-        (keeps_next (StartsWith (encode_utf8 c ++ xs)) (encode_utf8 c ++ xs) (starts_so (encode_utf8 c ++ xs)) (at r p b) bytes ts told h between (same_place p) Then some may t
+        (keeps_next (StartsWith (encode_utf8 c ++ xs)) (encode_utf8 c ++ xs) (starts_so (encode_utf8 c ++ xs)) (at r p b) bytes ts told h between (same_number p) Then some may t
         (λ more f. let (w, g) = leads more f in (w, ap (λ v. v ++ more) e ∙ (ap (λ v. encode_utf8 c ++ v) g ∙ sym (append_assoc (encode_utf8 c) xs w))))
         (length (encode_utf8 c)) (behind r.context count) next (ap length (sym e)) k)))
 

@@ -22,7 +22,7 @@ use Rattle.markup.specs.declared.scan.Turn.TheVariants.{Goes, Whole}
 use Rattle.markup.proofs.CharLemmas.{space_no_name, question_no_name, question_no_space}
 use Rattle.markup.proofs.ReferenceLemmas.{body, reference_then}
 use Rattle.markup.proofs.ReferenceRuns.{reference_end, reference_goes}
-use Rattle.markup.proofs.TokenLemmas.{IsInstruction, instruction_facts, start_tag_then}
+use Rattle.markup.proofs.TokenLemmas.{IsInstruction, instruction_facts, start_tag_then, instruction_tail}
 use Rattle.markup.proofs.TokenKinds.{never_in, only_in, cdata_char_facts, text_char_facts, first_outside}
 use Rattle.markup.proofs.TokenLaw.{comment_then, instruction_then, declaration_then, end_then}
 use Rattle.markup.proofs.TagRuns.{start_tag_run, end_tag_run}
@@ -54,10 +54,6 @@ starts_blank (c ∷ t) = is_space c
 instruction_blank : (p t : List ℕ) → is_instruction p t ≡ true → starts_blank t ≡ true
 instruction_blank p [] h = refl
 instruction_blank p (c ∷ t) h = (and_parts _ _ (and_parts _ _ h).0).1
-
-instruction_tail : (c : ℕ) (s : List ℕ) → is_instruction_text (c ∷ s) ≡ true → is_instruction_text s ≡ true
-instruction_tail c [] h = refl
-instruction_tail c (d ∷ s) h = (and_parts _ _ h).1
 
 -- the rest of a target is none
 abbrev pub is_none_left : List ℕ → Bool

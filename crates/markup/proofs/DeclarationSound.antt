@@ -2,10 +2,9 @@
 use Rattle.std.proofs.Common.{◌≡◌, ℕ, Bool, true, false, not, ◌==◌, ◌||◌, ◌&&◌, inl, inr, List, [], ◌∷◌, ◌++◌, map, codes, drop, refl, sym, ◌∙◌, ap, subst, arith}
 use Rattle.std.specs.List.{list_all, flat_map}
 use Rattle.std.specs.Char.{to_ascii_lowercase}
-use Rattle.std.specs.Str.{bytes_eq}
 use Rattle.std.proofs.lemmas.Bool.{and_parts, and_from, or_left, or_right, both_ways, eqb-true}
 use Rattle.std.proofs.lemmas.Bool.Decides.{nat_tests}
-use Rattle.std.proofs.lemmas.Slice.Eq.{bytes_eq-Decides}
+use Rattle.lexical_core.proofs.EqualBytes.{bytes_equal}
 use Rattle.markup.specs.Chars.{is_xml_char, is_name_start, is_name_char, is_space}
 use Rattle.markup.specs.Name.{Plain, is_name, name_text}
 use Rattle.markup.specs.Attribute.{Literal, is_piece, piece_text, Attribute, is_attribute, attribute_text}
@@ -35,7 +34,7 @@ plain_pieces : (q : ℕ) (cs : List ℕ) → (q == 34 || q == 39) ≡ true → l
 plain_pieces q [] h a = refl
 plain_pieces q (c ∷ cs) h a = and_from _ _ (plain_piece q c h (and_parts _ _ a).0) (plain_pieces q cs h (and_parts _ _ a).1)
 
-plain_text : (cs : List ℕ) → flat_map piece_text (map Literal cs) ≡ cs
+pub plain_text : (cs : List ℕ) → flat_map piece_text (map Literal cs) ≡ cs
 plain_text [] = refl
 plain_text (c ∷ cs) = ap (λ u. c ∷ u) (plain_text cs)
 
@@ -94,25 +93,22 @@ record IsValue (f : Field) (chars : List ℕ) : Type 0 where
   plain : list_all is_plain chars ≡ true
   fits : (a : Attribute) → is_attribute a ≡ true → name_text a.name ≡ word_text (name_word f) → flat_map piece_text a.value ≡ chars → is_field_of f a ≡ true
 
-equal : (xs ys : List ℕ) → xs ≡ ys → bytes_eq xs ys ≡ true
-equal xs ys e = (bytes_eq-Decides xs ys).1 e
-
 value_of : (f : Field) (word : Word) (chars : List ℕ) → is_value_of f word ≡ true → spells word (word_text word) chars → IsValue f chars
 value_of Version One chars h s = record {
   plain = subst (λ u. list_all is_plain u ≡ true) (sym s) plain_words.0;
-  fits = λ a k n v. and_from _ _ (and_from _ _ k (equal (name_text a.name) (codes "version") n)) (equal (flat_map piece_text a.value) (codes "1.0") (v ∙ s));
+  fits = λ a k n v. and_from _ _ (and_from _ _ k (bytes_equal (name_text a.name) (codes "version") n)) (bytes_equal (flat_map piece_text a.value) (codes "1.0") (v ∙ s));
 }
 value_of Encoding Utf8 chars h s = record {
   plain = plain_utf8 chars s;
-  fits = λ a k n v. and_from _ _ (and_from _ _ k (equal (name_text a.name) (codes "encoding") n)) (equal (map to_ascii_lowercase (flat_map piece_text a.value)) (codes "utf-8") (ap (map to_ascii_lowercase) v ∙ s));
+  fits = λ a k n v. and_from _ _ (and_from _ _ k (bytes_equal (name_text a.name) (codes "encoding") n)) (bytes_equal (map to_ascii_lowercase (flat_map piece_text a.value)) (codes "utf-8") (ap (map to_ascii_lowercase) v ∙ s));
 }
 value_of Standalone Yes chars h s = record {
   plain = subst (λ u. list_all is_plain u ≡ true) (sym s) plain_words.1;
-  fits = λ a k n v. and_from _ _ (and_from _ _ k (equal (name_text a.name) (codes "standalone") n)) (or_left _ _ (equal (flat_map piece_text a.value) (codes "yes") (v ∙ s)));
+  fits = λ a k n v. and_from _ _ (and_from _ _ k (bytes_equal (name_text a.name) (codes "standalone") n)) (or_left _ _ (bytes_equal (flat_map piece_text a.value) (codes "yes") (v ∙ s)));
 }
 value_of Standalone No chars h s = record {
   plain = subst (λ u. list_all is_plain u ≡ true) (sym s) plain_words.2;
-  fits = λ a k n v. and_from _ _ (and_from _ _ k (equal (name_text a.name) (codes "standalone") n)) (or_right _ _ (equal (flat_map piece_text a.value) (codes "no") (v ∙ s)));
+  fits = λ a k n v. and_from _ _ (and_from _ _ k (bytes_equal (name_text a.name) (codes "standalone") n)) (or_right _ _ (bytes_equal (flat_map piece_text a.value) (codes "no") (v ∙ s)));
 }
 value_of f word chars h s = absurd (both_ways false refl h)
 

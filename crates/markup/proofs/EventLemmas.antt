@@ -5,15 +5,15 @@ use Rattle.lexical_core.specs.Tree.{Char}
 use Rattle.markup.specs.Token.{Token, LineEnd, Character, Cr, CrLf, token_bytes}
 use Rattle.markup.specs.Events.{items_of, events}
 use Rattle.markup.specs.Scopes.{placed_at}
-use Rattle.markup.proofs.OneFault.{past, behind}
 use Rattle.markup.proofs.InputLemmas.{bracket_bytes}
+use Rattle.markup.proofs.TokensBehind.{tokens_behind, behind}
 
-events_past : (before : List Token) (place : ℕ) (ts us : List Token) → events before place (ts ++ us) ≡ events before place ts ++ events (past before ts) (place + length (flat_map token_bytes ts)) us
+events_past : (before : List Token) (place : ℕ) (ts us : List Token) → events before place (ts ++ us) ≡ events before place ts ++ events (tokens_behind before ts) (place + length (flat_map token_bytes ts)) us
 events_past before place [] us = ap (λ p. events before p us) (sym (add-zero place))
 events_past before place (t ∷ ts) us =
     ap (λ v. placed_at place (items_of before t) ++ v) (events_past (t ∷ before) (place + length (token_bytes t)) ts us
-    ∙ ap (λ p. events (t ∷ before) (place + length (token_bytes t)) ts ++ events (past (t ∷ before) ts) p us) (count place (token_bytes t) (flat_map token_bytes ts)))
-    ∙ sym (append_assoc (placed_at place (items_of before t)) (events (t ∷ before) (place + length (token_bytes t)) ts) (events (past (t ∷ before) ts) (place + length (flat_map token_bytes (t ∷ ts))) us)) where
+    ∙ ap (λ p. events (t ∷ before) (place + length (token_bytes t)) ts ++ events (tokens_behind (t ∷ before) ts) p us) (count place (token_bytes t) (flat_map token_bytes ts)))
+    ∙ sym (append_assoc (placed_at place (items_of before t)) (events (t ∷ before) (place + length (token_bytes t)) ts) (events (tokens_behind (t ∷ before) ts) (place + length (flat_map token_bytes (t ∷ ts))) us)) where
       count : (p : ℕ) (a b : List ℕ) → p + length a + length b ≡ p + length (a ++ b)
       count p a b = omega (arith, length-append a b)
 
@@ -22,7 +22,7 @@ zero_first n = omega arith
 
 -- the events of more tokens
 pub events-append : (ts us : List Token) → events [] 0 (ts ++ us) ≡ events [] 0 ts ++ events (reverse ts) (length (flat_map token_bytes ts)) us
-events-append ts us = events_past [] 0 ts us ∙ (ap (λ n. events [] 0 ts ++ events (past [] ts) n us) (zero_first (length (flat_map token_bytes ts))) ∙ ap (λ b. events [] 0 ts ++ events b (length (flat_map token_bytes ts)) us) (sym (behind ts)))
+events-append ts us = events_past [] 0 ts us ∙ (ap (λ n. events [] 0 ts ++ events (tokens_behind [] ts) n us) (zero_first (length (flat_map token_bytes ts))) ∙ ap (λ b. events [] 0 ts ++ events b (length (flat_map token_bytes ts)) us) (sym (behind ts)))
 
 -- the events of one more token
 pub events_snoc : (ts : List Token) (t : Token) → events [] 0 (ts ++ t ∷ []) ≡ events [] 0 ts ++ placed_at (length (flat_map token_bytes ts)) (items_of (reverse ts) t)

@@ -8,8 +8,9 @@ use Rattle.std.proofs.lemmas.Bool.{and_parts}
 use Rattle.std.proofs.lemmas.List.{append-nil, append_assoc, map-append, reverse-append}
 use Rattle.std.proofs.lemmas.List.Elements.{filter_map-append}
 use Rattle.std.proofs.lemmas.List.Folds.{list_any-append}
-use Rattle.lexical_core.specs.Tree.{Expanded as FullName, Entry}
 use Rattle.std.specs.Str.{bytes_eq}
+use Rattle.lexical_core.specs.Tree.{Expanded as FullName, Entry}
+use Rattle.lexical_core.proofs.Tests.{or_false}
 use Rattle.markup.specs.declared.tag.Spelled.{Spelled}
 use Rattle.markup.specs.declared.tag.Given.{Given}
 use Rattle.markup.specs.declared.tag.Opening.{Opening}
@@ -23,7 +24,7 @@ use Rattle.markup.specs.Faults.{has_clash, clash, same_expanded}
 use Rattle.markup.specs.EventItems.{entry_of}
 use Rattle.markup.specs.inner.TagParts.{declares_none, is_unbound, is_named, IsCollected, IsExpanded, entry_from, entry_under, named_entry, sorted_entries, has_twins}
 use Rattle.markup.proofs.Twins.{any-put, any_twins, any_twins-put, twins_next}
-use Rattle.markup.proofs.TagPartLemmas.{or-false, or_comm}
+use Rattle.markup.proofs.TagPartLemmas.{or_comm}
 
 pub none_is : {X : Type 0} (o : Option X) → is_none o ≡ true → o ≡ None
 none_is None e = refl
@@ -88,7 +89,7 @@ collect_bound tags next plain kept old attr pushed bound same is_pushed was =
     let fine : list_any (is_unbound tags) (next ∷ []) ≡ false = ap (λ n. is_none n || false) bound in
     record {
       entries = ap (map (entry_from kept)) is_pushed ∙ map-append (entry_from kept) old.attrs.items (attr ∷ []) ∙ ap (λ es. es ++ entry_from kept attr ∷ []) was.entries ∙ ap (λ es. filter_map (entry_under tags) plain ++ es) (sym one) ∙ sym (filter_map-append (entry_under tags) plain (next ∷ []));
-      unbound = was.unbound ∙ sym (list_any-append (is_unbound tags) plain (next ∷ []) ∙ ap (λ b. list_any (is_unbound tags) plain || b) fine ∙ or-false (list_any (is_unbound tags) plain));
+      unbound = was.unbound ∙ sym (list_any-append (is_unbound tags) plain (next ∷ []) ∙ ap (λ b. list_any (is_unbound tags) plain || b) fine ∙ or_false (list_any (is_unbound tags) plain));
     }
 
 -- one more of those with their origins is told with its namespace

@@ -25,10 +25,10 @@ use Rattle.markup.specs.declared.tokenizer.Tokenizer.{Tokenizer}
 use Rattle.markup.proofs.EventLemmas.{events_snoc}
 use Rattle.markup.proofs.InputEvents.{none_pending, not_return, no_return_none}
 use Rattle.markup.proofs.InputLemmas.{front_snoc, reverse_snoc, clean_snoc, reads_start}
-use Rattle.markup.proofs.OneFault.{behind}
 use Rattle.markup.proofs.PlainLemmas.{IsFresh, is_fresh}
 use Rattle.markup.proofs.SettleLemmas.{finishes_by}
 use Rattle.markup.proofs.TokenizerLemmas.{none_front, position_behind}
+use Rattle.markup.proofs.TokensBehind.{behind}
 
 no_bytes : (bytes : List ℕ) (place start : ℕ) → place ≡ start + length bytes → place ≡ start → bytes ≡ []
 no_bytes [] place start e s = refl

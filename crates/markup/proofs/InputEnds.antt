@@ -20,19 +20,20 @@ use Rattle.markup.specs.declared.tokenizer.Finish.TheVariants.{Nothing, Return, 
 use Rattle.markup.specs.declared.tokenizer.Tokenizer.{Tokenizer}
 use Rattle.markup.proofs.TokenLaw.{one_token, fronts_agree}
 use Rattle.markup.proofs.Exact.{goes_on}
-use Rattle.markup.proofs.OneFault.{past, behind, nothing_stands, one_fault, whole_has_none}
+use Rattle.markup.proofs.OneFault.{nothing_stands, one_fault, whole_has_none}
 use Rattle.markup.proofs.TokenizerLemmas.{none_front, some_limit}
 use Rattle.markup.proofs.SettleLemmas.{finishes_by}
 use Rattle.markup.proofs.InputLemmas.{clean_snoc, front_snoc, reverse_snoc, front_bytes}
+use Rattle.markup.proofs.TokensBehind.{tokens_behind, behind}
 
 -- where no token stands behind a list of tokens, no longer list begins so
-no_longer : (limit : ℕ) (before : List Token) (b x y : List ℕ) (ts : List Token) (t : Token) (more : List Token) → Front limit before b ts x → NoToken (past before ts) x → Front limit before b (ts ++ t ∷ more) y → ⊥
+no_longer : (limit : ℕ) (before : List Token) (b x y : List ℕ) (ts : List Token) (t : Token) (more : List Token) → Front limit before b ts x → NoToken (tokens_behind before ts) x → Front limit before b (ts ++ t ∷ more) y → ⊥
 no_longer limit before b x y [] t more f n g = n t g.0 (subst (λ v. Cell before t v g.0) f g.1)
 no_longer limit before b x y (u ∷ ts) t more f n g =
     no_longer limit (u ∷ before) f.0 x y ts t more f.3 n (subst (λ v. Front limit (u ∷ before) v (ts ++ t ∷ more) y) (one_token before u u b g.0 f.0 g.1 f.1).1 g.3)
 
 -- such a list is the longest
-longest_by : {limit : ℕ} (bytes rest : List ℕ) (ts : List Token) → Front limit [] bytes ts rest → NoToken (past [] ts) rest → IsLongestUnder limit bytes ts
+longest_by : {limit : ℕ} (bytes rest : List ℕ) (ts : List Token) → Front limit [] bytes ts rest → NoToken (tokens_behind [] ts) rest → IsLongestUnder limit bytes ts
 longest_by {limit} bytes rest ts f n = record { rest = rest; front = f; longest = λ us y g. by us y g (fronts_agree limit [] bytes ts us rest y f g) } where
   longer : (us : List Token) (y : List ℕ) → Front limit [] bytes us y → (more : List Token) → us ≡ ts ++ more → (m : List Token) × (ts ≡ us ++ m)
   longer us y g [] e = ([], sym (append-nil us ∙ (e ∙ append-nil ts)))
@@ -44,10 +45,10 @@ longest_by {limit} bytes rest ts f n = record { rest = rest; front = f; longest 
 
 -- the tokens of whole bytes are the longest list
 pub marks_longest : {limit : ℕ} (bytes : List ℕ) (ts : List Token) → Front limit [] bytes ts [] → IsLongestUnder limit bytes ts
-marks_longest bytes ts f = longest_by bytes [] ts f (nothing_stands (past [] ts))
+marks_longest bytes ts f = longest_by bytes [] ts f (nothing_stands (tokens_behind [] ts))
 
 pub whole_longest : {limit : ℕ} (bytes : List ℕ) (w : IsWholeUnder limit bytes) → IsLongestUnder limit bytes w.tokens
-whole_longest bytes w = longest_by bytes [] w.tokens w.marks (nothing_stands (past [] w.tokens))
+whole_longest bytes w = longest_by bytes [] w.tokens w.marks (nothing_stands (tokens_behind [] w.tokens))
 
 -- there is one longest list
 pub one_longest : {limit : ℕ} (bytes : List ℕ) (ts us : List Token) → IsLongestUnder limit bytes ts → IsLongestUnder limit bytes us → ts ≡ us
@@ -75,7 +76,7 @@ none_at_end {limit} before bytes rule some (too_long chars part rest e g n b f l
 record Ends (limit : ℕ) (input : List ℕ) (ts : List Token) : Type 0 where
   rest : List ℕ
   front : Front limit [] input ts rest
-  none : NoToken (past [] ts) rest
+  none : NoToken (tokens_behind [] ts) rest
 
 front_now : {limit : ℕ} (z : Tokenizer) (input : List ℕ) (ts : List Token) (r : ReadsTokens limit Any z input ts) → Front limit [] input ts r.bytes
 front_now {limit} z input ts r = subst (λ v. Front limit [] v ts r.bytes) (append-nil input) (subst (λ v. Front limit [] (input ++ []) ts v) (append-nil r.bytes) (r.front [] tt))
@@ -86,8 +87,8 @@ front_return {limit} z input ts r f = front_snoc limit [] input r.bytes [] ts (L
     (subst (λ b. Cell b (LineEnd Cr) r.bytes []) (behind ts) (record { spelled = f.0 ∙ sym (append-nil (token_bytes (LineEnd Cr))); is = f.1 })) refl
 
 ends : {limit : ℕ} (z : Tokenizer) (input : List ℕ) (ts : List Token) (r : ReadsTokens limit Any z input ts) (result : Finish) → Finishes limit (reverse ts) r.bytes result → Ends limit input (with_pending result ts)
-ends {limit} z input ts r Nothing f = record { rest = []; front = subst (λ v. Front limit [] input ts v) f (front_now z input ts r); none = nothing_stands (past [] ts) }
-ends z input ts r Return f = record { rest = []; front = front_return z input ts r f; none = nothing_stands (past [] (ts ++ LineEnd Cr ∷ [])) }
+ends {limit} z input ts r Nothing f = record { rest = []; front = subst (λ v. Front limit [] input ts v) f (front_now z input ts r); none = nothing_stands (tokens_behind [] ts) }
+ends z input ts r Return f = record { rest = []; front = front_return z input ts r f; none = nothing_stands (tokens_behind [] (ts ++ LineEnd Cr ∷ [])) }
 ends z input ts r Open f = record { rest = r.bytes; front = front_now z input ts r; none = subst (λ b. NoToken b r.bytes) (behind ts) (none_at_end (reverse ts) r.bytes Truncated (some_limit z (reverse ts) r.bytes r.opens) f) }
 
 -- a line end breaks none

@@ -12,17 +12,17 @@ use Rattle.markup.specs.Inputs.{ReadsTokens, Begins, Any}
 use Rattle.markup.specs.declared.draft.Draft.{Draft}
 use Rattle.markup.specs.declared.scan.Ended.{Ended}
 use Rattle.markup.specs.declared.tokenizer.Tokenizer.{Tokenizer}
-use Rattle.markup.proofs.OneFault.{past, behind}
+use Rattle.markup.proofs.TokensBehind.{tokens_behind, behind}
 
 -- one more token behind a list of them
-pub front_snoc : (limit : ℕ) (before : List Token) (b y z : List ℕ) (ts : List Token) (t : Token) → Front limit before b ts y → Cell (past before ts) t y z → is_short limit t ≡ true → Front limit before b (ts ++ t ∷ []) z
+pub front_snoc : (limit : ℕ) (before : List Token) (b y z : List ℕ) (ts : List Token) (t : Token) → Front limit before b ts y → Cell (tokens_behind before ts) t y z → is_short limit t ≡ true → Front limit before b (ts ++ t ∷ []) z
 front_snoc limit before b y z [] t f c s = (z, subst (λ v. Cell before t v z) (sym f) c, s, refl)
 front_snoc limit before b y z (u ∷ ts) t f c s = (f.0, f.1, f.2, front_snoc limit (u ∷ before) f.0 y z ts t f.3 c s)
 
 pub reverse_snoc : (ts : List Token) (t : Token) → reverse (ts ++ t ∷ []) ≡ t ∷ reverse ts
 reverse_snoc ts t = reverse-append ts (t ∷ [])
 
-clean_past : (before ts : List Token) (t : Token) → IsClean before ts → rule_of (past before ts) t ≡ None → IsClean before (ts ++ t ∷ [])
+clean_past : (before ts : List Token) (t : Token) → IsClean before ts → rule_of (tokens_behind before ts) t ≡ None → IsClean before (ts ++ t ∷ [])
 clean_past before [] t c e = (e, tt)
 clean_past before (u ∷ ts) t c e = (c.0, clean_past (u ∷ before) ts t c.1 e)
 

@@ -3,6 +3,7 @@ use Rattle.std.proofs.Common.{◌≡◌, ℕ, Bool, true, false, ◌+◌, ◌-�
 use Rattle.std.specs.List.{list_all}
 use Rattle.std.proofs.lemmas.Bool.{and_parts, both_ways, cases_Bool}
 use Rattle.std.proofs.lemmas.List.Folds.{list_all-append}
+use Rattle.lexical_core.proofs.Lists.{same_first, same_rest}
 use Rattle.markup.specs.Ascii.{is_ascii}
 use Rattle.markup.specs.Token.{Token, LineEnd, Character, Lf, Cr, CrLf, token_text}
 use Rattle.markup.specs.Marks.{in_cdata}
@@ -24,7 +25,6 @@ use Rattle.markup.specs.declared.tokenizer.Tokenizer.{Tokenizer}
 use Rattle.markup.proofs.Complete.{complete}
 use Rattle.markup.proofs.Exact.{run_on, run_over, no_more}
 use Rattle.markup.proofs.InsideLemmas.{IsOverFront}
-use Rattle.markup.proofs.NamesFound.{head_same, tail_same}
 use Rattle.markup.proofs.Pending.{run_inside}
 
 -- ---- over a piece
@@ -36,10 +36,10 @@ GoesBehind xs ys more rest = (y : ℕ) × (zs : List ℕ) × (more ≡ xs ++ y �
 splits : (xs ys more rest : List ℕ) → xs ++ ys ≡ more ++ rest → (length more ≤ length xs) ⊎ GoesBehind xs ys more rest
 splits xs ys [] rest e = inl (omega arith)
 splits [] ys (y ∷ zs) rest e = inr (y, zs, refl, e)
-splits (x ∷ xs) ys (y ∷ zs) rest e = by (splits xs ys zs rest (tail_same x y (xs ++ ys) (zs ++ rest) e)) where
+splits (x ∷ xs) ys (y ∷ zs) rest e = by (splits xs ys zs rest (same_rest x y (xs ++ ys) (zs ++ rest) e)) where
   by : (length zs ≤ length xs) ⊎ GoesBehind xs ys zs rest → (length (y ∷ zs) ≤ length (x ∷ xs)) ⊎ GoesBehind (x ∷ xs) ys (y ∷ zs) rest
   by (inl l) = inl (omega (arith, l))
-  by (inr g) = inr (g.0, g.1, ap (λ v. v ∷ zs) (sym (head_same x y (xs ++ ys) (zs ++ rest) e)) ∙ ap (λ v. x ∷ v) g.2, g.3)
+  by (inr g) = inr (g.0, g.1, ap (λ v. v ∷ zs) (sym (same_first x y (xs ++ ys) (zs ++ rest) e)) ∙ ap (λ v. x ∷ v) g.2, g.3)
 
 -- a run over some characters goes on with the first
 first_goes : (s t : Scan) (d e : Draft) (y : ℕ) (ys : List ℕ) → run s d (y ∷ ys) ≡ At t e → (u : Scan) × (step s y ≡ Goes u)

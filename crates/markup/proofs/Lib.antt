@@ -75,3 +75,5 @@ pub mod Twins
 pub mod SortedAttributes
 pub mod OneMarking
 pub mod Stays
+pub mod PlainCharacters
+pub mod TokensBehind

@@ -3,17 +3,17 @@ use Rattle.std.proofs.Common.{◌≡◌, ℕ, zero, suc, Bool, true, false, ◌&
 use Rattle.std.specs.Char.{encode_utf8}
 use Rattle.std.specs.Str.{encode_utf8_all}
 use Rattle.std.specs.List.{AllByRecursion, list_all, prefix_len}
-use Rattle.lexical_core.specs.Characters.{IsXmlChar}
 use Rattle.std.proofs.lemmas.Bool.Decides.{nat_tests}
 use Rattle.std.proofs.lemmas.Str.{encode_ascii, encode_same, length-encode, len_utf8_bounds, encodes-append}
 use Rattle.std.proofs.lemmas.Bool.{cases_lt, le-leb}
 use Rattle.std.proofs.lemmas.List.{length-take-le, take-append-drop}
 use Rattle.std.proofs.Math.Seq.{take-append_seam, drop-append_seam}
+use Rattle.lexical_core.specs.Characters.{IsXmlChar}
 use Rattle.lexical_core.specs.Begun.{IsTail}
 use Rattle.lexical_core.specs.Utf8.{Steps}
 use Rattle.lexical_core.specs.declared.utf8.Utf8.TheVariants.{More, Char}
-use Rattle.markup.specs.Chars.{is_xml_char, is_space}
 use Rattle.lexical_core.proofs.ByteForms.{Spells, spells_2, spells_3}
+use Rattle.markup.specs.Chars.{is_xml_char, is_space}
 use Rattle.markup.proofs.CharLemmas.{classes, some_bytes}
 use Rattle.markup.specs.Literals.{is_literal, is_still_space, IsLiteral, IsOfText, IsFreeRun, IsAt, IsWideAt}
 
@@ -25,7 +25,7 @@ pub record IsBegun (piece : List ℕ) (utf8 : Option (List ℕ)) (count : ℕ) (
   pub utf8_is : utf8 ≡ Some seen
 
 -- so many bytes of the piece have come, which are so many characters that stand by themselves
-pub record IsWalked (piece : List ℕ) (bytes characters : ℕ) (rest : List ℕ) : Type 0 where
+pub record IsWalkedFree (piece : List ℕ) (bytes characters : ℕ) (rest : List ℕ) : Type 0 where
   pub seen : List ℕ
   pub joined : piece ≡ seen ++ rest
   pub bytes_are : length seen ≡ bytes
@@ -101,7 +101,7 @@ three_at a b c rest piece e low high over second third = spelled_at ((a - 0xE0) 
 pub no_run : IsFreeRun [] 0
 no_run = (record { characters = []; bytes_are = refl; count_is = refl; literal = tt; allowed = tt; blank_is = refl }, tt)
 
-pub walked_none : (piece : List ℕ) → IsWalked piece 0 0 piece
+pub walked_none : (piece : List ℕ) → IsWalkedFree piece 0 0 piece
 walked_none piece = record { seen = []; joined = refl; bytes_are = refl; run = no_run; few = omega arith }
 
 all_append : (cs ds : List ℕ) → AllByRecursion IsLiteral cs → AllByRecursion IsLiteral ds → AllByRecursion IsLiteral (cs ++ ds)
@@ -164,7 +164,7 @@ literal_front (x ∷ xs) (suc n) h = by (is_literal x) refl h (λ k. literal_fro
   by false e h more = absurd (omega arith)
 
 -- more characters have come
-walked_on : (piece : List ℕ) (bytes characters m n : ℕ) (rest after cs : List ℕ) → IsWalked piece bytes characters rest → AllByRecursion IsLiteral cs → rest ≡ encode_utf8_all cs ++ after → length (encode_utf8_all cs) ≡ m → length cs ≡ n → n ≤ m → IsWalked piece (bytes + m) (characters + n) after
+walked_on : (piece : List ℕ) (bytes characters m n : ℕ) (rest after cs : List ℕ) → IsWalkedFree piece bytes characters rest → AllByRecursion IsLiteral cs → rest ≡ encode_utf8_all cs ++ after → length (encode_utf8_all cs) ≡ m → length cs ≡ n → n ≤ m → IsWalkedFree piece (bytes + m) (characters + n) after
 walked_on piece bytes characters m n rest after cs w l e b k f = record {
   seen = w.seen ++ encode_utf8_all cs;
   joined = w.joined ∙ (ap (λ v. w.seen ++ v) e ∙ sym (append_assoc w.seen (encode_utf8_all cs) after));
@@ -184,7 +184,7 @@ walked_on piece bytes characters m n rest after cs w l e b k f = record {
 }
 
 -- literal bytes
-pub walked_plain : (piece : List ℕ) (bytes characters n : ℕ) (rest after : List ℕ) → IsWalked piece bytes characters rest → n ≡ prefix_len is_literal rest → n ≤ length rest → after ≡ drop n rest → IsWalked piece (bytes + n) (characters + n) after
+pub walked_plain : (piece : List ℕ) (bytes characters n : ℕ) (rest after : List ℕ) → IsWalkedFree piece bytes characters rest → n ≡ prefix_len is_literal rest → n ≤ length rest → after ≡ drop n rest → IsWalkedFree piece (bytes + n) (characters + n) after
 walked_plain piece bytes characters n rest after w p h e =
     let f = literal_front rest n (omega (arith, p)) in
     let l : length (take n rest) ≡ n = length-take-le n rest h in
@@ -201,7 +201,7 @@ is_shorter size rest after w e =
     omega (arith, ap length (wide_rest size rest after a e), ap length a.joined, length-append (encode_utf8 a.char) a.rest, a.size_is, some_bytes a.char)
 
 -- a character of several bytes
-pub walked_wide : (piece : List ℕ) (bytes characters size : ℕ) (rest after : List ℕ) → IsWalked piece bytes characters rest → IsWideAt rest size → after ≡ drop size rest → IsWalked piece (bytes + size) (characters + 1) after
+pub walked_wide : (piece : List ℕ) (bytes characters size : ℕ) (rest after : List ℕ) → IsWalkedFree piece bytes characters rest → IsWideAt rest size → after ≡ drop size rest → IsWalkedFree piece (bytes + size) (characters + 1) after
 walked_wide piece bytes characters size rest after w a e =
     let c = a.is_at.char in
     let none : encode_utf8_all (c ∷ []) ≡ encode_utf8 c = append-nil (encode_utf8 c) in
@@ -209,12 +209,12 @@ walked_wide piece bytes characters size rest after w a e =
     (a.is_at.joined ∙ (ap (λ v. v ++ a.is_at.rest) (sym none) ∙ ap (λ v. encode_utf8_all (c ∷ []) ++ v) (sym (wide_rest size rest after a.is_at e))))
     (ap length none ∙ a.is_at.size_is) refl (subst (λ n. 1 ≤ n) a.is_at.size_is (some_bytes c))
 
-pub walked_run : (piece : List ℕ) (bytes characters : ℕ) (rest : List ℕ) → IsWalked piece bytes characters rest → IsFreeRun (take bytes piece) characters
+pub walked_run : (piece : List ℕ) (bytes characters : ℕ) (rest : List ℕ) → IsWalkedFree piece bytes characters rest → IsFreeRun (take bytes piece) characters
 walked_run piece bytes characters rest w = subst (λ v. IsFreeRun v characters) (sym front) w.run where
   front : take bytes piece ≡ w.seen
   front = ap (λ n. take n piece) (sym w.bytes_are) ∙ (ap (take (length w.seen)) w.joined ∙ take-append_seam w.seen rest)
 
-pub walked_within : (piece : List ℕ) (bytes characters : ℕ) (rest : List ℕ) → IsWalked piece bytes characters rest → bytes + length rest ≡ length piece
+pub walked_within : (piece : List ℕ) (bytes characters : ℕ) (rest : List ℕ) → IsWalkedFree piece bytes characters rest → bytes + length rest ≡ length piece
 walked_within piece bytes characters rest w = ap (λ n. n + length rest) (sym w.bytes_are) ∙ (sym (length-append w.seen rest) ∙ ap length (sym w.joined))
 
 -- ---- white space

@@ -2,21 +2,15 @@
 use Rattle.std.proofs.Common.{◌≡◌, ℕ, suc, Bool, true, false, cond, ◌==◌, ◌&&◌, ◌||◌, ◌+◌, ◌<◌, List, [], ◌∷◌, ◌++◌, length, take, drop, refl, sym, ◌∙◌, ap, subst, append_assoc, length-append, arith}
 use Rattle.std.specs.List.{list_all, prefix_len}
 use Rattle.std.proofs.lemmas.Bool.{and_parts, both_ways}
-use Rattle.std.proofs.lemmas.List.{take-append-drop}
 use Rattle.std.proofs.Math.Seq.{drop-append_seam}
+use Rattle.lexical_core.proofs.Lists.{same_first, same_rest}
 use Rattle.markup.specs.PlainTags.{begins_plain, continues_plain, is_plain_name}
 use Rattle.markup.specs.PlainStarts.{is_plain_prefix, joined_text}
 use Rattle.markup.specs.inner.WholeStarts.{named_by, goes_on_name, IsLocalAt, IsNameAt}
 use Rattle.markup.specs.declared.tag.Spelled.{Spelled}
-use Rattle.markup.proofs.TagScans.{all_continue}
+use Rattle.markup.proofs.TagScans.{all_continue, two_parts}
 
 -- ---- lists
-
-pub head_same : (a b : ℕ) (xs ys : List ℕ) → a ∷ xs ≡ b ∷ ys → a ≡ b
-head_same a b xs ys h = cc
-
-pub tail_same : (a b : ℕ) (xs ys : List ℕ) → a ∷ xs ≡ b ∷ ys → xs ≡ ys
-tail_same a b xs ys h = cc
 
 -- what stands behind a front of a list
 pub behind_front : (xs front rest after : List ℕ) (n : ℕ) → xs ≡ front ++ rest → n ≡ length front → after ≡ drop n xs → after ≡ rest
@@ -44,7 +38,7 @@ no_name bytes name behind p e z = omega (arith, ap length e, length-append name 
 
 pub name_begins : (bytes more name behind : List ℕ) (first : ℕ) → bytes ≡ first ∷ more → is_plain_name name ≡ true → bytes ≡ name ++ behind → begins_plain first ≡ true
 name_begins bytes more [] behind first f p e = absurd (both_ways false refl p)
-name_begins bytes more (b ∷ cs) behind first f p e = subst (λ v. begins_plain v ≡ true) (head_same b first (cs ++ behind) more (sym e ∙ f)) (and_parts (begins_plain b) (list_all continues_plain cs) p).0
+name_begins bytes more (b ∷ cs) behind first f p e = subst (λ v. begins_plain v ≡ true) (same_first b first (cs ++ behind) more (sym e ∙ f)) (and_parts (begins_plain b) (list_all continues_plain cs) p).0
 
 -- ---- the local part behind a colon
 
@@ -52,13 +46,9 @@ name_begins bytes more (b ∷ cs) behind first f p e = subst (λ v. begins_plain
 abbrev pub CountsPlain : List ℕ → ℕ → Type 0
 CountsPlain bytes n = (name behind : List ℕ) → is_plain_name name ≡ true → bytes ≡ name ++ behind → prefix_len continues_plain behind ≡ 0 → n ≡ length name
 
--- the bytes by their front and what is behind it
-apart : (bytes front behind : List ℕ) (n : ℕ) → front ≡ take n bytes → behind ≡ drop n bytes → bytes ≡ front ++ behind
-apart bytes front behind n t d = sym (take-append-drop n bytes) ∙ (ap (λ w. w ++ drop n bytes) (sym t) ∙ ap (λ w. front ++ w) (sym d))
-
 pub local_found : (bytes named local behind : List ℕ) (mark n : ℕ) → bytes ≡ mark ∷ named → mark ≡ 58 → is_plain_name (take n named) ≡ true → local ≡ take n named → behind ≡ drop n named → IsLocalAt bytes local behind
 local_found bytes named local behind mark n e m p t d = record {
-  spelled = e ∙ (ap (λ b. b ∷ named) m ∙ ap (λ w. 58 ∷ w) (apart named local behind n t d));
+  spelled = e ∙ (ap (λ b. b ∷ named) m ∙ ap (λ w. 58 ∷ w) (two_parts named local behind n t d));
   named = subst (λ w. is_plain_name w ≡ true) (sym t) p;
 }
 
@@ -67,10 +57,10 @@ no_local bytes local behind s z = omega (arith, ap length s.spelled, z)
 
 module _ (bytes named local behind : List ℕ) (mark : ℕ) (e : bytes ≡ mark ∷ named) (s : IsLocalAt bytes local behind) where
   pub colon_is : mark ≡ 58
-  colon_is = head_same mark 58 named (local ++ behind) (sym e ∙ s.spelled)
+  colon_is = same_first mark 58 named (local ++ behind) (sym e ∙ s.spelled)
 
   named_is : named ≡ local ++ behind
-  named_is = tail_same mark 58 named (local ++ behind) (sym e ∙ s.spelled)
+  named_is = same_rest mark 58 named (local ++ behind) (sym e ∙ s.spelled)
 
   module _ (stops : prefix_len continues_plain behind ≡ 0) (n : ℕ) (c : CountsPlain named n) where
     counted : n ≡ length local
@@ -97,7 +87,7 @@ abbrev IsNoLocal : List ℕ → Type 0
 IsNoLocal bytes = (local behind : List ℕ) → IsLocalAt bytes local behind → prefix_len continues_plain behind ≡ 0 → ⊥
 
 pub plain_alone : (bytes first after : List ℕ) (n : ℕ) → is_plain_name (take n bytes) ≡ true → first ≡ take n bytes → after ≡ drop n bytes → IsNameAt bytes (named_by [] first) after
-plain_alone bytes first after n p t d = record { spelled = apart bytes first after n t d; named = subst (λ w. is_plain_name w ≡ true) (sym t) p }
+plain_alone bytes first after n p t d = record { spelled = two_parts bytes first after n t d; named = subst (λ w. is_plain_name w ≡ true) (sym t) p }
 
 joined : (bytes first after local behind : List ℕ) → is_plain_name first ≡ true → bytes ≡ first ++ after → IsLocalAt after local behind → IsNameAt bytes (named_by first local) behind
 joined bytes [] after local behind p e s = absurd (both_ways false refl p)
@@ -107,7 +97,7 @@ joined bytes (b ∷ more) after local behind p e s = record {
 }
 
 pub with_prefix : (bytes first after local behind : List ℕ) (n : ℕ) → is_plain_name (take n bytes) ≡ true → first ≡ take n bytes → after ≡ drop n bytes → IsLocalAt after local behind → IsNameAt bytes (named_by first local) behind
-with_prefix bytes first after local behind n p t d s = joined bytes first after local behind (subst (λ w. is_plain_name w ≡ true) (sym t) p) (apart bytes first after n t d) s
+with_prefix bytes first after local behind n p t d s = joined bytes first after local behind (subst (λ w. is_plain_name w ≡ true) (sym t) p) (two_parts bytes first after n t d) s
 
 -- where no name goes on, none does with a colon, nor with a byte of its own
 ends_part : (behind : List ℕ) → prefix_len goes_on_name behind ≡ 0 → prefix_len continues_plain behind ≡ 0

@@ -1,13 +1,13 @@
 -- A text has at most one first fault, and none where it is whole.
-use Rattle.std.proofs.Common.{◌≡◌, ◌≢◌, ℕ, true, false, ◌==◌, ◌+◌, ◌<◌, ◌≤◌, ◌⊎◌, inl, inr, List, [], ◌∷◌, ◌++◌, length, reverse, Some, None, refl, sym, ◌∙◌, ap, subst, append_assoc, append-nil, length-append, arith}
+use Rattle.std.proofs.Common.{◌≡◌, ◌≢◌, ℕ, true, false, ◌==◌, ◌+◌, ◌<◌, ◌≤◌, ◌⊎◌, inl, inr, List, [], ◌∷◌, ◌++◌, length, Some, None, refl, sym, ◌∙◌, ap, subst, append_assoc, append-nil, length-append, arith}
 use Rattle.std.specs.List.{flat_map, list_all}
 use Rattle.std.specs.Char.{encode_utf8}
 use Rattle.std.specs.Str.{encode_utf8_all}
 use Rattle.std.proofs.lemmas.Bool.{both_ways, and_parts, not-false, cases_Bool, leb-true, eqb-true, eqb-false}
-use Rattle.std.proofs.lemmas.List.{reverse-append}
 use Rattle.std.proofs.lemmas.Str.{encode_same, encodes-append, length-encode, len_utf8_bounds}
 use Rattle.lexical_core.specs.Utf8.{IsFront}
 use Rattle.lexical_core.specs.declared.rule.Rule.{Rule}
+use Rattle.lexical_core.proofs.Lists.{nothing_behind}
 use Rattle.markup.specs.Chars.{is_xml_char}
 use Rattle.markup.specs.Token.{Token, Mark, Declaration, Comment, Instruction, Opener, Closer, TypeDeclaration, Start, End, Refer, LineEnd, Character, Lf, Cr, CrLf, token_text, token_bytes}
 use Rattle.markup.specs.Reference.{Named, Numbered}
@@ -16,17 +16,13 @@ use Rattle.markup.specs.Faults.{rule_of, IsClean, NoToken, TokenGoesOn, is_over,
 use Rattle.markup.proofs.Spans.{heads, tails}
 use Rattle.markup.proofs.TokenLaw.{one_token}
 use Rattle.markup.proofs.TokenChars.{token_all, last_xml}
-use Rattle.markup.proofs.NoTokens.{Shorter, Longer, compare_texts, no_whole, front_no_front, char_no_front, fronts as fronts_of, no_token}
+use Rattle.markup.proofs.NoTokens.{Shorter, Longer, compare_texts, no_whole, front_no_front, char_no_front, no_token, fronts}
 use Rattle.markup.proofs.CharLemmas.{xml_scalar}
 use Rattle.markup.proofs.Complete.{complete}
 use Rattle.markup.specs.Drafts.{no_draft}
 use Rattle.markup.specs.ScanRuns.{Over, run, position, ended_of, draft_of, ends_itself}
 use Rattle.markup.specs.declared.scan.Scan.TheVariants.{Begin}
-
--- the tokens before, behind these
-abbrev pub past : List Token → List Token → List Token
-past before [] = before
-past before (t ∷ ts) = past (t ∷ before) ts
+use Rattle.markup.proofs.TokensBehind.{tokens_behind, behind}
 
 -- what goes on did so before
 goes_less : (before : List Token) (chars more : List ℕ) (c : ℕ) → TokenGoesOn before (chars ++ c ∷ more) → TokenGoesOn before (chars ++ c ∷ [])
@@ -43,9 +39,6 @@ goes_xml before chars c g = last_xml chars g.more c (subst (λ v. list_all is_xm
 
 same_char : (c d : ℕ) (tail x y : List ℕ) → tail ≡ encode_utf8 c ++ x → tail ≡ encode_utf8 d ++ y → c ≡ d
 same_char c d tail x y e f = (encode_same c d x y (sym e ∙ f)).0
-
-fronts : (a b x y : List ℕ) → a ++ x ≡ b ++ y → ((m : List ℕ) × (b ≡ a ++ m)) ⊎ ((k : ℕ) × (m : List ℕ) × (a ≡ b ++ k ∷ m))
-fronts = fronts_of
 
 -- a whole character is no front of another
 whole_in : (part rest x : List ℕ) (c : ℕ) → IsFront part → part ++ rest ≡ encode_utf8 c ++ x → length (encode_utf8 c) ≤ length part → ⊥
@@ -280,7 +273,7 @@ module _ (limit : ℕ) (before : List Token) (bytes : List ℕ) where
   next_same r1 r2 a1 a2 (too_long ch1 q1 x1 e1 g1 n1 b1 f1 l1 k1 p1) (too_long ch2 q2 x2 e2 g2 n2 b2 f2 l2 k2 p2) = record { rule = k1 ∙ sym k2; at = p1 ∙ sym p2 }
 
 -- behind the same tokens two faults are one
-same_from : (limit : ℕ) (before : List Token) (bytes x y : List ℕ) (ts us : List Token) (r1 r2 : Rule) (a1 a2 : ℕ) → Front limit before bytes ts x → IsClean before ts → Next limit (past before ts) x r1 a1 → Front limit before bytes us y → IsClean before us → Next limit (past before us) y r2 a2 → SameFault r1 r2 (length (flat_map token_bytes ts) + a1) (length (flat_map token_bytes us) + a2)
+same_from : (limit : ℕ) (before : List Token) (bytes x y : List ℕ) (ts us : List Token) (r1 r2 : Rule) (a1 a2 : ℕ) → Front limit before bytes ts x → IsClean before ts → Next limit (tokens_behind before ts) x r1 a1 → Front limit before bytes us y → IsClean before us → Next limit (tokens_behind before us) y r2 a2 → SameFault r1 r2 (length (flat_map token_bytes ts) + a1) (length (flat_map token_bytes us) + a2)
 same_from limit before bytes x y [] [] r1 r2 a1 a2 f c n g d m =
     let s = next_same limit before bytes r1 r2 a1 a2 (subst (λ v. Next limit before v r1 a1) (sym f) n) (subst (λ v. Next limit before v r2 a2) (sym g) m) in
     record { rule = s.rule; at = ap (λ a. 0 + a) s.at }
@@ -291,17 +284,10 @@ same_from limit before bytes x y (t ∷ ts) (u ∷ us) r1 r2 a1 a2 f c n g d m =
     let s = same_from limit (t ∷ before) f.0 x y ts us r1 r2 a1 a2 f.3 c.1 n
     (subst (λ (v : Token). Front limit (v ∷ before) f.0 us y) (sym o.0) (subst (λ (v : List ℕ). Front limit (u ∷ before) v us y) (sym o.1) g.3))
     (subst (λ (v : Token). IsClean (v ∷ before) us) (sym o.0) d.1)
-    (subst (λ (v : Token). Next limit (past (v ∷ before) us) y r2 a2) (sym o.0) m) in
+    (subst (λ (v : Token). Next limit (tokens_behind (v ∷ before) us) y r2 a2) (sym o.0) m) in
     record { rule = s.rule; at = placed t u ts us a1 a2 o.0 s.at } where
       placed : (t u : Token) (ts us : List Token) (a1 a2 : ℕ) → t ≡ u → length (flat_map token_bytes ts) + a1 ≡ length (flat_map token_bytes us) + a2 → length (flat_map token_bytes (t ∷ ts)) + a1 ≡ length (flat_map token_bytes (u ∷ us)) + a2
       placed t u ts us a1 a2 e f = omega (arith, length-append (token_bytes t) (flat_map token_bytes ts), length-append (token_bytes u) (flat_map token_bytes us), ap (λ v. length (token_bytes v)) e, f)
-
-past_reverse : (before ts : List Token) → past before ts ≡ reverse ts ++ before
-past_reverse before [] = refl
-past_reverse before (t ∷ ts) = past_reverse (t ∷ before) ts ∙ (sym (append_assoc (reverse ts) (t ∷ []) before) ∙ ap (λ v. v ++ before) (sym (reverse-append (t ∷ []) ts)))
-
-pub behind : (ts : List Token) → reverse ts ≡ past [] ts
-behind ts = sym (past_reverse [] ts ∙ append-nil (reverse ts))
 
 -- a text has at most one first fault
 pub one_fault : {limit : ℕ} (bytes : List ℕ) (f g : Fault) → MarkFaultUnder limit bytes f → MarkFaultUnder limit bytes g → f ≡ g
@@ -327,21 +313,17 @@ none_stops before chars tail rule shown (no_char p x b e f n r s) h = empty p b 
 none_stops before chars tail rule shown (bad_char c x e s n r k) h = some_bytes c x (sym h ∙ e)
 none_stops before chars tail rule shown (stuck c x e s n r k) h = some_bytes c x (sym h ∙ e)
 
-append_none : (x y : List ℕ) → [] ≡ x ++ y → y ≡ []
-append_none [] y e = sym e
-append_none (c ∷ x) y e = absurd (cc)
-
 -- at the end of a whole text there is no fault
 pub next_over : (limit : ℕ) (before : List Token) (bytes : List ℕ) (rule : Rule) (at : ℕ) → Next limit before bytes rule at → bytes ≡ [] → is_over before ≡ true → ⊥
 next_over limit before bytes rule at (broken t after cell s k p) e o = nothing_stands before t after (subst (λ v. Cell before t v after) e cell)
-next_over limit before bytes rule at (halts chars tail shown b n g h k p) e o = none_stops before chars tail rule shown h (append_none (encode_utf8_all chars) tail (sym e ∙ b))
+next_over limit before bytes rule at (halts chars tail shown b n g h k p) e o = none_stops before chars tail rule shown h (nothing_behind (encode_utf8_all chars) tail (sym e ∙ b))
 next_over limit before bytes rule at (cut chars part b n g f k q r p) e o = both_ways _ (q e) o
 next_over limit before bytes rule at (too_long chars part rest b g n t f l r p) e o = begun chars t (sym e ∙ (b ∙ append_assoc (encode_utf8_all chars) part rest)) where
   begun : (cs : List ℕ) → IsTagBegun cs → [] ≡ encode_utf8_all cs ++ (part ++ rest) → ⊥
   begun [] t q = t
   begun (c ∷ cs) t q = some_bytes c (encode_utf8_all cs ++ (part ++ rest)) (q ∙ append_assoc (encode_utf8 c) (encode_utf8_all cs) (part ++ rest))
 
-none_from : (limit : ℕ) (before : List Token) (bytes y : List ℕ) (ts us : List Token) (rule : Rule) (at : ℕ) → Front limit before bytes ts [] → IsClean before ts → is_over (past before ts) ≡ true → Front limit before bytes us y → IsClean before us → Next limit (past before us) y rule at → ⊥
+none_from : (limit : ℕ) (before : List Token) (bytes y : List ℕ) (ts us : List Token) (rule : Rule) (at : ℕ) → Front limit before bytes ts [] → IsClean before ts → is_over (tokens_behind before ts) ≡ true → Front limit before bytes us y → IsClean before us → Next limit (tokens_behind before us) y rule at → ⊥
 none_from limit before bytes y [] [] rule at f c o g d m = next_over limit before y rule at m (sym g ∙ f) o
 none_from limit before bytes y [] (u ∷ us) rule at f c o g d m = nothing_stands before u g.0 (subst (λ v. Cell before u v g.0) f g.1)
 none_from limit before bytes y (t ∷ ts) [] rule at f c o g d m = next_none limit before bytes t f.0 rule at (subst (λ v. Next limit before v rule at) (sym g) m) f.1 f.2 c.0
@@ -350,7 +332,7 @@ none_from limit before bytes y (t ∷ ts) (u ∷ us) rule at f c o g d m =
     none_from limit (t ∷ before) f.0 y ts us rule at f.3 c.1 o
     (subst (λ (v : Token). Front limit (v ∷ before) f.0 us y) (sym k.0) (subst (λ (v : List ℕ). Front limit (u ∷ before) v us y) (sym k.1) g.3))
     (subst (λ (v : Token). IsClean (v ∷ before) us) (sym k.0) d.1)
-    (subst (λ (v : Token). Next limit (past (v ∷ before) us) y rule at) (sym k.0) m)
+    (subst (λ (v : Token). Next limit (tokens_behind (v ∷ before) us) y rule at) (sym k.0) m)
 
 -- a whole text has no fault
 pub whole_has_none : {limit : ℕ} (bytes : List ℕ) (f : Fault) → IsWholeUnder limit bytes → MarkFaultUnder limit bytes f → ⊥

@@ -1,12 +1,13 @@
 -- The open tags are tags of tokens that stand, and their names are those of the open elements that events tell.
-use Rattle.std.proofs.Common.{◌≡◌, ℕ, suc, Bool, true, false, ◌==◌, ◌||◌, ◌+◌, List, [], ◌∷◌, ◌++◌, length, drop, reverse, Option, Some, None, refl, sym, ◌∙◌, ap, subst, arith}
+use Rattle.std.proofs.Common.{◌≡◌, ℕ, Bool, true, false, ◌==◌, ◌||◌, ◌+◌, List, [], ◌∷◌, ◌++◌, length, drop, reverse, Option, Some, None, refl, sym, ◌∙◌, ap, subst}
 use Rattle.std.specs.Str.{encode_utf8_all}
 use Rattle.std.specs.Bool.{if◌then◌else◌}
 use Rattle.std.specs.Option.{is_none}
 use Rattle.std.proofs.lemmas.Bool.{both_ways, and_parts}
-use Rattle.std.proofs.lemmas.Bool.Decides.{nat_tests}
+use Rattle.std.specs.List.{list_any}
 use Rattle.lexical_core.specs.Tree.{Expanded, Ends}
 use Rattle.lexical_core.specs.declared.rule.Rule.TheVariants.{DuplicateAttribute, BadPrefix, AfterRoot}
+use Rattle.lexical_core.proofs.Tests.{suc_not_zero}
 use Rattle.markup.specs.Name.{Name, Plain, Prefixed, is_part, is_name}
 use Rattle.markup.specs.Token.{Token, Mark, Declaration, Comment, Instruction, Opener, Closer, TypeDeclaration, Start, End, Refer, LineEnd, Character, token_bytes}
 use Rattle.markup.specs.Marks.{in_cdata, stands, Front}
@@ -15,12 +16,11 @@ use Rattle.markup.specs.Faults.{has_start, rule_of, start_rule, is_over, has_cla
 use Rattle.markup.specs.PlainTags.{open_after, open_behind, innermost_namespace, IsPlainInside}
 use Rattle.markup.specs.declared.tag.Spelled.{Spelled}
 use Rattle.markup.specs.declared.tag.Opening.{Opening}
-use Rattle.std.specs.List.{list_any}
 use Rattle.markup.specs.Scopes.{placed_at}
-use Rattle.markup.proofs.OneFault.{past, behind}
 use Rattle.markup.proofs.PlainLemmas.{no_chars}
 use Rattle.markup.proofs.TokenKinds.{never_in}
 use Rattle.markup.proofs.TokenLemmas.{start_tag_facts}
+use Rattle.markup.proofs.TokensBehind.{tokens_behind, behind}
 
 -- ---- names
 
@@ -29,7 +29,7 @@ abbrev Standing : List Token → Type 0
 Standing [] = Unit {0}
 Standing (t ∷ before) = ((after : List ℕ) × (stands before t after ≡ true)) × Standing before
 
-standing_past : (limit : ℕ) (before : List Token) (b rest : List ℕ) (ts : List Token) → Standing before → Front limit before b ts rest → Standing (past before ts)
+standing_past : (limit : ℕ) (before : List Token) (b rest : List ℕ) (ts : List Token) → Standing before → Front limit before b ts rest → Standing (tokens_behind before ts)
 standing_past limit before b rest [] s f = s
 standing_past limit before b rest (t ∷ ts) s f = standing_past limit (t ∷ before) f.0 rest ts ((f.0, f.1.is), s) f.3
 
@@ -134,10 +134,10 @@ open_append : (opened : List Expanded) (es fs : List Placed) → open_behind ope
 open_append opened [] fs = refl
 open_append opened (e ∷ es) fs = open_append (open_after opened e.item) es fs
 
-expanded_past : (before : List Token) (opened : List Expanded) (p : ℕ) (ts : List Token) → IsClean before ts → AreExpanded (open_tags before) opened → AreExpanded (open_tags (past before ts)) (open_behind opened (events before p ts))
+expanded_past : (before : List Token) (opened : List Expanded) (p : ℕ) (ts : List Token) → IsClean before ts → AreExpanded (open_tags before) opened → AreExpanded (open_tags (tokens_behind before ts)) (open_behind opened (events before p ts))
 expanded_past before opened p [] c a = a
 expanded_past before opened p (t ∷ ts) c a =
-    subst (AreExpanded (open_tags (past (t ∷ before) ts))) (sym (open_append opened (placed_at p (items_of before t)) (events (t ∷ before) (p + length (token_bytes t)) ts)))
+    subst (AreExpanded (open_tags (tokens_behind (t ∷ before) ts))) (sym (open_append opened (placed_at p (items_of before t)) (events (t ∷ before) (p + length (token_bytes t)) ts)))
     (expanded_past (t ∷ before) (open_behind opened (placed_at p (items_of before t))) (p + length (token_bytes t)) ts c.1 (token_expanded before t opened p c.0 a))
 
 -- the elements that are open behind the events of tokens
@@ -165,9 +165,6 @@ innermost_ends (tag ∷ tags) (e ∷ es) opened a i = ap end_tag_items a.0 ∙ a
 
 -- ---- whether the root has come
 
-not_zero : (n : ℕ) → (suc n == 0) ≡ false
-not_zero n = grind (arith, nat_tests)
-
 -- where an element is open, a start tag has come
 pub inside_started : (before : List Token) → (length (open_tags before) == 0) ≡ false → has_start before ≡ true
 inside_started [] h = absurd (both_ways true h refl)
@@ -175,7 +172,7 @@ inside_started (Start tag ∷ before) h = refl
 inside_started (End name gap ∷ before) h = inside_started before (fewer (open_tags before) h) where
   fewer : (tags : List Opening) → (length (drop 1 tags) == 0) ≡ false → (length tags == 0) ≡ false
   fewer [] h = h
-  fewer (tag ∷ tags) h = not_zero (length tags)
+  fewer (tag ∷ tags) h = suc_not_zero (length tags)
 inside_started (Mark ∷ before) h = inside_started before h
 inside_started (Declaration fields gap ∷ before) h = inside_started before h
 inside_started (Comment text ∷ before) h = inside_started before h

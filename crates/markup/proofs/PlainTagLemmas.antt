@@ -1,5 +1,5 @@
 -- A plain tag is a token that stands where an element without a prefix is open.
-use Rattle.std.proofs.Common.{◌≡◌, ℕ, suc, Bool, true, false, ◌==◌, ◌||◌, ◌&&◌, ◌+◌, ◌<◌, ◌≤◌, List, [], ◌∷◌, ◌++◌, length, take, reverse, Some, None, refl, sym, ◌∙◌, ap, subst, append-nil, arith}
+use Rattle.std.proofs.Common.{◌≡◌, ℕ, Bool, true, false, ◌==◌, ◌||◌, ◌&&◌, ◌+◌, ◌<◌, ◌≤◌, List, [], ◌∷◌, ◌++◌, length, take, reverse, Some, None, refl, sym, ◌∙◌, ap, subst, append-nil, arith}
 use Rattle.std.specs.Bool.{if◌then◌else◌}
 use Rattle.std.specs.Char.{encode_utf8}
 use Rattle.std.specs.Int.{is_in_range}
@@ -13,6 +13,7 @@ use Rattle.std.proofs.lemmas.Slice.Eq.{bytes_eq-Decides}
 use Rattle.std.proofs.lemmas.Str.{encode_ascii, encodes-append}
 use Rattle.lexical_core.specs.Tree.{Expanded, Ends}
 use Rattle.lexical_core.specs.declared.rule.Rule.TheVariants.{BadPrefix, AfterRoot, TagMismatch}
+use Rattle.lexical_core.proofs.Tests.{suc_not_zero}
 use Rattle.markup.specs.Chars.{in_some, name_start_ranges, name_more_ranges, is_name_start, is_name_char}
 use Rattle.markup.specs.Name.{Plain, is_part}
 use Rattle.markup.specs.Token.{Token, Mark, Start, End, token_bytes}
@@ -42,9 +43,7 @@ use Rattle.markup.proofs.PlainLemmas.{is_fresh, no_chars, at_same, text_place, t
 use Rattle.markup.proofs.ReaderLemmas.{told_so_far, starts}
 use Rattle.markup.proofs.TokenRuleLemmas.{in_cdata-open}
 use Rattle.markup.proofs.WholeTokens.{IsNext, all_told, takes_next}
-
-not_zero : (n : ℕ) → (suc n == 0) ≡ false
-not_zero n = grind (arith, nat_tests)
+use Rattle.markup.proofs.TagScans.{begins_continues}
 
 -- ---- names
 
@@ -79,9 +78,6 @@ ascii_all : (cs : List ℕ) → list_all continues_plain cs ≡ true → encode_
 ascii_all [] h = refl
 ascii_all (c ∷ cs) h = let a = and_parts _ _ h in
     ap (λ v. v ++ encode_utf8_all cs) (encode_ascii c (plain_ascii c a.0)) ∙ ap (λ v. c ∷ v) (ascii_all cs a.1)
-
-begins_continues : (c : ℕ) → begins_plain c ≡ true → continues_plain c ≡ true
-begins_continues c h = or_left (begins_plain c || is_in_range 48 57 c) (is_in_range 45 46 c) (or_left (begins_plain c) (is_in_range 48 57 c) h)
 
 -- a plain name is its own characters
 pub plain_is_part : (name : List ℕ) → is_plain_name name ≡ true → is_part name ≡ true
@@ -120,7 +116,7 @@ tag_bytes EndKind cs name e = ap (λ v. encode_utf8_all (60 ∷ 47 ∷ (v ++ 62 
 module _ (before : List Token) (opened : List ℕ) (es : List Expanded) (inside : IsPlainInside (open_tags before) opened) (expand : AreExpanded (open_tags before) es) where
   some_open : (tags : List Opening) → IsPlainInside tags opened → (length tags == 0) ≡ false
   some_open [] i = absurd i
-  some_open (tag ∷ tags) i = not_zero (length tags)
+  some_open (tag ∷ tags) i = suc_not_zero (length tags)
 
   pub is_inside : is_outside before ≡ false
   is_inside = some_open (open_tags before) inside

@@ -33,7 +33,6 @@ use Rattle.markup.specs.declared.tokenizer.Finish.TheVariants.{Nothing, Return, 
 use Rattle.markup.specs.declared.tokenizer.Tokenizer.{Tokenizer}
 use Rattle.markup.proofs.SettleLemmas.{finishes_by}
 use Rattle.markup.proofs.InputLemmas.{front_snoc, reverse_snoc, clean_snoc, reads_start, reads_none, reads_token}
-use Rattle.markup.proofs.OneFault.{behind}
 use Rattle.markup.proofs.InputEnds.{clean_pending, over_pending, reads_longest, to_end, ends_cut, ends_open, none_but_truncated}
 use Rattle.markup.proofs.InputEvents.{none_pending, pending_same, no_fault_behind, events-ended}
 use Rattle.markup.proofs.InputSteps.{settles_input, advances_input}
@@ -42,6 +41,7 @@ use Rattle.markup.proofs.TokenRuleLemmas.{items_ended, in_cdata-open}
 use Rattle.markup.proofs.EventLemmas.{events_return}
 use Rattle.markup.proofs.EventTells.{tells_none, tells_twice}
 use Rattle.markup.proofs.NoCut.{stays_no_cut}
+use Rattle.markup.proofs.TokensBehind.{behind}
 
 -- some end of the tokenizer
 abbrev finish_of : Tokenizer → Finish

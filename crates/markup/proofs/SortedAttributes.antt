@@ -9,12 +9,12 @@ use Rattle.std.specs.declared.cmp.Ordering.TheVariants.{Less, Equal, Greater}
 use Rattle.std.proofs.lemmas.Cmp.{on_total}
 use Rattle.std.proofs.lemmas.Fn.{always_returns_same}
 use Rattle.std.proofs.lemmas.List.Sorted.{ranks_by}
-use Rattle.markup.specs.Events.{put}
 use Rattle.lexical_core.specs.Names.{name_cmp}
-use Rattle.markup.specs.inner.TagParts.{sorted_entries}
 use Rattle.lexical_core.proofs.StableSort.{put_by, sorted_by, by_less, sorted_is}
-use Rattle.markup.proofs.Twins.{entries_total, by_name}
 use Rattle.lexical_core.specs.Tree.{Entry}
+use Rattle.markup.specs.Events.{put}
+use Rattle.markup.specs.inner.TagParts.{sorted_entries}
+use Rattle.markup.proofs.Twins.{entries_total, by_name}
 use denote.Param.Members.{Mut}
 
 module _ {X : Type 0} (entry : X → Entry) where

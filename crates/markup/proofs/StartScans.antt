@@ -16,7 +16,7 @@ use Rattle.std.proofs.lemmas.Str.{encode_ascii, encodes-append}
 use Rattle.std.proofs.Math.Seq.{take-append_seam}
 use Rattle.markup.specs.Chars.{is_space, is_gap}
 use Rattle.markup.specs.Name.{is_name, name_text}
-use Rattle.markup.specs.Attribute.{Attribute, Literal, is_attribute, is_piece, piece_text, value_chars, begins_lf, attribute_text}
+use Rattle.markup.specs.Attribute.{Attribute, Literal, is_attribute, is_piece, value_chars, begins_lf, attribute_text}
 use Rattle.markup.specs.Token.{StartTag, Start, token_bytes}
 use Rattle.markup.specs.Marks.{tag_limit}
 use Rattle.markup.specs.Events.{given_attribute as given_by}
@@ -33,6 +33,7 @@ use Rattle.markup.proofs.AttributeLemmas.{attribute_then}
 use Rattle.markup.proofs.InsideRuns.{value_xml, value_ascii, value_not, space_is}
 use Rattle.markup.proofs.QualifiedNames.{name_of, name_written, qualified_is, qualified_encoded, qualified_says}
 use Rattle.markup.proofs.TagScans.{name_found, kind_same, slashed_is}
+use Rattle.markup.proofs.DeclarationSound.{plain_text}
 
 -- ---- characters of ASCII
 
@@ -68,10 +69,6 @@ module _ (q : ℕ) where
       ap (λ b. if b && begins_lf (map Literal v) then value_chars (map Literal v) else (if is_space c then 32 else c) ∷ value_chars (map Literal v)) (value_not q c a.0).3
       ∙ (ap (λ d. d ∷ value_chars (map Literal v)) (literal_spaces c a.0) ∙ ap (λ w. c ∷ w) (literal_chars v a.1))
 
-literal_text : (v : List ℕ) → flat_map piece_text (map Literal v) ≡ v
-literal_text [] = refl
-literal_text (c ∷ v) = ap (λ w. c ∷ w) (literal_text v)
-
 -- ---- an attribute
 
 abbrev attribute_of : Spelled → ℕ → List ℕ → Attribute
@@ -100,7 +97,7 @@ module _ (name : Spelled) (q : ℕ) (value : List ℕ) (named : is_plain_qualifi
 
   attribute_spelled : attribute_text (attribute_of name q value) ≡ attribute_bytes name q value
   attribute_spelled = sym (append-nil (attribute_text (attribute_of name q value))) ∙ (attribute_then (attribute_of name q value) []
-      ∙ (ap (λ w. 32 ∷ (name_text (name_of name) ++ 61 ∷ q ∷ (w ++ q ∷ []))) (literal_text value) ∙ ap (λ w. 32 ∷ (w ++ 61 ∷ q ∷ (value ++ q ∷ []))) (name_written name)))
+      ∙ (ap (λ w. 32 ∷ (name_text (name_of name) ++ 61 ∷ q ∷ (w ++ q ∷ []))) (plain_text value) ∙ ap (λ w. 32 ∷ (w ++ 61 ∷ q ∷ (value ++ q ∷ []))) (name_written name)))
 
   attribute_encoded : encode_utf8_all (attribute_text (attribute_of name q value)) ≡ attribute_bytes name q value
   attribute_encoded =

@@ -5,6 +5,7 @@ use Rattle.std.specs.List.{list_all, flat_map, prefix_len}
 use Rattle.std.specs.Option.{IsSomeAnd}
 use Rattle.std.proofs.lemmas.Bool.{and_parts, both_ways}
 use Rattle.std.proofs.lemmas.Bool.Decides.{nat_tests}
+use Rattle.lexical_core.proofs.Lists.{same_first, same_rest}
 use Rattle.markup.specs.Marks.{begins_with}
 use Rattle.markup.specs.PlainTags.{mark_count, closing}
 use Rattle.markup.specs.PlainStarts.{is_plain_qualified, qualified_text, is_quote, is_literal_of, PlainAttribute, is_plain_attribute, plain_attribute_text, PlainStart, is_plain_start, start_end, plain_start_text}
@@ -14,12 +15,9 @@ use Rattle.markup.specs.declared.plain_tag.TagKind.TheVariants.{Start as StartKi
 use Rattle.markup.specs.declared.start_tag.WholeStart.{WholeStart}
 use Rattle.markup.specs.declared.tag.Given.{Given}
 use Rattle.markup.specs.declared.tag.Spelled.{Spelled}
-use Rattle.markup.proofs.NamesFound.{IsBehindName, head_same, tail_same, behind_front, run_ends}
+use Rattle.markup.proofs.NamesFound.{IsBehindName, behind_front, run_ends}
 use Rattle.markup.proofs.StartScans.{none_given, more_given}
-use Rattle.markup.proofs.TagScans.{kind_same}
-
-none_kind : (kind : TagKind) → None ≡ Some kind → ⊥
-none_kind kind h = cc
+use Rattle.markup.proofs.TagScans.{kind_same, none_some}
 
 -- ---- a value
 
@@ -34,13 +32,13 @@ no_value bytes value behind s z = omega (arith, ap length s.spelled, z)
 
 module _ (bytes inside value behind : List ℕ) (q : ℕ) (e : bytes ≡ q ∷ inside) (s : IsValueAt bytes value behind) where
   same_quote : s.quote ≡ q
-  same_quote = head_same s.quote q (value ++ s.quote ∷ behind) inside (sym s.spelled ∙ e)
+  same_quote = same_first s.quote q (value ++ s.quote ∷ behind) inside (sym s.spelled ∙ e)
 
   pub value_quoted : is_quote q ≡ true
   value_quoted = subst (λ b. is_quote b ≡ true) same_quote s.quoted
 
   inside_is : inside ≡ value ++ q ∷ behind
-  inside_is = sym (tail_same s.quote q (value ++ s.quote ∷ behind) inside (sym s.spelled ∙ e)) ∙ ap (λ b. value ++ b ∷ behind) same_quote
+  inside_is = sym (same_rest s.quote q (value ++ s.quote ∷ behind) inside (sym s.spelled ∙ e)) ∙ ap (λ b. value ++ b ∷ behind) same_quote
 
   module _ (ended : List ℕ) (n : ℕ) (c : n ≡ prefix_len (is_literal_of q) inside) (d : ended ≡ drop n inside) where
     ended_is : ended ≡ q ∷ behind
@@ -51,10 +49,10 @@ module _ (bytes inside value behind : List ℕ) (q : ℕ) (e : bytes ≡ q ∷ i
     value_ends z = omega (arith, ap length ended_is, z)
 
     pub quote_ends : (last : ℕ) (rest : List ℕ) → ended ≡ last ∷ rest → last ≡ q
-    quote_ends last rest f = head_same last q rest behind (sym f ∙ ended_is)
+    quote_ends last rest f = same_first last q rest behind (sym f ∙ ended_is)
 
     pub behind_value : (last : ℕ) (rest : List ℕ) → ended ≡ last ∷ rest → rest ≡ behind
-    behind_value last rest f = tail_same last q rest behind (sym f ∙ ended_is)
+    behind_value last rest f = same_rest last q rest behind (sym f ∙ ended_is)
 
 -- ---- an attribute
 
@@ -66,10 +64,10 @@ module _ (bytes named : List ℕ) (name : Spelled) (value behind : List ℕ) (ga
   quoted_so = s.quote ∷ (value ++ s.quote ∷ behind)
 
   pub gap_is : gap ≡ 32
-  gap_is = head_same gap 32 named (qualified_text name ++ 61 ∷ quoted_so) (sym e ∙ s.spelled)
+  gap_is = same_first gap 32 named (qualified_text name ++ 61 ∷ quoted_so) (sym e ∙ s.spelled)
 
   pub name_follows : IsNameAt named name (61 ∷ quoted_so)
-  name_follows = record { spelled = tail_same gap 32 named (qualified_text name ++ 61 ∷ quoted_so) (sym e ∙ s.spelled); named = s.named }
+  name_follows = record { spelled = same_rest gap 32 named (qualified_text name ++ 61 ∷ quoted_so) (sym e ∙ s.spelled); named = s.named }
 
   module _ (after : List ℕ) (a : IsBehindName named after) where
     after_is : after ≡ 61 ∷ quoted_so
@@ -80,10 +78,10 @@ module _ (bytes named : List ℕ) (name : Spelled) (value behind : List ℕ) (ga
 
     module _ (mark : ℕ) (quoted : List ℕ) (f : after ≡ mark ∷ quoted) where
       pub mark_is : mark ≡ 61
-      mark_is = head_same mark 61 quoted quoted_so (sym f ∙ after_is)
+      mark_is = same_first mark 61 quoted quoted_so (sym f ∙ after_is)
 
       pub value_follows : IsValueAt quoted value behind
-      value_follows = record { quote = s.quote; spelled = tail_same mark 61 quoted quoted_so (sym f ∙ after_is); quoted = s.quoted; literal = s.literal }
+      value_follows = record { quote = s.quote; spelled = same_rest mark 61 quoted quoted_so (sym f ∙ after_is); quoted = s.quoted; literal = s.literal }
 
 -- ---- attributes, one after another
 
@@ -170,14 +168,14 @@ module _ (front named rest : List ℕ) (first : ℕ) (tag : PlainStart) (plain :
   written = qualified_text tag.name
 
   pub start_opens : first ≡ 60
-  start_opens = head_same first 60 named ((written ++ (texts ++ start_end tag.is_empty)) ++ rest) (sym f ∙ e)
+  start_opens = same_first first 60 named ((written ++ (texts ++ start_end tag.is_empty)) ++ rest) (sym f ∙ e)
 
   parts : (is_plain_qualified tag.name ≡ true) × (list_all is_plain_attribute tag.attributes ≡ true)
   parts = and_parts (is_plain_qualified tag.name) (list_all is_plain_attribute tag.attributes) plain
 
   pub start_named : IsNameAt named tag.name (behind_name tag rest)
   start_named = record {
-    spelled = tail_same first 60 named ((written ++ (texts ++ start_end tag.is_empty)) ++ rest) (sym f ∙ e)
+    spelled = same_rest first 60 named ((written ++ (texts ++ start_end tag.is_empty)) ++ rest) (sym f ∙ e)
         ∙ (append_assoc written (texts ++ start_end tag.is_empty) rest ∙ ap (λ w. written ++ w) (append_assoc texts (start_end tag.is_empty) rest));
     named = parts.0;
   }
@@ -197,7 +195,7 @@ module _ (front named rest : List ℕ) (first : ℕ) (tag : PlainStart) (plain :
     closes = ap closing (behind_front behind texts (start_end tag.is_empty ++ rest) last size behind_is size_is l) ∙ ends_start tag.is_empty rest
 
     pub start_closes : closing last ≡ None → ⊥
-    start_closes n = none_kind (kind_of tag.is_empty) (sym n ∙ closes)
+    start_closes n = none_some (kind_of tag.is_empty) (sym n ∙ closes)
 
     count_is : length named - length behind ≡ length written
     count_is = omega (arith, ap length start_named.spelled, ap length behind_is, length-append written (behind_name tag rest))

@@ -25,11 +25,11 @@ use Rattle.markup.proofs.EventLemmas.{events_snoc}
 use Rattle.markup.proofs.EventTells.{tells_none}
 use Rattle.markup.proofs.InputLemmas.{front_snoc, clean_snoc}
 use Rattle.markup.proofs.NoCut.{stays_no_cut}
-use Rattle.markup.proofs.OneFault.{behind}
 use Rattle.markup.proofs.PlainLemmas.{is_fresh, text_place, text_between}
 use Rattle.markup.proofs.ReaderLemmas.{told_so_far, starts}
 use Rattle.markup.proofs.TokenRuleLemmas.{in_cdata-open}
 use Rattle.markup.proofs.WholeTokens.{IsNext, none_open, all_told, takes_next}
+use Rattle.markup.proofs.TokensBehind.{behind}
 
 -- the tag that was found
 pub some_holds : (piece : List ℕ) (o : Option WholeStart) (s : WholeStart) → o ≡ Some s → IfSome o (λ t. IsStartAt piece t.tag t.bytes) → IsStartAt piece s.tag s.bytes

@@ -17,9 +17,10 @@ use Rattle.markup.specs.declared.tokenizer.Finish.TheVariants.{Nothing, Return, 
 use Rattle.markup.proofs.SettleLemmas.{finishes_by}
 use Rattle.markup.proofs.InputLemmas.{front_snoc, clean_snoc}
 use Rattle.markup.proofs.InputEnds.{reads_longest, clean_pending}
-use Rattle.markup.proofs.OneFault.{behind, next_none, next_same, next_over, nothing_stands, some_bytes}
+use Rattle.markup.proofs.OneFault.{next_none, next_same, next_over, nothing_stands, some_bytes}
 use Rattle.markup.proofs.LineEnds.{crlf_stands, line_bytes}
 use Rattle.markup.proofs.EventLemmas.{events_return}
+use Rattle.markup.proofs.TokensBehind.{behind}
 
 cr_stands : (before : List Token) (after : List ℕ) → begins_with 10 after ≡ false → stands before (LineEnd Cr) after ≡ true
 cr_stands before after e = by (in_cdata before) where

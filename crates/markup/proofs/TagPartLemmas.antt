@@ -3,9 +3,9 @@ use Rattle.std.proofs.Common.{◌≡◌, ℕ, Bool, true, false, List, [], ◌�
 use Rattle.std.specs.Global.{Vec}
 use Rattle.std.specs.List.{list_any}
 use Rattle.std.specs.Str.{bytes_eq}
-use Rattle.lexical_core.specs.Names.{xmlns}
 use Rattle.std.proofs.lemmas.Slice.Eq.{bytes_eq-Decides}
 use Rattle.std.proofs.lemmas.List.{append_assoc, reverse-append}
+use Rattle.lexical_core.specs.Names.{xmlns}
 use Rattle.markup.specs.declared.tag.Spelled.{Spelled}
 use Rattle.markup.specs.declared.tag.Given.{Given}
 use Rattle.markup.specs.declared.attributes.Parted.{Parted}
@@ -17,10 +17,6 @@ use Rattle.markup.specs.Scopes.{declarations}
 use Rattle.markup.specs.inner.TagParts.{plain_attributes, declares_twice, declares_badly, IsParted, AreDeclared}
 
 -- ---- tests
-
-pub or-false : (a : Bool) → (a || false) ≡ a
-or-false true = refl
-or-false false = refl
 
 pub or_comm : (a b : Bool) → (a || b) ≡ (b || a)
 or_comm true true = refl

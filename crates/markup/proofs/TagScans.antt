@@ -6,10 +6,10 @@ use Rattle.std.specs.List.{list_all, prefix_len}
 use Rattle.std.proofs.lemmas.Bool.{and_parts, eqb-true}
 use Rattle.std.proofs.lemmas.List.{take-append-drop}
 use Rattle.std.proofs.Math.Seq.{take-append_seam, drop-append_seam}
+use Rattle.std.specs.Option.{IfSome}
 use Rattle.markup.specs.Marks.{tag_limit}
 use Rattle.markup.specs.PlainTags.{begins_plain, continues_plain, is_plain_name, tag_text, mark_count, may_be_named, IsTagAt, closing, slash_kind}
 use Rattle.markup.specs.declared.plain_tag.PlainTag.{PlainTag}
-use Rattle.std.specs.Option.{IfSome}
 use Rattle.markup.specs.declared.plain_tag.TagKind.{TagKind}
 use Rattle.markup.specs.declared.plain_tag.TagKind.TheVariants.{Start, Empty, End}
 
@@ -48,7 +48,7 @@ bounded_found result piece opened kind name rest e m h = if_some result _ _
 -- ---- end tags
 
 -- the bytes of the front and of the back of a list
-two_parts : (xs front back : List ℕ) (n : ℕ) → front ≡ take n xs → back ≡ drop n xs → xs ≡ front ++ back
+pub two_parts : (xs front back : List ℕ) (n : ℕ) → front ≡ take n xs → back ≡ drop n xs → xs ≡ front ++ back
 two_parts xs front back n f b = sym (take-append-drop n xs) ∙ (ap (λ v. v ++ drop n xs) (sym f) ∙ ap (λ v. front ++ v) (sym b))
 
 pub end_parts : (behind name after rest : List ℕ) (n b : ℕ) → name ≡ take n behind → after ≡ drop n behind → after ≡ b ∷ rest → b ≡ 62 → 60 ∷ 47 ∷ behind ≡ tag_text End name ++ rest
@@ -61,7 +61,7 @@ ends_there behind opened name after rest t d e = (t ∙ (ap (take (length opened
 
 -- ---- start tags
 
-begins_continues : (c : ℕ) → begins_plain c ≡ true → continues_plain c ≡ true
+pub begins_continues : (c : ℕ) → begins_plain c ≡ true → continues_plain c ≡ true
 begins_continues c h = ap (λ b. b || is_in_range 48 57 c || is_in_range 45 46 c) h
 
 names_continue : (xs : List ℕ) → list_all continues_plain (take (prefix_len continues_plain xs) xs) ≡ true
@@ -133,7 +133,7 @@ starts_there behind name after found rest n kind p e k c t d =
     let s : n ≡ length name = c ∙ (ap (prefix_len continues_plain) e ∙ name_length name after kind (all_continue name p) k) in
     (t ∙ (ap (λ m. take m behind) s ∙ (ap (take (length name)) e ∙ take-append_seam name after)), d ∙ (ap (λ m. drop m behind) s ∙ (ap (drop (length name)) e ∙ drop-append_seam name after)))
 
-none_some : (kind : TagKind) → None ≡ Some kind → ⊥
+pub none_some : (kind : TagKind) → None ≡ Some kind → ⊥
 none_some kind e = cc
 
 -- what closes it is not missed

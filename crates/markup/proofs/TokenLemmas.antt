@@ -32,7 +32,7 @@ comment_agree (c ∷ s) (d ∷ t) x y a b e =
     let r = comment_agree s t x y (comment_tail c s a) (comment_tail d t b) (tails c d _ _ e) in
     (cons c d s t (heads c d _ _ e) r.0, r.1)
 
-instruction_tail : (c : ℕ) (s : List ℕ) → is_instruction_text (c ∷ s) ≡ true → is_instruction_text s ≡ true
+pub instruction_tail : (c : ℕ) (s : List ℕ) → is_instruction_text (c ∷ s) ≡ true → is_instruction_text s ≡ true
 instruction_tail c [] h = refl
 instruction_tail c (d ∷ s) h = (and_parts _ _ h).1
 

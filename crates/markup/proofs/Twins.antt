@@ -12,10 +12,10 @@ use Rattle.std.proofs.lemmas.Cmp.{nat_list_cmp_total, nat_list_eq_equiv, on_tota
 use Rattle.std.proofs.lemmas.Map.Text.{is_eq-slice_cmp}
 use Rattle.std.proofs.lemmas.Slice.Eq.{bytes_eq-Decides}
 use Rattle.lexical_core.specs.Tree.{Expanded, Entry}
-use Rattle.markup.specs.Events.{put}
 use Rattle.lexical_core.specs.Names.{name_cmp}
-use Rattle.markup.specs.inner.TagParts.{is_named, first_is_named, has_twins, sorted_entries}
 use Rattle.lexical_core.proofs.StableSort.{put_by, sorted_by, Climbs, NoneLess, climbs-sorted}
+use Rattle.markup.specs.Events.{put}
+use Rattle.markup.specs.inner.TagParts.{is_named, first_is_named, has_twins, sorted_entries}
 use Rattle.markup.proofs.TagPartLemmas.{or_assoc, or_swap}
 
 -- ---- names in order

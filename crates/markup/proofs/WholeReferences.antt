@@ -14,7 +14,7 @@ use Rattle.lexical_core.specs.declared.rule.Rule.TheVariants.{TextOutside}
 use Rattle.markup.specs.Ascii.{is_ascii}
 use Rattle.markup.specs.Reference.{Ampersand, Less, Greater, Apostrophe, Quote, Reference, Named, Numbered, is_reference, referred_character, reference_text}
 use Rattle.markup.specs.References.{IsReferenceAt, MayReferUnder}
-use Rattle.markup.specs.Token.{Token, Mark, Refer, token_bytes}
+use Rattle.markup.specs.Token.{Token, Refer, token_bytes}
 use Rattle.markup.specs.Marks.{in_cdata, is_first}
 use Rattle.markup.specs.Events.{Placed, open_tags}
 use Rattle.markup.specs.Faults.{is_outside}
@@ -33,6 +33,7 @@ use Rattle.markup.proofs.ReferenceLemmas.{body, reference_then, IsNumbered, numb
 use Rattle.markup.proofs.Spans.{heads, tails}
 use Rattle.markup.proofs.TokenRuleLemmas.{in_cdata-open}
 use Rattle.markup.proofs.WholeTokens.{IsNext, takes_next}
+use Rattle.markup.proofs.CharacterRuns.{first_is_outside}
 
 -- ---- references are written in ASCII
 
@@ -157,14 +158,6 @@ pub some_bytes : (piece : List ℕ) (c n : ℕ) → IsReferenceAt piece c n → 
 some_bytes piece c n a = omega (arith, length-take-le n piece a.within, ap length (a.spelled ∙ (text_ascii a.reference a.is ∙ text_is a.reference)))
 
 -- ---- a reader behind which one may come is where one begins
-
-first_is_outside : (before : List Token) → is_first before ≡ true → is_outside before ≡ true
-first_is_outside [] h = refl
-first_is_outside (Mark ∷ []) h = refl
-first_is_outside (t ∷ before) h = first_two t before h where
-  first_two : (t : Token) (before : List Token) → is_first (t ∷ before) ≡ true → is_outside (t ∷ before) ≡ true
-  first_two Mark [] h = refl
-  first_two _ _ h = absurd (both_ways false refl h)
 
 begins_text : (before : List Token) → in_cdata before ≡ false → is_outside before ≡ false → is_text (Begin (position before)) ≡ true
 begins_text [] c i = absurd (both_ways true i refl)

@@ -3,13 +3,14 @@ use Rattle.std.proofs.Common.{◌≡◌, ℕ, Bool, true, false, List, [], ◌�
 use Rattle.std.specs.Bool.{if◌then◌else◌}
 use Rattle.std.specs.Option.{is_none}
 use Rattle.std.specs.List.{list_any, list_all}
+use Rattle.lexical_core.proofs.Tests.{or_false}
 use Rattle.markup.specs.declared.tag.Spelled.{Spelled}
 use Rattle.markup.specs.declared.tag.Given.{Given}
 use Rattle.markup.specs.declared.tag.Opening.{Opening}
 use Rattle.markup.specs.Events.{declared_prefix, attribute_name, entries}
 use Rattle.markup.specs.Faults.{same_declared, clash, has_clash, is_bad_declaration, is_bad_attribute}
 use Rattle.markup.specs.inner.TagParts.{declares_none, plain_attributes, declares_twice, declares_badly, is_unbound}
-use Rattle.markup.proofs.TagPartLemmas.{or-false, or_assoc, or_swap, any_false}
+use Rattle.markup.proofs.TagPartLemmas.{or_assoc, or_swap, any_false}
 
 abbrev Prefix : Type 0
 Prefix = Option (List ℕ)
@@ -38,7 +39,7 @@ whole_entries tags (a ∷ more) = case (declares_none a) refl (whole_entries tag
 
 -- a declaration clashes with a declaration alone
 declaration_clash : (tags : List Opening) (x : Spelled) (p : List ℕ) → declared_prefix x ≡ Some p → (y : Given) → clash tags x y.name ≡ same_declared (declared_prefix x) (declared_prefix y.name)
-declaration_clash tags x p e y = simp e (or-false (same_declared (Some p) (declared_prefix y.name)))
+declaration_clash tags x p e y = simp e (or_false (same_declared (Some p) (declared_prefix y.name)))
 
 -- an attribute clashes with an attribute alone
 attribute_clash : (tags : List Opening) (x : Spelled) → declared_prefix x ≡ None → (given : List Given) → list_any (λ b. clash tags x b.name) given ≡ list_any (λ b. clash tags x b.name) (plain_attributes given)
@@ -87,6 +88,6 @@ whole_bad tags (a ∷ more) = case (declared_prefix a.name) refl (whole_bad tags
     case (Some p) e so =
         let rest : Bool = list_any (is_unbound tags) (plain_attributes more) in
         let left : list_any (is_unbound tags) (plain_attributes (a ∷ more)) ≡ rest = ap (λ d. list_any (is_unbound tags) (if is_none d then a ∷ plain_attributes more else plain_attributes more)) e in
-        let bad : is_bad_attribute tags a ≡ declares_badly a = ap (λ d. declares_badly a || (is_none d && is_none (attribute_name tags a.name))) e ∙ or-false (declares_badly a) in
+        let bad : is_bad_attribute tags a ≡ declares_badly a = ap (λ d. declares_badly a || (is_none d && is_none (attribute_name tags a.name))) e ∙ or_false (declares_badly a) in
         ap (λ b. b || list_any (is_bad_attribute tags) more) bad ∙ ap (λ b. declares_badly a || b) so
         ∙ sym (or_assoc (declares_badly a) (list_any declares_badly more) rest) ∙ ap (λ b. (declares_badly a || list_any declares_badly more) || b) (sym left)

@@ -1,8 +1,8 @@
 -- The characters of XML, as tests on code points (XML 1.0 §2.2, §2.3).
 use Rattle.std.specs.Prelude.{◌≡◌, ◌↔◌, ℕ, Bool, ◌==◌, ◌||◌, List, [], ◌∷◌, ◌&&◌, true, false}
-use Rattle.lexical_core.specs.Characters.{IsXmlChar, IsNameStart, IsNameChar}
 use Rattle.std.specs.Int.{is_in_range}
 use Rattle.std.specs.List.{list_all}
+use Rattle.lexical_core.specs.Characters.{IsXmlChar, IsNameStart, IsNameChar}
 
 -- the number stands in one of the ranges, whose two ends belong to them
 abbrev pub in_some : List (ℕ × ℕ) → ℕ → Bool

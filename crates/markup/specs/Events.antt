@@ -3,6 +3,8 @@ use Rattle.std.specs.Prelude.{ℕ, Bool, ◌&&◌, ◌+◌, false, List, [], ◌
 use Rattle.std.specs.Option.{option_or}
 use Rattle.std.specs.Str.{bytes_eq}
 use Rattle.std.specs.declared.cmp.Ordering.TheVariants.{Less, Equal, Greater}
+use Rattle.lexical_core.specs.Tree.{Expanded, Entry, Item, Starts, Char, Ends, Skipped}
+use Rattle.lexical_core.specs.Names.{xml_namespace, xmlns, name_cmp}
 use Rattle.markup.specs.declared.tag.Spelled.{Spelled}
 use Rattle.markup.specs.declared.tag.Given.{Given}
 use Rattle.markup.specs.declared.tag.Opening.{Opening}
@@ -10,8 +12,6 @@ use Rattle.markup.specs.Name.{Name, Plain, Prefixed}
 use Rattle.markup.specs.Reference.{referred_character}
 use Rattle.markup.specs.Attribute.{Attribute, value_chars}
 use Rattle.markup.specs.Token.{Token, Start, End, Refer, LineEnd, Character, StartTag, token_bytes}
-use Rattle.lexical_core.specs.Tree.{Expanded, Entry, Item, Starts, Char, Ends, Skipped}
-use Rattle.lexical_core.specs.Names.{xml_namespace, xmlns, name_cmp}
 
 -- the name's parts in bytes
 abbrev pub spelled_name : Name → Spelled

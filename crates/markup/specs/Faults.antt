@@ -5,6 +5,9 @@ use Rattle.std.specs.List.{list_any, flat_map}
 use Rattle.std.specs.Str.{bytes_eq}
 use Rattle.lexical_core.specs.declared.rule.Rule.{Rule}
 use Rattle.lexical_core.specs.declared.rule.Rule.TheVariants.{BadUtf8, BadMarkup, Doctype, BadReference, BadChar, DuplicateAttribute, BadPrefix, TagMismatch, TextOutside, Truncated, AfterRoot}
+use Rattle.lexical_core.specs.Names.{xmlns, xml_namespace, xmlns_namespace}
+use Rattle.lexical_core.specs.Tree.{Expanded}
+use Rattle.lexical_core.specs.Utf8.{IsFront, IsNoFront}
 use Rattle.markup.specs.declared.tag.Spelled.{Spelled}
 use Rattle.markup.specs.declared.tag.Given.{Given}
 use Rattle.markup.specs.declared.tag.Opening.{Opening}
@@ -12,9 +15,6 @@ use Rattle.markup.specs.Chars.{is_xml_char, is_space}
 use Rattle.markup.specs.Token.{Token, Mark, Declaration, Comment, Instruction, Opener, Closer, TypeDeclaration, Start, End, Refer, LineEnd, Character, token_text, token_bytes}
 use Rattle.markup.specs.Marks.{in_cdata, stands, Cell, Front, is_short, tag_limit}
 use Rattle.markup.specs.Events.{spelled_name, opening, open_tags, declared_prefix, same_prefix, element_name, attribute_name}
-use Rattle.lexical_core.specs.Names.{xmlns, xml_namespace, xmlns_namespace}
-use Rattle.lexical_core.specs.Tree.{Expanded}
-use Rattle.lexical_core.specs.Utf8.{IsFront, IsNoFront}
 
 -- a start tag is among the tokens
 abbrev pub has_start : List Token → Bool

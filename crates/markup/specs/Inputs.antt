@@ -2,10 +2,10 @@
 use Rattle.std.specs.Prelude.{◌≡◌, ℕ, ◌+◌, Bool, true, false, List, [], ◌∷◌, ◌++◌, length, reverse, Some, None, if◌then◌else◌}
 use Rattle.std.specs.List.{flat_map}
 use Rattle.lexical_core.specs.declared.rule.Rule.{Rule}
+use Rattle.lexical_core.specs.Tree.{Char}
 use Rattle.markup.specs.Token.{Token, LineEnd, Character, Cr, token_bytes}
 use Rattle.markup.specs.Marks.{Front}
 use Rattle.markup.specs.Faults.{rule_of, IsClean, MarkFaultUnder}
-use Rattle.lexical_core.specs.Tree.{Char}
 use Rattle.markup.specs.Events.{Placed, open_tags, events}
 use Rattle.markup.specs.Scopes.{placed_at}
 use Rattle.markup.specs.ScanRuns.{ended_of, draft_of}

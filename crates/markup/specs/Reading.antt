@@ -1,7 +1,7 @@
 -- What a reader has taken and told, and what it answers, under the limit that its tags have. Each fact is stated under any limit; the one of XML has the shorter name.
 use Rattle.std.specs.Prelude.{◌≡◌, ◌≢◌, ◌<◌, ◌≤◌, ℕ, ◌+◌, ◌-◌, ◌==◌, true, false, List, [], ◌∷◌, ◌++◌, length, reverse, Option, None}
-use Rattle.lexical_core.specs.declared.rule.Rule.TheVariants.{Truncated}
 use Rattle.std.specs.List.{list_all, flat_map}
+use Rattle.lexical_core.specs.declared.rule.Rule.TheVariants.{Truncated}
 use Rattle.markup.specs.Ascii.{is_ascii}
 use Rattle.markup.specs.Token.{Token, token_text, token_bytes}
 use Rattle.markup.specs.Marks.{Front, in_cdata, is_first, stands, tag_limit}

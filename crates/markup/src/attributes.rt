@@ -4,8 +4,8 @@ ghost use Rattle.std.specs.Prelude.{◌≡◌, ◌++◌, ◌∷◌, List, [], If
 ghost use Rattle.std.specs.List.{list_all};
 ghost use Rattle.std.specs.Option.{option_map};
 ghost use Rattle.std.specs.Str.{bytes_eq};
-ghost use Rattle.markup.specs.Events.{namespace_of};
 ghost use Rattle.lexical_core.specs.Names.{name_cmp};
+ghost use Rattle.markup.specs.Events.{namespace_of};
 ghost use Rattle.markup.specs.EventItems.{entry_of};
 ghost use Rattle.markup.specs.Bindings.{Binds};
 ghost use Rattle.markup.specs.inner.Origins.{namespace_from};

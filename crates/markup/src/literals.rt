@@ -1,7 +1,7 @@
 //! Runs of characters that stand by themselves.
 ghost use Rattle.std.specs.Prelude.{◌≡◌, ◌<◌, ◌≤◌, ◌↔◌, IfSome, IsTrue, true, length, take};
-ghost use Rattle.lexical_core.specs.Begun.{IsTail};
 ghost use Rattle.std.specs.List.{prefix_len, list_all};
+ghost use Rattle.lexical_core.specs.Begun.{IsTail};
 ghost use Rattle.markup.specs.Chars.{is_space};
 ghost use Rattle.markup.specs.Literals.{is_literal, is_still_space, IsAt, IsWideAt, IsFreeRun, IsBracketRun};
 ghost use Rattle.markup.specs.inner.ClosedBrackets.{IsClosedRun};

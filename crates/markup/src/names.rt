@@ -2,8 +2,8 @@
 ghost use Rattle.std.specs.Prelude.{◌≡◌, ℕ, List, [], Some, codes, not, if◌then◌else◌};
 ghost use Rattle.std.specs.Str.{bytes_eq};
 ghost use Rattle.std.specs.Option.{option_copied};
-ghost use Rattle.markup.specs.Events.{declared_prefix};
 ghost use Rattle.lexical_core.specs.Names.{xml_namespace};
+ghost use Rattle.markup.specs.Events.{declared_prefix};
 ghost use Rattle.markup.specs.Faults.{is_bad_declaration};
 
 use crate::tag::Spelled;

@@ -1,8 +1,8 @@
 //! A reader of XML that takes a byte at a time, or many at once.
 ghost use Rattle.std.specs.Prelude.{◌≡◌, ◌<◌, ◌≤◌, ◌^◌, ◌+◌, ◌∷◌, ◌++◌, ℕ, List, [], IfOk, IfErr, IfSome, IsSome, OnOk, IsTrue, IsFalse, true, Some, None, Err, false, length, reverse, take};
 ghost use Rattle.std.specs.List.{prefix_len, list_all};
-ghost use Rattle.markup.specs.Chars.{is_space};
 ghost use Rattle.lexical_core.specs.declared.rule.Rule.TheVariants.{Truncated};
+ghost use Rattle.markup.specs.Chars.{is_space};
 ghost use Rattle.markup.specs.Token.{Token};
 ghost use Rattle.markup.specs.Marks.{in_cdata, no_limit, IsLimit};
 ghost use Rattle.markup.specs.Faults.{MarkFaultUnder as HasMarkFault};

@@ -1,15 +1,15 @@
 //! The elements that are open, with the namespaces that their tags declare.
 ghost use Rattle.std.specs.Prelude.{◌≡◌, ◌==◌, ◌≤◌, ◌++◌, ◌∷◌, List, [], ℕ, length, drop, IfOk, OnOk, OnErr, IfSome, IsSome, Some, None, Option, map, false, true, ◌&&◌, if◌then◌else◌};
+ghost use Rattle.std.specs.Str.{bytes_eq};
+ghost use Rattle.lexical_core.specs.declared.rule.Rule.TheVariants.{TagMismatch};
 ghost use Rattle.markup.specs.Events.{namespace_of, start_tag_items, expanded_in, end_items};
 ghost use Rattle.markup.specs.EventItems.{entry_of, Tells, TellsFront};
 ghost use Rattle.markup.specs.Bindings.{Binds};
-ghost use Rattle.lexical_core.specs.declared.rule.Rule.TheVariants.{TagMismatch};
 ghost use Rattle.markup.specs.Marks.{tag_limit};
 ghost use Rattle.markup.specs.Faults.{end_rule};
 ghost use Rattle.markup.specs.OpenNames.{OpenName, KeepsNames};
 ghost use Rattle.markup.specs.PlainTags.{tag_text, may_be_named, IsPlainInside, tags_behind, IsTagAt, IsTagInside};
 ghost use Rattle.markup.specs.Scopes.{all_declarations, placed_at};
-ghost use Rattle.std.specs.Str.{bytes_eq};
 
 use crate::attributes::{Expanded, Parted};
 use crate::bindings::Bindings;

@@ -9,10 +9,10 @@ use Rattle.reference_check.specs.Forms.{Slot, Form, form_slots}
 use Rattle.reference_check.specs.Forms as form
 use Rattle.reference_check.specs.Words.{times, IsSequence}
 use Rattle.reference_check.specs.Steps.{NextSlot, Slotted, OutOfOrder, TooMany, Second, has_room, first_lacking, after_order, find_slot, sequence_next, choice_next, CameAfter, Came, EndsWith, next, next_of, next_at, next_found}
-use Rattle.message_model.specs.Sound.{IsSoundForm, SlotComes, count_with}
 use Rattle.reference_check.proofs.Words.{times-append}
-use Rattle.message_model.proofs.Quick.{Completed, came_completes, starts}
 use Rattle.reference_check.proofs.Last.{none_later}
+use Rattle.message_model.specs.Sound.{IsSoundForm, SlotComes, count_with}
+use Rattle.message_model.proofs.Quick.{Completed, came_completes, starts}
 use Rattle.message_model.proofs.QuickSteps.{below_none, choice_last}
 
 came_behind : {P : Type 0} (f : Form P Simple) (before d : List ℕ) (k : ℕ) (s : Slot P) → CameAfter f before d → slice_get (form_slots f) k ≡ Some s → next_of f (before ++ d) k s ≡ Slotted k → CameAfter f before (d ++ k ∷ [])

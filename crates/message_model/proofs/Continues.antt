@@ -6,10 +6,10 @@ use Rattle.reference_check.specs.Forms.{Form, Slot, form_slots}
 use Rattle.reference_check.specs.Forms as form
 use Rattle.reference_check.specs.Words.{UpTo, IsChoice}
 use Rattle.reference_check.specs.Steps.{Slotted, next, next_of, next_at, next_found, Came}
-use Rattle.message_model.specs.Sound.{IsSoundForm}
 use Rattle.reference_check.specs.Shapes.{WordGoesOn}
-use Rattle.message_model.specs.Continued.{CameGoesOn, NextGoesOn, EndIsWord}
 use Rattle.reference_check.proofs.Words.{up_to_filled}
+use Rattle.message_model.specs.Sound.{IsSoundForm}
+use Rattle.message_model.specs.Continued.{CameGoesOn, NextGoesOn, EndIsWord}
 use Rattle.message_model.proofs.CameMore.{came_more}
 use Rattle.message_model.proofs.Quick.{agrees, came_completes, all_same}
 

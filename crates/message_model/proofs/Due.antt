@@ -2,12 +2,12 @@
 use Rattle.std.proofs.Common.{None, Option, subst, Bool, true, ◌≡◌, ℕ, zero, suc, false, ◌+◌, ◌<◌, List, [], ◌∷◌, length, map, get_or, arith, drop, Some, refl, sym, ap, ◌∙◌, add-one}
 use Rattle.std.specs.Prelude.{slice_get, nat_lt, ◌≤◌}
 use Rattle.std.proofs.Math.ListN.{drop_of_length-le}
-use Rattle.std.proofs.lemmas.Option.{slice_get-get_or}
+use Rattle.std.proofs.lemmas.Option.{slice_get-get_or, slice_get-map}
 use Rattle.std.proofs.lemmas.Bool.Decides.{nat_tests}
 use Rattle.std.specs.Option.{option_map}
 use Rattle.std.specs.Str.{bytes_eq}
-use Rattle.reference_check.specs.Forms.{Slot, Form, Missing}
 use Rattle.facets.specs.declared.simple.Simple.{Simple}
+use Rattle.reference_check.specs.Forms.{Slot, Form, Missing}
 use Rattle.reference_check.specs.Steps.{Unknown, NextSlot, EndOfSlots, Fine, NoAlternative, Came, EndsWith, next, end_after, end_of_slots, find_slot, first_lacking}
 use Rattle.message_model.specs.Tables.{Tables, types_of, form_or_missing}
 use Rattle.message_model.specs.declared.model.TypeInfo.{TypeInfo}
@@ -18,7 +18,7 @@ use Rattle.message_model.specs.declared.model.Layout.{Layout}
 use Rattle.message_model.specs.declared.model.Layout.TheVariants as layout
 use Rattle.message_model.proofs.QuickSteps.{sequence_steps, choice_steps, sequence_ends, choice_ends}
 use Rattle.message_model.specs.declared.model.SlotInfo.{SlotInfo}
-use Rattle.message_model.proofs.Views.{slice_get_map, drop_view}
+use Rattle.message_model.proofs.Views.{drop_view}
 
 get_here : (slots : List SlotInfo) (i : ℕ) (d : SlotInfo) → i < length slots → slice_get slots i ≡ Some (get_or slots i d)
 get_here [] i d h = absurd (omega (arith, h))
@@ -27,7 +27,7 @@ get_here (s ∷ slots) (suc i) d h = get_here slots i d (omega (arith, h))
 
 pub due_step : (slots : List SlotInfo) (last count to : ℕ) (d : SlotInfo) → last < length slots → nat_lt count (get_or slots last d).min ≡ false → first_lacking (last + 1) to (slots_view (drop (last + 1) slots)) [] ≡ due (slots_view slots) last count to
 due_step slots last count to d below enough =
-    let at = slice_get_map slot_info slots last ∙ ap (option_map slot_info) (get_here slots last d below) in
+    let at = slice_get-map slot_info slots last ∙ ap (option_map slot_info) (get_here slots last d below) in
     rw (at, enough, drop_view (last + 1) slots, add-one) refl
 
 -- a tag that is found is that of a slot
@@ -66,10 +66,10 @@ layout_choice l slots last count tag x view e v sound h d came ends =
 
 -- the form of a type that is there
 pub form_found : (id : List ℕ) (ts : List TypeInfo) (n : ℕ) (t : TypeInfo) (T : Tables) → tables_from id (map type_entry ts) ≡ T → slice_get ts n ≡ Some t → types_of T n ≡ layout_form t.layout
-form_found id ts n t T v e = rw (← v) (ap form_or_missing (slice_get_map type_entry ts n ∙ ap (option_map type_entry) e))
+form_found id ts n t T v e = rw (← v) (ap form_or_missing (slice_get-map type_entry ts n ∙ ap (option_map type_entry) e))
 
 pub form_none : (id : List ℕ) (ts : List TypeInfo) (n : ℕ) (T : Tables) → tables_from id (map type_entry ts) ≡ T → slice_get ts n ≡ None → types_of T n ≡ Missing
-form_none id ts n T v e = rw (← v) (ap form_or_missing (slice_get_map type_entry ts n ∙ ap (option_map type_entry) e))
+form_none id ts n T v e = rw (← v) (ap form_or_missing (slice_get-map type_entry ts n ∙ ap (option_map type_entry) e))
 
 -- what holds at the type's form
 pub sound_at : (id : List ℕ) (ts : List TypeInfo) (n : ℕ) (t : TypeInfo) → AreSound (types_of (tables_from id (map type_entry ts))) → slice_get ts n ≡ Some t → IsSoundForm (layout_form t.layout)
@@ -118,7 +118,7 @@ get_beyond (y ∷ ys) (suc i) h = get_beyond ys i (omega (arith, h))
 -- nothing is due from what is no slot
 pub due_beyond : (slots : List SlotInfo) (last count : ℕ) → length slots ≤ last → end_of_slots (due (slots_view slots) last count (length slots)) ≡ Fine
 due_beyond slots last count h =
-    let at : slice_get (slots_view slots) last ≡ None = slice_get_map slot_info slots last ∙ ap (option_map slot_info) (get_beyond slots last h) in
+    let at : slice_get (slots_view slots) last ≡ None = slice_get-map slot_info slots last ∙ ap (option_map slot_info) (get_beyond slots last h) in
     let more : length slots ≤ suc last = omega (arith, h) in
     let none : slots_view (drop (suc last) slots) ≡ [] = ap slots_view (drop_of_length-le slots more) in
     rw (at, never count, ← drop_view (suc last) slots, none) refl

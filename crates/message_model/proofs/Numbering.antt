@@ -3,10 +3,10 @@ use Rattle.std.proofs.Common.{◌≡◌, ℕ, zero, suc, ◌+◌, List, [], ◌�
 use Rattle.std.specs.Prelude.{slice_get}
 use Rattle.std.specs.Option.{option_map}
 use Rattle.std.proofs.lemmas.Option.{slice_get-map, same_Some}
-use Rattle.repo_objects.specs.Repository.{DictionaryEntry, Contents, IsRepository, HasIdAt}
+use Rattle.repo_objects.specs.Repository.{DictionaryEntry, Contents, IsRepository, HasIdAt, entry_id}
 use Rattle.reference_check.specs.Graph.{entry}
 use Rattle.message_model.specs.Compiled.{place_of, place_or_nowhere}
-use Rattle.message_model.specs.inner.Numbers.{AreNumbers, StandsAmong, ids_at, entry_id}
+use Rattle.message_model.specs.inner.Numbers.{AreNumbers, StandsAmong, ids_at}
 use Rattle.message_model.proofs.Places.{same_place}
 
 -- the id that stands at a place of the list

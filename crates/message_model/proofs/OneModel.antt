@@ -4,8 +4,8 @@ use Rattle.std.specs.Prelude.{slice_get}
 use Rattle.std.specs.Option.{option_map}
 use Rattle.std.proofs.lemmas.Bool.{cases_lt}
 use Rattle.std.proofs.lemmas.Option.{slice_get-map, slice_get_past, slice_get-get_or}
-use Rattle.repo_objects.specs.Repository.{Contents}
 use Rattle.facets.specs.declared.simple.Simple.{Simple}
+use Rattle.repo_objects.specs.Repository.{Contents}
 use Rattle.reference_check.specs.Forms.{Slot, Money, form_slots}
 use Rattle.reference_check.specs.Forms as form
 use Rattle.reference_check.specs.Graph.{document, message, entry}

@@ -6,26 +6,12 @@ use Rattle.std.specs.List.{position_or_len}
 use Rattle.std.specs.Option.{option_map}
 use Rattle.std.proofs.lemmas.Bool.{cases_lt}
 use Rattle.std.proofs.lemmas.Option.{slice_get-map, slice_get_within, get_or_from_slice_get, same_Some}
-use Rattle.std.proofs.lemmas.Slice.Eq.{bytes_eq-Decides}
+use Rattle.lexical_core.proofs.EqualBytes.{equal_bytes, same_bytes, other_bytes}
 use Rattle.repo_objects.specs.declared.objects.Object.{Object}
 use Rattle.repo_objects.specs.Repository.{DictionaryEntry, Contents, ids_of, IsRepository}
 use Rattle.reference_check.specs.Graph.{entry, find_entry}
 use Rattle.reference_check.specs.Reach.{rank_of}
 use Rattle.reference_check.proofs.Lookups.{IsFound}
-
-same_bytes : (x y : List ℕ) → bytes_eq x y ≡ true → x ≡ y
-same_bytes x y h = (bytes_eq-Decides x y).0 h
-
-bytes_same : (x : List ℕ) → bytes_eq x x ≡ true
-bytes_same x = (bytes_eq-Decides x x).1 refl
-
--- bytes that differ
-bytes_differ : (x y : List ℕ) → (x ≡ y → ⊥) → bytes_eq x y ≡ false
-bytes_differ x y apart = by (bytes_eq x y) refl
-  where
-    by : (b : Bool) → bytes_eq x y ≡ b → bytes_eq x y ≡ false
-    by true h = absurd (apart (same_bytes x y h))
-    by false h = h
 
 -- no entry before that place has its id
 abbrev pub IsFirstAt : List DictionaryEntry → ℕ → List ℕ → Type 0
@@ -35,20 +21,20 @@ pub find_at : (es : List DictionaryEntry) (k : ℕ) (e : DictionaryEntry) → Is
 find_at [] k e first h = absurd cc
 find_at (a ∷ es) zero e first h =
     let same : a ≡ e = same_Some a e h in
-    let hit : bytes_eq a.id e.id ≡ true = ap (λ (x : DictionaryEntry). bytes_eq x.id e.id) same ∙ bytes_same e.id in
+    let hit : bytes_eq a.id e.id ≡ true = ap (λ (x : DictionaryEntry). bytes_eq x.id e.id) same ∙ same_bytes e.id in
     rw hit (ap (λ (x : DictionaryEntry). Some x.object) same)
 find_at (a ∷ es) (suc k) e first h =
-    let miss : bytes_eq a.id e.id ≡ false = bytes_differ a.id e.id (first 0 a (omega arith) refl) in
+    let miss : bytes_eq a.id e.id ≡ false = other_bytes a.id e.id (first 0 a (omega arith) refl) in
     rw miss (find_at es k e (λ j b lt g. first (suc j) b (omega arith) g) h)
 
 pub rank_at : (es : List DictionaryEntry) (k : ℕ) (e : DictionaryEntry) → IsFirstAt es k e.id → slice_get es k ≡ Some e → position_or_len (λ (x : DictionaryEntry). bytes_eq x.id e.id) es ≡ k
 rank_at [] k e first h = absurd cc
 rank_at (a ∷ es) zero e first h =
     let same : a ≡ e = same_Some a e h in
-    let hit : bytes_eq a.id e.id ≡ true = ap (λ (x : DictionaryEntry). bytes_eq x.id e.id) same ∙ bytes_same e.id in
+    let hit : bytes_eq a.id e.id ≡ true = ap (λ (x : DictionaryEntry). bytes_eq x.id e.id) same ∙ same_bytes e.id in
     rw hit refl
 rank_at (a ∷ es) (suc k) e first h =
-    let miss : bytes_eq a.id e.id ≡ false = bytes_differ a.id e.id (first 0 a (omega arith) refl) in
+    let miss : bytes_eq a.id e.id ≡ false = other_bytes a.id e.id (first 0 a (omega arith) refl) in
     let rest = rank_at es k e (λ j b lt g. first (suc j) b (omega arith) g) h in
     rw miss (omega (arith, rest))
 
@@ -67,7 +53,7 @@ found_entry (a ∷ es) id o h = by (bytes_eq a.id id) refl (λ k. found_entry es
         → (k : ℕ) × (slice_get (a ∷ es) k ≡ Some (record { id = id; object = o }))
     by true hit later =
         let here : Some a.object ≡ Some o = rw hit at h in
-        let name : a.id ≡ id = same_bytes a.id id hit in
+        let name : a.id ≡ id = equal_bytes a.id id hit in
         let what : a.object ≡ o = cc in
         (0, ap Some (same_entry a id o name what))
     by false miss later = (let r = later (rw miss at h) in (suc r.0, r.1))

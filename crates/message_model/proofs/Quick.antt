@@ -8,8 +8,8 @@ use Rattle.reference_check.specs.Forms.{Slot, Form, form_slots}
 use Rattle.reference_check.specs.Forms as form
 use Rattle.reference_check.specs.Words.{times, UpTo, MayComeTimes, IsOrderedFrom, IsSequence, IsChoice}
 use Rattle.reference_check.specs.Steps.{NextSlot, Slotted, Fine, Lacks, end_after, choice_end, end_of_slots, choice_next, Second, TooMany, has_room, first_lacking, CameAfter, Came}
-use Rattle.message_model.specs.Sound.{IsSoundForm, Agrees}
 use Rattle.reference_check.proofs.Words.{none_lacking, lacks_none, ordered-fill, times-fill, times-replicate, has_room_of, fill, completes, goes_on, IsProper, times-append}
+use Rattle.message_model.specs.Sound.{IsSoundForm, Agrees}
 
 abbrev pub Completed : {P : Type 0} → List (Slot P) → List ℕ → Type 0
 Completed fs d = (e : List ℕ) × IsSequence fs (d ++ e)

@@ -9,11 +9,11 @@ use Rattle.reference_check.specs.Forms.{Slot, Form}
 use Rattle.reference_check.specs.Forms as form
 use Rattle.reference_check.specs.Words.{times, UpTo, IsSequence}
 use Rattle.reference_check.specs.Steps.{NextSlot, Slotted, TooMany, has_room, first_lacking, after_order, sequence_next, choice_next, choice_end, end_of_slots, Second, CameAfter, Came, EndsWith, find_slot, next, next_at, next_found, end_after}
+use Rattle.reference_check.proofs.Words.{times-append, IsProper}
+use Rattle.reference_check.proofs.Last.{ends_later, goes_back, comes_again, comes_later, none_later, none_above, lacking_none}
 use Rattle.message_model.specs.inner.Quick.{quick_at, due, quick_slot, quick_found, quick_sequence_next, quick_sequence_end, quick_alternative, quick_choice_next, quick_choice_end}
 use Rattle.message_model.specs.Sound.{IsSoundForm}
-use Rattle.reference_check.proofs.Words.{times-append, IsProper}
 use Rattle.message_model.proofs.Quick.{Completed, came_completes, starts, same_parts, all_same}
-use Rattle.reference_check.proofs.Last.{ends_later, goes_back, comes_again, comes_later, none_later, none_above, lacking_none}
 
 -- the slots from one on
 drop_at : {P : Type 0} (fs : List (Slot P)) (l : ℕ) (t : Slot P) → slice_get fs l ≡ Some t → drop l fs ≡ t ∷ drop (suc l) fs

@@ -8,8 +8,8 @@ use Rattle.reference_check.specs.Forms as form
 use Rattle.reference_check.specs.Words.{times, MayComeTimes, IsWordOf, IsSequence, IsChoice, IsOrderedFrom}
 use Rattle.reference_check.specs.Steps.{Slotted, next_of, Came}
 use Rattle.reference_check.proofs.RenamedForms.{get_to, get_from, sequence_to, sequence_from, choice_to, choice_from}
-use Rattle.message_model.specs.Sound.{IsSoundForm}
 use Rattle.reference_check.specs.Shapes.{Shape, Component, OpenLeaf, Shapes, Nothing, Child, HasShape, HaveShapes, numbers_in, then_shapes, IsFinite, AreFinite, WordGoesOn}
+use Rattle.message_model.specs.Sound.{IsSoundForm}
 use Rattle.message_model.specs.Continued.{NextShapes, SameShapes}
 use Rattle.message_model.proofs.CameMore.{came_more}
 use Rattle.message_model.proofs.Continues.{came_goes_on}

@@ -9,8 +9,9 @@ use Rattle.std.proofs.lemmas.List.Elements.{Contains-append_left, Contains-appen
 use Rattle.std.proofs.lemmas.List.Quantifiers.{all_pairs_push}
 use Rattle.std.proofs.lemmas.Option.{slice_get-map, slice_get_within}
 use Rattle.std.proofs.lemmas.Slice.Eq.{bytes_eq-Decides}
-use Rattle.repo_objects.specs.Repository.{Contents}
+use Rattle.lexical_core.proofs.Lists.{only_one}
 use Rattle.facets.specs.declared.simple.Simple.{Simple}
+use Rattle.repo_objects.specs.Repository.{Contents}
 use Rattle.reference_check.specs.Forms.{Slot, Form, Money, form_slots, form_to, slot_to}
 use Rattle.reference_check.specs.Forms as form
 use Rattle.reference_check.specs.Graph.{Place, document, message, entry, nowhere}
@@ -26,10 +27,6 @@ use Rattle.message_model.proofs.SoundTables.{type_place}
 use Rattle.message_model.proofs.SoundTypes.{IsTypePlace, IsTarget, types_lead, code_leads}
 
 -- ---- the objects that are reached, in file order
-
-only_one : (id other : List ℕ) → Contains (id ∷ []) other → id ≡ other
-only_one id other (zero, lt, is) = is
-only_one id other (suc k, lt, is) = absurd (omega (arith, lt))
 
 module _ (R : Contents) (m : List ℕ) (ready : IsReady R m) where
   found : (id : List ℕ) → Reaches R m (entry id) → IsFound id R.objects

@@ -8,6 +8,9 @@ use Rattle.std.specs.declared.cmp.Ordering.{Ordering}
 use Rattle.std.specs.declared.cmp.Ordering.TheVariants.{Less, Equal, Greater}
 use Rattle.std.proofs.lemmas.Cmp.{nat_list_cmp_total}
 use Rattle.std.proofs.lemmas.Option.{same_Some}
+use Rattle.facets.specs.CodeLists.{AreSorted, ComesBefore}
+use Rattle.facets.specs.LeafUnder.{HasSortedCodes}
+use Rattle.facets.specs.declared.simple.Simple.{Simple}
 use Rattle.repo_objects.specs.declared.objects.CodeDef.{CodeDef}
 use Rattle.repo_objects.specs.declared.objects.MessageDef.{MessageDef}
 use Rattle.repo_objects.specs.declared.objects.Object.{Object}
@@ -16,9 +19,6 @@ use Rattle.repo_objects.specs.declared.objects.Kinds.TheVariants as kinds
 use Rattle.repo_objects.specs.declared.objects.ObjectKind.{ObjectKind}
 use Rattle.repo_objects.specs.declared.objects.ObjectKind.TheVariants as object
 use Rattle.repo_objects.specs.Repository.{Contents}
-use Rattle.facets.specs.CodeLists.{AreSorted, ComesBefore}
-use Rattle.facets.specs.LeafUnder.{HasSortedCodes}
-use Rattle.facets.specs.declared.simple.Simple.{Simple}
 use Rattle.reference_check.specs.Forms.{Form, form_to, text_type}
 use Rattle.reference_check.specs.Graph.{Place, document, message, entry, nowhere, simple_form, object_form, entry_form, message_form, document_form, find_entry, find_message}
 use Rattle.reference_check.specs.Rules.{set_codes}

@@ -14,11 +14,11 @@ use Rattle.std.proofs.lemmas.Map.Keys.{Less-from_sorted}
 use Rattle.std.proofs.lemmas.List.{get_or_append_left, length-append}
 use Rattle.std.proofs.lemmas.Option.{slice_get-map, slice_get_within, same_Some}
 use Rattle.std.proofs.Math.Seq.{get_or-append_seam}
+use Rattle.facets.specs.CodeLists.{IsAboveLast}
 use Rattle.repo_objects.specs.declared.objects.CodeDef.{CodeDef}
 use Rattle.repo_objects.specs.declared.objects.Object.{Object}
 use Rattle.repo_objects.specs.Repository.{DictionaryEntry}
 use Rattle.reference_check.specs.CodeTexts.{text_of_number, text_at, text_at_entry}
-use Rattle.facets.specs.CodeLists.{IsAboveLast}
 use Rattle.message_model.specs.SimpleTypes.{put_text, texts_of}
 
 -- a text in memory, and how texts stand

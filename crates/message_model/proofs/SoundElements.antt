@@ -6,10 +6,10 @@ use Rattle.std.specs.Str.{bytes_eq}
 use Rattle.std.proofs.lemmas.Bool.Decides.{nat_tests}
 use Rattle.std.proofs.lemmas.Option.{same_Some}
 use Rattle.std.proofs.lemmas.Slice.Eq.{bytes_eq-Decides}
+use Rattle.facets.specs.declared.simple.Simple.{Simple}
 use Rattle.repo_objects.specs.declared.objects.ElementDef.{ElementDef}
 use Rattle.reference_check.specs.Graph.{Place}
 use Rattle.reference_check.specs.Rules.{UpToMax}
-use Rattle.facets.specs.declared.simple.Simple.{Simple}
 use Rattle.reference_check.specs.Forms.{Slot, Form, Sequence, Choice, form_slots, form_to, slot_to, text_type}
 use Rattle.reference_check.specs.Forms as form
 use Rattle.reference_check.specs.Graph.{slot_of}

@@ -7,6 +7,8 @@ use Rattle.std.specs.Ordering.{nat_cmp, match_ordering}
 use Rattle.std.specs.declared.cmp.Ordering.{Ordering}
 use Rattle.std.specs.declared.cmp.Ordering.TheVariants.{Less, Equal, Greater}
 use Rattle.std.proofs.lemmas.Bool.{cases_lt}
+use Rattle.data_types.specs.declared.kind.Kind.TheVariants as kind
+use Rattle.facets.specs.LeafChecks.{IsWithinLimits}
 use Rattle.repo_objects.specs.declared.objects.CodeDef.{CodeDef}
 use Rattle.repo_objects.specs.declared.objects.Object.{Object}
 use Rattle.repo_objects.specs.declared.objects.Kinds.TheVariants as kinds
@@ -14,8 +16,6 @@ use Rattle.repo_objects.specs.declared.objects.ObjectKind.TheVariants as object
 use Rattle.repo_objects.specs.Repository.{DictionaryEntry, Contents}
 use Rattle.reference_check.specs.CodeTexts.{text_of_code}
 use Rattle.reference_check.specs.Rules.{set_codes}
-use Rattle.data_types.specs.declared.kind.Kind.TheVariants as kind
-use Rattle.facets.specs.LeafChecks.{IsWithinLimits}
 use Rattle.message_model.specs.FacetRules.{HasBadFacets, total_of}
 use Rattle.message_model.specs.SimpleTypes.{put_text, sorted_texts, texts_of, facets_by, facets_of}
 

@@ -5,13 +5,13 @@ use Rattle.std.specs.Option.{option_map}
 use Rattle.std.proofs.lemmas.Bool.{cases_lt}
 use Rattle.std.proofs.lemmas.List.{length-map}
 use Rattle.std.proofs.lemmas.Option.{slice_get-map, slice_get_within, slice_get_past, get_or_from_slice_get}
+use Rattle.facets.specs.declared.simple.Simple.{Simple}
 use Rattle.repo_objects.specs.Repository.{DictionaryEntry, Contents, IsRepository}
 use Rattle.reference_check.specs.declared.reached.Reach.{Reach}
 use Rattle.reference_check.specs.Reached.{HasReach}
 use Rattle.reference_check.specs.Graph.{Place, message, entry, find_entry}
 use Rattle.reference_check.specs.Reach.{itself, rank_of}
 use Rattle.reference_check.specs.Rules.{TooMany}
-use Rattle.facets.specs.declared.simple.Simple.{Simple}
 use Rattle.reference_check.specs.Forms.{Slot, Form, Graph, Money, Missing, form_slots, form_to, slot_to, text_type}
 use Rattle.reference_check.specs.Forms as form
 use Rattle.reference_check.proofs.RenamedForms.{form_slot_to}

@@ -4,6 +4,8 @@ use Rattle.std.specs.Prelude.{slice_get, Contains}
 use Rattle.std.proofs.lemmas.Bool.{cases_lt}
 use Rattle.std.proofs.lemmas.Option.{same_Some}
 use Rattle.std.proofs.lemmas.Slice.Eq.{bytes_eq-Decides}
+use Rattle.facets.specs.declared.simple.Simple.{Simple}
+use Rattle.facets.specs.LeafChecks.{IsWithinLimits}
 use Rattle.repo_objects.specs.declared.objects.ElementDef.{ElementDef}
 use Rattle.repo_objects.specs.declared.objects.MessageDef.{MessageDef}
 use Rattle.repo_objects.specs.declared.objects.Object.{Object}
@@ -15,15 +17,13 @@ use Rattle.repo_objects.specs.Repository.{Contents}
 use Rattle.reference_check.specs.Graph.{Place, document, message, entry, nowhere, one_of, references, find_entry, find_message}
 use Rattle.reference_check.specs.Reach.{Reaches, itself, element, currency, elements_of, elements_or_none, blocks_or_none, currency_of, currency_or_none, kind_elements, kind_currency}
 use Rattle.reference_check.specs.Rules.{UpToMax, IsTextKind, set_codes, NoMessage, BadCurrency, NotOneReference, TagTwice, BadBounds, OptionalAlternative, TooMany}
-use Rattle.facets.specs.declared.simple.Simple.{Simple}
-use Rattle.facets.specs.LeafChecks.{IsWithinLimits}
 use Rattle.reference_check.specs.Forms.{Slot, Form, Graph, Sequence, Choice, Money, Envelope, LeftOut, Missing, form_slots, form_to, slot_to, text_type}
 use Rattle.reference_check.specs.Forms as form
 use Rattle.reference_check.specs.Graph.{slot_of, simple_form, object_form, entry_form, message_form, document_form}
-use Rattle.message_model.specs.SimpleTypes.{facets_of}
-use Rattle.message_model.specs.Sound.{IsSoundForm, IsNoOption, HasNumber}
 use Rattle.reference_check.specs.Words.{UpTo}
 use Rattle.reference_check.specs.Steps.{find_slot, has_room}
+use Rattle.message_model.specs.SimpleTypes.{facets_of}
+use Rattle.message_model.specs.Sound.{IsSoundForm, IsNoOption, HasNumber}
 use Rattle.message_model.specs.Ready.{IsReady, OnObjects, BadFacets}
 use Rattle.message_model.specs.Compiled.{types}
 use Rattle.message_model.proofs.Compilable.{object_there, at_contains}

@@ -2,13 +2,13 @@
 use Rattle.std.proofs.Common.{◌≡◌, ℕ, zero, suc, ◌+◌, ◌<◌, ◌≤◌, List, [], ◌∷◌, ◌++◌, length, map, take, get_or, Some, refl, sym, ap, subst, ◌∙◌, arith}
 use Rattle.std.specs.Prelude.{slice_get}
 use Rattle.std.proofs.lemmas.List.{take_more, map-append}
-use Rattle.repo_objects.specs.Repository.{DictionaryEntry, Contents}
+use Rattle.repo_objects.specs.Repository.{DictionaryEntry, Contents, entry_id}
 use Rattle.reference_check.specs.Graph.{Place, document, message, entry}
 use Rattle.message_model.specs.Tables.{TypeEntry}
 use Rattle.message_model.specs.Views.{type_entry}
 use Rattle.message_model.specs.declared.model.TypeInfo.{TypeInfo}
 use Rattle.message_model.specs.Compiled.{places_of}
-use Rattle.message_model.specs.inner.Numbers.{IsTypeOf, AreTypesOf, ids_at, entry_id}
+use Rattle.message_model.specs.inner.Numbers.{IsTypeOf, AreTypesOf, ids_at}
 
 ids_push : (es : List DictionaryEntry) (places : List ℕ) (k : ℕ) → ids_at es (places ++ k ∷ []) ≡ ids_at es places ++ entry_id (slice_get es k) ∷ []
 ids_push es [] k = refl

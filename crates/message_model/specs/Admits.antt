@@ -5,8 +5,8 @@ use Rattle.data_types.specs.Leaf.{Leaf}
 use Rattle.data_types.specs.Value.{Value, Children, Nothing, Child}
 use Rattle.data_types.specs.Value as value
 use Rattle.facets.specs.LeafUnder.{Fits}
-use Rattle.fragments.specs.Plain.{IsPlain}
 use Rattle.facets.specs.declared.simple.Simple.{Simple}
+use Rattle.fragments.specs.Plain.{IsPlain}
 use Rattle.reference_check.specs.Forms.{Graph, Form, Slot}
 use Rattle.reference_check.specs.Forms as form
 use Rattle.reference_check.specs.Words.{IsSequence, IsChoice}

@@ -1,11 +1,11 @@
 -- The tables of a message: its types by number, each that of a place of the repository.
 use Rattle.std.specs.Prelude.{◌≡◌, ◌↔◌, ℕ, ◌<◌, List, [], ◌∷◌, Option, Some, None, map, codes, slice_get, Contains, AllPairs}
+use Rattle.facets.specs.declared.simple.Simple.{Simple}
 use Rattle.repo_objects.specs.declared.objects.MessageDef.{MessageDef}
 use Rattle.repo_objects.specs.declared.objects.Object.{Object}
 use Rattle.repo_objects.specs.Repository.{Contents}
 use Rattle.reference_check.specs.Graph.{Place, document, message, entry, nowhere, find_entry, find_message}
 use Rattle.reference_check.specs.Reach.{Reaches, rank_of}
-use Rattle.facets.specs.declared.simple.Simple.{Simple}
 use Rattle.reference_check.specs.Forms.{Graph, form_to}
 use Rattle.reference_check.specs.Graph.{graph}
 use Rattle.message_model.specs.SimpleTypes.{facets_of}

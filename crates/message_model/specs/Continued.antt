@@ -4,8 +4,8 @@ use Rattle.facets.specs.declared.simple.Simple.{Simple}
 use Rattle.reference_check.specs.Forms.{Graph, Form, Slot, form_slots, form_to}
 use Rattle.reference_check.specs.Words.{IsWordOf}
 use Rattle.reference_check.specs.Steps.{Slotted, Fine, next, next_of, end_after, Came}
-use Rattle.message_model.specs.Sound.{IsSoundForm, AreSound}
 use Rattle.reference_check.specs.Shapes.{Shape, Component, Shapes, Child, HasShape, HaveShapes, numbers_in, then_shapes, IsFinite, AreFinite, WordGoesOn}
+use Rattle.message_model.specs.Sound.{IsSoundForm, AreSound}
 
 -- Behind slots that came one by one, others may come so that all are a word, where the form has a word at all.
 abbrev pub CameGoesOn : Type 0

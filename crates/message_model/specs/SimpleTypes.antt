@@ -5,6 +5,10 @@ use Rattle.std.specs.Option.{option_to_list, unwrap_or}
 use Rattle.std.specs.Cmp.Lexicographic.{slice_cmp}
 use Rattle.std.specs.Ordering.{nat_cmp, match_ordering}
 use Rattle.lexical_core.specs.Decimals.{Number}
+use Rattle.data_types.specs.declared.kind.Kind.{Kind}
+use Rattle.data_types.specs.declared.kind.Kind.TheVariants as kind
+use Rattle.facets.specs.declared.simple.Bound.{Bound}
+use Rattle.facets.specs.declared.simple.Simple.{Simple}
 use Rattle.repo_objects.specs.declared.objects.CodeDef.{CodeDef}
 use Rattle.repo_objects.specs.declared.objects.Object.{Object}
 use Rattle.repo_objects.specs.declared.objects.Kinds.{Kinds}
@@ -15,10 +19,6 @@ use Rattle.repo_objects.specs.declared.objects.RawFacets.{RawFacets}
 use Rattle.repo_objects.specs.Repository.{DictionaryEntry, Contents}
 use Rattle.reference_check.specs.CodeTexts.{text_of_code}
 use Rattle.reference_check.specs.Rules.{set_codes}
-use Rattle.data_types.specs.declared.kind.Kind.{Kind}
-use Rattle.data_types.specs.declared.kind.Kind.TheVariants as kind
-use Rattle.facets.specs.declared.simple.Bound.{Bound}
-use Rattle.facets.specs.declared.simple.Simple.{Simple}
 use Rattle.message_model.specs.FacetRules.{total_of}
 
 -- the base of the texts of a data type: §3.2

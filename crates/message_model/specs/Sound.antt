@@ -2,13 +2,13 @@
 use Rattle.std.specs.Prelude.{◌≡◌, ℕ, ◌<◌, ◌≤◌, ◌+◌, ◌==◌, if◌then◌else◌, true, List, [], ◌∷◌, ◌++◌, Option, Some, None, slice_get, length}
 use Rattle.data_types.specs.declared.kind.Kind.TheVariants as kind
 use Rattle.facets.specs.declared.simple.Simple.{Simple}
-use Rattle.reference_check.specs.Forms.{Graph, Form, Slot, Sequence, Choice, Money, form_slots, text_type}
-use Rattle.reference_check.specs.Forms.{Simple as SimpleForm}
 use Rattle.facets.specs.LeafChecks.{IsWithinLimits}
 use Rattle.facets.specs.LeafUnder.{HasSortedCodes}
-use Rattle.message_model.specs.Tables.{Tables, types_of}
+use Rattle.reference_check.specs.Forms.{Graph, Form, Slot, Sequence, Choice, Money, form_slots, text_type}
+use Rattle.reference_check.specs.Forms.{Simple as SimpleForm}
 use Rattle.reference_check.specs.Words.{UpTo, IsWordOf}
 use Rattle.reference_check.specs.Steps.{Slotted, Fine, find_slot, has_room, next, next_of, end_after, Came, EndsWith}
+use Rattle.message_model.specs.Tables.{Tables, types_of}
 
 -- an alternative of a choice comes at least once
 abbrev pub IsNoOption : {P L : Type 0} → Form P L → Type 0

@@ -1,10 +1,10 @@
 -- The compiled types of a message, by number.
 use Rattle.std.specs.Prelude.{ℕ, List, [], ◌∷◌, ◌++◌, Option, Some, None, slice_get, codes}
-use Rattle.facets.specs.declared.simple.Simple.{Simple}
 use Rattle.lexical_core.specs.Tree.{Tree}
 use Rattle.data_types.specs.Value.{Value, Children, Nothing, Child, Edge, Piece, Begins, Holds, Ends}
 use Rattle.data_types.specs.Value as value
 use Rattle.data_types.specs.Leaf as leaf
+use Rattle.facets.specs.declared.simple.Simple.{Simple}
 use Rattle.reference_check.specs.Forms.{Graph, Form, Slot, form_slots}
 use Rattle.reference_check.specs.Forms as form
 use Rattle.message_model.specs.Message.{Message}

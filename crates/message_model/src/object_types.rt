@@ -1,10 +1,10 @@
 //! The types of a message, one after another.
 ghost use Rattle.std.specs.Prelude.{◌≡◌, ℕ, List, [], ◌∷◌, Some, IfOk, map, slice_get};
-ghost use Rattle.reference_check.specs.Graph.{document, message, entry, find_entry, find_message};
-ghost use Rattle.reference_check.specs.Reached.{HasReach};
 ghost use Rattle.repo_objects.specs.Repository.{Contents, IsRepository};
 ghost use Rattle.repo_objects.specs.declared.objects.ObjectKind.TheVariants.{Other};
 ghost use Rattle.repo_objects.specs.Objects.{IsXmlTextIfAny};
+ghost use Rattle.reference_check.specs.Graph.{document, message, entry, find_entry, find_message};
+ghost use Rattle.reference_check.specs.Reached.{HasReach};
 ghost use Rattle.reference_check.specs.Forms.{form_slots};
 ghost use Rattle.message_model.specs.Views.{type_entry, layout_form, slots_view};
 ghost use Rattle.message_model.specs.FacetRules.{HasBadFacets};

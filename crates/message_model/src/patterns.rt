@@ -2,8 +2,8 @@
 ghost use Rattle.std.specs.Prelude.{◌≡◌, ◌↔◌, IsTrue, IfOk, ℕ, List};
 ghost use Rattle.std.specs.Str.{chars};
 ghost use Rattle.lexical_core.specs.Characters.{IsXmlText};
-ghost use Rattle.repo_objects.specs.Objects.{IsXmlTextIfAny};
 ghost use Rattle.pattern_match.specs.Reading.{HasPositionsWithin, RefusesPattern};
+ghost use Rattle.repo_objects.specs.Objects.{IsXmlTextIfAny};
 ghost use Rattle.reference_check.specs.Rules.{HasPatterns};
 ghost use Rattle.message_model.specs.Ready.{HasBadPattern, TellsBad};
 ghost use Rattle.message_model.specs.SimpleTypes.{pattern_of as spec_pattern_of};

@@ -1,8 +1,8 @@
 //! The codes of a code set, in the order of their bytes.
 ghost use Rattle.std.specs.Prelude.{◌≡◌, ℕ, List, Some, OnOk, IfOk, slice_get};
-ghost use Rattle.message_model.specs.SimpleTypes.{put_text, sorted_texts, texts_of};
 ghost use Rattle.std.specs.Option.{option_map, option_to_list};
 ghost use Rattle.std.specs.List.{fold};
+ghost use Rattle.message_model.specs.SimpleTypes.{put_text, sorted_texts, texts_of};
 ghost use Rattle.message_model.specs.inner.Sorted.{texts_in};
 
 use facets::Codes;

@@ -1,26 +1,20 @@
 -- Pushes one after another: what writers over a sink cite.
-use Rattle.std.proofs.Common.{◌≡◌, ℕ, ◌+◌, List, [], ◌++◌, Some, None, Option, Result, Ok, Err, length, take, refl, sym, ap, ◌∙◌, subst, append-nil, append_assoc, length-append, arith, inl, inr}
+use Rattle.std.proofs.Common.{◌≡◌, ℕ, ◌+◌, List, [], ◌++◌, Option, Result, Ok, Err, length, take, refl, sym, ◌∙◌, subst, length-append, arith, inl, inr}
 use Rattle.std.specs.Prelude.{IsErrOf}
 use Rattle.std.proofs.lemmas.Bool.{cases_lt}
 use Rattle.std.proofs.lemmas.List.{take-append-le, take_all}
 use Rattle.std.proofs.Math.Seq.{take-append-add, take-append_seam}
 use Rattle.std.specs.Io.KnownBytes.{Appends}
+use Rattle.std.proofs.KnownBytes.{Appends-nil, Appends-trans}
 use Rattle.outside.specs.Source.{Rose}
 use Rattle.outside.specs.Sink.{AppendsFront, PushAppends}
 use Rattle.outside.specs.Pushes.{Pushes}
 use Rattle.outside.specs.declared.errors.SinkError.{SinkError}
 
--- two pushes that go through are one of both texts
-pub append_twice : (a b c : Option (List ℕ)) (xs ys : List ℕ) → Appends a b xs → Appends b c ys → Appends a c (xs ++ ys)
-append_twice None b c xs ys p q = tt
-append_twice (Some s) None c xs ys p q = absurd p
-append_twice (Some s) (Some t) None xs ys p q = absurd q
-append_twice (Some s) (Some t) (Some u) xs ys p q = q ∙ ap (λ l. l ++ ys) p ∙ append_assoc s xs ys
-
 -- a push that goes through and one that fails leave a front of both texts
 pub append_then_front : (a b c : Option (List ℕ)) (xs ys : List ℕ) → Appends a b xs → AppendsFront b c ys → AppendsFront a c (xs ++ ys)
 append_then_front a b c xs ys p q =
-    (length xs + q.0, subst (Appends a c) (sym (take-append-add xs ys q.0)) (append_twice a b c xs (take q.0 ys) p q.1))
+    (length xs + q.0, subst (Appends a c) (sym (take-append-add xs ys q.0)) (Appends-trans a b c xs (take q.0 ys) p q.1))
 
 -- a front of a text is a front of that text with more behind it
 pub front_of_front : (a b : Option (List ℕ)) (xs ys : List ℕ) → AppendsFront a b xs → AppendsFront a b (xs ++ ys)
@@ -30,16 +24,11 @@ front_of_front a b xs ys p =
       | inr past ↦ (length xs, subst (Appends a b) (take_all p.0 xs past ∙ sym (take-append_seam xs ys)) p.1)
     ]
 
--- nothing behind what is held
-pub appends_nothing : (a : Option (List ℕ)) → Appends a a []
-appends_nothing None = tt
-appends_nothing (Some s) = sym (append-nil s)
-
 -- ---- pushes as one fact
 
 -- what came before a push is in front of what it brings
 pub push_behind : {T E : Type 0} (r : Result T E) (a b c : Option (List ℕ)) (xs ys : List ℕ) → Appends a b xs → PushAppends b c r ys → PushAppends a c r (xs ++ ys)
-push_behind (Ok x) a b c xs ys p q = append_twice a b c xs ys p q
+push_behind (Ok x) a b c xs ys p q = Appends-trans a b c xs ys p q
 push_behind (Err e) a b c xs ys p q = append_then_front a b c xs ys p q
 
 -- a writer's answers: all of its text went through, or it stopped
@@ -56,7 +45,7 @@ module _ {S : Type 0} (held : S → Option (List ℕ)) (faults room : S → ℕ)
   -- nothing was pushed
   pub nothing : (s : S) → Pushes held faults room s s done []
   nothing s = record {
-    appends = appends_nothing (held s);
+    appends = Appends-nil (held s);
     cause = record { later = omega arith; failed = λ f. absurd (no_error _ f); same = λ _. refl };
     takes = record { falls = omega arith; memory = λ f. absurd (no_error _ f) };
   }

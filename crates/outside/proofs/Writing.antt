@@ -3,7 +3,7 @@ use Rattle.std.proofs.Common.{◌≡◌, ℕ, ◌+◌, ◌≤◌, List, Option, 
 use Rattle.std.proofs.lemmas.List.{drop-drop}
 use Rattle.std.proofs.Math.Seq.{take-add}
 use Rattle.std.specs.Io.KnownBytes.{Appends}
-use Rattle.outside.proofs.Pushing.{append_twice}
+use Rattle.std.proofs.KnownBytes.{Appends-trans}
 
 -- the first bytes are written, and the rest is still to come
 pub record HasWritten (old new : Option (List ℕ)) (bytes rest : List ℕ) : Type 0 where
@@ -22,5 +22,5 @@ goes_on old mid new bytes rest n so_far fits more =
       count = so_far.count + n;
       fits = omega (arith, short, so_far.fits, length-drop so_far.count bytes);
       rest_is = ap (drop n) so_far.rest_is ∙ drop-drop n so_far.count bytes;
-      written = subst (Appends old new) (sym (take-add so_far.count n bytes)) (append_twice old mid new _ _ so_far.written front);
+      written = subst (Appends old new) (sym (take-add so_far.count n bytes)) (Appends-trans old mid new _ _ so_far.written front);
     }

@@ -2,6 +2,7 @@
 use Rattle.std.proofs.Common.{◌≡◌, ℕ, zero, suc, ◌+◌, ◌-◌, ◌*◌, ◌≤◌, min, ◌⊎◌, inl, inr, Bool, true, false, cond, ◌||◌, ◌==◌, nat_lt, Option, Some, None, List, [], ◌∷◌, ◌++◌, length, take, drop, set, refl, sym, ap, ap₂, ◌∙◌, subst, arith, append_assoc, append-nil, length-append, drop-drop, eqb-true, eq-eqb, lt-ltb, mul-zero, le-mul_of_pos_right, zero-lt-suc, le_trans, zero-mul}
 use Rattle.std.proofs.Math.Seq.{take-append_seam, drop-append_seam, set-append_seam}
 use Rattle.std.proofs.lemmas.Bool.{eqb-false, ne_eqb}
+use Rattle.lexical_core.proofs.Tests.{or_false, or_true}
 use Rattle.pattern_match.specs.Expression.{ClassMember, One as OneItem, Range, Spaces, Hyphen, Atom, Character, Dot, Escape, Space, Class, Quantifier, Once, Optional, AnyNumber, OneOrMore, Exactly, AtLeast, Between, Expression, Empty, Piece, Group, Choice}
 use Rattle.pattern_match.specs.Valid.{IsBranch, IsExpression}
 use Rattle.pattern_match.specs.Positions.{copies, positions}
@@ -16,7 +17,7 @@ use Rattle.pattern_match.proofs.Planning.{least_of, most_of, repeated, piece}
 use Rattle.pattern_match.proofs.Grouping.{is_nothing, single, group}
 use Rattle.pattern_match.proofs.Tokens.{items_tokens_then, atom_tokens_then, quantifier_tokens_then, tokens_then, items_width, atom_width, quantifier_width, width}
 use Rattle.pattern_match.proofs.PlanOf.{gap, branch_gap, plan, plan_nothing, whole}
-use Rattle.pattern_match.proofs.PlanCode.{or_false, code, code_length, code_split, nothing_code, some_size, item_single, ItemCode, one_item, group_code, group_item, repeated_plan_code, piece_split}
+use Rattle.pattern_match.proofs.PlanCode.{code, code_length, code_split, nothing_code, some_size, item_single, ItemCode, one_item, group_code, group_item, repeated_plan_code, piece_split}
 
 -- positions that are counted up to the limit tell the same of what is kept
 capped_cases : (n : ℕ) → (min n 65537 ≡ n) ⊎ ((min n 65537 ≡ 65537) × (65537 ≤ n))
@@ -248,10 +249,6 @@ barred_is b false e = ap (λ y. cond y (barred true b) (barred false b)) e
 
 bar_sum : (s x y : ℕ) → cap_count (cap_count (cap_count (s + x) + 0) + y) ≡ cap_count (s + (x + y))
 bar_sum s x y = omega arith
-
-or_true : (x : Bool) → (x || true) ≡ true
-or_true false = refl
-or_true true = refl
 
 -- a branch and those after it
 join_left : (b d e : Built) (p q : Plan) (empty : Bool) (m n : ℕ) (x y : Bool) → is_nothing p ≡ x → is_nothing q ≡ y → b.branch ≡ length b.code

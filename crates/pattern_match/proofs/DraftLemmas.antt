@@ -3,6 +3,7 @@ use Rattle.std.proofs.Common.{◌≡◌, ℕ, ◌+◌, ◌-◌, ◌≤◌, ◌<�
 use Rattle.std.proofs.lemmas.List.{take-append-drop, length-take-le}
 use Rattle.std.proofs.Math.Seq.{take-append_seam, drop-append_seam}
 use Rattle.std.proofs.Math.ListN.{drop_of_length-le}
+use Rattle.lexical_core.proofs.Lists.{same_parts}
 use Rattle.pattern_match.specs.declared.instruction.Instruction.{Instruction}
 use Rattle.pattern_match.specs.declared.instruction.Place.{Place}
 use Rattle.pattern_match.specs.Building.{flagged_first}
@@ -162,9 +163,6 @@ record Before (front rest mid : List (Option Instruction)) (x : Instruction) (em
   mid_is : mid ≡ front ++ more
   rest_is : rest ≡ more ++ Some x ∷ empty
 
-head_tail : {X : Type 0} (x y : X) (xs ys : List X) → x ∷ xs ≡ y ∷ ys → (x ≡ y) × (xs ≡ ys)
-head_tail x y xs ys e = (cc, cc)
-
 no_live : (front : List (Option Instruction)) (i : Instruction) (inside empty : List (Option Instruction)) → front ++ Some i ∷ inside ≡ empty → live empty ≡ [] → ⊥
 no_live front i inside empty e n =
     let a = ap (λ x. length x) (sym (live_append front (Some i ∷ inside)) ∙ ap live e ∙ n) in
@@ -174,9 +172,9 @@ no_live front i inside empty e n =
 before : (front : List (Option Instruction)) (i : Instruction) (inside mid : List (Option Instruction)) (x : Instruction) (empty : List (Option Instruction))
     → front ++ Some i ∷ inside ≡ mid ++ Some x ∷ empty → live empty ≡ [] → Before front (Some i ∷ inside) mid x empty
 before [] i inside mid x empty e n = record { more = mid; mid_is = refl; rest_is = e }
-before (c ∷ front) i inside [] x empty e n = absurd (no_live front i inside empty (head_tail c (Some x) (front ++ Some i ∷ inside) empty e).1 n)
+before (c ∷ front) i inside [] x empty e n = absurd (no_live front i inside empty (same_parts c (Some x) (front ++ Some i ∷ inside) empty e).1 n)
 before (c ∷ front) i inside (d ∷ mid) x empty e n =
-    let t = head_tail c d (front ++ Some i ∷ inside) (mid ++ Some x ∷ empty) e in
+    let t = same_parts c d (front ++ Some i ∷ inside) (mid ++ Some x ∷ empty) e in
     let b = before front i inside mid x empty t.1 n in
     record { more = b.more; mid_is = ap₂ (λ y ys. y ∷ ys) (sym t.0) b.mid_is; rest_is = b.rest_is }
 

@@ -1,5 +1,6 @@
 -- What the two passes over the instructions of a plan leave, by induction on the plan.
 use Rattle.std.proofs.Common.{◌≡◌, ℕ, suc, ◌+◌, ◌⊎◌, ◌↔◌, inl, inr, Bool, true, false, ◌||◌, ◌&&◌, IsTrue, List, [], ◌∷◌, ◌++◌, refl, sym, ap, ◌∙◌, subst, ⊎_elim, get_or, arith, zero-add, add-zero, suc-add, append-nil, append_assoc}
+use Rattle.lexical_core.proofs.Tests.{either}
 use Rattle.pattern_match.specs.Language.{IsBoth}
 use Rattle.pattern_match.specs.inner.Plan.{Plan, Nothing, One, Many, Either, size, code_then, Flagged, IsTakenAt, PlanLang, BeginsPart, Ends, Marked, IsOneBranch, IsPlan}
 use Rattle.pattern_match.specs.Marking.{frame, with_group, first_pass, second_pass}
@@ -8,11 +9,6 @@ use Rattle.pattern_match.specs.declared.instruction.Instruction.TheVariants.{Bar
 use Rattle.pattern_match.specs.declared.instruction.Frame.{Frame}
 use Rattle.pattern_match.proofs.Groups.{first_bar, first_close, second_bar, second_close}
 use Rattle.pattern_match.proofs.Words.{both_ends, ends_both, begins_cases, begins_first, begins_again, flagged_ends, ends_flagged, flagged_empty, empty_flagged, then_ends, ends_then, then_empty, empty_then, taken_ends, ends_taken}
-
--- tests
-pub or_true : (a b : Bool) → IsTrue (a || b) → IsTrue a ⊎ IsTrue b
-or_true true b h = inl refl
-or_true false b h = inr h
 
 pub true_or : (a b : Bool) → IsTrue a ⊎ IsTrue b → IsTrue (a || b)
 true_or true b h = refl
@@ -148,7 +144,7 @@ module _ (admits : ℕ → ℕ → Bool) where
 
       i : IsTrue out ↔ (Ends A (Flagged o r P) (w ++ c ∷ []) ⊎ (IsTrue now × Flagged o r P []))
       i = item_out o r A P (w ++ c ∷ []) out now (
-        λ t. ⊎_elim (λ x. inr (inl (hits.0 x))) (λ x. inl x) (or_true (mark && admits at c) (o && now) t),
+        λ t. ⊎_elim (λ x. inr (inl (hits.0 x))) (λ x. inl x) (either (mark && admits at c) (o && now) t),
         λ x. true_or (mark && admits at c) (o && now) (⊎_elim (λ y. inr y) (λ y. inl (⊎_elim (λ z. hits.1 z) (λ z. absurd (no_empty z.1)) y)) x),
       )
 
@@ -181,7 +177,7 @@ module _ (admits : ℕ → ℕ → Bool) where
       start = now || false
 
       started : IsTrue start ↔ IsTrue now
-      started = (λ t. ⊎_elim (λ x. x) (λ x. absurd (cc)) (or_true now false t), λ t. true_or now false (inl t))
+      started = (λ t. ⊎_elim (λ x. x) (λ x. absurd (cc)) (either now false t), λ t. true_or now false (inl t))
 
       q : PatternAt c inner (BeginsPart r A (PlanLang Takes inner)) w within (end ∷ later) (Close ∷ code_then rest code) start (o && now) frames
       q = g (BeginsPart r A P) w within (end ∷ later) (Close ∷ code_then rest code) start (o && now) frames mi (λ t. begins_first r A P (w ++ c ∷ []) (a (started.0 t)))
@@ -191,7 +187,7 @@ module _ (admits : ℕ → ℕ → Bool) where
 
       i0 : IsTrue out ↔ (IsTrue (o && now) ⊎ (Ends (BeginsPart r A P) P (w ++ c ∷ []) ⊎ (IsTrue now × P [])))
       i0 = (
-        λ t. ⊎_elim (λ x. inl x) (λ x. inr (⊎_elim (λ y. inl y) (λ y. inr (started.0 y.0, y.1)) x)) (q.3.0 (or_true q.1 q.0 t)),
+        λ t. ⊎_elim (λ x. inl x) (λ x. inr (⊎_elim (λ y. inl y) (λ y. inr (started.0 y.0, y.1)) x)) (q.3.0 (either q.1 q.0 t)),
         λ x. true_or q.1 q.0 (q.3.1 (⊎_elim (λ y. inl y) (λ y. inr (⊎_elim (λ z. inl z) (λ z. inr (started.1 z.0, z.1)) y)) x)),
       )
 
@@ -224,7 +220,7 @@ module _ (admits : ℕ → ℕ → Bool) where
         where
           forth : IsTrue (left || k.0) ⊎ (Ends A (PlanLang Takes rest) (w ++ c ∷ []) ⊎ (IsTrue now × PlanLang Takes rest []))
               → IsTrue left ⊎ (Ends A (PlanLang Takes (Either branch rest)) (w ++ c ∷ []) ⊎ (IsTrue now × PlanLang Takes (Either branch rest) []))
-          forth (inl t) = ⊎_elim (λ y. inl y) (λ y. inr (⊎_elim (λ z. inl (z.0, z.1, z.2, z.3, z.4, inl z.5)) (λ z. inr (z.0, inl z.1)) (k.2.0 y))) (or_true left k.0 t)
+          forth (inl t) = ⊎_elim (λ y. inl y) (λ y. inr (⊎_elim (λ z. inl (z.0, z.1, z.2, z.3, z.4, inl z.5)) (λ z. inr (z.0, inl z.1)) (k.2.0 y))) (either left k.0 t)
           forth (inr (inl z)) = inr (inl (z.0, z.1, z.2, z.3, z.4, inr z.5))
           forth (inr (inr z)) = inr (inr (z.0, inr z.1))
 
@@ -323,7 +319,7 @@ module _ (admits : ℕ → ℕ → Bool) where
       → (Ends (BeginsPart r A P) P w → IsTrue end) → (IsTrue end → A w ⊎ Ends (BeginsPart r A P) P w)
       → (IsTrue (now || (r && end)) ↔ BeginsPart r A P w)
   begin_iff r A P w now end a e d = (
-    λ t. ⊎_elim (λ x. begins_first r A P w (a.0 x)) (λ x. again r (and_true r end x).0 (d (and_true r end x).1)) (or_true now (r && end) t),
+    λ t. ⊎_elim (λ x. begins_first r A P w (a.0 x)) (λ x. again r (and_true r end x).0 (d (and_true r end x).1)) (either now (r && end) t),
     λ b. true_or now (r && end) (⊎_elim (λ x. inl (a.1 x)) (λ x. inr (true_and r end x.0 (e x.1))) (begins_cases r A P w b)),
   )
     where
@@ -354,7 +350,7 @@ module _ (admits : ℕ → ℕ → Bool) where
 
       i : IsTrue out ↔ (Ends A (Flagged o r P) w ⊎ (IsTrue now × Flagged o r P []))
       i = item_out o r A P w out now (
-        λ t. ⊎_elim (λ x. inr (inl (h.0 x))) (λ x. inl x) (or_true hit (o && now) t),
+        λ t. ⊎_elim (λ x. inr (inl (h.0 x))) (λ x. inl x) (either hit (o && now) t),
         λ x. true_or hit (o && now) (⊎_elim (λ y. inr y) (λ y. inl (⊎_elim (λ z. h.1 z) (λ z. absurd (no_empty z.1)) y)) x),
       )
 
@@ -398,7 +394,7 @@ module _ (admits : ℕ → ℕ → Bool) where
 
       i0 : IsTrue out ↔ (IsTrue (o && now) ⊎ (Ends (BeginsPart r A P) P w ⊎ (IsTrue now × P [])))
       i0 = (
-        λ t. ⊎_elim (λ z. inl z) (λ z. inr (forth (both_ends (BeginsPart r A P) P w z))) (q.3.0 (or_true q.1 q.0 t)),
+        λ t. ⊎_elim (λ z. inl z) (λ z. inr (forth (both_ends (BeginsPart r A P) P w z))) (q.3.0 (either q.1 q.0 t)),
         λ z. true_or q.1 q.0 (q.3.1 (⊎_elim (λ l. inl l) (λ l. inr (back l)) z)),
       )
         where
@@ -435,7 +431,7 @@ module _ (admits : ℕ → ℕ → Bool) where
       i = (λ x. forth (q.3.0 x), λ x. q.3.1 (back x))
         where
           forth : IsTrue (left || k.0) ⊎ IsBoth A (PlanLang Takes rest) w → IsTrue left ⊎ IsBoth A (PlanLang Takes (Either branch rest)) w
-          forth (inl t) = ⊎_elim (λ y. inl y) (λ y. inr (let z = k.2.0 y in (z.0, z.1, z.2, z.3, inl z.4))) (or_true left k.0 t)
+          forth (inl t) = ⊎_elim (λ y. inl y) (λ y. inr (let z = k.2.0 y in (z.0, z.1, z.2, z.3, inl z.4))) (either left k.0 t)
           forth (inr z) = inr (z.0, z.1, z.2, z.3, inr z.4)
 
           back : IsTrue left ⊎ IsBoth A (PlanLang Takes (Either branch rest)) w → IsTrue (left || k.0) ⊎ IsBoth A (PlanLang Takes rest) w

@@ -1,6 +1,7 @@
 -- The instructions of a plan, and those of its items.
 use Rattle.std.proofs.Common.{◌≡◌, ℕ, zero, suc, ◌+◌, ◌-◌, ◌*◌, ◌≤◌, Bool, true, false, cond, ◌||◌, ◌==◌, nat_lt, Option, Some, None, List, [], ◌∷◌, ◌++◌, length, refl, sym, ap, ap₂, ◌∙◌, arith, append_assoc, append-nil, eqb-true, eq-eqb}
 use Rattle.std.proofs.lemmas.Bool.{eqb-false, ne_eqb}
+use Rattle.lexical_core.proofs.Tests.{or_false}
 use Rattle.pattern_match.specs.inner.Plan.{Plan, Nothing, One, Many, Either, size, code_then}
 use Rattle.pattern_match.specs.Building.{flagged_first, copies_code, repeated_code, is_item}
 use Rattle.pattern_match.specs.declared.instruction.Instruction.{Instruction}
@@ -33,10 +34,6 @@ pub record ItemCode (item : Bool → Bool → Plan → Plan) (f : List Instructi
   pub one : code (item false false Nothing) ≡ f
   pub plain : flagged_first false false f ≡ f
   pub flags : (o r : Bool) (rest : Plan) → code (item o r rest) ≡ flagged_first o r f ++ code rest
-
-pub or_false : (x : Bool) → (x || false) ≡ x
-or_false false = refl
-or_false true = refl
 
 pub one_item : (k : ℕ) → ItemCode (One k) (Take k false false ∷ [])
 one_item k = record { one = refl; plain = refl; flags = λ o r rest. ap₂ (λ x y. Take k x y ∷ code rest) (sym (or_false o)) (sym (or_false r)) }

@@ -1,6 +1,6 @@
 -- Where the reading of a text stops is where it is refused.
 use Rattle.std.proofs.Common.{◌≡◌, ℕ, zero, suc, ◌+◌, ◌-◌, ◌*◌, ◌/◌, ◌≤◌, ◌<◌, ◌⊎◌, inl, inr, Bool, true, false, cond, ◌==◌, nat_le, nat_lt, Option, Some, None, List, [], ◌∷◌, ◌++◌, length, refl, sym, ap, ◌∙◌, subst, ⊎_elim, arith, le-leb, leb-true, lt-ltb, le-ltb, ltb-false, le_refl, mul-le-mul, mul_assoc, lit≤, ltb-true, append-nil, take, drop, take-append-drop, take_all, true≢false}
-use Rattle.std.proofs.lemmas.Bool.{cond_both}
+use Rattle.std.proofs.lemmas.Bool.{cond_both, cases_lt}
 use Rattle.pattern_match.specs.Expression.{Plain, One}
 use Rattle.pattern_match.specs.Spelling.{spelling}
 use Rattle.pattern_match.specs.Valid.{escaped_letter}
@@ -220,9 +220,6 @@ by_atom k d cs F l = (cs, by_lead l (closed d InAtom (inr refl)))
 by_start : (k : Control) (d : ℕ) (cs : List ℕ) (F : List Token → List Token) → Leads (reading k d) cs F (reading Start d) (closers d) → Completes k d
 by_start k d cs F l = (cs, by_lead l (closed d Start (inl refl)))
 
-less_or_not : (a b : ℕ) → (a < b) ⊎ (b ≤ a)
-less_or_not a b = grind arith
-
 -- nines complete a second bound
 complete_most : (j least weight value d : ℕ) → IsTen j weight → least < (value + 1) * weight → Completes (Most least weight value) d
 complete_most zero least weight value d w l =
@@ -248,7 +245,7 @@ complete_most (suc j) least weight value d w l =
     )
 
 complete_least : (weight value d : ℕ) → Live (Least weight value) → Completes (Least weight value) d
-complete_least weight value d h = choose (less_or_not weight 10)
+complete_least weight value d h = choose (cases_lt weight 10)
   where
     f : weight ≤ whole_weight
     f = room_full weight value h.1
@@ -378,7 +375,7 @@ refused_at text p e =
     s = refused_stops text start 0 p e
 
     none : (k : Control) × IsPlainAt k × (run_reading (Some start) text ≡ Some (reading k 0)) → ⊥
-    none (k, pl, r) = ⊎_elim inside whole (less_or_not s.0 (length text))
+    none (k, pl, r) = ⊎_elim inside whole (cases_lt s.0 (length text))
       where
         inside : s.0 < length text → ⊥
         inside l =

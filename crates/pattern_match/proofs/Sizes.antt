@@ -1,5 +1,5 @@
 -- The code of a pattern has at most four instructions for each position.
-use Rattle.std.proofs.Common.{◌≡◌, ◌≢◌, ℕ, zero, suc, ◌+◌, ◌-◌, ◌*◌, ◌≤◌, max, Bool, true, false, cond, ◌||◌, ◌==◌, nat_lt, Option, Some, None, List, [], refl, sym, ap, ◌∙◌, subst, arith, eqb-true, length, zero-mul, mul-zero, mul_comm, le-mul_of_pos_right}
+use Rattle.std.proofs.Common.{◌≡◌, ◌≢◌, ℕ, zero, suc, ◌+◌, ◌-◌, ◌*◌, ◌≤◌, max, Bool, true, false, cond, ◌||◌, ◌==◌, nat_lt, Option, Some, None, List, [], refl, sym, ap, ◌∙◌, subst, arith, eqb-true, length, zero-mul, mul-zero, mul_comm, le-mul_of_pos_right, add-mul}
 use Rattle.std.proofs.lemmas.Bool.{eqb-false}
 use Rattle.pattern_match.specs.Expression.{Quantifier, Once, Expression, Empty, Piece, Group, Choice}
 use Rattle.pattern_match.specs.Valid.{IsQuantifier, IsBranch, IsExpression}
@@ -106,12 +106,9 @@ iterate_fits item n h o r (suc k) rest m f t =
     let x = h o r (iterate k (item o r) rest) (k * n + m) i.0 i.1 in
     (x.0, subst (λ y. takes (item o r (iterate k (item o r) rest)) ≤ y) (next_product k n m) x.1)
 
-distribute : (a b n : ℕ) → (a + b) * n ≡ a * n + b * n
-distribute a b n = grind arith
-
 between : (least most n m : ℕ) → least ≤ most → least * n + ((most - least) * n + m) ≡ n * most + m
 between least most n m h =
-    let a : (least + (most - least)) * n ≡ least * n + (most - least) * n = distribute least (most - least) n in
+    let a : (least + (most - least)) * n ≡ least * n + (most - least) * n = add-mul least (most - least) n in
     let b : least + (most - least) ≡ most = omega arith in
     let c : most * n ≡ n * most = mul_comm most n in
     let d : (least + (most - least)) * n ≡ most * n = ap (λ x. x * n) b in

@@ -1,12 +1,13 @@
 -- The tokens of a syntax tree, and which characters its atoms have by them.
 use Rattle.std.proofs.Common.{◌≡◌, ℕ, suc, ◌+◌, ◌≤◌, ◌⊎◌, ◌↔◌, inl, inr, Bool, true, false, not, ◌||◌, ◌&&◌, ◌==◌, nat_le, IsTrue, List, [], ◌∷◌, drop, refl, sym, ap, ◌∙◌, subst, ⊎_elim, arith, leb-true, le-leb, eqb-true, eq-eqb, zero-add}
+use Rattle.lexical_core.proofs.Tests.{either}
 use Rattle.pattern_match.specs.Expression.{ClassMember, One, Range, Spaces, Hyphen, Atom, Character, Dot, Escape, Space, Class, Quantifier, Once, Optional, AnyNumber, OneOrMore, Exactly, AtLeast, Between, Expression, Empty, Piece, Group, Choice}
 use Rattle.pattern_match.specs.Valid.{escaped_letter, meant, IsItem, AreLaterItems, AreItems, IsAtom}
 use Rattle.pattern_match.specs.Language.{IsPatternSpace, ItemHas, SomeHas, AtomHas}
 use Rattle.pattern_match.specs.Token.{members_have, is_pattern_space, first_admits}
 use Rattle.pattern_match.specs.declared.token.Token.{Token}
 use Rattle.pattern_match.specs.declared.token.Token.TheVariants.{Open as OpenToken, Close as CloseToken, Bar as BarToken, Single as SingleToken, Dot as DotToken, Spaces as SpacesToken, ClassStart, Member, Times}
-use Rattle.pattern_match.proofs.PassLemmas.{or_true, true_or, and_true, true_and}
+use Rattle.pattern_match.proofs.PassLemmas.{true_or, and_true, true_and}
 use Rattle.pattern_match.proofs.Planning.{least_of, most_of}
 
 abbrev pub item_tokens_then : ClassMember → List Token → List Token
@@ -103,8 +104,8 @@ pub space_true : (c : ℕ) → IsTrue (is_pattern_space c) ↔ IsPatternSpace c
 space_true c = (forth, back)
   where
     forth : IsTrue (is_pattern_space c) → IsPatternSpace c
-    forth t = ⊎_elim (λ x. ⊎_elim (λ y. ⊎_elim (λ z. inl (eqb-true c 32 z)) (λ z. inr (inl (eqb-true c 9 z))) (or_true (c == 32) (c == 9) y)) (λ y. inr (inr (inl (eqb-true c 10 y)))) (or_true ((c == 32) || (c == 9)) (c == 10) x))
-        (λ x. inr (inr (inr (eqb-true c 13 x)))) (or_true ((c == 32) || (c == 9) || (c == 10)) (c == 13) t)
+    forth t = ⊎_elim (λ x. ⊎_elim (λ y. ⊎_elim (λ z. inl (eqb-true c 32 z)) (λ z. inr (inl (eqb-true c 9 z))) (either (c == 32) (c == 9) y)) (λ y. inr (inr (inl (eqb-true c 10 y)))) (either ((c == 32) || (c == 9)) (c == 10) x))
+        (λ x. inr (inr (inr (eqb-true c 13 x)))) (either ((c == 32) || (c == 9) || (c == 10)) (c == 13) t)
 
     back : IsPatternSpace c → IsTrue (is_pattern_space c)
     back (inl e) = true_or ((c == 32) || (c == 9) || (c == 10)) (c == 13) (inl (true_or ((c == 32) || (c == 9)) (c == 10) (inl (true_or (c == 32) (c == 9) (inl (eq-eqb c 32 e))))))
@@ -114,7 +115,7 @@ space_true c = (forth, back)
 
 member_true : (low high c : ℕ) (more : List Token) → IsTrue (members_have (Member low high ∷ more) c) ↔ (((low ≤ c) × (c ≤ high)) ⊎ IsTrue (members_have more c))
 member_true low high c more = (
-  λ t. ⊎_elim (λ x. inl ((range_true low high c).0 x)) (λ x. inr x) (or_true (nat_le low c && nat_le c high) (members_have more c) t),
+  λ t. ⊎_elim (λ x. inl ((range_true low high c).0 x)) (λ x. inr x) (either (nat_le low c && nat_le c high) (members_have more c) t),
   λ x. true_or (nat_le low c && nat_le c high) (members_have more c) (⊎_elim (λ y. inl ((range_true low high c).1 y)) (λ y. inr y) x),
 )
 
@@ -198,7 +199,7 @@ atom_true Dot c more v h = (
     λ e. (not_true ((c == 10) || (c == 13))).0 t (true_or (c == 10) (c == 13) (inl (eq-eqb c 10 e))),
     λ e. (not_true ((c == 10) || (c == 13))).0 t (true_or (c == 10) (c == 13) (inr (eq-eqb c 13 e))),
   ),
-  λ x. (not_true ((c == 10) || (c == 13))).1 (λ t. ⊎_elim (λ y. x.0 (eqb-true c 10 y)) (λ y. x.1 (eqb-true c 13 y)) (or_true (c == 10) (c == 13) t)),
+  λ x. (not_true ((c == 10) || (c == 13))).1 (λ t. ⊎_elim (λ y. x.0 (eqb-true c 10 y)) (λ y. x.1 (eqb-true c 13 y)) (either (c == 10) (c == 13) t)),
 )
 atom_true (Escape letter) c more v h = equal_true c (escaped_letter letter)
 atom_true Space c more v h = space_true c

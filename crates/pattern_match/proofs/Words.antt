@@ -1,11 +1,8 @@
 -- Lemmas on words that are made of parts.
 use Rattle.std.proofs.Common.{◌≡◌, ℕ, zero, suc, ◌⊎◌, inl, inr, Bool, true, false, IsTrue, List, [], ◌∷◌, ◌++◌, refl, sym, ap, ◌∙◌, subst, ap₂, ⊎_elim, append_assoc, append-nil}
+use Rattle.lexical_core.proofs.Lists.{nothing_joined}
 use Rattle.pattern_match.specs.Language.{Repeats, IsBoth}
 use Rattle.pattern_match.specs.inner.Plan.{Flagged, BeginsPart, Ends}
-
-pub append_nil_left : (u v : List ℕ) → [] ≡ u ++ v → (u ≡ []) × (v ≡ [])
-append_nil_left [] v e = (refl, sym e)
-append_nil_left (x ∷ u) v e = absurd (cc)
 
 -- a word of A and one of P: the second is empty or not
 pub both_ends : (A P : List ℕ → Type 0) (w : List ℕ) → IsBoth A P w → Ends A P w ⊎ (A w × P [])
@@ -28,7 +25,7 @@ repeats_last P (suc k) w r =
     (r.0 ++ l.0, l.1, (r.2 ∙ ap (λ x. r.0 ++ x) l.2 ∙ sym (append_assoc r.0 l.0 l.1)), (r.0, l.0, refl, r.3, l.3), l.4)
 
 nil_of_append : (u v : List ℕ) → u ++ v ≡ [] → v ≡ []
-nil_of_append u v e = (append_nil_left u v (sym e)).1
+nil_of_append u v e = (nothing_joined u v (sym e)).1
 
 -- behind k more parts, the last of them that is not empty ends the word
 last_part : (A P : List ℕ → Type 0) (k : ℕ) (w u v : List ℕ) → w ≡ u ++ v → A u → Repeats P k v → (v ≡ []) ⊎ Ends (BeginsPart true A P) P w
@@ -80,7 +77,7 @@ ends_flagged true true A P w (u, v, e, n, (u1, v1, e1, a, (k, r)), p) =
 pub flagged_empty : (o r : Bool) (P : List ℕ → Type 0) → Flagged o r P [] → IsTrue o ⊎ P []
 flagged_empty false false P p = inr p
 flagged_empty true r P p = inl refl
-flagged_empty false true P (k, (u, v, e, p, r)) = inr (subst P (append_nil_left u v e).0 p)
+flagged_empty false true P (k, (u, v, e, p, r)) = inr (subst P (nothing_joined u v e).0 p)
 
 pub empty_flagged : (o r : Bool) (P : List ℕ → Type 0) → IsTrue o ⊎ P [] → Flagged o r P []
 empty_flagged false false P (inl h) = absurd (cc)
@@ -104,7 +101,7 @@ ends_then A P Q w (inl (u, v, e, n, (u1, v1, e1, a, p), q)) =
 ends_then A P Q w (inr ((u, v, e, n, a, p), q)) = (u, v, e, n, a, (v, [], sym (append-nil v), p, q))
 
 pub then_empty : (P Q : List ℕ → Type 0) → IsBoth P Q [] → P [] × Q []
-then_empty P Q (u, v, e, p, q) = (subst P (append_nil_left u v e).0 p, subst Q (append_nil_left u v e).1 q)
+then_empty P Q (u, v, e, p, q) = (subst P (nothing_joined u v e).0 p, subst Q (nothing_joined u v e).1 q)
 
 pub empty_then : (P Q : List ℕ → Type 0) → P [] → Q [] → IsBoth P Q []
 empty_then P Q p q = ([], [], refl, p, q)
@@ -141,4 +138,4 @@ ends_taken A T w c a t = (w, c ∷ [], refl, (λ z. cc), a, (c, refl, t))
 
 -- nothing ends the empty word
 pub empty_ends : (A P : List ℕ → Type 0) → Ends A P [] → ⊥
-empty_ends A P (u, v, e, n, a, p) = n (append_nil_left u v e).1
+empty_ends A P (u, v, e, n, a, p) = n (nothing_joined u v e).1

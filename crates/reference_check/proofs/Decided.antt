@@ -6,6 +6,7 @@ use Rattle.std.specs.Str.{bytes_eq}
 use Rattle.std.proofs.lemmas.Bool.{and_parts, and_from, or_cases, or_left, or_right}
 use Rattle.std.proofs.lemmas.Bool.Decides.{nat_tests, eqb_tells}
 use Rattle.std.proofs.lemmas.Slice.Eq.{bytes_eq-Decides}
+use Rattle.lexical_core.proofs.Tests.{zero_told}
 use native.Mathlib.Decide.{dec_lt}
 use Rattle.repo_objects.specs.declared.objects.ElementDef.{ElementDef}
 use Rattle.repo_objects.specs.declared.objects.MessageDef.{MessageDef}
@@ -13,6 +14,7 @@ use Rattle.repo_objects.specs.declared.objects.Object.{Object}
 use Rattle.repo_objects.specs.declared.objects.ObjectKind.{ObjectKind}
 use Rattle.repo_objects.specs.declared.objects.ObjectKind.TheVariants.{Simple, Component, Choice, External, Other}
 use Rattle.repo_objects.specs.Repository.{Contents, DictionaryEntry}
+use Rattle.repo_objects.specs.declared.objects.Kinds.TheVariants as kinds
 use Rattle.reference_check.specs.Forms.{Slot, Form, Graph, form_slots}
 use Rattle.reference_check.specs.Graph.{Place, document, message, entry, nowhere, graph, references, slot_of, find_entry}
 use Rattle.reference_check.specs.Forms as form
@@ -25,7 +27,6 @@ use Rattle.reference_check.proofs.Words.{IsProper}
 use Rattle.reference_check.proofs.FiniteForms.{finite_form}
 use Rattle.reference_check.proofs.FiniteMarks.{finds_the_finite, later_in}
 use Rattle.reference_check.proofs.Lookups.{first_in}
-use Rattle.repo_objects.specs.declared.objects.Kinds.TheVariants as kinds
 
 -- ---- tests of lists
 
@@ -36,9 +37,6 @@ every f (x ∷ xs) = f x && every f xs
 abbrev some : {A : Type 0} → (A → Bool) → List A → Bool
 some f [] = false
 some f (x ∷ xs) = f x || some f xs
-
-zero_in : (n : ℕ) → (n == 0) ≡ true → n ≡ 0
-zero_in n e = grind (arith, nat_tests)
 
 zero_of : (n : ℕ) → n ≡ 0 → (n == 0) ≡ true
 zero_of n e = grind (arith, nat_tests)
@@ -88,7 +86,7 @@ module _ {P L : Type 0} (g : Graph P L) where
   reached_in S s sound e = go (or_cases (s.min == 0) (S s.target) e)
     where
       go : ((s.min == 0) ≡ true) ⊎ (S s.target ≡ true) → IsReached (IsFinite g) s
-      go (inl z) = inl (zero_in s.min z)
+      go (inl z) = inl (zero_told s.min z)
       go (inr h) = inr (sound s.target h)
 
   every_in : (S : P → Bool) (fs : List (Slot P)) → SoundMarks S → every (slot_test S) fs ≡ true → AllByRecursion (IsReached (IsFinite g)) fs

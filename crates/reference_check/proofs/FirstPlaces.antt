@@ -5,6 +5,7 @@ use Rattle.std.specs.List.{position_or_len}
 use Rattle.std.specs.Str.{bytes_eq}
 use Rattle.std.proofs.lemmas.Option.{slice_get_within, get_or_from_slice_get}
 use Rattle.std.proofs.lemmas.Slice.Eq.{bytes_eq-Decides}
+use Rattle.lexical_core.proofs.Tests.{compared}
 use Rattle.repo_objects.specs.declared.objects.MessageDef.{MessageDef}
 use Rattle.repo_objects.specs.declared.objects.Object.{Object}
 use Rattle.repo_objects.specs.Repository.{DictionaryEntry, Contents, IsRepository, HasEntryTexts}
@@ -16,7 +17,8 @@ use Rattle.reference_check.specs.Reached.{HasReach}
 use Rattle.reference_check.specs.Rules.{Rule, Breaks, OfObject}
 use Rattle.reference_check.specs.inner.First.{TellsFirst}
 use Rattle.reference_check.specs.inner.Ranks.{place_of_entry, place_at, NoneBreaks, StandsAt}
-use Rattle.reference_check.proofs.Entries.{stands_first, entry_at}
+use Rattle.reference_check.proofs.Entries.{stands_first}
+use Rattle.reference_check.proofs.Lookups.{find_at}
 
 -- ---- lists
 
@@ -41,12 +43,6 @@ pub same_default : (xs : List ℕ) (i d e : ℕ) → i < length xs → get_or xs
 same_default [] i d e l = absurd (omega (arith, l))
 same_default (x ∷ xs) zero d e l = refl
 same_default (x ∷ xs) (suc i) d e l = same_default xs i d e (omega (arith, l))
-
-pub lt_cases : (j i : ℕ) → (j < i) ⊎ ((j ≡ i) ⊎ (i < j))
-lt_cases zero zero = inr (inl refl)
-lt_cases zero (suc i) = inl (omega arith)
-lt_cases (suc j) zero = inr (inr (omega arith))
-lt_cases (suc j) (suc i) = elim (lt_cases j i) [ inl a ↦ inl (omega arith) | inr rest ↦ elim rest [ inl b ↦ inr (inl (ap (λ n. suc n) b)) | inr c ↦ inr (inr (omega arith)) ] ]
 
 -- ---- none so far
 
@@ -116,7 +112,7 @@ tells_message R m rule r has stands none broken = (message, refl, record { reach
 
 -- places rise, so a smaller one stands before
 pub rises_to : (R : Contents) (m : List ℕ) (r : Reach) (i at j k : ℕ) → HasReach R m r → i < length r.objects → at ≡ get_or r.objects i at → j < length r.objects → get_or r.objects j k ≡ k → k < at → j < i
-rises_to R m r i at j k has l is long same below = by (lt_cases j i)
+rises_to R m r i at j k has l is long same below = by (compared j i)
   where
     at_k : get_or r.objects i k ≡ at
     at_k = same_default r.objects i k at l ∙ sym is
@@ -204,7 +200,7 @@ entry_texts : (R : Contents) (at : ℕ) (e : DictionaryEntry) → IsRepository R
 entry_texts R at e whole there = subst HasEntryTexts (get_or_from_slice_get R.objects at e e there) (whole.object_texts at e (slice_get_within R.objects at e there))
 
 pub stands_at : (R : Contents) (at : ℕ) (e : DictionaryEntry) → Some e ≡ slice_get R.objects at → IsRepository R → StandsAt R at e.object
-stands_at R at e there whole = record { stored = e; there = sym there; object_is = refl; found = entry_at R.objects at e whole.distinct (sym there); whole = whole; texts = (entry_texts R at e whole (sym there)).object }
+stands_at R at e there whole = record { stored = e; there = sym there; object_is = refl; found = find_at R.objects at e whole.distinct (sym there); whole = whole; texts = (entry_texts R at e whole (sym there)).object }
 
 -- ---- a rule on objects alone
 

@@ -1,7 +1,6 @@
 -- What is free stays free, and what is held back stays so until the users of what was found are told.
-use Rattle.std.proofs.Common.{◌≡◌, ℕ, zero, suc, true, false, List, [], ◌∷◌, Some, refl, ap, arith, eqb, ◌⊎◌, inl, inr}
-use Rattle.std.specs.Prelude.{slice_get, slice_set, Contains, ◌≢◌}
-use Rattle.std.proofs.lemmas.Bool.Decides.{eqb_tells}
+use Rattle.std.proofs.Common.{◌≡◌, ℕ, zero, suc, List, [], ◌∷◌, Some, refl, ap, arith, inl, inr}
+use Rattle.std.specs.Prelude.{slice_get, slice_set, Contains}
 use Rattle.repo_objects.specs.declared.objects.ElementDef.{ElementDef}
 use Rattle.repo_objects.specs.declared.objects.ObjectKind.{ObjectKind}
 use Rattle.repo_objects.specs.declared.objects.ObjectKind.TheVariants.{Component, Choice}
@@ -9,13 +8,6 @@ use Rattle.repo_objects.specs.Repository.{DictionaryEntry}
 use Rattle.reference_check.specs.declared.finite.Mark.{Mark}
 use Rattle.reference_check.specs.declared.finite.Mark.TheVariants.{Unreached, Open, Finite}
 use Rattle.reference_check.specs.inner.FiniteSearch.{IsFoundAt, IsFree, IsBlocked, AreFree, HoldBack, open_marks}
-
-pub same_or_not : (j k : ℕ) → (j ≡ k) ⊎ (j ≡ k → ⊥)
-same_or_not j k = go (eqb_tells j k)
-  where
-    go : ((eqb j k ≡ true) × (j ≡ k)) ⊎ ((eqb j k ≡ false) × (j ≢ k)) → (j ≡ k) ⊎ (j ≡ k → ⊥)
-    go (inl t) = inl t.1
-    go (inr t) = inr t.1
 
 pub get_set_same : {A : Type 0} (xs : List A) (i : ℕ) (x y : A) → slice_get xs i ≡ Some y → slice_get (slice_set xs i x) i ≡ Some x
 get_set_same [] i x y e = absurd cc

@@ -1,18 +1,14 @@
 -- Tests of two lists, of which either says that something is in one of them.
-use Rattle.std.proofs.Common.{◌≡◌, ℕ, zero, suc, arith, ◌<◌, Bool, true, false, ◌||◌, List, [], ◌∷◌, ◌++◌, map, refl, ap, ◌∙◌, subst, sym, ◌⊎◌, inl, inr, Contains}
+use Rattle.std.proofs.Common.{◌≡◌, ℕ, zero, suc, arith, ◌<◌, Bool, true, false, ◌||◌, List, [], ◌∷◌, ◌++◌, map, refl, ap, ◌∙◌, subst, sym, inl, inr, Contains}
 use Rattle.std.specs.Prelude.{IsTrue, ◌↔◌}
 use Rattle.std.proofs.lemmas.List.{length-map, get_or-map}
 use Rattle.std.proofs.lemmas.List.Elements.{Contains-append_left, Contains-append_right, Contains-append_cases}
+use Rattle.lexical_core.proofs.Tests.{either}
 use Rattle.repo_objects.specs.declared.objects.ElementDef.{ElementDef}
 use Rattle.repo_objects.specs.Repository.{Contents}
 use Rattle.reference_check.specs.Names.{is_profile_name}
 use Rattle.reference_check.specs.Rules.{HasBadName}
 use Rattle.reference_check.specs.inner.Subjects.{NamesNoEntry}
-
--- either test
-pub either : (a b : Bool) → IsTrue (a || b) → IsTrue a ⊎ IsTrue b
-either true b t = inl refl
-either false b t = inr t
 
 pub by_first : (a b : Bool) → IsTrue a → IsTrue (a || b)
 by_first true b t = refl

@@ -3,6 +3,7 @@ use Rattle.std.proofs.Common.{◌≡◌, ℕ, zero, suc, ◌+◌, ◌≤◌, ◌
 use Rattle.std.specs.Prelude.{slice_get, ◌==◌, nat_lt, if◌then◌else◌}
 use Rattle.std.specs.List.{list_any}
 use Rattle.std.proofs.lemmas.Bool.Decides.{nat_tests, eqb_tells}
+use Rattle.std.proofs.lemmas.Bool.{lt-ltb, le-ltb}
 use Rattle.reference_check.specs.Forms.{Slot}
 use Rattle.reference_check.specs.Words.{times, IsOrderedFrom, IsSequence}
 use Rattle.reference_check.specs.Steps.{Slotted, OutOfOrder, TooMany, has_room, first_lacking, after_order, sequence_next}
@@ -30,19 +31,13 @@ any-append p (i ∷ d) e = rw (any-append p d e) (regroup (p i) (list_any p d) (
     regroup true b c = refl
     regroup false b c = refl
 
-lt_is_true : (k n : ℕ) → k < n → ltb k n ≡ true
-lt_is_true k n h = grind (arith, nat_tests)
-
-ge_is_false : (n m : ℕ) → m ≤ n → ltb n m ≡ false
-ge_is_false n m h = grind (arith, nat_tests)
-
 -- the search goes past slots that lack nothing
 lacking_past : {P : Type 0} (m k bound : ℕ) (fs : List (Slot P)) (d : List ℕ) → k + m ≤ bound → ((i j : ℕ) (s : Slot P) → j ≡ k + i → i < m → slice_get fs i ≡ Some s → s.min ≤ times j d) → first_lacking k bound fs d ≡ first_lacking (k + m) bound (drop m fs) d
 lacking_past zero k bound fs d h enough = rw add-zero refl
 lacking_past (suc m) k bound [] d h enough = refl
 lacking_past (suc m) k bound (s ∷ fs) d h enough =
-    let inside : ltb k bound ≡ true = lt_is_true k bound (omega arith) in
-    let full : ltb (times k d) s.min ≡ false = ge_is_false (times k d) s.min (enough 0 k s (omega arith) (omega arith) refl) in
+    let inside : ltb k bound ≡ true = lt-ltb k bound (omega arith) in
+    let full : ltb (times k d) s.min ≡ false = le-ltb (times k d) s.min (enough 0 k s (omega arith) (omega arith) refl) in
     let at : k + suc m ≡ suc k + m = omega arith in
     rw (inside, full, at) (lacking_past m (suc k) bound fs d (omega arith) (λ i j f e l g. enough (suc i) j f (omega arith) (omega arith) g))
 

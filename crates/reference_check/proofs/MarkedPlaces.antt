@@ -4,8 +4,8 @@ use Rattle.std.specs.Prelude.{AllPairs}
 use Rattle.std.proofs.lemmas.Bool.{cases_lt}
 use Rattle.std.proofs.lemmas.List.Elements.{Contains-append_left, Contains-append_right, Contains-append_cases, Contains-get_or}
 use Rattle.std.proofs.lemmas.List.Quantifiers.{all_pairs_push}
+use Rattle.lexical_core.proofs.Lists.{only_one}
 use Rattle.reference_check.specs.inner.Marking.{IsObjectMarked}
-use Rattle.reference_check.proofs.Marking.{only_one}
 use Rattle.reference_check.proofs.Lookups.{first_in}
 
 -- the marked places below a bound

@@ -7,6 +7,7 @@ use Rattle.std.proofs.lemmas.Bool.Decides.{eqb_tells}
 use Rattle.std.proofs.lemmas.List.{length-set, take_more, get_or-set_same, get_or-set_other, set-get_or, get_or_past, length_push, get_or-replicate, length-replicate}
 use Rattle.std.proofs.lemmas.List.Concat.{flat_map-append}
 use Rattle.std.proofs.lemmas.List.Elements.{Contains-append_left, Contains-append_right, Contains-append_cases, Contains-get_or}
+use Rattle.lexical_core.proofs.Lists.{only_one}
 use Rattle.repo_objects.specs.declared.objects.ElementDef.{ElementDef}
 use Rattle.repo_objects.specs.declared.objects.MessageDef.{MessageDef}
 use Rattle.repo_objects.specs.declared.objects.Object.{Object}
@@ -76,10 +77,6 @@ adds_absent R id s lacks = record {
     only : (id other : List ℕ) → Contains (id ∷ []) other → id ≡ other
     only id other (zero, l, e) = e
     only id other (suc k, l, e) = absurd (omega arith)
-
-pub only_one : {A : Type 0} (x y : A) → Contains (x ∷ []) y → x ≡ y
-only_one x y (zero, l, e) = e
-only_one x y (suc k, l, e) = absurd (omega arith)
 
 module _ (R : Contents) (at : ℕ) (e : DictionaryEntry) (there : slice_get R.objects at ≡ Some e) (m : List ℕ) (followed : List ℕ) (marked : List Bool) (waiting : List ℕ)
     (within : at < length marked) (reach : Reaches R m (entry e.id)) (inv : AreMarks R m followed marked waiting) where

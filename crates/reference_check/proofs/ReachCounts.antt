@@ -10,27 +10,24 @@ use Rattle.std.proofs.lemmas.Map.Keys.{IsDistinct-from_apart}
 use Rattle.std.proofs.lemmas.Map.Made.{length-le_from_is_member}
 use Rattle.std.proofs.lemmas.Option.{slice_get_cases, slice_get_within, get_or_from_slice_get, slice_get-get_or}
 use Rattle.std.proofs.lemmas.Slice.Eq.{bytes_eq-Decides}
+use Rattle.lexical_core.proofs.EqualBytes.{other_bytes}
 use Rattle.repo_objects.specs.declared.objects.MessageDef.{MessageDef}
 use Rattle.repo_objects.specs.declared.objects.Object.{Object}
-use Rattle.repo_objects.specs.Repository.{DictionaryEntry, Contents, IsRepository, ids_of}
+use Rattle.repo_objects.specs.Repository.{DictionaryEntry, Contents, IsRepository, ids_of, entry_id}
 use Rattle.reference_check.specs.declared.reached.Reach.{Reach}
 use Rattle.reference_check.specs.Graph.{document, message, entry, nowhere, find_entry}
 use Rattle.reference_check.specs.Reach.{Reaches, elements_or_none, blocks_or_none}
 use Rattle.reference_check.specs.Reached.{HasReach}
 use Rattle.reference_check.specs.Rules.{AreReached, TooMany, Breaks, HasTooMuch}
 use Rattle.reference_check.specs.inner.Sizes.{IsTooLarge}
-use Rattle.reference_check.proofs.Entries.{bytes_differ, entry_at}
 use Rattle.reference_check.proofs.FirstPlaces.{Stands, as_message, as_object, BreaksWhereItStands, ranked, same_default, stands_as_object, of_object, no_message}
 use Rattle.reference_check.proofs.Lists.{item_of}
+use Rattle.reference_check.proofs.Lookups.{find_at}
 
 -- ---- the ids of places
 
-abbrev id_of : Option DictionaryEntry → List ℕ
-id_of None = []
-id_of (Some e) = e.id
-
 abbrev id_at : Contents → ℕ → List ℕ
-id_at R k = id_of (slice_get R.objects k)
+id_at R k = entry_id (slice_get R.objects k)
 
 pub entry_within : (es : List DictionaryEntry) (k : ℕ) → k < length es → (e : DictionaryEntry) × (slice_get es k ≡ Some e)
 entry_within es k l =
@@ -61,7 +58,7 @@ id_behind : (R : Contents) (ks : List ℕ) (i : ℕ) (id : List ℕ) → ((j : �
 id_behind R ks i id all at =
     let within : i < length ks = subst (λ n. i < n) (length-map ks (id_at R)) (slice_get_within (map (id_at R) ks) i id at) in
     let (stored, there) = entry_within R.objects (get_or ks i 0) (all i within) in
-    record { within = within; stored = stored; there = there; id_is = sym (get_or_from_slice_get (map (id_at R) ks) i id [] at) ∙ get_or-map (id_at R) ks i 0 [] within ∙ ap id_of there }
+    record { within = within; stored = stored; there = there; id_is = sym (get_or_from_slice_get (map (id_at R) ks) i id [] at) ∙ get_or-map (id_at R) ks i 0 [] within ∙ ap entry_id there }
 
 pub reached_ids : (R : Contents) (m : List ℕ) (r : Reach) → IsRepository R → HasReach R m r → AreReached R m (map (id_at R) r.objects)
 reached_ids R m r whole has = (apart, each)
@@ -80,7 +77,7 @@ reached_ids R m r whole has = (apart, each)
         let (i, l, at) = item_of (map (id_at R) r.objects) id among in
         let one = id_behind R r.objects i id all at in
         let reached : Reaches R m (entry one.stored.id) = (has.reached (get_or r.objects i 0) one.stored one.there).0 (i, one.within, same_place i one.within) in
-        let found : find_entry one.stored.id R.objects ≡ Some one.stored.object = entry_at R.objects (get_or r.objects i 0) one.stored whole.distinct one.there in
+        let found : find_entry one.stored.id R.objects ≡ Some one.stored.object = find_at R.objects (get_or r.objects i 0) one.stored whole.distinct one.there in
         (subst (λ v. Reaches R m (entry v)) (sym one.id_is) reached, λ none. true≢false (sym (ap is_some (sym none ∙ ap (λ v. find_entry v R.objects) one.id_is ∙ found))))
       where
         same_place : (i : ℕ) → i < length r.objects → get_or r.objects i (get_or r.objects i 0) ≡ get_or r.objects i 0
@@ -94,7 +91,7 @@ no_more_ids R m r ids has (apart, each) =
     distinct : IsDistinct bytes_eq ids
     distinct =
         IsDistinct-from_apart bytes_eq ids (λ i j d less within.
-        bytes_differ (get_or ids i d) (get_or ids j d) (λ same.
+        other_bytes (get_or ids i d) (get_or ids j d) (λ same.
         apart i j (get_or ids j d) less (slice_get-get_or ids i d (omega (arith, less, within)) ∙ ap Some same) (slice_get-get_or ids j d within)))
 
     found : (q : List ℕ) (o : Option Object) → find_entry q R.objects ≡ o → Reaches R m (entry q) → (find_entry q R.objects ≡ None → ⊥) → Contains (map (id_at R) r.objects) q
@@ -102,7 +99,7 @@ no_more_ids R m r ids has (apart, each) =
     found q (Some o) is reached there =
         let (k, rank, place, e, at, id) = ranked R q o is in
         let (j, l, here) = (has.reached k e at).1 (subst (λ v. Reaches R m (entry v)) (sym id) reached) in
-        (j, subst (λ n. j < n) (sym (length-map r.objects (id_at R))) l, get_or-map (id_at R) r.objects j k q l ∙ ap (id_at R) here ∙ ap id_of at ∙ id)
+        (j, subst (λ n. j < n) (sym (length-map r.objects (id_at R))) l, get_or-map (id_at R) r.objects j k q l ∙ ap (id_at R) here ∙ ap entry_id at ∙ id)
 
     member : (q : List ℕ) → list_any (bytes_eq q) ids ≡ true → list_any (bytes_eq q) (map (id_at R) r.objects) ≡ true
     member q h =

@@ -14,6 +14,8 @@ use Rattle.std.proofs.lemmas.List.Folds.{list_any-append}
 use Rattle.std.proofs.lemmas.Map.Views.{list_any-from_Contains, Contains-from_any}
 use Rattle.std.proofs.lemmas.Option.{slice_get_within, slice_get_past}
 use Rattle.std.proofs.lemmas.Slice.Eq.{bytes_eq-Decides}
+use Rattle.lexical_core.proofs.Tests.{compared}
+use Rattle.lexical_core.proofs.EqualBytes.{other_bytes}
 use Rattle.repo_objects.specs.declared.objects.MessageDef.{MessageDef}
 use Rattle.repo_objects.specs.declared.objects.Object.{Object}
 use Rattle.repo_objects.specs.Repository.{DictionaryEntry, Contents, IsRepository}
@@ -24,8 +26,7 @@ use Rattle.reference_check.specs.inner.Ranks.{place_of_entry, place_at, NoneBrea
 use Rattle.reference_check.specs.Reach.{Reaches, itself, currency_or_none}
 use Rattle.reference_check.specs.Reached.{HasReach}
 use Rattle.reference_check.specs.Rules.{Breaks, NameTwice, schema_names, object_names, message_names, with_currency}
-use Rattle.reference_check.proofs.Entries.{bytes_differ}
-use Rattle.reference_check.proofs.FirstPlaces.{Stands, as_message, as_object, BreaksWhereItStands, asked, placed, lt_cases, same_default, in_front, rises_to}
+use Rattle.reference_check.proofs.FirstPlaces.{Stands, as_message, as_object, BreaksWhereItStands, asked, placed, same_default, in_front, rises_to}
 use Rattle.reference_check.proofs.ReachCounts.{other_ids, entry_within}
 
 -- ---- the map of owners
@@ -49,7 +50,7 @@ owner_updated m n p rank here kept q = by (bytes_eq p q) refl
     by true is = subst (λ l. lookup (keyed l) n.entries ≡ Some rank) ((bytes_eq-Decides p q).0 is) here
     by false is =
         others (keyed p) m.entries n.entries kept (keyed q) (λ x y. nat_list_eq_equiv.congr q x.items y.items)
-        (λ k found. bytes_differ q k.items (λ same. true≢false (sym ((bytes_eq-Decides p q).1 ((bytes_eq-Decides p k.items).0 found ∙ sym same)) ∙ is)))
+        (λ k found. other_bytes q k.items (λ same. true≢false (sym ((bytes_eq-Decides p q).1 ((bytes_eq-Decides p k.items).0 found ∙ sym same)) ∙ is)))
 
 -- one more name of the list
 pub owned_one_more : (names : List (List ℕ)) (i : ℕ) (name q : List ℕ) (rank : ℕ) (first old new : Option ℕ) → i < length names → name ≡ get_or names i name
@@ -209,7 +210,7 @@ module _ (R : Contents) (m : List ℕ) (r : Reach) (has : HasReach R m r) where
 
   ranks_differ : IsRepository R → (j k : ℕ) → Contains (all_ranks R r) j → Contains (all_ranks R r) k → (j ≡ k → ⊥) → place_at R j ≡ place_at R k → ⊥
   ranks_differ whole j k in_j in_k other same =
-      elim (lt_cases j k) [
+      elim (compared j k) [
         | inl less ↦ places_differ whole j k in_k less same
         | inr rest ↦ elim rest [ inl equal ↦ other equal | inr more ↦ places_differ whole k j in_j more (sym same) ]
       ]
@@ -246,7 +247,7 @@ module _ (R : Contents) (m : List ℕ) (r : Reach) (has : HasReach R m r) (owner
           let (j, in_j, place) = rank_there R m r has q (names_stand R m q name has_q) reached in
           let has_j : HasName R m name j = subst (λ p. Contains (schema_names R m p) name) (sym place) has_q in
           let apart : place_at R j ≡ place_at R k → ⊥ = λ same. differ (sym place ∙ same) in
-          elim (lt_cases j k) [
+          elim (compared j k) [
             | inl less ↦ before j in_j less (name, has_j, inr (place_at R k, rank_reached R m r has k in_k, (λ same. apart (sym same)), mine))
             | inr rest ↦ elim rest [
               | inl equal ↦ apart (ap (place_at R) equal)

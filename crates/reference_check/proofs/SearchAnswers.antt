@@ -3,6 +3,7 @@ use Rattle.std.proofs.Common.{◌≡◌, ℕ, zero, suc, ◌+◌, ◌<◌, Bool,
 use Rattle.std.specs.Prelude.{slice_get, slice_set, slice_index_or, Contains, IfSome, IsSome, OnOk}
 use Rattle.std.proofs.lemmas.Option.{slice_get_within, slice_get-get_or, get_or_from_slice_get}
 use Rattle.std.proofs.lemmas.List.Elements.{Contains-append_left, Contains-append_right, Contains-append_cases}
+use Rattle.std.proofs.lemmas.Bool.{cases_eq}
 use native.Mathlib.Decide.{dec_lt}
 use Rattle.repo_objects.specs.declared.objects.ElementDef.{ElementDef}
 use Rattle.repo_objects.specs.declared.objects.Object.{Object}
@@ -14,7 +15,7 @@ use Rattle.reference_check.specs.declared.finite.Mark.TheVariants.{Unreached, Op
 use Rattle.reference_check.specs.Graph.{references}
 use Rattle.reference_check.specs.inner.FiniteSearch.{only_one, TellsTarget, IsFoundAt, IsFree, IsBlocked, TellsFree, AreFree, TellsBlocked, LetThrough, HoldBack, TellsHeld, IsUser, IsListedFor, IsListedForAll, IsUserListed, AreListed, KeepsUsers, free_of, IsStartMark, AreStart}
 use Rattle.reference_check.proofs.Targets.{target_found, target_missing}
-use Rattle.reference_check.proofs.Freed.{same_or_not, get_set_same, get_set_other}
+use Rattle.reference_check.proofs.Freed.{get_set_same, get_set_other}
 
 -- ---- what an element leads to
 
@@ -29,7 +30,7 @@ free_tells es marks d k false must (leads, one) found = (must, λ j other is. ab
 -- ---- runs of elements
 
 pub free_one_more : (es : List DictionaryEntry) (marks : List Mark) (ds : List ElementDef) (low at : ℕ) (d : ElementDef) → slice_get ds at ≡ Some d → IsFree es marks d → AreFree es marks ds low at → AreFree es marks ds low (at + 1)
-free_one_more es marks ds low at d is free before i x l h got = go (same_or_not i at)
+free_one_more es marks ds low at d is free before i x l h got = go (cases_eq i at)
   where
     go : (i ≡ at) ⊎ (i ≡ at → ⊥) → IsFree es marks x
     go (inl same) = (let e : d ≡ x = (let q : ◌≡◌ {A = Option ElementDef} (Some d) (Some x) = sym is ∙ (ap (slice_get ds) (sym same) ∙ got) in cc) in subst (λ (y : ElementDef). IsFree es marks y) e free)
@@ -70,7 +71,7 @@ contains_more places p k h other = go (Contains-append_cases places (p ∷ []) k
     go (inr (suc i, within, e)) = absurd (omega arith)
 
 pub start_more : (places : List ℕ) (marks : List Mark) (p : ℕ) → AreStart places marks → AreStart (places ++ p ∷ []) (slice_set marks p (Open 0))
-start_more places marks p start k x got = go (same_or_not k p)
+start_more places marks p start k x got = go (cases_eq k p)
   where
     old : (y : Mark) → slice_get marks k ≡ Some y → (k ≡ p → ⊥) → IsStartMark (places ++ p ∷ []) k y
     old Unreached is other = λ h. start k Unreached is (contains_more places p k h other)
@@ -96,7 +97,7 @@ start_more places marks p start k x got = go (same_or_not k p)
 -- ---- users
 
 pub user_kept : (lists : List (List ℕ)) (at user : ℕ) → KeepsUsers lists (slice_set lists at (slice_index_or lists at [] ++ user ∷ []))
-user_kept lists at user k u (list, is, h) = go (same_or_not k at)
+user_kept lists at user k u (list, is, h) = go (cases_eq k at)
   where
     go : (k ≡ at) ⊎ (k ≡ at → ⊥) → IsUser (slice_set lists at (slice_index_or lists at [] ++ user ∷ [])) k u
     go (inr other) = (list, get_set_other lists at k _ other ∙ is, h)
@@ -124,7 +125,7 @@ pub listed_more : (es : List DictionaryEntry) (old new : List (List ℕ)) (u : �
 listed_more es old new u d kept listed = λ k must leads. kept k u (listed k must leads)
 
 pub listed_one_more : (es : List DictionaryEntry) (old new : List (List ℕ)) (u at : ℕ) (ds : List ElementDef) (d : ElementDef) → slice_get ds at ≡ Some d → KeepsUsers old new → IsListedFor es new u d → AreListedBelow es old u ds at → AreListedBelow es new u ds (at + 1)
-listed_one_more es old new u at ds d is kept listed before i x h got = go (same_or_not i at)
+listed_one_more es old new u at ds d is kept listed before i x h got = go (cases_eq i at)
   where
     go : (i ≡ at) ⊎ (i ≡ at → ⊥) → IsListedFor es new u x
     go (inl same) = (let e : d ≡ x = (let q : ◌≡◌ {A = Option ElementDef} (Some d) (Some x) = sym is ∙ (ap (slice_get ds) (sym same) ∙ got) in cc) in subst (λ (y : ElementDef). IsListedFor es new u y) e listed)

@@ -1,7 +1,7 @@
 -- The beginning of the search for the reached objects that have a finite instance, and what it has found at its end.
 use Rattle.std.proofs.Common.{◌≡◌, ℕ, zero, suc, ◌<◌, Bool, true, false, List, [], ◌∷◌, length, map, Option, Some, None, refl, sym, ap, ◌∙◌, subst, arith, ◌⊎◌, inl, inr}
 use Rattle.std.specs.Prelude.{slice_get, Contains}
-use Rattle.std.specs.List.{AllByRecursion, position_or_len}
+use Rattle.std.specs.List.{AllByRecursion}
 use Rattle.std.specs.Str.{bytes_eq}
 use Rattle.std.proofs.lemmas.Option.{slice_get_within}
 use Rattle.std.proofs.lemmas.Slice.Eq.{bytes_eq-Decides}
@@ -29,6 +29,7 @@ use Rattle.reference_check.proofs.Decided.{bounds_in, form_bounds, one_reference
 use Rattle.reference_check.proofs.Targets.{Apart, some_some, only_target, one_place}
 use Rattle.reference_check.proofs.Freed.{none_in}
 use Rattle.reference_check.proofs.SearchSteps.{all_reached}
+use Rattle.reference_check.proofs.Lookups.{rank_in}
 
 -- ---- the beginning
 
@@ -86,10 +87,7 @@ find_back (x ∷ es) id o h = go (bytes_eq x.id id) refl (λ later. find_back es
         by : (k : ℕ) × (e : DictionaryEntry) × (slice_get es k ≡ Some e) × (e.id ≡ id) × (e.object ≡ o) → (k : ℕ) × (e : DictionaryEntry) × (slice_get (x ∷ es) k ≡ Some e) × (e.id ≡ id) × (e.object ≡ o)
         by (k, e, at, same, is) = (suc k, e, at, same, is)
 
-abbrev position_of : List ℕ → List DictionaryEntry → ℕ
-position_of id es = position_or_len (λ (e : DictionaryEntry). bytes_eq e.id id) es
-
-rank_at : (es : List DictionaryEntry) (k : ℕ) (e : DictionaryEntry) → Apart (ids_of es) → slice_get es k ≡ Some e → position_of e.id es ≡ k
+rank_at : (es : List DictionaryEntry) (k : ℕ) (e : DictionaryEntry) → Apart (ids_of es) → slice_get es k ≡ Some e → rank_in e.id es ≡ k
 rank_at [] k e apart at = absurd cc
 rank_at (x ∷ es) zero e apart at =
     let same : x ≡ e = some_some x e at in
@@ -97,7 +95,7 @@ rank_at (x ∷ es) zero e apart at =
     rw here refl
 rank_at (x ∷ es) (suc k) e apart at = go (bytes_eq x.id e.id) refl (rank_at es k e (λ i j d l h. apart (suc i) (suc j) d (omega arith) (omega arith)) at)
   where
-    go : (b : Bool) → bytes_eq x.id e.id ≡ b → position_of e.id es ≡ k → position_of e.id (x ∷ es) ≡ suc k
+    go : (b : Bool) → bytes_eq x.id e.id ≡ b → rank_in e.id es ≡ k → rank_in e.id (x ∷ es) ≡ suc k
     go false t later = rw t (omega arith)
     go true t later = absurd (let q : 0 ≡ suc k = one_place (x ∷ es) 0 (suc k) e.id apart (x, refl, (bytes_eq-Decides x.id e.id).0 t) (e, at, refl) in omega arith)
 
@@ -201,7 +199,7 @@ module _ {R : Contents} {m : List ℕ} {marks : List Mark} (s : IsSearch R m mar
       by_mark : (k : ℕ) (e : DictionaryEntry) → slice_get R.objects k ≡ Some e → e.id ≡ id → (x : Mark) → slice_get marks k ≡ Some x → IsReachedMark x → (entry id ≡ message) ⊎ ((k : ℕ) × (n : ℕ) × (rank_of R (entry id) ≡ k) × (slice_get marks k ≡ Some (Open n)))
       by_mark k e at same Unreached got marked = absurd marked
       by_mark k e at same Finite got marked = absurd (endless (subst (λ (i : List ℕ). IsFinite (graph R m) (entry i)) same (s.finite k e at got)))
-      by_mark k e at same (Open n) got marked = inr (k, n, subst (λ (i : List ℕ). position_of i R.objects ≡ k) same (rank_at R.objects k e s.whole.distinct at), got)
+      by_mark k e at same (Open n) got marked = inr (k, n, subst (λ (i : List ℕ). rank_in i R.objects ≡ k) same (rank_at R.objects k e s.whole.distinct at), got)
 
       by_place : ((k : ℕ) × (e : DictionaryEntry) × (slice_get R.objects k ≡ Some e) × (e.id ≡ id)) → (entry id ≡ message) ⊎ ((k : ℕ) × (n : ℕ) × (rank_of R (entry id) ≡ k) × (slice_get marks k ≡ Some (Open n)))
       by_place (k, e, at, same) = with_mark (s.marked k e at (subst (λ (i : List ℕ). Reaches R m (entry i)) (sym same) reach))
@@ -221,7 +219,7 @@ module _ {R : Contents} {m : List ℕ} {marks : List Mark} (s : IsSearch R m mar
       go : (e : DictionaryEntry) × (slice_get R.objects k ≡ Some e) → TellsFirst R m Endless (Some (breaker.Object k))
       go (e, at) = (entry e.id, (e, at, refl), record { reached = s.reached k e (Open n) at got tt; broken = open_endless k n e at got; first = first })
         where
-          rank : position_of e.id R.objects ≡ k
+          rank : rank_in e.id R.objects ≡ k
           rank = rank_at R.objects k e s.whole.distinct at
 
           first : (q : Place) → rank_of R q < rank_of R (entry e.id) → Reaches R m q → (IsFinite (graph R m) q → ⊥) → ⊥

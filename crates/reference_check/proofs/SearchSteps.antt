@@ -6,6 +6,7 @@ use Rattle.std.specs.List.{AllByRecursion}
 use Rattle.std.proofs.lemmas.Option.{slice_get-map}
 use Rattle.std.proofs.lemmas.List.{length-set}
 use Rattle.std.proofs.lemmas.List.Elements.{Contains-append_left, Contains-append_right, Contains-append_cases}
+use Rattle.std.proofs.lemmas.Bool.{cases_eq}
 use Rattle.repo_objects.specs.declared.objects.ElementDef.{ElementDef}
 use Rattle.repo_objects.specs.declared.objects.Object.{Object}
 use Rattle.repo_objects.specs.declared.objects.Kinds.{Kinds}
@@ -23,7 +24,7 @@ use Rattle.reference_check.specs.inner.FiniteSearch.{LeadsTo, IsFoundAt, IsFree,
 use Rattle.reference_check.proofs.FiniteForms.{finite_form}
 use Rattle.reference_check.proofs.Decided.{bounds_in, form_bounds}
 use Rattle.reference_check.proofs.Targets.{target_is, leads_or_not, find_at}
-use Rattle.reference_check.proofs.Freed.{same_or_not, get_set_same, get_set_other, none_in, are_free_more, held_more}
+use Rattle.reference_check.proofs.Freed.{get_set_same, get_set_other, none_in, are_free_more, held_more}
 
 -- ---- what lets an object through
 
@@ -74,7 +75,7 @@ module _ {R : Contents} {m : List ℕ} {marks : List Mark} {untold rest : List �
   not_open none = record { whole = s.whole; below = s.below; size = s.size; marked = s.marked; reached = s.reached; finite = s.finite; free = s.free; held = held' }
     where
       held' : (k n : ℕ) (e : DictionaryEntry) → slice_get R.objects k ≡ Some e → slice_get marks k ≡ Some (Open n) → HoldBack R.objects marks untold e.object.kind e.object.elements ⊎ Contains rest k
-      held' k n e at got = go (same_or_not k p) (s.held k n e at got)
+      held' k n e at got = go (cases_eq k p) (s.held k n e at got)
         where
           go : (k ≡ p) ⊎ (k ≡ p → ⊥) → HoldBack R.objects marks untold e.object.kind e.object.elements ⊎ Contains (p ∷ rest) k → HoldBack R.objects marks untold e.object.kind e.object.elements ⊎ Contains rest k
           go (inl same) h = absurd (none n e (subst (λ (x : ℕ). slice_get R.objects x ≡ Some e) same at) (subst (λ (x : ℕ). slice_get marks x ≡ Some (Open n)) same got))
@@ -100,21 +101,21 @@ module _ {R : Contents} {m : List ℕ} {marks : List Mark} {untold rest : List �
       at_here k same = subst (λ (x : ℕ). slice_get (slice_set marks p y) x ≡ Some y) (sym same) here
 
       more : (k : ℕ) → IsFoundAt marks k → IsFoundAt (slice_set marks p y) k
-      more k found = go (same_or_not k p)
+      more k found = go (cases_eq k p)
         where
           go : (k ≡ p) ⊎ (k ≡ p → ⊥) → IsFoundAt (slice_set marks p y) k
           go (inl same) = absurd (let e : ◌≡◌ {A = Option Mark} (Some Finite) (Some (Open n)) = sym found ∙ (ap (slice_get marks) same ∙ was) in cc)
           go (inr other) = there k other ∙ found
 
       marked' : IsReachedMark y → (k : ℕ) (f : DictionaryEntry) → slice_get R.objects k ≡ Some f → Reaches R m (entry f.id) → (x : Mark) × (slice_get (slice_set marks p y) k ≡ Some x) × IsReachedMark x
-      marked' is k f got reach = go (same_or_not k p) (s.marked k f got reach)
+      marked' is k f got reach = go (cases_eq k p) (s.marked k f got reach)
         where
           go : (k ≡ p) ⊎ (k ≡ p → ⊥) → ((x : Mark) × (slice_get marks k ≡ Some x) × IsReachedMark x) → (x : Mark) × (slice_get (slice_set marks p y) k ≡ Some x) × IsReachedMark x
           go (inl same) h = (y, at_here k same, is)
           go (inr other) (x, e, h) = (x, there k other ∙ e, h)
 
       reached' : (k : ℕ) (f : DictionaryEntry) (x : Mark) → slice_get R.objects k ≡ Some f → slice_get (slice_set marks p y) k ≡ Some x → IsReachedMark x → Reaches R m (entry f.id)
-      reached' k f x got mark is = go (same_or_not k p)
+      reached' k f x got mark is = go (cases_eq k p)
         where
           go : (k ≡ p) ⊎ (k ≡ p → ⊥) → Reaches R m (entry f.id)
           go (inl same) = s.reached k f (Open n) got (ap (slice_get marks) same ∙ was) tt
@@ -123,7 +124,7 @@ module _ {R : Contents} {m : List ℕ} {marks : List Mark} {untold rest : List �
       -- what held back the others holds them back, where the users of what was found are told
       held_on : (told : List ℕ) → ((k : ℕ) → IsFoundAt (slice_set marks p y) k → (IsFoundAt marks k → Contains untold k) → Contains told k) → ((k : ℕ) (f : DictionaryEntry) (i : ℕ) → k ≡ p → slice_get R.objects k ≡ Some f → slice_get (slice_set marks p y) k ≡ Some (Open i) → HoldBack R.objects (slice_set marks p y) told f.object.kind f.object.elements)
           → (k i : ℕ) (f : DictionaryEntry) → slice_get R.objects k ≡ Some f → slice_get (slice_set marks p y) k ≡ Some (Open i) → HoldBack R.objects (slice_set marks p y) told f.object.kind f.object.elements ⊎ Contains rest k
-      held_on told some self k i f got mark = go (same_or_not k p)
+      held_on told some self k i f got mark = go (cases_eq k p)
         where
           go : (k ≡ p) ⊎ (k ≡ p → ⊥) → HoldBack R.objects (slice_set marks p y) told f.object.kind f.object.elements ⊎ Contains rest k
           go (inl same) = inl (self k f i same got mark)
@@ -136,7 +137,7 @@ module _ {R : Contents} {m : List ℕ} {marks : List Mark} {untold rest : List �
     -- its first element that is in the way moves on
     module _ (free : ℕ) where
       back : (k : ℕ) → IsFoundAt (slice_set marks p (Open free)) k → IsFoundAt marks k
-      back k found = go (same_or_not k p)
+      back k found = go (cases_eq k p)
         where
           go : (k ≡ p) ⊎ (k ≡ p → ⊥) → IsFoundAt marks k
           go (inl same) = absurd (let e : ◌≡◌ {A = Option Mark} (Some Finite) (Some (Open free)) = sym found ∙ at_here (Open free) k same in cc)
@@ -158,7 +159,7 @@ module _ {R : Contents} {m : List ℕ} {marks : List Mark} {untold rest : List �
       }
         where
           free' : (k i : ℕ) (f : DictionaryEntry) → slice_get R.objects k ≡ Some f → slice_get (slice_set marks p (Open free)) k ≡ Some (Open i) → AreFree R.objects (slice_set marks p (Open free)) f.object.elements 0 i
-          free' k i f got mark = are_free_more R.objects marks (slice_set marks p (Open free)) (more (Open free)) f.object.elements 0 i (go (same_or_not k p))
+          free' k i f got mark = are_free_more R.objects marks (slice_set marks p (Open free)) (more (Open free)) f.object.elements 0 i (go (cases_eq k p))
             where
               go : (k ≡ p) ⊎ (k ≡ p → ⊥) → AreFree R.objects marks f.object.elements 0 i
               go (inl same) =
@@ -173,7 +174,7 @@ module _ {R : Contents} {m : List ℕ} {marks : List Mark} {untold rest : List �
 
     -- it has a finite instance
     only_p : (k : ℕ) → IsFoundAt (slice_set marks p Finite) k → (k ≡ p) ⊎ IsFoundAt marks k
-    only_p k found = go (same_or_not k p)
+    only_p k found = go (cases_eq k p)
       where
         go : (k ≡ p) ⊎ (k ≡ p → ⊥) → (k ≡ p) ⊎ IsFoundAt marks k
         go (inl same) = inl same
@@ -202,7 +203,7 @@ module _ {R : Contents} {m : List ℕ} {marks : List Mark} {untold rest : List �
             go (inr h) = s.finite k f got h
 
         free' : (k i : ℕ) (f : DictionaryEntry) → slice_get R.objects k ≡ Some f → slice_get (slice_set marks p Finite) k ≡ Some (Open i) → AreFree R.objects (slice_set marks p Finite) f.object.elements 0 i
-        free' k i f got mark = are_free_more R.objects marks (slice_set marks p Finite) (more Finite) f.object.elements 0 i (go (same_or_not k p))
+        free' k i f got mark = are_free_more R.objects marks (slice_set marks p Finite) (more Finite) f.object.elements 0 i (go (cases_eq k p))
           where
             go : (k ≡ p) ⊎ (k ≡ p → ⊥) → AreFree R.objects marks f.object.elements 0 i
             go (inl same) = absurd (let h : ◌≡◌ {A = Option Mark} (Some Finite) (Some (Open i)) = sym (at_here Finite k same) ∙ mark in cc)

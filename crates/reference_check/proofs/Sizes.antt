@@ -1,8 +1,8 @@
 -- What is too large or too long.
 use Rattle.std.proofs.Common.{◌≡◌, ℕ, ◌<◌, ◌≤◌, inl, inr, ◌↔◌, IsTrue, IfOk, Result, Ok, Err, Bool, List, length, get_or, Some, Contains, sym, subst, arith}
 use Rattle.std.specs.declared.alloc.AllocError.{AllocError}
-use Rattle.repo_objects.specs.Repository.{Contents}
 use Rattle.lexical_core.specs.Characters.{IsXmlText}
+use Rattle.repo_objects.specs.Repository.{Contents}
 use Rattle.repo_objects.specs.declared.objects.CodeDef.{CodeDef}
 use Rattle.repo_objects.specs.declared.objects.Object.{Object}
 use Rattle.repo_objects.specs.declared.objects.ObjectKind.{ObjectKind}

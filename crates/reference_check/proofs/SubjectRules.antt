@@ -14,7 +14,8 @@ use Rattle.reference_check.specs.declared.subject.Subject.{Subject}
 use Rattle.reference_check.specs.declared.subject.Subject.TheVariants as subject
 use Rattle.reference_check.specs.inner.Subjects.{asked_rule, BreaksStructureRule, IsSubject, IsOptionalChoice, IsEmptyChoice}
 use Rattle.reference_check.proofs.Marking.{none_in}
-use Rattle.reference_check.proofs.Lookups.{contains_at}
+use Rattle.reference_check.proofs.FirstPlaces.{no_message}
+use Rattle.reference_check.proofs.Lists.{contained}
 
 -- what an object that is found says
 of_found : (R : Contents) (id : List ℕ) (o : Object) (Says : Object → Type 0) → find_entry id R.objects ≡ Some o → Says o ↔ OfObject R (entry id) Says
@@ -41,9 +42,6 @@ module _ (R : Contents) (m : List ℕ) (id : List ℕ) (o : Bor Object) (found :
   entry_breaks asked.OptionalAlternative = of_found R id o.now IsOptionalChoice found
   entry_breaks asked.NoAlternatives = of_found R id o.now IsEmptyChoice found
 
-no_object : (R : Contents) (Says : Object → Type 0) → OfObject R message Says → ⊥
-no_object R Says (id, o, at, found, h) = cc
-
 module _ (R : Contents) (m : List ℕ) (d : Bor MessageDef) (found : find_message m R.messages ≡ Some d.now) where
   message_breaks : (rule : StructureRule) → BreaksStructureRule R rule (subject.Message d) ↔ Breaks R m (asked_rule rule) message
   message_breaks asked.Dangling = (λ h. rw found h, λ h. rw found at h)
@@ -52,8 +50,8 @@ module _ (R : Contents) (m : List ℕ) (d : Bor MessageDef) (found : find_messag
   message_breaks asked.BadName = (λ h. rw found h, λ h. rw found at h)
   message_breaks asked.TagTwice = (λ h. rw found h, λ h. rw found at h)
   message_breaks asked.BadBounds = (λ h. rw found h, λ h. rw found at h)
-  message_breaks asked.OptionalAlternative = (λ h. absurd h, λ h. absurd (no_object R IsOptionalChoice h))
-  message_breaks asked.NoAlternatives = (λ h. absurd h, λ h. absurd (no_object R IsEmptyChoice h))
+  message_breaks asked.OptionalAlternative = (λ h. absurd h, λ h. absurd (no_message R IsOptionalChoice h))
+  message_breaks asked.NoAlternatives = (λ h. absurd h, λ h. absurd (no_message R IsEmptyChoice h))
 
 pub subject_breaks : (R : Contents) (m : List ℕ) (p : Place) (s : Subject) (rule : StructureRule) → IsSubject R m p s → BreaksStructureRule R rule s ↔ Breaks R m (asked_rule rule) p
 subject_breaks R m p (subject.Entry o) rule (id, at, found) = subst (λ q. BreaksStructureRule R rule (subject.Entry o) ↔ Breaks R m (asked_rule rule) q) (sym at) (entry_breaks R m id o found rule)
@@ -79,7 +77,7 @@ module _ (R : Contents) (m : List ℕ) (id : List ℕ) (none : find_entry id R.o
   absent_breaks asked.BadCurrency (c, o, is, there, h) = no_currency c is
   absent_breaks asked.NotOneReference (e, has, h) = nothing e has
   absent_breaks asked.BadName h = (let g : HasBadName [] = rw none at h in none_in g.0 g.1)
-  absent_breaks asked.TagTwice (i, j, a, b, l, at_i, at_j, h) = nothing a (contains_at (elements_of R m (entry id)) i a at_i)
+  absent_breaks asked.TagTwice (i, j, a, b, l, at_i, at_j, h) = nothing a (contained (elements_of R m (entry id)) i a at_i)
   absent_breaks asked.BadBounds (e, has, h) = nothing e has
   absent_breaks asked.OptionalAlternative h = no_one IsOptionalChoice h
   absent_breaks asked.NoAlternatives h = no_one IsEmptyChoice h

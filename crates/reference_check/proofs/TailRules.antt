@@ -4,9 +4,9 @@ use Rattle.repo_objects.specs.Repository.{Contents}
 use Rattle.reference_check.specs.declared.reached.ReadyError.{ReadyError}
 use Rattle.reference_check.specs.declared.reached.ReadyError.TheVariants.{Broken, Memory}
 use Rattle.reference_check.specs.inner.First.{TellsFirst}
-use Rattle.reference_check.specs.inner.Ranks.{TellsAs}
 use Rattle.reference_check.specs.Reached.{TellsBroken}
 use Rattle.reference_check.specs.Rules.{Rule, BadCodes, LeftOutKind, NameTwice, TooMany, object_rule_number, IsTailRule, IsSound}
+use Rattle.reference_check.specs.inner.Told.{TellsRule}
 
 -- no rule of the tail below a number is broken
 abbrev pub NoneBelow : Contents → List ℕ → ℕ → Type 0
@@ -39,7 +39,7 @@ module _ (R : Contents) (m : List ℕ) where
   sound_tail codes kinds names counts _ p asked = absurd (omega (arith, asked))
 
   -- what is told of a rule where the lower ones are not broken
-  pub told : (r : Rule) (e : ReadyError) → IsTailRule r → NoneBelow R m (object_rule_number r) → TellsAs R m r e → TellsBroken R m IsTailRule e
+  pub told : (r : Rule) (e : ReadyError) → IsTailRule r → NoneBelow R m (object_rule_number r) → TellsRule R m r e → TellsBroken R m IsTailRule e
   told r (Broken number object) asked none (p, first, number_is, object_is) =
       (r, p, record { asked = asked; reached = first.reached; broken = first.broken; lowest = λ q place tail less. none q tail less place; first = first.first }, number_is, object_is)
   told r Memory asked none h = tt

@@ -1,11 +1,12 @@
 //! The rules that are asked once the structure of a message is sound.
 ghost use Rattle.std.specs.Prelude.{◌≡◌, ℕ, ◌<◌, List, length, Some, None, IsTrue, ◌↔◌, OnOk, IfErr};
+ghost use Rattle.repo_objects.specs.declared.objects.ObjectKind.TheVariants.{Simple};
 ghost use Rattle.reference_check.specs.inner.First.{IsPlaceOf, TellsFirst};
 ghost use Rattle.reference_check.specs.Graph.{Place};
-ghost use Rattle.repo_objects.specs.declared.objects.ObjectKind.TheVariants.{Simple};
-ghost use Rattle.reference_check.specs.inner.Ranks.{StandsAt, TellsAs, IsLeftOut};
+ghost use Rattle.reference_check.specs.inner.Ranks.{StandsAt, IsLeftOut};
 ghost use Rattle.reference_check.specs.Reached.{HasReach, IsReachFor, TellsBroken, place_id};
 ghost use Rattle.reference_check.specs.Rules.{Rule, object_rule_number, LeftOutKind, HasNoPatterns, IsSound, IsTailRule};
+ghost use Rattle.reference_check.specs.inner.Told.{TellsRule};
 
 use crate::breaker::Breaker;
 use crate::code_rule::first_bad_codes;
@@ -48,7 +49,7 @@ fn refusal(
     breaker: Breaker,
 ) -> ReadyError
     requires { (m : List ℕ) × (r : Rule) × HasReach repository.now m reach.now × TellsFirst repository.now m r (Some breaker) }
-    ensures { (m : List ℕ) (r : Rule) → HasReach repository.now m reach.now → TellsFirst repository.now m r (Some breaker) → rule ≡ object_rule_number r → TellsAs repository.now m r result }
+    ensures { (m : List ℕ) (r : Rule) → HasReach repository.now m reach.now → TellsFirst repository.now m r (Some breaker) → rule ≡ object_rule_number r → TellsRule repository.now m r result }
 {
     let mut object = Text::new(alloc);
     if object

@@ -1,9 +1,8 @@
 -- How a push ends a command, and what an earlier step's stop is to the whole.
-use Rattle.std.proofs.Common.{◌≡◌, inl, inr, ℕ, List, [], Option, Some, None, Result, Ok, Err, refl, take, arith}
-use Rattle.std.specs.Io.KnownBytes.{Keeps}
+use Rattle.std.proofs.Common.{◌≡◌, inl, inr, ℕ, List, [], Option, Result, Ok, Err, refl, take, arith}
+use Rattle.std.proofs.KnownBytes.{Appends-nil, Keeps-refl}
 use Rattle.outside.specs.Pushes.{Pushes}
 use Rattle.outside.specs.declared.errors.SinkError.{SinkError}
-use Rattle.outside.proofs.Pushing.{appends_nothing}
 use Rattle.outside.specs.declared.errors.SinkError.TheVariants as sink
 use Rattle.repo_engine.specs.declared.refusal.Stop.{Stop}
 use Rattle.repo_engine.specs.declared.refusal.Stop.TheVariants.{Refused, ReadFault, WriteFault, Memory}
@@ -42,19 +41,15 @@ goes_pushed held faults room old new text (Err sink.Memory) p = record {
   later = p.cause.later;
 }
 
-pub keeps : (a : Option (List ℕ)) → Keeps a a
-keeps None = tt
-keeps (Some s) = refl
-
 -- a stop of an earlier step is told by the whole, and nothing went out
 pub tells_stopped : (held : Option (List ℕ)) (Is Refuses : Verdict → Type 0) (stop : Stop) → ((v : Verdict) → Refuses v → Is v) → IsOfInput stop → StopsBy Refuses stop
     → TellsVerdict Is (Err stop) held held
-tells_stopped held Is Refuses (Refused refusal) is input h = ([], is (refused refusal []) h, appends_nothing held)
+tells_stopped held Is Refuses (Refused refusal) is input h = ([], is (refused refusal []) h, Appends-nil held)
 tells_stopped held Is Refuses ReadFault is input h = tt
 tells_stopped held Is Refuses WriteFault is input h = absurd input
-tells_stopped held Is Refuses Memory is input h = inl (keeps held)
+tells_stopped held Is Refuses Memory is input h = inl (Keeps-refl held)
 
-abbrev with_stop : Stop → End
+abbrev pub with_stop : Stop → End
 with_stop stop = Err stop
 
 no_write : (stop : Stop) → IsOfInput stop → with_stop stop ≡ with_stop WriteFault → ⊥
@@ -66,7 +61,7 @@ no_write Memory input e = absurd (cc)
 pub goes_nowhere : {O : Type 0} (held : O → Option (List ℕ)) (faults : O → ℕ) (s : O) (stop : Stop) → IsOfInput stop → GoesOut held faults s s (Err stop)
 goes_nowhere held faults s stop input = record {
   same = λ h. refl;
-  grows = ([], appends_nothing (held s));
+  grows = ([], Appends-nil (held s));
   failed = λ e. absurd (no_write stop input e);
   quiet = λ h. refl;
   later = omega arith;

@@ -1,6 +1,7 @@
 -- The steps of the commands of one message.
 use Rattle.std.proofs.Common.{◌≡◌, ◌≢◌, inl, inr, ℕ, Bool, List, [], Option, Some, Result, Ok, Err, codes, refl, subst}
 use Rattle.std.specs.Prelude.{IfErr, IfSome}
+use Rattle.std.proofs.KnownBytes.{Appends-nil, Keeps-refl}
 use Rattle.outside.specs.declared.errors.SinkError.{SinkError}
 use Rattle.outside.specs.declared.errors.SinkError.TheVariants as sink
 use Rattle.repo_objects.specs.Repository.{Contents}
@@ -14,7 +15,7 @@ use Rattle.transcoder.specs.declared.check_error.CheckError.{CheckError}
 use Rattle.transcoder.specs.declared.check_error.CheckError.TheVariants as check
 use Rattle.repo_engine.specs.Answer.{FromMessage, RefusesMessage, GivesTables}
 use Rattle.repo_engine.specs.inner.Arms.{GivesMessage, IsOfInput, IsReadAs, unread, read, RefusesUpToMessage, StopsBy, check_stop, end_of, ready_stop}
-use Rattle.repo_engine.specs.Run.{End, TellsVerdict}
+use Rattle.repo_engine.specs.Run.{TellsVerdict}
 use Rattle.repo_engine.specs.Sources.{Use, Untouched, Ended, Whole, Failing, Refusing, IsSourceRead, AreRead, one, both, AreReadInTurn, before, behind, source_ended_of, stop_ended}
 use Rattle.repo_engine.specs.Steps.{Then, refused, goes_on}
 use Rattle.repo_engine.specs.Verdict.{Verdict, accepted}
@@ -22,9 +23,8 @@ use Rattle.repo_engine.specs.Verdict as verdict
 use Rattle.repo_engine.specs.declared.refusal.Stop.{Stop}
 use Rattle.repo_engine.specs.declared.refusal.Stop.TheVariants.{Refused, ReadFault, WriteFault, Memory}
 use Rattle.repo_engine.specs.declared.refusal.Refusal.TheVariants as refusal
-use Rattle.outside.proofs.Pushing.{appends_nothing}
 use Rattle.repo_engine.proofs.Steps.{from_refused, from_given}
-use Rattle.repo_engine.proofs.Ends.{keeps}
+use Rattle.repo_engine.proofs.Ends.{with_stop}
 
 -- a message is refused as it is compiled
 pub ready_refuses : (R : Contents) (m : List ℕ) (e : ReadyError) → TellsRefused R m e → StopsBy (RefusesMessage R m) (ready_stop e)
@@ -72,10 +72,6 @@ message_refused codes_word id r c Next v (inr (R, gives, h)) = from_given codes_
 pub message_given : (codes_word id r c : List ℕ) (Next : Tables → Verdict → Type 0) (T : Tables) (v : Verdict) → GivesMessage codes_word id r c T → Next T v → FromMessage codes_word id r c Next v
 message_given codes_word id r c Next T v (R, gives, tables) h = from_given codes_word r c (λ R. Then Verdict Tables (RefusesMessage R id) (GivesTables R id) Next) R v gives (goes_on T tables h)
 
--- no stop of input is of the words
-abbrev with_stop : Stop → End
-with_stop stop = Err stop
-
 pub no_words : (stop : Stop) → IsOfInput stop → with_stop stop ≢ with_stop (Refused refusal.Words)
 no_words (Refused refusal.Words) input e = input
 no_words (Refused (refusal.Repository f)) input e = absurd (cc)
@@ -113,6 +109,6 @@ pub check_tells : (Is : Verdict → Type 0) (HasFault : List ℕ → Fault → T
 check_tells Is HasFault left i e held is told h = tells e (subst (λ o. IfSome o (λ bytes. RefusesBy HasFault bytes e)) told h)
   where
     tells : (e : CheckError) → RefusesBy HasFault i e → TellsVerdict Is (Err (check_stop e)) held held
-    tells (check.Refused fault) h = ([], is fault h, appends_nothing held)
+    tells (check.Refused fault) h = ([], is fault h, Appends-nil held)
     tells check.ReadFault h = tt
-    tells check.Memory h = inl (keeps held)
+    tells check.Memory h = inl (Keeps-refl held)

@@ -1,5 +1,6 @@
 -- Words and bytes have at most one answer: each step refuses in one way or gives one thing, and not both.
 use Rattle.std.proofs.Common.{◌≡◌, ℕ, List, [], length, sym, ap, subst, ◌∙◌, inl, inr}
+use Rattle.data_types.specs.Value.{Value}
 use Rattle.repo_objects.specs.Repository.{Contents}
 use Rattle.repo_loader.specs.Laws.{OneRepository, OneLoadFault, SpelledHasNoLoadFault}
 use Rattle.repo_loader.specs.Loaded.{Spells}
@@ -9,9 +10,8 @@ use Rattle.reference_check.specs.Reached.{place_id}
 use Rattle.message_model.specs.Laws.{OneModel, OneRefusal, ReadyIsNotRefused, CompiledAreSound}
 use Rattle.message_model.specs.Ready.{message_rule_number}
 use Rattle.message_model.specs.Tables.{Tables, message_of}
-use Rattle.data_types.specs.Value.{Value}
-use Rattle.transcoder.specs.Laws.{OneVerdict, HaveOneVerdict, OneDerVerdict, HaveOneDerVerdict, AreSoundTypes}
 use Rattle.xml_writer.specs.Laws.{OneCanonicalXml}
+use Rattle.transcoder.specs.Laws.{OneVerdict, HaveOneVerdict, OneDerVerdict, HaveOneDerVerdict, AreSoundTypes}
 use Rattle.drill.specs.BuiltIn.{drill_tables}
 use Rattle.drill.specs.Drilled.{IsDrilled}
 use Rattle.drill.specs.Growing.{instance}

@@ -4,12 +4,12 @@ use Rattle.data_types.specs.Value.{Value}
 use Rattle.repo_objects.specs.Repository.{Contents}
 use Rattle.message_model.specs.Laws.{CompiledAreSound}
 use Rattle.message_model.specs.Tables.{Tables, message_of}
+use Rattle.der_model.specs.DerMessage.{der_message}
+use Rattle.der_model.specs.Der.{SpellsDer, der_of}
 use Rattle.xml_instances.specs.SpellsXml.{SpellsXml}
 use Rattle.xml_instances.specs.XmlFaults.{xml_limit}
 use Rattle.xml_writer.specs.CanonXml.{IsCanonXml}
 use Rattle.xml_writer.specs.SpellingLaw.{CompiledSpells}
-use Rattle.der_model.specs.DerMessage.{der_message}
-use Rattle.der_model.specs.Der.{SpellsDer, der_of}
 use Rattle.transcoder.specs.Laws.{OneVerdict, HaveOneVerdict, OneDerVerdict, HaveOneDerVerdict, AreSoundTypes}
 use Rattle.repo_engine.specs.Answer.{OfVerb, GivesXml, GivesTables}
 use Rattle.repo_engine.specs.RoundTrips.{XmlComesBack, DerComesBack}

@@ -1,5 +1,6 @@
 -- No words and bytes are without an answer: no step is without both a refusal and something to go on with.
 use Rattle.std.proofs.Common.{◌≡◌, ◌⊎◌, ℕ, ◌+◌, ◌≤◌, length, Bool, true, false, List, refl, inl, inr}
+use Rattle.data_types.specs.Value.{Value}
 use Rattle.repo_objects.specs.Repository.{Contents}
 use Rattle.repo_loader.specs.Laws.{OneOfBoth}
 use Rattle.repo_loader.specs.Loaded.{Spells}
@@ -11,17 +12,16 @@ use Rattle.message_model.specs.Ready.{MessageRule, IsReady, IsRefused}
 use Rattle.message_model.specs.Admits.{AdmitsAs}
 use Rattle.message_model.specs.Tables.{Tables, message_of, types_of}
 use Rattle.message_model.specs.declared.fault.Fault.{Fault}
-use Rattle.data_types.specs.Value.{Value}
-use Rattle.transcoder.specs.Checked.{IsAccepted, HasXmlFault, IsDerAccepted, HasDerFault}
-use Rattle.transcoder.specs.Laws.{SomeVerdict, SomeDerVerdict, AreSoundTypes}
+use Rattle.der_model.specs.SomeAnswers.{HaveKinds, CompiledHaveKinds}
+use Rattle.der_model.specs.Der.{der_of}
+use Rattle.der_model.specs.DerMessage.{der_message}
 use Rattle.xml_writer.specs.CanonXml.{IsCanonXml}
 use Rattle.xml_writer.specs.Laws.{SomeCanonicalXml}
-use Rattle.der_model.specs.SomeAnswers.{HaveKinds, CompiledHaveKinds}
+use Rattle.transcoder.specs.Checked.{IsAccepted, HasXmlFault, IsDerAccepted, HasDerFault}
+use Rattle.transcoder.specs.Laws.{SomeVerdict, SomeDerVerdict, AreSoundTypes}
 use Rattle.drill.specs.BuiltIn.{drill_tables}
 use Rattle.drill.specs.Drilled.{IsAdmitted}
 use Rattle.drill.specs.Growing.{instance, deepest, most_beside}
-use Rattle.der_model.specs.Der.{der_of}
-use Rattle.der_model.specs.DerMessage.{der_message}
 use Rattle.repo_engine.specs.Answer.{Answer, Of, OfVerb, Drills, FromXml, RefusesAsXml, GivesXmlValue, FromDer, RefusesAsDer, GivesDerValue, IsFine, GivesXml, GivesDer, FromRepository, TellsFileFault, RefusesCodes, GivesJoined, RefusesMessage, GivesTables}
 use Rattle.repo_engine.specs.Command.{Command, list, message, drill, HasCommandForm, hands_in}
 use Rattle.repo_engine.specs.Steps.{Then, refused, goes_on, IsTotal}

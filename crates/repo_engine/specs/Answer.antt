@@ -1,5 +1,6 @@
 -- The answer to words and bytes: the steps of each command, of which the first that refuses decides.
 use Rattle.std.specs.Prelude.{◌≡◌, ◌⊎◌, ◌≤◌, ℕ, true, false, List, [], length, codes}
+use Rattle.data_types.specs.Value.{Value}
 use Rattle.repo_objects.specs.Repository.{Contents}
 use Rattle.repo_loader.specs.declared.fault.LoadFault.{LoadFault}
 use Rattle.repo_loader.specs.Loaded.{Spells, HasLoadFault}
@@ -11,22 +12,21 @@ use Rattle.message_model.specs.Compiled.{Compiles, IsReachedList}
 use Rattle.message_model.specs.Ready.{IsReady, IsRefused, MessageRule, message_rule_number}
 use Rattle.message_model.specs.Tables.{Tables, message_of}
 use Rattle.message_model.specs.declared.fault.Fault.{Fault}
-use Rattle.data_types.specs.Value.{Value}
+use Rattle.der_model.specs.DerMessage.{der_message}
+use Rattle.der_model.specs.Der.{SpellsDer, der_of}
 use Rattle.xml_instances.specs.XmlFaults.{xml_limit}
 use Rattle.xml_instances.specs.SpellsXml.{SpellsXml}
 use Rattle.xml_writer.specs.CanonXml.{IsCanonXml}
-use Rattle.der_model.specs.DerMessage.{der_message}
-use Rattle.der_model.specs.Der.{SpellsDer, der_of}
-use Rattle.transcoder.specs.Checked.{HasXmlFault, HasDerFault}
 use Rattle.xsd_model.specs.SchemaOf.{schema_of}
 use Rattle.xsd_model.specs.SchemaText.{schema_text}
 use Rattle.asn1_model.specs.ModuleOf.{module_of}
 use Rattle.asn1_model.specs.ModuleText.{module_text}
+use Rattle.transcoder.specs.Checked.{HasXmlFault, HasDerFault}
+use Rattle.drill.specs.Drilled.{IsDrilled}
+use Rattle.drill.specs.declared.drilling.Drilled.{Drilled}
 use Rattle.repo_engine.specs.declared.command.Verb.{Verb}
 use Rattle.repo_engine.specs.declared.command.Verb.TheVariants.{Types, Xsd, Asn1, CheckXml, CheckDer, CanonXml, XmlToDer, DerToXml}
 use Rattle.repo_engine.specs.declared.refusal.Refusal.TheVariants.{Words, Repository, Codes, Message, Instance}
-use Rattle.drill.specs.Drilled.{IsDrilled}
-use Rattle.drill.specs.declared.drilling.Drilled.{Drilled}
 use Rattle.repo_engine.specs.Command.{Command, list, message, drill, HasCommandForm, IsUnlisted, hands_in}
 use Rattle.repo_engine.specs.Steps.{Then}
 use Rattle.repo_engine.specs.Verdict.{Verdict, accepted, refused}

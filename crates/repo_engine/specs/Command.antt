@@ -3,8 +3,8 @@ use Rattle.std.specs.Prelude.{◌≡◌, ◌≤◌, ℕ, Bool, true, false, not,
 use Rattle.std.specs.Global.{Global}
 use Rattle.std.specs.Str.{bytes_eq, all_ascii_digits}
 use Rattle.std.specs.Str.Parse.{digits_value}
-use Rattle.drill.specs.Growing.{most_beside}
 use Rattle.repo_objects.specs.MessageId.{IsMessageId}
+use Rattle.drill.specs.Growing.{most_beside}
 use Rattle.repo_engine.specs.declared.command.Verb.{Verb}
 use Rattle.repo_engine.specs.declared.command.Verb.TheVariants.{Types, Xsd, Asn1, CheckXml, CheckDer, CanonXml, XmlToDer, DerToXml}
 

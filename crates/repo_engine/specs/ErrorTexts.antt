@@ -2,8 +2,8 @@
 use Rattle.std.specs.Prelude.{ℕ, ◌==◌, List, [], ◌++◌, codes, if◌then◌else◌}
 use Rattle.std.specs.Str.{is_utf8}
 use Rattle.std.specs.Fmt.{decimal}
-use Rattle.message_model.specs.ErrorTexts.{instance_fault_text}
 use Rattle.repo_loader.specs.ErrorTexts.{fault_text}
+use Rattle.message_model.specs.ErrorTexts.{instance_fault_text}
 use Rattle.repo_engine.specs.declared.refusal.Refusal.{Refusal}
 use Rattle.repo_engine.specs.declared.refusal.Refusal.TheVariants.{Words, Repository, Codes, Message, Instance}
 use Rattle.repo_engine.specs.declared.refusal.Stop.{Stop}

@@ -1,11 +1,11 @@
 -- What the ASN.1 module of a message says of the bytes that are accepted.
 use Rattle.std.specs.Prelude.{◌↔◌, ◌≤◌, ℕ, List, length}
+use Rattle.fragments.specs.Fragment.{fragment}
 use Rattle.repo_objects.specs.Repository.{Contents}
 use Rattle.message_model.specs.Tables.{Tables}
-use Rattle.fragments.specs.Fragment.{fragment}
+use Rattle.xml_instances.specs.XmlFaults.{xml_limit}
 use Rattle.asn1_model.specs.Values.{AsnValue}
 use Rattle.asn1_model.specs.Agreement.{EncodesAs}
-use Rattle.xml_instances.specs.XmlFaults.{xml_limit}
 use Rattle.transcoder.specs.Checked.{IsDerAccepted}
 use Rattle.repo_engine.specs.Answer.{GivesRepository, GivesTables}
 

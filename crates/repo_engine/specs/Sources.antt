@@ -1,8 +1,8 @@
 -- What a run leaves of its sources: one is read after the other, each to its end before the next is touched.
 use Rattle.std.specs.Prelude.{◌≡◌, ◌≢◌, ℕ, ◌≤◌, Bool, true, false, List, Option}
 use Rattle.std.specs.Io.KnownBytes.{IsAtEnd}
-use Rattle.outside.specs.Source.{Rose}
 use Rattle.std.specs.Prelude.{Result, Ok, Err}
+use Rattle.outside.specs.Source.{Rose}
 use Rattle.repo_engine.specs.declared.refusal.Stop.{Stop}
 use Rattle.repo_engine.specs.declared.refusal.Stop.TheVariants.{Refused, ReadFault, WriteFault, Memory}
 

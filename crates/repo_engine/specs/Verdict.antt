@@ -3,8 +3,8 @@ use Rattle.std.specs.Prelude.{ℕ, ◌==◌, List, [], ◌++◌, codes, Option, 
 use Rattle.std.specs.Fmt.{decimal}
 use Rattle.lexical_core.specs.Rules.{name_of}
 use Rattle.lexical_core.specs.declared.rule.Rule.{Rule}
-use Rattle.message_model.specs.declared.fault.Fault.{Fault}
 use Rattle.repo_loader.specs.declared.fault.LoadFault.{LoadFault}
+use Rattle.message_model.specs.declared.fault.Fault.{Fault}
 use Rattle.repo_engine.specs.declared.refusal.Refusal.{Refusal}
 use Rattle.repo_engine.specs.declared.refusal.Refusal.TheVariants.{Words, Repository, Codes, Message, Instance}
 use Rattle.repo_engine.specs.declared.refusal.Stop.{Stop}

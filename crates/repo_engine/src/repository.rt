@@ -1,13 +1,13 @@
 //! A repository and its external codes, read from their sources.
 ghost use Rattle.std.specs.Prelude.{◌≡◌, List, ℕ, true, Some, IfOk, IfErr};
+ghost use Rattle.repo_objects.specs.Repository.{Contents};
+ghost use Rattle.repo_loader.specs.Loaded.{Spells};
+ghost use Rattle.code_sets.specs.Codes.{Joins};
+ghost use Rattle.code_sets.specs.CodesErrors.{AreCodes};
 ghost use Rattle.repo_engine.specs.Answer.{GivesJoined, GivesRepository, IsCodesRefusal, RefusesCodes, TellsFileFault};
 ghost use Rattle.repo_engine.specs.inner.Arms.{FilesHaveLeft, IsOfInput, IsReadIf, RefusesRepository, IsCodesText, StopsBy, codes_stop, load_stop};
 ghost use Rattle.repo_engine.specs.Command.{hands_in};
 ghost use Rattle.repo_engine.specs.Sources.{AreRead, Failing, IsSourceRead, source_ended_of, of_source, stop_ended};
-ghost use Rattle.repo_loader.specs.Loaded.{Spells};
-ghost use Rattle.code_sets.specs.Codes.{Joins};
-ghost use Rattle.code_sets.specs.CodesErrors.{AreCodes};
-ghost use Rattle.repo_objects.specs.Repository.{Contents};
 
 use super::refusal::{Refusal, Stop};
 use code_sets::{CodeLists, CodesError, join, pull_codes};

@@ -1,12 +1,12 @@
 -- Which rules an element breaks, by what it is.
 use Rattle.std.proofs.Common.{◌≡◌, ℕ, ◌≤◌, true, false, true≢false, List, Some, None, refl, sym, ap, ◌∙◌, arith, ◌⊎◌, inl, inr}
+use Rattle.std.specs.Prelude.{codes}
 use Rattle.lexical_core.specs.Tree.{Entry as Attribute}
 use Rattle.lexical_core.specs.Names.{attribute_value}
 use Rattle.repo_objects.specs.declared.objects.ObjectKind.{ObjectKind}
 use Rattle.repo_objects.specs.Repository.{HasId}
 use Rattle.repo_loader.specs.declared.part.Part.{Part}
 use Rattle.repo_loader.specs.declared.part.Part.TheVariants.{Entry, OtherRoot}
-use Rattle.std.specs.Prelude.{codes}
 use Rattle.repo_loader.specs.FileNames.{own, id_name, type_name}
 use Rattle.repo_loader.specs.Selected.{FileTag}
 use Rattle.repo_loader.specs.File.{is_entry, objects}

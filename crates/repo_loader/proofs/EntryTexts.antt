@@ -3,11 +3,11 @@ use Rattle.std.proofs.Common.{ℕ, Bool, true, false, List, [], ◌∷◌, Optio
 use Rattle.std.proofs.lemmas.List.Elements.{All-nil}
 use Rattle.lexical_core.specs.Characters.{IsXmlText}
 use Rattle.lexical_core.specs.Tree.{Expanded, Entry as Attribute}
+use Rattle.lexical_core.specs.Names.{same_name, attribute_value}
 use Rattle.repo_objects.specs.declared.objects.ObjectKind.{ObjectKind}
 use Rattle.repo_objects.specs.Objects.{IsXmlTextIfAny, HasElementTexts, HasCodeTexts}
 use Rattle.repo_objects.specs.Repository.{HasEntryTexts}
 use Rattle.repo_loader.specs.FileNames.{own, id_name, type_name}
-use Rattle.lexical_core.specs.Names.{same_name, attribute_value}
 use Rattle.repo_loader.specs.FileValues.{text_or_empty, some_text, text_of_attribute, reference, word_of}
 use Rattle.repo_loader.specs.File.{entry, element, code}
 use Rattle.repo_loader.specs.inner.LoadingSteps.{AreTexts}

@@ -4,7 +4,9 @@ use Rattle.std.specs.Prelude.{IfSome}
 use Rattle.std.proofs.lemmas.List.{take_all, take-append-drop, length-take, length-drop}
 use Rattle.std.proofs.Math.Seq.{take-append_seam}
 use Rattle.std.specs.Io.KnownBytes.{Consumes, IsAtEnd}
+use Rattle.std.proofs.KnownBytes.{Consumes-trans}
 use Rattle.lexical_core.specs.declared.rule.Rule.TheVariants.{Truncated}
+use Rattle.outside.proofs.Consumed.{known}
 use Rattle.markup.specs.Token.{Token}
 use Rattle.markup.specs.Marks.{Front, tag_limit}
 use Rattle.markup.specs.Events.{Placed, events}
@@ -24,7 +26,6 @@ use Rattle.repo_loader.specs.Loaded.{file_limit, token_tags, Spells, HasLoadFaul
 use Rattle.repo_loader.specs.LoadErrors.{EndsWithPiece, piece_limit}
 use Rattle.repo_loader.specs.inner.SelectionSteps.{HasLoaded, tags_told}
 use Rattle.repo_loader.specs.inner.ProgressSteps.{markup_fault, HasReadFile, ReadsOn, ShowsLoadFault, HasWhole, HasAll, HasReadWithRoom}
-use Rattle.outside.proofs.Consumed.{consumes_twice, known}
 use Rattle.repo_loader.proofs.OneLoadFault.{Rest, tags_append, not_sound}
 use Rattle.repo_loader.proofs.ReadSteps.{markup_found}
 use Rattle.repo_loader.proofs.TreeSelection.{selects_the_tree}
@@ -113,7 +114,7 @@ module _ (old now : Option (List ℕ)) (room : ℕ) (p : Progress) (h : HasReadW
   -- the whole of what was left
   all_are : (w : ℕ) (bytes : List ℕ) → old ≡ Some bytes → (rest : List ℕ) × (bytes ≡ (h.taken_are ++ take w xs) ++ (drop w xs ++ rest))
   all_are w bytes e =
-      let k = known old next (h.taken_are ++ xs) bytes (consumes_twice old now next h.taken_are xs h.front consumes) e in
+      let k = known old next (h.taken_are ++ xs) bytes (Consumes-trans old now next h.taken_are xs h.front consumes) e in
       (k.0, k.2 ∙ (ap (λ v. (h.taken_are ++ v) ++ k.0) (sym (take-append-drop w xs)) ∙ regrouped h.taken_are (take w xs) (drop w xs) k.0))
 
   within : (w : ℕ) → w ≤ room → length (h.taken_are ++ take w xs) ≤ file_limit
@@ -150,7 +151,7 @@ module _ (old now : Option (List ℕ)) (room : ℕ) (p : Progress) (h : HasReadW
       let c = h.counted in
       record {
         taken_are = h.taken_are ++ xs;
-        front = consumes_twice old now next h.taken_are xs h.front consumes;
+        front = Consumes-trans old now next h.taken_are xs h.front consumes;
         counted = omega (arith, c, many, fits, length-append h.taken_are xs);
         read = subst (λ v. HasReadFile after (h.taken_are ++ v)) (take_all w xs (omega (arith, many, e))) read;
       }
@@ -160,7 +161,7 @@ module _ (old now : Option (List ℕ)) (room : ℕ) (p : Progress) (h : HasReadW
   last_piece none few = let c = h.counted in record {
     before = h.taken_are;
     piece = xs;
-    pulled = consumes_twice old now next h.taken_are xs h.front consumes;
+    pulled = Consumes-trans old now next h.taken_are xs h.front consumes;
     short = few;
     shows_none = shows_none p h.taken_are h.read none (omega (arith, c));
   }
@@ -172,7 +173,7 @@ module _ (old now : Option (List ℕ)) (room : ℕ) (p : Progress) (h : HasReadW
 
   all_taken : (next : Option (List ℕ)) → Consumes now next [] → IsAtEnd next → (bytes : List ℕ) → old ≡ Some bytes → bytes ≡ h.taken_are
   all_taken next consumes end bytes e =
-      let k = known old next (h.taken_are ++ []) bytes (consumes_twice old now next h.taken_are [] h.front consumes) e in
+      let k = known old next (h.taken_are ++ []) bytes (Consumes-trans old now next h.taken_are [] h.front consumes) e in
       let none : k.0 ≡ [] = let at : IsAtEnd (Some k.0) = subst IsAtEnd k.1 end in at in
       k.2 ∙ ap (λ l. (h.taken_are ++ []) ++ l) none ∙ (append-nil (h.taken_are ++ []) ∙ append-nil h.taken_are)
 

@@ -1,8 +1,12 @@
 -- What a loading has read of one more element.
 use Rattle.std.proofs.Common.{◌≡◌, ℕ, true, false, List, [], ◌∷◌, ◌++◌, Option, Some, None, Bool, if◌then◌else◌, is_some, true≢false, refl, sym, ap, ◌∙◌, subst}
+use Rattle.lexical_core.specs.Tree.{Entry as Attribute}
+use Rattle.lexical_core.specs.Names.{attribute_value}
 use Rattle.repo_objects.specs.declared.objects.CodeDef.{CodeDef}
 use Rattle.repo_objects.specs.declared.objects.ElementDef.{ElementDef}
 use Rattle.repo_objects.specs.Repository.{DictionaryEntry}
+use Rattle.repo_objects.specs.declared.objects.ObjectKind.{ObjectKind}
+use Rattle.repo_objects.specs.Repository.{HasId}
 use Rattle.repo_loader.specs.declared.loading.OpenEntry.{OpenEntry}
 use Rattle.repo_loader.specs.declared.loading.Loading.{Loading}
 use Rattle.repo_loader.specs.Selected.{FileTag}
@@ -10,10 +14,6 @@ use Rattle.repo_loader.specs.File.{is_entry, kind_at, objects, own_elements, own
 use Rattle.repo_loader.specs.File
 use Rattle.repo_loader.specs.inner.FileSteps.{with_last, with_parts}
 use Rattle.repo_loader.specs.inner.LoadingSteps.{entry_is, entry_list, HasObjects}
-use Rattle.lexical_core.specs.Tree.{Entry as Attribute}
-use Rattle.lexical_core.specs.Names.{attribute_value}
-use Rattle.repo_objects.specs.declared.objects.ObjectKind.{ObjectKind}
-use Rattle.repo_objects.specs.Repository.{HasId}
 use Rattle.repo_loader.specs.declared.part.Part.TheVariants as Part
 use Rattle.repo_loader.specs.declared.stop.Stop.{Stop}
 use Rattle.repo_loader.specs.FileNames.{id_name}

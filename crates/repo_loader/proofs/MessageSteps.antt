@@ -1,5 +1,6 @@
 -- What a repository says of messages grows with each element that is read.
 use Rattle.std.proofs.Common.{◌≡◌, ℕ, Bool, true, false, true≢false, ◌||◌, List, [], ◌∷◌, ◌++◌, Option, Some, None, if◌then◌else◌, refl, sym, ap, ◌∙◌, append-nil, append_assoc}
+use Rattle.lexical_core.proofs.Tests.{or_false, or_true}
 use Rattle.repo_objects.specs.declared.objects.MessageDef.{MessageDef}
 use Rattle.repo_objects.specs.declared.objects.ElementDef.{ElementDef}
 use Rattle.repo_loader.specs.declared.loading.OpenMessage.{OpenMessage}
@@ -8,7 +9,7 @@ use Rattle.repo_loader.specs.inner.FileSteps.{has_stop}
 use Rattle.repo_loader.specs.File.{is_message, is_message_tag, own_blocks, own_identifiers, behind, first_or_empty, message, messages}
 use Rattle.repo_loader.specs.inner.LoadingSteps.{is_some_list, HasMessages, grown_if, open_messages, with_block, with_identifier}
 use Rattle.repo_loader.proofs.Steps.{behind_open}
-use Rattle.repo_loader.proofs.Messages.{no_messages, messages_split}
+use Rattle.repo_loader.proofs.Messages.{no_messages, messages_split, message_with}
 
 stop_snoc : (stops : FileTag → Bool) (ts : List FileTag) (t : FileTag) → has_stop stops ts ≡ false → stops t ≡ false → has_stop stops (ts ++ t ∷ []) ≡ false
 stop_snoc stops [] t h k = ap (λ (b : Bool). if b then true else false) k
@@ -25,9 +26,6 @@ some_append (x ∷ xs) ys = refl
 first_append : (xs ys : List (List ℕ)) → first_or_empty (xs ++ ys) ≡ (if is_some_list xs then first_or_empty xs else first_or_empty ys)
 first_append [] ys = refl
 first_append (x ∷ xs) ys = refl
-
-abbrev message_with : FileTag → List ElementDef → List (List ℕ) → MessageDef
-message_with t bs ids = record (message t.attributes []) { id = first_or_empty ids; blocks = bs }
 
 -- a tag that is no message's
 pub other_message : (o : Option OpenMessage) (closed : List MessageDef) (tags : List FileTag) (t : FileTag) → is_message t.part ≡ false → HasMessages o closed tags
@@ -82,14 +80,6 @@ no_id o closed tags h none = ap (λ (m : MessageDef). m.id) h.message_is ∙ by 
 kept_id : (b : Bool) (id : List ℕ) → (b ≡ false → id ≡ []) → (if b then id else []) ≡ id
 kept_id true id h = refl
 kept_id false id h = sym (h refl)
-
-or_false : (b : Bool) → (b || false) ≡ b
-or_false true = refl
-or_false false = refl
-
-or_true : (b : Bool) → (b || true) ≡ true
-or_true true = refl
-or_true false = refl
 
 module _ (closed : List MessageDef) (tags : List FileTag) (t : FileTag) where
   -- what neither is a block nor an identifier changes nothing

@@ -26,8 +26,8 @@ no_messages (t ∷ ts) h = by (is_message t.part) h (no_messages ts)
     by false k later = later k
 
 -- a message with these building blocks and identifiers
-abbrev made : FileTag → List ElementDef → List (List ℕ) → MessageDef
-made t bs ids = record (message t.attributes []) { id = first_or_empty ids; blocks = bs }
+abbrev pub message_with : FileTag → List ElementDef → List (List ℕ) → MessageDef
+message_with t bs ids = record (message t.attributes []) { id = first_or_empty ids; blocks = bs }
 
 -- the messages up to the last, and the last with what stands behind its tag
 pub messages_split : (before : List FileTag) (m : FileTag) (after : List FileTag) → is_message m.part ≡ true → has_stop is_message_tag after ≡ false
@@ -36,7 +36,7 @@ messages_split [] m after h k =
     ap (λ (b : Bool). if b then message m.attributes after ∷ messages after else messages after) h ∙ ap (λ l. message m.attributes after ∷ l) (no_messages after k)
 messages_split (t ∷ before) m after h k =
     by (is_message t.part) (messages_split before m after h k)
-    (λ i. made t (behind_front is_message_tag own_blocks before m after h i) (behind_front is_message_tag own_identifiers before m after h i))
+    (λ i. message_with t (behind_front is_message_tag own_blocks before m after h i) (behind_front is_message_tag own_identifiers before m after h i))
   where
     by : (b : Bool) → messages (before ++ m ∷ after) ≡ messages before ++ message m.attributes after ∷ []
         → message t.attributes (before ++ m ∷ after) ≡ message t.attributes before

@@ -1,16 +1,17 @@
 -- A repository file has at most one first fault.
 use Rattle.std.proofs.Common.{◌≡◌, ℕ, ◌<◌, ◌≤◌, List, [], ◌∷◌, ◌++◌, length, take, reverse, Some, refl, sym, ap, ◌∙◌, subst, arith, inl, inr}
+use Rattle.std.specs.List.{flat_map}
 use Rattle.lexical_core.specs.declared.rule.Rule.{Rule}
 use Rattle.lexical_core.specs.declared.rule.Rule.TheVariants.{Truncated}
 use Rattle.markup.specs.Token.{Token, token_bytes}
-use Rattle.std.specs.List.{flat_map}
 use Rattle.markup.specs.Marks.{Front, Agree, tag_limit}
 use Rattle.markup.specs.Events.{events}
 use Rattle.markup.specs.Faults.{Fault, MarkFault, IsClean, Next}
 use Rattle.markup.specs.Longest.{IsLongest}
 use Rattle.markup.proofs.TokenLaw.{one_token, fronts_agree}
-use Rattle.markup.proofs.OneFault.{past, behind, next_none, one_fault}
+use Rattle.markup.proofs.OneFault.{next_none, one_fault}
 use Rattle.markup.proofs.EventLemmas.{events-append}
+use Rattle.markup.proofs.TokensBehind.{tokens_behind, behind}
 use Rattle.repo_loader.specs.declared.fault.LoadFault.{LoadFault}
 use Rattle.repo_loader.specs.Selected.{PlacedTag, event_tags, parts_open_after}
 use Rattle.repo_loader.specs.FileFaults.{AreSoundTags, IsFirstBroken}
@@ -20,7 +21,7 @@ use Rattle.repo_loader.proofs.FirstBroken.{one_first, first_of_more, sound_has_n
 
 -- a clean list of tokens goes no further than those before the fault
 pub front_before : (n : ℕ) (before : List Token) (bytes x y : List ℕ) (ts us : List Token) (rule : Rule) (at : ℕ) → Front n before bytes ts x → IsClean before ts
-    → Front n before bytes us y → Next n (past before us) y rule at → (more : List Token) × (us ≡ ts ++ more)
+    → Front n before bytes us y → Next n (tokens_behind before us) y rule at → (more : List Token) × (us ≡ ts ++ more)
 front_before n' before bytes x y [] us rule at f c g n = (us, refl)
 front_before n' before bytes x y (t ∷ ts) [] rule at f c g n =
     absurd (next_none n' before bytes t f.0 rule at (subst (λ v. Next n' before v rule at) (sym g) n) f.1 f.2 c.0)
@@ -28,7 +29,7 @@ front_before n' before bytes x y (t ∷ ts) (u ∷ us) rule at f c g n =
     let o = one_token before t u bytes f.0 g.0 f.1 g.1 in
     let r = front_before n' (t ∷ before) f.0 x y ts us rule at f.3 c.1
     (subst (λ (v : Token). Front n' (v ∷ before) f.0 us y) (sym o.0) (subst (λ (v : List ℕ). Front n' (u ∷ before) v us y) (sym o.1) g.3))
-    (subst (λ (v : Token). Next n' (past (v ∷ before) us) y rule at) (sym o.0) n) in
+    (subst (λ (v : Token). Next n' (tokens_behind (v ∷ before) us) y rule at) (sym o.0) n) in
     (r.0, λ i. sym o.0 i ∷ r.1 i)
 
 -- the elements of more tokens

@@ -10,7 +10,8 @@ use Rattle.markup.specs.Marks.{Front, Cell, tag_limit}
 use Rattle.markup.specs.Faults.{Fault, MarkFault, IsWhole, IsClean, Next, broken as next_broken, halts, cut, too_long, WholeOrFaulty}
 use Rattle.markup.proofs.NoCut.{is_cut_rule, NoCut, rule_no_cut}
 use Rattle.markup.proofs.TokenLaw.{one_token}
-use Rattle.markup.proofs.OneFault.{past, behind, one_fault, whole_has_none}
+use Rattle.markup.proofs.OneFault.{one_fault, whole_has_none}
+use Rattle.markup.proofs.TokensBehind.{tokens_behind, behind}
 use Rattle.repo_objects.specs.Repository.{Contents}
 use Rattle.repo_loader.specs.declared.fault.LoadFault.{LoadFault}
 use Rattle.repo_loader.specs.Selected.{FileTag, PlacedTag, tree_tags}
@@ -84,7 +85,7 @@ cut_none n before bytes rule at (too_long chars part rest is goes unended tag fr
     true≢false (ap is_cut_rule (sym e ∙ r))
 
 -- so no list of tokens goes further
-cut_longest : (n : ℕ) (before : List Token) (bytes x y : List ℕ) (us ts : List Token) (rule : Rule) (at : ℕ) → Front n before bytes us y → Next n (past before us) y rule at → rule ≡ Truncated
+cut_longest : (n : ℕ) (before : List Token) (bytes x y : List ℕ) (us ts : List Token) (rule : Rule) (at : ℕ) → Front n before bytes us y → Next n (tokens_behind before us) y rule at → rule ≡ Truncated
     → Front n before bytes ts x → (more : List Token) × (us ≡ ts ++ more)
 cut_longest n before bytes x y us [] rule at f next e g = (us, refl)
 cut_longest n before bytes x y [] (t ∷ ts) rule at f next e g = absurd (cut_none n before bytes rule at (subst (λ v. Next n before v rule at) (sym f) next) e t g.0 g.1)

@@ -3,8 +3,8 @@ use Rattle.std.proofs.Common.{◌≡◌, ℕ, ◌+◌, ◌-◌, ◌<◌, ◌≤�
 use Rattle.std.specs.List.{AllByRecursion, flat_map}
 use Rattle.std.specs.Prelude.{Result, Ok, Err, IfOk, IfNone, IfSome}
 use Rattle.std.proofs.lemmas.List.{take-append-drop, length-take-le}
-use Rattle.std.proofs.Math.Seq.{take-append-add}
 use Rattle.lexical_core.specs.declared.rule.Rule.TheVariants.{Truncated}
+use Rattle.lexical_core.proofs.Lists.{take_past}
 use Rattle.markup.specs.Token.{Token, token_bytes}
 use Rattle.markup.specs.Marks.{Front, tag_limit}
 use Rattle.markup.specs.Events.{Placed, events}
@@ -15,8 +15,8 @@ use Rattle.markup.specs.Reading.{HasTaken, HasTold, IsWholly, GoesOn, Refuses, b
 use Rattle.markup.specs.declared.event.Event.{Event}
 use Rattle.markup.specs.declared.reader.MarkFault.{MarkFault as Told}
 use Rattle.markup.specs.declared.reader.Reader.{Reader}
-use Rattle.markup.proofs.OneFault.{behind}
 use Rattle.markup.proofs.Stays.{events_stay, tokens_have_bytes}
+use Rattle.markup.proofs.TokensBehind.{behind}
 use Rattle.repo_objects.specs.Repository.{Contents}
 use Rattle.repo_loader.specs.declared.fault.LoadFault.{LoadFault}
 use Rattle.repo_loader.specs.declared.progress.Progress.{Progress}
@@ -59,11 +59,6 @@ refuses_texts bytes told old new fault e k =
     token_texts told new (bytes ++ []) k.tokens (k.rest ++ []) (k.front []) (ap (λ v. told ++ v) (sym (new_events old new k.more e k.tells)) ∙ k.events_are)
 
 -- ---- what follows does not matter
-
-take_past : {A : Type 0} (xs ys : List A) (n : ℕ) → length xs ≤ n → take n (xs ++ ys) ≡ xs ++ take (n - length xs) ys
-take_past xs ys n h = ap (λ k. take k (xs ++ ys)) (gap (length xs) n h) ∙ take-append-add xs ys (n - length xs) where
-  gap : (a n : ℕ) → a ≤ n → n ≡ a + (n - a)
-  gap a n h = omega (arith, h)
 
 pub limit_of : (a rest : List ℕ) → length a ≤ file_limit → take file_limit (a ++ rest) ≡ a ++ take (file_limit - length a) rest
 limit_of a rest h = take_past a rest file_limit h

@@ -3,6 +3,7 @@ use Rattle.std.proofs.Common.{◌≡◌, ◌≢◌, ℕ, ◌<◌, Bool, true, fa
 use Rattle.std.proofs.lemmas.List.{map-append}
 use Rattle.std.proofs.lemmas.List.Elements.{Contains-get_or}
 use Rattle.std.proofs.lemmas.List.Quantifiers.{all_pairs_push}
+use Rattle.lexical_core.specs.Names.{attribute_value}
 use Rattle.markup.specs.Events.{events}
 use Rattle.markup.specs.Marks.{tag_limit}
 use Rattle.repo_objects.specs.Repository.{DictionaryEntry, Contents, ids_of, HasId, IsRepository}
@@ -20,7 +21,6 @@ use Rattle.repo_loader.proofs.Steps.{objects_snoc}
 use Rattle.repo_loader.proofs.Texts.{events_texts}
 use Rattle.repo_loader.proofs.OneRepository.{contents_by_tokens}
 use Rattle.repo_loader.proofs.SpelledTexts.{HaveTagTexts, event_tags_texts, object_texts, all_message_texts}
-use Rattle.lexical_core.specs.Names.{attribute_value}
 
 -- ---- the ids
 

@@ -1,8 +1,8 @@
 -- A tag is taken: what is read grows by it.
 use Rattle.std.proofs.Common.{◌≡◌, false, true≢false, List, [], ◌∷◌, ◌++◌, Option, Some, None, refl, sym, ap, ◌∙◌, subst, append-nil}
 use Rattle.std.specs.Prelude.{Result, Ok, Err, OnOk, IfErr}
-use Rattle.repo_objects.specs.declared.objects.ObjectKind.{ObjectKind}
 use Rattle.lexical_core.specs.Tree.{Entry as Attribute}
+use Rattle.repo_objects.specs.declared.objects.ObjectKind.{ObjectKind}
 use Rattle.repo_objects.specs.declared.objects.ElementDef.{ElementDef}
 use Rattle.repo_objects.specs.declared.objects.CodeDef.{CodeDef}
 use Rattle.repo_objects.specs.declared.objects.MessageDef.{MessageDef}

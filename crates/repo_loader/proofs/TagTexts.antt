@@ -1,10 +1,10 @@
 -- What tags give is text, where their attributes are: so what is open can be closed.
-use Rattle.std.proofs.Common.{ℕ, Bool, true, false, List, [], ◌∷◌, ◌++◌, Option, Some, None, codes, inl, if◌then◌else◌, arith, ap, ◌∙◌}
-use Rattle.std.specs.List.{AllByRecursion}
+use Rattle.std.proofs.Common.{ℕ, Bool, true, false, List, [], ◌++◌, Option, Some, None, codes, inl, if◌then◌else◌, arith, ap, ◌∙◌}
 use Rattle.std.proofs.lemmas.List.Elements.{All-nil, All-push}
 use Rattle.std.proofs.lemmas.Str.{encode_ascii, encodes-append}
-use Rattle.lexical_core.specs.Characters.{IsXmlChar, IsXmlText}
+use Rattle.lexical_core.specs.Characters.{IsXmlText}
 use Rattle.lexical_core.specs.Tree.{Entry as Attribute}
+use Rattle.lexical_core.proofs.CharacterLemmas.{chars_joined}
 use Rattle.repo_objects.specs.declared.objects.ElementDef.{ElementDef}
 use Rattle.repo_objects.specs.declared.objects.CodeDef.{CodeDef}
 use Rattle.repo_objects.specs.Objects.{HasElementTexts, HasCodeTexts, HasMessageTexts}
@@ -18,12 +18,8 @@ use Rattle.repo_loader.proofs.EntryTexts.{empty_text, text_is}
 
 -- ---- texts together
 
-chars_append : (xs ys : List ℕ) → AllByRecursion IsXmlChar xs → AllByRecursion IsXmlChar ys → AllByRecursion IsXmlChar (xs ++ ys)
-chars_append [] ys h k = k
-chars_append (x ∷ xs) ys h k = (h.0, chars_append xs ys h.1 k)
-
 both_texts : (xs ys : List ℕ) → IsXmlText xs → IsXmlText ys → IsXmlText (xs ++ ys)
-both_texts xs ys h k = (h.0 ++ k.0, chars_append h.0 k.0 h.1 k.1, encodes-append h.0 k.0 ∙ (λ i. h.2 i ++ k.2 i))
+both_texts xs ys h k = (h.0 ++ k.0, chars_joined h.0 k.0 h.1 k.1, encodes-append h.0 k.0 ∙ (λ i. h.2 i ++ k.2 i))
 
 point_text : IsXmlText (codes ".")
 point_text = (codes ".", (inl (omega arith, omega arith), tt), ap (λ l. l ++ []) (encode_ascii 46 (omega arith)))

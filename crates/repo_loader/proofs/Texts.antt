@@ -5,27 +5,21 @@ use Rattle.std.specs.List.{list_all, AllByRecursion}
 use Rattle.std.specs.declared.cmp.Ordering.{Ordering}
 use Rattle.std.specs.declared.cmp.Ordering.TheVariants.{Less, Equal, Greater}
 use Rattle.std.proofs.lemmas.Bool.{and_parts, and_from}
-use Rattle.lexical_core.specs.Characters.{IsXmlChar, IsXmlText}
+use Rattle.lexical_core.specs.Characters.{IsXmlText}
 use Rattle.lexical_core.specs.Tree.{Expanded, Entry as Entry', Item}
+use Rattle.lexical_core.specs.Names.{name_cmp}
 use Rattle.markup.specs.Chars.{is_xml_char, is_space, is_gap}
 use Rattle.markup.specs.Name.{is_name}
-use Rattle.markup.specs.Reference.{Reference, Named, Numbered, Ampersand, Less as LessEntity, Greater as GreaterEntity, Apostrophe, Quote, is_reference, referred_character}
+use Rattle.markup.specs.Reference.{referred_character}
 use Rattle.markup.specs.Attribute.{ValuePiece, Literal, Refers, is_piece, Attribute, is_attribute, begins_lf, value_chars}
 use Rattle.markup.specs.declared.tag.Given.{Given}
 use Rattle.markup.specs.declared.tag.Opening.{Opening}
 use Rattle.markup.specs.Token.{Token, Mark, Declaration, Comment, Instruction, Opener, Closer, TypeDeclaration, Start, End, Refer, LineEnd, Character, StartTag, is_start_tag, token_bytes}
 use Rattle.markup.specs.Marks.{stands, in_cdata, Front}
 use Rattle.markup.specs.Events.{Placed, events, items_of, open_tags, opening, given_attribute, element_name, attribute_name, declared_prefix, entries, put, put_named, start_tag_items, end_tag_items, end_items}
-use Rattle.lexical_core.specs.Names.{name_cmp}
-use Rattle.markup.proofs.CharLemmas.{classes}
+use Rattle.markup.proofs.PlainCharacters.{all_chars, referred_is_xml, blank_is_xml}
 use Rattle.repo_loader.specs.inner.LoadingSteps.{AreTexts}
 use Rattle.repo_loader.specs.inner.SelectionSteps.{HasItemTexts}
-
-last_of_four : (a b c d : Bool) → (a && b && c && d) ≡ true → d ≡ true
-last_of_four true true true d h = h
-last_of_four true true false d h = absurd (true≢false (sym h))
-last_of_four true false c d h = absurd (true≢false (sym h))
-last_of_four false b c d h = absurd (true≢false (sym h))
 
 first_of_four : (a b c d : Bool) → (a && b && c && d) ≡ true → a ≡ true
 first_of_four true b c d h = refl
@@ -44,23 +38,10 @@ middle true true c h = refl
 middle true false c h = absurd (true≢false (sym h))
 middle false b c h = absurd (true≢false (sym h))
 
-space_xml : is_xml_char 32 ≡ true
-unfolding is_xml_char
-space_xml = refl
-
-referred_xml : (r : Reference) → is_reference r ≡ true → is_xml_char (referred_character r) ≡ true
-unfolding is_xml_char
-referred_xml (Named Ampersand) h = refl
-referred_xml (Named LessEntity) h = refl
-referred_xml (Named GreaterEntity) h = refl
-referred_xml (Named Apostrophe) h = refl
-referred_xml (Named Quote) h = refl
-referred_xml (Numbered radix digits) h = last_of_four (radix == 10 || radix == 16) (not (length digits == 0)) _ _ h
-
 value_xml : (quote : ℕ) (ps : List ValuePiece) → list_all (is_piece quote) ps ≡ true → list_all is_xml_char (value_chars ps) ≡ true
 value_xml quote [] h = refl
 value_xml quote (Refers r ∷ ps) h =
-    and_from (is_xml_char (referred_character r)) (list_all is_xml_char (value_chars ps)) (referred_xml r (and_parts (is_piece quote (Refers r)) _ h).0) (value_xml quote ps (and_parts (is_piece quote (Refers r)) _ h).1)
+    and_from (is_xml_char (referred_character r)) (list_all is_xml_char (value_chars ps)) (referred_is_xml r (and_parts (is_piece quote (Refers r)) _ h).0) (value_xml quote ps (and_parts (is_piece quote (Refers r)) _ h).1)
 value_xml quote (Literal c ∷ ps) h =
     by (c == 13 && begins_lf ps) (is_space c) (first_of_four (is_xml_char c) (not (c == 60)) (not (c == 38)) (not (c == quote)) (and_parts (is_piece quote (Literal c)) _ h).0)
     (value_xml quote ps (and_parts (is_piece quote (Literal c)) _ h).1)
@@ -68,16 +49,12 @@ value_xml quote (Literal c ∷ ps) h =
     by : (b s : Bool) → is_xml_char c ≡ true → list_all is_xml_char (value_chars ps) ≡ true
         → list_all is_xml_char (if b then value_chars ps else (if s then 32 else c) ∷ value_chars ps) ≡ true
     by true s x later = later
-    by false true x later = and_from (is_xml_char 32) _ space_xml later
+    by false true x later = and_from (is_xml_char 32) _ blank_is_xml later
     by false false x later = and_from (is_xml_char c) _ x later
-
-xml_chars : (cs : List ℕ) → list_all is_xml_char cs ≡ true → AllByRecursion IsXmlChar cs
-xml_chars [] h = tt
-xml_chars (c ∷ cs) h = ((classes.xml c).0 (and_parts (is_xml_char c) _ h).0, xml_chars cs (and_parts (is_xml_char c) _ h).1)
 
 given_text : (a : Attribute) → is_attribute a ≡ true → IsXmlText (given_attribute a).value
 given_text a h =
-    (value_chars a.value, xml_chars (value_chars a.value) (value_xml a.quote a.value (last_of_six (is_gap a.gap) (is_name a.name) (list_all is_space a.before) (list_all is_space a.after) (a.quote == 34 || a.quote == 39) (list_all (is_piece a.quote) a.value) h)), refl)
+    (value_chars a.value, all_chars (value_chars a.value) (value_xml a.quote a.value (last_of_six (is_gap a.gap) (is_name a.name) (list_all is_space a.before) (list_all is_space a.after) (a.quote == 34 || a.quote == 39) (list_all (is_piece a.quote) a.value) h)), refl)
 
 givens_texts : (attributes : List Attribute) → list_all is_attribute attributes ≡ true → AllByRecursion (λ (g : Given). IsXmlText g.value) (map given_attribute attributes)
 givens_texts [] h = tt

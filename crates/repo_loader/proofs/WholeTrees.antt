@@ -1,19 +1,18 @@
 -- The events of whole tokens that break no rule are those of a tree.
-use Rattle.std.proofs.Common.{◌≡◌, ℕ, suc, Bool, true, false, true≢false, ◌||◌, List, [], ◌∷◌, ◌++◌, length, map, Option, Some, None, if◌then◌else◌, is_some, refl, sym, ap, ◌∙◌, subst, append_assoc, ◌+◌, arith}
+use Rattle.std.proofs.Common.{◌≡◌, ℕ, Bool, true, false, true≢false, ◌||◌, List, [], ◌∷◌, ◌++◌, length, map, Option, Some, None, if◌then◌else◌, is_some, refl, sym, ap, ◌∙◌, subst, append_assoc, ◌+◌}
 use Rattle.std.specs.Prelude.{is_none, drop, ◌==◌, ◌&&◌, reverse}
 use Rattle.std.specs.List.{list_any}
-use Rattle.std.proofs.lemmas.List.{map-append}
+use Rattle.std.proofs.lemmas.Bool.{and_parts, or_parts}
 use Rattle.lexical_core.specs.Tree.{Expanded, Entry as Attribute, Nodes, Nothing, Element, Text, Tree, TreeIs, Item, Starts, Ends, Char, flat_nodes, tree_items}
+use Rattle.lexical_core.proofs.Tests.{suc_never_zero}
 use Rattle.markup.specs.declared.tag.Opening.{Opening}
 use Rattle.markup.specs.declared.tag.Spelled.{Spelled}
 use Rattle.markup.specs.Token.{Token, Mark, Declaration, Comment, Instruction, Opener, Closer, TypeDeclaration, Start, End, Refer, LineEnd, Character, StartTag}
 use Rattle.markup.specs.Events.{Placed, events, items_of, open_tags, opening, spelled_name, element_name, entries, start_tag_items, end_tag_items, end_items}
-use Rattle.std.proofs.lemmas.Bool.{and_parts, or_parts}
-use Rattle.std.proofs.lemmas.Bool.Decides.{nat_tests}
-use Rattle.markup.specs.Token.{token_bytes}
 use Rattle.markup.specs.Reference.{referred_character}
-use Rattle.markup.proofs.OneFault.{past, behind}
 use Rattle.markup.specs.Faults.{has_start, is_outside, is_over, start_rule, end_rule, rule_of, IsClean, has_clash, is_bad_attribute}
+use Rattle.markup.proofs.OpenTags.{AreExpanded}
+use Rattle.markup.proofs.TokensBehind.{items_in, tokens_behind, behind, events_items}
 
 -- one of two facts, by a test
 abbrev ByCase : Bool → Type 0 → Type 0 → Type 0
@@ -68,18 +67,6 @@ start_closes n attributes m ms items (ks, e) =
 
 -- ---- tokens
 
--- the expanded names of the open tags
-abbrev AreNamed : List Opening → List Expanded → Type 0
-AreNamed [] [] = Unit {0}
-AreNamed [] (n ∷ ns) = ⊥
-AreNamed (tag ∷ tags) [] = ⊥
-AreNamed (tag ∷ tags) (n ∷ ns) = (element_name (tag ∷ tags) tag.name ≡ Some n) × AreNamed tags ns
-
--- the events of tokens, without places
-abbrev token_items : List Token → List Token → List Item
-token_items before [] = []
-token_items before (t ∷ ts) = items_of before t ++ token_items (t ∷ before) ts
-
 some_is : {A : Type 0} (o : Option A) → is_none o ≡ false → (x : A) × (o ≡ Some x)
 some_is None h = absurd (true≢false h)
 some_is (Some x) h = (x, refl)
@@ -101,8 +88,8 @@ start_clean over tags tag h =
 
 -- what is said of the tags behind a start tag, of an empty element or not
 behind_start : (b : Bool) (tags : List Opening) (tag : Opening) (n : Expanded) (ns : List Expanded) (items : List Item)
-    → element_name (tag ∷ tags) tag.name ≡ Some n → AreNamed tags ns
-    → ((ms : List Expanded) → AreNamed (if b then tags else tag ∷ tags) ms → Closes ms items)
+    → element_name (tag ∷ tags) tag.name ≡ Some n → AreExpanded tags ns
+    → ((ms : List Expanded) → AreExpanded (if b then tags else tag ∷ tags) ms → Closes ms items)
     → ByCase b (Closes ns items) (Closes (n ∷ ns) items)
 behind_start true tags tag n ns items e named later = later ns named
 behind_start false tags tag n ns items e named later = later (n ∷ ns) (e, named)
@@ -113,15 +100,15 @@ started_closes true n attributes m ms items h = empty_closes n attributes m ms i
 started_closes false n attributes m ms items h = start_closes n attributes m ms items h
 
 -- where no tag is open behind a start, the root is closed
-outside_over : (before : List Token) → has_start before ≡ true → AreNamed (open_tags before) [] → is_over before ≡ true
+outside_over : (before : List Token) → has_start before ≡ true → AreExpanded (open_tags before) [] → is_over before ≡ true
 outside_over before s named = by (open_tags before) refl named
   where
-    by : (tags : List Opening) → open_tags before ≡ tags → AreNamed tags [] → is_over before ≡ true
+    by : (tags : List Opening) → open_tags before ≡ tags → AreExpanded tags [] → is_over before ≡ true
     by [] e h = rw (s, e) refl
     by (t ∷ tags) e h = absurd h
 
-start_token : (before : List Token) (tag : StartTag) (ns : List Expanded) (items : List Item) → has_start before ≡ true → AreNamed (open_tags before) ns
-    → rule_of before (Start tag) ≡ None → ((ms : List Expanded) → AreNamed (open_tags (Start tag ∷ before)) ms → Closes ms items)
+start_token : (before : List Token) (tag : StartTag) (ns : List Expanded) (items : List Item) → has_start before ≡ true → AreExpanded (open_tags before) ns
+    → rule_of before (Start tag) ≡ None → ((ms : List Expanded) → AreExpanded (open_tags (Start tag ∷ before)) ms → Closes ms items)
     → Closes ns (items_of before (Start tag) ++ items)
 start_token before tag [] items s named rule later =
     absurd (true≢false (sym (outside_over before s named) ∙ (start_clean (is_over before) (open_tags before) (opening tag) rule).1))
@@ -131,28 +118,25 @@ start_token before tag (m ∷ ms) items s named rule later =
     subst (λ o. Closes (m ∷ ms) (start_tag_items o attributes tag.is_empty ++ items)) (sym r.1)
     (started_closes tag.is_empty r.0 attributes m ms items (behind_start tag.is_empty (open_tags before) (opening tag) r.0 (m ∷ ms) items r.1 named later))
 
-end_token : (tags : List Opening) (name : Spelled) (ns : List Expanded) (items : List Item) → AreNamed tags ns → end_rule tags name ≡ None
-    → ((ms : List Expanded) → AreNamed (drop 1 tags) ms → Closes ms items) → Closes ns (end_items tags ++ items)
+end_token : (tags : List Opening) (name : Spelled) (ns : List Expanded) (items : List Item) → AreExpanded tags ns → end_rule tags name ≡ None
+    → ((ms : List Expanded) → AreExpanded (drop 1 tags) ms → Closes ms items) → Closes ns (end_items tags ++ items)
 end_token [] name ns items named rule later = absurd (not_none _ rule)
 end_token (tag ∷ tags) name [] items named rule later = absurd named
 end_token (tag ∷ tags) name (n ∷ ns) items (e, named) rule later =
     subst (λ o. Closes (n ∷ ns) (end_tag_items o ++ items)) (sym e) (end_closes n ns items (later ns named))
 
-not_zero : (n : ℕ) → (suc n == 0) ≡ true → ⊥
-not_zero n h = grind (arith, nat_tests)
-
-none_open : (before : List Token) (ns : List Expanded) → AreNamed (open_tags before) ns → is_over before ≡ true → Closes ns []
+none_open : (before : List Token) (ns : List Expanded) → AreExpanded (open_tags before) ns → is_over before ≡ true → Closes ns []
 none_open before ns named over = by (open_tags before) ns refl named
   where
-    by : (tags : List Opening) (ns : List Expanded) → open_tags before ≡ tags → AreNamed tags ns → Closes ns []
+    by : (tags : List Opening) (ns : List Expanded) → open_tags before ≡ tags → AreExpanded tags ns → Closes ns []
     by [] [] e h = ([], refl)
     by [] (n ∷ ns) e h = absurd h
     by (t ∷ tags) [] e h = absurd h
-    by (t ∷ tags) (n ∷ ns) e h = absurd (not_zero (length tags) (ap (λ ts. length ts == 0) (sym e) ∙ (and_parts (has_start before) (is_outside before) over).1))
+    by (t ∷ tags) (n ∷ ns) e h = absurd (suc_never_zero (length tags) (ap (λ ts. length ts == 0) (sym e) ∙ (and_parts (has_start before) (is_outside before) over).1))
 
 -- behind the root's start tag, tokens that break no rule close what is open
-tokens_close : (before ts : List Token) (ns : List Expanded) → has_start before ≡ true → AreNamed (open_tags before) ns → IsClean before ts → is_over (past before ts) ≡ true
-    → Closes ns (token_items before ts)
+tokens_close : (before ts : List Token) (ns : List Expanded) → has_start before ≡ true → AreExpanded (open_tags before) ns → IsClean before ts → is_over (tokens_behind before ts) ≡ true
+    → Closes ns (items_in before ts)
 tokens_close before [] ns s named c over = none_open before ns named over
 tokens_close before (Mark ∷ ts) ns s named c over = tokens_close (Mark ∷ before) ts ns s named c.1 over
 tokens_close before (Declaration fields gap ∷ ts) ns s named c over = tokens_close (Declaration fields gap ∷ before) ts ns s named c.1 over
@@ -162,12 +146,12 @@ tokens_close before (Opener ∷ ts) ns s named c over = tokens_close (Opener ∷
 tokens_close before (Closer ∷ ts) ns s named c over = tokens_close (Closer ∷ before) ts ns s named c.1 over
 tokens_close before (TypeDeclaration ∷ ts) ns s named c over = absurd (not_none _ c.0)
 tokens_close before (Start tag ∷ ts) ns s named c over =
-    start_token before tag ns (token_items (Start tag ∷ before) ts) s named c.0 (λ ms h. tokens_close (Start tag ∷ before) ts ms refl h c.1 over)
+    start_token before tag ns (items_in (Start tag ∷ before) ts) s named c.0 (λ ms h. tokens_close (Start tag ∷ before) ts ms refl h c.1 over)
 tokens_close before (End name gap ∷ ts) ns s named c over =
-    end_token (open_tags before) (spelled_name name) ns (token_items (End name gap ∷ before) ts) named c.0 (λ ms h. tokens_close (End name gap ∷ before) ts ms s h c.1 over)
-tokens_close before (Refer reference ∷ ts) ns s named c over = character_closes (referred_character reference) ns (token_items (Refer reference ∷ before) ts) (tokens_close (Refer reference ∷ before) ts ns s named c.1 over)
-tokens_close before (LineEnd line ∷ ts) ns s named c over = character_closes 10 ns (token_items (LineEnd line ∷ before) ts) (tokens_close (LineEnd line ∷ before) ts ns s named c.1 over)
-tokens_close before (Character char ∷ ts) ns s named c over = character_closes char ns (token_items (Character char ∷ before) ts) (tokens_close (Character char ∷ before) ts ns s named c.1 over)
+    end_token (open_tags before) (spelled_name name) ns (items_in (End name gap ∷ before) ts) named c.0 (λ ms h. tokens_close (End name gap ∷ before) ts ms s h c.1 over)
+tokens_close before (Refer reference ∷ ts) ns s named c over = character_closes (referred_character reference) ns (items_in (Refer reference ∷ before) ts) (tokens_close (Refer reference ∷ before) ts ns s named c.1 over)
+tokens_close before (LineEnd line ∷ ts) ns s named c over = character_closes 10 ns (items_in (LineEnd line ∷ before) ts) (tokens_close (LineEnd line ∷ before) ts ns s named c.1 over)
+tokens_close before (Character char ∷ ts) ns s named c over = character_closes char ns (items_in (Character char ∷ before) ts) (tokens_close (Character char ∷ before) ts ns s named c.1 over)
 
 -- ---- the root
 
@@ -182,15 +166,15 @@ root_tree false n attributes items (ks, e) =
     (record { name = n; attributes = attributes; children = first ks }, ap (λ l. Starts n attributes ∷ l) (e ∙ closing_first n [] ks))
 
 root_token : (before : List Token) (tag : StartTag) (items : List Item) → open_tags before ≡ [] → rule_of before (Start tag) ≡ None
-    → ((ms : List Expanded) → AreNamed (open_tags (Start tag ∷ before)) ms → Closes ms items) → IsTree (items_of before (Start tag) ++ items)
+    → ((ms : List Expanded) → AreExpanded (open_tags (Start tag ∷ before)) ms → Closes ms items) → IsTree (items_of before (Start tag) ++ items)
 root_token before tag items o rule later =
     let r = (start_clean (is_over before) (open_tags before) (opening tag) rule).0 in
     let attributes = entries (opening tag ∷ open_tags before) (opening tag).given in
     subst (λ q. IsTree (start_tag_items q attributes tag.is_empty ++ items)) (sym r.1)
     (root_tree tag.is_empty r.0 attributes items
-    (behind_start tag.is_empty (open_tags before) (opening tag) r.0 [] items r.1 (subst (λ tags. AreNamed tags []) (sym o) tt) later))
+    (behind_start tag.is_empty (open_tags before) (opening tag) r.0 [] items r.1 (subst (λ tags. AreExpanded tags []) (sym o) tt) later))
 
-before_root : (before ts : List Token) → has_start before ≡ false → open_tags before ≡ [] → IsClean before ts → is_over (past before ts) ≡ true → IsTree (token_items before ts)
+before_root : (before ts : List Token) → has_start before ≡ false → open_tags before ≡ [] → IsClean before ts → is_over (tokens_behind before ts) ≡ true → IsTree (items_in before ts)
 before_root before [] s o c over = absurd (true≢false (sym over ∙ ap (λ b. b && is_outside before) s))
 before_root before (Mark ∷ ts) s o c over = before_root (Mark ∷ before) ts s o c.1 over
 before_root before (Declaration fields gap ∷ ts) s o c over = before_root (Declaration fields gap ∷ before) ts s o c.1 over
@@ -200,7 +184,7 @@ before_root before (Opener ∷ ts) s o c over = before_root (Opener ∷ before) 
 before_root before (Closer ∷ ts) s o c over = before_root (Closer ∷ before) ts s o c.1 over
 before_root before (TypeDeclaration ∷ ts) s o c over = absurd (not_none _ c.0)
 before_root before (Start tag ∷ ts) s o c over =
-    root_token before tag (token_items (Start tag ∷ before) ts) o c.0 (λ ms h. tokens_close (Start tag ∷ before) ts ms refl h c.1 over)
+    root_token before tag (items_in (Start tag ∷ before) ts) o c.0 (λ ms h. tokens_close (Start tag ∷ before) ts ms refl h c.1 over)
 before_root before (End name gap ∷ ts) s o c over = absurd (not_none _ (subst (λ tags. end_rule tags (spelled_name name) ≡ None) o c.0))
 before_root before (Refer reference ∷ ts) s o c over = before_root (Refer reference ∷ before) ts s o c.1 over
 before_root before (LineEnd line ∷ ts) s o c over = before_root (LineEnd line ∷ before) ts s o c.1 over
@@ -211,14 +195,6 @@ before_root before (Character char ∷ ts) s o c over = before_root (Character c
 items_are : (place : ℕ) (items : List Item) → map (λ (e : Placed). e.item) (map (λ (i : Item). record { place = place; item = i }) items) ≡ items
 items_are place [] = refl
 items_are place (i ∷ items) = ap (λ l. i ∷ l) (items_are place items)
-
-pub events_items : (before : List Token) (place : ℕ) (ts : List Token) → map (λ (e : Placed). e.item) (events before place ts) ≡ token_items before ts
-events_items before place [] = refl
-events_items before place (t ∷ ts) =
-    let here = items_of before t in
-    map-append (λ (e : Placed). e.item) (map (λ (i : Item). record { place = place; item = i }) here) (events (t ∷ before) (place + length (token_bytes t)) ts)
-    ∙ ap (λ l. l ++ map (λ (e : Placed). e.item) (events (t ∷ before) (place + length (token_bytes t)) ts)) (items_are place here)
-    ∙ ap (λ l. here ++ l) (events_items (t ∷ before) (place + length (token_bytes t)) ts)
 
 -- whole tokens that break no rule are a tree
 pub whole_tree : (tokens : List Token) → IsClean [] tokens → is_over (reverse tokens) ≡ true → (tree : Tree) × TreeIs (map (λ (e : Placed). e.item) (events [] 0 tokens)) tree

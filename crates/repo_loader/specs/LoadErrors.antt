@@ -1,8 +1,8 @@
 -- Why a repository is not loaded.
 use Rattle.std.specs.Prelude.{◌≡◌, ℕ, ◌≤◌, List, ◌++◌, length, Option, Some}
 use Rattle.std.specs.Io.KnownBytes.{Consumes}
-use Rattle.outside.specs.Source.{Rose}
 use Rattle.lexical_core.specs.declared.rule.Rule.TheVariants.{Truncated}
+use Rattle.outside.specs.Source.{Rose}
 use Rattle.repo_loader.specs.declared.fault.LoadFault.{LoadFault}
 use Rattle.repo_loader.specs.declared.fault.LoadError.{LoadError}
 use Rattle.repo_loader.specs.declared.fault.LoadError.TheVariants.{Refused, ReadFault}

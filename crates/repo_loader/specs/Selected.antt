@@ -1,6 +1,7 @@
 -- Which elements of a repository file are read: of a tree, and by events.
 use Rattle.std.specs.Prelude.{ℕ, List, [], ◌∷◌, ◌++◌, drop, codes, if◌then◌else◌}
 use Rattle.lexical_core.specs.Tree.{Expanded, Entry as Attribute, Nodes, Nothing, Element as Node, Text, Tree, Item, Starts, Ends}
+use Rattle.lexical_core.specs.Names.{same_name}
 use Rattle.markup.specs.Events.{Placed}
 use Rattle.repo_objects.specs.declared.objects.ObjectKind.{ObjectKind}
 use Rattle.repo_objects.specs.declared.objects.ObjectKind.TheVariants as object
@@ -8,7 +9,6 @@ use Rattle.repo_objects.specs.declared.objects.Kinds.TheVariants as kinds
 use Rattle.repo_loader.specs.declared.part.Part.{Part}
 use Rattle.repo_loader.specs.declared.part.Part.TheVariants.{File, Repository, OtherRoot, Dictionary, Entry, Element, Alternative, Code, Catalogue, Area, Message, Block, Identifier, LeftOut}
 use Rattle.repo_loader.specs.FileNames.{root_name, is_own}
-use Rattle.lexical_core.specs.Names.{same_name}
 use Rattle.repo_loader.specs.FileValues.{object_kind_of}
 
 -- one name is read in the element, as this

@@ -1,7 +1,7 @@
 //! The kinds of entries by their words.
 ghost use Rattle.std.specs.Prelude.{◌≡◌, map};
-ghost use Rattle.repo_loader.specs.FileValues.{kind_in, kind_words, date_words, component_words};
 ghost use Rattle.markup.specs.EventItems.{entry_of};
+ghost use Rattle.repo_loader.specs.FileValues.{kind_in, kind_words, date_words, component_words};
 ghost use Rattle.repo_loader.specs.FileValues.{behind_colon as spec_behind_colon, word_of as spec_word_of};
 
 use crate::names::value_of;

@@ -2,9 +2,9 @@
 ghost use Rattle.std.specs.Prelude.{◌≡◌, ◌||◌, [], map};
 ghost use Rattle.std.specs.Str.{bytes_eq};
 ghost use Rattle.std.specs.Option.{option_map};
+ghost use Rattle.lexical_core.specs.Names.{attribute_value as spec_value_of, same_name};
 ghost use Rattle.markup.specs.EventItems.{entry_of};
 ghost use Rattle.repo_loader.specs.FileNames.{is_own as spec_is_own, root_name, ecore};
-ghost use Rattle.lexical_core.specs.Names.{attribute_value as spec_value_of, same_name};
 
 use markup::Attr;
 

@@ -5,6 +5,22 @@ use Rattle.repo_objects.specs.declared.objects.Object.{Object}
 use Rattle.repo_objects.specs.declared.objects.ElementDef.{ElementDef}
 use Rattle.repo_objects.specs.declared.objects.CodeDef.{CodeDef}
 use Rattle.repo_objects.specs.declared.objects.MessageDef.{MessageDef}
+use Rattle.repo_objects.specs.declared.objects.RawFacets.{RawFacets}
+
+-- facets of which none is given
+abbrev pub no_facets : RawFacets
+no_facets = record {
+  min_length = None;
+  max_length = None;
+  length = None;
+  total = None;
+  fraction = None;
+  min_in = None;
+  min_ex = None;
+  max_in = None;
+  max_ex = None;
+  pattern = None;
+}
 
 -- a text that may be absent
 abbrev pub IsXmlTextIfAny : Option (List ℕ) → Type 0

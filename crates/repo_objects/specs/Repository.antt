@@ -1,5 +1,5 @@
 -- What contracts see of a repository: the objects of its data dictionary under their ids, and its messages.
-use Rattle.std.specs.Prelude.{◌≢◌, ℕ, zero, suc, List, [], ◌∷◌, map, All, AllPairs, Contains, slice_get, Some, ◌≡◌}
+use Rattle.std.specs.Prelude.{◌≢◌, ℕ, zero, suc, List, [], ◌∷◌, map, All, AllPairs, Contains, slice_get, Option, Some, None, ◌≡◌}
 use Rattle.lexical_core.specs.Characters.{IsXmlText}
 use Rattle.repo_objects.specs.declared.objects.Object.{Object}
 use Rattle.repo_objects.specs.declared.objects.MessageDef.{MessageDef}
@@ -48,3 +48,8 @@ pub record IsRepository (contents : Contents) : Type 0 where
   pub distinct : AllPairs (λ one other. one ≢ other) (ids_of contents.objects)
   pub object_texts : All HasEntryTexts contents.objects
   pub message_texts : All HasMessageTexts contents.messages
+
+-- the id of an entry, empty where there is none
+abbrev pub entry_id : Option DictionaryEntry → List ℕ
+entry_id None = []
+entry_id (Some e) = e.id

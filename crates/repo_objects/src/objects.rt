@@ -1,4 +1,7 @@
 //! What a repository file says of an entry of its data dictionary and of a message.
+ghost use Rattle.std.specs.Prelude.{◌≡◌};
+ghost use Rattle.repo_objects.specs.Objects.{no_facets};
+
 use lexical_core::{Decimal, Items, Text};
 
 /// The kind of a data type (ISO 20022-1, data types).
@@ -60,6 +63,26 @@ pub struct RawFacets {
     pub max_ex: Option<Decimal>,
     /// The pattern of its texts.
     pub pattern: Option<Text>,
+}
+
+impl RawFacets {
+    /// Facets of which none is given. It takes no memory.
+    pub fn none() -> RawFacets
+        ensures { result ≡ no_facets }
+    {
+        RawFacets {
+            min_length: None,
+            max_length: None,
+            length: None,
+            total: None,
+            fraction: None,
+            min_in: None,
+            min_ex: None,
+            max_in: None,
+            max_ex: None,
+            pattern: None,
+        }
+    }
 }
 
 /// A code of a code set.

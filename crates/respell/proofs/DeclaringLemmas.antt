@@ -5,23 +5,23 @@ use Rattle.std.specs.Str.{bytes_eq}
 use Rattle.std.proofs.lemmas.Bool.{cases_Bool, true≢false}
 use Rattle.lexical_core.specs.Tree.{Entry}
 use Rattle.lexical_core.specs.Names.{xmlns}
+use Rattle.lexical_core.proofs.EqualBytes.{equal_bytes, bytes_equal, other_bytes}
 use Rattle.fragments.specs.Fragment.{Written, written_text, needs_none, before_others, namespaces_of, numbered_declarations, prefix_of}
-use Rattle.respell.proofs.Prefixes.{same_bytes, bytes_same, other_bytes}
 use Rattle.respell.specs.inner.Declaring.{without, is_new}
 
 -- a namespace before others, without it
 without_before : (n : List ℕ) (xs : List (List ℕ)) → without n (before_others n xs) ≡ without n xs
-without_before n [] = rw (same_bytes n n refl) refl
+without_before n [] = rw (bytes_equal n n refl) refl
 without_before n (x ∷ xs) = elim (cases_Bool (bytes_eq n x)) as (λ _. without n (before_others n (x ∷ xs)) ≡ without n (x ∷ xs)) [
   | inl t ↦ rw t (ap (λ (b : Bool). if b then xs else x ∷ xs) t)
-  | inr f ↦ rw (f, same_bytes n n refl) refl
+  | inr f ↦ rw (f, bytes_equal n n refl) refl
 ]
 
 -- before others it stands first, and without it they are left
 before_new : (n : List ℕ) (xs : List (List ℕ)) → before_others n xs ≡ n ∷ without n xs
 before_new n [] = refl
 before_new n (x ∷ xs) = elim (cases_Bool (bytes_eq n x)) as (λ _. before_others n (x ∷ xs) ≡ n ∷ without n (x ∷ xs)) [
-  | inl t ↦ rw t (ap (λ (y : List ℕ). y ∷ xs) (sym (bytes_same n x t)))
+  | inl t ↦ rw t (ap (λ (y : List ℕ). y ∷ xs) (sym (equal_bytes n x t)))
   | inr f ↦ rw f refl
 ]
 
@@ -34,7 +34,7 @@ new_parts last n h = elim (cases_Bool (needs_none n)) as (λ _. (needs_none n �
 pub without_new : (last : List ℕ) (e : Entry) (es : List Entry) → is_new last e.name.namespace ≡ true → without last (namespaces_of (e ∷ es)) ≡ e.name.namespace ∷ without e.name.namespace (namespaces_of es)
 without_new last e es h =
     let p = new_parts last e.name.namespace h in
-    let other : bytes_eq last e.name.namespace ≡ false = other_bytes last e.name.namespace (λ q. true≢false (sym (same_bytes _ _ (sym q)) ∙ p.1)) in
+    let other : bytes_eq last e.name.namespace ≡ false = other_bytes last e.name.namespace (λ q. true≢false (sym (bytes_equal _ _ (sym q)) ∙ p.1)) in
     let all : namespaces_of (e ∷ es) ≡ e.name.namespace ∷ without e.name.namespace (namespaces_of es) = rw p.0 (before_new e.name.namespace (namespaces_of es)) in
     ap (without last) all ∙ rw other refl
 
@@ -42,7 +42,7 @@ pub without_old : (last : List ℕ) (e : Entry) (es : List Entry) → is_new las
 without_old last e es h = elim (cases_Bool (needs_none e.name.namespace)) as (λ _. without last (namespaces_of (e ∷ es)) ≡ without last (namespaces_of es)) [
   | inl t ↦ rw t refl
   | inr f ↦ elim (cases_Bool (bytes_eq e.name.namespace last)) as (λ _. without last (namespaces_of (e ∷ es)) ≡ without last (namespaces_of es)) [
-    | inl t ↦ (let all : namespaces_of (e ∷ es) ≡ before_others last (namespaces_of es) = rw f (ap (λ (n : List ℕ). before_others n (namespaces_of es)) (bytes_same _ _ t)) in ap (without last) all ∙ without_before last (namespaces_of es))
+    | inl t ↦ (let all : namespaces_of (e ∷ es) ≡ before_others last (namespaces_of es) = rw f (ap (λ (n : List ℕ). before_others n (namespaces_of es)) (equal_bytes _ _ t)) in ap (without last) all ∙ without_before last (namespaces_of es))
     | inr g ↦ absurd (true≢false (sym (rw (f, g) refl) ∙ h))
   ]
 ]

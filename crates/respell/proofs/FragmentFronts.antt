@@ -13,6 +13,7 @@ use Rattle.markup.specs.declared.event.Event.{Event}
 use Rattle.markup.specs.declared.reader.Reader.{Reader}
 use Rattle.markup.proofs.OneFault.{whole_has_none}
 use Rattle.markup.proofs.Stays.{events_stay}
+use Rattle.markup.proofs.TokensBehind.{items_in, tokens_behind, events_items}
 use Rattle.fragments.specs.Plain.{IsPlain}
 use Rattle.respell.specs.Laws.{ReadsTree, IsPlainItem}
 use Rattle.respell.specs.Respelling.{HasSortedAttributes, AreOf, told_of}
@@ -20,7 +21,7 @@ use Rattle.respell.specs.inner.FragmentReading.{NoneOutside, IsFragment, event_i
 use Rattle.respell.proofs.Fronts.{front_of}
 use Rattle.respell.proofs.OneTree.{read_back}
 use Rattle.respell.proofs.Outside.{outside_parts, tree_inside, told_counted, told_tree}
-use Rattle.respell.proofs.Runs.{behind, items_in, items-append, events_items}
+use Rattle.respell.proofs.Runs.{items-append}
 use Rattle.respell.proofs.WholePlain.{events_are_plain, plain_tree}
 use Rattle.respell.proofs.WholeTree.{whole_tree}
 
@@ -43,8 +44,8 @@ front_told : (bytes : List ℕ) (f : IsFragment bytes) (tokens : List Token) (re
 front_told bytes f tokens rest front =
     let r = reads_of bytes f in
     let m = front_of no_limit bytes tokens r.tokens rest front r.marks in (
-      items_in (behind [] tokens) m.0,
-      ap (λ (l : List Item). l ++ items_in (behind [] tokens) m.0) (events_items [] 0 tokens) ∙ (sym (items-append [] tokens m.0) ∙ (ap (items_in []) (sym m.1) ∙ (sym (events_items [] 0 r.tokens) ∙ r.told))),
+      items_in (tokens_behind [] tokens) m.0,
+      ap (λ (l : List Item). l ++ items_in (tokens_behind [] tokens) m.0) (events_items [] 0 tokens) ∙ (sym (items-append [] tokens m.0) ∙ (ap (items_in []) (sym m.1) ∙ (sym (events_items [] 0 r.tokens) ∙ r.told))),
     )
 
 pub told_front : (reader : Reader) (bytes behind_them : List ℕ) (told : List Placed) → HasTakenUnder no_limit reader bytes told → (f : IsFragment (bytes ++ behind_them)) → (more : List Item) × (items told ++ more ≡ flat f.tree)

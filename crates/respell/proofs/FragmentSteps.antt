@@ -1,14 +1,14 @@
 -- A reader of a fragment, byte by byte.
-use Rattle.std.proofs.Common.{◌≡◌, ◌<◌, ◌≤◌, ◌^◌, refl, ℕ, true, arith, append-nil, length, Bool, false, List, [], ◌∷◌, ◌++◌, take, drop, sym, ap, ap₂, subst, ◌∙◌, append_assoc}
+use Rattle.std.proofs.Common.{◌≡◌, ◌<◌, ◌≤◌, ◌^◌, ℕ, true, arith, append-nil, length, Bool, false, List, [], ◌∷◌, ◌++◌, take, drop, sym, ap, ap₂, subst, ◌∙◌, append_assoc}
 use Rattle.std.specs.Prelude.{◌↔◌, ◌==◌, IsTrue, IfOk, Result, Ok, Err}
 use Rattle.std.specs.List.{AllByRecursion}
 use Rattle.std.specs.Str.{bytes_eq}
 use Rattle.std.proofs.lemmas.Bool.{true≢false}
-use Rattle.std.proofs.lemmas.Bool.Decides.{nat_tests}
 use Rattle.std.proofs.Math.Seq.{take-append_seam}
 use Rattle.std.proofs.lemmas.List.{append_cancel_left, take-append-drop}
-use Rattle.respell.proofs.Prefixes.{same_bytes, bytes_same}
 use Rattle.lexical_core.specs.Tree.{Item, Tree}
+use Rattle.lexical_core.proofs.EqualBytes.{equal_bytes, bytes_equal}
+use Rattle.lexical_core.proofs.Lists.{none_left}
 use Rattle.markup.specs.Marks.{no_limit}
 use Rattle.markup.specs.Reading.{GoesOnUnder, RefusesUnder, IsWhollyUnder, StopsUnder, EndsEarlyUnder, fault_of}
 use Rattle.markup.specs.declared.event.Event.{Event}
@@ -96,15 +96,11 @@ rest_uncompared forgotten text rest uncompared bytes e u = append_assoc forgotte
 
 -- ---- the end
 
-empty_from : (l : List ℕ) → (length l == 0) ≡ true → l ≡ []
-empty_from [] h = refl
-empty_from (x ∷ l) h = absurd (let n : ℕ = length l in grind (arith, nat_tests, h))
-
 pub ends_whole : (r : FragmentReader) (bytes forgotten uncompared : List ℕ) (b : Bool) (h : HasReadFront r bytes forgotten) → IsWhollyUnder no_limit bytes h.told → r.respell.text ≡ [] → forgotten ++ uncompared ≡ bytes → b ≡ (length uncompared == 0) → length bytes ≤ no_limit → IsTrue b ↔ IsFragment bytes
 ends_whole r bytes forgotten uncompared b h w none u is within =
     let e = ends_tree bytes h.told w h.inside in
     let written : (t : Tree) → AreOf (items h.told) t → forgotten ≡ fragment t = λ t are. sym (append-nil forgotten) ∙ (ap (λ (l : List ℕ). forgotten ++ l) (sym none) ∙ (h.writes.text_is ∙ whole_text (items h.told) t are)) in (
-      λ met. let same : fragment e.tree ≡ bytes = sym (written e.tree e.are) ∙ (sym (append-nil forgotten) ∙ (ap (λ (l : List ℕ). forgotten ++ l) (sym (empty_from uncompared (sym is ∙ met))) ∙ u)) in record { tree = e.tree; plain = e.plain; within = within; spelled = same },
+      λ met. let same : fragment e.tree ≡ bytes = sym (written e.tree e.are) ∙ (sym (append-nil forgotten) ∙ (ap (λ (l : List ℕ). forgotten ++ l) (sym (none_left uncompared (sym is ∙ met))) ∙ u)) in record { tree = e.tree; plain = e.plain; within = within; spelled = same },
       λ f. let all : forgotten ≡ bytes = written f.tree (fragment_told bytes h.told w f) ∙ f.spelled in is ∙ ap (λ (l : List ℕ). length l == 0) (append_cancel_left forgotten uncompared [] (u ∙ (sym all ∙ sym (append-nil forgotten)))),
     )
 
@@ -122,11 +118,11 @@ never bytes k = (λ met. absurd (true≢false (sym met)), λ f. absurd (k f))
 
 -- bytes that begin with the text begin with its characters
 pub begins_taken : (bytes text rest : List ℕ) → bytes ≡ text ++ rest → bytes_eq (take (length text) bytes) text ≡ true
-begins_taken bytes text rest e = same_bytes (take (length text) bytes) text (ap (λ (l : List ℕ). take (length text) l) e ∙ take-append_seam text rest)
+begins_taken bytes text rest e = bytes_equal (take (length text) bytes) text (ap (λ (l : List ℕ). take (length text) l) e ∙ take-append_seam text rest)
 
 pub joins_taken : (bytes text rest : List ℕ) → bytes_eq (take (length text) bytes) text ≡ true → rest ≡ drop (length text) bytes → text ++ rest ≡ bytes
-joins_taken bytes text rest same is = ap₂ (λ (a b : List ℕ). a ++ b) (sym (bytes_same (take (length text) bytes) text same)) is ∙ take-append-drop (length text) bytes
+joins_taken bytes text rest same is = ap₂ (λ (a b : List ℕ). a ++ b) (sym (equal_bytes (take (length text) bytes) text same)) is ∙ take-append-drop (length text) bytes
 
 -- nothing is left
 pub front_all : (front left bytes : List ℕ) (b : Bool) → front ++ left ≡ bytes → b ≡ (length left == 0) → IsTrue b → front ≡ bytes
-front_all front left bytes b e is none = sym (append-nil front) ∙ (ap (λ (l : List ℕ). front ++ l) (sym (empty_from left (sym is ∙ none))) ∙ e)
+front_all front left bytes b e is none = sym (append-nil front) ∙ (ap (λ (l : List ℕ). front ++ l) (sym (none_left left (sym is ∙ none))) ∙ e)

@@ -11,11 +11,11 @@ use Rattle.std.proofs.lemmas.Bool.{cases_Bool, true≢false, cond-true, cond-fal
 use Rattle.std.proofs.lemmas.Cmp.{nat_list_cmp_total}
 use Rattle.std.proofs.lemmas.Map.Text.{is_eq-slice_cmp}
 use Rattle.lexical_core.specs.Tree.{Entry}
-use Rattle.fragments.specs.Plain.{AreSortedEntries}
 use Rattle.lexical_core.specs.Names.{name_cmp}
+use Rattle.lexical_core.proofs.EqualBytes.{equal_bytes, bytes_equal, other_bytes}
+use Rattle.fragments.specs.Plain.{AreSortedEntries}
 use Rattle.fragments.specs.Fragment.{Written, written_text, needs_none, namespaces_of, number_among, attribute_written, is_xml, prefix_of}
 use Rattle.respell.specs.inner.Declaring.{without, is_new, number_behind, later, numbered_prefix, numbered_attribute}
-use Rattle.respell.proofs.Prefixes.{same_bytes, bytes_same, other_bytes}
 use Rattle.respell.proofs.TagNames.{IsOneOf}
 use Rattle.respell.proofs.DeclaringLemmas.{without_none, without_new, without_old}
 
@@ -77,7 +77,7 @@ level a b f g = case (slice_cmp nat_cmp a b) refl
   where
     case : (o : Ordering) → slice_cmp nat_cmp a b ≡ o → a ≡ b
     case Less e = absurd (g (nat_list_cmp_total.antisymm b a ∙ ap ordering_reverse e))
-    case Equal e = bytes_same a b (sym (is_eq-slice_cmp a b) ∙ ap is_eq e)
+    case Equal e = equal_bytes a b (sym (is_eq-slice_cmp a b) ∙ ap is_eq e)
     case Greater e = absurd (f e)
 
 -- what comes next, and what the number of this one is
@@ -107,7 +107,7 @@ next_last all e es last number h f t =
     let n : List ℕ = e.name.namespace in
     let old : is_new last n ≡ false = ap₂ (λ (a b : Bool). not a && not b) f t in
     let num : number_behind number last n ≡ number = cond-false (is_new last n) (number + 1) number old in
-    let lat : later last n ≡ last = cond-false (needs_none n) last n f ∙ bytes_same n last t in
+    let lat : later last n ≡ last = cond-false (needs_none n) last n f ∙ equal_bytes n last t in
     let same : without last (namespaces_of (e ∷ es)) ≡ without last (namespaces_of es) = without_old last e es old in record {
       this = λ needed. h.numbers e (inl refl) needed ∙ (cond-true (bytes_eq n last) number (number_among (number + 1) (without last (namespaces_of (e ∷ es))) n) t ∙ sym num);
       rest = subst (λ (l : List ℕ). AreNumbered all es l (number_behind number last n)) (sym lat) (subst (λ (k : ℕ). AreNumbered all es last k) (sym num) (record {
@@ -128,21 +128,21 @@ next_new all e es last number h f z =
     let whole : without last (namespaces_of (e ∷ es)) ≡ n ∷ rest = without_new last e es new in
     let at : (m : List ℕ) → bytes_eq m last ≡ false → (if bytes_eq m last then number else number_among (number + 1) (without last (namespaces_of (e ∷ es))) m) ≡ (if bytes_eq n m then number + 1 else number_among (number + 1 + 1) rest m) =
     λ m g. cond-false (bytes_eq m last) number (number_among (number + 1) (without last (namespaces_of (e ∷ es))) m) g ∙ ap (λ (ns : List (List ℕ)). number_among (number + 1) ns m) whole in record {
-      this = λ needed. h.numbers e (inl refl) needed ∙ (at n z ∙ (cond-true (bytes_eq n n) (number + 1) (number_among (number + 1 + 1) rest n) (same_bytes n n refl) ∙ sym num));
+      this = λ needed. h.numbers e (inl refl) needed ∙ (at n z ∙ (cond-true (bytes_eq n n) (number + 1) (number_among (number + 1 + 1) rest n) (bytes_equal n n refl) ∙ sym num));
       rest = subst (λ (l : List ℕ). AreNumbered all es l (number_behind number last n)) (sym lat) (subst (λ (k : ℕ). AreNumbered all es n k) (sym num) (record {
         sorted = h.sorted.1;
         behind = none_below_more e es h.sorted.0;
         numbers = λ f one needed.
             let m : List ℕ = f.name.namespace in
-            let apart : bytes_eq m last ≡ false = other_bytes m last (λ same. true≢false (sym (same_bytes n last (level n last (subst (λ (l : List ℕ). slice_cmp nat_cmp n l ≢ Greater) same (one_below n f es (none_below_more e es h.sorted.0) one)) h.behind.0)) ∙ z)) in
+            let apart : bytes_eq m last ≡ false = other_bytes m last (λ same. true≢false (sym (bytes_equal n last (level n last (subst (λ (l : List ℕ). slice_cmp nat_cmp n l ≢ Greater) same (one_below n f es (none_below_more e es h.sorted.0) one)) h.behind.0)) ∙ z)) in
             h.numbers f (inr one) needed ∙ (at m apart ∙ ap (λ (b : Bool). if b then number + 1 else number_among (number + 1 + 1) rest m) (swapped n m));
       }));
     }
   where
     swapped : (a b : List ℕ) → bytes_eq a b ≡ bytes_eq b a
     swapped a b = elim (cases_Bool (bytes_eq a b)) [
-      | inl t ↦ t ∙ sym (same_bytes b a (sym (bytes_same a b t)))
-      | inr g ↦ g ∙ sym (other_bytes b a (λ s. true≢false (sym (same_bytes a b (sym s)) ∙ g)))
+      | inl t ↦ t ∙ sym (bytes_equal b a (sym (equal_bytes a b t)))
+      | inr g ↦ g ∙ sym (other_bytes b a (λ s. true≢false (sym (bytes_equal a b (sym s)) ∙ g)))
     ]
 
 pub next_numbered : (all : List Entry) (e : Entry) (es : List Entry) (last : List ℕ) (number : ℕ) → AreNumbered all (e ∷ es) last number → NextNumbered all e es last number
@@ -184,7 +184,7 @@ attribute_step old new whole all e es left number split is pushed before =
 -- a namespace that needs a declaration has a number
 pub started : (number : ℕ) (last n : List ℕ) → (needs_none last ≡ false → 0 < number) → needs_none n ≡ false → 0 < number_behind number last n
 started number last n h f = elim (cases_Bool (bytes_eq n last)) [
-  | inl t ↦ (let l : 0 < number = h (ap needs_none (sym (bytes_same n last t)) ∙ f) in
+  | inl t ↦ (let l : 0 < number = h (ap needs_none (sym (equal_bytes n last t)) ∙ f) in
       subst (λ (k : ℕ). 0 < k) (sym (cond-false (is_new last n) (number + 1) number (ap₂ (λ (a b : Bool). not a && not b) f t))) l)
   | inr z ↦ subst (λ (k : ℕ). 0 < k) (sym (cond-true (is_new last n) (number + 1) number (ap₂ (λ (a b : Bool). not a && not b) f z))) (omega arith)
 ]

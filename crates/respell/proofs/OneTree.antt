@@ -12,11 +12,12 @@ use Rattle.markup.specs.Reference.{referred_character}
 use Rattle.markup.specs.Events.{open_tags, end_tag_items, end_items}
 use Rattle.markup.specs.Faults.{is_over, has_start}
 use Rattle.markup.proofs.TokenLaw.{fronts_agree}
+use Rattle.markup.proofs.TokensBehind.{items_in, tokens_behind, events_items}
 use Rattle.fragments.specs.Plain.{IsPlain}
 use Rattle.fragments.specs.Fragment.{fragment}
 use Rattle.respell.specs.ShortTags.{HaveShortTags}
 use Rattle.respell.specs.Laws.{OneTree, NoProperFront, ReadBack}
-use Rattle.respell.proofs.Runs.{behind, items_in, items-append, runs_front, events_items}
+use Rattle.respell.proofs.Runs.{items-append, runs_front}
 use Rattle.respell.proofs.Trees.{Stays, fragment_stays}
 
 -- no tag is longer than all of the text
@@ -57,8 +58,8 @@ fronts_same t u rest p q e =
     let f : Front limit [] (fragment u) s.run.tokens rest = subst (λ (b : List ℕ). Front limit [] b s.run.tokens rest) e (fragment_front t s limit rest (omega (arith, l, k))) in
     let g : Front limit [] (fragment u) r.run.tokens [] = subst (λ (b : List ℕ). Front limit [] b r.run.tokens []) (append-nil (fragment u)) (fragment_front u r limit [] (omega arith)) in
     elim (fronts_agree limit [] (fragment u) s.run.tokens r.run.tokens rest [] f g) as (λ _. t ≡ u) [
-      | inl (more, is) ↦ same_tree t u (items_in (behind [] s.run.tokens) more) (ap (λ (x : List Item). x ++ items_in (behind [] s.run.tokens) more) (sym s.run.told) ∙ (sym (items-append [] s.run.tokens more) ∙ (ap (items_in []) (sym is) ∙ r.run.told)))
-      | inr (more, is) ↦ sym (same_tree u t (items_in (behind [] r.run.tokens) more) (ap (λ (x : List Item). x ++ items_in (behind [] r.run.tokens) more) (sym r.run.told) ∙ (sym (items-append [] r.run.tokens more) ∙ (ap (items_in []) (sym is) ∙ s.run.told))))
+      | inl (more, is) ↦ same_tree t u (items_in (tokens_behind [] s.run.tokens) more) (ap (λ (x : List Item). x ++ items_in (tokens_behind [] s.run.tokens) more) (sym s.run.told) ∙ (sym (items-append [] s.run.tokens more) ∙ (ap (items_in []) (sym is) ∙ r.run.told)))
+      | inr (more, is) ↦ sym (same_tree u t (items_in (tokens_behind [] r.run.tokens) more) (ap (λ (x : List Item). x ++ items_in (tokens_behind [] r.run.tokens) more) (sym r.run.told) ∙ (sym (items-append [] r.run.tokens more) ∙ (ap (items_in []) (sym is) ∙ s.run.told))))
     ]
 
 pub one_tree : OneTree
@@ -70,7 +71,7 @@ no_proper_front t u rest p q e =
     append_cancel_left (fragment t) rest [] (e ∙ (ap fragment (sym same) ∙ sym (append-nil (fragment t))))
 
 -- the root has come
-started : (before ts : List Token) → has_start before ≡ true → has_start (behind before ts) ≡ true
+started : (before ts : List Token) → has_start before ≡ true → has_start (tokens_behind before ts) ≡ true
 started before [] h = h
 started before (Start tag ∷ ts) h = started (Start tag ∷ before) ts refl
 started before (Mark ∷ ts) h = started (Mark ∷ before) ts h
@@ -97,7 +98,7 @@ end_cases [] = inl refl
 end_cases (t ∷ tags) = ended_cases _
 
 -- without a start tag nothing starts
-pub no_starts : (before ts : List Token) (n : Expanded) (a : List Entry) (r : List Item) → items_in before ts ≡ Starts n a ∷ r → has_start (behind before ts) ≡ true
+pub no_starts : (before ts : List Token) (n : Expanded) (a : List Entry) (r : List Item) → items_in before ts ≡ Starts n a ∷ r → has_start (tokens_behind before ts) ≡ true
 no_starts before [] n a r e = absurd (let h : [] ≡ Starts n a ∷ r = e in cc)
 no_starts before (Start tag ∷ ts) n a r e = started (Start tag ∷ before) ts refl
 no_starts before (Mark ∷ ts) n a r e = absurd (let h : Skipped ≡ Starts n a = heads_same _ _ _ _ e in cc)
@@ -124,6 +125,6 @@ read_back t limit p h =
       tokens = s.run.tokens;
       marks = subst (λ (b : List ℕ). Front limit [] b s.run.tokens []) (append-nil (fragment t)) (fragment_front t s limit [] h);
       clean = s.run.clean;
-      over = over_of (behind [] s.run.tokens) (no_starts [] s.run.tokens t.name t.attributes _ s.run.told) s.tags;
+      over = over_of (tokens_behind [] s.run.tokens) (no_starts [] s.run.tokens t.name t.attributes _ s.run.told) s.tags;
       told = events_items [] 0 s.run.tokens ∙ s.run.told;
     }

@@ -6,11 +6,12 @@ use Rattle.std.proofs.lemmas.Bool.{and_parts}
 use Rattle.lexical_core.specs.Characters.{IsXmlChar, IsNameChar, IsXmlText}
 use Rattle.markup.specs.Chars.{is_xml_char, is_space, is_name_char}
 use Rattle.markup.specs.Name.{Name, Plain, Prefixed, is_part, is_name}
-use Rattle.markup.specs.Reference.{Reference, Named, Numbered, Ampersand, Less, Greater, Apostrophe, Quote, is_reference, referred_character}
+use Rattle.markup.specs.Reference.{is_reference, referred_character}
 use Rattle.markup.specs.Attribute.{ValuePiece, Literal, Refers, is_piece, value_chars, begins_lf}
 use Rattle.markup.specs.Events.{spelled_name}
 use Rattle.markup.proofs.AttributeLemmas.{literal_facts}
 use Rattle.markup.proofs.CharLemmas.{classes}
+use Rattle.markup.proofs.PlainCharacters.{referred_is_xml, blank_is_xml}
 use Rattle.fragments.specs.Plain.{IsPart}
 
 all_names : (cs : List ℕ) → list_all is_name_char cs ≡ true → AllByRecursion IsNameChar cs
@@ -25,23 +26,6 @@ part_is (c ∷ cs) h = let p = and_parts _ _ h in record { first = c; others = c
 pub local_is_part : (n : Name) → is_name n ≡ true → IsPart (spelled_name n).local
 local_is_part (Plain l) h = part_is l h
 local_is_part (Prefixed p l) h = part_is l (and_parts _ _ h).1
-
-pub all_chars : (cs : List ℕ) → list_all is_xml_char cs ≡ true → AllByRecursion IsXmlChar cs
-all_chars [] h = tt
-all_chars (c ∷ cs) h = let p = and_parts _ _ h in ((classes.xml c).0 p.0, all_chars cs p.1)
-
-pub referred_is_xml : (r : Reference) → is_reference r ≡ true → is_xml_char (referred_character r) ≡ true
-unfolding is_xml_char
-referred_is_xml (Named Ampersand) h = refl
-referred_is_xml (Named Less) h = refl
-referred_is_xml (Named Greater) h = refl
-referred_is_xml (Named Apostrophe) h = refl
-referred_is_xml (Named Quote) h = refl
-referred_is_xml (Numbered radix digits) h = (and_parts _ _ h).1
-
-blank_is_xml : is_xml_char 32 ≡ true
-unfolding is_xml_char
-blank_is_xml = refl
 
 pub line_feed_is_xml : is_xml_char 10 ≡ true
 unfolding is_xml_char

@@ -10,18 +10,19 @@ use Rattle.std.proofs.lemmas.Bool.{cases_Bool, true≢false, and_parts, or_parts
 use Rattle.std.proofs.lemmas.Option.{same_Some}
 use Rattle.lexical_core.specs.Characters.{IsXmlText}
 use Rattle.lexical_core.specs.Tree.{Expanded, Entry}
+use Rattle.lexical_core.specs.Names.{name_cmp, xml_namespace, xmlns_namespace, xmlns}
+use Rattle.lexical_core.proofs.EqualBytes.{equal_bytes, bytes_equal}
 use Rattle.markup.specs.Attribute.{Attribute, is_attribute}
 use Rattle.markup.specs.Chars.{is_xml_char}
 use Rattle.markup.specs.declared.tag.Spelled.{Spelled}
 use Rattle.markup.specs.declared.tag.Given.{Given}
 use Rattle.markup.specs.declared.tag.Opening.{Opening}
 use Rattle.markup.specs.Events.{given_attribute, declared_prefix, same_prefix, bound_by, namespace_of, expanded_in, element_name, attribute_name, entries, put, put_named}
-use Rattle.lexical_core.specs.Names.{name_cmp, xml_namespace, xmlns_namespace, xmlns}
 use Rattle.markup.specs.Faults.{is_bad_declaration, is_bad_attribute}
 use Rattle.markup.proofs.AttributeLemmas.{attribute_facts}
+use Rattle.markup.proofs.PlainCharacters.{all_chars}
 use Rattle.fragments.specs.Plain.{IsPart, IsPlainName, IsPlainEntry}
-use Rattle.respell.proofs.Prefixes.{same_bytes, bytes_same}
-use Rattle.respell.proofs.PlainParts.{local_is_part, value_is_text, all_chars}
+use Rattle.respell.proofs.PlainParts.{local_is_part, value_is_text}
 
 -- an attribute or a declaration of a tag that breaks no rule
 pub record IsSound (g : Given) : Type 0 where
@@ -44,8 +45,8 @@ declared_is prefix n t f =
     let last = or_parts _ (not (bytes_eq prefix []) && bytes_eq n []) f in
     let reserved = or_parts _ (bytes_eq n xmlns_namespace) last.0 in record {
       text = t;
-      other = λ e. absurd (true≢false (sym (same_bytes n xmlns_namespace e) ∙ reserved.1));
-      some = λ h e. absurd (true≢false (sym (ap₂ (λ (a b : Bool). not a && b) h (same_bytes n [] e)) ∙ last.1));
+      other = λ e. absurd (true≢false (sym (bytes_equal n xmlns_namespace e) ∙ reserved.1));
+      some = λ h e. absurd (true≢false (sym (ap₂ (λ (a b : Bool). not a && b) h (bytes_equal n [] e)) ∙ last.1));
     }
 
 bound_is : (gs : List Given) (prefix n : List ℕ) → AllByRecursion IsSound gs → bound_by gs prefix ≡ Some n → IsNamespace prefix n
@@ -56,7 +57,7 @@ bound_is (a ∷ gs) prefix n h e = step (declared_prefix a.name) a.value (bound_
     step None v o t f k e = k e
     step (Some q) v o t f k e = elim (cases_Bool (bytes_eq q prefix)) [
       | inl y ↦ (let same : Some v ≡ Some n = sym (ap (λ (b : Bool). if b then Some v else o) y) ∙ e in
-          subst (λ (p : List ℕ). IsNamespace p n) (bytes_same q prefix y) (subst (λ (m : List ℕ). IsNamespace q m) (same_Some v n same) (declared_is q v t f)))
+          subst (λ (p : List ℕ). IsNamespace p n) (equal_bytes q prefix y) (subst (λ (m : List ℕ). IsNamespace q m) (same_Some v n same) (declared_is q v t f)))
       | inr z ↦ k (sym (ap (λ (b : Bool). if b then Some v else o) z) ∙ e)
     ]
 
@@ -68,7 +69,7 @@ unfolding is_xml_char lib.Utf8.encode
 xml_text = (xml_namespace, all_chars xml_namespace refl, refl)
 
 xml_is : (prefix : List ℕ) → IsNamespace prefix xml_namespace
-xml_is prefix = record { text = xml_text; other = λ e. absurd (let h : bytes_eq xml_namespace xmlns_namespace ≡ true = same_bytes _ _ e in true≢false (sym h)); some = λ h e. absurd cc }
+xml_is prefix = record { text = xml_text; other = λ e. absurd (let h : bytes_eq xml_namespace xmlns_namespace ≡ true = bytes_equal _ _ e in true≢false (sym h)); some = λ h e. absurd cc }
 
 namespace_is : (tags : List Opening) (prefix n : List ℕ) → AllByRecursion IsSoundTag tags → namespace_of tags prefix ≡ Some n → IsNamespace prefix n
 namespace_is [] prefix n h e = elim (cases_Bool (bytes_eq prefix [])) [
@@ -92,10 +93,10 @@ namespace_is (tag ∷ tags) prefix n h e = step (bound_by tag.given prefix) (nam
 xml_declared : (d : Option (List ℕ)) (v : List ℕ) → is_bad_declaration d v ≡ false → same_prefix d (codes "xml") ≡ true → v ≡ xml_namespace
 xml_declared None v f h = absurd cc
 xml_declared (Some q) v f h =
-    let name : q ≡ codes "xml" = bytes_same q (codes "xml") h in
+    let name : q ≡ codes "xml" = equal_bytes q (codes "xml") h in
     let same : is_bad_declaration (Some (codes "xml")) v ≡ false = ap (λ (p : List ℕ). is_bad_declaration (Some p) v) (sym name) ∙ f in
     let first = or_parts (bytes_eq (codes "xml") xmlns) (not (bytes_eq v xml_namespace)) (or_parts _ (bytes_eq v xmlns_namespace) (or_parts _ (not (bytes_eq (codes "xml") []) && bytes_eq v []) same).0).0 in
-    bytes_same v xml_namespace (turned (bytes_eq v xml_namespace) first.1)
+    equal_bytes v xml_namespace (turned (bytes_eq v xml_namespace) first.1)
   where
     turned : (b : Bool) → not b ≡ false → b ≡ true
     turned true h = refl
@@ -126,7 +127,7 @@ element_is_plain tags s name h p e = step (namespace_of tags s.prefix) (λ n is.
 -- without a prefix it is no declaration of the default
 no_default : (s : Spelled) → bytes_eq s.prefix [] ≡ true → declared_prefix s ≡ None → s.local ≢ xmlns
 no_default s y none l =
-    let some : declared_prefix s ≡ Some [] = ap₂ (λ (p l : List ℕ). declared_prefix (record { prefix = p; local = l })) (bytes_same s.prefix [] y) l in
+    let some : declared_prefix s ≡ Some [] = ap₂ (λ (p l : List ℕ). declared_prefix (record { prefix = p; local = l })) (equal_bytes s.prefix [] y) l in
     absurd cc
 
 attribute_is_plain : (tags : List Opening) (s : Spelled) (value : List ℕ) (name : Expanded) → AllByRecursion IsSoundTag tags → IsPart s.local → IsXmlText value → declared_prefix s ≡ None → attribute_name tags s ≡ Some name

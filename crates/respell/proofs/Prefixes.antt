@@ -1,26 +1,15 @@
 -- The prefixes `a1`, `a2` and so on.
-use Rattle.std.proofs.Common.{◌≡◌, ℕ, ◌+◌, ◌-◌, ◌<◌, inl, inr, true, false, List, [], ◌∷◌, ◌++◌, map, refl, sym, ap, ap₂, ◌∙◌, arith}
+use Rattle.std.proofs.Common.{◌≡◌, ℕ, ◌+◌, ◌-◌, ◌<◌, inl, inr, false, List, [], ◌∷◌, ◌++◌, map, refl, sym, ap, ap₂, ◌∙◌, arith}
 use Rattle.std.specs.Prelude.{encode_utf8_all}
 use Rattle.std.specs.List.{AllByRecursion}
 use Rattle.std.specs.Str.{bytes_eq}
 use Rattle.std.specs.Int.Digits.{digits_of, number_from_digits, AllBelowBase}
 use Rattle.std.proofs.lemmas.Int.Digits.{number_digits_of, all_below_base_digits_of}
-use Rattle.std.proofs.lemmas.Bool.{cases_Bool}
-use Rattle.std.proofs.lemmas.Slice.Eq.{bytes_eq-Decides}
 use Rattle.std.proofs.lemmas.Str.{encode_ascii}
 use Rattle.lexical_core.specs.Characters.{IsNameChar}
+use Rattle.lexical_core.proofs.EqualBytes.{other_bytes}
 use Rattle.fragments.specs.Plain.{IsPart}
 use Rattle.fragments.specs.Fragment.{prefix_of}
-
--- equal lists are told to be equal, and no others
-pub same_bytes : (a b : List ℕ) → a ≡ b → bytes_eq a b ≡ true
-same_bytes a b h = (bytes_eq-Decides a b).1 h
-
-pub bytes_same : (a b : List ℕ) → bytes_eq a b ≡ true → a ≡ b
-bytes_same a b h = (bytes_eq-Decides a b).0 h
-
-pub other_bytes : (a b : List ℕ) → (a ≡ b → ⊥) → bytes_eq a b ≡ false
-other_bytes a b h = elim (cases_Bool (bytes_eq a b)) [ inl t ↦ absurd (h (bytes_same a b t)) | inr f ↦ f ]
 
 unshift : (ds : List ℕ) → map (λ (c : ℕ). c - 48) (map (λ (d : ℕ). 48 + d) ds) ≡ ds
 unshift [] = refl

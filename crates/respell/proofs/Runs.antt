@@ -1,24 +1,15 @@
 -- Runs of tokens that stand whatever follows them.
-use Rattle.std.proofs.Common.{◌≡◌, ℕ, ◌+◌, true, List, [], ◌∷◌, ◌++◌, length, map, ◌≤◌, refl, sym, ap, ap₂, subst, ◌∙◌, append_assoc}
+use Rattle.std.proofs.Common.{◌≡◌, ℕ, ◌+◌, true, List, [], ◌∷◌, ◌++◌, length, ◌≤◌, refl, sym, ap, ap₂, subst, ◌∙◌, append_assoc}
 use Rattle.std.specs.Prelude.{◌↔◌, nat_le}
 use Rattle.std.specs.List.{flat_map, AllByRecursion}
 use Rattle.std.proofs.lemmas.Bool.{le-leb, leb-true}
 use Rattle.lexical_core.specs.Tree.{Item}
 use Rattle.markup.specs.Token.{Token, token_bytes}
 use Rattle.markup.specs.Marks.{stands, Front, is_short}
-use Rattle.markup.specs.Events.{items_of, Placed, events}
+use Rattle.markup.specs.Events.{items_of}
 use Rattle.markup.specs.Faults.{IsClean}
+use Rattle.markup.proofs.TokensBehind.{items_in, tokens_behind}
 use Rattle.respell.proofs.Lists.{flat_map-append}
-use Rattle.respell.proofs.Resolving.{map-append}
-
--- the tokens behind more, the latest first
-abbrev pub behind : List Token → List Token → List Token
-behind before [] = before
-behind before (t ∷ ts) = behind (t ∷ before) ts
-
-abbrev pub items_in : List Token → List Token → List Item
-items_in before [] = []
-items_in before (t ∷ ts) = items_of before t ++ items_in (t ∷ before) ts
 
 -- each stands in its place, whatever follows
 abbrev pub AllStand : List Token → List Token → Type 0
@@ -33,26 +24,26 @@ pub record Runs (before : List Token) (items : List Item) (text : List ℕ) : Ty
   pub clean : IsClean before tokens
   pub told : items_in before tokens ≡ items
 
-pub behind-append : (before ts us : List Token) → behind before (ts ++ us) ≡ behind (behind before ts) us
+pub behind-append : (before ts us : List Token) → tokens_behind before (ts ++ us) ≡ tokens_behind (tokens_behind before ts) us
 behind-append before [] us = refl
 behind-append before (t ∷ ts) us = behind-append (t ∷ before) ts us
 
-pub items-append : (before ts us : List Token) → items_in before (ts ++ us) ≡ items_in before ts ++ items_in (behind before ts) us
+pub items-append : (before ts us : List Token) → items_in before (ts ++ us) ≡ items_in before ts ++ items_in (tokens_behind before ts) us
 items-append before [] us = refl
-items-append before (t ∷ ts) us = ap (λ (l : List Item). items_of before t ++ l) (items-append (t ∷ before) ts us) ∙ sym (append_assoc (items_of before t) (items_in (t ∷ before) ts) (items_in (behind (t ∷ before) ts) us))
+items-append before (t ∷ ts) us = ap (λ (l : List Item). items_of before t ++ l) (items-append (t ∷ before) ts us) ∙ sym (append_assoc (items_of before t) (items_in (t ∷ before) ts) (items_in (tokens_behind (t ∷ before) ts) us))
 
-pub stand-append : (before ts us : List Token) → AllStand before ts → AllStand (behind before ts) us → AllStand before (ts ++ us)
+pub stand-append : (before ts us : List Token) → AllStand before ts → AllStand (tokens_behind before ts) us → AllStand before (ts ++ us)
 stand-append before [] us h g = g
 stand-append before (t ∷ ts) us h g = (h.0, stand-append (t ∷ before) ts us h.1 g)
 
-pub clean-append : (before ts us : List Token) → IsClean before ts → IsClean (behind before ts) us → IsClean before (ts ++ us)
+pub clean-append : (before ts us : List Token) → IsClean before ts → IsClean (tokens_behind before ts) us → IsClean before (ts ++ us)
 clean-append before [] us h g = g
 clean-append before (t ∷ ts) us h g = (h.0, clean-append (t ∷ before) ts us h.1 g)
 
 pub tokens-append : (ts us : List Token) → flat_map token_bytes (ts ++ us) ≡ flat_map token_bytes ts ++ flat_map token_bytes us
 tokens-append ts us = flat_map-append token_bytes ts us
 
-abbrev pub runs-append : (before : List Token) (is js : List Item) (s t : List ℕ) (r : Runs before is s) → Runs (behind before r.tokens) js t → Runs before (is ++ js) (s ++ t)
+abbrev pub runs-append : (before : List Token) (is js : List Item) (s t : List ℕ) (r : Runs before is s) → Runs (tokens_behind before r.tokens) js t → Runs before (is ++ js) (s ++ t)
 runs-append before is js s t r q = record {
   tokens = r.tokens ++ q.tokens;
   bytes = tokens-append r.tokens q.tokens ∙ ap₂ (λ (x y : List ℕ). x ++ y) r.bytes q.bytes;
@@ -70,16 +61,6 @@ runs_front limit before (t ∷ ts) rest h s = (
   s.0,
   runs_front limit (t ∷ before) ts rest h.1 s.1,
 )
-
--- the events without their places
-pub events_items : (before : List Token) (place : ℕ) (ts : List Token) → map (λ (p : Placed). p.item) (events before place ts) ≡ items_in before ts
-events_items before place [] = refl
-events_items before place (t ∷ ts) = map-append (λ (p : Placed). p.item) (map (λ i. record { place = place; item = i }) (items_of before t)) (events (t ∷ before) (place + length (token_bytes t)) ts)
-    ∙ ap₂ (λ (x y : List Item). x ++ y) (unplaced place (items_of before t)) (events_items (t ∷ before) (place + length (token_bytes t)) ts)
-  where
-    unplaced : (place : ℕ) (is : List Item) → map (λ (p : Placed). p.item) (map (λ (i : Item). record { place = place; item = i }) is) ≡ is
-    unplaced place [] = refl
-    unplaced place (i ∷ is) = ap (λ (l : List Item). i ∷ l) (unplaced place is)
 
 -- ---- how long their tags are
 

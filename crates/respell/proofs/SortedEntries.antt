@@ -8,6 +8,7 @@ use Rattle.std.specs.declared.cmp.Ordering.TheVariants.{Less, Equal, Greater}
 use Rattle.std.proofs.lemmas.Bool.{or_parts}
 use Rattle.lexical_core.specs.Tree.{Expanded, Entry}
 use Rattle.lexical_core.proofs.StableSort.{Climbs, NoneLess, climbs-sorted}
+use Rattle.lexical_core.specs.Names.{name_cmp}
 use Rattle.markup.specs.declared.tag.Given.{Given}
 use Rattle.markup.specs.declared.tag.Opening.{Opening}
 use Rattle.markup.specs.Events.{declared_prefix, attribute_name, entries, put, put_named}
@@ -15,7 +16,6 @@ use Rattle.markup.specs.Faults.{clash, has_clash, same_declared, same_expanded}
 use Rattle.markup.specs.inner.TagParts.{is_named, sorted_entries}
 use Rattle.markup.proofs.Twins.{by_name, entries_total, any-put, any_twins, any_twins-put, sorted_same, tied_named}
 use Rattle.fragments.specs.Plain.{AreSortedEntries}
-use Rattle.lexical_core.specs.Names.{name_cmp}
 
 -- ---- in order
 

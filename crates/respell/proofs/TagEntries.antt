@@ -5,21 +5,22 @@ use Rattle.std.specs.Str.{bytes_eq}
 use Rattle.std.specs.declared.cmp.Ordering.{Ordering}
 use Rattle.std.specs.declared.cmp.Ordering.TheVariants.{Less}
 use Rattle.std.proofs.lemmas.Bool.{cases_Bool}
-use Rattle.lexical_core.specs.Tree.{Expanded, Entry}
-use Rattle.markup.specs.declared.tag.Given.{Given}
-use Rattle.markup.specs.declared.tag.Opening.{Opening}
-use Rattle.markup.specs.Events.{attribute_name, entries, put}
-use Rattle.fragments.specs.Plain.{ArePlainEntries}
-use Rattle.lexical_core.specs.Names.{name_cmp}
-use Rattle.fragments.specs.Fragment.{Written, is_xml, is_default, default_declaration, namespaces_of, numbered_declarations, attribute_written, tag_contents}
-use Rattle.respell.proofs.Attributes.{given_as}
-use Rattle.respell.proofs.Prefixes.{bytes_same}
-use Rattle.respell.proofs.Resolving.{map-append, no_declaration}
 use Rattle.std.proofs.lemmas.Bool.Decides.{nat_tests}
 use Rattle.std.specs.Ordering.{nat_cmp}
 use Rattle.std.specs.Cmp.Lexicographic.{slice_cmp}
 use Rattle.std.specs.declared.cmp.Ordering.TheVariants.{Equal, Greater}
+use Rattle.std.proofs.lemmas.List.{map-append}
+use Rattle.lexical_core.specs.Tree.{Expanded, Entry}
+use Rattle.lexical_core.specs.Names.{name_cmp}
+use Rattle.lexical_core.proofs.EqualBytes.{equal_bytes}
+use Rattle.markup.specs.declared.tag.Given.{Given}
+use Rattle.markup.specs.declared.tag.Opening.{Opening}
+use Rattle.markup.specs.Events.{attribute_name, entries, put}
 use Rattle.markup.specs.Faults.{same_expanded}
+use Rattle.fragments.specs.Plain.{ArePlainEntries}
+use Rattle.fragments.specs.Fragment.{Written, is_xml, is_default, default_declaration, namespaces_of, numbered_declarations, attribute_written, tag_contents}
+use Rattle.respell.proofs.Attributes.{given_as}
+use Rattle.respell.proofs.Resolving.{no_declaration}
 use Rattle.respell.proofs.TagNames.{opening_of, Knows, attribute_is, IsOneOf}
 
 cmp_self : (n : ℕ) → nat_cmp n n ≡ Equal
@@ -38,7 +39,7 @@ less_other a b h = elim (cases_Bool (bytes_eq a.namespace b.namespace)) as (λ _
   | inr f ↦ rw f refl
   | inl t ↦ rw t (elim (cases_Bool (bytes_eq a.local b.local)) [
     | inr f ↦ f
-    | inl u ↦ absurd (let same : a ≡ b = ap₂ (λ (x y : List ℕ). record { namespace = x; local = y }) (bytes_same _ _ t) (bytes_same _ _ u) in
+    | inl u ↦ absurd (let same : a ≡ b = ap₂ (λ (x y : List ℕ). record { namespace = x; local = y }) (equal_bytes _ _ t) (equal_bytes _ _ u) in
         let e : name_cmp a b ≡ Equal = subst (λ (c : Expanded). name_cmp a c ≡ Equal) same (order_self a) in
         let z : Less ≡ Equal = sym h ∙ e in cc)
   ])

@@ -6,18 +6,19 @@ use Rattle.std.specs.Option.{option_or}
 use Rattle.std.specs.Str.{bytes_eq}
 use Rattle.std.proofs.lemmas.Bool.{cases_Bool, true≢false}
 use Rattle.std.proofs.lemmas.Option.{same_Some}
+use Rattle.std.proofs.lemmas.List.{map-append}
 use Rattle.lexical_core.specs.Tree.{Expanded, Entry}
+use Rattle.lexical_core.specs.Names.{xml_namespace, xmlns}
+use Rattle.lexical_core.proofs.EqualBytes.{equal_bytes}
 use Rattle.markup.specs.declared.tag.Given.{Given}
 use Rattle.markup.specs.declared.tag.Opening.{Opening}
 use Rattle.markup.specs.Events.{bound_by, namespace_of, element_name, attribute_name, expanded_in}
 use Rattle.markup.proofs.Lookups.{bound_by-append}
 use Rattle.fragments.specs.Plain.{IsPlainEntry}
-use Rattle.lexical_core.specs.Names.{xml_namespace, xmlns}
 use Rattle.fragments.specs.Fragment.{Written, is_xml, element_spelling, is_default, default_within, default_declaration, needs_none, before_others, namespaces_of, prefix_of, numbered_declarations, number_among, attribute_prefix, attribute_written, tag_contents}
 use Rattle.respell.proofs.Names.{read_as}
 use Rattle.respell.proofs.Attributes.{given_as}
-use Rattle.respell.proofs.Prefixes.{bytes_same}
-use Rattle.respell.proofs.Resolving.{map-append, unbound, bound_none, IsAmong, bound_number}
+use Rattle.respell.proofs.Resolving.{unbound, bound_none, IsAmong, bound_number}
 
 -- the start tag as it is read
 abbrev pub opening_of : Option (List ℕ) → Expanded → List Entry → Opening
@@ -78,7 +79,7 @@ xml_stays default name attributes tags h k =
 -- the default within an element
 pub is_default_some : (default : Option (List ℕ)) (n : List ℕ) → is_default default n ≡ true → default ≡ Some n
 is_default_some None n h = absurd (true≢false (sym h))
-is_default_some (Some d) n h = ap (λ (l : List ℕ). Some l) (bytes_same d n h)
+is_default_some (Some d) n h = ap (λ (l : List ℕ). Some l) (equal_bytes d n h)
 
 plain_bound : (default : Option (List ℕ)) (name : Expanded) (attributes : List Entry) → AllByRecursion IsPlainEntry attributes
     → bound_by (map given_as (tag_contents default name attributes)) [] ≡ bound_by (map given_as (default_declaration default name)) []
@@ -107,7 +108,7 @@ pub element_is : (default : Option (List ℕ)) (name : Expanded) (attributes : L
 element_is default name attributes tags h k = elim (cases_Bool (is_xml name.namespace)) as (λ _. element_name (opening_of default name attributes ∷ tags) (read_as (element_spelling name)) ≡ Some name) [
   | inl x ↦ (let p : (if is_xml name.namespace then codes "xml" else []) ≡ codes "xml" = rw x refl in
       ap (λ (q : List ℕ). element_name (opening_of default name attributes ∷ tags) (record { prefix = q; local = name.local })) p
-      ∙ (ap (λ (o : Option (List ℕ)). expanded_in o name.local) (xml_stays default name attributes tags h k) ∙ ap (λ (n : List ℕ). Some (record { namespace = n; local = name.local })) (sym (bytes_same _ _ x))))
+      ∙ (ap (λ (o : Option (List ℕ)). expanded_in o name.local) (xml_stays default name attributes tags h k) ∙ ap (λ (n : List ℕ). Some (record { namespace = n; local = name.local })) (sym (equal_bytes _ _ x))))
   | inr x ↦ (let p : (if is_xml name.namespace then codes "xml" else []) ≡ [] = rw x refl in
       let d : default_within default name ≡ Some name.namespace = rw x refl in
       ap (λ (q : List ℕ). element_name (opening_of default name attributes ∷ tags) (record { prefix = q; local = name.local })) p
@@ -125,7 +126,7 @@ among_before n m (x ∷ nss) h = elim (cases_Bool (bytes_eq m x)) as (λ _. IsAm
 among_first : (n : List ℕ) (nss : List (List ℕ)) → IsAmong n (before_others n nss)
 among_first n [] = inl refl
 among_first n (x ∷ nss) = elim (cases_Bool (bytes_eq n x)) as (λ _. IsAmong n (before_others n (x ∷ nss))) [
-  | inl t ↦ rw t (inl (sym (bytes_same n x t)))
+  | inl t ↦ rw t (inl (sym (equal_bytes n x t)))
   | inr f ↦ rw f (inl refl)
 ]
 
@@ -150,9 +151,9 @@ attribute_is default name attributes tags e h k one =
     let named : (q : List ℕ) → attribute_prefix nss e.name.namespace ≡ q → attribute_name (op ∷ tags) (given_as (attribute_written nss e)).name ≡ attribute_name (op ∷ tags) (record { prefix = q; local = e.name.local })
     = λ q p. ap (λ (r : List ℕ). attribute_name (op ∷ tags) (record { prefix = r; local = e.name.local })) p in
     elim (cases_Bool (bytes_eq e.name.namespace [])) as (λ _. attribute_name (op ∷ tags) (given_as (attribute_written nss e)).name ≡ Some e.name) [
-      | inl t ↦ named [] (rw t refl) ∙ ap (λ (n : List ℕ). Some (record { namespace = n; local = e.name.local })) (sym (bytes_same _ _ t))
+      | inl t ↦ named [] (rw t refl) ∙ ap (λ (n : List ℕ). Some (record { namespace = n; local = e.name.local })) (sym (equal_bytes _ _ t))
       | inr f ↦ elim (cases_Bool (is_xml e.name.namespace)) as (λ _. attribute_name (op ∷ tags) (given_as (attribute_written nss e)).name ≡ Some e.name) [
-        | inl x ↦ named (codes "xml") (rw (f, x) refl) ∙ (ap (λ (o : Option (List ℕ)). expanded_in o e.name.local) (xml_stays default name attributes tags h k) ∙ ap (λ (n : List ℕ). Some (record { namespace = n; local = e.name.local })) (sym (bytes_same _ _ x)))
+        | inl x ↦ named (codes "xml") (rw (f, x) refl) ∙ (ap (λ (o : Option (List ℕ)). expanded_in o e.name.local) (xml_stays default name attributes tags h k) ∙ ap (λ (n : List ℕ). Some (record { namespace = n; local = e.name.local })) (sym (equal_bytes _ _ x)))
         | inr x ↦ (let q = prefix_of (number_among 1 nss e.name.namespace) in
             let bound : bound_by (map given_as (tag_contents default name attributes)) q ≡ Some e.name.namespace =
             given_binds default name attributes q h ∙ ap₂ (λ (u v : Option (List ℕ)). option_or u v) (default_binds default name 97 _) (bound_number 1 nss e.name.namespace (among_all e attributes (rw (f, x) refl) one)) in

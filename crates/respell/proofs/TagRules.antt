@@ -5,18 +5,19 @@ use Rattle.std.specs.Str.{bytes_eq}
 use Rattle.std.specs.declared.cmp.Ordering.TheVariants.{Less}
 use Rattle.std.proofs.lemmas.Bool.{cases_Bool, true≢false}
 use Rattle.lexical_core.specs.Tree.{Expanded, Entry}
+use Rattle.lexical_core.specs.Names.{name_cmp, xmlns, xmlns_namespace}
+use Rattle.lexical_core.specs.Characters.{IsXmlText}
+use Rattle.lexical_core.proofs.EqualBytes.{bytes_equal, other_bytes}
 use Rattle.markup.specs.declared.tag.Spelled.{Spelled}
 use Rattle.markup.specs.declared.tag.Given.{Given}
 use Rattle.markup.specs.declared.tag.Opening.{Opening}
 use Rattle.markup.specs.Events.{declared_prefix, attribute_name}
+use Rattle.markup.specs.Faults.{clash, has_clash, is_bad_attribute, start_rule}
 use Rattle.fragments.specs.Plain.{IsPlainName, IsPlainEntry, ArePlainEntries}
-use Rattle.lexical_core.specs.Names.{name_cmp, xmlns, xmlns_namespace}
 use Rattle.fragments.specs.Fragment.{is_xml, is_default, default_declaration, needs_none, before_others, namespaces_of, prefix_of, numbered_declarations, attribute_written, tag_contents}
 use Rattle.respell.proofs.Attributes.{given_as}
-use Rattle.respell.proofs.Prefixes.{same_bytes, other_bytes, other_prefix}
+use Rattle.respell.proofs.Prefixes.{other_prefix}
 use Rattle.respell.proofs.Resolving.{no_declaration}
-use Rattle.lexical_core.specs.Characters.{IsXmlText}
-use Rattle.markup.specs.Faults.{clash, has_clash, is_bad_attribute, start_rule}
 use Rattle.respell.proofs.TagNames.{opening_of, Knows, element_is, attribute_is, IsOneOf}
 use Rattle.respell.proofs.TagEntries.{less_other, given_three}
 
@@ -89,7 +90,7 @@ clash_declared tags k (n ∷ nss) all es p h =
     rw any (clash_declared tags (k + 1) nss all es p h)
   where
     other_prefix_up : (k j : ℕ) → k < j → bytes_eq (prefix_of j) (prefix_of k) ≡ false
-    other_prefix_up k j lt = other_bytes (prefix_of j) (prefix_of k) (λ e. absurd (true≢false (sym (same_bytes _ _ (sym e)) ∙ other_prefix k j lt)))
+    other_prefix_up k j lt = other_bytes (prefix_of j) (prefix_of k) (λ e. absurd (true≢false (sym (bytes_equal _ _ (sym e)) ∙ other_prefix k j lt)))
 
 clash_default : (tags : List Opening) (default : Option (List ℕ)) (name : Expanded) (nss all : List (List ℕ)) (es : List Entry) → AllByRecursion IsPlainEntry es
     → has_clash tags (map given_as (numbered_declarations 1 nss) ++ map given_as (map (attribute_written all) es)) ≡ false

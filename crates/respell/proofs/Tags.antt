@@ -4,6 +4,7 @@ use Rattle.std.specs.Prelude.{◌↔◌, codes, encode_utf8, encode_utf8_all}
 use Rattle.std.specs.List.{flat_map}
 use Rattle.std.proofs.lemmas.Str.{encodes-append}
 use Rattle.lexical_core.specs.Tree.{Expanded, Entry, Starts, Ends}
+use Rattle.lexical_core.proofs.EqualBytes.{bytes_equal}
 use Rattle.markup.specs.declared.tag.Spelled.{Spelled}
 use Rattle.markup.specs.declared.tag.Given.{Given}
 use Rattle.markup.specs.declared.tag.Opening.{Opening}
@@ -19,7 +20,6 @@ use Rattle.respell.proofs.Runs.{short_text}
 use Rattle.respell.proofs.Names.{name_of}
 use Rattle.respell.proofs.Attributes.{attributes_of}
 use Rattle.respell.proofs.Writable.{element_spells, contents_written}
-use Rattle.respell.proofs.Prefixes.{same_bytes}
 use Rattle.respell.proofs.TagNames.{opening_of, Knows, element_is}
 use Rattle.respell.proofs.TagEntries.{entries_are}
 use Rattle.respell.proofs.TagRules.{start_clean}
@@ -86,7 +86,7 @@ end_of before tags default name attributes cdata are k p q =
       bytes = b;
       short = λ limit. short_text limit (token_bytes (End n.name [])) (end_text name) b;
       stand = λ rest. rw (cdata, n.is) refl;
-      rule = rw (n.reads, are, same_bytes (element_spelling name).prefix (element_spelling name).prefix refl, same_bytes name.local name.local refl) refl;
+      rule = rw (n.reads, are, bytes_equal (element_spelling name).prefix (element_spelling name).prefix refl, bytes_equal name.local name.local refl) refl;
       items = rw are (rw (element_is default name attributes tags q.0 k) refl);
       tags_are = ap (λ (l : List Opening). drop 1 l) are;
       cdata = refl;

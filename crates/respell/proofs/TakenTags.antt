@@ -4,12 +4,12 @@ use Rattle.std.specs.List.{AllByRecursion}
 use Rattle.std.proofs.lemmas.Bool.{or_right}
 use Rattle.std.proofs.lemmas.List.{reverse-append, reverse-reverse}
 use Rattle.lexical_core.specs.Tree.{Expanded, Item, Starts, Char, Ends, Skipped}
+use Rattle.lexical_core.proofs.EqualBytes.{bytes_equal}
 use Rattle.markup.specs.PlainTags.{innermost_namespace}
 use Rattle.fragments.specs.Fragment.{is_xml, is_default, default_within, element_spelling, spelling_text, start_text, end_text}
 use Rattle.respell.specs.Respelling.{nearest, defaults_behind}
 use Rattle.respell.specs.Kept.{KeepsDefaults, HasDefaults, HasWritten, IsInDefault, opened_by, own_defaults}
 use Rattle.respell.specs.declared.respell.Respell.{Respell}
-use Rattle.respell.proofs.Prefixes.{same_bytes}
 use Rattle.respell.proofs.KeptLemmas.{nearest_last, kept_same, last_text, taken_more, own_end}
 
 -- ---- no default is the namespace of `xml`
@@ -56,7 +56,7 @@ name_text : (n : Expanded) → is_xml n.namespace ≡ false → spelling_text (e
 name_text n h = rw h refl
 
 start_plain : (default : Option (List ℕ)) (n : Expanded) → default ≡ Some n.namespace → is_xml n.namespace ≡ false → start_text default n [] ≡ 60 ∷ (n.local ++ 62 ∷ [])
-start_plain default n e h = ap (λ (d : Option (List ℕ)). start_text d n []) e ∙ rw (h, same_bytes n.namespace n.namespace refl) refl
+start_plain default n e h = ap (λ (d : Option (List ℕ)). start_text d n []) e ∙ rw (h, bytes_equal n.namespace n.namespace refl) refl
 
 end_plain : (n : Expanded) → is_xml n.namespace ≡ false → end_text n ≡ 60 ∷ 47 ∷ (n.local ++ 62 ∷ [])
 end_plain n h = rw h refl
@@ -67,7 +67,7 @@ three old t1 t2 t3 a b e1 e2 e3 =
 
 default_kept : (declared : List (List ℕ)) (old new : List Bool) (ds : List (Option (List ℕ))) (n : Expanded) → new ≡ old ++ false ∷ [] → nearest ds ≡ Some n.namespace → KeepsDefaults declared (reverse old) ds
     → KeepsDefaults declared (reverse new) (default_within (nearest ds) n ∷ ds)
-default_kept declared old new ds n pushed near h = kept_same declared old new ds n pushed (or_right (is_xml n.namespace) (is_default (nearest ds) n.namespace) (ap (λ (d : Option (List ℕ)). is_default d n.namespace) near ∙ same_bytes n.namespace n.namespace refl)) h
+default_kept declared old new ds n pushed near h = kept_same declared old new ds n pushed (or_right (is_xml n.namespace) (is_default (nearest ds) n.namespace) (ap (λ (d : Option (List ℕ)). is_default d n.namespace) near ∙ bytes_equal n.namespace n.namespace refl)) h
 
 pub plain_start : (r q : Respell) (forgotten : List ℕ) (items : List Item) (n : Expanded) (local t1 t2 : List ℕ) → n.local ≡ local → HasWritten r forgotten items → IsInDefault r n.namespace → t1 ≡ r.text ++ 60 ∷ [] → t2 ≡ t1 ++ local → q.text ≡ t2 ++ 62 ∷ []
     → q.defaults ≡ r.defaults → q.declares.items ≡ r.declares.items ++ false ∷ [] → q.failed ≡ r.failed → q.prefixed ≡ r.prefixed → HasWritten q forgotten (items ++ Starts n [] ∷ [])

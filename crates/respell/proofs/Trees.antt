@@ -1,19 +1,20 @@
 -- A fragment, as tokens: they are clean, and their events are those of the tree.
 use Rattle.std.proofs.Common.{◌≡◌, ℕ, Bool, true, false, ◌==◌, ◌&&◌, ◌≤◌, List, [], ◌∷◌, ◌++◌, length, refl, sym, ap, subst, ◌∙◌, Option, None, Some, arith, append_assoc, append-nil}
 use Rattle.std.proofs.lemmas.Bool.Decides.{nat_tests}
+use Rattle.std.specs.Prelude.{◌↔◌, codes}
 use Rattle.lexical_core.specs.Tree.{Expanded, Entry, Item, Starts, Char, Ends, Nodes, Nothing, Element, Text, Tree, flat_nodes, flat}
 use Rattle.lexical_core.specs.Escapes.{escape_of}
+use Rattle.lexical_core.specs.Names.{xml_namespace}
 use Rattle.markup.specs.declared.tag.Opening.{Opening}
 use Rattle.markup.specs.Token.{Token, token_bytes}
 use Rattle.markup.specs.Marks.{stands, in_cdata}
-use Rattle.std.specs.Prelude.{◌↔◌, codes}
 use Rattle.markup.specs.Events.{items_of, open_tags, namespace_of}
 use Rattle.markup.specs.Faults.{rule_of, is_over, is_outside, has_start}
 use Rattle.markup.proofs.CharLemmas.{classes}
+use Rattle.markup.proofs.TokensBehind.{tokens_behind}
 use Rattle.fragments.specs.Plain.{IsPlainName, ArePlainEntries, ArePlain, IsPlain}
-use Rattle.lexical_core.specs.Names.{xml_namespace}
 use Rattle.fragments.specs.Fragment.{default_within, start_text, end_text, nodes_text, fragment}
-use Rattle.respell.proofs.Runs.{behind, behind-append, Runs, runs-append, AllShort, short-append, short_parts}
+use Rattle.respell.proofs.Runs.{behind-append, Runs, runs-append, AllShort, short-append, short_parts}
 use Rattle.respell.specs.ShortTags.{HaveShortTags}
 use Rattle.respell.proofs.Chars.{IsInside, token_of}
 use Rattle.respell.proofs.Tags.{start_of, end_of}
@@ -22,8 +23,8 @@ use Rattle.respell.proofs.TagNames.{opening_of, Knows, knows_none, knows_within}
 -- a run behind which the same elements are open; of each length it says whether no tag is longer
 pub record Stays (before : List Token) (items : List Item) (text : List ℕ) (Short : ℕ → Type 0) : Type 0 where
   pub run : Runs before items text
-  pub tags : open_tags (behind before run.tokens) ≡ open_tags before
-  pub cdata : in_cdata (behind before run.tokens) ≡ in_cdata before
+  pub tags : open_tags (tokens_behind before run.tokens) ≡ open_tags before
+  pub cdata : in_cdata (tokens_behind before run.tokens) ≡ in_cdata before
   pub short : (limit : ℕ) → Short limit ↔ AllShort limit run.tokens
 
 pub stays_none : (before : List Token) → Stays before [] [] (λ limit. Unit {0})
@@ -53,12 +54,12 @@ element_stays before tags default name attributes items text Short cdata are ove
     let tags1 : open_tags (s.token ∷ before) ≡ opening_of default name attributes ∷ tags = s.tags ∙ ap (λ (l : List Opening). opening_of default name attributes ∷ l) are in
     let cdata1 : in_cdata (s.token ∷ before) ≡ false = s.cdata ∙ cdata in
     let r = inner (s.token ∷ before) cdata1 tags1 in
-    let before2 = behind (s.token ∷ before) r.run.tokens in
+    let before2 = tokens_behind (s.token ∷ before) r.run.tokens in
     let e = end_of before2 tags default name attributes (r.cdata ∙ cdata1) (r.tags ∙ tags1) k p q in
     let tail = runs-append (s.token ∷ before) items (Ends name ∷ []) text (end_text name) r.run (one_run before2 e.token (Ends name ∷ []) (end_text name) e.bytes e.stand e.rule e.items) in
     let whole = runs-append before (Starts name attributes ∷ []) (items ++ Ends name ∷ []) (start_text default name attributes) (text ++ end_text name)
     (one_run before s.token (Starts name attributes ∷ []) (start_text default name attributes) s.bytes s.stand s.rule s.items) tail in
-    let last : behind (s.token ∷ before) (r.run.tokens ++ e.token ∷ []) ≡ e.token ∷ before2 = behind-append (s.token ∷ before) r.run.tokens (e.token ∷ []) in
+    let last : tokens_behind (s.token ∷ before) (r.run.tokens ++ e.token ∷ []) ≡ e.token ∷ before2 = behind-append (s.token ∷ before) r.run.tokens (e.token ∷ []) in
     record {
       run = whole;
       tags = ap open_tags last ∙ (e.tags_are ∙ sym are);
@@ -69,7 +70,7 @@ element_stays before tags default name attributes items text Short cdata are ove
       );
     }
 
-pub stays-append : (before : List Token) (is js : List Item) (s t : List ℕ) (P Q : ℕ → Type 0) (r : Stays before is s P) → Stays (behind before r.run.tokens) js t Q → Stays before (is ++ js) (s ++ t) (λ limit. P limit × Q limit)
+pub stays-append : (before : List Token) (is js : List Item) (s t : List ℕ) (P Q : ℕ → Type 0) (r : Stays before is s P) → Stays (tokens_behind before r.run.tokens) js t Q → Stays before (is ++ js) (s ++ t) (λ limit. P limit × Q limit)
 stays-append before is js s t P Q r q =
     let last = behind-append before r.run.tokens q.run.tokens in record {
       run = runs-append before is js s t r.run q.run;
@@ -103,7 +104,7 @@ nodes_stay (Element name attributes children rest) before op tags default p cdat
     let within : Option (List ℕ) = default_within default name in
     let first = element_stays before (op ∷ tags) default name attributes (flat_nodes children) (nodes_text within children) (λ limit. HaveShortTags limit within children) cdata are (not_over before i.open_some) k p.0 p.1
     (λ inner c a. nodes_stay children inner (opening_of default name attributes) (op ∷ tags) within p.2 c a (knows_within default name attributes (op ∷ tags) p.1.0 k)) in
-    let more = nodes_stay rest (behind before first.run.tokens) op tags default p.3 (first.cdata ∙ cdata) (first.tags ∙ are) k in
+    let more = nodes_stay rest (tokens_behind before first.run.tokens) op tags default p.3 (first.cdata ∙ cdata) (first.tags ∙ are) k in
     retext before _ _ _ _ (λ limit. ((length (start_text default name attributes) ≤ limit) × (length (end_text name) ≤ limit) × HaveShortTags limit within children) × HaveShortTags limit default rest) (λ limit. HaveShortTags limit default (Element name attributes children rest))
     (ap (λ (l : List Item). Starts name attributes ∷ l) (append_assoc (flat_nodes children) (Ends name ∷ []) (flat_nodes rest)))
     (append_assoc (start_text default name attributes) (nodes_text within children ++ end_text name) (nodes_text default rest)

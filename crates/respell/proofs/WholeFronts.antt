@@ -2,9 +2,9 @@
 use Rattle.std.proofs.Common.{◌≡◌, ℕ, ◌≤◌, ◌⊎◌, inl, inr, Bool, true, false, List, [], ◌∷◌, ◌++◌, length, reverse, drop, Option, None, refl, sym, ap, ap₂, subst, ◌∙◌, append_assoc, arith}
 use Rattle.std.specs.Prelude.{◌↔◌, ◌==◌, not, IsTrue}
 use Rattle.std.proofs.lemmas.Bool.{true≢false}
-use Rattle.std.proofs.lemmas.Bool.Decides.{nat_tests}
 use Rattle.std.proofs.lemmas.List.{reverse-append, nil_from_length}
 use Rattle.lexical_core.specs.Tree.{Item, Starts, Char, Ends, Skipped, Nodes, Nothing, Element, Text, Tree, flat_nodes, flat}
+use Rattle.lexical_core.proofs.Tests.{zero_told}
 use Rattle.fragments.specs.Fragment.{default_within, fragment}
 use Rattle.respell.specs.Respelling.{nearest, respelled_text, defaults_behind, told_of, AreFront, AreOf}
 use Rattle.respell.specs.Kept.{KeepsDefaults, HasTakenItems}
@@ -134,14 +134,11 @@ whole_not r items a is unmet h = (
   λ p. absurd (true≢false (sym (is ∙ ap (λ (n : ℕ). n == 0) (whole_closed r items p.0 h p.1)) ∙ unmet)),
 )
 
-none_from : (n : ℕ) → (n == 0) ≡ true → n ≡ 0
-none_from n h = grind (arith, nat_tests, h)
-
 -- none is
 pub whole_test : (r : Respell) (items : List Item) (a b : Bool) → a ≡ (length r.declares.items == 0) → a ≡ true → b ≡ (length r.text == 0) → HasTakenItems r items → AreFront items → IsTrue (not b) ↔ ((t : Tree) × AreOf items t)
 whole_test r items a b is met text h f = (
-  λ some. whole_if r items h f (none_from (length r.declares.items) (sym is ∙ met)) (λ empty. true≢false (sym some ∙ ap (λ (x : Bool). not x) (text ∙ ap (λ (l : List ℕ). length l == 0) empty))),
-  λ p. step b (λ t. whole_some r items p.0 h p.1 (nil_from_length r.text (none_from (length r.text) (sym text ∙ t)))),
+  λ some. whole_if r items h f (zero_told (length r.declares.items) (sym is ∙ met)) (λ empty. true≢false (sym some ∙ ap (λ (x : Bool). not x) (text ∙ ap (λ (l : List ℕ). length l == 0) empty))),
+  λ p. step b (λ t. whole_some r items p.0 h p.1 (nil_from_length r.text (zero_told (length r.text) (sym text ∙ t)))),
 )
   where
     step : (b : Bool) → (b ≡ true → ⊥) → IsTrue (not b)

@@ -16,11 +16,12 @@ use Rattle.markup.proofs.CharLemmas.{classes}
 use Rattle.markup.proofs.TokenKinds.{never_in}
 use Rattle.markup.proofs.TokenLemmas.{start_tag_facts}
 use Rattle.markup.proofs.TokenChars.{token_all}
+use Rattle.markup.proofs.PlainCharacters.{referred_is_xml}
+use Rattle.markup.proofs.TokensBehind.{items_in, tokens_behind, events_items}
 use Rattle.fragments.specs.Plain.{IsPlainName, ArePlainEntries, ArePlain, IsPlain}
 use Rattle.respell.specs.Laws.{IsPlainItem, WholeIsPlain, EventsArePlain, TreeIsPlain}
 use Rattle.respell.specs.Respelling.{told_of}
-use Rattle.respell.proofs.Runs.{behind, items_in, events_items}
-use Rattle.respell.proofs.PlainParts.{local_is_part, referred_is_xml, line_feed_is_xml}
+use Rattle.respell.proofs.PlainParts.{local_is_part, line_feed_is_xml}
 use Rattle.respell.proofs.PlainTags.{IsSoundTag, element_is_plain, entries_are_plain, given_are_sound}
 use Rattle.respell.proofs.SortedEntries.{entries_are_sorted}
 
@@ -113,7 +114,7 @@ pub events_are_plain : EventsArePlain
 events_are_plain limit bytes tokens rest f c = subst AllPlain (sym (events_items [] 0 tokens)) (items_plain limit [] bytes tokens rest tt f c)
 
 -- the tags that are open behind them
-pub open_sound : (limit : ℕ) (before : List Token) (bytes : List ℕ) (ts : List Token) (rest : List ℕ) → AllByRecursion IsSoundTag (open_tags before) → Front limit before bytes ts rest → IsClean before ts → AllByRecursion IsSoundTag (open_tags (behind before ts))
+pub open_sound : (limit : ℕ) (before : List Token) (bytes : List ℕ) (ts : List Token) (rest : List ℕ) → AllByRecursion IsSoundTag (open_tags before) → Front limit before bytes ts rest → IsClean before ts → AllByRecursion IsSoundTag (open_tags (tokens_behind before ts))
 open_sound limit before bytes [] rest s f c = s
 open_sound limit before bytes (t ∷ ts) rest s (after, cell, short, f) c = open_sound limit (t ∷ before) after ts rest (tags_sound before t after s cell.is c.0) f c.1
 

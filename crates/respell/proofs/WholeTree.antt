@@ -1,19 +1,19 @@
 -- The events of a whole input are those of one tree.
-use Rattle.std.proofs.Common.{◌≡◌, ℕ, suc, Bool, true, false, List, [], ◌∷◌, ◌++◌, Option, Some, None, refl, sym, ap, ◌∙◌, length, reverse, cond, append_assoc, subst, arith}
+use Rattle.std.proofs.Common.{◌≡◌, ℕ, suc, Bool, true, false, List, [], ◌∷◌, ◌++◌, Option, Some, None, refl, sym, ap, ◌∙◌, length, reverse, cond, append_assoc, subst}
 use Rattle.std.specs.Prelude.{if◌then◌else◌, ◌&&◌, ◌||◌, ◌==◌, is_none, drop}
-use Rattle.std.proofs.lemmas.Bool.Decides.{nat_tests}
 use Rattle.std.specs.List.{list_any}
 use Rattle.std.proofs.lemmas.Bool.{and_parts}
 use Rattle.lexical_core.specs.declared.rule.Rule.{Rule}
 use Rattle.lexical_core.specs.declared.rule.Rule.TheVariants.{DuplicateAttribute, BadPrefix, AfterRoot}
 use Rattle.lexical_core.specs.Tree.{Expanded, Entry, Nodes, Element, Text, Tree, TreeIs, Item, Starts, Char, Ends, Skipped, tree_items, flat, flat_nodes}
 use Rattle.lexical_core.specs.Tree as tree
+use Rattle.lexical_core.proofs.Tests.{suc_never_zero}
 use Rattle.markup.specs.declared.tag.Opening.{Opening}
 use Rattle.markup.specs.declared.tag.Spelled.{Spelled}
 use Rattle.markup.specs.Token.{Token, Mark, Declaration, Comment, Instruction, Opener, Closer, TypeDeclaration, Start, End, Refer, LineEnd, Character}
 use Rattle.markup.specs.Events.{spelled_name, open_tags, opening, element_name, items_of, end_items, entries}
-use Rattle.respell.proofs.Runs.{behind, items_in}
 use Rattle.markup.specs.Faults.{has_clash, is_bad_attribute, has_start, is_outside, is_over, end_rule, IsClean}
+use Rattle.markup.proofs.TokensBehind.{items_in, tokens_behind}
 
 -- The events close these open elements, the innermost first, and one root in all; begun: a root has begun.
 abbrev pub Closes : Bool → List Expanded → List Item → Type 0
@@ -113,13 +113,10 @@ first_false true true e h = absurd cc
 first_false true false e h = absurd cc
 first_false false b e h = refl
 
-not_none : (n : ℕ) → (suc n == 0) ≡ true → ⊥
-not_none n e = grind (arith, nat_tests)
-
 no_names : (tags : List Opening) (ns : List Expanded) → AreNames tags ns → (length tags == 0) ≡ true → ns ≡ []
 no_names [] [] h e = refl
 no_names [] (n ∷ ns) h e = absurd h
-no_names (t ∷ tags) ns h e = absurd (not_none (length tags) e)
+no_names (t ∷ tags) ns h e = absurd (suc_never_zero (length tags) e)
 
 pub no_tags : (tags : List Opening) → AreNames tags [] → (length tags == 0) ≡ true
 no_tags [] h = refl
@@ -132,7 +129,7 @@ ended_closes begun (t ∷ tags) n [] items e h later = absurd h
 ended_closes begun (t ∷ tags) n (m ∷ ns) items e (named, h) later = rw named (refl, later ns h)
 
 -- the tokens of a whole input close what is open
-tokens_close : (before ts : List Token) (ns : List Expanded) → IsClean before ts → AreNames (open_tags before) ns → is_over (behind before ts) ≡ true → Closes (has_start before) ns (items_in before ts)
+tokens_close : (before ts : List Token) (ns : List Expanded) → IsClean before ts → AreNames (open_tags before) ns → is_over (tokens_behind before ts) ≡ true → Closes (has_start before) ns (items_in before ts)
 tokens_close before [] ns clean names over =
     let parts : (has_start before ≡ true) × (is_outside before ≡ true) = and_parts _ _ over in
     rw (no_names (open_tags before) ns names parts.1) parts.0

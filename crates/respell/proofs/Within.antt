@@ -1,20 +1,14 @@
 -- A fragment inside a document.
-use Rattle.std.proofs.Common.{◌≡◌, ℕ, List, [], ◌∷◌, ◌++◌, reverse, refl, sym, ap, subst, ◌∙◌}
+use Rattle.std.proofs.Common.{ℕ, List, [], ◌++◌, reverse, refl, sym, ap, subst, ◌∙◌}
 use Rattle.markup.specs.Token.{Token}
 use Rattle.markup.specs.Marks.{Front, in_cdata, tag_limit}
 use Rattle.markup.specs.Events.{open_tags}
+use Rattle.markup.proofs.TokensBehind.{behind_is, events_items}
 use Rattle.respell.specs.Laws.{FragmentWithin}
 use Rattle.respell.proofs.PlainTags.{xml_everywhere}
-use Rattle.respell.proofs.Runs.{behind, runs_front, events_items}
+use Rattle.respell.proofs.Runs.{runs_front}
 use Rattle.respell.proofs.Trees.{fragment_within}
 use Rattle.respell.proofs.WholePlain.{open_sound}
-
-behind-append_before : (a b ts : List Token) → behind (a ++ b) ts ≡ behind a ts ++ b
-behind-append_before a b [] = refl
-behind-append_before a b (t ∷ ts) = behind-append_before (t ∷ a) b ts
-
-behind_is : (before ts : List Token) → behind before ts ≡ reverse ts ++ before
-behind_is before ts = behind-append_before [] before ts
 
 pub fragment_stands : FragmentWithin
 fragment_stands t bytes tokens rest p short front clean cdata over =

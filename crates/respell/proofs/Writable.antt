@@ -5,8 +5,8 @@ use Rattle.std.specs.List.{AllByRecursion}
 use Rattle.std.specs.Str.{bytes_eq}
 use Rattle.std.proofs.lemmas.Bool.{cases_Bool}
 use Rattle.lexical_core.specs.Tree.{Expanded, Entry}
-use Rattle.fragments.specs.Plain.{IsPart, IsPlainName, IsPlainEntry}
 use Rattle.lexical_core.specs.Names.{xmlns}
+use Rattle.fragments.specs.Plain.{IsPart, IsPlainName, IsPlainEntry}
 use Rattle.fragments.specs.Fragment.{Written, is_xml, is_default, element_spelling, default_declaration, numbered_declarations, namespaces_of, number_among, attribute_prefix, attribute_written, tag_contents}
 use Rattle.respell.proofs.Names.{IsSpelling}
 use Rattle.respell.proofs.Attributes.{IsWritten}

@@ -3,9 +3,9 @@ ghost use Rattle.std.specs.Prelude.{◌≡◌, ◌↔◌, ◌||◌, ℕ, List, [
 ghost use Rattle.std.specs.List.{flat_map};
 ghost use Rattle.lexical_core.specs.Tree.{Item, Tree, Char};
 ghost use Rattle.lexical_core.specs.Escapes.{escape_of};
+ghost use Rattle.lexical_core.specs.Names.{xmlns};
 ghost use Rattle.markup.specs.EventItems.{item_of, entry_of};
 ghost use Rattle.fragments.specs.Plain.{AreSortedEntries};
-ghost use Rattle.lexical_core.specs.Names.{xmlns};
 ghost use Rattle.fragments.specs.Fragment.{fragment, spelling_text, element_spelling, default_declaration, default_within, is_default, is_xml, start_text, end_text, written_text};
 ghost use Rattle.respell.specs.Respelling.{AreFront, AreOf, HasSortedAttributes, nearest};
 ghost use Rattle.respell.specs.Kept.{HasTakenItems, HasWritten, HasDefaults};

@@ -1,11 +1,11 @@
 //! The parts of tags, as a fragment spells them.
 ghost use Rattle.std.specs.Prelude.{◌≡◌, ◌+◌, ◌<◌, ◌^◌, false, [], ◌∷◌, ◌++◌, OnOk, map};
 ghost use Rattle.std.specs.List.{flat_map};
+ghost use Rattle.lexical_core.specs.Names.{xmlns};
 ghost use Rattle.markup.specs.EventItems.{entry_of};
 ghost use Rattle.fragments.specs.Plain.{AreSortedEntries};
-ghost use Rattle.lexical_core.specs.Names.{xmlns};
-ghost use Rattle.respell.specs.inner.Declaring.{is_new, number_behind, later, numbered_prefix, numbered_attribute};
 ghost use Rattle.fragments.specs.Fragment.{value_byte, written_text, spelling_text, prefix_of, numbered_declarations, namespaces_of, attribute_written, needs_none, is_xml};
+ghost use Rattle.respell.specs.inner.Declaring.{is_new, number_behind, later, numbered_prefix, numbered_attribute};
 
 use lexical_core::{Text, reference_to};
 use markup::Attr;

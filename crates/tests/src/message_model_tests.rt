@@ -30,14 +30,8 @@ fn text_type(alloc: Global, least: u32, most: u32, pattern: &str) -> Result<Obje
         facets: RawFacets {
             min_length: Some(least),
             max_length: Some(most),
-            length: None,
-            total: None,
-            fraction: None,
-            min_in: None,
-            min_ex: None,
-            max_in: None,
-            max_ex: None,
             pattern: Some(pattern),
+            ..RawFacets::none()
         },
         elements: Elements::new(alloc),
         codes: CodeDefs::new(alloc),

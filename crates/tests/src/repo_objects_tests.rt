@@ -21,14 +21,7 @@ fn object_of(alloc: Global, name: &str) -> Result<Object, Fail>
         facets: RawFacets {
             min_length: Some(1),
             max_length: Some(35),
-            length: None,
-            total: None,
-            fraction: None,
-            min_in: None,
-            min_ex: None,
-            max_in: None,
-            max_ex: None,
-            pattern: None,
+            ..RawFacets::none()
         },
         elements: Elements::new(alloc),
         codes: CodeDefs::new(alloc),

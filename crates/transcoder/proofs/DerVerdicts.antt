@@ -1,9 +1,9 @@
 -- Bytes are the DER of one instance, or have one first fault.
 use Rattle.std.proofs.Common.{◌≡◌, ℕ, ◌≤◌, List, length, ap, ◌⊎◌, inl, inr}
 use Rattle.data_types.specs.Value.{Value}
+use Rattle.respell.specs.Laws.{OneTree}
 use Rattle.message_model.specs.declared.fault.Fault.{Fault as Told}
 use Rattle.message_model.specs.Tables.{Tables}
-use Rattle.respell.specs.Laws.{OneTree}
 use Rattle.der_model.specs.DerMessage.{DerMessage, der_message}
 use Rattle.der_model.specs.Der.{SpellsDer}
 use Rattle.der_model.specs.Faults.{FaultInDer}

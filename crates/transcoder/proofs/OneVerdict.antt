@@ -2,10 +2,10 @@
 use Rattle.std.proofs.Common.{◌≡◌, ℕ, ◌<◌, ◌≤◌, List, length, take, sym, ap, ◌∙◌, arith}
 use Rattle.message_model.specs.Message.{Message}
 use Rattle.message_model.specs.Tables.{message_of}
+use Rattle.message_model.specs.declared.fault.Fault.{Fault as Told}
 use Rattle.xml_instances.specs.XmlFaults.{FaultInXml, LimitedXmlFault, whole, early, cut, behind, xml_limit, xml_too_long}
 use Rattle.xml_instances.specs.Laws.{OneSpelled, OneXmlFault, SpelledHasNoXmlFault}
 use Rattle.xml_instances.specs.Checking.{xml_fault_of}
-use Rattle.message_model.specs.declared.fault.Fault.{Fault as Told}
 use Rattle.transcoder.specs.Checked.{IsAccepted}
 use Rattle.transcoder.specs.Laws.{OneVerdict}
 

@@ -3,10 +3,11 @@ use Rattle.std.proofs.Common.{◌≡◌, ℕ, ◌+◌, ◌-◌, ◌<◌, ◌≤�
 use Rattle.std.specs.Prelude.{Result, Ok, Err, codes}
 use Rattle.std.proofs.lemmas.Bool.{cases_lt}
 use Rattle.std.proofs.lemmas.List.{take_all, take-append-drop, length-take, length-drop}
-use Rattle.std.proofs.Math.Seq.{take-append-add, take-append_seam}
+use Rattle.std.proofs.Math.Seq.{take-append_seam}
 use Rattle.std.specs.Io.KnownBytes.{Consumes, IsAtEnd}
-use Rattle.outside.proofs.Consumed.{consumes_twice}
+use Rattle.std.proofs.KnownBytes.{Consumes-trans, Consumes-whole}
 use Rattle.lexical_core.specs.declared.rule.Rule.{Rule}
+use Rattle.lexical_core.proofs.Lists.{take_past}
 use Rattle.message_model.specs.declared.fault.Fault.{Fault}
 use Rattle.message_model.specs.declared.fault.InstanceError.{InstanceError}
 use Rattle.message_model.specs.declared.fault.InstanceError.TheVariants as reader
@@ -36,11 +37,6 @@ says_fault HasFault old now seen fault p all = record { refused = of_left old no
     of_left (Some x) (Some y) p = subst (λ v. HasFault v fault) (sym p) (all y)
 
 -- ---- bytes within the limit, and what follows them
-
-take_past : {A : Type 0} (xs ys : List A) (n : ℕ) → length xs ≤ n → take n (xs ++ ys) ≡ xs ++ take (n - length xs) ys
-take_past xs ys n h = ap (λ k. take k (xs ++ ys)) (gap (length xs) n h) ∙ take-append-add xs ys (n - length xs) where
-  gap : (a n : ℕ) → a ≤ n → n ≡ a + (n - a)
-  gap a n h = omega (arith, h)
 
 limit_of : (seen rest : List ℕ) → length seen ≤ most_bytes → take most_bytes (seen ++ rest) ≡ seen ++ take (most_bytes - length seen) rest
 limit_of seen rest h = take_past seen rest most_bytes h
@@ -88,7 +84,7 @@ module _ {S : Type 0} (Fed : S → List ℕ → Type 0) (Made : S → Type 0) wh
   pub read_end : (old now next : Option (List ℕ)) (room : ℕ) (state : S) → HasReadSource Fed Made old now room state → Consumes now next [] → HasReadSource Fed Made old next room state
   read_end old now next room state h consumed = record {
     taken_are = h.taken_are;
-    front = subst (λ v. Consumes old next v) (append-nil h.taken_are) (consumes_twice old now next h.taken_are [] h.front consumed);
+    front = subst (λ v. Consumes old next v) (append-nil h.taken_are) (Consumes-trans old now next h.taken_are [] h.front consumed);
     counted = h.counted;
     made = h.made;
     fed_are = h.fed_are;
@@ -100,7 +96,7 @@ module _ {S : Type 0} (Fed : S → List ℕ → Type 0) (Made : S → Type 0) wh
         let c = h.counted in
         record {
           taken_are = h.taken_are ++ xs;
-          front = consumes_twice old now next h.taken_are xs h.front consumed;
+          front = Consumes-trans old now next h.taken_are xs h.front consumed;
           counted = omega (arith, c, long, fits, length-append h.taken_are xs);
           made = made;
           fed_are = subst (λ v. Fed after (h.taken_are ++ v)) (take_all w xs (omega (arith, long, e))) fed_are;
@@ -124,7 +120,7 @@ module _ {S : Type 0} (Fed : S → List ℕ → Type 0) (Made : S → Type 0) wh
     pub refused_fed : (Faulty : List ℕ → Fault → Type 0) (Given : List ℕ → Type 0) (c : Rule) (e : InstanceError) → w ≤ room → StopsAt Faulty c (h.taken_are ++ take w xs) e → SaysError (IsLimited Faulty Given c) old (check_error e)
     refused_fed Faulty Given c reader.Memory fits s = says_nothing (IsLimited Faulty Given c) old Memory (λ bytes. tt) tt
     refused_fed Faulty Given c (reader.Refused fault) fits s =
-        says_fault (IsLimited Faulty Given c) old next (h.taken_are ++ xs) fault (consumes_twice old now next h.taken_are xs h.front consumed)
+        says_fault (IsLimited Faulty Given c) old next (h.taken_are ++ xs) fault (Consumes-trans old now next h.taken_are xs h.front consumed)
         (λ rest. subst (λ v. IsLimited Faulty Given c v fault) (sym (regrouped rest)) (shown_limited Faulty Given c (h.taken_are ++ take w xs) fault (drop w xs ++ rest) (seen_fits fits) s))
 
     -- more bytes than the limit came
@@ -134,7 +130,7 @@ module _ {S : Type 0} (Fed : S → List ℕ → Type 0) (Made : S → Type 0) wh
         record {
           within = h.taken_are ++ take w xs;
           behind = drop w xs;
-          front = subst (λ v. Consumes old next v) (ap (λ v. h.taken_are ++ v) (sym (take-append-drop w xs)) ∙ sym (append_assoc h.taken_are (take w xs) (drop w xs))) (consumes_twice old now next h.taken_are xs h.front consumed);
+          front = subst (λ v. Consumes old next v) (ap (λ v. h.taken_are ++ v) (sym (take-append-drop w xs)) ∙ sym (append_assoc h.taken_are (take w xs) (drop w xs))) (Consumes-trans old now next h.taken_are xs h.front consumed);
           full = omega (arith, c, full, more, length-append h.taken_are (take w xs), length-take w xs);
           more = omega (arith, full, more, length-drop w xs);
           fed_are = fed_are;
@@ -153,11 +149,6 @@ pub record IsVerdict {W : Type 0} (Gives : List ℕ → W → Type 0) (HasFault 
 said : {W : Type 0} (Gives : List ℕ → W → Type 0) (HasFault : List ℕ → Fault → Type 0) (old now : Option (List ℕ)) (e : CheckError) → SaysError HasFault old e → IsVerdict Gives HasFault old now (Err e)
 said Gives HasFault old now e s = record { ok = tt; given = tt; whole_is = tt; refused = s.refused; placed = s.placed }
 
-at_end : (old now : Option (List ℕ)) (bytes : List ℕ) (P : List ℕ → Type 0) → Consumes old now bytes → IsAtEnd now → P bytes → IfSome old P
-at_end None now bytes P p e k = tt
-at_end (Some x) None bytes P p e k = absurd p
-at_end (Some x) (Some y) bytes P p e k = subst P (sym (p ∙ (ap (λ l. bytes ++ l) e ∙ append-nil bytes))) k
-
 module _ {S W : Type 0} (Fed : S → List ℕ → Type 0) (Made : S → Type 0) (Faulty : List ℕ → Fault → Type 0) (Gives : List ℕ → W → Type 0) (c : Rule) (old now : Option (List ℕ)) (state : S) where
   ended_verdict : (room : ℕ) (end : Result W InstanceError) (h : HasReadSource Fed Made old now room state) → IsAtEnd now
       → IfOk end (λ x. Gives h.taken_are x) → IfErr end (λ e. EndsBy Faulty h.taken_are e) → IsVerdict Gives (IsLimited Faulty (GivesSome Gives) c) old now (end_told end)
@@ -167,10 +158,10 @@ module _ {S W : Type 0} (Fed : S → List ℕ → Type 0) (Made : S → Type 0) 
       short = let k = h.counted in omega (arith, k)
 
       of_end : (r : Result W InstanceError) → IfOk r (λ x. Gives h.taken_are x) → IfErr r (λ e. EndsBy Faulty h.taken_are e) → IsVerdict Gives (IsLimited Faulty (GivesSome Gives) c) old now (end_told r)
-      of_end (Ok x) ok err = record { ok = at_end old now h.taken_are (λ bytes. Gives bytes x × (length bytes ≤ most_bytes)) h.front last (ok, short); given = (h.taken_are, ok); whole_is = last; refused = tt; placed = tt }
+      of_end (Ok x) ok err = record { ok = Consumes-whole old now h.taken_are (λ bytes. Gives bytes x × (length bytes ≤ most_bytes)) h.front last (ok, short); given = (h.taken_are, ok); whole_is = last; refused = tt; placed = tt }
       of_end (Err (reader.Refused fault)) ok err =
           said Gives (IsLimited Faulty (GivesSome Gives) c) old now (Refused fault)
-          (record { refused = at_end old now h.taken_are (λ bytes. IsLimited Faulty (GivesSome Gives) c bytes fault) h.front last (within short err); placed = (h.taken_are, within short err) })
+          (record { refused = Consumes-whole old now h.taken_are (λ bytes. IsLimited Faulty (GivesSome Gives) c bytes fault) h.front last (within short err); placed = (h.taken_are, within short err) })
       of_end (Err reader.Memory) ok err = said Gives (IsLimited Faulty (GivesSome Gives) c) old now Memory (says_nothing (IsLimited Faulty (GivesSome Gives) c) old Memory (λ bytes. tt) tt)
 
   module _ (only_cut : (x : S) (bytes : List ℕ) (fault : Fault) → Fed x bytes → Faulty bytes fault → fault.rule ≡ c) where

@@ -1,18 +1,18 @@
 -- What the readings of an instance say of its bytes.
 use Rattle.std.specs.Prelude.{◌≡◌, ℕ, ◌≤◌, List, length}
 use Rattle.data_types.specs.Value.{Value, Piece}
-use Rattle.inst_pool.specs.Pieces.{Held}
 use Rattle.fragments.specs.Fragment.{fragment}
+use Rattle.inst_pool.specs.Pieces.{Held}
 use Rattle.message_model.specs.Tables.{Tables, message_of, pieces_of}
 use Rattle.message_model.specs.declared.fault.Fault.{Fault}
-use Rattle.xml_instances.specs.XmlFaults.{xml_limit, LimitedXmlFault}
-use Rattle.xml_instances.specs.SpellsXml.{SpellsXml}
-use Rattle.xml_instances.specs.Checking.{IsSpelledXml, xml_fault_of}
-use Rattle.xml_writer.specs.CanonXml.{IsCanonXml}
 use Rattle.der_model.specs.DerMessage.{der_message}
 use Rattle.der_model.specs.Der.{SpellsDer, der_of}
 use Rattle.der_model.specs.LimitedFaults as der
 use Rattle.der_codec.specs.Checking as der_checking
+use Rattle.xml_instances.specs.XmlFaults.{xml_limit, LimitedXmlFault}
+use Rattle.xml_instances.specs.SpellsXml.{SpellsXml}
+use Rattle.xml_instances.specs.Checking.{IsSpelledXml, xml_fault_of}
+use Rattle.xml_writer.specs.CanonXml.{IsCanonXml}
 use Rattle.transcoder.specs.declared.check_error.CheckError.{CheckError}
 use Rattle.transcoder.specs.Reading.{RefusesBy, IsOfSome}
 

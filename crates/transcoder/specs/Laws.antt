@@ -4,10 +4,10 @@ use Rattle.data_types.specs.Value.{Value}
 use Rattle.message_model.specs.Tables.{Tables, message_of, types_of}
 use Rattle.message_model.specs.Sound.{AreSound, HaveCodes, HaveSortedCodes, HasRoot}
 use Rattle.message_model.specs.declared.fault.Fault.{Fault}
-use Rattle.xml_instances.specs.SpellsXml.{SpellsXml}
 use Rattle.der_model.specs.DerMessage.{der_message}
 use Rattle.der_model.specs.Der.{SpellsDer}
 use Rattle.der_model.specs.SomeAnswers.{HaveKinds}
+use Rattle.xml_instances.specs.SpellsXml.{SpellsXml}
 use Rattle.transcoder.specs.Checked.{IsAccepted, HasXmlFault, IsDerAccepted, HasDerFault}
 
 -- the types are those of a message that breaks no rule

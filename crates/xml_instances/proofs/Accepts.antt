@@ -8,24 +8,24 @@ use Rattle.std.proofs.lemmas.Bool.{and_parts, or_cases}
 use Rattle.std.proofs.lemmas.Bool.Decides.{nat_tests}
 use Rattle.lexical_core.specs.Tree.{Expanded, Entry, Nodes, Element, Text, Tree, Item, Starts, Char, Ends, flat, flat_nodes}
 use Rattle.lexical_core.specs.Tree as tree
-use Rattle.fragments.specs.Plain.{ArePlain, IsPlain}
 use Rattle.lexical_core.specs.Characters.{IsSpace}
+use Rattle.lexical_core.specs.Decimals.{Number}
+use Rattle.lexical_core.specs.Names.{same_name, attribute_value}
 use Rattle.data_types.specs.Value.{Value, Children, Nothing, Child}
 use Rattle.data_types.specs.Value as value
 use Rattle.data_types.specs.Leaf as leaf
-use Rattle.markup.specs.Chars.{is_space}
-use Rattle.facets.specs.declared.simple.Simple.{Simple}
-use Rattle.lexical_core.specs.Decimals.{Number}
 use Rattle.data_types.specs.declared.kind.Kind.{Kind}
 use Rattle.data_types.specs.declared.kind.Kind.TheVariants as kind
+use Rattle.facets.specs.declared.simple.Simple.{Simple}
 use Rattle.facets.specs.LeafUnder.{GivesLeaf, Fits, IsLeafBy}
+use Rattle.markup.specs.Chars.{is_space}
+use Rattle.fragments.specs.Plain.{ArePlain, IsPlain}
 use Rattle.reference_check.specs.Forms.{Graph, Form, Slot, form_slots}
 use Rattle.reference_check.specs.Forms as form
 use Rattle.reference_check.specs.Words.{IsWordOf, times}
 use Rattle.reference_check.specs.Steps.{EndOfSlots, Slotted, Fine, OutOfOrder, TooMany, Second, Lacks, NoAlternative, next, next_of, find_slot, end_after, has_room, first_lacking, after_order, CameAfter, Came}
 use Rattle.message_model.specs.Admits.{AdmitsAs, AdmitsChildren, FitsCode, numbers_of}
 use Rattle.message_model.specs.Writes.{name_in_namespace, IsHint, IsHintOrCurrency, currency, SpellsCode, WritesAttributes, text_nodes, IsBlank, Wraps, MayHold, WritesContent, WritesLeaf}
-use Rattle.lexical_core.specs.Names.{same_name, attribute_value}
 use Rattle.message_model.specs.Message.{Message}
 use Rattle.xml_instances.specs.SpellsXml.{IsInstance}
 use Rattle.xml_instances.specs.Levels.{Level, Parent, Leaf, Envelope, Foreign, begun_level, path_in, form_of_start, round_start}

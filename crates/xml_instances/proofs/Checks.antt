@@ -1,6 +1,8 @@
 -- A checker that goes from event to event, and from byte to byte.
 use Rattle.std.proofs.Common.{Option, ◌≡◌, ℕ, ◌+◌, ◌-◌, ◌^◌, ◌<◌, ◌≤◌, arith, List, [], ◌∷◌, ◌++◌, Some, None, refl, sym, ap, ◌∙◌, length, map, subst, append_assoc, append-nil, length-append}
 use Rattle.std.proofs.lemmas.List.{map-append}
+use Rattle.std.specs.Prelude.{Err, min}
+use Rattle.std.specs.List.{AllByRecursion}
 use Rattle.lexical_core.specs.Tree.{Item}
 use Rattle.lexical_core.specs.Tree.{Starts, Char, Ends, Skipped}
 use Rattle.markup.specs.Token.{Token}
@@ -8,15 +10,18 @@ use Rattle.markup.specs.Marks.{Front, tag_limit}
 use Rattle.markup.specs.Faults.{IsClean}
 use Rattle.markup.specs.Standing.{EventsStay}
 use Rattle.markup.specs.declared.reader.Reader.{Reader}
-use Rattle.respell.specs.Laws.{EventsArePlain, IsPlainItem}
 use Rattle.markup.specs.Events.{Placed}
 use Rattle.markup.specs.Events.{events as placed_events}
 use Rattle.markup.specs.EventItems.{item_of, placed_event, Tells}
 use Rattle.markup.specs.Reading.{GoesOn, IsWholly, bytes_taken}
 use Rattle.markup.specs.declared.event.Event.{Event}
+use Rattle.respell.specs.Laws.{EventsArePlain, IsPlainItem}
+use Rattle.respell.specs.Respelling.{HasSortedAttributes}
 use Rattle.message_model.specs.Message.{Message}
 use Rattle.message_model.specs.Tables.{Tables, message_of, types_of}
 use Rattle.message_model.specs.Sound.{AreSound}
+use Rattle.message_model.specs.declared.fault.InstanceError.{InstanceError}
+use Rattle.message_model.specs.declared.fault.InstanceError.TheVariants.{Refused, Memory}
 use Rattle.xml_instances.specs.Levels.{Level, levels_after, levels_over}
 use Rattle.xml_instances.specs.EventFaults.{Broken, EventFault, AreFine}
 use Rattle.xml_instances.specs.XmlFaults.{XmlFault, items, items_told}
@@ -24,18 +29,14 @@ use Rattle.xml_instances.specs.Laws.{FineIsSpelled}
 use Rattle.xml_instances.specs.Open.{IsOpen, IsTaken}
 use Rattle.xml_instances.specs.Checking.{items_in_events, IsTold, AreTaken, BreaksAt, XmlStops, xml_fault_of, HasFedXml, IsSpelledXml, IsSpelledBy, xml_bytes_fed}
 use Rattle.xml_instances.specs.declared.content.Content.{Content}
-use Rattle.std.specs.Prelude.{Err, min}
-use Rattle.message_model.specs.declared.fault.InstanceError.{InstanceError}
-use Rattle.message_model.specs.declared.fault.InstanceError.TheVariants.{Refused, Memory}
 use Rattle.xml_instances.specs.declared.opened.Refusal.{Refusal}
 use Rattle.xml_instances.specs.declared.opened.Refusal.TheVariants.{Breaks, Memory as NoMemory}
 use Rattle.xml_instances.specs.declared.checker.XmlChecker.{XmlChecker}
-use Rattle.std.specs.List.{AllByRecursion}
-use Rattle.respell.specs.Respelling.{HasSortedAttributes}
 use Rattle.xml_instances.specs.Built.{EventShows, EventsShow}
 use Rattle.xml_instances.specs.Keeping.{PiecesKept, GoOn, IsBuilt}
 use Rattle.xml_instances.proofs.FaultAt.{fine_joined, over_joined}
 use Rattle.xml_instances.proofs.GoingOn.{go_still, go_on, go_one, built_on}
+use Rattle.xml_instances.proofs.ToldAtEvents.{told_joined}
 
 -- of the events those before the rest are taken
 pub record TakenSoFar (m : Message ℕ) (ls : List (Level ℕ)) (events rest : List Event) (content : Content) : Type 0 where
@@ -115,9 +116,6 @@ items_placed (e ∷ es) = ap (λ v. item_of e.what ∷ v) (items_placed es)
 
 pub items_new : (old new : List Event) (more : List Placed) → old ≡ [] → Tells old new more → items_told more ≡ items_in_events new
 items_new old new more e t = ap items_told (sym t.told_are) ∙ (items_placed t.more ∙ ap items_in_events (sym (t.appended ∙ ap (λ v. v ++ t.more) e)))
-
-pub told_joined : (a b : List Placed) → items_told (a ++ b) ≡ items_told a ++ items_told b
-told_joined a b = map-append (λ (e : Placed). e.item) a b
 
 -- the place behind more bytes
 pub place_more : (bytes more : List ℕ) (place given n : ℕ) → place ≡ length bytes → given ≡ length bytes → n ≡ length more → given + n ≤ 2 ^ 40 → min (place + n) (2 ^ 64 - 1) ≡ length (bytes ++ more)

@@ -3,26 +3,26 @@ use Rattle.std.proofs.Common.{◌≡◌, ℕ, ◌+◌, Bool, true, false, List, 
 use Rattle.std.specs.Prelude.{Result, Ok, Err, OnOk, MatchOption, is_err, not, map, codes, option_to_list}
 use Rattle.std.specs.Borrow.{Bor}
 use Rattle.std.proofs.lemmas.List.{reverse-append}
+use Rattle.std.specs.Str.{bytes_eq, chars}
 use Rattle.lexical_core.specs.declared.rule.Rule.{Rule}
 use Rattle.lexical_core.specs.declared.rule.Rule.TheVariants as rule
 use Rattle.lexical_core.specs.Tree.{Expanded, Entry, Starts, Char, Ends}
 use Rattle.lexical_core.specs.Names.{attribute_value}
 use Rattle.facets.specs.declared.simple.Simple.{Simple}
-use Rattle.xml_instances.specs.declared.judge.Judge.{Judge}
-use Rattle.xml_instances.specs.Judges.{HasJudgeTaken, IsJudgeMadeFor}
+use Rattle.markup.specs.Chars.{is_space}
+use Rattle.markup.specs.EventItems.{entry_of}
+use Rattle.markup.specs.declared.event.Attr.{Attr}
 use Rattle.reference_check.specs.Forms.{Graph, Form, Slot, text_type}
 use Rattle.reference_check.specs.Forms as form
+use Rattle.reference_check.specs.Steps.{NextSlot, Slotted, next, Came, EndsWith}
 use Rattle.message_model.specs.Message.{Message}
 use Rattle.message_model.specs.Views.{IsFormOf}
 use Rattle.message_model.specs.declared.model.Form.{Form as ToldForm}
 use Rattle.message_model.specs.declared.model.Form.TheVariants as told_form
-use Rattle.reference_check.specs.Steps.{NextSlot, Slotted, next, Came, EndsWith}
 use Rattle.message_model.specs.Writes.{name_in_namespace, currency}
 use Rattle.message_model.specs.Sound.{count_with}
-use Rattle.std.specs.Str.{bytes_eq, chars}
-use Rattle.markup.specs.Chars.{is_space}
-use Rattle.markup.specs.EventItems.{entry_of}
-use Rattle.markup.specs.declared.event.Attr.{Attr}
+use Rattle.xml_instances.specs.declared.judge.Judge.{Judge}
+use Rattle.xml_instances.specs.Judges.{HasJudgeTaken, IsJudgeMadeFor}
 use Rattle.xml_instances.specs.Levels.{Level, Parent, Leaf, Envelope, Foreign, levels_after, with_char, level_of_start, begun_level, slot_form, form_by, form_of_start, round_start, with_slot, path_in}
 use Rattle.xml_instances.specs.EventFaults.{Broken, broken_rule, EventFault, AttributeFault, EndFault, LeafFault, place_fault, next_fault, Unless, space_fault, is_bare, char_fault, has_currency, CurrencyFault}
 use Rattle.xml_instances.specs.inner.Known.{has_unknown}

@@ -8,17 +8,17 @@ use Rattle.lexical_core.specs.declared.rule.Rule.{Rule}
 use Rattle.lexical_core.specs.Names.{attribute_value}
 use Rattle.facets.specs.LeafUnder.{GivesLeaf}
 use Rattle.facets.specs.declared.simple.Simple.{Simple}
+use Rattle.markup.specs.EventItems.{entry_of}
+use Rattle.markup.specs.PlainTags.{tag_items}
+use Rattle.markup.specs.declared.plain_tag.TagKind.{TagKind}
+use Rattle.markup.specs.declared.plain_tag.TagKind.TheVariants.{Start, Empty, End}
+use Rattle.markup.specs.declared.event.Attr.{Attr}
 use Rattle.reference_check.specs.Forms.{Graph, Form, text_type}
 use Rattle.reference_check.specs.Forms as form
 use Rattle.reference_check.specs.Steps.{next}
 use Rattle.message_model.specs.Message.{Message}
 use Rattle.message_model.specs.Tables.{Tables, message_of, types_of}
 use Rattle.message_model.specs.Writes.{name_in_namespace, currency, SpellsCode}
-use Rattle.markup.specs.EventItems.{entry_of}
-use Rattle.markup.specs.PlainTags.{tag_items}
-use Rattle.markup.specs.declared.plain_tag.TagKind.{TagKind}
-use Rattle.markup.specs.declared.plain_tag.TagKind.TheVariants.{Start, Empty, End}
-use Rattle.markup.specs.declared.event.Attr.{Attr}
 use Rattle.xml_instances.specs.Levels.{Level, Parent, Leaf, Envelope, Foreign, begun_level, levels_after, levels_over, form_of_start, round_start, path_in}
 use Rattle.xml_instances.specs.EventFaults.{EventFault, AreFine, AttributeFault, place_fault, next_fault}
 use Rattle.xml_instances.specs.Built.{Shown, nothing_shown, with_event, with_inside, TextShown, CurrencyShown, CodeShown, LeafShown, EndShown, StartShown, ShowsBeside, EventShows, EventsShow}

@@ -1,23 +1,23 @@
 -- Elements in an envelope: those that are written again are those that are open.
 use Rattle.std.proofs.Common.{◌≡◌, ℕ, true, false, List, [], ◌∷◌, ◌++◌, drop, Option, Some, None, refl, sym, ap, ◌∙◌, subst}
+use Rattle.std.specs.Str.{bytes_eq}
 use Rattle.lexical_core.specs.Tree.{Expanded, Entry, Item, Starts, Char, Ends, Skipped}
+use Rattle.data_types.specs.Value.{Edge}
+use Rattle.facets.specs.declared.simple.Simple.{Simple}
 use Rattle.markup.specs.Events.{Placed}
 use Rattle.markup.specs.PlainTags.{open_after, open_behind, innermost_namespace, name_behind}
-use Rattle.facets.specs.declared.simple.Simple.{Simple}
+use Rattle.respell.specs.Kept.{opened_by, IsInDefault}
+use Rattle.respell.proofs.KeptLemmas.{opened-append}
 use Rattle.reference_check.specs.Forms.{Form}
 use Rattle.reference_check.specs.Forms as form
 use Rattle.reference_check.specs.Steps.{next}
-use Rattle.std.specs.Str.{bytes_eq}
-use Rattle.xml_instances.proofs.Accepts.{Comes, comes, no_fault, unless_in, if_else}
-use Rattle.respell.specs.Kept.{opened_by, IsInDefault}
-use Rattle.respell.proofs.KeptLemmas.{opened-append}
 use Rattle.message_model.specs.Message.{Message}
 use Rattle.message_model.specs.Tables.{Tables, message_of}
+use Rattle.xml_instances.proofs.Accepts.{Comes, comes, no_fault, unless_in, if_else}
 use Rattle.xml_instances.specs.Levels.{Level, Parent, Leaf, Envelope, Foreign, begun_level, with_char, levels_after, levels_over, form_of_start, round_start, path_in}
 use Rattle.xml_instances.specs.EventFaults.{EventFault, AreFine, AttributeFault, place_fault, next_fault}
 use Rattle.xml_instances.specs.XmlFaults.{items_told}
 use Rattle.xml_instances.specs.Built.{Shown, nothing_shown, with_inside, with_begun, close_shown, closed_at, edge_of_start, CodeShown, ShowsBeside, EventShows, EventsShow}
-use Rattle.data_types.specs.Value.{Edge}
 use Rattle.xml_instances.specs.Keeping.{PiecesKept, IsBuilt, MayShow, MayShowName}
 use Rattle.xml_instances.specs.Open.{StandsOpen}
 use Rattle.xml_instances.specs.declared.content.OpenText.{OpenText}

@@ -5,13 +5,13 @@ use Rattle.std.proofs.lemmas.List.{reverse-append}
 use Rattle.lexical_core.specs.Tree.{Item, Starts, Char, Nodes, Element, Text, Tree, flat, flat_nodes}
 use Rattle.lexical_core.specs.Tree.{Ends as EndsItem}
 use Rattle.lexical_core.specs.Tree as tree
-use Rattle.respell.specs.Respelling.{told_of, AreOf}
 use Rattle.data_types.specs.Leaf as leaf
 use Rattle.data_types.specs.Value.{Edge, Piece, Begins, Holds, Ends}
-use Rattle.inst_pool.specs.Pieces.{open_in, edges_open_behind}
-use Rattle.inst_pool.proofs.ContentLemmas.{open-append}
+use Rattle.respell.specs.Respelling.{told_of, AreOf}
 use Rattle.respell.specs.Kept.{HasTakenItems}
 use Rattle.respell.specs.declared.respell.Respell.{Respell}
+use Rattle.inst_pool.specs.Pieces.{open_in, edges_open_behind}
+use Rattle.inst_pool.proofs.ContentLemmas.{open-append}
 use Rattle.xml_instances.specs.Built.{Shown, type_at, with_begun, with_leaf, without_inside, close_shown, closed_at}
 use Rattle.xml_instances.specs.Keeping.{PiecesKept, HasShown, GoOn, with_all_inside}
 

@@ -6,16 +6,16 @@ use Rattle.std.specs.Str.{bytes_eq, chars}
 use Rattle.lexical_core.specs.declared.rule.Rule.{Rule}
 use Rattle.lexical_core.specs.declared.rule.Rule.TheVariants.{Truncated, WrongRoot, UnknownElement, TextInComplex, UnknownAttribute}
 use Rattle.lexical_core.specs.Tree.{Expanded, Entry, Item, Starts, Char, Ends, Skipped}
-use Rattle.markup.specs.Chars.{is_space}
-use Rattle.markup.proofs.NoCut.{is_cut_rule}
+use Rattle.lexical_core.specs.Names.{same_name, attribute_value}
 use Rattle.facets.specs.declared.simple.Simple.{Simple}
 use Rattle.facets.specs.Rules.{BreaksLeafRule}
+use Rattle.markup.specs.Chars.{is_space}
+use Rattle.markup.proofs.NoCut.{is_cut_rule}
 use Rattle.reference_check.specs.Forms.{Form}
 use Rattle.reference_check.specs.Forms as form
 use Rattle.reference_check.specs.Steps as step
 use Rattle.reference_check.specs.Steps.{NextSlot, EndOfSlots, next, end_after}
 use Rattle.message_model.specs.Writes.{name_in_namespace, currency}
-use Rattle.lexical_core.specs.Names.{same_name, attribute_value}
 use Rattle.message_model.specs.Message.{Message}
 use Rattle.xml_instances.specs.Levels.{Level, Parent, Leaf, Envelope, Foreign, form_of_start, round_start, path_in}
 use Rattle.xml_instances.specs.EventFaults.{Broken, broken_rule, Unless, next_fault, place_fault, is_known, LeafFault, CodeFault, CurrencyFault, RequiredFault, unknown_fault, AttributeFault, end_fault, EndFault, is_bare, space_fault, char_fault, EventFault}

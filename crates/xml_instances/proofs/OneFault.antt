@@ -12,6 +12,7 @@ use Rattle.markup.specs.Token.{Token, token_bytes}
 use Rattle.markup.specs.Marks.{Cell, Front, is_short, tag_limit, OneToken}
 use Rattle.markup.specs.Events.{items_of}
 use Rattle.markup.specs.Faults.{Next, IsClean, rule_of, is_over}
+use Rattle.markup.proofs.TokensBehind.{items_in, tokens_behind, behind as reversed}
 use Rattle.reference_check.specs.Forms.{Form}
 use Rattle.reference_check.specs.Forms as form
 use Rattle.message_model.specs.Writes.{currency}
@@ -19,8 +20,7 @@ use Rattle.message_model.specs.Message.{Message}
 use Rattle.xml_instances.specs.Levels.{Level, Parent, Leaf as LeafLevel, Envelope, Foreign, levels_after, levels_over, form_of_start, round_start, path_in}
 use Rattle.xml_instances.specs.EventFaults.{Broken, EventFault, AreFine, FirstFault, Unless, AttributeFault, RequiredFault, CurrencyFault, CodeFault, LeafFault, EndFault, place_fault, unknown_fault}
 use Rattle.xml_instances.specs.XmlFaults.{NextFault, markup, content, FaultInXml, XmlFault}
-use Rattle.respell.proofs.Runs.{behind, items_in}
-use Rattle.xml_instances.proofs.Whole.{reversed, items_are}
+use Rattle.xml_instances.proofs.Whole.{items_are}
 
 none_some : {A : Type 0} (b : Broken) → ◌≡◌ {A = Option Broken} None (Some b) → A
 none_some b e = absurd cc
@@ -123,14 +123,14 @@ module _ {P : Type 0} (m : Message P) (first_rule : (s : Simple) (w : List ℕ) 
       front : Front tag_limit before bytes ts rest
       clean : IsClean before ts
       fine : AreFine m ls (items_in before ts)
-      next : NextFault m (behind before ts) (levels_over m ls (items_in before ts)) rest b i
+      next : NextFault m (tokens_behind before ts) (levels_over m ls (items_in before ts)) rest b i
 
     tail : (before : List Token) (ls : List (Level P)) (bytes : List ℕ) (t : Token) (ts : List Token) (rest : List ℕ) (b : Broken) (i : ℕ) (h : Behind before ls bytes (t ∷ ts) rest b i) → Behind (t ∷ before) (levels_over m ls (items_of before t)) h.front.0 ts rest b i
     tail before ls bytes t ts rest b i h = record {
       front = h.front.3;
       clean = h.clean.1;
       fine = fine_behind ls (items_of before t) (items_in (t ∷ before) ts) h.fine;
-      next = subst (λ (x : List (Level P)). NextFault m (behind (t ∷ before) ts) x rest b i) (over-append ls (items_of before t) (items_in (t ∷ before) ts)) h.next;
+      next = subst (λ (x : List (Level P)). NextFault m (tokens_behind (t ∷ before) ts) x rest b i) (over-append ls (items_of before t) (items_in (t ∷ before) ts)) h.next;
     }
 
     same_from : (before : List Token) (ls : List (Level P)) (bytes : List ℕ) (ts us : List Token) (x y : List ℕ) (b c : Broken) (i j : ℕ) → Behind before ls bytes ts x b i → Behind before ls bytes us y c j
@@ -178,7 +178,7 @@ module _ {P : Type 0} (m : Message P) (first_rule : (s : Simple) (w : List ℕ) 
       end_none before ls c j over (markup n p) = next_over before c.rule j n over
       end_none before ls c j over (content t x cell short clean first at) = nothing_stands before t x cell
 
-      none_from : (before : List Token) (ls : List (Level P)) (bytes : List ℕ) (ts us : List Token) (y : List ℕ) (c : Broken) (j : ℕ) → Front tag_limit before bytes ts [] → IsClean before ts → is_over (behind before ts) ≡ true
+      none_from : (before : List Token) (ls : List (Level P)) (bytes : List ℕ) (ts us : List Token) (y : List ℕ) (c : Broken) (j : ℕ) → Front tag_limit before bytes ts [] → IsClean before ts → is_over (tokens_behind before ts) ≡ true
           → AreFine m ls (items_in before ts) → Behind before ls bytes us y c j → ⊥
       none_from before ls bytes [] [] y c j f clean over fine k = end_none before ls c j over (subst (λ (v : List ℕ). NextFault m before ls v c j) (sym k.front ∙ f) k.next)
       none_from before ls bytes [] (u ∷ us) y c j f clean over fine k = nothing_stands before u k.front.0 (subst (λ (v : List ℕ). Cell before u v k.front.0) f k.front.1)
@@ -192,5 +192,5 @@ module _ {P : Type 0} (m : Message P) (first_rule : (s : Simple) (w : List ℕ) 
               later (subst (λ (v : Token). Behind (v ∷ before) (levels_over m ls (items_of before v)) f.0 us y c j) (sym e)
               (subst (λ (v : List ℕ). Behind (u ∷ before) (levels_over m ls (items_of before u)) v us y c j) (sym g) (tail before ls bytes u us y c j k)))
 
-      pub fine_has_none : (bytes : List ℕ) (ts : List Token) (f : FaultInXml) → Front tag_limit [] bytes ts [] → IsClean [] ts → is_over (behind [] ts) ≡ true → AreFine m [] (items_in [] ts) → XmlFault m bytes f → ⊥
+      pub fine_has_none : (bytes : List ℕ) (ts : List Token) (f : FaultInXml) → Front tag_limit [] bytes ts [] → IsClean [] ts → is_over (tokens_behind [] ts) ≡ true → AreFine m [] (items_in [] ts) → XmlFault m bytes f → ⊥
       fine_has_none bytes ts f front clean over fine h = none_from [] [] bytes ts h.tokens h.rest f.broken h.at front clean over fine (behind_of bytes f h)

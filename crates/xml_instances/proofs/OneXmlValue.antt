@@ -7,13 +7,14 @@ use Rattle.lexical_core.specs.Tree.{Expanded, Entry, Nodes, Element, Text, Tree,
 use Rattle.lexical_core.specs.Tree as tree
 use Rattle.lexical_core.specs.Decimals.{Number}
 use Rattle.lexical_core.specs.Characters.{IsSpace}
+use Rattle.lexical_core.specs.declared.rule.Rule.{Rule}
+use Rattle.lexical_core.proofs.SameTrees.{same_tree}
 use Rattle.data_types.specs.Leaf.{Leaf}
 use Rattle.data_types.specs.Leaf as leaf
 use Rattle.data_types.specs.Value.{Value, Children, Nothing, Child}
 use Rattle.data_types.specs.Value as value
 use Rattle.facets.specs.LeafUnder.{GivesLeaf, HasSortedCodes, LeafUnder}
 use Rattle.facets.specs.declared.simple.Simple.{Simple}
-use Rattle.lexical_core.specs.declared.rule.Rule.{Rule}
 use Rattle.markup.specs.Marks.{OneMarking, Marks}
 use Rattle.reference_check.specs.Forms.{Graph, Form, Slot, form_slots, text_type}
 use Rattle.reference_check.specs.Forms as form
@@ -24,7 +25,6 @@ use Rattle.message_model.specs.Sound.{AreSound, HaveSortedCodes}
 use Rattle.message_model.specs.Writes.{name_in_namespace, currency, HasCurrency, SpellsCode, WritesAttributes, text_nodes, SpellsText, Wraps, MayHold, WritesContent, WritesLeaf}
 use Rattle.xml_instances.specs.SpellsXml.{SpellsXml, IsInstance}
 use Rattle.xml_instances.specs.XmlFaults.{items}
-use Rattle.lexical_core.proofs.SameTrees.{same_tree}
 
 -- characters spell one leaf
 abbrev pub OneLeaf : Type 0

@@ -4,25 +4,26 @@ use Rattle.std.specs.Prelude.{◌↔◌, codes}
 use Rattle.std.proofs.lemmas.List.{nil_from_length}
 use Rattle.lexical_core.specs.Tree.{Expanded, Entry, Nodes, Element, Text, Tree, Item, Starts, Char, Ends, Skipped, tree_items, flat, flat_nodes}
 use Rattle.lexical_core.specs.Tree as tree
-use Rattle.facets.specs.declared.simple.Simple.{Simple}
 use Rattle.lexical_core.specs.declared.rule.Rule.{Rule}
+use Rattle.facets.specs.declared.simple.Simple.{Simple}
 use Rattle.facets.specs.Rules.{BreaksFirst}
-use Rattle.xml_instances.proofs.OneFault.{event_same}
 use Rattle.markup.specs.Standing.{EventsStay}
 use Rattle.markup.specs.Token.{Token}
 use Rattle.markup.specs.Marks.{Front, tag_limit}
 use Rattle.markup.specs.Events.{events}
 use Rattle.markup.specs.Faults.{IsClean}
-use Rattle.message_model.specs.Tables.{message_of}
-use Rattle.xml_instances.specs.XmlFaults.{items, items_told}
+use Rattle.respell.proofs.WholeTree.{Rest, Begun, element_more, char_more, root_of, rest_true}
 use Rattle.reference_check.specs.Forms.{Form}
 use Rattle.reference_check.specs.Words.{IsWordOf}
 use Rattle.reference_check.specs.Steps.{Fine, end_after, Came}
 use Rattle.reference_check.specs.Shapes.{Shape, HasShape, WordGoesOn, AreFinite}
+use Rattle.message_model.specs.Tables.{message_of}
 use Rattle.message_model.specs.Continued.{CameGoesOn}
 use Rattle.message_model.specs.Sound.{AreSound, SoundFormsAgree}
 use Rattle.message_model.specs.Writes.{name_in_namespace}
 use Rattle.message_model.specs.Message.{Message}
+use Rattle.xml_instances.proofs.OneFault.{event_same}
+use Rattle.xml_instances.specs.XmlFaults.{items, items_told}
 use Rattle.xml_instances.specs.Levels.{Level, levels_after, levels_over}
 use Rattle.xml_instances.specs.EventFaults.{AreFine, EventFault, Broken}
 use Rattle.xml_instances.specs.OpenLaws.{FineIsOpen, OneMoreIsOpen, CleanAreFronts, BrokenEventIsNotOpen, FedIsOpen}
@@ -34,7 +35,6 @@ use Rattle.xml_instances.proofs.CleanFronts.{clean_front, front_of_front}
 use Rattle.xml_instances.proofs.OpenRuns.{root_may}
 use Rattle.xml_instances.proofs.OpenAccepts.{root_so}
 use Rattle.xml_instances.proofs.Completion.{Nested, tree_nested, Made, made_at, over_stands, Completed, complete}
-use Rattle.respell.proofs.WholeTree.{Rest, Begun, element_more, char_more, root_of, rest_true}
 
 parse_nested : (begun : Bool) (ns : List Expanded) (items : List Item) → Begun begun ns → Nested begun ns items → Rest begun ns items
 parse_nested true [] [] b h = refl

@@ -4,14 +4,14 @@ use Rattle.std.specs.Prelude.{slice_get, codes}
 use Rattle.lexical_core.specs.Tree.{Item, Starts, Char, Ends, Nodes, Element, Text, Tree, flat, tree_items}
 use Rattle.lexical_core.specs.Tree as tree
 use Rattle.facets.specs.declared.simple.Simple.{Simple}
-use Rattle.reference_check.specs.Forms.{Form, Slot, Sequence, Missing, form_slots, text_type}
 use Rattle.facets.specs.LeafChecks.{IsWithinLimits}
+use Rattle.reference_check.specs.Forms.{Form, Slot, Sequence, Missing, form_slots, text_type}
 use Rattle.reference_check.specs.Forms as form
 use Rattle.reference_check.specs.Words.{times, UpTo, MayComeTimes}
 use Rattle.reference_check.specs.Steps.{find_slot, has_room}
+use Rattle.reference_check.specs.Shapes.{Component, OpenLeaf, Nothing, Child, HasShape, IsFinite, AreFinite}
 use Rattle.message_model.specs.Sound.{IsSoundForm, AreSound, SoundFormsAgree}
 use Rattle.message_model.specs.Continued.{CameGoesOn}
-use Rattle.reference_check.specs.Shapes.{Component, OpenLeaf, Nothing, Child, HasShape, IsFinite, AreFinite}
 use Rattle.message_model.specs.Message.{Message}
 use Rattle.message_model.specs.Writes.{name_in_namespace}
 use Rattle.xml_instances.specs.EventFaults.{AreFine}

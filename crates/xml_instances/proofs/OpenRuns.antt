@@ -9,21 +9,21 @@ use Rattle.std.proofs.lemmas.Option.{same_Some}
 use Rattle.lexical_core.specs.Tree.{Expanded, Entry, Nodes, Element, Text, Tree, Item, Starts, Char, Ends, flat, flat_nodes}
 use Rattle.lexical_core.specs.Tree as tree
 use Rattle.lexical_core.specs.Characters.{IsSpace}
+use Rattle.lexical_core.specs.Names.{same_name}
 use Rattle.data_types.specs.Leaf as leaf
-use Rattle.markup.specs.Chars.{is_space}
 use Rattle.facets.specs.declared.simple.Simple.{Simple}
+use Rattle.markup.specs.Chars.{is_space}
 use Rattle.reference_check.specs.Forms.{Graph, Form, Slot, form_slots}
 use Rattle.reference_check.specs.Forms as form
 use Rattle.reference_check.specs.Words.{IsWordOf}
 use Rattle.reference_check.specs.Steps.{Slotted, Fine, next, next_found, next_at, end_after}
 use Rattle.reference_check.specs.Shapes.{Shape, Component, OpenLeaf, Shapes, Nothing, Child, HasShape, HaveShapes, numbers_in}
 use Rattle.message_model.specs.Writes.{name_in_namespace, SpellsCode, text_nodes, IsBlank, Wraps, MayHold}
-use Rattle.lexical_core.specs.Names.{same_name}
 use Rattle.message_model.specs.Message.{Message}
 use Rattle.xml_instances.specs.Levels.{Level, Parent, Leaf, Envelope, Foreign, begun_level, path_in}
-use Rattle.xml_instances.specs.EventFaults.{AttributeFault, CurrencyFault, CodeFault, place_fault, is_bare, space_fault}
+use Rattle.xml_instances.specs.EventFaults.{AttributeFault, CurrencyFault, place_fault, is_bare, space_fault}
 use Rattle.xml_instances.specs.OpenInstances.{AreKnown, TextSoFar, LeafSoFar, ContentSoFar, IsSoFar}
-use Rattle.xml_instances.proofs.Runs.{IsSteady, space_passes, same_names, hints_known, money_known}
+use Rattle.xml_instances.proofs.Runs.{IsSteady, space_passes, same_names, hints_known, money_known, code_fine}
 use Rattle.xml_instances.proofs.Following.{MayFollow, unless_both}
 
 pub element_size : (n : Expanded) (a : List Entry) (inner more : Nodes) → length (flat_nodes (Element n a inner more)) ≡ length (flat_nodes inner) + (length (flat_nodes more) + 2)
@@ -33,13 +33,9 @@ pub text_size : (w : List ℕ) → length (flat_nodes (text_nodes w)) ≡ length
 text_size [] = refl
 text_size (c ∷ w) = ap suc (text_size w)
 
-code_passes : {P : Type 0} (f : Form P Simple) (text path : List ℕ) (l : leaf.Leaf) → SpellsCode f text l → CodeFault f text path None
-code_passes (form.Simple s) text path l h = (l, h)
-code_passes _ text path l h = absurd h
-
 currency_passes : {P : Type 0} (f : Form P Simple) (o : Option (List ℕ)) (w path : List ℕ) (l : leaf.Leaf) → o ≡ Some w → SpellsCode f (chars w) l → CurrencyFault f o path None
 currency_passes f None w path l e h = cc
-currency_passes f (Some u) w path l e h = (let same : w ≡ u = cc in code_passes f (chars u) path l (rw same at h))
+currency_passes f (Some u) w path l e h = (let same : w ≡ u = cc in code_fine f (chars u) path l (rw same at h))
 
 module _ {P : Type 0} (m : Message P) (steady : IsSteady m.forms) where
   known_fine : (f : Form P Simple) (attributes : List Entry) (path : List ℕ) → AreKnown m.forms f attributes → AttributeFault m (Some f) attributes path None

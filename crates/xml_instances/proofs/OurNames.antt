@@ -3,19 +3,19 @@ use Rattle.std.proofs.Common.{◌≡◌, ℕ, Bool, true, false, List, [], ◌�
 use Rattle.std.specs.Prelude.{if◌then◌else◌, codes}
 use Rattle.std.specs.Str.{bytes_eq}
 use Rattle.std.proofs.lemmas.Bool.{and_parts}
-use Rattle.std.proofs.lemmas.Slice.Eq.{bytes_eq-Decides}
 use Rattle.lexical_core.specs.Tree.{Expanded, Entry, Item, Starts, Char, Ends, Skipped}
+use Rattle.lexical_core.specs.Names.{same_name}
+use Rattle.lexical_core.specs.declared.rule.Rule.TheVariants.{WrongRoot, UnknownElement}
+use Rattle.lexical_core.proofs.EqualBytes.{equal_bytes}
 use Rattle.markup.specs.Events.{Placed}
 use Rattle.markup.specs.PlainTags.{open_after, open_behind, innermost_namespace, name_behind}
 use Rattle.reference_check.specs.Steps.{next}
 use Rattle.message_model.specs.Message.{Message}
 use Rattle.message_model.specs.Writes.{name_in_namespace}
-use Rattle.lexical_core.specs.Names.{same_name}
 use Rattle.xml_instances.specs.Levels.{Level, Parent, Leaf, Envelope, Foreign, levels_after, levels_over, with_char, form_of_start, level_of_start, round_start, path_in}
 use Rattle.xml_instances.specs.EventFaults.{Broken, EventFault, AttributeFault, AreFine, Unless, next_fault}
 use Rattle.xml_instances.specs.XmlFaults.{items_told}
 use Rattle.xml_instances.specs.inner.Quick.{IsOurs}
-use Rattle.lexical_core.specs.declared.rule.Rule.TheVariants.{WrongRoot, UnknownElement}
 
 -- an element that has elements of the message has a name of its namespace
 abbrev IsNamed : Message ℕ → Level ℕ → Expanded → Type 0
@@ -56,20 +56,17 @@ if_none false x b h = absurd (differ h)
     differ : Some b ≡ None → ⊥
     differ k = cc
 
-same_space : (a b : List ℕ) → bytes_eq a b ≡ true → a ≡ b
-same_space a b h = (bytes_eq-Decides a b).0 h
-
 named_start : (m : Message ℕ) (ls : List (Level ℕ)) (n : Expanded) (attributes : List Entry) (ns : List Expanded) → EventFault m ls (Starts n attributes) None → AreNamed m ls ns
     → AreNamed m (level_of_start (form_of_start m ls n) ∷ round_start ls n) (n ∷ ns)
 named_start m [] n attributes [] h k =
     let e = if_none (same_name n (name_in_namespace m.namespace (codes "Document"))) None (record { rule = WrongRoot; path = codes "/" }) (unless_none _ (AttributeFault m (form_of_start m [] n) attributes (path_in (round_start {P = ℕ} [] n))) h) in
-    (is_named m (level_of_start (form_of_start m [] n)) n (same_space n.namespace m.namespace (and_parts (bytes_eq n.namespace m.namespace) (bytes_eq n.local (codes "Document")) e).0), tt)
+    (is_named m (level_of_start (form_of_start m [] n)) n (equal_bytes n.namespace m.namespace (and_parts (bytes_eq n.namespace m.namespace) (bytes_eq n.local (codes "Document")) e).0), tt)
 named_start m [] n attributes (p ∷ ns) h k = absurd k
 named_start m (l ∷ ls) n attributes [] h k = absurd k
 named_start m (Parent f d ∷ ls) n attributes (p ∷ ns) h k =
     let e = if_none (bytes_eq n.namespace m.namespace) (next_fault (path_in ls) f (next f d n.local)) (record { rule = UnknownElement; path = path_in ls })
     (unless_none _ (AttributeFault m (form_of_start m (Parent f d ∷ ls) n) attributes (path_in (round_start (Parent f d ∷ ls) n))) h) in
-    (is_named m (level_of_start (form_of_start m (Parent f d ∷ ls) n)) n (same_space n.namespace m.namespace e), k)
+    (is_named m (level_of_start (form_of_start m (Parent f d ∷ ls) n)) n (equal_bytes n.namespace m.namespace e), k)
 named_start m (Leaf simple text ∷ ls) n attributes (p ∷ ns) h k = absurd (differ h)
   where
     differ : {b : Broken} → None ≡ Some b → ⊥

@@ -1,28 +1,23 @@
 -- The path of open elements.
-use Rattle.std.proofs.Common.{◌≡◌, ℕ, zero, suc, ◌+◌, ◌<◌, List, [], ◌∷◌, ◌++◌, Option, Some, None, take, get_or, length, refl, ap, ◌∙◌, sym, reverse, arith, append-nil, add-one, subst}
+use Rattle.std.proofs.Common.{◌≡◌, ℕ, suc, ◌+◌, ◌<◌, List, [], ◌∷◌, ◌++◌, Option, Some, None, take, get_or, length, refl, ap, ◌∙◌, sym, reverse, arith, append-nil, add-one, subst, take-suc}
 use Rattle.std.specs.Prelude.{codes, Result, Ok, Err, IfOk}
+use Rattle.std.proofs.lemmas.List.{reverse-append, length-reverse}
 use Rattle.lexical_core.specs.declared.rule.Rule.{Rule}
-use Rattle.xml_instances.specs.declared.opened.Refusal.{Refusal}
-use Rattle.xml_instances.specs.declared.opened.Refusal.TheVariants.{Breaks, Memory}
 use Rattle.facets.specs.declared.simple.Simple.{Simple}
 use Rattle.reference_check.specs.Forms.{Graph, Form}
 use Rattle.reference_check.specs.Words.{times}
 use Rattle.reference_check.specs.Steps.{Came, EndsWith}
 use Rattle.message_model.specs.Message.{Message}
-use Rattle.std.proofs.lemmas.List.{reverse-append, length-reverse}
+use Rattle.xml_instances.specs.declared.opened.Refusal.{Refusal}
+use Rattle.xml_instances.specs.declared.opened.Refusal.TheVariants.{Breaks, Memory}
 use Rattle.xml_instances.specs.Levels.{Level, Parent, Leaf, Envelope, Foreign, path_in, levels_path, last_name, numbered_step}
 use Rattle.xml_instances.specs.declared.content.OpenText.{OpenText}
 use Rattle.xml_instances.specs.declared.opened.Opened.TheVariants as opened
 use Rattle.xml_instances.specs.Open.{last_step_of, path_so_far, path_round, StandsOpen, StandFor, RefusesWith, IsPathTold}
 use Rattle.xml_instances.specs.declared.opened.Opened.{Opened}
 
-take_one : {A : Type 0} (xs : List A) (i : ℕ) (d : A) → i < length xs → take (suc i) xs ≡ take i xs ++ get_or xs i d ∷ []
-take_one [] i d h = absurd (omega (arith, h))
-take_one (x ∷ xs) zero d h = refl
-take_one (x ∷ xs) (suc i) d h = ap (λ v. x ∷ v) (take_one xs i d (omega (arith, h)))
-
 pub one_name : (types : Graph ℕ Simple) (es : List Opened) (i : ℕ) (d : Opened) → i < length es → path_round types (take (i + 1) es) ≡ path_round types (take i es) ++ last_step_of types (get_or es i d)
-one_name types es i d h = rw add-one (ap (path_so_far types) (ap reverse (take_one es i d h) ∙ reverse-append (take i es) (get_or es i d ∷ [])))
+one_name types es i d h = rw add-one (ap (path_so_far types) (ap reverse (take-suc es i d h) ∙ reverse-append (take i es) (get_or es i d ∷ [])))
 
 -- the names of what is open are the path
 pub names_are : (m : Message ℕ) (es : List Opened) (ls : List (Level ℕ)) → StandFor m es ls → path_so_far m.forms es ≡ path_in ls

@@ -32,7 +32,7 @@ use Rattle.xml_instances.specs.declared.content.Content.{Content}
 use Rattle.xml_instances.specs.declared.opened.Refusal.{Refusal}
 use Rattle.xml_instances.specs.declared.opened.Refusal.TheVariants.{Breaks, Memory as NoMemory}
 use Rattle.xml_instances.specs.declared.checker.XmlChecker.{XmlChecker}
-use Rattle.xml_instances.proofs.Checks.{told_joined, place_more, FedSoFar}
+use Rattle.xml_instances.proofs.Checks.{place_more, FedSoFar}
 use Rattle.xml_instances.proofs.OurNames.{ours_behind}
 use Rattle.xml_instances.specs.Built.{EventsShow}
 use Rattle.xml_instances.specs.Keeping.{GoOn, IsBuilt, MayShow, MayShowName}
@@ -40,6 +40,8 @@ use Rattle.xml_instances.proofs.GoingOn.{go_still, built_on, built_still}
 use Rattle.xml_instances.proofs.InsideNames.{may_show_name}
 use Rattle.xml_instances.proofs.NoCut.{event_no_cut}
 use Rattle.xml_instances.proofs.FaultAt.{event_fault, fine_joined, over_joined}
+use Rattle.xml_instances.proofs.ToldAtEvents.{told_joined}
+use Rattle.xml_instances.proofs.Refusals.{events_of}
 
 pub chars_told : (place : ℕ) (cs : List ℕ) → items_told (characters_from place cs) ≡ map (λ c. Char c) cs
 chars_told place [] = refl
@@ -93,9 +95,6 @@ stops_more T bytes more (Refused fault) h = record {
   has_fault = λ behind. subst (λ (v : List ℕ). XmlFault (message_of T) v (xml_fault_of fault)) (sym (append_assoc bytes more behind)) (h.has_fault (more ++ behind));
   no_cut = h.no_cut;
 }
-
-abbrev events_of : List Token → List Placed
-events_of tokens = events [] 0 tokens
 
 pub stops_at_tag : (T : Tables) (old : XmlChecker) (reader : Reader) (bytes tag : List ℕ) (items : List Item) (content : Content) (r : Refusal) (e : InstanceError) (h : HasFedXml old T bytes) → EventsStay
     → HasTold reader (bytes ++ tag) (h.told ++ placed_at (length bytes) items) → AreItemsTaken {T = Unit {0}} (message_of T) (levels_over (message_of T) [] (items_told h.told)) items content (Err r) → IsTold r old.place e → XmlStops T (bytes ++ tag) e

@@ -1,15 +1,16 @@
 -- Runs of characters, and the events of a tag, held to the content.
 use Rattle.std.proofs.Common.{◌≡◌, ℕ, true, false, List, [], ◌∷◌, ◌++◌, Option, Some, None, refl, sym, ap, subst, ◌∙◌, reverse, append-nil, append_assoc, inl, inr}
-use Rattle.std.specs.Prelude.{Result, Ok, Err, OnOk, OnErr, map}
+use Rattle.std.specs.Prelude.{Result, Ok, Err, OnOk, OnErr}
 use Rattle.std.specs.List.{list_all}
 use Rattle.std.proofs.lemmas.Bool.{and_parts}
-use Rattle.lexical_core.specs.Tree.{Item, Char}
+use Rattle.lexical_core.specs.Tree.{Item}
 use Rattle.lexical_core.specs.XmlRuns.{IsXmlRun}
+use Rattle.facets.specs.declared.simple.Simple.{Simple}
 use Rattle.markup.specs.Chars.{is_space}
 use Rattle.markup.specs.Literals.{IsRun}
+use Rattle.respell.proofs.TakenRuns.{chars_of}
 use Rattle.reference_check.specs.Forms.{Form}
 use Rattle.message_model.specs.Message.{Message}
-use Rattle.facets.specs.declared.simple.Simple.{Simple}
 use Rattle.xml_instances.specs.declared.judge.Judge.{Judge}
 use Rattle.xml_instances.specs.Judges.{HasJudgeTaken, IsJudgeMadeFor}
 use Rattle.xml_instances.specs.Levels.{Level, Parent, Leaf, Envelope, Foreign, levels_after, levels_over, with_char, path_in}
@@ -28,9 +29,6 @@ use Rattle.xml_instances.specs.declared.opened.Refusal.TheVariants.{Breaks, Memo
 -- it is one of XML
 abbrev pub xml_run : (bytes : List ℕ) (count : ℕ) → IsRun bytes count → IsXmlRun bytes count
 xml_run bytes count r = record { chars = r.characters; spelled = r.bytes_are; count_is = r.count_is; are = r.allowed }
-
-abbrev chars_of : List ℕ → List Item
-chars_of cs = map (λ c. Char c) cs
 
 text_chars : (m : Message ℕ) (simple : Simple) (t : List ℕ) (ls : List (Level ℕ)) (cs : List ℕ)
     → AreFine m (Leaf simple t ∷ ls) (chars_of cs) × (levels_over m (Leaf simple t ∷ ls) (chars_of cs) ≡ Leaf simple (t ++ cs) ∷ ls)

@@ -3,6 +3,7 @@ use Rattle.std.proofs.Common.{◌≡◌, ℕ, ◌+◌, List, [], ◌∷◌, ◌+
 use Rattle.std.proofs.lemmas.List.{map-append}
 use Rattle.std.proofs.lemmas.Grind.{flat_map-append}
 use Rattle.std.specs.List.{flat_map}
+use Rattle.std.specs.Prelude.{Err}
 use Rattle.lexical_core.specs.declared.rule.Rule.{Rule}
 use Rattle.lexical_core.specs.Tree.{Item}
 use Rattle.markup.specs.Token.{Token, token_bytes}
@@ -14,27 +15,26 @@ use Rattle.markup.specs.Reading.{AreEvents, Refuses, GoesOn, fault_of as mark_of
 use Rattle.markup.specs.Standing.{NothingAtClean, TokensHaveBytes, EventsStay}
 use Rattle.markup.specs.declared.event.Event.{Event}
 use Rattle.markup.specs.declared.reader.MarkFault.{MarkFault as MarkTold}
+use Rattle.markup.specs.declared.reader.Reader.{Reader}
+use Rattle.markup.proofs.TokensBehind.{tokens_behind, behind as reversed}
 use Rattle.message_model.specs.Message.{Message}
+use Rattle.message_model.specs.Tables.{Tables, message_of}
+use Rattle.message_model.specs.declared.fault.InstanceError.{InstanceError}
+use Rattle.message_model.specs.declared.fault.InstanceError.TheVariants.{Refused, Memory}
 use Rattle.xml_instances.specs.Levels.{Level, levels_over, levels_path}
 use Rattle.xml_instances.specs.EventFaults.{Broken, EventFault, AreFine}
 use Rattle.xml_instances.specs.XmlFaults.{FaultInXml, XmlFault, items_told}
 use Rattle.xml_instances.specs.Checking.{items_in_events, BreaksAt, AreTaken, XmlStops, XmlEndsAs, IsMarkTold, xml_fault_of, HasFedXml}
-use Rattle.std.specs.Prelude.{Err}
-use Rattle.message_model.specs.Tables.{Tables, message_of}
-use Rattle.message_model.specs.declared.fault.InstanceError.{InstanceError}
-use Rattle.message_model.specs.declared.fault.InstanceError.TheVariants.{Refused, Memory}
 use Rattle.xml_instances.specs.declared.content.Content.{Content}
 use Rattle.xml_instances.specs.declared.checker.XmlChecker.{XmlChecker}
-use Rattle.markup.specs.declared.reader.Reader.{Reader}
 use Rattle.xml_instances.proofs.NoCut.{event_no_cut}
-use Rattle.respell.proofs.Runs.{behind}
-use Rattle.xml_instances.proofs.Whole.{reversed}
 use Rattle.xml_instances.proofs.FaultAt.{event_fault, markup_fault, fine_joined, over_joined}
-use Rattle.xml_instances.proofs.Checks.{items_placed, told_joined, items_new}
+use Rattle.xml_instances.proofs.Checks.{items_placed, items_new}
+use Rattle.xml_instances.proofs.ToldAtEvents.{told_joined}
 
 module _ (one_token : OneToken) (nothing_at_clean : NothingAtClean) where
   -- a list of tokens that ends where something is wrong is no front of a longer one that is clean
-  last_is : (before : List Token) (b : List ℕ) (us vs : List Token) (rest z : List ℕ) (rule : Rule) (at : ℕ) → Front tag_limit before b us rest → Front tag_limit before b (us ++ vs) z → IsClean before (us ++ vs) → Next tag_limit (behind before us) rest rule at → vs ≡ []
+  last_is : (before : List Token) (b : List ℕ) (us vs : List Token) (rest z : List ℕ) (rule : Rule) (at : ℕ) → Front tag_limit before b us rest → Front tag_limit before b (us ++ vs) z → IsClean before (us ++ vs) → Next tag_limit (tokens_behind before us) rest rule at → vs ≡ []
   last_is before b [] [] rest z rule at f g c n = refl
   last_is before b [] (t ∷ vs) rest z rule at f g c n = absurd (nothing_at_clean before b t g.0 rule at (subst (λ (v : List ℕ). Next tag_limit before v rule at) (sym f) n) g.1 g.2 c.0)
   last_is before b (u ∷ us) vs rest z rule at f g c n =
@@ -107,7 +107,7 @@ content_fault m bytes tokens rest told more old new b place front clean told_are
     split : events [] 0 tokens ≡ (told ++ map placed_event k.before) ++ placed_event k.event ∷ map placed_event k.behind
     split = sym told_are ∙ (ap (λ v. told ++ v) more_is ∙ sym (append_assoc told (map placed_event k.before) (placed_event k.event ∷ map placed_event k.behind)))
 
-abbrev events_of : List Token → List Placed
+abbrev pub events_of : List Token → List Placed
 events_of tokens = events [] 0 tokens
 
 -- an event of bytes that the reader took

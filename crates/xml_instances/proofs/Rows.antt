@@ -2,11 +2,11 @@
 use Rattle.std.proofs.Common.{ℕ, zero, suc, List, [], ◌∷◌, Option, Some, None, refl, inl, inr}
 use Rattle.std.specs.Prelude.{codes, ◌++◌}
 use Rattle.std.specs.Fmt.{decimal}
-use Rattle.markup.specs.Chars.{is_space}
 use Rattle.lexical_core.specs.declared.rule.Rule.{Rule}
 use Rattle.lexical_core.specs.declared.rule.Rule.TheVariants as rule
 use Rattle.lexical_core.specs.Tree.{Item, Starts, Char, Ends, Skipped}
 use Rattle.facets.specs.declared.simple.Simple.{Simple}
+use Rattle.markup.specs.Chars.{is_space}
 use Rattle.reference_check.specs.Forms.{Form, Slot, Sequence, Choice, Missing}
 use Rattle.reference_check.specs.Forms as form
 use Rattle.message_model.specs.Message.{Message}

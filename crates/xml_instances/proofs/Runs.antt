@@ -9,18 +9,18 @@ use Rattle.std.proofs.lemmas.Option.{same_Some}
 use Rattle.lexical_core.specs.Tree.{Expanded, Entry, Nodes, Element, Text, Tree, Item, Starts, Char, Ends, flat, flat_nodes}
 use Rattle.lexical_core.specs.Tree as tree
 use Rattle.lexical_core.specs.Characters.{IsSpace}
+use Rattle.lexical_core.specs.Names.{same_name}
 use Rattle.data_types.specs.Value.{Value, Children, Nothing, Child}
 use Rattle.data_types.specs.Value as value
 use Rattle.data_types.specs.Leaf as leaf
-use Rattle.markup.specs.Chars.{is_space}
 use Rattle.facets.specs.declared.simple.Simple.{Simple}
+use Rattle.markup.specs.Chars.{is_space}
 use Rattle.reference_check.specs.Forms.{Graph, Form, Slot, form_slots}
 use Rattle.reference_check.specs.Forms as form
 use Rattle.reference_check.specs.Words.{IsWordOf}
 use Rattle.reference_check.specs.Steps.{Slotted, Fine, next, next_of, next_found, next_at, find_slot, end_after}
 use Rattle.message_model.specs.Admits.{AdmitsAs, AdmitsChildren, numbers_of}
 use Rattle.message_model.specs.Writes.{name_in_namespace, IsHint, IsHintOrCurrency, currency, SpellsCode, WritesAttributes, text_nodes, IsBlank, Wraps, MayHold, WritesContent, WritesLeaf, SpellsText}
-use Rattle.lexical_core.specs.Names.{same_name}
 use Rattle.message_model.specs.Message.{Message}
 use Rattle.xml_instances.specs.SpellsXml.{IsInstance}
 use Rattle.xml_instances.specs.Levels.{Level, Parent, Leaf, Envelope, Foreign, begun_level, path_in}
@@ -32,9 +32,6 @@ space_passes c (inl e) = rw e refl
 space_passes c (inr (inl e)) = rw e refl
 space_passes c (inr (inr (inl e))) = rw e refl
 space_passes c (inr (inr (inr e))) = rw e refl
-
-pub same_bytes : (a : List ℕ) → bytes_eq a a ≡ true
-same_bytes a = (bytes_eq-Decides a a).1 refl
 
 -- of the forms of a message: a tag finds its slot, what a word goes on with may come, and a word may end
 pub record IsSteady {P : Type 0} (g : Graph P Simple) : Type 0 where
@@ -62,7 +59,7 @@ money_known c s [] h = refl
 money_known c s (a ∷ attributes) (inl e, h) = none_unknown (is_known (form.Money c s) a) _ (or_left _ _ (hint_known a e)) (money_known c s attributes h)
 money_known c s (a ∷ attributes) (inr e, h) = none_unknown (is_known (form.Money c s) a) _ (or_right _ _ (same_names a.name currency e)) (money_known c s attributes h)
 
-code_fine : {P : Type 0} (f : Form P Simple) (text path : List ℕ) (l : leaf.Leaf) → SpellsCode f text l → CodeFault f text path None
+pub code_fine : {P : Type 0} (f : Form P Simple) (text path : List ℕ) (l : leaf.Leaf) → SpellsCode f text l → CodeFault f text path None
 code_fine (form.Simple s) text path l h = (l, h)
 code_fine _ text path l h = absurd h
 

@@ -5,11 +5,11 @@ use Rattle.std.specs.Str.{chars}
 use Rattle.std.proofs.lemmas.Option.{same_Some}
 use Rattle.lexical_core.specs.Tree.{Expanded, Entry, Nodes, Element, Text, Tree, Item, Starts, Char, Ends, Skipped, flat, flat_nodes, tree_items}
 use Rattle.lexical_core.specs.Tree as tree
+use Rattle.lexical_core.specs.declared.rule.Rule.{Rule}
 use Rattle.data_types.specs.Value.{Value, Children, Nothing, Child, Edge, Piece, Begins, Holds, Ends as EndsPiece}
 use Rattle.data_types.specs.Value as value
 use Rattle.data_types.specs.Leaf as leaf
 use Rattle.facets.specs.LeafUnder.{GivesLeaf, HasSortedCodes, LeafUnder}
-use Rattle.lexical_core.specs.declared.rule.Rule.{Rule}
 use Rattle.facets.specs.declared.simple.Simple.{Simple}
 use Rattle.fragments.specs.Fragment.{fragment}
 use Rattle.reference_check.specs.Forms.{Graph, Form, Slot, form_slots, text_type}
@@ -25,6 +25,7 @@ use Rattle.xml_instances.specs.XmlFaults.{items}
 use Rattle.xml_instances.specs.Laws.{PiecesAreShown}
 use Rattle.xml_instances.specs.Levels.{Level, Parent, Leaf, Envelope, Foreign, begun_level, with_char}
 use Rattle.xml_instances.specs.Built.{Shown, nothing_shown, type_at, with_begun, with_leaf, close_shown, with_inside, without_inside, with_event, CodeShown, EventsShow}
+use Rattle.xml_instances.specs.Keeping.{with_all_inside}
 use Rattle.xml_instances.proofs.Runs.{IsSteady, next_slotted}
 use Rattle.xml_instances.proofs.Counted.{round_length}
 
@@ -33,25 +34,22 @@ use Rattle.xml_instances.proofs.Counted.{round_length}
 abbrev with_pieces : List Piece → Shown → Shown
 with_pieces ps s = record { edges = s.edges; inside = s.inside; pieces = s.pieces ++ ps }
 
-abbrev with_items : List Item → Shown → Shown
-with_items items s = record { edges = s.edges; inside = s.inside ++ items; pieces = s.pieces }
-
 abbrev shown : List Edge → List Item → List Piece → Shown
 shown edges inside ps = record { edges = edges; inside = inside; pieces = ps }
 
 no_pieces : (s : Shown) → with_pieces [] s ≡ s
 no_pieces s = ap (λ (ps : List Piece). shown s.edges s.inside ps) (append-nil s.pieces)
 
-no_items : (s : Shown) → with_items [] s ≡ s
+no_items : (s : Shown) → with_all_inside [] s ≡ s
 no_items s = ap (λ (is : List Item). shown s.edges is s.pieces) (append-nil s.inside)
 
 pieces_then : (a b : List Piece) (s : Shown) → with_pieces b (with_pieces a s) ≡ with_pieces (a ++ b) s
 pieces_then a b s = ap (λ (ps : List Piece). shown s.edges s.inside ps) (append_assoc s.pieces a b)
 
-items_then : (a b : List Item) (s : Shown) → with_items b (with_items a s) ≡ with_items (a ++ b) s
+items_then : (a b : List Item) (s : Shown) → with_all_inside b (with_all_inside a s) ≡ with_all_inside (a ++ b) s
 items_then a b s = ap (λ (is : List Item). shown s.edges is s.pieces) (append_assoc s.inside a b)
 
-one_inside : (item : Item) (s u : Shown) → u ≡ with_inside item s → u ≡ with_items (item ∷ []) s
+one_inside : (item : Item) (s u : Shown) → u ≡ with_inside item s → u ≡ with_all_inside (item ∷ []) s
 one_inside item s u e = e
 
 -- ---- the pieces of a value: the code of an amount comes with the element's start, and what is left before its end
@@ -80,44 +78,44 @@ module _ (T : Tables) (steady : IsSteady (types_of T)) (sorted : (p : ℕ) (simp
 
   -- ---- envelopes
 
-  foreign_shown : (nodes : Nodes) (above : List (Level ℕ)) (rest : List Item) (s t : Shown) → EventsShow T (Foreign ∷ above) (flat_nodes nodes ++ rest) s t → EventsShow T (Foreign ∷ above) rest (with_items (flat_nodes nodes) s) t
-  foreign_shown tree.Nothing above rest s t h = from (Foreign ∷ above) rest s (with_items [] s) t (sym (no_items s)) h
+  foreign_shown : (nodes : Nodes) (above : List (Level ℕ)) (rest : List Item) (s t : Shown) → EventsShow T (Foreign ∷ above) (flat_nodes nodes ++ rest) s t → EventsShow T (Foreign ∷ above) rest (with_all_inside (flat_nodes nodes) s) t
+  foreign_shown tree.Nothing above rest s t h = from (Foreign ∷ above) rest s (with_all_inside [] s) t (sym (no_items s)) h
   foreign_shown (Text c more) above rest s t (u, e, k) =
-      from (Foreign ∷ above) rest (with_items (flat_nodes more) u) (with_items (Char c ∷ flat_nodes more) s) t (ap (with_items (flat_nodes more)) (one_inside (Char c) s u e) ∙ items_then (Char c ∷ []) (flat_nodes more) s)
+      from (Foreign ∷ above) rest (with_all_inside (flat_nodes more) u) (with_all_inside (Char c ∷ flat_nodes more) s) t (ap (with_all_inside (flat_nodes more)) (one_inside (Char c) s u e) ∙ items_then (Char c ∷ []) (flat_nodes more) s)
       (foreign_shown more above rest u t k)
   foreign_shown (Element n attributes inner more) above rest s t (u, (y, i, same), k) =
       of_end (foreign_shown inner (Foreign ∷ above) (Ends n ∷ (flat_nodes more ++ rest)) u t (rw (append_assoc (flat_nodes inner) (Ends n ∷ flat_nodes more) rest) at k)) (λ w r. foreign_shown more above rest w t r)
     where
-      all_items : (w : Shown) → w ≡ with_inside (Ends n) (with_items (flat_nodes inner) u) → with_items (flat_nodes more) w ≡ with_items (Starts n attributes ∷ (flat_nodes inner ++ (Ends n ∷ flat_nodes more))) s
+      all_items : (w : Shown) → w ≡ with_inside (Ends n) (with_all_inside (flat_nodes inner) u) → with_all_inside (flat_nodes more) w ≡ with_all_inside (Starts n attributes ∷ (flat_nodes inner ++ (Ends n ∷ flat_nodes more))) s
       all_items w f =
-          ap (with_items (flat_nodes more)) (one_inside (Ends n) (with_items (flat_nodes inner) u) w f)
-          ∙ (items_then (Ends n ∷ []) (flat_nodes more) (with_items (flat_nodes inner) u)
+          ap (with_all_inside (flat_nodes more)) (one_inside (Ends n) (with_all_inside (flat_nodes inner) u) w f)
+          ∙ (items_then (Ends n ∷ []) (flat_nodes more) (with_all_inside (flat_nodes inner) u)
           ∙ (items_then (flat_nodes inner) (Ends n ∷ flat_nodes more) u
-          ∙ (ap (with_items (flat_nodes inner ++ (Ends n ∷ flat_nodes more))) (one_inside (Starts n attributes) s u (same ∙ i)) ∙ items_then (Starts n attributes ∷ []) (flat_nodes inner ++ (Ends n ∷ flat_nodes more)) s)))
+          ∙ (ap (with_all_inside (flat_nodes inner ++ (Ends n ∷ flat_nodes more))) (one_inside (Starts n attributes) s u (same ∙ i)) ∙ items_then (Starts n attributes ∷ []) (flat_nodes inner ++ (Ends n ∷ flat_nodes more)) s)))
 
-      of_end : EventsShow T (Foreign ∷ Foreign ∷ above) (Ends n ∷ (flat_nodes more ++ rest)) (with_items (flat_nodes inner) u) t
-          → ((w : Shown) → EventsShow T (Foreign ∷ above) (flat_nodes more ++ rest) w t → EventsShow T (Foreign ∷ above) rest (with_items (flat_nodes more) w) t) → EventsShow T (Foreign ∷ above) rest (with_items (Starts n attributes ∷ (flat_nodes inner ++ (Ends n ∷ flat_nodes more))) s) t
-      of_end (w, (x, f, q), r) later = from (Foreign ∷ above) rest (with_items (flat_nodes more) w) (with_items (Starts n attributes ∷ (flat_nodes inner ++ (Ends n ∷ flat_nodes more))) s) t (all_items w (q ∙ f)) (later w r)
+      of_end : EventsShow T (Foreign ∷ Foreign ∷ above) (Ends n ∷ (flat_nodes more ++ rest)) (with_all_inside (flat_nodes inner) u) t
+          → ((w : Shown) → EventsShow T (Foreign ∷ above) (flat_nodes more ++ rest) w t → EventsShow T (Foreign ∷ above) rest (with_all_inside (flat_nodes more) w) t) → EventsShow T (Foreign ∷ above) rest (with_all_inside (Starts n attributes ∷ (flat_nodes inner ++ (Ends n ∷ flat_nodes more))) s) t
+      of_end (w, (x, f, q), r) later = from (Foreign ∷ above) rest (with_all_inside (flat_nodes more) w) (with_all_inside (Starts n attributes ∷ (flat_nodes inner ++ (Ends n ∷ flat_nodes more))) s) t (all_items w (q ∙ f)) (later w r)
 
   blank_shown : (nodes : Nodes) (above : List (Level ℕ)) (rest : List Item) (s t : Shown) → IsBlank nodes → EventsShow T (Envelope true ∷ above) (flat_nodes nodes ++ rest) s t → EventsShow T (Envelope true ∷ above) rest s t
   blank_shown tree.Nothing above rest s t b h = h
   blank_shown (Text c more) above rest s t b (u, e, k) = from (Envelope true ∷ above) rest u s t e (blank_shown more above rest u t b.1 k)
   blank_shown (Element n attributes inner more) above rest s t b h = absurd b
 
-  wraps_shown : (tr : Tree) (nodes : Nodes) (above : List (Level ℕ)) (rest : List Item) (s t : Shown) → Wraps tr nodes → EventsShow T (Envelope false ∷ above) (flat_nodes nodes ++ rest) s t → EventsShow T (Envelope true ∷ above) rest (with_items (flat tr) s) t
+  wraps_shown : (tr : Tree) (nodes : Nodes) (above : List (Level ℕ)) (rest : List Item) (s t : Shown) → Wraps tr nodes → EventsShow T (Envelope false ∷ above) (flat_nodes nodes ++ rest) s t → EventsShow T (Envelope true ∷ above) rest (with_all_inside (flat tr) s) t
   wraps_shown tr tree.Nothing above rest s t w h = absurd w
-  wraps_shown tr (Text c more) above rest s t w (u, e, k) = from (Envelope true ∷ above) rest (with_items (flat tr) u) (with_items (flat tr) s) t (ap (with_items (flat tr)) e) (wraps_shown tr more above rest u t w.1 k)
+  wraps_shown tr (Text c more) above rest s t w (u, e, k) = from (Envelope true ∷ above) rest (with_all_inside (flat tr) u) (with_all_inside (flat tr) s) t (ap (with_all_inside (flat tr)) e) (wraps_shown tr more above rest u t w.1 k)
   wraps_shown tr (Element n attributes inner more) above rest s t (is, blank) (u, (y, i, same), k) =
       of_end (foreign_shown inner (Envelope true ∷ above) (Ends n ∷ (flat_nodes more ++ rest)) u t (rw (append_assoc (flat_nodes inner) (Ends n ∷ flat_nodes more) rest) at k))
     where
-      all_items : (w : Shown) → w ≡ with_inside (Ends n) (with_items (flat_nodes inner) u) → w ≡ with_items (flat tr) s
+      all_items : (w : Shown) → w ≡ with_inside (Ends n) (with_all_inside (flat_nodes inner) u) → w ≡ with_all_inside (flat tr) s
       all_items w f =
-          one_inside (Ends n) (with_items (flat_nodes inner) u) w f
+          one_inside (Ends n) (with_all_inside (flat_nodes inner) u) w f
           ∙ (items_then (flat_nodes inner) (Ends n ∷ []) u
-          ∙ (ap (with_items (flat_nodes inner ++ (Ends n ∷ []))) (one_inside (Starts n attributes) s u (same ∙ i)) ∙ (items_then (Starts n attributes ∷ []) (flat_nodes inner ++ (Ends n ∷ [])) s ∙ ap (λ (x : Tree). with_items (flat x) s) (sym is))))
+          ∙ (ap (with_all_inside (flat_nodes inner ++ (Ends n ∷ []))) (one_inside (Starts n attributes) s u (same ∙ i)) ∙ (items_then (Starts n attributes ∷ []) (flat_nodes inner ++ (Ends n ∷ [])) s ∙ ap (λ (x : Tree). with_all_inside (flat x) s) (sym is))))
 
-      of_end : EventsShow T (Foreign ∷ Envelope true ∷ above) (Ends n ∷ (flat_nodes more ++ rest)) (with_items (flat_nodes inner) u) t → EventsShow T (Envelope true ∷ above) rest (with_items (flat tr) s) t
-      of_end (w, (x, f, q), r) = from (Envelope true ∷ above) rest w (with_items (flat tr) s) t (all_items w (q ∙ f)) (blank_shown more above rest w t blank r)
+      of_end : EventsShow T (Foreign ∷ Envelope true ∷ above) (Ends n ∷ (flat_nodes more ++ rest)) (with_all_inside (flat_nodes inner) u) t → EventsShow T (Envelope true ∷ above) rest (with_all_inside (flat tr) s) t
+      of_end (w, (x, f, q), r) = from (Envelope true ∷ above) rest w (with_all_inside (flat tr) s) t (all_items w (q ∙ f)) (blank_shown more above rest w t blank r)
 
   -- ---- texts
 
@@ -142,13 +140,13 @@ module _ (T : Tables) (steady : IsSteady (types_of T)) (sorted : (p : ℕ) (simp
       → EventsShow T (Envelope false ∷ above) (flat_nodes nodes ++ (Ends n ∷ rest)) s t → EventsShow T above rest (close_shown (with_pieces (Holds (leaf.Bytes (fragment tr)) ∷ []) s)) t
   envelope_shown tr nodes n above rest s t empty w h = of_end (wraps_shown tr nodes above (Ends n ∷ rest) s t w h)
     where
-      kept : (with_items (flat tr) s).inside ≡ flat tr
+      kept : (with_all_inside (flat tr) s).inside ≡ flat tr
       kept = ap (λ (is : List Item). is ++ flat tr) empty
 
-      emptied : (bytes : List ℕ) → bytes ≡ fragment tr → without_inside (with_leaf (leaf.Bytes bytes) (with_items (flat tr) s)) ≡ with_pieces (Holds (leaf.Bytes (fragment tr)) ∷ []) s
+      emptied : (bytes : List ℕ) → bytes ≡ fragment tr → without_inside (with_leaf (leaf.Bytes bytes) (with_all_inside (flat tr) s)) ≡ with_pieces (Holds (leaf.Bytes (fragment tr)) ∷ []) s
       emptied bytes is = ap (λ (b : List ℕ). shown s.edges [] (s.pieces ++ Holds (leaf.Bytes b) ∷ [])) is ∙ ap (λ (e : List Item). shown s.edges e (s.pieces ++ Holds (leaf.Bytes (fragment tr)) ∷ [])) (sym empty)
 
-      of_end : EventsShow T (Envelope true ∷ above) (Ends n ∷ rest) (with_items (flat tr) s) t → EventsShow T above rest (close_shown (with_pieces (Holds (leaf.Bytes (fragment tr)) ∷ []) s)) t
+      of_end : EventsShow T (Envelope true ∷ above) (Ends n ∷ rest) (with_all_inside (flat tr) s) t → EventsShow T above rest (close_shown (with_pieces (Holds (leaf.Bytes (fragment tr)) ∷ []) s)) t
       of_end (x, (u, (bytes, is, e), q), r) = from above rest x (close_shown (with_pieces (Holds (leaf.Bytes (fragment tr)) ∷ []) s)) t (q ∙ ap close_shown (e ∙ emptied bytes (is tr kept))) r
 
   -- ---- amounts: the code

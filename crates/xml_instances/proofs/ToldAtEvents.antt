@@ -11,7 +11,7 @@ use Rattle.markup.specs.Faults.{IsClean}
 use Rattle.markup.specs.Scopes.{placed_at}
 use Rattle.markup.proofs.EventLemmas.{events_snoc}
 use Rattle.markup.proofs.InputLemmas.{clean_snoc, front_snoc}
-use Rattle.markup.proofs.OneFault as tokens
+use Rattle.markup.proofs.TokensBehind as tokens
 use Rattle.repo_objects.specs.Repository.{Contents}
 use Rattle.reference_check.specs.Laws.{ReadyAreFinite}
 use Rattle.reference_check.specs.Shapes.{AreFinite}
@@ -21,13 +21,13 @@ use Rattle.message_model.specs.Message.{Message}
 use Rattle.message_model.specs.Ready.{IsReady}
 use Rattle.message_model.specs.Sound.{AreSound}
 use Rattle.message_model.specs.Tables.{Tables, types_of, message_of}
+use Rattle.message_model.proofs.CompiledFinite.{tables_finite}
 use Rattle.xml_instances.specs.Levels.{Level, levels_after, levels_over}
 use Rattle.xml_instances.specs.EventFaults.{Broken, EventFault, AreFine, FirstFault}
 use Rattle.xml_instances.specs.XmlFaults.{FaultInXml, XmlFault, NextFault, markup, content, items, items_told}
 use Rattle.xml_instances.specs.OpenInstances.{AreEventsOpen}
 use Rattle.xml_instances.specs.OpenLaws.{FineIsOpen, OneMoreIsOpen, CleanAreFronts, BrokenEventIsNotOpen, FedIsOpen}
 use Rattle.xml_instances.specs.ReadyLaws.{IsToldAtEvent, ReadyXmlTellsAtOnce, ReadyTokensTellAtOnce, ReadyFedXmlIsOpen, ReadyFaultIsAtEvent}
-use Rattle.message_model.proofs.CompiledFinite.{tables_finite}
 use Rattle.xml_instances.proofs.FaultAt.{fine_joined, over_joined}
 use Rattle.xml_instances.proofs.MarkupRules.{next_low}
 use Rattle.xml_instances.proofs.Whole.{placed_items}
@@ -49,7 +49,7 @@ split_first m ls (i ∷ is) b (inr (fine, h)) =
     let r = split_first m (levels_after m ls i) is b h in
     record { before = i ∷ r.before; item = r.item; behind = r.behind; joined = ap (λ x. i ∷ x) r.joined; fine = (fine, r.fine); broken = r.broken }
 
-told_joined : (a b : List Placed) → items_told (a ++ b) ≡ items_told a ++ items_told b
+pub told_joined : (a b : List Placed) → items_told (a ++ b) ≡ items_told a ++ items_told b
 told_joined a b = map-append (λ (e : Placed). e.item) a b
 
 placed_joined : (place : ℕ) (a b : List Item) → placed_at place (a ++ b) ≡ placed_at place a ++ placed_at place b

@@ -1,5 +1,5 @@
 -- Whole inputs: what spells a value is what breaks no rule.
-use Rattle.std.proofs.Common.{◌≡◌, ℕ, List, [], ◌∷◌, refl, sym, ap, reverse, map, subst}
+use Rattle.std.proofs.Common.{◌≡◌, ℕ, List, [], ◌∷◌, refl, sym, ap, map, subst}
 use Rattle.lexical_core.specs.Tree.{Item, Tree, TreeIs}
 use Rattle.data_types.specs.Leaf.{Leaf}
 use Rattle.data_types.specs.Value.{Value}
@@ -7,22 +7,19 @@ use Rattle.data_types.specs.declared.kind.Kind.TheVariants as kind
 use Rattle.facets.specs.declared.simple.Simple.{Simple}
 use Rattle.facets.specs.LeafUnder.{GivesLeaf, Fits}
 use Rattle.markup.specs.Token.{Token}
+use Rattle.markup.proofs.TokensBehind.{items_in, events_items}
+use Rattle.respell.specs.Laws.{WholeIsPlain}
+use Rattle.respell.proofs.WholeTree.{whole_tree}
 use Rattle.reference_check.specs.Forms.{Form}
 use Rattle.reference_check.specs.Forms as form
 use Rattle.message_model.specs.Sound.{SoundFormsAgree, HasNumber}
-use Rattle.respell.specs.Laws.{WholeIsPlain}
 use Rattle.xml_instances.specs.EventFaults.{AreFine}
 use Rattle.xml_instances.specs.XmlFaults.{items, items_told}
 use Rattle.xml_instances.specs.SpellsXml.{SpellsXml, IsInstance}
 use Rattle.xml_instances.specs.Laws.{FineIsSpelled, SpelledIsFine}
-use Rattle.respell.proofs.Runs.{behind, items_in, events_items}
-use Rattle.respell.proofs.WholeTree.{whole_tree}
 use Rattle.xml_instances.proofs.Counted.{fine_counted, counted_fine}
 use Rattle.xml_instances.proofs.Accepts.{root_in}
 use Rattle.xml_instances.proofs.Runs.{root_fine}
-
-pub reversed : (ts : List Token) → reverse ts ≡ behind [] ts
-reversed ts = refl
 
 pub placed_items : (place : ℕ) (is : List Item) → items_told (map (λ (i : Item). record { place = place; item = i }) is) ≡ is
 placed_items place [] = refl

@@ -1,19 +1,19 @@
 -- What a checker of an instance was given, and what it answers.
 use Rattle.std.specs.Prelude.{◌≡◌, ◌≢◌, ℕ, List, [], ◌∷◌, ◌++◌, ◌+◌, ◌≤◌, map, length, take, IfOk, IfErr, Option, Some, None, Result, Ok, Err}
 use Rattle.lexical_core.specs.declared.rule.Rule.TheVariants.{Truncated}
+use Rattle.lexical_core.specs.Tree.{Item}
 use Rattle.data_types.specs.Value.{Value, Piece}
-use Rattle.fragments.specs.Fragment.{fragment}
 use Rattle.markup.specs.Events.{Placed}
 use Rattle.markup.specs.EventItems.{item_of}
 use Rattle.markup.specs.Reading.{HasTaken, bytes_taken}
-use Rattle.lexical_core.specs.Tree.{Item}
 use Rattle.markup.specs.declared.event.Event.{Event}
+use Rattle.markup.specs.declared.reader.MarkFault.{MarkFault as MarkTold}
+use Rattle.fragments.specs.Fragment.{fragment}
 use Rattle.message_model.specs.Message.{Message}
 use Rattle.message_model.specs.Tables.{Tables, message_of, types_of, pieces_of}
 use Rattle.message_model.specs.declared.fault.Fault.{Fault as Told}
 use Rattle.message_model.specs.declared.fault.InstanceError.{InstanceError}
 use Rattle.message_model.specs.declared.fault.InstanceError.TheVariants.{Refused, Memory}
-use Rattle.markup.specs.declared.reader.MarkFault.{MarkFault as MarkTold}
 use Rattle.xml_instances.specs.Levels.{Level, levels_over, levels_path}
 use Rattle.xml_instances.specs.EventFaults.{Broken, AreFine, EventFault}
 use Rattle.xml_instances.specs.XmlFaults.{FaultInXml, XmlFault, items, items_told}

@@ -5,17 +5,17 @@ use Rattle.std.specs.Str.{bytes_eq, chars}
 use Rattle.lexical_core.specs.declared.rule.Rule.{Rule}
 use Rattle.lexical_core.specs.declared.rule.Rule.TheVariants.{WrongRoot, UnknownElement, OutOfOrder, TooMany, Missing, SecondAlternative, TextInComplex, ElementInSimple, UnknownAttribute, MissingAttribute}
 use Rattle.lexical_core.specs.Tree.{Expanded, Entry, Item, Starts, Char, Ends, Skipped}
+use Rattle.lexical_core.specs.Names.{same_name, attribute_value}
 use Rattle.data_types.specs.Leaf as leaf
-use Rattle.markup.specs.Chars.{is_space}
 use Rattle.facets.specs.declared.simple.Simple.{Simple}
 use Rattle.facets.specs.Rules.{BreaksFirst}
 use Rattle.facets.specs.LeafUnder.{GivesLeaf}
+use Rattle.markup.specs.Chars.{is_space}
 use Rattle.reference_check.specs.Forms.{Form, form_slots}
 use Rattle.reference_check.specs.Forms as form
 use Rattle.reference_check.specs.Steps as step
 use Rattle.reference_check.specs.Steps.{NextSlot, EndOfSlots, next, end_after}
 use Rattle.message_model.specs.Writes.{name_in_namespace, schema_instance, currency}
-use Rattle.lexical_core.specs.Names.{same_name, attribute_value}
 use Rattle.message_model.specs.Message.{Message}
 use Rattle.xml_instances.specs.Levels.{Level, Parent, Leaf, Envelope, Foreign, form_of_start, round_start, levels_after, path_in, slot_tag_text}
 

@@ -1,13 +1,13 @@
 -- What the code keeps of the pieces that events show. Private functions alone cite this.
 use Rattle.std.specs.Prelude.{◌≡◌, ℕ, Bool, true, false, List, [], ◌∷◌, ◌++◌, Option, Some, None}
 use Rattle.lexical_core.specs.Tree.{Expanded, Item, Starts, Ends, Skipped}
+use Rattle.data_types.specs.Value.{Piece}
 use Rattle.markup.specs.PlainTags.{innermost_namespace}
 use Rattle.markup.specs.declared.plain_tag.TagKind.{TagKind}
 use Rattle.markup.specs.declared.plain_tag.TagKind.TheVariants.{Start, Empty, End}
-use Rattle.data_types.specs.Value.{Piece}
-use Rattle.inst_pool.specs.Pieces.{open_in}
 use Rattle.respell.specs.Kept.{HasTakenItems, IsInDefault, opened_by}
 use Rattle.respell.specs.declared.respell.Respell.{Respell}
+use Rattle.inst_pool.specs.Pieces.{open_in}
 use Rattle.message_model.specs.Tables.{Tables, message_of}
 use Rattle.xml_instances.specs.Levels.{Level, Foreign, levels_after}
 use Rattle.xml_instances.specs.Built.{Shown, nothing_shown, ShowsBeside, EventsShow}

@@ -5,15 +5,15 @@ use Rattle.lexical_core.specs.declared.rule.Rule.{Rule}
 use Rattle.lexical_core.specs.declared.rule.Rule.TheVariants.{TooMany}
 use Rattle.lexical_core.specs.Tree.{Expanded, Entry, Item}
 use Rattle.data_types.specs.Leaf as leaf
-use Rattle.markup.specs.EventItems.{item_of}
-use Rattle.markup.specs.declared.event.What.{What}
 use Rattle.facets.specs.declared.simple.Simple.{Simple}
 use Rattle.facets.specs.LeafUnder.{GivesLeaf}
 use Rattle.facets.specs.Rules.{BreaksFirst}
+use Rattle.markup.specs.EventItems.{item_of}
+use Rattle.markup.specs.declared.event.What.{What}
 use Rattle.reference_check.specs.Forms.{Graph, Form, Slot, form_slots, text_type}
 use Rattle.reference_check.specs.Forms.{Simple as SimpleForm}
-use Rattle.message_model.specs.Sound.{count_with}
 use Rattle.reference_check.specs.Steps.{Slotted, next, Came, EndsWith}
+use Rattle.message_model.specs.Sound.{count_with}
 use Rattle.message_model.specs.Message.{Message}
 use Rattle.xml_instances.specs.Levels.{Level, Parent, Leaf, Envelope, Foreign, levels_after, level_of_start, begun_level, slot_form, form_of_start, round_start, numbered_step, path_in}
 use Rattle.xml_instances.specs.EventFaults.{Broken, EventFault, AttributeFault, place_fault, next_fault}

@@ -10,8 +10,8 @@ use Rattle.facets.specs.LeafUnder.{GivesLeaf}
 use Rattle.facets.specs.declared.simple.Simple.{Simple}
 use Rattle.reference_check.specs.Forms.{Graph, Form, Slot, form_slots}
 use Rattle.reference_check.specs.Forms as form
-use Rattle.message_model.specs.Message.{Message}
 use Rattle.reference_check.specs.Shapes.{Shape, Component, OpenLeaf, Nothing, Child, HasShape}
+use Rattle.message_model.specs.Message.{Message}
 use Rattle.message_model.specs.Writes.{name_in_namespace, IsHint, HasCurrency, SpellsCode, text_nodes, Wraps, MayHold, AtSlot}
 
 -- an element of this form may have the attributes: an amount its currency, which spells a code, and else hints alone

@@ -3,12 +3,12 @@ use Rattle.std.specs.Prelude.{◌≡◌, ◌↔◌, ℕ, List, [], ◌∷◌, �
 use Rattle.lexical_core.specs.Tree.{Item}
 use Rattle.markup.specs.Token.{Token}
 use Rattle.markup.specs.Faults.{IsClean}
+use Rattle.reference_check.specs.Shapes.{AreFinite}
 use Rattle.message_model.specs.Message.{Message}
 use Rattle.message_model.specs.Sound.{AreSound}
-use Rattle.reference_check.specs.Shapes.{AreFinite}
+use Rattle.message_model.specs.Tables.{Tables, message_of}
 use Rattle.xml_instances.specs.Levels.{levels_over}
 use Rattle.xml_instances.specs.EventFaults.{Broken, EventFault, AreFine}
-use Rattle.message_model.specs.Tables.{Tables, message_of}
 use Rattle.xml_instances.specs.XmlFaults.{items, items_told}
 use Rattle.xml_instances.specs.Checking.{HasFedXml}
 use Rattle.xml_instances.specs.declared.checker.XmlChecker.{XmlChecker}

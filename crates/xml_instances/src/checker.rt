@@ -1,19 +1,19 @@
 //! A checker of XML instances that takes their bytes in pieces.
 ghost use Rattle.std.specs.Prelude.{◌≡◌, ◌<◌, ◌+◌, ◌≤◌, ◌^◌, ◌∷◌, ◌++◌, ℕ, List, [], IfOk, OnOk, IfErr, Option, Some, None, Err, length};
+ghost use Rattle.std.specs.List.{AllByRecursion};
+ghost use Rattle.facets.specs.declared.simple.Simple.{Simple as SimpleType};
 ghost use Rattle.markup.specs.Reading.{bytes_taken};
 ghost use Rattle.markup.specs.Marks.{tag_limit};
-ghost use Rattle.facets.specs.declared.simple.Simple.{Simple as SimpleType};
+ghost use Rattle.respell.specs.Respelling.{HasSortedAttributes};
 ghost use Rattle.reference_check.specs.Forms.{Graph};
 ghost use Rattle.message_model.specs.Tables.{Tables, message_of, types_of};
-ghost use Rattle.std.specs.List.{AllByRecursion};
-ghost use Rattle.respell.specs.Respelling.{HasSortedAttributes};
+ghost use Rattle.message_model.specs.Errors.{IsSameOrMemory, IsAgain};
 ghost use Rattle.xml_instances.specs.Levels.{Level, levels_over};
 ghost use Rattle.xml_instances.specs.XmlFaults.{items_told};
 ghost use Rattle.xml_instances.specs.Open.{IsOpen, AreMade};
 ghost use Rattle.xml_instances.specs.Built.{EventsShow};
 ghost use Rattle.xml_instances.specs.Keeping.{GoOn};
 ghost use Rattle.xml_instances.specs.Checking.{items_in_events, HasFedXml, AreTaken, IsTold, IsMarkTold, XmlStops, IsSpelledXml, IsSpelledBy, XmlEndsAs, IsSpelledAs, IsXmlCheckerFor, xml_bytes_fed, xml_failure};
-ghost use Rattle.message_model.specs.Errors.{IsSameOrMemory, IsAgain};
 ghost use Rattle.xml_instances.specs.Scratch.{scratch, checker_token, KeepsNoLeaf, KeepsNoPieces, IsScratchWithin};
 ghost use Rattle.xml_instances.specs.Verdicts.{IsLean, HasFreeText};
 

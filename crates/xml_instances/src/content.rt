@@ -1,17 +1,17 @@
 //! The elements of an instance that are open, held to the types of its message.
 ghost use Rattle.std.specs.Prelude.{◌≡◌, ℕ, List, [], ◌++◌, Option, Some, None, IfOk, IfSome, OnOk, codes, length, map, not, ◌&&◌, option_to_list};
 ghost use Rattle.lexical_core.specs.Tree.{Char, Starts};
-ghost use Rattle.xml_instances.specs.Built.{EventShows, ShowsBeside, StartShown, ChildShown, CodeShown};
-ghost use Rattle.xml_instances.specs.Keeping.{GoOn};
+ghost use Rattle.facets.specs.declared.simple.Simple.{Simple as SimpleType};
 ghost use Rattle.markup.specs.EventItems.{entry_of, item_of};
 ghost use Rattle.respell.specs.Respelling.{HasSortedAttributes};
-ghost use Rattle.facets.specs.declared.simple.Simple.{Simple as SimpleType};
 ghost use Rattle.reference_check.specs.Forms.{Graph};
 ghost use Rattle.reference_check.specs.Steps.{Came, EndsWith, Slotted, next};
 ghost use Rattle.message_model.specs.Message.{Message};
 ghost use Rattle.message_model.specs.Sound.{count_with};
 ghost use Rattle.message_model.specs.Tables.{message_of, types_of};
 ghost use Rattle.message_model.specs.Writes.{name_in_namespace};
+ghost use Rattle.xml_instances.specs.Built.{EventShows, ShowsBeside, StartShown, ChildShown, CodeShown};
+ghost use Rattle.xml_instances.specs.Keeping.{GoOn};
 ghost use Rattle.xml_instances.specs.Levels.{Level, levels_path};
 ghost use Rattle.xml_instances.specs.EventFaults.{space_fault, is_bare};
 ghost use Rattle.xml_instances.specs.Open.{IsOpen, IsTaken, IsItemTaken, AreMade, path_round, Says, RefusesWith, IsPlaced, IsEntered, IsRound, form_at, IsEnvelopeFilled, IsChild, IsStepped, IsElementBegun, IsRoot};

@@ -4,8 +4,8 @@ ghost use Rattle.lexical_core.specs.Characters.{IsXmlChar};
 ghost use Rattle.lexical_core.specs.XmlRuns.{IsXmlRun};
 ghost use Rattle.facets.specs.declared.simple.Simple.{Simple as SimpleType};
 ghost use Rattle.facets.specs.LeafChecks.{IsWithinLimits, IsHeldWithin, leaf_limit};
-ghost use Rattle.xml_instances.specs.Judges.{HasJudgeTaken, IsJudgeMadeFor, held_by_judge};
 ghost use Rattle.facets.specs.LeafVerdicts.{IsFreeText};
+ghost use Rattle.xml_instances.specs.Judges.{HasJudgeTaken, IsJudgeMadeFor, held_by_judge};
 ghost use Rattle.xml_instances.specs.Verdicts.{IsVerdictJudge};
 
 use facets::{LeafCheck, LeafVerdict, Simple};

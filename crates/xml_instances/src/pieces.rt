@@ -1,15 +1,15 @@
 //! The pieces of an instance, kept as its events come.
 ghost use Rattle.std.specs.Prelude.{◌≡◌, ◌++◌, ◌∷◌, [], ℕ, Some, None, OnOk, OnErr, IfSome, IsTrue, true, false, ◌<◌, length, map};
+ghost use Rattle.lexical_core.specs.Tree.{Char, Expanded};
 ghost use Rattle.data_types.specs.Leaf.{Bytes};
 ghost use Rattle.data_types.specs.LeafAnswers.{leaf_of};
 ghost use Rattle.data_types.specs.Value.{Holds};
-ghost use Rattle.inst_pool.specs.Pieces.{open_in};
-ghost use Rattle.lexical_core.specs.Tree.{Char, Expanded};
 ghost use Rattle.markup.specs.EventItems.{item_of};
 ghost use Rattle.markup.specs.Literals.{IsRun};
 ghost use Rattle.markup.specs.PlainTags.{tag_items};
 ghost use Rattle.respell.specs.Kept.{IsInDefault};
 ghost use Rattle.respell.specs.Respelling.{HasSortedAttributes};
+ghost use Rattle.inst_pool.specs.Pieces.{open_in};
 ghost use Rattle.xml_instances.specs.Built.{Shown, nothing_shown, type_at, with_begun, with_leaf, with_inside, close_shown, FragmentShown};
 ghost use Rattle.xml_instances.specs.Keeping.{HasShown, GoOn, IsInnermostDefault, IsKeptDefault, with_all_inside};
 

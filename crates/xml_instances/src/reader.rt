@@ -1,11 +1,11 @@
 //! A reader of XML instances that takes their bytes in pieces, and keeps the pieces of the instance.
 ghost use Rattle.std.specs.Prelude.{◌≡◌, ◌+◌, ◌<◌, ◌≤◌, ◌^◌, ◌++◌, ℕ, List, [], IfOk, IfErr, Some, None, Err, length};
+ghost use Rattle.markup.specs.Marks.{tag_limit};
 ghost use Rattle.message_model.specs.Tables.{Tables, message_of};
+ghost use Rattle.message_model.specs.Errors.{IsAgain};
 ghost use Rattle.xml_instances.specs.Levels.{levels_over};
 ghost use Rattle.xml_instances.specs.XmlFaults.{items_told};
 ghost use Rattle.xml_instances.specs.Checking.{XmlStops, XmlEndsAs, IsSpelledAs};
-ghost use Rattle.message_model.specs.Errors.{IsAgain};
-ghost use Rattle.markup.specs.Marks.{tag_limit};
 ghost use Rattle.xml_instances.specs.ReadInstances.{HasFedReader, IsXmlReaderFor, reader_fed, reader_failed, reader_scratch, reader_token, IsReaderBare};
 ghost use Rattle.xml_instances.specs.Scratch.{IsScratchWithin};
 

@@ -1,10 +1,10 @@
 //! The text of a leaf.
 ghost use Rattle.std.specs.Prelude.{◌≡◌, ℕ, List, [], ◌∷◌, ◌++◌, None, true, false, IsOk, IfOk, OnOk};
 ghost use Rattle.std.specs.Str.{chars};
-ghost use Rattle.markup.specs.Chars.{is_space};
-ghost use Rattle.markup.specs.Literals.{IsRun};
 ghost use Rattle.facets.specs.LeafChecks as checks;
 ghost use Rattle.facets.specs.LeafVerdicts as verdicts;
+ghost use Rattle.markup.specs.Chars.{is_space};
+ghost use Rattle.markup.specs.Literals.{IsRun};
 ghost use Rattle.xml_instances.specs.Built.{TextShown};
 ghost use Rattle.xml_instances.specs.Judges.{HasJudgeTaken, IsJudgeMadeFor};
 ghost use Rattle.xml_instances.specs.Keeping.{GoOn};

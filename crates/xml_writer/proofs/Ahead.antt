@@ -5,13 +5,13 @@ use Rattle.std.proofs.lemmas.List.{drop_all}
 use Rattle.outside.specs.Pushes.{Pushes}
 use Rattle.outside.specs.declared.errors.SinkError.{SinkError}
 use Rattle.outside.proofs.Pushing.{done, stopped, then_push}
+use Rattle.outside.specs.Gathering.{Gathers}
+use Rattle.outside.proofs.PushedFronts.{IsPushedTo, to_none, to_more, to_stops}
 use Rattle.data_types.specs.Value.{Piece}
 use Rattle.facets.specs.declared.simple.Simple.{Simple}
 use Rattle.reference_check.specs.Forms.{Graph}
-use Rattle.outside.specs.Gathering.{Gathers}
 use Rattle.xml_writer.specs.inner.PieceTexts.{IsPieceText, AreWritten, HasPut, innermost_behind}
 use Rattle.xml_writer.specs.declared.innermost.Innermost.{Innermost}
-use Rattle.outside.proofs.PushedFronts.{IsPushedTo, to_none, to_more, to_stops}
 
 -- the piece at a place stands first among those from there on
 pub from_piece : (pieces : List Piece) (at : ℕ) (p : Piece) → slice_get pieces at ≡ Some p → drop at pieces ≡ p ∷ drop (at + 1) pieces

@@ -11,7 +11,9 @@ use Rattle.std.proofs.lemmas.List.Elements.{Contains-append_left, Contains-appen
 use Rattle.std.proofs.lemmas.Option.{slice_get-map, same_Some}
 use Rattle.std.proofs.lemmas.Str.{encode_ascii}
 use Rattle.lexical_core.specs.Characters.{IsNameStart, IsNameChar}
+use Rattle.data_types.proofs.VisibleTexts.{AreVisible, visible_xml}
 use Rattle.facets.specs.declared.simple.Simple.{Simple}
+use Rattle.markup.proofs.CharLemmas.{range_in}
 use Rattle.fragments.specs.Plain.{IsPart}
 use Rattle.repo_objects.specs.declared.objects.ElementDef.{ElementDef}
 use Rattle.repo_objects.specs.declared.objects.MessageDef.{MessageDef}
@@ -21,6 +23,7 @@ use Rattle.repo_objects.specs.declared.objects.Kinds.TheVariants as kinds
 use Rattle.repo_objects.specs.declared.objects.ObjectKind.{ObjectKind}
 use Rattle.repo_objects.specs.declared.objects.ObjectKind.TheVariants as object
 use Rattle.repo_objects.specs.Repository.{Contents}
+use Rattle.repo_objects.specs.MessageId.{IsMessageId}
 use Rattle.reference_check.specs.Names.{is_profile_name, is_name_first, is_name_byte}
 use Rattle.reference_check.specs.Graph.{Place, document, message, entry, nowhere, find_entry, find_message, simple_form, object_form, entry_form, message_form, document_form}
 use Rattle.reference_check.specs.Reach.{Reaches, itself, elements_of, elements_or_none, blocks_or_none, kind_elements}
@@ -35,12 +38,9 @@ use Rattle.message_model.proofs.Compilable.{object_there, at_contains}
 use Rattle.message_model.proofs.SoundElements.{slots_by, slot_from}
 use Rattle.message_model.proofs.SoundTypes.{IsTypePlace}
 use Rattle.message_model.proofs.SoundTables.{type_place}
-use Rattle.data_types.proofs.VisibleTexts.{AreVisible, visible_xml}
-use Rattle.repo_objects.specs.MessageId.{IsMessageId}
 use Rattle.xml_writer.specs.SpellingLaw.{HasXmlNames, CompiledSpells}
 use Rattle.xml_writer.proofs.MessageNames.{namespace_visible, visible_literal, not_xml_namespace, not_xmlns_namespace}
 use Rattle.xml_writer.proofs.SpelledDocuments.{canonical_spells}
-use Rattle.markup.proofs.CharLemmas.{range_in}
 
 -- ---- a name of the repository is a name of XML
 

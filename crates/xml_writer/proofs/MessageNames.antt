@@ -1,16 +1,17 @@
 -- The namespace of a message is of characters that stand for themselves.
-use Rattle.std.proofs.Common.{◌≡◌, ◌≢◌, ◌<◌, ◌+◌, ◌==◌, ◌&&◌, ℕ, zero, suc, Bool, true, false, List, [], ◌∷◌, ◌++◌, length, take, drop, get_or, flat_map, refl, sym, ap, subst, ◌∙◌, arith}
+use Rattle.std.proofs.Common.{◌≡◌, ◌≢◌, ◌<◌, ◌+◌, ◌==◌, ◌&&◌, ℕ, zero, suc, Bool, true, List, [], ◌∷◌, ◌++◌, length, take, drop, get_or, flat_map, refl, sym, ap, subst, ◌∙◌, arith}
 use Rattle.std.specs.List.{list_all}
 use Rattle.std.proofs.Math.Seq.{drop-cons}
 use Rattle.std.proofs.lemmas.Bool.{and_parts}
 use Rattle.std.proofs.lemmas.Bool.Decides.{nat_tests}
 use Rattle.std.proofs.lemmas.List.{drop-drop, drop_all}
+use Rattle.lexical_core.specs.Names.{xml_namespace, xmlns_namespace}
+use Rattle.lexical_core.proofs.Lists.{first_apart}
 use Rattle.data_types.proofs.EscapeLemmas.{escaped_by_chars}
 use Rattle.data_types.proofs.VisibleTexts.{IsVisible, AreVisible, join_visible, point_is_visible, visible, all_visible, all_visible_are, own_bytes}
-use Rattle.lexical_core.specs.Names.{xml_namespace, xmlns_namespace}
 use Rattle.fragments.specs.Fragment.{value_byte}
-use Rattle.message_model.specs.Tables.{namespace_front}
 use Rattle.repo_objects.specs.MessageId.{IsMessageId, is_letter_or_digit, is_lower_letter, is_digit, is_point_at}
+use Rattle.message_model.specs.Tables.{namespace_front}
 use Rattle.xml_writer.proofs.ValueTexts.{visible_value}
 
 -- ---- texts that are visible
@@ -85,9 +86,6 @@ namespace_visible id h = join_visible namespace_front id front_visible (id_visib
 
 pub visible_literal : (text : List ℕ) → AreVisible text → flat_map value_byte text ≡ text
 visible_literal text v = ap (flat_map value_byte) (sym (own_bytes text v)) ∙ (escaped_by_chars true text ∙ visible_value text v)
-
-first_apart : (c d : ℕ) (cs ds : List ℕ) → (c == d) ≡ false → c ∷ cs ≡ d ∷ ds → ⊥
-first_apart c d cs ds apart e = (let same : c ≡ d = cc in absurd (grind (arith, nat_tests, same, apart)))
 
 pub not_xml_namespace : (id : List ℕ) → namespace_front ++ id ≢ xml_namespace
 not_xml_namespace id e = first_apart _ _ _ _ refl e

@@ -7,9 +7,9 @@ use Rattle.data_types.specs.Value.{Value, Children, Nothing, Child}
 use Rattle.data_types.specs.Value as value
 use Rattle.facets.specs.LeafUnder.{Fits}
 use Rattle.facets.specs.declared.simple.Simple.{Simple}
+use Rattle.fragments.specs.Fragment.{fragment}
 use Rattle.reference_check.specs.Forms.{Graph, Form, Slot}
 use Rattle.reference_check.specs.Forms as form
-use Rattle.fragments.specs.Fragment.{fragment}
 use Rattle.message_model.specs.Admits.{AdmitsAs, AdmitsChildren, FitsCode}
 use Rattle.message_model.specs.Message.{Message}
 use Rattle.xml_writer.specs.CanonXml.{IsLeafText, IsCodeText, currency_text, IsAttributes, IsContent, AreElements, start_tag, end_tag, namespace_text, xml_declaration, IsCanonXml}

@@ -9,15 +9,16 @@ use Rattle.markup.specs.Token.{Token, Declaration, LineEnd, Lf, token_bytes}
 use Rattle.markup.specs.Marks.{Front, in_cdata, tag_limit}
 use Rattle.markup.specs.Events.{open_tags}
 use Rattle.markup.specs.Faults.{is_over, has_start}
+use Rattle.markup.proofs.TokensBehind.{tokens_behind, events_items}
 use Rattle.fragments.specs.Plain.{IsPart}
 use Rattle.fragments.specs.Fragment.{start_text, end_text}
-use Rattle.message_model.specs.Admits.{AdmitsAs}
-use Rattle.message_model.specs.Message.{Message}
-use Rattle.message_model.specs.Writes.{name_in_namespace}
-use Rattle.respell.proofs.Runs.{behind, behind-append, Runs, runs-append, runs_front, events_items, AllStand, AllShort}
+use Rattle.respell.proofs.Runs.{behind-append, Runs, runs-append, runs_front, AllStand, AllShort}
 use Rattle.respell.proofs.TagNames.{opening_of, Knows, knows_none, knows_within}
 use Rattle.respell.proofs.Trees.{Stays, one_run, element_stays}
 use Rattle.respell.proofs.OneTree.{all_within, no_starts, over_of}
+use Rattle.message_model.specs.Admits.{AdmitsAs}
+use Rattle.message_model.specs.Message.{Message}
+use Rattle.message_model.specs.Writes.{name_in_namespace}
 use Rattle.xml_instances.specs.SpellsXml.{SpellsXml}
 use Rattle.xml_writer.specs.CanonXml.{start_tag, end_tag, xml_declaration, namespace_text}
 use Rattle.xml_writer.specs.SpellingLaw.{HasXmlNames, HasNoLongTag, CanonicalSpells}
@@ -110,7 +111,7 @@ module _ {P : Type 0} (m : Message P) (names : HasXmlNames m) (v : Value) (admit
   root = root_stays before_root refl
 
   abbrev behind_root : List Token
-  behind_root = behind before_root root.run.tokens
+  behind_root = tokens_behind before_root root.run.tokens
 
   root_is : start ++ (content ++ end_text name) ≡ start_tag (codes "Document") (namespace_text m.namespace ++ own) ++ (content ++ end_tag (codes "Document"))
   root_is = ap₂ (λ p q. p ++ (content ++ q)) (root_start_is m.namespace names.no_xml names.literal own es.entries es.text_is) (end_is m.namespace names.no_xml (codes "Document"))
@@ -119,13 +120,13 @@ module _ {P : Type 0} (m : Message P) (names : HasXmlNames m) (v : Value) (admit
       (xml_declaration ++ ((start ++ (content ++ end_text name)) ++ codes "\n"))
   document = runs-append [] (Skipped ∷ Char 10 ∷ []) _ xml_declaration _ first_run (runs-append before_root _ (Char 10 ∷ []) _ (codes "\n") root.run (line_run behind_root root.cdata))
 
-  last_is : behind [] document.tokens ≡ LineEnd Lf ∷ behind_root
+  last_is : tokens_behind [] document.tokens ≡ LineEnd Lf ∷ behind_root
   last_is = behind-append before_root root.run.tokens (LineEnd Lf ∷ [])
 
-  has_root : has_start (behind [] document.tokens) ≡ true
+  has_root : has_start (tokens_behind [] document.tokens) ≡ true
   has_root = ap has_start last_is ∙ no_starts before_root root.run.tokens name es.entries (flat_nodes x.nodes ++ Ends name ∷ []) root.run.told
 
-  none_open : open_tags (behind [] document.tokens) ≡ []
+  none_open : open_tags (tokens_behind [] document.tokens) ≡ []
   none_open = ap open_tags last_is ∙ root.tags
 
   pub document_spells : (bytes : List ℕ) → xml_declaration ++ ((start_tag (codes "Document") (namespace_text m.namespace ++ own) ++ (content ++ end_tag (codes "Document"))) ++ codes "\n") ≡ bytes
@@ -140,7 +141,7 @@ module _ {P : Type 0} (m : Message P) (names : HasXmlNames m) (v : Value) (admit
         tokens = tokens;
         marks = at tag_limit (short (length bytes) tokens (at (length bytes) (all_within (length bytes) tokens size)));
         clean = document.clean;
-        over = over_of (behind [] tokens) has_root none_open;
+        over = over_of (tokens_behind [] tokens) has_root none_open;
         tree = record { name = name; attributes = es.entries; children = x.nodes };
         tree_is = ap (tree_items 0) (events_items [] 0 tokens ∙ document.told) ∙ document_items name es.entries x.nodes;
         instance = record { admitted = admits; written = record { name = refl; attributes = es.writes; holds = x.holds; content = x.writes } };

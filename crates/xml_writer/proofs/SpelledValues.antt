@@ -6,6 +6,8 @@ use Rattle.std.proofs.lemmas.Str.{chars_from_encodes}
 use Rattle.lexical_core.specs.Characters.{IsXmlChar}
 use Rattle.lexical_core.specs.Tree.{Entry, Item, Starts, Char, Ends, Nodes, Element, Text, Tree, flat_nodes, flat}
 use Rattle.lexical_core.specs.Tree as tree
+use Rattle.lexical_core.specs.Names.{xml_namespace, xmlns_namespace}
+use Rattle.lexical_core.proofs.CharacterLemmas.{xml_text_is_utf8}
 use Rattle.data_types.specs.Leaf.{Leaf, Number}
 use Rattle.data_types.specs.Value.{Value, Children, Nothing, Child}
 use Rattle.data_types.specs.Value as value
@@ -16,19 +18,17 @@ use Rattle.markup.specs.declared.tag.Opening.{Opening}
 use Rattle.markup.specs.Token.{Token}
 use Rattle.markup.specs.Marks.{in_cdata}
 use Rattle.markup.specs.Events.{open_tags}
+use Rattle.markup.proofs.TokensBehind.{tokens_behind}
 use Rattle.fragments.specs.Plain.{IsPart, IsPlainName, IsPlainEntry, ArePlainEntries}
-use Rattle.lexical_core.specs.Names.{xml_namespace, xmlns_namespace}
 use Rattle.fragments.specs.Fragment.{start_text, end_text, nodes_text, fragment}
+use Rattle.respell.proofs.TagNames.{opening_of, Knows, knows_within}
+use Rattle.respell.proofs.Trees.{Stays, stays_none, inside_of, not_over, element_stays, stays-append, retext, nodes_stay, fragment_within}
+use Rattle.respell.specs.ShortTags.{HaveShortTags}
 use Rattle.reference_check.specs.Forms.{Graph, Form, Slot, form_slots}
 use Rattle.reference_check.specs.Forms as form
 use Rattle.message_model.specs.Admits.{AdmitsAs, AdmitsChildren, FitsCode}
 use Rattle.message_model.specs.Message.{Message}
 use Rattle.message_model.specs.Writes.{name_in_namespace, WritesAttributes, WritesContent, MayHold, SpellsCode, SpellsText, text_nodes}
-use Rattle.lexical_core.proofs.CharacterLemmas.{xml_text_is_utf8}
-use Rattle.respell.proofs.Runs.{behind}
-use Rattle.respell.proofs.TagNames.{opening_of, Knows, knows_within}
-use Rattle.respell.proofs.Trees.{Stays, stays_none, inside_of, not_over, element_stays, stays-append, retext, nodes_stay, fragment_within}
-use Rattle.respell.specs.ShortTags.{HaveShortTags}
 use Rattle.xml_writer.specs.CanonXml.{IsLeafText, IsCodeText, currency_text, IsAttributes, start_tag, end_tag, IsContent, AreElements}
 use Rattle.xml_writer.specs.SpellingLaw.{HasXmlNames}
 use Rattle.xml_writer.proofs.SpelledLeaves.{given_leaf, canonical_xml_chars, text_plain, text_written}
@@ -168,7 +168,7 @@ module _ {P : Type 0} (m : Message P) (names : HasXmlNames m) where
             (λ within c o. x.stands within (opening_of (Some m.namespace) name es.entries) (op ∷ tags) c o
             (subst (λ d. Knows (opening_of (Some m.namespace) name es.entries ∷ (op ∷ tags)) d) (within_is m.namespace names.no_xml (Some m.namespace) s.tag)
             (knows_within (Some m.namespace) name es.entries (op ∷ tags) es.plain.0 knows))) in
-            let second = ys.stands (behind before first.run.tokens) op tags (first.cdata ∙ cdata) (first.tags ∙ are) knows in
+            let second = ys.stands (tokens_behind before first.run.tokens) op tags (first.cdata ∙ cdata) (first.tags ∙ are) knows in
             retext before _ _ _ _ (λ limit. First limit × ys.Short limit) (λ limit. First limit × ys.Short limit)
             (ap (λ (l : List Item). Starts name es.entries ∷ l) (append_assoc (flat_nodes x.nodes) (Ends name ∷ []) (flat_nodes ys.nodes))) all (λ limit. (λ h. h, λ h. h))
             (stays-append before _ (flat_nodes ys.nodes) _ more First ys.Short first second);

@@ -2,9 +2,9 @@
 use Rattle.std.proofs.Common.{◌≡◌, ◌≢◌, ◌⊎◌, inl, inr, ℕ, false, List, [], ◌∷◌, ◌++◌, Some, None, codes, flat_map, refl, ap, append-nil}
 use Rattle.lexical_core.specs.Tree.{Entry}
 use Rattle.lexical_core.specs.Names.{xml_namespace}
+use Rattle.lexical_core.proofs.EqualBytes.{bytes_equal, other_bytes}
 use Rattle.fragments.specs.Fragment.{is_xml, value_byte, start_text, end_text, default_within}
 use Rattle.message_model.specs.Writes.{name_in_namespace, currency}
-use Rattle.respell.proofs.Prefixes.{same_bytes, other_bytes}
 use Rattle.xml_writer.specs.CanonXml.{currency_text, start_tag, end_tag, namespace_text}
 
 -- the attribute with this code
@@ -24,12 +24,12 @@ module _ (ns : List ℕ) (apart : ns ≢ xml_namespace) where
   within_is default tag = rw not_xml refl
 
   start_plain : (tag : List ℕ) → start_text (Some ns) (name_in_namespace ns tag) [] ≡ start_tag tag []
-  start_plain tag = rw (not_xml, same_bytes ns ns refl) refl
+  start_plain tag = rw (not_xml, bytes_equal ns ns refl) refl
 
   start_coded : (tag code : List ℕ) → start_text (Some ns) (name_in_namespace ns tag) (currency_entry code ∷ []) ≡ start_tag tag (currency_text (flat_map value_byte code))
   start_coded tag code =
       let own = append-nil (currency_text (flat_map value_byte code)) in
-      rw (not_xml, same_bytes ns ns refl) (ap (λ t. codes "<" ++ (tag ++ (t ++ codes ">"))) own)
+      rw (not_xml, bytes_equal ns ns refl) (ap (λ t. codes "<" ++ (tag ++ (t ++ codes ">"))) own)
 
   pub start_is : (tag text : List ℕ) (entries : List Entry) → HasText entries text → start_text (Some ns) (name_in_namespace ns tag) entries ≡ start_tag tag text
   start_is tag text entries (inl (e, d)) = rw (e, d) (start_plain tag)

@@ -5,9 +5,9 @@ use Rattle.data_types.specs.Leaf.{Bytes, Number}
 use Rattle.data_types.specs.Value.{Value, Children, Nothing, Child, Edge, Piece, Begins, Holds, Ends}
 use Rattle.data_types.specs.Value as value
 use Rattle.facets.specs.declared.simple.Simple.{Simple}
+use Rattle.fragments.specs.Fragment.{fragment}
 use Rattle.reference_check.specs.Forms.{Graph, Form, Slot, form_slots}
 use Rattle.reference_check.specs.Forms as form
-use Rattle.fragments.specs.Fragment.{fragment}
 use Rattle.message_model.specs.Admits.{AdmitsAs, AdmitsChildren}
 use Rattle.message_model.specs.Tables.{Tables, types_of, message_namespace, message_of, edge_at, pieces, child_pieces, pieces_of}
 use Rattle.xml_writer.specs.CanonXml.{currency_text, IsAttributes, start_tag, end_tag, IsContent, AreElements, xml_declaration, namespace_text, IsCanonXml}

@@ -8,11 +8,11 @@ use Rattle.data_types.specs.Value.{Value, Children, Nothing, Child}
 use Rattle.data_types.specs.Value as value
 use Rattle.facets.specs.LeafUnder.{IsCanonicalUnder}
 use Rattle.facets.specs.declared.simple.Simple.{Simple}
+use Rattle.fragments.specs.Fragment.{fragment}
 use Rattle.reference_check.specs.Forms.{Graph, Form, Slot, form_slots}
 use Rattle.reference_check.specs.Forms as form
 use Rattle.message_model.specs.Message.{Message}
 use Rattle.message_model.specs.Writes.{AtSlot}
-use Rattle.fragments.specs.Fragment.{fragment}
 
 -- the bytes are the canonical text of the leaf in an element: of a code its text, and of all else that of the kind (§2.4)
 abbrev pub IsLeafText : Simple → leaf.Leaf → List ℕ → Type 0

@@ -2,20 +2,20 @@
 use Rattle.std.specs.Prelude.{◌≡◌, ◌≢◌, ℕ, true, List, [], flat_map, slice_get, Some}
 use Rattle.std.specs.List.{AllByRecursion}
 use Rattle.lexical_core.specs.Characters.{IsXmlText}
+use Rattle.lexical_core.specs.Names.{xml_namespace, xmlns_namespace}
+use Rattle.data_types.specs.Value.{Value}
 use Rattle.markup.specs.Token.{Token}
 use Rattle.markup.specs.Marks.{Front, is_short, tag_limit}
 use Rattle.fragments.specs.Plain.{IsPart}
-use Rattle.lexical_core.specs.Names.{xml_namespace, xmlns_namespace}
 use Rattle.fragments.specs.Fragment.{value_byte}
-use Rattle.data_types.specs.Value.{Value}
+use Rattle.repo_objects.specs.MessageId.{IsMessageId}
+use Rattle.repo_objects.specs.Repository.{Contents}
 use Rattle.reference_check.specs.Forms.{Slot, form_slots}
 use Rattle.message_model.specs.Admits.{AdmitsAs}
 use Rattle.message_model.specs.Compiled.{IsReachedList, Compiles}
 use Rattle.message_model.specs.Message.{Message}
 use Rattle.message_model.specs.Ready.{IsReady}
 use Rattle.message_model.specs.Tables.{Tables, types_of, message_of}
-use Rattle.repo_objects.specs.MessageId.{IsMessageId}
-use Rattle.repo_objects.specs.Repository.{Contents}
 use Rattle.xml_instances.specs.SpellsXml.{SpellsXml}
 use Rattle.xml_writer.specs.CanonXml.{IsCanonXml}
 

@@ -1,7 +1,7 @@
 //! The texts of leaves: XML 1.0 §2.4 and §3.3.3, as in Canonical XML 1.0 §2.3.
 ghost use Rattle.std.specs.Prelude.{◌≡◌, ◌≢◌, ◌++◌, ℕ, List, IsTrue, false, Some, IfSome, IfNone, codes, encode_utf8_all, flat_map, slice_get};
-ghost use Rattle.outside.specs.Pushes.{Pushes};
 ghost use Rattle.lexical_core.specs.Escapes.{escape_of};
+ghost use Rattle.outside.specs.Pushes.{Pushes};
 ghost use Rattle.data_types.specs.Leaf.{Bytes as BytesLeaf};
 ghost use Rattle.data_types.specs.LeafAnswers.{leaf_of};
 ghost use Rattle.facets.specs.LeafUnder.{IsCanonicalUnder, Fits};

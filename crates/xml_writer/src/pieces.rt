@@ -1,10 +1,10 @@
 //! What the pieces of an instance write.
 ghost use Rattle.std.specs.Prelude.{◌≡◌, ◌++◌, ◌≤◌, ℕ, List, IsTrue, false, length, drop, slice_get, Some};
 ghost use Rattle.outside.specs.Pushes.{Pushes};
+ghost use Rattle.outside.specs.Gathering.{Gathers};
 ghost use Rattle.data_types.specs.Value.{Piece as OnePiece};
 ghost use Rattle.inst_pool.specs.Pieces.{piece_of};
 ghost use Rattle.message_model.specs.Tables.{types_of};
-ghost use Rattle.outside.specs.Gathering.{Gathers};
 ghost use Rattle.xml_writer.specs.inner.PieceTexts.{innermost_begun, innermost_behind, IsPieceText, AreWritten, HasPut};
 
 use crate::innermost::{Innermost, innermost_begun, innermost_behind};

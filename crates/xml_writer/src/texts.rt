@@ -1,8 +1,8 @@
 //! Texts as XML spells them: XML 1.0 §2.4 and §3.3.3.
 ghost use Rattle.std.specs.Prelude.{◌≡◌, ◌++◌, ℕ, List, IsTrue, false, encode_utf8_all, flat_map, length};
 ghost use Rattle.std.specs.List.{prefix_len};
-ghost use Rattle.outside.specs.Pushes.{Pushes};
 ghost use Rattle.lexical_core.specs.Escapes.{escape_of};
+ghost use Rattle.outside.specs.Pushes.{Pushes};
 ghost use Rattle.xml_writer.specs.inner.PlainTexts.{is_plain_anywhere};
 
 use data_types::push_escaped;

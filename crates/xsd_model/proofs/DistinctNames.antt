@@ -5,7 +5,7 @@ use Rattle.std.specs.List.{AllByRecursion, IsDistinct}
 use Rattle.std.specs.Str.{bytes_eq}
 use Rattle.std.proofs.lemmas.List.Elements.{Contains-append_right, Contains-append_cases}
 use Rattle.std.proofs.lemmas.Map.Keys.{IsDistinct-head, IsDistinct-tail, IsDistinct-cons, IsDistinct-from_apart}
-use Rattle.reference_check.proofs.Entries.{bytes_differ}
+use Rattle.lexical_core.proofs.EqualBytes.{other_bytes}
 use Rattle.reference_check.proofs.Lookups.{first_in}
 
 -- what holds of each name in a list
@@ -24,13 +24,13 @@ pub distinct_one : (a : List ℕ) → IsDistinct bytes_eq (a ∷ [])
 distinct_one a = IsDistinct-cons bytes_eq a [] tt distinct_none
 
 pub distinct_two : (a b : List ℕ) → (a ≡ b → ⊥) → IsDistinct bytes_eq (a ∷ (b ∷ []))
-distinct_two a b apart = IsDistinct-cons bytes_eq a (b ∷ []) (bytes_differ a b apart, tt) (distinct_one b)
+distinct_two a b apart = IsDistinct-cons bytes_eq a (b ∷ []) (other_bytes a b apart, tt) (distinct_one b)
 
 distinct_append : (xs ys : List (List ℕ)) → IsDistinct bytes_eq xs → IsDistinct bytes_eq ys → ((name : List ℕ) → Contains xs name → Contains ys name → ⊥) → IsDistinct bytes_eq (xs ++ ys)
 distinct_append [] ys own later apart = later
 distinct_append (x ∷ xs) ys own later apart =
     let other : AllByRecursion (λ name. bytes_eq x name ≡ false) ys =
-    all_from (λ name. bytes_eq x name ≡ false) ys (λ name has. bytes_differ x name (λ same. apart x (first_in x xs) (subst (λ n. Contains ys n) (sym same) has))) in
+    all_from (λ name. bytes_eq x name ≡ false) ys (λ name has. other_bytes x name (λ same. apart x (first_in x xs) (subst (λ n. Contains ys n) (sym same) has))) in
     IsDistinct-cons bytes_eq x (xs ++ ys) (all_append (λ name. bytes_eq x name ≡ false) xs ys (IsDistinct-head bytes_eq x xs own) other)
     (distinct_append xs ys (IsDistinct-tail bytes_eq x xs own) later (λ name has. apart name (Contains-append_right (x ∷ []) xs name has)))
 

@@ -10,6 +10,7 @@ use Rattle.std.specs.declared.cmp.Ordering.{Ordering}
 use Rattle.std.specs.declared.cmp.Ordering.TheVariants.{Less, Equal, Greater}
 use Rattle.pattern_match.specs.Reading.{HasPositionsWithin}
 use Rattle.data_types.specs.declared.kind.Kind.TheVariants as kind
+use Rattle.facets.specs.declared.simple.Simple.{Simple}
 use Rattle.repo_objects.specs.declared.objects.CodeDef.{CodeDef}
 use Rattle.repo_objects.specs.declared.objects.Kinds.{Kinds}
 use Rattle.repo_objects.specs.declared.objects.Kinds.TheVariants as kinds
@@ -29,7 +30,6 @@ use Rattle.message_model.specs.Ready.{IsReady, IsBadPattern, OnObjects, BadFacet
 use Rattle.message_model.specs.Compiled.{types}
 use Rattle.message_model.proofs.Compilable.{object_there, at_contains}
 use Rattle.message_model.proofs.SoundFacets.{total_within}
-use Rattle.facets.specs.declared.simple.Simple.{Simple}
 use Rattle.xsd_model.specs.StepsOf.{IsSoundSimple}
 use Rattle.xsd_model.specs.SchemaOf.{HasSoundFacets}
 use Rattle.xsd_model.proofs.Decided.{stable, positions_decided}

@@ -5,6 +5,7 @@ use Rattle.std.specs.List.{AllByRecursion, IsDistinct}
 use Rattle.std.specs.Str.{bytes_eq}
 use Rattle.std.proofs.lemmas.List.{map-append}
 use Rattle.std.proofs.lemmas.Option.{same_Some, slice_get_within, get_or_from_slice_get}
+use Rattle.lexical_core.proofs.Lists.{only_one}
 use Rattle.facets.specs.declared.simple.Simple.{Simple}
 use Rattle.repo_objects.specs.declared.objects.Kinds.{Kinds}
 use Rattle.repo_objects.specs.declared.objects.Kinds.TheVariants as kinds
@@ -68,11 +69,6 @@ distinct_by own form.Envelope = distinct_one own
 distinct_by own form.LeftOut = distinct_none
 distinct_by own form.Missing = distinct_none
 
--- what stands in a list of one or of two
-one_of : (a name : List ℕ) → Contains (a ∷ []) name → a ≡ name
-one_of a name (zero, below, e) = e
-one_of a name (suc k, below, e) = absurd (omega (arith, below))
-
 two_of : (a b name : List ℕ) → Contains (a ∷ (b ∷ [])) name → (a ≡ name) ⊎ (b ≡ name)
 two_of a b name (zero, below, e) = inl e
 two_of a b name (suc zero, below, e) = inr e
@@ -83,14 +79,14 @@ none_of name (k, below, e) = absurd (omega (arith, below))
 
 -- none of the names is empty, where the type's own is not
 some_by : {P : Type 0} (own : List ℕ) (F : Form P Simple) (name : List ℕ) → 0 < length own → Contains (names_by own F) name → 0 < length name
-some_by own (form.Sequence slots) name some has = subst (λ x. 0 < length x) (one_of own name has) some
-some_by own (form.Choice slots) name some has = subst (λ x. 0 < length x) (one_of own name has) some
-some_by own (form.Simple simple) name some has = subst (λ x. 0 < length x) (one_of own name has) some
+some_by own (form.Sequence slots) name some has = subst (λ x. 0 < length x) (only_one own name has) some
+some_by own (form.Choice slots) name some has = subst (λ x. 0 < length x) (only_one own name has) some
+some_by own (form.Simple simple) name some has = subst (λ x. 0 < length x) (only_one own name has) some
 some_by own (form.Money code number) name some has = elim (two_of (base_name own) own name has) [
   | inl e ↦ (let long = length-append own (codes "_SimpleType") in let same = ap length e in omega (arith, some, long, same))
   | inr e ↦ subst (λ x. 0 < length x) e some
 ]
-some_by own form.Envelope name some has = subst (λ x. 0 < length x) (one_of own name has) some
+some_by own form.Envelope name some has = subst (λ x. 0 < length x) (only_one own name has) some
 some_by own form.LeftOut name some has = none_of name has
 some_by own form.Missing name some has = none_of name has
 
@@ -144,7 +140,7 @@ module _ (R : Contents) (m : List ℕ) where
 
   document_in : (d : Option MessageDef) (name : List ℕ) → Contains (names_by (codes "Document") (form_to (λ q. q) (facets_of R) (document_form d))) name → codes "Document" ≡ name
   document_in None name has = none_of name has
-  document_in (Some d) name has = one_of (codes "Document") name has
+  document_in (Some d) name has = only_one (codes "Document") name has
 
   -- they are those that the rules speak of
   names_in : (p : Place) (name : List ℕ) → (p ≡ document → ⊥) → Contains (place_names p) name → Contains (schema_names R m p) name

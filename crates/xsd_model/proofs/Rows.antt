@@ -1,8 +1,6 @@
 -- Worked schemas.
 use Rattle.std.proofs.Common.{◌≡◌, false, [], ◌∷◌, Some, None, pos, refl}
 use Rattle.std.proofs.Common.{ℕ, ◌<◌, zero, suc, arith, lit≤}
-use Rattle.xsd_model.specs.SchemaOf.{HasSoundNames, HasSoundFacets}
-use Rattle.message_model.specs.Tables.{types_of}
 use Rattle.std.specs.Prelude.{codes, flat_map}
 use Rattle.std.specs.Fmt.{digits}
 use Rattle.std.specs.Str.{bytes_eq}
@@ -10,7 +8,9 @@ use Rattle.std.proofs.lemmas.Map.Keys.{IsDistinct-cons}
 use Rattle.data_types.specs.declared.kind.Kind.TheVariants as kind
 use Rattle.facets.specs.declared.simple.Simple.{Simple}
 use Rattle.reference_check.specs.Forms as form
+use Rattle.message_model.specs.Tables.{types_of}
 use Rattle.message_model.specs.Tables.{Tables}
+use Rattle.xsd_model.specs.SchemaOf.{HasSoundNames, HasSoundFacets}
 use Rattle.xsd_model.specs.SchemaOf.{schema_of, types_by}
 use Rattle.xsd_model.specs.SchemaText.{schema_text, type_text}
 use Rattle.xsd_model.proofs.DistinctNames.{distinct_two}

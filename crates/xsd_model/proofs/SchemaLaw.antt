@@ -2,10 +2,10 @@
 use Rattle.std.proofs.Common.{◌≡◌, ◌↔◌, ℕ}
 use Rattle.lexical_core.specs.Tree.{Tree}
 use Rattle.data_types.specs.Value.{Value}
-use Rattle.message_model.specs.Admits.{AdmitsAs}
-use Rattle.message_model.specs.Writes.{WritesAs}
 use Rattle.facets.specs.declared.simple.Simple.{Simple}
 use Rattle.reference_check.specs.Forms.{Graph, form_to}
+use Rattle.message_model.specs.Admits.{AdmitsAs}
+use Rattle.message_model.specs.Writes.{WritesAs}
 use Rattle.message_model.specs.Sound.{AreSound}
 use Rattle.message_model.specs.Tables.{Tables, types_of, message_namespace}
 use Rattle.xsd_model.specs.Trees.{IsValid}

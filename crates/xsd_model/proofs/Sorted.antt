@@ -10,9 +10,9 @@ use Rattle.std.specs.declared.cmp.Ordering.TheVariants.{Less, Equal, Greater}
 use Rattle.std.proofs.lemmas.Cmp.{nat_list_cmp_total, on_total}
 use Rattle.std.proofs.lemmas.Fn.{always_returns_same}
 use Rattle.std.proofs.lemmas.List.Sorted.{ranks_by}
+use Rattle.lexical_core.proofs.StableSort.{put_by, sorted_by, by_less, sorted_is}
 use Rattle.xsd_model.specs.declared.schema.SchemaType.{SchemaType}
 use Rattle.xsd_model.specs.SchemaOf.{insert_type, placed_type, sorted_types}
-use Rattle.lexical_core.proofs.StableSort.{put_by, sorted_by, by_less, sorted_is}
 use denote.Param.Members.{Mut}
 
 abbrev by_name : SchemaType → SchemaType → Ordering

@@ -1,7 +1,7 @@
 //! A schema, from its first line to its last one.
 ghost use Rattle.std.specs.Prelude.{◌≡◌, ◌∷◌, true, [], codes, flat_map};
-ghost use Rattle.data_types.specs.Escaping.{escaped_bytes};
 ghost use Rattle.outside.specs.Pushes.{Pushes, as_push};
+ghost use Rattle.data_types.specs.Escaping.{escaped_bytes};
 ghost use Rattle.xsd_model.specs.SchemaText.{head_text, line, schema_text, type_text};
 ghost use Rattle.xsd_writer.specs.inner.TypeContents.{type_word};
 

@@ -1,10 +1,10 @@
 -- What the pass that fills in the lengths keeps beside the ends of elements, while their beginnings are still to come.
 use Rattle.std.specs.Prelude.{◌≡◌, ℕ, zero, suc, ◌+◌, ◌≤◌, ◌<◌, ◌==◌, List, [], ◌∷◌, length, Option, Some, None, slice_get, slice_index, if◌then◌else◌}
-use Rattle.data_types.specs.Leaf.{Leaf}
+use Rattle.data_types.specs.Leaf.{Leaf, octet_count}
 use Rattle.data_types.specs.Value.{Edge, Piece, Begins, Holds, Ends}
 use Rattle.facets.specs.declared.simple.Simple.{Simple}
+use Rattle.inst_pool.specs.Pieces.{Held}
 use Rattle.reference_check.specs.Forms.{Graph}
-use Rattle.inst_pool.specs.Pieces.{Held, leaf_bytes}
 use Rattle.der_model.specs.LeafContents.{leaf_contents}
 use Rattle.der_writer.specs.Measured.{Beside, Free, Counts}
 use Rattle.der_writer.specs.inner.PieceOctets.{Before, Begun, Filled, before_of, document_edge, leaf_octets, piece_octets, slots_behind}
@@ -29,7 +29,7 @@ octets_at g held at = octets_there g (before_place held.region.pieces at) (slice
 
 -- so many contents octets a leaf has; they are few more than its bytes
 abbrev pub IsSizeOf : Piece → ℕ → Type 0
-IsSizeOf (Holds leaf) size = (size ≡ length (leaf_contents leaf)) × (size ≤ leaf_bytes leaf + 32)
+IsSizeOf (Holds leaf) size = (size ≡ length (leaf_contents leaf)) × (size ≤ octet_count leaf + 32)
 IsSizeOf piece size = size ≡ 0
 
 abbrev pub IsSizeAt : Option Piece → ℕ → Type 0
@@ -83,5 +83,5 @@ pub record IsSimpleAt (g : Graph ℕ Simple) (pieces : List Piece) (at : ℕ) (e
   pub holds : slice_get pieces (at + 1) ≡ Some (Holds leaf)
   pub ends : slice_get pieces (at + 2) ≡ Some (Ends last)
   pub octets : size ≡ length (leaf_octets g (Begun edge) leaf)
-  pub few : size ≤ leaf_bytes leaf + 32
+  pub few : size ≤ octet_count leaf + 32
   pub none : length (slots_behind g last.target Filled) ≡ 0

@@ -1,10 +1,10 @@
 -- An instance in both forms.
 use Rattle.std.specs.Prelude.{◌≡◌, ℕ, ◌≤◌, List, length}
 use Rattle.data_types.specs.Value.{Value}
-use Rattle.der_model.specs.Der.{der_of}
-use Rattle.der_model.specs.DerMessage.{der_message}
 use Rattle.message_model.specs.Admits.{AdmitsAs}
 use Rattle.message_model.specs.Tables.{Tables, message_of, types_of}
+use Rattle.der_model.specs.Der.{der_of}
+use Rattle.der_model.specs.DerMessage.{der_message}
 use Rattle.xml_instances.specs.SpellsXml.{SpellsXml}
 use Rattle.xml_instances.specs.XmlFaults.{xml_limit}
 use Rattle.xml_writer.specs.CanonXml.{IsCanonXml}

@@ -1,9 +1,9 @@
 -- What gives a prefix its namespace.
 use Rattle.std.specs.Prelude.{ℕ, List, [], get_or}
+use Rattle.lexical_core.specs.Names.{xml_namespace}
 use Rattle.markup.specs.declared.bindings.Bindings.{Bindings}
 use Rattle.markup.specs.declared.origin.Origin.{Origin}
 use Rattle.markup.specs.declared.origin.Origin.TheVariants.{Nothing, Xml, Declared}
-use Rattle.lexical_core.specs.Names.{xml_namespace}
 use Rattle.markup.specs.inner.Ranks.{no_binding}
 
 -- the namespace of the declaration at the place, the empty one where there is none

@@ -1,13 +1,13 @@
 -- The numbers of types by the places of their objects.
-use Rattle.std.specs.Prelude.{◌≡◌, ℕ, ◌+◌, ◌<◌, length, All, List, [], ◌∷◌, Option, Some, None, slice_get, Contains}
+use Rattle.std.specs.Prelude.{◌≡◌, ℕ, ◌+◌, ◌<◌, length, All, List, [], ◌∷◌, Some, slice_get, Contains}
+use Rattle.facets.specs.declared.simple.Simple.{Simple}
 use Rattle.repo_objects.specs.declared.objects.ElementDef.{ElementDef}
 use Rattle.repo_objects.specs.declared.objects.Object.{Object}
 use Rattle.repo_objects.specs.declared.objects.Kinds.{Kinds}
 use Rattle.repo_objects.specs.declared.objects.ObjectKind.TheVariants as object
-use Rattle.repo_objects.specs.Repository.{DictionaryEntry, Contents}
+use Rattle.repo_objects.specs.Repository.{DictionaryEntry, Contents, entry_id}
 use Rattle.reference_check.specs.Graph.{Place, references}
 use Rattle.reference_check.specs.Reach.{kind_elements, kind_currency}
-use Rattle.facets.specs.declared.simple.Simple.{Simple}
 use Rattle.reference_check.specs.Forms.{Form, form_to}
 use Rattle.reference_check.specs.Graph.{object_form, simple_form}
 use Rattle.message_model.specs.FacetRules.{HasBadFacets}
@@ -18,10 +18,6 @@ use Rattle.message_model.specs.Compiled.{types, place_of, place_word, place_name
 -- the type of the first place has number 2, and so on
 abbrev pub AreNumbers : List ℕ → List ℕ → Type 0
 AreNumbers places numbers = (i k : ℕ) → slice_get places i ≡ Some k → slice_get numbers k ≡ Some (i + 2)
-
-abbrev pub entry_id : Option DictionaryEntry → List ℕ
-entry_id None = []
-entry_id (Some e) = e.id
 
 -- the ids of the objects at the places
 abbrev pub ids_at : List DictionaryEntry → List ℕ → List (List ℕ)

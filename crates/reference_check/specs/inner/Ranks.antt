@@ -4,12 +4,8 @@ use Rattle.repo_objects.specs.Objects.{HasObjectTexts}
 use Rattle.repo_objects.specs.declared.objects.Object.{Object}
 use Rattle.repo_objects.specs.declared.objects.ObjectKind.TheVariants.{Other}
 use Rattle.repo_objects.specs.Repository.{DictionaryEntry, Contents, IsRepository}
-use Rattle.reference_check.specs.declared.reached.ReadyError.{ReadyError}
-use Rattle.reference_check.specs.declared.reached.ReadyError.TheVariants.{Broken, Memory}
-use Rattle.reference_check.specs.inner.First.{IsFirst}
 use Rattle.reference_check.specs.Graph.{Place, message, entry, find_entry}
-use Rattle.reference_check.specs.Reached.{place_id}
-use Rattle.reference_check.specs.Rules.{Rule, Breaks, object_rule_number, HasNoPatterns}
+use Rattle.reference_check.specs.Rules.{Rule, Breaks, HasNoPatterns}
 
 -- the place of that rank; the message stands behind all objects
 abbrev pub place_of_entry : Option DictionaryEntry → Place
@@ -31,11 +27,6 @@ pub record StandsAt (R : Contents) (at : ℕ) (o : Object) : Type 0 where
   pub found : find_entry stored.id R.objects ≡ Some o
   pub whole : IsRepository R
   pub texts : HasObjectTexts o
-
--- the rule is broken first at that place, and told with its number and its id
-abbrev pub TellsAs : Contents → List ℕ → Rule → ReadyError → Type 0
-TellsAs R m rule (Broken number object) = (p : Place) × IsFirst R m rule p × (number ≡ object_rule_number rule) × (object ≡ place_id m p)
-TellsAs R m rule Memory = Unit {0}
 
 -- the object is of a kind that is left out, or has a pattern that its kind may not be given
 abbrev pub IsLeftOut : Object → Type 0

@@ -3,13 +3,13 @@ use Rattle.std.specs.Prelude.{◌≡◌, ◌≢◌, ◌⊎◌, ◌≤◌, ℕ, B
 use Rattle.outside.specs.declared.errors.SinkError.{SinkError}
 use Rattle.outside.specs.declared.errors.SinkError.TheVariants as sink
 use Rattle.repo_objects.specs.Repository.{Contents}
+use Rattle.repo_loader.specs.Loaded.{Spells}
+use Rattle.repo_loader.specs.declared.fault.LoadError.{LoadError}
+use Rattle.repo_loader.specs.declared.fault.LoadError.TheVariants as load_error
 use Rattle.code_sets.specs.declared.errors.CodesError.{CodesError}
 use Rattle.code_sets.specs.declared.errors.CodesError.TheVariants as codes_error
 use Rattle.code_sets.specs.declared.record.CodeRecord.{CodeRecord}
 use Rattle.code_sets.specs.Codes.{ReadsCodes, codes_limit}
-use Rattle.repo_loader.specs.Loaded.{Spells}
-use Rattle.repo_loader.specs.declared.fault.LoadError.{LoadError}
-use Rattle.repo_loader.specs.declared.fault.LoadError.TheVariants as load_error
 use Rattle.reference_check.specs.declared.reached.ReadyError.{ReadyError}
 use Rattle.reference_check.specs.declared.reached.ReadyError.TheVariants as ready
 use Rattle.message_model.specs.Tables.{Tables}

@@ -1,23 +1,23 @@
 -- What has been read of a repository file so far.
 use Rattle.std.specs.Prelude.{◌≡◌, ◌||◌, Bool, true, false, if◌then◌else◌, ℕ, List, [], ◌∷◌, ◌++◌, Option, Some, None}
+use Rattle.std.specs.List.{AllByRecursion}
+use Rattle.lexical_core.specs.Characters.{IsXmlText}
+use Rattle.lexical_core.specs.Tree.{Entry as Attribute}
 use Rattle.repo_objects.specs.declared.objects.CodeDef.{CodeDef}
 use Rattle.repo_objects.specs.declared.objects.ElementDef.{ElementDef}
 use Rattle.repo_objects.specs.Objects.{HasMessageTexts}
 use Rattle.repo_objects.specs.Repository.{DictionaryEntry, HasId, HasEntryTexts}
+use Rattle.repo_objects.specs.declared.objects.MessageDef.{MessageDef}
+use Rattle.repo_objects.specs.declared.objects.ObjectKind.{ObjectKind}
 use Rattle.repo_loader.specs.declared.loading.OpenEntry.{OpenEntry}
 use Rattle.repo_loader.specs.declared.loading.Loading.{Loading}
 use Rattle.repo_loader.specs.Selected.{FileTag}
 use Rattle.repo_loader.specs.declared.loading.OpenMessage.{OpenMessage}
-use Rattle.repo_objects.specs.declared.objects.MessageDef.{MessageDef}
 use Rattle.repo_loader.specs.inner.FileSteps.{has_stop}
 use Rattle.repo_loader.specs.File.{objects, entry, is_message, is_message_tag, messages, message, behind, own_blocks, own_identifiers, first_or_empty, element, code, message_identifier}
 use Rattle.repo_loader.specs.declared.part.Part.{Part}
 use Rattle.repo_loader.specs.declared.part.Part.TheVariants.{Element, Alternative, Code, Block, Identifier}
 use Rattle.repo_loader.specs.FileFaults.{HasNumbers}
-use Rattle.std.specs.List.{AllByRecursion}
-use Rattle.lexical_core.specs.Characters.{IsXmlText}
-use Rattle.lexical_core.specs.Tree.{Entry as Attribute}
-use Rattle.repo_objects.specs.declared.objects.ObjectKind.{ObjectKind}
 
 -- some item is there
 abbrev pub is_some_list : {A : Type 0} → List A → Bool

@@ -1,10 +1,10 @@
 -- Why an element is not taken.
 use Rattle.std.specs.Prelude.{◌≡◌, List}
+use Rattle.std.specs.Prelude.{ℕ, ◌≤◌}
 use Rattle.lexical_core.specs.Tree.{Entry as Attribute}
+use Rattle.repo_objects.specs.declared.objects.ObjectKind.{ObjectKind}
 use Rattle.repo_loader.specs.declared.stop.Stop.{Stop}
 use Rattle.repo_loader.specs.declared.stop.Stop.TheVariants.{Rule, Memory}
-use Rattle.std.specs.Prelude.{ℕ, ◌≤◌}
-use Rattle.repo_objects.specs.declared.objects.ObjectKind.{ObjectKind}
 use Rattle.repo_loader.specs.Selected.{FileTag}
 use Rattle.repo_loader.specs.FileFaults.{HasOccurrences, HasFacetNumbers, HasNumbers, BreaksTagRule}
 use Rattle.repo_loader.specs.declared.part.Part.{Part}

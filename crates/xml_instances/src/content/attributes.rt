@@ -1,12 +1,12 @@
 //! The attributes of an element, and the currency of an amount: ISO 20022-4, XML Schema part 1 §3.4.4.
 ghost use Rattle.std.specs.Prelude.{◌≡◌, ◌++◌, ℕ, Some, None, IfOk, OnOk, codes, map};
 ghost use Rattle.std.specs.Str.{chars};
+ghost use Rattle.lexical_core.specs.Names.{attribute_value as value_of};
 ghost use Rattle.facets.specs.declared.simple.Simple.{Simple as SimpleType};
 ghost use Rattle.markup.specs.EventItems.{entry_of};
 ghost use Rattle.reference_check.specs.Forms.{text_type, Form as FormType};
 ghost use Rattle.message_model.specs.Tables.{message_of, types_of};
 ghost use Rattle.message_model.specs.Views.{IsFormOf};
-ghost use Rattle.lexical_core.specs.Names.{attribute_value as value_of};
 ghost use Rattle.message_model.specs.Writes.{currency};
 ghost use Rattle.xml_instances.specs.EventFaults.{has_currency, CurrencyFault, AttributeFault};
 ghost use Rattle.xml_instances.specs.Built.{CodeShown, CurrencyShown, TextShown};

@@ -2,19 +2,19 @@
 ghost use Rattle.std.specs.Prelude.{◌≡◌, ℕ, List, [], ◌∷◌, ◌++◌, Some, None, IfOk, OnOk, length};
 ghost use Rattle.facets.specs.declared.simple.Simple.{Simple as SimpleType};
 ghost use Rattle.facets.specs.LeafChecks.{IsWithinLimits, IsHeldWithin, leaf_limit};
+ghost use Rattle.facets.specs.LeafVerdicts.{IsFreeText};
 ghost use Rattle.reference_check.specs.Forms.{Graph, text_type};
 ghost use Rattle.message_model.specs.Tables.{message_of, types_of};
+ghost use Rattle.message_model.specs.Message.{Message};
 ghost use Rattle.xml_instances.specs.EventFaults.{LeafFault};
 ghost use Rattle.xml_instances.specs.Built.{TextShown};
 ghost use Rattle.xml_instances.specs.Judges.{HasJudgeTaken};
 ghost use Rattle.xml_instances.specs.Levels.{Level};
 ghost use Rattle.xml_instances.specs.Scratch.{held_by, held_in, IsScratchWithin};
-ghost use Rattle.message_model.specs.Message.{Message};
 ghost use Rattle.xml_instances.specs.Keeping.{GoOn};
 ghost use Rattle.xml_instances.specs.Open.{IsOpen, AreMade, path_round, Says, HoldsText};
 ghost use Rattle.xml_instances.specs.declared.opened.Opened.TheVariants.{Text as OpenedText};
 ghost use Rattle.xml_instances.specs.Verdicts.{IsVerdictJudge, IsTextVerdict, IsLean, HasFreeText};
-ghost use Rattle.facets.specs.LeafVerdicts.{IsFreeText};
 
 use super::{Content, OpenText};
 use crate::judge::Judge;

@@ -3,10 +3,10 @@ ghost use Rattle.std.specs.Prelude.{◌≡◌, ◌++◌, ◌∷◌, ℕ, List, [
 ghost use Rattle.lexical_core.specs.Tree.{Expanded, Starts, Ends};
 ghost use Rattle.facets.specs.declared.simple.Simple.{Simple as SimpleType};
 ghost use Rattle.markup.specs.PlainTags.{tag_items};
-ghost use Rattle.xml_instances.specs.Built.{EventShows, EventsShow, TextShown};
-ghost use Rattle.xml_instances.specs.Keeping.{GoOn};
 ghost use Rattle.reference_check.specs.Steps.{Came, EndsWith, Fine, end_after};
 ghost use Rattle.message_model.specs.Tables.{message_of, types_of};
+ghost use Rattle.xml_instances.specs.Built.{EventShows, EventsShow, TextShown};
+ghost use Rattle.xml_instances.specs.Keeping.{GoOn};
 ghost use Rattle.xml_instances.specs.Levels.{Level};
 ghost use Rattle.xml_instances.specs.Open.{IsOpen, AreMade, IsRuleOf, HoldsText, IsTextMade};
 ghost use Rattle.xml_instances.specs.EventFaults.{has_currency};

@@ -3,8 +3,8 @@ ghost use Rattle.std.specs.Prelude.{◌≡◌, ℕ, List, Option, Some, None, On
 ghost use Rattle.lexical_core.specs.Tree.{Expanded};
 ghost use Rattle.markup.specs.EventItems.{item_of};
 ghost use Rattle.markup.specs.PlainTags.{tag_items};
-ghost use Rattle.message_model.specs.Message.{Message};
 ghost use Rattle.respell.specs.Respelling.{HasSortedAttributes};
+ghost use Rattle.message_model.specs.Message.{Message};
 ghost use Rattle.xml_instances.specs.Levels.{Level};
 ghost use Rattle.xml_instances.specs.Built.{nothing_shown, with_event, with_end};
 ghost use Rattle.xml_instances.specs.Open.{IsOpen, StandsFor};

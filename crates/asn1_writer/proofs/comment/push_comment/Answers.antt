@@ -1,6 +1,6 @@
 use Rattle.std.proofs.Common.{◌≡◌, ◌++◌, drop, ap, sym, ◌∙◌}
-use Rattle.asn1_model.specs.ModuleText.{comment_text}
 use Rattle.outside.proofs.PushedFronts.{to_more, to_stops}
+use Rattle.asn1_model.specs.ModuleText.{comment_text}
 use Rattle.asn1_writer.proofs.comment.push_comment.Goals as goal
 
 pub returns-in-Err : goal.returns-in-Err

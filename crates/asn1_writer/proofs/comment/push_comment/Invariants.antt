@@ -1,7 +1,7 @@
 -- The rest of the text is still to come.
 use Rattle.std.proofs.Common.{length}
-use Rattle.asn1_model.specs.ModuleText.{comment_text}
 use Rattle.outside.proofs.PushedFronts.{IsPushedTo}
+use Rattle.asn1_model.specs.ModuleText.{comment_text}
 use Rattle.asn1_writer.proofs.comment.push_comment.Given as goal
 
 abbrev pub invariant-loop-rest : goal.invariant-loop-rest

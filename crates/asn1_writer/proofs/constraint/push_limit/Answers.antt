@@ -1,9 +1,9 @@
 use Rattle.std.proofs.Common.{[], ◌∷◌, subst}
-use Rattle.outside.specs.Pushes.{Pushes}
 use Rattle.lexical_core.specs.Decimals.{decimal_spelling}
 use Rattle.lexical_core.specs.CanonicalDecimals.{canonical_parts}
 use Rattle.lexical_core.proofs.DecimalLaws.{canonical_text}
 use Rattle.lexical_core.proofs.Written.{canonical_is}
+use Rattle.outside.specs.Pushes.{Pushes}
 use Rattle.asn1_model.specs.ModuleText.{constraint_text}
 use Rattle.asn1_writer.proofs.constraint.push_limit.Goals as goal
 

@@ -1,6 +1,6 @@
 use Rattle.std.proofs.Common.{subst}
-use Rattle.outside.specs.Sink.{PushAppends, HasRoom}
 use Rattle.lexical_core.proofs.DecimalLaws.{canonical_text}
+use Rattle.outside.specs.Sink.{PushAppends, HasRoom}
 use Rattle.data_types.proofs.canonical.push_number.Goals as goal
 
 pub returns-clause-bytes : goal.returns-clause-bytes

@@ -1,7 +1,7 @@
-use Rattle.message_model.specs.Tables.{types_of}
 use Rattle.std.proofs.Common.{refl}
 use Rattle.der_octets.specs.TagSteps.{tag_view}
 use Rattle.reference_check.specs.Forms.{form_slots}
+use Rattle.message_model.specs.Tables.{types_of}
 use Rattle.der_codec.proofs.ComponentsFound.{anys_none, anys_found}
 use Rattle.der_codec.proofs.components.alternative.Goals as goal
 

@@ -1,5 +1,5 @@
-use Rattle.message_model.specs.Tables.{types_of}
 use Rattle.reference_check.specs.Forms.{form_slots}
+use Rattle.message_model.specs.Tables.{types_of}
 use Rattle.der_codec.specs.Components.{NoneDue}
 use Rattle.der_codec.proofs.components.first_due.Given as goal
 

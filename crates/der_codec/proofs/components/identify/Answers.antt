@@ -1,6 +1,6 @@
 use Rattle.std.proofs.Common.{◌≡◌, sym, subst}
-use Rattle.message_model.specs.Tables.{types_of, message_of}
 use Rattle.der_octets.specs.TagSteps.{tag_view}
+use Rattle.message_model.specs.Tables.{types_of, message_of}
 use Rattle.der_model.specs.DerMessage.{in_der}
 use Rattle.der_model.specs.Structures as structures
 use Rattle.der_model.specs.Structures.{structure}

@@ -1,7 +1,7 @@
 use Rattle.std.proofs.Common.{refl, sym, ap, subst, arith}
-use Rattle.message_model.specs.Tables.{types_of}
-use Rattle.reference_check.specs.Forms.{form_slots}
 use Rattle.der_octets.specs.TagSteps.{tag_view}
+use Rattle.reference_check.specs.Forms.{form_slots}
+use Rattle.message_model.specs.Tables.{types_of}
 use Rattle.der_codec.specs.Components.{NoneDue, IsDue, slot_text}
 use Rattle.der_codec.proofs.ComponentsFound.{fields_none, fields_before, fields_found, fields_due}
 use Rattle.der_codec.proofs.components.in_fields.Goals as goal

@@ -1,9 +1,9 @@
 use Rattle.std.proofs.Common.{subst}
+use Rattle.message_model.specs.Tables.{types_of}
 use Rattle.der_model.specs.DerMessage.{der_message}
 use Rattle.der_model.specs.OpenParts.{IsPrimitive}
 use Rattle.der_model.specs.Structures.{structure}
 use Rattle.der_codec.proofs.ContentsJudged.{no_instance}
-use Rattle.message_model.specs.Tables.{types_of}
 use Rattle.der_codec.specs.Levels.{IsSpot}
 use Rattle.der_codec.proofs.contents.judge.Goals as goal
 

@@ -1,9 +1,9 @@
 use Rattle.std.proofs.Common.{ap, ◌∙◌, ◌++◌, subst}
+use Rattle.data_types.specs.Value.{Ends}
 use Rattle.inst_pool.specs.Pieces.{edge_of, open_in}
+use Rattle.der_model.specs.ShownPieces.{end_each}
 use Rattle.der_codec.specs.inner.Elements.{edge_if}
 use Rattle.der_codec.proofs.PiecesOpen.{on_ok_when, closed_open}
-use Rattle.data_types.specs.Value.{Ends}
-use Rattle.der_model.specs.ShownPieces.{end_each}
 use Rattle.der_codec.specs.Reserved.{HoldsMore}
 use Rattle.der_codec.proofs.Growing.{one_spare}
 use Rattle.der_codec.proofs.elements.end_one.Goals as goal

@@ -1,4 +1,5 @@
 use Rattle.std.proofs.Common.{◌++◌, ◌∷◌, [], ap, ◌∙◌}
+use Rattle.std.specs.Prelude.{Some}
 use Rattle.data_types.specs.LeafAnswers.{leaf_of}
 use Rattle.data_types.specs.Value.{Holds}
 use Rattle.inst_pool.specs.Pieces.{open_in}
@@ -8,7 +9,6 @@ use Rattle.der_codec.proofs.PiecesOpen.{on_ok_when, leaf_open}
 use Rattle.der_codec.proofs.ShownUsual.{pieces_join}
 use Rattle.der_codec.specs.Reserved.{HoldsMore, GrowsRoom}
 use Rattle.der_codec.proofs.Growing.{holds_first, holds_then}
-use Rattle.std.specs.Prelude.{Some}
 use Rattle.der_codec.proofs.elements.hold_within.Goals as goal
 
 pub end_elements-requires : goal.end_elements-requires

@@ -1,7 +1,7 @@
 use Rattle.std.proofs.Common.{sym, subst}
 use Rattle.data_types.specs.Leaf.{Flag}
-use Rattle.der_model.specs.LeafContents.{IsContents}
 use Rattle.facets.proofs.CodeVerdicts.{flag_fits}
+use Rattle.der_model.specs.LeafContents.{IsContents}
 use Rattle.der_codec.proofs.leaves.judge_boolean.Goals as goal
 
 pub returns-in-Some-clause-judged : goal.returns-in-Some-clause-judged

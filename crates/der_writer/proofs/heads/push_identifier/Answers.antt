@@ -1,6 +1,6 @@
 use Rattle.std.proofs.Common.{◌∷◌, [], ◌+◌, ◌/◌, ◌%◌, ap, sym, ◌∙◌}
-use Rattle.der_writer.specs.inner.Heads.{tag_of}
 use Rattle.der_octets.proofs.TagFronts.{one_octet, two_octets, three_octets}
+use Rattle.der_writer.specs.inner.Heads.{tag_of}
 use Rattle.der_writer.proofs.Pairs.{same_text}
 use Rattle.der_writer.proofs.heads.push_identifier.Goals as goal
 

@@ -1,6 +1,6 @@
 use Rattle.std.proofs.Common.{◌∷◌, [], ◌+◌, ◌++◌, ap, ap₂, sym, ◌∙◌}
-use Rattle.der_writer.specs.inner.Heads.{tag_of}
 use Rattle.der_octets.proofs.TagFronts.{one_octet}
+use Rattle.der_writer.specs.inner.Heads.{tag_of}
 use Rattle.der_writer.proofs.HeadLemmas.{short_is}
 use Rattle.der_writer.proofs.Pairs.{same_text}
 use Rattle.der_writer.proofs.heads.push_short.Goals as goal

@@ -1,6 +1,6 @@
 use Rattle.std.proofs.Common.{◌≡◌, ℕ, ◌+◌, ◌-◌, ◌++◌, List, length, take, drop, ap, ap₂, ◌∙◌, arith, length-append}
-use Rattle.message_model.specs.Tables.{types_of}
 use Rattle.inst_pool.specs.Pieces.{edge_of}
+use Rattle.message_model.specs.Tables.{types_of}
 use Rattle.der_writer.specs.inner.Passes.{innermost_frame}
 use Rattle.der_writer.specs.inner.PieceOctets.{empty_slots, sequence_slots, slots_between, list_head, own_slot, octets_before, begin_octets}
 use Rattle.der_writer.proofs.KnownStages.{knows_begin, sets_same}

@@ -1,6 +1,6 @@
 use Rattle.std.proofs.Common.{◌+◌, ◌∙◌, drop, length, ap, arith}
-use Rattle.message_model.specs.Tables.{types_of}
 use Rattle.inst_pool.specs.Pieces.{edge_of}
+use Rattle.message_model.specs.Tables.{types_of}
 use Rattle.der_writer.specs.inner.PieceOctets.{empty_slots, sequence_slots, slots_behind}
 use Rattle.der_writer.proofs.KnownStages.{knows_end, sets_same}
 use Rattle.der_writer.proofs.lengths.end.Goals as goal

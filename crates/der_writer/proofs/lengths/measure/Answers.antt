@@ -1,6 +1,6 @@
 use Rattle.std.proofs.Common.{◌≡◌, sym, ap, ◌∙◌, subst}
-use Rattle.message_model.specs.Tables.{types_of, pieces_of}
 use Rattle.fragments.specs.Fragment.{fragment}
+use Rattle.message_model.specs.Tables.{types_of, pieces_of}
 use Rattle.der_writer.specs.inner.PieceOctets.{Begun, document_edge}
 use Rattle.der_writer.specs.inner.Passes.{stage}
 use Rattle.der_writer.specs.inner.Measuring.{NumbersAreKept}

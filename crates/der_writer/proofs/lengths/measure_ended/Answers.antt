@@ -1,7 +1,7 @@
 use Rattle.std.proofs.Common.{◌≡◌, ◌+◌, ◌-◌, drop, sym, ap, subst, arith}
-use Rattle.message_model.specs.Tables.{types_of}
 use Rattle.data_types.specs.Value.{Holds, Ends}
 use Rattle.inst_pool.specs.Pieces.{edge_of, bytes_of}
+use Rattle.message_model.specs.Tables.{types_of}
 use Rattle.der_writer.specs.inner.Passes.{stage}
 use Rattle.der_writer.specs.inner.Measuring.{Knows, before_place}
 use Rattle.der_writer.proofs.StageBounds.{stage_beside}

@@ -1,12 +1,12 @@
-use Rattle.std.proofs.Common.{◌+◌, drop, Some, sym, ap, ◌∙◌, subst, arith}
-use Rattle.message_model.specs.Tables.{types_of}
+use Rattle.std.proofs.Common.{◌+◌, drop, Some, sym, ap, ◌∙◌, subst, arith, add-one}
 use Rattle.data_types.specs.Value.{Begins, Holds}
 use Rattle.inst_pool.specs.Pieces.{edge_of}
+use Rattle.message_model.specs.Tables.{types_of}
 use Rattle.der_writer.specs.inner.Heads.{before_view}
 use Rattle.der_writer.specs.inner.Passes.{piece_step, stage}
 use Rattle.der_writer.specs.inner.Measuring.{Knows, before_place}
 use Rattle.der_writer.proofs.StageBounds.{stage_within}
-use Rattle.der_writer.proofs.KnownStages.{bytes_from, piece_there, next_place, begins_there, ends_there, holds_there, stage_at}
+use Rattle.der_writer.proofs.KnownStages.{bytes_from, piece_there, begins_there, ends_there, holds_there, stage_at}
 use Rattle.der_writer.proofs.lengths.measure_piece.Goals as goal
 
 pub begin-requires-clause-known : goal.begin-requires-clause-known
@@ -20,7 +20,7 @@ returns-in-Begun-clause-known c =
     let g = types_of c.args.model.now in
     let s = stage g (before_place ps (c.args.at + 1)) (drop (c.args.at + 1) ps) in
     let p = piece_there ps c.args.at c.requires.place in
-    let read = ap (before_place ps) (next_place c.args.at) ∙ sym c.read-seen.ensures.before in
+    let read = ap (before_place ps) (add-one c.args.at) ∙ sym c.read-seen.ensures.before in
     let is = begins_there p.0 (edge_of c.in-Begun.edge) (sym p.2 ∙ (read ∙ ap before_view c.in-Begun.is)) in
     let whole = stage_at g ps c.args.at (Begins (edge_of c.in-Begun.edge)) (p.1 ∙ ap (λ z. Some z) is) in
     subst (Knows c.begin.new.instance c.args.at c.begin.result.around c.begin.result.sum) (sym whole) (c.begin.ensures.known (before_place ps c.args.at) c.next_at-next.ensures s c.requires.known)
@@ -37,7 +37,7 @@ returns-in-Filled-clause-known c =
     let g = types_of c.args.model.now in
     let s = stage g (before_place ps (c.args.at + 1)) (drop (c.args.at + 1) ps) in
     let p = piece_there ps c.args.at c.requires.place in
-    let read = ap (before_place ps) (next_place c.args.at) ∙ sym c.read-seen.ensures.before in
+    let read = ap (before_place ps) (add-one c.args.at) ∙ sym c.read-seen.ensures.before in
     let is = holds_there p.0 (sym p.2 ∙ (read ∙ ap before_view c.in-Filled.is)) in
     let there = p.1 ∙ ap (λ z. Some z) is.1 in
     let whole = stage_at g ps c.args.at (Holds is.0) there in
@@ -54,5 +54,5 @@ pub measure_ended-requires-clause-piece : goal.measure_ended-requires-clause-pie
 measure_ended-requires-clause-piece c =
     let ps = c.args.instance.now.region.pieces in
     let p = piece_there ps c.args.at c.requires.place in
-    let read = ap (before_place ps) (next_place c.args.at) ∙ sym c.read-seen.ensures.before in
+    let read = ap (before_place ps) (add-one c.args.at) ∙ sym c.read-seen.ensures.before in
     p.1 ∙ ap (λ z. Some z) (ends_there p.0 (edge_of c.in-Ended.edge) (sym p.2 ∙ (read ∙ ap before_view c.in-Ended.is)))

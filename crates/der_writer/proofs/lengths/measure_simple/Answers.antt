@@ -1,6 +1,6 @@
 use Rattle.std.proofs.Common.{◌≡◌, ℕ, ◌+◌, ◌-◌, length, take, drop, refl, ap, ◌∙◌, arith, length-append}
-use Rattle.message_model.specs.Tables.{types_of}
 use Rattle.inst_pool.specs.Pieces.{edge_of}
+use Rattle.message_model.specs.Tables.{types_of}
 use Rattle.der_writer.specs.inner.PieceOctets.{empty_slots, sequence_slots, slots_between, list_head, own_slot}
 use Rattle.der_writer.specs.inner.Measuring.{before_place, following_at}
 use Rattle.der_writer.proofs.KnownStages.{sets_same}

@@ -2,8 +2,8 @@
 use Rattle.std.proofs.Common.{◌≡◌, ◌+◌, ◌-◌, Some, length, drop, refl, sym, ap, ◌∙◌, subst, arith}
 use Rattle.std.specs.Prelude.{slice_get}
 use Rattle.data_types.specs.Value.{Holds, Ends}
-use Rattle.message_model.specs.Tables.{types_of}
 use Rattle.inst_pool.specs.Pieces.{edge_of}
+use Rattle.message_model.specs.Tables.{types_of}
 use Rattle.der_writer.specs.inner.PieceOctets.{empty_slots, first_leaf}
 use Rattle.der_writer.specs.inner.Measuring.{IsSizeOf}
 use Rattle.der_writer.proofs.simple.simple_before.Goals as goal

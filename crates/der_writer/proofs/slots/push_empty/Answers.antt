@@ -1,10 +1,10 @@
 use Rattle.std.proofs.Common.{◌<◌, length, sym, arith}
 use Rattle.std.proofs.lemmas.Option.{slice_get_within}
+use Rattle.outside.proofs.PushedFronts.{to_more, to_stops, to_all}
 use Rattle.reference_check.specs.Forms.{form_slots}
 use Rattle.message_model.specs.Tables.{types_of}
 use Rattle.der_writer.proofs.EmptySlots.{empty_more, empty_past, told}
 use Rattle.der_writer.proofs.Pairs.{same_text}
-use Rattle.outside.proofs.PushedFronts.{to_more, to_stops, to_all}
 use Rattle.der_writer.proofs.slots.push_empty.Goals as goal
 
 pub empty_head-requires : goal.empty_head-requires

@@ -1,8 +1,8 @@
 -- The slots so far went through.
+use Rattle.outside.proofs.PushedFronts.{IsPushedTo}
 use Rattle.reference_check.specs.Forms.{form_slots}
 use Rattle.message_model.specs.Tables.{types_of}
 use Rattle.der_writer.proofs.EmptySlots.{empty_from}
-use Rattle.outside.proofs.PushedFronts.{IsPushedTo}
 use Rattle.der_writer.proofs.slots.push_empty.Given as goal
 
 abbrev pub invariant-loop-k : goal.invariant-loop-k

@@ -1,7 +1,7 @@
 -- The buffer is as it was where the piece was not put into it.
 use Rattle.std.proofs.Common.{subst}
-use Rattle.message_model.specs.Tables.{types_of}
 use Rattle.outside.specs.Gathering.{Gathers}
+use Rattle.message_model.specs.Tables.{types_of}
 use Rattle.der_writer.specs.inner.Measuring.{octets_at}
 use Rattle.der_writer.proofs.write.gather_at.Goals as goal
 

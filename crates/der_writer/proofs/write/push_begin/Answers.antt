@@ -1,8 +1,8 @@
 -- The slots between, and then the heads.
 use Rattle.std.proofs.Common.{◌-◌, ◌++◌, take, drop, sym, ap, append_assoc}
 use Rattle.std.specs.Prelude.{slice_index}
-use Rattle.message_model.specs.Tables.{types_of}
 use Rattle.inst_pool.specs.Pieces.{edge_of}
+use Rattle.message_model.specs.Tables.{types_of}
 use Rattle.der_writer.specs.inner.PieceOctets.{begin_octets, list_head, own_slot, slots_between, empty_slots, sequence_slots}
 use Rattle.der_writer.specs.inner.Measuring.{before_place}
 use Rattle.der_writer.proofs.Pairs.{pair_stops, pair_ends, same_text}

@@ -1,10 +1,10 @@
 -- The buffer, and then the piece.
 use Rattle.std.proofs.Common.{sym, subst, ◌∙◌}
 use Rattle.outside.proofs.Pushing.{fails_push}
-use Rattle.message_model.specs.Tables.{types_of}
 use Rattle.outside.specs.Gathering.{Gathers}
-use Rattle.der_writer.specs.inner.Measuring.{octets_at}
 use Rattle.outside.proofs.PushedFronts.{gathers_none}
+use Rattle.message_model.specs.Tables.{types_of}
+use Rattle.der_writer.specs.inner.Measuring.{octets_at}
 use Rattle.der_writer.proofs.write.push_both.Goals as goal
 
 pub returns-in-Err : goal.returns-in-Err

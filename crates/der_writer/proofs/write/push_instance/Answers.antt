@@ -1,6 +1,6 @@
 use Rattle.std.proofs.Common.{true}
-use Rattle.message_model.specs.Tables.{types_of}
 use Rattle.der_octets.specs.Octets.{universal}
+use Rattle.message_model.specs.Tables.{types_of}
 use Rattle.der_writer.specs.inner.PieceOctets.{Begun, document_edge, head, pieces_octets}
 use Rattle.der_writer.proofs.Pairs.{pair_stops, pair_ends, same_text}
 use Rattle.der_writer.proofs.Whole.{der_is}

@@ -1,8 +1,8 @@
 -- The head of the list, and then that of the item.
 use Rattle.std.proofs.Common.{true, [], refl, ap, ◌∙◌}
 use Rattle.std.specs.Prelude.{if◌then◌else◌, slice_index}
-use Rattle.message_model.specs.Tables.{types_of}
 use Rattle.der_octets.specs.Octets.{context}
+use Rattle.message_model.specs.Tables.{types_of}
 use Rattle.der_writer.specs.inner.PieceOctets.{goes_on, head, item_head}
 use Rattle.der_writer.proofs.Pairs.{pair_stops, pair_ends, same_text}
 use Rattle.der_writer.proofs.write.push_item.Goals as goal

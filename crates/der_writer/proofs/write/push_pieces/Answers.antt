@@ -1,9 +1,9 @@
 use Rattle.std.proofs.Common.{◌≡◌, ◌<◌, ◌≤◌, ◌++◌, ◌∙◌, drop, length, sym, ap, arith}
+use Rattle.outside.proofs.PushedFronts.{to_ends, to_gathered, to_stops_there}
 use Rattle.message_model.specs.Tables.{types_of}
 use Rattle.der_writer.specs.inner.PieceOctets.{empty_slots, next_slot, sequence_slots}
 use Rattle.der_writer.specs.inner.Measuring.{before_place}
 use Rattle.der_writer.proofs.Pairs.{same_text}
-use Rattle.outside.proofs.PushedFronts.{to_ends, to_gathered, to_stops_there}
 use Rattle.der_writer.proofs.Whole.{octets_on, octets_end}
 use Rattle.der_writer.proofs.write.push_pieces.Goals as goal
 

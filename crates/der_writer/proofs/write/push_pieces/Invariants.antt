@@ -1,9 +1,9 @@
 -- What went to the sink stands before the buffer, and that before what is still to be written.
 use Rattle.std.proofs.Common.{drop, ◌++◌}
+use Rattle.outside.proofs.PushedFronts.{IsPushedTo}
 use Rattle.message_model.specs.Tables.{types_of}
 use Rattle.der_writer.specs.inner.PieceOctets.{Begun, document_edge, pieces_octets}
 use Rattle.der_writer.specs.inner.Measuring.{before_place}
-use Rattle.outside.proofs.PushedFronts.{IsPushedTo}
 use Rattle.der_writer.proofs.write.push_pieces.Given as goal
 
 abbrev pub invariant-loop-at : goal.invariant-loop-at

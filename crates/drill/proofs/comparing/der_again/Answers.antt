@@ -1,9 +1,9 @@
 use Rattle.std.proofs.Common.{◌≡◌, ℕ, ◌≤◌, List, refl, ◌++◌, Some, length, sym, ap, ◌∙◌, subst}
 use Rattle.message_model.specs.Tables.{message_of}
-use Rattle.xml_instances.specs.XmlFaults.{xml_limit}
-use Rattle.xml_instances.specs.SpellsXml.{SpellsXml}
 use Rattle.der_model.specs.Der.{der_of}
 use Rattle.der_model.specs.DerMessage.{der_message}
+use Rattle.xml_instances.specs.XmlFaults.{xml_limit}
+use Rattle.xml_instances.specs.SpellsXml.{SpellsXml}
 use Rattle.transcoder.specs.Checked.{IsDerOfXml, HasXmlFault}
 use Rattle.drill.proofs.Transcoded.{no_rise, only_memory, pushed_text}
 use Rattle.drill.proofs.comparing.der_again.Goals as goal

@@ -1,8 +1,8 @@
 use Rattle.std.proofs.Common.{◌≡◌, ℕ, ◌≤◌, List, refl, ◌++◌, Some, length, sym, ap, ◌∙◌, subst}
 use Rattle.message_model.specs.Tables.{message_of}
-use Rattle.xml_instances.specs.XmlFaults.{xml_limit}
 use Rattle.der_model.specs.Der.{SpellsDer}
 use Rattle.der_model.specs.DerMessage.{der_message}
+use Rattle.xml_instances.specs.XmlFaults.{xml_limit}
 use Rattle.xml_writer.specs.CanonXml.{IsCanonXml}
 use Rattle.transcoder.specs.Checked.{IsXmlOfDer, HasDerFault}
 use Rattle.drill.proofs.Transcoded.{no_rise, only_memory, pushed_text}

@@ -1,8 +1,8 @@
 use Rattle.std.proofs.Common.{◌≡◌, refl, sym, ap, ◌∙◌, subst, length}
-use Rattle.der_model.specs.Der.{der_of}
-use Rattle.der_model.specs.DerMessage.{der_message}
 use Rattle.fragments.specs.Fragment.{fragment}
 use Rattle.message_model.specs.Tables.{message_of, pieces_of}
+use Rattle.der_model.specs.Der.{der_of}
+use Rattle.der_model.specs.DerMessage.{der_message}
 use Rattle.xml_writer.specs.CanonXml.{IsCanonXml}
 use Rattle.drill.specs.BuiltIn.{drill_tables}
 use Rattle.drill.specs.inner.Forms.{AreForms}

@@ -1,9 +1,9 @@
 use Rattle.std.proofs.Common.{ap, ◌∙◌}
+use Rattle.outside.specs.Steady.{SteadyHeld}
+use Rattle.inst_pool.specs.Pieces.{Region}
 use Rattle.der_model.specs.Der.{der_of}
 use Rattle.der_model.specs.DerMessage.{der_message}
-use Rattle.outside.specs.Steady.{SteadyHeld}
 use Rattle.drill.proofs.Held.{held_is}
-use Rattle.inst_pool.specs.Pieces.{Region}
 use Rattle.drill.proofs.writing.written_der.Goals as goal
 
 pub returns-in-Ok : goal.returns-in-Ok

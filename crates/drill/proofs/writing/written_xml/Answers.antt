@@ -1,7 +1,7 @@
 use Rattle.std.proofs.Common.{sym, ap, subst}
+use Rattle.outside.specs.Steady.{SteadyHeld}
 use Rattle.message_model.specs.Tables.{message_of}
 use Rattle.xml_writer.specs.CanonXml.{IsCanonXml}
-use Rattle.outside.specs.Steady.{SteadyHeld}
 use Rattle.drill.proofs.Held.{held_is}
 use Rattle.drill.proofs.writing.written_xml.Goals as goal
 

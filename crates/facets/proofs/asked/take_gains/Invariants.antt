@@ -1,8 +1,8 @@
 use Rattle.std.proofs.Common.{◌≡◌, ℕ, List, ◌++◌, length}
-use Rattle.data_types.specs.Collapsing.{HasCollapsed}
-use Rattle.data_types.specs.declared.collapse.Collapse.{Collapse}
 use Rattle.pattern_match.specs.Recall.{Matching}
 use Rattle.pattern_match.specs.Compiled.{HasReadWord, IsMadeFor}
+use Rattle.data_types.specs.Collapsing.{HasCollapsed}
+use Rattle.data_types.specs.declared.collapse.Collapse.{Collapse}
 use Rattle.facets.proofs.asked.take_gains.Given as goal
 
 -- the codes but for the rest were taken

@@ -1,7 +1,7 @@
 use Rattle.std.proofs.Common.{◌≡◌, arith, sym, ap, subst, ◌∙◌}
-use Rattle.lexical_core.specs.Exponents.{IsPositiveNumeral}
 use Rattle.std.specs.Str.Parse.{digits_value}
 use Rattle.std.specs.Fmt.{decimal}
+use Rattle.lexical_core.specs.Exponents.{IsPositiveNumeral}
 use Rattle.lexical_core.proofs.Numerals.{decimal_is_numeral, numeral_is_decimal, numeral_some}
 use Rattle.lexical_core.proofs.real.power_of.Goals as goal
 

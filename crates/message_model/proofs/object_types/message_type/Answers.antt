@@ -1,9 +1,9 @@
 use Rattle.std.proofs.Common.{sym, ap, subst, ◌∙◌}
+use Rattle.std.proofs.Common.{map}
+use Rattle.reference_check.specs.Graph.{slot_of}
 use Rattle.message_model.specs.Compiled.{place_of, message_name}
 use Rattle.message_model.specs.inner.Numbers.{NamePlaces, ids_at}
 use Rattle.message_model.specs.Views.{slots_view}
-use Rattle.reference_check.specs.Graph.{slot_of}
-use Rattle.std.proofs.Common.{map}
 use Rattle.message_model.proofs.TypeForms.{message_formed}
 use Rattle.message_model.proofs.object_types.message_type.Goals as goal
 

@@ -1,6 +1,8 @@
 use Rattle.std.proofs.Common.{◌≡◌, ℕ, ◌+◌, ◌<◌, List, length, map, take, get_or, Some, sym, subst, ◌∙◌}
 use Rattle.std.specs.Prelude.{slice_get, Contains}
 use Rattle.std.proofs.lemmas.Option.{get_or_from_slice_get, slice_get_within}
+use Rattle.std.proofs.lemmas.List.Elements.{Contains-get_or}
+use Rattle.std.proofs.lemmas.List.{take_all}
 use Rattle.repo_objects.specs.Objects.{HasObjectTexts}
 use Rattle.repo_objects.specs.Repository.{DictionaryEntry, Contents, IsRepository, HasEntryTexts}
 use Rattle.message_model.specs.Compiled.{places_of}
@@ -8,8 +10,6 @@ use Rattle.message_model.specs.inner.Numbers.{IsCompilable, AreCompilable, AreTy
 use Rattle.message_model.specs.Views.{type_entry}
 use Rattle.message_model.specs.declared.model.TypeInfo.{TypeInfo}
 use Rattle.message_model.proofs.Places.{finds_at}
-use Rattle.std.proofs.lemmas.List.Elements.{Contains-get_or}
-use Rattle.std.proofs.lemmas.List.{take_all}
 use Rattle.message_model.proofs.TypeLists.{types_more}
 use Rattle.message_model.proofs.object_types.with_objects.Goals as goal
 

@@ -1,7 +1,7 @@
 -- None of the elements so far is one.
 use Rattle.std.proofs.Common.{◌≡◌, ℕ, ◌<◌, get_or, false}
-use Rattle.reference_check.specs.Names.{is_profile_name}
 use Rattle.repo_objects.specs.declared.objects.ElementDef.{ElementDef}
+use Rattle.reference_check.specs.Names.{is_profile_name}
 use Rattle.reference_check.proofs.names.has_bad_tag.Given as goal
 
 abbrev pub invariant-loop-element : goal.invariant-loop-element

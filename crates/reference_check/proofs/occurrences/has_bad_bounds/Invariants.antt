@@ -1,7 +1,7 @@
 -- None of the elements so far is one.
 use Rattle.std.proofs.Common.{◌≡◌, ℕ, ◌<◌, get_or}
-use Rattle.reference_check.specs.Rules.{UpToMax}
 use Rattle.repo_objects.specs.declared.objects.ElementDef.{ElementDef}
+use Rattle.reference_check.specs.Rules.{UpToMax}
 use Rattle.reference_check.proofs.occurrences.has_bad_bounds.Given as goal
 
 abbrev pub invariant-loop-element : goal.invariant-loop-element

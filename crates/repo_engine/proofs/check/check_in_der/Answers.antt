@@ -1,12 +1,12 @@
 use Rattle.std.proofs.Common.{rules, ◌≡◌, refl, subst, IfSome, codes}
+use Rattle.transcoder.specs.Checked.{IsDerAccepted, HasDerFault}
+use Rattle.transcoder.specs.declared.check_error.CheckError.TheVariants as check
 use Rattle.repo_engine.proofs.Ends.{tells_pushed, goes_nowhere}
 use Rattle.repo_engine.proofs.Messages.{read_on, push_ends, push_words, check_failing, check_input, check_tells, no_words, stop_not_whole}
 use Rattle.repo_engine.specs.Answer.{FromDer, IsFine}
 use Rattle.repo_engine.specs.Steps.{refused, goes_on}
 use Rattle.repo_engine.specs.inner.Arms.{end_of}
 use Rattle.repo_engine.specs.Sources.{source_ended_of}
-use Rattle.transcoder.specs.Checked.{IsDerAccepted, HasDerFault}
-use Rattle.transcoder.specs.declared.check_error.CheckError.TheVariants as check
 use Rattle.repo_engine.proofs.check.check_in_der.Goals as goal
 
 pub returns-in-Ok-clause-no_words : goal.returns-in-Ok-clause-no_words

@@ -1,6 +1,6 @@
+use Rattle.fragments.specs.Fragment.{fragment}
 use Rattle.repo_engine.proofs.GivenRepository.{given_is_a_repository}
 use Rattle.repo_engine.proofs.laws.module_admits_what_is_accepted.Goals as goal
-use Rattle.fragments.specs.Fragment.{fragment}
 
 pub returns : goal.returns
 returns c codes_word r codes R id T bytes given (ready, (ids, reached, made)) short =

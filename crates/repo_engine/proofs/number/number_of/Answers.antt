@@ -1,10 +1,10 @@
 -- Eighteen digits fit.
 use Rattle.std.proofs.Common.{◌≡◌, ◌+◌, ◌*◌, ◌^◌, ◌≤◌, ◌∷◌, length, refl, sym, ap, ◌∙◌, subst, arith, rules}
-use Rattle.lexical_core.proofs.Scales.{pow_le}
-use Rattle.repo_loader.proofs.CountLemmas.{one_digit, fits_digits, digit_at_test}
 use Rattle.std.specs.Prelude.{◌&&◌}
 use Rattle.std.specs.Str.{all_ascii_digits}
 use Rattle.std.specs.Str.Parse.{digits_value_after}
+use Rattle.lexical_core.proofs.Scales.{pow_le}
+use Rattle.repo_loader.proofs.CountLemmas.{one_digit, fits_digits, digit_at_test}
 use Rattle.repo_engine.proofs.number.number_of.Goals as goal
 
 pub loop-first-init : goal.loop-first-init

@@ -1,7 +1,7 @@
 use Rattle.std.proofs.Common.{◌≡◌, subst, rules}
+use Rattle.lexical_core.specs.Rules.{name_of}
 use Rattle.outside.specs.Pushes.{Pushes}
 use Rattle.outside.proofs.Pushing.{done, stopped, then_push, fails_push}
-use Rattle.lexical_core.specs.Rules.{name_of}
 use Rattle.repo_engine.specs.Verdict.{rule_text, place_text}
 use Rattle.repo_engine.proofs.refusal.push_instance.Goals as goal
 

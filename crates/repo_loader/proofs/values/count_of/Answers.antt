@@ -1,9 +1,9 @@
 -- Ten digits fit.
 use Rattle.std.proofs.Common.{◌≡◌, ◌+◌, ◌*◌, ◌^◌, ◌≤◌, ◌∷◌, length, sym, ap, ◌∙◌, subst, arith, rules}
-use Rattle.repo_loader.proofs.CountLemmas.{one_digit, fits_digits, digit_at_test}
 use Rattle.std.specs.Prelude.{◌&&◌}
 use Rattle.std.specs.Str.{all_ascii_digits}
 use Rattle.std.specs.Str.Parse.{digits_value_after}
+use Rattle.repo_loader.proofs.CountLemmas.{one_digit, fits_digits, digit_at_test}
 use Rattle.repo_loader.proofs.values.count_of.Goals as goal
 
 pub overflow_mul-value : goal.overflow_mul-value

@@ -1,5 +1,5 @@
-use Rattle.transcoder.proofs.DerFaults.{refuses_left, of_some}
 use Rattle.der_codec.specs.Checking.{IsSpelledDer}
+use Rattle.transcoder.proofs.DerFaults.{refuses_left, of_some}
 use Rattle.transcoder.proofs.check.check_der.Goals as goal
 
 pub read_instance-requires-clause-only_cut : goal.read_instance-requires-clause-only_cut

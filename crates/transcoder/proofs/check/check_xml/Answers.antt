@@ -1,5 +1,5 @@
-use Rattle.transcoder.proofs.XmlFaults.{refuses_left, of_some}
 use Rattle.xml_instances.specs.Checking.{IsSpelledXml}
+use Rattle.transcoder.proofs.XmlFaults.{refuses_left, of_some}
 use Rattle.transcoder.proofs.check.check_xml.Goals as goal
 
 pub read_instance-requires-clause-only_cut : goal.read_instance-requires-clause-only_cut

@@ -1,11 +1,11 @@
 use Rattle.std.proofs.Common.{◌≡◌, refl, rules, ℕ, List}
 use Rattle.data_types.specs.Value.{Value}
-use Rattle.transcoder.specs.Checked.{HasDerFault}
-use Rattle.transcoder.specs.Transcoding.{unread}
+use Rattle.message_model.specs.Tables.{message_of}
 use Rattle.der_model.specs.Der.{SpellsDer}
 use Rattle.der_model.specs.DerMessage.{der_message}
 use Rattle.xml_writer.specs.CanonXml.{IsCanonXml}
-use Rattle.message_model.specs.Tables.{message_of}
+use Rattle.transcoder.specs.Checked.{HasDerFault}
+use Rattle.transcoder.specs.Transcoding.{unread}
 use Rattle.transcoder.proofs.Transcodings.{transcoded}
 use Rattle.transcoder.proofs.transcode.der_to_xml.Goals as goal
 

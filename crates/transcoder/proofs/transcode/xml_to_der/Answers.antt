@@ -1,11 +1,11 @@
 use Rattle.std.proofs.Common.{◌≡◌, refl, rules, ℕ, List}
 use Rattle.data_types.specs.Value.{Value}
-use Rattle.transcoder.specs.Checked.{HasXmlFault}
-use Rattle.transcoder.specs.Transcoding.{unread}
-use Rattle.xml_instances.specs.SpellsXml.{SpellsXml}
+use Rattle.message_model.specs.Tables.{message_of}
 use Rattle.der_model.specs.Der.{der_of}
 use Rattle.der_model.specs.DerMessage.{der_message}
-use Rattle.message_model.specs.Tables.{message_of}
+use Rattle.xml_instances.specs.SpellsXml.{SpellsXml}
+use Rattle.transcoder.specs.Checked.{HasXmlFault}
+use Rattle.transcoder.specs.Transcoding.{unread}
 use Rattle.transcoder.proofs.Transcodings.{transcoded}
 use Rattle.transcoder.proofs.transcode.xml_to_der.Goals as goal
 

@@ -1,10 +1,10 @@
 use Rattle.std.proofs.Common.{◌≡◌, refl, rules, ℕ, List}
 use Rattle.data_types.specs.Value.{Value}
-use Rattle.transcoder.specs.Checked.{HasXmlFault}
-use Rattle.transcoder.specs.Transcoding.{unread}
+use Rattle.message_model.specs.Tables.{message_of}
 use Rattle.xml_instances.specs.SpellsXml.{SpellsXml}
 use Rattle.xml_writer.specs.CanonXml.{IsCanonXml}
-use Rattle.message_model.specs.Tables.{message_of}
+use Rattle.transcoder.specs.Checked.{HasXmlFault}
+use Rattle.transcoder.specs.Transcoding.{unread}
 use Rattle.transcoder.proofs.Transcodings.{transcoded}
 use Rattle.transcoder.proofs.transcode.xml_to_xml.Goals as goal
 

@@ -1,8 +1,8 @@
 -- A name that is not kept was not given.
 use Rattle.std.proofs.Common.{◌≡◌, ◌∷◌, length, sym, ◌∙◌}
+use Rattle.std.proofs.lemmas.Result.{IfOk-weaker}
 use Rattle.asn1_model.specs.Names.{first_free}
 use Rattle.asn1_model.specs.inner.Given.{HasGivenNames}
-use Rattle.std.proofs.lemmas.Result.{IfOk-weaker}
 use Rattle.asn1_model.proofs.GivenLemmas.{plain_free}
 use Rattle.asn1_model.proofs.given.Given.give.Goals as goal
 

@@ -2,8 +2,8 @@
 use Rattle.std.proofs.Common.{◌≡◌, ℕ, ◌∷◌, List, Some, sym, ap, subst, ◌∙◌}
 use Rattle.std.specs.Bool.{if◌then◌else◌}
 use Rattle.std.specs.Str.{bytes_eq}
-use Rattle.asn1_model.specs.inner.Given.{HasGivenNames, ending_of}
 use Rattle.lexical_core.proofs.ByteKeys.{found_updated}
+use Rattle.asn1_model.specs.inner.Given.{HasGivenNames, ending_of}
 use Rattle.asn1_model.proofs.GivenLemmas.{given_plain}
 use Rattle.asn1_model.proofs.given.Given.give_plain.Goals as goal
 

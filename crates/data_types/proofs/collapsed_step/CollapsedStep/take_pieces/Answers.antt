@@ -1,6 +1,6 @@
-use Rattle.std.proofs.Common.{◌≡◌, ◌==◌, true, ℕ, suc, List, [], ◌∷◌, ◌++◌, length, take, drop, refl, sym, ap, subst, ◌∙◌, append_assoc, append-nil, length-append, take-append-drop, arith}
+use Rattle.std.proofs.Common.{◌≡◌, ℕ, List, [], ◌∷◌, ◌++◌, length, take, drop, refl, sym, ap, subst, ◌∙◌, append_assoc, append-nil, length-append, take-append-drop, arith}
 use Rattle.std.specs.List.{AllByRecursion}
-use Rattle.std.proofs.lemmas.Bool.Decides.{nat_tests}
+use Rattle.lexical_core.proofs.Lists.{none_left}
 use Rattle.data_types.specs.inner.Taking.{TakesChars}
 use Rattle.data_types.proofs.TakingLemmas.{takes_none, takes_then, takes_within, takes_gap}
 use Rattle.data_types.proofs.collapsed_step.CollapsedStep.take_pieces.Goals as goal
@@ -31,17 +31,10 @@ loop-rest-preserved c =
     all_behind P [] ys h = h
     all_behind P (x ∷ xs) ys h = all_behind P xs ys h.1
 
-empty : (xs : List ℕ) → (length xs == 0) ≡ true → xs ≡ []
-empty [] e = refl
-empty (x ∷ xs) e = absurd (some (length xs) e)
-  where
-    some : (n : ℕ) → (suc n == 0) ≡ true → ⊥
-    some n e = grind (arith, nat_tests)
-
 pub returns : goal.returns
 returns c =
     let before = c.loop-rest.invariant in
-    let none : c.loop-rest.rest.now ≡ [] = empty c.loop-rest.rest.now (let test = c.loop-rest-test.false in let says = c.is_empty.ensures in cc) in
+    let none : c.loop-rest.rest.now ≡ [] = none_left c.loop-rest.rest.now (let test = c.loop-rest-test.false in let says = c.is_empty.ensures in cc) in
     let all : before.seen ≡ c.args.codes.now = sym (before.joined ∙ (ap (λ t. before.seen ++ t) none ∙ append-nil before.seen)) in
     subst (λ t. TakesChars c.args.self.now c.loop-rest.self t (length t)) all before.takes
 

@@ -1,7 +1,7 @@
 use Rattle.std.proofs.Common.{refl, arith, subst}
+use Rattle.der_model.specs.DerMessage.{der_message}
 use Rattle.der_codec.proofs.Keeping.{keeping_as}
 use Rattle.der_codec.proofs.RoomSteps.{begun_levels}
-use Rattle.der_model.specs.DerMessage.{der_message}
 use Rattle.der_codec.specs.Decoding.{IsOpenState}
 use Rattle.der_codec.specs.Levels.{inwards}
 use Rattle.der_codec.specs.Reserved.{HoldMore}

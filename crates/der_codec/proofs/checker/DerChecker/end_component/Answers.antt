@@ -1,8 +1,8 @@
+use Rattle.std.proofs.Common.{refl, arith}
 use Rattle.der_model.specs.DerMessage.{der_message}
 use Rattle.der_codec.specs.KeptPieces.{around_of}
 use Rattle.der_codec.specs.Levels.{inwards}
 use Rattle.der_codec.proofs.ShownSteps.{levels_open}
-use Rattle.std.proofs.Common.{refl, arith}
 use Rattle.der_codec.proofs.Keeping.{keeping_as}
 use Rattle.der_codec.proofs.checker.DerChecker.end_component.Goals as goal
 

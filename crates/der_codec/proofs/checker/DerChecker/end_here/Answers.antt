@@ -1,6 +1,6 @@
+use Rattle.std.proofs.Common.{refl}
 use Rattle.der_model.specs.DerMessage.{der_message}
 use Rattle.der_codec.specs.Decoding.{end_of_levels}
-use Rattle.std.proofs.Common.{refl}
 use Rattle.der_codec.proofs.Fed.{ready_reading}
 use Rattle.der_codec.proofs.Nested.{ready_below}
 use Rattle.der_codec.proofs.checker.DerChecker.end_here.Goals as goal

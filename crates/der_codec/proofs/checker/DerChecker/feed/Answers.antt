@@ -1,8 +1,8 @@
 use Rattle.std.proofs.Common.{rules, ◌≡◌, ◌++◌, None, ap}
+use Rattle.std.specs.Prelude.{Err}
 use Rattle.der_codec.specs.Checking.{der_failure}
 use Rattle.der_codec.proofs.Fed.{count_is, stops_same}
 use Rattle.der_codec.proofs.Keeping.{never_stops}
-use Rattle.std.specs.Prelude.{Err}
 use Rattle.der_codec.proofs.checker.DerChecker.feed.Goals as goal
 
 pub returns-in-Ok-feed_all-clause-count : goal.returns-in-Ok-feed_all-clause-count

@@ -1,7 +1,7 @@
 use Rattle.std.proofs.Common.{◌+◌, refl, arith, ◌++◌, ap, sym, subst, length, [], rules, ◌≡◌, length-append}
 use Rattle.std.proofs.lemmas.List.{nil_from_length}
-use Rattle.der_codec.proofs.Keeping.{keeping_as, grows_same, not_ok}
 use Rattle.der_model.specs.DerMessage.{der_message}
+use Rattle.der_codec.proofs.Keeping.{keeping_as, grows_same, not_ok}
 use Rattle.der_codec.specs.KeptPieces.{HoldsLeafAt}
 use Rattle.der_codec.proofs.checker.DerChecker.judge_whole.Goals as goal
 

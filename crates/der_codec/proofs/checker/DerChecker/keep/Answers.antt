@@ -1,4 +1,5 @@
 use Rattle.std.proofs.Common.{refl, sym, subst, ◌≡◌, ◌++◌, arith}
+use Rattle.message_model.specs.Tables.{types_of}
 use Rattle.der_model.specs.DerMessage.{der_message}
 use Rattle.der_codec.specs.Checking.{IsReading}
 use Rattle.der_codec.specs.declared.decoder.Decoder.{Decoder}
@@ -6,7 +7,6 @@ use Rattle.der_codec.specs.declared.decoder.Due.TheVariants as due
 use Rattle.der_codec.proofs.Fed.{keep_reading}
 use Rattle.der_codec.proofs.Keeping.{keeping_as, levels_same, checks_same, grows_as, not_ok}
 use Rattle.der_codec.proofs.RoomSteps.{kept_enough}
-use Rattle.message_model.specs.Tables.{types_of}
 use Rattle.der_codec.proofs.checker.DerChecker.keep.Goals as goal
 
 pub returns-in-Ok-clause-ok : goal.returns-in-Ok-clause-ok

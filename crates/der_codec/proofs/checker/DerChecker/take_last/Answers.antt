@@ -1,8 +1,8 @@
 use Rattle.std.proofs.Common.{◌≡◌, arith, ◌++◌, refl, ◌∙◌, ap}
+use Rattle.std.specs.Prelude.{Err}
 use Rattle.der_codec.proofs.Fed.{kept_short, last_has, last_ends, refused_within}
 use Rattle.der_codec.proofs.Keeping.{keeping_as, levels_same, grows_same, enough_then}
 use Rattle.der_codec.proofs.RoomSteps.{whole_enough, refused_memory}
-use Rattle.std.specs.Prelude.{Err}
 use Rattle.der_codec.specs.declared.decoder.Stop.TheVariants as stop
 use Rattle.der_codec.specs.declared.checker.DerChecker.{DerChecker}
 use Rattle.der_codec.proofs.checker.DerChecker.take_last.Goals as goal

@@ -1,10 +1,10 @@
 use Rattle.std.proofs.Common.{◌≡◌, subst, arith, inl, inr}
 use Rattle.std.proofs.lemmas.Bool.{cases_lt}
-use Rattle.der_codec.specs.Reserved.{HasCheckAt}
+use Rattle.std.specs.Prelude.{Some}
 use Rattle.reference_check.specs.Forms.{text_type}
 use Rattle.message_model.specs.Tables.{types_of}
+use Rattle.der_codec.specs.Reserved.{HasCheckAt}
 use Rattle.der_codec.proofs.KeptChecks.{text_there}
-use Rattle.std.specs.Prelude.{Some}
 use Rattle.der_codec.proofs.checks.Checks.reserve.Goals as goal
 
 pub loop-number-init : goal.loop-number-init

@@ -1,14 +1,14 @@
-use Rattle.message_model.specs.Tables.{message_of}
-use Rattle.der_model.specs.DerMessage.{in_der}
 use Rattle.std.proofs.Common.{◌≡◌, ◌∷◌, ◌++◌, [], ◌+◌, sym, subst, refl, arith, ap, ◌∙◌, Some, None}
 use Rattle.lexical_core.specs.declared.rule.Rule.TheVariants.{Overrun, UnexpectedTag}
+use Rattle.der_octets.specs.TagSteps.{tag_view}
+use Rattle.message_model.specs.Tables.{message_of}
+use Rattle.der_model.specs.DerMessage.{in_der}
 use Rattle.der_codec.specs.Levels.{inwards, first_of, rest_of}
 use Rattle.der_codec.specs.Decoding.{IsStopped, IsPastEnd, end_of_first}
 use Rattle.der_codec.specs.declared.decoder.Due.TheVariants as due
 use Rattle.der_codec.specs.declared.decoder.Stop.TheVariants as stop
 use Rattle.der_codec.specs.declared.components.Added.TheVariants as added
 use Rattle.der_codec.proofs.Counted.{count_below}
-use Rattle.der_octets.specs.TagSteps.{tag_view}
 use Rattle.der_codec.proofs.NoCuts.{identifier_stays}
 use Rattle.der_codec.proofs.StepTies.{begin_breaks, begin_read, begin_past, outer_read, outer_breaks, reads_as, fails_as, ok_always, ok_when, err_when}
 use Rattle.der_codec.proofs.decoder.Decoder.begin.Goals as goal

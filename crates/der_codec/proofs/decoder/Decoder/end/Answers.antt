@@ -1,6 +1,6 @@
+use Rattle.std.proofs.Common.{◌≡◌, sym, refl, Some}
 use Rattle.message_model.specs.Tables.{message_of}
 use Rattle.der_model.specs.DerMessage.{in_der}
-use Rattle.std.proofs.Common.{◌≡◌, sym, refl, Some}
 use Rattle.der_codec.specs.Levels.{inwards, first_of}
 use Rattle.der_codec.specs.Decoding.{end_of_first, due_after}
 use Rattle.der_codec.proofs.Inwards.{end_first}

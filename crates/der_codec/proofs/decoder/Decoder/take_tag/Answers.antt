@@ -1,9 +1,9 @@
-use Rattle.message_model.specs.Tables.{message_of}
-use Rattle.der_model.specs.DerMessage.{in_der}
 use Rattle.std.proofs.Common.{◌∷◌, ◌++◌, [], ◌+◌, sym, subst, refl, arith, ap}
 use Rattle.lexical_core.specs.declared.rule.Rule.TheVariants.{Overrun, BadTagOctets}
 use Rattle.der_octets.specs.TagSteps.{tag_view}
 use Rattle.der_octets.specs.TagSteps as tags
+use Rattle.message_model.specs.Tables.{message_of}
+use Rattle.der_model.specs.DerMessage.{in_der}
 use Rattle.der_codec.specs.Levels.{inwards}
 use Rattle.der_codec.specs.Decoding.{IsStopped, IsBegun, HasIdentifier}
 use Rattle.der_codec.specs.declared.decoder.Due.TheVariants as due

@@ -1,5 +1,5 @@
-use Rattle.der_codec.proofs.StepTies.{ok_when}
 use Rattle.std.proofs.Common.{refl}
+use Rattle.der_codec.proofs.StepTies.{ok_when}
 use Rattle.der_codec.proofs.Keeping.{made_keeps}
 use Rattle.der_codec.proofs.reader.DerReader.feed.Goals as goal
 

@@ -1,7 +1,7 @@
 use Rattle.std.proofs.Common.{ℕ, ◌+◌, ◌≤◌, List, length, drop, subst, arith}
 use Rattle.std.proofs.Math.ListN.{drop_of_length-le}
-use Rattle.reference_check.specs.inner.FiniteSearch.{IsSearch, open_marks}
 use Rattle.std.proofs.lemmas.List.{drop_more}
+use Rattle.reference_check.specs.inner.FiniteSearch.{IsSearch, open_marks}
 use Rattle.reference_check.proofs.finite.Marking.visit_all.Goals as goal
 
 pub loop-place-preserved : goal.loop-place-preserved

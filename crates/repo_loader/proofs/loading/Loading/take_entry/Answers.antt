@@ -1,14 +1,14 @@
 -- The entry before is closed; then the least rule is told.
 use Rattle.std.proofs.Common.{◌≡◌, ◌∙◌, sym, ap, map, true≢false, subst, Some}
+use Rattle.lexical_core.specs.Names.{attribute_value}
+use Rattle.markup.specs.EventItems.{entry_of}
 use Rattle.repo_objects.specs.Repository.{HasId, HasEntryTexts}
 use Rattle.repo_loader.specs.FileNames.{id_name}
 use Rattle.repo_loader.specs.FileValues.{text_or_empty}
 use Rattle.repo_loader.specs.inner.LoadingSteps.{HasIdIn}
 use Rattle.repo_loader.proofs.EntryTexts.{entry_texts}
-use Rattle.markup.specs.EventItems.{entry_of}
 use Rattle.repo_loader.proofs.LoadingLemmas.{id_twice, tells_facets}
 use Rattle.repo_loader.proofs.loading.Loading.take_entry.Goals as goal
-use Rattle.lexical_core.specs.Names.{attribute_value}
 
 pub returns-then-has_id_of-clause-err : goal.returns-then-has_id_of-clause-err
 returns-then-has_id_of-clause-err c tags h =

@@ -1,5 +1,5 @@
-use Rattle.markup.specs.Marks.{no_limit}
 use Rattle.std.proofs.Common.{refl}
+use Rattle.markup.specs.Marks.{no_limit}
 use Rattle.respell.proofs.FragmentParts.{reads_inside}
 use Rattle.respell.proofs.fragment_reader.FragmentReader.take_inside.Goals as goal
 

@@ -1,7 +1,7 @@
 use Rattle.std.proofs.Common.{Bool, List, length, sym, ap, ◌∙◌}
 use Rattle.std.specs.Prelude.{◌==◌}
-use Rattle.respell.proofs.Outside.{char_outside, char_inside, what_inside}
 use Rattle.std.proofs.lemmas.Bool.{true≢false}
+use Rattle.respell.proofs.Outside.{char_outside, char_inside, what_inside}
 use Rattle.respell.proofs.respell.Respell.is_outside.Goals as goal
 
 pub returns-in-Char-clause-outside : goal.returns-in-Char-clause-outside

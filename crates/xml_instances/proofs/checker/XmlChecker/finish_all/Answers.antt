@@ -1,6 +1,6 @@
 use Rattle.std.proofs.Common.{[], subst}
-use Rattle.message_model.specs.Tables.{message_of}
 use Rattle.markup.specs.Reading.{EndsEarly}
+use Rattle.message_model.specs.Tables.{message_of}
 use Rattle.xml_instances.specs.Levels.{levels_over}
 use Rattle.xml_instances.specs.XmlFaults.{items_told}
 use Rattle.xml_instances.proofs.Checks.{spelled_at_end, spelled_by_events}

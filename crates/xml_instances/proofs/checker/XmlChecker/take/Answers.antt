@@ -1,13 +1,13 @@
 use Rattle.std.proofs.Common.{List, [], ◌∷◌, ◌++◌, subst, sym}
 use Rattle.std.specs.Prelude.{Err}
+use Rattle.std.specs.List.{AllByRecursion}
 use Rattle.markup.specs.declared.event.Event.{Event}
 use Rattle.markup.specs.Reading.{Stops as MarkStops}
+use Rattle.respell.specs.Respelling.{HasSortedAttributes}
 use Rattle.message_model.specs.Tables.{message_of}
 use Rattle.xml_instances.specs.Levels.{levels_over}
 use Rattle.xml_instances.specs.EventFaults.{AreFine}
 use Rattle.xml_instances.specs.XmlFaults.{items_told}
-use Rattle.std.specs.List.{AllByRecursion}
-use Rattle.respell.specs.Respelling.{HasSortedAttributes}
 use Rattle.xml_instances.specs.Built.{EventsShow}
 use Rattle.xml_instances.specs.Keeping.{GoOn}
 use Rattle.xml_instances.specs.Open.{IsOpen}

@@ -1,6 +1,6 @@
 use Rattle.std.proofs.Common.{rules}
-use Rattle.markup.specs.EventItems.{entry_of}
 use Rattle.std.specs.Prelude.{map}
+use Rattle.markup.specs.EventItems.{entry_of}
 use Rattle.message_model.specs.Tables.{types_of, message_of}
 use Rattle.xml_instances.specs.Open.{path_round}
 use Rattle.xml_instances.proofs.Contents.{unknown_said, money_said, money_form}

@@ -1,5 +1,7 @@
 use Rattle.std.proofs.Common.{[], ◌∷◌, sym, subst}
 use Rattle.std.specs.Prelude.{Err}
+use Rattle.std.specs.Prelude.{OnOk}
+use Rattle.std.proofs.lemmas.Result.{on_ok_weaker}
 use Rattle.lexical_core.specs.Tree.{Starts, Ends}
 use Rattle.markup.specs.PlainTags.{tag_items}
 use Rattle.markup.specs.declared.plain_tag.TagKind.{TagKind}
@@ -9,8 +11,6 @@ use Rattle.xml_instances.specs.Levels.{levels_after}
 use Rattle.xml_instances.specs.inner.Quick.{AreItemsTaken}
 use Rattle.xml_instances.proofs.QuickRuns.{one_item, first_wrong, two_items}
 use Rattle.xml_instances.proofs.GoingOn.{go_then}
-use Rattle.std.specs.Prelude.{OnOk}
-use Rattle.std.proofs.lemmas.Result.{on_ok_weaker}
 use Rattle.xml_instances.specs.Built.{ShowsBeside}
 use Rattle.xml_instances.specs.Keeping.{GoOn, TagShowsBeside}
 use Rattle.xml_instances.proofs.content.Content.hold_tag.Goals as goal

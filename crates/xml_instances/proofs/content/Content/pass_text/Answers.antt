@@ -1,8 +1,8 @@
 use Rattle.std.proofs.Common.{rules, ◌≡◌, Some, None, sym, subst}
+use Rattle.std.specs.Prelude.{Option}
 use Rattle.message_model.specs.Tables.{types_of}
 use Rattle.xml_instances.specs.Open.{IsTextMade}
 use Rattle.xml_instances.specs.declared.content.OpenText.{OpenText}
-use Rattle.std.specs.Prelude.{Option}
 use Rattle.xml_instances.proofs.Contents.{made_text}
 use Rattle.xml_instances.proofs.content.Content.pass_text.Goals as goal
 

@@ -1,8 +1,8 @@
 use Rattle.std.proofs.Common.{subst, sym}
-use Rattle.message_model.specs.Tables.{message_of}
-use Rattle.markup.specs.declared.event.What.{What}
 use Rattle.std.specs.Prelude.{OnOk}
+use Rattle.markup.specs.declared.event.What.{What}
 use Rattle.markup.specs.EventItems.{item_of}
+use Rattle.message_model.specs.Tables.{message_of}
 use Rattle.xml_instances.specs.Built.{ShowsBeside}
 use Rattle.xml_instances.specs.Keeping.{GoOn}
 use Rattle.xml_instances.specs.Open.{IsTaken}
