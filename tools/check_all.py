@@ -29,12 +29,12 @@ class File(NamedTuple):
 
 
 def files_below(folder, ending):
-    """What is below a folder and has the ending, in order; the folders that cannot be read, and links to folders, too."""
+    """What is below a folder and has the ending, in order; the folders that cannot be read, and links to folders or to nothing, too."""
     found = []
     for at, folders, names in os.walk(folder, onerror=lambda error: found.append(File(error.filename, False))):
         paths = [os.path.join(at, name) for name in names if name.lower().endswith(ending)]
-        links = [path for path in (os.path.join(at, name) for name in folders) if os.path.islink(path)]
-        found += [File(str(Path(path)), os.path.isfile(path)) for path in paths + links]
+        links = [path for path in (os.path.join(at, name) for name in folders + names) if os.path.islink(path) and not os.path.isfile(path)]
+        found += [File(str(Path(path)), os.path.isfile(path)) for path in dict.fromkeys(paths + links)]
     return sorted(found)
 
 

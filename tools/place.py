@@ -82,7 +82,10 @@ class Place:
 
     def end(self, _name):
         self.open.pop()
-        self.last_tag = self.parser.CurrentByteIndex
+        at = self.parser.CurrentByteIndex
+        # Of <Name/> expat tells the octet behind it.
+        if self.data[at - 2:at] != b'/>':
+            self.last_tag = at
 
     def tag_end(self):
         """The octet behind the last tag; 0: there is none."""
