@@ -42,6 +42,7 @@ pub mod QualifiedNames
 pub mod StartScans
 pub mod NamesFound
 pub mod StartsFound
+pub mod BareFound
 pub mod CharacterRuns
 mod ClosedBrackets
 pub mod TokenizerLemmas
@@ -70,8 +71,10 @@ pub mod TagPartLemmas
 pub mod ExpandedLemmas
 pub mod WholeTags
 pub mod ScopeLemmas
-mod OneAttributeLemmas
 pub mod Twins
+pub mod BareAttributes
+mod OneAttributeLemmas
+pub mod BareTold
 pub mod SortedAttributes
 pub mod OneMarking
 pub mod Stays

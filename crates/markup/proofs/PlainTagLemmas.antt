@@ -25,7 +25,7 @@ use Rattle.markup.specs.Contexts.{IsContext}
 use Rattle.markup.specs.Drafts.{no_draft}
 use Rattle.markup.specs.ScanRuns.{run, position, placed_by, ended_of}
 use Rattle.markup.specs.Tokenizers.{after_other, behind_token, is_between, is_in_text, is_text, after_whole_tokens}
-use Rattle.markup.specs.Reading.{Keeps, HasTakenUnder, HasToldUnder, MayTakeTagUnder, MayTakeStartUnder}
+use Rattle.markup.specs.Reading.{Keeps, HasTakenUnder, HasToldUnder, MayTakeTagUnder, MayTakeStartUnder, MayTakeAttributesUnder}
 use Rattle.markup.specs.Inputs.{Any}
 use Rattle.markup.specs.PlainStarts.{PlainStart}
 use Rattle.markup.specs.PlainTags.{begins_plain, continues_plain, is_plain_name, tag_text, tag_items, open_behind, innermost_namespace, name_behind, may_be_named, IsPlainInside, tags_behind, IsTagInside}
@@ -121,7 +121,7 @@ module _ (before : List Token) (opened : List ℕ) (es : List Expanded) (inside 
   pub is_inside : is_outside before ≡ false
   is_inside = some_open (open_tags before) inside
 
-  not_over : is_over before ≡ false
+  pub not_over : is_over before ≡ false
   not_over = ap (λ b. has_start before && b) is_inside ∙ by (has_start before) where
     by : (b : Bool) → (b && false) ≡ false
     by true = refl
@@ -279,3 +279,6 @@ text_here r bytes told kind name m = text_behind r bytes told m.tokens m.keeps m
 
 pub start_here : {limit : ℕ} (r : Reader) (bytes : List ℕ) (told : List Placed) (tag : PlainStart) → MayTakeStartUnder limit r bytes told tag → is_in_text r.tokenizer ≡ true
 start_here r bytes told tag m = text_behind r bytes told m.tokens m.keeps m.whole m.in_text m.behind
+
+pub bare_here : {limit : ℕ} (r : Reader) (bytes : List ℕ) (told : List Placed) (tag : PlainStart) → MayTakeAttributesUnder limit r bytes told tag → is_in_text r.tokenizer ≡ true
+bare_here r bytes told tag m = text_behind r bytes told m.tokens m.keeps m.whole m.in_text (not_first (reverse m.tokens) m.opened m.inside)

@@ -1,14 +1,16 @@
 -- Plain names with a prefix or without one, as names of the grammar and at the front of bytes.
-use Rattle.std.proofs.Common.{◌≡◌, ℕ, true, List, [], ◌∷◌, ◌++◌, refl, ◌∙◌, ap, arith}
+use Rattle.std.proofs.Common.{◌≡◌, ℕ, true, List, [], ◌∷◌, ◌++◌, refl, sym, ◌∙◌, ap, arith}
 use Rattle.std.specs.Str.{encode_utf8_all}
 use Rattle.std.proofs.lemmas.Bool.{and_parts, and_from}
+use Rattle.std.proofs.lemmas.List.{append_cancel_right}
 use Rattle.std.proofs.lemmas.Str.{encode_ascii, encodes-append}
 use Rattle.markup.specs.Name.{Name, Plain, Prefixed, is_name, name_text}
 use Rattle.markup.specs.Events.{spelled_name}
 use Rattle.markup.specs.PlainTags.{is_plain_name}
 use Rattle.markup.specs.PlainStarts.{is_plain_prefix, is_plain_qualified, joined_text, qualified_text}
-use Rattle.markup.specs.inner.WholeStarts.{named_by}
+use Rattle.markup.specs.inner.WholeStarts.{named_by, IsNameAt}
 use Rattle.markup.specs.declared.tag.Spelled.{Spelled}
+use Rattle.markup.proofs.NameLemmas.{name_agree}
 use Rattle.markup.proofs.PlainTagLemmas.{plain_is_part, plain_encoded}
 
 -- ---- as a name of the grammar
@@ -53,3 +55,10 @@ module _ (n : Spelled) (h : is_plain_qualified n ≡ true) where
 
   pub qualified_says : spelled_name (name_of n) ≡ n
   qualified_says = by_spelled n.prefix n.local parts.0 parts.1
+
+-- bytes begin with one name, where what is behind it is known
+pub one_name : (bytes : List ℕ) (n m : Spelled) (behind : List ℕ) → IsNameAt bytes n behind → IsNameAt bytes m behind → n ≡ m
+one_name bytes n m behind s t =
+    let texts : qualified_text n ≡ qualified_text m = append_cancel_right (qualified_text n) (qualified_text m) behind (sym s.spelled ∙ t.spelled) in
+    let names : name_of n ≡ name_of m = (name_agree (name_of n) (name_of m) [] [] (qualified_is n s.named) (qualified_is m t.named) refl refl (ap (λ v. v ++ []) (name_written n ∙ (texts ∙ sym (name_written m))))).0 in
+    sym (qualified_says n s.named) ∙ (ap spelled_name names ∙ qualified_says m t.named)

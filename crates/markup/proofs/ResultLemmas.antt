@@ -40,6 +40,10 @@ pub at_ok : {T E : Type 0} (r : Result T E) (P : T → Type 0) (R : Type 0) → 
 at_ok (Ok x) P R f h k = f x h
 at_ok (Err e) P R f h k = absurd (both_ways false refl k)
 
+pub holds : {T E : Type 0} (r : Result T E) (P : Type 0) → is_err r ≡ false → OnOk r P → P
+holds (Ok x) P e h = h
+holds (Err x) P e h = absurd (both_ways _ e refl)
+
 pub is_true : (b c : Bool) → b ≡ c → IsTrue b → c ≡ true
 is_true b c e h = sym e ∙ h
 

@@ -1,9 +1,10 @@
 -- The open elements before and behind a tag.
-use Rattle.std.proofs.Common.{◌≡◌, ℕ, ◌-◌, Bool, true, false, List, ◌∷◌, ◌++◌, ◌||◌, length, drop, reverse, map, Option, Some, None, sym, ap, subst, ◌∙◌, arith}
+use Rattle.std.proofs.Common.{◌≡◌, ℕ, ◌-◌, ◌==◌, Bool, true, false, List, [], ◌∷◌, ◌++◌, ◌||◌, length, drop, reverse, map, Option, Some, None, sym, ap, subst, ◌∙◌, arith}
 use Rattle.std.specs.List.{list_any}
 use Rattle.std.specs.Bool.{if◌then◌else◌}
 use Rattle.std.specs.Option.{is_none}
-use Rattle.std.proofs.lemmas.List.{length-append}
+use Rattle.std.proofs.lemmas.Bool.{eqb-true}
+use Rattle.std.proofs.lemmas.List.{length-append, nil_from_length}
 use Rattle.std.proofs.Math.Seq.{drop-append_seam}
 use Rattle.lexical_core.specs.declared.rule.Rule.TheVariants.{DuplicateAttribute, BadPrefix, AfterRoot}
 use Rattle.markup.specs.declared.tag.Given.{Given}
@@ -12,7 +13,7 @@ use Rattle.markup.specs.declared.event.Event.{Event}
 use Rattle.markup.specs.declared.event.Attr.{Attr}
 use Rattle.markup.specs.declared.attributes.Parted.{Parted}
 use Rattle.markup.specs.declared.attributes.Expanded.{Expanded}
-use Rattle.markup.specs.OpenNames.{OpenName, KeepsNames}
+use Rattle.markup.specs.OpenNames.{OpenName, KeepsNames, IsInnermost}
 use Rattle.markup.specs.declared.bindings.Bindings.{Bindings}
 use Rattle.markup.specs.declared.scope.Scope.{Scope}
 use Rattle.markup.specs.declared.scope.Resolved.{Resolved}
@@ -21,6 +22,8 @@ use Rattle.markup.specs.Faults.{has_clash, is_bad_attribute, start_rule}
 use Rattle.markup.specs.EventItems.{entry_of, Tells}
 use Rattle.markup.specs.Bindings.{Binds}
 use Rattle.markup.specs.Scopes.{declarations, open_name, all_declarations, IsScope, placed_at, TakesStart}
+use Rattle.markup.specs.PlainTags.{IsPlainInside}
+use Rattle.markup.specs.inner.WholeStarts.{named_by}
 use Rattle.markup.specs.inner.TagParts.{plain_attributes, declares_twice, declares_badly, is_unbound, IsParted, AreDeclared, IsExpanded, IsResolved}
 use Rattle.markup.proofs.WholeTags.{whole_entries, whole_clash, whole_bad}
 
@@ -114,3 +117,10 @@ pub closes_innermost : (before after : Scope) (tag : Opening) (tags : List Openi
 closes_innermost before after tag tags count is popped forgot =
     let p = popped (open_name tag) (map open_name tags) is.names in
     record { names = p.1; declared = forgotten after.bindings (declarations tag.given) (all_declarations tags) count p.0 (forgot (all_declarations (tag ∷ tags)) is.declared) }
+
+-- ---- the innermost element
+
+-- it has no prefix
+pub plain_inside : (tags : List Opening) (prefix local : List ℕ) → IsInnermost prefix local (map open_name tags) → (length prefix == 0) ≡ true → IsPlainInside tags local
+plain_inside [] prefix local i z = i
+plain_inside (tag ∷ tags) prefix local i z = i ∙ ap (λ p. named_by p local) (nil_from_length prefix (eqb-true (length prefix) 0 z))

@@ -19,7 +19,7 @@ use Rattle.markup.specs.Name.{is_name, name_text}
 use Rattle.markup.specs.Attribute.{Attribute, Literal, is_attribute, is_piece, value_chars, begins_lf, attribute_text}
 use Rattle.markup.specs.Token.{StartTag, Start, token_bytes}
 use Rattle.markup.specs.Marks.{tag_limit}
-use Rattle.markup.specs.Events.{given_attribute as given_by}
+use Rattle.markup.specs.Events.{spelled_name, given_attribute as given_by}
 use Rattle.markup.specs.PlainTags.{begins_plain, continues_plain, is_plain_name, mark_count, closing, slash_kind}
 use Rattle.markup.specs.PlainStarts.{is_plain_qualified, qualified_text, is_quote, is_literal_of}
 use Rattle.markup.specs.inner.WholeStarts.{is_empty_kind, IsNameAt, IsValueAt, IsAttributeAt, AreGiven, IsStartAt}
@@ -29,7 +29,7 @@ use Rattle.markup.specs.declared.start_tag.WholeStart.{WholeStart}
 use Rattle.markup.specs.declared.tag.Given.{Given}
 use Rattle.markup.specs.declared.tag.Opening.{Opening}
 use Rattle.markup.specs.declared.tag.Spelled.{Spelled}
-use Rattle.markup.proofs.AttributeLemmas.{attribute_then}
+use Rattle.markup.proofs.AttributeLemmas.{attribute_then, attribute_agree}
 use Rattle.markup.proofs.InsideRuns.{value_xml, value_ascii, value_not, space_is}
 use Rattle.markup.proofs.QualifiedNames.{name_of, name_written, qualified_is, qualified_encoded, qualified_says}
 use Rattle.markup.proofs.TagScans.{name_found, kind_same, slashed_is}
@@ -116,6 +116,15 @@ module _ (name : Spelled) (q : ℕ) (value : List ℕ) (named : is_plain_qualifi
   attribute_apart : (behind : List ℕ) → 32 ∷ (text ++ 61 ∷ q ∷ (value ++ q ∷ behind)) ≡ attribute_bytes name q value ++ behind
   attribute_apart behind = ap (λ w. 32 ∷ w)
       (ap (λ w. text ++ 61 ∷ q ∷ w) (sym (append_assoc value (q ∷ []) behind)) ∙ sym (append_assoc text (61 ∷ q ∷ (value ++ q ∷ [])) behind))
+
+-- bytes begin with one attribute
+pub one_attribute : (bytes : List ℕ) (n m : Spelled) (v w b d : List ℕ) → IsAttributeAt bytes n v b → IsAttributeAt bytes m w d → n ≡ m
+one_attribute bytes n m v w b d s t =
+    let there : (k : Spelled) (u c : List ℕ) (a : IsAttributeAt bytes k u c) → attribute_text (attribute_of k a.quote u) ++ c ≡ bytes =
+    λ k u c a. ap (λ x. x ++ c) (attribute_spelled k a.quote u a.named a.quoted a.literal) ∙ (sym (attribute_apart k a.quote u a.named a.quoted a.literal c) ∙ sym a.spelled) in
+    let same : attribute_of n s.quote v ≡ attribute_of m t.quote w =
+    (attribute_agree (attribute_of n s.quote v) (attribute_of m t.quote w) b d (attribute_is n s.quote v s.named s.quoted s.literal) (attribute_is m t.quote w t.named t.quoted t.literal) (there n v b s ∙ sym (there m w d t))).0 in
+    sym (qualified_says n s.named) ∙ (ap (λ (a : Attribute). spelled_name a.name) same ∙ qualified_says m t.named)
 
 -- ---- attributes, one after another
 

@@ -97,14 +97,14 @@ attribute_here bytes rest a p e =
 texts_apart : (a : PlainAttribute) (others : List PlainAttribute) (last : List ℕ) → flat_map plain_attribute_text (a ∷ others) ++ last ≡ plain_attribute_text a ++ (flat_map plain_attribute_text others ++ last)
 texts_apart a others last = append_assoc (plain_attribute_text a) (flat_map plain_attribute_text others) last
 
-first_here : (left last : List ℕ) (a : PlainAttribute) (others : List PlainAttribute) → list_all is_plain_attribute (a ∷ others) ≡ true → left ≡ flat_map plain_attribute_text (a ∷ others) ++ last → IsAttributeAt left a.name a.value (flat_map plain_attribute_text others ++ last)
+pub first_here : (left last : List ℕ) (a : PlainAttribute) (others : List PlainAttribute) → list_all is_plain_attribute (a ∷ others) ≡ true → left ≡ flat_map plain_attribute_text (a ∷ others) ++ last → IsAttributeAt left a.name a.value (flat_map plain_attribute_text others ++ last)
 first_here left last a others p e = attribute_here left (flat_map plain_attribute_text others ++ last) a (and_parts (is_plain_attribute a) (list_all is_plain_attribute others) p).0 (e ∙ texts_apart a others last)
 
 -- An attribute that is found is the first of those that are left.
-abbrev FirstIs : List ℕ → List ℕ → Type 0
+abbrev pub FirstIs : List ℕ → List ℕ → Type 0
 FirstIs left behind = (name : Spelled) (value rest : List ℕ) → IsAttributeAt left name value rest → behind ≡ rest
 
-begins_none : (last : List ℕ) (name : Spelled) (value behind : List ℕ) → begins_with 32 last ≡ false → IsAttributeAt last name value behind → ⊥
+pub begins_none : (last : List ℕ) (name : Spelled) (value behind : List ℕ) → begins_with 32 last ≡ false → IsAttributeAt last name value behind → ⊥
 begins_none last name value behind s a = both_ways true (ap (begins_with 32) (sym a.spelled) ∙ s) refl
 
 next_left : (others : List PlainAttribute) (left last : List ℕ) (name : Spelled) (value behind : List ℕ) → list_all is_plain_attribute others ≡ true → begins_with 32 last ≡ false → left ≡ flat_map plain_attribute_text others ++ last → IsAttributeAt left name value behind → FirstIs left behind
@@ -121,7 +121,7 @@ pub more_done : (bytes left : List ℕ) (name : Spelled) (value behind : List �
 more_done bytes left name value behind old new d a f e =
     (more_given bytes left name value behind old new d.0 a e, λ attributes last p s k. let o = d.1 attributes last p s k in next_left o.0 left last name value behind o.1 s o.2 a f)
 
-nothing_left : (others : List PlainAttribute) (left last : List ℕ) → list_all is_plain_attribute others ≡ true → left ≡ flat_map plain_attribute_text others ++ last → ((name : Spelled) (value behind : List ℕ) → IsAttributeAt left name value behind → ⊥) → left ≡ last
+pub nothing_left : (others : List PlainAttribute) (left last : List ℕ) → list_all is_plain_attribute others ≡ true → left ≡ flat_map plain_attribute_text others ++ last → ((name : Spelled) (value behind : List ℕ) → IsAttributeAt left name value behind → ⊥) → left ≡ last
 nothing_left [] left last p e n = e
 nothing_left (x ∷ more) left last p e n = absurd (n x.name x.value (flat_map plain_attribute_text more ++ last) (first_here left last x more p e))
 
@@ -134,7 +134,7 @@ all_done bytes left last given attributes d n p s e =
 
 -- ---- the whole tag
 
-abbrev behind_name : PlainStart → List ℕ → List ℕ
+abbrev pub behind_name : PlainStart → List ℕ → List ℕ
 behind_name tag rest = flat_map plain_attribute_text tag.attributes ++ (start_end tag.is_empty ++ rest)
 
 abbrev kind_of : Bool → TagKind
@@ -145,7 +145,7 @@ ends_name [] true rest = refl
 ends_name [] false rest = refl
 ends_name (a ∷ more) is_empty rest = refl
 
-ends_attributes : (is_empty : Bool) (rest : List ℕ) → begins_with 32 (start_end is_empty ++ rest) ≡ false
+pub ends_attributes : (is_empty : Bool) (rest : List ℕ) → begins_with 32 (start_end is_empty ++ rest) ≡ false
 ends_attributes true rest = refl
 ends_attributes false rest = refl
 
@@ -183,25 +183,27 @@ module _ (front named rest : List ℕ) (first : ℕ) (tag : PlainStart) (plain :
   pub start_ends : prefix_len goes_on_name (behind_name tag rest) ≡ 0
   start_ends = ends_name tag.attributes tag.is_empty rest
 
-  module _ (behind last : List ℕ) (size : ℕ) (a : IsBehindName named behind) (l : last ≡ drop size behind)
-      (s : (attributes : List PlainAttribute) (others : List ℕ) → list_all is_plain_attribute attributes ≡ true → begins_with 32 others ≡ false → behind ≡ flat_map plain_attribute_text attributes ++ others → size ≡ length (flat_map plain_attribute_text attributes)) where
-    behind_is : behind ≡ behind_name tag rest
+  module _ (behind : List ℕ) (a : IsBehindName named behind) where
+    pub behind_is : behind ≡ behind_name tag rest
     behind_is = a tag.name (behind_name tag rest) start_named start_ends
 
-    size_is : size ≡ length texts
-    size_is = s tag.attributes (start_end tag.is_empty ++ rest) parts.1 (ends_attributes tag.is_empty rest) behind_is
+    -- from what is said of all that may be behind the name
+    pub attributes_size : (size : ℕ) → ((attributes : List PlainAttribute) (others : List ℕ) → list_all is_plain_attribute attributes ≡ true → begins_with 32 others ≡ false → behind ≡ flat_map plain_attribute_text attributes ++ others → size ≡ length (flat_map plain_attribute_text attributes))
+        → size ≡ length texts
+    attributes_size size s = s tag.attributes (start_end tag.is_empty ++ rest) parts.1 (ends_attributes tag.is_empty rest) behind_is
 
-    closes : closing last ≡ Some (kind_of tag.is_empty)
-    closes = ap closing (behind_front behind texts (start_end tag.is_empty ++ rest) last size behind_is size_is l) ∙ ends_start tag.is_empty rest
+    module _ (last : List ℕ) (size : ℕ) (l : last ≡ drop size behind) (size_is : size ≡ length texts) where
+      closes : closing last ≡ Some (kind_of tag.is_empty)
+      closes = ap closing (behind_front behind texts (start_end tag.is_empty ++ rest) last size behind_is size_is l) ∙ ends_start tag.is_empty rest
 
-    pub start_closes : closing last ≡ None → ⊥
-    start_closes n = none_some (kind_of tag.is_empty) (sym n ∙ closes)
+      pub start_closes : closing last ≡ None → ⊥
+      start_closes n = none_some (kind_of tag.is_empty) (sym n ∙ closes)
 
-    count_is : length named - length behind ≡ length written
-    count_is = omega (arith, ap length start_named.spelled, ap length behind_is, length-append written (behind_name tag rest))
+      count_is : length named - length behind ≡ length written
+      count_is = omega (arith, ap length start_named.spelled, ap length behind_is, length-append written (behind_name tag rest))
 
-    pub start_size : (kind : TagKind) → closing last ≡ Some kind → length named - length behind + size + mark_count kind ≡ length (plain_start_text tag)
-    start_size kind k = omega (arith, count_is, size_is, ap mark_count (kind_same kind (kind_of tag.is_empty) (sym k ∙ closes)), end_size tag.is_empty, length-append written (texts ++ start_end tag.is_empty), length-append texts (start_end tag.is_empty))
+      pub start_size : (kind : TagKind) → closing last ≡ Some kind → length named - length behind + size + mark_count kind ≡ length (plain_start_text tag)
+      start_size kind k = omega (arith, count_is, size_is, ap mark_count (kind_same kind (kind_of tag.is_empty) (sym k ∙ closes)), end_size tag.is_empty, length-append written (texts ++ start_end tag.is_empty), length-append texts (start_end tag.is_empty))
 
 -- ---- a front of the piece
 

@@ -12,7 +12,7 @@ use Rattle.markup.specs.Events.{Placed, events, items_of}
 use Rattle.markup.specs.EventItems.{Tells, TellsFront, TellsClean}
 use Rattle.markup.specs.Faults.{rule_of, MarkFaultUnder, broken}
 use Rattle.markup.specs.Scopes.{placed_at}
-use Rattle.markup.specs.Contexts.{TakesToken}
+use Rattle.markup.specs.Contexts.{IsContext, TakesToken}
 use Rattle.markup.specs.Reading.{HasTakenUnder, HasToldUnder, GoesOnUnder, RefusesUnder, RunsOutUnder}
 use Rattle.markup.specs.Tokenizers.{is_between, is_in_text, after_whole_tokens}
 use Rattle.markup.specs.inner.WholeStarts.{IsStartAt}
@@ -97,19 +97,23 @@ module _ {limit : ℕ} (r : Reader) (bytes piece : List ℕ) (told : List Placed
     so_far = all_told r bytes told h between (and_parts _ _ text).1
 
     -- the tag breaks no rule
-    pub goes_behind : (c : Context) → TakesToken before token r.tokenizer.start old new c → GoesOnUnder limit (record { tokenizer = after_whole_tokens r.tokenizer count; context = c; failed = r.failed }) (bytes ++ take count piece) told old new
-    goes_behind c t =
+    pub told_behind : (c : Context) → rule_of before token ≡ None → IsContext c (token ∷ before) → HasToldUnder limit (record { tokenizer = after_whole_tokens r.tokenizer count; context = c; failed = r.failed }) (bytes ++ take count piece) (told ++ placed_at (length bytes) (items_of before token))
+    told_behind c clean context_is =
         let after : Reader = record { tokenizer = after_whole_tokens r.tokenizer count; context = c; failed = r.failed } in
         let more : List Placed = placed_at (length bytes) (items_of before token) in
-        let k : HasToldUnder limit after (bytes ++ token_bytes token) (told ++ more) =
-        told_so_far after (bytes ++ token_bytes token) (told ++ more) (takes_next r bytes told h between (and_parts _ _ text).1 token count c (next t.clean) size t.context_is) in
-        subst (λ v. GoesOnUnder limit after (bytes ++ v) told old new) (sym at.spelled) (record {
-          more = more;
+        subst (λ v. HasToldUnder limit after (bytes ++ v) (told ++ more)) (sym at.spelled)
+        (told_so_far after (bytes ++ token_bytes token) (told ++ more) (takes_next r bytes told h between (and_parts _ _ text).1 token count c (next clean) size context_is))
+
+    pub goes_behind : (c : Context) → TakesToken before token r.tokenizer.start old new c → GoesOnUnder limit (record { tokenizer = after_whole_tokens r.tokenizer count; context = c; failed = r.failed }) (bytes ++ take count piece) told old new
+    goes_behind c t =
+        let k = told_behind c t.clean t.context_is in
+        record {
+          more = placed_at (length bytes) (items_of before token);
           tells = subst (λ p. Tells old new (placed_at p (items_of before token))) place_is t.tells;
           taken_are = k.taken_are;
           are_events = k.are_events;
           only_cut = k.only_cut;
-        })
+        }
 
     -- it breaks one
     pub refuses_start : (rule : Rule) → rule_of before token ≡ Some rule → new ≡ old → RefusesUnder limit (bytes ++ piece) told old new (record { rule = rule; place = r.tokenizer.start })

@@ -25,6 +25,7 @@ pub mod Contexts
 pub mod Longest
 pub mod PlainTags
 pub mod PlainStarts
+pub mod AttributeTags
 pub mod Reading
 pub mod References
 pub mod Literals

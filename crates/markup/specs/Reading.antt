@@ -16,6 +16,7 @@ use Rattle.markup.specs.Inputs.{ReadsTokens, Any, with_pending}
 use Rattle.markup.specs.Contexts.{IsContext}
 use Rattle.markup.specs.PlainTags.{tag_text, may_be_named, IsPlainInside}
 use Rattle.markup.specs.PlainStarts.{PlainStart, is_plain_start, plain_start_text}
+use Rattle.markup.specs.AttributeTags.{is_bare_start}
 use Rattle.markup.specs.declared.plain_tag.TagKind.{TagKind}
 use Rattle.markup.specs.declared.event.Event.{Event}
 use Rattle.markup.specs.declared.reader.MarkError.{MarkError}
@@ -176,6 +177,20 @@ pub record MayTakeStartUnder (limit : ℕ) (reader : Reader) (bytes : List ℕ) 
 
 abbrev pub MayTakeStart : Reader → List ℕ → List Placed → PlainStart → Type 0
 MayTakeStart reader bytes told tag = MayTakeStartUnder tag_limit reader bytes told tag
+
+-- The bytes are whole tokens, whose events are told, and behind them the plain start tag may come whose attributes have no prefix, declare nothing and ascend, which has no more bytes than one of XML: outside CDATA sections, where the innermost open element has no prefix.
+pub record MayTakeAttributesUnder (limit : ℕ) (reader : Reader) (bytes : List ℕ) (told : List Placed) (tag : PlainStart) : Type 0 where
+  pub tokens : List Token
+  pub keeps : Keeps limit Any reader bytes tokens told
+  pub whole : flat_map token_bytes tokens ≡ bytes
+  pub in_text : in_cdata (reverse tokens) ≡ false
+  pub opened : List ℕ
+  pub inside : IsPlainInside (open_tags (reverse tokens)) opened
+  pub plain : is_bare_start tag ≡ true
+  pub short : length (plain_start_text tag) ≤ tag_limit
+
+abbrev pub MayTakeAttributes : Reader → List ℕ → List Placed → PlainStart → Type 0
+MayTakeAttributes reader bytes told tag = MayTakeAttributesUnder tag_limit reader bytes told tag
 
 -- A token is open behind the tokens before, which begins with neither a CR nor a `]`; some token goes on with these bytes of ASCII and is not whole with them, and it has fewer bytes then than a tag may have.
 pub record MayTakeInsideUnder (limit : ℕ) (reader : Reader) (bytes : List ℕ) (told : List Placed) (more : List ℕ) : Type 0 where

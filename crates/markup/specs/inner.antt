@@ -6,5 +6,6 @@ pub mod Origins
 pub mod TagParts
 pub mod OneAttribute
 pub mod WholeStarts
+pub mod BareStarts
 pub mod Numbers
 pub mod ClosedBrackets

@@ -124,6 +124,15 @@ impl Context {
         };
     }
 
+    /// Whether an element is open, and the innermost has no prefix.
+    #[inline]
+    pub(crate) fn is_inside_plain(&self) -> bool
+        ensures yes { (tags : List Opening) → IsScope self.now.scope tags → IsTrue result → (opened : List ℕ) × IsPlainInside tags opened }
+        ensures all { (tags : List Opening) (opened : List ℕ) → IsScope self.now.scope tags → IsPlainInside tags opened → IsTrue result }
+    {
+        self.scope.is_inside_plain()
+    }
+
     /// The plain tag at the front of the piece that breaks no rule, where the innermost element has
     /// no prefix.
     #[inline]

@@ -11,7 +11,7 @@ use lexical_core::Text;
 use std::alloc::Global;
 
 /// The name and prefix of declarations (Namespaces §3).
-const XMLNS: &[u8] = b"xmlns";
+pub(crate) const XMLNS: &[u8] = b"xmlns";
 
 /// The prefix that is bound without a declaration (Namespaces §3).
 pub(crate) const XML: &[u8] = b"xml";

@@ -22,6 +22,7 @@ ghost use Rattle.markup.specs.Tokenizers.{is_in_text};
 ghost use Rattle.markup.specs.Reading.{bytes_taken, reader_failure, open_token_held, token_length, HasTaken, HasTakenUnder, HasToldUnder, IsInsideUnder, MayTakeTagUnder, MayTakeInsideUnder, Keeps, GoesOnUnder, StopsUnder, IsWhollyUnder, EndsEarlyUnder, RunsOutUnder};
 ghost use Rattle.markup.specs.Inputs.{Any, Begins, is_return};
 
+mod attributes;
 mod starts;
 
 use crate::context::Context;

@@ -1,5 +1,5 @@
 //! The elements that are open, with the namespaces that their tags declare.
-ghost use Rattle.std.specs.Prelude.{◌≡◌, ◌==◌, ◌≤◌, ◌++◌, ◌∷◌, List, [], ℕ, length, drop, IfOk, OnOk, OnErr, IfSome, IsSome, Some, None, Option, map, false, true, ◌&&◌, if◌then◌else◌};
+ghost use Rattle.std.specs.Prelude.{◌≡◌, ◌==◌, ◌≤◌, ◌++◌, ◌∷◌, List, [], ℕ, length, drop, IfOk, OnOk, OnErr, IfSome, IsSome, IsTrue, Some, None, Option, map, false, true, ◌&&◌, if◌then◌else◌};
 ghost use Rattle.std.specs.Str.{bytes_eq};
 ghost use Rattle.lexical_core.specs.declared.rule.Rule.TheVariants.{TagMismatch};
 ghost use Rattle.markup.specs.Events.{namespace_of, start_tag_items, expanded_in, end_items};
@@ -262,6 +262,18 @@ impl Scope {
         if declared > 0 {
             self.bindings.forget(declared);
         }
+    }
+
+    /// Whether an element is open, and the innermost has no prefix.
+    #[inline]
+    pub(crate) fn is_inside_plain(&self) -> bool
+        ensures yes { (tags : List Opening) → IsScope self.now tags → IsTrue result → (opened : List ℕ) × IsPlainInside tags opened }
+        ensures all { (tags : List Opening) (opened : List ℕ) → IsScope self.now tags → IsPlainInside tags opened → IsTrue result }
+    {
+        let Some(innermost) = self.names.innermost() else {
+            return false;
+        };
+        innermost.prefix.is_empty()
     }
 
     /// The plain tag at the front of the piece that breaks no rule, where the innermost element has

@@ -32,10 +32,10 @@ struct LocalAt<'a> {
 
 /// A name at the front of bytes, whose prefix is empty where it has none, and what is behind it.
 #[derive(Clone, Copy)]
-struct NameAt<'a> {
-    prefix: &'a [u8],
-    local: &'a [u8],
-    behind: &'a [u8],
+pub(crate) struct NameAt<'a> {
+    pub(crate) prefix: &'a [u8],
+    pub(crate) local: &'a [u8],
+    pub(crate) behind: &'a [u8],
 }
 
 /// A value in quotes at the front of bytes, and what is behind it.
@@ -47,11 +47,11 @@ struct ValueAt<'a> {
 
 /// An attribute as it stands at the front of bytes, and what is behind it.
 #[derive(Clone, Copy)]
-struct AttributeAt<'a> {
-    prefix: &'a [u8],
-    local: &'a [u8],
-    value: &'a [u8],
-    behind: &'a [u8],
+pub(crate) struct AttributeAt<'a> {
+    pub(crate) prefix: &'a [u8],
+    pub(crate) local: &'a [u8],
+    pub(crate) value: &'a [u8],
+    pub(crate) behind: &'a [u8],
 }
 
 /// How many bytes at the front are a plain name, 0 where they begin with none.
@@ -92,7 +92,7 @@ fn local_at<'a>(bytes: &'a [u8]) -> Option<LocalAt<'a>>
 
 /// The name at the front, whose parts are plain (Namespaces in XML 1.0 §4, QName).
 #[inline]
-fn name_at<'a>(bytes: &'a [u8]) -> Option<NameAt<'a>>
+pub(crate) fn name_at<'a>(bytes: &'a [u8]) -> Option<NameAt<'a>>
     ensures found { IfSome result (λ n. IsNameAt bytes.now (named_by n.prefix.now n.local.now) n.behind.now) }
     ensures all { (name : Spelled) (behind : List ℕ) → IsNameAt bytes.now name behind → prefix_len goes_on_name behind ≡ 0 → IsSomeAnd result (λ n. n.behind.now ≡ behind) }
 {
@@ -148,7 +148,7 @@ fn value_at<'a>(bytes: &'a [u8]) -> Option<ValueAt<'a>>
 /// The attribute at the front, behind one space, where the parts of its name are plain and the bytes
 /// of its value stand for themselves.
 #[inline]
-fn attribute_at<'a>(bytes: &'a [u8]) -> Option<AttributeAt<'a>>
+pub(crate) fn attribute_at<'a>(bytes: &'a [u8]) -> Option<AttributeAt<'a>>
     ensures found { IfSome result (λ a. IsAttributeAt bytes.now (named_by a.prefix.now a.local.now) a.value.now a.behind.now) }
     ensures all { (name : Spelled) (value behind : List ℕ) → IsAttributeAt bytes.now name value behind → IsSomeAnd result (λ a. a.behind.now ≡ behind) }
 {
@@ -229,7 +229,7 @@ fn attributes_at(bytes: &[u8], found: &mut Items<Given>, alloc: Global) -> Resul
 
 /// Whether the tag is that of an empty element.
 #[inline]
-fn is_empty_kind(kind: TagKind) -> bool
+pub(crate) fn is_empty_kind(kind: TagKind) -> bool
     ensures { result ≡ is_empty_kind kind }
 {
     matches!(kind, TagKind::Empty)
@@ -270,7 +270,7 @@ fn start_in(front: &[u8], alloc: Global) -> Result<Option<WholeStart>, AllocErro
 
 /// How many of so many bytes a tag may have.
 #[inline]
-fn within_limit(count: usize) -> usize
+pub(crate) fn within_limit(count: usize) -> usize
     ensures within { result ≤ count }
     ensures short { result ≤ tag_limit }
     ensures all { (n : ℕ) → n ≤ count → n ≤ tag_limit → n ≤ result }

@@ -29,6 +29,10 @@ fn take_some(reader: &mut Reader, out: &mut Events, piece: &[u8]) -> Result<usiz
         Ok(None) => {}
         Err(error) => return Err(refusal(error)),
     }
+    let tag = attribute_tag_size(reader, piece)?;
+    if tag > 0 {
+        return Ok(tag);
+    }
     let start = match reader.take_start(piece, out) {
         Ok(count) => count,
         Err(error) => return Err(refusal(error)),
@@ -48,6 +52,20 @@ fn take_some(reader: &mut Reader, out: &mut Events, piece: &[u8]) -> Result<usiz
     };
     match reader.take(*byte, out) {
         Ok(()) => Ok(1),
+        Err(error) => Err(refusal(error)),
+    }
+}
+
+/// How many bytes the start tag with attributes has that the reader takes without a copy, 0 where it
+/// takes none.
+fn attribute_tag_size(reader: &mut Reader, piece: &[u8]) -> Result<usize, Verdict>
+    requires { bytes_taken reader.old + length piece.now ≤ 2 ^ 40 }
+    ensures within { IfOk result (λ n. n ≤ length piece.now) }
+    ensures count { IfOk result (λ n. bytes_taken reader.new ≡ bytes_taken reader.old + n) }
+{
+    match reader.take_attribute_tag(piece) {
+        Ok(Some(tag)) => Ok(tag.bytes),
+        Ok(None) => Ok(0),
         Err(error) => Err(refusal(error)),
     }
 }
@@ -308,6 +326,57 @@ fn tag_taken(reader: &mut Reader, piece: &[u8]) -> Option<usize>
     }
 }
 
+/// Pieces behind `<a>`, and how many bytes and attributes the start tag has that is taken at their front
+/// without a copy.
+static ATTRIBUTE_TAGS: [(&str, usize, usize); 18] = [
+    ("<b>", 3, 0),
+    ("<b c=\"d\">e", 9, 1),
+    ("<b c='d\"e' f=\"'\"/>g", 18, 2),
+    ("<b B='' a='' a-='' aa='' b=''>", 30, 5),
+    ("<b c='' c=''>", 0, 0),
+    ("<b d='' c=''>", 0, 0),
+    ("<b cc='' c=''>", 0, 0),
+    ("<b xmlns='u'>", 0, 0),
+    ("<b xmln='u' xmlnsx='v'>", 23, 2),
+    ("<p:b c='d'>", 0, 0),
+    ("<b p:c='d'>", 0, 0),
+    ("<b c='d'", 0, 0),
+    ("<b c='d' >", 0, 0),
+    ("<b  c='d'>", 0, 0),
+    ("<b c='&lt;'>", 0, 0),
+    ("<b c='\t'>", 0, 0),
+    ("<b c='\u{E9}'>", 0, 0),
+    ("</a>", 0, 0),
+];
+
+#[test]
+fn attribute_tags(rt: HostRuntime) {
+    for (piece, bytes, attributes) in &ATTRIBUTE_TAGS {
+        let found = attributes_behind(rt.alloc(), b"<a>", piece.as_bytes());
+        assert!(rt; found == Some((*bytes, *attributes)), "{piece}: {found:?}");
+    }
+    let found = attributes_behind(rt.alloc(), b"<p:a xmlns:p='u'>", b"<b c='d'>");
+    assert!(rt; found == Some((0, 0)), "{found:?}");
+}
+
+fn attributes_behind(alloc: Global, front: &[u8], piece: &[u8]) -> Option<(usize, usize)> {
+    let mut reader = behind(alloc, front)?;
+    attributes_taken(&mut reader, piece)
+}
+
+fn attributes_taken(reader: &mut Reader, piece: &[u8]) -> Option<(usize, usize)>
+    requires { bytes_taken reader.old ≤ 100 }
+{
+    if piece.len() > 100 {
+        return None;
+    }
+    match reader.take_attribute_tag(piece) {
+        Ok(Some(tag)) => Some((tag.bytes, tag.attributes.len())),
+        Ok(None) => Some((0, 0)),
+        Err(_) => None,
+    }
+}
+
 /// Pieces behind a start tag, how many bytes of a start tag at their front are taken at once, and how many
 /// events are told.
 static STARTS: [(&str, usize, usize); 24] = [
@@ -416,5 +485,6 @@ fn nothing_after_an_error(rt: HostRuntime) {
     assert!(rt; reader.take_characters(b"bc").bytes == 0);
     assert!(rt; reader.take_reference(b"&lt;").is_none());
     assert!(rt; reader.take_tag(b"<b>").is_err());
+    assert!(rt; reader.take_attribute_tag(b"<b c='d'>").is_err());
     assert!(rt; reader.take_start(b"<b c='d'>", &mut out).is_err());
 }

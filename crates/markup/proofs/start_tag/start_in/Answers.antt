@@ -2,7 +2,7 @@
 use Rattle.std.proofs.Common.{◌≡◌, length, refl, sym, ◌∙◌, rules}
 use Rattle.markup.specs.inner.WholeStarts.{named_by}
 use Rattle.markup.proofs.StartScans.{start_found}
-use Rattle.markup.proofs.StartsFound.{no_start, start_opens, start_named, start_ends, start_closes, start_size}
+use Rattle.markup.proofs.StartsFound.{no_start, start_opens, start_named, start_ends, attributes_size, start_closes, start_size}
 use Rattle.markup.proofs.start_tag.start_in.Goals as goal
 
 pub returns-in_default-clause-all : goal.returns-in_default-clause-all
@@ -18,7 +18,9 @@ returns-in_default-name_at-clause-all c tag rest p e =
 pub returns-in_default-closing-clause-all : goal.returns-in_default-closing-clause-all
 returns-in_default-closing-clause-all c tag rest p e =
     start_closes c.args.front.now c.in-Some.named.now rest c.in-Some.first.now tag p e c.in-Some.ensures.cases.0
-    c.in-Some-name_at.name.behind.now c.split_at.result.1.now c.in_ok-size.size c.in-Some-name_at.ensures.all c.split_at.ensures.back c.in_ok-size.ensures.all (sym c.closing.ensures ∙ c.in_default-closing.is)
+    c.in-Some-name_at.name.behind.now c.in-Some-name_at.ensures.all c.split_at.result.1.now c.in_ok-size.size c.split_at.ensures.back
+    (attributes_size c.args.front.now c.in-Some.named.now rest c.in-Some.first.now tag p e c.in-Some.ensures.cases.0 c.in-Some-name_at.name.behind.now c.in-Some-name_at.ensures.all c.in_ok-size.size c.in_ok-size.ensures.all)
+    (sym c.closing.ensures ∙ c.in_default-closing.is)
 
 pub returns-clause-found : goal.returns-clause-found
 returns-clause-found c =
@@ -31,4 +33,6 @@ pub returns-clause-all : goal.returns-clause-all
 returns-clause-all c tag rest p e =
     rw c.mark_count.ensures.count
     (start_size c.args.front.now c.in-Some.named.now rest c.in-Some.first.now tag p e c.in-Some.ensures.cases.0
-    c.in-Some-name_at.name.behind.now c.split_at.result.1.now c.in_ok-size.size c.in-Some-name_at.ensures.all c.split_at.ensures.back c.in_ok-size.ensures.all c.in-Some-closing.kind (sym c.closing.ensures ∙ c.in-Some-closing.is))
+    c.in-Some-name_at.name.behind.now c.in-Some-name_at.ensures.all c.split_at.result.1.now c.in_ok-size.size c.split_at.ensures.back
+    (attributes_size c.args.front.now c.in-Some.named.now rest c.in-Some.first.now tag p e c.in-Some.ensures.cases.0 c.in-Some-name_at.name.behind.now c.in-Some-name_at.ensures.all c.in_ok-size.size c.in_ok-size.ensures.all)
+    c.in-Some-closing.kind (sym c.closing.ensures ∙ c.in-Some-closing.is))

@@ -1,14 +1,8 @@
 -- The tag is a token, whose events are told.
-use Rattle.std.proofs.Common.{◌≡◌, false, arith, sym, ◌∙◌, refl}
-use Rattle.std.specs.Prelude.{Result, Ok, Err, OnOk}
-use Rattle.std.specs.Result.{is_err}
-use Rattle.std.proofs.lemmas.Bool.{both_ways}
+use Rattle.std.proofs.Common.{arith, sym, ◌∙◌, refl}
 use Rattle.markup.proofs.PlainTagLemmas.{takes_tag}
+use Rattle.markup.proofs.ResultLemmas.{holds}
 use Rattle.markup.proofs.reader.Reader.take_tag.Goals as goal
-
-holds : {T E : Type 0} (r : Result T E) (P : Type 0) → is_err r ≡ false → OnOk r P → P
-holds (Ok x) P e h = h
-holds (Err x) P e h = absurd (both_ways _ e refl)
 
 pub pass-requires : goal.pass-requires
 pass-requires c = omega (arith, c.requires c.in_default.is, c.in-Some-next_tag.ensures.found.1.within)
