@@ -125,14 +125,14 @@ begun_ends form.LeftOut ls n s = refl
 begun_ends form.Missing ls n s = refl
 
 -- the innermost element is neither an envelope nor in one
-abbrev IsBeside : List (Level ℕ) → Type 0
+abbrev pub IsBeside : List (Level ℕ) → Type 0
 IsBeside [] = Unit {0}
 IsBeside (Parent f d ∷ ls) = Unit {0}
 IsBeside (Leaf simple t ∷ ls) = Unit {0}
 IsBeside (Envelope has ∷ ls) = ⊥
 IsBeside (Foreign ∷ ls) = ⊥
 
-beside_event : (ls : List (Level ℕ)) (item : Item) (s : Shown) → IsBeside ls → with_event ls item s ≡ s
+pub beside_event : (ls : List (Level ℕ)) (item : Item) (s : Shown) → IsBeside ls → with_event ls item s ≡ s
 beside_event [] item s h = refl
 beside_event (Parent f d ∷ ls) item s h = refl
 beside_event (Leaf simple t ∷ ls) item s h = refl
@@ -147,7 +147,7 @@ beside_events (Envelope has ∷ ls) items s h = absurd h
 beside_events (Foreign ∷ ls) items s h = absurd h
 
 -- behind a start that breaks no rule the end of the element is none of the element of an envelope
-end_behind : (m : Message ℕ) (ls : List (Level ℕ)) (n : Expanded) (attributes : List Entry) (k : Expanded) (s : Shown) → IsBeside ls → EventFault m ls (Starts n attributes) None → with_event (levels_after m ls (Starts n attributes)) (Ends k) s ≡ s
+pub end_behind : (m : Message ℕ) (ls : List (Level ℕ)) (n : Expanded) (attributes : List Entry) (k : Expanded) (s : Shown) → IsBeside ls → EventFault m ls (Starts n attributes) None → with_event (levels_after m ls (Starts n attributes)) (Ends k) s ≡ s
 end_behind m [] n attributes k s h fine = begun_ends (m.forms m.root) [] k s
 end_behind m (Parent f d ∷ ls) n attributes k s h fine =
     let place : (bytes_eq n.namespace m.namespace ≡ true) × (next_fault (path_in ls) f (next f d n.local) ≡ None) =

@@ -16,6 +16,7 @@ pub mod Contents
 pub mod QuickRuns
 pub mod OpenScratch
 pub mod QuickTags
+pub mod StartTags
 pub mod OurNames
 pub mod QuickFed
 pub mod StartFronts

@@ -1,5 +1,5 @@
 -- A checker that takes runs of characters and whole tags.
-use Rattle.std.proofs.Common.{◌≡◌, ℕ, ◌+◌, ◌-◌, ◌^◌, ◌<◌, ◌≤◌, arith, take, drop, List, [], ◌∷◌, ◌++◌, Some, None, refl, sym, ap, ◌∙◌, length, map, subst, append_assoc, append-nil, length-append, inl, inr}
+use Rattle.std.proofs.Common.{◌≡◌, ℕ, ◌+◌, ◌-◌, ◌^◌, ◌≤◌, arith, take, drop, List, [], ◌∷◌, ◌++◌, Some, None, refl, sym, ap, ◌∙◌, length, map, subst, append_assoc, append-nil, length-append, inl, inr}
 use Rattle.std.specs.Prelude.{Result, Ok, Err, Option, IfOk, IfSome, ◌≢◌, encode_utf8, min}
 use Rattle.std.proofs.lemmas.List.{length-take-le, take-append-drop}
 use Rattle.std.proofs.lemmas.Str.{length-le-encodes}
@@ -10,9 +10,7 @@ use Rattle.markup.specs.Marks.{Front, tag_limit}
 use Rattle.markup.specs.Events.{Placed, events}
 use Rattle.markup.specs.Faults.{IsClean}
 use Rattle.markup.specs.Literals.{IsRun, characters_from}
-use Rattle.markup.specs.PlainTags.{tag_items, name_behind}
-use Rattle.markup.specs.declared.plain_tag.PlainTag.{PlainTag}
-use Rattle.markup.specs.declared.plain_tag.TagKind.{TagKind}
+use Rattle.markup.specs.PlainTags.{name_behind}
 use Rattle.markup.specs.Reading.{HasTaken, HasTold, bytes_taken}
 use Rattle.markup.specs.Scopes.{placed_at}
 use Rattle.markup.specs.Standing.{EventsStay}
@@ -26,7 +24,7 @@ use Rattle.xml_instances.specs.EventFaults.{Broken, AreFine, FirstFault}
 use Rattle.xml_instances.specs.XmlFaults.{XmlFault, items_told}
 use Rattle.xml_instances.specs.Open.{IsOpen}
 use Rattle.xml_instances.specs.inner.Quick.{AreItemsTaken, IsRunTaken, IsOurs}
-use Rattle.xml_instances.specs.inner.Fronts.{TagTaken}
+use Rattle.xml_instances.specs.inner.Fronts.{TagItemsTaken}
 use Rattle.xml_instances.specs.Checking.{HasFedXml, XmlStops, IsTold, TakesXmlFront, xml_fault_of, xml_bytes_fed}
 use Rattle.xml_instances.specs.declared.content.Content.{Content}
 use Rattle.xml_instances.specs.declared.opened.Refusal.{Refusal}
@@ -191,48 +189,42 @@ front_still T old new piece reader place events failed content = record {
 
 -- ---- whole tags
 
--- what the reader answers for a tag
-abbrev pub TagTold : Reader → Reader → List ℕ → TagKind → List ℕ → Type 0
-TagTold old new tag kind name = (bytes : List ℕ) (told : List Placed) → HasTaken old bytes told → HasTold new (bytes ++ tag) (told ++ placed_at (length bytes) (tag_items kind (name_behind told name)))
+-- what holds of a tag that is there
+pub of_some : {A : Type 0} (Holds : A → Type 0) (o : Option A) (tag : A) → o ≡ Some tag → IfSome o Holds → Holds tag
+of_some Holds o tag e h = subst (λ v. IfSome v Holds) e h
 
-pub told_tag : (old new : Reader) (piece : List ℕ) (o : Option PlainTag) (tag : PlainTag) → o ≡ Some tag
-    → ((bytes : List ℕ) (told : List Placed) → HasTaken old bytes told → IfSome o (λ t. HasTold new (bytes ++ take t.bytes piece) (told ++ placed_at (length bytes) (tag_items t.kind (name_behind told t.name.now))))) → TagTold old new (take tag.bytes piece) tag.kind tag.name.now
-told_tag old new piece o tag e h bytes told k = subst (λ (v : Option PlainTag). IfSome v (λ t. HasTold new (bytes ++ take t.bytes piece) (told ++ placed_at (length bytes) (tag_items t.kind (name_behind told t.name.now))))) e (h bytes told k)
-
-pub tag_within : (piece : List ℕ) (o : Option PlainTag) (tag : PlainTag) → o ≡ Some tag → IfSome o (λ t. (0 < t.bytes) × (t.bytes ≤ length piece)) → tag.bytes ≤ length piece
-tag_within piece o tag e h = let k = subst (λ (v : Option PlainTag). IfSome v (λ t. (0 < t.bytes) × (t.bytes ≤ length piece))) e h in k.1
-
-pub tag_moved : (old new : Reader) (o : Option PlainTag) (tag : PlainTag) → o ≡ Some tag → IfSome o (λ t. bytes_taken new ≡ bytes_taken old + t.bytes) → bytes_taken new ≡ bytes_taken old + tag.bytes
-tag_moved old new o tag e h = subst (λ (v : Option PlainTag). IfSome v (λ t. bytes_taken new ≡ bytes_taken old + t.bytes)) e h
+-- what the reader answers for the events of a tag, by its name
+abbrev pub TagTold : Reader → Reader → List ℕ → (Expanded → List Item) → List ℕ → Type 0
+TagTold old new tag items name = (bytes : List ℕ) (told : List Placed) → HasTaken old bytes told → HasTold new (bytes ++ tag) (told ++ placed_at (length bytes) (items (name_behind told name)))
 
 -- what it shows
-abbrev pub TagShown : Tables → Content → Content → TagKind → List ℕ → Type 0
-TagShown T old new kind name = (ls : List (Level ℕ)) (n : Expanded) → n.local ≡ name → IsOurs (message_of T) ls n → IsOpen old (message_of T) ls → MayShowName old.pieces old.innermost n → GoOn old.pieces new.pieces (EventsShow T ls (tag_items kind n))
+abbrev pub TagShown : Tables → Content → Content → (Expanded → List Item) → List ℕ → Type 0
+TagShown T old new items name = (ls : List (Level ℕ)) (n : Expanded) → n.local ≡ name → IsOurs (message_of T) ls n → IsOpen old (message_of T) ls → MayShowName old.pieces old.innermost n → GoOn old.pieces new.pieces (EventsShow T ls (items n))
 
-pub front_tag : (T : Tables) (old new : XmlChecker) (piece name : List ℕ) (kind : TagKind) (n : ℕ) → n ≤ length piece → xml_bytes_fed old + length piece ≤ 2 ^ 40 → TagTold old.reader new.reader (take n piece) kind name → bytes_taken new.reader ≡ bytes_taken old.reader + n
-    → new.place ≡ min (old.place + n) (2 ^ 64 - 1) → new.events ≡ old.events → new.failed ≡ old.failed → TagTaken {U = Unit {0}} (message_of T) old.content new.content kind name (Ok tt)
-    → TagShown T old.content new.content kind name → MayShow old.content.pieces old.content.innermost → TakesXmlFront T old new piece (Ok n)
-front_tag T old new piece name kind n within room tells moved place events failed taken_are shown_are may = record { ok = ok; err = λ bytes h. tt; within = within; count = moved }
+pub front_tag : (T : Tables) (old new : XmlChecker) (piece name : List ℕ) (items : Expanded → List Item) (n : ℕ) → n ≤ length piece → xml_bytes_fed old + length piece ≤ 2 ^ 40 → TagTold old.reader new.reader (take n piece) items name → bytes_taken new.reader ≡ bytes_taken old.reader + n
+    → new.place ≡ min (old.place + n) (2 ^ 64 - 1) → new.events ≡ old.events → new.failed ≡ old.failed → TagItemsTaken {U = Unit {0}} (message_of T) old.content new.content items name (Ok tt)
+    → TagShown T old.content new.content items name → MayShow old.content.pieces old.content.innermost → TakesXmlFront T old new piece (Ok n)
+front_tag T old new piece name items n within room tells moved place events failed taken_are shown_are may = record { ok = ok; err = λ bytes h. tt; within = within; count = moved }
   where
     long : length (take n piece) ≡ n
     long = length-take-le n piece within
 
     ok : (bytes : List ℕ) → HasFedXml old T bytes → HasFedXml new T (bytes ++ take n piece)
     ok bytes h =
-        let items = tag_items kind (name_behind h.told name) in
+        let told = items (name_behind h.told name) in
         let t = taken_are (levels_over (message_of T) [] (items_told h.told)) (name_behind h.told name) refl (ours_behind (message_of T) h.told name h.fine) h.open_are in
-        more_fed T old new bytes (take n piece) (placed_at (length bytes) items) items h (tag_told (length bytes) items) (tells bytes h.told h.given) (moved ∙ ap (λ v. bytes_taken old.reader + v) (sym long))
+        more_fed T old new bytes (take n piece) (placed_at (length bytes) told) told h (tag_told (length bytes) told) (tells bytes h.told h.given) (moved ∙ ap (λ v. bytes_taken old.reader + v) (sym long))
         (place ∙ place_more bytes (take n piece) old.place (bytes_taken old.reader) n h.placed h.counted (sym long) (omega (arith, within, room))) t.0 t.1
         (shown_are (levels_over (message_of T) [] (items_told h.told)) (name_behind h.told name) refl (ours_behind (message_of T) h.told name h.fine) h.open_are
         (may_show_name T h.told name old.content.text old.content.round.items old.content.innermost old.content.pieces h.fine h.open_are h.built may)) (events ∙ h.none) (failed ∙ h.sound)
 
-pub front_tag_stops : (T : Tables) (old new : XmlChecker) (piece name : List ℕ) (kind : TagKind) (n : ℕ) (r : Refusal) (e : InstanceError) → EventsStay → TagTold old.reader new.reader (take n piece) kind name
-    → TagTaken {U = Unit {0}} (message_of T) old.content new.content kind name (Err r) → IsTold r old.place e → TakesXmlFront T old new piece (Err e)
-front_tag_stops T old new piece name kind n r e stay tells taken_are told = record { ok = λ bytes h. tt; err = err; within = tt; count = tt }
+pub front_tag_stops : (T : Tables) (old new : XmlChecker) (piece name : List ℕ) (items : Expanded → List Item) (n : ℕ) (r : Refusal) (e : InstanceError) → EventsStay → TagTold old.reader new.reader (take n piece) items name
+    → TagItemsTaken {U = Unit {0}} (message_of T) old.content new.content items name (Err r) → IsTold r old.place e → TakesXmlFront T old new piece (Err e)
+front_tag_stops T old new piece name items n r e stay tells taken_are told = record { ok = λ bytes h. tt; err = err; within = tt; count = tt }
   where
     err : (bytes : List ℕ) → HasFedXml old T bytes → XmlStops T (bytes ++ piece) e
     err bytes h = subst (λ (v : List ℕ). XmlStops T v e) (append_assoc bytes (take n piece) (drop n piece) ∙ ap (λ v. bytes ++ v) (take-append-drop n piece))
-        (stops_more T (bytes ++ take n piece) (drop n piece) e (stops_at_tag T old new.reader bytes (take n piece) (tag_items kind (name_behind h.told name)) new.content r e h stay (tells bytes h.told h.given)
+        (stops_more T (bytes ++ take n piece) (drop n piece) e (stops_at_tag T old new.reader bytes (take n piece) (items (name_behind h.told name)) new.content r e h stay (tells bytes h.told h.given)
         (taken_are (levels_over (message_of T) [] (items_told h.told)) (name_behind h.told name) refl (ours_behind (message_of T) h.told name h.fine) h.open_are) told))
 
 -- ---- bytes inside a token

@@ -1,6 +1,6 @@
 -- Fronts of a piece whose refusal is told apart from the answer.
 use Rattle.std.specs.Prelude.{◌≡◌, ℕ, List, Result, Ok, Err, OnOk, IfOk}
-use Rattle.lexical_core.specs.Tree.{Expanded}
+use Rattle.lexical_core.specs.Tree.{Expanded, Item}
 use Rattle.markup.specs.PlainTags.{tag_items}
 use Rattle.markup.specs.declared.plain_tag.TagKind.{TagKind}
 use Rattle.message_model.specs.Message.{Message}
@@ -22,9 +22,13 @@ abbrev pub because : {T E : Type 0} → InstanceError → Result T E → Result 
 because stop (Ok x) = Ok x
 because stop (Err e) = Err stop
 
--- what the content answers to a tag
+-- what the content answers to the events of a tag, by its name
+abbrev pub TagItemsTaken : {U : Type 0} → Message ℕ → Content → Content → (Expanded → List Item) → List ℕ → Result U Refusal → Type 0
+TagItemsTaken m old new items name r = (ls : List (Level ℕ)) (n : Expanded) → n.local ≡ name → IsOurs m ls n → IsOpen old m ls → AreItemsTaken m ls (items n) new r
+
+-- what it answers to a tag without attributes
 abbrev pub TagTaken : {U : Type 0} → Message ℕ → Content → Content → TagKind → List ℕ → Result U Refusal → Type 0
-TagTaken m old new kind name r = (ls : List (Level ℕ)) (n : Expanded) → n.local ≡ name → IsOurs m ls n → IsOpen old m ls → AreItemsTaken m ls (tag_items kind n) new r
+TagTaken m old new kind name r = TagItemsTaken m old new (tag_items kind) name r
 
 -- the same, where a refusal is told at the place
 abbrev pub IsTagHeld : {U E : Type 0} → Tables → Content → Content → TagKind → List ℕ → ℕ → Result U E → InstanceError → Type 0

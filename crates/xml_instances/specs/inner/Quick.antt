@@ -1,9 +1,10 @@
 -- Runs of characters and whole tags, held to a message.
-use Rattle.std.specs.Prelude.{◌≡◌, ℕ, true, false, List, [], ◌∷◌, map, Option, Some, None, Result, Ok, Err, slice_get}
+use Rattle.std.specs.Prelude.{◌≡◌, ℕ, Bool, true, false, List, [], ◌∷◌, map, Option, Some, None, Result, Ok, Err, slice_get}
 use Rattle.std.specs.List.{list_all}
-use Rattle.lexical_core.specs.Tree.{Expanded, Item, Char}
+use Rattle.lexical_core.specs.Tree.{Expanded, Entry, Item, Char}
 use Rattle.facets.specs.declared.simple.Simple.{Simple}
 use Rattle.markup.specs.Chars.{is_space}
+use Rattle.markup.specs.Events.{start_tag_items}
 use Rattle.reference_check.specs.Forms.{Graph, Slot, form_slots}
 use Rattle.message_model.specs.Message.{Message}
 use Rattle.xml_instances.specs.Levels.{Level, Parent, Leaf, Envelope, Foreign, levels_over}
@@ -62,3 +63,12 @@ IsOurs m (Parent f d ∷ ls) n = n.namespace ≡ m.namespace
 IsOurs m (Leaf simple text ∷ ls) n = Unit {0}
 IsOurs m (Envelope filled ∷ ls) n = Unit {0}
 IsOurs m (Foreign ∷ ls) n = Unit {0}
+
+-- it is an element with elements of the message
+abbrev pub is_parent : Option Opened → Bool
+is_parent (Some (opened.Parent number last count)) = true
+is_parent o = false
+
+-- the events of a start tag of this name
+abbrev pub start_items : Bool → List Entry → Expanded → List Item
+start_items is_empty entries n = start_tag_items (Some n) entries is_empty

@@ -9,8 +9,9 @@ ghost use Rattle.xml_instances.specs.Scratch.{KeepsNoLeaf};
 ghost use Rattle.xml_instances.specs.declared.content.quick.Room.TheVariants.{All as AllCharacters, Blanks as BlankCharacters};
 
 use super::held::hold_tag;
-use super::{Stopped, XmlChecker, take_all};
+use super::{Stopped, XmlChecker, take_all, told};
 use crate::content::Room;
+use crate::known::StartAttributes;
 use markup::MarkError;
 use message_model::{InstanceError, Model};
 use std::alloc::AllocError;
@@ -146,6 +147,26 @@ impl XmlChecker {
 
     /// Takes a start tag with attributes, bytes inside a token or else a byte from the front of the piece.
     fn take_starting(&mut self, model: &Model, piece: &[u8]) -> Result<usize, InstanceError>
+        requires some { 0 < length piece.now }
+        requires room { xml_bytes_fed self.old + length piece.now ≤ 2 ^ 40 }
+        requires made { IsXmlCheckerFor self.old model.now }
+        ensures made { IsXmlCheckerFor self.new model.now }
+        ensures lean { KeepsNoLeaf self.old → KeepsNoLeaf self.new }
+        ensures front { TakesXmlFront model.now self.old self.new piece.now result }
+        ensures some { IfOk result (λ n. 0 < n) }
+    {
+        let start = match self.take_attribute_tag(model, piece) {
+            Ok(start) => start,
+            Err(error) => return Err(error),
+        };
+        if start > 0 {
+            return Ok(start);
+        }
+        self.take_any_start(model, piece)
+    }
+
+    /// Takes any start tag with attributes, bytes inside a token or else a byte from the front of the piece.
+    fn take_any_start(&mut self, model: &Model, piece: &[u8]) -> Result<usize, InstanceError>
         requires some { 0 < length piece.now }
         requires room { xml_bytes_fed self.old + length piece.now ≤ 2 ^ 40 }
         requires made { IsXmlCheckerFor self.old model.now }
@@ -293,6 +314,37 @@ impl XmlChecker {
                 Ok(tag.bytes)
             }
             Err(error) => Err(error),
+        }
+    }
+
+    /// Takes the whole start tag at the front of the piece, if one stands there with attributes in no namespace, in an
+    /// element with elements of the message.
+    fn take_attribute_tag(&mut self, model: &Model, piece: &[u8]) -> Result<usize, InstanceError>
+        requires room { xml_bytes_fed self.old + length piece.now ≤ 2 ^ 40 }
+        requires made { IsXmlCheckerFor self.old model.now }
+        ensures made { IsXmlCheckerFor self.new model.now }
+        ensures lean { KeepsNoLeaf self.old → KeepsNoLeaf self.new }
+        ensures front { TakesXmlFront model.now self.old self.new piece.now result }
+    {
+        markup::laws::events_stay();
+        if !self.content.is_in_parent() {
+            return Ok(0);
+        }
+        let tag = match self.reader.take_attribute_tag(piece) {
+            Ok(Some(tag)) => tag,
+            Ok(None) => return Ok(0),
+            Err(_) => return Err(InstanceError::Memory),
+        };
+        let attrs = StartAttributes::Spelled(tag.attributes.as_slice());
+        match self
+            .content
+            .take_start_tag(model, tag.name, &attrs, tag.is_empty)
+        {
+            Ok(()) => {
+                self.place = self.place.saturating_add(tag.bytes as u64);
+                Ok(tag.bytes)
+            }
+            Err(refusal) => Err(told(refusal, self.place)),
         }
     }
 

@@ -1,5 +1,5 @@
 //! Runs of characters and whole tags, held to the types of the message.
-ghost use Rattle.std.specs.Prelude.{◌≡◌, ◌++◌, ℕ, List, [], Some, OnOk, map};
+ghost use Rattle.std.specs.Prelude.{◌≡◌, ◌++◌, ℕ, List, Some, OnOk, map, true};
 ghost use Rattle.lexical_core.specs.Tree.{Expanded, Starts, Char};
 ghost use Rattle.facets.specs.declared.simple.Simple.{Simple as SimpleType};
 ghost use Rattle.markup.specs.Literals.{IsRun};
@@ -9,10 +9,12 @@ ghost use Rattle.xml_instances.specs.Levels.{Level};
 ghost use Rattle.xml_instances.specs.Built.{EventsShow, ShowsBeside, StartShown};
 ghost use Rattle.xml_instances.specs.Keeping.{GoOn, MayShowName, TagShowsBeside};
 ghost use Rattle.xml_instances.specs.Open.{IsOpen, AreMade, IsPlaced, IsItemTaken, IsTextMade, HoldsText};
-ghost use Rattle.xml_instances.specs.inner.Quick.{MayTake, IsRoomIn, IsRunTaken, AreItemsTaken, IsOurs};
+ghost use Rattle.xml_instances.specs.inner.Quick.{MayTake, IsRoomIn, IsRunTaken, AreItemsTaken, IsOurs, is_parent, start_items};
+ghost use Rattle.xml_instances.specs.inner.Known.{entries_given};
 ghost use Rattle.xml_instances.specs.Verdicts.{IsLean, IsTextVerdict};
 
 use super::{Content, OpenText, is_bare, root};
+use crate::known::StartAttributes;
 use crate::opened::{Opened, Refusal};
 use crate::pieces::inside_run;
 use crate::texts::take_run;
@@ -124,8 +126,8 @@ impl Content {
             → OnOk result (GoOn self.old.pieces self.new.pieces (TagShowsBeside model.now ls kind n)) }
     {
         match kind {
-            TagKind::Start => self.start_inside(model, name),
-            TagKind::Empty => match self.start_inside(model, name) {
+            TagKind::Start => self.start_inside(model, name, &StartAttributes::Told(&[])),
+            TagKind::Empty => match self.start_inside(model, name, &StartAttributes::Told(&[])) {
                 Ok(()) => self.end(model),
                 Err(refusal) => Err(refusal),
             },
@@ -133,20 +135,55 @@ impl Content {
         }
     }
 
-    /// An element without attributes starts, whose name is in the namespace of the innermost one.
-    fn start_inside(&mut self, model: &Model, local: &[u8]) -> Result<(), Refusal>
+    /// An element starts, whose name is in the namespace of the innermost one.
+    fn start_inside(
+        &mut self,
+        model: &Model,
+        local: &[u8],
+        attrs: &StartAttributes<'_>,
+    ) -> Result<(), Refusal>
         requires { AreMade (types_of model.now) self.old }
         ensures made { AreMade (types_of model.now) self.new }
         ensures lean { IsLean self.old → IsLean self.new }
         ensures taken { (ls : List (Level ℕ)) (n : Expanded) → n.local ≡ local.now → IsOurs (message_of model.now) ls n → IsOpen self.old (message_of model.now) ls
-            → IsItemTaken (message_of model.now) ls (Starts n []) self.new result }
+            → IsItemTaken (message_of model.now) ls (Starts n (entries_given attrs.now)) self.new result }
         ensures shown { (ls : List (Level ℕ)) (n : Expanded) → n.local ≡ local.now → IsOpen self.old (message_of model.now) ls → IsOurs (message_of model.now) ls n
-            → OnOk result (GoOn self.old.pieces self.new.pieces (ShowsBeside model.now ls (Starts n []))) }
+            → OnOk result (GoOn self.old.pieces self.new.pieces (ShowsBeside model.now ls (Starts n (entries_given attrs.now)))) }
     {
         match self.place_inside(model, local) {
-            Ok(number) => self.enter(model, number, &[]),
+            Ok(number) => self.enter(model, number, attrs),
             Err(refusal) => Err(refusal),
         }
+    }
+
+    /// Takes a start tag, whose name is in the namespace of the innermost element. That is one with elements of the message.
+    pub(crate) fn take_start_tag(
+        &mut self,
+        model: &Model,
+        name: &[u8],
+        attrs: &StartAttributes<'_>,
+        is_empty: bool,
+    ) -> Result<(), Refusal>
+        requires made { AreMade (types_of model.now) self.old }
+        requires inside { is_parent self.old.innermost ≡ true }
+        ensures made { AreMade (types_of model.now) self.new }
+        ensures lean { IsLean self.old → IsLean self.new }
+        ensures taken { (ls : List (Level ℕ)) (n : Expanded) → n.local ≡ name.now → IsOurs (message_of model.now) ls n → IsOpen self.old (message_of model.now) ls
+            → AreItemsTaken (message_of model.now) ls (start_items is_empty (entries_given attrs.now) n) self.new result }
+        ensures shown { (ls : List (Level ℕ)) (n : Expanded) → n.local ≡ name.now → IsOurs (message_of model.now) ls n → IsOpen self.old (message_of model.now) ls
+            → OnOk result (GoOn self.old.pieces self.new.pieces (EventsShow model.now ls (start_items is_empty (entries_given attrs.now) n))) }
+    {
+        match self.start_inside(model, name, attrs) {
+            Ok(()) => { if is_empty { self.end(model) } else { Ok(()) } }
+            Err(refusal) => Err(refusal),
+        }
+    }
+
+    /// Whether the innermost element is one with elements of the message.
+    pub(crate) fn is_in_parent(&self) -> bool
+        ensures { result ≡ is_parent self.now.innermost }
+    {
+        matches!(self.innermost, Some(Opened::Parent { .. }))
     }
 
     /// Whether an element of the innermost one's namespace may stand here, and its type; none in
