@@ -1,18 +1,17 @@
 -- Contents in a value, by those of its simple type.
-use Rattle.std.proofs.Common.{◌≡◌, ℕ, List, Option, None, Some, Result, Ok, Err, refl, sym, ap, subst, Bor}
+use Rattle.std.proofs.Common.{◌≡◌, ℕ, false, List, Option, None, Some, Result, Ok, Err, refl, sym, ap, subst, Bor}
 use Rattle.data_types.specs.Leaf.{Leaf}
 use Rattle.data_types.specs.declared.leaf.LeafRef.{LeafRef}
 use Rattle.facets.specs.declared.simple.Simple.{Simple}
 use Rattle.reference_check.specs.Forms as graph
 use Rattle.reference_check.specs.Forms.{Graph, text_type}
-use Rattle.message_model.specs.Tables.{Tables, types_of}
 use Rattle.message_model.specs.Views.{IsFormOf}
 use Rattle.message_model.specs.declared.model.Form.{Form}
 use Rattle.message_model.specs.declared.model.Form.TheVariants as form
-use Rattle.der_model.specs.DerMessage.{DerMessage, der_message}
+use Rattle.der_model.specs.DerMessage.{DerMessage}
 use Rattle.der_model.specs.Faults.{IsHeldIn}
 use Rattle.der_model.specs.OpenParts.{IsPrimitive}
-use Rattle.der_model.specs.Structures.{Spot, Instance, Structure, Holds, LeafOf, Fragment, form_structure, number_structure, structure}
+use Rattle.der_model.specs.Structures.{Structure, Holds, LeafOf, Fragment, is_constructed, form_structure, number_structure}
 use Rattle.der_codec.specs.Judging.{IsJudged, HoldsLeaf, IsJudgedAt}
 use Rattle.der_codec.specs.Rooms.{HasNoEnvelopes}
 use Rattle.der_codec.specs.declared.checks.Refusal.TheVariants as refused
@@ -50,16 +49,17 @@ holds m (Holds (LeafOf simple)) octets leaf h = (leaf, h)
 holds m (Holds Fragment) octets leaf h = h.0
 holds m s octets leaf h = absurd h
 
--- a value that is no leaf holds no octets
-pub no_value : (g : Graph ℕ Simple) (p : ℕ) (o : Option Form) (f : graph.Form ℕ Simple) → IsFormOf o f → ((told : Bor Simple) → o ≡ Some (form.Simple told) → ⊥) → (o ≡ Some form.Envelope → ⊥) → IsPrimitive (form_structure g p f) → ⊥
-no_value g p (Some (form.Simple told)) f is simple envelope h = simple told refl
-no_value g p (Some form.Envelope) f is simple envelope h = envelope refl
-no_value g p (Some form.Sequence) (graph.Sequence slots) is simple envelope h = h
-no_value g p (Some form.Choice) (graph.Choice slots) is simple envelope h = h
-no_value g p (Some (form.Money told base)) (graph.Money code number) is simple envelope h = h
-no_value g p None graph.Missing is simple envelope h = h
-no_value g p o f is simple envelope h = absurd is
+-- a type that is there, and is no leaf, is constructed
+pub no_value : (o : Option Form) (f : graph.Form ℕ Simple) → IsFormOf o f → ((told : Bor Simple) → o ≡ Some (form.Simple told) → ⊥) → (o ≡ Some form.Envelope → ⊥) → (o ≡ None → ⊥) → is_constructed f ≡ false → ⊥
+no_value (Some (form.Simple told)) f is simple envelope none h = simple told refl
+no_value (Some form.Envelope) f is simple envelope none h = envelope refl
+no_value (Some form.Sequence) (graph.Sequence slots) is simple envelope none h = absurd cc
+no_value (Some form.Choice) (graph.Choice slots) is simple envelope none h = absurd cc
+no_value (Some (form.Money told base)) (graph.Money code number) is simple envelope none h = absurd cc
+no_value None graph.Missing is simple envelope none h = none refl
+no_value o f is simple envelope none h = absurd is
 
+-- a type that is no amount has no number
 pub no_number : (o : Option Form) (f : graph.Form ℕ Simple) → IsFormOf o f → ((told : ℕ) (base : Bor Simple) → o ≡ Some (form.Money told base) → ⊥) → IsPrimitive (number_structure f) → ⊥
 no_number (Some (form.Money told base)) f is money h = money told base refl
 no_number (Some (form.Simple told)) (graph.Simple simple) is money h = h
@@ -75,6 +75,3 @@ no_envelope g p none is = none p (envelope_is (g p) is)
     envelope_is : (f : graph.Form ℕ Simple) → IsFormOf (Some form.Envelope) f → f ≡ graph.Envelope
     envelope_is graph.Envelope is = refl
     envelope_is f is = absurd is
-
-pub no_instance : (T : Tables) (slots : List (graph.Slot ℕ)) (of : Spot ℕ) → types_of T 0 ≡ graph.Sequence slots → of ≡ Instance → IsPrimitive (structure (der_message T) of) → ⊥
-no_instance T slots of root is h = subst (λ z. IsPrimitive (form_structure (types_of T) 0 z)) root (subst (λ z. IsPrimitive (structure (der_message T) z)) is h)

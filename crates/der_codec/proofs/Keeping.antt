@@ -1,5 +1,6 @@
 -- What is reserved is kept, and is enough: of a checker that goes on, and of what it is given.
-use Rattle.std.proofs.Common.{◌≡◌, ℕ, ◌+◌, ◌≤◌, ◌<◌, ◌^◌, false, true, List, [], ◌∷◌, ◌++◌, length, drop, take, Option, Some, None, refl, sym, ap, ◌∙◌, subst, arith, append_assoc, append-nil}
+use Rattle.std.proofs.Common.{◌≡◌, ℕ, ◌+◌, ◌≤◌, ◌<◌, false, true, List, [], ◌∷◌, ◌++◌, length, drop, take, Option, Some, None, refl, sym, ap, ◌∙◌, subst, arith, append_assoc, append-nil, length-append}
+use Rattle.std.proofs.lemmas.List.{take_all}
 use Rattle.std.specs.Prelude.{vec_capacity, Result, Ok, Err, IsOk, IfOk, IfErr, IsErrOf}
 use Rattle.std.specs.Global.{Vec}
 use Rattle.lexical_core.specs.declared.rule.Rule.TheVariants.{DerTruncated}
@@ -11,25 +12,25 @@ use Rattle.reference_check.specs.Forms.{Graph}
 use Rattle.message_model.specs.Tables.{Tables, types_of}
 use Rattle.message_model.specs.Errors.{IsAgain}
 use Rattle.message_model.specs.declared.fault.InstanceError.{InstanceError}
+use Rattle.message_model.specs.declared.fault.InstanceError.TheVariants as errors
 use Rattle.der_model.specs.DerMessage.{DerMessage, der_message}
-use Rattle.der_model.specs.Faults.{FaultInDer}
-use Rattle.der_model.specs.OpenParts.{IsPrimitive}
+use Rattle.der_model.specs.Faults.{FaultInDer, DerFault}
+use Rattle.der_model.specs.Sound.{IsSoundDer}
 use Rattle.der_model.specs.Paths.{path_of}
 use Rattle.der_model.specs.ShownPieces.{PartsShow, begin_each, end_each, elements_ended}
 use Rattle.der_model.specs.States as states
 use Rattle.der_model.specs.States.{State, Start, AwaitsLength, AwaitsContents, Within}
 use Rattle.der_model.specs.Structures as structures
-use Rattle.der_model.specs.Structures.{structure}
 use Rattle.der_model.proofs.Answered.{spelled_has_none}
-use Rattle.der_model.proofs.Continued.{fault_stays}
+use Rattle.der_model.proofs.Continued.{fault_stays, front_more}
 use Rattle.der_model.proofs.ShownPieces.{parts_show_then}
-use Rattle.der_codec.specs.Checking.{StopsWithin, open_count, der_failure}
+use Rattle.der_codec.specs.Checking.{StopsWithin, DerStops, HaveDerFault, open_count, der_failure, der_fault_of}
 use Rattle.der_codec.specs.Components.{added_text}
 use Rattle.der_codec.specs.Decoding.{Reads, HasReadParts, IsOpenState, IsBegun, IsFull, IsLengthDue, due_depth}
 use Rattle.der_codec.specs.KeptPieces.{Shows, KeepsShown}
 use Rattle.der_codec.specs.Levels.{IsSpot, inwards}
 use Rattle.der_codec.specs.Reserved.{HasChecks, AreReserved, GrowsRoom, IsKeeping, HasEnough, HoldsMore, HoldMore, IsPrimitiveAt}
-use Rattle.der_codec.specs.Rooms.{BeginsEnough}
+use Rattle.der_codec.specs.Rooms.{BeginsEnough, ShowsEnough}
 use Rattle.der_codec.specs.declared.checker.DerChecker.{DerChecker}
 use Rattle.der_codec.specs.declared.checks.Checks.{Checks}
 use Rattle.der_codec.specs.declared.decoder.Decoder.{Decoder}
@@ -41,6 +42,7 @@ use Rattle.der_codec.specs.declared.level.Level.{Level}
 use Rattle.der_codec.specs.declared.level.Spot.{Spot}
 use Rattle.der_codec.specs.declared.room.Room.{Room}
 use Rattle.der_codec.proofs.ContentsSteps.{rest_from}
+use Rattle.der_codec.proofs.DueContents.{IsOfThere, due_primitive}
 use Rattle.der_codec.proofs.Fed.{fault_at}
 use Rattle.der_codec.proofs.RoomFronts.{FrontEnough, front_enough}
 use Rattle.der_codec.proofs.ShownFed.{depth_counts}
@@ -88,44 +90,54 @@ grows_as old new e = subst (GrowsRoom old) (sym e) (grows_same old)
 
 -- ---- and enough
 
-begins_less : (T : Tables) (room : Room) (bytes more : List ℕ) → BeginsEnough T room (bytes ++ more) → BeginsEnough T room bytes
-begins_less T room bytes more b =
-    let e = append_assoc bytes more b.behind in
-    record {
-      value = b.value;
-      behind = more ++ b.behind;
-      short = subst (λ z. length z < 2 ^ 63) e b.short;
-      plain = b.plain;
-      spelled = (b.spelled.0, sym e ∙ b.spelled.1);
-      enough = b.enough;
-    }
-
 pub enough_less : (T : Tables) (c : DerChecker) (bytes more all : List ℕ) → all ≡ bytes ++ more → HasEnough c T all → HasEnough c T bytes
-enough_less T c bytes more all e h = record { keeping = h.keeping; sound = h.sound; begins = begins_less T c.room bytes more (subst (BeginsEnough T c.room) e h.begins) }
+enough_less T c bytes more all e h = record {
+  keeping = h.keeping;
+  sound = h.sound;
+  linked = h.linked;
+  shows = record { plain = h.shows.plain; enough = λ front behind is. h.shows.enough front (behind ++ more) (e ∙ (ap (λ z. z ++ more) is ∙ append_assoc front behind more)) };
+}
 
 pub enough_then : (T : Tables) (old new : DerChecker) (bytes all : List ℕ) → all ≡ bytes → (IsKeeping old T → IsKeeping new T) → new.room ≡ old.room → HasEnough old T all → HasEnough new T bytes
 enough_then T old new bytes all e keeps same h = record {
   keeping = keeps h.keeping;
   sound = h.sound;
-  begins = subst (λ (z : Room). BeginsEnough T z bytes) (sym same) (subst (BeginsEnough T old.room) e h.begins);
+  linked = h.linked;
+  shows = subst (λ (z : Room). ShowsEnough T z bytes) (sym same) (subst (ShowsEnough T old.room) e h.shows);
 }
 
--- nothing stops it but want of memory
-pub never_stops : (T : Tables) (c : DerChecker) (d : Decoder) (bytes : List ℕ) (s : Stop) → HasEnough c T bytes → StopsWithin T d bytes s → (s ≡ stop.Memory → ⊥) → ⊥
-never_stops T c d bytes stop.Memory h w none = none refl
-never_stops T c d bytes (stop.Fault rule place added) h (front, behind, is, f, other) none =
-    let m = der_message T in
-    let b = h.begins in
-    let told : FaultInDer = record { rule = rule; place = place; path = path_of f.state ++ added_text (types_of T) added } in
-    let all : bytes ++ b.behind ≡ front ++ (behind ++ b.behind) = ap (λ z. z ++ b.behind) is ∙ append_assoc front behind b.behind in
-    let fault = fault_stays m front (behind ++ b.behind) told other (fault_at T d front rule place added told.path f refl) in
-    spelled_has_none m h.sound (front ++ (behind ++ b.behind)) b.value told (subst (λ z. length z < 2 ^ 63) all b.short) (b.spelled.0, sym all ∙ b.spelled.1) fault
+-- what stops it shows a fault, but for want of memory
+pub stop_shows : (T : Tables) (d : Decoder) (bytes : List ℕ) (s : Stop) → StopsWithin T d bytes s → (s ≡ stop.Memory → ⊥) → HaveDerFault T bytes
+stop_shows T d bytes stop.Memory w none = absurd (none refl)
+stop_shows T d bytes (stop.Fault rule place added) (front, behind, is, f, other) none = record {
+  fault = told;
+  has_fault = λ more. subst (λ z. DerFault m z told) (sym (ap (λ z. z ++ more) is ∙ append_assoc front behind more)) (fault_stays m front (behind ++ more) told other (fault_at T d front rule place added told.path f refl));
+  no_cut = other;
+}
+  where
+    m : DerMessage ℕ
+    m = der_message T
+
+    told : FaultInDer
+    told = record { rule = rule; place = place; path = path_of f.state ++ added_text (types_of T) added }
+
+-- bytes that begin the DER of an instance have no fault
+pub begins_fit : {A : Type 0} (T : Tables) (room : Room) (bytes : List ℕ) (result : Result A InstanceError) → IsSoundDer (der_message T) → BeginsEnough T room bytes → IfErr result (λ e. DerStops T bytes e) → (IsErrOf result errors.Memory → HaveDerFault T bytes) → IsOk result
+begins_fit {A} T room bytes result sound b stops memory = by result stops memory
+  where
+    none : HaveDerFault T bytes → ⊥
+    none h = spelled_has_none (der_message T) sound (bytes ++ b.behind) b.value h.fault b.short b.spelled (h.has_fault b.behind)
+
+    by : (r : Result A InstanceError) → IfErr r (λ e. DerStops T bytes e) → (IsErrOf r errors.Memory → HaveDerFault T bytes) → IsOk r
+    by (Ok a) stops memory = refl
+    by (Err errors.Memory) stops memory = absurd (none (memory refl))
+    by (Err (errors.Refused fault)) stops memory = absurd (none (record { fault = der_fault_of fault; has_fault = stops.has_fault; no_cut = stops.no_cut }))
 
 -- ---- what was read
 
 read_enough : (T : Tables) (c : DerChecker) (xs : List Level) (d : Due) (start place : ℕ) (bytes more : List ℕ) (shown : List Piece) (r : Reads (der_message T) xs d start place bytes) → HasEnough c T (bytes ++ more)
-    → PartsShow (der_message T) Start 0 r.parts shown → FrontEnough (der_message T) c.room r.state shown
-read_enough T c xs d start place bytes more shown r h shows = front_enough T c.room bytes more r.parts r.state r.at r.rest shown h.sound h.begins r.front shows
+    → PartsShow (der_message T) Start 0 r.parts shown → FrontEnough c.room r.state r.rest shown
+read_enough T c xs d start place bytes more shown r h shows = front_enough T c.room bytes more r.parts r.state r.at r.rest shown h.shows r.front shows
 
 -- pieces that come behind those that are kept
 pub adds_enough : (T : Tables) (c : DerChecker) (xs ys : List Level) (d e : Due) (start place begin end : ℕ) (bytes all : List ℕ) (more : List Piece) (r : Reads (der_message T) xs d start place bytes) (t : Reads (der_message T) ys e begin end all)
@@ -144,14 +156,14 @@ adds_enough T c xs ys d e start place begin end bytes all more r t h shows adds 
     shown : PartsShow m Start 0 t.parts (region.pieces ++ more)
     shown = subst (λ z. PartsShow m Start 0 z (region.pieces ++ more)) (sym adds.are) (parts_show_then m Start r.state 0 r.at bytes r.rest r.parts adds.parts region.pieces more r.front (told r) adds.show)
 
-    f : FrontEnough m c.room t.state (region.pieces ++ more)
+    f : FrontEnough c.room t.state t.rest (region.pieces ++ more)
     f = read_enough T c ys e begin end all [] (region.pieces ++ more) t (subst (HasEnough c T) (sym (append-nil all)) h) shown
 
     f1 : length (region.pieces ++ more) ≤ c.room.nodes
     f1 = f.nodes
 
     f2 : bytes_of (region.pieces ++ more) ≤ c.room.bytes
-    f2 = f.bytes
+    f2 = (let all = f.bytes in omega (arith, all))
 
     n : c.room.nodes ≤ region.node_room
     n = h.keeping.reserved.nodes
@@ -167,7 +179,7 @@ pub shown_enough : (T : Tables) (c : DerChecker) (ys : List Level) (e : Due) (be
     → (length kept.pieces ≤ c.room.nodes) × (bytes_of kept.pieces ≤ c.room.bytes)
 shown_enough T c ys e begin end all kept t h shows =
     let f = read_enough T c ys e begin end all [] kept.pieces t (subst (HasEnough c T) (sym (append-nil all)) h) (shows t) in
-    (f.nodes, f.bytes)
+    (f.nodes, (let few = f.bytes in omega (arith, few)))
 
 -- no value more can be open than there is room for
 pub length_enough : (T : Tables) (c : DerChecker) (bytes more : List ℕ) → HasReadParts (der_message T) c.decoder bytes → KeepsShown (der_message T) c.decoder c.pieces bytes → HasEnough c T (bytes ++ more) → IsLengthDue c.decoder.due → IsFull c.decoder.levels → ⊥
@@ -179,7 +191,7 @@ length_enough T c bytes more r shows h is full = by c.decoder.due is (depth_coun
     told : KeepsShown m c.decoder (Some h.keeping.region) bytes
     told = subst (λ z. KeepsShown m c.decoder z bytes) h.keeping.is shows
 
-    f : FrontEnough m c.room r.state h.keeping.region.pieces
+    f : FrontEnough c.room r.state r.rest h.keeping.region.pieces
     f = read_enough T c (inwards c.decoder.levels.items) c.decoder.due c.decoder.start c.decoder.place bytes more h.keeping.region.pieces r h (told r)
 
     by : (d : Due) → IsLengthDue d → length c.decoder.levels.items + due_depth d ≡ open_count r.state → ⊥
@@ -192,10 +204,10 @@ length_enough T c bytes more r shows h is full = by c.decoder.due is (depth_coun
     by (due.Contents spot left) l count = absurd l
     by due.Over l count = absurd l
 
--- the contents that are due have room, and are octets
-pub contents_enough : (T : Tables) (c : DerChecker) (spot : Spot) (left : ℕ) (bytes more : List ℕ) → c.decoder.due ≡ due.Contents spot left → (r : HasReadParts (der_message T) c.decoder bytes) → KeepsShown (der_message T) c.decoder c.pieces bytes → HasEnough c T (bytes ++ more)
-    → (length (drop c.decoder.start bytes) + left ≤ c.room.bytes) × IsPrimitiveAt (der_message T) spot × (0 < c.room.depth)
-contents_enough T c spot left bytes more is r shows h = go t.state t.is_open t.is_begun f
+-- the contents octets that come have room, behind those that have come of a primitive value
+pub contents_enough : (T : Tables) (c : DerChecker) (spot : Spot) (left : ℕ) (bytes front : List ℕ) → c.decoder.due ≡ due.Contents spot left → length front ≤ left → (r : HasReadParts (der_message T) c.decoder bytes) → KeepsShown (der_message T) c.decoder c.pieces bytes → HasEnough c T (bytes ++ front)
+    → (length (drop c.decoder.start bytes) + length front ≤ c.room.bytes) × IsPrimitiveAt T spot × (0 < c.room.depth)
+contents_enough T c spot left bytes front is within r shows h = go t.state t.is_open t.is_begun (due_primitive T h.sound h.linked bytes t.parts t.state t.at t.rest t.front) f
   where
     m : DerMessage ℕ
     m = der_message T
@@ -212,17 +224,19 @@ contents_enough T c spot left bytes more is r shows h = go t.state t.is_open t.i
     told : Shows m xs (due.Contents spot left) d.start d.place (Some h.keeping.region) bytes
     told = subst (λ z. Shows m xs z d.start d.place (Some h.keeping.region) bytes) is (subst (λ z. KeepsShown m d z bytes) h.keeping.is shows)
 
-    f : FrontEnough m c.room t.state h.keeping.region.pieces
-    f = read_enough T c xs (due.Contents spot left) d.start d.place bytes more h.keeping.region.pieces t h (told t)
+    f : FrontEnough c.room t.state (t.rest ++ front) h.keeping.region.pieces
+    f = front_enough T c.room (bytes ++ front) [] t.parts t.state t.at (t.rest ++ front) h.keeping.region.pieces (subst (ShowsEnough T c.room) (sym (append-nil (bytes ++ front))) h.shows) (front_more m Start 0 bytes t.parts t.state t.at t.rest front t.front) (told t)
 
-    go : (s : State ℕ) → IsOpenState m xs (due.Contents spot left) s → IsBegun (due.Contents spot left) s t.rest → FrontEnough m c.room s h.keeping.region.pieces → (length (drop d.start bytes) + left ≤ c.room.bytes) × IsPrimitiveAt m spot × (0 < c.room.depth)
-    go (AwaitsContents of names count ls) op beg enough =
-        let due_is = enough.contents of names count ls refl in
-        let few = due_is.0 in
+    go : (s : State ℕ) → IsOpenState m xs (due.Contents spot left) s → IsBegun (due.Contents spot left) s t.rest → IsOfThere T h.sound h.linked s → FrontEnough c.room s (t.rest ++ front) h.keeping.region.pieces
+        → (length (drop d.start bytes) + length front ≤ c.room.bytes) × IsPrimitiveAt T spot × (0 < c.room.depth)
+    go (AwaitsContents of names count ls) op beg there enough =
+        let few = enough.bytes in
+        let sum = length-append t.rest front in
+        let whole = ap length (take_all count (t.rest ++ front) (omega (arith, beg, within, sum))) in
         let size = ap length (rest_from m xs (due.Contents spot left) d.start d.place bytes t) in
         let depth = enough.depth in
-        (omega (arith, few, size, beg), (of, op.0, due_is.1), omega (arith, depth))
-    go s op beg enough = absurd op
+        (omega (arith, few, sum, whole, size), (of, op.0, there.0), omega (arith, depth))
+    go s op beg there enough = absurd op
 
 -- ---- answers
 

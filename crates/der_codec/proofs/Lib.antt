@@ -15,6 +15,7 @@ pub mod PathsWritten
 pub mod Named
 pub mod PiecesOpen
 pub mod Growing
+pub mod DueContents
 pub mod RoomFronts
 pub mod NoCuts
 pub mod PathsOpen

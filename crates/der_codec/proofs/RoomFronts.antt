@@ -1,5 +1,6 @@
--- Bytes that begin the DER of an instance show a front of its pieces and of its parts, for which the room is enough.
+-- What the room is enough for. Bytes that begin the DER of an instance show a front of its pieces and of its parts.
 use Rattle.std.proofs.Common.{◌≡◌, ℕ, suc, ◌+◌, ◌-◌, ◌≤◌, ◌<◌, ◌^◌, true, false, List, [], ◌∷◌, ◌++◌, length, Option, Some, None, Ok, refl, sym, ap, ◌∙◌, subst, arith, append_assoc, length-append}
+use Rattle.std.proofs.lemmas.List.{length-take}
 use Rattle.data_types.specs.Leaf.{Leaf, Bytes, Number, Flag, Code, octet_count}
 use Rattle.data_types.specs.Value.{Value, Edge, Piece}
 use Rattle.data_types.specs.Value as value
@@ -16,24 +17,23 @@ use Rattle.der_model.specs.DerMessage.{DerMessage, der_message}
 use Rattle.der_model.specs.Der.{SpellsDer, der_values}
 use Rattle.der_model.specs.Faults.{DerFront, IsWholeDer, IsCleanPart}
 use Rattle.der_model.specs.LeafContents.{IsContents}
-use Rattle.der_model.specs.OpenParts.{parts_of, without_lengths, IsPrimitive}
+use Rattle.der_model.specs.OpenParts.{parts_of, without_lengths}
 use Rattle.der_model.specs.ShownPieces.{PartShows, PartsShow, IsLeafIn, begin_each, end_each, elements_ended}
 use Rattle.der_model.specs.Sound.{IsSoundDer}
-use Rattle.der_model.specs.States.{Part, Identifier, Length, End, part_octets, DerLevel, PathName, State, Start, AwaitsLength, AwaitsContents, Within, begun_state, level_answer, state_after, Stands}
+use Rattle.der_model.specs.States.{Part, Identifier, Length, End, part_octets, State, Start, AwaitsLength, AwaitsContents, Within, begun_state, level_answer, state_after, Stands}
 use Rattle.der_model.specs.States as states
 use Rattle.der_model.specs.Structures as structures
-use Rattle.der_model.specs.Structures.{Spot, Structure, Holds, LeafOf, Fragment, Fields, OneOf, Items, Empty, structure}
+use Rattle.der_model.specs.Structures.{Structure, Holds, LeafOf, Fragment, Fields, OneOf, Items, Empty, structure}
 use Rattle.der_model.proofs.Answered.{spelled_is_whole, one_value}
 use Rattle.der_model.proofs.Continued.{front_more}
 use Rattle.der_model.proofs.ShownParts.{parts_then, first_part}
 use Rattle.der_model.proofs.ShownPieces.{instance_are, whole_shows_pieces, front_shows_pieces, show_one_pieces, parts_show_then}
 use Rattle.der_model.proofs.WholeValues.{values_of_whole, whole_values_of}
 use Rattle.der_model.proofs.OneFault.{nothing_over}
-use Rattle.der_model.proofs.PartsFront.{held_primitive}
 use Rattle.der_codec.specs.Checking.{HasFedDer, open_count}
 use Rattle.der_codec.specs.KeptPieces.{Shows}
 use Rattle.der_codec.specs.Levels.{inwards}
-use Rattle.der_codec.specs.Rooms.{contents_size, open_next, StaysOpen, IsEnough, BeginsEnough}
+use Rattle.der_codec.specs.Rooms.{contents_size, contents_come, open_next, StaysOpen, IsEnough, IsEnoughSoFar, BeginsEnough, ShowsEnough}
 use Rattle.der_codec.specs.declared.checker.DerChecker.{DerChecker}
 use Rattle.der_codec.specs.declared.room.Room.{Room}
 
@@ -180,18 +180,28 @@ stays_next m (AwaitsContents spot names count around) place depth (states.Conten
 stays_next m (Within (l ∷ ls)) place depth End ps st cl h = (let one : suc (length ls) - 1 ≡ length ls = omega arith in subst (λ z. StaysOpen depth z (without_lengths ps)) one h.1)
 stays_next m s place depth p ps st cl h = absurd st
 
-stays_front : (m : DerMessage ℕ) (s : State ℕ) (place depth : ℕ) (bytes : List ℕ) (ps later : List Part) (state : State ℕ) (at : ℕ) (rest : List ℕ) → DerFront m s place bytes ps state at rest → StaysOpen depth (open_count s) (without_lengths (ps ++ later)) → open_count state ≤ depth
-stays_front m s place depth bytes [] later state at rest (p, q, r) h = subst (λ z. open_count z ≤ depth) p (stays_first depth (open_count s) (without_lengths later) h)
-stays_front m s place depth bytes (p ∷ ps) later state at rest (after, is, st, up, cl, f) h =
-    stays_front m (state_after m s place p) (place + length (part_octets p)) depth after ps later state at rest f (stays_next m s place depth p (ps ++ later) st cl h)
+open_front : (m : DerMessage ℕ) (s : State ℕ) (place depth : ℕ) (bytes : List ℕ) (ps : List Part) (state : State ℕ) (at : ℕ) (rest : List ℕ) → DerFront m s place bytes ps state at rest → StaysOpen depth (open_count s) (without_lengths ps) → open_count state ≤ depth
+open_front m s place depth bytes [] state at rest (p, q, r) h = subst (λ z. open_count z ≤ depth) p h
+open_front m s place depth bytes (p ∷ ps) state at rest (after, is, st, up, cl, f) h =
+    open_front m (state_after m s place p) (place + length (part_octets p)) depth after ps state at rest f (stays_next m s place depth p ps st cl h)
+
+-- of the parts at the front
+stays_front : (depth n : ℕ) (ps later : List Part) → StaysOpen depth n (without_lengths (ps ++ later)) → StaysOpen depth n (without_lengths ps)
+stays_front depth n [] later h = stays_first depth n (without_lengths later) h
+stays_front depth n (Identifier b t ∷ ps) later h = (h.0, stays_front depth (suc n) ps later h.1)
+stays_front depth n (Length k ∷ ps) later h = stays_front depth n ps later h
+stays_front depth n (states.Contents o ∷ ps) later h = (h.0, stays_front depth (n - 1) ps later h.1)
+stays_front depth n (End ∷ ps) later h = (h.0, stays_front depth (n - 1) ps later h.1)
 
 -- ---- contents that are due
 
-due_contents : (m : DerMessage ℕ) (spot : Spot ℕ) (names : List PathName) (count : ℕ) (around : List (DerLevel ℕ)) (at : ℕ) (bytes : List ℕ) (later : List Part) (end : ℕ) → DerFront m (AwaitsContents spot names count around) at bytes later (Within []) end []
-    → (count ≤ contents_size later) × IsPrimitive (structure m spot)
-due_contents m spot names count around at bytes [] end (p, q, r) = absurd (let e : AwaitsContents spot names count around ≡ Within [] = p in cc)
-due_contents m spot names count around at bytes (states.Contents o ∷ later) end (after, is, st, up, cl, f) = (omega (arith, st), held_primitive m (structure m spot) o cl)
-due_contents m spot names count around at bytes (p ∷ later) end (after, is, st, up, cl, f) = absurd st
+come_small : (m : DerMessage ℕ) (state : State ℕ) (at : ℕ) (rest all : List ℕ) (later : List Part) (end : ℕ) → DerFront m state at all later (Within []) end [] → contents_come state rest ≤ contents_size later
+come_small m (AwaitsContents spot names count around) at rest all [] end (p, q, r) = absurd (let e : AwaitsContents spot names count around ≡ Within [] = p in cc)
+come_small m (AwaitsContents spot names count around) at rest all (states.Contents o ∷ later) end (after, is, st, up, cl, f) = (let few = length-take count rest in omega (arith, st, few))
+come_small m (AwaitsContents spot names count around) at rest all (p ∷ later) end (after, is, st, up, cl, f) = absurd st
+come_small m Start at rest all later end f = omega arith
+come_small m (AwaitsLength b spot names around) at rest all later end f = omega arith
+come_small m (Within levels) at rest all later end f = omega arith
 
 -- ---- what is kept
 
@@ -216,50 +226,55 @@ kept_front T checker bytes behind kept v sound h is short spelled =
 
 -- ---- what the room is enough for
 
--- The room is enough for what was read, which shows these pieces, and for the contents that are due.
-pub record FrontEnough (m : DerMessage ℕ) (room : Room) (state : State ℕ) (shown : List Piece) : Type 0 where
-  pub nodes : length shown ≤ room.nodes
-  pub bytes : bytes_of shown ≤ room.bytes
-  pub depth : open_count state ≤ room.depth
-  pub contents : (spot : Spot ℕ) (names : List PathName) (count : ℕ) (around : List (DerLevel ℕ)) → state ≡ AwaitsContents spot names count around → (count ≤ room.bytes) × IsPrimitive (structure m spot)
-
-pub front_enough : (T : Tables) (room : Room) (bytes more : List ℕ) (ps : List Part) (state : State ℕ) (at : ℕ) (rest : List ℕ) (shown : List Piece) → IsSoundDer (der_message T) → BeginsEnough T room (bytes ++ more) → DerFront (der_message T) Start 0 bytes ps state at rest
-    → PartsShow (der_message T) Start 0 ps shown → FrontEnough (der_message T) room state shown
-front_enough T room bytes more ps state at rest shown sound b front show = record {
-  nodes = (let e = ap length is_front.1 in let sum = length-append shown is_front.0 in let all = b.enough.nodes in omega (arith, e, sum, all));
-  bytes = (let few = parts_bytes m Start 0 ps shown show in let sum = contents_append ps f.later in let all = b.enough.bytes in let e = size in omega (arith, few, sum, all, e));
-  depth = stays_front m Start 0 room.depth bytes ps f.later state at rest front (subst (StaysOpen room.depth 0) (sym same) b.enough.depth);
-  contents = λ spot names count around e.
-      let d = due_contents m spot names count around at (rest ++ others) f.later whole.at (subst (λ z. DerFront m z at (rest ++ others) f.later (Within []) whole.at []) e f.front) in
-      (let few = d.0 in let sum = contents_append ps f.later in let all = b.enough.bytes in let e = size in omega (arith, few, sum, all, e), d.1);
-}
+-- Bytes that begin the DER of an instance show no more than it.
+pub begins_show : (T : Tables) (room : Room) (bytes : List ℕ) → IsSoundDer (der_message T) → BeginsEnough T room bytes → ShowsEnough T room bytes
+begins_show T room bytes sound b = record { plain = b.plain; enough = shows }
   where
     m : DerMessage ℕ
     m = der_message T
 
-    others : List ℕ
-    others = more ++ b.behind
-
     all : List ℕ
-    all = (bytes ++ more) ++ b.behind
+    all = bytes ++ b.behind
 
     parts : WholeParts T all b.value
     parts = whole_parts T all b.value sound b.short b.spelled
 
-    whole : IsWholeDer m all
-    whole = parts.whole
+    shows : (front behind : List ℕ) → bytes ≡ front ++ behind → (ps : List Part) (state : State ℕ) (at : ℕ) (rest : List ℕ) (shown : List Piece) → DerFront m Start 0 front ps state at rest → PartsShow m Start 0 ps shown
+        → IsEnoughSoFar room shown ps (contents_come state rest)
+    shows front behind is ps state at rest shown f show = record {
+      nodes = (let e = ap length is_front.1 in let sum = length-append shown is_front.0 in let few = b.enough.nodes in omega (arith, e, sum, few));
+      bytes = (let come = come_small m state at rest (rest ++ others) further_parts.later parts.whole.at further_parts.front in let sum = contents_append ps further_parts.later in let few = b.enough.bytes in let e = size in omega (arith, come, sum, few, e));
+      depth = stays_front room.depth 0 ps further_parts.later (subst (StaysOpen room.depth 0) (sym same) b.enough.depth);
+    }
+      where
+        others : List ℕ
+        others = behind ++ b.behind
 
-    f : Further m ps whole.parts state at (rest ++ others) whole.at
-    f = further m Start 0 all ps whole.parts state at (rest ++ others) whole.at (subst (λ z. DerFront m Start 0 z ps state at (rest ++ others)) (sym (append_assoc bytes more b.behind)) (front_more m Start 0 bytes ps state at rest others front)) whole.front
+        one : all ≡ front ++ others
+        one = ap (λ z. z ++ b.behind) is ∙ append_assoc front behind b.behind
 
-    same : without_lengths (ps ++ f.later) ≡ parts_of (der_values m b.value)
-    same = ap without_lengths (sym f.are) ∙ parts.are
+        further_parts : Further m ps parts.whole.parts state at (rest ++ others) parts.whole.at
+        further_parts = further m Start 0 all ps parts.whole.parts state at (rest ++ others) parts.whole.at (subst (λ z. DerFront m Start 0 z ps state at (rest ++ others)) (sym one) (front_more m Start 0 front ps state at rest others f)) parts.whole.front
 
-    size : contents_size (ps ++ f.later) ≡ contents_size (parts_of (der_values m b.value))
-    size = sym (contents_without (ps ++ f.later)) ∙ ap contents_size same
+        same : without_lengths (ps ++ further_parts.later) ≡ parts_of (der_values m b.value)
+        same = ap without_lengths (sym further_parts.are) ∙ parts.are
 
-    one : (bytes ++ more) ++ b.behind ≡ bytes ++ others
-    one = append_assoc bytes more b.behind
+        size : contents_size (ps ++ further_parts.later) ≡ contents_size (parts_of (der_values m b.value))
+        size = sym (contents_without (ps ++ further_parts.later)) ∙ ap contents_size same
 
-    is_front : (later : List Piece) × (pieces_of fragment T b.value ≡ shown ++ later)
-    is_front = shown_front T bytes others ps state at rest shown b.value sound (subst (λ z. length z < 2 ^ 63) one b.short) (subst (λ z. SpellsDer m z b.value) one b.spelled) front show
+        is_front : (later : List Piece) × (pieces_of fragment T b.value ≡ shown ++ later)
+        is_front = shown_front T front others ps state at rest shown b.value sound (subst (λ z. length z < 2 ^ 63) one b.short) (subst (λ z. SpellsDer m z b.value) one b.spelled) f show
+
+-- The room is enough for what was read, which shows these pieces, and for the octets that have come of contents that are due.
+pub record FrontEnough (room : Room) (state : State ℕ) (rest : List ℕ) (shown : List Piece) : Type 0 where
+  pub nodes : length shown ≤ room.nodes
+  pub bytes : bytes_of shown + contents_come state rest ≤ room.bytes
+  pub depth : open_count state ≤ room.depth
+
+pub front_enough : (T : Tables) (room : Room) (bytes more : List ℕ) (ps : List Part) (state : State ℕ) (at : ℕ) (rest : List ℕ) (shown : List Piece) → ShowsEnough T room (bytes ++ more) → DerFront (der_message T) Start 0 bytes ps state at rest
+    → PartsShow (der_message T) Start 0 ps shown → FrontEnough room state rest shown
+front_enough T room bytes more ps state at rest shown s front show =
+    let e = s.enough bytes more refl ps state at rest shown front show in
+    let few = parts_bytes (der_message T) Start 0 ps shown show in
+    let all = e.bytes in
+    record { nodes = e.nodes; bytes = omega (arith, few, all); depth = open_front (der_message T) Start 0 room.depth bytes ps state at rest front e.depth }

@@ -22,7 +22,7 @@ use Rattle.der_codec.specs.Decoding.{Reads, HasReadParts, IsOpenState, IsFresh, 
 use Rattle.der_codec.specs.Judging.{HoldsContents}
 use Rattle.der_codec.specs.KeptPieces.{Shows, KeepsShown, PiecesGoOn, AreLast, HoldsLeafAt, GoOnByLeaf, GoesOnByLast, EndsLeaf, around_of, begun_pieces}
 use Rattle.der_codec.specs.Levels.{IsSpot, IsLevel, AreLevels, inwards, rest_of}
-use Rattle.der_codec.specs.Reserved.{HasCheckAt, HasChecks, IsKeeping, HasEnough, HoldsMore, HoldMore, HoldBegun, HoldLeafWithin, HoldsWhole, IsPrimitiveAt}
+use Rattle.der_codec.specs.Reserved.{HasCheckAt, HasChecks, IsKeeping, HasEnough, HoldsMore, HoldMore, HoldBegun, HoldLeafWithin, HoldsWhole}
 use Rattle.der_codec.specs.inner.Entering.{HasBegunComponent, StandsFirst}
 use Rattle.der_codec.specs.declared.begun.Begun.{Begun}
 use Rattle.der_codec.specs.declared.checker.DerChecker.{DerChecker}
@@ -77,9 +77,9 @@ checks_less types few many c low h = λ n simple is wants. (let k = h n simple i
 pub kept_enough : (T : Tables) (c : DerChecker) (spot : Spot) (left : ℕ) (bytes front : List ℕ) → c.decoder.due ≡ due.Contents spot left → length front ≤ left → KeepsRead T c.decoder c.kept.items bytes → KeepsShown (der_message T) c.decoder c.pieces bytes → HasEnough c T (bytes ++ front)
     → length c.kept.items + length front ≤ c.room.bytes
 kept_enough T c spot left bytes front is few h shows e =
-    let all = (contents_enough T c spot left bytes front is h.0 shows e).0 in
+    let all = (contents_enough T c spot left bytes front is few h.0 shows e).0 in
     let kept = (kept_at T c.decoder.due spot left c.decoder.start bytes c.kept.items is h.1).few in
-    omega (arith, all, kept, few)
+    omega (arith, all, kept)
 
 abbrev fresh_tag : TagStep
 fresh_tag = record { come = 0; first = 0; high = 0 }
@@ -112,11 +112,11 @@ leaf_held T c spot left bytes front leaf is size h shows e at = hold_first c.pie
 pub whole_enough : (T : Tables) (c : DerChecker) (spot : Spot) (left : ℕ) (bytes front : List ℕ) → c.decoder.due ≡ due.Contents spot left → length front ≡ left → KeepsRead T c.decoder c.kept.items bytes → KeepsShown (der_message T) c.decoder c.pieces bytes → HasEnough c T (bytes ++ front)
     → HoldsWhole c T spot front
 whole_enough T c spot left bytes front is size h shows e =
-    let all = contents_enough T c spot left bytes front is h.0 shows e in
+    let all = contents_enough T c spot left bytes front is (omega (arith, size)) h.0 shows e in
     let few = kept_enough T c spot left bytes front is (omega (arith, size)) h shows e in
     let octets = e.keeping.reserved.octets in
     record {
-      plain = e.begins.plain;
+      plain = e.shows.plain;
       checks = checks_less (types_of T) (length c.kept.items + length front) c.room.bytes c few (e.keeping.reserved.checks all.2);
       room = omega (arith, few, octets);
       primitive = all.1;

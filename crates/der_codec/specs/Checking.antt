@@ -93,6 +93,12 @@ pub record ShowsDerFault (T : Tables) (bytes : List ℕ) (fault : Told) : Type 0
   pub has_fault : (behind : List ℕ) → DerFault (der_message T) (bytes ++ behind) (der_fault_of fault)
   pub no_cut : fault.rule ≢ DerTruncated
 
+-- The bytes have some first fault, whatever follows them, and it is not that they end too early.
+pub record HaveDerFault (T : Tables) (bytes : List ℕ) : Type 0 where
+  pub fault : FaultInDer
+  pub has_fault : (behind : List ℕ) → DerFault (der_message T) (bytes ++ behind) fault
+  pub no_cut : fault.rule ≢ DerTruncated
+
 -- why a checker does not go on
 abbrev pub DerStops : Tables → List ℕ → InstanceError → Type 0
 DerStops T bytes (Refused fault) = ShowsDerFault T bytes fault

@@ -1,5 +1,5 @@
 -- What a checker has reserved. Private functions alone cite this.
-use Rattle.std.specs.Prelude.{◌≡◌, ◌⊎◌, ℕ, ◌+◌, ◌<◌, ◌≤◌, ◌++◌, [], ◌∷◌, true, List, length, Option, Some, None, slice_get, vec_capacity}
+use Rattle.std.specs.Prelude.{◌≡◌, ◌⊎◌, ℕ, ◌+◌, ◌<◌, ◌≤◌, ◌++◌, [], ◌∷◌, true, false, List, length, Option, Some, None, slice_get, vec_capacity}
 use Rattle.std.specs.Global.{Vec, Box}
 use Rattle.std.specs.Option.{is_some}
 use Rattle.data_types.specs.Leaf.{Leaf}
@@ -11,18 +11,19 @@ use Rattle.facets.specs.declared.simple.Simple.{Simple}
 use Rattle.facets.specs.declared.leaf_verdict.LeafVerdict.{LeafVerdict}
 use Rattle.inst_pool.specs.Pieces.{Region, bytes_of}
 use Rattle.reference_check.specs.Forms.{Graph, text_type}
+use Rattle.message_model.specs.Sound.{AreLinked}
 use Rattle.message_model.specs.Tables.{Tables, types_of}
 use Rattle.der_model.specs.DerMessage.{DerMessage, der_message}
-use Rattle.der_model.specs.OpenParts.{IsPrimitive}
+use Rattle.der_model.specs.OpenParts.{IsPrimitiveOf}
 use Rattle.der_model.specs.Sound.{IsSoundDer}
 use Rattle.der_model.specs.Structures as structures
-use Rattle.der_model.specs.Structures.{structure}
+use Rattle.der_model.specs.Structures.{is_constructed}
 use Rattle.der_model.specs.ShownPieces.{begin_each, end_each}
 use Rattle.der_codec.specs.KeptPieces.{AreLast, HoldsLeafAt}
 use Rattle.der_codec.specs.declared.checker.DerChecker.{DerChecker}
 use Rattle.der_codec.specs.declared.checks.Checks.{Checks}
 use Rattle.der_codec.specs.Levels.{IsSpot}
-use Rattle.der_codec.specs.Rooms.{BeginsEnough, HasNoEnvelopes}
+use Rattle.der_codec.specs.Rooms.{ShowsEnough, HasNoEnvelopes}
 use Rattle.der_codec.specs.declared.level.Level.{Level}
 use Rattle.der_codec.specs.declared.level.Spot.{Spot}
 use Rattle.der_codec.specs.declared.room.Room.{Room}
@@ -89,11 +90,12 @@ pub record IsWidened (old new : DerChecker) : Type 0 where
   pub pieces : HasSamePieces old.pieces new.pieces
   pub failed : new.failed ≡ old.failed
 
--- The same, and the room is enough for the bytes, the last of which come now.
+-- The same, and the room is enough for what the bytes show, the last of which come now.
 pub record HasEnough (checker : DerChecker) (T : Tables) (bytes : List ℕ) : Type 0 where
   pub keeping : IsKeeping checker T
   pub sound : IsSoundDer (der_message T)
-  pub begins : BeginsEnough T checker.room bytes
+  pub linked : AreLinked T
+  pub shows : ShowsEnough T checker.room bytes
 
 -- the room for pieces does not shrink, where they are kept
 abbrev pub GrowsRoom : Option Region → Option Region → Type 0
@@ -128,14 +130,18 @@ abbrev pub HoldLeafWithin : DerMessage ℕ → Level → Leaf → Option Region 
 HoldLeafWithin m around leaf None = Unit {0}
 HoldLeafWithin m around leaf (Some old) = HoldsLeafWithin m around leaf old
 
--- a value that holds octets is at the spot
-abbrev pub IsPrimitiveAt : DerMessage ℕ → Spot → Type 0
-IsPrimitiveAt m spot = (of : structures.Spot ℕ) × IsSpot m.forms spot of × IsPrimitive (structure m of)
+-- the type of this number is not constructed, and is there
+abbrev pub IsPrimitiveType : Tables → ℕ → Type 0
+IsPrimitiveType T n = (is_constructed (types_of T n) ≡ false) × (n < length T.types)
+
+-- a primitive value is at the spot, of a type that is there
+abbrev pub IsPrimitiveAt : Tables → Spot → Type 0
+IsPrimitiveAt T spot = (of : structures.Spot ℕ) × IsSpot (types_of T) spot of × IsPrimitiveOf (λ n. n < length T.types) (der_message T) of
 
 -- The octets that are kept and these are contents at the spot, for which there is room, as for their leaf.
 pub record HoldsWhole (checker : DerChecker) (T : Tables) (spot : Spot) (front : List ℕ) : Type 0 where
   pub plain : HasNoEnvelopes (types_of T)
   pub checks : HasChecks (types_of T) (length checker.kept.items + length front) checker.checks
   pub room : length checker.kept.items + length front ≤ vec_capacity checker.kept
-  pub primitive : IsPrimitiveAt (der_message T) spot
+  pub primitive : IsPrimitiveAt T spot
   pub leaf : (leaf : Leaf) → HoldsLeafAt (der_message T) spot (checker.kept.items ++ front) leaf → HoldMore checker.pieces (Holds leaf ∷ [])

@@ -1,5 +1,5 @@
 -- What a reader of DER wants room for: the pieces of an instance, the contents octets of its primitive values, and the values that are open at one time.
-use Rattle.std.specs.Prelude.{◌≡◌, ℕ, suc, ◌+◌, ◌-◌, ◌<◌, ◌≤◌, ◌^◌, List, [], ◌∷◌, ◌++◌, length}
+use Rattle.std.specs.Prelude.{◌≡◌, ℕ, suc, ◌+◌, ◌-◌, ◌<◌, ◌≤◌, ◌^◌, List, [], ◌∷◌, ◌++◌, length, take}
 use Rattle.data_types.specs.Value.{Value, Piece}
 use Rattle.facets.specs.declared.simple.Simple.{Simple}
 use Rattle.fragments.specs.Fragment.{fragment}
@@ -7,8 +7,10 @@ use Rattle.reference_check.specs.Forms.{Graph, Envelope}
 use Rattle.message_model.specs.Tables.{Tables, types_of, pieces_of}
 use Rattle.der_model.specs.DerMessage.{der_message}
 use Rattle.der_model.specs.Der.{SpellsDer, der_values}
-use Rattle.der_model.specs.OpenParts.{parts_of}
-use Rattle.der_model.specs.States.{Part, Identifier, Length, End}
+use Rattle.der_model.specs.Faults.{DerFront}
+use Rattle.der_model.specs.OpenParts.{parts_of, without_lengths}
+use Rattle.der_model.specs.ShownPieces.{PartsShow}
+use Rattle.der_model.specs.States.{Part, Identifier, Length, End, State, Start, AwaitsContents}
 use Rattle.der_model.specs.States as states
 use Rattle.der_codec.specs.declared.room.Room.{Room}
 
@@ -50,3 +52,21 @@ pub record BeginsEnough (T : Tables) (room : Room) (bytes : List ℕ) : Type 0 w
   pub plain : HasNoEnvelopes (types_of T)
   pub spelled : SpellsDer (der_message T) (bytes ++ behind) value
   pub enough : IsEnough room (pieces_of fragment T value) (parts_of (der_values (der_message T) value))
+
+-- of the octets behind whole parts those that are contents that are due: no more than are due
+abbrev pub contents_come : {P : Type 0} → State P → List ℕ → ℕ
+contents_come (AwaitsContents spot names count around) rest = length (take count rest)
+contents_come state rest = 0
+
+-- the room is enough for what has come: these pieces, these parts, and so many octets of contents that are due
+pub record IsEnoughSoFar (room : Room) (pieces : List Piece) (parts : List Part) (come : ℕ) : Type 0 where
+  pub nodes : length pieces ≤ room.nodes
+  pub bytes : contents_size parts + come ≤ room.bytes
+  pub depth : StaysOpen room.depth 0 (without_lengths parts)
+
+-- The room is enough for what each front of the bytes shows, in a message without envelopes: for its whole parts, which break no rule, and their pieces,
+-- and for the octets that have come of contents that are not whole.
+pub record ShowsEnough (T : Tables) (room : Room) (bytes : List ℕ) : Type 0 where
+  pub plain : HasNoEnvelopes (types_of T)
+  pub enough : (front behind : List ℕ) → bytes ≡ front ++ behind → (parts : List Part) (state : State ℕ) (at : ℕ) (rest : List ℕ) (pieces : List Piece)
+      → DerFront (der_message T) Start 0 front parts state at rest → PartsShow (der_message T) Start 0 parts pieces → IsEnoughSoFar room pieces parts (contents_come state rest)

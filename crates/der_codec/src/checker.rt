@@ -1,5 +1,5 @@
 //! A checker of the DER of instances that takes their bytes in pieces.
-ghost use Rattle.std.specs.Prelude.{◌≡◌, ◌<◌, ◌+◌, ◌≤◌, ◌^◌, ◌++◌, ℕ, List, [], IsOk, IfOk, IfErr, IsErrOf, Some, None, Err, length, take};
+ghost use Rattle.std.specs.Prelude.{◌≡◌, ◌<◌, ◌+◌, ◌≤◌, ◌^◌, ◌++◌, ℕ, List, [], IfOk, IfErr, IsErrOf, Some, None, Err, length, take};
 ghost use Rattle.facets.specs.LeafChecks.{IsHeldWithin};
 ghost use Rattle.inst_pool.specs.Pieces.{Region};
 ghost use Rattle.message_model.specs.Tables.{Tables, types_of};
@@ -11,7 +11,7 @@ ghost use Rattle.der_codec.specs.Decoding.{HasReadParts, IsStopped, IsSettled, I
 ghost use Rattle.der_codec.specs.KeptPieces.{KeepsShown, AreNone};
 ghost use Rattle.der_codec.specs.Reserved.{IsKeeping, HasEnough};
 ghost use Rattle.der_codec.specs.Limits.{open_limit, leaf_come, token_come};
-ghost use Rattle.der_codec.specs.Checking.{HasFedDer, IsReading, IsDerCheckerFor, StopsWithin, TakesDerFront, DerStops, IsSpelledDer, DerEndsAs, IsFreed, open_count, der_bytes_fed, der_failure, held_contents, token_held};
+ghost use Rattle.der_codec.specs.Checking.{HasFedDer, IsReading, IsDerCheckerFor, StopsWithin, TakesDerFront, DerStops, HaveDerFault, IsSpelledDer, DerEndsAs, IsFreed, open_count, der_bytes_fed, der_failure, held_contents, token_held};
 
 use crate::checks::Checks;
 use crate::decoder::{Decoder, Due, Stop};
@@ -127,7 +127,7 @@ impl DerChecker {
         ensures freed { IfErr result (λ _. IsFreed self.new) }
         ensures keeps { IsKeeping self.old model.now → IfOk result (λ _. IsKeeping self.new model.now) }
         ensures room { IfOk result (λ _. self.new.room ≡ self.old.room) }
-        ensures memory { (bytes : List ℕ) → HasFedDer self.old model.now bytes → HasEnough self.old model.now (bytes ++ piece.now) → IsOk result }
+        ensures memory { (bytes : List ℕ) → HasFedDer self.old model.now bytes → HasEnough self.old model.now (bytes ++ piece.now) → IsErrOf result InstanceError.Memory → HaveDerFault model.now (bytes ++ piece.now) }
     {
         if let Some(error) = &self.failed {
             return Err(match error.copy(self.alloc) {

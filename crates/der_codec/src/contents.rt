@@ -10,7 +10,7 @@ ghost use Rattle.der_model.specs.Structures.{structure, Holds, Fragment};
 ghost use Rattle.der_model.specs.OpenParts.{IsPrimitive};
 ghost use Rattle.der_codec.specs.Checked.{CheckTypes};
 ghost use Rattle.der_codec.specs.KeptPieces.{HoldsLeafAt, GoesOnByLeaf, GoesOnByLast};
-ghost use Rattle.der_codec.specs.Reserved.{HasChecks, GrowsRoom, HoldMore, HoldLeafWithin, IsPrimitiveAt};
+ghost use Rattle.der_codec.specs.Reserved.{HasChecks, GrowsRoom, HoldMore, HoldLeafWithin, IsPrimitiveType, IsPrimitiveAt};
 ghost use Rattle.der_codec.specs.Rooms.{HasNoEnvelopes};
 ghost use Rattle.der_codec.specs.Judging.{HoldsContents, IsJudgedAt, IsJudgedFor, IsVerdictFor};
 
@@ -39,7 +39,7 @@ pub fn judge<'a>(
     ensures made { CheckTypes (types_of model.now) checks.new }
     ensures judged { IsJudgedFor (der_message model.now) spot octets.now result }
     ensures room { (bytes : ℕ) → HasChecks (types_of model.now) bytes checks.old → HasChecks (types_of model.now) bytes checks.new }
-    ensures within { (bytes : ℕ) → HasChecks (types_of model.now) bytes checks.old → HasNoEnvelopes (types_of model.now) → length octets.now ≤ bytes → IsPrimitiveAt (der_message model.now) spot → IsErrOf result Refusal.Memory → ⊥ }
+    ensures within { (bytes : ℕ) → HasChecks (types_of model.now) bytes checks.old → HasNoEnvelopes (types_of model.now) → length octets.now ≤ bytes → IsPrimitiveAt model.now spot → IsErrOf result Refusal.Memory → ⊥ }
 {
     let _ = model.type_count();
     match spot {
@@ -66,7 +66,7 @@ pub(crate) fn tell(
     ensures shown { IfOk result (λ _. GoesOnByLeaf (der_message model.now) spot octets.now pieces.old pieces.new) }
     ensures room { (bytes : ℕ) → HasChecks (types_of model.now) bytes checks.old → HasChecks (types_of model.now) bytes checks.new }
     ensures grows { GrowsRoom pieces.old pieces.new }
-    ensures within { (bytes : ℕ) → HasChecks (types_of model.now) bytes checks.old → HasNoEnvelopes (types_of model.now) → length octets.now ≤ bytes → IsPrimitiveAt (der_message model.now) spot
+    ensures within { (bytes : ℕ) → HasChecks (types_of model.now) bytes checks.old → HasNoEnvelopes (types_of model.now) → length octets.now ≤ bytes → IsPrimitiveAt model.now spot
         → ((leaf : Leaf) → HoldsLeafAt (der_message model.now) spot octets.now leaf → HoldMore pieces.old (HoldsPiece leaf ∷ [])) → IsErrOf result Refusal.Memory → ⊥ }
 {
     match judge(checks, model, spot, octets) {
@@ -135,7 +135,7 @@ fn judge_value<'a>(
     ensures made { CheckTypes (types_of model.now) checks.new }
     ensures judged { IsJudgedAt (der_message model.now) (structure (der_message model.now) (structures.Value number)) octets.now result }
     ensures room { (bytes : ℕ) → HasChecks (types_of model.now) bytes checks.old → HasChecks (types_of model.now) bytes checks.new }
-    ensures within { (bytes : ℕ) → HasChecks (types_of model.now) bytes checks.old → HasNoEnvelopes (types_of model.now) → length octets.now ≤ bytes → IsPrimitive (structure (der_message model.now) (structures.Value number)) → IsErrOf result Refusal.Memory → ⊥ }
+    ensures within { (bytes : ℕ) → HasChecks (types_of model.now) bytes checks.old → HasNoEnvelopes (types_of model.now) → length octets.now ≤ bytes → IsPrimitiveType model.now number → IsErrOf result Refusal.Memory → ⊥ }
 {
     let _ = model.type_count();
     match model.form(number) {

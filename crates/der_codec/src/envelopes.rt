@@ -1,5 +1,6 @@
 //! The fragments of envelopes, and the messages whose instances have them.
 ghost use Rattle.fragments.specs.Fragment.{fragment};
+ghost use Rattle.message_model.specs.Sound.{AreLinked};
 ghost use Rattle.der_model.specs.DerMessage.{der_message};
 ghost use Rattle.der_model.specs.Sound.{IsSoundDer, TellsApart};
 
@@ -12,9 +13,10 @@ pub(crate) fn fragments_apart()
     respell::laws::one_tree();
 }
 
-/// The message of a model breaks no rule, and its fragments tell trees apart.
+/// The message of a model breaks no rule, its fragments tell trees apart, and its elements lead to types that are there.
 pub(crate) fn is_sound(model: &Model)
-    ensures { IsSoundDer (der_message model.now) }
+    ensures sound { IsSoundDer (der_message model.now) }
+    ensures linked { AreLinked model.now }
 {
     let _ = model.type_count();
     respell::laws::one_tree();

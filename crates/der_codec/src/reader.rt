@@ -1,13 +1,13 @@
 //! A reader of the DER of instances that takes their bytes in pieces, and keeps the pieces of the instance.
-ghost use Rattle.std.specs.Prelude.{◌≡◌, ◌+◌, ◌≤◌, ◌^◌, ◌++◌, ℕ, List, [], IsOk, IfOk, IfErr, OnOk, OnErr, Some, None, Err, length};
+ghost use Rattle.std.specs.Prelude.{◌≡◌, ◌+◌, ◌≤◌, ◌^◌, ◌++◌, ℕ, List, [], IsOk, IfOk, IfErr, IsErrOf, OnOk, OnErr, Some, None, Err, length};
 ghost use Rattle.facets.specs.LeafChecks.{IsHeldWithin};
 ghost use Rattle.message_model.specs.Tables.{Tables};
 ghost use Rattle.message_model.specs.Errors.{IsAgain};
 ghost use Rattle.der_model.specs.DerMessage.{der_message};
-ghost use Rattle.der_codec.specs.Checking.{DerStops, DerEndsAs, open_count};
+ghost use Rattle.der_codec.specs.Checking.{DerStops, HaveDerFault, DerEndsAs, open_count};
 ghost use Rattle.der_codec.specs.Limits.{open_limit, leaf_come, token_come};
 ghost use Rattle.der_codec.specs.ReadInstances.{HasKeptPieces, IsDerReaderFor, IsReaderFreed, IsSpelledDerAs, read_so_far, der_reader_failure, reserved_room, reader_held, reader_token_held};
-ghost use Rattle.der_codec.specs.Rooms.{BeginsEnough};
+ghost use Rattle.der_codec.specs.Rooms.{BeginsEnough, ShowsEnough};
 
 use crate::checker::DerChecker;
 use crate::envelopes::is_sound;
@@ -35,8 +35,9 @@ impl DerReader {
         }
     }
 
-    /// Takes the memory for so much from the first byte on, in the place of what was reserved before: reading does not
-    /// want any while the room is enough, in a message without envelopes. Whatever the answer, what was read is as before.
+    /// Takes the memory for so much from the first byte on, in the place of what was reserved before: in a message without
+    /// envelopes reading does not want any while the room is enough for what the bytes so far have shown, save for the
+    /// path of a fault. Whatever the answer, what was read is as before.
     pub fn reserve(&mut self, model: &Model, room: Room) -> Result<(), AllocError>
         requires made { IsDerReaderFor self.old model.now }
         ensures made { IsDerReaderFor self.new model.now }
@@ -89,7 +90,8 @@ impl DerReader {
         ensures again { (e : InstanceError) → der_reader_failure self.old ≡ Some e → IsAgain e result × (der_reader_failure self.new ≡ der_reader_failure self.old) }
         ensures freed { IfErr result (λ _. IsReaderFreed self.new) }
         ensures room { IfOk result (λ _. reserved_room self.new ≡ reserved_room self.old) }
-        ensures memory { (bytes : List ℕ) → HasKeptPieces self.old model.now bytes → BeginsEnough model.now (reserved_room self.old) (bytes ++ piece.now) → IsOk result }
+        ensures memory { (bytes : List ℕ) → HasKeptPieces self.old model.now bytes → ShowsEnough model.now (reserved_room self.old) (bytes ++ piece.now) → IsErrOf result InstanceError.Memory → HaveDerFault model.now (bytes ++ piece.now) }
+        ensures fits { (bytes : List ℕ) → HasKeptPieces self.old model.now bytes → BeginsEnough model.now (reserved_room self.old) (bytes ++ piece.now) → IsOk result }
     {
         is_sound(model);
         self.checker.feed(model, piece)

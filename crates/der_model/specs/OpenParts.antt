@@ -3,7 +3,7 @@ use Rattle.std.specs.Prelude.{◌≡◌, ◌⊎◌, ℕ, suc, ◌+◌, ◌-◌, 
 use Rattle.der_octets.specs.Octets.{universal, Values, Nothing, Primitive, Constructed}
 use Rattle.reference_check.specs.Words.{UpTo}
 use Rattle.der_model.specs.DerMessage.{DerMessage}
-use Rattle.der_model.specs.Structures.{Spot, Instance, Component, Structure, Holds, Fields, OneOf, Items, structure}
+use Rattle.der_model.specs.Structures.{Spot, Instance, Value, NumberOf, Component, Structure, Holds, Fields, OneOf, Items, is_constructed, number_structure, structure}
 use Rattle.der_model.specs.States.{Part, Identifier, Length, End}
 use Rattle.der_model.specs.States as states
 use Rattle.der_model.specs.Faults.{IsHeldIn}
@@ -42,6 +42,12 @@ components_of _ = []
 abbrev pub IsPrimitive : {P : Type 0} → Structure P → Type 0
 IsPrimitive (Holds contents) = Unit {0}
 IsPrimitive _ = ⊥
+
+-- the spot of a primitive value: of a type that is not constructed, of which this is so; or of the number of an amount
+abbrev pub IsPrimitiveOf : {P : Type 0} → (P → Type 0) → DerMessage P → Spot P → Type 0
+IsPrimitiveOf Has m (Value p) = (is_constructed (m.forms p) ≡ false) × Has p
+IsPrimitiveOf Has m (NumberOf p) = IsPrimitive (number_structure (m.forms p))
+IsPrimitiveOf Has m spot = ⊥
 
 -- The values are those of these components, each under its tag. Of their parts and the end behind them so many have come: contents that have come fit.
 abbrev pub ValuesSoFar : {P : Type 0} → DerMessage P → ℕ → Structure P → List ℕ → Values → Type 0

@@ -2,7 +2,7 @@ use Rattle.std.proofs.Common.{rules, ◌≡◌, ◌++◌, None, ap}
 use Rattle.std.specs.Prelude.{Err}
 use Rattle.der_codec.specs.Checking.{der_failure}
 use Rattle.der_codec.proofs.Fed.{count_is, stops_same}
-use Rattle.der_codec.proofs.Keeping.{never_stops}
+use Rattle.der_codec.proofs.Keeping.{stop_shows}
 use Rattle.der_codec.proofs.checker.DerChecker.feed.Goals as goal
 
 pub returns-in-Ok-feed_all-clause-count : goal.returns-in-Ok-feed_all-clause-count
@@ -16,6 +16,6 @@ returns-in-Err-feed_all-clause-err c = λ bytes h.
     stops_same c.args.model.now (bytes ++ c.args.piece.now) c.told-error.result c.stop.result c.stop.ensures.same (c.told-error.ensures.within (bytes ++ c.args.piece.now) (c.in-Err-feed_all.ensures.err bytes h))
 
 pub returns-in-Err-feed_all-clause-memory : goal.returns-in-Err-feed_all-clause-memory
-returns-in-Err-feed_all-clause-memory c = λ bytes h e.
+returns-in-Err-feed_all-clause-memory c = λ bytes h e is.
     let h2 = c.in-Err-feed_all.ensures in
-    absurd (never_stops c.args.model.now c.args.self.now c.feed_all.new.self.decoder (bytes ++ c.args.piece.now) c.in-Err-feed_all.stop e (h2.err bytes h) (λ is. h2.memory bytes h e (ap Err is)))
+    stop_shows c.args.model.now c.feed_all.new.self.decoder (bytes ++ c.args.piece.now) c.in-Err-feed_all.stop (h2.err bytes h) (λ none. h2.memory bytes h e (ap Err none))
