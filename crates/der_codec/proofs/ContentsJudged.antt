@@ -1,5 +1,5 @@
 -- Contents in a value, by those of its simple type.
-use Rattle.std.proofs.Common.{◌≡◌, ℕ, false, List, Option, None, Some, Result, Ok, Err, refl, sym, ap, subst, Bor}
+use Rattle.std.proofs.Common.{◌≡◌, ℕ, List, Some, Result, Ok, Err, refl, sym, ap, subst, Bor}
 use Rattle.data_types.specs.Leaf.{Leaf}
 use Rattle.data_types.specs.declared.leaf.LeafRef.{LeafRef}
 use Rattle.facets.specs.declared.simple.Simple.{Simple}
@@ -10,8 +10,7 @@ use Rattle.message_model.specs.declared.model.Form.{Form}
 use Rattle.message_model.specs.declared.model.Form.TheVariants as form
 use Rattle.der_model.specs.DerMessage.{DerMessage}
 use Rattle.der_model.specs.Faults.{IsHeldIn}
-use Rattle.der_model.specs.OpenParts.{IsPrimitive}
-use Rattle.der_model.specs.Structures.{Structure, Holds, LeafOf, Fragment, is_constructed, form_structure, number_structure}
+use Rattle.der_model.specs.Structures.{Structure, Holds, LeafOf, Fragment, form_structure, number_structure}
 use Rattle.der_codec.specs.Judging.{IsJudged, HoldsLeaf, IsJudgedAt}
 use Rattle.der_codec.specs.Rooms.{HasNoEnvelopes}
 use Rattle.der_codec.specs.declared.checks.Refusal.TheVariants as refused
@@ -48,26 +47,6 @@ pub holds : (m : DerMessage ℕ) (s : Structure ℕ) (octets : List ℕ) (leaf :
 holds m (Holds (LeafOf simple)) octets leaf h = (leaf, h)
 holds m (Holds Fragment) octets leaf h = h.0
 holds m s octets leaf h = absurd h
-
--- a type that is there, and is no leaf, is constructed
-pub no_value : (o : Option Form) (f : graph.Form ℕ Simple) → IsFormOf o f → ((told : Bor Simple) → o ≡ Some (form.Simple told) → ⊥) → (o ≡ Some form.Envelope → ⊥) → (o ≡ None → ⊥) → is_constructed f ≡ false → ⊥
-no_value (Some (form.Simple told)) f is simple envelope none h = simple told refl
-no_value (Some form.Envelope) f is simple envelope none h = envelope refl
-no_value (Some form.Sequence) (graph.Sequence slots) is simple envelope none h = absurd cc
-no_value (Some form.Choice) (graph.Choice slots) is simple envelope none h = absurd cc
-no_value (Some (form.Money told base)) (graph.Money code number) is simple envelope none h = absurd cc
-no_value None graph.Missing is simple envelope none h = none refl
-no_value o f is simple envelope none h = absurd is
-
--- a type that is no amount has no number
-pub no_number : (o : Option Form) (f : graph.Form ℕ Simple) → IsFormOf o f → ((told : ℕ) (base : Bor Simple) → o ≡ Some (form.Money told base) → ⊥) → IsPrimitive (number_structure f) → ⊥
-no_number (Some (form.Money told base)) f is money h = money told base refl
-no_number (Some (form.Simple told)) (graph.Simple simple) is money h = h
-no_number (Some form.Envelope) graph.Envelope is money h = h
-no_number (Some form.Sequence) (graph.Sequence slots) is money h = h
-no_number (Some form.Choice) (graph.Choice slots) is money h = h
-no_number None graph.Missing is money h = h
-no_number o f is money h = absurd is
 
 pub no_envelope : (g : Graph ℕ Simple) (p : ℕ) → HasNoEnvelopes g → IsFormOf (Some form.Envelope) (g p) → ⊥
 no_envelope g p none is = none p (envelope_is (g p) is)

@@ -9,7 +9,7 @@ use Rattle.reference_check.specs.Words.{UpTo}
 use Rattle.der_model.specs.DerMessage.{DerMessage}
 use Rattle.der_model.specs.Structures.{structure}
 use Rattle.der_model.specs.States as states
-use Rattle.der_model.specs.States.{Part, Identifier, Length, End, Contents, part_octets, State, Start, AwaitsLength, AwaitsContents, Within, level_end, level_answer, begun_state, names_in, state_after, Stands}
+use Rattle.der_model.specs.States.{Part, Identifier, Length, End, Contents, part_octets, State, Start, AwaitsLength, AwaitsContents, Within, level_end, begun_state, state_after, Stands}
 use Rattle.der_model.specs.Faults.{DerFront, broken, IsCleanPart, IsHeldIn, BreaksIn}
 use Rattle.der_model.proofs.Continued.{front_more}
 use Rattle.der_model.proofs.WholeValues.{front_then}

@@ -5,7 +5,7 @@ use Rattle.facets.specs.declared.simple.Simple.{Simple}
 use Rattle.der_octets.specs.TagSteps as tags
 use Rattle.der_octets.specs.LengthSteps as lengths
 use Rattle.reference_check.specs.Forms as graph
-use Rattle.reference_check.specs.Forms.{Graph, text_type}
+use Rattle.reference_check.specs.Forms.{Graph}
 use Rattle.message_model.specs.Sound.{AreSound, HaveSortedCodes}
 use Rattle.message_model.specs.Tables.{Tables, types_of}
 use Rattle.message_model.specs.Views.{IsFormOf}

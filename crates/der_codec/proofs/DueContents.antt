@@ -7,7 +7,7 @@ use Rattle.message_model.specs.Sound.{AreLinked}
 use Rattle.message_model.specs.Tables.{Tables, types_of}
 use Rattle.der_model.specs.DerMessage.{DerMessage, der_message}
 use Rattle.der_model.specs.Faults.{DerFront, IsCleanPart}
-use Rattle.der_model.specs.OpenParts.{IsPrimitiveOf}
+use Rattle.der_model.specs.OpenParts.{IsPrimitiveSpot}
 use Rattle.der_model.specs.Sound.{IsSoundDer}
 use Rattle.der_model.specs.States.{Part, Identifier, Length, End, part_octets, DerLevel, State, Start, AwaitsLength, AwaitsContents, Within, begun_state, state_after, Stands}
 use Rattle.der_model.specs.States as states
@@ -29,8 +29,8 @@ module _ (T : Tables) (sound : IsSoundDer (der_message T)) (linked : AreLinked T
   -- Primitive values that have begun are of types that are there, and so are the items of lists that are open.
   abbrev pub IsOfThere : State ℕ → Type 0
   IsOfThere Start = Unit {0}
-  IsOfThere (AwaitsLength b spot names around) = OfType IsThere spot × (b ≡ false → IsPrimitiveOf IsThere m spot) × AreThere around
-  IsOfThere (AwaitsContents spot names count around) = IsPrimitiveOf IsThere m spot × AreThere around
+  IsOfThere (AwaitsLength b spot names around) = OfType IsThere spot × (b ≡ false → IsPrimitiveSpot IsThere m spot) × AreThere around
+  IsOfThere (AwaitsContents spot names count around) = IsPrimitiveSpot IsThere m spot × AreThere around
   IsOfThere (Within levels) = AreThere levels
 
   simple_there : (n : ℕ) (simple : Simple) → types_of T n ≡ form.Simple simple → IsThere n

@@ -1,9 +1,8 @@
 -- Room for pieces, and for more behind them.
-use Rattle.std.specs.Prelude.{Result, Ok, Err, IsOk, OnOk}
-use Rattle.std.proofs.Common.{◌≡◌, ℕ, ◌+◌, ◌-◌, ◌≤◌, ◌<◌, List, [], ◌∷◌, ◌++◌, length, Option, Some, None, refl, ap, ◌∙◌, arith, append_assoc, length-append}
+use Rattle.std.proofs.Common.{◌≡◌, ◌+◌, ◌-◌, ◌≤◌, ◌<◌, List, [], ◌∷◌, ◌++◌, length, Option, Some, None, refl, ap, ◌∙◌, arith, append_assoc, length-append}
 use Rattle.data_types.specs.Leaf.{Leaf, octet_count}
-use Rattle.data_types.specs.Value.{Edge, Piece, Begins, Holds, Ends}
-use Rattle.inst_pool.specs.Pieces.{Region, bytes_of, piece_bytes, spare_nodes, spare_bytes}
+use Rattle.data_types.specs.Value.{Piece, Holds}
+use Rattle.inst_pool.specs.Pieces.{Region, bytes_of, spare_nodes, spare_bytes}
 use Rattle.inst_pool.proofs.ContentLemmas.{bytes_of-append}
 use Rattle.inst_pool.specs.declared.piece.Edge.{Edge as Told}
 use Rattle.der_model.specs.ShownPieces.{begin_each, end_each}

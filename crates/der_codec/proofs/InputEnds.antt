@@ -8,7 +8,7 @@ use Rattle.der_model.specs.States.{State, Start, AwaitsContents, Within, innermo
 use Rattle.der_model.specs.Der.{SpellsDer}
 use Rattle.der_model.specs.Sound.{IsSoundDer}
 use Rattle.der_model.specs.Faults as faults
-use Rattle.der_model.specs.Faults.{DerFront, NextPart, cut, short, trailing, IsHeaderFront, FaultInDer, DerFault}
+use Rattle.der_model.specs.Faults.{DerFront, NextPart, cut, short, trailing, FaultInDer, DerFault}
 use Rattle.der_model.proofs.Answered.{whole_is_spelled}
 use Rattle.der_model.proofs.SoundMessages.{are_sorted}
 use Rattle.der_model.proofs.Continued.{front_more, Waits, only_cut}

@@ -1,12 +1,10 @@
 -- What is reserved is kept, and is enough: of a checker that goes on, and of what it is given.
-use Rattle.std.proofs.Common.{◌≡◌, ℕ, ◌+◌, ◌≤◌, ◌<◌, false, true, List, [], ◌∷◌, ◌++◌, length, drop, take, Option, Some, None, refl, sym, ap, ◌∙◌, subst, arith, append_assoc, append-nil, length-append}
+use Rattle.std.proofs.Common.{◌≡◌, ℕ, ◌+◌, ◌≤◌, ◌<◌, false, true, List, [], ◌++◌, length, drop, Option, Some, None, refl, sym, ap, ◌∙◌, subst, arith, append_assoc, append-nil, length-append}
 use Rattle.std.proofs.lemmas.List.{take_all}
 use Rattle.std.specs.Prelude.{vec_capacity, Result, Ok, Err, IsOk, IfOk, IfErr, IsErrOf}
 use Rattle.std.specs.Global.{Vec}
-use Rattle.lexical_core.specs.declared.rule.Rule.TheVariants.{DerTruncated}
 use Rattle.data_types.specs.Value.{Piece}
 use Rattle.facets.specs.declared.simple.Simple.{Simple}
-use Rattle.der_octets.specs.declared.tag_step.TagStep.{TagStep}
 use Rattle.inst_pool.specs.Pieces.{Region, bytes_of}
 use Rattle.reference_check.specs.Forms.{Graph}
 use Rattle.message_model.specs.Tables.{Tables, types_of}
@@ -17,10 +15,8 @@ use Rattle.der_model.specs.DerMessage.{DerMessage, der_message}
 use Rattle.der_model.specs.Faults.{FaultInDer, DerFault}
 use Rattle.der_model.specs.Sound.{IsSoundDer}
 use Rattle.der_model.specs.Paths.{path_of}
-use Rattle.der_model.specs.ShownPieces.{PartsShow, begin_each, end_each, elements_ended}
-use Rattle.der_model.specs.States as states
-use Rattle.der_model.specs.States.{State, Start, AwaitsLength, AwaitsContents, Within}
-use Rattle.der_model.specs.Structures as structures
+use Rattle.der_model.specs.ShownPieces.{PartsShow}
+use Rattle.der_model.specs.States.{State, Start, AwaitsContents}
 use Rattle.der_model.proofs.Answered.{spelled_has_none}
 use Rattle.der_model.proofs.Continued.{fault_stays, front_more}
 use Rattle.der_model.proofs.ShownPieces.{parts_show_then}
@@ -28,8 +24,8 @@ use Rattle.der_codec.specs.Checking.{StopsWithin, DerStops, HaveDerFault, open_c
 use Rattle.der_codec.specs.Components.{added_text}
 use Rattle.der_codec.specs.Decoding.{Reads, HasReadParts, IsOpenState, IsBegun, IsFull, IsLengthDue, due_depth}
 use Rattle.der_codec.specs.KeptPieces.{Shows, KeepsShown}
-use Rattle.der_codec.specs.Levels.{IsSpot, inwards}
-use Rattle.der_codec.specs.Reserved.{HasChecks, AreReserved, GrowsRoom, IsKeeping, HasEnough, HoldsMore, HoldMore, IsPrimitiveAt}
+use Rattle.der_codec.specs.Levels.{inwards}
+use Rattle.der_codec.specs.Reserved.{HasChecks, GrowsRoom, IsKeeping, HasEnough, HoldsMore, HoldMore, IsPrimitiveAt}
 use Rattle.der_codec.specs.Rooms.{BeginsEnough, ShowsEnough}
 use Rattle.der_codec.specs.declared.checker.DerChecker.{DerChecker}
 use Rattle.der_codec.specs.declared.checks.Checks.{Checks}

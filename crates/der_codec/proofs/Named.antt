@@ -4,9 +4,9 @@ use Rattle.std.specs.Prelude.{if◌then◌else◌, slice_get}
 use Rattle.der_octets.specs.Octets.{Tag}
 use Rattle.reference_check.specs.Steps.{has_room}
 use Rattle.der_model.specs.DerMessage.{DerMessage}
-use Rattle.der_model.specs.Structures.{Component, Label, Structure, Holds, Fields, OneOf, Items, Empty, structure}
+use Rattle.der_model.specs.Structures.{Component, Structure, Holds, Fields, OneOf, Items, Empty, structure}
 use Rattle.der_model.specs.States as states
-use Rattle.der_model.specs.States.{Part, Identifier, Length, End, part_octets, DerLevel, State, Start, AwaitsLength, AwaitsContents, Within, IdentifierAnswer, Begins, Breaks, is_under, field_answer, any_answer, identifier_answer, next_number, skipping, level_answer, begun_state, names_in, state_after, Stands}
+use Rattle.der_model.specs.States.{Part, Identifier, Length, End, part_octets, State, Start, AwaitsLength, AwaitsContents, Within, IdentifierAnswer, Begins, is_under, field_answer, any_answer, identifier_answer, next_number, skipping, begun_state, state_after, Stands}
 use Rattle.der_model.specs.Faults.{DerFront, IsCleanPart}
 use Rattle.der_model.specs.OpenParts.{components_of}
 use Rattle.der_model.proofs.BegunSlots.{no_begin}

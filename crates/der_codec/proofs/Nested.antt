@@ -6,7 +6,7 @@ use Rattle.reference_check.specs.Words.{UpTo}
 use Rattle.der_model.specs.DerMessage.{DerMessage}
 use Rattle.der_model.specs.Structures.{structure}
 use Rattle.der_model.specs.States as states
-use Rattle.der_model.specs.States.{Part, Identifier, Length, End, part_octets, DerLevel, State, Start, AwaitsLength, AwaitsContents, Within, IdentifierAnswer, level_answer, begun_state, names_in, state_after, innermost_end, level_end, Stands, end_from}
+use Rattle.der_model.specs.States.{Part, Identifier, Length, End, part_octets, DerLevel, State, Start, AwaitsLength, AwaitsContents, Within, level_answer, begun_state, names_in, state_after, innermost_end, level_end, Stands, end_from}
 use Rattle.der_model.specs.Faults.{DerFront, IsCleanPart}
 use Rattle.der_codec.specs.inner.Nesting.{AreNested, IsNested}
 use Rattle.der_codec.specs.Decoding.{IsOpenState, IsBegun, Reads, IsBelowEnd, IsFresh, IsOctetAwaited, IsWaiting, end_of_first}

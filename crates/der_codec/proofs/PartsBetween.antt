@@ -14,7 +14,7 @@ use Rattle.der_octets.proofs.TagStepLemmas.{taken_none}
 use Rattle.der_model.specs.DerMessage.{DerMessage}
 use Rattle.der_model.specs.Structures as structures
 use Rattle.der_model.specs.States as states
-use Rattle.der_model.specs.States.{Part, Identifier, Length, End, part_octets, PathName, State, Start, AwaitsLength, AwaitsContents, Within, innermost_end, state_after}
+use Rattle.der_model.specs.States.{Part, Identifier, Length, End, part_octets, PathName, State, Start, AwaitsLength, AwaitsContents, Within, state_after}
 use Rattle.der_model.specs.Faults.{DerFront}
 use Rattle.der_model.proofs.Lists.{shorter_front}
 use Rattle.der_model.proofs.OnePart.{one_part}

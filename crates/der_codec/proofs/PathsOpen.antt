@@ -3,10 +3,10 @@ use Rattle.std.proofs.Common.{◌≡◌, ℕ, zero, suc, ◌<◌, ◌-◌, Bool,
 use Rattle.std.specs.Prelude.{slice_get, if◌then◌else◌, codes}
 use Rattle.facets.specs.declared.simple.Simple.{Simple}
 use Rattle.reference_check.specs.Forms as graph
-use Rattle.reference_check.specs.Forms.{Graph, form_slots}
+use Rattle.reference_check.specs.Forms.{Graph}
 use Rattle.der_model.specs.DerMessage.{DerMessage}
 use Rattle.der_model.specs.Structures as structures
-use Rattle.der_model.specs.Structures.{Component, Label, Element, Listed, Unnamed, is_single, component, components, item_components, amount_components, form_structure, number_structure, structure}
+use Rattle.der_model.specs.Structures.{Element, Listed, is_single, component, components, item_components, amount_components, form_structure, number_structure, structure}
 use Rattle.der_model.specs.States as states
 use Rattle.der_model.specs.States.{PathName, Numbered, ListName, State, Start, AwaitsLength, AwaitsContents, Within, label_names, next_number}
 use Rattle.der_model.specs.Paths.{path_text, path_of, names_of}

@@ -2,7 +2,7 @@
 use Rattle.std.specs.Prelude.{Result, Ok, Err, OnOk, IfOk}
 use Rattle.std.proofs.Common.{◌≡◌, List, [], ◌∷◌, ◌++◌, Option, Some, None, refl, ap, ◌∙◌, drop, reverse}
 use Rattle.data_types.specs.Leaf.{Leaf}
-use Rattle.data_types.specs.Value.{Edge, Piece, Begins, Holds, Ends}
+use Rattle.data_types.specs.Value.{Edge, Piece, Holds, Ends}
 use Rattle.inst_pool.specs.Pieces.{open_in, edges_open_behind}
 use Rattle.inst_pool.specs.declared.piece.Edge.{Edge as Told}
 use Rattle.inst_pool.proofs.ContentLemmas.{open-append}

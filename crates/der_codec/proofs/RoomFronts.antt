@@ -1,18 +1,17 @@
 -- What the room is enough for. Bytes that begin the DER of an instance show a front of its pieces and of its parts.
-use Rattle.std.proofs.Common.{◌≡◌, ℕ, suc, ◌+◌, ◌-◌, ◌≤◌, ◌<◌, ◌^◌, true, false, List, [], ◌∷◌, ◌++◌, length, Option, Some, None, Ok, refl, sym, ap, ◌∙◌, subst, arith, append_assoc, length-append}
+use Rattle.std.proofs.Common.{◌≡◌, ℕ, suc, ◌+◌, ◌-◌, ◌≤◌, ◌<◌, ◌^◌, true, false, List, [], ◌∷◌, ◌++◌, length, Option, Some, None, refl, sym, ap, ◌∙◌, subst, arith, append_assoc, length-append}
 use Rattle.std.proofs.lemmas.List.{length-take}
 use Rattle.data_types.specs.Leaf.{Leaf, Bytes, Number, Flag, Code, octet_count}
 use Rattle.data_types.specs.Value.{Value, Edge, Piece}
 use Rattle.data_types.specs.Value as value
 use Rattle.data_types.specs.declared.kind.Kind.{Kind}
 use Rattle.data_types.specs.declared.kind.Kind.TheVariants as kind
-use Rattle.facets.specs.declared.simple.Simple.{Simple}
-use Rattle.der_octets.specs.Octets.{Values, Nothing, Primitive, Constructed, octets, universal}
+use Rattle.der_octets.specs.Octets.{Values, Nothing, Primitive, Constructed, universal}
 use Rattle.der_octets.proofs.OneReading.{octets_same}
 use Rattle.fragments.specs.Fragment.{fragment}
 use Rattle.inst_pool.specs.Pieces.{Region, bytes_of}
 use Rattle.inst_pool.proofs.ContentLemmas.{bytes_of-append}
-use Rattle.message_model.specs.Tables.{Tables, types_of, pieces_of}
+use Rattle.message_model.specs.Tables.{Tables, pieces_of}
 use Rattle.der_model.specs.DerMessage.{DerMessage, der_message}
 use Rattle.der_model.specs.Der.{SpellsDer, der_values}
 use Rattle.der_model.specs.Faults.{DerFront, IsWholeDer, IsCleanPart}
@@ -20,9 +19,8 @@ use Rattle.der_model.specs.LeafContents.{IsContents}
 use Rattle.der_model.specs.OpenParts.{parts_of, without_lengths}
 use Rattle.der_model.specs.ShownPieces.{PartShows, PartsShow, IsLeafIn, begin_each, end_each, elements_ended}
 use Rattle.der_model.specs.Sound.{IsSoundDer}
-use Rattle.der_model.specs.States.{Part, Identifier, Length, End, part_octets, State, Start, AwaitsLength, AwaitsContents, Within, begun_state, level_answer, state_after, Stands}
+use Rattle.der_model.specs.States.{Part, Identifier, Length, End, part_octets, State, Start, AwaitsLength, AwaitsContents, Within, begun_state, state_after, Stands}
 use Rattle.der_model.specs.States as states
-use Rattle.der_model.specs.Structures as structures
 use Rattle.der_model.specs.Structures.{Structure, Holds, LeafOf, Fragment, Fields, OneOf, Items, Empty, structure}
 use Rattle.der_model.proofs.Answered.{spelled_is_whole, one_value}
 use Rattle.der_model.proofs.Continued.{front_more}
@@ -33,7 +31,7 @@ use Rattle.der_model.proofs.OneFault.{nothing_over}
 use Rattle.der_codec.specs.Checking.{HasFedDer, open_count}
 use Rattle.der_codec.specs.KeptPieces.{Shows}
 use Rattle.der_codec.specs.Levels.{inwards}
-use Rattle.der_codec.specs.Rooms.{contents_size, contents_come, open_next, StaysOpen, IsEnough, IsEnoughSoFar, BeginsEnough, ShowsEnough}
+use Rattle.der_codec.specs.Rooms.{contents_size, contents_come, StaysOpen, IsEnoughSoFar, BeginsEnough, ShowsEnough}
 use Rattle.der_codec.specs.declared.checker.DerChecker.{DerChecker}
 use Rattle.der_codec.specs.declared.room.Room.{Room}
 

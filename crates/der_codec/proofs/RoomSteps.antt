@@ -1,9 +1,8 @@
 -- Where a step of a checker wants room, there is some.
-use Rattle.std.proofs.Common.{◌≡◌, ℕ, suc, ◌+◌, ◌-◌, ◌≤◌, ◌<◌, Bool, false, true, List, [], ◌∷◌, ◌++◌, length, drop, take, Option, Some, None, refl, sym, ap, ◌∙◌, subst, arith}
-use Rattle.std.specs.Prelude.{vec_capacity, slice_get}
+use Rattle.std.proofs.Common.{◌≡◌, ℕ, suc, ◌+◌, ◌-◌, ◌≤◌, ◌<◌, Bool, false, List, [], ◌∷◌, ◌++◌, length, drop, take, Option, Some, None, refl, sym, ap, ◌∙◌, subst, arith}
 use Rattle.std.specs.Vec.{with_item}
 use Rattle.data_types.specs.Leaf.{Leaf}
-use Rattle.data_types.specs.Value.{Edge, Piece, Holds}
+use Rattle.data_types.specs.Value.{Piece, Holds}
 use Rattle.facets.specs.declared.simple.Simple.{Simple}
 use Rattle.der_octets.specs.declared.length_step.LengthStep.{LengthStep}
 use Rattle.der_octets.specs.declared.tag_step.TagStep.{TagStep}
@@ -14,22 +13,20 @@ use Rattle.message_model.specs.Tables.{Tables, types_of}
 use Rattle.der_model.specs.DerMessage.{DerMessage, der_message}
 use Rattle.der_model.specs.ShownPieces.{begin_each, end_each, elements_ended, last_elements}
 use Rattle.der_model.specs.States as states
-use Rattle.der_model.specs.States.{State, Start, AwaitsLength, AwaitsContents, Within, next_number}
+use Rattle.der_model.specs.States.{State, AwaitsLength, next_number}
 use Rattle.der_model.specs.Structures as structures
 use Rattle.der_model.specs.Structures.{structure}
 use Rattle.der_codec.specs.Checking.{HasFedDer, KeepsRead, open_count}
-use Rattle.der_codec.specs.Decoding.{Reads, HasReadParts, IsOpenState, IsFresh, IsRefusedAs, IsBelowEnd, IsSettled, BeginsContents, due_depth, end_of_levels, end_of_first}
-use Rattle.der_codec.specs.Judging.{HoldsContents}
-use Rattle.der_codec.specs.KeptPieces.{Shows, KeepsShown, PiecesGoOn, AreLast, HoldsLeafAt, GoOnByLeaf, GoesOnByLast, EndsLeaf, around_of, begun_pieces}
-use Rattle.der_codec.specs.Levels.{IsSpot, IsLevel, AreLevels, inwards, rest_of}
-use Rattle.der_codec.specs.Reserved.{HasCheckAt, HasChecks, IsKeeping, HasEnough, HoldsMore, HoldMore, HoldBegun, HoldLeafWithin, HoldsWhole}
+use Rattle.der_codec.specs.Decoding.{Reads, HasReadParts, IsOpenState, IsRefusedAs, IsBelowEnd, IsSettled, BeginsContents, end_of_levels}
+use Rattle.der_codec.specs.KeptPieces.{Shows, KeepsShown, PiecesGoOn, HoldsLeafAt, GoOnByLeaf, GoesOnByLast, EndsLeaf, around_of, begun_pieces}
+use Rattle.der_codec.specs.Levels.{IsSpot, AreLevels, inwards, rest_of}
+use Rattle.der_codec.specs.Reserved.{HasChecks, HasEnough, HoldsMore, HoldMore, HoldBegun, HoldLeafWithin, HoldsWhole}
 use Rattle.der_codec.specs.inner.Entering.{HasBegunComponent, StandsFirst}
 use Rattle.der_codec.specs.declared.begun.Begun.{Begun}
 use Rattle.der_codec.specs.declared.checker.DerChecker.{DerChecker}
 use Rattle.der_codec.specs.declared.checks.Refusal.{Refusal}
 use Rattle.der_codec.specs.declared.checks.Refusal.TheVariants as refused
 use Rattle.der_codec.specs.declared.decoder.Decoder.{Decoder}
-use Rattle.der_codec.specs.declared.decoder.Due.{Due}
 use Rattle.der_codec.specs.declared.decoder.Due.TheVariants as due
 use Rattle.der_codec.specs.declared.decoder.Stop.{Stop}
 use Rattle.der_codec.specs.declared.decoder.Stop.TheVariants as stop

@@ -12,7 +12,7 @@ use Rattle.der_model.specs.DerMessage.{DerMessage}
 use Rattle.der_model.specs.Structures as structures
 use Rattle.der_model.specs.Structures.{structure, Structure, Holds as HoldsOctets, Fields, OneOf, Items, Empty, LeafOf, Fragment}
 use Rattle.der_model.specs.States as states
-use Rattle.der_model.specs.States.{Part, Identifier, Length, End, part_octets, PathName, Numbered, State, Start, AwaitsLength, AwaitsContents, Within, level_answer, begun_state, names_in, end_from}
+use Rattle.der_model.specs.States.{Part, Identifier, Length, End, PathName, Numbered, State, Start, AwaitsLength, AwaitsContents, Within, level_answer, begun_state, names_in, end_from}
 use Rattle.der_model.specs.Faults.{DerFront}
 use Rattle.der_model.specs.ShownPieces.{PartsShow, IsLeafIn, begin_each, end_each, elements_begun, elements_ended}
 use Rattle.der_model.specs.NestedPieces.{open_elements, elements_around}

@@ -13,9 +13,9 @@ use Rattle.der_octets.proofs.TagStepLemmas.{taken_none}
 use Rattle.reference_check.specs.Words.{UpTo}
 use Rattle.der_model.specs.Structures as structures
 use Rattle.der_model.specs.DerMessage.{DerMessage}
-use Rattle.der_model.specs.Structures.{Component, structure}
+use Rattle.der_model.specs.Structures.{structure}
 use Rattle.der_model.specs.States as states
-use Rattle.der_model.specs.States.{Part, Identifier, Length, End, part_octets, PathName, State, Start, AwaitsLength, AwaitsContents, Within, IdentifierAnswer, level_answer, begun_state, names_in, state_after, innermost_end, level_end, IsHeader, Stands, end_from, next_number, is_under, end_answer, EndAnswer, Fine, EndBreaks}
+use Rattle.der_model.specs.States.{Identifier, Length, End, State, Start, AwaitsLength, AwaitsContents, Within, IdentifierAnswer, level_answer, begun_state, names_in, innermost_end, level_end, end_from, is_under, end_answer, EndAnswer, Fine, EndBreaks}
 use Rattle.der_model.specs.Faults.{DerFront, broken, halts, overruns, IsHeaderFront, IsNoHeader, header_rule, outermost}
 use Rattle.der_model.proofs.Continued.{front_more}
 use Rattle.der_model.proofs.WholeValues.{front_then, under_same}

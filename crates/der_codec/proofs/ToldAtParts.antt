@@ -18,7 +18,7 @@ use Rattle.der_model.specs.Laws.{TablesAreSound}
 use Rattle.der_model.specs.OpenLaws.{PartIsOpen, BrokenPartIsNotOpen, FrontIsOpen, KeepsLength}
 use Rattle.der_model.specs.Sound.{IsSoundDer, TellsApart}
 use Rattle.der_model.specs.States as states
-use Rattle.der_model.specs.States.{Part, Identifier, Length, End, State, Start, AwaitsLength, AwaitsContents, Within, Stands}
+use Rattle.der_model.specs.States.{Part, Identifier, Length, End, State, Start, AwaitsLength, AwaitsContents, Within}
 use Rattle.der_codec.specs.ReadyLaws.{IsOnValues, IsToldAtPart, ReadyDerTellsAtOnce, ReadyFedDerIsOpen, ReadyFaultIsAtPart}
 
 -- ---- the rules that are not on values

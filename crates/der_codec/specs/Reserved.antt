@@ -14,7 +14,7 @@ use Rattle.reference_check.specs.Forms.{Graph, text_type}
 use Rattle.message_model.specs.Sound.{AreLinked}
 use Rattle.message_model.specs.Tables.{Tables, types_of}
 use Rattle.der_model.specs.DerMessage.{DerMessage, der_message}
-use Rattle.der_model.specs.OpenParts.{IsPrimitiveOf}
+use Rattle.der_model.specs.OpenParts.{IsPrimitiveSpot}
 use Rattle.der_model.specs.Sound.{IsSoundDer}
 use Rattle.der_model.specs.Structures as structures
 use Rattle.der_model.specs.Structures.{is_constructed}
@@ -136,7 +136,7 @@ IsPrimitiveType T n = (is_constructed (types_of T n) ≡ false) × (n < length T
 
 -- a primitive value is at the spot, of a type that is there
 abbrev pub IsPrimitiveAt : Tables → Spot → Type 0
-IsPrimitiveAt T spot = (of : structures.Spot ℕ) × IsSpot (types_of T) spot of × IsPrimitiveOf (λ n. n < length T.types) (der_message T) of
+IsPrimitiveAt T spot = (of : structures.Spot ℕ) × IsSpot (types_of T) spot of × IsPrimitiveSpot (λ n. n < length T.types) (der_message T) of
 
 -- The octets that are kept and these are contents at the spot, for which there is room, as for their leaf.
 pub record HoldsWhole (checker : DerChecker) (T : Tables) (spot : Spot) (front : List ℕ) : Type 0 where

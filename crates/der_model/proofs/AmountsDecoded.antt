@@ -4,7 +4,7 @@ use Rattle.std.specs.Prelude.{codes}
 use Rattle.std.proofs.lemmas.Bool.{cond-true, cond-false}
 use Rattle.data_types.specs.Leaf.{Leaf}
 use Rattle.data_types.specs.Leaf as leaf
-use Rattle.data_types.specs.Value.{Value, Children}
+use Rattle.data_types.specs.Value.{Value}
 use Rattle.data_types.specs.Value as value
 use Rattle.data_types.specs.declared.kind.Kind.{Kind}
 use Rattle.data_types.specs.declared.kind.Kind.TheVariants as kind
@@ -12,12 +12,12 @@ use Rattle.facets.specs.LeafUnder.{Fits}
 use Rattle.facets.specs.declared.simple.Simple.{Simple}
 use Rattle.der_octets.specs.Octets.{Tag, context, Values, Nothing, Primitive, Constructed}
 use Rattle.der_octets.proofs.OneReading.{not_false}
-use Rattle.reference_check.specs.Forms.{Graph, Form, Slot, form_slots}
+use Rattle.reference_check.specs.Forms.{Form, Slot}
 use Rattle.reference_check.specs.Forms as form
 use Rattle.message_model.specs.Admits.{FitsCode}
 use Rattle.der_model.specs.LeafContents.{leaf_contents, IsContents, IsDecimalContents}
 use Rattle.der_model.specs.DerMessage.{DerMessage}
-use Rattle.der_model.specs.Structures.{Spot, Instance, ListOf, Label, Component, PrimitiveContents, LeafOf, Fragment, Structure, Holds, Fields, OneOf, Items, Empty, structure, form_structure, component, components, item_components, amount_components, number_structure, is_one, is_single, is_constructed, universal_tag}
+use Rattle.der_model.specs.Structures.{Component, LeafOf, Holds, Fields, OneOf, structure, form_structure, components, amount_components, number_structure, is_constructed}
 use Rattle.der_model.specs.Structures as structures
 use Rattle.der_model.specs.Der.{Inner}
 use Rattle.der_model.specs.States.{Begins, is_under, field_answer}

@@ -1,11 +1,10 @@
 -- The laws of DER and its first faults.
 use Rattle.std.proofs.Common.{◌≡◌, ℕ, ◌^◌, ◌<◌, List, [], ◌++◌, length, refl, sym, ap, ◌∙◌, subst, arith}
 use Rattle.std.specs.Prelude.{Ok, Err}
-use Rattle.data_types.specs.Value.{Value, Children}
+use Rattle.data_types.specs.Value.{Value}
 use Rattle.data_types.specs.Value as value
 use Rattle.der_octets.specs.Octets.{universal, Values, Nothing, Constructed, octets}
 use Rattle.der_octets.proofs.OneReading.{octets_same, no_front}
-use Rattle.reference_check.specs.Forms.{Graph, Form, Slot, form_slots}
 use Rattle.reference_check.specs.Forms as form
 use Rattle.message_model.specs.Admits.{AdmitsAs}
 use Rattle.der_model.specs.DerMessage.{DerMessage}

@@ -1,7 +1,6 @@
 -- The elements of a message that breaks no rule lead to types of kinds that instances have.
-use Rattle.std.proofs.Common.{◌≡◌, ℕ, List, map, Option, Some, None, refl, sym, subst, ◌∙◌, inl}
+use Rattle.std.proofs.Common.{◌≡◌, ℕ, List, Option, Some, None, refl, sym, subst, inl}
 use Rattle.std.specs.Prelude.{slice_get}
-use Rattle.std.specs.Option.{option_map}
 use Rattle.facets.specs.declared.simple.Simple.{Simple}
 use Rattle.repo_objects.specs.declared.objects.MessageDef.{MessageDef}
 use Rattle.repo_objects.specs.declared.objects.Object.{Object}
@@ -10,7 +9,7 @@ use Rattle.repo_objects.specs.declared.objects.Kinds.TheVariants as kinds
 use Rattle.repo_objects.specs.declared.objects.ObjectKind.{ObjectKind}
 use Rattle.repo_objects.specs.declared.objects.ObjectKind.TheVariants as object
 use Rattle.repo_objects.specs.Repository.{Contents}
-use Rattle.reference_check.specs.Forms.{Form, Slot, form_slots, form_to, slot_to}
+use Rattle.reference_check.specs.Forms.{Form, form_slots, form_to, slot_to}
 use Rattle.reference_check.specs.Forms as form
 use Rattle.reference_check.specs.Graph.{Place, document, message, entry, nowhere, find_message, simple_form, object_form, entry_form, message_form}
 use Rattle.reference_check.specs.Reach.{Reaches, itself}

@@ -3,18 +3,18 @@ use Rattle.std.proofs.Common.{◌≡◌, ℕ, zero, suc, ◌+◌, ◌≤◌, ◌
 use Rattle.std.specs.Prelude.{◌==◌, slice_get}
 use Rattle.std.proofs.lemmas.Bool.Decides.{nat_tests}
 use Rattle.std.proofs.lemmas.Bool.{cond-true, cond-false}
-use Rattle.data_types.specs.Value.{Value, Children}
+use Rattle.data_types.specs.Value.{Value}
 use Rattle.data_types.specs.Value as value
 use Rattle.facets.specs.declared.simple.Simple.{Simple}
 use Rattle.der_octets.specs.Octets.{Tag, context, Values, Nothing, Primitive, Constructed}
-use Rattle.reference_check.specs.Forms.{Graph, Form, Slot, form_slots}
+use Rattle.reference_check.specs.Forms.{Form, Slot}
 use Rattle.reference_check.specs.Forms as form
 use Rattle.reference_check.specs.Words.{UpTo, MayComeTimes}
 use Rattle.reference_check.specs.Steps.{has_room}
 use Rattle.message_model.specs.Admits.{numbers_of}
 use Rattle.message_model.specs.Sound.{IsNoOption}
 use Rattle.der_model.specs.DerMessage.{DerMessage}
-use Rattle.der_model.specs.Structures.{Spot, Instance, ListOf, Label, Component, PrimitiveContents, LeafOf, Fragment, Structure, Holds, Fields, OneOf, Items, Empty, structure, form_structure, component, components, item_components, amount_components, number_structure, is_one, is_single, is_constructed, universal_tag}
+use Rattle.der_model.specs.Structures.{Component, Fields, OneOf, Items, structure, form_structure, component, components, item_components, is_single, is_constructed, universal_tag}
 use Rattle.der_model.specs.Structures as structures
 use Rattle.der_model.specs.Der.{Body, Octets, Inner, under, item, slot_values, alternative, values_at}
 use Rattle.der_model.specs.States.{Begins, is_under, any_answer, next_number}

@@ -13,7 +13,7 @@ use Rattle.facets.specs.LeafUnder.{HasSortedCodes}
 use Rattle.facets.specs.LeafChecks.{IsWithinLimits}
 use Rattle.facets.specs.declared.simple.Simple.{Simple}
 use Rattle.der_octets.specs.Octets.{universal, context, identifier, length_octets, wrapped}
-use Rattle.reference_check.specs.Forms.{Form, Slot, form_slots, text_type}
+use Rattle.reference_check.specs.Forms.{Slot}
 use Rattle.reference_check.specs.Forms as form
 use Rattle.reference_check.specs.Words.{UpTo}
 use Rattle.reference_check.specs.Steps.{find_slot, has_room}

@@ -9,7 +9,7 @@ use Rattle.data_types.specs.Value.{Value, Children}
 use Rattle.data_types.specs.Value as value
 use Rattle.facets.specs.declared.simple.Simple.{Simple}
 use Rattle.der_octets.specs.Octets.{context, Values, Nothing}
-use Rattle.reference_check.specs.Forms.{Graph, Form, Slot, form_slots}
+use Rattle.reference_check.specs.Forms.{Graph, Form, Slot}
 use Rattle.reference_check.specs.Forms as form
 use Rattle.reference_check.specs.Words.{times, UpTo, MayComeTimes, IsOrderedFrom}
 use Rattle.reference_check.proofs.Words.{times-replicate, times-append}

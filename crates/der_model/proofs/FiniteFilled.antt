@@ -1,19 +1,19 @@
 -- Where each type has a structure, each value that may stand in an instance can be filled.
-use Rattle.std.proofs.Common.{◌≡◌, ℕ, zero, suc, ◌+◌, ◌-◌, ◌≤◌, ◌<◌, Bool, true, false, List, [], ◌∷◌, length, replicate, Some, refl, sym, subst, arith, eqb, ◌⊎◌, inl, inr, ◌≢◌}
-use Rattle.std.specs.Prelude.{slice_get, ◌==◌, cond, nat_lt, if◌then◌else◌}
+use Rattle.std.proofs.Common.{◌≡◌, ℕ, zero, suc, ◌+◌, ◌-◌, ◌<◌, Bool, true, false, List, [], ◌∷◌, length, replicate, Some, refl, sym, subst, arith, ◌⊎◌, inl, inr}
+use Rattle.std.specs.Prelude.{slice_get, nat_lt}
 use Rattle.std.specs.List.{AllByRecursion}
 use Rattle.std.proofs.lemmas.List.{length-replicate}
 use Rattle.facets.specs.declared.simple.Simple.{Simple}
 use Rattle.der_octets.specs.Octets.{context, Values, Nothing, Primitive, Constructed}
 use Rattle.reference_check.specs.Forms.{Graph, Form, Slot, form_slots}
 use Rattle.reference_check.specs.Forms as form
-use Rattle.reference_check.specs.Words.{times, UpTo, MayComeTimes}
+use Rattle.reference_check.specs.Words.{UpTo}
 use Rattle.reference_check.proofs.FiniteForms.{finite_in}
 use Rattle.reference_check.specs.Shapes as shaped
-use Rattle.reference_check.specs.Shapes.{HasShape, HaveShapes, IsFinite, AreFinite, IsReached, MayBeFound, numbers_in}
+use Rattle.reference_check.specs.Shapes.{IsFinite, AreFinite, IsReached, MayBeFound}
 use Rattle.message_model.specs.Sound.{IsNoOption}
 use Rattle.der_model.specs.DerMessage.{DerMessage}
-use Rattle.der_model.specs.Structures.{Spot, Instance, Component, Structure, Holds, Fields, OneOf, Items, Empty, structure, form_structure, number_structure, component, components, item_components, amount_components, is_single, is_constructed, universal_tag, Element, Listed, Unnamed}
+use Rattle.der_model.specs.Structures.{Spot, Instance, Component, Structure, Fields, OneOf, Items, structure, form_structure, number_structure, component, components, item_components, amount_components, is_single, is_constructed, universal_tag, Unnamed}
 use Rattle.der_model.specs.Structures as structures
 use Rattle.der_model.specs.Sound.{IsSoundDer}
 use Rattle.der_model.proofs.SoundMessages.{IsAmount, no_options, bounds_of, amounts_of}

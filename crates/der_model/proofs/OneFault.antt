@@ -6,7 +6,7 @@ use Rattle.data_types.specs.Leaf.{Leaf}
 use Rattle.reference_check.specs.Words.{UpTo}
 use Rattle.der_model.specs.DerMessage.{DerMessage}
 use Rattle.der_model.specs.Structures.{Spot, LeafOf, Fragment, Structure, Holds, Fields, OneOf, Items, Empty, structure, Component}
-use Rattle.der_model.specs.States.{Part, Identifier, Length, End, part_octets, DerLevel, State, Start, AwaitsLength, AwaitsContents, Within, PathName, IdentifierAnswer, Begins, Breaks, EndAnswer, Fine, EndBreaks, level_answer, end_answer, state_after, innermost_end, IsHeader, Stands}
+use Rattle.der_model.specs.States.{Part, Identifier, Length, End, part_octets, DerLevel, State, Start, AwaitsLength, AwaitsContents, Within, PathName, IdentifierAnswer, Begins, Breaks, EndAnswer, Fine, EndBreaks, state_after, innermost_end, IsHeader, Stands}
 use Rattle.der_model.specs.States as states
 use Rattle.der_model.specs.Paths.{path_of}
 use Rattle.der_model.specs.Faults.{IsHeldIn, BreaksIn, IsCleanPart, BreaksRule, DerFront, IsHeaderFront, IsNoHeader, NextPart, broken, halts, overruns, cut, short, trailing, FaultInDer, DerFault, IsWholeDer}

@@ -3,7 +3,7 @@ use Rattle.std.proofs.Common.{◌≡◌, ℕ, ◌<◌, Bool, List, [], ◌∷◌
 use Rattle.std.proofs.lemmas.Bool.{cases_lt}
 use Rattle.der_octets.specs.Octets.{Tag, identifier, length_octets}
 use Rattle.der_octets.proofs.Headers.{identifier_end, length_octets_end, same_front}
-use Rattle.der_model.specs.States.{Part, Identifier, Length, End, part_octets, DerLevel, State, Start, AwaitsLength, AwaitsContents, Within, innermost_end, IsHeader, Stands}
+use Rattle.der_model.specs.States.{Part, Identifier, Length, End, part_octets, State, Start, AwaitsLength, AwaitsContents, Within, IsHeader, Stands}
 use Rattle.der_model.specs.States as states
 use Rattle.der_model.specs.Faults.{IsHeaderFront, IsNoHeader}
 use Rattle.der_model.proofs.Lists.{shorter_front}

@@ -1,15 +1,14 @@
 -- Parts that break nothing are those that go on to an instance.
 use Rattle.std.proofs.Common.{◌≡◌, ℕ, zero, suc, ◌+◌, ◌-◌, ◌≤◌, ◌<◌, Bool, true, false, List, [], ◌∷◌, ◌++◌, length, Some, refl, sym, ap, ◌∙◌, arith, inl, inr}
-use Rattle.std.specs.Prelude.{◌↔◌, slice_get, map}
-use Rattle.std.specs.List.{AllByRecursion}
+use Rattle.std.specs.Prelude.{slice_get}
 use Rattle.facets.specs.declared.simple.Simple.{Simple}
 use Rattle.der_octets.specs.Octets.{Tag, universal, context, Values, Nothing, Primitive, Constructed}
 use Rattle.reference_check.specs.Forms.{Graph, Form, Slot}
 use Rattle.reference_check.specs.Forms as form
 use Rattle.der_model.specs.DerMessage.{DerMessage}
-use Rattle.der_model.specs.Structures.{Spot, Instance, Component, Structure, Holds, Fields, OneOf, Items, Empty, structure, form_structure, number_structure, components, item_components, amount_components}
+use Rattle.der_model.specs.Structures.{Spot, Instance, Component, Structure, structure, form_structure, number_structure, components, item_components, amount_components}
 use Rattle.der_model.specs.Structures as structures
-use Rattle.der_model.specs.States.{Part, Identifier, Length, End, DerLevel, State, Start, AwaitsLength, AwaitsContents, Within, IdentifierAnswer, Begins, Breaks, Fine, is_under, identifier_answer, level_answer, end_answer, begun_state, state_after, Stands as PartStands, innermost_end, end_from, part_octets}
+use Rattle.der_model.specs.States.{Part, Identifier, End, Begins, is_under}
 use Rattle.der_model.specs.States as states
 use Rattle.der_model.specs.Faults.{outermost}
 use Rattle.der_model.specs.OpenParts.{parts_of, MayHoldComponents, components_of, IsPrimitive, ValuesSoFar, ArePartsOpen, HasValues, IsFilled, AreFilled, Occurs, outermost as first, within}

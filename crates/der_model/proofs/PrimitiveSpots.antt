@@ -3,12 +3,12 @@ use Rattle.std.proofs.Common.{◌≡◌, ℕ, zero, suc, Bool, true, false, List
 use Rattle.std.specs.Prelude.{slice_get}
 use Rattle.facets.specs.declared.simple.Simple.{Simple}
 use Rattle.der_octets.specs.Octets.{Tag}
-use Rattle.reference_check.specs.Forms.{Graph, Form, Slot, form_slots}
+use Rattle.reference_check.specs.Forms.{Form, Slot, form_slots}
 use Rattle.reference_check.specs.Forms as form
 use Rattle.der_model.specs.DerMessage.{DerMessage}
 use Rattle.der_model.specs.Structures.{Spot, Instance, Value, ListOf, NumberOf, Component, Unnamed, is_single, is_constructed, universal_tag, component, components, item_components, amount_components, form_structure, number_structure, structure}
 use Rattle.der_model.specs.States.{Begins, identifier_answer}
-use Rattle.der_model.specs.OpenParts.{IsPrimitive, IsPrimitiveOf, components_of}
+use Rattle.der_model.specs.OpenParts.{IsPrimitive, IsPrimitiveSpot, components_of}
 use Rattle.der_model.specs.Sound.{IsSoundDer}
 use Rattle.der_model.specs.SomeAnswers.{HasKind, HaveKinds}
 use Rattle.der_model.proofs.OneLevel.{begins_remains}
@@ -26,7 +26,7 @@ module _ {P : Type 0} (m : DerMessage P) (sound : IsSoundDer m) (Has : P → Typ
     (targets_have : (p : P) (k : ℕ) (s : Slot P) → slice_get (form_slots (m.forms p)) k ≡ Some s → Has s.target) where
   -- a component of such a type, where it is primitive
   abbrev Good : Component P → Type 0
-  Good c = OfType Has c.spot × (c.constructed ≡ false → IsPrimitiveOf Has m c.spot)
+  Good c = OfType Has c.spot × (c.constructed ≡ false → IsPrimitiveSpot Has m c.spot)
 
   slot_good : (p : P) (k : ℕ) (s : Slot P) → Has s.target → Good (component m.forms p k s)
   slot_good p k s has = go (is_single s) refl
@@ -43,10 +43,10 @@ module _ {P : Type 0} (m : DerMessage P) (sound : IsSoundDer m) (Has : P → Typ
   targets : (p : P) (f : Form P Simple) → m.forms p ≡ f → (k : ℕ) (s : Slot P) → slice_get (form_slots f) k ≡ Some s → Has s.target
   targets p f at k s = subst (λ (z : Form P Simple). slice_get (form_slots z) k ≡ Some s → Has s.target) at (targets_have p k s)
 
-  code_primitive : (p c : P) (number : Simple) → m.forms p ≡ form.Money c number → IsPrimitiveOf Has m (Value c)
+  code_primitive : (p c : P) (number : Simple) → m.forms p ≡ form.Money c number → IsPrimitiveSpot Has m (Value c)
   code_primitive p c number at = go (sound.codes p c number at)
     where
-      go : (simple : Simple) × (m.forms c ≡ form.Simple simple) → IsPrimitiveOf Has m (Value c)
+      go : (simple : Simple) × (m.forms c ≡ form.Simple simple) → IsPrimitiveSpot Has m (Value c)
       go (simple, e) = (ap is_constructed e, simple_has c simple e)
 
   amount_good : (p c : P) (number : Simple) → m.forms p ≡ form.Money c number → (k : ℕ) (d : Component P) → slice_get (amount_components p c) k ≡ Some d → Good d
@@ -101,7 +101,7 @@ module _ {P : Type 0} (m : DerMessage P) (sound : IsSoundDer m) (Has : P → Typ
 
   -- what identifier octets begin is of such a type, and primitive where they are those of a primitive value
   pub begun_of : (spot : Spot P) → OfType Has spot → (came : List ℕ) (b : Bool) (t : Tag) (k : ℕ) (c : Component P) → identifier_answer (structure m spot) came b t ≡ Begins k c
-      → OfType Has c.spot × (b ≡ false → IsPrimitiveOf Has m c.spot)
+      → OfType Has c.spot × (b ≡ false → IsPrimitiveSpot Has m c.spot)
   begun_of spot has came b t k c e =
       let r = begins_remains (structure m spot) came b t k c e in
       let good = component_good spot has k c r.0 in
@@ -117,7 +117,7 @@ module _ {P : Type 0} (m : DerMessage P) (sound : IsSoundDer m) (kinds : HaveKin
   form_primitive p form.LeftOut kind e = absurd kind
   form_primitive p form.Missing kind e = absurd kind
 
-  spot_primitive : (spot : Spot P) → IsPrimitiveOf (λ p. HasKind (m.forms p)) m spot → IsPrimitive (structure m spot)
+  spot_primitive : (spot : Spot P) → IsPrimitiveSpot (λ p. HasKind (m.forms p)) m spot → IsPrimitive (structure m spot)
   spot_primitive (Value p) h = form_primitive p (m.forms p) h.1 h.0
   spot_primitive (NumberOf p) h = h
   spot_primitive Instance h = absurd h

@@ -7,7 +7,7 @@ use Rattle.der_octets.specs.Octets.{Tag, Values, Nothing, Primitive, Constructed
 use Rattle.der_octets.proofs.Headers.{some_identifier}
 use Rattle.der_model.specs.DerMessage.{DerMessage}
 use Rattle.der_model.specs.Structures.{Spot, Component, structure}
-use Rattle.der_model.specs.States.{Part, Identifier, Length, End, part_octets, DerLevel, State, AwaitsLength, AwaitsContents, Within, IdentifierAnswer, Begins, begun_state, level_answer, identifier_answer, end_from, names_in, state_after, Stands}
+use Rattle.der_model.specs.States.{Part, Identifier, Length, End, part_octets, DerLevel, State, AwaitsLength, AwaitsContents, Within, Begins, begun_state, level_answer, identifier_answer, end_from, names_in, state_after, Stands}
 use Rattle.der_model.specs.States as states
 use Rattle.der_model.specs.Faults.{DerFront}
 use Rattle.der_model.specs.inner.Conforms.{Conforms, AreShort}

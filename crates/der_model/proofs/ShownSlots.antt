@@ -2,11 +2,11 @@
 use Rattle.std.proofs.Common.{◌≡◌, ℕ, Bool, true, false, List, [], ◌∷◌, ◌++◌, length, Some, refl, sym, ap, ◌∙◌, subst, arith, append_assoc, append-nil}
 use Rattle.std.specs.Prelude.{slice_get}
 use Rattle.data_types.specs.Leaf.{Leaf}
-use Rattle.data_types.specs.Value.{Piece, Edge, Children}
+use Rattle.data_types.specs.Value.{Piece, Edge}
 use Rattle.data_types.specs.Value as value
 use Rattle.facets.specs.declared.simple.Simple.{Simple}
 use Rattle.der_octets.specs.Octets.{Tag, context, Values, Nothing}
-use Rattle.reference_check.specs.Forms.{Graph, Form, Slot, form_slots}
+use Rattle.reference_check.specs.Forms.{Form, Slot, form_slots}
 use Rattle.reference_check.specs.Forms as form
 use Rattle.reference_check.specs.Steps.{has_room}
 use Rattle.message_model.specs.Tables.{edge_at}

@@ -18,7 +18,7 @@ use Rattle.message_model.specs.Tables.{pieces, child_pieces}
 use Rattle.message_model.specs.Sound.{IsNoOption}
 use Rattle.der_model.specs.LeafContents.{leaf_contents}
 use Rattle.der_model.specs.DerMessage.{DerMessage}
-use Rattle.der_model.specs.Structures.{Spot, Instance, NumberOf, Component, LeafOf, Structure, Holds, structure, form_structure, number_structure, is_single}
+use Rattle.der_model.specs.Structures.{Instance, Component, LeafOf, Holds, structure, form_structure, number_structure}
 use Rattle.der_model.specs.Structures as structures
 use Rattle.der_model.specs.Der.{inner_of, slot_values, body, values_at}
 use Rattle.der_model.specs.States.{Begins, identifier_answer}

@@ -1,7 +1,7 @@
 -- Messages whose elements lead to types of kinds that instances have.
 use Rattle.std.proofs.Common.{◌≡◌, ℕ, zero, suc, [], ◌∷◌, Some, refl, subst}
 use Rattle.facets.specs.declared.simple.Simple.{Simple}
-use Rattle.reference_check.specs.Forms.{Graph, Form, Slot, form_slots}
+use Rattle.reference_check.specs.Forms.{Graph, Form, Slot}
 use Rattle.reference_check.specs.Forms as form
 use Rattle.reference_check.specs.Shapes.{Shape, HasShape, AreFinite}
 use Rattle.der_model.specs.SomeAnswers.{HasKind, HaveKinds}

@@ -9,7 +9,7 @@ use Rattle.data_types.specs.Value.{Value, Children}
 use Rattle.data_types.specs.Value as value
 use Rattle.facets.specs.declared.simple.Simple.{Simple}
 use Rattle.der_octets.specs.Octets.{Tag, context, Values, Nothing, Primitive, Constructed, then_values}
-use Rattle.reference_check.specs.Forms.{Graph, Form, Slot}
+use Rattle.reference_check.specs.Forms.{Form, Slot}
 use Rattle.reference_check.specs.Forms as form
 use Rattle.reference_check.specs.Words.{times, UpTo, MayComeTimes}
 use Rattle.reference_check.specs.Steps.{has_room}
@@ -19,7 +19,7 @@ use Rattle.message_model.specs.Admits.{AdmitsAs, AdmitsChildren, FitsCode}
 use Rattle.message_model.specs.Sound.{IsNoOption}
 use Rattle.der_model.specs.LeafContents.{leaf_contents}
 use Rattle.der_model.specs.DerMessage.{DerMessage}
-use Rattle.der_model.specs.Structures.{Spot, Instance, ListOf, Label, Component, PrimitiveContents, LeafOf, Fragment, Structure, Holds, Fields, OneOf, Items, Empty, structure, form_structure, component, components, item_components, amount_components, number_structure, is_one, is_single, is_constructed, universal_tag}
+use Rattle.der_model.specs.Structures.{Instance, ListOf, Component, Structure, Fields, OneOf, Items, structure, form_structure, component, components, item_components, number_structure, is_one, is_single, is_constructed, universal_tag}
 use Rattle.der_model.specs.Structures as structures
 use Rattle.der_model.specs.Der.{Body, Octets, Inner, under, inner_of, item, placed_value, slot_values, all_slots, chosen_slot, alternative, body, values_at}
 use Rattle.der_model.specs.States.{Begins, Fine, is_under, field_answer, any_answer, field_end, item_answer, item_end, next_number}

@@ -4,7 +4,7 @@ use Rattle.std.specs.Prelude.{slice_get}
 use Rattle.der_octets.specs.Octets.{Tag, Values, Nothing, Primitive, Constructed}
 use Rattle.der_model.specs.DerMessage.{DerMessage}
 use Rattle.der_model.specs.Structures.{Spot, Instance, Component, structure}
-use Rattle.der_model.specs.States.{Part, Identifier, Length, End, DerLevel, State, Start, AwaitsLength, AwaitsContents, Within, IdentifierAnswer, Begins, Breaks, Fine, is_under, identifier_answer, level_answer, end_answer, begun_state, state_after, Stands, innermost_end, end_from, part_octets}
+use Rattle.der_model.specs.States.{Part, Identifier, End, IdentifierAnswer, Begins, Breaks, Fine, is_under, identifier_answer, end_answer}
 use Rattle.der_model.specs.States as states
 use Rattle.der_model.specs.Faults.{IsHeldIn, outermost}
 use Rattle.der_model.specs.OpenParts.{parts_of, components_of, IsPrimitive, ValuesSoFar}

@@ -8,7 +8,7 @@ use Rattle.der_octets.proofs.Headers.{wrapped_nested, bits_tell, some_identifier
 use Rattle.der_octets.specs.Octets.{class_bits, form_bit}
 use Rattle.der_model.specs.DerMessage.{DerMessage}
 use Rattle.der_model.specs.Structures.{Spot, Instance, Component, structure}
-use Rattle.der_model.specs.States.{Part, Identifier, Length, End, part_octets, DerLevel, State, Start, AwaitsLength, AwaitsContents, Within, PathName, Numbered, IdentifierAnswer, Begins, Fine, begun_state, level_answer, end_answer, end_from, names_in, state_after, innermost_end, level_end, Stands}
+use Rattle.der_model.specs.States.{Part, Identifier, Length, End, part_octets, DerLevel, State, Start, AwaitsLength, AwaitsContents, Within, PathName, Numbered, Begins, begun_state, level_answer, end_from, names_in, state_after}
 use Rattle.der_model.specs.States as states
 use Rattle.der_model.specs.States.{is_under}
 use Rattle.der_model.specs.Faults.{IsHeldIn, DerFront, IsWholeDer, outermost}

@@ -11,7 +11,7 @@ use Rattle.der_model.specs.DerMessage.{DerMessage}
 use Rattle.der_model.specs.LeafContents.{ContentsUnder}
 use Rattle.der_model.specs.Structures.{Spot, Instance, PrimitiveContents, LeafOf, Fragment, Structure, Holds, structure, Component}
 use Rattle.der_model.specs.Structures as structures
-use Rattle.der_model.specs.States.{Part, Identifier, Length, End, part_octets, DerLevel, State, Start, AwaitsLength, AwaitsContents, Within, IdentifierAnswer, Begins, Breaks, is_under, level_answer, EndAnswer, Fine, EndBreaks, end_answer, end_from, state_after, innermost_end, IsHeader, Stands}
+use Rattle.der_model.specs.States.{Part, Identifier, Length, End, part_octets, DerLevel, State, Start, AwaitsLength, AwaitsContents, Within, Begins, Breaks, is_under, level_answer, Fine, EndBreaks, end_answer, end_from, state_after, innermost_end, IsHeader, Stands}
 use Rattle.der_model.specs.States as states
 use Rattle.der_model.specs.Paths.{path_of}
 

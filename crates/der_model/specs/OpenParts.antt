@@ -44,10 +44,10 @@ IsPrimitive (Holds contents) = Unit {0}
 IsPrimitive _ = ⊥
 
 -- the spot of a primitive value: of a type that is not constructed, of which this is so; or of the number of an amount
-abbrev pub IsPrimitiveOf : {P : Type 0} → (P → Type 0) → DerMessage P → Spot P → Type 0
-IsPrimitiveOf Has m (Value p) = (is_constructed (m.forms p) ≡ false) × Has p
-IsPrimitiveOf Has m (NumberOf p) = IsPrimitive (number_structure (m.forms p))
-IsPrimitiveOf Has m spot = ⊥
+abbrev pub IsPrimitiveSpot : {P : Type 0} → (P → Type 0) → DerMessage P → Spot P → Type 0
+IsPrimitiveSpot Has m (Value p) = (is_constructed (m.forms p) ≡ false) × Has p
+IsPrimitiveSpot Has m (NumberOf p) = IsPrimitive (number_structure (m.forms p))
+IsPrimitiveSpot Has m spot = ⊥
 
 -- The values are those of these components, each under its tag. Of their parts and the end behind them so many have come: contents that have come fit.
 abbrev pub ValuesSoFar : {P : Type 0} → DerMessage P → ℕ → Structure P → List ℕ → Values → Type 0

@@ -7,7 +7,7 @@ use Rattle.data_types.specs.Value.{Value, Children, Edge}
 use Rattle.data_types.specs.Value as value
 use Rattle.facets.specs.declared.simple.Simple.{Simple}
 use Rattle.der_octets.specs.Octets.{context, Nothing, octets}
-use Rattle.reference_check.specs.Forms.{Graph, Form, Slot, form_slots}
+use Rattle.reference_check.specs.Forms.{Form, Slot, form_slots}
 use Rattle.reference_check.specs.Forms as form
 use Rattle.reference_check.specs.Words.{IsOrderedFrom}
 use Rattle.message_model.specs.Admits.{numbers_of}

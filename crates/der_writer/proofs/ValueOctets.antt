@@ -3,7 +3,7 @@ use Rattle.std.proofs.Common.{◌≡◌, ℕ, ◌-◌, false, List, [], ◌∷�
 use Rattle.std.specs.Prelude.{slice_get}
 use Rattle.data_types.specs.Leaf.{Leaf}
 use Rattle.data_types.specs.Leaf as leaf
-use Rattle.data_types.specs.Value.{Value, Children, Edge, Piece, Begins, Holds, Ends}
+use Rattle.data_types.specs.Value.{Value, Children, Edge, Piece, Begins, Ends}
 use Rattle.data_types.specs.Value as value
 use Rattle.facets.specs.declared.simple.Simple.{Simple}
 use Rattle.der_octets.specs.Octets.{context, wrapped, identifier, octets}

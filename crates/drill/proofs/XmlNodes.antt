@@ -4,7 +4,7 @@ use Rattle.std.specs.Prelude.{slice_get, encode_utf8_all}
 use Rattle.std.specs.List.{AllByRecursion}
 use Rattle.std.proofs.lemmas.Bool.{cases_Bool}
 use Rattle.lexical_core.specs.Characters.{IsXmlText}
-use Rattle.lexical_core.specs.Tree.{Nodes, Element, Text}
+use Rattle.lexical_core.specs.Tree.{Nodes, Element}
 use Rattle.lexical_core.specs.Tree as tree
 use Rattle.lexical_core.specs.Names.{xml_namespace, xmlns_namespace}
 use Rattle.data_types.specs.Canonical.{escaped_text}

@@ -1,5 +1,5 @@
 -- What a matcher's answer says of the pattern of a simple type.
-use Rattle.std.proofs.Common.{◌≡◌, ◌≢◌, ℕ, ◌<◌, ◌≤◌, inl, inr, Bool, true, false, List, [], ◌∷◌, ◌++◌, length, Option, Some, None, refl, sym, subst, ◌∙◌, length-append, arith}
+use Rattle.std.proofs.Common.{◌≡◌, ◌≢◌, ℕ, ◌≤◌, inl, inr, Bool, true, false, List, [], ◌∷◌, ◌++◌, length, Option, Some, None, refl, sym, subst, ◌∙◌, length-append, arith}
 use Rattle.std.specs.Prelude.{◌↔◌, IsTrue, MatchOption}
 use Rattle.std.specs.Str.{chars}
 use Rattle.pattern_match.specs.Reading.{Matches}

@@ -15,9 +15,8 @@ use Rattle.std.proofs.lemmas.Slice.Eq.{bytes_eq-Decides}
 use Rattle.lexical_core.specs.Names.{xmlns}
 use Rattle.markup.specs.Events.{declared_prefix}
 use Rattle.markup.specs.Marks.{begins_with}
-use Rattle.markup.specs.PlainTags.{is_plain_name}
-use Rattle.markup.specs.PlainStarts.{is_plain_prefix, is_plain_qualified, is_quote, is_literal_of, PlainAttribute, is_plain_attribute, plain_attribute_text, PlainStart, is_plain_start, start_end, plain_start_text}
-use Rattle.markup.specs.AttributeTags.{is_bare, ascend, ascend_behind, is_bare_start}
+use Rattle.markup.specs.PlainStarts.{is_plain_qualified, PlainAttribute, is_plain_attribute, plain_attribute_text, PlainStart, is_plain_start, start_end, plain_start_text}
+use Rattle.markup.specs.AttributeTags.{is_bare_attribute, ascend, ascend_behind, is_bare_start}
 use Rattle.markup.specs.inner.WholeStarts.{named_by, IsNameAt, IsAttributeAt}
 use Rattle.markup.specs.inner.BareStarts.{bare_given, IsBareBehind, AreBareBehind, latest_of, AreBareLeft, FindsBare, IsBareStartAt}
 use Rattle.markup.specs.declared.attribute_tag.AttributeTag.{AttributeTag}
@@ -25,7 +24,7 @@ use Rattle.markup.specs.declared.tag.Given.{Given}
 use Rattle.markup.specs.declared.tag.Spelled.{Spelled}
 use Rattle.markup.proofs.NamesFound.{IsBehindName}
 use Rattle.markup.proofs.QualifiedNames.{one_name}
-use Rattle.markup.proofs.StartScans.{none_given, more_given, one_attribute, start_widened}
+use Rattle.markup.proofs.StartScans.{more_given, one_attribute, start_widened}
 use Rattle.markup.proofs.StartsFound.{FirstIs, first_here, begins_none, nothing_left, behind_name, ends_attributes, start_named, behind_is}
 
 -- what is asked of a name behind the latest
@@ -60,7 +59,7 @@ module _ (left latest : List ℕ) (name : Spelled) (value behind : List ℕ) (a 
   first_is_next [] o e = absurd (begins_none last name value behind s (subst (λ v. IsAttributeAt v name value behind) e a))
   first_is_next (x ∷ more) o e =
       let same : name ≡ x.name = one_attribute left name x.name value x.value behind (flat_map plain_attribute_text more ++ last) a (first_here left last x more o.plain e) in
-      subst (λ n. is_next_name latest n ≡ true) (sym same) (and_from (is_bare x) (is_lt (slice_cmp nat_cmp latest x.name.local)) (and_parts (is_bare x) (list_all is_bare more) o.bare).0
+      subst (λ n. is_next_name latest n ≡ true) (sym same) (and_from (is_bare_attribute x) (is_lt (slice_cmp nat_cmp latest x.name.local)) (and_parts (is_bare_attribute x) (list_all is_bare_attribute more) o.bare).0
       (and_parts (is_lt (slice_cmp nat_cmp latest x.name.local)) (ascend_behind x.name.local more) o.ascending).0)
 
   -- the others are left behind it
@@ -72,33 +71,13 @@ module _ (left latest : List ℕ) (name : Spelled) (value behind : List ℕ) (a 
         more,
         record {
           plain = (and_parts (is_plain_attribute x) (list_all is_plain_attribute more) o.plain).1;
-          bare = (and_parts (is_bare x) (list_all is_bare more) o.bare).1;
+          bare = (and_parts (is_bare_attribute x) (list_all is_bare_attribute more) o.bare).1;
           ascending = subst (λ (n : Spelled). ascend_behind n.local more ≡ true) (sym same) (and_parts (is_lt (slice_cmp nat_cmp latest x.name.local)) (ascend_behind x.name.local more) o.ascending).1;
         },
         f x.name x.value (flat_map plain_attribute_text more ++ last) here,
       )
 
 -- ---- the loop
-
--- each name is greater than the empty one
-ascend_first : (attributes : List PlainAttribute) → list_all is_plain_attribute attributes ≡ true → ascend attributes ≡ true → ascend_behind [] attributes ≡ true
-ascend_first [] p h = refl
-ascend_first (a ∷ more) p h =
-    let first = (and_parts (is_plain_attribute a) (list_all is_plain_attribute more) p).0 in
-    let parts = (and_parts (is_plain_qualified a.name && is_quote a.quote) (list_all (is_literal_of a.quote) a.value) first).0 in
-    let named = (and_parts (is_plain_qualified a.name) (is_quote a.quote) parts).0 in
-    and_from (is_lt (slice_cmp nat_cmp [] a.name.local)) (ascend_behind a.name.local more) (greater a.name.local (and_parts (is_plain_prefix a.name.prefix) (is_plain_name a.name.local) named).1) h where
-      greater : (name : List ℕ) → is_plain_name name ≡ true → is_lt (slice_cmp nat_cmp [] name) ≡ true
-      greater [] n = absurd (both_ways false refl n)
-      greater (b ∷ cs) n = refl
-
-pub none_bare : (bytes : List ℕ) → FindsBare bytes [] [] bytes
-none_bare bytes = record {
-  are = none_given bytes;
-  bare = tt;
-  latest_is = refl;
-  leaves = λ attributes last p b h s e. (attributes, record { plain = p; bare = b; ascending = ascend_first attributes p h }, e);
-}
 
 pub more_bare : (bytes left latest prefix local value behind : List ℕ) (old new : List Given) → FindsBare bytes old latest left → IsAttributeAt left (named_by prefix local) value behind → FirstIs left behind → is_next_name latest (named_by prefix local) ≡ true
     → new ≡ old ++ record { name = named_by [] local; value = value } ∷ [] → FindsBare bytes new local behind
@@ -115,13 +94,13 @@ more_bare bytes left latest prefix local value behind old new d a f next e =
 
 -- an attribute that is not next is none of those that were to come
 pub none_other : (bytes left latest : List ℕ) (name : Spelled) (value behind last : List ℕ) (given : List Given) (attributes : List PlainAttribute) → FindsBare bytes given latest left → IsAttributeAt left name value behind → is_next_name latest name ≡ false
-    → list_all is_plain_attribute attributes ≡ true → list_all is_bare attributes ≡ true → ascend attributes ≡ true → begins_with 32 last ≡ false → bytes ≡ flat_map plain_attribute_text attributes ++ last → ⊥
+    → list_all is_plain_attribute attributes ≡ true → list_all is_bare_attribute attributes ≡ true → ascend attributes ≡ true → begins_with 32 last ≡ false → bytes ≡ flat_map plain_attribute_text attributes ++ last → ⊥
 none_other bytes left latest name value behind last given attributes d a n p b h s e =
     let o = d.leaves attributes last p b h s e in both_ways (is_next_name latest name) n (first_is_next left latest name value behind a last s o.0 o.1 o.2)
 
 -- all of them are found
 pub all_bare : (bytes left latest last : List ℕ) (given : List Given) (attributes : List PlainAttribute) → FindsBare bytes given latest left → ((name : Spelled) (value behind : List ℕ) → IsAttributeAt left name value behind → ⊥)
-    → list_all is_plain_attribute attributes ≡ true → list_all is_bare attributes ≡ true → ascend attributes ≡ true → begins_with 32 last ≡ false → bytes ≡ flat_map plain_attribute_text attributes ++ last → length bytes - length left ≡ length (flat_map plain_attribute_text attributes)
+    → list_all is_plain_attribute attributes ≡ true → list_all is_bare_attribute attributes ≡ true → ascend attributes ≡ true → begins_with 32 last ≡ false → bytes ≡ flat_map plain_attribute_text attributes ++ last → length bytes - length left ≡ length (flat_map plain_attribute_text attributes)
 all_bare bytes left latest last given attributes d n p b h s e =
     let o = d.leaves attributes last p b h s e in
     omega (arith, ap length e, length-append (flat_map plain_attribute_text attributes) last, ap length (nothing_left o.0 left last o.1.plain o.2 n))
@@ -132,11 +111,11 @@ pub empty_prefix : (prefix : List ℕ) → (length prefix == 0) ≡ true → pre
 empty_prefix prefix h = nil_from_length prefix (eqb-true (length prefix) 0 h)
 
 module _ (front named rest : List ℕ) (first : ℕ) (tag : PlainStart) (bare : is_bare_start tag ≡ true) (e : front ≡ plain_start_text tag ++ rest) (f : front ≡ first ∷ named) where
-  ordered : (is_plain_start tag && bytes_eq tag.name.prefix [] && list_all is_bare tag.attributes ≡ true) × (ascend tag.attributes ≡ true)
-  ordered = and_parts (is_plain_start tag && bytes_eq tag.name.prefix [] && list_all is_bare tag.attributes) (ascend tag.attributes) bare
+  ordered : (is_plain_start tag && bytes_eq tag.name.prefix [] && list_all is_bare_attribute tag.attributes ≡ true) × (ascend tag.attributes ≡ true)
+  ordered = and_parts (is_plain_start tag && bytes_eq tag.name.prefix [] && list_all is_bare_attribute tag.attributes) (ascend tag.attributes) bare
 
-  named_so : (is_plain_start tag && bytes_eq tag.name.prefix [] ≡ true) × (list_all is_bare tag.attributes ≡ true)
-  named_so = and_parts (is_plain_start tag && bytes_eq tag.name.prefix []) (list_all is_bare tag.attributes) ordered.0
+  named_so : (is_plain_start tag && bytes_eq tag.name.prefix [] ≡ true) × (list_all is_bare_attribute tag.attributes ≡ true)
+  named_so = and_parts (is_plain_start tag && bytes_eq tag.name.prefix []) (list_all is_bare_attribute tag.attributes) ordered.0
 
   parts : (is_plain_start tag ≡ true) × (bytes_eq tag.name.prefix [] ≡ true)
   parts = and_parts (is_plain_start tag) (bytes_eq tag.name.prefix []) named_so.0
@@ -155,7 +134,7 @@ module _ (front named rest : List ℕ) (first : ℕ) (tag : PlainStart) (bare : 
         both_ways (length name.prefix == 0) n (ap (λ (m : Spelled). length m.prefix == 0) same ∙ ap (λ p. length p == 0) (no_prefix tag.name.prefix parts.1))
 
     -- all its attributes are found
-    pub attributes_sized : (o : Option ℕ) → ((attributes : List PlainAttribute) (last : List ℕ) → list_all is_plain_attribute attributes ≡ true → list_all is_bare attributes ≡ true → ascend attributes ≡ true → begins_with 32 last ≡ false → behind ≡ flat_map plain_attribute_text attributes ++ last → IsSomeAnd o (λ n. n ≡ length (flat_map plain_attribute_text attributes)))
+    pub attributes_sized : (o : Option ℕ) → ((attributes : List PlainAttribute) (last : List ℕ) → list_all is_plain_attribute attributes ≡ true → list_all is_bare_attribute attributes ≡ true → ascend attributes ≡ true → begins_with 32 last ≡ false → behind ≡ flat_map plain_attribute_text attributes ++ last → IsSomeAnd o (λ n. n ≡ length (flat_map plain_attribute_text attributes)))
         → IsSomeAnd o (λ n. n ≡ length (flat_map plain_attribute_text tag.attributes))
     attributes_sized o s = s tag.attributes (start_end tag.is_empty ++ rest) (and_parts (is_plain_qualified tag.name) (list_all is_plain_attribute tag.attributes) parts.0).1 named_so.1 ordered.1 (ends_attributes tag.is_empty rest) behind_name_is
 

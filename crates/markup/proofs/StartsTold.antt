@@ -31,9 +31,9 @@ use Rattle.markup.proofs.TokenRuleLemmas.{in_cdata-open}
 use Rattle.markup.proofs.WholeTokens.{IsNext, none_open, all_told, takes_next}
 use Rattle.markup.proofs.TokensBehind.{behind}
 
--- the tag that was found
-pub some_holds : (piece : List ℕ) (o : Option WholeStart) (s : WholeStart) → o ≡ Some s → IfSome o (λ t. IsStartAt piece t.tag t.bytes) → IsStartAt piece s.tag s.bytes
-some_holds piece o s e h = subst (λ v. IfSome v (λ t. IsStartAt piece t.tag t.bytes)) e h
+-- what holds of a tag that is there
+pub some_holds : {A : Type 0} (Holds : A → Type 0) (o : Option A) (tag : A) → o ≡ Some tag → IfSome o Holds → Holds tag
+some_holds Holds o tag e h = subst (λ v. IfSome v Holds) e h
 
 pub some_ready : (r : Reader) (o : Option WholeStart) (s : WholeStart) → o ≡ Some s → (IsSome o → is_in_text r.tokenizer ≡ true) → is_in_text r.tokenizer ≡ true
 some_ready r o s e h = h (subst IsSome (sym e) refl)

@@ -14,8 +14,8 @@ abbrev pub bare_entry : TagAttribute → Entry
 bare_entry a = record { name = record { namespace = []; local = a.name.now }; value = a.value.now }
 
 -- It has no prefix, and is no declaration of the default namespace (Namespaces §3, DefaultAttName).
-abbrev pub is_bare : PlainAttribute → Bool
-is_bare a = bytes_eq a.name.prefix [] && not (bytes_eq a.name.local xmlns)
+abbrev pub is_bare_attribute : PlainAttribute → Bool
+is_bare_attribute a = bytes_eq a.name.prefix [] && not (bytes_eq a.name.local xmlns)
 
 -- The first local name is greater than this one, and each greater than the one before, by bytes.
 abbrev pub ascend_behind : List ℕ → List PlainAttribute → Bool
@@ -29,4 +29,4 @@ ascend (a ∷ more) = ascend_behind a.name.local more
 
 -- such a tag
 abbrev pub is_bare_start : PlainStart → Bool
-is_bare_start t = is_plain_start t && bytes_eq t.name.prefix [] && list_all is_bare t.attributes && ascend t.attributes
+is_bare_start t = is_plain_start t && bytes_eq t.name.prefix [] && list_all is_bare_attribute t.attributes && ascend t.attributes

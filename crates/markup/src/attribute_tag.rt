@@ -7,7 +7,7 @@ ghost use Rattle.std.specs.Str.{bytes_eq};
 ghost use Rattle.lexical_core.specs.Names.{xmlns};
 ghost use Rattle.markup.specs.Marks.{tag_limit, begins_with};
 ghost use Rattle.markup.specs.PlainStarts.{PlainAttribute, is_plain_attribute, plain_attribute_text, PlainStart, plain_start_text};
-ghost use Rattle.markup.specs.AttributeTags.{is_bare, ascend, is_bare_start};
+ghost use Rattle.markup.specs.AttributeTags.{is_bare_attribute, ascend, is_bare_start};
 ghost use Rattle.markup.specs.inner.WholeStarts.{AreGiven};
 ghost use Rattle.markup.specs.inner.BareStarts.{bare_given, AreBareBehind, IsBareStartAt};
 
@@ -72,7 +72,7 @@ fn bare_attributes_at<'a>(
     ensures within { IfOk result (λ o. IfSome o (λ n. n ≤ length bytes.now)) }
     ensures are { IfOk result (λ o. IfSome o (λ n. AreGiven bytes.now (map bare_given found.new.items) (drop n bytes.now))) }
     ensures bare { IfOk result (λ o. IfSome o (λ _. AreBareBehind [] (map bare_given found.new.items))) }
-    ensures all { (attributes : List PlainAttribute) (last : List ℕ) → list_all is_plain_attribute attributes ≡ true → list_all is_bare attributes ≡ true → ascend attributes ≡ true → begins_with 32 last ≡ false → bytes.now ≡ flat_map plain_attribute_text attributes ++ last →
+    ensures all { (attributes : List PlainAttribute) (last : List ℕ) → list_all is_plain_attribute attributes ≡ true → list_all is_bare_attribute attributes ≡ true → ascend attributes ≡ true → begins_with 32 last ≡ false → bytes.now ≡ flat_map plain_attribute_text attributes ++ last →
         IfOk result (λ o. IsSomeAnd o (λ n. n ≡ length (flat_map plain_attribute_text attributes))) }
 {
     let mut latest: &'a [u8] = &[];

@@ -4,7 +4,7 @@ use Rattle.std.specs.Prelude.{slice_get, ◌==◌, if◌then◌else◌, nat_lt}
 use Rattle.std.proofs.lemmas.Bool.Decides.{nat_tests, eqb_tells}
 use Rattle.std.proofs.lemmas.Option.{slice_get_within}
 use Rattle.facets.specs.declared.simple.Simple.{Simple}
-use Rattle.reference_check.specs.Forms.{Slot, Form, form_slots}
+use Rattle.reference_check.specs.Forms.{Slot, Form}
 use Rattle.reference_check.specs.Forms as form
 use Rattle.reference_check.specs.Words.{times, UpTo, MayComeTimes, IsOrderedFrom, IsSequence, IsChoice}
 use Rattle.reference_check.specs.Steps.{NextSlot, Slotted, Fine, Lacks, end_after, choice_end, end_of_slots, choice_next, Second, TooMany, has_room, first_lacking, CameAfter, Came}

@@ -5,7 +5,7 @@ use Rattle.std.specs.List.{list_any}
 use Rattle.std.proofs.lemmas.Bool.Decides.{nat_tests, eqb_tells}
 use Rattle.std.proofs.lemmas.Option.{slice_get_within}
 use Rattle.facets.specs.declared.simple.Simple.{Simple}
-use Rattle.reference_check.specs.Forms.{Slot, Form}
+use Rattle.reference_check.specs.Forms.{Slot}
 use Rattle.reference_check.specs.Forms as form
 use Rattle.reference_check.specs.Words.{times, UpTo, IsSequence}
 use Rattle.reference_check.specs.Steps.{NextSlot, Slotted, TooMany, has_room, first_lacking, after_order, sequence_next, choice_next, choice_end, end_of_slots, Second, CameAfter, Came, EndsWith, find_slot, next, next_at, next_found, end_after}

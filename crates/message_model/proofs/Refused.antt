@@ -12,7 +12,7 @@ use Rattle.reference_check.specs.Graph.{Place, entry}
 use Rattle.reference_check.specs.Reach.{Reaches, rank_of}
 use Rattle.reference_check.specs.Reached.{HasReach, IsReachFor, TellsBroken}
 use Rattle.reference_check.specs.Rules as rules
-use Rattle.reference_check.specs.Rules.{Rule, Breaks, OfObject, IsSound, IsStructure, IsTailRule}
+use Rattle.reference_check.specs.Rules.{Rule, OfObject, IsSound, IsStructure, IsTailRule}
 use Rattle.message_model.specs.FacetRules.{HasBadFacets}
 use Rattle.message_model.specs.Ready.{MessageRule, OnObjects, BadFacets, BadPattern, message_rule_number, BreaksMessageRule, HasBadPattern, HasGoodFacets, IsReady, TellsRefused}
 use Rattle.message_model.specs.inner.FirstPlaces.{IsFirstPlace, TellsPlace, TellsEntry}

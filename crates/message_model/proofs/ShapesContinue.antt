@@ -5,7 +5,7 @@ use Rattle.std.specs.List.{AllByRecursion}
 use Rattle.facets.specs.declared.simple.Simple.{Simple}
 use Rattle.reference_check.specs.Forms.{Graph, Form, Slot, form_slots, slot_to, form_to}
 use Rattle.reference_check.specs.Forms as form
-use Rattle.reference_check.specs.Words.{times, MayComeTimes, IsWordOf, IsSequence, IsChoice, IsOrderedFrom}
+use Rattle.reference_check.specs.Words.{IsWordOf, IsOrderedFrom}
 use Rattle.reference_check.specs.Steps.{Slotted, next_of, Came}
 use Rattle.reference_check.proofs.RenamedForms.{get_to, get_from, sequence_to, sequence_from, choice_to, choice_from}
 use Rattle.reference_check.specs.Shapes.{Shape, Component, OpenLeaf, Shapes, Nothing, Child, HasShape, HaveShapes, numbers_in, then_shapes, IsFinite, AreFinite, WordGoesOn}

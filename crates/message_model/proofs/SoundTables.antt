@@ -12,7 +12,7 @@ use Rattle.reference_check.specs.Reached.{HasReach}
 use Rattle.reference_check.specs.Graph.{Place, message, entry, find_entry}
 use Rattle.reference_check.specs.Reach.{itself, rank_of}
 use Rattle.reference_check.specs.Rules.{TooMany}
-use Rattle.reference_check.specs.Forms.{Slot, Form, Graph, Money, Missing, form_slots, form_to, slot_to, text_type}
+use Rattle.reference_check.specs.Forms.{Slot, Form, Money, Missing, form_slots, form_to, slot_to, text_type}
 use Rattle.reference_check.specs.Forms as form
 use Rattle.reference_check.proofs.RenamedForms.{form_slot_to}
 use Rattle.message_model.specs.Tables.{Tables, TypeEntry, types_of, form_or_missing}

@@ -17,7 +17,7 @@ use Rattle.repo_objects.specs.Repository.{Contents}
 use Rattle.reference_check.specs.Graph.{Place, document, message, entry, nowhere, one_of, references, find_entry, find_message}
 use Rattle.reference_check.specs.Reach.{Reaches, itself, element, currency, elements_of, elements_or_none, blocks_or_none, currency_of, currency_or_none, kind_elements, kind_currency}
 use Rattle.reference_check.specs.Rules.{UpToMax, IsTextKind, set_codes, NoMessage, BadCurrency, NotOneReference, TagTwice, BadBounds, OptionalAlternative, TooMany}
-use Rattle.reference_check.specs.Forms.{Slot, Form, Graph, Sequence, Choice, Money, Envelope, LeftOut, Missing, form_slots, form_to, slot_to, text_type}
+use Rattle.reference_check.specs.Forms.{Slot, Form, Sequence, Choice, Money, Envelope, LeftOut, Missing, form_slots, form_to, text_type}
 use Rattle.reference_check.specs.Forms as form
 use Rattle.reference_check.specs.Graph.{slot_of, simple_form, object_form, entry_form, message_form, document_form}
 use Rattle.reference_check.specs.Words.{UpTo}

@@ -9,7 +9,7 @@ use Rattle.lexical_core.specs.Tree as tree
 use Rattle.lexical_core.specs.Characters.{IsSpace}
 use Rattle.data_types.specs.Leaf as leaf
 use Rattle.data_types.specs.Leaf.{Leaf}
-use Rattle.data_types.specs.Value.{Value, Children, Nothing, Child}
+use Rattle.data_types.specs.Value.{Value, Nothing, Child}
 use Rattle.data_types.specs.Value as value
 use Rattle.facets.specs.LeafUnder.{GivesLeaf}
 use Rattle.facets.specs.declared.simple.Simple.{Simple}

@@ -1,5 +1,5 @@
 -- What a step of the reading keeps.
-use Rattle.std.proofs.Common.{◌≡◌, ℕ, zero, suc, ◌+◌, ◌-◌, ◌*◌, ◌/◌, ◌≤◌, Bool, true, false, cond, ◌==◌, nat_le, nat_lt, Option, Some, None, refl, sym, subst, arith, le_trans, mul-le-mul, mul_assoc, le_refl, ltb-false}
+use Rattle.std.proofs.Common.{◌≡◌, ℕ, zero, suc, ◌+◌, ◌-◌, ◌*◌, ◌/◌, ◌≤◌, cond, ◌==◌, nat_le, nat_lt, Option, Some, None, sym, subst, arith, le_trans, mul-le-mul, mul_assoc, le_refl, ltb-false}
 use Rattle.std.proofs.lemmas.Bool.{cond_both}
 use Rattle.pattern_match.specs.Valid.{IsDigit, escaped_letter}
 use Rattle.pattern_match.specs.Character.{outside, within, in_number, behind_backslash}

@@ -1,10 +1,6 @@
 -- Bytes have no more characters than they are.
-use Rattle.std.proofs.Common.{◌≡◌, ℕ, zero, suc, ◌≤◌, ◌+◌, ◌*◌, ◌-◌, true, List, [], ◌∷◌, length, refl, arith}
-use Rattle.std.specs.List.{AllByRecursion}
-use Rattle.std.specs.Str.{IsUtf8, chars, chars_after, continuation_len, lead_bits}
-use Rattle.std.proofs.Math.Utf8.{scalars}
-use Rattle.lexical_core.proofs.CharacterLemmas.{IsScalar-xml_char}
-use Rattle.lexical_core.specs.Characters.{IsXmlChar, IsXmlText}
+use Rattle.std.proofs.Common.{ℕ, zero, suc, ◌≤◌, ◌+◌, ◌*◌, ◌-◌, List, [], ◌∷◌, length, arith}
+use Rattle.std.specs.Str.{chars, chars_after, continuation_len, lead_bits}
 
 fewer_after : (n c : ℕ) (bs : List ℕ) → length (chars_after n c bs) ≤ suc (length bs)
 fewer_after zero c [] = omega arith

@@ -20,8 +20,8 @@ use Rattle.reference_check.specs.Graph.{Place, document, message, entry, nowhere
 use Rattle.reference_check.specs.Forms as form
 use Rattle.reference_check.specs.Words.{UpTo}
 use Rattle.reference_check.specs.Shapes.{IsFinite, MayBeFound, IsReached}
-use Rattle.reference_check.specs.Reach.{elements_of, kind_elements, Reaches, itself, element, currency}
-use Rattle.reference_check.specs.Rules.{Rule, Endless, BadBounds, NotOneReference, object_rule_number, IsSound, IsStructure, IsBelowEndless, Breaks}
+use Rattle.reference_check.specs.Reach.{elements_of, kind_elements, Reaches, currency}
+use Rattle.reference_check.specs.Rules.{Endless, BadBounds, NotOneReference, IsSound, IsBelowEndless}
 use Rattle.reference_check.specs.Laws.{ReadyAreFinite}
 use Rattle.reference_check.proofs.Words.{IsProper}
 use Rattle.reference_check.proofs.FiniteForms.{finite_form}

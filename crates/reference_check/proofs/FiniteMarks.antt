@@ -1,5 +1,5 @@
 -- What rounds find, and come to rest at, are the reached objects that have a finite instance.
-use Rattle.std.proofs.Common.{◌≡◌, ℕ, zero, suc, IsTrue, true≢false, is_some, unwrap_or, List, [], ◌∷◌, length, map, Option, Some, None, refl, sym, ap, subst, arith, inl, inr, Contains}
+use Rattle.std.proofs.Common.{◌≡◌, ℕ, zero, suc, IsTrue, unwrap_or, List, [], ◌∷◌, length, map, Option, Some, None, refl, sym, ap, subst, arith, inl, inr, Contains}
 use Rattle.std.specs.Prelude.{slice_get}
 use Rattle.std.specs.List.{AllByRecursion}
 use Rattle.std.proofs.lemmas.List.Elements.{Contains-append_right}

@@ -1,5 +1,5 @@
 -- The list of messages, and the words that ask for a command.
-use Rattle.std.proofs.Common.{◌≡◌, ℕ, zero, suc, Bool, true, false, IsTrue, List, [], ◌∷◌, length, get_or, Some, codes, refl, ap}
+use Rattle.std.proofs.Common.{◌≡◌, ℕ, zero, suc, Bool, true, false, IsTrue, List, [], ◌∷◌, length, get_or, Some, refl, ap}
 use Rattle.std.specs.Prelude.{slice_get, String}
 use Rattle.std.specs.Global.{Global}
 use Rattle.repo_objects.specs.declared.objects.MessageDef.{MessageDef}

@@ -18,7 +18,7 @@ use Rattle.repo_engine.specs.inner.Arms.{GivesMessage, IsOfInput, IsReadAs, unre
 use Rattle.repo_engine.specs.Run.{TellsVerdict}
 use Rattle.repo_engine.specs.Sources.{Use, Untouched, Ended, Whole, Failing, Refusing, IsSourceRead, AreRead, one, both, AreReadInTurn, before, behind, source_ended_of, stop_ended}
 use Rattle.repo_engine.specs.Steps.{Then, refused, goes_on}
-use Rattle.repo_engine.specs.Verdict.{Verdict, accepted}
+use Rattle.repo_engine.specs.Verdict.{Verdict}
 use Rattle.repo_engine.specs.Verdict as verdict
 use Rattle.repo_engine.specs.declared.refusal.Stop.{Stop}
 use Rattle.repo_engine.specs.declared.refusal.Stop.TheVariants.{Refused, ReadFault, WriteFault, Memory}

@@ -5,7 +5,6 @@ use Rattle.repo_objects.specs.Repository.{Contents}
 use Rattle.repo_engine.specs.Answer.{FromRepository, GivesRepository}
 use Rattle.repo_engine.specs.inner.Arms.{RefusesRepository, StopsBy}
 use Rattle.repo_engine.specs.Steps.{refused, goes_on}
-use Rattle.repo_engine.specs.Sources.{one}
 use Rattle.repo_engine.specs.Verdict.{Verdict}
 use Rattle.repo_engine.specs.declared.refusal.Stop.{Stop}
 use Rattle.repo_engine.specs.declared.refusal.Stop.TheVariants.{Refused, ReadFault, WriteFault, Memory}

@@ -1,12 +1,12 @@
 -- What stays true of a repository when the codes of an object are replaced.
-use Rattle.std.proofs.Common.{◌≡◌, ℕ, zero, suc, ◌<◌, List, [], ◌∷◌, length, map, All, Option, Some, None, unwrap_or, refl, sym, ap, ◌∙◌, subst, Vec}
+use Rattle.std.proofs.Common.{◌≡◌, ℕ, zero, suc, List, [], ◌∷◌, map, All, Option, Some, unwrap_or, refl, sym, ap, subst, Vec}
 use Rattle.std.specs.Prelude.{AllPairs, ◌≢◌, slice_get}
 use Rattle.std.proofs.lemmas.List.Elements.{All-nil, All-cons, All-head, All-tail}
 use Rattle.std.specs.declared.alloc.Global.{Global}
 use Rattle.indexmap.specs.IndexMap.{set_value_at}
 use Rattle.repo_objects.specs.declared.objects.Object.{Object}
 use Rattle.repo_objects.specs.declared.objects.CodeDef.{CodeDef}
-use Rattle.repo_objects.specs.Objects.{HasCodeTexts, HasObjectTexts}
+use Rattle.repo_objects.specs.Objects.{HasCodeTexts}
 use Rattle.repo_objects.specs.Repository.{DictionaryEntry, Contents, ids_of, HasEntryTexts, IsRepository, entry_with_codes, with_codes}
 use Rattle.repo_objects.specs.Stored.{stored_entry, entries_of}
 

@@ -1,4 +1,4 @@
--- The texts of a repository are UTF-8 of characters of XML: XML 1.0 §2.2.
+-- What repositories hold: texts that are UTF-8 of characters of XML (XML 1.0 §2.2), and facets of which none is given.
 use Rattle.std.specs.Prelude.{ℕ, List, Option, Some, None, All}
 use Rattle.lexical_core.specs.Characters.{IsXmlText}
 use Rattle.repo_objects.specs.declared.objects.Object.{Object}

@@ -1,6 +1,6 @@
 -- What a start tag says, spelled: attributes to the grammar, which give names and values back.
 use Rattle.std.proofs.Common.{◌≡◌, ℕ, true, List, [], ◌∷◌, ◌++◌, map, refl, ap, ap₂, ◌∙◌, append_assoc, append-nil}
-use Rattle.std.specs.Prelude.{encode_utf8, encode_utf8_all, codes}
+use Rattle.std.specs.Prelude.{encode_utf8_all, codes}
 use Rattle.std.specs.List.{flat_map, list_all, AllByRecursion}
 use Rattle.std.proofs.lemmas.Bool.{and_from}
 use Rattle.std.proofs.lemmas.Str.{encodes-append}

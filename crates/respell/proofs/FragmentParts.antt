@@ -1,6 +1,6 @@
 -- A reader of a fragment that takes runs of characters and whole tags.
-use Rattle.std.proofs.Common.{◌≡◌, ℕ, zero, suc, ◌+◌, ◌<◌, ◌≤◌, List, [], ◌∷◌, ◌++◌, map, take, drop, length, Option, Some, refl, sym, ap, subst, ◌∙◌, append_assoc, append-nil, arith}
-use Rattle.std.specs.Prelude.{IfSome, encode_utf8}
+use Rattle.std.proofs.Common.{◌≡◌, ℕ, zero, suc, ◌+◌, ◌<◌, ◌≤◌, List, [], ◌∷◌, ◌++◌, map, take, drop, length, refl, sym, ap, subst, ◌∙◌, append_assoc, append-nil, arith}
+use Rattle.std.specs.Prelude.{encode_utf8}
 use Rattle.std.proofs.lemmas.List.{take-append-drop}
 use Rattle.lexical_core.specs.Tree.{Expanded, Item, Starts, Char, Ends}
 use Rattle.markup.specs.Marks.{no_limit}
@@ -80,9 +80,6 @@ reads_run old new bytes room n count within moved told written root =
     }
 
 -- ---- whole tags
-
-pub some_holds : {A : Type 0} (P : A → Type 0) (o : Option A) (x : A) → o ≡ Some x → IfSome o P → P x
-some_holds P o x e h = subst (λ v. IfSome v P) e h
 
 items_at : (place : ℕ) (is : List Item) → items (placed_at place is) ≡ is
 items_at place [] = refl

@@ -1,5 +1,5 @@
 -- The events of a tree, written again, are its fragment.
-use Rattle.std.proofs.Common.{◌≡◌, ℕ, List, [], ◌∷◌, ◌++◌, refl, sym, ap, ap₂, ◌∙◌, Option, None, append_assoc, append-nil, drop}
+use Rattle.std.proofs.Common.{◌≡◌, ℕ, List, [], ◌∷◌, ◌++◌, refl, sym, ap, ◌∙◌, Option, append_assoc, append-nil, drop}
 use Rattle.lexical_core.specs.Escapes.{escape_of}
 use Rattle.lexical_core.specs.Tree.{Item, Starts, Char, Ends, Skipped, Nodes, Nothing, Element, Text, Tree, flat_nodes, flat}
 use Rattle.fragments.specs.Fragment.{default_within, start_text, end_text, nodes_text, fragment}

@@ -1,6 +1,6 @@
 -- The tags of an element of a fragment, as tokens.
 use Rattle.std.proofs.Common.{◌≡◌, ℕ, ◌≤◌, length, true, false, List, [], ◌∷◌, ◌++◌, drop, refl, ap, ap₂, ◌∙◌, Option, None, append_assoc, append-nil}
-use Rattle.std.specs.Prelude.{◌↔◌, codes, encode_utf8, encode_utf8_all}
+use Rattle.std.specs.Prelude.{◌↔◌, codes, encode_utf8_all}
 use Rattle.std.specs.List.{flat_map}
 use Rattle.std.proofs.lemmas.Str.{encodes-append}
 use Rattle.lexical_core.specs.Tree.{Expanded, Entry, Starts, Ends}

@@ -1,5 +1,5 @@
 -- The faults of DER as readers that are fed from a source tell them.
-use Rattle.std.proofs.Common.{◌≡◌, ℕ, List, [], ◌<◌, ◌≤◌, length, take, Result, Ok, Err, IfErr, IfSome, Option, Some, None, ap}
+use Rattle.std.proofs.Common.{ℕ, List, [], Result, Ok, Err, IfErr, IfSome, Option, Some, None, ap}
 use Rattle.lexical_core.specs.declared.rule.Rule.TheVariants.{DerTruncated}
 use Rattle.message_model.specs.Tables.{Tables}
 use Rattle.message_model.specs.declared.fault.Fault.{Fault}
@@ -8,11 +8,11 @@ use Rattle.message_model.specs.declared.fault.InstanceError.TheVariants.{Refused
 use Rattle.der_model.specs.DerMessage.{der_message}
 use Rattle.der_model.specs.Faults.{DerFault}
 use Rattle.der_model.specs.LimitedFaults.{LimitedDerFault, whole, early, cut, behind}
-use Rattle.der_codec.specs.Checking.{DerStops, DerEndsAs, IsSpelledDer, der_fault_of}
+use Rattle.der_codec.specs.Checking.{DerStops, IsSpelledDer, der_fault_of}
 use Rattle.transcoder.specs.declared.check_error.CheckError.{CheckError}
 use Rattle.transcoder.specs.declared.check_error.CheckError.TheVariants as check
 use Rattle.transcoder.specs.Checked.{RefusesDer, IsDerFaultOfSome}
-use Rattle.transcoder.specs.Limited.{IsLimited, within, before, open_at, over_at, StopsAt, ShowsFault}
+use Rattle.transcoder.specs.Limited.{IsLimited, within, before, open_at, over_at, StopsAt}
 use Rattle.transcoder.specs.Reading.{RefusesBy, IsOfSome, GivesSome}
 
 -- the first faults of bytes as DER

@@ -1,5 +1,5 @@
 -- Bytes are the DER of one instance, or have one first fault.
-use Rattle.std.proofs.Common.{◌≡◌, ℕ, ◌≤◌, List, length, ap, ◌⊎◌, inl, inr}
+use Rattle.std.proofs.Common.{◌≡◌, ℕ, ◌≤◌, length, ap, ◌⊎◌, inl, inr}
 use Rattle.data_types.specs.Value.{Value}
 use Rattle.respell.specs.Laws.{OneTree}
 use Rattle.message_model.specs.declared.fault.Fault.{Fault as Told}

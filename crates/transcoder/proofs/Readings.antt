@@ -1,6 +1,6 @@
 -- What the bytes that were read of a source say of all that it had left.
-use Rattle.std.proofs.Common.{◌≡◌, ℕ, ◌+◌, ◌-◌, ◌<◌, ◌≤◌, ◌⊎◌, inl, inr, List, [], ◌++◌, length, take, drop, Option, Some, None, IfSome, IfOk, IfErr, OnOk, IsErrOf, refl, sym, ◌∙◌, ap, subst, append_assoc, append-nil, length-append, arith}
-use Rattle.std.specs.Prelude.{Result, Ok, Err, codes}
+use Rattle.std.proofs.Common.{◌≡◌, ℕ, ◌+◌, ◌-◌, ◌<◌, ◌≤◌, ◌⊎◌, inl, inr, List, [], ◌++◌, length, take, drop, Option, Some, None, IfSome, IfOk, IfErr, OnOk, refl, sym, ◌∙◌, ap, subst, append_assoc, append-nil, length-append, arith}
+use Rattle.std.specs.Prelude.{Result, Ok, Err}
 use Rattle.std.proofs.lemmas.Bool.{cases_lt}
 use Rattle.std.proofs.lemmas.List.{take_all, take-append-drop, length-take, length-drop}
 use Rattle.std.proofs.Math.Seq.{take-append_seam}
@@ -14,7 +14,7 @@ use Rattle.message_model.specs.declared.fault.InstanceError.TheVariants as reade
 use Rattle.transcoder.specs.declared.check_error.CheckError.{CheckError}
 use Rattle.transcoder.specs.declared.check_error.CheckError.TheVariants.{Refused, ReadFault, Memory}
 use Rattle.transcoder.specs.CheckErrors.{check_error}
-use Rattle.transcoder.specs.Limited.{most_bytes, too_many, IsLimited, within, before, open_at, over_at, ShowsFault, StopsAt, EndsBy}
+use Rattle.transcoder.specs.Limited.{most_bytes, IsLimited, within, before, open_at, over_at, ShowsFault, StopsAt, EndsBy}
 use Rattle.transcoder.specs.Reading.{HasReadSource, HasReadBeyond, RefusesBy, IsOfSome, SaysError, ReadsTo, EndsBeyond, end_told, Concludes, GivesSome}
 use Rattle.transcoder.specs.declared.reading.Extent.{Extent}
 use Rattle.transcoder.specs.declared.reading.Extent.TheVariants.{Whole, Longer}

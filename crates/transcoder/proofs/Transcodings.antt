@@ -1,5 +1,5 @@
 -- What is written of an instance that was read.
-use Rattle.std.proofs.Common.{◌≡◌, ℕ, ◌≤◌, List, length, Option, Some, None, IfSome, Result, Ok, Err, refl}
+use Rattle.std.proofs.Common.{◌≡◌, ℕ, ◌≤◌, List, length, Option, Some, None, IfSome, Result}
 use Rattle.std.specs.Io.KnownBytes.{IsAtEnd}
 use Rattle.data_types.specs.Value.{Value, Piece}
 use Rattle.fragments.specs.Fragment.{fragment}

@@ -1,5 +1,5 @@
 -- The faults of XML instances as readers that are fed from a source tell them.
-use Rattle.std.proofs.Common.{◌≡◌, ℕ, List, [], ◌<◌, ◌≤◌, length, take, Result, Ok, Err, IfErr, IfSome, Option, Some, None, ap, ◌∙◌}
+use Rattle.std.proofs.Common.{ℕ, List, [], take, Result, Ok, Err, IfErr, IfSome, Option, Some, None, ap}
 use Rattle.lexical_core.specs.declared.rule.Rule.TheVariants.{Truncated}
 use Rattle.message_model.specs.Sound.{AreSound}
 use Rattle.message_model.specs.Tables.{Tables, message_of, types_of}
@@ -9,12 +9,11 @@ use Rattle.message_model.specs.declared.fault.InstanceError.TheVariants.{Refused
 use Rattle.xml_instances.specs.XmlFaults.{XmlFault, LimitedXmlFault, whole, early, cut, behind}
 use Rattle.xml_instances.specs.XmlFaults as xml
 use Rattle.xml_instances.specs.Laws.{SpelledHasNoXmlFault}
-use Rattle.xml_instances.specs.SpellsXml.{SpellsXml}
 use Rattle.xml_instances.specs.Checking.{XmlStops, IsSpelledXml, xml_fault_of}
 use Rattle.transcoder.specs.declared.check_error.CheckError.{CheckError}
 use Rattle.transcoder.specs.declared.check_error.CheckError.TheVariants as check
 use Rattle.transcoder.specs.Checked.{RefusesXml, IsFaultOfSome}
-use Rattle.transcoder.specs.Limited.{IsLimited, within, before, open_at, over_at, StopsAt, ShowsFault}
+use Rattle.transcoder.specs.Limited.{IsLimited, within, before, open_at, over_at, StopsAt}
 use Rattle.transcoder.specs.Reading.{RefusesBy, IsOfSome, GivesSome}
 
 -- the first faults of bytes as XML

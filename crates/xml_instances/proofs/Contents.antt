@@ -12,7 +12,7 @@ use Rattle.facets.specs.declared.simple.Simple.{Simple}
 use Rattle.markup.specs.Chars.{is_space}
 use Rattle.markup.specs.EventItems.{entry_of}
 use Rattle.markup.specs.declared.event.Attr.{Attr}
-use Rattle.reference_check.specs.Forms.{Graph, Form, Slot, text_type}
+use Rattle.reference_check.specs.Forms.{Graph, Form, text_type}
 use Rattle.reference_check.specs.Forms as form
 use Rattle.reference_check.specs.Steps.{NextSlot, Slotted, next, Came, EndsWith}
 use Rattle.message_model.specs.Message.{Message}

@@ -1,12 +1,11 @@
 -- A tree writes one value that a message admits, and bytes spell one.
-use Rattle.std.proofs.Common.{◌≡◌, ℕ, Bool, true, false, List, [], ◌∷◌, ◌++◌, Option, Some, None, refl, sym, ap, ap₂, ◌∙◌, subst, arith, append-nil}
-use Rattle.std.specs.Prelude.{slice_get, length, reverse, Result, Ok, Err}
+use Rattle.std.proofs.Common.{◌≡◌, ℕ, List, [], ◌∷◌, Some, refl, sym, ap, ap₂, ◌∙◌, subst, append-nil}
+use Rattle.std.specs.Prelude.{slice_get, Result, Ok}
 use Rattle.std.specs.Str.{chars}
 use Rattle.std.proofs.lemmas.Option.{same_Some}
-use Rattle.lexical_core.specs.Tree.{Expanded, Entry, Nodes, Element, Text, Tree, Item, TreeIs, flat, tree_items}
+use Rattle.lexical_core.specs.Tree.{Expanded, Entry, Nodes, Element, Text, Tree, flat, tree_items}
 use Rattle.lexical_core.specs.Tree as tree
 use Rattle.lexical_core.specs.Decimals.{Number}
-use Rattle.lexical_core.specs.Characters.{IsSpace}
 use Rattle.lexical_core.specs.declared.rule.Rule.{Rule}
 use Rattle.lexical_core.proofs.SameTrees.{same_tree}
 use Rattle.data_types.specs.Leaf.{Leaf}
@@ -15,14 +14,14 @@ use Rattle.data_types.specs.Value.{Value, Children, Nothing, Child}
 use Rattle.data_types.specs.Value as value
 use Rattle.facets.specs.LeafUnder.{GivesLeaf, HasSortedCodes, LeafUnder}
 use Rattle.facets.specs.declared.simple.Simple.{Simple}
-use Rattle.markup.specs.Marks.{OneMarking, Marks}
-use Rattle.reference_check.specs.Forms.{Graph, Form, Slot, form_slots, text_type}
+use Rattle.markup.specs.Marks.{OneMarking}
+use Rattle.reference_check.specs.Forms.{Form, Slot, form_slots, text_type}
 use Rattle.reference_check.specs.Forms as form
 use Rattle.reference_check.specs.Steps.{find_slot}
-use Rattle.message_model.specs.Admits.{AdmitsAs, AdmitsChildren, FitsCode}
+use Rattle.message_model.specs.Admits.{AdmitsAs, AdmitsChildren}
 use Rattle.message_model.specs.Message.{Message}
 use Rattle.message_model.specs.Sound.{AreSound, HaveSortedCodes}
-use Rattle.message_model.specs.Writes.{name_in_namespace, currency, HasCurrency, SpellsCode, WritesAttributes, text_nodes, SpellsText, Wraps, MayHold, WritesContent, WritesLeaf}
+use Rattle.message_model.specs.Writes.{SpellsCode, WritesAttributes, text_nodes, SpellsText, Wraps, WritesContent}
 use Rattle.xml_instances.specs.SpellsXml.{SpellsXml, IsInstance}
 use Rattle.xml_instances.specs.XmlFaults.{items}
 

@@ -2,7 +2,7 @@
 use Rattle.std.proofs.Common.{subst, ◌≡◌, ℕ, suc, ◌-◌, Bool, true, false, List, [], ◌∷◌, ◌++◌, Some, None, refl, sym, ap, ◌∙◌, arith, length}
 use Rattle.std.specs.Prelude.{◌↔◌, codes}
 use Rattle.std.proofs.lemmas.List.{nil_from_length}
-use Rattle.lexical_core.specs.Tree.{Expanded, Entry, Nodes, Element, Text, Tree, Item, Starts, Char, Ends, Skipped, tree_items, flat, flat_nodes}
+use Rattle.lexical_core.specs.Tree.{Expanded, Tree, Item, Starts, Char, Ends, Skipped, tree_items, flat}
 use Rattle.lexical_core.specs.Tree as tree
 use Rattle.lexical_core.specs.declared.rule.Rule.{Rule}
 use Rattle.facets.specs.declared.simple.Simple.{Simple}

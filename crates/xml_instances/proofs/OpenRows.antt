@@ -1,7 +1,7 @@
 -- A message with a type that reaches itself: its types are finite, and what events go on to.
 use Rattle.std.proofs.Common.{◌≡◌, ℕ, zero, suc, true, List, [], ◌∷◌, ◌++◌, Some, None, refl, ap, arith, length}
 use Rattle.std.specs.Prelude.{slice_get, codes}
-use Rattle.lexical_core.specs.Tree.{Item, Starts, Char, Ends, Nodes, Element, Text, Tree, flat, tree_items}
+use Rattle.lexical_core.specs.Tree.{Item, Starts, Char, Ends, Element, Text, Tree}
 use Rattle.lexical_core.specs.Tree as tree
 use Rattle.facets.specs.declared.simple.Simple.{Simple}
 use Rattle.facets.specs.LeafChecks.{IsWithinLimits}

@@ -6,14 +6,14 @@ use Rattle.std.proofs.lemmas.List.{length-append}
 use Rattle.std.proofs.lemmas.Slice.Eq.{bytes_eq-Decides}
 use Rattle.std.proofs.lemmas.Bool.{cond-false}
 use Rattle.std.proofs.lemmas.Option.{same_Some}
-use Rattle.lexical_core.specs.Tree.{Expanded, Entry, Nodes, Element, Text, Tree, Item, Starts, Char, Ends, flat, flat_nodes}
+use Rattle.lexical_core.specs.Tree.{Expanded, Entry, Nodes, Element, Text, Tree, Item, Starts, Ends, flat, flat_nodes}
 use Rattle.lexical_core.specs.Tree as tree
 use Rattle.lexical_core.specs.Characters.{IsSpace}
 use Rattle.lexical_core.specs.Names.{same_name}
 use Rattle.data_types.specs.Leaf as leaf
 use Rattle.facets.specs.declared.simple.Simple.{Simple}
 use Rattle.markup.specs.Chars.{is_space}
-use Rattle.reference_check.specs.Forms.{Graph, Form, Slot, form_slots}
+use Rattle.reference_check.specs.Forms.{Form, Slot, form_slots}
 use Rattle.reference_check.specs.Forms as form
 use Rattle.reference_check.specs.Words.{IsWordOf}
 use Rattle.reference_check.specs.Steps.{Slotted, Fine, next, next_found, next_at, end_after}

@@ -1,6 +1,6 @@
 -- A checker that takes runs of characters and whole tags.
-use Rattle.std.proofs.Common.{◌≡◌, ℕ, ◌+◌, ◌-◌, ◌^◌, ◌≤◌, arith, take, drop, List, [], ◌∷◌, ◌++◌, Some, None, refl, sym, ap, ◌∙◌, length, map, subst, append_assoc, append-nil, length-append, inl, inr}
-use Rattle.std.specs.Prelude.{Result, Ok, Err, Option, IfOk, IfSome, ◌≢◌, encode_utf8, min}
+use Rattle.std.proofs.Common.{◌≡◌, ℕ, ◌+◌, ◌-◌, ◌^◌, ◌≤◌, arith, take, drop, List, [], ◌∷◌, ◌++◌, None, refl, sym, ap, ◌∙◌, length, map, subst, append_assoc, append-nil, length-append, inl, inr}
+use Rattle.std.specs.Prelude.{Result, Ok, Err, IfOk, ◌≢◌, encode_utf8, min}
 use Rattle.std.proofs.lemmas.List.{length-take-le, take-append-drop}
 use Rattle.std.proofs.lemmas.Str.{length-le-encodes}
 use Rattle.lexical_core.specs.declared.rule.Rule.TheVariants.{Truncated}
@@ -188,10 +188,6 @@ front_still T old new piece reader place events failed content = record {
 }
 
 -- ---- whole tags
-
--- what holds of a tag that is there
-pub of_some : {A : Type 0} (Holds : A → Type 0) (o : Option A) (tag : A) → o ≡ Some tag → IfSome o Holds → Holds tag
-of_some Holds o tag e h = subst (λ v. IfSome v Holds) e h
 
 -- what the reader answers for the events of a tag, by its name
 abbrev pub TagTold : Reader → Reader → List ℕ → (Expanded → List Item) → List ℕ → Type 0

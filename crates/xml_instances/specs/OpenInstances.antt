@@ -2,13 +2,13 @@
 use Rattle.std.specs.Prelude.{◌≡◌, ℕ, ◌+◌, ◌-◌, ◌<◌, List, ◌++◌, length, codes}
 use Rattle.std.specs.List.{AllByRecursion}
 use Rattle.std.specs.Str.{chars}
-use Rattle.lexical_core.specs.Tree.{Expanded, Entry, Nodes, Element, Text, Tree, TreeIs, Item, flat, flat_nodes, tree_items}
+use Rattle.lexical_core.specs.Tree.{Entry, Nodes, Element, Text, Tree, Item, flat, flat_nodes, tree_items}
 use Rattle.lexical_core.specs.Tree as tree
 use Rattle.lexical_core.specs.Characters.{IsSpace}
 use Rattle.data_types.specs.Leaf.{Leaf}
 use Rattle.facets.specs.LeafUnder.{GivesLeaf}
 use Rattle.facets.specs.declared.simple.Simple.{Simple}
-use Rattle.reference_check.specs.Forms.{Graph, Form, Slot, form_slots}
+use Rattle.reference_check.specs.Forms.{Graph, Form, form_slots}
 use Rattle.reference_check.specs.Forms as form
 use Rattle.reference_check.specs.Shapes.{Shape, Component, OpenLeaf, Nothing, Child, HasShape}
 use Rattle.message_model.specs.Message.{Message}

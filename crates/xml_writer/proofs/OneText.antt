@@ -5,7 +5,6 @@ use Rattle.data_types.specs.Canonical.{escaped_text}
 use Rattle.data_types.specs.Leaf.{Leaf, Number}
 use Rattle.data_types.specs.Value.{Value, Children, Nothing, Child}
 use Rattle.data_types.specs.Value as value
-use Rattle.data_types.specs.declared.kind.Kind.TheVariants as kind
 use Rattle.facets.specs.declared.simple.Simple.{Simple}
 use Rattle.facets.proofs.CodeVerdicts.{one_canonical_by}
 use Rattle.reference_check.specs.Forms.{Graph, Form, Slot, form_slots}

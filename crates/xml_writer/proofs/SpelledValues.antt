@@ -1,12 +1,12 @@
 -- The canonical content of a value is tokens that stand in any element, and their events are those of nodes that write the value.
 use Rattle.std.proofs.Common.{◌≡◌, ◌≢◌, ◌≤◌, inl, inr, ℕ, true, false, List, [], ◌∷◌, ◌++◌, Some, None, codes, length, flat_map, refl, sym, ap, ap₂, subst, ◌∙◌, append_assoc, arith}
-use Rattle.std.specs.Prelude.{slice_get, encode_utf8_all, encode_utf8}
+use Rattle.std.specs.Prelude.{slice_get, encode_utf8_all}
 use Rattle.std.specs.List.{AllByRecursion}
 use Rattle.std.proofs.lemmas.Str.{chars_from_encodes}
 use Rattle.lexical_core.specs.Characters.{IsXmlChar}
-use Rattle.lexical_core.specs.Tree.{Entry, Item, Starts, Char, Ends, Nodes, Element, Text, Tree, flat_nodes, flat}
+use Rattle.lexical_core.specs.Tree.{Entry, Item, Starts, Ends, Nodes, Element, Tree, flat_nodes, flat}
 use Rattle.lexical_core.specs.Tree as tree
-use Rattle.lexical_core.specs.Names.{xml_namespace, xmlns_namespace}
+use Rattle.lexical_core.specs.Names.{xmlns_namespace}
 use Rattle.lexical_core.proofs.CharacterLemmas.{xml_text_is_utf8}
 use Rattle.data_types.specs.Leaf.{Leaf, Number}
 use Rattle.data_types.specs.Value.{Value, Children, Nothing, Child}
@@ -24,7 +24,7 @@ use Rattle.fragments.specs.Fragment.{start_text, end_text, nodes_text, fragment}
 use Rattle.respell.proofs.TagNames.{opening_of, Knows, knows_within}
 use Rattle.respell.proofs.Trees.{Stays, stays_none, inside_of, not_over, element_stays, stays-append, retext, nodes_stay, fragment_within}
 use Rattle.respell.specs.ShortTags.{HaveShortTags}
-use Rattle.reference_check.specs.Forms.{Graph, Form, Slot, form_slots}
+use Rattle.reference_check.specs.Forms.{Form, Slot, form_slots}
 use Rattle.reference_check.specs.Forms as form
 use Rattle.message_model.specs.Admits.{AdmitsAs, AdmitsChildren, FitsCode}
 use Rattle.message_model.specs.Message.{Message}

@@ -2,7 +2,7 @@
 use Rattle.std.proofs.Common.{◌≡◌, ℕ, true, false, List, [], ◌∷◌, ◌++◌, Option, Some, codes, refl, sym, ap, subst, ◌∙◌, append_assoc, append-nil}
 use Rattle.std.specs.Prelude.{slice_get}
 use Rattle.data_types.specs.Leaf.{Bytes, Number}
-use Rattle.data_types.specs.Value.{Value, Children, Nothing, Child, Edge, Piece, Begins, Holds, Ends}
+use Rattle.data_types.specs.Value.{Value, Children, Nothing, Child, Edge, Piece, Begins, Ends}
 use Rattle.data_types.specs.Value as value
 use Rattle.facets.specs.declared.simple.Simple.{Simple}
 use Rattle.fragments.specs.Fragment.{fragment}

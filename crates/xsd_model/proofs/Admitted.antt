@@ -3,7 +3,7 @@ use Rattle.std.proofs.Common.{◌≡◌, ℕ, List, [], ◌∷◌, map, Option, 
 use Rattle.std.specs.Prelude.{slice_get, codes}
 use Rattle.std.specs.Str.{chars}
 use Rattle.lexical_core.specs.Decimals.{Number as DecimalNumber}
-use Rattle.lexical_core.specs.Tree.{Expanded, Entry, Nodes, Element, Text, Tree}
+use Rattle.lexical_core.specs.Tree.{Entry, Nodes, Element, Text, Tree}
 use Rattle.lexical_core.specs.Tree as tree
 use Rattle.lexical_core.specs.Characters.{IsSpace}
 use Rattle.data_types.specs.Leaf.{Leaf, Number}

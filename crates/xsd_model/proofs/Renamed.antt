@@ -1,7 +1,6 @@
 -- What types admit and write, the same types under other names do, and the other way round.
-use Rattle.std.proofs.Common.{◌≡◌, ◌↔◌, ℕ, List, [], ◌∷◌, map, Some, refl, sym, ap, subst, ◌∙◌}
+use Rattle.std.proofs.Common.{◌≡◌, ◌↔◌, ℕ, List, [], ◌∷◌, map, Some, sym, ap, subst, ◌∙◌}
 use Rattle.std.specs.Prelude.{slice_get}
-use Rattle.std.proofs.lemmas.List.{length-map}
 use Rattle.std.specs.Str.{chars}
 use Rattle.lexical_core.specs.Tree.{Entry, Nodes, Element, Text, Tree}
 use Rattle.lexical_core.specs.Tree as tree
@@ -11,7 +10,6 @@ use Rattle.data_types.specs.Value as value
 use Rattle.facets.specs.declared.simple.Simple.{Simple}
 use Rattle.reference_check.specs.Forms.{Graph, Form, Slot, form_slots, slot_to, form_to}
 use Rattle.reference_check.specs.Forms as form
-use Rattle.reference_check.specs.Words.{IsOrderedFrom, MayComeTimes, IsSequence, IsChoice}
 use Rattle.reference_check.proofs.RenamedForms.{slots_to, sequence_to, sequence_from, choice_to, choice_from}
 use Rattle.message_model.specs.Admits.{AdmitsAs, AdmitsChildren, FitsCode, numbers_of}
 use Rattle.message_model.specs.Writes.{name_in_namespace, SpellsCode, WritesAttributes, MayHold, WritesLeaf, WritesContent, WritesAs}

@@ -7,7 +7,7 @@ use Rattle.std.specs.Cmp.Lexicographic.{slice_cmp}
 use Rattle.markup.specs.Marks.{begins_with}
 use Rattle.markup.specs.Events.{declared_prefix}
 use Rattle.markup.specs.PlainStarts.{PlainAttribute, is_plain_attribute, plain_attribute_text}
-use Rattle.markup.specs.AttributeTags.{is_bare, ascend, ascend_behind}
+use Rattle.markup.specs.AttributeTags.{is_bare_attribute, ascend, ascend_behind}
 use Rattle.markup.specs.declared.attribute_tag.AttributeTag.{AttributeTag}
 use Rattle.markup.specs.declared.attribute_tag.TagAttribute.{TagAttribute}
 use Rattle.markup.specs.declared.plain_tag.TagKind.{TagKind}
@@ -37,12 +37,12 @@ latest_of latest (a ∷ more) = latest_of a.name.local more
 -- These attributes are left, whose names ascend behind this one.
 pub record AreBareLeft (latest : List ℕ) (others : List PlainAttribute) : Type 0 where
   pub plain : list_all is_plain_attribute others ≡ true
-  pub bare : list_all is_bare others ≡ true
+  pub bare : list_all is_bare_attribute others ≡ true
   pub ascending : ascend_behind latest others ≡ true
 
 -- Where the bytes are such attributes, behind which no space follows, what is left is the last of these.
 abbrev pub LeavesBare : List ℕ → List ℕ → List ℕ → Type 0
-LeavesBare bytes latest left = (attributes : List PlainAttribute) (last : List ℕ) → list_all is_plain_attribute attributes ≡ true → list_all is_bare attributes ≡ true → ascend attributes ≡ true → begins_with 32 last ≡ false → bytes ≡ flat_map plain_attribute_text attributes ++ last
+LeavesBare bytes latest left = (attributes : List PlainAttribute) (last : List ℕ) → list_all is_plain_attribute attributes ≡ true → list_all is_bare_attribute attributes ≡ true → ascend attributes ≡ true → begins_with 32 last ≡ false → bytes ≡ flat_map plain_attribute_text attributes ++ last
     → (others : List PlainAttribute) × AreBareLeft latest others × (left ≡ flat_map plain_attribute_text others ++ last)
 
 -- The attributes before what is left are found, of which the last has this local name.

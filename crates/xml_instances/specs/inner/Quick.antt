@@ -70,5 +70,5 @@ is_parent (Some (opened.Parent number last count)) = true
 is_parent o = false
 
 -- the events of a start tag of this name
-abbrev pub start_items : Bool → List Entry → Expanded → List Item
-start_items is_empty entries n = start_tag_items (Some n) entries is_empty
+abbrev pub start_events : Bool → List Entry → Expanded → List Item
+start_events is_empty entries n = start_tag_items (Some n) entries is_empty

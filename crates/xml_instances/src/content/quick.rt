@@ -9,7 +9,7 @@ ghost use Rattle.xml_instances.specs.Levels.{Level};
 ghost use Rattle.xml_instances.specs.Built.{EventsShow, ShowsBeside, StartShown};
 ghost use Rattle.xml_instances.specs.Keeping.{GoOn, MayShowName, TagShowsBeside};
 ghost use Rattle.xml_instances.specs.Open.{IsOpen, AreMade, IsPlaced, IsItemTaken, IsTextMade, HoldsText};
-ghost use Rattle.xml_instances.specs.inner.Quick.{MayTake, IsRoomIn, IsRunTaken, AreItemsTaken, IsOurs, is_parent, start_items};
+ghost use Rattle.xml_instances.specs.inner.Quick.{MayTake, IsRoomIn, IsRunTaken, AreItemsTaken, IsOurs, is_parent, start_events};
 ghost use Rattle.xml_instances.specs.inner.Known.{entries_given};
 ghost use Rattle.xml_instances.specs.Verdicts.{IsLean, IsTextVerdict};
 
@@ -169,9 +169,9 @@ impl Content {
         ensures made { AreMade (types_of model.now) self.new }
         ensures lean { IsLean self.old → IsLean self.new }
         ensures taken { (ls : List (Level ℕ)) (n : Expanded) → n.local ≡ name.now → IsOurs (message_of model.now) ls n → IsOpen self.old (message_of model.now) ls
-            → AreItemsTaken (message_of model.now) ls (start_items is_empty (entries_given attrs.now) n) self.new result }
+            → AreItemsTaken (message_of model.now) ls (start_events is_empty (entries_given attrs.now) n) self.new result }
         ensures shown { (ls : List (Level ℕ)) (n : Expanded) → n.local ≡ name.now → IsOurs (message_of model.now) ls n → IsOpen self.old (message_of model.now) ls
-            → OnOk result (GoOn self.old.pieces self.new.pieces (EventsShow model.now ls (start_items is_empty (entries_given attrs.now) n))) }
+            → OnOk result (GoOn self.old.pieces self.new.pieces (EventsShow model.now ls (start_events is_empty (entries_given attrs.now) n))) }
     {
         match self.start_inside(model, name, attrs) {
             Ok(()) => { if is_empty { self.end(model) } else { Ok(()) } }

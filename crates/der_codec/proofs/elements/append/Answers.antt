@@ -1,5 +1,4 @@
-use Rattle.std.proofs.Common.{◌≡◌, ◌∷◌, [], ap, subst}
-use Rattle.data_types.specs.Leaf.{Bytes}
+use Rattle.std.proofs.Common.{◌∷◌, [], ap, subst}
 use Rattle.data_types.specs.LeafAnswers.{leaf_of}
 use Rattle.data_types.specs.Value.{Holds}
 use Rattle.der_codec.specs.Reserved.{HoldsMore}

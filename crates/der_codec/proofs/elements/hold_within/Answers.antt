@@ -1,5 +1,4 @@
 use Rattle.std.proofs.Common.{◌++◌, ◌∷◌, [], ap, ◌∙◌}
-use Rattle.std.specs.Prelude.{Some}
 use Rattle.data_types.specs.LeafAnswers.{leaf_of}
 use Rattle.data_types.specs.Value.{Holds}
 use Rattle.inst_pool.specs.Pieces.{open_in}
@@ -7,7 +6,6 @@ use Rattle.der_model.specs.ShownPieces.{begin_each, end_each}
 use Rattle.der_codec.specs.inner.Elements.{edges_of}
 use Rattle.der_codec.proofs.PiecesOpen.{on_ok_when, leaf_open}
 use Rattle.der_codec.proofs.ShownUsual.{pieces_join}
-use Rattle.der_codec.specs.Reserved.{HoldsMore, GrowsRoom}
 use Rattle.der_codec.proofs.Growing.{holds_first, holds_then}
 use Rattle.der_codec.proofs.elements.hold_within.Goals as goal
 

@@ -1,5 +1,4 @@
-use Rattle.std.proofs.Common.{◌≡◌, refl, rules, ℕ, List}
-use Rattle.data_types.specs.Value.{Value}
+use Rattle.std.proofs.Common.{refl, rules}
 use Rattle.message_model.specs.Tables.{message_of}
 use Rattle.der_model.specs.Der.{SpellsDer}
 use Rattle.der_model.specs.DerMessage.{der_message}

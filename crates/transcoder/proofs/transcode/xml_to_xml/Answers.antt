@@ -1,5 +1,4 @@
-use Rattle.std.proofs.Common.{◌≡◌, refl, rules, ℕ, List}
-use Rattle.data_types.specs.Value.{Value}
+use Rattle.std.proofs.Common.{refl, rules}
 use Rattle.message_model.specs.Tables.{message_of}
 use Rattle.xml_instances.specs.SpellsXml.{SpellsXml}
 use Rattle.xml_writer.specs.CanonXml.{IsCanonXml}

@@ -1,4 +1,4 @@
-use Rattle.std.proofs.Common.{◌≡◌, arith, ◌++◌, refl, ◌∙◌, ap}
+use Rattle.std.proofs.Common.{◌≡◌, arith, ◌++◌, refl, ap}
 use Rattle.std.specs.Prelude.{Err}
 use Rattle.der_codec.proofs.Fed.{kept_short, last_has, last_ends, refused_within}
 use Rattle.der_codec.proofs.Keeping.{keeping_as, levels_same, grows_same, enough_then}

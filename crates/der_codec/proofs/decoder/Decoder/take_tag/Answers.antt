@@ -1,6 +1,5 @@
 use Rattle.std.proofs.Common.{◌∷◌, ◌++◌, [], ◌+◌, sym, subst, refl, arith, ap}
 use Rattle.lexical_core.specs.declared.rule.Rule.TheVariants.{Overrun, BadTagOctets}
-use Rattle.der_octets.specs.TagSteps.{tag_view}
 use Rattle.der_octets.specs.TagSteps as tags
 use Rattle.message_model.specs.Tables.{message_of}
 use Rattle.der_model.specs.DerMessage.{in_der}

@@ -1,4 +1,4 @@
-use Rattle.std.proofs.Common.{refl, ◌++◌}
+use Rattle.std.proofs.Common.{◌++◌}
 use Rattle.der_codec.proofs.StepTies.{ok_when}
 use Rattle.der_codec.specs.ReadInstances.{reserved_room}
 use Rattle.der_codec.proofs.Keeping.{made_keeps, begins_fit}

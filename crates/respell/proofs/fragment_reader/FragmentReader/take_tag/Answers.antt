@@ -1,5 +1,6 @@
 use Rattle.markup.specs.Marks.{no_limit}
-use Rattle.respell.proofs.FragmentParts.{reads_none, reads_tag, some_holds}
+use Rattle.markup.proofs.StartsTold.{some_holds}
+use Rattle.respell.proofs.FragmentParts.{reads_none, reads_tag}
 use Rattle.respell.proofs.fragment_reader.FragmentReader.take_tag.Goals as goal
 
 pub returns-then-not-is_in_default : goal.returns-then-not-is_in_default
