@@ -3,7 +3,7 @@ use Rattle.std.proofs.Common.{◌≡◌, ℕ, Bool, true, false, ◌==◌, ◌||
 use Rattle.std.specs.Bool.{if◌then◌else◌}
 use Rattle.std.specs.Char.{encode_utf8}
 use Rattle.std.specs.Int.{is_in_range}
-use Rattle.std.specs.List.{list_all, flat_map}
+use Rattle.std.specs.List.{list_all}
 use Rattle.std.specs.Option.{is_none}
 use Rattle.std.specs.Str.{encode_utf8_all, bytes_eq}
 use Rattle.std.proofs.lemmas.Bool.{and_parts, and_from, or_left, or_right, both_ways, eqb-true, le-leb}
@@ -16,7 +16,7 @@ use Rattle.lexical_core.specs.declared.rule.Rule.TheVariants.{BadPrefix, AfterRo
 use Rattle.lexical_core.proofs.Tests.{suc_not_zero}
 use Rattle.markup.specs.Chars.{in_some, name_start_ranges, name_more_ranges, is_name_start, is_name_char}
 use Rattle.markup.specs.Name.{Plain, is_part}
-use Rattle.markup.specs.Token.{Token, Mark, Start, End, token_bytes}
+use Rattle.markup.specs.Token.{Token, Start, End, token_bytes}
 use Rattle.markup.specs.Marks.{in_cdata, is_first, stands, is_short}
 use Rattle.markup.specs.Events.{Placed, open_tags, namespace_of, expanded_in, start_tag_items, events, items_of}
 use Rattle.markup.specs.Faults.{rule_of, is_over, is_outside, has_start, end_rule}
@@ -25,8 +25,7 @@ use Rattle.markup.specs.Contexts.{IsContext}
 use Rattle.markup.specs.Drafts.{no_draft}
 use Rattle.markup.specs.ScanRuns.{run, position, placed_by, ended_of}
 use Rattle.markup.specs.Tokenizers.{after_other, behind_token, is_between, is_in_text, is_text, after_whole_tokens}
-use Rattle.markup.specs.Reading.{Keeps, HasTakenUnder, HasToldUnder, MayTakeTagUnder, MayTakeStartUnder, MayTakeAttributesUnder}
-use Rattle.markup.specs.Inputs.{Any}
+use Rattle.markup.specs.Reading.{HasTakenUnder, HasToldUnder, IsInTextUnder, MayTakeTagUnder, MayTakeStartUnder, MayTakeAttributesUnder}
 use Rattle.markup.specs.PlainStarts.{PlainStart}
 use Rattle.markup.specs.PlainTags.{begins_plain, continues_plain, is_plain_name, tag_text, tag_items, open_behind, innermost_namespace, name_behind, may_be_named, IsPlainInside, tags_behind, IsTagInside}
 use Rattle.markup.specs.declared.context.Context.{Context}
@@ -38,6 +37,7 @@ use Rattle.markup.specs.declared.scan.Scan.TheVariants.{Begin}
 use Rattle.markup.specs.declared.scope.Scope.{Scope}
 use Rattle.markup.specs.declared.tag.Opening.{Opening}
 use Rattle.markup.specs.declared.tag.Spelled.{Spelled}
+use Rattle.markup.proofs.CharacterRuns.{first_is_outside}
 use Rattle.markup.proofs.OpenTags.{IsPlainPart, innermost_part, AreExpanded, open_expanded, innermost_default, innermost_ends, inside_started}
 use Rattle.markup.proofs.PlainLemmas.{is_fresh, no_chars, at_same, text_place, text_between}
 use Rattle.markup.proofs.ReaderLemmas.{told_so_far, starts}
@@ -238,19 +238,17 @@ module _ {limit : ℕ} (r : Reader) (scope : Scope) (bytes piece : List ℕ) (to
       (subst (λ v. HasTakenUnder limit (record { tokenizer = after_whole_tokens r.tokenizer count; context = context; failed = r.failed }) (bytes ++ token_bytes token) (told ++ placed_at (length bytes) v)) items taken))
 
 -- a reader behind which the tag may come is where one begins
-first_is_outside : (before : List Token) (opened : List ℕ) → is_first before ≡ true → IsPlainInside (open_tags before) opened → ⊥
-first_is_outside [] opened h i = i
-first_is_outside (Mark ∷ []) opened h i = i
-first_is_outside (t ∷ before) opened h i = first_two t before h i where
-  first_two : (t : Token) (before : List Token) → is_first (t ∷ before) ≡ true → IsPlainInside (open_tags (t ∷ before)) opened → ⊥
-  first_two Mark [] h i = i
-  first_two _ _ h i = both_ways false refl h
-
-not_first : (before : List Token) (opened : List ℕ) → IsPlainInside (open_tags before) opened → is_first before ≡ false
-not_first before opened i = by (is_first before) (λ f. first_is_outside before opened f i) where
+pub not_first : (before : List Token) → is_outside before ≡ false → is_first before ≡ false
+not_first before inside = by (is_first before) (λ f. both_ways (is_outside before) inside (first_is_outside before f)) where
   by : (b : Bool) → (b ≡ true → ⊥) → b ≡ false
   by true n = absurd (n refl)
   by false n = refl
+
+plain_not_first : (before : List Token) (opened : List ℕ) → IsPlainInside (open_tags before) opened → is_first before ≡ false
+plain_not_first before opened i = not_first before (some_open (open_tags before) i) where
+  some_open : (tags : List Opening) → IsPlainInside tags opened → (length tags == 0) ≡ false
+  some_open [] i = absurd i
+  some_open (t ∷ tags) i = refl
 
 begins_text : (before : List Token) → in_cdata before ≡ false → is_first before ≡ false → is_text (Begin (position before)) ≡ true
 begins_text [] c f = absurd (both_ways true f refl)
@@ -261,13 +259,14 @@ begins_text (t ∷ before) c f = by (is_first (t ∷ before)) (in_cdata (t ∷ b
   by false false e n = refl
 
 -- behind whole tokens, in no CDATA section, and neither first nor behind the byte order mark
-text_behind : {limit : ℕ} (r : Reader) (bytes : List ℕ) (told : List Placed) (ts : List Token) → Keeps limit Any r bytes ts told → flat_map token_bytes ts ≡ bytes → in_cdata (reverse ts) ≡ false → is_first (reverse ts) ≡ false → is_in_text r.tokenizer ≡ true
-text_behind r bytes told ts keeps whole in_text behind =
-    let o = keeps.reads.opens in
-    let begun : r.tokenizer.place ≡ r.tokenizer.start = keeps.place ∙ (ap length (sym whole) ∙ sym (starts r bytes ts told keeps)) in
-    let none = no_chars o.chars o.part (ap length (sym o.bytes_are) ∙ count r.tokenizer.place r.tokenizer.start (length keeps.reads.bytes) o.place_is begun) in
+pub text_behind : {limit : ℕ} (r : Reader) (bytes : List ℕ) (told : List Placed) (m : IsInTextUnder limit r bytes told) → is_first (reverse m.tokens) ≡ false → is_in_text r.tokenizer ≡ true
+text_behind r bytes told m behind =
+    let ts = m.tokens in
+    let o = m.keeps.reads.opens in
+    let begun : r.tokenizer.place ≡ r.tokenizer.start = m.keeps.place ∙ (ap length (sym m.whole) ∙ sym (starts r bytes ts told m.keeps)) in
+    let none = no_chars o.chars o.part (ap length (sym o.bytes_are) ∙ count r.tokenizer.place r.tokenizer.start (length m.keeps.reads.bytes) o.place_is begun) in
     let scan_is : (Begin (position (reverse ts)) ≡ r.tokenizer.scan) × (no_draft ≡ r.tokenizer.draft) = at_same (Begin (position (reverse ts))) r.tokenizer.scan no_draft r.tokenizer.draft (ap (run (Begin (position (reverse ts))) no_draft) (sym none.0) ∙ o.scan_is) in
-    and_from (is_text r.tokenizer.scan) (r.tokenizer.place == r.tokenizer.start) (ap is_text (sym scan_is.0) ∙ begins_text (reverse ts) in_text behind) (subst (λ v. (r.tokenizer.place == v) ≡ true) begun (same_place r.tokenizer.place)) where
+    and_from (is_text r.tokenizer.scan) (r.tokenizer.place == r.tokenizer.start) (ap is_text (sym scan_is.0) ∙ begins_text (reverse ts) m.in_text behind) (subst (λ v. (r.tokenizer.place == v) ≡ true) begun (same_place r.tokenizer.place)) where
       count : (p s n : ℕ) → p ≡ s + n → p ≡ s → n ≡ 0
       count p s n h k = omega arith
 
@@ -275,10 +274,10 @@ text_behind r bytes told ts keeps whole in_text behind =
       same_place p = grind (arith, nat_tests)
 
 pub text_here : {limit : ℕ} (r : Reader) (bytes : List ℕ) (told : List Placed) (kind : TagKind) (name : List ℕ) → MayTakeTagUnder limit r bytes told kind name → is_in_text r.tokenizer ≡ true
-text_here r bytes told kind name m = text_behind r bytes told m.tokens m.keeps m.whole m.in_text (not_first (reverse m.tokens) m.opened m.inside)
+text_here r bytes told kind name m = text_behind r bytes told m.before (plain_not_first (reverse m.before.tokens) m.opened m.inside)
 
 pub start_here : {limit : ℕ} (r : Reader) (bytes : List ℕ) (told : List Placed) (tag : PlainStart) → MayTakeStartUnder limit r bytes told tag → is_in_text r.tokenizer ≡ true
-start_here r bytes told tag m = text_behind r bytes told m.tokens m.keeps m.whole m.in_text m.behind
+start_here r bytes told tag m = text_behind r bytes told m.before m.behind
 
 pub bare_here : {limit : ℕ} (r : Reader) (bytes : List ℕ) (told : List Placed) (tag : PlainStart) → MayTakeAttributesUnder limit r bytes told tag → is_in_text r.tokenizer ≡ true
-bare_here r bytes told tag m = text_behind r bytes told m.tokens m.keeps m.whole m.in_text (not_first (reverse m.tokens) m.opened m.inside)
+bare_here r bytes told tag m = text_behind r bytes told m.before (plain_not_first (reverse m.before.tokens) m.opened m.inside)

@@ -4,7 +4,7 @@ use Rattle.std.specs.Bool.{if◌then◌else◌}
 use Rattle.std.specs.Char.{is_digit}
 use Rattle.std.specs.List.{list_all}
 use Rattle.std.specs.Str.{encode_utf8_all}
-use Rattle.std.proofs.lemmas.Bool.{and_parts, and_from, both_ways}
+use Rattle.std.proofs.lemmas.Bool.{and_parts, and_from}
 use Rattle.std.proofs.lemmas.Bool.Decides.{nat_tests}
 use Rattle.std.proofs.lemmas.List.{length-take-le}
 use Rattle.std.proofs.lemmas.Str.{encode_ascii}
@@ -15,25 +15,23 @@ use Rattle.markup.specs.Ascii.{is_ascii}
 use Rattle.markup.specs.Reference.{Ampersand, Less, Greater, Apostrophe, Quote, Reference, Named, Numbered, is_reference, referred_character, reference_text}
 use Rattle.markup.specs.References.{IsReferenceAt, MayReferUnder}
 use Rattle.markup.specs.Token.{Token, Refer, token_bytes}
-use Rattle.markup.specs.Marks.{in_cdata, is_first}
+use Rattle.markup.specs.Marks.{in_cdata}
 use Rattle.markup.specs.Events.{Placed, open_tags}
 use Rattle.markup.specs.Faults.{is_outside}
 use Rattle.markup.specs.Scopes.{placed_at}
-use Rattle.markup.specs.ScanRuns.{run, position, placed_by}
-use Rattle.markup.specs.Drafts.{no_draft}
+use Rattle.markup.specs.ScanRuns.{position}
 use Rattle.markup.specs.Contexts.{IsContext, HasOpen, without_brackets}
-use Rattle.markup.specs.Tokenizers.{is_between, is_text, is_in_text}
+use Rattle.markup.specs.Tokenizers.{is_between, is_in_text}
 use Rattle.markup.specs.Reading.{HasTakenUnder, HasToldUnder}
 use Rattle.markup.specs.inner.ReaderSteps.{passed_over}
 use Rattle.markup.specs.declared.reader.Reader.{Reader}
-use Rattle.markup.specs.declared.scan.Scan.TheVariants.{Begin}
-use Rattle.markup.proofs.PlainLemmas.{is_fresh, no_chars, at_same, text_place, text_between}
-use Rattle.markup.proofs.ReaderLemmas.{told_so_far, starts}
+use Rattle.markup.proofs.PlainTagLemmas.{not_first, text_behind}
+use Rattle.markup.proofs.PlainLemmas.{is_fresh, text_place, text_between}
+use Rattle.markup.proofs.ReaderLemmas.{told_so_far}
 use Rattle.markup.proofs.ReferenceLemmas.{body, reference_then, IsNumbered, numbered_facts}
 use Rattle.markup.proofs.Spans.{heads, tails}
 use Rattle.markup.proofs.TokenRuleLemmas.{in_cdata-open}
 use Rattle.markup.proofs.WholeTokens.{IsNext, takes_next}
-use Rattle.markup.proofs.CharacterRuns.{first_is_outside}
 
 -- ---- references are written in ASCII
 
@@ -159,24 +157,5 @@ some_bytes piece c n a = omega (arith, length-take-le n piece a.within, ap lengt
 
 -- ---- a reader behind which one may come is where one begins
 
-begins_text : (before : List Token) → in_cdata before ≡ false → is_outside before ≡ false → is_text (Begin (position before)) ≡ true
-begins_text [] c i = absurd (both_ways true i refl)
-begins_text (t ∷ before) c i = by (is_first (t ∷ before)) (in_cdata (t ∷ before)) c (λ f. both_ways (is_outside (t ∷ before)) i (first_is_outside (t ∷ before) f)) where
-  by : (f g : Bool) → g ≡ false → (f ≡ true → ⊥) → is_text (Begin (placed_by f g)) ≡ true
-  by true g e n = absurd (n refl)
-  by false true e n = absurd (both_ways true e refl)
-  by false false e n = refl
-
 pub text_here : {limit : ℕ} (r : Reader) (bytes : List ℕ) (told : List Placed) → MayReferUnder limit r bytes told → is_in_text r.tokenizer ≡ true
-text_here r bytes told m =
-    let ts = m.tokens in
-    let o = m.keeps.reads.opens in
-    let begun : r.tokenizer.place ≡ r.tokenizer.start = m.keeps.place ∙ (ap length (sym m.whole) ∙ sym (starts r bytes ts told m.keeps)) in
-    let none = no_chars o.chars o.part (ap length (sym o.bytes_are) ∙ count r.tokenizer.place r.tokenizer.start (length m.keeps.reads.bytes) o.place_is begun) in
-    let scan_is : (Begin (position (reverse ts)) ≡ r.tokenizer.scan) × (no_draft ≡ r.tokenizer.draft) = at_same (Begin (position (reverse ts))) r.tokenizer.scan no_draft r.tokenizer.draft (ap (run (Begin (position (reverse ts))) no_draft) (sym none.0) ∙ o.scan_is) in
-    and_from (is_text r.tokenizer.scan) (r.tokenizer.place == r.tokenizer.start) (ap is_text (sym scan_is.0) ∙ begins_text (reverse ts) m.in_text m.inside) (subst (λ v. (r.tokenizer.place == v) ≡ true) begun (same_place r.tokenizer.place)) where
-      count : (p s n : ℕ) → p ≡ s + n → p ≡ s → n ≡ 0
-      count p s n h k = omega arith
-
-      same_place : (p : ℕ) → (p == p) ≡ true
-      same_place p = grind (arith, nat_tests)
+text_here r bytes told m = text_behind r bytes told m.before (not_first (reverse m.before.tokens) m.inside)

@@ -151,41 +151,39 @@ EndsEarly bytes error = EndsEarlyUnder tag_limit bytes error
 abbrev pub NoFaultTaken : Type 0
 NoFaultTaken = (reader : Reader) (bytes : List ℕ) (told : List Placed) → HasTaken reader bytes told → (f : Fault) → MarkFault bytes f → f.rule ≡ Truncated
 
--- The bytes are whole tokens, whose events are told, and behind them the plain tag of the name may come, which has no more bytes than one of XML: outside CDATA sections, where the innermost open element has no prefix.
-pub record MayTakeTagUnder (limit : ℕ) (reader : Reader) (bytes : List ℕ) (told : List Placed) (kind : TagKind) (name : List ℕ) : Type 0 where
+-- The bytes are whole tokens, whose events are told, and no CDATA section is open behind them.
+pub record IsInTextUnder (limit : ℕ) (reader : Reader) (bytes : List ℕ) (told : List Placed) : Type 0 where
   pub tokens : List Token
   pub keeps : Keeps limit Any reader bytes tokens told
   pub whole : flat_map token_bytes tokens ≡ bytes
   pub in_text : in_cdata (reverse tokens) ≡ false
+
+-- Behind whole tokens, outside CDATA sections, the plain tag of the name may come, which has no more bytes than one of XML: where the innermost open element has no prefix.
+pub record MayTakeTagUnder (limit : ℕ) (reader : Reader) (bytes : List ℕ) (told : List Placed) (kind : TagKind) (name : List ℕ) : Type 0 where
+  pub before : IsInTextUnder limit reader bytes told
   pub opened : List ℕ
-  pub inside : IsPlainInside (open_tags (reverse tokens)) opened
+  pub inside : IsPlainInside (open_tags (reverse before.tokens)) opened
   pub named : may_be_named kind opened name
   pub short : length (tag_text kind name) ≤ tag_limit
 
 abbrev pub MayTakeTag : Reader → List ℕ → List Placed → TagKind → List ℕ → Type 0
 MayTakeTag reader bytes told kind name = MayTakeTagUnder tag_limit reader bytes told kind name
 
--- The bytes are whole tokens, whose events are told, and behind them the plain start tag may come, which has no more bytes than one of XML: outside CDATA sections, and neither first nor right behind the byte order mark, where the declaration may come.
+-- Behind whole tokens, outside CDATA sections, the plain start tag may come, which has no more bytes than one of XML: neither first nor right behind the byte order mark, where the declaration may come.
 pub record MayTakeStartUnder (limit : ℕ) (reader : Reader) (bytes : List ℕ) (told : List Placed) (tag : PlainStart) : Type 0 where
-  pub tokens : List Token
-  pub keeps : Keeps limit Any reader bytes tokens told
-  pub whole : flat_map token_bytes tokens ≡ bytes
-  pub in_text : in_cdata (reverse tokens) ≡ false
-  pub behind : is_first (reverse tokens) ≡ false
+  pub before : IsInTextUnder limit reader bytes told
+  pub behind : is_first (reverse before.tokens) ≡ false
   pub plain : is_plain_start tag ≡ true
   pub short : length (plain_start_text tag) ≤ tag_limit
 
 abbrev pub MayTakeStart : Reader → List ℕ → List Placed → PlainStart → Type 0
 MayTakeStart reader bytes told tag = MayTakeStartUnder tag_limit reader bytes told tag
 
--- The bytes are whole tokens, whose events are told, and behind them the plain start tag may come whose attributes have no prefix, declare nothing and ascend, which has no more bytes than one of XML: outside CDATA sections, where the innermost open element has no prefix.
+-- Behind whole tokens, outside CDATA sections, the plain start tag may come whose attributes have no prefix, declare nothing and ascend, which has no more bytes than one of XML: where the innermost open element has no prefix.
 pub record MayTakeAttributesUnder (limit : ℕ) (reader : Reader) (bytes : List ℕ) (told : List Placed) (tag : PlainStart) : Type 0 where
-  pub tokens : List Token
-  pub keeps : Keeps limit Any reader bytes tokens told
-  pub whole : flat_map token_bytes tokens ≡ bytes
-  pub in_text : in_cdata (reverse tokens) ≡ false
+  pub before : IsInTextUnder limit reader bytes told
   pub opened : List ℕ
-  pub inside : IsPlainInside (open_tags (reverse tokens)) opened
+  pub inside : IsPlainInside (open_tags (reverse before.tokens)) opened
   pub plain : is_bare_start tag ≡ true
   pub short : length (plain_start_text tag) ≤ tag_limit
 

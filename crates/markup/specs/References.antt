@@ -1,13 +1,9 @@
 -- References that stand whole at the front of bytes.
 use Rattle.std.specs.Prelude.{◌≡◌, ℕ, true, false, List, length, take, reverse, encode_utf8_all, ◌≤◌}
-use Rattle.std.specs.List.{flat_map}
 use Rattle.markup.specs.Reference.{Reference, is_reference, referred_character, reference_text}
-use Rattle.markup.specs.Token.{Token, token_bytes}
-use Rattle.markup.specs.Marks.{in_cdata}
 use Rattle.markup.specs.Events.{Placed}
 use Rattle.markup.specs.Faults.{is_outside}
-use Rattle.markup.specs.Inputs.{Any}
-use Rattle.markup.specs.Reading.{Keeps}
+use Rattle.markup.specs.Reading.{IsInTextUnder}
 use Rattle.markup.specs.declared.reader.Reader.{Reader}
 
 -- So many bytes at the front of the piece are a reference, which gives this character (XML 1.0 §4.1, §4.6).
@@ -18,10 +14,7 @@ pub record IsReferenceAt (piece : List ℕ) (char size : ℕ) : Type 0 where
   pub spelled : take size piece ≡ encode_utf8_all (reference_text reference)
   pub within : size ≤ length piece
 
--- The bytes are whole tokens, whose events are told, and behind them a reference may come: an element is open, and no CDATA section is.
+-- Behind whole tokens, outside CDATA sections, a reference may come: an element is open.
 pub record MayReferUnder (limit : ℕ) (reader : Reader) (bytes : List ℕ) (told : List Placed) : Type 0 where
-  pub tokens : List Token
-  pub keeps : Keeps limit Any reader bytes tokens told
-  pub whole : flat_map token_bytes tokens ≡ bytes
-  pub in_text : in_cdata (reverse tokens) ≡ false
-  pub inside : is_outside (reverse tokens) ≡ false
+  pub before : IsInTextUnder limit reader bytes told
+  pub inside : is_outside (reverse before.tokens) ≡ false

@@ -11,7 +11,7 @@ returns-then-not-is_in_text-clause-all c limit bytes told tag rest m e =
 
 pub returns-then-not-is_inside_plain-clause-all : goal.returns-then-not-is_inside_plain-clause-all
 returns-then-not-is_inside_plain-clause-all c limit bytes told tag rest m e =
-    absurd (both_ways false refl (sym c.if-not-is_inside_plain.true ∙ c.is_inside_plain.ensures.all (open_tags (reverse m.tokens)) m.opened m.keeps.context.scope m.inside))
+    absurd (both_ways false refl (sym c.if-not-is_inside_plain.true ∙ c.is_inside_plain.ensures.all (open_tags (reverse m.before.tokens)) m.opened m.before.keeps.context.scope m.inside))
 
 pub returns-clause-all : goal.returns-clause-all
 returns-clause-all c limit bytes told tag rest m e = c.attribute_tag_at.ensures.all tag rest m.plain m.short e
