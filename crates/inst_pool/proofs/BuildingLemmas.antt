@@ -1,6 +1,7 @@
 -- The blocks of an instance that is being made, with one more content.
-use Rattle.std.proofs.Common.{◌≡◌, ℕ, ◌+◌, ◌≤◌, List, [], ◌∷◌, ◌++◌, length, drop, Some, refl, sym, ap, ◌∙◌, arith, length-append}
-use Rattle.std.specs.Prelude.{vec_capacity}
+use Rattle.std.proofs.Common.{◌≡◌, ℕ, ◌+◌, ◌-◌, ◌≤◌, List, [], ◌∷◌, ◌++◌, length, drop, Some, refl, sym, ap, ◌∙◌, arith, length-append}
+use Rattle.std.specs.Prelude.{slice_get, vec_capacity}
+use Rattle.std.specs.Option.{option_map}
 use Rattle.std.proofs.lemmas.List.{nil_from_length}
 use Rattle.data_types.specs.Leaf.{Leaf, Bytes as BytesLeaf}
 use Rattle.data_types.specs.Value.{Edge, Piece, Begins, Holds, Ends}
@@ -95,6 +96,20 @@ building_begin m n edge h fits a bytes opened = record {
 -- the innermost open element is the one that was opened last
 pub innermost : (m : Blocks) (outer : List Told) (edge : Told) → AreBuilding m → m.opened.items ≡ outer ++ edge ∷ [] → open_in (block_pieces m) ≡ edge_of edge ∷ opened_in [] outer
 innermost m outer edge h opened = sym h.opened ∙ (ap (opened_in []) opened ∙ opened-append [] outer (edge ∷ []))
+
+last_opened : (outer : List Edge) (edge : Told) (edges : List Told) → option_map edge_of (slice_get (edge ∷ edges) (length edges)) ≡ slice_get (opened_in (edge_of edge ∷ outer) edges) 0
+last_opened outer edge [] = refl
+last_opened outer edge (next ∷ edges) = last_opened (edge_of edge ∷ outer) next edges
+
+opened_last : (edges : List Told) → option_map edge_of (slice_get edges (length edges - 1)) ≡ slice_get (opened_in [] edges) 0
+opened_last [] = refl
+opened_last (edge ∷ edges) = ap (λ n. option_map edge_of (slice_get (edge ∷ edges) n)) one_less ∙ last_opened [] edge edges
+  where
+    one_less : length (edge ∷ edges) - 1 ≡ length edges
+    one_less = omega arith
+
+pub innermost_last : (m : Blocks) → AreBuilding m → option_map edge_of (slice_get m.opened.items (length m.opened.items - 1)) ≡ slice_get (open_in (block_pieces m)) 0
+innermost_last m h = opened_last m.opened.items ∙ ap (λ (l : List Edge). slice_get l 0) h.opened
 
 -- an element that ends
 pub building_close : (m n : Blocks) (edge : Told) → AreBuilding m → length m.contents.items + 1 ≤ m.room → Added m n (Close edge) → n.bytes ≡ m.bytes → m.opened.items ≡ n.opened.items ++ edge ∷ [] → AreBuilding n

@@ -1,5 +1,6 @@
 //! A builder of instances.
-ghost use Rattle.std.specs.Prelude.{◌≡◌, ◌+◌, ◌<◌, ◌≤◌, List, [], ◌∷◌, ◌++◌, length, Some, OnOk, OnErr, IfOk, IsOk, vec_capacity};
+ghost use Rattle.std.specs.Prelude.{◌≡◌, ◌+◌, ◌<◌, ◌≤◌, List, [], ◌∷◌, ◌++◌, length, slice_get, Some, OnOk, OnErr, IfOk, IsOk, vec_capacity};
+ghost use Rattle.std.specs.Option.{option_map};
 ghost use Rattle.data_types.specs.Leaf.{Leaf, Bytes as BytesLeaf, octet_count};
 ghost use Rattle.data_types.specs.LeafAnswers.{leaf_of};
 ghost use Rattle.data_types.specs.Value.{Edge as EdgeOf, Begins, Holds, Ends};
@@ -68,6 +69,17 @@ impl Builder {
         make_piece_room(&mut self.blocks, nodes)?;
         make_room(&mut self.blocks.bytes, bytes)?;
         Ok(())
+    }
+
+    /// The innermost open element, where one is open.
+    #[inline(always)]
+    pub fn innermost(&self) -> Option<Edge>
+        ensures { option_map edge_of result ≡ slice_get (open_in self.now.pieces) 0 }
+    {
+        match self.blocks.opened.last() {
+            Some(edge) => Some(*edge),
+            None => None,
+        }
     }
 
     /// An element begins. After want of memory the pieces are as before.

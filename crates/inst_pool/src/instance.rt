@@ -51,7 +51,7 @@ impl Instance {
     }
 
     /// The piece at that place, from 0; `None` where there is none.
-    #[inline]
+    #[inline(always)]
     pub fn piece(&self, at: usize) -> Option<Piece<'_>>
         ensures { option_map piece_of result ≡ slice_get self.now.region.pieces at }
     {

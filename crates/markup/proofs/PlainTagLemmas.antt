@@ -248,7 +248,7 @@ plain_not_first : (before : List Token) (opened : List ℕ) → IsPlainInside (o
 plain_not_first before opened i = not_first before (some_open (open_tags before) i) where
   some_open : (tags : List Opening) → IsPlainInside tags opened → (length tags == 0) ≡ false
   some_open [] i = absurd i
-  some_open (t ∷ tags) i = refl
+  some_open (t ∷ tags) i = suc_not_zero (length tags)
 
 begins_text : (before : List Token) → in_cdata before ≡ false → is_first before ≡ false → is_text (Begin (position before)) ≡ true
 begins_text [] c f = absurd (both_ways true f refl)
