@@ -1,7 +1,6 @@
 -- Pieces that are kept go on as what is shown.
-use Rattle.std.proofs.Common.{◌≡◌, ℕ, ◌<◌, ◌+◌, ◌-◌, List, [], ◌∷◌, ◌++◌, Option, Some, None, refl, sym, ap, ◌∙◌, subst, map, reverse, length, take, append-nil, append_assoc, arith}
-use Rattle.std.specs.Prelude.{MatchOption, option_to_list, Result, Ok, Err, OnOk, OnErr}
-use Rattle.std.proofs.lemmas.List.{reverse-append}
+use Rattle.std.proofs.Common.{◌≡◌, ℕ, ◌<◌, ◌+◌, ◌-◌, List, [], ◌∷◌, ◌++◌, Option, Some, None, refl, sym, ap, ◌∙◌, subst, length, append_assoc, arith}
+use Rattle.std.specs.Prelude.{slice_get, Result, Ok, Err, OnOk}
 use Rattle.lexical_core.specs.Tree.{Item, Starts, Char, Nodes, Element, Text, Tree, flat, flat_nodes}
 use Rattle.lexical_core.specs.Tree.{Ends as EndsItem}
 use Rattle.lexical_core.specs.Tree as tree
@@ -10,22 +9,37 @@ use Rattle.data_types.specs.Value.{Edge, Piece, Begins, Holds, Ends}
 use Rattle.respell.specs.Respelling.{told_of, AreOf}
 use Rattle.respell.specs.Kept.{HasTakenItems}
 use Rattle.respell.specs.declared.respell.Respell.{Respell}
-use Rattle.inst_pool.specs.Pieces.{open_in, edges_open_behind}
+use Rattle.inst_pool.specs.Pieces.{edge_of, open_in, edges_open_behind}
+use Rattle.inst_pool.specs.declared.piece.Edge.{Edge as Told}
 use Rattle.inst_pool.proofs.ContentLemmas.{open-append}
 use Rattle.xml_instances.specs.Built.{Shown, type_at, with_begun, with_leaf, without_inside, close_shown, closed_at}
 use Rattle.xml_instances.specs.Keeping.{PiecesKept, HasShown, GoOn, with_all_inside}
 
 -- ---- the open elements behind more pieces
 
-abbrev pub types_in : List Piece → List ℕ
-types_in pieces = map (λ (e : Edge). e.target) (open_in pieces)
-
 abbrev pub kept_as : List Piece → Respell → PiecesKept
 kept_as pieces element = record { pieces = pieces; element = element }
 
-pub begun_types : (types new : List ℕ) (pieces more : List Piece) (e : Edge) → types_in pieces ≡ reverse types → new ≡ types ++ e.target ∷ [] → more ≡ pieces ++ Begins e ∷ [] → types_in more ≡ reverse new
-begun_types types new pieces more e known grown appended =
-    ap types_in appended ∙ (ap (map (λ (e : Edge). e.target)) (open-append [] pieces (Begins e ∷ [])) ∙ (ap (λ (x : List ℕ). e.target ∷ x) known ∙ (sym (reverse-append types (e.target ∷ [])) ∙ ap reverse (sym grown))))
+-- ---- the innermost open element
+
+-- where there is one
+pub innermost_type : (edge : Told) (edges : List Edge) → Some (edge_of edge) ≡ slice_get edges 0 → edge.target ≡ type_at edges
+innermost_type edge [] is = absurd cc
+innermost_type edge (first ∷ edges) is = ap (λ (e : Edge). e.target) (same (edge_of edge) first is)
+  where
+    same : (a b : Edge) → Some a ≡ Some b → a ≡ b
+    same a b e = cc
+
+pub some_open : (edge : Edge) (edges : List Edge) → Some edge ≡ slice_get edges 0 → 0 < length edges
+some_open edge [] is = absurd cc
+some_open edge (first ∷ edges) is = omega arith
+
+-- and where there is none
+pub none_open : (edges : List Edge) → None ≡ slice_get edges 0 → edges ≡ []
+none_open [] is = refl
+none_open (first ∷ edges) is = absurd cc
+
+-- ---- more pieces
 
 pub begun_shown : (old : PiecesKept) (s : Shown) (slot target parent : ℕ) (more : List Piece) → HasShown old s → parent ≡ type_at (open_in old.pieces) → more ≡ old.pieces ++ Begins (record { slot = slot; target = target; parent = parent }) ∷ []
     → HasShown (kept_as more old.element) (with_begun (Some (record { slot = slot; target = target; parent = type_at s.edges })) s)
@@ -48,41 +62,26 @@ leaf_shown old s l more h appended = record {
   inside_are = h.inside_are;
 }
 
-pub held_types : {T E : Type 0} (types : List ℕ) (pieces more : List Piece) (l : leaf.Leaf) (r : Result T E) → types_in pieces ≡ reverse types → OnOk r (more ≡ pieces ++ Holds l ∷ []) → OnErr r (more ≡ pieces) → types_in more ≡ reverse types
-held_types types pieces more l (Ok x) known appended same = ap types_in appended ∙ (ap (map (λ (e : Edge). e.target)) (open-append [] pieces (Holds l ∷ [])) ∙ known)
-held_types types pieces more l (Err e) known appended same = ap types_in same ∙ known
-
 pub leaf_ok : {T E : Type 0} (old : PiecesKept) (s : Shown) (l : leaf.Leaf) (more : List Piece) (r : Result T E) → HasShown old s → OnOk r (more ≡ old.pieces ++ Holds l ∷ []) → OnOk r (HasShown (kept_as more old.element) (with_leaf l s))
 leaf_ok old s l more (Ok x) h appended = leaf_shown old s l more h appended
 leaf_ok old s l more (Err e) h appended = tt
 
+pub begun_ok : {T E : Type 0} (old : PiecesKept) (s : Shown) (slot target parent : ℕ) (more : List Piece) (r : Result T E) → HasShown old s → parent ≡ type_at (open_in old.pieces)
+    → OnOk r (more ≡ old.pieces ++ Begins (record { slot = slot; target = target; parent = parent }) ∷ []) → OnOk r (HasShown (kept_as more old.element) (with_begun (Some (record { slot = slot; target = target; parent = type_at s.edges })) s))
+begun_ok old s slot target parent more (Ok x) h is appended = begun_shown old s slot target parent more h is appended
+begun_ok old s slot target parent more (Err e) h is appended = tt
+
 -- an element that ends
-pub closed_types : (o : Option ℕ) (n k : ℕ) (types new : List ℕ) (pieces more : List Piece) (e : Edge) (outer : List Edge) → open_in pieces ≡ e ∷ outer → types_in pieces ≡ reverse types → types ≡ new ++ option_to_list o
-    → MatchOption o ((n ≡ 0) × (k ≡ 0)) (λ _. k + 1 ≡ n) → new ≡ take (n - 1) types → more ≡ pieces ++ Ends e ∷ [] → types_in more ≡ reverse new
-closed_types o n k types new pieces more e outer is_open known split counted front appended = by o split counted
-  where
-    here : types_in more ≡ map (λ (e : Edge). e.target) outer
-    here = ap types_in appended ∙ (ap (map (λ (e : Edge). e.target)) (open-append [] pieces (Ends e ∷ [])) ∙ ap (λ (es : List Edge). map (λ (e : Edge). e.target) (edges_open_behind es (Ends e ∷ []))) is_open)
-
-    listed : e.target ∷ map (λ (e : Edge). e.target) outer ≡ reverse types
-    listed = sym (ap (map (λ (e : Edge). e.target)) is_open) ∙ known
-
-    tails : (a b : ℕ) (xs ys : List ℕ) → a ∷ xs ≡ b ∷ ys → xs ≡ ys
-    tails a b xs ys q = cc
-
-    none_open : e.target ∷ map (λ (e : Edge). e.target) outer ≡ [] → types_in more ≡ reverse new
-    none_open q = cc
-
-    by : (o : Option ℕ) → types ≡ new ++ option_to_list o → MatchOption o ((n ≡ 0) × (k ≡ 0)) (λ _. k + 1 ≡ n) → types_in more ≡ reverse new
-    by (Some x) split counted = here ∙ tails e.target x (map (λ (e : Edge). e.target) outer) (reverse new) (listed ∙ (ap reverse split ∙ reverse-append new (x ∷ [])))
-    by None split counted = none_open (listed ∙ ap reverse (split ∙ (append-nil new ∙ (front ∙ ap (λ v. take (v - 1) types) counted.0))))
-
 pub closed_shown : (old : PiecesKept) (s : Shown) (more : List Piece) (e : Edge) (outer : List Edge) → HasShown old s → open_in old.pieces ≡ e ∷ outer → more ≡ old.pieces ++ Ends e ∷ [] → HasShown (kept_as more old.element) (close_shown s)
 closed_shown old s more e outer h is_open appended = subst (λ (es : List Edge). HasShown (kept_as more old.element) (closed_at es s)) (sym is_open ∙ h.open_are) (record {
   pieces_are = appended ∙ ap (λ (ps : List Piece). ps ++ Ends e ∷ []) h.pieces_are;
   open_are = ap open_in appended ∙ (open-append [] old.pieces (Ends e ∷ []) ∙ ap (λ (es : List Edge). edges_open_behind es (Ends e ∷ [])) is_open);
   inside_are = h.inside_are;
 })
+
+pub closed_ok : {T E : Type 0} (old : PiecesKept) (s : Shown) (more : List Piece) (e : Edge) (outer : List Edge) (r : Result T E) → HasShown old s → open_in old.pieces ≡ e ∷ outer → OnOk r (more ≡ old.pieces ++ Ends e ∷ []) → OnOk r (HasShown (kept_as more old.element) (close_shown s))
+closed_ok old s more e outer (Ok x) h is_open appended = closed_shown old s more e outer h is_open appended
+closed_ok old s more e outer (Err error) h is_open appended = tt
 
 -- where none is open, nothing ends
 pub still_closed : (old : PiecesKept) (s : Shown) → HasShown old s → open_in old.pieces ≡ [] → HasShown old (close_shown s)

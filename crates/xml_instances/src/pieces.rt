@@ -13,7 +13,6 @@ ghost use Rattle.inst_pool.specs.Pieces.{open_in};
 ghost use Rattle.xml_instances.specs.Built.{Shown, nothing_shown, type_at, with_begun, with_leaf, with_inside, close_shown, FragmentShown};
 ghost use Rattle.xml_instances.specs.Keeping.{HasShown, GoOn, IsInnermostDefault, IsKeptDefault, with_all_inside};
 
-use crate::growth::make_room;
 use data_types::LeafRef;
 use inst_pool::{Builder, Edge, Instance};
 use markup::{Event, TagKind};
@@ -26,21 +25,15 @@ use std::marker::Model;
 pub(crate) struct Pieces {
     alloc: Global,
     builder: Builder,
-    /// The types of the open elements, the innermost last. `Document` is not among them.
-    types: Vec<u32>,
     element: Respell,
 }
 
 impl Model for Pieces {
-    ghost use Rattle.std.specs.Prelude.{◌≡◌, map, reverse};
-    ghost use Rattle.inst_pool.specs.Pieces.{open_in};
     ghost use Rattle.xml_instances.specs.Keeping.{PiecesKept};
 
     ghost Value = { PiecesKept };
 
     ghost view = { λ p. record { pieces = p.builder.pieces; element = p.element } };
-
-    ghost invariant = { λ p. map (λ e. e.target) (open_in p.builder.pieces) ≡ reverse p.types.items };
 }
 
 impl Pieces {
@@ -51,7 +44,6 @@ impl Pieces {
         Pieces {
             alloc,
             builder: Builder::new(alloc),
-            types: Vec::new(alloc),
             element: Respell::new(alloc),
         }
     }
@@ -60,8 +52,8 @@ impl Pieces {
     fn innermost(&self) -> u32
         ensures { result ≡ type_at (open_in self.now.pieces) }
     {
-        match self.types.last() {
-            Some(number) => *number,
+        match self.builder.innermost() {
+            Some(edge) => edge.target,
             None => 0,
         }
     }
@@ -73,18 +65,11 @@ impl Pieces {
             → OnOk result (HasShown self.new (with_begun (Some (record { slot = slot; target = target; parent = type_at s.edges })) s)) }
     {
         let parent = self.innermost();
-        make_room(&mut self.types)?;
-        match self.builder.begin(Edge {
+        self.builder.begin(Edge {
             slot,
             target,
             parent,
-        }) {
-            Ok(()) => {
-                self.types.push_reserved(target);
-                Ok(())
-            }
-            Err(error) => Err(error),
-        }
+        })
     }
 
     /// Whether no element but `Document` is open.
@@ -92,7 +77,10 @@ impl Pieces {
         ensures closed { result ≡ true → open_in self.now.pieces ≡ [] }
         ensures open { result ≡ false → 0 < length (open_in self.now.pieces) }
     {
-        self.types.is_empty()
+        match self.builder.innermost() {
+            Some(_) => false,
+            None => true,
+        }
     }
 
     /// The leaf of the innermost element.
@@ -111,13 +99,7 @@ impl Pieces {
         if self.is_closed() {
             return Ok(());
         }
-        match self.builder.close() {
-            Ok(()) => {
-                self.types.pop();
-                Ok(())
-            }
-            Err(error) => Err(error),
-        }
+        self.builder.close()
     }
 
     /// An event of the element of an envelope. The attributes of an element that starts have to be sorted.
@@ -161,9 +143,8 @@ impl Pieces {
     pub(crate) fn finish(self) -> Option<Instance>
         ensures { IfSome result (λ i. i.region.pieces ≡ self.pieces) }
     {
-        let Pieces { builder, types, .. } = self;
-        if types.is_empty() {
-            Some(builder.finish())
+        if self.is_closed() {
+            Some(self.builder.finish())
         } else {
             None
         }

@@ -1,6 +1,6 @@
 use Rattle.std.proofs.Common.{◌<◌, length}
 use Rattle.inst_pool.specs.Pieces.{open_in}
-use Rattle.xml_instances.proofs.KeptPieces.{closed_types, closed_shown, still_closed, one_open, kept_as}
+use Rattle.xml_instances.proofs.KeptPieces.{closed_ok, still_closed, one_open, kept_as}
 use Rattle.xml_instances.proofs.pieces.Pieces.close.Goals as goal
 
 pub close-requires : goal.close-requires
@@ -9,14 +9,8 @@ close-requires c = (let some : 0 < length (open_in c.self.inside.builder.pieces)
 pub returns-then-is_closed : goal.returns-then-is_closed
 returns-then-is_closed c s h = still_closed c.args.self.now s h (c.is_closed.ensures.closed c.if-is_closed.true)
 
-pub invariant_of-self : goal.invariant_of-self
-invariant_of-self c =
+pub returns : goal.returns
+returns c =
     let some : 0 < length (open_in c.self.inside.builder.pieces) = rw (← c.self.view_is) at (c.is_closed.ensures.open c.if-is_closed.false) in
     let o = one_open c.self.inside.builder.pieces some in
-    closed_types c.pop.result _ _ c.self.inside.types.items c.pop.new.self.items c.self.inside.builder.pieces c.close.new.self.pieces o.0 o.1 o.2 c.self.invariant c.pop.ensures.items c.pop.ensures.cases c.pop.ensures.rest (c.in-Ok.ensures.ok o.0 o.1 o.2)
-
-pub returns-in-Ok : goal.returns-in-Ok
-returns-in-Ok c =
-    let some : 0 < length (open_in c.self.inside.builder.pieces) = rw (← c.self.view_is) at (c.is_closed.ensures.open c.if-is_closed.false) in
-    let o = one_open c.self.inside.builder.pieces some in
-    rw (← c.self.view_is) (λ s h. closed_shown (kept_as c.self.inside.builder.pieces c.self.inside.element) s c.close.new.self.pieces o.0 o.1 h o.2 (c.in-Ok.ensures.ok o.0 o.1 o.2))
+    rw (← c.self.view_is) (λ s h. closed_ok (kept_as c.self.inside.builder.pieces c.self.inside.element) s c.close.new.self.pieces o.0 o.1 c.close.result h o.2 (c.close.ensures.ok o.0 o.1 o.2))

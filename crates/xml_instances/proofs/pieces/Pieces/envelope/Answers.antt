@@ -1,13 +1,6 @@
 use Rattle.std.proofs.Common.{refl}
-use Rattle.data_types.specs.Leaf.{Bytes}
-use Rattle.xml_instances.proofs.KeptPieces.{held_types, told_flat, envelope_shown, kept_as}
+use Rattle.xml_instances.proofs.KeptPieces.{told_flat, envelope_shown, kept_as}
 use Rattle.xml_instances.proofs.pieces.Pieces.envelope.Goals as goal
-
-pub invariant_of-self : goal.invariant_of-self
-invariant_of-self c = held_types c.self.inside.types.items c.self.inside.builder.pieces c.hold_bytes.new.builder.pieces (Bytes c.text.result.now) c.hold_bytes.result c.self.invariant c.hold_bytes.ensures.ok c.hold_bytes.ensures.err
-
-pub invariant_of-self-2 : goal.invariant_of-self-2
-invariant_of-self-2 c = held_types c.self.inside.types.items c.self.inside.builder.pieces c.hold_bytes.new.builder.pieces (Bytes c.text.result.now) c.hold_bytes.result c.self.invariant c.hold_bytes.ensures.ok c.hold_bytes.ensures.err
 
 pub returns : goal.returns
 returns c = rw (← c.self.view_is) (λ s h. (
