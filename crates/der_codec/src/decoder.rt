@@ -10,7 +10,7 @@ ghost use Rattle.der_model.specs.Faults.{IsWholeDer as WholeBytes};
 ghost use Rattle.der_model.specs.Der.{SpellsDer};
 ghost use Rattle.der_model.specs.Sound.{IsSoundDer};
 ghost use Rattle.der_codec.specs.Levels.{inwards, first_of, rest_of};
-ghost use Rattle.der_codec.specs.Decoding.{HasReadParts, IsStopped, IsBelowEnd, IsPastEnd, end_of_levels, IsFresh, IsFreshOrOver, due_after, IsOctetAwaited, IsOver, IsWaiting, IsOpenState, IsNoCut, AwaitsValue, IsRefusedAs, due_depth, header_come};
+ghost use Rattle.der_codec.specs.Decoding.{HasReadParts, IsStopped, IsBelowEnd, IsPastEnd, end_of_levels, IsFresh, IsFreshOrOver, due_after, IsOver, IsWaiting, IsOpenState, IsNoCut, AwaitsValue, IsRefusedAs, due_depth, header_come};
 ghost use Rattle.der_codec.specs.Components.{added_text};
 ghost use Rattle.der_codec.specs.inner.OpenNames.{IsNamed};
 ghost use Rattle.der_codec.specs.Judging.{HoldsContents};

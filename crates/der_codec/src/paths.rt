@@ -7,7 +7,7 @@ ghost use Rattle.message_model.specs.Tables.{types_of};
 ghost use Rattle.der_model.specs.States.{PathName, Numbered, AttributeName};
 ghost use Rattle.der_model.specs.Paths.{path_text};
 ghost use Rattle.der_codec.specs.Components.{added_text, slot_text};
-ghost use Rattle.der_codec.specs.inner.OpenNames.{HasNames, slot_names, amount_names, form_names, alternative_names, item_names, level_names, names_over, document_names, held_text};
+ghost use Rattle.der_codec.specs.inner.OpenNames.{HasNames, slot_names, form_names, alternative_names, item_names, level_names, names_over, document_names, held_text};
 
 use crate::components::{Added, comes_once};
 use crate::level::{Level, Spot};

@@ -1,5 +1,5 @@
 //! The pieces of an instance, where they are kept as its parts come.
-ghost use Rattle.std.specs.Prelude.{◌≡◌, ◌++◌, ◌∷◌, [], ℕ, List, IsOk, OnOk};
+ghost use Rattle.std.specs.Prelude.{◌∷◌, [], ℕ, List, IsOk, OnOk};
 ghost use Rattle.data_types.specs.LeafAnswers.{leaf_of};
 ghost use Rattle.data_types.specs.Value.{Holds};
 ghost use Rattle.message_model.specs.Tables.{types_of};

@@ -5,7 +5,6 @@ ghost use Rattle.der_octets.specs.declared.tag_step.TagStep.{TagStep as Steps};
 ghost use Rattle.message_model.specs.Tables.{types_of};
 ghost use Rattle.der_model.specs.DerMessage.{der_message};
 ghost use Rattle.der_codec.specs.Checked.{CheckTypes};
-ghost use Rattle.der_codec.specs.Judging.{HoldsContents};
 ghost use Rattle.der_codec.specs.Levels.{inwards, rest_of};
 ghost use Rattle.der_codec.specs.Decoding.{HasReadParts, IsBelowEnd, IsFresh, IsWaiting, end_of_levels, HasIdentifier, level_at};
 ghost use Rattle.der_codec.specs.inner.Entering.{Enters, PassesLeaf};

@@ -1,6 +1,6 @@
 //! A sink of bytes that are known before they come.
 ghost use Rattle.std.specs.Prelude.{◌≡◌, ◌+◌, ◌<◌, ◌≤◌, ◌++◌, ◌↔◌, Some, [], length, take, IsTrue, OnErr, IfErr};
-ghost use Rattle.outside.specs.Sink.{PushAppends, HasSinkCause, HasRoom};
+ghost use Rattle.outside.specs.Sink.{PushAppends};
 
 use outside::{Sink, SinkError};
 use std::alloc::Global;

@@ -1,5 +1,5 @@
 //! The ASN.1 module of a compiled message.
-ghost use Rattle.std.specs.Prelude.{◌≡◌, ◌≢◌, Err};
+ghost use Rattle.std.specs.Prelude.{◌≢◌, Err};
 ghost use Rattle.repo_engine.specs.Answer.{GivesModule};
 ghost use Rattle.repo_engine.specs.Run.{GoesOut, TellsVerdict};
 ghost use Rattle.repo_engine.specs.Sources.{Failing, Refusing, source_ended_of};

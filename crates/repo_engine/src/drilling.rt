@@ -1,5 +1,5 @@
 //! What a drill tells.
-ghost use Rattle.std.specs.Prelude.{◌≡◌, ◌≢◌, ◌≤◌, Err};
+ghost use Rattle.std.specs.Prelude.{◌≢◌, ◌≤◌, Err};
 ghost use Rattle.outside.specs.Pushes.{Pushes};
 ghost use Rattle.drill.specs.Growing.{most_beside};
 ghost use Rattle.repo_engine.specs.Answer.{Drills};

@@ -1,5 +1,4 @@
 //! The top call: one command, from words and bytes to a status and what is written.
-ghost use Rattle.std.specs.Prelude.{◌≡◌};
 ghost use Rattle.repo_engine.specs.Command.{texts};
 ghost use Rattle.repo_engine.specs.Run.{End, Notes, Performs};
 ghost use Rattle.repo_engine.specs.ModuleLaw.{ModuleAdmitsWhatIsAccepted};

@@ -1,5 +1,5 @@
 //! The list of a repository's messages.
-ghost use Rattle.std.specs.Prelude.{◌≡◌, ◌≢◌, ℕ, List, Err, IfErr};
+ghost use Rattle.std.specs.Prelude.{◌≢◌, ℕ, List, Err};
 ghost use Rattle.outside.specs.Pushes.{Pushes};
 ghost use Rattle.repo_engine.specs.inner.Arms.{FilesHaveLeft};
 ghost use Rattle.repo_engine.specs.Answer.{FromRepository, Lists};

@@ -1,5 +1,5 @@
 //! A number among the words.
-ghost use Rattle.std.specs.Prelude.{◌≡◌, IfNone, IfSome, IsTrue};
+ghost use Rattle.std.specs.Prelude.{IfNone, IfSome, IsTrue};
 ghost use Rattle.repo_engine.specs.Command.{IsNumberWord, is_number_word};
 
 /// The number that a word says in 1 to 18 decimal digits.

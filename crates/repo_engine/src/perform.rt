@@ -1,5 +1,5 @@
 //! What a command does before anything is noted.
-ghost use Rattle.std.specs.Prelude.{◌≡◌, Err};
+ghost use Rattle.std.specs.Prelude.{Err};
 ghost use Rattle.repo_engine.specs.Command.{texts};
 ghost use Rattle.repo_engine.specs.inner.Commands.{IsBoundedDrill, command_view};
 ghost use Rattle.repo_engine.specs.Run.{Performs};

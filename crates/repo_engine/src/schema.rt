@@ -1,5 +1,5 @@
 //! The XML Schema of a compiled message.
-ghost use Rattle.std.specs.Prelude.{◌≡◌, ◌≢◌, Err};
+ghost use Rattle.std.specs.Prelude.{◌≢◌, Err};
 ghost use Rattle.repo_engine.specs.Answer.{GivesSchema};
 ghost use Rattle.repo_engine.specs.Run.{GoesOut, TellsVerdict};
 ghost use Rattle.repo_engine.specs.Sources.{Failing, Refusing, source_ended_of};

@@ -1,10 +1,8 @@
 //! What has been read of a repository file so far.
-ghost use Rattle.std.specs.Prelude.{◌≡◌, ◌↔◌, [], ◌∷◌, ◌++◌, ℕ, List, OnOk, OnErr, IfOk, IfErr, IfSome, IsTrue, true, false, None, Some, map, codes};
-ghost use Rattle.std.specs.Option.{option_map, is_some};
+ghost use Rattle.std.specs.Prelude.{◌≡◌, ◌↔◌, [], ◌∷◌, ◌++◌, List, OnOk, IfOk, IfErr, IfSome, IsTrue, true, false, None, Some, map, codes};
+ghost use Rattle.std.specs.Option.{is_some};
 ghost use Rattle.lexical_core.specs.Names.{attribute_value as spec_value_of};
 ghost use Rattle.markup.specs.EventItems.{entry_of};
-ghost use Rattle.repo_objects.specs.Objects.{HasObjectTexts, HasElementTexts};
-ghost use Rattle.repo_objects.specs.Repository.{HasId, HasEntryTexts};
 ghost use Rattle.repo_loader.specs.declared.part.Part.TheVariants.{Entry as EntryPart, Message as MessagePart};
 ghost use Rattle.repo_loader.specs.FileNames.{own, id_name, type_name};
 ghost use Rattle.repo_loader.specs.Selected.{FileTag};

@@ -1,5 +1,4 @@
 //! The readers of DER, as readers that are fed from a source.
-ghost use Rattle.std.specs.Prelude.{◌≡◌, ℕ, List};
 ghost use Rattle.lexical_core.specs.declared.rule.Rule.TheVariants.{DerTruncated};
 ghost use Rattle.der_model.specs.DerMessage.{der_message};
 ghost use Rattle.der_model.specs.Faults.{DerFault};

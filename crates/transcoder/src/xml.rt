@@ -1,5 +1,4 @@
 //! The readers of XML instances, as readers that are fed from a source.
-ghost use Rattle.std.specs.Prelude.{ℕ, List};
 ghost use Rattle.lexical_core.specs.declared.rule.Rule.TheVariants.{Truncated};
 ghost use Rattle.message_model.specs.Tables.{message_of};
 ghost use Rattle.xml_instances.specs.XmlFaults.{XmlFault};

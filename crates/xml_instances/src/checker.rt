@@ -2,7 +2,6 @@
 ghost use Rattle.std.specs.Prelude.{◌≡◌, ◌<◌, ◌+◌, ◌≤◌, ◌^◌, ◌∷◌, ◌++◌, ℕ, List, [], IfOk, OnOk, IfErr, Option, Some, None, Err, length};
 ghost use Rattle.std.specs.List.{AllByRecursion};
 ghost use Rattle.facets.specs.declared.simple.Simple.{Simple as SimpleType};
-ghost use Rattle.markup.specs.Reading.{bytes_taken};
 ghost use Rattle.markup.specs.Marks.{tag_limit};
 ghost use Rattle.respell.specs.Respelling.{HasSortedAttributes};
 ghost use Rattle.reference_check.specs.Forms.{Graph};

@@ -1,5 +1,5 @@
 //! The elements of an instance that are open, held to the types of its message.
-ghost use Rattle.std.specs.Prelude.{◌≡◌, ℕ, List, [], ◌++◌, Option, Some, None, IfOk, IfSome, OnOk, codes, length, map, not, ◌&&◌, option_to_list};
+ghost use Rattle.std.specs.Prelude.{◌≡◌, ℕ, List, [], ◌++◌, Option, Some, None, IfOk, IfSome, OnOk, codes, length, not, ◌&&◌, option_to_list};
 ghost use Rattle.lexical_core.specs.Tree.{Char, Starts};
 ghost use Rattle.facets.specs.declared.simple.Simple.{Simple as SimpleType};
 ghost use Rattle.markup.specs.EventItems.{item_of};

@@ -1,8 +1,5 @@
 //! Laws on canonical XML: each is the contract of a function that does nothing.
-ghost use Rattle.std.specs.Prelude.{◌≡◌, ℕ, List, codes};
-ghost use Rattle.data_types.specs.Value.{Value};
-ghost use Rattle.message_model.specs.Admits.{AdmitsAs};
-ghost use Rattle.message_model.specs.Message.{Message};
+ghost use Rattle.std.specs.Prelude.{codes};
 ghost use Rattle.xml_writer.specs.Laws.{SomeCanonicalXml, OneCanonicalXml};
 ghost use Rattle.xml_writer.specs.CanonXml.{IsCanonXml};
 ghost use Rattle.xml_writer.specs.CanonXmlExample.{example_message, example_value};

@@ -1,5 +1,5 @@
 //! The canonical XML of an instance.
-ghost use Rattle.std.specs.Prelude.{◌≡◌, ◌++◌, ℕ, List, codes};
+ghost use Rattle.std.specs.Prelude.{◌≡◌, ◌++◌, ℕ, List};
 ghost use Rattle.outside.specs.Pushes.{Pushes, as_push};
 ghost use Rattle.data_types.specs.Value.{Value};
 ghost use Rattle.fragments.specs.Fragment.{fragment};

@@ -1,5 +1,5 @@
 //! A whole reference that a checker takes at once.
-ghost use Rattle.std.specs.Prelude.{◌≡◌, ◌+◌, ◌≤◌, ◌^◌, length};
+ghost use Rattle.std.specs.Prelude.{◌+◌, ◌≤◌, ◌^◌, length};
 ghost use Rattle.xml_instances.specs.Checking.{IsXmlCheckerFor, TakesXmlFront, xml_bytes_fed};
 ghost use Rattle.xml_instances.specs.Scratch.{KeepsNoLeaf};
 
