@@ -1,9 +1,10 @@
 """What a message has where an instance is refused, and which part of the line breaks the rule, for each rule."""
-from expected import FORMS, bounds_of, closest, may_come
+from expected import FORMS, bounds_of, closest, may_come, times
 from faults_of_markup import bad_declaration, bad_octet, first_twice, is_closer, markup_expected
 from page import LINE_END, WIDTH
 from pattern_match import how_far
 from place import XSI
+from repository_file import COMPONENTS
 from rule_sentences import MARKUP
 
 NAMESPACE = 'urn:iso:std:iso:20022:tech:xsd:'
@@ -110,6 +111,9 @@ def order_expected(fault, entry, came, tag):
 
 def missing_expected(types, fault):
     above, _, tag = fault.path.rpartition('/')
+    if tag.endswith(']'):
+        entry = types.at(fault.path)
+        return [f'the number of {tag}: {types.texts(entry)}'] if entry else []
     if tag == '*':
         entry = types.at(above)
         return [types.described(entry)] if entry else []
@@ -211,6 +215,8 @@ def octets_expected(types, fault, octets):
     """Lines that say what the message has at a place of DER, before these octets."""
     if fault.where == '0' and octets.removeprefix(b'\xef\xbb\xbf').lstrip()[:1] == b'<':
         return ['DER; the file may be in XML, which `show` without --der reads']
+    if fault.rule == 'Trailing':
+        return ['the end of the file']
     if types is None:
         return []
     if fault.rule == 'Missing':
@@ -219,8 +225,40 @@ def octets_expected(types, fault, octets):
         return ['a document; the file is empty']
     entry = types.at(fault.path)
     if fault.rule == 'UnexpectedTag' and octets and octets[0] & 31 < 31:
-        return [*tags_of_octets(types, fault.path, entry), f'here stands [{CLASSES[octets[0] >> 6]}{octets[0] & 31}]']
+        return [*tags_of_octets(types, fault.path, entry), *tag_told(types, entry, octets[0])]
+    if fault.rule in ('TooMany', 'TooFew'):
+        return items_expected(types, fault)
     return [types.described(entry)] if entry else []
+
+
+def items_expected(types, fault):
+    """How many items the list has."""
+    above, _, tag = fault.path.rpartition('/')
+    owner, tag = types.at(above), tag.partition('[')[0]
+    element = next((it for it in owner.elements if it.tag == tag), None) if owner else None
+    if element is None:
+        return []
+    return [f'<{tag}> at most {times(element.most)}' if fault.rule == 'TooMany' else f'<{tag}> at least {times(element.least)}']
+
+
+def is_constructed(types, element):
+    """Whether what stands under the tag of an element holds other values."""
+    entry = types.entries.get(element.reference)
+    return element.most != 1 or entry is not None and (entry.kind in COMPONENTS or bool(entry.currency))
+
+
+def tag_told(types, entry, octet):
+    """The tag that stands there, and why it may not, where the value has it at all."""
+    number, form = octet & 31, 'constructed' if octet & 32 else 'primitive'
+    told = f'here stands [{CLASSES[octet >> 6]}{number}], {form}'
+    if entry is None or octet >> 6 != 2 or number >= len(entry.elements):
+        return [told]
+    element = entry.elements[number]
+    if is_constructed(types, element) != bool(octet & 32):
+        return [told, f'[{number}] {element.tag} is {"primitive" if octet & 32 else "constructed"}']
+    if entry.kind == 'ChoiceComponent':
+        return [told, 'one alternative alone']
+    return [told, f'[{number}] {element.tag} once, before what has a greater number']
 
 
 def tags_of_octets(types, path, entry):

@@ -5,7 +5,7 @@ from faults_of_instances import parts_of
 from faults_of_markup import markup_expected
 from pattern_language import PatternFault, read_pattern
 from place import Place
-from repository_file import REPOSITORY
+from repository_file import KINDS, REPOSITORY, texts_of
 from rule_sentences import MARKUP
 from schema_file import XS
 
@@ -59,8 +59,8 @@ def element_fault(rule, element, entries, before):
     """What an element should be, where it breaks the rule; None: it does not."""
     if rule == 'M3' and element.reference is not None and element.reference not in entries:
         return f'an entry with the id {element.reference}'
-    if rule == 'M5' and element.reference is None:
-        return 'one of simpleType, complexType and type'
+    if rule == 'M5' and element.references != 1:
+        return f'one of simpleType, complexType and type; here stand{"s" if element.references == 0 else ""} {element.references or "none"}'
     if rule == 'M6' and not NAME.fullmatch(element.tag):
         return f'an ASCII name in the place of `{element.tag}`'
     if rule == 'M7' and element.tag in before:
@@ -92,4 +92,29 @@ def message_fault(rule, line, elements, entry, entries):
         return line, pattern_fault(entry.facets['pattern'])
     if rule == 'M3' and entry is not None and entry.currency is not None:
         return line, [f'an entry with the id {entry.currency}']
-    return line, []
+    return line, owner_expected(rule, entry, entries)
+
+
+def owner_expected(rule, entry, entries):
+    """What an entry itself should have."""
+    if entry is None:
+        return []
+    if rule == 'M4' and entry.currency in entries:
+        return [f'a Text, CodeSet or IdentifierSet; {entries[entry.currency].name} is of the kind {entries[entry.currency].kind}']
+    if rule == 'M6':
+        return [f'an ASCII name in the place of `{entry.name}`']
+    if rule == 'M10':
+        return ['an alternative']
+    if rule == 'M14':
+        return code_expected(texts_of(entries, next(key for key, it in entries.items() if it is entry)))
+    if rule == 'M15':
+        return ['no pattern'] if entry.kind in KINDS else [f'another kind than {entry.kind}']
+    return []
+
+
+def code_expected(texts):
+    """Which code of a set has no text, or one that an earlier one has."""
+    for number, text in enumerate(texts, 1):
+        if not text or text in texts[:number - 1]:
+            return [f'another text of the code {number}; it has `{text}`, as an earlier one' if text else f'a text of the code {number}']
+    return []

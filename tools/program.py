@@ -11,6 +11,8 @@ PROGRAM = os.environ.get('ISOREPO_PROGRAM') or os.path.join(os.path.dirname(os.p
 DONE, WORDS, REPOSITORY, CODES, MESSAGE, INSTANCE, READ = range(7)
 NO_UTF8, NOT_RUN = 9, 10
 FAULT = re.compile(r'refused: (\w+) (\w+)(?: (\w+))?(?: at (?:record )?(\S+))?(?: in (\S+))?')
+# an id of a repository is any text
+OF_MESSAGE = re.compile(r'refused: (message) (\w+)() at (.*)()', re.DOTALL)
 FAILED_READ = 'failed: read'
 
 
@@ -77,7 +79,7 @@ def answer(words, file=None):
         return Answer(NOT_RUN, '', f'isorepo: {PROGRAM}: {error.strerror}')
     if run.returncode < 0:
         return Answer(SIGNALLED - run.returncode, '', f'isorepo: the program was ended by the signal {-run.returncode}')
-    line = run.stderr.decode(errors='surrogateescape').rstrip('\n')
+    line = run.stderr.decode(errors='surrogateescape').removesuffix('\n')
     if run.returncode == NO_UTF8 and not line:
         line = 'isorepo: a word is no UTF-8'
     return Answer(run.returncode, run.stdout.decode(errors='surrogateescape'), line)
@@ -95,8 +97,8 @@ def check(repository, codes, message, path, verb='check-xml'):
 
 def fault_of(line):
     """The parts of a line of a refusal; None of any other."""
-    found = FAULT.fullmatch(line)
+    found = OF_MESSAGE.fullmatch(line) or FAULT.fullmatch(line)
     if found is None:
         return None
     what, rule, inner, where, path = found.groups()
-    return Fault(what, inner or rule, where, path)
+    return Fault(what, inner or rule, where, path or None)

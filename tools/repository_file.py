@@ -9,18 +9,21 @@ XSI = 'http://www.w3.org/2001/XMLSchema-instance'
 FACETS = ['minLength', 'maxLength', 'length', 'totalDigits', 'fractionDigits', 'minInclusive', 'maxInclusive',
           'minExclusive', 'maxExclusive', 'pattern']
 COMPONENTS = ('MessageComponent', 'ChoiceComponent')
+KINDS = ('Text', 'CodeSet', 'IdentifierSet', 'Amount', 'Rate', 'Quantity', 'Indicator', 'Binary', 'Date', 'DateTime', 'Time', 'Year',
+         'YearMonth', 'MonthDay', 'Month', 'Day', *COMPONENTS, 'ExternalSchema')
 REFERENCES = ('simpleType', 'complexType', 'type')
 IDENTIFIER = ('businessArea', 'messageFunctionality', 'flavour', 'version')
 
 
 @dataclass
 class Element:
-    """An element of a component, a choice or a message; `most` is None where there is no greatest number."""
+    """An element of a component, a choice or a message; `most` is None where there is no greatest number. Of several references the first counts here."""
     tag: str
     least: int
     most: object
     reference: object
     line: int = 0
+    references: int = 1
 
 
 @dataclass
@@ -105,7 +108,7 @@ def most_of(text):
 def read_element(node, least):
     references = [node.get(name) for name in REFERENCES if node.get(name)]
     return Element(node.get('xmlTag', ''), int(node.get('minOccurs', least)), most_of(node.get('maxOccurs')),
-                   references[0] if references else None, node.line)
+                   references[0] if references else None, node.line, len(references))
 
 
 def all_of(node, name):
@@ -141,8 +144,8 @@ def read_repository(data):
                      for top in all_of(catalogue, 'topLevelCatalogueEntry') for node in all_of(top, 'messageDefinition')]
 
 
-def codes_of(entries, identity):
-    """The texts of a code set's codes, those by trace with it."""
+def texts_of(entries, identity):
+    """The text of each code of a code set, by trace where it has none itself; None where there is none."""
     entry = entries[identity]
     found = list(entry.codes)
     for _ in range(16):
@@ -151,4 +154,9 @@ def codes_of(entries, identity):
             break
         first = dict(reversed(entry.codes))
         found = [(name, text or first.get(name)) for name, text in found]
-    return [text for _, text in found if text]
+    return [text for _, text in found]
+
+
+def codes_of(entries, identity):
+    """The texts of a code set's codes."""
+    return [text for text in texts_of(entries, identity) if text]
