@@ -1,5 +1,5 @@
 //! Names that are given one after the other, each with the first ending with which it was not given yet.
-ghost use Rattle.std.specs.Prelude.{◌≡◌, ◌<◌, ◌≤◌, ◌-◌, ℕ, List, [], ◌∷◌, Some, None, IfOk, OnOk, IsSome, length, if◌then◌else◌};
+ghost use Rattle.std.specs.Prelude.{◌≡◌, ◌<◌, ◌≤◌, ◌-◌, ℕ, List, [], ◌∷◌, Some, None, IfOk, IsSome, length, if◌then◌else◌};
 ghost use Rattle.std.specs.Str.{bytes_eq};
 ghost use Rattle.asn1_model.specs.Names.{is_name_among, candidate, first_free, given_names};
 ghost use Rattle.asn1_model.specs.inner.Given.{ending_of, AreAllGiven, HasGivenNames};

@@ -1,5 +1,5 @@
 //! What a type is.
-ghost use Rattle.std.specs.Prelude.{◌≡◌, ◌∷◌, [], codes};
+ghost use Rattle.std.specs.Prelude.{◌∷◌, [], codes};
 ghost use Rattle.std.specs.List.{concat};
 ghost use Rattle.outside.specs.Pushes.{Pushes};
 ghost use Rattle.asn1_model.specs.ModuleText.{braces, constraint_text, date_text, money_lines, own_line, pattern_constraint, plain_text, asn_shape_text, size_text};

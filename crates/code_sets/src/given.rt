@@ -1,5 +1,5 @@
 //! The codes that are given to each code set, while they are joined.
-ghost use Rattle.std.specs.Prelude.{◌≡◌, [], List, ℕ, IfOk, OnOk, IsSome, map, if◌then◌else◌};
+ghost use Rattle.std.specs.Prelude.{◌≡◌, [], List, ℕ, IfOk, OnOk, map, if◌then◌else◌};
 ghost use Rattle.std.specs.List.{list_any};
 ghost use Rattle.std.specs.Str.{bytes_eq};
 ghost use Rattle.code_sets.specs.Codes.{code_of, codes_for, once};

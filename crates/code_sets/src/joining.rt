@@ -1,7 +1,6 @@
 //! Codes that are given to the code sets of a repository.
 ghost use Rattle.std.specs.Prelude.{◌≡◌, ◌&&◌, ◌++◌, ◌∷◌, ℕ, List, All, length, map, not, slice_get, Some, IfOk, IfErr, IfSome, IfNone, OnOk};
 ghost use Rattle.lexical_core.specs.Characters.{IsXmlText};
-ghost use Rattle.repo_objects.specs.Objects.{HasCodeTexts};
 ghost use Rattle.repo_objects.specs.Repository.{DictionaryEntry};
 ghost use Rattle.code_sets.specs.Codes.{JoinFault, JoinsAll, is_code_set, is_none_yet, joined_contents};
 ghost use Rattle.code_sets.specs.CodesErrors.{AreCodes, RefusesJoin};

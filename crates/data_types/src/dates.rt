@@ -1,7 +1,5 @@
 //! Whether a collapsed text is one of a date or a time: XML Schema part 2 §3.2.7 to §3.2.14.
-ghost use Rattle.std.specs.Prelude.{◌≡◌, ◌≢◌, ◌≤◌, ◌<◌, ◌+◌, ◌-◌, ◌++◌, ◌∷◌, [], ◌↔◌, codes, IsTrue, IfSome, length, take, drop, slice_index, List, ℕ};
-ghost use Rattle.std.specs.Str.Parse.{AllDigits};
-ghost use Rattle.lexical_core.specs.Exponents.{NoDigit};
+ghost use Rattle.std.specs.Prelude.{◌≡◌, ◌≢◌, ◌≤◌, ◌<◌, ◌+◌, ◌-◌, ◌++◌, ◌∷◌, [], ◌↔◌, codes, IsTrue, IfSome, length, take, slice_index, List, ℕ};
 ghost use Rattle.data_types.specs.Kinds.{form_of, has_seconds};
 ghost use Rattle.data_types.specs.Dates.{IsDateText, HasForm, FitsPlace, HasParts, IsDay, IsClock, IsFraction, IsOffset, IsZone, two_at, four_at};
 ghost use Rattle.data_types.specs.inner.DateParts.{IsFractionAndZone, AreDigits, AreDateDigits, AreClockDigits};

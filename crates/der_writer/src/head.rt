@@ -1,5 +1,5 @@
 //! Identifier octets and length octets: X.690 §8.1.2, §8.1.3.
-ghost use Rattle.std.specs.Prelude.{◌≡◌, ℕ, ◌<◌, ◌≤◌, Some};
+ghost use Rattle.std.specs.Prelude.{◌≡◌, ℕ, ◌<◌, Some};
 
 /// The class of a tag: §8.1.2.2. A message has no others.
 #[derive(Clone, Copy, Debug, PartialEq, Eq)]

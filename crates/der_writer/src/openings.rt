@@ -1,6 +1,6 @@
 //! How many octets the heads have with which an element begins. They are counted with no head made, since neither the class
 //! nor the form changes how many there are.
-ghost use Rattle.std.specs.Prelude.{◌≡◌, ◌+◌, ◌<◌, ◌≤◌, Bool, true, [], length, if◌then◌else◌};
+ghost use Rattle.std.specs.Prelude.{◌≡◌, ◌+◌, ◌<◌, ◌≤◌, true, [], length, if◌then◌else◌};
 ghost use Rattle.der_octets.specs.Octets.{context};
 ghost use Rattle.inst_pool.specs.Pieces.{edge_of};
 ghost use Rattle.message_model.specs.Tables.{types_of};

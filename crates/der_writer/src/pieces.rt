@@ -1,9 +1,8 @@
 //! What stands before a piece, and the heads of elements, lists and leaves.
-ghost use Rattle.std.specs.Prelude.{◌≡◌, ◌<◌, ◌^◌, ℕ, Bool, true, false, [], ◌++◌, length, Some, suc, ◌==◌, if◌then◌else◌};
+ghost use Rattle.std.specs.Prelude.{◌≡◌, ◌<◌, ℕ, true, false, [], ◌++◌, length, Some, ◌==◌, if◌then◌else◌};
 ghost use Rattle.data_types.specs.Leaf.{Leaf};
 ghost use Rattle.der_octets.specs.Octets.{context};
 ghost use Rattle.message_model.specs.Tables.{types_of};
-ghost use Rattle.message_model.specs.Views.{IsFormOf};
 ghost use Rattle.der_model.specs.LeafContents.{leaf_contents};
 ghost use Rattle.der_model.specs.Structures.{is_constructed, is_one, simple_number};
 ghost use Rattle.der_writer.specs.inner.PieceOctets.{Before as BeforeOf, next_slot, goes_on, head, first_leaf, item_head, leaf_octets};

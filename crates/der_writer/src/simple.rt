@@ -1,7 +1,7 @@
 //! Elements of a simple type, as most are: three pieces, of which the second is the leaf.
 ghost use Rattle.std.specs.Prelude.{◌≡◌, ◌-◌, ◌<◌, ◌≤◌, true, [], length, slice_get, Some, IfSome};
 ghost use Rattle.data_types.specs.Leaf.{Leaf};
-ghost use Rattle.data_types.specs.Value.{Edge as EdgeOf, Begins, Holds, Ends};
+ghost use Rattle.data_types.specs.Value.{Begins, Holds, Ends};
 ghost use Rattle.inst_pool.specs.Pieces.{edge_of};
 ghost use Rattle.message_model.specs.Tables.{types_of};
 ghost use Rattle.der_model.specs.LeafContents.{leaf_contents};

@@ -1,5 +1,5 @@
 //! The DER of an instance, pushed piece by piece: X.690 §8.1, §10.1.
-ghost use Rattle.std.specs.Prelude.{◌≡◌, ◌++◌, ◌<◌, ◌≤◌, ◌-◌, ℕ, IsTrue, true, false, [], drop, length, slice_index, if◌then◌else◌};
+ghost use Rattle.std.specs.Prelude.{◌≡◌, ◌++◌, ◌<◌, ◌≤◌, ◌-◌, IsTrue, true, false, [], drop, length, slice_index, if◌then◌else◌};
 ghost use Rattle.outside.specs.Pushes.{Pushes, as_push};
 ghost use Rattle.outside.specs.Gathering.{Gathers};
 ghost use Rattle.data_types.specs.Value.{Value, Begins};

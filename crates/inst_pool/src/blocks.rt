@@ -1,7 +1,6 @@
 //! The blocks of a region.
-ghost use Rattle.std.specs.Prelude.{◌≡◌, ◌+◌, ◌<◌, ◌≤◌, [], length, OnOk, OnErr, IsOk, vec_len, vec_capacity};
+ghost use Rattle.std.specs.Prelude.{◌+◌, ◌<◌, ◌≤◌, length, OnOk, IsOk};
 ghost use Rattle.inst_pool.specs.Blocks.{HasRoomInBlocks, SameItems};
-ghost use Rattle.inst_pool.specs.Pieces.{room_limit};
 
 use crate::contents::Contents;
 use crate::numbers::Numbers;

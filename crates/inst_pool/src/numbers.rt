@@ -1,5 +1,5 @@
 //! A number beside each piece.
-ghost use Rattle.std.specs.Prelude.{◌≡◌, ◌<◌, ◌≤◌, [], length, replicate, slice_index, slice_set, OnOk, vec_len, vec_capacity};
+ghost use Rattle.std.specs.Prelude.{◌≡◌, ◌<◌, ◌≤◌, [], length, replicate, slice_index, slice_set, OnOk, vec_capacity};
 ghost use Rattle.inst_pool.specs.inner.Numbers.{numbers_kept_in, AreKeptInForm};
 
 use crate::room::widen;

@@ -1,5 +1,5 @@
 //! A walk over the pieces of an instance.
-ghost use Rattle.std.specs.Prelude.{◌≡◌, [], ◌∷◌, length, IfSome, IfNone};
+ghost use Rattle.std.specs.Prelude.{◌≡◌, [], ◌∷◌, IfSome, IfNone};
 ghost use Rattle.inst_pool.specs.Pieces.{piece_of};
 
 use crate::instance::Instance;

@@ -1,11 +1,11 @@
 //! The contents of a REAL in its decimal form: X.690 §8.5.8 and §11.3.2, with the numbers of ISO 6093, NR3.
-ghost use Rattle.std.specs.Prelude.{◌≡◌, ◌≢◌, ◌≤◌, ◌<◌, ◌+◌, ◌*◌, ◌%◌, ◌^◌, ◌++◌, ◌∷◌, [], take, drop, length, IfSome, IfNone, MatchOption, List, IsTrue, ◌↔◌, ℤ, ℕ, slice_index, pos};
+ghost use Rattle.std.specs.Prelude.{◌≡◌, ◌≢◌, ◌≤◌, ◌<◌, ◌+◌, ◌*◌, ◌%◌, ◌^◌, ◌++◌, ◌∷◌, take, length, IfSome, IfNone, MatchOption, List, IsTrue, ◌↔◌, ℤ, ℕ, pos};
 ghost use Rattle.std.specs.Fmt.{decimal};
 ghost use Rattle.std.specs.Int.RustNames.{unsigned_abs};
 ghost use Rattle.std.specs.Str.Parse.{AllDigits, digits_value};
 ghost use Rattle.lexical_core.specs.Decimals.{Number, IsDecimal};
 ghost use Rattle.lexical_core.specs.Reals.{IsReal, IsRealBody, IsRealNumber, exponent_text};
-ghost use Rattle.lexical_core.specs.Exponents.{exponent_value, AreRealEnds, IsSmall, NoDigit, IsPositiveNumeral, exponent_for};
+ghost use Rattle.lexical_core.specs.Exponents.{exponent_value, AreRealEnds, IsSmall, IsPositiveNumeral, exponent_for};
 
 use crate::decimal::Decimal;
 use crate::digits::{digit_count, with_digit};

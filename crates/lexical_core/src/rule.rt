@@ -1,5 +1,5 @@
 //! The rules that an instance can break, with their names and numbers.
-ghost use Rattle.std.specs.Prelude.{◌≡◌, codes};
+ghost use Rattle.std.specs.Prelude.{◌≡◌};
 ghost use Rattle.lexical_core.specs.Rules.{name_of, number_of};
 
 /// A rule that an XML or DER instance can break. Of two rules broken at one place the one with the

@@ -1,5 +1,5 @@
 //! Runs of whole characters of XML at the front of bytes.
-ghost use Rattle.std.specs.Prelude.{◌≤◌, ◌↔◌, ℕ, IsTrue, IfSome, IfNone, length, take};
+ghost use Rattle.std.specs.Prelude.{◌≤◌, ℕ, IfSome, IfNone, length, take};
 ghost use Rattle.std.specs.List.{AllByRecursion};
 ghost use Rattle.lexical_core.specs.Characters.{IsXmlText};
 ghost use Rattle.lexical_core.specs.XmlRuns.{IsXmlRun, IsPlainXmlByte, is_plain_xml_byte, IsCharAt, BeginsNoChar};

@@ -1,6 +1,6 @@
 //! A start tag with a single attribute, whose name has no prefix: it is in no namespace, and clashes with
 //! no other (Namespaces in XML 1.0 §6.2, §6.3).
-ghost use Rattle.std.specs.Prelude.{◌≡◌, ◌∷◌, [], List, IsTrue, IfOk, None, map, true};
+ghost use Rattle.std.specs.Prelude.{◌≡◌, ◌∷◌, [], IsTrue, IfOk, None, map, true};
 ghost use Rattle.std.specs.Str.{bytes_eq};
 ghost use Rattle.markup.specs.Events.{declared_prefix};
 ghost use Rattle.markup.specs.EventItems.{entry_of};

@@ -1,5 +1,5 @@
 //! The names of the open elements, in one block of bytes.
-ghost use Rattle.std.specs.Prelude.{◌≡◌, ◌==◌, ◌∷◌, ◌++◌, List, [], ℕ, length, OnOk, MatchOption};
+ghost use Rattle.std.specs.Prelude.{◌≡◌, ◌==◌, ◌∷◌, ◌++◌, List, [], length, OnOk, MatchOption};
 ghost use Rattle.markup.specs.OpenNames.{OpenName, KeepsNames, IsInnermost};
 
 use crate::name_block::NameBlock;

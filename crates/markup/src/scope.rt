@@ -9,7 +9,7 @@ ghost use Rattle.markup.specs.Marks.{tag_limit};
 ghost use Rattle.markup.specs.Faults.{end_rule};
 ghost use Rattle.markup.specs.OpenNames.{OpenName, KeepsNames};
 ghost use Rattle.markup.specs.PlainTags.{tag_text, may_be_named, IsPlainInside, tags_behind, IsTagAt, IsTagInside};
-ghost use Rattle.markup.specs.Scopes.{all_declarations, placed_at};
+ghost use Rattle.markup.specs.Scopes.{placed_at};
 
 use crate::attributes::{Expanded, Parted};
 use crate::bindings::Bindings;

@@ -1,6 +1,5 @@
 //! Events that a tag tells, with the place of its first byte.
 ghost use Rattle.std.specs.Prelude.{◌≡◌, false, true, [], ◌∷◌, ◌++◌, OnOk, OnErr, map, Some};
-ghost use Rattle.lexical_core.specs.Tree.{Starts, Ends};
 ghost use Rattle.markup.specs.Events.{start_tag_items, end_tag_items, expanded_in};
 ghost use Rattle.markup.specs.EventItems.{entry_of, Tells, TellsFront};
 ghost use Rattle.markup.specs.Scopes.{placed_at};

@@ -1,5 +1,5 @@
 //! The compiled types of a message of a repository.
-ghost use Rattle.std.specs.Prelude.{◌≡◌, ℕ, List, IfOk, IfErr, OnOk};
+ghost use Rattle.std.specs.Prelude.{ℕ, List, IfOk, IfErr, OnOk};
 ghost use Rattle.reference_check.specs.Reached.{HasReach};
 ghost use Rattle.message_model.specs.Ready.{IsReady, TellsRefused};
 ghost use Rattle.message_model.specs.Compiled.{IsReachedList, Compiles};

@@ -1,5 +1,5 @@
 //! Which reached object breaks a rule on facets or patterns first.
-ghost use Rattle.std.specs.Prelude.{◌≡◌, ◌<◌, ℕ, List, length, IfOk, IfErr, OnOk, All};
+ghost use Rattle.std.specs.Prelude.{◌<◌, ℕ, List, IfOk, IfErr, OnOk};
 ghost use Rattle.reference_check.specs.Reached.{IsReachFor};
 ghost use Rattle.message_model.specs.FacetRules.{HasBadFacets};
 ghost use Rattle.message_model.specs.Ready.{HasBadPattern, TellsRefused, HasGoodFacets};

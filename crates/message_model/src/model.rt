@@ -5,7 +5,7 @@ ghost use Rattle.std.specs.Str.{bytes_eq};
 ghost use Rattle.reference_check.specs.Forms.{form_slots, text_type};
 ghost use Rattle.reference_check.specs.Steps.{Came, EndsWith, next, end_after, end_of_slots, find_slot, first_lacking, has_room, after_order};
 ghost use Rattle.reference_check.specs.Forms.{Slot as Slotted};
-ghost use Rattle.message_model.specs.Tables.{TypeEntry, types_of, message_namespace, namespace_front};
+ghost use Rattle.message_model.specs.Tables.{TypeEntry, types_of, message_namespace};
 ghost use Rattle.message_model.specs.Sound.{AreSound, HaveCodes, HaveSortedCodes, HasRoot, AreLinked, IsSoundForm};
 ghost use Rattle.message_model.specs.inner.Quick.{quick_sequence_next, quick_choice_next, quick_sequence_end, quick_choice_end, quick_at, due, HasTagAt, AreTagged};
 ghost use Rattle.message_model.specs.Views.{layout_form, slot_view, slots_view, next_view, end_view, IsFormOf};

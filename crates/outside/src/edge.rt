@@ -1,5 +1,5 @@
 //! A source over a reader and a sink over a writer: where the program meets files and streams.
-ghost use Rattle.std.specs.Prelude.{◌≡◌, ℕ, ◌+◌, ◌-◌, ◌^◌, Some, None, min, IsErr, IsNone, MatchResult, IsErrOf, IsOkUnless, Option};
+ghost use Rattle.std.specs.Prelude.{◌≡◌, ◌+◌, ◌-◌, ◌^◌, Some, None, min, IsErr, IsNone, MatchResult, IsOkUnless, Option};
 ghost use Rattle.std.specs.Io.{ReadsAtMost};
 ghost use Rattle.std.specs.Io.KnownBytes.{ReadConsumes};
 ghost use Rattle.std.specs.Option.{option_and_then};

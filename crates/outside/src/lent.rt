@@ -1,8 +1,5 @@
 //! A source over bytes that are lent.
 ghost use Rattle.std.specs.Prelude.{◌≡◌, Some};
-ghost use Rattle.std.specs.Io.{ReadsAtMost};
-ghost use Rattle.std.specs.Io.KnownBytes.{ReadConsumes};
-ghost use Rattle.outside.specs.Source.{HasCause};
 
 use super::errors::Failed;
 use super::serve::serve;

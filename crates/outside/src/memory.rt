@@ -1,5 +1,5 @@
 //! A source and a sink in memory whose calls of given numbers fail.
-ghost use Rattle.std.specs.Prelude.{◌≡◌, ℕ, ◌+◌, ◌-◌, ◌^◌, ◌<◌, ◌≤◌, ◌↔◌, Some, [], ◌++◌, length, min, drop, IfOk, IfErr, OnErr, IsErr, IsErrOf, MatchResult, Contains, IsTrue, MatchBool};
+ghost use Rattle.std.specs.Prelude.{◌≡◌, ◌+◌, ◌-◌, ◌^◌, ◌<◌, ◌≤◌, ◌↔◌, Some, [], length, min, drop, IfOk, IfErr, OnErr, IsErr, IsErrOf, MatchResult, Contains, IsTrue, MatchBool};
 ghost use Rattle.std.specs.Io.{ReadsAtMost};
 ghost use Rattle.std.specs.Io.KnownBytes.{ReadConsumes};
 ghost use Rattle.outside.specs.Source.{HasCause};

@@ -1,5 +1,5 @@
 //! The code of a pattern, made token by token.
-ghost use Rattle.std.specs.Prelude.{◌≡◌, ◌==◌, ℕ, ◌+◌, ◌-◌, ◌*◌, ◌<◌, false, not, IsTrue, Option, is_some, List, [], ◌++◌, length, take, drop, OnOk, IfOk};
+ghost use Rattle.std.specs.Prelude.{◌≡◌, ◌==◌, ◌+◌, ◌-◌, ◌*◌, ◌<◌, false, not, IsTrue, Option, is_some, List, [], ◌++◌, length, take, drop, OnOk, IfOk};
 ghost use Rattle.pattern_match.specs.declared.instruction.Instruction.{Instruction};
 ghost use Rattle.pattern_match.specs.Building.{flagged_first, copies_code, repeated_code, wrapped_group, closed_code, piece_code, after_atom, after_open, after_bar, after_close, after_times, after, nothing_built, built_whole};
 ghost use Rattle.pattern_match.specs.inner.Drafting.{live, full_cells, IsPlace, IsGroup, IsGroupBegun, KeepsFront, AreBegun, Drafted, MayRepeatLast, MayTakeToken, Leaves, AreFollowing};

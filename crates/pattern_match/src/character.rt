@@ -1,5 +1,5 @@
 //! What a character of a pattern's text means where it stands: XML Schema part 2, appendix F.
-ghost use Rattle.std.specs.Prelude.{◌≡◌, ℕ};
+ghost use Rattle.std.specs.Prelude.{◌≡◌};
 ghost use Rattle.pattern_match.specs.Character.{outside, within, in_number, behind_backslash, is_escape_letter};
 ghost use Rattle.pattern_match.specs.Valid.{escaped_letter};
 

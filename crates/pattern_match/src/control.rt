@@ -1,5 +1,5 @@
 //! Where the reading of a pattern stands, and how a character leads on: XML Schema part 2, appendix F.
-ghost use Rattle.std.specs.Prelude.{◌≡◌, ℕ, ◌<◌, ◌^◌};
+ghost use Rattle.std.specs.Prelude.{◌≡◌, ◌<◌, ◌^◌};
 ghost use Rattle.pattern_match.specs.Control.{outside_next, atom_next, escape_next, least_next, most_next, class_first_next, class_item_next, class_single_next, class_dash_next, class_end_next, class_escape_next, range_escape_next, next_control, depth_outside, depth_after, next_reading, may_end, HasRoomForDigits, IsSoundControl};
 
 use crate::character::{

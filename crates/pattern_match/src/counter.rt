@@ -1,5 +1,5 @@
 //! Counts the positions of a pattern, token by token, before any code is made.
-ghost use Rattle.std.specs.Prelude.{◌≡◌, ℕ, ◌+◌, ◌<◌, ◌≤◌, [], length, IfOk};
+ghost use Rattle.std.specs.Prelude.{◌≡◌, ◌+◌, ◌<◌, ◌≤◌, length, IfOk};
 ghost use Rattle.pattern_match.specs.Building.{kept_copies, cap_count};
 ghost use Rattle.pattern_match.specs.inner.Counting.{counted_sum, counted_atom, counted_open, counted_bar, counted_close, counted_times, counted_after, nothing_counted, counted_whole};
 

@@ -1,5 +1,5 @@
 //! What is carried from one instruction to the next, in memory that is taken once.
-ghost use Rattle.std.specs.Prelude.{◌≡◌, ℕ, ◌<◌, ◌≤◌, IsTrue, Bool, false, ◌||◌, ◌&&◌, List, [], ◌∷◌, length, IfOk, reverse, vec_capacity};
+ghost use Rattle.std.specs.Prelude.{◌≡◌, ◌<◌, ◌≤◌, IsTrue, false, ◌||◌, ◌&&◌, [], length, IfOk, reverse, vec_capacity};
 ghost use Rattle.pattern_match.specs.Marking.{frame, innermost_group, around, with_group, now_at_bar, frames_at_bar, now_at_close};
 
 use crate::instruction::Frame;

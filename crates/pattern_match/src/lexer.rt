@@ -1,6 +1,5 @@
 //! The tokens of a pattern's text.
-ghost use Rattle.std.specs.Prelude.{◌≡◌, ℕ, List, [], ◌∷◌, ◌++◌, Some, OnOk, IfOk};
-ghost use Rattle.pattern_match.specs.Control.{IsSoundControl};
+ghost use Rattle.std.specs.Prelude.{◌≡◌, ◌++◌, Some, OnOk, IfOk};
 ghost use Rattle.pattern_match.specs.Tokens.{outside_tokens, behind_atom_tokens, escape_tokens, least_tokens, most_tokens, item_tokens, single_tokens, dash_tokens, class_escape_tokens, range_escape_tokens, emits, emit_tokens};
 
 use crate::character::{

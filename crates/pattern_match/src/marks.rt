@@ -1,5 +1,5 @@
 //! The marks of a matcher: a pass goes over them from the first to the last, and knows where the next may be that is set.
-ghost use Rattle.std.specs.Prelude.{◌≡◌, ℕ, ◌+◌, ◌<◌, ◌≤◌, Bool, false, ◌||◌, if◌then◌else◌, List, [], ◌∷◌, ◌++◌, length, drop, replicate, slice_index_or, slice_set, IfOk, vec_capacity};
+ghost use Rattle.std.specs.Prelude.{◌≡◌, ◌+◌, ◌<◌, ◌≤◌, false, ◌||◌, if◌then◌else◌, [], ◌∷◌, ◌++◌, length, drop, replicate, slice_index_or, slice_set, IfOk, vec_capacity};
 ghost use Rattle.pattern_match.specs.Marks.{Walk, first_place_or, past};
 
 use std::alloc::{AllocError, Global};

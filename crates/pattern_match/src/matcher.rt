@@ -4,7 +4,7 @@ ghost use Rattle.std.specs.Str.{chars};
 ghost use Rattle.pattern_match.specs.Reading.{Matches};
 ghost use Rattle.pattern_match.specs.Recall.{IsRightTable, IsRow, reached_marks};
 ghost use Rattle.pattern_match.specs.Marks.{IsDone};
-ghost use Rattle.pattern_match.specs.Compiled.{IsMarked, HasReadWord, IsStart, IsMadeFor, tokens_of_text, code_of_text, first_marks, next_marks};
+ghost use Rattle.pattern_match.specs.Compiled.{IsMarked, HasReadWord, IsStart, IsMadeFor, tokens_of_text, code_of_text, next_marks};
 
 use crate::flow::Flow;
 use crate::marks::Marks;

@@ -1,5 +1,5 @@
 //! The two passes over the instructions: a character passes through them, and then the empty word.
-ghost use Rattle.std.specs.Prelude.{◌≡◌, ℕ, ◌+◌, ◌-◌, ◌<◌, ◌≤◌, Bool, false, ◌||◌, ◌&&◌, List, [], ◌∷◌, length, take, drop, replicate, slice_index_or};
+ghost use Rattle.std.specs.Prelude.{◌≡◌, ℕ, ◌+◌, ◌-◌, ◌<◌, ◌≤◌, Bool, false, ◌||◌, ◌&&◌, [], length, take, drop, replicate, slice_index_or};
 ghost use Rattle.pattern_match.specs.Gaps.{HasGaps, IsQuiet, gaps as gaps_from};
 ghost use Rattle.pattern_match.specs.Marks.{IsListed, IsDone, Skips, Starts, first_place_or, first_rest, second_rest, is_open as is_open_of};
 ghost use Rattle.pattern_match.specs.Marking.{first_pass, second_pass, first_mark, first_live, first_frames, second_mark, second_live, second_frames, end_of_group};

@@ -1,5 +1,5 @@
 //! What a matcher remembers: marks that it has met, and which follow them by an ASCII character.
-ghost use Rattle.std.specs.Prelude.{◌≡◌, ℕ, suc, ◌+◌, ◌*◌, ◌<◌, ◌≤◌, ◌⊎◌, IsTrue, Bool, false, Some, List, [], ◌∷◌, ◌++◌, length, take, slice_index_or, slice_set, IfOk, IfSome};
+ghost use Rattle.std.specs.Prelude.{◌≡◌, ℕ, suc, ◌+◌, ◌*◌, ◌<◌, ◌≤◌, ◌⊎◌, IsTrue, Bool, Some, List, [], ◌∷◌, ◌++◌, length, take, slice_index_or, slice_set, IfOk, IfSome};
 ghost use Rattle.pattern_match.specs.Recall.{Known, row, rows_of, cell, marks_behind, IsRightTable, IsRow};
 
 use std::alloc::{AllocError, Global};

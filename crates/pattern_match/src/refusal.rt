@@ -1,5 +1,5 @@
 //! Where characters are no pattern: they are read one at a time, and that takes no memory.
-ghost use Rattle.std.specs.Prelude.{◌≡◌, ℕ};
+ghost use Rattle.std.specs.Prelude.{◌≡◌};
 ghost use Rattle.pattern_match.specs.inner.Refusal.{refused_from, start};
 
 use crate::control::{Control, Reading, is_end, reading_after};

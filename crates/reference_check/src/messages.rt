@@ -1,5 +1,5 @@
 //! The message of an identifier.
-ghost use Rattle.std.specs.Prelude.{◌≡◌, ◌≤◌, ℕ, IfSome, IfNone, IfOk, IfErr, OnOk, Some, None, true, false, slice_get, count_by};
+ghost use Rattle.std.specs.Prelude.{◌≡◌, IfSome, IfNone, IfOk, IfErr, OnOk, Some, None, true, false, slice_get, count_by};
 ghost use Rattle.std.specs.Str.{bytes_eq};
 ghost use Rattle.repo_objects.specs.declared.objects.MessageDef.{MessageDef};
 ghost use Rattle.reference_check.specs.Graph.{find_message};

@@ -1,5 +1,5 @@
 //! What is asked of names and tags.
-ghost use Rattle.std.specs.Prelude.{◌≡◌, ◌↔◌, ◌++◌, ℕ, List, IsTrue, Contains, IfOk, map, false};
+ghost use Rattle.std.specs.Prelude.{◌≡◌, ◌↔◌, ◌++◌, IsTrue, Contains, IfOk, map, false};
 ghost use Rattle.std.specs.List.{list_all};
 ghost use Rattle.repo_objects.specs.declared.objects.ElementDef.{ElementDef};
 ghost use Rattle.reference_check.specs.Names.{is_profile_name, is_name_first, is_name_byte};

@@ -1,6 +1,5 @@
 //! What is asked of references to objects.
-ghost use Rattle.std.specs.Prelude.{◌≡◌, ◌↔◌, ℕ, List, IsTrue, Contains, length, Some};
-ghost use Rattle.std.specs.Option.{option_copied};
+ghost use Rattle.std.specs.Prelude.{◌≡◌, ◌↔◌, IsTrue, Contains, length, Some};
 ghost use Rattle.repo_objects.specs.declared.objects.ElementDef.{ElementDef};
 ghost use Rattle.repo_objects.specs.declared.objects.Object.{Object};
 ghost use Rattle.reference_check.specs.Graph.{references, given_id, find_entry};

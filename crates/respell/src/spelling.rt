@@ -1,5 +1,5 @@
 //! The parts of tags, as a fragment spells them.
-ghost use Rattle.std.specs.Prelude.{◌≡◌, ◌+◌, ◌<◌, ◌^◌, false, [], ◌++◌, OnOk, map};
+ghost use Rattle.std.specs.Prelude.{◌≡◌, ◌+◌, ◌<◌, ◌^◌, false, ◌++◌, OnOk, map};
 ghost use Rattle.std.specs.List.{flat_map};
 ghost use Rattle.lexical_core.specs.Names.{xmlns};
 ghost use Rattle.markup.specs.EventItems.{entry_of};

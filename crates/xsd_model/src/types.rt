@@ -1,5 +1,5 @@
 //! The types of a schema that the types of a message are.
-ghost use Rattle.std.specs.Prelude.{◌≡◌, [], ◌∷◌, ◌++◌, IfOk, OnOk};
+ghost use Rattle.std.specs.Prelude.{◌≡◌, ◌++◌, IfOk, OnOk};
 ghost use Rattle.reference_check.specs.Forms.{Money};
 ghost use Rattle.message_model.specs.Tables.{types_of};
 ghost use Rattle.message_model.specs.Sound.{AreSound};

@@ -1,5 +1,5 @@
 //! The lines of the facets of a step.
-ghost use Rattle.std.specs.Prelude.{◌≡◌, ◌+◌, ◌∷◌, [], codes, flat_map};
+ghost use Rattle.std.specs.Prelude.{◌+◌, ◌∷◌, [], codes, flat_map};
 ghost use Rattle.outside.specs.Pushes.{Pushes};
 ghost use Rattle.xsd_model.specs.SchemaText.{facet_text, facets_text, line, value_facet};
 ghost use Rattle.xsd_writer.specs.inner.FacetLines.{facet_lines};

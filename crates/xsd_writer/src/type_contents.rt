@@ -1,5 +1,5 @@
 //! The lines between the first and the last of a type.
-ghost use Rattle.std.specs.Prelude.{◌≡◌, ◌∷◌, [], codes, flat_map};
+ghost use Rattle.std.specs.Prelude.{◌∷◌, [], flat_map};
 ghost use Rattle.outside.specs.Pushes.{Pushes};
 ghost use Rattle.xsd_model.specs.SchemaText.{amount_text, any_text, line, model_text, schema_part_text};
 ghost use Rattle.xsd_writer.specs.inner.TypeContents.{contents_text};
