@@ -1,5 +1,5 @@
 -- Attributes that have no prefix, declare nothing and ascend are found at the front of bytes, one behind another.
-use Rattle.std.proofs.Common.{◌≡◌, ℕ, ◌-◌, ◌==◌, ◌≤◌, Bool, true, false, not, ◌&&◌, List, [], ◌∷◌, ◌++◌, length, map, take, Option, Some, None, refl, sym, ◌∙◌, ap, subst, length-append, arith}
+use Rattle.std.proofs.Common.{◌≡◌, ℕ, ◌-◌, ◌≤◌, Bool, true, false, not, ◌&&◌, List, [], ◌∷◌, ◌++◌, length, map, take, Option, Some, None, refl, sym, ◌∙◌, ap, subst, length-append, arith}
 use Rattle.std.specs.Bool.{if◌then◌else◌}
 use Rattle.std.specs.List.{list_all, flat_map}
 use Rattle.std.specs.Option.{IfSome, IsSomeAnd}
@@ -9,18 +9,19 @@ use Rattle.std.specs.declared.alloc.AllocError.{AllocError}
 use Rattle.std.specs.Ordering.{nat_cmp, is_lt}
 use Rattle.std.specs.Cmp.Lexicographic.{slice_cmp}
 use Rattle.std.specs.Str.{bytes_eq}
-use Rattle.std.proofs.lemmas.Bool.{and_parts, and_from, both_ways, not-true, eqb-true}
-use Rattle.std.proofs.lemmas.List.{nil_from_length}
+use Rattle.std.proofs.lemmas.Bool.{and_parts, and_from, both_ways, not-true}
 use Rattle.std.proofs.lemmas.Slice.Eq.{bytes_eq-Decides}
 use Rattle.lexical_core.specs.Names.{xmlns}
 use Rattle.markup.specs.Events.{declared_prefix}
 use Rattle.markup.specs.Marks.{begins_with}
 use Rattle.markup.specs.PlainStarts.{is_plain_qualified, PlainAttribute, is_plain_attribute, plain_attribute_text, PlainStart, is_plain_start, start_end, plain_start_text}
+use Rattle.markup.specs.PlainTags.{IsInsideOf}
 use Rattle.markup.specs.AttributeTags.{is_bare_attribute, ascend, ascend_behind, is_bare_start}
 use Rattle.markup.specs.inner.WholeStarts.{named_by, IsNameAt, IsAttributeAt}
 use Rattle.markup.specs.inner.BareStarts.{bare_given, IsBareBehind, AreBareBehind, latest_of, AreBareLeft, FindsBare, IsBareStartAt}
 use Rattle.markup.specs.declared.attribute_tag.AttributeTag.{AttributeTag}
 use Rattle.markup.specs.declared.tag.Given.{Given}
+use Rattle.markup.specs.declared.tag.Opening.{Opening}
 use Rattle.markup.specs.declared.tag.Spelled.{Spelled}
 use Rattle.markup.proofs.NamesFound.{IsBehindName}
 use Rattle.markup.proofs.QualifiedNames.{one_name}
@@ -107,18 +108,15 @@ all_bare bytes left latest last given attributes d n p b h s e =
 
 -- ---- the whole tag
 
-pub empty_prefix : (prefix : List ℕ) → (length prefix == 0) ≡ true → prefix ≡ []
-empty_prefix prefix h = nil_from_length prefix (eqb-true (length prefix) 0 h)
+module _ (front named rest prefix : List ℕ) (first : ℕ) (tag : PlainStart) (bare : is_bare_start prefix tag ≡ true) (e : front ≡ plain_start_text tag ++ rest) (f : front ≡ first ∷ named) where
+  ordered : (is_plain_start tag && bytes_eq tag.name.prefix prefix && list_all is_bare_attribute tag.attributes ≡ true) × (ascend tag.attributes ≡ true)
+  ordered = and_parts (is_plain_start tag && bytes_eq tag.name.prefix prefix && list_all is_bare_attribute tag.attributes) (ascend tag.attributes) bare
 
-module _ (front named rest : List ℕ) (first : ℕ) (tag : PlainStart) (bare : is_bare_start tag ≡ true) (e : front ≡ plain_start_text tag ++ rest) (f : front ≡ first ∷ named) where
-  ordered : (is_plain_start tag && bytes_eq tag.name.prefix [] && list_all is_bare_attribute tag.attributes ≡ true) × (ascend tag.attributes ≡ true)
-  ordered = and_parts (is_plain_start tag && bytes_eq tag.name.prefix [] && list_all is_bare_attribute tag.attributes) (ascend tag.attributes) bare
+  named_so : (is_plain_start tag && bytes_eq tag.name.prefix prefix ≡ true) × (list_all is_bare_attribute tag.attributes ≡ true)
+  named_so = and_parts (is_plain_start tag && bytes_eq tag.name.prefix prefix) (list_all is_bare_attribute tag.attributes) ordered.0
 
-  named_so : (is_plain_start tag && bytes_eq tag.name.prefix [] ≡ true) × (list_all is_bare_attribute tag.attributes ≡ true)
-  named_so = and_parts (is_plain_start tag && bytes_eq tag.name.prefix []) (list_all is_bare_attribute tag.attributes) ordered.0
-
-  parts : (is_plain_start tag ≡ true) × (bytes_eq tag.name.prefix [] ≡ true)
-  parts = and_parts (is_plain_start tag) (bytes_eq tag.name.prefix []) named_so.0
+  parts : (is_plain_start tag ≡ true) × (bytes_eq tag.name.prefix prefix ≡ true)
+  parts = and_parts (is_plain_start tag) (bytes_eq tag.name.prefix prefix) named_so.0
 
   pub bare_is_plain : is_plain_start tag ≡ true
   bare_is_plain = parts.0
@@ -127,11 +125,11 @@ module _ (front named rest : List ℕ) (first : ℕ) (tag : PlainStart) (bare : 
     behind_name_is : behind ≡ behind_name tag rest
     behind_name_is = behind_is front named rest first tag parts.0 e f behind a
 
-    -- the name that is found has no prefix
-    pub no_prefix_found : (name : Spelled) → IsNameAt named name behind → (length name.prefix == 0) ≡ false → ⊥
-    no_prefix_found name at n =
+    -- the name that is found has the prefix
+    pub other_prefix : (name : Spelled) → IsNameAt named name behind → bytes_eq name.prefix prefix ≡ false → ⊥
+    other_prefix name at n =
         let same : name ≡ tag.name = one_name named name tag.name behind at (subst (IsNameAt named tag.name) (sym behind_name_is) (start_named front named rest first tag parts.0 e f)) in
-        both_ways (length name.prefix == 0) n (ap (λ (m : Spelled). length m.prefix == 0) same ∙ ap (λ p. length p == 0) (no_prefix tag.name.prefix parts.1))
+        both_ways (bytes_eq name.prefix prefix) n (ap (λ (m : Spelled). bytes_eq m.prefix prefix) same ∙ parts.1)
 
     -- all its attributes are found
     pub attributes_sized : (o : Option ℕ) → ((attributes : List PlainAttribute) (last : List ℕ) → list_all is_plain_attribute attributes ≡ true → list_all is_bare_attribute attributes ≡ true → ascend attributes ≡ true → begins_with 32 last ≡ false → behind ≡ flat_map plain_attribute_text attributes ++ last → IsSomeAnd o (λ n. n ≡ length (flat_map plain_attribute_text attributes)))
@@ -141,5 +139,12 @@ module _ (front named rest : List ℕ) (first : ℕ) (tag : PlainStart) (bare : 
 -- a tag at the front of a front of a piece stands at its own
 pub bare_widened : (result : Result (Option AttributeTag) AllocError) (piece front : List ℕ) (room : ℕ) → room ≤ length piece → front ≡ take room piece → IfOk result (λ o. IfSome o (λ t. IsBareStartAt front t)) → IfOk result (λ o. IfSome o (λ t. IsBareStartAt piece t))
 bare_widened (Ok None) piece front room r f h = tt
-bare_widened (Ok (Some t)) piece front room r f h = record { at = start_widened piece front room (record { name = named_by [] t.name.now; given = map bare_given t.attributes.items; is_empty = t.is_empty }) t.bytes r f h.at; bare = h.bare }
+bare_widened (Ok (Some t)) piece front room r f h = record { at = start_widened piece front room (record { name = named_by t.prefix.now t.name.now; given = map bare_given t.attributes.items; is_empty = t.is_empty }) t.bytes r f h.at; bare = h.bare }
 bare_widened (Err e) piece front room r f h = tt
+
+-- where the innermost element has the prefix, it has that of the tag
+pub bare_inside : (result : Result (Option AttributeTag) AllocError) (tags : List Opening) (prefix : List ℕ) → ((opened : List ℕ) × IsInsideOf tags (named_by prefix opened)) → IfOk result (λ o. IfSome o (λ t. t.prefix.now ≡ prefix))
+    → IfOk result (λ o. IfSome o (λ t. (opened : List ℕ) × IsInsideOf tags (named_by t.prefix.now opened)))
+bare_inside (Ok None) tags prefix i h = tt
+bare_inside (Ok (Some t)) tags prefix i h = subst (λ q. (opened : List ℕ) × IsInsideOf tags (named_by q opened)) (sym h) i
+bare_inside (Err e) tags prefix i h = tt

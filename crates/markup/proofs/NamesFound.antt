@@ -4,8 +4,8 @@ use Rattle.std.specs.List.{list_all, prefix_len}
 use Rattle.std.proofs.lemmas.Bool.{and_parts, both_ways}
 use Rattle.std.proofs.Math.Seq.{drop-append_seam}
 use Rattle.lexical_core.proofs.Lists.{same_first, same_rest}
-use Rattle.markup.specs.PlainTags.{begins_plain, continues_plain, is_plain_name}
-use Rattle.markup.specs.PlainStarts.{is_plain_prefix, joined_text}
+use Rattle.markup.specs.PlainTags.{begins_plain, continues_plain, is_plain_name, joined_text}
+use Rattle.markup.specs.PlainStarts.{is_plain_prefix}
 use Rattle.markup.specs.inner.WholeStarts.{named_by, goes_on_name, IsLocalAt, IsNameAt}
 use Rattle.markup.specs.declared.tag.Spelled.{Spelled}
 use Rattle.markup.proofs.TagScans.{all_continue, two_parts}

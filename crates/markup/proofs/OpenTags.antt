@@ -1,22 +1,24 @@
 -- The open tags are tags of tokens that stand, and their names are those of the open elements that events tell.
-use Rattle.std.proofs.Common.{◌≡◌, ℕ, Bool, true, false, ◌==◌, ◌||◌, ◌+◌, List, [], ◌∷◌, ◌++◌, length, drop, reverse, Option, Some, None, refl, sym, ◌∙◌, ap, subst}
+use Rattle.std.proofs.Common.{◌≡◌, ℕ, Bool, true, false, ◌==◌, ◌||◌, ◌+◌, List, [], ◌∷◌, ◌++◌, length, drop, reverse, Option, Some, None, refl, sym, ◌∙◌, ap, subst, arith}
 use Rattle.std.specs.Str.{encode_utf8_all}
 use Rattle.std.specs.Bool.{if◌then◌else◌}
 use Rattle.std.specs.Option.{is_none}
-use Rattle.std.proofs.lemmas.Bool.{both_ways, and_parts}
+use Rattle.std.proofs.lemmas.Bool.{both_ways, and_parts, and_from, eqb-true}
+use Rattle.std.proofs.lemmas.Str.{encode_ascii, encode_same, encodes-append}
 use Rattle.std.specs.List.{list_any}
 use Rattle.lexical_core.specs.Tree.{Expanded, Ends}
 use Rattle.lexical_core.specs.declared.rule.Rule.TheVariants.{DuplicateAttribute, BadPrefix, AfterRoot}
 use Rattle.lexical_core.proofs.Tests.{suc_not_zero}
-use Rattle.markup.specs.Name.{Name, Plain, Prefixed, is_part, is_name}
+use Rattle.markup.specs.Name.{Name, Plain, Prefixed, is_part, is_name, name_text}
 use Rattle.markup.specs.Token.{Token, Mark, Declaration, Comment, Instruction, Opener, Closer, TypeDeclaration, Start, End, Refer, LineEnd, Character, token_bytes}
-use Rattle.markup.specs.Marks.{in_cdata, stands, Front}
+use Rattle.markup.specs.Marks.{in_cdata, stands, Front, begins_with}
 use Rattle.markup.specs.Events.{Placed, spelled_name, opening, open_tags, namespace_of, element_name, expanded_in, entries, start_tag_items, end_tag_items, start_items, end_items, events, items_of}
 use Rattle.markup.specs.Faults.{has_start, rule_of, start_rule, is_over, has_clash, is_bad_attribute, IsClean}
-use Rattle.markup.specs.PlainTags.{open_after, open_behind, innermost_namespace, IsPlainInside}
+use Rattle.markup.specs.PlainTags.{joined_text, open_after, open_behind, innermost_namespace, IsInsideOf}
 use Rattle.markup.specs.declared.tag.Spelled.{Spelled}
 use Rattle.markup.specs.declared.tag.Opening.{Opening}
 use Rattle.markup.specs.Scopes.{placed_at}
+use Rattle.markup.proofs.CharLemmas.{start_not}
 use Rattle.markup.proofs.PlainLemmas.{no_chars}
 use Rattle.markup.proofs.TokenKinds.{never_in}
 use Rattle.markup.proofs.TokenLemmas.{start_tag_facts}
@@ -72,17 +74,62 @@ no_part (c ∷ cs) h e = none (no_chars (c ∷ cs) [] (ap (λ v. length (v ++ []
   none : c ∷ cs ≡ [] → ⊥
   none q = cc
 
-plain_part : (n : Name) (opened : List ℕ) → is_name n ≡ true → spelled_name n ≡ record { prefix = []; local = opened } → IsPlainPart opened
-plain_part (Plain local) opened h e = record { local = local; part = h; encoded = ap (λ (s : Spelled). s.local) e }
-plain_part (Prefixed prefix local) opened h e = absurd (no_part prefix (and_parts _ _ h).0 (ap (λ (s : Spelled). s.prefix) e))
+-- a name that is spelled so
+pub record IsSpelledName (spelled : Spelled) : Type 0 where
+  pub name : Name
+  pub is : is_name name ≡ true
+  pub says : spelled_name name ≡ spelled
 
-inner_part : (tags : List Opening) (opened : List ℕ) → Named tags → IsPlainInside tags opened → IsPlainPart opened
-inner_part [] opened n i = absurd i
-inner_part (tag ∷ tags) opened n i = plain_part n.0.0 opened n.0.1 (n.0.2 ∙ i)
+inner_name : (tags : List Opening) (spelled : Spelled) → Named tags → IsInsideOf tags spelled → IsSpelledName spelled
+inner_name [] spelled n i = absurd i
+inner_name (tag ∷ tags) spelled n i = record { name = n.0.0; is = n.0.1; says = n.0.2 ∙ i }
 
--- the name of the innermost open element, where it has no prefix
-pub innermost_part : (limit : ℕ) (b rest : List ℕ) (ts : List Token) (opened : List ℕ) → Front limit [] b ts rest → IsPlainInside (open_tags (reverse ts)) opened → IsPlainPart opened
-innermost_part limit b rest ts opened f i = inner_part (open_tags (reverse ts)) opened (named (reverse ts) (subst Standing (sym (behind ts)) (standing_past limit [] b rest ts tt f))) i
+-- the name of the innermost open element
+pub innermost_name : (limit : ℕ) (b rest : List ℕ) (ts : List Token) (spelled : Spelled) → Front limit [] b ts rest → IsInsideOf (open_tags (reverse ts)) spelled → IsSpelledName spelled
+innermost_name limit b rest ts spelled f i = inner_name (open_tags (reverse ts)) spelled (named (reverse ts) (subst Standing (sym (behind ts)) (standing_past limit [] b rest ts tt f))) i
+
+-- another local name with its prefix
+pub renamed : (spelled : Spelled) (local : List ℕ) → IsSpelledName spelled → IsPlainPart local → IsSpelledName (record { prefix = spelled.prefix; local = local })
+renamed spelled local s part = by s.name s.is (ap (λ (n : Spelled). n.prefix) s.says) where
+  says : (prefix : List ℕ) → prefix ≡ spelled.prefix → record { prefix = prefix; local = encode_utf8_all part.local } ≡ (let n : Spelled = record { prefix = spelled.prefix; local = local } in n)
+  says prefix e = ap (λ v. let n : Spelled = record { prefix = prefix; local = v } in n) part.encoded ∙ ap (λ p. let n : Spelled = record { prefix = p; local = local } in n) e
+
+  by : (n : Name) → is_name n ≡ true → (spelled_name n).prefix ≡ spelled.prefix → IsSpelledName (record { prefix = spelled.prefix; local = local })
+  by (Plain own) h e = record { name = Plain part.local; is = part.part; says = says [] e }
+  by (Prefixed prefix own) h e = record { name = Prefixed prefix part.local; is = and_from _ _ (and_parts _ _ h).0 part.part; says = says (encode_utf8_all prefix) e }
+
+-- and what is written of it
+joined_colon : (prefix local : List ℕ) → (prefix ≡ [] → ⊥) → joined_text prefix local ≡ prefix ++ 58 ∷ local
+joined_colon [] local n = absurd (n refl)
+joined_colon (b ∷ more) local n = refl
+
+pub written : (spelled : Spelled) (s : IsSpelledName spelled) → encode_utf8_all (name_text s.name) ≡ joined_text spelled.prefix spelled.local
+written spelled s = by s.name s.is ∙ ap (λ (n : Spelled). joined_text n.prefix n.local) s.says where
+  by : (n : Name) → is_name n ≡ true → encode_utf8_all (name_text n) ≡ joined_text (spelled_name n).prefix (spelled_name n).local
+  by (Plain local) h = refl
+  by (Prefixed prefix local) h =
+      encodes-append prefix (58 ∷ local) ∙ (ap (λ v. encode_utf8_all prefix ++ (v ++ encode_utf8_all local)) (encode_ascii 58 (omega arith)) ∙ sym (joined_colon (encode_utf8_all prefix) (encode_utf8_all local) (no_part prefix (and_parts _ _ h).0)))
+
+-- no prefix begins with a slash
+slash_first : (bytes : List ℕ) → begins_with 47 bytes ≡ true → (rest : List ℕ) × (bytes ≡ 47 ∷ rest)
+slash_first [] h = absurd (both_ways false refl h)
+slash_first (b ∷ rest) h = (rest, ap (λ x. x ∷ rest) (eqb-true b 47 h))
+
+part_no_slash : (part : List ℕ) → is_part part ≡ true → begins_with 47 (encode_utf8_all part) ≡ false
+part_no_slash [] h = absurd (both_ways false refl h)
+part_no_slash (c ∷ cs) h = by (begins_with 47 (encode_utf8_all (c ∷ cs))) refl where
+  by : (b : Bool) → begins_with 47 (encode_utf8_all (c ∷ cs)) ≡ b → begins_with 47 (encode_utf8_all (c ∷ cs)) ≡ false
+  by false e = e
+  by true e =
+      let s = slash_first (encode_utf8_all (c ∷ cs)) e in
+      let k = encode_same c 47 (encode_utf8_all cs) s.0 (s.1 ∙ ap (λ v. v ++ s.0) (sym (encode_ascii 47 (omega arith)))) in
+      absurd (both_ways (c == 47) (start_not c (and_parts _ _ h).0).1 (ap (λ x. x == 47) k.0))
+
+pub no_slash : (spelled : Spelled) → IsSpelledName spelled → begins_with 47 spelled.prefix ≡ false
+no_slash spelled s = subst (λ (n : Spelled). begins_with 47 n.prefix ≡ false) s.says (by s.name s.is) where
+  by : (n : Name) → is_name n ≡ true → begins_with 47 (spelled_name n).prefix ≡ false
+  by (Plain local) h = refl
+  by (Prefixed prefix local) h = part_no_slash prefix (and_parts _ _ h).0
 
 -- ---- namespaces
 
@@ -144,24 +191,24 @@ expanded_past before opened p (t ∷ ts) c a =
 pub open_expanded : (ts : List Token) → IsClean [] ts → AreExpanded (open_tags (reverse ts)) (open_behind [] (events [] 0 ts))
 open_expanded ts c = subst (λ b. AreExpanded (open_tags b) (open_behind [] (events [] 0 ts))) (sym (behind ts)) (expanded_past [] [] 0 ts c tt)
 
--- the namespace of the innermost element is the default one, where that element has no prefix
-default_of : (tag : Opening) (tags : List Opening) (opened : List ℕ) (e : Expanded) → tag.name ≡ record { prefix = []; local = opened } → element_name (tag ∷ tags) tag.name ≡ Some e → (namespace_of (tag ∷ tags) [] ≡ Some e.namespace) × (e.local ≡ opened)
-default_of tag tags opened e i n = by (namespace_of (tag ∷ tags) []) refl (sym (ap (element_name (tag ∷ tags)) i) ∙ n) where
-  by : (o : Option (List ℕ)) → namespace_of (tag ∷ tags) [] ≡ o → expanded_in o opened ≡ Some e → (namespace_of (tag ∷ tags) [] ≡ Some e.namespace) × (e.local ≡ opened)
+-- the namespace of the innermost element is that of its prefix
+bound_of : (tag : Opening) (tags : List Opening) (name : Spelled) (e : Expanded) → tag.name ≡ name → element_name (tag ∷ tags) tag.name ≡ Some e → (namespace_of (tag ∷ tags) name.prefix ≡ Some e.namespace) × (e.local ≡ name.local)
+bound_of tag tags name e i n = by (namespace_of (tag ∷ tags) name.prefix) refl (sym (ap (element_name (tag ∷ tags)) i) ∙ n) where
+  by : (o : Option (List ℕ)) → namespace_of (tag ∷ tags) name.prefix ≡ o → expanded_in o name.local ≡ Some e → (namespace_of (tag ∷ tags) name.prefix ≡ Some e.namespace) × (e.local ≡ name.local)
   by None k h = absurd (cc)
   by (Some ns) k h = (k ∙ ap (λ v. Some v) (ap (λ (x : Expanded). x.namespace) (same _ e h)), sym (ap (λ (x : Expanded). x.local) (same _ e h))) where
     same : (x y : Expanded) → Some x ≡ Some y → x ≡ y
     same x y h = cc
 
-pub innermost_default : (tags : List Opening) (es : List Expanded) (opened : List ℕ) → AreExpanded tags es → IsPlainInside tags opened → namespace_of tags [] ≡ Some (innermost_namespace es)
-innermost_default [] es opened a i = absurd i
-innermost_default (tag ∷ tags) [] opened a i = absurd a
-innermost_default (tag ∷ tags) (e ∷ es) opened a i = (default_of tag tags opened e i a.0).0
+pub innermost_bound : (tags : List Opening) (es : List Expanded) (name : Spelled) → AreExpanded tags es → IsInsideOf tags name → namespace_of tags name.prefix ≡ Some (innermost_namespace es)
+innermost_bound [] es name a i = absurd i
+innermost_bound (tag ∷ tags) [] name a i = absurd a
+innermost_bound (tag ∷ tags) (e ∷ es) name a i = (bound_of tag tags name e i a.0).0
 
-pub innermost_ends : (tags : List Opening) (es : List Expanded) (opened : List ℕ) → AreExpanded tags es → IsPlainInside tags opened → end_items tags ≡ Ends (record { namespace = innermost_namespace es; local = opened }) ∷ []
-innermost_ends [] es opened a i = absurd i
-innermost_ends (tag ∷ tags) [] opened a i = absurd a
-innermost_ends (tag ∷ tags) (e ∷ es) opened a i = ap end_tag_items a.0 ∙ ap (λ v. Ends (record { namespace = e.namespace; local = v }) ∷ []) (default_of tag tags opened e i a.0).1
+pub innermost_ends : (tags : List Opening) (es : List Expanded) (name : Spelled) → AreExpanded tags es → IsInsideOf tags name → end_items tags ≡ Ends (record { namespace = innermost_namespace es; local = name.local }) ∷ []
+innermost_ends [] es name a i = absurd i
+innermost_ends (tag ∷ tags) [] name a i = absurd a
+innermost_ends (tag ∷ tags) (e ∷ es) name a i = ap end_tag_items a.0 ∙ ap (λ v. Ends (record { namespace = e.namespace; local = v }) ∷ []) (bound_of tag tags name e i a.0).1
 
 -- ---- whether the root has come
 

@@ -1,4 +1,4 @@
--- A plain tag is a token that stands where an element without a prefix is open.
+-- A plain tag is a token that stands where an element of its prefix is open.
 use Rattle.std.proofs.Common.{◌≡◌, ℕ, Bool, true, false, ◌==◌, ◌||◌, ◌&&◌, ◌+◌, ◌<◌, ◌≤◌, List, [], ◌∷◌, ◌++◌, length, take, reverse, Some, None, refl, sym, ◌∙◌, ap, subst, append-nil, arith}
 use Rattle.std.specs.Bool.{if◌then◌else◌}
 use Rattle.std.specs.Char.{encode_utf8}
@@ -15,10 +15,10 @@ use Rattle.lexical_core.specs.Tree.{Expanded, Ends}
 use Rattle.lexical_core.specs.declared.rule.Rule.TheVariants.{BadPrefix, AfterRoot, TagMismatch}
 use Rattle.lexical_core.proofs.Tests.{suc_not_zero}
 use Rattle.markup.specs.Chars.{in_some, name_start_ranges, name_more_ranges, is_name_start, is_name_char}
-use Rattle.markup.specs.Name.{Plain, is_part}
+use Rattle.markup.specs.Name.{Name, is_part, is_name, name_text}
 use Rattle.markup.specs.Token.{Token, Start, End, token_bytes}
-use Rattle.markup.specs.Marks.{in_cdata, is_first, stands, is_short}
-use Rattle.markup.specs.Events.{Placed, open_tags, namespace_of, expanded_in, start_tag_items, events, items_of}
+use Rattle.markup.specs.Marks.{in_cdata, is_first, stands, is_short, begins_with}
+use Rattle.markup.specs.Events.{Placed, spelled_name, open_tags, namespace_of, expanded_in, start_tag_items, events, items_of}
 use Rattle.markup.specs.Faults.{rule_of, is_over, is_outside, has_start, end_rule}
 use Rattle.markup.specs.Scopes.{IsScope, placed_at}
 use Rattle.markup.specs.Contexts.{IsContext}
@@ -27,7 +27,7 @@ use Rattle.markup.specs.ScanRuns.{run, position, placed_by, ended_of}
 use Rattle.markup.specs.Tokenizers.{after_other, behind_token, is_between, is_in_text, is_text, after_whole_tokens}
 use Rattle.markup.specs.Reading.{HasTakenUnder, HasToldUnder, IsInTextUnder, MayTakeTagUnder, MayTakeStartUnder, MayTakeAttributesUnder}
 use Rattle.markup.specs.PlainStarts.{PlainStart}
-use Rattle.markup.specs.PlainTags.{begins_plain, continues_plain, is_plain_name, tag_text, tag_items, open_behind, innermost_namespace, name_behind, may_be_named, IsPlainInside, tags_behind, IsTagInside}
+use Rattle.markup.specs.PlainTags.{begins_plain, continues_plain, is_plain_name, joined_text, tag_text, tag_items, open_behind, innermost_namespace, name_behind, may_be_named, IsInsideOf, tags_behind, IsTagInside}
 use Rattle.markup.specs.declared.context.Context.{Context}
 use Rattle.markup.specs.declared.plain_tag.TagKind.{TagKind}
 use Rattle.markup.specs.declared.plain_tag.TagKind.TheVariants.{Start as StartKind, Empty as EmptyKind, End as EndKind}
@@ -38,7 +38,7 @@ use Rattle.markup.specs.declared.scope.Scope.{Scope}
 use Rattle.markup.specs.declared.tag.Opening.{Opening}
 use Rattle.markup.specs.declared.tag.Spelled.{Spelled}
 use Rattle.markup.proofs.CharacterRuns.{first_is_outside}
-use Rattle.markup.proofs.OpenTags.{IsPlainPart, innermost_part, AreExpanded, open_expanded, innermost_default, innermost_ends, inside_started}
+use Rattle.markup.proofs.OpenTags.{IsPlainPart, IsSpelledName, innermost_name, renamed, written, no_slash, AreExpanded, open_expanded, innermost_bound, innermost_ends, inside_started}
 use Rattle.markup.proofs.PlainLemmas.{is_fresh, no_chars, at_same, text_place, text_between}
 use Rattle.markup.proofs.ReaderLemmas.{told_so_far, starts}
 use Rattle.markup.proofs.TokenRuleLemmas.{in_cdata-open}
@@ -94,10 +94,10 @@ plain_name name h = record { local = name; part = plain_is_part name h; encoded 
 
 -- ---- the token
 
-abbrev tag_token : TagKind → List ℕ → Token
-tag_token StartKind cs = Start (record { name = Plain cs; attributes = []; gap = []; is_empty = false })
-tag_token EmptyKind cs = Start (record { name = Plain cs; attributes = []; gap = []; is_empty = true })
-tag_token EndKind cs = End (Plain cs) []
+abbrev tag_token : TagKind → Name → Token
+tag_token StartKind n = Start (record { name = n; attributes = []; gap = []; is_empty = false })
+tag_token EmptyKind n = Start (record { name = n; attributes = []; gap = []; is_empty = true })
+tag_token EndKind n = End n []
 
 marks_bytes : (encode_utf8_all (60 ∷ []) ≡ 60 ∷ []) × (encode_utf8_all (60 ∷ 47 ∷ []) ≡ 60 ∷ 47 ∷ []) × (encode_utf8_all (62 ∷ []) ≡ 62 ∷ []) × (encode_utf8_all (47 ∷ 62 ∷ []) ≡ 47 ∷ 62 ∷ [])
 unfolding encode_utf8
@@ -108,13 +108,13 @@ between_marks : (front cs back name bytes more : List ℕ) → encode_utf8_all f
 between_marks front cs back name bytes more e f g =
     encodes-append front (cs ++ back) ∙ (ap (λ v. v ++ encode_utf8_all (cs ++ back)) e ∙ ap (λ v. bytes ++ v) (encodes-append cs back ∙ (ap (λ v. v ++ encode_utf8_all back) g ∙ ap (λ v. name ++ v) f)))
 
-pub tag_bytes : (kind : TagKind) (cs name : List ℕ) → encode_utf8_all cs ≡ name → token_bytes (tag_token kind cs) ≡ tag_text kind name
-tag_bytes StartKind cs name e = ap (λ v. encode_utf8_all (60 ∷ (v ++ 62 ∷ []))) (append-nil (cs ++ []) ∙ append-nil cs) ∙ between_marks (60 ∷ []) cs (62 ∷ []) name (60 ∷ []) (62 ∷ []) marks_bytes.0 marks_bytes.2 e
-tag_bytes EmptyKind cs name e = ap (λ v. encode_utf8_all (60 ∷ (v ++ 47 ∷ 62 ∷ []))) (append-nil (cs ++ []) ∙ append-nil cs) ∙ between_marks (60 ∷ []) cs (47 ∷ 62 ∷ []) name (60 ∷ []) (47 ∷ 62 ∷ []) marks_bytes.0 marks_bytes.3 e
-tag_bytes EndKind cs name e = ap (λ v. encode_utf8_all (60 ∷ 47 ∷ (v ++ 62 ∷ []))) (append-nil cs) ∙ between_marks (60 ∷ 47 ∷ []) cs (62 ∷ []) name (60 ∷ 47 ∷ []) (62 ∷ []) marks_bytes.1 marks_bytes.2 e
+pub tag_bytes : (kind : TagKind) (n : Name) (name : List ℕ) → encode_utf8_all (name_text n) ≡ name → token_bytes (tag_token kind n) ≡ tag_text kind name
+tag_bytes StartKind n name e = let cs = name_text n in ap (λ v. encode_utf8_all (60 ∷ (v ++ 62 ∷ []))) (append-nil (cs ++ []) ∙ append-nil cs) ∙ between_marks (60 ∷ []) cs (62 ∷ []) name (60 ∷ []) (62 ∷ []) marks_bytes.0 marks_bytes.2 e
+tag_bytes EmptyKind n name e = let cs = name_text n in ap (λ v. encode_utf8_all (60 ∷ (v ++ 47 ∷ 62 ∷ []))) (append-nil (cs ++ []) ∙ append-nil cs) ∙ between_marks (60 ∷ []) cs (47 ∷ 62 ∷ []) name (60 ∷ []) (47 ∷ 62 ∷ []) marks_bytes.0 marks_bytes.3 e
+tag_bytes EndKind n name e = let cs = name_text n in ap (λ v. encode_utf8_all (60 ∷ 47 ∷ (v ++ 62 ∷ []))) (append-nil cs) ∙ between_marks (60 ∷ 47 ∷ []) cs (62 ∷ []) name (60 ∷ 47 ∷ []) (62 ∷ []) marks_bytes.1 marks_bytes.2 e
 
-module _ (before : List Token) (opened : List ℕ) (es : List Expanded) (inside : IsPlainInside (open_tags before) opened) (expand : AreExpanded (open_tags before) es) where
-  some_open : (tags : List Opening) → IsPlainInside tags opened → (length tags == 0) ≡ false
+module _ (before : List Token) (opened : Spelled) (es : List Expanded) (inside : IsInsideOf (open_tags before) opened) (expand : AreExpanded (open_tags before) es) where
+  some_open : (tags : List Opening) → IsInsideOf tags opened → (length tags == 0) ≡ false
   some_open [] i = absurd i
   some_open (tag ∷ tags) i = suc_not_zero (length tags)
 
@@ -127,68 +127,90 @@ module _ (before : List Token) (opened : List ℕ) (es : List Expanded) (inside 
     by true = refl
     by false = refl
 
-  bound : namespace_of (open_tags before) [] ≡ Some (innermost_namespace es)
-  bound = innermost_default (open_tags before) es opened expand inside
+  bound : namespace_of (open_tags before) opened.prefix ≡ Some (innermost_namespace es)
+  bound = innermost_bound (open_tags before) es opened expand inside
 
-  module _ (cs name : List ℕ) (part : is_part cs ≡ true) (encoded : encode_utf8_all cs ≡ name) where
+  module _ (local : List ℕ) (s : IsSpelledName (record { prefix = opened.prefix; local = local })) where
     abbrev named : Expanded
-    named = record { namespace = innermost_namespace es; local = name }
+    named = record { namespace = innermost_namespace es; local = local }
 
-    started_rule : (if is_none (expanded_in (namespace_of (open_tags before) []) (encode_utf8_all cs)) || false then Some BadPrefix else (if is_over before then Some AfterRoot else None)) ≡ None
-    started_rule = ap (λ o. if is_none (expanded_in o (encode_utf8_all cs)) || false then Some BadPrefix else (if is_over before then Some AfterRoot else None)) bound ∙ ap (λ b. if b then Some AfterRoot else None) not_over
+    abbrev text : List ℕ
+    text = joined_text opened.prefix local
 
-    ended_rule : (tags : List Opening) → IsPlainInside tags opened → name ≡ opened → end_rule tags (record { prefix = []; local = encode_utf8_all cs }) ≡ None
+    encoded : encode_utf8_all (name_text s.name) ≡ text
+    encoded = written (record { prefix = opened.prefix; local = local }) s
+
+    started_rule : (if is_none (expanded_in (namespace_of (open_tags before) (spelled_name s.name).prefix) (spelled_name s.name).local) || false then Some BadPrefix else (if is_over before then Some AfterRoot else None)) ≡ None
+    started_rule = ap (λ (n : Spelled). if is_none (expanded_in (namespace_of (open_tags before) n.prefix) n.local) || false then Some BadPrefix else (if is_over before then Some AfterRoot else None)) s.says
+        ∙ (ap (λ o. if is_none (expanded_in o local) || false then Some BadPrefix else (if is_over before then Some AfterRoot else None)) bound ∙ ap (λ b. if b then Some AfterRoot else None) not_over)
+
+    same : (name : List ℕ) → bytes_eq name name ≡ true
+    same name = (bytes_eq-Decides name name).1 refl
+
+    ended_rule : (tags : List Opening) → IsInsideOf tags opened → local ≡ opened.local → end_rule tags (spelled_name s.name) ≡ None
     ended_rule [] i e = absurd i
     ended_rule (tag ∷ tags) i e =
-        ap (λ (n : Spelled). if bytes_eq n.prefix [] && bytes_eq n.local (encode_utf8_all cs) then None else Some TagMismatch) i
-        ∙ ap (λ b. if b then None else Some TagMismatch) ((bytes_eq-Decides opened (encode_utf8_all cs)).1 (sym (encoded ∙ e)))
+        ap (λ (n : Spelled). if bytes_eq tag.name.prefix n.prefix && bytes_eq tag.name.local n.local then None else Some TagMismatch) s.says
+        ∙ (ap (λ (n : Spelled). if bytes_eq n.prefix opened.prefix && bytes_eq n.local local then None else Some TagMismatch) i
+        ∙ (ap (λ b. if b && bytes_eq opened.local local then None else Some TagMismatch) (same opened.prefix)
+        ∙ (ap (λ v. if bytes_eq opened.local v then None else Some TagMismatch) e ∙ ap (λ b. if b then None else Some TagMismatch) (same opened.local))))
 
-    clean : (kind : TagKind) → may_be_named kind opened name → rule_of before (tag_token kind cs) ≡ None
+    clean : (kind : TagKind) → may_be_named kind opened.local local → rule_of before (tag_token kind s.name) ≡ None
     clean StartKind m = started_rule
     clean EmptyKind m = started_rule
     clean EndKind m = ended_rule (open_tags before) inside m
 
-    tells : (kind : TagKind) → may_be_named kind opened name → items_of before (tag_token kind cs) ≡ tag_items kind named
-    tells StartKind m = ap (λ o. start_tag_items (expanded_in o (encode_utf8_all cs)) [] false) bound ∙ ap (λ v. start_tag_items (Some (record { namespace = innermost_namespace es; local = v })) [] false) encoded
-    tells EmptyKind m = ap (λ o. start_tag_items (expanded_in o (encode_utf8_all cs)) [] true) bound ∙ ap (λ v. start_tag_items (Some (record { namespace = innermost_namespace es; local = v })) [] true) encoded
+    started_items : (is_empty : Bool) → start_tag_items (expanded_in (namespace_of (open_tags before) (spelled_name s.name).prefix) (spelled_name s.name).local) [] is_empty ≡ start_tag_items (Some named) [] is_empty
+    started_items is_empty = ap (λ (n : Spelled). start_tag_items (expanded_in (namespace_of (open_tags before) n.prefix) n.local) [] is_empty) s.says ∙ ap (λ o. start_tag_items (expanded_in o local) [] is_empty) bound
+
+    tells : (kind : TagKind) → may_be_named kind opened.local local → items_of before (tag_token kind s.name) ≡ tag_items kind named
+    tells StartKind m = started_items false
+    tells EmptyKind m = started_items true
     tells EndKind m = innermost_ends (open_tags before) es opened expand inside ∙ ap (λ v. Ends (record { namespace = innermost_namespace es; local = v }) ∷ []) (sym m)
 
-    stands_here : (kind : TagKind) → in_cdata before ≡ false → (after : List ℕ) → stands before (tag_token kind cs) after ≡ true
-    stands_here StartKind c after = ap (λ b. if b then false else ((is_part cs && true) && true)) c ∙ ap (λ b. (b && true) && true) part
-    stands_here EmptyKind c after = ap (λ b. if b then false else ((is_part cs && true) && true)) c ∙ ap (λ b. (b && true) && true) part
-    stands_here EndKind c after = ap (λ b. if b then false else (is_part cs && true)) c ∙ ap (λ b. b && true) part
+    stands_here : (kind : TagKind) → in_cdata before ≡ false → (after : List ℕ) → stands before (tag_token kind s.name) after ≡ true
+    stands_here StartKind c after = ap (λ b. if b then false else ((is_name s.name && true) && true)) c ∙ ap (λ b. (b && true) && true) s.is
+    stands_here EmptyKind c after = ap (λ b. if b then false else ((is_name s.name && true) && true)) c ∙ ap (λ b. (b && true) && true) s.is
+    stands_here EndKind c after = ap (λ b. if b then false else (is_name s.name && true)) c ∙ ap (λ b. b && true) s.is
 
-    short : {limit : ℕ} (kind : TagKind) → length (tag_text kind name) ≤ limit → is_short limit (tag_token kind cs) ≡ true
-    short {limit} StartKind l = le-leb _ _ (subst (λ v. length v ≤ limit) (sym (tag_bytes StartKind cs name encoded)) l)
-    short {limit} EmptyKind l = le-leb _ _ (subst (λ v. length v ≤ limit) (sym (tag_bytes EmptyKind cs name encoded)) l)
-    short {limit} EndKind l = le-leb _ _ (subst (λ v. length v ≤ limit) (sym (tag_bytes EndKind cs name encoded)) l)
+    short : {limit : ℕ} (kind : TagKind) → length (tag_text kind text) ≤ limit → is_short limit (tag_token kind s.name) ≡ true
+    short {limit} StartKind l = le-leb _ _ (subst (λ v. length v ≤ limit) (sym (tag_bytes StartKind s.name text encoded)) l)
+    short {limit} EmptyKind l = le-leb _ _ (subst (λ v. length v ≤ limit) (sym (tag_bytes EmptyKind s.name text encoded)) l)
+    short {limit} EndKind l = le-leb _ _ (subst (λ v. length v ≤ limit) (sym (tag_bytes EndKind s.name text encoded)) l)
 
-    stays : (kind : TagKind) (p : Position) → behind_token p (ended_of (tag_token kind cs)) ≡ after_other p
+    stays : (kind : TagKind) (p : Position) → behind_token p (ended_of (tag_token kind s.name)) ≡ after_other p
     stays StartKind p = refl
     stays EmptyKind p = refl
     stays EndKind p = refl
 
-    pub is_next : {limit : ℕ} (kind : TagKind) → may_be_named kind opened name → in_cdata before ≡ false → length (tag_text kind name) ≤ limit → IsNext limit before (tag_token kind cs)
+    pub is_next : {limit : ℕ} (kind : TagKind) → may_be_named kind opened.local local → in_cdata before ≡ false → length (tag_text kind text) ≤ limit → IsNext limit before (tag_token kind s.name)
     is_next kind m c l = record { is = stands_here kind c; short = short kind l; clean = clean kind m; stays = stays kind }
 
-    pub context_behind : (kind : TagKind) (k : Context) (scope : Scope) → IsContext k before → IsScope scope (tags_behind kind name (open_tags before)) → IsContext (record { scope = scope; has_root = k.has_root; brackets = 0 }) (tag_token kind cs ∷ before)
-    context_behind StartKind k scope i s = record { scope = subst (λ v. IsScope scope (tags_behind StartKind v (open_tags before))) (sym encoded) s; root = i.root ∙ inside_started before is_inside; brackets_are = refl }
-    context_behind EmptyKind k scope i s = record { scope = s; root = i.root ∙ inside_started before is_inside; brackets_are = refl }
-    context_behind EndKind k scope i s = record { scope = s; root = i.root; brackets_are = refl }
+    pub context_behind : (kind : TagKind) (k : Context) (scope : Scope) → IsContext k before → IsScope scope (tags_behind kind (record { prefix = opened.prefix; local = local }) (open_tags before))
+        → IsContext (record { scope = scope; has_root = k.has_root; brackets = 0 }) (tag_token kind s.name ∷ before)
+    context_behind StartKind k scope i o = record { scope = subst (λ v. IsScope scope (tags_behind StartKind v (open_tags before))) (sym s.says) o; root = i.root ∙ inside_started before is_inside; brackets_are = refl }
+    context_behind EmptyKind k scope i o = record { scope = o; root = i.root ∙ inside_started before is_inside; brackets_are = refl }
+    context_behind EndKind k scope i o = record { scope = o; root = i.root; brackets_are = refl }
 
 -- ---- the reader
 
-module _ {limit : ℕ} (r : Reader) (scope : Scope) (bytes piece : List ℕ) (told : List Placed) (kind : TagKind) (name : List ℕ) (count : ℕ) (h : HasTakenUnder limit r bytes told) (text : is_in_text r.tokenizer ≡ true)
-    (tag : (tags : List Opening) → IsScope r.context.scope tags → IsTagInside piece tags kind name count)
-    (scope_is : (tags : List Opening) (opened : List ℕ) → IsScope r.context.scope tags → IsPlainInside tags opened → IsScope scope (tags_behind kind name tags)) where
+module _ {limit : ℕ} (r : Reader) (scope : Scope) (bytes piece : List ℕ) (told : List Placed) (prefix : List ℕ) (kind : TagKind) (name : List ℕ) (count : ℕ) (h : HasTakenUnder limit r bytes told) (text : is_in_text r.tokenizer ≡ true)
+    (tag : (tags : List Opening) → IsScope r.context.scope tags → IsTagInside piece tags prefix kind name count)
+    (scope_is : (tags : List Opening) (opened : List ℕ) → IsScope r.context.scope tags → IsInsideOf tags (record { prefix = prefix; local = opened }) → IsScope scope (tags_behind kind (record { prefix = prefix; local = name }) tags)) where
   abbrev before : List Token
   before = reverse h.0
 
   abbrev tags : List Opening
   tags = open_tags before
 
-  t : IsTagInside piece tags kind name count
+  t : IsTagInside piece tags prefix kind name count
   t = tag tags h.1.context.scope
+
+  abbrev opened : Spelled
+  opened = record { prefix = prefix; local = t.opened }
+
+  abbrev written_name : List ℕ
+  written_name = joined_text prefix name
 
   abbrev es : List Expanded
   es = open_behind [] (events [] 0 h.0)
@@ -199,37 +221,40 @@ module _ {limit : ℕ} (r : Reader) (scope : Scope) (bytes piece : List ℕ) (to
   between : is_between r.tokenizer.scan ≡ true
   between = text_between r.tokenizer.scan (and_parts _ _ text).0
 
-  part : IsPlainPart name
+  open_name : IsSpelledName opened
+  open_name = innermost_name limit (bytes ++ []) (h.1.reads.bytes ++ []) h.0 opened (h.1.reads.front [] tt) t.inside
+
+  part : IsSpelledName (record { prefix = prefix; local = name })
   part = by kind t.at.named where
-    by : (kind : TagKind) → may_be_named kind t.opened name → IsPlainPart name
-    by StartKind m = plain_name name m
-    by EmptyKind m = plain_name name m
-    by EndKind m = subst IsPlainPart (sym m) (innermost_part limit (bytes ++ []) (h.1.reads.bytes ++ []) h.0 t.opened (h.1.reads.front [] tt) t.inside)
+    by : (kind : TagKind) → may_be_named kind t.opened name → IsSpelledName (record { prefix = prefix; local = name })
+    by StartKind m = renamed opened name open_name (plain_name name m)
+    by EmptyKind m = renamed opened name open_name (plain_name name m)
+    by EndKind m = subst (λ v. IsSpelledName (record { prefix = prefix; local = v })) (sym m) open_name
 
   no_cdata : in_cdata before ≡ false
   no_cdata = in_cdata-open r.tokenizer before h.1.reads.bytes h.1.reads.opens ∙ text_place r.tokenizer.scan r.tokenizer.position (and_parts _ _ text).0 (is_fresh r.tokenizer between (and_parts _ _ text).1 before h.1.reads.bytes h.1.reads.opens).scan_here
 
-  size : length (tag_text kind name) ≡ count
+  size : length (tag_text kind written_name) ≡ count
   size = ap length (sym t.at.spelled) ∙ length-take-le count piece t.at.within
 
   abbrev token : Token
-  token = tag_token kind part.local
+  token = tag_token kind part.name
 
-  token_is : token_bytes token ≡ tag_text kind name
-  token_is = tag_bytes kind part.local name part.encoded
+  token_is : token_bytes token ≡ tag_text kind written_name
+  token_is = tag_bytes kind part.name written_name (written (record { prefix = prefix; local = name }) part)
 
   next : IsNext limit before token
-  next = is_next before t.opened es t.inside expand part.local name part.part part.encoded kind t.at.named no_cdata (omega (arith, size, t.at.short, h.1.reads.opens.limited.0))
+  next = is_next before opened es t.inside expand name part kind t.at.named no_cdata (omega (arith, size, t.at.short, h.1.reads.opens.limited.0))
 
   abbrev context : Context
   context = record { scope = scope; has_root = r.context.has_root; brackets = 0 }
 
   taken : HasTakenUnder limit (record { tokenizer = after_whole_tokens r.tokenizer count; context = context; failed = r.failed }) (bytes ++ token_bytes token) (told ++ placed_at (length bytes) (items_of before token))
   taken = takes_next r bytes told h between (and_parts _ _ text).1 token count context next (sym (ap length token_is ∙ size))
-      (context_behind before t.opened es t.inside expand part.local name part.part part.encoded kind r.context scope h.1.context (scope_is tags t.opened h.1.context.scope t.inside))
+      (context_behind before opened es t.inside expand name part kind r.context scope h.1.context (scope_is tags t.opened h.1.context.scope t.inside))
 
   items : items_of before token ≡ tag_items kind (name_behind told name)
-  items = tells before t.opened es t.inside expand part.local name part.part part.encoded kind t.at.named
+  items = tells before opened es t.inside expand name part kind t.at.named
       ∙ ap (λ v. tag_items kind (record { namespace = innermost_namespace (open_behind [] v); local = name })) (sym (all_told r bytes told h between (and_parts _ _ text).1))
 
   pub takes_tag : HasToldUnder limit (record { tokenizer = after_whole_tokens r.tokenizer count; context = context; failed = r.failed }) (bytes ++ take count piece) (told ++ placed_at (length bytes) (tag_items kind (name_behind told name)))
@@ -244,9 +269,9 @@ not_first before inside = by (is_first before) (λ f. both_ways (is_outside befo
   by true n = absurd (n refl)
   by false n = refl
 
-plain_not_first : (before : List Token) (opened : List ℕ) → IsPlainInside (open_tags before) opened → is_first before ≡ false
-plain_not_first before opened i = not_first before (some_open (open_tags before) i) where
-  some_open : (tags : List Opening) → IsPlainInside tags opened → (length tags == 0) ≡ false
+inside_not_first : (before : List Token) (opened : Spelled) → IsInsideOf (open_tags before) opened → is_first before ≡ false
+inside_not_first before opened i = not_first before (some_open (open_tags before) i) where
+  some_open : (tags : List Opening) → IsInsideOf tags opened → (length tags == 0) ≡ false
   some_open [] i = absurd i
   some_open (t ∷ tags) i = suc_not_zero (length tags)
 
@@ -273,11 +298,18 @@ text_behind r bytes told m behind =
       same_place : (p : ℕ) → (p == p) ≡ true
       same_place p = grind (arith, nat_tests)
 
-pub text_here : {limit : ℕ} (r : Reader) (bytes : List ℕ) (told : List Placed) (kind : TagKind) (name : List ℕ) → MayTakeTagUnder limit r bytes told kind name → is_in_text r.tokenizer ≡ true
-text_here r bytes told kind name m = text_behind r bytes told m.before (plain_not_first (reverse m.before.tokens) m.opened m.inside)
+pub text_here : {limit : ℕ} (r : Reader) (bytes : List ℕ) (told : List Placed) (kind : TagKind) (prefix name : List ℕ) → MayTakeTagUnder limit r bytes told kind prefix name → is_in_text r.tokenizer ≡ true
+text_here r bytes told kind prefix name m = text_behind r bytes told m.before (inside_not_first (reverse m.before.tokens) (record { prefix = prefix; local = m.opened }) m.inside)
+
+-- and the prefix of the innermost element begins with no slash
+pub no_slash_here : {limit : ℕ} (r : Reader) (bytes : List ℕ) (told : List Placed) (kind : TagKind) (prefix name : List ℕ) → MayTakeTagUnder limit r bytes told kind prefix name → begins_with 47 prefix ≡ false
+no_slash_here {limit} r bytes told kind prefix name m =
+    let k = m.before.keeps in
+    let opened : Spelled = record { prefix = prefix; local = m.opened } in
+    no_slash opened (innermost_name limit (bytes ++ []) (k.reads.bytes ++ []) m.before.tokens opened (k.reads.front [] tt) m.inside)
 
 pub start_here : {limit : ℕ} (r : Reader) (bytes : List ℕ) (told : List Placed) (tag : PlainStart) → MayTakeStartUnder limit r bytes told tag → is_in_text r.tokenizer ≡ true
 start_here r bytes told tag m = text_behind r bytes told m.before m.behind
 
 pub bare_here : {limit : ℕ} (r : Reader) (bytes : List ℕ) (told : List Placed) (tag : PlainStart) → MayTakeAttributesUnder limit r bytes told tag → is_in_text r.tokenizer ≡ true
-bare_here r bytes told tag m = text_behind r bytes told m.before (plain_not_first (reverse m.before.tokens) m.opened m.inside)
+bare_here r bytes told tag m = text_behind r bytes told m.before (inside_not_first (reverse m.before.tokens) m.opened m.inside)

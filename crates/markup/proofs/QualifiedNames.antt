@@ -6,8 +6,8 @@ use Rattle.std.proofs.lemmas.List.{append_cancel_right}
 use Rattle.std.proofs.lemmas.Str.{encode_ascii, encodes-append}
 use Rattle.markup.specs.Name.{Name, Plain, Prefixed, is_name, name_text}
 use Rattle.markup.specs.Events.{spelled_name}
-use Rattle.markup.specs.PlainTags.{is_plain_name}
-use Rattle.markup.specs.PlainStarts.{is_plain_prefix, is_plain_qualified, joined_text, qualified_text}
+use Rattle.markup.specs.PlainTags.{is_plain_name, joined_text}
+use Rattle.markup.specs.PlainStarts.{is_plain_prefix, is_plain_qualified, qualified_text}
 use Rattle.markup.specs.inner.WholeStarts.{named_by, IsNameAt}
 use Rattle.markup.specs.declared.tag.Spelled.{Spelled}
 use Rattle.markup.proofs.NameLemmas.{name_agree}

@@ -1,10 +1,9 @@
 -- The open elements before and behind a tag.
-use Rattle.std.proofs.Common.{◌≡◌, ℕ, ◌-◌, ◌==◌, Bool, true, false, List, [], ◌∷◌, ◌++◌, ◌||◌, length, drop, reverse, map, Option, Some, None, sym, ap, subst, ◌∙◌, arith}
+use Rattle.std.proofs.Common.{◌≡◌, ℕ, ◌-◌, Bool, true, false, List, [], ◌∷◌, ◌++◌, ◌||◌, length, drop, reverse, map, Option, Some, None, sym, ap, subst, ◌∙◌, arith}
 use Rattle.std.specs.List.{list_any}
 use Rattle.std.specs.Bool.{if◌then◌else◌}
 use Rattle.std.specs.Option.{is_none}
-use Rattle.std.proofs.lemmas.Bool.{eqb-true}
-use Rattle.std.proofs.lemmas.List.{length-append, nil_from_length}
+use Rattle.std.proofs.lemmas.List.{length-append}
 use Rattle.std.proofs.Math.Seq.{drop-append_seam}
 use Rattle.lexical_core.specs.declared.rule.Rule.TheVariants.{DuplicateAttribute, BadPrefix, AfterRoot}
 use Rattle.markup.specs.declared.tag.Given.{Given}
@@ -22,7 +21,7 @@ use Rattle.markup.specs.Faults.{has_clash, is_bad_attribute, start_rule}
 use Rattle.markup.specs.EventItems.{entry_of, Tells}
 use Rattle.markup.specs.Bindings.{Binds}
 use Rattle.markup.specs.Scopes.{declarations, open_name, all_declarations, IsScope, placed_at, TakesStart}
-use Rattle.markup.specs.PlainTags.{IsPlainInside}
+use Rattle.markup.specs.PlainTags.{IsInsideOf}
 use Rattle.markup.specs.inner.WholeStarts.{named_by}
 use Rattle.markup.specs.inner.TagParts.{plain_attributes, declares_twice, declares_badly, is_unbound, IsParted, AreDeclared, IsExpanded, IsResolved}
 use Rattle.markup.proofs.WholeTags.{whole_entries, whole_clash, whole_bad}
@@ -120,7 +119,6 @@ closes_innermost before after tag tags count is popped forgot =
 
 -- ---- the innermost element
 
--- it has no prefix
-pub plain_inside : (tags : List Opening) (prefix local : List ℕ) → IsInnermost prefix local (map open_name tags) → (length prefix == 0) ≡ true → IsPlainInside tags local
-plain_inside [] prefix local i z = i
-plain_inside (tag ∷ tags) prefix local i z = i ∙ ap (λ p. named_by p local) (nil_from_length prefix (eqb-true (length prefix) 0 z))
+pub inside_of : (tags : List Opening) (prefix local : List ℕ) → IsInnermost prefix local (map open_name tags) → IsInsideOf tags (named_by prefix local)
+inside_of [] prefix local i = i
+inside_of (tag ∷ tags) prefix local i = i

@@ -3,12 +3,14 @@ use Rattle.std.proofs.Common.{◌≡◌, ℕ, suc, Bool, true, false, ◌==◌, 
 use Rattle.std.specs.Bool.{if◌then◌else◌}
 use Rattle.std.specs.Int.{is_in_range}
 use Rattle.std.specs.List.{list_all, prefix_len}
-use Rattle.std.proofs.lemmas.Bool.{and_parts, eqb-true}
+use Rattle.std.proofs.lemmas.Bool.{and_parts, both_ways, eqb-true}
 use Rattle.std.proofs.lemmas.List.{take-append-drop}
 use Rattle.std.proofs.Math.Seq.{take-append_seam, drop-append_seam}
 use Rattle.std.specs.Option.{IfSome}
+use Rattle.lexical_core.proofs.Tests.{suc_not_zero}
+use Rattle.lexical_core.proofs.Lists.{same_first, same_rest}
 use Rattle.markup.specs.Marks.{tag_limit}
-use Rattle.markup.specs.PlainTags.{begins_plain, continues_plain, is_plain_name, tag_text, mark_count, may_be_named, IsTagAt, closing, slash_kind}
+use Rattle.markup.specs.PlainTags.{begins_plain, continues_plain, is_plain_name, joined_text, tag_text, mark_count, may_be_named, IsTagAt, closing, slash_kind}
 use Rattle.markup.specs.declared.plain_tag.PlainTag.{PlainTag}
 use Rattle.markup.specs.declared.plain_tag.TagKind.{TagKind}
 use Rattle.markup.specs.declared.plain_tag.TagKind.TheVariants.{Start, Empty, End}
@@ -19,12 +21,18 @@ some_text Start name = omega arith
 some_text Empty name = omega arith
 some_text End name = omega arith
 
+-- what stands behind a name stands behind that with its prefix
+pub joined_then : (prefix name rest : List ℕ) → joined_text prefix (name ++ rest) ≡ joined_text prefix name ++ rest
+joined_then [] name rest = refl
+joined_then (b ∷ more) name rest = sym (append_assoc (b ∷ more) (58 ∷ name) rest)
+
 -- a tag with what follows it
-pub found : (piece opened : List ℕ) (kind : TagKind) (name rest : List ℕ) (count : ℕ) → piece ≡ tag_text kind name ++ rest → count ≡ length (tag_text kind name) → count ≤ tag_limit → may_be_named kind opened name → IsTagAt piece opened kind name count
-found piece opened kind name rest count e c s m = record {
-  spelled = ap (λ v. take count v) e ∙ (ap (λ n. take n (tag_text kind name ++ rest)) c ∙ take-append_seam (tag_text kind name) rest);
-  some = subst (λ n. 0 < n) (sym c) (some_text kind name);
-  within = omega (arith, c, ap length e, length-append (tag_text kind name) rest);
+pub found : (piece prefix opened : List ℕ) (kind : TagKind) (name rest : List ℕ) (count : ℕ) → piece ≡ tag_text kind (joined_text prefix name) ++ rest → count ≡ length (tag_text kind (joined_text prefix name)) → count ≤ tag_limit → may_be_named kind opened name
+    → IsTagAt piece prefix opened kind name count
+found piece prefix opened kind name rest count e c s m = record {
+  spelled = ap (λ v. take count v) e ∙ (ap (λ n. take n (tag_text kind (joined_text prefix name) ++ rest)) c ∙ take-append_seam (tag_text kind (joined_text prefix name)) rest);
+  some = subst (λ n. 0 < n) (sym c) (some_text kind (joined_text prefix name));
+  within = omega (arith, c, ap length e, length-append (tag_text kind (joined_text prefix name)) rest);
   short = s;
   named = m;
 }
@@ -39,11 +47,17 @@ if_some None P Q f h = h
 if_some (Some x) P Q f h = f x h
 
 -- what is found of a name
-pub bounded_found : (result : Option PlainTag) (piece opened : List ℕ) (kind : TagKind) (name rest : List ℕ) → piece ≡ tag_text kind name ++ rest → may_be_named kind opened name
-    → IfSome result (λ tag. (tag.kind ≡ kind) × (tag.name.now ≡ name) × (tag.bytes ≡ length name + mark_count kind) × (tag.bytes ≤ tag_limit))
-    → IfSome result (λ tag. IsTagAt piece opened tag.kind tag.name.now tag.bytes)
-bounded_found result piece opened kind name rest e m h = if_some result _ _
-    (λ tag f. subst (λ k. IsTagAt piece opened k tag.name.now tag.bytes) (sym f.0) (subst (λ n. IsTagAt piece opened kind n tag.bytes) (sym f.1) (found piece opened kind name rest tag.bytes e (f.2 ∙ tag_size kind name) f.3 m))) h
+pub bounded_found : (result : Option PlainTag) (piece prefix opened : List ℕ) (kind : TagKind) (own name rest : List ℕ) → own ≡ prefix → piece ≡ tag_text kind (joined_text prefix name) ++ rest → may_be_named kind opened name
+    → IfSome result (λ tag. (tag.kind ≡ kind) × (tag.prefix.now ≡ own) × (tag.name.now ≡ name) × (tag.bytes ≡ length (joined_text own name) + mark_count kind) × (tag.bytes ≤ tag_limit))
+    → IfSome result (λ tag. IsTagAt piece prefix opened tag.kind tag.name.now tag.bytes)
+bounded_found result piece prefix opened kind own name rest p e m h = if_some result _ _
+    (λ tag f. subst (λ k. IsTagAt piece prefix opened k tag.name.now tag.bytes) (sym f.0) (subst (λ n. IsTagAt piece prefix opened kind n tag.bytes) (sym f.2)
+    (found piece prefix opened kind name rest tag.bytes e (f.3 ∙ (ap (λ q. length (joined_text q name) + mark_count kind) p ∙ tag_size kind (joined_text prefix name))) f.4 m))) h
+
+-- and its prefix is that of the bytes
+pub prefix_kept : (result : Option PlainTag) (prefix : List ℕ) (kind : TagKind) (own name : List ℕ) → own ≡ prefix → IfSome result (λ tag. (tag.kind ≡ kind) × (tag.prefix.now ≡ own) × (tag.name.now ≡ name) × (tag.bytes ≡ length (joined_text own name) + mark_count kind) × (tag.bytes ≤ tag_limit))
+    → IfSome result (λ tag. tag.prefix.now ≡ prefix)
+prefix_kept result prefix kind own name p h = if_some result _ _ (λ tag f. f.1 ∙ p) h
 
 -- ---- end tags
 
@@ -51,9 +65,9 @@ bounded_found result piece opened kind name rest e m h = if_some result _ _
 pub two_parts : (xs front back : List ℕ) (n : ℕ) → front ≡ take n xs → back ≡ drop n xs → xs ≡ front ++ back
 two_parts xs front back n f b = sym (take-append-drop n xs) ∙ (ap (λ v. v ++ drop n xs) (sym f) ∙ ap (λ v. front ++ v) (sym b))
 
-pub end_parts : (behind name after rest : List ℕ) (n b : ℕ) → name ≡ take n behind → after ≡ drop n behind → after ≡ b ∷ rest → b ≡ 62 → 60 ∷ 47 ∷ behind ≡ tag_text End name ++ rest
-end_parts behind name after rest n b t d a e =
-    ap (λ v. 60 ∷ 47 ∷ v) (two_parts behind name after n t d ∙ (ap (λ v. name ++ v) (a ∙ ap (λ x. x ∷ rest) e) ∙ sym (append_assoc name (62 ∷ []) rest)))
+pub end_parts : (bytes prefix behind name after rest : List ℕ) (n b : ℕ) → bytes ≡ joined_text prefix behind → name ≡ take n behind → after ≡ drop n behind → after ≡ b ∷ rest → b ≡ 62 → 60 ∷ 47 ∷ bytes ≡ tag_text End (joined_text prefix name) ++ rest
+end_parts bytes prefix behind name after rest n b s t d a e =
+    ap (λ v. 60 ∷ 47 ∷ v) (s ∙ (ap (joined_text prefix) (two_parts behind name after n t d ∙ ap (λ v. name ++ v) (a ∙ ap (λ x. x ∷ rest) e)) ∙ (joined_then prefix name (62 ∷ rest) ∙ sym (append_assoc (joined_text prefix name) (62 ∷ []) rest))))
 
 -- an end tag of the name stands there
 pub ends_there : (behind opened name after rest : List ℕ) → name ≡ take (length opened) behind → after ≡ drop (length opened) behind → behind ≡ opened ++ 62 ∷ rest → (name ≡ opened) × (after ≡ 62 ∷ rest)
@@ -142,16 +156,59 @@ closed_there behind name after found rest n kind p e k c t d h = none_some kind 
 
 -- and the tag is no longer than it is
 pub start_short : (behind name after found rest : List ℕ) (n : ℕ) (kind k2 : TagKind) → is_plain_name name ≡ true → behind ≡ name ++ after → closing after ≡ Some kind → n ≡ prefix_len continues_plain behind → found ≡ take n behind → rest ≡ drop n behind → closing rest ≡ Some k2
-    → length (tag_text kind name) ≤ tag_limit → length found + mark_count k2 ≤ tag_limit
-start_short behind name after found rest n kind k2 p e k c t d h l =
+    → (prefix : List ℕ) → length (tag_text kind (joined_text prefix name)) ≤ tag_limit → length (joined_text prefix found) + mark_count k2 ≤ tag_limit
+start_short behind name after found rest n kind k2 p e k c t d h prefix l =
     let s = starts_there behind name after found rest n kind p e k c t d in
     let q : kind ≡ k2 = kind_same kind k2 (sym k ∙ (ap closing (sym s.1) ∙ h)) in
-    subst (λ m. length found + mark_count m ≤ tag_limit) q (subst (λ v. length v + mark_count kind ≤ tag_limit) (sym s.0) (subst (λ m. m ≤ tag_limit) (sym (tag_size kind name)) l))
+    subst (λ m. length (joined_text prefix found) + mark_count m ≤ tag_limit) q (subst (λ v. length (joined_text prefix v) + mark_count kind ≤ tag_limit) (sym s.0) (subst (λ m. m ≤ tag_limit) (sym (tag_size kind (joined_text prefix name))) l))
 
 -- a start tag is what its bytes are
-pub start_found : (result : Option PlainTag) (behind opened xs found after : List ℕ) (n b : ℕ) (kind : TagKind) → behind ≡ b ∷ xs → begins_plain b ≡ true → n ≡ prefix_len continues_plain behind → found ≡ take n behind → after ≡ drop n behind → closing after ≡ Some kind
-    → IfSome result (λ tag. (tag.kind ≡ kind) × (tag.name.now ≡ found) × (tag.bytes ≡ length found + mark_count kind) × (tag.bytes ≤ tag_limit))
-    → IfSome result (λ tag. IsTagAt (60 ∷ behind) opened tag.kind tag.name.now tag.bytes)
-start_found result behind opened xs found after n b kind e s c t d h r =
-    let k = closing_is found after kind h in
-    bounded_found result (60 ∷ behind) opened kind found k.0 (ap (λ v. 60 ∷ v) (two_parts behind found after n t d) ∙ k.1) (k.2 opened (name_found b behind xs found n e s c t)) r
+pub start_found : (result : Option PlainTag) (bytes prefix own behind opened xs found after : List ℕ) (n b : ℕ) (kind : TagKind) → own ≡ prefix → bytes ≡ joined_text prefix behind → behind ≡ b ∷ xs → begins_plain b ≡ true → n ≡ prefix_len continues_plain behind → found ≡ take n behind → after ≡ drop n behind → closing after ≡ Some kind
+    → IfSome result (λ tag. (tag.kind ≡ kind) × (tag.prefix.now ≡ own) × (tag.name.now ≡ found) × (tag.bytes ≡ length (joined_text own found) + mark_count kind) × (tag.bytes ≤ tag_limit))
+    → IfSome result (λ tag. IsTagAt (60 ∷ bytes) prefix opened tag.kind tag.name.now tag.bytes)
+start_found result bytes prefix own behind opened xs found after n b kind p l e s c t d h r =
+    let k = closing_is (joined_text prefix found) after kind h in
+    bounded_found result (60 ∷ bytes) prefix opened kind own found k.0 p (ap (λ v. 60 ∷ v) (l ∙ (ap (joined_text prefix) (two_parts behind found after n t d) ∙ joined_then prefix found after)) ∙ k.1)
+    ((closing_is found after kind h).2 opened (name_found b behind xs found n e s c t)) r
+
+-- a start tag that is a tag there: what closes it is behind its name
+pub start_there : (piece behind more prefix opened name rest : List ℕ) (kind : TagKind) (first second : ℕ) → piece ≡ first ∷ behind → behind ≡ second ∷ more → (second ≡ 47 → ⊥) → may_be_named kind opened name → piece ≡ tag_text kind (joined_text prefix name) ++ rest
+    → (is_plain_name name ≡ true) × (ends : List ℕ) × (behind ≡ joined_text prefix (name ++ ends)) × (closing ends ≡ Some kind)
+start_there piece behind more prefix opened name rest Start first second e f n m t =
+    (m, 62 ∷ rest, same_rest first 60 behind ((joined_text prefix name ++ 62 ∷ []) ++ rest) (sym e ∙ t) ∙ (append_assoc (joined_text prefix name) (62 ∷ []) rest ∙ sym (joined_then prefix name (62 ∷ rest))), refl)
+start_there piece behind more prefix opened name rest Empty first second e f n m t =
+    (m, 47 ∷ 62 ∷ rest, same_rest first 60 behind ((joined_text prefix name ++ 47 ∷ 62 ∷ []) ++ rest) (sym e ∙ t) ∙ (append_assoc (joined_text prefix name) (47 ∷ 62 ∷ []) rest ∙ sym (joined_then prefix name (47 ∷ 62 ∷ rest))), refl)
+start_there piece behind more prefix opened name rest End first second e f n m t =
+    absurd (n (same_first second 47 more ((joined_text prefix name ++ 62 ∷ []) ++ rest) (sym f ∙ same_rest first 60 behind (47 ∷ ((joined_text prefix name ++ 62 ∷ []) ++ rest)) (sym e ∙ t))))
+
+-- ---- a prefix
+
+pub size_none : (prefix name : List ℕ) → (length prefix == 0) ≡ true → length (joined_text prefix name) ≡ length name
+size_none [] name z = refl
+size_none (b ∷ more) name z = absurd (both_ways (length (b ∷ more) == 0) (suc_not_zero (length more)) z)
+
+pub size_some : (prefix name : List ℕ) → (length prefix == 0) ≡ false → length (joined_text prefix name) ≡ length prefix + 1 + length name
+size_some [] name z = absurd (both_ways true z refl)
+size_some (b ∷ more) name z = omega (arith, length-append (b ∷ more) (58 ∷ name))
+
+pub joined_none : (prefix local : List ℕ) → (length prefix == 0) ≡ true → joined_text prefix local ≡ local
+joined_none [] local z = refl
+joined_none (b ∷ more) local z = absurd (both_ways (length (b ∷ more) == 0) (suc_not_zero (length more)) z)
+
+pub joined_some : (prefix local : List ℕ) → (length prefix == 0) ≡ false → joined_text prefix local ≡ prefix ++ 58 ∷ local
+joined_some [] local z = absurd (both_ways true z refl)
+joined_some (b ∷ more) local z = refl
+
+-- a prefix and a colon stand there
+pub colon_there : (bytes prefix front rest local : List ℕ) (mark : ℕ) → (length prefix == 0) ≡ false → front ≡ take (length prefix) bytes → rest ≡ drop (length prefix) bytes → front ≡ prefix → rest ≡ mark ∷ local → mark ≡ 58 → bytes ≡ joined_text prefix local
+colon_there bytes prefix front rest local mark z t d same r m =
+    two_parts bytes front rest (length prefix) t d ∙ (ap (λ v. v ++ rest) same ∙ ap (λ v. prefix ++ v) (r ∙ ap (λ x. x ∷ local) m)) ∙ sym (joined_some prefix local z)
+
+-- where they stand, they are found
+pub prefix_there : (bytes prefix front rest local : List ℕ) → (length prefix == 0) ≡ false → front ≡ take (length prefix) bytes → rest ≡ drop (length prefix) bytes → bytes ≡ joined_text prefix local → (front ≡ prefix) × (rest ≡ 58 ∷ local)
+prefix_there bytes prefix front rest local z t d e =
+    let w : bytes ≡ prefix ++ 58 ∷ local = e ∙ joined_some prefix local z in
+    (t ∙ (ap (take (length prefix)) w ∙ take-append_seam prefix (58 ∷ local)), d ∙ (ap (drop (length prefix)) w ∙ drop-append_seam prefix (58 ∷ local)))
+
+pub prefix_fits : (bytes prefix local : List ℕ) → (length prefix == 0) ≡ false → bytes ≡ joined_text prefix local → length prefix ≤ length bytes
+prefix_fits bytes prefix local z e = omega (arith, ap length e, size_some prefix local z)

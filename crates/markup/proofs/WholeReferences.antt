@@ -1,5 +1,5 @@
 -- A whole reference at the front of a piece, read a byte at a time, is the token of its place.
-use Rattle.std.proofs.Common.{◌≡◌, ℕ, Bool, true, false, ◌==◌, ◌||◌, ◌+◌, ◌<◌, List, [], ◌∷◌, ◌++◌, length, take, reverse, codes, None, Some, refl, sym, ◌∙◌, ap, subst, append-nil, length-append, arith}
+use Rattle.std.proofs.Common.{◌≡◌, ℕ, Bool, true, false, ◌==◌, ◌||◌, ◌<◌, List, [], ◌∷◌, ◌++◌, length, take, reverse, codes, None, Some, refl, sym, ◌∙◌, ap, subst, append-nil, length-append, arith}
 use Rattle.std.specs.Bool.{if◌then◌else◌}
 use Rattle.std.specs.Char.{is_digit}
 use Rattle.std.specs.List.{list_all}
@@ -19,7 +19,6 @@ use Rattle.markup.specs.Marks.{in_cdata}
 use Rattle.markup.specs.Events.{Placed, open_tags}
 use Rattle.markup.specs.Faults.{is_outside}
 use Rattle.markup.specs.Scopes.{placed_at}
-use Rattle.markup.specs.ScanRuns.{position}
 use Rattle.markup.specs.Contexts.{IsContext, HasOpen, without_brackets}
 use Rattle.markup.specs.Tokenizers.{is_between, is_in_text}
 use Rattle.markup.specs.Reading.{HasTakenUnder, HasToldUnder}

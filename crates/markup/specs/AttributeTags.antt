@@ -1,4 +1,4 @@
--- Start tags with attributes that a reader takes whole without a copy: those of `PlainStarts` without prefixes, whose attributes declare nothing and stand in the order of their names.
+-- Start tags with attributes that a reader takes whole without a copy: those of `PlainStarts` with the prefix of the innermost open element or, as that, without one, whose attributes have no prefix, declare nothing and stand in the order of their names.
 use Rattle.std.specs.Prelude.{ℕ, Bool, ◌&&◌, not, true, List, [], ◌∷◌}
 use Rattle.std.specs.List.{list_all}
 use Rattle.std.specs.Str.{bytes_eq}
@@ -27,6 +27,6 @@ abbrev pub ascend : List PlainAttribute → Bool
 ascend [] = true
 ascend (a ∷ more) = ascend_behind a.name.local more
 
--- such a tag
-abbrev pub is_bare_start : PlainStart → Bool
-is_bare_start t = is_plain_start t && bytes_eq t.name.prefix [] && list_all is_bare_attribute t.attributes && ascend t.attributes
+-- such a tag, of this prefix
+abbrev pub is_bare_start : List ℕ → PlainStart → Bool
+is_bare_start prefix t = is_plain_start t && bytes_eq t.name.prefix prefix && list_all is_bare_attribute t.attributes && ascend t.attributes

@@ -2,7 +2,7 @@
 -- A name is a plain one, or two plain ones that one colon joins: of a tag with a prefix, of an attribute with one, and in the declaration of one. What a prefix means is not asked, nor whether it may stand there.
 use Rattle.std.specs.Prelude.{ℕ, Bool, ◌==◌, ◌||◌, ◌&&◌, nat_le, not, true, List, [], ◌∷◌, ◌++◌, if◌then◌else◌}
 use Rattle.std.specs.List.{list_all, flat_map}
-use Rattle.markup.specs.PlainTags.{is_plain_name}
+use Rattle.markup.specs.PlainTags.{is_plain_name, joined_text}
 use Rattle.markup.specs.declared.tag.Spelled.{Spelled}
 
 -- a plain name, or none
@@ -13,11 +13,6 @@ is_plain_prefix (b ∷ more) = is_plain_name (b ∷ more)
 -- a name whose parts are plain; without a prefix that is empty (Namespaces in XML 1.0 §4, QName)
 abbrev pub is_plain_qualified : Spelled → Bool
 is_plain_qualified n = is_plain_prefix n.prefix && is_plain_name n.local
-
--- what is written of a prefix and a local name
-abbrev pub joined_text : List ℕ → List ℕ → List ℕ
-joined_text [] local = local
-joined_text (b ∷ more) local = (b ∷ more) ++ 58 ∷ local
 
 -- the name as it is written
 abbrev pub qualified_text : Spelled → List ℕ

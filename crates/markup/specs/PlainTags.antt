@@ -1,4 +1,4 @@
--- Tags that a reader takes whole: without attributes, white space and prefixes, of ASCII letters, digits, `-`, `.` and `_` (XML 1.0 §3.1).
+-- Tags that a reader takes whole: without attributes and white space, with the prefix of the innermost open element or, as that, without one; the local name of a start tag is of ASCII letters, digits, `-`, `.` and `_` (XML 1.0 §3.1).
 use Rattle.std.specs.Prelude.{◌≡◌, ℕ, Bool, ◌==◌, ◌||◌, ◌&&◌, ◌<◌, ◌≤◌, false, true, List, [], ◌∷◌, ◌++◌, length, take, drop, Option, Some, None, if◌then◌else◌}
 use Rattle.std.specs.Int.{is_in_range}
 use Rattle.std.specs.List.{list_all}
@@ -6,6 +6,7 @@ use Rattle.lexical_core.specs.Tree.{Expanded, Item, Starts, Char, Ends, Skipped}
 use Rattle.markup.specs.Marks.{tag_limit}
 use Rattle.markup.specs.Events.{Placed}
 use Rattle.markup.specs.declared.tag.Opening.{Opening}
+use Rattle.markup.specs.declared.tag.Spelled.{Spelled}
 use Rattle.markup.specs.declared.plain_tag.TagKind.{TagKind}
 use Rattle.markup.specs.declared.plain_tag.TagKind.TheVariants.{Start, Empty, End}
 
@@ -21,6 +22,11 @@ continues_plain b = begins_plain b || is_in_range 48 57 b || is_in_range 45 46 b
 abbrev pub is_plain_name : List ℕ → Bool
 is_plain_name [] = false
 is_plain_name (b ∷ more) = begins_plain b && list_all continues_plain more
+
+-- what is written of a prefix and a local name (Namespaces in XML 1.0 §4, QName)
+abbrev pub joined_text : List ℕ → List ℕ → List ℕ
+joined_text [] local = local
+joined_text (b ∷ more) local = (b ∷ more) ++ 58 ∷ local
 
 -- the tag of a name, as it is written
 abbrev pub tag_text : TagKind → List ℕ → List ℕ
@@ -61,36 +67,36 @@ innermost_namespace (e ∷ outer) = e.namespace
 abbrev pub name_behind : List Placed → List ℕ → Expanded
 name_behind told local = record { namespace = innermost_namespace (open_behind [] told); local = local }
 
--- The name may stand in the tag, where the innermost open element is spelled so.
+-- The local name may stand in the tag, where that of the innermost open element is spelled so.
 abbrev pub may_be_named : TagKind → List ℕ → List ℕ → Type 0
 may_be_named Start opened name = is_plain_name name ≡ true
 may_be_named Empty opened name = is_plain_name name ≡ true
 may_be_named End opened name = name ≡ opened
 
--- So many bytes at the front of the piece are the tag of the name.
-pub record IsTagAt (piece opened : List ℕ) (kind : TagKind) (name : List ℕ) (count : ℕ) : Type 0 where
-  pub spelled : take count piece ≡ tag_text kind name
+-- So many bytes at the front of the piece are the tag of the prefix and the local name.
+pub record IsTagAt (piece prefix opened : List ℕ) (kind : TagKind) (name : List ℕ) (count : ℕ) : Type 0 where
+  pub spelled : take count piece ≡ tag_text kind (joined_text prefix name)
   pub some : 0 < count
   pub within : count ≤ length piece
   pub short : count ≤ tag_limit
   pub named : may_be_named kind opened name
 
--- The innermost open element has this name and no prefix.
-abbrev pub IsPlainInside : List Opening → List ℕ → Type 0
-IsPlainInside [] opened = ⊥
-IsPlainInside (tag ∷ tags) opened = tag.name ≡ record { prefix = []; local = opened }
+-- The innermost open element is spelled so.
+abbrev pub IsInsideOf : List Opening → Spelled → Type 0
+IsInsideOf [] name = ⊥
+IsInsideOf (tag ∷ tags) name = tag.name ≡ name
 
--- the tags that are open behind the tag
-abbrev pub tags_behind : TagKind → List ℕ → List Opening → List Opening
-tags_behind Start name tags = record { name = record { prefix = []; local = name }; given = []; is_empty = false } ∷ tags
+-- the tags that are open behind the tag of a name
+abbrev pub tags_behind : TagKind → Spelled → List Opening → List Opening
+tags_behind Start name tags = record { name = name; given = []; is_empty = false } ∷ tags
 tags_behind Empty name tags = tags
 tags_behind End name tags = drop 1 tags
 
 -- The tag stands at the front of the piece, and breaks no rule where these tags are open.
-pub record IsTagInside (piece : List ℕ) (tags : List Opening) (kind : TagKind) (name : List ℕ) (count : ℕ) : Type 0 where
+pub record IsTagInside (piece : List ℕ) (tags : List Opening) (prefix : List ℕ) (kind : TagKind) (name : List ℕ) (count : ℕ) : Type 0 where
   pub opened : List ℕ
-  pub inside : IsPlainInside tags opened
-  pub at : IsTagAt piece opened kind name count
+  pub inside : IsInsideOf tags (record { prefix = prefix; local = opened })
+  pub at : IsTagAt piece prefix opened kind name count
 
 -- what the bytes behind the name of a start tag make of it
 abbrev pub slash_kind : List ℕ → Option TagKind

@@ -14,10 +14,11 @@ use Rattle.markup.specs.Tokenizers.{FinishesBy}
 use Rattle.markup.specs.declared.tokenizer.Finish.{Finish}
 use Rattle.markup.specs.Inputs.{ReadsTokens, Any, with_pending}
 use Rattle.markup.specs.Contexts.{IsContext}
-use Rattle.markup.specs.PlainTags.{tag_text, may_be_named, IsPlainInside}
+use Rattle.markup.specs.PlainTags.{joined_text, tag_text, may_be_named, IsInsideOf}
 use Rattle.markup.specs.PlainStarts.{PlainStart, is_plain_start, plain_start_text}
 use Rattle.markup.specs.AttributeTags.{is_bare_start}
 use Rattle.markup.specs.declared.plain_tag.TagKind.{TagKind}
+use Rattle.markup.specs.declared.tag.Spelled.{Spelled}
 use Rattle.markup.specs.declared.event.Event.{Event}
 use Rattle.markup.specs.declared.reader.MarkError.{MarkError}
 use Rattle.markup.specs.declared.reader.MarkError.TheVariants.{Refused, Memory}
@@ -158,16 +159,16 @@ pub record IsInTextUnder (limit : ℕ) (reader : Reader) (bytes : List ℕ) (tol
   pub whole : flat_map token_bytes tokens ≡ bytes
   pub in_text : in_cdata (reverse tokens) ≡ false
 
--- Behind whole tokens, outside CDATA sections, the plain tag of the name may come, which has no more bytes than one of XML: where the innermost open element has no prefix.
-pub record MayTakeTagUnder (limit : ℕ) (reader : Reader) (bytes : List ℕ) (told : List Placed) (kind : TagKind) (name : List ℕ) : Type 0 where
+-- Behind whole tokens, outside CDATA sections, the plain tag of the prefix and the local name may come, which has no more bytes than one of XML: where the innermost open element has that prefix.
+pub record MayTakeTagUnder (limit : ℕ) (reader : Reader) (bytes : List ℕ) (told : List Placed) (kind : TagKind) (prefix name : List ℕ) : Type 0 where
   pub before : IsInTextUnder limit reader bytes told
   pub opened : List ℕ
-  pub inside : IsPlainInside (open_tags (reverse before.tokens)) opened
+  pub inside : IsInsideOf (open_tags (reverse before.tokens)) (record { prefix = prefix; local = opened })
   pub named : may_be_named kind opened name
-  pub short : length (tag_text kind name) ≤ tag_limit
+  pub short : length (tag_text kind (joined_text prefix name)) ≤ tag_limit
 
-abbrev pub MayTakeTag : Reader → List ℕ → List Placed → TagKind → List ℕ → Type 0
-MayTakeTag reader bytes told kind name = MayTakeTagUnder tag_limit reader bytes told kind name
+abbrev pub MayTakeTag : Reader → List ℕ → List Placed → TagKind → List ℕ → List ℕ → Type 0
+MayTakeTag reader bytes told kind prefix name = MayTakeTagUnder tag_limit reader bytes told kind prefix name
 
 -- Behind whole tokens, outside CDATA sections, the plain start tag may come, which has no more bytes than one of XML: neither first nor right behind the byte order mark, where the declaration may come.
 pub record MayTakeStartUnder (limit : ℕ) (reader : Reader) (bytes : List ℕ) (told : List Placed) (tag : PlainStart) : Type 0 where
@@ -179,12 +180,12 @@ pub record MayTakeStartUnder (limit : ℕ) (reader : Reader) (bytes : List ℕ) 
 abbrev pub MayTakeStart : Reader → List ℕ → List Placed → PlainStart → Type 0
 MayTakeStart reader bytes told tag = MayTakeStartUnder tag_limit reader bytes told tag
 
--- Behind whole tokens, outside CDATA sections, the plain start tag may come whose attributes have no prefix, declare nothing and ascend, which has no more bytes than one of XML: where the innermost open element has no prefix.
+-- Behind whole tokens, outside CDATA sections, the plain start tag may come whose attributes have no prefix, declare nothing and ascend, which has no more bytes than one of XML: where the innermost open element has its prefix.
 pub record MayTakeAttributesUnder (limit : ℕ) (reader : Reader) (bytes : List ℕ) (told : List Placed) (tag : PlainStart) : Type 0 where
   pub before : IsInTextUnder limit reader bytes told
-  pub opened : List ℕ
-  pub inside : IsPlainInside (open_tags (reverse before.tokens)) opened
-  pub plain : is_bare_start tag ≡ true
+  pub opened : Spelled
+  pub inside : IsInsideOf (open_tags (reverse before.tokens)) opened
+  pub plain : is_bare_start opened.prefix tag ≡ true
   pub short : length (plain_start_text tag) ≤ tag_limit
 
 abbrev pub MayTakeAttributes : Reader → List ℕ → List Placed → PlainStart → Type 0

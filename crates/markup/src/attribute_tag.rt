@@ -27,10 +27,12 @@ pub struct TagAttribute<'a> {
     pub value: &'a [u8],
 }
 
-/// A start tag without a prefix, whose attributes have none and declare nothing.
+/// A start tag whose attributes have no prefix and declare nothing.
 #[derive(Drop)]
 pub struct AttributeTag<'a> {
-    /// The name as it stands in the piece.
+    /// The prefix as it stands in the piece, empty where there is none.
+    pub prefix: &'a [u8],
+    /// The local name as it stands in the piece.
     pub name: &'a [u8],
     /// In the order of their names, which is that of the tag.
     pub attributes: Vec<TagAttribute<'a>>,
@@ -91,14 +93,16 @@ fn bare_attributes_at<'a>(
     Ok(Some(bytes.len() - left.len()))
 }
 
-/// The tag at the front of bytes that are no more than a tag may have.
+/// The tag of the prefix at the front of bytes that are no more than a tag may have.
 fn attribute_tag_in<'a>(
     front: &'a [u8],
+    prefix: &[u8],
     alloc: Global,
 ) -> Result<Option<AttributeTag<'a>>, AllocError>
     requires { length front.now ≤ tag_limit }
     ensures found { IfOk result (λ o. IfSome o (λ tag. IsBareStartAt front.now tag)) }
-    ensures all { (tag : PlainStart) (rest : List ℕ) → is_bare_start tag ≡ true → front.now ≡ plain_start_text tag ++ rest → IfOk result (λ o. IsSome o) }
+    ensures prefix { IfOk result (λ o. IfSome o (λ tag. tag.prefix.now ≡ prefix.now)) }
+    ensures all { (tag : PlainStart) (rest : List ℕ) → is_bare_start prefix.now tag ≡ true → front.now ≡ plain_start_text tag ++ rest → IfOk result (λ o. IsSome o) }
 {
     let Some((first, named)) = front.split_first() else {
         return Ok(None);
@@ -109,7 +113,7 @@ fn attribute_tag_in<'a>(
     let Some(name) = name_at(named) else {
         return Ok(None);
     };
-    if !name.prefix.is_empty() {
+    if !are_same(name.prefix, prefix) {
         return Ok(None);
     }
     let mut attributes = Vec::new(alloc);
@@ -122,6 +126,7 @@ fn attribute_tag_in<'a>(
         return Ok(None);
     };
     Ok(Some(AttributeTag {
+        prefix: name.prefix,
         name: name.local,
         attributes,
         is_empty: is_empty_kind(kind),
@@ -129,15 +134,17 @@ fn attribute_tag_in<'a>(
     }))
 }
 
-/// The tag that stands whole at the front of the piece: without a prefix, with attributes behind one space
-/// each that have none, declare nothing and stand in the order of their names.
+/// The tag of the prefix that stands whole at the front of the piece: with attributes behind one space each
+/// that have no prefix, declare nothing and stand in the order of their names.
 pub(crate) fn attribute_tag_at<'a>(
     piece: &'a [u8],
+    prefix: &[u8],
     alloc: Global,
 ) -> Result<Option<AttributeTag<'a>>, AllocError>
     ensures found { IfOk result (λ o. IfSome o (λ tag. IsBareStartAt piece.now tag)) }
-    ensures all { (tag : PlainStart) (rest : List ℕ) → is_bare_start tag ≡ true → length (plain_start_text tag) ≤ tag_limit → piece.now ≡ plain_start_text tag ++ rest → IfOk result (λ o. IsSome o) }
+    ensures prefix { IfOk result (λ o. IfSome o (λ tag. tag.prefix.now ≡ prefix.now)) }
+    ensures all { (tag : PlainStart) (rest : List ℕ) → is_bare_start prefix.now tag ≡ true → length (plain_start_text tag) ≤ tag_limit → piece.now ≡ plain_start_text tag ++ rest → IfOk result (λ o. IsSome o) }
 {
     let (front, _) = piece.split_at(within_limit(piece.len()));
-    attribute_tag_in(front, alloc)
+    attribute_tag_in(front, prefix, alloc)
 }

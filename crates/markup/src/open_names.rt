@@ -77,6 +77,7 @@ impl OpenNames {
     }
 
     /// One more element is open. Where there is no memory the names are of no more use.
+    #[inline(always)]
     pub(crate) fn push(
         &mut self,
         prefix: &[u8],
@@ -91,20 +92,6 @@ impl OpenNames {
             prefix: prefix.len(),
             local: local.len(),
             declared,
-        };
-        append_size(&mut self.sizes, size)
-    }
-
-    /// One more element is open, whose name has no prefix and whose tag declares nothing.
-    #[inline(always)]
-    pub(crate) fn push_plain(&mut self, local: &[u8]) -> Result<(), AllocError>
-        ensures { (names : List OpenName) → KeepsNames self.old names → OnOk result (KeepsNames self.new ((record { name = record { prefix = []; local = local.now }; declared = 0 }) ∷ names)) }
-    {
-        self.block.append(local)?;
-        let size = NameSize {
-            prefix: 0,
-            local: local.len(),
-            declared: 0,
         };
         append_size(&mut self.sizes, size)
     }

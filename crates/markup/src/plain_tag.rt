@@ -1,10 +1,10 @@
 //! Tags that stand whole at the front of a piece of the input.
-ghost use Rattle.std.specs.Prelude.{◌≡◌, ◌≤◌, ◌<◌, ◌+◌, ◌∷◌, ◌++◌, List, ℕ, true, Some, length, IfSome, IsSome};
+ghost use Rattle.std.specs.Prelude.{◌≡◌, ◌==◌, ◌≤◌, ◌+◌, ◌∷◌, ◌++◌, List, ℕ, true, false, Some, length, IfSome, IsSome, IsSomeAnd};
 ghost use Rattle.std.specs.List.{prefix_len};
-ghost use Rattle.markup.specs.Marks.{tag_limit};
+ghost use Rattle.markup.specs.Marks.{tag_limit, begins_with};
 ghost use Rattle.markup.specs.declared.plain_tag.TagKind.{TagKind};
 ghost use Rattle.markup.specs.declared.plain_tag.TagKind.TheVariants.{End};
-ghost use Rattle.markup.specs.PlainTags.{begins_plain, continues_plain, is_plain_name, tag_text, mark_count, may_be_named, IsTagAt, closing};
+ghost use Rattle.markup.specs.PlainTags.{begins_plain, continues_plain, is_plain_name, joined_text, tag_text, mark_count, may_be_named, IsTagAt, closing};
 
 use crate::classes::PlainName;
 use crate::tokenizer::TAG_LIMIT;
@@ -21,11 +21,13 @@ pub enum TagKind {
     End,
 }
 
-/// A tag without attributes, white space and prefix.
+/// A tag without attributes and white space.
 #[derive(Clone, Copy)]
 pub struct PlainTag<'a> {
     pub kind: TagKind,
-    /// The name as it stands in the piece.
+    /// The prefix as it stands in the piece, empty where there is none.
+    pub prefix: &'a [u8],
+    /// The local name as it stands in the piece.
     pub name: &'a [u8],
     /// How many bytes the tag has.
     pub bytes: usize,
@@ -85,49 +87,128 @@ pub(crate) fn mark_count(kind: TagKind) -> usize
     }
 }
 
-/// The tag of the name, where a tag may have so many bytes.
+/// How many bytes stand before the local name of a tag with the prefix, where a tag may have so many.
 #[inline]
-fn bounded<'a>(kind: TagKind, name: &'a [u8]) -> Option<PlainTag<'a>>
-    ensures tag { IfSome result (λ tag. (tag.kind ≡ kind) × (tag.name.now ≡ name.now) × (tag.bytes ≡ length name.now + mark_count kind) × (tag.bytes ≤ tag_limit)) }
-    ensures all { length name.now + mark_count kind ≤ tag_limit → IsSome result }
+fn size_ahead(prefix: &[u8]) -> Option<usize>
+    ensures size { (name : List ℕ) → IfSome result (λ n. length (joined_text prefix.now name) ≡ n + length name) }
+    ensures all { (name : List ℕ) → length (joined_text prefix.now name) ≤ tag_limit → IsSome result }
 {
-    let marks = mark_count(kind);
-    if name.len() as u64 > TAG_LIMIT - marks as u64 {
+    if prefix.is_empty() {
+        return Some(0);
+    }
+    if prefix.len() as u64 >= TAG_LIMIT {
+        return None;
+    }
+    Some(prefix.len() + 1)
+}
+
+/// The tag of the prefix and the local name, where a tag may have so many bytes.
+#[inline]
+fn bounded<'a>(kind: TagKind, prefix: &'a [u8], name: &'a [u8]) -> Option<PlainTag<'a>>
+    ensures tag { IfSome result (λ tag. (tag.kind ≡ kind) × (tag.prefix.now ≡ prefix.now) × (tag.name.now ≡ name.now) × (tag.bytes ≡ length (joined_text prefix.now name.now) + mark_count kind) × (tag.bytes ≤ tag_limit)) }
+    ensures all { length (joined_text prefix.now name.now) + mark_count kind ≤ tag_limit → IsSome result }
+{
+    let Some(ahead) = size_ahead(prefix) else {
+        return None;
+    };
+    let marks = ahead + mark_count(kind);
+    if marks as u64 > TAG_LIMIT || name.len() as u64 > TAG_LIMIT - marks as u64 {
         return None;
     }
     let bytes = name.len() + marks;
-    Some(PlainTag { kind, name, bytes })
+    Some(PlainTag {
+        kind,
+        prefix,
+        name,
+        bytes,
+    })
 }
 
-/// The start tag whose bytes stand behind a `<`.
-#[inline]
-fn start_tag<'a>(behind: &'a [u8]) -> Option<PlainTag<'a>>
-    ensures only { (opened : List ℕ) → IfSome result (λ tag. IsTagAt (60 ∷ behind.now) opened tag.kind tag.name.now tag.bytes) }
-    ensures all { (kind : TagKind) (name rest : List ℕ) → is_plain_name name ≡ true → behind.now ≡ name ++ rest → closing rest ≡ Some kind → length (tag_text kind name) ≤ tag_limit → IsSome result }
+/// A prefix, and what stands behind its colon.
+#[derive(Clone, Copy)]
+struct BehindPrefix<'a> {
+    prefix: &'a [u8],
+    local: &'a [u8],
+}
+
+/// What is behind the prefix with its colon, which is not empty.
+#[inline(never)]
+fn behind_colon<'a>(bytes: &'a [u8], prefix: &[u8]) -> Option<BehindPrefix<'a>>
+    requires { (length prefix.now == 0) ≡ false }
+    ensures found { IfSome result (λ b. (b.prefix.now ≡ prefix.now) × (bytes.now ≡ joined_text prefix.now b.local.now)) }
+    ensures all { (local : List ℕ) → bytes.now ≡ joined_text prefix.now local → IsSomeAnd result (λ b. b.local.now ≡ local) }
 {
-    let Some((first, _)) = behind.split_first() else {
+    if bytes.len() < prefix.len() {
+        return None;
+    }
+    let (front, rest) = bytes.split_at(prefix.len());
+    if !are_same(front, prefix) {
+        return None;
+    }
+    let Some((mark, local)) = rest.split_first() else {
+        return None;
+    };
+    if *mark != b':' {
+        return None;
+    }
+    Some(BehindPrefix {
+        prefix: front,
+        local,
+    })
+}
+
+/// What is behind the prefix at the front of bytes, which may be empty and then has no colon.
+#[inline]
+fn behind_prefix<'a>(bytes: &'a [u8], prefix: &[u8]) -> Option<BehindPrefix<'a>>
+    ensures found { IfSome result (λ b. (b.prefix.now ≡ prefix.now) × (bytes.now ≡ joined_text prefix.now b.local.now)) }
+    ensures all { (local : List ℕ) → bytes.now ≡ joined_text prefix.now local → IsSomeAnd result (λ b. b.local.now ≡ local) }
+{
+    if prefix.is_empty() {
+        return Some(BehindPrefix {
+            prefix: &[],
+            local: bytes,
+        });
+    }
+    behind_colon(bytes, prefix)
+}
+
+/// The start tag of the prefix whose bytes stand behind a `<`.
+#[inline]
+fn start_tag<'a>(behind: &'a [u8], prefix: &[u8]) -> Option<PlainTag<'a>>
+    ensures prefix { IfSome result (λ tag. tag.prefix.now ≡ prefix.now) }
+    ensures only { (opened : List ℕ) → IfSome result (λ tag. IsTagAt (60 ∷ behind.now) prefix.now opened tag.kind tag.name.now tag.bytes) }
+    ensures all { (kind : TagKind) (name rest : List ℕ) → is_plain_name name ≡ true → behind.now ≡ joined_text prefix.now (name ++ rest) → closing rest ≡ Some kind → length (tag_text kind (joined_text prefix.now name)) ≤ tag_limit → IsSome result }
+{
+    let Some(named) = behind_prefix(behind, prefix) else {
+        return None;
+    };
+    let Some((first, _)) = named.local.split_first() else {
         return None;
     };
     if !begins_plain(*first) {
         return None;
     }
-    let (name, rest) = behind.split_at(name_length(behind));
+    let (name, rest) = named.local.split_at(name_length(named.local));
     let Some(kind) = closing(rest) else {
         return None;
     };
-    bounded(kind, name)
+    bounded(kind, named.prefix, name)
 }
 
-/// The end tag of the name, whose bytes stand behind a `</`.
+/// The end tag of the prefix and the local name, whose bytes stand behind a `</`.
 #[inline]
-fn end_tag<'a>(behind: &'a [u8], opened: &[u8]) -> Option<PlainTag<'a>>
-    ensures only { IfSome result (λ tag. IsTagAt (60 ∷ 47 ∷ behind.now) opened.now tag.kind tag.name.now tag.bytes) }
-    ensures all { (rest : List ℕ) → behind.now ≡ opened.now ++ 62 ∷ rest → length (tag_text End opened.now) ≤ tag_limit → IsSome result }
+fn end_tag<'a>(behind: &'a [u8], prefix: &[u8], opened: &[u8]) -> Option<PlainTag<'a>>
+    ensures prefix { IfSome result (λ tag. tag.prefix.now ≡ prefix.now) }
+    ensures only { IfSome result (λ tag. IsTagAt (60 ∷ 47 ∷ behind.now) prefix.now opened.now tag.kind tag.name.now tag.bytes) }
+    ensures all { (rest : List ℕ) → behind.now ≡ joined_text prefix.now (opened.now ++ 62 ∷ rest) → length (tag_text End (joined_text prefix.now opened.now)) ≤ tag_limit → IsSome result }
 {
-    if behind.len() < opened.len() {
+    let Some(named) = behind_prefix(behind, prefix) else {
+        return None;
+    };
+    if named.local.len() < opened.len() {
         return None;
     }
-    let (name, rest) = behind.split_at(opened.len());
+    let (name, rest) = named.local.split_at(opened.len());
     if !are_same(name, opened) {
         return None;
     }
@@ -137,14 +218,15 @@ fn end_tag<'a>(behind: &'a [u8], opened: &[u8]) -> Option<PlainTag<'a>>
     if *last != b'>' {
         return None;
     }
-    bounded(TagKind::End, name)
+    bounded(TagKind::End, named.prefix, name)
 }
 
-/// The tag at the front of the piece: a start tag, or the end tag of the name.
+/// The tag of the prefix at the front of the piece: a start tag, or the end tag of the local name.
 #[inline]
-pub(crate) fn tag_at<'a>(piece: &'a [u8], opened: &[u8]) -> Option<PlainTag<'a>>
-    ensures only { IfSome result (λ tag. IsTagAt piece.now opened.now tag.kind tag.name.now tag.bytes) }
-    ensures all { (kind : TagKind) (name rest : List ℕ) → may_be_named kind opened.now name → piece.now ≡ tag_text kind name ++ rest → length (tag_text kind name) ≤ tag_limit → IsSome result }
+pub(crate) fn tag_at<'a>(piece: &'a [u8], prefix: &[u8], opened: &[u8]) -> Option<PlainTag<'a>>
+    ensures prefix { IfSome result (λ tag. tag.prefix.now ≡ prefix.now) }
+    ensures only { IfSome result (λ tag. IsTagAt piece.now prefix.now opened.now tag.kind tag.name.now tag.bytes) }
+    ensures all { (kind : TagKind) (name rest : List ℕ) → begins_with 47 prefix.now ≡ false → may_be_named kind opened.now name → piece.now ≡ tag_text kind (joined_text prefix.now name) ++ rest → length (tag_text kind (joined_text prefix.now name)) ≤ tag_limit → IsSome result }
 {
     let Some((first, behind)) = piece.split_first() else {
         return None;
@@ -156,8 +238,8 @@ pub(crate) fn tag_at<'a>(piece: &'a [u8], opened: &[u8]) -> Option<PlainTag<'a>>
         return None;
     };
     if *second == b'/' {
-        end_tag(rest, opened)
+        end_tag(rest, prefix, opened)
     } else {
-        start_tag(behind)
+        start_tag(behind, prefix)
     }
 }

@@ -1,14 +1,14 @@
 //! The elements that are open, with the namespaces that their tags declare.
-ghost use Rattle.std.specs.Prelude.{◌≡◌, ◌==◌, ◌≤◌, ◌++◌, ◌∷◌, List, [], ℕ, length, drop, IfOk, OnOk, OnErr, IfSome, IsSome, IsTrue, Some, None, Option, map, false, true, ◌&&◌, if◌then◌else◌};
+ghost use Rattle.std.specs.Prelude.{◌≡◌, ◌==◌, ◌≤◌, ◌++◌, ◌∷◌, List, [], ℕ, length, drop, IfOk, OnOk, OnErr, IfSome, IsSome, IsSomeAnd, Some, None, Option, map, false, true, ◌&&◌, if◌then◌else◌};
 ghost use Rattle.std.specs.Str.{bytes_eq};
 ghost use Rattle.lexical_core.specs.declared.rule.Rule.TheVariants.{TagMismatch};
 ghost use Rattle.markup.specs.Events.{namespace_of, start_tag_items, expanded_in, end_items};
 ghost use Rattle.markup.specs.EventItems.{entry_of, Tells, TellsFront};
 ghost use Rattle.markup.specs.Bindings.{Binds};
-ghost use Rattle.markup.specs.Marks.{tag_limit};
+ghost use Rattle.markup.specs.Marks.{tag_limit, begins_with};
 ghost use Rattle.markup.specs.Faults.{end_rule};
 ghost use Rattle.markup.specs.OpenNames.{OpenName, KeepsNames};
-ghost use Rattle.markup.specs.PlainTags.{tag_text, may_be_named, IsPlainInside, tags_behind, IsTagAt, IsTagInside};
+ghost use Rattle.markup.specs.PlainTags.{joined_text, tag_text, may_be_named, IsInsideOf, tags_behind, IsTagAt, IsTagInside};
 ghost use Rattle.markup.specs.Scopes.{placed_at};
 
 use crate::attributes::{Expanded, Parted};
@@ -264,42 +264,45 @@ impl Scope {
         }
     }
 
-    /// Whether an element is open, and the innermost has no prefix.
+    /// The prefix of the innermost element, where one is open.
     #[inline]
-    pub(crate) fn is_inside_plain(&self) -> bool
-        ensures yes { (tags : List Opening) → IsScope self.now tags → IsTrue result → (opened : List ℕ) × IsPlainInside tags opened }
-        ensures all { (tags : List Opening) (opened : List ℕ) → IsScope self.now tags → IsPlainInside tags opened → IsTrue result }
+    pub(crate) fn innermost_prefix(&self) -> Option<&[u8]>
+        ensures some { (tags : List Opening) → IsScope self.now tags → IfSome result (λ prefix. (opened : List ℕ) × IsInsideOf tags (record { prefix = prefix.now; local = opened })) }
+        ensures all { (tags : List Opening) (name : Spelled) → IsScope self.now tags → IsInsideOf tags name → IsSomeAnd result (λ prefix. prefix.now ≡ name.prefix) }
     {
         let Some(innermost) = self.names.innermost() else {
-            return false;
+            return None;
         };
-        innermost.prefix.is_empty()
+        Some(innermost.prefix)
     }
 
-    /// The plain tag at the front of the piece that breaks no rule, where the innermost element has
-    /// no prefix.
+    /// The plain tag at the front of the piece that breaks no rule, with the prefix of the innermost
+    /// element.
     #[inline]
     pub(crate) fn tag_at<'a>(&self, piece: &'a [u8]) -> Option<PlainTag<'a>>
-        ensures found { IfSome result (λ tag. (opened : List ℕ) × IsTagAt piece.now opened tag.kind tag.name.now tag.bytes) }
-        ensures only { (tags : List Opening) → IsScope self.now tags → IfSome result (λ tag. IsTagInside piece.now tags tag.kind tag.name.now tag.bytes) }
-        ensures all { (tags : List Opening) (opened : List ℕ) (kind : TagKind) (name rest : List ℕ) → IsScope self.now tags → IsPlainInside tags opened → may_be_named kind opened name → piece.now ≡ tag_text kind name ++ rest → length (tag_text kind name) ≤ tag_limit → IsSome result }
+        ensures found { IfSome result (λ tag. (opened : List ℕ) × IsTagAt piece.now tag.prefix.now opened tag.kind tag.name.now tag.bytes) }
+        ensures only { (tags : List Opening) → IsScope self.now tags → IfSome result (λ tag. IsTagInside piece.now tags tag.prefix.now tag.kind tag.name.now tag.bytes) }
+        ensures all { (tags : List Opening) (prefix opened : List ℕ) (kind : TagKind) (name rest : List ℕ) → IsScope self.now tags → IsInsideOf tags (record { prefix = prefix; local = opened }) → begins_with 47 prefix ≡ false → may_be_named kind opened name → piece.now ≡ tag_text kind (joined_text prefix name) ++ rest → length (tag_text kind (joined_text prefix name)) ≤ tag_limit → IsSome result }
     {
         let Some(innermost) = self.names.innermost() else {
             return None;
         };
-        if !innermost.prefix.is_empty() {
-            return None;
-        }
-        tag_at(piece, innermost.local)
+        tag_at(piece, innermost.prefix, innermost.local)
     }
 
-    /// Takes a plain tag that breaks no rule. Where there is no memory the scope is of no more use.
+    /// Takes a plain tag that breaks no rule, with the prefix of the innermost element. Where there is no
+    /// memory the scope is of no more use.
     #[inline]
-    pub(crate) fn take_plain(&mut self, kind: TagKind, name: &[u8]) -> Result<(), AllocError>
-        ensures { (tags : List Opening) (opened : List ℕ) → IsScope self.old tags → IsPlainInside tags opened → OnOk result (IsScope self.new (tags_behind kind name.now tags)) }
+    pub(crate) fn take_plain(
+        &mut self,
+        kind: TagKind,
+        prefix: &[u8],
+        name: &[u8],
+    ) -> Result<(), AllocError>
+        ensures { (tags : List Opening) (opened : List ℕ) → IsScope self.old tags → IsInsideOf tags (record { prefix = prefix.now; local = opened }) → OnOk result (IsScope self.new (tags_behind kind (record { prefix = prefix.now; local = name.now }) tags)) }
     {
         match kind {
-            TagKind::Start => self.names.push_plain(name),
+            TagKind::Start => self.names.push(prefix, name, 0),
             TagKind::Empty => Ok(()),
             TagKind::End => {
                 self.forget_innermost();

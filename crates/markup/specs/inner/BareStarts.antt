@@ -1,4 +1,4 @@
--- Start tags that a reader takes whole without a copy, at the front of a piece: their attributes have no prefix and declare nothing (Namespaces in XML 1.0 §6.2), and their names ascend.
+-- Start tags that a reader takes whole without a copy, at the front of a piece: their attributes have no prefix and declare nothing (Namespaces in XML 1.0 §6.2), and the names of these ascend.
 use Rattle.std.specs.Prelude.{◌≡◌, ℕ, Bool, true, false, List, [], ◌∷◌, ◌++◌, map, None}
 use Rattle.std.specs.List.{list_all, flat_map}
 use Rattle.std.specs.Str.{bytes_eq}
@@ -54,7 +54,7 @@ pub record FindsBare (bytes : List ℕ) (given : List Given) (latest left : List
 
 -- The tag stands at the front of the piece.
 pub record IsBareStartAt (piece : List ℕ) (tag : AttributeTag) : Type 0 where
-  pub at : IsStartAt piece (record { name = named_by [] tag.name.now; given = map bare_given tag.attributes.items; is_empty = tag.is_empty }) tag.bytes
+  pub at : IsStartAt piece (record { name = named_by tag.prefix.now tag.name.now; given = map bare_given tag.attributes.items; is_empty = tag.is_empty }) tag.bytes
   pub bare : AreBareBehind [] (map bare_given tag.attributes.items)
 
 -- what a start tag does

@@ -1,7 +1,7 @@
 //! Start tags with attributes that a reader takes whole without a copy.
 ghost use Rattle.std.specs.Prelude.{◌≡◌, ◌<◌, ◌≤◌, ◌^◌, ◌+◌, ◌++◌, ℕ, List, IfOk, IfErr, IfSome, IsSome, Some, None, Err, true, length, map, take};
 ghost use Rattle.markup.specs.Events.{Placed, start_tag_items};
-ghost use Rattle.markup.specs.PlainTags.{name_behind, IsPlainInside};
+ghost use Rattle.markup.specs.PlainTags.{name_behind, IsInsideOf};
 ghost use Rattle.markup.specs.PlainStarts.{PlainStart, plain_start_text};
 ghost use Rattle.markup.specs.AttributeTags.{bare_entry};
 ghost use Rattle.markup.specs.Scopes.{IsScope, placed_at};
@@ -28,11 +28,11 @@ fn start_kind(is_empty: bool) -> TagKind
 }
 
 impl Reader {
-    /// Takes the start tag that stands whole at the front of the piece, where no token and an element
-    /// without a prefix is open: of a name without a prefix, with attributes behind one space each that
-    /// have no prefix, declare no namespace and stand in the order of their names, whose names are plain
-    /// and whose values are of ASCII without references, tabs and line ends (XML 1.0 §3.1; Namespaces in
-    /// XML 1.0 §6.2). Its events are those that `take` tells. Any other token is for `take`, and any other
+    /// Takes the start tag that stands whole at the front of the piece, where no token and an element is
+    /// open: with the prefix of the innermost element or, as that, without one, and attributes behind one
+    /// space each that have no prefix, declare no namespace and stand in the order of their names, whose
+    /// names are plain and whose values are of ASCII without references, tabs and line ends (XML 1.0 §3.1;
+    /// Namespaces in XML 1.0 §6.2). Its events are those that `take` tells. Any other token is for `take`, and any other
     /// start tag with attributes for `take_start`. It takes one block of memory for all attributes, which
     /// grows with their number, and none where there are none. Where there is no memory, and after an error,
     /// it answers as `take` does.
@@ -83,7 +83,7 @@ impl Reader {
         };
         if self
             .context
-            .take_plain(start_kind(tag.is_empty), tag.name)
+            .take_plain(start_kind(tag.is_empty), tag.prefix, tag.name)
             .is_err()
         {
             return Err(AllocError);
@@ -97,15 +97,15 @@ impl Reader {
     fn next_attributes<'a>(&self, piece: &'a [u8]) -> Result<Option<AttributeTag<'a>>, AllocError>
         ensures ready { IfOk result (λ o. IsSome o → is_in_text self.now.tokenizer ≡ true) }
         ensures found { IfOk result (λ o. IfSome o (λ tag. IsBareStartAt piece.now tag)) }
-        ensures inside { (tags : List Opening) → IsScope self.now.context.scope tags → IfOk result (λ o. IsSome o → (opened : List ℕ) × IsPlainInside tags opened) }
+        ensures inside { (tags : List Opening) → IsScope self.now.context.scope tags → IfOk result (λ o. IfSome o (λ tag. (opened : List ℕ) × IsInsideOf tags (record { prefix = tag.prefix.now; local = opened }))) }
         ensures all { (limit : ℕ) (bytes : List ℕ) (told : List Placed) (tag : PlainStart) (rest : List ℕ) → MayTakeAttributesUnder limit self.now bytes told tag → piece.now ≡ plain_start_text tag ++ rest → IfOk result (λ o. IsSome o) }
     {
         if !self.tokenizer.is_in_text() {
             return Ok(None);
         }
-        if !self.context.is_inside_plain() {
+        let Some(prefix) = self.context.innermost_prefix() else {
             return Ok(None);
-        }
-        attribute_tag_at(piece, self.tokenizer.alloc)
+        };
+        attribute_tag_at(piece, prefix, self.tokenizer.alloc)
     }
 }

@@ -12,5 +12,5 @@ returns-clause-taken c limit bytes told h =
     let e = sym c.is_err.ensures.value ∙ c.if-is_err.false in
     let t = c.in-Some-next_tag.tag in
     rw (c.pass.ensures, holds c.take_plain.result _ e c.take_plain.ensures.rest)
-    (takes_tag c.args.self.now c.take_plain.new.self.scope bytes c.args.piece.now told t.kind t.name.now t.bytes h (c.in-Some-next_tag.ensures.ready refl) c.in-Some-next_tag.ensures.only
+    (takes_tag c.args.self.now c.take_plain.new.self.scope bytes c.args.piece.now told t.prefix.now t.kind t.name.now t.bytes h (c.in-Some-next_tag.ensures.ready refl) c.in-Some-next_tag.ensures.only
     (λ tags opened is i. holds c.take_plain.result _ e (c.take_plain.ensures.scope tags opened is i)))
