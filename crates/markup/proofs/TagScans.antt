@@ -1,13 +1,12 @@
 -- A plain tag that is found at the front of a piece.
-use Rattle.std.proofs.Common.{◌≡◌, ℕ, suc, Bool, true, false, ◌==◌, ◌||◌, ◌&&◌, cond, ◌+◌, ◌<◌, ◌≤◌, List, [], ◌∷◌, ◌++◌, length, take, drop, Option, Some, None, refl, sym, ◌∙◌, ap, subst, append_assoc, length-append, arith}
+use Rattle.std.proofs.Common.{◌≡◌, ℕ, suc, Bool, true, false, ◌==◌, ◌||◌, ◌&&◌, cond, ◌+◌, ◌-◌, ◌<◌, ◌≤◌, List, [], ◌∷◌, ◌++◌, length, take, drop, Option, Some, None, refl, sym, ◌∙◌, ap, subst, append_assoc, length-append, arith}
 use Rattle.std.specs.Bool.{if◌then◌else◌}
 use Rattle.std.specs.Int.{is_in_range}
 use Rattle.std.specs.List.{list_all, prefix_len}
 use Rattle.std.proofs.lemmas.Bool.{and_parts, both_ways, eqb-true}
-use Rattle.std.proofs.lemmas.List.{take-append-drop}
+use Rattle.std.proofs.lemmas.List.{take-append-drop, length-drop}
 use Rattle.std.proofs.Math.Seq.{take-append_seam, drop-append_seam}
 use Rattle.std.specs.Option.{IfSome}
-use Rattle.lexical_core.proofs.Tests.{suc_not_zero}
 use Rattle.lexical_core.proofs.Lists.{same_first, same_rest}
 use Rattle.markup.specs.Marks.{tag_limit}
 use Rattle.markup.specs.PlainTags.{begins_plain, continues_plain, is_plain_name, joined_text, tag_text, mark_count, may_be_named, IsTagAt, closing, slash_kind}
@@ -183,18 +182,6 @@ start_there piece behind more prefix opened name rest End first second e f n m t
 
 -- ---- a prefix
 
-pub size_none : (prefix name : List ℕ) → (length prefix == 0) ≡ true → length (joined_text prefix name) ≡ length name
-size_none [] name z = refl
-size_none (b ∷ more) name z = absurd (both_ways (length (b ∷ more) == 0) (suc_not_zero (length more)) z)
-
-pub size_some : (prefix name : List ℕ) → (length prefix == 0) ≡ false → length (joined_text prefix name) ≡ length prefix + 1 + length name
-size_some [] name z = absurd (both_ways true z refl)
-size_some (b ∷ more) name z = omega (arith, length-append (b ∷ more) (58 ∷ name))
-
-pub joined_none : (prefix local : List ℕ) → (length prefix == 0) ≡ true → joined_text prefix local ≡ local
-joined_none [] local z = refl
-joined_none (b ∷ more) local z = absurd (both_ways (length (b ∷ more) == 0) (suc_not_zero (length more)) z)
-
 pub joined_some : (prefix local : List ℕ) → (length prefix == 0) ≡ false → joined_text prefix local ≡ prefix ++ 58 ∷ local
 joined_some [] local z = absurd (both_ways true z refl)
 joined_some (b ∷ more) local z = refl
@@ -210,5 +197,24 @@ prefix_there bytes prefix front rest local z t d e =
     let w : bytes ≡ prefix ++ 58 ∷ local = e ∙ joined_some prefix local z in
     (t ∙ (ap (take (length prefix)) w ∙ take-append_seam prefix (58 ∷ local)), d ∙ (ap (drop (length prefix)) w ∙ drop-append_seam prefix (58 ∷ local)))
 
-pub prefix_fits : (bytes prefix local : List ℕ) → (length prefix == 0) ≡ false → bytes ≡ joined_text prefix local → length prefix ≤ length bytes
-prefix_fits bytes prefix local z e = omega (arith, ap length e, size_some prefix local z)
+-- how many bytes they are, and what is behind them
+module _ (bytes prefix rest : List ℕ) (n : ℕ) (z : (length prefix == 0) ≡ false) (fits : length prefix ≤ length bytes) (d : rest ≡ drop (length prefix) bytes) (n_is : n ≡ length bytes - length rest + 1) where
+  colon_count : n ≡ length prefix + 1
+  colon_count = omega (arith, n_is, ap length d, length-drop (length prefix) bytes, fits)
+
+  colon_behind : (local : List ℕ) → bytes ≡ joined_text prefix local → drop n bytes ≡ local
+  colon_behind local e = ap (drop n) (e ∙ (joined_some prefix local z ∙ sym (append_assoc prefix (58 ∷ []) local)))
+      ∙ (ap (λ m. drop m ((prefix ++ 58 ∷ []) ++ local)) (omega (arith, colon_count, length-append prefix (58 ∷ []))) ∙ drop-append_seam (prefix ++ 58 ∷ []) local)
+
+  pub colon_all : (local : List ℕ) → bytes ≡ joined_text prefix local → (0 < n) × (drop n bytes ≡ local)
+  colon_all local e = (omega (arith, colon_count), colon_behind local e)
+
+  pub colon_found : (front local : List ℕ) (mark : ℕ) → front ≡ take (length prefix) bytes → front ≡ prefix → rest ≡ mark ∷ local → mark ≡ 58 → (take (n - 1) bytes ≡ prefix) × (bytes ≡ joined_text prefix (drop n bytes))
+  colon_found front local mark t same r m =
+      let e = colon_there bytes prefix front rest local mark z t d same r m in
+      (ap (λ k. take k bytes) (omega (arith, colon_count)) ∙ (sym t ∙ same), e ∙ ap (joined_text prefix) (sym (colon_behind local e)))
+
+-- how many bytes a name has with its prefix
+pub joined_size : (bytes prefix local name rest : List ℕ) (n : ℕ) → bytes ≡ joined_text prefix local → name ≡ take n local → rest ≡ drop n local → length bytes - length rest ≡ length (joined_text prefix name)
+joined_size bytes prefix local name rest n e t d =
+    omega (arith, ap length (e ∙ (ap (joined_text prefix) (two_parts local name rest n t d) ∙ joined_then prefix name rest)), length-append (joined_text prefix name) rest)

@@ -1,5 +1,5 @@
 //! Tags that stand whole at the front of a piece of the input.
-ghost use Rattle.std.specs.Prelude.{◌≡◌, ◌==◌, ◌≤◌, ◌+◌, ◌∷◌, ◌++◌, List, ℕ, true, false, Some, length, IfSome, IsSome, IsSomeAnd};
+ghost use Rattle.std.specs.Prelude.{◌≡◌, ◌==◌, ◌<◌, ◌≤◌, ◌+◌, ◌-◌, ◌∷◌, ◌++◌, List, ℕ, true, false, Some, length, take, drop, IfSome, IsSome, IsSomeAnd};
 ghost use Rattle.std.specs.List.{prefix_len};
 ghost use Rattle.markup.specs.Marks.{tag_limit, begins_with};
 ghost use Rattle.markup.specs.declared.plain_tag.TagKind.{TagKind};
@@ -87,41 +87,48 @@ pub(crate) fn mark_count(kind: TagKind) -> usize
     }
 }
 
-/// How many bytes stand before the local name of a tag with the prefix, where a tag may have so many.
+/// The tag of the prefix and the local name, which have so many bytes together, where a tag may have as
+/// many.
 #[inline]
-fn size_ahead(prefix: &[u8]) -> Option<usize>
-    ensures size { (name : List ℕ) → IfSome result (λ n. length (joined_text prefix.now name) ≡ n + length name) }
-    ensures all { (name : List ℕ) → length (joined_text prefix.now name) ≤ tag_limit → IsSome result }
-{
-    if prefix.is_empty() {
-        return Some(0);
-    }
-    if prefix.len() as u64 >= TAG_LIMIT {
-        return None;
-    }
-    Some(prefix.len() + 1)
-}
-
-/// The tag of the prefix and the local name, where a tag may have so many bytes.
-#[inline]
-fn bounded<'a>(kind: TagKind, prefix: &'a [u8], name: &'a [u8]) -> Option<PlainTag<'a>>
+fn bounded<'a>(kind: TagKind, prefix: &'a [u8], name: &'a [u8], size: usize) -> Option<PlainTag<'a>>
+    requires { size ≡ length (joined_text prefix.now name.now) }
     ensures tag { IfSome result (λ tag. (tag.kind ≡ kind) × (tag.prefix.now ≡ prefix.now) × (tag.name.now ≡ name.now) × (tag.bytes ≡ length (joined_text prefix.now name.now) + mark_count kind) × (tag.bytes ≤ tag_limit)) }
     ensures all { length (joined_text prefix.now name.now) + mark_count kind ≤ tag_limit → IsSome result }
 {
-    let Some(ahead) = size_ahead(prefix) else {
-        return None;
-    };
-    let marks = ahead + mark_count(kind);
-    if marks as u64 > TAG_LIMIT || name.len() as u64 > TAG_LIMIT - marks as u64 {
+    let marks = mark_count(kind);
+    if size as u64 > TAG_LIMIT - marks as u64 {
         return None;
     }
-    let bytes = name.len() + marks;
     Some(PlainTag {
         kind,
         prefix,
         name,
-        bytes,
+        bytes: size + marks,
     })
+}
+
+/// How many bytes the prefix and its colon have at the front of bytes, 0 where they do not stand there.
+#[inline(never)]
+fn colon_size(bytes: &[u8], prefix: &[u8]) -> usize
+    requires { (length prefix.now == 0) ≡ false }
+    ensures within { result ≤ length bytes.now }
+    ensures found { 0 < result → (take (result - 1) bytes.now ≡ prefix.now) × (bytes.now ≡ joined_text prefix.now (drop result bytes.now)) }
+    ensures all { (local : List ℕ) → bytes.now ≡ joined_text prefix.now local → (0 < result) × (drop result bytes.now ≡ local) }
+{
+    if bytes.len() < prefix.len() {
+        return 0;
+    }
+    let (front, rest) = bytes.split_at(prefix.len());
+    if !are_same(front, prefix) {
+        return 0;
+    }
+    let Some((mark, _)) = rest.split_first() else {
+        return 0;
+    };
+    if *mark != b':' {
+        return 0;
+    }
+    bytes.len() - rest.len() + 1
 }
 
 /// A prefix, and what stands behind its colon.
@@ -129,32 +136,6 @@ fn bounded<'a>(kind: TagKind, prefix: &'a [u8], name: &'a [u8]) -> Option<PlainT
 struct BehindPrefix<'a> {
     prefix: &'a [u8],
     local: &'a [u8],
-}
-
-/// What is behind the prefix with its colon, which is not empty.
-#[inline(never)]
-fn behind_colon<'a>(bytes: &'a [u8], prefix: &[u8]) -> Option<BehindPrefix<'a>>
-    requires { (length prefix.now == 0) ≡ false }
-    ensures found { IfSome result (λ b. (b.prefix.now ≡ prefix.now) × (bytes.now ≡ joined_text prefix.now b.local.now)) }
-    ensures all { (local : List ℕ) → bytes.now ≡ joined_text prefix.now local → IsSomeAnd result (λ b. b.local.now ≡ local) }
-{
-    if bytes.len() < prefix.len() {
-        return None;
-    }
-    let (front, rest) = bytes.split_at(prefix.len());
-    if !are_same(front, prefix) {
-        return None;
-    }
-    let Some((mark, local)) = rest.split_first() else {
-        return None;
-    };
-    if *mark != b':' {
-        return None;
-    }
-    Some(BehindPrefix {
-        prefix: front,
-        local,
-    })
 }
 
 /// What is behind the prefix at the front of bytes, which may be empty and then has no colon.
@@ -169,7 +150,16 @@ fn behind_prefix<'a>(bytes: &'a [u8], prefix: &[u8]) -> Option<BehindPrefix<'a>>
             local: bytes,
         });
     }
-    behind_colon(bytes, prefix)
+    let size = colon_size(bytes, prefix);
+    if size == 0 {
+        return None;
+    }
+    let (found, _) = bytes.split_at(size - 1);
+    let (_, local) = bytes.split_at(size);
+    Some(BehindPrefix {
+        prefix: found,
+        local,
+    })
 }
 
 /// The start tag of the prefix whose bytes stand behind a `<`.
@@ -192,7 +182,7 @@ fn start_tag<'a>(behind: &'a [u8], prefix: &[u8]) -> Option<PlainTag<'a>>
     let Some(kind) = closing(rest) else {
         return None;
     };
-    bounded(kind, named.prefix, name)
+    bounded(kind, named.prefix, name, behind.len() - rest.len())
 }
 
 /// The end tag of the prefix and the local name, whose bytes stand behind a `</`.
@@ -218,7 +208,7 @@ fn end_tag<'a>(behind: &'a [u8], prefix: &[u8], opened: &[u8]) -> Option<PlainTa
     if *last != b'>' {
         return None;
     }
-    bounded(TagKind::End, named.prefix, name)
+    bounded(TagKind::End, named.prefix, name, behind.len() - rest.len())
 }
 
 /// The tag of the prefix at the front of the piece: a start tag, or the end tag of the local name.

@@ -123,7 +123,7 @@ fn texts_in_pieces(rt: HostRuntime) -> Result<(), AllocError> {
 
 /// An instance with tags, runs and what stands between them.
 static SHAPES: &str =
-    "<a xmlns=\"u\">\n <b>x y\tz</b>\r\n<c/><p:d xmlns:p=\"v\"><e p:j='k'>]</e>]]<f.g-h_1>&lt;&#x41;</f.g-h_1></p:d><!-- - --><?q ?><i j='k&#65;\"l\t' m = \"'n\"/><![CDATA[<>]]></a>";
+    "<a xmlns=\"u\">\n <b>x y\tz</b>\r\n<c/><p:d xmlns:p=\"v\"><p:g/><p:h i=\"1\">x</p:h><e p:j='k'>]</e>]]<f.g-h_1>&lt;&#x41;</f.g-h_1></p:d><!-- - --><?q ?><i j='k&#65;\"l\t' m = \"'n\"/><![CDATA[<>]]></a>";
 
 /// With the byte at this place changed to another one, the text is answered as by single bytes.
 fn check_change(rt: &impl Abort, alloc: Global, at: usize, byte: u8) -> Result<(), AllocError> {
@@ -282,34 +282,44 @@ fn reference_taken(reader: &mut Reader, piece: &[u8]) -> Option<(usize, char)>
     }
 }
 
-/// Pieces behind `<a>`, and how many bytes the tag has that is taken at their front.
-static TAGS: [(&str, usize); 14] = [
-    ("<b>", 3),
-    ("<b/>", 4),
-    ("</a>", 4),
-    ("<b", 0),
-    ("<b/", 0),
-    ("</a", 0),
-    ("</b>", 0),
-    ("</aa>", 0),
-    ("<b >", 0),
-    ("</a >", 0),
-    ("<b:c>", 0),
-    ("<1>", 0),
-    ("<\u{E9}>", 0),
-    ("<Dt.1-2_x>y", 10),
+/// Start tags, pieces behind them, and how many bytes the tag has that is taken at the front of a piece.
+static TAGS: [(&str, &str, usize); 24] = [
+    ("<a>", "<b>", 3),
+    ("<a>", "<b/>", 4),
+    ("<a>", "</a>", 4),
+    ("<a>", "<b", 0),
+    ("<a>", "<b/", 0),
+    ("<a>", "</a", 0),
+    ("<a>", "</b>", 0),
+    ("<a>", "</aa>", 0),
+    ("<a>", "<b >", 0),
+    ("<a>", "</a >", 0),
+    ("<a>", "<b:c>", 0),
+    ("<a>", "<1>", 0),
+    ("<a>", "<\u{E9}>", 0),
+    ("<a>", "<Dt.1-2_x>y", 10),
+    ("<p:a xmlns:p='u'>", "<p:b>", 5),
+    ("<p:a xmlns:p='u'>", "<p:b/>", 6),
+    ("<p:a xmlns:p='u'>", "</p:a>", 6),
+    ("<p:a xmlns:p='u'>", "<b>", 0),
+    ("<p:a xmlns:p='u'>", "<q:b>", 0),
+    ("<p:a xmlns:p='u'>", "<p:1>", 0),
+    ("<p:a xmlns:p='u'>", "<p:b:c>", 0),
+    ("<p:a xmlns:p='u'>", "<p", 0),
+    ("<p:a xmlns:p='u'>", "</p:b>", 0),
+    ("<p:a xmlns:p='u'>", "</a>", 0),
 ];
 
 #[test]
 fn whole_tags(rt: HostRuntime) {
-    for (piece, bytes) in &TAGS {
-        let found = tag_behind(rt.alloc(), piece.as_bytes());
-        assert!(rt; found == Some(*bytes), "{piece}: {found:?}");
+    for (front, piece, bytes) in &TAGS {
+        let found = tag_behind(rt.alloc(), front.as_bytes(), piece.as_bytes());
+        assert!(rt; found == Some(*bytes), "{front}{piece}: {found:?}");
     }
 }
 
-fn tag_behind(alloc: Global, piece: &[u8]) -> Option<usize> {
-    let mut reader = behind(alloc, b"<a>")?;
+fn tag_behind(alloc: Global, front: &[u8], piece: &[u8]) -> Option<usize> {
+    let mut reader = behind(alloc, front)?;
     tag_taken(&mut reader, piece)
 }
 
@@ -357,6 +367,8 @@ fn attribute_tags(rt: HostRuntime) {
     }
     let found = attributes_behind(rt.alloc(), b"<p:a xmlns:p='u'>", b"<b c='d'>");
     assert!(rt; found == Some((0, 0)), "{found:?}");
+    let found = attributes_behind(rt.alloc(), b"<p:a xmlns:p='u'>", b"<p:b c='d'>/");
+    assert!(rt; found == Some((11, 1)), "{found:?}");
 }
 
 fn attributes_behind(alloc: Global, front: &[u8], piece: &[u8]) -> Option<(usize, usize)> {

@@ -1,8 +1,9 @@
 -- What stands behind a `</`.
-use Rattle.std.proofs.Common.{◌++◌, ◌∷◌, sym, ◌∙◌}
+use Rattle.std.proofs.Common.{◌++◌, ◌∷◌, ap, sym, ◌∙◌}
 use Rattle.std.proofs.lemmas.Slice.Eq.{bytes_eq-Decides}
+use Rattle.markup.specs.PlainTags.{joined_text}
 use Rattle.markup.specs.declared.plain_tag.TagKind.TheVariants.{End}
-use Rattle.markup.proofs.TagScans.{ends_there, end_parts, bounded_found}
+use Rattle.markup.proofs.TagScans.{joined_size, ends_there, end_parts, bounded_found}
 use Rattle.markup.proofs.plain_tag.end_tag.Goals as goal
 
 pub returns-then-not-are_same-clause-all : goal.returns-then-not-are_same-clause-all
@@ -16,3 +17,6 @@ returns-clause-only c =
     (end_parts c.args.behind.now c.args.prefix.now c.in-Some.named.local.now c.split_at.result.0.now c.split_at.result.1.now c.in-Some-split_first.field-0-1.now _ c.in-Some-split_first.last.now c.in-Some.ensures.found.1 c.split_at.ensures.front c.split_at.ensures.back c.in-Some-split_first.ensures.cases.0 c.if-last-ne62.false)
     ((bytes_eq-Decides c.split_at.result.0.now c.args.opened.now).0 (sym c.are_same.ensures ∙ c.if-not-are_same.false))
     c.bounded.ensures.tag
+
+pub bounded-requires : goal.bounded-requires
+bounded-requires c = joined_size c.args.behind.now c.in-Some.named.prefix.now c.in-Some.named.local.now c.split_at.result.0.now c.split_at.result.1.now _ (c.in-Some.ensures.found.1 ∙ ap (λ q. joined_text q c.in-Some.named.local.now) (sym c.in-Some.ensures.found.0)) c.split_at.ensures.front c.split_at.ensures.back
