@@ -1,0 +1,1 @@
+cat ../example-payment-canonical/out

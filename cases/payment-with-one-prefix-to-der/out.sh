@@ -1,0 +1,1 @@
+sh ../example-payment-to-der/out.sh
