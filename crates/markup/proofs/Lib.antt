@@ -9,6 +9,7 @@ pub mod TokenLaw
 pub mod Runs
 pub mod ReferenceRuns
 pub mod WholeReferences
+pub mod WholeLineEnds
 mod NumberedReferences
 pub mod BracketRuns
 pub mod TagRuns

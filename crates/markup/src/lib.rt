@@ -2,15 +2,15 @@
 //! in UTF-8, without document types.
 //!
 //! A `Reader` takes the bytes in order. `take` takes one, and appends the events that it shows; `finish` says that no more
-//! come. Either refuses the first fault, with its rule and the place of its token. Seven calls take many bytes at once,
+//! come. Either refuses the first fault, with its rule and the place of its token. Eight calls take many bytes at once,
 //! with the meaning of one after the other, and leave the rest to `take`: `take_characters` a run of characters inside an
 //! element (`Run`), `take_blanks` one of white space alone, `take_reference` a whole reference (`CharacterReference`),
-//! `take_tag` a whole tag without attributes (`PlainTag`), `take_attribute_tag` a whole start tag whose attributes have no
-//! prefix, declare nothing and stand in the order of their names (`AttributeTag`), both with the prefix of the innermost
-//! element or, as that, without one, `take_inside` bytes with which the open tag, comment or instruction goes on, and which
-//! show no event. They append none: what they answer says which there are. `take_start` takes a whole start tag with its
-//! prefixes and attributes, and appends its events. `token` says how many bytes are held of the names and values of the open
-//! tag, `depth` how many elements are open.
+//! `take_line_end` a CR LF, `take_tag` a whole tag without attributes (`PlainTag`), `take_attribute_tag` a whole start tag
+//! whose attributes have no prefix, declare nothing and stand in the order of their names (`AttributeTag`), both with the
+//! prefix of the innermost element or, as that, without one, `take_inside` bytes with which the open tag, comment or
+//! instruction goes on, and which show no event. They append none: what they answer says which there are. `take_start` takes
+//! a whole start tag with its prefixes and attributes, and appends its events. `token` says how many bytes are held of the
+//! names and values of the open tag, `depth` how many elements are open.
 //!
 //! Of `<q:a xmlns:q="u">x</q:a>` the events are the start of `a` in the namespace `u` at 0, the character `x` at 17 and the
 //! end of `a` at 18. A `Namespace` is shared by all that stands in it: a copy takes no memory of its own. `laws` says that

@@ -38,6 +38,7 @@ use std::error::Error;
 use std::fmt;
 
 mod brackets;
+mod line_ends;
 mod references;
 
 /// A fault of markup: the rule that is broken first, of several at one place the least, and its

@@ -24,6 +24,9 @@ fn take_some(reader: &mut Reader, out: &mut Events, piece: &[u8]) -> Result<usiz
     if let Some(reference) = reader.take_reference(piece) {
         return Ok(reference.bytes);
     }
+    if reader.take_line_end(piece) {
+        return Ok(2);
+    }
     match reader.take_tag(piece) {
         Ok(Some(tag)) => return Ok(tag.bytes),
         Ok(None) => {}

@@ -1,4 +1,5 @@
-//! Fronts of a piece that a checker takes: whole tags, whole references, runs of characters, bytes inside tokens, single bytes.
+//! Fronts of a piece that a checker takes: whole tags, whole references and line ends, runs of characters, bytes inside tokens,
+//! single bytes.
 ghost use Rattle.std.specs.Prelude.{◌≡◌, ◌<◌, ◌+◌, ◌≤◌, ◌^◌, IfOk, length};
 ghost use Rattle.message_model.specs.Tables.{types_of};
 ghost use Rattle.message_model.specs.declared.fault.InstanceError.TheVariants.{Memory};
@@ -17,7 +18,7 @@ use message_model::{InstanceError, Model};
 use std::alloc::AllocError;
 
 impl XmlChecker {
-    /// Takes a whole tag, a whole reference, a run of characters, bytes inside a token or else a byte from
+    /// Takes a whole tag, a whole reference or line end, a run of characters, bytes inside a token or else a byte from
     /// the front of the piece, and answers how many bytes that are. Its first byte says which is tried.
     /// Where it stops it says why in `stop`, so that the answers of all that goes on are small.
     pub(crate) fn take_front(
@@ -38,7 +39,7 @@ impl XmlChecker {
     {
         if piece[0] == b'<' {
             self.take_mark(model, piece, stop)
-        } else if piece[0] == b'&' {
+        } else if piece[0] == b'&' || piece[0] == b'\r' {
             self.take_otherwise(model, piece, stop)
         } else {
             self.take_plain(model, piece, stop)
@@ -126,7 +127,8 @@ impl XmlChecker {
         }
     }
 
-    /// Takes a whole reference, a start tag with attributes, bytes inside a token or else a byte from the front of the piece.
+    /// Takes a whole reference or line end, a start tag with attributes, bytes inside a token or else a byte from the front of
+    /// the piece.
     fn take_rare(&mut self, model: &Model, piece: &[u8]) -> Result<usize, InstanceError>
         requires some { 0 < length piece.now }
         requires room { xml_bytes_fed self.old + length piece.now ≤ 2 ^ 40 }
@@ -140,6 +142,8 @@ impl XmlChecker {
             self.take_starting(model, piece)
         } else if piece[0] == b'&' {
             self.take_referring(model, piece)
+        } else if piece[0] == b'\r' {
+            self.take_returning(model, piece)
         } else {
             self.take_slowly(model, piece)
         }
@@ -201,6 +205,26 @@ impl XmlChecker {
         };
         if reference > 0 {
             return Ok(reference);
+        }
+        self.take_slowly(model, piece)
+    }
+
+    /// Takes a CR LF, bytes inside a token or else a byte from the front of the piece.
+    fn take_returning(&mut self, model: &Model, piece: &[u8]) -> Result<usize, InstanceError>
+        requires some { 0 < length piece.now }
+        requires room { xml_bytes_fed self.old + length piece.now ≤ 2 ^ 40 }
+        requires made { IsXmlCheckerFor self.old model.now }
+        ensures made { IsXmlCheckerFor self.new model.now }
+        ensures lean { KeepsNoLeaf self.old → KeepsNoLeaf self.new }
+        ensures front { TakesXmlFront model.now self.old self.new piece.now result }
+        ensures some { IfOk result (λ n. 0 < n) }
+    {
+        let line = match self.take_line_end(model, piece) {
+            Ok(line) => line,
+            Err(error) => return Err(error),
+        };
+        if line > 0 {
+            return Ok(line);
         }
         self.take_slowly(model, piece)
     }
