@@ -1,5 +1,6 @@
 """What a repository, its codes or a message should have where they are refused, and which part breaks the rule."""
 import re
+from decimal import Decimal
 
 from faults_of_instances import parts_of
 from faults_of_markup import markup_expected
@@ -13,6 +14,11 @@ NAME = re.compile('[A-Za-z_][A-Za-z0-9_.-]{0,255}')
 NUMBERS = ('minOccurs', 'maxOccurs', 'minLength', 'maxLength', 'length', 'totalDigits', 'fractionDigits',
            'minInclusive', 'maxInclusive', 'minExclusive', 'maxExclusive')
 NEEDED = ('xmi:id', 'xsi:type', 'name')
+MOST_DIGITS = 18
+# Facets of which an entry has one at most, and pairs in order, with whether they may be equal.
+BOTH = [('minInclusive', 'minExclusive'), ('maxInclusive', 'maxExclusive')]
+ORDERED = [('minLength', 'maxLength', True), ('minLength', 'length', True), ('length', 'maxLength', True), ('fractionDigits', 'totalDigits', True),
+           ('minInclusive', 'maxInclusive', True), ('minInclusive', 'maxExclusive', False), ('minExclusive', 'maxInclusive', False), ('minExclusive', 'maxExclusive', False)]
 
 
 # ---- the file
@@ -105,10 +111,31 @@ def owner_expected(rule, entry, entries):
         return [f'an ASCII name in the place of `{entry.name}`']
     if rule == 'M10':
         return ['an alternative']
+    if rule == 'M12':
+        return facets_expected(entry.facets)
+    if rule == 'M16':
+        lines = [str(it.line) for it in entries.values() if it.name == entry.name]
+        return [f'one type of the message with the name {entry.name}; it stands in the lines {", ".join(lines)}'] if len(lines) > 1 else []
     if rule == 'M14':
         return code_expected(texts_of(entries, next(key for key, it in entries.items() if it is entry)))
     if rule == 'M15':
         return ['no pattern'] if entry.kind in KINDS else [f'another kind than {entry.kind}']
+    return []
+
+
+def facets_expected(facets):
+    """The first facet that is out of bounds, or that another one contradicts."""
+    number = {name: Decimal(facets[name]) for name in NUMBERS if name in facets}
+    if not 1 <= number.get('totalDigits', 1) <= MOST_DIGITS:
+        return [f'totalDigits of 1 to {MOST_DIGITS}; here stands {facets["totalDigits"]}']
+    if 'totalDigits' not in number and number.get('fractionDigits', 0) > MOST_DIGITS:
+        return [f'fractionDigits of at most {MOST_DIGITS}; here stands {facets["fractionDigits"]}']
+    for one, other in BOTH:
+        if one in number and other in number:
+            return [f'{one} or {other}, and not both']
+    for least, most, may_be_equal in ORDERED:
+        if least in number and most in number and not (number[least] < number[most] or may_be_equal and number[least] == number[most]):
+            return [f'{least} {"of at most" if may_be_equal else "below"} {most}, which is {facets[most]}; here stands {facets[least]}']
     return []
 
 

@@ -119,8 +119,18 @@ def of_codes(call, fault):
             if count == int(fault.where):
                 break
             begins = reader.line_num
-    told = [f'NAME,CODE; here stand {len(record)} fields'] if fault.rule == 'C1' and len(record) > 2 else ['NAME,CODE'] if fault.rule == 'C1' else []
-    return Told(call.codes, fault, line_spot(call.codes.path, begins + 1), told)
+    return Told(call.codes, fault, line_spot(call.codes.path, begins + 1), record_expected(fault.rule, record))
+
+
+def record_expected(rule, record):
+    """What a record of codes should be."""
+    if rule == 'C1':
+        return [f'NAME,CODE; here stand {len(record)} fields' if len(record) > 2 else 'NAME,CODE']
+    if rule == 'C2':
+        return ['UTF-8']
+    if rule == 'C3':
+        return ['a code of characters of XML' if record[1] else f'a code of {record[0]} behind the comma']
+    return [f'a code set without codes of its own; {record[0]} has some in the repository'] if rule == 'C4' else []
 
 
 OF_STATUS = {REPOSITORY: of_repository, CODES: of_codes, MESSAGE: of_message, INSTANCE: of_instance}
