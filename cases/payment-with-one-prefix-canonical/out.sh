@@ -1,1 +1,1 @@
-cat ../example-payment-canonical/out
+cat example-payment-canonical/out

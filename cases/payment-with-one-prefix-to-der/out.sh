@@ -1,1 +1,1 @@
-sh ../example-payment-to-der/out.sh
+sh example-payment-to-der/out.sh
