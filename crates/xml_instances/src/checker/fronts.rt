@@ -19,7 +19,7 @@ use std::alloc::AllocError;
 
 impl XmlChecker {
     /// Takes a whole tag, a whole reference or line end, a run of characters, bytes inside a token or else a byte from
-    /// the front of the piece, and answers how many bytes that are. Its first byte says which is tried.
+    /// the front of the piece, and answers how many bytes that are.
     /// Where it stops it says why in `stop`, so that the answers of all that goes on are small.
     pub(crate) fn take_front(
         &mut self,
@@ -37,44 +37,19 @@ impl XmlChecker {
         ensures some { IfOk result (λ n. 0 < n) }
         ensures none { IfOk result (λ _. stop.new ≡ Memory) }
     {
-        if piece[0] == b'<' {
-            self.take_mark(model, piece, stop)
-        } else if piece[0] == b'&' || piece[0] == b'\r' {
-            self.take_otherwise(model, piece, stop)
-        } else {
-            self.take_plain(model, piece, stop)
-        }
-    }
-
-    /// Takes a whole tag, bytes inside a token or else a byte from the front of the piece.
-    fn take_mark(
-        &mut self,
-        model: &Model,
-        piece: &[u8],
-        stop: &mut InstanceError,
-    ) -> Result<usize, Stopped>
-        requires some { 0 < length piece.now }
-        requires room { xml_bytes_fed self.old + length piece.now ≤ 2 ^ 40 }
-        requires made { IsXmlCheckerFor self.old model.now }
-        requires none { stop.old ≡ Memory }
-        ensures made { IsXmlCheckerFor self.new model.now }
-        ensures lean { KeepsNoLeaf self.old → KeepsNoLeaf self.new }
-        ensures front { TakesXmlFront model.now self.old self.new piece.now (because stop.new result) }
-        ensures some { IfOk result (λ n. 0 < n) }
-        ensures none { IfOk result (λ _. stop.new ≡ Memory) }
-    {
-        let tag = match self.take_tag(model, piece, stop) {
-            Ok(tag) => tag,
+        let often = match self.take_often(model, piece, stop) {
+            Ok(often) => often,
             Err(error) => return Err(error),
         };
-        if tag > 0 {
-            return Ok(tag);
+        if often > 0 {
+            return Ok(often);
         }
         self.take_otherwise(model, piece, stop)
     }
 
-    /// Takes a run of characters, bytes inside a token or else a byte from the front of the piece.
-    fn take_plain(
+    /// Takes the whole tag without attributes or the run of characters at the front of the piece, if one stands there, as
+    /// most of a message does. Its first byte says which is tried.
+    fn take_often(
         &mut self,
         model: &Model,
         piece: &[u8],
@@ -87,17 +62,16 @@ impl XmlChecker {
         ensures made { IsXmlCheckerFor self.new model.now }
         ensures lean { KeepsNoLeaf self.old → KeepsNoLeaf self.new }
         ensures front { TakesXmlFront model.now self.old self.new piece.now (because stop.new result) }
-        ensures some { IfOk result (λ n. 0 < n) }
         ensures none { IfOk result (λ _. stop.new ≡ Memory) }
     {
-        let run = match self.take_run(model, piece) {
-            Ok(run) => run,
-            Err(_) => return Err(Stopped),
-        };
-        if run > 0 {
-            return Ok(run);
+        match piece[0] {
+            b'<' => self.take_tag(model, piece, stop),
+            b'&' | b'\r' => Ok(0),
+            _ => match self.take_run(model, piece) {
+                Ok(run) => Ok(run),
+                Err(_) => Err(Stopped),
+            },
         }
-        self.take_otherwise(model, piece, stop)
     }
 
     /// Takes what is neither a tag without attributes nor a run of characters from the front of the piece.
@@ -127,7 +101,7 @@ impl XmlChecker {
         }
     }
 
-    /// Takes a whole reference or line end, a start tag with attributes, bytes inside a token or else a byte from the front of
+    /// Takes a whole start tag with attributes, reference or line end, bytes inside a token or else a byte from the front of
     /// the piece.
     fn take_rare(&mut self, model: &Model, piece: &[u8]) -> Result<usize, InstanceError>
         requires some { 0 < length piece.now }
@@ -138,26 +112,41 @@ impl XmlChecker {
         ensures front { TakesXmlFront model.now self.old self.new piece.now result }
         ensures some { IfOk result (λ n. 0 < n) }
     {
-        if piece[0] == b'<' {
-            self.take_starting(model, piece)
-        } else if piece[0] == b'&' {
-            self.take_referring(model, piece)
-        } else if piece[0] == b'\r' {
-            self.take_returning(model, piece)
-        } else {
-            self.take_slowly(model, piece)
+        let whole = match self.take_whole(model, piece) {
+            Ok(whole) => whole,
+            Err(error) => return Err(error),
+        };
+        if whole > 0 {
+            return Ok(whole);
         }
+        self.take_slowly(model, piece)
     }
 
-    /// Takes a start tag with attributes, bytes inside a token or else a byte from the front of the piece.
-    fn take_starting(&mut self, model: &Model, piece: &[u8]) -> Result<usize, InstanceError>
+    /// Takes the start tag with attributes, the reference or the line end that stands whole at the front of the piece, if
+    /// one does that the reader takes at once. Its first byte says which is tried.
+    fn take_whole(&mut self, model: &Model, piece: &[u8]) -> Result<usize, InstanceError>
         requires some { 0 < length piece.now }
         requires room { xml_bytes_fed self.old + length piece.now ≤ 2 ^ 40 }
         requires made { IsXmlCheckerFor self.old model.now }
         ensures made { IsXmlCheckerFor self.new model.now }
         ensures lean { KeepsNoLeaf self.old → KeepsNoLeaf self.new }
         ensures front { TakesXmlFront model.now self.old self.new piece.now result }
-        ensures some { IfOk result (λ n. 0 < n) }
+    {
+        match piece[0] {
+            b'<' => self.take_any_start(model, piece),
+            b'&' => self.take_reference(model, piece),
+            b'\r' => self.take_line_end(model, piece),
+            _ => Ok(0),
+        }
+    }
+
+    /// Takes the whole start tag at the front of the piece, if one stands there with attributes.
+    fn take_any_start(&mut self, model: &Model, piece: &[u8]) -> Result<usize, InstanceError>
+        requires room { xml_bytes_fed self.old + length piece.now ≤ 2 ^ 40 }
+        requires made { IsXmlCheckerFor self.old model.now }
+        ensures made { IsXmlCheckerFor self.new model.now }
+        ensures lean { KeepsNoLeaf self.old → KeepsNoLeaf self.new }
+        ensures front { TakesXmlFront model.now self.old self.new piece.now result }
     {
         let start = match self.take_attribute_tag(model, piece) {
             Ok(start) => start,
@@ -166,67 +155,7 @@ impl XmlChecker {
         if start > 0 {
             return Ok(start);
         }
-        self.take_any_start(model, piece)
-    }
-
-    /// Takes any start tag with attributes, bytes inside a token or else a byte from the front of the piece.
-    fn take_any_start(&mut self, model: &Model, piece: &[u8]) -> Result<usize, InstanceError>
-        requires some { 0 < length piece.now }
-        requires room { xml_bytes_fed self.old + length piece.now ≤ 2 ^ 40 }
-        requires made { IsXmlCheckerFor self.old model.now }
-        ensures made { IsXmlCheckerFor self.new model.now }
-        ensures lean { KeepsNoLeaf self.old → KeepsNoLeaf self.new }
-        ensures front { TakesXmlFront model.now self.old self.new piece.now result }
-        ensures some { IfOk result (λ n. 0 < n) }
-    {
-        let start = match self.take_start(model, piece) {
-            Ok(start) => start,
-            Err(error) => return Err(error),
-        };
-        if start > 0 {
-            return Ok(start);
-        }
-        self.take_slowly(model, piece)
-    }
-
-    /// Takes a whole reference, bytes inside a token or else a byte from the front of the piece.
-    fn take_referring(&mut self, model: &Model, piece: &[u8]) -> Result<usize, InstanceError>
-        requires some { 0 < length piece.now }
-        requires room { xml_bytes_fed self.old + length piece.now ≤ 2 ^ 40 }
-        requires made { IsXmlCheckerFor self.old model.now }
-        ensures made { IsXmlCheckerFor self.new model.now }
-        ensures lean { KeepsNoLeaf self.old → KeepsNoLeaf self.new }
-        ensures front { TakesXmlFront model.now self.old self.new piece.now result }
-        ensures some { IfOk result (λ n. 0 < n) }
-    {
-        let reference = match self.take_reference(model, piece) {
-            Ok(reference) => reference,
-            Err(error) => return Err(error),
-        };
-        if reference > 0 {
-            return Ok(reference);
-        }
-        self.take_slowly(model, piece)
-    }
-
-    /// Takes a CR LF, bytes inside a token or else a byte from the front of the piece.
-    fn take_returning(&mut self, model: &Model, piece: &[u8]) -> Result<usize, InstanceError>
-        requires some { 0 < length piece.now }
-        requires room { xml_bytes_fed self.old + length piece.now ≤ 2 ^ 40 }
-        requires made { IsXmlCheckerFor self.old model.now }
-        ensures made { IsXmlCheckerFor self.new model.now }
-        ensures lean { KeepsNoLeaf self.old → KeepsNoLeaf self.new }
-        ensures front { TakesXmlFront model.now self.old self.new piece.now result }
-        ensures some { IfOk result (λ n. 0 < n) }
-    {
-        let line = match self.take_line_end(model, piece) {
-            Ok(line) => line,
-            Err(error) => return Err(error),
-        };
-        if line > 0 {
-            return Ok(line);
-        }
-        self.take_slowly(model, piece)
+        self.take_start(model, piece)
     }
 
     /// Takes bytes inside a token or else a byte from the front of the piece.
