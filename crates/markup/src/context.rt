@@ -1,15 +1,15 @@
 //! What stands before a token: the open elements, whether the root has come, and the literal `]`
 //! that stand last. It decides the rule that a token breaks and the events that it has.
-ghost use Rattle.std.specs.Prelude.{◌≡◌, ◌==◌, ◌<◌, ◌≤◌, ◌^◌, false, reverse, length, List, [], ◌∷◌, ◌++◌, ℕ, OnOk, OnErr, IfSome, IsSome, IsSomeAnd, IsTrue};
+ghost use Rattle.std.specs.Prelude.{◌≡◌, ◌==◌, ◌<◌, ◌^◌, false, reverse, length, List, [], ◌∷◌, ℕ, OnOk, OnErr, IsTrue};
 ghost use Rattle.lexical_core.specs.Tree.{Char};
-ghost use Rattle.markup.specs.Token.{Token, StartTag, Start, End, LineEnd, Line, Character};
+ghost use Rattle.markup.specs.Token.{Token, StartTag, Start, End, LineEnd, Line};
 ghost use Rattle.markup.specs.Events.{opening, open_tags, spelled_name};
 ghost use Rattle.markup.specs.EventItems.{Tells, TellsFront, item_of};
 ghost use Rattle.markup.specs.TokenRules.{inner_rule, inside_alone, inner_items, brackets_by, one_more, ends_tag};
 ghost use Rattle.markup.specs.Contexts.{IsContext, TokenTaken, HasOpen, without_brackets, with_brackets};
 ghost use Rattle.markup.specs.Inputs.{settled_tokens, settled_events};
-ghost use Rattle.markup.specs.Marks.{in_cdata, tag_limit, begins_with};
-ghost use Rattle.markup.specs.PlainTags.{joined_text, tag_text, may_be_named, IsInsideOf, tags_behind, IsTagAt, IsTagInside};
+ghost use Rattle.markup.specs.Marks.{in_cdata};
+ghost use Rattle.markup.specs.PlainTags.{IsInsideOf, tags_behind};
 ghost use Rattle.markup.specs.Scopes.{IsScope, placed_at};
 ghost use Rattle.markup.specs.ScanRuns.{ended_of, draft_of};
 ghost use Rattle.markup.specs.Faults.{is_over, is_outside};
@@ -29,7 +29,7 @@ use std::alloc::{AllocError, Global};
 /// What stands before a token.
 #[derive(Drop)]
 pub(crate) struct Context {
-    scope: Scope,
+    pub(crate) scope: Scope,
     /// Whether the root's start tag has come.
     has_root: bool,
     /// How many literal `]` stand last, 2 at most.
@@ -121,26 +121,6 @@ impl Context {
         } else {
             2
         };
-    }
-
-    /// The prefix of the innermost element, where one is open.
-    #[inline]
-    pub(crate) fn innermost_prefix(&self) -> Option<&[u8]>
-        ensures some { (tags : List Opening) → IsScope self.now.scope tags → IfSome result (λ prefix. (opened : List ℕ) × IsInsideOf tags (record { prefix = prefix.now; local = opened })) }
-        ensures all { (tags : List Opening) (name : Spelled) → IsScope self.now.scope tags → IsInsideOf tags name → IsSomeAnd result (λ prefix. prefix.now ≡ name.prefix) }
-    {
-        self.scope.innermost_prefix()
-    }
-
-    /// The plain tag at the front of the piece that breaks no rule, with the prefix of the innermost
-    /// element.
-    #[inline]
-    pub(crate) fn tag_at<'a>(&self, piece: &'a [u8]) -> Option<PlainTag<'a>>
-        ensures found { IfSome result (λ tag. (opened : List ℕ) × IsTagAt piece.now tag.prefix.now opened tag.kind tag.name.now tag.bytes) }
-        ensures only { (tags : List Opening) → IsScope self.now.scope tags → IfSome result (λ tag. IsTagInside piece.now tags tag.prefix.now tag.kind tag.name.now tag.bytes) }
-        ensures all { (tags : List Opening) (prefix opened : List ℕ) (kind : TagKind) (name rest : List ℕ) → IsScope self.now.scope tags → IsInsideOf tags (record { prefix = prefix; local = opened }) → begins_with 47 prefix ≡ false → may_be_named kind opened name → piece.now ≡ tag_text kind (joined_text prefix name) ++ rest → length (tag_text kind (joined_text prefix name)) ≤ tag_limit → IsSome result }
-    {
-        self.scope.tag_at(piece)
     }
 
     /// Takes a plain tag that breaks no rule, with the prefix of the innermost element. Where there is no

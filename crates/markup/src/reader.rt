@@ -1,8 +1,6 @@
 //! A reader of XML that takes a byte at a time, or many at once.
-ghost use Rattle.std.specs.Prelude.{◌≡◌, ◌<◌, ◌≤◌, ◌^◌, ◌+◌, ◌∷◌, ◌++◌, ℕ, List, [], IfOk, IfErr, IfSome, IsSome, OnOk, IsTrue, IsFalse, true, Some, None, Err, false, length, reverse, take};
-ghost use Rattle.std.specs.List.{prefix_len, list_all};
+ghost use Rattle.std.specs.Prelude.{◌≡◌, ◌<◌, ◌≤◌, ◌^◌, ◌+◌, ◌∷◌, ◌++◌, ℕ, List, [], IfOk, IfErr, OnOk, IsTrue, IsFalse, Some, None, Err, false, length, reverse, take};
 ghost use Rattle.lexical_core.specs.declared.rule.Rule.TheVariants.{Truncated};
-ghost use Rattle.markup.specs.Chars.{is_space};
 ghost use Rattle.markup.specs.Token.{Token};
 ghost use Rattle.markup.specs.Marks.{in_cdata, no_limit, IsLimit};
 ghost use Rattle.markup.specs.Faults.{MarkFaultUnder as HasMarkFault};
@@ -10,25 +8,22 @@ ghost use Rattle.markup.specs.ScanRuns.{ended_of, draft_of};
 ghost use Rattle.markup.specs.Contexts.{IsContext};
 ghost use Rattle.markup.specs.TokenRules.{ends_tag};
 ghost use Rattle.markup.specs.Tokenizers.{IsAwaited, FinishesBy, without_draft, handed_out};
-ghost use Rattle.markup.specs.inner.ReaderSteps.{TellsMore, SettlesEvents, TokenAnswered, return_items, IsReaderReady};
-ghost use Rattle.markup.specs.Literals.{is_literal, is_still_space, IsRun, IsFreeRun, characters_from};
+ghost use Rattle.markup.specs.inner.ReaderSteps.{TellsMore, SettlesEvents, TokenAnswered, return_items};
 ghost use Rattle.markup.specs.Events.{open_tags, Placed};
 ghost use Rattle.markup.specs.EventItems.{Tells};
-ghost use Rattle.markup.specs.declared.tag.Opening.{Opening};
-ghost use Rattle.markup.specs.declared.plain_tag.TagKind.{TagKind};
-ghost use Rattle.markup.specs.PlainTags.{joined_text, tag_text, tag_items, name_behind, IsTagAt, IsTagInside};
-ghost use Rattle.markup.specs.Scopes.{IsScope, placed_at};
-ghost use Rattle.markup.specs.Tokenizers.{is_in_text};
-ghost use Rattle.markup.specs.Reading.{bytes_taken, reader_failure, open_token_held, token_length, HasTaken, HasTakenUnder, HasToldUnder, IsInsideUnder, MayTakeTagUnder, MayTakeInsideUnder, Keeps, GoesOnUnder, StopsUnder, IsWhollyUnder, EndsEarlyUnder, RunsOutUnder};
+ghost use Rattle.markup.specs.Reading.{bytes_taken, reader_failure, open_token_held, token_length, HasTaken, HasTakenUnder, HasToldUnder, MayTakeInsideUnder, Keeps, GoesOnUnder, StopsUnder, IsWhollyUnder, EndsEarlyUnder, RunsOutUnder};
 ghost use Rattle.markup.specs.Inputs.{Any, Begins, is_return};
 
 mod attributes;
+mod brackets;
+mod line_ends;
+mod references;
+mod runs;
 mod starts;
+mod tags;
 
 use crate::context::Context;
 use crate::event::Events;
-use crate::literals::{Run, begins_with_bracket, begins_with_markup, blank_length, literal_run};
-use crate::plain_tag::{PlainTag, TagKind};
 use crate::scan::Ended;
 use crate::scope::Stop;
 use crate::tokenizer::{Finish, NO_LIMIT, Progress, Settled, TAG_LIMIT, Tokenizer};
@@ -36,10 +31,6 @@ use lexical_core::Rule;
 use std::alloc::{AllocError, Global};
 use std::error::Error;
 use std::fmt;
-
-mod brackets;
-mod line_ends;
-mod references;
 
 /// A fault of markup: the rule that is broken first, of several at one place the least, and its
 /// place in bytes from 0.
@@ -151,98 +142,6 @@ impl Reader {
         result
     }
 
-    /// Takes the characters at the front of the piece that stand by themselves, where an element is
-    /// open and no token is: tabs, LFs, and those from U+0020 on that XML has, up to the first `<`,
-    /// `&`, `]` or `>`, and to the first that is not whole; or the `]` that stand there, in a CDATA
-    /// section with the character behind them, without which they may begin its end. Each is a
-    /// character at its place, told by their number alone; any other byte is for `take`. It answers how
-    /// many bytes and characters they are, and whether all are white space, and after an error none. It
-    /// takes no memory.
-    pub fn take_characters(&mut self, piece: &[u8]) -> Run
-        requires { reader_failure self.old ≡ None → bytes_taken self.old + length piece.now ≤ 2 ^ 40 }
-        ensures within { result.bytes ≤ length piece.now }
-        ensures only { IsRun (take result.bytes piece.now) result.characters }
-        ensures blank { result.blank ≡ list_all is_space (take result.bytes piece.now) }
-        ensures taken { (limit : ℕ) (bytes : List ℕ) (told : List Placed) → HasTakenUnder limit self.old bytes told →
-            (run : IsRun (take result.bytes piece.now) result.characters) × HasToldUnder limit self.new (bytes ++ take result.bytes piece.now) (told ++ characters_from (length bytes) run.characters) }
-        ensures all { (limit : ℕ) (bytes : List ℕ) (told : List Placed) → IsInsideUnder limit self.old bytes told → prefix_len is_literal piece.now ≤ result.bytes }
-        ensures count { bytes_taken self.new ≡ bytes_taken self.old + result.bytes }
-        ensures failed { reader_failure self.new ≡ reader_failure self.old }
-        ensures again { (e : MarkError) → reader_failure self.old ≡ Some e → (result.bytes ≡ 0) × (result.characters ≡ 0) × (self.new ≡ self.old) }
-    {
-        if begins_with_bracket(piece) {
-            return self.take_brackets(piece);
-        }
-        let run = self.count_characters(piece);
-        if run.bytes > 0 {
-            self.tokenizer.pass(run.bytes as u64);
-            self.context.pass_characters();
-        }
-        run
-    }
-
-    /// Takes the white space at the front of the piece that stands by itself, where an element is open
-    /// and no token is: spaces, tabs and LFs (XML 1.0 §2.3, S). A CR, which an LF may join, is for
-    /// `take`. Each is a character at its place. It answers how many they are, and after an error
-    /// none. It takes no memory.
-    #[inline]
-    pub fn take_blanks(&mut self, piece: &[u8]) -> usize
-        requires { reader_failure self.old ≡ None → bytes_taken self.old + length piece.now ≤ 2 ^ 40 }
-        ensures within { result ≤ length piece.now }
-        ensures only { IsRun (take result piece.now) result }
-        ensures blank { list_all is_space (take result piece.now) ≡ true }
-        ensures taken { (limit : ℕ) (bytes : List ℕ) (told : List Placed) → HasTakenUnder limit self.old bytes told →
-            (run : IsRun (take result piece.now) result) × HasToldUnder limit self.new (bytes ++ take result piece.now) (told ++ characters_from (length bytes) run.characters) }
-        ensures all { (limit : ℕ) (bytes : List ℕ) (told : List Placed) → IsInsideUnder limit self.old bytes told → result ≡ prefix_len is_still_space piece.now }
-        ensures count { bytes_taken self.new ≡ bytes_taken self.old + result }
-        ensures failed { reader_failure self.new ≡ reader_failure self.old }
-        ensures again { (e : MarkError) → reader_failure self.old ≡ Some e → (result ≡ 0) × (self.new ≡ self.old) }
-    {
-        let count = self.count_blanks(piece);
-        if count > 0 {
-            self.tokenizer.pass(count as u64);
-            self.context.pass_characters();
-        }
-        count
-    }
-
-    /// Takes the start tag or end tag that stands whole at the front of the piece, where no token and
-    /// an element is open: without attributes and white space, with the prefix of the innermost element
-    /// or, as that, without one (Namespaces in XML 1.0 §4), in a start tag with a local name of ASCII
-    /// letters, digits, `-`, `.` and `_` (XML 1.0 §3.1). Its events are those that `take` tells, with
-    /// names in the namespace of the innermost element. Any other token is for `take`. Where there is no
-    /// memory, and after an error, it answers as `take` does.
-    pub fn take_tag<'a>(&mut self, piece: &'a [u8]) -> Result<Option<PlainTag<'a>>, MarkError>
-        requires { reader_failure self.old ≡ None → bytes_taken self.old + length piece.now ≤ 2 ^ 40 }
-        ensures none { IfOk result (λ o. o ≡ None → self.new ≡ self.old) }
-        ensures within { IfOk result (λ o. IfSome o (λ tag. (0 < tag.bytes) × (tag.bytes ≤ length piece.now))) }
-        ensures spelled { IfOk result (λ o. IfSome o (λ tag. take tag.bytes piece.now ≡ tag_text tag.kind (joined_text tag.prefix.now tag.name.now))) }
-        ensures taken { (limit : ℕ) (bytes : List ℕ) (told : List Placed) → HasTakenUnder limit self.old bytes told → IfOk result (λ o. IfSome o (λ tag.
-            HasToldUnder limit self.new (bytes ++ take tag.bytes piece.now) (told ++ placed_at (length bytes) (tag_items tag.kind (name_behind told tag.name.now))))) }
-        ensures all { (limit : ℕ) (bytes : List ℕ) (told : List Placed) (kind : TagKind) (prefix name rest : List ℕ) → MayTakeTagUnder limit self.old bytes told kind prefix name → piece.now ≡ tag_text kind (joined_text prefix name) ++ rest → IfOk result (λ o. IsSome o) }
-        ensures count { IfOk result (λ o. IfSome o (λ tag. bytes_taken self.new ≡ bytes_taken self.old + tag.bytes)) }
-        ensures failed { IfErr result (λ e. reader_failure self.new ≡ Some e) }
-        ensures memory { reader_failure self.old ≡ None → IfErr result (λ e. e ≡ MarkError.Memory) }
-        ensures again { (e : MarkError) → reader_failure self.old ≡ Some e → (result ≡ Err e) × (self.new ≡ self.old) }
-    {
-        if let Some(error) = self.failed {
-            return Err(error);
-        }
-        let Some(tag) = self.next_tag(piece) else {
-            return Ok(None);
-        };
-        if self
-            .context
-            .take_plain(tag.kind, tag.prefix, tag.name)
-            .is_err()
-        {
-            self.failed = Some(MarkError::Memory);
-            return Err(MarkError::Memory);
-        }
-        self.tokenizer.pass(tag.bytes as u64);
-        Ok(Some(tag))
-    }
-
     /// Takes bytes at the front of the piece that go on with the open token and end none: of the names
     /// and values of a tag, of a comment, of an instruction, up to the one that ends it and to the
     /// first that is none of ASCII. They show no event. It answers how many they are, 0 where there
@@ -298,73 +197,6 @@ impl Reader {
         ensures failed { reader_failure self.new ≡ reader_failure self.old }
     {
         let _ = self.tokenizer.take_draft();
-    }
-
-    /// The plain tag at the front of the piece, where one may come.
-    #[inline]
-    fn next_tag<'a>(&self, piece: &'a [u8]) -> Option<PlainTag<'a>>
-        ensures ready { IsSome result → is_in_text self.now.tokenizer ≡ true }
-        ensures found { IfSome result (λ tag. (opened : List ℕ) × IsTagAt piece.now tag.prefix.now opened tag.kind tag.name.now tag.bytes) }
-        ensures only { (tags : List Opening) → IsScope self.now.context.scope tags → IfSome result (λ tag. IsTagInside piece.now tags tag.prefix.now tag.kind tag.name.now tag.bytes) }
-        ensures all { (limit : ℕ) (bytes : List ℕ) (told : List Placed) (kind : TagKind) (prefix name rest : List ℕ) → MayTakeTagUnder limit self.now bytes told kind prefix name → piece.now ≡ tag_text kind (joined_text prefix name) ++ rest → IsSome result }
-    {
-        if !self.tokenizer.is_in_text() {
-            return None;
-        }
-        self.context.tag_at(piece)
-    }
-
-    /// The characters at the front of the piece that stand by themselves, where one may come.
-    fn count_characters(&self, piece: &[u8]) -> Run
-        ensures within { result.bytes ≤ length piece.now }
-        ensures only { IsFreeRun (take result.bytes piece.now) result.characters }
-        ensures blank { result.blank ≡ list_all is_space (take result.bytes piece.now) }
-        ensures ready { 0 < result.bytes → IsReaderReady self.now }
-        ensures sound { 0 < result.bytes → reader_failure self.now ≡ None }
-        ensures all { (limit : ℕ) (bytes : List ℕ) (told : List Placed) → IsInsideUnder limit self.now bytes told → prefix_len is_literal piece.now ≤ result.bytes }
-        ensures none { (e : MarkError) → reader_failure self.now ≡ Some e → (result.bytes ≡ 0) × (result.characters ≡ 0) }
-    {
-        let none = Run {
-            bytes: 0,
-            characters: 0,
-            blank: true,
-        };
-        if begins_with_markup(piece) {
-            return none;
-        }
-        if self.failed.is_some() {
-            return none;
-        }
-        if !self.tokenizer.is_ready() {
-            return none;
-        }
-        if !self.context.has_open() {
-            return none;
-        }
-        literal_run(piece)
-    }
-
-    /// How much white space that stands by itself is at the front of the piece, where it may come.
-    #[inline]
-    fn count_blanks(&self, piece: &[u8]) -> usize
-        ensures within { result ≤ length piece.now }
-        ensures only { IsFreeRun (take result piece.now) result }
-        ensures blank { list_all is_space (take result piece.now) ≡ true }
-        ensures ready { 0 < result → IsReaderReady self.now }
-        ensures sound { 0 < result → reader_failure self.now ≡ None }
-        ensures all { (limit : ℕ) (bytes : List ℕ) (told : List Placed) → IsInsideUnder limit self.now bytes told → result ≡ prefix_len is_still_space piece.now }
-        ensures none { (e : MarkError) → reader_failure self.now ≡ Some e → result ≡ 0 }
-    {
-        if self.failed.is_some() {
-            return 0;
-        }
-        if !self.tokenizer.is_ready() {
-            return 0;
-        }
-        if !self.context.has_open() {
-            return 0;
-        }
-        blank_length(piece)
     }
 
     /// The end of the input. It appends no event. It answers Ok where the bytes are whole, and

@@ -103,7 +103,7 @@ impl Reader {
         if !self.tokenizer.is_in_text() {
             return Ok(None);
         }
-        let Some(prefix) = self.context.innermost_prefix() else {
+        let Some(prefix) = self.context.scope.innermost_prefix() else {
             return Ok(None);
         };
         attribute_tag_at(piece, prefix, self.tokenizer.alloc)

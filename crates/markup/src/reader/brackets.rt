@@ -100,13 +100,7 @@ impl Reader {
         ensures sound { 0 < result → reader_failure self.now ≡ None }
         ensures none { (e : MarkError) → reader_failure self.now ≡ Some e → result ≡ 0 }
     {
-        if self.failed.is_some() {
-            return 0;
-        }
-        if !self.tokenizer.is_ready() {
-            return 0;
-        }
-        if !self.context.has_open() {
+        if !self.is_in_content() {
             return 0;
         }
         closed_length(piece)

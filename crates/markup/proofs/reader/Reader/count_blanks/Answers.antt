@@ -1,17 +1,9 @@
-use Rattle.std.proofs.Common.{◌∙◌}
 use Rattle.std.proofs.lemmas.Bool.{both_ways}
-use Rattle.markup.proofs.CharacterRuns.{inside_ready}
 use Rattle.markup.proofs.LiteralRuns.{no_run}
 use Rattle.markup.proofs.reader.Reader.count_blanks.Goals as goal
 
-pub returns-then-not-is_ready-clause-all : goal.returns-then-not-is_ready-clause-all
-returns-then-not-is_ready-clause-all c limit bytes told h = absurd (both_ways c.is_ready.result c.if-not-is_ready.true (c.is_ready.ensures ∙ inside_ready c.args.self.now bytes told h))
+pub returns-then-not-is_in_content-clause-all : goal.returns-then-not-is_in_content-clause-all
+returns-then-not-is_in_content-clause-all c limit bytes told h = absurd (both_ways c.is_in_content.result c.if-not-is_in_content.true (c.is_in_content.ensures.all limit bytes told h))
 
-pub returns-then-is_some-clause-only : goal.returns-then-is_some-clause-only
-returns-then-is_some-clause-only c = no_run
-
-pub returns-then-not-is_ready-clause-only : goal.returns-then-not-is_ready-clause-only
-returns-then-not-is_ready-clause-only c = no_run
-
-pub returns-then-not-has_open-clause-only : goal.returns-then-not-has_open-clause-only
-returns-then-not-has_open-clause-only c = no_run
+pub returns-then-not-is_in_content-clause-only : goal.returns-then-not-is_in_content-clause-only
+returns-then-not-is_in_content-clause-only c = no_run
