@@ -9,6 +9,7 @@ pub mod Ends
 pub mod InputEnds
 pub mod KeptChecks
 pub mod CodeNumbers
+pub mod PlainTexts
 pub mod LeavesJudged
 pub mod ContentsJudged
 pub mod PathsWritten

@@ -15,6 +15,7 @@ ghost use Rattle.der_codec.specs.Reserved.{WantsCheck, HasCheckAt, HasChecks};
 ghost use Rattle.der_codec.specs.Judging.{IsJudged, IsXmlCode, IsNoDate};
 
 use crate::checks::{Checks, Refusal};
+use crate::plain_octets::are_plain;
 use data_types::{Kind, LeafRef, is_date_text};
 use facets::{Codes, Simple, check_number, check_octets};
 use lexical_core::{Rule, read_nr3, xml_run};
@@ -200,9 +201,21 @@ fn no_date(octets: &[u8]) -> Rule
     Rule::BadContents
 }
 
-/// How many characters of XML the octets are in UTF-8; `None` where they are something else.
+/// How many characters of XML the octets are in UTF-8; `None` where they are something else. Mostly each is one by itself.
 #[inline(always)]
 fn characters(octets: &[u8]) -> Option<usize>
+    ensures some { IfSome result (λ count. IsXmlRun octets.now count) }
+    ensures none { IfNone result (IsXmlText octets.now → ⊥) }
+{
+    if are_plain(octets) {
+        return Some(octets.len());
+    }
+    any_characters(octets)
+}
+
+/// The same of any octets.
+#[inline(never)]
+fn any_characters(octets: &[u8]) -> Option<usize>
     ensures some { IfSome result (λ count. IsXmlRun octets.now count) }
     ensures none { IfNone result (IsXmlText octets.now → ⊥) }
 {

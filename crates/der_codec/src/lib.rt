@@ -31,6 +31,7 @@ mod level;
 mod limits;
 mod paths;
 mod pieces;
+mod plain_octets;
 mod reader;
 mod reserved;
 mod room;
