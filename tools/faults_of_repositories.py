@@ -6,7 +6,7 @@ from faults_of_instances import parts_of
 from faults_of_markup import markup_expected
 from pattern_language import PatternFault, read_pattern
 from place import Place
-from repository_file import KINDS, REPOSITORY, texts_of
+from repository_file import COMPONENTS, KINDS, REPOSITORY, texts_of
 from rule_sentences import MARKUP
 from schema_file import XS
 
@@ -15,6 +15,10 @@ NUMBERS = ('minOccurs', 'maxOccurs', 'minLength', 'maxLength', 'length', 'totalD
            'minInclusive', 'maxInclusive', 'minExclusive', 'maxExclusive')
 NEEDED = ('xmi:id', 'xsi:type', 'name')
 MOST_DIGITS = 18
+MOST_OBJECTS, MOST_ELEMENTS, MOST_CODES, MOST_CHARACTERS = 65536, 4096, 65536, 65536
+# Of a way round, so many steps are told, and of a long text so many characters.
+STEPS = 4
+SHOWN = 80
 # Facets of which an entry has one at most, and pairs in order, with whether they may be equal.
 BOTH = [('minInclusive', 'minExclusive'), ('maxInclusive', 'maxExclusive')]
 ORDERED = [('minLength', 'maxLength', True), ('minLength', 'length', True), ('length', 'maxLength', True), ('fractionDigits', 'totalDigits', True),
@@ -82,7 +86,8 @@ def pattern_fault(text):
     try:
         read_pattern(text)
     except PatternFault as fault:
-        return [f'a pattern; of `{text}`: {fault}']
+        shown = text if len(text) <= SHOWN else text[:SHOWN - 1] + '…'
+        return [f'a pattern; of `{shown}`: {fault}']
     return []
 
 
@@ -94,6 +99,8 @@ def message_fault(rule, line, elements, entry, entries):
         if told:
             return element.line, [told]
         tags.add(element.tag)
+    if rule == 'M17':
+        return line, size_expected(elements, entry, entries)
     if rule == 'M13' and entry is not None and 'pattern' in entry.facets:
         return line, pattern_fault(entry.facets['pattern'])
     if rule == 'M3' and entry is not None and entry.currency is not None:
@@ -111,6 +118,8 @@ def owner_expected(rule, entry, entries):
         return [f'an ASCII name in the place of `{entry.name}`']
     if rule == 'M10':
         return ['an alternative']
+    if rule == 'M11':
+        return [f'an end: {way_round(entry, entries)}']
     if rule == 'M12':
         return facets_expected(entry.facets)
     if rule == 'M16':
@@ -144,4 +153,54 @@ def code_expected(texts):
     for number, text in enumerate(texts, 1):
         if not text or text in texts[:number - 1]:
             return [f'another text of the code {number}; it has `{text}`, as an earlier one' if text else f'a text of the code {number}']
+    return []
+
+
+def finite_of(entries):
+    """The ids of the types of which there is a finite instance: all but those that have to hold one of which there is none."""
+    finite = {key for key, it in entries.items() if it.kind not in COMPONENTS}
+    users, wanted = {}, {}
+    for key, entry in entries.items():
+        if key not in finite:
+            needed = {it.reference for it in entry.elements if it.least > 0 or entry.kind == 'ChoiceComponent'}
+            wanted[key] = min(len(needed), 1) if entry.kind == 'ChoiceComponent' else len(needed)
+            for reference in needed:
+                users.setdefault(reference, []).append(key)
+    left = [*finite, *(key for key, count in wanted.items() if count == 0)]
+    finite.update(left)
+    while left:
+        for user in users.get(left.pop(), []):
+            wanted[user] -= 1
+            if wanted[user] == 0:
+                finite.add(user)
+                left.append(user)
+    return finite
+
+
+def way_round(entry, entries):
+    """What an entry without a finite instance has to hold, and that again, up to the first that comes twice."""
+    finite, seen, steps = finite_of(entries), set(), []
+    while entry.name not in seen:
+        seen.add(entry.name)
+        element = next(it for it in entry.elements if it.reference not in finite and (it.least > 0 or entry.kind == 'ChoiceComponent'))
+        inner = entries[element.reference]
+        steps.append(f'{entry.name} has to hold <{element.tag}>, which is of {inner.name}')
+        entry = inner
+    return '; '.join(steps[:STEPS]) + (f'; and {len(steps) - STEPS} more' if len(steps) > STEPS else '')
+
+
+def size_expected(elements, entry, entries):
+    """Which number of a message or an entry is too large."""
+    if len(elements) > MOST_ELEMENTS:
+        return [f'at most {MOST_ELEMENTS:,} elements; here stand {len(elements):,}']
+    if entry is None:
+        return [f'at most {MOST_OBJECTS:,} objects that the message reaches']
+    if len(entry.facets.get('pattern', '')) > MOST_CHARACTERS:
+        return [f'a pattern of at most {MOST_CHARACTERS:,} characters; it has {len(entry.facets["pattern"]):,}']
+    if len(entry.codes) > MOST_CODES:
+        return [f'at most {MOST_CODES:,} codes; here stand {len(entry.codes):,}']
+    texts = texts_of(entries, next(key for key, it in entries.items() if it is entry))
+    for number, text in enumerate(texts, 1):
+        if text and len(text) > MOST_CHARACTERS:
+            return [f'at most {MOST_CHARACTERS:,} characters in the code {number}; it has {len(text):,}']
     return []
