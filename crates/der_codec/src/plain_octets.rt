@@ -6,7 +6,7 @@ ghost use Rattle.der_codec.specs.inner.PlainOctets.{is_plain_octet};
 use lexical_core::{ByteClass, run_length};
 use std::simd::prelude::*;
 
-/// The octets that are characters of XML by themselves, but for those that are control characters.
+/// The octets that are characters of XML by themselves, from U+0020 to U+007F.
 struct Plain;
 
 impl ByteClass for Plain {
@@ -32,7 +32,7 @@ impl ByteClass for Plain {
     }
 }
 
-/// Whether each octet is a character by itself, and none is a control character.
+/// Whether each octet is a character by itself, from U+0020 to U+007F.
 #[inline(always)]
 pub(crate) fn are_plain(octets: &[u8]) -> bool
     ensures { IsTrue result → IsXmlRun octets.now (length octets.now) }
