@@ -105,7 +105,7 @@ named_more kept old new left rest next attr whole popped pushed same was =
 -- ---- all of them
 
 -- the entries are those attributes in the order of their names
-entries_sorted : (tags : List Opening) (plain : List Given) → list_all declares_none plain ≡ true → entries tags plain ≡ sorted_entries (filter_map (entry_under tags) plain)
+pub entries_sorted : (tags : List Opening) (plain : List Given) → list_all declares_none plain ≡ true → entries tags plain ≡ sorted_entries (filter_map (entry_under tags) plain)
 entries_sorted tags [] all = refl
 entries_sorted tags (a ∷ more) all = case (attribute_name tags a.name) (entries_sorted tags more parts.1)
   where
@@ -120,7 +120,7 @@ entries_sorted tags (a ∷ more) all = case (attribute_name tags a.name) (entrie
     case n so = ap (λ b. if b then put_named a.value (attribute_name tags a.name) (entries tags more) else entries tags more) parts.0 ∙ put_in (attribute_name tags a.name) so
 
 -- two attributes clash where two entries have one name
-clash_twins : (tags : List Opening) (plain : List Given) → list_all declares_none plain ≡ true → has_clash tags plain ≡ any_twins (entries tags plain)
+pub clash_twins : (tags : List Opening) (plain : List Given) → list_all declares_none plain ≡ true → has_clash tags plain ≡ any_twins (entries tags plain)
 clash_twins tags [] all = refl
 clash_twins tags (a ∷ more) all =
     let parts = and_parts (declares_none a) (list_all declares_none more) all in

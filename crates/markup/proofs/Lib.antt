@@ -43,7 +43,7 @@ pub mod QualifiedNames
 pub mod StartScans
 pub mod NamesFound
 pub mod StartsFound
-pub mod BareFound
+pub mod AttributesFound
 pub mod CharacterRuns
 mod ClosedBrackets
 pub mod TokenizerLemmas
@@ -73,10 +73,10 @@ pub mod ExpandedLemmas
 pub mod WholeTags
 pub mod ScopeLemmas
 pub mod Twins
-pub mod BareAttributes
-mod OneAttributeLemmas
-pub mod BareTold
+pub mod PlainAttributes
+pub mod AttributesTold
 pub mod SortedAttributes
+pub mod NamedValues
 pub mod OneMarking
 pub mod Stays
 pub mod PlainCharacters

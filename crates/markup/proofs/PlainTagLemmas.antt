@@ -311,5 +311,5 @@ no_slash_here {limit} r bytes told kind prefix name m =
 pub start_here : {limit : ℕ} (r : Reader) (bytes : List ℕ) (told : List Placed) (tag : PlainStart) → MayTakeStartUnder limit r bytes told tag → is_in_text r.tokenizer ≡ true
 start_here r bytes told tag m = text_behind r bytes told m.before m.behind
 
-pub bare_here : {limit : ℕ} (r : Reader) (bytes : List ℕ) (told : List Placed) (tag : PlainStart) → MayTakeAttributesUnder limit r bytes told tag → is_in_text r.tokenizer ≡ true
-bare_here r bytes told tag m = text_behind r bytes told m.before (inside_not_first (reverse m.before.tokens) m.opened m.inside)
+pub told_here : {limit : ℕ} (r : Reader) (bytes : List ℕ) (told : List Placed) (tag : PlainStart) → MayTakeAttributesUnder limit r bytes told tag → is_in_text r.tokenizer ≡ true
+told_here r bytes told tag m = text_behind r bytes told m.before (inside_not_first (reverse m.before.tokens) m.opened m.inside)

@@ -19,7 +19,7 @@ use Rattle.markup.specs.Name.{is_name, name_text}
 use Rattle.markup.specs.Attribute.{Attribute, Literal, is_attribute, is_piece, value_chars, begins_lf, attribute_text}
 use Rattle.markup.specs.Token.{StartTag, Start, token_bytes}
 use Rattle.markup.specs.Marks.{tag_limit}
-use Rattle.markup.specs.Events.{spelled_name, given_attribute as given_by}
+use Rattle.markup.specs.Events.{given_attribute as given_by}
 use Rattle.markup.specs.PlainTags.{begins_plain, continues_plain, is_plain_name, mark_count, closing, slash_kind}
 use Rattle.markup.specs.PlainStarts.{is_plain_qualified, qualified_text, is_quote, is_literal_of}
 use Rattle.markup.specs.inner.WholeStarts.{is_empty_kind, IsNameAt, IsValueAt, IsAttributeAt, AreGiven, IsStartAt}
@@ -117,14 +117,18 @@ module _ (name : Spelled) (q : ℕ) (value : List ℕ) (named : is_plain_qualifi
   attribute_apart behind = ap (λ w. 32 ∷ w)
       (ap (λ w. text ++ 61 ∷ q ∷ w) (sym (append_assoc value (q ∷ []) behind)) ∙ sym (append_assoc text (61 ∷ q ∷ (value ++ q ∷ [])) behind))
 
+-- what an attribute of this name and this value gives
+abbrev pub given_so : Spelled → List ℕ → Given
+given_so name value = record { name = name; value = value }
+
 -- bytes begin with one attribute
-pub one_attribute : (bytes : List ℕ) (n m : Spelled) (v w b d : List ℕ) → IsAttributeAt bytes n v b → IsAttributeAt bytes m w d → n ≡ m
-one_attribute bytes n m v w b d s t =
+pub one_given : (bytes : List ℕ) (n m : Spelled) (v w b d : List ℕ) → IsAttributeAt bytes n v b → IsAttributeAt bytes m w d → given_so n v ≡ given_so m w
+one_given bytes n m v w b d s t =
     let there : (k : Spelled) (u c : List ℕ) (a : IsAttributeAt bytes k u c) → attribute_text (attribute_of k a.quote u) ++ c ≡ bytes =
     λ k u c a. ap (λ x. x ++ c) (attribute_spelled k a.quote u a.named a.quoted a.literal) ∙ (sym (attribute_apart k a.quote u a.named a.quoted a.literal c) ∙ sym a.spelled) in
     let same : attribute_of n s.quote v ≡ attribute_of m t.quote w =
     (attribute_agree (attribute_of n s.quote v) (attribute_of m t.quote w) b d (attribute_is n s.quote v s.named s.quoted s.literal) (attribute_is m t.quote w t.named t.quoted t.literal) (there n v b s ∙ sym (there m w d t))).0 in
-    sym (qualified_says n s.named) ∙ (ap (λ (a : Attribute). spelled_name a.name) same ∙ qualified_says m t.named)
+    sym (attribute_gives n s.quote v s.named s.quoted s.literal) ∙ (ap given_by same ∙ attribute_gives m t.quote w t.named t.quoted t.literal)
 
 -- ---- attributes, one after another
 

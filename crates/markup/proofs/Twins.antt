@@ -49,6 +49,17 @@ named_same x y e =
     let second : x.name.local ≡ y.name.local = (bytes_eq-Decides x.name.local y.name.local).0 parts.1 in
     ap (λ (n : List ℕ). record { namespace = n; local = x.name.local }) first ∙ ap (λ (l : List ℕ). record { namespace = y.name.namespace; local = l }) second
 
+then_equal : (r s : Ordering) → is_eq (ordering_then r s) ≡ (is_eq r && is_eq s)
+then_equal Less s = refl
+then_equal Equal s = refl
+then_equal Greater s = refl
+
+-- one name is one that ties
+pub named_tied : (n : Expanded) (e : Entry) → is_eq (name_cmp n e.name) ≡ is_named n e
+named_tied n e =
+    then_equal (slice_cmp nat_cmp n.namespace e.name.namespace) (slice_cmp nat_cmp n.local e.name.local) ∙ (ap (λ b. b && is_eq (slice_cmp nat_cmp n.local e.name.local)) (is_eq-slice_cmp n.namespace e.name.namespace)
+    ∙ ap (λ b. bytes_eq n.namespace e.name.namespace && b) (is_eq-slice_cmp n.local e.name.local))
+
 named_back : (x y : Entry) → is_named x.name y ≡ is_named y.name x
 named_back x y = ap (λ b. b && bytes_eq x.name.local y.name.local) (nat_list_eq_equiv.symm x.name.namespace y.name.namespace) ∙ ap (λ b. bytes_eq y.name.namespace x.name.namespace && b) (nat_list_eq_equiv.symm x.name.local y.name.local)
 

@@ -4,8 +4,7 @@ pub mod ReaderSteps
 pub mod Ranks
 pub mod Origins
 pub mod TagParts
-pub mod OneAttribute
 pub mod WholeStarts
-pub mod BareStarts
+pub mod ToldStarts
 pub mod Numbers
 pub mod ClosedBrackets

@@ -43,12 +43,12 @@ impl Parted {
         ensures declared { (before : List Given) → Binds bindings.old before → IfOk result (λ parts. AreDeclared before given parts bindings.new) }
     {
         let outer = bindings.count();
+        let mut left = given.into_vec();
         let mut parts = Parted {
-            attributes: Vec::new(alloc),
+            attributes: Vec::with_capacity(alloc, left.len())?,
             has_clash: false,
             is_bad: false,
         };
-        let mut left = given.into_vec();
         while let Some(last) = left.pop() {
             parts.add(last, outer, bindings, alloc)?;
         }
@@ -106,7 +106,7 @@ impl Collected {
         ensures { (tags : List Opening) → Binds bindings.now (all_declarations tags) → IfOk result (IsCollected tags (reverse attributes.items) bindings.now) }
     {
         let mut collected = Collected {
-            attrs: Vec::new(alloc),
+            attrs: Vec::with_capacity(alloc, attributes.len())?,
             is_unbound: false,
         };
         while let Some(next) = attributes.pop() {
@@ -187,7 +187,7 @@ fn named(
 ) -> Result<Vec<Attr>, AllocError>
     ensures { IfOk result (λ named. map entry_of named.items ≡ map (entry_from bindings.now) attrs.items) }
 {
-    let mut named = Vec::new(alloc);
+    let mut named = Vec::with_capacity(alloc, attrs.len())?;
     attrs.as_mut_slice().reverse();
     while let Some(next) = attrs.pop() {
         let ns = bindings.share(next.origin)?;

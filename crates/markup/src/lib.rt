@@ -6,11 +6,12 @@
 //! with the meaning of one after the other, and leave the rest to `take`: `take_characters` a run of characters inside an
 //! element (`Run`), `take_blanks` one of white space alone, `take_reference` a whole reference (`CharacterReference`),
 //! `take_line_end` a CR LF, `take_tag` a whole tag without attributes (`PlainTag`), `take_attribute_tag` a whole start tag
-//! whose attributes have no prefix, declare nothing and stand in the order of their names (`AttributeTag`), both with the
-//! prefix of the innermost element or, as that, without one, `take_inside` bytes with which the open tag, comment or
-//! instruction goes on, and which show no event. They append none: what they answer says which there are. `take_start` takes
-//! a whole start tag with its prefixes and attributes, and appends its events. `token` says how many bytes are held of the
-//! names and values of the open tag, `depth` how many elements are open.
+//! whose attributes declare nothing (`AttributeTag`), both with the prefix of the innermost element or, as that, without
+//! one, `take_inside` bytes with which the open tag, comment or instruction goes on, and which show no event. They append
+//! none: what they answer says which there are. `take_start` takes a whole start tag with its prefixes, declarations and
+//! attributes, and appends its events. `tag_attributes` hands on the attributes of an event as those of an `AttributeTag`,
+//! and `value_of` finds one by its name. `place` says how many bytes were taken, `token` how many are held of the names and
+//! values of the open tag, `depth` how many elements are open.
 //!
 //! Of `<q:a xmlns:q="u">x</q:a>` the events are the start of `a` in the namespace `u` at 0, the character `x` at 17 and the
 //! end of `a` at 18. A `Namespace` is shared by all that stands in it: a copy takes no memory of its own. `laws` says that
@@ -33,9 +34,9 @@ mod inside;
 pub mod laws;
 mod literals;
 mod name_block;
+mod named_values;
 mod names;
 mod namespace;
-mod one_attribute;
 mod open_bindings;
 mod open_names;
 mod origin;
@@ -54,6 +55,7 @@ mod word;
 pub use attribute_tag::{AttributeTag, TagAttribute};
 pub use event::{Attr, Attrs, Event, Events, What};
 pub use literals::Run;
+pub use named_values::{tag_attributes, value_of};
 pub use namespace::Namespace;
 pub use plain_tag::{PlainTag, TagKind};
 pub use reader::{MarkError, MarkFault, Reader};

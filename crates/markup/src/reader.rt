@@ -178,6 +178,13 @@ impl Reader {
         self.context.depth()
     }
 
+    /// How many bytes were taken.
+    pub fn place(&self) -> u64
+        ensures { result ≡ bytes_taken self.now }
+    {
+        self.tokenizer.place()
+    }
+
     /// How many bytes are held for the open token: those of the names and values that a tag has said
     /// so far. It takes no memory.
     pub fn token(&self) -> u64

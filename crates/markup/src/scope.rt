@@ -15,7 +15,6 @@ use crate::attributes::{Expanded, Parted};
 use crate::bindings::Bindings;
 use crate::event::{Attrs, Events};
 use crate::namespace::Namespace;
-use crate::one_attribute::{is_one_plain, only_attr};
 use crate::open_names::{InnermostName, OpenNames};
 use crate::plain_tag::{PlainTag, TagKind, tag_at};
 use crate::tag::{Given, Opening, Spelled};
@@ -51,12 +50,11 @@ pub(crate) struct Scope {
     alloc: Global,
     names: OpenNames,
     /// The declarations of the open tags.
-    bindings: Bindings,
+    pub(crate) bindings: Bindings,
 }
 
 impl Scope {
     ghost use Rattle.markup.specs.Scopes.{IsScope, IsStartAnswer, Closes};
-    ghost use Rattle.markup.specs.inner.OneAttribute.{IsOnePlain};
     ghost use Rattle.markup.specs.inner.TagParts.{IsResolved};
 
     /// No element is open. It takes no memory.
@@ -137,32 +135,6 @@ impl Scope {
 
     /// Takes up the declarations of a start tag, and expands its names.
     fn resolve(&mut self, name: &Spelled, given: Items<Given>) -> Result<Resolved, AllocError>
-        ensures { (tags : List Opening) (tag : Opening) → IsScope self.old tags → tag.name ≡ name.now → tag.given ≡ given → IfOk result (λ r. IsResolved tags tag r self.new) }
-    {
-        if is_one_plain(&given) {
-            return self.resolve_one(name, given);
-        }
-        self.resolve_all(name, given)
-    }
-
-    /// Expands the names of a start tag with one attribute, which has no prefix and declares no namespace.
-    fn resolve_one(&self, name: &Spelled, given: Items<Given>) -> Result<Resolved, AllocError>
-        requires { IsOnePlain given }
-        ensures { (tags : List Opening) (tag : Opening) → IsScope self.now tags → tag.name ≡ name.now → tag.given ≡ given → IfOk result (λ r. IsResolved tags tag r self.now) }
-    {
-        let namespace = self.bindings.namespace_of(name.prefix.bytes())?;
-        let attrs = only_attr(given, self.alloc)?;
-        Ok(Resolved {
-            namespace,
-            attrs,
-            declared: 0,
-            has_clash: false,
-            is_bad: false,
-        })
-    }
-
-    /// The same of any start tag, whose declarations and attributes are taken apart.
-    fn resolve_all(&mut self, name: &Spelled, given: Items<Given>) -> Result<Resolved, AllocError>
         ensures { (tags : List Opening) (tag : Opening) → IsScope self.old tags → tag.name ≡ name.now → tag.given ≡ given → IfOk result (λ r. IsResolved tags tag r self.new) }
     {
         let outer = self.bindings.count();

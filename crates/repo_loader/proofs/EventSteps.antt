@@ -1,9 +1,10 @@
 -- What is read grows with each event.
-use Rattle.std.proofs.Common.{◌≡◌, ℕ, List, [], ◌∷◌, ◌++◌, length, map, reverse, drop, ◌+◌, Option, Some, None, refl, sym, ap, ◌∙◌, subst, append_assoc, append-nil}
+use Rattle.std.proofs.Common.{◌≡◌, ℕ, true, false, List, [], ◌∷◌, ◌++◌, length, map, reverse, drop, ◌+◌, Option, Some, None, refl, sym, ap, ◌∙◌, subst, append_assoc, append-nil}
 use Rattle.std.specs.Char.{encode_utf8}
+use Rattle.std.specs.Option.{is_some}
 use Rattle.std.specs.Prelude.{option_to_list}
 use Rattle.std.proofs.lemmas.List.{map-append, reverse-append}
-use Rattle.lexical_core.specs.Tree.{Expanded, Entry as Attribute, Starts}
+use Rattle.lexical_core.specs.Tree.{Expanded, Entry as Attribute, Starts, Ends}
 use Rattle.markup.specs.Events.{Placed}
 use Rattle.markup.specs.EventItems.{placed_event}
 use Rattle.markup.specs.Literals.{characters_from}
@@ -15,7 +16,7 @@ use Rattle.repo_loader.specs.declared.selection.Selection.{Selection}
 use Rattle.repo_loader.specs.Selected.{FileTag, PlacedTag, part_in, tag_if, innermost, item_tags, parts_open_behind, placed_tags, event_tags, parts_open_after}
 use Rattle.repo_loader.specs.FileFaults.{AreSoundTags, IsFirstBroken, tags_of}
 use Rattle.repo_loader.specs.inner.LoadingSteps.{HasTags}
-use Rattle.repo_loader.specs.inner.SelectionSteps.{tags_told, CanEnd, HasLoaded, IsBrokenBy}
+use Rattle.repo_loader.specs.inner.SelectionSteps.{tags_told, CanEnd, HasLoaded, IsBrokenBy, LoadsOn}
 use Rattle.repo_loader.specs.inner.Stops.{IsSoundTag, IsLeastTagRule}
 use Rattle.repo_loader.proofs.EventTags.{event_tags_append, open_after_append, event_tags_snoc, sound_snoc}
 use Rattle.repo_loader.proofs.FirstBroken.{first_of_more}
@@ -116,6 +117,17 @@ broken_more told more fault h = record {
   first = subst (λ (ts : List PlacedTag). IsFirstBroken ts fault.rule fault.place) (sym (event_tags_append [] told more)) (first_of_more (event_tags [] told) (event_tags (parts_open_after [] told) more) fault.rule fault.place h.first);
   no_markup = h.no_markup;
 }
+
+-- a fault that the first of several events shows
+pub broken_on : (s : Selection) (told more : List Placed) (e : Placed) (o : Option LoadFault) → is_some o ≡ true → LoadsOn s (told ++ e ∷ []) o → LoadsOn s (told ++ e ∷ more) o
+broken_on s told more e None h l = absurd cc
+broken_on s told more e (Some fault) h l = subst (λ es. IsBrokenBy es fault) (append_assoc told (e ∷ []) more) (broken_more (told ++ e ∷ []) more fault l)
+
+-- none that it shows, and an end behind it
+pub ends_behind : (old new : Selection) (told : List Placed) (e : Placed) (place : ℕ) (name : Expanded) (o : Option LoadFault) → is_some o ≡ false → LoadsOn old (told ++ e ∷ []) o
+    → ((so_far : List Placed) → HasLoaded old so_far → HasLoaded new (so_far ++ (record { place = place; item = Ends name }) ∷ [])) → HasLoaded new (told ++ e ∷ (record { place = place; item = Ends name }) ∷ [])
+ends_behind old new told e place name None h l ends = subst (HasLoaded new) (append_assoc told (e ∷ []) (record { place = place; item = Ends name } ∷ [])) (ends (told ++ e ∷ []) l)
+ends_behind old new told e place name (Some fault) h l ends = absurd cc
 
 -- the events before the rest are read
 pub record LoadedSoFar (s : Selection) (told : List Placed) (all rest : List Event) : Type 0 where

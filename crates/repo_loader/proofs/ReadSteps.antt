@@ -1,13 +1,17 @@
 -- A repository file that is read a byte at a time: what its events say is read as they come.
-use Rattle.std.proofs.Common.{◌≡◌, ℕ, ◌+◌, ◌-◌, ◌<◌, ◌≤◌, suc, zero, List, [], ◌∷◌, ◌++◌, length, map, take, drop, Option, Some, None, refl, sym, ap, ◌∙◌, subst, append_assoc, append-nil, length-append, inl, inr, arith}
+use Rattle.std.proofs.Common.{◌≡◌, ℕ, ◌+◌, ◌-◌, ◌<◌, ◌≤◌, suc, zero, Bool, true, false, List, [], ◌∷◌, ◌++◌, length, map, take, drop, Option, Some, None, refl, sym, ap, ◌∙◌, subst, append_assoc, append-nil, length-append, inl, inr, arith}
 use Rattle.std.specs.List.{AllByRecursion, flat_map}
 use Rattle.std.specs.Prelude.{Result, Ok, Err, IfOk, IfNone, IfSome}
+use Rattle.std.proofs.lemmas.Bool.{both_ways}
+use Rattle.std.proofs.lemmas.Bool.Decides.{nat_tests}
 use Rattle.std.proofs.lemmas.List.{take-append-drop, length-take-le}
 use Rattle.lexical_core.specs.declared.rule.Rule.TheVariants.{Truncated}
 use Rattle.lexical_core.proofs.Lists.{take_past}
 use Rattle.markup.specs.Token.{Token, token_bytes}
 use Rattle.markup.specs.Marks.{Front, tag_limit}
-use Rattle.markup.specs.Events.{Placed, events}
+use Rattle.lexical_core.specs.Tree.{Expanded, Entry as Attribute}
+use Rattle.markup.specs.Events.{Placed, events, start_tag_items}
+use Rattle.markup.specs.Scopes.{placed_at}
 use Rattle.markup.specs.EventItems.{placed_event, Tells}
 use Rattle.markup.specs.Faults.{Fault, MarkFault, IsClean, Next}
 use Rattle.markup.specs.Literals.{IsRun, characters_from}
@@ -23,9 +27,11 @@ use Rattle.repo_loader.specs.declared.progress.Progress.{Progress}
 use Rattle.repo_loader.specs.Selected.{event_tags}
 use Rattle.repo_loader.specs.FileFaults.{AreSoundTags, IsFirstBroken}
 use Rattle.repo_loader.specs.Loaded.{file_limit, token_tags, HasLoadFault, Spells, broken, markup}
+use Rattle.repo_loader.specs.inner.LoadingSteps.{AreTexts}
 use Rattle.repo_loader.specs.inner.SelectionSteps.{HasItemTexts, HaveTexts, HasLoaded, IsBrokenBy, LoadsOn}
-use Rattle.repo_loader.specs.declared.progress.Front.TheVariants.{Breaks}
-use Rattle.repo_loader.specs.inner.ProgressSteps.{markup_fault, HasReadFile, HasAll, TellsFault, ShowsLoadFault, ReadsOn, ReadsFront}
+use Rattle.repo_loader.specs.declared.progress.Front.{Front as FrontRead}
+use Rattle.repo_loader.specs.declared.progress.Front.TheVariants.{Read, Breaks}
+use Rattle.repo_loader.specs.inner.ProgressSteps.{markup_fault, HasReadFile, HasAll, TellsFault, ShowsLoadFault, ReadsOn, ReadsFront, is_front}
 use Rattle.repo_loader.proofs.Texts.{events_texts}
 use Rattle.repo_loader.proofs.EventSteps.{run_loaded}
 use Rattle.repo_loader.proofs.OneLoadFault.{front_before}
@@ -235,3 +241,26 @@ none_read p bytes piece n e h = subst (HasReadFile p) (append-nil bytes) (subst 
 pub front_broken : (new : Progress) (bytes piece : List ℕ) (n : ℕ) (fault : LoadFault) → ReadsOn new (bytes ++ take n piece) (Some fault) → ReadsFront new bytes piece (Breaks fault)
 front_broken new bytes piece n fault h =
     subst (λ v. ShowsLoadFault v fault) (append_assoc bytes (take n piece) (drop n piece) ∙ ap (λ v. bytes ++ v) (take-append-drop n piece)) (shows_more (bytes ++ take n piece) (drop n piece) fault h)
+
+-- ---- a start tag that was taken whole
+
+pub tag_texts : (reader : Reader) (bytes : List ℕ) (told : List Placed) (place : ℕ) (name : Expanded) (es : List Attribute) (is_empty : Bool) → HasTold reader bytes (told ++ placed_at place (start_tag_items (Some name) es is_empty)) → AreTexts es
+tag_texts reader bytes told place name es is_empty g =
+    (texts_behind told (placed_at place (start_tag_items (Some name) es is_empty))
+    (subst PlacedTexts (sym g.are_events.3) (events_texts tag_limit [] 0 bytes g.are_events.0 g.are_events.1.rest g.are_events.1.front))).0
+
+pub tag_read : (old new : Progress) (bytes piece : List ℕ) (n : ℕ) (more : List Placed) (h : HasReadFile old bytes) → HasTold new.reader (bytes ++ take n piece) (h.told ++ more) → n ≤ length piece
+    → bytes_taken new.reader ≡ bytes_taken old.reader + n → new.events ≡ old.events → (o : Option LoadFault) → LoadsOn new.selection (h.told ++ more) o → ReadsOn new (bytes ++ take n piece) o
+tag_read old new bytes piece n more h g within counted same None l = record {
+  told = h.told ++ more;
+  given = g.taken_are;
+  counted = counted ∙ (ap (λ v. v + n) h.counted ∙ (ap (λ v. length bytes + v) (sym (length-take-le n piece within)) ∙ sym (length-append bytes (take n piece))));
+  loaded = l;
+  none = same ∙ h.none;
+}
+tag_read old new bytes piece n more h g within counted same (Some fault) b = broken_shows (bytes ++ take n piece) (h.told ++ more) fault (events_stay new.reader (bytes ++ take n piece) (h.told ++ more) g.taken_are) b
+
+-- where none stands there, nothing was read
+pub none_front : (p : Progress) (bytes piece : List ℕ) (f : FrontRead) → is_front f ≡ false → ReadsFront p bytes piece f → HasReadFile p bytes
+none_front p bytes piece (Read n) e r = let none : n ≡ 0 = grind (arith, nat_tests) in none_read p bytes piece n none r
+none_front p bytes piece (Breaks fault) e r = absurd (both_ways true e refl)

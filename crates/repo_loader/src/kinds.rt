@@ -1,11 +1,10 @@
 //! The kinds of entries by their words.
 ghost use Rattle.std.specs.Prelude.{◌≡◌, map};
-ghost use Rattle.markup.specs.EventItems.{entry_of};
+ghost use Rattle.markup.specs.AttributeTags.{tag_entry};
 ghost use Rattle.repo_loader.specs.FileValues.{kind_in, kind_words, date_words, component_words};
 ghost use Rattle.repo_loader.specs.FileValues.{behind_colon as spec_behind_colon, word_of as spec_word_of};
 
-use crate::names::value_of;
-use markup::Attr;
+use markup::{TagAttribute, value_of};
 use repo_objects::{Kinds, ObjectKind};
 
 /// The kind of that word.
@@ -88,8 +87,8 @@ fn behind_colon(text: &[u8]) -> &[u8]
 }
 
 /// The word for the kind of an entry.
-pub fn word_of(attributes: &[Attr]) -> &[u8]
-    ensures { result.now ≡ spec_word_of (map entry_of attributes.now) }
+pub fn word_of<'a>(attributes: &[TagAttribute<'a>]) -> &'a [u8]
+    ensures { result.now ≡ spec_word_of (map tag_entry attributes.now) }
 {
     match value_of(
         attributes,

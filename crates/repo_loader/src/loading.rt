@@ -2,7 +2,7 @@
 ghost use Rattle.std.specs.Prelude.{◌≡◌, ◌↔◌, [], ◌∷◌, ◌++◌, List, OnOk, IfOk, IfErr, IfSome, IsTrue, true, false, None, Some, map, codes};
 ghost use Rattle.std.specs.Option.{is_some};
 ghost use Rattle.lexical_core.specs.Names.{attribute_value as spec_value_of};
-ghost use Rattle.markup.specs.EventItems.{entry_of};
+ghost use Rattle.markup.specs.AttributeTags.{tag_entry};
 ghost use Rattle.repo_loader.specs.declared.part.Part.TheVariants.{Entry as EntryPart, Message as MessagePart};
 ghost use Rattle.repo_loader.specs.FileNames.{own, id_name, type_name};
 ghost use Rattle.repo_loader.specs.Selected.{FileTag};
@@ -10,12 +10,11 @@ ghost use Rattle.repo_loader.specs.inner.Stops.{IsSoundTag, TellsStop, TellsNumb
 ghost use Rattle.repo_loader.specs.inner.LoadingSteps.{AreTexts, entry_list, CanClose, with_element, with_code, HasObjects, OpensEntry, HasIdIn, CanCloseMessage, open_messages, HasMessages, with_block, with_identifier, TakesOther, HasTags};
 ghost use Rattle.repo_loader.specs.File.{is_entry, contents_of};
 
-use crate::names::value_of;
 use crate::part::Part;
 use crate::reading::{code_in, copied, element_in, identifier_in, message_in, object_in};
 use crate::stop::Stop;
 use lexical_core::Text;
-use markup::Attr;
+use markup::{TagAttribute, value_of};
 use repo_objects::{CodeDef, ElementDef, MessageDef, Object, ObjectKind, Repository};
 use std::alloc::{AllocError, Global};
 use std::mem;
@@ -45,12 +44,12 @@ pub struct Loading {
 }
 
 /// The id of an entry, where it, a type and a name are there.
-fn whole_id(attributes: &[Attr]) -> Option<&[u8]>
-    ensures some { IfSome result (λ id. (spec_value_of id_name (map entry_of attributes.now) ≡ Some id.now)
-        × (is_some (spec_value_of type_name (map entry_of attributes.now)) ≡ true)
-        × (is_some (spec_value_of (own (codes "name")) (map entry_of attributes.now)) ≡ true)) }
-    ensures none { result ≡ None → (is_some (spec_value_of type_name (map entry_of attributes.now)) ≡ true)
-        → (is_some (spec_value_of (own (codes "name")) (map entry_of attributes.now)) ≡ true) → spec_value_of id_name (map entry_of attributes.now) ≡ None }
+fn whole_id<'a>(attributes: &[TagAttribute<'a>]) -> Option<&'a [u8]>
+    ensures some { IfSome result (λ id. (spec_value_of id_name (map tag_entry attributes.now) ≡ Some id.now)
+        × (is_some (spec_value_of type_name (map tag_entry attributes.now)) ≡ true)
+        × (is_some (spec_value_of (own (codes "name")) (map tag_entry attributes.now)) ≡ true)) }
+    ensures none { result ≡ None → (is_some (spec_value_of type_name (map tag_entry attributes.now)) ≡ true)
+        → (is_some (spec_value_of (own (codes "name")) (map tag_entry attributes.now)) ≡ true) → spec_value_of id_name (map tag_entry attributes.now) ≡ None }
 {
     value_of(
         attributes,
@@ -94,8 +93,8 @@ impl Loading {
     }
 
     /// Whether an object has the id that the attributes say.
-    fn has_id_of(&self, attributes: &[Attr]) -> bool
-        ensures { IsTrue result ↔ HasIdIn self.now.repository.objects (spec_value_of id_name (map entry_of attributes.now)) }
+    fn has_id_of(&self, attributes: &[TagAttribute<'_>]) -> bool
+        ensures { IsTrue result ↔ HasIdIn self.now.repository.objects (spec_value_of id_name (map tag_entry attributes.now)) }
     {
         match value_of(attributes, b"http://www.omg.org/XMI", b"id") {
             Some(id) => self.repository.object(id).is_some(),
@@ -104,14 +103,14 @@ impl Loading {
     }
 
     /// Takes the tag of an entry of the kind.
-    fn take_entry(&mut self, kind: ObjectKind, attributes: &[Attr]) -> Result<(), Stop>
+    fn take_entry(&mut self, kind: ObjectKind, attributes: &[TagAttribute<'_>]) -> Result<(), Stop>
         requires closes { CanClose self.old }
-        requires texts { AreTexts (map entry_of attributes.now) }
+        requires texts { AreTexts (map tag_entry attributes.now) }
         ensures can_close { OnOk result (CanClose self.new) }
         ensures messages { OnOk result (self.new.repository.messages ≡ self.old.repository.messages) }
         ensures message { OnOk result (self.new.message ≡ self.old.message) }
-        ensures ok { (tags : List FileTag) → HasObjects self.old tags → OnOk result (OpensEntry self.old self.new kind (map entry_of attributes.now) × IsSoundTag tags (record { part = EntryPart kind; attributes = map entry_of attributes.now })) }
-        ensures err { (tags : List FileTag) → HasObjects self.old tags → IfErr result (λ e. TellsStop tags (record { part = EntryPart kind; attributes = map entry_of attributes.now }) e) }
+        ensures ok { (tags : List FileTag) → HasObjects self.old tags → OnOk result (OpensEntry self.old self.new kind (map tag_entry attributes.now) × IsSoundTag tags (record { part = EntryPart kind; attributes = map tag_entry attributes.now })) }
+        ensures err { (tags : List FileTag) → HasObjects self.old tags → IfErr result (λ e. TellsStop tags (record { part = EntryPart kind; attributes = map tag_entry attributes.now }) e) }
     {
         self.close_entry()?;
         if self.has_id_of(attributes) {
@@ -169,12 +168,12 @@ impl Loading {
     }
 
     /// Takes the tag of a message.
-    fn take_message(&mut self, attributes: &[Attr]) -> Result<(), AllocError>
+    fn take_message(&mut self, attributes: &[TagAttribute<'_>]) -> Result<(), AllocError>
         requires closes { CanCloseMessage self.old.message }
-        requires texts { AreTexts (map entry_of attributes.now) }
+        requires texts { AreTexts (map tag_entry attributes.now) }
         ensures can_close { OnOk result (CanCloseMessage self.new.message) }
         ensures ok { (tags : List FileTag) → HasMessages self.old.message self.old.repository.messages tags
-            → OnOk result (HasMessages self.new.message self.new.repository.messages (tags ++ (record { part = MessagePart; attributes = map entry_of attributes.now }) ∷ [])) }
+            → OnOk result (HasMessages self.new.message self.new.repository.messages (tags ++ (record { part = MessagePart; attributes = map tag_entry attributes.now }) ∷ [])) }
         ensures objects { OnOk result (self.new.repository.objects ≡ self.old.repository.objects) }
         ensures entry { self.new.entry ≡ self.old.entry }
     {
@@ -213,10 +212,10 @@ impl Loading {
     }
 
     /// Takes the tag of what is no entry, no message and no root of another name.
-    fn take_other(&mut self, part: Part, attributes: &[Attr]) -> Result<(), Stop>
+    fn take_other(&mut self, part: Part, attributes: &[TagAttribute<'_>]) -> Result<(), Stop>
         requires { is_entry part ≡ false }
-        ensures ok { OnOk result (TakesOther self.old self.new part (map entry_of attributes.now)) }
-        ensures err { IfErr result (λ e. TellsNumbers part (map entry_of attributes.now) e) }
+        ensures ok { OnOk result (TakesOther self.old self.new part (map tag_entry attributes.now)) }
+        ensures err { IfErr result (λ e. TellsNumbers part (map tag_entry attributes.now) e) }
     {
         match part {
             Part::Element => self.add_element(element_in(self.alloc, attributes, 0)?)?,
@@ -230,14 +229,14 @@ impl Loading {
     }
 
     /// Takes the tag of an element that is read.
-    pub fn take_tag(&mut self, part: Part, attributes: &[Attr]) -> Result<(), Stop>
+    pub fn take_tag(&mut self, part: Part, attributes: &[TagAttribute<'_>]) -> Result<(), Stop>
         requires closes { CanClose self.old }
         requires closes_message { CanCloseMessage self.old.message }
-        requires texts { AreTexts (map entry_of attributes.now) }
+        requires texts { AreTexts (map tag_entry attributes.now) }
         ensures can_close { OnOk result (CanClose self.new) }
         ensures can_close_message { OnOk result (CanCloseMessage self.new.message) }
-        ensures ok { (tags : List FileTag) → HasTags self.old tags → OnOk result (HasTags self.new (tags ++ (record { part = part; attributes = map entry_of attributes.now }) ∷ []) × IsSoundTag tags (record { part = part; attributes = map entry_of attributes.now })) }
-        ensures err { (tags : List FileTag) → HasTags self.old tags → IfErr result (λ e. TellsStop tags (record { part = part; attributes = map entry_of attributes.now }) e) }
+        ensures ok { (tags : List FileTag) → HasTags self.old tags → OnOk result (HasTags self.new (tags ++ (record { part = part; attributes = map tag_entry attributes.now }) ∷ []) × IsSoundTag tags (record { part = part; attributes = map tag_entry attributes.now })) }
+        ensures err { (tags : List FileTag) → HasTags self.old tags → IfErr result (λ e. TellsStop tags (record { part = part; attributes = map tag_entry attributes.now }) e) }
     {
         match part {
             Part::OtherRoot => Err(Stop::Rule(2)),

@@ -1,13 +1,13 @@
 //! What the elements of a repository file are.
 ghost use Rattle.std.specs.Prelude.{◌≡◌, List, map};
 ghost use Rattle.lexical_core.specs.Tree.{Entry as Attribute};
-ghost use Rattle.markup.specs.EventItems.{entry_of};
+ghost use Rattle.markup.specs.AttributeTags.{tag_entry};
 ghost use Rattle.repo_loader.specs.Selected.{part_in as spec_part_in, part_in_entry as spec_part_in_entry, only as spec_only};
 
 use crate::kinds::{kind_of_word, word_of};
 use crate::names::{is_own, is_root};
 use crate::part::Part;
-use markup::Attr;
+use markup::TagAttribute;
 use repo_objects::{Kinds, ObjectKind};
 
 /// The part, where the name is this one.
@@ -66,8 +66,8 @@ fn part_in_message(ns: &[u8], local: &[u8]) -> Part
 }
 
 /// What stands in a data dictionary. The kind is asked of an entry alone.
-fn part_in_dictionary(ns: &[u8], local: &[u8], attributes: &[Attr]) -> Part
-    ensures { result ≡ spec_part_in Part.Dictionary (record { namespace = ns.now; local = local.now }) (map entry_of attributes.now) }
+fn part_in_dictionary(ns: &[u8], local: &[u8], attributes: &[TagAttribute<'_>]) -> Part
+    ensures { result ≡ spec_part_in Part.Dictionary (record { namespace = ns.now; local = local.now }) (map tag_entry attributes.now) }
 {
     if is_own(ns, local, b"topLevelDictionaryEntry") {
         Part::Entry(kind_of_word(word_of(attributes)))
@@ -77,8 +77,8 @@ fn part_in_dictionary(ns: &[u8], local: &[u8], attributes: &[Attr]) -> Part
 }
 
 /// What an element of this name and with these attributes is, by what it stands in.
-pub fn part_in(part: Part, ns: &[u8], local: &[u8], attributes: &[Attr]) -> Part
-    ensures { result ≡ spec_part_in part (record { namespace = ns.now; local = local.now }) (map entry_of attributes.now) }
+pub fn part_in(part: Part, ns: &[u8], local: &[u8], attributes: &[TagAttribute<'_>]) -> Part
+    ensures { result ≡ spec_part_in part (record { namespace = ns.now; local = local.now }) (map tag_entry attributes.now) }
 {
     match part {
         Part::File => {

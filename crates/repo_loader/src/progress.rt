@@ -5,7 +5,7 @@ ghost use Rattle.markup.specs.EventItems.{placed_event};
 ghost use Rattle.markup.specs.Reading.{bytes_taken, IsWholly};
 ghost use Rattle.repo_loader.specs.Loaded.{file_limit, Spells};
 ghost use Rattle.repo_loader.specs.inner.SelectionSteps.{HasLoaded, LoadsOn, HaveTexts};
-ghost use Rattle.repo_loader.specs.inner.ProgressSteps.{HasReadFile, ReadsOn, ReadsFront, TakesSome, FileEndsAs, markup_fault, TellsFault};
+ghost use Rattle.repo_loader.specs.inner.ProgressSteps.{HasReadFile, ReadsOn, ReadsFront, is_front, TakesFront, TakesSome, FileEndsAs, markup_fault, TellsFault};
 
 use crate::fault::LoadFault;
 use crate::selection::Selection;
@@ -23,11 +23,22 @@ pub struct Progress {
 }
 
 /// What the front of a piece is.
+#[derive(Drop)]
 pub enum Front {
     /// So many bytes are read.
     Read(usize),
     /// It shows this fault.
     Breaks(LoadFault),
+}
+
+/// Whether bytes are read, or a fault is shown.
+fn is_front(front: &Front) -> bool
+    ensures { result ≡ is_front front.now }
+{
+    match front {
+        Front::Read(count) => *count > 0,
+        Front::Breaks(_) => true,
+    }
 }
 
 /// The fault of a file whose markup has this one.
@@ -160,6 +171,26 @@ impl Progress {
         }
     }
 
+    /// Takes the start tag with attributes that the reader takes at the front of the piece without a copy;
+    /// no bytes where none stands there.
+    fn take_attribute_tag(&mut self, piece: &[u8]) -> Result<Front, AllocError>
+        requires count { bytes_taken self.old.reader + length piece.now < 2 ^ 40 }
+        requires read { (bytes : List ℕ) × HasReadFile self.old bytes }
+        ensures count { IfOk result (λ f. TakesFront self.old self.new piece.now f) }
+        ensures read { (bytes : List ℕ) → HasReadFile self.old bytes → IfOk result (λ f. ReadsFront self.new bytes piece.now f) }
+    {
+        let place = self.reader.place();
+        let tag = match self.reader.take_attribute_tag(piece) {
+            Ok(Some(tag)) => tag,
+            Ok(None) => return Ok(Front::Read(0)),
+            Err(_) => return Err(AllocError),
+        };
+        match self.selection.take_tag(place, &tag)? {
+            Some(fault) => Ok(Front::Breaks(fault)),
+            None => Ok(Front::Read(tag.bytes)),
+        }
+    }
+
     /// Takes what stands at the front of the piece: characters, or what goes on with the open token,
     /// or a start tag, or else its first byte.
     fn take_front(&mut self, piece: &[u8]) -> Result<Front, AllocError>
@@ -176,6 +207,10 @@ impl Progress {
         let inside = self.take_inside(piece)?;
         if inside > 0 {
             return Ok(Front::Read(inside));
+        }
+        let tag = self.take_attribute_tag(piece)?;
+        if is_front(&tag) {
+            return Ok(tag);
         }
         self.take_token(piece)
     }

@@ -1,7 +1,7 @@
 //! What the attributes of an element say.
 ghost use Rattle.std.specs.Prelude.{◌≡◌, IfOk, OnErr, IfErr, map, codes, []};
 ghost use Rattle.lexical_core.specs.Names.{attribute_value as spec_value_of};
-ghost use Rattle.markup.specs.EventItems.{entry_of};
+ghost use Rattle.markup.specs.AttributeTags.{tag_entry};
 ghost use Rattle.repo_loader.specs.FileNames.{own};
 ghost use Rattle.repo_loader.specs.FileValues.{text_of_attribute as spec_text, reference as spec_reference, facet, count, bound, has_lengths as spec_has_lengths, has_digits as spec_has_digits, least_of, greatest_of, IsCountIfAny, IsBoundIfAny, IsGreatestIfAny, is_endless as spec_is_endless};
 ghost use Rattle.repo_loader.specs.File.{facets as spec_facets, element as spec_element, object as spec_object, code as spec_code, message as spec_message, message_identifier as spec_identifier};
@@ -9,11 +9,10 @@ ghost use Rattle.repo_loader.specs.FileFaults.{HasFacetNumbers, HasOccurrences};
 ghost use Rattle.repo_loader.specs.inner.Stops.{TellsOccurrences, TellsFacets};
 
 use crate::kinds::word_of;
-use crate::names::value_of;
 use crate::stop::{BadNumber, Stop};
 use crate::values::{bound_of, count_of};
-use lexical_core::{Decimal, Text};
-use markup::Attr;
+use lexical_core::{Decimal, Text, are_same};
+use markup::{TagAttribute, value_of};
 use repo_objects::{
     CodeDef, CodeDefs, ElementDef, Elements, Kinds, MessageDef, Object, ObjectKind, RawFacets,
 };
@@ -27,8 +26,12 @@ pub fn copied(alloc: Global, bytes: &[u8]) -> Result<Text, AllocError>
 }
 
 /// The attribute's text, empty where it is absent.
-pub fn text_in(alloc: Global, attributes: &[Attr], name: &[u8]) -> Result<Text, AllocError>
-    ensures { IfOk result (λ t. t ≡ spec_text name.now (map entry_of attributes.now)) }
+pub fn text_in(
+    alloc: Global,
+    attributes: &[TagAttribute<'_>],
+    name: &[u8],
+) -> Result<Text, AllocError>
+    ensures { IfOk result (λ t. t ≡ spec_text name.now (map tag_entry attributes.now)) }
 {
     match value_of(attributes, b"", name) {
         Some(value) => copied(alloc, value),
@@ -39,10 +42,10 @@ pub fn text_in(alloc: Global, attributes: &[Attr], name: &[u8]) -> Result<Text, 
 /// The attribute's text, where it is there and not empty.
 pub fn reference_in(
     alloc: Global,
-    attributes: &[Attr],
+    attributes: &[TagAttribute<'_>],
     name: &[u8],
 ) -> Result<Option<Text>, AllocError>
-    ensures { IfOk result (λ t. t ≡ spec_reference name.now (map entry_of attributes.now)) }
+    ensures { IfOk result (λ t. t ≡ spec_reference name.now (map tag_entry attributes.now)) }
 {
     let Some(value) = value_of(attributes, b"", name) else {
         return Ok(None);
@@ -54,9 +57,13 @@ pub fn reference_in(
 }
 
 /// The number of a facet, where the kind has it.
-pub fn count_in(attributes: &[Attr], has: bool, name: &[u8]) -> Result<Option<u32>, BadNumber>
-    ensures ok { IfOk result (λ n. IsCountIfAny (facet has name.now (map entry_of attributes.now)) × (n ≡ count has name.now (map entry_of attributes.now))) }
-    ensures err { OnErr result (IsCountIfAny (facet has name.now (map entry_of attributes.now)) → ⊥) }
+pub fn count_in(
+    attributes: &[TagAttribute<'_>],
+    has: bool,
+    name: &[u8],
+) -> Result<Option<u32>, BadNumber>
+    ensures ok { IfOk result (λ n. IsCountIfAny (facet has name.now (map tag_entry attributes.now)) × (n ≡ count has name.now (map tag_entry attributes.now))) }
+    ensures err { OnErr result (IsCountIfAny (facet has name.now (map tag_entry attributes.now)) → ⊥) }
 {
     if !has {
         return Ok(None);
@@ -71,9 +78,13 @@ pub fn count_in(attributes: &[Attr], has: bool, name: &[u8]) -> Result<Option<u3
 }
 
 /// The decimal of a facet, where the kind has it.
-pub fn bound_in(attributes: &[Attr], has: bool, name: &[u8]) -> Result<Option<Decimal>, BadNumber>
-    ensures ok { IfOk result (λ n. IsBoundIfAny (facet has name.now (map entry_of attributes.now)) × (n ≡ bound has name.now (map entry_of attributes.now))) }
-    ensures err { OnErr result (IsBoundIfAny (facet has name.now (map entry_of attributes.now)) → ⊥) }
+pub fn bound_in(
+    attributes: &[TagAttribute<'_>],
+    has: bool,
+    name: &[u8],
+) -> Result<Option<Decimal>, BadNumber>
+    ensures ok { IfOk result (λ n. IsBoundIfAny (facet has name.now (map tag_entry attributes.now)) × (n ≡ bound has name.now (map tag_entry attributes.now))) }
+    ensures err { OnErr result (IsBoundIfAny (facet has name.now (map tag_entry attributes.now)) → ⊥) }
 {
     if !has {
         return Ok(None);
@@ -115,13 +126,13 @@ fn has_digits(kind: ObjectKind) -> bool
 
 /// The facets of an entry of the kind, with this pattern.
 pub fn facets_in(
-    attributes: &[Attr],
+    attributes: &[TagAttribute<'_>],
     kind: ObjectKind,
     pattern: Option<Text>,
 ) -> Result<RawFacets, BadNumber>
-    requires { pattern ≡ spec_reference (codes "pattern") (map entry_of attributes.now) }
-    ensures ok { IfOk result (λ f. HasFacetNumbers kind (map entry_of attributes.now) × (f ≡ spec_facets kind (map entry_of attributes.now))) }
-    ensures err { OnErr result (HasFacetNumbers kind (map entry_of attributes.now) → ⊥) }
+    requires { pattern ≡ spec_reference (codes "pattern") (map tag_entry attributes.now) }
+    ensures ok { IfOk result (λ f. HasFacetNumbers kind (map tag_entry attributes.now) × (f ≡ spec_facets kind (map tag_entry attributes.now))) }
+    ensures err { OnErr result (HasFacetNumbers kind (map tag_entry attributes.now) → ⊥) }
 {
     let lengths = has_lengths(kind);
     let digits = has_digits(kind);
@@ -143,13 +154,13 @@ pub fn facets_in(
 fn is_endless(text: &[u8]) -> bool
     ensures { result ≡ spec_is_endless text.now }
 {
-    text == b"-1".as_slice() || text == b"*".as_slice() || text == b"unbounded".as_slice()
+    are_same(text, b"-1") || are_same(text, b"*") || are_same(text, b"unbounded")
 }
 
 /// `minOccurs`.
-fn least_in(attributes: &[Attr], absent: u32) -> Result<u32, BadNumber>
-    ensures ok { IfOk result (λ n. IsCountIfAny (spec_value_of (own (codes "minOccurs")) (map entry_of attributes.now)) × (n ≡ least_of absent (spec_value_of (own (codes "minOccurs")) (map entry_of attributes.now)))) }
-    ensures err { OnErr result (IsCountIfAny (spec_value_of (own (codes "minOccurs")) (map entry_of attributes.now)) → ⊥) }
+fn least_in(attributes: &[TagAttribute<'_>], absent: u32) -> Result<u32, BadNumber>
+    ensures ok { IfOk result (λ n. IsCountIfAny (spec_value_of (own (codes "minOccurs")) (map tag_entry attributes.now)) × (n ≡ least_of absent (spec_value_of (own (codes "minOccurs")) (map tag_entry attributes.now)))) }
+    ensures err { OnErr result (IsCountIfAny (spec_value_of (own (codes "minOccurs")) (map tag_entry attributes.now)) → ⊥) }
 {
     let Some(text) = value_of(attributes, b"", b"minOccurs") else {
         return Ok(absent);
@@ -161,9 +172,9 @@ fn least_in(attributes: &[Attr], absent: u32) -> Result<u32, BadNumber>
 }
 
 /// `maxOccurs`.
-fn greatest_in(attributes: &[Attr]) -> Result<Option<u32>, BadNumber>
-    ensures ok { IfOk result (λ n. IsGreatestIfAny (spec_value_of (own (codes "maxOccurs")) (map entry_of attributes.now)) × (n ≡ greatest_of (spec_value_of (own (codes "maxOccurs")) (map entry_of attributes.now)))) }
-    ensures err { OnErr result (IsGreatestIfAny (spec_value_of (own (codes "maxOccurs")) (map entry_of attributes.now)) → ⊥) }
+fn greatest_in(attributes: &[TagAttribute<'_>]) -> Result<Option<u32>, BadNumber>
+    ensures ok { IfOk result (λ n. IsGreatestIfAny (spec_value_of (own (codes "maxOccurs")) (map tag_entry attributes.now)) × (n ≡ greatest_of (spec_value_of (own (codes "maxOccurs")) (map tag_entry attributes.now)))) }
+    ensures err { OnErr result (IsGreatestIfAny (spec_value_of (own (codes "maxOccurs")) (map tag_entry attributes.now)) → ⊥) }
 {
     let Some(text) = value_of(attributes, b"", b"maxOccurs") else {
         return Ok(None);
@@ -178,9 +189,13 @@ fn greatest_in(attributes: &[Attr]) -> Result<Option<u32>, BadNumber>
 }
 
 /// An element, an alternative or a building block.
-pub fn element_in(alloc: Global, attributes: &[Attr], absent: u32) -> Result<ElementDef, Stop>
-    ensures ok { IfOk result (λ e. HasOccurrences (map entry_of attributes.now) × (e ≡ spec_element absent (map entry_of attributes.now))) }
-    ensures err { IfErr result (λ e. TellsOccurrences (map entry_of attributes.now) e) }
+pub fn element_in(
+    alloc: Global,
+    attributes: &[TagAttribute<'_>],
+    absent: u32,
+) -> Result<ElementDef, Stop>
+    ensures ok { IfOk result (λ e. HasOccurrences (map tag_entry attributes.now) × (e ≡ spec_element absent (map tag_entry attributes.now))) }
+    ensures err { IfErr result (λ e. TellsOccurrences (map tag_entry attributes.now) e) }
 {
     let Ok(min) = least_in(attributes, absent) else {
         return Err(Stop::Rule(4));
@@ -200,9 +215,13 @@ pub fn element_in(alloc: Global, attributes: &[Attr], absent: u32) -> Result<Ele
 }
 
 /// An entry of the data dictionary, of which no element and no code has come.
-pub fn object_in(alloc: Global, attributes: &[Attr], kind: ObjectKind) -> Result<Object, Stop>
-    ensures ok { IfOk result (λ o. HasFacetNumbers kind (map entry_of attributes.now) × (o ≡ spec_object kind (map entry_of attributes.now) [])) }
-    ensures err { IfErr result (λ e. TellsFacets kind (map entry_of attributes.now) e) }
+pub fn object_in(
+    alloc: Global,
+    attributes: &[TagAttribute<'_>],
+    kind: ObjectKind,
+) -> Result<Object, Stop>
+    ensures ok { IfOk result (λ o. HasFacetNumbers kind (map tag_entry attributes.now) × (o ≡ spec_object kind (map tag_entry attributes.now) [])) }
+    ensures err { IfErr result (λ e. TellsFacets kind (map tag_entry attributes.now) e) }
 {
     let pattern = reference_in(alloc, attributes, b"pattern")?;
     let Ok(facets) = facets_in(attributes, kind, pattern) else {
@@ -221,8 +240,8 @@ pub fn object_in(alloc: Global, attributes: &[Attr], kind: ObjectKind) -> Result
 }
 
 /// A code.
-pub fn code_in(alloc: Global, attributes: &[Attr]) -> Result<CodeDef, AllocError>
-    ensures { IfOk result (λ c. c ≡ spec_code (map entry_of attributes.now)) }
+pub fn code_in(alloc: Global, attributes: &[TagAttribute<'_>]) -> Result<CodeDef, AllocError>
+    ensures { IfOk result (λ c. c ≡ spec_code (map tag_entry attributes.now)) }
 {
     Ok(CodeDef {
         name: text_in(alloc, attributes, b"name")?,
@@ -231,8 +250,8 @@ pub fn code_in(alloc: Global, attributes: &[Attr]) -> Result<CodeDef, AllocError
 }
 
 /// A message, before its identifier and its building blocks.
-pub fn message_in(alloc: Global, attributes: &[Attr]) -> Result<MessageDef, AllocError>
-    ensures { IfOk result (λ m. m ≡ spec_message (map entry_of attributes.now) []) }
+pub fn message_in(alloc: Global, attributes: &[TagAttribute<'_>]) -> Result<MessageDef, AllocError>
+    ensures { IfOk result (λ m. m ≡ spec_message (map tag_entry attributes.now) []) }
 {
     Ok(MessageDef {
         id: Text::new(alloc),
@@ -243,8 +262,8 @@ pub fn message_in(alloc: Global, attributes: &[Attr]) -> Result<MessageDef, Allo
 }
 
 /// The value of an attribute, empty where it is absent.
-fn value_in<'a>(attributes: &'a [Attr], name: &[u8]) -> &'a [u8]
-    ensures { result.now ≡ spec_text name.now (map entry_of attributes.now) }
+fn value_in<'a>(attributes: &[TagAttribute<'a>], name: &[u8]) -> &'a [u8]
+    ensures { result.now ≡ spec_text name.now (map tag_entry attributes.now) }
 {
     match value_of(attributes, b"", name) {
         Some(value) => value,
@@ -253,8 +272,8 @@ fn value_in<'a>(attributes: &'a [Attr], name: &[u8]) -> &'a [u8]
 }
 
 /// The identifier of a message.
-pub fn identifier_in(alloc: Global, attributes: &[Attr]) -> Result<Text, AllocError>
-    ensures { IfOk result (λ t. t ≡ spec_identifier (map entry_of attributes.now)) }
+pub fn identifier_in(alloc: Global, attributes: &[TagAttribute<'_>]) -> Result<Text, AllocError>
+    ensures { IfOk result (λ t. t ≡ spec_identifier (map tag_entry attributes.now)) }
 {
     let mut octets = Vec::from_slice(alloc, value_in(attributes, b"businessArea"))?;
     octets.push(b'.')?;

@@ -1,8 +1,10 @@
 //! The elements of a repository file that are read, by its events.
-ghost use Rattle.std.specs.Prelude.{◌≡◌, [], ◌∷◌, ◌++◌, List, IfOk, map, reverse};
-ghost use Rattle.lexical_core.specs.Tree.{Starts};
-ghost use Rattle.markup.specs.Events.{Placed};
-ghost use Rattle.markup.specs.EventItems.{entry_of, item_of, placed_event};
+ghost use Rattle.std.specs.Prelude.{◌≡◌, [], ◌∷◌, ◌++◌, ℕ, List, IfOk, Some, map, reverse};
+ghost use Rattle.lexical_core.specs.Tree.{Expanded, Starts, Ends};
+ghost use Rattle.markup.specs.AttributeTags.{tag_entry};
+ghost use Rattle.markup.specs.Events.{Placed, start_tag_items};
+ghost use Rattle.markup.specs.EventItems.{item_of, placed_event};
+ghost use Rattle.markup.specs.Scopes.{placed_at};
 ghost use Rattle.repo_loader.specs.Selected.{innermost as spec_innermost};
 ghost use Rattle.repo_loader.specs.File.{contents_of};
 ghost use Rattle.repo_loader.specs.inner.LoadingSteps.{AreTexts};
@@ -13,13 +15,14 @@ use crate::loading::Loading;
 use crate::part::Part;
 use crate::parts::part_in;
 use crate::stop::Stop;
-use markup::{Attr, Event, What};
+use markup::{AttributeTag, Event, TagAttribute, What, tag_attributes};
 use repo_objects::Repository;
 use std::alloc::{AllocError, Global};
 
 /// What the events so far say, and which elements are open.
 #[derive(Drop)]
 pub struct Selection {
+    alloc: Global,
     /// What the open elements are, the innermost the last.
     open_parts: Vec<Part>,
     loading: Loading,
@@ -31,6 +34,7 @@ impl Selection {
         ensures { HasLoaded result [] }
     {
         Selection {
+            alloc,
             open_parts: Vec::new(alloc),
             loading: Loading::new(alloc),
         }
@@ -52,11 +56,11 @@ impl Selection {
         place: u64,
         ns: &[u8],
         local: &[u8],
-        attributes: &[Attr],
+        attributes: &[TagAttribute<'_>],
     ) -> Result<Option<LoadFault>, AllocError>
         requires loaded { (told : List Placed) × HasLoaded self.old told }
-        requires texts { AreTexts (map entry_of attributes.now) }
-        ensures { (told : List Placed) → HasLoaded self.old told → IfOk result (λ o. LoadsOn self.new (told ++ (record { place = place; item = Starts (record { namespace = ns.now; local = local.now }) (map entry_of attributes.now) }) ∷ []) o) }
+        requires texts { AreTexts (map tag_entry attributes.now) }
+        ensures { (told : List Placed) → HasLoaded self.old told → IfOk result (λ o. LoadsOn self.new (told ++ (record { place = place; item = Starts (record { namespace = ns.now; local = local.now }) (map tag_entry attributes.now) }) ∷ []) o) }
     {
         let part = part_in(self.innermost(), ns, local, attributes);
         self.open_parts.push(part)?;
@@ -74,6 +78,33 @@ impl Selection {
         }
     }
 
+    /// Takes the end of the innermost element.
+    fn take_end(&mut self)
+        ensures { (told : List Placed) (place : ℕ) (name : Expanded) → HasLoaded self.old told → HasLoaded self.new (told ++ (record { place = place; item = Ends name }) ∷ []) }
+    {
+        self.open_parts.pop();
+    }
+
+    /// Takes a start tag that was taken whole, and of an empty element the end.
+    pub fn take_tag(
+        &mut self,
+        place: u64,
+        tag: &AttributeTag<'_>,
+    ) -> Result<Option<LoadFault>, AllocError>
+        requires loaded { (told : List Placed) × HasLoaded self.old told }
+        requires texts { AreTexts (map tag_entry tag.now.attributes.items) }
+        ensures { (told : List Placed) → HasLoaded self.old told → IfOk result (λ o. LoadsOn self.new (told ++ placed_at place (start_tag_items (Some (record { namespace = tag.now.ns; local = tag.now.name.now })) (map tag_entry tag.now.attributes.items) tag.now.is_empty)) o) }
+    {
+        let fault = self.take_start(place, tag.ns.bytes(), tag.name, tag.attributes.as_slice())?;
+        if fault.is_some() {
+            return Ok(fault);
+        }
+        if tag.is_empty {
+            self.take_end();
+        }
+        Ok(None)
+    }
+
     /// Takes the next event.
     fn take_event(&mut self, event: &Event) -> Result<Option<LoadFault>, AllocError>
         requires loaded { (told : List Placed) × HasLoaded self.old told }
@@ -82,10 +113,16 @@ impl Selection {
     {
         match &event.what {
             What::Start { ns, local, attrs } => {
-                self.take_start(event.place, ns.bytes(), local.bytes(), attrs.as_slice())
+                let attributes = tag_attributes(attrs.as_slice(), self.alloc)?;
+                self.take_start(
+                    event.place,
+                    ns.bytes(),
+                    local.bytes(),
+                    attributes.as_slice(),
+                )
             }
             What::End { .. } => {
-                self.open_parts.pop();
+                self.take_end();
                 Ok(None)
             }
             What::Char(_) => Ok(None),

@@ -1,6 +1,6 @@
 -- The parts of the content, one by one.
 use Rattle.std.proofs.Common.{◌≡◌, ℕ, ◌+◌, Bool, true, false, List, [], ◌∷◌, ◌++◌, Option, Some, None, refl, sym, ap, subst, ◌∙◌, reverse, take, append-nil, ◌-◌, ◌&&◌}
-use Rattle.std.specs.Prelude.{Result, Ok, Err, OnOk, MatchOption, is_err, not, map, codes, option_to_list}
+use Rattle.std.specs.Prelude.{Result, Ok, Err, OnOk, MatchOption, is_err, not, codes, option_to_list}
 use Rattle.std.specs.Borrow.{Bor}
 use Rattle.std.proofs.lemmas.List.{reverse-append}
 use Rattle.std.specs.Str.{bytes_eq, chars}
@@ -10,8 +10,6 @@ use Rattle.lexical_core.specs.Tree.{Expanded, Entry, Starts, Char, Ends}
 use Rattle.lexical_core.specs.Names.{attribute_value}
 use Rattle.facets.specs.declared.simple.Simple.{Simple}
 use Rattle.markup.specs.Chars.{is_space}
-use Rattle.markup.specs.EventItems.{entry_of}
-use Rattle.markup.specs.declared.event.Attr.{Attr}
 use Rattle.reference_check.specs.Forms.{Graph, Form, text_type}
 use Rattle.reference_check.specs.Forms as form
 use Rattle.reference_check.specs.Steps.{NextSlot, Slotted, next, Came, EndsWith}
@@ -375,12 +373,12 @@ entered_wrong T m ls attributes content round number n Memory is h k = tt
 pub says_round : {T : Type 0} (types : Graph ℕ Simple) (simple : Simple) (text tail : List ℕ) (a b : List Opened) (r : Result T Refusal) → a ≡ b → Says (LeafFault simple text (path_round types a ++ tail)) r → Says (LeafFault simple text (path_round types b ++ tail)) r
 says_round types simple text tail a b r e h = subst (λ (x : List Opened). Says (LeafFault simple text (path_round types x ++ tail)) r) e h
 
-pub start_at : {T : Type 0} (m : Message ℕ) (ls : List (Level ℕ)) (content : Content) (r : Result T Refusal) (ns space local tag : List ℕ) (attrs more : List Attr) → ns ≡ space → local ≡ tag → attrs ≡ more
-    → IsItemTaken m ls (Starts (name_in_namespace ns local) (map entry_of attrs)) content r → IsItemTaken m ls (Starts (name_in_namespace space tag) (map entry_of more)) content r
-start_at m ls content r ns space local tag attrs more e f g h =
-    subst (λ (x : List ℕ). IsItemTaken m ls (Starts (name_in_namespace x tag) (map entry_of more)) content r) e
-    (subst (λ (x : List ℕ). IsItemTaken m ls (Starts (name_in_namespace ns x) (map entry_of more)) content r) f
-    (subst (λ (x : List Attr). IsItemTaken m ls (Starts (name_in_namespace ns local) (map entry_of x)) content r) g h))
+pub start_at : {T : Type 0} (m : Message ℕ) (ls : List (Level ℕ)) (content : Content) (r : Result T Refusal) (ns space local tag : List ℕ) (attributes more : List Entry) → ns ≡ space → local ≡ tag → attributes ≡ more
+    → IsItemTaken m ls (Starts (name_in_namespace ns local) attributes) content r → IsItemTaken m ls (Starts (name_in_namespace space tag) more) content r
+start_at m ls content r ns space local tag attributes more e f g h =
+    subst (λ (x : List ℕ). IsItemTaken m ls (Starts (name_in_namespace x tag) more) content r) e
+    (subst (λ (x : List ℕ). IsItemTaken m ls (Starts (name_in_namespace ns x) more) content r) f
+    (subst (λ (x : List Entry). IsItemTaken m ls (Starts (name_in_namespace ns local) x) content r) g h))
 
 pub was_ok : {T E : Type 0} (P : Type 0) (r : Result T E) → is_err r ≡ false → OnOk r P → P
 was_ok P (Ok x) e h = h

@@ -8,11 +8,9 @@ use Rattle.lexical_core.specs.declared.rule.Rule.{Rule}
 use Rattle.lexical_core.specs.Names.{attribute_value}
 use Rattle.facets.specs.LeafUnder.{GivesLeaf}
 use Rattle.facets.specs.declared.simple.Simple.{Simple}
-use Rattle.markup.specs.EventItems.{entry_of}
 use Rattle.markup.specs.PlainTags.{tag_items}
 use Rattle.markup.specs.declared.plain_tag.TagKind.{TagKind}
 use Rattle.markup.specs.declared.plain_tag.TagKind.TheVariants.{Start, Empty, End}
-use Rattle.markup.specs.declared.event.Attr.{Attr}
 use Rattle.reference_check.specs.Forms.{Graph, Form, text_type}
 use Rattle.reference_check.specs.Forms as form
 use Rattle.reference_check.specs.Steps.{next}
@@ -93,12 +91,12 @@ start_shown tables ls n attributes type a b c r is first = on_ok_weaker r (λ th
     go_then {Q = ShowsBeside tables ls (Starts n attributes)} {R = StartShown ls n.local} {S = CodeShown tables (form_at (message_of tables) type) attributes} a b c
     (λ s u t x y. (u, x, subst (λ (f : Option (Form ℕ Simple)). CodeShown tables f attributes u t) (sym is) y)) first then_)
 
-pub start_shown_at : {T E : Type 0} (tables : Tables) (ls : List (Level ℕ)) (a b : Option PiecesKept) (r : Result T E) (ns space local tag : List ℕ) (attrs more : List Attr) → ns ≡ space → local ≡ tag → attrs ≡ more
-    → OnOk r (GoOn a b (ShowsBeside tables ls (Starts (name_in_namespace ns local) (map entry_of attrs)))) → OnOk r (GoOn a b (ShowsBeside tables ls (Starts (name_in_namespace space tag) (map entry_of more))))
-start_shown_at tables ls a b r ns space local tag attrs more e f g h =
-    subst (λ (x : List ℕ). OnOk r (GoOn a b (ShowsBeside tables ls (Starts (name_in_namespace x tag) (map entry_of more))))) e
-    (subst (λ (x : List ℕ). OnOk r (GoOn a b (ShowsBeside tables ls (Starts (name_in_namespace ns x) (map entry_of more))))) f
-    (subst (λ (x : List Attr). OnOk r (GoOn a b (ShowsBeside tables ls (Starts (name_in_namespace ns local) (map entry_of x))))) g h))
+pub start_shown_at : {T E : Type 0} (tables : Tables) (ls : List (Level ℕ)) (a b : Option PiecesKept) (r : Result T E) (ns space local tag : List ℕ) (attributes more : List Entry) → ns ≡ space → local ≡ tag → attributes ≡ more
+    → OnOk r (GoOn a b (ShowsBeside tables ls (Starts (name_in_namespace ns local) attributes))) → OnOk r (GoOn a b (ShowsBeside tables ls (Starts (name_in_namespace space tag) more)))
+start_shown_at tables ls a b r ns space local tag attributes more e f g h =
+    subst (λ (x : List ℕ). OnOk r (GoOn a b (ShowsBeside tables ls (Starts (name_in_namespace x tag) more)))) e
+    (subst (λ (x : List ℕ). OnOk r (GoOn a b (ShowsBeside tables ls (Starts (name_in_namespace ns x) more)))) f
+    (subst (λ (x : List Entry). OnOk r (GoOn a b (ShowsBeside tables ls (Starts (name_in_namespace ns local) x)))) g h))
 
 pub currency_shown : {T E : Type 0} (f : Form ℕ Simple) (simple : Simple) (value : List ℕ) (attributes : List Entry) (rule : Option Rule) (r : Result T E) (a b : Option PiecesKept) → IsCodeForm f → Some simple ≡ text_type f → Some value ≡ attribute_value currency attributes
     → OnOk r (rule ≡ None) → (rule ≡ None → GoOn a b (TextShown simple (chars value))) → OnOk r (GoOn a b (CurrencyShown f attributes))

@@ -1,5 +1,5 @@
 //! The elements of an instance that are open, held to the types of its message.
-ghost use Rattle.std.specs.Prelude.{◌≡◌, ℕ, List, [], ◌++◌, Option, Some, None, IfOk, IfSome, OnOk, codes, length, not, ◌&&◌, option_to_list};
+ghost use Rattle.std.specs.Prelude.{◌≡◌, ℕ, List, [], ◌++◌, Option, Some, None, IfOk, IfSome, OnOk, codes, length, map, not, ◌&&◌, option_to_list};
 ghost use Rattle.lexical_core.specs.Tree.{Char, Starts};
 ghost use Rattle.facets.specs.declared.simple.Simple.{Simple as SimpleType};
 ghost use Rattle.markup.specs.EventItems.{item_of};
@@ -17,7 +17,7 @@ ghost use Rattle.xml_instances.specs.EventFaults.{space_fault, is_bare};
 ghost use Rattle.xml_instances.specs.Open.{IsOpen, IsTaken, IsItemTaken, AreMade, path_round, Says, RefusesWith, IsPlaced, IsEntered, IsRound, form_at, IsEnvelopeFilled, IsChild, IsStepped, IsElementBegun, IsRoot};
 ghost use Rattle.xml_instances.specs.Scratch.{held_in};
 ghost use Rattle.xml_instances.specs.Verdicts.{IsLean};
-ghost use Rattle.xml_instances.specs.inner.Known.{entries_given};
+ghost use Rattle.markup.specs.AttributeTags.{tag_entry};
 
 mod attributes;
 mod endings;
@@ -28,13 +28,12 @@ mod showing;
 mod single;
 
 use crate::judge::Judge;
-use crate::known::StartAttributes;
 use crate::opened::{Opened, Refusal, breaks, missing, names};
 use crate::pieces::{Pieces, begin};
 use crate::spare::Checks;
 use crate::texts::is_space;
 use lexical_core::{Rule, Text};
-use markup::{Event, What};
+use markup::{Event, TagAttribute, What, tag_attributes};
 use message_model::{Form, Model, Next};
 pub(crate) use quick::Room;
 use std::alloc::{AllocError, Global};
@@ -108,12 +107,12 @@ impl Content {
             → OnOk result (GoOn self.old.pieces self.new.pieces (ShowsBeside model.now ls (item_of what.now))) }
     {
         match what {
-            What::Start { ns, local, attrs } => self.start(
-                model,
-                ns.bytes(),
-                local.bytes(),
-                &StartAttributes::Told(attrs.as_slice()),
-            ),
+            What::Start { ns, local, attrs } => {
+                let Ok(attributes) = tag_attributes(attrs.as_slice(), self.alloc) else {
+                    return Err(Refusal::Memory);
+                };
+                self.start(model, ns.bytes(), local.bytes(), attributes.as_slice())
+            }
             What::Char(c) => self.character(model, *c),
             What::End { .. } => self.end(model),
             What::Skipped => Ok(()),
@@ -200,14 +199,14 @@ impl Content {
         model: &Model,
         namespace: &[u8],
         local: &[u8],
-        attrs: &StartAttributes<'_>,
+        attrs: &[TagAttribute<'_>],
     ) -> Result<(), Refusal>
         requires { AreMade (types_of model.now) self.old }
         ensures made { AreMade (types_of model.now) self.new }
         ensures lean { IsLean self.old → IsLean self.new }
-        ensures taken { (ls : List (Level ℕ)) → IsOpen self.old (message_of model.now) ls → IsItemTaken (message_of model.now) ls (Starts (name_in_namespace namespace.now local.now) (entries_given attrs.now)) self.new result }
+        ensures taken { (ls : List (Level ℕ)) → IsOpen self.old (message_of model.now) ls → IsItemTaken (message_of model.now) ls (Starts (name_in_namespace namespace.now local.now) (map tag_entry attrs.now)) self.new result }
         ensures shown { (ls : List (Level ℕ)) → IsOpen self.old (message_of model.now) ls
-            → OnOk result (GoOn self.old.pieces self.new.pieces (ShowsBeside model.now ls (Starts (name_in_namespace namespace.now local.now) (entries_given attrs.now)))) }
+            → OnOk result (GoOn self.old.pieces self.new.pieces (ShowsBeside model.now ls (Starts (name_in_namespace namespace.now local.now) (map tag_entry attrs.now)))) }
     {
         match self.place(model, namespace, local) {
             Ok(number) => self.enter(model, number, attrs),
@@ -333,14 +332,14 @@ impl Content {
         &mut self,
         model: &Model,
         number: Option<u32>,
-        attrs: &StartAttributes<'_>,
+        attrs: &[TagAttribute<'_>],
     ) -> Result<(), Refusal>
         requires { AreMade (types_of model.now) self.old }
         ensures made { AreMade (types_of model.now) self.new }
         ensures lean { IsLean self.old → IsLean self.new }
         ensures taken { (ls : List (Level ℕ)) → IsRound self.old (message_of model.now) ls
-            → IsEntered (message_of model.now) ls (form_at (message_of model.now) number) (entries_given attrs.now) self.new result }
-        ensures shown { OnOk result (GoOn self.old.pieces self.new.pieces (CodeShown model.now (form_at (message_of model.now) number) (entries_given attrs.now))) }
+            → IsEntered (message_of model.now) ls (form_at (message_of model.now) number) (map tag_entry attrs.now) self.new result }
+        ensures shown { OnOk result (GoOn self.old.pieces self.new.pieces (CodeShown model.now (form_at (message_of model.now) number) (map tag_entry attrs.now))) }
     {
         if self.go_in().is_err() {
             return Err(Refusal::Memory);

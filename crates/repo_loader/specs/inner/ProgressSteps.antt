@@ -1,5 +1,5 @@
 -- How far the bytes of a repository file are read.
-use Rattle.std.specs.Prelude.{◌≡◌, ◌⊎◌, ℕ, ◌+◌, ◌<◌, ◌≤◌, List, [], ◌++◌, length, take, Option, Some, None, IfSome}
+use Rattle.std.specs.Prelude.{◌≡◌, ◌⊎◌, ℕ, Bool, true, nat_lt, ◌+◌, ◌<◌, ◌≤◌, List, [], ◌++◌, length, take, Option, Some, None, IfSome}
 use Rattle.std.specs.Io.KnownBytes.{Consumes}
 use Rattle.markup.specs.Events.{Placed}
 use Rattle.markup.specs.Reading.{HasTaken, IsWholly, bytes_taken}
@@ -42,6 +42,16 @@ ReadsOn p bytes (Some fault) = ShowsLoadFault bytes fault
 abbrev pub ReadsFront : Progress → List ℕ → List ℕ → Front → Type 0
 ReadsFront p bytes piece (Read n) = HasReadFile p (bytes ++ take n piece)
 ReadsFront p bytes piece (Breaks fault) = ShowsLoadFault (bytes ++ piece) fault
+
+-- that are so many bytes of it, if no fault is shown
+abbrev pub TakesFront : Progress → Progress → List ℕ → Front → Type 0
+TakesFront old new piece (Read n) = (n ≤ length piece) × (bytes_taken new.reader ≡ bytes_taken old.reader + n)
+TakesFront old new piece (Breaks fault) = Unit {0}
+
+-- that are some bytes, or a fault is shown
+abbrev pub is_front : Front → Bool
+is_front (Read n) = nat_lt 0 n
+is_front (Breaks fault) = true
 
 -- that are some bytes, if no fault is shown, and so many more are taken
 abbrev pub TakesSome : Progress → Progress → List ℕ → Front → Type 0

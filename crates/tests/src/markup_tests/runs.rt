@@ -341,14 +341,15 @@ fn tag_taken(reader: &mut Reader, piece: &[u8]) -> Option<usize>
 
 /// Pieces behind `<a>`, and how many bytes and attributes the start tag has that is taken at their front
 /// without a copy.
-static ATTRIBUTE_TAGS: [(&str, usize, usize); 18] = [
+static ATTRIBUTE_TAGS: [(&str, usize, usize); 19] = [
     ("<b>", 3, 0),
     ("<b c=\"d\">e", 9, 1),
     ("<b c='d\"e' f=\"'\"/>g", 18, 2),
     ("<b B='' a='' a-='' aa='' b=''>", 30, 5),
     ("<b c='' c=''>", 0, 0),
-    ("<b d='' c=''>", 0, 0),
-    ("<b cc='' c=''>", 0, 0),
+    ("<b d='' c=''>", 13, 2),
+    ("<b cc='' c=''>", 14, 2),
+    ("<b xml:lang='de'>", 17, 1),
     ("<b xmlns='u'>", 0, 0),
     ("<b xmln='u' xmlnsx='v'>", 23, 2),
     ("<p:b c='d'>", 0, 0),
@@ -362,10 +363,24 @@ static ATTRIBUTE_TAGS: [(&str, usize, usize); 18] = [
     ("</a>", 0, 0),
 ];
 
+/// The same behind `<a xmlns:p="u" xmlns:q="u">`.
+static PREFIXED_ATTRIBUTES: [(&str, usize, usize); 6] = [
+    ("<b p:c='d'>", 11, 1),
+    ("<b p:c='' c=''/>", 16, 2),
+    ("<b p:d='' q:c=''>", 17, 2),
+    ("<b p:c='' q:c=''>", 0, 0),
+    ("<b r:c=''>", 0, 0),
+    ("<b xmlns:p='v'>", 0, 0),
+];
+
 #[test]
 fn attribute_tags(rt: HostRuntime) {
     for (piece, bytes, attributes) in &ATTRIBUTE_TAGS {
         let found = attributes_behind(rt.alloc(), b"<a>", piece.as_bytes());
+        assert!(rt; found == Some((*bytes, *attributes)), "{piece}: {found:?}");
+    }
+    for (piece, bytes, attributes) in &PREFIXED_ATTRIBUTES {
+        let found = attributes_behind(rt.alloc(), b"<a xmlns:p='u' xmlns:q='u'>", piece.as_bytes());
         assert!(rt; found == Some((*bytes, *attributes)), "{piece}: {found:?}");
     }
     let found = attributes_behind(rt.alloc(), b"<p:a xmlns:p='u'>", b"<b c='d'>");

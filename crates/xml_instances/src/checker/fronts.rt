@@ -12,7 +12,6 @@ ghost use Rattle.xml_instances.specs.declared.content.quick.Room.TheVariants.{Al
 use super::held::hold_tag;
 use super::{Stopped, XmlChecker, take_all, told};
 use crate::content::Room;
-use crate::known::StartAttributes;
 use markup::MarkError;
 use message_model::{InstanceError, Model};
 use std::alloc::AllocError;
@@ -270,8 +269,8 @@ impl XmlChecker {
         }
     }
 
-    /// Takes the whole start tag at the front of the piece, if one stands there with attributes in no namespace, in an
-    /// element with elements of the message.
+    /// Takes the whole start tag at the front of the piece, if one stands there with attributes that the reader takes
+    /// without a copy, in an element with elements of the message.
     fn take_attribute_tag(&mut self, model: &Model, piece: &[u8]) -> Result<usize, InstanceError>
         requires room { xml_bytes_fed self.old + length piece.now ≤ 2 ^ 40 }
         requires made { IsXmlCheckerFor self.old model.now }
@@ -288,10 +287,9 @@ impl XmlChecker {
             Ok(None) => return Ok(0),
             Err(_) => return Err(InstanceError::Memory),
         };
-        let attrs = StartAttributes::Spelled(tag.attributes.as_slice());
         match self
             .content
-            .take_start_tag(model, tag.name, &attrs, tag.is_empty)
+            .take_start_tag(model, tag.name, tag.attributes.as_slice(), tag.is_empty)
         {
             Ok(()) => {
                 self.place = self.place.saturating_add(tag.bytes as u64);

@@ -1,5 +1,5 @@
 //! The attributes of an element, and the currency of an amount: ISO 20022-4, XML Schema part 1 §3.4.4.
-ghost use Rattle.std.specs.Prelude.{◌≡◌, ◌++◌, ℕ, Some, None, IfOk, OnOk, codes};
+ghost use Rattle.std.specs.Prelude.{◌≡◌, ◌++◌, ℕ, Some, None, IfOk, OnOk, codes, map};
 ghost use Rattle.std.specs.Str.{chars};
 ghost use Rattle.lexical_core.specs.Names.{attribute_value as value_of};
 ghost use Rattle.facets.specs.declared.simple.Simple.{Simple as SimpleType};
@@ -12,14 +12,15 @@ ghost use Rattle.xml_instances.specs.Built.{CodeShown, CurrencyShown, TextShown}
 ghost use Rattle.xml_instances.specs.Keeping.{GoOn};
 ghost use Rattle.xml_instances.specs.Open.{AreMade, IsRuleOf, path_round, Says, IsCodeForm};
 ghost use Rattle.xml_instances.specs.Verdicts.{IsLean};
-ghost use Rattle.xml_instances.specs.inner.Known.{entries_given};
+ghost use Rattle.markup.specs.AttributeTags.{tag_entry};
 
 use super::Content;
-use crate::known::{StartAttributes, currency_of, has_unknown};
+use crate::known::{currency_of, has_unknown};
 use crate::opened::Refusal;
 use crate::texts::{ending_of, take_characters};
 use facets::Simple;
 use lexical_core::Rule;
+use markup::TagAttribute;
 use message_model::{Form, Model};
 use std::alloc::AllocError;
 
@@ -29,15 +30,15 @@ impl Content {
         &mut self,
         model: &Model,
         number: u32,
-        attrs: &StartAttributes<'_>,
+        attrs: &[TagAttribute<'_>],
     ) -> Result<(), Refusal>
         requires { AreMade (types_of model.now) self.old }
         ensures made { AreMade (types_of model.now) self.new }
         ensures lean { IsLean self.old → IsLean self.new }
         ensures kept { self.new.innermost ≡ self.old.innermost }
         ensures round { self.new.round ≡ self.old.round }
-        ensures taken { Says (AttributeFault (message_of model.now) (Some (types_of model.now number)) (entries_given attrs.now) (path_round (types_of model.now) self.old.round.items)) result }
-        ensures shown { OnOk result (GoOn self.old.pieces self.new.pieces (CodeShown model.now (Some (types_of model.now number)) (entries_given attrs.now))) }
+        ensures taken { Says (AttributeFault (message_of model.now) (Some (types_of model.now number)) (map tag_entry attrs.now) (path_round (types_of model.now) self.old.round.items)) result }
+        ensures shown { OnOk result (GoOn self.old.pieces self.new.pieces (CodeShown model.now (Some (types_of model.now number)) (map tag_entry attrs.now))) }
     {
         let _ = model.type_count();
         let form = model.form(number);
@@ -56,15 +57,15 @@ impl Content {
         &mut self,
         model: &Model,
         code: u32,
-        attrs: &StartAttributes<'_>,
+        attrs: &[TagAttribute<'_>],
     ) -> Result<(), Refusal>
         requires { AreMade (types_of model.now) self.old }
         ensures made { AreMade (types_of model.now) self.new }
         ensures lean { IsLean self.old → IsLean self.new }
         ensures kept { self.new.innermost ≡ self.old.innermost }
         ensures round { self.new.round ≡ self.old.round }
-        ensures taken { IsCodeForm (types_of model.now code) → Says (CurrencyFault (types_of model.now code) (value_of currency (entries_given attrs.now)) (path_round (types_of model.now) self.old.round.items ++ codes "/@Ccy")) result }
-        ensures shown { IsCodeForm (types_of model.now code) → OnOk result (GoOn self.old.pieces self.new.pieces (CurrencyShown (types_of model.now code) (entries_given attrs.now))) }
+        ensures taken { IsCodeForm (types_of model.now code) → Says (CurrencyFault (types_of model.now code) (value_of currency (map tag_entry attrs.now)) (path_round (types_of model.now) self.old.round.items ++ codes "/@Ccy")) result }
+        ensures shown { IsCodeForm (types_of model.now code) → OnOk result (GoOn self.old.pieces self.new.pieces (CurrencyShown (types_of model.now code) (map tag_entry attrs.now))) }
     {
         let Some(value) = currency_of(attrs) else {
             return Err(self.refused(model, Rule::MissingAttribute, b"/@Ccy"));

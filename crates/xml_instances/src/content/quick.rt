@@ -10,16 +10,15 @@ ghost use Rattle.xml_instances.specs.Built.{EventsShow, ShowsBeside, StartShown}
 ghost use Rattle.xml_instances.specs.Keeping.{GoOn, MayShowName, TagShowsBeside};
 ghost use Rattle.xml_instances.specs.Open.{IsOpen, AreMade, IsPlaced, IsItemTaken, IsTextMade, HoldsText};
 ghost use Rattle.xml_instances.specs.inner.Quick.{MayTake, IsRoomIn, IsRunTaken, AreItemsTaken, IsOurs, is_parent, start_events};
-ghost use Rattle.xml_instances.specs.inner.Known.{entries_given};
+ghost use Rattle.markup.specs.AttributeTags.{tag_entry};
 ghost use Rattle.xml_instances.specs.Verdicts.{IsLean, IsTextVerdict};
 
 use super::{Content, OpenText, is_bare, root};
-use crate::known::StartAttributes;
 use crate::opened::{Opened, Refusal};
 use crate::pieces::inside_run;
 use crate::texts::take_run;
 use lexical_core::Rule;
-use markup::TagKind;
+use markup::{TagAttribute, TagKind};
 use message_model::Model;
 use std::alloc::AllocError;
 
@@ -126,8 +125,8 @@ impl Content {
             → OnOk result (GoOn self.old.pieces self.new.pieces (TagShowsBeside model.now ls kind n)) }
     {
         match kind {
-            TagKind::Start => self.start_inside(model, name, &StartAttributes::Told(&[])),
-            TagKind::Empty => match self.start_inside(model, name, &StartAttributes::Told(&[])) {
+            TagKind::Start => self.start_inside(model, name, &[]),
+            TagKind::Empty => match self.start_inside(model, name, &[]) {
                 Ok(()) => self.end(model),
                 Err(refusal) => Err(refusal),
             },
@@ -140,15 +139,15 @@ impl Content {
         &mut self,
         model: &Model,
         local: &[u8],
-        attrs: &StartAttributes<'_>,
+        attrs: &[TagAttribute<'_>],
     ) -> Result<(), Refusal>
         requires { AreMade (types_of model.now) self.old }
         ensures made { AreMade (types_of model.now) self.new }
         ensures lean { IsLean self.old → IsLean self.new }
         ensures taken { (ls : List (Level ℕ)) (n : Expanded) → n.local ≡ local.now → IsOurs (message_of model.now) ls n → IsOpen self.old (message_of model.now) ls
-            → IsItemTaken (message_of model.now) ls (Starts n (entries_given attrs.now)) self.new result }
+            → IsItemTaken (message_of model.now) ls (Starts n (map tag_entry attrs.now)) self.new result }
         ensures shown { (ls : List (Level ℕ)) (n : Expanded) → n.local ≡ local.now → IsOpen self.old (message_of model.now) ls → IsOurs (message_of model.now) ls n
-            → OnOk result (GoOn self.old.pieces self.new.pieces (ShowsBeside model.now ls (Starts n (entries_given attrs.now)))) }
+            → OnOk result (GoOn self.old.pieces self.new.pieces (ShowsBeside model.now ls (Starts n (map tag_entry attrs.now)))) }
     {
         match self.place_inside(model, local) {
             Ok(number) => self.enter(model, number, attrs),
@@ -161,7 +160,7 @@ impl Content {
         &mut self,
         model: &Model,
         name: &[u8],
-        attrs: &StartAttributes<'_>,
+        attrs: &[TagAttribute<'_>],
         is_empty: bool,
     ) -> Result<(), Refusal>
         requires made { AreMade (types_of model.now) self.old }
@@ -169,9 +168,9 @@ impl Content {
         ensures made { AreMade (types_of model.now) self.new }
         ensures lean { IsLean self.old → IsLean self.new }
         ensures taken { (ls : List (Level ℕ)) (n : Expanded) → n.local ≡ name.now → IsOurs (message_of model.now) ls n → IsOpen self.old (message_of model.now) ls
-            → AreItemsTaken (message_of model.now) ls (start_events is_empty (entries_given attrs.now) n) self.new result }
+            → AreItemsTaken (message_of model.now) ls (start_events is_empty (map tag_entry attrs.now) n) self.new result }
         ensures shown { (ls : List (Level ℕ)) (n : Expanded) → n.local ≡ name.now → IsOurs (message_of model.now) ls n → IsOpen self.old (message_of model.now) ls
-            → OnOk result (GoOn self.old.pieces self.new.pieces (EventsShow model.now ls (start_events is_empty (entries_given attrs.now) n))) }
+            → OnOk result (GoOn self.old.pieces self.new.pieces (EventsShow model.now ls (start_events is_empty (map tag_entry attrs.now) n))) }
     {
         match self.start_inside(model, name, attrs) {
             Ok(()) => { if is_empty { self.end(model) } else { Ok(()) } }

@@ -1,5 +1,5 @@
 -- All of the text was read.
-use Rattle.std.proofs.Common.{◌≡◌, [], ◌++◌, sym, ap, ◌∙◌, subst, append-nil}
+use Rattle.std.proofs.Common.{◌≡◌, ◌++◌, sym, ap, ◌∙◌, subst, append-nil}
 use Rattle.std.proofs.lemmas.List.{nil_from_length}
 use Rattle.lexical_core.specs.DecimalSoFar.{HasRead}
 use Rattle.repo_loader.proofs.Numbers.{TellsBound, tells_bound}

@@ -1,7 +1,7 @@
 -- The entry before is closed; then the least rule is told.
 use Rattle.std.proofs.Common.{◌≡◌, ◌∙◌, sym, ap, map, true≢false, subst, Some}
 use Rattle.lexical_core.specs.Names.{attribute_value}
-use Rattle.markup.specs.EventItems.{entry_of}
+use Rattle.markup.specs.AttributeTags.{tag_entry}
 use Rattle.repo_objects.specs.Repository.{HasId, HasEntryTexts}
 use Rattle.repo_loader.specs.FileNames.{id_name}
 use Rattle.repo_loader.specs.FileValues.{text_or_empty}
@@ -12,17 +12,17 @@ use Rattle.repo_loader.proofs.loading.Loading.take_entry.Goals as goal
 
 pub returns-then-has_id_of-clause-err : goal.returns-then-has_id_of-clause-err
 returns-then-has_id_of-clause-err c tags h =
-    id_twice tags c.args.kind (map entry_of c.args.attributes.now) c.close_entry.new.self.repository.objects (h.objects_are ∙ sym c.in_ok-close_entry.ensures.objects)
+    id_twice tags c.args.kind (map tag_entry c.args.attributes.now) c.close_entry.new.self.repository.objects (h.objects_are ∙ sym c.in_ok-close_entry.ensures.objects)
     (c.has_id_of.ensures.0 c.if-has_id_of.true)
 
 pub returns-in-Err-clause-err : goal.returns-in-Err-clause-err
 returns-in-Err-clause-err c tags h =
-    tells_facets tags c.args.kind (map entry_of c.args.attributes.now) c.close_entry.new.self.repository.objects (h.objects_are ∙ sym c.in_ok-close_entry.ensures.objects)
+    tells_facets tags c.args.kind (map tag_entry c.args.attributes.now) c.close_entry.new.self.repository.objects (h.objects_are ∙ sym c.in_ok-close_entry.ensures.objects)
     c.in-Err.stop (λ has. true≢false (sym (c.has_id_of.ensures.1 has) ∙ c.if-has_id_of.false)) c.in-Err.ensures.err
 
 pub returns-clause-can_close : goal.returns-clause-can_close
 returns-clause-can_close c =
-    let attributes = map entry_of c.args.attributes.now in
+    let attributes = map tag_entry c.args.attributes.now in
     let here = c.close_entry.new.self.repository.objects in
     let id : attribute_value id_name attributes ≡ Some c.in-Some.id.now = c.in-Some.ensures.some.0 in
     let kept : c.in_ok-copied.field-0 ≡ text_or_empty (attribute_value id_name attributes) = c.in_ok-copied.ensures ∙ sym (ap text_or_empty id) in (

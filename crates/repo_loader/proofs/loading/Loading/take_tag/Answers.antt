@@ -2,7 +2,7 @@
 use Rattle.std.proofs.Common.{◌++◌, ◌∷◌, [], sym, map, subst}
 use Rattle.std.specs.Prelude.{OnOk}
 use Rattle.std.proofs.lemmas.Result.{on_ok_weaker}
-use Rattle.markup.specs.EventItems.{entry_of}
+use Rattle.markup.specs.AttributeTags.{tag_entry}
 use Rattle.repo_loader.specs.declared.part.Part.{Part}
 use Rattle.repo_loader.specs.inner.Stops.{IsSoundTag}
 use Rattle.repo_loader.specs.inner.LoadingSteps.{HasTags}
@@ -12,20 +12,20 @@ use Rattle.repo_loader.proofs.loading.Loading.take_tag.Goals as goal
 
 pub returns-in-Entry-clause-ok : goal.returns-in-Entry-clause-ok
 returns-in-Entry-clause-ok c tags has =
-    let as' = map entry_of c.args.attributes.now in
+    let as' = map tag_entry c.args.attributes.now in
     subst (λ (p : Part). OnOk c.take_entry.result (HasTags c.take_entry.new.self (tags ++ tag_of p as' ∷ []) × IsSoundTag tags (tag_of p as'))) (sym c.in-Entry.is)
     (entry_taken c.take_entry.result c.args.self.now c.take_entry.new.self tags c.in-Entry.kind as' has (c.take_entry.ensures.ok tags has.objects) c.take_entry.ensures.messages c.take_entry.ensures.message)
 
 pub returns-in_ok-take_message-in-Message-clause-ok : goal.returns-in_ok-take_message-in-Message-clause-ok
 returns-in_ok-take_message-in-Message-clause-ok c tags has =
-    let as' = map entry_of c.args.attributes.now in
+    let as' = map tag_entry c.args.attributes.now in
     let done = c.in_ok-take_message-in-Message.ensures in
     subst (λ (p : Part). HasTags c.take_message.new.self (tags ++ tag_of p as' ∷ []) × IsSoundTag tags (tag_of p as')) (sym c.in-Message.is)
     (message_taken c.args.self.now c.take_message.new.self tags as' has (done.ok tags has.messages) done.objects done.entry)
 
 pub returns-in_default : goal.returns-in_default
 returns-in_default c =
-    let as' = map entry_of c.args.attributes.now in
+    let as' = map tag_entry c.args.attributes.now in
     let old = c.args.self.now in
     let new = c.take_other.new.self in
     let entry = no_entry_part c.args.part c.in_default.not-Entry in

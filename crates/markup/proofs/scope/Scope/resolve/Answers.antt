@@ -6,7 +6,7 @@ use Rattle.markup.specs.Scopes.{declarations, all_declarations}
 use Rattle.markup.proofs.WholeTags.{all_plain}
 use Rattle.markup.specs.declared.tag.Spelled.{Spelled}
 use Rattle.markup.proofs.ScopeLemmas.{resolved, counted_own}
-use Rattle.markup.proofs.scope.Scope.resolve_all.Goals as goal
+use Rattle.markup.proofs.scope.Scope.resolve.Goals as goal
 
 pub of-requires-2 : goal.of-requires-2
 of-requires-2 c = ap (list_all declares_none) c.in_ok-parts.ensures.parted.attributes ∙ all_plain c.args.given
