@@ -1,30 +1,26 @@
--- The attributes of a tag with expanded names, one after another from the end of the tag.
-use Rattle.std.proofs.Common.{◌≡◌, ℕ, Bool, true, false, List, [], ◌∷◌, ◌++◌, ◌||◌, map, reverse, Option, Some, None, refl, sym, ap, ◌∙◌}
-use Rattle.std.specs.Bool.{if◌then◌else◌}
+-- The attributes of a tag with expanded names.
+use Rattle.std.proofs.Common.{◌≡◌, ◌≤◌, ◌<◌, ℕ, suc, nat_lt, ◌+◌, ◌-◌, Bool, true, false, cond, List, [], ◌∷◌, ◌||◌, length, vec_len, map, Option, Some, None, refl, sym, ap, subst, ◌∙◌, arith}
 use Rattle.std.specs.Global.{Vec}
+use Rattle.std.specs.Bool.{if◌then◌else◌}
 use Rattle.std.specs.Option.{is_none}
 use Rattle.std.specs.List.{list_any, list_all, filter_map, cons_option}
+use Rattle.std.specs.List.Retain.{RetainsInTurn}
 use Rattle.std.proofs.lemmas.Bool.{and_parts}
-use Rattle.std.proofs.lemmas.List.{append-nil, append_assoc, map-append, reverse-append}
-use Rattle.std.proofs.lemmas.List.Elements.{filter_map-append}
-use Rattle.std.proofs.lemmas.List.Folds.{list_any-append}
+use Rattle.std.proofs.lemmas.Grind.{common_steps}
+use Rattle.std.proofs.lemmas.Bool.Decides.{nat_tests}
 use Rattle.std.specs.Str.{bytes_eq}
 use Rattle.lexical_core.specs.Tree.{Expanded as FullName, Entry}
-use Rattle.lexical_core.proofs.Tests.{or_false}
 use Rattle.markup.specs.declared.tag.Spelled.{Spelled}
 use Rattle.markup.specs.declared.tag.Given.{Given}
 use Rattle.markup.specs.declared.tag.Opening.{Opening}
-use Rattle.markup.specs.declared.event.Attr.{Attr}
-use Rattle.markup.specs.declared.attributes.BoundAttr.{BoundAttr}
-use Rattle.markup.specs.declared.attributes.Collected.{Collected}
 use Rattle.markup.specs.declared.attributes.Expanded.{Expanded}
-use Rattle.markup.specs.declared.bindings.Bindings.{Bindings}
+use Rattle.markup.specs.declared.attributes.TagAttribute.{TagAttribute}
 use Rattle.markup.specs.Events.{declared_prefix, attribute_name, put, put_named, entries, expanded_in, namespace_of}
 use Rattle.markup.specs.Faults.{has_clash, clash, same_expanded}
-use Rattle.markup.specs.EventItems.{entry_of}
-use Rattle.markup.specs.inner.TagParts.{declares_none, is_unbound, is_named, IsCollected, IsExpanded, entry_from, entry_under, named_entry, sorted_entries, has_twins}
+use Rattle.markup.specs.Scopes.{declarations}
+use Rattle.markup.specs.TagAttributes.{tag_entry}
+use Rattle.markup.specs.inner.TagParts.{declares_none, is_unbound, is_named, IsExpanded, plain_attributes, entry_under, attribute_under, named_entry, sorted_entries, has_twins}
 use Rattle.markup.proofs.Twins.{any-put, any_twins, any_twins-put, twins_next}
-use Rattle.markup.proofs.TagPartLemmas.{or_comm}
 
 pub none_is : {X : Type 0} (o : Option X) → is_none o ≡ true → o ≡ None
 none_is None e = refl
@@ -62,45 +58,77 @@ any_clash tags x none (b ∷ more) all =
     ap (λ c. c || list_any (λ b. clash tags x.name b.name) more) here ∙ ap (λ c. same_expanded (attribute_name tags x.name) (attribute_name tags b.name) || c) others
     ∙ any_named-put (attribute_name tags x.name) (attribute_name tags b.name) b.value (entries tags more) ∙ ap (any_named (attribute_name tags x.name)) (sym both)
 
--- ---- one more attribute before the others
+-- ---- one attribute
 
 -- the expanded name by what a look-up of the prefix gave
-pub attribute_name_is : (tags : List Opening) (name : Spelled) (prefix : List ℕ) (found : Option (List ℕ)) → prefix ≡ name.prefix
-    → found ≡ (if bytes_eq prefix [] then Some [] else namespace_of tags prefix) → attribute_name tags name ≡ expanded_in found name.local
-attribute_name_is tags name prefix found same is =
-    ap (λ p. expanded_in (if bytes_eq p [] then Some [] else namespace_of tags p) name.local) (sym same) ∙ ap (λ o. expanded_in o name.local) (sym is)
+attribute_name_is : (tags : List Opening) (name : Spelled) (found : Option (List ℕ)) → found ≡ (if bytes_eq name.prefix [] then Some [] else namespace_of tags name.prefix) → attribute_name tags name ≡ expanded_in found name.local
+attribute_name_is tags name found is = ap (λ o. expanded_in o name.local) (sym is)
 
-pub collect_unbound : (tags : List Opening) (next : Given) (plain : List Given) (kept : Bindings) (old : Collected) → attribute_name tags next.name ≡ None → IsCollected tags plain kept old
-    → IsCollected tags (plain ++ next ∷ []) kept (record { attrs = old.attrs; is_unbound = true })
-collect_unbound tags next plain kept old unbound was =
-    let nothing : filter_map (entry_under tags) (next ∷ []) ≡ [] = ap (λ n. cons_option (named_entry next.value n) []) unbound in
-    let found : list_any (is_unbound tags) (next ∷ []) ≡ true = ap (λ n. is_none n || false) unbound in
-    record {
-      entries = was.entries ∙ sym (append-nil (filter_map (entry_under tags) plain)) ∙ ap (λ es. filter_map (entry_under tags) plain ++ es) (sym nothing) ∙ sym (filter_map-append (entry_under tags) plain (next ∷ []));
-      unbound = sym (list_any-append (is_unbound tags) plain (next ∷ []) ∙ ap (λ b. list_any (is_unbound tags) plain || b) found ∙ or_comm (list_any (is_unbound tags) plain) true);
-    }
+pub bound_here : (tags : List Opening) (a : Given) (ns : List ℕ) → declared_prefix a.name ≡ None → Some ns ≡ (if bytes_eq a.name.prefix [] then Some [] else namespace_of tags a.name.prefix)
+    → attribute_under tags a ≡ Some (record { name = record { namespace = ns; local = a.name.local }; value = a.value })
+bound_here tags a ns d n = ap (λ p. if is_none p then entry_under tags a else None) d ∙ ap (named_entry a.value) (attribute_name_is tags a.name (Some ns) n)
 
-pub collect_bound : (tags : List Opening) (next : Given) (plain : List Given) (kept : Bindings) (old : Collected) (attr : BoundAttr) (pushed : Vec BoundAttr)
-    → attribute_name tags next.name ≡ Some (entry_from kept attr).name → attr.value ≡ next.value
-    → pushed.items ≡ old.attrs.items ++ attr ∷ [] → IsCollected tags plain kept old
-    → IsCollected tags (plain ++ next ∷ []) kept (record { attrs = pushed; is_unbound = old.is_unbound })
-collect_bound tags next plain kept old attr pushed bound same is_pushed was =
-    let one : filter_map (entry_under tags) (next ∷ []) ≡ entry_from kept attr ∷ [] = ap (λ n. cons_option (named_entry next.value n) []) bound ∙ ap (λ v. (record { name = (entry_from kept attr).name; value = v }) ∷ []) (sym same) in
-    let fine : list_any (is_unbound tags) (next ∷ []) ≡ false = ap (λ n. is_none n || false) bound in
-    record {
-      entries = ap (map (entry_from kept)) is_pushed ∙ map-append (entry_from kept) old.attrs.items (attr ∷ []) ∙ ap (λ es. es ++ entry_from kept attr ∷ []) was.entries ∙ ap (λ es. filter_map (entry_under tags) plain ++ es) (sym one) ∙ sym (filter_map-append (entry_under tags) plain (next ∷ []));
-      unbound = was.unbound ∙ sym (list_any-append (is_unbound tags) plain (next ∷ []) ∙ ap (λ b. list_any (is_unbound tags) plain || b) fine ∙ or_false (list_any (is_unbound tags) plain));
-    }
+-- those that are left of all of them
+pub retained : {S X G E : Type 0} (R : S → X → Bool → S → X → Type 0) (given : X → G) (found : G → Option E) (entry : X → E) (s : S)
+    → ((x : X) (b : Bool) (t : S) (y : X) → R s x b t y → (found (given x) ≡ (if b then Some (entry y) else None)) × (t ≡ s))
+    → (xs ys : List X) → RetainsInTurn R s xs ys → map entry ys ≡ filter_map found (map given xs)
+retained R given found entry s says [] ys h = ap (map entry) h
+retained R given found entry s says (x ∷ xs) ys h =
+    let said = says x h.0 h.1 h.2 h.3 in
+    let rest = retained R given found entry s says xs h.4 (subst (λ t. RetainsInTurn R t xs h.4) said.1 h.5) in
+    ap (map entry) h.6 ∙ (one h.0 h.2 h.4 ∙ (ap (λ es. cons_option (if h.0 then Some (entry h.2) else None) es) rest ∙ ap (λ o. cons_option o (filter_map found (map given xs))) (sym said.0)))
+  where
+    one : (b : Bool) (y : _) (zs : List _) → map entry (cond b (y ∷ zs) zs) ≡ cons_option (if b then Some (entry y) else None) (map entry zs)
+    one true y zs = refl
+    one false y zs = refl
 
--- one more of those with their origins is told with its namespace
-pub named_more : (kept : Bindings) (old new : List Attr) (left rest : List BoundAttr) (next : BoundAttr) (attr : Attr) (whole : List Entry)
-    → left ≡ rest ++ next ∷ [] → new ≡ old ++ attr ∷ [] → entry_of attr ≡ entry_from kept next
-    → map entry_of old ++ map (entry_from kept) (reverse left) ≡ whole → map entry_of new ++ map (entry_from kept) (reverse rest) ≡ whole
-named_more kept old new left rest next attr whole popped pushed same was =
-    let behind : List Entry = map (entry_from kept) (reverse rest) in
-    let turned : reverse left ≡ next ∷ reverse rest = ap reverse popped ∙ reverse-append rest (next ∷ []) in
-    ap (λ told. map entry_of told ++ behind) pushed ∙ ap (λ es. es ++ behind) (map-append entry_of old (attr ∷ [])) ∙ append_assoc (map entry_of old) (entry_of attr ∷ []) behind
-    ∙ ap (λ e. map entry_of old ++ e ∷ behind) same ∙ sym (ap (λ next_on. map entry_of old ++ map (entry_from kept) next_on) turned) ∙ was
+-- the attributes of a tag that declare nothing
+pub found_plain : (tags : List Opening) (given : List Given) → filter_map (attribute_under tags) given ≡ filter_map (entry_under tags) (plain_attributes given)
+found_plain tags [] = refl
+found_plain tags (a ∷ more) = case (declares_none a) refl (found_plain tags more)
+  where
+    case : (b : Bool) → declares_none a ≡ b → filter_map (attribute_under tags) more ≡ filter_map (entry_under tags) (plain_attributes more) → filter_map (attribute_under tags) (a ∷ more) ≡ filter_map (entry_under tags) (plain_attributes (a ∷ more))
+    case true e so = ap (λ b. cons_option (if b then entry_under tags a else None) (filter_map (attribute_under tags) more)) e ∙ (ap (cons_option (entry_under tags a)) so ∙ ap (λ b. filter_map (entry_under tags) (if b then a ∷ plain_attributes more else plain_attributes more)) (sym e))
+    case false e so = ap (λ b. cons_option (if b then entry_under tags a else None) (filter_map (attribute_under tags) more)) e ∙ (so ∙ ap (λ b. filter_map (entry_under tags) (if b then a ∷ plain_attributes more else plain_attributes more)) (sym e))
+
+-- ---- how many there are
+
+pub counted : {X : Type 0} (v : Vec X) (n : ℕ) → n ≡ vec_len v → n ≡ length v.items
+counted v n e = grind (arith, common_steps)
+
+-- each attribute of a tag declares or does not
+count_parts : (given : List Given) → length given ≡ length (declarations given) + length (plain_attributes given)
+count_parts [] = refl
+count_parts (a ∷ more) = case (declares_none a) refl (count_parts more)
+  where
+    case : (b : Bool) → declares_none a ≡ b → length more ≡ length (declarations more) + length (plain_attributes more) → length (a ∷ more) ≡ length (declarations (a ∷ more)) + length (plain_attributes (a ∷ more))
+    case true e so = rw e (omega (arith, so))
+    case false e so = rw e (omega (arith, so))
+
+-- fewer are left than there are where the prefix of one is bound to nothing
+few_left : (tags : List Opening) (plain : List Given) → (length (filter_map (entry_under tags) plain) ≤ length plain) × (nat_lt (length (filter_map (entry_under tags) plain)) (length plain) ≡ list_any (is_unbound tags) plain)
+few_left tags [] = (omega arith, refl)
+few_left tags (a ∷ more) = case (attribute_name tags a.name) (few_left tags more)
+  where
+    Fewer : Option FullName → Type 0
+    Fewer n = (length (cons_option (named_entry a.value n) (filter_map (entry_under tags) more)) ≤ suc (length more)) × (nat_lt (length (cons_option (named_entry a.value n) (filter_map (entry_under tags) more))) (suc (length more)) ≡ (is_none n || list_any (is_unbound tags) more))
+
+    both_more : (x y : ℕ) → nat_lt (suc x) (suc y) ≡ nat_lt x y
+    both_more x y = grind (arith, nat_tests)
+
+    below : (x y : ℕ) → x < y → nat_lt x y ≡ true
+    below x y h = grind (arith, nat_tests, h)
+
+    case : (n : Option FullName) → (length (filter_map (entry_under tags) more) ≤ length more) × (nat_lt (length (filter_map (entry_under tags) more)) (length more) ≡ list_any (is_unbound tags) more) → Fewer n
+    case None so = (omega (arith, so.0), below (length (filter_map (entry_under tags) more)) (suc (length more)) (omega (arith, so.0)))
+    case (Some name) so = (omega (arith, so.0), both_more (length (filter_map (entry_under tags) more)) (length more) ∙ so.1)
+
+-- from the number of all, of declarations and of those that are left
+pub left_unbound : (tags : List Opening) (given : List Given) (left count declared : ℕ) → left ≡ length (filter_map (attribute_under tags) given) → count ≡ length given → declared ≡ length (declarations given)
+    → nat_lt left (count - declared) ≡ list_any (is_unbound tags) (plain_attributes given)
+left_unbound tags given left count declared l c d =
+    let e : count - declared ≡ length (plain_attributes given) = omega (arith, count_parts given, c, d) in
+    rw (l ∙ ap length (found_plain tags given), e) (few_left tags (plain_attributes given)).1
 
 -- ---- all of them
 
@@ -132,14 +160,14 @@ clash_twins tags (a ∷ more) all =
     twins_named None = refl
     twins_named (Some name) = sym (any_twins-put (record { name = name; value = a.value }) (entries tags more))
 
-pub expanded_is : (tags : List Opening) (plain : List Given) (kept : Bindings) (collected : Collected) (sorted : List BoundAttr) (expanded : Expanded) → list_all declares_none plain ≡ true → IsCollected tags plain kept collected
-    → map (entry_from kept) sorted ≡ sorted_entries (map (entry_from kept) collected.attrs.items) → map entry_of expanded.attrs.items ≡ map (entry_from kept) sorted
-    → expanded.has_clash ≡ has_twins (map (entry_from kept) sorted) → expanded.is_unbound ≡ collected.is_unbound
-    → IsExpanded tags plain expanded
-expanded_is tags plain kept collected sorted expanded all was is_sorted is_named is_clash is_unbound =
-    let whole : map (entry_from kept) sorted ≡ sorted_entries (filter_map (entry_under tags) plain) = is_sorted ∙ ap sorted_entries was.entries in
+pub expanded_is : (tags : List Opening) (given : List Given) (attributes : List TagAttribute) (found : List Entry) (expanded : Expanded) → found ≡ filter_map (attribute_under tags) given
+    → (expanded.has_clash ≡ false → map tag_entry attributes ≡ sorted_entries found) → expanded.has_clash ≡ has_twins (sorted_entries found) → expanded.is_unbound ≡ list_any (is_unbound tags) (plain_attributes given)
+    → list_all declares_none (plain_attributes given) ≡ true → IsExpanded tags (plain_attributes given) expanded attributes
+expanded_is tags given attributes found expanded is_found is_sorted is_clash is_unbound all =
+    let plain : List Given = plain_attributes given in
+    let whole : sorted_entries found ≡ sorted_entries (filter_map (entry_under tags) plain) = ap sorted_entries (is_found ∙ found_plain tags given) in
     record {
-      entries = is_named ∙ whole ∙ sym (entries_sorted tags plain all);
+      entries = λ n. is_sorted n ∙ whole ∙ sym (entries_sorted tags plain all);
       clash = is_clash ∙ ap has_twins whole ∙ sym (twins_next (filter_map (entry_under tags) plain)) ∙ ap any_twins (sym (entries_sorted tags plain all)) ∙ sym (clash_twins tags plain all);
-      unbound = is_unbound ∙ was.unbound;
+      unbound = is_unbound;
     }

@@ -31,6 +31,7 @@ pub mod Placed
 pub mod PlainLemmas
 pub mod NameBlocks
 pub mod OpenTags
+mod OpenedTags
 pub mod FollowedTokens
 pub mod WholeTokens
 pub mod InsideLemmas
@@ -43,7 +44,6 @@ pub mod QualifiedNames
 pub mod StartScans
 pub mod NamesFound
 pub mod StartsFound
-pub mod AttributesFound
 pub mod CharacterRuns
 mod ClosedBrackets
 pub mod TokenizerLemmas
@@ -73,9 +73,8 @@ pub mod ExpandedLemmas
 pub mod WholeTags
 pub mod ScopeLemmas
 pub mod Twins
-pub mod PlainAttributes
-pub mod AttributesTold
 pub mod SortedAttributes
+pub mod UniqueOrders
 pub mod NamedValues
 pub mod OneMarking
 pub mod Stays

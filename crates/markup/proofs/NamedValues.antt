@@ -3,8 +3,8 @@ use Rattle.std.proofs.Common.{◌≡◌, ℕ, ◌+◌, ◌<◌, ◌≤◌, List,
 use Rattle.std.proofs.Math.ListN.{drop_of_length-le}
 use Rattle.lexical_core.specs.Tree.{Expanded}
 use Rattle.lexical_core.specs.Names.{same_name, attribute_value}
-use Rattle.markup.specs.AttributeTags.{tag_entry}
-use Rattle.markup.specs.declared.attribute_tag.TagAttribute.{TagAttribute}
+use Rattle.markup.specs.TagAttributes.{tag_entry}
+use Rattle.markup.specs.declared.attributes.TagAttribute.{TagAttribute}
 
 pub value_rest : (name : Expanded) (attributes : List TagAttribute) (i : ℕ) (d : TagAttribute) → i < length attributes
     → attribute_value name (map tag_entry (drop i attributes)) ≡ cond (same_name (tag_entry (get_or attributes i d)).name name) (Some (get_or attributes i d).value.now) (attribute_value name (map tag_entry (drop (i + 1) attributes)))

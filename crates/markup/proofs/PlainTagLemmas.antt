@@ -25,7 +25,7 @@ use Rattle.markup.specs.Contexts.{IsContext}
 use Rattle.markup.specs.Drafts.{no_draft}
 use Rattle.markup.specs.ScanRuns.{run, position, placed_by, ended_of}
 use Rattle.markup.specs.Tokenizers.{after_other, behind_token, is_between, is_in_text, is_text, after_whole_tokens}
-use Rattle.markup.specs.Reading.{HasTakenUnder, HasToldUnder, IsInTextUnder, MayTakeTagUnder, MayTakeStartUnder, MayTakeAttributesUnder}
+use Rattle.markup.specs.Reading.{HasTakenUnder, HasToldUnder, IsInTextUnder, MayTakeTagUnder, MayTakeStartUnder}
 use Rattle.markup.specs.PlainStarts.{PlainStart}
 use Rattle.markup.specs.PlainTags.{begins_plain, continues_plain, is_plain_name, joined_text, tag_text, tag_items, open_behind, innermost_namespace, name_behind, may_be_named, IsInsideOf, tags_behind, IsTagInside}
 use Rattle.markup.specs.declared.context.Context.{Context}
@@ -310,6 +310,3 @@ no_slash_here {limit} r bytes told kind prefix name m =
 
 pub start_here : {limit : ℕ} (r : Reader) (bytes : List ℕ) (told : List Placed) (tag : PlainStart) → MayTakeStartUnder limit r bytes told tag → is_in_text r.tokenizer ≡ true
 start_here r bytes told tag m = text_behind r bytes told m.before m.behind
-
-pub told_here : {limit : ℕ} (r : Reader) (bytes : List ℕ) (told : List Placed) (tag : PlainStart) → MayTakeAttributesUnder limit r bytes told tag → is_in_text r.tokenizer ≡ true
-told_here r bytes told tag m = text_behind r bytes told m.before (inside_not_first (reverse m.before.tokens) m.opened m.inside)

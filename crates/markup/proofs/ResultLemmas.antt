@@ -3,6 +3,10 @@ use Rattle.std.proofs.Common.{◌≡◌, Bool, true, false, Result, Ok, Err, IfO
 use Rattle.std.specs.Result.{is_err}
 use Rattle.std.proofs.lemmas.Bool.{both_ways}
 
+pub on_ok : {T E : Type 0} (r : Result T E) (P Q : Type 0) → (P → Q) → OnOk r P → OnOk r Q
+on_ok (Ok x) P Q f h = f h
+on_ok (Err e) P Q f h = tt
+
 pub on_ok_if : {T E : Type 0} (r : Result T E) (P : Type 0) (Q : T → Type 0) → (P → (x : T) → Q x) → OnOk r P → IfOk r Q
 on_ok_if (Ok x) P Q f h = f h x
 on_ok_if (Err e) P Q f h = tt

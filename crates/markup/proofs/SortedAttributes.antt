@@ -1,9 +1,10 @@
--- Attributes that a stable sort put into the order of their names.
-use Rattle.std.proofs.Common.{◌≡◌, Bool, List, [], ◌∷◌, map, Bor, refl, ap, ◌∙◌}
+-- Attributes in the order of their names: those that a stable sort put into it, and those that stand in it.
+use Rattle.std.proofs.Common.{◌≡◌, ◌≤◌, ℕ, zero, suc, Bool, true, false, ◌||◌, List, [], ◌∷◌, length, drop, map, Bor, refl, sym, ap, ◌∙◌, arith}
 use Rattle.std.specs.Cmp.{IsTotalOrder, IsStrictWeakOrder}
 use Rattle.std.specs.Fn.{Called, ComparesAs}
 use Rattle.std.specs.List.Sorted.{IsSortedBy, IsStableBy}
-use Rattle.std.specs.Ordering.{is_lt}
+use Rattle.std.specs.Ordering.{is_lt, is_eq}
+use Rattle.std.proofs.lemmas.Bool.{and_parts, both_ways}
 use Rattle.std.specs.declared.cmp.Ordering.{Ordering}
 use Rattle.std.specs.declared.cmp.Ordering.TheVariants.{Less, Equal, Greater}
 use Rattle.std.proofs.lemmas.Cmp.{on_total}
@@ -13,15 +14,15 @@ use Rattle.lexical_core.specs.Names.{name_cmp}
 use Rattle.lexical_core.proofs.StableSort.{put_by, sorted_by, by_less, sorted_is}
 use Rattle.lexical_core.specs.Tree.{Entry}
 use Rattle.markup.specs.Events.{put}
-use Rattle.markup.specs.inner.TagParts.{sorted_entries}
-use Rattle.markup.proofs.Twins.{entries_total, by_name}
+use Rattle.markup.specs.inner.TagParts.{sorted_entries, is_below_first, are_ascending, first_is_named, has_twins}
+use Rattle.markup.proofs.Twins.{entries_total, by_name, named_tied}
 use denote.Param.Members.{Mut}
 
 module _ {X : Type 0} (entry : X → Entry) where
-  abbrev in_order : X → X → Ordering
+  abbrev pub in_order : X → X → Ordering
   in_order x y = by_name (entry x) (entry y)
 
-  in_order_total : IsTotalOrder in_order
+  pub in_order_total : IsTotalOrder in_order
   in_order_total = on_total entry entries_total
 
   map-put : (x : X) (ys : List X) → map entry (put_by in_order x ys) ≡ put (entry x) (map entry ys)
@@ -35,7 +36,7 @@ module _ {X : Type 0} (entry : X → Entry) where
       case Equal so = refl
       case Greater so = ap (λ zs. entry y ∷ zs) so
 
-  map-sorted : (xs : List X) → map entry (sorted_by in_order xs) ≡ sorted_entries (map entry xs)
+  pub map-sorted : (xs : List X) → map entry (sorted_by in_order xs) ≡ sorted_entries (map entry xs)
   map-sorted [] = refl
   map-sorted (x ∷ xs) = map-put x (sorted_by in_order xs) ∙ ap (put (entry x)) (map-sorted xs)
 
@@ -49,3 +50,54 @@ module _ {X : Type 0} (entry : X → Entry) where
       let order : IsStrictWeakOrder (by_less in_order) = ranks_by in_order_total (λ x. x) in
       let compares : ComparesAs g (by_less in_order) f = always_returns_same g (λ a r. is_lt r ≡ by_less in_order a.0.now a.1.0.now) f (λ a r f' k. (ap is_lt (calls a r f' k).0, (calls a r f' k).1)) in
       ap (map entry) (sorted_is in_order_total xs ys (up (by_less in_order) order compares) (stable (by_less in_order) order compares)) ∙ map-sorted xs
+
+-- ---- names that ascend
+
+put_first : (e : Entry) (es : List Entry) → is_below_first e.name es ≡ true → put e es ≡ e ∷ es
+put_first e [] b = refl
+put_first e (x ∷ es) b = case (name_cmp e.name x.name) b
+  where
+    case : (o : Ordering) → is_lt o ≡ true → (elim o as (λ _. List Entry) [ Less ↦ e ∷ x ∷ es | Equal ↦ e ∷ x ∷ es | Greater ↦ x ∷ put e es ]) ≡ e ∷ x ∷ es
+    case Less h = refl
+    case Equal h = refl
+    case Greater h = absurd (both_ways false refl h)
+
+-- entries whose names ascend are sorted, and no two neighbours have one name
+pub ascending_sorted : (es : List Entry) → are_ascending es ≡ true → es ≡ sorted_entries es
+ascending_sorted [] a = refl
+ascending_sorted (e ∷ es) a =
+    let parts = and_parts (is_below_first e.name es) (are_ascending es) a in
+    sym (put_first e es parts.0) ∙ ap (put e) (ascending_sorted es parts.1)
+
+below_apart : (e : Entry) (es : List Entry) → is_below_first e.name es ≡ true → first_is_named e.name es ≡ false
+below_apart e [] b = refl
+below_apart e (x ∷ es) b = sym (named_tied e.name x) ∙ case (name_cmp e.name x.name) b
+  where
+    case : (o : Ordering) → is_lt o ≡ true → is_eq o ≡ false
+    case Less h = refl
+    case Equal h = absurd (both_ways false refl h)
+    case Greater h = refl
+
+pub ascending_apart : (es : List Entry) → are_ascending es ≡ true → has_twins es ≡ false
+ascending_apart [] a = refl
+ascending_apart (e ∷ es) a =
+    let parts = and_parts (is_below_first e.name es) (are_ascending es) a in
+    ap (λ b. b || has_twins es) (below_apart e es parts.0) ∙ ascending_apart es parts.1
+
+-- ---- behind the last of them
+
+pub twins_end : {X : Type 0} (entry : X → Entry) (xs : List X) (i : ℕ) → length xs ≤ suc i → has_twins (map entry (drop i xs)) ≡ false
+twins_end entry [] zero l = refl
+twins_end entry [] (suc i) l = refl
+twins_end entry (x ∷ []) zero l = refl
+twins_end entry (x ∷ []) (suc i) l = twins_end entry [] i (omega (arith, l))
+twins_end entry (x ∷ y ∷ more) zero l = absurd (omega (arith, l))
+twins_end entry (x ∷ y ∷ more) (suc i) l = twins_end entry (y ∷ more) i (omega (arith, l))
+
+pub ascends_end : {X : Type 0} (entry : X → Entry) (xs : List X) (i : ℕ) → length xs ≤ suc i → are_ascending (map entry (drop i xs)) ≡ true
+ascends_end entry [] zero l = refl
+ascends_end entry [] (suc i) l = refl
+ascends_end entry (x ∷ []) zero l = refl
+ascends_end entry (x ∷ []) (suc i) l = ascends_end entry [] i (omega (arith, l))
+ascends_end entry (x ∷ y ∷ more) zero l = absurd (omega (arith, l))
+ascends_end entry (x ∷ y ∷ more) (suc i) l = ascends_end entry (y ∷ more) i (omega (arith, l))

@@ -25,11 +25,12 @@ use Rattle.markup.specs.PlainStarts.{is_plain_qualified, qualified_text, is_quot
 use Rattle.markup.specs.inner.WholeStarts.{is_empty_kind, IsNameAt, IsValueAt, IsAttributeAt, AreGiven, IsStartAt}
 use Rattle.markup.specs.declared.plain_tag.TagKind.{TagKind}
 use Rattle.markup.specs.declared.plain_tag.TagKind.TheVariants.{Start as StartKind, Empty as EmptyKind, End as EndKind}
-use Rattle.markup.specs.declared.start_tag.WholeStart.{WholeStart}
+use Rattle.markup.specs.declared.start_tag.StartTag.{StartTag as TagStart}
+use Rattle.markup.specs.inner.TagParts.{spelled_opening}
 use Rattle.markup.specs.declared.tag.Given.{Given}
 use Rattle.markup.specs.declared.tag.Opening.{Opening}
 use Rattle.markup.specs.declared.tag.Spelled.{Spelled}
-use Rattle.markup.proofs.AttributeLemmas.{attribute_then, attribute_agree}
+use Rattle.markup.proofs.AttributeLemmas.{attribute_then}
 use Rattle.markup.proofs.InsideRuns.{value_xml, value_ascii, value_not, space_is}
 use Rattle.markup.proofs.QualifiedNames.{name_of, name_written, qualified_is, qualified_encoded, qualified_says}
 use Rattle.markup.proofs.TagScans.{name_found, kind_same, slashed_is}
@@ -116,19 +117,6 @@ module _ (name : Spelled) (q : ℕ) (value : List ℕ) (named : is_plain_qualifi
   attribute_apart : (behind : List ℕ) → 32 ∷ (text ++ 61 ∷ q ∷ (value ++ q ∷ behind)) ≡ attribute_bytes name q value ++ behind
   attribute_apart behind = ap (λ w. 32 ∷ w)
       (ap (λ w. text ++ 61 ∷ q ∷ w) (sym (append_assoc value (q ∷ []) behind)) ∙ sym (append_assoc text (61 ∷ q ∷ (value ++ q ∷ [])) behind))
-
--- what an attribute of this name and this value gives
-abbrev pub given_so : Spelled → List ℕ → Given
-given_so name value = record { name = name; value = value }
-
--- bytes begin with one attribute
-pub one_given : (bytes : List ℕ) (n m : Spelled) (v w b d : List ℕ) → IsAttributeAt bytes n v b → IsAttributeAt bytes m w d → given_so n v ≡ given_so m w
-one_given bytes n m v w b d s t =
-    let there : (k : Spelled) (u c : List ℕ) (a : IsAttributeAt bytes k u c) → attribute_text (attribute_of k a.quote u) ++ c ≡ bytes =
-    λ k u c a. ap (λ x. x ++ c) (attribute_spelled k a.quote u a.named a.quoted a.literal) ∙ (sym (attribute_apart k a.quote u a.named a.quoted a.literal c) ∙ sym a.spelled) in
-    let same : attribute_of n s.quote v ≡ attribute_of m t.quote w =
-    (attribute_agree (attribute_of n s.quote v) (attribute_of m t.quote w) b d (attribute_is n s.quote v s.named s.quoted s.literal) (attribute_is m t.quote w t.named t.quoted t.literal) (there n v b s ∙ sym (there m w d t))).0 in
-    sym (attribute_gives n s.quote v s.named s.quoted s.literal) ∙ (ap given_by same ∙ attribute_gives m t.quote w t.named t.quoted t.literal)
 
 -- ---- attributes, one after another
 
@@ -269,7 +257,7 @@ start_widened piece front room tag count r f s = record {
   short = s.short;
 }
 
-pub starts_widened : (result : Result (Option WholeStart) AllocError) (piece front : List ℕ) (room : ℕ) → room ≤ length piece → front ≡ take room piece → IfOk result (λ o. IfSome o (λ s. IsStartAt front s.tag s.bytes)) → IfOk result (λ o. IfSome o (λ s. IsStartAt piece s.tag s.bytes))
+pub starts_widened : (result : Result (Option TagStart) AllocError) (piece front : List ℕ) (room : ℕ) → room ≤ length piece → front ≡ take room piece → IfOk result (λ o. IfSome o (λ s. IsStartAt front (spelled_opening s.prefix.now s.name.now s.attributes.items s.is_empty) s.bytes)) → IfOk result (λ o. IfSome o (λ s. IsStartAt piece (spelled_opening s.prefix.now s.name.now s.attributes.items s.is_empty) s.bytes))
 starts_widened (Ok None) piece front room r f h = tt
-starts_widened (Ok (Some s)) piece front room r f h = start_widened piece front room s.tag s.bytes r f h
+starts_widened (Ok (Some s)) piece front room r f h = start_widened piece front room (spelled_opening s.prefix.now s.name.now s.attributes.items s.is_empty) s.bytes r f h
 starts_widened (Err e) piece front room r f h = tt

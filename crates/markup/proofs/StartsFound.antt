@@ -12,7 +12,7 @@ use Rattle.markup.specs.PlainStarts.{is_plain_qualified, qualified_text, is_quot
 use Rattle.markup.specs.inner.WholeStarts.{goes_on_name, IsNameAt, IsValueAt, IsAttributeAt, AreGiven, AreLeft}
 use Rattle.markup.specs.declared.plain_tag.TagKind.{TagKind}
 use Rattle.markup.specs.declared.plain_tag.TagKind.TheVariants.{Start as StartKind, Empty as EmptyKind}
-use Rattle.markup.specs.declared.start_tag.WholeStart.{WholeStart}
+use Rattle.markup.specs.declared.start_tag.StartTag.{StartTag}
 use Rattle.markup.specs.declared.tag.Given.{Given}
 use Rattle.markup.specs.declared.tag.Spelled.{Spelled}
 use Rattle.markup.proofs.NamesFound.{IsBehindName, behind_front, run_ends}
@@ -220,8 +220,8 @@ text_within piece text rest e = omega (arith, ap length e, length-append text re
 
 -- ---- what was found
 
-pub found_size : (o : Option WholeStart) (s : WholeStart) (n : ℕ) → o ≡ Some s → IsSomeAnd o (λ t. t.bytes ≡ n) → s.bytes ≡ n
+pub found_size : (o : Option StartTag) (s : StartTag) (n : ℕ) → o ≡ Some s → IsSomeAnd o (λ t. t.bytes ≡ n) → s.bytes ≡ n
 found_size o s n e h = subst (λ v. IsSomeAnd v (λ t. t.bytes ≡ n)) e h
 
-pub none_found : (o : Option WholeStart) (n : ℕ) → o ≡ None → IsSomeAnd o (λ t. t.bytes ≡ n) → ⊥
+pub none_found : (o : Option StartTag) (n : ℕ) → o ≡ None → IsSomeAnd o (λ t. t.bytes ≡ n) → ⊥
 none_found o n e h = subst (λ v. IsSomeAnd v (λ t. t.bytes ≡ n)) e h

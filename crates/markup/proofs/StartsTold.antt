@@ -1,42 +1,34 @@
 -- A reader behind a start tag that it takes whole, and one that refuses it.
-use Rattle.std.proofs.Common.{◌≡◌, ℕ, true, false, ◌+◌, List, [], ◌∷◌, ◌++◌, length, take, drop, reverse, Option, Some, None, ⊎_elim, refl, sym, ◌∙◌, ap, subst, append_assoc, append-nil, arith}
+use Rattle.std.proofs.Common.{◌≡◌, ℕ, true, false, ◌+◌, List, [], ◌∷◌, ◌++◌, length, take, drop, reverse, Option, Some, None, refl, sym, ◌∙◌, ap, subst, append_assoc, append-nil, arith}
 use Rattle.std.specs.Bool.{if◌then◌else◌}
 use Rattle.std.specs.List.{flat_map}
-use Rattle.std.specs.Option.{IfSome, IsSome}
+use Rattle.std.specs.Option.{IfSome}
 use Rattle.std.proofs.lemmas.Bool.{and_parts, eqb-true, le-leb}
 use Rattle.std.proofs.lemmas.List.{length-take-le, take-append-drop}
 use Rattle.lexical_core.specs.declared.rule.Rule.{Rule}
 use Rattle.markup.specs.Token.{Token, Start, token_bytes, is_start_tag}
 use Rattle.markup.specs.Marks.{in_cdata, stands, is_short, Cell, Front}
 use Rattle.markup.specs.Events.{Placed, events, items_of}
-use Rattle.markup.specs.EventItems.{Tells, TellsFront, TellsClean}
 use Rattle.markup.specs.Faults.{rule_of, MarkFaultUnder, broken}
 use Rattle.markup.specs.Scopes.{placed_at}
-use Rattle.markup.specs.Contexts.{IsContext, TakesToken}
-use Rattle.markup.specs.Reading.{HasTakenUnder, HasToldUnder, GoesOnUnder, RefusesUnder, RunsOutUnder}
+use Rattle.markup.specs.Contexts.{IsContext}
+use Rattle.markup.specs.Reading.{HasTakenUnder, HasToldUnder, RefusesUnder, RunsOutUnder}
 use Rattle.markup.specs.Tokenizers.{is_between, is_in_text, after_whole_tokens}
 use Rattle.markup.specs.inner.WholeStarts.{IsStartAt}
 use Rattle.markup.specs.declared.context.Context.{Context}
 use Rattle.markup.specs.declared.event.Event.{Event}
 use Rattle.markup.specs.declared.reader.Reader.{Reader}
-use Rattle.markup.specs.declared.start_tag.WholeStart.{WholeStart}
 use Rattle.markup.specs.declared.tag.Opening.{Opening}
-use Rattle.markup.proofs.EventLemmas.{events_snoc}
 use Rattle.markup.proofs.EventTells.{tells_none}
-use Rattle.markup.proofs.InputLemmas.{front_snoc, clean_snoc}
 use Rattle.markup.proofs.NoCut.{stays_no_cut}
 use Rattle.markup.proofs.PlainLemmas.{is_fresh, text_place, text_between}
 use Rattle.markup.proofs.ReaderLemmas.{told_so_far, starts}
 use Rattle.markup.proofs.TokenRuleLemmas.{in_cdata-open}
 use Rattle.markup.proofs.WholeTokens.{IsNext, none_open, all_told, takes_next}
-use Rattle.markup.proofs.TokensBehind.{behind}
 
 -- what holds of a tag that is there
 pub some_holds : {A : Type 0} (Holds : A → Type 0) (o : Option A) (tag : A) → o ≡ Some tag → IfSome o Holds → Holds tag
 some_holds Holds o tag e h = subst (λ v. IfSome v Holds) e h
-
-pub some_ready : (r : Reader) (o : Option WholeStart) (s : WholeStart) → o ≡ Some s → (IsSome o → is_in_text r.tokenizer ≡ true) → is_in_text r.tokenizer ≡ true
-some_ready r o s e h = h (subst IsSome (sym e) refl)
 
 module _ {limit : ℕ} (r : Reader) (bytes piece : List ℕ) (told : List Placed) (h : HasTakenUnder limit r bytes told) (old new : List Event) where
   abbrev ts : List Token
@@ -104,17 +96,6 @@ module _ {limit : ℕ} (r : Reader) (bytes piece : List ℕ) (told : List Placed
         subst (λ v. HasToldUnder limit after (bytes ++ v) (told ++ more)) (sym at.spelled)
         (told_so_far after (bytes ++ token_bytes token) (told ++ more) (takes_next r bytes told h between (and_parts _ _ text).1 token count c (next clean) size context_is))
 
-    pub goes_behind : (c : Context) → TakesToken before token r.tokenizer.start old new c → GoesOnUnder limit (record { tokenizer = after_whole_tokens r.tokenizer count; context = c; failed = r.failed }) (bytes ++ take count piece) told old new
-    goes_behind c t =
-        let k = told_behind c t.clean t.context_is in
-        record {
-          more = placed_at (length bytes) (items_of before token);
-          tells = subst (λ p. Tells old new (placed_at p (items_of before token))) place_is t.tells;
-          taken_are = k.taken_are;
-          are_events = k.are_events;
-          only_cut = k.only_cut;
-        }
-
     -- it breaks one
     pub refuses_start : (rule : Rule) → rule_of before token ≡ Some rule → new ≡ old → RefusesUnder limit (bytes ++ piece) told old new (record { rule = rule; place = r.tokenizer.start })
     refuses_start rule b e = record {
@@ -141,22 +122,3 @@ module _ {limit : ℕ} (r : Reader) (bytes piece : List ℕ) (told : List Placed
       } where
         zero_more : (n : ℕ) → n + 0 ≡ n
         zero_more n = omega arith
-
-    here : Front limit [] (bytes ++ piece) ts piece
-    here = subst (λ v. Front limit [] (bytes ++ piece) ts (v ++ piece)) (none_open r bytes told h between (and_parts _ _ text).1) (h.1.reads.front piece tt)
-
-    -- memory runs out while its events are told
-    begun_out : rule_of before token ≡ None → TellsFront old new (placed_at r.tokenizer.start (items_of before token)) → RunsOutUnder limit (bytes ++ piece) told old new
-    begun_out clean t = record {
-      front = t.front;
-      behind = t.behind;
-      tokens = ts ++ token ∷ [];
-      rest = drop count piece;
-      front_is = front_snoc limit [] (bytes ++ piece) piece (drop count piece) ts token here (subst (λ b. Cell b token piece (drop count piece)) (behind ts) (record { spelled = whole; is = stands_here (drop count piece) })) short;
-      clean = clean_snoc ts token h.1.clean clean;
-      events_are = ap (λ v. told ++ v) (sym t.front_is) ∙ (ap (λ p. told ++ placed_at p (items_of before token)) (starts r bytes ts told h.1) ∙ (ap (λ v. v ++ placed_at (length (flat_map token_bytes ts)) (items_of before token)) so_far ∙ sym (events_snoc ts token)));
-      tells = t.tells;
-    }
-
-    pub start_out : TellsClean (rule_of before token) old new (placed_at r.tokenizer.start (items_of before token)) → RunsOutUnder limit (bytes ++ piece) told old new
-    start_out t = ⊎_elim (λ c. begun_out c t.0) (λ s. stays_out text s) t.1

@@ -42,7 +42,7 @@ tied_named x y e =
     let second : bytes_eq x.name.local y.name.local ≡ true = sym (is_eq-slice_cmp x.name.local y.name.local) ∙ ap is_eq parts.1 in
     ap (λ b. b && bytes_eq x.name.local y.name.local) first ∙ second
 
-named_same : (x y : Entry) → is_named x.name y ≡ true → x.name ≡ y.name
+pub named_same : (x y : Entry) → is_named x.name y ≡ true → x.name ≡ y.name
 named_same x y e =
     let parts = and_parts (bytes_eq x.name.namespace y.name.namespace) (bytes_eq x.name.local y.name.local) e in
     let first : x.name.namespace ≡ y.name.namespace = (bytes_eq-Decides x.name.namespace y.name.namespace).0 parts.0 in
@@ -60,7 +60,7 @@ named_tied n e =
     then_equal (slice_cmp nat_cmp n.namespace e.name.namespace) (slice_cmp nat_cmp n.local e.name.local) ∙ (ap (λ b. b && is_eq (slice_cmp nat_cmp n.local e.name.local)) (is_eq-slice_cmp n.namespace e.name.namespace)
     ∙ ap (λ b. bytes_eq n.namespace e.name.namespace && b) (is_eq-slice_cmp n.local e.name.local))
 
-named_back : (x y : Entry) → is_named x.name y ≡ is_named y.name x
+pub named_back : (x y : Entry) → is_named x.name y ≡ is_named y.name x
 named_back x y = ap (λ b. b && bytes_eq x.name.local y.name.local) (nat_list_eq_equiv.symm x.name.namespace y.name.namespace) ∙ ap (λ b. bytes_eq y.name.namespace x.name.namespace && b) (nat_list_eq_equiv.symm x.name.local y.name.local)
 
 -- ---- an entry put at its place

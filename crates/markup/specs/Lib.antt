@@ -25,7 +25,7 @@ pub mod Contexts
 pub mod Longest
 pub mod PlainTags
 pub mod PlainStarts
-pub mod AttributeTags
+pub mod TagAttributes
 pub mod Reading
 pub mod References
 pub mod Literals

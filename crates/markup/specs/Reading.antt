@@ -16,9 +16,7 @@ use Rattle.markup.specs.Inputs.{ReadsTokens, Any, with_pending}
 use Rattle.markup.specs.Contexts.{IsContext}
 use Rattle.markup.specs.PlainTags.{joined_text, tag_text, may_be_named, IsInsideOf}
 use Rattle.markup.specs.PlainStarts.{PlainStart, is_plain_start, plain_start_text}
-use Rattle.markup.specs.AttributeTags.{is_told_start}
 use Rattle.markup.specs.declared.plain_tag.TagKind.{TagKind}
-use Rattle.markup.specs.declared.tag.Spelled.{Spelled}
 use Rattle.markup.specs.declared.event.Event.{Event}
 use Rattle.markup.specs.declared.reader.MarkError.{MarkError}
 use Rattle.markup.specs.declared.reader.MarkError.TheVariants.{Refused, Memory}
@@ -179,17 +177,6 @@ pub record MayTakeStartUnder (limit : ℕ) (reader : Reader) (bytes : List ℕ) 
 
 abbrev pub MayTakeStart : Reader → List ℕ → List Placed → PlainStart → Type 0
 MayTakeStart reader bytes told tag = MayTakeStartUnder tag_limit reader bytes told tag
-
--- Behind whole tokens, outside CDATA sections, the plain start tag may come whose attributes declare nothing, have short namespaces and clash with none, which has no more bytes than one of XML: where the innermost open element has its prefix.
-pub record MayTakeAttributesUnder (limit : ℕ) (reader : Reader) (bytes : List ℕ) (told : List Placed) (tag : PlainStart) : Type 0 where
-  pub before : IsInTextUnder limit reader bytes told
-  pub opened : Spelled
-  pub inside : IsInsideOf (open_tags (reverse before.tokens)) opened
-  pub plain : is_told_start opened.prefix (open_tags (reverse before.tokens)) tag ≡ true
-  pub short : length (plain_start_text tag) ≤ tag_limit
-
-abbrev pub MayTakeAttributes : Reader → List ℕ → List Placed → PlainStart → Type 0
-MayTakeAttributes reader bytes told tag = MayTakeAttributesUnder tag_limit reader bytes told tag
 
 -- A token is open behind the tokens before, which begins with neither a CR nor a `]`; some token goes on with these bytes of ASCII and is not whole with them, and it has fewer bytes then than a tag may have.
 pub record MayTakeInsideUnder (limit : ℕ) (reader : Reader) (bytes : List ℕ) (told : List Placed) (more : List ℕ) : Type 0 where

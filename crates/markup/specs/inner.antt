@@ -5,6 +5,6 @@ pub mod Ranks
 pub mod Origins
 pub mod TagParts
 pub mod WholeStarts
-pub mod ToldStarts
+pub mod StartTags
 pub mod Numbers
 pub mod ClosedBrackets

@@ -61,11 +61,12 @@ impl Bindings {
 
     /// Opens a declaration that binds the prefix to the namespace. Behind an error the declarations are
     /// of no more use.
-    pub(crate) fn declare(&mut self, prefix: Text, namespace: Text) -> Result<(), AllocError>
-        ensures { (declared : List Given) (given : Given) → Binds self.old declared → declared_prefix given.name ≡ Some prefix → given.value ≡ namespace → OnOk result (Binds self.new (given ∷ declared)) }
+    pub(crate) fn declare(&mut self, prefix: &[u8], namespace: &[u8]) -> Result<(), AllocError>
+        ensures { (declared : List Given) (given : Given) → Binds self.old declared → declared_prefix given.name ≡ Some prefix.now → given.value ≡ namespace.now → OnOk result (Binds self.new (given ∷ declared)) }
     {
-        let key = prefix.copy(self.alloc)?.into_vec();
-        let namespace = Namespace::from_text(namespace)?;
+        let key = Vec::from_slice(self.alloc, prefix)?;
+        let prefix = Text::from_vec(Vec::from_slice(self.alloc, prefix)?);
+        let namespace = Namespace::from_slice(namespace, self.alloc)?;
         let former = self.latest.insert(key, self.open.len())?;
         self.open.push(Binding {
             prefix,

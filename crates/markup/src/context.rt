@@ -7,6 +7,8 @@ ghost use Rattle.markup.specs.Events.{opening, open_tags, spelled_name};
 ghost use Rattle.markup.specs.EventItems.{Tells, TellsFront, item_of};
 ghost use Rattle.markup.specs.TokenRules.{inner_rule, inside_alone, inner_items, brackets_by, one_more, ends_tag};
 ghost use Rattle.markup.specs.Contexts.{IsContext, TokenTaken, HasOpen, without_brackets, with_brackets};
+ghost use Rattle.markup.specs.inner.TagParts.{spelled_opening};
+ghost use Rattle.markup.specs.inner.StartTags.{StartTaken};
 ghost use Rattle.markup.specs.Inputs.{settled_tokens, settled_events};
 ghost use Rattle.markup.specs.Marks.{in_cdata};
 ghost use Rattle.markup.specs.PlainTags.{IsInsideOf, tags_behind};
@@ -15,12 +17,13 @@ ghost use Rattle.markup.specs.ScanRuns.{ended_of, draft_of};
 ghost use Rattle.markup.specs.Faults.{is_over, is_outside};
 ghost use Rattle.markup.specs.Name.{Name};
 
+use crate::attributes::TagAttribute;
 use crate::characters::is_blank;
 use crate::draft::Draft;
 use crate::event::{Event, Events, What};
 use crate::plain_tag::{PlainTag, TagKind};
 use crate::scan::Ended;
-use crate::scope::{Scope, Stop};
+use crate::scope::{Opened, Scope, Stop};
 use crate::tag::{Opening, Spelled};
 use crate::tokenizer::Settled;
 use lexical_core::Rule;
@@ -263,6 +266,24 @@ impl Context {
         }
         self.brackets = self.next_brackets(ended);
         Ok(())
+    }
+
+    /// Takes a start tag of this name, whose attributes and declarations are these as they are spelled: gives the
+    /// element's namespace and, in their order, the attributes that declare nothing with their expanded names.
+    pub(crate) fn open(
+        &mut self,
+        prefix: &[u8],
+        name: &[u8],
+        attributes: &mut Vec<TagAttribute<'_>>,
+        is_empty: bool,
+    ) -> Result<Opened, Stop>
+        ensures { (before : List Token) (t : StartTag) → IsContext self.old before → opening t ≡ spelled_opening prefix.now name.now attributes.old.items is_empty → StartTaken before t name.now attributes.new.items is_empty self.new result }
+    {
+        let over = self.is_over();
+        let opened = self.scope.open(prefix, name, attributes, is_empty, over)?;
+        self.has_root = true;
+        self.brackets = 0;
+        Ok(opened)
     }
 
     /// Takes a start tag.

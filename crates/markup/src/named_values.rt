@@ -2,11 +2,12 @@
 ghost use Rattle.std.specs.Prelude.{◌≡◌, IfOk, map};
 ghost use Rattle.std.specs.Option.{option_copied};
 ghost use Rattle.lexical_core.specs.Names.{attribute_value, same_name};
-ghost use Rattle.markup.specs.AttributeTags.{tag_entry};
+ghost use Rattle.markup.specs.TagAttributes.{tag_entry};
 ghost use Rattle.markup.specs.EventItems.{entry_of};
 
-use crate::attribute_tag::TagAttribute;
+use crate::attributes::TagAttribute;
 use crate::event::Attr;
+use crate::origin::Origin;
 use lexical_core::are_same;
 use std::alloc::{AllocError, Global};
 
@@ -21,6 +22,7 @@ pub fn tag_attributes<'a>(
     for attr in attrs {
         attributes.push(TagAttribute {
             ns: attr.ns.share()?,
+            origin: Origin::Nothing,
             prefix: b"",
             name: attr.local.bytes(),
             value: attr.value.bytes(),

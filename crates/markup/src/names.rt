@@ -6,12 +6,10 @@ ghost use Rattle.lexical_core.specs.Names.{xml_namespace};
 ghost use Rattle.markup.specs.Events.{declared_prefix};
 ghost use Rattle.markup.specs.Faults.{is_bad_declaration};
 
-use crate::tag::Spelled;
-use lexical_core::Text;
-use std::alloc::Global;
+use lexical_core::are_same;
 
 /// The name and prefix of declarations (Namespaces §3).
-pub(crate) const XMLNS: &[u8] = b"xmlns";
+const XMLNS: &[u8] = b"xmlns";
 
 /// The prefix that is bound without a declaration (Namespaces §3).
 pub(crate) const XML: &[u8] = b"xml";
@@ -31,26 +29,17 @@ pub(crate) fn is_empty(text: &[u8]) -> bool
 
 /// The prefix that an attribute of this name declares, the empty one for the default; `None` where
 /// it is no declaration (Namespaces §3).
-pub(crate) fn declared_prefix(name: &Spelled) -> Option<&[u8]>
-    ensures { option_copied result ≡ declared_prefix name.now }
+#[inline]
+pub(crate) fn declared_prefix<'a>(prefix: &[u8], local: &'a [u8]) -> Option<&'a [u8]>
+    ensures { option_copied result ≡ declared_prefix (record { prefix = prefix.now; local = local.now }) }
 {
-    if name.prefix.bytes() == XMLNS {
-        Some(name.local.bytes())
-    } else if is_empty(name.prefix.bytes()) && name.local.bytes() == XMLNS {
+    if are_same(prefix, XMLNS) {
+        Some(local)
+    } else if is_empty(prefix) && are_same(local, XMLNS) {
         Some(b"")
     } else {
         None
     }
-}
-
-/// The prefix that an attribute of this name declares, moved out of the name.
-pub(crate) fn into_declared(name: Spelled, alloc: Global) -> Text
-    ensures { (prefix : List ℕ) → declared_prefix name ≡ Some prefix → result ≡ prefix }
-{
-    if is_empty(name.prefix.bytes()) {
-        return Text::new(alloc);
-    }
-    name.local
 }
 
 /// Whether of the prefix `xml` and its namespace one is bound without the other (Namespaces §3).

@@ -1,5 +1,5 @@
 //! The elements that are open, with the namespaces that their tags declare.
-ghost use Rattle.std.specs.Prelude.{◌≡◌, ◌==◌, ◌≤◌, ◌++◌, ◌∷◌, List, [], ℕ, length, drop, IfOk, OnOk, OnErr, IfSome, IsSome, IsSomeAnd, Some, None, Option, map, false, true, ◌&&◌, if◌then◌else◌};
+ghost use Rattle.std.specs.Prelude.{◌≡◌, ◌==◌, ◌≤◌, ◌++◌, ◌∷◌, List, [], ℕ, length, drop, IfOk, OnOk, OnErr, IfSome, IsSome, Some, None, Option, map, false, true, ◌&&◌, if◌then◌else◌};
 ghost use Rattle.std.specs.Str.{bytes_eq};
 ghost use Rattle.lexical_core.specs.declared.rule.Rule.TheVariants.{TagMismatch};
 ghost use Rattle.markup.specs.Events.{namespace_of, start_tag_items, expanded_in, end_items};
@@ -9,17 +9,18 @@ ghost use Rattle.markup.specs.Marks.{tag_limit, begins_with};
 ghost use Rattle.markup.specs.Faults.{end_rule};
 ghost use Rattle.markup.specs.OpenNames.{OpenName, KeepsNames};
 ghost use Rattle.markup.specs.PlainTags.{joined_text, tag_text, may_be_named, IsInsideOf, tags_behind, IsTagAt, IsTagInside};
-ghost use Rattle.markup.specs.Scopes.{placed_at};
+ghost use Rattle.markup.specs.Scopes.{open_name, placed_at};
 
-use crate::attributes::{Expanded, Parted};
+use crate::attributes::{Declared, Expanded, TagAttribute, spelled_attributes};
 use crate::bindings::Bindings;
-use crate::event::{Attrs, Events};
+use crate::event::Events;
 use crate::namespace::Namespace;
 use crate::open_names::{InnermostName, OpenNames};
 use crate::plain_tag::{PlainTag, TagKind, tag_at};
-use crate::tag::{Given, Opening, Spelled};
-use crate::telling::{tell_both, tell_end, tell_start};
-use lexical_core::{Items, Rule};
+use crate::start_tag::StartTag;
+use crate::tag::{Opening, Spelled};
+use crate::telling::tell_end;
+use lexical_core::{Rule, are_same};
 use std::alloc::{AllocError, Global};
 
 /// Why an element is not told.
@@ -32,16 +33,23 @@ pub(crate) enum Stop {
 
 /// What a start tag says under the tags that are open before it.
 #[derive(Drop)]
-pub(crate) struct Resolved {
+struct Resolved {
     /// The namespace of the element; `None` where its prefix is bound to nothing.
     namespace: Option<Namespace>,
-    attrs: Attrs,
     /// How many namespaces the tag declares.
     declared: usize,
     /// Whether two declarations or two attributes have one name.
     has_clash: bool,
     /// Whether a declaration may not be, or an attribute's prefix is bound to nothing.
     is_bad: bool,
+}
+
+/// The namespace of an element whose start tag breaks no rule.
+#[derive(Drop)]
+pub(crate) struct Opened {
+    pub(crate) ns: Namespace,
+    /// Whether the element round it has the same prefix, and the tag declares nothing.
+    pub(crate) has_same_ns: bool,
 }
 
 /// The open elements, the outermost first.
@@ -55,7 +63,8 @@ pub(crate) struct Scope {
 
 impl Scope {
     ghost use Rattle.markup.specs.Scopes.{IsScope, IsStartAnswer, Closes};
-    ghost use Rattle.markup.specs.inner.TagParts.{IsResolved};
+    ghost use Rattle.markup.specs.inner.TagParts.{tag_given, spelled_opening, IsResolved};
+    ghost use Rattle.markup.specs.inner.StartTags.{IsOpened};
 
     /// No element is open. It takes no memory.
     pub(crate) fn new(alloc: Global) -> Scope
@@ -99,12 +108,53 @@ impl Scope {
             given,
             is_empty,
         } = tag;
-        let Ok(resolved) = self.resolve(&name, given) else {
+        let Ok(mut attributes) = spelled_attributes(given.as_slice(), self.alloc) else {
+            return Err(Stop::Memory);
+        };
+        let opened = match self.open(
+            name.prefix.bytes(),
+            name.local.bytes(),
+            &mut attributes,
+            is_empty,
+            over,
+        ) {
+            Ok(opened) => opened,
+            Err(stop) => return Err(stop),
+        };
+        let tag = StartTag {
+            ns: opened.ns,
+            has_same_ns: opened.has_same_ns,
+            prefix: name.prefix.bytes(),
+            name: name.local.bytes(),
+            attributes,
+            is_empty,
+            bytes: 0,
+        };
+        match tag.tell(place, out, self.alloc) {
+            Ok(()) => Ok(()),
+            Err(_) => Err(Stop::Memory),
+        }
+    }
+
+    /// A start tag of this name, whose attributes and declarations are these as they are spelled: gives the element's
+    /// namespace and, in their order, the attributes that declare nothing with their expanded names, or the least rule
+    /// that the tag breaks. The tag of an empty element opens and closes it. Behind an error the scope is of no more
+    /// use.
+    pub(crate) fn open(
+        &mut self,
+        prefix: &[u8],
+        name: &[u8],
+        attributes: &mut Vec<TagAttribute<'_>>,
+        is_empty: bool,
+        over: bool,
+    ) -> Result<Opened, Stop>
+        ensures { (tags : List Opening) → IsScope self.old tags → IsOpened over tags (spelled_opening prefix.now name.now attributes.old.items is_empty) attributes.new.items self.new result }
+    {
+        let Ok(resolved) = self.resolve(prefix, attributes) else {
             return Err(Stop::Memory);
         };
         let Resolved {
             namespace,
-            attrs,
             declared,
             has_clash,
             is_bad,
@@ -121,74 +171,51 @@ impl Scope {
         if over {
             return Err(Stop::Rule(Rule::AfterRoot));
         }
+        let opened = Opened {
+            ns,
+            has_same_ns: self.has_same_ns(declared, prefix),
+        };
         if is_empty {
-            return match self.pass(name, declared, ns, attrs, place, out) {
-                Ok(()) => Ok(()),
-                Err(_) => Err(Stop::Memory),
-            };
+            self.bindings.forget(declared);
+            return Ok(opened);
         }
-        match self.open(name, declared, ns, attrs, place, out) {
-            Ok(()) => Ok(()),
+        match self.names.push(prefix, name, declared) {
+            Ok(()) => Ok(opened),
             Err(_) => Err(Stop::Memory),
         }
     }
 
-    /// Takes up the declarations of a start tag, and expands its names.
-    fn resolve(&mut self, name: &Spelled, given: Items<Given>) -> Result<Resolved, AllocError>
-        ensures { (tags : List Opening) (tag : Opening) → IsScope self.old tags → tag.name ≡ name.now → tag.given ≡ given → IfOk result (λ r. IsResolved tags tag r self.new) }
+    /// Whether a tag that has this prefix and declares so many namespaces declares none, and the innermost element has
+    /// its prefix.
+    fn has_same_ns(&self, declared: usize, prefix: &[u8]) -> bool
+        ensures { (tags : List Opening) → KeepsNames self.now.names (map open_name tags) → result ≡ true → (declared ≡ 0) × (opened : List ℕ) × IsInsideOf tags (record { prefix = prefix.now; local = opened }) }
     {
-        let outer = self.bindings.count();
-        let parts = Parted::of(given, &mut self.bindings, self.alloc)?;
-        let declared = self.bindings.count().saturating_sub(outer);
-        let namespace = self.bindings.namespace_of(name.prefix.bytes())?;
-        let expanded = Expanded::of(parts.attributes, &self.bindings, self.alloc)?;
+        if declared > 0 {
+            return false;
+        }
+        match self.names.innermost() {
+            Some(innermost) => are_same(innermost.prefix, prefix),
+            None => false,
+        }
+    }
+
+    /// Takes up the declarations of a start tag, and expands the names of its attributes.
+    fn resolve(
+        &mut self,
+        prefix: &[u8],
+        attributes: &mut Vec<TagAttribute<'_>>,
+    ) -> Result<Resolved, AllocError>
+        ensures { (tags : List Opening) (tag : Opening) → IsScope self.old tags → tag.name.prefix ≡ prefix.now → tag.given ≡ map tag_given attributes.old.items → IfOk result (λ r. IsResolved tags tag r attributes.new.items self.new) }
+    {
+        let parts = Declared::of(attributes.as_slice(), &mut self.bindings)?;
+        let namespace = self.bindings.namespace_of(prefix)?;
+        let expanded = Expanded::of(attributes, parts.count, &self.bindings)?;
         Ok(Resolved {
             namespace,
-            attrs: Items::from_vec(expanded.attrs),
-            declared,
+            declared: parts.count,
             has_clash: parts.has_clash | expanded.has_clash,
             is_bad: parts.is_bad | expanded.is_unbound,
         })
-    }
-
-    /// Opens the element of a start tag that breaks no rule, and tells that it starts.
-    fn open(
-        &mut self,
-        name: Spelled,
-        declared: usize,
-        ns: Namespace,
-        attrs: Attrs,
-        place: u64,
-        out: &mut Events,
-    ) -> Result<(), AllocError>
-        ensures names { (names : List OpenName) → KeepsNames self.old.names names → OnOk result (KeepsNames self.new.names ((record { name = name; declared = declared }) ∷ names)) }
-        ensures declared { self.new.bindings ≡ self.old.bindings }
-        ensures ok { OnOk result (Tells out.old out.new (placed_at place (start_tag_items (expanded_in (Some ns) name.local) (map entry_of attrs) false))) }
-        ensures err { OnErr result (out.new ≡ out.old) }
-    {
-        self.names
-            .push(name.prefix.bytes(), name.local.bytes(), declared)?;
-        tell_start(out, place, ns, name.local, attrs)
-    }
-
-    /// Tells that the empty element of a start tag that breaks no rule starts and ends, and forgets
-    /// the tag's declarations.
-    fn pass(
-        &mut self,
-        name: Spelled,
-        declared: usize,
-        ns: Namespace,
-        attrs: Attrs,
-        place: u64,
-        out: &mut Events,
-    ) -> Result<(), AllocError>
-        ensures names { self.new.names ≡ self.old.names }
-        ensures declared { (before : List Given) → Binds self.old.bindings before → Binds self.new.bindings (drop declared before) }
-        ensures ok { OnOk result (Tells out.old out.new (placed_at place (start_tag_items (expanded_in (Some ns) name.local) (map entry_of attrs) true))) }
-        ensures err { OnErr result (TellsFront out.old out.new (placed_at place (start_tag_items (expanded_in (Some ns) name.local) (map entry_of attrs) true))) }
-    {
-        self.bindings.forget(declared);
-        tell_both(out, place, ns, name.local, attrs, self.alloc)
     }
 
     /// An end tag at the place: tells its event, or the rule that it breaks (XML 1.0 §3.1, Element
@@ -234,18 +261,6 @@ impl Scope {
         if declared > 0 {
             self.bindings.forget(declared);
         }
-    }
-
-    /// The prefix of the innermost element, where one is open.
-    #[inline]
-    pub(crate) fn innermost_prefix(&self) -> Option<&[u8]>
-        ensures some { (tags : List Opening) → IsScope self.now tags → IfSome result (λ prefix. (opened : List ℕ) × IsInsideOf tags (record { prefix = prefix.now; local = opened })) }
-        ensures all { (tags : List Opening) (name : Spelled) → IsScope self.now tags → IsInsideOf tags name → IsSomeAnd result (λ prefix. prefix.now ≡ name.prefix) }
-    {
-        let Some(innermost) = self.names.innermost() else {
-            return None;
-        };
-        Some(innermost.prefix)
     }
 
     /// The plain tag at the front of the piece that breaks no rule, with the prefix of the innermost

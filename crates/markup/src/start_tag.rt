@@ -1,26 +1,43 @@
-//! Start tags with attributes that stand whole at the front of a piece of the input.
-ghost use Rattle.std.specs.Prelude.{◌≡◌, ◌<◌, ◌≤◌, ◌++◌, ℕ, List, [], length, take, drop, IfOk, IfSome, IsSomeAnd, true, false};
+//! Start tags that stand whole at the front of a piece of the input, as slices of it.
+ghost use Rattle.std.specs.Prelude.{◌≡◌, ◌<◌, ◌≤◌, ◌++◌, ℕ, List, [], length, take, drop, map, IfOk, OnOk, IfSome, IsSomeAnd, true, false};
 ghost use Rattle.std.specs.List.{list_all, flat_map, prefix_len};
 ghost use Rattle.markup.specs.Marks.{tag_limit, begins_with};
 ghost use Rattle.markup.specs.PlainTags.{continues_plain, is_plain_name};
 ghost use Rattle.markup.specs.PlainStarts.{is_quote, PlainAttribute, is_plain_attribute, plain_attribute_text, PlainStart, is_plain_start, plain_start_text};
 ghost use Rattle.markup.specs.inner.WholeStarts.{named_by, goes_on_name, is_empty_kind, IsLocalAt, IsNameAt, IsValueAt, IsAttributeAt, AreGiven, IsStartAt};
+ghost use Rattle.markup.specs.inner.TagParts.{tag_given, spelled_opening};
 ghost use Rattle.markup.specs.declared.tag.Spelled.{Spelled};
 
-use crate::attributes::text_of;
+use crate::attributes::{TagAttribute, spelled};
 use crate::inside::value_length;
+use crate::namespace::Namespace;
 use crate::plain_tag::{TagKind, begins_plain, closing, mark_count, name_length};
-use crate::tag::{Given, Opening, Spelled};
+use crate::tag::Spelled;
 use crate::tokenizer::TAG_LIMIT;
-use lexical_core::{Items, Text};
 use std::alloc::{AllocError, Global};
 
-/// A start tag at the front of a piece.
+/// How many attributes there is room for at once.
+const USUAL: usize = 8;
+
+/// A start tag, with its names expanded (XML 1.0 §3.1; Namespaces in XML 1.0 §6).
 #[derive(Drop)]
-pub(crate) struct WholeStart {
-    pub(crate) tag: Opening,
-    /// How many bytes it has.
-    pub(crate) bytes: usize,
+pub struct StartTag<'a> {
+    /// The namespace of the element.
+    pub ns: Namespace,
+    /// Whether that is known to be the namespace of the element round it, as the prefix is the same and the tag
+    /// declares nothing.
+    pub has_same_ns: bool,
+    /// The prefix as it stands in the piece, empty where there is none.
+    pub prefix: &'a [u8],
+    /// The local name as it stands in the piece.
+    pub name: &'a [u8],
+    /// Those that declare nothing, in the order of their expanded names: by namespace, then by local name, both by
+    /// bytes.
+    pub attributes: Vec<TagAttribute<'a>>,
+    /// Whether it is the tag of an empty element.
+    pub is_empty: bool,
+    /// How many bytes the tag has.
+    pub bytes: usize,
 }
 
 /// The plain name behind a colon at the front of bytes, and what is behind it.
@@ -32,10 +49,10 @@ struct LocalAt<'a> {
 
 /// A name at the front of bytes, whose prefix is empty where it has none, and what is behind it.
 #[derive(Clone, Copy)]
-pub(crate) struct NameAt<'a> {
-    pub(crate) prefix: &'a [u8],
-    pub(crate) local: &'a [u8],
-    pub(crate) behind: &'a [u8],
+struct NameAt<'a> {
+    prefix: &'a [u8],
+    local: &'a [u8],
+    behind: &'a [u8],
 }
 
 /// A value in quotes at the front of bytes, and what is behind it.
@@ -47,11 +64,11 @@ struct ValueAt<'a> {
 
 /// An attribute as it stands at the front of bytes, and what is behind it.
 #[derive(Clone, Copy)]
-pub(crate) struct AttributeAt<'a> {
-    pub(crate) prefix: &'a [u8],
-    pub(crate) local: &'a [u8],
-    pub(crate) value: &'a [u8],
-    pub(crate) behind: &'a [u8],
+struct AttributeAt<'a> {
+    prefix: &'a [u8],
+    local: &'a [u8],
+    value: &'a [u8],
+    behind: &'a [u8],
 }
 
 /// How many bytes at the front are a plain name, 0 where they begin with none.
@@ -92,7 +109,7 @@ fn local_at<'a>(bytes: &'a [u8]) -> Option<LocalAt<'a>>
 
 /// The name at the front, whose parts are plain (Namespaces in XML 1.0 §4, QName).
 #[inline]
-pub(crate) fn name_at<'a>(bytes: &'a [u8]) -> Option<NameAt<'a>>
+fn name_at<'a>(bytes: &'a [u8]) -> Option<NameAt<'a>>
     ensures found { IfSome result (λ n. IsNameAt bytes.now (named_by n.prefix.now n.local.now) n.behind.now) }
     ensures all { (name : Spelled) (behind : List ℕ) → IsNameAt bytes.now name behind → prefix_len goes_on_name behind ≡ 0 → IsSomeAnd result (λ n. n.behind.now ≡ behind) }
 {
@@ -148,7 +165,7 @@ fn value_at<'a>(bytes: &'a [u8]) -> Option<ValueAt<'a>>
 /// The attribute at the front, behind one space, where the parts of its name are plain and the bytes
 /// of its value stand for themselves.
 #[inline]
-pub(crate) fn attribute_at<'a>(bytes: &'a [u8]) -> Option<AttributeAt<'a>>
+fn attribute_at<'a>(bytes: &'a [u8]) -> Option<AttributeAt<'a>>
     ensures found { IfSome result (λ a. IsAttributeAt bytes.now (named_by a.prefix.now a.local.now) a.value.now a.behind.now) }
     ensures all { (name : Spelled) (value behind : List ℕ) → IsAttributeAt bytes.now name value behind → IsSomeAnd result (λ a. a.behind.now ≡ behind) }
 {
@@ -178,50 +195,32 @@ pub(crate) fn attribute_at<'a>(bytes: &'a [u8]) -> Option<AttributeAt<'a>>
     })
 }
 
-/// A prefix, which may be empty, in memory of its own.
+/// Makes room for as many attributes as most tags have, where one stands at the front.
 #[inline]
-fn prefix_of(prefix: &[u8], alloc: Global) -> Result<Text, AllocError>
-    ensures { IfOk result (λ t. t ≡ prefix.now) }
+fn make_room(bytes: &[u8], found: &mut Vec<TagAttribute<'_>>) -> Result<(), AllocError>
+    ensures { OnOk result (found.new.items ≡ found.old.items) }
 {
-    if prefix.is_empty() {
-        return Ok(Text::new(alloc));
+    match bytes.first() {
+        Some(b' ') => found.reserve(USUAL),
+        _ => Ok(()),
     }
-    text_of(prefix, alloc)
 }
 
-/// A name in memory of its own.
-fn spelled_of(prefix: &[u8], local: &[u8], alloc: Global) -> Result<Spelled, AllocError>
-    ensures { IfOk result (λ n. n ≡ named_by prefix.now local.now) }
-{
-    Ok(Spelled {
-        prefix: prefix_of(prefix, alloc)?,
-        local: text_of(local, alloc)?,
-    })
-}
-
-/// What an attribute gives, in memory of its own.
-fn given_of(attribute: AttributeAt<'_>, alloc: Global) -> Result<Given, AllocError>
-    ensures { IfOk result (λ g. g ≡ record { name = named_by attribute.entry.prefix.now attribute.entry.local.now; value = attribute.entry.value.now }) }
-{
-    Ok(Given {
-        name: spelled_of(attribute.prefix, attribute.local, alloc)?,
-        value: text_of(attribute.value, alloc)?,
-    })
-}
-
-/// Appends what the attributes at the front give that stand there so, and answers how many bytes
-/// they have.
-fn attributes_at(bytes: &[u8], found: &mut Items<Given>, alloc: Global) -> Result<usize, AllocError>
-    requires { found.old ≡ [] }
+/// Appends the attributes and declarations at the front that stand there so, and answers how many bytes they have.
+fn attributes_at<'a>(
+    bytes: &'a [u8],
+    found: &mut Vec<TagAttribute<'a>>,
+) -> Result<usize, AllocError>
+    requires { found.old.items ≡ [] }
     ensures within { IfOk result (λ n. n ≤ length bytes.now) }
-    ensures are { IfOk result (λ n. AreGiven bytes.now found.new (drop n bytes.now)) }
+    ensures are { IfOk result (λ n. AreGiven bytes.now (map tag_given found.new.items) (drop n bytes.now)) }
     ensures all { (attributes : List PlainAttribute) (last : List ℕ) → list_all is_plain_attribute attributes ≡ true → begins_with 32 last ≡ false → bytes.now ≡ flat_map plain_attribute_text attributes ++ last →
         IfOk result (λ n. n ≡ length (flat_map plain_attribute_text attributes)) }
 {
+    make_room(bytes, found)?;
     let mut left = bytes;
     while let Some(attribute) = attribute_at(left) {
-        let given = given_of(attribute, alloc)?;
-        found.push(given)?;
+        found.push(spelled(attribute.prefix, attribute.local, attribute.value))?;
         left = attribute.behind;
     }
     Ok(bytes.len() - left.len())
@@ -229,16 +228,16 @@ fn attributes_at(bytes: &[u8], found: &mut Items<Given>, alloc: Global) -> Resul
 
 /// Whether the tag is that of an empty element.
 #[inline]
-pub(crate) fn is_empty_kind(kind: TagKind) -> bool
+fn is_empty_kind(kind: TagKind) -> bool
     ensures { result ≡ is_empty_kind kind }
 {
     matches!(kind, TagKind::Empty)
 }
 
 /// The start tag at the front of bytes that are no more than a tag may have.
-fn start_in(front: &[u8], alloc: Global) -> Result<Option<WholeStart>, AllocError>
+fn start_in<'a>(front: &'a [u8], alloc: Global) -> Result<Option<StartTag<'a>>, AllocError>
     requires { length front.now ≤ tag_limit }
-    ensures found { IfOk result (λ o. IfSome o (λ start. IsStartAt front.now start.tag start.bytes)) }
+    ensures found { IfOk result (λ o. IfSome o (λ tag. IsStartAt front.now (spelled_opening tag.prefix.now tag.name.now tag.attributes.items tag.is_empty) tag.bytes)) }
     ensures all { (tag : PlainStart) (rest : List ℕ) → is_plain_start tag ≡ true → front.now ≡ plain_start_text tag ++ rest →
         IfOk result (λ o. IsSomeAnd o (λ start. start.bytes ≡ length (plain_start_text tag))) }
 {
@@ -251,26 +250,26 @@ fn start_in(front: &[u8], alloc: Global) -> Result<Option<WholeStart>, AllocErro
     let Some(name) = name_at(named) else {
         return Ok(None);
     };
-    let mut found = Items::new(alloc);
-    let size = attributes_at(name.behind, &mut found, alloc)?;
+    let mut attributes = Vec::new(alloc);
+    let size = attributes_at(name.behind, &mut attributes)?;
     let (_, last) = name.behind.split_at(size);
     let Some(kind) = closing(last) else {
         return Ok(None);
     };
-    let tag = Opening {
-        name: spelled_of(name.prefix, name.local, alloc)?,
-        given: found,
+    Ok(Some(StartTag {
+        ns: Namespace::none(),
+        has_same_ns: false,
+        prefix: name.prefix,
+        name: name.local,
+        attributes,
         is_empty: is_empty_kind(kind),
-    };
-    Ok(Some(WholeStart {
-        tag,
         bytes: named.len() - name.behind.len() + size + mark_count(kind),
     }))
 }
 
 /// How many of so many bytes a tag may have.
 #[inline]
-pub(crate) fn within_limit(count: usize) -> usize
+fn within_limit(count: usize) -> usize
     ensures within { result ≤ count }
     ensures short { result ≤ tag_limit }
     ensures all { (n : ℕ) → n ≤ count → n ≤ tag_limit → n ≤ result }
@@ -283,9 +282,13 @@ pub(crate) fn within_limit(count: usize) -> usize
 }
 
 /// The start tag that stands whole at the front of the piece, where the parts of its names are plain, its
-/// attributes stand behind one space each, and the bytes of their values stand for themselves.
-pub(crate) fn start_at(piece: &[u8], alloc: Global) -> Result<Option<WholeStart>, AllocError>
-    ensures found { IfOk result (λ o. IfSome o (λ start. IsStartAt piece.now start.tag start.bytes)) }
+/// attributes stand behind one space each, and the bytes of their values stand for themselves. Its names are not
+/// expanded, and its declarations are among its attributes, which are in the order of the tag.
+pub(crate) fn start_at<'a>(
+    piece: &'a [u8],
+    alloc: Global,
+) -> Result<Option<StartTag<'a>>, AllocError>
+    ensures found { IfOk result (λ o. IfSome o (λ tag. IsStartAt piece.now (spelled_opening tag.prefix.now tag.name.now tag.attributes.items tag.is_empty) tag.bytes)) }
     ensures all { (tag : PlainStart) (rest : List ℕ) → is_plain_start tag ≡ true → length (plain_start_text tag) ≤ tag_limit → piece.now ≡ plain_start_text tag ++ rest →
         IfOk result (λ o. IsSomeAnd o (λ start. start.bytes ≡ length (plain_start_text tag))) }
 {

@@ -1,11 +1,14 @@
 //! Events that a tag tells, with the place of its first byte.
 ghost use Rattle.std.specs.Prelude.{◌≡◌, false, true, [], ◌∷◌, ◌++◌, OnOk, OnErr, map, Some};
 ghost use Rattle.markup.specs.Events.{start_tag_items, end_tag_items, expanded_in};
-ghost use Rattle.markup.specs.EventItems.{entry_of, Tells, TellsFront};
+ghost use Rattle.markup.specs.EventItems.{Tells, TellsFront};
+ghost use Rattle.markup.specs.TagAttributes.{tag_entry};
 ghost use Rattle.markup.specs.Scopes.{placed_at};
 
-use crate::event::{Attrs, Event, Events, What};
+use crate::attributes::{event_attributes, text_of};
+use crate::event::{Event, Events, What};
 use crate::namespace::Namespace;
+use crate::start_tag::StartTag;
 use lexical_core::Text;
 use std::alloc::{AllocError, Global};
 
@@ -15,20 +18,6 @@ fn tell(out: &mut Events, place: u64, what: What) -> Result<(), AllocError>
     ensures err { OnErr result (out.new ≡ out.old) }
 {
     out.push(Event { place, what })
-}
-
-/// Tells that an element starts.
-pub(crate) fn tell_start(
-    out: &mut Events,
-    place: u64,
-    ns: Namespace,
-    local: Text,
-    attrs: Attrs,
-) -> Result<(), AllocError>
-    ensures ok { OnOk result (Tells out.old out.new (placed_at place (start_tag_items (expanded_in (Some ns) local) (map entry_of attrs) false))) }
-    ensures err { OnErr result (out.new ≡ out.old) }
-{
-    tell(out, place, What::Start { ns, local, attrs })
 }
 
 /// Tells that an element ends, where its name has an expanded one.
@@ -47,20 +36,30 @@ pub(crate) fn tell_end(
     }
 }
 
-/// Tells that an empty element starts and ends.
-pub(crate) fn tell_both(
-    out: &mut Events,
-    place: u64,
-    ns: Namespace,
-    local: Text,
-    attrs: Attrs,
-    alloc: Global,
-) -> Result<(), AllocError>
-    ensures ok { OnOk result (Tells out.old out.new (placed_at place (start_tag_items (expanded_in (Some ns) local) (map entry_of attrs) true))) }
-    ensures err { OnErr result (TellsFront out.old out.new (placed_at place (start_tag_items (expanded_in (Some ns) local) (map entry_of attrs) true))) }
-{
-    let ns_again = ns.share()?;
-    let local_again = local.copy(alloc)?;
-    tell_start(out, place, ns, local, attrs)?;
-    tell_end(out, place, Some(ns_again), local_again)
+impl StartTag<'_> {
+    /// Appends the events of the tag, at its place: the start of its element, and its end where it is empty. Where there
+    /// is no memory it appends a front of them.
+    pub fn tell(&self, place: u64, out: &mut Events, alloc: Global) -> Result<(), AllocError>
+        ensures ok { OnOk result (Tells out.old out.new (placed_at place (start_tag_items (Some (record { namespace = self.now.ns; local = self.now.name.now })) (map tag_entry self.now.attributes.items) self.now.is_empty))) }
+        ensures err { OnErr result (TellsFront out.old out.new (placed_at place (start_tag_items (Some (record { namespace = self.now.ns; local = self.now.name.now })) (map tag_entry self.now.attributes.items) self.now.is_empty))) }
+    {
+        self.tell_start(place, out, alloc)?;
+        if !self.is_empty {
+            return Ok(());
+        }
+        let ns = self.ns.share()?;
+        let local = text_of(self.name, alloc)?;
+        tell_end(out, place, Some(ns), local)
+    }
+
+    /// Appends the start of its element.
+    fn tell_start(&self, place: u64, out: &mut Events, alloc: Global) -> Result<(), AllocError>
+        ensures ok { OnOk result (Tells out.old out.new (placed_at place (start_tag_items (Some (record { namespace = self.now.ns; local = self.now.name.now })) (map tag_entry self.now.attributes.items) false))) }
+        ensures err { OnErr result (out.new ≡ out.old) }
+    {
+        let ns = self.ns.share()?;
+        let local = text_of(self.name, alloc)?;
+        let attrs = event_attributes(self.attributes.as_slice(), alloc)?;
+        tell(out, place, What::Start { ns, local, attrs })
+    }
 }

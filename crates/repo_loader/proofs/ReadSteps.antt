@@ -1,5 +1,5 @@
 -- A repository file that is read a byte at a time: what its events say is read as they come.
-use Rattle.std.proofs.Common.{◌≡◌, ℕ, ◌+◌, ◌-◌, ◌<◌, ◌≤◌, suc, zero, Bool, true, false, List, [], ◌∷◌, ◌++◌, length, map, take, drop, Option, Some, None, refl, sym, ap, ◌∙◌, subst, append_assoc, append-nil, length-append, inl, inr, arith}
+use Rattle.std.proofs.Common.{◌≡◌, ℕ, ◌+◌, ◌-◌, ◌<◌, ◌≤◌, suc, zero, true, false, List, [], ◌∷◌, ◌++◌, length, map, take, drop, Option, Some, None, refl, sym, ap, ◌∙◌, subst, append_assoc, append-nil, length-append, inl, inr, arith}
 use Rattle.std.specs.List.{AllByRecursion, flat_map}
 use Rattle.std.specs.Prelude.{Result, Ok, Err, IfOk, IfNone, IfSome}
 use Rattle.std.proofs.lemmas.Bool.{both_ways}
@@ -9,16 +9,19 @@ use Rattle.lexical_core.specs.declared.rule.Rule.TheVariants.{Truncated}
 use Rattle.lexical_core.proofs.Lists.{take_past}
 use Rattle.markup.specs.Token.{Token, token_bytes}
 use Rattle.markup.specs.Marks.{Front, tag_limit}
-use Rattle.lexical_core.specs.Tree.{Expanded, Entry as Attribute}
 use Rattle.markup.specs.Events.{Placed, events, start_tag_items}
 use Rattle.markup.specs.Scopes.{placed_at}
 use Rattle.markup.specs.EventItems.{placed_event, Tells}
 use Rattle.markup.specs.Faults.{Fault, MarkFault, IsClean, Next}
 use Rattle.markup.specs.Literals.{IsRun, characters_from}
-use Rattle.markup.specs.Reading.{HasTaken, HasTold, IsWholly, GoesOn, Refuses, bytes_taken, fault_of}
+use Rattle.markup.specs.Reading.{HasTaken, HasTold, IsWholly, GoesOn, Refuses, Stops, bytes_taken, fault_of}
 use Rattle.markup.specs.declared.event.Event.{Event}
+use Rattle.markup.specs.declared.reader.MarkError.{MarkError}
+use Rattle.markup.specs.declared.reader.MarkError.TheVariants.{Refused}
 use Rattle.markup.specs.declared.reader.MarkFault.{MarkFault as Told}
 use Rattle.markup.specs.declared.reader.Reader.{Reader}
+use Rattle.markup.specs.declared.start_tag.StartTag.{StartTag}
+use Rattle.markup.specs.TagAttributes.{tag_entry}
 use Rattle.markup.proofs.Stays.{events_stay, tokens_have_bytes}
 use Rattle.markup.proofs.TokensBehind.{behind}
 use Rattle.repo_objects.specs.Repository.{Contents}
@@ -130,16 +133,6 @@ module _ (old new : Progress) (bytes more : List ℕ) (es : List Event) (h : Has
   }
   reads_on n none (Some fault) b = broken_shows (bytes ++ more) (h.told ++ map placed_event es) fault (events_stay new.reader (bytes ++ more) (h.told ++ map placed_event es) now_taken) b
 
--- where nothing was taken, what was read stays
-pub still_read : (old new : Progress) (bytes : List ℕ) → new.reader ≡ old.reader → new.events ≡ old.events → new.selection ≡ old.selection → HasReadFile old bytes → HasReadFile new bytes
-still_read old new bytes reader events selection h = record {
-  told = h.told;
-  given = subst (λ r. HasTaken r bytes h.told) (sym reader) h.given;
-  counted = ap bytes_taken reader ∙ h.counted;
-  loaded = subst (λ s. HasLoaded s h.told) (sym selection) h.loaded;
-  none = events ∙ h.none;
-}
-
 -- the bytes show a fault of markup
 pub first_shows : (bytes : List ℕ) (told : List Placed) (old new : List Event) (mark : Told) (fault : LoadFault) → old ≡ [] → Refuses bytes told old new mark → TellsFault (told ++ map placed_event new) mark fault → ShowsLoadFault bytes fault
 first_shows bytes told old new mark fault e k (inl b) =
@@ -226,13 +219,6 @@ all_seen p bytes piece s = subst (λ v. HasReadFile p (bytes ++ v)) (sym (s.piec
 
 -- ---- what stands at the front of a piece
 
--- so many bytes of it were given to the reader, and their events are read
-pub front_on : (old new : Progress) (bytes piece : List ℕ) (n : ℕ) (reader : Reader) (es : List Event) (h : HasReadFile old bytes) → GoesOn reader (bytes ++ take n piece) h.told old.events es → n ≤ length piece
-    → bytes_taken reader ≡ bytes_taken old.reader + n → new.reader ≡ reader → new.events ≡ [] → (o : Option LoadFault) → LoadsOn new.selection (h.told ++ map placed_event es) o → ReadsOn new (bytes ++ take n piece) o
-front_on old new bytes piece n reader es h g within counted same none o l =
-    reads_on old new bytes (take n piece) es h (subst (λ r. GoesOn r (bytes ++ take n piece) h.told old.events es) (sym same) g)
-    (ap bytes_taken same ∙ (counted ∙ ap (λ v. bytes_taken old.reader + v) (sym (length-take-le n piece within)))) none o l
-
 -- no bytes were taken
 pub none_read : (p : Progress) (bytes piece : List ℕ) (n : ℕ) → n ≡ 0 → HasReadFile p (bytes ++ take n piece) → HasReadFile p bytes
 none_read p bytes piece n e h = subst (HasReadFile p) (append-nil bytes) (subst (λ k. HasReadFile p (bytes ++ take k piece)) e h)
@@ -244,21 +230,46 @@ front_broken new bytes piece n fault h =
 
 -- ---- a start tag that was taken whole
 
-pub tag_texts : (reader : Reader) (bytes : List ℕ) (told : List Placed) (place : ℕ) (name : Expanded) (es : List Attribute) (is_empty : Bool) → HasTold reader bytes (told ++ placed_at place (start_tag_items (Some name) es is_empty)) → AreTexts es
-tag_texts reader bytes told place name es is_empty g =
-    (texts_behind told (placed_at place (start_tag_items (Some name) es is_empty))
-    (subst PlacedTexts (sym g.are_events.3) (events_texts tag_limit [] 0 bytes g.are_events.0 g.are_events.1.rest g.are_events.1.front))).0
+-- the events that it tells
+abbrev tag_told : ℕ → StartTag → List Placed
+tag_told place tag = placed_at place (start_tag_items (Some (record { namespace = tag.ns; local = tag.name.now })) (map tag_entry tag.attributes.items) tag.is_empty)
 
-pub tag_read : (old new : Progress) (bytes piece : List ℕ) (n : ℕ) (more : List Placed) (h : HasReadFile old bytes) → HasTold new.reader (bytes ++ take n piece) (h.told ++ more) → n ≤ length piece
+-- which are told behind others
+abbrev TellsTag : Reader → List ℕ → List ℕ → List Placed → StartTag → Type 0
+TellsTag reader bytes piece told tag = HasTold reader (bytes ++ take tag.bytes piece) (told ++ tag_told (length bytes) tag)
+
+pub tag_texts : (reader : Reader) (bytes piece : List ℕ) (told : List Placed) (found : Option StartTag) (tag : StartTag) → found ≡ Some tag → IfSome found (TellsTag reader bytes piece told) → AreTexts (map tag_entry tag.attributes.items)
+tag_texts reader bytes piece told found tag e f =
+    let g = subst (λ o. IfSome o (TellsTag reader bytes piece told)) e f in
+    (texts_behind told (tag_told (length bytes) tag)
+    (subst PlacedTexts (sym g.are_events.3) (events_texts tag_limit [] 0 (bytes ++ take tag.bytes piece) g.are_events.0 g.are_events.1.rest g.are_events.1.front))).0
+
+told_read : (old new : Progress) (bytes piece : List ℕ) (n : ℕ) (more : List Placed) (h : HasReadFile old bytes) → HasTold new.reader (bytes ++ take n piece) (h.told ++ more) → n ≤ length piece
     → bytes_taken new.reader ≡ bytes_taken old.reader + n → new.events ≡ old.events → (o : Option LoadFault) → LoadsOn new.selection (h.told ++ more) o → ReadsOn new (bytes ++ take n piece) o
-tag_read old new bytes piece n more h g within counted same None l = record {
+told_read old new bytes piece n more h g within counted same None l = record {
   told = h.told ++ more;
   given = g.taken_are;
   counted = counted ∙ (ap (λ v. v + n) h.counted ∙ (ap (λ v. length bytes + v) (sym (length-take-le n piece within)) ∙ sym (length-append bytes (take n piece))));
   loaded = l;
   none = same ∙ h.none;
 }
-tag_read old new bytes piece n more h g within counted same (Some fault) b = broken_shows (bytes ++ take n piece) (h.told ++ more) fault (events_stay new.reader (bytes ++ take n piece) (h.told ++ more) g.taken_are) b
+told_read old new bytes piece n more h g within counted same (Some fault) b = broken_shows (bytes ++ take n piece) (h.told ++ more) fault (events_stay new.reader (bytes ++ take n piece) (h.told ++ more) g.taken_are) b
+
+-- they are read
+pub tag_read : (old new : Progress) (bytes piece : List ℕ) (found : Option StartTag) (tag : StartTag) (h : HasReadFile old bytes) → found ≡ Some tag → IfSome found (TellsTag new.reader bytes piece h.told)
+    → IfSome found (λ t. (0 < t.bytes) × (t.bytes ≤ length piece)) → IfSome found (λ t. bytes_taken new.reader ≡ bytes_taken old.reader + t.bytes) → new.events ≡ old.events
+    → (place : ℕ) → place ≡ bytes_taken old.reader → (o : Option LoadFault) → LoadsOn new.selection (h.told ++ tag_told place tag) o → ReadsOn new (bytes ++ take tag.bytes piece) o
+tag_read old new bytes piece found tag h e told within counted same place at o l =
+    told_read old new bytes piece tag.bytes (tag_told (length bytes) tag) h
+    (subst (λ f. IfSome f (TellsTag new.reader bytes piece h.told)) e told)
+    (subst (λ f. IfSome f (λ (t : StartTag). (0 < t.bytes) × (t.bytes ≤ length piece))) e within).1
+    (subst (λ f. IfSome f (λ (t : StartTag). bytes_taken new.reader ≡ bytes_taken old.reader + t.bytes)) e counted)
+    same o (subst (λ p. LoadsOn new.selection (h.told ++ tag_told p tag) o) (at ∙ h.counted) l)
+
+-- the tag itself shows a fault
+pub tag_refused : (old : Progress) (bytes piece : List ℕ) (error : MarkError) (mark : Told) (h : HasReadFile old bytes) → error ≡ Refused mark → Stops (bytes ++ piece) h.told [] [] error → ShowsLoadFault (bytes ++ piece) (markup_fault mark)
+tag_refused old bytes piece error mark h e k =
+    markup_shows (bytes ++ piece) h.told [] [] mark refl (subst (Stops (bytes ++ piece) h.told [] []) e k) (subst (λ es. AreSoundTags [] (event_tags [] es)) (sym (append-nil h.told)) h.loaded.sound)
 
 -- where none stands there, nothing was read
 pub none_front : (p : Progress) (bytes piece : List ℕ) (f : FrontRead) → is_front f ≡ false → ReadsFront p bytes piece f → HasReadFile p bytes

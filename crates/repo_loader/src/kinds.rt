@@ -1,6 +1,6 @@
 //! The kinds of entries by their words.
 ghost use Rattle.std.specs.Prelude.{◌≡◌, map};
-ghost use Rattle.markup.specs.AttributeTags.{tag_entry};
+ghost use Rattle.markup.specs.TagAttributes.{tag_entry};
 ghost use Rattle.repo_loader.specs.FileValues.{kind_in, kind_words, date_words, component_words};
 ghost use Rattle.repo_loader.specs.FileValues.{behind_colon as spec_behind_colon, word_of as spec_word_of};
 

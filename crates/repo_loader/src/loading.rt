@@ -2,7 +2,7 @@
 ghost use Rattle.std.specs.Prelude.{◌≡◌, ◌↔◌, [], ◌∷◌, ◌++◌, List, OnOk, IfOk, IfErr, IfSome, IsTrue, true, false, None, Some, map, codes};
 ghost use Rattle.std.specs.Option.{is_some};
 ghost use Rattle.lexical_core.specs.Names.{attribute_value as spec_value_of};
-ghost use Rattle.markup.specs.AttributeTags.{tag_entry};
+ghost use Rattle.markup.specs.TagAttributes.{tag_entry};
 ghost use Rattle.repo_loader.specs.declared.part.Part.TheVariants.{Entry as EntryPart, Message as MessagePart};
 ghost use Rattle.repo_loader.specs.FileNames.{own, id_name, type_name};
 ghost use Rattle.repo_loader.specs.Selected.{FileTag};

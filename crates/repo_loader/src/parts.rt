@@ -1,7 +1,7 @@
 //! What the elements of a repository file are.
 ghost use Rattle.std.specs.Prelude.{◌≡◌, List, map};
 ghost use Rattle.lexical_core.specs.Tree.{Entry as Attribute};
-ghost use Rattle.markup.specs.AttributeTags.{tag_entry};
+ghost use Rattle.markup.specs.TagAttributes.{tag_entry};
 ghost use Rattle.repo_loader.specs.Selected.{part_in as spec_part_in, part_in_entry as spec_part_in_entry, only as spec_only};
 
 use crate::kinds::{kind_of_word, word_of};

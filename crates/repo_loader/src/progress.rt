@@ -148,42 +148,19 @@ impl Progress {
     }
 
     /// Takes the start tag at the front of the piece, where one stands there that the reader takes as
-    /// a whole, or else the first byte.
-    fn take_token(&mut self, piece: &[u8]) -> Result<Front, AllocError>
-        requires some { 0 < length piece.now }
-        requires count { bytes_taken self.old.reader + length piece.now < 2 ^ 40 }
-        requires read { (bytes : List ℕ) × HasReadFile self.old bytes }
-        ensures some { IfOk result (λ f. TakesSome self.old self.new piece.now f) }
-        ensures read { (bytes : List ℕ) → HasReadFile self.old bytes → IfOk result (λ f. ReadsFront self.new bytes piece.now f) }
-    {
-        match self.reader.take_start(piece, &mut self.events) {
-            Ok(count) => {
-                if count == 0 {
-                    return self.take_one(piece);
-                }
-                match self.take_events()? {
-                    Some(fault) => Ok(Front::Breaks(fault)),
-                    None => Ok(Front::Read(count)),
-                }
-            }
-            Err(MarkError::Refused(fault)) => Ok(Front::Breaks(self.first_fault(fault)?)),
-            Err(MarkError::Memory) => Err(AllocError),
-        }
-    }
-
-    /// Takes the start tag with attributes that the reader takes at the front of the piece without a copy;
-    /// no bytes where none stands there.
-    fn take_attribute_tag(&mut self, piece: &[u8]) -> Result<Front, AllocError>
+    /// a whole; no bytes where none does.
+    fn take_start_tag(&mut self, piece: &[u8]) -> Result<Front, AllocError>
         requires count { bytes_taken self.old.reader + length piece.now < 2 ^ 40 }
         requires read { (bytes : List ℕ) × HasReadFile self.old bytes }
         ensures count { IfOk result (λ f. TakesFront self.old self.new piece.now f) }
         ensures read { (bytes : List ℕ) → HasReadFile self.old bytes → IfOk result (λ f. ReadsFront self.new bytes piece.now f) }
     {
         let place = self.reader.place();
-        let tag = match self.reader.take_attribute_tag(piece) {
+        let tag = match self.reader.take_start_tag(piece) {
             Ok(Some(tag)) => tag,
             Ok(None) => return Ok(Front::Read(0)),
-            Err(_) => return Err(AllocError),
+            Err(MarkError::Refused(fault)) => return Ok(Front::Breaks(fault_of_markup(fault))),
+            Err(MarkError::Memory) => return Err(AllocError),
         };
         match self.selection.take_tag(place, &tag)? {
             Some(fault) => Ok(Front::Breaks(fault)),
@@ -208,11 +185,11 @@ impl Progress {
         if inside > 0 {
             return Ok(Front::Read(inside));
         }
-        let tag = self.take_attribute_tag(piece)?;
+        let tag = self.take_start_tag(piece)?;
         if is_front(&tag) {
             return Ok(tag);
         }
-        self.take_token(piece)
+        self.take_one(piece)
     }
 
     /// Takes the next bytes, as far as the first that shows a fault.

@@ -1,7 +1,7 @@
 //! What the attributes of an element say.
 ghost use Rattle.std.specs.Prelude.{◌≡◌, IfOk, OnErr, IfErr, map, codes, []};
 ghost use Rattle.lexical_core.specs.Names.{attribute_value as spec_value_of};
-ghost use Rattle.markup.specs.AttributeTags.{tag_entry};
+ghost use Rattle.markup.specs.TagAttributes.{tag_entry};
 ghost use Rattle.repo_loader.specs.FileNames.{own};
 ghost use Rattle.repo_loader.specs.FileValues.{text_of_attribute as spec_text, reference as spec_reference, facet, count, bound, has_lengths as spec_has_lengths, has_digits as spec_has_digits, least_of, greatest_of, IsCountIfAny, IsBoundIfAny, IsGreatestIfAny, is_endless as spec_is_endless};
 ghost use Rattle.repo_loader.specs.File.{facets as spec_facets, element as spec_element, object as spec_object, code as spec_code, message as spec_message, message_identifier as spec_identifier};

@@ -1,7 +1,7 @@
 //! The elements of a repository file that are read, by its events.
 ghost use Rattle.std.specs.Prelude.{◌≡◌, [], ◌∷◌, ◌++◌, ℕ, List, IfOk, Some, map, reverse};
 ghost use Rattle.lexical_core.specs.Tree.{Expanded, Starts, Ends};
-ghost use Rattle.markup.specs.AttributeTags.{tag_entry};
+ghost use Rattle.markup.specs.TagAttributes.{tag_entry};
 ghost use Rattle.markup.specs.Events.{Placed, start_tag_items};
 ghost use Rattle.markup.specs.EventItems.{item_of, placed_event};
 ghost use Rattle.markup.specs.Scopes.{placed_at};
@@ -15,7 +15,7 @@ use crate::loading::Loading;
 use crate::part::Part;
 use crate::parts::part_in;
 use crate::stop::Stop;
-use markup::{AttributeTag, Event, TagAttribute, What, tag_attributes};
+use markup::{Event, StartTag, TagAttribute, What, tag_attributes};
 use repo_objects::Repository;
 use std::alloc::{AllocError, Global};
 
@@ -89,7 +89,7 @@ impl Selection {
     pub fn take_tag(
         &mut self,
         place: u64,
-        tag: &AttributeTag<'_>,
+        tag: &StartTag<'_>,
     ) -> Result<Option<LoadFault>, AllocError>
         requires loaded { (told : List Placed) × HasLoaded self.old told }
         requires texts { AreTexts (map tag_entry tag.now.attributes.items) }

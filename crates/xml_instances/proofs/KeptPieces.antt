@@ -1,5 +1,5 @@
 -- Pieces that are kept go on as what is shown.
-use Rattle.std.proofs.Common.{◌≡◌, ℕ, ◌<◌, ◌+◌, ◌-◌, List, [], ◌∷◌, ◌++◌, Option, Some, None, refl, sym, ap, ◌∙◌, subst, length, append_assoc, arith}
+use Rattle.std.proofs.Common.{◌≡◌, ℕ, ◌<◌, List, [], ◌∷◌, ◌++◌, Option, Some, None, refl, sym, ap, ◌∙◌, subst, length, append_assoc, arith}
 use Rattle.std.specs.Prelude.{slice_get, Result, Ok, Err, OnOk}
 use Rattle.lexical_core.specs.Tree.{Item, Starts, Char, Nodes, Element, Text, Tree, flat, flat_nodes}
 use Rattle.lexical_core.specs.Tree.{Ends as EndsItem}

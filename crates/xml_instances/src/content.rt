@@ -17,7 +17,7 @@ ghost use Rattle.xml_instances.specs.EventFaults.{space_fault, is_bare};
 ghost use Rattle.xml_instances.specs.Open.{IsOpen, IsTaken, IsItemTaken, AreMade, path_round, Says, RefusesWith, IsPlaced, IsEntered, IsRound, form_at, IsEnvelopeFilled, IsChild, IsStepped, IsElementBegun, IsRoot};
 ghost use Rattle.xml_instances.specs.Scratch.{held_in};
 ghost use Rattle.xml_instances.specs.Verdicts.{IsLean};
-ghost use Rattle.markup.specs.AttributeTags.{tag_entry};
+ghost use Rattle.markup.specs.TagAttributes.{tag_entry};
 
 mod attributes;
 mod endings;

@@ -1,20 +1,21 @@
 -- The declarations and the attributes of a start tag, apart.
-use Rattle.std.specs.Prelude.{◌≡◌, ℕ, length, Bool, ◌||◌, ◌&&◌, false, List, [], ◌∷◌, ◌++◌, map, reverse, if◌then◌else◌, is_none, Option, Some, None}
-use Rattle.std.specs.List.{list_any, filter_map}
+use Rattle.std.specs.Prelude.{◌≡◌, ℕ, length, Bool, ◌||◌, ◌&&◌, true, false, List, [], ◌∷◌, ◌++◌, map, if◌then◌else◌, is_none, Option, Some, None}
+use Rattle.std.specs.List.{list_any}
 use Rattle.std.specs.Str.{bytes_eq}
+use Rattle.std.specs.Ordering.{is_lt}
+use Rattle.lexical_core.specs.Names.{name_cmp}
 use Rattle.lexical_core.specs.Tree.{Expanded, Entry}
 use Rattle.markup.specs.declared.tag.Given.{Given}
 use Rattle.markup.specs.declared.tag.Opening.{Opening}
 use Rattle.markup.specs.declared.scope.Resolved.{Resolved}
 use Rattle.markup.specs.declared.scope.Scope.{Scope}
 use Rattle.markup.specs.declared.bindings.Bindings.{Bindings}
-use Rattle.markup.specs.declared.attributes.Parted.{Parted}
-use Rattle.markup.specs.declared.attributes.BoundAttr.{BoundAttr}
-use Rattle.markup.specs.declared.attributes.Collected.{Collected}
+use Rattle.markup.specs.declared.attributes.TagAttribute.{TagAttribute}
+use Rattle.markup.specs.declared.attributes.Declared.{Declared}
 use Rattle.markup.specs.declared.attributes.Expanded.{Expanded as ExpandedAttributes}
 use Rattle.markup.specs.Events.{declared_prefix, namespace_of, attribute_name, put, entries}
 use Rattle.markup.specs.Faults.{same_declared, is_bad_declaration, has_clash, is_bad_attribute}
-use Rattle.markup.specs.EventItems.{entry_of}
+use Rattle.markup.specs.TagAttributes.{tag_entry}
 use Rattle.markup.specs.Bindings.{Binds}
 use Rattle.markup.specs.inner.Origins.{namespace_from}
 use Rattle.markup.specs.OpenNames.{KeepsNames}
@@ -70,37 +71,49 @@ named_entry value (Some name) = Some (record { name = name; value = value })
 abbrev pub entry_under : List Opening → Given → Option Entry
 entry_under tags a = named_entry a.value (attribute_name tags a.name)
 
--- the attributes of a tag that declare none, the last first, and whether a declaration may not be
-pub record IsParted (given : List Given) (parts : Parted) : Type 0 where
-  pub attributes : reverse parts.attributes.items ≡ plain_attributes given
-  pub bad : parts.is_bad ≡ list_any declares_badly given
+-- an attribute of a tag as its event has it, if it declares nothing and its name has an expanded one
+abbrev pub attribute_under : List Opening → Given → Option Entry
+attribute_under tags a = if declares_none a then entry_under tags a else None
 
--- the declarations of a tag, open behind those before, and whether two are of one prefix
-pub record AreDeclared (before given : List Given) (parts : Parted) (kept : Bindings) : Type 0 where
-  pub kept_are : Binds kept (declarations given ++ before)
-  pub clash : parts.has_clash ≡ declares_twice given
+-- The name is below that of the first of the entries.
+abbrev pub is_below_first : Expanded → List Entry → Bool
+is_below_first name [] = true
+is_below_first name (e ∷ es) = is_lt (name_cmp name e.name)
+
+-- Each name is below that of the next entry.
+abbrev pub are_ascending : List Entry → Bool
+are_ascending [] = true
+are_ascending (e ∷ es) = is_below_first e.name es && are_ascending es
+
+-- what an attribute or a declaration gives
+abbrev pub tag_given : TagAttribute → Given
+tag_given a = record { name = record { prefix = a.prefix.now; local = a.name.now }; value = a.value.now }
+
+-- a start tag of this name with these attributes and declarations, as they are spelled
+abbrev pub spelled_opening : List ℕ → List ℕ → List TagAttribute → Bool → Opening
+spelled_opening prefix name attributes is_empty = record { name = record { prefix = prefix; local = name }; given = map tag_given attributes; is_empty = is_empty }
 
 -- an attribute with its expanded name, by the declarations that are open
-abbrev pub entry_from : Bindings → BoundAttr → Entry
-entry_from kept a = record { name = record { namespace = namespace_from kept a.origin; local = a.local }; value = a.value }
+abbrev pub bound_entry : Bindings → TagAttribute → Entry
+bound_entry kept a = record { name = record { namespace = namespace_from kept a.origin; local = a.name.now }; value = a.value.now }
 
--- the attributes of a tag under these tags, its own the first, in the order of the tag
-pub record IsCollected (tags : List Opening) (plain : List Given) (kept : Bindings) (collected : Collected) : Type 0 where
-  pub entries : map (entry_from kept) collected.attrs.items ≡ filter_map (entry_under tags) plain
-  pub unbound : collected.is_unbound ≡ list_any (is_unbound tags) plain
+-- the declarations of a tag, open behind those before, and whether two are of one prefix
+pub record AreDeclared (before given : List Given) (declared : Declared) (kept : Bindings) : Type 0 where
+  pub kept_are : Binds kept (declarations given ++ before)
+  pub clash : declared.has_clash ≡ declares_twice given
 
 -- the attributes of a tag under these tags, its own the first, as an event has them, and what is wrong with them
-pub record IsExpanded (tags : List Opening) (plain : List Given) (expanded : ExpandedAttributes) : Type 0 where
-  pub entries : map entry_of expanded.attrs.items ≡ entries tags plain
+pub record IsExpanded (tags : List Opening) (plain : List Given) (expanded : ExpandedAttributes) (attributes : List TagAttribute) : Type 0 where
+  pub entries : expanded.has_clash ≡ false → map tag_entry attributes ≡ entries tags plain
   pub clash : expanded.has_clash ≡ has_clash tags plain
   pub unbound : expanded.is_unbound ≡ list_any (is_unbound tags) plain
 
 -- a start tag under the tags that are open before it; the scope has its declarations, and not yet its name
-pub record IsResolved (tags : List Opening) (tag : Opening) (resolved : Resolved) (scope : Scope) : Type 0 where
+pub record IsResolved (tags : List Opening) (tag : Opening) (resolved : Resolved) (attributes : List TagAttribute) (scope : Scope) : Type 0 where
   pub names : KeepsNames scope.names (map open_name tags)
   pub declarations_are : Binds scope.bindings (all_declarations (tag ∷ tags))
   pub count : resolved.declared ≡ length (declarations tag.given)
   pub namespace : resolved.namespace ≡ namespace_of (tag ∷ tags) tag.name.prefix
-  pub entries : map entry_of resolved.attrs ≡ entries (tag ∷ tags) tag.given
+  pub entries : resolved.has_clash ≡ false → map tag_entry attributes ≡ entries (tag ∷ tags) tag.given
   pub clash : resolved.has_clash ≡ has_clash (tag ∷ tags) tag.given
   pub bad : resolved.is_bad ≡ list_any (is_bad_attribute (tag ∷ tags)) tag.given

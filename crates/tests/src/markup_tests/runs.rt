@@ -3,15 +3,20 @@ ghost use Rattle.std.specs.Prelude.{◌≡◌, ◌<◌, ◌≤◌, ◌+◌, ◌^
 ghost use Rattle.markup.specs.Reading.{bytes_taken};
 
 use super::{ALONE, BEHIND_ROOT, LIMIT, ROOT, Verdict, answer, end, refusal, repeated};
-use Verdict::Whole;
-use lexical_core::Rule;
+use Verdict::{At, Whole};
+use lexical_core::Rule::DuplicateAttribute;
 use markup::{Events, Reader, Run};
 use std::alloc::{AllocError, Global};
 use std::process::Abort;
 
 /// Gives the reader what it takes at once of the piece, or its first byte, and answers how many
 /// bytes they are.
-fn take_some(reader: &mut Reader, out: &mut Events, piece: &[u8]) -> Result<usize, Verdict>
+fn take_some(
+    reader: &mut Reader,
+    out: &mut Events,
+    alloc: Global,
+    piece: &[u8],
+) -> Result<usize, Verdict>
     requires { bytes_taken reader.old + length piece.now ≤ 2 ^ 40 }
     ensures within { IfOk result (λ n. n ≤ length piece.now) }
     ensures some { IfOk result (λ n. 0 < length piece.now → 0 < n) }
@@ -32,14 +37,7 @@ fn take_some(reader: &mut Reader, out: &mut Events, piece: &[u8]) -> Result<usiz
         Ok(None) => {}
         Err(error) => return Err(refusal(error)),
     }
-    let tag = attribute_tag_size(reader, piece)?;
-    if tag > 0 {
-        return Ok(tag);
-    }
-    let start = match reader.take_start(piece, out) {
-        Ok(count) => count,
-        Err(error) => return Err(refusal(error)),
-    };
+    let start = take_start(reader, out, alloc, piece)?;
     if start > 0 {
         return Ok(start);
     }
@@ -59,17 +57,27 @@ fn take_some(reader: &mut Reader, out: &mut Events, piece: &[u8]) -> Result<usiz
     }
 }
 
-/// How many bytes the start tag with attributes has that the reader takes without a copy, 0 where it
-/// takes none.
-fn attribute_tag_size(reader: &mut Reader, piece: &[u8]) -> Result<usize, Verdict>
+/// Takes the start tag at the front of the piece and tells its events, and answers how many bytes it has, 0
+/// where none is taken.
+pub fn take_start(
+    reader: &mut Reader,
+    out: &mut Events,
+    alloc: Global,
+    piece: &[u8],
+) -> Result<usize, Verdict>
     requires { bytes_taken reader.old + length piece.now ≤ 2 ^ 40 }
     ensures within { IfOk result (λ n. n ≤ length piece.now) }
     ensures count { IfOk result (λ n. bytes_taken reader.new ≡ bytes_taken reader.old + n) }
 {
-    match reader.take_attribute_tag(piece) {
-        Ok(Some(tag)) => Ok(tag.bytes),
-        Ok(None) => Ok(0),
-        Err(error) => Err(refusal(error)),
+    let place = reader.place();
+    let tag = match reader.take_start_tag(piece) {
+        Ok(Some(tag)) => tag,
+        Ok(None) => return Ok(0),
+        Err(error) => return Err(refusal(error)),
+    };
+    match tag.tell(place, out, alloc) {
+        Ok(()) => Ok(tag.bytes),
+        Err(_) => Err(Verdict::Memory),
     }
 }
 
@@ -78,10 +86,16 @@ fn answer_by_pieces(mut reader: Reader, alloc: Global, bytes: &[u8], size: usize
     requires { bytes_taken reader ≡ 0 }
 {
     let mut out = Events::new(alloc);
-    take_pieces(&mut reader, &mut out, bytes, size)
+    take_pieces(&mut reader, &mut out, alloc, bytes, size)
 }
 
-fn take_pieces(reader: &mut Reader, out: &mut Events, bytes: &[u8], size: usize) -> Verdict
+fn take_pieces(
+    reader: &mut Reader,
+    out: &mut Events,
+    alloc: Global,
+    bytes: &[u8],
+    size: usize,
+) -> Verdict
     requires { bytes_taken reader.old ≡ 0 }
 {
     if bytes.len() as u64 > LIMIT || size == 0 {
@@ -90,7 +104,7 @@ fn take_pieces(reader: &mut Reader, out: &mut Events, bytes: &[u8], size: usize)
     let mut rest = bytes;
     while !rest.is_empty() {
         let (piece, _) = rest.split_at(size.min(rest.len()));
-        let taken = match take_some(reader, out, piece) {
+        let taken = match take_some(reader, out, alloc, piece) {
             Ok(taken) => taken,
             Err(verdict) => return verdict,
         };
@@ -124,13 +138,57 @@ fn texts_in_pieces(rt: HostRuntime) -> Result<(), AllocError> {
     check_texts(&rt, rt.alloc(), "", &ALONE)
 }
 
-/// An instance with tags, runs and what stands between them.
-static SHAPES: &str =
-    "<a xmlns=\"u\">\n <b>x y\tz</b>\r\n<c/><p:d xmlns:p=\"v\"><p:g/><p:h i=\"1\">x</p:h><e p:j='k'>]</e>]]<f.g-h_1>&lt;&#x41;</f.g-h_1></p:d><!-- - --><?q ?><i j='k&#65;\"l\t' m = \"'n\"/><![CDATA[<>]]></a>";
+/// Instances with tags, runs and what stands between them, by pieces with how often each stands, and what is
+/// said of them: with a prefix that the tag itself declares, with a namespace of 300 bytes, and with 25
+/// attributes out of order, of which two have one name or none.
+static SHAPES: [(&[(&str, usize)], Verdict); 5] = [
+    (
+        &[(
+            "<a xmlns=\"u\">\n <b>x y\tz</b>\r\n<c/><p:d xmlns:p=\"v\"><p:g/><p:h i=\"1\">x</p:h><e p:j='k'>]</e>]]<f.g-h_1>&lt;&#x41;</f.g-h_1></p:d><!-- - --><?q ?><i j='k&#65;\"l\t' m = \"'n\"/><![CDATA[<>]]></a>",
+            1,
+        )],
+        Whole,
+    ),
+    (
+        &[(
+            "<p:a p:b='1' xmlns:p='u' c='2'><p:d xmlns:p='v' p:e=''/></p:a>",
+            1,
+        )],
+        Whole,
+    ),
+    (
+        &[
+            ("<p:a xmlns:p='", 1),
+            ("u", 300),
+            ("'><b p:d='' p:c='' a=''/></p:a>", 1),
+        ],
+        Whole,
+    ),
+    (
+        &[(
+            "<a y='' x='' w='' v='' u='' t='' s='' r='' q='' p='' o='' n='' m='' l='' k='' j='' i='' h='' g='' f='' e='' d='' c='' b='' a=''/>",
+            1,
+        )],
+        Whole,
+    ),
+    (
+        &[(
+            "<a y='' x='' w='' v='' u='' t='' s='' r='' q='' p='' o='' n='' m='' l='' k='' j='' i='' h='' g='' f='' e='' d='' c='' q='' a=''/>",
+            1,
+        )],
+        At(DuplicateAttribute, 0),
+    ),
+];
 
 /// With the byte at this place changed to another one, the text is answered as by single bytes.
-fn check_change(rt: &impl Abort, alloc: Global, at: usize, byte: u8) -> Result<(), AllocError> {
-    let mut bytes = Vec::from_slice(alloc, SHAPES.as_bytes())?;
+fn check_change(
+    rt: &impl Abort,
+    alloc: Global,
+    text: &[u8],
+    at: usize,
+    byte: u8,
+) -> Result<(), AllocError> {
+    let mut bytes = Vec::from_slice(alloc, text)?;
     if let Some(changed) = bytes.get_mut(at) {
         *changed = byte;
     }
@@ -142,9 +200,14 @@ fn check_change(rt: &impl Abort, alloc: Global, at: usize, byte: u8) -> Result<(
 
 #[test]
 fn changes_in_one_piece(rt: HostRuntime) -> Result<(), AllocError> {
-    for at in 0..SHAPES.len() {
-        for byte in [0, b'<', b'&', b']', b'>', b':', 0xFF] {
-            check_change(&rt, rt.alloc(), at, byte)?;
+    for (pieces, expected) in &SHAPES {
+        let text = repeated(rt.alloc(), pieces)?;
+        let found = answer_by_pieces(Reader::new(rt.alloc()), rt.alloc(), text.as_slice(), 4096);
+        assert!(&rt; found == *expected, "{found:?}");
+        for at in 0..text.len() {
+            for byte in [0, b'<', b'&', b']', b'>', b':', 0xFF] {
+                check_change(&rt, rt.alloc(), text.as_slice(), at, byte)?;
+            }
         }
     }
     Ok(())
@@ -165,7 +228,7 @@ fn tags_of_any_length(rt: HostRuntime) -> Result<(), AllocError> {
 }
 
 /// A reader that has taken these bytes, where they have no fault.
-fn behind(alloc: Global, bytes: &[u8]) -> Option<Reader>
+pub fn behind(alloc: Global, bytes: &[u8]) -> Option<Reader>
     ensures { IfSome result (λ reader. bytes_taken reader ≤ 100) }
 {
     let mut out = Events::new(alloc);
@@ -339,129 +402,6 @@ fn tag_taken(reader: &mut Reader, piece: &[u8]) -> Option<usize>
     }
 }
 
-/// Pieces behind `<a>`, and how many bytes and attributes the start tag has that is taken at their front
-/// without a copy.
-static ATTRIBUTE_TAGS: [(&str, usize, usize); 19] = [
-    ("<b>", 3, 0),
-    ("<b c=\"d\">e", 9, 1),
-    ("<b c='d\"e' f=\"'\"/>g", 18, 2),
-    ("<b B='' a='' a-='' aa='' b=''>", 30, 5),
-    ("<b c='' c=''>", 0, 0),
-    ("<b d='' c=''>", 13, 2),
-    ("<b cc='' c=''>", 14, 2),
-    ("<b xml:lang='de'>", 17, 1),
-    ("<b xmlns='u'>", 0, 0),
-    ("<b xmln='u' xmlnsx='v'>", 23, 2),
-    ("<p:b c='d'>", 0, 0),
-    ("<b p:c='d'>", 0, 0),
-    ("<b c='d'", 0, 0),
-    ("<b c='d' >", 0, 0),
-    ("<b  c='d'>", 0, 0),
-    ("<b c='&lt;'>", 0, 0),
-    ("<b c='\t'>", 0, 0),
-    ("<b c='\u{E9}'>", 0, 0),
-    ("</a>", 0, 0),
-];
-
-/// The same behind `<a xmlns:p="u" xmlns:q="u">`.
-static PREFIXED_ATTRIBUTES: [(&str, usize, usize); 6] = [
-    ("<b p:c='d'>", 11, 1),
-    ("<b p:c='' c=''/>", 16, 2),
-    ("<b p:d='' q:c=''>", 17, 2),
-    ("<b p:c='' q:c=''>", 0, 0),
-    ("<b r:c=''>", 0, 0),
-    ("<b xmlns:p='v'>", 0, 0),
-];
-
-#[test]
-fn attribute_tags(rt: HostRuntime) {
-    for (piece, bytes, attributes) in &ATTRIBUTE_TAGS {
-        let found = attributes_behind(rt.alloc(), b"<a>", piece.as_bytes());
-        assert!(rt; found == Some((*bytes, *attributes)), "{piece}: {found:?}");
-    }
-    for (piece, bytes, attributes) in &PREFIXED_ATTRIBUTES {
-        let found = attributes_behind(rt.alloc(), b"<a xmlns:p='u' xmlns:q='u'>", piece.as_bytes());
-        assert!(rt; found == Some((*bytes, *attributes)), "{piece}: {found:?}");
-    }
-    let found = attributes_behind(rt.alloc(), b"<p:a xmlns:p='u'>", b"<b c='d'>");
-    assert!(rt; found == Some((0, 0)), "{found:?}");
-    let found = attributes_behind(rt.alloc(), b"<p:a xmlns:p='u'>", b"<p:b c='d'>/");
-    assert!(rt; found == Some((11, 1)), "{found:?}");
-}
-
-fn attributes_behind(alloc: Global, front: &[u8], piece: &[u8]) -> Option<(usize, usize)> {
-    let mut reader = behind(alloc, front)?;
-    attributes_taken(&mut reader, piece)
-}
-
-fn attributes_taken(reader: &mut Reader, piece: &[u8]) -> Option<(usize, usize)>
-    requires { bytes_taken reader.old ≤ 100 }
-{
-    if piece.len() > 100 {
-        return None;
-    }
-    match reader.take_attribute_tag(piece) {
-        Ok(Some(tag)) => Some((tag.bytes, tag.attributes.len())),
-        Ok(None) => Some((0, 0)),
-        Err(_) => None,
-    }
-}
-
-/// Pieces behind a start tag, how many bytes of a start tag at their front are taken at once, and how many
-/// events are told.
-static STARTS: [(&str, usize, usize); 24] = [
-    ("<b c=\"d\">e", 9, 1),
-    ("<b c='d\"e' f=\"'\"/>g", 18, 2),
-    ("<b>", 3, 1),
-    ("<b/>", 4, 2),
-    ("<b xmlns='u' c=''>", 18, 1),
-    ("<b-1 c.2='d e'>", 15, 1),
-    ("<b c='d'", 0, 0),
-    ("<b c='d' >", 0, 0),
-    ("<b  c='d'>", 0, 0),
-    ("<b c ='d'>", 0, 0),
-    ("<p:b xmlns:p='u'>", 17, 1),
-    ("<b xmlns:p='u' p:c='d'/>", 24, 2),
-    ("<p:b q:c='d' xmlns:p='u' xmlns:q='v'/>", 38, 2),
-    ("<p:q:b>", 0, 0),
-    ("<:b>", 0, 0),
-    ("<p:>", 0, 0),
-    ("<b p:q:c='d'>", 0, 0),
-    ("<b :c='d'>", 0, 0),
-    ("<b p:='d'>", 0, 0),
-    ("<b c='&lt;'>", 0, 0),
-    ("<b c='\t'>", 0, 0),
-    ("<b c='\u{E9}'>", 0, 0),
-    ("<b c=`d`>", 0, 0),
-    ("</a>", 0, 0),
-];
-
-#[test]
-fn whole_starts(rt: HostRuntime) {
-    for (piece, bytes, events) in &STARTS {
-        let found = start_behind(rt.alloc(), piece.as_bytes());
-        assert!(rt; found == Some((*bytes, *events)), "{piece}: {found:?}");
-    }
-}
-
-fn start_behind(alloc: Global, piece: &[u8]) -> Option<(usize, usize)> {
-    let mut reader = behind(alloc, b"<a>")?;
-    let mut out = Events::new(alloc);
-    start_taken(&mut reader, &mut out, piece)
-}
-
-fn start_taken(reader: &mut Reader, out: &mut Events, piece: &[u8]) -> Option<(usize, usize)>
-    requires { bytes_taken reader.old ≤ 100 }
-{
-    if piece.len() > 100 {
-        return None;
-    }
-    match reader.take_start(piece, out) {
-        Ok(count) => Some((count, out.len())),
-        Err(_) => None,
-    }
-}
-
 /// What was taken, pieces behind it, and how many bytes at their front go on with the open token.
 static INSIDE: [(&str, &str, usize); 14] = [
     ("<a>", "<b c", 0),
@@ -515,6 +455,5 @@ fn nothing_after_an_error(rt: HostRuntime) {
     assert!(rt; reader.take_characters(b"bc").bytes == 0);
     assert!(rt; reader.take_reference(b"&lt;").is_none());
     assert!(rt; reader.take_tag(b"<b>").is_err());
-    assert!(rt; reader.take_attribute_tag(b"<b c='d'>").is_err());
-    assert!(rt; reader.take_start(b"<b c='d'>", &mut out).is_err());
+    assert!(rt; reader.take_start_tag(b"<b c='d'>").is_err());
 }

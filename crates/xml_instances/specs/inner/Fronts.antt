@@ -1,7 +1,13 @@
 -- Fronts of a piece whose refusal is told apart from the answer.
-use Rattle.std.specs.Prelude.{◌≡◌, ℕ, List, Result, Ok, Err, OnOk, IfOk}
+use Rattle.std.specs.Prelude.{◌≡◌, ℕ, ◌+◌, ◌^◌, ◌≤◌, ◌++◌, true, List, length, map, take, Result, Ok, Err, OnOk, IfOk}
 use Rattle.lexical_core.specs.Tree.{Expanded, Item}
-use Rattle.markup.specs.PlainTags.{tag_items}
+use Rattle.markup.specs.Events.{Placed}
+use Rattle.markup.specs.PlainTags.{tag_items, name_behind}
+use Rattle.markup.specs.Reading.{HasTaken, HasTold, bytes_taken}
+use Rattle.markup.specs.Scopes.{placed_at}
+use Rattle.markup.specs.TagAttributes.{tag_entry}
+use Rattle.markup.specs.declared.reader.Reader.{Reader}
+use Rattle.markup.specs.declared.start_tag.StartTag.{StartTag}
 use Rattle.markup.specs.declared.plain_tag.TagKind.{TagKind}
 use Rattle.message_model.specs.Message.{Message}
 use Rattle.message_model.specs.Tables.{Tables, message_of, types_of}
@@ -13,7 +19,7 @@ use Rattle.xml_instances.specs.Keeping.{GoOn, MayShowName}
 use Rattle.xml_instances.specs.Open.{IsOpen, AreMade}
 use Rattle.xml_instances.specs.Checking.{IsTold}
 use Rattle.xml_instances.specs.Verdicts.{IsLean}
-use Rattle.xml_instances.specs.inner.Quick.{AreItemsTaken, IsOurs}
+use Rattle.xml_instances.specs.inner.Quick.{AreItemsTaken, IsOurs, start_events}
 use Rattle.xml_instances.specs.declared.content.Content.{Content}
 use Rattle.xml_instances.specs.declared.opened.Refusal.{Refusal}
 
@@ -47,3 +53,15 @@ pub record HoldsTag {U E : Type 0} (T : Tables) (old new : Content) (kind : TagK
   pub none : IfOk result (λ _. stop ≡ Memory)
   pub taken : IsTagHeld T old new kind name place result stop
   pub shown : IsTagShown T old new kind name result
+
+-- the events of a start tag that is taken whole
+abbrev pub told_items : StartTag → List Item
+told_items tag = start_events tag.is_empty (map tag_entry tag.attributes.items) (record { namespace = tag.ns; local = tag.name.now })
+
+-- A reader has taken the start tag at the front of the piece.
+pub record HasTakenStart (old new : Reader) (piece : List ℕ) (tag : StartTag) : Type 0 where
+  pub told_are : (bytes : List ℕ) (told : List Placed) → HasTaken old bytes told → HasTold new (bytes ++ take tag.bytes piece) (told ++ placed_at (length bytes) (told_items tag))
+  pub same_ns : (bytes : List ℕ) (told : List Placed) → HasTaken old bytes told → tag.has_same_ns ≡ true → tag.ns ≡ (name_behind told tag.name.now).namespace
+  pub within : tag.bytes ≤ length piece
+  pub room : bytes_taken old + length piece ≤ 2 ^ 40
+  pub count : bytes_taken new ≡ bytes_taken old + tag.bytes

@@ -1,18 +1,19 @@
 //! Fronts of a piece that a checker takes: whole tags, whole references and line ends, runs of characters, bytes inside tokens,
 //! single bytes.
-ghost use Rattle.std.specs.Prelude.{◌≡◌, ◌<◌, ◌+◌, ◌≤◌, ◌^◌, IfOk, length};
+ghost use Rattle.std.specs.Prelude.{◌≡◌, ◌<◌, ◌+◌, ◌≤◌, ◌^◌, ℕ, List, true, IfOk, length};
+ghost use Rattle.markup.specs.declared.reader.Reader.{Reader};
 ghost use Rattle.message_model.specs.Tables.{types_of};
 ghost use Rattle.message_model.specs.declared.fault.InstanceError.TheVariants.{Memory};
 ghost use Rattle.xml_instances.specs.Checking.{IsXmlCheckerFor, TakesXmlFront, xml_bytes_fed};
-ghost use Rattle.xml_instances.specs.inner.Fronts.{because};
-ghost use Rattle.xml_instances.specs.inner.Quick.{IsRoomIn};
+ghost use Rattle.xml_instances.specs.inner.Fronts.{because, HasTakenStart};
+ghost use Rattle.xml_instances.specs.inner.Quick.{IsRoomIn, is_parent};
 ghost use Rattle.xml_instances.specs.Scratch.{KeepsNoLeaf};
 ghost use Rattle.xml_instances.specs.declared.content.quick.Room.TheVariants.{All as AllCharacters, Blanks as BlankCharacters};
 
 use super::held::hold_tag;
 use super::{Stopped, XmlChecker, take_all, told};
 use crate::content::Room;
-use markup::MarkError;
+use markup::{MarkError, StartTag};
 use message_model::{InstanceError, Model};
 use std::alloc::AllocError;
 
@@ -100,8 +101,7 @@ impl XmlChecker {
         }
     }
 
-    /// Takes a whole start tag with attributes, reference or line end, bytes inside a token or else a byte from the front of
-    /// the piece.
+    /// Takes a whole start tag, reference or line end, bytes inside a token or else a byte from the front of the piece.
     fn take_rare(&mut self, model: &Model, piece: &[u8]) -> Result<usize, InstanceError>
         requires some { 0 < length piece.now }
         requires room { xml_bytes_fed self.old + length piece.now ≤ 2 ^ 40 }
@@ -121,8 +121,8 @@ impl XmlChecker {
         self.take_slowly(model, piece)
     }
 
-    /// Takes the start tag with attributes, the reference or the line end that stands whole at the front of the piece, if
-    /// one does that the reader takes at once. Its first byte says which is tried.
+    /// Takes the start tag, the reference or the line end that stands whole at the front of the piece, if one does that the
+    /// reader takes at once. Its first byte says which is tried.
     fn take_whole(&mut self, model: &Model, piece: &[u8]) -> Result<usize, InstanceError>
         requires some { 0 < length piece.now }
         requires room { xml_bytes_fed self.old + length piece.now ≤ 2 ^ 40 }
@@ -132,29 +132,11 @@ impl XmlChecker {
         ensures front { TakesXmlFront model.now self.old self.new piece.now result }
     {
         match piece[0] {
-            b'<' => self.take_any_start(model, piece),
+            b'<' => self.take_start_tag(model, piece),
             b'&' => self.take_reference(model, piece),
             b'\r' => self.take_line_end(model, piece),
             _ => Ok(0),
         }
-    }
-
-    /// Takes the whole start tag at the front of the piece, if one stands there with attributes.
-    fn take_any_start(&mut self, model: &Model, piece: &[u8]) -> Result<usize, InstanceError>
-        requires room { xml_bytes_fed self.old + length piece.now ≤ 2 ^ 40 }
-        requires made { IsXmlCheckerFor self.old model.now }
-        ensures made { IsXmlCheckerFor self.new model.now }
-        ensures lean { KeepsNoLeaf self.old → KeepsNoLeaf self.new }
-        ensures front { TakesXmlFront model.now self.old self.new piece.now result }
-    {
-        let start = match self.take_attribute_tag(model, piece) {
-            Ok(start) => start,
-            Err(error) => return Err(error),
-        };
-        if start > 0 {
-            return Ok(start);
-        }
-        self.take_start(model, piece)
     }
 
     /// Takes bytes inside a token or else a byte from the front of the piece.
@@ -269,24 +251,46 @@ impl XmlChecker {
         }
     }
 
-    /// Takes the whole start tag at the front of the piece, if one stands there with attributes that the reader takes
-    /// without a copy, in an element with elements of the message.
-    fn take_attribute_tag(&mut self, model: &Model, piece: &[u8]) -> Result<usize, InstanceError>
+    /// Takes the start tag that stands whole at the front of the piece, if one does that the reader takes at once.
+    fn take_start_tag(&mut self, model: &Model, piece: &[u8]) -> Result<usize, InstanceError>
         requires room { xml_bytes_fed self.old + length piece.now ≤ 2 ^ 40 }
         requires made { IsXmlCheckerFor self.old model.now }
         ensures made { IsXmlCheckerFor self.new model.now }
         ensures lean { KeepsNoLeaf self.old → KeepsNoLeaf self.new }
         ensures front { TakesXmlFront model.now self.old self.new piece.now result }
     {
-        markup::laws::events_stay();
-        if !self.content.is_in_parent() {
-            return Ok(0);
-        }
-        let tag = match self.reader.take_attribute_tag(piece) {
+        markup::laws::one_token();
+        markup::laws::fronts_agree();
+        markup::laws::nothing_at_clean();
+        markup::laws::tokens_have_bytes();
+        let tag = match self.reader.take_start_tag(piece) {
             Ok(Some(tag)) => tag,
             Ok(None) => return Ok(0),
-            Err(_) => return Err(InstanceError::Memory),
+            Err(MarkError::Refused(fault)) => return Err(self.mark_error(model, fault)),
+            Err(MarkError::Memory) => return Err(InstanceError::Memory),
         };
+        if tag.has_same_ns && self.content.is_in_parent() {
+            self.take_inner_start(model, &tag)
+        } else {
+            self.take_any_start(model, &tag)
+        }
+    }
+
+    /// Takes a start tag that the reader has taken, whose name is in the namespace of the innermost element. That is one
+    /// with elements of the message.
+    fn take_inner_start(
+        &mut self,
+        model: &Model,
+        tag: &StartTag<'_>,
+    ) -> Result<usize, InstanceError>
+        requires made { IsXmlCheckerFor self.old model.now }
+        requires inside { is_parent self.old.content.innermost ≡ true }
+        requires same_ns { tag.now.has_same_ns ≡ true }
+        ensures made { IsXmlCheckerFor self.new model.now }
+        ensures lean { KeepsNoLeaf self.old → KeepsNoLeaf self.new }
+        ensures front { (before : Reader) (piece : List ℕ) → HasTakenStart before self.old.reader piece tag.now → TakesXmlFront model.now (record self.old { reader = before }) self.new piece result }
+    {
+        markup::laws::events_stay();
         match self
             .content
             .take_start_tag(model, tag.name, tag.attributes.as_slice(), tag.is_empty)
@@ -299,41 +303,24 @@ impl XmlChecker {
         }
     }
 
-    /// Takes the whole start tag at the front of the piece, if one stands there with attributes that the
-    /// reader takes at once.
-    fn take_start(&mut self, model: &Model, piece: &[u8]) -> Result<usize, InstanceError>
-        requires room { xml_bytes_fed self.old + length piece.now ≤ 2 ^ 40 }
+    /// Takes any start tag that the reader has taken, by its events.
+    fn take_any_start(&mut self, model: &Model, tag: &StartTag<'_>) -> Result<usize, InstanceError>
         requires made { IsXmlCheckerFor self.old model.now }
         ensures made { IsXmlCheckerFor self.new model.now }
         ensures lean { KeepsNoLeaf self.old → KeepsNoLeaf self.new }
-        ensures front { TakesXmlFront model.now self.old self.new piece.now result }
+        ensures front { (before : Reader) (piece : List ℕ) → HasTakenStart before self.old.reader piece tag.now → TakesXmlFront model.now (record self.old { reader = before }) self.new piece result }
     {
-        markup::laws::one_token();
-        markup::laws::fronts_agree();
         markup::laws::events_stay();
-        markup::laws::nothing_at_clean();
-        markup::laws::tokens_have_bytes();
         respell::laws::events_are_plain();
-        match self.reader.take_start(piece, &mut self.events) {
-            Ok(count) => {
-                if count == 0 {
-                    return Ok(0);
-                }
-                if let Err(error) = take_all(&mut self.content, model, self.events.as_slice()) {
-                    return Err(error);
-                }
-                self.events.clear();
-                self.place = self.place.saturating_add(count as u64);
-                Ok(count)
-            }
-            Err(MarkError::Refused(fault)) => {
-                if let Err(error) = take_all(&mut self.content, model, self.events.as_slice()) {
-                    return Err(error);
-                }
-                Err(self.mark_error(model, fault))
-            }
-            Err(MarkError::Memory) => Err(InstanceError::Memory),
+        if let Err(_) = tag.tell(self.place, &mut self.events, self.alloc) {
+            return Err(InstanceError::Memory);
         }
+        if let Err(error) = take_all(&mut self.content, model, self.events.as_slice()) {
+            return Err(error);
+        }
+        self.events.clear();
+        self.place = self.place.saturating_add(tag.bytes as u64);
+        Ok(tag.bytes)
     }
 
     /// Takes the bytes at the front of the piece that go on with an open token and show no event, if there are some.

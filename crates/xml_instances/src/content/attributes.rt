@@ -12,7 +12,7 @@ ghost use Rattle.xml_instances.specs.Built.{CodeShown, CurrencyShown, TextShown}
 ghost use Rattle.xml_instances.specs.Keeping.{GoOn};
 ghost use Rattle.xml_instances.specs.Open.{AreMade, IsRuleOf, path_round, Says, IsCodeForm};
 ghost use Rattle.xml_instances.specs.Verdicts.{IsLean};
-ghost use Rattle.markup.specs.AttributeTags.{tag_entry};
+ghost use Rattle.markup.specs.TagAttributes.{tag_entry};
 
 use super::Content;
 use crate::known::{currency_of, has_unknown};

@@ -10,7 +10,7 @@ ghost use Rattle.xml_instances.specs.Built.{EventsShow, ShowsBeside, StartShown}
 ghost use Rattle.xml_instances.specs.Keeping.{GoOn, MayShowName, TagShowsBeside};
 ghost use Rattle.xml_instances.specs.Open.{IsOpen, AreMade, IsPlaced, IsItemTaken, IsTextMade, HoldsText};
 ghost use Rattle.xml_instances.specs.inner.Quick.{MayTake, IsRoomIn, IsRunTaken, AreItemsTaken, IsOurs, is_parent, start_events};
-ghost use Rattle.markup.specs.AttributeTags.{tag_entry};
+ghost use Rattle.markup.specs.TagAttributes.{tag_entry};
 ghost use Rattle.xml_instances.specs.Verdicts.{IsLean, IsTextVerdict};
 
 use super::{Content, OpenText, is_bare, root};

@@ -1,10 +1,7 @@
--- What is left has twins where all of them have.
-use Rattle.std.proofs.Common.{◌≡◌, length, map}
-use Rattle.markup.specs.inner.TagParts.{has_twins, entry_from}
+-- From the attribute before the next on it is so where it is so of all.
+use Rattle.std.proofs.Common.{◌≡◌, ◌≤◌, ◌-◌, drop, map}
+use Rattle.markup.specs.inner.TagParts.{bound_entry, has_twins}
 use Rattle.markup.proofs.attributes.has_twins.Given as goal
 
-abbrev pub invariant-loop-attr : goal.invariant-loop-attr
-invariant-loop-attr l = has_twins (map (entry_from l.bindings) l.left) ≡ has_twins (map (entry_from l.bindings) l.fn.attrs)
-
-abbrev pub decreases-loop-attr : goal.decreases-loop-attr
-decreases-loop-attr l = length l.left
+abbrev pub invariant-loop-next : goal.invariant-loop-next
+invariant-loop-next l = (1 ≤ l.next) × (has_twins (map (bound_entry l.bindings) (drop (l.next - 1) l.attributes)) ≡ has_twins (map (bound_entry l.bindings) l.attributes))

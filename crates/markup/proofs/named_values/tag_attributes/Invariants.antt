@@ -1,6 +1,6 @@
 -- The attributes before are handed on.
 use Rattle.std.proofs.Common.{◌≡◌, ◌++◌, drop, map}
-use Rattle.markup.specs.AttributeTags.{tag_entry}
+use Rattle.markup.specs.TagAttributes.{tag_entry}
 use Rattle.markup.specs.EventItems.{entry_of}
 use Rattle.markup.proofs.named_values.tag_attributes.Given as goal
 

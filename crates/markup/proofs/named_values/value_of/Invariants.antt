@@ -1,7 +1,7 @@
 -- The attributes before are of other names.
 use Rattle.std.proofs.Common.{drop, map, ◌≡◌}
 use Rattle.lexical_core.specs.Names.{attribute_value}
-use Rattle.markup.specs.AttributeTags.{tag_entry}
+use Rattle.markup.specs.TagAttributes.{tag_entry}
 use Rattle.markup.proofs.named_values.value_of.Given as goal
 
 abbrev pub invariant-loop-attribute : goal.invariant-loop-attribute

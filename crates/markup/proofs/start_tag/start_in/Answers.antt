@@ -1,5 +1,6 @@
 -- The tag by its parts.
-use Rattle.std.proofs.Common.{◌≡◌, length, refl, sym, ◌∙◌, rules}
+use Rattle.std.proofs.Common.{◌≡◌, length, map, refl, sym, ◌∙◌, rules}
+use Rattle.markup.specs.inner.TagParts.{tag_given}
 use Rattle.markup.specs.inner.WholeStarts.{named_by}
 use Rattle.markup.proofs.StartScans.{start_found}
 use Rattle.markup.proofs.StartsFound.{no_start, start_opens, start_named, start_ends, attributes_size, start_closes, start_size}
@@ -24,8 +25,8 @@ returns-in_default-closing-clause-all c tag rest p e =
 
 pub returns-clause-found : goal.returns-clause-found
 returns-clause-found c =
-    rw (c.in_ok-spelled_of.ensures, c.is_empty_kind.ensures, c.mark_count.ensures.count)
-    (start_found c.args.front.now c.in-Some.named.now (named_by c.in-Some-name_at.name.prefix.now c.in-Some-name_at.name.local.now) c.in-Some-name_at.name.behind.now c.split_at.result.1.now c.in-Some.first.now _ c.in_ok-size.size c.in-Some-closing.kind c.attributes_at.new.found
+    rw (c.is_empty_kind.ensures, c.mark_count.ensures.count)
+    (start_found c.args.front.now c.in-Some.named.now (named_by c.in-Some-name_at.name.prefix.now c.in-Some-name_at.name.local.now) c.in-Some-name_at.name.behind.now c.split_at.result.1.now c.in-Some.first.now _ c.in_ok-size.size c.in-Some-closing.kind (map tag_given c.attributes_at.new.found.items)
     c.in-Some.ensures.cases.0 c.if-first-ne60.false c.in-Some-name_at.ensures.found refl c.in_ok-size.ensures.are c.in_ok-size.ensures.within
     c.split_at.ensures.back (sym c.closing.ensures ∙ c.in-Some-closing.is) c.requires)
 

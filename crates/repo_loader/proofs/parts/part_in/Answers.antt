@@ -1,6 +1,6 @@
 -- By what it stands in.
 use Rattle.std.proofs.Common.{map}
-use Rattle.markup.specs.AttributeTags.{tag_entry}
+use Rattle.markup.specs.TagAttributes.{tag_entry}
 use Rattle.repo_loader.proofs.parts.part_in.Goals as goal
 
 pub returns-in-Repository : goal.returns-in-Repository

@@ -1,12 +1,18 @@
--- The collected attributes are sorted, and two of one name stand next to each other.
-use Rattle.std.proofs.Common.{map, reverse, refl, ap, ◌∙◌}
-use Rattle.markup.specs.inner.TagParts.{has_twins, entry_from}
-use Rattle.markup.proofs.ExpandedLemmas.{expanded_is}
+-- What is left is sorted and named.
+use Rattle.std.proofs.Common.{◌≡◌, map, length, nat_lt, sym, ap, ◌∙◌}
+use Rattle.std.specs.List.{filter_map}
+use Rattle.std.proofs.lemmas.List.{length-map}
+use Rattle.markup.specs.inner.TagParts.{tag_given, bound_entry, attribute_under}
+use Rattle.markup.proofs.ExpandedLemmas.{counted, left_unbound, expanded_is}
+use Rattle.markup.proofs.WholeTags.{all_plain}
 use Rattle.markup.proofs.attributes.Expanded.of.Goals as goal
 
 pub returns : goal.returns
 returns c tags is =
-    expanded_is tags (reverse c.args.attributes.items) c.args.bindings.now c.in_ok-collected.collected c.sort.new.attrs.items
-    (record { attrs = c.in_ok-attrs.attrs; has_clash = c.has_twins-has_clash.result; is_unbound = c.in_ok-collected.collected.is_unbound })
-    c.requires (c.in_ok-collected.ensures tags is) c.in_ok-sort.ensures c.in_ok-attrs.ensures
-    (c.has_twins-has_clash.ensures ∙ ap (λ xs. has_twins (map (entry_from c.args.bindings.now) xs)) c.as_slice.ensures.value) refl
+    let given = map tag_given c.args.attributes.now.items in
+    let found = map (bound_entry c.args.bindings.now) c.bind_all.new.attributes.items in
+    let found_is : found ≡ filter_map (attribute_under tags) given = c.bind_all.ensures tags is in
+    expanded_is tags given c.name_all.new.attributes.items found (record { has_clash = c.sort-has_clash.result; is_unbound = nat_lt c.len.result c.saturating_sub.result }) found_is
+    (λ apart. c.in_ok-name_all.ensures ∙ c.sort-has_clash.ensures.sorted apart) c.sort-has_clash.ensures.twins
+    (ap (nat_lt c.len.result) c.saturating_sub.ensures ∙ left_unbound tags given c.len.result c.len-count.result c.args.declared (counted c.bind_all.new.attributes c.len.result c.len.ensures ∙ (sym (length-map c.bind_all.new.attributes.items (bound_entry c.args.bindings.now)) ∙ ap length found_is)) (counted c.args.attributes.now c.len-count.result c.len-count.ensures ∙ sym (length-map c.args.attributes.now.items tag_given)) c.requires)
+    (all_plain given)

@@ -1,16 +1,23 @@
--- A tag that breaks no rule: of an empty element, and of another.
-use Rattle.std.proofs.Common.{refl}
-use Rattle.markup.proofs.ScopeLemmas.{takes_open, takes_empty}
+-- The events of a tag that is opened.
+use Rattle.std.proofs.Common.{subst, ◌∙◌}
+use Rattle.markup.specs.inner.StartTags.{Opens, StopsFor}
+use Rattle.markup.specs.Faults.{start_rule}
+use Rattle.markup.proofs.ScopeLemmas.{opening_same, stops_before, takes_start, tells_front}
 use Rattle.markup.proofs.scope.Scope.begin.Goals as goal
 
-pub returns-in-Ok-pass : goal.returns-in-Ok-pass
-returns-in-Ok-pass c tags is =
-    takes_empty c.args.over tags c.args.tag c.args.place c.args.out.now c.pass.new.out c.in-Ok.resolved c.resolve.new.self c.pass.new.self c.in-Some.ns
-    (c.in-Ok.ensures tags c.args.tag is refl refl) c.if-has_clash.false c.in-Some.is c.if-is_bad.false c.if-over.false c.if-is_empty.true
-    c.in-Ok-pass.ensures.names c.in-Ok-pass.ensures.declared c.in-Ok-pass.ensures.ok
+pub returns-in-Err : goal.returns-in-Err
+returns-in-Err c tags is =
+    let same = opening_same c.args.tag c.bytes.result.now c.bytes-2.result.now c.in-Ok.attributes.items c.bytes.ensures c.bytes-2.ensures (c.in-Ok.ensures ∙ c.as_slice.ensures) in
+    stops_before c.args.over tags c.args.tag c.args.place c.args.out.now c.in-Err.stop (subst (λ t. StopsFor (start_rule c.args.over tags t) c.in-Err.stop) same (c.in-Err.ensures tags is))
 
-pub returns-in-Ok-open : goal.returns-in-Ok-open
-returns-in-Ok-open c tags is =
-    takes_open c.args.over tags c.args.tag c.args.place c.args.out.now c.open.new.out c.in-Ok.resolved c.resolve.new.self c.open.new.self c.in-Some.ns
-    (c.in-Ok.ensures tags c.args.tag is refl refl) c.if-has_clash.false c.in-Some.is c.if-is_bad.false c.if-over.false c.if-is_empty.false
-    c.in-Ok-open.ensures.names c.in-Ok-open.ensures.declared c.in-Ok-open.ensures.ok
+pub returns-in-Ok-tell : goal.returns-in-Ok-tell
+returns-in-Ok-tell c tags is =
+    let same = opening_same c.args.tag c.bytes.result.now c.bytes-2.result.now c.in-Ok.attributes.items c.bytes.ensures c.bytes-2.ensures (c.in-Ok.ensures ∙ c.as_slice.ensures) in
+    takes_start c.args.over tags c.args.tag c.args.place c.args.out.now c.tell.new.out c.open.new.attributes.items c.open.new.self c.in-Ok-open.opened c.bytes-4.result.now
+    (subst (λ t. Opens c.args.over tags t c.open.new.attributes.items c.open.new.self c.in-Ok-open.opened) same (c.in-Ok-open.ensures tags is)) c.bytes-4.ensures c.in-Ok-tell.ensures.ok
+
+pub returns : goal.returns
+returns c tags is =
+    let same = opening_same c.args.tag c.bytes.result.now c.bytes-2.result.now c.in-Ok.attributes.items c.bytes.ensures c.bytes-2.ensures (c.in-Ok.ensures ∙ c.as_slice.ensures) in
+    tells_front c.args.over tags c.args.tag c.args.place c.args.out.now c.tell.new.out c.open.new.attributes.items c.open.new.self c.in-Ok-open.opened c.bytes-4.result.now
+    (subst (λ t. Opens c.args.over tags t c.open.new.attributes.items c.open.new.self c.in-Ok-open.opened) same (c.in-Ok-open.ensures tags is)) c.bytes-4.ensures c.in-Err-tell.ensures.err

@@ -1,7 +1,7 @@
 -- The entry before is closed; then the least rule is told.
 use Rattle.std.proofs.Common.{◌≡◌, ◌∙◌, sym, ap, map, true≢false, subst, Some}
 use Rattle.lexical_core.specs.Names.{attribute_value}
-use Rattle.markup.specs.AttributeTags.{tag_entry}
+use Rattle.markup.specs.TagAttributes.{tag_entry}
 use Rattle.repo_objects.specs.Repository.{HasId, HasEntryTexts}
 use Rattle.repo_loader.specs.FileNames.{id_name}
 use Rattle.repo_loader.specs.FileValues.{text_or_empty}

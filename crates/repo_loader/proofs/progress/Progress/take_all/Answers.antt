@@ -1,5 +1,5 @@
 -- What stands at the front of the rest, as far as the first that shows a fault.
-use Rattle.std.proofs.Common.{rules, [], ◌++◌, refl, subst, arith}
+use Rattle.std.proofs.Common.{rules, ◌++◌, refl, subst, arith}
 use Rattle.std.proofs.lemmas.List.{nil_from_length}
 use Rattle.repo_loader.specs.inner.ProgressSteps.{ReadsFront, TakesSome}
 use Rattle.repo_loader.proofs.ReadSteps.{ReadSoFar, nothing_seen, run_seen, fault_seen, all_seen}

@@ -3,8 +3,8 @@ use Rattle.std.proofs.Common.{◌≡◌, sym, ◌∙◌, arith}
 use Rattle.repo_loader.proofs.ReadSteps.{none_read, none_front}
 use Rattle.repo_loader.proofs.progress.Progress.take_front.Goals as goal
 
-pub take_attribute_tag-requires-clause-read : goal.take_attribute_tag-requires-clause-read
-take_attribute_tag-requires-clause-read c = (_, c.in_ok-inside.ensures.read _ (c.take_characters-characters.ensures.read c.requires.read.0 c.requires.read.1))
+pub take_start_tag-requires-clause-read : goal.take_start_tag-requires-clause-read
+take_start_tag-requires-clause-read c = (_, c.in_ok-inside.ensures.read _ (c.take_characters-characters.ensures.read c.requires.read.0 c.requires.read.1))
 
 pub returns-then-is_front-clause-read : goal.returns-then-is_front-clause-read
 returns-then-is_front-clause-read c bytes h =
@@ -14,10 +14,10 @@ returns-then-is_front-clause-read c bytes h =
     let read = none_read c.take_characters-characters.new.self bytes xs c.take_characters-characters.result no_characters (c.take_characters-characters.ensures.read bytes h) in
     c.in_ok-tag.ensures.read bytes (none_read c.take_inside.new.self bytes xs c.in_ok-inside.inside no_others (c.in_ok-inside.ensures.read bytes read))
 
-pub take_token-requires-clause-read : goal.take_token-requires-clause-read
-take_token-requires-clause-read c =
+pub take_one-requires-clause-read : goal.take_one-requires-clause-read
+take_one-requires-clause-read c =
     let before = c.in_ok-inside.ensures.read _ (c.take_characters-characters.ensures.read c.requires.read.0 c.requires.read.1) in
-    (_, none_front c.take_attribute_tag.new.self _ c.args.piece.now c.in_ok-tag.tag (sym c.is_front.ensures ∙ c.if-is_front.false) (c.in_ok-tag.ensures.read _ before))
+    (_, none_front c.take_start_tag.new.self _ c.args.piece.now c.in_ok-tag.tag (sym c.is_front.ensures ∙ c.if-is_front.false) (c.in_ok-tag.ensures.read _ before))
 
 pub returns-clause-read : goal.returns-clause-read
 returns-clause-read c bytes h =
@@ -26,4 +26,4 @@ returns-clause-read c bytes h =
     let no_others : c.in_ok-inside.inside ≡ 0 = omega (arith, c.if-inside-gt0.false) in
     let read = none_read c.take_characters-characters.new.self bytes xs c.take_characters-characters.result no_characters (c.take_characters-characters.ensures.read bytes h) in
     let inside = none_read c.take_inside.new.self bytes xs c.in_ok-inside.inside no_others (c.in_ok-inside.ensures.read bytes read) in
-    c.take_token.ensures.read bytes (none_front c.take_attribute_tag.new.self bytes xs c.in_ok-tag.tag (sym c.is_front.ensures ∙ c.if-is_front.false) (c.in_ok-tag.ensures.read bytes inside))
+    c.take_one.ensures.read bytes (none_front c.take_start_tag.new.self bytes xs c.in_ok-tag.tag (sym c.is_front.ensures ∙ c.if-is_front.false) (c.in_ok-tag.ensures.read bytes inside))

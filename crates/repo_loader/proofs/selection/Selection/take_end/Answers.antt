@@ -1,18 +1,14 @@
 -- An end closes the innermost element.
-use Rattle.std.proofs.Common.{◌≡◌, ◌+◌, [], length, refl, sym, subst, arith}
-use Rattle.std.specs.Global.{Vec}
-use Rattle.std.specs.Prelude.{ℕ, MatchOption, Option, vec_len}
-use Rattle.std.proofs.lemmas.Grind.{common_steps}
+use Rattle.std.proofs.Common.{◌≡◌, ◌+◌, [], refl, sym, subst}
+use Rattle.std.specs.Prelude.{MatchOption, Option, vec_len}
 use Rattle.std.proofs.lemmas.List.{nil_from_length}
 use Rattle.lexical_core.specs.Tree.{Ends}
 use Rattle.markup.specs.Events.{Placed}
+use Rattle.markup.proofs.ExpandedLemmas.{counted}
 use Rattle.repo_loader.specs.declared.part.Part.{Part}
 use Rattle.repo_loader.specs.Selected.{parts_open_after}
 use Rattle.repo_loader.proofs.EventSteps.{close_one, quiet_event}
 use Rattle.repo_loader.proofs.selection.Selection.take_end.Goals as goal
-
-counted : {X : Type 0} (v : Vec X) (n : ℕ) → n ≡ vec_len v → n ≡ length v.items
-counted v n is = grind (arith, common_steps)
 
 pub returns : goal.returns
 returns c told place name h =

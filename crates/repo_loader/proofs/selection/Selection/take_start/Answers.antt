@@ -1,7 +1,7 @@
 -- The element is passed over, or its tag is taken.
 use Rattle.std.proofs.Common.{ap, ◌∙◌, subst, map, refl}
 use Rattle.lexical_core.specs.Tree.{Expanded}
-use Rattle.markup.specs.AttributeTags.{tag_entry}
+use Rattle.markup.specs.TagAttributes.{tag_entry}
 use Rattle.repo_loader.specs.Selected.{part_in}
 use Rattle.repo_loader.specs.inner.SelectionSteps.{tags_told}
 use Rattle.repo_loader.specs.inner.Stops.{TellsStop}

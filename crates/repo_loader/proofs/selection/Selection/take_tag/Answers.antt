@@ -1,7 +1,7 @@
 -- The start of the tag is read, and of an empty element the end.
 use Rattle.std.proofs.Common.{[], ◌∷◌, ◌∙◌, sym, map, if◌then◌else◌}
 use Rattle.lexical_core.specs.Tree.{Expanded, Starts, Ends}
-use Rattle.markup.specs.AttributeTags.{tag_entry}
+use Rattle.markup.specs.TagAttributes.{tag_entry}
 use Rattle.markup.specs.Events.{Placed}
 use Rattle.markup.specs.Scopes.{placed_at}
 use Rattle.repo_loader.proofs.EventSteps.{broken_on, ends_behind}

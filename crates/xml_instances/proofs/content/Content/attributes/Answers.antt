@@ -1,5 +1,5 @@
 use Rattle.std.proofs.Common.{rules, map}
-use Rattle.markup.specs.AttributeTags.{tag_entry}
+use Rattle.markup.specs.TagAttributes.{tag_entry}
 use Rattle.message_model.specs.Tables.{types_of, message_of}
 use Rattle.xml_instances.specs.Open.{path_round}
 use Rattle.xml_instances.proofs.Contents.{unknown_said, money_said, money_form}

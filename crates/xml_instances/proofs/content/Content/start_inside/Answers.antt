@@ -2,7 +2,7 @@ use Rattle.std.proofs.Common.{map}
 use Rattle.message_model.specs.Tables.{message_of}
 use Rattle.xml_instances.proofs.Contents.{placed_entered, placed_wrong}
 use Rattle.xml_instances.proofs.GoingOn.{start_shown}
-use Rattle.markup.specs.AttributeTags.{tag_entry}
+use Rattle.markup.specs.TagAttributes.{tag_entry}
 use Rattle.xml_instances.proofs.content.Content.start_inside.Goals as goal
 
 pub returns-in-Ok-clause-taken : goal.returns-in-Ok-clause-taken

@@ -7,7 +7,7 @@ use Rattle.message_model.specs.Tables.{message_of}
 use Rattle.xml_instances.specs.Levels.{levels_after}
 use Rattle.xml_instances.specs.Built.{EventsShow}
 use Rattle.xml_instances.specs.Keeping.{GoOn}
-use Rattle.markup.specs.AttributeTags.{tag_entry}
+use Rattle.markup.specs.TagAttributes.{tag_entry}
 use Rattle.xml_instances.specs.inner.Quick.{AreItemsTaken, start_events}
 use Rattle.xml_instances.proofs.QuickRuns.{first_wrong, two_items}
 use Rattle.xml_instances.proofs.StartTags.{parent_beside, start_goes_on, both_go_on}

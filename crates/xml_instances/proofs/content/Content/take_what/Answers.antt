@@ -1,7 +1,7 @@
 use Rattle.std.proofs.Common.{map, subst, sym, ap, ◌∙◌}
 use Rattle.std.specs.Prelude.{OnOk}
 use Rattle.markup.specs.declared.event.What.{What}
-use Rattle.markup.specs.AttributeTags.{tag_entry}
+use Rattle.markup.specs.TagAttributes.{tag_entry}
 use Rattle.markup.specs.EventItems.{entry_of, item_of}
 use Rattle.message_model.specs.Tables.{message_of}
 use Rattle.xml_instances.specs.Built.{ShowsBeside}

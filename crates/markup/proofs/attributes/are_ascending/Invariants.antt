@@ -1,0 +1,7 @@
+-- From the attribute before the next on it is so where it is so of all.
+use Rattle.std.proofs.Common.{◌≡◌, ◌≤◌, ◌-◌, drop, map}
+use Rattle.markup.specs.inner.TagParts.{bound_entry, are_ascending}
+use Rattle.markup.proofs.attributes.are_ascending.Given as goal
+
+abbrev pub invariant-loop-next : goal.invariant-loop-next
+invariant-loop-next l = (1 ≤ l.next) × (are_ascending (map (bound_entry l.bindings) (drop (l.next - 1) l.attributes)) ≡ are_ascending (map (bound_entry l.bindings) l.attributes))
