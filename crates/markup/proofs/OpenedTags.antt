@@ -1,7 +1,7 @@
 -- A start tag that is opened as a token, and a reader behind it.
-use Rattle.std.proofs.Common.{◌≡◌, ℕ, Bool, true, List, [], ◌∷◌, ◌++◌, length, map, take, reverse, Some, refl, sym, ◌∙◌, ap, subst}
+use Rattle.std.proofs.Common.{◌≡◌, ℕ, Bool, true, List, [], ◌∷◌, ◌++◌, length, map, take, reverse, Option, Some, refl, sym, ◌∙◌, ap, subst}
 use Rattle.std.specs.Bool.{if◌then◌else◌}
-use Rattle.std.specs.Option.{option_or}
+use Rattle.std.specs.Option.{option_or, IfSome, IsSome}
 use Rattle.std.proofs.lemmas.Bool.{and_parts}
 use Rattle.lexical_core.specs.Tree.{Expanded}
 use Rattle.markup.specs.Token.{Token, StartTag}
@@ -21,12 +21,13 @@ use Rattle.markup.specs.declared.context.Context.{Context}
 use Rattle.markup.specs.declared.reader.Reader.{Reader}
 use Rattle.markup.specs.declared.scope.Opened.{Opened}
 use Rattle.markup.specs.declared.scope.Scope.{Scope}
+use Rattle.markup.specs.declared.start_tag.StartTag.{StartTag as FoundTag}
 use Rattle.markup.specs.declared.tag.Opening.{Opening}
 use Rattle.markup.proofs.Lookups.{namespace_is}
 use Rattle.markup.proofs.OpenTags.{open_expanded, innermost_bound}
 use Rattle.markup.proofs.PlainLemmas.{text_between}
 use Rattle.markup.proofs.ScopeLemmas.{its_items}
-use Rattle.markup.proofs.StartsTold.{told_behind}
+use Rattle.markup.proofs.StartsTold.{some_holds, told_behind}
 use Rattle.markup.proofs.WholeTokens.{all_told}
 
 -- what a prefix is bound to under a tag that declares nothing it is bound to without it
@@ -53,17 +54,36 @@ takes_tag context before t is prefix name given is_empty says over is_over_so at
 same_some : (x y : List ℕ) → Some x ≡ Some y → x ≡ y
 same_some x y h = cc
 
-module _ {limit : ℕ} (r : Reader) (bytes piece : List ℕ) (told : List Placed) (h : HasTakenUnder limit r bytes told) (text : is_in_text r.tokenizer ≡ true) (tag : Opening) (count : ℕ) (at : IsStartAt piece tag count) (context : Context) (attributes : List TagAttribute) (name : List ℕ)
-    (is_empty : Bool) (opened : Opened) (t : TakesStartTag (reverse h.0) at.start name attributes is_empty context opened) where
-  pub takes_told : HasToldUnder limit (record { tokenizer = after_whole_tokens r.tokenizer count; context = context; failed = r.failed }) (bytes ++ take count piece)
-      (told ++ placed_at (length bytes) (start_tag_items (Some (record { namespace = opened.ns; local = name })) (map tag_entry attributes) is_empty))
-  takes_told = subst (λ v. HasToldUnder limit (record { tokenizer = after_whole_tokens r.tokenizer count; context = context; failed = r.failed }) (bytes ++ take count piece) (told ++ placed_at (length bytes) v)) t.items
-      (told_behind r bytes piece told h [] [] tag count text at context t.clean t.context_is)
+-- a start tag as it was found
+abbrev found_tag : FoundTag → Opening
+found_tag tag = spelled_opening tag.prefix.now tag.name.now tag.attributes.items tag.is_empty
+
+-- it stands at the front where one was found
+pub found_at : (piece : List ℕ) (o : Option FoundTag) (tag : FoundTag) → o ≡ Some tag → IfSome o (λ (t : FoundTag). IsStartAt piece (found_tag t) t.bytes) → IsStartAt piece (found_tag tag) tag.bytes
+found_at piece o tag is found = some_holds (λ (t : FoundTag). IsStartAt piece (found_tag t) t.bytes) o tag is found
+
+module _ {limit : ℕ} (r : Reader) (bytes piece : List ℕ) (told : List Placed) (h : HasTakenUnder limit r bytes told) (o : Option FoundTag) (tag : FoundTag) (is : o ≡ Some tag) (found : IfSome o (λ (t : FoundTag). IsStartAt piece (found_tag t) t.bytes))
+    (ready : IsSome o → is_in_text r.tokenizer ≡ true) (context : Context) (attributes : List TagAttribute) (opened : Opened)
+    (takes : (before : List Token) (t : StartTag) → IsContext r.context before → opening t ≡ found_tag tag → TakesStartTag before t tag.name.now attributes tag.is_empty context opened) where
+  at : IsStartAt piece (found_tag tag) tag.bytes
+  at = found_at piece o tag is found
+
+  text : is_in_text r.tokenizer ≡ true
+  text = ready (subst IsSome (sym is) refl)
+
+  taken : TakesStartTag (reverse h.0) at.start tag.name.now attributes tag.is_empty context opened
+  taken = takes (reverse h.0) at.start h.1.context at.says
+
+  pub takes_told : HasToldUnder limit (record { tokenizer = after_whole_tokens r.tokenizer tag.bytes; context = context; failed = r.failed }) (bytes ++ take tag.bytes piece)
+      (told ++ placed_at (length bytes) (start_tag_items (Some (record { namespace = opened.ns; local = tag.name.now })) (map tag_entry attributes) tag.is_empty))
+  takes_told =
+      subst (λ v. HasToldUnder limit (record { tokenizer = after_whole_tokens r.tokenizer tag.bytes; context = context; failed = r.failed }) (bytes ++ take tag.bytes piece) (told ++ placed_at (length bytes) v)) taken.items
+      (told_behind r bytes piece told h [] [] (found_tag tag) tag.bytes text at context taken.clean taken.context_is)
 
   -- the namespace of the element round it, where that is known to be the same
-  pub same_told : opened.has_same_ns ≡ true → opened.ns ≡ (name_behind told name).namespace
+  pub same_told : opened.has_same_ns ≡ true → opened.ns ≡ (name_behind told tag.name.now).namespace
   same_told s =
-      let k : IsSameNamespace (open_tags (reverse h.0)) opened.ns = t.same s in
+      let k : IsSameNamespace (open_tags (reverse h.0)) opened.ns = taken.same s in
       let es : List Expanded = open_behind [] (events [] 0 h.0) in
       same_some opened.ns (innermost_namespace es) (sym k.2 ∙ innermost_bound (open_tags (reverse h.0)) es k.0 (open_expanded h.0 h.1.clean) k.1)
       ∙ ap (λ v. innermost_namespace (open_behind [] v)) (sym (all_told r bytes told h (text_between r.tokenizer.scan (and_parts _ _ text).0) (and_parts _ _ text).1))

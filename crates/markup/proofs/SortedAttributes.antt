@@ -86,18 +86,12 @@ ascending_apart (e ∷ es) a =
 
 -- ---- behind the last of them
 
-pub twins_end : {X : Type 0} (entry : X → Entry) (xs : List X) (i : ℕ) → length xs ≤ suc i → has_twins (map entry (drop i xs)) ≡ false
-twins_end entry [] zero l = refl
-twins_end entry [] (suc i) l = refl
-twins_end entry (x ∷ []) zero l = refl
-twins_end entry (x ∷ []) (suc i) l = twins_end entry [] i (omega (arith, l))
-twins_end entry (x ∷ y ∷ more) zero l = absurd (omega (arith, l))
-twins_end entry (x ∷ y ∷ more) (suc i) l = twins_end entry (y ∷ more) i (omega (arith, l))
-
-pub ascends_end : {X : Type 0} (entry : X → Entry) (xs : List X) (i : ℕ) → length xs ≤ suc i → are_ascending (map entry (drop i xs)) ≡ true
-ascends_end entry [] zero l = refl
-ascends_end entry [] (suc i) l = refl
-ascends_end entry (x ∷ []) zero l = refl
-ascends_end entry (x ∷ []) (suc i) l = ascends_end entry [] i (omega (arith, l))
-ascends_end entry (x ∷ y ∷ more) zero l = absurd (omega (arith, l))
-ascends_end entry (x ∷ y ∷ more) (suc i) l = ascends_end entry (y ∷ more) i (omega (arith, l))
+-- what is asked of neighbours has one answer where there are none
+pub without_neighbours : {X : Type 0} (entry : X → Entry) (asked : List Entry → Bool) (answer : Bool) → asked [] ≡ answer → ((e : Entry) → asked (e ∷ []) ≡ answer)
+    → (xs : List X) (i : ℕ) → length xs ≤ suc i → asked (map entry (drop i xs)) ≡ answer
+without_neighbours entry asked answer none one [] zero l = none
+without_neighbours entry asked answer none one [] (suc i) l = none
+without_neighbours entry asked answer none one (x ∷ []) zero l = one (entry x)
+without_neighbours entry asked answer none one (x ∷ []) (suc i) l = without_neighbours entry asked answer none one [] i (omega (arith, l))
+without_neighbours entry asked answer none one (x ∷ y ∷ more) zero l = absurd (omega (arith, l))
+without_neighbours entry asked answer none one (x ∷ y ∷ more) (suc i) l = without_neighbours entry asked answer none one (y ∷ more) i (omega (arith, l))

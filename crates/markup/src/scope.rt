@@ -17,9 +17,8 @@ use crate::event::Events;
 use crate::namespace::Namespace;
 use crate::open_names::{InnermostName, OpenNames};
 use crate::plain_tag::{PlainTag, TagKind, tag_at};
-use crate::start_tag::StartTag;
 use crate::tag::{Opening, Spelled};
-use crate::telling::tell_end;
+use crate::telling::{tell_end, tell_start};
 use lexical_core::{Rule, are_same};
 use std::alloc::{AllocError, Global};
 
@@ -121,16 +120,15 @@ impl Scope {
             Ok(opened) => opened,
             Err(stop) => return Err(stop),
         };
-        let tag = StartTag {
-            ns: opened.ns,
-            has_same_ns: opened.has_same_ns,
-            prefix: name.prefix.bytes(),
-            name: name.local.bytes(),
-            attributes,
+        match tell_start(
+            out,
+            place,
+            opened.ns,
+            name.local,
+            attributes.as_slice(),
             is_empty,
-            bytes: 0,
-        };
-        match tag.tell(place, out, self.alloc) {
+            self.alloc,
+        ) {
             Ok(()) => Ok(()),
             Err(_) => Err(Stop::Memory),
         }

@@ -395,6 +395,15 @@ fn fronts_of_an_instance(rt: HostRuntime) {
     }
 }
 
+/// The text with the byte at this place changed to another one.
+fn changed(alloc: Global, text: &[u8], at: usize, byte: u8) -> Result<Vec<u8>, AllocError> {
+    let mut bytes = Vec::from_slice(alloc, text)?;
+    if let Some(there) = bytes.get_mut(at) {
+        *there = byte;
+    }
+    Ok(bytes)
+}
+
 /// With the byte at this place changed to another one, the text is answered; no text has 0 or FF.
 fn check_change(
     rt: &impl Abort,
@@ -403,10 +412,7 @@ fn check_change(
     at: usize,
     byte: u8,
 ) -> Result<(), AllocError> {
-    let mut bytes = Vec::from_slice(alloc, text)?;
-    if let Some(changed) = bytes.get_mut(at) {
-        *changed = byte;
-    }
+    let bytes = changed(alloc, text, at, byte)?;
     match answer(alloc, bytes.as_slice()) {
         Whole => assert!(rt; byte != 0 && byte != 0xFF, "{at}: {byte}"),
         At(rule, place) => {

@@ -2,7 +2,7 @@
 ghost use Rattle.std.specs.Prelude.{◌≡◌, ◌<◌, ◌≤◌, ◌+◌, ◌^◌, IfOk, IfSome, IsTrue, length};
 ghost use Rattle.markup.specs.Reading.{bytes_taken};
 
-use super::{ALONE, BEHIND_ROOT, LIMIT, ROOT, Verdict, answer, end, refusal, repeated};
+use super::{ALONE, BEHIND_ROOT, LIMIT, ROOT, Verdict, answer, changed, end, refusal, repeated};
 use Verdict::{At, Whole};
 use lexical_core::Rule::DuplicateAttribute;
 use markup::{Events, Reader, Run};
@@ -188,10 +188,7 @@ fn check_change(
     at: usize,
     byte: u8,
 ) -> Result<(), AllocError> {
-    let mut bytes = Vec::from_slice(alloc, text)?;
-    if let Some(changed) = bytes.get_mut(at) {
-        *changed = byte;
-    }
+    let bytes = changed(alloc, text, at, byte)?;
     let expected = answer(alloc, bytes.as_slice());
     let found = answer_by_pieces(Reader::new(alloc), alloc, bytes.as_slice(), 4096);
     assert!(rt; found == expected, "{at}, {byte}: {found:?}");

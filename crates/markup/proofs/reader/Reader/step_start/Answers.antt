@@ -6,10 +6,9 @@ use Rattle.markup.specs.Tokenizers.{is_in_text}
 use Rattle.markup.specs.inner.StartTags.{StartTaken}
 use Rattle.markup.specs.inner.TagParts.{spelled_opening}
 use Rattle.markup.specs.inner.WholeStarts.{IsStartAt}
-use Rattle.markup.specs.declared.start_tag.StartTag.{StartTag}
-use Rattle.markup.proofs.OpenedTags.{takes_told, same_told}
+use Rattle.markup.proofs.OpenedTags.{found_at, takes_told, same_told}
 use Rattle.markup.proofs.StartsFound.{found_size, none_found}
-use Rattle.markup.proofs.StartsTold.{some_holds, refuses_start, stays_out}
+use Rattle.markup.proofs.StartsTold.{refuses_start, stays_out}
 use Rattle.markup.proofs.reader.Reader.step_start.Goals as goal
 
 pub returns-in-Ok-None-clause-all : goal.returns-in-Ok-None-clause-all
@@ -23,25 +22,18 @@ returns-in-Err-clause-err c limit bytes told h = stays_out c.args.self.now bytes
 
 pub returns-in-Ok-clause-taken : goal.returns-in-Ok-clause-taken
 returns-in-Ok-clause-taken c limit bytes told h =
-    let t = c.in-Ok-Some.tag in
-    let tag = spelled_opening t.prefix.now t.name.now t.attributes.items t.is_empty in
-    let at : IsStartAt c.args.piece.now tag t.bytes = some_holds (λ (t : StartTag). IsStartAt c.args.piece.now (spelled_opening t.prefix.now t.name.now t.attributes.items t.is_empty) t.bytes) c.in-Ok-Some.field-0 t c.in-Ok-Some.field-0-is c.in-Ok-Some.ensures.found in
-    let text : is_in_text c.args.self.now.tokenizer ≡ true = c.in-Ok-Some.ensures.ready (subst IsSome (sym c.in-Ok-Some.field-0-is) refl) in
-    rw c.pass.ensures (takes_told c.args.self.now bytes c.args.piece.now told h text tag t.bytes at c.open.new.self c.open.new.attributes.items t.name.now t.is_empty c.in-Ok.opened (c.in-Ok.ensures (reverse h.0) at.start h.1.context at.says))
+    rw c.pass.ensures (takes_told c.args.self.now bytes c.args.piece.now told h c.in-Ok-Some.field-0 c.in-Ok-Some.tag c.in-Ok-Some.field-0-is c.in-Ok-Some.ensures.found c.in-Ok-Some.ensures.ready c.open.new.self c.open.new.attributes.items
+    c.in-Ok.opened c.in-Ok.ensures)
 
 pub returns-in-Ok-clause-same_ns : goal.returns-in-Ok-clause-same_ns
 returns-in-Ok-clause-same_ns c limit bytes told h =
-    let t = c.in-Ok-Some.tag in
-    let tag = spelled_opening t.prefix.now t.name.now t.attributes.items t.is_empty in
-    let at : IsStartAt c.args.piece.now tag t.bytes = some_holds (λ (t : StartTag). IsStartAt c.args.piece.now (spelled_opening t.prefix.now t.name.now t.attributes.items t.is_empty) t.bytes) c.in-Ok-Some.field-0 t c.in-Ok-Some.field-0-is c.in-Ok-Some.ensures.found in
-    let text : is_in_text c.args.self.now.tokenizer ≡ true = c.in-Ok-Some.ensures.ready (subst IsSome (sym c.in-Ok-Some.field-0-is) refl) in
-    same_told c.args.self.now bytes c.args.piece.now told h text tag t.bytes at c.open.new.self c.open.new.attributes.items t.name.now t.is_empty c.in-Ok.opened (c.in-Ok.ensures (reverse h.0) at.start h.1.context at.says)
+    same_told c.args.self.now bytes c.args.piece.now told h c.in-Ok-Some.field-0 c.in-Ok-Some.tag c.in-Ok-Some.field-0-is c.in-Ok-Some.ensures.found c.in-Ok-Some.ensures.ready c.open.new.self c.open.new.attributes.items c.in-Ok.opened c.in-Ok.ensures
 
 pub returns-in-Err-Rule-clause-err : goal.returns-in-Err-Rule-clause-err
 returns-in-Err-Rule-clause-err c limit bytes told h =
     let t = c.in-Ok-Some.tag in
     let tag = spelled_opening t.prefix.now t.name.now t.attributes.items t.is_empty in
-    let at : IsStartAt c.args.piece.now tag t.bytes = some_holds (λ (t : StartTag). IsStartAt c.args.piece.now (spelled_opening t.prefix.now t.name.now t.attributes.items t.is_empty) t.bytes) c.in-Ok-Some.field-0 t c.in-Ok-Some.field-0-is c.in-Ok-Some.ensures.found in
+    let at : IsStartAt c.args.piece.now tag t.bytes = found_at c.args.piece.now c.in-Ok-Some.field-0 t c.in-Ok-Some.field-0-is c.in-Ok-Some.ensures.found in
     let text : is_in_text c.args.self.now.tokenizer ≡ true = c.in-Ok-Some.ensures.ready (subst IsSome (sym c.in-Ok-Some.field-0-is) refl) in
     let k = subst (λ r. StartTaken (reverse h.0) at.start t.name.now c.open.new.attributes.items t.is_empty c.open.new.self r) (c.in-Err-Rule.is ∙ ap Err c.in-Err-Rule.field-0-is) (c.open.ensures (reverse h.0) at.start h.1.context at.says) in
     rw c.start-place.ensures (refuses_start c.args.self.now bytes c.args.piece.now told h [] [] tag t.bytes text at c.in-Err-Rule.rule k refl)
