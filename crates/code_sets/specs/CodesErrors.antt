@@ -1,6 +1,8 @@
 -- Why codes are refused.
-use Rattle.std.specs.Prelude.{◌≡◌, ℕ, ◌<◌, ◌≤◌, ◌⊎◌, List, length, All}
+use Rattle.std.specs.Prelude.{◌≡◌, ℕ, ◌+◌, ◌<◌, ◌≤◌, ◌⊎◌, List, length, All, Option, IfSome}
+use Rattle.std.specs.Io.KnownBytes.{IsAtEnd}
 use Rattle.lexical_core.specs.Characters.{IsXmlText}
+use Rattle.outside.specs.Reading.{PassesBy}
 use Rattle.repo_objects.specs.Repository.{DictionaryEntry}
 use Rattle.code_sets.specs.declared.record.CodeRecord.{CodeRecord}
 use Rattle.code_sets.specs.declared.errors.CodesError.{CodesError}
@@ -28,3 +30,13 @@ abbrev pub RefusesSource : List ℕ → CodesError → Type 0
 RefusesSource bytes (Refused rule number) = ((codes_limit < length bytes) × (rule ≡ 5) × (number ≡ 0)) ⊎ ((length bytes ≤ codes_limit) × ReadFault bytes rule number)
 RefusesSource bytes Failed = Unit {0}
 RefusesSource bytes Memory = Unit {0}
+
+-- The source was read to its end, and had no more bytes than the limit, or one byte was pulled beyond that.
+abbrev pub AreCodesPulled : Option (List ℕ) → Option (List ℕ) → Type 0
+AreCodesPulled old new = (IsAtEnd new × IfSome old (λ bytes. length bytes ≤ codes_limit)) ⊎ PassesBy old new (codes_limit + 1)
+
+-- how far the source was pulled where its codes are refused
+abbrev pub PullsForRefusal : Option (List ℕ) → Option (List ℕ) → CodesError → Type 0
+PullsForRefusal old new (Refused rule number) = AreCodesPulled old new
+PullsForRefusal old new Failed = Unit {0}
+PullsForRefusal old new Memory = Unit {0}

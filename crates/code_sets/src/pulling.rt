@@ -3,7 +3,7 @@ ghost use Rattle.std.specs.Prelude.{◌≡◌, ◌≤◌, length, IfOk, IfErr, I
 ghost use Rattle.std.specs.Io.KnownBytes.{IsAtEnd};
 ghost use Rattle.outside.specs.Source.{Rose};
 ghost use Rattle.code_sets.specs.Codes.{ReadsCodes};
-ghost use Rattle.code_sets.specs.CodesErrors.{AreCodes, RefusesSource};
+ghost use Rattle.code_sets.specs.CodesErrors.{AreCodes, RefusesSource, PullsForRefusal};
 
 use crate::errors::CodesError;
 use crate::read::read_codes;
@@ -22,6 +22,7 @@ pub fn pull_codes<R: Source>(alloc: Global, source: &mut R) -> Result<CodeLists,
     ensures codes { IfOk result (λ lists. AreCodes lists) }
     ensures whole { OnOk result (IsAtEnd (R.left source.new)) }
     ensures err { IfErr result (λ e. IfSome (R.left source.old) (λ bytes. RefusesSource bytes e)) }
+    ensures pulled { IfErr result (λ e. PullsForRefusal (R.left source.old) (R.left source.new) e) }
     ensures fault { IsErrOf result CodesError.ReadFault → Rose (R.faults source.old) (R.faults source.new) }
     ensures later { R.faults source.old ≤ R.faults source.new }
     ensures same { (IsErrOf result CodesError.ReadFault → ⊥) → R.faults source.new ≡ R.faults source.old }

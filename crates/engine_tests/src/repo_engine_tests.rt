@@ -19,6 +19,9 @@ const A1: &[u8] =
 const EMPTY: &[u8] =
     b"<Document xmlns=\"urn:iso:std:iso:20022:tech:xsd:demo.001.001.01\"><Note></Note></Document>";
 
+/// The line of its refusal.
+const MISSING: &[u8] = b"refused: instance Missing at 71 in /Document[1]/Note[1]/Id\n";
+
 const CHECK: [&str; 4] = ["check-xml", "P", "-", "demo.001.001.01"];
 
 const OTHER: [&str; 4] = ["check-xml", "P", "-", "demo.009.001.01"];
@@ -144,13 +147,7 @@ fn answers(rt: HostRuntime) -> Result<(), Fail> {
             nothing,
         ),
         (CHECK.as_slice(), A1, Status::Done, b"accepted\n", nothing),
-        (
-            CHECK.as_slice(),
-            EMPTY,
-            Status::Instance,
-            nothing,
-            b"refused: instance Missing at 71 in /Document[1]/Note[1]/Id\n",
-        ),
+        (CHECK.as_slice(), EMPTY, Status::Instance, nothing, MISSING),
         (
             OTHER.as_slice(),
             A1,
@@ -245,6 +242,21 @@ fn faults_of_the_instance(rt: HostRuntime) -> Result<(), Fail> {
         let outcome = outcome_of(rt.alloc(), CHECK.as_slice(), A1, 64, failing)?;
         expect_read_fault(&rt, &outcome, call <= 2);
     }
+    Ok(())
+}
+
+/// The fault of the instance is in its second piece of 40 bytes, behind which nothing is pulled.
+#[test]
+fn a_refused_instance_is_pulled_no_further(rt: HostRuntime) -> Result<(), Fail> {
+    let third = [2u64];
+    let failing = Failing {
+        repo: NO_CALLS.as_slice(),
+        inst: third.as_slice(),
+        out: NO_CALLS.as_slice(),
+        notes: NO_CALLS.as_slice(),
+    };
+    let outcome = outcome_of(rt.alloc(), CHECK.as_slice(), EMPTY, 40, failing)?;
+    expect_outcome(&rt, &outcome, Status::Instance, b"".as_slice(), MISSING);
     Ok(())
 }
 

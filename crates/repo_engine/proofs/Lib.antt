@@ -2,6 +2,7 @@ pub mod Readings
 pub mod Lists
 pub mod Ends
 pub mod Steps
+pub mod Pulls
 pub mod Performing
 pub mod TypeLines
 pub mod Messages

@@ -2,26 +2,24 @@
 use Rattle.std.proofs.Common.{◌≡◌, ℕ, List, [], length, sym, ap, subst, ◌∙◌, inl, inr}
 use Rattle.data_types.specs.Value.{Value}
 use Rattle.repo_objects.specs.Repository.{Contents}
-use Rattle.repo_loader.specs.Laws.{OneRepository, OneLoadFault, SpelledHasNoLoadFault}
 use Rattle.repo_loader.specs.Loaded.{Spells}
 use Rattle.code_sets.specs.Codes.{CodesFault}
-use Rattle.code_sets.specs.Laws.{OneJoined, OneCodesFault, JoinedHasNone}
 use Rattle.reference_check.specs.Reached.{place_id}
-use Rattle.message_model.specs.Laws.{OneModel, OneRefusal, ReadyIsNotRefused, CompiledAreSound}
 use Rattle.message_model.specs.Ready.{message_rule_number}
 use Rattle.message_model.specs.Tables.{Tables, message_of}
-use Rattle.xml_writer.specs.Laws.{OneCanonicalXml}
-use Rattle.transcoder.specs.Laws.{OneVerdict, HaveOneVerdict, OneDerVerdict, HaveOneDerVerdict, AreSoundTypes}
+use Rattle.transcoder.specs.Laws.{HaveOneVerdict, HaveOneDerVerdict, AreSoundTypes}
 use Rattle.drill.specs.BuiltIn.{drill_tables}
 use Rattle.drill.specs.Drilled.{IsDrilled}
 use Rattle.drill.specs.Growing.{instance}
 use Rattle.drill.specs.declared.drilling.Drilled.{Drilled}
 use Rattle.repo_engine.specs.Texts.{drill_text}
-use Rattle.repo_engine.specs.Answer.{Answer, Of, OfVerb, Drills, FromXml, RefusesAsXml, GivesXmlValue, FromDer, RefusesAsDer, GivesDerValue, IsFine, GivesXml, GivesDer, FromRepository, TellsFileFault, RefusesCodes, GivesJoined, RefusesMessage, GivesTables}
+use Rattle.repo_engine.specs.Answer.{Answer, Of, OfVerb, Drills, FromXml, RefusesAsXml, GivesXmlValue, FromDer, RefusesAsDer, GivesDerValue, IsFine, GivesXml, GivesDer, FromMessage, FromRepository, TellsFileFault, RefusesCodes, GivesJoined, RefusesMessage, GivesTables}
 use Rattle.repo_engine.specs.Command.{Command, list, message, drill}
 use Rattle.repo_engine.specs.Steps.{Then, refused, goes_on, One, IsStep}
 use Rattle.repo_engine.specs.Verdict.{Verdict}
 use Rattle.repo_engine.specs.Verdict as verdict
+use Rattle.repo_engine.specs.inner.Arms.{GivesMessage}
+use Rattle.repo_engine.specs.inner.StepLaws.{StepLaws}
 use Rattle.repo_engine.specs.declared.command.Verb.{Verb}
 use Rattle.repo_engine.specs.declared.command.Verb.TheVariants.{Types, Xsd, Asn1, CheckXml, CheckDer, CanonXml, XmlToDer, DerToXml}
 use Rattle.repo_engine.specs.declared.refusal.Refusal.TheVariants.{Repository, Codes, Message, Instance}
@@ -35,21 +33,10 @@ one_then V A Refuses Gives Next step next v w (goes_on a h more) (refused k) = a
 one_then V A Refuses Gives Next step next v w (goes_on a h more) (goes_on b k also) =
     next a h v w more (subst (λ x. Next x w) (step.one_gift b a k h) also)
 
--- what is known of each step
-pub record StepLaws : Type 0 where
-  pub one_repository : OneRepository
-  pub one_load_fault : OneLoadFault
-  pub spelled_has_none : SpelledHasNoLoadFault
-  pub one_joined : OneJoined
-  pub one_codes_fault : OneCodesFault
-  pub joined_has_none : JoinedHasNone
-  pub one_model : OneModel
-  pub one_refusal : OneRefusal
-  pub ready_is_not_refused : ReadyIsNotRefused
-  pub compiled_are_sound : CompiledAreSound
-  pub one_verdict : OneVerdict
-  pub one_der_verdict : OneDerVerdict
-  pub one_canonical_xml : OneCanonicalXml
+-- where a step gives something, a verdict is of what goes on from that
+then_given : (V A : Type 0) (Refuses : V → Type 0) (Gives : A → Type 0) (Next : A → V → Type 0) → IsStep V A Refuses Gives → (a : A) → Gives a → (v : V) → Then V A Refuses Gives Next v → Next a v
+then_given V A Refuses Gives Next step a gives v (refused h) = absurd (step.apart v a h gives)
+then_given V A Refuses Gives Next step a gives v (goes_on b k more) = subst (λ x. Next x v) (step.one_gift b a k gives) more
 
 module _ (laws : StepLaws) where
   file_step : (r : List ℕ) → IsStep Verdict Contents (TellsFileFault r) (Spells r)
@@ -87,6 +74,12 @@ module _ (laws : StepLaws) where
 
       gift : One Tables (GivesTables R id)
       gift T U (ready, (ids, reached, made)) (also_ready, (others, more, also)) = laws.one_model R id ids others T U ready reached made more also
+
+  pub message_goes_on : (codes_word id r c : List ℕ) (Next : Tables → Verdict → Type 0) (T : Tables) (v : Verdict) → GivesMessage codes_word id r c T → FromMessage codes_word id r c Next v → Next T v
+  message_goes_on codes_word id r c Next T v (R, (own, spells, joined), tables) from =
+      then_given Verdict Tables (RefusesMessage R id) (GivesTables R id) Next (message_step R id) T tables v
+      (then_given Verdict Contents (RefusesCodes codes_word own c) (GivesJoined codes_word own c) (λ S. Then Verdict Tables (RefusesMessage S id) (GivesTables S id) Next) (codes_step codes_word own c) R joined v
+      (then_given Verdict Contents (TellsFileFault r) (Spells r) (λ S. Then Verdict Contents (RefusesCodes codes_word S c) (GivesJoined codes_word S c) (λ S. Then Verdict Tables (RefusesMessage S id) (GivesTables S id) Next)) (file_step r) own spells v from))
 
   -- ---- what a command does with the tables
 

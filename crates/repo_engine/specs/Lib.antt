@@ -6,6 +6,7 @@ pub mod Exit
 pub mod Sources
 pub mod Texts
 pub mod Answer
+pub mod Pulls
 pub mod RoundTrips
 pub mod Run
 pub mod SchemaLaw

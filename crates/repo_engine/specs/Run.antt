@@ -1,5 +1,5 @@
 -- What the top call promises.
-use Rattle.std.specs.Prelude.{◌≡◌, ◌⊎◌, ◌↔◌, ℕ, ◌≤◌, true, List, Option, Some, Result, Ok, Err}
+use Rattle.std.specs.Prelude.{◌≡◌, ◌⊎◌, ◌↔◌, ℕ, ◌≤◌, true, List, Option, Some, Result, Ok, Err, IfErr}
 use Rattle.std.specs.Io.KnownBytes.{Appends, Keeps}
 use Rattle.outside.specs.Source.{Rose}
 use Rattle.outside.specs.Sink.{AppendsFront}
@@ -14,6 +14,7 @@ use Rattle.repo_engine.specs.declared.status.Status.{Status}
 use Rattle.repo_engine.specs.declared.status.Status.TheVariants as status
 use Rattle.repo_engine.specs.Answer.{Answer}
 use Rattle.repo_engine.specs.Command.{Command, HasCommandForm, IsUnlisted, pulled_by}
+use Rattle.repo_engine.specs.Pulls.{StopsFilesSoon, StopsInstanceSoon}
 use Rattle.repo_engine.specs.Sources.{Use, Untouched, AreUsed, source_ended_of}
 use Rattle.repo_engine.specs.Verdict.{Verdict, accepted, refused, stop_line, stop_status}
 
@@ -21,10 +22,14 @@ use Rattle.repo_engine.specs.Verdict.{Verdict, accepted, refused, stop_line, sto
 abbrev pub End : Type 0
 End = Result (Unit {0}) Stop
 
--- the sources that the command pulls from have these bytes left
-pub record AreSourcesLeft (ws : List (List ℕ)) (repo_left codes_left inst_left : Option (List ℕ)) (r c i : List ℕ) : Type 0 where
+-- the repository and its codes tell these bytes, where the command pulls from them
+pub record AreFilesTold (ws : List (List ℕ)) (repo_left codes_left : Option (List ℕ)) (r c : List ℕ) : Type 0 where
   pub repository : (command : Command) → HasCommandForm ws command → (pulled_by command).repository ≡ true → repo_left ≡ Some r
   pub codes : (command : Command) → HasCommandForm ws command → (pulled_by command).codes ≡ true → codes_left ≡ Some c
+
+-- the sources that the command pulls from have these bytes left
+pub record AreSourcesLeft (ws : List (List ℕ)) (repo_left codes_left inst_left : Option (List ℕ)) (r c i : List ℕ) : Type 0 where
+  pub files : AreFilesTold ws repo_left codes_left r c
   pub instance : (command : Command) → HasCommandForm ws command → (pulled_by command).instance ≡ true → inst_left ≡ Some i
 
 -- The verdict that the end tells, and what went out with it: the whole text where it is Ok, and where a refusal has one. After a fault of a
@@ -73,4 +78,7 @@ pub record Performs {R C I O : Type 0} (ws : List (List ℕ)) (repo : Use R) (co
   pub sources : (command : Command) → HasCommandForm ws command → AreUsed (pulled_by command).repository (pulled_by command).codes (pulled_by command).instance (source_ended_of end) repo codes inst
   -- Where those sources tell their bytes, the end is the verdict on words and bytes.
   pub verdict : (r c i : List ℕ) → AreSourcesLeft ws (repo.left repo.old) (codes.left codes.old) (inst.left inst.old) r c i → TellsVerdict (Answer ws r c i) end (held old) (held new)
+  -- Where something is refused, little was pulled of it behind bytes that show no fault yet, and nothing of what is read behind it.
+  pub files_pulled : IfErr end (λ stop. StopsFilesSoon repo codes inst stop)
+  pub instance_pulled : (r c : List ℕ) → AreFilesTold ws (repo.left repo.old) (codes.left codes.old) r c → IfErr end (λ stop. StopsInstanceSoon (λ i. Answer ws r c i) (inst.left inst.old) (inst.left inst.new) stop)
   pub out : GoesOut held faults old new end

@@ -1,7 +1,7 @@
 //! The check of an instance.
-ghost use Rattle.std.specs.Prelude.{◌≡◌, ◌≢◌, ℕ, List, Some, Err};
+ghost use Rattle.std.specs.Prelude.{◌≡◌, ◌≢◌, ℕ, List, Some, Err, IfErr};
 ghost use Rattle.repo_engine.specs.Answer.{FromDer, FromXml, IsFine};
-ghost use Rattle.repo_engine.specs.inner.Arms.{check_stop};
+ghost use Rattle.repo_engine.specs.inner.Arms.{StopsAtInstance, check_stop};
 ghost use Rattle.repo_engine.specs.Run.{GoesOut, TellsVerdict};
 ghost use Rattle.repo_engine.specs.Sources.{IsSourceRead, source_ended_of, of_source};
 
@@ -20,6 +20,7 @@ pub fn check<I: Source, O: Sink>(
 ) -> Result<(), Stop>
     ensures no_words { result ≢ Err (Stop.Refused Refusal.Words) }
     ensures source { IsSourceRead (source_ended_of result) (of_source I.left I.faults inst.old inst.new) }
+    ensures pulled { IfErr result (λ stop. StopsAtInstance (λ i. FromXml model.now i IsFine) (I.left inst.old) (I.left inst.new) stop) }
     ensures verdict { (i : List ℕ) → I.left inst.old ≡ Some i → TellsVerdict (FromXml model.now i IsFine) result (O.held out.old) (O.held out.new) }
     ensures goes_out { GoesOut O.held O.faults out.old out.new result }
 {
@@ -38,6 +39,7 @@ pub fn check_in_der<I: Source, O: Sink>(
 ) -> Result<(), Stop>
     ensures no_words { result ≢ Err (Stop.Refused Refusal.Words) }
     ensures source { IsSourceRead (source_ended_of result) (of_source I.left I.faults inst.old inst.new) }
+    ensures pulled { IfErr result (λ stop. StopsAtInstance (λ i. FromDer model.now i IsFine) (I.left inst.old) (I.left inst.new) stop) }
     ensures verdict { (i : List ℕ) → I.left inst.old ≡ Some i → TellsVerdict (FromDer model.now i IsFine) result (O.held out.old) (O.held out.new) }
     ensures goes_out { GoesOut O.held O.faults out.old out.new result }
 {

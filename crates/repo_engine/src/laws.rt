@@ -1,14 +1,18 @@
 //! What follows of the definitions: functions that do nothing, whose contracts are laws.
 ghost use Rattle.std.specs.Prelude.{◌≡◌, ℕ, List};
-ghost use Rattle.repo_engine.specs.Answer.{Answer};
+ghost use Rattle.message_model.specs.Tables.{Tables};
+ghost use Rattle.repo_engine.specs.Answer.{Answer, FromMessage, OfVerb};
 ghost use Rattle.repo_engine.specs.ModuleLaw.{ModuleAdmitsWhatIsAccepted};
 ghost use Rattle.repo_engine.specs.RoundTrips.{XmlComesBack, DerComesBack};
 ghost use Rattle.repo_engine.specs.SchemaLaw.{SchemaAdmitsWhatIsAccepted};
 ghost use Rattle.repo_engine.specs.Verdict.{Verdict};
+ghost use Rattle.repo_engine.specs.declared.command.Verb.{Verb};
+ghost use Rattle.repo_engine.specs.inner.Arms.{GivesMessage};
+ghost use Rattle.repo_engine.specs.inner.StepLaws.{StepLaws};
 
-/// Words and bytes have at most one answer.
-pub fn one_answer()
-    ensures { (ws : List (List ℕ)) (r c i : List ℕ) (v w : Verdict) → Answer ws r c i v → Answer ws r c i w → v ≡ w }
+/// What is known of each step of an answer: it refuses in one way or gives one thing, and not both.
+fn steps_are_apart()
+    ensures { StepLaws }
 {
     repo_loader::laws::one_repository();
     repo_loader::laws::one_load_fault();
@@ -23,6 +27,20 @@ pub fn one_answer()
     transcoder::laws::one_verdict();
     transcoder::laws::one_der_verdict();
     xml_writer::laws::a_value_has_one_canonical_xml();
+}
+
+/// Words and bytes have at most one answer.
+pub fn one_answer()
+    ensures { (ws : List (List ℕ)) (r c i : List ℕ) (v w : Verdict) → Answer ws r c i v → Answer ws r c i w → v ≡ w }
+{
+    steps_are_apart();
+}
+
+/// Where the files give the tables of a message, a verdict on it is one on these tables.
+pub(crate) fn message_goes_on()
+    ensures { (verb : Verb) (codes_word id r c i : List ℕ) (T : Tables) (v : Verdict) → GivesMessage codes_word id r c T → FromMessage codes_word id r c (OfVerb verb i) v → OfVerb verb i T v }
+{
+    steps_are_apart();
 }
 
 /// No words and bytes are without an answer.

@@ -1,14 +1,16 @@
 //! The commands of one message.
 ghost use Rattle.std.specs.Prelude.{◌≡◌, ◌≢◌, ℕ, List, true, Some, Err, IfOk, IfErr};
 ghost use Rattle.repo_engine.specs.Answer.{FromMessage, GivesTables, OfVerb, RefusesMessage};
-ghost use Rattle.repo_engine.specs.inner.Arms.{FilesHaveLeft, GivesMessage, IsOfInput, IsReadAs, RefusesUpToMessage, StopsBy, ready_stop};
+ghost use Rattle.repo_engine.specs.inner.Arms.{FilesHaveLeft, GivesMessage, IsOfInput, IsReadAs, RefusesUpToMessage, StopsAtFiles, StopsAtInstance, StopsBy, ready_stop};
 ghost use Rattle.repo_engine.specs.Command.{hands_in, reads_instance};
+ghost use Rattle.repo_engine.specs.Pulls.{StopsFilesSoon, StopsInstanceSoon};
 ghost use Rattle.repo_engine.specs.Run.{GoesOut, TellsVerdict};
 ghost use Rattle.repo_engine.specs.Sources.{AreRead, AreReadInTurn, Failing, source_ended_of, of_source, stop_ended};
 
 use super::asn1::give_module;
 use super::check::{check, check_in_der};
 use super::command::Verb;
+use super::laws;
 use super::refusal::{Refusal, Stop};
 use super::repository::read_repository;
 use super::schema::give_schema;
@@ -34,11 +36,15 @@ pub fn message<R: Source, C: Source, I: Source, O: Sink>(
     ensures no_words { result ≢ Err (Stop.Refused Refusal.Words) }
     ensures sources { AreReadInTurn (hands_in codes_word.now) (reads_instance verb) (source_ended_of result)
         (of_source R.left R.faults repo.old repo.new) (of_source C.left C.faults codes.old codes.new) (of_source I.left I.faults inst.old inst.new) }
+    ensures files_pulled { IfErr result (λ stop. StopsFilesSoon (of_source R.left R.faults repo.old repo.new) (of_source C.left C.faults codes.old codes.new) (of_source I.left I.faults inst.old inst.new) stop) }
+    ensures instance_pulled { (r c : List ℕ) → FilesHaveLeft codes_word.now (R.left repo.old) (C.left codes.old) r c →
+        IfErr result (λ stop. StopsInstanceSoon (λ i. FromMessage codes_word.now id.now r c (OfVerb verb i)) (I.left inst.old) (I.left inst.new) stop) }
     ensures verdict { (r c i : List ℕ) → FilesHaveLeft codes_word.now (R.left repo.old) (C.left codes.old) r c →
         (reads_instance verb ≡ true → I.left inst.old ≡ Some i) →
         TellsVerdict (FromMessage codes_word.now id.now r c (OfVerb verb i)) result (O.held out.old) (O.held out.new) }
     ensures goes_out { GoesOut O.held O.faults out.old out.new result }
 {
+    laws::message_goes_on();
     match read_message(alloc, codes_word, id, repo, codes) {
         Ok(model) => on_model(alloc, verb, &model, inst, out),
         Err(stop) => Err(stop),
@@ -60,6 +66,7 @@ fn read_message<R: Source, C: Source>(
     ensures input { IfErr result (λ stop. IsOfInput stop) }
     ensures sources { AreRead (hands_in codes_word.now) (source_ended_of result)
         (of_source R.left R.faults repo.old repo.new) (of_source C.left C.faults codes.old codes.new) }
+    ensures pulled { IfErr result (λ stop. StopsAtFiles (of_source R.left R.faults repo.old repo.new) (of_source C.left C.faults codes.old codes.new) stop) }
 {
     match read_repository(alloc, codes_word, repo, codes) {
         Ok(repository) => compile(alloc, &repository, id),
@@ -99,6 +106,7 @@ fn on_model<I: Source, O: Sink>(
 ) -> Result<(), Stop>
     ensures no_words { result ≢ Err (Stop.Refused Refusal.Words) }
     ensures source { IsReadAs (reads_instance verb) (source_ended_of result) (of_source I.left I.faults inst.old inst.new) }
+    ensures pulled { IfErr result (λ stop. StopsAtInstance (λ i. OfVerb verb i model.now) (I.left inst.old) (I.left inst.new) stop) }
     ensures verdict { (i : List ℕ) → (reads_instance verb ≡ true → I.left inst.old ≡ Some i) →
         TellsVerdict (OfVerb verb i model.now) result (O.held out.old) (O.held out.new) }
     ensures goes_out { GoesOut O.held O.faults out.old out.new result }

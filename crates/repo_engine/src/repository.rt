@@ -1,11 +1,11 @@
 //! A repository and its external codes, read from their sources.
-ghost use Rattle.std.specs.Prelude.{◌≡◌, List, ℕ, true, Some, IfOk, IfErr};
+ghost use Rattle.std.specs.Prelude.{◌≡◌, List, ℕ, true, Option, Some, IfOk, IfErr};
 ghost use Rattle.repo_objects.specs.Repository.{Contents};
 ghost use Rattle.repo_loader.specs.Loaded.{Spells};
 ghost use Rattle.code_sets.specs.Codes.{Joins};
-ghost use Rattle.code_sets.specs.CodesErrors.{AreCodes};
+ghost use Rattle.code_sets.specs.CodesErrors.{AreCodes, AreCodesPulled};
 ghost use Rattle.repo_engine.specs.Answer.{GivesJoined, GivesRepository, IsCodesRefusal, RefusesCodes, TellsFileFault};
-ghost use Rattle.repo_engine.specs.inner.Arms.{FilesHaveLeft, IsOfInput, IsReadIf, RefusesRepository, IsCodesText, StopsBy, codes_stop, load_stop};
+ghost use Rattle.repo_engine.specs.inner.Arms.{FilesHaveLeft, IsOfInput, IsReadIf, RefusesRepository, IsCodesText, StopsAtCodes, StopsAtFiles, StopsAtRepository, StopsBy, codes_stop, load_stop};
 ghost use Rattle.repo_engine.specs.Command.{hands_in};
 ghost use Rattle.repo_engine.specs.Sources.{AreRead, Failing, IsSourceRead, source_ended_of, of_source, stop_ended};
 
@@ -31,6 +31,7 @@ pub fn read_repository<R: Source, C: Source>(
     ensures input { IfErr result (λ stop. IsOfInput stop) }
     ensures sources { AreRead (hands_in codes_word.now) (source_ended_of result)
         (of_source R.left R.faults repo.old repo.new) (of_source C.left C.faults codes.old codes.new) }
+    ensures pulled { IfErr result (λ stop. StopsAtFiles (of_source R.left R.faults repo.old repo.new) (of_source C.left C.faults codes.old codes.new) stop) }
 {
     match load_file(alloc, repo) {
         Ok(own) => with_codes(alloc, codes_word, own, codes),
@@ -51,6 +52,7 @@ fn with_codes<C: Source>(
         IfErr result (λ stop. StopsBy (RefusesCodes codes_word.now own c) stop) }
     ensures input { IfErr result (λ stop. IsOfInput stop) }
     ensures source { IsReadIf (hands_in codes_word.now) (source_ended_of result) (of_source C.left C.faults codes.old codes.new) }
+    ensures pulled { IfErr result (λ stop. StopsAtCodes (C.left codes.old) (C.left codes.new) stop) }
 {
     if codes_word == b"-".as_slice() {
         return Ok(own);
@@ -64,6 +66,7 @@ fn load_file<R: Source>(alloc: Global, repo: &mut R) -> Result<Repository, Stop>
     ensures refuses { (r : List ℕ) → R.left repo.old ≡ Some r → IfErr result (λ stop. StopsBy (TellsFileFault r) stop) }
     ensures input { IfErr result (λ stop. IsOfInput stop) }
     ensures source { IsSourceRead (source_ended_of result) (of_source R.left R.faults repo.old repo.new) }
+    ensures pulled { IfErr result (λ stop. StopsAtRepository (R.left repo.old) (R.left repo.new) stop) }
 {
     match load(alloc, repo) {
         Ok(own) => Ok(own),
@@ -88,6 +91,7 @@ fn join_codes<C: Source>(alloc: Global, own: Repository, codes: &mut C) -> Resul
     ensures refuses { (c : List ℕ) → C.left codes.old ≡ Some c → IfErr result (λ stop. StopsBy (IsCodesRefusal own c) stop) }
     ensures input { IfErr result (λ stop. IsOfInput stop) }
     ensures source { IsSourceRead (source_ended_of result) (of_source C.left C.faults codes.old codes.new) }
+    ensures pulled { IfErr result (λ stop. StopsAtCodes (C.left codes.old) (C.left codes.new) stop) }
 {
     match load_codes(alloc, codes) {
         Ok(lists) => join_lists(alloc, own, &lists),
@@ -99,9 +103,11 @@ fn join_codes<C: Source>(alloc: Global, own: Repository, codes: &mut C) -> Resul
 fn load_codes<C: Source>(alloc: Global, codes: &mut C) -> Result<CodeLists, Stop>
     ensures gives { (c : List ℕ) → C.left codes.old ≡ Some c → IfOk result (λ lists. IsCodesText c lists) }
     ensures codes { IfOk result (λ lists. AreCodes lists) }
+    ensures read { IfOk result (λ _. AreCodesPulled (C.left codes.old) (C.left codes.new)) }
     ensures refuses { (c : List ℕ) → C.left codes.old ≡ Some c → IfErr result (λ stop. (own : Contents) → StopsBy (IsCodesRefusal own c) stop) }
     ensures input { IfErr result (λ stop. IsOfInput stop) }
     ensures source { IsSourceRead (source_ended_of result) (of_source C.left C.faults codes.old codes.new) }
+    ensures pulled { IfErr result (λ stop. StopsAtCodes (C.left codes.old) (C.left codes.new) stop) }
 {
     match pull_codes(alloc, codes) {
         Ok(lists) => Ok(lists),
@@ -115,6 +121,7 @@ fn join_lists(alloc: Global, own: Repository, lists: &CodeLists) -> Result<Repos
     ensures gives { (c : List ℕ) → IsCodesText c lists.now → IfOk result (λ joined. Joins own c joined) }
     ensures refuses { (c : List ℕ) → IsCodesText c lists.now → IfErr result (λ stop. StopsBy (IsCodesRefusal own c) stop) }
     ensures stops { IfErr result (λ stop. IsOfInput stop × (stop_ended stop ≡ Failing → ⊥)) }
+    ensures pulled { (c c' : Option (List ℕ)) → AreCodesPulled c c' → IfErr result (λ stop. StopsAtCodes c c' stop) }
 {
     match join(alloc, own, lists) {
         Ok(joined) => Ok(joined),

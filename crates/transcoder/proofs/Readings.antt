@@ -4,8 +4,8 @@ use Rattle.std.specs.Prelude.{Result, Ok, Err}
 use Rattle.std.proofs.lemmas.Bool.{cases_lt}
 use Rattle.std.proofs.lemmas.List.{take_all, take-append-drop, length-take, length-drop}
 use Rattle.std.proofs.Math.Seq.{take-append_seam}
-use Rattle.std.specs.Io.KnownBytes.{Consumes, IsAtEnd}
-use Rattle.std.proofs.KnownBytes.{Consumes-trans, Consumes-whole}
+use Rattle.std.specs.Io.KnownBytes.{Consumes, IsAtEnd, Keeps}
+use Rattle.std.proofs.KnownBytes.{Consumes-nil, Consumes-kept, Consumes-trans, Consumes-whole}
 use Rattle.lexical_core.specs.declared.rule.Rule.{Rule}
 use Rattle.lexical_core.proofs.Lists.{take_past}
 use Rattle.message_model.specs.declared.fault.Fault.{Fault}
@@ -15,7 +15,8 @@ use Rattle.transcoder.specs.declared.check_error.CheckError.{CheckError}
 use Rattle.transcoder.specs.declared.check_error.CheckError.TheVariants.{Refused, ReadFault, Memory}
 use Rattle.transcoder.specs.CheckErrors.{check_error}
 use Rattle.transcoder.specs.Limited.{most_bytes, IsLimited, within, before, open_at, over_at, ShowsFault, StopsAt, EndsBy}
-use Rattle.transcoder.specs.Reading.{HasReadSource, HasReadBeyond, RefusesBy, IsOfSome, SaysError, ReadsTo, EndsBeyond, end_told, Concludes, GivesSome}
+use Rattle.transcoder.specs.Pulls.{pull_limit, StopsSoon, PullsToFault}
+use Rattle.transcoder.specs.Reading.{WasFed, HasReadSource, HasReadBeyond, RefusesBy, IsOfSome, SaysError, ReadsTo, EndsBeyond, end_told, Concludes, GivesSome}
 use Rattle.transcoder.specs.declared.reading.Extent.{Extent}
 use Rattle.transcoder.specs.declared.reading.Extent.TheVariants.{Whole, Longer}
 
@@ -89,6 +90,22 @@ module _ {S : Type 0} (Fed : S → List ℕ → Type 0) (Made : S → Type 0) wh
     made = h.made;
     fed_are = h.fed_are;
   }
+
+  -- the last piece, which may have been fed or not
+  pub last_piece : (old now next : Option (List ℕ)) (xs : List ℕ) (room : ℕ) (state : S) → HasReadSource Fed Made old now room state → Consumes now next xs → length xs ≤ pull_limit → StopsSoon (WasFed Fed) old next
+  last_piece old now next xs room state h consumed few =
+      let c = h.counted in
+      record {
+        before = h.taken_are;
+        last = xs;
+        pulled = Consumes-trans old now next h.taken_are xs h.front consumed;
+        short = few;
+        shows_none = (omega (arith, c), state, h.fed_are);
+      }
+
+  -- a pull that failed gave none
+  pub no_piece : (old now next : Option (List ℕ)) (room : ℕ) (state : S) → HasReadSource Fed Made old now room state → Keeps now next → StopsSoon (WasFed Fed) old next
+  no_piece old now next room state h kept = last_piece old now next [] room state h (Consumes-kept now now next [] (Consumes-nil now) kept) (omega arith)
 
   module _ (old now next : Option (List ℕ)) (xs : List ℕ) (w room : ℕ) (state : S) (h : HasReadSource Fed Made old now room state) (consumed : Consumes now next xs) where
     pub read_more : (count : ℕ) (after : S) → length xs ≡ count → w ≡ count → count ≤ room → Made after → Fed after (h.taken_are ++ take w xs) → HasReadSource Fed Made old next (room - count) after
@@ -184,6 +201,24 @@ module _ {S W : Type 0} (Fed : S → List ℕ → Type 0) (Made : S → Type 0) 
         said Gives (IsLimited Faulty (GivesSome Gives) c) old now error (beyond_says end error h (ok h.within h.fed_are) (err h.within h.fed_are) e)
     concluded_verdict (Err error) end r h ok err e =
         subst (λ (v : Result W CheckError). IsVerdict Gives (IsLimited Faulty (GivesSome Gives) c) old now v) (sym e) (said Gives (IsLimited Faulty (GivesSome Gives) c) old now error h)
+
+-- ---- how far the source was pulled
+
+-- bytes that a reader was fed have no fault but that they end too early
+pub pulls_for : {S W : Type 0} (Fed : S → List ℕ → Type 0) (Faulty : List ℕ → Fault → Type 0) (c : Rule) (old now : Option (List ℕ)) → ((x : S) (bytes : List ℕ) (fault : Fault) → Fed x bytes → Faulty bytes fault → fault.rule ≡ c)
+    → StopsSoon (WasFed Fed) old now → (r : Result W CheckError) → IfErr r (λ e. PullsToFault Faulty c old now e)
+pulls_for Fed Faulty c old now only_cut h (Ok x) = tt
+pulls_for Fed Faulty c old now only_cut h (Err (Refused fault)) = record { before = h.before; last = h.last; pulled = h.pulled; short = h.short; shows_none = (h.shows_none.0, λ f k. only_cut h.shows_none.1 h.before f h.shows_none.2 k) }
+pulls_for Fed Faulty c old now only_cut h (Err ReadFault) = tt
+pulls_for Fed Faulty c old now only_cut h (Err Memory) = tt
+
+-- the same by other faults, each of which is one of these where the bytes are within the limit
+pub pulls_as : {W : Type 0} (Faulty HasFault : List ℕ → Fault → Type 0) (c : Rule) (old now : Option (List ℕ)) → ((bytes : List ℕ) (fault : Fault) → length bytes ≤ most_bytes → HasFault bytes fault → Faulty bytes fault)
+    → (r : Result W CheckError) → IfErr r (λ e. PullsToFault Faulty c old now e) → IfErr r (λ e. PullsToFault HasFault c old now e)
+pulls_as Faulty HasFault c old now is_one (Ok x) h = tt
+pulls_as Faulty HasFault c old now is_one (Err (Refused fault)) h = record { before = h.before; last = h.last; pulled = h.pulled; short = h.short; shows_none = (h.shows_none.0, λ f k. h.shows_none.1 f (is_one h.before f h.shows_none.0 k)) }
+pulls_as Faulty HasFault c old now is_one (Err ReadFault) h = tt
+pulls_as Faulty HasFault c old now is_one (Err Memory) h = tt
 
 -- ---- that the source failed is told where it was read alone
 

@@ -1,15 +1,41 @@
 -- What is written of an instance that was read.
-use Rattle.std.proofs.Common.{◌≡◌, ℕ, ◌≤◌, List, length, Option, Some, None, IfSome, Result}
+use Rattle.std.proofs.Common.{◌≡◌, ℕ, ◌≤◌, List, length, Option, Some, None, IfSome, IfErr, Result, Ok, Err, sym, subst}
 use Rattle.std.specs.Io.KnownBytes.{IsAtEnd}
+use Rattle.lexical_core.specs.declared.rule.Rule.{Rule}
+use Rattle.outside.specs.declared.errors.WriteError.{WriteError}
+use Rattle.outside.specs.declared.errors.WriteError.TheVariants as written
 use Rattle.data_types.specs.Value.{Value, Piece}
 use Rattle.fragments.specs.Fragment.{fragment}
 use Rattle.message_model.specs.Admits.{AdmitsAs}
 use Rattle.message_model.specs.Tables.{Tables, pieces_of, types_of}
 use Rattle.message_model.specs.declared.fault.Fault.{Fault}
+use Rattle.transcoder.specs.declared.check_error.CheckError.{CheckError}
+use Rattle.transcoder.specs.declared.check_error.CheckError.TheVariants as check
 use Rattle.transcoder.specs.declared.trans_error.TransError.{TransError}
 use Rattle.transcoder.specs.Checked.{HoldsAs}
 use Rattle.transcoder.specs.Limited.{most_bytes}
+use Rattle.transcoder.specs.Pulls.{PullsToFault, PullsToTransFault}
+use Rattle.transcoder.specs.TransErrors.{trans_error, written_end}
 use Rattle.transcoder.specs.Transcoding.{IsTranscoded, IsWrittenOut, pushed}
+
+module _ (HasFault : List ℕ → Fault → Type 0) (cut_rule : Rule) (old new : Option (List ℕ)) where
+  -- how far the source was pulled is as the reading's error tells it
+  pub told_pulls : (e : CheckError) (told : TransError) → told ≡ trans_error e → PullsToFault HasFault cut_rule old new e → PullsToTransFault HasFault cut_rule old new told
+  told_pulls e told is h = subst (PullsToTransFault HasFault cut_rule old new) (sym is) (by e h)
+    where
+      by : (e : CheckError) → PullsToFault HasFault cut_rule old new e → PullsToTransFault HasFault cut_rule old new (trans_error e)
+      by (check.Refused fault) h = h
+      by check.ReadFault h = tt
+      by check.Memory h = tt
+
+  -- a writer tells no fault of the bytes
+  written_pulls : (push : Result (Unit {0}) WriteError) (r : Result (Unit {0}) TransError) → r ≡ written_end push → IfErr r (λ e. PullsToTransFault HasFault cut_rule old new e)
+  written_pulls push r is = subst (λ (v : Result (Unit {0}) TransError). IfErr v (λ e. PullsToTransFault HasFault cut_rule old new e)) (sym is) (by push)
+    where
+      by : (push : Result (Unit {0}) WriteError) → IfErr (written_end push) (λ e. PullsToTransFault HasFault cut_rule old new e)
+      by (Ok x) = tt
+      by (Err written.WriteFault) = tt
+      by (Err written.Memory) = tt
 
 module _ (Spells : List ℕ → Value → Type 0) (T : Tables) (admits : (bytes : List ℕ) (v : Value) → Spells bytes v → AdmitsAs (types_of T) (types_of T 0) v) (pieces : List Piece) where
   -- an instance that was read may be written
@@ -25,3 +51,11 @@ module _ (Spells : List ℕ → Value → Type 0) (T : Tables) (admits : (bytes 
       let w = writes v (admits bytes v s) is in pushed w.text w.push w.ends tt end w.pushes
   transcoded held faults room HasFault IsOut (Some bytes) left' old new result ((v, s, is), short) given end writes =
       let w = writes v (admits bytes v s) is in pushed w.text w.push w.ends (v, s, short, w.is_out) end w.pushes
+
+  -- where an instance was read, no fault is told
+  pub pulls_whole : {O : Type 0} (held : O → Option (List ℕ)) (faults room : O → ℕ) (HasFault : List ℕ → Fault → Type 0) (cut_rule : Rule) (IsOut : Value → List ℕ → Type 0) (left left' : Option (List ℕ)) (old new : O)
+      (result : Result (Unit {0}) TransError) → ((bytes : List ℕ) × HoldsAs Spells T bytes pieces)
+      → ((v : Value) → AdmitsAs (types_of T) (types_of T 0) v → pieces ≡ pieces_of fragment T v → IsWrittenOut held faults room (IsOut v) old new result)
+      → IfErr result (λ e. PullsToTransFault HasFault cut_rule left left' e)
+  pulls_whole held faults room HasFault cut_rule IsOut left left' old new result (bytes, (v, s, is)) writes =
+      let w = writes v (admits bytes v s) is in written_pulls HasFault cut_rule left left' w.push result w.ends

@@ -1,20 +1,22 @@
 -- The faults of XML instances as readers that are fed from a source tell them.
-use Rattle.std.proofs.Common.{ℕ, List, [], take, Result, Ok, Err, IfErr, IfSome, Option, Some, None, ap}
+use Rattle.std.proofs.Common.{ℕ, ◌≤◌, List, length, take, Result, Ok, Err, IfErr, IfSome, Option, Some, None, ap, arith}
 use Rattle.lexical_core.specs.declared.rule.Rule.TheVariants.{Truncated}
 use Rattle.message_model.specs.Sound.{AreSound}
 use Rattle.message_model.specs.Tables.{Tables, message_of, types_of}
 use Rattle.message_model.specs.declared.fault.Fault.{Fault}
 use Rattle.message_model.specs.declared.fault.InstanceError.{InstanceError}
 use Rattle.message_model.specs.declared.fault.InstanceError.TheVariants.{Refused, Memory}
-use Rattle.xml_instances.specs.XmlFaults.{XmlFault, LimitedXmlFault, whole, early, cut, behind}
+use Rattle.xml_instances.specs.XmlFaults.{FaultInXml, XmlFault, LimitedXmlFault, whole, early, cut, behind}
 use Rattle.xml_instances.specs.XmlFaults as xml
 use Rattle.xml_instances.specs.Laws.{SpelledHasNoXmlFault}
 use Rattle.xml_instances.specs.Checking.{XmlStops, IsSpelledXml, xml_fault_of}
 use Rattle.transcoder.specs.declared.check_error.CheckError.{CheckError}
 use Rattle.transcoder.specs.declared.check_error.CheckError.TheVariants as check
-use Rattle.transcoder.specs.Checked.{RefusesXml, IsFaultOfSome}
+use Rattle.transcoder.specs.Checked.{HasXmlFault, RefusesXml, IsFaultOfSome}
 use Rattle.transcoder.specs.Limited.{IsLimited, within, before, open_at, over_at, StopsAt}
+use Rattle.transcoder.specs.Pulls.{PullsToFault}
 use Rattle.transcoder.specs.Reading.{RefusesBy, IsOfSome, GivesSome}
+use Rattle.transcoder.proofs.Readings.{pulls_as}
 
 -- the first faults of bytes as XML
 abbrev pub HasFault : Tables → List ℕ → Fault → Type 0
@@ -24,6 +26,16 @@ pub stops_at : {W : Type 0} (T : Tables) (bytes : List ℕ) (r : Result W Instan
 stops_at T bytes (Ok x) h = tt
 stops_at T bytes (Err (Refused fault)) h = record { has_fault = h.has_fault; no_cut = h.no_cut }
 stops_at T bytes (Err Memory) h = tt
+
+-- bytes within the limit have their first fault alone
+unlimited : (T : Tables) (bytes : List ℕ) (f : FaultInXml) → length bytes ≤ xml.xml_limit → LimitedXmlFault (message_of T) bytes f → XmlFault (message_of T) bytes f
+unlimited T bytes f short (whole s h) = h
+unlimited T bytes f short (early long h other) = absurd (omega (arith, short, long))
+unlimited T bytes f short (cut first long h is told) = absurd (omega (arith, short, long))
+unlimited T bytes f short (behind long w none told) = absurd (omega (arith, short, long))
+
+pub pulls_left : {W : Type 0} (T : Tables) (old now : Option (List ℕ)) (r : Result W CheckError) → IfErr r (λ e. PullsToFault (HasFault T) Truncated old now e) → IfErr r (λ e. PullsToFault (HasXmlFault T) Truncated old now e)
+pulls_left T old now r h = pulls_as (HasFault T) (HasXmlFault T) Truncated old now (λ bytes fault short k. unlimited T bytes (xml_fault_of fault) short k) r h
 
 module _ (none : SpelledHasNoXmlFault) (T : Tables) (sound : AreSound (types_of T)) where
   pub limited : {W : Type 0} (Gives : List ℕ → W → Type 0) (spells : (bytes : List ℕ) (x : W) → Gives bytes x → IsSpelledXml T bytes) (bytes : List ℕ) (fault : Fault)

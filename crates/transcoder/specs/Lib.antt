@@ -1,5 +1,6 @@
 pub mod CheckErrors
 pub mod Limited
+pub mod Pulls
 pub mod Reading
 pub mod Checked
 pub mod TransErrors

@@ -1,5 +1,5 @@
 -- How far a source is read. Private functions alone cite this.
-use Rattle.std.specs.Prelude.{◌≡◌, ℕ, ◌+◌, ◌<◌, ◌++◌, List, length, Option, IfSome, Result, Ok, Err, codes}
+use Rattle.std.specs.Prelude.{◌≡◌, ℕ, ◌+◌, ◌<◌, ◌≤◌, ◌++◌, List, length, Option, IfSome, Result, Ok, Err, codes}
 use Rattle.std.specs.Io.KnownBytes.{Consumes, IsAtEnd}
 use Rattle.message_model.specs.declared.fault.Fault.{Fault}
 use Rattle.message_model.specs.declared.fault.InstanceError.{InstanceError}
@@ -18,6 +18,10 @@ pub record HasReadSource {S : Type 0} (Fed : S → List ℕ → Type 0) (Made : 
   pub counted : length taken_are + room ≡ most_bytes
   pub made : Made state
   pub fed_are : Fed state taken_are
+
+-- A reader, as it was once, was fed these bytes.
+abbrev pub WasFed : {S : Type 0} → (S → List ℕ → Type 0) → List ℕ → Type 0
+WasFed {S} Fed bytes = (length bytes ≤ most_bytes) × (earlier : S) × Fed earlier bytes
 
 -- that there are more bytes than the limit, with the path
 abbrev pub IsTooManyBytes : List ℕ → CheckError → Type 0

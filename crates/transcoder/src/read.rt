@@ -1,9 +1,11 @@
 //! An instance, read as it comes from a source, and kept as pieces.
 ghost use Rattle.std.specs.Prelude.{◌≡◌, ◌≤◌, ℕ, List, IfOk, IfErr, IfSome, OnOk, IsErrOf, length};
 ghost use Rattle.std.specs.Io.KnownBytes.{IsAtEnd};
+ghost use Rattle.lexical_core.specs.declared.rule.Rule.TheVariants.{Truncated, DerTruncated};
 ghost use Rattle.outside.specs.Source.{Rose};
-ghost use Rattle.transcoder.specs.Checked.{HoldsXml, HoldsDer, RefusesXml, RefusesDer, IsFaultOfSome, IsDerFaultOfSome};
+ghost use Rattle.transcoder.specs.Checked.{HoldsXml, HoldsDer, HasXmlFault, HasDerFault, RefusesXml, RefusesDer, IsFaultOfSome, IsDerFaultOfSome};
 ghost use Rattle.transcoder.specs.Limited.{most_bytes};
+ghost use Rattle.transcoder.specs.Pulls.{PullsToFault};
 
 use crate::check_error::CheckError;
 use crate::reading::read_instance;
@@ -25,6 +27,7 @@ pub(crate) fn read_xml<I: Source>(
     ensures whole { OnOk result (IsAtEnd (I.left source.new)) }
     ensures refused { IfErr result (λ e. IfSome (I.left source.old) (λ bytes. RefusesXml model.now bytes e)) }
     ensures placed { IfErr result (λ e. IsFaultOfSome model.now e) }
+    ensures pulled { IfErr result (λ e. PullsToFault (HasXmlFault model.now) Truncated (I.left source.old) (I.left source.new) e) }
     ensures fault { IsErrOf result CheckError.ReadFault → Rose (I.faults source.old) (I.faults source.new) }
     ensures later { I.faults source.old ≤ I.faults source.new }
     ensures same { (IsErrOf result CheckError.ReadFault → ⊥) → I.faults source.new ≡ I.faults source.old }
@@ -47,6 +50,7 @@ pub(crate) fn read_der<I: Source>(
     ensures whole { OnOk result (IsAtEnd (I.left source.new)) }
     ensures refused { IfErr result (λ e. IfSome (I.left source.old) (λ bytes. RefusesDer model.now bytes e)) }
     ensures placed { IfErr result (λ e. IsDerFaultOfSome model.now e) }
+    ensures pulled { IfErr result (λ e. PullsToFault (HasDerFault model.now) DerTruncated (I.left source.old) (I.left source.new) e) }
     ensures fault { IsErrOf result CheckError.ReadFault → Rose (I.faults source.old) (I.faults source.new) }
     ensures later { I.faults source.old ≤ I.faults source.new }
     ensures same { (IsErrOf result CheckError.ReadFault → ⊥) → I.faults source.new ≡ I.faults source.old }

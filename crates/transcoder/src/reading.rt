@@ -4,7 +4,8 @@ ghost use Rattle.std.specs.Io.KnownBytes.{IsAtEnd};
 ghost use Rattle.outside.specs.Source.{Rose};
 ghost use Rattle.message_model.specs.declared.fault.Fault.{Fault as Told};
 ghost use Rattle.transcoder.specs.Limited.{most_bytes, IsLimited};
-ghost use Rattle.transcoder.specs.Reading.{IsTooManyBytes, IsBeyondWhole, IsBeyondError, Concludes, ReadsTo, RefusesBy, IsOfSome, GivesSome};
+ghost use Rattle.transcoder.specs.Pulls.{StopsSoon, PullsToFault};
+ghost use Rattle.transcoder.specs.Reading.{WasFed, IsTooManyBytes, IsBeyondWhole, IsBeyondError, Concludes, ReadsTo, RefusesBy, IsOfSome, GivesSome};
 
 use crate::check_error::CheckError;
 use crate::intake::Intake;
@@ -29,7 +30,8 @@ pub(crate) enum Extent {
 
 /// A buffer for the pieces of a source.
 fn piece_buffer(alloc: Global) -> Result<Vec<u8>, AllocError>
-    ensures { IfOk result (λ v. 0 < length v.items) }
+    ensures some { IfOk result (λ v. 0 < length v.items) }
+    ensures few { IfOk result (λ v. length v.items ≤ PIECE) }
 {
     Ok(vec![in alloc; 0u8; PIECE]?)
 }
@@ -96,7 +98,7 @@ fn concluded<W: Drop>(
 }
 
 /// Feeds the reader with what the source has left: to its end, to the piece that shows the first
-/// fault, or to the first byte beyond the limit.
+/// fault, or to the piece with the first byte beyond the limit.
 fn feed_all<I: Source, W, X: Intake<W>>(
     model: &Model,
     source: &mut I,
@@ -104,10 +106,12 @@ fn feed_all<I: Source, W, X: Intake<W>>(
     reader: &mut X,
 ) -> Result<Extent, CheckError>
     requires piece { 0 < length piece.old }
+    requires few { length piece.old ≤ PIECE }
     requires made { X.is_made_for reader.old model.now }
     requires fresh { X.has_fed reader.old model.now [] }
     ensures made { X.is_made_for reader.new model.now }
     ensures read { ReadsTo (λ x. X.has_fed x model.now) (λ x. X.is_made_for x model.now) (IsLimited (X.is_faulty model.now) (GivesSome (X.gives model.now)) X.cut_rule) (I.left source.old) (I.left source.new) reader.new result }
+    ensures pulled { StopsSoon (WasFed (λ x. X.has_fed x model.now)) (I.left source.old) (I.left source.new) }
     ensures fault { IsErrOf result CheckError.ReadFault → Rose (I.faults source.old) (I.faults source.new) }
     ensures later { I.faults source.old ≤ I.faults source.new }
     ensures same { (IsErrOf result CheckError.ReadFault → ⊥) → I.faults source.new ≡ I.faults source.old }
@@ -132,7 +136,7 @@ fn feed_all<I: Source, W, X: Intake<W>>(
 }
 
 /// Reads an instance from what the source has left: to its end, to the piece that shows the first
-/// fault, or to the first byte beyond 2^40. A failed pull is not tried again.
+/// fault, or to the piece with the first byte beyond 2^40. A failed pull is not tried again.
 pub(crate) fn read_instance<I: Source, W: Drop, X: Intake<W> + Drop>(
     alloc: Global,
     model: &Model,
@@ -147,6 +151,7 @@ pub(crate) fn read_instance<I: Source, W: Drop, X: Intake<W> + Drop>(
     ensures whole { OnOk result (IsAtEnd (I.left source.new)) }
     ensures refused { IfErr result (λ e. IfSome (I.left source.old) (λ bytes. RefusesBy (IsLimited (X.is_faulty model.now) (GivesSome (X.gives model.now)) X.cut_rule) bytes e)) }
     ensures placed { IfErr result (λ e. IsOfSome (IsLimited (X.is_faulty model.now) (GivesSome (X.gives model.now)) X.cut_rule) e) }
+    ensures pulled { IfErr result (λ e. PullsToFault (X.is_faulty model.now) X.cut_rule (I.left source.old) (I.left source.new) e) }
     ensures fault { IsErrOf result CheckError.ReadFault → Rose (I.faults source.old) (I.faults source.new) }
     ensures later { I.faults source.old ≤ I.faults source.new }
     ensures same { (IsErrOf result CheckError.ReadFault → ⊥) → I.faults source.new ≡ I.faults source.old }

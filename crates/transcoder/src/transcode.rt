@@ -1,5 +1,6 @@
 //! An instance, read in one form and written in another.
-ghost use Rattle.std.specs.Prelude.{◌≡◌, ◌≤◌, IsErrOf};
+ghost use Rattle.std.specs.Prelude.{◌≡◌, ◌≤◌, IfErr, IsErrOf};
+ghost use Rattle.lexical_core.specs.declared.rule.Rule.TheVariants.{Truncated, DerTruncated};
 ghost use Rattle.outside.specs.Source.{Rose};
 ghost use Rattle.data_types.specs.Value.{Value};
 ghost use Rattle.fragments.specs.Fragment.{fragment};
@@ -9,6 +10,7 @@ ghost use Rattle.der_model.specs.DerMessage.{der_message};
 ghost use Rattle.der_model.specs.Der.{der_of};
 ghost use Rattle.xml_writer.specs.CanonXml.{IsCanonXml};
 ghost use Rattle.transcoder.specs.Checked.{IsDerOfXml, IsXmlOfDer, IsXmlOfXml, HasXmlFault, HasDerFault};
+ghost use Rattle.transcoder.specs.Pulls.{PullsToTransFault};
 ghost use Rattle.transcoder.specs.Transcoding.{IsTranscoded, IsWrittenOut};
 ghost use Rattle.transcoder.specs.TransErrors.{written_end};
 
@@ -30,6 +32,7 @@ pub fn xml_to_der<I: Source, O: Sink>(
     sink: &mut O,
 ) -> Result<(), TransError>
     ensures transcoded { IsTranscoded O.held O.faults O.room (IsDerOfXml model.now) (HasXmlFault model.now) (I.left source.old) (I.left source.new) sink.old sink.new result }
+    ensures pulled { IfErr result (λ e. PullsToTransFault (HasXmlFault model.now) Truncated (I.left source.old) (I.left source.new) e) }
     ensures fault { IsErrOf result TransError.ReadFault → Rose (I.faults source.old) (I.faults source.new) }
     ensures later { I.faults source.old ≤ I.faults source.new }
 {
@@ -48,6 +51,7 @@ pub fn der_to_xml<I: Source, O: Sink>(
     sink: &mut O,
 ) -> Result<(), TransError>
     ensures transcoded { IsTranscoded O.held O.faults O.room (IsXmlOfDer model.now) (HasDerFault model.now) (I.left source.old) (I.left source.new) sink.old sink.new result }
+    ensures pulled { IfErr result (λ e. PullsToTransFault (HasDerFault model.now) DerTruncated (I.left source.old) (I.left source.new) e) }
     ensures fault { IsErrOf result TransError.ReadFault → Rose (I.faults source.old) (I.faults source.new) }
     ensures later { I.faults source.old ≤ I.faults source.new }
 {
@@ -66,6 +70,7 @@ pub fn xml_to_xml<I: Source, O: Sink>(
     sink: &mut O,
 ) -> Result<(), TransError>
     ensures transcoded { IsTranscoded O.held O.faults O.room (IsXmlOfXml model.now) (HasXmlFault model.now) (I.left source.old) (I.left source.new) sink.old sink.new result }
+    ensures pulled { IfErr result (λ e. PullsToTransFault (HasXmlFault model.now) Truncated (I.left source.old) (I.left source.new) e) }
     ensures fault { IsErrOf result TransError.ReadFault → Rose (I.faults source.old) (I.faults source.new) }
     ensures later { I.faults source.old ≤ I.faults source.new }
 {

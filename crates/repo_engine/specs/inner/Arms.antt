@@ -1,8 +1,9 @@
 -- What one command does, and what reading a repository and its codes does.
-use Rattle.std.specs.Prelude.{◌≡◌, ◌≢◌, ◌⊎◌, ◌≤◌, ℕ, Bool, true, false, length, List, [], Option, Some, Result, Ok, Err}
+use Rattle.std.specs.Prelude.{◌≡◌, ◌≢◌, ◌⊎◌, ◌≤◌, ℕ, Bool, true, false, length, List, [], Option, Some, Result, Ok, Err, IfErr}
 use Rattle.outside.specs.declared.errors.SinkError.{SinkError}
 use Rattle.outside.specs.declared.errors.SinkError.TheVariants as sink
 use Rattle.repo_objects.specs.Repository.{Contents}
+use Rattle.repo_loader.specs.LoadErrors.{EndsWithPiece}
 use Rattle.repo_loader.specs.Loaded.{Spells}
 use Rattle.repo_loader.specs.declared.fault.LoadError.{LoadError}
 use Rattle.repo_loader.specs.declared.fault.LoadError.TheVariants as load_error
@@ -10,9 +11,11 @@ use Rattle.code_sets.specs.declared.errors.CodesError.{CodesError}
 use Rattle.code_sets.specs.declared.errors.CodesError.TheVariants as codes_error
 use Rattle.code_sets.specs.declared.record.CodeRecord.{CodeRecord}
 use Rattle.code_sets.specs.Codes.{ReadsCodes, codes_limit}
+use Rattle.code_sets.specs.CodesErrors.{AreCodesPulled}
 use Rattle.reference_check.specs.declared.reached.ReadyError.{ReadyError}
 use Rattle.reference_check.specs.declared.reached.ReadyError.TheVariants as ready
 use Rattle.message_model.specs.Tables.{Tables}
+use Rattle.transcoder.specs.Pulls.{StopsSoon}
 use Rattle.transcoder.specs.declared.check_error.CheckError.{CheckError}
 use Rattle.transcoder.specs.declared.check_error.CheckError.TheVariants as check
 use Rattle.transcoder.specs.declared.trans_error.TransError.{TransError}
@@ -22,14 +25,19 @@ use Rattle.repo_engine.specs.declared.refusal.Stop.TheVariants.{Refused, ReadFau
 use Rattle.repo_engine.specs.declared.refusal.Refusal.TheVariants.{Words, Repository, Codes, Message, Instance}
 use Rattle.repo_engine.specs.Answer.{Of, TellsFileFault, RefusesCodes, RefusesMessage, GivesRepository, GivesTables}
 use Rattle.repo_engine.specs.Command.{Command, pulled_by, hands_in}
+use Rattle.repo_engine.specs.Pulls.{HasNoFaultYet, StopsFilesSoon, StopsInstanceSoon}
 use Rattle.repo_engine.specs.Run.{End, GoesOut, TellsVerdict}
 use Rattle.repo_engine.specs.Sources.{Use, AreUsed, Ended, IsSourceRead, Untouched, Failing, Refusing, Whole, source_ended_of}
 use Rattle.repo_engine.specs.Verdict.{Verdict, refused}
 
--- the sources that a command pulls from have these bytes left
-pub record HaveLeft (command : Command) (repo_left codes_left inst_left : Option (List ℕ)) (r c i : List ℕ) : Type 0 where
+-- the repository and its codes tell these bytes, where a command pulls from them
+pub record HasFilesTold (command : Command) (repo_left codes_left : Option (List ℕ)) (r c : List ℕ) : Type 0 where
   pub repository : (pulled_by command).repository ≡ true → repo_left ≡ Some r
   pub codes : (pulled_by command).codes ≡ true → codes_left ≡ Some c
+
+-- the sources that a command pulls from have these bytes left
+pub record HaveLeft (command : Command) (repo_left codes_left inst_left : Option (List ℕ)) (r c i : List ℕ) : Type 0 where
+  pub files : HasFilesTold command repo_left codes_left r c
   pub instance : (pulled_by command).instance ≡ true → inst_left ≡ Some i
 
 -- what a command does
@@ -39,6 +47,8 @@ pub record Carries {R C I O : Type 0} (command : Command) (repo : Use R) (codes 
   pub sources : AreUsed (pulled_by command).repository (pulled_by command).codes (pulled_by command).instance (source_ended_of end) repo codes inst
   pub verdict : (r c i : List ℕ) → HaveLeft command (repo.left repo.old) (codes.left codes.old) (inst.left inst.old) r c i
       → TellsVerdict (Of command r c i) end (held old) (held new)
+  pub files_pulled : IfErr end (λ stop. StopsFilesSoon repo codes inst stop)
+  pub instance_pulled : (r c : List ℕ) → HasFilesTold command (repo.left repo.old) (codes.left codes.old) r c → IfErr end (λ stop. StopsInstanceSoon (λ i. Of command r c i) (inst.left inst.old) (inst.left inst.new) stop)
   pub out : GoesOut held faults old new end
 
 -- the bytes are not too many, and say these codes
@@ -102,6 +112,31 @@ IsOfInput (Refused refusal) = Unit {0}
 IsOfInput ReadFault = Unit {0}
 IsOfInput WriteFault = ⊥
 IsOfInput Memory = Unit {0}
+
+-- how far a repository was pulled where reading it stops; nothing else is refused then
+abbrev pub StopsAtRepository : Option (List ℕ) → Option (List ℕ) → Stop → Type 0
+StopsAtRepository repo repo' (Refused (Repository fault)) = EndsWithPiece repo repo'
+StopsAtRepository repo repo' (Refused refusal) = ⊥
+StopsAtRepository repo repo' stop = Unit {0}
+
+-- how far codes were pulled where reading them stops; nothing else is refused then
+abbrev pub StopsAtCodes : Option (List ℕ) → Option (List ℕ) → Stop → Type 0
+StopsAtCodes codes codes' (Refused (Codes rule number)) = AreCodesPulled codes codes'
+StopsAtCodes codes codes' (Refused refusal) = ⊥
+StopsAtCodes codes codes' stop = Unit {0}
+
+-- how far both were pulled where a command stops before an instance is read; none is refused then
+abbrev pub StopsAtFiles : {R C : Type 0} → Use R → Use C → Stop → Type 0
+StopsAtFiles repo codes (Refused (Repository fault)) = EndsWithPiece (repo.left repo.old) (repo.left repo.new) × Untouched codes
+StopsAtFiles repo codes (Refused (Codes rule number)) = AreCodesPulled (codes.left codes.old) (codes.left codes.new)
+StopsAtFiles repo codes (Refused (Instance fault)) = ⊥
+StopsAtFiles repo codes stop = Unit {0}
+
+-- how far an instance was pulled where a command of a compiled message stops; nothing else is refused then
+abbrev pub StopsAtInstance : (List ℕ → Verdict → Type 0) → Option (List ℕ) → Option (List ℕ) → Stop → Type 0
+StopsAtInstance Answers inst inst' (Refused (Instance fault)) = StopsSoon (HasNoFaultYet Answers) inst inst'
+StopsAtInstance Answers inst inst' (Refused refusal) = ⊥
+StopsAtInstance Answers inst inst' stop = Unit {0}
 
 -- a source that is read, where it is asked
 pub data IsReadIf {S : Type 0} (asked : Bool) (ended : Ended) (u : Use S) : Type 0 where

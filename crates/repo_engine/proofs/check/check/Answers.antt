@@ -1,4 +1,5 @@
 use Rattle.std.proofs.Common.{rules, ◌≡◌, refl, subst, IfSome, codes}
+use Rattle.lexical_core.specs.declared.rule.Rule.TheVariants.{Truncated}
 use Rattle.transcoder.specs.Checked.{IsAccepted, HasXmlFault}
 use Rattle.transcoder.specs.declared.check_error.CheckError.TheVariants as check
 use Rattle.repo_engine.proofs.Ends.{tells_pushed, goes_nowhere}
@@ -7,6 +8,7 @@ use Rattle.repo_engine.specs.Answer.{FromXml, IsFine}
 use Rattle.repo_engine.specs.Steps.{refused, goes_on}
 use Rattle.repo_engine.specs.inner.Arms.{end_of}
 use Rattle.repo_engine.specs.Sources.{source_ended_of}
+use Rattle.repo_engine.proofs.Pulls.{push_ends_so, check_stops, xml_goes, fine_goes}
 use Rattle.repo_engine.proofs.check.check.Goals as goal
 
 pub returns-in-Ok-clause-no_words : goal.returns-in-Ok-clause-no_words
@@ -39,3 +41,9 @@ returns-in-Err-clause-verdict g c i told = rw c.stop_of_check.ensures (check_tel
 
 pub returns-in-Err-clause-goes_out : goal.returns-in-Err-clause-goes_out
 returns-in-Err-clause-goes_out g c = rw c.stop_of_check.ensures (goes_nowhere g.O.Sink.held g.O.Sink.faults _ _ (check_input _))
+
+pub returns-in-Ok-clause-pulled : goal.returns-in-Ok-clause-pulled
+returns-in-Ok-clause-pulled g c = rw c.ended.ensures (push_ends_so (λ i. FromXml c.args.model.now i IsFine) _ _ c.push_bytes.result)
+
+pub returns-in-Err-clause-pulled : goal.returns-in-Err-clause-pulled
+returns-in-Err-clause-pulled g c = rw c.stop_of_check.ensures (check_stops (λ i. FromXml c.args.model.now i IsFine) _ _ (HasXmlFault c.args.model.now) Truncated (xml_goes c.args.model.now IsFine fine_goes) _ c.in-Err.ensures.pulled)

@@ -1,21 +1,5 @@
-use Rattle.repo_engine.proofs.OneAnswer.{StepLaws, one_answer}
+use Rattle.repo_engine.proofs.OneAnswer.{one_answer}
 use Rattle.repo_engine.proofs.laws.one_answer.Goals as goal
 
 pub returns : goal.returns
-returns c =
-    let laws : StepLaws = record {
-      one_repository = c.one_repository.ensures;
-      one_load_fault = c.one_load_fault.ensures;
-      spelled_has_none = c.spelled_has_none.ensures;
-      one_joined = c.one_joined.ensures;
-      one_codes_fault = c.one_codes_fault.ensures;
-      joined_has_none = c.joined_has_none.ensures;
-      one_model = c.one_model.ensures;
-      one_refusal = c.one_refusal.ensures;
-      ready_is_not_refused = c.ready_is_not_refused.ensures;
-      compiled_are_sound = c.compiled_are_sound.ensures;
-      one_verdict = c.one_verdict.ensures;
-      one_der_verdict = c.one_der_verdict.ensures;
-      one_canonical_xml = c.a_value_has_one_canonical_xml.ensures;
-    } in
-    one_answer laws
+returns c = one_answer c.steps_are_apart.ensures

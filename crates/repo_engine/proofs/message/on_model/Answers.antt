@@ -1,6 +1,8 @@
 use Rattle.std.proofs.Common.{◌≡◌, true, refl}
+use Rattle.repo_engine.specs.Answer.{OfVerb}
 use Rattle.repo_engine.specs.inner.Arms.{unread, read}
 use Rattle.repo_engine.specs.Command.{reads_instance}
+use Rattle.repo_engine.proofs.Pulls.{unrefused}
 use Rattle.repo_engine.proofs.message.on_model.Goals as goal
 
 pub returns-in-Types-clause-source : goal.returns-in-Types-clause-source
@@ -60,3 +62,27 @@ pub returns-in-DerToXml-clause-verdict : goal.returns-in-DerToXml-clause-verdict
 returns-in-DerToXml-clause-verdict g c i told =
     let reads : reads_instance c.args.verb ≡ true = rw c.in-DerToXml.is refl in
     rw c.in-DerToXml.is (c.from_der.ensures.verdict i (told reads))
+
+pub returns-in-Types-clause-pulled : goal.returns-in-Types-clause-pulled
+returns-in-Types-clause-pulled g c = unrefused (λ i. OfVerb c.args.verb i c.args.model.now) _ _ c.give_types.result c.give_types.ensures.ends.1
+
+pub returns-in-Xsd-clause-pulled : goal.returns-in-Xsd-clause-pulled
+returns-in-Xsd-clause-pulled g c = unrefused (λ i. OfVerb c.args.verb i c.args.model.now) _ _ c.give_schema.result c.give_schema.ensures.ends.1
+
+pub returns-in-Asn1-clause-pulled : goal.returns-in-Asn1-clause-pulled
+returns-in-Asn1-clause-pulled g c = unrefused (λ i. OfVerb c.args.verb i c.args.model.now) _ _ c.give_module.result c.give_module.ensures.ends.1
+
+pub returns-in-CheckXml-clause-pulled : goal.returns-in-CheckXml-clause-pulled
+returns-in-CheckXml-clause-pulled g c = rw c.in-CheckXml.is c.check.ensures.pulled
+
+pub returns-in-CheckDer-clause-pulled : goal.returns-in-CheckDer-clause-pulled
+returns-in-CheckDer-clause-pulled g c = rw c.in-CheckDer.is c.check_in_der.ensures.pulled
+
+pub returns-in-CanonXml-clause-pulled : goal.returns-in-CanonXml-clause-pulled
+returns-in-CanonXml-clause-pulled g c = rw c.in-CanonXml.is c.canonize.ensures.pulled
+
+pub returns-in-XmlToDer-clause-pulled : goal.returns-in-XmlToDer-clause-pulled
+returns-in-XmlToDer-clause-pulled g c = rw c.in-XmlToDer.is c.to_der.ensures.pulled
+
+pub returns-in-DerToXml-clause-pulled : goal.returns-in-DerToXml-clause-pulled
+returns-in-DerToXml-clause-pulled g c = rw c.in-DerToXml.is c.from_der.ensures.pulled

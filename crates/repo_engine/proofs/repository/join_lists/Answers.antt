@@ -1,4 +1,5 @@
 use Rattle.repo_engine.proofs.Readings.{join_refuses, join_stops}
+use Rattle.repo_engine.proofs.Pulls.{read_codes_stop}
 use Rattle.repo_engine.proofs.repository.join_lists.Goals as goal
 
 pub returns-in-Ok-clause-gives : goal.returns-in-Ok-clause-gives
@@ -15,3 +16,6 @@ returns-in-Err-clause-refuses c bytes told = rw c.stop_of_codes.ensures (join_re
 
 pub returns-in-Err-clause-stops : goal.returns-in-Err-clause-stops
 returns-in-Err-clause-stops c = rw c.stop_of_codes.ensures (join_stops _ _ _ c.in-Err.ensures.err)
+
+pub returns-in-Err-clause-pulled : goal.returns-in-Err-clause-pulled
+returns-in-Err-clause-pulled c codes codes' p = rw c.stop_of_codes.ensures (read_codes_stop codes codes' p _)

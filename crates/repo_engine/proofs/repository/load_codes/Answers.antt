@@ -1,7 +1,8 @@
-use Rattle.std.proofs.Common.{rules, ◌≡◌, ◌≤◌, length, subst, IfSome}
+use Rattle.std.proofs.Common.{rules, ◌≡◌, ◌≤◌, inl, length, subst, IfSome}
 use Rattle.code_sets.specs.Codes.{ReadsCodes, codes_limit}
 use Rattle.code_sets.specs.declared.errors.CodesError.TheVariants as codes_error
 use Rattle.repo_engine.proofs.Readings.{source_refuses_told, codes_failing, codes_not_whole}
+use Rattle.repo_engine.proofs.Pulls.{codes_stops}
 use Rattle.repo_engine.proofs.repository.load_codes.Goals as goal
 
 pub returns-in-Ok-clause-source : goal.returns-in-Ok-clause-source
@@ -26,3 +27,9 @@ returns-in-Err-clause-source g c = rw c.stop_of_codes.ensures (record {
   whole = λ e. absurd (codes_not_whole _ e);
   failed = λ e. (let is : c.in-Err.error ≡ codes_error.ReadFault = codes_failing _ e in c.pull_codes.ensures.fault (search rules));
 })
+
+pub returns-in-Err-clause-pulled : goal.returns-in-Err-clause-pulled
+returns-in-Err-clause-pulled g c = rw c.stop_of_codes.ensures (codes_stops _ _ _ c.in-Err.ensures.pulled)
+
+pub returns-in-Ok-clause-read : goal.returns-in-Ok-clause-read
+returns-in-Ok-clause-read g c = inl (c.in-Ok.ensures.whole, c.in-Ok.ensures.short)

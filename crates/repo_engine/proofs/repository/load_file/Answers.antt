@@ -2,6 +2,7 @@ use Rattle.std.proofs.Common.{rules, ◌≡◌, subst, IfSome}
 use Rattle.repo_loader.specs.Loaded.{Spells}
 use Rattle.repo_loader.specs.declared.fault.LoadError.TheVariants as load_error
 use Rattle.repo_engine.proofs.Readings.{load_refuses_told, load_failing, load_not_whole}
+use Rattle.repo_engine.proofs.Pulls.{load_stops}
 use Rattle.repo_engine.proofs.repository.load_file.Goals as goal
 
 pub returns-in-Ok-clause-source : goal.returns-in-Ok-clause-source
@@ -23,3 +24,6 @@ returns-in-Err-clause-source g c = rw c.stop_of_load.ensures (record {
   whole = λ e. absurd (load_not_whole _ e);
   failed = λ e. (let is : c.in-Err.error ≡ load_error.ReadFault = load_failing _ e in c.load.ensures.fault (search rules));
 })
+
+pub returns-in-Err-clause-pulled : goal.returns-in-Err-clause-pulled
+returns-in-Err-clause-pulled g c = rw c.stop_of_load.ensures (load_stops _ _ _ c.in-Err.ensures.pulled)

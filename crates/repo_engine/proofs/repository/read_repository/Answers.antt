@@ -1,6 +1,8 @@
-use Rattle.std.proofs.Common.{inr}
+use Rattle.std.proofs.Common.{inr, refl}
 use Rattle.repo_engine.specs.inner.Arms.{RefusesRepository}
 use Rattle.repo_engine.specs.Answer.{RefusesCodes}
+use Rattle.repo_engine.specs.Sources.{of_source}
+use Rattle.repo_engine.proofs.Pulls.{stops_at_repository, stops_at_codes}
 use Rattle.repo_engine.proofs.Steps.{if_ok, if_err, stops_by}
 use Rattle.repo_engine.proofs.repository.read_repository.Goals as goal
 
@@ -13,3 +15,9 @@ returns-in-Ok-clause-refuses g c r bytes left =
     if_err _ _ c.with_codes.result
     (λ stop. stops_by (RefusesCodes c.args.codes_word.now c.in-Ok.own bytes) (RefusesRepository c.args.codes_word.now r bytes) stop (λ v h. inr (c.in-Ok.own, c.in-Ok.ensures.gives r left.repository, h)))
     (c.with_codes.ensures.refuses bytes left.codes)
+
+pub returns-in-Ok-clause-pulled : goal.returns-in-Ok-clause-pulled
+returns-in-Ok-clause-pulled g c = if_err _ _ c.with_codes.result (stops_at_codes (of_source g.R.Source.left g.R.Source.faults c.args.repo.now c.load_file.new.repo) (of_source g.C.Source.left g.C.Source.faults c.args.codes.now c.with_codes.new.codes)) c.with_codes.ensures.pulled
+
+pub returns-in-Err-clause-pulled : goal.returns-in-Err-clause-pulled
+returns-in-Err-clause-pulled g c = stops_at_repository (of_source g.R.Source.left g.R.Source.faults c.args.repo.now c.load_file.new.repo) (of_source g.C.Source.left g.C.Source.faults c.args.codes.now c.args.codes.now) refl c.in-Err.stop c.in-Err.ensures.pulled

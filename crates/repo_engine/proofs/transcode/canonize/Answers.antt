@@ -1,8 +1,10 @@
 use Rattle.std.proofs.Common.{refl}
+use Rattle.lexical_core.specs.declared.rule.Rule.TheVariants.{Truncated}
 use Rattle.transcoder.specs.Checked.{IsXmlOfXml, HasXmlFault}
 use Rattle.repo_engine.specs.Answer.{FromXml, GivesXml}
 use Rattle.repo_engine.specs.Steps.{refused, goes_on}
 use Rattle.repo_engine.proofs.Transcodings.{tells_transcoded, goes_transcoded, words_transcoded, read_transcoded}
+use Rattle.repo_engine.proofs.Pulls.{trans_stops, xml_goes, xml_given_goes}
 use Rattle.repo_engine.proofs.transcode.canonize.Goals as goal
 
 pub returns-clause-no_words : goal.returns-clause-no_words
@@ -17,3 +19,6 @@ returns-clause-verdict g c i told = rw c.ended_so.ensures (tells_transcoded g.O.
 
 pub returns-clause-goes_out : goal.returns-clause-goes_out
 returns-clause-goes_out g c = rw c.ended_so.ensures (goes_transcoded g.O.Sink.held g.O.Sink.faults g.O.Sink.room (IsXmlOfXml c.args.model.now) (HasXmlFault c.args.model.now) _ _ _ _ c.xml_to_xml.result c.xml_to_xml.ensures.transcoded)
+
+pub returns-clause-pulled : goal.returns-clause-pulled
+returns-clause-pulled g c = rw c.ended_so.ensures (trans_stops (λ i. FromXml c.args.model.now i (GivesXml c.args.model.now)) _ _ (HasXmlFault c.args.model.now) Truncated (xml_goes c.args.model.now (GivesXml c.args.model.now) (xml_given_goes c.args.model.now)) c.xml_to_xml.result c.xml_to_xml.ensures.pulled)

@@ -1,5 +1,5 @@
 use Rattle.der_codec.specs.Checking.{IsSpelledDer}
-use Rattle.transcoder.proofs.DerFaults.{refuses_left, of_some}
+use Rattle.transcoder.proofs.DerFaults.{refuses_left, of_some, pulls_left}
 use Rattle.transcoder.proofs.check.check_der.Goals as goal
 
 pub read_instance-requires-clause-only_cut : goal.read_instance-requires-clause-only_cut
@@ -12,3 +12,6 @@ returns-clause-refused g c = refuses_left c.args.model.now (λ bytes (_ : Unit {
 
 pub returns-clause-placed : goal.returns-clause-placed
 returns-clause-placed g c = of_some c.args.model.now (λ bytes (_ : Unit {0}). IsSpelledDer c.args.model.now bytes) (λ bytes x s. s) c.read_instance.result c.read_instance.ensures.placed
+
+pub returns-clause-pulled : goal.returns-clause-pulled
+returns-clause-pulled g c = pulls_left c.args.model.now (g.I.Source.left c.args.source.now) (g.I.Source.left c.read_instance.new.source) c.read_instance.result c.read_instance.ensures.pulled

@@ -1,5 +1,5 @@
 use Rattle.xml_instances.specs.Checking.{IsSpelledXml}
-use Rattle.transcoder.proofs.XmlFaults.{refuses_left, of_some}
+use Rattle.transcoder.proofs.XmlFaults.{refuses_left, of_some, pulls_left}
 use Rattle.transcoder.proofs.check.check_xml.Goals as goal
 
 pub read_instance-requires-clause-only_cut : goal.read_instance-requires-clause-only_cut
@@ -12,3 +12,6 @@ returns-clause-refused g c =
 pub returns-clause-placed : goal.returns-clause-placed
 returns-clause-placed g c =
     of_some c.spelled_has_none.ensures c.args.model.now c.type_count.ensures.sound (λ bytes (_ : Unit {0}). IsSpelledXml c.args.model.now bytes) (λ bytes x s. s) c.read_instance.result c.read_instance.ensures.placed
+
+pub returns-clause-pulled : goal.returns-clause-pulled
+returns-clause-pulled g c = pulls_left c.args.model.now (g.I.Source.left c.args.source.now) (g.I.Source.left c.read_instance.new.source) c.read_instance.result c.read_instance.ensures.pulled

@@ -1,5 +1,5 @@
 use Rattle.transcoder.specs.Checked.{HoldsDer}
-use Rattle.transcoder.proofs.DerFaults.{refuses_left, of_some}
+use Rattle.transcoder.proofs.DerFaults.{refuses_left, of_some, pulls_left}
 use Rattle.transcoder.proofs.read.read_der.Goals as goal
 
 pub read_instance-requires-clause-only_cut : goal.read_instance-requires-clause-only_cut
@@ -12,3 +12,6 @@ returns-clause-refused g c = refuses_left c.args.model.now (HoldsDer c.args.mode
 
 pub returns-clause-placed : goal.returns-clause-placed
 returns-clause-placed g c = of_some c.args.model.now (HoldsDer c.args.model.now) (λ bytes x h. (h.0, h.1)) c.read_instance.result c.read_instance.ensures.placed
+
+pub returns-clause-pulled : goal.returns-clause-pulled
+returns-clause-pulled g c = pulls_left c.args.model.now (g.I.Source.left c.args.source.now) (g.I.Source.left c.read_instance.new.source) c.read_instance.result c.read_instance.ensures.pulled

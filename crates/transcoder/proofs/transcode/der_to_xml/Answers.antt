@@ -1,11 +1,12 @@
 use Rattle.std.proofs.Common.{refl, rules}
+use Rattle.lexical_core.specs.declared.rule.Rule.TheVariants.{DerTruncated}
 use Rattle.message_model.specs.Tables.{message_of}
 use Rattle.der_model.specs.Der.{SpellsDer}
 use Rattle.der_model.specs.DerMessage.{der_message}
 use Rattle.xml_writer.specs.CanonXml.{IsCanonXml}
 use Rattle.transcoder.specs.Checked.{HasDerFault}
 use Rattle.transcoder.specs.Transcoding.{unread}
-use Rattle.transcoder.proofs.Transcodings.{transcoded}
+use Rattle.transcoder.proofs.Transcodings.{transcoded, told_pulls, pulls_whole}
 use Rattle.transcoder.proofs.transcode.der_to_xml.Goals as goal
 
 pub returns-in-Ok-clause-transcoded : goal.returns-in-Ok-clause-transcoded
@@ -15,3 +16,11 @@ returns-in-Ok-clause-transcoded g c =
 
 pub returns-in-Err-clause-transcoded : goal.returns-in-Err-clause-transcoded
 returns-in-Err-clause-transcoded g c = unread c.in-Err.error (search rules) refl c.in-Err.ensures.refused
+
+pub returns-in-Ok-clause-pulled : goal.returns-in-Ok-clause-pulled
+returns-in-Ok-clause-pulled g c =
+    pulls_whole (SpellsDer (der_message c.args.model.now)) c.args.model.now (λ bytes v s. s.0) c.in-Ok.instance.region.pieces g.O.Sink.held g.O.Sink.faults g.O.Sink.room (HasDerFault c.args.model.now) DerTruncated (IsCanonXml (message_of c.args.model.now)) (g.I.Source.left c.args.source.now)
+    (g.I.Source.left c.read_der.new.source) _ _ c.push_xml.result c.in-Ok.ensures.given c.push_xml.ensures
+
+pub returns-in-Err-clause-pulled : goal.returns-in-Err-clause-pulled
+returns-in-Err-clause-pulled g c = told_pulls (HasDerFault c.args.model.now) DerTruncated (g.I.Source.left c.args.source.now) (g.I.Source.left c.read_der.new.source) c.in-Err.error _ c.from.ensures c.in-Err.ensures.pulled
