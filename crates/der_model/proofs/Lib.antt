@@ -17,13 +17,11 @@ pub mod FieldsDecoded
 pub mod AmountsDecoded
 pub mod Decoded
 pub mod Answered
-pub mod OneLimitedFault
 pub mod EitherWay
 pub mod SomeContents
 pub mod SomeHeader
 pub mod PrimitiveSpots
 pub mod SomeAnswer
-pub mod SomeLimitedAnswer
 pub mod SomeKinds
 pub mod CompiledKinds
 pub mod OneLevel

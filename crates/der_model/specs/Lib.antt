@@ -7,7 +7,6 @@ pub mod States
 pub mod Paths
 pub mod Faults
 pub mod Sound
-pub mod LimitedFaults
 pub mod SomeAnswers
 pub mod OpenParts
 pub mod ShownPieces

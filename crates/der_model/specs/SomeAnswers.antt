@@ -1,5 +1,5 @@
 -- That no bytes are without an answer, and what this asks of a message beside its being sound.
-use Rattle.std.specs.Prelude.{◌≡◌, ◌⊎◌, ℕ, ◌≤◌, List, length, Some, Result, slice_get}
+use Rattle.std.specs.Prelude.{◌≡◌, ◌⊎◌, ℕ, List, Some, Result, slice_get}
 use Rattle.lexical_core.specs.declared.rule.Rule.{Rule}
 use Rattle.data_types.specs.Leaf.{Leaf}
 use Rattle.data_types.specs.Value.{Value}
@@ -14,7 +14,6 @@ use Rattle.der_model.specs.DerMessage.{DerMessage}
 use Rattle.der_model.specs.LeafContents.{ContentsUnder}
 use Rattle.der_model.specs.Der.{SpellsDer}
 use Rattle.der_model.specs.Faults.{FaultInDer, DerFault}
-use Rattle.der_model.specs.LimitedFaults.{der_limit, LimitedDerFault}
 
 -- there is a type, of a kind that instances have
 abbrev pub HasKind : {P L : Type 0} → Form P L → Type 0
@@ -37,7 +36,3 @@ SomeContents = (simple : Simple) (octets : List ℕ) → ¬ (¬ ((one : Result L
 -- No bytes are neither the DER of an instance nor have a first fault.
 abbrev pub DerSpelledOrFaulty : {P : Type 0} → DerMessage P → Type 0
 DerSpelledOrFaulty m = (bytes : List ℕ) → ¬ (¬ (((v : Value) × SpellsDer m bytes v) ⊎ ((f : FaultInDer) × DerFault m bytes f)))
-
--- The same within the limit and beyond it.
-abbrev pub AcceptedOrFaulty : {P : Type 0} → DerMessage P → Type 0
-AcceptedOrFaulty m = (bytes : List ℕ) → ¬ (¬ (((v : Value) × SpellsDer m bytes v × (length bytes ≤ der_limit)) ⊎ ((f : FaultInDer) × LimitedDerFault m bytes f)))

@@ -10,8 +10,7 @@ ghost use Rattle.der_model.specs.Der.{der_of};
 ghost use Rattle.der_model.specs.Faults.{DerFault};
 ghost use Rattle.der_model.specs.Sound.{IsSoundDer};
 ghost use Rattle.der_model.specs.Laws.{OneValue, NoProperDerFront, OneDerFault, SpelledHasNoDerFault, WholeIsSpelled, OneAnswer, FaultStays, TablesAreSound};
-ghost use Rattle.der_model.specs.LimitedFaults.{OneLimitedFault, AcceptedHasNone};
-ghost use Rattle.der_model.specs.SomeAnswers.{HaveKinds, CompiledHaveKinds, SomeContents, DerSpelledOrFaulty, AcceptedOrFaulty};
+ghost use Rattle.der_model.specs.SomeAnswers.{HaveKinds, CompiledHaveKinds, SomeContents, DerSpelledOrFaulty};
 ghost use Rattle.der_model.specs.OpenLaws.{PartIsOpen, BrokenPartIsNotOpen, FrontIsOpen};
 ghost use Rattle.der_model.specs.ShownLaws.{WholeShowsPieces, FrontShowsPieces, ShowOnePieces, OneMoreShows, FrontNests};
 ghost use Rattle.der_model.specs.States.{Start};
@@ -56,16 +55,6 @@ pub fn fault_stays()
     ensures { (m : DerMessage ℕ) → FaultStays m }
 {}
 
-/// Bytes have at most one first fault, also where they are more than an instance may have.
-pub fn one_limited_fault()
-    ensures { (m : DerMessage ℕ) → IsSoundDer m → OneLimitedFault m }
-{}
-
-/// The DER of an instance that is not too long has none.
-pub fn accepted_has_none()
-    ensures { (m : DerMessage ℕ) → IsSoundDer m → AcceptedHasNone m }
-{}
-
 /// No contents octets neither are those of a leaf that fits a simple type nor break a rule.
 pub fn some_contents()
     ensures { SomeContents }
@@ -75,11 +64,6 @@ pub fn some_contents()
 /// that instances have.
 pub fn spelled_or_faulty()
     ensures { (m : DerMessage ℕ) → IsSoundDer m → HaveKinds m.forms → DerSpelledOrFaulty m }
-{}
-
-/// The same of bytes that are accepted, and of faults where there may be more bytes than an instance has at most.
-pub fn accepted_or_faulty()
-    ensures { (m : DerMessage ℕ) → IsSoundDer m → HaveKinds m.forms → AcceptedOrFaulty m }
 {}
 
 /// Elements lead to types of kinds that instances have where each of these types has an instance.

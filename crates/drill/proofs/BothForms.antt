@@ -4,9 +4,9 @@ use Rattle.message_model.specs.Admits.{AdmitsAs}
 use Rattle.message_model.specs.Tables.{Tables, message_of, types_of}
 use Rattle.der_model.specs.Der.{der_of}
 use Rattle.der_model.specs.DerMessage.{der_message}
-use Rattle.xml_instances.specs.XmlFaults.{xml_limit}
 use Rattle.xml_writer.specs.CanonXml.{IsCanonXml}
 use Rattle.xml_writer.specs.SpellingLaw.{CompiledSpells}
+use Rattle.transcoder.specs.Limited.{most_bytes}
 use Rattle.drill.specs.BuiltIn.{contents, message_id, node_id, drill_tables, text_id}
 use Rattle.drill.specs.Drilled.{DerIsReadable, IsAdmitted, IsTreeCompiled, XmlIsReadable}
 use Rattle.drill.specs.inner.Forms.{AreForms}
@@ -28,5 +28,5 @@ both_forms number size xml der compiled admits xml_reads der_reads spells small 
       xml_spells = spells contents message_id (text_id ∷ (node_id ∷ [])) drill_tables (instance number size) xml refl compiled.ready compiled.reached compiled.compiles admitted xml_is readable.0;
       xml_within = readable.1;
       der_is = der_is;
-      der_within = subst (λ l. length l ≤ xml_limit) (sym der_is) (der_reads number size small);
+      der_within = subst (λ l. length l ≤ most_bytes) (sym der_is) (der_reads number size small);
     }

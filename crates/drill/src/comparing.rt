@@ -5,8 +5,8 @@ ghost use Rattle.message_model.specs.Tables.{message_of};
 ghost use Rattle.der_model.specs.Der.{der_of, SpellsDer};
 ghost use Rattle.der_model.specs.DerMessage.{der_message};
 ghost use Rattle.xml_instances.specs.SpellsXml.{SpellsXml};
-ghost use Rattle.xml_instances.specs.XmlFaults.{xml_limit};
 ghost use Rattle.xml_writer.specs.CanonXml.{IsCanonXml};
+ghost use Rattle.transcoder.specs.Limited.{most_bytes};
 ghost use Rattle.drill.specs.inner.Forms.{AreForms};
 
 use crate::known_sink::KnownSink;
@@ -55,7 +55,7 @@ fn der_again<'a>(
     xml: &[u8],
     text: &'a [u8],
 ) -> Result<KnownSink<'a>, AllocError>
-    requires { (v : Value) × SpellsXml (message_of model.now) xml.now v × (length xml.now ≤ xml_limit) }
+    requires { (v : Value) × SpellsXml (message_of model.now) xml.now v × (length xml.now ≤ most_bytes) }
     ensures { (v : Value) → SpellsXml (message_of model.now) xml.now v → IfOk result (λ sink. sink ≡ der_of (der_message model.now) v) }
 {
     transcoder::laws::one_verdict();
@@ -75,7 +75,7 @@ fn xml_again<'a>(
     der: &[u8],
     text: &'a [u8],
 ) -> Result<KnownSink<'a>, AllocError>
-    requires { (v : Value) × SpellsDer (der_message model.now) der.now v × (length der.now ≤ xml_limit) }
+    requires { (v : Value) × SpellsDer (der_message model.now) der.now v × (length der.now ≤ most_bytes) }
     ensures { (v : Value) → SpellsDer (der_message model.now) der.now v → IfOk result (λ sink. IsCanonXml (message_of model.now) v sink) }
 {
     transcoder::laws::one_der_verdict();

@@ -158,13 +158,6 @@ impl Bindings {
         self.open.ranked_cmp(lower, upper)
     }
 
-    /// Whether two namespaces are one.
-    pub(crate) fn is_same(&self, left: Origin, right: Origin) -> bool
-        ensures { result ≡ bytes_eq (namespace_from self.now left) (namespace_from self.now right) }
-    {
-        self.namespace_cmp(left, right).is_eq()
-    }
-
     /// The namespace of an origin, shared with its declaration.
     pub(crate) fn share(&self, origin: Origin) -> Result<Namespace, AllocError>
         ensures { IfOk result (λ n. n ≡ namespace_from self.now origin) }

@@ -16,9 +16,10 @@ use self::tag::{
     start_name, value, value_reference,
 };
 use self::text::{begin, in_reference, opened};
-use crate::characters::{begins_name, continues_name};
+use crate::characters::{begins_name, continues_name, is_allowed};
 use crate::reference::ReferenceScan;
 use crate::word::Word;
+use lexical_core::Rule;
 
 mod declaration;
 mod instruction;
@@ -185,6 +186,25 @@ pub(crate) enum NameTurn {
     Fails,
 }
 
+impl Position {
+    ghost use Rattle.markup.specs.Tokenizers.{behind_token};
+
+    /// Where a token begins behind one that ended so.
+    pub(crate) fn behind(self, ended: Ended) -> Position
+        ensures { result ≡ behind_token self ended }
+    {
+        match ended {
+            Ended::Mark => Position::AfterMark,
+            Ended::Opener => Position::Cdata,
+            Ended::Closer => Position::Text,
+            _ => match self {
+                Position::Cdata => Position::Cdata,
+                _ => Position::Text,
+            },
+        }
+    }
+}
+
 impl NameScan {
     pub(crate) fn step(self, c: char) -> NameTurn
         ensures { result ≡ name_step self c }
@@ -292,3 +312,67 @@ pub(crate) fn goes_if(holds: bool, turn: Turn) -> Turn
 fn reads_grammar()
     ensures { ReadsGrammar }
 {}
+
+impl Scan {
+    ghost use Rattle.markup.specs.Tokenizers.{is_between, is_text, is_tag, is_reference_open, stuck_rule};
+
+    /// Whether a token begins behind another that is not the byte order mark.
+    #[inline]
+    pub(crate) fn is_between(self) -> bool
+        ensures { result ≡ is_between self }
+    {
+        matches!(
+            self,
+            Scan::Begin(Position::Text) | Scan::Begin(Position::Cdata)
+        )
+    }
+
+    /// Whether a token begins behind another that is not the byte order mark, in no CDATA section.
+    #[inline]
+    pub(crate) fn is_text(self) -> bool
+        ensures { result ≡ is_text self }
+    {
+        matches!(self, Scan::Begin(Position::Text))
+    }
+
+    /// Whether a start tag or an end tag is open.
+    pub(crate) fn is_tag(self) -> bool
+        ensures { result ≡ is_tag self }
+    {
+        matches!(
+            self,
+            Scan::StartName(_)
+                | Scan::Gap
+                | Scan::AttributeName(_)
+                | Scan::BeforeEquals
+                | Scan::AfterEquals
+                | Scan::Value(_, _)
+                | Scan::ValueReference(_, _)
+                | Scan::AfterValue
+                | Scan::Slash
+                | Scan::EndOpened
+                | Scan::EndName(_)
+                | Scan::EndGap
+        )
+    }
+
+    /// Whether a reference is open.
+    fn is_reference(self) -> bool
+        ensures { result ≡ is_reference_open self }
+    {
+        matches!(self, Scan::Reference(_) | Scan::ValueReference(_, _))
+    }
+
+    /// The rule that a character breaks with which no token goes on.
+    pub(crate) fn stuck_rule(self, c: char) -> Rule
+        ensures { result ≡ stuck_rule self c }
+    {
+        if !is_allowed(c) {
+            Rule::BadChar
+        } else if self.is_reference() {
+            Rule::BadReference
+        } else {
+            Rule::BadMarkup
+        }
+    }
+}

@@ -3,7 +3,6 @@ ghost use Rattle.std.specs.Prelude.{◌≡◌, ℕ, ◌<◌, ◌≤◌, ◌^◌,
 ghost use Rattle.markup.specs.Token.{Token};
 ghost use Rattle.markup.specs.Tokenizers.{is_plain_in};
 
-use crate::characters::is_allowed;
 use crate::draft::Draft;
 use crate::scan::{Ended, Position, Scan, Turn};
 use lexical_core::{Rule, Utf8, Utf8Step};
@@ -67,25 +66,6 @@ pub(crate) struct Tokenizer {
     place: u64,
 }
 
-impl Position {
-    ghost use Rattle.markup.specs.Tokenizers.{behind_token};
-
-    /// Where a token begins behind one that ended so.
-    fn behind(self, ended: Ended) -> Position
-        ensures { result ≡ behind_token self ended }
-    {
-        match ended {
-            Ended::Mark => Position::AfterMark,
-            Ended::Opener => Position::Cdata,
-            Ended::Closer => Position::Text,
-            _ => match self {
-                Position::Cdata => Position::Cdata,
-                _ => Position::Text,
-            },
-        }
-    }
-}
-
 /// Whether the byte is a character by itself, in text or in a CDATA section (XML 1.0 §2.4, §2.7):
 /// one from 0x20 to 0x7F that is not `<` or `&`, and in a CDATA section not `]`.
 #[inline]
@@ -93,70 +73,6 @@ fn is_plain(is_text: bool, byte: u8) -> bool
     ensures { result ≡ is_plain_in is_text byte }
 {
     byte >= 0x20 && byte <= 0x7F && byte != b'<' && byte != b'&' && (is_text || byte != b']')
-}
-
-impl Scan {
-    ghost use Rattle.markup.specs.Tokenizers.{is_between, is_text, is_tag, is_reference_open, stuck_rule};
-
-    /// Whether a token begins behind another that is not the byte order mark.
-    #[inline]
-    fn is_between(self) -> bool
-        ensures { result ≡ is_between self }
-    {
-        matches!(
-            self,
-            Scan::Begin(Position::Text) | Scan::Begin(Position::Cdata)
-        )
-    }
-
-    /// Whether a token begins behind another that is not the byte order mark, in no CDATA section.
-    #[inline]
-    fn is_text(self) -> bool
-        ensures { result ≡ is_text self }
-    {
-        matches!(self, Scan::Begin(Position::Text))
-    }
-
-    /// Whether a start tag or an end tag is open.
-    pub(crate) fn is_tag(self) -> bool
-        ensures { result ≡ is_tag self }
-    {
-        matches!(
-            self,
-            Scan::StartName(_)
-                | Scan::Gap
-                | Scan::AttributeName(_)
-                | Scan::BeforeEquals
-                | Scan::AfterEquals
-                | Scan::Value(_, _)
-                | Scan::ValueReference(_, _)
-                | Scan::AfterValue
-                | Scan::Slash
-                | Scan::EndOpened
-                | Scan::EndName(_)
-                | Scan::EndGap
-        )
-    }
-
-    /// Whether a reference is open.
-    fn is_reference(self) -> bool
-        ensures { result ≡ is_reference_open self }
-    {
-        matches!(self, Scan::Reference(_) | Scan::ValueReference(_, _))
-    }
-
-    /// The rule that a character breaks with which no token goes on.
-    fn stuck_rule(self, c: char) -> Rule
-        ensures { result ≡ stuck_rule self c }
-    {
-        if !is_allowed(c) {
-            Rule::BadChar
-        } else if self.is_reference() {
-            Rule::BadReference
-        } else {
-            Rule::BadMarkup
-        }
-    }
 }
 
 impl Tokenizer {

@@ -1,6 +1,7 @@
 pub mod Errors
 pub mod Source
 pub mod Reading
+pub mod Pulls
 pub mod ReadErrors
 pub mod Sink
 pub mod Pushes

@@ -10,7 +10,7 @@ use Rattle.reference_check.specs.declared.reached.ReadyError.TheVariants as read
 use Rattle.message_model.specs.Ready.{TellsRefused}
 use Rattle.message_model.specs.Tables.{Tables}
 use Rattle.message_model.specs.declared.fault.Fault.{Fault}
-use Rattle.transcoder.specs.Reading.{RefusesBy}
+use Rattle.transcoder.specs.CheckErrors.{RefusesBy}
 use Rattle.transcoder.specs.declared.check_error.CheckError.{CheckError}
 use Rattle.transcoder.specs.declared.check_error.CheckError.TheVariants as check
 use Rattle.repo_engine.specs.Answer.{FromMessage, RefusesMessage, GivesTables}
@@ -42,7 +42,7 @@ not_failing (Err s) h e = h.1 e
 
 -- what was read to its end stays so, however the command ends but by a failed source
 pub read_on : {S : Type 0} (ended : Ended) (u : Use S) → ended ≢ Failing → IsSourceRead Whole u → IsSourceRead ended u
-read_on ended u other is = record { later = is.later; whole = λ e. is.whole refl; failed = λ e. absurd (other e) }
+read_on ended u other is = record { later = is.later; whole = λ e. is.whole refl; failed = λ e. absurd (other e); quiet = λ e. is.quiet (λ f. absurd (cc)) }
 
 pub both_on : {S T : Type 0} (second : Bool) (ended : Ended) (u : Use S) (v : Use T) → ended ≢ Failing → AreRead second Whole u v → AreRead second ended u v
 both_on second ended u v other (one first same none) = one (read_on ended u other first) same (λ e. none refl)

@@ -97,10 +97,10 @@ performs_command ws command repo codes inst held faults old new end form carries
   untouched = λ u. absurd (u command form);
   sources = λ other same. subst (λ k. AreUsed (pulled_by k).repository (pulled_by k).codes (pulled_by k).instance (source_ended_of end) repo codes inst) (one_command ws command other form same) carries.sources;
   verdict = λ r c i left. tells_more (Of command r c i) (Answer ws r c i) end _ _ (λ v h. inr (command, form, h))
-      (carries.verdict r c i (record { files = record { repository = left.files.repository command form; codes = left.files.codes command form }; instance = left.instance command form }));
+      (carries.verdict r c i (left command form));
   files_pulled = carries.files_pulled;
   instance_pulled = λ r c left. if_err _ _ end (other_answers (λ i. Of command r c i) (inst.left inst.old) (inst.left inst.new) (λ i. Answer ws r c i) (λ i v. asked r c i v))
-      (carries.instance_pulled r c (record { repository = left.repository command form; codes = left.codes command form }));
+      (carries.instance_pulled r c (left command form));
   out = carries.out;
 } where
   asked : (r c i : List ℕ) (v : Verdict) → Answer ws r c i v → Of command r c i v

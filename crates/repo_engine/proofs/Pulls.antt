@@ -3,6 +3,7 @@ use Rattle.std.proofs.Common.{◌≡◌, ◌≢◌, inl, inr, ℕ, List, Option,
 use Rattle.std.specs.Prelude.{IfErr}
 use Rattle.lexical_core.specs.declared.rule.Rule.{Rule}
 use Rattle.lexical_core.specs.declared.rule.Rule.TheVariants.{Truncated, DerTruncated}
+use Rattle.outside.specs.Pulls.{StopsSoon}
 use Rattle.outside.specs.declared.errors.SinkError.{SinkError}
 use Rattle.outside.specs.declared.errors.SinkError.TheVariants as sink
 use Rattle.data_types.specs.Value.{Value}
@@ -16,7 +17,7 @@ use Rattle.repo_objects.specs.Repository.{Contents}
 use Rattle.message_model.specs.Tables.{Tables}
 use Rattle.message_model.specs.declared.fault.Fault.{Fault}
 use Rattle.transcoder.specs.Checked.{HasXmlFault, HasDerFault}
-use Rattle.transcoder.specs.Pulls.{StopsSoon, PullsToFault, PullsToTransFault}
+use Rattle.transcoder.specs.Pulls.{MayBeFollowed, PullsToFault, PullsToTransFault}
 use Rattle.transcoder.specs.declared.check_error.CheckError.{CheckError}
 use Rattle.transcoder.specs.declared.check_error.CheckError.TheVariants as check
 use Rattle.transcoder.specs.declared.trans_error.TransError.{TransError}
@@ -115,9 +116,9 @@ module _ (Answers : List ℕ → Verdict → Type 0) (inst inst' : Option (List 
   -- no files are refused where a command of a compiled message stops
   pub no_files : {R C I : Type 0} (repo : Use R) (codes : Use C) (of : Use I) (stop : Stop) → StopsAtInstance Answers inst inst' stop → StopsFilesSoon repo codes of stop
   no_files repo codes of (Refused Words) p = tt
-  no_files repo codes of (Refused (Repository fault)) p = absurd p
-  no_files repo codes of (Refused (Codes rule number)) p = absurd p
-  no_files repo codes of (Refused (Message rule object)) p = absurd p
+  no_files repo codes of (Refused (Repository fault)) p = absurd p.1
+  no_files repo codes of (Refused (Codes rule number)) p = absurd p.1
+  no_files repo codes of (Refused (Message rule object)) p = absurd p.1
   no_files repo codes of (Refused (Instance fault)) p = tt
   no_files repo codes of ReadFault p = tt
   no_files repo codes of WriteFault p = tt
@@ -125,16 +126,6 @@ module _ (Answers : List ℕ → Verdict → Type 0) (inst inst' : Option (List 
 
   instance_soon : (Others : List ℕ → Verdict → Type 0) → ((i : List ℕ) (v : Verdict) → Others i v → Answers i v) → StopsSoon (HasNoFaultYet Answers) inst inst' → StopsSoon (HasNoFaultYet Others) inst inst'
   instance_soon Others from p = record { before = p.before; last = p.last; pulled = p.pulled; short = p.short; shows_none = λ v o. p.shows_none v (from p.before v o) }
-
-  pub stops_soon : (Others : List ℕ → Verdict → Type 0) → ((i : List ℕ) (v : Verdict) → Others i v → Answers i v) → (stop : Stop) → StopsAtInstance Answers inst inst' stop → StopsInstanceSoon Others inst inst' stop
-  stops_soon Others from (Refused Words) p = tt
-  stops_soon Others from (Refused (Repository fault)) p = tt
-  stops_soon Others from (Refused (Codes rule number)) p = tt
-  stops_soon Others from (Refused (Message rule object)) p = tt
-  stops_soon Others from (Refused (Instance fault)) p = instance_soon Others from p
-  stops_soon Others from ReadFault p = tt
-  stops_soon Others from WriteFault p = tt
-  stops_soon Others from Memory p = tt
 
   pub other_answers : (Others : List ℕ → Verdict → Type 0) → ((i : List ℕ) (v : Verdict) → Others i v → Answers i v) → (stop : Stop) → StopsInstanceSoon Answers inst inst' stop → StopsInstanceSoon Others inst inst' stop
   other_answers Others from (Refused Words) p = tt
@@ -146,31 +137,37 @@ module _ (Answers : List ℕ → Verdict → Type 0) (inst inst' : Option (List 
   other_answers Others from WriteFault p = tt
   other_answers Others from Memory p = tt
 
+  pub stops_soon : (Others : List ℕ → Verdict → Type 0) → ((i : List ℕ) (v : Verdict) → Others i v → Answers i v) → (stop : Stop) → StopsAtInstance Answers inst inst' stop → StopsInstanceSoon Others inst inst' stop
+  stops_soon Others from stop p = other_answers Others from stop p.0
+
   -- a command that refuses nothing
   pub unrefused : (end : End) → source_ended_of end ≢ Refusing → IfErr end (λ stop. StopsAtInstance Answers inst inst' stop)
   unrefused (Ok done) other = tt
   unrefused (Err (Refused refusal)) other = absurd (other refl)
-  unrefused (Err ReadFault) other = tt
-  unrefused (Err WriteFault) other = tt
-  unrefused (Err Memory) other = tt
+  unrefused (Err ReadFault) other = (tt, tt)
+  unrefused (Err WriteFault) other = (tt, tt)
+  unrefused (Err Memory) other = (tt, tt)
 
   pub push_ends_so : (push : Result (Unit {0}) SinkError) → IfErr (end_of push) (λ stop. StopsAtInstance Answers inst inst' stop)
   push_ends_so (Ok done) = tt
-  push_ends_so (Err sink.Failed) = tt
-  push_ends_so (Err sink.Memory) = tt
+  push_ends_so (Err sink.Failed) = (tt, tt)
+  push_ends_so (Err sink.Memory) = (tt, tt)
 
   module _ (HasFault : List ℕ → Fault → Type 0) (cut : Rule) (goes : (i : List ℕ) (v : Verdict) → Answers i v → ((fault : Fault) → HasFault i fault → fault.rule ≡ cut) → ShowsNoFault v) where
+    shows_no_fault : StopsSoon (MayBeFollowed HasFault cut) inst inst' → StopsSoon (HasNoFaultYet Answers) inst inst'
+    shows_no_fault p = record { before = p.before; last = p.last; pulled = p.pulled; short = p.short; shows_none = λ v a. goes p.before v a p.shows_none.1 }
+
     pub check_stops : (e : CheckError) → PullsToFault HasFault cut inst inst' e → StopsAtInstance Answers inst inst' (check_stop e)
-    check_stops (check.Refused fault) p = record { before = p.before; last = p.last; pulled = p.pulled; short = p.short; shows_none = λ v a. goes p.before v a p.shows_none.1 }
-    check_stops check.ReadFault p = tt
-    check_stops check.Memory p = tt
+    check_stops (check.Refused fault) p = (shows_no_fault p, tt)
+    check_stops check.ReadFault p = (tt, tt)
+    check_stops check.Memory p = (tt, tt)
 
     pub trans_stops : (r : Result (Unit {0}) TransError) → IfErr r (λ e. PullsToTransFault HasFault cut inst inst' e) → IfErr (trans_end r) (λ stop. StopsAtInstance Answers inst inst' stop)
     trans_stops (Ok done) p = tt
-    trans_stops (Err (trans.Refused fault)) p = record { before = p.before; last = p.last; pulled = p.pulled; short = p.short; shows_none = λ v a. goes p.before v a p.shows_none.1 }
-    trans_stops (Err trans.ReadFault) p = tt
-    trans_stops (Err trans.WriteFault) p = tt
-    trans_stops (Err trans.Memory) p = tt
+    trans_stops (Err (trans.Refused fault)) p = (shows_no_fault p, tt)
+    trans_stops (Err trans.ReadFault) p = (tt, tt)
+    trans_stops (Err trans.WriteFault) p = (tt, tt)
+    trans_stops (Err trans.Memory) p = (tt, tt)
 
 -- ---- bytes that have no fault but that they end too early
 

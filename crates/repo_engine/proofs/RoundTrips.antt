@@ -7,9 +7,9 @@ use Rattle.message_model.specs.Tables.{Tables, message_of}
 use Rattle.der_model.specs.DerMessage.{der_message}
 use Rattle.der_model.specs.Der.{SpellsDer, der_of}
 use Rattle.xml_instances.specs.SpellsXml.{SpellsXml}
-use Rattle.xml_instances.specs.XmlFaults.{xml_limit}
 use Rattle.xml_writer.specs.CanonXml.{IsCanonXml}
 use Rattle.xml_writer.specs.SpellingLaw.{CompiledSpells}
+use Rattle.transcoder.specs.Limited.{most_bytes}
 use Rattle.transcoder.specs.Laws.{OneVerdict, HaveOneVerdict, OneDerVerdict, HaveOneDerVerdict, AreSoundTypes}
 use Rattle.repo_engine.specs.Answer.{OfVerb, GivesXml, GivesTables}
 use Rattle.repo_engine.specs.RoundTrips.{XmlComesBack, DerComesBack}
@@ -28,8 +28,8 @@ sound_types sound R id T (ready, (ids, reached, made)) = sound R id ids T ready 
 -- both forms spell the same value
 module _ (T : Tables) (xml der : List ℕ) (w : Value)
     (one_xml : HaveOneVerdict T xml) (one_der : HaveOneDerVerdict T der)
-    (xml_is : SpellsXml (message_of T) xml w) (xml_short : length xml ≤ xml_limit)
-    (der_is : SpellsDer (der_message T) der w) (der_short : length der ≤ xml_limit) where
+    (xml_is : SpellsXml (message_of T) xml w) (xml_short : length xml ≤ most_bytes)
+    (der_is : SpellsDer (der_message T) der w) (der_short : length der ≤ most_bytes) where
   same_answers : (v : Verdict) → OfVerb DerToXml der T v ↔ OfVerb CanonXml xml T v
   same_answers v = (there, back)
     where
@@ -48,7 +48,7 @@ xml_comes_back sound one_verdict one_der_verdict R id T xml der gives (goes_on w
     same_answers T xml der w (one_verdict T xml types) (one_der_verdict T der types) spelled xml_short (spelled.instance.admitted, ap text_of is) short
 
 -- what `xml-to-der` answers to XML of a value
-der_answer : (T : Tables) (xml der : List ℕ) (w : Value) → HaveOneVerdict T xml → SpellsXml (message_of T) xml w → length xml ≤ xml_limit → der ≡ der_of (der_message T) w
+der_answer : (T : Tables) (xml der : List ℕ) (w : Value) → HaveOneVerdict T xml → SpellsXml (message_of T) xml w → length xml ≤ most_bytes → der ≡ der_of (der_message T) w
     → (v : Verdict) → OfVerb XmlToDer xml T v ↔ (v ≡ accepted der)
 der_answer T xml der w one_xml xml_is xml_short same v = (there, λ is. goes_on w (xml_is, xml_short) (is ∙ ap accepted same))
   where

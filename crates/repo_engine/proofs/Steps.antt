@@ -1,5 +1,5 @@
 -- The steps that read a repository and its codes, and those that give one verdict alone.
-use Rattle.std.proofs.Common.{inl, inr, ℕ, List, Result, Ok, Err}
+use Rattle.std.proofs.Common.{◌≡◌, inl, inr, ℕ, List, Result, Ok, Err}
 use Rattle.std.specs.Prelude.{IfOk, IfErr}
 use Rattle.repo_objects.specs.Repository.{Contents}
 use Rattle.repo_engine.specs.Answer.{FromRepository, GivesRepository}
@@ -22,6 +22,10 @@ stops_by A B (Refused refusal) f h = f _ h
 stops_by A B ReadFault f h = tt
 stops_by A B WriteFault f h = tt
 stops_by A B Memory f h = tt
+
+-- an answer has one error
+pub same_error : {T E : Type 0} (r : Result T E) (a b : E) → r ≡ Err a → r ≡ Err b → a ≡ b
+same_error r a b is at = cc
 
 -- what follows of an answer
 pub if_ok : {T E : Type 0} (A B : T → Type 0) (r : Result T E) → ((x : T) → A x → B x) → IfOk r A → IfOk r B

@@ -83,9 +83,10 @@ module _ {O : Type 0} (held : O → Option (List ℕ)) (faults room : O → ℕ)
   failing_transcoded (Err trans.Memory) e = absurd (cc)
 
   pub read_transcoded : {S : Type 0} (u : Use S) → u.left u.new ≡ left' → u.faults u.old ≤ u.faults u.new → (result ≡ Err trans.ReadFault → Rose (u.faults u.old) (u.faults u.new))
-      → IsTranscoded held faults room IsText HasFault left left' old new result → IsSourceRead (source_ended_of (trans_end result)) u
-  read_transcoded u at later rose t = record {
+      → ((result ≡ Err trans.ReadFault → ⊥) → u.faults u.new ≡ u.faults u.old) → IsTranscoded held faults room IsText HasFault left left' old new result → IsSourceRead (source_ended_of (trans_end result)) u
+  read_transcoded u at later rose same t = record {
     later = later;
     whole = λ e. subst IsAtEnd (sym at) (whole_transcoded t e);
     failed = λ e. rose (failing_transcoded result e);
+    quiet = λ other. same (λ is. other (ap (λ (r : Result (Unit {0}) TransError). source_ended_of (trans_end r)) is));
   }

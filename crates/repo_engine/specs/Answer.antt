@@ -14,13 +14,13 @@ use Rattle.message_model.specs.Tables.{Tables, message_of}
 use Rattle.message_model.specs.declared.fault.Fault.{Fault}
 use Rattle.der_model.specs.DerMessage.{der_message}
 use Rattle.der_model.specs.Der.{SpellsDer, der_of}
-use Rattle.xml_instances.specs.XmlFaults.{xml_limit}
 use Rattle.xml_instances.specs.SpellsXml.{SpellsXml}
 use Rattle.xml_writer.specs.CanonXml.{IsCanonXml}
 use Rattle.xsd_model.specs.SchemaOf.{schema_of}
 use Rattle.xsd_model.specs.SchemaText.{schema_text}
 use Rattle.asn1_model.specs.ModuleOf.{module_of}
 use Rattle.asn1_model.specs.ModuleText.{module_text}
+use Rattle.transcoder.specs.Limited.{most_bytes}
 use Rattle.transcoder.specs.Checked.{HasXmlFault, HasDerFault}
 use Rattle.drill.specs.Drilled.{IsDrilled}
 use Rattle.drill.specs.declared.drilling.Drilled.{Drilled}
@@ -96,7 +96,7 @@ RefusesAsXml T i v = (fault : Fault) × HasXmlFault T i fault × (v ≡ refused 
 
 -- the bytes, no more than the limit, are XML of an instance with this value
 abbrev pub GivesXmlValue : Tables → List ℕ → Value → Type 0
-GivesXmlValue T i value = SpellsXml (message_of T) i value × (length i ≤ xml_limit)
+GivesXmlValue T i value = SpellsXml (message_of T) i value × (length i ≤ most_bytes)
 
 -- an instance is read from XML
 abbrev pub FromXml : Tables → List ℕ → (Value → Verdict → Type 0) → Verdict → Type 0
@@ -108,7 +108,7 @@ RefusesAsDer T i v = (fault : Fault) × HasDerFault T i fault × (v ≡ refused 
 
 -- the bytes, no more than the limit, are the DER of an instance with this value
 abbrev pub GivesDerValue : Tables → List ℕ → Value → Type 0
-GivesDerValue T i value = SpellsDer (der_message T) i value × (length i ≤ xml_limit)
+GivesDerValue T i value = SpellsDer (der_message T) i value × (length i ≤ most_bytes)
 
 -- an instance is read from DER
 abbrev pub FromDer : Tables → List ℕ → (Value → Verdict → Type 0) → Verdict → Type 0

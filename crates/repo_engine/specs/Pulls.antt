@@ -2,9 +2,9 @@
 use Rattle.std.specs.Prelude.{◌≡◌, ◌⊎◌, ℕ, List, Option}
 use Rattle.lexical_core.specs.declared.rule.Rule.{Rule}
 use Rattle.lexical_core.specs.declared.rule.Rule.TheVariants.{Truncated, DerTruncated}
-use Rattle.repo_loader.specs.LoadErrors.{EndsWithPiece}
+use Rattle.outside.specs.Pulls.{StopsSoon}
+use Rattle.repo_loader.specs.LoadErrors.{ShowsNoLoadFault}
 use Rattle.code_sets.specs.CodesErrors.{AreCodesPulled}
-use Rattle.transcoder.specs.Pulls.{StopsSoon}
 use Rattle.repo_engine.specs.Sources.{Use, Untouched}
 use Rattle.repo_engine.specs.Verdict.{Verdict, accepted, refused}
 use Rattle.repo_engine.specs.declared.refusal.Refusal.TheVariants.{Repository, Codes, Message, Instance}
@@ -14,7 +14,7 @@ use Rattle.repo_engine.specs.declared.refusal.Stop.TheVariants.{Refused}
 -- Where a repository is refused it was pulled no further than one pull behind bytes that show no fault yet, and what is read behind it is not touched. Where
 -- its codes are refused, they were read to their end or to one byte beyond their limit, and the instance is not touched; nor is it where a message is refused.
 abbrev pub StopsFilesSoon : {R C I : Type 0} → Use R → Use C → Use I → Stop → Type 0
-StopsFilesSoon repo codes inst (Refused (Repository fault)) = EndsWithPiece (repo.left repo.old) (repo.left repo.new) × Untouched codes × Untouched inst
+StopsFilesSoon repo codes inst (Refused (Repository fault)) = StopsSoon ShowsNoLoadFault (repo.left repo.old) (repo.left repo.new) × Untouched codes × Untouched inst
 StopsFilesSoon repo codes inst (Refused (Codes rule number)) = AreCodesPulled (codes.left codes.old) (codes.left codes.new) × Untouched inst
 StopsFilesSoon repo codes inst (Refused (Message rule object)) = Untouched inst
 StopsFilesSoon repo codes inst stop = Unit {0}

@@ -22,15 +22,22 @@ use Rattle.repo_engine.specs.Verdict.{Verdict, accepted, refused, stop_line, sto
 abbrev pub End : Type 0
 End = Result (Unit {0}) Stop
 
--- the repository and its codes tell these bytes, where the command pulls from them
-pub record AreFilesTold (ws : List (List ℕ)) (repo_left codes_left : Option (List ℕ)) (r c : List ℕ) : Type 0 where
-  pub repository : (command : Command) → HasCommandForm ws command → (pulled_by command).repository ≡ true → repo_left ≡ Some r
-  pub codes : (command : Command) → HasCommandForm ws command → (pulled_by command).codes ≡ true → codes_left ≡ Some c
+-- the repository and its codes tell these bytes, where a command pulls from them
+pub record HasFilesTold (command : Command) (repo_left codes_left : Option (List ℕ)) (r c : List ℕ) : Type 0 where
+  pub repository : (pulled_by command).repository ≡ true → repo_left ≡ Some r
+  pub codes : (pulled_by command).codes ≡ true → codes_left ≡ Some c
 
--- the sources that the command pulls from have these bytes left
-pub record AreSourcesLeft (ws : List (List ℕ)) (repo_left codes_left inst_left : Option (List ℕ)) (r c i : List ℕ) : Type 0 where
-  pub files : AreFilesTold ws repo_left codes_left r c
-  pub instance : (command : Command) → HasCommandForm ws command → (pulled_by command).instance ≡ true → inst_left ≡ Some i
+-- the sources that a command pulls from have these bytes left
+pub record HaveLeft (command : Command) (repo_left codes_left inst_left : Option (List ℕ)) (r c i : List ℕ) : Type 0 where
+  pub files : HasFilesTold command repo_left codes_left r c
+  pub instance : (pulled_by command).instance ≡ true → inst_left ≡ Some i
+
+-- the same of the command that words ask for
+abbrev pub AreFilesTold : List (List ℕ) → Option (List ℕ) → Option (List ℕ) → List ℕ → List ℕ → Type 0
+AreFilesTold ws repo_left codes_left r c = (command : Command) → HasCommandForm ws command → HasFilesTold command repo_left codes_left r c
+
+abbrev pub AreSourcesLeft : List (List ℕ) → Option (List ℕ) → Option (List ℕ) → Option (List ℕ) → List ℕ → List ℕ → List ℕ → Type 0
+AreSourcesLeft ws repo_left codes_left inst_left r c i = (command : Command) → HasCommandForm ws command → HaveLeft command repo_left codes_left inst_left r c i
 
 -- The verdict that the end tells, and what went out with it: the whole text where it is Ok, and where a refusal has one. After a fault of a
 -- sink or want of memory, a front of the text that Ok would have brought, or nothing.

@@ -6,9 +6,10 @@ use Rattle.markup.specs.Marks.{Marks}
 use Rattle.markup.specs.Faults.{IsClean, is_over}
 use Rattle.repo_objects.specs.Repository.{Contents}
 use Rattle.message_model.specs.Tables.{Tables}
-use Rattle.xml_instances.specs.XmlFaults.{items, xml_limit}
+use Rattle.xml_instances.specs.XmlFaults.{items}
 use Rattle.xsd_model.specs.SchemaOf.{schema_of}
 use Rattle.xsd_model.specs.Trees.{IsValid}
+use Rattle.transcoder.specs.Limited.{most_bytes}
 use Rattle.transcoder.specs.Checked.{IsAccepted}
 use Rattle.repo_engine.specs.Answer.{GivesTables}
 
@@ -22,5 +23,5 @@ pub record SpellsTree (bytes : List ℕ) (t : Tree) : Type 0 where
 
 -- Bytes of at most the limit are accepted exactly where they are XML of a tree that the schema of the message admits.
 abbrev pub SchemaAdmitsWhatIsAccepted : Type 0
-SchemaAdmitsWhatIsAccepted = (R : Contents) (id : List ℕ) (T : Tables) (bytes : List ℕ) → GivesTables R id T → length bytes ≤ xml_limit
+SchemaAdmitsWhatIsAccepted = (R : Contents) (id : List ℕ) (T : Tables) (bytes : List ℕ) → GivesTables R id T → length bytes ≤ most_bytes
     → IsAccepted T bytes ↔ ((t : Tree) × SpellsTree bytes t × IsValid (schema_of T) t)

@@ -37,11 +37,12 @@ source_ended_of (Err stop) = stop_ended stop
 abbrev pub Untouched : {S : Type 0} → Use S → Type 0
 Untouched u = u.new ≡ u.old
 
--- What is left of a source that was read: nothing, where all was read. Its count of faults never falls, and rose where reading failed.
+-- What is left of a source that was read: nothing, where all was read. Its count of faults rose where reading failed, and stays where it did not.
 pub record IsSourceRead {S : Type 0} (ended : Ended) (u : Use S) : Type 0 where
   pub later : u.faults u.old ≤ u.faults u.new
   pub whole : ended ≡ Whole → IsAtEnd (u.left u.new)
   pub failed : ended ≡ Failing → Rose (u.faults u.old) (u.faults u.new)
+  pub quiet : ended ≢ Failing → u.faults u.new ≡ u.faults u.old
 
 -- The second source is read behind the whole of the first; where a command does not pull from it, not at all.
 pub data AreRead {S T : Type 0} (second : Bool) (ended : Ended) (u : Use S) (v : Use T) : Type 0 where

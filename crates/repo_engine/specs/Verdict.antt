@@ -12,7 +12,7 @@ use Rattle.repo_engine.specs.declared.refusal.Stop.TheVariants as stop
 use Rattle.repo_engine.specs.declared.status.Status.{Status}
 use Rattle.repo_engine.specs.declared.status.Status.TheVariants as status
 
--- accepted, with the text that goes out; or refused, with what goes out all the same
+-- accepted, with the text that goes out; or refused, with what goes out all the same, which is nothing of any command that there is
 pub data Verdict : Type 0 where
   accepted : (text : List ℕ) → Verdict
   refused : (refusal : Refusal) (text : List ℕ) → Verdict

@@ -9,8 +9,7 @@
 //! refused: instance Missing at 71 in /Document[1]/Note[1]/Id
 //! ```
 //!
-//! No call gives a `Stop` or a `Refusal`: in these words the contract of `run` says how a command ends. Written out they are
-//! the line that is noted, without its end.
+//! No call gives a `Stop` or a `Refusal`: in these words the contract of `run` says how a command ends.
 #![tactic(auto)]
 
 mod asn1;

@@ -10,8 +10,6 @@ use lexical_core::Text;
 use message_model::Fault;
 use outside::{Part, Render, Sink, SinkError, WriteError, push_bytes, render_all};
 use repo_loader::LoadFault;
-use std::error::Error;
-use std::fmt;
 
 /// Why words or bytes are refused.
 #[derive(Debug, Drop)]
@@ -41,53 +39,6 @@ pub enum Stop {
     /// Memory was wanted and not had.
     Memory,
 }
-
-/// The line that is noted, without its end.
-impl fmt::Display for Stop {
-    ghost use Rattle.std.specs.Prelude.{Some};
-    ghost use Rattle.repo_engine.specs.ErrorTexts.{stop_text};
-
-    ghost output = { λ s. Some (stop_text s) };
-
-    fn fmt<W: fmt::Write>(&self, f: &mut fmt::Formatter<W>) -> fmt::Result {
-        match self {
-            Stop::Refused(refusal) => write!(f, "{refusal}"),
-            Stop::ReadFault => write!(f, "failed: read"),
-            Stop::WriteFault => write!(f, "failed: write"),
-            Stop::Memory => write!(f, "failed: memory"),
-        }
-    }
-}
-
-impl Error for Stop {}
-
-/// The line that is noted, without its end; where an object or a path is not UTF-8, without that too.
-impl fmt::Display for Refusal {
-    ghost use Rattle.std.specs.Prelude.{Some};
-    ghost use Rattle.repo_engine.specs.ErrorTexts.{refusal_text};
-
-    ghost output = { λ r. Some (refusal_text r) };
-
-    fn fmt<W: fmt::Write>(&self, f: &mut fmt::Formatter<W>) -> fmt::Result {
-        match self {
-            Refusal::Words => write!(f, "refused: words"),
-            Refusal::Repository(fault) => write!(f, "refused: repository {fault}"),
-            Refusal::Codes { rule, number } => {
-                if *number == 0 {
-                    return write!(f, "refused: codes C{rule}");
-                }
-                write!(f, "refused: codes C{rule} at record {number}")
-            }
-            Refusal::Message { rule, object } => match std::str::from_utf8(object.bytes()) {
-                Ok(object) => write!(f, "refused: message M{rule} at {object}"),
-                Err(_) => write!(f, "refused: message M{rule}"),
-            },
-            Refusal::Instance(fault) => write!(f, "refused: instance {fault}"),
-        }
-    }
-}
-
-impl Error for Refusal {}
 
 impl Stop {
     /// The status that the command ends with, where its line is noted.

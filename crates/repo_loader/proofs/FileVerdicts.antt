@@ -6,6 +6,7 @@ use Rattle.std.proofs.Math.Seq.{take-append_seam}
 use Rattle.std.specs.Io.KnownBytes.{Consumes, IsAtEnd}
 use Rattle.std.proofs.KnownBytes.{Consumes-trans}
 use Rattle.lexical_core.specs.declared.rule.Rule.TheVariants.{Truncated}
+use Rattle.outside.specs.Pulls.{pull_limit, StopsSoon}
 use Rattle.outside.proofs.Consumed.{known}
 use Rattle.markup.specs.Token.{Token}
 use Rattle.markup.specs.Marks.{Front, tag_limit}
@@ -23,7 +24,7 @@ use Rattle.repo_loader.specs.Selected.{FileTag, PlacedTag, event_tags}
 use Rattle.repo_loader.specs.File.{contents_of}
 use Rattle.repo_loader.specs.FileFaults.{AreSoundTags}
 use Rattle.repo_loader.specs.Loaded.{file_limit, token_tags, Spells, HasLoadFault, broken, markup, long}
-use Rattle.repo_loader.specs.LoadErrors.{EndsWithPiece, piece_limit}
+use Rattle.repo_loader.specs.LoadErrors.{ShowsNoLoadFault}
 use Rattle.repo_loader.specs.inner.SelectionSteps.{HasLoaded, tags_told}
 use Rattle.repo_loader.specs.inner.ProgressSteps.{markup_fault, HasReadFile, ReadsOn, ShowsLoadFault, HasWhole, HasAll, HasReadWithRoom}
 use Rattle.repo_loader.proofs.OneLoadFault.{Rest, tags_append, not_sound}
@@ -157,10 +158,10 @@ module _ (old now : Option (List ℕ)) (room : ℕ) (p : Progress) (h : HasReadW
       }
 
   -- what was pulled before shows no fault
-  pub last_piece : NoFaultTaken → length xs ≤ piece_limit → EndsWithPiece old next
+  pub last_piece : NoFaultTaken → length xs ≤ pull_limit → StopsSoon ShowsNoLoadFault old next
   last_piece none few = let c = h.counted in record {
     before = h.taken_are;
-    piece = xs;
+    last = xs;
     pulled = Consumes-trans old now next h.taken_are xs h.front consumes;
     short = few;
     shows_none = shows_none p h.taken_are h.read none (omega (arith, c));

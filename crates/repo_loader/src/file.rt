@@ -4,7 +4,7 @@ ghost use Rattle.std.specs.Io.KnownBytes.{IsAtEnd};
 ghost use Rattle.outside.specs.Source.{Rose};
 ghost use Rattle.repo_loader.specs.Loaded.{Spells};
 ghost use Rattle.repo_loader.specs.inner.ProgressSteps.{HasReadFile, HasAll};
-ghost use Rattle.repo_loader.specs.LoadErrors.{RefusesFile, IsFaultOfBytes, PullsForFault, IsCaused};
+ghost use Rattle.repo_loader.specs.LoadErrors.{RefusesFile, IsFaultOfBytes, PullsForFault};
 
 use crate::fault::{LoadError, LoadFault};
 use crate::progress::Progress;
@@ -13,7 +13,7 @@ use repo_objects::Repository;
 use std::alloc::{AllocError, Global};
 
 /// How many bytes a repository file has at most.
-const LIMIT: usize = 2147483648;
+const LIMIT: usize = 1 << 31;
 
 /// How many bytes are asked of a source at once.
 const PIECE: usize = 65536;
@@ -38,7 +38,7 @@ fn too_long() -> LoadFault
 }
 
 /// Reads the bytes that the source has left: to their end, to the piece that shows a fault, or to
-/// the first byte beyond the limit.
+/// the first byte beyond the limit. A failed pull is not tried again.
 fn read_to_end<R: Source>(
     piece: &mut [u8],
     progress: &mut Progress,
@@ -52,8 +52,9 @@ fn read_to_end<R: Source>(
     ensures err { IfErr result (λ e. IfSome (R.left source.old) (λ bytes. RefusesFile bytes e)) }
     ensures placed { IfErr result (λ e. IsFaultOfBytes e) }
     ensures pulled { IfErr result (λ e. PullsForFault (R.left source.old) (R.left source.new) e) }
-    ensures cause { IfErr result (λ e. IsCaused (R.faults source.old) (R.faults source.new) e) }
+    ensures fault { IsErrOf result LoadError.ReadFault → Rose (R.faults source.old) (R.faults source.new) }
     ensures later { R.faults source.old ≤ R.faults source.new }
+    ensures same { (IsErrOf result LoadError.ReadFault → ⊥) → R.faults source.new ≡ R.faults source.old }
 {
     markup::laws::no_fault_taken();
     let mut room = LIMIT;
@@ -95,6 +96,7 @@ fn load_into<R: Source>(
     ensures pulled { IfErr result (λ e. PullsForFault (R.left source.old) (R.left source.new) e) }
     ensures fault { IsErrOf result LoadError.ReadFault → Rose (R.faults source.old) (R.faults source.new) }
     ensures later { R.faults source.old ≤ R.faults source.new }
+    ensures same { (IsErrOf result LoadError.ReadFault → ⊥) → R.faults source.new ≡ R.faults source.old }
 {
     if let Err(error) = read_to_end(piece, progress, source) {
         return Err(error);
@@ -103,7 +105,7 @@ fn load_into<R: Source>(
 }
 
 /// The repository that the bytes spell which the source has left. They are read to their end, to
-/// the piece that shows a fault, or to the first byte beyond the limit.
+/// the piece that shows a fault, or to the first byte beyond the limit. A failed pull is not tried again.
 pub fn load<R: Source>(alloc: Global, source: &mut R) -> Result<Repository, LoadError>
     ensures ok { IfOk result (λ r. IfSome (R.left source.old) (λ bytes. Spells bytes r)) }
     ensures whole { OnOk result (IsAtEnd (R.left source.new)) }
@@ -112,6 +114,7 @@ pub fn load<R: Source>(alloc: Global, source: &mut R) -> Result<Repository, Load
     ensures pulled { IfErr result (λ e. PullsForFault (R.left source.old) (R.left source.new) e) }
     ensures fault { IsErrOf result LoadError.ReadFault → Rose (R.faults source.old) (R.faults source.new) }
     ensures later { R.faults source.old ≤ R.faults source.new }
+    ensures same { (IsErrOf result LoadError.ReadFault → ⊥) → R.faults source.new ≡ R.faults source.old }
 {
     let mut buffer = piece_buffer(alloc)?;
     let mut progress = Progress::new(alloc);

@@ -1,7 +1,6 @@
-pub mod OneVerdict
 pub mod Readings
-pub mod SomeVerdict
+pub mod Limits
 pub mod XmlFaults
 pub mod DerFaults
-pub mod DerVerdicts
+pub mod Verdicts
 pub mod Transcodings

@@ -8,15 +8,16 @@ use Rattle.std.specs.Io.KnownBytes.{Consumes, IsAtEnd, Keeps}
 use Rattle.std.proofs.KnownBytes.{Consumes-nil, Consumes-kept, Consumes-trans, Consumes-whole}
 use Rattle.lexical_core.specs.declared.rule.Rule.{Rule}
 use Rattle.lexical_core.proofs.Lists.{take_past}
+use Rattle.outside.specs.Pulls.{pull_limit, StopsSoon}
 use Rattle.message_model.specs.declared.fault.Fault.{Fault}
 use Rattle.message_model.specs.declared.fault.InstanceError.{InstanceError}
 use Rattle.message_model.specs.declared.fault.InstanceError.TheVariants as reader
 use Rattle.transcoder.specs.declared.check_error.CheckError.{CheckError}
 use Rattle.transcoder.specs.declared.check_error.CheckError.TheVariants.{Refused, ReadFault, Memory}
-use Rattle.transcoder.specs.CheckErrors.{check_error}
-use Rattle.transcoder.specs.Limited.{most_bytes, IsLimited, within, before, open_at, over_at, ShowsFault, StopsAt, EndsBy}
-use Rattle.transcoder.specs.Pulls.{pull_limit, StopsSoon, PullsToFault}
-use Rattle.transcoder.specs.Reading.{WasFed, HasReadSource, HasReadBeyond, RefusesBy, IsOfSome, SaysError, ReadsTo, EndsBeyond, end_told, Concludes, GivesSome}
+use Rattle.transcoder.specs.CheckErrors.{check_error, RefusesBy, IsOfSome}
+use Rattle.transcoder.specs.Limited.{most_bytes, IsLimited, within, before, open_at, over_at}
+use Rattle.transcoder.specs.inner.Reading.{ShowsFault, StopsAt, EndsBy, WasFed, HasReadSource, HasReadBeyond, SaysError, ReadsTo, EndsBeyond, end_told, Concludes, GivesSome}
+use Rattle.transcoder.specs.Pulls.{PullsToFault}
 use Rattle.transcoder.specs.declared.reading.Extent.{Extent}
 use Rattle.transcoder.specs.declared.reading.Extent.TheVariants.{Whole, Longer}
 

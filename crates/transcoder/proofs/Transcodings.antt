@@ -1,5 +1,5 @@
 -- What is written of an instance that was read.
-use Rattle.std.proofs.Common.{◌≡◌, ℕ, ◌≤◌, List, length, Option, Some, None, IfSome, IfErr, Result, Ok, Err, sym, subst}
+use Rattle.std.proofs.Common.{◌≡◌, ℕ, ◌≤◌, List, length, Option, Some, None, IfSome, IfErr, Result, Ok, Err, sym, ap, ◌∙◌, subst}
 use Rattle.std.specs.Io.KnownBytes.{IsAtEnd}
 use Rattle.lexical_core.specs.declared.rule.Rule.{Rule}
 use Rattle.outside.specs.declared.errors.WriteError.{WriteError}
@@ -12,11 +12,19 @@ use Rattle.message_model.specs.declared.fault.Fault.{Fault}
 use Rattle.transcoder.specs.declared.check_error.CheckError.{CheckError}
 use Rattle.transcoder.specs.declared.check_error.CheckError.TheVariants as check
 use Rattle.transcoder.specs.declared.trans_error.TransError.{TransError}
+use Rattle.transcoder.specs.declared.trans_error.TransError.TheVariants as trans
 use Rattle.transcoder.specs.Checked.{HoldsAs}
 use Rattle.transcoder.specs.Limited.{most_bytes}
 use Rattle.transcoder.specs.Pulls.{PullsToFault, PullsToTransFault}
 use Rattle.transcoder.specs.TransErrors.{trans_error, written_end}
 use Rattle.transcoder.specs.Transcoding.{IsTranscoded, IsWrittenOut, pushed}
+
+-- a failed source is told as such
+abbrev stopped_by : TransError → Result (Unit {0}) TransError
+stopped_by e = Err e
+
+pub failed : {W : Type 0} (read : Result W CheckError) (e : CheckError) (told : TransError) → read ≡ Err e → told ≡ trans_error e → read ≡ Err check.ReadFault → stopped_by told ≡ stopped_by trans.ReadFault
+failed read e told is is_told at = (let same : e ≡ check.ReadFault = cc in ap stopped_by (is_told ∙ ap trans_error same))
 
 module _ (HasFault : List ℕ → Fault → Type 0) (cut_rule : Rule) (old new : Option (List ℕ)) where
   -- how far the source was pulled is as the reading's error tells it

@@ -1,9 +1,9 @@
 pub mod CheckErrors
 pub mod Limited
 pub mod Pulls
-pub mod Reading
 pub mod Checked
 pub mod TransErrors
 pub mod ErrorTexts
 pub mod Transcoding
 pub mod Laws
+pub mod inner

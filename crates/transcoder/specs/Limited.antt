@@ -1,11 +1,8 @@
--- The first fault of bytes that may be more than an instance has at most, by what the first fault of bytes is; and what a reader that stops, or ends,
--- says of it.
-use Rattle.std.specs.Prelude.{◌≡◌, ◌≢◌, ℕ, ◌<◌, ◌≤◌, ◌^◌, List, ◌++◌, length, take, codes}
+-- The first fault of bytes that may be more than an instance has at most, by what the first fault of bytes is.
+use Rattle.std.specs.Prelude.{◌≡◌, ◌≢◌, ℕ, ◌<◌, ◌≤◌, ◌^◌, List, length, take, codes}
 use Rattle.lexical_core.specs.declared.rule.Rule.{Rule}
 use Rattle.lexical_core.specs.declared.rule.Rule.TheVariants.{InputTooLong}
 use Rattle.message_model.specs.declared.fault.Fault.{Fault}
-use Rattle.message_model.specs.declared.fault.InstanceError.{InstanceError}
-use Rattle.message_model.specs.declared.fault.InstanceError.TheVariants.{Refused, Memory}
 
 -- how many bytes an instance has at most
 abbrev pub most_bytes : ℕ
@@ -21,18 +18,3 @@ pub data IsLimited (IsFaulty : List ℕ → Fault → Type 0) (IsInstance : List
   before : most_bytes < length bytes → IsFaulty (take most_bytes bytes) fault → fault.rule ≢ cut_rule → IsLimited IsFaulty IsInstance cut_rule bytes fault
   open_at : (f : Fault) → most_bytes < length bytes → IsFaulty (take most_bytes bytes) f → f.rule ≡ cut_rule → fault ≡ too_many f.path → IsLimited IsFaulty IsInstance cut_rule bytes fault
   over_at : most_bytes < length bytes → IsInstance (take most_bytes bytes) → fault ≡ too_many (codes "/") → IsLimited IsFaulty IsInstance cut_rule bytes fault
-
--- The bytes have this first fault, whatever follows them, and it is not that they end too early.
-pub record ShowsFault (IsFaulty : List ℕ → Fault → Type 0) (cut_rule : Rule) (bytes : List ℕ) (fault : Fault) : Type 0 where
-  pub has_fault : (behind : List ℕ) → IsFaulty (bytes ++ behind) fault
-  pub no_cut : fault.rule ≢ cut_rule
-
--- why a reader does not go on
-abbrev pub StopsAt : (List ℕ → Fault → Type 0) → Rule → List ℕ → InstanceError → Type 0
-StopsAt IsFaulty cut_rule bytes (Refused fault) = ShowsFault IsFaulty cut_rule bytes fault
-StopsAt IsFaulty cut_rule bytes Memory = Unit {0}
-
--- why the bytes are refused at their end
-abbrev pub EndsBy : (List ℕ → Fault → Type 0) → List ℕ → InstanceError → Type 0
-EndsBy IsFaulty bytes (Refused fault) = IsFaulty bytes fault
-EndsBy IsFaulty bytes Memory = Unit {0}

@@ -1,25 +1,13 @@
 -- How far a source is pulled where its instance is refused.
-use Rattle.std.specs.Prelude.{◌≡◌, ℕ, ◌≤◌, List, ◌++◌, length, Option}
-use Rattle.std.specs.Io.KnownBytes.{Consumes}
+use Rattle.std.specs.Prelude.{◌≡◌, ℕ, ◌≤◌, List, length, Option}
 use Rattle.lexical_core.specs.declared.rule.Rule.{Rule}
+use Rattle.outside.specs.Pulls.{StopsSoon}
 use Rattle.message_model.specs.declared.fault.Fault.{Fault}
 use Rattle.transcoder.specs.declared.check_error.CheckError.{CheckError}
 use Rattle.transcoder.specs.declared.check_error.CheckError.TheVariants as check
 use Rattle.transcoder.specs.declared.trans_error.TransError.{TransError}
 use Rattle.transcoder.specs.declared.trans_error.TransError.TheVariants as trans
 use Rattle.transcoder.specs.Limited.{most_bytes}
-
--- how many bytes are asked of a source at once
-abbrev pub pull_limit : ℕ
-pull_limit = 65536
-
--- What was pulled of a source, but for no more of its last bytes than one pull gives, shows nothing that ends the reading.
-pub record StopsSoon (ShowsNone : List ℕ → Type 0) (old new : Option (List ℕ)) : Type 0 where
-  pub before : List ℕ
-  pub last : List ℕ
-  pub pulled : Consumes old new (before ++ last)
-  pub short : length last ≤ pull_limit
-  pub shows_none : ShowsNone before
 
 -- the bytes have no fault but that they end too early
 abbrev pub MayBeFollowed : (List ℕ → Fault → Type 0) → Rule → List ℕ → Type 0

@@ -6,7 +6,7 @@ use Rattle.outside.specs.declared.errors.WriteError.{WriteError}
 use Rattle.message_model.specs.declared.fault.Fault.{Fault}
 use Rattle.transcoder.specs.declared.check_error.CheckError.{CheckError}
 use Rattle.transcoder.specs.declared.trans_error.TransError.{TransError}
-use Rattle.transcoder.specs.Reading.{RefusesBy}
+use Rattle.transcoder.specs.CheckErrors.{RefusesBy}
 use Rattle.transcoder.specs.TransErrors.{trans_error, written_end}
 
 -- The bytes are refused, or could not be read, and the sink is as it was; or they are an instance, the source is at its end, and a text

@@ -28,8 +28,6 @@ pub fn check_xml<I: Source>(alloc: Global, model: &Model, source: &mut I) -> Res
     ensures same { (IsErrOf result CheckError.ReadFault → ⊥) → I.faults source.new ≡ I.faults source.old }
 {
     xml_instances::laws::only_cut();
-    xml_instances::laws::spelled_has_none();
-    let _ = model.type_count();
     let checker = XmlChecker::new(alloc, model)?;
     read_instance(alloc, model, source, checker)
 }

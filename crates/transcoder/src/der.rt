@@ -1,10 +1,8 @@
 //! The readers of DER, as readers that are fed from a source.
 ghost use Rattle.lexical_core.specs.declared.rule.Rule.TheVariants.{DerTruncated};
-ghost use Rattle.der_model.specs.DerMessage.{der_message};
-ghost use Rattle.der_model.specs.Faults.{DerFault};
-ghost use Rattle.der_codec.specs.Checking.{HasFedDer, IsDerCheckerFor, IsSpelledDer, der_fault_of};
+ghost use Rattle.der_codec.specs.Checking.{HasFedDer, IsDerCheckerFor, IsSpelledDer};
 ghost use Rattle.der_codec.specs.ReadInstances.{HasKeptPieces, IsDerReaderFor};
-ghost use Rattle.transcoder.specs.Checked.{HoldsDer};
+ghost use Rattle.transcoder.specs.Checked.{IsDerFault, HoldsDer};
 
 use crate::intake::Intake;
 use der_codec::{DerChecker, DerReader};
@@ -16,7 +14,7 @@ impl Intake<()> for DerChecker {
 
     ghost is_made_for = { λ checker T. IsDerCheckerFor checker T };
 
-    ghost is_faulty = { λ T bytes fault. DerFault (der_message T) bytes (der_fault_of fault) };
+    ghost is_faulty = { λ T bytes fault. IsDerFault T bytes fault };
 
     ghost gives = { λ T bytes _. IsSpelledDer T bytes };
 
@@ -36,7 +34,7 @@ impl Intake<Instance> for DerReader {
 
     ghost is_made_for = { λ reader T. IsDerReaderFor reader T };
 
-    ghost is_faulty = { λ T bytes fault. DerFault (der_message T) bytes (der_fault_of fault) };
+    ghost is_faulty = { λ T bytes fault. IsDerFault T bytes fault };
 
     ghost gives = { λ T bytes instance. HoldsDer T bytes instance };
 

@@ -3,7 +3,8 @@ ghost use Rattle.std.specs.Prelude.{ℕ, ◌+◌, ◌≤◌, ◌++◌, List, len
 ghost use Rattle.lexical_core.specs.declared.rule.Rule.{Rule};
 ghost use Rattle.message_model.specs.Tables.{Tables};
 ghost use Rattle.message_model.specs.declared.fault.Fault.{Fault as Told};
-ghost use Rattle.transcoder.specs.Limited.{most_bytes, StopsAt, EndsBy};
+ghost use Rattle.transcoder.specs.Limited.{most_bytes};
+ghost use Rattle.transcoder.specs.inner.Reading.{StopsAt, EndsBy};
 
 use message_model::{InstanceError, Model};
 

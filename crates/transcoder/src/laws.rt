@@ -2,7 +2,7 @@
 ghost use Rattle.transcoder.specs.Laws.{OneVerdict, SomeVerdict, OneDerVerdict, SomeDerVerdict};
 
 /// Bytes are XML of one instance of a message or have one first fault, and not both.
-#[tactic(auto, using(crate::proofs::OneVerdict::one_verdict))]
+#[tactic(auto, using(crate::proofs::Verdicts::one_verdict))]
 pub fn one_verdict()
     ensures { OneVerdict }
 {
@@ -16,7 +16,6 @@ pub fn some_verdict()
     ensures { SomeVerdict }
 {
     xml_instances::laws::spelled_or_faulty();
-    xml_instances::laws::spelled_has_none();
 }
 
 /// Bytes are the DER of one instance of a message or have one first fault, and not both.
@@ -26,8 +25,8 @@ pub fn one_der_verdict()
     respell::laws::one_tree();
     der_model::laws::tables_are_sound();
     der_model::laws::one_value();
-    der_model::laws::one_limited_fault();
-    der_model::laws::accepted_has_none();
+    der_model::laws::one_fault();
+    der_model::laws::spelled_has_none();
 }
 
 /// No bytes are neither the DER of an instance of a message nor have a first fault.
@@ -36,5 +35,5 @@ pub fn some_der_verdict()
 {
     respell::laws::one_tree();
     der_model::laws::tables_are_sound();
-    der_model::laws::accepted_or_faulty();
+    der_model::laws::spelled_or_faulty();
 }

@@ -33,8 +33,6 @@ pub(crate) fn read_xml<I: Source>(
     ensures same { (IsErrOf result CheckError.ReadFault → ⊥) → I.faults source.new ≡ I.faults source.old }
 {
     xml_instances::laws::only_cut();
-    xml_instances::laws::spelled_has_none();
-    let _ = model.type_count();
     let reader = XmlReader::new(alloc, model)?;
     read_instance(alloc, model, source, reader)
 }

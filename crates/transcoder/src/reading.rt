@@ -1,11 +1,13 @@
 //! An instance, read as it comes from a source.
 ghost use Rattle.std.specs.Prelude.{◌≡◌, ◌<◌, ◌≤◌, ℕ, List, [], IfOk, IfErr, IfSome, OnOk, IsErrOf, length, codes};
 ghost use Rattle.std.specs.Io.KnownBytes.{IsAtEnd};
+ghost use Rattle.outside.specs.Pulls.{StopsSoon};
 ghost use Rattle.outside.specs.Source.{Rose};
 ghost use Rattle.message_model.specs.declared.fault.Fault.{Fault as Told};
+ghost use Rattle.transcoder.specs.CheckErrors.{RefusesBy, IsOfSome};
 ghost use Rattle.transcoder.specs.Limited.{most_bytes, IsLimited};
-ghost use Rattle.transcoder.specs.Pulls.{StopsSoon, PullsToFault};
-ghost use Rattle.transcoder.specs.Reading.{WasFed, IsTooManyBytes, IsBeyondWhole, IsBeyondError, Concludes, ReadsTo, RefusesBy, IsOfSome, GivesSome};
+ghost use Rattle.transcoder.specs.inner.Reading.{WasFed, IsTooManyBytes, IsBeyondWhole, IsBeyondError, Concludes, ReadsTo, GivesSome};
+ghost use Rattle.transcoder.specs.Pulls.{PullsToFault};
 
 use crate::check_error::CheckError;
 use crate::intake::Intake;
@@ -15,7 +17,7 @@ use outside::Source;
 use std::alloc::{AllocError, Global};
 
 /// How many bytes an instance has at most.
-const LIMIT: usize = 1099511627776;
+const LIMIT: usize = 1 << 40;
 
 /// How many bytes are asked of a source at once.
 const PIECE: usize = 65536;

@@ -24,7 +24,7 @@ use std::alloc::Global;
 use xml_writer::write_xml;
 
 /// Pushes the DER (X.690) of the XML instance that the source has left. Nothing is pushed before the source was
-/// read to its end and its bytes are an instance; a fault's place is a byte number from 0.
+/// read to its end and its bytes are an instance; a fault's place is a byte number from 0. A failed pull is not tried again.
 pub fn xml_to_der<I: Source, O: Sink>(
     alloc: Global,
     model: &Model,
@@ -35,6 +35,7 @@ pub fn xml_to_der<I: Source, O: Sink>(
     ensures pulled { IfErr result (λ e. PullsToTransFault (HasXmlFault model.now) Truncated (I.left source.old) (I.left source.new) e) }
     ensures fault { IsErrOf result TransError.ReadFault → Rose (I.faults source.old) (I.faults source.new) }
     ensures later { I.faults source.old ≤ I.faults source.new }
+    ensures same { (IsErrOf result TransError.ReadFault → ⊥) → I.faults source.new ≡ I.faults source.old }
 {
     match read_xml(alloc, model, source) {
         Ok(instance) => push_der(model, instance, sink),
@@ -43,7 +44,7 @@ pub fn xml_to_der<I: Source, O: Sink>(
 }
 
 /// Pushes the canonical XML of the instance in DER that the source has left. Nothing is pushed before the source was
-/// read to its end and its bytes are an instance; a fault's place is a byte number from 0.
+/// read to its end and its bytes are an instance; a fault's place is a byte number from 0. A failed pull is not tried again.
 pub fn der_to_xml<I: Source, O: Sink>(
     alloc: Global,
     model: &Model,
@@ -54,6 +55,7 @@ pub fn der_to_xml<I: Source, O: Sink>(
     ensures pulled { IfErr result (λ e. PullsToTransFault (HasDerFault model.now) DerTruncated (I.left source.old) (I.left source.new) e) }
     ensures fault { IsErrOf result TransError.ReadFault → Rose (I.faults source.old) (I.faults source.new) }
     ensures later { I.faults source.old ≤ I.faults source.new }
+    ensures same { (IsErrOf result TransError.ReadFault → ⊥) → I.faults source.new ≡ I.faults source.old }
 {
     match read_der(alloc, model, source) {
         Ok(instance) => push_xml(model, instance, sink),
@@ -62,7 +64,7 @@ pub fn der_to_xml<I: Source, O: Sink>(
 }
 
 /// Pushes the canonical XML of the XML instance that the source has left. Nothing is pushed before the source was
-/// read to its end and its bytes are an instance; a fault's place is a byte number from 0.
+/// read to its end and its bytes are an instance; a fault's place is a byte number from 0. A failed pull is not tried again.
 pub fn xml_to_xml<I: Source, O: Sink>(
     alloc: Global,
     model: &Model,
@@ -73,6 +75,7 @@ pub fn xml_to_xml<I: Source, O: Sink>(
     ensures pulled { IfErr result (λ e. PullsToTransFault (HasXmlFault model.now) Truncated (I.left source.old) (I.left source.new) e) }
     ensures fault { IsErrOf result TransError.ReadFault → Rose (I.faults source.old) (I.faults source.new) }
     ensures later { I.faults source.old ≤ I.faults source.new }
+    ensures same { (IsErrOf result TransError.ReadFault → ⊥) → I.faults source.new ≡ I.faults source.old }
 {
     match read_xml(alloc, model, source) {
         Ok(instance) => push_xml(model, instance, sink),

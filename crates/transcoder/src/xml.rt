@@ -1,10 +1,8 @@
 //! The readers of XML instances, as readers that are fed from a source.
 ghost use Rattle.lexical_core.specs.declared.rule.Rule.TheVariants.{Truncated};
-ghost use Rattle.message_model.specs.Tables.{message_of};
-ghost use Rattle.xml_instances.specs.XmlFaults.{XmlFault};
-ghost use Rattle.xml_instances.specs.Checking.{HasFedXml, IsXmlCheckerFor, IsSpelledXml, xml_fault_of};
+ghost use Rattle.xml_instances.specs.Checking.{HasFedXml, IsXmlCheckerFor, IsSpelledXml};
 ghost use Rattle.xml_instances.specs.ReadInstances.{HasFedReader, IsXmlReaderFor};
-ghost use Rattle.transcoder.specs.Checked.{HoldsXml};
+ghost use Rattle.transcoder.specs.Checked.{IsXmlFault, HoldsXml};
 
 use crate::intake::Intake;
 use inst_pool::Instance;
@@ -16,7 +14,7 @@ impl Intake<()> for XmlChecker {
 
     ghost is_made_for = { λ checker T. IsXmlCheckerFor checker T };
 
-    ghost is_faulty = { λ T bytes fault. XmlFault (message_of T) bytes (xml_fault_of fault) };
+    ghost is_faulty = { λ T bytes fault. IsXmlFault T bytes fault };
 
     ghost gives = { λ T bytes _. IsSpelledXml T bytes };
 
@@ -36,7 +34,7 @@ impl Intake<Instance> for XmlReader {
 
     ghost is_made_for = { λ reader T. IsXmlReaderFor reader T };
 
-    ghost is_faulty = { λ T bytes fault. XmlFault (message_of T) bytes (xml_fault_of fault) };
+    ghost is_faulty = { λ T bytes fault. IsXmlFault T bytes fault };
 
     ghost gives = { λ T bytes instance. HoldsXml T bytes instance };
 

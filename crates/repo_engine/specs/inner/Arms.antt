@@ -1,9 +1,10 @@
 -- What one command does, and what reading a repository and its codes does.
 use Rattle.std.specs.Prelude.{◌≡◌, ◌≢◌, ◌⊎◌, ◌≤◌, ℕ, Bool, true, false, length, List, [], Option, Some, Result, Ok, Err, IfErr}
+use Rattle.outside.specs.Pulls.{StopsSoon}
 use Rattle.outside.specs.declared.errors.SinkError.{SinkError}
 use Rattle.outside.specs.declared.errors.SinkError.TheVariants as sink
 use Rattle.repo_objects.specs.Repository.{Contents}
-use Rattle.repo_loader.specs.LoadErrors.{EndsWithPiece}
+use Rattle.repo_loader.specs.LoadErrors.{ShowsNoLoadFault}
 use Rattle.repo_loader.specs.Loaded.{Spells}
 use Rattle.repo_loader.specs.declared.fault.LoadError.{LoadError}
 use Rattle.repo_loader.specs.declared.fault.LoadError.TheVariants as load_error
@@ -15,7 +16,6 @@ use Rattle.code_sets.specs.CodesErrors.{AreCodesPulled}
 use Rattle.reference_check.specs.declared.reached.ReadyError.{ReadyError}
 use Rattle.reference_check.specs.declared.reached.ReadyError.TheVariants as ready
 use Rattle.message_model.specs.Tables.{Tables}
-use Rattle.transcoder.specs.Pulls.{StopsSoon}
 use Rattle.transcoder.specs.declared.check_error.CheckError.{CheckError}
 use Rattle.transcoder.specs.declared.check_error.CheckError.TheVariants as check
 use Rattle.transcoder.specs.declared.trans_error.TransError.{TransError}
@@ -25,20 +25,10 @@ use Rattle.repo_engine.specs.declared.refusal.Stop.TheVariants.{Refused, ReadFau
 use Rattle.repo_engine.specs.declared.refusal.Refusal.TheVariants.{Words, Repository, Codes, Message, Instance}
 use Rattle.repo_engine.specs.Answer.{Of, TellsFileFault, RefusesCodes, RefusesMessage, GivesRepository, GivesTables}
 use Rattle.repo_engine.specs.Command.{Command, pulled_by, hands_in}
-use Rattle.repo_engine.specs.Pulls.{HasNoFaultYet, StopsFilesSoon, StopsInstanceSoon}
-use Rattle.repo_engine.specs.Run.{End, GoesOut, TellsVerdict}
+use Rattle.repo_engine.specs.Pulls.{StopsFilesSoon, StopsInstanceSoon}
+use Rattle.repo_engine.specs.Run.{End, GoesOut, HasFilesTold, HaveLeft, TellsVerdict}
 use Rattle.repo_engine.specs.Sources.{Use, AreUsed, Ended, IsSourceRead, Untouched, Failing, Refusing, Whole, source_ended_of}
 use Rattle.repo_engine.specs.Verdict.{Verdict, refused}
-
--- the repository and its codes tell these bytes, where a command pulls from them
-pub record HasFilesTold (command : Command) (repo_left codes_left : Option (List ℕ)) (r c : List ℕ) : Type 0 where
-  pub repository : (pulled_by command).repository ≡ true → repo_left ≡ Some r
-  pub codes : (pulled_by command).codes ≡ true → codes_left ≡ Some c
-
--- the sources that a command pulls from have these bytes left
-pub record HaveLeft (command : Command) (repo_left codes_left inst_left : Option (List ℕ)) (r c i : List ℕ) : Type 0 where
-  pub files : HasFilesTold command repo_left codes_left r c
-  pub instance : (pulled_by command).instance ≡ true → inst_left ≡ Some i
 
 -- what a command does
 pub record Carries {R C I O : Type 0} (command : Command) (repo : Use R) (codes : Use C) (inst : Use I)
@@ -115,7 +105,7 @@ IsOfInput Memory = Unit {0}
 
 -- how far a repository was pulled where reading it stops; nothing else is refused then
 abbrev pub StopsAtRepository : Option (List ℕ) → Option (List ℕ) → Stop → Type 0
-StopsAtRepository repo repo' (Refused (Repository fault)) = EndsWithPiece repo repo'
+StopsAtRepository repo repo' (Refused (Repository fault)) = StopsSoon ShowsNoLoadFault repo repo'
 StopsAtRepository repo repo' (Refused refusal) = ⊥
 StopsAtRepository repo repo' stop = Unit {0}
 
@@ -127,16 +117,20 @@ StopsAtCodes codes codes' stop = Unit {0}
 
 -- how far both were pulled where a command stops before an instance is read; none is refused then
 abbrev pub StopsAtFiles : {R C : Type 0} → Use R → Use C → Stop → Type 0
-StopsAtFiles repo codes (Refused (Repository fault)) = EndsWithPiece (repo.left repo.old) (repo.left repo.new) × Untouched codes
+StopsAtFiles repo codes (Refused (Repository fault)) = StopsSoon ShowsNoLoadFault (repo.left repo.old) (repo.left repo.new) × Untouched codes
 StopsAtFiles repo codes (Refused (Codes rule number)) = AreCodesPulled (codes.left codes.old) (codes.left codes.new)
 StopsAtFiles repo codes (Refused (Instance fault)) = ⊥
 StopsAtFiles repo codes stop = Unit {0}
 
--- how far an instance was pulled where a command of a compiled message stops; nothing else is refused then
+-- a stop that refuses nothing but an instance
+abbrev pub RefusesNoFiles : Stop → Type 0
+RefusesNoFiles (Refused (Instance fault)) = Unit {0}
+RefusesNoFiles (Refused refusal) = ⊥
+RefusesNoFiles stop = Unit {0}
+
+-- how far an instance was pulled where a command of a compiled message stops
 abbrev pub StopsAtInstance : (List ℕ → Verdict → Type 0) → Option (List ℕ) → Option (List ℕ) → Stop → Type 0
-StopsAtInstance Answers inst inst' (Refused (Instance fault)) = StopsSoon (HasNoFaultYet Answers) inst inst'
-StopsAtInstance Answers inst inst' (Refused refusal) = ⊥
-StopsAtInstance Answers inst inst' stop = Unit {0}
+StopsAtInstance Answers inst inst' stop = StopsInstanceSoon Answers inst inst' stop × RefusesNoFiles stop
 
 -- a source that is read, where it is asked
 pub data IsReadIf {S : Type 0} (asked : Bool) (ended : Ended) (u : Use S) : Type 0 where

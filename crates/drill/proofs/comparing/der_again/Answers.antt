@@ -2,8 +2,8 @@ use Rattle.std.proofs.Common.{◌≡◌, ℕ, ◌≤◌, List, refl, ◌++◌, S
 use Rattle.message_model.specs.Tables.{message_of}
 use Rattle.der_model.specs.Der.{der_of}
 use Rattle.der_model.specs.DerMessage.{der_message}
-use Rattle.xml_instances.specs.XmlFaults.{xml_limit}
 use Rattle.xml_instances.specs.SpellsXml.{SpellsXml}
+use Rattle.transcoder.specs.Limited.{most_bytes}
 use Rattle.transcoder.specs.Checked.{IsDerOfXml, HasXmlFault}
 use Rattle.drill.proofs.Transcoded.{no_rise, only_memory, pushed_text}
 use Rattle.drill.proofs.comparing.der_again.Goals as goal
@@ -30,7 +30,7 @@ wanting-requires c =
     let same = c.new-source.ensures in
     let given = c.requires in
     let spelled = subst (λ b. SpellsXml (message_of T) b given.0) (sym same) given.1 in
-    let within : length bytes ≤ xml_limit = subst (λ b. length b ≤ xml_limit) (sym same) given.2 in
+    let within : length bytes ≤ most_bytes = subst (λ b. length b ≤ most_bytes) (sym same) given.2 in
     let have = c.one_verdict.ensures T bytes (c.type_count.ensures.sound, c.type_count.ensures.codes, c.type_count.ensures.sorted, c.type_count.ensures.root) in
     only_memory (λ (s : List ℕ). Some s) (λ (s : List ℕ). 0) (λ (s : List ℕ). 0) (IsDerOfXml T) (HasXmlFault T) bytes _ c.new-sink.result c.xml_to_der.new.sink
     c.xml_to_der.result c.in-Err.error (λ f h. have.none f ((given.0, spelled), within) h) (λ e. no_rise (c.xml_to_der.ensures.fault (rw e refl))) no_rise c.xml_to_der.ensures.transcoded c.in-Err.is

@@ -1,4 +1,4 @@
-use Rattle.std.proofs.Common.{rules, ◌≡◌, refl, subst, IfSome, codes}
+use Rattle.std.proofs.Common.{rules, ◌≡◌, refl, subst, IfSome, codes, ap}
 use Rattle.lexical_core.specs.declared.rule.Rule.TheVariants.{Truncated}
 use Rattle.transcoder.specs.Checked.{IsAccepted, HasXmlFault}
 use Rattle.transcoder.specs.declared.check_error.CheckError.TheVariants as check
@@ -6,9 +6,10 @@ use Rattle.repo_engine.proofs.Ends.{tells_pushed, goes_nowhere}
 use Rattle.repo_engine.proofs.Messages.{read_on, push_ends, push_words, check_failing, check_input, check_tells, no_words, stop_not_whole}
 use Rattle.repo_engine.specs.Answer.{FromXml, IsFine}
 use Rattle.repo_engine.specs.Steps.{refused, goes_on}
-use Rattle.repo_engine.specs.inner.Arms.{end_of}
-use Rattle.repo_engine.specs.Sources.{source_ended_of}
+use Rattle.repo_engine.specs.inner.Arms.{end_of, check_stop}
+use Rattle.repo_engine.specs.Sources.{source_ended_of, stop_ended}
 use Rattle.repo_engine.proofs.Pulls.{push_ends_so, check_stops, xml_goes, fine_goes}
+use Rattle.repo_engine.proofs.Steps.{same_error}
 use Rattle.repo_engine.proofs.check.check.Goals as goal
 
 pub returns-in-Ok-clause-no_words : goal.returns-in-Ok-clause-no_words
@@ -19,6 +20,7 @@ returns-in-Ok-clause-source g c = rw c.ended.ensures (read_on (source_ended_of (
   later = c.check_xml.ensures.later;
   whole = λ _. c.in-Ok.ensures.whole;
   failed = λ e. absurd (cc);
+  quiet = λ _. c.check_xml.ensures.same (λ e. absurd (cc));
 }))
 
 pub returns-in-Ok-clause-verdict : goal.returns-in-Ok-clause-verdict
@@ -34,6 +36,7 @@ returns-in-Err-clause-source g c = rw c.stop_of_check.ensures (record {
   later = c.check_xml.ensures.later;
   whole = λ e. absurd (stop_not_whole _ e);
   failed = λ e. (let is : c.in-Err.error ≡ check.ReadFault = check_failing _ e in c.check_xml.ensures.fault (search rules));
+  quiet = λ other. c.check_xml.ensures.same (λ e. other (let is : c.in-Err.error ≡ check.ReadFault = same_error _ _ _ c.in-Err.is e in ap (λ e. stop_ended (check_stop e)) is));
 })
 
 pub returns-in-Err-clause-verdict : goal.returns-in-Err-clause-verdict

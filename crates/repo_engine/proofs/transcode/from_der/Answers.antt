@@ -11,7 +11,7 @@ pub returns-clause-no_words : goal.returns-clause-no_words
 returns-clause-no_words g c = rw c.ended_so.ensures (words_transcoded g.O.Sink.held g.O.Sink.faults g.O.Sink.room (IsXmlOfDer c.args.model.now) (HasDerFault c.args.model.now) _ _ _ _ c.der_to_xml.result c.der_to_xml.ensures.transcoded)
 
 pub returns-clause-source : goal.returns-clause-source
-returns-clause-source g c = rw c.ended_so.ensures (read_transcoded g.O.Sink.held g.O.Sink.faults g.O.Sink.room (IsXmlOfDer c.args.model.now) (HasDerFault c.args.model.now) _ _ _ _ c.der_to_xml.result _ refl c.der_to_xml.ensures.later c.der_to_xml.ensures.fault c.der_to_xml.ensures.transcoded)
+returns-clause-source g c = rw c.ended_so.ensures (read_transcoded g.O.Sink.held g.O.Sink.faults g.O.Sink.room (IsXmlOfDer c.args.model.now) (HasDerFault c.args.model.now) _ _ _ _ c.der_to_xml.result _ refl c.der_to_xml.ensures.later c.der_to_xml.ensures.fault c.der_to_xml.ensures.same c.der_to_xml.ensures.transcoded)
 
 pub returns-clause-verdict : goal.returns-clause-verdict
 returns-clause-verdict g c i told = rw c.ended_so.ensures (tells_transcoded g.O.Sink.held g.O.Sink.faults g.O.Sink.room (IsXmlOfDer c.args.model.now) (HasDerFault c.args.model.now) _ _ _ _ c.der_to_xml.result (FromDer c.args.model.now i (GivesXml c.args.model.now)) i

@@ -12,7 +12,7 @@ pub returns-clause-no_words : goal.returns-clause-no_words
 returns-clause-no_words g c = rw c.ended_so.ensures (words_transcoded g.O.Sink.held g.O.Sink.faults g.O.Sink.room (IsDerOfXml c.args.model.now) (HasXmlFault c.args.model.now) _ _ _ _ c.xml_to_der.result c.xml_to_der.ensures.transcoded)
 
 pub returns-clause-source : goal.returns-clause-source
-returns-clause-source g c = rw c.ended_so.ensures (read_transcoded g.O.Sink.held g.O.Sink.faults g.O.Sink.room (IsDerOfXml c.args.model.now) (HasXmlFault c.args.model.now) _ _ _ _ c.xml_to_der.result _ refl c.xml_to_der.ensures.later c.xml_to_der.ensures.fault c.xml_to_der.ensures.transcoded)
+returns-clause-source g c = rw c.ended_so.ensures (read_transcoded g.O.Sink.held g.O.Sink.faults g.O.Sink.room (IsDerOfXml c.args.model.now) (HasXmlFault c.args.model.now) _ _ _ _ c.xml_to_der.result _ refl c.xml_to_der.ensures.later c.xml_to_der.ensures.fault c.xml_to_der.ensures.same c.xml_to_der.ensures.transcoded)
 
 pub returns-clause-verdict : goal.returns-clause-verdict
 returns-clause-verdict g c i told = rw c.ended_so.ensures (tells_transcoded g.O.Sink.held g.O.Sink.faults g.O.Sink.room (IsDerOfXml c.args.model.now) (HasXmlFault c.args.model.now) _ _ _ _ c.xml_to_der.result (FromXml c.args.model.now i (GivesDer c.args.model.now)) i

@@ -1,5 +1,5 @@
 -- Pieces are read to the end, to the fault, or past the limit.
-use Rattle.std.proofs.Common.{rules, take, [], sym, subst, arith}
+use Rattle.std.proofs.Common.{rules, take, [], sym, subst, arith, ◌∙◌}
 use Rattle.std.specs.Prelude.{ℕ, List, IfSome, Some, None}
 use Rattle.repo_loader.specs.declared.fault.LoadFault.{LoadFault}
 use Rattle.repo_loader.specs.Loaded.{HasLoadFault}
@@ -9,7 +9,7 @@ use Rattle.repo_loader.proofs.file.read_to_end.Goals as goal
 
 pub loop-count-init : goal.loop-count-init
 loop-count-init g c = record {
-  later = search rules;
+  same = search rules;
   some = search rules;
   few = search rules;
   so_far = room_whole (g.R.Source.left c.args.source.now) c.args.progress.now c.requires.read;
@@ -101,7 +101,7 @@ loop-count-preserved g c =
     let xs = take c.in-Ok.count c.pull.new.buf in
     let k = front_taken c.take_all.new.self h.taken_are c.split_at.result.0.now (take c.min.result xs) c.in_ok-fault-2.field-0 None c.split_at.ensures.front c.in_default-2.is (c.in_ok-fault-2.ensures.read h.taken_are h.read) in
     record {
-      later = omega (arith, c.in-Ok.ensures.cause.later);
+      same = c.in-Ok.ensures.cause.same ∙ c.loop-count.invariant.same;
       some = omega arith;
       few = omega arith;
       so_far = room_left (g.R.Source.left c.args.source.now) (g.R.Source.left c.loop-count.source) c.loop-count.room c.loop-count.progress h (g.R.Source.left c.pull.new.self) xs c.in-Ok.ensures.bytes.0 c.min.result c.in-Ok.count c.take_all.new.self

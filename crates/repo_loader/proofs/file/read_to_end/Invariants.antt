@@ -1,14 +1,14 @@
--- No count fell, and what was taken is read.
-use Rattle.std.proofs.Common.{◌<◌, ◌≤◌, length}
-use Rattle.repo_loader.specs.LoadErrors.{piece_limit}
+-- No pull failed, and what was taken is read.
+use Rattle.std.proofs.Common.{◌≡◌, ◌<◌, ◌≤◌, length}
+use Rattle.outside.specs.Pulls.{pull_limit}
 use Rattle.repo_loader.specs.inner.ProgressSteps.{HasReadWithRoom}
 use Rattle.repo_loader.proofs.file.read_to_end.Given as goal
 
 abbrev pub invariant-loop-count : goal.invariant-loop-count
 invariant-loop-count g l = record {
-  later : g.R.Source.faults l.fn.source ≤ g.R.Source.faults l.source;
+  same : g.R.Source.faults l.source ≡ g.R.Source.faults l.fn.source;
   some : 0 < length l.piece;
-  few : length l.piece ≤ piece_limit;
+  few : length l.piece ≤ pull_limit;
   so_far : HasReadWithRoom (g.R.Source.left l.fn.source) (g.R.Source.left l.source) l.room l.progress;
 }
 

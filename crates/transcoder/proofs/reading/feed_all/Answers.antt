@@ -1,6 +1,6 @@
 use Rattle.std.proofs.Common.{rules, ◌++◌, take, sym, subst, arith}
-use Rattle.transcoder.specs.Limited.{IsLimited, StopsAt}
-use Rattle.transcoder.specs.Reading.{SaysError, GivesSome}
+use Rattle.transcoder.specs.Limited.{IsLimited}
+use Rattle.transcoder.specs.inner.Reading.{StopsAt, SaysError, GivesSome}
 use Rattle.transcoder.proofs.Readings.{last_piece, no_piece, read_more, read_beyond, refused_fed}
 use Rattle.transcoder.proofs.reading.feed_all.Goals as goal
 

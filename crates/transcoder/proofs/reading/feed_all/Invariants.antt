@@ -1,6 +1,6 @@
 use Rattle.std.proofs.Common.{◌≡◌, ◌<◌, ◌≤◌, length}
-use Rattle.transcoder.specs.Pulls.{pull_limit}
-use Rattle.transcoder.specs.Reading.{HasReadSource}
+use Rattle.outside.specs.Pulls.{pull_limit}
+use Rattle.transcoder.specs.inner.Reading.{HasReadSource}
 use Rattle.transcoder.proofs.reading.feed_all.Given as goal
 
 -- the source did not fail, and what it gave is fed to the checker

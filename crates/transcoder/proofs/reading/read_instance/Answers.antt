@@ -1,5 +1,5 @@
 use Rattle.transcoder.specs.Limited.{IsLimited}
-use Rattle.transcoder.specs.Reading.{GivesSome}
+use Rattle.transcoder.specs.inner.Reading.{GivesSome}
 use Rattle.transcoder.proofs.Readings.{IsVerdict, concluded_verdict, pulls_for, read_fault, fault_read}
 use Rattle.transcoder.proofs.reading.read_instance.Given.{Over}
 use Rattle.transcoder.proofs.reading.read_instance.Goals as goal

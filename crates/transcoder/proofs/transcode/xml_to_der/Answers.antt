@@ -6,7 +6,7 @@ use Rattle.der_model.specs.DerMessage.{der_message}
 use Rattle.xml_instances.specs.SpellsXml.{SpellsXml}
 use Rattle.transcoder.specs.Checked.{HasXmlFault}
 use Rattle.transcoder.specs.Transcoding.{unread}
-use Rattle.transcoder.proofs.Transcodings.{transcoded, told_pulls, pulls_whole}
+use Rattle.transcoder.proofs.Transcodings.{failed, transcoded, told_pulls, pulls_whole}
 use Rattle.transcoder.proofs.transcode.xml_to_der.Goals as goal
 
 pub returns-in-Ok-clause-transcoded : goal.returns-in-Ok-clause-transcoded
@@ -24,3 +24,9 @@ returns-in-Ok-clause-pulled g c =
 
 pub returns-in-Err-clause-pulled : goal.returns-in-Err-clause-pulled
 returns-in-Err-clause-pulled g c = told_pulls (HasXmlFault c.args.model.now) Truncated (g.I.Source.left c.args.source.now) (g.I.Source.left c.read_xml.new.source) c.in-Err.error _ c.from.ensures c.in-Err.ensures.pulled
+
+pub returns-in-Ok-clause-same : goal.returns-in-Ok-clause-same
+returns-in-Ok-clause-same g c other = c.read_xml.ensures.same (λ e. absurd (cc))
+
+pub returns-in-Err-clause-same : goal.returns-in-Err-clause-same
+returns-in-Err-clause-same g c other = c.read_xml.ensures.same (λ e. other (failed c.read_xml.result c.in-Err.error c.from.result c.in-Err.is c.from.ensures e))

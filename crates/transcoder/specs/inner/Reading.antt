@@ -1,6 +1,7 @@
--- How far a source is read. Private functions alone cite this.
-use Rattle.std.specs.Prelude.{◌≡◌, ℕ, ◌+◌, ◌<◌, ◌≤◌, ◌++◌, List, length, Option, IfSome, Result, Ok, Err, codes}
+-- How far a source is read, and what the reader that it is fed to says of the bytes.
+use Rattle.std.specs.Prelude.{◌≡◌, ◌≢◌, ℕ, ◌+◌, ◌<◌, ◌≤◌, ◌++◌, List, length, Option, IfSome, Result, Ok, Err, codes}
 use Rattle.std.specs.Io.KnownBytes.{Consumes, IsAtEnd}
+use Rattle.lexical_core.specs.declared.rule.Rule.{Rule}
 use Rattle.message_model.specs.declared.fault.Fault.{Fault}
 use Rattle.message_model.specs.declared.fault.InstanceError.{InstanceError}
 use Rattle.message_model.specs.declared.fault.InstanceError.TheVariants as reader
@@ -9,7 +10,7 @@ use Rattle.transcoder.specs.declared.check_error.CheckError.TheVariants.{Refused
 use Rattle.transcoder.specs.declared.reading.Extent.{Extent}
 use Rattle.transcoder.specs.declared.reading.Extent.TheVariants.{Whole, Longer}
 use Rattle.transcoder.specs.Limited.{most_bytes, too_many}
-use Rattle.transcoder.specs.CheckErrors.{check_error}
+use Rattle.transcoder.specs.CheckErrors.{RefusesBy, IsOfSome, check_error}
 
 -- Bytes of the source were taken and fed to the reader, and so many more may still be.
 pub record HasReadSource {S : Type 0} (Fed : S → List ℕ → Type 0) (Made : S → Type 0) (old now : Option (List ℕ)) (room : ℕ) (state : S) : Type 0 where
@@ -59,16 +60,6 @@ pub record HasReadBeyond {S : Type 0} (Fed : S → List ℕ → Type 0) (old now
   pub more : 0 < length behind
   pub fed_are : Fed state within
 
--- the bytes have the fault; that a source failed is said by its count
-abbrev pub RefusesBy : (List ℕ → Fault → Type 0) → List ℕ → CheckError → Type 0
-RefusesBy HasFault bytes (Refused fault) = HasFault bytes fault
-RefusesBy HasFault bytes _ = Unit {0}
-
--- the fault is one of some bytes, also where the source does not tell its own
-abbrev pub IsOfSome : (List ℕ → Fault → Type 0) → CheckError → Type 0
-IsOfSome HasFault (Refused fault) = (bytes : List ℕ) × HasFault bytes fault
-IsOfSome HasFault _ = Unit {0}
-
 -- what the error says of the bytes that the source had left, and of some bytes
 pub record SaysError (HasFault : List ℕ → Fault → Type 0) (old : Option (List ℕ)) (e : CheckError) : Type 0 where
   pub refused : IfSome old (λ bytes. RefusesBy HasFault bytes e)
@@ -90,3 +81,18 @@ Concludes (Err e) end result = result ≡ Err e
 -- something is given of the bytes
 abbrev pub GivesSome : {W : Type 0} → (List ℕ → W → Type 0) → List ℕ → Type 0
 GivesSome {W} Gives bytes = (given : W) × Gives bytes given
+
+-- The bytes have this first fault, whatever follows them, and it is not that they end too early.
+pub record ShowsFault (IsFaulty : List ℕ → Fault → Type 0) (cut_rule : Rule) (bytes : List ℕ) (fault : Fault) : Type 0 where
+  pub has_fault : (behind : List ℕ) → IsFaulty (bytes ++ behind) fault
+  pub no_cut : fault.rule ≢ cut_rule
+
+-- why a reader does not go on
+abbrev pub StopsAt : (List ℕ → Fault → Type 0) → Rule → List ℕ → InstanceError → Type 0
+StopsAt IsFaulty cut_rule bytes (reader.Refused fault) = ShowsFault IsFaulty cut_rule bytes fault
+StopsAt IsFaulty cut_rule bytes reader.Memory = Unit {0}
+
+-- why the bytes are refused at their end
+abbrev pub EndsBy : (List ℕ → Fault → Type 0) → List ℕ → InstanceError → Type 0
+EndsBy IsFaulty bytes (reader.Refused fault) = IsFaulty bytes fault
+EndsBy IsFaulty bytes reader.Memory = Unit {0}
