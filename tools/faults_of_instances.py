@@ -1,13 +1,12 @@
 """What a message has where an instance is refused, and which part of the line breaks the rule, for each rule."""
 from expected import FORMS, bounds_of, closest, may_come, times
 from faults_of_markup import bad_declaration, bad_octet, first_twice, is_closer, markup_expected
-from page import LINE_END, WIDTH
+from page import BOM, LINE_END, WIDTH
 from pattern_match import how_far
 from place import XSI
-from repository_file import COMPONENTS
+from repository_file import COMPONENTS, NAMESPACE
 from rule_sentences import MARKUP
 
-NAMESPACE = 'urn:iso:std:iso:20022:tech:xsd:'
 LEAF_RULES = ('BadText', 'BadLength', 'PatternFails', 'NotACode', 'Digits', 'OutOfRange')
 TAG_RULES = ('UnknownElement', 'OutOfOrder', 'TooMany', 'SecondAlternative', 'TextInComplex')
 PASSED_OVER = (f'{XSI} schemaLocation', f'{XSI} noNamespaceSchemaLocation')
@@ -213,7 +212,7 @@ def expected(types, fault, place):
 
 def octets_expected(types, fault, octets):
     """Lines that say what the message has at a place of DER, before these octets."""
-    if fault.where == '0' and octets.removeprefix(b'\xef\xbb\xbf').lstrip()[:1] == b'<':
+    if fault.where == '0' and octets.removeprefix(BOM).lstrip()[:1] == b'<':
         return ['DER; the file may be in XML, which `show` without --der reads']
     if fault.rule == 'Trailing':
         return ['the end of the file']

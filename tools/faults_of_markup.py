@@ -1,7 +1,7 @@
 """What XML has where an instance or a repository breaks a rule of it, for each of these rules."""
 import re
 
-from page import WIDTH, spot_of
+from page import BOM, WIDTH, spot_of
 from place import TOKEN
 
 NO_CHARACTER = re.compile('[^\t\n\r\x20-\ud7ff\ue000-\ufffd\U00010000-\U0010ffff]')
@@ -61,7 +61,7 @@ def markup_told(place, at):
     """What XML has where this is no markup."""
     token = place.token
     if re.match(rb'<\?xml\s', token):
-        if place.data[:at].removeprefix(b'\xef\xbb\xbf'):
+        if place.data[:at].removeprefix(BOM):
             return ['the declaration <?xml ..?> at the very start of the file, before anything else']
         return ['<?xml version="1.0" encoding="UTF-8"?>, the one version and encoding that is read']
     if token.startswith(b'<!--'):

@@ -1,4 +1,5 @@
 """Repositories as docs/FORMATS.md, The repository file, has them: entries and messages, read and written."""
+import re
 from dataclasses import dataclass, field
 
 from xml_tree import read_tree
@@ -13,6 +14,9 @@ KINDS = ('Text', 'CodeSet', 'IdentifierSet', 'Amount', 'Rate', 'Quantity', 'Indi
          'YearMonth', 'MonthDay', 'Month', 'Day', *COMPONENTS, 'ExternalSchema')
 REFERENCES = ('simpleType', 'complexType', 'type')
 IDENTIFIER = ('businessArea', 'messageFunctionality', 'flavour', 'version')
+IDENTIFIER_FORM = re.compile('[a-z]{4}[.][A-Za-z0-9]{3}[.][0-9]{3}[.][0-9]{2}')
+# what stands before a message's identifier in the namespace of its instances
+NAMESPACE = 'urn:iso:std:iso:20022:tech:xsd:'
 
 
 @dataclass

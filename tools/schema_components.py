@@ -2,15 +2,14 @@
 import collections
 import re
 
-from repository_file import Element, Entry, Message
-from schema_file import NAMESPACE, XS, parts
+from repository_file import IDENTIFIER_FORM, NAMESPACE, Element, Entry, Message
+from schema_file import XS, parts
 from schema_finite import finite
 from schema_simple_types import MOST_NUMBER, SimpleTypes, facet_texts, kind_of, number_of
 
 GROUPS = ('sequence', 'choice')
 KIND_OF_GROUP = {'sequence': 'MessageComponent', 'choice': 'ChoiceComponent'}
 NAME = re.compile('[A-Za-z_][A-Za-z0-9_.-]{0,255}')
-IDENTIFIER = re.compile('[a-z]{4}[.][A-Za-z0-9]{3}[.][0-9]{3}[.][0-9]{2}')
 MOST_ELEMENTS = 4096
 MOST_ENTRIES = 65536
 
@@ -221,7 +220,7 @@ class Components:
     def identifier(self):
         space = self.schema.space
         identifier = space[len(NAMESPACE):] if space.startswith(NAMESPACE) else ''
-        if not IDENTIFIER.fullmatch(identifier):
+        if not IDENTIFIER_FORM.fullmatch(identifier):
             self.schema.tell(self.schema.root, f'the target namespace `{space}` is not `{NAMESPACE}` and a message identifier')
         return identifier
 

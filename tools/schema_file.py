@@ -2,7 +2,6 @@
 from xml_tree import NotXml, read_tree
 
 XS = 'http://www.w3.org/2001/XMLSchema'
-NAMESPACE = 'urn:iso:std:iso:20022:tech:xsd:'
 # attributes that change nothing of what is accepted, by the value with which they do not (None: any)
 HARMLESS = {'id': None, 'form': 'qualified', 'nillable': 'false', 'abstract': 'false', 'mixed': 'false',
             'block': None, 'final': None}

@@ -1,9 +1,6 @@
 """What is wrong with the words of a call, where the program says that they have no form, or that it could not read."""
-import re
-
 from program import READ, WORDS
-
-IDENTIFIER = re.compile('[a-z]{4}[.][A-Za-z0-9]{3}[.][0-9]{3}[.][0-9]{2}')
+from repository_file import IDENTIFIER_FORM
 
 
 def unreadable(path):
@@ -28,6 +25,6 @@ def word_faults(answer, repository, codes, message, *files):
     """Lines that say more than the program's of its words; none where its line says all."""
     if answer.status == READ:
         return read_faults([repository, *([] if codes.name == '-' else [codes]), *files])
-    if answer.status == WORDS and not IDENTIFIER.fullmatch(message):
+    if answer.status == WORDS and not IDENTIFIER_FORM.fullmatch(message):
         return [f'`{message}` is no message identifier: these are as pacs.008.001.08']
     return []
