@@ -4,6 +4,8 @@ import sys
 import textwrap
 from pathlib import Path
 
+from repository_file import IDENTIFIER_FORM
+
 TABLE = Path(__file__).resolve().parent.parent / 'docs' / 'commands.txt'
 CODES = 'CODES is a file of external codes, a record `NAME,CODE` a line; `-` stands for none.'
 ANSWERS = 'An answer of the program other than what the command prints is one line on standard error, and nothing on standard output:'
@@ -92,19 +94,68 @@ def manual():
 
 # ---- isorepo.bash
 
-COMPLETION = '''# Completions of bash for isorepo: made of docs/commands.txt by tools/make_manual.py
+COMPLETION = r'''# Completions of bash for isorepo: made of docs/commands.txt by tools/make_manual.py
+
+# _isorepo_offer WORD: offers those of the lines on standard input that begin with the word. What stands in a line is never expanded.
+_isorepo_offer() {{
+    local line
+    while IFS= read -r line; do
+        [[ $line != "$1"* ]] || COMPREPLY+=("$line")
+    done
+}}
+
+# _isorepo_plain WORD: sets `plain` to what a word stands for, with its quotes and backslashes taken and ~/ as the home folder. Nothing else in it is expanded.
+_isorepo_plain() {{
+    local word=$1 quote= at=0 character
+    plain=
+    [[ $word != '~/'* ]] || {{ plain=$HOME/; at=2; }}
+    while [ "$at" -lt "${{#word}}" ]; do
+        character=${{word:at:1}}
+        at=$((at + 1))
+        case $quote$character in
+        \\ | \"\\)
+            plain+=${{word:at:1}}
+            at=$((at + 1))
+            ;;
+        \' | \") quote=$character ;;
+        \'\' | \"\") quote= ;;
+        *) plain+=$character ;;
+        esac
+    done
+}}
+
+# _isorepo_asked WORDS..: what the command answers, without a build
+_isorepo_asked() {{
+    local plain
+    _isorepo_plain "${{COMP_WORDS[0]}}"
+    ISOREPO_COMPLETES=1 "$plain" "$@" 2>/dev/null
+}}
+
+# _isorepo_messages REPO CODES: the identifiers of the messages. A name in the file may have line ends, and is not offered.
+_isorepo_messages() {{
+    local LC_ALL=C plain line repository
+    _isorepo_plain "$1"
+    repository=$plain
+    _isorepo_plain "$2"
+    while IFS= read -r line; do
+        [[ ! ${{line%% *}} =~ ^{identifier}$ ]] || printf '%s\n' "${{line%% *}}"
+    done < <(_isorepo_asked list "$repository" "$plain")
+}}
+
 _isorepo() {{
-    local word=${{COMP_WORDS[COMP_CWORD]}} options=
+    local word=${{COMP_WORDS[COMP_CWORD]}} options= at=1
     local -a wanted=()
     COMPREPLY=()
     if [ "$COMP_CWORD" = 1 ]; then
         mapfile -t COMPREPLY < <(compgen -W '{first}' -- "$word")
         return
     fi
-    case ${{COMP_WORDS[1]}} in
+    # behind `try` and a command stand the words of that command
+    [ "${{COMP_WORDS[1]}}" != try ] || [ "$COMP_CWORD" = 2 ] || at=2
+    case ${{COMP_WORDS[at]}} in
 {cases}
     esac
-    local count=${{#wanted[@]}} first=2
+    local count=${{#wanted[@]}} first=$((at + 1))
     [ "$count" -gt 0 ] || return
     while [ "$first" -lt "$COMP_CWORD" ] && [[ " $options " == *" ${{COMP_WORDS[first]}} "* ]]; do
         [ "${{COMP_WORDS[first]}}" != --from ] || first=$((first + 1))
@@ -126,11 +177,11 @@ _isorepo() {{
     fi
     compopt -o filenames 2>/dev/null
     case ${{wanted[place]}} in
-    MSGID) mapfile -t COMPREPLY < <(compgen -W "$("${{COMP_WORDS[0]}}" list "${{COMP_WORDS[first]}}" "${{COMP_WORDS[first + 1]}}" 2>/dev/null | cut -d ' ' -f 1)" -- "$word") ;;
+    MSGID) _isorepo_offer "$word" < <(_isorepo_messages "${{COMP_WORDS[first]}}" "${{COMP_WORDS[first + 1]}}") ;;
     DIR) mapfile -t COMPREPLY < <(compgen -d -- "$word") ;;
     '[COMMAND]') mapfile -t COMPREPLY < <(compgen -W '{first}' -- "$word") ;;
     COMMAND) mapfile -t COMPREPLY < <(compgen -W '{tried}' -- "$word") ;;
-    '[RULE]') mapfile -t COMPREPLY < <(compgen -W "$("${{COMP_WORDS[0]}}" explain 2>/dev/null)" -- "$word") ;;
+    '[RULE]') _isorepo_offer "$word" < <(_isorepo_asked explain) ;;
     CODES) mapfile -t COMPREPLY < <(compgen -W - -- "$word"; compgen -f -- "$word") ;;
     *) mapfile -t COMPREPLY < <(compgen -f -- "$word") ;;
     esac
@@ -151,7 +202,7 @@ def completions():
     named = [words_of.split(' ') for words_of, _ in commands + words]
     cases = '\n'.join(f"    {first}) {arrays(rest)} ;;" for first, *rest in named if rest)
     tried = [words_of.split(' ')[0] for who, words_of, _ in rows('command') if who == 'program'] + ['show']
-    return COMPLETION.format(first=' '.join(first for first, *_ in named), cases=cases, tried=' '.join(tried))
+    return COMPLETION.format(first=' '.join(first for first, *_ in named), cases=cases, tried=' '.join(tried), identifier=IDENTIFIER_FORM.pattern)
 
 
 def main(folder):
