@@ -2,9 +2,9 @@
 from xml_tree import NotXml, read_tree
 
 XS = 'http://www.w3.org/2001/XMLSchema'
-# attributes that change nothing of what is accepted, by the value with which they do not (None: any)
-HARMLESS = {'id': None, 'form': 'qualified', 'nillable': 'false', 'abstract': 'false', 'mixed': 'false',
-            'block': None, 'final': None}
+TRUE, FALSE = ('true', '1'), ('false', '0')
+# attributes that change nothing of what is accepted, by the values with which they do not (None: any)
+HARMLESS = {'id': None, 'form': ('qualified',), 'nillable': FALSE, 'abstract': FALSE, 'mixed': FALSE, 'block': None, 'final': None}
 
 
 class Problems:
@@ -25,8 +25,8 @@ class Problems:
 
 
 def parts(node):
-    """The children that say something."""
-    return [child for child in node.children if not (child.space == XS and child.name == 'annotation')]
+    """The children that say something; what is in another namespace is told of by its schema."""
+    return [child for child in node.children if child.space == XS and child.name != 'annotation']
 
 
 class Schema:
@@ -46,6 +46,7 @@ class Schema:
         if self.root is not None and not self.is_schema():
             self.root = None
         if self.root is not None:
+            self.tell_foreign()
             self.declare()
 
     def tell(self, node, what):
@@ -63,6 +64,16 @@ class Schema:
             self.tell(root, 'attributes that are in the namespace: attributeFormDefault is `qualified`')
         return True
 
+    def tell_foreign(self):
+        """Tells of the elements in other namespaces, but for those within annotations."""
+        left = [self.root]
+        while left:
+            for child in left.pop().children:
+                if child.space != XS:
+                    self.tell(child, f'`{child.name}` of {f"the namespace `{child.space}`" if child.space else "no namespace"}')
+                elif child.name != 'annotation':
+                    left.append(child)
+
     def declare(self):
         for child in parts(self.root):
             name = child.get('name', '')
@@ -78,7 +89,7 @@ class Schema:
     def only(self, node, *names):
         """Tells of attributes other than these that change what is accepted."""
         for name, text in node.attributes.items():
-            harmless = name in HARMLESS and HARMLESS[name] in (None, text.strip())
+            harmless = name in HARMLESS and (HARMLESS[name] is None or text.strip() in HARMLESS[name])
             if name not in names and not name.startswith('{') and not harmless:
                 self.tell(node, f'{node.name} with {name}="{text}"')
 

@@ -4,7 +4,7 @@ from dataclasses import dataclass, field
 from decimal import Decimal
 
 from pattern_language import PatternFault, read_pattern
-from schema_file import XS, parts
+from schema_file import TRUE, XS, parts
 
 # the built-in types that a repository has, by what they are in it
 FAMILIES = {'string': 'text', 'decimal': 'number', 'boolean': 'Indicator', 'base64Binary': 'Binary', 'date': 'Date',
@@ -21,6 +21,10 @@ LENGTHS = ('minLength', 'maxLength', 'length')
 DIGITS = ('totalDigits', 'fractionDigits')
 LOWER = ('minInclusive', 'minExclusive')
 UPPER = ('maxInclusive', 'maxExclusive')
+# facets that one restriction may have more than once, and such as may not stand together in one (XML Schema part 2, 4.3)
+REPEATED = ('pattern', 'enumeration')
+APART = (LOWER, UPPER, ('length', 'minLength'), ('length', 'maxLength'))
+WHITE = ' \t\r\n'
 MOST_NUMBER = 2 ** 32 - 1
 MOST_DIGITS = 18
 MOST_CODES = 65536
@@ -32,6 +36,8 @@ class SimpleType:
     family: str
     facets: dict = field(default_factory=dict)
     codes: list = field(default_factory=list)
+    fixed: set = field(default_factory=set)
+    is_final: bool = False
 
 
 def number_of(text):
@@ -79,7 +85,11 @@ class SimpleTypes:
         if [child.name for child in inner] != ['restriction']:
             self.schema.tell(node, f'a simple type by {", ".join(child.name for child in inner) or "nothing"}')
             return None
-        return self.restricted(inner[0], seen)
+        result = self.restricted(inner[0], seen)
+        if result is not None:
+            final = node.get('final', self.schema.root.get('finalDefault', ''))
+            result.is_final = bool({'restriction', '#all'}.intersection(final.split()))
+        return result
 
     def restricted(self, node, seen):
         self.schema.only(node, 'base')
@@ -90,9 +100,13 @@ class SimpleTypes:
             base = self.of_reference(node, 'base', seen)
         if base is None:
             return None
-        result = SimpleType(base.family, dict(base.facets), list(base.codes))
+        if base.is_final:
+            self.schema.tell(node, 'a restriction of a type that is final')
+        fixed = {facet.name for facet in steps if facet.get('fixed', '').strip(WHITE) in TRUE}
+        result = SimpleType(base.family, dict(base.facets), list(base.codes), base.fixed | fixed)
         for facet in steps:
             self.check_facet(facet, base.family)
+        self.check_steps(steps)
         self.take_values(steps, base, result)
         self.take_patterns([facet for facet in steps if facet.name == 'pattern'], base, result)
         self.take_codes([facet for facet in steps if facet.name == 'enumeration'], result)
@@ -101,7 +115,7 @@ class SimpleTypes:
         return result
 
     def check_facet(self, facet, family):
-        self.schema.only(facet, 'value', 'fixed')
+        self.schema.only(facet, 'value', *(() if facet.name in REPEATED else ('fixed',)))
         white_space = 'preserve' if family == 'text' else 'collapse'
         if facet.name == 'whiteSpace' and facet.get('value') == white_space:
             return
@@ -109,6 +123,17 @@ class SimpleTypes:
             self.schema.tell(facet, f'the facet {facet.name} of a type of this kind')
         elif facet.get('value') is None:
             self.schema.tell(facet, f'{facet.name} without value')
+
+    def check_steps(self, steps):
+        """Facets of one restriction that stand there twice, or of which one alone may stand."""
+        names = set()
+        for facet in steps:
+            if facet.name in names and facet.name not in REPEATED:
+                self.schema.tell(facet, f'the facet {facet.name} twice')
+            for other in (name for pair in APART if facet.name in pair for name in pair):
+                if other != facet.name and other in names:
+                    self.schema.tell(facet, f'the facet {facet.name} beside {other}')
+            names.add(facet.name)
 
     def take_values(self, steps, base, result):
         """Numbers and bounds; a bound takes the place of the base's bound on its side."""
@@ -126,14 +151,14 @@ class SimpleTypes:
 
     def number(self, facet):
         """The number of a facet; None where it was told that it is none."""
-        value = number_of(facet.get('value').strip().lstrip('+'))
+        value = number_of(facet.get('value').strip(WHITE).removeprefix('+'))
         if value is None:
             self.schema.tell(facet, f'{facet.name} is not a number up to {MOST_NUMBER}')
         return value
 
     def decimal(self, facet):
         """The decimal of a facet; None where it was told that it is none."""
-        text = facet.get('value').strip()
+        text = facet.get('value').strip(WHITE)
         if not re.fullmatch(r'[+-]?([0-9]+(\.[0-9]*)?|\.[0-9]+)', text):
             self.schema.tell(facet, f'{facet.name} is not a decimal')
             return None
@@ -198,6 +223,9 @@ class SimpleTypes:
             mine, other = (bound_of(facets, side, sign) for facets in (result.facets, base.facets))
             if other and mine[:2] < other[:2]:
                 self.schema.tell(node, f'{mine[2]}, where the base type has {other[2]}')
+        for name in sorted(base.fixed):
+            if result.facets.get(name) != base.facets.get(name):
+                self.schema.tell(node, f'another {name} than that of the base type, where it is fixed')
         for code in result.codes if base.codes else []:
             if code not in base.codes:
                 self.schema.tell(node, f'the code `{code}`, which the base type does not have')
