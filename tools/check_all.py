@@ -54,6 +54,14 @@ def names_of(path):
     return [os.fsdecode(name) for name in (data.split(b'\0') if b'\0' in data else data.splitlines()) if name]
 
 
+class Rows:
+    """Standard output as `csv` writes rows to it: a lone CR in a field is quoted only where rows end in CR and LF, and here they end in LF."""
+
+    @staticmethod
+    def write(row):
+        OUT.write(row.removesuffix('\r\n') + '\n')
+
+
 def row_of(path, given):
     fault = fault_of(given.line) if given.line else None
     rule, place, trace = (fault.rule, fault.where or '', fault.path or '') if fault else ('', '', '')
@@ -101,7 +109,7 @@ def answers(pool, verb, words, files):
 
 def check_files(verb, words, files, counts):
     """Writes a row for each file, in their order, and counts the files of each rule; the greatest status."""
-    table = csv.writer(OUT, lineterminator='\n')
+    table = csv.writer(Rows)
     table.writerow(HEAD)
     worst, progress = DONE, Progress(len(files))
     pool = ThreadPoolExecutor(len(os.sched_getaffinity(0)))
