@@ -2,7 +2,7 @@
 import re
 
 from page import BOM, WIDTH, spot_of
-from place import TOKEN
+from place import MOST_TAG, TOKEN
 
 NO_CHARACTER = re.compile('[^\t\n\r\x20-\ud7ff\ue000-\ufffd\U00010000-\U0010ffff]')
 XML = 'http://www.w3.org/XML/1998/namespace'
@@ -18,11 +18,11 @@ CLOSERS = {b'<!--': b'-->', b'<![CDATA[': b']]>', b'<?': b'?>'}
 
 def first_twice(place):
     """The first attribute whose name came before."""
-    names = []
+    names = set()
     for it in place.attributes():
         if it.name in names:
             return it
-        names.append(it.name)
+        names.add(it.name)
     return None
 
 
@@ -70,6 +70,8 @@ def markup_told(place, at):
         return [']]&gt; for ]]> in a text']
     if token.startswith(b'<?'):
         return ['an instruction as <?name text?>, whose name is not xml']
+    if re.match(rb'<[A-Za-z_:/\x80-\xff]', token) and place.is_beyond_limit(at):
+        return [f'a tag of at most {MOST_TAG:,} bytes']
     if token.startswith(b'</'):
         return ['an end tag as </Name>']
     if not re.match(rb'<[A-Za-z_:\x80-\xff]', token):

@@ -7,9 +7,10 @@ from xml.parsers import expat
 from page import BOM
 
 XSI = 'http://www.w3.org/2001/XMLSchema-instance'
-TOKEN = re.compile(rb'<!--.*?-->|<\?.*?\?>|<!\[CDATA\[.*?\]\]>|<(?:[^<>"\']|"[^"]*"|\'[^\']*\')*>?|&(?:#?\w+;)?|[\xc0-\xff][\x80-\xbf]{0,3}|.', re.S)
+TOKEN = re.compile(rb'<!--.*?-->|<\?.*?\?>|<!\[CDATA\[.*?\]\]>|<(?:[^<>"\']+|"[^"]*"|\'[^\']*\')*>?|&(?:#?\w+;)?|[\xc0-\xff][\x80-\xbf]{0,3}|.', re.S)
 ATTRIBUTE = re.compile(rb'([^\s=/<>"\']+)\s*=\s*("[^"]*"|\'[^\']*\')')
 NAME = re.compile(rb'</?([^\s/>]*)')
+MOST_TAG = 2 ** 20
 
 
 class Open(NamedTuple):
@@ -119,6 +120,13 @@ class Place:
 
     def token_text(self):
         return self.token.decode(errors='replace')
+
+    def is_beyond_limit(self, at):
+        """Whether a tag begins there that has not ended in as many octets as a tag may have."""
+        if len(self.token) > MOST_TAG:
+            return True
+        behind = self.data[at + 1:at + MOST_TAG + 1]
+        return not self.token.endswith(b'>') and len(behind) == MOST_TAG and b'<' not in behind
 
     def tag_name(self):
         """The name in the tag as it is spelled, with its prefix."""

@@ -11,7 +11,7 @@ from expected import Types, closest, read_codes
 from faults_of_instances import expected, octets_expected, parts_of
 from faults_of_repositories import file_fault, message_fault
 from page import FAR, WIDTH, Spot, Style, line_spot, marked, octet_lines, rows, spot_of
-from place import Place
+from place import MOST_TAG, Place
 from program import CODES, INSTANCE, MESSAGE, REPOSITORY, Fault, Source, check, codes_source, fault_of, source
 from repository_file import read_repository
 from rule_sentences import SENTENCES
@@ -62,9 +62,10 @@ class Call:
 
 
 def octets_to(file, place):
-    """The octets of a file up to a place, and some behind it."""
+    """The octets of a file up to a place, and some behind it: more than a tag may have where one begins there."""
     with open(file.path, 'rb') as opened:
-        return opened.read(place + FAR)
+        data = opened.read(place + FAR)
+        return data + opened.read(MOST_TAG) if data[place:place + 1] == b'<' else data
 
 
 # ---- what is told, by the status of the answer
