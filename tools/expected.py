@@ -7,6 +7,14 @@ from repository_file import COMPONENTS, Entry, codes_of
 
 FORMS = {'Date': '2026-11-27', 'DateTime': '2026-11-27T09:30:00', 'Time': '09:30:00', 'Year': '2026', 'YearMonth': '2026-11',
          'MonthDay': '--11-27', 'Month': '--11', 'Day': '---27'}
+DAY = '(?P<month>[0-9]{2})-(?P<day>[0-9]{2})'
+YEAR = '(?P<year>-?[0-9]{4,})'
+CLOCK = '(?P<hour>[0-9]{2}):(?P<minute>[0-9]{2}):(?P<second>[0-9]{2})([.](?P<fraction>[0-9]+))?'
+SHAPES = {'Date': f'{YEAR}-{DAY}', 'DateTime': f'{YEAR}-{DAY}T{CLOCK}', 'Time': CLOCK, 'Year': YEAR, 'YearMonth': f'{YEAR}-(?P<month>[0-9]{{2}})',
+          'MonthDay': f'--{DAY}', 'Month': '--(?P<month>[0-9]{2})', 'Day': '---(?P<day>[0-9]{2})'}
+ZONE = '(Z|[+-](?P<zone>[0-9]{2}:[0-9]{2}))?'
+TAKEN = (('year', '0001', '9999'), ('month', '01', '12'), ('day', '01', '31'), ('hour', '00', '23'), ('minute', '00', '59'), ('second', '00', '59'))
+MOST_FRACTION = 9
 FIRST_CODES = 8
 LONGEST_MEANT = 256
 csv.field_size_limit(2 ** 31 - 1)
@@ -85,6 +93,30 @@ def digits(facets):
         told.append(f'at most {facets["fractionDigits"]} behind the point')
     words = {'minInclusive': 'at least', 'minExclusive': 'above', 'maxInclusive': 'at most', 'maxExclusive': 'below'}
     return told + [f'{words[name]} {facets[name]}' for name in words if name in facets]
+
+
+def last_day(month, year):
+    """The last day of a month; of a February whose year is not told 29."""
+    if month == '02':
+        return '28' if year and (int(year) % 4 or int(year) % 100 == 0 and int(year) % 400) else '29'
+    return '30' if month in ('04', '06', '09', '11') else '31'
+
+
+def date_fault(kind, text):
+    """What is not taken of a date or time that has the form of its kind; None: nothing, or it has not the form."""
+    found = re.fullmatch(SHAPES[kind] + ZONE, text)
+    parts = found.groupdict() if found else {}
+    for name, least, most in TAKEN:
+        value = parts.get(name)
+        if name == 'day' and 'month' in parts:
+            most = last_day(parts['month'], parts.get('year'))
+        if value is not None and not (len(value) == len(most) and least <= value <= most):
+            return f'the {name} is {value[:LONGEST_MEANT]}, and {least} to {most} are taken'
+    zone = parts.get('zone')
+    if zone and (zone > '14:00' or zone[3:] > '59'):
+        return f'the zone is {zone}, and 00:00 to 14:00 are taken'
+    digits_of = len(parts.get('fraction') or '')
+    return f'the second has {digits_of} digits behind the point, and {MOST_FRACTION} are taken' if digits_of > MOST_FRACTION else None
 
 
 def tag_list(elements):

@@ -1,11 +1,12 @@
 """What a message has where an instance is refused, and which part of the line breaks the rule, for each rule."""
-from expected import FORMS, bounds_of, closest, may_come, times
+from expected import FORMS, bounds_of, closest, date_fault, may_come, times
 from faults_of_markup import bad_declaration, bad_octet, first_twice, is_closer, markup_expected
 from page import BOM, LINE_END, WIDTH
 from pattern_match import how_far
 from place import XSI
-from repository_file import COMPONENTS, NAMESPACE
+from repository_file import COMPONENTS, MOST_DIGITS, NAMESPACE
 from rule_sentences import MARKUP
+from xml_tree import WHITE
 
 LEAF_RULES = ('BadText', 'BadLength', 'PatternFails', 'NotACode', 'Digits', 'OutOfRange')
 TAG_RULES = ('UnknownElement', 'OutOfOrder', 'TooMany', 'SecondAlternative', 'TextInComplex')
@@ -137,15 +138,20 @@ def root_expected(types, place):
     return told
 
 
-def text_told(rule, text):
+def text_told(rule, text, entry):
     """What the text has that the rule counts."""
+    if rule == 'BadText' and entry.kind in FORMS:
+        told = date_fault(entry.kind, text.strip(WHITE))
+        return [told] if told else []
     if rule == 'BadLength':
         return [f'the text has {len(text)} character{"" if len(text) == 1 else "s"}']
     if rule == 'Digits':
-        whole, _, fraction = text.strip(' \t\r\n').lstrip('+-').partition('.')
+        whole, _, fraction = text.strip(WHITE).lstrip('+-').partition('.')
         whole, fraction = whole.lstrip('0'), fraction.rstrip('0')
         count = len(whole + fraction) if whole else len(fraction.lstrip('0'))
-        return [f'the number has {count} digit{"" if count == 1 else "s"}, {len(fraction)} behind the point']
+        is_beyond = 'totalDigits' not in entry.facets and max(count, len(fraction)) > MOST_DIGITS
+        return [*([f'the type has no totalDigits, and of any number {MOST_DIGITS} digits are taken'] if is_beyond else []),
+                f'the number has {count} digit{"" if count == 1 else "s"}, {len(fraction)} behind the point']
     return []
 
 
@@ -176,9 +182,9 @@ def leaf_expected(types, fault, place):
         return told
     text = attribute.value if attribute else place.text()
     if entry.kind != 'Binary':
-        told += text_told(fault.rule, text)
+        told += text_told(fault.rule, text, entry)
     if fault.rule == 'PatternFails':
-        told += pattern_told(entry.facets['pattern'], text.strip(' \t\r\n') if entry.kind in FORMS else text)
+        told += pattern_told(entry.facets['pattern'], text.strip(WHITE) if entry.kind in FORMS else text)
     code = closest(text, types.codes_of(entry)) if fault.rule == 'NotACode' else None
     return told + [f'did you mean {code}?'] if code else told
 

@@ -12,6 +12,7 @@ FACETS = ['minLength', 'maxLength', 'length', 'totalDigits', 'fractionDigits', '
 COMPONENTS = ('MessageComponent', 'ChoiceComponent')
 KINDS = ('Text', 'CodeSet', 'IdentifierSet', 'Amount', 'Rate', 'Quantity', 'Indicator', 'Binary', 'Date', 'DateTime', 'Time', 'Year',
          'YearMonth', 'MonthDay', 'Month', 'Day', *COMPONENTS, 'ExternalSchema')
+MOST_DIGITS = 18
 REFERENCES = ('simpleType', 'complexType', 'type')
 IDENTIFIER = ('businessArea', 'messageFunctionality', 'flavour', 'version')
 IDENTIFIER_FORM = re.compile('[a-z]{4}[.][A-Za-z0-9]{3}[.][0-9]{3}[.][0-9]{2}')

@@ -4,7 +4,9 @@ from dataclasses import dataclass, field
 from decimal import Decimal
 
 from pattern_language import PatternFault, read_pattern
+from repository_file import MOST_DIGITS
 from schema_file import TRUE, XS, parts
+from xml_tree import WHITE
 
 # the built-in types that a repository has, by what they are in it
 FAMILIES = {'string': 'text', 'decimal': 'number', 'boolean': 'Indicator', 'base64Binary': 'Binary', 'date': 'Date',
@@ -24,9 +26,7 @@ UPPER = ('maxInclusive', 'maxExclusive')
 # facets that one restriction may have more than once, and such as may not stand together in one (XML Schema part 2, 4.3)
 REPEATED = ('pattern', 'enumeration')
 APART = (LOWER, UPPER, ('length', 'minLength'), ('length', 'maxLength'))
-WHITE = ' \t\r\n'
 MOST_NUMBER = 2 ** 32 - 1
-MOST_DIGITS = 18
 MOST_CODES = 65536
 MOST_CHARACTERS = 65536
 

@@ -1,6 +1,8 @@
 """An XML file as a tree that knows the line of each element, and the prefixes that are bound there."""
 from xml.parsers import expat
 
+WHITE = ' \t\r\n'
+
 
 class Node:
     """An element. Attributes in a namespace have names as `{namespace}name`."""
