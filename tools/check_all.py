@@ -13,9 +13,10 @@ from typing import NamedTuple
 from page import BOM
 from program import DONE, FAILED_READ, READ, WORDS, Answer, answer, check, codes_source, fault_of, source
 from rule_sentences import SENTENCES
-from word_faults import word_faults
+from word_faults import option_fault, word_faults
 
 HEAD = ('file', 'status', 'rule', 'place', 'path', 'line')
+OPTIONS = ('--der', '--from')
 USAGE = 'usage: isorepo check-all [--der] [--from LIST] REPO CODES MSGID FILES..'
 BAR = 40
 AT_ONCE = 4096
@@ -154,9 +155,10 @@ def main(words):
         is_der |= words[0] == '--der'
         lists += words[1:2] if words[0] == '--from' else []
         words = words[1 if words[0] == '--der' else 2:]
-    if len(words) < (3 if lists else 4):
-        NOTES.line(USAGE)
-        return 1
+    fault = option_fault(words, OPTIONS)
+    if fault or len(words) < (3 if lists else 4):
+        NOTES.line(fault or USAGE)
+        return WORDS
     verb, ending = ('check-der', '.der') if is_der else ('check-xml', '.xml')
     with contextlib.ExitStack() as stack:
         repository, codes = source(words[0], stack), codes_source(words[1], stack)

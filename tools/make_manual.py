@@ -15,7 +15,8 @@ SHOW = ('show and check-all read FILE and REPO anew to say more than the line of
         'Which word is mistaken, or which file cannot be read, show says on standard output and check-all on standard error; '
         'of a command of the program it is said on a terminal alone, but for a word that is no command while the program is not built. '
         'Colours and the progress of check-all come on a terminal alone. '
-        'With more or fewer words than they have import, show and check-all say their usage in one line on standard error, and end with 1. '
+        'With more or fewer words than they have import, show and check-all say their usage in one line on standard error, and end with 1; '
+        'so do show and check-all of an option that they do not have, or that stands behind REPO. '
         'The status of check-all is the greatest of its files.')
 
 

@@ -12,10 +12,10 @@ from faults_of_instances import expected, octets_expected, parts_of
 from faults_of_repositories import file_fault, message_fault
 from page import FAR, WIDTH, Spot, Style, line_spot, marked, octet_lines, rows, spot_of
 from place import MOST_TAG, Place
-from program import CODES, INSTANCE, MESSAGE, REPOSITORY, Fault, Source, check, codes_source, fault_of, source
+from program import CODES, INSTANCE, MESSAGE, REPOSITORY, WORDS, Fault, Source, check, codes_source, fault_of, source
 from repository_file import read_repository
 from rule_sentences import SENTENCES
-from word_faults import word_faults
+from word_faults import option_fault, word_faults
 from xml_tree import NotXml
 
 USAGE = 'usage: isorepo show [--der] [--json] REPO CODES MSGID FILE'
@@ -191,9 +191,10 @@ def main(words):
     while words and words[0] in options:
         options[words[0]] = True
         words = words[1:]
-    if len(words) != 4:
-        NOTES.line(USAGE)
-        return 1
+    fault = option_fault(words, options)
+    if fault or len(words) != 4:
+        NOTES.line(fault or USAGE)
+        return WORDS
     with contextlib.ExitStack() as stack:
         return show(Call(words, options['--der'], stack), options['--json'])
 

@@ -21,6 +21,14 @@ def read_faults(sources):
     return [f'{name}: {text}' for name, text in why if text]
 
 
+def option_fault(words, options):
+    """A line that names an option that there is not, or that stands behind REPO, where it is a file; None: there is none."""
+    if words and words[0].startswith('--'):
+        return f'isorepo: no such option: {words[0]}; there are {" and ".join(options)}'
+    behind = next((word for word in words if word in options), None)
+    return f'isorepo: the option {behind} stands before REPO; a file of this name is ./{behind}' if behind else None
+
+
 def word_faults(answer, repository, codes, message, *files):
     """Lines that say more than the program's of its words; none where its line says all."""
     if answer.status == READ:
