@@ -8,7 +8,7 @@ from pattern_language import PatternFault, read_pattern
 from place import Place
 from repository_file import COMPONENTS, KINDS, MOST_DIGITS, REPOSITORY, texts_of
 from rule_sentences import MARKUP
-from schema_file import XS
+from word_faults import SCHEMA
 
 NAME = re.compile('[A-Za-z_][A-Za-z0-9_.-]{0,255}')
 NUMBERS = ('minOccurs', 'maxOccurs', 'minLength', 'maxLength', 'length', 'totalDigits', 'fractionDigits',
@@ -52,8 +52,7 @@ def file_fault(data, fault):
     if fault.rule in MARKUP:
         return parts_of(fault, place), markup_expected(fault, place)
     if fault.rule == 'L2':
-        is_schema = (place.expanded() or [''])[0] == XS
-        return parts_of(fault, place), [f'Repository in {REPOSITORY}', *(['this is a schema, of which `import` makes a repository'] if is_schema else [])]
+        return parts_of(fault, place), [f'Repository in {REPOSITORY}', *([SCHEMA] if place.is_schema() else [])]
     attribute = attribute_of(fault.rule, place)
     if attribute:
         is_id = fault.rule == 'L3'

@@ -4,13 +4,21 @@ from functools import lru_cache
 from typing import NamedTuple
 from xml.parsers import expat
 
-from page import BOM
+from page import BOM, FAR
+from schema_file import XS
 
 XSI = 'http://www.w3.org/2001/XMLSchema-instance'
 TOKEN = re.compile(rb'<!--.*?-->|<\?.*?\?>|<!\[CDATA\[.*?\]\]>|<(?:[^<>"\']+|"[^"]*"|\'[^\']*\')*>?|&(?:#?\w+;)?|[\xc0-\xff][\x80-\xbf]{0,3}|.', re.S)
 ATTRIBUTE = re.compile(rb'([^\s=/<>"\']+)\s*=\s*("[^"]*"|\'[^\']*\')')
 NAME = re.compile(rb'</?([^\s/>]*)')
 MOST_TAG = 2 ** 20
+
+
+def octets_to(path, place):
+    """The octets of a file up to a place, and some behind it: more than a tag may have where one begins there."""
+    with open(path, 'rb') as file:
+        data = file.read(place + FAR)
+        return data + file.read(MOST_TAG) if data[place:place + 1] == b'<' else data
 
 
 class Open(NamedTuple):
@@ -117,6 +125,10 @@ class Place:
             return None
         space, _, tag = started[0][0].rpartition(' ')
         return space, tag, started[0][1]
+
+    def is_schema(self):
+        """Whether the tag is that of a schema."""
+        return self.expanded() is not None and self.expanded()[:2] == (XS, 'schema')
 
     def token_text(self):
         return self.token.decode(errors='replace')

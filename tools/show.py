@@ -10,10 +10,10 @@ from typing import NamedTuple, Optional
 from expected import Types, closest, read_codes
 from faults_of_instances import expected, octets_expected, parts_of
 from faults_of_repositories import file_fault, message_fault
-from page import FAR, WIDTH, Spot, Style, line_spot, marked, octet_lines, rows, spot_of
-from place import MOST_TAG, Place
+from page import WIDTH, Spot, Style, line_spot, marked, octet_lines, rows, spot_of
+from place import Place, octets_to
 from program import CODES, INSTANCE, MESSAGE, REPOSITORY, WORDS, Fault, Source, check, codes_source, fault_of, source
-from repository_file import read_repository
+from repository_file import IDENTIFIER_FORM, read_repository
 from rule_sentences import SENTENCES
 from word_faults import option_fault, word_faults
 from xml_tree import NotXml
@@ -61,28 +61,21 @@ class Call:
         return Types(entries, message, read_codes(self.codes.path), [it.identifier for it in messages])
 
 
-def octets_to(file, place):
-    """The octets of a file up to a place, and some behind it: more than a tag may have where one begins there."""
-    with open(file.path, 'rb') as opened:
-        data = opened.read(place + FAR)
-        return data + opened.read(MOST_TAG) if data[place:place + 1] == b'<' else data
-
-
 # ---- what is told, by the status of the answer
 
 def of_instance(call, fault):
     at = int(fault.where)
     if call.is_der:
-        data = octets_to(call.file, at)[at:]
+        data = octets_to(call.file.path, at)[at:]
         return Told(call.file, fault, None, octets_expected(call.types(), fault, data), True)
-    data = octets_to(call.file, at)
+    data = octets_to(call.file.path, at)
     place = Place(data, at)
     spot = spot_of(data, at, parts_of(fault, place))
     return Told(call.file, fault, spot, expected(call.types(), fault, place))
 
 
 def of_repository(call, fault):
-    data = octets_to(call.repository, int(fault.where))
+    data = octets_to(call.repository.path, int(fault.where))
     parts, wanted = file_fault(data, fault)
     return Told(call.repository, fault, spot_of(data, int(fault.where), parts), wanted)
 
@@ -101,10 +94,10 @@ def of_message(call, fault):
         lines = [str(it.line) for it in messages if it.identifier == fault.where]
         wanted += [f'one message of this identifier; they stand in the lines {", ".join(lines)}'] if fault.rule == 'M2' else []
         return Told(call.repository, fault, line_spot(call.repository.path, line), wanted)
-    known = [it.identifier for it in messages]
+    known = [it.identifier for it in messages if IDENTIFIER_FORM.fullmatch(it.identifier)]
     more = f', and {len(known) - FIRST_MESSAGES} more' if len(known) > FIRST_MESSAGES else ''
     meant = closest(fault.where, known[FIRST_MESSAGES:])
-    told = [f'one of {", ".join(known[:FIRST_MESSAGES])}{more}'] if known else ['a message; the repository has none']
+    told = [f'one of {", ".join(known[:FIRST_MESSAGES])}{more}'] if known else ['a message; the repository has none' + (' whose identifier has its form' if messages else '')]
     return Told(call.repository, fault, None, told + ([f'did you mean {meant}?'] if meant else []))
 
 

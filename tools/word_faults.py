@@ -1,6 +1,9 @@
 """What is wrong with the words of a call, where the program says that they have no form, or that it could not read."""
-from program import READ, WORDS
+from place import Place, octets_to
+from program import READ, REPOSITORY, WORDS, fault_of
 from repository_file import IDENTIFIER_FORM
+
+SCHEMA = 'this is a schema, of which `import` makes a repository'
 
 
 def unreadable(path):
@@ -21,6 +24,15 @@ def read_faults(sources):
     return [f'{name}: {text}' for name, text in why if text]
 
 
+def schema_faults(answer, repository):
+    """A line where what should be a repository is a schema."""
+    fault = fault_of(answer.line)
+    if fault is None or fault.rule != 'L2':
+        return []
+    at = int(fault.where)
+    return [f'{repository.name}: {SCHEMA}'] if Place(octets_to(repository.path, at), at).is_schema() else []
+
+
 def option_fault(words, options):
     """A line that names an option that there is not, or that stands behind REPO, where it is a file; None: there is none."""
     if words and words[0].startswith('--'):
@@ -33,6 +45,8 @@ def word_faults(answer, repository, codes, message, *files):
     """Lines that say more than the program's of its words; none where its line says all."""
     if answer.status == READ:
         return read_faults([repository, *([] if codes.name == '-' else [codes]), *files])
+    if answer.status == REPOSITORY:
+        return schema_faults(answer, repository)
     if answer.status == WORDS and not IDENTIFIER_FORM.fullmatch(message):
         return [f'`{message}` is no message identifier: these are as pacs.008.001.08']
     return []
