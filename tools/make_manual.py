@@ -107,9 +107,9 @@ _isorepo_offer() {{
 
 # _isorepo_plain WORD: sets `plain` to what a word stands for, with its quotes and backslashes taken and ~/ as the home folder. Nothing else in it is expanded.
 _isorepo_plain() {{
-    local word=$1 quote= at=0 character
+    local word=$1 at=0 character quote=
     plain=
-    [[ $word != '~/'* ]] || {{ plain=$HOME/; at=2; }}
+    [[ $word != \~/* ]] || {{ plain=$HOME/; at=2; }}
     while [ "$at" -lt "${{#word}}" ]; do
         character=${{word:at:1}}
         at=$((at + 1))
@@ -144,7 +144,7 @@ _isorepo_messages() {{
 }}
 
 _isorepo() {{
-    local word=${{COMP_WORDS[COMP_CWORD]}} options= at=1
+    local word=${{COMP_WORDS[COMP_CWORD]}} at=1 options=
     local -a wanted=()
     COMPREPLY=()
     if [ "$COMP_CWORD" = 1 ]; then

@@ -11,6 +11,7 @@ XSI = 'http://www.w3.org/2001/XMLSchema-instance'
 TOKEN = re.compile(rb'<!--.*?-->|<\?.*?\?>|<!\[CDATA\[.*?\]\]>|<(?:[^<>"\']+|"[^"]*"|\'[^\']*\')*>?|&(?:#?\w+;)?|[\xc0-\xff][\x80-\xbf]{0,3}|.', re.S)
 ATTRIBUTE = re.compile(rb'([^\s=/<>"\']+)\s*=\s*("[^"]*"|\'[^\']*\')')
 NAME = re.compile(rb'</?([^\s/>]*)')
+# of a tag, in octets
 MOST_TAG = 2 ** 20
 
 

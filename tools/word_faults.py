@@ -1,4 +1,4 @@
-"""What is wrong with the words of a call, where the program says that they have no form, or that it could not read."""
+"""What is wrong with the words of a call: no form, an option that there is not, a file that cannot be read, a schema for a repository."""
 from place import Place, octets_to
 from program import READ, REPOSITORY, WORDS, fault_of
 from repository_file import IDENTIFIER_FORM
