@@ -6,15 +6,13 @@ from faults_of_instances import parts_of
 from faults_of_markup import markup_expected
 from pattern_language import PatternFault, read_pattern
 from place import Place
-from repository_file import COMPONENTS, KINDS, MOST_DIGITS, REPOSITORY, texts_of
+from repository_file import COMPONENTS, KINDS, MOST_CHARACTERS, MOST_CODES, MOST_DIGITS, MOST_ELEMENTS, MOST_OBJECTS, NAME, REPOSITORY, texts_of
 from rule_sentences import MARKUP
 from word_faults import SCHEMA
 
-NAME = re.compile('[A-Za-z_][A-Za-z0-9_.-]{0,255}')
 NUMBERS = ('minOccurs', 'maxOccurs', 'minLength', 'maxLength', 'length', 'totalDigits', 'fractionDigits',
            'minInclusive', 'maxInclusive', 'minExclusive', 'maxExclusive')
 NEEDED = ('xmi:id', 'xsi:type', 'name')
-MOST_OBJECTS, MOST_ELEMENTS, MOST_CODES, MOST_CHARACTERS = 65536, 4096, 65536, 65536
 # Of a way round, so many steps are told, and of a long text so many characters.
 STEPS = 4
 SHOWN = 80

@@ -5,9 +5,9 @@ from typing import NamedTuple
 from xml.parsers import expat
 
 from page import BOM, FAR
+from repository_file import XSI
 from schema_file import XS
 
-XSI = 'http://www.w3.org/2001/XMLSchema-instance'
 TOKEN = re.compile(rb'<!--.*?-->|<\?.*?\?>|<!\[CDATA\[.*?\]\]>|<(?:[^<>"\']+|"[^"]*"|\'[^\']*\')*>?|&(?:#?\w+;)?|[\xc0-\xff][\x80-\xbf]{0,3}|.', re.S)
 ATTRIBUTE = re.compile(rb'([^\s=/<>"\']+)\s*=\s*("[^"]*"|\'[^\']*\')')
 NAME = re.compile(rb'</?([^\s/>]*)')

@@ -12,7 +12,11 @@ FACETS = ['minLength', 'maxLength', 'length', 'totalDigits', 'fractionDigits', '
 COMPONENTS = ('MessageComponent', 'ChoiceComponent')
 KINDS = ('Text', 'CodeSet', 'IdentifierSet', 'Amount', 'Rate', 'Quantity', 'Indicator', 'Binary', 'Date', 'DateTime', 'Time', 'Year',
          'YearMonth', 'MonthDay', 'Month', 'Day', *COMPONENTS, 'ExternalSchema')
+# the limits on a message and its types
 MOST_DIGITS = 18
+MOST_OBJECTS, MOST_ELEMENTS, MOST_CODES, MOST_CHARACTERS = 65536, 4096, 65536, 65536
+# what names and tags are
+NAME = re.compile('[A-Za-z_][A-Za-z0-9_.-]{0,255}')
 REFERENCES = ('simpleType', 'complexType', 'type')
 IDENTIFIER = ('businessArea', 'messageFunctionality', 'flavour', 'version')
 IDENTIFIER_FORM = re.compile('[a-z]{4}[.][A-Za-z0-9]{3}[.][0-9]{3}[.][0-9]{2}')

@@ -1,17 +1,13 @@
 """The complex types of a schema as components, choices, envelopes and amounts of a repository, and its message."""
 import collections
-import re
 
-from repository_file import IDENTIFIER_FORM, NAMESPACE, Element, Entry, Message
+from repository_file import IDENTIFIER_FORM, MOST_ELEMENTS, MOST_OBJECTS, NAME, NAMESPACE, Element, Entry, Message
 from schema_file import XS, parts
 from schema_finite import finite
 from schema_simple_types import MOST_NUMBER, SimpleTypes, facet_texts, kind_of, number_of
 
 GROUPS = ('sequence', 'choice')
 KIND_OF_GROUP = {'sequence': 'MessageComponent', 'choice': 'ChoiceComponent'}
-NAME = re.compile('[A-Za-z_][A-Za-z0-9_.-]{0,255}')
-MOST_ELEMENTS = 4096
-MOST_ENTRIES = 65536
 
 
 class Group:
@@ -293,8 +289,8 @@ class Components:
         for named in (message, *self.entries.values()):
             if not NAME.fullmatch(named.name):
                 tell(self.schema.path, named.line, f'the name `{named.name}` is not an ASCII name of at most 256 characters')
-        if len(self.entries) > MOST_ENTRIES:
-            tell(self.schema.path, message.line, f'more than {MOST_ENTRIES} types')
+        if len(self.entries) > MOST_OBJECTS:
+            tell(self.schema.path, message.line, f'more than {MOST_OBJECTS} types')
         for key in set(self.entries) - finite(self.entries):
             tell(self.schema.path, self.entries[key].line, f'{self.entries[key].name} has no finite instance')
 

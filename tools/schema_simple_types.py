@@ -4,7 +4,7 @@ from dataclasses import dataclass, field
 from decimal import Decimal
 
 from pattern_language import PatternFault, read_pattern
-from repository_file import MOST_DIGITS
+from repository_file import MOST_CHARACTERS, MOST_CODES, MOST_DIGITS
 from schema_file import TRUE, XS, parts
 from xml_tree import WHITE
 
@@ -27,8 +27,6 @@ UPPER = ('maxInclusive', 'maxExclusive')
 REPEATED = ('pattern', 'enumeration')
 APART = (LOWER, UPPER, ('length', 'minLength'), ('length', 'maxLength'))
 MOST_NUMBER = 2 ** 32 - 1
-MOST_CODES = 65536
-MOST_CHARACTERS = 65536
 
 
 @dataclass
