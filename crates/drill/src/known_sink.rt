@@ -1,8 +1,7 @@
 //! A sink of bytes that are known before they come.
-ghost use Rattle.std.specs.Prelude.{◌≡◌, ◌+◌, ◌<◌, ◌≤◌, ◌++◌, ◌↔◌, Some, [], length, take, IsTrue, OnErr, IfErr};
-ghost use Rattle.outside.specs.Sink.{PushAppends};
+ghost use Rattle.std.specs.Prelude.{◌≡◌, ◌+◌, ◌<◌, ◌≤◌, ◌++◌, ◌↔◌, Some, [], length, take, IsTrue};
 
-use outside::{Sink, SinkError};
+use outside::{Sink, SinkError, append};
 use std::alloc::Global;
 use std::marker::Model;
 
@@ -84,16 +83,4 @@ fn come_next(text: &[u8], count: usize, others: &[u8], bytes: &[u8]) -> bool
     ensures next { IsTrue result → take (count + length bytes.now) text.now ++ others.now ≡ (take count text.now ++ others.now) ++ bytes.now }
 {
     others.is_empty() && text.split_at(count).1.starts_with(bytes)
-}
-
-/// Appends bytes. No bytes ask for no memory.
-fn append(held: &mut Vec<u8>, bytes: &[u8]) -> Result<(), SinkError>
-    ensures bytes { PushAppends (Some held.old.items) (Some held.new.items) result bytes.now }
-    ensures unchanged { OnErr result (held.new.items ≡ held.old.items) }
-    ensures memory { IfErr result (λ e. (e ≡ SinkError.Memory) × (0 < length bytes.now)) }
-{
-    if !bytes.is_empty() {
-        held.extend_from_slice(bytes)?;
-    }
-    Ok(())
 }

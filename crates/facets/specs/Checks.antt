@@ -1,8 +1,8 @@
 -- What the checks of values that are no texts answer.
-use Rattle.std.specs.Prelude.{ℕ, ◌<◌, ◌≤◌, List, length, Option, Some, Result, Ok, Err}
+use Rattle.std.specs.Prelude.{ℕ, List, length, Option, Some, Result, Ok, Err}
 use Rattle.lexical_core.specs.Decimals.{Number}
 use Rattle.lexical_core.specs.declared.rule.Rule.{Rule}
-use Rattle.lexical_core.specs.declared.rule.Rule.TheVariants.{BadLength, NotACode, Digits, OutOfRange}
+use Rattle.lexical_core.specs.declared.rule.Rule.TheVariants.{BadLength, Digits, OutOfRange}
 use Rattle.data_types.specs.declared.kind.Kind.{Kind}
 use Rattle.data_types.specs.declared.kind.Kind.TheVariants as kind
 use Rattle.facets.specs.declared.simple.Simple.{Simple}
@@ -28,9 +28,3 @@ place_count_by k codes = 0
 
 abbrev pub place_count : Simple → ℕ
 place_count simple = place_count_by simple.kind simple.codes
-
--- a place: that of a code, or NotACode
-abbrev pub IsPlaceAnswer : {T : Type 0} → Simple → ℕ → Result T Rule → Type 0
-IsPlaceAnswer simple place (Ok x) = place < place_count simple
-IsPlaceAnswer simple place (Err NotACode) = place_count simple ≤ place
-IsPlaceAnswer simple place (Err rule) = ⊥

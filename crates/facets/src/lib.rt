@@ -1,6 +1,6 @@
 //! Simple types with their facets (XML Schema part 2 §4.3): `LeafCheck` gives the leaf that characters spell, or the first
-//! rule that it breaks, `LeafVerdict` no more than whether there is one; `check_number`, `check_octets` and `check_code`
-//! judge a leaf that is known.
+//! rule that it breaks, `LeafVerdict` no more than whether there is one; `check_number` and `check_octets` judge a
+//! leaf that is known.
 //!
 //! Where a `Simple` of the kind `Text` asks for one to four characters, `EUR` is a leaf, the empty text and `EUROS` break
 //! `BadLength`. With the codes `EUR` and `USD` the first is the code 0, for codes are numbered in the order of their bytes,
@@ -18,7 +18,6 @@ pub mod laws;
 mod leaf_check;
 mod leaf_verdict;
 mod lengths;
-mod places;
 mod progress;
 mod simple;
 mod step;
@@ -28,6 +27,5 @@ pub use digits::check_number;
 pub use leaf_check::LeafCheck;
 pub use leaf_verdict::LeafVerdict;
 pub use lengths::check_octets;
-pub use places::check_code;
 pub use simple::{Bound, Simple};
 pub use step::{Step, Texts};

@@ -197,8 +197,8 @@ impl Sink for MemSink {
     }
 }
 
-// Appends to the bytes that a sink holds. No bytes ask for no memory.
-fn append(held: &mut Vec<u8>, bytes: &[u8]) -> Result<(), SinkError>
+/// Appends to the bytes that a sink holds. No bytes ask for no memory.
+pub fn append(held: &mut Vec<u8>, bytes: &[u8]) -> Result<(), SinkError>
     ensures bytes { PushAppends (Some held.old.items) (Some held.new.items) result bytes.now }
     ensures unchanged { OnErr result (held.new.items ≡ held.old.items) }
     ensures memory { IfErr result (λ e. (e ≡ SinkError.Memory) × (0 < length bytes.now)) }

@@ -3,6 +3,7 @@ ghost use Rattle.std.specs.Prelude.{◌≡◌, ◌+◌, ◌≤◌, ◌<◌, IfOk
 ghost use Rattle.std.specs.Io.{ReadsAtMost};
 ghost use Rattle.std.specs.Io.KnownBytes.{ReadConsumes};
 ghost use Rattle.outside.specs.Source.{Rose, HasCause};
+ghost use Rattle.outside.specs.Pulls.{pull_limit};
 ghost use Rattle.outside.specs.Reading.{IsRead, IsLonger, PassesBy};
 ghost use Rattle.outside.specs.declared.reading.ReadError.TheVariants.{Memory};
 
@@ -51,9 +52,10 @@ impl From<AllocError> for ReadError {
 // How many bytes are asked of a source at once.
 const PIECE: usize = 65536;
 
-// A buffer for the pieces of a source.
-fn piece_buffer(alloc: Global) -> Result<Vec<u8>, AllocError>
-    ensures { IfOk result (λ v. 0 < length v.items) }
+/// A buffer for what is pulled from a source at once.
+pub fn piece_buffer(alloc: Global) -> Result<Vec<u8>, AllocError>
+    ensures some { IfOk result (λ v. 0 < length v.items) }
+    ensures few { IfOk result (λ v. length v.items ≤ pull_limit) }
 {
     Ok(vec![in alloc; 0u8; PIECE]?)
 }

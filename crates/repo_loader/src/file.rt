@@ -1,6 +1,7 @@
 //! A repository file read from a source.
 ghost use Rattle.std.specs.Prelude.{◌≡◌, ◌<◌, ◌≤◌, [], IfOk, IfErr, IfSome, OnOk, IsErrOf, length};
 ghost use Rattle.std.specs.Io.KnownBytes.{IsAtEnd};
+ghost use Rattle.outside.specs.Pulls.{pull_limit};
 ghost use Rattle.outside.specs.Source.{Rose};
 ghost use Rattle.repo_loader.specs.Loaded.{Spells};
 ghost use Rattle.repo_loader.specs.inner.ProgressSteps.{HasReadFile, HasAll};
@@ -8,23 +9,12 @@ ghost use Rattle.repo_loader.specs.LoadErrors.{RefusesFile, IsFaultOfBytes, Pull
 
 use crate::fault::{LoadError, LoadFault};
 use crate::progress::Progress;
-use outside::Source;
+use outside::{Source, piece_buffer};
 use repo_objects::Repository;
-use std::alloc::{AllocError, Global};
+use std::alloc::Global;
 
 /// How many bytes a repository file has at most.
 const LIMIT: usize = 1 << 31;
-
-/// How many bytes are asked of a source at once.
-const PIECE: usize = 65536;
-
-/// A buffer for the pieces of a source.
-fn piece_buffer(alloc: Global) -> Result<Vec<u8>, AllocError>
-    ensures some { IfOk result (λ v. 0 < length v.items) }
-    ensures few { IfOk result (λ v. length v.items ≤ PIECE) }
-{
-    Ok(vec![in alloc; 0u8; PIECE]?)
-}
 
 /// The fault where there are more bytes than the limit.
 fn too_long() -> LoadFault
@@ -45,7 +35,7 @@ fn read_to_end<R: Source>(
     source: &mut R,
 ) -> Result<(), LoadError>
     requires some { 0 < length piece.old }
-    requires few { length piece.old ≤ PIECE }
+    requires few { length piece.old ≤ pull_limit }
     requires read { HasReadFile progress.old [] }
     ensures ok { OnOk result (HasAll (R.left source.old) progress.new) }
     ensures whole { OnOk result (IsAtEnd (R.left source.new)) }
@@ -87,7 +77,7 @@ fn load_into<R: Source>(
     source: &mut R,
 ) -> Result<Repository, LoadError>
     requires some { 0 < length piece.old }
-    requires few { length piece.old ≤ PIECE }
+    requires few { length piece.old ≤ pull_limit }
     requires read { HasReadFile progress.old [] }
     ensures ok { IfOk result (λ r. IfSome (R.left source.old) (λ bytes. Spells bytes r)) }
     ensures whole { OnOk result (IsAtEnd (R.left source.new)) }

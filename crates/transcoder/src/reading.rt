@@ -1,7 +1,7 @@
 //! An instance, read as it comes from a source.
 ghost use Rattle.std.specs.Prelude.{◌≡◌, ◌<◌, ◌≤◌, ℕ, List, [], IfOk, IfErr, IfSome, OnOk, IsErrOf, length, codes};
 ghost use Rattle.std.specs.Io.KnownBytes.{IsAtEnd};
-ghost use Rattle.outside.specs.Pulls.{StopsSoon};
+ghost use Rattle.outside.specs.Pulls.{StopsSoon, pull_limit};
 ghost use Rattle.outside.specs.Source.{Rose};
 ghost use Rattle.message_model.specs.declared.fault.Fault.{Fault as Told};
 ghost use Rattle.transcoder.specs.CheckErrors.{RefusesBy, IsOfSome};
@@ -13,14 +13,11 @@ use crate::check_error::CheckError;
 use crate::intake::Intake;
 use lexical_core::{Rule, Text};
 use message_model::{Fault, InstanceError, Model};
-use outside::Source;
+use outside::{Source, piece_buffer};
 use std::alloc::{AllocError, Global};
 
 /// How many bytes an instance has at most.
 const LIMIT: usize = 1 << 40;
-
-/// How many bytes are asked of a source at once.
-const PIECE: usize = 65536;
 
 /// How far a source goes.
 pub(crate) enum Extent {
@@ -28,14 +25,6 @@ pub(crate) enum Extent {
     Whole,
     /// It has more bytes than the limit.
     Longer,
-}
-
-/// A buffer for the pieces of a source.
-fn piece_buffer(alloc: Global) -> Result<Vec<u8>, AllocError>
-    ensures some { IfOk result (λ v. 0 < length v.items) }
-    ensures few { IfOk result (λ v. length v.items ≤ PIECE) }
-{
-    Ok(vec![in alloc; 0u8; PIECE]?)
 }
 
 /// That there are more bytes than the limit, with the path of what is open there.
@@ -108,7 +97,7 @@ fn feed_all<I: Source, W, X: Intake<W>>(
     reader: &mut X,
 ) -> Result<Extent, CheckError>
     requires piece { 0 < length piece.old }
-    requires few { length piece.old ≤ PIECE }
+    requires few { length piece.old ≤ pull_limit }
     requires made { X.is_made_for reader.old model.now }
     requires fresh { X.has_fed reader.old model.now [] }
     ensures made { X.is_made_for reader.new model.now }
