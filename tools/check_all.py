@@ -18,8 +18,10 @@ from word_faults import option_fault, word_faults
 HEAD = ('file', 'status', 'rule', 'place', 'path', 'line')
 OPTIONS = ('--der', '--from')
 USAGE = 'usage: isorepo check-all [--der] [--from LIST] REPO CODES MSGID FILES..'
+STANDARD_INPUT = 'standard input'
 BAR = 40
 AT_ONCE = 4096
+UTF_16 = (b'\xff\xfe', b'\xfe\xff')
 UNREAD = Answer(READ, '', FAILED_READ)
 
 
@@ -52,6 +54,8 @@ def names_of(path):
     """The names in a list, a line each, or parted by zero octets if it has some; `-` is standard input."""
     with open(0 if path == '-' else path, 'rb') as file:
         data = file.read().removeprefix(BOM)
+    if data.startswith(UTF_16):
+        raise UnicodeError(f'{STANDARD_INPUT if path == "-" else path} is in UTF-16; UTF-8 is read')
     return [os.fsdecode(name) for name in (data.split(b'\0') if b'\0' in data else data.splitlines()) if name]
 
 
@@ -165,7 +169,10 @@ def main(words):
         try:
             names = [*words[3:], *(name for path in lists for name in names_of(path))]
         except OSError as error:
-            NOTES.line(f'{FAILED_READ}\n{error.filename or "standard input"}: {error.strerror}')
+            NOTES.line(f'{FAILED_READ}\n{error.filename or STANDARD_INPUT}: {error.strerror}')
+            return READ
+        except UnicodeError as error:
+            NOTES.line(f'{FAILED_READ}\n{error}')
             return READ
         return check_all(verb, repository, codes, words[2], list(files_of(names, ending)))
 

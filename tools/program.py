@@ -5,11 +5,11 @@ import stat
 import subprocess
 from typing import NamedTuple, Optional
 
-from streams import SIGNALLED
+from streams import NOT_RUN, SIGNALLED
 
 PROGRAM = os.environ.get('ISOREPO_PROGRAM') or os.path.join(os.path.dirname(os.path.abspath(__file__)), '../crates/repo_cmd/out/repo_cmd')
 DONE, WORDS, REPOSITORY, CODES, MESSAGE, INSTANCE, READ = range(7)
-NO_UTF8, NOT_RUN = 9, 10
+NO_UTF8 = 9
 FAULT = re.compile(r'refused: (\w+) (\w+)(?: (\w+))?(?: at (?:record )?(\S+))?(?: in (\S+))?')
 # an id of a repository is any text
 OF_MESSAGE = re.compile(r'refused: (message) (\w+)() at (.*)()', re.DOTALL)

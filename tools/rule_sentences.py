@@ -36,7 +36,7 @@ INSTANCES = {
 
 OCTETS = {
     'BadTagOctets': 'the tag is not in its shortest form, or too long',
-    'BadLengthOctets': 'the length is not in its shortest form, or too long',
+    'BadLengthOctets': 'the length is indefinite, not in its shortest form, or too long',
     'Overrun': 'the value passes the end of the one that holds it',
     'UnexpectedTag': 'this tag does not belong here',
     'TooFew': 'a list has fewer items than it must have',

@@ -291,17 +291,18 @@ class Components:
                 tell(self.schema.path, named.line, f'the name `{named.name}` is not an ASCII name of at most 256 characters')
         if len(self.entries) > MOST_OBJECTS:
             tell(self.schema.path, message.line, f'more than {MOST_OBJECTS} types')
-        for key in set(self.entries) - finite(self.entries):
-            tell(self.schema.path, self.entries[key].line, f'{self.entries[key].name} has no finite instance')
+        known = finite(self.entries)
+        for key, entry in self.entries.items():
+            if key not in known:
+                tell(self.schema.path, entry.line, f'{entry.name} has no finite instance')
 
     def name_apart(self, message):
         """Gives a name that is taken a number behind it; an amount takes a second name (rule M16)."""
-        self.taken.add(message.name)
         self.taken.update(f'{entry.name}_SimpleType' for entry in self.entries.values() if entry.currency is not None)
-        for entry in self.entries.values():
-            number, name = 2, entry.name
+        for named in (message, *self.entries.values()):
+            number, name = 2, named.name
             while name in self.taken:
-                name = f'{entry.name}_{number}'
+                name = f'{named.name}_{number}'
                 number += 1
-            entry.name = name
+            named.name = name
             self.taken.add(name)

@@ -5,14 +5,15 @@ import contextlib
 import csv
 import json
 import os
+from functools import lru_cache
 from typing import NamedTuple, Optional
 
 from expected import Types, closest, read_codes
 from faults_of_instances import expected, octets_expected, parts_of
 from faults_of_repositories import file_fault, message_fault
-from page import WIDTH, Spot, Style, line_spot, marked, octet_lines, rows, spot_of
+from page import WIDTH, Spot, Style, line_spot, marked, octet_lines, printable, rows, spot_of
 from place import Place, octets_to
-from program import CODES, INSTANCE, MESSAGE, REPOSITORY, WORDS, Fault, Source, check, codes_source, fault_of, source
+from program import CODES, DONE, INSTANCE, MESSAGE, REPOSITORY, WORDS, Fault, Source, check, codes_source, fault_of, source
 from repository_file import IDENTIFIER_FORM, read_repository
 from rule_sentences import SENTENCES
 from word_faults import option_fault, word_faults
@@ -20,6 +21,7 @@ from xml_tree import NotXml
 
 USAGE = 'usage: isorepo show [--der] [--json] REPO CODES MSGID FILE'
 FIRST_MESSAGES = 8
+FIRST_SETS = 8
 
 
 class Told(NamedTuple):
@@ -47,6 +49,7 @@ class Call:
     def answer(self):
         return check(self.repository.path, self.codes.path, self.message, self.file.path, 'check-der' if self.is_der else 'check-xml')
 
+    @lru_cache(None)
     def read_repository(self):
         with open(self.repository.path, 'rb') as file:
             return read_repository(file.read())
@@ -59,6 +62,17 @@ class Call:
             return None
         message = next(it for it in messages if it.identifier == self.message)
         return Types(entries, message, read_codes(self.codes.path), [it.identifier for it in messages])
+
+    def unused_sets(self):
+        """The names in the codes that no code set of the repository has; none where expat does not take the repository."""
+        if self.codes.name == '-':
+            return []
+        try:
+            entries, _ = self.read_repository()
+        except NotXml:
+            return []
+        known = {it.name for it in entries.values() if it.kind == 'CodeSet'}
+        return [name for name in read_codes(self.codes.path) if name not in known]
 
 
 # ---- what is told, by the status of the answer
@@ -160,12 +174,22 @@ def as_json(call, answer, told, more):
     return json.dumps({key: spelled(value) if isinstance(value, str) else value for key, value in found.items()})
 
 
+def note_unused(call):
+    """Names the code sets of CODES that the repository does not have: the program passes them over."""
+    names = [printable(name) for name in call.unused_sets()]
+    more = f', and {len(names) - FIRST_SETS} more' if len(names) > FIRST_SETS else ''
+    if names:
+        NOTES.line(f'{call.codes.name}: the repository has no code set {", ".join(names[:FIRST_SETS])}{more}')
+
+
 def show(call, is_json):
     answer = call.answer()
     if answer.line:
         NOTES.line(answer.line)
     told, more, fault = None, [], fault_of(answer.line)
     try:
+        if answer.status in (DONE, INSTANCE):
+            note_unused(call)
         if fault and answer.status in OF_STATUS:
             told = OF_STATUS[answer.status](call, fault)
         else:

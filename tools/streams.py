@@ -3,7 +3,11 @@ import os
 import signal
 import sys
 
-WRITE, MEMORY, SIGNALLED = 7, 8, 128
+WRITE, MEMORY, NOT_RUN, SIGNALLED = 7, 8, 10, 128
+
+if sys.version_info < (3, 9):
+    sys.stderr.write('isorepo: import, show and check-all need Python 3.9 or later\n')
+    sys.exit(NOT_RUN)
 
 # Scripts load this first: until `run` is called Ctrl-C ends them as it ends any command, without Python's words.
 if signal.getsignal(signal.SIGINT) is signal.default_int_handler:
