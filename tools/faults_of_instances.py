@@ -3,8 +3,7 @@ from expected import FORMS, bounds_of, closest, date_fault, may_come, times
 from faults_of_markup import bad_declaration, bad_octet, first_twice, is_closer, markup_expected
 from page import BOM, LINE_END, WIDTH
 from pattern_match import how_far
-from place import XSI
-from repository_file import COMPONENTS, MOST_DIGITS, NAMESPACE
+from repository_file import COMPONENTS, MOST_DIGITS, NAMESPACE, XSI
 from rule_sentences import MARKUP
 from xml_tree import WHITE
 

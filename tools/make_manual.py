@@ -14,7 +14,9 @@ TOOLS = 'import, show and check-all are scripts of Python 3.9 or later round the
 SHOW = ('show and check-all read FILE and REPO anew to say more than the line of the program: what they add is help, and the verdict is that of the program alone. '
         'Which word is mistaken, or which file cannot be read, show says on standard output and check-all on standard error; '
         'of a command of the program it is said on a terminal alone, but for words of no form while the program is not built, and by try. '
-        'Colours and the progress of check-all come on a terminal alone. '
+        'Where a repository, its codes, a message or an instance is refused, it is said on a terminal too where to ask on. '
+        'Colours and the progress of check-all come on a terminal alone, and no colours where NO_COLOR is set. '
+        'FILE of show may be /dev/stdin; of what is no plain file they make a copy in the folder that TMPDIR names, or else in /tmp. '
         'With more or fewer words than they have import, show and check-all say their usage in one line on standard error, and end with 1; '
         'so do show and check-all of an option that they do not have, or that stands behind REPO. '
         'The status of check-all is the greatest of its files.')
@@ -79,7 +81,7 @@ def manual():
     for words_of, _ in commands + words:
         lines += ['.br', f'\\fBisorepo\\fR {usage(words_of)}']
     lines += ['.SH DESCRIPTION',
-              roff('`isorepo` reads an ISO 20022 repository, compiles one of its messages, and checks instances against it. It says that an instance is accepted, or what its first fault is: the rule, the byte, and the path of the element.'),
+              roff('`isorepo` reads a repository file in the manner of ISO 20022, or one that `import` makes of message schemas, compiles one of its messages, and checks instances against it, in XML or in ASN.1 DER; it writes them as canonical XML or as DER. It says that an instance is accepted, or what its first fault is: the rule, the byte, and the path of the element.'),
               '.PP', roff(CODES), '.SH COMMANDS', *listed(commands), '.SH "OTHER WORDS"', *listed(words),
               '.SH DIAGNOSTICS', roff(ANSWERS), *[line for first, second in rows('answer') for line in ('.TP', roff(f'`{first}`'), roff(second))],
               '.PP', roff(FIRST.rpartition('. ')[0] + '.'), '.SH "EXIT STATUS"',

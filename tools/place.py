@@ -5,7 +5,6 @@ from typing import NamedTuple
 from xml.parsers import expat
 
 from page import BOM, FAR
-from repository_file import XSI
 from schema_file import XS
 
 TOKEN = re.compile(rb'<!--.*?-->|<\?.*?\?>|<!\[CDATA\[.*?\]\]>|<(?:[^<>"\']+|"[^"]*"|\'[^\']*\')*>?|&(?:#?\w+;)?|[\xc0-\xff][\x80-\xbf]{0,3}|.', re.S)
