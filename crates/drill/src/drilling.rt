@@ -24,7 +24,7 @@ pub struct Drilled {
 }
 
 /// Makes the instance of two numbers, with `size` nodes beside the first, at most 1,000,000; writes it as canonical XML
-/// (Canonical XML 1.0 for texts) and as DER (X.690); brings each into the other form, and compares what comes with what
+/// (the escapes of Canonical XML 1.0) and as DER (X.690); brings each into the other form, and compares what comes with what
 /// was written.
 pub fn drill(alloc: Global, number: u64, size: u32) -> Result<Drilled, AllocError>
     requires { size ≤ most_beside }

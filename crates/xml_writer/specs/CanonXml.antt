@@ -1,5 +1,6 @@
 -- The canonical XML of a value (XML 1.0 §2.1, §2.8, §3.1; Namespaces in XML 1.0 §6.2): one declaration, one namespace, no white space
--- between elements, every element with a start tag and an end tag; the texts of Canonical XML 1.0 §2.3.
+-- between elements, every element with a start tag and an end tag; what is escaped in texts is as in Canonical XML 1.0 §2.3, but that
+-- references are decimal, and `>` is escaped in attributes too.
 use Rattle.std.specs.Prelude.{◌≡◌, ℕ, true, List, [], ◌++◌, codes, flat_map}
 use Rattle.lexical_core.specs.Escapes.{escape_of}
 use Rattle.data_types.specs.Canonical.{escaped_text}

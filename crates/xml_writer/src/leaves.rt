@@ -1,4 +1,5 @@
-//! The texts of leaves: XML 1.0 §2.4 and §3.3.3, as in Canonical XML 1.0 §2.3.
+//! The texts of leaves: XML 1.0 §2.4 and §3.3.3, with the escapes of Canonical XML 1.0 §2.3, but by decimal references, and `>`
+//! escaped in attributes too.
 ghost use Rattle.std.specs.Prelude.{◌≡◌, ◌≢◌, ◌++◌, ℕ, List, IsTrue, false, Some, IfSome, IfNone, codes, encode_utf8_all, flat_map, slice_get};
 ghost use Rattle.lexical_core.specs.Escapes.{escape_of};
 ghost use Rattle.outside.specs.Pushes.{Pushes};

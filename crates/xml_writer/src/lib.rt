@@ -1,4 +1,5 @@
-//! The canonical XML of an instance (XML 1.0 and Namespaces in XML 1.0; the texts of Canonical XML 1.0 §2.3).
+//! The canonical XML of an instance (XML 1.0 and Namespaces in XML 1.0; the escapes of Canonical XML 1.0 §2.3, but by decimal
+//! references, and `>` escaped in attributes too).
 //!
 //! `write_xml` pushes it as it is made, in one pass over the pieces of the instance: nothing is built, and no memory is
 //! taken. A message whose root has an element `Id` with the text `A&B` is the line `<?xml version="1.0" encoding="UTF-8"?>`
