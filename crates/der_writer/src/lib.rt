@@ -15,7 +15,7 @@
 //!          0C 01 63                Id
 //! ```
 //!
-//! The pieces have to be those of an instance that the message admits; of others nothing is said. A list stands there also
+//! `write_der` asks that the pieces are those of an instance that the message admits. A list stands there also
 //! where it is empty, so that an element with many slots and few children takes a step for each slot.
 #![tactic(auto)]
 

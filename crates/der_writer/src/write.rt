@@ -227,7 +227,8 @@ fn whole_len(model: &Model, instance: &Instance) -> u64
 
 /// Pushes the instance to a sink.
 fn push_instance<O: Sink>(model: &Model, instance: &Instance, sink: &mut O) -> Result<(), SinkError>
-    requires { IsMeasured model.now instance.now }
+    requires measured { IsMeasured model.now instance.now }
+    requires held { (v : Value) × AdmitsAs (types_of model.now) (types_of model.now 0) v × (instance.now.region.pieces ≡ pieces_of fragment model.now v) }
     ensures { (v : Value) → AdmitsAs (types_of model.now) (types_of model.now 0) v → instance.now.region.pieces ≡ pieces_of fragment model.now v
         → Pushes O.held O.faults O.room sink.old sink.new result (der_of (der_message model.now) v) }
 {
@@ -247,6 +248,7 @@ pub fn write_der<O: Sink>(
     sink: &mut O,
 ) -> Result<(), WriteError>
     requires measured { IsMeasured model.now instance.now }
+    requires held { (v : Value) × AdmitsAs (types_of model.now) (types_of model.now 0) v × (instance.now.region.pieces ≡ pieces_of fragment model.now v) }
     ensures { (v : Value) → AdmitsAs (types_of model.now) (types_of model.now 0) v → instance.now.region.pieces ≡ pieces_of fragment model.now v
         → Pushes O.held O.faults O.room sink.old sink.new (as_push result) (der_of (der_message model.now) v) }
 {

@@ -66,6 +66,7 @@ fn written_der(
     model: &Model,
     instance: &mut Instance,
 ) -> Result<SteadySink, AllocError>
+    requires { (v : Value) × AdmitsAs (types_of model.now) (types_of model.now 0) v × (instance.old.region.pieces ≡ pieces_of fragment model.now v) }
     ensures { (v : Value) → AdmitsAs (types_of model.now) (types_of model.now 0) v → instance.old.region.pieces ≡ pieces_of fragment model.now v
         → IfOk result (λ sink. sink.held ≡ der_of (der_message model.now) v) }
 {

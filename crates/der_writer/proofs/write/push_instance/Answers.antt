@@ -9,13 +9,13 @@ use Rattle.der_writer.proofs.write.push_instance.Goals as goal
 pub returns-in-Err : goal.returns-in-Err
 returns-in-Err g c v admits is =
     let held = c.args.instance.now in
-    let der = der_is c.args.model.now v held c.whole_len-len.result c.type_count-count.ensures.root admits is c.requires c.whole_len-len.ensures.some c.whole_len-len.ensures.none in
+    let der = der_is c.args.model.now v held c.whole_len-len.result c.type_count-count.ensures.root admits is c.requires.measured c.whole_len-len.ensures.some c.whole_len-len.ensures.none in
     pair_stops g.O.Sink.held g.O.Sink.faults g.O.Sink.room (head true (universal 16) c.whole_len-len.result) (pieces_octets (types_of c.args.model.now) (Begun document_edge) held.region.pieces held.lens held.groups) _ der _ _ c.in-Err.error
     (same_text g.O.Sink.held g.O.Sink.faults g.O.Sink.room _ _ (c.universal.ensures c.whole_len-len.result) _ _ _ c.in-Err.ensures)
 
 pub returns : goal.returns
 returns g c v admits is =
     let held = c.args.instance.now in
-    let der = der_is c.args.model.now v held c.whole_len-len.result c.type_count-count.ensures.root admits is c.requires c.whole_len-len.ensures.some c.whole_len-len.ensures.none in
+    let der = der_is c.args.model.now v held c.whole_len-len.result c.type_count-count.ensures.root admits is c.requires.measured c.whole_len-len.ensures.some c.whole_len-len.ensures.none in
     pair_ends g.O.Sink.held g.O.Sink.faults g.O.Sink.room (head true (universal 16) c.whole_len-len.result) (pieces_octets (types_of c.args.model.now) (Begun document_edge) held.region.pieces held.lens held.groups) _ der _ _ _ c.push_pieces.result
     (same_text g.O.Sink.held g.O.Sink.faults g.O.Sink.room _ _ (c.universal.ensures c.whole_len-len.result) _ _ _ c.in_default.ensures) c.push_pieces.ensures

@@ -6,6 +6,9 @@ use Rattle.der_model.specs.DerMessage.{der_message}
 use Rattle.drill.proofs.Held.{held_is}
 use Rattle.drill.proofs.writing.written_der.Goals as goal
 
+pub write_der-requires-clause-held : goal.write_der-requires-clause-held
+write_der-requires-clause-held c = (c.requires.0, c.requires.1, ap (λ (r : Region). r.pieces) c.measure.ensures.same ∙ c.requires.2)
+
 pub returns-in-Ok : goal.returns-in-Ok
 returns-in-Ok c v admitted pieces =
     held_is c.in_ok-sink.sink c.write_der.new.sink c.write_der.result c.in-Ok.field-0 (der_of (der_message c.args.model.now) v)
