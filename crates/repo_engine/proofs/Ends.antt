@@ -14,7 +14,7 @@ use Rattle.repo_engine.specs.Verdict.{Verdict, accepted, refused}
 pub tells_pushed : {O : Type 0} (held : O → Option (List ℕ)) (faults room : O → ℕ) (old new : O) (Is : Verdict → Type 0) (text : List ℕ) (push : Result (Unit {0}) SinkError)
     → Is (accepted text) → Pushes held faults room old new push text → TellsVerdict Is (end_of push) (held old) (held new)
 tells_pushed held faults room old new Is text (Ok done) is p = (text, is, p.appends)
-tells_pushed held faults room old new Is text (Err sink.Failed) is p = inr (text, is, p.appends)
+tells_pushed held faults room old new Is text (Err sink.Failed) is p = (text, is, p.appends)
 tells_pushed held faults room old new Is text (Err sink.Memory) is p = inr (text, is, p.appends)
 
 pub goes_pushed : {O : Type 0} (held : O → Option (List ℕ)) (faults room : O → ℕ) (old new : O) (text : List ℕ) (push : Result (Unit {0}) SinkError)

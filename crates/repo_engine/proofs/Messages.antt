@@ -13,8 +13,8 @@ use Rattle.message_model.specs.declared.fault.Fault.{Fault}
 use Rattle.transcoder.specs.CheckErrors.{RefusesBy}
 use Rattle.transcoder.specs.declared.check_error.CheckError.{CheckError}
 use Rattle.transcoder.specs.declared.check_error.CheckError.TheVariants as check
-use Rattle.repo_engine.specs.Answer.{FromMessage, RefusesMessage, GivesTables}
-use Rattle.repo_engine.specs.inner.Arms.{GivesMessage, IsOfInput, IsReadAs, unread, read, RefusesUpToMessage, StopsBy, check_stop, end_of, ready_stop}
+use Rattle.repo_engine.specs.Answer.{FromMessage, GivesMessage, RefusesMessage, GivesTables}
+use Rattle.repo_engine.specs.inner.Arms.{IsOfInput, IsReadAs, unread, read, RefusesUpToMessage, StopsBy, check_stop, end_of, ready_stop}
 use Rattle.repo_engine.specs.Run.{TellsVerdict}
 use Rattle.repo_engine.specs.Sources.{Use, Untouched, Ended, Whole, Failing, Refusing, IsSourceRead, AreRead, one, both, AreReadInTurn, before, behind, source_ended_of, stop_ended}
 use Rattle.repo_engine.specs.Steps.{Then, refused, goes_on}
@@ -48,11 +48,16 @@ pub both_on : {S T : Type 0} (second : Bool) (ended : Ended) (u : Use S) (v : Us
 both_on second ended u v other (one first same none) = one (read_on ended u other first) same (λ e. none refl)
 both_on second ended u v other (both codes first next) = both codes first (read_on ended v other next)
 
-pub stop_not_whole : (s : Stop) → stop_ended s ≡ Whole → ⊥
-stop_not_whole (Refused r) e = absurd (cc)
-stop_not_whole ReadFault e = absurd (cc)
-stop_not_whole WriteFault e = absurd (cc)
-stop_not_whole Memory e = absurd (cc)
+-- the count of the first source is as it was, where all of it was read
+pub first_quiet : {S T : Type 0} (second : Bool) (u : Use S) (v : Use T) → AreRead second Whole u v → u.faults u.new ≡ u.faults u.old
+first_quiet second u v (one first same none) = first.quiet (λ e. absurd (cc))
+first_quiet second u v (both codes first next) = first.quiet (λ e. absurd (cc))
+
+pub stop_not_whole : (s : Stop) → IsOfInput s → stop_ended s ≡ Whole → ⊥
+stop_not_whole (Refused r) input e = absurd (cc)
+stop_not_whole ReadFault input e = absurd (cc)
+stop_not_whole WriteFault input e = input
+stop_not_whole Memory input e = absurd (cc)
 
 -- the third source is read behind the others, or left alone
 pub third_on : {S T U : Type 0} (second third : Bool) (ended : Ended) (u : Use S) (v : Use T) (w : Use U) → AreRead second Whole u v → IsReadAs third ended w
@@ -60,9 +65,9 @@ pub third_on : {S T U : Type 0} (second third : Bool) (ended : Ended) (u : Use S
 third_on second third ended u v w first (unread none no_fault no_refusal same) = before (both_on second ended u v no_fault first) same (λ e. none)
 third_on second third ended u v w first (read asked is) = behind asked first is
 
-pub third_not : {S T U : Type 0} (second third : Bool) (stop : Stop) (u : Use S) (v : Use T) (w : Use U) → AreRead second (stop_ended stop) u v → Untouched w
+pub third_not : {S T U : Type 0} (second third : Bool) (stop : Stop) (u : Use S) (v : Use T) (w : Use U) → IsOfInput stop → AreRead second (stop_ended stop) u v → Untouched w
     → AreReadInTurn second third (stop_ended stop) u v w
-third_not second third stop u v w first same = before first same (λ e. absurd (stop_not_whole stop e))
+third_not second third stop u v w input first same = before first same (λ e. absurd (stop_not_whole stop input e))
 
 -- a message that is refused, and one that is compiled
 pub message_refused : (codes_word id r c : List ℕ) (Next : Tables → Verdict → Type 0) (v : Verdict) → RefusesUpToMessage codes_word id r c v → FromMessage codes_word id r c Next v

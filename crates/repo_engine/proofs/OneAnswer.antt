@@ -13,12 +13,11 @@ use Rattle.drill.specs.Drilled.{IsDrilled}
 use Rattle.drill.specs.Growing.{instance}
 use Rattle.drill.specs.declared.drilling.Drilled.{Drilled}
 use Rattle.repo_engine.specs.Texts.{drill_text}
-use Rattle.repo_engine.specs.Answer.{Answer, Of, OfVerb, Drills, FromXml, RefusesAsXml, GivesXmlValue, FromDer, RefusesAsDer, GivesDerValue, IsFine, GivesXml, GivesDer, FromMessage, FromRepository, TellsFileFault, RefusesCodes, GivesJoined, RefusesMessage, GivesTables}
+use Rattle.repo_engine.specs.Answer.{Answer, Of, OfVerb, Drills, FromXml, RefusesAsXml, GivesXmlValue, FromDer, RefusesAsDer, GivesDerValue, IsFine, GivesXml, GivesDer, FromMessage, FromRepository, TellsFileFault, RefusesCodes, GivesJoined, RefusesMessage, GivesTables, GivesMessage}
 use Rattle.repo_engine.specs.Command.{Command, list, message, drill}
 use Rattle.repo_engine.specs.Steps.{Then, refused, goes_on, One, IsStep}
 use Rattle.repo_engine.specs.Verdict.{Verdict}
 use Rattle.repo_engine.specs.Verdict as verdict
-use Rattle.repo_engine.specs.inner.Arms.{GivesMessage}
 use Rattle.repo_engine.specs.inner.StepLaws.{StepLaws}
 use Rattle.repo_engine.specs.declared.command.Verb.{Verb}
 use Rattle.repo_engine.specs.declared.command.Verb.TheVariants.{Types, Xsd, Asn1, CheckXml, CheckDer, CanonXml, XmlToDer, DerToXml}

@@ -1,16 +1,16 @@
 -- What a command does is what the words ask for.
-use Rattle.std.proofs.Common.{◌≡◌, inl, inr, ℕ, List, [], ◌∷◌, Option, Ok, Err, codes, length, refl, sym, ap, ◌∙◌, subst, arith}
+use Rattle.std.proofs.Common.{◌≡◌, ◌⊎◌, inl, inr, ℕ, List, [], ◌∷◌, Option, Ok, Err, codes, length, refl, sym, ap, ◌∙◌, subst, arith}
 use Rattle.std.specs.Prelude.{if◌then◌else◌}
 use Rattle.std.specs.Str.{bytes_eq}
 use Rattle.std.specs.Str.Parse.{digits_value}
-use Rattle.repo_engine.specs.Answer.{Answer, Of}
+use Rattle.repo_engine.specs.Answer.{Answer, HasCompiledMessage, Of}
 use Rattle.repo_engine.specs.inner.Arms.{Carries}
 use Rattle.repo_engine.specs.inner.Commands.{AsksFor, IsBoundedDrill}
 use Rattle.repo_engine.specs.declared.command.Command as declared
 use Rattle.repo_engine.specs.declared.command.Command.TheVariants as asked
 use Rattle.repo_engine.specs.Command.{Command, list, message, drill, HasCommandForm, pulled_by, verb_word}
-use Rattle.repo_engine.specs.Run.{End, Performs, TellsVerdict}
-use Rattle.repo_engine.specs.Sources.{Use, AreUsed, source_ended_of}
+use Rattle.repo_engine.specs.Run.{End, HasFilesTold, Performs, TellsVerdict}
+use Rattle.repo_engine.specs.Sources.{Use, Untouched, AreUsed, source_ended_of}
 use Rattle.repo_engine.specs.Verdict.{Verdict}
 use Rattle.repo_engine.specs.declared.command.Verb.{Verb}
 use Rattle.repo_engine.specs.declared.command.Verb.TheVariants.{Types, Xsd, Asn1, CheckXml, CheckDer, CanonXml, XmlToDer, DerToXml}
@@ -84,8 +84,7 @@ pub tells_more : (A B : Verdict → Type 0) (end : End) (h h' : Option (List ℕ
 tells_more A B (Ok done) h h' f t = (t.0, f _ t.1, t.2)
 tells_more A B (Err (Refused refusal)) h h' f t = (t.0, f _ t.1, t.2)
 tells_more A B (Err ReadFault) h h' f t = tt
-tells_more A B (Err WriteFault) h h' f (inl keeps) = inl keeps
-tells_more A B (Err WriteFault) h h' f (inr t) = inr (t.0, f _ t.1, t.2)
+tells_more A B (Err WriteFault) h h' f t = (t.0, f _ t.1, t.2)
 tells_more A B (Err Memory) h h' f (inl keeps) = inl keeps
 tells_more A B (Err Memory) h h' f (inr t) = inr (t.0, f _ t.1, t.2)
 
@@ -99,8 +98,10 @@ performs_command ws command repo codes inst held faults old new end form carries
   verdict = λ r c i left. tells_more (Of command r c i) (Answer ws r c i) end _ _ (λ v h. inr (command, form, h))
       (carries.verdict r c i (left command form));
   files_pulled = carries.files_pulled;
-  instance_pulled = λ r c left. if_err _ _ end (other_answers (λ i. Of command r c i) (inst.left inst.old) (inst.left inst.new) (λ i. Answer ws r c i) (λ i v. asked r c i v))
+  instance_pulled = λ r c left. if_err _ _ end (other_answers (λ i. Of command r c i) inst (λ i. Answer ws r c i) (λ i v. asked r c i v))
       (carries.instance_pulled r c (left command form));
+  codes_behind = carries.codes_behind;
+  instance_behind = λ other same r c. subst (λ k. HasFilesTold k (repo.left repo.old) (codes.left codes.old) r c → Untouched inst ⊎ HasCompiledMessage k r c) (one_command ws command other form same) (carries.instance_behind r c);
   out = carries.out;
 } where
   asked : (r c i : List ℕ) (v : Verdict) → Answer ws r c i v → Of command r c i v

@@ -35,3 +35,7 @@ if_ok A B (Err e) f h = tt
 pub if_err : {T E : Type 0} (A B : E → Type 0) (r : Result T E) → ((e : E) → A e → B e) → IfErr r A → IfErr r B
 if_err A B (Ok x) f h = tt
 if_err A B (Err e) f h = f e h
+
+pub if_both : {T E : Type 0} (A B C : E → Type 0) (r : Result T E) → ((e : E) → A e → B e → C e) → IfErr r A → IfErr r B → IfErr r C
+if_both A B C (Ok x) f g h = tt
+if_both A B C (Err e) f g h = f e g h

@@ -70,6 +70,15 @@ RefusesMessage R id v = (rule : MessageRule) × (p : Place) × IsRefused R id ru
 abbrev pub GivesTables : Contents → List ℕ → Tables → Type 0
 GivesTables R id T = IsReady R id × ((ids : List (List ℕ)) × IsReachedList R id ids × Compiles R id ids T)
 
+-- the message is compiled from the bytes of a repository and of codes
+abbrev pub GivesMessage : List ℕ → List ℕ → List ℕ → List ℕ → Tables → Type 0
+GivesMessage codes_word id r c T = (R : Contents) × GivesRepository codes_word r c R × GivesTables R id T
+
+-- that of the command is
+abbrev pub HasCompiledMessage : Command → List ℕ → List ℕ → Type 0
+HasCompiledMessage (message verb codes_word id) r c = (T : Tables) × GivesMessage codes_word id r c T
+HasCompiledMessage command r c = ⊥
+
 -- the message is compiled behind the repository and its codes
 abbrev pub FromMessage : List ℕ → List ℕ → List ℕ → List ℕ → (Tables → Verdict → Type 0) → Verdict → Type 0
 FromMessage codes_word id r c Next = FromRepository codes_word r c (λ R. Then Verdict Tables (RefusesMessage R id) (GivesTables R id) Next)

@@ -12,7 +12,9 @@ use Rattle.repo_engine.specs.declared.refusal.Stop.TheVariants.{Refused, ReadFau
 use Rattle.repo_engine.specs.declared.refusal.Refusal.TheVariants.{Words}
 use Rattle.repo_engine.specs.declared.status.Status.{Status}
 use Rattle.repo_engine.specs.declared.status.Status.TheVariants as status
-use Rattle.repo_engine.specs.Answer.{Answer}
+use Rattle.repo_objects.specs.Repository.{Contents}
+use Rattle.repo_loader.specs.Loaded.{Spells}
+use Rattle.repo_engine.specs.Answer.{Answer, HasCompiledMessage}
 use Rattle.repo_engine.specs.Command.{Command, HasCommandForm, IsUnlisted, pulled_by}
 use Rattle.repo_engine.specs.Pulls.{StopsFilesSoon, StopsInstanceSoon}
 use Rattle.repo_engine.specs.Sources.{Use, Untouched, AreUsed, source_ended_of}
@@ -39,13 +41,13 @@ AreFilesTold ws repo_left codes_left r c = (command : Command) → HasCommandFor
 abbrev pub AreSourcesLeft : List (List ℕ) → Option (List ℕ) → Option (List ℕ) → Option (List ℕ) → List ℕ → List ℕ → List ℕ → Type 0
 AreSourcesLeft ws repo_left codes_left inst_left r c i = (command : Command) → HasCommandForm ws command → HaveLeft command repo_left codes_left inst_left r c i
 
--- The verdict that the end tells, and what went out with it: the whole text where it is Ok, and where a refusal has one. After a fault of a
--- sink or want of memory, a front of the text that Ok would have brought, or nothing.
+-- The verdict that the end tells, and what went out with it: the whole text where it is Ok, and where a refusal has one. After a fault of the
+-- sink, a front of the text that Ok would have brought; after want of memory such a front, or nothing.
 abbrev pub TellsVerdict : (Verdict → Type 0) → End → Option (List ℕ) → Option (List ℕ) → Type 0
 TellsVerdict Is (Ok done) out out' = (text : List ℕ) × Is (accepted text) × Appends out out' text
 TellsVerdict Is (Err (Refused refusal)) out out' = (text : List ℕ) × Is (refused refusal text) × Appends out out' text
 TellsVerdict Is (Err ReadFault) out out' = Unit {0}
-TellsVerdict Is (Err WriteFault) out out' = Keeps out out' ⊎ ((text : List ℕ) × Is (accepted text) × AppendsFront out out' text)
+TellsVerdict Is (Err WriteFault) out out' = (text : List ℕ) × Is (accepted text) × AppendsFront out out' text
 TellsVerdict Is (Err Memory) out out' = Keeps out out' ⊎ ((text : List ℕ) × Is (accepted text) × AppendsFront out out' text)
 
 -- the sink is as it was
@@ -87,5 +89,8 @@ pub record Performs {R C I O : Type 0} (ws : List (List ℕ)) (repo : Use R) (co
   pub verdict : (r c i : List ℕ) → AreSourcesLeft ws (repo.left repo.old) (codes.left codes.old) (inst.left inst.old) r c i → TellsVerdict (Answer ws r c i) end (held old) (held new)
   -- Where something is refused, little was pulled of it behind bytes that show no fault yet, and nothing of what is read behind it.
   pub files_pulled : IfErr end (λ stop. StopsFilesSoon repo codes inst stop)
-  pub instance_pulled : (r c : List ℕ) → AreFilesTold ws (repo.left repo.old) (codes.left codes.old) r c → IfErr end (λ stop. StopsInstanceSoon (λ i. Answer ws r c i) (inst.left inst.old) (inst.left inst.new) stop)
+  pub instance_pulled : (r c : List ℕ) → AreFilesTold ws (repo.left repo.old) (codes.left codes.old) r c → IfErr end (λ stop. StopsInstanceSoon (λ i. Answer ws r c i) inst stop)
+  -- What is read behind another is touched only where that was accepted: codes behind a repository, an instance behind a message that is compiled.
+  pub codes_behind : (r : List ℕ) → repo.left repo.old ≡ Some r → Untouched codes ⊎ ((own : Contents) × Spells r own)
+  pub instance_behind : (command : Command) → HasCommandForm ws command → (r c : List ℕ) → HasFilesTold command (repo.left repo.old) (codes.left codes.old) r c → Untouched inst ⊎ HasCompiledMessage command r c
   pub out : GoesOut held faults old new end

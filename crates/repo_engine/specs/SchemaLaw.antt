@@ -1,11 +1,16 @@
 -- What the schema of a message says of the bytes that are accepted.
-use Rattle.std.specs.Prelude.{◌≡◌, ◌↔◌, ◌≤◌, ℕ, true, List, [], length, reverse}
+use Rattle.std.specs.Prelude.{◌≡◌, ◌↔◌, ◌≤◌, ◌++◌, ℕ, true, List, [], length, reverse}
 use Rattle.lexical_core.specs.Tree.{Tree, TreeIs}
+use Rattle.data_types.specs.Value.{Value}
 use Rattle.markup.specs.Token.{Token}
 use Rattle.markup.specs.Marks.{Marks}
 use Rattle.markup.specs.Faults.{IsClean, is_over}
 use Rattle.repo_objects.specs.Repository.{Contents}
-use Rattle.message_model.specs.Tables.{Tables}
+use Rattle.reference_check.specs.Graph.{document}
+use Rattle.message_model.specs.Admits.{AdmitsAs}
+use Rattle.message_model.specs.Compiled.{types}
+use Rattle.message_model.specs.Tables.{Tables, namespace_front}
+use Rattle.message_model.specs.Writes.{WritesAs}
 use Rattle.xml_instances.specs.XmlFaults.{items}
 use Rattle.xsd_model.specs.SchemaOf.{schema_of}
 use Rattle.xsd_model.specs.Trees.{IsValid}
@@ -25,3 +30,8 @@ pub record SpellsTree (bytes : List ℕ) (t : Tree) : Type 0 where
 abbrev pub SchemaAdmitsWhatIsAccepted : Type 0
 SchemaAdmitsWhatIsAccepted = (R : Contents) (id : List ℕ) (T : Tables) (bytes : List ℕ) → GivesTables R id T → length bytes ≤ most_bytes
     → IsAccepted T bytes ↔ ((t : Tree) × SpellsTree bytes t × IsValid (schema_of T) t)
+
+-- Any tree is one that the schema of the message admits exactly where it writes a value that the message admits.
+abbrev pub SchemaAdmitsTheInstances : Type 0
+SchemaAdmitsTheInstances = (R : Contents) (id : List ℕ) (T : Tables) (t : Tree) → GivesTables R id T
+    → IsValid (schema_of T) t ↔ ((v : Value) × AdmitsAs (types R id) (types R id document) v × WritesAs (types R id) (namespace_front ++ id) (types R id document) v t)

@@ -16,7 +16,7 @@ pub record Use (S : Type 0) : Type 0 where
 abbrev pub of_source : {S : Type 0} → (S → Option (List ℕ)) → (S → ℕ) → S → S → Use S
 of_source left faults old new = record { left = left; faults = faults; old = old; new = new }
 
--- how reading ended: all was read, a refusal came, a source failed, or another end came
+-- how reading ended: all was read, as also where a sink failed behind it; a refusal came; a source failed; or memory was wanted
 pub data Ended : Type 0 where
   Whole : Ended
   Refusing : Ended
@@ -26,7 +26,7 @@ pub data Ended : Type 0 where
 abbrev pub stop_ended : Stop → Ended
 stop_ended (Refused refusal) = Refusing
 stop_ended ReadFault = Failing
-stop_ended WriteFault = Stopping
+stop_ended WriteFault = Whole
 stop_ended Memory = Stopping
 
 abbrev pub source_ended_of : {T : Type 0} → Result T Stop → Ended

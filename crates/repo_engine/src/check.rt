@@ -20,7 +20,7 @@ pub fn check<I: Source, O: Sink>(
 ) -> Result<(), Stop>
     ensures no_words { result ≢ Err (Stop.Refused Refusal.Words) }
     ensures source { IsSourceRead (source_ended_of result) (of_source I.left I.faults inst.old inst.new) }
-    ensures pulled { IfErr result (λ stop. StopsAtInstance (λ i. FromXml model.now i IsFine) (I.left inst.old) (I.left inst.new) stop) }
+    ensures pulled { IfErr result (λ stop. StopsAtInstance (λ i. FromXml model.now i IsFine) (of_source I.left I.faults inst.old inst.new) stop) }
     ensures verdict { (i : List ℕ) → I.left inst.old ≡ Some i → TellsVerdict (FromXml model.now i IsFine) result (O.held out.old) (O.held out.new) }
     ensures goes_out { GoesOut O.held O.faults out.old out.new result }
 {
@@ -39,7 +39,7 @@ pub fn check_in_der<I: Source, O: Sink>(
 ) -> Result<(), Stop>
     ensures no_words { result ≢ Err (Stop.Refused Refusal.Words) }
     ensures source { IsSourceRead (source_ended_of result) (of_source I.left I.faults inst.old inst.new) }
-    ensures pulled { IfErr result (λ stop. StopsAtInstance (λ i. FromDer model.now i IsFine) (I.left inst.old) (I.left inst.new) stop) }
+    ensures pulled { IfErr result (λ stop. StopsAtInstance (λ i. FromDer model.now i IsFine) (of_source I.left I.faults inst.old inst.new) stop) }
     ensures verdict { (i : List ℕ) → I.left inst.old ≡ Some i → TellsVerdict (FromDer model.now i IsFine) result (O.held out.old) (O.held out.new) }
     ensures goes_out { GoesOut O.held O.faults out.old out.new result }
 {

@@ -1,8 +1,8 @@
 //! The top call: one command, from words and bytes to a status and what is written.
 ghost use Rattle.repo_engine.specs.Command.{texts};
 ghost use Rattle.repo_engine.specs.Run.{End, Notes, Performs};
-ghost use Rattle.repo_engine.specs.ModuleLaw.{ModuleAdmitsWhatIsAccepted};
-ghost use Rattle.repo_engine.specs.SchemaLaw.{SchemaAdmitsWhatIsAccepted};
+ghost use Rattle.repo_engine.specs.ModuleLaw.{ModuleAdmitsTheInstances, ModuleAdmitsWhatIsAccepted};
+ghost use Rattle.repo_engine.specs.SchemaLaw.{SchemaAdmitsTheInstances, SchemaAdmitsWhatIsAccepted};
 ghost use Rattle.repo_engine.specs.Sources.{of_source};
 
 use super::laws;
@@ -35,9 +35,14 @@ pub fn run<R: Source, C: Source, I: Source, O: Sink, N: Sink>(
     // The schema that `xsd` writes of a message, and the module that `asn1` writes, admit exactly what is accepted.
     ensures schema { SchemaAdmitsWhatIsAccepted }
     ensures module { ModuleAdmitsWhatIsAccepted }
+    // Of any tree and any bytes, whoever reads them, they admit exactly the instances of the message.
+    ensures schema_instances { SchemaAdmitsTheInstances }
+    ensures module_instances { ModuleAdmitsTheInstances }
 {
     laws::schema_admits_what_is_accepted();
     laws::module_admits_what_is_accepted();
+    laws::schema_admits_the_instances();
+    laws::module_admits_the_instances();
     let end = perform(alloc, words, repo, codes, inst, out);
     conclude(&end, notes)
 }

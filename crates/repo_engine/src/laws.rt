@@ -1,13 +1,12 @@
 //! What follows of the definitions: functions that do nothing, whose contracts are laws.
 ghost use Rattle.std.specs.Prelude.{◌≡◌, ℕ, List};
 ghost use Rattle.message_model.specs.Tables.{Tables};
-ghost use Rattle.repo_engine.specs.Answer.{Answer, FromMessage, OfVerb};
-ghost use Rattle.repo_engine.specs.ModuleLaw.{ModuleAdmitsWhatIsAccepted};
+ghost use Rattle.repo_engine.specs.Answer.{Answer, FromMessage, GivesMessage, OfVerb};
+ghost use Rattle.repo_engine.specs.ModuleLaw.{ModuleAdmitsTheInstances, ModuleAdmitsWhatIsAccepted};
 ghost use Rattle.repo_engine.specs.RoundTrips.{XmlComesBack, DerComesBack};
-ghost use Rattle.repo_engine.specs.SchemaLaw.{SchemaAdmitsWhatIsAccepted};
+ghost use Rattle.repo_engine.specs.SchemaLaw.{SchemaAdmitsTheInstances, SchemaAdmitsWhatIsAccepted};
 ghost use Rattle.repo_engine.specs.Verdict.{Verdict};
 ghost use Rattle.repo_engine.specs.declared.command.Verb.{Verb};
-ghost use Rattle.repo_engine.specs.inner.Arms.{GivesMessage};
 ghost use Rattle.repo_engine.specs.inner.StepLaws.{StepLaws};
 
 /// What is known of each step of an answer: it refuses in one way or gives one thing, and not both.
@@ -65,6 +64,14 @@ pub fn schema_admits_what_is_accepted()
     ensures { SchemaAdmitsWhatIsAccepted }
 {}
 
+/// The schema that `xsd` writes of a message admits exactly its instances (XML Schema part 1): any tree is valid for it
+/// exactly where it writes a value that the message admits.
+pub fn schema_admits_the_instances()
+    ensures { SchemaAdmitsTheInstances }
+{
+    xsd_model::laws::schema_admits_the_instances();
+}
+
 /// The ASN.1 module that `asn1` writes of a message admits exactly what `check-der` accepts, whatever bytes gave the
 /// repository and its codes: bytes of at most 2^40 are accepted exactly where they are the DER of a value of the module's
 /// `Document` (X.680, X.690).
@@ -75,6 +82,19 @@ pub fn module_admits_what_is_accepted()
     code_sets::laws::joined_is_a_repository();
     asn1_model::laws::compiled_types_are_sound();
     asn1_model::laws::a_module_admits_the_same();
+}
+
+/// The module that `asn1` writes of a message admits exactly its instances (X.680, X.690), of any bytes; of an instance the
+/// value is known, and each value is that of an instance.
+pub fn module_admits_the_instances()
+    ensures { ModuleAdmitsTheInstances }
+{
+    repo_loader::laws::spelled_is_a_repository();
+    code_sets::laws::joined_is_a_repository();
+    asn1_model::laws::compiled_types_are_sound();
+    asn1_model::laws::a_module_admits_the_same();
+    asn1_model::laws::an_instance_is_a_value();
+    asn1_model::laws::a_value_is_an_instance();
 }
 
 /// To the DER that `xml-to-der` writes of an instance, `der-to-xml` answers as `canon-xml` answers to the instance,

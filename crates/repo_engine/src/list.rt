@@ -1,6 +1,8 @@
 //! The list of a repository's messages.
-ghost use Rattle.std.specs.Prelude.{◌≢◌, ℕ, List, Err, IfErr};
+ghost use Rattle.std.specs.Prelude.{◌≡◌, ◌≢◌, ◌⊎◌, ℕ, List, Some, Err, IfErr};
 ghost use Rattle.outside.specs.Pushes.{Pushes};
+ghost use Rattle.repo_objects.specs.Repository.{Contents};
+ghost use Rattle.repo_loader.specs.Loaded.{Spells};
 ghost use Rattle.repo_engine.specs.inner.Arms.{FilesHaveLeft, StopsAtFiles};
 ghost use Rattle.repo_engine.specs.Answer.{FromRepository, Lists};
 ghost use Rattle.repo_engine.specs.Command.{hands_in};
@@ -26,6 +28,7 @@ pub fn list<R: Source, C: Source, O: Sink>(
     ensures sources { AreRead (hands_in codes_word.now) (source_ended_of result)
         (of_source R.left R.faults repo.old repo.new) (of_source C.left C.faults codes.old codes.new) }
     ensures pulled { IfErr result (λ stop. StopsAtFiles (of_source R.left R.faults repo.old repo.new) (of_source C.left C.faults codes.old codes.new) stop) }
+    ensures codes_behind { (r : List ℕ) → R.left repo.old ≡ Some r → (codes.new ≡ codes.old) ⊎ ((own : Contents) × Spells r own) }
     ensures verdict { (r c : List ℕ) → FilesHaveLeft codes_word.now (R.left repo.old) (C.left codes.old) r c →
         TellsVerdict (FromRepository codes_word.now r c Lists) result (O.held out.old) (O.held out.new) }
     ensures goes_out { GoesOut O.held O.faults out.old out.new result }

@@ -1,5 +1,5 @@
 //! A repository and its external codes, read from their sources.
-ghost use Rattle.std.specs.Prelude.{◌≡◌, List, ℕ, true, Option, Some, IfOk, IfErr};
+ghost use Rattle.std.specs.Prelude.{◌≡◌, ◌⊎◌, List, ℕ, true, Option, Some, IfOk, IfErr};
 ghost use Rattle.repo_objects.specs.Repository.{Contents};
 ghost use Rattle.repo_loader.specs.Loaded.{Spells};
 ghost use Rattle.code_sets.specs.Codes.{Joins};
@@ -32,6 +32,7 @@ pub fn read_repository<R: Source, C: Source>(
     ensures sources { AreRead (hands_in codes_word.now) (source_ended_of result)
         (of_source R.left R.faults repo.old repo.new) (of_source C.left C.faults codes.old codes.new) }
     ensures pulled { IfErr result (λ stop. StopsAtFiles (of_source R.left R.faults repo.old repo.new) (of_source C.left C.faults codes.old codes.new) stop) }
+    ensures codes_behind { (r : List ℕ) → R.left repo.old ≡ Some r → (codes.new ≡ codes.old) ⊎ ((own : Contents) × Spells r own) }
 {
     match load_file(alloc, repo) {
         Ok(own) => with_codes(alloc, codes_word, own, codes),

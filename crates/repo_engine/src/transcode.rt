@@ -20,7 +20,7 @@ pub fn canonize<I: Source, O: Sink>(
 ) -> Result<(), Stop>
     ensures no_words { result ≢ Err (Stop.Refused Refusal.Words) }
     ensures source { IsSourceRead (source_ended_of result) (of_source I.left I.faults inst.old inst.new) }
-    ensures pulled { IfErr result (λ stop. StopsAtInstance (λ i. FromXml model.now i (GivesXml model.now)) (I.left inst.old) (I.left inst.new) stop) }
+    ensures pulled { IfErr result (λ stop. StopsAtInstance (λ i. FromXml model.now i (GivesXml model.now)) (of_source I.left I.faults inst.old inst.new) stop) }
     ensures verdict { (i : List ℕ) → I.left inst.old ≡ Some i → TellsVerdict (FromXml model.now i (GivesXml model.now)) result (O.held out.old) (O.held out.new) }
     ensures goes_out { GoesOut O.held O.faults out.old out.new result }
 {
@@ -36,7 +36,7 @@ pub fn to_der<I: Source, O: Sink>(
 ) -> Result<(), Stop>
     ensures no_words { result ≢ Err (Stop.Refused Refusal.Words) }
     ensures source { IsSourceRead (source_ended_of result) (of_source I.left I.faults inst.old inst.new) }
-    ensures pulled { IfErr result (λ stop. StopsAtInstance (λ i. FromXml model.now i (GivesDer model.now)) (I.left inst.old) (I.left inst.new) stop) }
+    ensures pulled { IfErr result (λ stop. StopsAtInstance (λ i. FromXml model.now i (GivesDer model.now)) (of_source I.left I.faults inst.old inst.new) stop) }
     ensures verdict { (i : List ℕ) → I.left inst.old ≡ Some i → TellsVerdict (FromXml model.now i (GivesDer model.now)) result (O.held out.old) (O.held out.new) }
     ensures goes_out { GoesOut O.held O.faults out.old out.new result }
 {
@@ -52,7 +52,7 @@ pub fn from_der<I: Source, O: Sink>(
 ) -> Result<(), Stop>
     ensures no_words { result ≢ Err (Stop.Refused Refusal.Words) }
     ensures source { IsSourceRead (source_ended_of result) (of_source I.left I.faults inst.old inst.new) }
-    ensures pulled { IfErr result (λ stop. StopsAtInstance (λ i. FromDer model.now i (GivesXml model.now)) (I.left inst.old) (I.left inst.new) stop) }
+    ensures pulled { IfErr result (λ stop. StopsAtInstance (λ i. FromDer model.now i (GivesXml model.now)) (of_source I.left I.faults inst.old inst.new) stop) }
     ensures verdict { (i : List ℕ) → I.left inst.old ≡ Some i → TellsVerdict (FromDer model.now i (GivesXml model.now)) result (O.held out.old) (O.held out.new) }
     ensures goes_out { GoesOut O.held O.faults out.old out.new result }
 {

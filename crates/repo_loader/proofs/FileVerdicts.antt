@@ -3,8 +3,8 @@ use Rattle.std.proofs.Common.{◌≡◌, ℕ, ◌-◌, ◌<◌, ◌≤◌, List,
 use Rattle.std.specs.Prelude.{IfSome}
 use Rattle.std.proofs.lemmas.List.{take_all, take-append-drop, length-take, length-drop}
 use Rattle.std.proofs.Math.Seq.{take-append_seam}
-use Rattle.std.specs.Io.KnownBytes.{Consumes, IsAtEnd}
-use Rattle.std.proofs.KnownBytes.{Consumes-trans}
+use Rattle.std.specs.Io.KnownBytes.{Consumes, Keeps, IsAtEnd}
+use Rattle.std.proofs.KnownBytes.{Consumes-trans, Consumes-kept}
 use Rattle.lexical_core.specs.declared.rule.Rule.TheVariants.{Truncated}
 use Rattle.outside.specs.Pulls.{pull_limit, StopsSoon}
 use Rattle.outside.proofs.Consumed.{known}
@@ -167,10 +167,14 @@ module _ (old now : Option (List ℕ)) (room : ℕ) (p : Progress) (h : HasReadW
     shows_none = shows_none p h.taken_are h.read none (omega (arith, c));
   }
 
--- the end of the bytes, within the limit
+-- the end of the bytes, within the limit, or a failed pull
 module _ (old now : Option (List ℕ)) (room : ℕ) (p : Progress) (h : HasReadWithRoom old now room p) where
   short : length h.taken_are ≤ file_limit
   short = let c = h.counted in omega (arith, c)
+
+  -- a pull failed, and what was pulled before shows no fault
+  pub none_shown : NoFaultTaken → (next : Option (List ℕ)) → Keeps now next → (taken : List ℕ) × Consumes old next taken × ShowsNoLoadFault taken
+  none_shown none next kept = (h.taken_are, Consumes-kept old now next h.taken_are h.front kept, shows_none p h.taken_are h.read none short)
 
   all_taken : (next : Option (List ℕ)) → Consumes now next [] → IsAtEnd next → (bytes : List ℕ) → old ≡ Some bytes → bytes ≡ h.taken_are
   all_taken next consumes end bytes e =

@@ -17,7 +17,7 @@ use Rattle.transcoder.specs.declared.check_error.CheckError.TheVariants.{Refused
 use Rattle.transcoder.specs.CheckErrors.{check_error, RefusesBy, IsOfSome}
 use Rattle.transcoder.specs.Limited.{most_bytes, IsLimited, within, before, open_at, over_at}
 use Rattle.transcoder.specs.inner.Reading.{ShowsFault, StopsAt, EndsBy, WasFed, HasReadSource, HasReadBeyond, SaysError, ReadsTo, EndsBeyond, end_told, Concludes, GivesSome}
-use Rattle.transcoder.specs.Pulls.{PullsToFault}
+use Rattle.transcoder.specs.Pulls.{MayBeFollowed, PullsToFault}
 use Rattle.transcoder.specs.declared.reading.Extent.{Extent}
 use Rattle.transcoder.specs.declared.reading.Extent.TheVariants.{Whole, Longer}
 
@@ -92,21 +92,27 @@ module _ {S : Type 0} (Fed : S → List ℕ → Type 0) (Made : S → Type 0) wh
     fed_are = h.fed_are;
   }
 
+  -- the bytes so far
+  was_fed : (old now : Option (List ℕ)) (room : ℕ) (state : S) (h : HasReadSource Fed Made old now room state) → WasFed Fed h.taken_are
+  was_fed old now room state h = let c = h.counted in (omega (arith, c), state, h.fed_are)
+
   -- the last piece, which may have been fed or not
   pub last_piece : (old now next : Option (List ℕ)) (xs : List ℕ) (room : ℕ) (state : S) → HasReadSource Fed Made old now room state → Consumes now next xs → length xs ≤ pull_limit → StopsSoon (WasFed Fed) old next
-  last_piece old now next xs room state h consumed few =
-      let c = h.counted in
-      record {
-        before = h.taken_are;
-        last = xs;
-        pulled = Consumes-trans old now next h.taken_are xs h.front consumed;
-        short = few;
-        shows_none = (omega (arith, c), state, h.fed_are);
-      }
+  last_piece old now next xs room state h consumed few = record {
+    before = h.taken_are;
+    last = xs;
+    pulled = Consumes-trans old now next h.taken_are xs h.front consumed;
+    short = few;
+    shows_none = was_fed old now room state h;
+  }
 
   -- a pull that failed gave none
   pub no_piece : (old now next : Option (List ℕ)) (room : ℕ) (state : S) → HasReadSource Fed Made old now room state → Keeps now next → StopsSoon (WasFed Fed) old next
   no_piece old now next room state h kept = last_piece old now next [] room state h (Consumes-kept now now next [] (Consumes-nil now) kept) (omega arith)
+
+  -- all that the source gave before it was fed
+  pub fed_before : (old now next : Option (List ℕ)) (room : ℕ) (state : S) → HasReadSource Fed Made old now room state → Keeps now next → (taken : List ℕ) × Consumes old next taken × WasFed Fed taken
+  fed_before old now next room state h kept = (h.taken_are, Consumes-kept old now next h.taken_are h.front kept, was_fed old now room state h)
 
   module _ (old now next : Option (List ℕ)) (xs : List ℕ) (w room : ℕ) (state : S) (h : HasReadSource Fed Made old now room state) (consumed : Consumes now next xs) where
     pub read_more : (count : ℕ) (after : S) → length xs ≡ count → w ≡ count → count ≤ room → Made after → Fed after (h.taken_are ++ take w xs) → HasReadSource Fed Made old next (room - count) after
@@ -206,19 +212,28 @@ module _ {S W : Type 0} (Fed : S → List ℕ → Type 0) (Made : S → Type 0) 
 -- ---- how far the source was pulled
 
 -- bytes that a reader was fed have no fault but that they end too early
+fed_followed : {S : Type 0} (Fed : S → List ℕ → Type 0) (Faulty : List ℕ → Fault → Type 0) (c : Rule) → ((x : S) (bytes : List ℕ) (fault : Fault) → Fed x bytes → Faulty bytes fault → fault.rule ≡ c)
+    → (bytes : List ℕ) → WasFed Fed bytes → MayBeFollowed Faulty c bytes
+fed_followed Fed Faulty c only_cut bytes h = (h.0, λ f k. only_cut h.1 bytes f h.2 k)
+
+-- so an error says how far the source was pulled
 pub pulls_for : {S W : Type 0} (Fed : S → List ℕ → Type 0) (Faulty : List ℕ → Fault → Type 0) (c : Rule) (old now : Option (List ℕ)) → ((x : S) (bytes : List ℕ) (fault : Fault) → Fed x bytes → Faulty bytes fault → fault.rule ≡ c)
-    → StopsSoon (WasFed Fed) old now → (r : Result W CheckError) → IfErr r (λ e. PullsToFault Faulty c old now e)
-pulls_for Fed Faulty c old now only_cut h (Ok x) = tt
-pulls_for Fed Faulty c old now only_cut h (Err (Refused fault)) = record { before = h.before; last = h.last; pulled = h.pulled; short = h.short; shows_none = (h.shows_none.0, λ f k. only_cut h.shows_none.1 h.before f h.shows_none.2 k) }
-pulls_for Fed Faulty c old now only_cut h (Err ReadFault) = tt
-pulls_for Fed Faulty c old now only_cut h (Err Memory) = tt
+    → StopsSoon (WasFed Fed) old now → (r : Result W CheckError) → (r ≡ Err ReadFault → (taken : List ℕ) × Consumes old now taken × WasFed Fed taken) → IfErr r (λ e. PullsToFault Faulty c old now e)
+pulls_for Fed Faulty c old now only_cut h (Ok x) failed = tt
+pulls_for Fed Faulty c old now only_cut h (Err (Refused fault)) failed = record { before = h.before; last = h.last; pulled = h.pulled; short = h.short; shows_none = fed_followed Fed Faulty c only_cut h.before h.shows_none }
+pulls_for Fed Faulty c old now only_cut h (Err ReadFault) failed = let k = failed refl in (k.0, k.1, fed_followed Fed Faulty c only_cut k.0 k.2)
+pulls_for Fed Faulty c old now only_cut h (Err Memory) failed = tt
 
 -- the same by other faults, each of which is one of these where the bytes are within the limit
+followed_as : (Faulty HasFault : List ℕ → Fault → Type 0) (c : Rule) → ((bytes : List ℕ) (fault : Fault) → length bytes ≤ most_bytes → HasFault bytes fault → Faulty bytes fault)
+    → (bytes : List ℕ) → MayBeFollowed Faulty c bytes → MayBeFollowed HasFault c bytes
+followed_as Faulty HasFault c is_one bytes h = (h.0, λ f k. h.1 f (is_one bytes f h.0 k))
+
 pub pulls_as : {W : Type 0} (Faulty HasFault : List ℕ → Fault → Type 0) (c : Rule) (old now : Option (List ℕ)) → ((bytes : List ℕ) (fault : Fault) → length bytes ≤ most_bytes → HasFault bytes fault → Faulty bytes fault)
     → (r : Result W CheckError) → IfErr r (λ e. PullsToFault Faulty c old now e) → IfErr r (λ e. PullsToFault HasFault c old now e)
 pulls_as Faulty HasFault c old now is_one (Ok x) h = tt
-pulls_as Faulty HasFault c old now is_one (Err (Refused fault)) h = record { before = h.before; last = h.last; pulled = h.pulled; short = h.short; shows_none = (h.shows_none.0, λ f k. h.shows_none.1 f (is_one h.before f h.shows_none.0 k)) }
-pulls_as Faulty HasFault c old now is_one (Err ReadFault) h = tt
+pulls_as Faulty HasFault c old now is_one (Err (Refused fault)) h = record { before = h.before; last = h.last; pulled = h.pulled; short = h.short; shows_none = followed_as Faulty HasFault c is_one h.before h.shows_none }
+pulls_as Faulty HasFault c old now is_one (Err ReadFault) h = (h.0, h.1, followed_as Faulty HasFault c is_one h.0 h.2)
 pulls_as Faulty HasFault c old now is_one (Err Memory) h = tt
 
 -- ---- that the source failed is told where it was read alone

@@ -33,7 +33,7 @@ module _ (HasFault : List ℕ → Fault → Type 0) (cut_rule : Rule) (old new :
     where
       by : (e : CheckError) → PullsToFault HasFault cut_rule old new e → PullsToTransFault HasFault cut_rule old new (trans_error e)
       by (check.Refused fault) h = h
-      by check.ReadFault h = tt
+      by check.ReadFault h = h
       by check.Memory h = tt
 
   -- a writer tells no fault of the bytes

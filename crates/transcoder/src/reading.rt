@@ -1,6 +1,6 @@
 //! An instance, read as it comes from a source.
 ghost use Rattle.std.specs.Prelude.{◌≡◌, ◌<◌, ◌≤◌, ℕ, List, [], IfOk, IfErr, IfSome, OnOk, IsErrOf, length, codes};
-ghost use Rattle.std.specs.Io.KnownBytes.{IsAtEnd};
+ghost use Rattle.std.specs.Io.KnownBytes.{Consumes, IsAtEnd};
 ghost use Rattle.outside.specs.Pulls.{StopsSoon, pull_limit};
 ghost use Rattle.outside.specs.Source.{Rose};
 ghost use Rattle.message_model.specs.declared.fault.Fault.{Fault as Told};
@@ -103,6 +103,7 @@ fn feed_all<I: Source, W, X: Intake<W>>(
     ensures made { X.is_made_for reader.new model.now }
     ensures read { ReadsTo (λ x. X.has_fed x model.now) (λ x. X.is_made_for x model.now) (IsLimited (X.is_faulty model.now) (GivesSome (X.gives model.now)) X.cut_rule) (I.left source.old) (I.left source.new) reader.new result }
     ensures pulled { StopsSoon (WasFed (λ x. X.has_fed x model.now)) (I.left source.old) (I.left source.new) }
+    ensures failed { IsErrOf result CheckError.ReadFault → (taken : List ℕ) × Consumes (I.left source.old) (I.left source.new) taken × WasFed (λ x. X.has_fed x model.now) taken }
     ensures fault { IsErrOf result CheckError.ReadFault → Rose (I.faults source.old) (I.faults source.new) }
     ensures later { I.faults source.old ≤ I.faults source.new }
     ensures same { (IsErrOf result CheckError.ReadFault → ⊥) → I.faults source.new ≡ I.faults source.old }

@@ -1,5 +1,6 @@
 -- What one command does, and what reading a repository and its codes does.
 use Rattle.std.specs.Prelude.{◌≡◌, ◌≢◌, ◌⊎◌, ◌≤◌, ℕ, Bool, true, false, length, List, [], Option, Some, Result, Ok, Err, IfErr}
+use Rattle.std.specs.Io.KnownBytes.{Consumes}
 use Rattle.outside.specs.Pulls.{StopsSoon}
 use Rattle.outside.specs.declared.errors.SinkError.{SinkError}
 use Rattle.outside.specs.declared.errors.SinkError.TheVariants as sink
@@ -15,7 +16,6 @@ use Rattle.code_sets.specs.Codes.{ReadsCodes, codes_limit}
 use Rattle.code_sets.specs.CodesErrors.{AreCodesPulled}
 use Rattle.reference_check.specs.declared.reached.ReadyError.{ReadyError}
 use Rattle.reference_check.specs.declared.reached.ReadyError.TheVariants as ready
-use Rattle.message_model.specs.Tables.{Tables}
 use Rattle.transcoder.specs.declared.check_error.CheckError.{CheckError}
 use Rattle.transcoder.specs.declared.check_error.CheckError.TheVariants as check
 use Rattle.transcoder.specs.declared.trans_error.TransError.{TransError}
@@ -23,9 +23,9 @@ use Rattle.transcoder.specs.declared.trans_error.TransError.TheVariants as trans
 use Rattle.repo_engine.specs.declared.refusal.Stop.{Stop}
 use Rattle.repo_engine.specs.declared.refusal.Stop.TheVariants.{Refused, ReadFault, WriteFault, Memory}
 use Rattle.repo_engine.specs.declared.refusal.Refusal.TheVariants.{Words, Repository, Codes, Message, Instance}
-use Rattle.repo_engine.specs.Answer.{Of, TellsFileFault, RefusesCodes, RefusesMessage, GivesRepository, GivesTables}
+use Rattle.repo_engine.specs.Answer.{Of, HasCompiledMessage, TellsFileFault, RefusesCodes, RefusesMessage, GivesRepository}
 use Rattle.repo_engine.specs.Command.{Command, pulled_by, hands_in}
-use Rattle.repo_engine.specs.Pulls.{StopsFilesSoon, StopsInstanceSoon}
+use Rattle.repo_engine.specs.Pulls.{HadShownNone, StopsFilesSoon, StopsInstanceSoon}
 use Rattle.repo_engine.specs.Run.{End, GoesOut, HasFilesTold, HaveLeft, TellsVerdict}
 use Rattle.repo_engine.specs.Sources.{Use, AreUsed, Ended, IsSourceRead, Untouched, Failing, Refusing, Whole, source_ended_of}
 use Rattle.repo_engine.specs.Verdict.{Verdict, refused}
@@ -38,7 +38,9 @@ pub record Carries {R C I O : Type 0} (command : Command) (repo : Use R) (codes 
   pub verdict : (r c i : List ℕ) → HaveLeft command (repo.left repo.old) (codes.left codes.old) (inst.left inst.old) r c i
       → TellsVerdict (Of command r c i) end (held old) (held new)
   pub files_pulled : IfErr end (λ stop. StopsFilesSoon repo codes inst stop)
-  pub instance_pulled : (r c : List ℕ) → HasFilesTold command (repo.left repo.old) (codes.left codes.old) r c → IfErr end (λ stop. StopsInstanceSoon (λ i. Of command r c i) (inst.left inst.old) (inst.left inst.new) stop)
+  pub instance_pulled : (r c : List ℕ) → HasFilesTold command (repo.left repo.old) (codes.left codes.old) r c → IfErr end (λ stop. StopsInstanceSoon (λ i. Of command r c i) inst stop)
+  pub codes_behind : (r : List ℕ) → repo.left repo.old ≡ Some r → Untouched codes ⊎ ((own : Contents) × Spells r own)
+  pub instance_behind : (r c : List ℕ) → HasFilesTold command (repo.left repo.old) (codes.left codes.old) r c → Untouched inst ⊎ HasCompiledMessage command r c
   pub out : GoesOut held faults old new end
 
 -- the bytes are not too many, and say these codes
@@ -107,6 +109,7 @@ IsOfInput Memory = Unit {0}
 abbrev pub StopsAtRepository : Option (List ℕ) → Option (List ℕ) → Stop → Type 0
 StopsAtRepository repo repo' (Refused (Repository fault)) = StopsSoon ShowsNoLoadFault repo repo'
 StopsAtRepository repo repo' (Refused refusal) = ⊥
+StopsAtRepository repo repo' ReadFault = (taken : List ℕ) × Consumes repo repo' taken × ShowsNoLoadFault taken
 StopsAtRepository repo repo' stop = Unit {0}
 
 -- how far codes were pulled where reading them stops; nothing else is refused then
@@ -120,6 +123,7 @@ abbrev pub StopsAtFiles : {R C : Type 0} → Use R → Use C → Stop → Type 0
 StopsAtFiles repo codes (Refused (Repository fault)) = StopsSoon ShowsNoLoadFault (repo.left repo.old) (repo.left repo.new) × Untouched codes
 StopsAtFiles repo codes (Refused (Codes rule number)) = AreCodesPulled (codes.left codes.old) (codes.left codes.new)
 StopsAtFiles repo codes (Refused (Instance fault)) = ⊥
+StopsAtFiles repo codes ReadFault = HadShownNone ShowsNoLoadFault repo
 StopsAtFiles repo codes stop = Unit {0}
 
 -- a stop that refuses nothing but an instance
@@ -129,8 +133,8 @@ RefusesNoFiles (Refused refusal) = ⊥
 RefusesNoFiles stop = Unit {0}
 
 -- how far an instance was pulled where a command of a compiled message stops
-abbrev pub StopsAtInstance : (List ℕ → Verdict → Type 0) → Option (List ℕ) → Option (List ℕ) → Stop → Type 0
-StopsAtInstance Answers inst inst' stop = StopsInstanceSoon Answers inst inst' stop × RefusesNoFiles stop
+abbrev pub StopsAtInstance : {I : Type 0} → (List ℕ → Verdict → Type 0) → Use I → Stop → Type 0
+StopsAtInstance Answers inst stop = StopsInstanceSoon Answers inst stop × RefusesNoFiles stop
 
 -- a source that is read, where it is asked
 pub data IsReadIf {S : Type 0} (asked : Bool) (ended : Ended) (u : Use S) : Type 0 where
@@ -151,9 +155,6 @@ pub data IsReadAs {S : Type 0} (reads : Bool) (ended : Ended) (u : Use S) : Type
   unread : reads ≡ false → ended ≢ Failing → ended ≢ Refusing → Untouched u → IsReadAs reads ended u
   read : reads ≡ true → IsSourceRead ended u → IsReadAs reads ended u
 
--- the compiled message, or why there is none
-abbrev pub GivesMessage : List ℕ → List ℕ → List ℕ → List ℕ → Tables → Type 0
-GivesMessage codes_word id r c T = (R : Contents) × GivesRepository codes_word r c R × GivesTables R id T
-
+-- why there is no compiled message
 abbrev pub RefusesUpToMessage : List ℕ → List ℕ → List ℕ → List ℕ → Verdict → Type 0
 RefusesUpToMessage codes_word id r c v = RefusesRepository codes_word r c v ⊎ ((R : Contents) × GivesRepository codes_word r c R × RefusesMessage R id v)

@@ -7,7 +7,7 @@ use Rattle.repo_engine.proofs.Messages.{read_on, push_ends, push_words, check_fa
 use Rattle.repo_engine.specs.Answer.{FromDer, IsFine}
 use Rattle.repo_engine.specs.Steps.{refused, goes_on}
 use Rattle.repo_engine.specs.inner.Arms.{end_of, check_stop}
-use Rattle.repo_engine.specs.Sources.{source_ended_of, stop_ended}
+use Rattle.repo_engine.specs.Sources.{of_source, source_ended_of, stop_ended}
 use Rattle.repo_engine.proofs.Pulls.{push_ends_so, check_stops, der_goes, fine_goes}
 use Rattle.repo_engine.proofs.Steps.{same_error}
 use Rattle.repo_engine.proofs.check.check_in_der.Goals as goal
@@ -34,7 +34,7 @@ returns-in-Err-clause-no_words g c = rw c.stop_of_check.ensures (no_words _ (che
 pub returns-in-Err-clause-source : goal.returns-in-Err-clause-source
 returns-in-Err-clause-source g c = rw c.stop_of_check.ensures (record {
   later = c.check_der.ensures.later;
-  whole = λ e. absurd (stop_not_whole _ e);
+  whole = λ e. absurd (stop_not_whole _ (check_input _) e);
   failed = λ e. (let is : c.in-Err.error ≡ check.ReadFault = check_failing _ e in c.check_der.ensures.fault (search rules));
   quiet = λ other. c.check_der.ensures.same (λ e. other (let is : c.in-Err.error ≡ check.ReadFault = same_error _ _ _ c.in-Err.is e in ap (λ e. stop_ended (check_stop e)) is));
 })
@@ -46,7 +46,7 @@ pub returns-in-Err-clause-goes_out : goal.returns-in-Err-clause-goes_out
 returns-in-Err-clause-goes_out g c = rw c.stop_of_check.ensures (goes_nowhere g.O.Sink.held g.O.Sink.faults _ _ (check_input _))
 
 pub returns-in-Ok-clause-pulled : goal.returns-in-Ok-clause-pulled
-returns-in-Ok-clause-pulled g c = rw c.ended.ensures (push_ends_so (λ i. FromDer c.args.model.now i IsFine) _ _ c.push_bytes.result)
+returns-in-Ok-clause-pulled g c = rw c.ended.ensures (push_ends_so (λ i. FromDer c.args.model.now i IsFine) (of_source g.I.Source.left g.I.Source.faults c.args.inst.now c.check_der.new.source) c.push_bytes.result)
 
 pub returns-in-Err-clause-pulled : goal.returns-in-Err-clause-pulled
-returns-in-Err-clause-pulled g c = rw c.stop_of_check.ensures (check_stops (λ i. FromDer c.args.model.now i IsFine) _ _ (HasDerFault c.args.model.now) DerTruncated (der_goes c.args.model.now IsFine fine_goes) _ c.in-Err.ensures.pulled)
+returns-in-Err-clause-pulled g c = rw c.stop_of_check.ensures (check_stops (λ i. FromDer c.args.model.now i IsFine) (of_source g.I.Source.left g.I.Source.faults c.args.inst.now c.check_der.new.source) (HasDerFault c.args.model.now) DerTruncated (der_goes c.args.model.now IsFine fine_goes) _ c.in-Err.ensures.pulled)

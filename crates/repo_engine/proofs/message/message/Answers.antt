@@ -1,10 +1,10 @@
-use Rattle.std.proofs.Common.{refl}
+use Rattle.std.proofs.Common.{inl, inr, refl}
 use Rattle.repo_engine.specs.Answer.{FromMessage, OfVerb}
 use Rattle.repo_engine.specs.inner.Arms.{RefusesUpToMessage}
 use Rattle.repo_engine.specs.Sources.{of_source}
 use Rattle.repo_engine.proofs.Ends.{tells_stopped, goes_nowhere}
 use Rattle.repo_engine.proofs.Performing.{tells_more}
-use Rattle.repo_engine.proofs.Messages.{message_given, message_refused, third_on, third_not, no_words}
+use Rattle.repo_engine.proofs.Messages.{first_quiet, message_given, message_refused, third_on, third_not, no_words}
 use Rattle.repo_engine.proofs.Pulls.{no_files, stops_soon, files_soon, no_instance}
 use Rattle.repo_engine.proofs.Steps.{if_err}
 use Rattle.repo_engine.proofs.message.message.Goals as goal
@@ -21,7 +21,7 @@ pub returns-in-Err-clause-no_words : goal.returns-in-Err-clause-no_words
 returns-in-Err-clause-no_words g c = no_words c.in-Err.stop c.in-Err.ensures.input
 
 pub returns-in-Err-clause-sources : goal.returns-in-Err-clause-sources
-returns-in-Err-clause-sources g c = third_not _ _ c.in-Err.stop _ _ _ c.in-Err.ensures.sources refl
+returns-in-Err-clause-sources g c = third_not _ _ c.in-Err.stop _ _ _ c.in-Err.ensures.input c.in-Err.ensures.sources refl
 
 pub returns-in-Err-clause-verdict : goal.returns-in-Err-clause-verdict
 returns-in-Err-clause-verdict g c r bytes i left told =
@@ -32,12 +32,15 @@ pub returns-in-Err-clause-goes_out : goal.returns-in-Err-clause-goes_out
 returns-in-Err-clause-goes_out g c = goes_nowhere g.O.Sink.held g.O.Sink.faults _ c.in-Err.stop c.in-Err.ensures.input
 
 pub returns-in-Ok-clause-files_pulled : goal.returns-in-Ok-clause-files_pulled
-returns-in-Ok-clause-files_pulled g c = if_err _ _ c.on_model.result (no_files (λ i. OfVerb c.args.verb i c.in-Ok.model) (g.I.Source.left c.args.inst.now) (g.I.Source.left c.on_model.new.inst) (of_source g.R.Source.left g.R.Source.faults c.args.repo.now c.read_message.new.repo) (of_source g.C.Source.left g.C.Source.faults c.args.codes.now c.read_message.new.codes) (of_source g.I.Source.left g.I.Source.faults c.args.inst.now c.on_model.new.inst)) c.on_model.ensures.pulled
+returns-in-Ok-clause-files_pulled g c =
+    let repo = (of_source g.R.Source.left g.R.Source.faults c.args.repo.now c.read_message.new.repo) in
+    let codes = (of_source g.C.Source.left g.C.Source.faults c.args.codes.now c.read_message.new.codes) in
+    if_err _ _ c.on_model.result (no_files (λ i. OfVerb c.args.verb i c.in-Ok.model) (of_source g.I.Source.left g.I.Source.faults c.args.inst.now c.on_model.new.inst) repo codes (first_quiet _ repo codes c.in-Ok.ensures.sources)) c.on_model.ensures.pulled
 
 pub returns-in-Ok-clause-instance_pulled : goal.returns-in-Ok-clause-instance_pulled
 returns-in-Ok-clause-instance_pulled g c r codes left =
     if_err _ _ c.on_model.result
-    (stops_soon (λ i. OfVerb c.args.verb i c.in-Ok.model) (g.I.Source.left c.args.inst.now) (g.I.Source.left c.on_model.new.inst) (λ i. FromMessage c.args.codes_word.now c.args.id.now r codes (OfVerb c.args.verb i))
+    (stops_soon (λ i. OfVerb c.args.verb i c.in-Ok.model) (of_source g.I.Source.left g.I.Source.faults c.args.inst.now c.on_model.new.inst) (λ i. FromMessage c.args.codes_word.now c.args.id.now r codes (OfVerb c.args.verb i))
     (λ i v. c.message_goes_on.ensures c.args.verb c.args.codes_word.now c.args.id.now r codes i c.in-Ok.model v (c.in-Ok.ensures.gives r codes left))) c.on_model.ensures.pulled
 
 pub returns-in-Err-clause-files_pulled : goal.returns-in-Err-clause-files_pulled
@@ -45,4 +48,10 @@ returns-in-Err-clause-files_pulled g c = files_soon (of_source g.R.Source.left g
 
 pub returns-in-Err-clause-instance_pulled : goal.returns-in-Err-clause-instance_pulled
 returns-in-Err-clause-instance_pulled g c r codes left =
-    no_instance (of_source g.R.Source.left g.R.Source.faults c.args.repo.now c.read_message.new.repo) (of_source g.C.Source.left g.C.Source.faults c.args.codes.now c.read_message.new.codes) (λ i. FromMessage c.args.codes_word.now c.args.id.now r codes (OfVerb c.args.verb i)) (g.I.Source.left c.args.inst.now) (g.I.Source.left c.args.inst.now) c.in-Err.stop c.in-Err.ensures.pulled
+    no_instance (of_source g.R.Source.left g.R.Source.faults c.args.repo.now c.read_message.new.repo) (of_source g.C.Source.left g.C.Source.faults c.args.codes.now c.read_message.new.codes) (λ i. FromMessage c.args.codes_word.now c.args.id.now r codes (OfVerb c.args.verb i)) (of_source g.I.Source.left g.I.Source.faults c.args.inst.now c.args.inst.now) refl c.in-Err.stop c.in-Err.ensures.pulled
+
+pub returns-in-Ok-clause-instance_behind : goal.returns-in-Ok-clause-instance_behind
+returns-in-Ok-clause-instance_behind g c r codes left = inr (c.in-Ok.model, c.in-Ok.ensures.gives r codes left)
+
+pub returns-in-Err-clause-instance_behind : goal.returns-in-Err-clause-instance_behind
+returns-in-Err-clause-instance_behind g c r codes left = inl refl

@@ -1,4 +1,4 @@
-use Rattle.std.proofs.Common.{refl, None}
+use Rattle.std.proofs.Common.{inl, refl}
 use Rattle.repo_engine.specs.Answer.{FromRepository, Lists}
 use Rattle.repo_engine.specs.Sources.{before, used, unused, of_source}
 use Rattle.repo_engine.proofs.Pulls.{files_soon, no_instance, no_files, stops_soon, unrefused}
@@ -11,7 +11,9 @@ returns-in-List g c = rw c.in-List.is (record {
   sources = used refl (before c.list.ensures.sources refl (λ _. refl));
   verdict = λ r bytes i left. c.list.ensures.verdict r bytes (record { repository = left.files.repository refl; codes = left.files.codes });
   files_pulled = if_err _ _ c.list.result (files_soon (of_source g.R.Source.left g.R.Source.faults c.args.repo.now c.list.new.repo) (of_source g.C.Source.left g.C.Source.faults c.args.codes.now c.list.new.codes) (of_source g.I.Source.left g.I.Source.faults c.args.inst.now c.args.inst.now) refl) c.list.ensures.pulled;
-  instance_pulled = λ r bytes left. if_err _ _ c.list.result (no_instance (of_source g.R.Source.left g.R.Source.faults c.args.repo.now c.list.new.repo) (of_source g.C.Source.left g.C.Source.faults c.args.codes.now c.list.new.codes) (λ i. FromRepository c.in-List.word.now r bytes Lists) (g.I.Source.left c.args.inst.now) (g.I.Source.left c.args.inst.now)) c.list.ensures.pulled;
+  instance_pulled = λ r bytes left. if_err _ _ c.list.result (no_instance (of_source g.R.Source.left g.R.Source.faults c.args.repo.now c.list.new.repo) (of_source g.C.Source.left g.C.Source.faults c.args.codes.now c.list.new.codes) (λ i. FromRepository c.in-List.word.now r bytes Lists) (of_source g.I.Source.left g.I.Source.faults c.args.inst.now c.args.inst.now) refl) c.list.ensures.pulled;
+  codes_behind = c.list.ensures.codes_behind;
+  instance_behind = λ r bytes left. inl refl;
   out = c.list.ensures.goes_out;
 })
 
@@ -22,6 +24,8 @@ returns-in-Message g c = rw c.in-Message.is (record {
   verdict = λ r bytes i left. c.message.ensures.verdict r bytes i (record { repository = left.files.repository refl; codes = left.files.codes }) left.instance;
   files_pulled = c.message.ensures.files_pulled;
   instance_pulled = λ r bytes left. c.message.ensures.instance_pulled r bytes (record { repository = left.repository refl; codes = left.codes });
+  codes_behind = c.message.ensures.codes_behind;
+  instance_behind = λ r bytes left. c.message.ensures.instance_behind r bytes (record { repository = left.repository refl; codes = left.codes });
   out = c.message.ensures.goes_out;
 })
 
@@ -30,7 +34,9 @@ returns-in-Drill g c = rw c.in-Drill.is (record {
   no_words = c.give_drill.ensures.no_words;
   sources = unused refl refl refl refl c.give_drill.ensures.ends.1 c.give_drill.ensures.ends.0;
   verdict = λ r bytes i left. c.give_drill.ensures.verdict;
-  files_pulled = if_err _ _ c.give_drill.result (no_files (λ i v. Unit {0}) None None (of_source g.R.Source.left g.R.Source.faults c.args.repo.now c.args.repo.now) (of_source g.C.Source.left g.C.Source.faults c.args.codes.now c.args.codes.now) (of_source g.I.Source.left g.I.Source.faults c.args.inst.now c.args.inst.now)) (unrefused (λ i v. Unit {0}) None None c.give_drill.result c.give_drill.ensures.ends.1);
-  instance_pulled = λ r bytes left. if_err _ _ c.give_drill.result (stops_soon (λ i v. Unit {0}) (g.I.Source.left c.args.inst.now) (g.I.Source.left c.args.inst.now) _ (λ i v h. tt)) (unrefused (λ i v. Unit {0}) (g.I.Source.left c.args.inst.now) (g.I.Source.left c.args.inst.now) c.give_drill.result c.give_drill.ensures.ends.1);
+  files_pulled = if_err _ _ c.give_drill.result (no_files (λ i v. Unit {0}) (of_source g.I.Source.left g.I.Source.faults c.args.inst.now c.args.inst.now) (of_source g.R.Source.left g.R.Source.faults c.args.repo.now c.args.repo.now) (of_source g.C.Source.left g.C.Source.faults c.args.codes.now c.args.codes.now) refl) (unrefused (λ i v. Unit {0}) (of_source g.I.Source.left g.I.Source.faults c.args.inst.now c.args.inst.now) c.give_drill.result c.give_drill.ensures.ends.0 c.give_drill.ensures.ends.1);
+  instance_pulled = λ r bytes left. if_err _ _ c.give_drill.result (stops_soon (λ i v. Unit {0}) (of_source g.I.Source.left g.I.Source.faults c.args.inst.now c.args.inst.now) _ (λ i v h. tt)) (unrefused (λ i v. Unit {0}) (of_source g.I.Source.left g.I.Source.faults c.args.inst.now c.args.inst.now) c.give_drill.result c.give_drill.ensures.ends.0 c.give_drill.ensures.ends.1);
+  codes_behind = λ r told. inl refl;
+  instance_behind = λ r bytes left. inl refl;
   out = c.give_drill.ensures.goes_out;
 })

@@ -1,4 +1,4 @@
-use Rattle.std.proofs.Common.{inr, refl}
+use Rattle.std.proofs.Common.{inl, inr, refl}
 use Rattle.repo_engine.specs.inner.Arms.{RefusesRepository}
 use Rattle.repo_engine.specs.Answer.{RefusesCodes}
 use Rattle.repo_engine.specs.Sources.{of_source}
@@ -17,7 +17,13 @@ returns-in-Ok-clause-refuses g c r bytes left =
     (c.with_codes.ensures.refuses bytes left.codes)
 
 pub returns-in-Ok-clause-pulled : goal.returns-in-Ok-clause-pulled
-returns-in-Ok-clause-pulled g c = if_err _ _ c.with_codes.result (stops_at_codes (of_source g.R.Source.left g.R.Source.faults c.args.repo.now c.load_file.new.repo) (of_source g.C.Source.left g.C.Source.faults c.args.codes.now c.with_codes.new.codes)) c.with_codes.ensures.pulled
+returns-in-Ok-clause-pulled g c = if_err _ _ c.with_codes.result (stops_at_codes (of_source g.R.Source.left g.R.Source.faults c.args.repo.now c.load_file.new.repo) (of_source g.C.Source.left g.C.Source.faults c.args.codes.now c.with_codes.new.codes) (c.in-Ok.ensures.source.quiet (λ e. absurd (cc)))) c.with_codes.ensures.pulled
 
 pub returns-in-Err-clause-pulled : goal.returns-in-Err-clause-pulled
 returns-in-Err-clause-pulled g c = stops_at_repository (of_source g.R.Source.left g.R.Source.faults c.args.repo.now c.load_file.new.repo) (of_source g.C.Source.left g.C.Source.faults c.args.codes.now c.args.codes.now) refl c.in-Err.stop c.in-Err.ensures.pulled
+
+pub returns-in-Ok-clause-codes_behind : goal.returns-in-Ok-clause-codes_behind
+returns-in-Ok-clause-codes_behind g c r told = inr (c.in-Ok.own, c.in-Ok.ensures.gives r told)
+
+pub returns-in-Err-clause-codes_behind : goal.returns-in-Err-clause-codes_behind
+returns-in-Err-clause-codes_behind g c r told = inl refl

@@ -4,7 +4,7 @@ use Rattle.std.specs.Prelude.{ℕ, List, IfSome, Some, None}
 use Rattle.repo_loader.specs.declared.fault.LoadFault.{LoadFault}
 use Rattle.repo_loader.specs.Loaded.{HasLoadFault}
 use Rattle.repo_loader.specs.inner.ProgressSteps.{FileEndsAs}
-use Rattle.repo_loader.proofs.FileVerdicts.{front_taken, room_whole, fault_found, fault_placed, long_found, long_placed, room_left, last_piece, end_found, end_placed, end_whole}
+use Rattle.repo_loader.proofs.FileVerdicts.{front_taken, room_whole, fault_found, fault_placed, long_found, long_placed, room_left, last_piece, none_shown, end_found, end_placed, end_whole}
 use Rattle.repo_loader.proofs.file.read_to_end.Goals as goal
 
 pub loop-count-init : goal.loop-count-init
@@ -17,6 +17,13 @@ loop-count-init g c = record {
 
 pub take_all-requires-clause-read : goal.take_all-requires-clause-read
 take_all-requires-clause-read g c = (c.loop-count.invariant.so_far.taken_are, c.loop-count.invariant.so_far.read)
+
+-- ---- a failed pull
+
+pub returns-in_default-clause-pulled : goal.returns-in_default-clause-pulled
+returns-in_default-clause-pulled g c =
+    none_shown (g.R.Source.left c.args.source.now) (g.R.Source.left c.loop-count.source) c.loop-count.room c.loop-count.progress c.loop-count.invariant.so_far c.no_fault_taken.ensures (g.R.Source.left c.pull.new.self)
+    c.in_default.ensures.bytes
 
 -- ---- the end
 

@@ -1,7 +1,7 @@
 use Rattle.std.proofs.Common.{rules, ◌++◌, take, sym, subst, arith}
 use Rattle.transcoder.specs.Limited.{IsLimited}
 use Rattle.transcoder.specs.inner.Reading.{StopsAt, SaysError, GivesSome}
-use Rattle.transcoder.proofs.Readings.{last_piece, no_piece, read_more, read_beyond, refused_fed}
+use Rattle.transcoder.proofs.Readings.{last_piece, no_piece, fed_before, read_more, read_beyond, refused_fed}
 use Rattle.transcoder.proofs.reading.feed_all.Goals as goal
 
 pub returns-in-Err-clause-read : goal.returns-in-Err-clause-read
@@ -29,6 +29,12 @@ pub returns-in_default-clause-pulled : goal.returns-in_default-clause-pulled
 returns-in_default-clause-pulled g c =
     let T = c.args.model.now in
     no_piece (λ x. g.X.Intake.has_fed x T) (λ x. g.X.Intake.is_made_for x T) (g.I.Source.left c.args.source.now) (g.I.Source.left c.loop-count.source) (g.I.Source.left c.pull.new.self) c.loop-count.room c.loop-count.reader
+    c.loop-count.invariant.so_far c.in_default.ensures.bytes
+
+pub returns-in_default-clause-failed : goal.returns-in_default-clause-failed
+returns-in_default-clause-failed g c _ =
+    let T = c.args.model.now in
+    fed_before (λ x. g.X.Intake.has_fed x T) (λ x. g.X.Intake.is_made_for x T) (g.I.Source.left c.args.source.now) (g.I.Source.left c.loop-count.source) (g.I.Source.left c.pull.new.self) c.loop-count.room c.loop-count.reader
     c.loop-count.invariant.so_far c.in_default.ensures.bytes
 
 pub returns-in-Err-clause-pulled : goal.returns-in-Err-clause-pulled

@@ -30,6 +30,7 @@ pub returns-clause-pulled : goal.returns-clause-pulled
 returns-clause-pulled g c =
     let T = c.args.model.now in
     pulls_for (λ x. g.X.Intake.has_fed x T) (g.X.Intake.is_faulty T) g.X.Intake.cut_rule (g.I.Source.left c.args.source.now) (g.I.Source.left c.feed_all-read.new.source) c.requires.only_cut c.feed_all-read.ensures.pulled c.concluded.result
+    (λ e. c.feed_all-read.ensures.failed (read_fault c.feed_all-read.result c.finish-end.result c.concluded.result c.concluded.ensures e))
 
 pub returns-clause-fault : goal.returns-clause-fault
 returns-clause-fault g c e = c.feed_all-read.ensures.fault (read_fault c.feed_all-read.result c.finish-end.result c.concluded.result c.concluded.ensures e)
