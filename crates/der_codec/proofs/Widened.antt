@@ -1,5 +1,5 @@
 -- Where only the room grows, what was given stays so.
-use Rattle.std.proofs.Common.{◌≡◌, ℕ, List, Option, Some, None, length, sym, ap, ◌∙◌, subst}
+use Rattle.std.proofs.Common.{◌≡◌, ℕ, List, Option, Some, None, length, refl, sym, ap, ◌∙◌, subst}
 use Rattle.inst_pool.specs.Pieces.{Region}
 use Rattle.message_model.specs.Tables.{Tables, types_of}
 use Rattle.der_model.specs.DerMessage.{DerMessage, der_message}
@@ -28,6 +28,12 @@ shows_same m xs d start place bytes (Some a) (Some b) same h = λ r. subst (Part
 shows_same m xs d start place bytes None (Some b) same h = absurd same
 shows_same m xs d start place bytes (Some a) None same h = absurd same
 
+none_same : (old new : Option Region) → HasSamePieces old new → old ≡ None → new ≡ None
+none_same None None same e = refl
+none_same None (Some b) same e = absurd same
+none_same (Some a) None same e = refl
+none_same (Some a) (Some b) same e = absurd (cc)
+
 pub widened_fed : (T : Tables) (old new : DerChecker) → IsWidened old new → (bytes : List ℕ) → HasFedDer old T bytes → HasFedDer new T bytes
 widened_fed T old new w bytes h =
     let m = der_message T in
@@ -49,4 +55,9 @@ widened_made T old new w checks h = record {
 }
   where
     widened_freed : IsFreed old → IsFreed new
-    widened_freed f = record { leaf = ap length w.kept ∙ f.leaf; header = as_before (λ xs a s p. header_come a s p ≡ 0) old new w f.header }
+    widened_freed f = record {
+      leaf = ap length w.kept ∙ f.leaf;
+      header = as_before (λ xs a s p. header_come a s p ≡ 0) old new w f.header;
+      values = w.levels ∙ f.values;
+      pieces = none_same old.pieces new.pieces w.pieces f.pieces;
+    }

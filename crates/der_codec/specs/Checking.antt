@@ -66,10 +66,12 @@ token_held checker = header_come checker.decoder.due checker.decoder.start check
 abbrev pub der_failure : DerChecker → Option InstanceError
 der_failure checker = checker.failed
 
--- no octets are held
+-- no octets are held, no value is open, and no piece is kept
 pub record IsFreed (checker : DerChecker) : Type 0 where
   pub leaf : held_contents checker ≡ 0
   pub header : token_held checker ≡ 0
+  pub values : checker.decoder.levels.items ≡ []
+  pub pieces : checker.pieces ≡ None
 
 -- the checker was made for the message of these tables, and was given no bytes that it refused without saying so; where it has refused some it holds none
 pub record IsDerCheckerFor (checker : DerChecker) (T : Tables) : Type 0 where

@@ -71,6 +71,7 @@ impl Decoder {
         ensures waits { IsWaiting result.due result.place (end_of_levels result.levels.items) }
         ensures place { result.place ≡ 0 }
         ensures none { header_come result.due result.start result.place ≡ 0 }
+        ensures open { result.levels.items ≡ [] }
     {
         Decoder {
             place: 0,
