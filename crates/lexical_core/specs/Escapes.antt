@@ -1,4 +1,5 @@
--- The canonical spelling of characters in XML: XML 1.0 §2.4, §2.11 and §3.3.3, as in Canonical XML §2.3.
+-- The canonical spelling of characters in XML: XML 1.0 §2.4, §2.11 and §3.3.3. Canonical XML 1.0 §2.3 has the same
+-- references, but none to `>` in the value of an attribute, and its numbers are hexadecimal.
 use Rattle.std.specs.Prelude.{ℕ, Bool, List, encode_utf8, codes, if◌then◌else◌, ◌==◌, ◌&&◌}
 
 -- the reference to a character, in a text or in the value of an attribute; of one that has none, what is plain

@@ -197,7 +197,7 @@ impl Sink for MemSink {
     }
 }
 
-/// Appends to the bytes that a sink holds. No bytes ask for no memory.
+/// Appends to the bytes that a sink holds. No bytes ask for no memory. The error is `Memory`, and then they are as before.
 pub fn append(held: &mut Vec<u8>, bytes: &[u8]) -> Result<(), SinkError>
     ensures bytes { PushAppends (Some held.old.items) (Some held.new.items) result bytes.now }
     ensures unchanged { OnErr result (held.new.items ≡ held.old.items) }

@@ -52,7 +52,7 @@ impl From<AllocError> for ReadError {
 // How many bytes are asked of a source at once.
 const PIECE: usize = 65536;
 
-/// A buffer for what is pulled from a source at once.
+/// A buffer for what is pulled from a source at once: 65,536 bytes. The error is want of memory.
 pub fn piece_buffer(alloc: Global) -> Result<Vec<u8>, AllocError>
     ensures some { IfOk result (λ v. 0 < length v.items) }
     ensures few { IfOk result (λ v. length v.items ≤ pull_limit) }

@@ -27,8 +27,8 @@ fn too_long() -> LoadFault
     }
 }
 
-/// Reads the bytes that the source has left: to their end, to the piece that shows a fault, or to
-/// the first byte beyond the limit. A failed pull is not tried again.
+/// Reads the bytes that the source has left: to their end, or to the piece that shows a fault or in
+/// which the first byte beyond the limit stands. A failed pull is not tried again.
 fn read_to_end<R: Source>(
     piece: &mut [u8],
     progress: &mut Progress,
@@ -94,8 +94,8 @@ fn load_into<R: Source>(
     Ok(progress.take_repository()?)
 }
 
-/// The repository that the bytes spell which the source has left. They are read to their end, to
-/// the piece that shows a fault, or to the first byte beyond the limit. A failed pull is not tried again.
+/// The repository that the bytes spell which the source has left. They are read to their end, or to the
+/// piece that shows a fault or in which the first byte beyond the limit stands. A failed pull is not tried again.
 pub fn load<R: Source>(alloc: Global, source: &mut R) -> Result<Repository, LoadError>
     ensures ok { IfOk result (λ r. IfSome (R.left source.old) (λ bytes. Spells bytes r)) }
     ensures whole { OnOk result (IsAtEnd (R.left source.new)) }
