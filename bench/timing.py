@@ -1,5 +1,6 @@
-"""What the benchmarks share: what a run of a program takes, and what they say when they are asked for help."""
+"""What the benchmarks share: what a run of a program takes, what has to be there, and what they say when they are asked for help."""
 import os
+import shutil
 import subprocess
 import sys
 import time
@@ -36,3 +37,15 @@ def help_if_asked(head):
     if sys.argv[1:] in (["help"], ["--help"], ["-h"]):
         print(head, end="")
         sys.exit()
+
+
+def stop_unless_built(program):
+    """Ends a script where the program is not there."""
+    if not os.path.exists(program):
+        sys.exit("build the program first: ./isorepo check-xml examples/note.repository - demo.001.001.01 < examples/note.xml")
+
+
+def stop_without(command, package):
+    """Ends a script where a command of a Debian package is not there."""
+    if not shutil.which(command):
+        sys.exit(f"{command} is not there: it is in Debian's package {package}")

@@ -1,4 +1,4 @@
-//! Identifier octets and length octets: X.690 §8.1.2, §8.1.3.
+//! What a head says of a value, before it is written as octets: X.690 §8.1.2.
 ghost use Rattle.std.specs.Prelude.{◌≡◌, ℕ, ◌<◌, Some};
 
 /// The class of a tag: §8.1.2.2. A message has no others.

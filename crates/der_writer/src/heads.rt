@@ -1,4 +1,4 @@
-//! Identifier octets and length octets, and how many there are: X.690 §8.1.2, §8.1.3, §10.1.
+//! Heads as octets, identifier octets and then length octets, and how many there are: X.690 §8.1.2, §8.1.3, §10.1.
 ghost use Rattle.std.specs.Prelude.{◌≡◌, ◌+◌, ◌<◌, ◌≤◌, ◌++◌, Bool, true, length};
 ghost use Rattle.std.specs.Int.Digits.{digits_of};
 ghost use Rattle.outside.specs.Pushes.{Pushes};
@@ -104,7 +104,7 @@ fn length_size(len: u64) -> u64
 fn is_short(head: Head, len: u64) -> bool
     ensures { result ≡ true → (head.number < 31) × (len < 128) }
 {
-    head.number < 31 && len < 128
+    is_low(head.number, len)
 }
 
 /// Pushes a head of one identifier octet and one length octet.

@@ -59,10 +59,15 @@ pub struct Model {
 /// What a type is to an instance.
 #[derive(Clone, Copy)]
 pub enum Form<'a> {
+    /// Its elements come in the order of its slots.
     Sequence,
+    /// One of its slots comes.
     Choice,
+    /// A text of this simple type.
     Simple(&'a Simple),
+    /// A number of this simple type, with a currency that is a text of the type of that number.
     Money { code: u32, base: &'a Simple },
+    /// Any one element, with all that is in it.
     Envelope,
 }
 
@@ -70,27 +75,39 @@ pub enum Form<'a> {
 #[derive(Clone, Copy)]
 pub struct Slot<'a> {
     pub tag: &'a [u8],
+    /// How often it comes at least.
     pub min: u32,
+    /// How often it comes at most; `None` where there is no such number.
     pub max: Option<u32>,
+    /// The number of its type.
     pub target: u32,
 }
 
 /// What a tag is behind the slots that have come.
 #[derive(Clone, Copy, Debug, PartialEq, Eq)]
 pub enum Next {
+    /// The slot of this number, which may come.
     Slot(u32),
+    /// The tag of no slot.
     Unknown,
+    /// A slot before one that has come.
     OutOfOrder,
+    /// The slot that came last, as often as it may.
     TooMany,
+    /// A slot behind the one of this number, which has to come before it.
     Missing(u32),
+    /// Another alternative of a choice than the one that has come.
     Second,
 }
 
 /// What the end is behind the slots that have come.
 #[derive(Clone, Copy, Debug, PartialEq, Eq)]
 pub enum End {
+    /// It may come.
     Fine,
+    /// The slot of this number has to come before it, or come more often.
     Missing(u32),
+    /// No alternative of a choice has come.
     NoAlternative,
 }
 
@@ -115,7 +132,8 @@ impl Model {
         &self.id
     }
 
-    /// The number of types. Each element of a type leads to one of them.
+    /// The number of types. Each element of a type leads to one of them. It also tells proofs what holds of the types of
+    /// every model, by the clauses behind `count`.
     pub fn type_count(&self) -> u32
         ensures count { result ≡ length self.now.types }
         ensures sound { AreSound (types_of self.now) }

@@ -1,4 +1,4 @@
-//! Where a writer is among the pieces of an instance.
+//! The innermost element at a place among the pieces of an instance.
 ghost use Rattle.std.specs.Prelude.{◌≡◌};
 ghost use Rattle.inst_pool.specs.Pieces.{piece_of};
 ghost use Rattle.message_model.specs.Tables.{types_of};

@@ -18,7 +18,7 @@ use outside::{Buffer, Sink, SinkError};
 /// Where a writer is among the pieces of an instance.
 #[derive(Clone, Copy, Debug)]
 pub(crate) struct Place {
-    /// How many pieces are behind it.
+    /// How many pieces stand before it.
     pub(crate) at: usize,
     /// The innermost element there.
     pub(crate) innermost: Innermost,
