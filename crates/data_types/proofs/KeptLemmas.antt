@@ -1,7 +1,7 @@
 -- What is kept after some more bytes.
 use Rattle.std.proofs.Common.{◌≡◌, ℕ, ◌+◌, ◌-◌, ◌*◌, ◌≤◌, false, List, ◌++◌, length, Option, Some, None, refl, sym, ap, subst, ◌∙◌, arith, length-append}
 use Rattle.data_types.specs.declared.kept.Kept.{Kept}
-use Rattle.data_types.specs.Limits.{IsWithin, left_of}
+use Rattle.data_types.specs.Limits.{IsWithin, IsCount, left_of}
 use Rattle.data_types.specs.Kept.{Holds}
 
 -- no length is within any limit
@@ -43,3 +43,9 @@ pub joined_size : (kept : Kept) (most : Option ℕ) (octets found : List ℕ) (c
 joined_size kept most octets found count size h =
     let same : length octets + count ≡ length (octets ++ found) = omega (arith, size, length-append octets found) in
     subst (λ n. Holds kept most n (octets ++ found)) same h
+
+-- the count of octets joined to others
+pub joined_count : (total : Option ℕ) (octets found : List ℕ) (count : ℕ) → length found ≡ count → IsCount total (length octets + count) → IsCount total (length (octets ++ found))
+joined_count total octets found count size h =
+    let same : length octets + count ≡ length (octets ++ found) = omega (arith, size, length-append octets found) in
+    subst (IsCount total) same h

@@ -1,5 +1,5 @@
 -- The leaf that is kept, a character at a time, and its answers.
-use Rattle.std.proofs.Common.{◌≡◌, ℕ, ◌+◌, ◌≤◌, ◌⊎◌, inl, inr, Bool, true, false, List, [], ◌∷◌, ◌++◌, length, Option, Err, refl, sym, ap, subst, ◌∙◌, length-append, arith, ◌==◌}
+use Rattle.std.proofs.Common.{◌≡◌, ℕ, ◌+◌, ◌≤◌, ◌⊎◌, inl, inr, Bool, true, false, List, [], ◌∷◌, ◌++◌, length, Option, Result, Ok, Err, refl, sym, ap, subst, ◌∙◌, length-append, arith, ◌==◌}
 use Rattle.std.proofs.lemmas.List.Elements.{filter-append}
 use Rattle.std.proofs.lemmas.Str.{encodes-append}
 use Rattle.std.proofs.lemmas.Bool.Decides.{nat_tests}
@@ -25,9 +25,9 @@ use Rattle.data_types.specs.Binaries.{IsBinaryText, without_spaces}
 use Rattle.data_types.specs.Collapsing.{gain_of, gap_text}
 use Rattle.data_types.specs.Limits.{IsWithin}
 use Rattle.data_types.specs.Kept.{Holds}
-use Rattle.data_types.specs.OctetSteps.{HasDecoded, IsOctetFault}
+use Rattle.data_types.specs.OctetSteps.{HasDecoded, IsOctetFault, IsTextCount}
 use Rattle.data_types.specs.Leaf.{Leaf, Bytes, Number, IsDecimalLeaf, IsBinaryLeaf, HasDecimalForm, HasLeafForm}
-use Rattle.data_types.specs.LeafAnswers.{IsLeafAnswer}
+use Rattle.data_types.specs.LeafAnswers.{IsLeafAnswer, IsOctetCount}
 use Rattle.data_types.specs.LeafSteps.{HasValue, IsText}
 use Rattle.data_types.proofs.CollapseLaw.{one_collapsed}
 
@@ -133,6 +133,13 @@ pub binary_fault : (most : Option ℕ) (chars text : List ℕ) (rule : Rule) →
 binary_fault most chars text BadText collapsed none = binary_none chars text collapsed none
 binary_fault most chars text BadLength collapsed (octets, bytes, is, past) = (Bytes octets, (text, collapsed, (bytes, is)), past)
 binary_fault most chars text rule collapsed none = absurd none
+
+-- the octets are counted, however many they are
+pub binary_count : (chars text : List ℕ) (result : Result (Option ℕ) Rule) → IsCollapsed chars text → IsTextCount (without_spaces text) result
+    → IsOctetCount kind.Binary chars result
+binary_count chars text (Ok count) collapsed (octets, bytes, is, counted) = (octets, (text, collapsed, (bytes, is)), counted)
+binary_count chars text (Err BadText) collapsed none = binary_none chars text collapsed none
+binary_count chars text (Err rule) collapsed none = absurd none
 
 -- ---- decimals
 

@@ -10,7 +10,7 @@ ghost use Rattle.data_types.specs.Binaries.{without_spaces};
 ghost use Rattle.data_types.specs.Collapsing.{gain_of, gap_text};
 ghost use Rattle.data_types.specs.OctetSteps.{HasDecoded};
 ghost use Rattle.data_types.specs.ShortTexts.{HasKept};
-ghost use Rattle.data_types.specs.LeafAnswers.{IsLeafAnswer};
+ghost use Rattle.data_types.specs.LeafAnswers.{IsLeafAnswer, IsOctetCount};
 ghost use Rattle.data_types.specs.LeafSteps.{HasGiven, HasValue, IsShortKind, IsNoText, value_memory, value_in_place, begun_in};
 ghost use Rattle.data_types.specs.inner.Taking.{HasSpareFor, TakesChars};
 
@@ -234,6 +234,18 @@ impl CollapsedStep {
             Value::Decimal(step) => decimal_leaf(step),
             Value::Short(text) => short_leaf(kind, text),
             Value::Octets(step) => binary_leaf(step),
+        }
+    }
+
+    /// How many octets the characters spell, as `LeafStep::octet_count`.
+    pub(crate) fn octet_count(&self) -> Result<Option<u64>, Rule>
+        ensures { (kind : Kind) (most : Option ℕ) (chars : List ℕ) → HasGiven self.now kind most chars
+            → IsOctetCount kind chars result }
+    {
+        self.collapse.finish();
+        match &self.value {
+            Value::Decimal(_) | Value::Short(_) => Err(Rule::BadText),
+            Value::Octets(step) => step.octet_count(),
         }
     }
 }

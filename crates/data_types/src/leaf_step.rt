@@ -2,7 +2,7 @@
 ghost use Rattle.std.specs.Prelude.{◌≡◌, ◌+◌, ◌*◌, ◌^◌, ◌<◌, ◌≤◌, ◌++◌, ◌∷◌, [], length, Option, List, ℕ, IsOk, OnOk, OnErr};
 ghost use Rattle.lexical_core.specs.Characters.{IsXmlChar};
 ghost use Rattle.lexical_core.specs.XmlRuns.{IsXmlRun};
-ghost use Rattle.data_types.specs.LeafAnswers.{IsLeafAnswer};
+ghost use Rattle.data_types.specs.LeafAnswers.{IsLeafAnswer, IsOctetCount};
 ghost use Rattle.data_types.specs.LeafSteps.{HasTakenLeaf, HasBody, IsText, kept_by_step, in_place, room, spare};
 
 use crate::collapsed_step::CollapsedStep;
@@ -154,6 +154,18 @@ impl LeafStep {
         match &self.body {
             Body::Text(text) => text_leaf(text),
             Body::Collapsed(step) => step.finish(self.kind),
+        }
+    }
+
+    /// How many octets the characters spell as a binary value, whatever the limit; `None` where `u64` has no such
+    /// number. `BadText` where they spell none, and where the kind is another. It takes no memory.
+    pub fn octet_count(&self) -> Result<Option<u64>, Rule>
+        ensures { (kind : Kind) (most : Option ℕ) (chars : List ℕ) → HasTakenLeaf self.now kind most chars
+            → IsOctetCount kind chars result }
+    {
+        match &self.body {
+            Body::Text(_) => Err(Rule::BadText),
+            Body::Collapsed(step) => step.octet_count(),
         }
     }
 }

@@ -2,7 +2,7 @@
 ghost use Rattle.std.specs.Prelude.{◌≡◌, ◌+◌, ◌≤◌, ◌<◌, ◌^◌, ◌++◌, ◌∷◌, [], length, take, Option, List, ℕ, IsTrue, IsOk, IfOk, IfErr, IfSome, IfNone, OnOk, OnErr};
 ghost use Rattle.base64.specs.Engines.{standard};
 ghost use Rattle.base64.specs.GeneralPurpose.{IsBytes, encode_of};
-ghost use Rattle.data_types.specs.Limits.{IsWithin};
+ghost use Rattle.data_types.specs.Limits.{IsWithin, IsCount};
 
 use crate::kept::Kept;
 use base64::engine::general_purpose::STANDARD;
@@ -25,6 +25,8 @@ enum Stage {
 #[derive(Drop)]
 pub struct OctetStep {
     kept: Kept,
+    /// How many octets the whole groups have, kept or not; `None` where `u64` has no such number.
+    total: Option<u64>,
     group: [u8; 4],
     count: usize,
     stage: Stage,
@@ -40,7 +42,7 @@ struct Decoded {
 }
 
 impl OctetStep {
-    ghost use Rattle.data_types.specs.OctetSteps.{HasDecoded, IsOctetStep, IsRest, IsOctetFault};
+    ghost use Rattle.data_types.specs.OctetSteps.{HasDecoded, IsOctetStep, IsRest, IsOctetFault, IsTextCount};
 
     /// A reader before the first character, with a limit on the octets. It takes no memory.
     pub fn new(alloc: Global, most: Option<u64>) -> OctetStep
@@ -49,6 +51,7 @@ impl OctetStep {
     {
         OctetStep {
             kept: Kept::new(alloc, most),
+            total: Some(0),
             group: [0; 4],
             count: 0,
             stage: Stage::Open,
@@ -63,6 +66,7 @@ impl OctetStep {
         ensures room { self.new.kept.bytes.room ≡ self.old.kept.bytes.room }
     {
         self.kept.restart();
+        self.total = Some(0);
         self.count = 0;
         self.stage = Stage::Open;
     }
@@ -155,6 +159,7 @@ impl OctetStep {
         };
         self.kept
             .take(&decoded.octets[..decoded.count], decoded.count as u64)?;
+        self.total = with_more(self.total, decoded.count as u64);
         self.count = 0;
         if decoded.count < 3 {
             self.stage = Stage::Ended;
@@ -210,6 +215,17 @@ impl OctetStep {
         }
     }
 
+    /// How many octets the characters so far spell, whatever the limit; `None` where `u64` has no such number.
+    /// `BadText` where they are no base64 text.
+    pub fn octet_count(&self) -> Result<Option<u64>, Rule>
+        ensures { (most : Option ℕ) (text : List ℕ) → HasDecoded self.now most text → IsTextCount text result }
+    {
+        if !self.is_whole() {
+            return Err(Rule::BadText);
+        }
+        Ok(self.total)
+    }
+
     /// Whether the characters so far are the text of the octets of their groups.
     fn is_whole(&self) -> bool
         ensures yes { IsTrue result → (octets : List ℕ) → IsRest self.now octets [] octets }
@@ -253,6 +269,17 @@ fn decode(group: &[u8; 4]) -> Option<Decoded>
             Some(Decoded { octets, count })
         }
         Err(_) => None,
+    }
+}
+
+/// The count with so many more.
+#[inline]
+fn with_more(count: Option<u64>, more: u64) -> Option<u64>
+    ensures { (n : ℕ) → IsCount count n → IsCount result (n + more) }
+{
+    match count {
+        Some(number) => number.checked_add(more),
+        None => None,
     }
 }
 

@@ -1,7 +1,7 @@
 use Rattle.std.proofs.Common.{◌≡◌, ◌<◌, ◌∷◌, ◌++◌, take, set, length, refl, arith, rules}
 use Rattle.std.proofs.lemmas.List.{length-take-le}
 use Rattle.data_types.proofs.OctetLemmas.{group_whole, group_of_none, close_three, close_fewer, join_bytes, at_open}
-use Rattle.data_types.proofs.KeptLemmas.{joined_size}
+use Rattle.data_types.proofs.KeptLemmas.{joined_size, joined_count}
 use Rattle.data_types.proofs.octets.OctetStep.close.Goals as goal
 
 pub returns-in_default-clause-ok : goal.returns-in_default-clause-ok
@@ -27,9 +27,13 @@ returns-then-decoded-lt3-clause-ok c =
     let whole = group_whole s.group c.args.last s.count four c.requires.full in
     let size : length found ≡ c.in-Some.decoded.count = length-take-le c.in-Some.decoded.count c.in-Some.decoded.octets (omega (arith, c.in-Some.decoded.few)) in
     let few : length found < 3 = omega (arith, size, c.if-decoded-lt3.true) in
-    λ most octets (bytes, holds). (
+    λ most octets (bytes, holds, counted). (
       octets ++ found,
-      (join_bytes octets found bytes c.in-Some.ensures.bytes, joined_size c.take.new.self most octets found c.in-Some.decoded.count size (c.in_ok-take.ensures.ok most (length octets) octets holds)),
+      (
+        join_bytes octets found bytes c.in-Some.ensures.bytes,
+        joined_size c.take.new.self most octets found c.in-Some.decoded.count size (c.in_ok-take.ensures.ok most (length octets) octets holds),
+        joined_count c.with_more-self.result octets found c.in-Some.decoded.count size (c.with_more-self.ensures (length octets) counted),
+      ),
       close_fewer s.stage octets begun group found (octets ++ found) c.args.last c.requires.open whole.0 whole.1 c.in-Some.ensures.bytes c.in-Some.ensures.some few refl,
     )
 
@@ -43,8 +47,12 @@ returns-else-decoded-lt3-clause-ok c =
     let whole = group_whole s.group c.args.last s.count four c.requires.full in
     let size : length found ≡ c.in-Some.decoded.count = length-take-le c.in-Some.decoded.count c.in-Some.decoded.octets (omega (arith, c.in-Some.decoded.few)) in
     let three : length found ≡ 3 = let few = c.in-Some.decoded.few in omega (arith, size, c.if-decoded-lt3.false, few) in
-    λ most octets (bytes, holds). (
+    λ most octets (bytes, holds, counted). (
       octets ++ found,
-      (join_bytes octets found bytes c.in-Some.ensures.bytes, joined_size c.take.new.self most octets found c.in-Some.decoded.count size (c.in_ok-take.ensures.ok most (length octets) octets holds)),
+      (
+        join_bytes octets found bytes c.in-Some.ensures.bytes,
+        joined_size c.take.new.self most octets found c.in-Some.decoded.count size (c.in_ok-take.ensures.ok most (length octets) octets holds),
+        joined_count c.with_more-self.result octets found c.in-Some.decoded.count size (c.with_more-self.ensures (length octets) counted),
+      ),
       close_three s.stage octets begun group found (octets ++ found) c.args.last c.requires.open whole.0 whole.1 c.in-Some.ensures.bytes c.in-Some.ensures.some three refl,
     )
