@@ -59,7 +59,7 @@ verdict_by : (k : Kind) (codes : Option (List (List ℕ))) (progress : Progress)
     → ((most : ℕ) → HasSeen progress (Some most) simple text → kept ≤ 4 * most) → kept ≤ 4 * m
 verdict_by kind.Text None progress simple text m kept e none seen is bound = omega (arith, bound 0 seen)
 verdict_by kind.Text (Some codes) progress simple text m kept e some seen is bound = bound m (subst (λ (o : Option ℕ). HasSeen progress o simple text) is seen)
-verdict_by kind.Binary codes progress simple text m kept e some seen is bound = bound m (subst (λ (o : Option ℕ). HasSeen progress o simple text) is seen)
+verdict_by kind.Binary codes progress simple text m kept e some seen is bound = omega (arith, bound 0 seen)
 verdict_by k codes progress simple text m kept e some seen is bound =
     bound m (loose_seen progress simple None (Some m) text (λ t. let both = sym e ∙ t in absurd cc) (λ t. let both = sym e ∙ t in absurd cc) seen)
 
@@ -67,7 +67,7 @@ pub verdict_within : (progress : Progress) (simple : Simple) (text : List ℕ) (
     → ((most : ℕ) → HasSeen progress (Some most) simple text → kept ≤ 4 * most) → kept ≤ 4 * m
 verdict_within progress simple text m kept seen is bound = verdict_by simple.kind simple.codes progress simple text m kept refl refl seen is bound
 
--- the limit of a verdict is that of the check but for texts without codes
+-- the limit of a verdict is that of the check but for texts without codes and binary values
 free_limit : (simple : Simple) → IsFreeText simple → verdict_limit simple ≡ Some 0
 free_limit simple free = ap (λ (k : Kind). verdict_limit_by k simple.max simple.codes) free.0 ∙ ap (λ (o : Option (List (List ℕ))). verdict_limit_by kind.Text simple.max o) free.1
 
@@ -75,17 +75,22 @@ pub free_seen : (progress : Progress) (simple : Simple) (text : List ℕ) → Is
     → HasSeen progress (Some 0) simple text
 free_seen progress simple text free seen = subst (λ (o : Option ℕ). HasSeen progress o simple text) (free_limit simple free) seen
 
-other_by : (k : Kind) (most : Option ℕ) (codes : Option (List (List ℕ))) → ((k ≡ kind.Text) × (codes ≡ None) → ⊥) → verdict_limit_by k most codes ≡ limit_by k most codes
-other_by kind.Text most None other = absurd (other (refl, refl))
-other_by kind.Text most (Some codes) other = refl
-other_by k most codes other = refl
+pub binary_seen : (progress : Progress) (simple : Simple) (text : List ℕ) → simple.kind ≡ kind.Binary → HasSeen progress (verdict_limit simple) simple text
+    → HasSeen progress (Some 0) simple text
+binary_seen progress simple text binary seen =
+    subst (λ (o : Option ℕ). HasSeen progress o simple text) (ap (λ (k : Kind). verdict_limit_by k simple.max simple.codes) binary) seen
 
-pub other_limit : (simple : Simple) → (IsFreeText simple → ⊥) → verdict_limit simple ≡ keep_limit simple
-other_limit simple other = other_by simple.kind simple.max simple.codes other
+other_by : (k : Kind) (most : Option ℕ) (codes : Option (List (List ℕ))) → ((k ≡ kind.Text) × (codes ≡ None) → ⊥) → (k ≡ kind.Binary → ⊥)
+    → verdict_limit_by k most codes ≡ limit_by k most codes
+other_by kind.Text most None other none = absurd (other (refl, refl))
+other_by kind.Text most (Some codes) other none = refl
+other_by kind.Binary most codes other none = absurd (none refl)
+other_by k most codes other none = refl
 
-pub other_seen : (progress : Progress) (simple : Simple) (text : List ℕ) → (IsFreeText simple → ⊥) → HasSeen progress (verdict_limit simple) simple text
-    → HasSeen progress (keep_limit simple) simple text
-other_seen progress simple text other seen = subst (λ (o : Option ℕ). HasSeen progress o simple text) (other_limit simple other) seen
+pub other_seen : (progress : Progress) (simple : Simple) (text : List ℕ) → (IsFreeText simple → ⊥) → (simple.kind ≡ kind.Binary → ⊥)
+    → HasSeen progress (verdict_limit simple) simple text → HasSeen progress (keep_limit simple) simple text
+other_seen progress simple text other none seen =
+    subst (λ (o : Option ℕ). HasSeen progress o simple text) (other_by simple.kind simple.max simple.codes other none) seen
 
 -- a text without codes that has its length and its pattern spells a leaf
 pub text_verdict : {T : Type 0} (simple : Simple) (text : List ℕ) (result : Result T Rule) → IsFreeText simple → AllByRecursion IsXmlChar text

@@ -1,17 +1,19 @@
 -- The answer on a number or a binary value, from what its reader and its measure answer.
-use Rattle.std.proofs.Common.{◌≡◌, ◌≤◌, ℕ, List, Option, Some, None, MatchOption, Ok, Err, length, sym, subst, arith}
+use Rattle.std.proofs.Common.{◌≡◌, ◌≤◌, ℕ, List, Option, Some, None, MatchOption, Result, Ok, Err, length, sym, subst, arith}
 use Rattle.lexical_core.specs.declared.rule.Rule.{Rule}
 use Rattle.lexical_core.specs.declared.rule.Rule.TheVariants.{BadText, BadLength, Digits, OutOfRange}
 use Rattle.data_types.specs.Leaf.{Leaf, Bytes, Number, IsLeaf, HasLeafForm, length_of}
-use Rattle.data_types.specs.LeafAnswers.{IsLeafAnswer}
+use Rattle.data_types.specs.LeafAnswers.{IsLeafAnswer, IsOctetCount}
 use Rattle.data_types.specs.Limits.{IsPast}
 use Rattle.data_types.specs.declared.kind.Kind.{Kind}
 use Rattle.data_types.specs.declared.kind.Kind.TheVariants as kind
 use Rattle.facets.specs.declared.simple.Simple.{Simple}
 use Rattle.facets.specs.Facets.{HasLength}
 use Rattle.facets.specs.Rules.{BreaksFirst}
+use Rattle.facets.specs.Checks.{IsLengthAnswer}
 use Rattle.facets.specs.LeafUnder.{GivesLeaf}
 use Rattle.facets.specs.LeafChecks.{IsMeasuredKind, IsMeasureAnswer, limit_by}
+use Rattle.facets.specs.LeafVerdicts.{IsVerdict}
 use Rattle.facets.proofs.TextRules.{form_first}
 use Rattle.facets.proofs.RuleLemmas.{no_number_first, number_given, many_digits, out_of_range, octets_given, octets_past}
 
@@ -75,3 +77,15 @@ pub measured_unread : (k : Kind) (simple : Simple) (text : List ℕ) (rule : Rul
 measured_unread kind.Decimal simple text rule e is none = number_unread simple text rule e none
 measured_unread kind.Binary simple text rule e is none = binary_unread simple text rule e none
 measured_unread k simple text rule e is none = absurd is
+
+-- ---- the verdict on a binary value, from the count of its octets
+
+pub octets_verdict : {T : Type 0} (simple : Simple) (text octets : List ℕ) (result : Result T Rule) → simple.kind ≡ kind.Binary → IsLeaf kind.Binary text (Bytes octets)
+    → IsLengthAnswer simple (length octets) result → IsVerdict simple text result
+octets_verdict simple text octets (Ok x) e spelled within = (Bytes octets, octets_given simple octets text e spelled within)
+octets_verdict simple text octets (Err BadLength) e spelled past = octets_past simple octets text e spelled past
+octets_verdict simple text octets (Err rule) e spelled none = absurd none
+
+pub uncounted_first : (simple : Simple) (text : List ℕ) (rule : Rule) → simple.kind ≡ kind.Binary → IsOctetCount kind.Binary text (Err rule) → BreaksFirst simple text rule
+uncounted_first simple text BadText e none = form_first simple text (subst (λ (k : Kind). HasLeafForm k text → ⊥) (sym e) none)
+uncounted_first simple text rule e none = absurd none

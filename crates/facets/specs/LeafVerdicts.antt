@@ -15,9 +15,10 @@ use Rattle.facets.specs.LeafChecks.{HasSeen, limit_by}
 abbrev pub IsFreeText : Simple → Type 0
 IsFreeText simple = (simple.kind ≡ kind.Text) × (simple.codes ≡ None)
 
--- the most characters of a text, or octets of a binary value, that are kept: none of a text without codes
+-- the most characters of a text, or octets of a binary value, that are kept: none of a text without codes, and none of a binary value
 abbrev pub verdict_limit_by : Kind → Option ℕ → Option (List (List ℕ)) → Option ℕ
 verdict_limit_by kind.Text most None = Some 0
+verdict_limit_by kind.Binary most codes = Some 0
 verdict_limit_by k most codes = limit_by k most codes
 
 abbrev pub verdict_limit : Simple → Option ℕ

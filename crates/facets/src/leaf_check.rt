@@ -114,7 +114,7 @@ impl LeafCheck {
 }
 
 /// The most characters of a text, or octets of a binary value, that may be asked for.
-pub(crate) fn limit(simple: &Simple) -> Option<u64>
+fn limit(simple: &Simple) -> Option<u64>
     ensures { result ≡ keep_limit simple.now }
 {
     match simple.kind {

@@ -2,11 +2,11 @@
 ghost use Rattle.std.specs.Prelude.{◌≡◌, ◌↔◌, ◌+◌, ◌≤◌, ◌++◌, ◌∷◌, [], ℕ, List, length, IsTrue, IsOk, IfOk, OnOk, OnErr};
 ghost use Rattle.lexical_core.specs.Characters.{IsXmlChar};
 ghost use Rattle.lexical_core.specs.XmlRuns.{IsXmlRun};
+ghost use Rattle.data_types.specs.declared.kind.Kind.TheVariants as kind;
 ghost use Rattle.facets.specs.declared.simple.Simple.{Simple as SimpleType};
 ghost use Rattle.facets.specs.LeafChecks.{IsWithinLimits, IsHeldWithin, leaf_limit};
 ghost use Rattle.facets.specs.LeafVerdicts.{HasVerdictTaken, IsVerdictMadeFor, IsVerdict, IsFreeText, verdict_limit, verdict_kept, verdict_in_place, verdict_room, verdict_spare};
 
-use crate::leaf_check::limit;
 use crate::progress::Progress;
 use crate::simple::Simple;
 use data_types::Kind;
@@ -14,7 +14,8 @@ use lexical_core::Rule;
 use std::alloc::{AllocError, Global};
 
 /// A check of the text of a leaf that takes a character or a run of characters at a time, and tells whether they
-/// spell a leaf. It keeps the bytes of a text only where there are codes, and as many as the longest of them allows.
+/// spell a leaf. It keeps the bytes of a text only where there are codes, and as many as the longest of them allows;
+/// the octets of a binary value it counts, and keeps none.
 #[derive(Drop)]
 pub struct LeafVerdict {
     progress: Progress,
@@ -83,12 +84,13 @@ impl LeafVerdict {
     }
 
     /// How many bytes are held for the leaf, in memory and in place: at most four to each character within the
-    /// limit, and 64; of a text without codes none.
+    /// limit, and 64; of a text without codes none, and of a binary value none in memory.
     pub fn scratch(&self) -> u64
         ensures count { result ≡ verdict_kept self.now + verdict_in_place self.now }
         ensures bound { (simple : SimpleType) (text : List ℕ) → HasVerdictTaken self.now simple text
             → IsHeldWithin (leaf_limit simple) (length text) result }
         ensures none { (simple : SimpleType) (text : List ℕ) → HasVerdictTaken self.now simple text → IsFreeText simple → verdict_kept self.now ≡ 0 }
+        ensures binary { (simple : SimpleType) (text : List ℕ) → HasVerdictTaken self.now simple text → simple.kind ≡ kind.Binary → verdict_kept self.now ≡ 0 }
     {
         self.progress.kept() as u64 + self.progress.in_place() as u64
     }
@@ -101,6 +103,9 @@ impl LeafVerdict {
     {
         if is_free_text(simple) {
             return self.progress.check_text(simple);
+        }
+        if simple.kind == Kind::Binary {
+            return self.progress.check_binary(simple);
         }
         match self.progress.leaf(simple) {
             Ok(_) => Ok(()),
@@ -120,9 +125,12 @@ fn is_free_text(simple: &Simple) -> bool
 fn verdict_limit(simple: &Simple) -> Option<u64>
     ensures { result ≡ verdict_limit simple.now }
 {
-    if is_free_text(simple) {
-        Some(0)
-    } else {
-        limit(simple)
+    match simple.kind {
+        Kind::Text => match &simple.codes {
+            Some(codes) => Some(codes.longest() as u64),
+            None => Some(0),
+        },
+        Kind::Binary => Some(0),
+        _ => None,
     }
 }

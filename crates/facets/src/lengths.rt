@@ -1,7 +1,8 @@
 //! Lengths of texts and binary values: XML Schema part 2 §4.3.1 to §4.3.3.
-ghost use Rattle.std.specs.Prelude.{◌≡◌, ◌↔◌, ℕ, List, length, IsTrue};
+ghost use Rattle.std.specs.Prelude.{◌≡◌, ◌↔◌, ◌^◌, ◌≤◌, ℕ, List, length, IsTrue};
 ghost use Rattle.base64.specs.GeneralPurpose.{IsBytes};
 ghost use Rattle.data_types.specs.Leaf.{Bytes};
+ghost use Rattle.data_types.specs.Limits.{IsCount};
 ghost use Rattle.data_types.specs.declared.kind.Kind.TheVariants as kind;
 ghost use Rattle.facets.specs.Facets.{HasLength};
 ghost use Rattle.facets.specs.Checks.{IsLengthAnswer};
@@ -21,6 +22,27 @@ pub fn check_octets(simple: &Simple, count: u64) -> Result<(), Rule>
         Ok(())
     } else {
         Err(Rule::BadLength)
+    }
+}
+
+/// The same of a count for which `u64` may have no number.
+pub(crate) fn check_count(simple: &Simple, count: Option<u64>) -> Result<(), Rule>
+    ensures { (n : ℕ) → IsCount count n → IsLengthAnswer simple.now n result }
+{
+    match count {
+        Some(count) => check_octets(simple, count),
+        None => check_past(simple),
+    }
+}
+
+/// The same of a length that is past every number of `u64`.
+fn check_past(simple: &Simple) -> Result<(), Rule>
+    ensures { (n : ℕ) → 2 ^ 64 ≤ n → IsLengthAnswer simple.now n result }
+{
+    let _least = simple.min;
+    match simple.max {
+        Some(_most) => Err(Rule::BadLength),
+        None => Ok(()),
     }
 }
 

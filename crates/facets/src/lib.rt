@@ -7,7 +7,7 @@
 //! and `GBP` breaks `NotACode`: lengths and pattern count nowhere then. Facets of another kind count nowhere either.
 //!
 //! Limits: a simple type has fewer than 2^32 codes, and a total of at most 18 digits. A verdict keeps no text but what may
-//! still be a code.
+//! still be a code, and no octets.
 #![tactic(auto)]
 
 mod asked;

@@ -9,13 +9,14 @@ ghost use Rattle.data_types.specs.LeafSteps.{HasTakenLeaf, IsShortKind, kept_by_
 ghost use Rattle.facets.specs.LeafUnder.{IsAnswer};
 ghost use Rattle.facets.specs.CodeLists.{longest_of};
 ghost use Rattle.facets.specs.LeafChecks.{IsCodeAnswer, IsByteCode, IsMeasuredKind, IsMeasureAnswer, IsTextAnswer, HasSeen, IsWithinLimits, keep_limit};
+ghost use Rattle.facets.specs.LeafVerdicts.{IsVerdict};
 ghost use Rattle.facets.specs.declared.simple.Simple.{Simple as SimpleType};
 
 use crate::asked::Asked;
 use crate::codes::Codes;
 use crate::count::Count;
 use crate::digits::check_number;
-use crate::lengths::check_octets;
+use crate::lengths::{check_count, check_octets};
 use crate::simple::Simple;
 use data_types::{Kind, LeafRef, LeafStep};
 use lexical_core::Rule;
@@ -171,6 +172,18 @@ impl Progress {
             return Err(Rule::PatternFails);
         }
         Ok(())
+    }
+
+    /// Whether a binary value has its form and its length, or the first rule that it breaks. Of its octets none need
+    /// be kept.
+    pub(crate) fn check_binary(&self, simple: &Simple) -> Result<(), Rule>
+        requires { simple.now.kind ≡ kind.Binary }
+        ensures { (most : Option ℕ) (text : List ℕ) → HasSeen self.now most simple.now text → IsVerdict simple.now text result }
+    {
+        match self.step.octet_count() {
+            Ok(count) => check_count(simple, count),
+            Err(rule) => Err(rule),
+        }
     }
 
     /// The place of the text among the codes.

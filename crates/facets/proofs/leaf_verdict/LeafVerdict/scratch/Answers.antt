@@ -1,6 +1,6 @@
 use Rattle.std.proofs.Common.{length, arith}
 use Rattle.facets.specs.LeafChecks.{leaf_limit}
-use Rattle.facets.proofs.HeldLemmas.{within_both, verdict_within, free_seen}
+use Rattle.facets.proofs.HeldLemmas.{within_both, verdict_within, free_seen, binary_seen}
 use Rattle.facets.proofs.leaf_verdict.LeafVerdict.scratch.Goals as goal
 
 pub returns-clause-bound : goal.returns-clause-bound
@@ -11,4 +11,9 @@ returns-clause-bound c = λ simple text had.
 pub returns-clause-none : goal.returns-clause-none
 returns-clause-none c = λ simple text had free.
     let few = c.kept.ensures.most simple 0 text (free_seen c.args.self.now.progress simple text free had.seen) in
+    omega (arith, few, c.kept.ensures.count)
+
+pub returns-clause-binary : goal.returns-clause-binary
+returns-clause-binary c = λ simple text had binary.
+    let few = c.kept.ensures.most simple 0 text (binary_seen c.args.self.now.progress simple text binary had.seen) in
     omega (arith, few, c.kept.ensures.count)
