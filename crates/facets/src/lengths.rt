@@ -39,9 +39,9 @@ pub(crate) fn check_count(simple: &Simple, count: Option<u64>) -> Result<(), Rul
 fn check_past(simple: &Simple) -> Result<(), Rule>
     ensures { (n : ℕ) → 2 ^ 64 ≤ n → IsLengthAnswer simple.now n result }
 {
-    let _least = simple.min;
+    let _least = simple.min; // below the length, as every `u64` is
     match simple.max {
-        Some(_most) => Err(Rule::BadLength),
+        Some(_most) => Err(Rule::BadLength), // below it, too
         None => Ok(()),
     }
 }
