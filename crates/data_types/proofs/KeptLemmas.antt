@@ -1,8 +1,8 @@
 -- What is kept after some more bytes.
-use Rattle.std.proofs.Common.{◌≡◌, ℕ, ◌+◌, ◌-◌, ◌*◌, ◌≤◌, false, List, ◌++◌, length, Option, Some, None, refl, sym, ap, subst, ◌∙◌, arith, length-append}
+use Rattle.std.proofs.Common.{◌≡◌, ℕ, zero, suc, ◌+◌, ◌-◌, ◌*◌, ◌≤◌, false, List, ◌++◌, length, Option, Some, None, refl, sym, ap, subst, ◌∙◌, arith, length-append}
 use Rattle.data_types.specs.declared.kept.Kept.{Kept}
 use Rattle.data_types.specs.Limits.{IsWithin, IsCount, left_of}
-use Rattle.data_types.specs.Kept.{Holds}
+use Rattle.data_types.specs.Kept.{Holds, room_under}
 
 -- no length is within any limit
 pub none_within : (most : Option ℕ) → IsWithin most 0
@@ -49,3 +49,19 @@ pub joined_count : (total : Option ℕ) (octets found : List ℕ) (count : ℕ) 
 joined_count total octets found count size h =
     let same : length octets + count ≡ length (octets ++ found) = omega (arith, size, length-append octets found) in
     subst (IsCount total) same h
+
+-- room grows as that of the bytes does
+pub room_grows : (most : Option ℕ) (m n : ℕ) → m ≤ n → room_under most m ≤ room_under most n
+room_grows None m n more = more
+room_grows (Some zero) m n more = omega arith
+room_grows (Some (suc k)) m n more = more
+
+-- what fits into it can be kept: under a limit of none there is nothing to keep
+pub room_enough : (most now : Option ℕ) (room held count left size : ℕ) (Can : Type 0) → (most ≡ Some 0 → now ≡ Some 0) → now ≡ Some left → size ≤ left → count ≤ 4 * size
+    → (held + count ≤ room → Can) → (count ≡ 0 → Can) → held + count ≤ room_under most room → Can
+room_enough None now room held count left size Can none is short few fits empty enough = fits enough
+room_enough (Some zero) now room held count left size Can none is short few fits empty enough =
+    let same : Some left ≡ Some 0 = sym is ∙ none refl in
+    let at : left ≡ 0 = cc in
+    empty (omega (arith, at, short, few))
+room_enough (Some (suc k)) now room held count left size Can none is short few fits empty enough = fits enough

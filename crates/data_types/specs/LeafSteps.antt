@@ -15,7 +15,7 @@ use Rattle.data_types.specs.declared.leaf_step.LeafStep.{LeafStep}
 use Rattle.data_types.specs.Binaries.{without_spaces}
 use Rattle.data_types.specs.Collapsing.{HasCollapsed}
 use Rattle.data_types.specs.KeptBytes.{BytesWithRoom}
-use Rattle.data_types.specs.Kept.{Holds}
+use Rattle.data_types.specs.Kept.{Holds, kept_memory}
 use Rattle.data_types.specs.OctetSteps.{HasDecoded}
 use Rattle.data_types.specs.ShortTexts.{HasKept}
 
@@ -57,7 +57,7 @@ HasTakenLeaf s k most chars = (k ≡ s.kind) × HasBody k s.body most chars
 abbrev pub value_memory : Value → BytesWithRoom
 value_memory (Decimal step) = record { held = []; room = 2 ^ 64 }
 value_memory (Short kept) = record { held = []; room = 2 ^ 64 }
-value_memory (Octets step) = step.kept.bytes
+value_memory (Octets step) = kept_memory step.kept
 
 -- how many characters there are of a group that is begun
 abbrev pub begun_in : Value → ℕ
@@ -75,7 +75,7 @@ body_in_place (Text text) = 0
 body_in_place (Collapsed step) = value_in_place step.value
 
 abbrev pub memory_of : Body → BytesWithRoom
-memory_of (Text text) = text.bytes
+memory_of (Text text) = kept_memory text
 memory_of (Collapsed step) = value_memory step.value
 
 -- how many bytes a reader keeps in memory

@@ -10,6 +10,7 @@ ghost use Rattle.data_types.specs.Binaries.{without_spaces};
 ghost use Rattle.data_types.specs.Collapsing.{gain_of, gap_text};
 ghost use Rattle.data_types.specs.OctetSteps.{HasDecoded};
 ghost use Rattle.data_types.specs.ShortTexts.{HasKept};
+ghost use Rattle.data_types.specs.Kept.{kept_room};
 ghost use Rattle.data_types.specs.LeafAnswers.{IsLeafAnswer, IsOctetCount};
 ghost use Rattle.data_types.specs.LeafSteps.{HasGiven, HasValue, IsShortKind, IsNoText, value_memory, value_in_place, begun_in};
 ghost use Rattle.data_types.specs.inner.Taking.{HasSpareFor, TakesChars};
@@ -405,8 +406,8 @@ fn take_octets(step: &mut OctetStep, gain: Collapsed, c: char) -> Result<(), All
     ensures ok { OnOk result ((most : Option ℕ) (text : List ℕ) → HasDecoded step.old most (without_spaces text)
         → HasDecoded step.new most (without_spaces (text ++ gain_of gain c))) }
     ensures err { OnErr result (step.new ≡ step.old) }
-    ensures within { length step.old.kept.bytes.held + step.old.count + 1 ≤ step.old.kept.bytes.room → IsOk result }
-    ensures room { step.old.kept.bytes.room ≤ step.new.kept.bytes.room }
+    ensures within { length step.old.kept.bytes.held + step.old.count + 1 ≤ kept_room step.old.kept → IsOk result }
+    ensures room { kept_room step.old.kept ≤ kept_room step.new.kept }
     ensures count { length step.new.kept.bytes.held + step.new.count
         ≤ length step.old.kept.bytes.held + step.old.count + 1 }
 {

@@ -1,5 +1,5 @@
 //! Bytes that are kept as long as their size, in characters or octets, is within a limit.
-ghost use Rattle.std.specs.Prelude.{◌≡◌, ◌+◌, ◌*◌, ◌^◌, ◌<◌, ◌≤◌, [], ◌++◌, length, Option, List, ℕ, OnOk, OnErr, IsOk, IfSome, IfNone};
+ghost use Rattle.std.specs.Prelude.{◌≡◌, ◌+◌, ◌*◌, ◌^◌, ◌<◌, ◌≤◌, [], ◌++◌, length, Option, Some, List, ℕ, OnOk, OnErr, IsOk, IfSome, IfNone};
 ghost use Rattle.data_types.specs.Limits.{IsWithin, IsPast};
 
 use crate::kept_bytes::KeptBytes;
@@ -12,10 +12,11 @@ pub struct Kept {
     most: Option<u64>,
     left: Option<u64>,
     longer: bool,
+    ghost none: { most ≡ Some 0 → left ≡ Some 0 },
 }
 
 impl Kept {
-    ghost use Rattle.data_types.specs.Kept.{Holds};
+    ghost use Rattle.data_types.specs.Kept.{Holds, kept_room};
 
     /// No bytes, of which there may be as many as have this size. It takes no memory.
     pub fn new(alloc: Global, most: Option<u64>) -> Kept
@@ -34,7 +35,7 @@ impl Kept {
         ensures kept { (most : Option ℕ) (size : ℕ) (bytes : List ℕ) → Holds self.old most size bytes
             → Holds self.new most 0 [] }
         ensures held { self.new.bytes.held ≡ [] }
-        ensures room { self.new.bytes.room ≡ self.old.bytes.room }
+        ensures room { kept_room self.new ≡ kept_room self.old }
     {
         self.bytes.clear();
         self.left = self.most;
@@ -48,8 +49,8 @@ impl Kept {
         ensures ok { OnOk result ((most : Option ℕ) (before : ℕ) (all : List ℕ)
             → Holds self.old most before all → Holds self.new most (before + size) (all ++ bytes.now)) }
         ensures err { OnErr result (self.new ≡ self.old) }
-        ensures within { length self.old.bytes.held + length bytes.now ≤ self.old.bytes.room → IsOk result }
-        ensures room { self.old.bytes.room ≤ self.new.bytes.room }
+        ensures within { length self.old.bytes.held + length bytes.now ≤ kept_room self.old → IsOk result }
+        ensures room { kept_room self.old ≤ kept_room self.new }
         ensures count { length self.new.bytes.held ≤ length self.old.bytes.held + length bytes.now }
     {
         let Some(left) = self.left else {
@@ -64,16 +65,20 @@ impl Kept {
         Ok(())
     }
 
-    /// Makes room for so many more bytes.
+    /// Makes room for so many more bytes. Where none is kept there is room for any.
     pub fn reserve(&mut self, count: usize) -> Result<(), AllocError>
-        ensures ok { OnOk result (length self.new.bytes.held + count ≤ self.new.bytes.room) }
+        ensures ok { OnOk result (length self.new.bytes.held + count ≤ kept_room self.new) }
         ensures err { OnErr result (self.new ≡ self.old) }
         ensures kept { (most : Option ℕ) (size : ℕ) (bytes : List ℕ) → Holds self.old most size bytes
             → Holds self.new most size bytes }
-        ensures within { length self.old.bytes.held + count ≤ self.old.bytes.room → IsOk result }
-        ensures room { self.old.bytes.room ≤ self.new.bytes.room }
+        ensures within { length self.old.bytes.held + count ≤ kept_room self.old → IsOk result }
+        ensures room { kept_room self.old ≤ kept_room self.new }
         ensures held { self.new.bytes.held ≡ self.old.bytes.held }
     {
+        if self.most == Some(0) {
+            let _held = self.bytes.len();
+            return Ok(());
+        }
         self.bytes.reserve(count)
     }
 

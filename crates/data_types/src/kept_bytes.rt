@@ -35,6 +35,7 @@ impl KeptBytes {
         ensures ok { OnOk result (self.new.held ≡ self.old.held ++ bytes.now) }
         ensures err { OnErr result (self.new ≡ self.old) }
         ensures within { length self.old.held + length bytes.now ≤ self.old.room → IsOk result }
+        ensures none { length bytes.now ≡ 0 → IsOk result }
         ensures room { self.old.room ≤ self.new.room }
     {
         if bytes.len() == 1 {

@@ -2,6 +2,7 @@
 ghost use Rattle.std.specs.Prelude.{◌≡◌, ◌+◌, ◌*◌, ◌^◌, ◌<◌, ◌≤◌, ◌++◌, ◌∷◌, [], length, Option, List, ℕ, IsOk, OnOk, OnErr};
 ghost use Rattle.lexical_core.specs.Characters.{IsXmlChar};
 ghost use Rattle.lexical_core.specs.XmlRuns.{IsXmlRun};
+ghost use Rattle.data_types.specs.Kept.{kept_room};
 ghost use Rattle.data_types.specs.LeafAnswers.{IsLeafAnswer, IsOctetCount};
 ghost use Rattle.data_types.specs.LeafSteps.{HasTakenLeaf, HasBody, IsText, kept_by_step, in_place, room, spare};
 
@@ -187,8 +188,8 @@ fn take_text(text: &mut Kept, c: char) -> Result<(), AllocError>
     ensures ok { OnOk result ((most : Option ℕ) (chars : List ℕ) → IsText text.old most chars
         → IsText text.new most (chars ++ c ∷ [])) }
     ensures err { OnErr result (text.new ≡ text.old) }
-    ensures within { length text.old.bytes.held + 4 ≤ text.old.bytes.room → IsOk result }
-    ensures room { text.old.bytes.room ≤ text.new.bytes.room }
+    ensures within { length text.old.bytes.held + 4 ≤ kept_room text.old → IsOk result }
+    ensures room { kept_room text.old ≤ kept_room text.new }
     ensures count { length text.new.bytes.held ≤ length text.old.bytes.held + 4 }
 {
     if c.is_ascii() {
@@ -204,8 +205,8 @@ fn take_text_run(text: &mut Kept, run: &[u8], count: usize) -> Result<(), AllocE
     ensures ok { OnOk result ((r : IsXmlRun run.now count) (most : Option ℕ) (chars : List ℕ) → IsText text.old most chars
         → IsText text.new most (chars ++ r.chars)) }
     ensures err { OnErr result (text.new ≡ text.old) }
-    ensures within { length text.old.bytes.held + length run.now ≤ text.old.bytes.room → IsOk result }
-    ensures room { text.old.bytes.room ≤ text.new.bytes.room }
+    ensures within { length text.old.bytes.held + length run.now ≤ kept_room text.old → IsOk result }
+    ensures room { kept_room text.old ≤ kept_room text.new }
     ensures count { length text.new.bytes.held ≤ length text.old.bytes.held + length run.now }
 {
     text.take(run, count as u64)

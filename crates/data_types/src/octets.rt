@@ -3,6 +3,7 @@ ghost use Rattle.std.specs.Prelude.{◌≡◌, ◌+◌, ◌≤◌, ◌<◌, ◌^
 ghost use Rattle.base64.specs.Engines.{standard};
 ghost use Rattle.base64.specs.GeneralPurpose.{IsBytes, encode_of};
 ghost use Rattle.data_types.specs.Limits.{IsWithin, IsCount};
+ghost use Rattle.data_types.specs.Kept.{kept_room};
 
 use crate::kept::Kept;
 use base64::engine::general_purpose::STANDARD;
@@ -63,7 +64,7 @@ impl OctetStep {
         ensures text { (most : Option ℕ) (text : List ℕ) → HasDecoded self.old most text
             → HasDecoded self.new most [] }
         ensures count { length self.new.kept.bytes.held + self.new.count ≡ 0 }
-        ensures room { self.new.kept.bytes.room ≡ self.old.kept.bytes.room }
+        ensures room { kept_room self.new.kept ≡ kept_room self.old.kept }
     {
         self.kept.restart();
         self.total = Some(0);
@@ -76,8 +77,8 @@ impl OctetStep {
         ensures ok { OnOk result ((most : Option ℕ) (text : List ℕ) → HasDecoded self.old most text
             → HasDecoded self.new most (text ++ c ∷ [])) }
         ensures err { OnErr result (self.new ≡ self.old) }
-        ensures within { length self.old.kept.bytes.held + self.old.count + 1 ≤ self.old.kept.bytes.room → IsOk result }
-        ensures room { self.old.kept.bytes.room ≤ self.new.kept.bytes.room }
+        ensures within { length self.old.kept.bytes.held + self.old.count + 1 ≤ kept_room self.old.kept → IsOk result }
+        ensures room { kept_room self.old.kept ≤ kept_room self.new.kept }
         ensures count { length self.new.kept.bytes.held + self.new.count
             ≤ length self.old.kept.bytes.held + self.old.count + 1 }
     {
@@ -86,10 +87,10 @@ impl OctetStep {
 
     /// Takes the characters of these codes, one after another; there is room for what they may spell.
     pub fn take_codes(&mut self, codes: &[u8])
-        requires { length self.old.kept.bytes.held + self.old.count + length codes.now ≤ self.old.kept.bytes.room }
+        requires { length self.old.kept.bytes.held + self.old.count + length codes.now ≤ kept_room self.old.kept }
         ensures text { (most : Option ℕ) (text : List ℕ) → HasDecoded self.old most text
             → HasDecoded self.new most (text ++ codes.now) }
-        ensures room { self.old.kept.bytes.room ≤ self.new.kept.bytes.room }
+        ensures room { kept_room self.old.kept ≤ kept_room self.new.kept }
         ensures count { length self.new.kept.bytes.held + self.new.count
             ≤ length self.old.kept.bytes.held + self.old.count + length codes.now }
     {
@@ -105,8 +106,8 @@ impl OctetStep {
     fn step(&mut self, c: char) -> Result<(), AllocError>
         ensures ok { OnOk result (IsOctetStep self.old c self.new) }
         ensures err { OnErr result (self.new ≡ self.old) }
-        ensures within { length self.old.kept.bytes.held + self.old.count + 1 ≤ self.old.kept.bytes.room → IsOk result }
-        ensures room { self.old.kept.bytes.room ≤ self.new.kept.bytes.room }
+        ensures within { length self.old.kept.bytes.held + self.old.count + 1 ≤ kept_room self.old.kept → IsOk result }
+        ensures room { kept_room self.old.kept ≤ kept_room self.new.kept }
         ensures count { length self.new.kept.bytes.held + self.new.count
             ≤ length self.old.kept.bytes.held + self.old.count + 1 }
     {
@@ -123,8 +124,8 @@ impl OctetStep {
         requires { self.old.stage ≡ Stage.Open }
         ensures ok { OnOk result (IsOctetStep self.old c self.new) }
         ensures err { OnErr result (self.new ≡ self.old) }
-        ensures within { length self.old.kept.bytes.held + self.old.count + 1 ≤ self.old.kept.bytes.room → IsOk result }
-        ensures room { self.old.kept.bytes.room ≤ self.new.kept.bytes.room }
+        ensures within { length self.old.kept.bytes.held + self.old.count + 1 ≤ kept_room self.old.kept → IsOk result }
+        ensures room { kept_room self.old.kept ≤ kept_room self.new.kept }
         ensures count { length self.new.kept.bytes.held + self.new.count
             ≤ length self.old.kept.bytes.held + self.old.count + 1 }
     {
@@ -146,8 +147,8 @@ impl OctetStep {
         requires full { self.old.count ≡ 3 }
         ensures ok { OnOk result (IsOctetStep self.old last self.new) }
         ensures err { OnErr result (self.new ≡ self.old) }
-        ensures within { length self.old.kept.bytes.held + self.old.count + 1 ≤ self.old.kept.bytes.room → IsOk result }
-        ensures room { self.old.kept.bytes.room ≤ self.new.kept.bytes.room }
+        ensures within { length self.old.kept.bytes.held + self.old.count + 1 ≤ kept_room self.old.kept → IsOk result }
+        ensures room { kept_room self.old.kept ≤ kept_room self.new.kept }
         ensures count { length self.new.kept.bytes.held + self.new.count
             ≤ length self.old.kept.bytes.held + 4 }
     {
@@ -169,12 +170,12 @@ impl OctetStep {
 
     /// Makes room for so many more octets.
     pub fn reserve(&mut self, count: usize) -> Result<(), AllocError>
-        ensures ok { OnOk result (length self.new.kept.bytes.held + count ≤ self.new.kept.bytes.room) }
+        ensures ok { OnOk result (length self.new.kept.bytes.held + count ≤ kept_room self.new.kept) }
         ensures err { OnErr result (self.new ≡ self.old) }
         ensures text { (most : Option ℕ) (text : List ℕ) → HasDecoded self.old most text
             → HasDecoded self.new most text }
-        ensures within { length self.old.kept.bytes.held + count ≤ self.old.kept.bytes.room → IsOk result }
-        ensures room { self.old.kept.bytes.room ≤ self.new.kept.bytes.room }
+        ensures within { length self.old.kept.bytes.held + count ≤ kept_room self.old.kept → IsOk result }
+        ensures room { kept_room self.old.kept ≤ kept_room self.new.kept }
         ensures held { self.new.kept.bytes.held ≡ self.old.kept.bytes.held }
         ensures count { self.new.count ≡ self.old.count }
     {
@@ -184,12 +185,12 @@ impl OctetStep {
     /// Makes room for the octets of so many more characters. After want of memory all is as before.
     pub fn reserve_for(&mut self, count: usize) -> Result<(), AllocError>
         requires { count < 2 ^ 63 }
-        ensures ok { OnOk result (length self.new.kept.bytes.held + self.new.count + count ≤ self.new.kept.bytes.room) }
+        ensures ok { OnOk result (length self.new.kept.bytes.held + self.new.count + count ≤ kept_room self.new.kept) }
         ensures err { OnErr result (self.new ≡ self.old) }
         ensures text { (most : Option ℕ) (text : List ℕ) → HasDecoded self.old most text
             → HasDecoded self.new most text }
-        ensures within { length self.old.kept.bytes.held + self.old.count + count ≤ self.old.kept.bytes.room → IsOk result }
-        ensures room { self.old.kept.bytes.room ≤ self.new.kept.bytes.room }
+        ensures within { length self.old.kept.bytes.held + self.old.count + count ≤ kept_room self.old.kept → IsOk result }
+        ensures room { kept_room self.old.kept ≤ kept_room self.new.kept }
         ensures held { self.new.kept.bytes.held ≡ self.old.kept.bytes.held }
         ensures count { self.new.count ≡ self.old.count }
         ensures few { self.old.count ≤ 3 }
