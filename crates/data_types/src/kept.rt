@@ -76,7 +76,7 @@ impl Kept {
         ensures held { self.new.bytes.held ≡ self.old.bytes.held }
     {
         if self.most == Some(0) {
-            let _held = self.bytes.len();
+            let _held = self.bytes.len(); // fewer than 2^63
             return Ok(());
         }
         self.bytes.reserve(count)

@@ -1,5 +1,5 @@
 //! The leaf that characters spell, taken one at a time: XML Schema part 2 §3.2.
-ghost use Rattle.std.specs.Prelude.{◌≡◌, ◌+◌, ◌*◌, ◌^◌, ◌<◌, ◌≤◌, ◌++◌, ◌∷◌, [], length, Option, List, ℕ, IsOk, OnOk, OnErr};
+ghost use Rattle.std.specs.Prelude.{◌≡◌, ◌+◌, ◌*◌, ◌^◌, ◌<◌, ◌≤◌, ◌++◌, ◌∷◌, [], length, Option, Some, List, ℕ, IsOk, OnOk, OnErr};
 ghost use Rattle.lexical_core.specs.Characters.{IsXmlChar};
 ghost use Rattle.lexical_core.specs.XmlRuns.{IsXmlRun};
 ghost use Rattle.data_types.specs.Kept.{kept_room};
@@ -83,13 +83,14 @@ impl LeafStep {
         }
     }
 
-    /// Takes a character. After want of memory all is as before.
+    /// Takes a character. After want of memory all is as before. Under a limit of 0 it takes no memory.
     pub fn take(&mut self, c: char) -> Result<(), AllocError>
         requires { IsXmlChar c }
         ensures ok { OnOk result ((kind : Kind) (most : Option ℕ) (chars : List ℕ)
             → HasTakenLeaf self.old kind most chars → HasTakenLeaf self.new kind most (chars ++ c ∷ [])) }
         ensures err { OnErr result (self.new ≡ self.old) }
         ensures within { 4 ≤ spare self.old → IsOk result }
+        ensures none { (kind : Kind) (chars : List ℕ) → HasTakenLeaf self.old kind (Some 0) chars → IsOk result }
         ensures spare { spare self.old ≤ spare self.new + 4 }
         ensures room { room self.old ≤ room self.new }
     {
@@ -100,13 +101,14 @@ impl LeafStep {
     }
 
     /// Takes a run of so many characters. After want of memory all is as before. It takes no memory while its
-    /// spare is at least the bytes of the run and 3.
+    /// spare is at least the bytes of the run and 3, and none under a limit of 0.
     pub fn take_run(&mut self, run: &[u8], count: usize) -> Result<(), AllocError>
         requires { IsXmlRun run.now count }
         ensures ok { OnOk result ((r : IsXmlRun run.now count) (kind : Kind) (most : Option ℕ) (chars : List ℕ)
             → HasTakenLeaf self.old kind most chars → HasTakenLeaf self.new kind most (chars ++ r.chars)) }
         ensures err { OnErr result (self.new ≡ self.old) }
         ensures within { length run.now + 3 ≤ spare self.old → IsOk result }
+        ensures none { (kind : Kind) (chars : List ℕ) → HasTakenLeaf self.old kind (Some 0) chars → IsOk result }
         ensures spare { spare self.old ≤ spare self.new + (length run.now + 3) }
         ensures room { room self.old ≤ room self.new }
     {

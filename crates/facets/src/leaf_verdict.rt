@@ -54,7 +54,8 @@ impl LeafVerdict {
         self.progress.restart(simple);
     }
 
-    /// Takes a character. After want of memory all is as before. It takes no memory while its spare is at least 4.
+    /// Takes a character. After want of memory all is as before. It takes no memory while its spare is at least 4,
+    /// and none for a text without codes or a binary value.
     pub fn take(&mut self, simple: &Simple, c: char) -> Result<(), AllocError>
         requires char { IsXmlChar c }
         requires made { IsVerdictMadeFor self.old simple.now }
@@ -62,6 +63,8 @@ impl LeafVerdict {
             → HasVerdictTaken self.new simple.now (text ++ c ∷ [])) }
         ensures err { OnErr result (self.new ≡ self.old) }
         ensures within { 4 ≤ verdict_spare self.old → IsOk result }
+        ensures free { IsFreeText simple.now → IsOk result }
+        ensures binary { simple.now.kind ≡ kind.Binary → IsOk result }
         ensures spare { verdict_spare self.old ≤ verdict_spare self.new + 4 }
         ensures room { verdict_room self.old ≤ verdict_room self.new }
     {
@@ -69,7 +72,7 @@ impl LeafVerdict {
     }
 
     /// Takes a run of so many characters. After want of memory all is as before. It takes no memory while its spare
-    /// is at least the bytes of the run and 3.
+    /// is at least the bytes of the run and 3, and none for a text without codes or a binary value.
     pub fn take_run(&mut self, simple: &Simple, run: &[u8], count: usize) -> Result<(), AllocError>
         requires run { IsXmlRun run.now count }
         requires made { IsVerdictMadeFor self.old simple.now }
@@ -77,6 +80,8 @@ impl LeafVerdict {
             → HasVerdictTaken self.new simple.now (text ++ r.chars)) }
         ensures err { OnErr result (self.new ≡ self.old) }
         ensures within { length run.now + 3 ≤ verdict_spare self.old → IsOk result }
+        ensures free { IsFreeText simple.now → IsOk result }
+        ensures binary { simple.now.kind ≡ kind.Binary → IsOk result }
         ensures spare { verdict_spare self.old ≤ verdict_spare self.new + (length run.now + 3) }
         ensures room { verdict_room self.old ≤ verdict_room self.new }
     {

@@ -79,6 +79,7 @@ impl Progress {
             → HasSeen self.new most simple.now (text ++ c ∷ [])) }
         ensures err { OnErr result (self.new ≡ self.old) }
         ensures within { 4 ≤ spare_of self.old.step → IsOk result }
+        ensures none { (text : List ℕ) → HasSeen self.old (Some 0) simple.now text → IsOk result }
         ensures spare { spare_of self.old.step ≤ spare_of self.new.step + 4 }
         ensures room { room_of self.old.step ≤ room_of self.new.step }
     {
@@ -101,6 +102,7 @@ impl Progress {
             → HasSeen self.old most simple.now text → HasSeen self.new most simple.now (text ++ r.chars)) }
         ensures err { OnErr result (self.new ≡ self.old) }
         ensures within { length run.now + 3 ≤ spare_of self.old.step → IsOk result }
+        ensures none { (text : List ℕ) → HasSeen self.old (Some 0) simple.now text → IsOk result }
         ensures spare { spare_of self.old.step ≤ spare_of self.new.step + (length run.now + 3) }
         ensures room { room_of self.old.step ≤ room_of self.new.step }
     {

@@ -1,4 +1,5 @@
 use Rattle.std.proofs.lemmas.Result.{on_ok_weaker}
+use Rattle.facets.proofs.HeldLemmas.{free_seen, binary_seen}
 use Rattle.facets.proofs.leaf_verdict.LeafVerdict.take_run.Goals as goal
 
 pub take_run-requires-clause-made : goal.take_run-requires-clause-made
@@ -6,3 +7,13 @@ take_run-requires-clause-made c = let (text, had) = c.requires.made in (_, text,
 
 pub returns-clause-ok : goal.returns-clause-ok
 returns-clause-ok c = on_ok_weaker c.take_run.result (λ takes r text had. record { seen = takes r _ text had.seen }) c.take_run.ensures.ok
+
+pub returns-clause-free : goal.returns-clause-free
+returns-clause-free c = λ free.
+    let (text, had) = c.requires.made in
+    c.take_run.ensures.none text (free_seen c.args.self.now.progress c.args.simple.now text free had.seen)
+
+pub returns-clause-binary : goal.returns-clause-binary
+returns-clause-binary c = λ binary.
+    let (text, had) = c.requires.made in
+    c.take_run.ensures.none text (binary_seen c.args.self.now.progress c.args.simple.now text binary had.seen)
