@@ -95,6 +95,7 @@ impl LeafVerdict {
         ensures bound { (simple : SimpleType) (text : List ℕ) → HasVerdictTaken self.now simple text
             → IsHeldWithin (leaf_limit simple) (length text) result }
         ensures none { (simple : SimpleType) (text : List ℕ) → HasVerdictTaken self.now simple text → IsFreeText simple → verdict_kept self.now ≡ 0 }
+        ensures free { (simple : SimpleType) (text : List ℕ) → HasVerdictTaken self.now simple text → IsFreeText simple → result ≡ 0 }
         ensures binary { (simple : SimpleType) (text : List ℕ) → HasVerdictTaken self.now simple text → simple.kind ≡ kind.Binary → verdict_kept self.now ≡ 0 }
     {
         self.progress.kept() as u64 + self.progress.in_place() as u64

@@ -11,8 +11,8 @@ ghost use Rattle.facets.specs.LeafUnder.{Judges};
 use crate::simple::Simple;
 use lexical_core::Rule;
 
-/// Whether a binary value of this number of octets has a length within the bounds of the simple type; `BadLength` where
-/// it has not. It takes no memory.
+/// Whether a length, of a binary value in octets or of a text in characters, is within the bounds of the simple type;
+/// `BadLength` where it is not. It takes no memory.
 pub fn check_octets(simple: &Simple, count: u64) -> Result<(), Rule>
     ensures length { IsLengthAnswer simple.now count result }
     ensures leaf { simple.now.kind ≡ kind.Binary → (octets : List ℕ) → IsBytes octets → length octets ≡ count

@@ -6,8 +6,8 @@
 //! `BadLength`. With the codes `EUR` and `USD` the first is the code 0, for codes are numbered in the order of their bytes,
 //! and `GBP` breaks `NotACode`: lengths and pattern count nowhere then. Facets of another kind count nowhere either.
 //!
-//! Limits: a simple type has fewer than 2^32 codes, and a total of at most 18 digits. A verdict keeps no text but what may
-//! still be a code, and no octets.
+//! Limits: a simple type has fewer than 2^32 codes, and a total of at most 18 digits. A verdict keeps, of a text
+//! that may be a code, the bytes that the longest code has room for, and of other texts and of octets none.
 #![tactic(auto)]
 
 mod asked;
