@@ -19,12 +19,11 @@ use Rattle.message_model.specs.declared.model.Form.{Form as ToldForm}
 use Rattle.message_model.specs.declared.model.Form.TheVariants as told_form
 use Rattle.message_model.specs.Writes.{name_in_namespace, currency}
 use Rattle.message_model.specs.Sound.{count_with}
-use Rattle.xml_instances.specs.declared.judge.Judge.{Judge}
-use Rattle.xml_instances.specs.Judges.{HasJudgeTaken, IsJudgeMadeFor}
+use Rattle.xml_instances.specs.Judges.{HasJudgeTaken}
 use Rattle.xml_instances.specs.Levels.{Level, Parent, Leaf, Envelope, Foreign, levels_after, with_char, level_of_start, begun_level, slot_form, form_by, form_of_start, round_start, with_slot, path_in}
 use Rattle.xml_instances.specs.EventFaults.{Broken, broken_rule, EventFault, AttributeFault, EndFault, LeafFault, place_fault, next_fault, Unless, space_fault, is_bare, char_fault, has_currency, CurrencyFault}
 use Rattle.xml_instances.specs.inner.Known.{has_unknown}
-use Rattle.xml_instances.specs.Open.{IsOpen, IsCodeForm, HoldsText, StandsFor, StandFor, StandsOpen, IsRound, IsMadeAt, IsTextMade, path_round, RefusesWith, Says, IsItemTaken, form_at, IsPlaced, IsEntered, IsEnvelopeFilled, IsChild, IsStepped, IsElementBegun}
+use Rattle.xml_instances.specs.Open.{IsOpen, IsCodeForm, HoldsText, StandsFor, StandFor, StandsOpen, IsRound, path_round, RefusesWith, Says, IsItemTaken, form_at, IsPlaced, IsEntered, IsEnvelopeFilled, IsChild, IsStepped, IsElementBegun}
 use Rattle.xml_instances.specs.Verdicts.{IsVerdictJudge, IsTextVerdict}
 use Rattle.xml_instances.specs.declared.content.Content.{Content}
 use Rattle.xml_instances.specs.declared.content.OpenText.{OpenText}
@@ -34,19 +33,12 @@ use Rattle.xml_instances.specs.declared.opened.Refusal.{Refusal}
 use Rattle.xml_instances.specs.declared.opened.Refusal.TheVariants.{Breaks, Memory}
 use Rattle.xml_instances.proofs.Paths.{names_are}
 
--- a check that was made for one simple type of a number was made for each that the number has
-pub made_at : (types : Graph ℕ Simple) (n : ℕ) (check : Judge) (simple : Simple) → text_type (types n) ≡ Some simple → IsJudgeMadeFor check simple → IsMadeAt types n check
-made_at types n check simple e made other q = (let same : simple ≡ other = (let h : Some simple ≡ Some other = sym e ∙ q in cc) in subst (IsJudgeMadeFor check) same made)
-
 -- what the open text has is what its check has
 pub text_simple : (m : Message ℕ) (t : OpenText) (s simple : Simple) (text : List ℕ) → text_type (m.forms t.number) ≡ Some s → HoldsText m (Some t) simple text → (s ≡ simple) × HasJudgeTaken t.judge.value s text
 text_simple m t s simple text e h = (let same : s ≡ simple = (let q : Some s ≡ Some simple = sym e ∙ h.0 in cc) in (same, subst (λ (x : Simple). HasJudgeTaken t.judge.value x text) (sym same) h.1))
 
 pub held : (m : Message ℕ) (text : Option OpenText) (t : OpenText) (simple : Simple) (taken : List ℕ) → text ≡ Some t → HoldsText m text simple taken → HoldsText m (Some t) simple taken
 held m text t simple taken e h = subst (λ (x : Option OpenText). HoldsText m x simple taken) e h
-
-pub made_text : (types : Graph ℕ Simple) (text : Option OpenText) (t : OpenText) → text ≡ Some t → IsTextMade types text → IsMadeAt types t.number t.judge.value
-made_text types text t e h = subst (IsTextMade types) e h
 
 pub verdict_text : (text : Option OpenText) (t : OpenText) → text ≡ Some t → IsTextVerdict text → IsVerdictJudge t.judge.value
 verdict_text text t e h = subst IsTextVerdict e h

@@ -21,7 +21,7 @@ use Rattle.xml_instances.specs.Levels.{Level, Parent, Leaf, Envelope, Foreign, b
 use Rattle.xml_instances.specs.EventFaults.{EventFault, AreFine, AttributeFault, place_fault, next_fault}
 use Rattle.xml_instances.specs.Built.{Shown, nothing_shown, with_event, with_inside, TextShown, CurrencyShown, CodeShown, LeafShown, EndShown, StartShown, ShowsBeside, EventShows, EventsShow}
 use Rattle.xml_instances.specs.Keeping.{PiecesKept, GoOn, KeepsSomeShown, IsBuilt, MayShowName, TagShowsBeside, with_all_inside, with_events}
-use Rattle.xml_instances.specs.Open.{StandsOpen, StandsFor, HoldsText, IsOpen, IsCodeForm, form_at, AreMade, AreKept, IsTextMade}
+use Rattle.xml_instances.specs.Open.{StandsOpen, StandsFor, HoldsText, IsOpen, IsCodeForm, form_at, AreMade, AreKept, IsTextMade, IsTextInnermost}
 use Rattle.xml_instances.specs.inner.Quick.{AreItemsTaken}
 use Rattle.xml_instances.specs.declared.opened.Refusal.{Refusal}
 use Rattle.xml_instances.specs.declared.spare.Checks.{Checks}
@@ -331,5 +331,9 @@ pub built_first : (T : Tables) (a : Option PiecesKept) → KeepsSomeShown a noth
 built_first T None h = absurd h
 built_first T (Some p) h = (nothing_shown, refl, h)
 
-pub made_same : (types : Graph ℕ Simple) (old new : Content) → new.checks ≡ old.checks → new.text ≡ old.text → AreMade types old → AreMade types new
-made_same types old new c t h = record { kept = subst (λ (x : Checks). AreKept types x) (sym c) h.kept; text = subst (λ (x : Option OpenText). IsTextMade types x) (sym t) h.text }
+pub made_same : (types : Graph ℕ Simple) (old new : Content) → new.checks ≡ old.checks → new.text ≡ old.text → new.innermost ≡ old.innermost → AreMade types old → AreMade types new
+made_same types old new c t i h = record {
+  kept = subst (λ (x : Checks). AreKept types x) (sym c) h.kept;
+  text = subst (λ (x : Option OpenText). IsTextMade types x) (sym t) h.text;
+  innermost = subst (λ (x : Option Opened). IsTextInnermost x new.text) (sym i) (subst (λ (x : Option OpenText). IsTextInnermost old.innermost x) (sym t) h.innermost);
+}

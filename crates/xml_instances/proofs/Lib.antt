@@ -12,6 +12,7 @@ pub mod OnlyCut
 pub mod KnownLemmas
 pub mod Paths
 pub mod Spares
+pub mod UnusedJudges
 pub mod Contents
 pub mod QuickRuns
 pub mod OpenScratch

@@ -1,14 +1,9 @@
 -- Checks by the number of their type.
-use Rattle.std.proofs.Common.{◌≡◌, ℕ, ◌<◌, Bool, true, false, cond, List, [], ◌∷◌, ◌++◌, Option, Some, None, refl, sym, ap, subst, ◌∙◌, length, get_or, ◌⊎◌, inl, inr}
-use Rattle.std.proofs.lemmas.Option.{slice_get_read}
+use Rattle.std.proofs.Common.{◌≡◌, ℕ, Bool, true, false, cond, List, [], ◌∷◌, ◌++◌, Option, Some, None, sym, ap, subst, ◌∙◌, ◌⊎◌, inl, inr}
 use Rattle.std.specs.Global.{Box}
 use Rattle.std.specs.Prelude.{slice_get, slice_set}
 use Rattle.lexical_core.proofs.Lists.{get_before, get_set}
-use Rattle.facets.specs.declared.simple.Simple.{Simple}
-use Rattle.reference_check.specs.Forms.{Graph}
 use Rattle.xml_instances.specs.declared.judge.Judge.{Judge}
-use Rattle.xml_instances.specs.Open.{IsMade, IsMadeAt}
-use Rattle.xml_instances.specs.Verdicts.{IsVerdictJudge, IsGivenVerdict}
 
 -- a check, as it is kept
 abbrev pub Held : Type 0
@@ -32,15 +27,3 @@ set_one P xs k o made h n check found = go (get_set xs k n o check found)
     go : ((n ≡ k) × (o ≡ Some check)) ⊎ (slice_get xs n ≡ Some (Some check)) → P n check.value
     go (inl (e, q)) = subst (λ (i : ℕ). P i check.value) (sym e) (subst (IsAt P k) q made)
     go (inr q) = h n check q
-
-pub taken_at : (P : ℕ → Judge → Type 0) (xs : List (Option Held)) (n : ℕ) (o : Option Held) → KeptIn P xs → n < length xs → o ≡ get_or xs n o → IsAt P n o
-taken_at P xs n None h l e = tt
-taken_at P xs n (Some check) h l e = h n check (slice_get_read xs (length xs) n (Some check) refl l e)
-
-pub made_of : (types : Graph ℕ Simple) (n : ℕ) (o : Option Held) → IsAt (IsMadeAt types) n o → IsMade types n o
-made_of types n None h = tt
-made_of types n (Some check) h = h
-
-pub verdict_of : (n : ℕ) (o : Option Held) → IsAt (λ _ j. IsVerdictJudge j) n o → IsGivenVerdict o
-verdict_of n None h = tt
-verdict_of n (Some check) h = h

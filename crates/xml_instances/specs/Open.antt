@@ -64,25 +64,29 @@ IsRound content m ls = StandFor m (reverse (content.round.items ++ option_to_lis
 
 -- ---- checks of leaves
 
-abbrev pub IsMadeAt : Graph ℕ Simple → ℕ → Judge → Type 0
-IsMadeAt types n check = (simple : Simple) → text_type (types n) ≡ Some simple → IsJudgeMadeFor check simple
+-- the check is one for the type of this number, and was given no character since it was made or begun anew
+abbrev pub IsUnusedAt : Graph ℕ Simple → ℕ → Judge → Type 0
+IsUnusedAt types n check = (simple : Simple) × (text_type (types n) ≡ Some simple) × HasJudgeTaken check simple []
 
--- each check that is kept was made for the type of its number
+-- so is each check that is kept, for the type of its number
 abbrev pub AreKept : Graph ℕ Simple → Checks → Type 0
-AreKept types checks = (n : ℕ) (check : Box Judge) → slice_get checks.entries.items n ≡ Some (Some check) → IsMadeAt types n check.value
+AreKept types checks = (n : ℕ) (check : Box Judge) → slice_get checks.entries.items n ≡ Some (Some check) → IsUnusedAt types n check.value
 
+-- that of an open text was made for the type of its element
 abbrev pub IsTextMade : Graph ℕ Simple → Option OpenText → Type 0
 IsTextMade types None = Unit {0}
-IsTextMade types (Some t) = IsMadeAt types t.number t.judge.value
+IsTextMade types (Some t) = (simple : Simple) → text_type (types t.number) ≡ Some simple → IsJudgeMadeFor t.judge.value simple
 
--- the checks of the content were made for these types
+-- a text is open only where the innermost element has one
+abbrev pub IsTextInnermost : Option Opened → Option OpenText → Type 0
+IsTextInnermost innermost None = Unit {0}
+IsTextInnermost innermost (Some t) = innermost ≡ Some opened.Text
+
+-- the checks of the content are ones for these types, and no text is open but that of the innermost element
 pub record AreMade (types : Graph ℕ Simple) (content : Content) : Type 0 where
   pub kept : AreKept types content.checks
   pub text : IsTextMade types content.text
-
-abbrev pub IsMade : Graph ℕ Simple → ℕ → Option (Box Judge) → Type 0
-IsMade types n None = Unit {0}
-IsMade types n (Some check) = IsMadeAt types n check.value
+  pub innermost : IsTextInnermost content.innermost content.text
 
 -- the rule that a text breaks, if it breaks one
 abbrev pub IsRuleOf : Simple → List ℕ → Option Rule → Type 0

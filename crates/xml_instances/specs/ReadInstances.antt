@@ -3,7 +3,7 @@ use Rattle.std.specs.Prelude.{ℕ, List, Option}
 use Rattle.message_model.specs.Tables.{Tables}
 use Rattle.message_model.specs.declared.fault.InstanceError.{InstanceError}
 use Rattle.xml_instances.specs.Checking.{HasFedXml, IsXmlCheckerFor, xml_bytes_fed, xml_failure}
-use Rattle.xml_instances.specs.Scratch.{scratch, checker_token, KeepsNoPieces}
+use Rattle.xml_instances.specs.Scratch.{scratch, checker_token, KeepsNoPieces, HoldsNoEndedLeaf, HasLetGo}
 use Rattle.xml_instances.specs.declared.reader.XmlReader.{XmlReader}
 
 -- the reader goes on: it was given these bytes, and none of their events breaks a rule
@@ -29,6 +29,14 @@ reader_scratch reader = scratch reader.checker
 -- and for the open token
 abbrev pub reader_token : XmlReader → ℕ
 reader_token reader = checker_token reader.checker
+
+-- of leaves it holds no more than `scratch` counts, beside the pieces
+abbrev pub HoldsOpenLeafAlone : XmlReader → Type 0
+HoldsOpenLeafAlone reader = HoldsNoEndedLeaf reader.checker
+
+-- the reader holds no event, and no judge of a leaf
+abbrev pub HasReaderLetGo : XmlReader → Type 0
+HasReaderLetGo reader = HasLetGo reader.checker
 
 -- the reader keeps no pieces
 abbrev pub IsReaderBare : XmlReader → Type 0

@@ -1,10 +1,13 @@
--- How many bytes are held for the text of the open leaf, and for the open token.
-use Rattle.std.specs.Prelude.{◌≡◌, ℕ, List, ◌∷◌, Option, Some, None, length}
+-- How many bytes are held for the text of the open leaf, and that none are of others; how many for the open token.
+use Rattle.std.specs.Prelude.{◌≡◌, ℕ, List, [], ◌∷◌, Option, Some, None, length, slice_get}
+use Rattle.std.specs.Global.{Box}
 use Rattle.facets.specs.LeafChecks.{IsHeldWithin, leaf_limit}
 use Rattle.markup.specs.Reading.{open_token_held as held_open}
 use Rattle.xml_instances.specs.Levels.{Level, Leaf}
-use Rattle.xml_instances.specs.Judges.{held_by_judge}
+use Rattle.xml_instances.specs.Judges.{held_by_judge, IsUnused}
+use Rattle.xml_instances.specs.Open.{IsTextInnermost}
 use Rattle.xml_instances.specs.Verdicts.{IsLean}
+use Rattle.xml_instances.specs.declared.judge.Judge.{Judge}
 use Rattle.xml_instances.specs.declared.checker.XmlChecker.{XmlChecker}
 use Rattle.xml_instances.specs.declared.content.Content.{Content}
 use Rattle.xml_instances.specs.declared.content.OpenText.{OpenText}
@@ -29,6 +32,17 @@ KeepsNoPieces checker = checker.content.pieces ≡ None
 
 abbrev pub scratch : XmlChecker → ℕ
 scratch checker = held_in checker.content
+
+-- Of leaves it holds no more than `scratch` counts: no text is open but that of the innermost element, and each judge that is kept for a leaf to come is unused.
+pub record HoldsNoEndedLeaf (checker : XmlChecker) : Type 0 where
+  pub text : IsTextInnermost checker.content.innermost checker.content.text
+  pub judges : (n : ℕ) (judge : Box Judge) → slice_get checker.content.checks.entries.items n ≡ Some (Some judge) → IsUnused judge.value
+
+-- it holds no event, and no judge of a leaf
+pub record HasLetGo (checker : XmlChecker) : Type 0 where
+  pub events : checker.events ≡ []
+  pub judges : checker.content.checks.entries.items ≡ []
+  pub text : checker.content.text ≡ None
 
 -- how many bytes it holds for the open token
 abbrev pub checker_token : XmlChecker → ℕ

@@ -13,7 +13,7 @@ ghost use Rattle.xml_instances.specs.Open.{IsOpen, AreMade};
 ghost use Rattle.xml_instances.specs.Built.{EventsShow};
 ghost use Rattle.xml_instances.specs.Keeping.{GoOn};
 ghost use Rattle.xml_instances.specs.Checking.{items_in_events, HasFedXml, AreTaken, IsTold, IsMarkTold, XmlStops, IsSpelledXml, IsSpelledBy, XmlEndsAs, IsSpelledAs, IsXmlCheckerFor, xml_bytes_fed, xml_failure};
-ghost use Rattle.xml_instances.specs.Scratch.{scratch, checker_token, KeepsNoLeaf, KeepsNoPieces, IsScratchWithin};
+ghost use Rattle.xml_instances.specs.Scratch.{scratch, checker_token, KeepsNoLeaf, KeepsNoPieces, HoldsNoEndedLeaf, HasLetGo, IsScratchWithin};
 ghost use Rattle.xml_instances.specs.Verdicts.{IsLean, HasFreeText};
 
 mod fronts;
@@ -82,6 +82,7 @@ impl XmlChecker {
         ensures made { IfOk result (λ c. IsXmlCheckerFor c model.now) }
         ensures none { IfOk result (λ c. xml_bytes_fed c ≡ 0) }
         ensures lean { IfOk result (λ c. KeepsNoLeaf c) }
+        ensures leaves { IfOk result (λ c. HoldsNoEndedLeaf c) }
     {
         Ok(XmlChecker {
             alloc,
@@ -98,6 +99,7 @@ impl XmlChecker {
         ensures fed { IfOk result (λ c. HasFedXml c model.now []) }
         ensures made { IfOk result (λ c. IsXmlCheckerFor c model.now) }
         ensures none { IfOk result (λ c. xml_bytes_fed c ≡ 0) }
+        ensures leaves { IfOk result (λ c. HoldsNoEndedLeaf c) }
     {
         let mut content = Content::new(alloc, model);
         content.keep_pieces();
@@ -118,9 +120,9 @@ impl XmlChecker {
         self.content.depth()
     }
 
-    /// How many bytes are held for the text of the open leaf: at most four to each of its characters so
-    /// far, of which no more count than the limit of its type, and 64; none of a text without codes.
-    /// It takes no memory.
+    /// How many bytes are held for leaves: those of the text of the open one, at most four to each of its
+    /// characters so far, of which no more count than the limit of its type, and 64; none of a text without
+    /// codes. The room of one that has ended is kept for the next of its type. It takes no memory.
     pub fn scratch(&self) -> u64
         ensures count { result ≡ scratch self.now }
         ensures free { (T : Tables) (bytes : List ℕ) (h : HasFedXml self.now T bytes) → KeepsNoLeaf self.now → HasFreeText (levels_over (message_of T) [] (items_told h.told)) → result ≡ 0 }
@@ -154,9 +156,9 @@ impl XmlChecker {
     }
 
     /// Takes the next bytes, of at most 2^40 in all. It answers the first fault at the byte that
-    /// shows it, its place a byte number from 0. After an error it gives the same answer to every
-    /// later call, or that there is no memory for it, and holds no bytes of a leaf and of a token, and
-    /// no pieces.
+    /// shows it, its place a byte number from 0. Of leaves that have ended it holds no bytes. After an
+    /// error it gives the same answer to every later call, or that there is no memory for it, and holds
+    /// no bytes of a leaf or a token, no judge, no events and no pieces.
     pub fn feed(&mut self, model: &Model, piece: &[u8]) -> Result<(), InstanceError>
         requires room { xml_failure self.old ≡ None → xml_bytes_fed self.old + length piece.now ≤ 2 ^ 40 }
         requires made { IsXmlCheckerFor self.old model.now }
@@ -168,7 +170,9 @@ impl XmlChecker {
         ensures failed { xml_failure self.old ≡ None → IfErr result (λ e. xml_failure self.new ≡ Some e) }
         ensures again { (e : InstanceError) → xml_failure self.old ≡ Some e → IsAgain e result × (xml_failure self.new ≡ xml_failure self.old) }
         ensures still { (e : InstanceError) → xml_failure self.old ≡ Some e → self.new ≡ self.old }
+        ensures leaves { HoldsNoEndedLeaf self.new }
         ensures freed { xml_failure self.old ≡ None → IfErr result (λ _. (scratch self.new ≡ 0) × (checker_token self.new ≡ 0)) }
+        ensures spent { xml_failure self.old ≡ None → IfErr result (λ _. HasLetGo self.new) }
         ensures bare { xml_failure self.old ≡ None → IfErr result (λ _. KeepsNoPieces self.new) }
     {
         if let Some(error) = &self.failed {
@@ -183,18 +187,21 @@ impl XmlChecker {
         }
     }
 
-    /// Goes on no more, and keeps why; where there is no memory for that, the error is that. What is open is let go.
+    /// Goes on no more, and keeps why; where there is no memory for that, the error is that. What is open is
+    /// let go, and what is kept for leaves and tags to come.
     fn stop(&mut self, error: InstanceError) -> InstanceError
         ensures same { IsSameOrMemory error result }
         ensures kept { xml_failure self.new ≡ Some result }
         ensures made { (types : Graph ℕ SimpleType) → AreMade types self.old.content → AreMade types self.new.content }
         ensures lean { KeepsNoLeaf self.old → KeepsNoLeaf self.new }
         ensures freed { (scratch self.new ≡ 0) × (checker_token self.new ≡ 0) }
+        ensures spent { HasLetGo self.new }
         ensures bare { KeepsNoPieces self.new }
     {
         self.content.let_go();
         self.content.forget_pieces();
         self.reader.forget_token();
+        self.events = Events::new(self.alloc);
         match error.copy(self.alloc) {
             Ok(copy) => {
                 self.failed = Some(copy);

@@ -124,6 +124,8 @@ impl Content {
         ensures made { (types : Graph ℕ SimpleType) → AreMade types self.old → AreMade types self.new }
         ensures lean { IsLean self.old → IsLean self.new }
         ensures same { held_in self.new ≡ held_in self.old }
+        ensures text { self.new.text ≡ self.old.text }
+        ensures checks { self.new.checks ≡ self.old.checks }
         ensures bare { self.new.pieces ≡ None }
     {
         self.pieces = None;
@@ -224,6 +226,7 @@ impl Content {
         requires { AreMade (types_of model.now) self.old }
         ensures made { AreMade (types_of model.now) self.new }
         ensures lean { IsLean self.old → IsLean self.new }
+        ensures none { OnOk result (self.new.text ≡ None) }
         ensures taken { (ls : List (Level ℕ)) → IsOpen self.old (message_of model.now) ls → IsPlaced (message_of model.now) ls (name_in_namespace namespace.now local.now) self.new result }
         ensures shown { (ls : List (Level ℕ)) → IsOpen self.old (message_of model.now) ls
             → OnOk result (GoOn self.old.pieces self.new.pieces (StartShown ls local.now)) }
@@ -334,7 +337,8 @@ impl Content {
         number: Option<u32>,
         attrs: &[TagAttribute<'_>],
     ) -> Result<(), Refusal>
-        requires { AreMade (types_of model.now) self.old }
+        requires made { AreMade (types_of model.now) self.old }
+        requires none { self.old.text ≡ None }
         ensures made { AreMade (types_of model.now) self.new }
         ensures lean { IsLean self.old → IsLean self.new }
         ensures taken { (ls : List (Level ℕ)) → IsRound self.old (message_of model.now) ls
@@ -378,7 +382,8 @@ impl Content {
     /// The element of the type is open.
     #[inline(always)]
     fn begin(&mut self, model: &Model, number: u32) -> Result<(), AllocError>
-        requires { AreMade (types_of model.now) self.old }
+        requires made { AreMade (types_of model.now) self.old }
+        requires none { self.old.text ≡ None }
         ensures made { AreMade (types_of model.now) self.new }
         ensures lean { IsLean self.old → IsLean self.new }
         ensures round { self.new.round ≡ self.old.round }

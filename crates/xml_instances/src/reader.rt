@@ -6,7 +6,7 @@ ghost use Rattle.message_model.specs.Errors.{IsAgain};
 ghost use Rattle.xml_instances.specs.Levels.{levels_over};
 ghost use Rattle.xml_instances.specs.XmlFaults.{items_told};
 ghost use Rattle.xml_instances.specs.Checking.{XmlStops, XmlEndsAs, IsSpelledAs};
-ghost use Rattle.xml_instances.specs.ReadInstances.{HasFedReader, IsXmlReaderFor, reader_fed, reader_failed, reader_scratch, reader_token, IsReaderBare};
+ghost use Rattle.xml_instances.specs.ReadInstances.{HasFedReader, IsXmlReaderFor, reader_fed, reader_failed, reader_scratch, reader_token, IsReaderBare, HoldsOpenLeafAlone, HasReaderLetGo};
 ghost use Rattle.xml_instances.specs.Scratch.{IsScratchWithin};
 
 use crate::checker::XmlChecker;
@@ -27,6 +27,7 @@ impl XmlReader {
         ensures fed { IfOk result (λ r. HasFedReader r model.now []) }
         ensures made { IfOk result (λ r. IsXmlReaderFor r model.now) }
         ensures none { IfOk result (λ r. reader_fed r ≡ 0) }
+        ensures leaves { IfOk result (λ r. HoldsOpenLeafAlone r) }
     {
         Ok(XmlReader {
             checker: XmlChecker::with_pieces(alloc, model)?,
@@ -40,7 +41,8 @@ impl XmlReader {
         self.checker.depth()
     }
 
-    /// How many bytes are held for the text of the open leaf, as by `XmlChecker`.
+    /// How many bytes are held for leaves beside the pieces: those of the text of the open one, at most four
+    /// to each of its characters so far, of which no more count than the limit of its type, and 64.
     pub fn scratch(&self) -> u64
         ensures count { result ≡ reader_scratch self.now }
         ensures bound { (T : Tables) (bytes : List ℕ) (h : HasFedReader self.now T bytes) → IsScratchWithin (levels_over (message_of T) [] (items_told h.told)) result }
@@ -58,9 +60,9 @@ impl XmlReader {
     }
 
     /// Takes the next bytes, of at most 2^40 in all. It answers the first fault at the byte that
-    /// shows it, its place a byte number from 0. After an error it gives the same answer to every
-    /// later call, or that there is no memory for it, and holds no bytes of a leaf and of a token, and
-    /// no pieces.
+    /// shows it, its place a byte number from 0. Of leaves that have ended it holds the pieces alone.
+    /// After an error it gives the same answer to every later call, or that there is no memory for it,
+    /// and holds no bytes of a leaf or a token, no judge, no events and no pieces.
     pub fn feed(&mut self, model: &Model, piece: &[u8]) -> Result<(), InstanceError>
         requires room { reader_failed self.old ≡ None → reader_fed self.old + length piece.now ≤ 2 ^ 40 }
         requires made { IsXmlReaderFor self.old model.now }
@@ -71,7 +73,9 @@ impl XmlReader {
         ensures failed { reader_failed self.old ≡ None → IfErr result (λ e. reader_failed self.new ≡ Some e) }
         ensures again { (e : InstanceError) → reader_failed self.old ≡ Some e → IsAgain e result × (reader_failed self.new ≡ reader_failed self.old) }
         ensures still { (e : InstanceError) → reader_failed self.old ≡ Some e → self.new ≡ self.old }
+        ensures leaves { HoldsOpenLeafAlone self.new }
         ensures freed { reader_failed self.old ≡ None → IfErr result (λ _. (reader_scratch self.new ≡ 0) × (reader_token self.new ≡ 0)) }
+        ensures spent { reader_failed self.old ≡ None → IfErr result (λ _. HasReaderLetGo self.new) }
         ensures bare { reader_failed self.old ≡ None → IfErr result (λ _. IsReaderBare self.new) }
     {
         self.checker.feed(model, piece)

@@ -5,7 +5,7 @@ use Rattle.lexical_core.specs.Tree.{Expanded, Entry, Item, Char}
 use Rattle.facets.specs.declared.simple.Simple.{Simple}
 use Rattle.markup.specs.Chars.{is_space}
 use Rattle.markup.specs.Events.{start_tag_items}
-use Rattle.reference_check.specs.Forms.{Graph, Slot, form_slots}
+use Rattle.reference_check.specs.Forms.{Graph, Slot, form_slots, text_type}
 use Rattle.message_model.specs.Message.{Message}
 use Rattle.xml_instances.specs.Levels.{Level, Parent, Leaf, Envelope, Foreign, levels_over}
 use Rattle.xml_instances.specs.EventFaults.{AreFine, FirstFault, is_bare, has_currency}
@@ -15,6 +15,7 @@ use Rattle.xml_instances.specs.declared.opened.Opened.TheVariants as opened
 use Rattle.xml_instances.specs.declared.opened.Refusal.{Refusal}
 use Rattle.xml_instances.specs.declared.opened.Refusal.TheVariants.{Breaks, Memory}
 use Rattle.xml_instances.specs.declared.content.Content.{Content}
+use Rattle.xml_instances.specs.declared.content.OpenText.{OpenText}
 use Rattle.xml_instances.specs.declared.content.quick.Room.{Room}
 use Rattle.xml_instances.specs.declared.content.quick.Room.TheVariants.{All, Blanks, Nothing}
 
@@ -63,6 +64,11 @@ IsOurs m (Parent f d ∷ ls) n = n.namespace ≡ m.namespace
 IsOurs m (Leaf simple text ∷ ls) n = Unit {0}
 IsOurs m (Envelope filled ∷ ls) n = Unit {0}
 IsOurs m (Foreign ∷ ls) n = Unit {0}
+
+-- the open text is one of this type
+abbrev pub IsTypeOf : Graph ℕ Simple → Option OpenText → Simple → Type 0
+IsTypeOf types None simple = ⊥
+IsTypeOf types (Some t) simple = text_type (types t.number) ≡ Some simple
 
 -- it is an element with elements of the message
 abbrev pub is_parent : Option Opened → Bool

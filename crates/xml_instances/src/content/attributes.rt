@@ -37,6 +37,7 @@ impl Content {
         ensures lean { IsLean self.old → IsLean self.new }
         ensures kept { self.new.innermost ≡ self.old.innermost }
         ensures round { self.new.round ≡ self.old.round }
+        ensures text { self.new.text ≡ self.old.text }
         ensures taken { Says (AttributeFault (message_of model.now) (Some (types_of model.now number)) (map tag_entry attrs.now) (path_round (types_of model.now) self.old.round.items)) result }
         ensures shown { OnOk result (GoOn self.old.pieces self.new.pieces (CodeShown model.now (Some (types_of model.now number)) (map tag_entry attrs.now))) }
     {
@@ -64,6 +65,7 @@ impl Content {
         ensures lean { IsLean self.old → IsLean self.new }
         ensures kept { self.new.innermost ≡ self.old.innermost }
         ensures round { self.new.round ≡ self.old.round }
+        ensures text { self.new.text ≡ self.old.text }
         ensures taken { IsCodeForm (types_of model.now code) → Says (CurrencyFault (types_of model.now code) (value_of currency (map tag_entry attrs.now)) (path_round (types_of model.now) self.old.round.items ++ codes "/@Ccy")) result }
         ensures shown { IsCodeForm (types_of model.now code) → OnOk result (GoOn self.old.pieces self.new.pieces (CurrencyShown (types_of model.now code) (map tag_entry attrs.now))) }
     {
@@ -93,6 +95,7 @@ impl Content {
         ensures lean { IsLean self.old → IsLean self.new }
         ensures kept { self.new.innermost ≡ self.old.innermost }
         ensures round { self.new.round ≡ self.old.round }
+        ensures text { self.new.text ≡ self.old.text }
         ensures taken { IfOk result (λ rule. IsRuleOf simple.now (chars value.now) rule) }
         ensures shown { IfOk result (λ rule. rule ≡ None → GoOn self.old.pieces self.new.pieces (TextShown simple.now (chars value.now))) }
     {
@@ -102,7 +105,7 @@ impl Content {
         let mut check = self.check_for(model, number, simple)?;
         take_characters(&mut check, simple, text)?;
         let ended = ending_of(&check, simple, &mut self.pieces);
-        self.checks.keep(number, check);
+        self.checks.keep(number, simple, check);
         ended
     }
 }

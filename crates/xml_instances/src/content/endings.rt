@@ -42,6 +42,7 @@ impl Content {
         requires { AreMade (types_of model.now) self.old }
         ensures made { AreMade (types_of model.now) self.new }
         ensures lean { IsLean self.old → IsLean self.new }
+        ensures none { self.new.text ≡ None }
         ensures kept { self.new.innermost ≡ self.old.innermost }
         ensures round { self.new.round ≡ self.old.round }
         ensures out { self.old.innermost ≡ None → IsOk result × (self.new.pieces ≡ self.old.pieces) }
@@ -64,6 +65,7 @@ impl Content {
         requires { AreMade (types_of model.now) self.old }
         ensures made { AreMade (types_of model.now) self.new }
         ensures lean { IsLean self.old → IsLean self.new }
+        ensures none { self.new.text ≡ None }
         ensures kept { self.new.innermost ≡ self.old.innermost }
         ensures round { self.new.round ≡ self.old.round }
         ensures out { self.old.innermost ≡ None → IsOk result × (self.new.pieces ≡ self.old.pieces) }

@@ -20,6 +20,7 @@ use super::{Content, OpenText};
 use crate::judge::Judge;
 use crate::opened::{Opened, Refusal};
 use crate::pieces::Pieces;
+use crate::spare::Checks;
 use crate::texts::{ending_of, take_character};
 use facets::Simple;
 use message_model::Model;
@@ -53,6 +54,7 @@ impl Content {
         requires { AreMade (types_of model.now) self.old }
         ensures made { AreMade (types_of model.now) self.new }
         ensures lean { IsLean self.old → IsLean self.new }
+        ensures none { self.new.text ≡ None }
         ensures kept { self.new.innermost ≡ self.old.innermost }
         ensures round { self.new.round ≡ self.old.round }
         ensures taken { (simple : SimpleType) (text : List ℕ) → HoldsText (message_of model.now) self.old.text simple text
@@ -67,7 +69,7 @@ impl Content {
             return Err(Refusal::Memory);
         };
         let ended = ending_of(&open.judge, simple, &mut self.pieces);
-        self.checks.keep(open.number, open.judge);
+        self.checks.keep(open.number, simple, open.judge);
         match ended {
             Ok(rule) => self.answer(model, rule, b""),
             Err(_) => Err(Refusal::Memory),
@@ -88,16 +90,14 @@ impl Content {
         ensures lean { IsLean self.old → IsLean self.new }
         ensures kept { self.new.innermost ≡ self.old.innermost }
         ensures round { self.new.round ≡ self.old.round }
+        ensures text { self.new.text ≡ self.old.text }
         ensures taken { IfOk result (λ judge. HasJudgeTaken judge.value simple.now []) }
         ensures verdict { IsLean self.old → IfOk result (λ judge. IsVerdictJudge judge.value) }
         ensures pieces { self.new.pieces ≡ self.old.pieces }
     {
         let _ = model.type_count();
         match self.checks.take(number) {
-            Some(mut judge) => {
-                judge.restart(simple);
-                Ok(judge)
-            }
+            Some(judge) => Ok(judge),
             None => fresh(self.alloc, simple, &self.pieces),
         }
     }
@@ -117,14 +117,17 @@ impl Content {
         }
     }
 
-    /// Lets go of the open text. It is for what takes no more events.
+    /// Lets go of the open text and of all judges. It is for what takes no more events.
     pub(crate) fn let_go(&mut self)
         ensures made { (types : Graph ℕ SimpleType) → AreMade types self.old → AreMade types self.new }
         ensures lean { IsLean self.old → IsLean self.new }
         ensures none { held_in self.new ≡ 0 }
+        ensures text { self.new.text ≡ None }
+        ensures checks { self.new.checks.entries.items ≡ [] }
     {
         self.innermost = None;
         self.text = None;
+        self.checks = Checks::new(self.alloc);
     }
 
     /// A text of the type is open.

@@ -11,7 +11,7 @@ ghost use Rattle.xml_instances.specs.Levels.{Level};
 ghost use Rattle.xml_instances.specs.Open.{IsOpen, AreMade, IsRuleOf, HoldsText, IsTextMade};
 ghost use Rattle.xml_instances.specs.EventFaults.{has_currency};
 ghost use Rattle.xml_instances.specs.declared.opened.Opened.TheVariants.{Text as OpenedText, Parent as OpenedParent};
-ghost use Rattle.xml_instances.specs.inner.Quick.{IsOurs, Passes, PassAll, IsTargetOf};
+ghost use Rattle.xml_instances.specs.inner.Quick.{IsOurs, Passes, PassAll, IsTargetOf, IsTypeOf};
 ghost use Rattle.xml_instances.specs.Verdicts.{IsLean};
 
 use super::attributes::is_money;
@@ -20,6 +20,7 @@ use crate::growth::make_room;
 use crate::opened::Opened;
 use crate::pieces::{Pieces, begin};
 use crate::texts::pass_leaf;
+use facets::Simple;
 use markup::TagKind;
 use message_model::{End, Model, Next};
 use std::alloc::AllocError;
@@ -94,6 +95,7 @@ impl Content {
     /// One more element stands round the next.
     #[inline(always)]
     fn push_round(&mut self, opened: Opened) -> Result<(), AllocError>
+        ensures innermost { self.new.innermost ≡ self.old.innermost }
         ensures text { self.new.text ≡ self.old.text }
         ensures checks { self.new.checks ≡ self.old.checks }
         ensures round { OnOk result (self.new.round.items ≡ self.old.round.items ++ opened ∷ []) }
@@ -180,41 +182,46 @@ impl Content {
         ensures lean { IsLean self.old → IsLean self.new }
         ensures innermost { self.new.innermost ≡ self.old.innermost }
         ensures round { self.new.round ≡ self.old.round }
+        ensures none { IfOk result (λ done. done ≡ true → self.new.text ≡ None) }
         ensures taken { (simple : SimpleType) (text : List ℕ) → HoldsText (message_of model.now) self.old.text simple text → IfOk result (λ done. done ≡ true → IsRuleOf simple text None) }
         ensures shown { (simple : SimpleType) (text : List ℕ) → HoldsText (message_of model.now) self.old.text simple text
             → IfOk result (λ done. done ≡ true → GoOn self.old.pieces self.new.pieces (TextShown simple text)) }
     {
-        let passed = pass_open(model, &self.text, &mut self.pieces)?;
-        if !passed {
+        let Some(simple) = pass_open(model, &self.text, &mut self.pieces)? else {
             return Ok(false);
-        }
+        };
         if let Some(open) = self.text.take() {
-            self.checks.keep(open.number, open.judge);
+            self.checks.keep(open.number, simple, open.judge);
         }
         Ok(true)
     }
 }
 
-/// Shows the leaf of the open text, where that is one; else nothing changes.
-fn pass_open(
-    model: &Model,
+/// Shows the leaf of the open text, where that is one, and tells its type; else nothing changes.
+fn pass_open<'a>(
+    model: &'a Model,
     text: &Option<OpenText>,
     pieces: &mut Option<Pieces>,
-) -> Result<bool, AllocError>
+) -> Result<Option<&'a Simple>, AllocError>
     requires { IsTextMade (types_of model.now) text.now }
-    ensures kept { IfOk result (λ done. done ≡ false → pieces.new ≡ pieces.old) }
+    ensures kept { IfOk result (λ told. told ≡ None → pieces.new ≡ pieces.old) }
     ensures bare { pieces.old ≡ None → pieces.new ≡ None }
-    ensures taken { (simple : SimpleType) (taken : List ℕ) → HoldsText (message_of model.now) text.now simple taken → IfOk result (λ done. done ≡ true → IsRuleOf simple taken None) }
+    ensures told { IfOk result (λ told. IfSome told (λ simple. IsTypeOf (types_of model.now) text.now simple.now)) }
+    ensures taken { (simple : SimpleType) (taken : List ℕ) → HoldsText (message_of model.now) text.now simple taken → IfOk result (λ told. IfSome told (λ _. IsRuleOf simple taken None)) }
     ensures shown { (simple : SimpleType) (taken : List ℕ) → HoldsText (message_of model.now) text.now simple taken
-        → IfOk result (λ done. done ≡ true → GoOn pieces.old pieces.new (TextShown simple taken)) }
+        → IfOk result (λ told. IfSome told (λ _. GoOn pieces.old pieces.new (TextShown simple taken))) }
 {
     let Some(open) = text else {
-        return Ok(false);
+        return Ok(None);
     };
     let Some(simple) = model.text_type(open.number) else {
-        return Ok(false);
+        return Ok(None);
     };
-    pass_leaf(&open.judge, simple, pieces)
+    if pass_leaf(&open.judge, simple, pieces)? {
+        Ok(Some(simple))
+    } else {
+        Ok(None)
+    }
 }
 
 /// The type of a slot, where its elements may be without attributes.

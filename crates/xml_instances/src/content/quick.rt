@@ -1,5 +1,5 @@
 //! Runs of characters and whole tags, held to the types of the message.
-ghost use Rattle.std.specs.Prelude.{◌≡◌, ◌++◌, ℕ, List, Some, OnOk, map, true};
+ghost use Rattle.std.specs.Prelude.{◌≡◌, ◌++◌, ℕ, List, Option, Some, None, OnOk, map, true};
 ghost use Rattle.lexical_core.specs.Tree.{Expanded, Starts, Char};
 ghost use Rattle.facets.specs.declared.simple.Simple.{Simple as SimpleType};
 ghost use Rattle.markup.specs.Literals.{IsRun};
@@ -8,10 +8,11 @@ ghost use Rattle.message_model.specs.Tables.{message_of, types_of};
 ghost use Rattle.xml_instances.specs.Levels.{Level};
 ghost use Rattle.xml_instances.specs.Built.{EventsShow, ShowsBeside, StartShown};
 ghost use Rattle.xml_instances.specs.Keeping.{GoOn, MayShowName, TagShowsBeside};
-ghost use Rattle.xml_instances.specs.Open.{IsOpen, AreMade, IsPlaced, IsItemTaken, IsTextMade, HoldsText};
+ghost use Rattle.xml_instances.specs.Open.{IsOpen, AreMade, IsPlaced, IsItemTaken, IsTextMade, IsTextInnermost, HoldsText};
 ghost use Rattle.xml_instances.specs.inner.Quick.{MayTake, IsRoomIn, IsRunTaken, AreItemsTaken, IsOurs, is_parent, start_events};
 ghost use Rattle.markup.specs.TagAttributes.{tag_entry};
 ghost use Rattle.xml_instances.specs.Verdicts.{IsLean, IsTextVerdict};
+ghost use Rattle.xml_instances.specs.declared.opened.Opened.{Opened as OpenedType};
 
 use super::{Content, OpenText, is_bare, root};
 use crate::opened::{Opened, Refusal};
@@ -191,6 +192,7 @@ impl Content {
         requires { AreMade (types_of model.now) self.old }
         ensures made { AreMade (types_of model.now) self.new }
         ensures lean { IsLean self.old → IsLean self.new }
+        ensures none { OnOk result (self.new.text ≡ None) }
         ensures taken { (ls : List (Level ℕ)) (n : Expanded) → n.local ≡ local.now → IsOurs (message_of model.now) ls n → IsOpen self.old (message_of model.now) ls
             → IsPlaced (message_of model.now) ls n self.new result }
         ensures shown { (ls : List (Level ℕ)) (n : Expanded) → n.local ≡ local.now → IsOpen self.old (message_of model.now) ls
@@ -223,6 +225,7 @@ fn open_run(
     requires run { IsRun run.now count }
     ensures made { IsTextMade (types_of model.now) text.new }
     ensures verdict { IsTextVerdict text.old → IsTextVerdict text.new }
+    ensures innermost { (innermost : Option OpenedType) → IsTextInnermost innermost text.old → IsTextInnermost innermost text.new }
     ensures taken { (r : IsRun run.now count) (simple : SimpleType) (taken : List ℕ) → HoldsText (message_of model.now) text.old simple taken
         → OnOk result (HoldsText (message_of model.now) text.new simple (taken ++ r.characters)) }
 {
