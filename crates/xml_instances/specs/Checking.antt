@@ -44,7 +44,7 @@ pub record HasFedXml (checker : XmlChecker) (T : Tables) (bytes : List ℕ) : Ty
   pub none : checker.events ≡ []
   pub sound : checker.failed ≡ None
 
--- the checker was made for the message of these tables
+-- what the checker keeps for leaves is for the types of these tables, as it is of one that was made for their message
 abbrev pub IsXmlCheckerFor : XmlChecker → Tables → Type 0
 IsXmlCheckerFor checker T = AreMade (types_of T) checker.content
 

@@ -10,7 +10,7 @@ use Rattle.xml_instances.specs.declared.reader.XmlReader.{XmlReader}
 abbrev pub HasFedReader : XmlReader → Tables → List ℕ → Type 0
 HasFedReader reader T bytes = HasFedXml reader.checker T bytes
 
--- the reader was made for the message of these tables
+-- what the reader keeps for leaves is for the types of these tables, as it is of one that was made for their message
 abbrev pub IsXmlReaderFor : XmlReader → Tables → Type 0
 IsXmlReaderFor reader T = IsXmlCheckerFor reader.checker T
 

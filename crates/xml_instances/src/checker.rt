@@ -1,5 +1,5 @@
 //! A checker of XML instances that takes their bytes in pieces.
-ghost use Rattle.std.specs.Prelude.{◌≡◌, ◌<◌, ◌+◌, ◌≤◌, ◌^◌, ◌∷◌, ◌++◌, ℕ, List, [], IfOk, OnOk, IfErr, Option, Some, None, Err, length};
+ghost use Rattle.std.specs.Prelude.{◌≡◌, ◌<◌, ◌+◌, ◌≤◌, ◌^◌, ◌∷◌, ◌++◌, ℕ, List, [], IsOk, IfOk, OnOk, IfErr, Option, Some, None, Err, length};
 ghost use Rattle.std.specs.List.{AllByRecursion};
 ghost use Rattle.facets.specs.declared.simple.Simple.{Simple as SimpleType};
 ghost use Rattle.markup.specs.Marks.{tag_limit};
@@ -76,13 +76,14 @@ fn take_all(content: &mut Content, model: &Model, events: &[Event]) -> Result<()
 }
 
 impl XmlChecker {
-    /// A checker for the message before the first byte.
+    /// A checker for the message before the first byte. It takes no memory.
     pub fn new(alloc: Global, model: &Model) -> Result<XmlChecker, AllocError>
         ensures fed { IfOk result (λ c. HasFedXml c model.now []) }
         ensures made { IfOk result (λ c. IsXmlCheckerFor c model.now) }
         ensures none { IfOk result (λ c. xml_bytes_fed c ≡ 0) }
         ensures lean { IfOk result (λ c. KeepsNoLeaf c) }
         ensures leaves { IfOk result (λ c. HoldsNoEndedLeaf c) }
+        ensures some { IsOk result }
     {
         Ok(XmlChecker {
             alloc,
@@ -100,6 +101,7 @@ impl XmlChecker {
         ensures made { IfOk result (λ c. IsXmlCheckerFor c model.now) }
         ensures none { IfOk result (λ c. xml_bytes_fed c ≡ 0) }
         ensures leaves { IfOk result (λ c. HoldsNoEndedLeaf c) }
+        ensures some { IsOk result }
     {
         let mut content = Content::new(alloc, model);
         content.keep_pieces();

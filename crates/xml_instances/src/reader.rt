@@ -1,5 +1,5 @@
 //! A reader of XML instances that takes their bytes in pieces, and keeps the pieces of the instance.
-ghost use Rattle.std.specs.Prelude.{◌≡◌, ◌+◌, ◌<◌, ◌≤◌, ◌^◌, ◌++◌, ℕ, List, [], IfOk, IfErr, Some, None, Err, length};
+ghost use Rattle.std.specs.Prelude.{◌≡◌, ◌+◌, ◌<◌, ◌≤◌, ◌^◌, ◌++◌, ℕ, List, [], IsOk, IfOk, IfErr, Some, None, Err, length};
 ghost use Rattle.markup.specs.Marks.{tag_limit};
 ghost use Rattle.message_model.specs.Tables.{Tables, message_of};
 ghost use Rattle.message_model.specs.Errors.{IsAgain};
@@ -22,12 +22,13 @@ pub struct XmlReader {
 }
 
 impl XmlReader {
-    /// A reader for the message before the first byte.
+    /// A reader for the message before the first byte. It takes no memory.
     pub fn new(alloc: Global, model: &Model) -> Result<XmlReader, AllocError>
         ensures fed { IfOk result (λ r. HasFedReader r model.now []) }
         ensures made { IfOk result (λ r. IsXmlReaderFor r model.now) }
         ensures none { IfOk result (λ r. reader_fed r ≡ 0) }
         ensures leaves { IfOk result (λ r. HoldsOpenLeafAlone r) }
+        ensures some { IsOk result }
     {
         Ok(XmlReader {
             checker: XmlChecker::with_pieces(alloc, model)?,
