@@ -3,7 +3,6 @@ ghost use Rattle.std.specs.Prelude.{◌≡◌, IfOk, map};
 ghost use Rattle.reference_check.specs.Forms.{form_slots};
 ghost use Rattle.message_model.specs.Sound.{AreSound};
 ghost use Rattle.message_model.specs.Tables.{Tables, types_of};
-ghost use Rattle.der_model.specs.Structures.{is_one};
 ghost use Rattle.asn1_model.specs.ModuleOf.{asn_name_of, mode_of, slot_identifier, field_of, fields_with, fields_of};
 ghost use Rattle.asn1_model.specs.inner.Fields.{slot_in};
 ghost use Rattle.asn1_model.specs.inner.TypeNames.{AreNames};
@@ -12,12 +11,10 @@ use crate::given::given_names;
 use crate::module::{Field, Fields, Mode, Names};
 use crate::names::identifier;
 use crate::type_names::TypeNames;
+use der_model::comes_once;
 use lexical_core::{Items, Text};
-use message_model::{Model, Slot};
+use message_model::{MOST_SLOTS, Model, Slot};
 use std::alloc::{AllocError, Global};
-
-/// No type has more slots.
-const MOST_SLOTS: u32 = 4096;
 
 /// The fields that the slots of a type are, in order.
 pub(crate) fn fields_of(
@@ -67,27 +64,17 @@ fn slot_identifier(alloc: Global, slot: &Slot<'_>) -> Result<Text, AllocError>
     ensures { IfOk result (λ name. name ≡ slot_identifier (slot_in slot.now)) }
 {
     let mut name = identifier(alloc, slot.tag)?;
-    if !is_one(slot.max) {
+    if !comes_once(slot.max) {
         name.extend_from_slice(b"-list")?;
     }
     Ok(Text::from_vec(name))
-}
-
-/// Whether there is at most one.
-fn is_one(max: Option<u32>) -> bool
-    ensures { result ≡ is_one max }
-{
-    match max {
-        None => false,
-        Some(max) => max == 1,
-    }
 }
 
 /// How often a slot comes.
 fn mode_of(slot: &Slot<'_>) -> Mode
     ensures { result ≡ mode_of (slot_in slot.now) }
 {
-    if !is_one(slot.max) {
+    if !comes_once(slot.max) {
         Mode::List {
             min: slot.min,
             max: slot.max,

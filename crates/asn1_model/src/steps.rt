@@ -1,11 +1,9 @@
 //! The facets that a simple type has in a module.
-ghost use Rattle.std.specs.Prelude.{◌≡◌, Some};
-ghost use Rattle.facets.specs.Steps.{plain_step, least_written};
+ghost use Rattle.std.specs.Prelude.{◌≡◌};
 ghost use Rattle.asn1_model.specs.ModuleOf.{sized_step, number_step, step_of};
 
 use data_types::Kind;
-use facets::{Codes, Simple, Step};
-use lexical_core::Items;
+use facets::{Simple, Step, least_written, plain_step};
 use std::alloc::Global;
 
 /// The facets that the kind has.
@@ -15,24 +13,7 @@ pub(crate) fn step_of(alloc: Global, simple: &Simple) -> Step
     match simple.kind {
         Kind::Text | Kind::Binary => sized_step(alloc, simple),
         Kind::Decimal => number_step(alloc, simple),
-        kind => plain_step(alloc, kind),
-    }
-}
-
-/// A step without facets.
-fn plain_step(alloc: Global, kind: Kind) -> Step
-    ensures { result ≡ plain_step (Some kind) }
-{
-    Step {
-        base: Some(kind),
-        total: None,
-        fraction: None,
-        low: None,
-        high: None,
-        min: None,
-        max: None,
-        codes: Codes::new(alloc),
-        patterns: Items::new(alloc),
+        kind => plain_step(alloc, Some(kind)),
     }
 }
 
@@ -40,7 +21,7 @@ fn plain_step(alloc: Global, kind: Kind) -> Step
 fn sized_step(alloc: Global, simple: &Simple) -> Step
     ensures { result ≡ sized_step simple.now }
 {
-    let mut step = plain_step(alloc, simple.kind);
+    let mut step = plain_step(alloc, Some(simple.kind));
     step.min = least_written(simple.min);
     step.max = simple.max;
     step
@@ -50,17 +31,10 @@ fn sized_step(alloc: Global, simple: &Simple) -> Step
 fn number_step(alloc: Global, simple: &Simple) -> Step
     ensures { result ≡ number_step simple.now }
 {
-    let mut step = plain_step(alloc, simple.kind);
+    let mut step = plain_step(alloc, Some(simple.kind));
     step.total = Some(simple.total);
     step.fraction = simple.fraction;
     step.low = simple.low;
     step.high = simple.high;
     step
-}
-
-/// A least length is written only above 0.
-fn least_written(least: u64) -> Option<u64>
-    ensures { result ≡ least_written least }
-{
-    if least == 0 { None } else { Some(least) }
 }

@@ -17,14 +17,10 @@ ghost use Rattle.der_codec.specs.Levels.{IsLevel, IsSpot};
 ghost use Rattle.der_codec.specs.Components.{IsFound, IsEnded, NoneDue, IsDue};
 
 use crate::level::{Level, Spot};
-use data_types::Kind;
+use der_model::{comes_once, is_constructed, simple_number};
 use der_octets::{Identifier, TagClass};
-use facets::Simple;
 use lexical_core::Rule;
-use message_model::{Form, Model};
-
-/// No component or choice has more elements.
-const MOST_SLOTS: u32 = 4096;
+use message_model::{Form, MOST_SLOTS, Model};
 
 /// What a fault adds to the path of what is open.
 #[derive(Clone, Copy, Debug)]
@@ -130,29 +126,7 @@ fn is_constructed_at(model: &Model, max: Option<u32>, target: u32) -> bool
     if !comes_once(max) {
         return true;
     }
-    is_constructed_form(model, target)
-}
-
-/// Whether the slot has a value in the place of a list.
-pub(crate) fn comes_once(max: Option<u32>) -> bool
-    ensures { result ≡ is_one max }
-{
-    match max {
-        None => false,
-        Some(most) => most == 1,
-    }
-}
-
-/// Whether a value of the type is constructed.
-fn is_constructed_form(model: &Model, number: u32) -> bool
-    ensures { result ≡ is_constructed (types_of model.now number) }
-{
-    match model.form(number) {
-        Some(Form::Sequence) => true,
-        Some(Form::Choice) => true,
-        Some(Form::Money { code: _, base: _ }) => true,
-        _ => false,
-    }
+    is_constructed(model, target)
 }
 
 /// What comes in the slot of this number, of which so many may come.
@@ -260,7 +234,7 @@ fn item(model: &Model, number: u32, id: Identifier) -> Found
     }
     if id.class != TagClass::Universal
         || id.number != universal_number(model, number)
-        || id.constructed != is_constructed_form(model, number)
+        || id.constructed != is_constructed(model, number)
     {
         return unexpected();
     }
@@ -286,24 +260,6 @@ fn universal_number(model: &Model, number: u32) -> u16
         Some(Form::Simple(simple)) => simple_number(simple),
         Some(Form::Envelope) => 12,
         _ => 16,
-    }
-}
-
-/// The number of the universal tag of a simple type: X.680 §8.4.
-fn simple_number(simple: &Simple) -> u16
-    ensures { result ≡ structures.simple_number simple.now.kind simple.now.codes }
-{
-    match simple.kind {
-        Kind::Text => {
-            if simple.codes.is_some() {
-                return 10;
-            }
-            12
-        }
-        Kind::Decimal => 9,
-        Kind::Boolean => 1,
-        Kind::Binary => 4,
-        _ => 26,
     }
 }
 

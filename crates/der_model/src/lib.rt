@@ -14,3 +14,6 @@
 #![tactic(auto)]
 
 pub mod laws;
+mod structures;
+
+pub use structures::{comes_once, is_constructed, simple_number};

@@ -7,7 +7,8 @@ ghost use Rattle.message_model.specs.Tables.{types_of};
 ghost use Rattle.der_writer.specs.inner.PieceOctets.{Before as BeforeOf, begin_octets, goes_on, head, item_head, list_head, next_slot, own_slot};
 
 use crate::heads::{context_size, head_size};
-use crate::pieces::{first_list, is_one, item_head};
+use crate::pieces::{first_list, item_head};
+use der_model::comes_once;
 use inst_pool::Edge;
 use message_model::Model;
 
@@ -48,7 +49,7 @@ pub(crate) fn begin_sizes(model: &Model, next: u64, edge: Edge, len: u64, follow
     let Some(slot) = model.slot(edge.parent, edge.slot) else {
         return Sizes { list: 0, head: 0 };
     };
-    if is_one(slot.max) {
+    if comes_once(slot.max) {
         return Sizes {
             list: 0,
             head: context_size(edge.slot, len),

@@ -4,13 +4,12 @@ ghost use Rattle.data_types.specs.Leaf.{Leaf};
 ghost use Rattle.der_octets.specs.Octets.{context};
 ghost use Rattle.message_model.specs.Tables.{types_of};
 ghost use Rattle.der_model.specs.LeafContents.{leaf_contents};
-ghost use Rattle.der_model.specs.Structures.{is_constructed, is_one, simple_number};
+ghost use Rattle.der_model.specs.Structures.{is_one};
 ghost use Rattle.der_writer.specs.inner.PieceOctets.{Before as BeforeOf, next_slot, goes_on, head, first_leaf, item_head, leaf_octets};
 ghost use Rattle.der_writer.specs.inner.Heads.{head_octets, before_view};
 
 use crate::head::Head;
-use data_types::Kind;
-use facets::Simple;
+use der_model::{comes_once, simple_number};
 use inst_pool::Edge;
 use message_model::{Form, Model};
 
@@ -29,45 +28,6 @@ pub(crate) fn next_slot(before: Before) -> u64
     match before {
         Before::Ended(edge) => edge.slot as u64 + 1,
         _ => 0,
-    }
-}
-
-/// Whether a slot with this maximum has its value in the place of a list.
-pub(crate) fn is_one(max: Option<u32>) -> bool
-    ensures { result ≡ is_one max }
-{
-    match max {
-        Some(max) => max == 1,
-        None => false,
-    }
-}
-
-/// The number of the universal tag of a simple type: X.680 §8.4.
-fn simple_number(simple: &Simple) -> u16
-    ensures number { result ≡ simple_number simple.now.kind simple.now.codes }
-    ensures short { result < 31 }
-{
-    match simple.kind {
-        Kind::Text if simple.codes.is_some() => 10,
-        Kind::Text => 12,
-        Kind::Decimal => 9,
-        Kind::Boolean => 1,
-        Kind::Binary => 4,
-        _ => 26,
-    }
-}
-
-/// Whether a value of the type is constructed.
-pub(crate) fn is_constructed(model: &Model, number: u32) -> bool
-    ensures { result ≡ is_constructed (types_of model.now number) }
-{
-    match model.form(number) {
-        Some(Form::Sequence) => true,
-        Some(Form::Choice) => true,
-        Some(Form::Simple(_)) => false,
-        Some(Form::Money { .. }) => true,
-        Some(Form::Envelope) => false,
-        None => false,
     }
 }
 
@@ -101,7 +61,7 @@ pub(crate) fn empty_head(slot: u32, max: Option<u32>) -> Option<Head>
     requires { slot < 16384 }
     ensures { head_octets result 0 ≡ (if is_one max then [] else head true (context slot) 0) }
 {
-    if is_one(max) {
+    if comes_once(max) {
         return None;
     }
     Some(Head::context(true, slot))

@@ -8,11 +8,8 @@ ghost use Rattle.der_writer.specs.inner.Heads.{before_view};
 
 use crate::heads::{head_size, push_head};
 use crate::pieces::{Before, empty_head, next_slot};
-use message_model::{Form, Model};
+use message_model::{Form, MOST_SLOTS, Model};
 use outside::{Sink, SinkError};
-
-/// No type has more slots.
-const ALL: u32 = 4096;
 
 /// Whether the type is a sequence.
 pub(crate) fn is_sequence(model: &Model, number: u32) -> bool
@@ -116,13 +113,13 @@ pub(crate) fn push_behind<O: Sink>(
     ensures { Pushes O.held O.faults O.room sink.old sink.new result (empty_slots from (drop from (sequence_slots (types_of model.now number)))) }
 {
     let _count = model.type_count();
-    if from >= ALL as u64 {
+    if from >= MOST_SLOTS as u64 {
         return Ok(());
     }
     let Some(_) = model.slot(number, from as u32) else {
         return Ok(());
     };
-    push_slots(model, number, from, ALL, sink)
+    push_slots(model, number, from, MOST_SLOTS, sink)
 }
 
 /// How many octets the slots of a sequence have from one on, in which nothing has come. Mostly there is none.
@@ -132,13 +129,13 @@ pub(crate) fn rest_size(model: &Model, number: u32, from: u64) -> u64
     ensures most { result ≤ 49152 }
 {
     let _count = model.type_count();
-    if from >= ALL as u64 {
+    if from >= MOST_SLOTS as u64 {
         return 0;
     }
     let Some(_) = model.slot(number, from as u32) else {
         return 0;
     };
-    slots_size(model, number, from, ALL)
+    slots_size(model, number, from, MOST_SLOTS)
 }
 
 /// How many octets the slots of a sequence have behind a piece, in which nothing has come.

@@ -17,9 +17,10 @@ ghost use Rattle.der_writer.specs.inner.Measuring.{before_place, octets_at};
 use crate::contents::push_leaf;
 use crate::head::Head;
 use crate::heads::{push_context, push_head};
-use crate::pieces::{first_list, is_constructed, is_one, item_head, leaf_head};
+use crate::pieces::{first_list, item_head, leaf_head};
 use crate::places::{before_at, next_at, start};
 use crate::slots::{behind_size, is_sequence, push_behind, push_slots};
+use der_model::{comes_once, is_constructed};
 use inst_pool::{Edge, Instance, Piece};
 use message_model::Model;
 use outside::{Buffer, Sink, SinkError, WriteError};
@@ -62,7 +63,7 @@ fn push_opening<O: Sink>(
     let Some(slot) = model.slot(edge.parent, edge.slot) else {
         return Ok(());
     };
-    if !is_one(slot.max) {
+    if !comes_once(slot.max) {
         return push_item(model, instance, next, edge.slot, edge.target, at, sink);
     }
     let constructed = is_constructed(model, edge.target);

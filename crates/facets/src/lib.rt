@@ -28,4 +28,4 @@ pub use leaf_check::LeafCheck;
 pub use leaf_verdict::LeafVerdict;
 pub use lengths::check_octets;
 pub use simple::{Bound, Simple};
-pub use step::{Step, Texts};
+pub use step::{Step, Texts, least_written, plain_step};

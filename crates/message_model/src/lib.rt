@@ -27,5 +27,5 @@ mod sorted_codes;
 mod tag_order;
 
 pub use fault::{Fault, InstanceError};
-pub use model::{End, Form, Model, Next, Slot};
+pub use model::{End, Form, MOST_SLOTS, Model, Next, Slot};
 pub use reference_check::ReadyError;

@@ -18,6 +18,9 @@ use repo_objects::MessageId;
 /// What the namespaces of all messages begin with.
 pub const NAMESPACE_FRONT: &[u8] = b"urn:iso:std:iso:20022:tech:xsd:";
 
+/// The most elements of a component, a choice or a message.
+pub const MOST_SLOTS: u32 = 4096;
+
 /// So many slots from the one that is due on are tried one after the other.
 const FEW_AHEAD: u32 = 6;
 

@@ -3,14 +3,11 @@ ghost use Rattle.std.specs.Prelude.{◌≤◌, IfSome};
 ghost use Rattle.message_model.specs.inner.Quick.{HasTagAt};
 ghost use Rattle.message_model.specs.Views.{slots_view};
 
-use crate::model::{SlotInfo, has_tag};
+use crate::model::{MOST_SLOTS, SlotInfo, has_tag};
 use std::alloc::{AllocError, Global};
 
 /// How many slots are as well compared one by one.
 const FEW: usize = 8;
-
-/// The most elements of a component, a choice or a message.
-const MOST_SLOTS: usize = 4096;
 
 /// The numbers of the slots of a type in the order of their tags; none of a type with few slots. What it leads to is
 /// compared with the tag, so no proof rests on the order.
@@ -24,7 +21,7 @@ impl TagOrder {
     pub(crate) fn new(alloc: Global, slots: &[SlotInfo]) -> Result<TagOrder, AllocError> {
         let mut numbers = Vec::new(alloc);
         if slots.len() > FEW {
-            put_numbers(&mut numbers, slots.len().min(MOST_SLOTS))?;
+            put_numbers(&mut numbers, slots.len().min(MOST_SLOTS as usize))?;
             numbers.sort_unstable_by(|left, right| tag_at(slots, *left).cmp(tag_at(slots, *right)));
         }
         Ok(TagOrder { numbers })

@@ -8,11 +8,8 @@ ghost use Rattle.xsd_model.specs.SchemaOf.{schema_name_of, part_of};
 use crate::names::{name_of, text_of};
 use crate::schema::{Part, Parts};
 use lexical_core::Items;
-use message_model::{Model, Slot};
+use message_model::{MOST_SLOTS, Model, Slot};
 use std::alloc::{AllocError, Global};
-
-/// No type has more slots.
-const MOST_SLOTS: u32 = 4096;
 
 /// The parts that the slots of a type are, in order.
 pub(crate) fn parts_of(alloc: Global, model: &Model, number: u32) -> Result<Parts, AllocError>

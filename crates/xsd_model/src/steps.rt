@@ -7,7 +7,7 @@ ghost use Rattle.xsd_model.specs.StepsOf.{date_steps, profile_pattern, steps_by,
 use crate::names::text_of;
 use crate::schema::Steps;
 use data_types::Kind;
-use facets::{Codes, Simple, Step, Texts};
+use facets::{Codes, Simple, Step, Texts, least_written, plain_step};
 use lexical_core::Items;
 use std::alloc::{AllocError, Global};
 
@@ -33,23 +33,6 @@ fn one_step(alloc: Global, step: Step) -> Result<Steps, AllocError>
     let mut steps = Items::new(alloc);
     steps.push(step)?;
     Ok(steps)
-}
-
-/// A step without facets.
-fn plain_step(alloc: Global, base: Option<Kind>) -> Step
-    ensures { result ≡ plain_step base }
-{
-    Step {
-        base,
-        total: None,
-        fraction: None,
-        low: None,
-        high: None,
-        min: None,
-        max: None,
-        codes: Codes::new(alloc),
-        patterns: Items::new(alloc),
-    }
 }
 
 /// The step of texts: their codes where there is a set of them, else their lengths and their pattern.
@@ -102,13 +85,6 @@ fn binary_step(alloc: Global, simple: &Simple) -> Step
     step.min = least_written(simple.min);
     step.max = simple.max;
     step
-}
-
-/// A least length is written only above 0.
-fn least_written(least: u64) -> Option<u64>
-    ensures { result ≡ least_written least }
-{
-    if least == 0 { None } else { Some(least) }
 }
 
 /// The pattern, where there is one.
