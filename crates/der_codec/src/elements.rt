@@ -16,9 +16,10 @@ ghost use Rattle.der_codec.specs.KeptPieces.{ShowsBegun, ShowsLeaf};
 ghost use Rattle.der_codec.specs.Reserved.{GrowsRoom, HoldsMore, HoldsBegun, HoldsLeafWithin};
 ghost use Rattle.der_codec.specs.inner.Elements.{edge_if, edges_of};
 
-use crate::components::{comes_once, is_choice};
+use crate::components::is_choice;
 use crate::level::{Level, Spot};
 use data_types::LeafRef;
+use der_model::comes_once;
 use inst_pool::{Builder, Edge};
 use message_model::Model;
 use std::alloc::AllocError;

@@ -9,8 +9,9 @@ ghost use Rattle.der_model.specs.Paths.{path_text};
 ghost use Rattle.der_codec.specs.Components.{added_text, slot_text};
 ghost use Rattle.der_codec.specs.inner.OpenNames.{HasNames, slot_names, form_names, alternative_names, item_names, level_names, names_over, document_names, held_text};
 
-use crate::components::{Added, comes_once};
+use crate::components::Added;
 use crate::level::{Level, Spot};
+use der_model::comes_once;
 use lexical_core::Text;
 use message_model::{Form, Model};
 use std::alloc::{AllocError, Global};

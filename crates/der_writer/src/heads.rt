@@ -104,7 +104,7 @@ fn length_size(len: u64) -> u64
 fn is_short(head: Head, len: u64) -> bool
     ensures { result ≡ true → (head.number < 31) × (len < 128) }
 {
-    is_low(head.number, len)
+    is_low(u32::from(head.number), len)
 }
 
 /// Pushes a head of one identifier octet and one length octet.
