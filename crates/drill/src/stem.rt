@@ -165,6 +165,7 @@ fn leaf_of_bytes(bytes: &[u8]) -> LeafRef<'_>
 fn hold(builder: &mut Builder, leaf: &LeafRef<'_>) -> Result<(), AllocError>
     ensures { OnOk result (builder.new.pieces ≡ builder.old.pieces ++ Holds (leaf_of leaf.now) ∷ []) }
 {
+    // Made anew in each arm: `builder.leaf(*leaf)` has no rule (docs/PROOFS.md).
     match leaf {
         LeafRef::Bytes(bytes) => builder.leaf(LeafRef::Bytes(bytes)),
         LeafRef::Number(number) => builder.leaf(LeafRef::Number(*number)),

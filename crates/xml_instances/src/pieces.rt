@@ -156,6 +156,7 @@ fn hold(builder: &mut Builder, leaf: &LeafRef<'_>) -> Result<(), AllocError>
     ensures ok { OnOk result (builder.new.pieces ≡ builder.old.pieces ++ Holds (leaf_of leaf.now) ∷ []) }
     ensures err { OnErr result (builder.new.pieces ≡ builder.old.pieces) }
 {
+    // Made anew in each arm: `builder.leaf(*leaf)` has no rule (docs/PROOFS.md).
     match leaf {
         LeafRef::Bytes(bytes) => builder.leaf(LeafRef::Bytes(bytes)),
         LeafRef::Number(number) => builder.leaf(LeafRef::Number(*number)),
