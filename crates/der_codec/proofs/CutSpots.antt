@@ -1,7 +1,10 @@
 -- What is kept of contents in values, and what is held of what is open.
-use Rattle.std.proofs.Common.{◌≡◌, ℕ, zero, suc, ◌-◌, ◌≤◌, List, [], ◌∷◌, ◌++◌, length, drop, Option, Some, None, Ok, Err, refl, sym, ap, ◌∙◌, subst, arith, append_assoc, length-append, Bor}
+use Rattle.std.proofs.Common.{◌≡◌, ℕ, zero, suc, ◌-◌, ◌≤◌, List, [], ◌∷◌, ◌++◌, length, drop, Option, Some, None, Result, Ok, Err, refl, sym, ap, ◌∙◌, subst, arith, append_assoc, length-append, Bor, encode_utf8_all}
+use Rattle.std.specs.Prelude.{IfOk}
+use Rattle.data_types.specs.Leaf.{Leaf}
 use Rattle.facets.specs.LeafChecks.{IsHeldWithin}
 use Rattle.facets.specs.declared.simple.Simple.{Simple}
+use Rattle.inst_pool.specs.Pieces.{Region}
 use Rattle.der_octets.specs.TagSteps as tags
 use Rattle.der_octets.specs.LengthSteps as lengths
 use Rattle.reference_check.specs.Forms as graph
@@ -12,13 +15,22 @@ use Rattle.message_model.specs.Views.{IsFormOf}
 use Rattle.message_model.specs.declared.model.Form.TheVariants as form
 use Rattle.der_model.specs.DerMessage.{DerMessage, der_message}
 use Rattle.der_model.specs.Faults.{IsHeldIn, BreaksIn}
+use Rattle.der_model.specs.Structures as structures
 use Rattle.der_model.specs.Structures.{Structure, Holds, LeafOf, structure, form_structure, number_structure}
 use Rattle.der_model.specs.States.{State, Start, AwaitsLength, AwaitsContents, Within}
-use Rattle.der_codec.specs.Judging.{HoldsLeaf}
+use Rattle.der_codec.specs.Judging.{HoldsLeaf, IsVerdictFor}
+use Rattle.der_codec.specs.KeptPieces.{HoldsLeafAt, GoesOnByLeaf}
+use Rattle.der_codec.specs.Levels.{IsSpot}
+use Rattle.der_codec.specs.OpenLeaves.{IsOpenUnder, HoldsAt}
 use Rattle.der_codec.specs.KeptOctets.{IsKeptUnder, IsKeptIn, IsKeptAt, IsLeafAt}
 use Rattle.der_codec.specs.Limits.{contents_limit, open_limit, leaf_come, token_come}
 use Rattle.der_codec.specs.Decoding.{Reads, IsOpenState, IsBegun, header_come}
 use Rattle.der_codec.specs.Checking.{KeepsContents}
+use Rattle.der_codec.specs.declared.checks.Refusal.{Refusal}
+use Rattle.der_codec.specs.declared.checks.Refusal.TheVariants as refused
+use Rattle.der_codec.specs.declared.held.Held.{Held}
+use Rattle.der_codec.specs.declared.held.OpenLeaf.{OpenLeaf}
+use Rattle.der_codec.specs.declared.held.OpenLeaf.TheVariants as opens
 use Rattle.der_codec.specs.declared.level.Spot.{Spot}
 use Rattle.der_codec.specs.declared.level.Spot.TheVariants as spots
 use Rattle.der_codec.specs.declared.level.Level.{Level}
@@ -43,6 +55,9 @@ same_kept m s octets within = record { held = λ more h. h; leaf = λ more leaf 
 -- nothing is kept of nothing
 pub none_held : (m : DerMessage ℕ) (spot : Spot) (kept octets : List ℕ) → kept ≡ [] → octets ≡ [] → IsKeptAt m spot kept octets
 none_held m spot kept octets e f = subst (λ z. IsKeptAt m spot z octets) (sym e) (subst (λ z. IsKeptAt m spot [] z) (sym f) (record { few = omega arith; stands = λ of is. same_kept m (structure m of) [] (held_none (contents_limit (structure m of)) 0) }))
+
+pub nothing_held : (m : DerMessage ℕ) (spot : Spot) (pieces : Option Region) (opened : Option OpenLeaf) (kept octets : List ℕ) → kept ≡ [] → opened ≡ None → octets ≡ [] → HoldsAt m spot pieces opened kept octets
+nothing_held m spot pieces opened kept octets e f g = subst (λ o. HoldsAt m spot pieces o kept octets) (sym f) (none_held m spot kept octets e g, λ alone is. g)
 
 -- what is kept under a simple type is kept of the leaf
 under_kept : (m : DerMessage ℕ) (simple : Simple) (kept octets : List ℕ) → IsKeptUnder simple kept octets → IsKeptIn m (Holds (LeafOf simple)) kept octets
@@ -73,6 +88,39 @@ held_then m spot kept octets front less k l = record {
       };
 }
 
+-- ---- what is held
+
+-- no more is held than has come
+under_few : (simple : Simple) (opened : OpenLeaf) (rest octets : List ℕ) → IsOpenUnder simple opened rest octets → length rest ≤ length octets
+under_few simple (opens.Text check) rest octets (free, t) = (let all = ap length t.octets_are in let sum = length-append (encode_utf8_all t.chars) rest in omega (arith, all, sum))
+under_few simple opens.NoText rest octets (free, none, bad) = (let size = ap length none in omega (arith, size))
+under_few simple opens.Binary rest octets (binary, none, are) = (let size = ap length none in omega (arith, size))
+
+pub held_few : (m : DerMessage ℕ) (spot : Spot) (pieces : Option Region) (opened : Option OpenLeaf) (kept octets : List ℕ) → HoldsAt m spot pieces opened kept octets → length kept ≤ length octets
+held_few m spot pieces None kept octets h = h.0.few
+held_few m spot pieces (Some opened) kept octets h = under_few h.0.simple opened kept octets h.0.under
+
+-- where pieces are kept no leaf is open
+pub none_open : (m : DerMessage ℕ) (spot : Spot) (pieces : Option Region) (region : Region) (opened : Option OpenLeaf) (kept octets : List ℕ) → pieces ≡ Some region → HoldsAt m spot pieces opened kept octets → opened ≡ None
+none_open m spot pieces region None kept octets is h = refl
+none_open m spot pieces region (Some opened) kept octets is h = absurd (let both = sym is ∙ h.1 in cc)
+
+-- what is kept in the place of octets
+pub stands_kept : (m : DerMessage ℕ) (spot : Spot) (pieces : Option Region) (opened : Option OpenLeaf) (kept octets : List ℕ) → opened ≡ None → HoldsAt m spot pieces opened kept octets → IsKeptAt m spot kept octets
+stands_kept m spot pieces opened kept octets none h = (subst (λ o. HoldsAt m spot pieces o kept octets) none h).0
+
+pub stands_leaf : (m : DerMessage ℕ) (spot : Spot) (kept octets front : List ℕ) (leaf : Leaf) → IsKeptAt m spot kept octets → HoldsLeafAt m spot (kept ++ front) leaf → HoldsLeafAt m spot (octets ++ front) leaf
+stands_leaf m spot kept octets front leaf k h = λ of at. (k.stands of at).leaf front leaf (h of at)
+
+pub stands_verdict : {T : Type 0} (m : DerMessage ℕ) (spot : Spot) (kept octets front : List ℕ) (result : Result T Refusal) → IsKeptAt m spot kept octets → IsVerdictFor m spot (kept ++ front) result → IsVerdictFor m spot (octets ++ front) result
+stands_verdict m spot kept octets front (Ok x) k h = λ of at. (k.stands of at).held front (h of at)
+stands_verdict m spot kept octets front (Err (refused.Breaks rule)) k h = λ of at. (k.stands of at).broken front rule (h of at)
+stands_verdict m spot kept octets front (Err refused.Memory) k h = tt
+
+pub stands_shown : {T : Type 0} (m : DerMessage ℕ) (spot : Spot) (kept octets front : List ℕ) (old new : Option Region) (result : Result T Refusal) → IsKeptAt m spot kept octets → IfOk result (λ _. GoesOnByLeaf m spot (kept ++ front) old new) → IfOk result (λ _. GoesOnByLeaf m spot (octets ++ front) old new)
+stands_shown m spot kept octets front old new (Ok x) k (leaf, at, goes) = (leaf, stands_leaf m spot kept octets front leaf k at, goes)
+stands_shown m spot kept octets front old new (Err refusal) k h = tt
+
 -- ---- the simple type at a spot
 
 simple_structure : (g : Graph ℕ Simple) (p : ℕ) (f : graph.Form ℕ Simple) (told : Bor Simple) → IsFormOf (Some (form.Simple told)) f → form_structure g p f ≡ Holds (LeafOf told.now)
@@ -99,20 +147,36 @@ number_leaf T p told base sound sorted is = record {
 
 -- ---- what is held of what is open
 
-pub held_open : (T : Tables) (xs : List Level) (d : Due) (start place : ℕ) (bytes kept : List ℕ) (r : Reads (der_message T) xs d start place bytes) → KeepsContents T d start bytes kept
-    → IsHeldWithin (open_limit (der_message T) r.state) (leaf_come r.state r.rest) (length kept)
-held_open T xs d start place bytes kept r keeps = by d r.state r.is_open keeps (rest_from (der_message T) xs d start place bytes r)
-  where
-    nothing : (s : State ℕ) → kept ≡ [] → IsHeldWithin (open_limit (der_message T) s) (leaf_come s r.rest) (length kept)
-    nothing s e = subst (λ z. IsHeldWithin (open_limit (der_message T) s) (leaf_come s r.rest) (length z)) (sym e) (held_none (open_limit (der_message T) s) (leaf_come s r.rest))
+held_little : (o : Option ℕ) (n held : ℕ) → held ≤ 64 → IsHeldWithin o n held
+held_little None n held few = omega (arith, few)
+held_little (Some m) n held few = omega (arith, few)
 
-    by : (d : Due) (s : State ℕ) → IsOpenState (der_message T) xs d s → KeepsContents T d start bytes kept → drop start bytes ≡ r.rest → IsHeldWithin (open_limit (der_message T) s) (leaf_come s r.rest) (length kept)
+under_little : (simple : Simple) (opened : OpenLeaf) (rest octets : List ℕ) → IsOpenUnder simple opened rest octets → length rest ≤ 3
+under_little simple (opens.Text check) rest octets (free, t) = t.few
+under_little simple opens.NoText rest octets (free, none, bad) = (let size = ap length none in omega (arith, size))
+under_little simple opens.Binary rest octets (binary, none, are) = (let size = ap length none in omega (arith, size))
+
+held_at : (m : DerMessage ℕ) (spot : Spot) (pieces : Option Region) (opened : Option OpenLeaf) (kept octets : List ℕ) (of : structures.Spot ℕ) → HoldsAt m spot pieces opened kept octets → IsSpot m.forms spot of → IsHeldWithin (contents_limit (structure m of)) (length octets) (length kept)
+held_at m spot pieces None kept octets of h at = (h.0.stands of at).within
+held_at m spot pieces (Some opened) kept octets of h at = (let few = under_little h.0.simple opened kept octets h.0.under in held_little (contents_limit (structure m of)) (length octets) (length kept) (omega (arith, few)))
+
+pub held_open : (T : Tables) (xs : List Level) (d : Due) (start place : ℕ) (bytes : List ℕ) (pieces : Option Region) (kept : Held) (r : Reads (der_message T) xs d start place bytes) → KeepsContents T d pieces start bytes kept
+    → IsHeldWithin (open_limit (der_message T) r.state) (leaf_come r.state r.rest) (length kept.octets.items)
+held_open T xs d start place bytes pieces kept r keeps = by d r.state r.is_open keeps (rest_from (der_message T) xs d start place bytes r)
+  where
+    size : ℕ
+    size = length kept.octets.items
+
+    nothing : (s : State ℕ) → kept.octets.items ≡ [] → IsHeldWithin (open_limit (der_message T) s) (leaf_come s r.rest) size
+    nothing s e = (let none = ap length e in held_little (open_limit (der_message T) s) (leaf_come s r.rest) size (omega (arith, none)))
+
+    by : (d : Due) (s : State ℕ) → IsOpenState (der_message T) xs d s → KeepsContents T d pieces start bytes kept → drop start bytes ≡ r.rest → IsHeldWithin (open_limit (der_message T) s) (leaf_come s r.rest) size
     by (due.Contents spot left) (AwaitsContents of names count ls) op k e =
-        subst (λ z. IsHeldWithin (contents_limit (structure (der_message T) of)) (length z) (length kept)) e (k.stands of op.0).within
+        subst (λ z. IsHeldWithin (contents_limit (structure (der_message T) of)) (length z) size) e (held_at (der_message T) spot pieces kept.leaf kept.octets.items (drop start bytes) of k op.0)
     by (due.Contents spot left) s op k e = absurd op
-    by (due.Tag step) s op k e = nothing s k
-    by (due.Length c spot step) s op k e = nothing s k
-    by due.Over s op k e = nothing s k
+    by (due.Tag step) s op k e = nothing s k.0
+    by (due.Length c spot step) s op k e = nothing s k.0
+    by due.Over s op k e = nothing s k.0
 
 tag_few : (come first high : ℕ) (rest : List ℕ) → tags.HasTakenTagIn come first high rest → length rest ≤ 8
 tag_few zero first high rest h = (let none = ap length h in omega (arith, none))

@@ -28,12 +28,12 @@ all_behind [] ds h = h
 all_behind (p ∷ ps) ds h = all_behind ps ds h.1
 
 -- what stands behind a run of a text is a text
-text_behind : (front rest : List ℕ) (count : ℕ) → IsXmlRun front count → IsXmlText (front ++ rest) → IsXmlText rest
+pub text_behind : (front rest : List ℕ) (count : ℕ) → IsXmlRun front count → IsXmlText (front ++ rest) → IsXmlText rest
 text_behind front rest count r (cs, all, e) =
     let b = behind r.chars cs rest (e ∙ ap (λ z. z ++ rest) r.spelled) in
     (b.0, all_behind r.chars b.0 (subst (AllByRecursion IsXmlChar) b.1 all), b.2)
 
-text_both : (front rest : List ℕ) (count : ℕ) → IsXmlRun front count → IsXmlText rest → IsXmlText (front ++ rest)
+pub text_both : (front rest : List ℕ) (count : ℕ) → IsXmlRun front count → IsXmlText rest → IsXmlText (front ++ rest)
 text_both front rest count r (ds, all, e) =
     (r.chars ++ ds, chars_joined r.chars ds r.are all, encodes-append r.chars ds ∙ (ap (λ z. encode_utf8_all r.chars ++ z) e ∙ ap (λ z. z ++ rest) (sym r.spelled)))
 

@@ -24,7 +24,7 @@ use Rattle.der_codec.specs.Components.{added_text}
 use Rattle.der_codec.specs.Decoding.{due_depth, Reads, Fails, HasReadParts, IsOpenState, IsFresh, IsFault, IsStopped, IsOver, IsOctetAwaited, IsWaiting, IsNoCut, IsRefusedAs, end_of_levels}
 use Rattle.der_codec.specs.Judging.{HoldsContents, BreaksContentsAt, IsVerdictFor}
 use Rattle.der_codec.specs.inner.OpenNames.{IsNamed}
-use Rattle.der_codec.specs.Checking.{IsReading, KeepsContents, KeepsRead, HasFedDer, TakesDerFront, StopsWithin, DerStops, IsSpelledDer, DerEndsAs, open_count, der_bytes_fed, token_held}
+use Rattle.der_codec.specs.Checking.{IsReading, KeepsContents, KeepsRead, HoldsAllOf, HasFedDer, TakesDerFront, StopsWithin, DerStops, IsSpelledDer, DerEndsAs, open_count, der_bytes_fed, token_held}
 use Rattle.der_codec.specs.declared.checks.Refusal.{Refusal}
 use Rattle.der_codec.specs.declared.checks.Refusal.TheVariants as refused
 use Rattle.der_codec.specs.declared.components.Added.TheVariants as added
@@ -33,16 +33,17 @@ use Rattle.der_codec.specs.declared.level.Level.{Level}
 use Rattle.der_codec.specs.declared.checker.DerChecker.{DerChecker}
 use Rattle.der_codec.specs.declared.components.Added.{Added}
 use Rattle.der_codec.specs.declared.decoder.Decoder.{Decoder}
+use Rattle.der_codec.specs.declared.held.Held.{Held}
 use Rattle.der_codec.specs.declared.decoder.Due.{Due}
 use Rattle.der_codec.specs.declared.decoder.Due.TheVariants as due
 use Rattle.der_codec.specs.declared.decoder.Stop.{Stop}
 use Rattle.der_codec.specs.declared.decoder.Stop.TheVariants as stop
 use Rattle.der_codec.proofs.InputEnds.{goes_on, is_spelled}
 use Rattle.der_codec.proofs.Named.{front_named}
-use Rattle.der_codec.specs.KeptOctets.{IsKeptAt}
+use Rattle.der_codec.specs.OpenLeaves.{HoldsAt, HoldsNothing}
 use Rattle.der_codec.specs.KeptPieces.{KeepsShown, HoldsLeafAt, GoesOnByLeaf, EndsLeaf}
 use Rattle.der_codec.specs.Limits.{open_limit, leaf_come, token_come}
-use Rattle.der_codec.proofs.CutSpots.{none_held, held_then, held_open, token_open}
+use Rattle.der_codec.proofs.CutSpots.{nothing_held, held_open, token_open}
 use Rattle.der_codec.proofs.ContentsSteps.{place_counts, kept_more, none_kept, rest_from, some_before, contents_break}
 use Rattle.der_codec.proofs.NoCuts.{contents_stay}
 use Rattle.der_codec.proofs.Nested.{ready_waits}
@@ -123,11 +124,11 @@ within_more T d bytes more all stop.Memory e h = tt
 
 -- ---- the reader goes on
 
-keeps_ready : (T : Tables) (d : Due) (place : ℕ) (o : Option ℕ) (start : ℕ) (bytes kept : List ℕ) → IsOctetAwaited d place o → kept ≡ [] → KeepsContents T d start bytes kept
-keeps_ready T (due.Tag step) place o start bytes kept h e = e
-keeps_ready T (due.Length c spot step) place o start bytes kept h e = e
-keeps_ready T (due.Contents spot left) place o start bytes kept h e = absurd h
-keeps_ready T due.Over place o start bytes kept h e = e
+keeps_ready : (T : Tables) (d : Due) (place : ℕ) (o : Option ℕ) (pieces : Option Region) (start : ℕ) (bytes : List ℕ) (kept : Held) → IsOctetAwaited d place o → HoldsNothing kept → KeepsContents T d pieces start bytes kept
+keeps_ready T (due.Tag step) place o pieces start bytes kept h e = e
+keeps_ready T (due.Length c spot step) place o pieces start bytes kept h e = e
+keeps_ready T (due.Contents spot left) place o pieces start bytes kept h e = absurd h
+keeps_ready T due.Over place o pieces start bytes kept h e = e
 
 pub over_ready : (d : Due) (place : ℕ) (o : Option ℕ) → IsOver d → IsOctetAwaited d place o
 over_ready due.Over place o over = tt
@@ -135,83 +136,82 @@ over_ready (due.Tag step) place o over = absurd over
 over_ready (due.Length c spot step) place o over = absurd over
 over_ready (due.Contents spot left) place o over = absurd over
 
-pub ready_reading : (T : Tables) (d : Decoder) (kept : List ℕ) (pieces : Option Region) (bytes : List ℕ) → HasReadParts (der_message T) d bytes → KeepsShown (der_message T) d pieces bytes → IsOctetAwaited d.due d.place (end_of_levels d.levels.items) → kept ≡ [] → IsReading T d kept pieces bytes
+pub ready_reading : (T : Tables) (d : Decoder) (kept : Held) (pieces : Option Region) (bytes : List ℕ) → HasReadParts (der_message T) d bytes → KeepsShown (der_message T) d pieces bytes → IsOctetAwaited d.due d.place (end_of_levels d.levels.items) → HoldsNothing kept → IsReading T d kept pieces bytes
 ready_reading T d kept pieces bytes read shows ready none = record {
   read = read;
   waits = ready_waits d.due d.place (end_of_levels d.levels.items) ready;
-  keeps = keeps_ready T d.due d.place (end_of_levels d.levels.items) d.start bytes kept ready none;
+  keeps = keeps_ready T d.due d.place (end_of_levels d.levels.items) pieces d.start bytes kept ready none;
   shows = shows;
 }
 
-pub kept_at : (T : Tables) (d : Due) (spot : Spot) (left start : ℕ) (bytes kept : List ℕ) → d ≡ due.Contents spot left → KeepsContents T d start bytes kept → IsKeptAt (der_message T) spot kept (drop start bytes)
-kept_at T d spot left start bytes kept is h = subst (λ z. KeepsContents T z start bytes kept) is h
+pub kept_at : (T : Tables) (d : Due) (pieces : Option Region) (spot : Spot) (left start : ℕ) (bytes : List ℕ) (kept : Held) → d ≡ due.Contents spot left → KeepsContents T d pieces start bytes kept → HoldsAt (der_message T) spot pieces kept.leaf kept.octets.items (drop start bytes)
+kept_at T d pieces spot left start bytes kept is h = subst (λ z. KeepsContents T z pieces start bytes kept) is h
 
-pub keep_reading : (T : Tables) (d e : Decoder) (kept less : List ℕ) (pieces : Option Region) (bytes front : List ℕ) (spot : Spot) (left : ℕ) → d.due ≡ due.Contents spot left → length front < left → IsReading T d kept pieces bytes → HasReadParts (der_message T) e (bytes ++ front)
-    → e.due ≡ due.Contents spot (left - length front) → e.start ≡ d.start → IsKeptAt (der_message T) spot less (kept ++ front) → IsReading T e less pieces (bytes ++ front)
-keep_reading T d e kept less pieces bytes front spot left is more h read now start short = record {
+-- the contents octets that have come, and what is held of them
+pub all_kept : (T : Tables) (d : Decoder) (kept : Held) (pieces : Option Region) (bytes : List ℕ) (spot : Spot) (left : ℕ) → d.due ≡ due.Contents spot left → KeepsRead T d kept pieces bytes → HoldsAllOf (der_message T) spot d kept pieces (drop d.start bytes)
+all_kept T d kept pieces bytes spot left is (r, keeps) =
+    let size = ap length (rest_from (der_message T) (inwards d.levels.items) d.due d.start d.place bytes r) in
+    let at = r.start_is in let place = r.place_is in
+    (omega (arith, size, at, place), kept_at T d.due pieces spot left d.start bytes kept is keeps)
+
+pub keep_reading : (T : Tables) (d e : Decoder) (kept less : Held) (pieces : Option Region) (bytes front : List ℕ) (spot : Spot) (left : ℕ) → d.due ≡ due.Contents spot left → length front < left → IsReading T d kept pieces bytes → HasReadParts (der_message T) e (bytes ++ front)
+    → e.due ≡ due.Contents spot (left - length front) → e.start ≡ d.start → HoldsAt (der_message T) spot pieces less.leaf less.octets.items (drop d.start bytes ++ front) → IsReading T e less pieces (bytes ++ front)
+keep_reading T d e kept less pieces bytes front spot left is more h read now start holds = record {
   read = read;
   shows = pass_shown (der_message T) d e pieces bytes front spot left is now more h.read h.shows;
   waits = subst (λ z. IsWaiting z e.place (end_of_levels e.levels.items)) (sym now) (omega (arith, more));
   keeps =
       let m = der_message T in
-      let before = kept_at T d.due spot left d.start bytes kept is h.keeps in
       let octets : drop d.start bytes ++ front ≡ drop e.start (bytes ++ front) = sym (kept_more m (inwards d.levels.items) d.due d.start d.place bytes front h.read) ∙ ap (λ z. drop z (bytes ++ front)) (sym start) in
-      subst (λ z. KeepsContents T z e.start (bytes ++ front) less) (sym now) (subst (IsKeptAt m spot less) octets (held_then m spot kept (drop d.start bytes) front less before short));
+      subst (λ z. KeepsContents T z pieces e.start (bytes ++ front) less) (sym now) (subst (HoldsAt m spot pieces less.leaf less.octets.items) octets holds);
 }
 
 -- before the first byte
-pub keeps_none : (T : Tables) (d : Due) (start : ℕ) (kept : List ℕ) → kept ≡ [] → KeepsContents T d start [] kept
-keeps_none T (due.Tag step) start kept e = e
-keeps_none T (due.Length c spot step) start kept e = e
-keeps_none T (due.Contents spot left) zero kept e = none_held (der_message T) spot kept [] e refl
-keeps_none T (due.Contents spot left) (suc start) kept e = none_held (der_message T) spot kept [] e refl
-keeps_none T due.Over start kept e = e
+pub keeps_none : (T : Tables) (d : Due) (pieces : Option Region) (start : ℕ) (kept : Held) → HoldsNothing kept → KeepsContents T d pieces start [] kept
+keeps_none T (due.Tag step) pieces start kept e = e
+keeps_none T (due.Length c spot step) pieces start kept e = e
+keeps_none T (due.Contents spot left) pieces zero kept e = nothing_held (der_message T) spot pieces kept.leaf kept.octets.items [] e.0 e.1 refl
+keeps_none T (due.Contents spot left) pieces (suc start) kept e = nothing_held (der_message T) spot pieces kept.leaf kept.octets.items [] e.0 e.1 refl
+keeps_none T due.Over pieces start kept e = e
 
 -- contents of which none has come
-pub fresh_keeps : (T : Tables) (d : Decoder) (kept bytes : List ℕ) (spot : Spot) (left : ℕ) → d.due ≡ due.Contents spot left → d.start ≡ d.place → kept ≡ [] → HasReadParts (der_message T) d bytes → KeepsContents T d.due d.start bytes kept
-fresh_keeps T d kept bytes spot left is begun none r =
-    subst (λ z. KeepsContents T z d.start bytes kept) (sym is) (none_held (der_message T) spot kept (drop d.start bytes) none (none_kept (der_message T) (inwards d.levels.items) d.due d.start d.place bytes r begun))
+pub fresh_keeps : (T : Tables) (d : Decoder) (kept : Held) (pieces : Option Region) (bytes : List ℕ) (spot : Spot) (left : ℕ) → d.due ≡ due.Contents spot left → d.start ≡ d.place → HoldsNothing kept → HasReadParts (der_message T) d bytes → KeepsContents T d.due pieces d.start bytes kept
+fresh_keeps T d kept pieces bytes spot left is begun none r =
+    subst (λ z. KeepsContents T z pieces d.start bytes kept) (sym is) (nothing_held (der_message T) spot pieces kept.leaf kept.octets.items (drop d.start bytes) none.0 none.1 (none_kept (der_message T) (inwards d.levels.items) d.due d.start d.place bytes r begun))
 
-pub fresh_reading : (T : Tables) (d : Decoder) (kept : List ℕ) (pieces : Option Region) (bytes : List ℕ) (spot : Spot) (left : ℕ) → d.due ≡ due.Contents spot left → 0 < left → d.start ≡ d.place → kept ≡ [] → HasReadParts (der_message T) d bytes → KeepsShown (der_message T) d pieces bytes → IsReading T d kept pieces bytes
+pub fresh_reading : (T : Tables) (d : Decoder) (kept : Held) (pieces : Option Region) (bytes : List ℕ) (spot : Spot) (left : ℕ) → d.due ≡ due.Contents spot left → 0 < left → d.start ≡ d.place → HoldsNothing kept → HasReadParts (der_message T) d bytes → KeepsShown (der_message T) d pieces bytes → IsReading T d kept pieces bytes
 fresh_reading T d kept pieces bytes spot left is some begun none r shows = record {
   read = r;
   shows = shows;
   waits = subst (λ z. IsWaiting z d.place (end_of_levels d.levels.items)) (sym is) some;
-  keeps = fresh_keeps T d kept bytes spot left is begun none r;
+  keeps = fresh_keeps T d kept pieces bytes spot left is begun none r;
 }
 
 -- ---- the last octets of contents
 
--- fewer octets are kept than were given
-pub kept_short : (T : Tables) (d : Decoder) (kept bytes : List ℕ) (spot : Spot) (left : ℕ) → d.due ≡ due.Contents spot left → KeepsRead T d kept bytes → length kept < d.place
-kept_short T d kept bytes spot left is (r, keeps) =
+-- fewer octets of contents have come than were given
+pub come_short : (T : Tables) (d : Decoder) (bytes : List ℕ) (spot : Spot) (left : ℕ) → d.due ≡ due.Contents spot left → HasReadParts (der_message T) d bytes → length (drop d.start bytes) < d.place
+come_short T d bytes spot left is r =
     let m = der_message T in
     let xs = inwards d.levels.items in
     let before = some_before m xs spot left d.start d.place bytes (subst (λ z. Reads m xs z d.start d.place bytes) is r) in
-    let few = (kept_at T d.due spot left d.start bytes kept is keeps).few in
     let size = ap length (rest_from m xs d.due d.start d.place bytes r) in
     let at = r.start_is in let place = r.place_is in
-    omega (arith, before, few, size, at, place)
-
-pub last_read : (T : Tables) (d : Decoder) (kept bytes front : List ℕ) (spot : Spot) (left : ℕ) → d.due ≡ due.Contents spot left → KeepsRead T d kept bytes → HoldsContents (der_message T) spot (kept ++ front) → HoldsContents (der_message T) spot (drop d.start bytes ++ front)
-last_read T d kept bytes front spot left is (r, keeps) held = λ of at. ((kept_at T d.due spot left d.start bytes kept is keeps).stands of at).held front (held of at)
-
-pub last_leaf : (T : Tables) (d : Decoder) (kept bytes front : List ℕ) (spot : Spot) (left : ℕ) (leaf : Leaf) → d.due ≡ due.Contents spot left → KeepsRead T d kept bytes → HoldsLeafAt (der_message T) spot (kept ++ front) leaf → HoldsLeafAt (der_message T) spot (drop d.start bytes ++ front) leaf
-last_leaf T d kept bytes front spot left leaf is (r, keeps) held = λ of at. ((kept_at T d.due spot left d.start bytes kept is keeps).stands of at).leaf front leaf (held of at)
+    omega (arith, before, size, at, place)
 
 -- behind the last contents octets of a leaf
-pub last_has : (T : Tables) (d j e : Decoder) (kept bytes front : List ℕ) (spot : Spot) (left : ℕ) → j ≡ d → d.due ≡ due.Contents spot left → KeepsRead T d kept bytes → length front ≡ left → HoldsContents (der_message T) spot (kept ++ front)
+pub last_has : (T : Tables) (d j e : Decoder) (bytes front : List ℕ) (spot : Spot) (left : ℕ) → j ≡ d → HasReadParts (der_message T) d bytes → length front ≡ left → HoldsContents (der_message T) spot (drop d.start bytes ++ front)
     → ((m : DerMessage ℕ) (bytes more : List ℕ) → HasReadParts m j bytes → length more ≡ left → HoldsContents m spot (drop j.start bytes ++ more) → HasReadParts m e (bytes ++ more)) → HasReadParts (der_message T) e (bytes ++ front)
-last_has T d j e kept bytes front spot left same is h size held reads =
-    reads (der_message T) bytes front (subst (λ (z : Decoder). HasReadParts (der_message T) z bytes) (sym same) h.0) size
-    (subst (λ (z : Decoder). HoldsContents (der_message T) spot (drop z.start bytes ++ front)) (sym same) (last_read T d kept bytes front spot left is h held))
+last_has T d j e bytes front spot left same r size held reads =
+    reads (der_message T) bytes front (subst (λ (z : Decoder). HasReadParts (der_message T) z bytes) (sym same) r) size
+    (subst (λ (z : Decoder). HoldsContents (der_message T) spot (drop z.start bytes ++ front)) (sym same) held)
 
-pub last_ends : (T : Tables) (d j e : Decoder) (kept : List ℕ) (old mid : Option Region) (bytes front : List ℕ) (spot : Spot) (left : ℕ) → j ≡ d → d.due ≡ due.Contents spot left → KeepsRead T d kept bytes → KeepsShown (der_message T) d old bytes
-    → length front ≡ left → HoldsContents (der_message T) spot (kept ++ front) → GoesOnByLeaf (der_message T) spot (kept ++ front) old mid → IsFresh e.due → e.levels ≡ j.levels
+pub last_ends : (T : Tables) (d j e : Decoder) (old mid : Option Region) (bytes front : List ℕ) (spot : Spot) (left : ℕ) → j ≡ d → d.due ≡ due.Contents spot left → HasReadParts (der_message T) d bytes → KeepsShown (der_message T) d old bytes
+    → length front ≡ left → HoldsContents (der_message T) spot (drop d.start bytes ++ front) → GoesOnByLeaf (der_message T) spot (drop d.start bytes ++ front) old mid → IsFresh e.due → e.levels ≡ j.levels
     → ((m : DerMessage ℕ) (bytes more : List ℕ) → HasReadParts m j bytes → length more ≡ left → HoldsContents m spot (drop j.start bytes ++ more) → HasReadParts m e (bytes ++ more)) → EndsLeaf (der_message T) e mid (bytes ++ front)
-last_ends T d j e kept old mid bytes front spot left same is h shows size held (leaf, at, goes) fresh levels reads =
-    leaf_ends (der_message T) d e old mid bytes front spot left leaf is fresh (levels ∙ ap (λ (z : Decoder). z.levels) same) size (last_leaf T d kept bytes front spot left leaf is h at) goes h.0 shows
-    (last_has T d j e kept bytes front spot left same is h size held reads)
+last_ends T d j e old mid bytes front spot left same is r shows size held (leaf, at, goes) fresh levels reads =
+    leaf_ends (der_message T) d e old mid bytes front spot left leaf is fresh (levels ∙ ap (λ (z : Decoder). z.levels) same) size at goes r shows
+    (last_has T d j e bytes front spot left same r size held reads)
 
 pub at_memory : (T : Tables) (d : Decoder) (bytes : List ℕ) (s : Stop) → s ≡ stop.Memory → StopsWithin T d bytes s
 at_memory T d bytes s is = subst (StopsWithin T d bytes) (sym is) tt
@@ -223,26 +223,25 @@ rule_stays m xs spot left start place bytes octets rule r breaks = by r.state r.
     by (AwaitsContents of names count ls) op = contents_stay m (structure m of) octets rule (breaks of op.0)
     by s op = absurd op
 
-breaks_within : (T : Tables) (d : Decoder) (kept bytes front : List ℕ) (spot : Spot) (left : ℕ) (rule : Rule) → d.due ≡ due.Contents spot left → KeepsRead T d kept bytes → length front ≡ left → BreaksContentsAt (der_message T) spot (kept ++ front) rule
+breaks_within : (T : Tables) (d : Decoder) (bytes front : List ℕ) (spot : Spot) (left : ℕ) (rule : Rule) → d.due ≡ due.Contents spot left → HasReadParts (der_message T) d bytes → length front ≡ left → BreaksContentsAt (der_message T) spot (drop d.start bytes ++ front) rule
     → StopsWithin T d (bytes ++ front) (stop.Fault rule d.start added.Nothing)
-breaks_within T d kept bytes front spot left rule is (r, keeps) size breaks =
+breaks_within T d bytes front spot left rule is r size breaks =
     let m = der_message T in
     let xs = inwards d.levels.items in
-    let reads = subst (λ z. Reads m xs z d.start d.place bytes) is r in
-    let here : BreaksContentsAt m spot (drop d.start bytes ++ front) rule = λ of at. ((kept_at T d.due spot left d.start bytes kept is keeps).stands of at).broken front rule (breaks of at) in (
+    let reads = subst (λ z. Reads m xs z d.start d.place bytes) is r in (
       bytes ++ front,
       [],
       sym (append-nil (bytes ++ front)),
-      subst (λ z. Fails m xs z (bytes ++ front) rule d.start []) (sym is) (contents_break m xs spot left d.start d.place bytes front rule reads size here),
-      rule_stays m xs spot left d.start d.place bytes (kept ++ front) rule reads breaks,
+      subst (λ z. Fails m xs z (bytes ++ front) rule d.start []) (sym is) (contents_break m xs spot left d.start d.place bytes front rule reads size breaks),
+      rule_stays m xs spot left d.start d.place bytes (drop d.start bytes ++ front) rule reads breaks,
     )
 
-pub refused_within : (T : Tables) (d e : Decoder) (kept bytes front : List ℕ) (spot : Spot) (left : ℕ) (refusal : Refusal) (s : Stop) → e ≡ d → d.due ≡ due.Contents spot left → KeepsRead T d kept bytes → length front ≡ left
-    → IsVerdictFor {T = Unit {0}} (der_message T) spot (kept ++ front) (Err refusal) → IsRefusedAs e.start refusal s → StopsWithin T e (bytes ++ front) s
-refused_within T d e kept bytes front spot left (refused.Breaks rule) s same is h size breaks told =
+pub refused_within : (T : Tables) (d e : Decoder) (bytes front : List ℕ) (spot : Spot) (left : ℕ) (refusal : Refusal) (s : Stop) → e ≡ d → d.due ≡ due.Contents spot left → HasReadParts (der_message T) d bytes → length front ≡ left
+    → IsVerdictFor {T = Unit {0}} (der_message T) spot (drop d.start bytes ++ front) (Err refusal) → IsRefusedAs e.start refusal s → StopsWithin T e (bytes ++ front) s
+refused_within T d e bytes front spot left (refused.Breaks rule) s same is h size breaks told =
     subst (λ z. StopsWithin T e (bytes ++ front) z) (sym told)
-    (subst (λ (z : Decoder). StopsWithin T z (bytes ++ front) (stop.Fault rule z.start added.Nothing)) (sym same) (breaks_within T d kept bytes front spot left rule is h size breaks))
-refused_within T d e kept bytes front spot left refused.Memory s same is h size breaks told = subst (λ z. StopsWithin T e (bytes ++ front) z) (sym told) tt
+    (subst (λ (z : Decoder). StopsWithin T z (bytes ++ front) (stop.Fault rule z.start added.Nothing)) (sym same) (breaks_within T d bytes front spot left rule is h size breaks))
+refused_within T d e bytes front spot left refused.Memory s same is h size breaks told = subst (λ z. StopsWithin T e (bytes ++ front) z) (sym told) tt
 
 -- ---- the front of a piece
 
@@ -255,10 +254,10 @@ pub fed_is : (T : Tables) (checker : DerChecker) (bytes : List ℕ) → HasFedDe
 fed_is T checker bytes h = (let d = checker.decoder in place_counts (der_message T) (inwards d.levels.items) d.due d.start d.place bytes h.reading.read)
 
 pub taken_front : (T : Tables) (old new : DerChecker) (piece front : List ℕ) (n : ℕ) → front ≡ take n piece → n ≤ length piece → der_bytes_fed old + length piece ≤ 2 ^ 40 → new.failed ≡ old.failed
-    → ((bytes : List ℕ) → HasFedDer old T bytes → IsReading T new.decoder new.kept.items new.pieces (bytes ++ front)) → TakesDerFront T old new piece (Ok n)
+    → ((bytes : List ℕ) → HasFedDer old T bytes → IsReading T new.decoder new.kept new.pieces (bytes ++ front)) → TakesDerFront T old new piece (Ok n)
 taken_front T old new piece front n is within room same go = record {
   ok = λ bytes h. record {
-    reading = subst (λ z. IsReading T new.decoder new.kept.items new.pieces (bytes ++ z)) is (go bytes h);
+    reading = subst (λ z. IsReading T new.decoder new.kept new.pieces (bytes ++ z)) is (go bytes h);
     short = (let sum = length-append bytes (take n piece) in let part = few n piece in let size = fed_is T old bytes h in omega (arith, sum, part, size, room));
     sound = same ∙ h.sound;
   };
@@ -287,13 +286,13 @@ joined (suc n) (x ∷ xs) = ap (λ z. x ∷ z) (joined n xs)
 
 -- ---- what is taken behind a byte of a header
 
-pub none_more : (T : Tables) (d : Decoder) (kept : List ℕ) (pieces : Option Region) (bytes behind : List ℕ) → IsReading T d kept pieces bytes → IsReading T d kept pieces (bytes ++ take 0 behind)
+pub none_more : (T : Tables) (d : Decoder) (kept : Held) (pieces : Option Region) (bytes behind : List ℕ) → IsReading T d kept pieces bytes → IsReading T d kept pieces (bytes ++ take 0 behind)
 none_more T d kept pieces bytes behind h = subst (IsReading T d kept pieces) (sym (append-nil bytes)) h
 
 pub further_stops : (T : Tables) (d : Decoder) (bytes front behind all : List ℕ) (s : Stop) → all ≡ front ++ behind → StopsWithin T d (bytes ++ front) s → StopsWithin T d (bytes ++ all) s
 further_stops T d bytes front behind all s is h = within_more T d (bytes ++ front) behind (bytes ++ all) s (ap (λ z. bytes ++ z) is ∙ sym (append_assoc bytes front behind)) h
 
-pub taken_further : (T : Tables) (d : Decoder) (kept : List ℕ) (pieces : Option Region) (bytes behind left : List ℕ) (n k : ℕ) → left ≡ drop n behind → IsReading T d kept pieces ((bytes ++ take n behind) ++ take k left)
+pub taken_further : (T : Tables) (d : Decoder) (kept : Held) (pieces : Option Region) (bytes behind left : List ℕ) (n k : ℕ) → left ≡ drop n behind → IsReading T d kept pieces ((bytes ++ take n behind) ++ take k left)
     → IsReading T d kept pieces (bytes ++ take (n + k) behind)
 taken_further T d kept pieces bytes behind left n k is h =
     subst (IsReading T d kept pieces) (append_assoc bytes (take n behind) (take k left) ∙ ap (λ z. bytes ++ z) (ap (λ z. take n behind ++ take k z) is ∙ sym (take-add n k behind))) h
@@ -308,12 +307,12 @@ stopped_early T d bytes behind n s stops other =
 
 -- a byte, and a front of what is behind it
 pub taken_behind : (T : Tables) (old new : DerChecker) (piece behind : List ℕ) (o n : ℕ) → piece ≡ o ∷ behind → n ≤ length behind → der_bytes_fed old + length piece ≤ 2 ^ 40 → new.failed ≡ old.failed
-    → ((bytes : List ℕ) → HasFedDer old T bytes → IsReading T new.decoder new.kept.items new.pieces ((bytes ++ o ∷ []) ++ take n behind)) → TakesDerFront T old new piece (Ok (1 + n))
+    → ((bytes : List ℕ) → HasFedDer old T bytes → IsReading T new.decoder new.kept new.pieces ((bytes ++ o ∷ []) ++ take n behind)) → TakesDerFront T old new piece (Ok (1 + n))
 taken_behind T old new piece behind o n is within room same go =
     let e : suc n ≡ 1 + n = omega arith in
     let size = ap length is in
     taken_front T old new piece (o ∷ take n behind) (1 + n) (ap (λ z. take z (o ∷ behind)) e ∙ ap (take (1 + n)) (sym is)) (omega (arith, size, within)) room same
-    (λ bytes h. subst (IsReading T new.decoder new.kept.items new.pieces) (append_assoc bytes (o ∷ []) (take n behind)) (go bytes h))
+    (λ bytes h. subst (IsReading T new.decoder new.kept new.pieces) (append_assoc bytes (o ∷ []) (take n behind)) (go bytes h))
 
 pub stopped_behind : (T : Tables) (old new : DerChecker) (piece behind : List ℕ) (o : ℕ) (s : Stop) → piece ≡ o ∷ behind → ((bytes : List ℕ) → HasFedDer old T bytes → StopsWithin T new.decoder ((bytes ++ o ∷ []) ++ behind) s) → TakesDerFront T old new piece (Err s)
 stopped_behind T old new piece behind o s is stops =
@@ -363,8 +362,8 @@ depth_is T checker bytes h = (let d = checker.decoder in depth_counts (der_messa
 
 -- ---- what is held
 
-pub scratch_is : (T : Tables) (checker : DerChecker) (bytes : List ℕ) (h : HasFedDer checker T bytes) → IsHeldWithin (open_limit (der_message T) h.reading.read.state) (leaf_come h.reading.read.state h.reading.read.rest) (length checker.kept.items)
-scratch_is T checker bytes h = (let d = checker.decoder in held_open T (inwards d.levels.items) d.due d.start d.place bytes checker.kept.items h.reading.read h.reading.keeps)
+pub scratch_is : (T : Tables) (checker : DerChecker) (bytes : List ℕ) (h : HasFedDer checker T bytes) → IsHeldWithin (open_limit (der_message T) h.reading.read.state) (leaf_come h.reading.read.state h.reading.read.rest) (length checker.kept.octets.items)
+scratch_is T checker bytes h = (let d = checker.decoder in held_open T (inwards d.levels.items) d.due d.start d.place bytes checker.pieces checker.kept h.reading.read h.reading.keeps)
 
 pub token_is : (T : Tables) (checker : DerChecker) (bytes : List ℕ) (h : HasFedDer checker T bytes) → (token_held checker ≡ token_come h.reading.read.state h.reading.read.rest) × (token_held checker ≤ 8)
 token_is T checker bytes h = (let d = checker.decoder in token_open (der_message T) (inwards d.levels.items) d.due d.start d.place bytes h.reading.read)

@@ -46,7 +46,7 @@ use Rattle.der_codec.proofs.ShownSteps.{Adds}
 
 -- ---- it is kept
 
-pub keeping_as : (T : Tables) (old new : DerChecker) → new.room ≡ old.room → vec_capacity old.decoder.levels ≤ vec_capacity new.decoder.levels → vec_capacity old.kept ≤ vec_capacity new.kept
+pub keeping_as : (T : Tables) (old new : DerChecker) → new.room ≡ old.room → vec_capacity old.decoder.levels ≤ vec_capacity new.decoder.levels → vec_capacity old.kept.octets ≤ vec_capacity new.kept.octets
     → ((bytes : ℕ) → HasChecks (types_of T) bytes old.checks → HasChecks (types_of T) bytes new.checks) → GrowsRoom old.pieces new.pieces → IsKeeping old T → IsKeeping new T
 keeping_as T old new room levels kept checks grows k = go new.pieces refl
   where

@@ -28,6 +28,8 @@ pub mod ToldAtParts
 pub mod CutTexts
 pub mod CutContents
 pub mod CutSpots
+pub mod OpenTexts
+pub mod OpenSpots
 pub mod PartsBetween
 pub mod ShownSteps
 pub mod ShownFed

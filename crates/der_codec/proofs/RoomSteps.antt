@@ -35,7 +35,8 @@ use Rattle.der_codec.specs.declared.level.Spot.{Spot}
 use Rattle.der_codec.specs.declared.level.Spot.TheVariants as spots
 use Rattle.der_codec.proofs.ContentsJudged.{holds}
 use Rattle.der_codec.proofs.ContentsSteps.{contents_clean}
-use Rattle.der_codec.proofs.Fed.{kept_at, last_leaf, joined}
+use Rattle.der_codec.proofs.CutSpots.{held_few, none_open, stands_kept, stands_leaf}
+use Rattle.der_codec.proofs.Fed.{kept_at, joined}
 use Rattle.der_codec.proofs.Inwards.{set_inwards}
 use Rattle.der_codec.proofs.Growing.{holds_first}
 use Rattle.der_codec.proofs.Keeping.{adds_enough, contents_enough, enough_less, shown_enough, behind_is}
@@ -71,18 +72,23 @@ begun_levels m xs c spot step s op = absurd op
 checks_less : (types : Graph ℕ Simple) (few many : ℕ) (c : DerChecker) → few ≤ many → HasChecks types many c.checks → HasChecks types few c.checks
 checks_less types few many c low h = λ n simple is wants. (let k = h n simple is wants in let room = k.roomy in record { check = k.check; there = k.there; roomy = omega (arith, low, room) })
 
-pub kept_enough : (T : Tables) (c : DerChecker) (spot : Spot) (left : ℕ) (bytes front : List ℕ) → c.decoder.due ≡ due.Contents spot left → length front ≤ left → KeepsRead T c.decoder c.kept.items bytes → KeepsShown (der_message T) c.decoder c.pieces bytes → HasEnough c T (bytes ++ front)
-    → length c.kept.items + length front ≤ c.room.bytes
+pub kept_enough : (T : Tables) (c : DerChecker) (spot : Spot) (left : ℕ) (bytes front : List ℕ) → c.decoder.due ≡ due.Contents spot left → length front ≤ left → KeepsRead T c.decoder c.kept c.pieces bytes → KeepsShown (der_message T) c.decoder c.pieces bytes → HasEnough c T (bytes ++ front)
+    → length c.kept.octets.items + length front ≤ c.room.bytes
 kept_enough T c spot left bytes front is few h shows e =
     let all = (contents_enough T c spot left bytes front is few h.0 shows e).0 in
-    let kept = (kept_at T c.decoder.due spot left c.decoder.start bytes c.kept.items is h.1).few in
+    let kept = held_few (der_message T) spot c.pieces c.kept.leaf c.kept.octets.items (drop c.decoder.start bytes) (kept_at T c.decoder.due c.pieces spot left c.decoder.start bytes c.kept is h.1) in
     omega (arith, all, kept)
 
 abbrev fresh_tag : TagStep
 fresh_tag = record { come = 0; first = 0; high = 0 }
 
-leaf_held : (T : Tables) (c : DerChecker) (spot : Spot) (left : ℕ) (bytes front : List ℕ) (leaf : Leaf) → c.decoder.due ≡ due.Contents spot left → length front ≡ left → KeepsRead T c.decoder c.kept.items bytes → KeepsShown (der_message T) c.decoder c.pieces bytes → HasEnough c T (bytes ++ front)
-    → HoldsLeafAt (der_message T) spot (c.kept.items ++ front) leaf → HoldMore c.pieces (Holds leaf ∷ [])
+-- a leaf whose pieces are kept is not open
+kept_closed : {front : List ℕ} (T : Tables) (c : DerChecker) (spot : Spot) (left : ℕ) (bytes : List ℕ) → c.decoder.due ≡ due.Contents spot left → KeepsRead T c.decoder c.kept c.pieces bytes → HasEnough c T front → c.kept.leaf ≡ None
+kept_closed T c spot left bytes is h e =
+    none_open (der_message T) spot c.pieces e.keeping.region c.kept.leaf c.kept.octets.items (drop c.decoder.start bytes) e.keeping.is (kept_at T c.decoder.due c.pieces spot left c.decoder.start bytes c.kept is h.1)
+
+leaf_held : (T : Tables) (c : DerChecker) (spot : Spot) (left : ℕ) (bytes front : List ℕ) (leaf : Leaf) → c.decoder.due ≡ due.Contents spot left → length front ≡ left → KeepsRead T c.decoder c.kept c.pieces bytes → KeepsShown (der_message T) c.decoder c.pieces bytes → HasEnough c T (bytes ++ front)
+    → HoldsLeafAt (der_message T) spot (c.kept.octets.items ++ front) leaf → HoldMore c.pieces (Holds leaf ∷ [])
 leaf_held T c spot left bytes front leaf is size h shows e at = hold_first c.pieces (Holds leaf ∷ []) (end_each (elements_ended m (around_of t.state))) (adds_enough T c xs xs (due.Contents spot left) (due.Tag fresh_tag) d.start d.place (d.place + left) (d.place + left) bytes (bytes ++ front) (Holds leaf ∷ end_each (elements_ended m (around_of t.state))) r t e (subst (λ z. Shows m xs z d.start d.place c.pieces bytes) is shows) (contents_close m xs xs spot left (due.Tag fresh_tag) d.start d.place (d.place + left) (d.place + left) bytes front leaf r size there t (taken_none 0 0 0 t.rest refl t.is_begun) counts).adds)
   where
     m : DerMessage ℕ
@@ -98,7 +104,7 @@ leaf_held T c spot left bytes front leaf is size h shows e at = hold_first c.pie
     r = subst (λ z. Reads m xs z d.start d.place bytes) is h.0
 
     there : HoldsLeafAt m spot (drop d.start bytes ++ front) leaf
-    there = last_leaf T d c.kept.items bytes front spot left leaf is h at
+    there = stands_leaf m spot c.kept.octets.items (drop d.start bytes) front leaf (stands_kept m spot c.pieces c.kept.leaf c.kept.octets.items (drop d.start bytes) (kept_closed T c spot left bytes is h e) (kept_at T d.due c.pieces spot left d.start bytes c.kept is h.1)) at
 
     t : Reads m xs (due.Tag fresh_tag) (d.place + left) (d.place + left) (bytes ++ front)
     t = contents_clean m xs spot left fresh_tag d.start d.place bytes front r size (λ of is. holds m (structure m of) (drop d.start bytes ++ front) leaf (there of is)) refl
@@ -106,15 +112,16 @@ leaf_held T c spot left bytes front leaf is size h shows e at = hold_first c.pie
     counts : suc (open_count t.state) ≡ open_count r.state
     counts = (let a = open_length m xs (due.Contents spot left) r.state r.is_open in let b = open_length m xs (due.Tag fresh_tag) t.state t.is_open in omega (arith, a, b))
 
-pub whole_enough : (T : Tables) (c : DerChecker) (spot : Spot) (left : ℕ) (bytes front : List ℕ) → c.decoder.due ≡ due.Contents spot left → length front ≡ left → KeepsRead T c.decoder c.kept.items bytes → KeepsShown (der_message T) c.decoder c.pieces bytes → HasEnough c T (bytes ++ front)
+pub whole_enough : (T : Tables) (c : DerChecker) (spot : Spot) (left : ℕ) (bytes front : List ℕ) → c.decoder.due ≡ due.Contents spot left → length front ≡ left → KeepsRead T c.decoder c.kept c.pieces bytes → KeepsShown (der_message T) c.decoder c.pieces bytes → HasEnough c T (bytes ++ front)
     → HoldsWhole c T spot front
 whole_enough T c spot left bytes front is size h shows e =
     let all = contents_enough T c spot left bytes front is (omega (arith, size)) h.0 shows e in
     let few = kept_enough T c spot left bytes front is (omega (arith, size)) h shows e in
     let octets = e.keeping.reserved.octets in
     record {
+      opened = kept_closed T c spot left bytes is h e;
       plain = e.shows.plain;
-      checks = checks_less (types_of T) (length c.kept.items + length front) c.room.bytes c few (e.keeping.reserved.checks all.2);
+      checks = checks_less (types_of T) (length c.kept.octets.items + length front) c.room.bytes c few (e.keeping.reserved.checks all.2);
       room = omega (arith, few, octets);
       primitive = all.1;
       leaf = λ leaf at. leaf_held T c spot left bytes front leaf is size h shows e at;

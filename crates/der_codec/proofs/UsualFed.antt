@@ -30,8 +30,8 @@ none_shown m d kept bytes none = subst (λ z. KeepsShown m d z bytes) (sym none)
 pub fed_as : (T : Tables) (old new : DerChecker) (bytes : List ℕ) → new.decoder ≡ old.decoder → new.kept ≡ old.kept → new.pieces ≡ old.pieces → new.failed ≡ old.failed → HasFedDer old T bytes → HasFedDer new T bytes
 fed_as T old new bytes decoder kept pieces failed h = record {
   reading =
-      subst (λ z. IsReading T new.decoder new.kept.items z bytes) (sym pieces)
-      (subst (λ (z : Vec ℕ). IsReading T new.decoder z.items old.pieces bytes) (sym kept) (subst (λ (z : Decoder). IsReading T z old.kept.items old.pieces bytes) (sym decoder) h.reading));
+      subst (λ z. IsReading T new.decoder new.kept z bytes) (sym pieces)
+      (subst (λ z. IsReading T new.decoder z old.pieces bytes) (sym kept) (subst (λ (z : Decoder). IsReading T z old.kept old.pieces bytes) (sym decoder) h.reading));
   short = h.short;
   sound = failed ∙ h.sound;
 }
@@ -57,7 +57,7 @@ none_front T same piece = none_front_as T same same piece (λ bytes h. h)
 -- so many bytes are taken, and the values end behind them
 pub usual_taken : (T : Tables) (old mid new : DerChecker) (piece : List ℕ) (n : ℕ) → n ≤ length piece → der_bytes_fed old + length piece ≤ 2 ^ 40 → mid.failed ≡ old.failed → new.failed ≡ mid.failed
     → ((bytes : List ℕ) → HasReadParts (der_message T) old.decoder bytes → HasReadParts (der_message T) mid.decoder (bytes ++ take n piece)) → mid.pieces ≡ None
-    → ((bytes : List ℕ) → HasReadParts (der_message T) mid.decoder bytes → KeepsShown (der_message T) mid.decoder mid.pieces bytes → IsReading T new.decoder new.kept.items new.pieces bytes) → TakesDerFront T old new piece (Ok n)
+    → ((bytes : List ℕ) → HasReadParts (der_message T) mid.decoder bytes → KeepsShown (der_message T) mid.decoder mid.pieces bytes → IsReading T new.decoder new.kept new.pieces bytes) → TakesDerFront T old new piece (Ok n)
 usual_taken T old mid new piece n within room same then read none go =
     taken_front T old new piece (take n piece) n refl within room (then ∙ same)
     (λ bytes h. let bytes2 = bytes ++ take n piece in go bytes2 (read bytes h.reading.read) (none_shown (der_message T) mid.decoder mid.pieces bytes2 none))

@@ -6,13 +6,16 @@ use Rattle.der_model.specs.DerMessage.{DerMessage, der_message}
 use Rattle.der_model.specs.ShownPieces.{PartsShow}
 use Rattle.der_model.specs.States.{Start}
 use Rattle.der_codec.specs.Checked.{CheckTypes}
-use Rattle.der_codec.specs.Checking.{HasFedDer, IsDerCheckerFor, IsFreed, IsReading, KeepsContents}
+use Rattle.der_codec.specs.Checking.{HasFedDer, IsDerCheckerFor, IsFreed, IsReading, KeepsContents, KeepsOctets}
 use Rattle.der_codec.specs.Decoding.{Reads, IsWaiting, end_of_levels, header_come}
 use Rattle.der_codec.specs.KeptPieces.{Shows}
 use Rattle.der_codec.specs.Levels.{inwards}
 use Rattle.der_codec.specs.Reserved.{HasSamePieces, IsWidened}
 use Rattle.der_codec.specs.declared.checker.DerChecker.{DerChecker}
 use Rattle.der_codec.specs.declared.decoder.Due.{Due}
+use Rattle.der_codec.specs.declared.decoder.Due.TheVariants as due
+use Rattle.der_codec.specs.declared.held.Held.{Held}
+use Rattle.der_codec.specs.declared.held.OpenLeaf.{OpenLeaf}
 use Rattle.der_codec.specs.declared.level.Level.{Level}
 
 -- what holds of the open levels, of what is due and of both places
@@ -34,15 +37,32 @@ none_same None (Some b) same e = absurd same
 none_same (Some a) None same e = refl
 none_same (Some a) (Some b) same e = absurd (cc)
 
+same_none : (old new : Option Region) → HasSamePieces old new → new ≡ None → old ≡ None
+same_none None new same e = refl
+same_none (Some a) None same e = absurd same
+same_none (Some a) (Some b) same e = absurd (cc)
+
+keeps_same : (T : Tables) (d : Due) (old new : Option Region) (start : ℕ) (bytes : List ℕ) (before after : Held) → after.octets.items ≡ before.octets.items → after.leaf ≡ before.leaf → HasSamePieces old new
+    → KeepsContents T d old start bytes before → KeepsContents T d new start bytes after
+keeps_same T d old new start bytes before after octets opened same h =
+    subst (λ z. KeepsOctets T d new start bytes after.leaf z) (sym octets) (subst (λ z. KeepsOctets T d new start bytes z before.octets.items) (sym opened) (by d before.leaf h))
+  where
+    by : (d : Due) (o : Option OpenLeaf) → KeepsOctets T d old start bytes o before.octets.items → KeepsOctets T d new start bytes o before.octets.items
+    by (due.Contents spot left) None h = (h.0, λ none. h.1 (same_none old new same none))
+    by (due.Contents spot left) (Some leaf) h = (h.0, none_same old new same h.1)
+    by (due.Tag step) o h = h
+    by (due.Length c spot step) o h = h
+    by due.Over o h = h
+
 pub widened_fed : (T : Tables) (old new : DerChecker) → IsWidened old new → (bytes : List ℕ) → HasFedDer old T bytes → HasFedDer new T bytes
 widened_fed T old new w bytes h =
     let m = der_message T in
     let g = h.reading in
     let e = new.decoder in
-    let reading : IsReading T e new.kept.items new.pieces bytes = record {
+    let reading : IsReading T e new.kept new.pieces bytes = record {
       read = as_before (λ xs a s p. Reads m (inwards xs) a s p bytes) old new w g.read;
       waits = as_before (λ xs a s p. IsWaiting a p (end_of_levels xs)) old new w g.waits;
-      keeps = subst (KeepsContents T e.due e.start bytes) (sym w.kept) (as_before (λ xs a s p. KeepsContents T a s bytes old.kept.items) old new w g.keeps);
+      keeps = keeps_same T e.due old.pieces new.pieces e.start bytes old.kept new.kept w.kept w.opened w.pieces (as_before (λ xs a s p. KeepsContents T a old.pieces s bytes old.kept) old new w g.keeps);
       shows = shows_same m (inwards e.levels.items) e.due e.start e.place bytes old.pieces new.pieces w.pieces (as_before (λ xs a s p. Shows m (inwards xs) a s p old.pieces bytes) old new w g.shows);
     } in
     record { reading = reading; short = h.short; sound = w.failed ∙ h.sound }
@@ -57,6 +77,7 @@ widened_made T old new w checks h = record {
     widened_freed : IsFreed old → IsFreed new
     widened_freed f = record {
       leaf = ap length w.kept ∙ f.leaf;
+      opened = w.opened ∙ f.opened;
       header = as_before (λ xs a s p. header_come a s p ≡ 0) old new w f.header;
       values = w.levels ∙ f.values;
       pieces = none_same old.pieces new.pieces w.pieces f.pieces;

@@ -1,5 +1,5 @@
 -- What a checker of DER was given, and what it answers.
-use Rattle.std.specs.Prelude.{◌≡◌, ◌≢◌, ℕ, suc, ◌≤◌, ◌^◌, List, [], ◌++◌, length, take, drop, IfOk, IfErr, Option, Some, None, Result}
+use Rattle.std.specs.Prelude.{◌≡◌, ◌≢◌, ℕ, suc, ◌+◌, ◌≤◌, ◌^◌, List, [], ◌++◌, length, take, drop, IfOk, IfErr, Option, Some, None, Result}
 use Rattle.lexical_core.specs.declared.rule.Rule.TheVariants.{DerTruncated}
 use Rattle.data_types.specs.Value.{Value}
 use Rattle.inst_pool.specs.Pieces.{Region}
@@ -7,13 +7,13 @@ use Rattle.message_model.specs.Tables.{Tables, types_of}
 use Rattle.message_model.specs.declared.fault.Fault.{Fault as Told}
 use Rattle.message_model.specs.declared.fault.InstanceError.{InstanceError}
 use Rattle.message_model.specs.declared.fault.InstanceError.TheVariants.{Refused, Memory}
-use Rattle.der_model.specs.DerMessage.{der_message}
+use Rattle.der_model.specs.DerMessage.{DerMessage, der_message}
 use Rattle.der_model.specs.Der.{SpellsDer}
 use Rattle.der_model.specs.Faults.{FaultInDer, DerFault}
 use Rattle.der_model.specs.States.{State, Start, AwaitsLength, AwaitsContents, Within}
 use Rattle.der_codec.specs.Checked.{CheckTypes}
 use Rattle.der_codec.specs.Components.{added_text}
-use Rattle.der_codec.specs.KeptOctets.{IsKeptAt}
+use Rattle.der_codec.specs.OpenLeaves.{HoldsAt}
 use Rattle.der_codec.specs.KeptPieces.{KeepsShown}
 use Rattle.der_codec.specs.Decoding.{HasReadParts, header_come, IsFault, IsWaiting, end_of_levels}
 use Rattle.der_codec.specs.declared.decoder.Decoder.{Decoder}
@@ -22,11 +22,21 @@ use Rattle.der_codec.specs.declared.decoder.Due.TheVariants as due
 use Rattle.der_codec.specs.declared.decoder.Stop.{Stop}
 use Rattle.der_codec.specs.declared.decoder.Stop.TheVariants as stop
 use Rattle.der_codec.specs.declared.checker.DerChecker.{DerChecker}
+use Rattle.der_codec.specs.declared.held.Held.{Held}
+use Rattle.der_codec.specs.declared.held.OpenLeaf.{OpenLeaf}
+use Rattle.der_codec.specs.declared.level.Spot.{Spot}
 
--- of contents that are due octets are kept that stand for those that have come
-abbrev pub KeepsContents : Tables → Due → ℕ → List ℕ → List ℕ → Type 0
-KeepsContents T (due.Contents spot left) start bytes kept = IsKeptAt (der_message T) spot kept (drop start bytes)
-KeepsContents T d start bytes kept = kept ≡ []
+-- of contents that are due is held what tells what those are that have come
+abbrev pub KeepsOctets : Tables → Due → Option Region → ℕ → List ℕ → Option OpenLeaf → List ℕ → Type 0
+KeepsOctets T (due.Contents spot left) pieces start bytes opened kept = HoldsAt (der_message T) spot pieces opened kept (drop start bytes)
+KeepsOctets T d pieces start bytes opened kept = (kept ≡ []) × (opened ≡ None)
+
+abbrev pub KeepsContents : Tables → Due → Option Region → ℕ → List ℕ → Held → Type 0
+KeepsContents T d pieces start bytes kept = KeepsOctets T d pieces start bytes kept.leaf kept.octets.items
+
+-- these contents octets have come at the spot, and that is held of them
+abbrev pub HoldsAllOf : DerMessage ℕ → Spot → Decoder → Held → Option Region → List ℕ → Type 0
+HoldsAllOf m spot d kept pieces octets = (d.place ≡ d.start + length octets) × HoldsAt m spot pieces kept.leaf kept.octets.items octets
 
 -- no contents are due
 abbrev pub IsNoContents : Due → Type 0
@@ -34,19 +44,19 @@ IsNoContents (due.Contents spot left) = ⊥
 IsNoContents d = Unit {0}
 
 -- the reader was given these bytes, and keeps what has come of contents
-abbrev pub KeepsRead : Tables → Decoder → List ℕ → List ℕ → Type 0
-KeepsRead T d kept bytes = HasReadParts (der_message T) d bytes × KeepsContents T d.due d.start bytes kept
+abbrev pub KeepsRead : Tables → Decoder → Held → Option Region → List ℕ → Type 0
+KeepsRead T d kept pieces bytes = HasReadParts (der_message T) d bytes × KeepsContents T d.due pieces d.start bytes kept
 
 -- The reader goes on: it was given these bytes, which break nothing so far.
-pub record IsReading (T : Tables) (d : Decoder) (kept : List ℕ) (pieces : Option Region) (bytes : List ℕ) : Type 0 where
+pub record IsReading (T : Tables) (d : Decoder) (kept : Held) (pieces : Option Region) (bytes : List ℕ) : Type 0 where
   pub read : HasReadParts (der_message T) d bytes
   pub waits : IsWaiting d.due d.place (end_of_levels d.levels.items)
-  pub keeps : KeepsContents T d.due d.start bytes kept
+  pub keeps : KeepsContents T d.due pieces d.start bytes kept
   pub shows : KeepsShown (der_message T) d pieces bytes
 
 -- the checker goes on: it was given these bytes, 2^40 at most, which break nothing so far
 pub record HasFedDer (checker : DerChecker) (T : Tables) (bytes : List ℕ) : Type 0 where
-  pub reading : IsReading T checker.decoder checker.kept.items checker.pieces bytes
+  pub reading : IsReading T checker.decoder checker.kept checker.pieces bytes
   pub short : length bytes ≤ 2 ^ 40
   pub sound : checker.failed ≡ None
 
@@ -56,7 +66,7 @@ der_bytes_fed checker = checker.decoder.place
 
 -- how many octets it keeps of the contents that are due
 abbrev pub held_contents : DerChecker → ℕ
-held_contents checker = length checker.kept.items
+held_contents checker = length checker.kept.octets.items
 
 -- how many octets of a header have come, where more of them are due
 abbrev pub token_held : DerChecker → ℕ
@@ -66,9 +76,10 @@ token_held checker = header_come checker.decoder.due checker.decoder.start check
 abbrev pub der_failure : DerChecker → Option InstanceError
 der_failure checker = checker.failed
 
--- no octets are held, no value is open, and no piece is kept
+-- no octets are held, no leaf and no value is open, and no piece is kept
 pub record IsFreed (checker : DerChecker) : Type 0 where
   pub leaf : held_contents checker ≡ 0
+  pub opened : checker.kept.leaf ≡ None
   pub header : token_held checker ≡ 0
   pub values : checker.decoder.levels.items ≡ []
   pub pieces : checker.pieces ≡ None

@@ -6,6 +6,7 @@ pub mod Rooms
 pub mod Judging
 pub mod Limits
 pub mod KeptOctets
+pub mod OpenLeaves
 pub mod KeptPieces
 pub mod Reserved
 pub mod Checking

@@ -63,7 +63,7 @@ pub record AreReserved (types : Graph ℕ Simple) (reserved : Room) (levels : Ve
 pub record IsKeeping (checker : DerChecker) (T : Tables) : Type 0 where
   pub region : Region
   pub is : checker.pieces ≡ Some region
-  pub reserved : AreReserved (types_of T) checker.room checker.decoder.levels checker.kept checker.checks region
+  pub reserved : AreReserved (types_of T) checker.room checker.decoder.levels checker.kept.octets checker.checks region
 
 -- what grows has this room
 abbrev pub HoldsRoom : DerChecker → Tables → Room → Type 0
@@ -86,7 +86,8 @@ pub record IsWidened (old new : DerChecker) : Type 0 where
   pub start : new.decoder.start ≡ old.decoder.start
   pub due : new.decoder.due ≡ old.decoder.due
   pub levels : new.decoder.levels.items ≡ old.decoder.levels.items
-  pub kept : new.kept.items ≡ old.kept.items
+  pub kept : new.kept.octets.items ≡ old.kept.octets.items
+  pub opened : new.kept.leaf ≡ old.kept.leaf
   pub pieces : HasSamePieces old.pieces new.pieces
   pub failed : new.failed ≡ old.failed
 
@@ -140,8 +141,9 @@ IsPrimitiveAt T spot = (of : structures.Spot ℕ) × IsSpot (types_of T) spot of
 
 -- The octets that are kept and these are contents at the spot, for which there is room, as for their leaf.
 pub record HoldsWhole (checker : DerChecker) (T : Tables) (spot : Spot) (front : List ℕ) : Type 0 where
+  pub opened : checker.kept.leaf ≡ None
   pub plain : HasNoEnvelopes (types_of T)
-  pub checks : HasChecks (types_of T) (length checker.kept.items + length front) checker.checks
-  pub room : length checker.kept.items + length front ≤ vec_capacity checker.kept
+  pub checks : HasChecks (types_of T) (length checker.kept.octets.items + length front) checker.checks
+  pub room : length checker.kept.octets.items + length front ≤ vec_capacity checker.kept.octets
   pub primitive : IsPrimitiveAt T spot
-  pub leaf : (leaf : Leaf) → HoldsLeafAt (der_message T) spot (checker.kept.items ++ front) leaf → HoldMore checker.pieces (Holds leaf ∷ [])
+  pub leaf : (leaf : Leaf) → HoldsLeafAt (der_message T) spot (checker.kept.octets.items ++ front) leaf → HoldMore checker.pieces (Holds leaf ∷ [])

@@ -10,12 +10,14 @@ ghost use Rattle.der_codec.specs.ReadInstances.{IsSpelledDerAs};
 ghost use Rattle.der_codec.specs.Decoding.{HasReadParts, IsStopped, IsSettled, IsFresh, BeginsContents, IsHeaderDue, end_of_levels};
 ghost use Rattle.der_codec.specs.KeptPieces.{KeepsShown, AreNone};
 ghost use Rattle.der_codec.specs.Reserved.{IsKeeping, HasEnough};
+ghost use Rattle.der_codec.specs.OpenLeaves.{HoldsNothing};
 ghost use Rattle.der_codec.specs.Limits.{open_limit, leaf_come, token_come};
 ghost use Rattle.der_codec.specs.Checking.{HasFedDer, IsReading, IsDerCheckerFor, StopsWithin, TakesDerFront, DerStops, HaveDerFault, IsSpelledDer, DerEndsAs, IsFreed, open_count, der_bytes_fed, der_failure, held_contents, token_held};
 
 use crate::checks::Checks;
 use crate::decoder::{Decoder, Due, Stop};
 use crate::envelopes::fragments_apart;
+use crate::held::Held;
 use crate::room::Room;
 use inst_pool::{Builder, Instance};
 use message_model::{Fault, InstanceError, Model};
@@ -27,8 +29,8 @@ use std::alloc::{AllocError, Global};
 pub struct DerChecker {
     pub(crate) alloc: Global,
     pub(crate) decoder: Decoder,
-    /// Of the contents octets that have come, where more of them are due, as many as tell what they are.
-    pub(crate) kept: Vec<u8>,
+    /// What is held of the contents octets that have come, where more of them are due.
+    pub(crate) kept: Held,
     pub(crate) checks: Checks,
     /// The pieces of what has come, where they are kept.
     pub(crate) pieces: Option<Builder>,
@@ -71,7 +73,7 @@ impl DerChecker {
         DerChecker {
             alloc,
             decoder: Decoder::new(alloc),
-            kept: Vec::new(alloc),
+            kept: Held::new(alloc),
             checks: Checks::new(alloc),
             pieces,
             room: Room {
@@ -98,7 +100,7 @@ impl DerChecker {
         ensures bound { (T : Tables) (bytes : List ℕ) (h : HasFedDer self.now T bytes)
             → IsHeldWithin (open_limit (der_message T) h.reading.read.state) (leaf_come h.reading.read.state h.reading.read.rest) result }
     {
-        self.kept.len() as u64
+        self.kept.octets.len() as u64
     }
 
     /// How many bytes are held of identifier or length octets, where more of them are due: eight at most, and none
@@ -169,7 +171,7 @@ impl DerChecker {
         ensures freed { IsFreed self.new }
         ensures checks { self.new.checks ≡ self.old.checks }
     {
-        self.kept = Vec::new(self.alloc);
+        self.kept = Held::new(self.alloc);
         self.decoder = Decoder::new(self.alloc);
         self.pieces = None;
     }
@@ -321,13 +323,13 @@ impl DerChecker {
         requires room { der_bytes_fed self.old + length behind.now ≤ 2 ^ 40 }
         requires settled { IsSettled self.old.decoder.due self.old.decoder.place (end_of_levels self.old.decoder.levels.items) }
         requires begun { BeginsContents self.old.decoder.due self.old.decoder.start self.old.decoder.place }
-        requires kept { self.old.kept.items ≡ [] }
+        requires kept { HoldsNothing self.old.kept }
         requires checks { CheckTypes (types_of model.now) self.old.checks }
         requires given { (bytes : List ℕ) × HasReadParts (der_message model.now) self.old.decoder bytes × KeepsShown (der_message model.now) self.old.decoder self.old.pieces bytes }
         ensures checks { CheckTypes (types_of model.now) self.new.checks }
         ensures sound { self.new.failed ≡ self.old.failed }
         ensures within { IfOk result (λ n. n ≤ length behind.now) }
-        ensures ok { (bytes : List ℕ) → HasReadParts (der_message model.now) self.old.decoder bytes → KeepsShown (der_message model.now) self.old.decoder self.old.pieces bytes → IfOk result (λ n. IsReading model.now self.new.decoder self.new.kept.items self.new.pieces (bytes ++ take n behind.now)) }
+        ensures ok { (bytes : List ℕ) → HasReadParts (der_message model.now) self.old.decoder bytes → KeepsShown (der_message model.now) self.old.decoder self.old.pieces bytes → IfOk result (λ n. IsReading model.now self.new.decoder self.new.kept self.new.pieces (bytes ++ take n behind.now)) }
         ensures err { (bytes : List ℕ) → HasReadParts (der_message model.now) self.old.decoder bytes → IfErr result (λ stop. StopsWithin model.now self.new.decoder (bytes ++ behind.now) stop) }
         ensures keeps { IsKeeping self.old model.now → IsKeeping self.new model.now }
         ensures same { self.new.room ≡ self.old.room }
@@ -351,14 +353,14 @@ impl DerChecker {
     fn settle(&mut self, model: &Model, behind: &[u8]) -> Result<usize, Stop>
         requires settled { IsSettled self.old.decoder.due self.old.decoder.place (end_of_levels self.old.decoder.levels.items) }
         requires begun { BeginsContents self.old.decoder.due self.old.decoder.start self.old.decoder.place }
-        requires kept { self.old.kept.items ≡ [] }
+        requires kept { HoldsNothing self.old.kept }
         requires checks { CheckTypes (types_of model.now) self.old.checks }
         requires room { der_bytes_fed self.old + length behind.now ≤ 2 ^ 40 }
         requires given { (bytes : List ℕ) × HasReadParts (der_message model.now) self.old.decoder bytes × KeepsShown (der_message model.now) self.old.decoder self.old.pieces bytes }
         ensures checks { CheckTypes (types_of model.now) self.new.checks }
         ensures sound { self.new.failed ≡ self.old.failed }
         ensures within { IfOk result (λ n. n ≤ length behind.now) }
-        ensures ok { (bytes : List ℕ) → HasReadParts (der_message model.now) self.old.decoder bytes → KeepsShown (der_message model.now) self.old.decoder self.old.pieces bytes → IfOk result (λ n. IsReading model.now self.new.decoder self.new.kept.items self.new.pieces (bytes ++ take n behind.now)) }
+        ensures ok { (bytes : List ℕ) → HasReadParts (der_message model.now) self.old.decoder bytes → KeepsShown (der_message model.now) self.old.decoder self.old.pieces bytes → IfOk result (λ n. IsReading model.now self.new.decoder self.new.kept self.new.pieces (bytes ++ take n behind.now)) }
         ensures err { (bytes : List ℕ) → HasReadParts (der_message model.now) self.old.decoder bytes → IfErr result (λ stop. StopsWithin model.now self.new.decoder (bytes ++ behind.now) stop) }
         ensures keeps { IsKeeping self.old model.now → IsKeeping self.new model.now }
         ensures same { self.new.room ≡ self.old.room }

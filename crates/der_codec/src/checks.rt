@@ -1,5 +1,5 @@
 //! Checks of leaves that are kept for the next leaf of their type.
-ghost use Rattle.std.specs.Prelude.{◌≡◌, ◌+◌, ◌<◌, ◌≤◌, [], ℕ, length, true, Some, None, IsOk, IfOk, OnOk, IsErrOf, IsFalse};
+ghost use Rattle.std.specs.Prelude.{◌≡◌, ◌+◌, ◌<◌, ◌≤◌, [], ℕ, List, length, true, Some, None, IsOk, IfOk, OnOk, IsErrOf, IsFalse};
 ghost use Rattle.std.specs.Option.{is_some};
 ghost use Rattle.lexical_core.specs.XmlRuns.{IsXmlRun};
 ghost use Rattle.facets.specs.declared.simple.Simple.{Simple as SimpleType};
@@ -96,6 +96,44 @@ impl Checks {
             Err(_) => return Err(Refusal::Memory),
         };
         let result = told_by(&mut check, simple, run, count);
+        self.keep(number, check);
+        result
+    }
+
+    /// The check of the simple type, which is that of this number, before the first character. It is no longer kept here.
+    pub(crate) fn begin(
+        &mut self,
+        number: u32,
+        simple: &Simple,
+    ) -> Result<Box<LeafVerdict>, AllocError>
+        requires limits { IsWithinLimits simple.now }
+        requires made { (types : Graph ℕ SimpleType) × (text_type (types number) ≡ Some simple.now) × CheckTypes types self.old }
+        ensures made { (types : Graph ℕ SimpleType) → CheckTypes types self.old → CheckTypes types self.new }
+        ensures begun { IfOk result (λ check. HasVerdictTaken check.value simple.now []) }
+    {
+        let mut check = match self.check_at(number, simple) {
+            Ok(check) => check,
+            Err(error) => return Err(error),
+        };
+        check.restart(simple);
+        Ok(check)
+    }
+
+    /// What such a check tells of the characters that it has taken. It is kept here again.
+    pub(crate) fn end(
+        &mut self,
+        number: u32,
+        simple: &Simple,
+        check: Box<LeafVerdict>,
+    ) -> Result<(), Refusal>
+        requires { IsVerdictMadeFor check.value simple.now }
+        ensures made { (types : Graph ℕ SimpleType) → text_type (types number) ≡ Some simple.now → CheckTypes types self.old → CheckTypes types self.new }
+        ensures told { (text : List ℕ) → HasVerdictTaken check.value simple.now text → IsToldOf simple.now text result }
+    {
+        let result = match check.finish(simple) {
+            Ok(()) => Ok(()),
+            Err(rule) => Err(Refusal::Breaks(rule)),
+        };
         self.keep(number, check);
         result
     }

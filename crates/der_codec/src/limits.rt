@@ -7,6 +7,7 @@ ghost use Rattle.facets.specs.LeafUnder.{HasSortedCodes};
 ghost use Rattle.facets.specs.PatternChecks.{IsDateKind};
 ghost use Rattle.der_model.specs.DerMessage.{der_message};
 ghost use Rattle.der_codec.specs.KeptOctets.{IsKeptUnder, IsKeptAt, IsLeafAt, HasNoLimit, IsShortForm, IsTextKept};
+ghost use Rattle.der_codec.specs.OpenLeaves.{IsTypeAt, IsOpenSpot};
 
 use crate::level::Spot;
 use data_types::Kind;
@@ -41,8 +42,10 @@ fn simple_at(model: &Model, spot: Spot) -> Option<&Simple>
 }
 
 /// The simple type of a leaf that is the value of a type.
-fn value_at(model: &Model, number: u32) -> Option<&Simple>
+pub(crate) fn value_at(model: &Model, number: u32) -> Option<&Simple>
     ensures some { IfSome result (λ simple. IsLeafAt (der_message model.now) (Spot.Value number) simple.now) }
+    ensures typed { IfSome result (λ simple. IsTypeAt (der_message model.now) (Spot.Value number) simple.now) }
+    ensures other { IfNone result (IsOpenSpot (der_message model.now) (Spot.Value number) → ⊥) }
     ensures none { IfNone result (HasNoLimit (der_message model.now) (Spot.Value number)) }
 {
     let _ = model.type_count();
@@ -123,7 +126,7 @@ fn cut_octets(simple: &Simple, kept: &mut Vec<u8>)
 }
 
 /// They are octets.
-fn are_octets(octets: &[u8])
+pub(crate) fn are_octets(octets: &[u8])
     ensures { IsBytes octets.now }
 {
     let _ = octets;

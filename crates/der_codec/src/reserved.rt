@@ -40,7 +40,7 @@ impl DerChecker {
         if let Err(error) = widen_to(&mut self.decoder.levels, room.depth) {
             return Err(error);
         }
-        if let Err(error) = widen_to(&mut self.kept, room.bytes) {
+        if let Err(error) = widen_to(&mut self.kept.octets, room.bytes) {
             return Err(error);
         }
         if let Err(error) = widen(&mut self.pieces, room) {

@@ -8,6 +8,7 @@ ghost use Rattle.der_codec.specs.Checking.{IsReading, IsNoContents, StopsWithin,
 ghost use Rattle.der_codec.specs.Decoding.{HasReadParts, IsStopped, IsSettled, IsBelowEnd, IsFresh, IsFreshOrOver, IsOctetAwaited, IsOpenState, IsNoCut, BeginsContents, IsHeaderDue, end_of_levels};
 ghost use Rattle.der_codec.specs.KeptPieces.{KeepsShown, PiecesGoOn, AreOpen, EndsLeaf, around_of, begun_pieces};
 ghost use Rattle.der_codec.specs.Levels.{inwards};
+ghost use Rattle.der_codec.specs.OpenLeaves.{HoldsNothing};
 ghost use Rattle.der_codec.specs.ReadInstances.{IsSpelledDerAs};
 ghost use Rattle.der_codec.specs.Reserved.{IsKeeping, HasEnough, HoldMore};
 
@@ -96,11 +97,11 @@ impl DerChecker {
     pub(crate) fn end_open(&mut self, model: &Model) -> Result<(), Stop>
         requires settled { IsSettled self.old.decoder.due self.old.decoder.place (end_of_levels self.old.decoder.levels.items) }
         requires header { IsNoContents self.old.decoder.due }
-        requires kept { self.old.kept.items ≡ [] }
+        requires kept { HoldsNothing self.old.kept }
         requires given { (bytes : List ℕ) × HasReadParts (der_message model.now) self.old.decoder bytes × KeepsShown (der_message model.now) self.old.decoder self.old.pieces bytes }
         ensures checks { self.new.checks ≡ self.old.checks }
         ensures sound { self.new.failed ≡ self.old.failed }
-        ensures ok { (bytes : List ℕ) → HasReadParts (der_message model.now) self.old.decoder bytes → KeepsShown (der_message model.now) self.old.decoder self.old.pieces bytes → IfOk result (λ _. IsReading model.now self.new.decoder self.new.kept.items self.new.pieces bytes) }
+        ensures ok { (bytes : List ℕ) → HasReadParts (der_message model.now) self.old.decoder bytes → KeepsShown (der_message model.now) self.old.decoder self.old.pieces bytes → IfOk result (λ _. IsReading model.now self.new.decoder self.new.kept self.new.pieces bytes) }
         ensures err { (bytes : List ℕ) → HasReadParts (der_message model.now) self.old.decoder bytes → IfErr result (λ stop. StopsWithin model.now self.new.decoder bytes stop) }
         ensures keeps { IsKeeping self.old model.now → IsKeeping self.new model.now }
         ensures same { self.new.room ≡ self.old.room }
@@ -116,11 +117,11 @@ impl DerChecker {
     #[inline(always)]
     pub(crate) fn end_here(&mut self, model: &Model) -> Result<(), Stop>
         requires fresh { IsFresh self.old.decoder.due }
-        requires kept { self.old.kept.items ≡ [] }
+        requires kept { HoldsNothing self.old.kept }
         requires given { (bytes : List ℕ) × HasReadParts (der_message model.now) self.old.decoder bytes × KeepsShown (der_message model.now) self.old.decoder self.old.pieces bytes }
         ensures checks { self.new.checks ≡ self.old.checks }
         ensures sound { self.new.failed ≡ self.old.failed }
-        ensures ok { (bytes : List ℕ) → HasReadParts (der_message model.now) self.old.decoder bytes → KeepsShown (der_message model.now) self.old.decoder self.old.pieces bytes → IfOk result (λ _. IsReading model.now self.new.decoder self.new.kept.items self.new.pieces bytes) }
+        ensures ok { (bytes : List ℕ) → HasReadParts (der_message model.now) self.old.decoder bytes → KeepsShown (der_message model.now) self.old.decoder self.old.pieces bytes → IfOk result (λ _. IsReading model.now self.new.decoder self.new.kept self.new.pieces bytes) }
         ensures err { (bytes : List ℕ) → HasReadParts (der_message model.now) self.old.decoder bytes → IfErr result (λ stop. StopsWithin model.now self.new.decoder bytes stop) }
         ensures keeps { IsKeeping self.old model.now → IsKeeping self.new model.now }
         ensures same { self.new.room ≡ self.old.room }
@@ -136,11 +137,11 @@ impl DerChecker {
     #[inline(never)]
     fn end_all(&mut self, model: &Model) -> Result<(), Stop>
         requires fresh { IsFresh self.old.decoder.due }
-        requires kept { self.old.kept.items ≡ [] }
+        requires kept { HoldsNothing self.old.kept }
         requires given { (bytes : List ℕ) × HasReadParts (der_message model.now) self.old.decoder bytes × KeepsShown (der_message model.now) self.old.decoder self.old.pieces bytes }
         ensures checks { self.new.checks ≡ self.old.checks }
         ensures sound { self.new.failed ≡ self.old.failed }
-        ensures ok { (bytes : List ℕ) → HasReadParts (der_message model.now) self.old.decoder bytes → KeepsShown (der_message model.now) self.old.decoder self.old.pieces bytes → IfOk result (λ _. IsReading model.now self.new.decoder self.new.kept.items self.new.pieces bytes) }
+        ensures ok { (bytes : List ℕ) → HasReadParts (der_message model.now) self.old.decoder bytes → KeepsShown (der_message model.now) self.old.decoder self.old.pieces bytes → IfOk result (λ _. IsReading model.now self.new.decoder self.new.kept self.new.pieces bytes) }
         ensures err { (bytes : List ℕ) → HasReadParts (der_message model.now) self.old.decoder bytes → IfErr result (λ stop. StopsWithin model.now self.new.decoder bytes stop) }
         ensures keeps { IsKeeping self.old model.now → IsKeeping self.new model.now }
         ensures same { self.new.room ≡ self.old.room }
@@ -195,11 +196,11 @@ impl DerChecker {
     #[inline(always)]
     pub(crate) fn end_leaf(&mut self, model: &Model) -> Result<(), Stop>
         requires fresh { IsFresh self.old.decoder.due }
-        requires kept { self.old.kept.items ≡ [] }
+        requires kept { HoldsNothing self.old.kept }
         requires given { (bytes : List ℕ) × EndsLeaf (der_message model.now) self.old.decoder self.old.pieces bytes }
         ensures checks { self.new.checks ≡ self.old.checks }
         ensures sound { self.new.failed ≡ self.old.failed }
-        ensures ok { (bytes : List ℕ) → EndsLeaf (der_message model.now) self.old.decoder self.old.pieces bytes → IfOk result (λ _. IsReading model.now self.new.decoder self.new.kept.items self.new.pieces bytes) }
+        ensures ok { (bytes : List ℕ) → EndsLeaf (der_message model.now) self.old.decoder self.old.pieces bytes → IfOk result (λ _. IsReading model.now self.new.decoder self.new.kept self.new.pieces bytes) }
         ensures err { (bytes : List ℕ) → HasReadParts (der_message model.now) self.old.decoder bytes → IfErr result (λ stop. StopsWithin model.now self.new.decoder bytes stop) }
         ensures keeps { IsKeeping self.old model.now → IsKeeping self.new model.now }
         ensures same { self.new.room ≡ self.old.room }

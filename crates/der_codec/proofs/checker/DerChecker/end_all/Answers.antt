@@ -1,4 +1,5 @@
-use Rattle.std.proofs.Common.{refl, ◌∙◌, ap}
+use Rattle.std.proofs.Common.{refl, sym, subst, ◌∙◌}
+use Rattle.der_codec.specs.OpenLeaves.{HoldsNothing}
 use Rattle.der_codec.specs.Decoding.{end_of_levels}
 use Rattle.der_codec.proofs.Fed.{ready_reading, over_ready}
 use Rattle.der_codec.proofs.Keeping.{enough_then, err_as}
@@ -25,7 +26,7 @@ returns-then-not-ended-clause-ok c = λ bytes r shows.
     let i = c.loop-ended.invariant in
     let h = c.in-Ok.ensures in
     let read = i.4 bytes r in
-    ready_reading c.args.model.now new.decoder new.kept.items new.pieces bytes (h.ok bytes read) (h.shown bytes read (i.5 bytes r shows)) (h.open bytes read (let e = c.if-not-ended.true in cc)) (ap (λ v. v.items) (h.kept ∙ i.1) ∙ c.requires.kept)
+    ready_reading c.args.model.now new.decoder new.kept new.pieces bytes (h.ok bytes read) (h.shown bytes read (i.5 bytes r shows)) (h.open bytes read (let e = c.if-not-ended.true in cc)) (subst HoldsNothing (sym (h.kept ∙ i.1)) c.requires.kept)
 
 pub returns-then-is_over-clause-ok : goal.returns-then-is_over-clause-ok
 returns-then-is_over-clause-ok c = λ bytes r shows.
@@ -34,7 +35,7 @@ returns-then-is_over-clause-ok c = λ bytes r shows.
     let i = c.loop-ended.invariant in
     let h = c.in-Ok.ensures in
     let read = i.4 bytes r in
-    ready_reading c.args.model.now d new.kept.items new.pieces bytes (h.ok bytes read) (h.shown bytes read (i.5 bytes r shows)) (over_ready d.due d.place (end_of_levels d.levels.items) (c.if-is_over.ensures.yes refl)) (ap (λ v. v.items) (h.kept ∙ i.1) ∙ c.requires.kept)
+    ready_reading c.args.model.now d new.kept new.pieces bytes (h.ok bytes read) (h.shown bytes read (i.5 bytes r shows)) (over_ready d.due d.place (end_of_levels d.levels.items) (c.if-is_over.ensures.yes refl)) (subst HoldsNothing (sym (h.kept ∙ i.1)) c.requires.kept)
 
 pub loop-ended-smaller : goal.loop-ended-smaller
 loop-ended-smaller c = c.in-Ok.ensures.less (let e = c.if-not-ended.false in cc)

@@ -10,4 +10,4 @@ returns-then-not-ends_here-clause-ok c = λ bytes r shows.
     let s = c.args.self.now in
     let d = s.decoder in
     let low = c.if-not-ends_here.ensures.no refl (der_message c.args.model.now) bytes r c.requires.fresh in
-    ready_reading c.args.model.now d s.kept.items s.pieces bytes r shows (ready_below d.due d.place (end_of_levels d.levels.items) c.requires.fresh low) c.requires.kept
+    ready_reading c.args.model.now d s.kept s.pieces bytes r shows (ready_below d.due d.place (end_of_levels d.levels.items) c.requires.fresh low) c.requires.kept

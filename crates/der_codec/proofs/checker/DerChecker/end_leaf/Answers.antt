@@ -1,6 +1,7 @@
-use Rattle.std.proofs.Common.{◌∙◌, ap, sym, subst, refl}
+use Rattle.std.proofs.Common.{sym, subst, refl}
 use Rattle.der_model.specs.DerMessage.{der_message}
 use Rattle.der_codec.specs.Decoding.{HasReadParts, IsFresh}
+use Rattle.der_codec.specs.OpenLeaves.{HoldsNothing}
 use Rattle.der_codec.specs.KeptPieces.{KeepsShown}
 use Rattle.der_codec.specs.declared.decoder.Decoder.{Decoder}
 use Rattle.der_codec.proofs.Fed.{at_memory}
@@ -15,7 +16,7 @@ pub end_here-requires-clause-fresh : goal.end_here-requires-clause-fresh
 end_here-requires-clause-fresh c = subst (λ (z : Decoder). IsFresh z.due) (sym c.in-Ok.ensures.decoder) c.requires.fresh
 
 pub end_here-requires-clause-kept : goal.end_here-requires-clause-kept
-end_here-requires-clause-kept c = ap (λ v. v.items) c.in-Ok.ensures.kept ∙ c.requires.kept
+end_here-requires-clause-kept c = subst HoldsNothing (sym c.in-Ok.ensures.kept) c.requires.kept
 
 pub end_here-requires-clause-given : goal.end_here-requires-clause-given
 end_here-requires-clause-given c =

@@ -8,5 +8,5 @@ use Rattle.der_codec.proofs.checker.DerChecker.scratch.Goals as goal
 pub returns-clause-bound : goal.returns-clause-bound
 returns-clause-bound c = λ T bytes h.
     let r = h.reading.read in
-    let size : c.len.result ≡ length c.args.self.now.kept.items = search rules in
+    let size : c.len.result ≡ length c.args.self.now.kept.octets.items = search rules in
     subst (IsHeldWithin (open_limit (der_message T) r.state) (leaf_come r.state r.rest)) (sym size) (scratch_is T c.args.self.now bytes h)

@@ -10,7 +10,7 @@ returns-in-Ok c = record {
   checks = subst (CheckTypes (types_of c.args.model.now)) (sym c.in-Ok.ensures.checks) c.requires.checks;
   sound = c.in-Ok.ensures.sound;
   within = omega arith;
-  ok = λ bytes r shows. (let new = c.end_open.new.self in none_more c.args.model.now new.decoder new.kept.items new.pieces bytes c.args.behind.now (c.in-Ok.ensures.ok bytes r shows));
+  ok = λ bytes r shows. (let new = c.end_open.new.self in none_more c.args.model.now new.decoder new.kept new.pieces bytes c.args.behind.now (c.in-Ok.ensures.ok bytes r shows));
   err = λ bytes r. tt;
   keeps = c.in-Ok.ensures.keeps;
   same = c.in-Ok.ensures.same;

@@ -14,7 +14,7 @@ returns-clause-made c = λ T. record {
       reading = record {
         read = c.new.ensures.read (der_message T);
         waits = c.new.ensures.waits;
-        keeps = keeps_none T c.new.result.due c.new.result.start c.new-2.result.items c.new-2.ensures.items;
+        keeps = keeps_none T c.new.result.due c.args.pieces c.new.result.start c.new-2.result c.new-2.ensures;
         shows = first_shows (der_message T) c.new.result c.args.pieces c.requires;
       };
       short = omega arith;
@@ -29,7 +29,7 @@ returns-clause-fed c = λ T. record {
   reading = record {
     read = c.new.ensures.read (der_message T);
     waits = c.new.ensures.waits;
-    keeps = keeps_none T c.new.result.due c.new.result.start c.new-2.result.items c.new-2.ensures.items;
+    keeps = keeps_none T c.new.result.due c.args.pieces c.new.result.start c.new-2.result c.new-2.ensures;
     shows = first_shows (der_message T) c.new.result c.args.pieces c.requires;
   };
   short = omega arith;

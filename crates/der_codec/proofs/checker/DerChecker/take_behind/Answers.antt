@@ -25,7 +25,7 @@ returns-in-Ok-settle-clause-ok c = λ bytes r shows.
     let behind = c.args.behind.now in
     let count = c.in-Ok.count in
     let h = c.in-Ok.ensures in
-    taken_further T c.settle.new.self.decoder c.settle.new.self.kept.items c.settle.new.self.pieces bytes behind c.split_at.result.1.now count c.in-Ok-settle.more c.split_at.ensures.back
+    taken_further T c.settle.new.self.decoder c.settle.new.self.kept c.settle.new.self.pieces bytes behind c.split_at.result.1.now count c.in-Ok-settle.more c.split_at.ensures.back
     (c.in-Ok-settle.ensures.ok (bytes ++ take count behind) (h.ok m bytes r)
     (short_shown m s.decoder c.take_short.new.self s.pieces bytes behind count h.few h.within h.none h.due r shows h.low h.begun h.depth))
 
