@@ -151,7 +151,7 @@ held_little : (o : Option ℕ) (n held : ℕ) → held ≤ 64 → IsHeldWithin o
 held_little None n held few = omega (arith, few)
 held_little (Some m) n held few = omega (arith, few)
 
-under_little : (simple : Simple) (opened : OpenLeaf) (rest octets : List ℕ) → IsOpenUnder simple opened rest octets → length rest ≤ 3
+pub under_little : (simple : Simple) (opened : OpenLeaf) (rest octets : List ℕ) → IsOpenUnder simple opened rest octets → length rest ≤ 3
 under_little simple (opens.Text check) rest octets (free, t) = t.few
 under_little simple opens.NoText rest octets (free, none, bad) = (let size = ap length none in omega (arith, size))
 under_little simple opens.Binary rest octets (binary, none, are) = (let size = ap length none in omega (arith, size))

@@ -68,6 +68,10 @@ der_bytes_fed checker = checker.decoder.place
 abbrev pub held_contents : DerChecker → ℕ
 held_contents checker = length checker.kept.octets.items
 
+-- it keeps no pieces
+abbrev pub KeepsNoPieces : DerChecker → Type 0
+KeepsNoPieces checker = checker.pieces ≡ None
+
 -- how many octets of a header have come, where more of them are due
 abbrev pub token_held : DerChecker → ℕ
 token_held checker = header_come checker.decoder.due checker.decoder.start checker.decoder.place

@@ -26,6 +26,10 @@ Shows m levels d start place (Some kept) bytes = (r : Reads m levels d start pla
 abbrev pub KeepsShown : DerMessage ℕ → Decoder → Option Region → List ℕ → Type 0
 KeepsShown m d kept bytes = Shows m (inwards d.levels.items) d.due d.start d.place kept bytes
 
+-- where none are kept, none are from then on
+abbrev pub StaysAlone : Option Region → Option Region → Type 0
+StaysAlone old new = old ≡ None → new ≡ None
+
 -- where pieces are kept, these come behind them
 abbrev pub PiecesGoOn : Option Region → Option Region → List Piece → Type 0
 PiecesGoOn None None more = Unit {0}

@@ -1,7 +1,12 @@
 -- How many octets are held of contents and headers that come in pieces.
-use Rattle.std.specs.Prelude.{ℕ, List, length, Option, None}
+use Rattle.std.specs.Prelude.{◌≡◌, ℕ, List, length, Option, None}
+use Rattle.data_types.specs.declared.kind.Kind.TheVariants as kind
 use Rattle.facets.specs.LeafChecks.{leaf_limit}
+use Rattle.facets.specs.LeafVerdicts.{IsFreeText}
+use Rattle.facets.specs.declared.simple.Simple.{Simple}
+use Rattle.reference_check.specs.Forms as graph
 use Rattle.der_model.specs.DerMessage.{DerMessage}
+use Rattle.der_model.specs.Structures as structures
 use Rattle.der_model.specs.Structures.{Structure, Holds, LeafOf, structure}
 use Rattle.der_model.specs.States.{State, AwaitsContents}
 
@@ -14,6 +19,26 @@ contents_limit s = None
 abbrev pub open_limit : {P : Type 0} → DerMessage P → State P → Option ℕ
 open_limit m (AwaitsContents spot names count around) = contents_limit (structure m spot)
 open_limit m s = None
+
+-- a type of texts without codes
+abbrev pub IsFreeForm : {P : Type 0} → graph.Form P Simple → Type 0
+IsFreeForm (graph.Simple simple) = IsFreeText simple
+IsFreeForm f = ⊥
+
+-- a type of binary values
+abbrev pub IsBinaryForm : {P : Type 0} → graph.Form P Simple → Type 0
+IsBinaryForm (graph.Simple simple) = simple.kind ≡ kind.Binary
+IsBinaryForm f = ⊥
+
+-- the leaf that is open is a text without codes
+abbrev pub OpensFreeText : {P : Type 0} → DerMessage P → State P → Type 0
+OpensFreeText m (AwaitsContents (structures.Value p) names count around) = IsFreeForm (m.forms p)
+OpensFreeText m s = ⊥
+
+-- the leaf that is open is a binary value
+abbrev pub OpensBinary : {P : Type 0} → DerMessage P → State P → Type 0
+OpensBinary m (AwaitsContents (structures.Value p) names count around) = IsBinaryForm (m.forms p)
+OpensBinary m s = ⊥
 
 -- of the octets of the part that has begun those that are contents
 abbrev pub leaf_come : {P : Type 0} → State P → List ℕ → ℕ

@@ -8,11 +8,11 @@ ghost use Rattle.der_model.specs.DerMessage.{der_message};
 ghost use Rattle.der_codec.specs.Checked.{CheckTypes};
 ghost use Rattle.der_codec.specs.ReadInstances.{IsSpelledDerAs};
 ghost use Rattle.der_codec.specs.Decoding.{HasReadParts, IsStopped, IsSettled, IsFresh, BeginsContents, IsHeaderDue, end_of_levels};
-ghost use Rattle.der_codec.specs.KeptPieces.{KeepsShown, AreNone};
+ghost use Rattle.der_codec.specs.KeptPieces.{KeepsShown, AreNone, StaysAlone};
 ghost use Rattle.der_codec.specs.Reserved.{IsKeeping, HasEnough};
 ghost use Rattle.der_codec.specs.OpenLeaves.{HoldsNothing};
-ghost use Rattle.der_codec.specs.Limits.{open_limit, leaf_come, token_come};
-ghost use Rattle.der_codec.specs.Checking.{HasFedDer, IsReading, IsDerCheckerFor, StopsWithin, TakesDerFront, DerStops, HaveDerFault, IsSpelledDer, DerEndsAs, IsFreed, open_count, der_bytes_fed, der_failure, held_contents, token_held};
+ghost use Rattle.der_codec.specs.Limits.{OpensFreeText, OpensBinary, open_limit, leaf_come, token_come};
+ghost use Rattle.der_codec.specs.Checking.{HasFedDer, KeepsNoPieces, IsReading, IsDerCheckerFor, StopsWithin, TakesDerFront, DerStops, HaveDerFault, IsSpelledDer, DerEndsAs, IsFreed, open_count, der_bytes_fed, der_failure, held_contents, token_held};
 
 use crate::checks::Checks;
 use crate::decoder::{Decoder, Due, Stop};
@@ -46,6 +46,7 @@ impl DerChecker {
         ensures fed { IfOk result (λ c. HasFedDer c model.now []) }
         ensures made { IfOk result (λ c. IsDerCheckerFor c model.now) }
         ensures none { IfOk result (λ c. der_bytes_fed c ≡ 0) }
+        ensures alone { IfOk result (λ c. KeepsNoPieces c) }
     {
         let _ = model;
         Ok(DerChecker::start(alloc, None))
@@ -69,6 +70,7 @@ impl DerChecker {
         ensures made { (T : Tables) → IsDerCheckerFor result T }
         ensures keeping { (T : Tables) (region : Region) → pieces ≡ Some region → IsKeeping result T }
         ensures none { der_bytes_fed result ≡ 0 }
+        ensures pieces { result.pieces ≡ pieces }
     {
         DerChecker {
             alloc,
@@ -93,12 +95,15 @@ impl DerChecker {
     }
 
     /// How many bytes are held of the leaf that is open: of its contents octets those that are kept, where more are
-    /// due. At most four are held for each that has come, within the limit of the leaf, and 64. Its check begins
-    /// when all have come, and holds nothing before. None are held after an error.
+    /// due. At most four are held for each that has come, within the limit of the leaf, and 64. Where no pieces are
+    /// kept they are those of the last character of a text without codes, where it is not whole, and of a binary value
+    /// none. The check of such a text keeps no bytes; any other begins when all have come. None are held after an error.
     pub fn scratch(&self) -> u64
         ensures count { result ≡ held_contents self.now }
         ensures bound { (T : Tables) (bytes : List ℕ) (h : HasFedDer self.now T bytes)
             → IsHeldWithin (open_limit (der_message T) h.reading.read.state) (leaf_come h.reading.read.state h.reading.read.rest) result }
+        ensures free { (T : Tables) (bytes : List ℕ) (h : HasFedDer self.now T bytes) → KeepsNoPieces self.now → OpensFreeText (der_message T) h.reading.read.state → result ≤ 3 }
+        ensures binary { (T : Tables) (bytes : List ℕ) (h : HasFedDer self.now T bytes) → KeepsNoPieces self.now → OpensBinary (der_message T) h.reading.read.state → result ≡ 0 }
     {
         self.kept.octets.len() as u64
     }
@@ -129,6 +134,7 @@ impl DerChecker {
         ensures freed { IfErr result (λ _. IsFreed self.new) }
         ensures keeps { IsKeeping self.old model.now → IfOk result (λ _. IsKeeping self.new model.now) }
         ensures room { IfOk result (λ _. self.new.room ≡ self.old.room) }
+        ensures alone { KeepsNoPieces self.old → KeepsNoPieces self.new }
         ensures memory { (bytes : List ℕ) → HasFedDer self.old model.now bytes → HasEnough self.old model.now (bytes ++ piece.now) → IsErrOf result InstanceError.Memory → HaveDerFault model.now (bytes ++ piece.now) }
     {
         if let Some(error) = &self.failed {
@@ -202,6 +208,7 @@ impl DerChecker {
         ensures err { (bytes : List ℕ) → HasFedDer self.old model.now bytes → IfErr result (λ stop. StopsWithin model.now self.new.decoder (bytes ++ piece.now) stop) }
         ensures keeps { IsKeeping self.old model.now → IsKeeping self.new model.now }
         ensures same { self.new.room ≡ self.old.room }
+        ensures alone { StaysAlone self.old.pieces self.new.pieces }
         ensures memory { (bytes : List ℕ) → HasFedDer self.old model.now bytes → HasEnough self.old model.now (bytes ++ piece.now) → IsErrOf result Stop.Memory → ⊥ }
     {
         let mut rest = piece;
@@ -228,6 +235,7 @@ impl DerChecker {
         ensures front { TakesDerFront model.now self.old self.new piece.now result }
         ensures keeps { IsKeeping self.old model.now → IsKeeping self.new model.now }
         ensures same { self.new.room ≡ self.old.room }
+        ensures alone { StaysAlone self.old.pieces self.new.pieces }
         ensures memory { (bytes : List ℕ) → HasFedDer self.old model.now bytes → HasEnough self.old model.now (bytes ++ piece.now) → IsErrOf result Stop.Memory → ⊥ }
         ensures some { IfOk result (λ n. 0 < n) }
     {
@@ -251,6 +259,7 @@ impl DerChecker {
         ensures front { TakesDerFront model.now self.old self.new piece.now result }
         ensures keeps { IsKeeping self.old model.now → IsKeeping self.new model.now }
         ensures same { self.new.room ≡ self.old.room }
+        ensures alone { StaysAlone self.old.pieces self.new.pieces }
         ensures memory { (bytes : List ℕ) → HasFedDer self.old model.now bytes → HasEnough self.old model.now (bytes ++ piece.now) → IsErrOf result Stop.Memory → ⊥ }
         ensures some { IfOk result (λ n. 0 < n) }
     {
@@ -302,6 +311,7 @@ impl DerChecker {
         ensures front { TakesDerFront model.now self.old self.new piece.now result }
         ensures keeps { IsKeeping self.old model.now → IsKeeping self.new model.now }
         ensures same { self.new.room ≡ self.old.room }
+        ensures alone { StaysAlone self.old.pieces self.new.pieces }
         ensures memory { (bytes : List ℕ) → HasFedDer self.old model.now bytes → HasEnough self.old model.now (bytes ++ piece.now) → IsErrOf result Stop.Memory → ⊥ }
         ensures some { IfOk result (λ n. 0 < n) }
     {
@@ -333,6 +343,7 @@ impl DerChecker {
         ensures err { (bytes : List ℕ) → HasReadParts (der_message model.now) self.old.decoder bytes → IfErr result (λ stop. StopsWithin model.now self.new.decoder (bytes ++ behind.now) stop) }
         ensures keeps { IsKeeping self.old model.now → IsKeeping self.new model.now }
         ensures same { self.new.room ≡ self.old.room }
+        ensures alone { StaysAlone self.old.pieces self.new.pieces }
         ensures memory { (bytes : List ℕ) → HasReadParts (der_message model.now) self.old.decoder bytes → KeepsShown (der_message model.now) self.old.decoder self.old.pieces bytes → HasEnough self.old model.now (bytes ++ behind.now) → IsErrOf result Stop.Memory → ⊥ }
     {
         match self.decoder.take_short(behind) {
@@ -364,6 +375,7 @@ impl DerChecker {
         ensures err { (bytes : List ℕ) → HasReadParts (der_message model.now) self.old.decoder bytes → IfErr result (λ stop. StopsWithin model.now self.new.decoder (bytes ++ behind.now) stop) }
         ensures keeps { IsKeeping self.old model.now → IsKeeping self.new model.now }
         ensures same { self.new.room ≡ self.old.room }
+        ensures alone { StaysAlone self.old.pieces self.new.pieces }
         ensures memory { (bytes : List ℕ) → HasReadParts (der_message model.now) self.old.decoder bytes → KeepsShown (der_message model.now) self.old.decoder self.old.pieces bytes → HasEnough self.old model.now (bytes ++ behind.now) → IsErrOf result Stop.Memory → ⊥ }
     {
         match self.decoder.due {

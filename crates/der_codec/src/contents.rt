@@ -9,7 +9,7 @@ ghost use Rattle.der_model.specs.Structures as structures;
 ghost use Rattle.der_model.specs.Structures.{structure, Holds, Fragment};
 ghost use Rattle.der_model.specs.OpenParts.{IsPrimitive};
 ghost use Rattle.der_codec.specs.Checked.{CheckTypes};
-ghost use Rattle.der_codec.specs.KeptPieces.{HoldsLeafAt, GoesOnByLeaf, GoesOnByLast};
+ghost use Rattle.der_codec.specs.KeptPieces.{HoldsLeafAt, GoesOnByLeaf, GoesOnByLast, StaysAlone};
 ghost use Rattle.der_codec.specs.Reserved.{HasChecks, GrowsRoom, HoldMore, HoldLeafWithin, IsPrimitiveType, IsPrimitiveAt};
 ghost use Rattle.der_codec.specs.Rooms.{HasNoEnvelopes};
 ghost use Rattle.der_codec.specs.Judging.{HoldsContents, IsJudgedAt, IsJudgedFor, IsVerdictFor};
@@ -66,6 +66,7 @@ pub(crate) fn tell(
     ensures shown { IfOk result (λ _. GoesOnByLeaf (der_message model.now) spot octets.now pieces.old pieces.new) }
     ensures room { (bytes : ℕ) → HasChecks (types_of model.now) bytes checks.old → HasChecks (types_of model.now) bytes checks.new }
     ensures grows { GrowsRoom pieces.old pieces.new }
+    ensures alone { StaysAlone pieces.old pieces.new }
     ensures within { (bytes : ℕ) → HasChecks (types_of model.now) bytes checks.old → HasNoEnvelopes (types_of model.now) → length octets.now ≤ bytes → IsPrimitiveAt model.now spot
         → ((leaf : Leaf) → HoldsLeafAt (der_message model.now) spot octets.now leaf → HoldMore pieces.old (HoldsPiece leaf ∷ [])) → IsErrOf result Refusal.Memory → ⊥ }
 {
@@ -97,6 +98,7 @@ pub(crate) fn tell_last(
     ensures shown { IfOk result (λ told. told ≡ true → GoesOnByLast (der_message model.now) around.now spot octets.now pieces.old pieces.new) }
     ensures room { (bytes : ℕ) → HasChecks (types_of model.now) bytes checks.old → HasChecks (types_of model.now) bytes checks.new }
     ensures grows { GrowsRoom pieces.old pieces.new }
+    ensures alone { StaysAlone pieces.old pieces.new }
     ensures within { ((leaf : Leaf) → HoldsLeafAt (der_message model.now) spot octets.now leaf → HoldLeafWithin (der_message model.now) around.now leaf pieces.old) → IsOk result }
 {
     match judge(checks, model, spot, octets) {

@@ -7,7 +7,7 @@ ghost use Rattle.der_model.specs.DerMessage.{der_message};
 ghost use Rattle.der_codec.specs.Reserved.{IsKeeping, HasEnough, HoldsWhole};
 ghost use Rattle.der_codec.specs.Checked.{CheckTypes};
 ghost use Rattle.der_codec.specs.Decoding.{HasReadParts};
-ghost use Rattle.der_codec.specs.KeptPieces.{KeepsShown, HoldsLeafAt, GoesOnByLeaf};
+ghost use Rattle.der_codec.specs.KeptPieces.{KeepsShown, HoldsLeafAt, GoesOnByLeaf, StaysAlone};
 ghost use Rattle.der_codec.specs.Judging.{IsVerdictFor};
 ghost use Rattle.der_codec.specs.KeptOctets.{IsKeptAt};
 ghost use Rattle.der_codec.specs.OpenLeaves.{HoldsAt, HoldsAlone, HoldsNothing};
@@ -46,6 +46,7 @@ impl DerChecker {
         ensures err { (bytes : List ℕ) → HasReadParts (der_message model.now) self.old.decoder bytes → IfErr result (λ stop. StopsWithin model.now self.new.decoder (bytes ++ behind.now) stop) }
         ensures keeps { IsKeeping self.old model.now → IsKeeping self.new model.now }
         ensures same { self.new.room ≡ self.old.room }
+        ensures alone { StaysAlone self.old.pieces self.new.pieces }
         ensures memory { (bytes : List ℕ) → HasReadParts (der_message model.now) self.old.decoder bytes → KeepsShown (der_message model.now) self.old.decoder self.old.pieces bytes → HasEnough self.old model.now (bytes ++ behind.now) → IsErrOf result Stop.Memory → ⊥ }
     {
         if (behind.len() as u64) < left {
@@ -78,6 +79,7 @@ impl DerChecker {
         ensures front { TakesDerFront model.now self.old self.new piece.now result }
         ensures keeps { IsKeeping self.old model.now → IsKeeping self.new model.now }
         ensures same { self.new.room ≡ self.old.room }
+        ensures alone { StaysAlone self.old.pieces self.new.pieces }
         ensures memory { (bytes : List ℕ) → HasFedDer self.old model.now bytes → HasEnough self.old model.now (bytes ++ piece.now) → IsErrOf result Stop.Memory → ⊥ }
         ensures some { IfOk result (λ n. 0 < n) }
     {
@@ -108,6 +110,7 @@ impl DerChecker {
         ensures err { IfErr result (λ stop. stop ≡ Stop.Memory) }
         ensures keeps { IsKeeping self.old model.now → IsKeeping self.new model.now }
         ensures same { self.new.room ≡ self.old.room }
+        ensures alone { StaysAlone self.old.pieces self.new.pieces }
         ensures memory { (bytes : List ℕ) → IsReading model.now self.old.decoder self.old.kept self.old.pieces bytes → HasEnough self.old model.now (bytes ++ front.now) → IsErrOf result Stop.Memory → ⊥ }
     {
         match self.hold(model, spot, front) {
@@ -220,6 +223,7 @@ impl DerChecker {
         ensures err { (bytes : List ℕ) → KeepsRead model.now self.old.decoder self.old.kept self.old.pieces bytes → IfErr result (λ stop. StopsWithin model.now self.new.decoder (bytes ++ front.now) stop) }
         ensures keeps { IsKeeping self.old model.now → IsKeeping self.new model.now }
         ensures same { self.new.room ≡ self.old.room }
+        ensures alone { StaysAlone self.old.pieces self.new.pieces }
         ensures memory { (bytes : List ℕ) → KeepsRead model.now self.old.decoder self.old.kept self.old.pieces bytes → KeepsShown (der_message model.now) self.old.decoder self.old.pieces bytes → HasEnough self.old model.now (bytes ++ front.now) → IsErrOf result Stop.Memory → ⊥ }
     {
         match self.judge_whole(model, spot, front) {
@@ -245,6 +249,7 @@ impl DerChecker {
         ensures shown { (octets : List ℕ) → HoldsAllOf (der_message model.now) spot self.old.decoder self.old.kept self.old.pieces octets → IfOk result (λ _. GoesOnByLeaf (der_message model.now) spot (octets ++ front.now) self.old.pieces self.new.pieces) }
         ensures keeps { IsKeeping self.old model.now → IsKeeping self.new model.now }
         ensures same { self.new.room ≡ self.old.room }
+        ensures alone { StaysAlone self.old.pieces self.new.pieces }
         ensures within { HoldsWhole self.old model.now spot front.now → IsErrOf result Refusal.Memory → ⊥ }
     {
         if self.kept.leaf.is_some() {
@@ -289,6 +294,7 @@ impl DerChecker {
         ensures shown { IfOk result (λ _. GoesOnByLeaf (der_message model.now) spot (self.old.kept.octets.items ++ front.now) self.old.pieces self.new.pieces) }
         ensures keeps { IsKeeping self.old model.now → IsKeeping self.new model.now }
         ensures same { self.new.room ≡ self.old.room }
+        ensures alone { StaysAlone self.old.pieces self.new.pieces }
         ensures within { HoldsWhole self.old model.now spot front.now → IsErrOf result Refusal.Memory → ⊥ }
     {
         if self.kept.octets.is_empty() {

@@ -7,7 +7,7 @@ ghost use Rattle.der_model.specs.DerMessage.{der_message};
 ghost use Rattle.der_model.specs.NestedPieces.{elements_around};
 ghost use Rattle.der_model.specs.ShownPieces.{begin_each, end_each, elements_ended};
 ghost use Rattle.der_model.specs.States as states;
-ghost use Rattle.der_codec.specs.KeptPieces.{PiecesGoOn, GoOnByBegun, GoOnByLeaf, AreOpen};
+ghost use Rattle.der_codec.specs.KeptPieces.{PiecesGoOn, GoOnByBegun, GoOnByLeaf, AreOpen, StaysAlone};
 ghost use Rattle.der_codec.specs.Levels.{AreLevels, inwards};
 ghost use Rattle.der_codec.specs.Reserved.{GrowsRoom, HoldMore, HoldBegun, HoldLeafWithin};
 
@@ -29,6 +29,7 @@ pub(crate) fn begin(
     ensures begun { (ls : List (states.DerLevel ℕ)) → AreLevels (types_of model.now) (inwards decoder.now.levels.items) ls
         → OnOk result (PiecesGoOn pieces.old pieces.new (begin_each (elements_ended (der_message model.now) ls))) }
     ensures room { GrowsRoom pieces.old pieces.new }
+    ensures alone { StaysAlone pieces.old pieces.new }
     ensures within { (ls : List (states.DerLevel ℕ)) → AreLevels (types_of model.now) (inwards decoder.now.levels.items) ls → HoldMore pieces.old (begin_each (elements_ended (der_message model.now) ls)) → IsOk result }
 {
     match pieces {
@@ -48,6 +49,7 @@ pub(crate) fn end(
     ensures ended { (ls : List (states.DerLevel ℕ)) → AreLevels (types_of model.now) (inwards decoder.now.levels.items) ls → AreOpen pieces.old (elements_around (der_message model.now) ls)
         → OnOk result (PiecesGoOn pieces.old pieces.new (end_each (elements_ended (der_message model.now) ls))) }
     ensures room { GrowsRoom pieces.old pieces.new }
+    ensures alone { StaysAlone pieces.old pieces.new }
     ensures within { (ls : List (states.DerLevel ℕ)) → AreLevels (types_of model.now) (inwards decoder.now.levels.items) ls → HoldMore pieces.old (end_each (elements_ended (der_message model.now) ls)) → IsOk result }
 {
     match pieces {
@@ -60,6 +62,7 @@ pub(crate) fn end(
 pub(crate) fn hold(pieces: &mut Option<Builder>, leaf: &LeafRef<'_>) -> Result<(), AllocError>
     ensures held { OnOk result (PiecesGoOn pieces.old pieces.new (Holds (leaf_of leaf.now) ∷ [])) }
     ensures room { GrowsRoom pieces.old pieces.new }
+    ensures alone { StaysAlone pieces.old pieces.new }
     ensures within { HoldMore pieces.old (Holds (leaf_of leaf.now) ∷ []) → IsOk result }
 {
     match pieces {
@@ -77,6 +80,7 @@ pub(crate) fn begin_last(
 ) -> Result<(), AllocError>
     ensures begun { OnOk result (GoOnByBegun (der_message model.now) around.now pieces.old pieces.new) }
     ensures room { GrowsRoom pieces.old pieces.new }
+    ensures alone { StaysAlone pieces.old pieces.new }
     ensures within { HoldBegun (der_message model.now) around.now pieces.old → IsOk result }
 {
     match pieces {
@@ -95,6 +99,7 @@ pub(crate) fn hold_last(
 ) -> Result<(), AllocError>
     ensures held { OnOk result (GoOnByLeaf (der_message model.now) around.now (leaf_of leaf.now) pieces.old pieces.new) }
     ensures room { GrowsRoom pieces.old pieces.new }
+    ensures alone { StaysAlone pieces.old pieces.new }
     ensures within { HoldLeafWithin (der_message model.now) around.now (leaf_of leaf.now) pieces.old → IsOk result }
 {
     match pieces {

@@ -2,6 +2,7 @@
 ghost use Rattle.std.specs.Prelude.{◌≡◌, ◌+◌, ◌<◌, ◌≤◌, ◌^◌, ◌++◌, ℕ, List, IfOk, IsErrOf, true, false, length};
 ghost use Rattle.message_model.specs.Tables.{types_of};
 ghost use Rattle.der_model.specs.DerMessage.{der_message};
+ghost use Rattle.der_codec.specs.KeptPieces.{StaysAlone};
 ghost use Rattle.der_codec.specs.Reserved.{IsKeeping, HasEnough};
 ghost use Rattle.der_codec.specs.Checked.{CheckTypes};
 ghost use Rattle.der_codec.specs.Checking.{HasFedDer, TakesDerFront, der_bytes_fed};
@@ -29,6 +30,7 @@ impl DerChecker {
         ensures front { TakesDerFront model.now self.old self.new piece.now result }
         ensures keeps { IsKeeping self.old model.now → IsKeeping self.new model.now }
         ensures same { self.new.room ≡ self.old.room }
+        ensures alone { StaysAlone self.old.pieces self.new.pieces }
         ensures memory { (bytes : List ℕ) → HasFedDer self.old model.now bytes → HasEnough self.old model.now (bytes ++ piece.now) → IsErrOf result Stop.Memory → ⊥ }
         ensures some { IfOk result (λ n. 0 < n) }
     {
@@ -53,6 +55,7 @@ impl DerChecker {
         ensures front { TakesDerFront model.now self.old self.new piece.now result }
         ensures keeps { IsKeeping self.old model.now → IsKeeping self.new model.now }
         ensures same { self.new.room ≡ self.old.room }
+        ensures alone { StaysAlone self.old.pieces self.new.pieces }
         ensures memory { (bytes : List ℕ) → HasFedDer self.old model.now bytes → HasEnough self.old model.now (bytes ++ piece.now) → IsErrOf result Stop.Memory → ⊥ }
         ensures unchanged { IfOk result (λ n. n ≡ 0 → self.new.decoder ≡ self.old.decoder) }
     {
@@ -82,6 +85,7 @@ impl DerChecker {
         ensures front { TakesDerFront model.now self.old self.new piece.now result }
         ensures keeps { IsKeeping self.old model.now → IsKeeping self.new model.now }
         ensures same { self.new.room ≡ self.old.room }
+        ensures alone { StaysAlone self.old.pieces self.new.pieces }
         ensures memory { (bytes : List ℕ) → HasFedDer self.old model.now bytes → HasEnough self.old model.now (bytes ++ piece.now) → IsErrOf result Stop.Memory → ⊥ }
         ensures unchanged { IfOk result (λ n. n ≡ 0 → self.new.decoder ≡ self.old.decoder) }
     {
@@ -116,6 +120,7 @@ impl DerChecker {
         ensures front { TakesDerFront model.now self.old self.new piece.now result }
         ensures keeps { IsKeeping self.old model.now → IsKeeping self.new model.now }
         ensures same { self.new.room ≡ self.old.room }
+        ensures alone { StaysAlone self.old.pieces self.new.pieces }
         ensures memory { (bytes : List ℕ) → HasFedDer self.old model.now bytes → HasEnough self.old model.now (bytes ++ piece.now) → IsErrOf result Stop.Memory → ⊥ }
         ensures unchanged { IfOk result (λ n. n ≡ 0 → self.new.decoder ≡ self.old.decoder) }
     {
@@ -156,6 +161,7 @@ impl DerChecker {
         ensures front { TakesDerFront model.now self.old self.new piece.now result }
         ensures keeps { IsKeeping self.old model.now → IsKeeping self.new model.now }
         ensures same { self.new.room ≡ self.old.room }
+        ensures alone { StaysAlone self.old.pieces self.new.pieces }
         ensures memory { (bytes : List ℕ) → HasFedDer self.old model.now bytes → HasEnough self.old model.now (bytes ++ piece.now) → IsErrOf result Stop.Memory → ⊥ }
         ensures unchanged { IfOk result (λ n. n ≡ 0 → self.new.decoder ≡ self.old.decoder) }
     {

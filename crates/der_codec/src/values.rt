@@ -6,7 +6,7 @@ ghost use Rattle.der_model.specs.ShownPieces.{end_each, elements_ended};
 ghost use Rattle.der_model.specs.States.{State};
 ghost use Rattle.der_codec.specs.Checking.{IsReading, IsNoContents, StopsWithin, der_bytes_fed};
 ghost use Rattle.der_codec.specs.Decoding.{HasReadParts, IsStopped, IsSettled, IsBelowEnd, IsFresh, IsFreshOrOver, IsOctetAwaited, IsOpenState, IsNoCut, BeginsContents, IsHeaderDue, end_of_levels};
-ghost use Rattle.der_codec.specs.KeptPieces.{KeepsShown, PiecesGoOn, AreOpen, EndsLeaf, around_of, begun_pieces};
+ghost use Rattle.der_codec.specs.KeptPieces.{KeepsShown, PiecesGoOn, AreOpen, EndsLeaf, around_of, begun_pieces, StaysAlone};
 ghost use Rattle.der_codec.specs.Levels.{inwards};
 ghost use Rattle.der_codec.specs.OpenLeaves.{HoldsNothing};
 ghost use Rattle.der_codec.specs.ReadInstances.{IsSpelledDerAs};
@@ -38,6 +38,7 @@ impl DerChecker {
         ensures begun { IfOk result (λ _. BeginsContents self.new.decoder.due self.new.decoder.start self.new.decoder.place) }
         ensures keeps { IsKeeping self.old model.now → IsKeeping self.new model.now }
         ensures same { self.new.room ≡ self.old.room }
+        ensures alone { StaysAlone self.old.pieces self.new.pieces }
         ensures memory { (bytes : List ℕ) → HasReadParts (der_message model.now) self.old.decoder bytes → KeepsShown (der_message model.now) self.old.decoder self.old.pieces bytes → HasEnough self.old model.now (bytes ++ octet ∷ []) → IsErrOf result Stop.Memory → ⊥ }
     {
         let due = self.decoder.due;
@@ -60,6 +61,7 @@ impl DerChecker {
         ensures err { IfErr result (λ stop. stop ≡ Stop.Memory) }
         ensures keeps { IsKeeping self.old model.now → IsKeeping self.new model.now }
         ensures same { self.new.room ≡ self.old.room }
+        ensures alone { StaysAlone self.old.pieces self.new.pieces }
         ensures within { (state : State ℕ) → IsOpenState (der_message model.now) (inwards self.old.decoder.levels.items) self.old.decoder.due state → HoldMore self.old.pieces (begun_pieces (der_message model.now) state) → IsOk result }
     {
         match self.decoder.due {
@@ -84,6 +86,7 @@ impl DerChecker {
         ensures err { IfErr result (λ stop. stop ≡ Stop.Memory) }
         ensures keeps { IsKeeping self.old model.now → IsKeeping self.new model.now }
         ensures same { self.new.room ≡ self.old.room }
+        ensures alone { StaysAlone self.old.pieces self.new.pieces }
         ensures within { (bytes : List ℕ) (r : HasReadParts (der_message model.now) self.old.decoder bytes) → HoldMore self.old.pieces (end_each (elements_ended (der_message model.now) (around_of r.state))) → IsOk result }
     {
         match end(&mut self.pieces, model, &self.decoder) {
@@ -105,6 +108,7 @@ impl DerChecker {
         ensures err { (bytes : List ℕ) → HasReadParts (der_message model.now) self.old.decoder bytes → IfErr result (λ stop. StopsWithin model.now self.new.decoder bytes stop) }
         ensures keeps { IsKeeping self.old model.now → IsKeeping self.new model.now }
         ensures same { self.new.room ≡ self.old.room }
+        ensures alone { StaysAlone self.old.pieces self.new.pieces }
         ensures memory { (bytes : List ℕ) → HasReadParts (der_message model.now) self.old.decoder bytes → KeepsShown (der_message model.now) self.old.decoder self.old.pieces bytes → HasEnough self.old model.now (bytes) → IsErrOf result Stop.Memory → ⊥ }
     {
         if self.decoder.is_fresh() {
@@ -125,6 +129,7 @@ impl DerChecker {
         ensures err { (bytes : List ℕ) → HasReadParts (der_message model.now) self.old.decoder bytes → IfErr result (λ stop. StopsWithin model.now self.new.decoder bytes stop) }
         ensures keeps { IsKeeping self.old model.now → IsKeeping self.new model.now }
         ensures same { self.new.room ≡ self.old.room }
+        ensures alone { StaysAlone self.old.pieces self.new.pieces }
         ensures memory { (bytes : List ℕ) → HasReadParts (der_message model.now) self.old.decoder bytes → KeepsShown (der_message model.now) self.old.decoder self.old.pieces bytes → HasEnough self.old model.now (bytes) → IsErrOf result Stop.Memory → ⊥ }
     {
         if !self.decoder.ends_here() {
@@ -145,6 +150,7 @@ impl DerChecker {
         ensures err { (bytes : List ℕ) → HasReadParts (der_message model.now) self.old.decoder bytes → IfErr result (λ stop. StopsWithin model.now self.new.decoder bytes stop) }
         ensures keeps { IsKeeping self.old model.now → IsKeeping self.new model.now }
         ensures same { self.new.room ≡ self.old.room }
+        ensures alone { StaysAlone self.old.pieces self.new.pieces }
         ensures memory { (bytes : List ℕ) → HasReadParts (der_message model.now) self.old.decoder bytes → KeepsShown (der_message model.now) self.old.decoder self.old.pieces bytes → HasEnough self.old model.now (bytes) → IsErrOf result Stop.Memory → ⊥ }
     {
         loop {
@@ -174,6 +180,7 @@ impl DerChecker {
         ensures err { (bytes : List ℕ) → HasReadParts (der_message model.now) self.old.decoder bytes → IfErr result (λ stop. StopsWithin model.now self.new.decoder bytes stop) }
         ensures keeps { IsKeeping self.old model.now → IsKeeping self.new model.now }
         ensures same { self.new.room ≡ self.old.room }
+        ensures alone { StaysAlone self.old.pieces self.new.pieces }
         ensures memory { (bytes : List ℕ) → HasReadParts (der_message model.now) self.old.decoder bytes → KeepsShown (der_message model.now) self.old.decoder self.old.pieces bytes → HasEnough self.old model.now (bytes) → IsErrOf result Stop.Memory → ⊥ }
         ensures ended { IfOk result (λ ended. ended ≡ true → IsFreshOrOver self.new.decoder.due) }
         ensures less { IfOk result (λ ended. ended ≡ true → length self.new.decoder.levels.items < length self.old.decoder.levels.items) }
@@ -204,6 +211,7 @@ impl DerChecker {
         ensures err { (bytes : List ℕ) → HasReadParts (der_message model.now) self.old.decoder bytes → IfErr result (λ stop. StopsWithin model.now self.new.decoder bytes stop) }
         ensures keeps { IsKeeping self.old model.now → IsKeeping self.new model.now }
         ensures same { self.new.room ≡ self.old.room }
+        ensures alone { StaysAlone self.old.pieces self.new.pieces }
         ensures memory { (bytes : List ℕ) → EndsLeaf (der_message model.now) self.old.decoder self.old.pieces bytes → HasEnough self.old model.now (bytes) → IsErrOf result Stop.Memory → ⊥ }
     {
         match self.end_component(model) {

@@ -6,7 +6,7 @@ use Rattle.der_codec.proofs.Keeping.{enough_then, err_as}
 use Rattle.der_codec.proofs.checker.DerChecker.end_all.Goals as goal
 
 pub loop-ended-init : goal.loop-ended-init
-loop-ended-init c = (c.requires.fresh, refl, refl, refl, λ bytes r. r, λ bytes r shows. shows, λ k. k, refl)
+loop-ended-init c = (c.requires.fresh, refl, refl, refl, λ bytes r. r, λ bytes r shows. shows, λ k. k, refl, λ none. none)
 
 pub end_one-requires-clause-fresh : goal.end_one-requires-clause-fresh
 end_one-requires-clause-fresh c = c.loop-ended.invariant.0
@@ -52,6 +52,7 @@ loop-ended-preserved c =
       λ bytes r shows. h.shown bytes (i.4 bytes r) (i.5 bytes r shows),
       λ k. h.keeps (i.6 k),
       h.same ∙ i.7,
+      λ none. h.alone (i.8 none),
     )
 
 pub returns-in-Err-clause-keeps : goal.returns-in-Err-clause-keeps

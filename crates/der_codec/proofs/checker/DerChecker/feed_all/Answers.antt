@@ -5,7 +5,7 @@ use Rattle.der_codec.proofs.Keeping.{enough_then, err_as}
 use Rattle.der_codec.proofs.checker.DerChecker.feed_all.Goals as goal
 
 pub loop-rest-init : goal.loop-rest-init
-loop-rest-init c = (c.requires.checks, λ bytes h. none_given c.args.model.now c.args.self.now bytes c.args.piece.now h, λ k. k, refl)
+loop-rest-init c = (c.requires.checks, λ bytes h. none_given c.args.model.now c.args.self.now bytes c.args.piece.now h, λ k. k, refl, λ none. none)
 
 pub take_front-requires-clause-room : goal.take_front-requires-clause-room
 take_front-requires-clause-room c =
@@ -22,6 +22,7 @@ loop-rest-preserved c = (
       more_given c.args.model.now c.loop-rest.self c.take_front.new.self bytes c.args.piece.now rest c.split_at.result.1.now c.in-Ok.count s whole (c.in-Ok.ensures.front.ok (bytes ++ s.seen) s.fed_are),
   λ k. c.take_front.ensures.keeps (c.loop-rest.invariant.2 k),
   c.take_front.ensures.same ∙ c.loop-rest.invariant.3,
+  λ none. c.take_front.ensures.alone (c.loop-rest.invariant.4 none),
 )
 
 pub returns-in-Err-clause-err : goal.returns-in-Err-clause-err

@@ -14,6 +14,7 @@ returns-in-Ok c = record {
   err = λ bytes r. tt;
   keeps = c.in-Ok.ensures.keeps;
   same = c.in-Ok.ensures.same;
+  alone = c.in-Ok.ensures.alone;
   memory = λ bytes r shows e is. absurd cc;
 }
 
@@ -26,5 +27,6 @@ returns-in-Err c = record {
   err = λ bytes r. within_more c.args.model.now c.end_open.new.self.decoder bytes c.args.behind.now (bytes ++ c.args.behind.now) c.in-Err.stop refl (c.in-Err.ensures.err bytes r);
   keeps = c.in-Err.ensures.keeps;
   same = c.in-Err.ensures.same;
+  alone = c.in-Err.ensures.alone;
   memory = λ bytes r shows e is. c.in-Err.ensures.memory bytes r shows (enough_less c.args.model.now c.args.self.now bytes c.args.behind.now (bytes ++ c.args.behind.now) refl e) (err_as _ _ is);
 }

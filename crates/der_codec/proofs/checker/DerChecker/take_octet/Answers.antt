@@ -42,6 +42,7 @@ returns-in_default c =
       begun = h.begun;
       keeps = λ k. keeping_as c.args.model.now c.args.self.now _ refl c.take_header.ensures.room (omega arith) (λ bytes h. h) (grows_same c.args.self.now.pieces) k;
       same = refl;
+      alone = λ none. none;
       memory = λ bytes r shows e is. absurd cc;
     }
 

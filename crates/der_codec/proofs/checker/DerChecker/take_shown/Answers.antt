@@ -15,6 +15,7 @@ loop-count-init c = (
   λ none. refl,
   λ k. k,
   refl,
+  λ none. none,
 )
 
 pub split_at-requires : goal.split_at-requires
@@ -69,6 +70,7 @@ loop-count-preserved c =
       λ none. absurd (omega (arith, none, some)),
       λ k. c.in-Ok.ensures.keeps (i.4 k),
       c.in-Ok.ensures.same ∙ i.5,
+      λ none. c.in-Ok.ensures.alone (i.6 none),
     )
 
 pub returns-in-Err-clause-keeps : goal.returns-in-Err-clause-keeps

@@ -2,6 +2,7 @@ use Rattle.std.proofs.Common.{◌≡◌, ◌≤◌, ◌-◌, ◌++◌, ℕ, List
 use Rattle.message_model.specs.Tables.{types_of}
 use Rattle.der_codec.specs.Checked.{CheckTypes}
 use Rattle.der_codec.specs.Checking.{HasFedDer}
+use Rattle.der_codec.specs.KeptPieces.{StaysAlone}
 use Rattle.der_codec.specs.Reserved.{IsKeeping}
 use Rattle.der_codec.proofs.checker.DerChecker.take_shown.Given as goal
 
@@ -14,6 +15,7 @@ invariant-loop-count l =
     × (l.taken ≡ 0 → l.self.decoder ≡ l.fn.self.decoder)
     × (IsKeeping l.fn.self l.model → IsKeeping l.self l.model)
     × (l.self.room ≡ l.fn.self.room)
+    × StaysAlone l.fn.self.pieces l.self.pieces
 
 abbrev pub decreases-loop-count : goal.decreases-loop-count
 decreases-loop-count l = length l.piece - l.taken
