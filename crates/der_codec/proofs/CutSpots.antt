@@ -1,6 +1,5 @@
 -- What is kept of contents in values, and what is held of what is open.
-use Rattle.std.proofs.Common.{◌≡◌, ℕ, zero, suc, ◌-◌, ◌≤◌, List, [], ◌∷◌, ◌++◌, length, drop, Option, Some, None, Result, Ok, Err, refl, sym, ap, ◌∙◌, subst, arith, append_assoc, length-append, Bor, encode_utf8_all}
-use Rattle.std.specs.Prelude.{IfOk}
+use Rattle.std.proofs.Common.{◌≡◌, ℕ, zero, suc, ◌-◌, ◌≤◌, List, [], ◌∷◌, ◌++◌, length, drop, Option, Some, None, Ok, Err, refl, sym, ap, ◌∙◌, subst, arith, append_assoc, length-append, Bor, encode_utf8_all}
 use Rattle.data_types.specs.Leaf.{Leaf}
 use Rattle.facets.specs.LeafChecks.{IsHeldWithin}
 use Rattle.facets.specs.declared.simple.Simple.{Simple}
@@ -18,16 +17,14 @@ use Rattle.der_model.specs.Faults.{IsHeldIn, BreaksIn}
 use Rattle.der_model.specs.Structures as structures
 use Rattle.der_model.specs.Structures.{Structure, Holds, LeafOf, structure, form_structure, number_structure}
 use Rattle.der_model.specs.States.{State, Start, AwaitsLength, AwaitsContents, Within}
-use Rattle.der_codec.specs.Judging.{HoldsLeaf, IsVerdictFor}
-use Rattle.der_codec.specs.KeptPieces.{HoldsLeafAt, GoesOnByLeaf}
+use Rattle.der_codec.specs.Judging.{HoldsLeaf}
+use Rattle.der_codec.specs.KeptPieces.{HoldsLeafAt}
 use Rattle.der_codec.specs.Levels.{IsSpot}
 use Rattle.der_codec.specs.OpenLeaves.{IsOpenUnder, HoldsAt}
 use Rattle.der_codec.specs.KeptOctets.{IsKeptUnder, IsKeptIn, IsKeptAt, IsLeafAt}
 use Rattle.der_codec.specs.Limits.{contents_limit, open_limit, leaf_come, token_come}
 use Rattle.der_codec.specs.Decoding.{Reads, IsOpenState, IsBegun, header_come}
 use Rattle.der_codec.specs.Checking.{KeepsContents}
-use Rattle.der_codec.specs.declared.checks.Refusal.{Refusal}
-use Rattle.der_codec.specs.declared.checks.Refusal.TheVariants as refused
 use Rattle.der_codec.specs.declared.held.Held.{Held}
 use Rattle.der_codec.specs.declared.held.OpenLeaf.{OpenLeaf}
 use Rattle.der_codec.specs.declared.held.OpenLeaf.TheVariants as opens
@@ -111,15 +108,6 @@ stands_kept m spot pieces opened kept octets none h = (subst (λ o. HoldsAt m sp
 
 pub stands_leaf : (m : DerMessage ℕ) (spot : Spot) (kept octets front : List ℕ) (leaf : Leaf) → IsKeptAt m spot kept octets → HoldsLeafAt m spot (kept ++ front) leaf → HoldsLeafAt m spot (octets ++ front) leaf
 stands_leaf m spot kept octets front leaf k h = λ of at. (k.stands of at).leaf front leaf (h of at)
-
-pub stands_verdict : {T : Type 0} (m : DerMessage ℕ) (spot : Spot) (kept octets front : List ℕ) (result : Result T Refusal) → IsKeptAt m spot kept octets → IsVerdictFor m spot (kept ++ front) result → IsVerdictFor m spot (octets ++ front) result
-stands_verdict m spot kept octets front (Ok x) k h = λ of at. (k.stands of at).held front (h of at)
-stands_verdict m spot kept octets front (Err (refused.Breaks rule)) k h = λ of at. (k.stands of at).broken front rule (h of at)
-stands_verdict m spot kept octets front (Err refused.Memory) k h = tt
-
-pub stands_shown : {T : Type 0} (m : DerMessage ℕ) (spot : Spot) (kept octets front : List ℕ) (old new : Option Region) (result : Result T Refusal) → IsKeptAt m spot kept octets → IfOk result (λ _. GoesOnByLeaf m spot (kept ++ front) old new) → IfOk result (λ _. GoesOnByLeaf m spot (octets ++ front) old new)
-stands_shown m spot kept octets front old new (Ok x) k (leaf, at, goes) = (leaf, stands_leaf m spot kept octets front leaf k at, goes)
-stands_shown m spot kept octets front old new (Err refusal) k h = tt
 
 -- ---- the simple type at a spot
 

@@ -4,7 +4,6 @@ use Rattle.std.proofs.Common.{◌≡◌, ◌≢◌, ℕ, zero, suc, ◌+◌, ◌
 use Rattle.std.proofs.Math.Seq.{take-add}
 use Rattle.lexical_core.specs.declared.rule.Rule.{Rule}
 use Rattle.lexical_core.specs.declared.rule.Rule.TheVariants.{DerTruncated}
-use Rattle.data_types.specs.Leaf.{Leaf}
 use Rattle.facets.specs.LeafChecks.{IsHeldWithin}
 use Rattle.inst_pool.specs.Pieces.{Region}
 use Rattle.message_model.specs.Tables.{Tables, types_of}
@@ -41,7 +40,7 @@ use Rattle.der_codec.specs.declared.decoder.Stop.TheVariants as stop
 use Rattle.der_codec.proofs.InputEnds.{goes_on, is_spelled}
 use Rattle.der_codec.proofs.Named.{front_named}
 use Rattle.der_codec.specs.OpenLeaves.{HoldsAt, HoldsNothing}
-use Rattle.der_codec.specs.KeptPieces.{KeepsShown, HoldsLeafAt, GoesOnByLeaf, EndsLeaf}
+use Rattle.der_codec.specs.KeptPieces.{KeepsShown, GoesOnByLeaf, EndsLeaf}
 use Rattle.der_codec.specs.Limits.{open_limit, leaf_come, token_come}
 use Rattle.der_codec.proofs.CutSpots.{nothing_held, held_open, token_open}
 use Rattle.der_codec.proofs.ContentsSteps.{place_counts, kept_more, none_kept, rest_from, some_before, contents_break}

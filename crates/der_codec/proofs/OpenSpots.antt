@@ -9,17 +9,23 @@ use Rattle.message_model.specs.Tables.{Tables, types_of}
 use Rattle.der_model.specs.DerMessage.{DerMessage, der_message}
 use Rattle.der_model.specs.Structures as structures
 use Rattle.der_model.specs.Structures.{Structure, Holds, LeafOf, structure, form_structure}
-use Rattle.der_codec.specs.Judging.{HoldsLeaf, IsVerdictFor}
 use Rattle.der_codec.specs.KeptPieces.{HoldsLeafAt, GoesOnByLeaf, PiecesGoOn}
 use Rattle.inst_pool.specs.Pieces.{Region}
 use Rattle.data_types.specs.Value.{Holds as HoldsPiece}
 use Rattle.der_codec.specs.Levels.{IsSpot}
-use Rattle.der_codec.specs.OpenLeaves.{IsTypeAt, IsOpenUnder, IsOpenAt, IsBegunUnder, IsBegunAt, IsOpenSpot, IsOpenForm, IsToldUnder, HoldsAt, HoldsAlone}
+use Rattle.der_codec.specs.OpenLeaves.{IsTypeAt, IsOpenUnder, IsOpenAt, IsOpenForm, HoldsAt, HoldsAlone}
 use Rattle.der_codec.specs.KeptOctets.{IsKeptAt}
 use Rattle.der_model.specs.States as states
 use Rattle.der_model.specs.States.{State, AwaitsContents}
+use Rattle.data_types.specs.LeafSteps.{HasBody, HasValue, body_in_place, memory_of}
+use Rattle.data_types.specs.declared.collapsed_step.Value.{Value}
+use Rattle.data_types.specs.declared.collapsed_step.Value.TheVariants as values
+use Rattle.data_types.specs.declared.kind.Kind.{Kind}
 use Rattle.data_types.specs.declared.kind.Kind.TheVariants as kind
-use Rattle.der_codec.specs.Checking.{KeepsContents}
+use Rattle.data_types.specs.declared.leaf_step.Body.{Body}
+use Rattle.data_types.specs.declared.leaf_step.Body.TheVariants as bodies
+use Rattle.facets.proofs.HeldLemmas.{free_seen}
+use Rattle.der_codec.specs.Checking.{KeepsContents, held_by_leaf}
 use Rattle.der_codec.specs.Decoding.{Reads, IsOpenState}
 use Rattle.der_codec.specs.Limits.{IsFreeForm, IsBinaryForm, OpensFreeText, OpensBinary}
 use Rattle.der_codec.specs.declared.decoder.Due.{Due}
@@ -27,15 +33,10 @@ use Rattle.der_codec.specs.declared.decoder.Due.TheVariants as due
 use Rattle.der_codec.specs.declared.held.Held.{Held}
 use Rattle.der_codec.specs.declared.held.OpenLeaf.TheVariants as opens
 use Rattle.der_codec.specs.declared.level.Level.{Level}
-use Rattle.der_codec.specs.declared.checks.Refusal.{Refusal}
-use Rattle.der_codec.specs.declared.checks.Refusal.TheVariants as refused
 use Rattle.der_codec.specs.declared.held.OpenLeaf.{OpenLeaf}
 use Rattle.der_codec.specs.declared.level.Spot.{Spot}
 use Rattle.der_codec.specs.declared.level.Spot.TheVariants as spots
-use Rattle.der_codec.proofs.CutSpots.{held_few, under_little, held_then, none_open, stands_kept}
-use Rattle.der_codec.proofs.CutSpots.{none_held as kept_none}
-use Rattle.std.proofs.lemmas.List.{nil_from_length}
-use Rattle.der_model.specs.Faults.{IsHeldIn, BreaksIn}
+use Rattle.der_codec.proofs.CutSpots.{under_little, held_then}
 
 form_at : (m : DerMessage ℕ) (n : ℕ) (simple : Simple) → IsTypeAt m (spots.Value n) simple → m.forms n ≡ graph.Simple simple
 form_at m n simple t = (let same : n ≡ t.number = (let e = t.spot_is in cc) in ap m.forms same ∙ t.form_is)
@@ -43,88 +44,15 @@ form_at m n simple t = (let same : n ≡ t.number = (let e = t.spot_is in cc) in
 pub type_text : (T : Tables) (n : ℕ) (simple : Simple) → IsTypeAt (der_message T) (spots.Value n) simple → text_type (types_of T n) ≡ Some simple
 type_text T n simple t = ap text_type (form_at (der_message T) n simple t)
 
--- there is one
-one_type : (m : DerMessage ℕ) (spot : Spot) (a b : Simple) → IsTypeAt m spot a → IsTypeAt m spot b → a ≡ b
-one_type m spot a b s t =
-    let same : s.number ≡ t.number = (let e = sym s.spot_is ∙ t.spot_is in cc) in
-    let both : graph.Simple a ≡ graph.Simple b = sym s.form_is ∙ (ap m.forms same ∙ t.form_is) in
-    cc
-
-pub opened_under : (m : DerMessage ℕ) (spot : Spot) (simple : Simple) (opened : OpenLeaf) (rest octets : List ℕ) → IsTypeAt m spot simple → IsOpenAt m spot opened rest octets → IsOpenUnder simple opened rest octets
-opened_under m spot simple opened rest octets t o = subst (λ z. IsOpenUnder z opened rest octets) (one_type m spot o.simple simple o.type_is t) o.under
-
-pub opened_at : (m : DerMessage ℕ) (spot : Spot) (simple : Simple) (opened : OpenLeaf) (rest octets : List ℕ) → IsTypeAt m spot simple → IsOpenUnder simple opened rest octets → IsOpenAt m spot opened rest octets
-opened_at m spot simple opened rest octets t o = record { simple = simple; type_is = t; under = o }
-
--- what is begun under the type is begun at the spot
-pub begun_at : (m : DerMessage ℕ) (n : ℕ) (simple : Simple) (begun : Option OpenLeaf) → IsTypeAt m (spots.Value n) simple → IsBegunUnder simple begun → IsBegunAt m (spots.Value n) begun
-begun_at m n simple None t b = λ is. b (subst IsOpenForm (form_at m n simple t) is)
-begun_at m n simple (Some opened) t b = opened_at m (spots.Value n) simple opened [] [] t b
-
--- ---- what is told
-
-leaf_structure : (m : DerMessage ℕ) (spot : Spot) (simple : Simple) (of : structures.Spot ℕ) → IsTypeAt m spot simple → IsSpot m.forms spot of → structure m of ≡ Holds (LeafOf simple)
-leaf_structure m spot simple of t is =
-    ap (structure m) (subst (λ z. IsSpot m.forms z of) t.spot_is is) ∙ ap (form_structure m.forms t.number) t.form_is
-
-pub told_verdict : {T : Type 0} (m : DerMessage ℕ) (spot : Spot) (simple : Simple) (octets : List ℕ) (result : Result T Refusal) → IsTypeAt m spot simple → IsToldUnder simple octets result → IsVerdictFor m spot octets result
-told_verdict m spot simple octets (Ok x) t h = λ of is. subst (λ s. IsHeldIn m s octets) (sym (leaf_structure m spot simple of t is)) (Bytes octets, h)
-told_verdict m spot simple octets (Err (refused.Breaks rule)) t h = λ of is. subst (λ s. BreaksIn m s octets rule) (sym (leaf_structure m spot simple of t is)) h
-told_verdict m spot simple octets (Err refused.Memory) t h = tt
-
-pub told_leaf : {T : Type 0} (m : DerMessage ℕ) (spot : Spot) (simple : Simple) (octets : List ℕ) (result : Result T Refusal) → IsTypeAt m spot simple → IsToldUnder simple octets result → IfOk result (λ _. HoldsLeafAt m spot octets (Bytes octets))
-told_leaf m spot simple octets (Ok x) t h = λ of is. subst (λ s. HoldsLeaf m s octets (Bytes octets)) (sym (leaf_structure m spot simple of t is)) h
-told_leaf m spot simple octets (Err refusal) t h = tt
-
 -- ---- what is held
 
--- nothing has come of what is held
-none_held : (m : DerMessage ℕ) (spot : Spot) (pieces : Option Region) (opened : Option OpenLeaf) (kept octets : List ℕ) → HoldsAt m spot pieces opened kept octets → octets ≡ [] → kept ≡ []
-none_held m spot pieces opened kept octets h none =
-    nil_from_length kept (let few = held_few m spot pieces opened kept octets h in let size = ap length none in omega (arith, few, size))
-
--- a leaf of which nothing has come
-pub begun_alone : (m : DerMessage ℕ) (spot : Spot) (pieces : Option Region) (before begun : Option OpenLeaf) (kept octets : List ℕ) → HoldsAt m spot pieces before kept octets → octets ≡ [] → IsBegunAt m spot begun → HoldsAlone m spot begun kept octets
-begun_alone m spot pieces before begun kept octets h none b =
-    subst (λ z. HoldsAlone m spot begun z octets) (sym (none_held m spot pieces before kept octets h none)) (subst (HoldsAlone m spot begun []) (sym none) (by begun b))
-  where
-    by : (begun : Option OpenLeaf) → IsBegunAt m spot begun → HoldsAlone m spot begun [] []
-    by None b = (kept_none m spot [] [] refl refl, b)
-    by (Some opened) b = b
-
--- one of which some octets have come
-pub later_alone : (m : DerMessage ℕ) (spot : Spot) (pieces : Option Region) (opened : Option OpenLeaf) (kept octets : List ℕ) → pieces ≡ None → (octets ≡ [] → ⊥) → HoldsAt m spot pieces opened kept octets → HoldsAlone m spot opened kept octets
-later_alone m spot pieces None kept octets none some h = (h.0, λ is. some (h.1 none is))
-later_alone m spot pieces (Some opened) kept octets none some h = h.0
-
-pub alone_opened : (m : DerMessage ℕ) (spot : Spot) (leaf : OpenLeaf) (opened : Option OpenLeaf) (kept octets : List ℕ) → opened ≡ Some leaf → HoldsAlone m spot opened kept octets → IsOpenAt m spot leaf kept octets
-alone_opened m spot leaf opened kept octets is h = subst (λ o. HoldsAlone m spot o kept octets) is h
-
-pub alone_passed : {A E : Type 0} (m : DerMessage ℕ) (spot : Spot) (opened : Option OpenLeaf) (kept octets : List ℕ) (result : Result A E) → IfOk result (λ _. (now : OpenLeaf) × (opened ≡ Some now) × IsOpenAt m spot now kept octets) → OnOk result (HoldsAlone m spot opened kept octets)
-alone_passed m spot opened kept octets (Ok x) (now, is, o) = subst (λ o. HoldsAlone m spot o kept octets) (sym is) o
-alone_passed m spot opened kept octets (Err e) h = tt
-
+-- octets at a spot where no leaf is judged as its octets come, with more behind them
 pub alone_kept : {A E : Type 0} (m : DerMessage ℕ) (spot : Spot) (before after : Option OpenLeaf) (kept octets front less : List ℕ) (result : Result A E) → before ≡ None → after ≡ before → HoldsAlone m spot before kept octets
     → OnOk result (IsKeptAt m spot less (kept ++ front)) → OnOk result (HoldsAlone m spot after less (octets ++ front))
 alone_kept m spot before after kept octets front less (Ok x) none same h k =
     let old = subst (λ o. HoldsAlone m spot o kept octets) none h in
     subst (λ o. HoldsAlone m spot o less (octets ++ front)) (sym (same ∙ none)) (held_then m spot kept octets front less old.0 k, old.1)
 alone_kept m spot before after kept octets front less (Err e) none same h k = tt
-
--- with no pieces
-pub held_alone : {A E : Type 0} (m : DerMessage ℕ) (spot : Spot) (pieces : Option Region) (opened : Option OpenLeaf) (kept octets : List ℕ) (result : Result A E) → pieces ≡ None → OnOk result (HoldsAlone m spot opened kept octets) → OnOk result (HoldsAt m spot pieces opened kept octets)
-held_alone m spot pieces None kept octets (Ok x) none h = (h.0, λ alone is. absurd (h.1 is))
-held_alone m spot pieces (Some opened) kept octets (Ok x) none h = (h, none)
-held_alone m spot pieces opened kept octets (Err e) none h = tt
-
--- with some
-pub held_kept : {A E : Type 0} (m : DerMessage ℕ) (spot : Spot) (old new : Option Region) (before after : Option OpenLeaf) (kept octets front less : List ℕ) (region : Region) (result : Result A E) → old ≡ Some region → new ≡ old → after ≡ before
-    → HoldsAt m spot old before kept octets → OnOk result (IsKeptAt m spot less (kept ++ front)) → OnOk result (HoldsAt m spot new after less (octets ++ front))
-held_kept m spot old new before after kept octets front less region (Ok x) is same stays h k =
-    let none = none_open m spot old region before kept octets is h in
-    subst (λ o. HoldsAt m spot new o less (octets ++ front)) (sym (stays ∙ none))
-    (held_then m spot kept octets front less (stands_kept m spot old before kept octets none h) k, λ alone at. absurd (let both = sym (same ∙ is) ∙ alone in cc))
-held_kept m spot old new before after kept octets front less region (Err e) is same stays h k = tt
 
 -- ---- an open leaf keeps no pieces
 
@@ -137,11 +65,12 @@ opened_shown m spot octets old new (Err e) none same h = tt
 
 -- ---- how little is held where no pieces are kept
 
-no_value : (m : DerMessage ℕ) (spot : Spot) (p : ℕ) → IsSpot m.forms spot (structures.Value p) → spot ≡ spots.Value p
-no_value m (spots.Value n) p is = (let same : n ≡ p = cc in ap spots.Value same)
-no_value m spots.Instance p is = absurd cc
-no_value m (spots.List n k) p (s, there, is) = absurd cc
-no_value m (spots.Number n) p is = absurd cc
+-- a spot that is that of a value
+spot_value : (m : DerMessage ℕ) (spot : Spot) (p : ℕ) → IsSpot m.forms spot (structures.Value p) → spot ≡ spots.Value p
+spot_value m (spots.Value n) p is = (let same : n ≡ p = cc in ap spots.Value same)
+spot_value m spots.Instance p is = absurd cc
+spot_value m (spots.List n k) p (s, there, is) = absurd cc
+spot_value m (spots.Number n) p is = absurd cc
 
 free_opens : (f : graph.Form ℕ Simple) → IsFreeForm f → IsOpenForm f
 free_opens (graph.Simple simple) free = inl free
@@ -179,7 +108,7 @@ free_held T xs d start place bytes pieces kept r keeps none = by d r.state r.is_
     few e = (let size = ap length e in omega (arith, size))
 
     at : (spot : Spot) (of : structures.Spot ℕ) (names : List states.PathName) (count : ℕ) (ls : List (states.DerLevel ℕ)) → IsSpot m.forms spot of → HoldsAt m spot pieces kept.leaf kept.octets.items (drop start bytes) → OpensFreeText m (AwaitsContents of names count ls) → length kept.octets.items ≤ 3
-    at spot (structures.Value p) names count ls is h free = free_at m p pieces kept.leaf kept.octets.items (drop start bytes) (subst (λ z. HoldsAt m z pieces kept.leaf kept.octets.items (drop start bytes)) (no_value m spot p is) h) none free
+    at spot (structures.Value p) names count ls is h free = free_at m p pieces kept.leaf kept.octets.items (drop start bytes) (subst (λ z. HoldsAt m z pieces kept.leaf kept.octets.items (drop start bytes)) (spot_value m spot p is) h) none free
     at spot of names count ls is h free = absurd free
 
     by : (d : Due) (s : State ℕ) → IsOpenState m xs d s → KeepsContents T d pieces start bytes kept → OpensFreeText m s → length kept.octets.items ≤ 3
@@ -197,7 +126,7 @@ binary_held T xs d start place bytes pieces kept r keeps none = by d r.state r.i
     m = der_message T
 
     at : (spot : Spot) (of : structures.Spot ℕ) (names : List states.PathName) (count : ℕ) (ls : List (states.DerLevel ℕ)) → IsSpot m.forms spot of → HoldsAt m spot pieces kept.leaf kept.octets.items (drop start bytes) → OpensBinary m (AwaitsContents of names count ls) → length kept.octets.items ≡ 0
-    at spot (structures.Value p) names count ls is h binary = binary_at m p pieces kept.leaf kept.octets.items (drop start bytes) (subst (λ z. HoldsAt m z pieces kept.leaf kept.octets.items (drop start bytes)) (no_value m spot p is) h) none binary
+    at spot (structures.Value p) names count ls is h binary = binary_at m p pieces kept.leaf kept.octets.items (drop start bytes) (subst (λ z. HoldsAt m z pieces kept.leaf kept.octets.items (drop start bytes)) (spot_value m spot p is) h) none binary
     at spot of names count ls is h binary = absurd binary
 
     by : (d : Due) (s : State ℕ) → IsOpenState m xs d s → KeepsContents T d pieces start bytes kept → OpensBinary m s → length kept.octets.items ≡ 0
@@ -206,3 +135,32 @@ binary_held T xs d start place bytes pieces kept r keeps none = by d r.state r.i
     by (due.Tag step) s op k binary = ap length k.0
     by (due.Length c spot step) s op k binary = ap length k.0
     by due.Over s op k binary = ap length k.0
+
+-- ---- the check of a text keeps no bytes
+
+kept_none_by : (k : Kind) (body : Body) (chars : List ℕ) → k ≡ kind.Text → HasBody k body (Some 0) chars → length (memory_of body).held + body_in_place body ≡ 0
+kept_none_by k (bodies.Text text) chars is (same, h) = (let few = h.1.bound in let used = h.1.within in omega (arith, few, used))
+kept_none_by k (bodies.Collapsed step) chars is (collapsed, c, h) = absurd (by step.value h)
+  where
+    by : (v : Value) → HasValue k v (Some 0) chars collapsed → ⊥
+    by (values.Decimal s) h = (let both = sym is ∙ h.0 in cc)
+    by (values.Short s) h = h.0.no_text is
+    by (values.Octets s) h = (let both = sym is ∙ h.0 in cc)
+
+opened_keeps : (simple : Simple) (opened : OpenLeaf) (rest octets : List ℕ) → IsOpenUnder simple opened rest octets → held_by_leaf (Some opened) ≡ 0
+opened_keeps simple (opens.Text check) rest octets (free, t) = kept_none_by simple.kind check.value.progress.step.body t.chars free.0 (free_seen check.value.progress simple t.chars free t.taken.seen).step.1
+opened_keeps simple opens.NoText rest octets h = refl
+opened_keeps simple opens.Binary rest octets h = refl
+
+pub check_none : (T : Tables) (d : Due) (pieces : Option Region) (start : ℕ) (bytes : List ℕ) (kept : Held) → KeepsContents T d pieces start bytes kept → held_by_leaf kept.leaf ≡ 0
+check_none T d pieces start bytes kept keeps = by d keeps
+  where
+    at : (spot : Spot) (o : Option OpenLeaf) → HoldsAt (der_message T) spot pieces o kept.octets.items (drop start bytes) → held_by_leaf o ≡ 0
+    at spot None h = refl
+    at spot (Some opened) h = opened_keeps h.0.simple opened kept.octets.items (drop start bytes) h.0.under
+
+    by : (d : Due) → KeepsContents T d pieces start bytes kept → held_by_leaf kept.leaf ≡ 0
+    by (due.Contents spot left) k = at spot kept.leaf k
+    by (due.Tag step) k = ap held_by_leaf k.1
+    by (due.Length c spot step) k = ap held_by_leaf k.1
+    by due.Over k = ap held_by_leaf k.1

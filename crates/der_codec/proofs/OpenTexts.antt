@@ -1,10 +1,10 @@
 -- The octets of a text that is judged as they come.
-use Rattle.std.proofs.Common.{◌≡◌, ℕ, zero, ◌+◌, ◌-◌, ◌≤◌, ◌<◌, List, [], ◌++◌, length, take, drop, refl, sym, ap, ◌∙◌, subst, arith, append-nil, append_assoc, length-append, inl, inr, encode_utf8_all, Ok, Err, Result}
-use Rattle.std.proofs.Math.Seq.{take-add, take-append-add, take-append_seam}
+use Rattle.std.proofs.Common.{◌≡◌, ℕ, ◌+◌, ◌-◌, ◌≤◌, List, [], ◌++◌, length, take, drop, refl, sym, ap, ◌∙◌, subst, arith, append-nil, append_assoc, inl, inr, encode_utf8_all, Ok, Err, Result}
+use Rattle.std.proofs.Math.Seq.{take-add, take-append-add}
 use Rattle.std.proofs.lemmas.Bool.{cases_lt}
 use Rattle.std.proofs.lemmas.List.{take-append-drop, take-append-le, take_all, length-drop, nil_from_length}
 use Rattle.std.proofs.lemmas.Str.{encodes-append}
-use Rattle.lexical_core.specs.Characters.{IsXmlChar, IsXmlText}
+use Rattle.lexical_core.specs.Characters.{IsXmlText}
 use Rattle.lexical_core.specs.XmlRuns.{IsXmlRun}
 use Rattle.lexical_core.specs.declared.rule.Rule.TheVariants.{BadContents}
 use Rattle.facets.specs.LeafVerdicts.{HasVerdictTaken, IsFreeText}

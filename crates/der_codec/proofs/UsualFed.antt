@@ -2,7 +2,6 @@
 use Rattle.std.specs.Prelude.{Ok, Err, Result}
 use Rattle.std.proofs.lemmas.List.{length-take-le}
 use Rattle.std.proofs.Common.{◌≡◌, ℕ, zero, suc, ◌+◌, ◌≤◌, ◌<◌, ◌^◌, true, false, List, [], ◌∷◌, ◌++◌, length, take, drop, Option, None, refl, sym, ap, ◌∙◌, subst, arith, append-nil}
-use Rattle.std.specs.Global.{Vec}
 use Rattle.der_octets.specs.TagSteps as tags
 use Rattle.der_octets.specs.declared.tag_step.TagStep.{TagStep}
 use Rattle.inst_pool.specs.Pieces.{Region}

@@ -2,6 +2,7 @@
 use Rattle.std.specs.Prelude.{◌≡◌, ◌≢◌, ℕ, suc, ◌+◌, ◌≤◌, ◌^◌, List, [], ◌++◌, length, take, drop, IfOk, IfErr, Option, Some, None, Result}
 use Rattle.lexical_core.specs.declared.rule.Rule.TheVariants.{DerTruncated}
 use Rattle.data_types.specs.Value.{Value}
+use Rattle.facets.specs.LeafVerdicts.{verdict_kept, verdict_in_place}
 use Rattle.inst_pool.specs.Pieces.{Region}
 use Rattle.message_model.specs.Tables.{Tables, types_of}
 use Rattle.message_model.specs.declared.fault.Fault.{Fault as Told}
@@ -24,6 +25,7 @@ use Rattle.der_codec.specs.declared.decoder.Stop.TheVariants as stop
 use Rattle.der_codec.specs.declared.checker.DerChecker.{DerChecker}
 use Rattle.der_codec.specs.declared.held.Held.{Held}
 use Rattle.der_codec.specs.declared.held.OpenLeaf.{OpenLeaf}
+use Rattle.der_codec.specs.declared.held.OpenLeaf.TheVariants as opens
 use Rattle.der_codec.specs.declared.level.Spot.{Spot}
 
 -- of contents that are due is held what tells what those are that have come
@@ -67,6 +69,14 @@ der_bytes_fed checker = checker.decoder.place
 -- how many octets it keeps of the contents that are due
 abbrev pub held_contents : DerChecker → ℕ
 held_contents checker = length checker.kept.octets.items
+
+-- how many bytes the check of an open leaf keeps, in memory and in place
+abbrev pub held_by_leaf : Option OpenLeaf → ℕ
+held_by_leaf (Some (opens.Text check)) = verdict_kept check.value + verdict_in_place check.value
+held_by_leaf opened = 0
+
+abbrev pub held_by_check : DerChecker → ℕ
+held_by_check checker = held_by_leaf checker.kept.leaf
 
 -- it keeps no pieces
 abbrev pub KeepsNoPieces : DerChecker → Type 0

@@ -12,7 +12,7 @@ ghost use Rattle.der_codec.specs.KeptPieces.{KeepsShown, AreNone, StaysAlone};
 ghost use Rattle.der_codec.specs.Reserved.{IsKeeping, HasEnough};
 ghost use Rattle.der_codec.specs.OpenLeaves.{HoldsNothing};
 ghost use Rattle.der_codec.specs.Limits.{OpensFreeText, OpensBinary, open_limit, leaf_come, token_come};
-ghost use Rattle.der_codec.specs.Checking.{HasFedDer, KeepsNoPieces, IsReading, IsDerCheckerFor, StopsWithin, TakesDerFront, DerStops, HaveDerFault, IsSpelledDer, DerEndsAs, IsFreed, open_count, der_bytes_fed, der_failure, held_contents, token_held};
+ghost use Rattle.der_codec.specs.Checking.{HasFedDer, KeepsNoPieces, IsReading, IsDerCheckerFor, StopsWithin, TakesDerFront, DerStops, HaveDerFault, IsSpelledDer, DerEndsAs, IsFreed, open_count, der_bytes_fed, der_failure, held_contents, held_by_check, token_held};
 
 use crate::checks::Checks;
 use crate::decoder::{Decoder, Due, Stop};
@@ -104,6 +104,7 @@ impl DerChecker {
             → IsHeldWithin (open_limit (der_message T) h.reading.read.state) (leaf_come h.reading.read.state h.reading.read.rest) result }
         ensures free { (T : Tables) (bytes : List ℕ) (h : HasFedDer self.now T bytes) → KeepsNoPieces self.now → OpensFreeText (der_message T) h.reading.read.state → result ≤ 3 }
         ensures binary { (T : Tables) (bytes : List ℕ) (h : HasFedDer self.now T bytes) → KeepsNoPieces self.now → OpensBinary (der_message T) h.reading.read.state → result ≡ 0 }
+        ensures check { (T : Tables) (bytes : List ℕ) → HasFedDer self.now T bytes → held_by_check self.now ≡ 0 }
     {
         self.kept.octets.len() as u64
     }

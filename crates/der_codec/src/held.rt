@@ -55,7 +55,8 @@ impl Held {
         }
     }
 
-    /// Takes octets of the leaf that is open, behind which more of them are due.
+    /// Takes octets of the leaf that is open at the spot, behind which more of them are due. Where none is, the answer
+    /// is that there is no memory.
     pub(crate) fn pass(
         &mut self,
         model: &Model,
@@ -82,7 +83,8 @@ impl Held {
         }
     }
 
-    /// Takes the last octets of the leaf that is open, so many in all, and tells what they are. Nothing is held then.
+    /// Takes the last octets of the leaf that is open at the spot, so many in all, and tells what they are. Nothing is
+    /// held then. Where none is open, the answer is that there is no memory.
     pub(crate) fn finish(
         &mut self,
         checks: &mut Checks,

@@ -54,9 +54,37 @@ impl DerChecker {
         }
         let count = left as usize;
         let (front, _behind) = behind.split_at(count);
-        match self.take_last(model, spot, left, front) {
+        match self.take_here(model, spot, left, front) {
             Ok(()) => Ok(count),
             Err(stop) => Err(stop),
+        }
+    }
+
+    /// Judges contents octets that all stand here, where nothing is held, and ends the values that end behind them.
+    #[inline(always)]
+    fn take_here(&mut self, model: &Model, spot: Spot, left: u64, front: &[u8]) -> Result<(), Stop>
+        requires due { self.old.decoder.due ≡ Due.Contents spot left }
+        requires begun { self.old.decoder.start ≡ self.old.decoder.place }
+        requires last { length front.now ≡ left }
+        requires kept { HoldsNothing self.old.kept }
+        requires checks { CheckTypes (types_of model.now) self.old.checks }
+        requires room { der_bytes_fed self.old + length front.now ≤ 2 ^ 40 }
+        requires given { (bytes : List ℕ) × HasReadParts (der_message model.now) self.old.decoder bytes × KeepsShown (der_message model.now) self.old.decoder self.old.pieces bytes }
+        ensures checks { CheckTypes (types_of model.now) self.new.checks }
+        ensures sound { self.new.failed ≡ self.old.failed }
+        ensures ok { (bytes : List ℕ) → HasReadParts (der_message model.now) self.old.decoder bytes → KeepsShown (der_message model.now) self.old.decoder self.old.pieces bytes → IfOk result (λ _. IsReading model.now self.new.decoder self.new.kept self.new.pieces (bytes ++ front.now)) }
+        ensures err { (bytes : List ℕ) → HasReadParts (der_message model.now) self.old.decoder bytes → IfErr result (λ stop. StopsWithin model.now self.new.decoder (bytes ++ front.now) stop) }
+        ensures keeps { IsKeeping self.old model.now → IsKeeping self.new model.now }
+        ensures same { self.new.room ≡ self.old.room }
+        ensures alone { StaysAlone self.old.pieces self.new.pieces }
+        ensures memory { (bytes : List ℕ) → HasReadParts (der_message model.now) self.old.decoder bytes → KeepsShown (der_message model.now) self.old.decoder self.old.pieces bytes → HasEnough self.old model.now (bytes ++ front.now) → IsErrOf result Stop.Memory → ⊥ }
+    {
+        match tell(&mut self.checks, &mut self.pieces, model, spot, front) {
+            Ok(()) => {
+                self.decoder.end_contents(spot, left);
+                self.end_leaf(model)
+            }
+            Err(refusal) => Err(self.decoder.refused(refusal)),
         }
     }
 
@@ -209,7 +237,6 @@ impl DerChecker {
     }
 
     /// Takes the last contents octets of a leaf, judges it, and ends the values that end behind it.
-    #[inline(always)]
     fn take_last(&mut self, model: &Model, spot: Spot, left: u64, front: &[u8]) -> Result<(), Stop>
         requires room { der_bytes_fed self.old + length front.now ≤ 2 ^ 40 }
         requires due { self.old.decoder.due ≡ Due.Contents spot left }
@@ -236,7 +263,6 @@ impl DerChecker {
     }
 
     /// Judges contents octets, of which these are the last.
-    #[inline(always)]
     fn judge_whole(&mut self, model: &Model, spot: Spot, front: &[u8]) -> Result<(), Refusal>
         requires room { der_bytes_fed self.old + length front.now ≤ 2 ^ 40 }
         requires checks { CheckTypes (types_of model.now) self.old.checks }
@@ -259,8 +285,6 @@ impl DerChecker {
     }
 
     /// The same of a leaf that is open.
-    #[cold]
-    #[inline(never)]
     fn judge_open(&mut self, model: &Model, spot: Spot, front: &[u8]) -> Result<(), Refusal>
         requires room { der_bytes_fed self.old + length front.now ≤ 2 ^ 40 }
         requires checks { CheckTypes (types_of model.now) self.old.checks }
@@ -281,7 +305,6 @@ impl DerChecker {
     }
 
     /// The same of octets that stand for those that have come. Where none were kept they are judged where they lie.
-    #[inline(always)]
     fn judge_held(&mut self, model: &Model, spot: Spot, front: &[u8]) -> Result<(), Refusal>
         requires short { length self.old.kept.octets.items + length front.now < 2 ^ 40 }
         requires opened { self.old.kept.leaf ≡ None }

@@ -1,6 +1,5 @@
 use Rattle.message_model.specs.Tables.{types_of}
-use Rattle.der_model.specs.DerMessage.{der_message}
-use Rattle.der_codec.proofs.OpenSpots.{type_text, begun_at}
+use Rattle.der_codec.proofs.OpenSpots.{type_text}
 use Rattle.der_codec.proofs.held.begin_value.Goals as goal
 
 pub begin_under-requires-clause-made : goal.begin_under-requires-clause-made

@@ -1,4 +1,4 @@
-use Rattle.std.proofs.Common.{rules, ◌≡◌, ◌≤◌, ◌<◌, ◌-◌, ◌++◌, [], append-nil, length, take, drop, refl, sym, ap, ◌∙◌, subst, arith}
+use Rattle.std.proofs.Common.{rules, ◌≡◌, ◌≤◌, ◌<◌, ◌-◌, ◌++◌, [], append-nil, length, take, drop, sym, ap, subst}
 use Rattle.lexical_core.specs.XmlRuns.{IsXmlRun}
 use Rattle.der_codec.specs.OpenLeaves.{IsOpenText}
 use Rattle.der_codec.proofs.CutTexts.{none_comes}

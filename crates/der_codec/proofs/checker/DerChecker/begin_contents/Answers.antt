@@ -1,6 +1,6 @@
 use Rattle.std.proofs.Common.{◌≡◌, ◌++◌, ◌∙◌, take, ap, sym, subst, arith}
 use Rattle.der_codec.specs.Checking.{IsReading}
-use Rattle.der_codec.proofs.Fed.{fresh_keeps, fresh_reading, none_more, further_stops, joined}
+use Rattle.der_codec.proofs.Fed.{fresh_reading, none_more, further_stops, joined}
 use Rattle.der_codec.proofs.Keeping.{enough_less, behind_is, err_as}
 use Rattle.der_codec.proofs.checker.DerChecker.begin_contents.Goals as goal
 
@@ -11,18 +11,11 @@ returns-then-behind-left-clause-ok c = λ bytes r shows.
     let fewer = c.if-behind-left.true in
     none_more T s.decoder s.kept s.pieces bytes c.args.behind.now (fresh_reading T s.decoder s.kept s.pieces bytes c.args.spot c.args.left c.requires.due (omega (arith, fewer)) c.requires.begun c.requires.kept r shows)
 
-pub take_last-requires-clause-given : goal.take_last-requires-clause-given
-take_last-requires-clause-given c =
-    let s = c.args.self.now in
-    let g = c.requires.given in
-    (g.0, (g.1, fresh_keeps c.args.model.now s.decoder s.kept s.pieces g.0 c.args.spot c.args.left c.requires.due c.requires.begun c.requires.kept g.1), g.2)
-
 pub returns-in-Ok-clause-ok : goal.returns-in-Ok-clause-ok
 returns-in-Ok-clause-ok c = λ bytes r shows.
     let s = c.args.self.now in
     let T = c.args.model.now in
-    let keeps = fresh_keeps T s.decoder s.kept s.pieces bytes c.args.spot c.args.left c.requires.due c.requires.begun c.requires.kept r in
-    subst (λ z. IsReading T c.take_last.new.self.decoder c.take_last.new.self.kept c.take_last.new.self.pieces (bytes ++ z)) c.split_at.ensures.front (c.in-Ok.ensures.ok bytes (r, keeps) shows)
+    subst (λ z. IsReading T c.take_here.new.self.decoder c.take_here.new.self.kept c.take_here.new.self.pieces (bytes ++ z)) c.split_at.ensures.front (c.in-Ok.ensures.ok bytes r shows)
 
 pub returns-in-Err-clause-err : goal.returns-in-Err-clause-err
 returns-in-Err-clause-err c = λ bytes r.
@@ -30,9 +23,8 @@ returns-in-Err-clause-err c = λ bytes r.
     let T = c.args.model.now in
     let front = c.split_at.result.0.now in
     let behind = c.split_at.result.1.now in
-    let keeps = fresh_keeps T s.decoder s.kept s.pieces bytes c.args.spot c.args.left c.requires.due c.requires.begun c.requires.kept r in
     let whole : c.args.behind.now ≡ front ++ behind = joined c.args.left c.args.behind.now ∙ (ap (λ z. take c.args.left c.args.behind.now ++ z) (sym c.split_at.ensures.back) ∙ ap (λ z. z ++ behind) (sym c.split_at.ensures.front)) in
-    further_stops T c.take_last.new.self.decoder bytes front behind c.args.behind.now c.in-Err.stop whole (c.in-Err.ensures.err bytes (r, keeps))
+    further_stops T c.take_here.new.self.decoder bytes front behind c.args.behind.now c.in-Err.stop whole (c.in-Err.ensures.err bytes r)
 
 pub returns-in-Err-clause-memory : goal.returns-in-Err-clause-memory
 returns-in-Err-clause-memory c = λ bytes r shows e is.
@@ -40,6 +32,5 @@ returns-in-Err-clause-memory c = λ bytes r shows e is.
     let T = c.args.model.now in
     let front = c.split_at.result.0.now in
     let behind = c.split_at.result.1.now in
-    let keeps = fresh_keeps T s.decoder s.kept s.pieces bytes c.args.spot c.args.left c.requires.due c.requires.begun c.requires.kept r in
     let whole : c.args.behind.now ≡ front ++ behind = joined c.args.left c.args.behind.now ∙ (ap (λ z. take c.args.left c.args.behind.now ++ z) (sym c.split_at.ensures.back) ∙ ap (λ z. z ++ behind) (sym c.split_at.ensures.front)) in
-    c.in-Err.ensures.memory bytes (r, keeps) shows (enough_less T s (bytes ++ front) behind (bytes ++ c.args.behind.now) (behind_is bytes c.args.behind.now front behind whole) e) (err_as _ _ is)
+    c.in-Err.ensures.memory bytes r shows (enough_less T s (bytes ++ front) behind (bytes ++ c.args.behind.now) (behind_is bytes c.args.behind.now front behind whole) e) (err_as _ _ is)

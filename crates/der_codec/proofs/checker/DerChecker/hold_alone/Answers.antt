@@ -1,4 +1,4 @@
-use Rattle.std.proofs.Common.{rules, ◌≡◌, ◌++◌, Some, None}
+use Rattle.std.proofs.Common.{rules, ◌≡◌, None}
 use Rattle.der_model.specs.DerMessage.{der_message}
 use Rattle.der_codec.proofs.OpenSpots.{alone_kept}
 use Rattle.der_codec.proofs.checker.DerChecker.hold_alone.Goals as goal

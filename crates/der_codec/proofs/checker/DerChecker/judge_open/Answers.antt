@@ -1,4 +1,4 @@
-use Rattle.std.proofs.Common.{◌++◌, arith, length-append}
+use Rattle.std.proofs.Common.{arith, length-append}
 use Rattle.der_model.specs.DerMessage.{der_message}
 use Rattle.der_codec.proofs.OpenSpots.{opened_of}
 use Rattle.der_codec.proofs.checker.DerChecker.judge_open.Goals as goal
