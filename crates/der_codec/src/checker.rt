@@ -1,5 +1,5 @@
 //! A checker of the DER of instances that takes their bytes in pieces.
-ghost use Rattle.std.specs.Prelude.{◌≡◌, ◌<◌, ◌+◌, ◌≤◌, ◌^◌, ◌++◌, ℕ, List, [], IfOk, IfErr, IsErrOf, Some, None, Err, length, take};
+ghost use Rattle.std.specs.Prelude.{◌≡◌, ◌<◌, ◌+◌, ◌≤◌, ◌^◌, ◌++◌, ℕ, List, [], IsOk, IfOk, IfErr, IsErrOf, Some, None, Err, length, take};
 ghost use Rattle.facets.specs.LeafChecks.{IsHeldWithin};
 ghost use Rattle.inst_pool.specs.Pieces.{Region};
 ghost use Rattle.message_model.specs.Tables.{Tables, types_of};
@@ -47,6 +47,7 @@ impl DerChecker {
         ensures made { IfOk result (λ c. IsDerCheckerFor c model.now) }
         ensures none { IfOk result (λ c. der_bytes_fed c ≡ 0) }
         ensures alone { IfOk result (λ c. KeepsNoPieces c) }
+        ensures some { IsOk result }
     {
         let _ = model;
         Ok(DerChecker::start(alloc, None))
@@ -58,6 +59,7 @@ impl DerChecker {
         ensures made { IfOk result (λ c. IsDerCheckerFor c model.now) }
         ensures keeping { IfOk result (λ c. IsKeeping c model.now) }
         ensures none { IfOk result (λ c. der_bytes_fed c ≡ 0) }
+        ensures some { IsOk result }
     {
         let _ = model;
         Ok(DerChecker::start(alloc, Some(Builder::new(alloc))))

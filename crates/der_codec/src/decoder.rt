@@ -1,14 +1,10 @@
 //! The reader of DER, an octet at a time: X.690 §8.1.
 ghost use Rattle.std.specs.Prelude.{◌≡◌, ◌↔◌, ◌+◌, ◌-◌, ◌<◌, ◌≤◌, ◌^◌, ◌++◌, ◌∷◌, [], ℕ, List, IfOk, IfErr, IsErrOf, IsTrue, IsFalse, true, false, Some, None, length, drop, vec_capacity};
 ghost use Rattle.lexical_core.specs.Tree.{Tree};
-ghost use Rattle.data_types.specs.Value.{Value};
 ghost use Rattle.message_model.specs.Tables.{message_of, types_of};
 ghost use Rattle.der_model.specs.DerMessage.{DerMessage, in_der};
 ghost use Rattle.der_model.specs.Paths.{path_of};
 ghost use Rattle.der_model.specs.States.{State};
-ghost use Rattle.der_model.specs.Faults.{IsWholeDer as WholeBytes};
-ghost use Rattle.der_model.specs.Der.{SpellsDer};
-ghost use Rattle.der_model.specs.Sound.{IsSoundDer};
 ghost use Rattle.der_codec.specs.Levels.{inwards, first_of, rest_of};
 ghost use Rattle.der_codec.specs.Decoding.{HasReadParts, IsStopped, IsBelowEnd, IsPastEnd, end_of_levels, IsFresh, IsFreshOrOver, due_after, IsOver, IsWaiting, IsOpenState, IsNoCut, AwaitsValue, IsRefusedAs, due_depth, header_come};
 ghost use Rattle.der_codec.specs.Components.{added_text};
@@ -207,25 +203,6 @@ impl Decoder {
         ensures open { IsFalse result → IsOver self.now.due → ⊥ }
     {
         matches!(self.due, Due::Over)
-    }
-
-    /// What the bytes are where they end here: whole, or cut.
-    #[tactic(auto, using(crate::proofs::InputEnds::is_whole, crate::proofs::InputEnds::is_cut, crate::proofs::InputEnds::is_spelled))]
-    pub fn finish(&self) -> Result<(), Stop>
-        requires { IsWaiting self.now.due self.now.place (end_of_levels self.now.levels.items) }
-        ensures whole { (m : DerMessage ℕ) (bytes : List ℕ) → HasReadParts m self.now bytes → IfOk result (λ _. WholeBytes m bytes) }
-        ensures ok { (m : DerMessage ℕ) (bytes : List ℕ) → IsSoundDer m → length bytes < 2 ^ 63 → HasReadParts m self.now bytes → IfOk result (λ _. (v : Value) × SpellsDer m bytes v) }
-        ensures err { (m : DerMessage ℕ) (bytes : List ℕ) → HasReadParts m self.now bytes → IfErr result (λ stop. IsStopped m self.now bytes stop) }
-        ensures fault { IsErrOf result Stop.Memory → ⊥ }
-    {
-        if self.is_over() {
-            return Ok(());
-        }
-        Err(Stop::Fault {
-            rule: Rule::DerTruncated,
-            place: self.place,
-            added: Added::Nothing,
-        })
     }
 
     /// What the bytes are where they end here, and the instance has not ended.

@@ -6,7 +6,7 @@ ghost use Rattle.der_model.specs.Sound.{IsSoundDer, TellsApart};
 
 use message_model::Model;
 
-/// Fragments of different trees differ.
+/// Fragments of different trees differ. It does nothing, and is called for its clause.
 pub(crate) fn fragments_apart()
     ensures { TellsApart fragment }
 {
@@ -14,6 +14,7 @@ pub(crate) fn fragments_apart()
 }
 
 /// The message of a model breaks no rule, its fragments tell trees apart, and its elements lead to types that are there.
+/// It does nothing, and is called for its clauses.
 pub(crate) fn is_sound(model: &Model)
     ensures sound { IsSoundDer (der_message model.now) }
     ensures linked { AreLinked model.now }

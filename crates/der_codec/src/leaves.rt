@@ -1,7 +1,6 @@
 //! The leaves of contents octets under simple types: X.690 §8.2, §8.3, §8.5, §8.7, §8.23 and §11.
 ghost use Rattle.std.specs.Prelude.{◌≡◌, ◌↔◌, ◌<◌, ◌≤◌, ◌^◌, ◌∷◌, ℕ, Bool, [], length, Some, None, IfSome, IfNone, IsErrOf, IsTrue};
 ghost use Rattle.std.specs.Int.Digits.{number_from_digits};
-ghost use Rattle.base64.specs.GeneralPurpose.{IsBytes};
 ghost use Rattle.lexical_core.specs.Characters.{IsXmlText};
 ghost use Rattle.lexical_core.specs.XmlRuns.{IsXmlRun};
 ghost use Rattle.data_types.specs.declared.kind.Kind.TheVariants as kind;
@@ -15,6 +14,7 @@ ghost use Rattle.der_codec.specs.Reserved.{WantsCheck, HasCheckAt, HasChecks};
 ghost use Rattle.der_codec.specs.Judging.{IsJudged, IsXmlCode, IsNoDate};
 
 use crate::checks::{Checks, Refusal};
+use crate::limits::are_octets;
 use crate::plain_octets::are_plain;
 use data_types::{Kind, LeafRef, is_date_text};
 use facets::{Codes, Simple, check_number, check_octets};
@@ -160,6 +160,7 @@ fn tell_text(
     if simple.pattern.is_some() {
         return checks.tell(number, simple, run, count);
     }
+    // A length is asked alike, in characters here.
     match check_octets(simple, count as u64) {
         Ok(()) => Ok(()),
         Err(rule) => Err(Refusal::Breaks(rule)),
@@ -316,13 +317,6 @@ fn number_of(octets: &[u8]) -> Option<u32>
         return None;
     }
     Some(number as u32)
-}
-
-/// They are octets.
-fn are_octets(octets: &[u8])
-    ensures { IsBytes octets.now }
-{
-    let _ = octets;
 }
 
 /// The number of at most five digits of the base 256.

@@ -93,7 +93,7 @@ fn cut_short(simple: &Simple, kept: &mut Vec<u8>)
     ensures room { vec_capacity kept.old ≤ vec_capacity kept.new }
 {
     let _ = simple;
-    kept.truncate(64);
+    kept.truncate(64); // as many as any leaf may hold
 }
 
 /// Of the number of a code the first octets tell whether it is too great.
@@ -125,7 +125,7 @@ fn cut_octets(simple: &Simple, kept: &mut Vec<u8>)
     }
 }
 
-/// They are octets.
+/// They are octets. It does nothing, and is called for its clause.
 pub(crate) fn are_octets(octets: &[u8])
     ensures { IsBytes octets.now }
 {
@@ -166,6 +166,7 @@ fn shorten_text(most: u64, kept: &mut Vec<u8>)
         return;
     }
     let run = xml_run(kept.as_slice());
+    // Behind the last whole character 3 octets may begin one; 4 that do not end one begin none.
     if kept.len() - run.bytes > 3 {
         no_text(kept);
         return;
@@ -178,6 +179,7 @@ fn is_held(count: usize, most: u64) -> bool
     ensures yes { IsTrue result → count ≤ 4 * most + 64 }
     ensures no { IsFalse result → 4 * most + 64 < count }
 {
+    // count - 61 ≤ 4 * most + 3, which overflows for no `most`
     count.saturating_sub(61) as u64 / 4 <= most
 }
 

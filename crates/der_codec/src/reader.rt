@@ -28,6 +28,7 @@ impl DerReader {
         ensures fed { IfOk result (λ r. HasKeptPieces r model.now []) }
         ensures made { IfOk result (λ r. IsDerReaderFor r model.now) }
         ensures none { IfOk result (λ r. read_so_far r ≡ 0) }
+        ensures some { IsOk result }
     {
         match DerChecker::with_pieces(alloc, model) {
             Err(error) => Err(error),
