@@ -50,13 +50,7 @@ joined_count total octets found count size h =
     let same : length octets + count ≡ length (octets ++ found) = omega (arith, size, length-append octets found) in
     subst (IsCount total) same h
 
--- room grows as that of the bytes does
-pub room_grows : (most : Option ℕ) (m n : ℕ) → m ≤ n → room_under most m ≤ room_under most n
-room_grows None m n more = more
-room_grows (Some zero) m n more = omega arith
-room_grows (Some (suc k)) m n more = more
-
--- what fits into it can be kept: under a limit of none there is nothing to keep
+-- what fits into the room can be kept: under a limit of none there is nothing to keep
 pub room_enough : (most now : Option ℕ) (room held count left size : ℕ) (Can : Type 0) → (most ≡ Some 0 → now ≡ Some 0) → now ≡ Some left → size ≤ left → count ≤ 4 * size
     → (held + count ≤ room → Can) → (count ≡ 0 → Can) → held + count ≤ room_under most room → Can
 room_enough None now room held count left size Can none is short few fits empty enough = fits enough
