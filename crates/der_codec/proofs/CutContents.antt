@@ -57,9 +57,9 @@ stands_by simple kept octets one sorted there back here other more result h = by
 
 -- ---- few octets
 
-held_few : (o : Option ℕ) (n k : ℕ) → k ≤ 64 → IsHeldWithin o n k
-held_few None n k few = omega (arith, few)
-held_few (Some m) n k few = omega (arith, few)
+pub held_within_few : (o : Option ℕ) (n k : ℕ) → k ≤ 64 → IsHeldWithin o n k
+held_within_few None n k few = omega (arith, few)
+held_within_few (Some m) n k few = omega (arith, few)
 
 pub whole_kept : (simple : Simple) (octets : List ℕ) → IsHeldWithin (leaf_limit simple) (length octets) (length octets) → IsKeptUnder simple octets octets
 whole_kept simple octets within = record { stands = λ more result h. h; few = omega arith; within = within }
@@ -84,7 +84,7 @@ first_kept simple octets longer = by (first_or_all 64 octets) (leb_tells (length
   where
     by : (take 64 octets ≡ octets) ⊎ AreFirst 64 (take 64 octets) octets → ((leb (length octets) 64 ≡ true) × (length octets ≤ 64)) ⊎ ((leb (length octets) 64 ≡ false) × (64 < length octets)) → IsKeptUnder simple (take 64 octets) octets
     by (inr a) t = longer a
-    by (inl e) (inl t) = subst (λ z. IsKeptUnder simple z octets) (sym e) (whole_kept simple octets (held_few (leaf_limit simple) (length octets) (length octets) t.1))
+    by (inl e) (inl t) = subst (λ z. IsKeptUnder simple z octets) (sym e) (whole_kept simple octets (held_within_few (leaf_limit simple) (length octets) (length octets) t.1))
     by (inl e) (inr t) = (let size = length-take-le 64 octets (omega (arith, t.1)) in let same = ap length e in let more = t.1 in absurd (omega (arith, size, same, more)))
 
 -- ---- short contents, and none
@@ -115,7 +115,7 @@ short_kept simple octets s sorted = first_kept simple octets cut
         record {
           stands = stands_by simple (take 64 octets) octets (Err BadContents) sorted (λ more form. absurd (no more form)) (λ more form. absurd (none more form)) (λ more form. absurd (no more form)) (λ more form. absurd (none more form));
           few = (let size = a.size in let more = a.longer in omega (arith, size, more));
-          within = held_few (leaf_limit simple) (length octets) (length (take 64 octets)) (let size = a.size in omega (arith, size));
+          within = held_within_few (leaf_limit simple) (length octets) (length (take 64 octets)) (let size = a.size in omega (arith, size));
         }
 
 -- ---- numbers of codes
@@ -145,7 +145,7 @@ code_kept simple codes octets e some limits sorted = first_kept simple octets cu
           (λ more form. (let sum = length-append (take 64 octets) more in let size = a.size in great (take 64 octets ++ more) (omega (arith, sum, size)) form))
           (λ more form. (let sum = length-append octets more in let size = a.longer in great (octets ++ more) (omega (arith, sum, size)) form));
       few = (let size = a.size in let more = a.longer in omega (arith, size, more));
-      within = held_few (leaf_limit simple) (length octets) (length (take 64 octets)) (let size = a.size in omega (arith, size));
+      within = held_within_few (leaf_limit simple) (length octets) (length (take 64 octets)) (let size = a.size in omega (arith, size));
     }
 
 -- ---- binary values

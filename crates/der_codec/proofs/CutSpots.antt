@@ -35,6 +35,7 @@ use Rattle.der_codec.specs.declared.decoder.Due.{Due}
 use Rattle.der_codec.specs.declared.decoder.Due.TheVariants as due
 use Rattle.der_codec.proofs.ContentsJudged.{simple_text, money_text}
 use Rattle.der_codec.proofs.ContentsSteps.{rest_from}
+use Rattle.der_codec.proofs.CutContents.{held_within_few}
 
 held_more : (o : Option ℕ) (n k held : ℕ) → n ≤ k → IsHeldWithin o n held → IsHeldWithin o k held
 held_more None n k held more h = omega (arith, more, h)
@@ -135,10 +136,6 @@ number_leaf T p told base sound sorted is = record {
 
 -- ---- what is held of what is open
 
-held_little : (o : Option ℕ) (n held : ℕ) → held ≤ 64 → IsHeldWithin o n held
-held_little None n held few = omega (arith, few)
-held_little (Some m) n held few = omega (arith, few)
-
 pub under_little : (simple : Simple) (opened : OpenLeaf) (rest octets : List ℕ) → IsOpenUnder simple opened rest octets → length rest ≤ 3
 under_little simple (opens.Text check) rest octets (free, t) = t.few
 under_little simple opens.NoText rest octets (free, none, bad) = (let size = ap length none in omega (arith, size))
@@ -146,7 +143,7 @@ under_little simple opens.Binary rest octets (binary, none, are) = (let size = a
 
 held_at : (m : DerMessage ℕ) (spot : Spot) (pieces : Option Region) (opened : Option OpenLeaf) (kept octets : List ℕ) (of : structures.Spot ℕ) → HoldsAt m spot pieces opened kept octets → IsSpot m.forms spot of → IsHeldWithin (contents_limit (structure m of)) (length octets) (length kept)
 held_at m spot pieces None kept octets of h at = (h.0.stands of at).within
-held_at m spot pieces (Some opened) kept octets of h at = (let few = under_little h.0.simple opened kept octets h.0.under in held_little (contents_limit (structure m of)) (length octets) (length kept) (omega (arith, few)))
+held_at m spot pieces (Some opened) kept octets of h at = (let few = under_little h.0.simple opened kept octets h.0.under in held_within_few (contents_limit (structure m of)) (length octets) (length kept) (omega (arith, few)))
 
 pub held_open : (T : Tables) (xs : List Level) (d : Due) (start place : ℕ) (bytes : List ℕ) (pieces : Option Region) (kept : Held) (r : Reads (der_message T) xs d start place bytes) → KeepsContents T d pieces start bytes kept
     → IsHeldWithin (open_limit (der_message T) r.state) (leaf_come r.state r.rest) (length kept.octets.items)
@@ -156,7 +153,7 @@ held_open T xs d start place bytes pieces kept r keeps = by d r.state r.is_open 
     size = length kept.octets.items
 
     nothing : (s : State ℕ) → kept.octets.items ≡ [] → IsHeldWithin (open_limit (der_message T) s) (leaf_come s r.rest) size
-    nothing s e = (let none = ap length e in held_little (open_limit (der_message T) s) (leaf_come s r.rest) size (omega (arith, none)))
+    nothing s e = (let none = ap length e in held_within_few (open_limit (der_message T) s) (leaf_come s r.rest) size (omega (arith, none)))
 
     by : (d : Due) (s : State ℕ) → IsOpenState (der_message T) xs d s → KeepsContents T d pieces start bytes kept → drop start bytes ≡ r.rest → IsHeldWithin (open_limit (der_message T) s) (leaf_come s r.rest) size
     by (due.Contents spot left) (AwaitsContents of names count ls) op k e =

@@ -8,7 +8,6 @@ use Rattle.reference_check.specs.Forms.{text_type}
 use Rattle.message_model.specs.Tables.{Tables, types_of}
 use Rattle.der_model.specs.DerMessage.{DerMessage, der_message}
 use Rattle.der_model.specs.Structures as structures
-use Rattle.der_model.specs.Structures.{Structure, Holds, LeafOf, structure, form_structure}
 use Rattle.der_codec.specs.KeptPieces.{HoldsLeafAt, GoesOnByLeaf, PiecesGoOn}
 use Rattle.inst_pool.specs.Pieces.{Region}
 use Rattle.data_types.specs.Value.{Holds as HoldsPiece}

@@ -12,7 +12,7 @@ use Rattle.facets.specs.declared.leaf_verdict.LeafVerdict.{LeafVerdict}
 use Rattle.facets.specs.declared.simple.Simple.{Simple}
 use Rattle.der_model.specs.LeafContents.{ContentsUnder}
 use Rattle.der_codec.specs.Checked.{IsToldOf}
-use Rattle.der_codec.specs.OpenLeaves.{IsOpenText, IsNoText, IsToldUnder}
+use Rattle.der_codec.specs.OpenLeaves.{IsOpenText, BeginsNoText, IsToldUnder}
 use Rattle.der_codec.specs.declared.checks.Refusal.{Refusal}
 use Rattle.der_codec.specs.declared.checks.Refusal.TheVariants as refused
 use Rattle.der_codec.proofs.CutTexts.{text_behind, text_both}
@@ -34,13 +34,13 @@ rest_text check simple rest before more t h =
 -- ---- octets of which no text comes
 
 -- where none comes of the rest and octets that follow it, none comes of all
-pub none_behind : (check : LeafVerdict) (simple : Simple) (rest head behind octets seen before : List ℕ) → IsOpenText check simple rest before → seen ≡ rest ++ head → octets ≡ head ++ behind → IsNoText seen → IsNoText (before ++ octets)
+pub none_behind : (check : LeafVerdict) (simple : Simple) (rest head behind octets seen before : List ℕ) → IsOpenText check simple rest before → seen ≡ rest ++ head → octets ≡ head ++ behind → BeginsNoText seen → BeginsNoText (before ++ octets)
 none_behind check simple rest head behind octets seen before t is whole none = λ more h.
     none (behind ++ more)
     (subst IsXmlText (ap (λ z. rest ++ (z ++ more)) whole ∙ (ap (λ z. rest ++ z) (append_assoc head behind more) ∙ (sym (append_assoc rest head (behind ++ more)) ∙ ap (λ z. z ++ (behind ++ more)) (sym is))))
     (rest_text check simple rest before (octets ++ more) t (subst IsXmlText (append_assoc before octets more) h)))
 
-pub none_more : (before octets : List ℕ) → IsNoText before → IsNoText (before ++ octets)
+pub none_more : (before octets : List ℕ) → BeginsNoText before → BeginsNoText (before ++ octets)
 none_more before octets none = λ more h. none (octets ++ more) (subst IsXmlText (append_assoc before octets more) h)
 
 -- a text that is cut within a character is none
@@ -117,5 +117,5 @@ text_told {T} check simple rest octets result free t none told = by result told
     by (Err refused.Memory) b = tt
 
 -- octets of which no text comes are none
-pub none_told : (simple : Simple) (octets : List ℕ) → IsFreeText simple → IsNoText octets → ContentsUnder simple octets (Err BadContents)
+pub none_told : (simple : Simple) (octets : List ℕ) → IsFreeText simple → BeginsNoText octets → ContentsUnder simple octets (Err BadContents)
 none_told simple octets free none = no_text simple octets free.0 free.1 (λ h. none [] (subst IsXmlText (sym (append-nil octets)) h))

@@ -79,8 +79,8 @@ abbrev pub held_by_check : DerChecker → ℕ
 held_by_check checker = held_by_leaf checker.kept.leaf
 
 -- it keeps no pieces
-abbrev pub KeepsNoPieces : DerChecker → Type 0
-KeepsNoPieces checker = checker.pieces ≡ None
+abbrev pub ChecksAlone : DerChecker → Type 0
+ChecksAlone checker = checker.pieces ≡ None
 
 -- how many octets of a header have come, where more of them are due
 abbrev pub token_held : DerChecker → ℕ

@@ -48,18 +48,18 @@ pub record IsOpenText (check : LeafVerdict) (simple : Simple) (rest octets : Lis
   pub cut : (n : ℕ) → n ≤ length rest → IsXmlText (take n rest) → n ≡ 0
 
 -- no text comes of the octets, whatever follows them
-abbrev pub IsNoText : List ℕ → Type 0
-IsNoText octets = (more : List ℕ) → IsXmlText (octets ++ more) → ⊥
+abbrev pub BeginsNoText : List ℕ → Type 0
+BeginsNoText octets = (more : List ℕ) → IsXmlText (octets ++ more) → ⊥
 
 -- the same where that is told
-abbrev pub IsNoTextAs : List ℕ → Refusal → Type 0
-IsNoTextAs octets (refusal.Breaks rule) = IsNoText octets
-IsNoTextAs octets refusal.Memory = Unit {0}
+abbrev pub BeginsNoTextAs : List ℕ → Refusal → Type 0
+BeginsNoTextAs octets (refusal.Breaks rule) = BeginsNoText octets
+BeginsNoTextAs octets refusal.Memory = Unit {0}
 
 -- the leaf is open under the simple type, of which these octets have come, and the rest of them is held
 abbrev pub IsOpenUnder : Simple → OpenLeaf → List ℕ → List ℕ → Type 0
 IsOpenUnder simple (opens.Text check) rest octets = IsFreeText simple × IsOpenText check.value simple rest octets
-IsOpenUnder simple opens.NoText rest octets = IsFreeText simple × (rest ≡ []) × IsNoText octets
+IsOpenUnder simple opens.NoText rest octets = IsFreeText simple × (rest ≡ []) × BeginsNoText octets
 IsOpenUnder simple opens.Binary rest octets = (simple.kind ≡ kind.Binary) × (rest ≡ []) × IsBytes octets
 
 -- The same of the value at the spot.

@@ -12,7 +12,7 @@ ghost use Rattle.der_codec.specs.KeptPieces.{KeepsShown, AreNone, StaysAlone};
 ghost use Rattle.der_codec.specs.Reserved.{IsKeeping, HasEnough};
 ghost use Rattle.der_codec.specs.OpenLeaves.{HoldsNothing};
 ghost use Rattle.der_codec.specs.Limits.{OpensFreeText, OpensBinary, open_limit, leaf_come, token_come};
-ghost use Rattle.der_codec.specs.Checking.{HasFedDer, KeepsNoPieces, IsReading, IsDerCheckerFor, StopsWithin, TakesDerFront, DerStops, HaveDerFault, IsSpelledDer, DerEndsAs, IsFreed, open_count, der_bytes_fed, der_failure, held_contents, held_by_check, token_held};
+ghost use Rattle.der_codec.specs.Checking.{HasFedDer, ChecksAlone, IsReading, IsDerCheckerFor, StopsWithin, TakesDerFront, DerStops, HaveDerFault, IsSpelledDer, DerEndsAs, IsFreed, open_count, der_bytes_fed, der_failure, held_contents, held_by_check, token_held};
 
 use crate::checks::Checks;
 use crate::decoder::{Decoder, Due, Stop};
@@ -46,7 +46,7 @@ impl DerChecker {
         ensures fed { IfOk result (λ c. HasFedDer c model.now []) }
         ensures made { IfOk result (λ c. IsDerCheckerFor c model.now) }
         ensures none { IfOk result (λ c. der_bytes_fed c ≡ 0) }
-        ensures alone { IfOk result (λ c. KeepsNoPieces c) }
+        ensures alone { IfOk result (λ c. ChecksAlone c) }
         ensures some { IsOk result }
     {
         let _ = model;
@@ -104,8 +104,8 @@ impl DerChecker {
         ensures count { result ≡ held_contents self.now }
         ensures bound { (T : Tables) (bytes : List ℕ) (h : HasFedDer self.now T bytes)
             → IsHeldWithin (open_limit (der_message T) h.reading.read.state) (leaf_come h.reading.read.state h.reading.read.rest) result }
-        ensures free { (T : Tables) (bytes : List ℕ) (h : HasFedDer self.now T bytes) → KeepsNoPieces self.now → OpensFreeText (der_message T) h.reading.read.state → result ≤ 3 }
-        ensures binary { (T : Tables) (bytes : List ℕ) (h : HasFedDer self.now T bytes) → KeepsNoPieces self.now → OpensBinary (der_message T) h.reading.read.state → result ≡ 0 }
+        ensures free { (T : Tables) (bytes : List ℕ) (h : HasFedDer self.now T bytes) → ChecksAlone self.now → OpensFreeText (der_message T) h.reading.read.state → result ≤ 3 }
+        ensures binary { (T : Tables) (bytes : List ℕ) (h : HasFedDer self.now T bytes) → ChecksAlone self.now → OpensBinary (der_message T) h.reading.read.state → result ≡ 0 }
         ensures check { (T : Tables) (bytes : List ℕ) → HasFedDer self.now T bytes → held_by_check self.now ≡ 0 }
     {
         self.kept.octets.len() as u64
@@ -137,7 +137,7 @@ impl DerChecker {
         ensures freed { IfErr result (λ _. IsFreed self.new) }
         ensures keeps { IsKeeping self.old model.now → IfOk result (λ _. IsKeeping self.new model.now) }
         ensures room { IfOk result (λ _. self.new.room ≡ self.old.room) }
-        ensures alone { KeepsNoPieces self.old → KeepsNoPieces self.new }
+        ensures alone { ChecksAlone self.old → ChecksAlone self.new }
         ensures memory { (bytes : List ℕ) → HasFedDer self.old model.now bytes → HasEnough self.old model.now (bytes ++ piece.now) → IsErrOf result InstanceError.Memory → HaveDerFault model.now (bytes ++ piece.now) }
     {
         if let Some(error) = &self.failed {

@@ -1,7 +1,7 @@
 //! The octets of a text that is judged as they come: its check takes the characters, and those of the last one are left where
 //! it is not whole.
 ghost use Rattle.std.specs.Prelude.{◌≡◌, ◌<◌, ◌≤◌, ◌++◌, ℕ, List, [], length, take, IfOk, IfErr};
-ghost use Rattle.der_codec.specs.OpenLeaves.{IsOpenText, IsNoTextAs};
+ghost use Rattle.der_codec.specs.OpenLeaves.{IsOpenText, BeginsNoTextAs};
 
 use crate::checks::Refusal;
 use facets::{LeafVerdict, Simple};
@@ -17,7 +17,7 @@ pub(crate) fn take_text(
 ) -> Result<(), Refusal>
     requires { (before : List ℕ) × IsOpenText check.old simple.now rest.old.items before }
     ensures opened { (before : List ℕ) → IsOpenText check.old simple.now rest.old.items before → IfOk result (λ _. IsOpenText check.new simple.now rest.new.items (before ++ octets.now)) }
-    ensures none { (before : List ℕ) → IsOpenText check.old simple.now rest.old.items before → IfErr result (λ refusal. IsNoTextAs (before ++ octets.now) refusal) }
+    ensures none { (before : List ℕ) → IsOpenText check.old simple.now rest.old.items before → IfErr result (λ refusal. BeginsNoTextAs (before ++ octets.now) refusal) }
 {
     let count = match end_character(check, rest, simple, octets) {
         Ok(count) => count,
@@ -40,7 +40,7 @@ fn end_character(
 ) -> Result<usize, Refusal>
     requires { (before : List ℕ) × IsOpenText check.old simple.now rest.old.items before }
     ensures opened { (before : List ℕ) → IsOpenText check.old simple.now rest.old.items before → IfOk result (λ n. IsOpenText check.new simple.now rest.new.items (before ++ take n octets.now)) }
-    ensures none { (before : List ℕ) → IsOpenText check.old simple.now rest.old.items before → IfErr result (λ refusal. IsNoTextAs (before ++ octets.now) refusal) }
+    ensures none { (before : List ℕ) → IsOpenText check.old simple.now rest.old.items before → IfErr result (λ refusal. BeginsNoTextAs (before ++ octets.now) refusal) }
     ensures within { IfOk result (λ n. n ≤ length octets.now) }
     ensures whole { IfOk result (λ n. n < length octets.now → rest.new.items ≡ []) }
 {
@@ -87,7 +87,7 @@ fn take_characters(
     requires none { rest.old.items ≡ [] }
     requires opened { (before : List ℕ) × IsOpenText check.old simple.now rest.old.items before }
     ensures opened { (before : List ℕ) → IsOpenText check.old simple.now rest.old.items before → IfOk result (λ _. IsOpenText check.new simple.now rest.new.items (before ++ octets.now)) }
-    ensures none { (before : List ℕ) → IsOpenText check.old simple.now rest.old.items before → IfErr result (λ refusal. IsNoTextAs (before ++ octets.now) refusal) }
+    ensures none { (before : List ℕ) → IsOpenText check.old simple.now rest.old.items before → IfErr result (λ refusal. BeginsNoTextAs (before ++ octets.now) refusal) }
 {
     let run = xml_run(octets);
     let (whole, cut) = octets.split_at(run.bytes);

@@ -66,9 +66,9 @@ IsOurs m (Envelope filled ∷ ls) n = Unit {0}
 IsOurs m (Foreign ∷ ls) n = Unit {0}
 
 -- the open text is one of this type
-abbrev pub IsTypeOf : Graph ℕ Simple → Option OpenText → Simple → Type 0
-IsTypeOf types None simple = ⊥
-IsTypeOf types (Some t) simple = text_type (types t.number) ≡ Some simple
+abbrev pub IsTextTypeOf : Graph ℕ Simple → Option OpenText → Simple → Type 0
+IsTextTypeOf types None simple = ⊥
+IsTextTypeOf types (Some t) simple = text_type (types t.number) ≡ Some simple
 
 -- it is an element with elements of the message
 abbrev pub is_parent : Option Opened → Bool

@@ -11,7 +11,7 @@ ghost use Rattle.xml_instances.specs.Levels.{Level};
 ghost use Rattle.xml_instances.specs.Open.{IsOpen, AreMade, IsRuleOf, HoldsText, IsTextMade};
 ghost use Rattle.xml_instances.specs.EventFaults.{has_currency};
 ghost use Rattle.xml_instances.specs.declared.opened.Opened.TheVariants.{Text as OpenedText, Parent as OpenedParent};
-ghost use Rattle.xml_instances.specs.inner.Quick.{IsOurs, Passes, PassAll, IsTargetOf, IsTypeOf};
+ghost use Rattle.xml_instances.specs.inner.Quick.{IsOurs, Passes, PassAll, IsTargetOf, IsTextTypeOf};
 ghost use Rattle.xml_instances.specs.Verdicts.{IsLean};
 
 use super::attributes::is_money;
@@ -206,7 +206,7 @@ fn pass_open<'a>(
     requires { IsTextMade (types_of model.now) text.now }
     ensures kept { IfOk result (λ told. told ≡ None → pieces.new ≡ pieces.old) }
     ensures bare { pieces.old ≡ None → pieces.new ≡ None }
-    ensures told { IfOk result (λ told. IfSome told (λ simple. IsTypeOf (types_of model.now) text.now simple.now)) }
+    ensures told { IfOk result (λ told. IfSome told (λ simple. IsTextTypeOf (types_of model.now) text.now simple.now)) }
     ensures taken { (simple : SimpleType) (taken : List ℕ) → HoldsText (message_of model.now) text.now simple taken → IfOk result (λ told. IfSome told (λ _. IsRuleOf simple taken None)) }
     ensures shown { (simple : SimpleType) (taken : List ℕ) → HoldsText (message_of model.now) text.now simple taken
         → IfOk result (λ told. IfSome told (λ _. GoOn pieces.old pieces.new (TextShown simple taken))) }

@@ -1,6 +1,6 @@
 use Rattle.std.proofs.Common.{◌≡◌, ◌++◌, take, refl, sym, ap, ◌∙◌, subst, append_assoc}
 use Rattle.std.specs.Prelude.{IfOk, IfErr}
-use Rattle.der_codec.specs.OpenLeaves.{IsOpenText, IsNoTextAs}
+use Rattle.der_codec.specs.OpenLeaves.{IsOpenText, BeginsNoTextAs}
 use Rattle.der_codec.proofs.OpenTexts.{split_whole}
 use Rattle.der_codec.proofs.open_text.take_text.Goals as goal
 
@@ -21,4 +21,4 @@ returns-clause-none c = λ before t.
     let front = take c.in-Ok.count octets in
     let behind = c.split_at.result.1.now in
     let whole : (before ++ front) ++ behind ≡ before ++ octets = append_assoc before front behind ∙ ap (λ z. before ++ z) (sym (split_whole c.in-Ok.count octets front behind refl c.split_at.ensures.back)) in
-    subst (λ z. IfErr c.take_characters.result (λ refusal. IsNoTextAs z refusal)) whole (c.take_characters.ensures.none (before ++ front) (c.in-Ok.ensures.opened before t))
+    subst (λ z. IfErr c.take_characters.result (λ refusal. BeginsNoTextAs z refusal)) whole (c.take_characters.ensures.none (before ++ front) (c.in-Ok.ensures.opened before t))

@@ -7,17 +7,17 @@ use Rattle.xml_instances.specs.Built.{TextShown}
 use Rattle.xml_instances.specs.Keeping.{GoOn}
 use Rattle.xml_instances.specs.Open.{IsRuleOf}
 use Rattle.xml_instances.specs.declared.content.OpenText.{OpenText}
-use Rattle.xml_instances.specs.inner.Quick.{IsTypeOf}
+use Rattle.xml_instances.specs.inner.Quick.{IsTextTypeOf}
 use Rattle.xml_instances.proofs.content.Content.pass_text.Goals as goal
 
 pub returns-in-Some-take-clause-made : goal.returns-in-Some-take-clause-made
 returns-in-Some-take-clause-made c =
     let types = types_of c.args.model.now in
     let was : c.args.self.now.text ≡ Some c.in-Some-take.open = search rules in
-    let told : IsTypeOf types c.args.self.now.text c.in-Some.simple.now =
-    subst (λ (o : Option (Bor Simple)). IfSome o (λ s. IsTypeOf types c.args.self.now.text s.now)) c.in-Some.is c.in_ok-simple.ensures.told in
+    let told : IsTextTypeOf types c.args.self.now.text c.in-Some.simple.now =
+    subst (λ (o : Option (Bor Simple)). IfSome o (λ s. IsTextTypeOf types c.args.self.now.text s.now)) c.in-Some.is c.in_ok-simple.ensures.told in
     record {
-      kept = c.keep.ensures.kept types c.requires.kept (subst (λ (x : Option OpenText). IsTypeOf types x c.in-Some.simple.now) was told);
+      kept = c.keep.ensures.kept types c.requires.kept (subst (λ (x : Option OpenText). IsTextTypeOf types x c.in-Some.simple.now) was told);
       text = search rules;
       innermost = search rules;
     }
