@@ -6,7 +6,6 @@ use Rattle.facets.specs.declared.simple.Simple.{Simple}
 use Rattle.reference_check.specs.Forms as graph
 use Rattle.reference_check.specs.Forms.{Graph, text_type}
 use Rattle.message_model.specs.Views.{IsFormOf}
-use Rattle.message_model.specs.declared.model.Form.{Form}
 use Rattle.message_model.specs.declared.model.Form.TheVariants as form
 use Rattle.der_model.specs.DerMessage.{DerMessage}
 use Rattle.der_model.specs.Faults.{IsHeldIn}

@@ -6,3 +6,6 @@ loop-at-preserved c = (
   λ types h. pushed types c.loop-at.self.entries.items _ _ c.push.ensures.items (c.loop-at.invariant.0 types h),
   λ bytes n h. pushed_there bytes n c.loop-at.self.entries.items _ _ c.push.ensures.items (c.loop-at.invariant.1 bytes n h),
 )
+
+pub returns-then-is_err-clause-all : goal.returns-then-is_err-clause-all
+returns-then-is_err-clause-all c = λ bytes n h. pushed_there bytes n c.loop-at.self.entries.items _ _ c.push.ensures.items (c.loop-at.invariant.1 bytes n h)

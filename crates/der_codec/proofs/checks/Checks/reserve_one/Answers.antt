@@ -25,3 +25,12 @@ returns-clause-room c = λ less n h.
     let more = c.reserve-result.ensures.room in
     c.put.ensures.there less (omega (arith, roomy, more, size)))
     n (there n h)
+
+pub returns-in-Err-clause-made : goal.returns-in-Err-clause-made
+returns-in-Err-clause-made c = λ types e h. c.check_at.ensures.kept types (c.grow.ensures.made types h)
+
+pub returns-in-Err-clause-room : goal.returns-in-Err-clause-room
+returns-in-Err-clause-room c = λ less n h.
+    all_kept less c.args.number c.grow.new.self.entries.items c.check_at.new.self.entries.items c.check_at.ensures.others
+    (λ k. (let none = c.in-Err.ensures.ok less k in absurd cc))
+    n (c.grow.ensures.all less n h)
