@@ -47,7 +47,11 @@ class Generator:
     def type_of(self, node):
         if node.get('type') is None:
             return next(child for child in node if child.tag in (XS + 'complexType', XS + 'simpleType'))
-        name = node.get('type').rpartition(':')[2]
+        return self.type_named(node.get('type'))
+
+    def type_named(self, name):
+        """The type of the schema that has the name, or the name of one of the standard."""
+        name = name.rpartition(':')[2]
         return self.types.get(name, name)
 
     def fill(self, made, declared, level):
@@ -57,7 +61,7 @@ class Generator:
         content = [child for child in declared if child.tag != XS + 'annotation']
         if content and content[0].tag == XS + 'simpleContent':
             extension = content[0][0]
-            made.text = self.leaf(self.types[extension.get('base').rpartition(':')[2]])
+            made.text = self.leaf(self.type_named(extension.get('base')))
             for attribute in extension:
                 made.set(attribute.get('name'), self.leaf(self.type_of(attribute)))
             return
